@@ -1,0 +1,113 @@
+#!/usr/bin/env python3
+"""Makes inputs for the benches: large well-formed databases, and scripts.
+
+    generate.py db FILE --megabytes N [--seed S]     a database of about N MB: many symbols, and axioms of many symbols
+    generate.py axioms FILE --count N                a database of N short axioms, labels a0 ..
+    generate.py renames FILE --count N --axioms M    N transactions, each renaming one of M axioms, again and again
+    generate.py real DB FILE FILE --count N          two scripts for a database: the first renames N of its axioms, the second
+                                                     shows them under their new labels
+
+Nothing here is random but for the seed, so the same call makes the same bytes.
+"""
+
+import argparse
+import random
+import re
+
+
+def write_tokens(file, words, width=100):
+    """The words, separated by spaces, with a line end now and then."""
+    line = 0
+    for word in words:
+        file.write(word)
+        line += len(word) + 1
+        if line > width:
+            file.write("\n")
+            line = 0
+        else:
+            file.write(" ")
+    file.write("\n")
+
+
+def make_database(path, size, seed):
+    """About `size` bytes: 1,000 constants and variables a megabyte, at most 30,000 each, and axioms for the rest."""
+    chance = random.Random(seed)
+    count = min(30_000, max(500, size // 1000))
+    constants = ["wff", "|-"] + [f"c{i}" for i in range(count)]
+    variables = [f"v{i}" for i in range(count)]
+    with open(path, "w", encoding="ascii") as file:
+        write_tokens(file, ["$c", *constants, "$."])
+        write_tokens(file, ["$v", *variables, "$."])
+        for i, variable in enumerate(variables):
+            file.write(f"f{i} $f wff {variable} $.\n")
+        symbols = constants + variables
+        axioms = 4_000
+        mean = sum(len(symbol) + 1 for symbol in symbols) / len(symbols)
+        each = max(2, int((size - file.tell()) / axioms / mean) - 3)
+        for i in range(axioms):
+            words = [chance.choice(symbols) for _ in range(each)]
+            write_tokens(file, [f"a{i}", "$a", "|-", *words, "$."])
+
+
+def make_axioms(path, count):
+    with open(path, "w", encoding="ascii") as file:
+        file.write("$c wff -> ( ) $.\n$v p q $.\nwp $f wff p $.\nwq $f wff q $.\n")
+        for i in range(count):
+            file.write(f"a{i} $a wff ( p -> q ) $.\n")
+
+
+def make_renames(path, count, axioms):
+    """Each axiom is renamed in turn: a7 to a7-1, then a7-1 to a7-2, and so on."""
+    with open(path, "w", encoding="ascii") as file:
+        for i in range(count):
+            axiom, turn = i % axioms, i // axioms
+            old = f"a{axiom}" if turn == 0 else f"a{axiom}-{turn}"
+            file.write(f"begin rename {old} a{axiom}-{turn + 1} commit\n")
+
+
+def make_real(db, renames, shows, count):
+    """Scripts for axioms spread evenly over the database."""
+    with open(db, encoding="ascii") as file:
+        labels = re.findall(r"(\S+)\s+\$a\s", file.read())
+    step = max(1, len(labels) // count)
+    chosen = labels[::step][:count]
+    with open(renames, "w", encoding="ascii") as file:
+        for label in chosen:
+            file.write(f"begin rename {label} {label}-renamed commit\n")
+    with open(shows, "w", encoding="ascii") as file:
+        for label in chosen:
+            file.write(f"begin show {label}-renamed commit\n")
+
+
+def main():
+    parser = argparse.ArgumentParser(description=__doc__, formatter_class=argparse.RawDescriptionHelpFormatter)
+    kinds = parser.add_subparsers(dest="kind", required=True)
+    db = kinds.add_parser("db")
+    db.add_argument("file")
+    db.add_argument("--megabytes", type=float, required=True)
+    db.add_argument("--seed", type=int, default=1)
+    axioms = kinds.add_parser("axioms")
+    axioms.add_argument("file")
+    axioms.add_argument("--count", type=int, required=True)
+    renames = kinds.add_parser("renames")
+    renames.add_argument("file")
+    renames.add_argument("--count", type=int, required=True)
+    renames.add_argument("--axioms", type=int, required=True)
+    real = kinds.add_parser("real")
+    real.add_argument("db")
+    real.add_argument("renames")
+    real.add_argument("shows")
+    real.add_argument("--count", type=int, default=150)
+    options = parser.parse_args()
+    if options.kind == "db":
+        make_database(options.file, int(options.megabytes * 1_000_000), options.seed)
+    elif options.kind == "axioms":
+        make_axioms(options.file, options.count)
+    elif options.kind == "renames":
+        make_renames(options.file, options.count, options.axioms)
+    else:
+        make_real(options.db, options.renames, options.shows, options.count)
+
+
+if __name__ == "__main__":
+    main()

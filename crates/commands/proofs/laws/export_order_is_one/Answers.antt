@@ -1,0 +1,5 @@
+use Rattle.commands.proofs.ExportOrder.{one_export_order}
+use Rattle.commands.proofs.laws.export_order_is_one.Goals as goal
+
+pub returns : goal.returns
+returns c = one_export_order

@@ -1,0 +1,17 @@
+use Rattle.std.proofs.Common.{◌≡◌, length, ◌-◌, ◌≤◌, drop}
+use Rattle.mmstatement.specs.Text.{tokens, tokens_from}
+use Rattle.commands.specs.Languages.{run, start_of}
+use Rattle.commands.specs.ScriptFaults.{script_language}
+use Rattle.commands.specs.ScriptViews.{seen_state}
+use Rattle.commands.proofs.script.read_tokens.Given as goal
+
+-- the tokens that are left lead from here where all lead from the start
+abbrev pub invariant-loop-token : goal.invariant-loop-token
+invariant-loop-token l = record {
+  within : l.at ≤ length l.text;
+  same : run script_language (seen_state l.state) (tokens_from l.at (drop l.at l.text)) ≡ run script_language (start_of script_language)
+      (tokens l.text);
+}
+
+abbrev pub decreases-loop-token : goal.decreases-loop-token
+decreases-loop-token l = length l.text - l.at

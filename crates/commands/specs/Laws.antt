@@ -1,0 +1,31 @@
+-- What is true of every opening, edit, transaction and export.
+use Rattle.std.specs.Prelude.{◌≡◌, List, map, Ok}
+use Rattle.std.specs.Str.{bytes_eq}
+use Rattle.mmstatement.specs.Tables.{Contents}
+use Rattle.mmstatement.specs.Layout.{HasSpelling}
+use Rattle.mmstatement.specs.Assertions.{Distinct}
+use Rattle.commands.specs.declared.library.Ranked.{Ranked}
+use Rattle.commands.specs.declared.command.Command.{Command}
+use Rattle.commands.specs.Library.{Setting, Verifies, label_of, setting_of, opening, ShowsInOrder, Listed, shown_database}
+use Rattle.commands.specs.Edits.{Edited, edit}
+use Rattle.commands.specs.Transactions.{apply, library_of}
+
+-- the opening library of what some text declares verifies
+abbrev pub OpeningsVerify : Type 0
+OpeningsVerify = (db : Contents) → HasSpelling db → Verifies (setting_of db) (opening db)
+
+-- a command that is not refused leaves a library that verifies
+abbrev pub EditsVerify : Type 0
+EditsVerify = (s : Setting) (lib : List Ranked) (c : Command) (e : Edited) → Verifies s lib → edit s lib c ≡ Ok e → Verifies s e.library
+
+-- so does a transaction, refused or not
+abbrev pub TransactionsVerify : Type 0
+TransactionsVerify = (s : Setting) (lib : List Ranked) (cs : List Command) → Verifies s lib → Verifies s (library_of lib (apply s lib cs))
+
+-- a library that verifies, in whatever order, is spelled as a database
+abbrev pub LibrariesAreSpelled : Type 0
+LibrariesAreSpelled = (l : Listed) → Verifies l.setting l.entries → HasSpelling (shown_database l)
+
+-- assertions of different labels have one export order
+abbrev pub ExportOrderIsOne : Type 0
+ExportOrderIsOne = (lib a b : List Ranked) → Distinct bytes_eq (map label_of lib) → ShowsInOrder lib a → ShowsInOrder lib b → a ≡ b

@@ -1,0 +1,10 @@
+pub mod Reasons
+pub mod Library
+pub mod Edits
+pub mod Transactions
+pub mod Laws
+pub mod Comments
+pub mod Languages
+pub mod Scripts
+pub mod ScriptFaults
+pub mod ScriptViews

@@ -1,0 +1,27 @@
+//! Laws of the definitions: each function does nothing, and its contract is the law.
+
+ghost use Rattle.commands.specs.Laws.{OpeningsVerify, EditsVerify, TransactionsVerify, LibrariesAreSpelled, ExportOrderIsOne};
+
+/// The opening library of every database verifies: its ranks rise by 100 from 100 on, and its labels are lawful and
+/// differ, since some text declares them.
+pub fn openings_verify()
+    ensures { OpeningsVerify }
+{}
+
+/// A library that verifies still does so after a command that is not refused, and after every transaction: after all
+/// commands of one that succeeds, and unchanged by one that is refused.
+pub fn transactions_verify()
+    ensures edits { EditsVerify }
+    ensures transactions { TransactionsVerify }
+{}
+
+/// A library that verifies, in whatever order, is spelled as a database: some text declares its prelude and its
+/// assertions in that order. So its exported text is read again.
+pub fn libraries_are_spelled()
+    ensures { LibrariesAreSpelled }
+{}
+
+/// A library whose labels differ has one export order: no two assertions tie by rank and label.
+pub fn export_order_is_one()
+    ensures { ExportOrderIsOne }
+{}

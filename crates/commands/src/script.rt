@@ -1,0 +1,308 @@
+//! Reading a script, token by token.
+
+ghost use Rattle.std.specs.Prelude.{◌≡◌, ◌≢◌, ◌≤◌, List, length, IfOk, IfErr};
+ghost use Rattle.mmstatement.specs.declared.fault.FaultKind.TheVariants.{NoMemory};
+ghost use Rattle.mmstatement.specs.declared.fault.TextFault.{TextFault};
+ghost use Rattle.mmstatement.specs.Views.{seen};
+ghost use Rattle.commands.specs.declared.command.Command.{Command};
+ghost use Rattle.commands.specs.declared.script.Stop.TheVariants.{Fault};
+ghost use Rattle.commands.specs.Languages.{step, said_at, finished, token_reading, reading};
+ghost use Rattle.commands.specs.Scripts.{SpellsScript, ReadsScript, RefusesScript};
+ghost use Rattle.commands.specs.ScriptFaults.{begin_row, command_row, label_in, commit_row, in_place, script_language, FaultyScript};
+ghost use Rattle.commands.specs.ScriptViews.{seen_place, seen_progress, seen_state, Gives};
+
+use crate::command::{Command, Script, Transaction};
+use mmstatement::{
+    FaultKind, Label, Mark, Prelude, Sequence, TextFault, Token, contains_comment_mark,
+    contains_dollar, first_bad_byte, mark_word, next_token,
+};
+use std::alloc::{AllocError, AllocFailed, Global};
+
+/// The most bytes that a text may have.
+const MOST_BYTES: usize = 16_777_216;
+
+/// Why a step of reading fails.
+#[derive(Debug, Drop)]
+enum Stop {
+    Memory,
+    Fault(TextFault),
+}
+
+impl From<AllocError> for Stop {
+    ghost use Rattle.std.specs.Prelude.{◌≡◌};
+    ghost use Rattle.commands.specs.declared.script.Stop.TheVariants.{Memory};
+
+    ghost from_gives = { λ _ e. e ≡ Memory };
+
+    fn from(_e: AllocError) -> Stop {
+        Stop::Memory
+    }
+}
+
+impl<T: Drop> From<AllocFailed<T>> for Stop {
+    ghost use Rattle.std.specs.Prelude.{◌≡◌};
+    ghost use Rattle.commands.specs.declared.script.Stop.TheVariants.{Memory};
+
+    ghost from_gives = { λ _ e. e ≡ Memory };
+
+    fn from(_e: AllocFailed<T>) -> Stop {
+        Stop::Memory
+    }
+}
+
+/// What was read of the transaction in which a token stands.
+#[derive(Drop)]
+enum Place {
+    /// Between transactions.
+    Outermost,
+    /// Behind `begin`.
+    AtCommand,
+    /// Behind `rename`.
+    AtOldLabel,
+    /// Behind `rename` and the old label.
+    AtNewLabel(Label),
+    /// Behind `show`.
+    AtShownLabel,
+    /// Behind a command.
+    AtCommit(Command),
+}
+
+/// How far a script was read.
+#[derive(Drop)]
+struct Progress {
+    /// The transactions that were committed, in order.
+    script: Vec<Transaction>,
+    /// The place behind them.
+    place: Place,
+}
+
+/// How far a script was read, and whether a comment is open there.
+#[derive(Drop)]
+struct State {
+    progress: Progress,
+    in_comment: bool,
+}
+
+/// The fault of a kind at a token.
+fn fault_at(token: Token<'_>, kind: FaultKind) -> Stop
+    ensures { result ≡ Fault (record { place = token.entry.place; kind = kind }) }
+{
+    Stop::Fault(TextFault {
+        place: token.place,
+        kind,
+    })
+}
+
+/// `begin`.
+fn read_begin(script: Vec<Transaction>, token: Token<'_>) -> Result<Progress, Stop>
+    ensures { Gives seen_progress result (begin_row script.items (seen token.entry)) }
+{
+    if token.text != b"begin".as_slice() {
+        return Err(fault_at(token, FaultKind::BadToken));
+    }
+    Ok(Progress {
+        script,
+        place: Place::AtCommand,
+    })
+}
+
+/// The word of a command.
+fn read_command_word(script: Vec<Transaction>, token: Token<'_>) -> Result<Progress, Stop>
+    ensures { Gives seen_progress result (command_row script.items (seen token.entry)) }
+{
+    if token.text == b"rename".as_slice() {
+        return Ok(Progress {
+            script,
+            place: Place::AtOldLabel,
+        });
+    }
+    if token.text == b"show".as_slice() {
+        return Ok(Progress {
+            script,
+            place: Place::AtShownLabel,
+        });
+    }
+    Err(fault_at(token, FaultKind::BadToken))
+}
+
+/// A label: a word without `$`.
+fn read_label(alloc: Global, token: Token<'_>) -> Result<Label, Stop>
+    ensures { Gives (λ l. l) result (label_in (seen token.entry)) }
+{
+    if contains_dollar(token.text) {
+        return Err(fault_at(token, FaultKind::BadToken));
+    }
+    Ok(Sequence::from_vec(Vec::from_slice(alloc, token.text)?))
+}
+
+/// `commit`, behind a command.
+fn read_commit(
+    alloc: Global,
+    mut script: Vec<Transaction>,
+    command: Command,
+    token: Token<'_>,
+) -> Result<Progress, Stop>
+    ensures { Gives seen_progress result (commit_row script.items command (seen token.entry)) }
+{
+    if token.text != b"commit".as_slice() {
+        return Err(fault_at(token, FaultKind::BadToken));
+    }
+    let mut commands = Vec::new(alloc);
+    commands.push(command)?;
+    script.push(Sequence::from_vec(commands))?;
+    Ok(Progress {
+        script,
+        place: Place::Outermost,
+    })
+}
+
+/// Where a token leads that stands in no comment and opens none.
+fn next_progress(alloc: Global, progress: Progress, token: Token<'_>) -> Result<Progress, Stop>
+    ensures { Gives seen_progress result (in_place progress.script.items (seen_place progress.place) (seen token.entry)) }
+{
+    let Progress { script, place } = progress;
+    let place = match place {
+        Place::Outermost => return read_begin(script, token),
+        Place::AtCommand => return read_command_word(script, token),
+        Place::AtOldLabel => Place::AtNewLabel(read_label(alloc, token)?),
+        Place::AtNewLabel(old) => {
+            let new = read_label(alloc, token)?;
+            Place::AtCommit(Command::Rename { old, new })
+        }
+        Place::AtShownLabel => {
+            let label = read_label(alloc, token)?;
+            Place::AtCommit(Command::Show { label })
+        }
+        Place::AtCommit(command) => return read_commit(alloc, script, command, token),
+    };
+    Ok(Progress { script, place })
+}
+
+/// Where a token leads.
+#[tactic(auto, unfolding(crate::specs::Languages::step))]
+fn advance(alloc: Global, state: State, token: Token<'_>) -> Result<State, Stop>
+    ensures { Gives seen_state result (step script_language (seen_state state) (seen token.entry)) }
+{
+    let State {
+        progress,
+        in_comment,
+    } = state;
+    let mark = mark_word(token.text);
+    if in_comment {
+        if mark == Mark::Uncomment {
+            return Ok(State {
+                progress,
+                in_comment: false,
+            });
+        }
+        if contains_comment_mark(token.text) {
+            return Err(fault_at(token, FaultKind::BadToken));
+        }
+        return Ok(State {
+            progress,
+            in_comment,
+        });
+    }
+    match mark {
+        Mark::Comment => Ok(State {
+            progress,
+            in_comment: true,
+        }),
+        Mark::Include | Mark::Included => Err(fault_at(token, FaultKind::OutOfProfile)),
+        Mark::Uncomment => Err(fault_at(token, FaultKind::BadToken)),
+        _ => Ok(State {
+            progress: next_progress(alloc, progress, token)?,
+            in_comment: false,
+        }),
+    }
+}
+
+/// The script of a text that ends in a state. `length` is that of the text.
+fn finish(state: State, length: usize) -> Result<Vec<Transaction>, Stop>
+    ensures { Gives (λ v. v.items) result (finished length (said_at script_language (seen_state state))) }
+{
+    let State {
+        progress: Progress { script, place },
+        in_comment,
+    } = state;
+    match place {
+        Place::Outermost if !in_comment => Ok(script),
+        _ => Err(Stop::Fault(TextFault {
+            place: length,
+            kind: FaultKind::Unfinished,
+        })),
+    }
+}
+
+/// What the tokens of a text say.
+fn read_tokens(alloc: Global, text: &[u8]) -> Result<Vec<Transaction>, Stop>
+    ensures { Gives (λ v. v.items) result (token_reading script_language text.now) }
+{
+    let mut state = State {
+        progress: Progress {
+            script: Vec::new(alloc),
+            place: Place::Outermost,
+        },
+        in_comment: false,
+    };
+    let mut at = 0;
+    while let Some(token) = next_token(text, at) {
+        at = token.place + token.text.len();
+        state = advance(alloc, state, token)?;
+    }
+    finish(state, text.len())
+}
+
+/// What a text says: its length is tested first, then its bytes, then its tokens.
+#[tactic(auto, unfolding(crate::specs::Languages::reading))]
+fn read_text(alloc: Global, text: &[u8]) -> Result<Vec<Transaction>, Stop>
+    ensures { Gives (λ v. v.items) result (reading script_language text.now) }
+{
+    if text.len() > MOST_BYTES {
+        return Err(Stop::Fault(TextFault {
+            place: MOST_BYTES,
+            kind: FaultKind::TooLong,
+        }));
+    }
+    if let Some(place) = first_bad_byte(text) {
+        return Err(Stop::Fault(TextFault {
+            place,
+            kind: FaultKind::BadByte,
+        }));
+    }
+    read_tokens(alloc, text)
+}
+
+/// The script that a text spells: transactions of one command each, `begin` command `commit`, where a command is `rename` with the old
+/// label and the new one, or `show` with a label. Comments may stand between any two words.
+///
+/// # Errors
+///
+/// The first fault of the text: `TooLong` at 16,777,216 if it has more bytes than that; else `BadByte` at the first byte that is neither
+/// printable ASCII nor white space, also in a comment; else `BadToken` or `OutOfProfile` (`$[` and `$]`) at the first token that may not
+/// stand at its place; else `Unfinished` at the length of a text that ends in a transaction or in a comment. `NoMemory`, with place 0, if
+/// memory ran out.
+pub fn read_script(alloc: Global, prelude: &Prelude, text: &[u8]) -> Result<Script, TextFault>
+    // What is read is spelled so.
+    ensures found { IfOk result (λ script. SpellsScript text.now script) }
+    // What is spelled so is read, if the text isn't too long, unless memory runs out.
+    ensures only { (script : List (List Command)) → length text.now ≤ 16777216 → SpellsScript text.now script → ReadsScript result script }
+    // Any other fault than want of memory is the text's.
+    ensures fault { IfErr result (λ f. f.kind ≢ NoMemory → FaultyScript text.now f) }
+    // A text with a fault is refused with it, unless memory runs out.
+    ensures refused { (f : TextFault) → FaultyScript text.now f → RefusesScript result f }
+{
+    // No command of today has symbols in it, so the prelude is not looked at yet: those that carry an assertion or a proof will be read
+    // over it.
+    match read_text(alloc, text) {
+        Ok(script) => Ok(Sequence::from_vec(script)),
+        Err(Stop::Fault(fault)) => Err(fault),
+        Err(Stop::Memory) => Err(TextFault {
+            place: 0,
+            kind: FaultKind::NoMemory,
+        }),
+    }
+}
+
+#[cfg(test)]
+mod tests;

@@ -1,0 +1,6 @@
+pub mod Relabelling
+pub mod Indexes
+pub mod Undoing
+pub mod Taking
+pub mod Commands
+pub mod Openings

@@ -1,0 +1,11 @@
+use Rattle.std.proofs.Common.{◌≡◌, take}
+use Rattle.commands.specs.Library.{ranked_from}
+use Rattle.history.specs.Places.{IsIndex}
+use Rattle.history.proofs.places.open_entries.Given as goal
+
+abbrev pub invariant-loop-i : goal.invariant-loop-i
+invariant-loop-i l =
+    record {
+      entries : l.entries.items ≡ take l.i (ranked_from 1 l.assertions);
+      indexed : IsIndex l.places l.entries.items;
+    }

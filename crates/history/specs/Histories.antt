@@ -1,0 +1,39 @@
+-- Histories: the transactions that drew a number, in order of number; and the library after a front of one.
+use Rattle.std.specs.Prelude.{◌≡◌, ◌≢◌, ◌≤◌, ℕ, List, [], ◌∷◌, length, take, slice_get, Some, Ok}
+use Rattle.commands.specs.declared.library.Ranked.{Ranked}
+use Rattle.commands.specs.declared.command.Command.{Command}
+use Rattle.commands.specs.declared.command.Reply.{Reply}
+use Rattle.commands.specs.Library.{Setting}
+use Rattle.commands.specs.Transactions.{apply, library_of}
+
+-- an entry: its number was drawn and nobody knows yet what becomes of it; or it holds no commands; or it is done, with its commands and
+-- their replies. The n-th entry of a history has the number n
+pub data Entry : Type 0 where
+  open_entry : Entry
+  void_entry : Entry
+  done_entry : List Command → List Reply → Entry
+
+-- the library after one entry
+abbrev pub after_entry : Setting → List Ranked → Entry → List Ranked
+after_entry s lib (done_entry cs replies) = library_of lib (apply s lib cs)
+after_entry s lib _ = lib
+
+-- the library after all entries, in order
+abbrev pub after_all : Setting → List Ranked → List Entry → List Ranked
+after_all s lib [] = lib
+after_all s lib (e ∷ es) = after_all s (after_entry s lib e) es
+
+-- the library after the first k entries, which are a front of the history
+abbrev pub after : Setting → List Ranked → List Entry → ℕ → List Ranked
+after s lib h k = after_all s lib (take k h)
+
+-- a later history of the same run: at least as long, and what was settled stays
+pub record Grows (g h : List Entry) : Type 0 where
+  pub longer : length g ≤ length h
+  pub kept : (i : ℕ) (e : Entry) → slice_get g i ≡ Some e → e ≢ open_entry → slice_get h i ≡ Some e
+
+-- each done entry's replies are the one-thread editor's, from the library after the entries before it
+abbrev pub IsLegal : Setting → List Ranked → List Entry → Type 0
+IsLegal s lib0 h =
+    (i : ℕ) (cs : List Command) (replies : List Reply) → slice_get h i ≡ Some (done_entry cs replies)
+    → (next : List Ranked) × (apply s (after s lib0 h i) cs ≡ Ok (record { library = next; replies = replies }))

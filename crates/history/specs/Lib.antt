@@ -1,0 +1,5 @@
+pub mod Editors
+pub mod Histories
+pub mod Places
+pub mod Drafts
+pub mod Openings

@@ -1,0 +1,39 @@
+-- Where each label of a library stands: a map from labels to places.
+use Rattle.std.specs.Prelude.{◌≡◌, ℕ, false, cond, List, Option, Some, None, Vec, slice_get, IsSome}
+use Rattle.std.specs.Str.{bytes_eq}
+use Rattle.std.specs.HashMap.{HashMap, get_by}
+use Rattle.std.specs.declared.alloc.Global.{Global}
+use Rattle.std.specs.declared.random_state.RandomState.{RandomState}
+use Rattle.commands.specs.declared.library.Ranked.{Ranked}
+use Rattle.commands.specs.Library.{label_of}
+use Rattle.commands.specs.Edits.{has}
+
+abbrev pub Places : Type 0
+Places = HashMap (Vec ℕ Global) ℕ RandomState
+
+-- the place that a map has for a label
+abbrev pub place_in : Places → List ℕ → Option ℕ
+place_in m w = get_by (λ k. bytes_eq w k.items) m
+
+-- the map has the place of each entry for its label, so no two entries have one label; of other labels it may have anything
+pub record IsIndex (m : Places) (lib : List Ranked) : Type 0 where
+  pub finds : (p : ℕ) (e : Ranked) → slice_get lib p ≡ Some e → place_in m (label_of e) ≡ Some p
+
+-- the entry at a place has the label
+pub record StandsAt (lib : List Ranked) (w : List ℕ) (p : ℕ) : Type 0 where
+  pub entry : Ranked
+  pub at : slice_get lib p ≡ Some entry
+  pub labelled : label_of entry ≡ w
+
+-- the place of the entry that has the label, or that none has it
+abbrev pub FoundAt : List Ranked → List ℕ → Option ℕ → Type 0
+FoundAt lib w None = has lib w ≡ false
+FoundAt lib w (Some p) = StandsAt lib w p
+
+-- n is the map m with a place for a label
+abbrev pub Puts : Places → List ℕ → ℕ → Places → Type 0
+Puts m w p n = (q : List ℕ) → place_in n q ≡ cond (bytes_eq w q) (Some p) (place_in m q)
+
+-- n has each label that m has
+pub record KeepsLabels (m n : Places) : Type 0 where
+  pub keeps : (q : List ℕ) → IsSome (place_in m q) → IsSome (place_in n q)

@@ -1,0 +1,146 @@
+//! The one-thread editor: the definition of transactions as a program.
+
+use crate::draft::Draft;
+use commands::{Command, PlainLibrary, Refused, Reply};
+use mmstatement::{Database, Sequence};
+use std::alloc::{AllocError, Global};
+use std::hash::RandomState;
+use std::marker::Model;
+
+/// Why an editor is not opened.
+#[derive(Clone, Copy, Debug, PartialEq, Eq)]
+pub enum OpenError {
+    /// The database has more assertions than there are slots.
+    TooMany,
+    /// Memory ran out.
+    NoMemory,
+}
+
+/// Why a transaction has no replies. The library is then as it was.
+#[derive(Clone, Copy, Debug, PartialEq, Eq)]
+pub enum ApplyError {
+    /// A command was refused, and with it the transaction.
+    Refused(Refused),
+    /// Memory ran out.
+    NoMemory,
+}
+
+impl From<AllocError> for OpenError {
+    ghost use Rattle.std.specs.Prelude.{◌≡◌};
+    ghost use Rattle.history.specs.declared.editor.OpenError.TheVariants.{NoMemory};
+
+    ghost from_gives = { λ _ error. error ≡ NoMemory };
+
+    fn from(_error: AllocError) -> Self {
+        OpenError::NoMemory
+    }
+}
+
+impl From<AllocError> for ApplyError {
+    ghost use Rattle.std.specs.Prelude.{◌≡◌};
+    ghost use Rattle.history.specs.declared.editor.ApplyError.TheVariants.{NoMemory};
+
+    ghost from_gives = { λ _ error. error ≡ NoMemory };
+
+    fn from(_error: AllocError) -> Self {
+        ApplyError::NoMemory
+    }
+}
+
+/// A library that verifies, and the transactions on it, one after another on one thread.
+///
+/// A clause sees the setting and the library: a list in whatever order, of which `into_library` shows the export order.
+#[derive(Drop)]
+pub struct Editor {
+    draft: Draft,
+}
+
+impl Model for Editor {
+    ghost use Rattle.history.specs.Editors.{Held};
+    ghost use Rattle.history.specs.Drafts.{IsSettled};
+
+    ghost Value = { Held };
+
+    ghost view = { λ e. record { setting = e.draft.setting; library = e.draft.library } };
+
+    ghost invariant = { λ e. IsSettled e.draft };
+}
+
+impl Editor {
+    ghost use Rattle.std.specs.Prelude.{◌≡◌, ◌≤◌, length};
+    ghost use Rattle.commands.specs.Library.{Verifies, ShowsInOrder};
+    ghost use Rattle.history.specs.Editors.{Answers};
+    ghost use Rattle.history.specs.Openings.{Opens};
+
+    /// Opens the opening library of a database, whose k-th assertion has the rank 100 k, with room for `slots`
+    /// assertions, 1 to 4,096.
+    ///
+    /// # Errors
+    ///
+    /// `TooMany` where the database has more assertions than there are slots, and `NoMemory`.
+    pub fn open(
+        alloc: Global,
+        keys: RandomState,
+        db: &Database,
+        slots: usize,
+    ) -> Result<Editor, OpenError>
+        requires { (1 ≤ slots) × (slots ≤ 4096) }
+        ensures { Opens db.now slots result }
+    {
+        let assertions = db.assertions();
+        if assertions.len() > slots {
+            return Err(OpenError::TooMany);
+        }
+        let prelude = db.prelude().copy(alloc)?;
+        let draft = Draft::open(alloc, keys, prelude, slots, assertions)?;
+        Ok(Editor { draft })
+    }
+
+    /// How many assertions the library may hold.
+    pub fn slots(&self) -> usize
+        ensures { result ≡ self.now.setting.slots }
+    {
+        self.draft.slots()
+    }
+
+    /// How many assertions the library holds. It verifies, after every transaction.
+    pub fn assertion_count(&self) -> usize
+        ensures value { result ≡ length self.now.library }
+        ensures verifies { Verifies self.now.setting self.now.library }
+    {
+        self.draft.assertion_count()
+    }
+
+    /// Does all commands of a transaction in order, and answers the reply to each.
+    ///
+    /// # Errors
+    ///
+    /// `Refused` with the first command that is refused, counted from 1, and the reason; or `NoMemory`. The library is
+    /// then as it was.
+    pub fn apply(
+        &mut self,
+        alloc: Global,
+        commands: &[Command],
+    ) -> Result<Sequence<Reply>, ApplyError>
+        ensures { Answers self.old commands.now result self.new }
+    {
+        match self.draft.take_all(alloc, commands) {
+            Ok(replies) => {
+                self.draft.settle();
+                Ok(replies)
+            }
+            Err(error) => {
+                self.draft.undo();
+                Err(error)
+            }
+        }
+    }
+
+    /// The library that it holds, in export order. It takes no memory.
+    pub fn into_library(self) -> PlainLibrary
+        ensures setting { result.setting ≡ self.setting }
+        ensures shown { ShowsInOrder self.library result.entries }
+    {
+        self.draft.into_library()
+    }
+}

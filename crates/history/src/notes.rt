@@ -1,0 +1,75 @@
+//! Renames that were done, and how they are taken back without memory.
+
+ghost use Rattle.std.specs.Prelude.{◌≡◌, ◌<◌, ◌∷◌, ◌++◌, [], length, vec_len, vec_capacity};
+ghost use Rattle.history.specs.Places.{IsIndex, StandsAt, KeepsLabels};
+ghost use Rattle.history.specs.Drafts.{relabelled, taken_back, undone, CanTakeBack, CanUndo};
+
+use crate::places::{Places, forget_label, put_place};
+use commands::Ranked;
+use mmstatement::Label;
+use std::mem;
+
+/// A rename that was done: the place of the assertion, counted from 0, and the label that it had.
+#[derive(Drop)]
+pub(crate) struct Note {
+    pub place: usize,
+    pub former: Label,
+}
+
+/// Gives the assertion at a place a label, and takes the one that it had.
+pub(crate) fn swap_label(entries: &mut [Ranked], place: usize, label: &mut Label)
+    requires { place < length entries.old }
+    ensures given { entries.new ≡ relabelled entries.old place label.old }
+    ensures taken { StandsAt entries.old label.new place }
+{
+    let entry = &mut entries[place];
+    mem::swap(&mut entry.assertion.label, label);
+}
+
+/// One more note, for which there is room.
+pub(crate) fn push_note(notes: &mut Vec<Note>, note: Note)
+    requires { vec_len notes.old < vec_capacity notes.old }
+    ensures { notes.new.items ≡ notes.old.items ++ note ∷ [] }
+{
+    match notes.push(note) {
+        Ok(()) => {}
+        Err(_) => unreachable!(),
+    }
+}
+
+/// Takes one rename back. The note then has the label that was taken back.
+fn take_back(entries: &mut [Ranked], places: &mut Places, note: &mut Note)
+    requires indexed { IsIndex places.old entries.old }
+    requires can { CanTakeBack places.old entries.old note.old }
+    ensures entries { entries.new ≡ taken_back note.old entries.old }
+    ensures indexed { IsIndex places.new entries.new }
+    ensures labels { KeepsLabels places.old places.new }
+{
+    put_place(places, note.former.as_slice(), note.place);
+    swap_label(entries, note.place, &mut note.former);
+}
+
+/// Takes all renames back, from the last to the first. The notes then have the labels that were taken back.
+pub(crate) fn take_all_back(entries: &mut [Ranked], places: &mut Places, notes: &mut [Note])
+    requires indexed { IsIndex places.old entries.old }
+    requires can { CanUndo places.old notes.old entries.old }
+    ensures entries { entries.new ≡ undone notes.old entries.old }
+    ensures indexed { IsIndex places.new entries.new }
+{
+    let mut left = notes.len();
+    while left > 0 {
+        left -= 1;
+        take_back(entries, places, &mut notes[left]);
+    }
+}
+
+/// Drops all notes, and from the map their labels that no assertion has.
+pub(crate) fn drop_notes(entries: &[Ranked], places: &mut Places, notes: &mut Vec<Note>)
+    requires { IsIndex places.old entries.now }
+    ensures indexed { IsIndex places.new entries.now }
+    ensures empty { notes.new.items ≡ [] }
+{
+    while let Some(note) = notes.pop() {
+        forget_label(entries, places, note.former.as_slice());
+    }
+}

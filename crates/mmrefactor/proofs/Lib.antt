@@ -1,0 +1,3 @@
+pub mod Fitting
+pub mod Faults
+pub mod Turns

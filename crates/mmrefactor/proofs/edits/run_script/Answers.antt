@@ -1,0 +1,51 @@
+use Rattle.std.proofs.Common.{◌≡◌, ◌∙◌, ◌+◌, ◌<◌, ◌≤◌, List, ◌∷◌, [], ◌++◌, length, subst, sym, ap, arith, rules}
+use Rattle.std.specs.Prelude.{All}
+use Rattle.commands.specs.Library.{Setting}
+use Rattle.mmrefactor.specs.declared.outcome.Outcome.{Outcome}
+use Rattle.mmrefactor.specs.Outcomes.{Standing, standing, outcome_at, standing_after, OutcomeFits}
+use Rattle.mmrefactor.proofs.Turns.{Turns, begins, goes_on, ends}
+use Rattle.mmrefactor.proofs.edits.run_script.Goals as goal
+
+pub loop-i-init : goal.loop-i-init
+loop-i-init c =
+    let s = c.args.editor.now.setting in
+    let from = standing c.args.editor.now c.args.history.now.items in
+    record {
+      setting = search rules;
+      turns = subst (λ (done : List Outcome). Turns (outcome_at s) (standing_after s) (OutcomeFits s.prelude) from from c.args.script.now 0 done) (sym c.new-outcomes.ensures.items) (begins (outcome_at s) (standing_after s) (OutcomeFits s.prelude) from c.args.script.now);
+    }
+
+pub returns-in_err-attempt-clause-setting : goal.returns-in_err-attempt-clause-setting
+returns-in_err-attempt-clause-setting c = c.attempt.ensures.setting ∙ c.loop-i.invariant.setting
+
+pub returns-in_err-push-clause-setting : goal.returns-in_err-push-clause-setting
+returns-in_err-push-clause-setting c = c.attempt.ensures.setting ∙ c.loop-i.invariant.setting
+
+pub loop-i-preserved : goal.loop-i-preserved
+loop-i-preserved c =
+    let s = c.args.editor.now.setting in
+    let same = c.loop-i.invariant.setting in
+    let from = standing c.args.editor.now c.args.history.now.items in
+    let now = standing c.loop-i.editor c.loop-i.history.items in
+    let after = standing c.attempt.new.editor c.attempt.new.history.items in
+    let t = c.index-script-i.result in
+    let o = c.in_ok-attempt.field-0 in
+    let is_o : o ≡ outcome_at s now t = subst (λ (q : Setting). o ≡ outcome_at q now t) same (c.in_ok-attempt.ensures.outcome ∙ ap (outcome_at c.loop-i.editor.setting now) c.as_slice.ensures) in
+    let is_after : after ≡ standing_after s now t = subst (λ (q : Setting). after ≡ standing_after q now t) same (c.in_ok-attempt.ensures.after ∙ ap (standing_after c.loop-i.editor.setting now) c.as_slice.ensures) in
+    let fits : OutcomeFits s.prelude o = subst (λ (q : Setting). OutcomeFits q.prelude o) same c.in_ok-attempt.ensures.fits in
+    record {
+      setting = c.attempt.ensures.setting ∙ same;
+      turns = subst (λ (done : List Outcome). Turns (outcome_at s) (standing_after s) (OutcomeFits s.prelude) from after c.args.script.now (c.loop-i.i + 1) done) (sym c.in_ok-push.ensures.items) (goes_on (outcome_at s) (standing_after s) (OutcomeFits s.prelude) from c.args.script.now now after t o c.loop-i.i c.loop-i.outcomes.items (omega arith) c.index-script-i.is is_o is_after fits c.loop-i.invariant.turns);
+    }
+
+pub returns-clause-setting : goal.returns-clause-setting
+returns-clause-setting c = c.loop-i.invariant.setting
+
+pub returns-clause-outcomes : goal.returns-clause-outcomes
+returns-clause-outcomes c = c.from_vec.ensures ∙ (ends _ _ _ _ _ _ _ _ (omega arith) c.loop-i.invariant.turns).0
+
+pub returns-clause-after : goal.returns-clause-after
+returns-clause-after c = (ends _ _ _ _ _ _ _ _ (omega arith) c.loop-i.invariant.turns).1
+
+pub returns-clause-fits : goal.returns-clause-fits
+returns-clause-fits c = subst (λ (os : List Outcome). All (OutcomeFits c.args.editor.now.setting.prelude) os) (sym c.from_vec.ensures) c.loop-i.invariant.turns.meets

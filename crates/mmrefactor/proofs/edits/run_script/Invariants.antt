@@ -1,0 +1,10 @@
+use Rattle.std.proofs.Common.{◌≡◌}
+use Rattle.mmrefactor.specs.Outcomes.{standing, outcome_at, standing_after, OutcomeFits}
+use Rattle.mmrefactor.proofs.Turns.{Turns}
+use Rattle.mmrefactor.proofs.edits.run_script.Given as goal
+
+abbrev pub invariant-loop-i : goal.invariant-loop-i
+invariant-loop-i l = record {
+  setting : l.editor.setting ≡ l.fn.editor.setting;
+  turns : Turns (outcome_at l.fn.editor.setting) (standing_after l.fn.editor.setting) (OutcomeFits l.fn.editor.setting.prelude) (standing l.fn.editor l.fn.history.items) (standing l.editor l.history.items) l.script l.i l.outcomes.items;
+}

@@ -1,0 +1,52 @@
+//! What the program is asked to do, what it prints, and why it prints nothing.
+
+use mmstatement::TextFault;
+use std::alloc::{AllocError, AllocFailed};
+use thiserror::Error;
+
+/// A job over texts: what files hold, as bytes.
+#[derive(Debug, Drop)]
+pub enum Job {
+    /// Runs the scripts, one after another, over the library of a database.
+    Run { db: Vec<u8>, scripts: Vec<Vec<u8>> },
+}
+
+/// What a job prints.
+#[derive(Debug, Drop)]
+pub struct Printed {
+    /// The text for the standard output.
+    pub out: Vec<u8>,
+}
+
+/// Why a job prints nothing. Its text is the program's line, without the path of the file at fault.
+#[derive(Debug, Drop, Error)]
+pub enum Fault {
+    /// A text is not read. Texts count from 0: the database, then each script.
+    #[error("text {} {} at byte {}", .fault.kind.number(), .fault.kind.name(), .fault.place)]
+    Text { file: usize, fault: TextFault },
+    /// Memory ran out.
+    #[error("no memory")]
+    NoMemory,
+}
+
+impl From<AllocError> for Fault {
+    ghost use Rattle.std.specs.Prelude.{◌≡◌};
+    ghost use Rattle.mmrefactor.specs.declared.job.Fault.TheVariants.{NoMemory};
+
+    ghost from_gives = { λ _ f. f ≡ NoMemory };
+
+    fn from(_error: AllocError) -> Fault {
+        Fault::NoMemory
+    }
+}
+
+impl<T: Drop> From<AllocFailed<T>> for Fault {
+    ghost use Rattle.std.specs.Prelude.{◌≡◌};
+    ghost use Rattle.mmrefactor.specs.declared.job.Fault.TheVariants.{NoMemory};
+
+    ghost from_gives = { λ _ f. f ≡ NoMemory };
+
+    fn from(_error: AllocFailed<T>) -> Fault {
+        Fault::NoMemory
+    }
+}

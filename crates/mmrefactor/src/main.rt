@@ -1,0 +1,134 @@
+//! mmrefactor: edits a Metamath library by scripts, and prints it.
+#![tactic(auto)]
+
+mod arguments;
+mod edits;
+mod job;
+mod outcome;
+mod perform;
+mod report;
+#[cfg(test)]
+mod tests;
+
+use crate::arguments::{command_line, paths_of};
+use crate::job::{Fault, Job};
+use crate::perform::perform;
+use std::alloc::{AllocError, Global};
+use std::fmt::Display;
+use std::hash::RandomState;
+use std::io::Write;
+use std::process::ExitCode;
+use std::random::RandomSource;
+use std::rt::{Env, Files};
+use std::{env, fs, io};
+
+/// Why the texts of a job are not there.
+#[derive(Drop)]
+enum Unread {
+    /// The file at this place of the command line can't be read.
+    File(usize),
+    Memory,
+}
+
+impl From<AllocError> for Unread {
+    fn from(_error: AllocError) -> Unread {
+        Unread::Memory
+    }
+}
+
+/// Says on the standard error why nothing was printed: one line, and status 1.
+fn complain(rt: &impl Eprint, line: impl Display + Drop) -> ExitCode {
+    let _ = rt.eprintln(line);
+    ExitCode::from(1)
+}
+
+/// Prints a text on the standard output, or says that it can't.
+fn print_out(rt: &(impl Print + Eprint), out: &[u8]) -> ExitCode {
+    match io::writer(rt).write_all(out) {
+        Ok(()) => ExitCode::SUCCESS,
+        Err(_) => complain(rt, "cannot write"),
+    }
+}
+
+/// Prints what the parser of command lines says: help and the version on the standard output, anything else on the standard error.
+fn print_usage(rt: &(impl Print + Eprint), error: &clap::Error) -> ExitCode {
+    match error.print(rt) {
+        Ok(()) => ExitCode::from(if error.use_stderr() { 2 } else { 0 }),
+        Err(_) => complain(rt, "cannot write"),
+    }
+}
+
+/// Reads the files of a job in the order of the command line.
+fn read_files(rt: &(impl Files + AllocGlobal), paths: &[&str]) -> Result<Vec<Vec<u8>>, Unread> {
+    let mut texts = Vec::new(rt.alloc());
+    for (i, path) in paths.iter().enumerate() {
+        match fs::read(rt, *path) {
+            Ok(text) => texts.push(text).map_err(AllocError::from)?,
+            Err(error) if error.kind() == io::ErrorKind::OutOfMemory => return Err(Unread::Memory),
+            Err(_) => return Err(Unread::File(i)),
+        }
+    }
+    Ok(texts)
+}
+
+/// The line of a fault: that of a text has its path.
+fn complain_of(rt: &impl Eprint, paths: &[&str], fault: &Fault) -> ExitCode {
+    match fault {
+        Fault::Text { file, .. } => {
+            let path = paths.get(*file).copied().unwrap_or("");
+            complain(rt, format_args!("{path}: {fault}"))
+        }
+        Fault::NoMemory => complain(rt, format_args!("{fault}")),
+    }
+}
+
+/// Runs scripts over a database: the first path is the database's.
+fn run_files(
+    rt: &(impl Files + AllocGlobal + Print + Eprint + RandomSource),
+    paths: &[&str],
+) -> Result<ExitCode, AllocError> {
+    let mut scripts = match read_files(rt, paths) {
+        Ok(texts) => texts,
+        Err(Unread::Memory) => return Err(AllocError),
+        Err(Unread::File(i)) => {
+            let path = paths.get(i).copied().unwrap_or("");
+            return Ok(complain(rt, format_args!("{path}: cannot read")));
+        }
+    };
+    if scripts.is_empty() {
+        return Ok(ExitCode::from(2));
+    }
+    let db = scripts.remove(0);
+    let Ok(keys) = RandomState::new(rt) else {
+        return Ok(complain(rt, "no random numbers"));
+    };
+    match perform(rt.alloc(), keys, &Job::Run { db, scripts }) {
+        Ok(printed) => Ok(print_out(rt, printed.out.as_slice())),
+        Err(fault) => Ok(complain_of(rt, paths, &fault)),
+    }
+}
+
+/// What the command line asks for.
+fn obey(
+    rt: &(impl Files + AllocGlobal + Print + Eprint + RandomSource + Env),
+) -> Result<ExitCode, AllocError> {
+    let alloc = rt.alloc();
+    let Ok(args) = env::args(rt) else {
+        return Ok(complain(rt, "the command line cannot be read"));
+    };
+    let words: Vec<String> = args.collect(alloc)?;
+    match command_line(alloc)?.try_get_matches_from(words.as_slice()) {
+        Err(error) => Ok(print_usage(rt, &error)),
+        Ok(matches) => {
+            let paths = paths_of(alloc, &matches)?;
+            run_files(rt, paths.as_slice())
+        }
+    }
+}
+
+fn main(rt: HostRuntime) -> ExitCode {
+    match obey(&rt) {
+        Ok(status) => status,
+        Err(_) => complain(&rt, "no memory"),
+    }
+}

@@ -1,0 +1,13 @@
+pub mod Names
+pub mod Tokens
+pub mod Runs
+pub mod Outcomes
+pub mod Spelled
+pub mod Parsed
+pub mod Distinct
+pub mod Lines
+pub mod Sound
+pub mod Canonical
+pub mod Declarable
+pub mod Ascending
+pub mod Copies

@@ -1,0 +1,11 @@
+use Rattle.std.proofs.Common.{◌≡◌, length, ap, sym, subst, None, arith, rules}
+use Rattle.mmstatement.specs.Tables.{Tables, meaning}
+use Rattle.mmstatement.proofs.Names.{indexed-constant}
+use Rattle.mmstatement.proofs.symbols.SymbolTable.add_constant.Goals as goal
+
+pub invariant_of-self-in-Ok : goal.invariant_of-self-in-Ok
+invariant_of-self-in-Ok c =
+    let i = c.self.inside in
+    let len : c.len-place.result ≡ length i.constants.items = search rules in
+    indexed-constant i.names c.insert.new.self c.in_ok-key.key (record { constants = i.constants.items; variables = i.variables.items; floats = i.floats.items }) c.args.word.now c.len-place.result c.push.new.self.items
+    c.self.invariant (subst (λ (t : Tables). meaning t c.args.word.now ≡ None) (sym c.self.view_is) c.requires.new) c.in_ok-key.ensures.items len (search rules) c.in-Ok.ensures.updates

@@ -1,0 +1,9 @@
+use Rattle.std.proofs.Common.{Some}
+use Rattle.mmstatement.specs.declared.symbols.Name.TheVariants.{Variable}
+use Rattle.mmstatement.proofs.Names.{after_update}
+use Rattle.mmstatement.proofs.symbols.set_float.Goals as goal
+
+pub returns-in-Some : goal.returns-in-Some
+returns-in-Some c =
+    let w = Variable c.args.variable (Some c.args.place) in
+    after_update c.args.word.now c.args.names.now (c.get_mut.follows.lender w) (Some w) ((c.get_mut.follows.holds w).3 c.requires)

@@ -1,0 +1,85 @@
+-- Which assertions fit a prelude, which labels they may have, and which lists of them a text declares.
+use Rattle.std.specs.Prelude.{◌≡◌, ◌<◌, ◌≤◌, ◌⊎◌, ◌↔◌, ℕ, Bool, false, ◌&&◌, nat_le, List, [], ◌∷◌, length, All, map, is_some, IsTrue}
+use mathlib.Core.Bool.{not}
+use Rattle.std.specs.List.{list_any}
+use Rattle.std.specs.Str.{bytes_eq}
+use Rattle.mmstatement.specs.declared.statement.Symbol.{Symbol}
+use Rattle.mmstatement.specs.declared.statement.Symbol.TheVariants.{Const, Var}
+use Rattle.mmstatement.specs.declared.statement.Kind.TheVariants.{Axiom}
+use Rattle.mmstatement.specs.declared.statement.Assertion.{Assertion}
+use Rattle.mmstatement.specs.Tables.{Tables, Contents, meaning}
+use Rattle.mmstatement.specs.Words.{is_label, has_dot}
+use Rattle.mmstatement.specs.Layout.{HasSpelling, IsSoundPrelude}
+
+-- ---- expressions
+
+-- a symbol of the prelude: a declared constant, or the variable of a $f
+abbrev pub IsSymbolOf : Tables → Symbol → Type 0
+IsSymbolOf t (Const i) = i < length t.constants
+IsSymbolOf t (Var j) = j < length t.floats
+
+abbrev pub BeginsWithConstant : List Symbol → Type 0
+BeginsWithConstant [] = ⊥
+BeginsWithConstant (Const i ∷ e) = Unit {0}
+BeginsWithConstant (Var j ∷ e) = ⊥
+
+-- what may stand in $e, $a and $p: a constant, then symbols of the prelude, of all at most 65,535 (Metamath book, section 4.2.5)
+pub record IsExpression (t : Tables) (e : List Symbol) : Type 0 where
+  pub begins : BeginsWithConstant e
+  pub symbols : All (IsSymbolOf t) e
+  pub short : length e ≤ 65535
+
+-- ---- assertions
+
+-- two different $f of a prelude that has count of them, the earlier first
+abbrev pub IsPairOf : ℕ → ℕ × ℕ → Type 0
+IsPairOf count p = (p.0 < p.1) × (p.1 < count)
+
+abbrev pub ComesBefore : ℕ × ℕ → ℕ × ℕ → Type 0
+ComesBefore p q = (p.0 < q.0) ⊎ ((p.0 ≡ q.0) × (p.1 < q.1))
+
+-- each pair comes before the next: ascending, without repeats
+abbrev pub AreAscending : List (ℕ × ℕ) → Type 0
+AreAscending [] = Unit {0}
+AreAscending (p ∷ ps) = All (ComesBefore p) ps × AreAscending ps
+
+-- an assertion over a prelude, within the limits; nothing is said of labels, or of what a step names
+pub record Fits (t : Tables) (a : Assertion) : Type 0 where
+  pub statement : IsExpression t a.statement
+  pub hyps : All (IsExpression t) a.hyps
+  pub few_hyps : length a.hyps ≤ 1000
+  pub pairs_within : All (IsPairOf (length t.floats)) a.pairs
+  pub pairs_ascend : AreAscending a.pairs
+  pub few_pairs : length a.pairs ≤ 65535
+  pub no_axiom_proof : a.kind ≡ Axiom → a.proof ≡ []
+  pub few_steps : length a.proof ≤ 16384
+
+-- the label of an assertion: 1 to 255 bytes of a label token without a dot, that names nothing of the prelude
+abbrev pub is_lawful_label : Tables → List ℕ → Bool
+is_lawful_label t w = nat_le 1 (length w) && nat_le (length w) 255 && is_label w && not (has_dot w) && not (is_some (meaning t w))
+
+-- ---- lists of assertions
+
+-- no item equals a later one
+abbrev pub Distinct : {A : Type 0} → (A → A → Bool) → List A → Type 0
+Distinct eq [] = Unit {0}
+Distinct eq (x ∷ xs) = (list_any (eq x) xs ≡ false) × Distinct eq xs
+
+-- an axiom with no hypothesis and no pair: it stands outermost
+pub record IsOutermostAxiom (t : Tables) (a : Assertion) : Type 0 where
+  pub fits : Fits t a
+  pub is_axiom : a.kind ≡ Axiom
+  pub no_pairs : a.pairs ≡ []
+  pub no_hyps : a.hyps ≡ []
+
+-- what a text declares beside a prelude: at most 4,096 outermost axioms, with different lawful labels
+pub record IsDeclarable (t : Tables) (xs : List Assertion) : Type 0 where
+  pub prelude : IsSoundPrelude t
+  pub axioms : All (IsOutermostAxiom t) xs
+  pub lawful : All (λ a. IsTrue (is_lawful_label t a.label)) xs
+  pub distinct : Distinct bytes_eq (map (λ a. a.label) xs)
+  pub few : length xs ≤ 4096
+
+-- a database has a spelling just where its assertions are declarable over its prelude
+abbrev pub SpelledWhereDeclarable : Type 0
+SpelledWhereDeclarable = (db : Contents) → HasSpelling db ↔ IsDeclarable db.prelude db.assertions

@@ -1,0 +1,12 @@
+-- The labels of assertions, as a map.
+use Rattle.std.specs.Prelude.{◌≡◌, ℕ, List, Vec, is_some}
+use Rattle.std.specs.Str.{bytes_eq}
+use Rattle.std.specs.HashMap.{HashMap, get_by}
+use Rattle.std.specs.declared.alloc.Global.{Global}
+use Rattle.std.specs.declared.random_state.RandomState.{RandomState}
+use Rattle.mmstatement.specs.declared.statement.Assertion.{Assertion}
+use Rattle.mmstatement.specs.Rows.{is_assertion_label}
+
+-- the map has the labels of the assertions and no others
+abbrev pub HasLabels : HashMap (Vec ℕ Global) (Unit {0}) RandomState → List Assertion → Type 0
+HasLabels m xs = (w : List ℕ) → is_some (get_by (λ k. bytes_eq w k.items) m) ≡ is_assertion_label xs w

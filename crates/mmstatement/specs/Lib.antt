@@ -1,0 +1,11 @@
+pub mod Tables
+pub mod Words
+pub mod Text
+pub mod Rows
+pub mod Grammar
+pub mod Faults
+pub mod Views
+pub mod Labels
+pub mod Layout
+pub mod Assertions
+pub mod FaultNames

@@ -1,0 +1,124 @@
+//! What a database consists of: symbols, expressions, steps and assertions as plain data.
+
+ghost use Rattle.std.specs.Prelude.{◌≡◌, IfOk};
+
+use crate::sequence::Sequence;
+use std::alloc::{AllocError, Global};
+
+/// A math symbol by its place. Places count from 0.
+#[derive(Clone, Copy, Debug, PartialEq, Eq)]
+pub enum Symbol {
+    /// The constant declared at this place.
+    Const(u32),
+    /// The variable of the `$f` at this place.
+    Var(u32),
+}
+
+/// The bytes of a label.
+pub type Label = Sequence<u8>;
+
+/// The symbols of a statement or of a hypothesis.
+pub type Expr = Sequence<Symbol>;
+
+/// A step of a proof: what it names.
+#[derive(Debug, Drop)]
+pub enum Step {
+    /// The `$f` at this place of the prelude, counted from 0.
+    Float(u32),
+    /// The hypothesis at this place of the assertion being proved, counted from 0.
+    Hyp(u32),
+    /// An assertion, by its label.
+    Cite(Label),
+}
+
+/// Whether an assertion is taken for granted (`$a`) or proved (`$p`).
+#[derive(Clone, Copy, Debug, PartialEq, Eq)]
+pub enum Kind {
+    Axiom,
+    Theorem,
+}
+
+/// A `$f`: its label, and the places of its type among the constants and of its variable among the variables.
+#[derive(Debug, Drop)]
+pub struct Float {
+    pub label: Label,
+    pub type_code: u32,
+    pub variable: u32,
+}
+
+/// An assertion with all that its scope holds.
+#[derive(Debug, Drop)]
+pub struct Assertion {
+    pub label: Label,
+    pub kind: Kind,
+    /// The pairs that `$d` restricts, as places of `$f`: the lower first, ascending, each once.
+    pub pairs: Sequence<(u32, u32)>,
+    /// The `$e`, in order.
+    pub hyps: Sequence<Expr>,
+    /// The symbols behind `$a` or `$p`.
+    pub statement: Expr,
+    /// The steps of the proof: none of an axiom.
+    pub proof: Sequence<Step>,
+}
+
+/// What a citing proof sees of an assertion.
+#[derive(Debug, Drop)]
+pub struct Frame {
+    /// The places of the mandatory `$f`, ascending.
+    pub floats: Sequence<u32>,
+    /// The `$e`, in order.
+    pub hyps: Sequence<Expr>,
+    /// The mandatory pairs, as places of `$f`.
+    pub pairs: Sequence<(u32, u32)>,
+    /// The symbols of the statement.
+    pub statement: Expr,
+}
+
+impl Step {
+    /// An equal step.
+    pub fn copy(&self, alloc: Global) -> Result<Step, AllocError>
+        ensures { IfOk result (λ made. made ≡ self.now) }
+    {
+        match self {
+            Step::Float(place) => Ok(Step::Float(*place)),
+            Step::Hyp(place) => Ok(Step::Hyp(*place)),
+            Step::Cite(label) => Ok(Step::Cite(label.copy(alloc)?)),
+        }
+    }
+}
+
+impl Assertion {
+    /// An equal assertion.
+    pub fn copy(&self, alloc: Global) -> Result<Assertion, AllocError>
+        ensures { IfOk result (λ made. made ≡ self.now) }
+    {
+        Ok(Assertion {
+            label: self.label.copy(alloc)?,
+            kind: self.kind,
+            pairs: self.pairs.copy(alloc)?,
+            hyps: copy_expressions(alloc, self.hyps.as_slice())?,
+            statement: self.statement.copy(alloc)?,
+            proof: copy_steps(alloc, self.proof.as_slice())?,
+        })
+    }
+}
+
+fn copy_expressions(alloc: Global, expressions: &[Expr]) -> Result<Sequence<Expr>, AllocError>
+    ensures { IfOk result (λ made. made ≡ expressions.now) }
+{
+    let mut made = Vec::new(alloc);
+    for expression in expressions {
+        made.push(expression.copy(alloc)?)?;
+    }
+    Ok(Sequence::from_vec(made))
+}
+
+fn copy_steps(alloc: Global, steps: &[Step]) -> Result<Sequence<Step>, AllocError>
+    ensures { IfOk result (λ made. made ≡ steps.now) }
+{
+    let mut made = Vec::new(alloc);
+    for step in steps {
+        made.push(step.copy(alloc)?)?;
+    }
+    Ok(Sequence::from_vec(made))
+}
