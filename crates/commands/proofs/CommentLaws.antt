@@ -1,29 +1,5 @@
 -- A run over a text with comments is the walk over the tokens outside of them.
-use Rattle.std.proofs.Common.{
-  ◌≡◌,
-  ℕ,
-  Bool,
-  true,
-  false,
-  cond,
-  List,
-  [],
-  ◌∷◌,
-  ◌++◌,
-  Option,
-  Some,
-  None,
-  Result,
-  Ok,
-  Err,
-  refl,
-  sym,
-  ap,
-  subst,
-  ◌∙◌,
-  inl,
-  inr,
-}
+use Rattle.std.proofs.Common.{◌≡◌, Bool, true, false, cond, List, [], ◌∷◌, Option, Some, None, Result, Ok, Err, refl, sym, ap, subst, ◌∙◌, inl, inr}
 use Rattle.std.specs.Prelude.{codes, All}
 use Rattle.std.specs.Option.{option_map}
 use Rattle.std.specs.Str.{bytes_eq}
@@ -38,7 +14,7 @@ use Rattle.mmstatement.specs.Words.{has_dollar}
 use Rattle.mmstatement.specs.Text.{Token, dollar_mark, mark_of, has_comment_mark}
 use Rattle.mmstatement.specs.Grammar.{Word}
 use Rattle.commands.specs.Comments.{words_of, without_comments}
-use Rattle.commands.specs.Languages.{Language, State, fault, led, outside_comment, inside_comment, marked, step, then_run, run}
+use Rattle.commands.specs.Languages.{Language, State, fault, led, outside_comment, inside_comment, step, then_run, run}
 use Rattle.commands.proofs.Readings.{run_step, run_none, run_nil, run_cons}
 
 pub same_word : (a b : Word) → bytes_eq a b ≡ true → a ≡ b

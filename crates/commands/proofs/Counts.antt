@@ -30,20 +30,24 @@ none_from_count p (x ∷ xs) h =
 -- ---- fronts and backs
 
 -- those that pass are at least as many as a front of which each passes
-pub counted_front : {X : Type 0} (p : X → Bool) (xs : List X) (k : ℕ) (d : X) → k < length xs → ((j : ℕ) → j ≤ k → p (get_or xs j d) ≡ true) → k < count_by p xs
+pub counted_front : {X : Type 0} (p : X → Bool) (xs : List X) (k : ℕ) (d : X) → k < length xs
+    → ((j : ℕ) → j ≤ k → p (get_or xs j d) ≡ true) → k < count_by p xs
 counted_front p [] k d lt h = absurd (omega arith)
 counted_front p (x ∷ xs) zero d lt h = omega (arith, sum_by-cons (one_if p) x xs, cond-true {A = ℕ} (p x) 1 0 (h 0 (omega arith)))
 counted_front p (x ∷ xs) (suc k) d lt h =
-    omega (arith, sum_by-cons (one_if p) x xs, cond-true {A = ℕ} (p x) 1 0 (h 0 (omega arith)), counted_front p xs k d (omega arith) (λ j le. h (suc j) (omega arith)))
+    let later = counted_front p xs k d (omega arith) (λ j le. h (suc j) (omega arith)) in
+    omega (arith, sum_by-cons (one_if p) x xs, cond-true {A = ℕ} (p x) 1 0 (h 0 (omega arith)))
 
 at_most_one : (b : Bool) → cond b 1 0 ≤ 1
 at_most_one true = omega arith
 at_most_one false = omega arith
 
 -- and at most as many as the places before a back of which none passes
-pub counted_back : {X : Type 0} (p : X → Bool) (xs : List X) (k : ℕ) (d : X) → ((j : ℕ) → k ≤ j → j < length xs → p (get_or xs j d) ≡ false) → count_by p xs ≤ k
+pub counted_back : {X : Type 0} (p : X → Bool) (xs : List X) (k : ℕ) (d : X)
+    → ((j : ℕ) → k ≤ j → j < length xs → p (get_or xs j d) ≡ false) → count_by p xs ≤ k
 counted_back p [] k d h = omega arith
 counted_back p (x ∷ xs) zero d h =
-    omega (arith, sum_by-cons (one_if p) x xs, cond-false {A = ℕ} (p x) 1 0 (h 0 (omega arith) (omega arith)), counted_back p xs 0 d (λ j le lt. h (suc j) (omega arith) (omega arith)))
+    let later = counted_back p xs 0 d (λ j le lt. h (suc j) (omega arith) (omega arith)) in
+    omega (arith, sum_by-cons (one_if p) x xs, cond-false {A = ℕ} (p x) 1 0 (h 0 (omega arith) (omega arith)))
 counted_back p (x ∷ xs) (suc k) d h =
     omega (arith, sum_by-cons (one_if p) x xs, at_most_one (p x), counted_back p xs k d (λ j le lt. h (suc j) (omega arith) (omega arith)))

@@ -21,13 +21,15 @@ use Rattle.commands.proofs.Renaming.{rename_verifies}
 -- ---- tests
 
 -- what passes its tests passes the first and the others, and is the edit
-tested_more : (b : Bool) (r : Reason) (ts : Tests) (edited e : Edited) → tested ((b, r) ∷ ts) edited ≡ Ok e → (b ≡ false) × (tested ts edited ≡ Ok e)
+tested_more : (b : Bool) (r : Reason) (ts : Tests) (edited e : Edited) → tested ((b, r) ∷ ts) edited ≡ Ok e
+    → (b ≡ false) × (tested ts edited ≡ Ok e)
 tested_more true r ts edited e h = absurd cc
 tested_more false r ts edited e h = (refl, h)
 
 -- ---- edits
 
-rename_kept : (s : Setting) (lib : List Ranked) (old new : List ℕ) (e : Edited) → Verifies s lib → edit s lib (Rename old new) ≡ Ok e → Verifies s e.library
+rename_kept : (s : Setting) (lib : List Ranked) (old new : List ℕ) (e : Edited) → Verifies s lib → edit s lib (Rename old new) ≡ Ok e
+    → Verifies s e.library
 rename_kept s lib old new e v h =
     let edited : Edited = record { library = rename old new lib; reply = Done } in
     let last : Tests = (has lib new, LabelTaken) ∷ [] in
@@ -36,9 +38,11 @@ rename_kept s lib old new e v h =
     let second = tested_more (not (is_lawful_label s.prelude new)) BadLabel last edited e first.1 in
     let third = tested_more (has lib new) LabelTaken [] edited e second.1 in
     let done : edited ≡ e = cc (third.1) in
-    subst (λ (x : Edited). Verifies s x.library) done (rename_verifies s lib old new v (not-false (is_lawful_label s.prelude new) second.0) third.0)
+    let after = rename_verifies s lib old new v (not-false (is_lawful_label s.prelude new) second.0) third.0 in
+    subst (λ (x : Edited). Verifies s x.library) done after
 
-shown_kept : (s : Setting) (lib : List Ranked) (found : Option Ranked) (e : Edited) → Verifies s lib → shown lib found ≡ Ok e → Verifies s e.library
+shown_kept : (s : Setting) (lib : List Ranked) (found : Option Ranked) (e : Edited) → Verifies s lib → shown lib found ≡ Ok e
+    → Verifies s e.library
 shown_kept s lib None e v h = absurd cc
 shown_kept s lib (Some f) e v h =
     let done : record { library = lib; reply = Shown (citers lib (label_of f)) f } ≡ e = cc in
@@ -68,10 +72,12 @@ apply_kept : (s : Setting) (n : ℕ) (lib : List Ranked) (cs : List Command) →
 unfolding apply_from
 apply_kept s n lib [] v = v
 apply_kept s n lib (c ∷ cs) v =
-    then_kept s n (edit s lib c) (λ next. apply_from s (n + 1) next cs) (λ e h. apply_kept s (n + 1) e.library cs (edit_verifies s lib c e v h))
+    then_kept s n (edit s lib c) (λ next. apply_from s (n + 1) next cs)
+    (λ e h. apply_kept s (n + 1) e.library cs (edit_verifies s lib c e v h))
 
 -- the library and the replies of a transaction that was not refused
-pub apply_verifies : (s : Setting) (lib : List Ranked) (cs : List Command) (a : Applied) → Verifies s lib → apply s lib cs ≡ Ok a → Verifies s a.library
+pub apply_verifies : (s : Setting) (lib : List Ranked) (cs : List Command) (a : Applied) → Verifies s lib → apply s lib cs ≡ Ok a
+    → Verifies s a.library
 apply_verifies s lib cs a v h = subst (Kept s) h (apply_kept s 1 lib cs v)
 
 library_kept : (s : Setting) (lib : List Ranked) (r : Result Applied Refused) → Verifies s lib → Kept s r → Verifies s (library_of lib r)

@@ -20,7 +20,8 @@ pub one_place : (ks : List (List ℕ)) → Distinct bytes_eq ks → (i j : ℕ) 
 one_place [] h i j d lt within e = omega arith
 one_place (k ∷ ks) h i zero d lt within e = omega arith
 one_place (k ∷ ks) h zero (suc j) d lt within e =
-    both_ways (bytes_eq k (get_or ks j d)) (any_at (bytes_eq k) ks j d h.0 (omega arith)) (subst (λ l. bytes_eq k l ≡ true) e (bytes_eq-same k))
+    let l = get_or ks j d in
+    both_ways (bytes_eq k l) (any_at (bytes_eq k) ks j d h.0 (omega arith)) (subst (λ x. bytes_eq k x ≡ true) e (bytes_eq-same k))
 one_place (k ∷ ks) h (suc i) (suc j) d lt within e = one_place ks h.1 i j d (omega arith) (omega arith) e
 
 -- ---- other orders
@@ -39,10 +40,11 @@ distinct_counts (k ∷ ks) h w =
 
 distinct_from_counts : (ks : List (List ℕ)) → ((w : List ℕ) → count_by (bytes_eq w) ks ≤ 1) → Distinct bytes_eq ks
 distinct_from_counts [] h = tt
-distinct_from_counts (k ∷ ks) h = (
-  none_from_count (bytes_eq k) ks (omega (arith, sum_by-cons (one_if (bytes_eq k)) k ks, cond-true {A = ℕ} (bytes_eq k k) 1 0 (bytes_eq-same k), h k)),
-  distinct_from_counts ks (λ w. omega (arith, sum_by-cons (one_if (bytes_eq w)) k ks, h w)),
-)
+distinct_from_counts (k ∷ ks) h =
+    let itself = cond-true {A = ℕ} (bytes_eq k k) 1 0 (bytes_eq-same k) in (
+      none_from_count (bytes_eq k) ks (omega (arith, sum_by-cons (one_if (bytes_eq k)) k ks, h k)),
+      distinct_from_counts ks (λ w. omega (arith, sum_by-cons (one_if (bytes_eq w)) k ks, h w)),
+    )
 
 -- different labels are different in another order
 pub distinct_permutation : (ks ls : List (List ℕ)) → IsPermutation ks ls → Distinct bytes_eq ks → Distinct bytes_eq ls
@@ -58,7 +60,8 @@ pub replacing-other : (old new l : List ℕ) → bytes_eq old l ≡ false → re
 replacing-other old new l h = cond-false (bytes_eq old l) new l h
 
 -- two different labels, neither of them the new one, stay different
-replaced_apart : (old new k l : List ℕ) → bytes_eq k l ≡ false → bytes_eq new k ≡ false → bytes_eq new l ≡ false → bytes_eq (replacing old new k) (replacing old new l) ≡ false
+replaced_apart : (old new k l : List ℕ) → bytes_eq k l ≡ false → bytes_eq new k ≡ false → bytes_eq new l ≡ false
+    → bytes_eq (replacing old new k) (replacing old new l) ≡ false
 replaced_apart old new k l h p q =
     elim (cases_Bool (bytes_eq old k)) [
       | inl a ↦ elim (cases_Bool (bytes_eq old l)) [
@@ -72,12 +75,14 @@ replaced_apart old new k l h p q =
     ]
 
 -- different labels stay different where a label that is none of them replaces one
-pub distinct_replaced : (old new : List ℕ) (ks : List (List ℕ)) → Distinct bytes_eq ks → list_any (bytes_eq new) ks ≡ false → Distinct bytes_eq (map (replacing old new) ks)
+pub distinct_replaced : (old new : List ℕ) (ks : List (List ℕ)) → Distinct bytes_eq ks → list_any (bytes_eq new) ks ≡ false
+    → Distinct bytes_eq (map (replacing old new) ks)
 distinct_replaced old new [] h free = tt
 distinct_replaced old new (k ∷ ks) h free =
     let both = or_false (bytes_eq new k) (list_any (bytes_eq new) ks) free in (
       any-map (bytes_eq (replacing old new k)) (replacing old new) ks
           ∙ list_any_none (λ l. bytes_eq (replacing old new k) (replacing old new l)) ks
-          (λ i d lt. replaced_apart old new k (get_or ks i d) (any_at (bytes_eq k) ks i d h.0 lt) both.0 (any_at (bytes_eq new) ks i d both.1 lt)),
+          (λ i d lt.
+          replaced_apart old new k (get_or ks i d) (any_at (bytes_eq k) ks i d h.0 lt) both.0 (any_at (bytes_eq new) ks i d both.1 lt)),
       distinct_replaced old new ks h.1 both.1,
     )

@@ -1,10 +1,10 @@
 pub mod Counts
 pub mod Labels
 pub mod Places
+pub mod Showing
 pub mod Opening
 pub mod Renaming
 pub mod Editing
-pub mod Showing
 pub mod Orders
 pub mod ExportOrder
 pub mod Readings

@@ -34,22 +34,28 @@ tied Greater Equal e h g = absurd cc
 tied Greater Greater e h g = absurd cc
 
 module _ {X : Type 0} {R : X → X → Ordering} (o : IsTotalOrder R) where
+  abbrev lt : X → X → Bool
+  lt x y = is_lt (R x y)
+
   -- the element at a place of one is not below that of the other
-  not_below : (xs ys : List X) → IsPermutation xs ys → IsSorted R xs → IsSorted R ys → (k : ℕ) (d : X) → k < length ys → is_lt (R (get_or ys k d) (get_or xs k d)) ≡ false
+  not_below : (xs ys : List X) → IsPermutation xs ys → IsSorted R xs → IsSorted R ys → (k : ℕ) (d : X) → k < length ys
+      → is_lt (R (get_or ys k d) (get_or xs k d)) ≡ false
   not_below xs ys same up rise k d k_in =
       let y = get_or ys k d in
       let x = get_or xs k d in
-      let weak : IsStrictWeakOrder (λ a b. is_lt (R a b)) = ranks_by o (λ a. a) in
+      let weak = ranks_by o (λ (a : X). a) in
       let upto = λ (e : X). not (is_lt (R y e)) in
-      let n = length_permutation xs ys same in
       false_from_ne_true (is_lt (R y x)) (λ below.
-      let front : k < count_by upto ys = counted_front upto ys k d k_in (λ j le. ap not (sorted_far (λ a b. is_lt (R a b)) weak ys rise j k d le k_in)) in
-      let back : count_by upto xs ≤ k = counted_back upto xs k d (λ j le j_in. ap not (true_from_ne_false (is_lt (R y (get_or xs j d)))
-      (λ q. both_ways (is_lt (R y x)) (weak.chain y (get_or xs j d) x q (sorted_far (λ a b. is_lt (R a b)) weak xs up k j d le j_in)) below))) in
+      let front : k < count_by upto ys = counted_front upto ys k d k_in (λ j le. ap not (sorted_far lt weak ys rise j k d le k_in)) in
+      let above = λ (j : ℕ) (le : k ≤ j) (j_in : j < length xs).
+      let z = get_or xs j d in
+      true_from_ne_false (is_lt (R y z)) (λ q. both_ways (is_lt (R y x)) (weak.chain y z x q (sorted_far lt weak xs up k j d le j_in)) below) in
+      let back : count_by upto xs ≤ k = counted_back upto xs k d (λ j le j_in. ap not (above j le j_in)) in
       omega (arith, sum_by-IsPermutation (one_if upto) xs ys same))
 
   -- so they tie
-  pub ties_at : (xs ys : List X) → IsPermutation xs ys → IsPermutation ys xs → IsSorted R xs → IsSorted R ys → (k : ℕ) (d : X) → k < length xs → R (get_or xs k d) (get_or ys k d) ≡ Equal
+  pub ties_at : (xs ys : List X) → IsPermutation xs ys → IsPermutation ys xs → IsSorted R xs → IsSorted R ys → (k : ℕ) (d : X)
+      → k < length xs → R (get_or xs k d) (get_or ys k d) ≡ Equal
   ties_at xs ys there back up rise k d k_in =
       let x = get_or xs k d in
       let y = get_or ys k d in

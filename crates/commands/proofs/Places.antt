@@ -1,10 +1,11 @@
 -- What a look-up of a label answers, by the place of the assertion that has it.
-use Rattle.std.proofs.Common.{◌≡◌, ◌≢◌, ℕ, zero, suc, ◌<◌, true, false, List, [], ◌∷◌, Some, None, length, get_or, map, refl, sym, subst, ◌∙◌, inl, inr, arith}
-use Rattle.std.specs.List.{list_any, find, All, Any}
+use Rattle.std.proofs.Common.{◌≡◌, ◌≢◌, ℕ, zero, suc, ◌<◌, true, false, List, [], ◌∷◌, Some, None, length, get_or, map, refl, sym, ap, subst, ◌∙◌, inl, inr, arith}
+use Rattle.std.specs.List.{list_any, find, slice_get, All, Any}
 use Rattle.std.specs.Str.{bytes_eq}
 use Rattle.std.proofs.lemmas.Bool.{cases_order, cond-true, cond-false, false_from_ne_true}
 use Rattle.std.proofs.lemmas.List.{length-map, get_or-map}
 use Rattle.std.proofs.lemmas.List.Folds.{list_any_none, list_any_at, Any-from_list_any}
+use Rattle.std.proofs.lemmas.Option.{slice_get_within, get_or_from_slice_get}
 use Rattle.mmstatement.specs.Assertions.{Distinct}
 use Rattle.mmstatement.proofs.Names.{same_bytes, bytes_eq-same, bytes_eq-sym}
 use Rattle.mmstatement.proofs.Distinct.{or_false, any_at, any-map}
@@ -18,7 +19,8 @@ is_labelled-own label e h = subst (λ l. bytes_eq label l ≡ true) (sym h) (byt
 
 -- ---- whether there is one
 
-pub has_at : (lib : List Ranked) (label : List ℕ) (i : ℕ) (d : Ranked) → i < length lib → label_of (get_or lib i d) ≡ label → has lib label ≡ true
+pub has_at : (lib : List Ranked) (label : List ℕ) (i : ℕ) (d : Ranked) → i < length lib → label_of (get_or lib i d) ≡ label
+    → has lib label ≡ true
 has_at lib label i d lt h = list_any_at (is_labelled label) lib i d lt (is_labelled-own label (get_or lib i d) h)
 
 pub has_somewhere : (lib : List Ranked) (label : List ℕ) → has lib label ≡ true → Any (λ e. label_of e ≡ label) lib
@@ -28,7 +30,9 @@ has_somewhere lib label h =
 
 pub has_nowhere : (lib : List Ranked) (label : List ℕ) → All (λ e. label_of e ≢ label) lib → has lib label ≡ false
 has_nowhere lib label h =
-    list_any_none (is_labelled label) lib (λ i d lt. false_from_ne_true (is_labelled label (get_or lib i d)) (λ y. h i d lt (sym (same_bytes label (label_of (get_or lib i d)) y))))
+    list_any_none (is_labelled label) lib (λ i d lt.
+    let e = get_or lib i d in
+    false_from_ne_true (is_labelled label e) (λ y. h i d lt (sym (same_bytes label (label_of e) y))))
 
 pub has-labels : (lib : List Ranked) (label : List ℕ) → list_any (bytes_eq label) (map label_of lib) ≡ has lib label
 has-labels lib label = any-map (bytes_eq label) label_of lib
@@ -51,13 +55,17 @@ labels_apart lib apart i k d i_in k_in ne e =
     ]
 
 -- where labels differ, the first with a label is the one at its place
-pub find_at : (lib : List Ranked) (label : List ℕ) (i : ℕ) (d : Ranked) → Distinct bytes_eq (map label_of lib) → i < length lib → label_of (get_or lib i d) ≡ label
+pub find_at : (lib : List Ranked) (label : List ℕ) (i : ℕ) (d : Ranked) → Distinct bytes_eq (map label_of lib) → i < length lib
+    → label_of (get_or lib i d) ≡ label
     → find (is_labelled label) lib ≡ Some (get_or lib i d)
 find_at [] label i d apart lt h = absurd (omega arith)
-find_at (e ∷ lib) label zero d apart lt h = cond-true (is_labelled label e) (Some e) (find (is_labelled label) lib) (is_labelled-own label e h)
+find_at (e ∷ lib) label zero d apart lt h =
+    cond-true (is_labelled label e) (Some e) (find (is_labelled label) lib) (is_labelled-own label e h)
 find_at (e ∷ lib) label (suc i) d apart lt h =
     let l = label_of (get_or lib i d) in
-    let other : bytes_eq l (label_of e) ≡ false = bytes_eq-sym l (label_of e) ∙ any_at (is_labelled (label_of e)) lib i d (sym (has-labels lib (label_of e)) ∙ apart.0) (omega arith) in
+    let none_later = sym (has-labels lib (label_of e)) ∙ apart.0 in
+    let other : bytes_eq l (label_of e) ≡ false =
+    bytes_eq-sym l (label_of e) ∙ any_at (is_labelled (label_of e)) lib i d none_later (omega arith) in
     cond-false (is_labelled label e) (Some e) (find (is_labelled label) lib) (subst (λ x. bytes_eq x (label_of e) ≡ false) h other)
     ∙ find_at lib label i d apart.1 (omega arith) h
 
@@ -66,3 +74,11 @@ find_nowhere [] label h = refl
 find_nowhere (e ∷ lib) label h =
     let both = or_false (is_labelled label e) (has lib label) h in
     cond-false (is_labelled label e) (Some e) (find (is_labelled label) lib) both.0 ∙ find_nowhere lib label both.1
+
+-- the same, by the entry at the place
+pub find_entry : (lib : List Ranked) (label : List ℕ) (i : ℕ) (e : Ranked) → Distinct bytes_eq (map label_of lib)
+    → slice_get lib i ≡ Some e → label_of e ≡ label
+    → find (is_labelled label) lib ≡ Some e
+find_entry lib label i e apart at h =
+    let here = get_or_from_slice_get lib i e e at in
+    find_at lib label i e apart (slice_get_within lib i e at) (ap label_of here ∙ h) ∙ ap (λ x. Some x) here

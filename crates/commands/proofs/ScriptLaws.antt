@@ -1,38 +1,9 @@
 -- What the reader of scripts gives is what the text spells.
-use Rattle.std.proofs.Common.{
-  ◌≡◌,
-  ℕ,
-  suc,
-  ◌+◌,
-  ◌<◌,
-  ◌≤◌,
-  Bool,
-  true,
-  false,
-  cond,
-  List,
-  [],
-  ◌∷◌,
-  length,
-  Option,
-  Some,
-  None,
-  Result,
-  Ok,
-  Err,
-  refl,
-  sym,
-  ap,
-  subst,
-  ◌∙◌,
-  arith,
-}
-use Rattle.std.specs.Prelude.{All}
+use Rattle.std.proofs.Common.{◌≡◌, ℕ, suc, ◌≤◌, Bool, true, false, cond, List, [], ◌∷◌, length, Option, Some, None, Result, Ok, Err, refl, sym, ap, subst, ◌∙◌, arith}
 use Rattle.std.specs.List.{flat_map}
 use Rattle.mmstatement.specs.declared.fault.TextFault.{TextFault}
 use Rattle.mmstatement.specs.Text.{Token, tokens, IsClean}
 use Rattle.commands.specs.declared.command.Command.{Command}
-use Rattle.commands.specs.Comments.{words_of, without_comments}
 use Rattle.commands.specs.Languages.{State, step, run, start_of, said_at, finished, ended, token_reading, reading}
 use Rattle.commands.specs.Scripts.{SpellsScript, spelling}
 use Rattle.commands.specs.ScriptFaults.{

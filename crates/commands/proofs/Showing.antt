@@ -1,23 +1,27 @@
--- A library that verifies does so in any order, and is spelled as a database.
-use Rattle.std.proofs.Common.{◌≡◌, ◌≤◌, List, [], ◌∷◌, map, refl, sym, ap, subst, arith}
+-- A library and the database that it shows: a library verifies in any order, and where its database is declarable.
+use Rattle.std.proofs.Common.{◌≡◌, ◌≤◌, List, [], ◌∷◌, length, map, refl, sym, ap, subst, arith}
 use Rattle.std.specs.Prelude.{IsTrue}
+use Rattle.std.specs.List.{All}
 use Rattle.std.specs.List.Sorted.{IsPermutation}
 use Rattle.std.specs.Str.{bytes_eq}
-use Rattle.std.proofs.lemmas.List.{length-map}
+use Rattle.std.proofs.lemmas.List.{length-map, get_or-map}
 use Rattle.std.proofs.lemmas.List.Elements.{All-map}
 use Rattle.std.proofs.lemmas.List.Sorted.{All-permutation, IsPermutation-map, length_permutation}
 use Rattle.mmstatement.specs.Assertions.{is_lawful_label, Distinct, IsOutermostAxiom, IsDeclarable}
 use Rattle.mmstatement.proofs.Declarable.{spelled_where_declarable}
 use Rattle.commands.specs.declared.library.Ranked.{Ranked}
-use Rattle.commands.specs.Library.{Setting, IsLibrary, Verifies, label_of, Listed, shown_database}
+use Rattle.commands.specs.Library.{Setting, IsSetting, IsLibrary, Verifies, label_of, Listed, shown_database}
 use Rattle.commands.specs.Laws.{LibrariesAreSpelled}
 use Rattle.commands.proofs.Labels.{distinct_permutation}
+
+abbrev pub InRange : Ranked → Type 0
+InRange e = (1 ≤ e.rank) × (e.rank ≤ 4294967295)
 
 -- ---- another order
 
 library_permutation : (s : Setting) (lib other : List Ranked) → IsLibrary s lib → IsPermutation lib other → IsLibrary s other
 library_permutation s lib other l p = record {
-  ranks = All-permutation (λ e. (1 ≤ e.rank) × (e.rank ≤ 4294967295)) lib other p l.ranks;
+  ranks = All-permutation InRange lib other p l.ranks;
   lawful = All-permutation (λ e. IsTrue (is_lawful_label s.prelude (label_of e))) lib other p l.lawful;
   distinct = distinct_permutation (map label_of lib) (map label_of other) (IsPermutation-map label_of lib other p) l.distinct;
   room = subst (λ n. n ≤ s.slots) (sym (length_permutation lib other p)) l.room;
@@ -50,3 +54,24 @@ shown_declarable l v =
 
 pub shown_spelled : LibrariesAreSpelled
 shown_spelled l v = spelled_where_declarable (shown_database l) (shown_declarable l v)
+
+-- ---- from a database
+
+All-unmap : {X Y : Type 0} (P : Y → Type 0) (f : X → Y) (xs : List X) → All P (map f xs) → All (λ x. P (f x)) xs
+All-unmap P f xs h = λ i d lt. subst P (get_or-map f xs i d (f d) lt) (h i (f d) (omega (arith, length-map xs f)))
+
+-- assertions that a text declares verify at any ranks, where there is room for them
+pub verifies_shown : (s : Setting) (lib : List Ranked) → IsSetting s → All InRange lib → length lib ≤ s.slots
+    → IsDeclarable s.prelude (map (λ e. e.assertion) lib) → Verifies s lib
+verifies_shown s lib setting ranks room d =
+    let assertion = λ (e : Ranked). e.assertion in
+    record {
+      setting = setting;
+      library = record {
+        ranks = ranks;
+        lawful = All-unmap (λ a. IsTrue (is_lawful_label s.prelude a.label)) assertion lib d.lawful;
+        distinct = subst (Distinct bytes_eq) (labels-assertions lib) d.distinct;
+        room = room;
+      };
+      axioms = All-unmap (IsOutermostAxiom s.prelude) assertion lib d.axioms;
+    }

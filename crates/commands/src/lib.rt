@@ -10,3 +10,6 @@ pub use command::{Command, Reason, Refused, Reply, Script, Transaction};
 pub use laws::{export_order_is_one, libraries_are_spelled, openings_verify, transactions_verify};
 pub use library::{PlainLibrary, Ranked};
 pub use script::read_script;
+
+#[cfg(test)]
+mod tests;

@@ -1,9 +1,8 @@
 -- The exported text of a library that verifies is accepted.
-use Rattle.std.proofs.Common.{◌≡◌, ◌+◌, ◌<◌, List, ◌∷◌, ◌++◌, length, refl, sym, subst, arith, length-append}
+use Rattle.std.proofs.Common.{◌<◌, ◌∷◌, ◌++◌, length, refl, sym, subst, arith, length-append}
 use Rattle.std.specs.Prelude.{All}
 use Rattle.std.proofs.lemmas.List.{get_or_at}
 use Rattle.std.proofs.lemmas.List.Elements.{All-map, All-same}
-use Rattle.mmstatement.specs.declared.statement.Assertion.{Assertion}
 use Rattle.mmstatement.specs.Assertions.{IsOutermostAxiom}
 use Rattle.mmstatement.proofs.Canonical.{spelled_again}
 use Rattle.commands.specs.Library.{Listed, Verifies, shown_database}

@@ -1,5 +1,5 @@
 -- What a writer holds after one call of `write` behind a front of some bytes.
-use Rattle.std.proofs.Common.{◌≡◌, ℕ, ◌+◌, ◌≤◌, List, ◌++◌, length, take, drop, Option, Some, None, sym, ap, ◌∙◌, arith, append_assoc}
+use Rattle.std.proofs.Common.{◌≡◌, ℕ, ◌+◌, List, ◌++◌, take, drop, Option, Some, None, sym, ap, ◌∙◌, arith, append_assoc}
 use Rattle.std.proofs.lemmas.List.{take-append-drop, take-take, drop-take}
 use Rattle.std.specs.Io.KnownBytes.{Appends}
 
@@ -13,7 +13,9 @@ Appends-append (Some s) (Some t) (Some u) xs ys h k = k ∙ ap (λ x. x ++ ys) h
 take-add : (m n : ℕ) (xs : List ℕ) → take (m + n) xs ≡ take m xs ++ take n (drop m xs)
 take-add m n xs =
     let front = take (m + n) xs in
-    sym (take-append-drop m front) ∙ ap (λ x. x ++ drop m front) (take-take m (m + n) xs (omega arith)) ∙ ap (λ x. take m xs ++ x) (drop-take m n xs)
+    sym (take-append-drop m front)
+    ∙ ap (λ x. x ++ drop m front) (take-take m (m + n) xs (omega arith))
+    ∙ ap (λ x. take m xs ++ x) (drop-take m n xs)
 
 -- n more bytes behind the first m
 pub Appends-more : (a b c : Option (List ℕ)) (m n : ℕ) (xs : List ℕ) →

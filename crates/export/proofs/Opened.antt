@@ -1,5 +1,5 @@
 -- The opening library of a database of one assertion, which the tests export.
-use Rattle.std.proofs.Common.{◌≡◌, ℕ, List, [], ◌∷◌, length, get_or, refl, sym, ap, subst, ◌∙◌, arith}
+use Rattle.std.proofs.Common.{◌≡◌, List, [], ◌∷◌, length, get_or, refl, sym, ap, subst, ◌∙◌, arith}
 use Rattle.mmstatement.specs.declared.statement.Assertion.{Assertion}
 use Rattle.mmstatement.specs.Tables.{Tables}
 use Rattle.mmstatement.specs.Layout.{HasSpelling}
@@ -17,7 +17,8 @@ abbrev pub IsOpened : Tables → List Ranked → Type 0
 IsOpened t entries = Verifies (record { prelude = t; slots = 1 }) entries
 
 pub one_opened : (t : Tables) (xs : List Assertion) (a : Assertion) →
-    HasSpelling (record { prelude = t; assertions = xs }) → length xs ≡ 1 → a ≡ get_or xs 0 a → IsOpened t (record { rank = 100; assertion = a } ∷ [])
+    HasSpelling (record { prelude = t; assertions = xs }) → length xs ≡ 1 → a ≡ get_or xs 0 a →
+    IsOpened t (record { rank = 100; assertion = a } ∷ [])
 one_opened t xs a spelled one is =
     let same : xs ≡ a ∷ [] = only_item xs a one ∙ ap (λ (x : Assertion). x ∷ []) (sym is) in
     opening_verifies (record { prelude = t; assertions = a ∷ [] })

@@ -19,7 +19,8 @@ FollowsFrom t earlier a = a.kind ≡ Axiom
 
 -- each assertion of a database follows from those before it
 abbrev pub EachFollows : Contents → Type 0
-EachFollows db = (earlier later : List Assertion) (a : Assertion) → db.assertions ≡ earlier ++ a ∷ later → FollowsFrom db.prelude earlier a
+EachFollows db =
+    (earlier later : List Assertion) (a : Assertion) → db.assertions ≡ earlier ++ a ∷ later → FollowsFrom db.prelude earlier a
 
 -- a text is accepted where it is spelled by a database in which each assertion follows
 pub record Accepts (bytes : List ℕ) : Type 0 where

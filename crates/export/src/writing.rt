@@ -34,7 +34,7 @@ fn write_bytes<W: Write>(writer: &mut W, bytes: &[u8]) -> Result<(), usize>
 ///
 /// - `Write { written }`: a `write` failed, or took 0 bytes. The writer took the first `written` bytes of the text and no others, which is
 ///   never the whole text. Any error of a `write` ends the export, `Interrupted` too: so there are at most as many calls as the text has
-///   bytes, and a caller that would try again can.
+///   bytes, however often a writer is interrupted.
 /// - `NoMemory`: memory ran out before the text was made. Nothing was written.
 ///
 /// The clauses say what the writer took, where its `contents` are known. That a `write` of this call stopped where the answer is `Write`

@@ -28,7 +28,8 @@ passes : (b : Bool) (r : Reason) (ts : Tests) (e : Edited) → b ≡ false → t
 passes b r ts e h = cond-false b (Err r) (tested ts e) h
 
 stands_has : (lib : List Ranked) (w : List ℕ) (p : ℕ) → StandsAt lib w p → has lib w ≡ true
-stands_has lib w p s = has_at lib w p s.entry (slice_get_within lib p s.entry s.at) (ap label_of (get_or_from_slice_get lib p s.entry s.entry s.at) ∙ s.labelled)
+stands_has lib w p s =
+    has_at lib w p s.entry (slice_get_within lib p s.entry s.at) (ap label_of (get_or_from_slice_get lib p s.entry s.entry s.at) ∙ s.labelled)
 
 -- what a look-up found
 pub found_none : (lib : List Ranked) (w : List ℕ) (o : Option ℕ) → FoundAt lib w o → false ≡ is_some o → has lib w ≡ false
@@ -60,10 +61,12 @@ module _ (s : Setting) (lib : List Ranked) (old new : List ℕ) where
   pub rename_bad : (p : ℕ) → StandsAt lib old p → is_lawful_label s.prelude new ≡ false → edit s lib (Rename old new) ≡ Err BadLabel
   rename_bad p at h = past_unknown p at ∙ fails_here (not (is_lawful_label s.prelude new)) BadLabel last_test after_rename (ap not h)
 
-  past_bad : (p : ℕ) → StandsAt lib old p → is_lawful_label s.prelude new ≡ true → edit s lib (Rename old new) ≡ tested last_test after_rename
+  past_bad : (p : ℕ) → StandsAt lib old p → is_lawful_label s.prelude new ≡ true
+      → edit s lib (Rename old new) ≡ tested last_test after_rename
   past_bad p at h = past_unknown p at ∙ passes (not (is_lawful_label s.prelude new)) BadLabel last_test after_rename (ap not h)
 
-  pub rename_taken : (p q : ℕ) → StandsAt lib old p → is_lawful_label s.prelude new ≡ true → StandsAt lib new q → edit s lib (Rename old new) ≡ Err LabelTaken
+  pub rename_taken : (p q : ℕ) → StandsAt lib old p → is_lawful_label s.prelude new ≡ true → StandsAt lib new q
+      → edit s lib (Rename old new) ≡ Err LabelTaken
   rename_taken p q at h other = past_bad p at h ∙ fails_here (has lib new) LabelTaken [] after_rename (stands_has lib new q other)
 
   renamed_place : Verifies s lib → (p : ℕ) → StandsAt lib old p → rename old new lib ≡ relabelled lib p new
@@ -84,7 +87,8 @@ module _ (s : Setting) (lib : List Ranked) (old new : List ℕ) where
 pub show_unknown : (s : Setting) (lib : List Ranked) (w : List ℕ) → has lib w ≡ false → edit s lib (Show w) ≡ Err UnknownLabel
 show_unknown s lib w h = ap (shown lib) (find_nowhere lib w h)
 
-pub show_done : (s : Setting) (lib : List Ranked) (w : List ℕ) (p : ℕ) (e : Ranked) → Verifies s lib → slice_get lib p ≡ Some e → label_of e ≡ w
+pub show_done : (s : Setting) (lib : List Ranked) (w : List ℕ) (p : ℕ) (e : Ranked) → Verifies s lib → slice_get lib p ≡ Some e
+    → label_of e ≡ w
     → edit s lib (Show w) ≡ Ok (record { library = lib; reply = Shown 0 e })
 show_done s lib w p e v at own =
     let here : get_or lib p e ≡ e = get_or_from_slice_get lib p e e at in

@@ -1,5 +1,6 @@
 -- A map that has the place of each label, after changes of the map and of the list.
-use Rattle.std.proofs.Common.{◌≡◌, ℕ, zero, suc, Bool, true, false, cond, List, [], ◌∷◌, ◌++◌, Option, None, Some, length, refl, sym, ap, subst, ◌∙◌, ◌⊎◌, inl, inr}
+use Rattle.std.proofs.Common.{◌≡◌, ℕ, zero, suc, Bool, true, false, cond, List, [], ◌∷◌, ◌++◌, Option, None, Some, length, refl, sym, ap}
+use Rattle.std.proofs.Common.{subst, ◌∙◌, ◌⊎◌, inl, inr}
 use Rattle.std.specs.List.{slice_get}
 use Rattle.std.specs.Option.{IsSome}
 use Rattle.std.specs.Str.{bytes_eq}
@@ -24,7 +25,8 @@ absent m lib w x h = has-none lib w (λ p e at.
     ])
 
 -- one label stands at one place
-pub one_place : (m : Places) (lib : List Ranked) (p q : ℕ) (e f : Ranked) → IsIndex m lib → slice_get lib p ≡ Some e → slice_get lib q ≡ Some f → label_of e ≡ label_of f → p ≡ q
+pub one_place : (m : Places) (lib : List Ranked) (p q : ℕ) (e f : Ranked) → IsIndex m lib → slice_get lib p ≡ Some e
+    → slice_get lib q ≡ Some f → label_of e ≡ label_of f → p ≡ q
 one_place m lib p q e f x at_p at_q same =
     let places : Some p ≡ Some q = sym (x.finds p e at_p) ∙ ap (place_in m) same ∙ x.finds q f at_q in
     cc
@@ -39,7 +41,8 @@ puts_keeps m n w p h = record { keeps = λ q some. subst (λ o. IsSome o) (sym (
 -- ---- changes
 
 -- an entry was given a label that was free, and the map its place
-pub index-relabelled : (m n : Places) (lib : List Ranked) (p : ℕ) (w : List ℕ) → IsIndex m lib → has lib w ≡ false → Puts m w p n → IsIndex n (relabelled lib p w)
+pub index-relabelled : (m n : Places) (lib : List Ranked) (p : ℕ) (w : List ℕ) → IsIndex m lib → has lib w ≡ false → Puts m w p n
+    → IsIndex n (relabelled lib p w)
 index-relabelled m n lib p w x free h = record {
   finds = λ i e at. elim (cases_eq i p) [
     | inl same ↦
@@ -47,7 +50,8 @@ index-relabelled m n lib p w x free h = record {
         ap (place_in n) own ∙ h w ∙ cond-true (bytes_eq w w) (Some p) (place_in m w) (bytes_eq-same w) ∙ ap (λ k. Some k) (sym same)
     | inr ne ↦
         let was : slice_get lib i ≡ Some e = sym (relabelled-other lib p i w ne) ∙ at in
-        h (label_of e) ∙ cond-false (bytes_eq w (label_of e)) (Some p) (place_in m (label_of e)) (has-not lib w i e free was) ∙ x.finds i e was
+        h (label_of e) ∙ cond-false (bytes_eq w (label_of e)) (Some p) (place_in m (label_of e)) (has-not lib w i e free was)
+        ∙ x.finds i e was
   ];
 }
 
@@ -55,10 +59,12 @@ index-relabelled m n lib p w x free h = record {
 pub index-forgot : (m n : Places) (lib : List Ranked) (w : List ℕ) → IsIndex m lib → has lib w ≡ false
     → ((q : List ℕ) → place_in n q ≡ cond (bytes_eq w q) None (place_in m q)) → IsIndex n lib
 index-forgot m n lib w x free h = record {
-  finds = λ i e at. h (label_of e) ∙ cond-false (bytes_eq w (label_of e)) None (place_in m (label_of e)) (has-not lib w i e free at) ∙ x.finds i e at;
+  finds = λ i e at. h (label_of e) ∙ cond-false (bytes_eq w (label_of e)) None (place_in m (label_of e)) (has-not lib w i e free at)
+      ∙ x.finds i e at;
 }
 
-pushed-cases : (lib : List Ranked) (e : Ranked) (i : ℕ) (f : Ranked) → slice_get (lib ++ e ∷ []) i ≡ Some f → (slice_get lib i ≡ Some f) ⊎ ((i ≡ length lib) × (e ≡ f))
+pushed-cases : (lib : List Ranked) (e : Ranked) (i : ℕ) (f : Ranked) → slice_get (lib ++ e ∷ []) i ≡ Some f
+    → (slice_get lib i ≡ Some f) ⊎ ((i ≡ length lib) × (e ≡ f))
 pushed-cases [] e zero f h = inr (refl, cc)
 pushed-cases [] e (suc i) f h = absurd cc
 pushed-cases (x ∷ xs) e zero f h = inl h
@@ -69,14 +75,16 @@ pushed-cases (x ∷ xs) e (suc i) f h =
     ]
 
 -- one more entry, with a label that was free
-pub index-pushed : (m n : Places) (lib : List Ranked) (e : Ranked) → IsIndex m lib → has lib (label_of e) ≡ false → Puts m (label_of e) (length lib) n → IsIndex n (lib ++ e ∷ [])
+pub index-pushed : (m n : Places) (lib : List Ranked) (e : Ranked) → IsIndex m lib → has lib (label_of e) ≡ false
+    → Puts m (label_of e) (length lib) n → IsIndex n (lib ++ e ∷ [])
 index-pushed m n lib e x free h =
     let w = label_of e in
     record {
       finds = λ i f at. elim (pushed-cases lib e i f at) [
         | inl was ↦ h (label_of f) ∙ cond-false (bytes_eq w (label_of f)) (Some (length lib)) (place_in m (label_of f)) (has-not lib w i f free was) ∙ x.finds i f was
         | inr last ↦
-            ap (λ (k : Ranked). place_in n (label_of k)) (sym last.1) ∙ h w ∙ cond-true (bytes_eq w w) (Some (length lib)) (place_in m w) (bytes_eq-same w)
+            ap (λ (k : Ranked). place_in n (label_of k)) (sym last.1) ∙ h w
+            ∙ cond-true (bytes_eq w w) (Some (length lib)) (place_in m w) (bytes_eq-same w)
             ∙ ap (λ k. Some k) (sym last.0)
       ];
     }

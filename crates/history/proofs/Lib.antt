@@ -4,3 +4,4 @@ pub mod Undoing
 pub mod Taking
 pub mod Commands
 pub mod Openings
+pub mod Fronts

@@ -1,5 +1,6 @@
 -- The opening library: its entries one by one, and that it verifies over any number of slots that holds it.
-use Rattle.std.proofs.Common.{◌≡◌, ℕ, zero, suc, ◌+◌, ◌*◌, ◌<◌, ◌≤◌, false, List, [], ◌∷◌, ◌++◌, Some, inl, inr, length, get_or, take, map, refl, sym, ap, subst, ◌∙◌, arith}
+use Rattle.std.proofs.Common.{◌≡◌, ℕ, zero, suc, ◌+◌, ◌*◌, ◌<◌, ◌≤◌, false, List, [], ◌∷◌, ◌++◌, Some, inl, inr, length, get_or, take, map}
+use Rattle.std.proofs.Common.{refl, sym, ap, subst, ◌∙◌, arith}
 use Rattle.std.specs.Prelude.{slice_get}
 use Rattle.std.specs.Str.{bytes_eq}
 use Rattle.std.proofs.lemmas.Bool.{cases_Bool}
@@ -22,12 +23,14 @@ length-ranked_from k [] = refl
 length-ranked_from k (a ∷ xs) = ap (λ n. suc n) (length-ranked_from (k + 1) xs)
 
 -- the i-th entry, from 0 on
-pub ranked_from-at : (k : ℕ) (xs : List Assertion) (i : ℕ) (a : Assertion) → slice_get xs i ≡ Some a → slice_get (ranked_from k xs) i ≡ Some (record { rank = 100 * (k + i); assertion = a })
+pub ranked_from-at : (k : ℕ) (xs : List Assertion) (i : ℕ) (a : Assertion) → slice_get xs i ≡ Some a
+    → slice_get (ranked_from k xs) i ≡ Some (record { rank = 100 * (k + i); assertion = a })
 ranked_from-at k [] i a h = absurd cc
 ranked_from-at k (x ∷ xs) zero a h =
     let same : x ≡ a = cc in
     let rank : k ≡ k + 0 = omega arith in
-    ap (λ (y : Assertion). Some (record { rank = 100 * k; assertion = y })) same ∙ ap (λ (n : ℕ). Some (record { rank = 100 * n; assertion = a })) rank
+    ap (λ (y : Assertion). Some (record { rank = 100 * k; assertion = y })) same
+    ∙ ap (λ (n : ℕ). Some (record { rank = 100 * n; assertion = a })) rank
 ranked_from-at k (x ∷ xs) (suc i) a h =
     let rank : k + 1 + i ≡ k + suc i = omega arith in
     ranked_from-at (k + 1) xs i a h ∙ ap (λ (n : ℕ). Some (record { rank = 100 * n; assertion = a })) rank
@@ -52,7 +55,8 @@ front_get (x ∷ xs) (suc i) (suc p) f h =
     (let lt = r.0 in omega arith, r.1)
 
 -- where labels differ, the label of an entry is free before it
-pub front_free : (lib : List Ranked) (i : ℕ) (e : Ranked) → Distinct bytes_eq (map label_of lib) → slice_get lib i ≡ Some e → has (take i lib) (label_of e) ≡ false
+pub front_free : (lib : List Ranked) (i : ℕ) (e : Ranked) → Distinct bytes_eq (map label_of lib) → slice_get lib i ≡ Some e
+    → has (take i lib) (label_of e) ≡ false
 front_free lib i e apart at =
     has-none (take i lib) (label_of e) (λ p f front.
     let here = front_get lib i p f front in
@@ -60,7 +64,8 @@ front_free lib i e apart at =
     elim (cases_Bool (bytes_eq (label_of e) (label_of f))) [
       | inl y ↦
           let same : label_of (get_or lib p e) ≡ label_of (get_or lib i e) =
-          ap label_of (get_or_from_slice_get lib p f e here.1) ∙ sym (same_bytes (label_of e) (label_of f) y) ∙ sym (ap label_of (get_or_from_slice_get lib i e e at)) in
+          ap label_of (get_or_from_slice_get lib p f e here.1) ∙ sym (same_bytes (label_of e) (label_of f) y)
+          ∙ sym (ap label_of (get_or_from_slice_get lib i e e at)) in
           absurd (labels_apart lib apart i p e (slice_get_within lib i e at) (slice_get_within lib p f here.1) (λ (z : p ≡ i). omega arith) same)
       | inr n ↦ n
     ])

@@ -23,33 +23,41 @@ pub with_replies-none : (r : Result Applied Refused) → r ≡ with_replies [] r
 with_replies-none (Ok a) = refl
 with_replies-none (Err r) = refl
 
-with_replies-more : (replies : List Reply) (reply : Reply) (r : Result Applied Refused) → with_replies replies (with_reply reply r) ≡ with_replies (replies ++ reply ∷ []) r
-with_replies-more replies reply (Ok a) = ap (λ (rs : List Reply). Ok (record { library = a.library; replies = rs })) (sym (append_assoc replies (reply ∷ []) a.replies))
+with_replies-more : (replies : List Reply) (reply : Reply) (r : Result Applied Refused)
+    → with_replies replies (with_reply reply r) ≡ with_replies (replies ++ reply ∷ []) r
+with_replies-more replies reply (Ok a) =
+    ap (λ (rs : List Reply). Ok (record { library = a.library; replies = rs })) (sym (append_assoc replies (reply ∷ []) a.replies))
 with_replies-more replies reply (Err r) = refl
 
 -- no command is left
-pub taken_all : (s : Setting) (n : ℕ) (lib : List Ranked) (replies : List Reply) → with_replies replies (apply_from s n lib []) ≡ Ok (record { library = lib; replies = replies })
+pub taken_all : (s : Setting) (n : ℕ) (lib : List Ranked) (replies : List Reply)
+    → with_replies replies (apply_from s n lib []) ≡ Ok (record { library = lib; replies = replies })
 unfolding apply_from
 taken_all s n lib replies = ap (λ (rs : List Reply). Ok (record { library = lib; replies = rs })) (append-nil replies)
 
 -- the next command is done
-pub taken_one : (s : Setting) (n : ℕ) (lib next : List Ranked) (c : Command) (cs : List Command) (replies : List Reply) (reply : Reply) → edit s lib c ≡ Ok (record { library = next; reply = reply })
+pub taken_one : (s : Setting) (n : ℕ) (lib next : List Ranked) (c : Command) (cs : List Command) (replies : List Reply) (reply : Reply)
+    → edit s lib c ≡ Ok (record { library = next; reply = reply })
     → with_replies replies (apply_from s n lib (c ∷ cs)) ≡ with_replies (replies ++ reply ∷ []) (apply_from s (n + 1) next cs)
 unfolding apply_from
 taken_one s n lib next c cs replies reply h =
-    ap (λ r. with_replies replies (then_apply n r (λ l. apply_from s (n + 1) l cs))) h ∙ with_replies-more replies reply (apply_from s (n + 1) next cs)
+    ap (λ r. with_replies replies (then_apply n r (λ l. apply_from s (n + 1) l cs))) h
+    ∙ with_replies-more replies reply (apply_from s (n + 1) next cs)
 
 -- the next command is refused
-pub taken_none : (s : Setting) (n : ℕ) (lib : List Ranked) (c : Command) (cs : List Command) (replies : List Reply) (reason : Reason) → edit s lib c ≡ Err reason
+pub taken_none : (s : Setting) (n : ℕ) (lib : List Ranked) (c : Command) (cs : List Command) (replies : List Reply) (reason : Reason)
+    → edit s lib c ≡ Err reason
     → with_replies replies (apply_from s n lib (c ∷ cs)) ≡ Err (record { index = n; reason = reason })
 unfolding apply_from
 taken_none s n lib c cs replies reason h = ap (λ r. with_replies replies (then_apply n r (λ l. apply_from s (n + 1) l cs))) h
 
 -- a command that ends a transaction ends it with what the transaction answers
 pub error_ends : (start now after new : Drafted) (n : ℕ) (c : Command) (rest cs : List Command) (replies : List Reply) (e : ApplyError)
-    → apply start.setting start.library cs ≡ with_replies replies (apply_from now.setting n now.library (c ∷ rest)) → Takes n now c (Err e) after → TakesAll start cs (Err e) new
+    → apply start.setting start.library cs ≡ with_replies replies (apply_from now.setting n now.library (c ∷ rest))
+    → Takes n now c (Err e) after → TakesAll start cs (Err e) new
 error_ends start now after new n c rest cs replies (error.Refused r) so_far h =
-    so_far ∙ taken_none now.setting n now.library c rest replies r.reason h.1 ∙ ap (λ (k : ℕ). Err (record { index = k; reason = r.reason })) (sym h.0)
+    so_far ∙ taken_none now.setting n now.library c rest replies r.reason h.1
+    ∙ ap (λ (k : ℕ). Err (record { index = k; reason = r.reason })) (sym h.0)
 error_ends start now after new n c rest cs replies error.NoMemory so_far h = tt
 
 -- ---- what stays
@@ -58,12 +66,14 @@ pub kept_on : (a b c : Drafted) → KeepsStart a b → KeepsStart b c → KeepsS
 kept_on a b c h k = record { setting = k.setting ∙ h.setting; start = k.start ∙ h.start }
 
 -- a command that is done leaves a library that verifies
-pub taken_verifies : (n : ℕ) (old new : Drafted) (c : Command) (reply : Reply) → Verifies old.setting old.library → Takes n old c (Ok reply) new → KeepsStart old new → Verifies new.setting new.library
+pub taken_verifies : (n : ℕ) (old new : Drafted) (c : Command) (reply : Reply) → Verifies old.setting old.library
+    → Takes n old c (Ok reply) new → KeepsStart old new → Verifies new.setting new.library
 taken_verifies n old new c reply v h k =
     subst (λ s. Verifies s new.library) (sym k.setting) (edit_verifies old.setting old.library c (record { library = new.library; reply = reply }) v h)
 
 -- a transaction that is done is settled once its library is the new start
-pub done_settles : (old new : Drafted) (cs : List Command) (replies : List Reply) → IsSettled old → TakesAll old cs (Ok replies) new → KeepsStart old new → IsSettled (record new { start = new.library })
+pub done_settles : (old new : Drafted) (cs : List Command) (replies : List Reply) → IsSettled old → TakesAll old cs (Ok replies) new
+    → KeepsStart old new → IsSettled (record new { start = new.library })
 done_settles old new cs replies settled h k = record {
   verifies = subst (λ s. Verifies s new.library) (sym k.setting) (apply_verifies old.setting old.library cs (record { library = new.library; replies = replies }) settled.verifies h);
   settled = refl;

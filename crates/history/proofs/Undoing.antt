@@ -23,11 +23,13 @@ pub undone-push : (ns : List Note) (n : Note) (lib : List Ranked) → undone (ns
 undone-push [] n lib = refl
 undone-push (k ∷ ns) n lib = ap (taken_back k) (undone-push ns n lib)
 
-pub can_undo-push : (m : Places) (ns : List Note) (n : Note) (lib : List Ranked) → CanUndo m ns (taken_back n lib) → CanTakeBack m lib n → CanUndo m (ns ++ n ∷ []) lib
+pub can_undo-push : (m : Places) (ns : List Note) (n : Note) (lib : List Ranked) → CanUndo m ns (taken_back n lib)
+    → CanTakeBack m lib n → CanUndo m (ns ++ n ∷ []) lib
 can_undo-push m [] n lib h c = (tt, c)
 can_undo-push m (k ∷ ns) n lib h c = (can_undo-push m ns n lib h.0 c, subst (λ l. CanTakeBack m l k) (sym (undone-push ns n lib)) h.1)
 
-pub can_undo-split : (m : Places) (ns : List Note) (n : Note) (lib : List Ranked) → CanUndo m (ns ++ n ∷ []) lib → CanUndo m ns (taken_back n lib) × CanTakeBack m lib n
+pub can_undo-split : (m : Places) (ns : List Note) (n : Note) (lib : List Ranked) → CanUndo m (ns ++ n ∷ []) lib
+    → CanUndo m ns (taken_back n lib) × CanTakeBack m lib n
 can_undo-split m [] n lib h = (tt, h.1)
 can_undo-split m (k ∷ ns) n lib h =
     let rest = can_undo-split m ns n lib h.0 in
@@ -42,14 +44,16 @@ can_undo-kept m n (x ∷ ns) lib k h =
 
 -- ---- a rename can be taken back
 
-others_apart : (m : Places) (lib : List Ranked) (p i : ℕ) (e f : Ranked) → IsIndex m lib → slice_get lib p ≡ Some e → slice_get lib i ≡ Some f → (i ≡ p → ⊥) → bytes_eq (label_of e) (label_of f) ≡ false
+others_apart : (m : Places) (lib : List Ranked) (p i : ℕ) (e f : Ranked) → IsIndex m lib → slice_get lib p ≡ Some e
+    → slice_get lib i ≡ Some f → (i ≡ p → ⊥) → bytes_eq (label_of e) (label_of f) ≡ false
 others_apart m lib p i e f x at_p at_i ne =
     elim (cases_Bool (bytes_eq (label_of e) (label_of f))) [
       | inl y ↦ absurd (ne (sym (one_place m lib p i e f x at_p at_i (same_bytes (label_of e) (label_of f) y))))
       | inr n ↦ n
     ]
 
-pub can_take_back : (m n : Places) (lib : List Ranked) (p : ℕ) (e : Ranked) (w : List ℕ) → IsIndex m lib → slice_get lib p ≡ Some e → has lib w ≡ false → Puts m w p n
+pub can_take_back : (m n : Places) (lib : List Ranked) (p : ℕ) (e : Ranked) (w : List ℕ) → IsIndex m lib → slice_get lib p ≡ Some e
+    → has lib w ≡ false → Puts m w p n
     → CanTakeBack n (relabelled lib p w) (record { place = p; former = label_of e })
 can_take_back m n lib p e w x at free h = record {
   within = subst (λ k. p < k) (sym (length-relabelled lib p w)) (slice_get_within lib p e at);
@@ -74,12 +78,16 @@ draft_same m n ns lib same d =
     }
 
 -- an entry was given a label that was free, and its former label was noted
-pub draft_relabelled : (m n : Places) (ns after : List Note) (lib now : List Ranked) (p : ℕ) (w former : List ℕ) → IsDraft m ns lib → StandsAt lib former p → has lib w ≡ false
-    → Puts m w p n → after ≡ ns ++ record { place = p; former = former } ∷ [] → now ≡ relabelled lib p w → IsDraft n after now × (undone after now ≡ undone ns lib)
+pub draft_relabelled : (m n : Places) (ns after : List Note) (lib now : List Ranked) (p : ℕ) (w former : List ℕ) → IsDraft m ns lib
+    → StandsAt lib former p → has lib w ≡ false
+    → Puts m w p n → after ≡ ns ++ record { place = p; former = former } ∷ [] → now ≡ relabelled lib p w
+    → IsDraft n after now × (undone after now ≡ undone ns lib)
 draft_relabelled m n ns after lib now p w former d at free h noted done =
     let note : List ℕ → Note = λ f. record { place = p; former = f } in
-    let back : taken_back (note former) (relabelled lib p w) ≡ lib = ap (relabelled (relabelled lib p w) p) (sym at.labelled) ∙ relabelled-back lib p w at.entry at.at in
-    let can : CanUndo n ns (taken_back (note former) (relabelled lib p w)) = subst (CanUndo n ns) (sym back) (can_undo-kept m n ns lib (puts_keeps m n w p h) d.can_undo) in
+    let back : taken_back (note former) (relabelled lib p w) ≡ lib = ap (relabelled (relabelled lib p w) p) (sym at.labelled)
+    ∙ relabelled-back lib p w at.entry at.at in
+    let can : CanUndo n ns (taken_back (note former) (relabelled lib p w)) =
+    subst (CanUndo n ns) (sym back) (can_undo-kept m n ns lib (puts_keeps m n w p h) d.can_undo) in
     let this : CanTakeBack n (relabelled lib p w) (note former) =
     subst (λ f. CanTakeBack n (relabelled lib p w) (note f)) at.labelled (can_take_back m n lib p at.entry w d.indexed at.at free h) in
     let draft : IsDraft n (ns ++ note former ∷ []) (relabelled lib p w) = record {
@@ -87,7 +95,8 @@ draft_relabelled m n ns after lib now p w former d at free h noted done =
       can_undo = can_undo-push n ns (note former) (relabelled lib p w) can this;
     } in (
       subst (λ ks. IsDraft n ks now) (sym noted) (subst (IsDraft n (ns ++ note former ∷ [])) (sym done) draft),
-      ap (λ ks. undone ks now) noted ∙ ap (undone (ns ++ note former ∷ [])) done ∙ undone-push ns (note former) (relabelled lib p w) ∙ ap (undone ns) back,
+      ap (λ ks. undone ks now) noted ∙ ap (undone (ns ++ note former ∷ [])) done ∙ undone-push ns (note former) (relabelled lib p w)
+          ∙ ap (undone ns) back,
     )
 
 -- a list that was written as a whole

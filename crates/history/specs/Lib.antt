@@ -3,3 +3,4 @@ pub mod Histories
 pub mod Places
 pub mod Drafts
 pub mod Openings
+pub mod Laws

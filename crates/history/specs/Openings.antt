@@ -8,6 +8,7 @@ use Rattle.history.specs.Editors.{Held}
 
 -- where there are as many slots as assertions, at least, on the opening library of the database
 abbrev pub Opens : Contents → ℕ → Result Held OpenError → Type 0
-Opens db slots (Ok e) = (length db.assertions ≤ slots) × (e ≡ record { setting = record { prelude = db.prelude; slots = slots }; library = opening db })
+Opens db slots (Ok e) = (length db.assertions ≤ slots)
+    × (e ≡ record { setting = record { prelude = db.prelude; slots = slots }; library = opening db })
 Opens db slots (Err TooMany) = slots < length db.assertions
 Opens db slots (Err NoMemory) = Unit {0}

@@ -3,7 +3,11 @@
 
 mod draft;
 mod editor;
+mod laws;
 mod notes;
 mod places;
+#[cfg(test)]
+mod tests;
 
 pub use editor::{ApplyError, Editor, OpenError};
+pub use laws::{fronts_verify, settled_fronts_stay};

@@ -1,5 +1,5 @@
 -- Pairs ascend where each comes before the next one.
-use Rattle.std.proofs.Common.{◌≡◌, ℕ, zero, suc, ◌<◌, ◌≤◌, List, [], ◌∷◌, length, get_or, take, drop, ◌⊎◌, inl, inr, arith}
+use Rattle.std.proofs.Common.{◌≡◌, ℕ, zero, suc, ◌<◌, ◌≤◌, List, [], ◌∷◌, length, get_or, take, drop, inl, inr, arith}
 use Rattle.std.specs.Prelude.{All}
 use Rattle.mmstatement.specs.Assertions.{ComesBefore, AreAscending}
 

@@ -1,9 +1,9 @@
 -- What is declared has a canonical spelling.
-use Rattle.std.proofs.Common.{◌≡◌, ◌≢◌, ℕ, zero, suc, ◌+◌, ◌<◌, ◌≤◌, Bool, true, false, cond, eqb, ltb, leb, List, [], ◌∷◌, ◌++◌, length, get_or, map, Option, Some, None, Result, Ok, Err, refl, sym, ap, subst, ◌∙◌, arith, append_assoc, length-append}
-use Rattle.std.specs.Prelude.{◌||◌, All, is_some, IsTrue, nat_lt, nat_le, codes, slice_index_or}
+use Rattle.std.proofs.Common.{◌≡◌, ℕ, zero, suc, ◌<◌, ◌≤◌, Bool, true, false, cond, eqb, leb, List, [], ◌∷◌, ◌++◌, length, get_or, map, Option, Some, None, Result, Ok, Err, refl, sym, ap, subst, ◌∙◌, arith, append_assoc, length-append}
+use Rattle.std.specs.Prelude.{All, codes}
 use Rattle.std.specs.List.{list_any, flat_map, AllByRecursion}
 use Rattle.std.specs.Str.{bytes_eq}
-use Rattle.std.proofs.lemmas.Bool.{cases_Bool, cond-true, cond-false, eqb-true, lt-leb}
+use Rattle.std.proofs.lemmas.Bool.{cond-false, eqb-true, lt-leb}
 use Rattle.std.proofs.lemmas.List.{append-nil, map-append}
 use Rattle.std.proofs.lemmas.List.Concat.{flat_map-cons}
 use Rattle.std.proofs.lemmas.List.Elements.{All-from_recursion}
@@ -13,19 +13,18 @@ use Rattle.mmstatement.specs.declared.statement.Symbol.{Symbol}
 use Rattle.mmstatement.specs.declared.statement.Symbol.TheVariants.{Const, Var}
 use Rattle.mmstatement.specs.declared.statement.Float.{Float}
 use Rattle.mmstatement.specs.declared.statement.Assertion.{Assertion}
-use Rattle.mmstatement.specs.declared.symbols.Name.{Name}
-use Rattle.mmstatement.specs.declared.symbols.Name.TheVariants.{Constant, Variable, Label}
+use Rattle.mmstatement.specs.declared.symbols.Name.TheVariants.{Constant, Variable}
 use Rattle.mmstatement.specs.declared.fault.FaultKind.{FaultKind}
 use Rattle.mmstatement.specs.declared.fault.FaultKind.TheVariants.{BadToken, TooLong, UnknownSymbol}
-use Rattle.mmstatement.specs.Words.{has_dollar, has_dot, is_label, has_hypothesis_form}
-use Rattle.mmstatement.specs.Text.{tokens, is_white, is_lawful}
+use Rattle.mmstatement.specs.Words.{has_dollar}
+use Rattle.mmstatement.specs.Text.{is_white, is_lawful}
 use Rattle.mmstatement.specs.Tables.{Contents, Tables, place_of, float_of, named, meaning}
-use Rattle.mmstatement.specs.Rows.{Known, nothing, is_used, in_prelude, Pass, first_fault, symbol_tests, label_tests, float_label_tests, assertion_label_tests, symbol_named, unless_full, symbol_of, type_named, type_of, variable_named, variable_of, with_constant, with_variable, with_float, with_axiom, axiom_of}
-use Rattle.mmstatement.specs.Grammar.{Word, Statement, constants, variables, float, asserted, spelling, DeclaresConstants, DeclaresVariables, ReadsAfter, Declares, DeclareAll, Spells, database_of}
+use Rattle.mmstatement.specs.Rows.{Known, nothing, is_used, Pass, symbol_tests, label_tests, symbol_named, unless_full, symbol_of, type_named, type_of, variable_named, variable_of}
+use Rattle.mmstatement.specs.Grammar.{Word, Statement, spelling, DeclaresConstants, DeclaresVariables, ReadsAfter, Declares, DeclareAll, Spells, database_of}
 use Rattle.mmstatement.specs.Layout.{word_at, no_float, float_at, symbol_word, constants_of, variables_of, float_statement, axiom_statement, canonical_prelude, canonical, prelude_text, statement_text, text_of, IsWithin, IsFloatWithin, IsWhole, HasSpelling}
-use Rattle.mmstatement.proofs.Names.{place_of-at, variable_from_named, bytes_eq-sym, same_bytes}
+use Rattle.mmstatement.proofs.Names.{place_of-at, bytes_eq-sym, same_bytes}
 use Rattle.mmstatement.specs.Assertions.{Distinct}
-use Rattle.mmstatement.proofs.Distinct.{distinct_front, distinct_left, distinct_right, place_of-item, place_of-absent, names, float_labels, labels_of, is_used-names, or_false, all_append, all_left, all_right, all_weaker}
+use Rattle.mmstatement.proofs.Distinct.{distinct_front, distinct_left, distinct_right, place_of-item, place_of-absent, names, float_labels, labels_of, is_used-names, or_false, all_append, all_weaker}
 use Rattle.mmstatement.proofs.Lines.{IsWord, words_are, statements_words, clean_statements}
 use Rattle.mmstatement.proofs.Sound.{IsSymbolWord, IsLabelWord, bare, IsFloatSound, IsAxiomSound, IsSound, nothing_sound, variables_used, all_sound, any_swap, eqb-sym, if_ok}
 

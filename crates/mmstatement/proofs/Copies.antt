@@ -1,14 +1,13 @@
 -- A sound prelude is declared again item by item: each name is new behind those before it.
-use Rattle.std.proofs.Common.{◌≡◌, ℕ, zero, suc, ◌+◌, ◌<◌, ◌≤◌, Bool, true, false, eqb, List, [], ◌∷◌, ◌++◌, length, get_or, map, take, Option, Some, None, refl, sym, ap, subst, ◌∙◌, arith, append_assoc}
-use Rattle.std.specs.Prelude.{◌||◌, is_some}
+use Rattle.std.proofs.Common.{◌≡◌, ℕ, zero, suc, ◌<◌, ◌≤◌, Bool, false, eqb, List, [], ◌∷◌, ◌++◌, length, get_or, map, take, Option, Some, None, refl, sym, ap, subst, ◌∙◌, arith, append_assoc}
+use Rattle.std.specs.Prelude.{is_some}
 use Rattle.std.specs.List.{list_any}
 use Rattle.std.specs.Str.{bytes_eq}
 use Rattle.std.proofs.lemmas.List.{append-nil, get_or-map, get_or_default, take-map}
 use Rattle.std.proofs.lemmas.List.Folds.{list_any-append}
 use Rattle.mmstatement.specs.declared.statement.Float.{Float}
-use Rattle.mmstatement.specs.declared.symbols.Name.{Name}
 use Rattle.mmstatement.specs.declared.symbols.Name.TheVariants.{Variable}
-use Rattle.mmstatement.specs.Tables.{Tables, place_of, float_of, named, meaning}
+use Rattle.mmstatement.specs.Tables.{Tables, place_of, named, meaning}
 use Rattle.mmstatement.specs.Grammar.{Word}
 use Rattle.mmstatement.specs.Layout.{IsSoundPrelude, word_at, float_at, no_float}
 use Rattle.mmstatement.specs.Assertions.{Distinct}
@@ -16,7 +15,7 @@ use Rattle.mmstatement.proofs.Names.{bytes_eq-sym}
 use Rattle.mmstatement.proofs.Distinct.{both_false, distinct_left, distinct_right, any_at, place_of-item, place_of-absent, float_labels}
 use Rattle.mmstatement.proofs.Sound.{IsSound, bare, variables_used, any_swap, eqb-sym}
 use Rattle.mmstatement.proofs.Canonical.{sound_of, cross}
-use Rattle.mmstatement.proofs.Declarable.{prelude_names, is_some-meaning, prelude_distinct, floats_within}
+use Rattle.mmstatement.proofs.Declarable.{is_some-meaning, prelude_distinct, floats_within}
 
 -- the tables of a prelude up to a constant, a variable, a $f
 abbrev pub constants_before : Tables → ℕ → Tables

@@ -1,12 +1,12 @@
 -- What is spelled is declarable, and what is declarable is spelled.
-use Rattle.std.proofs.Common.{◌≡◌, ◌≢◌, ℕ, zero, suc, ◌+◌, ◌<◌, ◌≤◌, Bool, true, false, cond, eqb, ltb, leb, List, [], ◌∷◌, ◌++◌, length, get_or, map, Option, Some, None, Result, Ok, Err, refl, sym, ap, subst, ◌∙◌, ◌⊎◌, inl, inr, arith, append_assoc, length-append}
-use Rattle.std.specs.Prelude.{◌||◌, ◌&&◌, All, is_some, IsTrue, nat_lt, nat_le}
+use Rattle.std.proofs.Common.{◌≡◌, ◌≢◌, ℕ, zero, suc, ◌<◌, ◌≤◌, Bool, true, false, eqb, ltb, leb, List, [], ◌∷◌, ◌++◌, length, get_or, map, Option, Some, None, Result, Ok, Err, refl, sym, ap, subst, ◌∙◌, inl, inr, arith, append_assoc, length-append}
+use Rattle.std.specs.Prelude.{◌||◌, ◌&&◌, All, is_some, IsTrue}
 use mathlib.Core.Bool.{not}
 use Rattle.std.specs.List.{list_any, AllByRecursion}
 use Rattle.std.specs.Option.{option_map}
 use Rattle.std.specs.Str.{bytes_eq}
 use Rattle.std.proofs.lemmas.Bool.{cases_Bool, cond-true, cond-false, eqb-true, lt-leb}
-use Rattle.std.proofs.lemmas.Bool.Decides.{nat_tests, leb_tells}
+use Rattle.std.proofs.lemmas.Bool.Decides.{nat_tests}
 use Rattle.std.proofs.lemmas.List.{append-nil, get_or-map}
 use Rattle.std.proofs.lemmas.List.Elements.{All-from_recursion, recursion_from_All, All-nil}
 use Rattle.std.proofs.lemmas.List.Folds.{list_any-append}
@@ -24,15 +24,15 @@ use Rattle.mmstatement.specs.declared.fault.FaultKind.TheVariants.{BadToken, Too
 use Rattle.mmstatement.specs.Words.{has_dollar, has_dot, is_label, is_label_byte}
 use Rattle.mmstatement.specs.Text.{is_white, is_lawful}
 use Rattle.mmstatement.specs.Tables.{Tables, Contents, place_of, float_of, named, meaning}
-use Rattle.mmstatement.specs.Rows.{Known, is_used, symbol_named, unless_full, symbol_of, axiom_of}
-use Rattle.mmstatement.specs.Grammar.{Word, ReadsAfter, database_of}
+use Rattle.mmstatement.specs.Rows.{Known, symbol_named, unless_full, symbol_of, axiom_of}
+use Rattle.mmstatement.specs.Grammar.{Word, ReadsAfter}
 use Rattle.mmstatement.specs.Layout.{HasSpelling, IsSoundPrelude, IsWithin, IsFloatWithin, symbol_word, word_at, float_at, no_float, text_of}
 use Rattle.mmstatement.specs.Assertions.{IsSymbolOf, BeginsWithConstant, IsExpression, IsPairOf, AreAscending, Fits, is_lawful_label, Distinct, IsOutermostAxiom, IsDeclarable}
 use Rattle.mmstatement.proofs.Names.{bytes_eq-sym}
 use Rattle.mmstatement.proofs.Spelled.{and_true}
 use Rattle.mmstatement.proofs.Lines.{IsPrintable, IsWord}
 use Rattle.mmstatement.proofs.Distinct.{or_false, both_false, distinct_insert, distinct_left, distinct_right, place_of-item, place_of-absent, any_at, any-map, names, float_labels, labels_of, is_used-names, all_weaker}
-use Rattle.mmstatement.proofs.Sound.{IsSymbolWord, IsLabelWord, bare, IsFloatSound, IsAxiomSound, IsSound, variables_used, if_ok}
+use Rattle.mmstatement.proofs.Sound.{IsLabelWord, bare, IsFloatSound, IsAxiomSound, IsSound, variables_used, if_ok}
 use Rattle.mmstatement.proofs.Canonical.{known_of, sound_of, spelled, is_whole, cross, plain_at, reads_within, all_map}
 
 -- ---- the names of a prelude

@@ -1,11 +1,11 @@
 -- The tokens of lines, and the bytes of tokens.
-use Rattle.std.proofs.Common.{◌⊎◌, inl, inr, ◌≡◌, ◌≢◌, ℕ, zero, suc, ◌+◌, ◌-◌, ◌<◌, ◌≤◌, Bool, true, false, cond, List, [], ◌∷◌, ◌++◌, length, get_or, take, drop, map, refl, sym, ap, subst, ◌∙◌, arith, append_assoc, length-append}
-use Rattle.std.specs.Prelude.{◌||◌, ◌&&◌, IsTrue, slice_index, codes}
+use Rattle.std.proofs.Common.{inl, inr, ◌≡◌, ◌≢◌, ℕ, zero, suc, ◌+◌, ◌<◌, Bool, true, false, List, [], ◌∷◌, ◌++◌, length, get_or, drop, refl, sym, ap, subst, ◌∙◌, arith, append_assoc, length-append}
+use Rattle.std.specs.Prelude.{IsTrue}
 use Rattle.std.specs.List.{flat_map, AllByRecursion}
 use Rattle.std.proofs.lemmas.Bool.{cases_Bool, cond-true, cond-false}
-use Rattle.std.proofs.lemmas.List.{take_at, drop_at, append-nil}
+use Rattle.std.proofs.lemmas.List.{take_at, drop_at}
 use Rattle.std.proofs.lemmas.List.Concat.{flat_map-cons}
-use Rattle.mmstatement.specs.Text.{Token, is_white, is_printable, is_lawful, ends_token, with_byte, tokens_from, tokens, IsClean}
+use Rattle.mmstatement.specs.Text.{Token, is_white, is_lawful, ends_token, with_byte, tokens_from, tokens, IsClean}
 use Rattle.mmstatement.specs.Grammar.{Word, Statement, spelling}
 use Rattle.mmstatement.specs.Layout.{spaced, line, statement_text}
 use Rattle.mmstatement.proofs.Spelled.{texts}

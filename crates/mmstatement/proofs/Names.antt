@@ -1,5 +1,5 @@
 -- What the map of names finds after a change of the tables.
-use Rattle.std.proofs.Common.{◌≡◌, ◌≢◌, ℕ, zero, suc, ◌+◌, ◌<◌, ◌≤◌, Bool, true, false, cond, eqb, List, [], ◌∷◌, ◌++◌, length, get_or, Option, Some, None, Vec, refl, sym, ap, subst, ◌∙◌, ◌⊎◌, inl, inr, arith, length-append}
+use Rattle.std.proofs.Common.{◌≡◌, ℕ, suc, ◌<◌, ◌≤◌, Bool, true, false, cond, eqb, List, [], ◌∷◌, ◌++◌, length, get_or, Option, Some, None, Vec, refl, sym, ap, subst, ◌∙◌, inl, inr, arith, length-append}
 use Rattle.std.specs.Option.{option_map, option_or, is_some, IsSome}
 use Rattle.std.specs.List.{list_any}
 use Rattle.std.specs.Prelude.{◌||◌}
@@ -19,7 +19,7 @@ use Rattle.std.proofs.lemmas.Cmp.{nat_list_eq_equiv}
 use Rattle.mmstatement.specs.declared.statement.Float.{Float}
 use Rattle.mmstatement.specs.declared.symbols.Name.{Name}
 use Rattle.mmstatement.specs.declared.symbols.Name.TheVariants.{Constant, Variable, Label}
-use Rattle.mmstatement.specs.Tables.{Tables, place_of, float_of, named, meaning, AreTyped, IsIndexed, IsSymbolTable}
+use Rattle.mmstatement.specs.Tables.{Tables, place_of, float_of, named, meaning, AreTyped, IsSymbolTable}
 
 -- ---- a map whose keys are byte vectors
 

@@ -1,13 +1,12 @@
 -- The acceptor against the relation of faults and against the grammar.
-use Rattle.std.proofs.Common.{◌≡◌, ◌≢◌, ℕ, zero, suc, ◌+◌, ◌<◌, ◌≤◌, Bool, true, false, cond, List, [], ◌∷◌, ◌++◌, length, get_or, map, Option, Some, None, Result, Ok, Err, refl, sym, ap, subst, ◌∙◌, ◌⊎◌, inl, inr, arith, ltb, eqb}
-use Rattle.std.specs.Prelude.{IsTrue, position, slice_index, codes}
-use Rattle.std.specs.List.{flat_map, position_or_len}
+use Rattle.std.proofs.Common.{◌≡◌, ◌≢◌, ℕ, zero, suc, ◌+◌, ◌<◌, ◌≤◌, Bool, true, false, cond, List, [], ◌∷◌, ◌++◌, length, get_or, Option, Some, None, Result, Ok, Err, refl, sym, ap, subst, ◌∙◌, ◌⊎◌, inl, inr, arith, ltb}
+use Rattle.std.specs.Prelude.{slice_index}
+use Rattle.std.specs.List.{position_or_len}
 use Rattle.std.proofs.lemmas.Bool.{cases_Bool, cond-true, cond-false, ltb-true, ltb-false, le-ltb, lt-ltb}
 use Rattle.std.proofs.lemmas.List.Quantifiers.{position-Some}
 use Rattle.std.proofs.lemmas.List.Sums.{position_or_len_is}
 use mathlib.Core.Bool.{not}
-use Rattle.mmstatement.specs.declared.fault.FaultKind.{FaultKind}
-use Rattle.mmstatement.specs.declared.fault.FaultKind.TheVariants.{TooLong, BadByte, Unfinished}
+use Rattle.mmstatement.specs.declared.fault.FaultKind.TheVariants.{TooLong, Unfinished}
 use Rattle.mmstatement.specs.declared.fault.TextFault.{TextFault}
 use Rattle.mmstatement.specs.Text.{Token, tokens, is_lawful, bad_byte, IsClean, IsCleanBefore}
 use Rattle.mmstatement.specs.Tables.{Contents}
@@ -20,7 +19,7 @@ use Rattle.mmstatement.specs.Views.{Gives}
 use Rattle.mmstatement.specs.Grammar.{Spells, DeclareAll, database_of}
 use Rattle.mmstatement.proofs.Spelled.{all_lead}
 use Rattle.mmstatement.proofs.Parsed.{reads_all}
-use Rattle.mmstatement.proofs.Runs.{run_step, run_fault, run_none}
+use Rattle.mmstatement.proofs.Runs.{run_step, run_none}
 
 -- ---- bytes
 

@@ -1,7 +1,6 @@
 -- Runs of tokens, and what stands in the middle of a $f.
-use Rattle.std.proofs.Common.{◌≡◌, ◌≢◌, ℕ, ◌+◌, ◌<◌, ◌≤◌, Bool, true, false, cond, List, [], ◌∷◌, ◌++◌, length, Option, Some, None, Result, Ok, Err, refl, sym, ap, subst, ◌∙◌, ◌⊎◌, inl, inr, arith, ltb, leb, leb-false}
-use Rattle.std.specs.Prelude.{◌||◌, nat_le, is_some}
-use Rattle.std.specs.Str.{bytes_eq}
+use Rattle.std.proofs.Common.{◌≡◌, ℕ, ◌<◌, Bool, true, false, cond, List, [], ◌∷◌, ◌++◌, length, Option, Some, None, Result, Ok, Err, refl, sym, ap, subst, ◌∙◌, leb-false}
+use Rattle.std.specs.Prelude.{◌||◌, is_some}
 use Rattle.mmstatement.specs.declared.fault.FaultKind.{FaultKind}
 use Rattle.mmstatement.specs.declared.fault.FaultKind.TheVariants.{OutOfProfile, Unfinished, UnknownSymbol}
 use Rattle.mmstatement.specs.declared.fault.TextFault.{TextFault}
@@ -17,8 +16,8 @@ use Rattle.mmstatement.specs.Views.{seen_place, Fails}
 use Rattle.mmstatement.specs.Words.{has_dollar, is_label}
 use Rattle.mmstatement.specs.Text.{Token, tokens, mark_of}
 use Rattle.mmstatement.specs.Tables.{meaning}
-use Rattle.mmstatement.specs.Rows.{Known, Tests, first_fault, in_prelude, is_used, label_tests, float_label_tests, assertion_label_tests, symbol_tests, symbol_of, type_of, variable_of, variable_named, with_constant, with_variable, with_float}
-use Rattle.mmstatement.specs.Faults.{Place, outermost, after_label, in_constants, in_variables, float_type, float_variable, float_end, in_axiom, State, at, fault, faulted, tested, given, at_start, at_keyword, at_constant, at_variable, at_type, at_float_variable, at_float_end, at_symbol, next_symbol, in_place, everywhere, marked, step, then_run, run, start, at_end, ended, token_reading, Stands, IsFree}
+use Rattle.mmstatement.specs.Rows.{Known, first_fault, in_prelude, label_tests, float_label_tests, assertion_label_tests, symbol_tests, symbol_of, type_of, variable_of, variable_named, with_constant, with_variable}
+use Rattle.mmstatement.specs.Faults.{Place, outermost, after_label, in_constants, in_variables, float_type, float_variable, float_end, in_axiom, State, at, fault, faulted, tested, given, at_start, at_keyword, at_constant, at_variable, at_float_end, at_symbol, in_place, everywhere, step, then_run, run, start, at_end, ended, token_reading, Stands}
 
 -- ---- runs
 

@@ -1,13 +1,12 @@
 -- What is true of all that statements declare.
-use Rattle.std.proofs.Common.{◌≡◌, ◌≢◌, ℕ, zero, suc, ◌+◌, ◌<◌, ◌≤◌, Bool, true, false, cond, eqb, ltb, leb, List, [], ◌∷◌, ◌++◌, length, get_or, map, Option, Some, None, Result, Ok, Err, refl, sym, ap, subst, ◌∙◌, arith, append_assoc, length-append, leb-false}
-use Rattle.std.specs.Prelude.{◌||◌, is_some, IsTrue, nat_lt, nat_le, codes}
+use Rattle.std.proofs.Common.{◌≡◌, ◌≢◌, ℕ, ◌+◌, ◌<◌, ◌≤◌, Bool, true, false, cond, eqb, List, [], ◌∷◌, ◌++◌, length, map, Option, Some, None, Result, Ok, Err, refl, sym, ap, subst, ◌∙◌, arith, append_assoc, length-append, leb-false}
+use Rattle.std.specs.Prelude.{◌||◌, is_some, IsTrue, nat_lt, codes}
 use Rattle.std.specs.List.{list_any, flat_map, AllByRecursion}
 use Rattle.std.specs.Str.{bytes_eq}
-use Rattle.std.proofs.lemmas.Bool.{cases_Bool, cond-true, cond-false, eqb-true}
+use Rattle.std.proofs.lemmas.Bool.{eqb-true}
 use Rattle.std.proofs.lemmas.List.{append-nil, map-append}
 use Rattle.std.proofs.lemmas.List.Concat.{flat_map-cons}
 use Rattle.mmstatement.specs.declared.statement.Symbol.{Symbol}
-use Rattle.mmstatement.specs.declared.statement.Symbol.TheVariants.{Const, Var}
 use Rattle.mmstatement.specs.declared.statement.Float.{Float}
 use Rattle.mmstatement.specs.declared.statement.Assertion.{Assertion}
 use Rattle.mmstatement.specs.declared.symbols.Name.{Name}
@@ -15,12 +14,12 @@ use Rattle.mmstatement.specs.declared.symbols.Name.TheVariants.{Constant, Variab
 use Rattle.mmstatement.specs.declared.fault.FaultKind.{FaultKind}
 use Rattle.mmstatement.specs.Words.{has_dollar, has_dot, is_label, has_hypothesis_form}
 use Rattle.mmstatement.specs.Tables.{Tables, place_of, float_of, named, meaning}
-use Rattle.mmstatement.specs.Rows.{Known, nothing, is_used, in_prelude, Pass, first_fault, symbol_tests, label_tests, float_label_tests, assertion_label_tests, symbol_of, type_named, type_of, variable_named, variable_of, with_constant, with_variable, with_float, with_axiom, axiom_of}
+use Rattle.mmstatement.specs.Rows.{Known, nothing, is_used, in_prelude, Pass, symbol_tests, label_tests, float_label_tests, assertion_label_tests, symbol_of, type_named, type_of, variable_named, variable_of, with_constant, with_variable, with_float, with_axiom, axiom_of}
 use Rattle.mmstatement.specs.Grammar.{Word, Statement, constants, variables, float, asserted, spelling, DeclaresConstants, DeclaresVariables, ReadsAfter, Declares, DeclareAll}
 use Rattle.mmstatement.proofs.Names.{place_of-at, variable_from_named, bytes_eq-sym}
-use Rattle.mmstatement.proofs.Runs.{cond_none, variable_here, type_here}
+use Rattle.mmstatement.proofs.Runs.{cond_none}
 use Rattle.mmstatement.specs.Assertions.{Distinct}
-use Rattle.mmstatement.proofs.Distinct.{distinct_insert, names, float_labels, labels_of, is_used-names, any-map, is_some-place_of, all_push, all_weaker, all_left, all_right}
+use Rattle.mmstatement.proofs.Distinct.{distinct_insert, names, float_labels, labels_of, is_used-names, is_some-place_of, all_push, all_weaker, all_left, all_right}
 use Rattle.mmstatement.proofs.Lines.{IsWord}
 
 -- ---- facts of words

@@ -1,4 +1,5 @@
--- Which assertions fit a prelude, which labels they may have, and which lists of them a text declares.
+-- Which assertions fit a prelude, which labels they may have, and which lists of them a text declares (Metamath book,
+-- section 4.1.3).
 use Rattle.std.specs.Prelude.{◌≡◌, ◌<◌, ◌≤◌, ◌⊎◌, ◌↔◌, ℕ, Bool, false, ◌&&◌, nat_le, List, [], ◌∷◌, length, All, map, is_some, IsTrue}
 use mathlib.Core.Bool.{not}
 use Rattle.std.specs.List.{list_any}
@@ -18,12 +19,13 @@ abbrev pub IsSymbolOf : Tables → Symbol → Type 0
 IsSymbolOf t (Const i) = i < length t.constants
 IsSymbolOf t (Var j) = j < length t.floats
 
+-- the first symbol is a constant (section 4.1.3)
 abbrev pub BeginsWithConstant : List Symbol → Type 0
 BeginsWithConstant [] = ⊥
 BeginsWithConstant (Const i ∷ e) = Unit {0}
 BeginsWithConstant (Var j ∷ e) = ⊥
 
--- what may stand in $e, $a and $p: a constant, then symbols of the prelude, of all at most 65,535 (Metamath book, section 4.2.5)
+-- what may stand in $e, $a and $p: a constant, then symbols of the prelude (section 4.1.3), of all at most 65,535
 pub record IsExpression (t : Tables) (e : List Symbol) : Type 0 where
   pub begins : BeginsWithConstant e
   pub symbols : All (IsSymbolOf t) e
@@ -31,10 +33,12 @@ pub record IsExpression (t : Tables) (e : List Symbol) : Type 0 where
 
 -- ---- assertions
 
--- two different $f of a prelude that has count of them, the earlier first
+-- two different $f of a prelude that has count of them, the earlier first: $d restricts pairs of different variables (section
+-- 4.1.3)
 abbrev pub IsPairOf : ℕ → ℕ × ℕ → Type 0
 IsPairOf count p = (p.0 < p.1) × (p.1 < count)
 
+-- by the first place, then by the second
 abbrev pub ComesBefore : ℕ × ℕ → ℕ × ℕ → Type 0
 ComesBefore p q = (p.0 < q.0) ⊎ ((p.0 ≡ q.0) × (p.1 < q.1))
 
@@ -43,7 +47,8 @@ abbrev pub AreAscending : List (ℕ × ℕ) → Type 0
 AreAscending [] = Unit {0}
 AreAscending (p ∷ ps) = All (ComesBefore p) ps × AreAscending ps
 
--- an assertion over a prelude, within the limits; nothing is said of labels, or of what a step names
+-- an assertion over a prelude, within the limits: its $d, its $e, its statement, and a proof if it is a $p (section 4.1.3);
+-- nothing is said of labels, or of what a step names
 pub record Fits (t : Tables) (a : Assertion) : Type 0 where
   pub statement : IsExpression t a.statement
   pub hyps : All (IsExpression t) a.hyps
@@ -54,9 +59,11 @@ pub record Fits (t : Tables) (a : Assertion) : Type 0 where
   pub no_axiom_proof : a.kind ≡ Axiom → a.proof ≡ []
   pub few_steps : length a.proof ≤ 16384
 
--- the label of an assertion: 1 to 255 bytes of a label token without a dot, that names nothing of the prelude
+-- the label of an assertion: 1 to 255 bytes of a label token without a dot, that names nothing of the prelude (sections
+-- 4.1.1 and 4.1.3)
 abbrev pub is_lawful_label : Tables → List ℕ → Bool
-is_lawful_label t w = nat_le 1 (length w) && nat_le (length w) 255 && is_label w && not (has_dot w) && not (is_some (meaning t w))
+is_lawful_label t w =
+    nat_le 1 (length w) && nat_le (length w) 255 && is_label w && not (has_dot w) && not (is_some (meaning t w))
 
 -- ---- lists of assertions
 
@@ -65,7 +72,7 @@ abbrev pub Distinct : {A : Type 0} → (A → A → Bool) → List A → Type 0
 Distinct eq [] = Unit {0}
 Distinct eq (x ∷ xs) = (list_any (eq x) xs ≡ false) × Distinct eq xs
 
--- an axiom with no hypothesis and no pair: it stands outermost
+-- an axiom with no hypothesis and no pair: it stands in no block (section 4.1.3)
 pub record IsOutermostAxiom (t : Tables) (a : Assertion) : Type 0 where
   pub fits : Fits t a
   pub is_axiom : a.kind ≡ Axiom

@@ -2,8 +2,10 @@
 use Rattle.std.specs.Prelude.{ℕ, List, ◌∷◌, ◌++◌, codes}
 use Rattle.std.specs.Fmt.{decimal}
 use Rattle.mmstatement.specs.declared.fault.FaultKind.{FaultKind}
-use Rattle.mmstatement.specs.declared.fault.FaultKind.TheVariants.{BadByte, BadToken, Unfinished, OutOfProfile, UnknownSymbol, RepeatedLabel, BadLabel, NoTypeFor, TooLong, NoMemory}
+use Rattle.mmstatement.specs.declared.fault.FaultKind.TheVariants.{BadByte, BadToken, Unfinished, OutOfProfile, UnknownSymbol}
+use Rattle.mmstatement.specs.declared.fault.FaultKind.TheVariants.{RepeatedLabel, BadLabel, NoTypeFor, TooLong, NoMemory}
 
+-- numbers from 1
 abbrev pub number_of : FaultKind → ℕ
 number_of BadByte = 1
 number_of BadToken = 2
@@ -16,6 +18,7 @@ number_of NoTypeFor = 8
 number_of TooLong = 9
 number_of NoMemory = 10
 
+-- the names as messages print them
 abbrev pub name_of : FaultKind → List ℕ
 name_of BadByte = codes "BadByte"
 name_of BadToken = codes "BadToken"

@@ -1,5 +1,5 @@
--- The grammar: a text is spelled by statements whose tests pass, each after the earlier ones.
-use Rattle.std.specs.Prelude.{◌≡◌, ◌≢◌, ℕ, List, [], ◌∷◌, ◌++◌, length, map, Option, Some, None, Result, Ok, Err, IsTrue, ◌⊎◌, codes}
+-- The grammar: a text is spelled by statements whose tests pass, each after the earlier ones (Metamath book, section 4.1.3).
+use Rattle.std.specs.Prelude.{◌≡◌, ◌≢◌, ℕ, List, [], ◌∷◌, ◌++◌, length, map, Result, Ok, Err, IsTrue, ◌⊎◌, codes}
 use Rattle.std.specs.List.{flat_map}
 use Rattle.mmstatement.specs.declared.statement.Symbol.{Symbol}
 use Rattle.mmstatement.specs.declared.fault.TextFault.{TextFault}
@@ -7,12 +7,14 @@ use Rattle.mmstatement.specs.declared.fault.FaultKind.TheVariants.{NoMemory}
 use Rattle.mmstatement.specs.Text.{tokens, IsClean}
 use Rattle.mmstatement.specs.Words.{is_label}
 use Rattle.mmstatement.specs.Tables.{Contents}
-use Rattle.mmstatement.specs.Rows.{Known, nothing, Pass, in_prelude, symbol_tests, float_label_tests, assertion_label_tests, symbol_of, type_of, variable_of, with_constant, with_variable, with_float, with_axiom}
+use Rattle.mmstatement.specs.Rows.{Known, nothing, Pass, in_prelude, symbol_tests, float_label_tests, assertion_label_tests, symbol_of}
+use Rattle.mmstatement.specs.Rows.{type_of, variable_of, with_constant, with_variable, with_float, with_axiom}
 
+-- the bytes of a token
 abbrev pub Word : Type 0
 Word = List ℕ
 
--- $c words $. and $v words $. and label $f type variable $. and label $a words $.
+-- $c words $. and $v words $. and label $f type variable $. and label $a words $. (section 4.1.3)
 pub data Statement : Type 0 where
   constants : List Word → Statement
   variables : List Word → Statement
@@ -28,10 +30,12 @@ spelling (asserted label ws) = label ∷ codes "$a" ∷ (ws ++ codes "$." ∷ []
 
 -- ---- what a statement declares where its tests pass
 
+-- the words of a $c, one after the other
 abbrev pub DeclaresConstants : Known → List Word → Known → Type 0
 DeclaresConstants k [] after = k ≡ after
 DeclaresConstants k (w ∷ ws) after = Pass (symbol_tests k (length k.tables.constants) w) × DeclaresConstants (with_constant k w) ws after
 
+-- the words of a $v
 abbrev pub DeclaresVariables : Known → List Word → Known → Type 0
 DeclaresVariables k [] after = k ≡ after
 DeclaresVariables k (w ∷ ws) after = Pass (symbol_tests k (length k.tables.variables) w) × DeclaresVariables (with_variable k w) ws after
@@ -41,6 +45,7 @@ abbrev pub ReadsAfter : Known → List Symbol → List Word → List Symbol → 
 ReadsAfter k front [] e = front ≡ e
 ReadsAfter k front (w ∷ ws) e = (s : Symbol) × (symbol_of k (length front) w ≡ Ok s) × ReadsAfter k (front ++ s ∷ []) ws e
 
+-- a statement that passes its tests, and what is known behind it
 abbrev pub Declares : Known → Statement → Known → Type 0
 Declares k (constants ws) after = IsTrue (in_prelude k) × (ws ≢ []) × DeclaresConstants k ws after
 Declares k (variables ws) after = IsTrue (in_prelude k) × (ws ≢ []) × DeclaresVariables k ws after
@@ -51,6 +56,7 @@ Declares k (asserted label ws) after =
     IsTrue (is_label label) × Pass (assertion_label_tests k label) × (ws ≢ [])
     × ((e : List Symbol) × ReadsAfter k [] ws e × (with_axiom k label e ≡ after))
 
+-- statements one after the other
 abbrev pub DeclareAll : Known → List Statement → Known → Type 0
 DeclareAll k [] after = k ≡ after
 DeclareAll k (s ∷ ss) after = (next : Known) × Declares k s next × DeclareAll next ss after

@@ -1,5 +1,5 @@
 -- The canonical layout: one line for each statement, words separated by one space.
-use Rattle.std.specs.Prelude.{◌≡◌, ◌<◌, ℕ, Bool, List, [], ◌∷◌, ◌++◌, length, map, slice_index_or, All, codes}
+use Rattle.std.specs.Prelude.{◌<◌, ℕ, List, [], ◌∷◌, ◌++◌, length, map, slice_index_or, All}
 use Rattle.std.specs.List.{flat_map}
 use Rattle.mmstatement.specs.declared.statement.Symbol.{Symbol}
 use Rattle.mmstatement.specs.declared.statement.Symbol.TheVariants.{Const, Var}
@@ -10,12 +10,15 @@ use Rattle.mmstatement.specs.Grammar.{Word, Statement, constants, variables, flo
 
 -- ---- words
 
+-- the word at a place
 abbrev pub word_at : List Word → ℕ → Word
 word_at ws i = slice_index_or ws i []
 
+-- what stands for a $f at a place where there is none
 abbrev pub no_float : Float
 no_float = record { label = []; type_code = 0; variable = 0 }
 
+-- the $f at a place
 abbrev pub float_at : List Float → ℕ → Float
 float_at fs j = slice_index_or fs j no_float
 
@@ -26,21 +29,25 @@ symbol_word t (Var j) = word_at t.variables (float_at t.floats j).variable
 
 -- ---- statements
 
+-- one $c with all constants, if there are any
 abbrev pub constants_of : List Word → List Statement
 constants_of [] = []
 constants_of (w ∷ ws) = constants (w ∷ ws) ∷ []
 
+-- one $v with all variables, if there are any
 abbrev pub variables_of : List Word → List Statement
 variables_of [] = []
 variables_of (w ∷ ws) = variables (w ∷ ws) ∷ []
 
+-- a $f as a statement
 abbrev pub float_statement : Tables → Float → Statement
 float_statement t f = float f.label (word_at t.constants f.type_code) (word_at t.variables f.variable)
 
+-- an axiom as a statement
 abbrev pub axiom_statement : Tables → Assertion → Statement
 axiom_statement t a = asserted a.label (map (symbol_word t) a.statement)
 
--- all constants, all variables, each $f
+-- all constants, all variables, each $f: a symbol is declared before it is used (section 4.1.3)
 abbrev pub canonical_prelude : Tables → List Statement
 canonical_prelude t = constants_of t.constants ++ (variables_of t.variables ++ map (float_statement t) t.floats)
 
@@ -54,10 +61,12 @@ canonical t xs = canonical_prelude t ++ map (axiom_statement t) xs
 abbrev pub spaced : List Word → List ℕ
 spaced ws = flat_map (λ w. 32 ∷ w) ws
 
+-- words with one space between, and a line feed
 abbrev pub line : List Word → List ℕ
 line [] = 10 ∷ []
 line (w ∷ ws) = w ++ (spaced ws ++ 10 ∷ [])
 
+-- the line of a statement
 abbrev pub statement_text : Statement → List ℕ
 statement_text s = line (spelling s)
 
@@ -80,6 +89,7 @@ abbrev pub IsWithin : Tables → Symbol → Type 0
 IsWithin t (Const i) = i < length t.constants
 IsWithin t (Var j) = (j < length t.floats) × ((float_at t.floats j).variable < length t.variables)
 
+-- the type and the variable of a $f are of the prelude
 abbrev pub IsFloatWithin : Tables → Float → Type 0
 IsFloatWithin t f = (f.type_code < length t.constants) × (f.variable < length t.variables)
 

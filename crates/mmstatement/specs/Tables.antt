@@ -1,4 +1,4 @@
--- The prelude as three lists, and what a word names in it.
+-- The prelude as three lists, and what a word names in it (Metamath book, section 4.1.3).
 use Rattle.std.specs.Prelude.{◌≡◌, ◌<◌, ℕ, suc, Bool, List, length, [], ◌∷◌, Option, Some, None, Vec, ◌==◌, if◌then◌else◌}
 use Rattle.std.specs.Option.{option_map}
 use Rattle.std.specs.List.{AllByRecursion}
@@ -11,7 +11,7 @@ use Rattle.mmstatement.specs.declared.statement.Assertion.{Assertion}
 use Rattle.mmstatement.specs.declared.symbols.Name.{Name}
 use Rattle.mmstatement.specs.declared.symbols.Name.TheVariants.{Constant, Variable, Label}
 
--- constants and variables in order of declaration; each float has its label and the places of its type and variable
+-- constants and variables in order of declaration; each $f has its label and the places of its type and variable
 pub record Tables : Type 0 where
   pub constants : List (List ℕ)
   pub variables : List (List ℕ)
@@ -27,19 +27,23 @@ abbrev pub place_of : {A : Type 0} → (A → Bool) → List A → Option ℕ
 place_of test [] = None
 place_of test (x ∷ xs) = if test x then Some 0 else option_map (λ n. suc n) (place_of test xs)
 
--- the `$f` of the variable at a place
+-- the $f of the variable at a place: a variable has at most one (section 4.1.3)
 abbrev pub float_of : List Float → ℕ → Option ℕ
 float_of fs v = place_of (λ f. f.variable == v) fs
 
--- a constant comes before a variable, and that before the label of a `$f`
+-- a constant comes before a variable, and that before the label of a $f; in what is declared the three never meet (section 4.1.3)
 abbrev pub named : List Float → Option ℕ → Option ℕ → Option ℕ → Option Name
 named fs (Some i) v l = Some (Constant i)
 named fs None (Some i) l = Some (Variable i (float_of fs i))
 named fs None None l = option_map (λ j. Label j) l
 
--- what a word names
+-- what a word names: a symbol or a label that is declared
 unfoldable pub meaning : Tables → List ℕ → Option Name
-meaning t w = named t.floats (place_of (bytes_eq w) t.constants) (place_of (bytes_eq w) t.variables) (place_of (λ f. bytes_eq w f.label) t.floats)
+meaning t w =
+    let c = place_of (bytes_eq w) t.constants in
+    let v = place_of (bytes_eq w) t.variables in
+    let l = place_of (λ f. bytes_eq w f.label) t.floats in
+    named t.floats c v l
 
 -- each $f is of a variable
 abbrev pub AreTyped : List Float → ℕ → Type 0

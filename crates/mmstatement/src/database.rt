@@ -55,6 +55,7 @@ impl Database {
     {
         self.assertions.as_slice()
     }
+
     /// An equal database.
     pub fn copy(&self, alloc: Global) -> Result<Database, AllocError>
         ensures { IfOk result (λ made. made ≡ self.now) }

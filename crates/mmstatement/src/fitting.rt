@@ -1,7 +1,8 @@
 //! What fits a prelude: assertions, and their labels.
 
 ghost use Rattle.std.specs.Prelude.{◌≡◌, ◌≤◌, ◌↔◌, IsTrue, [], All, length};
-ghost use Rattle.mmstatement.specs.Assertions.{IsSymbolOf, BeginsWithConstant, IsExpression, IsPairOf, ComesBefore, AreAscending, Fits, is_lawful_label};
+ghost use Rattle.mmstatement.specs.Assertions.{IsSymbolOf, BeginsWithConstant, IsExpression, IsPairOf, ComesBefore, AreAscending, Fits};
+ghost use Rattle.mmstatement.specs.Assertions.{is_lawful_label};
 ghost use Rattle.mmstatement.specs.declared.statement.Kind.TheVariants.{Axiom};
 
 use crate::mark::{contains_dot, is_label_token};

@@ -14,6 +14,8 @@ mod reading;
 mod sequence;
 mod statement;
 mod symbols;
+#[cfg(test)]
+mod tests;
 mod token;
 mod writing;
 

@@ -1,7 +1,8 @@
 //! The words of the language.
 
 ghost use Rattle.std.specs.Prelude.{◌≡◌};
-ghost use Rattle.mmstatement.specs.Words.{has_dollar, is_label_byte, is_label, has_dot, is_digit, all_digits, is_count, has_number, has_hypothesis_form};
+ghost use Rattle.mmstatement.specs.Words.{has_dollar, is_label_byte, is_label, has_dot, is_digit, all_digits, is_count, has_number};
+ghost use Rattle.mmstatement.specs.Words.{has_hypothesis_form};
 ghost use Rattle.mmstatement.specs.Text.{mark_of, begins_comment_mark, has_comment_mark};
 
 /// What a token is by itself.

@@ -65,6 +65,7 @@ impl Prelude {
     {
         self.symbols.floats()
     }
+
     /// An equal prelude. Its map of names draws its hashes from the same keys.
     pub fn copy(&self, alloc: Global) -> Result<Prelude, AllocError>
         ensures { IfOk result (λ made. made ≡ self.now) }

@@ -3,7 +3,8 @@
 ghost use Rattle.std.specs.Prelude.{◌≡◌, ◌≢◌, ◌<◌, ◌≤◌, ◌^◌, ◌+◌, ◌++◌, ◌∷◌, [], length, None, Some, Ok, Err, IfOk, IfErr, OnOk};
 ghost use Rattle.mmstatement.specs.Rows.{first_fault, symbol_tests, label_tests, symbol_of, type_of, variable_of};
 ghost use Rattle.mmstatement.specs.Text.{bad_byte};
-ghost use Rattle.mmstatement.specs.Faults.{at_start, at_keyword, at_constant, at_variable, at_type, at_float_variable, at_float_end, at_symbol, everywhere, in_place, step, token_reading, reading, Stands, IsFree, Faulty};
+ghost use Rattle.mmstatement.specs.Faults.{at_start, at_keyword, at_constant, at_variable, at_type, at_float_variable, at_float_end};
+ghost use Rattle.mmstatement.specs.Faults.{at_symbol, everywhere, in_place, step, token_reading, reading, Stands, IsFree, Faulty};
 ghost use Rattle.mmstatement.specs.Grammar.{Spells, Reads, Refuses};
 ghost use Rattle.mmstatement.specs.declared.fault.TextFault.{TextFault};
 ghost use Rattle.mmstatement.specs.Tables.{Contents};

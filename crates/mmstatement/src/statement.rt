@@ -103,6 +103,33 @@ impl Assertion {
     }
 }
 
+impl Float {
+    /// An equal `$f`.
+    pub fn copy(&self, alloc: Global) -> Result<Float, AllocError>
+        ensures { IfOk result (λ made. made ≡ self.now) }
+    {
+        Ok(Float {
+            label: self.label.copy(alloc)?,
+            type_code: self.type_code,
+            variable: self.variable,
+        })
+    }
+}
+
+impl Frame {
+    /// An equal frame.
+    pub fn copy(&self, alloc: Global) -> Result<Frame, AllocError>
+        ensures { IfOk result (λ made. made ≡ self.now) }
+    {
+        Ok(Frame {
+            floats: self.floats.copy(alloc)?,
+            hyps: copy_expressions(alloc, self.hyps.as_slice())?,
+            pairs: self.pairs.copy(alloc)?,
+            statement: self.statement.copy(alloc)?,
+        })
+    }
+}
+
 fn copy_expressions(alloc: Global, expressions: &[Expr]) -> Result<Sequence<Expr>, AllocError>
     ensures { IfOk result (λ made. made ≡ expressions.now) }
 {

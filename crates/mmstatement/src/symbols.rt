@@ -41,7 +41,8 @@ impl Model for SymbolTable {
 
     ghost view = { λ p. record { constants = p.constants.items; variables = p.variables.items; floats = p.floats.items } };
 
-    ghost invariant = { λ p. IsSymbolTable p.names (record { constants = p.constants.items; variables = p.variables.items; floats = p.floats.items }) };
+    ghost invariant = { λ p. IsSymbolTable p.names
+        (record { constants = p.constants.items; variables = p.variables.items; floats = p.floats.items }) };
 }
 
 impl SymbolTable {
@@ -131,7 +132,10 @@ impl SymbolTable {
         requires new { meaning self.old label.now ≡ None }
         requires variable { meaning self.old word.now ≡ Some (Variable variable None) }
         requires room { length self.old.floats < 65535 }
-        ensures { OnOk result (self.new ≡ record self.old { floats = self.old.floats ++ record { label = label.now; type_code = type_code; variable = variable } ∷ [] }) }
+        ensures { OnOk result
+            (self.new ≡ record self.old {
+              floats = self.old.floats ++ record { label = label.now; type_code = type_code; variable = variable } ∷ [];
+            }) }
     {
         let key = Vec::from_slice(alloc, label)?;
         let label = Sequence::from_vec(Vec::from_slice(alloc, label)?);
@@ -216,7 +220,8 @@ fn set_float(
     place: u32,
 )
     requires { IsSome (get_by (λ k. bytes_eq word.now k.items) names.old) }
-    ensures { (q : List ℕ) → get_by (λ k. bytes_eq q k.items) names.new ≡ cond (bytes_eq word.now q) (Some (Variable variable (Some place))) (get_by (λ k. bytes_eq q k.items) names.old) }
+    ensures { (q : List ℕ) → get_by (λ k. bytes_eq q k.items) names.new
+        ≡ cond (bytes_eq word.now q) (Some (Variable variable (Some place))) (get_by (λ k. bytes_eq q k.items) names.old) }
 {
     if let Some(name) = names.get_mut(word) {
         *name = Name::Variable(variable, Some(place));

@@ -36,7 +36,8 @@ pub fn first_bad_byte(text: &[u8]) -> Option<usize>
 pub fn next_token(text: &[u8], from: usize) -> Option<Token<'_>>
     requires { from ≤ length text.now }
     ensures none { IfNone result (tokens_from from (drop from text.now) ≡ []) }
-    ensures some { IfSome result (λ t. let end = t.place + length t.text.now in tokens_from from (drop from text.now) ≡ seen t ∷ tokens_from end (drop end text.now)) }
+    ensures some { IfSome result (λ t. let end = t.place + length t.text.now in
+        tokens_from from (drop from text.now) ≡ seen t ∷ tokens_from end (drop end text.now)) }
     ensures later { IfSome result (λ t. from < t.place + length t.text.now) }
     ensures within { IfSome result (λ t. t.place + length t.text.now ≤ length text.now) }
 {

@@ -3,7 +3,8 @@
 ghost use Rattle.std.specs.Prelude.{◌≡◌, ◌≢◌, ◌<◌, ◌++◌, ◌∷◌, [], length, All, OnOk, IfOk, map, codes};
 ghost use Rattle.mmstatement.specs.Grammar.{Spells, constants, variables};
 ghost use Rattle.mmstatement.specs.Assertions.{Fits};
-ghost use Rattle.mmstatement.specs.Layout.{word_at, symbol_word, spaced, line, statement_text, float_statement, axiom_statement, constants_of, variables_of, prelude_text, assertion_text, text_of, IsWithin, IsFloatWithin};
+ghost use Rattle.mmstatement.specs.Layout.{word_at, symbol_word, spaced, line, statement_text, float_statement, axiom_statement};
+ghost use Rattle.mmstatement.specs.Layout.{constants_of, variables_of, prelude_text, assertion_text, text_of, IsWithin, IsFloatWithin};
 ghost use Rattle.std.specs.List.{flat_map};
 
 use crate::database::Database;
@@ -135,7 +136,7 @@ fn put_tables(out: &mut Vec<u8>, prelude: &Prelude) -> Result<(), AllocError>
 
 /// Puts the canonical lines of a prelude behind `out`.
 ///
-/// After an error `out` holds what it held, and perhaps some of the lines.
+/// After an error nothing is promised of the bytes in `out`.
 pub fn put_prelude(out: &mut Vec<u8>, prelude: &Prelude) -> Result<(), AllocError>
     ensures { OnOk result (out.new.items ≡ out.old.items ++ prelude_text prelude.now) }
 {
@@ -145,7 +146,7 @@ pub fn put_prelude(out: &mut Vec<u8>, prelude: &Prelude) -> Result<(), AllocErro
 
 /// Puts the canonical lines of an assertion behind `out`.
 ///
-/// After an error `out` holds what it held, and perhaps some of the lines.
+/// After an error nothing is promised of the bytes in `out`.
 pub fn put_assertion(
     out: &mut Vec<u8>,
     prelude: &Prelude,

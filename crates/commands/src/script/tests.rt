@@ -26,11 +26,12 @@ fn words(alloc: Global, script: &[Transaction]) -> Result<Vec<u8>, AllocError> {
     Ok(words)
 }
 
-/// The fault of a text that is not a script.
-fn fault_of(alloc: Global, text: &[u8]) -> Option<TextFault> {
+/// The fault of a text, if it has one.
+fn fault_of(alloc: Global, text: &[u8]) -> Result<Option<TextFault>, Stop> {
     match read_text(alloc, text) {
-        Err(Stop::Fault(fault)) => Some(fault),
-        _ => None,
+        Ok(_) => Ok(None),
+        Err(Stop::Fault(fault)) => Ok(Some(fault)),
+        Err(Stop::Memory) => Err(Stop::Memory),
     }
 }
 
@@ -58,7 +59,7 @@ fn reads_scripts(rt: HostRuntime) -> Result<(), Fail> {
 }
 
 #[test]
-fn refuses_texts_with_a_fault(rt: HostRuntime) {
+fn refuses_texts_with_a_fault(rt: HostRuntime) -> Result<(), Fail> {
     let table = [
         (b"begin show commit".as_slice(), 17, FaultKind::Unfinished),
         (b"begin", 5, FaultKind::Unfinished),
@@ -84,11 +85,12 @@ fn refuses_texts_with_a_fault(rt: HostRuntime) {
     ];
     for (text, place, kind) in table {
         assert_eq!(rt;
-            fault_of(rt.alloc(), text),
+            fault_of(rt.alloc(), text)?,
             Some(TextFault { place, kind }),
             "{place}"
         );
     }
+    Ok(())
 }
 
 #[test]
@@ -98,12 +100,12 @@ fn refuses_long_texts(rt: HostRuntime) -> Result<(), Fail> {
         place: 0,
         kind: FaultKind::BadByte,
     });
-    assert_eq!(rt; fault_of(rt.alloc(), text.as_slice()), first);
+    assert_eq!(rt; fault_of(rt.alloc(), text.as_slice())?, first);
     text.push(128)?;
     let long = Some(TextFault {
         place: MOST_BYTES,
         kind: FaultKind::TooLong,
     });
-    assert_eq!(rt; fault_of(rt.alloc(), text.as_slice()), long);
+    assert_eq!(rt; fault_of(rt.alloc(), text.as_slice())?, long);
     Ok(())
 }

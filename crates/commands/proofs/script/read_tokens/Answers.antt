@@ -1,4 +1,4 @@
-use Rattle.std.proofs.Common.{◌≡◌, sym}
+use Rattle.std.proofs.Common.{sym}
 use Rattle.std.proofs.lemmas.Result.{err_from_is_err_and}
 use Rattle.mmstatement.specs.Views.{seen}
 use Rattle.commands.specs.ScriptFaults.{script_language}
@@ -11,10 +11,10 @@ pub loop-token-preserved : goal.loop-token-preserved
 loop-token-preserved c =
     let here = seen_state c.loop-token.state in
     let next = seen_state c.in_ok-state.state in
+    let first = c.in-Some.ensures.some in
     record {
       within = c.in-Some.ensures.within;
-      same =
-          goes_on script_language here next (seen c.in-Some.token) _ _ _ c.in-Some.ensures.some c.in_ok-state.ensures c.loop-token.invariant.same;
+      same = goes_on script_language here next (seen c.in-Some.token) _ _ _ first c.in_ok-state.ensures c.loop-token.invariant.same;
     }
 
 pub returns : goal.returns

@@ -5,7 +5,8 @@ use Rattle.history.specs.Drafts.{CanUndo, undone, taken_back}
 use Rattle.history.proofs.Undoing.{can_undo-split, can_undo-kept, undone-push}
 use Rattle.history.proofs.notes.take_all_back.Goals as goal
 
-take_last : (ns : List Note) (left : ℕ) (d : Note) → 0 < left → left ≤ length ns → take left ns ≡ take (left - 1) ns ++ get_or ns (left - 1) d ∷ []
+take_last : (ns : List Note) (left : ℕ) (d : Note) → 0 < left → left ≤ length ns
+    → take left ns ≡ take (left - 1) ns ++ get_or ns (left - 1) d ∷ []
 take_last ns left d some within =
     let back : left ≡ left - 1 + 1 = omega arith in
     ap (λ n. take n ns) back ∙ take_more ns (left - 1) d (omega arith)

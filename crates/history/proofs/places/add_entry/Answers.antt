@@ -9,8 +9,10 @@ pub returns-clause-indexed : goal.returns-clause-indexed
 returns-clause-indexed c =
     let m = c.args.places.now in
     let lib = c.args.entries.now.items in
-    let puts : Puts m c.in_ok-key.key.items c.len.result c.insert.new.self = after_update c.in_ok-key.key.items m c.insert.new.self (Some c.len.result) c.in_ok-insert.ensures.updates in
+    let puts : Puts m c.in_ok-key.key.items c.len.result c.insert.new.self =
+    after_update c.in_ok-key.key.items m c.insert.new.self (Some c.len.result) c.in_ok-insert.ensures.updates in
     let own : c.in_ok-key.key.items ≡ label_of c.args.entry = search rules in
     let last : c.len.result ≡ length lib = search rules in
-    let pushed = index-pushed m c.insert.new.self lib c.args.entry c.requires.indexed c.requires.free (subst (λ k. Puts m (label_of c.args.entry) k c.insert.new.self) last (subst (λ w. Puts m w c.len.result c.insert.new.self) own puts)) in
+    let pushed =
+    index-pushed m c.insert.new.self lib c.args.entry c.requires.indexed c.requires.free (subst (λ k. Puts m (label_of c.args.entry) k c.insert.new.self) last (subst (λ w. Puts m w c.len.result c.insert.new.self) own puts)) in
     rw c.in_ok-push.ensures.items pushed

@@ -32,7 +32,8 @@ returns-then-eq c =
     let e = c.in_ok-entry.entry.now in
     let found = c.in_ok-entry.ensures.lookup in
     let within : place < length lib = ltb-true place (length lib) (sym found.0) in
-    let own : bytes_eq (label_of e) c.args.label.now ≡ true = ap (λ w. bytes_eq w c.args.label.now) (sym c.as_slice.ensures) ∙ sym c.if-eq.ensures in
+    let own : bytes_eq (label_of e) c.args.label.now ≡ true = ap (λ w. bytes_eq w c.args.label.now) (sym c.as_slice.ensures)
+    ∙ sym c.if-eq.ensures in
     record {
       entry = e;
       at = slice_get_read lib (length lib) place e refl within found.1;
@@ -49,7 +50,8 @@ returns-else-eq c =
     let within : place < length lib = ltb-true place (length lib) (sym found.0) in
     let at : slice_get lib place ≡ Some e = slice_get_read lib (length lib) place e refl within found.1 in
     let known : Some place ≡ place_in c.args.places.now w = c.in_ok-place.ensures.value in
-    let other : bytes_eq w (label_of e) ≡ false = bytes_eq-sym w (label_of e) ∙ ap (λ l. bytes_eq l w) (sym c.as_slice.ensures) ∙ sym c.if-eq.ensures in
+    let other : bytes_eq w (label_of e) ≡ false = bytes_eq-sym w (label_of e) ∙ ap (λ l. bytes_eq l w) (sym c.as_slice.ensures)
+    ∙ sym c.if-eq.ensures in
     absent c.args.places.now lib w c.requires (λ p f at_p here.
     let same : p ≡ place = cc in
     let one : Some f ≡ Some e = sym here ∙ ap (slice_get lib) same ∙ at in

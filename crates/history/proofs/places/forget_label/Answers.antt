@@ -8,6 +8,7 @@ use Rattle.history.proofs.places.forget_label.Goals as goal
 pub returns-then-is_none : goal.returns-then-is_none
 returns-then-is_none c =
     let none : c.find_label.result ≡ None = search rules in
-    let free : has c.args.entries.now c.args.label.now ≡ false = subst (FoundAt c.args.entries.now c.args.label.now) none c.find_label.ensures in
+    let free : has c.args.entries.now c.args.label.now ≡ false =
+    subst (FoundAt c.args.entries.now c.args.label.now) none c.find_label.ensures in
     index-forgot c.args.places.now c.remove.new.self c.args.entries.now c.args.label.now c.requires free
     (after_update c.args.label.now c.args.places.now c.remove.new.self None c.remove.ensures.updates)

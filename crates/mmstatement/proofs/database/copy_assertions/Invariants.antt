@@ -1,3 +1,4 @@
+-- What the loop of `copy_assertions` keeps.
 use Rattle.std.proofs.Common.{◌≡◌, take}
 use Rattle.mmstatement.proofs.database.copy_assertions.Given as goal
 

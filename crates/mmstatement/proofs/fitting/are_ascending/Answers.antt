@@ -1,3 +1,4 @@
+-- What is left to show of `are_ascending`.
 use Rattle.std.proofs.Common.{◌≡◌, true, sym, ◌∙◌, refl}
 use Rattle.mmstatement.proofs.Ascending.{by_next, ascending, nothing_ascends, first_two}
 use Rattle.mmstatement.proofs.fitting.are_ascending.Goals as goal

@@ -1,3 +1,4 @@
+-- What the loop of `are_ascending` keeps.
 use Rattle.std.proofs.Common.{length}
 use Rattle.std.specs.Prelude.{◌↔◌}
 use Rattle.mmstatement.proofs.Ascending.{AscendByNext}

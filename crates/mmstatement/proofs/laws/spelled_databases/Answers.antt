@@ -1,3 +1,4 @@
+-- What is left to show of `spelled_databases`.
 use Rattle.mmstatement.proofs.Declarable.{declarable, spelled_where_declarable}
 use Rattle.mmstatement.proofs.laws.spelled_databases.Goals as goal
 

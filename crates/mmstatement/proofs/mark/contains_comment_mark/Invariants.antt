@@ -1,3 +1,4 @@
+-- What the loop of `contains_comment_mark` keeps.
 use Rattle.std.proofs.Common.{◌≡◌, length}
 use Rattle.mmstatement.specs.Text.{has_comment_mark}
 use Rattle.mmstatement.proofs.mark.contains_comment_mark.Given as goal

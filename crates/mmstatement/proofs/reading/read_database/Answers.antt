@@ -1,7 +1,7 @@
-use Rattle.std.proofs.Common.{◌≡◌, ◌∙◌, Err, Ok, sym, subst, ap, inl}
+-- What is left to show of `read_database`.
+use Rattle.std.proofs.Common.{◌∙◌, Ok, subst, inl}
 use Rattle.mmstatement.specs.declared.fault.Stop.{Stop}
 use Rattle.mmstatement.specs.Faults.{reading}
-use Rattle.mmstatement.specs.Grammar.{Spells, database_of}
 use Rattle.mmstatement.specs.Views.{Fails}
 use Rattle.mmstatement.proofs.Outcomes.{reading_fault, reading_found, answered, no_fault, refused, same_fault}
 use Rattle.mmstatement.proofs.reading.read_database.Goals as goal

@@ -1,3 +1,4 @@
+-- What the loop of `copy_steps` keeps.
 use Rattle.std.proofs.Common.{◌≡◌, take}
 use Rattle.mmstatement.proofs.statement.copy_steps.Given as goal
 

@@ -1,3 +1,4 @@
+-- What is left to show of `set_float`.
 use Rattle.std.proofs.Common.{Some}
 use Rattle.mmstatement.specs.declared.symbols.Name.TheVariants.{Variable}
 use Rattle.mmstatement.proofs.Names.{after_update}

@@ -1,3 +1,4 @@
+-- What is left to show of `put_assertion`.
 use Rattle.mmstatement.proofs.Declarable.{statement_within}
 use Rattle.mmstatement.proofs.writing.put_assertion.Goals as goal
 

@@ -1,3 +1,4 @@
+-- What the loop of `put_axioms` keeps.
 use Rattle.std.proofs.Common.{◌≡◌, ◌++◌, take}
 use Rattle.std.specs.List.{flat_map}
 use Rattle.mmstatement.specs.Layout.{assertion_text}

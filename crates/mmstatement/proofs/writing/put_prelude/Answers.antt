@@ -1,3 +1,4 @@
+-- What is left to show of `put_prelude`.
 use Rattle.mmstatement.proofs.Declarable.{floats_within}
 use Rattle.mmstatement.proofs.writing.put_prelude.Goals as goal
 

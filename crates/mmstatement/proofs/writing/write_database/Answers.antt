@@ -1,3 +1,4 @@
+-- What is left to show of `write_database`.
 use Rattle.std.proofs.Common.{◌≡◌, List, ℕ, sym, subst, rules}
 use Rattle.mmstatement.specs.Grammar.{Spells}
 use Rattle.mmstatement.specs.Layout.{text_of}

@@ -19,7 +19,9 @@ abbrev Renamed : goal.After-push_note → Type 0
 Renamed c =
     let i = c.self.inside in
     let now = take i.entries.len (c.swap_label.new.entries ++ drop (length c.swap_label.new.entries) i.entries.items) in
-    IsDraft c.insert.new.self c.push_note.new.notes.items now × (undone c.push_note.new.notes.items now ≡ undone i.notes.items i.entries.items) × (now ≡ relabelled i.entries.items c.args.place c.args.label.now)
+    IsDraft c.insert.new.self c.push_note.new.notes.items now
+    × (undone c.push_note.new.notes.items now ≡ undone i.notes.items i.entries.items)
+    × (now ≡ relabelled i.entries.items c.args.place c.args.label.now)
 
 renamed : (c : goal.After-push_note) → Renamed c
 renamed c =
@@ -28,7 +30,8 @@ renamed c =
     let w = c.args.label.now in
     let p = c.args.place in
     let key : c.in_ok-key.key.items ≡ w = search rules in
-    let puts = subst (λ k. Puts i.places k p c.insert.new.self) key (after_update c.in_ok-key.key.items i.places c.insert.new.self (Some p) c.in_ok-insert.ensures.updates) in
+    let puts =
+    subst (λ k. Puts i.places k p c.insert.new.self) key (after_update c.in_ok-key.key.items i.places c.insert.new.self (Some p) c.in_ok-insert.ensures.updates) in
     let held : c.args.self.now.library ≡ lib = sym (ap (λ (d : Drafted). d.library) c.self.view_is) in
     let free : has lib w ≡ false = subst (λ l. has l w ≡ false) held c.requires.free in
     let lent : c.as_mut_slice.result.now ≡ lib = c.as_mut_slice.ensures.value in
@@ -42,7 +45,8 @@ renamed c =
     let note : Note = record { place = p; former = c.swap_label.new.label } in
     let noted : c.push_note.new.notes.items ≡ i.notes.items ++ note ∷ [] =
     c.push_note.ensures ∙ ap (λ ns. ns ++ note ∷ []) c.reserve.ensures.items in
-    let both = draft_relabelled i.places c.insert.new.self i.notes.items c.push_note.new.notes.items lib _ p w c.swap_label.new.label c.self.invariant taken free puts noted (whole ∙ given) in
+    let both =
+    draft_relabelled i.places c.insert.new.self i.notes.items c.push_note.new.notes.items lib _ p w c.swap_label.new.label c.self.invariant taken free puts noted (whole ∙ given) in
     (both.0, both.1, whole ∙ given)
 
 pub invariant_of-self-2 : goal.invariant_of-self-2

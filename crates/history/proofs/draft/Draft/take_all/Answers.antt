@@ -19,7 +19,8 @@ returns-in_err-reply-clause-taken c =
     let cs = c.args.commands.now in
     let command = c.index-commands-i.result in
     let left = from_place cs x.i command c.loop-i-test.true c.index-commands-i.is in
-    let so_far = x.invariant.so_far ∙ ap (λ ds. with_replies x.replies.items (apply_from x.self.setting (x.i + 1) x.self.library ds)) left in
+    let so_far =
+    x.invariant.so_far ∙ ap (λ ds. with_replies x.replies.items (apply_from x.self.setting (x.i + 1) x.self.library ds)) left in
     let p = err_from_is_err_and c.from_residual.result c.from_residual.ensures.1 in
     rw (p.1, p.2) (error_ends c.args.self.now x.self c.take.new.self c.take.new.self (x.i + 1) command (drop (x.i + 1) cs) cs x.replies.items c.in_err-reply.field-0.0 so_far c.in_err-reply.ensures.taken)
 
@@ -50,4 +51,5 @@ returns-clause-taken c =
     let x = c.loop-i in
     let cs = c.args.commands.now in
     x.invariant.so_far ∙ ap (λ ds. with_replies x.replies.items (apply_from x.self.setting (x.i + 1) x.self.library ds)) (drop_of_length-le cs c.loop-i-test.false)
-    ∙ taken_all x.self.setting (x.i + 1) x.self.library x.replies.items ∙ ap (λ (rs : List Reply). Ok (record { library = x.self.library; replies = rs })) (sym c.from_vec.ensures)
+    ∙ taken_all x.self.setting (x.i + 1) x.self.library x.replies.items
+    ∙ ap (λ (rs : List Reply). Ok (record { library = x.self.library; replies = rs })) (sym c.from_vec.ensures)

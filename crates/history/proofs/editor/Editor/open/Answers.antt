@@ -19,7 +19,8 @@ invariant_of-result c =
     let a = c.assertions-assertions in
     let within = c.if-assertions-slots.false in
     let room : length db.assertions ≤ c.args.slots = subst (λ xs. length xs ≤ c.args.slots) a.ensures.value within in
-    let opened : Drafted = record { setting = record { prelude = db.prelude; slots = c.args.slots }; start = opening db; library = opening db } in
+    let opened : Drafted =
+    record { setting = record { prelude = db.prelude; slots = c.args.slots }; start = opening db; library = opening db } in
     let prelude : c.in_ok-prelude.prelude ≡ db.prelude = c.in_ok-prelude.ensures ∙ c.prelude.ensures in
     let same : c.in_ok-draft.draft ≡ opened =
     c.in_ok-draft.ensures

@@ -1,3 +1,4 @@
+-- What is left to show of `into_database`.
 use Rattle.std.proofs.Common.{sym, subst}
 use Rattle.mmstatement.specs.Rows.{Known}
 use Rattle.mmstatement.specs.Grammar.{database_of}

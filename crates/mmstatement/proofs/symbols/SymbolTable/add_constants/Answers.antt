@@ -1,4 +1,5 @@
-use Rattle.std.proofs.Common.{◌≡◌, ◌<◌, ◌∙◌, [], length, ap, arith}
+-- What is left to show of `add_constants`.
+use Rattle.std.proofs.Common.{◌≡◌, ◌<◌, ◌∙◌, [], length, arith}
 use Rattle.std.proofs.lemmas.List.{length-take-le}
 use Rattle.mmstatement.specs.Layout.{word_at}
 use Rattle.mmstatement.proofs.Copies.{item_at, constant_is_new, few_constants}

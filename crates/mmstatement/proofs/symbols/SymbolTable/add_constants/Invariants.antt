@@ -1,3 +1,4 @@
+-- What the loop of `add_constants` keeps.
 use Rattle.std.proofs.Common.{◌≡◌}
 use Rattle.mmstatement.proofs.Copies.{constants_before}
 use Rattle.mmstatement.proofs.symbols.SymbolTable.add_constants.Given as goal

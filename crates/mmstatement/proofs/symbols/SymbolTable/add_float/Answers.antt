@@ -1,4 +1,5 @@
-use Rattle.std.proofs.Common.{◌≡◌, length, ap, sym, subst, None, Some, arith, rules}
+-- What is left to show of `add_float`.
+use Rattle.std.proofs.Common.{◌≡◌, length, sym, subst, None, Some, rules}
 use Rattle.mmstatement.specs.declared.symbols.Name.TheVariants.{Variable}
 use Rattle.mmstatement.specs.declared.statement.Float.{Float}
 use Rattle.mmstatement.specs.Tables.{Tables, meaning}

@@ -1,7 +1,7 @@
-use Rattle.std.proofs.Common.{◌≡◌, ◌<◌, ◌∙◌, [], length, ap, sym, subst, arith}
+-- What is left to show of `add_floats`.
+use Rattle.std.proofs.Common.{◌≡◌, ◌<◌, ◌∙◌, [], length, arith}
 use Rattle.std.proofs.lemmas.List.{length-take-le}
-use Rattle.mmstatement.specs.Grammar.{Word}
-use Rattle.mmstatement.specs.Layout.{word_at, float_at, no_float}
+use Rattle.mmstatement.specs.Layout.{word_at, no_float}
 use Rattle.mmstatement.proofs.Copies.{item_at, float_label_is_new, float_variable_is_free, float_variable_within, few_floats}
 use Rattle.mmstatement.proofs.symbols.SymbolTable.add_floats.Goals as goal
 

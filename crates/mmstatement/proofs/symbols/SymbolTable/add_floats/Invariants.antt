@@ -1,3 +1,4 @@
+-- What the loop of `add_floats` keeps.
 use Rattle.std.proofs.Common.{◌≡◌}
 use Rattle.mmstatement.proofs.Copies.{floats_before}
 use Rattle.mmstatement.proofs.symbols.SymbolTable.add_floats.Given as goal

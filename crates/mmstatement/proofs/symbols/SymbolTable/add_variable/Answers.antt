@@ -1,4 +1,5 @@
-use Rattle.std.proofs.Common.{◌≡◌, length, ap, sym, subst, None, arith, rules}
+-- What is left to show of `add_variable`.
+use Rattle.std.proofs.Common.{◌≡◌, length, sym, subst, None, rules}
 use Rattle.mmstatement.specs.Tables.{Tables, meaning}
 use Rattle.mmstatement.proofs.Names.{indexed-variable}
 use Rattle.mmstatement.proofs.symbols.SymbolTable.add_variable.Goals as goal

@@ -1,3 +1,4 @@
+-- What the loop of `add_variables` keeps.
 use Rattle.std.proofs.Common.{◌≡◌}
 use Rattle.mmstatement.proofs.Copies.{variables_before}
 use Rattle.mmstatement.proofs.symbols.SymbolTable.add_variables.Given as goal

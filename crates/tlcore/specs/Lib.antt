@@ -1,0 +1,9 @@
+pub mod History
+pub mod Seats
+pub mod Machine
+pub mod Schedules
+pub mod Opacity
+pub mod Conflicts
+pub mod Invariant
+pub mod Laws
+pub mod Steps

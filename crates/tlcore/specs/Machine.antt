@@ -1,0 +1,146 @@
+-- The machine of TL2 as plain data: which event is lawful where, and what follows.
+--
+-- One event is one load, store, compare-exchange or fetch-and-add of one word, by one seat. The words are the global version
+-- clock and for each cell a versioned lock word and a value word (TL2, section 2). All words open at 0 but the value words.
+use Rattle.std.specs.Prelude.{ℕ, suc, ◌*◌, Bool, true, false, not, ◌&&◌, ◌||◌, if◌then◌else◌, ◌==◌, Option, Some, None, List, [], ◌∷◌, ◌++◌, slice_get, slice_set}
+use Rattle.tlcore.specs.History.{Open, Void, Done, Entry, wv, settle}
+use Rattle.tlcore.specs.Seats.{Held, Place, Idle, Reading, Looked, Loaded, Taking, Checking, Storing, Failing, Voiding, Seat, passes, find_read, reads_of, find_held, is_nil, all_below, without, stored, writes_of, all_settled, is_due, is_next}
+pub use Rattle.tlcore.specs.declared.cells.Cell.{Cell}
+pub use Rattle.tlcore.specs.declared.actions.Action.{Action}
+pub use Rattle.tlcore.specs.declared.actions.Action.TheVariants.{Begin, Look, Load, Relook, Take, Draw, Check, Store, Release}
+
+-- the words, the seats and the history
+pub record World : Type 0 where
+  pub clock : ℕ
+  pub cells : List Cell
+  pub seats : List Seat
+  pub history : List Entry
+
+-- the seat s is t now
+abbrev pub with_seat : World → ℕ → Seat → World
+with_seat w s t = record w { seats = slice_set w.seats s t }
+
+-- the seat goes on to the place p
+abbrev pub placed : Seat → Place → Seat
+placed t p = record t { place = p }
+
+-- the seat met a conflict, and goes on to the place p
+abbrev pub conflict : Seat → Place → Seat
+conflict t p = record t { place = p; conflicted = true }
+
+-- ---- what follows each kind of event: t is the seat s of the world w, x the cell c
+
+-- Begin (section 2.2, step 1): the clock is sampled as rv
+abbrev pub begun : World → Seat → Seat
+begun w t = record { place = Reading; rv = w.clock; reads = []; held = []; conflicted = false }
+
+-- Look (step 2): the lock word is to be free and of version at most rv
+abbrev pub look : World → ℕ → Seat → ℕ → Cell → World
+look w s t c x = with_seat w s (if passes x.lock t.rv then placed t (Looked c x.lock) else conflict t Idle)
+
+-- Load (step 2): the value word
+abbrev pub load : World → ℕ → Seat → ℕ → ℕ → Cell → World
+load w s t c word x = with_seat w s (placed t (Loaded c word x.value))
+
+-- Relook (step 2, post-validation): the lock word is to be unchanged
+abbrev pub relook : World → ℕ → Seat → ℕ → ℕ → ℕ → Cell → World
+relook w s t c word value x =
+    with_seat w s
+    (if x.lock == word
+    then record t { place = Reading; reads = record { cell = c; word = word; value = value } ∷ t.reads }
+    else conflict t Idle)
+
+-- the cell is locked and held
+abbrev pub taken : World → ℕ → Seat → ℕ → ℕ → ℕ → Cell → World
+taken w s t c value word x =
+    record w {
+      cells = slice_set w.cells c (record x { lock = suc word });
+      seats =
+          slice_set w.seats s (record t { place = Taking; held = record { cell = c; word = word; value = value; stored = false } ∷ t.held });
+    }
+
+-- Take (step 3): one try to lock the cell, from the word that its read has seen; the value is kept aside
+abbrev pub take_cell : World → ℕ → Seat → ℕ → ℕ → ℕ → Cell → World
+take_cell w s t c value word x =
+    if x.lock == word
+    then taken w s t c value word x
+    else with_seat w s (conflict t (if is_nil t.held then Idle else Failing))
+
+-- Draw (step 4): the clock is advanced, and its new value is the number of the run's entry
+abbrev pub drawn : World → ℕ → Seat → World
+drawn w s t =
+    record w {
+      clock = suc w.clock;
+      seats = slice_set w.seats s (placed t (Checking w.clock 0));
+      history = w.history ++ record { status = Open; reads = reads_of t.reads; writes = writes_of t.held } ∷ [];
+    }
+
+-- Check (step 5): the lock word of a cell that was read is to be free and of version at most rv still
+abbrev pub check : World → ℕ → Seat → ℕ → ℕ → Cell → World
+check w s t i c x = with_seat w s (if passes x.lock t.rv then placed t (Checking i (suc c)) else conflict t (Voiding i))
+
+-- Store (step 6): the value word; the first store makes the entry Done
+abbrev pub store : World → ℕ → Seat → ℕ → ℕ → Held → Cell → World
+store w s t i c k x =
+    record w {
+      cells = slice_set w.cells c (record x { value = k.value });
+      seats = slice_set w.seats s (record t { place = Storing i; held = stored c t.held });
+      history = settle w.history i Done;
+    }
+
+-- Release (step 6): the lock word is set, and the run is over where it holds nothing more
+abbrev pub release : World → ℕ → Seat → ℕ → ℕ → Cell → List Entry → World
+release w s t c word x history =
+    record w {
+      cells = slice_set w.cells c (record x { lock = word });
+      seats = slice_set w.seats s (record t { place = (if is_nil (without c t.held) then Idle else t.place); held = without c t.held });
+      history = history;
+    }
+
+-- ---- which event is lawful where
+
+-- nothing follows where x isn't there
+abbrev pub given : {A B : Type 0} → Option A → (A → Option B) → Option B
+given None f = None
+given (Some x) f = f x
+
+-- nothing follows where the test fails
+abbrev pub only_if : {B : Type 0} → Bool → Option B → Option B
+only_if true x = x
+only_if false x = None
+
+-- the table of steps: the action at the place where the seat stands. An action that has no row there isn't lawful
+abbrev pub act : World → ℕ → Seat → Place → Action → Option World
+act w s t Idle Begin = Some (with_seat w s (begun w t))
+act w s t Reading Begin = Some (with_seat w s (begun w t))
+act w s t Reading (Look c) = given (slice_get w.cells c) (λ x. Some (look w s t c x))
+act w s t (Looked d word) (Load c) = only_if (d == c) (given (slice_get w.cells c) (λ x. Some (load w s t c word x)))
+act w s t (Loaded d word value) (Relook c) =
+    only_if (d == c) (given (slice_get w.cells c) (λ x. Some (relook w s t c word value x)))
+act w s t Reading (Take c value) =
+    given (find_read c t.reads) (λ r. given (slice_get w.cells c) (λ x. Some (take_cell w s t c value r.word x)))
+act w s t Taking (Take c value) =
+    only_if (all_below c t.held)
+    (given (find_read c t.reads) (λ r. given (slice_get w.cells c) (λ x. Some (take_cell w s t c value r.word x))))
+act w s t Taking Draw = Some (drawn w s t)
+act w s t (Checking i upto) (Check c) =
+    only_if (not (is_next t i) && is_due t upto c)
+    (given (find_read c t.reads) (λ r. given (slice_get w.cells c) (λ x. Some (check w s t i c x))))
+act w s t (Checking i upto) (Store c) =
+    only_if (is_next t i || all_settled t.held upto t.reads)
+    (given (find_held c t.held) (λ k. given (slice_get w.cells c) (λ x. Some (store w s t i c k x))))
+act w s t (Storing i) (Store c) =
+    given (find_held c t.held) (λ k. given (slice_get w.cells c) (λ x. Some (store w s t i c k x)))
+act w s t (Storing i) (Release c) =
+    given (find_held c t.held)
+    (λ k. only_if k.stored (given (slice_get w.cells c) (λ x. Some (release w s t c (2 * wv i) x w.history))))
+act w s t Failing (Release c) =
+    given (find_held c t.held) (λ k. given (slice_get w.cells c) (λ x. Some (release w s t c k.word x w.history)))
+act w s t (Voiding i) (Release c) =
+    given (find_held c t.held)
+    (λ k. given (slice_get w.cells c) (λ x. Some (release w s t c k.word x (settle w.history i Void))))
+act w s t _ _ = None
+
+-- the world after the event of the seat s, or None where it isn't lawful
+abbrev pub next : World → ℕ → Action → Option World
+next w s a = given (slice_get w.seats s) (λ t. act w s t t.place a)

@@ -1,0 +1,100 @@
+//! The events of a run that reads: begin, look, load, relook.
+//!
+//! Each function answers whether the event is lawful where the seat stands; where it isn't, nothing changes.
+#![tactic(auto)]
+
+ghost use Rattle.std.specs.Prelude.{List, IfOk};
+ghost use Rattle.tlcore.specs.History.{Entry as EntryValue};
+ghost use Rattle.tlcore.specs.Machine.{Begin, Look, Load, Relook};
+ghost use Rattle.tlcore.specs.Steps.{Acts};
+
+use crate::cells::Cell;
+use crate::entries::Entry;
+use crate::seats::{Place, Read, Seat};
+use crate::sets::passes;
+use std::alloc::{AllocError, Global};
+
+/// Samples the clock, which is the length of the history.
+pub fn begin(alloc: Global, cells: &[Cell], seat: &mut Seat, history: &[Entry]) -> bool
+    ensures { Acts cells.now seat.old history.now Begin result cells.now seat.new history.now }
+{
+    match seat.place {
+        Place::Idle | Place::Reading => {
+            seat.place = Place::Reading;
+            seat.rv = history.len() as u64;
+            seat.reads = Vec::new(alloc);
+            seat.held = Vec::new(alloc);
+            seat.conflicted = false;
+            true
+        }
+        _ => false,
+    }
+}
+
+/// The first look at the lock word.
+pub fn look(cells: &[Cell], seat: &mut Seat, cell: usize) -> bool
+    ensures { (h : List EntryValue) → Acts cells.now seat.old h (Look cell) result cells.now seat.new h }
+{
+    match seat.place {
+        Place::Reading => {
+            if cell >= cells.len() {
+                return false;
+            }
+            let word = cells[cell].lock;
+            if passes(word, seat.rv) {
+                seat.place = Place::Looked { cell, word };
+            } else {
+                seat.place = Place::Idle;
+                seat.conflicted = true;
+            }
+            true
+        }
+        _ => false,
+    }
+}
+
+/// The load of the value word.
+pub fn load(cells: &[Cell], seat: &mut Seat, cell: usize) -> bool
+    ensures { (h : List EntryValue) → Acts cells.now seat.old h (Load cell) result cells.now seat.new h }
+{
+    match seat.place {
+        Place::Looked { cell: looked, word } => {
+            if looked != cell || cell >= cells.len() {
+                return false;
+            }
+            seat.place = Place::Loaded {
+                cell,
+                word,
+                value: cells[cell].value,
+            };
+            true
+        }
+        _ => false,
+    }
+}
+
+/// The second look at the lock word: the cell is read where the word is the same.
+pub fn relook(cells: &[Cell], seat: &mut Seat, cell: usize) -> Result<bool, AllocError>
+    ensures { IfOk result (λ b. (h : List EntryValue) → Acts cells.now seat.old h (Relook cell) b cells.now seat.new h) }
+{
+    match seat.place {
+        Place::Loaded {
+            cell: loaded,
+            word,
+            value,
+        } => {
+            if loaded != cell || cell >= cells.len() {
+                return Ok(false);
+            }
+            if cells[cell].lock == word {
+                seat.reads.insert(0, Read { cell, word, value })?;
+                seat.place = Place::Reading;
+            } else {
+                seat.place = Place::Idle;
+                seat.conflicted = true;
+            }
+            Ok(true)
+        }
+        _ => Ok(false),
+    }
+}
