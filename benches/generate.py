@@ -2,6 +2,10 @@
 """Makes inputs for the benches: large well-formed databases, and scripts.
 
     generate.py db FILE --megabytes N [--seed S]     a database of about N MB: many symbols, and axioms of many symbols
+    generate.py blocks FILE --megabytes N            the same size of axioms in blocks, each with hypotheses and $d
+    generate.py hypotheses FILE --count N            one axiom with N hypotheses
+    generate.py pairs FILE --count N                 one axiom with one $d of N variables
+    generate.py proof FILE --count N                 one theorem with a proof of N steps
     generate.py axioms FILE --count N                a database of N short axioms, labels a0 ..
     generate.py renames FILE --count N --axioms M    N transactions, each renaming one of M axioms, again and again
     generate.py real DB FILE FILE --count N          two scripts for a database: the first renames N of its axioms, the second
@@ -49,6 +53,58 @@ def make_database(path, size, seed):
             write_tokens(file, [f"a{i}", "$a", "|-", *words, "$."])
 
 
+def make_blocks(path, size, seed):
+    """About `size` bytes: 4,000 axioms, each in a block with 4 hypotheses and a $d of 6 variables."""
+    chance = random.Random(seed)
+    constants = ["wff", "|-"] + [f"c{i}" for i in range(500)]
+    variables = [f"v{i}" for i in range(500)]
+    with open(path, "w", encoding="ascii") as file:
+        write_tokens(file, ["$c", *constants, "$."])
+        write_tokens(file, ["$v", *variables, "$."])
+        for i, variable in enumerate(variables):
+            file.write(f"f{i} $f wff {variable} $.\n")
+        symbols = constants + variables
+        axioms = 4_000
+        mean = sum(len(symbol) + 1 for symbol in symbols) / len(symbols)
+        each = max(2, int((size / axioms - 120) / mean / 5))
+        for i in range(axioms):
+            file.write("${\n")
+            write_tokens(file, ["$d", *chance.sample(variables, 6), "$."])
+            for k in range(4):
+                words = [chance.choice(symbols) for _ in range(each)]
+                write_tokens(file, [f"h{i}-{k}", "$e", "|-", *words, "$."])
+            words = [chance.choice(symbols) for _ in range(each)]
+            write_tokens(file, [f"a{i}", "$a", "|-", *words, "$."])
+            file.write("$}\n")
+
+
+def make_hypotheses(path, count):
+    with open(path, "w", encoding="ascii") as file:
+        file.write("$c wff |- $.\n$v p $.\nwp $f wff p $.\n${\n")
+        for i in range(count):
+            file.write(f"h{i} $e |- p $.\n")
+        file.write("a $a |- p $.\n$}\n")
+
+
+def make_pairs(path, count):
+    with open(path, "w", encoding="ascii") as file:
+        file.write("$c wff |- $.\n")
+        variables = [f"v{i}" for i in range(count)]
+        write_tokens(file, ["$v", *variables, "$."])
+        for i, variable in enumerate(variables):
+            file.write(f"f{i} $f wff {variable} $.\n")
+        file.write("${\n")
+        write_tokens(file, ["$d", *variables, "$."])
+        file.write("a $a |- $.\n$}\n")
+
+
+def make_proof(path, count):
+    """The first step cites an axiom without hypotheses, each other a rule with one."""
+    with open(path, "w", encoding="ascii") as file:
+        file.write("$c |- $.\nax $a |- $.\n${\nh $e |- $.\nmp $a |- $.\n$}\n")
+        write_tokens(file, ["th", "$p", "|-", "$=", "ax", *["mp"] * (count - 1), "$."])
+
+
 def make_axioms(path, count):
     with open(path, "w", encoding="ascii") as file:
         file.write("$c wff -> ( ) $.\n$v p q $.\nwp $f wff p $.\nwq $f wff q $.\n")
@@ -86,6 +142,14 @@ def main():
     db.add_argument("file")
     db.add_argument("--megabytes", type=float, required=True)
     db.add_argument("--seed", type=int, default=1)
+    blocks = kinds.add_parser("blocks")
+    blocks.add_argument("file")
+    blocks.add_argument("--megabytes", type=float, required=True)
+    blocks.add_argument("--seed", type=int, default=1)
+    for kind in ("hypotheses", "pairs", "proof"):
+        single = kinds.add_parser(kind)
+        single.add_argument("file")
+        single.add_argument("--count", type=int, required=True)
     axioms = kinds.add_parser("axioms")
     axioms.add_argument("file")
     axioms.add_argument("--count", type=int, required=True)
@@ -101,6 +165,14 @@ def main():
     options = parser.parse_args()
     if options.kind == "db":
         make_database(options.file, int(options.megabytes * 1_000_000), options.seed)
+    elif options.kind == "blocks":
+        make_blocks(options.file, int(options.megabytes * 1_000_000), options.seed)
+    elif options.kind == "hypotheses":
+        make_hypotheses(options.file, options.count)
+    elif options.kind == "pairs":
+        make_pairs(options.file, options.count)
+    elif options.kind == "proof":
+        make_proof(options.file, options.count)
     elif options.kind == "axioms":
         make_axioms(options.file, options.count)
     elif options.kind == "renames":

@@ -2,12 +2,11 @@ pub mod Counts
 pub mod Labels
 pub mod Places
 pub mod Showing
+pub mod Theorems
 pub mod Opening
 pub mod Renaming
 pub mod Editing
 pub mod Orders
 pub mod ExportOrder
-pub mod Readings
-pub mod CommentLaws
 pub mod ScriptWords
 pub mod ScriptLaws

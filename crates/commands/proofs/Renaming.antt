@@ -8,9 +8,10 @@ use Rattle.std.proofs.lemmas.List.{length-map, length-set, get_or-map, get_or-se
 use Rattle.std.proofs.lemmas.List.Elements.{All-map, All-weaker}
 use Rattle.std.proofs.lemmas.List.Folds.{list_any_none}
 use Rattle.std.proofs.lemmas.Option.{slice_get_within, get_or_from_slice_get}
+use Rattle.mmstatement.specs.declared.statement.Kind.TheVariants.{Axiom}
 use Rattle.mmstatement.specs.declared.statement.Assertion.{Assertion}
 use Rattle.mmstatement.specs.Tables.{Tables}
-use Rattle.mmstatement.specs.Assertions.{is_lawful_label, Distinct, Fits, IsOutermostAxiom}
+use Rattle.mmstatement.specs.Assertions.{is_lawful_label, Distinct, Fits}
 use Rattle.mmstatement.proofs.Names.{same_bytes, bytes_eq-same}
 use Rattle.commands.specs.declared.library.Ranked.{Ranked}
 use Rattle.commands.specs.Library.{Setting, IsLibrary, Verifies, label_of}
@@ -23,7 +24,7 @@ use Rattle.commands.proofs.Showing.{InRange}
 -- ---- no proof has steps
 
 pub no_steps : (s : Setting) (lib : List Ranked) → Verifies s lib → All (λ e. e.assertion.proof ≡ []) lib
-no_steps s lib v = λ i d lt. let a = v.axioms i d lt in a.fits.no_axiom_proof a.is_axiom
+no_steps s lib v = λ i d lt. (v.fit i d lt).no_axiom_proof (v.axioms i d lt)
 
 -- so none cites a label
 pub citers_none : (s : Setting) (lib : List Ranked) (label : List ℕ) → Verifies s lib → citers lib label ≡ 0
@@ -99,14 +100,6 @@ fits_renamed t old new a f = record {
   few_steps = subst (λ n. n ≤ 16384) (sym (length-map a.proof (step_renamed old new))) f.few_steps;
 }
 
-axiom_renamed : (t : Tables) (old new : List ℕ) (a : Assertion) → IsOutermostAxiom t a → IsOutermostAxiom t (renamed old new a)
-axiom_renamed t old new a x = record {
-  fits = fits_renamed t old new a x.fits;
-  is_axiom = x.is_axiom;
-  no_pairs = x.no_pairs;
-  no_hyps = x.no_hyps;
-}
-
 labels-rename : (old new : List ℕ) (lib : List Ranked) → map label_of (rename old new lib) ≡ map (replacing old new) (map label_of lib)
 labels-rename old new [] = refl
 labels-rename old new (e ∷ lib) = ap (λ ls. replacing old new (label_of e) ∷ ls) (labels-rename old new lib)
@@ -131,10 +124,11 @@ pub rename_verifies : (s : Setting) (lib : List Ranked) (old new : List ℕ) →
     → has lib new ≡ false → Verifies s (rename old new lib)
 rename_verifies s lib old new v lawful free =
     let t = s.prelude in
-    let Axiom = λ (e : Ranked). IsOutermostAxiom t e.assertion in
+    let Good = λ (e : Ranked). Fits t e.assertion in
     let f = renamed_entry old new in
     record {
       setting = v.setting;
       library = library_renamed s lib old new v.library lawful free;
-      axioms = All-map Axiom f lib (All-weaker Axiom (λ e. Axiom (f e)) (λ e. axiom_renamed t old new e.assertion) lib v.axioms);
+      fit = All-map Good f lib (All-weaker Good (λ e. Good (f e)) (λ e. fits_renamed t old new e.assertion) lib v.fit);
+      axioms = All-map (λ e. e.assertion.kind ≡ Axiom) f lib v.axioms;
     }

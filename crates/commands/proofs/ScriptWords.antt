@@ -9,11 +9,11 @@ use Rattle.mmstatement.specs.declared.fault.FaultKind.TheVariants.{BadToken}
 use Rattle.mmstatement.specs.declared.fault.TextFault.{TextFault}
 use Rattle.mmstatement.specs.Words.{has_dollar}
 use Rattle.mmstatement.specs.Text.{Token}
-use Rattle.mmstatement.specs.Grammar.{Word}
+use Rattle.mmstatement.specs.Words.{Word}
 use Rattle.commands.specs.declared.command.Command.{Command}
 use Rattle.commands.specs.declared.command.Command.TheVariants.{Rename, Show}
-use Rattle.commands.specs.Comments.{words_of}
-use Rattle.commands.specs.Languages.{fault}
+use Rattle.mmstatement.specs.Comments.{words_of}
+use Rattle.mmstatement.specs.Languages.{fault}
 use Rattle.commands.specs.Scripts.{command_spelling, spelling, HasPlainLabels, IsTransaction}
 use Rattle.commands.specs.ScriptFaults.{
   Place,
@@ -33,7 +33,7 @@ use Rattle.commands.specs.ScriptFaults.{
   in_place,
   script_language,
 }
-use Rattle.commands.proofs.CommentLaws.{walk, walk_ends, walk_none, walk_step, walk_cons, same_word, IsOrdinary, plain_is_ordinary}
+use Rattle.mmstatement.proofs.CommentLaws.{walk, walk_ends, walk_none, walk_step, walk_cons, same_word, IsOrdinary, plain_is_ordinary}
 
 abbrev Script : Type 0
 Script = List (List Command)

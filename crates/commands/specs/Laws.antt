@@ -6,13 +6,13 @@ use Rattle.mmstatement.specs.Layout.{HasSpelling}
 use Rattle.mmstatement.specs.Assertions.{Distinct}
 use Rattle.commands.specs.declared.library.Ranked.{Ranked}
 use Rattle.commands.specs.declared.command.Command.{Command}
-use Rattle.commands.specs.Library.{Setting, Verifies, label_of, setting_of, opening, ShowsInOrder, Listed, shown_database}
+use Rattle.commands.specs.Library.{Setting, Verifies, label_of, setting_of, opening, EachFollows, ShowsInOrder, Listed, shown_database}
 use Rattle.commands.specs.Edits.{Edited, edit}
 use Rattle.commands.specs.Transactions.{apply, library_of}
 
--- the opening library of what some text declares verifies
+-- the opening library of what some text declares verifies, where each assertion follows from the earlier ones
 abbrev pub OpeningsVerify : Type 0
-OpeningsVerify = (db : Contents) → HasSpelling db → Verifies (setting_of db) (opening db)
+OpeningsVerify = (db : Contents) → HasSpelling db → EachFollows db → Verifies (setting_of db) (opening db)
 
 -- a command that is not refused leaves a library that verifies
 abbrev pub EditsVerify : Type 0

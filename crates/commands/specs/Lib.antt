@@ -3,8 +3,6 @@ pub mod Library
 pub mod Edits
 pub mod Transactions
 pub mod Laws
-pub mod Comments
-pub mod Languages
 pub mod Scripts
 pub mod ScriptFaults
 pub mod ScriptViews

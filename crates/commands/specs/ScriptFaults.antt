@@ -5,10 +5,10 @@ use Rattle.mmstatement.specs.declared.fault.FaultKind.TheVariants.{BadToken}
 use Rattle.mmstatement.specs.declared.fault.TextFault.{TextFault}
 use Rattle.mmstatement.specs.Text.{Token}
 use Rattle.mmstatement.specs.Words.{has_dollar}
-use Rattle.mmstatement.specs.Grammar.{Word}
+use Rattle.mmstatement.specs.Words.{Word}
 use Rattle.commands.specs.declared.command.Command.{Command}
 use Rattle.commands.specs.declared.command.Command.TheVariants.{Rename, Show}
-use Rattle.commands.specs.Languages.{Language, fault, Faulty}
+use Rattle.mmstatement.specs.Languages.{Language, fault, Faulty}
 
 -- a place in the grammar: between transactions; behind begin; behind rename, and the old label; behind show; behind a command
 pub data Place : Type 0 where

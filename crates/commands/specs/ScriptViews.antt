@@ -7,7 +7,7 @@ use Rattle.commands.specs.declared.script.Progress.{Progress as CodeProgress}
 use Rattle.commands.specs.declared.script.State.{State as CodeState}
 use Rattle.commands.specs.declared.script.Stop.{Stop}
 use Rattle.commands.specs.declared.script.Stop.TheVariants as stop
-use Rattle.commands.specs.Languages.{State}
+use Rattle.mmstatement.specs.Languages.{State}
 use Rattle.commands.specs.ScriptFaults.{Place, outermost, at_command, at_old_label, at_new_label, at_shown_label, at_commit, Progress}
 
 -- a place of the code

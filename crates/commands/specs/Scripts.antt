@@ -5,10 +5,10 @@ use Rattle.mmstatement.specs.declared.fault.TextFault.{TextFault}
 use Rattle.mmstatement.specs.declared.fault.FaultKind.TheVariants.{NoMemory}
 use Rattle.mmstatement.specs.Text.{tokens, IsClean}
 use Rattle.mmstatement.specs.Words.{has_dollar}
-use Rattle.mmstatement.specs.Grammar.{Word}
+use Rattle.mmstatement.specs.Words.{Word}
 use Rattle.commands.specs.declared.command.Command.{Command}
 use Rattle.commands.specs.declared.command.Command.TheVariants.{Rename, Show}
-use Rattle.commands.specs.Comments.{words_of, without_comments}
+use Rattle.mmstatement.specs.Comments.{words_of, without_comments}
 
 -- command = rename LABEL LABEL | show LABEL
 abbrev pub command_spelling : Command → List Word

@@ -2,8 +2,8 @@
 
 ghost use Rattle.commands.specs.Laws.{OpeningsVerify, EditsVerify, TransactionsVerify, LibrariesAreSpelled, ExportOrderIsOne};
 
-/// The opening library of every database verifies: its ranks rise by 100 from 100 on, and its labels are lawful and
-/// differ, since some text declares them.
+/// The opening library of every database in which each assertion follows from the earlier ones verifies: its ranks rise by 100 from
+/// 100 on, and its labels are lawful and differ, since some text declares them.
 pub fn openings_verify()
     ensures { OpeningsVerify }
 {}

@@ -2,6 +2,7 @@
 
 ghost use Rattle.std.specs.Prelude.{◌≡◌, map, IfOk};
 
+use crate::axioms::first_theorem;
 use crate::command::{Command, Reply};
 use crate::library::{PlainLibrary, Ranked};
 use mmstatement::{Database, Label, Sequence, read_database};
@@ -33,8 +34,8 @@ fn ranked(alloc: Global, db: &Database, rank: u32) -> Result<Vec<Ranked>, AllocE
 /// The library of PAIR, all at rank 7.
 fn pair(alloc: Global, keys: RandomState) -> Result<PlainLibrary, Fail> {
     let db = read_database(alloc, keys, PAIR)?;
-    if db.assertions().len() != 2 {
-        return Err(Fail::from("PAIR has two assertions"));
+    if db.assertions().len() != 2 || first_theorem(&db).is_some() {
+        return Err(Fail::from("PAIR has two axioms"));
     }
     let entries = ranked(alloc, &db, 7)?;
     let prelude = db.prelude().copy(alloc)?;

@@ -1,7 +1,7 @@
 //! Exports to writers that take few bytes at a call, fail, or take none.
 
 use crate::{ExportError, export};
-use commands::{PlainLibrary, Ranked};
+use commands::{PlainLibrary, Ranked, first_theorem};
 use mmstatement::read_database;
 use std::alloc::Global;
 use std::hash::RandomState;
@@ -53,8 +53,8 @@ impl Write for Slow {
 fn mini(alloc: Global, keys: RandomState) -> Result<PlainLibrary, Fail> {
     let db = read_database(alloc, keys, MINI).or(Err("MINI is not read"))?;
     let assertions = db.assertions();
-    if assertions.len() != 1 {
-        return Err(Fail::from("MINI has one assertion"));
+    if assertions.len() != 1 || first_theorem(&db).is_some() {
+        return Err(Fail::from("MINI has one axiom"));
     }
     let mut entries = Vec::new(alloc);
     let assertion = assertions[0].copy(alloc)?;

@@ -5,8 +5,8 @@ use Rattle.std.proofs.lemmas.Option.{slice_get-get_or}
 use Rattle.commands.specs.declared.library.Ranked.{Ranked}
 use Rattle.commands.specs.Library.{Setting, Verifies}
 use Rattle.commands.proofs.Editing.{transaction_verifies}
-use Rattle.history.specs.Histories.{Entry, open_entry, void_entry, done_entry, after_entry, after_all, after, Grows}
-use Rattle.history.specs.Laws.{FrontsVerify, GrowthIsReflexive, GrowthIsTransitive, IsSettledBefore, SettledFrontsStay}
+use Rattle.history.specs.Histories.{Entry, open_entry, void_entry, done_entry, after_entry, after_all}
+use Rattle.history.specs.Laws.{FrontsVerify, GrowthIsReflexive, GrowthIsTransitive, SettledFrontsStay}
 
 -- ---- it verifies
 

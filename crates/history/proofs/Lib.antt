@@ -1,5 +1,6 @@
 pub mod Relabelling
 pub mod Indexes
+pub mod Keys
 pub mod Undoing
 pub mod Taking
 pub mod Commands

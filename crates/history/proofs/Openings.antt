@@ -1,4 +1,4 @@
--- The opening library: its entries one by one, and that it verifies over any number of slots that holds it.
+-- The opening library: its entries one by one.
 use Rattle.std.proofs.Common.{◌≡◌, ℕ, zero, suc, ◌+◌, ◌*◌, ◌<◌, ◌≤◌, false, List, [], ◌∷◌, ◌++◌, Some, inl, inr, length, get_or, take, map}
 use Rattle.std.proofs.Common.{refl, sym, ap, subst, ◌∙◌, arith}
 use Rattle.std.specs.Prelude.{slice_get}
@@ -8,13 +8,10 @@ use Rattle.std.proofs.lemmas.List.{take_more}
 use Rattle.std.proofs.lemmas.Option.{slice_get_within, get_or_from_slice_get}
 use Rattle.mmstatement.proofs.Names.{same_bytes}
 use Rattle.mmstatement.specs.declared.statement.Assertion.{Assertion}
-use Rattle.mmstatement.specs.Tables.{Contents}
-use Rattle.mmstatement.specs.Layout.{HasSpelling}
 use Rattle.mmstatement.specs.Assertions.{Distinct}
 use Rattle.commands.specs.declared.library.Ranked.{Ranked}
-use Rattle.commands.specs.Library.{Verifies, label_of, ranked_from, opening}
+use Rattle.commands.specs.Library.{label_of, ranked_from}
 use Rattle.commands.specs.Edits.{has}
-use Rattle.commands.proofs.Opening.{opening_verifies}
 use Rattle.commands.proofs.Places.{labels_apart}
 use Rattle.history.proofs.Relabelling.{has-none}
 
@@ -69,15 +66,3 @@ front_free lib i e apart at =
           absurd (labels_apart lib apart i p e (slice_get_within lib i e at) (slice_get_within lib p f here.1) (λ (z : p ≡ i). omega arith) same)
       | inr n ↦ n
     ])
-
--- it verifies over every number of slots that has room for it
-pub opened_verifies : (db : Contents) (slots : ℕ) → HasSpelling db → 1 ≤ slots → slots ≤ 4096 → length db.assertions ≤ slots
-    → Verifies (record { prelude = db.prelude; slots = slots }) (opening db)
-opened_verifies db slots spelled some few room =
-    let v = opening_verifies db spelled in
-    let l = v.library in
-    record {
-      setting = record { sound = v.setting.sound; some = some; few = few };
-      library = record { ranks = l.ranks; lawful = l.lawful; distinct = l.distinct; room = subst (λ n. n ≤ slots) (sym (length-ranked_from 1 db.assertions)) room };
-      axioms = v.axioms;
-    }

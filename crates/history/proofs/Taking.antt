@@ -73,8 +73,9 @@ taken_verifies n old new c reply v h k =
 
 -- a transaction that is done is settled once its library is the new start
 pub done_settles : (old new : Drafted) (cs : List Command) (replies : List Reply) → IsSettled old → TakesAll old cs (Ok replies) new
-    → KeepsStart old new → IsSettled (record new { start = new.library })
+    → KeepsStart old new → IsSettled (record new { start = new.library; noted = [] })
 done_settles old new cs replies settled h k = record {
   verifies = subst (λ s. Verifies s new.library) (sym k.setting) (apply_verifies old.setting old.library cs (record { library = new.library; replies = replies }) settled.verifies h);
   settled = refl;
+  forgotten = refl;
 }

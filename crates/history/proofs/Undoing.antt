@@ -1,5 +1,6 @@
 -- Renames taken back: from the last to the first, they give the library before them.
-use Rattle.std.proofs.Common.{◌≡◌, ℕ, ◌<◌, false, List, [], ◌∷◌, ◌++◌, Some, length, take, drop, arith, refl, sym, ap, subst, ◌∙◌, inl, inr}
+use Rattle.std.proofs.Common.{◌≡◌, ℕ, ◌<◌, false, List, [], ◌∷◌, ◌++◌, Some, length, map, take, drop}
+use Rattle.std.proofs.Common.{arith, refl, sym, ap, subst, ◌∙◌, inl, inr}
 use Rattle.std.specs.List.{slice_get}
 use Rattle.std.specs.Map.{lookup}
 use Rattle.std.specs.Str.{bytes_eq}
@@ -13,9 +14,10 @@ use Rattle.commands.specs.Library.{label_of}
 use Rattle.commands.specs.Edits.{has}
 use Rattle.history.specs.declared.notes.Note.{Note}
 use Rattle.history.specs.Places.{Places, place_in, IsIndex, StandsAt, Puts, KeepsLabels}
-use Rattle.history.specs.Drafts.{relabelled, taken_back, undone, CanTakeBack, CanUndo, IsDraft}
+use Rattle.history.specs.Drafts.{relabelled, taken_back, undone, former_labels, CanTakeBack, CanUndo, IsDraft}
 use Rattle.history.proofs.Relabelling.{relabelled-other, relabelled-label, relabelled-back, length-relabelled, has-not, has-none}
 use Rattle.history.proofs.Indexes.{one_place, puts_keeps, index-relabelled}
+use Rattle.history.proofs.Keys.{only-fewer, only-relabelled}
 
 -- ---- one more rename
 
@@ -74,6 +76,8 @@ draft_same m n ns lib same d =
     let found : (w : List ℕ) → place_in n w ≡ place_in m w = λ w. ap (lookup (λ k. bytes_eq w k.items)) same in
     record {
       indexed = record { finds = λ p e at. found (label_of e) ∙ d.indexed.finds p e at };
+      only =
+          only-fewer m n (map label_of lib ++ former_labels ns) (record { keeps = λ q some. subst (λ o. IsSome o) (found q) some }) d.only;
       can_undo = can_undo-kept m n ns lib (record { keeps = λ q some. subst (λ o. IsSome o) (sym (found q)) some }) d.can_undo;
     }
 
@@ -92,6 +96,7 @@ draft_relabelled m n ns after lib now p w former d at free h noted done =
     subst (λ f. CanTakeBack n (relabelled lib p w) (note f)) at.labelled (can_take_back m n lib p at.entry w d.indexed at.at free h) in
     let draft : IsDraft n (ns ++ note former ∷ []) (relabelled lib p w) = record {
       indexed = index-relabelled m n lib p w d.indexed free h;
+      only = only-relabelled m n lib ns p w former h at d.only;
       can_undo = can_undo-push n ns (note former) (relabelled lib p w) can this;
     } in (
       subst (λ ks. IsDraft n ks now) (sym noted) (subst (IsDraft n (ns ++ note former ∷ [])) (sym done) draft),

@@ -1,15 +1,16 @@
 -- A library during a transaction: what was renamed, and how it is taken back.
-use Rattle.std.specs.Prelude.{◌≡◌, ◌<◌, ℕ, suc, zero, false, List, [], ◌∷◌, length, IsSome, Result, Ok, Err}
+use Rattle.std.specs.Prelude.{◌≡◌, ◌<◌, ◌++◌, ℕ, suc, zero, false, List, [], ◌∷◌, length, map}
+use Rattle.std.specs.Prelude.{IsSome, Result, Ok, Err}
 use Rattle.commands.specs.declared.library.Ranked.{Ranked}
 use Rattle.commands.specs.declared.command.Command.{Command}
 use Rattle.commands.specs.declared.command.Reply.{Reply}
-use Rattle.commands.specs.Library.{Setting, Verifies}
+use Rattle.commands.specs.Library.{Setting, Verifies, label_of}
 use Rattle.commands.specs.Edits.{has, edit}
 use Rattle.commands.specs.Transactions.{apply}
 use Rattle.history.specs.declared.notes.Note.{Note}
 use Rattle.history.specs.declared.editor.ApplyError.{ApplyError}
 use Rattle.history.specs.declared.editor.ApplyError.TheVariants.{Refused, NoMemory}
-use Rattle.history.specs.Places.{Places, place_in, IsIndex}
+use Rattle.history.specs.Places.{Places, place_in, IsIndex, HasOnly}
 
 -- an entry with another label
 abbrev pub with_label : List ℕ → Ranked → Ranked
@@ -41,15 +42,21 @@ abbrev pub CanUndo : Places → List Note → List Ranked → Type 0
 CanUndo m [] lib = Unit {0}
 CanUndo m (n ∷ ns) lib = CanUndo m ns lib × CanTakeBack m (undone ns lib) n
 
--- what a draft holds: the setting, the library at the start of the transaction, and the library now
+-- the labels that noted renames took
+abbrev pub former_labels : List Note → List (List ℕ)
+former_labels notes = map (λ n. n.former) notes
+
+-- what a draft holds: the setting, the library at the start of the transaction, the library now, and the renames that are noted
 pub record Drafted : Type 0 where
   pub setting : Setting
   pub start : List Ranked
   pub library : List Ranked
+  pub noted : List Note
 
--- what is always true of a draft's fields
+-- what is always true of a draft's fields: the map has the labels of the library and those that were noted, and no other
 pub record IsDraft (m : Places) (notes : List Note) (lib : List Ranked) : Type 0 where
   pub indexed : IsIndex m lib
+  pub only : HasOnly m (map label_of lib ++ former_labels notes)
   pub can_undo : CanUndo m notes lib
 
 -- the n-th command of a transaction: its edit is done, or refused, or memory ran out
@@ -69,7 +76,8 @@ pub record KeepsStart (old new : Drafted) : Type 0 where
   pub setting : new.setting ≡ old.setting
   pub start : new.start ≡ old.start
 
--- between transactions: the library verifies, and nothing can be taken back
+-- between transactions: the library verifies, and nothing can be taken back or is noted
 pub record IsSettled (d : Drafted) : Type 0 where
   pub verifies : Verifies d.setting d.library
   pub settled : d.start ≡ d.library
+  pub forgotten : d.noted ≡ []

@@ -1,5 +1,5 @@
 -- Where each label of a library stands: a map from labels to places.
-use Rattle.std.specs.Prelude.{◌≡◌, ℕ, false, cond, List, Option, Some, None, Vec, slice_get, IsSome}
+use Rattle.std.specs.Prelude.{◌≡◌, ℕ, false, cond, List, Option, Some, None, Vec, slice_get, IsSome, Contains}
 use Rattle.std.specs.Str.{bytes_eq}
 use Rattle.std.specs.HashMap.{HashMap, get_by}
 use Rattle.std.specs.declared.alloc.Global.{Global}
@@ -15,9 +15,13 @@ Places = HashMap (Vec ℕ Global) ℕ RandomState
 abbrev pub place_in : Places → List ℕ → Option ℕ
 place_in m w = get_by (λ k. bytes_eq w k.items) m
 
--- the map has the place of each entry for its label, so no two entries have one label; of other labels it may have anything
+-- the map has the place of each entry for its label, so no two entries have one label; for other labels it may have any place
 pub record IsIndex (m : Places) (lib : List Ranked) : Type 0 where
   pub finds : (p : ℕ) (e : Ranked) → slice_get lib p ≡ Some e → place_in m (label_of e) ≡ Some p
+
+-- each label that the map has is one of these
+pub record HasOnly (m : Places) (labels : List (List ℕ)) : Type 0 where
+  pub among : (w : List ℕ) → IsSome (place_in m w) → Contains labels w
 
 -- the entry at a place has the label
 pub record StandsAt (lib : List Ranked) (w : List ℕ) (p : ℕ) : Type 0 where

@@ -1,10 +1,10 @@
 //! A library during a transaction: all that was done to it can be taken back, and that takes no memory.
 
-ghost use Rattle.std.specs.Prelude.{◌≡◌, ◌<◌, ◌≤◌, false, length, map, IfOk, OnErr};
+ghost use Rattle.std.specs.Prelude.{◌≡◌, ◌<◌, ◌≤◌, [], false, length, map, IfOk, OnErr};
 ghost use Rattle.std.specs.Str.{bytes_eq};
 ghost use Rattle.mmstatement.specs.Assertions.{Distinct};
 ghost use Rattle.commands.specs.declared.command.Command.TheVariants.{Rename, Show};
-ghost use Rattle.commands.specs.Library.{Verifies, ShowsInOrder, label_of, ranked_from};
+ghost use Rattle.commands.specs.Library.{Setting, Verifies, ShowsInOrder, label_of, ranked_from};
 ghost use Rattle.commands.specs.Edits.{has};
 ghost use Rattle.history.specs.Drafts.{relabelled, KeepsStart, Takes, TakesAll};
 ghost use Rattle.history.specs.declared.editor.ApplyError.TheVariants as error;
@@ -18,7 +18,7 @@ use std::alloc::{AllocError, Global};
 use std::hash::RandomState;
 use std::marker::Model;
 
-/// A clause sees the setting, the library as the transaction found it, and the library now.
+/// A clause sees the setting, the library as the transaction found it, the library now, and the renames noted since.
 #[derive(Drop)]
 pub(crate) struct Draft {
     prelude: Prelude,
@@ -33,7 +33,12 @@ impl Model for Draft {
 
     ghost Value = { Drafted };
 
-    ghost view = { λ d. record { setting = record { prelude = d.prelude; slots = d.slots }; start = undone d.notes.items d.entries.items; library = d.entries.items } };
+    ghost view = { λ d. record {
+      setting = record { prelude = d.prelude; slots = d.slots };
+      start = undone d.notes.items d.entries.items;
+      library = d.entries.items;
+      noted = d.notes.items;
+    } };
 
     ghost invariant = { λ d. IsDraft d.places d.notes.items d.entries.items };
 }
@@ -49,7 +54,8 @@ impl Draft {
     ) -> Result<Draft, AllocError>
         requires few { length assertions.now ≤ 4096 }
         requires distinct { Distinct bytes_eq (map label_of (ranked_from 1 assertions.now)) }
-        ensures { let lib = ranked_from 1 assertions.now in IfOk result (λ made. made ≡ record { setting = record { prelude = prelude; slots = slots }; start = lib; library = lib }) }
+        ensures { let lib = ranked_from 1 assertions.now in let s : Setting = record { prelude = prelude; slots = slots } in
+            IfOk result (λ made. made ≡ record { setting = s; start = lib; library = lib; noted = [] }) }
     {
         let (entries, places) = open_entries(alloc, keys, assertions)?;
         Ok(Draft {
@@ -77,7 +83,8 @@ impl Draft {
     fn relabel(&mut self, alloc: Global, place: usize, label: &Label) -> Result<(), AllocError>
         requires within { place < length self.old.library }
         requires free { has self.old.library label.now ≡ false }
-        ensures done { IfOk result (λ _. self.new ≡ record self.old { library = relabelled self.old.library place label.now }) }
+        ensures done { IfOk result (λ _. self.new.library ≡ relabelled self.old.library place label.now) }
+        ensures kept { KeepsStart self.old self.new }
         ensures unchanged { OnErr result (self.new ≡ self.old) }
     {
         let key = Vec::from_slice(alloc, label.as_slice())?;
@@ -156,7 +163,7 @@ impl Draft {
 
     /// Takes back all that was done since the start.
     pub fn undo(&mut self)
-        ensures { self.new ≡ record self.old { library = self.old.start } }
+        ensures { self.new ≡ record self.old { library = self.old.start; noted = [] } }
     {
         take_all_back(
             self.entries.as_mut_slice(),
@@ -168,7 +175,7 @@ impl Draft {
 
     /// Makes the library now the start of what follows.
     pub fn settle(&mut self)
-        ensures { self.new ≡ record self.old { start = self.old.library } }
+        ensures { self.new ≡ record self.old { start = self.old.library; noted = [] } }
     {
         drop_notes(self.entries.as_slice(), &mut self.places, &mut self.notes);
     }

@@ -1,8 +1,9 @@
 //! Renames that were done, and how they are taken back without memory.
 
-ghost use Rattle.std.specs.Prelude.{◌≡◌, ◌<◌, ◌∷◌, ◌++◌, [], length, vec_len, vec_capacity};
-ghost use Rattle.history.specs.Places.{IsIndex, StandsAt, KeepsLabels};
-ghost use Rattle.history.specs.Drafts.{relabelled, taken_back, undone, CanTakeBack, CanUndo};
+ghost use Rattle.std.specs.Prelude.{◌≡◌, ◌<◌, ◌∷◌, ◌++◌, [], length, map, vec_len, vec_capacity};
+ghost use Rattle.commands.specs.Library.{label_of};
+ghost use Rattle.history.specs.Places.{IsIndex, HasOnly, StandsAt, KeepsLabels};
+ghost use Rattle.history.specs.Drafts.{relabelled, taken_back, undone, former_labels, CanTakeBack, CanUndo};
 
 use crate::places::{Places, forget_label, put_place};
 use commands::Ranked;
@@ -44,6 +45,8 @@ fn take_back(entries: &mut [Ranked], places: &mut Places, note: &mut Note)
     ensures entries { entries.new ≡ taken_back note.old entries.old }
     ensures indexed { IsIndex places.new entries.new }
     ensures labels { KeepsLabels places.old places.new }
+    ensures fewer { KeepsLabels places.new places.old }
+    ensures noted { StandsAt entries.old note.new.former note.old.place }
 {
     put_place(places, note.former.as_slice(), note.place);
     swap_label(entries, note.place, &mut note.former);
@@ -52,9 +55,11 @@ fn take_back(entries: &mut [Ranked], places: &mut Places, note: &mut Note)
 /// Takes all renames back, from the last to the first. The notes then have the labels that were taken back.
 pub(crate) fn take_all_back(entries: &mut [Ranked], places: &mut Places, notes: &mut [Note])
     requires indexed { IsIndex places.old entries.old }
+    requires only { HasOnly places.old (map label_of entries.old ++ former_labels notes.old) }
     requires can { CanUndo places.old notes.old entries.old }
     ensures entries { entries.new ≡ undone notes.old entries.old }
     ensures indexed { IsIndex places.new entries.new }
+    ensures only { HasOnly places.new (map label_of entries.new ++ former_labels notes.new) }
 {
     let mut left = notes.len();
     while left > 0 {
@@ -65,8 +70,10 @@ pub(crate) fn take_all_back(entries: &mut [Ranked], places: &mut Places, notes: 
 
 /// Drops all notes, and from the map their labels that no assertion has.
 pub(crate) fn drop_notes(entries: &[Ranked], places: &mut Places, notes: &mut Vec<Note>)
-    requires { IsIndex places.old entries.now }
+    requires indexed { IsIndex places.old entries.now }
+    requires only { HasOnly places.old (map label_of entries.now ++ former_labels notes.old.items) }
     ensures indexed { IsIndex places.new entries.now }
+    ensures only { HasOnly places.new (map label_of entries.now) }
     ensures empty { notes.new.items ≡ [] }
 {
     while let Some(note) = notes.pop() {

@@ -1,11 +1,11 @@
 //! Where each label of a library stands: a map from labels to places.
 
-ghost use Rattle.std.specs.Prelude.{◌≡◌, ◌∷◌, ◌++◌, ◌≤◌, [], false, length, map, IsSome, IfOk, OnOk};
+ghost use Rattle.std.specs.Prelude.{◌≡◌, ◌∷◌, ◌++◌, ◌≤◌, [], false, length, map, IsSome, IfOk, OnOk, Contains};
 ghost use Rattle.std.specs.Str.{bytes_eq};
 ghost use Rattle.mmstatement.specs.Assertions.{Distinct};
 ghost use Rattle.commands.specs.Library.{label_of, ranked_from};
 ghost use Rattle.commands.specs.Edits.{has};
-ghost use Rattle.history.specs.Places.{IsIndex, FoundAt, Puts, place_in};
+ghost use Rattle.history.specs.Places.{IsIndex, HasOnly, KeepsLabels, FoundAt, Puts, place_in};
 
 use commands::Ranked;
 use mmstatement::Assertion;
@@ -45,7 +45,9 @@ pub(crate) fn put_place(places: &mut Places, label: &[u8], place: usize)
 /// Drops a label from the map, unless an assertion has it.
 pub(crate) fn forget_label(entries: &[Ranked], places: &mut Places, label: &[u8])
     requires { IsIndex places.old entries.now }
-    ensures { IsIndex places.new entries.now }
+    ensures indexed { IsIndex places.new entries.now }
+    ensures fewer { KeepsLabels places.new places.old }
+    ensures gone { IsSome (place_in places.new label.now) → Contains (map label_of entries.now) label.now }
 {
     if find_label(entries, places, label).is_none() {
         let _ = places.remove(label);
@@ -60,9 +62,11 @@ pub(crate) fn add_entry(
     entry: Ranked,
 ) -> Result<(), AllocError>
     requires indexed { IsIndex places.old entries.old.items }
+    requires only { HasOnly places.old (map label_of entries.old.items) }
     requires free { has entries.old.items (label_of entry) ≡ false }
     ensures items { OnOk result (entries.new.items ≡ entries.old.items ++ entry ∷ []) }
     ensures indexed { OnOk result (IsIndex places.new entries.new.items) }
+    ensures only { OnOk result (HasOnly places.new (map label_of entries.new.items)) }
 {
     let key = Vec::from_slice(alloc, entry.assertion.label.as_slice())?;
     places.insert(key, entries.len())?;
@@ -80,6 +84,7 @@ pub(crate) fn open_entries(
     requires distinct { Distinct bytes_eq (map label_of (ranked_from 1 assertions.now)) }
     ensures entries { IfOk result (λ made. made.0.items ≡ ranked_from 1 assertions.now) }
     ensures indexed { IfOk result (λ made. IsIndex made.1 made.0.items) }
+    ensures only { IfOk result (λ made. HasOnly made.1 (map label_of made.0.items)) }
 {
     let mut entries = Vec::new(alloc);
     let mut places = HashMap::with_hasher(alloc, keys);

@@ -1,7 +1,7 @@
 //! The editor on small databases, with values from the table of commands.
 
 use crate::{ApplyError, Editor, OpenError};
-use commands::{Command, Reason, Refused, Reply};
+use commands::{Command, Reason, Refused, Reply, first_theorem};
 use mmstatement::{Label, Sequence, read_database};
 use std::alloc::{AllocError, Global};
 use std::hash::RandomState;
@@ -18,6 +18,9 @@ fn label(alloc: Global, text: &[u8]) -> Result<Label, AllocError> {
 fn opened(rt: &HostRuntime, text: &[u8]) -> Result<Editor, Fail> {
     let keys = RandomState::new(rt)?;
     let db = read_database(rt.alloc(), keys, text)?;
+    if first_theorem(&db).is_some() {
+        return Err(Fail::from("the database has axioms alone"));
+    }
     Ok(Editor::open(rt.alloc(), keys, &db, 2)?)
 }
 
@@ -104,6 +107,9 @@ fn gives_swapped_labels_back(rt: HostRuntime) -> Result<(), Fail> {
 fn counts_the_slots(rt: HostRuntime) -> Result<(), Fail> {
     let keys = RandomState::new(&rt)?;
     let db = read_database(rt.alloc(), keys, PAIR)?;
+    if first_theorem(&db).is_some() {
+        return Err(Fail::from("the database has axioms alone"));
+    }
     let one = Editor::open(rt.alloc(), keys, &db, 1).err();
     assert_eq!(rt; one, Some(OpenError::TooMany));
     let editor = opened(&rt, PAIR)?;

@@ -1,10 +1,10 @@
 -- What a transaction on a library that verifies shows fits the prelude.
 use Rattle.std.proofs.Common.{◌≡◌, ℕ, ◌+◌, Bool, true, false, List, [], ◌∷◌, Option, Some, None, Result, Ok, Err, refl, subst, inl, inr}
 use Rattle.std.specs.Prelude.{All}
-use Rattle.std.specs.List.{find, AllByRecursion, list_any}
+use Rattle.std.specs.List.{find, AllByRecursion}
 use Rattle.std.proofs.lemmas.List.Elements.{All-cons, All-nil, recursion_from_All}
 use Rattle.std.proofs.lemmas.Bool.{cases_Bool, cond-true, cond-false}
-use Rattle.mmstatement.specs.Assertions.{IsOutermostAxiom}
+use Rattle.mmstatement.specs.Assertions.{Fits}
 use Rattle.commands.specs.declared.library.Ranked.{Ranked}
 use Rattle.commands.specs.declared.command.Command.{Command}
 use Rattle.commands.specs.declared.command.Command.TheVariants.{Rename, Show}
@@ -12,10 +12,10 @@ use Rattle.commands.specs.declared.command.Reply.{Reply}
 use Rattle.commands.specs.declared.command.Reason.{Reason}
 use Rattle.commands.specs.declared.command.Refused.{Refused as Refusal}
 use Rattle.commands.specs.Library.{Setting, Verifies}
-use Rattle.commands.specs.Edits.{Edited, Tests, tested, rename_tests, rename, is_labelled, shown, edit}
+use Rattle.commands.specs.Edits.{Edited, Tests, tested, rename_tests, is_labelled, shown, edit}
 use Rattle.commands.specs.Transactions.{Applied, with_reply, then_apply, apply_from, apply}
 use Rattle.commands.proofs.Editing.{edit_verifies}
-use Rattle.mmrefactor.specs.Outcomes.{ReplyFits, OutcomeFits, outcome_of}
+use Rattle.mmrefactor.specs.Outcomes.{ReplyFits}
 
 -- what is found in a list is one of its items
 found_holds : {A : Type 0} (P : A → Type 0) (p : A → Bool) (xs : List A) (x : A) → AllByRecursion P xs → find p xs ≡ Some x → P x
@@ -41,14 +41,14 @@ tested_fits s [] e h = h
 tested_fits s ((true, reason) ∷ ts) e h = tt
 tested_fits s ((false, reason) ∷ ts) e h = tested_fits s ts e h
 
-shown_fits : (s : Setting) (lib : List Ranked) (o : Option Ranked) → ((e : Ranked) → o ≡ Some e → IsOutermostAxiom s.prelude e.assertion) → EditFits s (shown lib o)
+shown_fits : (s : Setting) (lib : List Ranked) (o : Option Ranked) → ((e : Ranked) → o ≡ Some e → Fits s.prelude e.assertion) → EditFits s (shown lib o)
 shown_fits s lib None h = tt
-shown_fits s lib (Some e) h = (h e refl).fits
+shown_fits s lib (Some e) h = h e refl
 
 edit_fits : (s : Setting) (lib : List Ranked) (c : Command) → Verifies s lib → EditFits s (edit s lib c)
 edit_fits s lib (Rename old new) v = tested_fits s (rename_tests s lib old new) _ tt
 edit_fits s lib (Show label) v =
-    shown_fits s lib (find (is_labelled label) lib) (λ e found. found_holds (λ x. IsOutermostAxiom s.prelude x.assertion) (is_labelled label) lib e (recursion_from_All _ lib v.axioms) found)
+    shown_fits s lib (find (is_labelled label) lib) (λ e found. found_holds (λ x. Fits s.prelude x.assertion) (is_labelled label) lib e (recursion_from_All _ lib v.fit) found)
 
 -- ---- transactions
 

@@ -1,3 +1,4 @@
 pub mod Fitting
 pub mod Faults
+pub mod JobFaults
 pub mod Turns

@@ -1,20 +1,26 @@
 -- What a job prints, and which fault it has.
-use Rattle.std.specs.Prelude.{◌≡◌, ◌≢◌, ℕ, zero, suc, List, [], ◌∷◌, ◌++◌, codes, map}
+use Rattle.std.specs.Prelude.{◌≡◌, ◌≢◌, ◌+◌, ◌⊎◌, ℕ, zero, suc, List, [], ◌∷◌, ◌++◌, Option, Some, None, codes, length, map, slice_get}
+use Rattle.std.specs.Prelude.{Result, Ok, Err}
+use Rattle.std.specs.Fmt.{decimal}
+use Rattle.mmstatement.specs.declared.statement.Assertion.{Assertion}
 use Rattle.mmstatement.specs.declared.fault.TextFault.{TextFault}
 use Rattle.mmstatement.specs.declared.fault.FaultKind.TheVariants.{NoMemory as OutOfMemory}
 use Rattle.mmstatement.specs.Tables.{Contents}
 use Rattle.mmstatement.specs.Grammar.{Spells}
-use Rattle.mmstatement.specs.Faults.{Faulty}
+use Rattle.mmstatement.specs.Faults.{FaultyDatabase}
+use Rattle.proofcheck.specs.declared.fault.ProofFault.{ProofFault}
+use Rattle.proofcheck.specs.declared.fault.ProofFaultKind.TheVariants.{NoMemory as NoMemoryOfProof}
+use Rattle.proofcheck.specs.Databases.{AllCheck, IsFirstFault as IsFirstFaultOfProofs}
 use Rattle.commands.specs.declared.command.Command.{Command}
-use Rattle.commands.specs.Library.{Listed, ShowsInOrder, setting_of}
+use Rattle.commands.specs.Library.{Listed, ShowsInOrder, setting_of, first_theorem}
 use Rattle.commands.specs.Scripts.{SpellsScript}
 use Rattle.commands.specs.ScriptFaults.{FaultyScript}
 use Rattle.export.specs.Exported.{Accepts, exported_text}
 use Rattle.mmrefactor.specs.declared.job.Job.{Job}
-use Rattle.mmrefactor.specs.declared.job.Job.TheVariants.{Run}
+use Rattle.mmrefactor.specs.declared.job.Job.TheVariants.{Check, Run}
 use Rattle.mmrefactor.specs.declared.job.Printed.{Printed}
 use Rattle.mmrefactor.specs.declared.job.Fault.{Fault}
-use Rattle.mmrefactor.specs.declared.job.Fault.TheVariants.{Text, NoMemory}
+use Rattle.mmrefactor.specs.declared.job.Fault.TheVariants.{Text, Proof, Theorem, NoMemory}
 use Rattle.mmrefactor.specs.Outcomes.{at_opening, after_scripts}
 
 abbrev pub Bytes : Type 0
@@ -35,52 +41,129 @@ pub record PrintsRun (contents : Contents) (scripts : List Orders) (out : Bytes)
   pub prints : out ≡ report ++ (codes "library" ++ 10 ∷ exported_text library)
   pub accepted : Accepts (exported_text library)
 
--- each text is spelled by the script at its place
-abbrev pub SpellEach : List Bytes → List Orders → Type 0
-SpellEach [] [] = Unit {0}
-SpellEach [] (x ∷ xs) = ⊥
-SpellEach (t ∷ ts) [] = ⊥
-SpellEach (t ∷ ts) (x ∷ xs) = SpellsScript t x × SpellEach ts xs
+-- the text of a database: it spells these contents, and has no fault
+pub record IsDatabase (text : Bytes) (contents : Contents) : Type 0 where
+  pub spelled : Spells text contents
+  pub faultless : (f : TextFault) → FaultyDatabase text f → ⊥
 
--- the texts are read as they are spelled, and what is printed is that of their run
+-- the text of a script: it spells these transactions, and has no fault
+pub record IsScript (text : Bytes) (script : Orders) : Type 0 where
+  pub spelled : SpellsScript text script
+  pub faultless : (f : TextFault) → FaultyScript text f → ⊥
+
+-- each text is that of the script at its place
+abbrev pub AreScripts : List Bytes → List Orders → Type 0
+AreScripts [] [] = Unit {0}
+AreScripts [] (x ∷ xs) = ⊥
+AreScripts (t ∷ ts) [] = ⊥
+AreScripts (t ∷ ts) (x ∷ xs) = IsScript t x × AreScripts ts xs
+
+-- the text of a database of which each proof checks
+pub record IsChecked (text : Bytes) (contents : Contents) : Type 0 where
+  pub read : IsDatabase text contents
+  pub checks : AllCheck contents
+
+-- the database is read as it is spelled, its proofs check, and what is printed is the number of its assertions
+pub record IsCheck (db : Bytes) (out : Bytes) : Type 0 where
+  pub contents : Contents
+  pub checked : IsChecked db contents
+  pub prints : out ≡ codes "ok " ++ (decimal (length contents.assertions) ++ 10 ∷ [])
+
+-- the database is read as it is spelled, its proofs check and it has no theorem; the scripts are read as they are spelled; and what is
+-- printed is that of their run
 pub record IsRun (db : Bytes) (texts : List Bytes) (out : Bytes) : Type 0 where
   pub contents : Contents
-  pub read : Spells db contents
+  pub checked : IsChecked db contents
+  pub axioms : first_theorem contents ≡ None
   pub scripts : List Orders
-  pub ordered : SpellEach texts scripts
+  pub ordered : AreScripts texts scripts
   pub printed : PrintsRun contents scripts out
 
 abbrev pub DoneAsAsked : Job → Printed → Type 0
+DoneAsAsked (Check db) p = IsCheck db.items p.out.items
 DoneAsAsked (Run db texts) p = IsRun db.items (map (λ t. t.items) texts.items) p.out.items
 
 -- ---- faults
 
--- the fault of the script at a place, where each script before it is spelled
+-- the fault of the script at a place, where each script before it is read
 abbrev pub IsFirstFault : List Bytes → ℕ → TextFault → Type 0
 IsFirstFault [] k f = ⊥
 IsFirstFault (t ∷ ts) zero f = FaultyScript t f
-IsFirstFault (t ∷ ts) (suc k) f = ((x : Orders) × SpellsScript t x) × IsFirstFault ts k f
+IsFirstFault (t ∷ ts) (suc k) f = ((x : Orders) × IsScript t x) × IsFirstFault ts k f
 
--- the fault of the first text that has one: the database at the place 0, the k-th script at the place k
-abbrev pub IsTextFault : Bytes → List Bytes → ℕ → TextFault → Type 0
-IsTextFault db texts zero f = Faulty db f
-IsTextFault db texts (suc k) f = ((contents : Contents) × Spells db contents) × IsFirstFault texts k f
+-- the label of the assertion at a place
+abbrev pub IsLabelAt : Contents → ℕ → List ℕ → Type 0
+IsLabelAt contents place label = (a : Assertion) × (slice_get contents.assertions place ≡ Some a) × (label ≡ a.label)
 
--- the fault of a run: that of the first text that has one, or memory ran out
+-- the first of the proofs that has a fault, with the label of its theorem
+abbrev pub IsProofFault : Contents → Fault → Type 0
+IsProofFault contents (Proof label fault) =
+    (place : ℕ) × IsFirstFaultOfProofs contents (place + 1) fault × IsLabelAt contents place label × (fault.kind ≢ NoMemoryOfProof)
+IsProofFault contents _ = ⊥
+
+-- the first theorem of a database, by its label
+abbrev pub IsTheoremFault : Contents → Fault → Type 0
+IsTheoremFault contents (Theorem label) = (place : ℕ) × (first_theorem contents ≡ Some place) × IsLabelAt contents place label
+IsTheoremFault contents _ = ⊥
+
+-- the fault of a text that has to be a database of which each proof checks
+abbrev pub IsDatabaseFault : Bytes → Fault → Type 0
+IsDatabaseFault text (Text zero f) = FaultyDatabase text f × (f.kind ≢ OutOfMemory)
+IsDatabaseFault text (Proof label fault) = (contents : Contents) × IsDatabase text contents × IsProofFault contents (Proof label fault)
+IsDatabaseFault text _ = ⊥
+
+-- the fault of a run: that of its database, or its first theorem, or the fault of the first script that has one, the k-th at the place k
 abbrev pub IsRunFault : Bytes → List Bytes → Fault → Type 0
-IsRunFault db texts (Text file f) = IsTextFault db texts file f × (f.kind ≢ OutOfMemory)
-IsRunFault db texts NoMemory = Unit {0}
+IsRunFault db texts (Text (suc k) f) =
+    ((contents : Contents) × IsChecked db contents × (first_theorem contents ≡ None)) × IsFirstFault texts k f × (f.kind ≢ OutOfMemory)
+IsRunFault db texts (Theorem label) = (contents : Contents) × IsChecked db contents × IsTheoremFault contents (Theorem label)
+IsRunFault db texts f = IsDatabaseFault db f
 
-abbrev pub FaultIsFirst : Job → Fault → Type 0
-FaultIsFirst (Run db texts) f = IsRunFault db.items (map (λ t. t.items) texts.items) f
+-- the first fault that a job has
+abbrev pub IsFaultOf : Job → Fault → Type 0
+IsFaultOf (Check db) f = IsDatabaseFault db.items f
+IsFaultOf (Run db texts) f = IsRunFault db.items (map (λ t. t.items) texts.items) f
+
+-- the answer where there is a fault: that fault, unless memory ran out
+abbrev pub IsOrLacksMemory : Fault → Fault → Type 0
+IsOrLacksMemory f g = (g ≡ f) ⊎ (g ≡ NoMemory)
+
+abbrev pub RefusesWith : {A : Type 0} → Fault → Result A Fault → Type 0
+RefusesWith f (Ok done) = ⊥
+RefusesWith f (Err g) = IsOrLacksMemory f g
+
+-- ---- as the functions see them
 
 -- the scripts' part of a fault
 abbrev pub IsScriptFault : List Bytes → Fault → Type 0
-IsScriptFault texts (Text zero f) = ⊥
 IsScriptFault texts (Text (suc k) f) = IsFirstFault texts k f × (f.kind ≢ OutOfMemory)
 IsScriptFault texts NoMemory = Unit {0}
+IsScriptFault texts _ = ⊥
 
 -- the answer to the fault of a text: itself with its place, or want of memory
-abbrev pub IsFaultOf : ℕ → TextFault → Fault → Type 0
-IsFaultOf file f (Text n g) = (n ≡ file) × (g ≡ f) × (f.kind ≢ OutOfMemory)
-IsFaultOf file f NoMemory = Unit {0}
+abbrev pub IsTextFaultOf : ℕ → TextFault → Fault → Type 0
+IsTextFaultOf file f (Text n g) = (n ≡ file) × (g ≡ f) × (f.kind ≢ OutOfMemory)
+IsTextFaultOf file f NoMemory = f.kind ≡ OutOfMemory
+IsTextFaultOf file f _ = ⊥
+
+-- the answer where the text at a place has a fault: the two, unless memory ran out
+abbrev pub IsRefusedBy : ℕ → TextFault → Fault → Type 0
+IsRefusedBy k f (Text n g) = (n ≡ k) × (g ≡ f)
+IsRefusedBy k f NoMemory = Unit {0}
+IsRefusedBy k f _ = ⊥
+
+abbrev pub IsRefusedWith : {A : Type 0} → ℕ → TextFault → Result A Fault → Type 0
+IsRefusedWith k f (Ok done) = ⊥
+IsRefusedWith k f (Err fault) = IsRefusedBy k f fault
+
+-- the answer to the fault of a proof: itself, with the label of the assertion with a number from 1, or want of memory
+abbrev pub IsProofFaultOf : Contents → ℕ → ProofFault → Fault → Type 0
+IsProofFaultOf contents number fault (Proof label f) =
+    (place : ℕ) × (number ≡ place + 1) × IsLabelAt contents place label × (f ≡ fault) × (fault.kind ≢ NoMemoryOfProof)
+IsProofFaultOf contents number fault NoMemory = Unit {0}
+IsProofFaultOf contents number fault _ = ⊥
+
+-- the answer is the contents, unless memory ran out
+abbrev pub GivesOrLacksMemory : Result Contents Fault → Contents → Type 0
+GivesOrLacksMemory (Ok found) contents = found ≡ contents
+GivesOrLacksMemory (Err f) contents = f ≡ NoMemory

@@ -3,12 +3,19 @@
 use clap::{Arg, ArgAction, ArgMatches, Command};
 use std::alloc::{AllocError, Global};
 
-/// The command lines that the program takes: `mmrefactor run DB SCRIPT..`.
-pub(crate) fn command_line<'a>(alloc: Global) -> Result<Command<'a>, AllocError> {
-    let db = Arg::new(alloc, "DB")
+/// The database of a job.
+fn database<'a>(alloc: Global) -> Arg<'a> {
+    Arg::new(alloc, "DB")
         .help("A Metamath database")
         .required(true)
-        .action(ArgAction::Set);
+        .action(ArgAction::Set)
+}
+
+/// The command lines that the program takes: `mmrefactor check DB` and `mmrefactor run DB SCRIPT..`.
+pub(crate) fn command_line<'a>(alloc: Global) -> Result<Command<'a>, AllocError> {
+    let check = Command::new(alloc, "check")
+        .about("Checks the proofs of a database; prints the number of its assertions")
+        .arg(database(alloc))?;
     let scripts = Arg::new(alloc, "SCRIPT")
         .help("Edit scripts, run one after another")
         .required(true)
@@ -16,29 +23,41 @@ pub(crate) fn command_line<'a>(alloc: Global) -> Result<Command<'a>, AllocError>
         .action(ArgAction::Append);
     let run = Command::new(alloc, "run")
         .about("Runs edit scripts over a database; prints their replies and the resulting database")
-        .arg(db)?
+        .arg(database(alloc))?
         .arg(scripts)?;
     Command::new(alloc, "mmrefactor")
         .version("0.1.0")
         .about("Refactors libraries of Metamath theorems")
         .subcommand_required(true)
         .arg_required_else_help(true)
+        .subcommand(check)?
         .subcommand(run)
 }
 
-/// The paths that a command line names, the database's first.
-pub(crate) fn paths_of<'a>(
+/// What a command line asks for.
+#[derive(Clone, Copy, Debug, PartialEq, Eq)]
+pub(crate) enum Task {
+    Check,
+    Run,
+}
+
+/// The task of a command line, and the paths that it names, the database's first.
+pub(crate) fn task_of<'a>(
     alloc: Global,
     matches: &ArgMatches<'a>,
-) -> Result<Vec<&'a str>, AllocError> {
+) -> Result<(Task, Vec<&'a str>), AllocError> {
     let mut paths = Vec::new(alloc);
-    if let Some((_, run)) = matches.subcommand() {
-        if let Some(db) = run.get_str("DB") {
-            paths.push(db)?;
-        }
-        for script in run.get_strs("SCRIPT").unwrap_or(&[]) {
-            paths.push(*script)?;
-        }
+    let Some((name, of)) = matches.subcommand() else {
+        return Ok((Task::Check, paths));
+    };
+    if let Some(db) = of.get_str("DB") {
+        paths.push(db)?;
     }
-    Ok(paths)
+    if name == "check" {
+        return Ok((Task::Check, paths));
+    }
+    for script in of.get_strs("SCRIPT").unwrap_or(&[]) {
+        paths.push(*script)?;
+    }
+    Ok((Task::Run, paths))
 }

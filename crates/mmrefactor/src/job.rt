@@ -1,12 +1,15 @@
 //! What the program is asked to do, what it prints, and why it prints nothing.
 
-use mmstatement::TextFault;
+use mmstatement::{Label, TextFault};
+use proofcheck::ProofFault;
 use std::alloc::{AllocError, AllocFailed};
 use thiserror::Error;
 
 /// A job over texts: what files hold, as bytes.
 #[derive(Debug, Drop)]
 pub enum Job {
+    /// Checks the proofs of a database.
+    Check { db: Vec<u8> },
     /// Runs the scripts, one after another, over the library of a database.
     Run { db: Vec<u8>, scripts: Vec<Vec<u8>> },
 }
@@ -24,9 +27,20 @@ pub enum Fault {
     /// A text is not read. Texts count from 0: the database, then each script.
     #[error("text {} {} at byte {}", .fault.kind.number(), .fault.kind.name(), .fault.place)]
     Text { file: usize, fault: TextFault },
+    /// The proof of the theorem with a label has a fault.
+    #[error("proof of {}: step {}: {}", text_of(.label), .fault.step, .fault.kind)]
+    Proof { label: Label, fault: ProofFault },
+    /// The database has a theorem, the first with this label. Scripts edit axioms alone as yet.
+    #[error("{} is a theorem, and theorems are not edited yet", text_of(.label))]
+    Theorem { label: Label },
     /// Memory ran out.
     #[error("no memory")]
     NoMemory,
+}
+
+/// The text of a label, which has letters, digits and signs of ASCII alone.
+fn text_of(label: &Label) -> &str {
+    str::from_utf8(label.as_slice()).unwrap_or("?")
 }
 
 impl From<AllocError> for Fault {

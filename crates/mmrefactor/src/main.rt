@@ -10,7 +10,7 @@ mod report;
 #[cfg(test)]
 mod tests;
 
-use crate::arguments::{command_line, paths_of};
+use crate::arguments::{Task, command_line, task_of};
 use crate::job::{Fault, Job};
 use crate::perform::perform;
 use std::alloc::{AllocError, Global};
@@ -20,6 +20,7 @@ use std::io::Write;
 use std::process::ExitCode;
 use std::random::RandomSource;
 use std::rt::{Env, Files};
+use std::thread::Threads;
 use std::{env, fs, io};
 
 /// Why the texts of a job are not there.
@@ -31,6 +32,11 @@ enum Unread {
 }
 
 impl From<AllocError> for Unread {
+    ghost use Rattle.std.specs.Prelude.{◌≡◌};
+    ghost use Rattle.mmrefactor.specs.declared.Unread.TheVariants.{Memory};
+
+    ghost from_gives = { λ _ unread. unread ≡ Memory };
+
     fn from(_error: AllocError) -> Unread {
         Unread::Memory
     }
@@ -71,23 +77,28 @@ fn read_files(rt: &(impl Files + AllocGlobal), paths: &[&str]) -> Result<Vec<Vec
     Ok(texts)
 }
 
-/// The line of a fault: that of a text has its path.
+/// The line of a fault in a file, with the path of that file.
+fn complain_at(rt: &impl Eprint, paths: &[&str], file: usize, fault: &Fault) -> ExitCode {
+    let path = paths.get(file).copied().unwrap_or("");
+    complain(rt, format_args!("{path}: {fault}"))
+}
+
+/// The line of a fault.
 fn complain_of(rt: &impl Eprint, paths: &[&str], fault: &Fault) -> ExitCode {
     match fault {
-        Fault::Text { file, .. } => {
-            let path = paths.get(*file).copied().unwrap_or("");
-            complain(rt, format_args!("{path}: {fault}"))
-        }
         Fault::NoMemory => complain(rt, format_args!("{fault}")),
+        Fault::Text { file, .. } => complain_at(rt, paths, *file, fault),
+        Fault::Proof { .. } | Fault::Theorem { .. } => complain_at(rt, paths, 0, fault),
     }
 }
 
-/// Runs scripts over a database: the first path is the database's.
+/// Does a task on files: the first path is the database's.
 fn run_files(
-    rt: &(impl Files + AllocGlobal + Print + Eprint + RandomSource),
+    rt: &(impl Files + AllocGlobal + Print + Eprint + RandomSource + Threads + Sync),
+    task: Task,
     paths: &[&str],
 ) -> Result<ExitCode, AllocError> {
-    let mut scripts = match read_files(rt, paths) {
+    let mut texts = match read_files(rt, paths) {
         Ok(texts) => texts,
         Err(Unread::Memory) => return Err(AllocError),
         Err(Unread::File(i)) => {
@@ -95,14 +106,18 @@ fn run_files(
             return Ok(complain(rt, format_args!("{path}: cannot read")));
         }
     };
-    if scripts.is_empty() {
+    if texts.is_empty() {
         return Ok(ExitCode::from(2));
     }
-    let db = scripts.remove(0);
+    let db = texts.remove(0);
     let Ok(keys) = RandomState::new(rt) else {
         return Ok(complain(rt, "no random numbers"));
     };
-    match perform(rt.alloc(), keys, &Job::Run { db, scripts }) {
+    let job = match task {
+        Task::Check => Job::Check { db },
+        Task::Run => Job::Run { db, scripts: texts },
+    };
+    match perform(rt, rt.alloc(), keys, &job) {
         Ok(printed) => Ok(print_out(rt, printed.out.as_slice())),
         Err(fault) => Ok(complain_of(rt, paths, &fault)),
     }
@@ -110,7 +125,7 @@ fn run_files(
 
 /// What the command line asks for.
 fn obey(
-    rt: &(impl Files + AllocGlobal + Print + Eprint + RandomSource + Env),
+    rt: &(impl Files + AllocGlobal + Print + Eprint + RandomSource + Env + Threads + Sync),
 ) -> Result<ExitCode, AllocError> {
     let alloc = rt.alloc();
     let Ok(args) = env::args(rt) else {
@@ -120,8 +135,8 @@ fn obey(
     match command_line(alloc)?.try_get_matches_from(words.as_slice()) {
         Err(error) => Ok(print_usage(rt, &error)),
         Ok(matches) => {
-            let paths = paths_of(alloc, &matches)?;
-            run_files(rt, paths.as_slice())
+            let (task, paths) = task_of(alloc, &matches)?;
+            run_files(rt, task, paths.as_slice())
         }
     }
 }

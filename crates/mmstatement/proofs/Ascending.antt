@@ -9,7 +9,7 @@ AscendByNext [] = Unit {0}
 AscendByNext (p ∷ []) = Unit {0}
 AscendByNext (p ∷ (q ∷ ps)) = ComesBefore p q × AscendByNext (q ∷ ps)
 
-before_trans : (p q r : ℕ × ℕ) → ComesBefore p q → ComesBefore q r → ComesBefore p r
+pub before_trans : (p q r : ℕ × ℕ) → ComesBefore p q → ComesBefore q r → ComesBefore p r
 before_trans p q r (inl a) (inl b) = inl (omega arith)
 before_trans p q r (inl a) (inr b) = inl (let e : q.0 ≡ r.0 = b.0 in omega arith)
 before_trans p q r (inr a) (inl b) = inl (let e : p.0 ≡ q.0 = a.0 in omega arith)

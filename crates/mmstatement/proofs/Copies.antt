@@ -3,19 +3,19 @@ use Rattle.std.proofs.Common.{◌≡◌, ℕ, zero, suc, ◌<◌, ◌≤◌, Boo
 use Rattle.std.specs.Prelude.{is_some}
 use Rattle.std.specs.List.{list_any}
 use Rattle.std.specs.Str.{bytes_eq}
-use Rattle.std.proofs.lemmas.List.{append-nil, get_or-map, get_or_default, take-map}
+use Rattle.std.proofs.lemmas.List.{append-nil, get_or-map, get_or_default, take-map, length-map}
 use Rattle.std.proofs.lemmas.List.Folds.{list_any-append}
 use Rattle.mmstatement.specs.declared.statement.Float.{Float}
 use Rattle.mmstatement.specs.declared.symbols.Name.TheVariants.{Variable}
 use Rattle.mmstatement.specs.Tables.{Tables, place_of, named, meaning}
-use Rattle.mmstatement.specs.Grammar.{Word}
+use Rattle.mmstatement.specs.Words.{Word}
 use Rattle.mmstatement.specs.Layout.{IsSoundPrelude, word_at, float_at, no_float}
 use Rattle.mmstatement.specs.Assertions.{Distinct}
 use Rattle.mmstatement.proofs.Names.{bytes_eq-sym}
-use Rattle.mmstatement.proofs.Distinct.{both_false, distinct_left, distinct_right, any_at, place_of-item, place_of-absent, float_labels}
-use Rattle.mmstatement.proofs.Sound.{IsSound, bare, variables_used, any_swap, eqb-sym}
-use Rattle.mmstatement.proofs.Canonical.{sound_of, cross}
-use Rattle.mmstatement.proofs.Declarable.{is_some-meaning, prelude_distinct, floats_within}
+use Rattle.mmstatement.proofs.Distinct.{both_false, cross, distinct_left, distinct_right, any_at, place_of-item, place_of-absent, float_labels, is_some-meaning}
+use Rattle.mmstatement.proofs.Sound.{AreSound, variables_used, any_swap, eqb-sym}
+use Rattle.mmstatement.proofs.Again.{none_is}
+use Rattle.mmstatement.proofs.Canonical.{sound_tables, floats_within}
 
 -- the tables of a prelude up to a constant, a variable, a $f
 abbrev pub constants_before : Tables → ℕ → Tables
@@ -36,14 +36,6 @@ module _ {A : Type 0} (eq : A → A → Bool) (eq-sym : (a b : A) → eq a b ≡
       let y = get_or xs i d in
       both_false (eq y x) (list_any (eq y) (take i xs)) (eq-sym y x ∙ any_at (eq x) xs i d h.0 (omega arith)) (absent_before xs i d h.1 (omega arith))
 
-none_is : {A : Type 0} (o : Option A) → is_some o ≡ false → o ≡ None
-none_is None h = refl
-none_is (Some x) h = absurd cc
-
-length_map : {A B : Type 0} (f : A → B) (xs : List A) → length (map f xs) ≡ length xs
-length_map f [] = refl
-length_map f (x ∷ xs) = ap (λ n. suc n) (length_map f xs)
-
 -- an item as the code reads it, at a default of its own
 pub item_at : {A : Type 0} (xs items : List A) (i : ℕ) (x d : A) → items ≡ xs → x ≡ get_or items i x → i < length items → (x ≡ get_or xs i d) × (i < length xs)
 item_at {A} xs items i x d e h lt =
@@ -51,11 +43,11 @@ item_at {A} xs items i x d e h lt =
     (h ∙ ap (λ ys. get_or ys i x) e ∙ get_or_default xs i x d within, within)
 
 module _ (t : Tables) (sound : IsSoundPrelude t) where
-  it_is_sound : IsSound (bare t)
-  it_is_sound = sound_of (record { prelude = t; assertions = [] }) sound
+  it_is_sound : AreSound t
+  it_is_sound = sound_tables t sound
 
   all_distinct : Distinct bytes_eq (t.constants ++ (t.variables ++ float_labels t.floats))
-  all_distinct = prelude_distinct (bare t) it_is_sound
+  all_distinct = it_is_sound.distinct
 
   pub few_constants : length t.constants ≤ 65535
   few_constants = it_is_sound.constants_fit
@@ -89,7 +81,7 @@ module _ (t : Tables) (sound : IsSoundPrelude t) where
       let ls = float_labels t.floats in
       let symbols = t.constants ++ t.variables in
       let d : Distinct bytes_eq (symbols ++ ls) = subst (Distinct bytes_eq) (sym (append_assoc t.constants t.variables ls)) all_distinct in
-      let within : i < length ls = omega (arith, length_map (λ (f : Float). f.label) t.floats) in
+      let within : i < length ls = omega (arith, length-map t.floats (λ (f : Float). f.label)) in
       let absent : list_any (bytes_eq (get_or ls i [])) (symbols ++ take i ls) ≡ false =
       list_any-append (bytes_eq (get_or ls i [])) symbols (take i ls) ∙ both_false _ _ (cross symbols ls i d within) (absent_before bytes_eq bytes_eq-sym ls i [] (distinct_right bytes_eq symbols ls d) within) in
       let it : get_or ls i [] ≡ (float_at t.floats i).label = get_or-map (λ f. f.label) t.floats i no_float [] lt in
@@ -111,7 +103,7 @@ module _ (t : Tables) (sound : IsSoundPrelude t) where
       let l = place_of (λ f. bytes_eq w f.label) fs in
       let both : Distinct bytes_eq (t.constants ++ t.variables) = distinct_left bytes_eq (t.constants ++ t.variables) (float_labels t.floats) (subst (Distinct bytes_eq) (sym (append_assoc t.constants t.variables (float_labels t.floats))) all_distinct) in
       let within : v < length t.variables = (floats_within t sound i no_float lt).1 in
-      let used : i < length (variables_used t.floats) = omega (arith, length_map (λ (f : Float). f.variable) t.floats) in
+      let used : i < length (variables_used t.floats) = omega (arith, length-map t.floats (λ (f : Float). f.variable)) in
       let it : get_or (variables_used t.floats) i 0 ≡ v = get_or-map (λ f. f.variable) t.floats i no_float 0 lt in
       let absent : list_any (eqb v) (variables_used fs) ≡ false =
       ap (list_any (eqb v)) (sym (take-map (λ f. f.variable) i t.floats))

@@ -1,6 +1,7 @@
 -- Lists whose items differ, and the names of what is known.
-use Rattle.std.proofs.Common.{◌≡◌, ℕ, zero, suc, ◌<◌, Bool, true, false, cond, List, [], ◌∷◌, ◌++◌, length, get_or, map, Option, Some, None, refl, sym, ap, ◌∙◌, arith}
-use Rattle.std.specs.Prelude.{◌||◌, is_some}
+use Rattle.std.proofs.Common.{◌≡◌, ℕ, zero, suc, ◌<◌, Bool, true, false, cond, List, [], ◌∷◌, ◌++◌, length, get_or, map, Option, Some, None, refl, sym, ap, subst, ◌∙◌, arith, append_assoc}
+use Rattle.std.specs.Prelude.{◌||◌, ◌&&◌, is_some}
+use mathlib.Core.Bool.{not}
 use Rattle.std.specs.Option.{option_map}
 use Rattle.std.specs.List.{list_any, AllByRecursion}
 use Rattle.std.specs.Str.{bytes_eq}
@@ -8,9 +9,9 @@ use Rattle.std.proofs.lemmas.Bool.{cond-true, cond-false}
 use Rattle.std.proofs.lemmas.List.Folds.{list_any-append}
 use Rattle.mmstatement.specs.declared.statement.Float.{Float}
 use Rattle.mmstatement.specs.declared.statement.Assertion.{Assertion}
-use Rattle.mmstatement.specs.Tables.{place_of, named, meaning}
+use Rattle.mmstatement.specs.Tables.{Tables, place_of, named, meaning}
 use Rattle.mmstatement.specs.Rows.{Known, is_used, is_assertion_label}
-use Rattle.mmstatement.specs.Grammar.{Word}
+use Rattle.mmstatement.specs.Words.{Word}
 use Rattle.mmstatement.specs.Assertions.{Distinct}
 use Rattle.mmstatement.proofs.Names.{bytes_eq-same, bytes_eq-sym}
 
@@ -19,6 +20,18 @@ use Rattle.mmstatement.proofs.Names.{bytes_eq-same, bytes_eq-sym}
 pub or_false : (a b : Bool) → (a || b) ≡ false → (a ≡ false) × (b ≡ false)
 or_false true b h = absurd cc
 or_false false b h = (refl, h)
+
+pub and_true : (a b : Bool) → (a && b) ≡ true → (a ≡ true) × (b ≡ true)
+and_true true b h = (refl, h)
+and_true false b h = absurd cc
+
+pub not_true : (b : Bool) → not b ≡ true → b ≡ false
+not_true true h = absurd cc
+not_true false h = refl
+
+pub not_false : (b : Bool) → not b ≡ false → b ≡ true
+not_false true h = refl
+not_false false h = absurd cc
 
 pub both_false : (a b : Bool) → a ≡ false → b ≡ false → (a || b) ≡ false
 both_false a b p q = ap (λ c. c || b) p ∙ q
@@ -58,6 +71,14 @@ pub any_at : {A : Type 0} (p : A → Bool) (xs : List A) (i : ℕ) (d : A) → l
 any_at p [] i d h lt = absurd (omega arith)
 any_at p (x ∷ xs) zero d h lt = (or_false (p x) (list_any p xs) h).0
 any_at p (x ∷ xs) (suc i) d h lt = any_at p xs i d (or_false (p x) (list_any p xs) h).1 (omega arith)
+
+-- a word of the second list is none of the first
+pub cross : (a b : List Word) (i : ℕ) → Distinct bytes_eq (a ++ b) → i < length b → list_any (bytes_eq (get_or b i [])) a ≡ false
+cross a [] i d lt = absurd (omega arith)
+cross a (x ∷ b) zero d lt = distinct_front bytes_eq bytes_eq-sym a b x d
+cross a (x ∷ b) (suc i) d lt =
+    let w = get_or b i [] in
+    (or_false (list_any (bytes_eq w) a) (list_any (bytes_eq w) (x ∷ [])) (sym (list_any-append (bytes_eq w) a (x ∷ [])) ∙ cross (a ++ x ∷ []) b i (subst (Distinct bytes_eq) (sym (append_assoc a (x ∷ []) b)) d) (omega arith))).0
 
 -- an item of a list of different words is found at its place
 pub place_of-item : (ws : List Word) (i : ℕ) → Distinct bytes_eq ws → i < length ws → place_of (bytes_eq (get_or ws i [])) ws ≡ Some i
@@ -99,9 +120,9 @@ float_labels fs = map (λ f. f.label) fs
 abbrev pub labels_of : List Assertion → List Word
 labels_of xs = map (λ a. a.label) xs
 
--- all symbols and labels
-abbrev pub names : Known → List Word
-names k = k.tables.constants ++ (k.tables.variables ++ (float_labels k.tables.floats ++ labels_of k.assertions))
+-- all symbols and labels of a prelude
+abbrev pub prelude_names : Tables → List Word
+prelude_names t = t.constants ++ (t.variables ++ float_labels t.floats)
 
 is_some-named : (fs : List Float) (c v l : Option ℕ) → is_some (named fs c v l) ≡ (is_some c || (is_some v || is_some l))
 is_some-named fs (Some i) v l = refl
@@ -109,29 +130,35 @@ is_some-named fs None (Some i) l = refl
 is_some-named fs None None (Some j) = refl
 is_some-named fs None None None = refl
 
-regroup_or : (a b c d : Bool) → ((a || (b || c)) || d) ≡ (a || (b || (c || d)))
-regroup_or true b c d = refl
-regroup_or false true c d = refl
-regroup_or false false c d = refl
-
-pub is_used-names : (k : Known) (w : Word) → is_used k w ≡ list_any (bytes_eq w) (names k)
+-- a word names something of a prelude where it is one of its names
+pub is_some-meaning : (t : Tables) (w : Word) → is_some (meaning t w) ≡ list_any (bytes_eq w) (prelude_names t)
 unfolding meaning
-is_used-names k w =
-    let t = k.tables in
+is_some-meaning t w =
     let p = bytes_eq w in
     let c = list_any p t.constants in
     let v = list_any p t.variables in
-    let l = list_any p (float_labels t.floats) in
-    let a = list_any p (labels_of k.assertions) in
-    let left : is_some (meaning t w) ≡ (c || (v || l)) =
     is_some-named t.floats _ _ _
     ∙ ap (λ b. b || (is_some (place_of p t.variables) || is_some (place_of (λ f. p f.label) t.floats))) (is_some-place_of p t.constants)
     ∙ ap (λ b. c || (b || is_some (place_of (λ f. p f.label) t.floats))) (is_some-place_of p t.variables)
-    ∙ ap (λ b. c || (v || b)) (is_some-place_of (λ f. p f.label) t.floats ∙ sym (any-map p (λ f. f.label) t.floats)) in
-    ap (λ b. b || is_assertion_label k.assertions w) left
-    ∙ ap (λ b. (c || (v || l)) || b) (sym (any-map p (λ a. a.label) k.assertions))
-    ∙ regroup_or c v l a
-    ∙ sym (list_any-append p t.constants _ ∙ ap (λ b. c || b) (list_any-append p t.variables _ ∙ ap (λ b. v || b) (list_any-append p (float_labels t.floats) (labels_of k.assertions))))
+    ∙ ap (λ b. c || (v || b)) (is_some-place_of (λ f. p f.label) t.floats ∙ sym (any-map p (λ f. f.label) t.floats))
+    ∙ sym (list_any-append p t.constants _ ∙ ap (λ b. c || b) (list_any-append p t.variables (float_labels t.floats)))
+
+-- what a word that is not used yet is not
+pub record IsNew (k : Known) (w : Word) : Type 0 where
+  pub not_named : is_some (meaning k.tables w) ≡ false
+  pub not_label : list_any (bytes_eq w) (labels_of k.units.assertions) ≡ false
+  pub not_hypothesis : list_any (bytes_eq w) k.units.hypothesis_labels ≡ false
+
+pub new_word : (k : Known) (w : Word) → is_used k w ≡ false → IsNew k w
+new_word k w h =
+    let a = or_false (is_some (meaning k.tables w)) _ h in
+    let b = or_false (is_assertion_label k.units.assertions w) _ a.1 in
+    record { not_named = a.0; not_label = any-map (bytes_eq w) (λ a. a.label) k.units.assertions ∙ b.0; not_hypothesis = b.1 }
+
+pub not_used : (k : Known) (w : Word) → IsNew k w → is_used k w ≡ false
+not_used k w n =
+    both_false (is_some (meaning k.tables w)) _ n.not_named
+    (both_false (is_assertion_label k.units.assertions w) _ (sym (any-map (bytes_eq w) (λ a. a.label) k.units.assertions) ∙ n.not_label) n.not_hypothesis)
 
 -- ---- facts of each item
 
@@ -154,3 +181,12 @@ all_left P (x ∷ xs) ys h = (h.0, all_left P xs ys h.1)
 pub all_right : {A : Type 0} (P : A → Type 0) (xs ys : List A) → AllByRecursion P (xs ++ ys) → AllByRecursion P ys
 all_right P [] ys h = h
 all_right P (x ∷ xs) ys h = all_right P xs ys h.1
+
+pub all_map : {A B : Type 0} (P : A → Type 0) (Q : B → Type 0) (f : A → B) (xs : List A) → ((x : A) → P x → Q (f x)) → AllByRecursion P xs → AllByRecursion Q (map f xs)
+all_map P Q f [] g h = tt
+all_map P Q f (x ∷ xs) g h = (g x h.0, all_map P Q f xs g h.1)
+
+-- a word that differs from each is none of them
+pub none_of : (Q : Word → Type 0) (w : Word) (ws : List Word) → ((v : Word) → Q v → bytes_eq w v ≡ false) → AllByRecursion Q ws → list_any (bytes_eq w) ws ≡ false
+none_of Q w [] f h = refl
+none_of Q w (v ∷ ws) f h = both_false (bytes_eq w v) (list_any (bytes_eq w) ws) (f v h.0) (none_of Q w ws f h.1)

@@ -3,9 +3,6 @@ use Rattle.std.proofs.Common.{◌≡◌, ℕ, suc, ◌<◌, ◌≤◌, Bool, tru
 use Rattle.std.specs.Option.{option_map, option_or, is_some, IsSome}
 use Rattle.std.specs.List.{list_any}
 use Rattle.std.specs.Prelude.{◌||◌}
-use Rattle.mmstatement.specs.declared.statement.Assertion.{Assertion}
-use Rattle.mmstatement.specs.Rows.{is_assertion_label}
-use Rattle.mmstatement.specs.Labels.{HasLabels}
 use Rattle.std.specs.Str.{bytes_eq}
 use Rattle.std.specs.HashMap as hash
 use Rattle.std.specs.HashMap.{HashMap}
@@ -49,7 +46,7 @@ after_update bs m n w h cs =
       | inr e ↦ other_entries _ _ _ _ h.3 _ (λ x y. nat_list_eq_equiv.congr cs x.items y.items) (λ q. apart bs cs q.items e) ∙ sym (cond-false (bytes_eq bs cs) w (hash.get_by (λ q. bytes_eq cs q.items) m) e)
     ]
 
-ne-eqb : (a b : ℕ) → (a ≡ b → ⊥) → eqb a b ≡ false
+pub ne-eqb : (a b : ℕ) → (a ≡ b → ⊥) → eqb a b ≡ false
 ne-eqb a b h = elim (eqb_tells a b) [ inl y ↦ absurd (h y.1) | inr n ↦ n.0 ]
 
 eqb-refl : (a : ℕ) → eqb a a ≡ true
@@ -234,13 +231,13 @@ some_either : (b : Bool) (x y : Name) → IsSome (cond b (Some x) (Some y))
 some_either true x y = refl
 some_either false x y = refl
 
-swap_or : (a b c : Bool) → (a || (b || c)) ≡ (b || (a || c))
+pub swap_or : (a b c : Bool) → (a || (b || c)) ≡ (b || (a || c))
 swap_or true true c = refl
 swap_or true false c = refl
 swap_or false true c = refl
 swap_or false false c = refl
 
-is_some-cond : (b : Bool) (o : Option (Unit {0})) → is_some (cond b (Some tt) o) ≡ (b || is_some o)
+pub is_some-cond : (b : Bool) (o : Option (Unit {0})) → is_some (cond b (Some tt) o) ≡ (b || is_some o)
 is_some-cond true o = refl
 is_some-cond false o = refl
 
@@ -276,16 +273,3 @@ indexed-float m n p kl t f w place after at_m new var key_l at_end pushed h1 h2 
 pub still_found : (m n : HashMap (Vec ℕ Global) Name RandomState) (k : Vec ℕ Global) (t : Tables) (w : List ℕ) (i place : ℕ) → IsSymbolTable m t → meaning t w ≡ Some (Variable i None)
     → hash.Updates (λ x y. bytes_eq x.items y.items) m n k (Some (Label place)) → IsSome (hash.get_by (λ x. bytes_eq w x.items) n)
 still_found m n k t w i place at_m var h = subst (λ o. IsSome o) (sym (after_update k.items m n (Some (Label place)) h w ∙ ap (λ o. cond (bytes_eq k.items w) (Some (Label place)) o) (at_m.indexed w ∙ var))) (some_either (bytes_eq k.items w) (Label place) (Variable i None))
-
--- ---- labels
-
-any_push : {A : Type 0} (p : A → Bool) (xs : List A) (x : A) → list_any p (xs ++ x ∷ []) ≡ (p x || list_any p xs)
-any_push p [] x = refl
-any_push p (y ∷ ys) x = ap (λ b. p y || b) (any_push p ys x) ∙ swap_or (p y) (p x) (list_any p ys)
-
-pub labelled : (m n : HashMap (Vec ℕ Global) (Unit {0}) RandomState) (k : Vec ℕ Global) (xs after : List Assertion) (a : Assertion)
-    → HasLabels m xs → k.items ≡ a.label → after ≡ xs ++ a ∷ [] → hash.Updates (λ x y. bytes_eq x.items y.items) m n k (Some tt) → HasLabels n after
-labelled m n k xs after a at_m key pushed h w =
-    ap is_some (after_update k.items m n (Some tt) h w) ∙ is_some-cond (bytes_eq k.items w) (hash.get_by (λ q. bytes_eq w q.items) m)
-    ∙ ap (λ b. bytes_eq k.items w || b) (at_m w) ∙ ap (λ l. bytes_eq l w || is_assertion_label xs w) key ∙ ap (λ b. b || is_assertion_label xs w) (bytes_eq-sym a.label w)
-    ∙ sym (any_push (λ a. bytes_eq w a.label) xs a) ∙ ap (λ l. is_assertion_label l w) (sym pushed)

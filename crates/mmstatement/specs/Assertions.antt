@@ -1,16 +1,19 @@
 -- Which assertions fit a prelude, which labels they may have, and which lists of them a text declares (Metamath book,
 -- section 4.1.3).
-use Rattle.std.specs.Prelude.{◌≡◌, ◌<◌, ◌≤◌, ◌⊎◌, ◌↔◌, ℕ, Bool, false, ◌&&◌, nat_le, List, [], ◌∷◌, length, All, map, is_some, IsTrue}
+use Rattle.std.specs.Prelude.{◌≡◌, ◌≢◌, ◌<◌, ◌≤◌, ◌⊎◌, ◌↔◌, ℕ, Bool, false, ◌&&◌, nat_le, List, [], ◌∷◌, length, All, map, is_some, IsTrue}
 use mathlib.Core.Bool.{not}
 use Rattle.std.specs.List.{list_any}
 use Rattle.std.specs.Str.{bytes_eq}
 use Rattle.mmstatement.specs.declared.statement.Symbol.{Symbol}
 use Rattle.mmstatement.specs.declared.statement.Symbol.TheVariants.{Const, Var}
-use Rattle.mmstatement.specs.declared.statement.Kind.TheVariants.{Axiom}
+use Rattle.mmstatement.specs.declared.statement.Kind.TheVariants.{Axiom, Theorem}
+use Rattle.mmstatement.specs.declared.statement.Step.{Step}
+use Rattle.mmstatement.specs.declared.statement.Step.TheVariants.{Float, Hyp, Cite}
 use Rattle.mmstatement.specs.declared.statement.Assertion.{Assertion}
 use Rattle.mmstatement.specs.Tables.{Tables, Contents, meaning}
 use Rattle.mmstatement.specs.Words.{is_label, has_dot}
-use Rattle.mmstatement.specs.Layout.{HasSpelling, IsSoundPrelude}
+use Rattle.mmstatement.specs.Steps.{float_named}
+use Rattle.mmstatement.specs.Layout.{HasSpelling, IsSoundPrelude, HasUnitSpelling}
 
 -- ---- expressions
 
@@ -65,6 +68,23 @@ abbrev pub is_lawful_label : Tables → List ℕ → Bool
 is_lawful_label t w =
     nat_le 1 (length w) && nat_le (length w) 255 && is_label w && not (has_dot w) && not (is_some (meaning t w))
 
+-- ---- steps
+
+-- the label of a $f
+abbrev pub is_float_label : Tables → List ℕ → Bool
+is_float_label t w = is_some (float_named (meaning t w))
+
+-- a label that a step can cite: 1 to 255 bytes of a label token without a dot, and no label of a $f
+abbrev pub is_citable_label : Tables → List ℕ → Bool
+is_citable_label t w =
+    nat_le 1 (length w) && nat_le (length w) 255 && is_label w && not (has_dot w) && not (is_float_label t w)
+
+-- a step that a text can name: a $f of the prelude, one of the hypotheses, or a label
+abbrev pub IsNameable : Tables → ℕ → Step → Type 0
+IsNameable t hyps (Float j) = j < length t.floats
+IsNameable t hyps (Hyp n) = n < hyps
+IsNameable t hyps (Cite w) = IsTrue (is_citable_label t w)
+
 -- ---- lists of assertions
 
 -- no item equals a later one
@@ -72,17 +92,16 @@ abbrev pub Distinct : {A : Type 0} → (A → A → Bool) → List A → Type 0
 Distinct eq [] = Unit {0}
 Distinct eq (x ∷ xs) = (list_any (eq x) xs ≡ false) × Distinct eq xs
 
--- an axiom with no hypothesis and no pair: it stands in no block (section 4.1.3)
-pub record IsOutermostAxiom (t : Tables) (a : Assertion) : Type 0 where
+-- what declares an assertion over a prelude, beside its label: a theorem has steps, and a text can name each of them (section 4.1.4)
+pub record IsUnit (t : Tables) (a : Assertion) : Type 0 where
   pub fits : Fits t a
-  pub is_axiom : a.kind ≡ Axiom
-  pub no_pairs : a.pairs ≡ []
-  pub no_hyps : a.hyps ≡ []
+  pub some_steps : a.kind ≡ Theorem → a.proof ≢ []
+  pub steps : All (IsNameable t (length a.hyps)) a.proof
 
--- what a text declares beside a prelude: at most 4,096 outermost axioms, with different lawful labels
+-- what a text declares beside a prelude: at most 4,096 units, with different lawful labels
 pub record IsDeclarable (t : Tables) (xs : List Assertion) : Type 0 where
   pub prelude : IsSoundPrelude t
-  pub axioms : All (IsOutermostAxiom t) xs
+  pub units : All (IsUnit t) xs
   pub lawful : All (λ a. IsTrue (is_lawful_label t a.label)) xs
   pub distinct : Distinct bytes_eq (map (λ a. a.label) xs)
   pub few : length xs ≤ 4096
@@ -90,3 +109,8 @@ pub record IsDeclarable (t : Tables) (xs : List Assertion) : Type 0 where
 -- a database has a spelling just where its assertions are declarable over its prelude
 abbrev pub SpelledWhereDeclarable : Type 0
 SpelledWhereDeclarable = (db : Contents) → HasSpelling db ↔ IsDeclarable db.prelude db.assertions
+
+-- over a prelude, an assertion has a spelling by itself just where it is a unit with a lawful label
+abbrev pub SpelledWhereUnit : Type 0
+SpelledWhereUnit =
+    (t : Tables) (a : Assertion) → IsSoundPrelude t → HasUnitSpelling t a ↔ (IsUnit t a × IsTrue (is_lawful_label t a.label))

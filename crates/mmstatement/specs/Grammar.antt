@@ -1,34 +1,62 @@
 -- The grammar: a text is spelled by statements whose tests pass, each after the earlier ones (Metamath book, section 4.1.3).
-use Rattle.std.specs.Prelude.{◌≡◌, ◌≢◌, ℕ, List, [], ◌∷◌, ◌++◌, length, map, Result, Ok, Err, IsTrue, ◌⊎◌, codes}
+use Rattle.std.specs.Prelude.{◌≡◌, ◌≢◌, ◌≤◌, ℕ, false, List, [], ◌∷◌, ◌++◌, length, Some, Result, Ok, Err, IsTrue, ◌⊎◌, codes}
 use Rattle.std.specs.List.{flat_map}
 use Rattle.mmstatement.specs.declared.statement.Symbol.{Symbol}
+use Rattle.mmstatement.specs.declared.statement.Step.{Step}
+use Rattle.mmstatement.specs.declared.statement.Assertion.{Assertion}
 use Rattle.mmstatement.specs.declared.fault.TextFault.{TextFault}
 use Rattle.mmstatement.specs.declared.fault.FaultKind.TheVariants.{NoMemory}
+use Rattle.mmstatement.specs.Words.{Word, is_label}
 use Rattle.mmstatement.specs.Text.{tokens, IsClean}
-use Rattle.mmstatement.specs.Words.{is_label}
-use Rattle.mmstatement.specs.Tables.{Contents}
-use Rattle.mmstatement.specs.Rows.{Known, nothing, Pass, in_prelude, symbol_tests, float_label_tests, assertion_label_tests, symbol_of}
-use Rattle.mmstatement.specs.Rows.{type_of, variable_of, with_constant, with_variable, with_float, with_axiom}
+use Rattle.mmstatement.specs.Comments.{words_of, without_comments}
+use Rattle.mmstatement.specs.Tables.{Tables, Contents}
+use Rattle.mmstatement.specs.Rows.{Known, nothing, prelude_alone, Pass, in_prelude, symbol_tests, float_label_tests, assertion_label_tests}
+use Rattle.mmstatement.specs.Rows.{symbol_of, type_of, variable_of, with_constant, with_variable, with_float, with_hypothesis_label}
+use Rattle.mmstatement.specs.Rows.{with_assertion}
+use Rattle.mmstatement.specs.Blocks.{Hypothesis, Block, no_block, distinct_of, with_distinct, hypothesis_label_tests, with_hypothesis}
+use Rattle.mmstatement.specs.Blocks.{axiom_of, theorem_of}
+use Rattle.mmstatement.specs.Steps.{step_of}
+use Rattle.mmstatement.specs.Faults.{database_of}
 
--- the bytes of a token
-abbrev pub Word : Type 0
-Word = List ℕ
+-- ---- statements and their words
 
--- $c words $. and $v words $. and label $f type variable $. and label $a words $. (section 4.1.3)
+-- label $a symbols $. and label $p symbols $= steps $. (section 4.1.3)
+pub data Claim : Type 0 where
+  asserted : Word → List Word → Claim
+  proved : Word → List Word → List Word → Claim
+
+-- $d variables $. and label $e symbols $. (section 4.1.3)
+pub data Piece : Type 0 where
+  distinct : List Word → Piece
+  hypothesis : Word → List Word → Piece
+
+-- $c symbols $. and $v symbols $. and label $f type variable $. and an assertion, alone or with pieces in a block ${ $} (section 4.1.3)
 pub data Statement : Type 0 where
   constants : List Word → Statement
   variables : List Word → Statement
   float : Word → Word → Word → Statement
-  asserted : Word → List Word → Statement
+  alone : Claim → Statement
+  block : List Piece → Claim → Statement
 
--- the tokens of a statement
+-- the words of an assertion
+abbrev pub claim_spelling : Claim → List Word
+claim_spelling (asserted label ws) = label ∷ codes "$a" ∷ (ws ++ codes "$." ∷ [])
+claim_spelling (proved label ws steps) = label ∷ codes "$p" ∷ (ws ++ codes "$=" ∷ (steps ++ codes "$." ∷ []))
+
+-- the words of a $d or $e
+abbrev pub piece_spelling : Piece → List Word
+piece_spelling (distinct ws) = codes "$d" ∷ (ws ++ codes "$." ∷ [])
+piece_spelling (hypothesis label ws) = label ∷ codes "$e" ∷ (ws ++ codes "$." ∷ [])
+
+-- the words of a statement
 abbrev pub spelling : Statement → List Word
 spelling (constants ws) = codes "$c" ∷ (ws ++ codes "$." ∷ [])
 spelling (variables ws) = codes "$v" ∷ (ws ++ codes "$." ∷ [])
 spelling (float label c v) = label ∷ codes "$f" ∷ c ∷ v ∷ codes "$." ∷ []
-spelling (asserted label ws) = label ∷ codes "$a" ∷ (ws ++ codes "$." ∷ [])
+spelling (alone claim) = claim_spelling claim
+spelling (block pieces claim) = codes "${" ∷ (flat_map piece_spelling pieces ++ (claim_spelling claim ++ codes "$}" ∷ []))
 
--- ---- what a statement declares where its tests pass
+-- ---- what they declare where their tests pass
 
 -- the words of a $c, one after the other
 abbrev pub DeclaresConstants : Known → List Word → Known → Type 0
@@ -41,9 +69,42 @@ DeclaresVariables k [] after = k ≡ after
 DeclaresVariables k (w ∷ ws) after = Pass (symbol_tests k (length k.tables.variables) w) × DeclaresVariables (with_variable k w) ws after
 
 -- words behind `front` symbols of an expression, and the whole expression
-abbrev pub ReadsAfter : Known → List Symbol → List Word → List Symbol → Type 0
-ReadsAfter k front [] e = front ≡ e
-ReadsAfter k front (w ∷ ws) e = (s : Symbol) × (symbol_of k (length front) w ≡ Ok s) × ReadsAfter k (front ++ s ∷ []) ws e
+abbrev pub ReadsAfter : Tables → List Symbol → List Word → List Symbol → Type 0
+ReadsAfter t front [] e = front ≡ e
+ReadsAfter t front (w ∷ ws) e = (s : Symbol) × (symbol_of t (length front) w ≡ Ok s) × ReadsAfter t (front ++ s ∷ []) ws e
+
+-- the words of a $d behind the $f of the variables vs, at least two of all, and the block that they leave
+abbrev pub Restricts : Tables → Block → List ℕ → List Word → Block → Type 0
+Restricts t b vs [] after = (2 ≤ length vs) × (b ≡ after)
+Restricts t b vs (w ∷ ws) after = (j : ℕ) × (distinct_of t vs b.pairs w ≡ Ok j) × Restricts t (with_distinct b vs j) (vs ++ j ∷ []) ws after
+
+-- the words of a proof behind `front` steps, and all steps
+abbrev pub StepsAfter : Tables → List Hypothesis → List Step → List Word → List Step → Type 0
+StepsAfter t hyps front [] steps = front ≡ steps
+StepsAfter t hyps front (w ∷ ws) steps =
+    (s : Step) × (step_of t hyps (length front) w ≡ Ok s) × StepsAfter t hyps (front ++ s ∷ []) ws steps
+
+-- an assertion behind what its block holds
+abbrev pub Claims : Known → Block → Claim → Assertion → Type 0
+Claims k b (asserted label ws) a =
+    IsTrue (is_label label) × Pass (assertion_label_tests k label) × (ws ≢ [])
+    × ((e : List Symbol) × ReadsAfter k.tables [] ws e × (axiom_of b label e ≡ a))
+Claims k b (proved label ws steps) a =
+    IsTrue (is_label label) × Pass (assertion_label_tests k label) × (ws ≢ []) × (steps ≢ [])
+    × ((e : List Symbol) × (ss : List Step) × ReadsAfter k.tables [] ws e × StepsAfter k.tables b.hyps [] steps ss
+    × (theorem_of b label e ss ≡ a))
+
+-- a $d or $e in a block, with what is known and what the block holds behind it
+abbrev pub Holds : Known → Block → Piece → Known → Block → Type 0
+Holds k b (distinct ws) after held = (k ≡ after) × Restricts k.tables b [] ws held
+Holds k b (hypothesis label ws) after held =
+    IsTrue (is_label label) × Pass (hypothesis_label_tests k b label) × (ws ≢ [])
+    × ((e : List Symbol) × ReadsAfter k.tables [] ws e × (with_hypothesis_label k label ≡ after) × (with_hypothesis b label e ≡ held))
+
+-- pieces one after the other
+abbrev pub HoldAll : Known → Block → List Piece → Known → Block → Type 0
+HoldAll k b [] after held = (k ≡ after) × (b ≡ held)
+HoldAll k b (p ∷ ps) after held = (next : Known) × (now : Block) × Holds k b p next now × HoldAll next now ps after held
 
 -- a statement that passes its tests, and what is known behind it
 abbrev pub Declares : Known → Statement → Known → Type 0
@@ -51,35 +112,44 @@ Declares k (constants ws) after = IsTrue (in_prelude k) × (ws ≢ []) × Declar
 Declares k (variables ws) after = IsTrue (in_prelude k) × (ws ≢ []) × DeclaresVariables k ws after
 Declares k (float label c v) after =
     IsTrue (in_prelude k) × IsTrue (is_label label) × Pass (float_label_tests k label)
-    × ((i j : ℕ) × (type_of k c ≡ Ok i) × (variable_of k v ≡ Ok j) × (with_float k label i j ≡ after))
-Declares k (asserted label ws) after =
-    IsTrue (is_label label) × Pass (assertion_label_tests k label) × (ws ≢ [])
-    × ((e : List Symbol) × ReadsAfter k [] ws e × (with_axiom k label e ≡ after))
+    × ((i j : ℕ) × (type_of k.tables c ≡ Ok i) × (variable_of k.tables v ≡ Ok j) × (with_float k label i j ≡ after))
+Declares k (alone claim) after = (a : Assertion) × Claims k no_block claim a × (with_assertion k a ≡ after)
+Declares k (block pieces claim) after =
+    (next : Known) × (held : Block) × (a : Assertion) × HoldAll k no_block pieces next held × Claims next held claim a
+    × (with_assertion next a ≡ after)
 
 -- statements one after the other
 abbrev pub DeclareAll : Known → List Statement → Known → Type 0
 DeclareAll k [] after = k ≡ after
 DeclareAll k (s ∷ ss) after = (next : Known) × Declares k s next × DeclareAll next ss after
 
--- what is known, as a database
-abbrev pub database_of : Known → Contents
-database_of k = record { prelude = k.tables; assertions = k.assertions }
+-- ---- texts
 
--- the text has lawful bytes, and its tokens are those of statements that declare the database
+-- the text has lawful bytes, and its words outside of comments are those of statements that declare the database
 pub record Spells (bytes : List ℕ) (db : Contents) : Type 0 where
   pub clean : IsClean bytes
   pub statements : List Statement
-  pub tokens_are : map (λ t. t.text) (tokens bytes) ≡ flat_map spelling statements
+  pub words_are : without_comments false (words_of (tokens bytes)) ≡ Some (flat_map spelling statements)
   pub known : Known
   pub declared : DeclareAll nothing statements known
   pub whole : database_of known ≡ db
 
--- the answer is the database, unless memory ran out
-abbrev pub Reads : Result Contents TextFault → Contents → Type 0
-Reads (Ok found) db = found ≡ db
-Reads (Err f) db = f.kind ≡ NoMemory
+-- the text has lawful bytes, and its words outside of comments are those of one statement that declares, over a whole prelude, the
+-- assertion alone
+pub record SpellsUnit (t : Tables) (bytes : List ℕ) (a : Assertion) : Type 0 where
+  pub clean : IsClean bytes
+  pub statement : Statement
+  pub words_are : without_comments false (words_of (tokens bytes)) ≡ Some (spelling statement)
+  pub known : Known
+  pub declared : Declares (prelude_alone t) statement known
+  pub single : known.units.assertions ≡ a ∷ []
+
+-- the answer is what is spelled, unless memory ran out
+abbrev pub Reads : {A : Type 0} → Result A TextFault → A → Type 0
+Reads (Ok found) a = found ≡ a
+Reads (Err f) a = f.kind ≡ NoMemory
 
 -- the answer is the fault, unless memory ran out
-abbrev pub Refuses : Result Contents TextFault → TextFault → Type 0
+abbrev pub Refuses : {A : Type 0} → Result A TextFault → TextFault → Type 0
 Refuses (Ok found) f = ⊥
 Refuses (Err g) f = (g ≡ f) ⊎ (g.kind ≡ NoMemory)

@@ -1,12 +1,20 @@
--- The canonical layout: one line for each statement, words separated by one space.
-use Rattle.std.specs.Prelude.{◌<◌, ℕ, List, [], ◌∷◌, ◌++◌, length, map, slice_index_or, All}
+-- The canonical layout: one line for each statement, words separated by one space, what stands in a block indented by two.
+use Rattle.std.specs.Prelude.{◌≡◌, ◌<◌, ℕ, suc, List, [], ◌∷◌, ◌++◌, length, map, slice_index_or, All}
 use Rattle.std.specs.List.{flat_map}
+use Rattle.std.specs.Fmt.{decimal}
+use Rattle.std.specs.Prelude.{codes}
 use Rattle.mmstatement.specs.declared.statement.Symbol.{Symbol}
 use Rattle.mmstatement.specs.declared.statement.Symbol.TheVariants.{Const, Var}
-use Rattle.mmstatement.specs.declared.statement.Float.{Float}
+use Rattle.mmstatement.specs.declared.statement.Kind.{Kind}
+use Rattle.mmstatement.specs.declared.statement.Kind.TheVariants.{Axiom, Theorem}
+use Rattle.mmstatement.specs.declared.statement.Step.{Step}
+use Rattle.mmstatement.specs.declared.statement.Step.TheVariants.{Float, Hyp, Cite}
+use Rattle.mmstatement.specs.declared.statement.Float.{Float as FloatOf}
 use Rattle.mmstatement.specs.declared.statement.Assertion.{Assertion}
+use Rattle.mmstatement.specs.Words.{Word}
 use Rattle.mmstatement.specs.Tables.{Contents, Tables}
-use Rattle.mmstatement.specs.Grammar.{Word, Statement, constants, variables, float, asserted, spelling, Spells}
+use Rattle.mmstatement.specs.Grammar.{Claim, asserted, proved, Piece, distinct, hypothesis, Statement, constants, variables, float, alone, block}
+use Rattle.mmstatement.specs.Grammar.{claim_spelling, piece_spelling, spelling, Spells, SpellsUnit}
 
 -- ---- words
 
@@ -15,17 +23,27 @@ abbrev pub word_at : List Word → ℕ → Word
 word_at ws i = slice_index_or ws i []
 
 -- what stands for a $f at a place where there is none
-abbrev pub no_float : Float
+abbrev pub no_float : FloatOf
 no_float = record { label = []; type_code = 0; variable = 0 }
 
 -- the $f at a place
-abbrev pub float_at : List Float → ℕ → Float
+abbrev pub float_at : List FloatOf → ℕ → FloatOf
 float_at fs j = slice_index_or fs j no_float
 
 -- the word of a symbol
 abbrev pub symbol_word : Tables → Symbol → Word
 symbol_word t (Const i) = word_at t.constants i
 symbol_word t (Var j) = word_at t.variables (float_at t.floats j).variable
+
+-- the label of the n-th hypothesis of an assertion, from 1: L.1, L.2, ..
+abbrev pub hypothesis_label : Word → ℕ → Word
+hypothesis_label label n = label ++ 46 ∷ decimal n
+
+-- the word of a step in the proof of an assertion with a label; steps count hypotheses from 0
+abbrev pub step_word : Tables → Word → Step → Word
+step_word t label (Float j) = (float_at t.floats j).label
+step_word t label (Hyp n) = hypothesis_label label (suc n)
+step_word t label (Cite w) = w
 
 -- ---- statements
 
@@ -40,12 +58,36 @@ variables_of [] = []
 variables_of (w ∷ ws) = variables (w ∷ ws) ∷ []
 
 -- a $f as a statement
-abbrev pub float_statement : Tables → Float → Statement
+abbrev pub float_statement : Tables → FloatOf → Statement
 float_statement t f = float f.label (word_at t.constants f.type_code) (word_at t.variables f.variable)
 
--- an axiom as a statement
-abbrev pub axiom_statement : Tables → Assertion → Statement
-axiom_statement t a = asserted a.label (map (symbol_word t) a.statement)
+-- one $d for each pair, in order
+abbrev pub distinct_pieces : Tables → List (ℕ × ℕ) → List Piece
+distinct_pieces t ps = map (λ p. distinct (symbol_word t (Var p.0) ∷ symbol_word t (Var p.1) ∷ [])) ps
+
+-- one $e for each hypothesis of the assertion with a label, behind n others
+abbrev pub hypothesis_pieces : Tables → Word → ℕ → List (List Symbol) → List Piece
+hypothesis_pieces t label n [] = []
+hypothesis_pieces t label n (e ∷ es) =
+    hypothesis (hypothesis_label label (suc n)) (map (symbol_word t) e) ∷ hypothesis_pieces t label (suc n) es
+
+-- an assertion of a kind, with the words of its statement and of its steps
+abbrev pub claim_of_kind : Kind → Word → List Word → List Word → Claim
+claim_of_kind Axiom label ws steps = asserted label ws
+claim_of_kind Theorem label ws steps = proved label ws steps
+
+-- an assertion as a $a or a $p
+abbrev pub claim_of : Tables → Assertion → Claim
+claim_of t a = claim_of_kind a.kind a.label (map (symbol_word t) a.statement) (map (step_word t a.label) a.proof)
+
+-- alone where nothing stands before it, and else in a block
+abbrev pub unit_of : List Piece → Claim → Statement
+unit_of [] claim = alone claim
+unit_of (p ∷ ps) claim = block (p ∷ ps) claim
+
+-- an assertion as a statement
+abbrev pub unit_statement : Tables → Assertion → Statement
+unit_statement t a = unit_of (distinct_pieces t a.pairs ++ hypothesis_pieces t a.label 0 a.hyps) (claim_of t a)
 
 -- all constants, all variables, each $f: a symbol is declared before it is used (section 4.1.3)
 abbrev pub canonical_prelude : Tables → List Statement
@@ -53,7 +95,7 @@ canonical_prelude t = constants_of t.constants ++ (variables_of t.variables ++ m
 
 -- the prelude, then each assertion
 abbrev pub canonical : Tables → List Assertion → List Statement
-canonical t xs = canonical_prelude t ++ map (axiom_statement t) xs
+canonical t xs = canonical_prelude t ++ map (unit_statement t) xs
 
 -- ---- lines
 
@@ -66,17 +108,24 @@ abbrev pub line : List Word → List ℕ
 line [] = 10 ∷ []
 line (w ∷ ws) = w ++ (spaced ws ++ 10 ∷ [])
 
--- the line of a statement
+-- a line in a block
+abbrev pub indented : List Word → List ℕ
+indented ws = 32 ∷ 32 ∷ line ws
+
+-- the lines of a statement
 abbrev pub statement_text : Statement → List ℕ
+statement_text (block pieces claim) =
+    line (codes "${" ∷ [])
+    ++ (flat_map (λ p. indented (piece_spelling p)) pieces ++ (indented (claim_spelling claim) ++ line (codes "$}" ∷ [])))
 statement_text s = line (spelling s)
 
 -- the lines of a prelude
 abbrev pub prelude_text : Tables → List ℕ
 prelude_text t = flat_map statement_text (canonical_prelude t)
 
--- the line of an assertion
+-- the lines of an assertion
 abbrev pub assertion_text : Tables → Assertion → List ℕ
-assertion_text t a = statement_text (axiom_statement t a)
+assertion_text t a = statement_text (unit_statement t a)
 
 -- the lines of the prelude, then those of each assertion; no line of an empty database
 abbrev pub text_of : Contents → List ℕ
@@ -90,13 +139,19 @@ IsWithin t (Const i) = i < length t.constants
 IsWithin t (Var j) = (j < length t.floats) × ((float_at t.floats j).variable < length t.variables)
 
 -- the type and the variable of a $f are of the prelude
-abbrev pub IsFloatWithin : Tables → Float → Type 0
+abbrev pub IsFloatWithin : Tables → FloatOf → Type 0
 IsFloatWithin t f = (f.type_code < length t.constants) × (f.variable < length t.variables)
+
+-- the pairs, the hypotheses and the statement of an assertion are of the prelude
+pub record IsUnitWithin (t : Tables) (a : Assertion) : Type 0 where
+  pub pairs : All (λ p. IsWithin t (Var p.0) × IsWithin t (Var p.1)) a.pairs
+  pub hyps : All (All (IsWithin t)) a.hyps
+  pub statement : All (IsWithin t) a.statement
 
 -- every place is one of the prelude
 pub record IsWhole (db : Contents) : Type 0 where
   pub floats : All (IsFloatWithin db.prelude) db.prelude.floats
-  pub assertions : All (λ a. All (IsWithin db.prelude) a.statement) db.assertions
+  pub assertions : All (IsUnitWithin db.prelude) db.assertions
 
 -- some text is spelled by the database
 pub record HasSpelling (db : Contents) : Type 0 where
@@ -106,3 +161,8 @@ pub record HasSpelling (db : Contents) : Type 0 where
 -- some text declares these tables and no assertion
 abbrev pub IsSoundPrelude : Tables → Type 0
 IsSoundPrelude t = HasSpelling (record { prelude = t; assertions = [] })
+
+-- some text is spelled, over a prelude, by the assertion alone
+pub record HasUnitSpelling (t : Tables) (a : Assertion) : Type 0 where
+  pub text : List ℕ
+  pub spells : SpellsUnit t text a

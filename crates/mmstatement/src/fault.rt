@@ -1,7 +1,9 @@
 //! Why a text is not read.
 
 ghost use Rattle.std.specs.Prelude.{◌≡◌};
+ghost use Rattle.mmstatement.specs.declared.fault.Stop.TheVariants.{Fault};
 
+use crate::token::Token;
 use std::alloc::{AllocError, AllocFailed};
 use std::fmt;
 
@@ -99,6 +101,16 @@ impl fmt::Display for FaultKind {
 pub(crate) enum Stop {
     Memory,
     Fault(TextFault),
+}
+
+/// The fault of a kind at a token.
+pub(crate) fn fault_at(token: Token<'_>, kind: FaultKind) -> Stop
+    ensures { result ≡ Fault (record { place = token.entry.place; kind = kind }) }
+{
+    Stop::Fault(TextFault {
+        place: token.place,
+        kind,
+    })
 }
 
 impl From<AllocError> for Stop {

@@ -1,148 +1,111 @@
-//! What is known while a text is read.
+//! What is known of the assertions while a text is read.
 
-ghost use Rattle.std.specs.Prelude.{◌≡◌, ◌<◌, ◌^◌, ◌++◌, ◌∷◌, [], length, None, Some, OnOk, IfOk};
-ghost use Rattle.mmstatement.specs.Tables.{meaning};
-ghost use Rattle.mmstatement.specs.Rows.{nothing, is_used, in_prelude, with_constant, with_variable, with_float, with_axiom};
-ghost use Rattle.mmstatement.specs.declared.symbols.Name.TheVariants.{Variable};
-ghost use Rattle.mmstatement.specs.Grammar.{database_of};
-ghost use Rattle.mmstatement.specs.Layout.{HasSpelling};
+ghost use Rattle.std.specs.Prelude.{◌≡◌, ◌<◌, ◌^◌, ◌++◌, ◌∷◌, true, [], length, OnOk};
+ghost use Rattle.mmstatement.specs.Rows.{no_units, is_unit_label, is_used};
+ghost use Rattle.mmstatement.specs.Faults.{first_of};
+ghost use Rattle.mmstatement.specs.Views.{known_of};
 
-use crate::database::Database;
-use crate::prelude::Prelude;
 use crate::sequence::Sequence;
-use crate::statement::{Assertion, Kind, Symbol};
-use crate::symbols::{Name, SymbolTable};
+use crate::statement::{Assertion, Label};
+use crate::symbols::SymbolTable;
 use std::alloc::{AllocError, Global};
 use std::collections::HashMap;
 use std::hash::RandomState;
 use std::marker::Model;
 
-/// The statements so far. The map has the labels of the assertions.
+/// The assertions so far, and whether `$c`, `$v` and `$f` are over. The map has their labels and those of all `$e`.
 #[derive(Drop)]
-pub(crate) struct Reading {
-    symbols: SymbolTable,
+pub(crate) struct Units {
     assertions: Vec<Assertion>,
+    hypothesis_labels: Vec<Label>,
+    prelude_closed: bool,
     labels: HashMap<Vec<u8>, (), RandomState>,
 }
 
-impl Model for Reading {
-    ghost use Rattle.mmstatement.specs.Rows.{Known};
+impl Model for Units {
+    ghost use Rattle.mmstatement.specs.Rows.{Units as Seen};
     ghost use Rattle.mmstatement.specs.Labels.{HasLabels};
 
-    ghost Value = { Known };
+    ghost Value = { Seen };
 
-    ghost view = { λ r. record { tables = r.symbols; assertions = r.assertions.items } };
+    ghost view = { λ u. record {
+      assertions = u.assertions.items;
+      hypothesis_labels = u.hypothesis_labels.items;
+      prelude_closed = u.prelude_closed;
+    } };
 
-    ghost invariant = { λ r. HasLabels r.labels r.assertions.items };
+    ghost invariant = { λ u. HasLabels u.labels (record {
+      assertions = u.assertions.items;
+      hypothesis_labels = u.hypothesis_labels.items;
+      prelude_closed = u.prelude_closed;
+    }) };
 }
 
-impl Reading {
-    pub fn new(alloc: Global, keys: RandomState) -> Self
-        ensures { result ≡ nothing }
+impl Units {
+    pub fn new(alloc: Global, keys: RandomState, prelude_closed: bool) -> Self
+        ensures { result ≡ no_units prelude_closed }
     {
-        Reading {
-            symbols: SymbolTable::new(alloc, keys),
+        Units {
             assertions: Vec::new(alloc),
+            hypothesis_labels: Vec::new(alloc),
+            prelude_closed,
             labels: HashMap::with_hasher(alloc, keys),
         }
     }
 
-    pub fn is_in_prelude(&self) -> bool
-        ensures { result ≡ in_prelude self.now }
-    {
-        self.assertions.is_empty()
+    /// The keys from which its map draws its hashes.
+    pub fn keys(&self) -> RandomState {
+        *self.labels.hasher()
     }
 
-    pub fn look_up(&self, word: &[u8]) -> Option<Name>
-        ensures { result ≡ meaning self.now.tables word.now }
+    pub fn is_prelude_closed(&self) -> bool
+        ensures { result ≡ self.now.prelude_closed }
     {
-        self.symbols.look_up(word)
+        self.prelude_closed
     }
 
-    pub fn has_name(&self, word: &[u8]) -> bool
-        ensures { result ≡ is_used self.now word.now }
-    {
-        self.symbols.look_up(word).is_some() || self.labels.contains_key(word)
-    }
-
-    pub fn constants(&self) -> usize
-        ensures { result ≡ length self.now.tables.constants }
-    {
-        self.symbols.constants().len()
-    }
-
-    pub fn variables(&self) -> usize
-        ensures { result ≡ length self.now.tables.variables }
-    {
-        self.symbols.variables().len()
-    }
-
-    pub fn floats(&self) -> usize
-        ensures { result ≡ length self.now.tables.floats }
-    {
-        self.symbols.floats().len()
-    }
-
-    pub fn assertions(&self) -> usize
+    /// How many assertions stand.
+    pub fn count(&self) -> usize
         ensures { result ≡ length self.now.assertions }
     {
         self.assertions.len()
     }
 
-    pub fn add_constant(&mut self, alloc: Global, word: &[u8]) -> Result<(), AllocError>
-        requires new { meaning self.old.tables word.now ≡ None }
-        requires room { length self.old.tables.constants < 65535 }
-        ensures { OnOk result (self.new ≡ with_constant self.old word.now) }
+    /// Whether an earlier assertion or `$e` has the label.
+    pub fn has_label(&self, word: &[u8]) -> bool
+        ensures { result ≡ is_unit_label self.now word.now }
     {
-        self.symbols.add_constant(alloc, word)
+        self.labels.contains_key(word)
     }
 
-    pub fn add_variable(&mut self, alloc: Global, word: &[u8]) -> Result<(), AllocError>
-        requires new { meaning self.old.tables word.now ≡ None }
-        requires room { length self.old.tables.variables < 65535 }
-        ensures { OnOk result (self.new ≡ with_variable self.old word.now) }
-    {
-        self.symbols.add_variable(alloc, word)
-    }
-
-    pub fn add_float(
-        &mut self,
-        alloc: Global,
-        label: &[u8],
-        type_code: u32,
-        word: &[u8],
-        variable: u32,
-    ) -> Result<(), AllocError>
-        requires new { meaning self.old.tables label.now ≡ None }
-        requires variable { meaning self.old.tables word.now ≡ Some (Variable variable None) }
-        requires room { length self.old.tables.floats < 65535 }
-        ensures { OnOk result (self.new ≡ with_float self.old label.now type_code variable) }
-    {
-        self.symbols
-            .add_float(alloc, label, type_code, word, variable)
-    }
-
-    /// One more axiom.
-    pub fn add_axiom(
-        &mut self,
-        alloc: Global,
-        label: &[u8],
-        symbols: Vec<Symbol>,
-    ) -> Result<(), AllocError>
-        ensures { OnOk result (self.new ≡ with_axiom self.old label.now symbols.items) }
+    /// One more label of a `$e`.
+    pub fn add_hypothesis_label(&mut self, alloc: Global, label: &[u8]) -> Result<(), AllocError>
+        ensures { OnOk result (self.new ≡ record self.old { hypothesis_labels = self.old.hypothesis_labels ++ label.now ∷ [] }) }
     {
         let key = Vec::from_slice(alloc, label)?;
-        let axiom = Assertion {
-            label: Sequence::from_vec(Vec::from_slice(alloc, label)?),
-            kind: Kind::Axiom,
-            pairs: Sequence::from_vec(Vec::new(alloc)),
-            hyps: Sequence::from_vec(Vec::new(alloc)),
-            statement: Sequence::from_vec(symbols),
-            proof: Sequence::from_vec(Vec::new(alloc)),
-        };
-        self.assertions.push(axiom)?;
+        let label = Sequence::from_vec(Vec::from_slice(alloc, label)?);
+        self.hypothesis_labels.push(label)?;
         match self.labels.insert(key, ()) {
             Ok(_) => Ok(()),
+            Err(_) => {
+                let _ = self.hypothesis_labels.pop();
+                Err(AllocError)
+            }
+        }
+    }
+
+    /// One more assertion, which closes the prelude.
+    pub fn add_assertion(&mut self, alloc: Global, assertion: Assertion) -> Result<(), AllocError>
+        ensures { OnOk result
+            (self.new ≡ record self.old { assertions = self.old.assertions ++ assertion ∷ []; prelude_closed = true }) }
+    {
+        let key = Vec::from_slice(alloc, assertion.label.as_slice())?;
+        self.assertions.push(assertion)?;
+        match self.labels.insert(key, ()) {
+            Ok(_) => {
+                self.prelude_closed = true;
+                Ok(())
+            }
             Err(_) => {
                 let _ = self.assertions.pop();
                 Err(AllocError)
@@ -150,14 +113,24 @@ impl Reading {
         }
     }
 
-    /// The database of the statements so far, which are those of some text.
-    pub fn into_database(self) -> Database
-        requires { HasSpelling (database_of self) }
-        ensures { result ≡ database_of self }
+    /// All assertions, in order.
+    pub fn into_assertions(self) -> Vec<Assertion>
+        ensures { result.items ≡ self.assertions }
     {
-        Database::new(
-            Prelude::new(self.symbols),
-            Sequence::from_vec(self.assertions),
-        )
+        self.assertions
     }
+
+    /// The first assertion, if there is one.
+    pub fn into_first(self) -> Option<Assertion>
+        ensures { result ≡ first_of self.assertions }
+    {
+        self.assertions.into_iter().next()
+    }
+}
+
+/// Whether an earlier symbol or label is the word.
+pub(crate) fn has_name(symbols: &SymbolTable, units: &Units, word: &[u8]) -> bool
+    ensures { result ≡ is_used (known_of symbols.now units.now) word.now }
+{
+    symbols.look_up(word).is_some() || units.has_label(word)
 }

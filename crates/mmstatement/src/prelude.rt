@@ -37,6 +37,13 @@ impl Prelude {
         Prelude { symbols }
     }
 
+    /// Its symbol table.
+    pub(crate) fn symbols(&self) -> &SymbolTable
+        ensures { result.now ≡ self.now }
+    {
+        &self.symbols
+    }
+
     /// What a word names in the prelude: one look-up in a map.
     pub fn look_up(&self, word: &[u8]) -> Option<Name>
         ensures { result ≡ meaning self.now word.now }

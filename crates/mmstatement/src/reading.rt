@@ -1,383 +1,192 @@
 //! Reading a database, token by token.
 
-ghost use Rattle.std.specs.Prelude.{◌≡◌, ◌≢◌, ◌<◌, ◌≤◌, ◌^◌, ◌+◌, ◌++◌, ◌∷◌, [], length, None, Some, Ok, Err, IfOk, IfErr, OnOk};
-ghost use Rattle.mmstatement.specs.Rows.{first_fault, symbol_tests, label_tests, symbol_of, type_of, variable_of};
-ghost use Rattle.mmstatement.specs.Text.{bad_byte};
-ghost use Rattle.mmstatement.specs.Faults.{at_start, at_keyword, at_constant, at_variable, at_type, at_float_variable, at_float_end};
-ghost use Rattle.mmstatement.specs.Faults.{at_symbol, everywhere, in_place, step, token_reading, reading, Stands, IsFree, Faulty};
-ghost use Rattle.mmstatement.specs.Grammar.{Spells, Reads, Refuses};
+ghost use Rattle.std.specs.Prelude.{◌≡◌, ◌≢◌, ◌≤◌, length, IfOk, IfErr};
 ghost use Rattle.mmstatement.specs.declared.fault.TextFault.{TextFault};
-ghost use Rattle.mmstatement.specs.Tables.{Contents};
 ghost use Rattle.mmstatement.specs.declared.fault.FaultKind.TheVariants.{NoMemory};
-ghost use Rattle.mmstatement.specs.Tables.{meaning};
-ghost use Rattle.mmstatement.specs.declared.symbols.Name.TheVariants.{Variable};
-ghost use Rattle.mmstatement.specs.Views.{seen, seen_place, Gives, Leads};
-ghost use Rattle.mmstatement.specs.declared.fault.Stop.TheVariants.{Fault};
+ghost use Rattle.mmstatement.specs.Tables.{Contents};
+ghost use Rattle.mmstatement.specs.Languages.{step, said_at, finished, token_reading, reading};
+ghost use Rattle.mmstatement.specs.Faults.{in_place, database_language, FaultyDatabase, Stands};
+ghost use Rattle.mmstatement.specs.Grammar.{Spells, Reads, Refuses};
+ghost use Rattle.mmstatement.specs.Layout.{HasSpelling};
+ghost use Rattle.mmstatement.specs.Views.{seen, seen_place, seen_state, known_of, contents_of, Gives, Leads};
 
+mod labels;
+mod prelude_rows;
+mod steps;
+mod texts;
+mod unit_rows;
+mod units;
+
+use crate::comments::{Turn, comment_turn};
 use crate::database::Database;
-use crate::fault::{FaultKind, Stop, TextFault};
-use crate::known::Reading;
-use crate::mark::{
-    Mark, contains_dollar, contains_dot, is_label_token, mark_word, names_hypothesis,
-};
-use crate::place::Place;
-use crate::statement::Symbol;
-use crate::symbols::Name;
-use crate::token::{Token, first_bad_byte, next_token};
+use crate::fault::{Stop, TextFault};
+use crate::known::Units;
+use crate::mark::{Mark, mark_word};
+use crate::place::{Place, Scope, State, UnitPlace};
+use crate::prelude::Prelude;
+use crate::sequence::Sequence;
+use crate::statement::Assertion;
+use crate::symbols::SymbolTable;
+use crate::token::{Token, next_token};
+use prelude_rows::next_prelude_place;
 use std::alloc::Global;
 use std::hash::RandomState;
+use texts::{is_outermost, no_memory, text_fault, unfinished_at};
+use unit_rows::next_unit_place;
+pub use units::read_assertion;
 
-/// The fault of a kind at a token.
-fn fault_at(token: Token<'_>, kind: FaultKind) -> Stop
-    ensures { result ≡ Fault (record { place = token.entry.place; kind = kind }) }
-{
-    Stop::Fault(TextFault {
-        place: token.place,
-        kind,
-    })
-}
-
-/// Start of a statement.
-fn start<'a>(known: &Reading, token: Token<'a>, mark: Mark) -> Result<Place<'a>, Stop>
-    ensures { Leads known.now result (at_start known.now (seen token.entry) mark) }
-{
-    match mark {
-        Mark::Constants => {
-            if known.is_in_prelude() {
-                Ok(Place::InConstants(false))
-            } else {
-                Err(fault_at(token, FaultKind::OutOfProfile))
-            }
-        }
-        Mark::Variables => {
-            if known.is_in_prelude() {
-                Ok(Place::InVariables(false))
-            } else {
-                Err(fault_at(token, FaultKind::OutOfProfile))
-            }
-        }
-        Mark::Plain => {
-            if is_label_token(token.text) {
-                Ok(Place::AfterLabel(token))
-            } else {
-                Err(fault_at(token, FaultKind::BadToken))
-            }
-        }
-        _ => Err(fault_at(token, FaultKind::BadToken)),
-    }
-}
-
-/// The fault of a label, once its keyword has passed.
-fn label_fault(known: &Reading, count: usize, limit: usize, word: &[u8]) -> Option<FaultKind>
-    ensures { result ≡ first_fault (label_tests known.now count limit word.now) }
-{
-    if contains_dot(word) || word.len() > 255 {
-        return Some(FaultKind::BadLabel);
-    }
-    if known.has_name(word) {
-        return Some(FaultKind::RepeatedLabel);
-    }
-    if count >= limit {
-        return Some(FaultKind::TooLong);
-    }
-    None
-}
-
-/// Behind a label.
-fn keyword<'a>(
-    known: &Reading,
-    label: Token<'a>,
-    token: Token<'a>,
-    mark: Mark,
-    alloc: Global,
-) -> Result<Place<'a>, Stop>
-    ensures { Leads known.now result (at_keyword known.now (seen label.entry) (seen token.entry) mark) }
-{
-    match mark {
-        Mark::Floating => {
-            if !known.is_in_prelude() {
-                return Err(fault_at(token, FaultKind::OutOfProfile));
-            }
-            match label_fault(known, known.floats(), 65535, label.text) {
-                Some(kind) => Err(fault_at(label, kind)),
-                None => Ok(Place::FloatType(label.text)),
-            }
-        }
-        Mark::Axiom => match label_fault(known, known.assertions(), 4096, label.text) {
-            Some(kind) => Err(fault_at(label, kind)),
-            None => Ok(Place::InAxiom(label.text, Vec::new(alloc))),
-        },
-        _ => Err(fault_at(token, FaultKind::BadToken)),
-    }
-}
-
-/// The fault of a symbol in `$c` or `$v`.
-fn symbol_fault(known: &Reading, count: usize, word: &[u8]) -> Option<FaultKind>
-    ensures { result ≡ first_fault (symbol_tests known.now count word.now) }
-{
-    if contains_dollar(word) {
-        return Some(FaultKind::BadToken);
-    }
-    if word.len() > 255 {
-        return Some(FaultKind::TooLong);
-    }
-    if names_hypothesis(word) {
-        return Some(FaultKind::OutOfProfile);
-    }
-    if known.has_name(word) {
-        return Some(FaultKind::RepeatedLabel);
-    }
-    if count >= 65535 {
-        return Some(FaultKind::TooLong);
-    }
-    None
-}
-
-/// A symbol in `$c`, or the `$.` behind one.
-fn constant<'a>(
-    alloc: Global,
-    known: &mut Reading,
-    seen_one: bool,
-    token: Token<'a>,
-    mark: Mark,
-) -> Result<Place<'a>, Stop>
-    ensures { Leads known.new result (at_constant known.old seen_one (seen token.entry) mark) }
-{
-    if seen_one && mark == Mark::End {
-        return Ok(Place::Outermost);
-    }
-    if let Some(kind) = symbol_fault(known, known.constants(), token.text) {
-        return Err(fault_at(token, kind));
-    }
-    known.add_constant(alloc, token.text)?;
-    Ok(Place::InConstants(true))
-}
-
-/// A symbol in `$v`, or the `$.` behind one.
-fn variable<'a>(
-    alloc: Global,
-    known: &mut Reading,
-    seen_one: bool,
-    token: Token<'a>,
-    mark: Mark,
-) -> Result<Place<'a>, Stop>
-    ensures { Leads known.new result (at_variable known.old seen_one (seen token.entry) mark) }
-{
-    if seen_one && mark == Mark::End {
-        return Ok(Place::Outermost);
-    }
-    if let Some(kind) = symbol_fault(known, known.variables(), token.text) {
-        return Err(fault_at(token, kind));
-    }
-    known.add_variable(alloc, token.text)?;
-    Ok(Place::InVariables(true))
-}
-
-/// The type of a `$f`.
-#[tactic(auto, unfolding(crate::specs::Rows::type_of))]
-fn float_type<'a>(known: &Reading, label: &'a [u8], token: Token<'a>) -> Result<Place<'a>, Stop>
-    ensures { Leads known.now result (at_type known.now label.entry.now (seen token.entry)) }
-{
-    if contains_dollar(token.text) {
-        return Err(fault_at(token, FaultKind::UnknownSymbol));
-    }
-    match known.look_up(token.text) {
-        Some(Name::Constant(i)) => Ok(Place::FloatVariable(label, i)),
-        _ => Err(fault_at(token, FaultKind::UnknownSymbol)),
-    }
-}
-
-/// The variable of a `$f`.
-#[tactic(auto, unfolding(crate::specs::Rows::variable_of))]
-fn float_variable<'a>(
-    known: &Reading,
-    label: &'a [u8],
-    type_code: u32,
-    token: Token<'a>,
-) -> Result<Place<'a>, Stop>
-    ensures { Leads known.now result (at_float_variable known.now label.entry.now type_code (seen token.entry)) }
-{
-    if contains_dollar(token.text) {
-        return Err(fault_at(token, FaultKind::UnknownSymbol));
-    }
-    match known.look_up(token.text) {
-        Some(Name::Variable(i, None)) => Ok(Place::FloatEnd(label, type_code, token.text, i)),
-        Some(Name::Variable(_, Some(_))) => Err(fault_at(token, FaultKind::RepeatedLabel)),
-        _ => Err(fault_at(token, FaultKind::UnknownSymbol)),
-    }
-}
-
-#[tactic(auto, unfolding(crate::specs::Rows::symbol_of))]
-/// The symbol that a word is behind `count` symbols.
-fn symbol(known: &Reading, count: usize, word: &[u8]) -> Result<Symbol, FaultKind>
-    ensures { result ≡ symbol_of known.now count word.now }
-{
-    if contains_dollar(word) {
-        return Err(FaultKind::BadToken);
-    }
-    let symbol = match known.look_up(word) {
-        Some(Name::Constant(i)) => Symbol::Const(i),
-        Some(Name::Variable(_, Some(j))) if count > 0 => Symbol::Var(j),
-        Some(Name::Variable(_, None)) if count > 0 => return Err(FaultKind::NoTypeFor),
-        _ => return Err(FaultKind::UnknownSymbol),
-    };
-    if count >= 65535 {
-        return Err(FaultKind::TooLong);
-    }
-    Ok(symbol)
-}
-
-/// A symbol of an axiom, or the `$.` behind one.
-fn axiom_symbol<'a>(
-    alloc: Global,
-    known: &mut Reading,
-    label: &'a [u8],
-    mut symbols: Vec<Symbol>,
-    token: Token<'a>,
-    mark: Mark,
-) -> Result<Place<'a>, Stop>
-    ensures { Leads known.new result (at_symbol known.old label.entry.now symbols.items (seen token.entry) mark) }
-{
-    if mark == Mark::End && !symbols.is_empty() {
-        known.add_axiom(alloc, label, symbols)?;
-        return Ok(Place::Outermost);
-    }
-    match symbol(known, symbols.len(), token.text) {
-        Ok(s) => {
-            symbols.push(s)?;
-            Ok(Place::InAxiom(label, symbols))
-        }
-        Err(kind) => Err(fault_at(token, kind)),
-    }
-}
-
-/// The end of a `$f`.
-fn float_end<'a>(
-    alloc: Global,
-    known: &mut Reading,
-    label: &'a [u8],
-    type_code: u32,
-    variable_word: &'a [u8],
-    variable: u32,
-    token: Token<'a>,
-    mark: Mark,
-) -> Result<Place<'a>, Stop>
-    requires free { IsFree known.old label.now }
-    requires variable { meaning known.old.tables variable_word.now ≡ Some (Variable variable None) }
-    ensures { Leads known.new result (at_float_end known.old label.entry.now type_code variable (seen token.entry) mark) }
-{
-    if mark != Mark::End {
-        return Err(fault_at(token, FaultKind::BadToken));
-    }
-    known.add_float(alloc, label, type_code, variable_word, variable)?;
-    Ok(Place::Outermost)
-}
-
-/// The fault of a token that may stand nowhere.
-fn fault_everywhere(mark: Mark) -> Option<FaultKind>
-    ensures { result ≡ everywhere mark }
-{
-    match mark {
-        Mark::Provable
-        | Mark::Essential
-        | Mark::Disjoint
-        | Mark::Opening
-        | Mark::Comment
-        | Mark::Include
-        | Mark::Included => Some(FaultKind::OutOfProfile),
-        Mark::Uncomment => Some(FaultKind::BadToken),
-        _ => None,
-    }
-}
-
-/// Where a token leads.
-#[tactic(auto, unfolding(crate::specs::Faults::step))]
+/// Where a token leads that stands outside of comments.
 fn next_place<'a>(
     alloc: Global,
-    known: &mut Reading,
+    symbols: &mut SymbolTable,
+    units: &mut Units,
     place: Place<'a>,
     token: Token<'a>,
+    mark: Mark,
 ) -> Result<Place<'a>, Stop>
-    requires { Stands known.old (seen_place place) }
-    ensures { Leads known.new result (step (record { known = known.old; place = seen_place place.entry }) (seen token.entry)) }
+    requires { Stands (known_of symbols.old units.old) (seen_place place) }
+    ensures { Leads symbols.new units.new result
+        (in_place (known_of symbols.old units.old) (seen_place place.entry) (seen token.entry) mark) }
 {
-    let mark = mark_word(token.text);
-    if let Some(kind) = fault_everywhere(mark) {
-        return Err(fault_at(token, kind));
-    }
     match place {
-        Place::Outermost => start(known, token, mark),
-        Place::AfterLabel(label) => keyword(known, label, token, mark, alloc),
-        Place::InConstants(seen_one) => constant(alloc, known, seen_one, token, mark),
-        Place::InVariables(seen_one) => variable(alloc, known, seen_one, token, mark),
-        Place::FloatType(label) => float_type(known, label, token),
-        Place::FloatVariable(label, i) => float_variable(known, label, i, token),
-        Place::FloatEnd(label, i, word, v) => {
-            float_end(alloc, known, label, i, word, v, token, mark)
-        }
-        Place::InAxiom(label, symbols) => {
-            axiom_symbol(alloc, known, label, symbols, token, mark)
-        }
+        Place::Prelude(place) => next_prelude_place(alloc, symbols, units, place, token, mark),
+        Place::Unit(place) => next_unit_place(alloc, symbols, units, place, token, mark),
     }
+}
+
+/// Where a token of a database leads.
+fn advance<'a>(
+    alloc: Global,
+    symbols: &mut SymbolTable,
+    units: &mut Units,
+    state: State<'a>,
+    token: Token<'a>,
+) -> Result<State<'a>, Stop>
+    requires { Stands (known_of symbols.old units.old) (seen_place state.place) }
+    ensures { Gives (λ s. seen_state symbols.new units.new s) result
+        (step database_language (seen_state symbols.old units.old state.entry) (seen token.entry)) }
+{
+    let State { place, in_comment } = state;
+    let mark = mark_word(token.text);
+    match comment_turn(in_comment, token, mark)? {
+        Turn::Skipped(in_comment) => Ok(State { place, in_comment }),
+        Turn::Read => Ok(State {
+            place: next_place(alloc, symbols, units, place, token, mark)?,
+            in_comment: false,
+        }),
+    }
+}
+
+/// What a text declares that ends in a state. `length` is that of the text.
+fn finish(
+    symbols: SymbolTable,
+    units: Units,
+    state: State<'_>,
+    length: usize,
+) -> Result<(SymbolTable, Vec<Assertion>), Stop>
+    ensures { Gives (λ r. contents_of r.0 r.1.items) result
+        (finished length (said_at database_language (seen_state symbols units state.entry))) }
+{
+    if state.in_comment || !is_outermost(&state.place) {
+        return Err(unfinished_at(length));
+    }
+    Ok((symbols, units.into_assertions()))
 }
 
 /// What the tokens of a text declare.
-fn read_tokens(alloc: Global, keys: RandomState, text: &[u8]) -> Result<Reading, Stop>
-    ensures { Gives (λ k. k) result (token_reading text.now) }
+fn read_tokens(
+    alloc: Global,
+    keys: RandomState,
+    text: &[u8],
+) -> Result<(SymbolTable, Vec<Assertion>), Stop>
+    ensures { Gives (λ r. contents_of r.0 r.1.items) result (token_reading database_language text.now) }
 {
-    let mut known = Reading::new(alloc, keys);
-    let mut place = Place::Outermost;
+    let mut symbols = SymbolTable::new(alloc, keys);
+    let mut units = Units::new(alloc, keys, false);
+    let mut state = State {
+        place: Place::Unit(UnitPlace::AtStart(Scope::Outside)),
+        in_comment: false,
+    };
     let mut at = 0;
     while let Some(token) = next_token(text, at) {
         at = token.place + token.text.len();
-        place = next_place(alloc, &mut known, place, token)?;
+        state = advance(alloc, &mut symbols, &mut units, state, token)?;
     }
-    match place {
-        Place::Outermost => Ok(known),
-        _ => Err(Stop::Fault(TextFault {
-            place: text.len(),
-            kind: FaultKind::Unfinished,
-        })),
-    }
+    finish(symbols, units, state, text.len())
 }
 
-/// What a text declares.
-#[tactic(auto, unfolding(crate::specs::Faults::reading))]
-fn read_text(alloc: Global, keys: RandomState, text: &[u8]) -> Result<Reading, Stop>
-    ensures { Gives (λ k. k) result (reading text.now) }
+/// What a text declares: its length is tested first, then its bytes, then its tokens.
+fn read_text(
+    alloc: Global,
+    keys: RandomState,
+    text: &[u8],
+) -> Result<(SymbolTable, Vec<Assertion>), Stop>
+    ensures { Gives (λ r. contents_of r.0 r.1.items) result (reading database_language text.now) }
 {
-    if text.len() > 16_777_216 {
-        return Err(Stop::Fault(TextFault {
-            place: 16_777_216,
-            kind: FaultKind::TooLong,
-        }));
-    }
-    if let Some(place) = first_bad_byte(text) {
-        return Err(Stop::Fault(TextFault {
-            place,
-            kind: FaultKind::BadByte,
-        }));
+    if let Some(fault) = text_fault(text) {
+        return Err(Stop::Fault(fault));
     }
     read_tokens(alloc, keys, text)
 }
 
 /// The database that a text spells.
+///
+/// Hypotheses are kept by their places, and their labels are forgotten; so are comments. A step that cites an assertion keeps its label,
+/// which no reader looks up. `keys` make the hashes of the maps inside.
+///
+/// # Errors
+///
+/// The first fault of the text, from the front. Its length comes first, then its bytes, then each token; where a token breaks more than
+/// one rule, the first below counts. Limits: 16,777,216 bytes; 65,535 constants, variables, `$f`, symbols of an expression and
+/// different pairs of a block; 1,000 `$e` of a block; 4,096 assertions; 16,384 steps; 255 bytes of a symbol or label, 260 of the label
+/// of a `$e`.
+///
+/// - `TooLong` at 16,777,216: the text has more bytes than that.
+/// - `BadByte`: a byte that is neither printable ASCII nor white space, also in a comment.
+/// - `BadToken`: in a comment a token other than `$)` that has `$(` or `$)` in it; outside of comments `$)`.
+/// - `OutOfProfile`: `$[` or `$]` outside of comments.
+/// - At the start of a statement, outermost: `OutOfProfile` for `$d`, and for `$c` or `$v` behind an assertion; `BadToken` for
+///   what isn't `$c`, `$v`, `${` or letters, digits, `-`, `_` and `.`. In a block: `OutOfProfile` for `$c`, `$v`, `${`, and behind its
+///   assertion for `$d` or a label; `BadToken` for what isn't `$d` or a label, and behind its assertion for what isn't `$}`.
+/// - Behind a label: `OutOfProfile` for `$f` in a block or behind an assertion, and for `$e` outermost; `BadToken` for what isn't `$f`,
+///   `$e`, `$a` or `$p`.
+/// - At the label, once its keyword has passed: `BadLabel` if it is too long, or for `$f`, `$a` and `$p` has a `.`; `RepeatedLabel` if an
+///   earlier label, of a `$e` too, or a symbol is equal; `TooLong` where no more `$f`, `$e` or assertions may stand.
+/// - In `$c` and `$v`: `BadToken` for a token with `$`, also a `$.` with no symbol before it; `TooLong` for a long symbol; `OutOfProfile`
+///   for one as `a.1`, which a hypothesis may have as label; `RepeatedLabel` where an earlier symbol or label is equal; `TooLong` where
+///   no more may stand.
+/// - In `$f`: `UnknownSymbol` where the type isn't a constant or the variable isn't one; `RepeatedLabel` where the variable has a `$f`;
+///   `BadToken` for what isn't `$.` behind them.
+/// - In `$d`: `BadToken` for a token with `$`, also a `$.` behind fewer than two variables; `UnknownSymbol` for what isn't a variable;
+///   `NoTypeFor` for one without `$f`; `BadToken` for one that stands twice; `TooLong` for too many pairs.
+/// - In `$e`, `$a` and `$p`: `BadToken` for a token with `$`, also an end with no symbol before it; `UnknownSymbol` where the first symbol
+///   isn't a constant or a later one isn't declared; `NoTypeFor` for a variable without `$f`; `TooLong` for too many symbols.
+/// - In a proof: `OutOfProfile` for `?` and `(`; `BadToken` for a token with `$`, also a `$.` with no step before it, and for what isn't
+///   a label; `TooLong` for too many steps; `BadLabel` for a label that is too long or has a `.`, unless it is that of a `$f` or of a `$e`
+///   of the block.
+/// - `Unfinished` at the length of the text: it ends in a statement, in a block or in a comment.
+/// - `NoMemory`, with place 0: memory ran out.
 pub fn read_database(alloc: Global, keys: RandomState, text: &[u8]) -> Result<Database, TextFault>
     // What is read is spelled so.
     ensures found { IfOk result (λ db. Spells text.now db) }
     // What is spelled so is read, if the text isn't too long, unless memory runs out.
     ensures only { (db : Contents) → length text.now ≤ 16777216 → Spells text.now db → Reads result db }
     // Any other fault than want of memory is the text's.
-    ensures fault { IfErr result (λ f. f.kind ≢ NoMemory → Faulty text.now f) }
+    ensures fault { IfErr result (λ f. f.kind ≢ NoMemory → FaultyDatabase text.now f) }
     // A text with a fault is refused with it, unless memory runs out.
-    ensures refused { (f : TextFault) → Faulty text.now f → Refuses result f }
+    ensures refused { (f : TextFault) → FaultyDatabase text.now f → Refuses result f }
 {
     match read_text(alloc, keys, text) {
-        Ok(known) => Ok(known.into_database()),
+        Ok((symbols, assertions)) => Ok(into_database(symbols, assertions)),
         Err(Stop::Fault(fault)) => Err(fault),
-        Err(Stop::Memory) => Err(TextFault {
-            place: 0,
-            kind: FaultKind::NoMemory,
-        }),
+        Err(Stop::Memory) => Err(no_memory()),
     }
+}
+
+/// The database of what some text declares.
+fn into_database(symbols: SymbolTable, assertions: Vec<Assertion>) -> Database
+    requires { HasSpelling (contents_of symbols assertions.items) }
+    ensures { result ≡ contents_of symbols assertions.items }
+{
+    Database::new(Prelude::new(symbols), Sequence::from_vec(assertions))
 }

@@ -4,7 +4,7 @@ use crate::database::Database;
 use crate::fault::{FaultKind, TextFault};
 use crate::fitting::{fits, is_lawful_label};
 use crate::mark::{Mark, contains_comment_mark, contains_dollar, mark_word};
-use crate::reading::read_database;
+use crate::reading::{read_assertion, read_database};
 use crate::sequence::Sequence;
 use crate::statement::{Assertion, Expr, Frame, Kind, Label, Step, Symbol};
 use crate::symbols::Name;
@@ -23,6 +23,32 @@ const PAIR: &[u8] =
 /// The same, as another writer may lay it out.
 const PAIR_OTHERWISE: &[u8] =
     b" $c wff $. $c |-\t$.\r\n$v x $.\nwx $f wff x $. $v y $. wy $f wff y $.\n\nid $a\x0c|- x y x $. wc $a wff $.";
+
+/// Seven axioms, one of them in a block, and a theorem.
+const DEMO: &[u8] = b"$c 0 + = -> ( ) term wff |- $.
+$v t r s P Q $.
+tt $f term t $.
+tr $f term r $.
+ts $f term s $.
+wp $f wff P $.
+wq $f wff Q $.
+tze $a term 0 $.
+tpl $a term ( t + r ) $.
+weq $a wff t = r $.
+wim $a wff ( P -> Q ) $.
+a1 $a |- ( t = r -> ( t = s -> r = s ) ) $.
+a2 $a |- ( t + 0 ) = t $.
+${
+  mp.1 $e |- P $.
+  mp.2 $e |- ( P -> Q ) $.
+  mp $a |- Q $.
+$}
+th1 $p |- t = t $= tt tze tpl tt weq tt tt weq tt a2 tt tze tpl tt weq tt tze tpl tt weq tt tt weq wim tt a2 tt tze tpl tt tt a1 mp mp $.
+";
+
+/// The line of `th1`.
+const TH1: &[u8] =
+    b"th1 $p |- t = t $= tt tze tpl tt weq tt tt weq tt a2 tt tze tpl tt weq tt tze tpl tt weq tt tt weq wim tt a2 tt tze tpl tt tt a1 mp mp $.";
 
 fn at(kind: FaultKind, place: usize) -> Option<TextFault> {
     Some(TextFault { place, kind })
@@ -56,7 +82,11 @@ fn reads_fronts_of_mini(rt: HostRuntime) -> Result<(), Fail> {
 
 #[test]
 fn finds_faults(rt: HostRuntime) -> Result<(), Fail> {
-    let rows: [(&[u8], Option<TextFault>); 9] = [
+    let rows: [(&[u8], Option<TextFault>); 10] = [
+        (b"", None),
+        (b"$c wff $. a $p wff $=", at(FaultKind::Unfinished, 21)),
+        (b"$( x", at(FaultKind::Unfinished, 4)),
+        (b"$( $( $)", at(FaultKind::BadToken, 3)),
         (b"$c 0 0 $.", at(FaultKind::RepeatedLabel, 5)),
         (b"$c w\x80", at(FaultKind::BadByte, 4)),
         (b"$[ a $]", at(FaultKind::OutOfProfile, 0)),
@@ -64,14 +94,8 @@ fn finds_faults(rt: HostRuntime) -> Result<(), Fail> {
             b"$c wff $. $v x $. a $a wff x $.",
             at(FaultKind::NoTypeFor, 27),
         ),
-        (
-            b"$c wff $. a $p wff $= a $.",
-            at(FaultKind::OutOfProfile, 12),
-        ),
-        (b"$( x $)", at(FaultKind::OutOfProfile, 0)),
+        (b"$c wff $. a $p wff $= b $.", None),
         (b"$c wff $. $x \x80", at(FaultKind::BadByte, 13)),
-        (b"$c wff $. a.b $a wff $.", at(FaultKind::BadLabel, 10)),
-        (b"$c wff $. wff $a wff $.", at(FaultKind::RepeatedLabel, 10)),
     ];
     for (text, want) in rows {
         assert_eq!(rt; fault_of(&rt, text)?, want, "{text:?}");
@@ -79,27 +103,112 @@ fn finds_faults(rt: HostRuntime) -> Result<(), Fail> {
     Ok(())
 }
 
-/// `$c wff $. `, a label of so many letters, and ` $a wff $.`
-fn with_long_label(alloc: Global, letters: usize) -> Result<Vec<u8>, AllocError> {
-    let mut text = Vec::from_slice(alloc, b"$c wff $. ")?;
-    for _ in 0..letters {
-        text.push(b'a')?;
+#[test]
+fn reads_no_longer_text(rt: HostRuntime) -> Result<(), Fail> {
+    let mut big = Vec::with_capacity(rt.alloc(), 16_777_217)?;
+    for _ in 0..16_777_216u32 {
+        big.push(128)?;
     }
-    text.extend_from_slice(b" $a wff $.")?;
-    Ok(text)
+    assert_eq!(rt; fault_of(&rt, &big)?, at(FaultKind::BadByte, 0));
+    big.push(128)?;
+    assert_eq!(rt; fault_of(&rt, &big)?, at(FaultKind::TooLong, 16_777_216));
+    Ok(())
+}
+
+/// The database of `DEMO`.
+fn demo(rt: &HostRuntime) -> Result<Database, Fail> {
+    Ok(read_database(rt.alloc(), RandomState::new(rt)?, DEMO)?)
 }
 
 #[test]
-fn keeps_limits(rt: HostRuntime) -> Result<(), Fail> {
-    let longest = with_long_label(rt.alloc(), 255)?;
-    assert_eq!(rt; fault_of(&rt, &longest)?, None);
-    let too_long = with_long_label(rt.alloc(), 256)?;
-    assert_eq!(rt; fault_of(&rt, &too_long)?, at(FaultKind::BadLabel, 10));
-    let mut big = Vec::with_capacity(rt.alloc(), 16_777_217)?;
-    for _ in 0..16_777_217u32 {
-        big.push(128)?;
+fn reads_demo(rt: HostRuntime) -> Result<(), Fail> {
+    let db = demo(&rt)?;
+    assert_eq!(rt; db.assertions().len(), 8);
+    let mp = &db.assertions()[6];
+    assert_eq!(rt; (mp.kind, mp.pairs.as_slice().len()), (Kind::Axiom, 0));
+    // Q is the variable of the fifth `$f`, and `|-` the ninth constant.
+    assert_eq!(rt;
+        mp.statement.as_slice(),
+        [Symbol::Const(8), Symbol::Var(4)].as_slice()
+    );
+    assert_eq!(rt; mp.hyps.as_slice().len(), 2);
+    assert_eq!(rt;
+        mp.hyps.as_slice()[0].as_slice(),
+        [Symbol::Const(8), Symbol::Var(3)].as_slice()
+    );
+    let th1 = &db.assertions()[7];
+    assert_eq!(rt; (th1.kind, th1.proof.as_slice().len()), (Kind::Theorem, 34));
+    Ok(())
+}
+
+/// The fault of a text as a single assertion over the prelude of `DEMO`, if it has one.
+fn unit_fault_of(rt: &HostRuntime, text: &[u8]) -> Result<Option<TextFault>, Fail> {
+    let db = demo(rt)?;
+    Ok(read_assertion(rt.alloc(), RandomState::new(rt)?, db.prelude(), text).err())
+}
+
+#[test]
+fn reads_single_assertions(rt: HostRuntime) -> Result<(), Fail> {
+    let alloc = rt.alloc();
+    let db = demo(&rt)?;
+    let th1 = read_assertion(alloc, RandomState::new(&rt)?, db.prelude(), TH1)?;
+    let known = &db.assertions()[7];
+    assert_eq!(rt;
+        format!(in alloc; "{th1:?}")?,
+        format!(in alloc; "{known:?}")?
+    );
+    let block = b"${ $( min $) min $e |- P $. maj $e |- ( P -> Q ) $. mp $a |- Q $. $} $( end $)";
+    let mp = read_assertion(alloc, RandomState::new(&rt)?, db.prelude(), block)?;
+    let known = &db.assertions()[6];
+    assert_eq!(rt;
+        format!(in alloc; "{mp:?}")?,
+        format!(in alloc; "{known:?}")?
+    );
+    Ok(())
+}
+
+#[test]
+fn keeps_steps_and_pairs_by_place(rt: HostRuntime) -> Result<(), Fail> {
+    let alloc = rt.alloc();
+    let db = demo(&rt)?;
+    let text = b"${ $d s t $. $d t r s $. a $e |- P $. b $e |- Q $. u $p wff $= b tr u a $. $}";
+    let unit = read_assertion(alloc, RandomState::new(&rt)?, db.prelude(), text)?;
+    assert_eq!(rt; unit.pairs.as_slice(), [(0, 1), (0, 2), (1, 2)].as_slice());
+    let cited = sequence(alloc, b"u".as_slice())?;
+    let mut want = Vec::new(alloc);
+    want.push(Step::Hyp(1))?;
+    want.push(Step::Float(1))?;
+    want.push(Step::Cite(cited))?;
+    want.push(Step::Hyp(0))?;
+    let want = Sequence::from_vec(want);
+    assert_eq!(rt;
+        format!(in alloc; "{:?}", unit.proof)?,
+        format!(in alloc; "{want:?}")?
+    );
+    Ok(())
+}
+
+#[test]
+fn finds_faults_of_single_assertions(rt: HostRuntime) -> Result<(), Fail> {
+    let rows: [(&[u8], Option<TextFault>); 14] = [
+        (b"tze $a term 0 $. $( behind $)", None),
+        (b"tze $a term 0 $. x", at(FaultKind::BadToken, 17)),
+        (b"tze $a term 0 $. ${", at(FaultKind::BadToken, 17)),
+        (b"${ u $a wff P $. $} $}", at(FaultKind::BadToken, 20)),
+        (b"${ u $a wff P $. v", at(FaultKind::OutOfProfile, 17)),
+        (b"", at(FaultKind::Unfinished, 0)),
+        (b"${ u $a wff P $.", at(FaultKind::Unfinished, 16)),
+        (b"u $a wff P $. $( x", at(FaultKind::Unfinished, 18)),
+        (b"$c c $.", at(FaultKind::OutOfProfile, 0)),
+        (b"$v v $.", at(FaultKind::OutOfProfile, 0)),
+        (b"$d t r $.", at(FaultKind::OutOfProfile, 0)),
+        (b"w $f term t $.", at(FaultKind::OutOfProfile, 2)),
+        (b"h $e wff P $.", at(FaultKind::OutOfProfile, 2)),
+        (b"tt $a term t $.", at(FaultKind::RepeatedLabel, 0)),
+    ];
+    for (text, want) in rows {
+        assert_eq!(rt; unit_fault_of(&rt, text)?, want, "{text:?}");
     }
-    assert_eq!(rt; fault_of(&rt, &big)?, at(FaultKind::TooLong, 16_777_216));
     Ok(())
 }
 

@@ -1,15 +1,19 @@
-//! The canonical layout of a database.
+//! The canonical layout of a database, and of a single assertion.
 
-ghost use Rattle.std.specs.Prelude.{◌≡◌, ◌≢◌, ◌<◌, ◌++◌, ◌∷◌, [], length, All, OnOk, IfOk, map, codes};
-ghost use Rattle.mmstatement.specs.Grammar.{Spells, constants, variables};
-ghost use Rattle.mmstatement.specs.Assertions.{Fits};
-ghost use Rattle.mmstatement.specs.Layout.{word_at, symbol_word, spaced, line, statement_text, float_statement, axiom_statement};
-ghost use Rattle.mmstatement.specs.Layout.{constants_of, variables_of, prelude_text, assertion_text, text_of, IsWithin, IsFloatWithin};
+ghost use Rattle.std.specs.Prelude.{ℕ, suc, ◌≡◌, ◌≢◌, ◌<◌, ◌++◌, ◌∷◌, [], length, All, OnOk, IfOk, map, codes};
 ghost use Rattle.std.specs.List.{flat_map};
+ghost use Rattle.std.specs.Fmt.{decimal};
+ghost use Rattle.mmstatement.specs.declared.statement.Symbol.TheVariants.{Var};
+ghost use Rattle.mmstatement.specs.Grammar.{asserted, proved, distinct, hypothesis, block, claim_spelling, piece_spelling, Spells, SpellsUnit};
+ghost use Rattle.mmstatement.specs.Assertions.{Fits};
+ghost use Rattle.mmstatement.specs.Layout.{symbol_word, step_word, hypothesis_label, spaced, line, indented, statement_text, float_statement};
+ghost use Rattle.mmstatement.specs.Layout.{distinct_pieces, hypothesis_pieces, claim_of, prelude_text, assertion_text, text_of};
+ghost use Rattle.mmstatement.specs.Layout.{IsWithin, IsFloatWithin, IsUnitWithin, HasUnitSpelling};
 
 use crate::database::Database;
 use crate::prelude::Prelude;
-use crate::statement::{Assertion, Float, Label, Symbol};
+use crate::statement::{Assertion, Expr, Float, Kind, Label, Step, Symbol};
+use itoa::Buffer;
 use std::alloc::{AllocError, Global};
 
 /// A word with a space before it.
@@ -84,14 +88,174 @@ fn put_symbols(out: &mut Vec<u8>, prelude: &Prelude, symbols: &[Symbol]) -> Resu
     Ok(())
 }
 
+/// The label of a hypothesis of the assertion with a label. Hypotheses count from 1.
+fn put_hypothesis_label(out: &mut Vec<u8>, label: &[u8], number: u64) -> Result<(), AllocError>
+    ensures { OnOk result (out.new.items ≡ out.old.items ++ hypothesis_label label.now number) }
+{
+    out.extend_from_slice(label)?;
+    out.push(b'.')?;
+    let mut buffer = Buffer::new();
+    out.extend_from_slice(buffer.format(number).as_bytes())
+}
+
+/// The word of a step, with a space before it. A `$f` that is not of the prelude has no label.
+fn put_step(
+    out: &mut Vec<u8>,
+    prelude: &Prelude,
+    label: &[u8],
+    step: &Step,
+) -> Result<(), AllocError>
+    ensures { OnOk result (out.new.items ≡ out.old.items ++ 32 ∷ step_word prelude.now label.now step.now) }
+{
+    out.push(b' ')?;
+    match step {
+        Step::Float(place) => match prelude.floats().get(*place as usize) {
+            Some(float) => out.extend_from_slice(float.label.as_slice()),
+            None => Ok(()),
+        },
+        Step::Hyp(place) => put_hypothesis_label(out, label, *place as u64 + 1),
+        Step::Cite(cited) => out.extend_from_slice(cited.as_slice()),
+    }
+}
+
+fn put_steps(
+    out: &mut Vec<u8>,
+    prelude: &Prelude,
+    label: &[u8],
+    steps: &[Step],
+) -> Result<(), AllocError>
+    ensures { OnOk result (out.new.items ≡ out.old.items ++ spaced (map (step_word prelude.now label.now) steps.now)) }
+{
+    for step in steps {
+        put_step(out, prelude, label, step)?;
+    }
+    Ok(())
+}
+
 fn put_axiom(out: &mut Vec<u8>, prelude: &Prelude, assertion: &Assertion) -> Result<(), AllocError>
     requires { All (IsWithin prelude.now) assertion.now.statement }
-    ensures { OnOk result (out.new.items ≡ out.old.items ++ assertion_text prelude.now assertion.now) }
+    ensures { OnOk result (out.new.items ≡ out.old.items
+        ++ line (claim_spelling (asserted assertion.now.label (map (symbol_word prelude.now) assertion.now.statement)))) }
 {
     out.extend_from_slice(assertion.label.as_slice())?;
     out.extend_from_slice(b" $a")?;
     put_symbols(out, prelude, assertion.statement.as_slice())?;
     put_end(out)
+}
+
+fn put_theorem(
+    out: &mut Vec<u8>,
+    prelude: &Prelude,
+    assertion: &Assertion,
+) -> Result<(), AllocError>
+    requires { All (IsWithin prelude.now) assertion.now.statement }
+    ensures { OnOk result (out.new.items ≡ out.old.items
+        ++ line (claim_spelling (proved assertion.now.label (map (symbol_word prelude.now) assertion.now.statement)
+        (map (step_word prelude.now assertion.now.label) assertion.now.proof)))) }
+{
+    let label = assertion.label.as_slice();
+    out.extend_from_slice(label)?;
+    out.extend_from_slice(b" $p")?;
+    put_symbols(out, prelude, assertion.statement.as_slice())?;
+    out.extend_from_slice(b" $=")?;
+    put_steps(out, prelude, label, assertion.proof.as_slice())?;
+    put_end(out)
+}
+
+/// The line of an assertion without its block.
+fn put_claim(out: &mut Vec<u8>, prelude: &Prelude, assertion: &Assertion) -> Result<(), AllocError>
+    requires { All (IsWithin prelude.now) assertion.now.statement }
+    ensures { OnOk result (out.new.items ≡ out.old.items ++ line (claim_spelling (claim_of prelude.now assertion.now))) }
+{
+    match assertion.kind {
+        Kind::Axiom => put_axiom(out, prelude, assertion),
+        Kind::Theorem => put_theorem(out, prelude, assertion),
+    }
+}
+
+/// The `$d` of a pair.
+fn put_pair(out: &mut Vec<u8>, prelude: &Prelude, pair: (u32, u32)) -> Result<(), AllocError>
+    requires { IsWithin prelude.now (Var pair.0) × IsWithin prelude.now (Var pair.1) }
+    ensures { OnOk result (out.new.items ≡ out.old.items
+        ++ indented (piece_spelling (distinct (symbol_word prelude.now (Var pair.0) ∷ symbol_word prelude.now (Var pair.1) ∷ [])))) }
+{
+    out.extend_from_slice(b"  $d")?;
+    put_word(out, word_of(prelude, Symbol::Var(pair.0)))?;
+    put_word(out, word_of(prelude, Symbol::Var(pair.1)))?;
+    put_end(out)
+}
+
+fn put_pairs(out: &mut Vec<u8>, prelude: &Prelude, pairs: &[(u32, u32)]) -> Result<(), AllocError>
+    requires { All (λ p. IsWithin prelude.now (Var p.0) × IsWithin prelude.now (Var p.1)) pairs.now }
+    ensures { OnOk result (out.new.items ≡ out.old.items
+        ++ flat_map (λ p. indented (piece_spelling p)) (distinct_pieces prelude.now pairs.now)) }
+{
+    for pair in pairs {
+        put_pair(out, prelude, *pair)?;
+    }
+    Ok(())
+}
+
+/// The `$e` of a hypothesis of the assertion with a label.
+fn put_hypothesis(
+    out: &mut Vec<u8>,
+    prelude: &Prelude,
+    label: &[u8],
+    number: u64,
+    symbols: &[Symbol],
+) -> Result<(), AllocError>
+    requires { All (IsWithin prelude.now) symbols.now }
+    ensures { OnOk result (out.new.items ≡ out.old.items
+        ++ indented (piece_spelling (hypothesis (hypothesis_label label.now number) (map (symbol_word prelude.now) symbols.now)))) }
+{
+    out.extend_from_slice(b"  ")?;
+    put_hypothesis_label(out, label, number)?;
+    out.extend_from_slice(b" $e")?;
+    put_symbols(out, prelude, symbols)?;
+    put_end(out)
+}
+
+fn put_hypotheses(
+    out: &mut Vec<u8>,
+    prelude: &Prelude,
+    label: &[u8],
+    hyps: &[Expr],
+) -> Result<(), AllocError>
+    requires { All (All (IsWithin prelude.now)) hyps.now }
+    ensures { OnOk result (out.new.items ≡ out.old.items
+        ++ flat_map (λ p. indented (piece_spelling p)) (hypothesis_pieces prelude.now label.now 0 hyps.now)) }
+{
+    for (place, symbols) in hyps.iter().enumerate() {
+        put_hypothesis(out, prelude, label, place as u64 + 1, symbols.as_slice())?;
+    }
+    Ok(())
+}
+
+/// The lines of an assertion in its block.
+fn put_block(out: &mut Vec<u8>, prelude: &Prelude, assertion: &Assertion) -> Result<(), AllocError>
+    requires { IsUnitWithin prelude.now assertion.now }
+    ensures { OnOk result (out.new.items ≡ out.old.items ++ statement_text (block
+        (distinct_pieces prelude.now assertion.now.pairs ++ hypothesis_pieces prelude.now assertion.now.label 0 assertion.now.hyps)
+        (claim_of prelude.now assertion.now))) }
+{
+    let label = assertion.label.as_slice();
+    out.extend_from_slice(b"${\n")?;
+    put_pairs(out, prelude, assertion.pairs.as_slice())?;
+    put_hypotheses(out, prelude, label, assertion.hyps.as_slice())?;
+    out.extend_from_slice(b"  ")?;
+    put_claim(out, prelude, assertion)?;
+    out.extend_from_slice(b"$}\n")
+}
+
+/// The lines of an assertion: a block only where it has pairs or hypotheses.
+fn put_unit(out: &mut Vec<u8>, prelude: &Prelude, assertion: &Assertion) -> Result<(), AllocError>
+    requires { IsUnitWithin prelude.now assertion.now }
+    ensures { OnOk result (out.new.items ≡ out.old.items ++ assertion_text prelude.now assertion.now) }
+{
+    if assertion.pairs.as_slice().is_empty() && assertion.hyps.as_slice().is_empty() {
+        return put_claim(out, prelude, assertion);
+    }
+    put_block(out, prelude, assertion)
 }
 
 fn put_floats(out: &mut Vec<u8>, prelude: &Prelude, floats: &[Float]) -> Result<(), AllocError>
@@ -104,16 +268,16 @@ fn put_floats(out: &mut Vec<u8>, prelude: &Prelude, floats: &[Float]) -> Result<
     Ok(())
 }
 
-fn put_axioms(
+fn put_units(
     out: &mut Vec<u8>,
     prelude: &Prelude,
     assertions: &[Assertion],
 ) -> Result<(), AllocError>
-    requires { All (λ a. All (IsWithin prelude.now) a.statement) assertions.now }
+    requires { All (IsUnitWithin prelude.now) assertions.now }
     ensures { OnOk result (out.new.items ≡ out.old.items ++ flat_map (assertion_text prelude.now) assertions.now) }
 {
     for assertion in assertions {
-        put_axiom(out, prelude, assertion)?;
+        put_unit(out, prelude, assertion)?;
     }
     Ok(())
 }
@@ -144,9 +308,10 @@ pub fn put_prelude(out: &mut Vec<u8>, prelude: &Prelude) -> Result<(), AllocErro
     put_tables(out, prelude)
 }
 
-/// Puts the canonical lines of an assertion behind `out`.
+/// Puts the canonical lines of an assertion behind `out`: one line, or a block where it has pairs or hypotheses.
 ///
-/// After an error nothing is promised of the bytes in `out`.
+/// A step that names a `$f` which the prelude does not have is written as an empty word. After an error nothing is promised of
+/// the bytes in `out`.
 pub fn put_assertion(
     out: &mut Vec<u8>,
     prelude: &Prelude,
@@ -156,7 +321,7 @@ pub fn put_assertion(
     ensures { OnOk result (out.new.items ≡ out.old.items ++ assertion_text prelude.now assertion.now) }
 {
     let _floats = prelude.floats();
-    put_axiom(out, prelude, assertion)
+    put_unit(out, prelude, assertion)
 }
 
 /// The canonical text of a database.
@@ -166,6 +331,28 @@ pub fn write_database(alloc: Global, db: &Database) -> Result<Vec<u8>, AllocErro
 {
     let mut out = Vec::new(alloc);
     put_prelude(&mut out, db.prelude())?;
-    put_axioms(&mut out, db.prelude(), db.assertions())?;
+    put_units(&mut out, db.prelude(), db.assertions())?;
     Ok(out)
 }
+
+/// The canonical text of one assertion over a prelude.
+///
+/// It spells the assertion wherever some text does: where a step names each `$f` and each hypothesis that there is, and the label
+/// is lawful.
+pub fn write_assertion(
+    alloc: Global,
+    prelude: &Prelude,
+    assertion: &Assertion,
+) -> Result<Vec<u8>, AllocError>
+    requires { Fits prelude.now assertion.now }
+    ensures text { IfOk result (λ v. v.items ≡ assertion_text prelude.now assertion.now) }
+    ensures spelled { IfOk result (λ v. HasUnitSpelling prelude.now assertion.now → SpellsUnit prelude.now v.items assertion.now) }
+{
+    let _floats = prelude.floats();
+    let mut out = Vec::new(alloc);
+    put_assertion(&mut out, prelude, assertion)?;
+    Ok(out)
+}
+
+#[cfg(test)]
+mod tests;

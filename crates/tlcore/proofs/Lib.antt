@@ -1,3 +1,4 @@
+pub mod Words
 pub mod Lists
 pub mod Deeds
 pub mod Settling

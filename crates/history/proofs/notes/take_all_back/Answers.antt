@@ -2,6 +2,7 @@ use Rattle.std.proofs.Common.{◌≡◌, ℕ, ◌+◌, ◌-◌, ◌≤◌, ◌<�
 use Rattle.std.proofs.lemmas.List.{take_more, take-set, length-set}
 use Rattle.history.specs.declared.notes.Note.{Note}
 use Rattle.history.specs.Drafts.{CanUndo, undone, taken_back}
+use Rattle.history.proofs.Keys.{only-fewer, only-taken_back}
 use Rattle.history.proofs.Undoing.{can_undo-split, can_undo-kept, undone-push}
 use Rattle.history.proofs.notes.take_all_back.Goals as goal
 
@@ -32,6 +33,9 @@ loop-left-preserved c =
     record {
       within = omega (arith, length-set x.notes k c.take_back.new.note);
       indexed = c.take_back.ensures.indexed;
+      only = rw c.take_back.ensures.entries
+          (only-taken_back c.take_back.new.places x.entries x.notes k c.take_back.new.note d (omega arith) c.take_back.ensures.noted
+          (only-fewer x.places c.take_back.new.places _ c.take_back.ensures.fewer x.invariant.only));
       can = rw (take-set x.notes k c.take_back.new.note, c.take_back.ensures.entries) can;
       same = rw (take-set x.notes k c.take_back.new.note, c.take_back.ensures.entries) same;
     }

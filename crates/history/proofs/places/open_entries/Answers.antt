@@ -28,6 +28,7 @@ loop-i-preserved c =
     record {
       entries = c.in_ok-add_entry.ensures.items ∙ ap (λ es. es ++ e ∷ []) c.loop-i.invariant.entries ∙ sym (ranked_from-next xs i a at);
       indexed = c.in_ok-add_entry.ensures.indexed;
+      only = c.in_ok-add_entry.ensures.only;
     }
 
 pub returns-clause-entries : goal.returns-clause-entries

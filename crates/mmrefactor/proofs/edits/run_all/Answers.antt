@@ -1,4 +1,4 @@
-use Rattle.std.proofs.Common.{◌≡◌, ◌∙◌, ◌+◌, ◌<◌, ◌≤◌, List, ◌∷◌, [], ◌++◌, length, subst, sym, ap, arith, rules}
+use Rattle.std.proofs.Common.{◌≡◌, ◌∙◌, ◌+◌, List, [], subst, sym, ap, arith, rules}
 use Rattle.std.specs.Prelude.{All}
 use Rattle.commands.specs.Library.{Setting}
 use Rattle.mmrefactor.specs.declared.edits.Place.{Place}

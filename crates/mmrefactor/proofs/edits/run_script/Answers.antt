@@ -1,8 +1,8 @@
-use Rattle.std.proofs.Common.{◌≡◌, ◌∙◌, ◌+◌, ◌<◌, ◌≤◌, List, ◌∷◌, [], ◌++◌, length, subst, sym, ap, arith, rules}
+use Rattle.std.proofs.Common.{◌≡◌, ◌∙◌, ◌+◌, List, subst, sym, ap, arith, rules}
 use Rattle.std.specs.Prelude.{All}
 use Rattle.commands.specs.Library.{Setting}
 use Rattle.mmrefactor.specs.declared.outcome.Outcome.{Outcome}
-use Rattle.mmrefactor.specs.Outcomes.{Standing, standing, outcome_at, standing_after, OutcomeFits}
+use Rattle.mmrefactor.specs.Outcomes.{standing, outcome_at, standing_after, OutcomeFits}
 use Rattle.mmrefactor.proofs.Turns.{Turns, begins, goes_on, ends}
 use Rattle.mmrefactor.proofs.edits.run_script.Goals as goal
 

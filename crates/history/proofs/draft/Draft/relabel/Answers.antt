@@ -1,7 +1,5 @@
-use Rattle.std.proofs.Common.{◌≡◌, false, List, ◌∷◌, ◌++◌, [], Some, length, sym, ap, subst, ◌∙◌, rules, take, drop}
+use Rattle.std.proofs.Common.{◌≡◌, false, ◌∷◌, ◌++◌, [], Some, length, sym, ap, subst, ◌∙◌, rules, take, drop}
 use Rattle.mmstatement.proofs.Names.{after_update}
-use Rattle.commands.specs.declared.library.Ranked.{Ranked}
-use Rattle.commands.specs.Library.{Setting}
 use Rattle.commands.specs.Edits.{has}
 use Rattle.history.specs.declared.notes.Note.{Note}
 use Rattle.history.specs.Places.{Puts, StandsAt}
@@ -54,13 +52,10 @@ invariant_of-self-2 c = (renamed c).0
 
 pub returns-clause-done : goal.returns-clause-done
 returns-clause-done c =
-    let i = c.self.inside in
-    let w = c.args.label.now in
-    let p = c.args.place in
     let r = renamed c in
-    let s : Setting = record { prelude = i.prelude; slots = i.slots } in
-    let now = take i.entries.len (c.swap_label.new.entries ++ drop (length c.swap_label.new.entries) i.entries.items) in
-    let view : List Ranked → List Ranked → Drafted = λ start library. record { setting = s; start = start; library = library } in
-    ap (view (undone c.push_note.new.notes.items now)) r.2
-    ∙ ap (λ l. view l (relabelled i.entries.items p w)) r.1
-    ∙ ap (λ (d : Drafted). record d { library = relabelled d.library p w }) c.self.view_is
+    r.2 ∙ ap (λ (d : Drafted). relabelled d.library c.args.place c.args.label.now) c.self.view_is
+
+pub returns-clause-kept : goal.returns-clause-kept
+returns-clause-kept c =
+    let r = renamed c in
+    record { setting = ap (λ (d : Drafted). d.setting) c.self.view_is; start = r.1 ∙ ap (λ (d : Drafted). d.start) c.self.view_is }

@@ -1,6 +1,7 @@
-use Rattle.std.proofs.Common.{◌≡◌, true, false, Ok, refl, sym, ap, subst, ◌∙◌}
+use Rattle.std.proofs.Common.{◌≡◌, true, false, List, Ok, refl, sym, ap, subst, ◌∙◌}
 use Rattle.std.proofs.lemmas.Option.{slice_get_within}
 use Rattle.mmstatement.specs.Assertions.{is_lawful_label}
+use Rattle.commands.specs.declared.library.Ranked.{Ranked}
 use Rattle.commands.specs.declared.command.Reply.TheVariants.{Done}
 use Rattle.commands.specs.Edits.{has}
 use Rattle.history.specs.Places.{StandsAt}
@@ -62,4 +63,4 @@ returns-clause-taken c =
     found_none c.as_slice-4.result.now c.as_slice-5.result.now c.find_label-2.result c.find_label-2.ensures c.if-is_some.ensures in
     let free = subst (λ l. has l new ≡ false) again (subst (λ w. has c.as_slice-4.result.now w ≡ false) c.as_slice-5.ensures none) in
     rename_done d.setting d.library old new c.requires p at lawful free
-    ∙ ap (λ (x : Drafted). Ok (record { library = x.library; reply = Done })) (sym c.in_ok-relabel.ensures.done)
+    ∙ ap (λ (l : List Ranked). Ok (record { library = l; reply = Done })) (sym c.in_ok-relabel.ensures.done)

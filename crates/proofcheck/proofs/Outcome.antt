@@ -1,0 +1,46 @@
+-- What the steps of an assertion come to, as a function: their tree, or their fault. It is defined by the decision, so crates above
+-- name it in their definitions, and know it by its laws alone.
+use Rattle.std.proofs.Common.{◌≡◌, ⊎_elim, inl, inr, ap, sym, ◌∙◌, Result, Ok, Err}
+use Rattle.std.specs.Prelude.{MatchResult}
+use Rattle.mmstatement.specs.declared.statement.Assertion.{Assertion}
+use Rattle.mmstatement.specs.Tables.{Tables}
+use Rattle.proofcheck.specs.declared.fault.ProofFault.{ProofFault}
+use Rattle.proofcheck.specs.Derivation.{Citable, Tree, Derives, listing}
+use Rattle.proofcheck.specs.Faults.{HasFault}
+use Rattle.proofcheck.proofs.OneFault.{fault-is-one, fault-excludes-proof}
+use Rattle.proofcheck.proofs.OneTree.{tree-is-one}
+use Rattle.proofcheck.proofs.Verdict.{Verdict, verdict}
+
+-- the tree of which the steps are the listing, where it derives the statement, or the fault
+pub outcome : Citable → Tables → Assertion → Result Tree ProofFault
+outcome lib p a = ⊎_elim (λ h. Ok h.0) (λ f. Err f.0) (verdict lib p a)
+
+-- a result is that tree or that fault
+abbrev pub IsOutcome : Citable → Tables → Assertion → Result Tree ProofFault → Type 0
+IsOutcome lib p a r = MatchResult r (λ tree. (listing tree ≡ a.proof) × Derives lib p a tree a.statement) (λ fault. HasFault lib p a fault)
+
+-- the outcome is
+pub outcome-is : (lib : Citable) (p : Tables) (a : Assertion) → IsOutcome lib p a (outcome lib p a)
+unfolding outcome
+outcome-is lib p a = cases (verdict lib p a)
+  where
+    cases : (v : Verdict lib p a) → IsOutcome lib p a (⊎_elim (λ h. Ok h.0) (λ f. Err f.0) v)
+    cases (inl h) = (h.1, h.2)
+    cases (inr f) = f.1
+
+-- and nothing else is: there is one outcome
+pub outcome-is-one : (lib : Citable) (p : Tables) (a : Assertion) (r s : Result Tree ProofFault) → IsOutcome lib p a r
+    → IsOutcome lib p a s → r ≡ s
+outcome-is-one lib p a (Ok t) (Ok u) h k = ap Ok (tree-is-one lib p a t u a.statement a.statement h.1 k.1 (h.0 ∙ sym k.0)).0
+outcome-is-one lib p a (Ok t) (Err g) h k = absurd (fault-excludes-proof lib p a g k (t, h.0, h.1))
+outcome-is-one lib p a (Err f) (Ok u) h k = absurd (fault-excludes-proof lib p a f h (u, k.0, k.1))
+outcome-is-one lib p a (Err f) (Err g) h k = ap Err (fault-is-one lib p a f g h k)
+
+-- for a tree
+pub outcome-tree : (lib : Citable) (p : Tables) (a : Assertion) (t : Tree) → listing t ≡ a.proof → Derives lib p a t a.statement
+    → outcome lib p a ≡ Ok t
+outcome-tree lib p a t l d = outcome-is-one lib p a (outcome lib p a) (Ok t) (outcome-is lib p a) (l, d)
+
+-- for a fault
+pub outcome-fault : (lib : Citable) (p : Tables) (a : Assertion) (f : ProofFault) → HasFault lib p a f → outcome lib p a ≡ Err f
+outcome-fault lib p a f h = outcome-is-one lib p a (outcome lib p a) (Err f) (outcome-is lib p a) h

@@ -1,0 +1,6 @@
+use Rattle.std.proofs.Common.{◌↔◌, drop}
+use Rattle.proofcheck.specs.Derivation.{HaveTypes}
+use Rattle.proofcheck.proofs.node.have_types.Given as goal
+
+abbrev pub invariant-loop-i : goal.invariant-loop-i
+invariant-loop-i l = HaveTypes l.prelude (drop l.i l.floats) (drop l.i l.entries) ↔ HaveTypes l.prelude l.floats l.entries

@@ -1,0 +1,109 @@
+-- Laws of proofs: a listing has one tree, a proof one fault, and a change of labels keeps what is derived.
+use Rattle.std.specs.Prelude.{◌≡◌, ◌≢◌, ℕ, All, List, ◌⊎◌, Some, Contains, map, nat_eq, if◌then◌else◌}
+use Rattle.std.specs.Cmp.Lexicographic.{pointwise}
+use Rattle.mmstatement.specs.Tables.{Tables}
+use Rattle.mmstatement.specs.declared.statement.Frame.{Frame}
+use Rattle.mmstatement.specs.declared.statement.Assertion.{Assertion}
+use Rattle.mmstatement.specs.declared.statement.Step.{Step}
+use Rattle.mmstatement.specs.declared.statement.Step.TheVariants.{Float, Hyp, Cite}
+use Rattle.mmstatement.specs.Frames.{frame}
+use Rattle.proofcheck.specs.declared.fault.ProofFault.{ProofFault}
+use Rattle.proofcheck.specs.Derivation.{Expression, Citable, Tree, Trees, float, hyp, node, none, some, Derives, listing, Proves}
+use Rattle.proofcheck.specs.Faults.{HasFault}
+use Rattle.proofcheck.specs.Databases.{frame_in}
+
+-- a proof has at most one fault, and none where its steps list a tree that derives the statement
+abbrev pub FaultIsOne : Type 0
+FaultIsOne =
+    (lib : Citable) (p : Tables) (a : Assertion) (f g : ProofFault) → HasFault lib p a f → HasFault lib p a g → f ≡ g
+
+abbrev pub FaultExcludesProof : Type 0
+FaultExcludesProof =
+    (lib : Citable) (p : Tables) (a : Assertion) (f : ProofFault) → HasFault lib p a f → Proves lib p a a.proof a.statement → ⊥
+
+-- steps list at most one tree
+abbrev pub TreeIsOne : Type 0
+TreeIsOne =
+    (lib : Citable) (p : Tables) (a : Assertion) (t u : Tree) (d e : Expression) → Derives lib p a t d → Derives lib p a u e
+    → listing t ≡ listing u → (t ≡ u) × (d ≡ e)
+
+abbrev mutual
+  -- the tree with its labels changed
+  pub relabelled : (List ℕ → List ℕ) → Tree → Tree
+  relabelled change (float i) = float i
+  relabelled change (hyp k) = hyp k
+  relabelled change (node label trees) = node (change label) (all_relabelled change trees)
+
+  pub all_relabelled : (List ℕ → List ℕ) → Trees → Trees
+  all_relabelled change none = none
+  all_relabelled change (some tree trees) = some (relabelled change tree) (all_relabelled change trees)
+
+abbrev mutual
+  -- the tree cites the label
+  pub Mentions : Tree → List ℕ → Type 0
+  Mentions (float i) l = ⊥
+  Mentions (hyp k) l = ⊥
+  Mentions (node label trees) l = (label ≡ l) ⊎ SomeMentions trees l
+
+  pub SomeMentions : Trees → List ℕ → Type 0
+  SomeMentions none l = ⊥
+  SomeMentions (some tree trees) l = Mentions tree l ⊎ SomeMentions trees l
+
+-- the step with its label changed
+abbrev pub step_relabelled : (List ℕ → List ℕ) → Step → Step
+step_relabelled change (Float i) = Float i
+step_relabelled change (Hyp k) = Hyp k
+step_relabelled change (Cite label) = Cite (change label)
+
+-- the one frame may stand for the other: the same hypotheses and statement, and no further pairs
+pub record StandsFor (new old : Frame) : Type 0 where
+  pub floats : new.floats ≡ old.floats
+  pub hyps : new.hyps ≡ old.hyps
+  pub statement : new.statement ≡ old.statement
+  pub pairs : (q : ℕ × ℕ) → Contains new.pairs q → Contains old.pairs q
+
+-- a tree whose labels were changed derives the same, where each frame that it cites has one that stands for it
+abbrev pub RelabelledDerives : Type 0
+RelabelledDerives =
+    (lib lib' : Citable) (p : Tables) (a b : Assertion) (change : List ℕ → List ℕ) (t : Tree) (e : Expression)
+    → b.hyps ≡ a.hyps → b.pairs ≡ a.pairs
+    → ((label : List ℕ) (f : Frame) → Mentions t label → lib label ≡ Some f → (g : Frame) × (lib' (change label) ≡ Some g) × StandsFor g f)
+    → Derives lib p a t e
+    → Derives lib' p b (relabelled change t) e × (listing (relabelled change t) ≡ map (step_relabelled change) (listing t))
+
+-- the one label becomes the other
+abbrev pub replacing : List ℕ → List ℕ → List ℕ → List ℕ
+replacing old new label = if pointwise nat_eq old label then new else label
+
+-- a tree in which the citations of one assertion became citations of another, that states the same of the same hypotheses
+-- and asks for no further pairs, derives the same expression
+abbrev pub ReplacedDerives : Type 0
+ReplacedDerives =
+    (lib : Citable) (p : Tables) (a : Assertion) (old new : List ℕ) (f g : Frame) (t : Tree) (e : Expression)
+    → lib old ≡ Some f → lib new ≡ Some g → StandsFor g f → Derives lib p a t e → Derives lib p a (relabelled (replacing old new) t) e
+
+-- assertions of the same hypotheses and statement have the same mandatory `$f`
+abbrev pub AlikeStandsFor : Type 0
+AlikeStandsFor =
+    (p : Tables) (new old : Assertion) → new.hyps ≡ old.hyps → new.statement ≡ old.statement
+    → ((q : ℕ × ℕ) → Contains (frame p new).pairs q → Contains (frame p old).pairs q) → StandsFor (frame p new) (frame p old)
+
+-- steps whose labels were changed list a tree that derives the same, where each frame that they cite has one that stands for it
+abbrev pub RelabelledProves : Type 0
+RelabelledProves =
+    (lib lib' : Citable) (p : Tables) (a b : Assertion) (change : List ℕ → List ℕ) (steps : List Step) (e : Expression)
+    → b.hyps ≡ a.hyps → b.pairs ≡ a.pairs
+    → ((label : List ℕ) (f : Frame) → Contains steps (Cite label) → lib label ≡ Some f
+    → (g : Frame) × (lib' (change label) ≡ Some g) × StandsFor g f)
+    → Proves lib p a steps e → Proves lib' p b (map (step_relabelled change) steps) e
+
+-- the assertion with the one label become the other, in its own place and in its steps
+abbrev pub renamed : List ℕ → List ℕ → Assertion → Assertion
+renamed old new a = record a { label = replacing old new a.label; proof = map (step_relabelled (replacing old new)) a.proof }
+
+-- where no assertion of a list has the new label, renaming keeps what proves
+abbrev pub RenamedProves : Type 0
+RenamedProves =
+    (p : Tables) (lib : List Assertion) (old new : List ℕ) (a : Assertion)
+    → All (λ b. b.label ≢ new) lib → Proves (frame_in p lib) p a a.proof a.statement
+    → Proves (frame_in p (map (renamed old new) lib)) p (renamed old new a) (renamed old new a).proof (renamed old new a).statement

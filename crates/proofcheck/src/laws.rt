@@ -1,0 +1,24 @@
+//! Laws of proofs and their trees: functions without a body, whose contracts are the laws.
+
+ghost use Rattle.proofcheck.specs.Laws.{AlikeStandsFor, FaultExcludesProof, FaultIsOne, RelabelledDerives, RelabelledProves};
+ghost use Rattle.proofcheck.specs.Laws.{RenamedProves, ReplacedDerives, TreeIsOne};
+
+/// A proof has at most one fault, and none where its steps are the listing of a tree that derives the statement.
+pub fn faults()
+    ensures one { FaultIsOne }
+    ensures excludes { FaultExcludesProof }
+{}
+
+/// Steps are the listing of at most one tree that derives something, and it derives one expression.
+pub fn trees()
+    ensures { TreeIsOne }
+{}
+
+/// A tree whose labels were changed derives the same, where each frame that it cites has one that stands for it.
+pub fn relabelling()
+    ensures changed { RelabelledDerives }
+    ensures replaced { ReplacedDerives }
+    ensures alike { AlikeStandsFor }
+    ensures steps { RelabelledProves }
+    ensures renamed { RenamedProves }
+{}

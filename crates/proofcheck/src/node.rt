@@ -1,0 +1,76 @@
+//! The tests of a citation: what a frame asks of the expressions of its mandatory hypotheses.
+
+ghost use Rattle.std.specs.Prelude.{◌≡◌, ◌≢◌, ◌↔◌, ◌≤◌, IsTrue, IfOk, IfErr, length};
+ghost use Rattle.proofcheck.specs.Derivation.{Gives, HasType, HaveTypes, arity};
+ghost use Rattle.proofcheck.specs.Faults.{FailsTest};
+
+use crate::entry::Entry;
+use crate::fault::ProofFaultKind;
+use crate::pairs::pairs_fit;
+use crate::substitutes::{are_substituted, substitute};
+use mmstatement::{Assertion, Expr, Frame, Prelude, Symbol};
+use std::alloc::Global;
+
+/// Whether an expression begins with the type of the `$f` at a place.
+fn has_type(prelude: &Prelude, float: u32, symbols: &[Symbol]) -> bool
+    ensures { IsTrue result ↔ HasType prelude.now float symbols.now }
+{
+    let floats = prelude.floats();
+    let place = float as usize;
+    if place >= floats.len() {
+        return false;
+    }
+    let typed = &floats[place];
+    match symbols.first() {
+        None => false,
+        Some(first) => match *first {
+            Symbol::Const(c) => c == typed.type_code,
+            Symbol::Var(_) => false,
+        },
+    }
+}
+
+/// Whether each `$f` has an expression of its type, in order.
+fn have_types(prelude: &Prelude, floats: &[u32], entries: &[Entry]) -> bool
+    requires { length floats.now ≤ length entries.now }
+    ensures { IsTrue result ↔ HaveTypes prelude.now floats.now entries.now }
+{
+    for (i, float) in floats.iter().enumerate() {
+        if !has_type(prelude, *float, entries[i].as_slice()) {
+            return false;
+        }
+    }
+    true
+}
+
+/// What a citation of the frame gives over these expressions, one for each mandatory hypothesis; or the first test that fails.
+pub(crate) fn node(
+    alloc: Global,
+    prelude: &Prelude,
+    assertion: &Assertion,
+    frame: &Frame,
+    args: &[Entry],
+) -> Result<Expr, ProofFaultKind>
+    requires { length args.now ≡ arity frame.now }
+    ensures ok { IfOk result (λ made. Gives prelude.now assertion.now frame.now args.now made) }
+    ensures err { IfErr result (λ kind. kind ≢ ProofFaultKind.NoMemory → FailsTest prelude.now assertion.now frame.now args.now kind) }
+{
+    let floats = frame.floats.as_slice();
+    if !have_types(prelude, floats, args) {
+        return Err(ProofFaultKind::WrongType);
+    }
+    let (_, logical) = args.split_at(floats.len());
+    if !are_substituted(floats, args, frame.hyps.as_slice(), logical) {
+        return Err(ProofFaultKind::HypothesisDiffers);
+    }
+    if !pairs_fit(
+        alloc,
+        assertion.pairs.as_slice(),
+        floats,
+        args,
+        frame.pairs.as_slice(),
+    )? {
+        return Err(ProofFaultKind::NotDisjoint);
+    }
+    substitute(alloc, floats, args, frame.statement.as_slice())
+}

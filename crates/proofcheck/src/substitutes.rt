@@ -1,0 +1,108 @@
+//! The substitution of a citation: each mandatory `$f` with its expression, less its type. It is never built.
+
+ghost use Rattle.std.specs.Prelude.{◌≡◌, ◌↔◌, ◌∷◌, [], ◌≤◌, ◌<◌, IsTrue, IfOk, IfErr, MatchOption, length, map};
+ghost use Rattle.mmstatement.specs.Substitution.{subst, replacement};
+ghost use Rattle.proofcheck.specs.Derivation.{substitution};
+ghost use Rattle.proofcheck.specs.Moves.{IsTooLongOrNoMemory};
+
+use crate::entry::Entry;
+use crate::fault::ProofFaultKind;
+use mmstatement::{Expr, Sequence, Symbol};
+use std::alloc::Global;
+use std::slice;
+
+const MOST_SYMBOLS: usize = 65535;
+
+/// The substitute of a variable, if it has one.
+pub(crate) fn substitute_of<'a>(
+    floats: &[u32],
+    entries: &'a [Entry],
+    variable: u32,
+) -> Option<&'a [Symbol]>
+    requires { length floats.now ≤ length entries.now }
+    ensures { MatchOption result
+        (replacement (substitution floats.now entries.now) variable ≡ Symbol.Var variable ∷ [])
+        (λ found. replacement (substitution floats.now entries.now) variable ≡ found.now) }
+{
+    for (i, float) in floats.iter().enumerate() {
+        if *float == variable {
+            let typed = entries[i].as_slice();
+            if typed.is_empty() {
+                return Some(typed);
+            }
+            return Some(&typed[1..]);
+        }
+    }
+    None
+}
+
+/// What the substitution makes of one symbol.
+fn piece<'a>(floats: &[u32], entries: &'a [Entry], symbol: &'a Symbol) -> &'a [Symbol]
+    requires { length floats.now ≤ length entries.now }
+    ensures { result.now ≡ subst (substitution floats.now entries.now) (symbol.now ∷ []) }
+{
+    match symbol {
+        Symbol::Const(_) => slice::from_ref(symbol),
+        Symbol::Var(j) => match substitute_of(floats, entries, *j) {
+            Some(found) => found,
+            None => slice::from_ref(symbol),
+        },
+    }
+}
+
+/// Whether an expression after substitution is the target.
+fn is_substituted(floats: &[u32], entries: &[Entry], symbols: &[Symbol], target: &[Symbol]) -> bool
+    requires { length floats.now ≤ length entries.now }
+    ensures { IsTrue result ↔ (subst (substitution floats.now entries.now) symbols.now ≡ target.now) }
+{
+    let mut rest = target;
+    for symbol in symbols {
+        match rest.strip_prefix(piece(floats, &*entries, symbol)) {
+            None => return false,
+            Some(later) => rest = later,
+        }
+    }
+    rest.is_empty()
+}
+
+/// Whether each hypothesis after substitution is its target.
+pub(crate) fn are_substituted(
+    floats: &[u32],
+    entries: &[Entry],
+    hyps: &[Expr],
+    targets: &[Entry],
+) -> bool
+    requires floats { length floats.now ≤ length entries.now }
+    requires hyps { length hyps.now ≡ length targets.now }
+    ensures { IsTrue result ↔ (map (subst (substitution floats.now entries.now)) hyps.now ≡ targets.now) }
+{
+    for (i, hyp) in hyps.iter().enumerate() {
+        if !is_substituted(floats, entries, hyp.as_slice(), targets[i].as_slice()) {
+            return false;
+        }
+    }
+    true
+}
+
+/// The expression after substitution, of at most 65,535 symbols.
+pub(crate) fn substitute(
+    alloc: Global,
+    floats: &[u32],
+    entries: &[Entry],
+    symbols: &[Symbol],
+) -> Result<Expr, ProofFaultKind>
+    requires { length floats.now ≤ length entries.now }
+    ensures value { IfOk result (λ made. (made ≡ subst (substitution floats.now entries.now) symbols.now) × (length made ≤ 65535)) }
+    ensures kinds { IfErr result (λ kind.
+        IsTooLongOrNoMemory kind (65535 < length (subst (substitution floats.now entries.now) symbols.now))) }
+{
+    let mut made = Vec::new(alloc);
+    for symbol in symbols {
+        let next = piece(floats, &*entries, symbol);
+        if next.len() > MOST_SYMBOLS - made.len() {
+            return Err(ProofFaultKind::TooLong);
+        }
+        made.extend_from_slice(next)?;
+    }
+    Ok(Sequence::from_vec(made))
+}

@@ -1,0 +1,200 @@
+-- Each step of a seat keeps the rule.
+use Rattle.std.proofs.Common.{◌≡◌, ◌≢◌, ℕ, zero, suc, ◌+◌, ◌≤◌, ◌⊎◌, inl, inr, ⊎_elim, Option, Some, List, [], ◌∷◌, length, slice_get, slice_set, sym, refl, ap, ◌∙◌, subst, arith}
+use mathlib.Core.Option.{some, some-injective, some-ne-none}
+use lib.ListN.{get_elem?}
+use Rattle.atomic_table.proofs.Lists.{at_set}
+use Rattle.tlcore.specs.History.{One}
+use Rattle.tlcore.specs.Seats.{Seat, number_at, reads_of}
+use Rattle.tlcore.specs.Machine.{World}
+use Rattle.tlcore.specs.Invariant.{Invariant, SeatOk}
+use Rattle.tlcore.specs.Laws.{Keeps}
+use Rattle.tlcore.proofs.Lists.{get-set_same}
+use Rattle.tlcore.proofs.SeatParts.{ReadsOk-one}
+use Rattle.tlwords.specs.Seen.{Lawful, Call, Seen, SeenGrows, NotesGrow, IsSettled, Legal, Agree}
+use Rattle.tlwords.specs.Views.{Told, View, tells, untold, Sound}
+use Rattle.tlwords.specs.Rule.{words_of, total_of, LookIsFresh, EntriesAre, IsTold, Suits, Kept}
+use Rattle.tlwords.specs.Plays.{Sees}
+use Rattle.tlwords.proofs.Seens.{settled_grows, look_grows, seen_refl, seen_trans, agree_grows, entries_grow}
+use Rattle.tlwords.proofs.Paired.{get_same, get_map, map_set}
+
+pub total_set : {V : Type 0} (f : V → ℕ) (vs : List V) (id : ℕ) (v w : V) → get_elem? vs id ≡ some v
+    → total_of f (slice_set vs id w) + f v ≡ total_of f vs + f w
+total_set f [] id v w at = absurd (some-ne-none v (sym at))
+total_set f (u ∷ vs) zero v w at = let e : f u ≡ f v = ap f (some-injective u v at) in omega arith
+total_set f (u ∷ vs) (suc id) v w at =
+    let r : total_of f (slice_set vs id w) + f v ≡ total_of f vs + f w = total_set f vs id v w at in omega (arith, r)
+
+pub set_here : {A : Type 0} (xs : List A) (i : ℕ) (x y : A) → get_elem? xs i ≡ some x → get_elem? (slice_set xs i y) i ≡ some y
+set_here [] i x y e = absurd (some-ne-none x (sym e))
+set_here (z ∷ xs) zero x y e = refl
+set_here (z ∷ xs) (suc i) x y e = set_here xs i x y e
+
+module _ {S N : Type 0} (setting : S) (base : List ℕ) where
+  -- what one pass tells stays so
+  pub told_grows : (g h : Seen N) (owner later : ℕ → ℕ) (t : Told S N) → SeenGrows g h
+      → ((n : ℕ) → n ≤ length g.history → later n ≡ owner n) → IsTold setting base g owner t → IsTold setting base h later t
+  told_grows g h owner later t r same f =
+      let l : length g.history ≤ length h.history = r.0.0 in
+      record {
+        setting_is = f.setting_is;
+        grows = seen_trans t.seen g h f.grows r;
+        owned = λ n has.
+            let b : (n ≤ length g.history) × (owner n ≡ t.name) = f.owned n has in
+            let m : n ≤ length g.history = b.0 in
+            (omega (arith, l, m), same n m ∙ b.1);
+      }
+
+  pub untold_is : (g : Seen N) (owner : ℕ → ℕ) → IsTold {S = S} setting base g owner untold
+  untold_is g owner =
+      record { setting_is = λ x e. absurd (cc); grows = ((omega arith, λ i e p. absurd (cc)), λ i n p. absurd (cc)); owned = λ n has. absurd has }
+
+module _ {S N : Type 0} (lawful : Lawful S N) (opens : S → List ℕ → Type 0) (setting : S) (base : List ℕ) where
+  abbrev pub Rule : List ℕ → List (View S N) → Type 0
+  Rule = Kept lawful opens setting base
+
+  suits_grow : (g h : Seen N) (owner later : ℕ → ℕ) (v : View S N) → SeenGrows g h
+      → ((n : ℕ) → n ≤ length g.history → later n ≡ owner n) → v.seat.rv ≤ length g.history
+      → Suits lawful setting base g owner v → Suits lawful setting base h later v
+  suits_grow g h owner later v r same l f =
+      record {
+        own = told_grows setting base g h owner later (tells v) r same f.own;
+        told = told_grows setting base g h owner later v.told r same f.told;
+        mine = agree_grows lawful setting base g h v.mine r f.mine;
+        settled = λ i has. ⊎_elim (λ p. inl p) (λ p. inr (settled_grows g.history h.history i r.0 p)) (f.settled i has);
+        noted = λ i p. let b : (n : N) × (v.note ≡ Some n) × (slice_get g.notes i ≡ Some n) = f.noted i p in (b.0, b.1, r.1 i b.0 b.2);
+        look = look_grows g.history h.history v.seat r.0 l f.look;
+        few = f.few;
+      }
+
+  -- a view that has seen the whole history is sound
+  pub sound_of : (world : World) (notes : List N) (owner : ℕ → ℕ) (id : ℕ) (v : View S N) → Invariant base world
+      → EntriesAre lawful setting (record { history = world.history; notes = notes }) → opens setting base
+      → Suits lawful setting base (record { history = world.history; notes = notes }) owner v → slice_get world.seats id ≡ Some v.seat
+      → v.seen ≡ record { history = world.history; notes = notes } → Sound lawful opens v
+  sound_of world notes owner id v I entries opening f at is =
+      let g : Seen N = record { history = world.history; notes = notes } in
+      let ok : SeatOk base world.cells world.history v.seat = I.consistent.seats id v.seat at in
+      record {
+        placed = subst (λ (g : Seen N). v.seat.rv ≤ length g.history) (sym is) ok.rv;
+        one = λ x e.
+            let b : (x ≡ setting) × (v.base ≡ base) = f.own.setting_is x e in
+            subst (λ (g : Seen N). One v.base g.history v.seat.rv (reads_of v.seat.reads)) (sym is) (subst (λ (o : List ℕ). One o world.history v.seat.rv (reads_of v.seat.reads)) (sym b.1) (ReadsOk-one base world.history v.seat.rv v.seat.reads ok.reads));
+        legal = λ x e.
+            let b : (x ≡ setting) × (v.base ≡ base) = f.own.setting_is x e in
+            subst (λ (g : Seen N). Legal lawful x v.base g) (sym is) (subst (λ (z : S × List ℕ). Legal lawful z.0 z.1 g) (λ j. (sym b.0 j, sym b.1 j)) legal);
+        mine = λ x e.
+            let b : (x ≡ setting) × (v.base ≡ base) = f.own.setting_is x e in
+            subst (λ (g : Seen N). Agree lawful x v.base g v.mine) (sym is) (subst (λ (z : S × List ℕ). Agree lawful z.0 z.1 g v.mine) (λ j. (sym b.0 j, sym b.1 j)) f.mine);
+        opening = λ x e.
+            let b : (x ≡ setting) × (v.base ≡ base) = f.own.setting_is x e in
+            subst (λ (z : S × List ℕ). opens z.0 z.1) (λ j. (sym b.0 j, sym b.1 j)) opening;
+        settled = λ i has. subst (λ (g : Seen N). (number_at v.seat.place ≡ Some i) ⊎ IsSettled g.history i) (sym is) (f.settled i has);
+      }
+    where
+      legal : Legal lawful setting base (record { history = world.history; notes = notes })
+      legal i w d =
+          let a : lawful setting [] (d.entry).reads (d.entry).writes w.note × ((d.entry).writes ≢ []) = entries i d.entry w.note d.here d.note in
+          let o : One base world.history i (d.entry).reads = I.consistent.history i d.entry d.here d.done in (
+            subst (λ (z : List (ℕ × ℕ) × List (ℕ × ℕ)). lawful setting [] z.0 z.1 w.note) (λ j. (d.reads j, d.writes j)) a.0,
+            λ e. a.1 (d.writes ∙ e),
+            subst (λ (z : List (ℕ × ℕ)). One base world.history i z) d.reads o,
+          )
+
+  module _ (ws : List ℕ) (vs : List (View S N)) (r : Rule ws vs) where
+    abbrev pub now : Seen N
+    now = record { history = r.world.history; notes = r.notes }
+
+    pub seat_at : (id : ℕ) (v : View S N) → get_elem? vs id ≡ some v → slice_get (r.world).seats id ≡ Some v.seat
+    seat_at id v at =
+        ap (λ (l : List Seat). slice_get l id) (sym r.seats_are) ∙ get_map (λ (u : View S N). u.seat) vs id v (get_same vs id v at)
+
+    pub seat_ok : (id : ℕ) (v : View S N) → get_elem? vs id ≡ some v → SeatOk base (r.world).cells (r.world).history v.seat
+    seat_ok id v at = (r.invariant).consistent.seats id v.seat (seat_at id v at)
+
+    -- a step of the seat id, after which it has the view w
+    pub moved : (id : ℕ) (v w : View S N) → get_elem? vs id ≡ some v → (after : List ℕ) (world : World) (notes : List N) (owner : ℕ → ℕ)
+        → Keeps base r.world world → world.seats ≡ slice_set (r.world).seats id w.seat → after ≡ words_of world
+        → length world.cells ≡ length (r.world).cells → NotesGrow r.notes notes → length notes ≡ length world.history
+        → EntriesAre lawful setting (record { history = world.history; notes = notes })
+        → ((n : ℕ) → n ≤ length (r.world).history → owner n ≡ r.owner n)
+        → Suits lawful setting base (record { history = world.history; notes = notes }) owner w
+        → w.rights ≡ v.rights → length w.drawn + length (r.world).history ≡ length v.drawn + length world.history
+        → Rule after (slice_set vs id w)
+    moved id v w at after world notes owner keeps seats words cells more count entries same suit rights numbers =
+        let later : Seen N = record { history = world.history; notes = notes } in
+        record {
+          world = world;
+          notes = notes;
+          owner = owner;
+          invariant = keeps.invariant;
+          words_are = words;
+          seats_are =
+              map_set (λ (u : View S N). u.seat) vs id w
+              ∙ (ap (λ (l : List Seat). slice_set l id w.seat) r.seats_are ∙ sym seats);
+          cells_are = cells ∙ r.cells_are;
+          notes_are = count;
+          entries = entries;
+          opening = r.opening;
+          suits = λ j u there. ⊎_elim
+              (λ (t : (j ≡ id) × (w ≡ u)). subst (λ (x : View S N). Suits lawful setting base later owner x) t.1 suit)
+              (λ (t : (j ≢ id) × (get_elem? vs j ≡ some u)). suits_grow now later r.owner owner u (keeps.grows, more) same (seat_ok j u t.1).rv (r.suits j u t.1))
+              (at_set vs id j w u there);
+          rights =
+              let t : total_of (λ (u : View S N). u.rights) (slice_set vs id w) + v.rights ≡ total_of (λ (u : View S N). u.rights) vs + w.rights =
+              total_set (λ (u : View S N). u.rights) vs id v w at in
+              let all : total_of (λ (u : View S N). u.rights) vs ≡ 64 = r.rights in
+              omega (arith, t, all, rights);
+          numbers =
+              let t :
+              total_of (λ (u : View S N). length u.drawn) (slice_set vs id w) + length v.drawn ≡ total_of (λ (u : View S N). length u.drawn) vs + length w.drawn =
+              total_set (λ (u : View S N). length u.drawn) vs id v w at in
+              let all : total_of (λ (u : View S N). length u.drawn) vs ≡ length (r.world).history = r.numbers in
+              omega (arith, t, all, numbers);
+        }
+
+    -- the view after a step without a new number
+    abbrev pub gone : View S N → World → Seat → ℕ → Option (ℕ × ℕ) → List (Call N) → Told S N → View S N
+    gone v world z runs looked mine told =
+        record v { seen = record { history = world.history; notes = r.notes }; seat = z; runs = runs; looked = looked; mine = mine; told = told }
+
+    -- a step without a new number, by one event of the machine
+    pub goes : (id : ℕ) (v : View S N) → get_elem? vs id ≡ some v
+        → (after : List ℕ) (world : World) (z : Seat) (runs : ℕ) (looked : Option (ℕ × ℕ)) (mine : List (Call N)) (told : Told S N)
+        → Keeps base r.world world → world.seats ≡ slice_set (r.world).seats id z → after ≡ words_of world
+        → length world.cells ≡ length (r.world).cells → length world.history ≡ length (r.world).history
+        → (Agree lawful setting base (record { history = world.history; notes = r.notes }) v.mine
+        → Agree lawful setting base (record { history = world.history; notes = r.notes }) mine)
+        → IsTold setting base (record { history = world.history; notes = r.notes }) r.owner told
+        → ((i : ℕ) → number_at v.seat.place ≡ Some i → (number_at z.place ≡ Some i) ⊎ IsSettled world.history i)
+        → ((i : ℕ) → number_at z.place ≡ Some i → number_at v.seat.place ≡ Some i)
+        → LookIsFresh world.history z
+        → Rule after (slice_set vs id (gone v world z runs looked mine told)) × Sees lawful opens v (gone v world z runs looked mine told)
+    goes id v at after world z runs looked mine told keeps seats words cells len calls is_told settles noted look =
+        let later : Seen N = record { history = world.history; notes = r.notes } in
+        let w : View S N = gone v world z runs looked mine told in
+        let f : Suits lawful setting base now r.owner v = r.suits id v at in
+        let grow : SeenGrows now later = (keeps.grows, λ i n e. e) in
+        let own : IsTold setting base later r.owner (tells v) = told_grows setting base now later r.owner r.owner (tells v) grow (λ n l. refl) f.own in
+        let suit : Suits lawful setting base later r.owner w = record {
+          own = record { setting_is = own.setting_is; grows = seen_refl later; owned = own.owned };
+          told = is_told;
+          mine = calls (agree_grows lawful setting base now later v.mine grow f.mine);
+          settled = λ i has. ⊎_elim (λ (p : number_at v.seat.place ≡ Some i). settles i p)
+              (λ (p : IsSettled (r.world).history i). inr (settled_grows (r.world).history world.history i keeps.grows p))
+              (f.settled i has);
+          noted = λ i p. f.noted i (noted i p);
+          look = look;
+          few = f.few;
+        } in
+        let rule : Rule after (slice_set vs id w) = moved id v w at after world r.notes r.owner keeps seats words cells grow.1 (r.notes_are ∙ sym len)
+        (entries_grow lawful setting (r.world).history world.history r.notes keeps.grows len r.entries) (λ n l. refl) suit refl (omega (arith, len)) in (
+          rule,
+          record {
+            own = seen_trans v.seen now later f.own.grows grow;
+            told = seen_trans v.told.seen now later f.told.grows grow;
+            sound =
+                sound_of world r.notes r.owner id w keeps.invariant
+                (entries_grow lawful setting (r.world).history world.history r.notes keeps.grows len r.entries) r.opening suit
+                (ap (λ (l : List Seat). slice_get l id) seats ∙ get-set_same (r.world).seats id z v.seat (seat_at id v at)) refl;
+          },
+        )

@@ -1,0 +1,92 @@
+-- The words of a world: which word is whose, and what a store of one word does.
+use Rattle.std.proofs.Common.{◌≡◌, ℕ, zero, suc, ◌+◌, ◌*◌, Some, List, [], ◌∷◌, map, slice_get, slice_set, slice_index, sym, refl, ap, ◌∙◌, arith}
+use mathlib.Core.Option as maybe
+use lib.ListN.{get_elem?}
+use Rattle.tlcore.specs.Machine.{World}
+use Rattle.tlcore.proofs.Words.{CellWords}
+use Rattle.tlwords.specs.Rule.{paired, words_of, lock_at, value_at}
+
+pub get_same : {A : Type 0} (xs : List A) (i : ℕ) (x : A) → get_elem? xs i ≡ maybe.some x → slice_get xs i ≡ Some x
+get_same [] i x e = cc
+get_same (y ∷ xs) zero x e = let q : y ≡ x = cc in ap (λ (z : _). Some z) q
+get_same (y ∷ xs) (suc i) x e = get_same xs i x e
+
+pub get_map : {A B : Type 0} (f : A → B) (xs : List A) (i : ℕ) (x : A) → slice_get xs i ≡ Some x → slice_get (map f xs) i ≡ Some (f x)
+get_map f [] i x e = cc
+get_map f (y ∷ xs) zero x e = let q : y ≡ x = cc in ap (λ (z : _). Some (f z)) q
+get_map f (y ∷ xs) (suc i) x e = get_map f xs i x e
+
+pub map_set : {A B : Type 0} (f : A → B) (xs : List A) (i : ℕ) (x : A) → map f (slice_set xs i x) ≡ slice_set (map f xs) i (f x)
+map_set f [] i x = refl
+map_set f (y ∷ xs) zero x = refl
+map_set f (y ∷ xs) (suc i) x = ap (λ l. f y ∷ l) (map_set f xs i x)
+
+pub set_same : {A : Type 0} (xs : List A) (i : ℕ) (x : A) → slice_get xs i ≡ Some x → slice_set xs i x ≡ xs
+set_same [] i x e = refl
+set_same (y ∷ xs) zero x e = let q : y ≡ x = cc in ap (λ z. z ∷ xs) (sym q)
+set_same (y ∷ xs) (suc i) x e = ap (λ l. y ∷ l) (set_same xs i x e)
+
+double : (c : ℕ) → 2 * suc c ≡ suc (suc (2 * c))
+double c = omega arith
+
+doubled : (c : ℕ) → 2 * suc c + 1 ≡ suc (suc (2 * c + 1))
+doubled c = omega arith
+
+get_lock : (xs : List CellWords) (c : ℕ) (x : CellWords) → slice_get xs c ≡ Some x → slice_index (paired xs) (2 * c) ≡ x.lock
+get_lock [] c x e = cc
+get_lock (y ∷ xs) zero x e = let q : y ≡ x = cc in ap (λ (z : CellWords). z.lock) q
+get_lock (y ∷ xs) (suc c) x e = ap (λ (i : ℕ). slice_index (paired (y ∷ xs)) i) (double c) ∙ get_lock xs c x e
+
+get_value : (xs : List CellWords) (c : ℕ) (x : CellWords) → slice_get xs c ≡ Some x → slice_index (paired xs) (2 * c + 1) ≡ x.value
+get_value [] c x e = cc
+get_value (y ∷ xs) zero x e = let q : y ≡ x = cc in ap (λ (z : CellWords). z.value) q
+get_value (y ∷ xs) (suc c) x e = ap (λ (i : ℕ). slice_index (paired (y ∷ xs)) i) (doubled c) ∙ get_value xs c x e
+
+set_lock : (xs : List CellWords) (c n : ℕ) (x : CellWords) → slice_get xs c ≡ Some x
+    → slice_set (paired xs) (2 * c) n ≡ paired (slice_set xs c (record x { lock = n }))
+set_lock [] c n x e = cc
+set_lock (y ∷ xs) zero n x e = let q : y ≡ x = cc in ap (λ (z : CellWords). n ∷ z.value ∷ paired xs) q
+set_lock (y ∷ xs) (suc c) n x e =
+    ap (λ (i : ℕ). slice_set (paired (y ∷ xs)) i n) (double c) ∙ ap (λ (l : List ℕ). y.lock ∷ y.value ∷ l) (set_lock xs c n x e)
+
+set_value : (xs : List CellWords) (c n : ℕ) (x : CellWords) → slice_get xs c ≡ Some x
+    → slice_set (paired xs) (2 * c + 1) n ≡ paired (slice_set xs c (record x { value = n }))
+set_value [] c n x e = cc
+set_value (y ∷ xs) zero n x e = let q : y ≡ x = cc in ap (λ (z : CellWords). z.lock ∷ n ∷ paired xs) q
+set_value (y ∷ xs) (suc c) n x e =
+    ap (λ (i : ℕ). slice_set (paired (y ∷ xs)) i n) (doubled c) ∙ ap (λ (l : List ℕ). y.lock ∷ y.value ∷ l) (set_value xs c n x e)
+
+lock_index : (c : ℕ) → lock_at c ≡ suc (suc (2 * c))
+lock_index c = omega arith
+
+value_index : (c : ℕ) → value_at c ≡ suc (suc (2 * c + 1))
+value_index c = omega arith
+
+-- which word is whose, in a table whose words are those of a world
+module _ (ws : List ℕ) (w : World) (e : ws ≡ words_of w) where
+  pub clock_word : slice_index ws 1 ≡ w.clock
+  clock_word = ap (λ (l : List ℕ). slice_index l 1) e
+
+  pub lock_word : (c : ℕ) (x : CellWords) → slice_get w.cells c ≡ Some x → slice_index ws (lock_at c) ≡ x.lock
+  lock_word c x f =
+      ap (λ (l : List ℕ). slice_index l (lock_at c)) e
+      ∙ (ap (λ (i : ℕ). slice_index (words_of w) i) (lock_index c) ∙ get_lock w.cells c x f)
+
+  pub value_word : (c : ℕ) (x : CellWords) → slice_get w.cells c ≡ Some x → slice_index ws (value_at c) ≡ x.value
+  value_word c x f =
+      ap (λ (l : List ℕ). slice_index l (value_at c)) e
+      ∙ (ap (λ (i : ℕ). slice_index (words_of w) i) (value_index c) ∙ get_value w.cells c x f)
+
+  pub lock_is_set : (c n : ℕ) (x : CellWords) → slice_get w.cells c ≡ Some x
+      → slice_set ws (lock_at c) n ≡ 0 ∷ w.clock ∷ paired (slice_set w.cells c (record x { lock = n }))
+  lock_is_set c n x f =
+      ap (λ (l : List ℕ). slice_set l (lock_at c) n) e
+      ∙ (ap (λ (i : ℕ). slice_set (words_of w) i n) (lock_index c)
+      ∙ ap (λ (l : List ℕ). 0 ∷ w.clock ∷ l) (set_lock w.cells c n x f))
+
+  pub value_is_set : (c n : ℕ) (x : CellWords) → slice_get w.cells c ≡ Some x
+      → slice_set ws (value_at c) n ≡ 0 ∷ w.clock ∷ paired (slice_set w.cells c (record x { value = n }))
+  value_is_set c n x f =
+      ap (λ (l : List ℕ). slice_set l (value_at c) n) e
+      ∙ (ap (λ (i : ℕ). slice_set (words_of w) i n) (value_index c)
+      ∙ ap (λ (l : List ℕ). 0 ∷ w.clock ∷ l) (set_value w.cells c n x f))

@@ -1,0 +1,10 @@
+use Rattle.std.proofs.Common.{rules, arith}
+use Rattle.tlwords.proofs.CommitSteps.{draws}
+use Rattle.tlwords.proofs.steps.draw_saying.Goals as goal
+
+pub fetch_add-requires : goal.fetch_add-requires
+fetch_add-requires g c = (
+  search rules,
+  let s = c.args.words.now.sized in omega arith,
+  rw c.requires.said (draws g.L.Law.lawful g.L.Law.opens _ _ _ _ _ _ _ c.requires.setting.1 c.requires.place c.requires.setting.2 c.requires.writes c.requires.room),
+)

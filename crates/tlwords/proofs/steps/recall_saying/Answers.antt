@@ -1,0 +1,10 @@
+use Rattle.std.proofs.Common.{rules, arith}
+use Rattle.tlwords.proofs.OpenSteps.{recalls}
+use Rattle.tlwords.proofs.steps.recall_saying.Goals as goal
+
+pub load-requires : goal.load-requires
+load-requires g c = (
+  search rules,
+  let s = c.args.words.now.sized in omega arith,
+  rw c.requires.said (recalls g.L.Law.lawful g.L.Law.opens _ _ _ _ _ _ _ c.requires.setting.1 c.requires.setting.2),
+)

@@ -1,0 +1,10 @@
+use Rattle.std.proofs.Common.{rules, arith}
+use Rattle.tlwords.proofs.ReadSteps.{relooks}
+use Rattle.tlwords.proofs.steps.relook.Goals as goal
+
+pub load-requires : goal.load-requires
+load-requires g c = (
+  search rules,
+  let s = c.args.words.now.sized in let i = c.requires.cell.0 in omega arith,
+  relooks g.L.Law.lawful g.L.Law.opens _ _ _ _ _ _ _ _ c.requires.setting.0 c.requires.setting.1 c.requires.cell.1 c.requires.place,
+)

@@ -1,0 +1,6 @@
+pub mod Seen
+pub mod Views
+pub mod Rule
+pub mod Plays
+pub mod Runs
+pub mod Reads

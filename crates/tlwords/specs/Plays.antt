@@ -1,0 +1,201 @@
+-- What each step tells: of the seat before, the number found (at a store, the number stored) and the seat after.
+use Rattle.std.specs.Prelude.{◌≡◌, ◌≢◌, ℕ, suc, ◌+◌, ◌-◌, ◌*◌, ◌/◌, ◌%◌, ◌^◌, ◌<◌, ◌≤◌, Option, Some, None, List, [], ◌∷◌, ◌++◌, length, slice_get, if◌then◌else◌, true, false, ◌==◌, ◌||◌, ◌⊎◌}
+use Rattle.atomic_table.specs.Table.{Me, Step}
+use Rattle.atomic_table.specs.declared.shared.Seat.{Seat as TableSeat}
+use Rattle.tlcore.specs.History.{Entry, WasWritten, wv}
+use Rattle.tlcore.specs.Seats.{Seat, passes, reads_of, writes_of, is_nil, is_next, all_settled, without, stored as stored_in}
+use Rattle.tlcore.specs.Machine.{placed, conflict}
+use Rattle.tlcore.proofs.Words.{SeatHeld, is_void, at_idle, at_reading, at_looked, at_loaded, at_taking, at_checking, at_storing, at_failing, at_voiding}
+use Rattle.tlwords.specs.Seen.{Lawful, Work, Committed, Answered, SeenGrows, IsDone, Has}
+use Rattle.tlwords.specs.Views.{View, untold, tells, nobody, fresh, Sound}
+
+abbrev pub Mine : Type 0 → Type 0 → Type 0
+Mine S N = Me (Unit {0}) (View S N)
+
+-- the work of the run, with this note
+abbrev pub work_of : {N : Type 0} → Seat → N → Work N
+work_of t n = record { reads = reads_of t.reads; writes = writes_of t.held; note = n }
+
+-- a run that has just begun at this place
+abbrev pub began : ℕ → Seat
+began place = record { place = at_reading; rv = place; reads = []; held = []; conflicted = false }
+
+-- after a look at the cell that found this word
+abbrev pub after_look : Seat → ℕ → ℕ → Seat
+after_look t c word = if passes word t.rv then placed t (at_looked c word) else conflict t at_idle
+
+-- after the second look, where the first found `word` and `value` was loaded, and this one found n
+abbrev pub after_relook : Seat → ℕ → ℕ → ℕ → ℕ → Seat
+after_relook t c word value n =
+    if n == word
+    then record t { place = at_reading; reads = record { cell = c; word = word; value = value } ∷ t.reads }
+    else conflict t at_idle
+
+-- after a try to take the cell from the word `word`, which found n
+abbrev pub after_take : Seat → ℕ → ℕ → ℕ → ℕ → Seat
+after_take t c value word n =
+    if n == word
+    then record t { place = at_taking; held = record { cell = c; word = word; value = value; stored = false } ∷ t.held }
+    else conflict t (if is_nil t.held then at_idle else at_failing)
+
+-- after a check of the cell that found this word
+abbrev pub after_check : Seat → ℕ → ℕ → ℕ → Seat
+after_check t i c word = if passes word t.rv then placed t (at_checking i (suc c)) else conflict t (at_voiding i)
+
+-- after the store of the cell's value
+abbrev pub after_store : Seat → ℕ → ℕ → Seat
+after_store t i c = record t { place = at_storing i; held = stored_in c t.held }
+
+-- after the release of the cell
+abbrev pub after_release : Seat → ℕ → Seat
+after_release t c = record t { place = (if is_nil (without c t.held) then at_idle else t.place); held = without c t.held }
+
+-- what a release gives back: after a store twice the run's number, and after a conflict the word that the take found
+abbrev pub GivesBack : Seat → SeatHeld → ℕ → Type 0
+GivesBack t k word =
+    ((i : ℕ) × (t.place ≡ at_storing i) × (k.stored ≡ true) × (word ≡ 2 * wv i))
+    ⊎ (((t.place ≡ at_failing) × (word ≡ k.word)) ⊎ ((i : ℕ) × (t.place ≡ at_voiding i) × (word ≡ k.word)))
+
+-- when a store is lawful: the check has passed, or isn't needed
+abbrev pub MayStore : Seat → ℕ → Type 0
+MayStore t i =
+    ((upto : ℕ) × (t.place ≡ at_checking i upto) × ((is_next t i || all_settled t.held upto t.reads) ≡ true)) ⊎ (t.place ≡ at_storing i)
+
+module _ {S N : Type 0} (lawful : Lawful S N) (opens : S → List ℕ → Type 0) where
+  -- the whole history so far was seen
+  pub record Sees (v w : View S N) : Type 0 where
+    pub own : SeenGrows v.seen w.seen
+    pub told : SeenGrows v.told.seen w.seen
+    pub sound : Sound lawful opens w
+
+  -- Begin
+  pub record Sampled (m : Mine S N) (n : ℕ) (r : Mine S N) : Type 0 where
+    pub sees : Sees m.0 r.0
+    pub clock : length r.0.seen.history ≡ n
+    -- the numbers of passes with two names are different
+    pub apart : m.0.name ≢ m.0.told.name → (k : ℕ) → Has k m.0.drawn → Has k m.0.told.drawn → ⊥
+    pub same : (x y : S) → m.0.setting ≡ Some x → m.0.told.setting ≡ Some y → (x ≡ y) × (m.0.base ≡ m.0.told.base)
+    pub is : r.0 ≡ record m.0 { seen = r.0.seen; seat = began n; told = untold; runs = m.0.runs + 1; looked = None }
+
+  -- Look
+  pub record Looks (c : ℕ) (m : Mine S N) (n : ℕ) (r : Mine S N) : Type 0 where
+    pub sees : Sees m.0 r.0
+    pub written : WasWritten r.0.seen.history c (n / 2)
+    pub is : r.0 ≡ record m.0 { seen = r.0.seen; seat = after_look m.0.seat c n; looked = Some (c, n) }
+
+  -- Load
+  pub record Loads (m : Mine S N) (n : ℕ) (r : Mine S N) : Type 0 where
+    pub sees : Sees m.0 r.0
+    pub is : (c word : ℕ) → m.0.seat.place ≡ at_looked c word
+        → r.0 ≡ record m.0 { seen = r.0.seen; seat = placed m.0.seat (at_loaded c word n) }
+
+  -- Relook
+  pub record Relooks (m : Mine S N) (n : ℕ) (r : Mine S N) : Type 0 where
+    pub sees : Sees m.0 r.0
+    pub written : (c word value : ℕ) → m.0.seat.place ≡ at_loaded c word value → WasWritten r.0.seen.history c (n / 2)
+    -- another word than that of the first look is locked, or of a version above the place
+    pub missed : (c word value : ℕ) → m.0.seat.place ≡ at_loaded c word value → n ≢ word → n % 2 ≡ 0 → m.0.seat.rv < n / 2
+    pub is : (c word value : ℕ) → m.0.seat.place ≡ at_loaded c word value
+        → r.0 ≡ record m.0 { seen = r.0.seen; seat = after_relook m.0.seat c word value n; looked = Some (c, n) }
+
+  -- Take, from the word `word`
+  pub record Takes (c value word : ℕ) (m : Mine S N) (n : ℕ) (r : Mine S N) : Type 0 where
+    pub sees : Sees m.0 r.0
+    pub written : WasWritten r.0.seen.history c (n / 2)
+    pub is : r.0 ≡ record m.0 { seen = r.0.seen; seat = after_take m.0.seat c value word n; looked = Some (c, n) }
+
+  -- Draw: the number is n + 1
+  pub record Draws (note : Option N) (m : Mine S N) (n : ℕ) (r : Mine S N) : Type 0 where
+    pub sees : Sees m.0 r.0
+    pub clock : length r.0.seen.history ≡ suc n
+    pub later : length m.0.seen.history ≤ n
+    pub few : n ≤ 2 ^ 46
+    pub is : (x : N) → note ≡ Some x
+        → r.0 ≡ record m.0 { seen = r.0.seen; seat = placed m.0.seat (at_checking n 0); note = Some x; drawn = m.0.drawn ++ suc n ∷ [] }
+
+  -- Check
+  pub record Checks (c : ℕ) (m : Mine S N) (n : ℕ) (r : Mine S N) : Type 0 where
+    pub sees : Sees m.0 r.0
+    pub written : WasWritten r.0.seen.history c (n / 2)
+    pub is : (i upto : ℕ) → m.0.seat.place ≡ at_checking i upto
+        → r.0 ≡ record m.0 { seen = r.0.seen; seat = after_check m.0.seat i c n; looked = Some (c, n) }
+
+  -- Store: the first one makes the entry Done, and the call is one of the pass
+  pub record Stores (c : ℕ) (m r : Mine S N) : Type 0 where
+    pub sees : Sees m.0 r.0
+    pub first : (i upto : ℕ) (x : N) → m.0.seat.place ≡ at_checking i upto → m.0.note ≡ Some x
+        → IsDone r.0.seen i (work_of m.0.seat x)
+        × (r.0 ≡ record m.0 { seen = r.0.seen; seat = after_store m.0.seat i c; mine = m.0.mine ++ Committed (suc i) (work_of m.0.seat x) ∷ [] })
+    pub next : (i : ℕ) → m.0.seat.place ≡ at_storing i → r.0 ≡ record m.0 { seen = r.0.seen; seat = after_store m.0.seat i c }
+
+  -- Release: after a failed check the entry is Void
+  pub record Releases (c : ℕ) (m r : Mine S N) : Type 0 where
+    pub sees : Sees m.0 r.0
+    pub void : (i : ℕ) → m.0.seat.place ≡ at_voiding i → (e : Entry) × (slice_get r.0.seen.history i ≡ Some e) × (e.status ≡ is_void)
+    pub is : r.0 ≡ record m.0 { seen = r.0.seen; seat = after_release m.0.seat c }
+
+  -- a load of the spare word, where a run that wrote nothing ends
+  pub record Recalls (note : Option N) (m r : Mine S N) : Type 0 where
+    pub sees : Sees m.0 r.0
+    pub is : (x : N) → note ≡ Some x
+        → let w : Work N = record { reads = reads_of m.0.seat.reads; writes = []; note = x } in
+        r.0 ≡ record m.0 { seen = r.0.seen; mine = m.0.mine ++ Answered m.0.seat.rv w ∷ [] }
+
+  -- a load of the spare word, to see the history so far
+  pub record Refreshes (m r : Mine S N) : Type 0 where
+    pub sees : Sees m.0 r.0
+    pub is : r.0 ≡ record m.0 { seen = r.0.seen }
+
+  -- the steps as the table has them: the cell of a word, from its index
+
+  abbrev pub cell_at : Step (Unit {0}) → ℕ
+  cell_at st = (st.word - 2) / 2
+
+  abbrev pub sampled : Step (Unit {0}) → Mine S N → ℕ → Mine S N → Type 0
+  sampled st m n r = Sampled m n r
+
+  abbrev pub looked : Step (Unit {0}) → Mine S N → ℕ → Mine S N → Type 0
+  looked st m n r = Looks (cell_at st) m n r
+
+  abbrev pub loaded : Step (Unit {0}) → Mine S N → ℕ → Mine S N → Type 0
+  loaded st m n r = Loads m n r
+
+  abbrev pub relooked : Step (Unit {0}) → Mine S N → ℕ → Mine S N → Type 0
+  relooked st m n r = Relooks m n r
+
+  -- the value that is to be stored is no operand of the step
+  abbrev pub took : ℕ → Step (Unit {0}) → Mine S N → ℕ → Mine S N → Type 0
+  took value st m n r = Takes (cell_at st) value st.first m n r
+
+  abbrev pub drew : Option N → Step (Unit {0}) → Mine S N → ℕ → Mine S N → Type 0
+  drew note st m n r = Draws note m n r
+
+  abbrev pub checked : Step (Unit {0}) → Mine S N → ℕ → Mine S N → Type 0
+  checked st m n r = Checks (cell_at st) m n r
+
+  abbrev pub stored : Step (Unit {0}) → Mine S N → ℕ → Mine S N → Type 0
+  stored st m n r = Stores (cell_at st) m r
+
+  abbrev pub released : Step (Unit {0}) → Mine S N → ℕ → Mine S N → Type 0
+  released st m n r = Releases (cell_at st) m r
+
+  abbrev pub recalled : Option N → Step (Unit {0}) → Mine S N → ℕ → Mine S N → Type 0
+  recalled note st m n r = Recalls note m r
+
+  abbrev pub refreshed : Step (Unit {0}) → Mine S N → ℕ → Mine S N → Type 0
+  refreshed st m n r = Refreshes m r
+
+module _ {S N : Type 0} where
+  abbrev pub IsSameSeat : TableSeat (Unit {0}) (View S N) → TableSeat (Unit {0}) (View S N) → Type 0
+  IsSameSeat p q = (q.table_id ≡ p.table_id) × (q.id ≡ p.id)
+
+  -- what a seat is told of another one
+  abbrev pub witness : View S N → View S N
+  witness v = record nobody { told = tells v }
+
+  abbrev pub told_by : View S N → View S N → View S N
+  told_by v w = record v { told = w.told }
+
+  -- a new seat, with one part of the right to draw. Its name is the number of parts that there were
+  abbrev pub newcomer : View S N → View S N
+  newcomer v = fresh v.setting v.base v.rights 1

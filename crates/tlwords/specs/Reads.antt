@@ -1,0 +1,29 @@
+-- What a read and a write of a run tell of its log.
+use Rattle.std.specs.Prelude.{◌≡◌, ℕ, Option, List, take}
+use Rattle.tlwords.specs.declared.log.Log.{Log}
+use Rattle.tlwords.specs.declared.runs.Conflict.{Conflict}
+use Rattle.tlwords.specs.Seen.{Lawful}
+use Rattle.tlwords.specs.Plays.{Mine}
+use Rattle.tlwords.specs.Runs.{word_seen, value_kept, HasNoted, HasKept, ReadsCell, Stops}
+
+-- the cells that the log lists
+abbrev pub listed : Log → List ℕ
+listed l = take l.used l.touched.items
+
+-- what the log keeps aside for the cell
+abbrev pub kept_for : Log → ℕ → Option ℕ
+kept_for l cell = value_kept l.slots.items cell
+
+-- the log l kept a value aside for the cell, and is k now
+abbrev pub LogKeeps : Log → Log → ℕ → ℕ → Type 0
+LogKeeps l k cell value = HasKept l.slots.items (listed l) k.slots.items (listed k) cell value
+
+module _ {S N : Type 0} (lawful : Lawful S N) (opens : S → List ℕ → Type 0) where
+  -- a read of the cell ended with this value, and was noted: the log l is k now
+  abbrev pub HasRead : Mine S N → Log → Mine S N → Log → ℕ → ℕ → Type 0
+  HasRead m l r k cell value =
+      (word : ℕ) × ReadsCell lawful opens cell word value m r × HasNoted l.slots.items (listed l) k.slots.items (listed k) cell word
+
+  -- a read of the cell ended with this conflict
+  abbrev pub HasStopped : Mine S N → Log → Mine S N → ℕ → Conflict → Type 0
+  HasStopped m l r cell k = (k.cell ≡ cell) × (k.before ≡ word_seen l.slots.items cell) × Stops lawful opens cell k.word m r

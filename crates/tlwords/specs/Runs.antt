@@ -1,0 +1,136 @@
+-- What a pass and a run keep, and what their calls tell.
+use Rattle.std.specs.Prelude.{◌≡◌, ◌≢◌, ℕ, zero, suc, ◌+◌, ◌-◌, ◌/◌, ◌%◌, ◌^◌, ◌<◌, ◌≤◌, ◌==◌, Bool, true, false, is_some, if◌then◌else◌, Option, Some, None, List, [], ◌∷◌, length, slice_get, ◌⊎◌, option_and_then}
+use Rattle.std.specs.List.{list_any}
+use Rattle.std.specs.Option.{option_map}
+use Rattle.tlcore.specs.History.{WasWritten}
+use Rattle.tlcore.specs.Seats.{Seat, find_read, is_nil}
+use Rattle.tlcore.specs.Machine.{conflict}
+use Rattle.tlcore.proofs.Words.{SeatRead, at_idle, at_reading, is_resting, is_reading}
+use Rattle.tlwords.specs.declared.log.Slot.{Slot}
+use Rattle.tlwords.specs.Seen.{Lawful, SeenGrows, Has}
+use Rattle.tlwords.specs.Views.{View, Sound, fresh, untold}
+use Rattle.tlwords.specs.Plays.{Mine, Sees, began}
+
+-- ---- what is kept of the cells
+
+abbrev pub word_seen : List Slot → ℕ → Option ℕ
+word_seen slots c = option_and_then (λ s. s.word) (slice_get slots c)
+
+abbrev pub value_kept : List Slot → ℕ → Option ℕ
+value_kept slots c = option_and_then (λ s. s.kept) (slice_get slots c)
+
+-- the cell was read in this run
+abbrev pub was_read : List Slot → ℕ → Bool
+was_read slots c = is_some (word_seen slots c)
+
+-- the cell is listed
+abbrev pub lists : ℕ → List ℕ → Bool
+lists c cells = list_any (λ d. d == c) cells
+
+abbrev pub counts : Option ℕ → ℕ
+counts None = 0
+counts (Some w) = 1
+
+-- how many cells were read
+abbrev pub count_read : List Slot → ℕ
+count_read [] = 0
+count_read (s ∷ ss) = counts s.word + count_read ss
+
+-- nothing is kept
+abbrev pub IsBlank : List Slot → Type 0
+IsBlank slots = (c : ℕ) → (word_seen slots c ≡ None) × (value_kept slots c ≡ None)
+
+-- what was kept at first is thrown away of the cells that are done
+abbrev pub IsClearing : List Slot → List Slot → List ℕ → Type 0
+IsClearing first slots done =
+    (c : ℕ)
+    → ((word_seen slots c ≡ None) × (value_kept slots c ≡ None))
+    ⊎ ((word_seen slots c ≡ word_seen first c) × (value_kept slots c ≡ value_kept first c) × (lists c done ≡ false))
+
+-- what is kept is of the seat's reads, and a cell is written only after it was read
+abbrev pub IsKeptOf : Seat → List Slot → List ℕ → Type 0
+IsKeptOf t slots cells =
+    ((c : ℕ) → word_seen slots c ≡ option_map (λ r. r.word) (find_read c t.reads))
+    × ((c : ℕ) → is_some (value_kept slots c) ≡ true → was_read slots c ≡ true)
+    × ((c w : ℕ) → word_seen slots c ≡ Some w → w % 2 ≡ 0)
+    × ((c : ℕ) → was_read slots c ≡ true → lists c cells ≡ true)
+    × (count_read slots ≡ length cells)
+
+-- a read of the cell under this word was noted: the slots and the cells listed, before and after
+abbrev pub HasNoted : List Slot → List ℕ → List Slot → List ℕ → ℕ → ℕ → Type 0
+HasNoted slots cells after more cell word =
+    ((t : Seat) (r : SeatRead) → IsKeptOf t slots cells → r.cell ≡ cell → r.word ≡ word → IsKeptOf (record t { reads = r ∷ t.reads }) after more)
+    × ((c : ℕ) → value_kept after c ≡ value_kept slots c)
+    × (was_read after cell ≡ true)
+    × ((c : ℕ) → was_read slots c ≡ true → was_read after c ≡ true)
+    × (length after ≡ length slots)
+
+-- a value was kept aside for the cell
+abbrev pub HasKept : List Slot → List ℕ → List Slot → List ℕ → ℕ → ℕ → Type 0
+HasKept slots cells after more cell value =
+    ((t : Seat) → IsKeptOf t slots cells → IsKeptOf t after more)
+    × (value_kept after cell ≡ Some value)
+    × ((c : ℕ) → c ≢ cell → value_kept after c ≡ value_kept slots c)
+    × ((c : ℕ) → word_seen after c ≡ word_seen slots c)
+    × (length after ≡ length slots)
+
+module _ {S N : Type 0} where
+  abbrev pub IsPassOf : Mine S N → ℕ → Type 0
+  IsPassOf m count =
+      (is_some m.0.setting ≡ true) × (is_resting m.0.seat.place ≡ true) × (m.0.rights ≡ 1) × (length m.0.drawn ≡ count) × (count ≤ 2 ^ 40)
+
+  -- o is true where the run met a conflict
+  abbrev pub IsRunOf : Mine S N → ℕ → ℕ → Bool → Type 0
+  IsRunOf m count place o =
+      (is_some m.0.setting ≡ true) × ((if o then is_resting m.0.seat.place else is_reading m.0.seat.place) ≡ true) × (m.0.rights ≡ 1)
+      × (length m.0.drawn ≡ count) × (count ≤ 2 ^ 40) × (m.0.seat.rv ≡ place) × (is_nil m.0.seat.held ≡ true)
+
+  -- the opening's passes
+  abbrev pub IsNew : S → List ℕ → View S N → Type 0
+  IsNew setting base v = v ≡ fresh (Some setting) base v.name 1
+
+-- the first seat, once it has made k passes
+abbrev pub dealer : {S N : Type 0} → S → List ℕ → ℕ → View S N
+dealer setting base k = fresh (Some setting) base 0 (64 - k)
+
+-- k numbers, downwards from n
+abbrev pub down : ℕ → ℕ → List ℕ
+down n zero = []
+down n (suc k) = n ∷ down (n - 1) k
+
+-- ---- what a read tells
+
+-- the word shows the lock held, or a version above the place
+abbrev pub HasCause : ℕ → ℕ → Type 0
+HasCause place word = (word % 2 ≡ 1) ⊎ (place < word / 2)
+
+module _ {S N : Type 0} (lawful : Lawful S N) (opens : S → List ℕ → Type 0) where
+  -- the cell was read: it had this value under this lock word
+  pub record ReadsCell (c word value : ℕ) (m r : Mine S N) : Type 0 where
+    pub sees : Sees lawful opens m.0 r.0
+    pub free : word % 2 ≡ 0
+    pub is : r.0 ≡ record m.0 {
+      seen = r.0.seen;
+      seat = record m.0.seat { place = at_reading; reads = record { cell = c; word = word; value = value } ∷ m.0.seat.reads };
+      looked = Some (c, word);
+    }
+
+  -- a look found this word, and the run is over
+  pub record Stops (c word : ℕ) (m r : Mine S N) : Type 0 where
+    pub sees : Sees lawful opens m.0 r.0
+    pub written : WasWritten r.0.seen.history c (word / 2)
+    pub cause : HasCause m.0.seat.rv word
+    pub is : r.0 ≡ record m.0 { seen = r.0.seen; seat = conflict m.0.seat at_idle; looked = Some (c, word) }
+
+  -- a pass v has learnt of u: they are v2 and u2 now
+  pub record Learns (v u v2 u2 : View S N) : Type 0 where
+    pub own : SeenGrows v.seen v2.seen
+    pub told : SeenGrows u.seen v2.seen
+    pub other : SeenGrows u.seen u2.seen
+    pub sound : Sound lawful opens v2
+    pub other_sound : Sound lawful opens u2
+    -- the numbers of passes with two names are different
+    pub apart : v.name ≢ u.name → (k : ℕ) → Has k v.drawn → Has k u.drawn → ⊥
+    pub same : (x y : S) → v.setting ≡ Some x → u.setting ≡ Some y → (x ≡ y) × (v.base ≡ u.base)
+    pub is : v2 ≡ record v { seen = v2.seen; seat = began (length v2.seen.history); told = untold; runs = v.runs + 1; looked = None }
+    pub other_is : u2 ≡ record u { seen = u2.seen }

@@ -1,0 +1,82 @@
+-- What was seen of the history, with a note for each entry; what calls did, and when that agrees with the history.
+use Rattle.std.specs.Prelude.{◌≡◌, ◌≢◌, ℕ, suc, ◌≤◌, Some, List, [], ◌∷◌, length, slice_get, ◌⊎◌}
+use Rattle.tlcore.specs.History.{Entry, One, Grows}
+use Rattle.tlcore.proofs.Words.{is_open, is_landed}
+
+-- cells with values
+abbrev pub Pairs : Type 0
+Pairs = List (ℕ × ℕ)
+
+-- a finished range of the store: where it starts, and its words, which never change again
+pub record Range : Type 0 where
+  pub start : ℕ
+  pub words : List ℕ
+
+-- which transactions are lawful: of the setting, the ranges, what is read, what is written, and the note
+abbrev pub Lawful : Type 0 → Type 0 → Type 1
+Lawful S N = S → List Range → Pairs → Pairs → N → Type 0
+
+-- what a transaction did: its reads, the newest first, its writes, the largest cell first, and its note
+pub record Work (N : Type 0) : Type 0 where
+  pub reads : Pairs
+  pub writes : Pairs
+  pub note : N
+
+-- a call that committed with this number, or one that wrote nothing and was answered at this place
+pub data Call (N : Type 0) : Type 0 where
+  Committed : ℕ → Work N → Call N
+  Answered : ℕ → Work N → Call N
+
+-- a history, and the note of the entry i at the index i
+pub record Seen (N : Type 0) : Type 0 where
+  pub history : List Entry
+  pub notes : List N
+
+-- x stands in the list
+abbrev pub Has : ℕ → List ℕ → Type 0
+Has x [] = ⊥
+Has x (y ∷ ys) = (x ≡ y) ⊎ Has x ys
+
+-- the entry at the index i is Done or Void
+abbrev pub IsSettled : List Entry → ℕ → Type 0
+IsSettled h i = (e : Entry) × (slice_get h i ≡ Some e) × (e.status ≢ is_open)
+
+module _ {N : Type 0} where
+  -- nothing of a history
+  abbrev pub unseen : Seen N
+  unseen = record { history = []; notes = [] }
+
+  -- each note stays
+  abbrev pub NotesGrow : List N → List N → Type 0
+  NotesGrow ns ms = (i : ℕ) (n : N) → slice_get ns i ≡ Some n → slice_get ms i ≡ Some n
+
+  -- h is seen later than g
+  abbrev pub SeenGrows : Seen N → Seen N → Type 0
+  SeenGrows g h = Grows g.history h.history × NotesGrow g.notes h.notes
+
+  -- the entry at the index i is Done, and w is its work
+  pub record IsDone (g : Seen N) (i : ℕ) (w : Work N) : Type 0 where
+    pub entry : Entry
+    pub here : slice_get g.history i ≡ Some entry
+    pub done : entry.status ≡ is_landed
+    pub reads : entry.reads ≡ w.reads
+    pub writes : entry.writes ≡ w.writes
+    pub note : slice_get g.notes i ≡ Some w.note
+
+  module _ {S : Type 0} (lawful : Lawful S N) (setting : S) (base : List ℕ) where
+    -- each Done entry is lawful and writes something, and what it read is one version just before it
+    abbrev pub Legal : Seen N → Type 0
+    Legal g =
+        (i : ℕ) (w : Work N) → IsDone g i w
+        → lawful setting [] w.reads w.writes w.note × (w.writes ≢ []) × One base g.history i w.reads
+
+    -- a call with a number is the entry of that number. A call without one is lawful, and what it read is one version at its place
+    abbrev pub CallAgrees : Seen N → Call N → Type 0
+    CallAgrees g (Committed number w) = (i : ℕ) × (number ≡ suc i) × IsDone g i w
+    CallAgrees g (Answered place w) =
+        (place ≤ length g.history) × (w.writes ≡ []) × lawful setting [] w.reads [] w.note × One base g.history place w.reads
+
+    -- each of the calls agrees
+    abbrev pub Agree : Seen N → List (Call N) → Type 0
+    Agree g [] = Unit {0}
+    Agree g (c ∷ cs) = CallAgrees g c × Agree g cs

@@ -1,0 +1,75 @@
+-- What a pass shows, and what is so of it by itself, whatever the other passes do.
+use Rattle.std.specs.Prelude.{◌≡◌, ℕ, suc, ◌≤◌, Option, Some, None, List, [], length, ◌⊎◌}
+use Rattle.tlcore.specs.History.{One}
+use Rattle.tlcore.specs.Seats.{Seat, idle, reads_of, number_at}
+use Rattle.tlwords.specs.Seen.{Lawful, Call, Seen, unseen, Has, IsSettled, Legal, Agree}
+
+-- what one pass tells another: the setting, the opening values, what it has seen, its numbers and its name
+pub record Told (S N : Type 0) : Type 0 where
+  pub setting : Option S
+  pub base : List ℕ
+  pub seen : Seen N
+  pub drawn : List ℕ
+  pub name : ℕ
+
+pub record View (S N : Type 0) : Type 0 where
+  -- the setting and the opening values. A seat that is given up has none
+  pub setting : Option S
+  pub base : List ℕ
+  -- the machine's seat: the run, its place, its reads and the cells that it holds
+  pub seat : Seat
+  -- the note of the run that drew last
+  pub note : Option N
+  -- what was seen, and the calls
+  pub seen : Seen N
+  pub mine : List (Call N)
+  -- its name, the numbers that it drew, and its parts of the right to draw
+  pub name : ℕ
+  pub drawn : List ℕ
+  pub rights : ℕ
+  -- its loads of the clock, and the cell and lock word that its last look or take since the last of these found
+  pub runs : ℕ
+  pub looked : Option (ℕ × ℕ)
+  -- what it was told and hasn't yet seen by itself
+  pub told : Told S N
+
+module _ {S N : Type 0} where
+  abbrev pub untold : Told S N
+  untold = record { setting = None; base = []; seen = unseen; drawn = []; name = 0 }
+
+  abbrev pub tells : View S N → Told S N
+  tells v = record { setting = v.setting; base = v.base; seen = v.seen; drawn = v.drawn; name = v.name }
+
+  -- a pass that has done nothing yet
+  abbrev pub fresh : Option S → List ℕ → ℕ → ℕ → View S N
+  fresh setting base name rights =
+      record {
+        setting = setting;
+        base = base;
+        seat = idle;
+        note = None;
+        seen = unseen;
+        mine = [];
+        name = name;
+        drawn = [];
+        rights = rights;
+        runs = 0;
+        looked = None;
+        told = untold;
+      }
+
+  -- o says which openings there are
+  pub record Sound (lawful : Lawful S N) (opens : S → List ℕ → Type 0) (v : View S N) : Type 0 where
+    -- the run's place is in what was seen
+    pub placed : v.seat.rv ≤ length v.seen.history
+    -- what the run has read is one version at its place
+    pub one : (x : S) → v.setting ≡ Some x → One v.base v.seen.history v.seat.rv (reads_of v.seat.reads)
+    pub legal : (x : S) → v.setting ≡ Some x → Legal lawful x v.base v.seen
+    pub mine : (x : S) → v.setting ≡ Some x → Agree lawful x v.base v.seen v.mine
+    pub opening : (x : S) → v.setting ≡ Some x → opens x v.base
+    -- each number that was drawn is that of the run, or its entry is Done or Void
+    pub settled : (i : ℕ) → Has (suc i) v.drawn → (number_at v.seat.place ≡ Some i) ⊎ IsSettled v.seen.history i
+
+-- a seat that is given up, and knows what it tells at most
+abbrev pub nobody : {S N : Type 0} → View S N
+nobody = fresh None [] 0 0

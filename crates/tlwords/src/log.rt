@@ -1,0 +1,140 @@
+//! What a pass keeps of the cells that its run touches, with a place for every cell.
+#![tactic(auto)]
+
+ghost use Rattle.std.specs.Prelude.{◌≡◌, ℕ, ◌+◌, ◌%◌, ◌<◌, ◌≤◌, List, ◌∷◌, ◌++◌, true, Some, None, [], length, take, IfOk};
+ghost use Rattle.tlcore.specs.Seats.{Seat};
+ghost use Rattle.tlwords.specs.Runs.{word_seen, value_kept, was_read, IsBlank, IsKeptOf, HasNoted, HasKept, IsClearing};
+ghost use Rattle.tlwords.specs.declared.log.Slot.{Slot as SlotValue};
+
+use std::alloc::{AllocError, Global};
+
+/// What is kept of a cell: the lock word that the run saw at its newest read, and the value kept aside.
+#[derive(Clone, Copy)]
+pub struct Slot {
+    pub(crate) word: Option<u64>,
+    pub(crate) kept: Option<u64>,
+}
+
+/// A slot for each cell, and the cells that the run has read, of which the first `used` count.
+#[derive(Drop)]
+pub struct Log {
+    pub(crate) slots: Vec<Slot>,
+    pub(crate) touched: Vec<usize>,
+    pub(crate) used: usize,
+    pub ghost same: { length touched.items ≡ length slots.items },
+    pub ghost within: { used ≤ length touched.items },
+}
+
+impl Log {
+    /// With a place for so many cells, and nothing kept.
+    pub(crate) fn new(alloc: Global, cells: usize) -> Result<Log, AllocError>
+        ensures { IfOk result (λ l. (length l.slots.items ≡ cells) × (l.used ≡ 0) × IsBlank l.slots.items) }
+    {
+        let mut slots = Vec::with_capacity(alloc, cells)?;
+        let mut touched = Vec::with_capacity(alloc, cells)?;
+        for _ in 0..cells {
+            slots.push(Slot {
+                word: None,
+                kept: None,
+            })?;
+            touched.push(0)?;
+        }
+        Ok(Log {
+            slots,
+            touched,
+            used: 0,
+        })
+    }
+
+    /// What is kept of the cell.
+    pub(crate) fn slot(&self, cell: usize) -> Slot
+        requires { cell < length self.now.slots.items }
+        ensures { (word_seen self.now.slots.items cell ≡ result.word) × (value_kept self.now.slots.items cell ≡ result.kept) }
+    {
+        self.slots[cell]
+    }
+
+    /// The cell was read under this lock word.
+    pub(crate) fn note_read(&mut self, cell: usize, word: u64)
+        requires cell { cell < length self.old.slots.items }
+        requires even { word % 2 ≡ 0 }
+        requires kept { (t : Seat) × IsKeptOf t self.old.slots.items (take self.old.used self.old.touched.items) }
+        ensures { HasNoted self.old.slots.items (take self.old.used self.old.touched.items) self.new.slots.items (take self.new.used self.new.touched.items) cell word }
+    {
+        if self.slots[cell].word.is_none() {
+            self.note_first(cell, word)
+        } else {
+            self.note_again(cell, word)
+        }
+    }
+
+    // A cell that wasn't read before.
+    fn note_first(&mut self, cell: usize, word: u64)
+        requires cell { cell < length self.old.slots.items }
+        requires even { word % 2 ≡ 0 }
+        requires new { word_seen self.old.slots.items cell ≡ None }
+        requires kept { (t : Seat) × IsKeptOf t self.old.slots.items (take self.old.used self.old.touched.items) }
+        ensures { HasNoted self.old.slots.items (take self.old.used self.old.touched.items) self.new.slots.items (take self.new.used self.new.touched.items) cell word }
+    {
+        let slot = self.slots[cell];
+        self.touched[self.used] = cell;
+        self.used += 1;
+        self.slots[cell] = Slot {
+            word: Some(word),
+            kept: slot.kept,
+        };
+    }
+
+    // A cell that was read before.
+    fn note_again(&mut self, cell: usize, word: u64)
+        requires cell { cell < length self.old.slots.items }
+        requires even { word % 2 ≡ 0 }
+        requires read { was_read self.old.slots.items cell ≡ true }
+        ensures { HasNoted self.old.slots.items (take self.old.used self.old.touched.items) self.new.slots.items (take self.new.used self.new.touched.items) cell word }
+    {
+        let slot = self.slots[cell];
+        self.slots[cell] = Slot {
+            word: Some(word),
+            kept: slot.kept,
+        };
+    }
+
+    /// Keeps a value aside for a cell that was read.
+    pub(crate) fn keep(&mut self, cell: usize, value: u64)
+        requires cell { cell < length self.old.slots.items }
+        requires read { was_read self.old.slots.items cell ≡ true }
+        ensures { HasKept self.old.slots.items (take self.old.used self.old.touched.items) self.new.slots.items (take self.new.used self.new.touched.items) cell value }
+    {
+        let slot = self.slots[cell];
+        self.slots[cell] = Slot {
+            word: slot.word,
+            kept: Some(value),
+        };
+    }
+
+    /// Throws all away. It walks over the cells that were touched.
+    pub(crate) fn clear(&mut self)
+        requires { (t : Seat) × IsKeptOf t self.old.slots.items (take self.old.used self.old.touched.items) }
+        ensures blank { IsBlank self.new.slots.items }
+        ensures size { (self.new.used ≡ 0) × (length self.new.slots.items ≡ length self.old.slots.items) }
+    {
+        for i in 0..self.used {
+            let cell = self.touched[i];
+            self.wipe(cell);
+        }
+        self.used = 0;
+    }
+
+    // Throws away what is kept of one cell.
+    fn wipe(&mut self, cell: usize)
+        ensures same { (self.new.touched ≡ self.old.touched) × (self.new.used ≡ self.old.used) × (length self.new.slots.items ≡ length self.old.slots.items) }
+        ensures wiped { (first : List SlotValue) (done : List ℕ) → IsClearing first self.old.slots.items done → IsClearing first self.new.slots.items (done ++ cell ∷ []) }
+    {
+        if cell < self.slots.len() {
+            self.slots[cell] = Slot {
+                word: None,
+                kept: None,
+            };
+        }
+    }
+}

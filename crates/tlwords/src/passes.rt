@@ -1,0 +1,40 @@
+//! Passes: a seat at the table, and what it keeps of the cells.
+#![tactic(auto)]
+
+ghost use Rattle.std.specs.Prelude.{◌≡◌, length};
+ghost use Rattle.tlwords.specs.Runs.{IsPassOf, IsBlank};
+
+use crate::law::Law;
+use crate::log::Log;
+use crate::rule::Place;
+
+/// What a session runs its transactions with, one after another.
+pub struct Pass<L: Law> {
+    pub(crate) seat: Place<L>,
+    pub(crate) log: Log,
+    pub(crate) count: u64,
+    pub ghost fits: { IsPassOf seat.me count },
+    pub ghost blank: { IsBlank log.slots.items },
+    pub ghost unused: { log.used ≡ 0 },
+    pub ghost room: { length log.slots.items ≡ length seat.me.0.base },
+}
+
+impl<L: Law> Drop for Pass<L> {
+    fn drop(self) {
+        let Pass {
+            seat: _,
+            log: _,
+            count: _,
+        } = self;
+    }
+}
+
+impl<L: Law> Pass<L> {
+    pub(crate) fn into_parts(self) -> (Place<L>, Log, u64)
+        ensures parts { (result.0 ≡ self.seat) × (result.1 ≡ self.log) × (result.2 ≡ self.count) }
+        ensures fits { IsPassOf result.0.me result.2 × IsBlank result.1.slots.items × (result.1.used ≡ 0) × (length result.1.slots.items ≡ length result.0.me.0.base) }
+    {
+        let Pass { seat, log, count } = self;
+        (seat, log, count)
+    }
+}

@@ -1,0 +1,57 @@
+//! The rule of the table.
+#![tactic(auto)]
+
+use crate::law::Law;
+use crate::view::View;
+use atomic_table::{Seat, Shared, Table, TableRule};
+use std::alloc::Global;
+use std::marker::PhantomData;
+use std::snapshot::Snapshot;
+
+/// What the table is told once: the setting and the opening values of the cells.
+pub struct Opening<S> {
+    pub(crate) setting: Snapshot<S>,
+    pub(crate) values: Snapshot<Vec<u64>>,
+}
+
+impl<S> Drop for Opening<S> {
+    fn drop(self) {
+        let Opening {
+            setting: _,
+            values: _,
+        } = self;
+    }
+}
+
+/// Names the rule: there is a world of the machine that meets its invariant, and the words and the views are that world's.
+pub struct Rule<L> {
+    law: PhantomData<L>,
+}
+
+impl<L: Law> TableRule<(), View<L::Setting, L::Note>, Opening<L::Setting>> for Rule<L> {
+    ghost use Rattle.tlwords.specs.Rule.{Ruled, first_view};
+
+    ghost holds = { λ key s. Ruled L.lawful L.opens key.setting.value key.values.value.items s };
+
+    ghost first = { λ key. first_view key.setting.value key.values.value.items };
+}
+
+/// The words that all passes share.
+pub type Ground<L> = Shared<
+    (),
+    View<<L as Law>::Setting, <L as Law>::Note>,
+    Opening<<L as Law>::Setting>,
+    Rule<L>,
+>;
+
+/// The table that has them.
+pub type Board<L> = Table<
+    (),
+    View<<L as Law>::Setting, <L as Law>::Note>,
+    Opening<<L as Law>::Setting>,
+    Rule<L>,
+    Global,
+>;
+
+/// A seat at the table.
+pub type Place<L> = Seat<(), View<<L as Law>::Setting, <L as Law>::Note>>;

@@ -1,0 +1,144 @@
+//! Runs: transactions as they go.
+#![tactic(auto)]
+
+ghost use Rattle.std.specs.Prelude.{◌≡◌, ℕ, ◌<◌, ◌≤◌, ◌⊎◌, Some, None, length, take, is_some, true, Ok, Err, IfOk, IfErr};
+ghost use Rattle.tlwords.specs.Plays.{IsSameSeat, Sampled};
+ghost use Rattle.tlwords.specs.Runs.{IsRunOf, IsKeptOf, IsBlank, was_read, Learns};
+ghost use Rattle.tlwords.specs.Reads.{LogKeeps, kept_for, HasRead, HasStopped};
+ghost use Rattle.tlwords.specs.declared.runs.Conflict.{Conflict as ConflictValue};
+
+use crate::law::Law;
+use crate::log::Log;
+use crate::passes::Pass;
+use crate::rule::Place;
+use crate::steps;
+use crate::words::{Words, fetch};
+
+/// A look that ended a run.
+#[derive(Clone, Copy)]
+pub struct Conflict {
+    /// The cell, from 0.
+    pub cell: usize,
+    /// The lock word that was found.
+    pub word: u64,
+    /// The lock word that the run's last read of the cell had found, if one had ended.
+    pub before: Option<u64>,
+}
+
+/// A transaction as it goes.
+pub struct Run<'w, L: Law> {
+    pub(crate) words: &'w Words<L>,
+    pub(crate) seat: Place<L>,
+    pub(crate) log: Log,
+    pub(crate) count: u64,
+    pub(crate) place: u64,
+    pub(crate) over: Option<Conflict>,
+    pub ghost table_is: { (seat.table_id ≡ words.now.table.shared.table_id) × (words.now.cells ≡ length seat.me.0.base) },
+    pub ghost fits: { IsRunOf seat.me count place (is_some over) },
+    pub ghost kept: { IsKeptOf seat.me.0.seat log.slots.items (take log.used log.touched.items) },
+    pub ghost room: { length log.slots.items ≡ length seat.me.0.base },
+}
+
+/// Begins a run, by one load of the clock.
+pub fn begin<'w, L: Law>(words: &'w Words<L>, pass: Pass<L>) -> Run<'w, L>
+    requires { (pass.seat.table_id ≡ words.now.table.shared.table_id) × (words.now.cells ≡ length pass.seat.me.0.base) }
+    ensures words { result.words.now ≡ words.now }
+    ensures seat { (result.seat.table_id ≡ pass.seat.table_id) × (result.seat.id ≡ pass.seat.id) }
+    ensures begins { Sampled L.lawful L.opens pass.seat.me result.place result.seat.me }
+    ensures place { length pass.seat.me.0.seen.history ≤ result.place }
+    ensures open { result.over ≡ None }
+    ensures blank { IsBlank result.log.slots.items }
+{
+    let (mut seat, log, count) = pass.into_parts();
+    let place = steps::begin(words, &mut seat);
+    Run {
+        words,
+        seat,
+        log,
+        count,
+        place,
+        over: None,
+    }
+}
+
+impl<'w, L: Law> Run<'w, L> {
+    /// The number of transactions before this one, of which it sees all that committed.
+    pub fn place(&self) -> u64
+        ensures { result ≡ self.now.place }
+    {
+        self.place
+    }
+
+    /// The value of the cell: the one that this run keeps for it, or else that of the version at the run's place.
+    ///
+    /// An error is a conflict, and the run is over: each later read answers the same conflict, without a step.
+    pub fn read(&mut self, cell: usize) -> Result<u64, Conflict>
+        requires { cell < self.old.words.now.cells }
+        ensures same { (self.new.words.now ≡ self.old.words.now) × IsSameSeat self.old.seat self.new.seat × (self.new.place ≡ self.old.place) × (self.new.count ≡ self.old.count) }
+        ensures over { (k : ConflictValue) → self.old.over ≡ Some k → (result ≡ Err k) × (self.new ≡ self.old) }
+        ensures kept { (v : ℕ) → self.old.over ≡ None → kept_for self.old.log cell ≡ Some v → (result ≡ Ok v) × (self.new ≡ self.old) }
+        ensures ok { self.old.over ≡ None → kept_for self.old.log cell ≡ None → IfOk result (λ v. (self.new.over ≡ None) × HasRead L.lawful L.opens self.old.seat.me self.old.log self.new.seat.me self.new.log cell v) }
+        ensures err { self.old.over ≡ None → IfErr result (λ k. (self.new.over ≡ Some k) × (self.new.log ≡ self.old.log) × HasStopped L.lawful L.opens self.old.seat.me self.old.log self.new.seat.me cell k) }
+    {
+        if let Some(conflict) = self.over {
+            return Err(conflict);
+        }
+        let slot = self.log.slot(cell);
+        if let Some(value) = slot.kept {
+            return Ok(value);
+        }
+        match fetch(self.words, &mut self.seat, cell, self.place) {
+            Ok(found) => {
+                self.log.note_read(cell, found.word);
+                Ok(found.value)
+            }
+            Err(word) => {
+                let conflict = Conflict {
+                    cell,
+                    word,
+                    before: slot.word,
+                };
+                self.over = Some(conflict);
+                Err(conflict)
+            }
+        }
+    }
+
+    /// Keeps a value aside for a cell that this run has read. It makes no step on the words.
+    pub fn write(&mut self, cell: usize, value: u64)
+        requires cell { cell < self.old.words.now.cells }
+        requires read { was_read self.old.log.slots.items cell ≡ true }
+        ensures kept { LogKeeps self.old.log self.new.log cell value }
+        ensures same { (self.new.words.now ≡ self.old.words.now) × (self.new.seat ≡ self.old.seat) × (self.new.place ≡ self.old.place) × (self.new.count ≡ self.old.count) × (self.new.over ≡ self.old.over) }
+    {
+        self.log.keep(cell, value);
+    }
+
+    /// Ends the run with nothing written. It walks over the cells that the run has read.
+    pub fn leave(self) -> Pass<L>
+        ensures { (result.seat ≡ self.entry.seat) × (result.count ≡ self.entry.count) }
+    {
+        let Run {
+            words: _,
+            seat,
+            mut log,
+            count,
+            place: _,
+            over: _,
+        } = self;
+        log.clear();
+        Pass { seat, log, count }
+    }
+}
+
+/// Tells a pass what another one has seen. It makes one load of the clock, for the first, and three of the spare word.
+pub fn learn<L: Law>(words: &Words<L>, pass: &mut Pass<L>, other: &mut Pass<L>)
+    requires { (pass.old.seat.table_id ≡ words.now.table.shared.table_id) × (other.old.seat.table_id ≡ words.now.table.shared.table_id) }
+    ensures seat { IsSameSeat pass.old.seat pass.new.seat }
+    ensures other { IsSameSeat other.old.seat other.new.seat }
+    ensures learns { Learns L.lawful L.opens pass.old.seat.me.0 other.old.seat.me.0 pass.new.seat.me.0 other.new.seat.me.0 }
+{
+    steps::tell(words, &mut pass.seat, &mut other.seat);
+    steps::begin(words, &mut pass.seat);
+    steps::refresh(words, &mut other.seat);
+}

@@ -1,0 +1,231 @@
+//! Single steps on the words. Each is one load, store, compare-exchange or fetch-and-add of one word, and but for `recall` and
+//! `refresh`, which load the spare word, one event of the machine.
+#![tactic(auto)]
+
+ghost use Rattle.std.specs.Prelude.{◌≡◌, ◌≢◌, ℕ, suc, ◌+◌, ◌*◌, ◌^◌, ◌<◌, ◌≤◌, ◌⊎◌, ◌||◌, Some, [], length, true, false};
+ghost use Rattle.tlcore.specs.Seats.{reads_of, writes_of, find_read, find_held, all_below, all_settled, is_due, is_next};
+ghost use Rattle.tlcore.specs.History.{wv};
+ghost use Rattle.tlcore.proofs.Words.{SeatRead, SeatHeld, at_idle, at_reading, at_looked, at_loaded, at_taking, at_checking, at_storing, at_failing, at_voiding};
+ghost use Rattle.tlwords.specs.Plays.{IsSameSeat, GivesBack, MayStore, Sampled, Looks, Loads, Relooks, Takes, Draws, Checks, Stores, Releases, Recalls, Refreshes, told_by, witness};
+
+use crate::law::Law;
+use crate::plays::{
+    Begin, Check, Draw, Load, Look, Recall, Refresh, Release, Relook, Said, Store, Take, Tell,
+};
+use crate::rule::Place;
+use crate::words::Words;
+use std::marker::Brand;
+
+/// Samples the clock as the place of a new run.
+pub(crate) fn begin<L: Law>(words: &Words<L>, seat: &mut Place<L>) -> u64
+    requires table { seat.old.table_id ≡ words.now.table.shared.table_id }
+    requires place { (seat.old.me.0.seat.place ≡ at_idle) ⊎ (seat.old.me.0.seat.place ≡ at_reading) }
+    ensures seat { IsSameSeat seat.old seat.new }
+    ensures told { Sampled L.lawful L.opens seat.old.me result seat.new.me }
+{
+    words.table.shared.load::<Begin<L>>(seat, 1)
+}
+
+/// First look at the cell's lock word.
+pub(crate) fn look<L: Law>(words: &Words<L>, seat: &mut Place<L>, cell: usize) -> u64
+    requires table { seat.old.table_id ≡ words.now.table.shared.table_id }
+    requires setting { (y : L.Setting) × (seat.old.me.0.setting ≡ Some y) }
+    requires cell { (cell < words.now.cells) × (cell < length seat.old.me.0.base) }
+    requires place { seat.old.me.0.seat.place ≡ at_reading }
+    ensures seat { IsSameSeat seat.old seat.new }
+    ensures told { Looks L.lawful L.opens cell seat.old.me result seat.new.me }
+{
+    words.table.shared.load::<Look<L>>(seat, 2 * cell + 2)
+}
+
+/// Load of the cell's value word, after a look that found this lock word.
+pub(crate) fn load<L: Law>(words: &Words<L>, seat: &mut Place<L>, cell: usize, word: u64) -> u64
+    requires table { seat.old.table_id ≡ words.now.table.shared.table_id }
+    requires setting { (y : L.Setting) × (seat.old.me.0.setting ≡ Some y) }
+    requires cell { (cell < words.now.cells) × (cell < length seat.old.me.0.base) }
+    requires place { seat.old.me.0.seat.place ≡ at_looked cell word }
+    ensures seat { IsSameSeat seat.old seat.new }
+    ensures told { Loads L.lawful L.opens seat.old.me result seat.new.me }
+{
+    let _ = word;
+    words.table.shared.load::<Load<L>>(seat, 2 * cell + 3)
+}
+
+/// Second look at the cell's lock word, after the load of this value.
+pub(crate) fn relook<L: Law>(
+    words: &Words<L>,
+    seat: &mut Place<L>,
+    cell: usize,
+    word: u64,
+    value: u64,
+) -> u64
+    requires table { seat.old.table_id ≡ words.now.table.shared.table_id }
+    requires setting { (y : L.Setting) × (seat.old.me.0.setting ≡ Some y) }
+    requires cell { (cell < words.now.cells) × (cell < length seat.old.me.0.base) }
+    requires place { seat.old.me.0.seat.place ≡ at_loaded cell word value }
+    ensures seat { IsSameSeat seat.old seat.new }
+    ensures told { Relooks L.lawful L.opens seat.old.me result seat.new.me }
+{
+    let _ = word;
+    let _ = value;
+    words.table.shared.load::<Relook<L>>(seat, 2 * cell + 2)
+}
+
+fn take_saying<L: Law, G: Said<L::Note>>(
+    words: &Words<L>,
+    seat: &mut Place<L>,
+    cell: usize,
+    word: u64,
+    value: u64,
+) -> u64
+    requires table { seat.old.table_id ≡ words.now.table.shared.table_id }
+    requires setting { (y : L.Setting) × (seat.old.me.0.setting ≡ Some y) }
+    requires cell { (cell < words.now.cells) × (cell < length seat.old.me.0.base) }
+    requires said { G.value ≡ value }
+    requires place { (seat.old.me.0.seat.place ≡ at_reading) ⊎ ((seat.old.me.0.seat.place ≡ at_taking) × (all_below cell seat.old.me.0.seat.held ≡ true)) }
+    requires read { (d : SeatRead) × (find_read cell seat.old.me.0.seat.reads ≡ Some d) × (d.word ≡ word) }
+    requires room { word + 1 < 2 ^ 64 }
+    ensures seat { IsSameSeat seat.old seat.new }
+    ensures told { Takes L.lawful L.opens cell value word seat.old.me result seat.new.me }
+{
+    let _ = value;
+    words
+        .table
+        .shared
+        .compare_exchange::<Take<L, G>>(seat, 2 * cell + 2, word, word + 1)
+}
+
+/// One try to lock the cell, from the word that its read has seen. The value is the one to be stored.
+pub(crate) fn take<L: Law>(
+    words: &Words<L>,
+    seat: &mut Place<L>,
+    cell: usize,
+    word: u64,
+    value: u64,
+) -> u64
+    requires table { seat.old.table_id ≡ words.now.table.shared.table_id }
+    requires setting { (y : L.Setting) × (seat.old.me.0.setting ≡ Some y) }
+    requires cell { (cell < words.now.cells) × (cell < length seat.old.me.0.base) }
+    requires place { (seat.old.me.0.seat.place ≡ at_reading) ⊎ ((seat.old.me.0.seat.place ≡ at_taking) × (all_below cell seat.old.me.0.seat.held ≡ true)) }
+    requires read { (d : SeatRead) × (find_read cell seat.old.me.0.seat.reads ≡ Some d) × (d.word ≡ word) }
+    requires room { word + 1 < 2 ^ 64 }
+    ensures seat { IsSameSeat seat.old seat.new }
+    ensures told { Takes L.lawful L.opens cell value word seat.old.me result seat.new.me }
+{
+    take_saying::<L, Brand>(words, seat, cell, word, value)
+}
+
+fn draw_saying<L: Law, G: Said<L::Note>>(
+    words: &Words<L>,
+    seat: &mut Place<L>,
+    note: &L::Note,
+) -> u64
+    requires table { seat.old.table_id ≡ words.now.table.shared.table_id }
+    requires setting { (y : L.Setting) × (seat.old.me.0.setting ≡ Some y) × L.lawful y [] (reads_of seat.old.me.0.seat.reads) (writes_of seat.old.me.0.seat.held) note.now }
+    requires said { G.note ≡ Some note.now }
+    requires place { seat.old.me.0.seat.place ≡ at_taking }
+    requires writes { writes_of seat.old.me.0.seat.held ≢ [] }
+    requires room { length seat.old.me.0.drawn + 1 ≤ 2 ^ 40 * seat.old.me.0.rights }
+    ensures seat { IsSameSeat seat.old seat.new }
+    ensures told { Draws L.lawful L.opens (Some note.now) seat.old.me result seat.new.me }
+{
+    let _ = note;
+    words.table.shared.fetch_add::<Draw<L, G>>(seat, 1, 1)
+}
+
+/// Advances the clock. The run's number is one more than the result.
+pub(crate) fn draw<L: Law>(words: &Words<L>, seat: &mut Place<L>, note: &L::Note) -> u64
+    requires table { seat.old.table_id ≡ words.now.table.shared.table_id }
+    requires setting { (y : L.Setting) × (seat.old.me.0.setting ≡ Some y) × L.lawful y [] (reads_of seat.old.me.0.seat.reads) (writes_of seat.old.me.0.seat.held) note.now }
+    requires place { seat.old.me.0.seat.place ≡ at_taking }
+    requires writes { writes_of seat.old.me.0.seat.held ≢ [] }
+    requires room { length seat.old.me.0.drawn + 1 ≤ 2 ^ 40 * seat.old.me.0.rights }
+    ensures seat { IsSameSeat seat.old seat.new }
+    ensures told { Draws L.lawful L.opens (Some note.now) seat.old.me result seat.new.me }
+{
+    draw_saying::<L, Brand>(words, seat, note)
+}
+
+/// Look at the lock word of a cell that was read and isn't held, after the draw.
+pub(crate) fn check<L: Law>(words: &Words<L>, seat: &mut Place<L>, cell: usize) -> u64
+    requires table { seat.old.table_id ≡ words.now.table.shared.table_id }
+    requires setting { (y : L.Setting) × (seat.old.me.0.setting ≡ Some y) }
+    requires cell { (cell < words.now.cells) × (cell < length seat.old.me.0.base) }
+    requires place { (i : ℕ) × (upto : ℕ) × (seat.old.me.0.seat.place ≡ at_checking i upto) × (is_next seat.old.me.0.seat i ≡ false) × (is_due seat.old.me.0.seat upto cell ≡ true) }
+    requires read { (d : SeatRead) × (find_read cell seat.old.me.0.seat.reads ≡ Some d) }
+    ensures seat { IsSameSeat seat.old seat.new }
+    ensures told { Checks L.lawful L.opens cell seat.old.me result seat.new.me }
+{
+    words.table.shared.load::<Check<L>>(seat, 2 * cell + 2)
+}
+
+/// Store of the value of a cell that the run holds.
+pub(crate) fn store<L: Law>(words: &Words<L>, seat: &mut Place<L>, cell: usize, value: u64)
+    requires table { seat.old.table_id ≡ words.now.table.shared.table_id }
+    requires setting { (y : L.Setting) × (seat.old.me.0.setting ≡ Some y) }
+    requires cell { (cell < words.now.cells) × (cell < length seat.old.me.0.base) }
+    requires place { (i : ℕ) × MayStore seat.old.me.0.seat i }
+    requires held { (k : SeatHeld) × (find_held cell seat.old.me.0.seat.held ≡ Some k) × (k.value ≡ value) }
+    ensures seat { IsSameSeat seat.old seat.new }
+    ensures told { Stores L.lawful L.opens cell seat.old.me seat.new.me }
+{
+    words
+        .table
+        .shared
+        .store::<Store<L>>(seat, 2 * cell + 3, value);
+}
+
+/// Store of the lock word of a cell that the run holds.
+pub(crate) fn release<L: Law>(words: &Words<L>, seat: &mut Place<L>, cell: usize, word: u64)
+    requires table { seat.old.table_id ≡ words.now.table.shared.table_id }
+    requires setting { (y : L.Setting) × (seat.old.me.0.setting ≡ Some y) }
+    requires cell { (cell < words.now.cells) × (cell < length seat.old.me.0.base) }
+    requires held { (k : SeatHeld) × (find_held cell seat.old.me.0.seat.held ≡ Some k) × GivesBack seat.old.me.0.seat k word }
+    ensures seat { IsSameSeat seat.old seat.new }
+    ensures told { Releases L.lawful L.opens cell seat.old.me seat.new.me }
+{
+    words
+        .table
+        .shared
+        .store::<Release<L>>(seat, 2 * cell + 2, word);
+}
+
+fn recall_saying<L: Law, G: Said<L::Note>>(words: &Words<L>, seat: &mut Place<L>, note: &L::Note)
+    requires table { seat.old.table_id ≡ words.now.table.shared.table_id }
+    requires setting { (y : L.Setting) × (seat.old.me.0.setting ≡ Some y) × L.lawful y [] (reads_of seat.old.me.0.seat.reads) [] note.now }
+    requires said { G.note ≡ Some note.now }
+    ensures seat { IsSameSeat seat.old seat.new }
+    ensures told { Recalls L.lawful L.opens (Some note.now) seat.old.me seat.new.me }
+{
+    let _ = note;
+    words.table.shared.load::<Recall<L, G>>(seat, 0);
+}
+
+/// Adds a call that wrote nothing to those of the pass, by a load of the spare word.
+pub(crate) fn recall<L: Law>(words: &Words<L>, seat: &mut Place<L>, note: &L::Note)
+    requires table { seat.old.table_id ≡ words.now.table.shared.table_id }
+    requires setting { (y : L.Setting) × (seat.old.me.0.setting ≡ Some y) × L.lawful y [] (reads_of seat.old.me.0.seat.reads) [] note.now }
+    ensures seat { IsSameSeat seat.old seat.new }
+    ensures told { Recalls L.lawful L.opens (Some note.now) seat.old.me seat.new.me }
+{
+    recall_saying::<L, Brand>(words, seat, note);
+}
+
+/// Sees the history so far, by a load of the spare word.
+pub(crate) fn refresh<L: Law>(words: &Words<L>, seat: &mut Place<L>)
+    requires table { seat.old.table_id ≡ words.now.table.shared.table_id }
+    ensures seat { IsSameSeat seat.old seat.new }
+    ensures told { Refreshes L.lawful L.opens seat.old.me seat.new.me }
+{
+    words.table.shared.load::<Refresh<L>>(seat, 0);
+}
+
+/// Tells one seat what another has seen, by two loads of the spare word. It is to sample the clock next.
+pub(crate) fn tell<L: Law>(words: &Words<L>, seat: &mut Place<L>, other: &mut Place<L>)
+    requires table { (seat.old.table_id ≡ words.now.table.shared.table_id) × (other.old.table_id ≡ words.now.table.shared.table_id) }
+    ensures seat { IsSameSeat seat.old seat.new × (seat.new.me ≡ (told_by seat.old.me.0 (witness other.old.me.0), seat.old.me.1)) }
+    ensures other { IsSameSeat other.old other.new × (other.new.me ≡ other.old.me) }
+{
+    let token = words.table.shared.split_seat::<Tell>(other);
+    words.table.shared.join_seat::<Tell>(seat, token);
+}
