@@ -1,9 +1,11 @@
 #!/usr/bin/env python3
 """Times the program on made inputs, side by side with another program of the same command line.
 
-    bench.py [--program CMD] [--beside CMD] [--out DIR] [--rounds 7]
+    bench.py [--program CMD] [--beside CMD] [--metamath CMD] [--out DIR] [--rounds 7] [--check DB]..
 
---program is the program under test (default ../crates/mmrefactor/out/mmrefactor), --beside one to compare with. Both are run in turn,
+--program is the program under test (default ../crates/mmrefactor/out/mmrefactor), --beside one to compare with, --metamath the program of
+that name (reading alone, and reading with `verify proof *`). The second table is of `check`, over made inputs and over each DB that is
+named, beside metamath. The programs are run in turn,
 once each round, so that a change of the machine's load meets them alike. Medians over the rounds in milliseconds, in brackets the best
 round; ratios are medians of the ratios within a round. It is a measurement and no test: it passes whatever it finds.
 """
@@ -26,6 +28,19 @@ def make(path, *arguments):
         subprocess.run([sys.executable, str(HERE / "generate.py"), *map(str, arguments)], check=True)
 
 
+def checked(out, named):
+    """{name: a database to check}."""
+    out.mkdir(parents=True, exist_ok=True)
+    rows = {}
+    for kind, count, what in (("hypotheses", 1000, "hypotheses"), ("pairs", 362, "variables in one $d"), ("proof", 16384, "steps of one proof")):
+        path = out / f"{kind}.mm"
+        make(path, kind, path, "--count", count)
+        rows[f"{count:,} {what}"] = path
+    for path in named:
+        rows[path.name] = path
+    return rows
+
+
 def inputs(out):
     """{name: arguments of the program behind `run`}."""
     out.mkdir(parents=True, exist_ok=True)
@@ -37,6 +52,10 @@ def inputs(out):
         # The text stays below 16,777,216 bytes, the most that is read.
         make(path, "db", path, "--megabytes", size)
         rows[f"read and write {path.stat().st_size / 1e6:.1f} MB"] = [path, empty]
+    for size in SIZES:
+        path = out / f"blocks{size}.mm"
+        make(path, "blocks", path, "--megabytes", size)
+        rows[f"blocks: read and write {path.stat().st_size / 1e6:.1f} MB"] = [path, empty]
     axioms, renames = out / "axioms.mm", out / "renames.edits"
     make(axioms, "axioms", axioms, "--count", 4096)
     make(renames, "renames", renames, "--count", 10_000, "--axioms", 4096)
@@ -54,10 +73,32 @@ def milliseconds(command):
     return took, done.stdout
 
 
+def table_of_checks(options):
+    """`check` beside metamath: reading alone, and with its proofs."""
+    print("\n| checked | mmrefactor | " + ("metamath reads | and verifies | ratio |" if options.metamath else ""))
+    print("|---" * (5 if options.metamath else 2) + "|")
+    for name, path in checked(options.out, options.check).items():
+        commands = {"mmrefactor": [*shlex.split(options.program), "check", path]}
+        if options.metamath:
+            read = f'read "{path}"'
+            commands["reads"] = [*shlex.split(options.metamath), read, "exit"]
+            commands["verifies"] = [*shlex.split(options.metamath), read, "verify proof *", "exit"]
+        took = {program: [] for program in commands}
+        for _ in range(options.rounds):
+            for program, command in commands.items():
+                took[program].append(milliseconds(command)[0])
+        cells = [f"{median(of):.1f} ({min(of):.1f})" for of in took.values()]
+        if options.metamath:
+            cells.append(f"{median(a / b for a, b in zip(took['mmrefactor'], took['verifies'])):.2f}")
+        print(f"| {name} | " + " | ".join(cells) + " |")
+
+
 def main():
     parser = argparse.ArgumentParser(description=__doc__, formatter_class=argparse.RawDescriptionHelpFormatter)
     parser.add_argument("--program", default=str(HERE.parent / "crates/mmrefactor/out/mmrefactor"))
     parser.add_argument("--beside")
+    parser.add_argument("--metamath")
+    parser.add_argument("--check", type=pathlib.Path, action="append", default=[])
     parser.add_argument("--out", type=pathlib.Path, default=pathlib.Path("/tmp/mmrefactor-benches"))
     parser.add_argument("--rounds", type=int, default=7)
     options = parser.parse_args()
@@ -82,8 +123,10 @@ def main():
         if options.beside:
             cells.append(f"{median(a / b for a, b in zip(took['mmrefactor'], took['beside'])):.2f}")
         print(f"| {name} | " + " | ".join(cells) + " |")
-    reads = [spent for name, spent in medians.items() if name.startswith("read")]
-    print(f"\nfrom {SIZES[1]} to {SIZES[2]} MB: {reads[2] / reads[1]:.2f} times")
+    for start in ("read", "blocks"):
+        reads = [spent for name, spent in medians.items() if name.startswith(start)]
+        print(f"\n{start}: from {SIZES[1]} to {SIZES[2]} MB {reads[2] / reads[1]:.2f} times")
+    table_of_checks(options)
 
 
 if __name__ == "__main__":

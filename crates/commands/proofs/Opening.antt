@@ -36,7 +36,7 @@ taken_apart (x ∷ xs) (suc i) d lt = ap (λ ys. x ∷ ys) (taken_apart xs i d (
 -- ---- the opening
 
 -- where each assertion follows from those before it, today each is an axiom
-follow_axioms : (db : Contents) → EachFollows db → All (λ a. a.kind ≡ Axiom) db.assertions
+pub follow_axioms : (db : Contents) → EachFollows db → All (λ a. a.kind ≡ Axiom) db.assertions
 follow_axioms db follows = λ i d lt.
     let split = taken_apart db.assertions i d lt in
     follows (take i db.assertions) (drop (suc i) db.assertions) (get_or db.assertions i d) split

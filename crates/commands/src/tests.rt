@@ -34,9 +34,12 @@ fn ranked(alloc: Global, db: &Database, rank: u32) -> Result<Vec<Ranked>, AllocE
 /// The library of PAIR, all at rank 7.
 fn pair(alloc: Global, keys: RandomState) -> Result<PlainLibrary, Fail> {
     let db = read_database(alloc, keys, PAIR)?;
-    if db.assertions().len() != 2 || first_theorem(&db).is_some() {
-        return Err(Fail::from("PAIR has two axioms"));
+    if db.assertions().len() != 2 {
+        return Err(Fail::from("PAIR has two assertions"));
     }
+    let None = first_theorem(&db) else {
+        return Err(Fail::from("PAIR has axioms alone"));
+    };
     let entries = ranked(alloc, &db, 7)?;
     let prelude = db.prelude().copy(alloc)?;
     Ok(PlainLibrary::sorted(prelude, 2, entries))

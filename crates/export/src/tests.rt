@@ -53,9 +53,12 @@ impl Write for Slow {
 fn mini(alloc: Global, keys: RandomState) -> Result<PlainLibrary, Fail> {
     let db = read_database(alloc, keys, MINI).or(Err("MINI is not read"))?;
     let assertions = db.assertions();
-    if assertions.len() != 1 || first_theorem(&db).is_some() {
-        return Err(Fail::from("MINI has one axiom"));
+    if assertions.len() != 1 {
+        return Err(Fail::from("MINI has one assertion"));
     }
+    let None = first_theorem(&db) else {
+        return Err(Fail::from("MINI has axioms alone"));
+    };
     let mut entries = Vec::new(alloc);
     let assertion = assertions[0].copy(alloc)?;
     entries.push(Ranked {

@@ -147,23 +147,23 @@ fn unit_fault_of(rt: &HostRuntime, text: &[u8]) -> Result<Option<TextFault>, Fai
     Ok(read_assertion(rt.alloc(), RandomState::new(rt)?, db.prelude(), text).err())
 }
 
+/// The assertion at a place, as it is printed for a person.
+fn printed(alloc: Global, db: &Database, place: usize) -> Result<String, Fail> {
+    match db.assertions().get(place) {
+        Some(assertion) => Ok(format!(in alloc; "{assertion:?}")?),
+        None => Err(Fail::from("the database has the assertion")),
+    }
+}
+
 #[test]
 fn reads_single_assertions(rt: HostRuntime) -> Result<(), Fail> {
     let alloc = rt.alloc();
     let db = demo(&rt)?;
     let th1 = read_assertion(alloc, RandomState::new(&rt)?, db.prelude(), TH1)?;
-    let known = &db.assertions()[7];
-    assert_eq!(rt;
-        format!(in alloc; "{th1:?}")?,
-        format!(in alloc; "{known:?}")?
-    );
+    assert_eq!(rt; format!(in alloc; "{th1:?}")?, printed(alloc, &db, 7)?);
     let block = b"${ $( min $) min $e |- P $. maj $e |- ( P -> Q ) $. mp $a |- Q $. $} $( end $)";
     let mp = read_assertion(alloc, RandomState::new(&rt)?, db.prelude(), block)?;
-    let known = &db.assertions()[6];
-    assert_eq!(rt;
-        format!(in alloc; "{mp:?}")?,
-        format!(in alloc; "{known:?}")?
-    );
+    assert_eq!(rt; format!(in alloc; "{mp:?}")?, printed(alloc, &db, 6)?);
     Ok(())
 }
 

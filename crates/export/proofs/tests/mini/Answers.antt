@@ -13,7 +13,7 @@ sorted-requires c =
     let one : length db.assertions ≡ 1 = omega (arith, ap length value) in
     let is : x ≡ get_or db.assertions 0 x = rw value at c.index-assertions-0.is in
     let opened : IsOpened db.prelude (record { rank = 100; assertion = x } ∷ []) =
-    one_opened db.prelude db.assertions x c.assertions-assertions.ensures.sound one is in
+    one_opened db.prelude db.assertions x c.assertions-assertions.ensures.sound (c.first_theorem.ensures.follows c.in-None.is) one is in
     let prelude : c.in_ok-prelude.prelude ≡ db.prelude = c.in_ok-prelude.ensures ∙ c.prelude.ensures in
     let same : c.in_ok-assertion.assertion ≡ x = c.in_ok-assertion.ensures in
     let pushed : c.push.new.self.items ≡ record { rank = 100; assertion = c.in_ok-assertion.assertion } ∷ [] = search rules in
