@@ -46,10 +46,6 @@ $}
 th1 $p |- t = t $= tt tze tpl tt weq tt tt weq tt a2 tt tze tpl tt weq tt tze tpl tt weq tt tt weq wim tt a2 tt tze tpl tt tt a1 mp mp $.
 ";
 
-/// The line of `th1`.
-const TH1: &[u8] =
-    b"th1 $p |- t = t $= tt tze tpl tt weq tt tt weq tt a2 tt tze tpl tt weq tt tze tpl tt weq tt tt weq wim tt a2 tt tze tpl tt tt a1 mp mp $.";
-
 fn at(kind: FaultKind, place: usize) -> Option<TextFault> {
     Some(TextFault { place, kind })
 }
@@ -145,26 +141,6 @@ fn reads_demo(rt: HostRuntime) -> Result<(), Fail> {
 fn unit_fault_of(rt: &HostRuntime, text: &[u8]) -> Result<Option<TextFault>, Fail> {
     let db = demo(rt)?;
     Ok(read_assertion(rt.alloc(), RandomState::new(rt)?, db.prelude(), text).err())
-}
-
-/// The assertion at a place, as it is printed for a person.
-fn printed(alloc: Global, db: &Database, place: usize) -> Result<String, Fail> {
-    match db.assertions().get(place) {
-        Some(assertion) => Ok(format!(in alloc; "{assertion:?}")?),
-        None => Err(Fail::from("the database has the assertion")),
-    }
-}
-
-#[test]
-fn reads_single_assertions(rt: HostRuntime) -> Result<(), Fail> {
-    let alloc = rt.alloc();
-    let db = demo(&rt)?;
-    let th1 = read_assertion(alloc, RandomState::new(&rt)?, db.prelude(), TH1)?;
-    assert_eq!(rt; format!(in alloc; "{th1:?}")?, printed(alloc, &db, 7)?);
-    let block = b"${ $( min $) min $e |- P $. maj $e |- ( P -> Q ) $. mp $a |- Q $. $} $( end $)";
-    let mp = read_assertion(alloc, RandomState::new(&rt)?, db.prelude(), block)?;
-    assert_eq!(rt; format!(in alloc; "{mp:?}")?, printed(alloc, &db, 6)?);
-    Ok(())
 }
 
 #[test]
