@@ -3,7 +3,7 @@ use Rattle.std.proofs.Common.{◌≡◌, ℕ, zero, suc, ◌<◌, ◌≤◌, Boo
 use Rattle.std.specs.List.{list_any, count_by}
 use Rattle.std.proofs.lemmas.Bool.{cases_Bool, cond-true, cond-false}
 use Rattle.std.proofs.lemmas.List.Sums.{sum_by-cons}
-use Rattle.mmstatement.proofs.Distinct.{or_false, both_false}
+use Rattle.mmsyntax.proofs.Distinct.{or_false, both_false}
 
 -- what an item adds to the count
 abbrev pub one_if : {A : Type 0} → (A → Bool) → A → ℕ

@@ -7,9 +7,9 @@ use Rattle.std.proofs.lemmas.Bool.{cases_Bool, cond-true, cond-false, both_ways}
 use Rattle.std.proofs.lemmas.List.Folds.{list_any_none}
 use Rattle.std.proofs.lemmas.List.Sums.{sum_by-cons}
 use Rattle.std.proofs.lemmas.List.Sorted.{sum_by-IsPermutation}
-use Rattle.mmstatement.specs.Assertions.{Distinct}
-use Rattle.mmstatement.proofs.Names.{same_bytes, bytes_eq-same, bytes_eq-sym}
-use Rattle.mmstatement.proofs.Distinct.{or_false, any_at, any-map}
+use Rattle.mmsyntax.specs.Assertions.{Distinct}
+use Rattle.mmsyntax.proofs.Names.{same_bytes, bytes_eq-same, bytes_eq-sym}
+use Rattle.mmsyntax.proofs.Distinct.{or_false, any_at, any-map}
 use Rattle.commands.specs.Edits.{replacing}
 use Rattle.commands.proofs.Counts.{one_if, none_counted, none_from_count}
 

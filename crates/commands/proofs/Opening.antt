@@ -2,12 +2,12 @@
 use Rattle.std.proofs.Common.{◌≡◌, ℕ, zero, suc, ◌+◌, ◌<◌, ◌≤◌, List, [], ◌∷◌, ◌++◌, length, get_or, take, drop, map, max, refl, sym, ap, subst, arith}
 use Rattle.std.specs.List.{All}
 use Rattle.std.proofs.lemmas.List.Elements.{All-nil, All-cons}
-use Rattle.mmstatement.specs.declared.statement.Kind.TheVariants.{Axiom}
-use Rattle.mmstatement.specs.declared.statement.Assertion.{Assertion}
-use Rattle.mmstatement.specs.Tables.{Contents}
-use Rattle.mmstatement.specs.Layout.{HasSpelling}
-use Rattle.mmstatement.specs.Assertions.{IsDeclarable}
-use Rattle.mmstatement.proofs.Declarable.{declarable}
+use Rattle.mmsyntax.specs.declared.statement.Kind.TheVariants.{Axiom}
+use Rattle.mmsyntax.specs.declared.statement.Assertion.{Assertion}
+use Rattle.mmsyntax.specs.Tables.{Contents}
+use Rattle.mmsyntax.specs.Layout.{HasSpelling}
+use Rattle.mmsyntax.specs.Assertions.{IsDeclarable}
+use Rattle.mmsyntax.proofs.Declarable.{declarable}
 use Rattle.commands.specs.declared.library.Ranked.{Ranked}
 use Rattle.commands.specs.Library.{Verifies, EachFollows, ranked_from, opening}
 use Rattle.commands.specs.Laws.{OpeningsVerify}

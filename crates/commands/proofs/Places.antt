@@ -6,9 +6,9 @@ use Rattle.std.proofs.lemmas.Bool.{cases_order, cond-true, cond-false, false_fro
 use Rattle.std.proofs.lemmas.List.{length-map, get_or-map}
 use Rattle.std.proofs.lemmas.List.Folds.{list_any_none, list_any_at, Any-from_list_any}
 use Rattle.std.proofs.lemmas.Option.{slice_get_within, get_or_from_slice_get}
-use Rattle.mmstatement.specs.Assertions.{Distinct}
-use Rattle.mmstatement.proofs.Names.{same_bytes, bytes_eq-same, bytes_eq-sym}
-use Rattle.mmstatement.proofs.Distinct.{or_false, any_at, any-map}
+use Rattle.mmsyntax.specs.Assertions.{Distinct}
+use Rattle.mmsyntax.proofs.Names.{same_bytes, bytes_eq-same, bytes_eq-sym}
+use Rattle.mmsyntax.proofs.Distinct.{or_false, any_at, any-map}
 use Rattle.commands.specs.declared.library.Ranked.{Ranked}
 use Rattle.commands.specs.Library.{label_of}
 use Rattle.commands.specs.Edits.{is_labelled, has}

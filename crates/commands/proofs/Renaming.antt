@@ -8,11 +8,11 @@ use Rattle.std.proofs.lemmas.List.{length-map, length-set, get_or-map, get_or-se
 use Rattle.std.proofs.lemmas.List.Elements.{All-map, All-weaker}
 use Rattle.std.proofs.lemmas.List.Folds.{list_any_none}
 use Rattle.std.proofs.lemmas.Option.{slice_get_within, get_or_from_slice_get}
-use Rattle.mmstatement.specs.declared.statement.Kind.TheVariants.{Axiom}
-use Rattle.mmstatement.specs.declared.statement.Assertion.{Assertion}
-use Rattle.mmstatement.specs.Tables.{Tables}
-use Rattle.mmstatement.specs.Assertions.{is_lawful_label, Distinct, Fits}
-use Rattle.mmstatement.proofs.Names.{same_bytes, bytes_eq-same}
+use Rattle.mmsyntax.specs.declared.statement.Kind.TheVariants.{Axiom}
+use Rattle.mmsyntax.specs.declared.statement.Assertion.{Assertion}
+use Rattle.mmsyntax.specs.Tables.{Tables}
+use Rattle.mmsyntax.specs.Assertions.{is_lawful_label, Distinct, Fits}
+use Rattle.mmsyntax.proofs.Names.{same_bytes, bytes_eq-same}
 use Rattle.commands.specs.declared.library.Ranked.{Ranked}
 use Rattle.commands.specs.Library.{Setting, IsLibrary, Verifies, label_of}
 use Rattle.commands.specs.Edits.{replacing, step_renamed, renamed, rename, cites, citers, has, is_citation}

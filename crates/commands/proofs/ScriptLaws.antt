@@ -1,10 +1,10 @@
 -- What the reader of scripts gives is what the text spells.
 use Rattle.std.proofs.Common.{◌≡◌, ℕ, suc, ◌≤◌, Bool, true, false, cond, List, [], ◌∷◌, length, Option, Some, None, Result, Ok, Err, refl, sym, ap, subst, ◌∙◌, arith}
 use Rattle.std.specs.List.{flat_map}
-use Rattle.mmstatement.specs.declared.fault.TextFault.{TextFault}
-use Rattle.mmstatement.specs.Text.{Token, tokens, IsClean}
+use Rattle.mmtext.specs.declared.fault.TextFault.{TextFault}
+use Rattle.mmtext.specs.Text.{Token, tokens, IsClean}
 use Rattle.commands.specs.declared.command.Command.{Command}
-use Rattle.mmstatement.specs.Languages.{State, step, run, start_of, said_at, finished, ended, token_reading, reading}
+use Rattle.mmtext.specs.Languages.{State, step, run, start_of, said_at, finished, ended, token_reading, reading}
 use Rattle.commands.specs.Scripts.{SpellsScript, spelling}
 use Rattle.commands.specs.ScriptFaults.{
   Place,
@@ -21,8 +21,8 @@ use Rattle.commands.specs.ScriptFaults.{
 use Rattle.commands.specs.declared.script.Stop.{Stop}
 use Rattle.commands.specs.declared.script.Stop.TheVariants as stop
 use Rattle.commands.specs.ScriptViews.{Fails, Gives}
-use Rattle.mmstatement.proofs.Readings.{reading_ok, clean_reading, stops_here}
-use Rattle.mmstatement.proofs.CommentLaws.{here, walks_outside, runs_all}
+use Rattle.mmtext.proofs.Readings.{reading_ok, clean_reading, stops_here}
+use Rattle.mmtext.proofs.CommentLaws.{here, walks_outside, runs_all}
 use Rattle.commands.proofs.ScriptWords.{progress, script_ordinary, script_leads, reads_script}
 
 -- ---- what is read is spelled

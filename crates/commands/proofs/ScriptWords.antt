@@ -5,15 +5,15 @@ use Rattle.std.specs.List.{flat_map}
 use Rattle.std.specs.Str.{bytes_eq}
 use Rattle.std.proofs.lemmas.Bool.{cond-false}
 use Rattle.std.proofs.lemmas.List.Elements.{All-nil, All-cons, All-head, All-tail, All-append}
-use Rattle.mmstatement.specs.declared.fault.FaultKind.TheVariants.{BadToken}
-use Rattle.mmstatement.specs.declared.fault.TextFault.{TextFault}
-use Rattle.mmstatement.specs.Words.{has_dollar}
-use Rattle.mmstatement.specs.Text.{Token}
-use Rattle.mmstatement.specs.Words.{Word}
+use Rattle.mmtext.specs.declared.fault.FaultKind.TheVariants.{BadToken}
+use Rattle.mmtext.specs.declared.fault.TextFault.{TextFault}
+use Rattle.mmtext.specs.Words.{has_dollar}
+use Rattle.mmtext.specs.Text.{Token}
+use Rattle.mmtext.specs.Words.{Word}
 use Rattle.commands.specs.declared.command.Command.{Command}
 use Rattle.commands.specs.declared.command.Command.TheVariants.{Rename, Show}
-use Rattle.mmstatement.specs.Comments.{words_of}
-use Rattle.mmstatement.specs.Languages.{fault}
+use Rattle.mmtext.specs.Comments.{words_of}
+use Rattle.mmtext.specs.Languages.{fault}
 use Rattle.commands.specs.Scripts.{command_spelling, spelling, HasPlainLabels, IsTransaction}
 use Rattle.commands.specs.ScriptFaults.{
   Place,
@@ -33,7 +33,7 @@ use Rattle.commands.specs.ScriptFaults.{
   in_place,
   script_language,
 }
-use Rattle.mmstatement.proofs.CommentLaws.{walk, walk_ends, walk_none, walk_step, walk_cons, same_word, IsOrdinary, plain_is_ordinary}
+use Rattle.mmtext.proofs.CommentLaws.{walk, walk_ends, walk_none, walk_step, walk_cons, same_word, IsOrdinary, plain_is_ordinary}
 
 abbrev Script : Type 0
 Script = List (List Command)

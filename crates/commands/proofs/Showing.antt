@@ -7,11 +7,11 @@ use Rattle.std.specs.Str.{bytes_eq}
 use Rattle.std.proofs.lemmas.List.{length-map, get_or-map}
 use Rattle.std.proofs.lemmas.List.Elements.{All-map, All-nil, All-same}
 use Rattle.std.proofs.lemmas.List.Sorted.{All-permutation, IsPermutation-map, length_permutation}
-use Rattle.mmstatement.specs.declared.statement.Kind.TheVariants.{Axiom, Theorem}
-use Rattle.mmstatement.specs.declared.statement.Assertion.{Assertion}
-use Rattle.mmstatement.specs.Tables.{Tables}
-use Rattle.mmstatement.specs.Assertions.{is_lawful_label, Distinct, Fits, IsNameable, IsUnit, IsDeclarable}
-use Rattle.mmstatement.proofs.Declarable.{spelled_where_declarable}
+use Rattle.mmsyntax.specs.declared.statement.Kind.TheVariants.{Axiom, Theorem}
+use Rattle.mmsyntax.specs.declared.statement.Assertion.{Assertion}
+use Rattle.mmsyntax.specs.Tables.{Tables}
+use Rattle.mmsyntax.specs.Assertions.{is_lawful_label, Distinct, Fits, IsNameable, IsUnit, IsDeclarable}
+use Rattle.mmsyntax.proofs.Declarable.{spelled_where_declarable}
 use Rattle.commands.specs.declared.library.Ranked.{Ranked}
 use Rattle.commands.specs.Library.{Setting, IsSetting, IsLibrary, Verifies, label_of, Listed, shown_database}
 use Rattle.commands.specs.Laws.{LibrariesAreSpelled}

@@ -5,10 +5,10 @@ use Rattle.std.specs.Prelude.{position}
 use Rattle.std.proofs.lemmas.Bool.{cases_Bool, cond-true, ltb-false}
 use Rattle.std.proofs.lemmas.List.{get_or_at}
 use mathlib.Core.Bool.{not}
-use Rattle.mmstatement.specs.declared.statement.Kind.{Kind}
-use Rattle.mmstatement.specs.declared.statement.Kind.TheVariants.{Axiom, Theorem}
-use Rattle.mmstatement.specs.declared.statement.Assertion.{Assertion}
-use Rattle.mmstatement.specs.Tables.{Contents}
+use Rattle.mmsyntax.specs.declared.statement.Kind.{Kind}
+use Rattle.mmsyntax.specs.declared.statement.Kind.TheVariants.{Axiom, Theorem}
+use Rattle.mmsyntax.specs.declared.statement.Assertion.{Assertion}
+use Rattle.mmsyntax.specs.Tables.{Contents}
 use Rattle.commands.specs.Library.{EachFollows, is_theorem, first_theorem}
 
 none_before : {A : Type 0} (p : A → Bool) (xs : List A) → length xs ≤ position_or_len p xs → (k : ℕ) (d : A) → k < length xs

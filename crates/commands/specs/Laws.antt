@@ -1,9 +1,9 @@
 -- What is true of every opening, edit, transaction and export.
 use Rattle.std.specs.Prelude.{◌≡◌, List, map, Ok}
 use Rattle.std.specs.Str.{bytes_eq}
-use Rattle.mmstatement.specs.Tables.{Contents}
-use Rattle.mmstatement.specs.Layout.{HasSpelling}
-use Rattle.mmstatement.specs.Assertions.{Distinct}
+use Rattle.mmsyntax.specs.Tables.{Contents}
+use Rattle.mmsyntax.specs.Layout.{HasSpelling}
+use Rattle.mmsyntax.specs.Assertions.{Distinct}
 use Rattle.commands.specs.declared.library.Ranked.{Ranked}
 use Rattle.commands.specs.declared.command.Command.{Command}
 use Rattle.commands.specs.Library.{Setting, Verifies, label_of, setting_of, opening, EachFollows, ShowsInOrder, Listed, shown_database}

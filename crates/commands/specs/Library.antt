@@ -5,12 +5,12 @@ use Rattle.std.specs.declared.cmp.Ordering.{Ordering}
 use Rattle.std.specs.Ordering.{nat_cmp, ordering_then}
 use Rattle.std.specs.Cmp.Lexicographic.{slice_cmp}
 use Rattle.std.specs.Str.{bytes_eq}
-use Rattle.mmstatement.specs.declared.statement.Kind.{Kind}
-use Rattle.mmstatement.specs.declared.statement.Kind.TheVariants.{Axiom, Theorem}
-use Rattle.mmstatement.specs.declared.statement.Assertion.{Assertion}
-use Rattle.mmstatement.specs.Tables.{Tables, Contents}
-use Rattle.mmstatement.specs.Layout.{IsSoundPrelude}
-use Rattle.mmstatement.specs.Assertions.{is_lawful_label, Distinct, Fits}
+use Rattle.mmsyntax.specs.declared.statement.Kind.{Kind}
+use Rattle.mmsyntax.specs.declared.statement.Kind.TheVariants.{Axiom, Theorem}
+use Rattle.mmsyntax.specs.declared.statement.Assertion.{Assertion}
+use Rattle.mmsyntax.specs.Tables.{Tables, Contents}
+use Rattle.mmsyntax.specs.Layout.{IsSoundPrelude}
+use Rattle.mmsyntax.specs.Assertions.{is_lawful_label, Distinct, Fits}
 use Rattle.commands.specs.declared.library.Ranked.{Ranked}
 
 -- what is fixed throughout: the prelude, and how many assertions a library may hold

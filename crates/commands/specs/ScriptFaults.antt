@@ -1,14 +1,14 @@
 -- The fault of a script: each token outside of comments in its place, one function a place.
 use Rattle.std.specs.Prelude.{ℕ, List, [], ◌∷◌, ◌++◌, Option, Some, None, Result, Ok, Err, if◌then◌else◌, codes}
 use Rattle.std.specs.Str.{bytes_eq}
-use Rattle.mmstatement.specs.declared.fault.FaultKind.TheVariants.{BadToken}
-use Rattle.mmstatement.specs.declared.fault.TextFault.{TextFault}
-use Rattle.mmstatement.specs.Text.{Token}
-use Rattle.mmstatement.specs.Words.{has_dollar}
-use Rattle.mmstatement.specs.Words.{Word}
+use Rattle.mmtext.specs.declared.fault.FaultKind.TheVariants.{BadToken}
+use Rattle.mmtext.specs.declared.fault.TextFault.{TextFault}
+use Rattle.mmtext.specs.Text.{Token}
+use Rattle.mmtext.specs.Words.{has_dollar}
+use Rattle.mmtext.specs.Words.{Word}
 use Rattle.commands.specs.declared.command.Command.{Command}
 use Rattle.commands.specs.declared.command.Command.TheVariants.{Rename, Show}
-use Rattle.mmstatement.specs.Languages.{Language, fault, Faulty}
+use Rattle.mmtext.specs.Languages.{Language, fault, Faulty}
 
 -- a place in the grammar: between transactions; behind begin; behind rename, and the old label; behind show; behind a command
 pub data Place : Type 0 where

@@ -1,13 +1,13 @@
 -- How the values of the reader of scripts are seen.
 use Rattle.std.specs.Prelude.{◌≡◌, Result, Ok, Err}
-use Rattle.mmstatement.specs.declared.fault.TextFault.{TextFault}
+use Rattle.mmtext.specs.declared.fault.TextFault.{TextFault}
 use Rattle.commands.specs.declared.script.Place.{Place as CodePlace}
 use Rattle.commands.specs.declared.script.Place.TheVariants as code
 use Rattle.commands.specs.declared.script.Progress.{Progress as CodeProgress}
 use Rattle.commands.specs.declared.script.State.{State as CodeState}
 use Rattle.commands.specs.declared.script.Stop.{Stop}
 use Rattle.commands.specs.declared.script.Stop.TheVariants as stop
-use Rattle.mmstatement.specs.Languages.{State}
+use Rattle.mmtext.specs.Languages.{State}
 use Rattle.commands.specs.ScriptFaults.{Place, outermost, at_command, at_old_label, at_new_label, at_shown_label, at_commit, Progress}
 
 -- a place of the code

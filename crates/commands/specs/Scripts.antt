@@ -1,14 +1,14 @@
 -- The grammar of scripts: which words spell transactions, and which bytes spell a script.
 use Rattle.std.specs.Prelude.{◌≡◌, ℕ, false, List, [], ◌∷◌, ◌++◌, length, Some, Result, Ok, Err, All, ◌⊎◌, codes}
 use Rattle.std.specs.List.{flat_map}
-use Rattle.mmstatement.specs.declared.fault.TextFault.{TextFault}
-use Rattle.mmstatement.specs.declared.fault.FaultKind.TheVariants.{NoMemory}
-use Rattle.mmstatement.specs.Text.{tokens, IsClean}
-use Rattle.mmstatement.specs.Words.{has_dollar}
-use Rattle.mmstatement.specs.Words.{Word}
+use Rattle.mmtext.specs.declared.fault.TextFault.{TextFault}
+use Rattle.mmtext.specs.declared.fault.FaultKind.TheVariants.{NoMemory}
+use Rattle.mmtext.specs.Text.{tokens, IsClean}
+use Rattle.mmtext.specs.Words.{has_dollar}
+use Rattle.mmtext.specs.Words.{Word}
 use Rattle.commands.specs.declared.command.Command.{Command}
 use Rattle.commands.specs.declared.command.Command.TheVariants.{Rename, Show}
-use Rattle.mmstatement.specs.Comments.{words_of, without_comments}
+use Rattle.mmtext.specs.Comments.{words_of, without_comments}
 
 -- command = rename LABEL LABEL | show LABEL
 abbrev pub command_spelling : Command → List Word

@@ -1,20 +1,20 @@
 //! Reading a script, token by token.
 
 ghost use Rattle.std.specs.Prelude.{◌≡◌, ◌≢◌, ◌≤◌, List, length, IfOk, IfErr};
-ghost use Rattle.mmstatement.specs.declared.fault.FaultKind.TheVariants.{NoMemory};
-ghost use Rattle.mmstatement.specs.declared.fault.TextFault.{TextFault};
-ghost use Rattle.mmstatement.specs.Views.{seen};
+ghost use Rattle.mmtext.specs.declared.fault.FaultKind.TheVariants.{NoMemory};
+ghost use Rattle.mmtext.specs.declared.fault.TextFault.{TextFault};
+ghost use Rattle.mmtext.specs.Views.{seen};
 ghost use Rattle.commands.specs.declared.command.Command.{Command};
 ghost use Rattle.commands.specs.declared.script.Stop.TheVariants.{Fault};
-ghost use Rattle.mmstatement.specs.Languages.{step, said_at, finished, token_reading, reading};
+ghost use Rattle.mmtext.specs.Languages.{step, said_at, finished, token_reading, reading};
 ghost use Rattle.commands.specs.Scripts.{SpellsScript, ReadsScript, RefusesScript};
 ghost use Rattle.commands.specs.ScriptFaults.{begin_row, command_row, label_in, commit_row, in_place, script_language, FaultyScript};
 ghost use Rattle.commands.specs.ScriptViews.{seen_place, seen_progress, seen_state, Gives};
 
 use crate::command::{Command, Script, Transaction};
-use mmstatement::{
-    FaultKind, Label, Mark, Prelude, Sequence, TextFault, Token, contains_comment_mark,
-    contains_dollar, first_bad_byte, mark_word, next_token,
+use mmstatement::{FaultKind, Label, Prelude, Sequence, TextFault};
+use mmtext::{
+    Mark, Token, contains_comment_mark, contains_dollar, first_bad_byte, mark_word, next_token,
 };
 use std::alloc::{AllocError, AllocFailed, Global};
 
@@ -179,7 +179,7 @@ fn next_progress(alloc: Global, progress: Progress, token: Token<'_>) -> Result<
 }
 
 /// Where a token leads.
-#[tactic(auto, unfolding(mmstatement::specs::Languages::step))]
+#[tactic(auto, unfolding(mmtext::specs::Languages::step))]
 fn advance(alloc: Global, state: State, token: Token<'_>) -> Result<State, Stop>
     ensures { Gives seen_state result (step script_language (seen_state state) (seen token.entry)) }
 {
@@ -254,7 +254,7 @@ fn read_tokens(alloc: Global, text: &[u8]) -> Result<Vec<Transaction>, Stop>
 }
 
 /// What a text says: its length is tested first, then its bytes, then its tokens.
-#[tactic(auto, unfolding(mmstatement::specs::Languages::reading))]
+#[tactic(auto, unfolding(mmtext::specs::Languages::reading))]
 fn read_text(alloc: Global, text: &[u8]) -> Result<Vec<Transaction>, Stop>
     ensures { Gives (λ v. v.items) result (reading script_language text.now) }
 {

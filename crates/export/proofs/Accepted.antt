@@ -3,9 +3,9 @@ use Rattle.std.proofs.Common.{◌≡◌, ◌<◌, ◌∷◌, ◌++◌, length, r
 use Rattle.std.specs.Prelude.{All}
 use Rattle.std.proofs.lemmas.List.{get_or_at}
 use Rattle.std.proofs.lemmas.List.Elements.{All-map, All-same}
-use Rattle.mmstatement.specs.declared.statement.Kind.TheVariants.{Axiom}
-use Rattle.mmstatement.specs.declared.statement.Assertion.{Assertion}
-use Rattle.mmstatement.proofs.Canonical.{spelled_again}
+use Rattle.mmsyntax.specs.declared.statement.Kind.TheVariants.{Axiom}
+use Rattle.mmsyntax.specs.declared.statement.Assertion.{Assertion}
+use Rattle.mmsyntax.proofs.Canonical.{spelled_again}
 use Rattle.commands.specs.Library.{Listed, Verifies, shown_database, EachFollows}
 use Rattle.commands.proofs.Showing.{shown_spelled}
 use Rattle.export.specs.Exported.{exported_text, Accepts}

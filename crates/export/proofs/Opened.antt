@@ -1,8 +1,8 @@
 -- The opening library of a database of one assertion, which the tests export.
 use Rattle.std.proofs.Common.{◌≡◌, List, [], ◌∷◌, length, get_or, refl, sym, ap, subst, ◌∙◌, arith}
-use Rattle.mmstatement.specs.declared.statement.Assertion.{Assertion}
-use Rattle.mmstatement.specs.Tables.{Tables}
-use Rattle.mmstatement.specs.Layout.{HasSpelling}
+use Rattle.mmsyntax.specs.declared.statement.Assertion.{Assertion}
+use Rattle.mmsyntax.specs.Tables.{Tables}
+use Rattle.mmsyntax.specs.Layout.{HasSpelling}
 use Rattle.commands.specs.declared.library.Ranked.{Ranked}
 use Rattle.commands.specs.Library.{Verifies, EachFollows}
 use Rattle.commands.proofs.Opening.{opening_verifies}

@@ -1,8 +1,8 @@
 -- The exported text of a library, and which texts are accepted.
 use Rattle.std.specs.Prelude.{ℕ, List}
-use Rattle.mmstatement.specs.Tables.{Contents}
-use Rattle.mmstatement.specs.Grammar.{Spells}
-use Rattle.mmstatement.specs.Layout.{text_of}
+use Rattle.mmsyntax.specs.Tables.{Contents}
+use Rattle.mmsyntax.specs.Grammar.{Spells}
+use Rattle.mmsyntax.specs.Layout.{text_of}
 use Rattle.commands.specs.Library.{Listed, shown_database, EachFollows}
 
 -- the canonical layout of what a library shows: the prelude, then its assertions in export order

@@ -5,7 +5,7 @@ use Rattle.std.specs.Prelude.{slice_get}
 use Rattle.std.specs.Option.{is_some}
 use Rattle.std.proofs.lemmas.Bool.{cond-true, cond-false}
 use Rattle.std.proofs.lemmas.Option.{slice_get_within, get_or_from_slice_get}
-use Rattle.mmstatement.specs.Assertions.{is_lawful_label}
+use Rattle.mmsyntax.specs.Assertions.{is_lawful_label}
 use Rattle.commands.specs.declared.library.Ranked.{Ranked}
 use Rattle.commands.specs.declared.command.Command.TheVariants.{Rename, Show}
 use Rattle.commands.specs.declared.command.Reply.TheVariants.{Done, Shown}

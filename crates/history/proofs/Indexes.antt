@@ -5,7 +5,7 @@ use Rattle.std.specs.List.{slice_get}
 use Rattle.std.specs.Option.{IsSome}
 use Rattle.std.specs.Str.{bytes_eq}
 use Rattle.std.proofs.lemmas.Bool.{cases_Bool, cases_eq, cond-true, cond-false}
-use Rattle.mmstatement.proofs.Names.{same_bytes, bytes_eq-same}
+use Rattle.mmsyntax.proofs.Names.{same_bytes, bytes_eq-same}
 use Rattle.commands.specs.declared.library.Ranked.{Ranked}
 use Rattle.commands.specs.Library.{label_of}
 use Rattle.commands.specs.Edits.{has}

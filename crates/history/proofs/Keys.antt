@@ -9,7 +9,7 @@ use Rattle.std.proofs.lemmas.Bool.{cases_Bool, cases_eq, cond-true, cond-false}
 use Rattle.std.proofs.lemmas.List.{get_or-set_same, get_or-set_other, length-set, map-set, map-append}
 use Rattle.std.proofs.lemmas.List.Elements.{Contains-append_left, Contains-append_right, Contains-append_cases}
 use Rattle.std.proofs.lemmas.List.Elements.{Contains-push, Contains-push_cases}
-use Rattle.mmstatement.proofs.Names.{same_bytes, bytes_eq-same}
+use Rattle.mmsyntax.proofs.Names.{same_bytes, bytes_eq-same}
 use Rattle.commands.specs.declared.library.Ranked.{Ranked}
 use Rattle.commands.specs.Library.{label_of}
 use Rattle.history.specs.declared.notes.Note.{Note}

@@ -6,9 +6,9 @@ use Rattle.std.specs.Str.{bytes_eq}
 use Rattle.std.proofs.lemmas.Bool.{cases_Bool}
 use Rattle.std.proofs.lemmas.List.{take_more}
 use Rattle.std.proofs.lemmas.Option.{slice_get_within, get_or_from_slice_get}
-use Rattle.mmstatement.proofs.Names.{same_bytes}
-use Rattle.mmstatement.specs.declared.statement.Assertion.{Assertion}
-use Rattle.mmstatement.specs.Assertions.{Distinct}
+use Rattle.mmsyntax.proofs.Names.{same_bytes}
+use Rattle.mmsyntax.specs.declared.statement.Assertion.{Assertion}
+use Rattle.mmsyntax.specs.Assertions.{Distinct}
 use Rattle.commands.specs.declared.library.Ranked.{Ranked}
 use Rattle.commands.specs.Library.{label_of, ranked_from}
 use Rattle.commands.specs.Edits.{has}

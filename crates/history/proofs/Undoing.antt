@@ -8,7 +8,7 @@ use Rattle.std.proofs.lemmas.List.{take-append-le, take_all}
 use Rattle.std.specs.Option.{IsSome}
 use Rattle.std.proofs.lemmas.Bool.{cases_Bool, cases_eq}
 use Rattle.std.proofs.lemmas.Option.{slice_get_within}
-use Rattle.mmstatement.proofs.Names.{same_bytes, bytes_eq-sym}
+use Rattle.mmsyntax.proofs.Names.{same_bytes, bytes_eq-sym}
 use Rattle.commands.specs.declared.library.Ranked.{Ranked}
 use Rattle.commands.specs.Library.{label_of}
 use Rattle.commands.specs.Edits.{has}

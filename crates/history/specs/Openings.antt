@@ -1,6 +1,6 @@
 -- When an editor is opened on a database, and on which library.
 use Rattle.std.specs.Prelude.{◌≡◌, ◌<◌, ◌≤◌, ℕ, length, Result, Ok, Err}
-use Rattle.mmstatement.specs.Tables.{Contents}
+use Rattle.mmsyntax.specs.Tables.{Contents}
 use Rattle.commands.specs.Library.{opening}
 use Rattle.history.specs.declared.editor.OpenError.{OpenError}
 use Rattle.history.specs.declared.editor.OpenError.TheVariants.{TooMany, NoMemory}

@@ -2,7 +2,7 @@
 
 ghost use Rattle.std.specs.Prelude.{◌≡◌, ◌<◌, ◌≤◌, [], false, length, map, IfOk, OnErr};
 ghost use Rattle.std.specs.Str.{bytes_eq};
-ghost use Rattle.mmstatement.specs.Assertions.{Distinct};
+ghost use Rattle.mmsyntax.specs.Assertions.{Distinct};
 ghost use Rattle.commands.specs.declared.command.Command.TheVariants.{Rename, Show};
 ghost use Rattle.commands.specs.Library.{Setting, Verifies, ShowsInOrder, label_of, ranked_from};
 ghost use Rattle.commands.specs.Edits.{has};

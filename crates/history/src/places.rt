@@ -2,7 +2,7 @@
 
 ghost use Rattle.std.specs.Prelude.{◌≡◌, ◌∷◌, ◌++◌, ◌≤◌, [], false, length, map, IsSome, IfOk, OnOk, Contains};
 ghost use Rattle.std.specs.Str.{bytes_eq};
-ghost use Rattle.mmstatement.specs.Assertions.{Distinct};
+ghost use Rattle.mmsyntax.specs.Assertions.{Distinct};
 ghost use Rattle.commands.specs.Library.{label_of, ranked_from};
 ghost use Rattle.commands.specs.Edits.{has};
 ghost use Rattle.history.specs.Places.{IsIndex, HasOnly, KeepsLabels, FoundAt, Puts, place_in};

@@ -2,12 +2,12 @@
 use Rattle.std.specs.Prelude.{◌≡◌, ◌≢◌, ◌+◌, ◌⊎◌, ℕ, zero, suc, List, [], ◌∷◌, ◌++◌, Option, Some, None, codes, length, map, slice_get}
 use Rattle.std.specs.Prelude.{Result, Ok, Err}
 use Rattle.std.specs.Fmt.{decimal}
-use Rattle.mmstatement.specs.declared.statement.Assertion.{Assertion}
-use Rattle.mmstatement.specs.declared.fault.TextFault.{TextFault}
-use Rattle.mmstatement.specs.declared.fault.FaultKind.TheVariants.{NoMemory as OutOfMemory}
-use Rattle.mmstatement.specs.Tables.{Contents}
-use Rattle.mmstatement.specs.Grammar.{Spells}
-use Rattle.mmstatement.specs.Faults.{FaultyDatabase}
+use Rattle.mmsyntax.specs.declared.statement.Assertion.{Assertion}
+use Rattle.mmtext.specs.declared.fault.TextFault.{TextFault}
+use Rattle.mmtext.specs.declared.fault.FaultKind.TheVariants.{NoMemory as OutOfMemory}
+use Rattle.mmsyntax.specs.Tables.{Contents}
+use Rattle.mmsyntax.specs.Grammar.{Spells}
+use Rattle.mmsyntax.specs.Faults.{FaultyDatabase}
 use Rattle.proofcheck.specs.declared.fault.ProofFault.{ProofFault}
 use Rattle.proofcheck.specs.declared.fault.ProofFaultKind.TheVariants.{NoMemory as NoMemoryOfProof}
 use Rattle.proofcheck.specs.Databases.{AllCheck, IsFirstFault as IsFirstFaultOfProofs}

@@ -1,8 +1,8 @@
 -- The outcomes of scripts that one editor runs, one after another.
 use Rattle.std.specs.Prelude.{◌+◌, ℕ, Bool, true, false, List, [], ◌∷◌, length, Result, Ok, Err, All}
 use Rattle.std.specs.List.{list_any}
-use Rattle.mmstatement.specs.Tables.{Tables, Contents}
-use Rattle.mmstatement.specs.Assertions.{Fits}
+use Rattle.mmsyntax.specs.Tables.{Tables, Contents}
+use Rattle.mmsyntax.specs.Assertions.{Fits}
 use Rattle.commands.specs.declared.library.Ranked.{Ranked}
 use Rattle.commands.specs.declared.command.Command.{Command}
 use Rattle.commands.specs.declared.command.Command.TheVariants.{Rename, Show}

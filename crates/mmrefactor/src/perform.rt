@@ -2,8 +2,8 @@
 
 ghost use Rattle.std.specs.Prelude.{◌≡◌, ◌≢◌, ◌<◌, ◌+◌, ◌++◌, ◌∷◌, [], ℕ, None, IfOk, OnOk, IfErr, map, length, codes};
 ghost use Rattle.std.specs.Fmt.{decimal};
-ghost use Rattle.mmstatement.specs.declared.fault.FaultKind.TheVariants.{NoMemory as OutOfMemory};
-ghost use Rattle.mmstatement.specs.declared.fault.TextFault.{TextFault as FaultOfText};
+ghost use Rattle.mmtext.specs.declared.fault.FaultKind.TheVariants.{NoMemory as OutOfMemory};
+ghost use Rattle.mmtext.specs.declared.fault.TextFault.{TextFault as FaultOfText};
 ghost use Rattle.proofcheck.specs.Databases.{AllCheck, IsFirstFault as IsFirstFaultOfProofs};
 ghost use Rattle.commands.specs.Library.{EachFollows, first_theorem};
 ghost use Rattle.mmrefactor.specs.declared.job.Fault.{Fault as FaultOfJob};
@@ -11,7 +11,7 @@ ghost use Rattle.mmrefactor.specs.declared.job.Fault.TheVariants.{NoMemory};
 ghost use Rattle.mmrefactor.specs.Jobs.{AreScripts, IsChecked, PrintsRun, IsCheck, IsRun, DoneAsAsked, IsLabelAt};
 ghost use Rattle.mmrefactor.specs.Jobs.{IsFirstFault, IsTextFaultOf, IsScriptFault, IsProofFault, IsTheoremFault, IsDatabaseFault};
 ghost use Rattle.mmrefactor.specs.Jobs.{IsRunFault, IsFaultOf, IsRefusedWith, RefusesWith, IsProofFaultOf, GivesOrLacksMemory};
-ghost use Rattle.mmstatement.specs.Tables.{Contents};
+ghost use Rattle.mmsyntax.specs.Tables.{Contents};
 
 use crate::edits::edit_all;
 use crate::job::{Fault, Job, Printed};

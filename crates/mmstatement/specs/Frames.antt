@@ -1,11 +1,11 @@
 -- The frame of an assertion: what a proof that cites it sees (Metamath book, section 4.2.7).
 use Rattle.std.specs.Prelude.{ℕ, Bool, false, List, ◌==◌, ◌&&◌, ◌||◌, filter, length, nat_lt}
 use Rattle.std.specs.List.{list_any, range_with_len}
-use Rattle.mmstatement.specs.declared.statement.Symbol.{Symbol}
-use Rattle.mmstatement.specs.declared.statement.Symbol.TheVariants.{Const, Var}
-use Rattle.mmstatement.specs.declared.statement.Assertion.{Assertion}
-use Rattle.mmstatement.specs.declared.statement.Frame.{Frame}
-use Rattle.mmstatement.specs.Tables.{Tables}
+use Rattle.mmsyntax.specs.declared.statement.Symbol.{Symbol}
+use Rattle.mmsyntax.specs.declared.statement.Symbol.TheVariants.{Const, Var}
+use Rattle.mmsyntax.specs.declared.statement.Assertion.{Assertion}
+use Rattle.mmsyntax.specs.declared.statement.Frame.{Frame}
+use Rattle.mmsyntax.specs.Tables.{Tables}
 
 -- the symbol is the variable of the $f at a place
 abbrev pub is_variable : ℕ → Symbol → Bool

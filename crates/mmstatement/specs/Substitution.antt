@@ -1,7 +1,7 @@
 -- Substitution: each variable replaced by an expression, all at once (Metamath book, section 4.1.4).
 use Rattle.std.specs.Prelude.{ℕ, List, [], ◌∷◌, ◌++◌, ◌==◌, if◌then◌else◌}
-use Rattle.mmstatement.specs.declared.statement.Symbol.{Symbol}
-use Rattle.mmstatement.specs.declared.statement.Symbol.TheVariants.{Const, Var}
+use Rattle.mmsyntax.specs.declared.statement.Symbol.{Symbol}
+use Rattle.mmsyntax.specs.declared.statement.Symbol.TheVariants.{Const, Var}
 
 -- what stands for a variable: the expression of its first pair, or else the variable itself
 abbrev pub replacement : List (ℕ × List Symbol) → ℕ → List Symbol

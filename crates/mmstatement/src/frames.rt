@@ -5,9 +5,7 @@ ghost use Rattle.std.specs.Prelude.{slice_index_or};
 ghost use Rattle.std.specs.List.{list_any, range_with_len};
 ghost use Rattle.mmstatement.specs.Frames.{frame, is_mandatory, is_variable, occurs};
 
-use crate::prelude::Prelude;
-use crate::sequence::Sequence;
-use crate::statement::{Assertion, Expr, Frame, Symbol};
+use mmsyntax::{Assertion, Expr, Frame, Prelude, Sequence, Symbol};
 use std::alloc::{AllocError, Global};
 
 #[cfg(test)]

@@ -3,8 +3,7 @@
 ghost use Rattle.std.specs.Prelude.{◌≡◌, ◌<◌, ◌≤◌, ◌∷◌, [], MatchOption, IfOk, IfErr, length};
 ghost use Rattle.mmstatement.specs.Substitution.{replacement, subst};
 
-use crate::sequence::Sequence;
-use crate::statement::{Expr, Symbol};
+use mmsyntax::{Expr, Sequence, Symbol};
 use std::alloc::{AllocError, Global};
 use std::{fmt, slice};
 

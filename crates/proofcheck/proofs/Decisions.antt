@@ -6,15 +6,15 @@ use Rattle.std.proofs.lemmas.Slice.Eq.{slice_eq-Decides}
 use Rattle.std.proofs.lemmas.List.Elements.{Contains-get_or, All-contains}
 use Rattle.std.specs.Bool.{Decides}
 use Rattle.std.specs.Cmp.Lexicographic.{pointwise}
-use Rattle.mmstatement.specs.declared.statement.Symbol.{Symbol}
-use Rattle.mmstatement.specs.declared.statement.Symbol.TheVariants.{Const, Var}
-use Rattle.mmstatement.specs.declared.statement.Float.{Float as FloatOf}
-use Rattle.mmstatement.specs.Tables.{Tables}
-use Rattle.mmstatement.specs.declared.statement.Frame.{Frame}
-use Rattle.mmstatement.specs.declared.statement.Assertion.{Assertion}
+use Rattle.mmsyntax.specs.declared.statement.Symbol.{Symbol}
+use Rattle.mmsyntax.specs.declared.statement.Symbol.TheVariants.{Const, Var}
+use Rattle.mmsyntax.specs.declared.statement.Float.{Float as FloatOf}
+use Rattle.mmsyntax.specs.Tables.{Tables}
+use Rattle.mmsyntax.specs.declared.statement.Frame.{Frame}
+use Rattle.mmsyntax.specs.declared.statement.Assertion.{Assertion}
 use Rattle.proofcheck.specs.declared.fault.ProofFaultKind.{ProofFaultKind}
 use Rattle.proofcheck.specs.declared.fault.ProofFaultKind.TheVariants.{WrongType, HypothesisDiffers, NotDisjoint, TooLong}
-use Rattle.mmstatement.specs.contracts.statement.SymbolPartialEq.TheImpl.{eq-value}
+use Rattle.mmsyntax.specs.contracts.statement.SymbolPartialEq.TheImpl.{eq-value}
 use Rattle.mmstatement.specs.Substitution.{replacement}
 use Rattle.proofcheck.specs.Derivation.{Expression, Gives, IsApart, AreApart, HasType, HaveTypes, TypesFit, HypothesesFit, PairsFit}
 use Rattle.proofcheck.specs.Derivation.{conclusion, arity, in_order, substitution}

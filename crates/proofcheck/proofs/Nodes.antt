@@ -5,10 +5,10 @@ use Rattle.std.proofs.Math.Seq.{drop-cons}
 use Rattle.std.proofs.lemmas.List.{append_cancel_left}
 use Rattle.std.specs.Bool.{Decides}
 use Rattle.std.proofs.lemmas.Bool.Decides.{Decides-eqb}
-use Rattle.mmstatement.specs.contracts.statement.SymbolPartialEq.TheImpl.{eq-value}
-use Rattle.mmstatement.specs.declared.statement.Symbol.{Symbol}
-use Rattle.mmstatement.specs.declared.statement.Symbol.TheVariants.{Const, Var}
-use Rattle.mmstatement.specs.Tables.{Tables}
+use Rattle.mmsyntax.specs.contracts.statement.SymbolPartialEq.TheImpl.{eq-value}
+use Rattle.mmsyntax.specs.declared.statement.Symbol.{Symbol}
+use Rattle.mmsyntax.specs.declared.statement.Symbol.TheVariants.{Const, Var}
+use Rattle.mmsyntax.specs.Tables.{Tables}
 use Rattle.mmstatement.specs.Substitution.{subst, replacement}
 use Rattle.proofcheck.specs.Derivation.{Expression, substitution, TypesFit, HypothesesFit, PairsFit, conclusion, arity}
 use Rattle.proofcheck.specs.Faults.{FailsTest, last}
@@ -16,8 +16,8 @@ use Rattle.proofcheck.specs.Moves.{IsTooLongOrNoMemory, FailsOnLast}
 use Rattle.proofcheck.specs.declared.fault.ProofFaultKind.{ProofFaultKind}
 use Rattle.proofcheck.specs.declared.fault.ProofFaultKind.TheVariants.{UnknownStep, StackShort, WrongType, HypothesisDiffers, NotDisjoint}
 use Rattle.proofcheck.specs.declared.fault.ProofFaultKind.TheVariants.{NotOneLeft, StatementDiffers, TooLong, NoMemory}
-use Rattle.mmstatement.specs.declared.statement.Assertion.{Assertion}
-use Rattle.mmstatement.specs.declared.statement.Frame.{Frame}
+use Rattle.mmsyntax.specs.declared.statement.Assertion.{Assertion}
+use Rattle.mmsyntax.specs.declared.statement.Frame.{Frame}
 
 -- substituting in one symbol and in the rest
 pub subst-cons : (s : List (ℕ × Expression)) (x : Symbol) (e : Expression) → subst s (x ∷ e) ≡ subst s (x ∷ []) ++ subst s e

@@ -2,8 +2,8 @@
 -- name it in their definitions, and know it by its laws alone.
 use Rattle.std.proofs.Common.{◌≡◌, ⊎_elim, inl, inr, ap, sym, ◌∙◌, Result, Ok, Err}
 use Rattle.std.specs.Prelude.{MatchResult}
-use Rattle.mmstatement.specs.declared.statement.Assertion.{Assertion}
-use Rattle.mmstatement.specs.Tables.{Tables}
+use Rattle.mmsyntax.specs.declared.statement.Assertion.{Assertion}
+use Rattle.mmsyntax.specs.Tables.{Tables}
 use Rattle.proofcheck.specs.declared.fault.ProofFault.{ProofFault}
 use Rattle.proofcheck.specs.Derivation.{Citable, Tree, Derives, listing}
 use Rattle.proofcheck.specs.Faults.{HasFault}

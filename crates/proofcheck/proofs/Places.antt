@@ -4,15 +4,15 @@ use Rattle.std.proofs.Common.{take, map, slice_get, refl, sym, ap, subst, ◌∙
 use Rattle.std.specs.Cmp.Lexicographic.{pointwise}
 use Rattle.std.proofs.lemmas.List.{take_more, length-take-le}
 use Rattle.std.proofs.lemmas.Bool.Decides.{Decides-ltb}
-use Rattle.mmstatement.specs.Tables.{Tables}
-use Rattle.mmstatement.specs.declared.statement.Frame.{Frame}
-use Rattle.mmstatement.specs.declared.statement.Assertion.{Assertion}
+use Rattle.mmsyntax.specs.Tables.{Tables}
+use Rattle.mmsyntax.specs.declared.statement.Frame.{Frame}
+use Rattle.mmsyntax.specs.declared.statement.Assertion.{Assertion}
 use Rattle.mmstatement.specs.Frames.{frame}
 use Rattle.proofcheck.specs.Databases.{frame_in, place_from, frame_below, first_of_two, citable_at, ChecksAt, HasFaultAt}
 use Rattle.proofcheck.specs.Derivation.{Citable, Checks}
 use Rattle.proofcheck.specs.Faults.{HasProofFault}
 use Rattle.proofcheck.specs.declared.fault.ProofFault.{ProofFault}
-use Rattle.mmstatement.specs.Tables.{Contents}
+use Rattle.mmsyntax.specs.Tables.{Contents}
 use Rattle.proofcheck.proofs.Plain.{at_seam}
 
 pub place_from-push : (n : ℕ) (label : List ℕ) (xs : List Assertion) (a : Assertion)

@@ -5,7 +5,7 @@ use Rattle.std.proofs.Math.Nat.{eq-or-lt_of_le}
 use Rattle.std.specs.Prelude.{filter, is_some}
 use Rattle.std.specs.List.{AllZip, range_with_len}
 use Rattle.std.proofs.lemmas.Option.{slice_get_within}
-use Rattle.mmstatement.specs.Tables.{Contents}
+use Rattle.mmsyntax.specs.Tables.{Contents}
 use Rattle.proofcheck.specs.declared.fault.ProofFault.{ProofFault}
 use Rattle.proofcheck.specs.declared.fault.ProofFaultKind.TheVariants.{NoMemory}
 use Rattle.proofcheck.specs.Databases.{ChecksAt, HasFaultAt, IsFirstFault, IsFirstReport, ReportsAt}

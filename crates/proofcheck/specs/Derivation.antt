@@ -1,15 +1,15 @@
 -- Trees of a proof, what each derives, and the steps that it lists (Metamath book, section 4.1.4).
 use Rattle.std.specs.Prelude.{◌≡◌, ◌≢◌, ℕ, ◌+◌, ◌≤◌, List, [], ◌∷◌, ◌++◌, Option, Some, All, Contains, length, map, zip, drop}
 use Rattle.std.specs.Prelude.{slice_get, nat_lt, if◌then◌else◌}
-use Rattle.mmstatement.specs.declared.statement.Symbol.{Symbol}
-use Rattle.mmstatement.specs.declared.statement.Symbol.TheVariants.{Const, Var}
-use Rattle.mmstatement.specs.declared.statement.Float.{Float as FloatOf}
-use Rattle.mmstatement.specs.declared.statement.Frame.{Frame}
-use Rattle.mmstatement.specs.declared.statement.Assertion.{Assertion}
-use Rattle.mmstatement.specs.declared.statement.Kind.TheVariants.{Theorem}
-use Rattle.mmstatement.specs.declared.statement.Step.{Step}
-use Rattle.mmstatement.specs.declared.statement.Step.TheVariants.{Float, Hyp, Cite}
-use Rattle.mmstatement.specs.Tables.{Tables}
+use Rattle.mmsyntax.specs.declared.statement.Symbol.{Symbol}
+use Rattle.mmsyntax.specs.declared.statement.Symbol.TheVariants.{Const, Var}
+use Rattle.mmsyntax.specs.declared.statement.Float.{Float as FloatOf}
+use Rattle.mmsyntax.specs.declared.statement.Frame.{Frame}
+use Rattle.mmsyntax.specs.declared.statement.Assertion.{Assertion}
+use Rattle.mmsyntax.specs.declared.statement.Kind.TheVariants.{Theorem}
+use Rattle.mmsyntax.specs.declared.statement.Step.{Step}
+use Rattle.mmsyntax.specs.declared.statement.Step.TheVariants.{Float, Hyp, Cite}
+use Rattle.mmsyntax.specs.Tables.{Tables}
 use Rattle.mmstatement.specs.Substitution.{subst, replacement}
 
 -- an expression

@@ -1,12 +1,12 @@
 -- The fault of a proof: the first test that fails after the longest front of the steps that lists a forest (tests of a step:
 -- Metamath book, section 4.1.4; their order is a rule of the profile).
 use Rattle.std.specs.Prelude.{◌≡◌, ◌≢◌, ℕ, ◌+◌, ◌-◌, ◌<◌, ◌≤◌, List, [], ◌∷◌, ◌⊎◌, None, Some, length, take, drop, slice_get}
-use Rattle.mmstatement.specs.declared.statement.Frame.{Frame}
-use Rattle.mmstatement.specs.declared.statement.Assertion.{Assertion}
-use Rattle.mmstatement.specs.declared.statement.Kind.TheVariants.{Theorem}
-use Rattle.mmstatement.specs.declared.statement.Step.{Step}
-use Rattle.mmstatement.specs.declared.statement.Step.TheVariants.{Float, Hyp, Cite}
-use Rattle.mmstatement.specs.Tables.{Tables}
+use Rattle.mmsyntax.specs.declared.statement.Frame.{Frame}
+use Rattle.mmsyntax.specs.declared.statement.Assertion.{Assertion}
+use Rattle.mmsyntax.specs.declared.statement.Kind.TheVariants.{Theorem}
+use Rattle.mmsyntax.specs.declared.statement.Step.{Step}
+use Rattle.mmsyntax.specs.declared.statement.Step.TheVariants.{Float, Hyp, Cite}
+use Rattle.mmsyntax.specs.Tables.{Tables}
 use Rattle.proofcheck.specs.declared.fault.ProofFault.{ProofFault}
 use Rattle.proofcheck.specs.declared.fault.ProofFaultKind.{ProofFaultKind}
 use Rattle.proofcheck.specs.declared.fault.ProofFaultKind.TheVariants.{UnknownStep, StackShort, WrongType, HypothesisDiffers}

@@ -1,6 +1,6 @@
 -- How an entry of the stack is seen.
 use Rattle.std.specs.Prelude.{List}
-use Rattle.mmstatement.specs.declared.statement.Symbol.{Symbol}
+use Rattle.mmsyntax.specs.declared.statement.Symbol.{Symbol}
 use Rattle.proofcheck.specs.declared.entry.Held.{Held}
 use Rattle.proofcheck.specs.declared.entry.Held.TheVariants.{Lent, Typed, Made}
 

@@ -20,7 +20,7 @@ pub(crate) struct Entry<'a> {
 
 impl<'a> Model for Entry<'a> {
     ghost use Rattle.std.specs.Prelude.{List};
-    ghost use Rattle.mmstatement.specs.declared.statement.Symbol.{Symbol};
+    ghost use Rattle.mmsyntax.specs.declared.statement.Symbol.{Symbol};
     ghost use Rattle.proofcheck.specs.Held.{shown};
 
     ghost Value = { List Symbol };

@@ -2,7 +2,7 @@
 
 ghost use Rattle.std.specs.Prelude.{◌≡◌, List, ℕ, Option};
 ghost use Rattle.std.specs.Option.{option_copied};
-ghost use Rattle.mmstatement.specs.declared.statement.Frame.{Frame};
+ghost use Rattle.mmsyntax.specs.declared.statement.Frame.{Frame};
 
 use mmstatement::{Frame, Label};
 

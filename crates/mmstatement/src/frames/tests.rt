@@ -1,9 +1,8 @@
 //! Frames of assertions made by hand: values from outside.
 
 use super::frame_of;
-use crate::reading::read_database;
-use crate::sequence::Sequence;
-use crate::statement::{Assertion, Expr, Kind, Symbol};
+use mmreader::read_database;
+use mmsyntax::{Assertion, Expr, Kind, Sequence, Symbol};
 use std::alloc::{AllocError, Global};
 use std::hash::RandomState;
 use std::test::Fail;

@@ -1,8 +1,7 @@
 //! Substitutions made by hand: values from outside, and the limit on both sides.
 
 use super::{SubstituteError, substitute};
-use crate::sequence::Sequence;
-use crate::statement::{Expr, Symbol};
+use mmsyntax::{Expr, Sequence, Symbol};
 use std::alloc::{AllocError, Global};
 use std::test::Fail;
 

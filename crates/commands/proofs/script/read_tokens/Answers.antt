@@ -1,9 +1,9 @@
 use Rattle.std.proofs.Common.{sym}
 use Rattle.std.proofs.lemmas.Result.{err_from_is_err_and}
-use Rattle.mmstatement.specs.Views.{seen}
+use Rattle.mmtext.specs.Views.{seen}
 use Rattle.commands.specs.ScriptFaults.{script_language}
 use Rattle.commands.specs.ScriptViews.{seen_state}
-use Rattle.mmstatement.proofs.Readings.{goes_on, ends_here}
+use Rattle.mmtext.proofs.Readings.{goes_on, ends_here}
 use Rattle.commands.proofs.ScriptLaws.{same_reading, stopped}
 use Rattle.commands.proofs.script.read_tokens.Goals as goal
 

@@ -1,6 +1,6 @@
 use Rattle.std.proofs.Common.{◌≡◌, length, ◌-◌, ◌≤◌, drop}
-use Rattle.mmstatement.specs.Text.{tokens, tokens_from}
-use Rattle.mmstatement.specs.Languages.{run, start_of}
+use Rattle.mmtext.specs.Text.{tokens, tokens_from}
+use Rattle.mmtext.specs.Languages.{run, start_of}
 use Rattle.commands.specs.ScriptFaults.{script_language}
 use Rattle.commands.specs.ScriptViews.{seen_state}
 use Rattle.commands.proofs.script.read_tokens.Given as goal

@@ -2,12 +2,12 @@ use Rattle.std.proofs.Common.{◌≡◌, List, [], ◌∷◌, length, map, refl,
 use Rattle.std.proofs.lemmas.List.{length-map}
 use Rattle.std.proofs.lemmas.List.Elements.{All-map}
 use Rattle.std.specs.Prelude.{All}
-use Rattle.mmstatement.specs.declared.statement.Kind.TheVariants.{Axiom}
-use Rattle.mmstatement.specs.declared.statement.Assertion.{Assertion}
-use Rattle.mmstatement.specs.Tables.{Contents}
-use Rattle.mmstatement.specs.Layout.{HasSpelling}
-use Rattle.mmstatement.specs.Assertions.{IsDeclarable}
-use Rattle.mmstatement.proofs.Declarable.{declarable}
+use Rattle.mmsyntax.specs.declared.statement.Kind.TheVariants.{Axiom}
+use Rattle.mmsyntax.specs.declared.statement.Assertion.{Assertion}
+use Rattle.mmsyntax.specs.Tables.{Contents}
+use Rattle.mmsyntax.specs.Layout.{HasSpelling}
+use Rattle.mmsyntax.specs.Assertions.{IsDeclarable}
+use Rattle.mmsyntax.proofs.Declarable.{declarable}
 use Rattle.commands.specs.declared.library.Ranked.{Ranked}
 use Rattle.commands.specs.Library.{IsSetting, Verifies, EachFollows}
 use Rattle.commands.proofs.Opening.{follow_axioms}

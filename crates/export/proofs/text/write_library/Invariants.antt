@@ -1,6 +1,6 @@
 use Rattle.std.proofs.Common.{◌≡◌, ◌++◌, take, map}
 use Rattle.std.specs.List.{flat_map}
-use Rattle.mmstatement.specs.Layout.{prelude_text, assertion_text}
+use Rattle.mmsyntax.specs.Layout.{prelude_text, assertion_text}
 use Rattle.export.proofs.text.write_library.Given as goal
 
 abbrev pub invariant-loop-entry : goal.invariant-loop-entry

@@ -1,5 +1,5 @@
 use Rattle.std.proofs.Common.{◌≡◌, Some, length, rules, subst}
-use Rattle.mmstatement.proofs.Names.{after_update}
+use Rattle.mmsyntax.proofs.Names.{after_update}
 use Rattle.commands.specs.Library.{label_of}
 use Rattle.history.specs.Places.{Puts}
 use Rattle.history.proofs.Indexes.{index-pushed}

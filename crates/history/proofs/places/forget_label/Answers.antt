@@ -1,5 +1,5 @@
 use Rattle.std.proofs.Common.{◌≡◌, false, None, rules, subst, sym}
-use Rattle.mmstatement.proofs.Names.{after_update}
+use Rattle.mmsyntax.proofs.Names.{after_update}
 use Rattle.commands.specs.Edits.{has}
 use Rattle.history.specs.Places.{FoundAt}
 use Rattle.history.proofs.Commands.{found_some}

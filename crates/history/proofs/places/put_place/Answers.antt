@@ -1,5 +1,5 @@
 use Rattle.std.proofs.Common.{Some}
-use Rattle.mmstatement.proofs.Names.{after_update}
+use Rattle.mmsyntax.proofs.Names.{after_update}
 use Rattle.history.proofs.places.put_place.Goals as goal
 
 pub returns-in-Some : goal.returns-in-Some

@@ -1,5 +1,5 @@
 use Rattle.std.proofs.Common.{◌≤◌, length, ap, arith}
-use Rattle.mmstatement.proofs.Declarable.{declarable}
+use Rattle.mmsyntax.proofs.Declarable.{declarable}
 use Rattle.mmrefactor.proofs.edits.open.Goals as goal
 
 -- a database has at most 4,096 assertions

@@ -1,6 +1,6 @@
 use Rattle.std.proofs.Common.{◌≡◌, subst, sym}
 use Rattle.std.proofs.lemmas.Result.{err_from_is_err_and}
-use Rattle.mmstatement.specs.Tables.{Contents}
+use Rattle.mmsyntax.specs.Tables.{Contents}
 use Rattle.proofcheck.specs.Databases.{AllCheck}
 use Rattle.mmrefactor.specs.Jobs.{IsDatabase}
 use Rattle.mmrefactor.proofs.JobFaults.{short_text, text_faulted, text_memory, text_refused, proof_of_database, database_refused, database_faultless}

@@ -1,5 +1,5 @@
 use Rattle.std.proofs.Common.{length, ap, arith}
-use Rattle.mmstatement.proofs.Copies.{few_floats}
+use Rattle.mmsyntax.proofs.Copies.{few_floats}
 use Rattle.mmstatement.proofs.frames.count_floats.Goals as goal
 
 pub overflow_cast-result : goal.overflow_cast-result

@@ -1,4 +1,4 @@
-use Rattle.mmstatement.specs.declared.statement.Symbol.TheVariants.{Const}
+use Rattle.mmsyntax.specs.declared.statement.Symbol.TheVariants.{Const}
 use Rattle.proofcheck.proofs.Apart.{found_more, found_all}
 use Rattle.proofcheck.proofs.pairs.variables_of.Goals as goal
 

@@ -1,5 +1,5 @@
 use Rattle.std.proofs.Common.{◌↔◌, ℕ, take, Contains}
-use Rattle.mmstatement.specs.declared.statement.Symbol.TheVariants.{Var}
+use Rattle.mmsyntax.specs.declared.statement.Symbol.TheVariants.{Var}
 use Rattle.proofcheck.proofs.pairs.variables_of.Given as goal
 
 abbrev pub invariant-loop-symbol : goal.invariant-loop-symbol

@@ -1,5 +1,5 @@
 use Rattle.std.proofs.Common.{◌≡◌, false, ◌∷◌, ◌++◌, [], Some, length, sym, ap, subst, ◌∙◌, rules, take, drop}
-use Rattle.mmstatement.proofs.Names.{after_update}
+use Rattle.mmsyntax.proofs.Names.{after_update}
 use Rattle.commands.specs.Edits.{has}
 use Rattle.history.specs.declared.notes.Note.{Note}
 use Rattle.history.specs.Places.{Puts, StandsAt}

@@ -1,6 +1,6 @@
 use Rattle.std.proofs.Common.{◌≡◌, true, false, List, Ok, refl, sym, ap, subst, ◌∙◌}
 use Rattle.std.proofs.lemmas.Option.{slice_get_within}
-use Rattle.mmstatement.specs.Assertions.{is_lawful_label}
+use Rattle.mmsyntax.specs.Assertions.{is_lawful_label}
 use Rattle.commands.specs.declared.library.Ranked.{Ranked}
 use Rattle.commands.specs.declared.command.Reply.TheVariants.{Done}
 use Rattle.commands.specs.Edits.{has}

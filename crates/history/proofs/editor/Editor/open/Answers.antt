@@ -1,6 +1,6 @@
 use Rattle.std.proofs.Common.{◌≡◌, ◌≤◌, [], map, length, refl, sym, ap, subst, ◌∙◌}
 use Rattle.std.specs.Str.{bytes_eq}
-use Rattle.mmstatement.specs.Assertions.{Distinct}
+use Rattle.mmsyntax.specs.Assertions.{Distinct}
 use Rattle.commands.specs.Library.{label_of, ranked_from, opening}
 use Rattle.commands.proofs.Opening.{opening_verifies, opening_verifies_in}
 use Rattle.history.specs.Drafts.{Drafted, IsSettled}

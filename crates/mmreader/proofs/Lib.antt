@@ -1,0 +1,12 @@
+pub mod LabelMaps
+pub mod BlockPlaces
+pub mod Keywords
+pub mod Ordinary
+pub mod Leading
+pub mod LeadingStatements
+pub mod ParsedRows
+pub mod Parsed
+pub mod ParsedStatements
+pub mod DatabaseLaws
+pub mod DatabaseAnswers
+pub mod Runs

@@ -1,0 +1,3 @@
+pub mod Labels
+pub mod HypothesisPlaces
+pub mod Views

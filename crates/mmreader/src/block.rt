@@ -1,0 +1,169 @@
+//! What a block holds before its assertion.
+
+ghost use Rattle.std.specs.Prelude.{◌≡◌, ◌<◌, length, map, IfOk, OnOk};
+ghost use Rattle.mmsyntax.specs.Blocks.{no_block, with_pair, with_pairs, with_hypothesis};
+ghost use Rattle.mmsyntax.specs.Steps.{hypothesis_named};
+
+use mmsyntax::Expr;
+use std::alloc::{AllocError, Global};
+use std::collections::{BTreeSet, HashMap};
+use std::hash::RandomState;
+use std::marker::Model;
+
+/// A `$e`, with its label in the text.
+#[derive(Drop)]
+pub(crate) struct Hypothesis<'a> {
+    label: &'a [u8],
+    expression: Expr,
+}
+
+impl<'a> Model for Hypothesis<'a> {
+    ghost use Rattle.mmsyntax.specs.Blocks.{Hypothesis as Seen};
+
+    ghost Value = { Seen };
+
+    ghost view = { λ h. record { label = h.label.now; expression = h.expression } };
+}
+
+/// The restricted pairs and the hypotheses. The map has the place of each hypothesis, for look-ups alone.
+#[derive(Drop)]
+pub(crate) struct Block<'a> {
+    pairs: BTreeSet<(u32, u32)>,
+    hyps: Vec<Hypothesis<'a>>,
+    places: HashMap<Vec<u8>, u32, RandomState>,
+}
+
+impl<'a> Model for Block<'a> {
+    ghost use Rattle.mmsyntax.specs.Blocks.{Block as Seen};
+    ghost use Rattle.mmreader.specs.HypothesisPlaces.{FindsHypotheses};
+
+    ghost Value = { Seen };
+
+    ghost view = { λ b. record { pairs = b.pairs.keys; hyps = b.hyps.items } };
+
+    ghost invariant = { λ b. FindsHypotheses b.places b.hyps.items };
+}
+
+impl<'a> Block<'a> {
+    pub fn new(alloc: Global, keys: RandomState) -> Self
+        ensures { result ≡ no_block }
+    {
+        Block {
+            pairs: BTreeSet::new(alloc),
+            hyps: Vec::new(alloc),
+            places: HashMap::with_hasher(alloc, keys),
+        }
+    }
+
+    /// How many pairs are restricted.
+    pub fn pairs(&self) -> usize
+        ensures { result ≡ length self.now.pairs }
+    {
+        self.pairs.len()
+    }
+
+    /// How many hypotheses stand.
+    pub fn hypotheses(&self) -> usize
+        ensures { result ≡ length self.now.hyps }
+    {
+        self.hyps.len()
+    }
+
+    /// The place of the hypothesis with a label: one look-up in a map.
+    pub fn hypothesis_place(&self, word: &[u8]) -> Option<u32>
+        ensures { result ≡ hypothesis_named self.now.hyps word.now }
+    {
+        self.places.get(word).copied()
+    }
+
+    /// Restricts the pairs of a variable and each earlier one.
+    pub fn add_pairs(&mut self, variable: u32, earlier: &[u32]) -> Result<(), AllocError>
+        ensures { OnOk result (self.new ≡ record self.old { pairs = with_pairs variable earlier.now self.old.pairs }) }
+    {
+        put_pairs(&mut self.pairs, variable, earlier)
+    }
+
+    /// One more hypothesis.
+    pub fn add_hypothesis(
+        &mut self,
+        alloc: Global,
+        label: &'a [u8],
+        expression: Expr,
+    ) -> Result<(), AllocError>
+        requires { length self.old.hyps < 1000 }
+        ensures { OnOk result (self.new ≡ with_hypothesis self.old label.now expression) }
+    {
+        let place = self.hyps.len() as u32;
+        let key = Vec::from_slice(alloc, label)?;
+        self.hyps.push(Hypothesis { label, expression })?;
+        // The first hypothesis of a label would be the one that it names.
+        if self.places.contains_key(label) {
+            return Ok(());
+        }
+        match self.places.insert(key, place) {
+            Ok(_) => Ok(()),
+            Err(_) => {
+                let _ = self.hyps.pop();
+                Err(AllocError)
+            }
+        }
+    }
+
+    /// The pairs, ascending, and the hypotheses without their labels.
+    pub fn into_parts(self, alloc: Global) -> Result<(Vec<(u32, u32)>, Vec<Expr>), AllocError>
+        ensures { IfOk result (λ r. (r.0.items ≡ self.entry.pairs) × (r.1.items ≡ map (λ h. h.expression) self.entry.hyps)) }
+    {
+        let pairs = listed_pairs(alloc, self.pairs)?;
+        let hyps = expressions(alloc, self.hyps)?;
+        Ok((pairs, hyps))
+    }
+}
+
+/// Puts a pair in its place, if it isn't there.
+fn put_pair(pairs: &mut BTreeSet<(u32, u32)>, pair: (u32, u32)) -> Result<(), AllocError>
+    ensures { OnOk result (pairs.new.keys ≡ with_pair pair pairs.old.keys) }
+{
+    pairs.insert(pair)?;
+    Ok(())
+}
+
+/// Puts the pairs of a variable and earlier ones.
+fn put_pairs(
+    pairs: &mut BTreeSet<(u32, u32)>,
+    variable: u32,
+    earlier: &[u32],
+) -> Result<(), AllocError>
+    ensures { OnOk result (pairs.new.keys ≡ with_pairs variable earlier.now pairs.old.keys) }
+{
+    for other in earlier {
+        let pair = if *other < variable {
+            (*other, variable)
+        } else {
+            (variable, *other)
+        };
+        put_pair(pairs, pair)?;
+    }
+    Ok(())
+}
+
+/// The pairs of a set, ascending.
+fn listed_pairs(alloc: Global, pairs: BTreeSet<(u32, u32)>) -> Result<Vec<(u32, u32)>, AllocError>
+    ensures { IfOk result (λ v. v.items ≡ pairs.keys) }
+{
+    let mut out = Vec::new(alloc);
+    for pair in pairs {
+        out.push(pair)?;
+    }
+    Ok(out)
+}
+
+/// The expressions of hypotheses.
+fn expressions(alloc: Global, hyps: Vec<Hypothesis<'_>>) -> Result<Vec<Expr>, AllocError>
+    ensures { IfOk result (λ v. v.items ≡ map (λ h. h.expression) hyps.entry.items) }
+{
+    let mut out = Vec::new(alloc);
+    for hypothesis in hyps {
+        out.push(hypothesis.expression)?;
+    }
+    Ok(out)
+}

@@ -1,0 +1,9 @@
+//! Reading texts: a database, or a single assertion over a prelude.
+#![tactic(auto)]
+
+mod block;
+mod known;
+mod place;
+mod reading;
+
+pub use reading::{read_assertion, read_database};

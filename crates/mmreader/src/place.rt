@@ -1,0 +1,75 @@
+//! Places in the grammar.
+
+ghost use Rattle.std.specs.Prelude.{◌≡◌};
+ghost use Rattle.mmreader.specs.Views.{seen_place, is_outermost};
+
+use crate::block::Block;
+use mmsyntax::{Step, Symbol};
+use mmtext::Token;
+
+/// Outermost, or in a block that holds this much.
+#[derive(Drop)]
+pub(crate) enum Scope<'a> {
+    Outside,
+    Inside(Block<'a>),
+}
+
+/// What was read of the `$c`, `$v` or `$f` that a token stands in.
+#[derive(Drop)]
+pub(crate) enum PreludePlace<'a> {
+    /// Behind `$c`, and whether a symbol stood.
+    InConstants(bool),
+    /// Behind `$v`, and whether a symbol stood.
+    InVariables(bool),
+    /// Behind a label and `$f`.
+    FloatType(&'a [u8]),
+    /// Behind the type.
+    FloatVariable(&'a [u8], u32),
+    /// Behind the variable, which is kept as it stands and by its place.
+    FloatEnd(&'a [u8], u32, &'a [u8], u32),
+}
+
+/// What was read of the assertion or of the block that a token stands in.
+#[derive(Drop)]
+pub(crate) enum UnitPlace<'a> {
+    /// At the start of a statement.
+    AtStart(Scope<'a>),
+    /// In a block, behind its assertion.
+    AtClose,
+    /// Behind a label.
+    AfterLabel(Scope<'a>, Token<'a>),
+    /// Behind `$d` and variables, each by its `$f`.
+    InDistinct(Block<'a>, Vec<u32>),
+    /// Behind a label, `$e` and symbols.
+    InHypothesis(Block<'a>, &'a [u8], Vec<Symbol>),
+    /// Behind a label, `$a` and symbols.
+    InAxiom(Scope<'a>, &'a [u8], Vec<Symbol>),
+    /// Behind a label, `$p` and symbols.
+    InTheorem(Scope<'a>, &'a [u8], Vec<Symbol>),
+    /// Behind `$=` and steps.
+    InProof(Scope<'a>, &'a [u8], Vec<Symbol>, Vec<Step>),
+}
+
+/// What was read of the statement that a token stands in.
+#[derive(Drop)]
+pub(crate) enum Place<'a> {
+    Prelude(PreludePlace<'a>),
+    Unit(UnitPlace<'a>),
+}
+
+/// A place, and whether a comment is open there.
+#[derive(Drop)]
+pub(crate) struct State<'a> {
+    pub place: Place<'a>,
+    pub in_comment: bool,
+}
+
+/// Whether a place is outermost, between statements.
+pub(crate) fn is_outermost(place: &Place<'_>) -> bool
+    ensures { result ≡ is_outermost (seen_place place.now) }
+{
+    match place {
+        Place::Unit(UnitPlace::AtStart(Scope::Outside)) => true,
+        _ => false,
+    }
+}

@@ -1,0 +1,187 @@
+//! Reading a database, token by token.
+
+ghost use Rattle.std.specs.Prelude.{◌≡◌, ◌≢◌, ◌≤◌, length, IfOk, IfErr};
+ghost use Rattle.mmtext.specs.declared.fault.TextFault.{TextFault};
+ghost use Rattle.mmtext.specs.declared.fault.FaultKind.TheVariants.{NoMemory};
+ghost use Rattle.mmsyntax.specs.Tables.{Contents};
+ghost use Rattle.mmtext.specs.Languages.{step, said_at, finished, token_reading, reading};
+ghost use Rattle.mmsyntax.specs.Faults.{in_place, database_language, FaultyDatabase, Stands};
+ghost use Rattle.mmsyntax.specs.Grammar.{Spells, Reads, Refuses};
+ghost use Rattle.mmsyntax.specs.Layout.{HasSpelling};
+ghost use Rattle.mmtext.specs.Views.{seen, Gives};
+ghost use Rattle.mmreader.specs.Views.{seen_place, seen_state, known_of, contents_of, Leads};
+
+mod labels;
+mod prelude_rows;
+mod steps;
+mod unit_rows;
+mod units;
+
+use crate::known::Units;
+use crate::place::{Place, Scope, State, UnitPlace, is_outermost};
+use mmsyntax::{Assertion, Database, Prelude, Sequence, SymbolTable};
+use mmtext::{
+    Mark, Stop, TextFault, Token, Turn, comment_turn, mark_word, next_token, no_memory, text_fault,
+    unfinished_at,
+};
+use prelude_rows::next_prelude_place;
+use std::alloc::Global;
+use std::hash::RandomState;
+use unit_rows::next_unit_place;
+pub use units::read_assertion;
+
+/// Where a token leads that stands outside of comments.
+fn next_place<'a>(
+    alloc: Global,
+    symbols: &mut SymbolTable,
+    units: &mut Units,
+    place: Place<'a>,
+    token: Token<'a>,
+    mark: Mark,
+) -> Result<Place<'a>, Stop>
+    requires { Stands (known_of symbols.old units.old) (seen_place place) }
+    ensures { Leads symbols.new units.new result
+        (in_place (known_of symbols.old units.old) (seen_place place.entry) (seen token.entry) mark) }
+{
+    match place {
+        Place::Prelude(place) => next_prelude_place(alloc, symbols, units, place, token, mark),
+        Place::Unit(place) => next_unit_place(alloc, symbols, units, place, token, mark),
+    }
+}
+
+/// Where a token of a database leads.
+fn advance<'a>(
+    alloc: Global,
+    symbols: &mut SymbolTable,
+    units: &mut Units,
+    state: State<'a>,
+    token: Token<'a>,
+) -> Result<State<'a>, Stop>
+    requires { Stands (known_of symbols.old units.old) (seen_place state.place) }
+    ensures { Gives (λ s. seen_state symbols.new units.new s) result
+        (step database_language (seen_state symbols.old units.old state.entry) (seen token.entry)) }
+{
+    let State { place, in_comment } = state;
+    let mark = mark_word(token.text);
+    match comment_turn(in_comment, token, mark)? {
+        Turn::Skipped(in_comment) => Ok(State { place, in_comment }),
+        Turn::Read => Ok(State {
+            place: next_place(alloc, symbols, units, place, token, mark)?,
+            in_comment: false,
+        }),
+    }
+}
+
+/// What a text declares that ends in a state. `length` is that of the text.
+fn finish(
+    symbols: SymbolTable,
+    units: Units,
+    state: State<'_>,
+    length: usize,
+) -> Result<(SymbolTable, Vec<Assertion>), Stop>
+    ensures { Gives (λ r. contents_of r.0 r.1.items) result
+        (finished length (said_at database_language (seen_state symbols units state.entry))) }
+{
+    if state.in_comment || !is_outermost(&state.place) {
+        return Err(unfinished_at(length));
+    }
+    Ok((symbols, units.into_assertions()))
+}
+
+/// What the tokens of a text declare.
+fn read_tokens(
+    alloc: Global,
+    keys: RandomState,
+    text: &[u8],
+) -> Result<(SymbolTable, Vec<Assertion>), Stop>
+    ensures { Gives (λ r. contents_of r.0 r.1.items) result (token_reading database_language text.now) }
+{
+    let mut symbols = SymbolTable::new(alloc, keys);
+    let mut units = Units::new(alloc, keys, false);
+    let mut state = State {
+        place: Place::Unit(UnitPlace::AtStart(Scope::Outside)),
+        in_comment: false,
+    };
+    let mut at = 0;
+    while let Some(token) = next_token(text, at) {
+        at = token.place + token.text.len();
+        state = advance(alloc, &mut symbols, &mut units, state, token)?;
+    }
+    finish(symbols, units, state, text.len())
+}
+
+/// What a text declares: its length is tested first, then its bytes, then its tokens.
+fn read_text(
+    alloc: Global,
+    keys: RandomState,
+    text: &[u8],
+) -> Result<(SymbolTable, Vec<Assertion>), Stop>
+    ensures { Gives (λ r. contents_of r.0 r.1.items) result (reading database_language text.now) }
+{
+    if let Some(fault) = text_fault(text) {
+        return Err(Stop::Fault(fault));
+    }
+    read_tokens(alloc, keys, text)
+}
+
+/// The database that a text spells.
+///
+/// Hypotheses are kept by their places, and their labels are forgotten; so are comments. A step that cites an assertion keeps its label,
+/// which no reader looks up. `keys` make the hashes of the maps inside.
+///
+/// # Errors
+///
+/// The first fault of the text, from the front. Its length comes first, then its bytes, then each token; where a token breaks more than
+/// one rule, the first below counts. Limits: 16,777,216 bytes; 65,535 constants, variables, `$f`, symbols of an expression and
+/// different pairs of a block; 1,000 `$e` of a block; 4,096 assertions; 16,384 steps; 255 bytes of a symbol or label, 260 of the label
+/// of a `$e`.
+///
+/// - `TooLong` at 16,777,216: the text has more bytes than that.
+/// - `BadByte`: a byte that is neither printable ASCII nor white space, also in a comment.
+/// - `BadToken`: in a comment a token other than `$)` that has `$(` or `$)` in it; outside of comments `$)`.
+/// - `OutOfProfile`: `$[` or `$]` outside of comments.
+/// - At the start of a statement, outermost: `OutOfProfile` for `$d`, and for `$c` or `$v` behind an assertion; `BadToken` for
+///   what isn't `$c`, `$v`, `${` or letters, digits, `-`, `_` and `.`. In a block: `OutOfProfile` for `$c`, `$v`, `${`, and behind its
+///   assertion for `$d` or a label; `BadToken` for what isn't `$d` or a label, and behind its assertion for what isn't `$}`.
+/// - Behind a label: `OutOfProfile` for `$f` in a block or behind an assertion, and for `$e` outermost; `BadToken` for what isn't `$f`,
+///   `$e`, `$a` or `$p`.
+/// - At the label, once its keyword has passed: `BadLabel` if it is too long, or for `$f`, `$a` and `$p` has a `.`; `RepeatedLabel` if an
+///   earlier label, of a `$e` too, or a symbol is equal; `TooLong` where no more `$f`, `$e` or assertions may stand.
+/// - In `$c` and `$v`: `BadToken` for a token with `$`, also a `$.` with no symbol before it; `TooLong` for a long symbol; `OutOfProfile`
+///   for one as `a.1`, which a hypothesis may have as label; `RepeatedLabel` where an earlier symbol or label is equal; `TooLong` where
+///   no more may stand.
+/// - In `$f`: `UnknownSymbol` where the type isn't a constant or the variable isn't one; `RepeatedLabel` where the variable has a `$f`;
+///   `BadToken` for what isn't `$.` behind them.
+/// - In `$d`: `BadToken` for a token with `$`, also a `$.` behind fewer than two variables; `UnknownSymbol` for what isn't a variable;
+///   `NoTypeFor` for one without `$f`; `BadToken` for one that stands twice; `TooLong` for too many pairs.
+/// - In `$e`, `$a` and `$p`: `BadToken` for a token with `$`, also an end with no symbol before it; `UnknownSymbol` where the first symbol
+///   isn't a constant or a later one isn't declared; `NoTypeFor` for a variable without `$f`; `TooLong` for too many symbols.
+/// - In a proof: `OutOfProfile` for `?` and `(`; `BadToken` for a token with `$`, also a `$.` with no step before it, and for what isn't
+///   a label; `TooLong` for too many steps; `BadLabel` for a label that is too long or has a `.`, unless it is that of a `$f` or of a `$e`
+///   of the block.
+/// - `Unfinished` at the length of the text: it ends in a statement, in a block or in a comment.
+/// - `NoMemory`, with place 0: memory ran out.
+pub fn read_database(alloc: Global, keys: RandomState, text: &[u8]) -> Result<Database, TextFault>
+    // What is read is spelled so.
+    ensures found { IfOk result (λ db. Spells text.now db) }
+    // What is spelled so is read, if the text isn't too long, unless memory runs out.
+    ensures only { (db : Contents) → length text.now ≤ 16777216 → Spells text.now db → Reads result db }
+    // Any other fault than want of memory is the text's.
+    ensures fault { IfErr result (λ f. f.kind ≢ NoMemory → FaultyDatabase text.now f) }
+    // A text with a fault is refused with it, unless memory runs out.
+    ensures refused { (f : TextFault) → FaultyDatabase text.now f → Refuses result f }
+{
+    match read_text(alloc, keys, text) {
+        Ok((symbols, assertions)) => Ok(into_database(symbols, assertions)),
+        Err(Stop::Fault(fault)) => Err(fault),
+        Err(Stop::Memory) => Err(no_memory()),
+    }
+}
+
+/// The database of what some text declares.
+fn into_database(symbols: SymbolTable, assertions: Vec<Assertion>) -> Database
+    requires { HasSpelling (contents_of symbols assertions.items) }
+    ensures { result ≡ contents_of symbols assertions.items }
+{
+    Database::new(Prelude::new(symbols), Sequence::from_vec(assertions))
+}

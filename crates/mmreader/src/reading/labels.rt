@@ -1,0 +1,114 @@
+//! The tests of labels and symbols, in order.
+
+ghost use Rattle.std.specs.Prelude.{◌≡◌};
+ghost use Rattle.mmsyntax.specs.Rows.{first_fault, symbol_tests, label_tests, symbol_of};
+ghost use Rattle.mmsyntax.specs.Blocks.{hypothesis_label_tests};
+ghost use Rattle.mmreader.specs.Views.{known_of};
+
+use crate::block::Block;
+use crate::known::{Units, has_name};
+use mmsyntax::{Name, Symbol, SymbolTable};
+use mmtext::{FaultKind, contains_dollar, contains_dot, names_hypothesis};
+
+/// The most bytes of a symbol, and of a label that isn't one of a `$e`.
+pub(crate) const MOST_LABEL_BYTES: usize = 255;
+/// The most bytes of the label of a `$e`: in canonical layout it has a dot and a number behind that of its assertion.
+const MOST_HYPOTHESIS_LABEL_BYTES: usize = 260;
+/// The most hypotheses of a block.
+const MOST_HYPOTHESES: usize = 1000;
+/// The most constants, and variables, and `$f`, and symbols of an expression, and pairs of a block.
+pub(crate) const MOST_SYMBOLS: usize = 65535;
+
+/// The fault of a symbol in `$c` or `$v`, where `count` are declared.
+pub(crate) fn symbol_fault(
+    symbols: &SymbolTable,
+    units: &Units,
+    count: usize,
+    word: &[u8],
+) -> Option<FaultKind>
+    ensures { result ≡ first_fault (symbol_tests (known_of symbols.now units.now) count word.now) }
+{
+    if contains_dollar(word) {
+        return Some(FaultKind::BadToken);
+    }
+    if word.len() > MOST_LABEL_BYTES {
+        return Some(FaultKind::TooLong);
+    }
+    if names_hypothesis(word) {
+        return Some(FaultKind::OutOfProfile);
+    }
+    if has_name(symbols, units, word) {
+        return Some(FaultKind::RepeatedLabel);
+    }
+    if count >= MOST_SYMBOLS {
+        return Some(FaultKind::TooLong);
+    }
+    None
+}
+
+/// The fault of the label of a `$f`, `$a` or `$p`, where `count` of `limit` stand.
+pub(crate) fn label_fault(
+    symbols: &SymbolTable,
+    units: &Units,
+    count: usize,
+    limit: usize,
+    word: &[u8],
+) -> Option<FaultKind>
+    ensures { result ≡ first_fault (label_tests (known_of symbols.now units.now) count limit word.now) }
+{
+    if contains_dot(word) || word.len() > MOST_LABEL_BYTES {
+        return Some(FaultKind::BadLabel);
+    }
+    if has_name(symbols, units, word) {
+        return Some(FaultKind::RepeatedLabel);
+    }
+    if count >= limit {
+        return Some(FaultKind::TooLong);
+    }
+    None
+}
+
+/// The fault of the label of a `$e` in a block.
+pub(crate) fn hypothesis_label_fault(
+    symbols: &SymbolTable,
+    units: &Units,
+    block: &Block<'_>,
+    word: &[u8],
+) -> Option<FaultKind>
+    ensures { result ≡ first_fault (hypothesis_label_tests (known_of symbols.now units.now) block.now word.now) }
+{
+    if word.len() > MOST_HYPOTHESIS_LABEL_BYTES {
+        return Some(FaultKind::BadLabel);
+    }
+    if has_name(symbols, units, word) {
+        return Some(FaultKind::RepeatedLabel);
+    }
+    if block.hypotheses() >= MOST_HYPOTHESES {
+        return Some(FaultKind::TooLong);
+    }
+    None
+}
+
+/// The symbol that a word is behind `count` symbols of an expression, or why it is none.
+#[tactic(auto, unfolding(mmsyntax::specs::Rows::symbol_of))]
+pub(crate) fn symbol_at(
+    symbols: &SymbolTable,
+    count: usize,
+    word: &[u8],
+) -> Result<Symbol, FaultKind>
+    ensures { result ≡ symbol_of symbols.now count word.now }
+{
+    if contains_dollar(word) {
+        return Err(FaultKind::BadToken);
+    }
+    let symbol = match symbols.look_up(word) {
+        Some(Name::Constant(i)) => Symbol::Const(i),
+        Some(Name::Variable(_, Some(j))) if count > 0 => Symbol::Var(j),
+        Some(Name::Variable(_, None)) if count > 0 => return Err(FaultKind::NoTypeFor),
+        _ => return Err(FaultKind::UnknownSymbol),
+    };
+    if count >= MOST_SYMBOLS {
+        return Err(FaultKind::TooLong);
+    }
+    Ok(symbol)
+}

@@ -1,0 +1,132 @@
+//! The words of `$d` and the steps of proofs.
+
+ghost use Rattle.std.specs.Prelude.{◌≡◌, ◌==◌, IfOk};
+ghost use Rattle.std.specs.List.{list_any};
+ghost use Rattle.mmsyntax.specs.Tables.{meaning};
+ghost use Rattle.mmsyntax.specs.Rows.{first_fault};
+ghost use Rattle.mmsyntax.specs.Blocks.{typed_named, distinct_of, with_distinct};
+ghost use Rattle.mmsyntax.specs.Steps.{step_tests, float_named, hypothesis_named, step_of};
+ghost use Rattle.mmsyntax.specs.Faults.{block_of};
+ghost use Rattle.mmreader.specs.Views.{seen_scope};
+
+use super::labels::{MOST_LABEL_BYTES, MOST_SYMBOLS};
+use crate::block::Block;
+use crate::place::Scope;
+use mmsyntax::{Name, Sequence, Step, SymbolTable};
+use mmtext::{FaultKind, contains_dollar, contains_dot, is_label_token};
+use std::alloc::{AllocError, Global};
+
+/// The most steps of a proof.
+const MOST_STEPS: usize = 16384;
+
+/// The variable that a word of a `$d` names, by its `$f`.
+fn restricted(symbols: &SymbolTable, word: &[u8]) -> Result<u32, FaultKind>
+    ensures { result ≡ typed_named (meaning symbols.now word.now) }
+{
+    match symbols.look_up(word) {
+        Some(Name::Variable(_, Some(j))) => Ok(j),
+        Some(Name::Variable(_, None)) => Err(FaultKind::NoTypeFor),
+        _ => Err(FaultKind::UnknownSymbol),
+    }
+}
+
+fn contains_number(numbers: &[u32], number: u32) -> bool
+    ensures { result ≡ list_any (λ i. i == number) numbers.now }
+{
+    numbers.iter().any(|i| *i == number)
+}
+
+/// The variable that a word of a `$d` adds to earlier ones. Its pairs are put into the block.
+#[tactic(auto, unfolding(mmsyntax::specs::Blocks::distinct_of))]
+pub(crate) fn restrict(
+    symbols: &SymbolTable,
+    block: &mut Block<'_>,
+    earlier: &[u32],
+    word: &[u8],
+) -> Result<Result<u32, FaultKind>, AllocError>
+    ensures which { IfOk result (λ r. r ≡ distinct_of symbols.now earlier.now block.old.pairs word.now) }
+    ensures put { IfOk result (λ r. IfOk r (λ j. block.new ≡ with_distinct block.old earlier.now j)) }
+{
+    if contains_dollar(word) {
+        return Ok(Err(FaultKind::BadToken));
+    }
+    match restricted(symbols, word) {
+        Err(kind) => Ok(Err(kind)),
+        Ok(j) => {
+            if contains_number(earlier, j) {
+                return Ok(Err(FaultKind::BadToken));
+            }
+            block.add_pairs(j, earlier)?;
+            if block.pairs() > MOST_SYMBOLS {
+                return Ok(Err(FaultKind::TooLong));
+            }
+            Ok(Ok(j))
+        }
+    }
+}
+
+/// The fault of a step by itself, behind `count` steps.
+fn step_fault(count: usize, word: &[u8]) -> Option<FaultKind>
+    ensures { result ≡ first_fault (step_tests count word.now) }
+{
+    if word == b"?".as_slice() || word == b"(".as_slice() {
+        return Some(FaultKind::OutOfProfile);
+    }
+    if contains_dollar(word) {
+        return Some(FaultKind::BadToken);
+    }
+    if !is_label_token(word) {
+        return Some(FaultKind::BadToken);
+    }
+    if count >= MOST_STEPS {
+        return Some(FaultKind::TooLong);
+    }
+    None
+}
+
+/// The place of a hypothesis of a scope.
+fn hypothesis_in(scope: &Scope<'_>, word: &[u8]) -> Option<u32>
+    ensures { result ≡ hypothesis_named (block_of (seen_scope scope.now)).hyps word.now }
+{
+    match scope {
+        Scope::Outside => None,
+        Scope::Inside(block) => block.hypothesis_place(word),
+    }
+}
+
+/// The `$f` that a word is the label of.
+fn float_labelled(symbols: &SymbolTable, word: &[u8]) -> Option<u32>
+    ensures { result ≡ float_named (meaning symbols.now word.now) }
+{
+    match symbols.look_up(word) {
+        Some(Name::Label(j)) => Some(j),
+        _ => None,
+    }
+}
+
+/// The step that a word is behind `count` steps of a proof, or why it is none. No assertion is looked up.
+#[tactic(auto, unfolding(mmsyntax::specs::Steps::step_of))]
+pub(crate) fn step_at(
+    alloc: Global,
+    symbols: &SymbolTable,
+    scope: &Scope<'_>,
+    count: usize,
+    word: &[u8],
+) -> Result<Result<Step, FaultKind>, AllocError>
+    ensures { IfOk result (λ r. r ≡ step_of symbols.now (block_of (seen_scope scope.now)).hyps count word.now) }
+{
+    if let Some(kind) = step_fault(count, word) {
+        return Ok(Err(kind));
+    }
+    if let Some(j) = float_labelled(symbols, word) {
+        return Ok(Ok(Step::Float(j)));
+    }
+    if let Some(n) = hypothesis_in(scope, word) {
+        return Ok(Ok(Step::Hyp(n)));
+    }
+    if contains_dot(word) || word.len() > MOST_LABEL_BYTES {
+        return Ok(Err(FaultKind::BadLabel));
+    }
+    let label = Vec::from_slice(alloc, word)?;
+    Ok(Ok(Step::Cite(Sequence::from_vec(label))))
+}

@@ -1,0 +1,372 @@
+//! Reading assertions and blocks: one function for each place in them.
+
+ghost use Rattle.std.specs.Prelude.{◌≡◌, ◌<◌, length, IfOk};
+ghost use Rattle.mmsyntax.specs.Blocks.{with_distinct, distinct_of, assertion_of};
+ghost use Rattle.mmsyntax.specs.Faults.{outermost_row, block_row, close_row, keyword_row, distinct_row, hypothesis_row, axiom_row};
+ghost use Rattle.mmsyntax.specs.Faults.{theorem_row, proof_row, behind, block_of, in_place, Stands};
+ghost use Rattle.mmtext.specs.Views.{seen};
+ghost use Rattle.mmreader.specs.Views.{seen_scope, seen_place, seen_unit_place, known_of, Leads};
+
+use super::labels::{MOST_SYMBOLS, hypothesis_label_fault, label_fault, symbol_at};
+use super::steps::{restrict, step_at};
+use crate::block::Block;
+use crate::known::Units;
+use crate::place::{Place, PreludePlace, Scope, UnitPlace};
+use mmsyntax::{Assertion, Kind, Sequence, Step, Symbol, SymbolTable};
+use mmtext::{FaultKind, Mark, Stop, Token, fault_at, is_label_token};
+use std::alloc::{AllocError, Global};
+
+/// The most assertions of a database.
+const MOST_ASSERTIONS: usize = 4096;
+
+/// Start of a statement, outermost.
+fn outermost<'a>(
+    alloc: Global,
+    symbols: &SymbolTable,
+    units: &Units,
+    token: Token<'a>,
+    mark: Mark,
+) -> Result<Place<'a>, Stop>
+    ensures { Leads symbols.now units.now result (outermost_row (known_of symbols.now units.now) (seen token.entry) mark) }
+{
+    match mark {
+        Mark::Constants if !units.is_prelude_closed() => {
+            Ok(Place::Prelude(PreludePlace::InConstants(false)))
+        }
+        Mark::Variables if !units.is_prelude_closed() => {
+            Ok(Place::Prelude(PreludePlace::InVariables(false)))
+        }
+        Mark::Opening => {
+            let block = Block::new(alloc, units.keys());
+            Ok(Place::Unit(UnitPlace::AtStart(Scope::Inside(block))))
+        }
+        Mark::Constants | Mark::Variables | Mark::Disjoint => {
+            Err(fault_at(token, FaultKind::OutOfProfile))
+        }
+        Mark::Plain if is_label_token(token.text) => {
+            Ok(Place::Unit(UnitPlace::AfterLabel(Scope::Outside, token)))
+        }
+        _ => Err(fault_at(token, FaultKind::BadToken)),
+    }
+}
+
+/// Start of a statement in a block, before its assertion.
+fn in_block<'a>(
+    alloc: Global,
+    symbols: &SymbolTable,
+    units: &Units,
+    block: Block<'a>,
+    token: Token<'a>,
+    mark: Mark,
+) -> Result<Place<'a>, Stop>
+    ensures { Leads symbols.now units.now result (block_row (known_of symbols.now units.now) block.entry (seen token.entry) mark) }
+{
+    match mark {
+        Mark::Disjoint => Ok(Place::Unit(UnitPlace::InDistinct(block, Vec::new(alloc)))),
+        Mark::Constants | Mark::Variables | Mark::Opening => {
+            Err(fault_at(token, FaultKind::OutOfProfile))
+        }
+        Mark::Plain if is_label_token(token.text) => {
+            Ok(Place::Unit(UnitPlace::AfterLabel(Scope::Inside(block), token)))
+        }
+        _ => Err(fault_at(token, FaultKind::BadToken)),
+    }
+}
+
+/// In a block, behind its assertion.
+fn at_close<'a>(
+    symbols: &SymbolTable,
+    units: &Units,
+    token: Token<'a>,
+    mark: Mark,
+) -> Result<Place<'a>, Stop>
+    ensures { Leads symbols.now units.now result (close_row (known_of symbols.now units.now) (seen token.entry) mark) }
+{
+    match mark {
+        Mark::Closing => Ok(Place::Unit(UnitPlace::AtStart(Scope::Outside))),
+        Mark::Constants | Mark::Variables | Mark::Opening | Mark::Disjoint => {
+            Err(fault_at(token, FaultKind::OutOfProfile))
+        }
+        Mark::Plain if is_label_token(token.text) => Err(fault_at(token, FaultKind::OutOfProfile)),
+        _ => Err(fault_at(token, FaultKind::BadToken)),
+    }
+}
+
+/// Behind a label.
+fn keyword<'a>(
+    alloc: Global,
+    symbols: &SymbolTable,
+    units: &Units,
+    scope: Scope<'a>,
+    label: Token<'a>,
+    token: Token<'a>,
+    mark: Mark,
+) -> Result<Place<'a>, Stop>
+    ensures { Leads symbols.now units.now result
+        (keyword_row (known_of symbols.now units.now) (seen_scope scope.entry) (seen label.entry) (seen token.entry) mark) }
+{
+    match mark {
+        Mark::Floating => {
+            let Scope::Outside = scope else {
+                return Err(fault_at(token, FaultKind::OutOfProfile));
+            };
+            if units.is_prelude_closed() {
+                return Err(fault_at(token, FaultKind::OutOfProfile));
+            }
+            let count = symbols.floats().len();
+            match label_fault(symbols, units, count, MOST_SYMBOLS, label.text) {
+                Some(kind) => Err(fault_at(label, kind)),
+                None => Ok(Place::Prelude(PreludePlace::FloatType(label.text))),
+            }
+        }
+        Mark::Essential => {
+            let Scope::Inside(block) = scope else {
+                return Err(fault_at(token, FaultKind::OutOfProfile));
+            };
+            match hypothesis_label_fault(symbols, units, &block, label.text) {
+                Some(kind) => Err(fault_at(label, kind)),
+                None => {
+                    let place = UnitPlace::InHypothesis(block, label.text, Vec::new(alloc));
+                    Ok(Place::Unit(place))
+                }
+            }
+        }
+        Mark::Axiom => {
+            match label_fault(symbols, units, units.count(), MOST_ASSERTIONS, label.text) {
+                Some(kind) => Err(fault_at(label, kind)),
+                None => {
+                    let place = UnitPlace::InAxiom(scope, label.text, Vec::new(alloc));
+                    Ok(Place::Unit(place))
+                }
+            }
+        }
+        Mark::Provable => {
+            match label_fault(symbols, units, units.count(), MOST_ASSERTIONS, label.text) {
+                Some(kind) => Err(fault_at(label, kind)),
+                None => {
+                    let place = UnitPlace::InTheorem(scope, label.text, Vec::new(alloc));
+                    Ok(Place::Unit(place))
+                }
+            }
+        }
+        _ => Err(fault_at(token, FaultKind::BadToken)),
+    }
+}
+
+/// A variable of a `$d`, or the `$.` behind two.
+fn distinct<'a>(
+    symbols: &SymbolTable,
+    units: &Units,
+    mut block: Block<'a>,
+    mut variables: Vec<u32>,
+    token: Token<'a>,
+    mark: Mark,
+) -> Result<Place<'a>, Stop>
+    ensures { Leads symbols.now units.now result
+        (distinct_row (known_of symbols.now units.now) block.entry variables.items (seen token.entry) mark) }
+{
+    if mark == Mark::End && variables.len() > 1 {
+        return Ok(Place::Unit(UnitPlace::AtStart(Scope::Inside(block))));
+    }
+    match restrict(symbols, &mut block, &variables, token.text)? {
+        Ok(j) => {
+            variables.push(j)?;
+            Ok(Place::Unit(UnitPlace::InDistinct(block, variables)))
+        }
+        Err(kind) => Err(fault_at(token, kind)),
+    }
+}
+
+/// A symbol of a `$e`, or the `$.` behind one.
+fn hypothesis<'a>(
+    alloc: Global,
+    symbols: &SymbolTable,
+    units: &mut Units,
+    mut block: Block<'a>,
+    label: &'a [u8],
+    mut expression: Vec<Symbol>,
+    token: Token<'a>,
+    mark: Mark,
+) -> Result<Place<'a>, Stop>
+    requires { length block.hyps < 1000 }
+    ensures { Leads symbols.now units.new result
+        (hypothesis_row (known_of symbols.now units.old) block.entry label.entry.now expression.items (seen token.entry) mark) }
+{
+    if mark == Mark::End && !expression.is_empty() {
+        units.add_hypothesis_label(alloc, label)?;
+        block.add_hypothesis(alloc, label, Sequence::from_vec(expression))?;
+        return Ok(Place::Unit(UnitPlace::AtStart(Scope::Inside(block))));
+    }
+    match symbol_at(symbols, expression.len(), token.text) {
+        Ok(s) => {
+            expression.push(s)?;
+            Ok(Place::Unit(UnitPlace::InHypothesis(block, label, expression)))
+        }
+        Err(kind) => Err(fault_at(token, kind)),
+    }
+}
+
+/// The place behind an assertion.
+fn place_behind<'a>(scope: &Scope<'_>) -> Place<'a>
+    ensures { seen_place result ≡ behind (seen_scope scope.now) }
+{
+    match scope {
+        Scope::Outside => Place::Unit(UnitPlace::AtStart(Scope::Outside)),
+        Scope::Inside(_) => Place::Unit(UnitPlace::AtClose),
+    }
+}
+
+/// The assertion of a scope.
+fn assertion_in(
+    alloc: Global,
+    scope: Scope<'_>,
+    label: &[u8],
+    kind: Kind,
+    symbols: Vec<Symbol>,
+    steps: Vec<Step>,
+) -> Result<Assertion, AllocError>
+    ensures { IfOk result (λ a. a ≡ assertion_of (block_of (seen_scope scope.entry)) label.now kind symbols.items steps.items) }
+{
+    let (pairs, hyps) = match scope {
+        Scope::Outside => (Vec::new(alloc), Vec::new(alloc)),
+        Scope::Inside(block) => block.into_parts(alloc)?,
+    };
+    Ok(Assertion {
+        label: Sequence::from_vec(Vec::from_slice(alloc, label)?),
+        kind,
+        pairs: Sequence::from_vec(pairs),
+        hyps: Sequence::from_vec(hyps),
+        statement: Sequence::from_vec(symbols),
+        proof: Sequence::from_vec(steps),
+    })
+}
+
+/// A symbol of a `$a`, or the `$.` behind one.
+fn axiom_symbol<'a>(
+    alloc: Global,
+    symbols: &SymbolTable,
+    units: &mut Units,
+    scope: Scope<'a>,
+    label: &'a [u8],
+    mut expression: Vec<Symbol>,
+    token: Token<'a>,
+    mark: Mark,
+) -> Result<Place<'a>, Stop>
+    ensures { Leads symbols.now units.new result
+        (axiom_row (known_of symbols.now units.old) (seen_scope scope.entry) label.entry.now expression.items (seen token.entry) mark) }
+{
+    if mark == Mark::End && !expression.is_empty() {
+        let next = place_behind(&scope);
+        let steps = Vec::new(alloc);
+        let assertion = assertion_in(alloc, scope, label, Kind::Axiom, expression, steps)?;
+        units.add_assertion(alloc, assertion)?;
+        return Ok(next);
+    }
+    match symbol_at(symbols, expression.len(), token.text) {
+        Ok(s) => {
+            expression.push(s)?;
+            Ok(Place::Unit(UnitPlace::InAxiom(scope, label, expression)))
+        }
+        Err(kind) => Err(fault_at(token, kind)),
+    }
+}
+
+/// A symbol of a `$p`, or the `$=` behind one.
+fn theorem_symbol<'a>(
+    alloc: Global,
+    symbols: &SymbolTable,
+    units: &Units,
+    scope: Scope<'a>,
+    label: &'a [u8],
+    mut expression: Vec<Symbol>,
+    token: Token<'a>,
+    mark: Mark,
+) -> Result<Place<'a>, Stop>
+    ensures { Leads symbols.now units.now result
+        (theorem_row (known_of symbols.now units.now) (seen_scope scope.entry) label.entry.now expression.items (seen token.entry) mark) }
+{
+    if mark == Mark::Proof && !expression.is_empty() {
+        let place = UnitPlace::InProof(scope, label, expression, Vec::new(alloc));
+        return Ok(Place::Unit(place));
+    }
+    match symbol_at(symbols, expression.len(), token.text) {
+        Ok(s) => {
+            expression.push(s)?;
+            Ok(Place::Unit(UnitPlace::InTheorem(scope, label, expression)))
+        }
+        Err(kind) => Err(fault_at(token, kind)),
+    }
+}
+
+/// A step of a proof, or the `$.` behind one.
+fn proof_step<'a>(
+    alloc: Global,
+    symbols: &SymbolTable,
+    units: &mut Units,
+    scope: Scope<'a>,
+    label: &'a [u8],
+    expression: Vec<Symbol>,
+    mut steps: Vec<Step>,
+    token: Token<'a>,
+    mark: Mark,
+) -> Result<Place<'a>, Stop>
+    ensures { Leads symbols.now units.new result
+        (proof_row (known_of symbols.now units.old) (seen_scope scope.entry) label.entry.now expression.items steps.items (seen token.entry)
+        mark) }
+{
+    if mark == Mark::End && !steps.is_empty() {
+        let next = place_behind(&scope);
+        let assertion = assertion_in(alloc, scope, label, Kind::Theorem, expression, steps)?;
+        units.add_assertion(alloc, assertion)?;
+        return Ok(next);
+    }
+    match step_at(alloc, symbols, &scope, steps.len(), token.text)? {
+        Ok(step) => {
+            steps.push(step)?;
+            Ok(Place::Unit(UnitPlace::InProof(scope, label, expression, steps)))
+        }
+        Err(kind) => Err(fault_at(token, kind)),
+    }
+}
+
+/// Where a token leads that stands in no `$c`, `$v` or `$f`.
+pub(crate) fn next_unit_place<'a>(
+    alloc: Global,
+    symbols: &SymbolTable,
+    units: &mut Units,
+    place: UnitPlace<'a>,
+    token: Token<'a>,
+    mark: Mark,
+) -> Result<Place<'a>, Stop>
+    requires { Stands (known_of symbols.now units.old) (seen_unit_place place) }
+    ensures { Leads symbols.now units.new result
+        (in_place (known_of symbols.now units.old) (seen_unit_place place.entry) (seen token.entry) mark) }
+{
+    match place {
+        UnitPlace::AtStart(Scope::Outside) => outermost(alloc, symbols, units, token, mark),
+        UnitPlace::AtStart(Scope::Inside(block)) => {
+            in_block(alloc, symbols, units, block, token, mark)
+        }
+        UnitPlace::AtClose => at_close(symbols, units, token, mark),
+        UnitPlace::AfterLabel(scope, label) => {
+            keyword(alloc, symbols, units, scope, label, token, mark)
+        }
+        UnitPlace::InDistinct(block, variables) => {
+            distinct(symbols, units, block, variables, token, mark)
+        }
+        UnitPlace::InHypothesis(block, label, expression) => {
+            hypothesis(alloc, symbols, units, block, label, expression, token, mark)
+        }
+        UnitPlace::InAxiom(scope, label, expression) => {
+            axiom_symbol(alloc, symbols, units, scope, label, expression, token, mark)
+        }
+        UnitPlace::InTheorem(scope, label, expression) => {
+            theorem_symbol(alloc, symbols, units, scope, label, expression, token, mark)
+        }
+        UnitPlace::InProof(scope, label, expression, steps) => {
+            proof_step(
+                alloc, symbols, units, scope, label, expression, steps, token, mark,
+            )
+        }
+    }
+}

@@ -1,7 +1,0 @@
--- What is left to show of `spelled_units`.
-use Rattle.mmstatement.proofs.Canonical.{spelled_unit}
-use Rattle.mmstatement.proofs.Declarable.{spelled_where_unit}
-use Rattle.mmstatement.proofs.laws.spelled_units.Goals as goal
-
-pub returns : goal.returns
-returns c = λ t a sound. (spelled_unit t a sound, spelled_where_unit t a sound)

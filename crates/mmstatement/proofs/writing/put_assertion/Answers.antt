@@ -1,6 +1,0 @@
--- What is left to show of `put_assertion`.
-use Rattle.mmstatement.proofs.Canonical.{fits_within}
-use Rattle.mmstatement.proofs.writing.put_assertion.Goals as goal
-
-pub put_unit-requires : goal.put_unit-requires
-put_unit-requires c = fits_within c.args.prelude.now c.floats-floats.ensures.sound c.args.assertion.now c.requires

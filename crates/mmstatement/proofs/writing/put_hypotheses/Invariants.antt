@@ -1,8 +1,0 @@
--- What the loop of `put_hypotheses` keeps.
-use Rattle.std.proofs.Common.{◌≡◌, ◌++◌, take}
-use Rattle.mmstatement.specs.Layout.{hypothesis_pieces}
-use Rattle.mmstatement.proofs.Pieces.{piece_lines}
-use Rattle.mmstatement.proofs.writing.put_hypotheses.Given as goal
-
-abbrev pub invariant-loop-place : goal.invariant-loop-place
-invariant-loop-place l = l.out.items ≡ l.fn.out.items ++ piece_lines (hypothesis_pieces l.prelude l.label 0 (take l.place l.hyps))

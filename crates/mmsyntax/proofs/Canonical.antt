@@ -1,0 +1,134 @@
+-- What has a spelling is spelled by its canonical text.
+use Rattle.std.proofs.Common.{◌≡◌, ℕ, ◌<◌, Bool, true, false, List, [], ◌∷◌, ◌++◌, map, Option, Some, refl, sym, ap, subst, ◌∙◌, arith}
+use Rattle.std.specs.Prelude.{All, IsTrue}
+use Rattle.std.specs.List.{flat_map, AllByRecursion}
+use Rattle.std.proofs.lemmas.List.Elements.{All-from_recursion}
+use Rattle.std.proofs.lemmas.List.Folds.{flat_map-map}
+use Rattle.std.proofs.lemmas.Grind.{flat_map-append}
+use Rattle.mmsyntax.specs.declared.statement.Symbol.{Symbol}
+use Rattle.mmsyntax.specs.declared.statement.Symbol.TheVariants.{Const, Var}
+use Rattle.mmsyntax.specs.declared.statement.Assertion.{Assertion}
+use Rattle.mmsyntax.specs.Tables.{Contents, Tables}
+use Rattle.mmsyntax.specs.Rows.{Known, nothing, prelude_alone}
+use Rattle.mmsyntax.specs.Faults.{database_of}
+use Rattle.mmsyntax.specs.Grammar.{spelling, Declares, Spells, SpellsUnit}
+use Rattle.mmsyntax.specs.Layout.{no_float, unit_statement, canonical_prelude, canonical, prelude_text, statement_text, assertion_text, text_of, IsWithin, IsFloatWithin, IsUnitWithin, IsWhole, HasSpelling, IsSoundPrelude, HasUnitSpelling}
+use Rattle.mmsyntax.specs.Assertions.{IsSymbolOf, IsExpression, IsPairOf, Fits, IsUnit, is_lawful_label}
+use Rattle.mmsyntax.proofs.Distinct.{all_weaker}
+use Rattle.mmsyntax.proofs.Lines.{clean_words, statements_words, clean_statements, statement_words, clean_statement}
+use Rattle.mmsyntax.proofs.Sound.{bare, IsFloatSound, AreSound, IsSound, nothing_sound, alone_sound}
+use Rattle.mmsyntax.proofs.Units.{statement_sound, all_sound, closed_tables}
+use Rattle.mmsyntax.proofs.Again.{float_sound}
+use Rattle.mmsyntax.proofs.Preludes.{declare_append, prelude_declares}
+use Rattle.mmsyntax.proofs.Blocks.{unit_declares, units_declare}
+use Rattle.mmsyntax.proofs.Written.{canonical_written, unit_written}
+
+-- ---- what is spelled is sound
+
+-- a database as what is known, without labels of hypotheses
+abbrev pub known_at : Contents → Known
+known_at db = record { tables = db.prelude; units = record { assertions = db.assertions; hypothesis_labels = []; prelude_closed = true } }
+
+settled : (k : Known) → IsSound k → IsSound (known_at (database_of k))
+settled k s = record { tables = s.tables; units = s.units; lawful = s.lawful; distinct = s.distinct; few = s.few; unclosed = λ h. absurd cc }
+
+known_sound : (bytes : List ℕ) (db : Contents) (s : Spells bytes db) → IsSound s.known
+known_sound bytes db s = all_sound s.statements nothing s.known nothing_sound (clean_words bytes (flat_map spelling s.statements) s.clean s.words_are) s.declared
+
+pub sound_of : (db : Contents) → HasSpelling db → IsSound (known_at db)
+sound_of db h = subst (λ (d : Contents). IsSound (known_at d)) h.spells.whole (settled h.spells.known (known_sound h.text db h.spells))
+
+pub sound_tables : (t : Tables) → IsSoundPrelude t → AreSound t
+sound_tables t h = (sound_of (record { prelude = t; assertions = [] }) h).tables
+
+-- ---- what is sound is spelled
+
+-- the canonical text is the lines of the canonical statements
+text_of-statements : (db : Contents) → text_of db ≡ flat_map statement_text (canonical db.prelude db.assertions)
+text_of-statements db =
+    let t = db.prelude in
+    ap (λ x. prelude_text t ++ x) (sym (flat_map-map statement_text (unit_statement t) db.assertions))
+    ∙ sym (flat_map-append statement_text (canonical_prelude t) (map (unit_statement t) db.assertions))
+
+pub spelled : (db : Contents) → IsSound (known_at db) → Spells (text_of db) db
+spelled db s =
+    let t = db.prelude in
+    let xs = db.assertions in
+    let ss = canonical t xs in
+    let words = canonical_written t s.tables xs s.units s.lawful in
+    let units = units_declare t s.tables false [] [] xs s.units s.lawful tt s.distinct s.few tt in
+    subst (λ (bytes : List ℕ). Spells bytes db) (sym (text_of-statements db)) (record {
+      clean = clean_statements ss words;
+      statements = ss;
+      words_are = statements_words ss words;
+      known = units.known;
+      declared = declare_append nothing (bare t) units.known (canonical_prelude t) (map (unit_statement t) xs) (prelude_declares t s.tables) units.declares;
+      whole = units.whole;
+    })
+
+pub spelled_again : (db : Contents) → HasSpelling db → Spells (text_of db) db
+spelled_again db h = spelled db (sound_of db h)
+
+-- ---- single units
+
+pub unit_spells : (t : Tables) (a : Assertion) → IsSoundPrelude t → IsUnit t a → IsTrue (is_lawful_label t a.label) → SpellsUnit t (assertion_text t a) a
+unit_spells t a sound u lawful =
+    let s = sound_tables t sound in
+    let words = unit_written t s a u lawful in
+    let one = unit_declares t s true [] [] a u lawful tt refl (omega arith) tt in
+    record {
+      clean = clean_statement (unit_statement t a) words;
+      statement = unit_statement t a;
+      words_are = statement_words (unit_statement t a) words;
+      known = record { tables = t; units = record { assertions = a ∷ []; hypothesis_labels = one.behind; prelude_closed = true } };
+      declared = one.declares;
+      single = refl;
+    }
+
+pub spelled_unit : (t : Tables) (a : Assertion) → IsSoundPrelude t → HasUnitSpelling t a → IsUnit t a × IsTrue (is_lawful_label t a.label)
+spelled_unit t a sound h =
+    let u = h.spells in
+    let before = alone_sound t true (sound_tables t sound) in
+    let words = clean_words h.text (spelling u.statement) u.clean u.words_are in
+    let s = statement_sound (prelude_alone t) u.statement u.known before words u.declared in
+    let same : t ≡ u.known.tables = closed_tables (prelude_alone t) u.statement u.known refl before u.declared in
+    let units = subst (AllByRecursion (IsUnit u.known.tables)) u.single s.units in
+    let lawful = subst (AllByRecursion (λ x. IsTrue (is_lawful_label u.known.tables x.label))) u.single s.lawful in
+    (subst (λ x. IsUnit x a) (sym same) units.0, subst (λ x. IsTrue (is_lawful_label x a.label)) (sym same) lawful.0)
+
+pub unit_spelled_again : (t : Tables) (a : Assertion) → IsSoundPrelude t → HasUnitSpelling t a → SpellsUnit t (assertion_text t a) a
+unit_spelled_again t a sound h = let both = spelled_unit t a sound h in unit_spells t a sound both.0 both.1
+
+-- ---- places
+
+pub floats_within : (t : Tables) → IsSoundPrelude t → All (IsFloatWithin t) t.floats
+floats_within t h = All-from_recursion (IsFloatWithin t) t.floats (all_weaker (IsFloatSound t) (IsFloatWithin t) t.floats (λ f x. (x.type_within, x.variable_within)) (sound_tables t h).floats_sound)
+
+module _ (t : Tables) (h : IsSoundPrelude t) where
+  symbol_within : (s : Symbol) → IsSymbolOf t s → IsWithin t s
+  symbol_within (Const i) lt = lt
+  symbol_within (Var j) lt = (lt, (floats_within t h j no_float lt).1)
+
+  expression_within : (e : List Symbol) → IsExpression t e → All (IsWithin t) e
+  expression_within e x = λ i d lt. symbol_within _ (x.symbols i d lt)
+
+  -- what fits can be written
+  pub fits_within : (a : Assertion) → Fits t a → IsUnitWithin t a
+  fits_within a f = record {
+    pairs = λ i d lt. let p = f.pairs_within i d lt in (symbol_within (Var _) (below p.0 p.1), symbol_within (Var _) p.1);
+    hyps = λ i d lt. expression_within _ (f.hyps i d lt);
+    statement = expression_within a.statement f.statement;
+  }
+    where
+      below : {a b c : ℕ} → a < b → b < c → a < c
+      below p q = omega arith
+
+pub is_whole : (db : Contents) → HasSpelling db → IsWhole db
+is_whole db h =
+    let t = db.prelude in
+    let s = sound_of db h in
+    let sound : IsSoundPrelude t = record { text = text_of (record { prelude = t; assertions = [] }); spells = spelled (record { prelude = t; assertions = [] }) (alone_sound t true s.tables) } in
+    record {
+      floats = floats_within t sound;
+      assertions = All-from_recursion (IsUnitWithin t) db.assertions (all_weaker (IsUnit t) (IsUnitWithin t) db.assertions (λ a u. fits_within t sound a u.fits) s.units);
+    }

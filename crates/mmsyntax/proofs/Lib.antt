@@ -1,0 +1,16 @@
+pub mod Names
+pub mod Distinct
+pub mod Lines
+pub mod Sound
+pub mod Ascending
+pub mod Pairs
+pub mod Found
+pub mod Units
+pub mod Numbered
+pub mod Again
+pub mod Preludes
+pub mod Blocks
+pub mod Written
+pub mod Canonical
+pub mod Declarable
+pub mod Copies

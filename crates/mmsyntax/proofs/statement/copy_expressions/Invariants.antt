@@ -1,0 +1,6 @@
+-- What the loop of `copy_expressions` keeps.
+use Rattle.std.proofs.Common.{◌≡◌, take}
+use Rattle.mmsyntax.proofs.statement.copy_expressions.Given as goal
+
+abbrev pub invariant-loop-expression : goal.invariant-loop-expression
+invariant-loop-expression l = l.made.items ≡ take l.expression-index l.expressions

@@ -1,0 +1,12 @@
+-- What is left to show of `add_variable`.
+use Rattle.std.proofs.Common.{◌≡◌, length, sym, subst, None, rules}
+use Rattle.mmsyntax.specs.Tables.{Tables, meaning}
+use Rattle.mmsyntax.proofs.Names.{indexed-variable}
+use Rattle.mmsyntax.proofs.symbols.SymbolTable.add_variable.Goals as goal
+
+pub invariant_of-self-in-Ok : goal.invariant_of-self-in-Ok
+invariant_of-self-in-Ok c =
+    let i = c.self.inside in
+    let len : c.len-place.result ≡ length i.variables.items = search rules in
+    indexed-variable i.names c.insert.new.self c.in_ok-key.key (record { constants = i.constants.items; variables = i.variables.items; floats = i.floats.items }) c.args.word.now c.len-place.result c.push.new.self.items
+    c.self.invariant (subst (λ (t : Tables). meaning t c.args.word.now ≡ None) (sym c.self.view_is) c.requires.new) c.in_ok-key.ensures.items len (search rules) c.in-Ok.ensures.updates

@@ -1,0 +1,119 @@
+//! What fits a prelude: assertions, and their labels.
+
+ghost use Rattle.std.specs.Prelude.{◌≡◌, ◌≤◌, ◌↔◌, IsTrue, [], All, length};
+ghost use Rattle.mmsyntax.specs.Assertions.{IsSymbolOf, BeginsWithConstant, IsExpression, IsPairOf, ComesBefore, AreAscending, Fits};
+ghost use Rattle.mmsyntax.specs.Assertions.{is_lawful_label};
+ghost use Rattle.mmsyntax.specs.declared.statement.Kind.TheVariants.{Axiom};
+
+use crate::prelude::Prelude;
+use crate::statement::{Assertion, Expr, Kind, Step, Symbol};
+use mmtext::{contains_dot, is_label_token};
+
+/// Whether a symbol is one of the prelude.
+fn is_symbol_of(prelude: &Prelude, symbol: Symbol) -> bool
+    ensures { IsTrue result ↔ IsSymbolOf prelude.now symbol }
+{
+    match symbol {
+        Symbol::Const(i) => (i as usize) < prelude.constants().len(),
+        Symbol::Var(j) => (j as usize) < prelude.floats().len(),
+    }
+}
+
+fn begins_with_constant(symbols: &[Symbol]) -> bool
+    ensures { IsTrue result ↔ BeginsWithConstant symbols.now }
+{
+    match symbols {
+        [Symbol::Const(_), ..] => true,
+        _ => false,
+    }
+}
+
+fn are_symbols_of(prelude: &Prelude, symbols: &[Symbol]) -> bool
+    ensures { IsTrue result ↔ All (IsSymbolOf prelude.now) symbols.now }
+{
+    symbols.iter().all(|s| is_symbol_of(prelude, *s))
+}
+
+/// Whether symbols may stand behind `$e`, `$a` or `$p`.
+fn is_expression(prelude: &Prelude, symbols: &[Symbol]) -> bool
+    ensures { IsTrue result ↔ IsExpression prelude.now symbols.now }
+{
+    begins_with_constant(symbols) && symbols.len() <= 65535 && are_symbols_of(prelude, symbols)
+}
+
+/// Whether pairs are of two different `$f` of `count`, the earlier first.
+fn are_pairs_of(count: usize, pairs: &[(u32, u32)]) -> bool
+    ensures { IsTrue result ↔ All (IsPairOf count) pairs.now }
+{
+    pairs
+        .iter()
+        .all(|pair| pair.0 < pair.1 && (pair.1 as usize) < count)
+}
+
+fn comes_before(pair: (u32, u32), next: (u32, u32)) -> bool
+    ensures { IsTrue result ↔ ComesBefore pair next }
+{
+    pair.0 < next.0 || (pair.0 == next.0 && pair.1 < next.1)
+}
+
+/// Whether pairs ascend: it is enough to compare each with the next.
+fn are_ascending(pairs: &[(u32, u32)]) -> bool
+    ensures { IsTrue result ↔ AreAscending pairs.now }
+{
+    let mut rest = pairs;
+    while let [pair, later @ ..] = rest {
+        if let [next, ..] = later
+            && !comes_before(*pair, *next)
+        {
+            return false;
+        }
+        rest = later;
+    }
+    true
+}
+
+/// Whether hypotheses may stand before a statement.
+fn are_hypotheses(prelude: &Prelude, hyps: &[Expr]) -> bool
+    ensures { IsTrue result ↔ (All (IsExpression prelude.now) hyps.now × (length hyps.now ≤ 1000)) }
+{
+    hyps.len() <= 1000 && hyps.iter().all(|e| is_expression(prelude, e.as_slice()))
+}
+
+/// Whether pairs may be the restrictions of an assertion over `count` `$f`.
+fn are_restrictions(count: usize, pairs: &[(u32, u32)]) -> bool
+    ensures { IsTrue result ↔ (All (IsPairOf count) pairs.now × AreAscending pairs.now × (length pairs.now ≤ 65535)) }
+{
+    pairs.len() <= 65535 && are_pairs_of(count, pairs) && are_ascending(pairs)
+}
+
+/// Whether steps may prove an assertion of a kind. An axiom has none.
+fn is_proof_of(kind: Kind, steps: &[Step]) -> bool
+    ensures { IsTrue result ↔ ((kind ≡ Axiom → steps.now ≡ []) × (length steps.now ≤ 16384)) }
+{
+    (kind == Kind::Theorem || steps.is_empty()) && steps.len() <= 16384
+}
+
+/// Whether an assertion is one over the prelude, within the limits. Labels, and what steps name, are not looked at.
+///
+/// It takes no memory, and about as many turns as the assertion has symbols, pairs and hypotheses.
+pub fn fits(prelude: &Prelude, assertion: &Assertion) -> bool
+    ensures { IsTrue result ↔ Fits prelude.now assertion.now }
+{
+    is_expression(prelude, assertion.statement.as_slice())
+        && are_hypotheses(prelude, assertion.hyps.as_slice())
+        && are_restrictions(prelude.floats().len(), assertion.pairs.as_slice())
+        && is_proof_of(assertion.kind, assertion.proof.as_slice())
+}
+
+/// Whether an assertion over the prelude may have a label: 1 to 255 letters, digits, `-` and `_`, and no name of the prelude.
+///
+/// One look-up in a map.
+pub fn is_lawful_label(prelude: &Prelude, label: &[u8]) -> bool
+    ensures { result ≡ is_lawful_label prelude.now label.now }
+{
+    label.len() >= 1
+        && label.len() <= 255
+        && is_label_token(label)
+        && !contains_dot(label)
+        && !prelude.look_up(label).is_some()
+}

@@ -1,0 +1,20 @@
+//! What a database text declares, as plain data, and which texts declare it.
+#![tactic(auto)]
+
+mod database;
+mod fitting;
+mod label;
+pub mod laws;
+mod prelude;
+mod sequence;
+mod statement;
+mod symbols;
+#[cfg(test)]
+mod tests;
+
+pub use database::Database;
+pub use fitting::{fits, is_lawful_label};
+pub use prelude::Prelude;
+pub use sequence::Sequence;
+pub use statement::{Assertion, Expr, Float, Frame, Kind, Label, Step, Symbol};
+pub use symbols::{Name, SymbolTable};

@@ -1,0 +1,4 @@
+pub mod Tokens
+pub mod Readings
+pub mod CommentLaws
+pub mod Turns

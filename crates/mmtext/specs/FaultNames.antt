@@ -1,0 +1,36 @@
+-- The number and the name of each kind of fault.
+use Rattle.std.specs.Prelude.{ℕ, List, ◌∷◌, ◌++◌, codes}
+use Rattle.std.specs.Fmt.{decimal}
+use Rattle.mmtext.specs.declared.fault.FaultKind.{FaultKind}
+use Rattle.mmtext.specs.declared.fault.FaultKind.TheVariants.{BadByte, BadToken, Unfinished, OutOfProfile, UnknownSymbol}
+use Rattle.mmtext.specs.declared.fault.FaultKind.TheVariants.{RepeatedLabel, BadLabel, NoTypeFor, TooLong, NoMemory}
+
+-- numbers from 1
+abbrev pub number_of : FaultKind → ℕ
+number_of BadByte = 1
+number_of BadToken = 2
+number_of Unfinished = 3
+number_of OutOfProfile = 4
+number_of UnknownSymbol = 5
+number_of RepeatedLabel = 6
+number_of BadLabel = 7
+number_of NoTypeFor = 8
+number_of TooLong = 9
+number_of NoMemory = 10
+
+-- the names as messages print them
+abbrev pub name_of : FaultKind → List ℕ
+name_of BadByte = codes "BadByte"
+name_of BadToken = codes "BadToken"
+name_of Unfinished = codes "Unfinished"
+name_of OutOfProfile = codes "OutOfProfile"
+name_of UnknownSymbol = codes "UnknownSymbol"
+name_of RepeatedLabel = codes "RepeatedLabel"
+name_of BadLabel = codes "BadLabel"
+name_of NoTypeFor = codes "NoTypeFor"
+name_of TooLong = codes "TooLong"
+name_of NoMemory = codes "NoMemory"
+
+-- number, space, name
+abbrev pub printed_kind : FaultKind → List ℕ
+printed_kind kind = decimal (number_of kind) ++ 32 ∷ name_of kind

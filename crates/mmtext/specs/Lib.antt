@@ -1,0 +1,6 @@
+pub mod Words
+pub mod Text
+pub mod Languages
+pub mod Comments
+pub mod FaultNames
+pub mod Views

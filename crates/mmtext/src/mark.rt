@@ -1,0 +1,196 @@
+//! The words of the language.
+
+ghost use Rattle.std.specs.Prelude.{◌≡◌};
+ghost use Rattle.mmtext.specs.Words.{has_dollar, is_label_byte, is_label, has_dot, is_digit, all_digits, is_count, has_number};
+ghost use Rattle.mmtext.specs.Words.{has_hypothesis_form};
+ghost use Rattle.mmtext.specs.Text.{mark_of, begins_comment_mark, has_comment_mark};
+
+/// What a token is by itself.
+#[derive(Clone, Copy, Debug, PartialEq, Eq)]
+pub enum Mark {
+    /// `$c`
+    Constants,
+    /// `$v`
+    Variables,
+    /// `$f`
+    Floating,
+    /// `$a`
+    Axiom,
+    /// `$.`
+    End,
+    /// `$p`
+    Provable,
+    /// `$e`
+    Essential,
+    /// `$d`
+    Disjoint,
+    /// `${`
+    Opening,
+    /// `$}`
+    Closing,
+    /// `$=`
+    Proof,
+    /// `$(`
+    Comment,
+    /// `$)`
+    Uncomment,
+    /// `$[`
+    Include,
+    /// `$]`
+    Included,
+    /// Any other token with a `$`.
+    Stray,
+    /// No `$`.
+    Plain,
+}
+
+/// Whether a `$` stands in a word. A math symbol and a label have none.
+pub fn contains_dollar(word: &[u8]) -> bool
+    ensures { result ≡ has_dollar word.now }
+{
+    word.iter().any(|b| *b == b'$')
+}
+
+pub fn contains_dot(word: &[u8]) -> bool
+    ensures { result ≡ has_dot word.now }
+{
+    word.iter().any(|b| *b == b'.')
+}
+
+fn may_stand_in_label(b: u8) -> bool
+    ensures { result ≡ is_label_byte b }
+{
+    (b >= b'A' && b <= b'Z')
+        || (b >= b'a' && b <= b'z')
+        || (b >= b'0' && b <= b'9')
+        || b == b'-'
+        || b == b'_'
+        || b == b'.'
+}
+
+/// Whether a token has only bytes of a label.
+pub fn is_label_token(word: &[u8]) -> bool
+    ensures { result ≡ is_label word.now }
+{
+    word.iter().all(|b| may_stand_in_label(*b))
+}
+
+fn is_decimal_digit(b: u8) -> bool
+    ensures { result ≡ is_digit b }
+{
+    b >= b'0' && b <= b'9'
+}
+
+fn are_digits(word: &[u8]) -> bool
+    ensures { result ≡ all_digits word.now }
+{
+    word.iter().all(|b| is_decimal_digit(*b))
+}
+
+/// Whether the bytes are a decimal number from 1 without leading zero.
+fn is_number_from_one(word: &[u8]) -> bool
+    ensures { result ≡ is_count word.now }
+{
+    match word {
+        [] => false,
+        [first, rest @ ..] => { *first >= b'1' && *first <= b'9' && are_digits(rest) }
+    }
+}
+
+/// Whether the word is bytes of a label, a dot and a number.
+pub fn names_hypothesis(word: &[u8]) -> bool
+    ensures { result ≡ has_hypothesis_form word.now }
+{
+    let mut rest = word;
+    let mut some = false;
+    while let [b, others @ ..] = rest {
+        if some && *b == b'.' && is_number_from_one(others) {
+            return true;
+        }
+        if !may_stand_in_label(*b) {
+            return false;
+        }
+        some = true;
+        rest = others;
+    }
+    false
+}
+
+fn starts_with_parenthesis(word: &[u8]) -> bool
+    ensures { result ≡ begins_comment_mark word.now }
+{
+    match word {
+        [] => false,
+        [c, ..] => *c == b'(' || *c == b')',
+    }
+}
+
+/// Whether `$(` or `$)` stands somewhere in a word: in a comment such a word is at fault.
+pub fn contains_comment_mark(word: &[u8]) -> bool
+    ensures { result ≡ has_comment_mark word.now }
+{
+    let mut rest = word;
+    while let [b, others @ ..] = rest {
+        if *b == b'$' && starts_with_parenthesis(others) {
+            return true;
+        }
+        rest = others;
+    }
+    false
+}
+
+/// The mark of a token: which word of the language it is, if it has a `$`.
+#[tactic(auto, unfolding(crate::specs::Text::mark_of))]
+pub fn mark_word(word: &[u8]) -> Mark
+    ensures { result ≡ mark_of word.now }
+{
+    if !contains_dollar(word) {
+        return Mark::Plain;
+    }
+    if word == b"$c".as_slice() {
+        return Mark::Constants;
+    }
+    if word == b"$v".as_slice() {
+        return Mark::Variables;
+    }
+    if word == b"$f".as_slice() {
+        return Mark::Floating;
+    }
+    if word == b"$a".as_slice() {
+        return Mark::Axiom;
+    }
+    if word == b"$.".as_slice() {
+        return Mark::End;
+    }
+    if word == b"$p".as_slice() {
+        return Mark::Provable;
+    }
+    if word == b"$e".as_slice() {
+        return Mark::Essential;
+    }
+    if word == b"$d".as_slice() {
+        return Mark::Disjoint;
+    }
+    if word == b"${".as_slice() {
+        return Mark::Opening;
+    }
+    if word == b"$}".as_slice() {
+        return Mark::Closing;
+    }
+    if word == b"$=".as_slice() {
+        return Mark::Proof;
+    }
+    if word == b"$(".as_slice() {
+        return Mark::Comment;
+    }
+    if word == b"$)".as_slice() {
+        return Mark::Uncomment;
+    }
+    if word == b"$[".as_slice() {
+        return Mark::Include;
+    }
+    if word == b"$]".as_slice() {
+        return Mark::Included;
+    }
+    Mark::Stray
+}
