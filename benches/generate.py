@@ -6,6 +6,7 @@
     generate.py hypotheses FILE --count N            one axiom with N hypotheses
     generate.py pairs FILE --count N                 one axiom with one $d of N variables
     generate.py proof FILE --count N                 one theorem with a proof of N steps
+    generate.py theorems FILE --megabytes N          4,092 theorems with long proofs behind 4 axioms, about N MB
     generate.py axioms FILE --count N                a database of N short axioms, labels a0 ..
     generate.py renames FILE --count N --axioms M    N transactions, each renaming one of M axioms, again and again
     generate.py real DB FILE FILE --count N          two scripts for a database: the first renames N of its axioms, the second
@@ -105,6 +106,49 @@ def make_proof(path, count):
         write_tokens(file, ["th", "$p", "|-", "$=", "ax", *["mp"] * (count - 1), "$."])
 
 
+class Formula:
+    """A formula by its symbols, and by the steps that build it."""
+
+    def __init__(self, symbols, steps):
+        self.symbols, self.steps = symbols, steps
+
+    def implies(self, other):
+        return Formula(["(", *self.symbols, "->", *other.symbols, ")"], [*self.steps, *other.steps, "wi"])
+
+
+def formula(chance, leaves):
+    if leaves == 1:
+        variable = chance.choice("PQR")
+        return Formula([variable], [f"w{variable.lower()}"])
+    left = chance.randrange(1, leaves)
+    return formula(chance, left).implies(formula(chance, leaves - left))
+
+
+def identity(a):
+    """The steps that prove ( a -> a ) from the two axioms of implication."""
+    aa = a.implies(a)
+    aaa, outer = a.implies(aa), a.implies(aa.implies(a))
+    first = [*a.steps, *aa.steps, "a1"]
+    second = [*a.steps, *aa.steps, *a.steps, "a2"]
+    middle = [*outer.steps, *aaa.implies(aa).steps, *first, *second, "mp"]
+    return [*aaa.steps, *aa.steps, *a.steps, *a.steps, "a1", *middle, "mp"]
+
+
+def make_theorems(path, size, count, seed):
+    """Theorems |- ( A -> A ), each by a proof of its own over random formulas A of about the same size."""
+    chance = random.Random(seed)
+    # A leaf takes about 39 steps of a proof, with its share of the rest, of 3 bytes each and a space.
+    leaves = max(1, size // count // 165)
+    with open(path, "w", encoding="ascii") as file:
+        file.write("$c ( ) -> wff |- $.\n$v P Q R $.\nwp $f wff P $.\nwq $f wff Q $.\nwr $f wff R $.\n")
+        file.write("wi $a wff ( P -> Q ) $.\na1 $a |- ( P -> ( Q -> P ) ) $.\n")
+        file.write("a2 $a |- ( ( P -> ( Q -> R ) ) -> ( ( P -> Q ) -> ( P -> R ) ) ) $.\n")
+        file.write("${\nmin $e |- P $.\nmaj $e |- ( P -> Q ) $.\nmp $a |- Q $.\n$}\n")
+        for i in range(count):
+            a = formula(chance, leaves)
+            write_tokens(file, [f"t{i}", "$p", "|-", *a.implies(a).symbols, "$=", *identity(a), "$."])
+
+
 def make_axioms(path, count):
     with open(path, "w", encoding="ascii") as file:
         file.write("$c wff -> ( ) $.\n$v p q $.\nwp $f wff p $.\nwq $f wff q $.\n")
@@ -146,6 +190,11 @@ def main():
     blocks.add_argument("file")
     blocks.add_argument("--megabytes", type=float, required=True)
     blocks.add_argument("--seed", type=int, default=1)
+    theorems = kinds.add_parser("theorems")
+    theorems.add_argument("file")
+    theorems.add_argument("--megabytes", type=float, required=True)
+    theorems.add_argument("--count", type=int, default=4092)
+    theorems.add_argument("--seed", type=int, default=1)
     for kind in ("hypotheses", "pairs", "proof"):
         single = kinds.add_parser(kind)
         single.add_argument("file")
@@ -173,6 +222,8 @@ def main():
         make_pairs(options.file, options.count)
     elif options.kind == "proof":
         make_proof(options.file, options.count)
+    elif options.kind == "theorems":
+        make_theorems(options.file, int(options.megabytes * 1_000_000), options.count, options.seed)
     elif options.kind == "axioms":
         make_axioms(options.file, options.count)
     elif options.kind == "renames":

@@ -1,5 +1,6 @@
 -- Lists of different labels: what keeps them different, a permutation and a replacement.
-use Rattle.std.proofs.Common.{◌≡◌, ◌≢◌, ℕ, zero, suc, ◌<◌, ◌≤◌, true, false, List, [], ◌∷◌, length, get_or, map, sym, subst, ◌∙◌, inl, inr, arith}
+use Rattle.std.proofs.Common.{◌≡◌, ◌≢◌, ℕ, zero, suc, ◌<◌, ◌≤◌, true, false, List, [], ◌∷◌, length, get_or, map, sym, subst, ◌∙◌, inl}
+use Rattle.std.proofs.Common.{inr, arith}
 use Rattle.std.specs.List.{list_any, count_by}
 use Rattle.std.specs.List.Sorted.{IsPermutation}
 use Rattle.std.specs.Str.{bytes_eq}
@@ -10,7 +11,7 @@ use Rattle.std.proofs.lemmas.List.Sorted.{sum_by-IsPermutation}
 use Rattle.mmsyntax.specs.Assertions.{Distinct}
 use Rattle.mmsyntax.proofs.Names.{same_bytes, bytes_eq-same, bytes_eq-sym}
 use Rattle.mmsyntax.proofs.Distinct.{or_false, any_at, any-map}
-use Rattle.commands.specs.Edits.{replacing}
+use Rattle.proofcheck.specs.Laws.{replacing}
 use Rattle.commands.proofs.Counts.{one_if, none_counted, none_from_count}
 
 -- ---- places

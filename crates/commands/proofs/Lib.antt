@@ -2,7 +2,9 @@ pub mod Counts
 pub mod Labels
 pub mod Places
 pub mod Showing
-pub mod Theorems
+pub mod Derivations
+pub mod Frames
+pub mod Lower
 pub mod Opening
 pub mod Renaming
 pub mod Editing

@@ -1,17 +1,21 @@
 -- The opening library of a database verifies.
-use Rattle.std.proofs.Common.{◌≡◌, ℕ, zero, suc, ◌+◌, ◌<◌, ◌≤◌, List, [], ◌∷◌, ◌++◌, length, get_or, take, drop, map, max, refl, sym, ap, subst, arith}
+use Rattle.std.proofs.Common.{◌≡◌, ℕ, zero, suc, ◌+◌, ◌*◌, ◌<◌, ◌≤◌, List, [], ◌∷◌, length, get_or, take, map, max, refl, sym, ap, subst}
+use Rattle.std.proofs.Common.{◌∙◌, arith}
 use Rattle.std.specs.List.{All}
 use Rattle.std.proofs.lemmas.List.Elements.{All-nil, All-cons}
-use Rattle.mmsyntax.specs.declared.statement.Kind.TheVariants.{Axiom}
+use Rattle.std.proofs.lemmas.Option.{slice_get-get_or}
 use Rattle.mmsyntax.specs.declared.statement.Assertion.{Assertion}
 use Rattle.mmsyntax.specs.Tables.{Contents}
 use Rattle.mmsyntax.specs.Layout.{HasSpelling}
 use Rattle.mmsyntax.specs.Assertions.{IsDeclarable}
 use Rattle.mmsyntax.proofs.Declarable.{declarable}
+use Rattle.proofcheck.specs.Databases.{AllCheck, frame_in}
+use Rattle.proofcheck.specs.Derivation.{Checks}
 use Rattle.commands.specs.declared.library.Ranked.{Ranked}
-use Rattle.commands.specs.Library.{Verifies, EachFollows, ranked_from, opening}
+use Rattle.commands.specs.Library.{Setting, Verifies, lower, ranked_from, opening}
 use Rattle.commands.specs.Laws.{OpeningsVerify}
-use Rattle.commands.proofs.Showing.{InRange, verifies_shown}
+use Rattle.commands.proofs.Lower.{lower_none, lower_first}
+use Rattle.commands.proofs.Showing.{InRange, ChecksIn, verifies_shown}
 
 -- ---- assertions with their ranks
 
@@ -27,32 +31,53 @@ length-ranked_from : (k : ℕ) (xs : List Assertion) → length (ranked_from k x
 length-ranked_from k [] = refl
 length-ranked_from k (a ∷ xs) = ap (λ n. suc n) (length-ranked_from (k + 1) xs)
 
--- a list at one of its places
-taken_apart : {A : Type 0} (xs : List A) (i : ℕ) (d : A) → i < length xs → xs ≡ take i xs ++ get_or xs i d ∷ drop (suc i) xs
-taken_apart [] i d lt = absurd (omega arith)
-taken_apart (x ∷ xs) zero d lt = refl
-taken_apart (x ∷ xs) (suc i) d lt = ap (λ ys. x ∷ ys) (taken_apart xs i d (omega arith))
+get_or-ranked_from : (k : ℕ) (xs : List Assertion) (i : ℕ) (d : Ranked) → i < length xs
+    → get_or (ranked_from k xs) i d ≡ record { rank = 100 * (k + i); assertion = get_or xs i d.assertion }
+get_or-ranked_from k [] i d lt = absurd (omega arith)
+get_or-ranked_from k (a ∷ xs) zero d lt = ap (λ n. record { rank = 100 * n; assertion = a }) (let e : k ≡ k + 0 = omega arith in e)
+get_or-ranked_from k (a ∷ xs) (suc i) d lt =
+    get_or-ranked_from (k + 1) xs i d (omega arith)
+    ∙ ap (λ n. record { rank = 100 * n; assertion = get_or xs i d.assertion }) (let e : k + 1 + i ≡ k + suc i = omega arith in e)
+
+-- ---- those of lower rank
+
+none_lower : (k : ℕ) (xs : List Assertion) (rank : ℕ) → rank ≤ 100 * k → lower (ranked_from k xs) rank ≡ []
+none_lower k [] rank le = refl
+none_lower k (a ∷ xs) rank le = lower_none _ _ rank le ∙ none_lower (k + 1) xs rank (omega arith)
+
+-- the assertions of lower rank are those that stand earlier
+lower-ranked_from : (k : ℕ) (xs : List Assertion) (i : ℕ) → lower (ranked_from k xs) (100 * (k + i)) ≡ take i xs
+lower-ranked_from k xs zero = none_lower k xs (100 * (k + 0)) (omega arith)
+lower-ranked_from k [] (suc i) = refl
+lower-ranked_from k (a ∷ xs) (suc i) =
+    lower_first _ (ranked_from (k + 1) xs) (100 * (k + suc i)) (omega arith)
+    ∙ ap (λ n. a ∷ lower (ranked_from (k + 1) xs) (100 * n)) (let e : k + suc i ≡ k + 1 + i = omega arith in e)
+    ∙ ap (λ ys. a ∷ ys) (lower-ranked_from (k + 1) xs i)
 
 -- ---- the opening
 
--- where each assertion follows from those before it, today each is an axiom
-pub follow_axioms : (db : Contents) → EachFollows db → All (λ a. a.kind ≡ Axiom) db.assertions
-follow_axioms db follows = λ i d lt.
-    let split = taken_apart db.assertions i d lt in
-    follows (take i db.assertions) (drop (suc i) db.assertions) (get_or db.assertions i d) split
+opening_checks : (db : Contents) (s : Setting) → s.prelude ≡ db.prelude → AllCheck db → All (ChecksIn s (opening db)) (opening db)
+opening_checks db s prelude all = λ i d i_in.
+    let xs = db.assertions in
+    let lt : i < length xs = omega (arith, length-ranked_from 1 xs) in
+    let a = get_or xs i d.assertion in
+    let checks = all i a (slice_get-get_or xs i d.assertion lt) in
+    let there = subst (λ ys. Checks (frame_in db.prelude ys) db.prelude a) (sym (lower-ranked_from 1 xs i)) checks in
+    subst (λ e. ChecksIn s (opening db) e) (sym (get_or-ranked_from 1 xs i d lt))
+    (subst (λ t. Checks (frame_in t (lower (opening db) (100 * (1 + i)))) t a) (sym prelude) there)
 
 -- with as many slots as one likes, if there is room
-pub opening_verifies_in : (db : Contents) (slots : ℕ) → HasSpelling db → EachFollows db → 1 ≤ slots → slots ≤ 4096
+pub opening_verifies_in : (db : Contents) (slots : ℕ) → HasSpelling db → AllCheck db → 1 ≤ slots → slots ≤ 4096
     → length db.assertions ≤ slots → Verifies (record { prelude = db.prelude; slots = slots }) (opening db)
-opening_verifies_in db slots h follows some few room =
+opening_verifies_in db slots h all some few room =
     let d = declarable db h in
     let xs = db.assertions in
+    let s : Setting = record { prelude = db.prelude; slots = slots } in
     let n = length-ranked_from 1 xs in
-    verifies_shown (record { prelude = db.prelude; slots = slots }) (opening db) (record { sound = d.prelude; some = some; few = few })
-    (ranks_fit 1 xs (omega arith) (omega arith)) (omega arith) (subst (IsDeclarable db.prelude) (sym (assertions-ranked_from 1 xs)) d)
-    (subst (All (λ a. a.kind ≡ Axiom)) (sym (assertions-ranked_from 1 xs)) (follow_axioms db follows))
+    verifies_shown s (opening db) (record { sound = d.prelude; some = some; few = few }) (ranks_fit 1 xs (omega arith) (omega arith))
+    (omega arith) (subst (IsDeclarable db.prelude) (sym (assertions-ranked_from 1 xs)) d) (opening_checks db s refl all)
 
 pub opening_verifies : OpeningsVerify
-opening_verifies db h follows =
+opening_verifies db h all =
     let few = (declarable db h).few in
-    opening_verifies_in db (max 1 (length db.assertions)) h follows (omega arith) (omega arith) (omega arith)
+    opening_verifies_in db (max 1 (length db.assertions)) h all (omega arith) (omega arith) (omega arith)

@@ -17,8 +17,8 @@ use Rattle.commands.proofs.Counts.{one_if, counted_front, counted_back}
 -- ---- after a sort
 
 -- from the clause `sorted` of a sort by a closure that compares by R
-pub sorted_by : {X : Type 0} {R : X → X → Ordering} (o : IsTotalOrder R) {F : Type 0} {g : Mut F (Bor X × (Bor X × Unit {0})) Ordering} {f : F} (xs : List X)
-    → ((lt : X → X → Bool) → IsStrictWeakOrder lt → ComparesAs g lt f → IsSortedBy lt xs)
+pub sorted_by : {X : Type 0} {R : X → X → Ordering} (o : IsTotalOrder R) {F : Type 0} {g : Mut F (Bor X × (Bor X × Unit {0})) Ordering}
+    {f : F} (xs : List X) → ((lt : X → X → Bool) → IsStrictWeakOrder lt → ComparesAs g lt f → IsSortedBy lt xs)
     → ((a : Bor X × (Bor X × Unit {0})) (r : Ordering) (f' : F) → Called g f a r f' → (r ≡ R a.0.now a.1.0.now) × (f' ≡ f)) → IsSorted R xs
 sorted_by {X} {R} o {F} {g} {f} xs up h =
     up (λ x y. is_lt (R x y)) (ranks_by o (λ x. x))
@@ -49,7 +49,8 @@ module _ {X : Type 0} {R : X → X → Ordering} (o : IsTotalOrder R) where
       let front : k < count_by upto ys = counted_front upto ys k d k_in (λ j le. ap not (sorted_far lt weak ys rise j k d le k_in)) in
       let above = λ (j : ℕ) (le : k ≤ j) (j_in : j < length xs).
       let z = get_or xs j d in
-      true_from_ne_false (is_lt (R y z)) (λ q. both_ways (is_lt (R y x)) (weak.chain y z x q (sorted_far lt weak xs up k j d le j_in)) below) in
+      true_from_ne_false (is_lt (R y z))
+      (λ q. both_ways (is_lt (R y x)) (weak.chain y z x q (sorted_far lt weak xs up k j d le j_in)) below) in
       let back : count_by upto xs ≤ k = counted_back upto xs k d (λ j le j_in. ap not (above j le j_in)) in
       omega (arith, sum_by-IsPermutation (one_if upto) xs ys same))
 

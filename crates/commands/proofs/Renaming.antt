@@ -1,92 +1,30 @@
--- What a renaming does to a library that verifies: one entry changes, and it still verifies.
-use Rattle.std.proofs.Common.{◌≡◌, ℕ, ◌<◌, ◌≤◌, true, false, List, [], ◌∷◌, Some, length, get_or, set, map, refl, sym, ap, subst, ◌∙◌, inl, inr, arith}
-use Rattle.std.specs.Prelude.{IsTrue}
-use Rattle.std.specs.List.{list_any, slice_get, All}
+-- What a renaming does to a library that verifies: it still verifies.
+use Rattle.std.proofs.Common.{◌≡◌, ◌≢◌, ◌≤◌, ℕ, true, false, cond, List, [], ◌∷◌, map, refl, sym, ap, subst, ◌∙◌}
+use Rattle.std.specs.Prelude.{IsTrue, nat_lt, filter}
+use Rattle.std.specs.List.{All}
 use Rattle.std.specs.Str.{bytes_eq}
-use Rattle.std.proofs.lemmas.Bool.{cases_eq, cond_both, false_from_ne_true}
-use Rattle.std.proofs.lemmas.List.{length-map, length-set, get_or-map, get_or-set_same, get_or-set_other, get_or_default, same_lists}
+use Rattle.std.proofs.lemmas.Bool.{cond_both, both_ways}
+use Rattle.std.proofs.lemmas.List.{length-map}
 use Rattle.std.proofs.lemmas.List.Elements.{All-map, All-weaker}
-use Rattle.std.proofs.lemmas.List.Folds.{list_any_none}
-use Rattle.std.proofs.lemmas.Option.{slice_get_within, get_or_from_slice_get}
-use Rattle.mmsyntax.specs.declared.statement.Kind.TheVariants.{Axiom}
 use Rattle.mmsyntax.specs.declared.statement.Assertion.{Assertion}
 use Rattle.mmsyntax.specs.Tables.{Tables}
 use Rattle.mmsyntax.specs.Assertions.{is_lawful_label, Distinct, Fits}
-use Rattle.mmsyntax.proofs.Names.{same_bytes, bytes_eq-same}
+use Rattle.proofcheck.specs.Laws.{replacing, step_relabelled, renamed}
+use Rattle.proofcheck.specs.Derivation.{Proves}
+use Rattle.proofcheck.specs.Databases.{frame_in}
+use Rattle.proofcheck.proofs.Relabelling.{renamed-proves}
 use Rattle.commands.specs.declared.library.Ranked.{Ranked}
-use Rattle.commands.specs.Library.{Setting, IsLibrary, Verifies, label_of}
-use Rattle.commands.specs.Edits.{replacing, step_renamed, renamed, rename, cites, citers, has, is_citation}
-use Rattle.commands.proofs.Counts.{none_counted}
-use Rattle.commands.proofs.Labels.{replacing-old, replacing-other, distinct_replaced}
-use Rattle.commands.proofs.Places.{has-labels, labels_apart}
-use Rattle.commands.proofs.Showing.{InRange}
-
--- ---- no proof has steps
-
-pub no_steps : (s : Setting) (lib : List Ranked) → Verifies s lib → All (λ e. e.assertion.proof ≡ []) lib
-no_steps s lib v = λ i d lt. (v.fit i d lt).no_axiom_proof (v.axioms i d lt)
-
--- so none cites a label
-pub citers_none : (s : Setting) (lib : List Ranked) (label : List ℕ) → Verifies s lib → citers lib label ≡ 0
-citers_none s lib label v =
-    none_counted (cites label) lib (list_any_none (cites label) lib (λ i d lt. ap (list_any (is_citation label)) (no_steps s lib v i d lt)))
-
--- ---- one entry
-
-abbrev pub relabelled : List ℕ → Ranked → Ranked
-relabelled new e = record { rank = e.rank; assertion = record e.assertion { label = new } }
+use Rattle.commands.specs.Library.{Setting, IsLibrary, Verifies, label_of, lower}
+use Rattle.commands.specs.Edits.{rename, has}
+use Rattle.commands.proofs.Labels.{distinct_replaced}
+use Rattle.commands.proofs.Lower.{lower_all}
+use Rattle.commands.proofs.Places.{has-labels, has_at}
+use Rattle.commands.proofs.Showing.{InRange, ChecksIn}
 
 abbrev renamed_entry : List ℕ → List ℕ → Ranked → Ranked
 renamed_entry old new e = record { rank = e.rank; assertion = renamed old new e.assertion }
 
--- of an entry without steps only the label can change
-renamed_alone : (old new l : List ℕ) (e : Ranked) → e.assertion.proof ≡ [] → replacing old new (label_of e) ≡ l
-    → renamed_entry old new e ≡ relabelled l e
-renamed_alone old new l e none h =
-    let steps : map (step_renamed old new) e.assertion.proof ≡ e.assertion.proof = ap (map (step_renamed old new)) none ∙ sym none in
-    ap (λ k. record { rank = e.rank; assertion = record e.assertion { label = k; proof = map (step_renamed old new) e.assertion.proof } }) h
-    ∙ ap (λ p. record { rank = e.rank; assertion = record e.assertion { label = l; proof = p } }) steps
-
-renamed-old : (old new : List ℕ) (e : Ranked) → e.assertion.proof ≡ [] → label_of e ≡ old → renamed_entry old new e ≡ relabelled new e
-renamed-old old new e none h =
-    renamed_alone old new new e none (replacing-old old new (label_of e) (subst (λ l. bytes_eq old l ≡ true) (sym h) (bytes_eq-same old)))
-
-renamed-other : (old new : List ℕ) (e : Ranked) → e.assertion.proof ≡ [] → (label_of e ≡ old → ⊥) → renamed_entry old new e ≡ e
-renamed-other old new e none h =
-    renamed_alone old new (label_of e) e none
-    (replacing-other old new (label_of e) (false_from_ne_true (bytes_eq old (label_of e)) (λ y. h (sym (same_bytes old (label_of e) y)))))
-
--- ---- the place of the old label
-
--- where the entry at i has the old label, it alone is changed
-pub rename_at : (s : Setting) (lib : List Ranked) → Verifies s lib → (old new : List ℕ) (i : ℕ) (d : Ranked) → i < length lib
-    → label_of (get_or lib i d) ≡ old
-    → rename old new lib ≡ set lib i (relabelled new (get_or lib i d))
-rename_at s lib v old new i d i_in h =
-    let f = renamed_entry old new in
-    let y = relabelled new (get_or lib i d) in
-    same_lists (map f lib) (set lib i y) (length-map lib f ∙ sym (length-set lib i y)) (λ k z k_in.
-    let k_lt : k < length lib = omega (arith, length-map lib f) in
-    get_or-map f lib k d z k_lt ∙ elim (cases_eq k i) [
-      | inl e ↦
-          ap (λ m. f (get_or lib m d)) e
-          ∙ renamed-old old new (get_or lib i d) (no_steps s lib v i d i_in) h
-          ∙ sym (ap (λ m. get_or (set lib i y) m z) e ∙ get_or-set_same lib i y z i_in)
-      | inr ne ↦
-          renamed-other old new (get_or lib k d) (no_steps s lib v k d k_lt)
-          (λ e. labels_apart lib v.library.distinct i k d i_in k_lt ne (e ∙ sym h))
-          ∙ get_or_default lib k d z k_lt
-          ∙ sym (get_or-set_other lib i k y z ne)
-    ])
-
-pub rename_entry : (s : Setting) (lib : List Ranked) → Verifies s lib → (old new : List ℕ) (i : ℕ) (e : Ranked)
-    → slice_get lib i ≡ Some e → label_of e ≡ old
-    → rename old new lib ≡ set lib i (relabelled new e)
-rename_entry s lib v old new i e at h =
-    let here = get_or_from_slice_get lib i e e at in
-    rename_at s lib v old new i e (slice_get_within lib i e at) (ap label_of here ∙ h) ∙ ap (λ x. set lib i (relabelled new x)) here
-
--- ---- the library after it
+-- ---- what stays
 
 fits_renamed : (t : Tables) (old new : List ℕ) (a : Assertion) → Fits t a → Fits t (renamed old new a)
 fits_renamed t old new a f = record {
@@ -96,8 +34,8 @@ fits_renamed t old new a f = record {
   pairs_within = f.pairs_within;
   pairs_ascend = f.pairs_ascend;
   few_pairs = f.few_pairs;
-  no_axiom_proof = λ e. ap (map (step_renamed old new)) (f.no_axiom_proof e);
-  few_steps = subst (λ n. n ≤ 16384) (sym (length-map a.proof (step_renamed old new))) f.few_steps;
+  no_axiom_proof = λ e. ap (map (step_relabelled (replacing old new))) (f.no_axiom_proof e);
+  few_steps = subst (λ n. n ≤ 16384) (sym (length-map a.proof (step_relabelled (replacing old new)))) f.few_steps;
 }
 
 labels-rename : (old new : List ℕ) (lib : List Ranked) → map label_of (rename old new lib) ≡ map (replacing old new) (map label_of lib)
@@ -119,6 +57,37 @@ library_renamed s lib old new l lawful free =
       room = subst (λ n. n ≤ s.slots) (sym (length-map lib f)) l.room;
     }
 
+-- ---- the proofs
+
+-- ranks stay, so the assertions of lower rank are the same ones, renamed
+lower-rename : (old new : List ℕ) (lib : List Ranked) (rank : ℕ) → lower (rename old new lib) rank ≡ map (renamed old new) (lower lib rank)
+lower-rename old new [] rank = refl
+lower-rename old new (e ∷ lib) rank =
+    let later = lower-rename old new lib rank in
+    let rest = filter (λ (f : Ranked). nat_lt f.rank rank) lib in
+    let rest' = filter (λ (f : Ranked). nat_lt f.rank rank) (rename old new lib) in
+    let assertion = λ (f : Ranked). f.assertion in
+    elim (nat_lt e.rank rank) as (λ b. map assertion (cond b (renamed_entry old new e ∷ rest') rest')
+    ≡ map (renamed old new) (map assertion (cond b (e ∷ rest) rest))) [
+      | true ↦ ap (λ xs. renamed old new e.assertion ∷ xs) later
+      | false ↦ later
+    ]
+
+-- an assertion of lower rank does not have a label that none has
+none_new : (lib : List Ranked) (new : List ℕ) (rank : ℕ) → has lib new ≡ false → All (λ a. a.label ≢ new) (lower lib rank)
+none_new lib new rank free =
+    lower_all (λ a. a.label ≢ new) lib rank
+    (λ e at lt same. both_ways (has lib new) free (has_at lib new at.0 e at.1 (ap label_of at.2 ∙ same)))
+
+checks_renamed : (s : Setting) (lib : List Ranked) (old new : List ℕ) (e : Ranked) → has lib new ≡ false → ChecksIn s lib e
+    → ChecksIn s (rename old new lib) (renamed_entry old new e)
+checks_renamed s lib old new e free h = λ theorem.
+    let t = s.prelude in
+    let a = e.assertion in
+    let b = renamed old new a in
+    subst (λ xs. Proves (frame_in t xs) t b b.proof b.statement) (sym (lower-rename old new lib e.rank))
+    (renamed-proves t (lower lib e.rank) old new a (none_new lib new e.rank free) (h theorem))
+
 -- a lawful label that no assertion has may be given
 pub rename_verifies : (s : Setting) (lib : List Ranked) (old new : List ℕ) → Verifies s lib → IsTrue (is_lawful_label s.prelude new)
     → has lib new ≡ false → Verifies s (rename old new lib)
@@ -126,9 +95,11 @@ rename_verifies s lib old new v lawful free =
     let t = s.prelude in
     let Good = λ (e : Ranked). Fits t e.assertion in
     let f = renamed_entry old new in
+    let After = ChecksIn s (rename old new lib) in
     record {
       setting = v.setting;
       library = library_renamed s lib old new v.library lawful free;
       fit = All-map Good f lib (All-weaker Good (λ e. Good (f e)) (λ e. fits_renamed t old new e.assertion) lib v.fit);
-      axioms = All-map (λ e. e.assertion.kind ≡ Axiom) f lib v.axioms;
+      checks = All-map After f lib
+          (All-weaker (ChecksIn s lib) (λ e. After (f e)) (λ e. checks_renamed s lib old new e free) lib v.checks);
     }

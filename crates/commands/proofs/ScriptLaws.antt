@@ -1,5 +1,6 @@
 -- What the reader of scripts gives is what the text spells.
-use Rattle.std.proofs.Common.{◌≡◌, ℕ, suc, ◌≤◌, Bool, true, false, cond, List, [], ◌∷◌, length, Option, Some, None, Result, Ok, Err, refl, sym, ap, subst, ◌∙◌, arith}
+use Rattle.std.proofs.Common.{◌≡◌, ℕ, suc, ◌≤◌, Bool, true, false, cond, List, [], ◌∷◌, length, Option, Some, None, Result, Ok, Err, refl}
+use Rattle.std.proofs.Common.{sym, ap, subst, ◌∙◌, arith}
 use Rattle.std.specs.List.{flat_map}
 use Rattle.mmtext.specs.declared.fault.TextFault.{TextFault}
 use Rattle.mmtext.specs.Text.{Token, tokens, IsClean}
@@ -18,10 +19,7 @@ use Rattle.commands.specs.ScriptFaults.{
   whole,
   script_language,
 }
-use Rattle.commands.specs.declared.script.Stop.{Stop}
-use Rattle.commands.specs.declared.script.Stop.TheVariants as stop
-use Rattle.commands.specs.ScriptViews.{Fails, Gives}
-use Rattle.mmtext.proofs.Readings.{reading_ok, clean_reading, stops_here}
+use Rattle.mmtext.proofs.Readings.{reading_ok, clean_reading}
 use Rattle.mmtext.proofs.CommentLaws.{here, walks_outside, runs_all}
 use Rattle.commands.proofs.ScriptWords.{progress, script_ordinary, script_leads, reads_script}
 
@@ -88,17 +86,3 @@ answered bytes script found short s h = let e : Ok script ≡ Ok found = sym (re
 pub no_fault : (bytes : List ℕ) (script : List (List Command)) (f : TextFault) → length bytes ≤ 16777216 → SpellsScript bytes script
     → reading script_language bytes ≡ Err f → ⊥
 no_fault bytes script f short s h = let e : Ok script ≡ Err f = sym (reading_spelled bytes script short s) ∙ h in absurd cc
-
--- ---- what functions give
-
-pub same_reading : {X Y : Type 0} (view : X → Y) (r : Result X Stop) (a b : Result Y TextFault) → a ≡ b → Gives view r a → Gives view r b
-same_reading view r a b e h = subst (λ x. Gives view r x) e h
-
-pub stopped : (e : Stop) (text : List ℕ) (s : State Progress) (t : Token) (ts us : List Token) → us ≡ t ∷ ts
-    → Fails e (step script_language s t) → run script_language s us ≡ run script_language (start_of script_language) (tokens text)
-    → Fails e (token_reading script_language text)
-stopped stop.Memory text s t ts us is h same = tt
-stopped (stop.Fault f) text s t ts us is h same = stops_here script_language text s t ts us f is h same
-
-pub fault_given : {Y : Type 0} (e : Stop) (f : TextFault) (read : Result Y TextFault) → e ≡ stop.Fault f → Fails e read → read ≡ Err f
-fault_given e f read is h = subst (λ (x : Stop). Fails x read) is h

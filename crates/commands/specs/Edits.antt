@@ -5,8 +5,8 @@ use Rattle.std.specs.List.{list_any}
 use Rattle.std.specs.Str.{bytes_eq}
 use Rattle.mmsyntax.specs.declared.statement.Step.{Step}
 use Rattle.mmsyntax.specs.declared.statement.Step.TheVariants.{Float, Hyp, Cite}
-use Rattle.mmsyntax.specs.declared.statement.Assertion.{Assertion}
 use Rattle.mmsyntax.specs.Assertions.{is_lawful_label}
+use Rattle.proofcheck.specs.Laws.{renamed}
 use Rattle.commands.specs.declared.library.Ranked.{Ranked}
 use Rattle.commands.specs.declared.command.Command.{Command}
 use Rattle.commands.specs.declared.command.Command.TheVariants.{Rename, Show}
@@ -39,19 +39,6 @@ abbrev pub citers : List Ranked → List ℕ → ℕ
 citers lib label = count_by (cites label) lib
 
 -- ---- renaming
-
--- the new label in place of the old one, and any other label as it is
-abbrev pub replacing : List ℕ → List ℕ → List ℕ → List ℕ
-replacing old new label = if bytes_eq old label then new else label
-
-abbrev pub step_renamed : List ℕ → List ℕ → Step → Step
-step_renamed old new (Float i) = Float i
-step_renamed old new (Hyp k) = Hyp k
-step_renamed old new (Cite cited) = Cite (replacing old new cited)
-
--- the assertion with the label replaced, in itself and in its proof
-abbrev pub renamed : List ℕ → List ℕ → Assertion → Assertion
-renamed old new a = record a { label = replacing old new a.label; proof = map (step_renamed old new) a.proof }
 
 -- the library with the label replaced, in the assertion and in every proof
 abbrev pub rename : List ℕ → List ℕ → List Ranked → List Ranked

@@ -4,15 +4,16 @@ use Rattle.std.specs.Str.{bytes_eq}
 use Rattle.mmsyntax.specs.Tables.{Contents}
 use Rattle.mmsyntax.specs.Layout.{HasSpelling}
 use Rattle.mmsyntax.specs.Assertions.{Distinct}
+use Rattle.proofcheck.specs.Databases.{AllCheck}
 use Rattle.commands.specs.declared.library.Ranked.{Ranked}
 use Rattle.commands.specs.declared.command.Command.{Command}
-use Rattle.commands.specs.Library.{Setting, Verifies, label_of, setting_of, opening, EachFollows, ShowsInOrder, Listed, shown_database}
+use Rattle.commands.specs.Library.{Setting, Verifies, label_of, setting_of, opening, IsInExportOrder, ShowsInOrder, Listed, shown_database}
 use Rattle.commands.specs.Edits.{Edited, edit}
 use Rattle.commands.specs.Transactions.{apply, library_of}
 
--- the opening library of what some text declares verifies, where each assertion follows from the earlier ones
+-- the opening library of what some text declares verifies, where each proof checks over the earlier assertions
 abbrev pub OpeningsVerify : Type 0
-OpeningsVerify = (db : Contents) → HasSpelling db → EachFollows db → Verifies (setting_of db) (opening db)
+OpeningsVerify = (db : Contents) → HasSpelling db → AllCheck db → Verifies (setting_of db) (opening db)
 
 -- a command that is not refused leaves a library that verifies
 abbrev pub EditsVerify : Type 0
@@ -25,6 +26,10 @@ TransactionsVerify = (s : Setting) (lib : List Ranked) (cs : List Command) → V
 -- a library that verifies, in whatever order, is spelled as a database
 abbrev pub LibrariesAreSpelled : Type 0
 LibrariesAreSpelled = (l : Listed) → Verifies l.setting l.entries → HasSpelling (shown_database l)
+
+-- in export order, each proof of a library that verifies checks over the earlier assertions
+abbrev pub ShownLibrariesCheck : Type 0
+ShownLibrariesCheck = (l : Listed) → Verifies l.setting l.entries → IsInExportOrder l.entries → AllCheck (shown_database l)
 
 -- assertions of different labels have one export order
 abbrev pub ExportOrderIsOne : Type 0

@@ -1,16 +1,16 @@
 -- A library: what is kept, when it is sound, where it starts, and in which order it is shown.
-use Rattle.std.specs.Prelude.{◌≡◌, ◌≤◌, ◌+◌, ◌*◌, ℕ, Bool, true, false, Option, List, [], ◌∷◌, ◌++◌, length, map, max, All, IsTrue, IsPermutation, position}
+use Rattle.std.specs.Prelude.{◌≤◌, ◌+◌, ◌*◌, ℕ, List, [], ◌∷◌, length, map, filter, max, nat_lt, All, IsTrue, IsPermutation}
 use Rattle.std.specs.List.Sorted.{IsSorted}
 use Rattle.std.specs.declared.cmp.Ordering.{Ordering}
 use Rattle.std.specs.Ordering.{nat_cmp, ordering_then}
 use Rattle.std.specs.Cmp.Lexicographic.{slice_cmp}
 use Rattle.std.specs.Str.{bytes_eq}
-use Rattle.mmsyntax.specs.declared.statement.Kind.{Kind}
-use Rattle.mmsyntax.specs.declared.statement.Kind.TheVariants.{Axiom, Theorem}
 use Rattle.mmsyntax.specs.declared.statement.Assertion.{Assertion}
 use Rattle.mmsyntax.specs.Tables.{Tables, Contents}
 use Rattle.mmsyntax.specs.Layout.{IsSoundPrelude}
 use Rattle.mmsyntax.specs.Assertions.{is_lawful_label, Distinct, Fits}
+use Rattle.proofcheck.specs.Derivation.{Citable, Checks}
+use Rattle.proofcheck.specs.Databases.{frame_in}
 use Rattle.commands.specs.declared.library.Ranked.{Ranked}
 
 -- what is fixed throughout: the prelude, and how many assertions a library may hold
@@ -35,40 +35,28 @@ pub record IsLibrary (s : Setting) (lib : List Ranked) : Type 0 where
   pub distinct : Distinct bytes_eq (map label_of lib)
   pub room : length lib ≤ s.slots
 
--- a library verifies where each assertion fits and each theorem's proof derives its statement over assertions of lower rank. Today all
--- are axioms, which have nothing to derive
+-- the assertions of strictly lower rank
+abbrev pub lower : List Ranked → ℕ → List Assertion
+lower lib rank = map (λ e. e.assertion) (filter (λ e. nat_lt e.rank rank) lib)
+
+-- the frames that the proof of an assertion of a rank may cite: of the assertions of lower rank
+abbrev pub citable : Setting → List Ranked → ℕ → Citable
+citable s lib rank = frame_in s.prelude (lower lib rank)
+
+-- a library verifies where each assertion fits, and each theorem's steps are the listing of a tree that derives its statement over
+-- the assertions of lower rank (Metamath book, section 4.1.4; there, over those that stand earlier)
 pub record Verifies (s : Setting) (lib : List Ranked) : Type 0 where
   pub setting : IsSetting s
   pub library : IsLibrary s lib
   pub fit : All (λ e. Fits s.prelude e.assertion) lib
-  pub axioms : All (λ e. e.assertion.kind ≡ Axiom) lib
+  pub checks : All (λ e. Checks (citable s lib e.rank) s.prelude e.assertion) lib
 
 -- ---- the opening
-
--- an assertion follows over a prelude from the assertions that stand earlier. Today each is an axiom, which has nothing to derive; for a
--- theorem its proof is the listing of a tree that derives its statement over the earlier ones alone (Metamath book, section 4.1.4: a
--- proof names only assertions that stand earlier)
-abbrev pub FollowsFrom : Tables → List Assertion → Assertion → Type 0
-FollowsFrom t earlier a = a.kind ≡ Axiom
-
--- each assertion of a database follows from those before it
-abbrev pub EachFollows : Contents → Type 0
-EachFollows db =
-    (earlier later : List Assertion) (a : Assertion) → db.assertions ≡ earlier ++ a ∷ later → FollowsFrom db.prelude earlier a
 
 -- assertions from the k-th on: the k-th of a database has the rank 100 * k
 abbrev pub ranked_from : ℕ → List Assertion → List Ranked
 ranked_from k [] = []
 ranked_from k (a ∷ rest) = record { rank = 100 * k; assertion = a } ∷ ranked_from (k + 1) rest
-
--- a $p
-abbrev pub is_theorem : Kind → Bool
-is_theorem Axiom = false
-is_theorem Theorem = true
-
--- the place of the first theorem of a database, from 0
-abbrev pub first_theorem : Contents → Option ℕ
-first_theorem db = position (λ a. is_theorem a.kind) db.assertions
 
 -- the library of a database
 abbrev pub opening : Contents → List Ranked

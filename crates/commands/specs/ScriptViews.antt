@@ -1,12 +1,8 @@
 -- How the values of the reader of scripts are seen.
-use Rattle.std.specs.Prelude.{◌≡◌, Result, Ok, Err}
-use Rattle.mmtext.specs.declared.fault.TextFault.{TextFault}
 use Rattle.commands.specs.declared.script.Place.{Place as CodePlace}
 use Rattle.commands.specs.declared.script.Place.TheVariants as code
 use Rattle.commands.specs.declared.script.Progress.{Progress as CodeProgress}
 use Rattle.commands.specs.declared.script.State.{State as CodeState}
-use Rattle.commands.specs.declared.script.Stop.{Stop}
-use Rattle.commands.specs.declared.script.Stop.TheVariants as stop
 use Rattle.mmtext.specs.Languages.{State}
 use Rattle.commands.specs.ScriptFaults.{Place, outermost, at_command, at_old_label, at_new_label, at_shown_label, at_commit, Progress}
 
@@ -26,13 +22,3 @@ seen_progress p = record { script = p.script.items; place = seen_place p.place }
 -- the state of the code
 abbrev pub seen_state : CodeState → State Progress
 seen_state s = record { place = seen_progress s.progress; in_comment = s.in_comment }
-
--- why a function failed is why reading does, unless memory ran out
-abbrev pub Fails : {Y : Type 0} → Stop → Result Y TextFault → Type 0
-Fails stop.Memory read = Unit {0}
-Fails (stop.Fault f) read = read ≡ Err f
-
--- what a function returned, seen by view, is what reading gives
-abbrev pub Gives : {X Y : Type 0} → (X → Y) → Result X Stop → Result Y TextFault → Type 0
-Gives view (Ok x) read = read ≡ Ok (view x)
-Gives view (Err e) read = Fails e read

@@ -1,9 +1,10 @@
 //! Laws of the definitions: each function does nothing, and its contract is the law.
 
-ghost use Rattle.commands.specs.Laws.{OpeningsVerify, EditsVerify, TransactionsVerify, LibrariesAreSpelled, ExportOrderIsOne};
+ghost use Rattle.commands.specs.Laws.{OpeningsVerify, EditsVerify, TransactionsVerify};
+ghost use Rattle.commands.specs.Laws.{LibrariesAreSpelled, ShownLibrariesCheck, ExportOrderIsOne};
 
-/// The opening library of every database in which each assertion follows from the earlier ones verifies: its ranks rise by 100 from
-/// 100 on, and its labels are lawful and differ, since some text declares them.
+/// The opening library of every database whose proofs check over the earlier assertions verifies: its ranks rise by 100 from 100 on,
+/// and its labels are lawful and differ, since some text declares them.
 pub fn openings_verify()
     ensures { OpeningsVerify }
 {}
@@ -19,6 +20,12 @@ pub fn transactions_verify()
 /// assertions in that order. So its exported text is read again.
 pub fn libraries_are_spelled()
     ensures { LibrariesAreSpelled }
+{}
+
+/// A library that verifies is shown, in export order, as a database each of whose proofs checks over the earlier assertions: so its
+/// exported text is accepted.
+pub fn shown_libraries_check()
+    ensures { ShownLibrariesCheck }
 {}
 
 /// A library whose labels differ has one export order: no two assertions tie by rank and label.

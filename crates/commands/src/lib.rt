@@ -1,15 +1,16 @@
 //! Commands on a library: what each does, as a definition; the values that they speak of; and scripts, read exactly.
 #![tactic(auto)]
 
-mod axioms;
 mod command;
 mod laws;
 mod library;
 mod script;
 
-pub use axioms::first_theorem;
 pub use command::{Command, Reason, Refused, Reply, Script, Transaction};
-pub use laws::{export_order_is_one, libraries_are_spelled, openings_verify, transactions_verify};
+pub use laws::{
+    export_order_is_one, libraries_are_spelled, openings_verify, shown_libraries_check,
+    transactions_verify,
+};
 pub use library::{PlainLibrary, Ranked};
 pub use script::read_script;
 

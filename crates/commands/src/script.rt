@@ -3,52 +3,20 @@
 ghost use Rattle.std.specs.Prelude.{◌≡◌, ◌≢◌, ◌≤◌, List, length, IfOk, IfErr};
 ghost use Rattle.mmtext.specs.declared.fault.FaultKind.TheVariants.{NoMemory};
 ghost use Rattle.mmtext.specs.declared.fault.TextFault.{TextFault};
-ghost use Rattle.mmtext.specs.Views.{seen};
+ghost use Rattle.mmtext.specs.Views.{seen, Gives};
 ghost use Rattle.commands.specs.declared.command.Command.{Command};
-ghost use Rattle.commands.specs.declared.script.Stop.TheVariants.{Fault};
 ghost use Rattle.mmtext.specs.Languages.{step, said_at, finished, token_reading, reading};
 ghost use Rattle.commands.specs.Scripts.{SpellsScript, ReadsScript, RefusesScript};
 ghost use Rattle.commands.specs.ScriptFaults.{begin_row, command_row, label_in, commit_row, in_place, script_language, FaultyScript};
-ghost use Rattle.commands.specs.ScriptViews.{seen_place, seen_progress, seen_state, Gives};
+ghost use Rattle.commands.specs.ScriptViews.{seen_place, seen_progress, seen_state};
 
 use crate::command::{Command, Script, Transaction};
 use mmstatement::{FaultKind, Label, Prelude, Sequence, TextFault};
 use mmtext::{
-    Mark, Token, contains_comment_mark, contains_dollar, first_bad_byte, mark_word, next_token,
+    Stop, Token, Turn, comment_turn, contains_dollar, fault_at, mark_word, next_token, no_memory,
+    text_fault, unfinished_at,
 };
-use std::alloc::{AllocError, AllocFailed, Global};
-
-/// The most bytes that a text may have.
-const MOST_BYTES: usize = 16_777_216;
-
-/// Why a step of reading fails.
-#[derive(Debug, Drop)]
-enum Stop {
-    Memory,
-    Fault(TextFault),
-}
-
-impl From<AllocError> for Stop {
-    ghost use Rattle.std.specs.Prelude.{◌≡◌};
-    ghost use Rattle.commands.specs.declared.script.Stop.TheVariants.{Memory};
-
-    ghost from_gives = { λ _ e. e ≡ Memory };
-
-    fn from(_e: AllocError) -> Stop {
-        Stop::Memory
-    }
-}
-
-impl<T: Drop> From<AllocFailed<T>> for Stop {
-    ghost use Rattle.std.specs.Prelude.{◌≡◌};
-    ghost use Rattle.commands.specs.declared.script.Stop.TheVariants.{Memory};
-
-    ghost from_gives = { λ _ e. e ≡ Memory };
-
-    fn from(_e: AllocFailed<T>) -> Stop {
-        Stop::Memory
-    }
-}
+use std::alloc::Global;
 
 /// What was read of the transaction in which a token stands.
 #[derive(Drop)]
@@ -81,16 +49,6 @@ struct Progress {
 struct State {
     progress: Progress,
     in_comment: bool,
-}
-
-/// The fault of a kind at a token.
-fn fault_at(token: Token<'_>, kind: FaultKind) -> Stop
-    ensures { result ≡ Fault (record { place = token.entry.place; kind = kind }) }
-{
-    Stop::Fault(TextFault {
-        place: token.place,
-        kind,
-    })
 }
 
 /// `begin`.
@@ -179,7 +137,6 @@ fn next_progress(alloc: Global, progress: Progress, token: Token<'_>) -> Result<
 }
 
 /// Where a token leads.
-#[tactic(auto, unfolding(mmtext::specs::Languages::step))]
 fn advance(alloc: Global, state: State, token: Token<'_>) -> Result<State, Stop>
     ensures { Gives seen_state result (step script_language (seen_state state) (seen token.entry)) }
 {
@@ -188,29 +145,12 @@ fn advance(alloc: Global, state: State, token: Token<'_>) -> Result<State, Stop>
         in_comment,
     } = state;
     let mark = mark_word(token.text);
-    if in_comment {
-        if mark == Mark::Uncomment {
-            return Ok(State {
-                progress,
-                in_comment: false,
-            });
-        }
-        if contains_comment_mark(token.text) {
-            return Err(fault_at(token, FaultKind::BadToken));
-        }
-        return Ok(State {
+    match comment_turn(in_comment, token, mark)? {
+        Turn::Skipped(in_comment) => Ok(State {
             progress,
             in_comment,
-        });
-    }
-    match mark {
-        Mark::Comment => Ok(State {
-            progress,
-            in_comment: true,
         }),
-        Mark::Include | Mark::Included => Err(fault_at(token, FaultKind::OutOfProfile)),
-        Mark::Uncomment => Err(fault_at(token, FaultKind::BadToken)),
-        _ => Ok(State {
+        Turn::Read => Ok(State {
             progress: next_progress(alloc, progress, token)?,
             in_comment: false,
         }),
@@ -227,10 +167,7 @@ fn finish(state: State, length: usize) -> Result<Vec<Transaction>, Stop>
     } = state;
     match place {
         Place::Outermost if !in_comment => Ok(script),
-        _ => Err(Stop::Fault(TextFault {
-            place: length,
-            kind: FaultKind::Unfinished,
-        })),
+        _ => Err(unfinished_at(length)),
     }
 }
 
@@ -254,21 +191,11 @@ fn read_tokens(alloc: Global, text: &[u8]) -> Result<Vec<Transaction>, Stop>
 }
 
 /// What a text says: its length is tested first, then its bytes, then its tokens.
-#[tactic(auto, unfolding(mmtext::specs::Languages::reading))]
 fn read_text(alloc: Global, text: &[u8]) -> Result<Vec<Transaction>, Stop>
     ensures { Gives (λ v. v.items) result (reading script_language text.now) }
 {
-    if text.len() > MOST_BYTES {
-        return Err(Stop::Fault(TextFault {
-            place: MOST_BYTES,
-            kind: FaultKind::TooLong,
-        }));
-    }
-    if let Some(place) = first_bad_byte(text) {
-        return Err(Stop::Fault(TextFault {
-            place,
-            kind: FaultKind::BadByte,
-        }));
+    if let Some(fault) = text_fault(text) {
+        return Err(Stop::Fault(fault));
     }
     read_tokens(alloc, text)
 }
@@ -297,10 +224,7 @@ pub fn read_script(alloc: Global, prelude: &Prelude, text: &[u8]) -> Result<Scri
     match read_text(alloc, text) {
         Ok(script) => Ok(Sequence::from_vec(script)),
         Err(Stop::Fault(fault)) => Err(fault),
-        Err(Stop::Memory) => Err(TextFault {
-            place: 0,
-            kind: FaultKind::NoMemory,
-        }),
+        Err(Stop::Memory) => Err(no_memory()),
     }
 }
 

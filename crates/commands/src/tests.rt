@@ -1,74 +1,70 @@
 //! Copies equal what they copy, and a library is shown in export order.
 
-ghost use Rattle.std.specs.Prelude.{◌≡◌, map, IfOk};
-
-use crate::axioms::first_theorem;
 use crate::command::{Command, Reply};
 use crate::library::{PlainLibrary, Ranked};
-use mmstatement::{Database, Label, Sequence, read_database};
-use std::alloc::{AllocError, Global};
+use mmstatement::{Label, Sequence, read_database};
+use proofcheck::check_all;
+use std::alloc::{AllocError, AllocGlobal, Global};
 use std::hash::RandomState;
+use std::random::RandomSource;
 use std::test::Fail;
+use std::thread::Threads;
 
-/// Two assertions, against the order of their labels.
-const PAIR: &[u8] = b"$c wff $.\nwb $a wff $.\nwa $a wff wff $.\n";
+/// A theorem behind the axiom that it cites, against the order of their labels.
+const PAIR: &[u8] = b"$c wff $.\nwb $a wff $.\nwa $p wff $= wb $.\n";
 
 fn label(alloc: Global, bytes: &[u8]) -> Result<Label, AllocError> {
     Ok(Sequence::from_vec(Vec::from_slice(alloc, bytes)?))
 }
 
-/// The assertions of a database, all at one rank.
-fn ranked(alloc: Global, db: &Database, rank: u32) -> Result<Vec<Ranked>, AllocError>
-    ensures { IfOk result (λ made. made.items ≡ map (λ a. record { rank = rank; assertion = a }) db.now.assertions) }
-{
-    let mut made = Vec::new(alloc);
-    for assertion in db.assertions() {
-        made.push(Ranked {
-            rank,
-            assertion: assertion.copy(alloc)?,
-        })?;
-    }
-    Ok(made)
-}
-
-/// The library of PAIR, all at rank 7.
-fn pair(alloc: Global, keys: RandomState) -> Result<PlainLibrary, Fail> {
-    let db = read_database(alloc, keys, PAIR)?;
-    if db.assertions().len() != 2 {
+/// The opening library of PAIR, made of its assertions from the last on.
+fn pair(rt: &(impl AllocGlobal + RandomSource + Threads + Sync)) -> Result<PlainLibrary, Fail> {
+    let alloc = rt.alloc();
+    let db = read_database(alloc, RandomState::new(rt)?, PAIR)?;
+    let Ok(()) = check_all(rt, alloc, &db) else {
+        return Err(Fail::from("the proofs of PAIR check"));
+    };
+    let assertions = db.assertions();
+    if assertions.len() != 2 {
         return Err(Fail::from("PAIR has two assertions"));
     }
-    let None = first_theorem(&db) else {
-        return Err(Fail::from("PAIR has axioms alone"));
-    };
-    let entries = ranked(alloc, &db, 7)?;
+    let mut entries = Vec::new(alloc);
+    entries.push(Ranked {
+        rank: 200,
+        assertion: assertions[1].copy(alloc)?,
+    })?;
+    entries.push(Ranked {
+        rank: 100,
+        assertion: assertions[0].copy(alloc)?,
+    })?;
     let prelude = db.prelude().copy(alloc)?;
     Ok(PlainLibrary::sorted(prelude, 2, entries))
 }
 
 #[test]
-fn one_rank_is_shown_by_label(rt: HostRuntime) -> Result<(), Fail> {
-    let library = pair(rt.alloc(), RandomState::new(&rt)?)?;
+fn a_library_is_shown_by_rank(rt: HostRuntime) -> Result<(), Fail> {
+    let library = pair(&rt)?;
     let [first, second] = library.entries() else {
         return Err(Fail::from("two assertions are shown"));
     };
-    assert_eq!(rt; first.assertion.label.as_slice(), b"wa".as_slice());
-    assert_eq!(rt; second.assertion.label.as_slice(), b"wb".as_slice());
-    assert_eq!(rt; (first.rank, second.rank), (7, 7));
-    assert_eq!(rt; first.assertion.statement.as_slice().len(), 2);
+    assert_eq!(rt; first.assertion.label.as_slice(), b"wb".as_slice());
+    assert_eq!(rt; second.assertion.label.as_slice(), b"wa".as_slice());
+    assert_eq!(rt; (first.rank, second.rank), (100, 200));
+    assert_eq!(rt; second.assertion.proof.as_slice().len(), 1);
     Ok(())
 }
 
 #[test]
 fn a_copied_library_is_equal(rt: HostRuntime) -> Result<(), Fail> {
-    let library = pair(rt.alloc(), RandomState::new(&rt)?)?;
+    let library = pair(&rt)?;
     let copy = library.copy(rt.alloc())?;
     assert_eq!(rt; copy.slots(), 2);
     assert_eq!(rt; copy.prelude().constants().len(), 1);
     let [first, second] = copy.entries() else {
         return Err(Fail::from("two assertions are copied"));
     };
-    assert_eq!(rt; first.assertion.label.as_slice(), b"wa".as_slice());
-    assert_eq!(rt; second.assertion.label.as_slice(), b"wb".as_slice());
+    assert_eq!(rt; first.assertion.label.as_slice(), b"wb".as_slice());
+    assert_eq!(rt; second.assertion.label.as_slice(), b"wa".as_slice());
     assert_eq!(rt;
         second.assertion.statement.as_slice(),
         library.entries()[1].assertion.statement.as_slice()
@@ -103,7 +99,7 @@ fn a_copied_reply_is_equal(rt: HostRuntime) -> Result<(), Fail> {
     let alloc = rt.alloc();
     let done = matches!(Reply::Done.copy(alloc)?, Reply::Done);
     assert!(rt; done);
-    let library = pair(alloc, RandomState::new(&rt)?)?;
+    let library = pair(&rt)?;
     let [first, ..] = library.entries() else {
         return Err(Fail::from("two assertions are shown"));
     };
@@ -115,7 +111,7 @@ fn a_copied_reply_is_equal(rt: HostRuntime) -> Result<(), Fail> {
         return Err(Fail::from("what is shown is copied"));
     };
     assert_eq!(rt; citers, 3);
-    assert_eq!(rt; shown.rank, 7);
-    assert_eq!(rt; shown.assertion.label.as_slice(), b"wa".as_slice());
+    assert_eq!(rt; shown.rank, 100);
+    assert_eq!(rt; shown.assertion.label.as_slice(), b"wb".as_slice());
     Ok(())
 }

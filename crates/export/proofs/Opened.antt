@@ -3,8 +3,9 @@ use Rattle.std.proofs.Common.{◌≡◌, List, [], ◌∷◌, length, get_or, re
 use Rattle.mmsyntax.specs.declared.statement.Assertion.{Assertion}
 use Rattle.mmsyntax.specs.Tables.{Tables}
 use Rattle.mmsyntax.specs.Layout.{HasSpelling}
+use Rattle.proofcheck.specs.Databases.{AllCheck}
 use Rattle.commands.specs.declared.library.Ranked.{Ranked}
-use Rattle.commands.specs.Library.{Verifies, EachFollows}
+use Rattle.commands.specs.Library.{Verifies}
 use Rattle.commands.proofs.Opening.{opening_verifies}
 
 only_item : (xs : List Assertion) (d : Assertion) → length xs ≡ 1 → xs ≡ get_or xs 0 d ∷ []
@@ -17,10 +18,10 @@ abbrev pub IsOpened : Tables → List Ranked → Type 0
 IsOpened t entries = Verifies (record { prelude = t; slots = 1 }) entries
 
 pub one_opened : (t : Tables) (xs : List Assertion) (a : Assertion) →
-    HasSpelling (record { prelude = t; assertions = xs }) → EachFollows (record { prelude = t; assertions = xs }) → length xs ≡ 1 → a ≡ get_or xs 0 a →
-    IsOpened t (record { rank = 100; assertion = a } ∷ [])
-one_opened t xs a spelled follows one is =
+    HasSpelling (record { prelude = t; assertions = xs }) → AllCheck (record { prelude = t; assertions = xs }) →
+    length xs ≡ 1 → a ≡ get_or xs 0 a → IsOpened t (record { rank = 100; assertion = a } ∷ [])
+one_opened t xs a spelled checks one is =
     let same : xs ≡ a ∷ [] = only_item xs a one ∙ ap (λ (x : Assertion). x ∷ []) (sym is) in
     opening_verifies (record { prelude = t; assertions = a ∷ [] })
     (subst (λ (ys : List Assertion). HasSpelling (record { prelude = t; assertions = ys })) same spelled)
-    (subst (λ (ys : List Assertion). EachFollows (record { prelude = t; assertions = ys })) same follows)
+    (subst (λ (ys : List Assertion). AllCheck (record { prelude = t; assertions = ys })) same checks)

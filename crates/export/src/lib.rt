@@ -1,7 +1,7 @@
 //! The text of a library: its canonical layout, made in memory and written whole to a writer.
 //!
 //! The text is that of what the library shows: its prelude, then its assertions by rank, those of one rank by label. It is accepted:
-//! a database is spelled by it, in which each assertion follows from those before it.
+//! a database is spelled by it, each of whose proofs checks over the assertions before it.
 #![tactic(auto)]
 
 mod error;

@@ -1,13 +1,16 @@
 //! Exports to writers that take few bytes at a call, fail, or take none.
 
 use crate::{ExportError, export};
-use commands::{PlainLibrary, Ranked, first_theorem};
+use commands::{PlainLibrary, Ranked};
 use mmstatement::read_database;
-use std::alloc::Global;
+use proofcheck::check_all;
+use std::alloc::{AllocGlobal, Global};
 use std::hash::RandomState;
 use std::io;
 use std::io::{ErrorKind, Write};
+use std::random::RandomSource;
 use std::test::Fail;
+use std::thread::Threads;
 
 /// 23 bytes.
 const MINI: &[u8] = b"$c wff $.\nwe $a wff $.\n";
@@ -50,15 +53,16 @@ impl Write for Slow {
 }
 
 /// The opening library of MINI.
-fn mini(alloc: Global, keys: RandomState) -> Result<PlainLibrary, Fail> {
-    let db = read_database(alloc, keys, MINI).or(Err("MINI is not read"))?;
+fn mini(rt: &(impl AllocGlobal + RandomSource + Threads + Sync)) -> Result<PlainLibrary, Fail> {
+    let alloc = rt.alloc();
+    let db = read_database(alloc, RandomState::new(rt)?, MINI)?;
+    let Ok(()) = check_all(rt, alloc, &db) else {
+        return Err(Fail::from("the proofs of MINI check"));
+    };
     let assertions = db.assertions();
     if assertions.len() != 1 {
         return Err(Fail::from("MINI has one assertion"));
     }
-    let None = first_theorem(&db) else {
-        return Err(Fail::from("MINI has axioms alone"));
-    };
     let mut entries = Vec::new(alloc);
     let assertion = assertions[0].copy(alloc)?;
     entries.push(Ranked {
@@ -71,7 +75,7 @@ fn mini(alloc: Global, keys: RandomState) -> Result<PlainLibrary, Fail> {
 
 #[test]
 fn fails_at_the_third_call(rt: HostRuntime) -> Result<(), Fail> {
-    let library = mini(rt.alloc(), RandomState::new(&rt)?)?;
+    let library = mini(&rt)?;
     let mut writer = Slow::new(rt.alloc(), 7, 3);
     let answer = export(rt.alloc(), &library, &mut writer);
     assert_eq!(rt; answer, Err(ExportError::Write { written: 14 }));
@@ -82,7 +86,7 @@ fn fails_at_the_third_call(rt: HostRuntime) -> Result<(), Fail> {
 
 #[test]
 fn takes_nothing(rt: HostRuntime) -> Result<(), Fail> {
-    let library = mini(rt.alloc(), RandomState::new(&rt)?)?;
+    let library = mini(&rt)?;
     let mut writer = Slow::new(rt.alloc(), 0, 0);
     let answer = export(rt.alloc(), &library, &mut writer);
     assert_eq!(rt; answer, Err(ExportError::Write { written: 0 }));
@@ -93,7 +97,7 @@ fn takes_nothing(rt: HostRuntime) -> Result<(), Fail> {
 
 #[test]
 fn takes_one_byte_a_call(rt: HostRuntime) -> Result<(), Fail> {
-    let library = mini(rt.alloc(), RandomState::new(&rt)?)?;
+    let library = mini(&rt)?;
     let mut writer = Slow::new(rt.alloc(), 1, 0);
     assert_eq!(rt; export(rt.alloc(), &library, &mut writer), Ok(()));
     assert_eq!(rt; writer.held.as_slice(), MINI);
@@ -102,7 +106,7 @@ fn takes_one_byte_a_call(rt: HostRuntime) -> Result<(), Fail> {
 
 #[test]
 fn into_memory(rt: HostRuntime) -> Result<(), Fail> {
-    let library = mini(rt.alloc(), RandomState::new(&rt)?)?;
+    let library = mini(&rt)?;
     let mut text = Vec::new(rt.alloc());
     assert_eq!(rt; export(rt.alloc(), &library, &mut text), Ok(()));
     assert_eq!(rt; text.as_slice(), MINI);

@@ -1,5 +1,5 @@
 -- What each command does to a library that verifies, by the places of its labels.
-use Rattle.std.proofs.Common.{◌≡◌, ℕ, Bool, true, false, List, [], ◌∷◌, Option, None, Some, Ok, Err, get_or, sym, ap, ◌∙◌}
+use Rattle.std.proofs.Common.{◌≡◌, ℕ, Bool, true, false, List, [], ◌∷◌, Option, None, Some, Ok, Err, map, ap, ◌∙◌}
 use mathlib.Core.Bool.{not}
 use Rattle.std.specs.Prelude.{slice_get}
 use Rattle.std.specs.Option.{is_some}
@@ -12,12 +12,11 @@ use Rattle.commands.specs.declared.command.Reply.TheVariants.{Done, Shown}
 use Rattle.commands.specs.declared.command.Reason.{Reason}
 use Rattle.commands.specs.declared.command.Reason.TheVariants.{UnknownLabel, BadLabel, LabelTaken}
 use Rattle.commands.specs.Library.{Setting, Verifies, label_of}
-use Rattle.commands.specs.Edits.{Edited, Tests, tested, has, rename, shown, edit}
-use Rattle.commands.proofs.Places.{has_at, find_at, find_nowhere}
-use Rattle.commands.proofs.Renaming.{rename_at, citers_none}
+use Rattle.commands.specs.Edits.{Edited, Tests, tested, has, citers, rename, shown, edit}
+use Rattle.commands.proofs.Places.{has_at, find_entry, find_nowhere}
 use Rattle.history.specs.Places.{StandsAt, FoundAt}
-use Rattle.history.specs.Drafts.{relabelled}
-use Rattle.history.proofs.Relabelling.{relabelled-set}
+use Rattle.history.specs.Drafts.{relabelled, citing}
+use Rattle.history.proofs.Citations.{rename_place}
 
 -- ---- tests
 
@@ -69,18 +68,11 @@ module _ (s : Setting) (lib : List Ranked) (old new : List ℕ) where
       → edit s lib (Rename old new) ≡ Err LabelTaken
   rename_taken p q at h other = past_bad p at h ∙ fails_here (has lib new) LabelTaken [] after_rename (stands_has lib new q other)
 
-  renamed_place : Verifies s lib → (p : ℕ) → StandsAt lib old p → rename old new lib ≡ relabelled lib p new
-  renamed_place v p at =
-      let e = at.entry in
-      let here : get_or lib p e ≡ e = get_or_from_slice_get lib p e e at.at in
-      rename_at s lib v old new p e (slice_get_within lib p e at.at) (ap label_of here ∙ at.labelled)
-      ∙ relabelled-set lib p new (get_or lib p e) (at.at ∙ ap (λ x. Some x) (sym here))
-
   pub rename_done : Verifies s lib → (p : ℕ) → StandsAt lib old p → is_lawful_label s.prelude new ≡ true → has lib new ≡ false
-      → edit s lib (Rename old new) ≡ Ok (record { library = relabelled lib p new; reply = Done })
+      → edit s lib (Rename old new) ≡ Ok (record { library = map (citing old new) (relabelled lib p new); reply = Done })
   rename_done v p at h free =
       past_bad p at h ∙ passes (has lib new) LabelTaken [] after_rename free
-      ∙ ap (λ (l : List Ranked). Ok (record { library = l; reply = Done })) (renamed_place v p at)
+      ∙ ap (λ (l : List Ranked). Ok (record { library = l; reply = Done })) (rename_place old new lib p at v.library.distinct)
 
 -- ---- show
 
@@ -89,8 +81,7 @@ show_unknown s lib w h = ap (shown lib) (find_nowhere lib w h)
 
 pub show_done : (s : Setting) (lib : List Ranked) (w : List ℕ) (p : ℕ) (e : Ranked) → Verifies s lib → slice_get lib p ≡ Some e
     → label_of e ≡ w
-    → edit s lib (Show w) ≡ Ok (record { library = lib; reply = Shown 0 e })
+    → edit s lib (Show w) ≡ Ok (record { library = lib; reply = Shown (citers lib w) e })
 show_done s lib w p e v at own =
-    let here : get_or lib p e ≡ e = get_or_from_slice_get lib p e e at in
-    ap (shown lib) (find_at lib w p e v.library.distinct (slice_get_within lib p e at) (ap label_of here ∙ own) ∙ ap (λ x. Some x) here)
-    ∙ ap (λ (n : ℕ). Ok (record { library = lib; reply = Shown n e })) (citers_none s lib (label_of e) v)
+    ap (shown lib) (find_entry lib w p e v.library.distinct at own)
+    ∙ ap (λ (k : List ℕ). Ok (record { library = lib; reply = Shown (citers lib k) e })) own

@@ -6,12 +6,13 @@ use Rattle.std.specs.Option.{IsSome}
 use Rattle.std.specs.Str.{bytes_eq}
 use Rattle.std.proofs.lemmas.Bool.{cases_Bool, cases_eq, cond-true, cond-false}
 use Rattle.mmsyntax.proofs.Names.{same_bytes, bytes_eq-same}
+use Rattle.mmsyntax.specs.declared.statement.Step.{Step}
 use Rattle.commands.specs.declared.library.Ranked.{Ranked}
 use Rattle.commands.specs.Library.{label_of}
 use Rattle.commands.specs.Edits.{has}
 use Rattle.history.specs.Places.{Places, place_in, IsIndex, Puts, KeepsLabels}
-use Rattle.history.specs.Drafts.{relabelled}
-use Rattle.history.proofs.Relabelling.{relabelled-other, relabelled-label, has-not, has-none}
+use Rattle.history.specs.Drafts.{with_label, with_proof, relabelled, reproved}
+use Rattle.history.proofs.Changing.{changed-other, changed-came, relabelled-label, has-not, has-none}
 
 -- ---- look-ups
 
@@ -49,9 +50,21 @@ index-relabelled m n lib p w x free h = record {
         let own : label_of e ≡ w = relabelled-label lib p w e (subst (λ (k : ℕ). slice_get (relabelled lib p w) k ≡ Some e) same at) in
         ap (place_in n) own ∙ h w ∙ cond-true (bytes_eq w w) (Some p) (place_in m w) (bytes_eq-same w) ∙ ap (λ k. Some k) (sym same)
     | inr ne ↦
-        let was : slice_get lib i ≡ Some e = sym (relabelled-other lib p i w ne) ∙ at in
+        let was : slice_get lib i ≡ Some e = sym (changed-other lib p i (with_label w) ne) ∙ at in
         h (label_of e) ∙ cond-false (bytes_eq w (label_of e)) (Some p) (place_in m (label_of e)) (has-not lib w i e free was)
         ∙ x.finds i e was
+  ];
+}
+
+-- an entry was given another proof
+pub index-reproved : (m : Places) (lib : List Ranked) (p : ℕ) (steps : List Step) → IsIndex m lib → IsIndex m (reproved lib p steps)
+index-reproved m lib p steps x = record {
+  finds = λ i e at. elim (cases_eq i p) [
+    | inl same ↦
+        let here : slice_get (reproved lib p steps) p ≡ Some e = subst (λ (k : ℕ). slice_get (reproved lib p steps) k ≡ Some e) same at in
+        let came = changed-came lib p (with_proof steps) e here in
+        ap (λ (y : Ranked). place_in m (label_of y)) (sym came.2) ∙ x.finds p came.0 came.1 ∙ ap (λ k. Some k) (sym same)
+    | inr ne ↦ x.finds i e (sym (changed-other lib p i (with_proof steps) ne) ∙ at)
   ];
 }
 

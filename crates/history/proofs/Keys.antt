@@ -6,15 +6,18 @@ use Rattle.std.specs.List.{slice_get}
 use Rattle.std.specs.Option.{IsSome}
 use Rattle.std.specs.Str.{bytes_eq}
 use Rattle.std.proofs.lemmas.Bool.{cases_Bool, cases_eq, cond-true, cond-false}
-use Rattle.std.proofs.lemmas.List.{get_or-set_same, get_or-set_other, length-set, map-set, map-append}
+use Rattle.std.proofs.lemmas.List.{get_or-set_same, get_or-set_other, get_or_default, length-set, map-append}
 use Rattle.std.proofs.lemmas.List.Elements.{Contains-append_left, Contains-append_right, Contains-append_cases}
 use Rattle.std.proofs.lemmas.List.Elements.{Contains-push, Contains-push_cases}
 use Rattle.mmsyntax.proofs.Names.{same_bytes, bytes_eq-same}
+use Rattle.mmsyntax.specs.declared.statement.Step.{Step}
 use Rattle.commands.specs.declared.library.Ranked.{Ranked}
 use Rattle.commands.specs.Library.{label_of}
 use Rattle.history.specs.declared.notes.Note.{Note}
+use Rattle.history.specs.declared.notes.Note.TheVariants.{Relabelled, Reproved}
 use Rattle.history.specs.Places.{Places, place_in, HasOnly, StandsAt, Puts, KeepsLabels}
-use Rattle.history.specs.Drafts.{relabelled, taken_back, former_labels}
+use Rattle.history.specs.Drafts.{relabelled, reproved, taken_back, former_labels, HoldsTaken, IsForgotten}
+use Rattle.history.proofs.Changing.{labels-reproved}
 
 abbrev Labels : Type 0
 Labels = List (List ℕ)
@@ -24,45 +27,31 @@ labels lib = map label_of lib
 
 -- ---- lists of labels
 
--- the label w stands at the place p
-record Has (xs : Labels) (p : ℕ) (w : List ℕ) : Type 0 where
-  within : p < length xs
-  at : (d : List ℕ) → get_or xs p d ≡ w
+-- the item w stands at the place p
+pub record Has {A : Type 0} (xs : List A) (p : ℕ) (w : A) : Type 0 where
+  pub within : p < length xs
+  pub at : (d : A) → get_or xs p d ≡ w
 
-contains-at : (xs : Labels) (p : ℕ) (w : List ℕ) → Has xs p w → Contains xs w
+pub has-item : {A : Type 0} (xs : List A) (p : ℕ) (d : A) → p < length xs → Has xs p (get_or xs p d)
+has-item xs p d lt = record { within = lt; at = λ z. get_or_default xs p z d lt }
+
+contains-at : {A : Type 0} (xs : List A) (p : ℕ) (w : A) → Has xs p w → Contains xs w
 contains-at xs p w h = (p, h.within, h.at w)
 
--- a label that gave way, or one that stayed
-contains-set : (xs : Labels) (p : ℕ) (former w q : List ℕ) → Has xs p former → Contains xs q → (former ≡ q) ⊎ Contains (set xs p w) q
+contains-later : {A : Type 0} (x : A) (xs : List A) (q : A) → Contains xs q → Contains (x ∷ xs) q
+contains-later x xs q c = (suc c.0, (let lt = c.1 in omega arith), c.2)
+
+-- an item that gave way, or one that stayed
+contains-set : {A : Type 0} (xs : List A) (p : ℕ) (former w q : A) → Has xs p former → Contains xs q
+    → (former ≡ q) ⊎ Contains (set xs p w) q
 contains-set xs p former w q h c =
     elim (cases_eq c.0 p) [
       | inl same ↦ inl (sym (h.at q) ∙ ap (λ (k : ℕ). get_or xs k q) (sym same) ∙ c.2)
       | inr ne ↦ inr (c.0, (let long = length-set xs p w in let lt = c.1 in omega arith), get_or-set_other xs p c.0 w q ne ∙ c.2)
     ]
 
-contains-new : (xs : Labels) (p : ℕ) (w : List ℕ) → p < length xs → Contains (set xs p w) w
+contains-new : {A : Type 0} (xs : List A) (p : ℕ) (w : A) → p < length xs → Contains (set xs p w) w
 contains-new xs p w within = (p, (let long = length-set xs p w in omega arith), get_or-set_same xs p w w within)
-
--- a label in one list for one in the other
-swapped : (xs ys : Labels) (p k : ℕ) (x y q : List ℕ) → Has xs p x → Has ys k y → Contains (xs ++ ys) q
-    → Contains (set xs p y ++ set ys k x) q
-swapped xs ys p k x y q hx hy c =
-    elim (Contains-append_cases xs ys q c) [
-      | inl here ↦
-          elim (contains-set xs p x y q hx here) [
-            | inl same ↦
-                let new = contains-new ys k x hy.within in
-                subst (Contains (set xs p y ++ set ys k x)) same (Contains-append_right (set xs p y) (set ys k x) x new)
-            | inr stays ↦ Contains-append_left (set xs p y) (set ys k x) q stays
-          ]
-      | inr there ↦
-          elim (contains-set ys k y x q hy there) [
-            | inl same ↦
-                let new = contains-new xs p y hx.within in
-                subst (Contains (set xs p y ++ set ys k x)) same (Contains-append_left (set xs p y) (set ys k x) y new)
-            | inr stays ↦ Contains-append_right (set xs p y) (set ys k x) q stays
-          ]
-    ]
 
 -- a label for another, which is kept behind the rest
 kept : (xs ys : Labels) (p : ℕ) (x w q : List ℕ) → Has xs p x → Contains (xs ++ ys) q → Contains (set xs p w ++ (ys ++ x ∷ [])) q
@@ -113,13 +102,35 @@ has-entry lib w p s = subst (Has (labels lib) p) s.labelled (has-at lib p s.entr
 pub contains-entry : (lib : List Ranked) (w : List ℕ) (p : ℕ) → StandsAt lib w p → Contains (labels lib) w
 contains-entry lib w p s = contains-at (labels lib) p w (has-entry lib w p s)
 
-has-note : (ns : List Note) (k : ℕ) (d : Note) → k < length ns → Has (former_labels ns) k (get_or ns k d).former
-has-note [] k d h = absurd (omega arith)
-has-note (n ∷ ns) zero d h = record { within = omega arith; at = λ x. refl }
-has-note (n ∷ ns) (suc k) d h =
-    let rest = has-note ns k d (omega arith) in
-    let lt = rest.within in
-    record { within = omega arith; at = rest.at }
+-- the note that took a label
+took : (ns : List Note) (q : List ℕ) → Contains (former_labels ns) q → (p : ℕ) × Contains ns (Relabelled p q)
+took [] q (k, lt, at) = absurd (omega arith)
+took (Relabelled p w ∷ ns) q (zero, lt, at) = (p, (0, omega arith, ap (λ v. Relabelled p v) at))
+took (Relabelled p w ∷ ns) q (suc k, lt, at) =
+    let rest = took ns q (k, omega arith, at) in
+    (rest.0, contains-later (Relabelled p w) ns (Relabelled rest.0 q) rest.1)
+took (Reproved p steps ∷ ns) q c =
+    let rest = took ns q c in
+    (rest.0, contains-later (Reproved p steps) ns (Relabelled rest.0 q) rest.1)
+
+taken : (ns : List Note) (p : ℕ) (q : List ℕ) → Contains ns (Relabelled p q) → Contains (former_labels ns) q
+taken [] p q (k, lt, at) = absurd (omega arith)
+taken (Relabelled r w ∷ ns) p q (zero, lt, at) =
+    let same : w ≡ q = cc in
+    (0, omega arith, same)
+taken (Relabelled r w ∷ ns) p q (suc k, lt, at) = contains-later w (former_labels ns) q (taken ns p q (k, omega arith, at))
+taken (Reproved r steps ∷ ns) p q (zero, lt, at) = absurd cc
+taken (Reproved r steps ∷ ns) p q (suc k, lt, at) = taken ns p q (k, omega arith, at)
+
+former_labels-relabelled : (ns : List Note) (p : ℕ) (w : List ℕ) → former_labels (ns ++ Relabelled p w ∷ []) ≡ former_labels ns ++ w ∷ []
+former_labels-relabelled [] p w = refl
+former_labels-relabelled (Relabelled q v ∷ ns) p w = ap (λ ws. v ∷ ws) (former_labels-relabelled ns p w)
+former_labels-relabelled (Reproved q steps ∷ ns) p w = former_labels-relabelled ns p w
+
+former_labels-reproved : (ns : List Note) (p : ℕ) (steps : List Step) → former_labels (ns ++ Reproved p steps ∷ []) ≡ former_labels ns
+former_labels-reproved [] p steps = refl
+former_labels-reproved (Relabelled q v ∷ ns) p steps = ap (λ ws. v ∷ ws) (former_labels-reproved ns p steps)
+former_labels-reproved (Reproved q other ∷ ns) p steps = former_labels-reproved ns p steps
 
 -- ---- maps
 
@@ -154,28 +165,67 @@ pub only-fewer : (m n : Places) (xs : Labels) → KeepsLabels n m → HasOnly m 
 only-fewer m n xs k h = record { among = λ q some. h.among q (k.keeps q some) }
 
 -- the label of a note was given back, and the note has the one that was taken
-pub only-taken_back : (m : Places) (lib : List Ranked) (ns : List Note) (k : ℕ) (new d : Note) → k < length ns
-    → StandsAt lib new.former (get_or ns k d).place → HasOnly m (labels lib ++ former_labels ns)
-    → HasOnly m (labels (taken_back (get_or ns k d) lib) ++ former_labels (set ns k new))
-only-taken_back m lib ns k new d within stands h =
-    let old = get_or ns k d in
-    record {
-      among = λ q some.
-          rw (labels-relabelled lib old.place old.former, map-set (λ (x : Note). x.former) ns k new)
-          (let entry = has-entry lib new.former old.place stands in
-          swapped (labels lib) (former_labels ns) old.place k new.former old.former q entry (has-note ns k d within) (h.among q some));
-    }
+relabelled_back : (lib : List Ranked) (ns : List Note) (k p : ℕ) (w v q : List ℕ) → Has ns k (Relabelled p w) → StandsAt lib v p
+    → Contains (labels lib ++ former_labels ns) q
+    → Contains (labels (relabelled lib p w) ++ former_labels (set ns k (Relabelled p v))) q
+relabelled_back lib ns k p w v q here stands c =
+    let entry = has-entry lib v p stands in
+    let after = set ns k (Relabelled p v) in
+    let left = set (labels lib) p w in
+    rw (labels-relabelled lib p w) (elim (Contains-append_cases (labels lib) (former_labels ns) q c) [
+      | inl at ↦
+          elim (contains-set (labels lib) p v w q entry at) [
+            | inl same ↦
+                let note = taken after p v (contains-new ns k (Relabelled p v) here.within) in
+                subst (Contains (left ++ former_labels after)) same (Contains-append_right left (former_labels after) v note)
+            | inr stays ↦ Contains-append_left left (former_labels after) q stays
+          ]
+      | inr at ↦
+          let note = took ns q at in
+          elim (contains-set ns k (Relabelled p w) (Relabelled p v) (Relabelled note.0 q) here note.1) [
+            | inl same ↦
+                let label : w ≡ q = cc in
+                subst (Contains (left ++ former_labels after)) label
+                (Contains-append_left left (former_labels after) w (contains-new (labels lib) p w entry.within))
+            | inr stays ↦ Contains-append_right left (former_labels after) q (taken after note.0 q stays)
+          ]
+    ])
+
+-- a proof of a note was given back, and the note has some other
+reproved_back : (lib : List Ranked) (ns : List Note) (k p : ℕ) (steps held : List Step) (q : List ℕ) → Has ns k (Reproved p steps)
+    → Contains (labels lib ++ former_labels ns) q
+    → Contains (labels (reproved lib p steps) ++ former_labels (set ns k (Reproved p held))) q
+reproved_back lib ns k p steps held q here c =
+    let after = set ns k (Reproved p held) in
+    rw (labels-reproved lib p steps) (elim (Contains-append_cases (labels lib) (former_labels ns) q c) [
+      | inl at ↦ Contains-append_left (labels lib) (former_labels after) q at
+      | inr at ↦
+          let note = took ns q at in
+          elim (contains-set ns k (Reproved p steps) (Reproved p held) (Relabelled note.0 q) here note.1) [
+            | inl same ↦ absurd cc
+            | inr stays ↦ Contains-append_right (labels lib) (former_labels after) q (taken after note.0 q stays)
+          ]
+    ])
+
+pub only-taken_back : (m : Places) (lib : List Ranked) (ns : List Note) (k : ℕ) (old new : Note) → Has ns k old → HoldsTaken lib old new
+    → HasOnly m (labels lib ++ former_labels ns)
+    → HasOnly m (labels (taken_back old lib) ++ former_labels (set ns k new))
+only-taken_back m lib ns k (Relabelled p w) new here h only =
+    subst (λ n. HasOnly m (labels (relabelled lib p w) ++ former_labels (set ns k n))) (sym h.2)
+    (record { among = λ q some. relabelled_back lib ns k p w h.0 q here h.1 (only.among q some) })
+only-taken_back m lib ns k (Reproved p steps) new here h only =
+    subst (λ n. HasOnly m (labels (reproved lib p steps) ++ former_labels (set ns k n))) (sym h.1)
+    (record { among = λ q some. reproved_back lib ns k p steps h.0 q here (only.among q some) })
 
 -- an entry was given a label, and the one that it had was noted
 pub only-relabelled : (m n : Places) (lib : List Ranked) (ns : List Note) (p : ℕ) (w former : List ℕ) → Puts m w p n
     → StandsAt lib former p → HasOnly m (labels lib ++ former_labels ns)
-    → HasOnly n (labels (relabelled lib p w) ++ former_labels (ns ++ record { place = p; former = former } ∷ []))
+    → HasOnly n (labels (relabelled lib p w) ++ former_labels (ns ++ Relabelled p former ∷ []))
 only-relabelled m n lib ns p w former puts stands h =
     let here = has-entry lib former p stands in
-    let note : Note = record { place = p; former = former } in
     record {
       among = λ q some.
-          rw (labels-relabelled lib p w, map-append (λ (x : Note). x.former) ns (note ∷ []))
+          rw (labels-relabelled lib p w, former_labels-relabelled ns p former)
           (elim (cases_Bool (bytes_eq w q)) [
             | inl y ↦
                 let formers = former_labels ns ++ former ∷ [] in
@@ -188,22 +238,35 @@ only-relabelled m n lib ns p w former puts stands h =
           ]);
     }
 
--- the last note went, and with it its label, unless an entry has it
-pub only-forgot : (m n : Places) (lib : List Ranked) (ns : List Note) (note : Note) → KeepsLabels n m
-    → (IsSome (place_in n note.former) → Contains (labels lib) note.former)
-    → HasOnly m (labels lib ++ former_labels (ns ++ note ∷ [])) → HasOnly n (labels lib ++ former_labels ns)
-only-forgot m n lib ns note fewer gone h =
+-- an entry was given another proof, and the one that it had was noted
+pub only-reproved : (m : Places) (lib : List Ranked) (ns : List Note) (p : ℕ) (steps former : List Step)
+    → HasOnly m (labels lib ++ former_labels ns)
+    → HasOnly m (labels (reproved lib p steps) ++ former_labels (ns ++ Reproved p former ∷ []))
+only-reproved m lib ns p steps former h = rw (labels-reproved lib p steps, former_labels-reproved ns p former) h
+
+label_forgot : (m n : Places) (lib : List Ranked) (ns : List Note) (p : ℕ) (former : List ℕ) → KeepsLabels n m
+    → (IsSome (place_in n former) → Contains (labels lib) former)
+    → HasOnly m (labels lib ++ former_labels (ns ++ Relabelled p former ∷ [])) → HasOnly n (labels lib ++ former_labels ns)
+label_forgot m n lib ns p former fewer gone h =
     record {
       among = λ q some.
-          let split = map-append (λ (x : Note). x.former) ns (note ∷ []) in
+          let split = former_labels-relabelled ns p former in
           let was = subst (λ (xs : Labels). Contains (labels lib ++ xs) q) split (h.among q (fewer.keeps q some)) in
-          elim (popped (labels lib) (former_labels ns) note.former q was) [
+          elim (popped (labels lib) (former_labels ns) former q was) [
             | inl stays ↦ stays
             | inr same ↦
                 let here = gone (subst (λ x. IsSome (place_in n x)) (sym same) some) in
                 Contains-append_left (labels lib) (former_labels ns) q (subst (Contains (labels lib)) same here)
           ];
     }
+
+-- the last note went, and with it its label, unless an entry has it
+pub only-forgot : (m n : Places) (lib : List Ranked) (ns : List Note) (note : Note) → KeepsLabels n m → IsForgotten n lib note
+    → HasOnly m (labels lib ++ former_labels (ns ++ note ∷ [])) → HasOnly n (labels lib ++ former_labels ns)
+only-forgot m n lib ns (Relabelled p former) fewer gone h = label_forgot m n lib ns p former fewer gone h
+only-forgot m n lib ns (Reproved p steps) fewer gone h =
+    only-fewer m n (labels lib ++ former_labels ns) fewer
+    (subst (λ (xs : Labels). HasOnly m (labels lib ++ xs)) (former_labels-reproved ns p steps) h)
 
 -- one more entry
 pub only-pushed : (m n : Places) (lib : List Ranked) (e : Ranked) (p : ℕ) → Puts m (label_of e) p n → HasOnly m (labels lib)

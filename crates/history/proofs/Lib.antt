@@ -1,4 +1,5 @@
-pub mod Relabelling
+pub mod Changing
+pub mod Citations
 pub mod Indexes
 pub mod Keys
 pub mod Undoing

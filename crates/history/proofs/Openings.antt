@@ -1,6 +1,6 @@
 -- The opening library: its entries one by one.
-use Rattle.std.proofs.Common.{◌≡◌, ℕ, zero, suc, ◌+◌, ◌*◌, ◌<◌, ◌≤◌, false, List, [], ◌∷◌, ◌++◌, Some, inl, inr, length, get_or, take, map}
-use Rattle.std.proofs.Common.{refl, sym, ap, subst, ◌∙◌, arith}
+use Rattle.std.proofs.Common.{◌≡◌, ℕ, zero, suc, ◌+◌, ◌*◌, ◌<◌, false, List, [], ◌∷◌, ◌++◌, Some, inl, inr, length, get_or, take, map}
+use Rattle.std.proofs.Common.{refl, sym, ap, ◌∙◌, arith}
 use Rattle.std.specs.Prelude.{slice_get}
 use Rattle.std.specs.Str.{bytes_eq}
 use Rattle.std.proofs.lemmas.Bool.{cases_Bool}
@@ -13,7 +13,7 @@ use Rattle.commands.specs.declared.library.Ranked.{Ranked}
 use Rattle.commands.specs.Library.{label_of, ranked_from}
 use Rattle.commands.specs.Edits.{has}
 use Rattle.commands.proofs.Places.{labels_apart}
-use Rattle.history.proofs.Relabelling.{has-none}
+use Rattle.history.proofs.Changing.{has-none}
 
 pub length-ranked_from : (k : ℕ) (xs : List Assertion) → length (ranked_from k xs) ≡ length xs
 length-ranked_from k [] = refl

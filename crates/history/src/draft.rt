@@ -6,11 +6,12 @@ ghost use Rattle.mmsyntax.specs.Assertions.{Distinct};
 ghost use Rattle.commands.specs.declared.command.Command.TheVariants.{Rename, Show};
 ghost use Rattle.commands.specs.Library.{Setting, Verifies, ShowsInOrder, label_of, ranked_from};
 ghost use Rattle.commands.specs.Edits.{has};
-ghost use Rattle.history.specs.Drafts.{relabelled, KeepsStart, Takes, TakesAll};
+ghost use Rattle.history.specs.Drafts.{relabelled, changed_at, citing, KeepsStart, Takes, TakesAll};
 ghost use Rattle.history.specs.declared.editor.ApplyError.TheVariants as error;
 
+use crate::citing::{cites, count_citers, renamed_steps};
 use crate::editor::ApplyError;
-use crate::notes::{Note, drop_notes, push_note, swap_label, take_all_back};
+use crate::notes::{Note, drop_notes, push_note, swap_label, swap_proof, take_all_back};
 use crate::places::{Places, find_label, open_entries};
 use commands::{Command, PlainLibrary, Ranked, Reason, Refused, Reply};
 use mmstatement::{Assertion, Label, Prelude, Sequence, is_lawful_label};
@@ -18,7 +19,7 @@ use std::alloc::{AllocError, Global};
 use std::hash::RandomState;
 use std::marker::Model;
 
-/// A clause sees the setting, the library as the transaction found it, the library now, and the renames noted since.
+/// A clause sees the setting, the library as the transaction found it, the library now, and the changes noted since.
 #[derive(Drop)]
 pub(crate) struct Draft {
     prelude: Prelude,
@@ -92,7 +93,47 @@ impl Draft {
         self.notes.reserve(1)?;
         self.places.insert(key, place)?;
         swap_label(self.entries.as_mut_slice(), place, &mut former);
-        push_note(&mut self.notes, Note { place, former });
+        push_note(&mut self.notes, Note::Relabelled { place, former });
+        Ok(())
+    }
+
+    /// Replaces a label in the proof of the assertion at a place. All memory that it takes is taken before anything changes.
+    fn recite(
+        &mut self,
+        alloc: Global,
+        place: usize,
+        old: &Label,
+        new: &Label,
+    ) -> Result<(), AllocError>
+        requires { place < length self.old.library }
+        ensures done { IfOk result (λ _. self.new.library ≡ changed_at self.old.library place (citing old.now new.now)) }
+        ensures kept { KeepsStart self.old self.new }
+        ensures unchanged { OnErr result (self.new ≡ self.old) }
+    {
+        let entry = &self.entries[place];
+        if !cites(entry, old.as_slice()) {
+            return Ok(());
+        }
+        let mut former = renamed_steps(
+            alloc,
+            entry.assertion.proof.as_slice(),
+            old.as_slice(),
+            new,
+        )?;
+        self.notes.reserve(1)?;
+        swap_proof(self.entries.as_mut_slice(), place, &mut former);
+        push_note(&mut self.notes, Note::Reproved { place, former });
+        Ok(())
+    }
+
+    /// Replaces a label in every proof. After an error it is replaced in some of them.
+    fn recite_all(&mut self, alloc: Global, old: &Label, new: &Label) -> Result<(), AllocError>
+        ensures done { IfOk result (λ _. self.new.library ≡ map (citing old.now new.now) self.old.library) }
+        ensures kept { KeepsStart self.old self.new }
+    {
+        for place in 0..self.assertion_count() {
+            self.recite(alloc, place, old, new)?;
+        }
         Ok(())
     }
 
@@ -117,6 +158,7 @@ impl Draft {
             return Err(refused(index, Reason::LabelTaken));
         }
         self.relabel(alloc, place, new)?;
+        self.recite_all(alloc, old, new)?;
         Ok(Reply::Done)
     }
 
@@ -128,8 +170,11 @@ impl Draft {
             return Err(refused(index, Reason::UnknownLabel));
         };
         let shown = self.entries[place].copy(alloc)?;
-        // Every assertion is an axiom and has no proof, so none cites another.
-        Ok(Reply::Shown { citers: 0, shown })
+        let citers = count_citers(self.entries.as_slice(), label.as_slice());
+        Ok(Reply::Shown {
+            citers: citers as u64,
+            shown,
+        })
     }
 
     fn take(&mut self, alloc: Global, index: usize, command: &Command) -> Result<Reply, ApplyError>

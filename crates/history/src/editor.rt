@@ -68,12 +68,13 @@ impl Model for Editor {
 
 impl Editor {
     ghost use Rattle.std.specs.Prelude.{◌≡◌, ◌≤◌, length};
-    ghost use Rattle.commands.specs.Library.{Verifies, EachFollows, ShowsInOrder};
+    ghost use Rattle.proofcheck.specs.Databases.{AllCheck};
+    ghost use Rattle.commands.specs.Library.{Verifies, ShowsInOrder};
     ghost use Rattle.history.specs.Editors.{Answers};
     ghost use Rattle.history.specs.Openings.{Opens};
 
-    /// Opens the opening library of a database in which each assertion follows from the earlier ones. Its k-th assertion has the rank
-    /// 100 k, and there is room for `slots` assertions, 1 to 4,096.
+    /// Opens the opening library of a database whose proofs check over the earlier assertions. Its k-th assertion has the rank 100 k, and
+    /// there is room for `slots` assertions, 1 to 4,096.
     ///
     /// # Errors
     ///
@@ -85,7 +86,7 @@ impl Editor {
         slots: usize,
     ) -> Result<Editor, OpenError>
         requires slots { (1 ≤ slots) × (slots ≤ 4096) }
-        requires follows { EachFollows db.now }
+        requires checks { AllCheck db.now }
         ensures { Opens db.now slots result }
     {
         let assertions = db.assertions();

@@ -1,6 +1,7 @@
 //! The one-thread editor, and histories: the library after a front of one.
 #![tactic(auto)]
 
+mod citing;
 mod draft;
 mod editor;
 mod laws;

@@ -1,20 +1,29 @@
-//! Renames that were done, and how they are taken back without memory.
+//! Changes that were done, and how they are taken back without memory.
 
 ghost use Rattle.std.specs.Prelude.{◌≡◌, ◌<◌, ◌∷◌, ◌++◌, [], length, map, vec_len, vec_capacity};
 ghost use Rattle.commands.specs.Library.{label_of};
 ghost use Rattle.history.specs.Places.{IsIndex, HasOnly, StandsAt, KeepsLabels};
-ghost use Rattle.history.specs.Drafts.{relabelled, taken_back, undone, former_labels, CanTakeBack, CanUndo};
+ghost use Rattle.history.specs.Drafts.{relabelled, reproved, taken_back, undone, former_labels};
+ghost use Rattle.history.specs.Drafts.{HoldsTaken, CanTakeBack, CanUndo, IsForgotten};
 
 use crate::places::{Places, forget_label, put_place};
 use commands::Ranked;
-use mmstatement::Label;
+use mmstatement::{Label, Sequence, Step};
 use std::mem;
 
-/// A rename that was done: the place of the assertion, counted from 0, and the label that it had.
+/// A change that was done to the assertion at a place, counted from 0.
 #[derive(Drop)]
-pub(crate) struct Note {
-    pub place: usize,
-    pub former: Label,
+pub(crate) enum Note {
+    /// It was given another label: the label that it had.
+    Relabelled {
+        place: usize,
+        former: Label,
+    },
+    /// It was given another proof: the proof that it had.
+    Reproved {
+        place: usize,
+        former: Sequence<Step>,
+    },
 }
 
 /// Gives the assertion at a place a label, and takes the one that it had.
@@ -25,6 +34,16 @@ pub(crate) fn swap_label(entries: &mut [Ranked], place: usize, label: &mut Label
 {
     let entry = &mut entries[place];
     mem::swap(&mut entry.assertion.label, label);
+}
+
+/// Gives the assertion at a place a proof, and takes the one that it had.
+pub(crate) fn swap_proof(entries: &mut [Ranked], place: usize, steps: &mut Sequence<Step>)
+    requires { place < length entries.old }
+    ensures given { entries.new ≡ reproved entries.old place steps.old }
+    ensures taken { reproved entries.old place steps.new ≡ entries.old }
+{
+    let entry = &mut entries[place];
+    mem::swap(&mut entry.assertion.proof, steps);
 }
 
 /// One more note, for which there is room.
@@ -38,7 +57,7 @@ pub(crate) fn push_note(notes: &mut Vec<Note>, note: Note)
     }
 }
 
-/// Takes one rename back. The note then has the label that was taken back.
+/// Takes one change back. The note then has what was taken back.
 fn take_back(entries: &mut [Ranked], places: &mut Places, note: &mut Note)
     requires indexed { IsIndex places.old entries.old }
     requires can { CanTakeBack places.old entries.old note.old }
@@ -46,13 +65,18 @@ fn take_back(entries: &mut [Ranked], places: &mut Places, note: &mut Note)
     ensures indexed { IsIndex places.new entries.new }
     ensures labels { KeepsLabels places.old places.new }
     ensures fewer { KeepsLabels places.new places.old }
-    ensures noted { StandsAt entries.old note.new.former note.old.place }
+    ensures noted { HoldsTaken entries.old note.old note.new }
 {
-    put_place(places, note.former.as_slice(), note.place);
-    swap_label(entries, note.place, &mut note.former);
+    match note {
+        Note::Relabelled { place, former } => {
+            put_place(places, former.as_slice(), *place);
+            swap_label(entries, *place, former);
+        }
+        Note::Reproved { place, former } => swap_proof(entries, *place, former),
+    }
 }
 
-/// Takes all renames back, from the last to the first. The notes then have the labels that were taken back.
+/// Takes all changes back, from the last to the first. The notes then have what was taken back.
 pub(crate) fn take_all_back(entries: &mut [Ranked], places: &mut Places, notes: &mut [Note])
     requires indexed { IsIndex places.old entries.old }
     requires only { HasOnly places.old (map label_of entries.old ++ former_labels notes.old) }
@@ -68,6 +92,19 @@ pub(crate) fn take_all_back(entries: &mut [Ranked], places: &mut Places, notes: 
     }
 }
 
+/// Drops a note, and from the map its label, unless an assertion has it.
+fn forget_note(entries: &[Ranked], places: &mut Places, note: Note)
+    requires { IsIndex places.old entries.now }
+    ensures indexed { IsIndex places.new entries.now }
+    ensures fewer { KeepsLabels places.new places.old }
+    ensures gone { IsForgotten places.new entries.now note }
+{
+    match note {
+        Note::Relabelled { former, .. } => forget_label(entries, places, former.as_slice()),
+        Note::Reproved { .. } => {}
+    }
+}
+
 /// Drops all notes, and from the map their labels that no assertion has.
 pub(crate) fn drop_notes(entries: &[Ranked], places: &mut Places, notes: &mut Vec<Note>)
     requires indexed { IsIndex places.old entries.now }
@@ -77,6 +114,6 @@ pub(crate) fn drop_notes(entries: &[Ranked], places: &mut Places, notes: &mut Ve
     ensures empty { notes.new.items ≡ [] }
 {
     while let Some(note) = notes.pop() {
-        forget_label(entries, places, note.former.as_slice());
+        forget_note(entries, places, note);
     }
 }

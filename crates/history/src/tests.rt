@@ -1,11 +1,16 @@
 //! The editor on small databases, with values from the table of commands.
 
+ghost use Rattle.std.specs.Prelude.{◌≤◌};
+
 use crate::{ApplyError, Editor, OpenError};
-use commands::{Command, Reason, Refused, Reply, first_theorem};
-use mmstatement::{Label, Sequence, read_database};
-use std::alloc::{AllocError, Global};
+use commands::{Command, PlainLibrary, Reason, Refused, Reply};
+use mmstatement::{Label, Sequence, Step, read_database};
+use proofcheck::check_all;
+use std::alloc::{AllocError, AllocGlobal, Global};
 use std::hash::RandomState;
+use std::random::RandomSource;
 use std::test::Fail;
+use std::thread::Threads;
 
 const MINI: &[u8; 23] = b"$c wff $.\nwe $a wff $.\n";
 
@@ -15,13 +20,28 @@ fn label(alloc: Global, text: &[u8]) -> Result<Label, AllocError> {
     Ok(Sequence::from_vec(Vec::from_slice(alloc, text)?))
 }
 
-fn opened(rt: &HostRuntime, text: &[u8]) -> Result<Editor, Fail> {
+/// The editor of a database with room for so many assertions, or why it isn't opened.
+fn open_with(
+    rt: &(impl AllocGlobal + RandomSource + Threads + Sync),
+    text: &[u8],
+    slots: usize,
+) -> Result<Result<Editor, OpenError>, Fail>
+    requires { (1 ≤ slots) × (slots ≤ 4096) }
+{
+    let alloc = rt.alloc();
     let keys = RandomState::new(rt)?;
-    let db = read_database(rt.alloc(), keys, text)?;
-    if first_theorem(&db).is_some() {
-        return Err(Fail::from("the database has axioms alone"));
-    }
-    Ok(Editor::open(rt.alloc(), keys, &db, 2)?)
+    let db = read_database(alloc, keys, text)?;
+    let Ok(()) = check_all(rt, alloc, &db) else {
+        return Err(Fail::from("the proofs of the database check"));
+    };
+    Ok(Editor::open(alloc, keys, &db, slots))
+}
+
+fn opened(
+    rt: &(impl AllocGlobal + RandomSource + Threads + Sync),
+    text: &[u8],
+) -> Result<Editor, Fail> {
+    Ok(open_with(rt, text, 2)?.or(Err("the editor opens"))?)
 }
 
 fn renames(alloc: Global, pairs: &[(&[u8], &[u8])]) -> Result<Vec<Command>, AllocError> {
@@ -105,14 +125,65 @@ fn gives_swapped_labels_back(rt: HostRuntime) -> Result<(), Fail> {
 
 #[test]
 fn counts_the_slots(rt: HostRuntime) -> Result<(), Fail> {
-    let keys = RandomState::new(&rt)?;
-    let db = read_database(rt.alloc(), keys, PAIR)?;
-    if first_theorem(&db).is_some() {
-        return Err(Fail::from("the database has axioms alone"));
-    }
-    let one = Editor::open(rt.alloc(), keys, &db, 1).err();
+    let one = open_with(&rt, PAIR, 1)?.err();
     assert_eq!(rt; one, Some(OpenError::TooMany));
     let editor = opened(&rt, PAIR)?;
     assert_eq!(rt; editor.assertion_count(), editor.slots());
+    Ok(())
+}
+
+/// An axiom, another with two hypotheses, and a theorem that cites the first twice.
+const CITED: &[u8; 84] =
+    b"$c wff $. a $a wff $. ${ x $e wff $. y $e wff $. b $a wff $. $} t $p wff $= a a b $.";
+
+fn cited_twice(rt: &(impl AllocGlobal + RandomSource + Threads + Sync)) -> Result<Editor, Fail> {
+    Ok(open_with(rt, CITED, 3)?.or(Err("the editor opens"))?)
+}
+
+/// The label that a step of the theorem's proof cites.
+fn cited(library: &PlainLibrary, step: usize) -> Option<&[u8]> {
+    let theorem = library.entries().get(2)?;
+    match theorem.assertion.proof.as_slice().get(step)? {
+        Step::Cite(label) => Some(label.as_slice()),
+        _ => None,
+    }
+}
+
+fn citers_of(alloc: Global, editor: &mut Editor, text: &[u8]) -> Result<Option<u64>, Fail> {
+    let mut commands = Vec::new(alloc);
+    commands.push(Command::Show {
+        label: label(alloc, text)?,
+    })?;
+    let replies = editor.apply(alloc, commands.as_slice())?;
+    match replies.as_slice().first() {
+        Some(Reply::Shown { citers, .. }) => Ok(Some(*citers)),
+        _ => Ok(None),
+    }
+}
+
+#[test]
+fn renames_in_proofs(rt: HostRuntime) -> Result<(), Fail> {
+    let alloc = rt.alloc();
+    let mut editor = cited_twice(&rt)?;
+    assert_eq!(rt; apply(alloc, &mut editor, &[(b"a", b"c")])?, None);
+    assert_eq!(rt; citers_of(alloc, &mut editor, b"c")?, Some(1));
+    assert_eq!(rt; citers_of(alloc, &mut editor, b"t")?, Some(0));
+    let library = editor.into_library();
+    assert_eq!(rt; cited(&library, 0), Some(b"c".as_slice()));
+    assert_eq!(rt; cited(&library, 1), Some(b"c".as_slice()));
+    assert_eq!(rt; cited(&library, 2), Some(b"b".as_slice()));
+    Ok(())
+}
+
+#[test]
+fn gives_proofs_back(rt: HostRuntime) -> Result<(), Fail> {
+    let alloc = rt.alloc();
+    let mut editor = cited_twice(&rt)?;
+    let fails: [(&[u8], &[u8]); 3] = [(b"a", b"c"), (b"c", b"d"), (b"a", b"e")];
+    let third = apply(alloc, &mut editor, &fails)?;
+    assert_eq!(rt; third, refused(3, Reason::UnknownLabel));
+    assert_eq!(rt; citers_of(alloc, &mut editor, b"a")?, Some(1));
+    let library = editor.into_library();
+    assert_eq!(rt; cited(&library, 1), Some(b"a".as_slice()));
     Ok(())
 }

@@ -1,19 +1,12 @@
 -- What a reader answers, against the spellings and the faults of texts.
 use Rattle.std.proofs.Common.{◌≡◌, ◌≤◌, ℕ, List, length, Result, Ok, Err, refl, sym, subst, ◌∙◌}
 use Rattle.mmsyntax.specs.declared.statement.Assertion.{Assertion}
-use Rattle.mmtext.specs.declared.fault.Stop.{Stop}
-use Rattle.mmtext.specs.declared.fault.Stop.TheVariants as stop
 use Rattle.mmtext.specs.declared.fault.TextFault.{TextFault}
 use Rattle.mmtext.specs.Languages.{reading}
 use Rattle.mmsyntax.specs.Tables.{Tables, Contents}
 use Rattle.mmsyntax.specs.Faults.{database_language, unit_language}
 use Rattle.mmsyntax.specs.Grammar.{Spells, SpellsUnit}
-use Rattle.mmtext.specs.Views.{Fails}
 use Rattle.mmreader.proofs.DatabaseLaws.{database_spelled, unit_spelled}
-
--- the fault that a function gives is that of the reading
-pub fault_given : {A : Type 0} (e : Stop) (f : TextFault) (r : Result A TextFault) → e ≡ stop.Fault f → Fails e r → r ≡ Err f
-fault_given e f r is fails = subst (λ (x : Stop). Fails x r) is fails
 
 same_ok : {A : Type 0} (r : Result A TextFault) (a b : A) → r ≡ Ok a → r ≡ Ok b → a ≡ b
 same_ok r a b h g = let e : Ok a ≡ Ok b = sym h ∙ g in cc

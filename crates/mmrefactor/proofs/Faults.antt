@@ -8,7 +8,7 @@ use Rattle.mmtext.specs.declared.fault.FaultKind.TheVariants.{NoMemory as OutOfM
 use Rattle.commands.specs.Scripts.{SpellsScript}
 use Rattle.commands.specs.ScriptFaults.{FaultyScript}
 use Rattle.mmrefactor.specs.declared.job.Fault.{Fault}
-use Rattle.mmrefactor.specs.declared.job.Fault.TheVariants.{Text, Proof, Theorem, NoMemory}
+use Rattle.mmrefactor.specs.declared.job.Fault.TheVariants.{Text, Proof, NoMemory}
 use Rattle.mmrefactor.specs.Jobs.{Bytes, Orders, IsScript, AreScripts, IsFirstFault, IsScriptFault, IsTextFaultOf, IsRefusedBy, IsRefusedWith}
 
 -- ---- lists of texts
@@ -70,7 +70,6 @@ pub script_fault : (ts : Texts) (xs : List Orders) (t : Vec ℕ Global) (i : ℕ
     → (f.kind ≢ OutOfMemory → FaultyScript t.items f) → IsTextFaultOf (i + 1) f fault → IsScriptFault (bytes ts) fault
 script_fault ts xs t i f NoMemory within is_t h faulty is = tt
 script_fault ts xs t i f (Proof label g) within is_t h faulty is = elim is [ ]
-script_fault ts xs t i f (Theorem label) within is_t h faulty is = elim is [ ]
 script_fault ts xs t i f (Text zero g) within is_t h faulty is = absurd (let z : 0 ≡ i + 1 = is.0 in omega arith)
 script_fault ts xs t i f (Text (suc k) g) within is_t h faulty is =
     let at : k ≡ i = (let e : suc k ≡ i + 1 = is.0 in omega arith) in
@@ -89,14 +88,12 @@ refused_with n g f NoMemory is h = tt
 refused_with n g f (Text m q) is (inl same) = (is.0, is.1 ∙ same)
 refused_with n g f (Text m q) is (inr out) = absurd (is.2 out)
 refused_with n g f (Proof label q) is h = elim is [ ]
-refused_with n g f (Theorem label) is h = elim is [ ]
 
 -- where the text has no fault, memory ran out
 out_of_memory : (n k : ℕ) (g f : TextFault) (fault : Fault) → IsTextFaultOf n g fault → (g.kind ≢ OutOfMemory → ⊥) → IsRefusedBy k f fault
 out_of_memory n k g f NoMemory is h = tt
 out_of_memory n k g f (Text m q) is h = absurd (h is.2)
 out_of_memory n k g f (Proof label q) is h = elim is [ ]
-out_of_memory n k g f (Theorem label) is h = elim is [ ]
 
 -- behind texts that are read the first fault is that of the next text, or it has none
 first_or_none : (ts : List Bytes) (xs : List Orders) (t : Bytes) (rest : List Bytes) (k : ℕ) (f : TextFault) → AreScripts ts xs

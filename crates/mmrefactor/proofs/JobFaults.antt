@@ -1,5 +1,5 @@
--- The faults of a job, in their order: that of its database, of a proof, the first theorem, that of a script; and which is answered.
-use Rattle.std.proofs.Common.{◌≡◌, ◌≢◌, ◌∙◌, ◌+◌, ◌<◌, ◌≤◌, ◌⊎◌, inl, inr, Option, Some, None, ℕ, zero, suc, List, length, subst, sym, ap, refl, arith, ltb}
+-- The faults of a job, in their order: that of its database, of a proof, that of a script; and which is answered.
+use Rattle.std.proofs.Common.{◌≡◌, ◌≢◌, ◌∙◌, ◌+◌, ◌<◌, ◌≤◌, ◌⊎◌, inl, inr, Some, ℕ, zero, suc, List, length, subst, sym, ap, refl, arith, ltb}
 use Rattle.std.specs.Prelude.{slice_get}
 use Rattle.std.proofs.lemmas.Bool.{cases_Bool, ltb-true, ltb-false}
 use Rattle.mmsyntax.specs.declared.statement.Assertion.{Assertion}
@@ -11,10 +11,9 @@ use Rattle.mmsyntax.specs.Faults.{FaultyDatabase}
 use Rattle.proofcheck.specs.declared.fault.ProofFault.{ProofFault}
 use Rattle.proofcheck.specs.declared.fault.ProofFaultKind.TheVariants.{NoMemory as NoMemoryOfProof}
 use Rattle.proofcheck.specs.Databases.{AllCheck, IsFirstFault as IsFirstFaultOfProofs}
-use Rattle.commands.specs.Library.{first_theorem}
 use Rattle.mmrefactor.specs.declared.job.Fault.{Fault}
-use Rattle.mmrefactor.specs.declared.job.Fault.TheVariants.{Text, Proof, Theorem, NoMemory}
-use Rattle.mmrefactor.specs.Jobs.{Bytes, IsDatabase, IsChecked, IsLabelAt, IsFirstFault, IsProofFault, IsTheoremFault, IsDatabaseFault}
+use Rattle.mmrefactor.specs.declared.job.Fault.TheVariants.{Text, Proof, NoMemory}
+use Rattle.mmrefactor.specs.Jobs.{Bytes, IsDatabase, IsChecked, IsLabelAt, IsFirstFault, IsProofFault, IsDatabaseFault}
 use Rattle.mmrefactor.specs.Jobs.{IsRunFault, IsTextFaultOf, IsProofFaultOf, IsRefusedBy, IsOrLacksMemory}
 
 -- ---- proofs
@@ -24,7 +23,6 @@ pub proof_faulted : (db : Contents) (n : ℕ) (fault : ProofFault) (f : Fault)
     → (fault.kind ≢ NoMemoryOfProof → IsFirstFaultOfProofs db n fault) → IsProofFaultOf db n fault f → f ≢ NoMemory → IsProofFault db f
 proof_faulted db n fault NoMemory first is ne = absurd (ne refl)
 proof_faulted db n fault (Text k g) first is ne = elim is [ ]
-proof_faulted db n fault (Theorem label) first is ne = elim is [ ]
 proof_faulted db n fault (Proof label g) first is ne = (
   is.0,
   subst (λ (q : ProofFault). IsFirstFaultOfProofs db (is.0 + 1) q) (sym is.3)
@@ -45,9 +43,7 @@ pub proof_refused : (db : Contents) (n : ℕ) (fault : ProofFault) (answer f : F
     → IsOrLacksMemory f answer
 proof_refused db n fault NoMemory f is h refused = inr refl
 proof_refused db n fault (Text k g) f is h refused = elim is [ ]
-proof_refused db n fault (Theorem label) f is h refused = elim is [ ]
 proof_refused db n fault (Proof label g) (Text k q) is h refused = elim h [ ]
-proof_refused db n fault (Proof label g) (Theorem l) is h refused = elim h [ ]
 proof_refused db n fault (Proof label g) NoMemory is h refused = elim h [ ]
 proof_refused db n fault (Proof label g) (Proof m q) is h refused =
     let both = refused (h.0 + 1) q h.1 is.4 in
@@ -63,7 +59,6 @@ pub proof_memory : (db : Contents) (n : ℕ) (fault : ProofFault) (answer : Faul
     → fault.kind ≡ NoMemoryOfProof → answer ≡ NoMemory
 proof_memory db n fault NoMemory is out = refl
 proof_memory db n fault (Text k g) is out = elim is [ ]
-proof_memory db n fault (Theorem label) is out = elim is [ ]
 proof_memory db n fault (Proof label g) is out = absurd (is.4 out)
 
 -- ---- the text of the database
@@ -79,7 +74,6 @@ pub text_faulted : (text : Bytes) (g : TextFault) (f : Fault) → IsTextFaultOf 
     → f ≢ NoMemory → IsDatabaseFault text f
 text_faulted text g NoMemory is faulty ne = absurd (ne refl)
 text_faulted text g (Proof label q) is faulty ne = elim is [ ]
-text_faulted text g (Theorem label) is faulty ne = elim is [ ]
 text_faulted text g (Text (suc k) q) is faulty ne = absurd (let z : suc k ≡ 0 = is.0 in omega arith)
 text_faulted text g (Text zero q) is faulty ne = (
   subst (λ (x : TextFault). FaultyDatabase text x) (sym is.1) (faulty is.2),
@@ -89,7 +83,6 @@ text_faulted text g (Text zero q) is faulty ne = (
 pub text_memory : (g : TextFault) (f : Fault) → IsTextFaultOf 0 g f → g.kind ≡ OutOfMemory → f ≡ NoMemory
 text_memory g NoMemory is out = refl
 text_memory g (Proof label q) is out = elim is [ ]
-text_memory g (Theorem label) is out = elim is [ ]
 text_memory g (Text k q) is out = absurd (is.2 out)
 
 -- a text that isn't read is refused with its fault
@@ -98,9 +91,7 @@ pub text_refused : (text : Bytes) (g : TextFault) (answer f : Fault) → IsTextF
     → ((contents : Contents) → IsDatabase text contents → g.kind ≡ OutOfMemory) → IsDatabaseFault text f → IsOrLacksMemory f answer
 text_refused text g NoMemory f is refuses only h = inr refl
 text_refused text g (Proof label q) f is refuses only h = elim is [ ]
-text_refused text g (Theorem label) f is refuses only h = elim is [ ]
 text_refused text g (Text n q) (Text (suc k) x) is refuses only h = elim h [ ]
-text_refused text g (Text n q) (Theorem label) is refuses only h = elim h [ ]
 text_refused text g (Text n q) NoMemory is refuses only h = elim h [ ]
 text_refused text g (Text n q) (Proof label x) is refuses only h = absurd (is.2 (only h.0 h.1))
 text_refused text g (Text n q) (Text zero x) is refuses only h = elim (refuses x h.0) [
@@ -113,7 +104,6 @@ text_refused text g (Text n q) (Text zero x) is refuses only h = elim (refuses x
 pub proof_of_database : (text : Bytes) (db : Contents) (f : Fault) → IsDatabase text db → IsProofFault db f → IsDatabaseFault text f
 proof_of_database text db (Proof label g) is h = (db, is, h)
 proof_of_database text db (Text k g) is h = elim h [ ]
-proof_of_database text db (Theorem label) is h = elim h [ ]
 proof_of_database text db NoMemory is h = elim h [ ]
 
 module _ (text : Bytes) (db : Contents) (none : (g : TextFault) → FaultyDatabase text g → ⊥)
@@ -123,7 +113,6 @@ module _ (text : Bytes) (db : Contents) (none : (g : TextFault) → FaultyDataba
       → IsOrLacksMemory f answer
   database_refused answer (Text zero g) proofs h = absurd (none g h.0)
   database_refused answer (Text (suc k) g) proofs h = elim h [ ]
-  database_refused answer (Theorem label) proofs h = elim h [ ]
   database_refused answer NoMemory proofs h = elim h [ ]
   database_refused answer (Proof label g) proofs h =
       proofs (Proof label g) (subst (λ (c : Contents). IsProofFault c (Proof label g)) (sym (same h.0 h.1)) h.2)
@@ -132,7 +121,6 @@ module _ (text : Bytes) (db : Contents) (none : (g : TextFault) → FaultyDataba
   pub database_faultless : (f : Fault) → ((g : Fault) → IsProofFault db g → ⊥) → IsDatabaseFault text f → ⊥
   database_faultless (Text zero g) proofs h = none g h.0
   database_faultless (Text (suc k) g) proofs h = h
-  database_faultless (Theorem label) proofs h = h
   database_faultless NoMemory proofs h = h
   database_faultless (Proof label g) proofs h =
       proofs (Proof label g) (subst (λ (c : Contents). IsProofFault c (Proof label g)) (sym (same h.0 h.1)) h.2)
@@ -146,59 +134,27 @@ pub run_refused_by_database : (text : Bytes) (texts : List Bytes) (answer f : Fa
 run_refused_by_database text texts answer (Text zero g) database only h = database (Text zero g) h
 run_refused_by_database text texts answer (Text (suc k) g) database only h = inr (only h.0.0 h.0.1)
 run_refused_by_database text texts answer (Proof label g) database only h = database (Proof label g) h
-run_refused_by_database text texts answer (Theorem label) database only h = inr (only h.0 h.1)
 run_refused_by_database text texts answer NoMemory database only h = elim h [ ]
 
-clash : (db contents : Contents) (place : ℕ) → db ≡ contents → first_theorem db ≡ None → first_theorem contents ≡ Some place → ⊥
-clash db contents place same none some =
-    let e : None ≡ Some place = sym none ∙ ap first_theorem same ∙ some in
-    absurd cc
-
-module _ (text : Bytes) (texts : List Bytes) (db : Contents) (none : (g : Fault) → IsDatabaseFault text g → ⊥)
-    (same : (contents : Contents) → IsChecked text contents → db ≡ contents) where
-  -- a fault that is answered for a theorem leaves no room for that of a script
-  theorem_or_memory : (answer : Fault) → (answer ≢ NoMemory → IsTheoremFault db answer) → (contents : Contents) → IsChecked text contents
-      → first_theorem contents ≡ None → answer ≡ NoMemory
-  theorem_or_memory NoMemory is contents checked axioms = refl
-  theorem_or_memory (Text k g) is contents checked axioms = elim (is (λ (e : Text k g ≡ NoMemory). absurd cc)) [ ]
-  theorem_or_memory (Proof label g) is contents checked axioms = elim (is (λ (e : Proof label g ≡ NoMemory). absurd cc)) [ ]
-  theorem_or_memory (Theorem label) is contents checked axioms =
-      let t = is (λ (e : Theorem label ≡ NoMemory). absurd cc) in
-      absurd (clash contents db t.0 (sym (same contents checked)) axioms t.1)
-
-  -- a run over a database with a theorem is refused with it
-  pub run_refused_by_theorem : (answer f : Fault) → (answer ≢ NoMemory → IsTheoremFault db answer)
-      → ((g : Fault) → IsTheoremFault db g → IsOrLacksMemory g answer) → IsRunFault text texts f → IsOrLacksMemory f answer
-  run_refused_by_theorem answer (Text zero g) is theorem h = absurd (none (Text zero g) h)
-  run_refused_by_theorem answer (Proof label g) is theorem h = absurd (none (Proof label g) h)
-  run_refused_by_theorem answer NoMemory is theorem h = elim h [ ]
-  run_refused_by_theorem answer (Text (suc k) g) is theorem h = inr (theorem_or_memory answer is h.0.0 h.0.1 h.0.2)
-  run_refused_by_theorem answer (Theorem label) is theorem h =
-      theorem (Theorem label) (subst (λ (c : Contents). IsTheoremFault c (Theorem label)) (sym (same h.0 h.1)) h.2)
-
+module _ (text : Bytes) (texts : List Bytes) (none : (g : Fault) → IsDatabaseFault text g → ⊥) where
   refused_by_text : (k : ℕ) (g : TextFault) (answer : Fault) → IsRefusedBy (k + 1) g answer → IsOrLacksMemory (Text (suc k) g) answer
   refused_by_text k g NoMemory h = inr refl
   refused_by_text k g (Proof label q) h = elim h [ ]
-  refused_by_text k g (Theorem label) h = elim h [ ]
   refused_by_text k g (Text n q) h =
       let next : n ≡ suc k = h.0 ∙ (omega arith) in
       inl (ap (λ (m : ℕ). Text m q) next ∙ ap (λ (x : TextFault). Text (suc k) x) h.1)
 
-  -- a run over axioms is refused with the fault of a script
-  pub run_refused_by_script : (answer f : Fault) → first_theorem db ≡ None
-      → ((k : ℕ) (g : TextFault) → IsFirstFault texts k g → IsRefusedBy (k + 1) g answer) → IsRunFault text texts f
-      → IsOrLacksMemory f answer
-  run_refused_by_script answer (Text zero g) axioms scripts h = absurd (none (Text zero g) h)
-  run_refused_by_script answer (Proof label g) axioms scripts h = absurd (none (Proof label g) h)
-  run_refused_by_script answer NoMemory axioms scripts h = elim h [ ]
-  run_refused_by_script answer (Text (suc k) g) axioms scripts h = refused_by_text k g answer (scripts k g h.1)
-  run_refused_by_script answer (Theorem label) axioms scripts h = absurd (clash db h.0 h.2.0 (same h.0 h.1) axioms h.2.1)
+  -- a run is refused with the fault of a script
+  pub run_refused_by_script : (answer f : Fault) → ((k : ℕ) (g : TextFault) → IsFirstFault texts k g → IsRefusedBy (k + 1) g answer)
+      → IsRunFault text texts f → IsOrLacksMemory f answer
+  run_refused_by_script answer (Text zero g) scripts h = absurd (none (Text zero g) h)
+  run_refused_by_script answer (Proof label g) scripts h = absurd (none (Proof label g) h)
+  run_refused_by_script answer NoMemory scripts h = elim h [ ]
+  run_refused_by_script answer (Text (suc k) g) scripts h = refused_by_text k g answer (scripts k g h.1)
 
-  -- a run over axioms, of scripts without a fault, has none
-  pub run_faultless : (f : Fault) → first_theorem db ≡ None → ((k : ℕ) (g : TextFault) → IsFirstFault texts k g → ⊥)
-      → IsRunFault text texts f → ⊥
-  run_faultless (Text zero g) axioms scripts h = none (Text zero g) h
-  run_faultless (Proof label g) axioms scripts h = none (Proof label g) h
-  run_faultless NoMemory axioms scripts h = h
-  run_faultless (Text (suc k) g) axioms scripts h = scripts k g h.1
-  run_faultless (Theorem label) axioms scripts h = clash db h.0 h.2.0 (same h.0 h.1) axioms h.2.1
+  -- a run of scripts without a fault has none
+  pub run_faultless : (f : Fault) → ((k : ℕ) (g : TextFault) → IsFirstFault texts k g → ⊥) → IsRunFault text texts f → ⊥
+  run_faultless (Text zero g) scripts h = none (Text zero g) h
+  run_faultless (Proof label g) scripts h = none (Proof label g) h
+  run_faultless NoMemory scripts h = h
+  run_faultless (Text (suc k) g) scripts h = scripts k g h.1

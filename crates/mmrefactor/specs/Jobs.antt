@@ -12,7 +12,7 @@ use Rattle.proofcheck.specs.declared.fault.ProofFault.{ProofFault}
 use Rattle.proofcheck.specs.declared.fault.ProofFaultKind.TheVariants.{NoMemory as NoMemoryOfProof}
 use Rattle.proofcheck.specs.Databases.{AllCheck, IsFirstFault as IsFirstFaultOfProofs}
 use Rattle.commands.specs.declared.command.Command.{Command}
-use Rattle.commands.specs.Library.{Listed, ShowsInOrder, setting_of, first_theorem}
+use Rattle.commands.specs.Library.{Listed, ShowsInOrder, setting_of}
 use Rattle.commands.specs.Scripts.{SpellsScript}
 use Rattle.commands.specs.ScriptFaults.{FaultyScript}
 use Rattle.export.specs.Exported.{Accepts, exported_text}
@@ -20,7 +20,7 @@ use Rattle.mmrefactor.specs.declared.job.Job.{Job}
 use Rattle.mmrefactor.specs.declared.job.Job.TheVariants.{Check, Run}
 use Rattle.mmrefactor.specs.declared.job.Printed.{Printed}
 use Rattle.mmrefactor.specs.declared.job.Fault.{Fault}
-use Rattle.mmrefactor.specs.declared.job.Fault.TheVariants.{Text, Proof, Theorem, NoMemory}
+use Rattle.mmrefactor.specs.declared.job.Fault.TheVariants.{Text, Proof, NoMemory}
 use Rattle.mmrefactor.specs.Outcomes.{at_opening, after_scripts}
 
 abbrev pub Bytes : Type 0
@@ -69,12 +69,11 @@ pub record IsCheck (db : Bytes) (out : Bytes) : Type 0 where
   pub checked : IsChecked db contents
   pub prints : out ≡ codes "ok " ++ (decimal (length contents.assertions) ++ 10 ∷ [])
 
--- the database is read as it is spelled, its proofs check and it has no theorem; the scripts are read as they are spelled; and what is
--- printed is that of their run
+-- the database is read as it is spelled, and its proofs check; the scripts are read as they are spelled; and what is printed is that of
+-- their run
 pub record IsRun (db : Bytes) (texts : List Bytes) (out : Bytes) : Type 0 where
   pub contents : Contents
   pub checked : IsChecked db contents
-  pub axioms : first_theorem contents ≡ None
   pub scripts : List Orders
   pub ordered : AreScripts texts scripts
   pub printed : PrintsRun contents scripts out
@@ -101,22 +100,16 @@ IsProofFault contents (Proof label fault) =
     (place : ℕ) × IsFirstFaultOfProofs contents (place + 1) fault × IsLabelAt contents place label × (fault.kind ≢ NoMemoryOfProof)
 IsProofFault contents _ = ⊥
 
--- the first theorem of a database, by its label
-abbrev pub IsTheoremFault : Contents → Fault → Type 0
-IsTheoremFault contents (Theorem label) = (place : ℕ) × (first_theorem contents ≡ Some place) × IsLabelAt contents place label
-IsTheoremFault contents _ = ⊥
-
 -- the fault of a text that has to be a database of which each proof checks
 abbrev pub IsDatabaseFault : Bytes → Fault → Type 0
 IsDatabaseFault text (Text zero f) = FaultyDatabase text f × (f.kind ≢ OutOfMemory)
 IsDatabaseFault text (Proof label fault) = (contents : Contents) × IsDatabase text contents × IsProofFault contents (Proof label fault)
 IsDatabaseFault text _ = ⊥
 
--- the fault of a run: that of its database, or its first theorem, or the fault of the first script that has one, the k-th at the place k
+-- the fault of a run: that of its database, or the fault of the first script that has one, the k-th at the place k
 abbrev pub IsRunFault : Bytes → List Bytes → Fault → Type 0
 IsRunFault db texts (Text (suc k) f) =
-    ((contents : Contents) × IsChecked db contents × (first_theorem contents ≡ None)) × IsFirstFault texts k f × (f.kind ≢ OutOfMemory)
-IsRunFault db texts (Theorem label) = (contents : Contents) × IsChecked db contents × IsTheoremFault contents (Theorem label)
+    ((contents : Contents) × IsChecked db contents) × IsFirstFault texts k f × (f.kind ≢ OutOfMemory)
 IsRunFault db texts f = IsDatabaseFault db f
 
 -- the first fault that a job has

@@ -2,7 +2,8 @@
 
 ghost use Rattle.std.specs.Prelude.{◌≡◌, ◌<◌, ◌^◌, [], length, All, IfOk, OnOk};
 ghost use Rattle.std.specs.List.{list_any};
-ghost use Rattle.commands.specs.Library.{opening, setting_of, EachFollows, ShowsInOrder};
+ghost use Rattle.proofcheck.specs.Databases.{AllCheck};
+ghost use Rattle.commands.specs.Library.{opening, setting_of, ShowsInOrder};
 ghost use Rattle.export.specs.Exported.{Accepts, exported_text};
 ghost use Rattle.mmrefactor.specs.Outcomes.{is_edit, standing, at_opening, outcome_at, standing_after, script_outcomes, after_script, all_outcomes, after_scripts, OutcomeFits, OutcomesFit};
 
@@ -129,7 +130,7 @@ fn run_all(
 
 /// Opens the editor of a database, with as many slots as it has assertions, at least one.
 fn open(alloc: Global, keys: RandomState, db: &Database) -> Result<Editor, AllocError>
-    requires { EachFollows db.now }
+    requires { AllCheck db.now }
     ensures { IfOk result (λ e. e ≡ record { setting = setting_of db.now; library = opening db.now }) }
 {
     let slots = db.assertions().len().max(1);
@@ -140,8 +141,7 @@ fn open(alloc: Global, keys: RandomState, db: &Database) -> Result<Editor, Alloc
     }
 }
 
-/// Runs the transactions of all scripts, script after script, over one editor of the database, in which each assertion follows from the
-/// earlier ones.
+/// Runs the transactions of all scripts, script after script, over one editor of the database, whose proofs check.
 ///
 /// An edit that is not refused is `Committed` with the next number from 1. What only reads is `Read`, and a refusal `Refused`, with the
 /// number of commits so far as its place. The library is the one after all of them. Fails only for want of memory.
@@ -151,7 +151,7 @@ pub fn edit_all(
     db: &Database,
     scripts: &[Script],
 ) -> Result<(Sequence<Sequence<Outcome>>, PlainLibrary), AllocError>
-    requires { EachFollows db.now }
+    requires { AllCheck db.now }
     // The outcomes are those of the transactions' definition, in order from the opening library.
     ensures outcomes { IfOk result (λ r. r.0 ≡ all_outcomes (setting_of db.now) (at_opening db.now) scripts.now) }
     // The library is the one after them, in export order.

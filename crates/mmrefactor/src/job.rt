@@ -30,9 +30,6 @@ pub enum Fault {
     /// The proof of the theorem with a label has a fault.
     #[error("proof of {}: step {}: {}", text_of(.label), .fault.step, .fault.kind)]
     Proof { label: Label, fault: ProofFault },
-    /// The database has a theorem, the first with this label. Scripts edit axioms alone as yet.
-    #[error("{} is a theorem, and theorems are not edited yet", text_of(.label))]
-    Theorem { label: Label },
     /// Memory ran out.
     #[error("no memory")]
     NoMemory,

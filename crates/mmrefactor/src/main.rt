@@ -88,7 +88,7 @@ fn complain_of(rt: &impl Eprint, paths: &[&str], fault: &Fault) -> ExitCode {
     match fault {
         Fault::NoMemory => complain(rt, format_args!("{fault}")),
         Fault::Text { file, .. } => complain_at(rt, paths, *file, fault),
-        Fault::Proof { .. } | Fault::Theorem { .. } => complain_at(rt, paths, 0, fault),
+        Fault::Proof { .. } => complain_at(rt, paths, 0, fault),
     }
 }
 

@@ -5,18 +5,17 @@ ghost use Rattle.std.specs.Fmt.{decimal};
 ghost use Rattle.mmtext.specs.declared.fault.FaultKind.TheVariants.{NoMemory as OutOfMemory};
 ghost use Rattle.mmtext.specs.declared.fault.TextFault.{TextFault as FaultOfText};
 ghost use Rattle.proofcheck.specs.Databases.{AllCheck, IsFirstFault as IsFirstFaultOfProofs};
-ghost use Rattle.commands.specs.Library.{EachFollows, first_theorem};
 ghost use Rattle.mmrefactor.specs.declared.job.Fault.{Fault as FaultOfJob};
 ghost use Rattle.mmrefactor.specs.declared.job.Fault.TheVariants.{NoMemory};
 ghost use Rattle.mmrefactor.specs.Jobs.{AreScripts, IsChecked, PrintsRun, IsCheck, IsRun, DoneAsAsked, IsLabelAt};
-ghost use Rattle.mmrefactor.specs.Jobs.{IsFirstFault, IsTextFaultOf, IsScriptFault, IsProofFault, IsTheoremFault, IsDatabaseFault};
+ghost use Rattle.mmrefactor.specs.Jobs.{IsFirstFault, IsTextFaultOf, IsScriptFault, IsProofFault, IsDatabaseFault};
 ghost use Rattle.mmrefactor.specs.Jobs.{IsRunFault, IsFaultOf, IsRefusedWith, RefusesWith, IsProofFaultOf, GivesOrLacksMemory};
 ghost use Rattle.mmsyntax.specs.Tables.{Contents};
 
 use crate::edits::edit_all;
 use crate::job::{Fault, Job, Printed};
 use crate::report::report;
-use commands::{Script, first_theorem, read_script};
+use commands::{Script, read_script};
 use export::write_library;
 use mmstatement::{Database, FaultKind, Label, Prelude, TextFault, read_database};
 use proofcheck::{ProofFault, ProofFaultKind, check_all};
@@ -106,21 +105,6 @@ fn read_and_check(
     Ok(db)
 }
 
-/// Refuses a database that has a theorem.
-fn refuse_theorems(alloc: Global, db: &Database) -> Result<(), Fault>
-    ensures yes { OnOk result (first_theorem db.now ≡ None) }
-    ensures follows { OnOk result (EachFollows db.now) }
-    ensures fault { IfErr result (λ f. f ≢ NoMemory → IsTheoremFault db.now f) }
-    ensures refused { (f : FaultOfJob) → IsTheoremFault db.now f → RefusesWith f result }
-{
-    match first_theorem(db) {
-        None => Ok(()),
-        Some(place) => Err(Fault::Theorem {
-            label: label_at(alloc, db, place)?,
-        }),
-    }
-}
-
 /// What the run of scripts over a database prints.
 fn print_run(
     alloc: Global,
@@ -128,7 +112,7 @@ fn print_run(
     db: &Database,
     scripts: &[Script],
 ) -> Result<Vec<u8>, AllocError>
-    requires { EachFollows db.now }
+    requires { AllCheck db.now }
     ensures { IfOk result (λ v. PrintsRun db.now scripts.now v.items) }
 {
     let (rows, library) = edit_all(alloc, keys, db, scripts)?;
@@ -175,15 +159,14 @@ fn run(
     ensures refused { (f : FaultOfJob) → IsRunFault db.now (map (λ t. t.items) scripts.now) f → RefusesWith f result }
 {
     let db = read_and_check(rt, alloc, keys, db)?;
-    refuse_theorems(alloc, &db)?;
     let scripts = read_scripts(alloc, db.prelude(), scripts)?;
     Ok(print_run(alloc, keys, &db, scripts.as_slice())?)
 }
 
 /// Does a job on texts, without files.
 ///
-/// The faults are found in this order: the database's text, its proofs, then (of a run) its first theorem, then each script's text. A
-/// job that has one prints nothing.
+/// The faults are found in this order: the database's text, its proofs, then (of a run) each script's text. A job that has one prints
+/// nothing.
 pub fn perform(
     rt: &(impl Threads + Sync),
     alloc: Global,

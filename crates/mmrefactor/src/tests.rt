@@ -84,11 +84,6 @@ fn tells_the_first_fault(rt: HostRuntime) -> Result<(), Fail> {
             "begin commit",
             "proof of a: step 1: 1 UnknownStep",
         ),
-        (
-            "$c wff $. a $a wff $. b $p wff $= a $.",
-            "begin commit",
-            "b is a theorem, and theorems are not edited yet",
-        ),
     ];
     for (db, script, wanted) in rows {
         let job = job_of(alloc, db, [script].as_slice())?;
@@ -118,6 +113,29 @@ ${
 $}
 th1 $p |- t = t $= tt tze tpl tt weq tt tt weq tt a2 tt tze tpl tt weq tt tze tpl tt weq tt tt weq wim tt a2 tt tze tpl tt tt a1 mp mp $.
 ";
+
+/// What a run of scripts over DEMO prints.
+fn edited(
+    rt: &(impl AllocGlobal + RandomSource + Threads + Sync),
+    script: &str,
+) -> Result<String, Fail> {
+    let job = job_of(rt.alloc(), DEMO, [script].as_slice())?;
+    answer(rt, &job)
+}
+
+#[test]
+fn renames_in_citing_proofs(rt: HostRuntime) -> Result<(), Fail> {
+    let theorem = edited(&rt, "begin rename th1 refl commit")?;
+    assert!(rt; theorem.contains("\nrefl $p |- t = t $= tt tze"));
+    let cited = edited(
+        &rt,
+        "begin rename a2 plus-zero commit begin show plus-zero commit",
+    )?;
+    assert!(rt; cited.contains("  shown 600 1\n    plus-zero $a |- ( t + 0 ) = t $.\n"));
+    assert!(rt; cited.contains(" weq tt plus-zero tt tze "));
+    assert!(rt; !cited.contains(" a2 "));
+    Ok(())
+}
 
 /// DEMO, and a theorem with these steps behind it.
 fn with_steps(alloc: Global, steps: &str) -> Result<String, AllocError> {

@@ -7,6 +7,7 @@ ghost use Rattle.mmsyntax.specs.Layout.{IsSoundPrelude};
 use crate::statement::{Float, Label};
 use crate::symbols::{Name, SymbolTable};
 use std::alloc::{AllocError, Global};
+use std::hash::RandomState;
 use std::marker::Model;
 
 /// The constants, the variables and the `$f` of a database, in order of declaration.
@@ -42,6 +43,11 @@ impl Prelude {
         ensures { result.now ≡ self.now }
     {
         &self.symbols
+    }
+
+    /// The keys from which its map draws its hashes.
+    pub fn keys(&self) -> RandomState {
+        self.symbols.keys()
     }
 
     /// What a word names in the prelude: one look-up in a map.

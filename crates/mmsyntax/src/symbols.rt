@@ -58,6 +58,11 @@ impl SymbolTable {
         }
     }
 
+    /// The keys from which its map draws its hashes.
+    pub fn keys(&self) -> RandomState {
+        *self.names.hasher()
+    }
+
     pub fn look_up(&self, word: &[u8]) -> Option<Name>
         ensures { result ≡ meaning self.now word.now }
     {
@@ -161,7 +166,7 @@ impl SymbolTable {
         requires { IsSoundPrelude self.now }
         ensures { IfOk result (λ made. made ≡ self.now) }
     {
-        let mut made = SymbolTable::new(alloc, *self.names.hasher());
+        let mut made = SymbolTable::new(alloc, self.keys());
         made.add_constants(alloc, self)?;
         made.add_variables(alloc, self)?;
         made.add_floats(alloc, self)?;

@@ -121,6 +121,10 @@ same_reading view (Ok x) a b e h = sym e ∙ h
 same_reading view (Err stop.Memory) a b e h = tt
 same_reading view (Err (stop.Fault f)) a b e h = sym e ∙ h
 
+-- where a function failed with a fault, so does reading
+pub fault_given : {Y : Type 0} (e : Stop) (f : TextFault) (read : Result Y TextFault) → e ≡ stop.Fault f → Fails e read → read ≡ Err f
+fault_given e f read is h = subst (λ (x : Stop). Fails x read) is h
+
 -- the fault of a bad byte
 abbrev bad_at : Option ℕ → Option TextFault
 bad_at o = option_map (λ place. record { place = place; kind = BadByte }) o

@@ -15,12 +15,12 @@ use mmstatement::{Assertion, Expr, Frame, Kind, Prelude, Step, Symbol};
 use std::alloc::{AllocError, Global};
 
 /// Puts what a citation of the frame gives in the place of the last expressions, which it takes.
-fn cite(
+fn cite<'a>(
     alloc: Global,
     prelude: &Prelude,
     assertion: &Assertion,
-    frame: &Frame,
-    stack: &mut Vec<Entry>,
+    frame: &'a Frame,
+    stack: &mut Vec<Entry<'a>>,
 ) -> Result<(), ProofFaultKind>
     ensures ok { OnOk result (GivesOnLast prelude.now assertion.now frame.now stack.old.items stack.new.items) }
     ensures err { IfErr result (λ kind. kind ≢ ProofFaultKind.NoMemory →
@@ -34,7 +34,7 @@ fn cite(
     let (_, args) = stack.as_slice().split_at(base);
     let made = node(alloc, prelude, assertion, frame, args)?;
     stack.truncate(base);
-    stack.push(Entry::made(made)).map_err(AllocError::from)?;
+    stack.push(made).map_err(AllocError::from)?;
     Ok(())
 }
 
@@ -42,7 +42,7 @@ fn cite(
 fn take_step<'a, F: Frames>(
     alloc: Global,
     prelude: &Prelude,
-    frames: &F,
+    frames: &'a F,
     assertion: &'a Assertion,
     stack: &mut Vec<Entry<'a>>,
     step: &Step,
@@ -136,7 +136,8 @@ fn check_steps<F: Frames>(
 /// the tests come in this order: `UnknownStep`, `StackShort`, `WrongType` of each `$f`, `HypothesisDiffers` of each `$e`,
 /// `NotDisjoint`, `TooLong`; at the end `NotOneLeft`, then `StatementDiffers`. The assertion need not fit the prelude.
 ///
-/// The time is about that of writing down the expression of each citation. A step that names a `$f` or a `$e` copies nothing.
+/// The time is about that of writing down the expression of each citation. A step that names a `$f`, a `$e` or an assertion
+/// whose statement has no variables copies nothing.
 pub fn check<F: Frames>(
     alloc: Global,
     prelude: &Prelude,

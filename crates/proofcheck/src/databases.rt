@@ -1,20 +1,23 @@
 //! Checks each proof of a database, by many threads.
 
 ghost use Rattle.std.specs.Prelude.{◌≡◌, ◌≢◌, ◌<◌, List, ℕ, is_some, map, IfOk, OnOk, IfErr, MatchResult, length};
-ghost use Rattle.std.specs.BTreeMap.{get};
-ghost use Rattle.std.specs.Cmp.Lexicographic.{slice_cmp};
-ghost use Rattle.std.specs.Ordering.{nat_cmp};
+ghost use Rattle.std.specs.HashMap.{get_by};
+ghost use Rattle.std.specs.Str.{bytes_eq};
 ghost use Rattle.mmstatement.specs.Frames.{frame};
 ghost use Rattle.proofcheck.specs.Databases.{AllCheck, ChecksAt, HasFaultAt, IsFirstFault, IsFirstReport, ReportsAt, place_from};
 
 use crate::checking::check;
 use crate::earlier::{Earlier, places_of};
 use crate::fault::{ProofFault, ProofFaultKind};
-use mmstatement::{Assertion, Database, Frame, Label, Prelude, frame_of};
+use mmstatement::{Assertion, Database, Frame, Prelude, frame_of};
 use rayon::prelude::*;
 use std::alloc::{AllocError, Global};
-use std::collections::BTreeMap;
+use std::collections::HashMap;
+use std::hash::RandomState;
 use std::thread::Threads;
+
+/// The fewest assertions for which a thread is started. A proof takes long beside that, so few serve.
+const LEAST_PIECE: usize = 16;
 
 /// The frames of assertions, in order.
 fn frames_of(
@@ -36,12 +39,12 @@ fn check_at(
     alloc: Global,
     db: &Database,
     frames: &[Frame],
-    places: &BTreeMap<Label, usize>,
+    places: &HashMap<Vec<u8>, usize, RandomState>,
     i: usize,
 ) -> Result<(), ProofFault>
     requires place { i < length db.now.assertions }
     requires frames { frames.now ≡ map (frame db.now.prelude) db.now.assertions }
-    requires places { (label : List ℕ) → get (slice_cmp nat_cmp) places.now label ≡ place_from 0 label db.now.assertions }
+    requires places { (label : List ℕ) → get_by (λ k. bytes_eq label k.items) places.now ≡ place_from 0 label db.now.assertions }
     ensures yes { OnOk result (ChecksAt db.now i) }
     ensures fault { IfErr result (λ fault. fault.kind ≢ ProofFaultKind.NoMemory → HasFaultAt db.now i fault) }
 {
@@ -58,12 +61,12 @@ fn report_at(
     alloc: Global,
     db: &Database,
     frames: &[Frame],
-    places: &BTreeMap<Label, usize>,
+    places: &HashMap<Vec<u8>, usize, RandomState>,
     i: usize,
 ) -> Option<(usize, ProofFault)>
     requires place { i < length db.now.assertions }
     requires frames { frames.now ≡ map (frame db.now.prelude) db.now.assertions }
-    requires places { (label : List ℕ) → get (slice_cmp nat_cmp) places.now label ≡ place_from 0 label db.now.assertions }
+    requires places { (label : List ℕ) → get_by (λ k. bytes_eq label k.items) places.now ≡ place_from 0 label db.now.assertions }
     ensures { ReportsAt db.now i result }
 {
     let _count = db.assertions().len();
@@ -79,19 +82,20 @@ fn first_report(
     alloc: Global,
     db: &Database,
     frames: &[Frame],
-    places: &BTreeMap<Label, usize>,
+    places: &HashMap<Vec<u8>, usize, RandomState>,
 ) -> Option<Option<(usize, ProofFault)>>
     requires frames { frames.now ≡ map (frame db.now.prelude) db.now.assertions }
-    requires places { (label : List ℕ) → get (slice_cmp nat_cmp) places.now label ≡ place_from 0 label db.now.assertions }
+    requires places { (label : List ℕ) → get_by (λ k. bytes_eq label k.items) places.now ≡ place_from 0 label db.now.assertions }
     ensures { IsFirstReport db.now result }
 {
     (0..db.assertions().len())
         .into_par_iter()
+        .with_min_len(LEAST_PIECE)
         .map(
             |i: usize| -> Option<(usize, ProofFault)>
                 requires { (i < length db.now.assertions)
                     × (frames.now ≡ map (frame db.now.prelude) db.now.assertions)
-                    × ((label : List ℕ) → get (slice_cmp nat_cmp) places.now label ≡ place_from 0 label db.now.assertions) }
+                    × ((label : List ℕ) → get_by (λ k. bytes_eq label k.items) places.now ≡ place_from 0 label db.now.assertions) }
                 ensures { ReportsAt db.entry.now i result }
             { report_at(alloc, db, frames, places, i) },
         )
@@ -136,7 +140,7 @@ pub fn check_all(
     let Ok(frames) = frames_of(alloc, db.prelude(), db.assertions()) else {
         return Err(no_memory());
     };
-    let Ok(places) = places_of(alloc, db.assertions()) else {
+    let Ok(places) = places_of(alloc, db.prelude().keys(), db.assertions()) else {
         return Err(no_memory());
     };
     match first_report(rt, alloc, db, frames.as_slice(), &places) {

@@ -1,4 +1,4 @@
-//! What a tree of a proof derives: an expression lent by the assertion, that of a `$f`, or one that was made.
+//! What a tree of a proof derives: an expression that is lent, that of a `$f`, or one that was made.
 
 ghost use Rattle.std.specs.Prelude.{◌≡◌, ◌∷◌, []};
 
@@ -29,7 +29,7 @@ impl<'a> Model for Entry<'a> {
 }
 
 impl<'a> Entry<'a> {
-    /// An expression that stands elsewhere: it isn't copied.
+    /// An expression of the assertion or of a frame: it isn't copied.
     pub(crate) fn lent(symbols: &'a [Symbol]) -> Entry<'a>
         ensures { result ≡ symbols.now }
     {

@@ -7,8 +7,8 @@ ghost use Rattle.proofcheck.specs.Faults.{FailsTest};
 use crate::entry::Entry;
 use crate::fault::ProofFaultKind;
 use crate::pairs::pairs_fit;
-use crate::substitutes::{are_substituted, substitute};
-use mmstatement::{Assertion, Expr, Frame, Prelude, Symbol};
+use crate::substitutes::{are_substituted, conclude};
+use mmstatement::{Assertion, Frame, Prelude, Symbol};
 use std::alloc::Global;
 
 /// Whether an expression begins with the type of the `$f` at a place.
@@ -44,13 +44,13 @@ fn have_types(prelude: &Prelude, floats: &[u32], entries: &[Entry]) -> bool
 }
 
 /// What a citation of the frame gives over these expressions, one for each mandatory hypothesis; or the first test that fails.
-pub(crate) fn node(
+pub(crate) fn node<'a>(
     alloc: Global,
     prelude: &Prelude,
     assertion: &Assertion,
-    frame: &Frame,
+    frame: &'a Frame,
     args: &[Entry],
-) -> Result<Expr, ProofFaultKind>
+) -> Result<Entry<'a>, ProofFaultKind>
     requires { length args.now ≡ arity frame.now }
     ensures ok { IfOk result (λ made. Gives prelude.now assertion.now frame.now args.now made) }
     ensures err { IfErr result (λ kind. kind ≢ ProofFaultKind.NoMemory → FailsTest prelude.now assertion.now frame.now args.now kind) }
@@ -72,5 +72,5 @@ pub(crate) fn node(
     )? {
         return Err(ProofFaultKind::NotDisjoint);
     }
-    substitute(alloc, floats, args, frame.statement.as_slice())
+    conclude(alloc, floats, args, frame.statement.as_slice())
 }

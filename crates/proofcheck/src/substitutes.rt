@@ -1,9 +1,9 @@
 //! The substitution of a citation: each mandatory `$f` with its expression, less its type. It is never built.
 
-ghost use Rattle.std.specs.Prelude.{◌≡◌, ◌↔◌, ◌∷◌, [], ◌≤◌, ◌<◌, IsTrue, IfOk, IfErr, MatchOption, length, map};
+ghost use Rattle.std.specs.Prelude.{◌≡◌, ◌↔◌, ◌∷◌, [], ◌≤◌, ◌<◌, All, IsTrue, IfOk, IfErr, MatchOption, length, map};
 ghost use Rattle.mmstatement.specs.Substitution.{subst, replacement};
 ghost use Rattle.proofcheck.specs.Derivation.{substitution};
-ghost use Rattle.proofcheck.specs.Moves.{IsTooLongOrNoMemory};
+ghost use Rattle.proofcheck.specs.Moves.{IsConstant, IsTooLongOrNoMemory};
 
 use crate::entry::Entry;
 use crate::fault::ProofFaultKind;
@@ -84,8 +84,25 @@ pub(crate) fn are_substituted(
     true
 }
 
-/// The expression after substitution, of at most 65,535 symbols.
-pub(crate) fn substitute(
+/// How many symbols the expression has after substitution, if that is at most 65,535.
+fn length_after(floats: &[u32], entries: &[Entry], symbols: &[Symbol]) -> Option<usize>
+    requires { length floats.now ≤ length entries.now }
+    ensures { let made = subst (substitution floats.now entries.now) symbols.now in
+        MatchOption result (65535 < length made) (λ n. (n ≡ length made) × (n ≤ 65535)) }
+{
+    let mut total = 0;
+    for symbol in symbols {
+        let next = piece(floats, &*entries, symbol).len();
+        if next > MOST_SYMBOLS - total {
+            return None;
+        }
+        total += next;
+    }
+    Some(total)
+}
+
+/// The expression after substitution, of at most 65,535 symbols: memory for it is asked for once.
+fn substitute(
     alloc: Global,
     floats: &[u32],
     entries: &[Entry],
@@ -96,13 +113,46 @@ pub(crate) fn substitute(
     ensures kinds { IfErr result (λ kind.
         IsTooLongOrNoMemory kind (65535 < length (subst (substitution floats.now entries.now) symbols.now))) }
 {
-    let mut made = Vec::new(alloc);
+    let Some(total) = length_after(floats, entries, symbols) else {
+        return Err(ProofFaultKind::TooLong);
+    };
+    let mut made = Vec::with_capacity(alloc, total)?;
     for symbol in symbols {
-        let next = piece(floats, &*entries, symbol);
-        if next.len() > MOST_SYMBOLS - made.len() {
-            return Err(ProofFaultKind::TooLong);
-        }
-        made.extend_from_slice(next)?;
+        made.extend_from_slice(piece(floats, &*entries, symbol))?;
     }
     Ok(Sequence::from_vec(made))
+}
+
+/// Whether each symbol is a constant.
+fn are_constants(symbols: &[Symbol]) -> bool
+    ensures { IsTrue result ↔ All IsConstant symbols.now }
+{
+    for symbol in symbols {
+        match symbol {
+            Symbol::Const(_) => {}
+            Symbol::Var(_) => return false,
+        }
+    }
+    true
+}
+
+/// The expression after substitution, of at most 65,535 symbols. One without variables is lent as it stands.
+pub(crate) fn conclude<'a>(
+    alloc: Global,
+    floats: &[u32],
+    entries: &[Entry],
+    symbols: &'a [Symbol],
+) -> Result<Entry<'a>, ProofFaultKind>
+    requires { length floats.now ≤ length entries.now }
+    ensures value { IfOk result (λ made. (made ≡ subst (substitution floats.now entries.now) symbols.now) × (length made ≤ 65535)) }
+    ensures kinds { IfErr result (λ kind.
+        IsTooLongOrNoMemory kind (65535 < length (subst (substitution floats.now entries.now) symbols.now))) }
+{
+    if !are_constants(symbols) {
+        return Ok(Entry::made(substitute(alloc, floats, entries, symbols)?));
+    }
+    if symbols.len() > MOST_SYMBOLS {
+        return Err(ProofFaultKind::TooLong);
+    }
+    Ok(Entry::lent(symbols))
 }

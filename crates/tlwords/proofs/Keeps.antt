@@ -66,6 +66,16 @@ module _ {S N : Type 0} (lawful : Lawful S N) (opens : S → List ℕ → Type 0
         few = f.few;
       }
 
+  pub legal_of : (world : World) (notes : List N) → Invariant base world → EntriesAre lawful setting (record { history = world.history; notes = notes })
+      → Legal lawful setting base (record { history = world.history; notes = notes })
+  legal_of world notes I entries i w d =
+      let a : lawful setting [] (d.entry).reads (d.entry).writes w.note × ((d.entry).writes ≢ []) = entries i d.entry w.note d.here d.note in
+      let o : One base world.history i (d.entry).reads = I.consistent.history i d.entry d.here d.done in (
+        subst (λ (z : List (ℕ × ℕ) × List (ℕ × ℕ)). lawful setting [] z.0 z.1 w.note) (λ j. (d.reads j, d.writes j)) a.0,
+        λ e. a.1 (d.writes ∙ e),
+        subst (λ (z : List (ℕ × ℕ)). One base world.history i z) d.reads o,
+      )
+
   -- a view that has seen the whole history is sound
   pub sound_of : (world : World) (notes : List N) (owner : ℕ → ℕ) (id : ℕ) (v : View S N) → Invariant base world
       → EntriesAre lawful setting (record { history = world.history; notes = notes }) → opens setting base
@@ -81,7 +91,7 @@ module _ {S N : Type 0} (lawful : Lawful S N) (opens : S → List ℕ → Type 0
             subst (λ (g : Seen N). One v.base g.history v.seat.rv (reads_of v.seat.reads)) (sym is) (subst (λ (o : List ℕ). One o world.history v.seat.rv (reads_of v.seat.reads)) (sym b.1) (ReadsOk-one base world.history v.seat.rv v.seat.reads ok.reads));
         legal = λ x e.
             let b : (x ≡ setting) × (v.base ≡ base) = f.own.setting_is x e in
-            subst (λ (g : Seen N). Legal lawful x v.base g) (sym is) (subst (λ (z : S × List ℕ). Legal lawful z.0 z.1 g) (λ j. (sym b.0 j, sym b.1 j)) legal);
+            subst (λ (g : Seen N). Legal lawful x v.base g) (sym is) (subst (λ (z : S × List ℕ). Legal lawful z.0 z.1 g) (λ j. (sym b.0 j, sym b.1 j)) (legal_of world notes I entries));
         mine = λ x e.
             let b : (x ≡ setting) × (v.base ≡ base) = f.own.setting_is x e in
             subst (λ (g : Seen N). Agree lawful x v.base g v.mine) (sym is) (subst (λ (z : S × List ℕ). Agree lawful z.0 z.1 g v.mine) (λ j. (sym b.0 j, sym b.1 j)) f.mine);
@@ -90,15 +100,6 @@ module _ {S N : Type 0} (lawful : Lawful S N) (opens : S → List ℕ → Type 0
             subst (λ (z : S × List ℕ). opens z.0 z.1) (λ j. (sym b.0 j, sym b.1 j)) opening;
         settled = λ i has. subst (λ (g : Seen N). (number_at v.seat.place ≡ Some i) ⊎ IsSettled g.history i) (sym is) (f.settled i has);
       }
-    where
-      legal : Legal lawful setting base (record { history = world.history; notes = notes })
-      legal i w d =
-          let a : lawful setting [] (d.entry).reads (d.entry).writes w.note × ((d.entry).writes ≢ []) = entries i d.entry w.note d.here d.note in
-          let o : One base world.history i (d.entry).reads = I.consistent.history i d.entry d.here d.done in (
-            subst (λ (z : List (ℕ × ℕ) × List (ℕ × ℕ)). lawful setting [] z.0 z.1 w.note) (λ j. (d.reads j, d.writes j)) a.0,
-            λ e. a.1 (d.writes ∙ e),
-            subst (λ (z : List (ℕ × ℕ)). One base world.history i z) d.reads o,
-          )
 
   module _ (ws : List ℕ) (vs : List (View S N)) (r : Rule ws vs) where
     abbrev pub now : Seen N

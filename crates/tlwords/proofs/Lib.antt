@@ -6,3 +6,13 @@ pub mod CommitSteps
 pub mod Logs
 pub mod OpenSteps
 pub mod RunSteps
+pub mod Wanted
+pub mod Held
+pub mod Turns
+pub mod Releases
+pub mod Checks
+pub mod Stores
+pub mod Settles
+pub mod Finishes
+pub mod Forgets
+pub mod Ends

@@ -255,7 +255,7 @@ nothing_blank c = (refl, refl)
 pub clearing_starts : (slots : List Slot) → IsClearing slots slots []
 clearing_starts slots c = inr (refl, refl, refl)
 
-lists_no_more : (c d : ℕ) (xs : List ℕ) → lists c xs ≡ false → c ≢ d → lists c (xs ++ d ∷ []) ≡ false
+pub lists_no_more : (c d : ℕ) (xs : List ℕ) → lists c xs ≡ false → c ≢ d → lists c (xs ++ d ∷ []) ≡ false
 lists_no_more c d [] e n = ap (λ (b : Bool). b || false) (ne_eqb d c (λ a. n (sym a)))
 lists_no_more c d (x ∷ xs) e n = go (x == c) (λ f. lists_no_more c d xs f n) e
   where
@@ -263,7 +263,7 @@ lists_no_more c d (x ∷ xs) e n = go (x == c) (λ f. lists_no_more c d xs f n) 
     go true ih e = e
     go false ih e = ih e
 
-past_end : (slots : List Slot) (c : ℕ) → length slots ≤ c → slice_get slots c ≡ None
+pub past_end : (slots : List Slot) (c : ℕ) → length slots ≤ c → slice_get slots c ≡ None
 past_end [] c l = refl
 past_end (s ∷ ss) zero l = absurd (omega arith)
 past_end (s ∷ ss) (suc c) l = past_end ss c (omega arith)
@@ -290,7 +290,7 @@ clearing_past first slots done cell l k c = dite (ℕ_discrete c cell)
     inl (ap (option_and_then (λ (s : Slot). s.word)) p, ap (option_and_then (λ (s : Slot). s.kept)) p))
     (λ n. ⊎_elim (λ p. inl p) (λ p. inr (p.0, p.1, lists_no_more c cell done p.2 n)) (k c))
 
-none_known : (o : Option ℕ) → (is_some o ≡ true → ⊥) → o ≡ None
+pub none_known : (o : Option ℕ) → (is_some o ≡ true → ⊥) → o ≡ None
 none_known None f = refl
 none_known (Some w) f = absurd (f refl)
 

@@ -12,10 +12,10 @@ use Rattle.tlwords.specs.Plays.{Mine, Sees, Sampled, Refreshes, began, told_by, 
 use Rattle.tlwords.specs.Runs.{HasCause, ReadsCell, Stops, Learns, IsPassOf, IsRunOf}
 use Rattle.tlwords.proofs.Seens.{seen_trans}
 
-if_true : {A : Type 0} (b : Bool) (x y : A) → b ≡ true → (if b then x else y) ≡ x
+pub if_true : {A : Type 0} (b : Bool) (x y : A) → b ≡ true → (if b then x else y) ≡ x
 if_true b x y e = ap (λ (b : Bool). if b then x else y) e
 
-if_false : {A : Type 0} (b : Bool) (x y : A) → b ≡ false → (if b then x else y) ≡ y
+pub if_false : {A : Type 0} (b : Bool) (x y : A) → b ≡ false → (if b then x else y) ≡ y
 if_false b x y e = ap (λ (b : Bool). if b then x else y) e
 
 le_true : (a b : ℕ) → a ≤ b → nat_le a b ≡ true

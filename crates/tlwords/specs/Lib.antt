@@ -4,3 +4,5 @@ pub mod Rule
 pub mod Plays
 pub mod Runs
 pub mod Reads
+pub mod Commits
+pub mod Closing

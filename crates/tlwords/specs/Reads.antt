@@ -1,7 +1,7 @@
 -- What a read and a write of a run tell of its log.
 use Rattle.std.specs.Prelude.{◌≡◌, ℕ, Option, List, take}
 use Rattle.tlwords.specs.declared.log.Log.{Log}
-use Rattle.tlwords.specs.declared.runs.Conflict.{Conflict}
+use Rattle.tlwords.specs.declared.outcome.Conflict.{Conflict}
 use Rattle.tlwords.specs.Seen.{Lawful}
 use Rattle.tlwords.specs.Plays.{Mine}
 use Rattle.tlwords.specs.Runs.{word_seen, value_kept, HasNoted, HasKept, ReadsCell, Stops}

@@ -1,24 +1,31 @@
 //! A software transactional memory over shared 64-bit words: Transactional Locking II with a versioned lock word for each cell.
 //!
-//! Not whole yet: words are opened, and runs begin, read, keep what they write, and leave; all steps of a commit are there, and the call
-//! that makes them in order is to come, as are `close` and the store.
+//! Words are opened with a pass for each session. A run begins on a pass, reads, keeps what it writes, and commits or leaves; passes learn of
+//! each other. The store is to come.
 #![tactic(auto)]
 
+mod closing;
+mod commits;
 mod law;
 mod log;
 mod opening;
+mod outcome;
 mod passes;
 mod plays;
 mod rule;
 mod runs;
 mod steps;
+#[cfg(test)]
+mod tests;
 mod view;
 mod words;
 
+pub use closing::{ClosedCell, ClosedWords, close};
 pub use law::Law;
 pub use opening::{OpenFault, open};
+pub use outcome::{Conflict, Outcome};
 pub use passes::Pass;
 pub use rule::{Board, Ground, Opening, Place, Rule};
-pub use runs::{Conflict, Run, begin};
+pub use runs::{Run, begin, learn};
 pub use view::View;
 pub use words::Words;

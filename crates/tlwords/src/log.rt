@@ -1,9 +1,10 @@
 //! What a pass keeps of the cells that its run touches, with a place for every cell.
 #![tactic(auto)]
 
-ghost use Rattle.std.specs.Prelude.{◌≡◌, ℕ, ◌+◌, ◌%◌, ◌<◌, ◌≤◌, List, ◌∷◌, ◌++◌, true, Some, None, [], length, take, IfOk};
+ghost use Rattle.std.specs.Prelude.{◌≡◌, ℕ, ◌+◌, ◌%◌, ◌<◌, ◌≤◌, List, ◌∷◌, ◌++◌, true, Some, None, [], length, take, IfOk, IfSome, IfNone, IsTrue, ◌↔◌};
 ghost use Rattle.tlcore.specs.Seats.{Seat};
 ghost use Rattle.tlwords.specs.Runs.{word_seen, value_kept, was_read, IsBlank, IsKeptOf, HasNoted, HasKept, IsClearing};
+ghost use Rattle.tlwords.specs.Commits.{is_wanted, NoneWanted, IsLeast, IsForgetting, HasForgotten};
 ghost use Rattle.tlwords.specs.declared.log.Slot.{Slot as SlotValue};
 
 use std::alloc::{AllocError, Global};
@@ -13,6 +14,16 @@ use std::alloc::{AllocError, Global};
 pub struct Slot {
     pub(crate) word: Option<u64>,
     pub(crate) kept: Option<u64>,
+}
+
+/// A cell that the run has read.
+#[derive(Clone, Copy)]
+pub(crate) struct Touched {
+    pub(crate) cell: usize,
+    /// The lock word that the run saw at its newest read.
+    pub(crate) word: u64,
+    /// The value kept aside, or 0.
+    pub(crate) value: u64,
 }
 
 /// A slot for each cell, and the cells that the run has read, of which the first `used` count.
@@ -52,6 +63,60 @@ impl Log {
         ensures { (word_seen self.now.slots.items cell ≡ result.word) × (value_kept self.now.slots.items cell ≡ result.kept) }
     {
         self.slots[cell]
+    }
+
+    /// The least cell from `from` on that the run has read, and is to write or not, as `kept` says.
+    pub(crate) fn next(&self, from: usize, kept: bool) -> Option<Touched>
+        requires { (t : Seat) × IsKeptOf t self.now.slots.items (take self.now.used self.now.touched.items) }
+        ensures none { IfNone result (NoneWanted self.now.slots.items kept from (length self.now.slots.items)) }
+        ensures some { IfSome result (λ t. IsLeast self.now.slots.items kept from t.cell × (word_seen self.now.slots.items t.cell ≡ Some t.word) × (kept ≡ true → value_kept self.now.slots.items t.cell ≡ Some t.value)) }
+    {
+        let cell = self.least(from, kept);
+        if cell >= self.slots.len() {
+            return None;
+        }
+        let slot = self.slots[cell];
+        Some(Touched {
+            cell,
+            word: slot.word.unwrap_or(0),
+            value: slot.kept.unwrap_or(0),
+        })
+    }
+
+    // That cell, or the number of cells where there is none.
+    fn least(&self, from: usize, kept: bool) -> usize
+        requires { (t : Seat) × IsKeptOf t self.now.slots.items (take self.now.used self.now.touched.items) }
+        ensures none { NoneWanted self.now.slots.items kept from result × (result ≤ length self.now.slots.items) }
+        ensures some { result < length self.now.slots.items → IsLeast self.now.slots.items kept from result }
+    {
+        let mut least = self.slots.len();
+        for i in 0..self.used {
+            let cell = self.touched[i];
+            if self.is_nearer(cell, from, least, kept) {
+                least = cell;
+            }
+        }
+        least
+    }
+
+    // The cell is wanted, and stands from `from` on and before `least`.
+    fn is_nearer(&self, cell: usize, from: usize, least: usize, kept: bool) -> bool
+        requires { least ≤ length self.now.slots.items }
+        ensures { IsTrue result ↔ ((from ≤ cell) × (cell < least) × (is_wanted self.now.slots.items kept cell ≡ true)) }
+    {
+        if cell < from || cell >= least {
+            return false;
+        }
+        self.wants(cell, kept)
+    }
+
+    // The cell was read, and is to be written or not, as `kept` says.
+    fn wants(&self, cell: usize, kept: bool) -> bool
+        requires { cell < length self.now.slots.items }
+        ensures { result ≡ is_wanted self.now.slots.items kept cell }
+    {
+        let slot = self.slots[cell];
+        slot.word.is_some() && slot.kept.is_some() == kept
     }
 
     /// The cell was read under this lock word.
@@ -110,6 +175,31 @@ impl Log {
             word: slot.word,
             kept: Some(value),
         };
+    }
+
+    /// Throws away the values kept aside. It walks over the cells that were touched.
+    pub(crate) fn forget(&mut self)
+        requires { (t : Seat) × IsKeptOf t self.old.slots.items (take self.old.used self.old.touched.items) }
+        ensures { HasForgotten self.old.slots.items (take self.old.used self.old.touched.items) self.new.slots.items (take self.new.used self.new.touched.items) }
+    {
+        for i in 0..self.used {
+            let cell = self.touched[i];
+            self.drop_value(cell);
+        }
+    }
+
+    // Throws away the value of one cell.
+    fn drop_value(&mut self, cell: usize)
+        ensures same { (self.new.touched ≡ self.old.touched) × (self.new.used ≡ self.old.used) }
+        ensures dropped { (first : List SlotValue) (done : List ℕ) → IsForgetting first self.old.slots.items done → IsForgetting first self.new.slots.items (done ++ cell ∷ []) }
+    {
+        if cell < self.slots.len() {
+            let slot = self.slots[cell];
+            self.slots[cell] = Slot {
+                word: slot.word,
+                kept: None,
+            };
+        }
     }
 
     /// Throws all away. It walks over the cells that were touched.

@@ -1,8 +1,9 @@
 //! The opening of a memory.
 #![tactic(auto)]
 
-ghost use Rattle.std.specs.Prelude.{◌≡◌, ℕ, ◌+◌, ◌*◌, ◌<◌, ◌≤◌, ◌^◌, [], ◌∷◌, length, IfOk, All, map};
+ghost use Rattle.std.specs.Prelude.{◌≡◌, ℕ, ◌+◌, ◌*◌, ◌<◌, ◌≤◌, ◌^◌, [], ◌∷◌, length, IfOk, IfErr, Err, All, map, ◌⊎◌};
 ghost use Rattle.tlwords.specs.Rule.{opening_words};
+ghost use Rattle.tlwords.specs.declared.opening.OpenFault.TheVariants.{BadShape};
 ghost use Rattle.tlwords.specs.Runs.{IsNew, down, dealer};
 
 use crate::law::Law;
@@ -33,8 +34,10 @@ pub fn open<L: Law>(
 ) -> Result<(Words<L>, Vec<Pass<L>>), OpenFault>
     requires opens { L.opens setting.now values.now }
     ensures cells { IfOk result (λ r. r.0.cells ≡ length values.now) }
-    ensures passes { IfOk result (λ r. All (λ p. (p.seat.table_id ≡ r.0.table.shared.table_id) × IsNew setting.now values.now p.seat.me.0) r.1.items) }
+    ensures passes { IfOk result (λ r. All (λ p. (p.seat.table_id ≡ r.0.table.shared.table_id) × (r.0.cells ≡ length p.seat.me.0.base) × IsNew setting.now values.now p.seat.me.0) r.1.items) }
     ensures names { IfOk result (λ r. map (λ p. p.seat.me.0.name) r.1.items ≡ down 64 sessions) }
+    ensures shape { IfErr result (λ e. e ≡ BadShape → (sessions ≡ 0) ⊎ (64 < sessions)) }
+    ensures refused { (sessions ≡ 0) ⊎ (64 < sessions) → result ≡ Err BadShape }
 {
     if sessions == 0 || sessions > 64 {
         return Err(OpenFault::BadShape);
@@ -96,7 +99,7 @@ fn deal_all<L: Law>(
 ) -> Result<Vec<Pass<L>>, AllocError>
     requires table { (seat.old.table_id ≡ words.now.table.shared.table_id) × (words.now.cells ≡ length values.now) }
     requires first { (sessions ≤ 64) × (seat.old.me.0 ≡ dealer setting.now values.now 0) }
-    ensures passes { IfOk result (λ v. All (λ p. (p.seat.table_id ≡ words.now.table.shared.table_id) × IsNew setting.now values.now p.seat.me.0) v.items) }
+    ensures passes { IfOk result (λ v. All (λ p. (p.seat.table_id ≡ words.now.table.shared.table_id) × (words.now.cells ≡ length p.seat.me.0.base) × IsNew setting.now values.now p.seat.me.0) v.items) }
     ensures names { IfOk result (λ v. map (λ p. p.seat.me.0.name) v.items ≡ down 64 sessions) }
 {
     let _ = setting;

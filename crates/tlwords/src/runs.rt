@@ -4,26 +4,19 @@
 ghost use Rattle.std.specs.Prelude.{◌≡◌, ℕ, ◌<◌, ◌≤◌, ◌⊎◌, Some, None, length, take, is_some, true, Ok, Err, IfOk, IfErr};
 ghost use Rattle.tlwords.specs.Plays.{IsSameSeat, Sampled};
 ghost use Rattle.tlwords.specs.Runs.{IsRunOf, IsKeptOf, IsBlank, was_read, Learns};
-ghost use Rattle.tlwords.specs.Reads.{LogKeeps, kept_for, HasRead, HasStopped};
-ghost use Rattle.tlwords.specs.declared.runs.Conflict.{Conflict as ConflictValue};
+ghost use Rattle.tlwords.specs.Reads.{listed, LogKeeps, kept_for, HasRead, HasStopped};
+ghost use Rattle.tlwords.specs.Commits.{IsLawfulNow, HasForgotten, HasEnded};
+ghost use Rattle.tlwords.specs.declared.outcome.Outcome.TheVariants.{Conflict as EndsConflict};
+ghost use Rattle.tlwords.specs.declared.outcome.Conflict.{Conflict as ConflictValue};
 
+use crate::commits::finish;
 use crate::law::Law;
 use crate::log::Log;
+use crate::outcome::{Conflict, Outcome};
 use crate::passes::Pass;
 use crate::rule::Place;
 use crate::steps;
 use crate::words::{Words, fetch};
-
-/// A look that ended a run.
-#[derive(Clone, Copy)]
-pub struct Conflict {
-    /// The cell, from 0.
-    pub cell: usize,
-    /// The lock word that was found.
-    pub word: u64,
-    /// The lock word that the run's last read of the cell had found, if one had ended.
-    pub before: Option<u64>,
-}
 
 /// A transaction as it goes.
 pub struct Run<'w, L: Law> {
@@ -112,6 +105,41 @@ impl<'w, L: Law> Run<'w, L> {
         ensures same { (self.new.words.now ≡ self.old.words.now) × (self.new.seat ≡ self.old.seat) × (self.new.place ≡ self.old.place) × (self.new.count ≡ self.old.count) × (self.new.over ≡ self.old.over) }
     {
         self.log.keep(cell, value);
+    }
+
+    /// Throws away what was kept aside: the run has written nothing. It makes no step on the words.
+    pub fn forget(&mut self)
+        ensures forgets { HasForgotten self.old.log.slots.items (listed self.old.log) self.new.log.slots.items (listed self.new.log) }
+        ensures same { (self.new.words.now ≡ self.old.words.now) × (self.new.seat ≡ self.old.seat) × (self.new.place ≡ self.old.place) × (self.new.count ≡ self.old.count) × (self.new.over ≡ self.old.over) }
+    {
+        self.log.forget();
+    }
+
+    /// Ends the run, and makes what it wrote an entry of the history, with this note.
+    ///
+    /// It takes the locks of the cells to be written, draws a number, looks again at the other cells that were read, stores the values and
+    /// gives the locks back. After a conflict each lock has its former word, and a number that was drawn is used up. A run that wrote
+    /// nothing only loads the spare word. One that has met a conflict answers it again, without a step.
+    pub fn commit(self, note: &L::Note) -> (Pass<L>, Outcome)
+        requires lawful { self.over ≡ None → IsLawfulNow L.lawful self.seat.me.0 self.log.slots.items note.now }
+        ensures same { IsSameSeat self.entry.seat result.0.seat }
+        ensures over { (k : ConflictValue) → self.entry.over ≡ Some k → (result.1 ≡ EndsConflict k) × (result.0.seat.me ≡ self.entry.seat.me) }
+        ensures ended { self.entry.over ≡ None → HasEnded L.lawful L.opens self.entry.log.slots.items note.now self.entry.seat.me result.0.seat.me result.1 }
+    {
+        let Run {
+            words,
+            mut seat,
+            mut log,
+            mut count,
+            place,
+            over,
+        } = self;
+        let outcome = match over {
+            Some(conflict) => Outcome::Conflict(conflict),
+            None => finish(words, &mut seat, &log, &mut count, place, note),
+        };
+        log.clear();
+        (Pass { seat, log, count }, outcome)
     }
 
     /// Ends the run with nothing written. It walks over the cells that the run has read.

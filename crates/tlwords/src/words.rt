@@ -25,6 +25,15 @@ impl<L: Law> Drop for Words<L> {
     }
 }
 
+impl<L: Law> Words<L> {
+    pub(crate) fn into_table(self) -> Board<L>
+        ensures { result ≡ self.table }
+    {
+        let Words { table, cells: _ } = self;
+        table
+    }
+}
+
 /// A read that ended: the lock word that both looks found, and the value loaded between them.
 #[derive(Clone, Copy)]
 pub(crate) struct Found {

@@ -5,6 +5,7 @@ ghost use Rattle.mmsyntax.specs.Blocks.{with_distinct, distinct_of, assertion_of
 ghost use Rattle.mmsyntax.specs.Faults.{outermost_row, block_row, close_row, keyword_row, distinct_row, hypothesis_row, axiom_row};
 ghost use Rattle.mmsyntax.specs.Faults.{theorem_row, proof_row, behind, block_of, in_place, Stands};
 ghost use Rattle.mmtext.specs.Views.{seen};
+ghost use Rattle.mmtext.specs.declared.mark.Mark.TheVariants.{Floating, Essential};
 ghost use Rattle.mmreader.specs.Views.{seen_scope, seen_place, seen_unit_place, known_of, Leads};
 
 use super::labels::{MOST_SYMBOLS, hypothesis_label_fault, label_fault, symbol_at};
@@ -92,6 +93,54 @@ fn at_close<'a>(
     }
 }
 
+/// Behind a label and `$f`: outermost, before the first assertion.
+fn float_keyword<'a>(
+    symbols: &SymbolTable,
+    units: &Units,
+    scope: Scope<'a>,
+    label: Token<'a>,
+    token: Token<'a>,
+) -> Result<Place<'a>, Stop>
+    ensures { Leads symbols.now units.now result
+        (keyword_row (known_of symbols.now units.now) (seen_scope scope.entry) (seen label.entry) (seen token.entry) Floating) }
+{
+    let Scope::Outside = scope else {
+        return Err(fault_at(token, FaultKind::OutOfProfile));
+    };
+    if units.is_prelude_closed() {
+        return Err(fault_at(token, FaultKind::OutOfProfile));
+    }
+    let count = symbols.floats().len();
+    match label_fault(symbols, units, count, MOST_SYMBOLS, label.text) {
+        Some(kind) => Err(fault_at(label, kind)),
+        None => Ok(Place::Prelude(PreludePlace::FloatType(label.text))),
+    }
+}
+
+/// Behind a label and `$e`: in a block.
+fn hypothesis_keyword<'a>(
+    alloc: Global,
+    symbols: &SymbolTable,
+    units: &Units,
+    scope: Scope<'a>,
+    label: Token<'a>,
+    token: Token<'a>,
+) -> Result<Place<'a>, Stop>
+    ensures { Leads symbols.now units.now result
+        (keyword_row (known_of symbols.now units.now) (seen_scope scope.entry) (seen label.entry) (seen token.entry) Essential) }
+{
+    let Scope::Inside(block) = scope else {
+        return Err(fault_at(token, FaultKind::OutOfProfile));
+    };
+    match hypothesis_label_fault(symbols, units, &block, label.text) {
+        Some(kind) => Err(fault_at(label, kind)),
+        None => {
+            let place = UnitPlace::InHypothesis(block, label.text, Vec::new(alloc));
+            Ok(Place::Unit(place))
+        }
+    }
+}
+
 /// Behind a label.
 fn keyword<'a>(
     alloc: Global,
@@ -106,31 +155,8 @@ fn keyword<'a>(
         (keyword_row (known_of symbols.now units.now) (seen_scope scope.entry) (seen label.entry) (seen token.entry) mark) }
 {
     match mark {
-        Mark::Floating => {
-            let Scope::Outside = scope else {
-                return Err(fault_at(token, FaultKind::OutOfProfile));
-            };
-            if units.is_prelude_closed() {
-                return Err(fault_at(token, FaultKind::OutOfProfile));
-            }
-            let count = symbols.floats().len();
-            match label_fault(symbols, units, count, MOST_SYMBOLS, label.text) {
-                Some(kind) => Err(fault_at(label, kind)),
-                None => Ok(Place::Prelude(PreludePlace::FloatType(label.text))),
-            }
-        }
-        Mark::Essential => {
-            let Scope::Inside(block) = scope else {
-                return Err(fault_at(token, FaultKind::OutOfProfile));
-            };
-            match hypothesis_label_fault(symbols, units, &block, label.text) {
-                Some(kind) => Err(fault_at(label, kind)),
-                None => {
-                    let place = UnitPlace::InHypothesis(block, label.text, Vec::new(alloc));
-                    Ok(Place::Unit(place))
-                }
-            }
-        }
+        Mark::Floating => float_keyword(symbols, units, scope, label, token),
+        Mark::Essential => hypothesis_keyword(alloc, symbols, units, scope, label, token),
         Mark::Axiom => {
             match label_fault(symbols, units, units.count(), MOST_ASSERTIONS, label.text) {
                 Some(kind) => Err(fault_at(label, kind)),

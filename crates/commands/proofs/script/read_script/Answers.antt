@@ -1,7 +1,8 @@
 use Rattle.std.proofs.Common.{◌∙◌, inl}
 use Rattle.commands.specs.ScriptFaults.{script_language}
 use Rattle.mmtext.proofs.Readings.{reading_fault, not_both, same_fault}
-use Rattle.commands.proofs.ScriptLaws.{reading_found, answered, no_fault, fault_given}
+use Rattle.mmtext.proofs.Turns.{fault_given}
+use Rattle.commands.proofs.ScriptLaws.{reading_found, answered, no_fault}
 use Rattle.commands.proofs.script.read_script.Goals as goal
 
 pub returns-in-Ok-clause-found : goal.returns-in-Ok-clause-found

@@ -4,7 +4,7 @@ use Rattle.mmtext.specs.Views.{seen}
 use Rattle.commands.specs.ScriptFaults.{script_language}
 use Rattle.commands.specs.ScriptViews.{seen_state}
 use Rattle.mmtext.proofs.Readings.{goes_on, ends_here}
-use Rattle.commands.proofs.ScriptLaws.{same_reading, stopped}
+use Rattle.mmtext.proofs.Turns.{same_reading, stopped}
 use Rattle.commands.proofs.script.read_tokens.Goals as goal
 
 pub loop-token-preserved : goal.loop-token-preserved
@@ -29,4 +29,4 @@ returns-in_err-state c =
     let p = err_from_is_err_and c.from_residual.result c.from_residual.ensures.1 in
     let why = c.in_err-state.field-0.0 in
     rw (p.1, p.2) (
-    stopped why c.args.text.now here (seen c.in-Some.token) _ _ c.in-Some.ensures.some c.in_err-state.ensures c.loop-token.invariant.same)
+    stopped script_language why c.args.text.now here (seen c.in-Some.token) _ _ c.in-Some.ensures.some c.in_err-state.ensures c.loop-token.invariant.same)

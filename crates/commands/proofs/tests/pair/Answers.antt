@@ -1,39 +1,51 @@
-use Rattle.std.proofs.Common.{◌≡◌, List, [], ◌∷◌, length, map, refl, sym, ap, subst, arith}
-use Rattle.std.proofs.lemmas.List.{length-map}
-use Rattle.std.proofs.lemmas.List.Elements.{All-map}
-use Rattle.std.specs.Prelude.{All}
-use Rattle.mmsyntax.specs.declared.statement.Kind.TheVariants.{Axiom}
+use Rattle.std.proofs.Common.{◌≡◌, List, [], ◌∷◌, length, get_or, refl, sym, ap, subst, ◌∙◌, arith, rules}
+use Rattle.std.proofs.lemmas.List.Sorted.{IsPermutation-swap}
 use Rattle.mmsyntax.specs.declared.statement.Assertion.{Assertion}
 use Rattle.mmsyntax.specs.Tables.{Contents}
 use Rattle.mmsyntax.specs.Layout.{HasSpelling}
-use Rattle.mmsyntax.specs.Assertions.{IsDeclarable}
-use Rattle.mmsyntax.proofs.Declarable.{declarable}
+use Rattle.proofcheck.specs.Databases.{AllCheck}
 use Rattle.commands.specs.declared.library.Ranked.{Ranked}
-use Rattle.commands.specs.Library.{IsSetting, Verifies, EachFollows}
-use Rattle.commands.proofs.Opening.{follow_axioms}
-use Rattle.commands.proofs.Showing.{InRange, verifies_shown}
+use Rattle.commands.specs.Library.{Verifies, opening}
+use Rattle.commands.proofs.Opening.{opening_verifies_in}
+use Rattle.commands.proofs.Showing.{verifies_permutation}
 use Rattle.commands.proofs.tests.pair.Goals as goal
 
-abbrev at_seven : Assertion → Ranked
-at_seven a = record { rank = 7; assertion = a }
+two_items : (xs : List Assertion) (a b : Assertion) → length xs ≡ 2 → a ≡ get_or xs 0 a → b ≡ get_or xs 1 b → xs ≡ a ∷ b ∷ []
+two_items [] a b two first second = absurd (omega arith)
+two_items (x ∷ []) a b two first second = absurd (omega arith)
+two_items (x ∷ y ∷ []) a b two first second = λ i. sym first i ∷ sym second i ∷ []
+two_items (x ∷ y ∷ z ∷ xs) a b two first second = absurd (omega arith)
 
-assertions-at_seven : (xs : List Assertion) → map (λ (e : Ranked). e.assertion) (map at_seven xs) ≡ xs
-assertions-at_seven [] = refl
-assertions-at_seven (a ∷ xs) = ap (λ as'. a ∷ as') (assertions-at_seven xs)
+-- the opening library of two assertions, the last first
+abbrev turned : Assertion → Assertion → List Ranked
+turned a b = record { rank = 200; assertion = b } ∷ record { rank = 100; assertion = a } ∷ []
 
-all_verify : (db : Contents) → HasSpelling db → EachFollows db → length db.assertions ≡ 2
-    → Verifies (record { prelude = db.prelude; slots = 2 }) (map at_seven db.assertions)
-all_verify db h follows two =
-    let d = declarable db h in
-    let xs = db.assertions in
-    let setting : IsSetting (record { prelude = db.prelude; slots = 2 }) = record { sound = d.prelude; some = omega arith; few = omega arith } in
-    verifies_shown (record { prelude = db.prelude; slots = 2 }) (map at_seven xs) setting
-    (All-map InRange at_seven xs (λ i z lt. (omega arith, omega arith))) (omega (arith, length-map xs at_seven))
-    (subst (IsDeclarable db.prelude) (sym (assertions-at_seven db.assertions)) d)
-    (subst (All (λ a. a.kind ≡ Axiom)) (sym (assertions-at_seven db.assertions)) (follow_axioms db follows))
+turned_verifies : (db : Contents) (a b : Assertion) → HasSpelling db → AllCheck db → db.assertions ≡ a ∷ b ∷ []
+    → Verifies (record { prelude = db.prelude; slots = 2 }) (turned a b)
+turned_verifies db a b spelled checks is =
+    let Opened = λ (xs : List Assertion). Verifies (record { prelude = db.prelude; slots = 2 })
+    (opening (record { prelude = db.prelude; assertions = xs })) in
+    let two = ap length is in
+    let there : Opened (a ∷ b ∷ []) =
+    subst Opened is (opening_verifies_in db 2 spelled checks (omega arith) (omega arith) (omega arith)) in
+    let before = opening (record { prelude = db.prelude; assertions = a ∷ b ∷ [] }) in
+    verifies_permutation (record { prelude = db.prelude; slots = 2 }) before (turned a b) there
+    (IsPermutation-swap before (turned a b) 0 1 (omega arith) (omega arith) refl)
 
 pub sorted-requires : goal.sorted-requires
-sorted-requires c =
+sorted-requires g c =
     let db = c.in_ok-db.db in
-    let two : length db.assertions ≡ 2 = rw (sym c.assertions.ensures.value) c.if-assertions-ne2.false in
-    rw (c.in_ok-entries.ensures, c.in_ok-prelude.ensures, c.prelude.ensures) (all_verify db c.assertions.ensures.sound (c.first_theorem.ensures.follows c.in-None.is) two)
+    let value = c.assertions-assertions.ensures.value in
+    let a = c.index-assertions-0.result in
+    let b = c.index-assertions-1.result in
+    let two : length db.assertions ≡ 2 = omega (arith, ap length value, c.if-assertions-ne2.false) in
+    let first : a ≡ get_or db.assertions 0 a = rw value at c.index-assertions-0.is in
+    let second : b ≡ get_or db.assertions 1 b = rw value at c.index-assertions-1.is in
+    let verifies = turned_verifies db a b c.assertions-assertions.ensures.sound c.in-Ok.ensures.yes
+    (two_items db.assertions a b two first second) in
+    let prelude : c.in_ok-prelude.prelude ≡ db.prelude = c.in_ok-prelude.ensures ∙ c.prelude.ensures in
+    let pushed : c.push-2.new.self.items ≡ turned c.in_ok-copy-2.field-0 c.in_ok-copy.field-0 = search rules in
+    let entries : c.push-2.new.self.items ≡ turned a b =
+    pushed ∙ ap (λ (x : Assertion). turned x c.in_ok-copy.field-0) c.in_ok-copy-2.ensures
+    ∙ ap (λ (y : Assertion). turned a y) c.in_ok-copy.ensures in
+    rw (prelude, entries) verifies

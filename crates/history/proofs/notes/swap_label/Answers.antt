@@ -1,6 +1,7 @@
 use Rattle.std.proofs.Common.{get_or, sym}
 use Rattle.std.proofs.lemmas.Option.{slice_get-get_or}
-use Rattle.history.proofs.Relabelling.{relabelled-set}
+use Rattle.history.specs.Drafts.{with_label}
+use Rattle.history.proofs.Changing.{changed-set}
 use Rattle.history.proofs.notes.swap_label.Goals as goal
 
 pub returns-clause-given : goal.returns-clause-given
@@ -8,7 +9,8 @@ returns-clause-given c =
     let lib = c.args.entries.now in
     let p = c.args.place in
     let d = c.index-entries-place.result in
-    rw c.swap.ensures.x_after (relabelled-set lib p c.args.label.now (get_or lib p d) (slice_get-get_or lib p d c.requires))
+    rw c.swap.ensures.x_after
+    (changed-set lib p (with_label c.args.label.now) (get_or lib p d) (slice_get-get_or lib p d c.requires))
 
 pub returns-clause-taken : goal.returns-clause-taken
 returns-clause-taken c =

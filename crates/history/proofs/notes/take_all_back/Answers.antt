@@ -2,7 +2,7 @@ use Rattle.std.proofs.Common.{◌≡◌, ℕ, ◌+◌, ◌-◌, ◌≤◌, ◌<�
 use Rattle.std.proofs.lemmas.List.{take_more, take-set, length-set}
 use Rattle.history.specs.declared.notes.Note.{Note}
 use Rattle.history.specs.Drafts.{CanUndo, undone, taken_back}
-use Rattle.history.proofs.Keys.{only-fewer, only-taken_back}
+use Rattle.history.proofs.Keys.{has-item, only-fewer, only-taken_back}
 use Rattle.history.proofs.Undoing.{can_undo-split, can_undo-kept, undone-push}
 use Rattle.history.proofs.notes.take_all_back.Goals as goal
 
@@ -17,7 +17,8 @@ take_back-requires-clause-can c =
     let x = c.loop-left in
     let d = c.index-notes-left.result in
     let last = take_last x.notes x.left d c.loop-left-test.true x.invariant.within in
-    (can_undo-split x.places (take (x.left - 1) x.notes) (get_or x.notes (x.left - 1) d) x.entries (subst (λ ns. CanUndo x.places ns x.entries) last x.invariant.can)).1
+    (can_undo-split x.places (take (x.left - 1) x.notes) (get_or x.notes (x.left - 1) d) x.entries (subst
+    (λ ns. CanUndo x.places ns x.entries) last x.invariant.can)).1
 
 pub loop-left-preserved : goal.loop-left-preserved
 loop-left-preserved c =
@@ -34,7 +35,8 @@ loop-left-preserved c =
       within = omega (arith, length-set x.notes k c.take_back.new.note);
       indexed = c.take_back.ensures.indexed;
       only = rw c.take_back.ensures.entries
-          (only-taken_back c.take_back.new.places x.entries x.notes k c.take_back.new.note d (omega arith) c.take_back.ensures.noted
+          (only-taken_back c.take_back.new.places x.entries x.notes k n c.take_back.new.note (has-item x.notes k d
+          (omega arith)) c.take_back.ensures.noted
           (only-fewer x.places c.take_back.new.places _ c.take_back.ensures.fewer x.invariant.only));
       can = rw (take-set x.notes k c.take_back.new.note, c.take_back.ensures.entries) can;
       same = rw (take-set x.notes k c.take_back.new.note, c.take_back.ensures.entries) same;

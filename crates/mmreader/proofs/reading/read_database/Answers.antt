@@ -3,8 +3,9 @@ use Rattle.std.proofs.Common.{◌∙◌, inl}
 use Rattle.mmsyntax.specs.Faults.{database_language}
 use Rattle.mmreader.specs.Views.{contents_of}
 use Rattle.mmtext.proofs.Readings.{reading_fault, not_both, same_fault}
+use Rattle.mmtext.proofs.Turns.{fault_given}
 use Rattle.mmreader.proofs.DatabaseLaws.{database_found}
-use Rattle.mmreader.proofs.DatabaseAnswers.{fault_given, database_answered, database_faultless}
+use Rattle.mmreader.proofs.DatabaseAnswers.{database_answered, database_faultless}
 use Rattle.mmreader.proofs.reading.read_database.Goals as goal
 
 pub into_database-requires : goal.into_database-requires

@@ -7,4 +7,4 @@ pub open-requires : goal.open-requires
 open-requires c =
     let few : length c.args.db.now.assertions ≤ 4096 = (declarable c.args.db.now c.assertions.ensures.sound).few in
     let same = ap length c.assertions.ensures.value in
-    record { slots = (omega arith, omega arith); follows = c.requires }
+    record { slots = (omega arith, omega arith); checks = c.requires }

@@ -1,12 +1,11 @@
 use Rattle.std.proofs.Common.{◌+◌}
-use Rattle.mmrefactor.specs.declared.job.Fault.TheVariants.{Text, Proof, Theorem, NoMemory}
+use Rattle.mmrefactor.specs.declared.job.Fault.TheVariants.{Text, Proof, NoMemory}
 use Rattle.mmrefactor.proofs.JobFaults.{proof_faulted, proof_refused, proof_memory}
 use Rattle.mmrefactor.proofs.perform.check_proofs.Goals as goal
 
 pub returns-in-Ok-clause-refused : goal.returns-in-Ok-clause-refused
 returns-in-Ok-clause-refused g c (Proof label fault) h = c.in-Ok.ensures.refused (h.0 + 1) fault h.1
 returns-in-Ok-clause-refused g c (Text k fault) h = h
-returns-in-Ok-clause-refused g c (Theorem label) h = h
 returns-in-Ok-clause-refused g c NoMemory h = h
 
 pub returns-in-Err-clause-only : goal.returns-in-Err-clause-only

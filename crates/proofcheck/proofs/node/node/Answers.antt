@@ -18,14 +18,14 @@ returns-clause-ok c =
     (c.are_substituted.ensures.0 c.if-not-are_substituted.false) in
     let pairs = rw (c.as_slice-floats.ensures, c.as_slice-2.ensures, c.as_slice-3.ensures) at
     (c.in_ok-pairs_fit.ensures.0 c.if-not-branch.false) in
-    IfOk-weaker c.substitute.result _ _ (λ e h. record {
+    IfOk-weaker c.conclude.result _ _ (λ e h. record {
       one_each = c.requires;
       types = types;
       hypotheses = hyps;
       pairs = pairs;
       is_conclusion = rw (c.as_slice-floats.ensures, c.as_slice-4.ensures) at h.0;
       short = h.1;
-    }) c.substitute.ensures.value
+    }) c.conclude.ensures.value
 
 pub returns-clause-err : goal.returns-clause-err
 returns-clause-err c =
@@ -34,6 +34,6 @@ returns-clause-err c =
     (c.are_substituted.ensures.0 c.if-not-are_substituted.false) in
     let pairs = rw (c.as_slice-floats.ensures, c.as_slice-2.ensures, c.as_slice-3.ensures) at
     (c.in_ok-pairs_fit.ensures.0 c.if-not-branch.false) in
-    IfErr-weaker c.substitute.result _ _
+    IfErr-weaker c.conclude.result _ _
     (λ kind h n. too-long-only c.args.prelude.now c.args.assertion.now c.args.frame.now c.args.args.now kind types hyps pairs
-    (rw (c.as_slice-floats.ensures, c.as_slice-4.ensures) at h) n) c.substitute.ensures.kinds
+    (rw (c.as_slice-floats.ensures, c.as_slice-4.ensures) at h) n) c.conclude.ensures.kinds

@@ -1,11 +1,9 @@
-use Rattle.std.proofs.Common.{◌≡◌, ◌≤◌, ◌++◌, drop, vec_len}
+use Rattle.std.proofs.Common.{◌≡◌, ◌++◌, drop}
 use Rattle.mmstatement.specs.Substitution.{subst}
 use Rattle.proofcheck.specs.Derivation.{substitution}
 use Rattle.proofcheck.proofs.substitutes.substitute.Given as goal
 
 abbrev pub invariant-loop-symbol : goal.invariant-loop-symbol
-invariant-loop-symbol l = record {
-  made_so_far : l.made.items ++ subst (substitution l.floats l.entries) (drop l.symbol-index l.symbols)
-      ≡ subst (substitution l.floats l.entries) l.symbols;
-  short : vec_len l.made ≤ 65535;
-}
+invariant-loop-symbol l =
+    l.made.items ++ subst (substitution l.floats l.entries) (drop l.symbol-index l.symbols)
+    ≡ subst (substitution l.floats l.entries) l.symbols

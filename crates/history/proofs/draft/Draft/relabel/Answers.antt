@@ -2,16 +2,18 @@ use Rattle.std.proofs.Common.{◌≡◌, false, ◌∷◌, ◌++◌, [], Some, l
 use Rattle.mmsyntax.proofs.Names.{after_update}
 use Rattle.commands.specs.Edits.{has}
 use Rattle.history.specs.declared.notes.Note.{Note}
+use Rattle.history.specs.declared.notes.Note.TheVariants.{Relabelled}
 use Rattle.history.specs.Places.{Puts, StandsAt}
-use Rattle.history.specs.Drafts.{Drafted, IsDraft, relabelled, undone}
-use Rattle.history.proofs.Relabelling.{length-relabelled}
+use Rattle.history.specs.Drafts.{Drafted, IsDraft, with_label, relabelled, undone}
+use Rattle.history.proofs.Changing.{length-changed}
 use Rattle.history.proofs.Undoing.{draft_same, draft_relabelled, written_whole}
 use Rattle.history.proofs.draft.Draft.relabel.Goals as goal
 
 pub invariant_of-self-in_err-insert : goal.invariant_of-self-in_err-insert
 invariant_of-self-in_err-insert c =
     let i = c.self.inside in
-    rw c.reserve.ensures.items (draft_same i.places c.insert.new.self i.notes.items i.entries.items c.in_err-insert.ensures.err c.self.invariant)
+    rw c.reserve.ensures.items
+    (draft_same i.places c.insert.new.self i.notes.items i.entries.items c.in_err-insert.ensures.err c.self.invariant)
 
 abbrev Renamed : goal.After-push_note → Type 0
 Renamed c =
@@ -29,7 +31,8 @@ renamed c =
     let p = c.args.place in
     let key : c.in_ok-key.key.items ≡ w = search rules in
     let puts =
-    subst (λ k. Puts i.places k p c.insert.new.self) key (after_update c.in_ok-key.key.items i.places c.insert.new.self (Some p) c.in_ok-insert.ensures.updates) in
+    subst (λ k. Puts i.places k p c.insert.new.self) key (after_update c.in_ok-key.key.items i.places c.insert.new.self
+    (Some p) c.in_ok-insert.ensures.updates) in
     let held : c.args.self.now.library ≡ lib = sym (ap (λ (d : Drafted). d.library) c.self.view_is) in
     let free : has lib w ≡ false = subst (λ l. has l w ≡ false) held c.requires.free in
     let lent : c.as_mut_slice.result.now ≡ lib = c.as_mut_slice.ensures.value in
@@ -37,10 +40,10 @@ renamed c =
     let given : c.swap_label.new.entries ≡ relabelled lib p w =
     c.swap_label.ensures.given ∙ ap (λ l. relabelled l p c.in_ok-former.former) lent ∙ ap (relabelled lib p) former in
     let taken : StandsAt lib c.swap_label.new.label p = subst (λ l. StandsAt l c.swap_label.new.label p) lent c.swap_label.ensures.taken in
-    let same_length : length c.swap_label.new.entries ≡ length lib = ap length given ∙ length-relabelled lib p w in
+    let same_length : length c.swap_label.new.entries ≡ length lib = ap length given ∙ length-changed lib p (with_label w) in
     let all : i.entries.len ≡ length lib = search rules in
     let whole = written_whole lib c.swap_label.new.entries i.entries.len all same_length in
-    let note : Note = record { place = p; former = c.swap_label.new.label } in
+    let note : Note = Relabelled p c.swap_label.new.label in
     let noted : c.push_note.new.notes.items ≡ i.notes.items ++ note ∷ [] =
     c.push_note.ensures ∙ ap (λ ns. ns ++ note ∷ []) c.reserve.ensures.items in
     let both =

@@ -9,7 +9,7 @@ use Rattle.history.proofs.editor.Editor.open.Goals as goal
 pub open-requires-clause-distinct : goal.open-requires-clause-distinct
 open-requires-clause-distinct c =
     let a = c.assertions-assertions in
-    let v = opening_verifies c.args.db.now a.ensures.sound c.requires.follows in
+    let v = opening_verifies c.args.db.now a.ensures.sound c.requires.checks in
     subst (λ xs. Distinct bytes_eq (map label_of (ranked_from 1 xs))) (sym a.ensures.value) v.library.distinct
 
 pub invariant_of-result : goal.invariant_of-result
@@ -25,4 +25,4 @@ invariant_of-result c =
     c.in_ok-draft.ensures
     ∙ ap (λ p. record { setting = record { prelude = p; slots = c.args.slots }; start = ranked_from 1 a.result.now; library = ranked_from 1 a.result.now; noted = [] }) prelude
     ∙ ap (λ xs. record { setting = record { prelude = db.prelude; slots = c.args.slots }; start = ranked_from 1 xs; library = ranked_from 1 xs; noted = [] }) a.ensures.value in
-    subst IsSettled (sym same) (record { verifies = opening_verifies_in db c.args.slots a.ensures.sound c.requires.follows c.requires.slots.0 c.requires.slots.1 room; settled = refl; forgotten = refl })
+    subst IsSettled (sym same) (record { verifies = opening_verifies_in db c.args.slots a.ensures.sound c.requires.checks c.requires.slots.0 c.requires.slots.1 room; settled = refl; forgotten = refl })

@@ -3,7 +3,8 @@ use Rattle.std.proofs.Common.{inl}
 use Rattle.mmsyntax.specs.Faults.{unit_language}
 use Rattle.mmtext.proofs.Readings.{reading_fault, not_both, same_fault}
 use Rattle.mmreader.proofs.DatabaseLaws.{unit_found}
-use Rattle.mmreader.proofs.DatabaseAnswers.{fault_given, unit_ok_over, unit_err_over, unit_answered, unit_faultless}
+use Rattle.mmtext.proofs.Turns.{fault_given}
+use Rattle.mmreader.proofs.DatabaseAnswers.{unit_ok_over, unit_err_over, unit_answered, unit_faultless}
 use Rattle.mmreader.proofs.reading.units.read_assertion.Goals as goal
 
 pub returns-in-Ok-clause-found : goal.returns-in-Ok-clause-found

@@ -1,0 +1,62 @@
+-- The ends of a commit that wrote nothing, and what a run needs to go on to its draw.
+use Rattle.std.proofs.Common.{◌≡◌, ◌≢◌, ℕ, ◌≤◌, Bool, true, false, if◌then◌else◌, is_some, Option, Some, None, List, [], ◌∷◌, ◌++◌, length, sym, refl, ap, ◌∙◌, subst, arith}
+use Rattle.tlcore.specs.Seats.{Seat, is_nil, reads_of}
+use Rattle.tlcore.proofs.Words.{at_reading, at_taking, is_resting}
+use Rattle.tlwords.specs.declared.log.Slot.{Slot}
+use Rattle.tlwords.specs.Seen.{Lawful, Work, Answered}
+use Rattle.tlwords.specs.Views.{View}
+use Rattle.tlwords.specs.Plays.{Mine, Recalls}
+use Rattle.tlwords.specs.Runs.{IsKeptOf, IsPassOf, IsRunOf}
+use Rattle.tlwords.specs.Commits.{writes_kept, work_kept, NoneWanted, held_in, holding, Goes, HasAnswered, IsLawfulNow}
+use Rattle.tlwords.proofs.RunSteps.{left_fits}
+use Rattle.tlwords.proofs.Held.{no_writes}
+use Rattle.tlwords.proofs.Turns.{unkept_of, goes_seat, goes_setting}
+use Rattle.tlwords.proofs.Settles.{some_held}
+
+pub known_setting : {S : Type 0} (o : Option S) → is_some o ≡ true → (y : S) × (o ≡ Some y)
+known_setting None e = let a : false ≡ true = e in absurd (cc)
+known_setting (Some y) e = (y, refl)
+
+pub nothing_kept : (t : Seat) (slots : List Slot) (cells : List ℕ) → IsKeptOf t slots cells → NoneWanted slots true 0 (length slots) → writes_kept slots ≡ []
+nothing_kept t slots cells k front = no_writes slots (length slots) (unkept_of t slots cells k 0 (length slots) front)
+
+module _ {S N : Type 0} (lawful : Lawful S N) (opens : S → List ℕ → Type 0) (slots : List Slot) (x : N) (m r : Mine S N) where
+  pub answers : Recalls lawful opens (Some x) m r → writes_kept slots ≡ [] → HasAnswered lawful opens (work_kept m.0.seat slots x) m r
+  answers t e =
+      record {
+        sees = t.sees;
+        is = t.is x refl ∙ (λ j. let v : View S N = record m.0 {
+          seen = r.0.seen;
+          mine = m.0.mine ++ Answered m.0.seat.rv (record { reads = reads_of m.0.seat.reads; writes = sym e j; note = x }) ∷ [];
+        } in v);
+      }
+
+  pub answered_fits : (count place : ℕ) → Recalls lawful opens (Some x) m r → IsRunOf m count place false → IsPassOf r count
+  answered_fits count place t f =
+      let p : IsPassOf m count = left_fits lawful opens m count place false f in (
+        ap (λ (v : View S N). is_some v.setting) (t.is x refl) ∙ p.0,
+        ap (λ (v : View S N). is_resting v.seat.place) (t.is x refl) ∙ p.1,
+        ap (λ (v : View S N). v.rights) (t.is x refl) ∙ p.2,
+        ap (λ (v : View S N). length v.drawn) (t.is x refl) ∙ p.3,
+        p.4,
+      )
+
+  module _ (g : Goes lawful opens m (holding m.0.seat at_taking at_reading (held_in slots 0 0 (length slots))) r) where
+    at : r.0.seat ≡ holding m.0.seat at_taking at_reading (held_in slots 0 0 (length slots))
+    at = goes_seat lawful opens m r (holding m.0.seat at_taking at_reading (held_in slots 0 0 (length slots))) g
+
+    pub taken_run : (place : ℕ) → writes_kept slots ≢ [] → m.0.seat.rv ≡ place
+        → (r.0.seat.place ≡ at_taking) × (r.0.seat.rv ≡ place) × (r.0.seat.held ≡ held_in slots 0 0 (length slots))
+    taken_run place some e = (
+      ap (λ (t : Seat). t.place) at ∙ ap (λ (b : Bool). if b then at_reading else at_taking) (some_held slots 0 some),
+      ap (λ (t : Seat). t.rv) at ∙ e,
+      ap (λ (t : Seat). t.held) at,
+    )
+
+    pub taken_lawful : (y : S) → m.0.setting ≡ Some y → IsLawfulNow lawful m.0 slots x
+        → (z : S) × (r.0.setting ≡ Some z) × lawful z [] (reads_of r.0.seat.reads) (writes_kept slots) x
+    taken_lawful y e f = (
+      y,
+      goes_setting lawful opens m r (holding m.0.seat at_taking at_reading (held_in slots 0 0 (length slots))) y g e,
+      subst (λ (t : Seat). lawful y [] (reads_of t.reads) (writes_kept slots) x) (sym at) (f y e),
+    )

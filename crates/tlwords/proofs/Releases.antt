@@ -1,0 +1,95 @@
+-- A run that gives its locks back, one after another.
+use Rattle.std.proofs.Common.{◌≡◌, ◌≢◌, ℕ, suc, ◌+◌, ◌*◌, ◌<◌, ◌≤◌, ◌⊎◌, inl, inr, ⊎_elim, Bool, true, false, if◌then◌else◌, Option, Some, None, List, [], ◌∷◌, length, sym, refl, ap, ◌∙◌, subst, arith}
+use Rattle.std.specs.Option.{unwrap_or}
+use Rattle.tlcore.specs.History.{wv}
+use Rattle.tlcore.specs.Seats.{Seat, find_held, is_nil, without}
+use Rattle.tlcore.proofs.Lists.{known}
+use Rattle.tlcore.proofs.Words.{SeatHeld, SeatPlace, at_idle, at_failing, at_voiding, at_storing}
+use Rattle.tlwords.specs.declared.log.Slot.{Slot}
+use Rattle.tlwords.specs.Seen.{Lawful}
+use Rattle.tlwords.specs.Views.{View}
+use Rattle.tlwords.specs.Plays.{Mine, Releases, GivesBack, after_release}
+use Rattle.tlwords.specs.Runs.{word_seen, value_kept}
+use Rattle.tlwords.specs.Commits.{word_or_zero, held_in, holding, Goes, IsVoid, Releasing, ReleasesAll}
+use Rattle.tlwords.proofs.RunSteps.{if_true, if_false}
+use Rattle.tlwords.proofs.Held.{NoneKept, held_cell, held_find, held_none, held_without, lt_yes}
+use Rattle.tlwords.proofs.Turns.{goes_seat, goes_by}
+
+pub nil_not : (c : ℕ) (ks : List SeatHeld) (k : SeatHeld) → find_held c ks ≡ Some k → is_nil ks ≡ false
+nil_not c [] k e = cc
+nil_not c (x ∷ ks) k e = refl
+
+idle_not_voiding : (i : ℕ) → at_idle ≡ at_voiding i → ⊥
+idle_not_voiding i e = cc
+
+module _ {S N : Type 0} (lawful : Lawful S N) (opens : S → List ℕ → Type 0) (slots : List Slot) (high : ℕ) (new : Option ℕ) (low : ℕ) (m r : Mine S N)
+    (g : Releasing lawful opens slots high new low m r) where
+  abbrev still : List SeatHeld
+  still = held_in slots g.done low high
+
+  module _ (c v : ℕ) (l : low ≤ c) (b : c < high) (e : value_kept slots c ≡ Some v) where
+    some_held : is_nil still ≡ false
+    some_held = nil_not c still (held_cell slots g.done c v) (held_find slots g.done low high c v l b e)
+
+    still_at : r.0.seat.place ≡ g.place
+    still_at =
+        ap (λ (t : Seat). t.place) (goes_seat lawful opens m r (holding m.0.seat g.place at_idle still) g.goes)
+        ∙ ap (λ (b : Bool). if b then at_idle else g.place) some_held
+
+    pub release_held : (w n : ℕ) → word_seen slots c ≡ Some w → n ≡ unwrap_or new w
+        → (k : SeatHeld) × (find_held c r.0.seat.held ≡ Some k) × GivesBack r.0.seat k n
+    release_held w n f is = (
+      held_cell slots g.done c v,
+      ap (λ (t : Seat). find_held c t.held) (goes_seat lawful opens m r (holding m.0.seat g.place at_idle still) g.goes) ∙ held_find slots g.done low high c v l b e,
+      go g.gives,
+    )
+      where
+        go : ((new ≡ None) × ((g.place ≡ at_failing) ⊎ ((i : ℕ) × (g.place ≡ at_voiding i)))) ⊎ ((g.done ≡ high) × ((i : ℕ) × (g.place ≡ at_storing i) × (new ≡ Some (2 * wv i))))
+            → GivesBack r.0.seat (held_cell slots g.done c v) n
+        go (inl p) =
+            let back : n ≡ word_or_zero (word_seen slots c) = is ∙ (ap (λ (o : Option ℕ). unwrap_or o w) p.0 ∙ sym (ap word_or_zero f)) in
+            inr (⊎_elim (λ (q : g.place ≡ at_failing). inl (still_at ∙ q, back)) (λ (q : (i : ℕ) × (g.place ≡ at_voiding i)). inr (q.0, still_at ∙ q.1, back)) p.1)
+        go (inr p) = inl (p.1.0, still_at ∙ p.1.1, lt_yes c g.done (let a : g.done ≡ high = p.0 in omega (arith, a, b)), is ∙ ap (λ (o : Option ℕ). unwrap_or o w) p.1.2)
+
+    pub release_goes : (s : Mine S N) → NoneKept slots low c → Releases lawful opens c r s → Releasing lawful opens slots high new (c + 1) m s
+    release_goes s unkept t =
+        record {
+          place = g.place;
+          done = g.done;
+          gives = g.gives;
+          start = g.start;
+          goes = goes_by lawful opens (λ (t : Seat). after_release t c) r.0.looked m r s (holding m.0.seat g.place at_idle still)
+              (holding m.0.seat g.place at_idle (held_in slots g.done (c + 1) high)) g.goes t.sees t.is
+              (λ j. let z : Seat = record m.0.seat { place = (if is_nil (left j) then at_idle else (if some_held j then at_idle else g.place)); held = left j } in z);
+          looked = ap (λ (v : View S N). v.looked) t.is ∙ g.looked;
+          void = λ i p. inr (t.void i (still_at ∙ p));
+        }
+      where
+        left : without c still ≡ held_in slots g.done (c + 1) high
+        left = held_without slots g.done low high c l unkept ∙ ap (λ (x : ℕ). held_in slots g.done x high) (let a : suc c ≡ c + 1 = omega arith in a)
+
+  pub release_end : NoneKept slots low high → ReleasesAll lawful opens m r
+  release_end unkept =
+      record {
+        goes = subst (λ (ks : List SeatHeld). Goes lawful opens m (holding m.0.seat g.place at_idle ks) r) nothing g.goes;
+        looked = g.looked;
+        void = λ i e. was i e (known (is_nil (held_in slots g.done 0 high)));
+      }
+    where
+      nothing : still ≡ []
+      nothing = held_none slots g.done low high unkept
+
+      stood : m.0.seat.place ≡ (if is_nil (held_in slots g.done 0 high) then at_idle else g.place)
+      stood = ap (λ (t : Seat). t.place) g.start
+
+      full : is_nil (held_in slots g.done 0 high) ≡ false → r.0.seat ≡ m.0.seat → ⊥
+      full p q =
+          let a : held_in slots g.done 0 high ≡ [] = sym (ap (λ (t : Seat). t.held) g.start) ∙ (sym (ap (λ (t : Seat). t.held) q)
+          ∙ (ap (λ (t : Seat). t.held) (goes_seat lawful opens m r (holding m.0.seat g.place at_idle still) g.goes) ∙ nothing)) in
+          let b : true ≡ false = sym (ap is_nil a) ∙ p in cc
+
+      was : (i : ℕ) → m.0.seat.place ≡ at_voiding i → (is_nil (held_in slots g.done 0 high) ≡ true) ⊎ (is_nil (held_in slots g.done 0 high) ≡ false) → IsVoid r.0.seen i
+      was i e (inl p) = absurd (idle_not_voiding i (sym (ap (λ (b : Bool). if b then at_idle else g.place) p) ∙ (sym stood ∙ e)))
+      was i e (inr p) =
+          let at : g.place ≡ at_voiding i = sym (ap (λ (b : Bool). if b then at_idle else g.place) p) ∙ (sym stood ∙ e) in
+          ⊎_elim (λ (q : r ≡ m). absurd (full p (ap (λ (z : Mine S N). z.0.seat) q))) (λ (q : IsVoid r.0.seen i). q) (g.void i at)

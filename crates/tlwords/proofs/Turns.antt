@@ -1,0 +1,136 @@
+-- A run that commits, step by step.
+use Rattle.std.proofs.Common.{◌≡◌, ◌≢◌, ℕ, suc, ◌+◌, ◌*◌, ◌/◌, ◌%◌, ◌<◌, ◌≤◌, ◌⊎◌, inl, inr, ⊎_elim, eq-eqb, ne_eqb, Bool, true, false, not, ◌==◌, ◌&&◌, ◌||◌, is_some, if◌then◌else◌, Option, Some, None, List, [], ◌∷◌, ◌++◌, length, sym, refl, ap, ◌∙◌, subst, arith}
+use Rattle.std.specs.Option.{option_map}
+use Rattle.atomic_table.specs.declared.shared.Seat.{Seat as TableSeat}
+use Rattle.tlcore.specs.Seats.{Seat, find_read, find_held, is_nil, all_below}
+use Rattle.tlcore.specs.Machine.{placed, conflict}
+use Rattle.tlcore.proofs.Lists.{known, option_known}
+use Rattle.tlcore.proofs.Words.{SeatRead, SeatHeld, SeatPlace, at_idle, at_reading, at_taking, at_failing}
+use Rattle.tlwords.specs.declared.log.Slot.{Slot}
+use Rattle.tlwords.specs.Seen.{Lawful, SeenGrows}
+use Rattle.tlwords.specs.Views.{View}
+use Rattle.tlwords.specs.Plays.{Mine, Sees, Takes, after_take}
+use Rattle.tlwords.specs.Runs.{word_seen, value_kept, was_read, IsKeptOf}
+use Rattle.tlwords.specs.Commits.{is_wanted, NoneWanted, held_in, holding, Goes, Finds, FailsToTake}
+use Rattle.tlwords.proofs.Seens.{seen_refl, seen_trans}
+use Rattle.tlwords.proofs.RunSteps.{if_true, if_false}
+use Rattle.tlwords.proofs.Held.{NoneKept, held_on, held_more, held_below}
+
+-- ---- what is kept
+
+module _ (t : Seat) (slots : List Slot) (cells : List ℕ) (k : IsKeptOf t slots cells) where
+  pub unkept_of : (a b : ℕ) → NoneWanted slots true a b → NoneKept slots a b
+  unkept_of a b front c l m = go (value_kept slots c) (was_read slots c) (k.1 c) (front c l m)
+    where
+      go : (o : Option ℕ) (r : Bool) → (is_some o ≡ true → r ≡ true) → (r && is_some o) ≡ false → o ≡ None
+      go None r f e = refl
+      go (Some v) r f e = let a : (true && true) ≡ false = sym (ap (λ (b : Bool). b && true) (f refl)) ∙ e in cc
+
+  -- the read under the word that was seen
+  pub read_found : (c w : ℕ) → word_seen slots c ≡ Some w → (d : SeatRead) × (find_read c t.reads ≡ Some d) × (d.word ≡ w)
+  read_found c w e = go (find_read c t.reads) (sym (k.0 c) ∙ e)
+    where
+      go : (o : Option SeatRead) → option_map (λ (r : SeatRead). r.word) o ≡ Some w → (d : SeatRead) × (o ≡ Some d) × (d.word ≡ w)
+      go None e = cc
+      go (Some d) e = (d, refl, let q : d.word ≡ w = cc in q)
+
+pub seat_trans : {V : Type 0} (p q r : TableSeat (Unit {0}) V) → (q.table_id ≡ p.table_id) × (q.id ≡ p.id) → (r.table_id ≡ q.table_id) × (r.id ≡ q.id)
+    → (r.table_id ≡ p.table_id) × (r.id ≡ p.id)
+seat_trans p q r a b = (b.0 ∙ a.0, b.1 ∙ a.1)
+
+module _ {S N : Type 0} (lawful : Lawful S N) (opens : S → List ℕ → Type 0) where
+  -- ---- steps, one after another
+
+  abbrev pub Moves : Mine S N → Mine S N → Type 0
+  Moves m r = (r ≡ m) ⊎ Sees lawful opens m.0 r.0
+
+  pub moves_then : (m r s : Mine S N) → Moves m r → Sees lawful opens r.0 s.0 → Sees lawful opens m.0 s.0
+  moves_then m r s (inl e) p = subst (λ (z : Mine S N). Sees lawful opens z.0 s.0) e p
+  moves_then m r s (inr q) p =
+      record {
+        own = seen_trans m.0.seen r.0.seen s.0.seen q.own p.own;
+        told = seen_trans m.0.told.seen r.0.seen s.0.seen q.told p.own;
+        sound = p.sound;
+      }
+
+  pub moves_on : (m r s : Mine S N) → Moves m r → Moves r s → Moves m s
+  moves_on m r s p (inl e) = subst (λ (z : Mine S N). Moves m z) (sym e) p
+  moves_on m r s p (inr q) = inr (moves_then m r s p q)
+
+  pub sees_on : (m r s : Mine S N) → Sees lawful opens m.0 r.0 → Moves r s → Sees lawful opens m.0 s.0
+  sees_on m r s p (inl e) = subst (λ (z : Mine S N). Sees lawful opens m.0 z.0) (sym e) p
+  sees_on m r s p (inr q) = moves_then m r s (inr p) q
+
+  pub moves_grow : (m r : Mine S N) → Moves m r → SeenGrows m.0.seen r.0.seen
+  moves_grow m r (inl e) = subst (λ (z : Mine S N). SeenGrows m.0.seen z.0.seen) (sym e) (seen_refl m.0.seen)
+  moves_grow m r (inr p) = p.own
+
+  pub goes_start : (m : Mine S N) (t : Seat) → t ≡ m.0.seat → Goes lawful opens m t m
+  goes_start m t e =
+      record {
+        moves = inl refl;
+        is = ap (λ (t : Seat). let v : View S N = record m.0 { seat = t } in v) (sym e);
+      }
+
+  -- a step that changes the seat by f
+  pub goes_by : (f : Seat → Seat) (o : Option (ℕ × ℕ)) (m r s : Mine S N) (t u : Seat) → Goes lawful opens m t r → Sees lawful opens r.0 s.0
+      → s.0 ≡ record r.0 { seen = s.0.seen; seat = f r.0.seat; looked = o } → f t ≡ u → Goes lawful opens m u s
+  goes_by f o m r s t u g p e q =
+      record {
+        moves = inr (moves_then m r s g.moves p);
+        is = e ∙ (ap (λ (v : View S N). let w : View S N = record v { seen = s.0.seen; seat = f v.seat; looked = o } in w) g.is
+            ∙ (λ j. let w : View S N = record m.0 { seen = s.0.seen; seat = q j; looked = sym (ap (λ (v : View S N). v.looked) e) j } in w));
+      }
+
+  pub goes_seat : (m r : Mine S N) (t : Seat) → Goes lawful opens m t r → r.0.seat ≡ t
+  goes_seat m r t g = ap (λ (v : View S N). v.seat) g.is
+
+  pub goes_setting : (m r : Mine S N) (t : Seat) (y : S) → Goes lawful opens m t r → m.0.setting ≡ Some y → r.0.setting ≡ Some y
+  goes_setting m r t y g e = ap (λ (v : View S N). v.setting) g.is ∙ e
+
+  pub goes_base : (m r : Mine S N) (t : Seat) → Goes lawful opens m t r → length r.0.base ≡ length m.0.base
+  goes_base m r t g = ap (λ (v : View S N). length v.base) g.is
+
+  pub goes_read : (m r : Mine S N) (t : Seat) → Goes lawful opens m t r → t.reads ≡ m.0.seat.reads → (c : ℕ) (d : SeatRead)
+      → find_read c m.0.seat.reads ≡ Some d → find_read c r.0.seat.reads ≡ Some d
+  goes_read m r t g e c d f = ap (λ (v : View S N). find_read c v.seat.reads) g.is ∙ (ap (find_read c) e ∙ f)
+
+  -- ---- the locks are taken
+
+  module _ (slots : List Slot) (m r : Mine S N) (low : ℕ) where
+    abbrev Before : Type 0
+    Before = Goes lawful opens m (holding m.0.seat at_taking at_reading (held_in slots 0 0 low)) r
+
+    pub take_place : Before → (c : ℕ) → low ≤ c
+        → (r.0.seat.place ≡ at_reading) ⊎ ((r.0.seat.place ≡ at_taking) × (all_below c r.0.seat.held ≡ true))
+    take_place g c l = go (known (is_nil (held_in slots 0 0 low)))
+      where
+        go : (is_nil (held_in slots 0 0 low) ≡ true) ⊎ (is_nil (held_in slots 0 0 low) ≡ false)
+            → (r.0.seat.place ≡ at_reading) ⊎ ((r.0.seat.place ≡ at_taking) × (all_below c r.0.seat.held ≡ true))
+        go (inl e) = inl (ap (λ (v : View S N). v.seat.place) g.is ∙ ap (λ (b : Bool). if b then at_reading else at_taking) e)
+        go (inr e) = inr (ap (λ (v : View S N). v.seat.place) g.is ∙ ap (λ (b : Bool). if b then at_reading else at_taking) e, ap (λ (v : View S N). all_below c v.seat.held) g.is ∙ held_below slots 0 0 low c l)
+
+    module _ (g : Before) (c v w n : ℕ) (s : Mine S N) (l : low ≤ c) (unkept : NoneKept slots low c) (t : Takes lawful opens c v w r n s) where
+      pub take_goes : value_kept slots c ≡ Some v → word_seen slots c ≡ Some w → n ≡ w
+          → Goes lawful opens m (holding m.0.seat at_taking at_reading (held_in slots 0 0 (c + 1))) s
+      take_goes e f same =
+          goes_by (λ (t : Seat). after_take t c v w n) (Some (c, n)) m r s (holding m.0.seat at_taking at_reading (held_in slots 0 0 low))
+          (holding m.0.seat at_taking at_reading (held_in slots 0 0 (c + 1))) g t.sees t.is
+          (if_true (n == w) (record m.0.seat { place = at_taking; held = record { cell = c; word = w; value = v; stored = false } ∷ held_in slots 0 0 low })
+          (conflict (holding m.0.seat at_taking at_reading (held_in slots 0 0 low)) (if is_nil (held_in slots 0 0 low) then at_idle else at_failing)) (eq-eqb n w same)
+          ∙ ap (holding m.0.seat at_taking at_reading) (sym (held_more slots low c v w l unkept e f)))
+
+      pub take_fails : (b : Option ℕ) → b ≡ Some w → c < length slots → word_seen slots c ≡ Some w → n ≢ w
+          → FailsToTake lawful opens slots (record { cell = c; word = n; before = b }) m s
+      take_fails b is within f ne =
+          record {
+            goes = goes_by (λ (t : Seat). after_take t c v w n) (Some (c, n)) m r s (holding m.0.seat at_taking at_reading (held_in slots 0 0 low))
+                (holding (conflict m.0.seat at_idle) at_failing at_idle (held_in slots 0 0 c)) g t.sees t.is
+                (if_false (n == w) (record m.0.seat { place = at_taking; held = record { cell = c; word = w; value = v; stored = false } ∷ held_in slots 0 0 low })
+                (conflict (holding m.0.seat at_taking at_reading (held_in slots 0 0 low)) (if is_nil (held_in slots 0 0 low) then at_idle else at_failing)) (ne_eqb n w ne)
+                ∙ ap (holding (conflict m.0.seat at_idle) at_failing at_idle) (sym (held_on slots 0 0 low c l unkept)));
+            finds = record { looked = ap (λ (v : View S N). v.looked) t.is; written = t.written; before = f ∙ sym is };
+            sees = moves_then m r s g.moves t.sees;
+            differs = (w, is, λ z. ne (sym z));
+            within = within;
+          }

@@ -1,0 +1,197 @@
+//! The end of a run: the steps of a commit, in order.
+#![tactic(auto)]
+
+ghost use Rattle.std.specs.Prelude.{◌≡◌, ◌≢◌, ℕ, ◌*◌, ◌^◌, ◌+◌, ◌<◌, ◌≤◌, ◌⊎◌, ◌||◌, Some, None, [], length, take, true, false, IfOk, IfErr};
+ghost use Rattle.tlcore.specs.History.{wv};
+ghost use Rattle.tlcore.specs.Seats.{is_next, all_settled, is_nil, reads_of};
+ghost use Rattle.tlcore.specs.Machine.{placed, conflict};
+ghost use Rattle.tlcore.proofs.Words.{SeatPlace, at_idle, at_reading, at_taking, at_checking, at_storing, at_failing, at_voiding};
+ghost use Rattle.tlwords.specs.Plays.{IsSameSeat};
+ghost use Rattle.tlwords.specs.Reads.{listed};
+ghost use Rattle.tlwords.specs.Runs.{IsKeptOf, IsPassOf, IsRunOf};
+ghost use Rattle.tlwords.specs.Commits.{writes_kept, work_kept, held_in, holding, Goes, FailsToTake, FailsTheCheck, Passes, StoresTo, Releasing, ReleasesAll, HasCommitted, HasConflicted, IsLawfulNow, HasEnded};
+
+use crate::law::Law;
+use crate::log::Log;
+use crate::outcome::{Conflict, Outcome};
+use crate::rule::Place;
+use crate::steps::{check, draw, recall, release, store, take};
+use crate::words::Words;
+
+// Locks the cells to be written, in ascending order. An error is the try that failed; the smaller cells are locked still.
+fn take_all<L: Law>(words: &Words<L>, seat: &mut Place<L>, log: &Log) -> Result<(), Conflict>
+    requires table { seat.old.table_id ≡ words.now.table.shared.table_id }
+    requires setting { (y : L.Setting) × (seat.old.me.0.setting ≡ Some y) }
+    requires cells { (length log.now.slots.items ≡ words.now.cells) × (length log.now.slots.items ≡ length seat.old.me.0.base) }
+    requires run { (seat.old.me.0.seat.place ≡ at_reading) × (seat.old.me.0.seat.held ≡ []) }
+    requires kept { IsKeptOf seat.old.me.0.seat log.now.slots.items (listed log.now) }
+    ensures seat { IsSameSeat seat.old seat.new }
+    ensures ok { IfOk result (λ _. Goes L.lawful L.opens seat.old.me (holding seat.old.me.0.seat at_taking at_reading (held_in log.now.slots.items 0 0 (length log.now.slots.items))) seat.new.me) }
+    ensures err { IfErr result (λ k. FailsToTake L.lawful L.opens log.now.slots.items k seat.old.me seat.new.me) }
+{
+    let mut next = 0;
+    while let Some(kept) = log.next(next, true) {
+        let found = take(words, seat, kept.cell, kept.word, kept.value);
+        if found != kept.word {
+            return Err(Conflict {
+                cell: kept.cell,
+                word: found,
+                before: Some(kept.word),
+            });
+        }
+        next = kept.cell + 1;
+    }
+    Ok(())
+}
+
+// Looks again at the lock words of the cells that were read and aren't written, in ascending order. It isn't needed where the run's
+// number is the next one after its place.
+fn check_all<L: Law>(
+    words: &Words<L>,
+    seat: &mut Place<L>,
+    log: &Log,
+    place: u64,
+    index: u64,
+) -> Result<(), Conflict>
+    requires table { seat.old.table_id ≡ words.now.table.shared.table_id }
+    requires setting { (y : L.Setting) × (seat.old.me.0.setting ≡ Some y) }
+    requires cells { (length log.now.slots.items ≡ words.now.cells) × (length log.now.slots.items ≡ length seat.old.me.0.base) }
+    requires run { (seat.old.me.0.seat.place ≡ at_checking index 0) × (seat.old.me.0.seat.rv ≡ place) × (seat.old.me.0.seat.held ≡ held_in log.now.slots.items 0 0 (length log.now.slots.items)) }
+    requires kept { IsKeptOf seat.old.me.0.seat log.now.slots.items (listed log.now) }
+    ensures seat { IsSameSeat seat.old seat.new }
+    ensures ok { IfOk result (λ _. Passes L.lawful L.opens index seat.old.me seat.new.me) }
+    ensures err { IfErr result (λ k. FailsTheCheck L.lawful L.opens log.now.slots.items index k seat.old.me seat.new.me) }
+{
+    if index == place {
+        return Ok(());
+    }
+    let mut next = 0;
+    while let Some(read) = log.next(next, false) {
+        let word = check(words, seat, read.cell);
+        if word % 2 != 0 || word / 2 > place {
+            return Err(Conflict {
+                cell: read.cell,
+                word,
+                before: Some(read.word),
+            });
+        }
+        next = read.cell + 1;
+    }
+    Ok(())
+}
+
+// Stores the values, in ascending order of their cells.
+fn store_all<L: Law>(words: &Words<L>, seat: &mut Place<L>, log: &Log, index: u64, note: &L::Note)
+    requires table { seat.old.table_id ≡ words.now.table.shared.table_id }
+    requires setting { (y : L.Setting) × (seat.old.me.0.setting ≡ Some y) }
+    requires cells { (length log.now.slots.items ≡ words.now.cells) × (length log.now.slots.items ≡ length seat.old.me.0.base) }
+    requires run { (upto : ℕ) × (seat.old.me.0.seat.place ≡ at_checking index upto) × ((is_next seat.old.me.0.seat index || all_settled seat.old.me.0.seat.held upto seat.old.me.0.seat.reads) ≡ true) }
+    requires held { (seat.old.me.0.seat.held ≡ held_in log.now.slots.items 0 0 (length log.now.slots.items)) × (seat.old.me.0.note ≡ Some note.now) }
+    requires kept { IsKeptOf seat.old.me.0.seat log.now.slots.items (listed log.now) }
+    requires writes { writes_kept log.now.slots.items ≢ [] }
+    ensures seat { IsSameSeat seat.old seat.new }
+    ensures stores { StoresTo L.lawful L.opens log.now.slots.items index (work_kept seat.old.me.0.seat log.now.slots.items note.now) (length log.now.slots.items) seat.old.me seat.new.me }
+{
+    let _ = index;
+    let _ = note;
+    let mut next = 0;
+    while let Some(kept) = log.next(next, true) {
+        store(words, seat, kept.cell, kept.value);
+        next = kept.cell + 1;
+    }
+}
+
+// Sets the lock words of the cells below `high` that are held, in ascending order: each to its former value, or to the new one.
+fn release_all<L: Law>(
+    words: &Words<L>,
+    seat: &mut Place<L>,
+    log: &Log,
+    high: usize,
+    new: Option<u64>,
+)
+    requires table { seat.old.table_id ≡ words.now.table.shared.table_id }
+    requires setting { (y : L.Setting) × (seat.old.me.0.setting ≡ Some y) }
+    requires cells { (length log.now.slots.items ≡ words.now.cells) × (length log.now.slots.items ≡ length seat.old.me.0.base) × (high ≤ length log.now.slots.items) }
+    requires run { Releasing L.lawful L.opens log.now.slots.items high new 0 seat.old.me seat.old.me }
+    requires kept { IsKeptOf seat.old.me.0.seat log.now.slots.items (listed log.now) }
+    ensures seat { IsSameSeat seat.old seat.new }
+    ensures releases { ReleasesAll L.lawful L.opens seat.old.me seat.new.me }
+{
+    let mut next = 0;
+    while let Some(kept) = log.next(next, true) {
+        if kept.cell >= high {
+            return;
+        }
+        release(words, seat, kept.cell, new.unwrap_or(kept.word));
+        next = kept.cell + 1;
+    }
+}
+
+// From the draw on: the cells to be written are held. An error is the check that failed.
+fn settle<L: Law>(
+    words: &Words<L>,
+    seat: &mut Place<L>,
+    log: &Log,
+    place: u64,
+    note: &L::Note,
+) -> Result<u64, Conflict>
+    requires table { seat.old.table_id ≡ words.now.table.shared.table_id }
+    requires setting { (y : L.Setting) × (seat.old.me.0.setting ≡ Some y) × L.lawful y [] (reads_of seat.old.me.0.seat.reads) (writes_kept log.now.slots.items) note.now }
+    requires cells { (length log.now.slots.items ≡ words.now.cells) × (length log.now.slots.items ≡ length seat.old.me.0.base) }
+    requires run { (seat.old.me.0.seat.place ≡ at_taking) × (seat.old.me.0.seat.rv ≡ place) × (seat.old.me.0.seat.held ≡ held_in log.now.slots.items 0 0 (length log.now.slots.items)) }
+    requires kept { IsKeptOf seat.old.me.0.seat log.now.slots.items (listed log.now) }
+    requires writes { writes_kept log.now.slots.items ≢ [] }
+    requires room { length seat.old.me.0.drawn + 1 ≤ 2 ^ 40 * seat.old.me.0.rights }
+    ensures seat { IsSameSeat seat.old seat.new }
+    ensures ok { IfOk result (λ n. HasCommitted L.lawful L.opens n (work_kept seat.old.me.0.seat log.now.slots.items note.now) seat.old.me seat.new.me) }
+    ensures err { IfErr result (λ k. HasConflicted L.lawful L.opens log.now.slots.items note.now k seat.old.me seat.new.me × (length seat.new.me.0.drawn ≡ length seat.old.me.0.drawn + 1)) }
+{
+    let index = draw(words, seat, note);
+    if let Err(conflict) = check_all(words, seat, log, place, index) {
+        release_all(words, seat, log, words.cells, None);
+        return Err(conflict);
+    }
+    store_all(words, seat, log, index, note);
+    let number = index + 1;
+    release_all(words, seat, log, words.cells, Some(2 * number));
+    Ok(number)
+}
+
+// How many numbers a pass may draw.
+const MOST_NUMBERS: u64 = 1 << 40;
+
+/// Ends a run that hasn't met a conflict, and makes what it wrote an entry of the history. The count is that of the numbers drawn.
+pub(crate) fn finish<L: Law>(
+    words: &Words<L>,
+    seat: &mut Place<L>,
+    log: &Log,
+    count: &mut u64,
+    place: u64,
+    note: &L::Note,
+) -> Outcome
+    requires table { seat.old.table_id ≡ words.now.table.shared.table_id }
+    requires cells { (length log.now.slots.items ≡ words.now.cells) × (length log.now.slots.items ≡ length seat.old.me.0.base) }
+    requires run { IsRunOf seat.old.me count.old place false }
+    requires kept { IsKeptOf seat.old.me.0.seat log.now.slots.items (listed log.now) }
+    requires lawful { IsLawfulNow L.lawful seat.old.me.0 log.now.slots.items note.now }
+    ensures seat { IsSameSeat seat.old seat.new }
+    ensures pass { IsPassOf seat.new.me count.new }
+    ensures ended { HasEnded L.lawful L.opens log.now.slots.items note.now seat.old.me seat.new.me result }
+{
+    let Some(_) = log.next(0, true) else {
+        recall(words, seat, note);
+        return Outcome::Read(place);
+    };
+    if *count >= MOST_NUMBERS {
+        return Outcome::NumbersUsed;
+    }
+    if let Err(conflict) = take_all(words, seat, log) {
+        release_all(words, seat, log, conflict.cell, None);
+        return Outcome::Conflict(conflict);
+    }
+    *count += 1;
+    match settle(words, seat, log, place, note) {
+        Ok(number) => Outcome::Committed(number),
+        Err(conflict) => Outcome::Conflict(conflict),
+    }
+}

@@ -1,0 +1,196 @@
+//! Runs that meet, on one thread.
+
+ghost use Rattle.std.specs.Prelude.{◌≡◌, ◌<◌, ◌⊎◌, length, IfSome};
+
+use crate::{ClosedWords, Conflict, Law, Outcome, Pass, Words, begin, close, learn, open};
+use std::alloc::Global;
+use std::test::Fail;
+
+struct Anything;
+
+impl Law for Anything {
+    type Setting = ();
+
+    type Note = u64;
+
+    ghost lawful = { λ _ _ _ _ _. Unit {0} };
+
+    ghost opens = { λ _ _. Unit {0} };
+}
+
+// Reads a cell and writes one more.
+fn add_one(words: &Words<Anything>, pass: Pass<Anything>, cell: usize) -> (Pass<Anything>, Outcome)
+    requires fits { (pass.seat.table_id ≡ words.now.table.shared.table_id) × (words.now.cells ≡ length pass.seat.me.0.base) }
+    requires cell { cell < words.now.cells }
+    ensures { result.0.seat.table_id ≡ words.now.table.shared.table_id }
+{
+    let mut run = begin(words, pass);
+    match run.read(cell) {
+        Ok(x) => {
+            run.write(cell, x / 2 + 1);
+            run.commit(&7)
+        }
+        Err(conflict) => (run.leave(), Outcome::Conflict(conflict)),
+    }
+}
+
+// X reads cells 5 and 6, Y reads and writes cell 5 and commits, X writes a cell and commits.
+fn meet(
+    words: &Words<Anything>,
+    x: Pass<Anything>,
+    y: Pass<Anything>,
+    written: usize,
+) -> (Pass<Anything>, Outcome, Outcome)
+    requires x { (x.seat.table_id ≡ words.now.table.shared.table_id) × (words.now.cells ≡ length x.seat.me.0.base) }
+    requires y { (y.seat.table_id ≡ words.now.table.shared.table_id) × (words.now.cells ≡ length y.seat.me.0.base) }
+    requires cells { (6 < words.now.cells) × ((written ≡ 5) ⊎ (written ≡ 6)) }
+    ensures { result.0.seat.table_id ≡ words.now.table.shared.table_id }
+{
+    let mut run = begin(words, x);
+    let a = run.read(5);
+    let b = run.read(6);
+    let (_, first) = add_one(words, y, 5);
+    if a.is_ok() && b.is_ok() {
+        run.write(written, 9);
+    }
+    let (x, second) = run.commit(&8);
+    (x, first, second)
+}
+
+// X begins, Y reads and writes a cell and commits, X reads cell 5, adds one and commits.
+fn follow(
+    words: &Words<Anything>,
+    x: Pass<Anything>,
+    y: Pass<Anything>,
+    other: usize,
+) -> (Pass<Anything>, Outcome, Outcome)
+    requires x { (x.seat.table_id ≡ words.now.table.shared.table_id) × (words.now.cells ≡ length x.seat.me.0.base) }
+    requires y { (y.seat.table_id ≡ words.now.table.shared.table_id) × (words.now.cells ≡ length y.seat.me.0.base) }
+    requires cells { (6 < words.now.cells) × (other < words.now.cells) }
+    ensures { result.0.seat.table_id ≡ words.now.table.shared.table_id }
+{
+    let mut run = begin(words, x);
+    let (_, first) = add_one(words, y, other);
+    match run.read(5) {
+        Ok(value) => {
+            run.write(5, value / 2 + 3);
+            let (x, second) = run.commit(&8);
+            (x, first, second)
+        }
+        Err(conflict) => (run.leave(), first, Outcome::Conflict(conflict)),
+    }
+}
+
+// Seven cells of value 0, and two passes.
+fn opened(alloc: Global) -> Option<(Words<Anything>, Pass<Anything>, Pass<Anything>)>
+    ensures { IfSome result (λ r. (r.0.cells ≡ 7) × (r.1.seat.table_id ≡ r.0.table.shared.table_id) × (r.0.cells ≡ length r.1.seat.me.0.base) × (r.2.seat.table_id ≡ r.0.table.shared.table_id) × (r.0.cells ≡ length r.2.seat.me.0.base)) }
+{
+    let Ok((words, mut passes)) = open::<Anything>(alloc, &(), &[0; 7], 2) else {
+        return None;
+    };
+    let Some(y) = passes.pop() else {
+        return None;
+    };
+    let Some(x) = passes.pop() else {
+        return None;
+    };
+    Some((words, x, y))
+}
+
+fn is_conflict(outcome: Outcome, before: Option<u64>) -> bool {
+    let Outcome::Conflict(conflict) = outcome else {
+        return false;
+    };
+    conflict.cell == 5 && conflict.word == 2 && conflict.before == before
+}
+
+fn committed(outcome: Outcome) -> u64 {
+    match outcome {
+        Outcome::Committed(number) => number,
+        _ => 0,
+    }
+}
+
+// The clock, and lock word and value of the cells 5 and 6.
+fn shown(closed: &ClosedWords) -> [u64; 5] {
+    let mut words = [closed.clock, 0, 0, 0, 0];
+    if let Some(cell) = closed.cells.get(5) {
+        words[1] = cell.lock;
+        words[2] = cell.value;
+    }
+    if let Some(cell) = closed.cells.get(6) {
+        words[3] = cell.lock;
+        words[4] = cell.value;
+    }
+    words
+}
+
+#[test]
+fn a_taken_lock_word_is_another_than_that_read(rt: HostRuntime) -> Result<(), Fail> {
+    let Some((words, x, y)) = opened(rt.alloc()) else {
+        panic!(rt; "no words")
+    };
+    let (x, first, second) = meet(&words, x, y, 5);
+    assert!(rt; committed(first) == 1 && is_conflict(second, Some(0)));
+    let closed = close(rt.alloc(), words, Some(x))?;
+    assert!(rt; shown(&closed) == [1, 2, 1, 0, 0]);
+    Ok(())
+}
+
+#[test]
+fn a_failed_check_gives_the_lock_back(rt: HostRuntime) -> Result<(), Fail> {
+    let Some((words, x, y)) = opened(rt.alloc()) else {
+        panic!(rt; "no words")
+    };
+    let (x, first, second) = meet(&words, x, y, 6);
+    assert!(rt; committed(first) == 1 && is_conflict(second, Some(0)));
+    let closed = close(rt.alloc(), words, Some(x))?;
+    assert!(rt; shown(&closed) == [2, 2, 1, 0, 0]);
+    Ok(())
+}
+
+#[test]
+fn a_late_read_conflicts(rt: HostRuntime) -> Result<(), Fail> {
+    let Some((words, x, y)) = opened(rt.alloc()) else {
+        panic!(rt; "no words")
+    };
+    let (x, first, second) = follow(&words, x, y, 5);
+    assert!(rt; committed(first) == 1 && is_conflict(second, None));
+    let closed = close(rt.alloc(), words, Some(x))?;
+    assert!(rt; shown(&closed) == [1, 2, 1, 0, 0]);
+    Ok(())
+}
+
+#[test]
+fn writes_of_other_cells_do_not_conflict(rt: HostRuntime) -> Result<(), Fail> {
+    let Some((words, x, y)) = opened(rt.alloc()) else {
+        panic!(rt; "no words")
+    };
+    let (x, first, second) = follow(&words, x, y, 6);
+    assert!(rt; committed(first) == 1 && committed(second) == 2);
+    let closed = close(rt.alloc(), words, Some(x))?;
+    assert!(rt; shown(&closed) == [2, 4, 3, 2, 1]);
+    Ok(())
+}
+
+#[test]
+fn what_was_forgotten_is_not_written(rt: HostRuntime) -> Result<(), Fail> {
+    let Some((words, x, y)) = opened(rt.alloc()) else {
+        panic!(rt; "no words")
+    };
+    let (mut x, first) = add_one(&words, x, 6);
+    let mut y = y;
+    learn(&words, &mut y, &mut x);
+    let mut run = begin(&words, y);
+    let read = run.read(6);
+    assert!(rt; committed(first) == 1 && matches!(read, Ok(1)));
+    if read.is_ok() {
+        run.write(6, 9);
+    }
+    run.forget();
+    let (_, second) = run.commit(&8);
+    assert!(rt; matches!(second, Outcome::Read(1)));
+    let closed = close(rt.alloc(), words, Some(x))?;
+    assert!(rt; shown(&closed) == [1, 0, 0, 2, 1]);
+    Ok(())
+}
