@@ -5,9 +5,9 @@
 
 --program is the program under test (default ../crates/mmrefactor/out/mmrefactor), --beside one to compare with, --metamath the program of
 that name (reading alone, and reading with `verify proof *`). The second table is of `check`, over made inputs and over each DB that is
-named, beside metamath. The programs are run in turn,
-once each round, so that a change of the machine's load meets them alike. Medians over the rounds in milliseconds, in brackets the best
-round; ratios are medians of the ratios within a round. It is a measurement and no test: it passes whatever it finds.
+named, on one, two and four processors, beside metamath on one. The programs are run in turn, once each round, so that a change of the
+machine's load meets them alike. Medians over the rounds in milliseconds, in brackets the best round; ratios are medians of the ratios
+within a round. It is a measurement and no test: it passes whatever it finds.
 """
 
 import argparse
@@ -36,6 +36,9 @@ def checked(out, named):
         path = out / f"{kind}.mm"
         make(path, kind, path, "--count", count)
         rows[f"{count:,} {what}"] = path
+    path = out / "theorems16.mm"
+    make(path, "theorems", path, "--megabytes", 16)
+    rows[f"4,092 theorems, {path.stat().st_size / 1e6:.1f} MB"] = path
     for path in named:
         rows[path.name] = path
     return rows
@@ -64,9 +67,11 @@ def inputs(out):
     return rows
 
 
-def milliseconds(command):
+def milliseconds(command, processors=None):
+    """How long a command takes, on the first processors or on all, and what it prints."""
+    chosen = None if processors is None else (lambda: os.sched_setaffinity(0, range(processors)))
     start = time.perf_counter()
-    done = subprocess.run(command, stdout=subprocess.PIPE, stderr=subprocess.PIPE, check=False)
+    done = subprocess.run(command, stdout=subprocess.PIPE, stderr=subprocess.PIPE, check=False, preexec_fn=chosen)
     took = (time.perf_counter() - start) * 1e3
     if done.returncode != 0:
         raise SystemExit(f"{shlex.join(map(str, command))}: {done.stderr.decode()}")
@@ -74,22 +79,24 @@ def milliseconds(command):
 
 
 def table_of_checks(options):
-    """`check` beside metamath: reading alone, and with its proofs."""
-    print("\n| checked | mmrefactor | " + ("metamath reads | and verifies | ratio |" if options.metamath else ""))
-    print("|---" * (5 if options.metamath else 2) + "|")
+    """`check` on one processor, two and more, beside metamath: reading alone, and with its proofs. The ratio is that of one processor."""
+    counts = [n for n in (1, 2, 4) if n <= (os.cpu_count() or 1)]
+    titles = [f"on {n}" for n in counts] + (["metamath reads", "and verifies", "ratio on 1"] if options.metamath else [])
+    print("\n| checked | " + " | ".join(titles) + " |")
+    print("|---" * (1 + len(titles)) + "|")
     for name, path in checked(options.out, options.check).items():
-        commands = {"mmrefactor": [*shlex.split(options.program), "check", path]}
+        commands = {f"on {n}": ([*shlex.split(options.program), "check", path], n) for n in counts}
         if options.metamath:
             read = f'read "{path}"'
-            commands["reads"] = [*shlex.split(options.metamath), read, "exit"]
-            commands["verifies"] = [*shlex.split(options.metamath), read, "verify proof *", "exit"]
-        took = {program: [] for program in commands}
+            commands["reads"] = ([*shlex.split(options.metamath), read, "exit"], 1)
+            commands["verifies"] = ([*shlex.split(options.metamath), read, "verify proof *", "exit"], 1)
+        took = {column: [] for column in commands}
         for _ in range(options.rounds):
-            for program, command in commands.items():
-                took[program].append(milliseconds(command)[0])
+            for column, (command, processors) in commands.items():
+                took[column].append(milliseconds(command, processors)[0])
         cells = [f"{median(of):.1f} ({min(of):.1f})" for of in took.values()]
         if options.metamath:
-            cells.append(f"{median(a / b for a, b in zip(took['mmrefactor'], took['verifies'])):.2f}")
+            cells.append(f"{median(a / b for a, b in zip(took['on 1'], took['verifies'])):.2f}")
         print(f"| {name} | " + " | ".join(cells) + " |")
 
 

@@ -1,6 +1,7 @@
 //! What texts are read as, and which faults they have.
 
 use super::*;
+use std::alloc::AllocError;
 use std::test::Fail;
 
 /// The words of the commands of a script, with a `;` behind each transaction.
@@ -95,7 +96,7 @@ fn refuses_texts_with_a_fault(rt: HostRuntime) -> Result<(), Fail> {
 
 #[test]
 fn refuses_long_texts(rt: HostRuntime) -> Result<(), Fail> {
-    let mut text = vec![in rt.alloc(); 128; MOST_BYTES]?;
+    let mut text = vec![in rt.alloc(); 128; 16_777_216]?;
     let first = Some(TextFault {
         place: 0,
         kind: FaultKind::BadByte,
@@ -103,7 +104,7 @@ fn refuses_long_texts(rt: HostRuntime) -> Result<(), Fail> {
     assert_eq!(rt; fault_of(rt.alloc(), text.as_slice())?, first);
     text.push(128)?;
     let long = Some(TextFault {
-        place: MOST_BYTES,
+        place: 16_777_216,
         kind: FaultKind::TooLong,
     });
     assert_eq!(rt; fault_of(rt.alloc(), text.as_slice())?, long);
