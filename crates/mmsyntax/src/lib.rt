@@ -16,5 +16,5 @@ pub use database::Database;
 pub use fitting::{fits, is_lawful_label};
 pub use prelude::Prelude;
 pub use sequence::Sequence;
-pub use statement::{Assertion, Expr, Float, Frame, Kind, Label, Step, Symbol};
+pub use statement::{Assertion, Expr, Float, Frame, Kind, Label, Step, Symbol, copy_steps};
 pub use symbols::{Name, SymbolTable};

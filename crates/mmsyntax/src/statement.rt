@@ -140,7 +140,8 @@ fn copy_expressions(alloc: Global, expressions: &[Expr]) -> Result<Sequence<Expr
     Ok(Sequence::from_vec(made))
 }
 
-fn copy_steps(alloc: Global, steps: &[Step]) -> Result<Sequence<Step>, AllocError>
+/// Equal steps.
+pub fn copy_steps(alloc: Global, steps: &[Step]) -> Result<Sequence<Step>, AllocError>
     ensures { IfOk result (λ made. made ≡ steps.now) }
 {
     let mut made = Vec::new(alloc);

@@ -1,17 +1,18 @@
 -- A run that looks again at what it read.
-use Rattle.std.proofs.Common.{◌≡◌, ◌≢◌, ℕ, suc, ◌+◌, ◌/◌, ◌%◌, ◌<◌, ◌≤◌, ◌⊎◌, inl, inr, ⊎_elim, eq-eqb, ne_eqb, Bool, true, false, not, nat_lt, nat_le, ◌==◌, ◌&&◌, ◌||◌, is_some, if◌then◌else◌, Option, Some, None, List, [], ◌∷◌, length, slice_get, sym, refl, ap, ◌∙◌, subst, arith}
+use Rattle.std.proofs.Common.{◌≡◌, ◌≢◌, ℕ, suc, ◌+◌, ◌/◌, ◌%◌, ◌<◌, ◌≤◌, ◌⊎◌, inl, inr, ⊎_elim, eq-eqb, ne_eqb, Bool, true, false, not, nat_lt, nat_le, ◌==◌, ◌&&◌, ◌||◌, is_some, if◌then◌else◌, Option, Some, None, List, [], ◌∷◌, length, slice_get, sym, refl, ap, ◌∙◌, arith}
 use Rattle.std.specs.List.{list_all}
 use Rattle.std.specs.Option.{option_map}
 use Rattle.tlcore.specs.Seats.{Seat, find_read, is_held, is_settled, settled_below, all_settled, is_due, is_next, passes}
 use Rattle.tlcore.specs.Machine.{placed, conflict}
-use Rattle.tlcore.proofs.Lists.{known, option_known, get_within, equal_numbers}
-use Rattle.tlcore.proofs.Words.{SeatRead, SeatHeld, at_checking, at_voiding}
+use Rattle.tlcore.proofs.Lists.{option_known, get_within}
+use Rattle.tlcore.proofs.Words.{SeatRead, at_checking, at_voiding}
 use Rattle.tlwords.specs.declared.log.Slot.{Slot}
 use Rattle.tlwords.specs.Seen.{Lawful}
 use Rattle.tlwords.specs.Views.{View}
 use Rattle.tlwords.specs.Plays.{Mine, Checks, after_check}
 use Rattle.tlwords.specs.Runs.{word_seen, value_kept, was_read, IsKeptOf, HasCause}
-use Rattle.tlwords.specs.Commits.{is_wanted, NoneWanted, held_in, Goes, Finds, FailsTheCheck, Passes}
+use Rattle.tlwords.specs.Committing.{held_in, Goes, FailsTheCheck, Passes}
+use Rattle.tlwords.specs.Walks.{is_wanted, NoneWanted}
 use Rattle.tlwords.proofs.RunSteps.{if_true, if_false, passes_true, passes_false}
 use Rattle.tlwords.proofs.Held.{held_yes, held_no, lt_yes, lt_no, le_yes, le_cases}
 use Rattle.tlwords.proofs.Turns.{goes_start, goes_seat, goes_by}

@@ -1,5 +1,5 @@
 -- What the closed words show.
-use Rattle.std.proofs.Common.{◌≡◌, ℕ, zero, suc, ◌+◌, ◌*◌, ◌<◌, ◌≤◌, ◌⊎◌, inl, inr, ⊎_elim, Some, List, [], ◌∷◌, ◌++◌, length, slice_get, slice_index, sym, refl, ap, ◌∙◌, subst, arith}
+use Rattle.std.proofs.Common.{◌≡◌, ℕ, zero, suc, ◌+◌, ◌*◌, ◌<◌, Some, List, [], ◌∷◌, length, slice_get, slice_index, sym, refl, ap, ◌∙◌, subst, arith}
 use mathlib.Core.Option.{some, some-injective}
 use lib.ListN.{get_elem?}
 use Rattle.tlcore.specs.History.{Will, version, value, deed}
@@ -7,7 +7,7 @@ use Rattle.tlcore.proofs.Growth.{get_exists}
 use Rattle.tlcore.proofs.Lists.{get_within}
 use Rattle.tlcore.proofs.Words.{CellWords}
 use Rattle.tlwords.specs.declared.closing.ClosedCell.{ClosedCell}
-use Rattle.tlwords.specs.Seen.{Lawful, Seen, SeenGrows, Legal, Agree}
+use Rattle.tlwords.specs.Seen.{Lawful, Legal, Agree}
 use Rattle.tlwords.specs.Views.{View}
 use Rattle.tlwords.specs.Rule.{lock_at, value_at, paired, words_of, Kept}
 use Rattle.tlwords.specs.Closing.{AreCellsOf, Shows, Closes, ClosesFor}

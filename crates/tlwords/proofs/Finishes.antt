@@ -1,13 +1,15 @@
 -- The ends of a commit that wrote nothing, and what a run needs to go on to its draw.
-use Rattle.std.proofs.Common.{◌≡◌, ◌≢◌, ℕ, ◌≤◌, Bool, true, false, if◌then◌else◌, is_some, Option, Some, None, List, [], ◌∷◌, ◌++◌, length, sym, refl, ap, ◌∙◌, subst, arith}
-use Rattle.tlcore.specs.Seats.{Seat, is_nil, reads_of}
+use Rattle.std.proofs.Common.{◌≡◌, ◌≢◌, ℕ, Bool, true, false, if◌then◌else◌, is_some, Option, Some, None, List, [], ◌∷◌, ◌++◌, length, sym, refl, ap, ◌∙◌, subst}
+use Rattle.tlcore.specs.Seats.{Seat, reads_of}
 use Rattle.tlcore.proofs.Words.{at_reading, at_taking, is_resting}
 use Rattle.tlwords.specs.declared.log.Slot.{Slot}
-use Rattle.tlwords.specs.Seen.{Lawful, Work, Answered}
+use Rattle.tlwords.specs.Seen.{Lawful, Answered}
 use Rattle.tlwords.specs.Views.{View}
 use Rattle.tlwords.specs.Plays.{Mine, Recalls}
 use Rattle.tlwords.specs.Runs.{IsKeptOf, IsPassOf, IsRunOf}
-use Rattle.tlwords.specs.Commits.{writes_kept, work_kept, NoneWanted, held_in, holding, Goes, HasAnswered, IsLawfulNow}
+use Rattle.tlwords.specs.Commits.{writes_kept, work_kept, HasAnswered, IsLawfulNow}
+use Rattle.tlwords.specs.Committing.{held_in, holding, Goes}
+use Rattle.tlwords.specs.Walks.{NoneWanted}
 use Rattle.tlwords.proofs.RunSteps.{left_fits}
 use Rattle.tlwords.proofs.Held.{no_writes}
 use Rattle.tlwords.proofs.Turns.{unkept_of, goes_seat, goes_setting}

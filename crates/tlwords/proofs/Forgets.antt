@@ -1,12 +1,13 @@
 -- The values that were kept, as they are thrown away.
-use Rattle.std.proofs.Common.{◌≡◌, ◌≢◌, ℕ, ◌+◌, ◌<◌, ◌≤◌, ◌⊎◌, inl, inr, ⊎_elim, Bool, true, false, is_some, Option, Some, None, List, [], ◌∷◌, ◌++◌, length, slice_get, slice_set, sym, refl, ap, ◌∙◌, arith, length-set}
+use Rattle.std.proofs.Common.{◌≡◌, ℕ, ◌+◌, ◌<◌, ◌≤◌, inl, inr, ⊎_elim, is_some, None, List, [], ◌∷◌, ◌++◌, length, slice_get, slice_set, sym, refl, ap, ◌∙◌, arith, length-set}
 use Rattle.std.specs.Prelude.{option_and_then, slice_index_or}
 use mathlib.Core.Logic.{dite}
 use native.Mathlib.Decide.{ℕ_discrete}
 use Rattle.tlcore.specs.Seats.{Seat}
 use Rattle.tlwords.specs.declared.log.Slot.{Slot}
-use Rattle.tlwords.specs.Runs.{word_seen, value_kept, was_read, lists, counts, count_read, IsKeptOf}
-use Rattle.tlwords.specs.Commits.{writes_kept, IsForgetting, HasForgotten}
+use Rattle.tlwords.specs.Runs.{word_seen, value_kept, lists, counts, count_read, IsKeptOf}
+use Rattle.tlwords.specs.Commits.{HasForgotten}
+use Rattle.tlwords.specs.Walks.{IsForgetting}
 use Rattle.tlwords.proofs.Logs.{seen_here, seen_else, kept_here, kept_else, word_at, count_set, lists_no_more, past_end, none_known}
 use Rattle.tlwords.proofs.Held.{no_writes}
 use Rattle.tlwords.proofs.Wanted.{not_both}

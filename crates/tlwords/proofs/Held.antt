@@ -1,15 +1,16 @@
 -- The cells that a run holds while it commits, in ascending order.
-use Rattle.std.proofs.Common.{◌≡◌, ◌≢◌, ℕ, zero, suc, ◌+◌, ◌<◌, ◌≤◌, ◌⊎◌, inl, inr, ⊎_elim, eq-eqb, ne_eqb, Bool, true, false, nat_lt, nat_le, ◌==◌, ◌||◌, ◌&&◌, not, is_some, if◌then◌else◌, Option, Some, None, List, [], ◌∷◌, length, sym, refl, ap, ◌∙◌, subst, arith}
+use Rattle.std.proofs.Common.{◌≡◌, ◌≢◌, ℕ, zero, suc, ◌+◌, ◌<◌, ◌≤◌, ◌⊎◌, inl, inr, ⊎_elim, eq-eqb, ne_eqb, Bool, true, false, nat_lt, nat_le, ◌||◌, ◌&&◌, not, if◌then◌else◌, Option, Some, None, List, [], ◌∷◌, sym, refl, ap, ◌∙◌, arith}
 use Rattle.std.proofs.lemmas.Bool.Decides.{nat_tests}
 use mathlib.Core.Logic.{dite}
 use native.Mathlib.Decide.{ℕ_discrete}
-use Rattle.tlcore.specs.Seats.{Seat, find_held, is_held, is_nil, all_below, without, stored, writes_of, marked}
-use Rattle.tlcore.proofs.Lists.{known, option_known}
+use Rattle.tlcore.specs.Seats.{find_held, is_held, all_below, without, stored, writes_of, marked}
+use Rattle.tlcore.proofs.Lists.{option_known}
 use Rattle.tlcore.proofs.Words.{SeatHeld}
 use Rattle.tlwords.specs.declared.log.Slot.{Slot}
 use Rattle.tlwords.specs.Seen.{Pairs}
 use Rattle.tlwords.specs.Runs.{word_seen, value_kept}
-use Rattle.tlwords.specs.Commits.{with_write, writes_below, word_or_zero, with_held, held_in}
+use Rattle.tlwords.specs.Commits.{with_write, writes_below}
+use Rattle.tlwords.specs.Committing.{word_or_zero, with_held, held_in}
 
 pub le_yes : (a b : ℕ) → a ≤ b → nat_le a b ≡ true
 le_yes a b l = grind (arith, nat_tests)

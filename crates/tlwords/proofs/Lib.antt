@@ -16,3 +16,4 @@ pub mod Settles
 pub mod Finishes
 pub mod Forgets
 pub mod Ends
+pub mod Modes

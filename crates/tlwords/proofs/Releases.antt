@@ -1,17 +1,17 @@
 -- A run that gives its locks back, one after another.
-use Rattle.std.proofs.Common.{◌≡◌, ◌≢◌, ℕ, suc, ◌+◌, ◌*◌, ◌<◌, ◌≤◌, ◌⊎◌, inl, inr, ⊎_elim, Bool, true, false, if◌then◌else◌, Option, Some, None, List, [], ◌∷◌, length, sym, refl, ap, ◌∙◌, subst, arith}
+use Rattle.std.proofs.Common.{◌≡◌, ℕ, suc, ◌+◌, ◌*◌, ◌<◌, ◌≤◌, ◌⊎◌, inl, inr, ⊎_elim, Bool, true, false, if◌then◌else◌, Option, Some, None, List, [], ◌∷◌, sym, refl, ap, ◌∙◌, subst, arith}
 use Rattle.std.specs.Option.{unwrap_or}
 use Rattle.tlcore.specs.History.{wv}
 use Rattle.tlcore.specs.Seats.{Seat, find_held, is_nil, without}
 use Rattle.tlcore.proofs.Lists.{known}
-use Rattle.tlcore.proofs.Words.{SeatHeld, SeatPlace, at_idle, at_failing, at_voiding, at_storing}
+use Rattle.tlcore.proofs.Words.{SeatHeld, at_idle, at_failing, at_voiding, at_storing}
 use Rattle.tlwords.specs.declared.log.Slot.{Slot}
 use Rattle.tlwords.specs.Seen.{Lawful}
 use Rattle.tlwords.specs.Views.{View}
 use Rattle.tlwords.specs.Plays.{Mine, Releases, GivesBack, after_release}
 use Rattle.tlwords.specs.Runs.{word_seen, value_kept}
-use Rattle.tlwords.specs.Commits.{word_or_zero, held_in, holding, Goes, IsVoid, Releasing, ReleasesAll}
-use Rattle.tlwords.proofs.RunSteps.{if_true, if_false}
+use Rattle.tlwords.specs.Commits.{IsVoid}
+use Rattle.tlwords.specs.Committing.{word_or_zero, held_in, holding, Goes, Releasing, ReleasesAll}
 use Rattle.tlwords.proofs.Held.{NoneKept, held_cell, held_find, held_none, held_without, lt_yes}
 use Rattle.tlwords.proofs.Turns.{goes_seat, goes_by}
 

@@ -1,19 +1,19 @@
 -- A commit, from the draw on: its parts put together.
-use Rattle.std.proofs.Common.{◌≡◌, ◌≢◌, ℕ, suc, ◌+◌, ◌*◌, ◌/◌, ◌<◌, ◌≤◌, ◌⊎◌, inl, inr, ⊎_elim, Bool, true, false, ◌||◌, if◌then◌else◌, is_some, Option, Some, None, List, [], ◌∷◌, ◌++◌, length, sym, refl, ap, ◌∙◌, subst, arith}
-use Rattle.tlcore.specs.History.{wv, WasWritten}
-use Rattle.tlcore.specs.Seats.{Seat, find_held, is_nil, is_next, all_settled, reads_of, writes_of}
+use Rattle.std.proofs.Common.{◌≡◌, ◌≢◌, ℕ, suc, ◌+◌, ◌*◌, ◌/◌, ◌<◌, ◌≤◌, ◌⊎◌, inl, inr, ⊎_elim, Bool, true, false, ◌||◌, if◌then◌else◌, Some, None, List, [], ◌∷◌, ◌++◌, length, sym, refl, ap, ◌∙◌, subst, arith}
+use Rattle.tlcore.specs.Seats.{Seat, is_nil, is_next, all_settled, reads_of, writes_of}
 use Rattle.tlcore.specs.Machine.{placed, conflict}
 use Rattle.tlcore.proofs.Growth.{WasWritten-kept}
 use Rattle.tlcore.proofs.Lists.{known, length-append_one}
 use Rattle.tlcore.proofs.SeatParts.{is_nil-nil}
-use Rattle.tlcore.proofs.Words.{SeatRead, SeatHeld, SeatPlace, at_idle, at_taking, at_reading, at_checking, at_storing, at_voiding, at_failing}
+use Rattle.tlcore.proofs.Words.{SeatHeld, SeatPlace, at_idle, at_taking, at_reading, at_checking, at_storing, at_voiding, at_failing}
 use Rattle.tlwords.specs.declared.log.Slot.{Slot}
 use Rattle.tlwords.specs.declared.outcome.Conflict.{Conflict}
-use Rattle.tlwords.specs.Seen.{Lawful, Pairs, Work, Committed, IsDone}
+use Rattle.tlwords.specs.Seen.{Lawful, Work, Committed, IsDone}
 use Rattle.tlwords.specs.Views.{View}
-use Rattle.tlwords.specs.Plays.{Mine, Sees, Draws}
+use Rattle.tlwords.specs.Plays.{Mine, Draws}
 use Rattle.tlwords.specs.Runs.{value_kept, IsKeptOf, HasCause}
-use Rattle.tlwords.specs.Commits.{writes_kept, work_kept, held_in, holding, over_seat, IsVoid, Goes, Finds, FailsToTake, FailsTheCheck, Passes, StoresTo, Releasing, ReleasesAll, HasCommitted, HasConflicted}
+use Rattle.tlwords.specs.Commits.{writes_kept, work_kept, over_seat, IsVoid, Finds, HasCommitted, HasConflicted}
+use Rattle.tlwords.specs.Committing.{held_in, holding, Goes, FailsToTake, FailsTheCheck, Passes, StoresTo, Releasing, ReleasesAll}
 use Rattle.tlwords.proofs.Seens.{done_grows}
 use Rattle.tlwords.proofs.Logs.{kept_same}
 use Rattle.tlwords.proofs.Held.{held_cell, held_find, held_writes}

@@ -1,14 +1,14 @@
 -- A run that stores its values, one after another.
-use Rattle.std.proofs.Common.{◌≡◌, ◌≢◌, ℕ, suc, ◌+◌, ◌<◌, ◌≤◌, ◌⊎◌, inl, inr, ⊎_elim, ◌||◌, true, Option, Some, None, List, [], ◌∷◌, ◌++◌, length, sym, refl, ap, ◌∙◌, subst, arith}
-use Rattle.tlcore.specs.History.{wv}
-use Rattle.tlcore.specs.Seats.{Seat, find_held, is_next, all_settled, stored, reads_of, writes_of}
+use Rattle.std.proofs.Common.{◌≡◌, ◌≢◌, ℕ, suc, ◌+◌, ◌<◌, ◌≤◌, ◌⊎◌, inl, inr, ⊎_elim, ◌||◌, true, Some, List, [], ◌∷◌, ◌++◌, length, sym, refl, ap, ◌∙◌, subst, arith}
+use Rattle.tlcore.specs.Seats.{find_held, is_next, all_settled, stored, reads_of, writes_of}
 use Rattle.tlcore.proofs.Words.{SeatHeld, at_checking, at_storing}
 use Rattle.tlwords.specs.declared.log.Slot.{Slot}
-use Rattle.tlwords.specs.Seen.{Lawful, Pairs, Work, Call, Committed, IsDone}
+use Rattle.tlwords.specs.Seen.{Lawful, Work, Committed, IsDone}
 use Rattle.tlwords.specs.Views.{View}
-use Rattle.tlwords.specs.Plays.{Mine, Sees, Stores as StoresOne, MayStore, after_store, work_of}
+use Rattle.tlwords.specs.Plays.{Mine, Stores as StoresOne, MayStore, after_store, work_of}
 use Rattle.tlwords.specs.Runs.{value_kept}
-use Rattle.tlwords.specs.Commits.{writes_kept, work_kept, held_in, StoresTo}
+use Rattle.tlwords.specs.Commits.{writes_kept, work_kept}
+use Rattle.tlwords.specs.Committing.{held_in, StoresTo}
 use Rattle.tlwords.proofs.Seens.{seen_trans, done_grows}
 use Rattle.tlwords.proofs.Held.{NoneKept, held_cell, held_find, held_stored, held_done, held_writes, no_writes, le_cases}
 

@@ -1,17 +1,18 @@
 -- A run that commits, step by step.
-use Rattle.std.proofs.Common.{◌≡◌, ◌≢◌, ℕ, suc, ◌+◌, ◌*◌, ◌/◌, ◌%◌, ◌<◌, ◌≤◌, ◌⊎◌, inl, inr, ⊎_elim, eq-eqb, ne_eqb, Bool, true, false, not, ◌==◌, ◌&&◌, ◌||◌, is_some, if◌then◌else◌, Option, Some, None, List, [], ◌∷◌, ◌++◌, length, sym, refl, ap, ◌∙◌, subst, arith}
+use Rattle.std.proofs.Common.{◌≡◌, ◌≢◌, ℕ, ◌+◌, ◌<◌, ◌≤◌, ◌⊎◌, inl, inr, eq-eqb, ne_eqb, Bool, true, false, ◌==◌, ◌&&◌, is_some, if◌then◌else◌, Option, Some, None, List, ◌∷◌, length, sym, refl, ap, ◌∙◌, subst}
 use Rattle.std.specs.Option.{option_map}
 use Rattle.atomic_table.specs.declared.shared.Seat.{Seat as TableSeat}
-use Rattle.tlcore.specs.Seats.{Seat, find_read, find_held, is_nil, all_below}
-use Rattle.tlcore.specs.Machine.{placed, conflict}
-use Rattle.tlcore.proofs.Lists.{known, option_known}
-use Rattle.tlcore.proofs.Words.{SeatRead, SeatHeld, SeatPlace, at_idle, at_reading, at_taking, at_failing}
+use Rattle.tlcore.specs.Seats.{Seat, find_read, is_nil, all_below}
+use Rattle.tlcore.specs.Machine.{conflict}
+use Rattle.tlcore.proofs.Lists.{known}
+use Rattle.tlcore.proofs.Words.{SeatRead, at_idle, at_reading, at_taking, at_failing}
 use Rattle.tlwords.specs.declared.log.Slot.{Slot}
 use Rattle.tlwords.specs.Seen.{Lawful, SeenGrows}
 use Rattle.tlwords.specs.Views.{View}
 use Rattle.tlwords.specs.Plays.{Mine, Sees, Takes, after_take}
 use Rattle.tlwords.specs.Runs.{word_seen, value_kept, was_read, IsKeptOf}
-use Rattle.tlwords.specs.Commits.{is_wanted, NoneWanted, held_in, holding, Goes, Finds, FailsToTake}
+use Rattle.tlwords.specs.Committing.{held_in, holding, Goes, FailsToTake}
+use Rattle.tlwords.specs.Walks.{NoneWanted}
 use Rattle.tlwords.proofs.Seens.{seen_refl, seen_trans}
 use Rattle.tlwords.proofs.RunSteps.{if_true, if_false}
 use Rattle.tlwords.proofs.Held.{NoneKept, held_on, held_more, held_below}

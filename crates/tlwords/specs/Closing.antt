@@ -1,8 +1,8 @@
 -- What the words show at the end.
-use Rattle.std.specs.Prelude.{◌≡◌, ℕ, ◌*◌, ◌/◌, Some, List, length, slice_get}
+use Rattle.std.specs.Prelude.{◌≡◌, ℕ, ◌*◌, Some, List, length, slice_get}
 use mathlib.Core.Option.{some}
 use lib.ListN.{get_elem?}
-use Rattle.tlcore.specs.History.{Entry, Will, WasWritten, version, value, deed}
+use Rattle.tlcore.specs.History.{Entry, Will, version, value, deed}
 use Rattle.tlwords.specs.declared.closing.ClosedCell.{ClosedCell}
 use Rattle.tlwords.specs.Seen.{Lawful, Seen, SeenGrows, Legal, Agree}
 use Rattle.tlwords.specs.Views.{View}

@@ -4,5 +4,7 @@ pub mod Rule
 pub mod Plays
 pub mod Runs
 pub mod Reads
+pub mod Walks
 pub mod Commits
+pub mod Committing
 pub mod Closing

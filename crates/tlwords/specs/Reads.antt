@@ -1,6 +1,8 @@
 -- What a read and a write of a run tell of its log.
 use Rattle.std.specs.Prelude.{◌≡◌, ℕ, Option, List, take}
 use Rattle.tlwords.specs.declared.log.Log.{Log}
+use Rattle.tlwords.specs.declared.mode.Mode.{Mode}
+use Rattle.tlwords.specs.declared.mode.Mode.TheVariants.{Reading, Writing}
 use Rattle.tlwords.specs.declared.outcome.Conflict.{Conflict}
 use Rattle.tlwords.specs.Seen.{Lawful}
 use Rattle.tlwords.specs.Plays.{Mine}
@@ -18,11 +20,15 @@ kept_for l cell = value_kept l.slots.items cell
 abbrev pub LogKeeps : Log → Log → ℕ → ℕ → Type 0
 LogKeeps l k cell value = HasKept l.slots.items (listed l) k.slots.items (listed k) cell value
 
+-- a read of the cell under this word was noted: the log l is k now. In Reading mode it stays as it is
+abbrev pub Notes : Mode → Log → Log → ℕ → ℕ → Type 0
+Notes Reading l k cell word = k ≡ l
+Notes Writing l k cell word = HasNoted l.slots.items (listed l) k.slots.items (listed k) cell word
+
 module _ {S N : Type 0} (lawful : Lawful S N) (opens : S → List ℕ → Type 0) where
   -- a read of the cell ended with this value, and was noted: the log l is k now
-  abbrev pub HasRead : Mine S N → Log → Mine S N → Log → ℕ → ℕ → Type 0
-  HasRead m l r k cell value =
-      (word : ℕ) × ReadsCell lawful opens cell word value m r × HasNoted l.slots.items (listed l) k.slots.items (listed k) cell word
+  abbrev pub HasRead : Mode → Mine S N → Log → Mine S N → Log → ℕ → ℕ → Type 0
+  HasRead mode m l r k cell value = (word : ℕ) × ReadsCell lawful opens cell word value m r × Notes mode l k cell word
 
   -- a read of the cell ended with this conflict
   abbrev pub HasStopped : Mine S N → Log → Mine S N → ℕ → Conflict → Type 0

@@ -1,5 +1,5 @@
 -- What a pass and a run keep, and what their calls tell.
-use Rattle.std.specs.Prelude.{◌≡◌, ◌≢◌, ℕ, zero, suc, ◌+◌, ◌-◌, ◌/◌, ◌%◌, ◌^◌, ◌<◌, ◌≤◌, ◌==◌, Bool, true, false, is_some, if◌then◌else◌, Option, Some, None, List, [], ◌∷◌, length, slice_get, ◌⊎◌, option_and_then}
+use Rattle.std.specs.Prelude.{◌≡◌, ◌≢◌, ℕ, zero, suc, ◌+◌, ◌-◌, ◌/◌, ◌%◌, ◌^◌, ◌<◌, ◌≤◌, ◌==◌, Bool, true, is_some, if◌then◌else◌, Option, Some, None, List, [], ◌∷◌, length, slice_get, ◌⊎◌, option_and_then}
 use Rattle.std.specs.List.{list_any}
 use Rattle.std.specs.Option.{option_map}
 use Rattle.tlcore.specs.History.{WasWritten}
@@ -7,6 +7,8 @@ use Rattle.tlcore.specs.Seats.{Seat, find_read, is_nil}
 use Rattle.tlcore.specs.Machine.{conflict}
 use Rattle.tlcore.proofs.Words.{SeatRead, at_idle, at_reading, is_resting, is_reading}
 use Rattle.tlwords.specs.declared.log.Slot.{Slot}
+use Rattle.tlwords.specs.declared.mode.Mode.{Mode}
+use Rattle.tlwords.specs.declared.mode.Mode.TheVariants.{Reading, Writing}
 use Rattle.tlwords.specs.Seen.{Lawful, SeenGrows, Has}
 use Rattle.tlwords.specs.Views.{View, Sound, fresh, untold}
 use Rattle.tlwords.specs.Plays.{Mine, Sees, began}
@@ -40,13 +42,6 @@ count_read (s ∷ ss) = counts s.word + count_read ss
 abbrev pub IsBlank : List Slot → Type 0
 IsBlank slots = (c : ℕ) → (word_seen slots c ≡ None) × (value_kept slots c ≡ None)
 
--- what was kept at first is thrown away of the cells that are done
-abbrev pub IsClearing : List Slot → List Slot → List ℕ → Type 0
-IsClearing first slots done =
-    (c : ℕ)
-    → ((word_seen slots c ≡ None) × (value_kept slots c ≡ None))
-    ⊎ ((word_seen slots c ≡ word_seen first c) × (value_kept slots c ≡ value_kept first c) × (lists c done ≡ false))
-
 -- what is kept is of the seat's reads, and a cell is written only after it was read
 abbrev pub IsKeptOf : Seat → List Slot → List ℕ → Type 0
 IsKeptOf t slots cells =
@@ -55,6 +50,11 @@ IsKeptOf t slots cells =
     × ((c w : ℕ) → word_seen slots c ≡ Some w → w % 2 ≡ 0)
     × ((c : ℕ) → was_read slots c ≡ true → lists c cells ≡ true)
     × (count_read slots ≡ length cells)
+
+-- the seat with the reads that a run in this mode keeps
+abbrev pub noted : Mode → Seat → Seat
+noted Reading t = record t { reads = [] }
+noted Writing t = t
 
 -- a read of the cell under this word was noted: the slots and the cells listed, before and after
 abbrev pub HasNoted : List Slot → List ℕ → List Slot → List ℕ → ℕ → ℕ → Type 0

@@ -2,17 +2,22 @@
 #![tactic(auto)]
 
 ghost use Rattle.std.specs.Prelude.{◌≡◌, ◌≢◌, ℕ, ◌*◌, ◌^◌, ◌+◌, ◌<◌, ◌≤◌, ◌⊎◌, ◌||◌, Some, None, [], length, take, true, false, IfOk, IfErr};
+ghost use Rattle.std.specs.List.Sorted.{IsNonDecreasing};
 ghost use Rattle.tlcore.specs.History.{wv};
 ghost use Rattle.tlcore.specs.Seats.{is_next, all_settled, is_nil, reads_of};
 ghost use Rattle.tlcore.specs.Machine.{placed, conflict};
 ghost use Rattle.tlcore.proofs.Words.{SeatPlace, at_idle, at_reading, at_taking, at_checking, at_storing, at_failing, at_voiding};
 ghost use Rattle.tlwords.specs.Plays.{IsSameSeat};
 ghost use Rattle.tlwords.specs.Reads.{listed};
-ghost use Rattle.tlwords.specs.Runs.{IsKeptOf, IsPassOf, IsRunOf};
-ghost use Rattle.tlwords.specs.Commits.{writes_kept, work_kept, held_in, holding, Goes, FailsToTake, FailsTheCheck, Passes, StoresTo, Releasing, ReleasesAll, HasCommitted, HasConflicted, IsLawfulNow, HasEnded};
+ghost use Rattle.tlwords.specs.Runs.{IsKeptOf, noted, IsPassOf, IsRunOf};
+ghost use Rattle.tlwords.specs.declared.mode.Mode.TheVariants.{Reading};
+ghost use Rattle.tlwords.specs.declared.outcome.Outcome.TheVariants.{Read as EndsRead};
+ghost use Rattle.tlwords.specs.Commits.{writes_kept, work_kept, HasCommitted, HasConflicted, IsLawfulNow, HasEnded};
+ghost use Rattle.tlwords.specs.Committing.{held_in, holding, Goes, FailsToTake, FailsTheCheck, Passes, StoresTo, Releasing, ReleasesAll};
 
 use crate::law::Law;
 use crate::log::Log;
+use crate::mode::Mode;
 use crate::outcome::{Conflict, Outcome};
 use crate::rule::Place;
 use crate::steps::{check, draw, recall, release, store, take};
@@ -25,6 +30,7 @@ fn take_all<L: Law>(words: &Words<L>, seat: &mut Place<L>, log: &Log) -> Result<
     requires cells { (length log.now.slots.items ≡ words.now.cells) × (length log.now.slots.items ≡ length seat.old.me.0.base) }
     requires run { (seat.old.me.0.seat.place ≡ at_reading) × (seat.old.me.0.seat.held ≡ []) }
     requires kept { IsKeptOf seat.old.me.0.seat log.now.slots.items (listed log.now) }
+    requires sorted { IsNonDecreasing (listed log.now) }
     ensures seat { IsSameSeat seat.old seat.new }
     ensures ok { IfOk result (λ _. Goes L.lawful L.opens seat.old.me (holding seat.old.me.0.seat at_taking at_reading (held_in log.now.slots.items 0 0 (length log.now.slots.items))) seat.new.me) }
     ensures err { IfErr result (λ k. FailsToTake L.lawful L.opens log.now.slots.items k seat.old.me seat.new.me) }
@@ -58,6 +64,7 @@ fn check_all<L: Law>(
     requires cells { (length log.now.slots.items ≡ words.now.cells) × (length log.now.slots.items ≡ length seat.old.me.0.base) }
     requires run { (seat.old.me.0.seat.place ≡ at_checking index 0) × (seat.old.me.0.seat.rv ≡ place) × (seat.old.me.0.seat.held ≡ held_in log.now.slots.items 0 0 (length log.now.slots.items)) }
     requires kept { IsKeptOf seat.old.me.0.seat log.now.slots.items (listed log.now) }
+    requires sorted { IsNonDecreasing (listed log.now) }
     ensures seat { IsSameSeat seat.old seat.new }
     ensures ok { IfOk result (λ _. Passes L.lawful L.opens index seat.old.me seat.new.me) }
     ensures err { IfErr result (λ k. FailsTheCheck L.lawful L.opens log.now.slots.items index k seat.old.me seat.new.me) }
@@ -88,6 +95,7 @@ fn store_all<L: Law>(words: &Words<L>, seat: &mut Place<L>, log: &Log, index: u6
     requires run { (upto : ℕ) × (seat.old.me.0.seat.place ≡ at_checking index upto) × ((is_next seat.old.me.0.seat index || all_settled seat.old.me.0.seat.held upto seat.old.me.0.seat.reads) ≡ true) }
     requires held { (seat.old.me.0.seat.held ≡ held_in log.now.slots.items 0 0 (length log.now.slots.items)) × (seat.old.me.0.note ≡ Some note.now) }
     requires kept { IsKeptOf seat.old.me.0.seat log.now.slots.items (listed log.now) }
+    requires sorted { IsNonDecreasing (listed log.now) }
     requires writes { writes_kept log.now.slots.items ≢ [] }
     ensures seat { IsSameSeat seat.old seat.new }
     ensures stores { StoresTo L.lawful L.opens log.now.slots.items index (work_kept seat.old.me.0.seat log.now.slots.items note.now) (length log.now.slots.items) seat.old.me seat.new.me }
@@ -114,6 +122,7 @@ fn release_all<L: Law>(
     requires cells { (length log.now.slots.items ≡ words.now.cells) × (length log.now.slots.items ≡ length seat.old.me.0.base) × (high ≤ length log.now.slots.items) }
     requires run { Releasing L.lawful L.opens log.now.slots.items high new 0 seat.old.me seat.old.me }
     requires kept { IsKeptOf seat.old.me.0.seat log.now.slots.items (listed log.now) }
+    requires sorted { IsNonDecreasing (listed log.now) }
     ensures seat { IsSameSeat seat.old seat.new }
     ensures releases { ReleasesAll L.lawful L.opens seat.old.me seat.new.me }
 {
@@ -140,6 +149,7 @@ fn settle<L: Law>(
     requires cells { (length log.now.slots.items ≡ words.now.cells) × (length log.now.slots.items ≡ length seat.old.me.0.base) }
     requires run { (seat.old.me.0.seat.place ≡ at_taking) × (seat.old.me.0.seat.rv ≡ place) × (seat.old.me.0.seat.held ≡ held_in log.now.slots.items 0 0 (length log.now.slots.items)) }
     requires kept { IsKeptOf seat.old.me.0.seat log.now.slots.items (listed log.now) }
+    requires sorted { IsNonDecreasing (listed log.now) }
     requires writes { writes_kept log.now.slots.items ≢ [] }
     requires room { length seat.old.me.0.drawn + 1 ≤ 2 ^ 40 * seat.old.me.0.rights }
     ensures seat { IsSameSeat seat.old seat.new }
@@ -160,8 +170,8 @@ fn settle<L: Law>(
 // How many numbers a pass may draw.
 const MOST_NUMBERS: u64 = 1 << 40;
 
-/// Ends a run that hasn't met a conflict, and makes what it wrote an entry of the history. The count is that of the numbers drawn.
-pub(crate) fn finish<L: Law>(
+// Ends a run in Writing mode that hasn't met a conflict, and makes what it wrote an entry of the history.
+fn finish<L: Law>(
     words: &Words<L>,
     seat: &mut Place<L>,
     log: &Log,
@@ -173,6 +183,7 @@ pub(crate) fn finish<L: Law>(
     requires cells { (length log.now.slots.items ≡ words.now.cells) × (length log.now.slots.items ≡ length seat.old.me.0.base) }
     requires run { IsRunOf seat.old.me count.old place false }
     requires kept { IsKeptOf seat.old.me.0.seat log.now.slots.items (listed log.now) }
+    requires sorted { IsNonDecreasing (listed log.now) }
     requires lawful { IsLawfulNow L.lawful seat.old.me.0 log.now.slots.items note.now }
     ensures seat { IsSameSeat seat.old seat.new }
     ensures pass { IsPassOf seat.new.me count.new }
@@ -193,5 +204,38 @@ pub(crate) fn finish<L: Law>(
     match settle(words, seat, log, place, note) {
         Ok(number) => Outcome::Committed(number),
         Err(conflict) => Outcome::Conflict(conflict),
+    }
+}
+
+/// Ends a run that hasn't met a conflict. The count is that of the numbers drawn.
+pub(crate) fn conclude<L: Law>(
+    words: &Words<L>,
+    seat: &mut Place<L>,
+    log: &mut Log,
+    count: &mut u64,
+    place: u64,
+    mode: Mode,
+    note: &L::Note,
+) -> Outcome
+    requires table { seat.old.table_id ≡ words.now.table.shared.table_id }
+    requires cells { (length log.old.slots.items ≡ words.now.cells) × (length log.old.slots.items ≡ length seat.old.me.0.base) }
+    requires run { IsRunOf seat.old.me count.old place false }
+    requires kept { IsKeptOf (noted mode seat.old.me.0.seat) log.old.slots.items (listed log.old) }
+    requires lawful { IsLawfulNow L.lawful seat.old.me.0 log.old.slots.items note.now }
+    ensures seat { IsSameSeat seat.old seat.new }
+    ensures pass { IsPassOf seat.new.me count.new }
+    ensures log { (log.new.slots ≡ log.old.slots) × IsKeptOf (noted mode seat.old.me.0.seat) log.new.slots.items (listed log.new) }
+    ensures reading { mode ≡ Reading → result ≡ EndsRead place }
+    ensures ended { HasEnded L.lawful L.opens log.old.slots.items note.now seat.old.me seat.new.me result }
+{
+    match mode {
+        Mode::Reading => {
+            recall(words, seat, note);
+            Outcome::Read(place)
+        }
+        Mode::Writing => {
+            log.sort();
+            finish(words, seat, log, count, place, note)
+        }
     }
 }

@@ -1,13 +1,14 @@
 //! A software transactional memory over shared 64-bit words: Transactional Locking II with a versioned lock word for each cell.
 //!
-//! Words are opened with a pass for each session. A run begins on a pass, reads, keeps what it writes, and commits or leaves; passes learn of
-//! each other. The store is to come.
+//! Words are opened with a pass for each session. A run begins on a pass, to read only or to write too; it reads, keeps what it writes, and
+//! commits or leaves; passes learn of each other. The store is to come.
 #![tactic(auto)]
 
 mod closing;
 mod commits;
 mod law;
 mod log;
+mod mode;
 mod opening;
 mod outcome;
 mod passes;
@@ -22,6 +23,7 @@ mod words;
 
 pub use closing::{ClosedCell, ClosedWords, close};
 pub use law::Law;
+pub use mode::Mode;
 pub use opening::{OpenFault, open};
 pub use outcome::{Conflict, Outcome};
 pub use passes::Pass;

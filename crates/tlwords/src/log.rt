@@ -2,11 +2,15 @@
 #![tactic(auto)]
 
 ghost use Rattle.std.specs.Prelude.{◌≡◌, ℕ, ◌+◌, ◌%◌, ◌<◌, ◌≤◌, List, ◌∷◌, ◌++◌, true, Some, None, [], length, take, IfOk, IfSome, IfNone, IsTrue, ◌↔◌};
+ghost use Rattle.std.specs.List.Sorted.{IsNonDecreasing, IsPermutation};
 ghost use Rattle.tlcore.specs.Seats.{Seat};
-ghost use Rattle.tlwords.specs.Runs.{word_seen, value_kept, was_read, IsBlank, IsKeptOf, HasNoted, HasKept, IsClearing};
-ghost use Rattle.tlwords.specs.Commits.{is_wanted, NoneWanted, IsLeast, IsForgetting, HasForgotten};
+ghost use Rattle.tlwords.specs.Runs.{word_seen, value_kept, was_read, IsBlank, IsKeptOf, HasNoted, HasKept};
+ghost use Rattle.tlwords.specs.Walks.{IsClearing, IsForgetting, is_wanted, NoneWanted, IsLeast, StartsFrom};
+ghost use Rattle.tlwords.specs.declared.mode.Mode.TheVariants.{Reading, Writing};
+ghost use Rattle.tlwords.specs.Commits.{HasForgotten};
 ghost use Rattle.tlwords.specs.declared.log.Slot.{Slot as SlotValue};
 
+use crate::mode::Mode;
 use std::alloc::{AllocError, Global};
 
 /// What is kept of a cell: the lock word that the run saw at its newest read, and the value kept aside.
@@ -65,62 +69,84 @@ impl Log {
         self.slots[cell]
     }
 
-    /// The least cell from `from` on that the run has read, and is to write or not, as `kept` says.
+    /// Puts the cells that were read in ascending order. It takes no memory.
+    pub(crate) fn sort(&mut self)
+        ensures same { (self.new.slots ≡ self.old.slots) × (self.new.used ≡ self.old.used) }
+        ensures permutation { IsPermutation (take self.old.used self.old.touched.items) (take self.new.used self.new.touched.items) }
+        ensures sorted { IsNonDecreasing (take self.new.used self.new.touched.items) }
+    {
+        sort_front(self.touched.as_mut_slice(), self.used);
+    }
+
+    /// The least cell from `from` on that the run has read, and is to write or not, as `kept` says. The cells are in ascending order.
+    ///
+    /// It walks over the cells from `from` on, up to the one that it answers.
     pub(crate) fn next(&self, from: usize, kept: bool) -> Option<Touched>
-        requires { (t : Seat) × IsKeptOf t self.now.slots.items (take self.now.used self.now.touched.items) }
+        requires kept { (t : Seat) × IsKeptOf t self.now.slots.items (take self.now.used self.now.touched.items) }
+        requires sorted { IsNonDecreasing (take self.now.used self.now.touched.items) }
         ensures none { IfNone result (NoneWanted self.now.slots.items kept from (length self.now.slots.items)) }
         ensures some { IfSome result (λ t. IsLeast self.now.slots.items kept from t.cell × (word_seen self.now.slots.items t.cell ≡ Some t.word) × (kept ≡ true → value_kept self.now.slots.items t.cell ≡ Some t.value)) }
     {
-        let cell = self.least(from, kept);
-        if cell >= self.slots.len() {
-            return None;
-        }
-        let slot = self.slots[cell];
-        Some(Touched {
-            cell,
-            word: slot.word.unwrap_or(0),
-            value: slot.kept.unwrap_or(0),
-        })
-    }
-
-    // That cell, or the number of cells where there is none.
-    fn least(&self, from: usize, kept: bool) -> usize
-        requires { (t : Seat) × IsKeptOf t self.now.slots.items (take self.now.used self.now.touched.items) }
-        ensures none { NoneWanted self.now.slots.items kept from result × (result ≤ length self.now.slots.items) }
-        ensures some { result < length self.now.slots.items → IsLeast self.now.slots.items kept from result }
-    {
-        let mut least = self.slots.len();
-        for i in 0..self.used {
+        for i in self.first_from(from)..self.used {
             let cell = self.touched[i];
-            if self.is_nearer(cell, from, least, kept) {
-                least = cell;
+            if self.wants(cell, kept) {
+                return Some(self.touched_at(cell));
             }
         }
-        least
+        None
     }
 
-    // The cell is wanted, and stands from `from` on and before `least`.
-    fn is_nearer(&self, cell: usize, from: usize, least: usize, kept: bool) -> bool
-        requires { least ≤ length self.now.slots.items }
-        ensures { IsTrue result ↔ ((from ≤ cell) × (cell < least) × (is_wanted self.now.slots.items kept cell ≡ true)) }
+    // How many of the cells that were read stand before `from`.
+    fn first_from(&self, from: usize) -> usize
+        requires { IsNonDecreasing (take self.now.used self.now.touched.items) }
+        ensures bound { result ≤ self.now.used }
+        ensures parts { StartsFrom from (take self.now.used self.now.touched.items) result }
     {
-        if cell < from || cell >= least {
-            return false;
-        }
-        self.wants(cell, kept)
+        self.touched[..self.used].partition_point(|cell| *cell < from)
     }
 
     // The cell was read, and is to be written or not, as `kept` says.
     fn wants(&self, cell: usize, kept: bool) -> bool
-        requires { cell < length self.now.slots.items }
         ensures { result ≡ is_wanted self.now.slots.items kept cell }
     {
+        if cell >= self.slots.len() {
+            return false;
+        }
         let slot = self.slots[cell];
         slot.word.is_some() && slot.kept.is_some() == kept
     }
 
-    /// The cell was read under this lock word.
-    pub(crate) fn note_read(&mut self, cell: usize, word: u64)
+    // What is kept of a cell that was read.
+    fn touched_at(&self, cell: usize) -> Touched
+        requires { was_read self.now.slots.items cell ≡ true }
+        ensures cell { result.cell ≡ cell }
+        ensures word { word_seen self.now.slots.items cell ≡ Some result.word }
+        ensures value { (v : ℕ) → value_kept self.now.slots.items cell ≡ Some v → v ≡ result.value }
+    {
+        let slot = self.slots[cell];
+        Touched {
+            cell,
+            word: slot.word.unwrap_or(0),
+            value: slot.kept.unwrap_or(0),
+        }
+    }
+
+    /// The cell was read under this lock word, by a run in this mode.
+    pub(crate) fn note(&mut self, mode: Mode, cell: usize, word: u64)
+        requires cell { cell < length self.old.slots.items }
+        requires even { word % 2 ≡ 0 }
+        requires kept { (t : Seat) × IsKeptOf t self.old.slots.items (take self.old.used self.old.touched.items) }
+        ensures reading { mode ≡ Reading → self.new ≡ self.old }
+        ensures writing { mode ≡ Writing → HasNoted self.old.slots.items (take self.old.used self.old.touched.items) self.new.slots.items (take self.new.used self.new.touched.items) cell word }
+    {
+        match mode {
+            Mode::Reading => {}
+            Mode::Writing => self.note_read(cell, word),
+        }
+    }
+
+    // The cell was read under this lock word.
+    fn note_read(&mut self, cell: usize, word: u64)
         requires cell { cell < length self.old.slots.items }
         requires even { word % 2 ≡ 0 }
         requires kept { (t : Seat) × IsKeptOf t self.old.slots.items (take self.old.used self.old.touched.items) }
@@ -227,4 +253,14 @@ impl Log {
             };
         }
     }
+}
+
+// Puts the first cells, `used` of them, in ascending order.
+fn sort_front(cells: &mut [usize], used: usize)
+    requires { used ≤ length cells.old }
+    ensures len { length cells.new ≡ length cells.old }
+    ensures permutation { IsPermutation (take used cells.old) (take used cells.new) }
+    ensures sorted { IsNonDecreasing (take used cells.new) }
+{
+    cells[..used].sort_unstable();
 }

@@ -8,7 +8,7 @@ pub struct Conflict {
     pub cell: usize,
     /// The lock word that was found.
     pub word: u64,
-    /// The lock word that the run's last read of the cell had found, if one had ended.
+    /// The lock word that the run's last read of the cell had found, if one had ended and the run keeps its reads.
     pub before: Option<u64>,
 }
 

@@ -3,42 +3,46 @@
 
 ghost use Rattle.std.specs.Prelude.{◌≡◌, ℕ, ◌<◌, ◌≤◌, ◌⊎◌, Some, None, length, take, is_some, true, Ok, Err, IfOk, IfErr};
 ghost use Rattle.tlwords.specs.Plays.{IsSameSeat, Sampled};
-ghost use Rattle.tlwords.specs.Runs.{IsRunOf, IsKeptOf, IsBlank, was_read, Learns};
+ghost use Rattle.tlwords.specs.Runs.{IsRunOf, IsKeptOf, IsBlank, noted, word_seen, value_kept, was_read, Learns};
 ghost use Rattle.tlwords.specs.Reads.{listed, LogKeeps, kept_for, HasRead, HasStopped};
 ghost use Rattle.tlwords.specs.Commits.{IsLawfulNow, HasForgotten, HasEnded};
-ghost use Rattle.tlwords.specs.declared.outcome.Outcome.TheVariants.{Conflict as EndsConflict};
+ghost use Rattle.tlwords.specs.declared.outcome.Outcome.TheVariants.{Read as EndsRead, Conflict as EndsConflict};
+ghost use Rattle.tlwords.specs.declared.mode.Mode.TheVariants.{Reading, Writing};
 ghost use Rattle.tlwords.specs.declared.outcome.Conflict.{Conflict as ConflictValue};
 
-use crate::commits::finish;
+use crate::commits::conclude;
 use crate::law::Law;
-use crate::log::Log;
+use crate::log::{Log, Slot};
+use crate::mode::Mode;
 use crate::outcome::{Conflict, Outcome};
 use crate::passes::Pass;
 use crate::rule::Place;
 use crate::steps;
 use crate::words::{Words, fetch};
 
-/// A transaction as it goes.
+/// A transaction as it goes. A run in Reading mode keeps nothing in its log.
 pub struct Run<'w, L: Law> {
     pub(crate) words: &'w Words<L>,
     pub(crate) seat: Place<L>,
     pub(crate) log: Log,
     pub(crate) count: u64,
     pub(crate) place: u64,
+    pub(crate) mode: Mode,
     pub(crate) over: Option<Conflict>,
     pub ghost table_is: { (seat.table_id ≡ words.now.table.shared.table_id) × (words.now.cells ≡ length seat.me.0.base) },
     pub ghost fits: { IsRunOf seat.me count place (is_some over) },
-    pub ghost kept: { IsKeptOf seat.me.0.seat log.slots.items (take log.used log.touched.items) },
+    pub ghost kept: { IsKeptOf (noted mode seat.me.0.seat) log.slots.items (take log.used log.touched.items) },
     pub ghost room: { length log.slots.items ≡ length seat.me.0.base },
 }
 
-/// Begins a run, by one load of the clock.
-pub fn begin<'w, L: Law>(words: &'w Words<L>, pass: Pass<L>) -> Run<'w, L>
+/// Begins a run in this mode, by one load of the clock.
+pub fn begin<'w, L: Law>(words: &'w Words<L>, pass: Pass<L>, mode: Mode) -> Run<'w, L>
     requires { (pass.seat.table_id ≡ words.now.table.shared.table_id) × (words.now.cells ≡ length pass.seat.me.0.base) }
     ensures words { result.words.now ≡ words.now }
     ensures seat { (result.seat.table_id ≡ pass.seat.table_id) × (result.seat.id ≡ pass.seat.id) }
     ensures begins { Sampled L.lawful L.opens pass.seat.me result.place result.seat.me }
     ensures place { length pass.seat.me.0.seen.history ≤ result.place }
+    ensures mode { result.mode ≡ mode }
     ensures open { result.over ≡ None }
     ensures blank { IsBlank result.log.slots.items }
 {
@@ -50,6 +54,7 @@ pub fn begin<'w, L: Law>(words: &'w Words<L>, pass: Pass<L>) -> Run<'w, L>
         log,
         count,
         place,
+        mode,
         over: None,
     }
 }
@@ -62,27 +67,41 @@ impl<'w, L: Law> Run<'w, L> {
         self.place
     }
 
+    // What is kept of the cell.
+    fn slot(&self, cell: usize) -> Slot
+        requires { cell < self.now.words.now.cells }
+        ensures { (word_seen self.now.log.slots.items cell ≡ result.word) × (value_kept self.now.log.slots.items cell ≡ result.kept) }
+    {
+        match self.mode {
+            Mode::Reading => Slot {
+                word: None,
+                kept: None,
+            },
+            Mode::Writing => self.log.slot(cell),
+        }
+    }
+
     /// The value of the cell: the one that this run keeps for it, or else that of the version at the run's place.
     ///
-    /// An error is a conflict, and the run is over: each later read answers the same conflict, without a step.
+    /// In Reading mode nothing of it is kept. An error is a conflict, and the run is over: each later read answers the same conflict, without a step.
     pub fn read(&mut self, cell: usize) -> Result<u64, Conflict>
         requires { cell < self.old.words.now.cells }
-        ensures same { (self.new.words.now ≡ self.old.words.now) × IsSameSeat self.old.seat self.new.seat × (self.new.place ≡ self.old.place) × (self.new.count ≡ self.old.count) }
+        ensures same { (self.new.words.now ≡ self.old.words.now) × IsSameSeat self.old.seat self.new.seat × (self.new.place ≡ self.old.place) × (self.new.count ≡ self.old.count) × (self.new.mode ≡ self.old.mode) }
         ensures over { (k : ConflictValue) → self.old.over ≡ Some k → (result ≡ Err k) × (self.new ≡ self.old) }
         ensures kept { (v : ℕ) → self.old.over ≡ None → kept_for self.old.log cell ≡ Some v → (result ≡ Ok v) × (self.new ≡ self.old) }
-        ensures ok { self.old.over ≡ None → kept_for self.old.log cell ≡ None → IfOk result (λ v. (self.new.over ≡ None) × HasRead L.lawful L.opens self.old.seat.me self.old.log self.new.seat.me self.new.log cell v) }
+        ensures ok { self.old.over ≡ None → kept_for self.old.log cell ≡ None → IfOk result (λ v. (self.new.over ≡ None) × HasRead L.lawful L.opens self.old.mode self.old.seat.me self.old.log self.new.seat.me self.new.log cell v) }
         ensures err { self.old.over ≡ None → IfErr result (λ k. (self.new.over ≡ Some k) × (self.new.log ≡ self.old.log) × HasStopped L.lawful L.opens self.old.seat.me self.old.log self.new.seat.me cell k) }
     {
         if let Some(conflict) = self.over {
             return Err(conflict);
         }
-        let slot = self.log.slot(cell);
+        let slot = self.slot(cell);
         if let Some(value) = slot.kept {
             return Ok(value);
         }
         match fetch(self.words, &mut self.seat, cell, self.place) {
             Ok(found) => {
-                self.log.note_read(cell, found.word);
+                self.log.note(self.mode, cell, found.word);
                 Ok(found.value)
             }
             Err(word) => {
@@ -97,12 +116,13 @@ impl<'w, L: Law> Run<'w, L> {
         }
     }
 
-    /// Keeps a value aside for a cell that this run has read. It makes no step on the words.
+    /// Keeps a value aside for a cell that this run has read, in Writing mode. It makes no step on the words.
     pub fn write(&mut self, cell: usize, value: u64)
+        requires mode { self.old.mode ≡ Writing }
         requires cell { cell < self.old.words.now.cells }
         requires read { was_read self.old.log.slots.items cell ≡ true }
         ensures kept { LogKeeps self.old.log self.new.log cell value }
-        ensures same { (self.new.words.now ≡ self.old.words.now) × (self.new.seat ≡ self.old.seat) × (self.new.place ≡ self.old.place) × (self.new.count ≡ self.old.count) × (self.new.over ≡ self.old.over) }
+        ensures same { (self.new.words.now ≡ self.old.words.now) × (self.new.seat ≡ self.old.seat) × (self.new.place ≡ self.old.place) × (self.new.count ≡ self.old.count) × (self.new.over ≡ self.old.over) × (self.new.mode ≡ self.old.mode) }
     {
         self.log.keep(cell, value);
     }
@@ -110,7 +130,7 @@ impl<'w, L: Law> Run<'w, L> {
     /// Throws away what was kept aside: the run has written nothing. It makes no step on the words.
     pub fn forget(&mut self)
         ensures forgets { HasForgotten self.old.log.slots.items (listed self.old.log) self.new.log.slots.items (listed self.new.log) }
-        ensures same { (self.new.words.now ≡ self.old.words.now) × (self.new.seat ≡ self.old.seat) × (self.new.place ≡ self.old.place) × (self.new.count ≡ self.old.count) × (self.new.over ≡ self.old.over) }
+        ensures same { (self.new.words.now ≡ self.old.words.now) × (self.new.seat ≡ self.old.seat) × (self.new.place ≡ self.old.place) × (self.new.count ≡ self.old.count) × (self.new.over ≡ self.old.over) × (self.new.mode ≡ self.old.mode) }
     {
         self.log.forget();
     }
@@ -119,11 +139,12 @@ impl<'w, L: Law> Run<'w, L> {
     ///
     /// It takes the locks of the cells to be written, draws a number, looks again at the other cells that were read, stores the values and
     /// gives the locks back. After a conflict each lock has its former word, and a number that was drawn is used up. A run that wrote
-    /// nothing only loads the spare word. One that has met a conflict answers it again, without a step.
+    /// nothing, as each one in Reading mode, only loads the spare word. One that has met a conflict answers it again, without a step.
     pub fn commit(self, note: &L::Note) -> (Pass<L>, Outcome)
         requires lawful { self.over ≡ None → IsLawfulNow L.lawful self.seat.me.0 self.log.slots.items note.now }
         ensures same { IsSameSeat self.entry.seat result.0.seat }
         ensures over { (k : ConflictValue) → self.entry.over ≡ Some k → (result.1 ≡ EndsConflict k) × (result.0.seat.me ≡ self.entry.seat.me) }
+        ensures reading { self.entry.over ≡ None → self.entry.mode ≡ Reading → result.1 ≡ EndsRead self.entry.place }
         ensures ended { self.entry.over ≡ None → HasEnded L.lawful L.opens self.entry.log.slots.items note.now self.entry.seat.me result.0.seat.me result.1 }
     {
         let Run {
@@ -132,11 +153,12 @@ impl<'w, L: Law> Run<'w, L> {
             mut log,
             mut count,
             place,
+            mode,
             over,
         } = self;
         let outcome = match over {
             Some(conflict) => Outcome::Conflict(conflict),
-            None => finish(words, &mut seat, &log, &mut count, place, note),
+            None => conclude(words, &mut seat, &mut log, &mut count, place, mode, note),
         };
         log.clear();
         (Pass { seat, log, count }, outcome)
@@ -152,6 +174,7 @@ impl<'w, L: Law> Run<'w, L> {
             mut log,
             count,
             place: _,
+            mode: _,
             over: _,
         } = self;
         log.clear();

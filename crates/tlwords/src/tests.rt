@@ -2,9 +2,11 @@
 
 ghost use Rattle.std.specs.Prelude.{◌≡◌, ◌<◌, ◌⊎◌, length, IfSome};
 
-use crate::{ClosedWords, Conflict, Law, Outcome, Pass, Words, begin, close, learn, open};
+use crate::{ClosedWords, Conflict, Law, Mode, Outcome, Pass, Words, begin, close, learn, open};
 use std::alloc::Global;
 use std::test::Fail;
+use std::thread;
+use std::thread::{Threads, join};
 
 struct Anything;
 
@@ -18,16 +20,19 @@ impl Law for Anything {
     ghost opens = { λ _ _. Unit {0} };
 }
 
+// How often a thread tries before it gives up.
+const MOST_TRIES: u64 = 100_000_000;
+
 // Reads a cell and writes one more.
 fn add_one(words: &Words<Anything>, pass: Pass<Anything>, cell: usize) -> (Pass<Anything>, Outcome)
     requires fits { (pass.seat.table_id ≡ words.now.table.shared.table_id) × (words.now.cells ≡ length pass.seat.me.0.base) }
     requires cell { cell < words.now.cells }
-    ensures { result.0.seat.table_id ≡ words.now.table.shared.table_id }
+    ensures { (result.0.seat.table_id ≡ words.now.table.shared.table_id) × (words.now.cells ≡ length result.0.seat.me.0.base) }
 {
-    let mut run = begin(words, pass);
+    let mut run = begin(words, pass, Mode::Writing);
     match run.read(cell) {
         Ok(x) => {
-            run.write(cell, x / 2 + 1);
+            run.write(cell, x.wrapping_add(1));
             run.commit(&7)
         }
         Err(conflict) => (run.leave(), Outcome::Conflict(conflict)),
@@ -46,7 +51,7 @@ fn meet(
     requires cells { (6 < words.now.cells) × ((written ≡ 5) ⊎ (written ≡ 6)) }
     ensures { result.0.seat.table_id ≡ words.now.table.shared.table_id }
 {
-    let mut run = begin(words, x);
+    let mut run = begin(words, x, Mode::Writing);
     let a = run.read(5);
     let b = run.read(6);
     let (_, first) = add_one(words, y, 5);
@@ -69,7 +74,7 @@ fn follow(
     requires cells { (6 < words.now.cells) × (other < words.now.cells) }
     ensures { result.0.seat.table_id ≡ words.now.table.shared.table_id }
 {
-    let mut run = begin(words, x);
+    let mut run = begin(words, x, Mode::Writing);
     let (_, first) = add_one(words, y, other);
     match run.read(5) {
         Ok(value) => {
@@ -79,6 +84,86 @@ fn follow(
         }
         Err(conflict) => (run.leave(), first, Outcome::Conflict(conflict)),
     }
+}
+
+// X reads cell 5, Y reads and writes cell 6 and commits, X writes cell 5 and commits.
+fn pass_by(
+    words: &Words<Anything>,
+    x: Pass<Anything>,
+    y: Pass<Anything>,
+) -> (Pass<Anything>, Outcome, Outcome)
+    requires x { (x.seat.table_id ≡ words.now.table.shared.table_id) × (words.now.cells ≡ length x.seat.me.0.base) }
+    requires y { (y.seat.table_id ≡ words.now.table.shared.table_id) × (words.now.cells ≡ length y.seat.me.0.base) }
+    requires cells { 6 < words.now.cells }
+    ensures { result.0.seat.table_id ≡ words.now.table.shared.table_id }
+{
+    let mut run = begin(words, x, Mode::Writing);
+    let read = run.read(5);
+    let (_, first) = add_one(words, y, 6);
+    if read.is_ok() {
+        run.write(5, 9);
+    }
+    let (x, second) = run.commit(&8);
+    (x, first, second)
+}
+
+// X, which may only read, reads cell 5, Y reads and writes cell 5 and commits, X reads cells 6 and 5 and commits.
+fn look_twice(
+    words: &Words<Anything>,
+    x: Pass<Anything>,
+    y: Pass<Anything>,
+) -> (Outcome, [Option<u64>; 2], Outcome)
+    requires x { (x.seat.table_id ≡ words.now.table.shared.table_id) × (words.now.cells ≡ length x.seat.me.0.base) }
+    requires y { (y.seat.table_id ≡ words.now.table.shared.table_id) × (words.now.cells ≡ length y.seat.me.0.base) }
+    requires cells { 6 < words.now.cells }
+{
+    let mut run = begin(words, x, Mode::Reading);
+    let before = run.read(5).ok();
+    let (_, first) = add_one(words, y, 5);
+    let other = run.read(6).ok();
+    let _ = run.read(5);
+    let (_, second) = run.commit(&8);
+    (first, [before, other], second)
+}
+
+// Adds one to cell 0 until it has committed so often, and answers how often it did. It gives up after too many conflicts.
+fn add_often(words: &Words<Anything>, mut pass: Pass<Anything>, times: u64) -> u64
+    requires fits { (pass.seat.table_id ≡ words.now.table.shared.table_id) × (words.now.cells ≡ length pass.seat.me.0.base) }
+    requires cells { 0 < words.now.cells }
+{
+    let mut done = 0;
+    for _ in 0..MOST_TRIES {
+        if done >= times {
+            break;
+        }
+        let (next, outcome) = add_one(words, pass, 0);
+        pass = next;
+        if matches!(outcome, Outcome::Committed(_)) {
+            done += 1;
+        } else {
+            thread::yield_now();
+        }
+    }
+    done
+}
+
+// Two threads add to cell 0.
+fn add_together(
+    rt: &(impl Threads + Sync),
+    words: &Words<Anything>,
+    x: Pass<Anything>,
+    y: Pass<Anything>,
+    times: u64,
+) -> (u64, u64)
+    requires x { (x.seat.table_id ≡ words.now.table.shared.table_id) × (words.now.cells ≡ length x.seat.me.0.base) }
+    requires y { (y.seat.table_id ≡ words.now.table.shared.table_id) × (words.now.cells ≡ length y.seat.me.0.base) }
+    requires cells { 0 < words.now.cells }
+{
+    join(
+        rt,
+        || add_often(words, x, times),
+        || add_often(words, y, times),
+    )
 }
 
 // Seven cells of value 0, and two passes.
@@ -174,6 +259,55 @@ fn writes_of_other_cells_do_not_conflict(rt: HostRuntime) -> Result<(), Fail> {
 }
 
 #[test]
+fn a_read_before_a_commit_elsewhere_stands(rt: HostRuntime) -> Result<(), Fail> {
+    let Some((words, x, y)) = opened(rt.alloc()) else {
+        panic!(rt; "no words")
+    };
+    let (x, first, second) = pass_by(&words, x, y);
+    assert!(rt; committed(first) == 1 && committed(second) == 2);
+    let closed = close(rt.alloc(), words, Some(x))?;
+    assert!(rt; shown(&closed) == [2, 4, 9, 2, 1]);
+    Ok(())
+}
+
+#[test]
+fn a_run_that_only_reads_keeps_no_reads(rt: HostRuntime) -> Result<(), Fail> {
+    let Some((words, x, y)) = opened(rt.alloc()) else {
+        panic!(rt; "no words")
+    };
+    let (first, read, second) = look_twice(&words, x, y);
+    assert!(rt; committed(first) == 1 && read == [Some(0), Some(0)] && is_conflict(second, None));
+    Ok(())
+}
+
+#[test]
+fn a_run_that_only_reads_is_answered(rt: HostRuntime) -> Result<(), Fail> {
+    let Some((words, x, _)) = opened(rt.alloc()) else {
+        panic!(rt; "no words")
+    };
+    let (x, _) = add_one(&words, x, 4);
+    let cells = words.cells();
+    let mut run = begin(&words, x, Mode::Reading);
+    let read = run.read(4);
+    let (_, outcome) = run.commit(&8);
+    assert!(rt; cells == 7 && matches!(read, Ok(1)) && matches!(outcome, Outcome::Read(1)));
+    Ok(())
+}
+
+#[test]
+fn no_increment_is_lost(rt: HostRuntime) -> Result<(), Fail> {
+    let Some((words, x, y)) = opened(rt.alloc()) else {
+        panic!(rt; "no words")
+    };
+    let (first, second) = add_together(&rt, &words, x, y, 10_000);
+    assert!(rt; first == 10_000 && second == 10_000);
+    let closed = close(rt.alloc(), words, None)?;
+    let value = closed.cells.get(0).map(|cell| cell.value);
+    assert!(rt; closed.clock >= 20_000 && value == Some(20_000));
+    Ok(())
+}
+
+#[test]
 fn what_was_forgotten_is_not_written(rt: HostRuntime) -> Result<(), Fail> {
     let Some((words, x, y)) = opened(rt.alloc()) else {
         panic!(rt; "no words")
@@ -181,7 +315,7 @@ fn what_was_forgotten_is_not_written(rt: HostRuntime) -> Result<(), Fail> {
     let (mut x, first) = add_one(&words, x, 6);
     let mut y = y;
     learn(&words, &mut y, &mut x);
-    let mut run = begin(&words, y);
+    let mut run = begin(&words, y, Mode::Writing);
     let read = run.read(6);
     assert!(rt; committed(first) == 1 && matches!(read, Ok(1)));
     if read.is_ok() {

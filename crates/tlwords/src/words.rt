@@ -26,6 +26,13 @@ impl<L: Law> Drop for Words<L> {
 }
 
 impl<L: Law> Words<L> {
+    /// The number of cells.
+    pub fn cells(&self) -> usize
+        ensures { result ≡ self.now.cells }
+    {
+        self.cells
+    }
+
     pub(crate) fn into_table(self) -> Board<L>
         ensures { result ≡ self.table }
     {

@@ -9,6 +9,10 @@ use std::test::Fail;
 
 const THREE: &[u8] = b"$c wff |- $. $v x y z $. wx $f wff x $. wy $f wff y $. wz $f wff z $.";
 
+/// Modus ponens, with a `$f` before its own two that it doesn't need.
+const RULE: &[u8] =
+    b"$c -> wff |- $. $v t P Q $. tt $f wff t $. wp $f wff P $. wq $f wff Q $. ${ a $e |- P $. b $e |- P -> Q $. mp $a |- Q $. $}";
+
 fn sequence<T: Copy>(alloc: Global, items: &[T]) -> Result<Sequence<T>, AllocError> {
     Ok(Sequence::from_vec(Vec::from_slice(alloc, items)?))
 }
@@ -51,5 +55,17 @@ fn keeps_what_is_mandatory(rt: HostRuntime) -> Result<(), Fail> {
             assert_eq!(rt; kept.as_slice(), hyp);
         }
     }
+    Ok(())
+}
+
+#[test]
+fn frames_a_rule(rt: HostRuntime) -> Result<(), Fail> {
+    let alloc = rt.alloc();
+    let db = read_database(alloc, RandomState::new(&rt)?, RULE)?;
+    let rule = db.assertions().first().ok_or("a rule is read")?;
+    let made = frame_of(alloc, db.prelude(), rule)?;
+    assert_eq!(rt; made.floats.as_slice(), [1, 2].as_slice());
+    assert_eq!(rt; made.pairs.as_slice().len(), 0);
+    assert_eq!(rt; made.hyps.as_slice().len(), 2);
     Ok(())
 }

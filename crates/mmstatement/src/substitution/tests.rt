@@ -43,6 +43,13 @@ fn replaces_at_once(rt: HostRuntime) -> Result<(), Fail> {
 }
 
 #[test]
+fn replaces_a_variable(rt: HostRuntime) -> Result<(), Fail> {
+    let made = replaced(rt.alloc(), &[C], &[], &[X])?;
+    assert_eq!(rt; made.ok().ok_or("an error")?.as_slice(), [C].as_slice());
+    Ok(())
+}
+
+#[test]
 fn makes_the_longest(rt: HostRuntime) -> Result<(), Fail> {
     let alloc = rt.alloc();
     let long = vec![in alloc; C; 32767]?;

@@ -1,7 +1,5 @@
 use Rattle.std.proofs.Common.{arith, ◌∙◌, ap, subst, sym, length, List, ℕ}
-use mathlib.Core.Option.{some}
 use lib.ListN.{get_elem?}
-use Rattle.std.proofs.Common.{◌≡◌}
 use Rattle.tlwords.specs.Closing.{AreCellsOf}
 use Rattle.tlwords.proofs.Ends.{closes}
 use Rattle.tlwords.proofs.closing.close_alone.Goals as goal

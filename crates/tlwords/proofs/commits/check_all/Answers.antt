@@ -1,5 +1,4 @@
-use Rattle.std.proofs.Common.{arith, refl, sym, inl, inr, ◌∙◌, ◌≡◌, ◌≢◌, ◌<◌, ◌≤◌, ◌%◌, ◌/◌, ◌⊎◌}
-use Rattle.tlwords.specs.Runs.{HasCause}
+use Rattle.std.proofs.Common.{arith, refl, sym, inl, inr, ◌∙◌}
 use Rattle.tlwords.proofs.Turns.{read_found, goes_setting, goes_base, goes_read, seat_trans}
 use Rattle.tlwords.proofs.Checks.{check_starts, check_skips, check_place, check_goes, check_fails, check_ends}
 use Rattle.tlwords.proofs.commits.check_all.Goals as goal

@@ -1,8 +1,8 @@
-use Rattle.std.proofs.Common.{◌≤◌, ◌≢◌, length, ◌-◌}
+use Rattle.std.proofs.Common.{◌≤◌, length, ◌-◌}
 use Rattle.tlcore.specs.Machine.{placed}
 use Rattle.tlcore.proofs.Words.{at_checking}
 use Rattle.tlwords.specs.Plays.{IsSameSeat}
-use Rattle.tlwords.specs.Commits.{Goes}
+use Rattle.tlwords.specs.Committing.{Goes}
 use Rattle.tlwords.proofs.commits.check_all.Given as goal
 
 abbrev pub invariant-loop-next : goal.invariant-loop-next

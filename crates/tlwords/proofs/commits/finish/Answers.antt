@@ -1,4 +1,4 @@
-use Rattle.std.proofs.Common.{arith, refl, sym, subst, ◌≡◌, ◌≢◌, ◌≤◌, ℕ, List, []}
+use Rattle.std.proofs.Common.{arith, refl, sym, subst, []}
 use Rattle.tlcore.specs.Seats.{reads_of}
 use Rattle.tlwords.specs.Seen.{Pairs}
 use Rattle.tlwords.proofs.Settles.{some_writes, failed_ends, committed_from, conflicted_from}

@@ -1,4 +1,4 @@
-use Rattle.std.proofs.Common.{arith, refl, ◌∙◌, ◌<◌, ◌≤◌}
+use Rattle.std.proofs.Common.{arith, refl, ◌∙◌}
 use Rattle.tlwords.proofs.Turns.{unkept_of, goes_setting, goes_base, seat_trans}
 use Rattle.tlwords.proofs.Releases.{release_held, release_goes, release_end}
 use Rattle.tlwords.proofs.commits.release_all.Goals as goal

@@ -1,6 +1,6 @@
 use Rattle.std.proofs.Common.{◌≤◌, length, ◌-◌}
 use Rattle.tlwords.specs.Plays.{IsSameSeat}
-use Rattle.tlwords.specs.Commits.{Releasing}
+use Rattle.tlwords.specs.Committing.{Releasing}
 use Rattle.tlwords.proofs.commits.release_all.Given as goal
 
 abbrev pub invariant-loop-next : goal.invariant-loop-next

@@ -1,4 +1,4 @@
-use Rattle.std.proofs.Common.{arith, sym, ap, ◌∙◌, ◌≡◌, ◌≢◌, ◌+◌, ◌*◌, subst, suc, ℕ, [], List}
+use Rattle.std.proofs.Common.{arith, sym, ap, ◌∙◌, subst, []}
 use Rattle.tlcore.specs.Seats.{reads_of, writes_of}
 use Rattle.tlwords.specs.Seen.{Pairs}
 use Rattle.tlwords.proofs.Held.{held_writes}

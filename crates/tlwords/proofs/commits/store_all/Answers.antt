@@ -1,4 +1,4 @@
-use Rattle.std.proofs.Common.{arith, refl, inl, ◌∙◌, ◌<◌, ◌≤◌}
+use Rattle.std.proofs.Common.{arith, refl, inl, ◌∙◌}
 use Rattle.tlwords.proofs.Turns.{unkept_of, seat_trans}
 use Rattle.tlwords.proofs.Stores.{store_setting, store_base, store_place, store_held, store_goes, store_ends}
 use Rattle.tlwords.proofs.commits.store_all.Goals as goal

@@ -1,9 +1,9 @@
-use Rattle.std.proofs.Common.{arith, refl, sym, ap, subst, ◌∙◌, ◌≡◌, ◌<◌, ◌≤◌, ◌%◌, ◌+◌, ℕ, length, List, [], Some, Option}
+use Rattle.std.proofs.Common.{arith, refl, sym, subst, ◌∙◌, length, List, []}
 use Rattle.tlcore.specs.Seats.{Seat}
 use Rattle.tlcore.proofs.Words.{SeatHeld, at_reading, at_taking}
-use Rattle.tlwords.specs.Commits.{held_in, holding, Goes}
+use Rattle.tlwords.specs.Committing.{holding, Goes}
 use Rattle.tlwords.proofs.Held.{held_on}
-use Rattle.tlwords.proofs.Turns.{unkept_of, read_found, goes_start, goes_seat, goes_setting, goes_base, goes_read, seat_trans, take_place, take_goes, take_fails}
+use Rattle.tlwords.proofs.Turns.{unkept_of, read_found, goes_start, goes_setting, goes_base, goes_read, seat_trans, take_place, take_goes, take_fails}
 use Rattle.tlwords.proofs.commits.take_all.Goals as goal
 
 pub loop-next-init : goal.loop-next-init

@@ -1,7 +1,7 @@
 use Rattle.std.proofs.Common.{◌≤◌, length, ◌-◌}
 use Rattle.tlcore.proofs.Words.{at_reading, at_taking}
 use Rattle.tlwords.specs.Plays.{IsSameSeat}
-use Rattle.tlwords.specs.Commits.{held_in, holding, Goes}
+use Rattle.tlwords.specs.Committing.{held_in, holding, Goes}
 use Rattle.tlwords.proofs.commits.take_all.Given as goal
 
 abbrev pub invariant-loop-next : goal.invariant-loop-next

@@ -1,5 +1,5 @@
 use Rattle.std.proofs.Common.{arith, ◌∙◌, sym, subst, ap, List, ℕ, slice_index_or, ◌≡◌, take, ◌++◌, ◌∷◌, [], ◌<◌, length, ◌+◌}
-use Rattle.tlwords.specs.Runs.{IsClearing}
+use Rattle.tlwords.specs.Walks.{IsClearing}
 use Rattle.tlwords.proofs.Logs.{take_next}
 use Rattle.tlwords.proofs.log.Log.clear.Goals as goal
 

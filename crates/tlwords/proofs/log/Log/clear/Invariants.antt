@@ -1,5 +1,5 @@
 use Rattle.std.proofs.Common.{◌≡◌, length, take}
-use Rattle.tlwords.specs.Runs.{IsClearing}
+use Rattle.tlwords.specs.Walks.{IsClearing}
 use Rattle.tlwords.proofs.log.Log.clear.Given as goal
 
 abbrev pub invariant-loop-i : goal.invariant-loop-i

@@ -1,5 +1,6 @@
 use Rattle.std.proofs.Common.{arith, ◌∙◌, sym, refl, subst, ap, List, ℕ, slice_index_or, ◌≡◌, take, ◌++◌, ◌∷◌, [], ◌<◌, length, ◌+◌}
-use Rattle.tlwords.specs.Commits.{IsForgetting, HasForgotten}
+use Rattle.tlwords.specs.Commits.{HasForgotten}
+use Rattle.tlwords.specs.Walks.{IsForgetting}
 use Rattle.tlwords.proofs.Logs.{take_next}
 use Rattle.tlwords.proofs.Forgets.{forgetting_starts, forgotten}
 use Rattle.tlwords.proofs.log.Log.forget.Goals as goal

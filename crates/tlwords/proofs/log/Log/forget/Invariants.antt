@@ -1,5 +1,5 @@
 use Rattle.std.proofs.Common.{◌≡◌, take}
-use Rattle.tlwords.specs.Commits.{IsForgetting}
+use Rattle.tlwords.specs.Walks.{IsForgetting}
 use Rattle.tlwords.proofs.log.Log.forget.Given as goal
 
 abbrev pub invariant-loop-i : goal.invariant-loop-i

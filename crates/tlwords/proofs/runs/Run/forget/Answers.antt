@@ -1,14 +1,15 @@
 use Rattle.std.proofs.Common.{◌∙◌}
+use Rattle.tlwords.specs.Runs.{noted}
 use Rattle.tlwords.proofs.runs.Run.forget.Goals as goal
 
 pub forget-requires : goal.forget-requires
-forget-requires g c = (c.args.self.now.seat.me.0.seat, c.args.self.now.kept)
+forget-requires g c = (noted c.args.self.now.mode c.args.self.now.seat.me.0.seat, c.args.self.now.kept)
 
 pub invariant_of-self : goal.invariant_of-self
 invariant_of-self g c =
     let s = c.args.self.now in record {
       table_is = s.table_is;
       fits = s.fits;
-      kept = c.forget.ensures.0 s.seat.me.0.seat s.kept;
+      kept = c.forget.ensures.0 (noted s.mode s.seat.me.0.seat) s.kept;
       room = c.forget.ensures.4 ∙ s.room;
     }

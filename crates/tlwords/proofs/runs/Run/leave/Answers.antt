@@ -1,9 +1,10 @@
 use Rattle.std.proofs.Common.{◌∙◌}
 use Rattle.tlwords.proofs.RunSteps.{left_fits}
+use Rattle.tlwords.specs.Runs.{noted}
 use Rattle.tlwords.proofs.runs.Run.leave.Goals as goal
 
 pub clear-requires : goal.clear-requires
-clear-requires g c = (c.args.self.seat.me.0.seat, c.args.self.kept)
+clear-requires g c = (noted c.args.self.mode c.args.self.seat.me.0.seat, c.args.self.kept)
 
 pub invariant_of-result : goal.invariant_of-result
 invariant_of-result g c = record {

@@ -1,18 +1,29 @@
-use Rattle.std.proofs.Common.{◌∙◌, ap, length, sym, refl, ◌∷◌}
+use Rattle.std.proofs.Common.{◌∙◌, ap, length, sym}
+use Rattle.tlwords.specs.Runs.{noted}
 use Rattle.tlwords.proofs.RunSteps.{read_fits}
-use Rattle.tlwords.proofs.Logs.{kept_same}
+use Rattle.tlwords.proofs.Modes.{notes, read_kept, read_room}
 use Rattle.tlwords.proofs.runs.Run.read.Goals as goal
+
+pub note-requires-clause-kept : goal.note-requires-clause-kept
+note-requires-clause-kept g c = (noted c.args.self.now.mode c.args.self.now.seat.me.0.seat, c.args.self.now.kept)
 
 pub invariant_of-self : goal.invariant_of-self
 invariant_of-self g c =
     let s = c.args.self.now in
     let t = c.in-Ok.ensures.ok in
-    let n = c.note_read.ensures in record {
+    let n = notes s.mode s.log c.note.new.self c.args.cell c.in-Ok.found.word c.note.ensures.reading c.note.ensures.writing in record {
       table_is = (c.fetch.ensures.seat.0 ∙ s.table_is.0, s.table_is.1 ∙ ap (λ v. length v.base) (sym t.is));
       fits = read_fits g.L.Law.lawful g.L.Law.opens _ _ _ _ _ _ _ _ t s.fits;
       kept =
-          let k = n.0 s.seat.me.0.seat (record { cell = c.args.cell; word = c.in-Ok.found.word; value = c.in-Ok.found.value }) s.kept refl refl in
-          kept_same (record s.seat.me.0.seat { reads = record { cell = c.args.cell; word = c.in-Ok.found.word; value = c.in-Ok.found.value } ∷ s.seat.me.0.seat.reads })
-          c.fetch.new.seat.me.0.seat _ _ (ap (λ v. v.seat.reads) t.is) k;
-      room = n.4 ∙ (s.room ∙ ap (λ v. length v.base) (sym t.is));
+          let found = c.in-Ok.found in
+          read_kept s.mode s.seat.me.0.seat c.fetch.new.seat.me.0.seat s.log c.note.new.self
+          (record { cell = c.args.cell; word = found.word; value = found.value }) n (ap (λ v. v.seat.reads) t.is) s.kept;
+      room = read_room s.mode s.log c.note.new.self c.args.cell c.in-Ok.found.word n ∙ (s.room ∙ ap (λ v. length v.base) (sym t.is));
     }
+
+pub returns-in-Ok-clause-ok : goal.returns-in-Ok-clause-ok
+returns-in-Ok-clause-ok g c = λ o k.
+    let s = c.args.self.now in
+    let word = c.in-Ok.found.word in
+    let n = c.note.ensures in
+    (o, (word, c.in-Ok.ensures.ok, notes s.mode s.log c.note.new.self c.args.cell word n.reading n.writing))

@@ -1,0 +1,39 @@
+use Rattle.std.proofs.Common.{[], sym, subst}
+use Rattle.tlcore.specs.Seats.{Seat, reads_of}
+use Rattle.tlwords.specs.Seen.{Pairs}
+use Rattle.tlwords.specs.Runs.{IsKeptOf, noted}
+use Rattle.tlwords.specs.Reads.{listed}
+use Rattle.tlwords.proofs.Wanted.{log_sorted}
+use Rattle.tlwords.proofs.Modes.{nothing_written, writing_noted}
+use Rattle.tlwords.proofs.Finishes.{known_setting, answers, answered_fits}
+use Rattle.tlwords.proofs.commits.conclude.Goals as goal
+
+pub recall-requires-clause-setting : goal.recall-requires-clause-setting
+recall-requires-clause-setting g c =
+    let v = c.args.seat.now.me.0 in
+    let y = known_setting v.setting c.requires.run.0 in
+    let e = nothing_written c.args.mode c.in-Reading.is v.seat c.args.log.now.slots.items _ c.requires.kept in
+    (y.0, y.1, subst (λ (ws : Pairs). g.L.Law.lawful y.0 [] (reads_of v.seat.reads) ws c.args.note.now) e (c.requires.lawful y.0 y.1))
+
+pub finish-requires-clause-kept : goal.finish-requires-clause-kept
+finish-requires-clause-kept g c =
+    let e = c.sort.ensures in
+    let t = c.args.seat.now.me.0.seat in
+    let l = c.args.log.now in
+    log_sorted t l c.sort.new.self e.same.0 e.permutation
+    (subst (λ (u : Seat). IsKeptOf u l.slots.items (listed l)) (writing_noted c.args.mode c.in-Writing.is t) c.requires.kept)
+
+pub returns-in-Reading-clause-pass : goal.returns-in-Reading-clause-pass
+returns-in-Reading-clause-pass g c =
+    answered_fits g.L.Law.lawful g.L.Law.opens c.args.log.now.slots.items c.args.note.now _ _ _ _ c.recall.ensures.told c.requires.run
+
+pub returns-in-Reading-clause-ended : goal.returns-in-Reading-clause-ended
+returns-in-Reading-clause-ended g c =
+    let e = nothing_written c.args.mode c.in-Reading.is c.args.seat.now.me.0.seat c.args.log.now.slots.items _ c.requires.kept in
+    (e, sym c.requires.run.5, answers g.L.Law.lawful g.L.Law.opens c.args.log.now.slots.items c.args.note.now _ _ c.recall.ensures.told e)
+
+pub returns-in-Writing-clause-log : goal.returns-in-Writing-clause-log
+returns-in-Writing-clause-log g c =
+    let e = c.sort.ensures in
+    let t = noted c.args.mode c.args.seat.now.me.0.seat in
+    (e.same.0, log_sorted t c.args.log.now c.sort.new.self e.same.0 e.permutation c.requires.kept)
