@@ -1,6 +1,7 @@
 -- Derivations: they carry over to other citable frames, and each of their steps names something.
-use Rattle.std.proofs.Common.{◌≡◌, ◌≢◌, ◌<◌, ℕ, List, [], ◌∷◌, Some, length, ap, subst, arith, length-append}
-use Rattle.std.specs.Prelude.{All}
+use Rattle.std.proofs.Common.{◌≡◌, ◌≢◌, ◌<◌, ℕ, List, [], ◌∷◌, Some, length, get_or, refl, ap, subst, arith, length-append}
+use Rattle.std.specs.Prelude.{All, Contains}
+use Rattle.std.proofs.lemmas.List.Folds.{map_fixed}
 use Rattle.std.proofs.lemmas.List.Elements.{All-nil, All-cons, All-append}
 use Rattle.std.proofs.lemmas.Option.{slice_get_within}
 use Rattle.mmsyntax.specs.declared.statement.Frame.{Frame}
@@ -10,6 +11,8 @@ use Rattle.mmsyntax.specs.declared.statement.Step.TheVariants.{Float, Hyp, Cite}
 use Rattle.mmsyntax.specs.Tables.{Tables}
 use Rattle.proofcheck.specs.Derivation.{Expression, Citable, Tree, Trees, float, hyp, node, none, some, Derives, DeriveEach}
 use Rattle.proofcheck.specs.Derivation.{listing, listings, Proves, Checks}
+use Rattle.proofcheck.specs.Laws.{step_relabelled, StandsFor}
+use Rattle.proofcheck.proofs.Relabelling.{relabelled-proves}
 
 -- ---- other citable frames
 
@@ -17,22 +20,24 @@ use Rattle.proofcheck.specs.Derivation.{listing, listings, Proves, Checks}
 abbrev pub Within : Citable → Citable → Type 0
 Within lib lib' = (label : List ℕ) (f : Frame) → lib label ≡ Some f → lib' label ≡ Some f
 
-module _ (lib lib' : Citable) (p : Tables) (a : Assertion) (within : Within lib lib') where
-  mutual
-    derives_within : (t : Tree) (e : Expression) → Derives lib p a t e → Derives lib' p a t e
-    derives_within (float i) e h = h
-    derives_within (hyp k) e h = h
-    derives_within (node label ts) e h = (h.0, h.1, within label h.0 h.2, each_within ts h.1 h.3, h.4)
+step_itself : (step : Step) → step_relabelled (λ l. l) step ≡ step
+step_itself (Float i) = refl
+step_itself (Hyp k) = refl
+step_itself (Cite label) = refl
 
-    each_within : (ts : Trees) (es : List Expression) → DeriveEach lib p a ts es → DeriveEach lib' p a ts es
-    each_within none es h = h
-    each_within (some t ts) es h = (h.0, h.1, h.2, derives_within t h.0 h.3, each_within ts h.1 h.4)
+-- steps prove the same over the other, where it gives the same frame for each label that they cite
+pub proves_cited : (lib lib' : Citable) (p : Tables) (a : Assertion) (steps : List Step) (e : Expression)
+    → ((label : List ℕ) (f : Frame) → Contains steps (Cite label) → lib label ≡ Some f → lib' label ≡ Some f)
+    → Proves lib p a steps e → Proves lib' p a steps e
+proves_cited lib lib' p a steps e same h =
+    let itself : (f : Frame) → StandsFor f f = λ f. record { floats = refl; hyps = refl; statement = refl; pairs = λ q at. at } in
+    subst (λ ss. Proves lib' p a ss e) (map_fixed (step_relabelled (λ l. l)) steps (λ i d lt. step_itself (get_or steps i d)))
+    (relabelled-proves lib lib' p a a (λ l. l) steps e refl refl (λ label f cited at. (f, same label f cited at, itself f)) h)
 
-  -- so what checks over the one checks over the other
-  pub checks_within : Checks lib p a → Checks lib' p a
-  checks_within h theorem =
-      let proof = h theorem in
-      (proof.0, proof.1, derives_within proof.0 a.statement proof.2)
+-- what checks over the one checks over the other
+pub checks_within : (lib lib' : Citable) (p : Tables) (a : Assertion) → Within lib lib' → Checks lib p a → Checks lib' p a
+checks_within lib lib' p a within h theorem =
+    proves_cited lib lib' p a a.proof a.statement (λ label f cited at. within label f at) (h theorem)
 
 -- ---- steps
 

@@ -28,8 +28,7 @@ use Rattle.commands.specs.Laws.{ExportOrderIsOne, ShownLibrariesCheck}
 use Rattle.commands.proofs.Derivations.{checks_within}
 use Rattle.commands.proofs.Frames.{labels, frames_within}
 use Rattle.commands.proofs.Labels.{distinct_permutation}
-use Rattle.commands.proofs.Lower.{lower_all}
-use Rattle.commands.proofs.Showing.{labels-assertions}
+use Rattle.commands.proofs.Lower.{lower_all, labels-assertions}
 use Rattle.commands.proofs.Places.{labels_apart}
 use Rattle.commands.proofs.Orders.{ties_at}
 

@@ -67,17 +67,11 @@ opening_checks db s prelude all = λ i d i_in.
     (subst (λ t. Checks (frame_in t (lower (opening db) (100 * (1 + i)))) t a) (sym prelude) there)
 
 -- with as many slots as one likes, if there is room
-pub opening_verifies_in : (db : Contents) (slots : ℕ) → HasSpelling db → AllCheck db → 1 ≤ slots → slots ≤ 4096
-    → length db.assertions ≤ slots → Verifies (record { prelude = db.prelude; slots = slots }) (opening db)
-opening_verifies_in db slots h all some few room =
+pub opening_verifies : OpeningsVerify
+opening_verifies db slots h all some few room =
     let d = declarable db h in
     let xs = db.assertions in
     let s : Setting = record { prelude = db.prelude; slots = slots } in
     let n = length-ranked_from 1 xs in
     verifies_shown s (opening db) (record { sound = d.prelude; some = some; few = few }) (ranks_fit 1 xs (omega arith) (omega arith))
     (omega arith) (subst (IsDeclarable db.prelude) (sym (assertions-ranked_from 1 xs)) d) (opening_checks db s refl all)
-
-pub opening_verifies : OpeningsVerify
-opening_verifies db h all =
-    let few = (declarable db h).few in
-    opening_verifies_in db (max 1 (length db.assertions)) h all (omega arith) (omega arith) (omega arith)

@@ -1,10 +1,11 @@
 -- What a look-up of a label answers, by the place of the assertion that has it.
 use Rattle.std.proofs.Common.{◌≡◌, ◌≢◌, ℕ, zero, suc, ◌<◌, true, false, List, [], ◌∷◌, Some, None, length, get_or, map, refl, sym, ap}
 use Rattle.std.proofs.Common.{subst, ◌∙◌, inl, inr, arith}
-use Rattle.std.specs.List.{list_any, find, slice_get, All, Any}
+use Rattle.std.specs.List.{list_any, find, slice_get, All, Any, Contains}
 use Rattle.std.specs.Str.{bytes_eq}
-use Rattle.std.proofs.lemmas.Bool.{cases_order, cond-true, cond-false, false_from_ne_true}
+use Rattle.std.proofs.lemmas.Bool.{cases_order, cases_Bool, cond-true, cond-false, false_from_ne_true}
 use Rattle.std.proofs.lemmas.List.{length-map, get_or-map}
+use Rattle.std.proofs.lemmas.List.Elements.{Contains-append_right}
 use Rattle.std.proofs.lemmas.List.Folds.{list_any_none, list_any_at, Any-from_list_any}
 use Rattle.std.proofs.lemmas.Option.{slice_get_within, get_or_from_slice_get}
 use Rattle.mmsyntax.specs.Assertions.{Distinct}
@@ -12,7 +13,7 @@ use Rattle.mmsyntax.proofs.Names.{same_bytes, bytes_eq-same, bytes_eq-sym}
 use Rattle.mmsyntax.proofs.Distinct.{or_false, any_at, any-map}
 use Rattle.commands.specs.declared.library.Ranked.{Ranked}
 use Rattle.commands.specs.Library.{label_of}
-use Rattle.commands.specs.Edits.{is_labelled, has}
+use Rattle.commands.specs.Edits.{is_labelled, has, found}
 use Rattle.commands.proofs.Labels.{one_place}
 
 is_labelled-own : (label : List ℕ) (e : Ranked) → label_of e ≡ label → is_labelled label e ≡ true
@@ -83,3 +84,27 @@ pub find_entry : (lib : List Ranked) (label : List ℕ) (i : ℕ) (e : Ranked) �
 find_entry lib label i e apart at h =
     let here = get_or_from_slice_get lib i e e at in
     find_at lib label i e apart (slice_get_within lib i e at) (ap label_of here ∙ h) ∙ ap (λ x. Some x) here
+
+-- an entry of the list is found by its label
+pub found_own : (lib : List Ranked) (e : Ranked) → Distinct bytes_eq (map label_of lib) → Contains lib e → found lib (label_of e) ≡ Some e
+found_own lib e apart at = find_at lib (label_of e) at.0 e apart at.1 (ap label_of at.2) ∙ ap (λ x. Some x) at.2
+
+-- what is found is an entry of the list, with the label
+pub found_in : (lib : List Ranked) (label : List ℕ) (e : Ranked) → found lib label ≡ Some e → Contains lib e × (label ≡ label_of e)
+found_in [] label e h = absurd cc
+found_in (x ∷ lib) label e h =
+    elim (cases_Bool (is_labelled label x)) [
+      | inl y ↦
+          let same : x ≡ e = cc (cond-true (is_labelled label x) (Some x) (found lib label) y) in
+          ((0, omega arith, same), same_bytes label (label_of x) y ∙ ap label_of same)
+      | inr n ↦
+          let later = found_in lib label e (sym (cond-false (is_labelled label x) (Some x) (found lib label) n) ∙ h) in
+          (Contains-append_right (x ∷ []) lib e later.0, later.1)
+    ]
+
+-- an entry with the label is the one that is found
+pub found_one : (lib : List Ranked) (label : List ℕ) (e f : Ranked) → Distinct bytes_eq (map label_of lib) → found lib label ≡ Some e
+    → Contains lib f → is_labelled label f ≡ true → f ≡ e
+found_one lib label e f apart h at is =
+    let own = subst (λ l. found lib l ≡ Some f) (sym (same_bytes label (label_of f) is)) (found_own lib f apart at) in
+    cc

@@ -1,351 +1,295 @@
--- Walks over the words of a script, in both directions between the grammar and the rows.
-use Rattle.std.proofs.Common.{◌≡◌, ◌≢◌, ℕ, zero, suc, ◌<◌, Bool, true, false, cond, List, [], ◌∷◌, ◌++◌, length, Result, Ok, refl, sym}
-use Rattle.std.proofs.Common.{ap, subst, ◌∙◌, ◌⊎◌, inl, inr, arith, append_assoc, append-nil}
-use Rattle.std.specs.Prelude.{codes, All}
-use Rattle.std.specs.List.{flat_map}
+-- The words of a script are ordinary, and lead through its rows.
+use Rattle.std.proofs.Common.{◌≡◌, ◌≢◌, ℕ, zero, suc, ◌<◌, Bool, true, false, cond, List, [], ◌∷◌, ◌++◌, length, Option, Some, None, Result}
+use Rattle.std.proofs.Common.{Ok, Err, refl, sym, ap, subst, ◌∙◌, ◌⊎◌, inl, inr, arith, append_assoc, append-nil}
+use Rattle.std.specs.Prelude.{codes, All, is_some}
 use Rattle.std.specs.Str.{bytes_eq}
 use Rattle.std.proofs.lemmas.Bool.{cond-false}
-use Rattle.std.proofs.lemmas.List.Elements.{All-nil, All-cons, All-head, All-tail, All-append}
+use Rattle.std.proofs.lemmas.List.Elements.{All-nil, All-cons, All-append}
 use Rattle.mmtext.specs.declared.fault.FaultKind.TheVariants.{BadToken}
 use Rattle.mmtext.specs.declared.fault.TextFault.{TextFault}
-use Rattle.mmtext.specs.Words.{has_dollar}
-use Rattle.mmtext.specs.Text.{Token}
-use Rattle.mmtext.specs.Words.{Word}
-use Rattle.commands.specs.declared.command.Command.{Command}
-use Rattle.commands.specs.declared.command.Command.TheVariants.{Rename, Show}
+use Rattle.mmtext.specs.declared.mark.Mark.TheVariants as mark
+use Rattle.mmtext.specs.Text.{Token, mark_of}
+use Rattle.mmtext.specs.Words.{Word, has_dollar}
 use Rattle.mmtext.specs.Comments.{words_of}
 use Rattle.mmtext.specs.Languages.{fault}
-use Rattle.commands.specs.Scripts.{command_spelling, spelling, HasPlainLabels, IsTransaction}
-use Rattle.commands.specs.ScriptFaults.{
-  Place,
-  outermost,
-  at_command,
-  at_old_label,
-  at_new_label,
-  at_shown_label,
-  at_commit,
-  Progress,
-  at,
-  begin_row,
-  command_row,
-  label_in,
-  label_row,
-  commit_row,
-  in_place,
-  script_language,
-}
-use Rattle.mmtext.proofs.CommentLaws.{walk, walk_ends, walk_none, walk_step, walk_cons, same_word, IsOrdinary, plain_is_ordinary}
+use Rattle.mmtext.proofs.CommentLaws.{walk, walk_ends, walk_none, walk_step, walk_cons, IsOrdinary, plain_is_ordinary}
+use Rattle.mmsyntax.specs.declared.statement.Step.{Step}
+use Rattle.mmsyntax.specs.declared.statement.Assertion.{Assertion}
+use Rattle.mmsyntax.specs.Tables.{Tables}
+use Rattle.mmsyntax.specs.Rows.{Known, prelude_alone}
+use Rattle.mmsyntax.specs.Faults.{Position, row, unit_at, unit_language}
+use Rattle.mmsyntax.specs.Faults.{first_of}
+use Rattle.mmsyntax.specs.Grammar.{Statement, spelling}
+use Rattle.mmreader.proofs.Keywords.{end_mark, proof_mark, mark_plain}
+use Rattle.mmreader.proofs.Leading.{home, some_more}
+use Rattle.mmreader.proofs.Ordinary.{statement_ordinary}
+use Rattle.mmreader.proofs.DatabaseLaws.{unit_leads, cond_fault, unit_ends}
+use Rattle.commands.specs.declared.command.Command.{Command}
+use Rattle.commands.specs.declared.command.Command.TheVariants as command
+use Rattle.commands.specs.Scripts.{IsRank, OtherSteps, DeclaresAlone, SpellsCommand, SpellsEach, SpellsTransaction}
+use Rattle.commands.specs.ScriptFaults.{CommandPlace, at_rank, in_unit, at_reproved, at_proof, in_proof, at_old_label, at_new_label}
+use Rattle.commands.specs.ScriptFaults.{at_moved, at_new_rank, at_deleted, at_shown, Place, outermost, at_command, within, Progress, Led}
+use Rattle.commands.specs.ScriptFaults.{inside, whole_command, bad, label_row, rank_row, unit_start, unit_led, unit_row, proof_start}
+use Rattle.commands.specs.ScriptFaults.{step_led, step_row, in_command, command_word, at, led, begin_row, command_row, in_place}
+use Rattle.commands.specs.ScriptFaults.{script_language}
+use Rattle.commands.specs.Scripts.{other_step_of}
+use Rattle.commands.proofs.ScriptRows.{Script, progress, rank_plain, StepPasses, step_passes, label_led, rank_led, step_end, step_plain}
 
-abbrev Script : Type 0
-Script = List (List Command)
+-- ---- the words are ordinary
 
-abbrev pub progress : Script → Place → Progress
-progress script place = record { script = script; place = place }
+plain_cons : (w : Word) (ws : List Word) → has_dollar w ≡ false → All IsOrdinary ws → All IsOrdinary (w ∷ ws)
+plain_cons w ws h rest = All-cons IsOrdinary w ws (plain_is_ordinary w h) rest
 
--- a script with one more transaction of one command
-abbrev with : Script → Command → Script
-with script command = script ++ (command ∷ []) ∷ []
+keywords : IsOrdinary (codes "$=") × IsOrdinary (codes "$.")
+unfolding mark_of
+keywords = (refl, refl)
 
--- ---- the words of a script are ordinary
+steps_ordinary : (t : Tables) (label : Word) (front : List Step) (ws : List Word) (steps : List Step) → OtherSteps t label front ws steps
+    → All IsOrdinary (ws ++ codes "$." ∷ [])
+steps_ordinary t label front [] steps d = All-cons IsOrdinary (codes "$.") [] keywords.1 (All-nil IsOrdinary)
+steps_ordinary t label front (w ∷ ws) steps d =
+    plain_cons w (ws ++ codes "$." ∷ []) (step_passes t label w (length front) d.0 d.1).plain
+    (steps_ordinary t label (front ++ d.0 ∷ []) ws steps d.2)
 
-abbrev PlainWord : Word → Type 0
-PlainWord w = has_dollar w ≡ false
+command_ordinary : (t : Tables) (c : Command) (ws : List Word) → SpellsCommand t c ws → All IsOrdinary ws
+command_ordinary t (command.Add rank a) ws d =
+    subst (All IsOrdinary) (sym d.4)
+    (plain_cons (codes "add") (d.0 ∷ spelling d.1) refl
+    (plain_cons d.0 (spelling d.1) (rank_plain d.0 rank d.2) (statement_ordinary (prelude_alone t) d.1 d.3.0 d.3.1)))
+command_ordinary t (command.Reprove label steps) ws d =
+    subst (All IsOrdinary) (sym d.4)
+    (plain_cons (codes "reprove") (label ∷ codes "$=" ∷ (d.0 ++ codes "$." ∷ [])) refl
+    (plain_cons label (codes "$=" ∷ (d.0 ++ codes "$." ∷ [])) d.1
+    (All-cons IsOrdinary (codes "$=") (d.0 ++ codes "$." ∷ []) keywords.0 (steps_ordinary t label [] d.0 steps d.3))))
+command_ordinary t (command.Rename old new) ws d =
+    subst (All IsOrdinary) (sym d.2)
+    (plain_cons (codes "rename") (old ∷ new ∷ []) refl (plain_cons old (new ∷ []) d.0 (plain_cons new [] d.1 (All-nil IsOrdinary))))
+command_ordinary t (command.Move label rank) ws d =
+    subst (All IsOrdinary) (sym d.3)
+    (plain_cons (codes "move") (label ∷ d.0 ∷ []) refl
+    (plain_cons label (d.0 ∷ []) d.1 (plain_cons d.0 [] (rank_plain d.0 rank d.2) (All-nil IsOrdinary))))
+command_ordinary t (command.Delete label) ws d =
+    subst (All IsOrdinary) (sym d.1) (plain_cons (codes "delete") (label ∷ []) refl (plain_cons label [] d.0 (All-nil IsOrdinary)))
+command_ordinary t (command.Show label) ws d =
+    subst (All IsOrdinary) (sym d.1) (plain_cons (codes "show") (label ∷ []) refl (plain_cons label [] d.0 (All-nil IsOrdinary)))
+command_ordinary t command.List ws d = subst (All IsOrdinary) (sym d) (plain_cons (codes "list") [] refl (All-nil IsOrdinary))
 
-command_ordinary : (command : Command) → HasPlainLabels command → All IsOrdinary (command_spelling command)
-command_ordinary (Rename old new) h =
-    All-cons IsOrdinary (codes "rename") (old ∷ new ∷ []) (plain_is_ordinary (codes "rename") refl)
-    (All-cons IsOrdinary old (new ∷ []) (plain_is_ordinary old (All-head PlainWord old (new ∷ []) h))
-    (All-cons IsOrdinary new [] (plain_is_ordinary new (All-head PlainWord new [] (All-tail PlainWord old (new ∷ []) h)))
-    (All-nil IsOrdinary)))
-command_ordinary (Show label) h =
-    All-cons IsOrdinary (codes "show") (label ∷ []) (plain_is_ordinary (codes "show") refl)
-    (All-cons IsOrdinary label [] (plain_is_ordinary label (All-head PlainWord label [] h)) (All-nil IsOrdinary))
+each_ordinary : {A : Type 0} (spells : A → List Word → Type 0) → ((x : A) (ws : List Word) → spells x ws → All IsOrdinary ws)
+    → (xs : List A) (ws : List Word) → SpellsEach spells xs ws → All IsOrdinary ws
+each_ordinary spells one [] ws d = subst (All IsOrdinary) (sym d) (All-nil IsOrdinary)
+each_ordinary spells one (x ∷ xs) ws d =
+    subst (All IsOrdinary) (sym d.2) (All-append IsOrdinary d.0 d.1 (one x d.0 d.3) (each_ordinary spells one xs d.1 d.4))
 
-commands_ordinary : (commands : List Command) → All HasPlainLabels commands → All IsOrdinary (flat_map command_spelling commands)
-commands_ordinary [] h = All-nil IsOrdinary
-commands_ordinary (c ∷ cs) h =
-    All-append IsOrdinary (command_spelling c) (flat_map command_spelling cs)
-    (command_ordinary c (All-head HasPlainLabels c cs h)) (commands_ordinary cs (All-tail HasPlainLabels c cs h))
+transaction_ordinary : (t : Tables) (commands : List Command) (ws : List Word) → SpellsTransaction t commands ws → All IsOrdinary ws
+transaction_ordinary t commands ws d =
+    subst (All IsOrdinary) (sym d.2)
+    (plain_cons (codes "begin") (d.0 ++ codes "commit" ∷ []) refl
+    (All-append IsOrdinary d.0 (codes "commit" ∷ []) (each_ordinary (SpellsCommand t) (command_ordinary t) commands d.0 d.1)
+    (plain_cons (codes "commit") [] refl (All-nil IsOrdinary))))
 
-pub script_ordinary : (script : Script) → All IsTransaction script → All IsOrdinary (flat_map spelling script)
-script_ordinary [] h = All-nil IsOrdinary
-script_ordinary (cs ∷ rest) h =
-    let transaction = All-head IsTransaction cs rest h in
-    All-append IsOrdinary (spelling cs) (flat_map spelling rest)
-    (All-cons IsOrdinary (codes "begin") (flat_map command_spelling cs ++ codes "commit" ∷ []) (plain_is_ordinary (codes "begin") refl)
-    (All-append IsOrdinary (flat_map command_spelling cs) (codes "commit" ∷ []) (commands_ordinary cs transaction.labels)
-    (All-cons IsOrdinary (codes "commit") [] (plain_is_ordinary (codes "commit") refl) (All-nil IsOrdinary))))
-    (script_ordinary rest (All-tail IsTransaction cs rest h))
+pub script_ordinary : (t : Tables) (script : Script) (ws : List Word) → SpellsEach (SpellsTransaction t) script ws → All IsOrdinary ws
+script_ordinary t script ws d = each_ordinary (SpellsTransaction t) (transaction_ordinary t) script ws d
 
--- ---- the words of a script lead through its rows
+-- ---- tokens of an assertion
 
--- one word, then the others
-takes : (p q : Progress) (w : Word) (ws : List Word) (ts : List Token) (final : Result Progress TextFault) → words_of ts ≡ w ∷ ws
-    → ((t : Token) → t.text ≡ w → in_place p.script p.place t ≡ Ok q)
-    → ((rest : List Token) → words_of rest ≡ ws → walk script_language q rest ≡ final) → walk script_language p ts ≡ final
-takes p q w ws [] final h row next = absurd cc
-takes p q w ws (t ∷ ts) final h row next =
-    let text_is : t.text ≡ w = cc in
-    let rest_is : words_of ts ≡ ws = cc in
-    walk_step script_language p q t ts (row t text_is) ∙ next ts rest_is
+-- tokens of which the first have these words, and the others those
+record Splits (us ws : List Word) (ts : List Token) : Type 0 where
+  kept : List Token
+  rest : List Token
+  whole : ts ≡ kept ++ rest
+  front : words_of kept ≡ us
+  back : words_of rest ≡ ws
 
--- each row at its word
-begins : (s : Script) (t : Token) → t.text ≡ codes "begin" → begin_row s t ≡ at s at_command
-begins s t e = ap (λ w. cond (bytes_eq w (codes "begin")) (at s at_command) (fault t BadToken)) e
+splits : (us ws : List Word) (ts : List Token) → words_of ts ≡ us ++ ws → Splits us ws ts
+splits [] ws ts h = record { kept = []; rest = ts; whole = refl; front = refl; back = h }
+splits (w ∷ us) ws [] h = absurd cc
+splits (w ∷ us) ws (t ∷ ts) h =
+    let first : t.text ≡ w = cc in
+    let r = splits us ws ts (let e : words_of ts ≡ us ++ ws = cc in e) in
+    record {
+      kept = t ∷ r.kept;
+      rest = r.rest;
+      whole = ap (λ x. t ∷ x) r.whole;
+      front = ap (λ x. x ∷ words_of r.kept) first ∙ ap (λ x. w ∷ x) r.front;
+      back = r.back;
+    }
 
--- the row of the command word, at a word
-abbrev command_row_at : Script → Token → Word → Result Progress TextFault
-command_row_at s t w =
-    cond (bytes_eq w (codes "rename")) (at s at_old_label)
-    (cond (bytes_eq w (codes "show")) (at s at_shown_label) (fault t BadToken))
+module _ (t : Tables) (s : Script) where
+  -- the tokens of an assertion lead behind it
+  unit_lead : (cs : List Command) (rank : ℕ) (a : Assertion) (p final : Position) (kept rest : List Token) → unit_at p.known p.place ≡ None
+      → unit_at final.known final.place ≡ Some a → walk (unit_language t) p kept ≡ Ok final
+      → walk (script_language t) (progress s (within cs (in_unit rank p))) (kept ++ rest)
+      ≡ walk (script_language t) (progress s (at_command (cs ++ command.Add rank a ∷ []))) rest
+  unit_lead cs rank a p final [] rest before said h =
+      absurd
+      (let same = walk_none (unit_language t) p final h in
+      let e : None ≡ Some a = sym before ∙ ap (λ (x : Position). unit_at x.known x.place) same ∙ said in
+      cc)
+  unit_lead cs rank a p final (u ∷ us) rest before said h =
+      let r = walk_cons (unit_language t) p final u us h in
+      let q = r.0 in
+      let is : row p u ≡ Ok q = (cond_fault (is_some (unit_at p.known p.place)) u (row p u) q r.1).1 in
+      go (λ x o walks. unit_lead cs rank a x final us rest o said walks) (unit_at q.known q.place) q refl is r.2
+    where
+      go : ((x : Position) → unit_at x.known x.place ≡ None → walk (unit_language t) x us ≡ Ok final
+          → walk (script_language t) (progress s (within cs (in_unit rank x))) (us ++ rest)
+          ≡ walk (script_language t) (progress s (at_command (cs ++ command.Add rank a ∷ []))) rest)
+          → (o : Option Assertion) (q : Position) → unit_at q.known q.place ≡ o → row p u ≡ Ok q → walk (unit_language t) q us ≡ Ok final
+          → walk (script_language t) (progress s (within cs (in_unit rank p))) ((u ∷ us) ++ rest)
+          ≡ walk (script_language t) (progress s (at_command (cs ++ command.Add rank a ∷ []))) rest
+      go again None q o is walks =
+          walk_step (script_language t) (progress s (within cs (in_unit rank p))) (progress s (within cs (in_unit rank q))) u (us ++ rest)
+          (ap (λ x. led s cs u (unit_row rank x)) is ∙ ap (λ x. led s cs u (unit_led rank q x)) o)
+          ∙ again q o walks
+      go again (Some b) q o is walks =
+          let ends = unit_ends t q final b us o walks in
+          let some_is : Some b ≡ Some a = sym o ∙ ap (λ (x : Position). unit_at x.known x.place) ends.1 ∙ said in
+          let same : b ≡ a = cc in
+          walk_step (script_language t) (progress s (within cs (in_unit rank p))) (progress s (at_command (cs ++ command.Add rank b ∷ [])))
+          u (us ++ rest) (ap (λ x. led s cs u (unit_row rank x)) is ∙ ap (λ x. led s cs u (unit_led rank q x)) o)
+          ∙ ap (λ x. walk (script_language t) (progress s (at_command (cs ++ command.Add rank b ∷ []))) (x ++ rest)) ends.0
+          ∙ ap (λ x. walk (script_language t) (progress s (at_command (cs ++ command.Add rank x ∷ []))) rest) same
 
-renames : (s : Script) (t : Token) → t.text ≡ codes "rename" → command_row s t ≡ at s at_old_label
-renames s t e = ap (command_row_at s t) e
+  -- ---- the words of a command lead through its rows
 
-shows : (s : Script) (t : Token) → t.text ≡ codes "show" → command_row s t ≡ at s at_shown_label
-shows s t e = ap (command_row_at s t) e
+  -- one word, then the others
+  takes : (p q : Place) (w : Word) (ws : List Word) (ts : List Token) (final : Result Progress TextFault) → words_of ts ≡ w ∷ ws
+      → ((u : Token) → u.text ≡ w → in_place t s p u ≡ at s q)
+      → ((rest : List Token) → words_of rest ≡ ws → walk (script_language t) (progress s q) rest ≡ final)
+      → walk (script_language t) (progress s p) ts ≡ final
+  takes p q w ws [] final h is next = absurd cc
+  takes p q w ws (u ∷ us) final h is next =
+      let text_is : u.text ≡ w = cc in
+      let rest_is : words_of us ≡ ws = cc in
+      walk_step (script_language t) (progress s p) (progress s q) u us (is u text_is) ∙ next us rest_is
 
-labels : (s : Script) (label : Word) (behind : Word → Place) (t : Token) → has_dollar label ≡ false → t.text ≡ label
-    → label_row s (label_in t) behind ≡ at s (behind label)
-labels s label behind t plain e =
-    ap (λ r. label_row s r behind)
-    (cond-false (has_dollar t.text) (fault t BadToken) (Ok t.text) (ap has_dollar e ∙ plain) ∙ ap (λ w. Ok w) e)
+  -- what follows a command
+  abbrev Goes : List Command → Command → List Word → Result Progress TextFault → Type 0
+  Goes cs c ws final = (rest : List Token) → words_of rest ≡ ws
+      → walk (script_language t) (progress s (at_command (cs ++ c ∷ []))) rest ≡ final
 
-commits : (s : Script) (command : Command) (t : Token) → t.text ≡ codes "commit" → commit_row s command t ≡ at (with s command) outermost
-commits s command t e = ap (λ w. cond (bytes_eq w (codes "commit")) (at (with s command) outermost) (fault t BadToken)) e
+  -- the row of a command word, at a word
+  abbrev word_row : List Command → Token → Word → Result Progress TextFault
+  word_row cs u w =
+      cond (bytes_eq w (codes "commit")) (at (s ++ cs ∷ []) outermost) (led s cs u (command_word w))
 
--- a command and commit
-command_leads : (s : Script) (command : Command) (ws : List Word) (ts : List Token) (final : Result Progress TextFault)
-    → HasPlainLabels command → words_of ts ≡ command_spelling command ++ codes "commit" ∷ ws
-    → ((rest : List Token) → words_of rest ≡ ws → walk script_language (progress (with s command) outermost) rest ≡ final)
-    → walk script_language (progress s at_command) ts ≡ final
-command_leads s (Rename old new) ws ts final plain h next =
-    takes (progress s at_command) (progress s at_old_label) (codes "rename") (old ∷ new ∷ codes "commit" ∷ ws) ts final h (renames s)
-    (λ ts1 h1.
-    takes (progress s at_old_label) (progress s (at_new_label old)) old (new ∷ codes "commit" ∷ ws) ts1 final h1
-    (λ t. labels s old (λ x. at_new_label x) t (All-head PlainWord old (new ∷ []) plain)) (λ ts2 h2.
-    takes (progress s (at_new_label old)) (progress s (at_commit (Rename old new))) new (codes "commit" ∷ ws) ts2 final h2
-    (λ t. labels s new (λ x. at_commit (Rename old x)) t (All-head PlainWord new [] (All-tail PlainWord old (new ∷ []) plain)))
-    (λ ts3 h3.
-    takes (progress s (at_commit (Rename old new))) (progress (with s (Rename old new)) outermost) (codes "commit") ws ts3 final h3
-    (commits s (Rename old new)) next)))
-command_leads s (Show label) ws ts final plain h next =
-    takes (progress s at_command) (progress s at_shown_label) (codes "show") (label ∷ codes "commit" ∷ ws) ts final h (shows s) (λ ts1 h1.
-    takes (progress s at_shown_label) (progress s (at_commit (Show label))) label (codes "commit" ∷ ws) ts1 final h1
-    (λ t. labels s label (λ x. at_commit (Show x)) t (All-head PlainWord label [] plain)) (λ ts2 h2.
-    takes (progress s (at_commit (Show label))) (progress (with s (Show label)) outermost) (codes "commit") ws ts2 final h2
-    (commits s (Show label)) next))
+  labels : (cs : List Command) (p : CommandPlace) (behind : Word → Led) (w : Word) (u : Token)
+      → in_command t p u ≡ label_row u behind → has_dollar w ≡ false → u.text ≡ w → in_place t s (within cs p) u ≡ led s cs u (behind w)
+  labels cs p behind w u is plain e = ap (led s cs u) (is ∙ label_led u w behind plain e)
 
--- the command of a transaction
-one_command : (commands : List Command) → length commands ≡ 1 → (c : Command) × (commands ≡ c ∷ [])
-one_command [] h = absurd (omega arith)
-one_command (c ∷ []) h = (c, refl)
-one_command (c ∷ d ∷ cs) h = absurd (omega arith)
+  ranks : (cs : List Command) (p : CommandPlace) (behind : ℕ → Led) (w : Word) (rank : ℕ) (u : Token)
+      → in_command t p u ≡ rank_row u behind → IsRank w rank → u.text ≡ w → in_place t s (within cs p) u ≡ led s cs u (behind rank)
+  ranks cs p behind w rank u is r e = ap (led s cs u) (is ∙ rank_led u w rank behind r e)
 
-transaction_words : (c : Command) (ws : List Word) → spelling (c ∷ []) ++ ws ≡ codes "begin" ∷ (command_spelling c ++ codes "commit" ∷ ws)
-transaction_words (Rename old new) ws = refl
-transaction_words (Show label) ws = refl
+  steps_lead : (cs : List Command) (label : Word) (front : List Step) (ws : List Word) (steps : List Step) (ts : List Token)
+      (more : List Word) (final : Result Progress TextFault) → OtherSteps t label front ws steps → (front ≢ []) ⊎ (ws ≢ [])
+      → words_of ts ≡ ws ++ codes "$." ∷ more → Goes cs (command.Reprove label steps) more final
+      → walk (script_language t) (progress s (within cs (in_proof label front))) ts ≡ final
+  steps_lead cs label front [] steps ts more final d n h next =
+      let some : front ≢ [] = elim n [ inl y ↦ y | inr f ↦ absurd (f refl) ] in
+      takes (within cs (in_proof label front)) (at_command (cs ++ command.Reprove label front ∷ [])) (codes "$.") more ts final h
+      (λ u e. ap (λ m. led s cs u (step_row t label front u m)) (ap mark_of e ∙ end_mark) ∙ ap (led s cs u) (step_end t label front u some))
+      (λ rest o. ap (λ x. walk (script_language t) (progress s (at_command (cs ++ command.Reprove label x ∷ []))) rest) d ∙ next rest o)
+  steps_lead cs label front (w ∷ ws) steps ts more final d n h next =
+      takes (within cs (in_proof label front)) (within cs (in_proof label (front ++ d.0 ∷ []))) w (ws ++ codes "$." ∷ more) ts final h
+      (λ u e.
+      let read : other_step_of t label (length front) u.text ≡ Ok d.0 = ap (other_step_of t label (length front)) e ∙ d.1 in
+      let plain = (step_passes t label u.text (length front) d.0 read).plain in
+      ap (λ m. led s cs u (step_row t label front u m)) (mark_plain u.text plain) ∙ ap (led s cs u) (step_plain t label front u)
+      ∙ ap (λ x. led s cs u (step_led label front x)) read)
+      (λ rest o. steps_lead cs label (front ++ d.0 ∷ []) ws steps rest more final d.2 (inl (some_more front d.0)) o next)
 
--- the words of transactions lead behind them
-pub script_leads : (done todo : Script) (ts : List Token) → All IsTransaction todo → words_of ts ≡ flat_map spelling todo
-    → walk script_language (progress done outermost) ts ≡ Ok (progress (done ++ todo) outermost)
-script_leads done [] [] h e =
-    walk_ends script_language (progress done outermost) ∙ ap (λ s. Ok (progress s outermost)) (sym (append-nil done))
-script_leads done [] (t ∷ ts) h e = absurd cc
-script_leads done (cs ∷ todo) ts h e =
-    let transaction = All-head IsTransaction cs todo h in
-    let one = one_command cs transaction.single in
-    let c : Command = one.0 in
-    let each : All HasPlainLabels (c ∷ []) = subst (λ xs. All HasPlainLabels xs) one.1 transaction.labels in
-    let words : words_of ts ≡ codes "begin" ∷ (command_spelling c ++ codes "commit" ∷ flat_map spelling todo) =
-    e ∙ ap (λ xs. spelling xs ++ flat_map spelling todo) one.1 ∙ transaction_words c (flat_map spelling todo) in
-    takes (progress done outermost) (progress done at_command) (codes "begin")
-    (command_spelling c ++ codes "commit" ∷ flat_map spelling todo) ts _ words (begins done) (λ ts1 h1.
-    command_leads done c (flat_map spelling todo) ts1 _ (All-head HasPlainLabels c [] each) h1 (λ rest h2.
-    script_leads (with done c) todo rest (All-tail IsTransaction cs todo h) h2
-    ∙ ap (λ s. Ok (progress s outermost)) (append_assoc done ((c ∷ []) ∷ []) todo ∙ ap (λ xs. done ++ xs ∷ todo) (sym one.1))))
+  command_leads : (cs : List Command) (c : Command) (us ws : List Word) (ts : List Token) (final : Result Progress TextFault)
+      → SpellsCommand t c us → words_of ts ≡ us ++ ws → Goes cs c ws final
+      → walk (script_language t) (progress s (at_command cs)) ts ≡ final
+  command_leads cs (command.Add rank a) us ws ts final d h next =
+      takes (at_command cs) (within cs at_rank) (codes "add") (d.0 ∷ (spelling d.1 ++ ws)) ts final (h ∙ ap (λ x. x ++ ws) d.4)
+      (λ u e. ap (word_row cs u) e) (λ ts1 h1.
+      takes (within cs at_rank) (within cs (in_unit rank (unit_start t))) d.0 (spelling d.1 ++ ws) ts1 final h1
+      (λ u e. ranks cs at_rank (λ n. inside (in_unit n (unit_start t))) d.0 rank u refl d.2 e) (λ ts2 h2.
+      let x = splits (spelling d.1) ws ts2 h2 in
+      let walks = unit_leads t d.1 d.3.0 x.kept d.3.1 x.front in
+      ap (walk (script_language t) (progress s (within cs (in_unit rank (unit_start t))))) x.whole
+      ∙ unit_lead cs rank a (unit_start t) (home d.3.0) x.kept x.rest refl (ap first_of d.3.2) walks ∙ next x.rest x.back))
+  command_leads cs (command.Reprove label steps) us ws ts final d h next =
+      let same : us ++ ws ≡ codes "reprove" ∷ label ∷ codes "$=" ∷ (d.0 ++ codes "$." ∷ ws) = ap (λ x. x ++ ws) d.4
+      ∙ ap (λ x. codes "reprove" ∷ label ∷ codes "$=" ∷ x) (append_assoc d.0 (codes "$." ∷ []) ws) in
+      takes (at_command cs) (within cs at_reproved) (codes "reprove") _ ts final (h ∙ same) (λ u e. ap (word_row cs u) e) (λ ts1 h1.
+      takes (within cs at_reproved) (within cs (at_proof label)) label _ ts1 final h1
+      (λ u e. labels cs at_reproved (λ x. inside (at_proof x)) label u refl d.1 e) (λ ts2 h2.
+      takes (within cs (at_proof label)) (within cs (in_proof label [])) (codes "$=") _ ts2 final h2
+      (λ u e. ap (λ m. led s cs u (proof_start label m)) (ap mark_of e ∙ proof_mark)) (λ ts3 h3.
+      steps_lead cs label [] d.0 steps ts3 ws final d.3 (inr d.2) h3 next)))
+  command_leads cs (command.Rename old new) us ws ts final d h next =
+      takes (at_command cs) (within cs at_old_label) (codes "rename") (old ∷ new ∷ ws) ts final (h ∙ ap (λ x. x ++ ws) d.2)
+      (λ u e. ap (word_row cs u) e) (λ ts1 h1.
+      takes (within cs at_old_label) (within cs (at_new_label old)) old (new ∷ ws) ts1 final h1
+      (λ u e. labels cs at_old_label (λ x. inside (at_new_label x)) old u refl d.0 e) (λ ts2 h2.
+      takes (within cs (at_new_label old)) (at_command (cs ++ command.Rename old new ∷ [])) new ws ts2 final h2
+      (λ u e. labels cs (at_new_label old) (λ x. whole_command (command.Rename old x)) new u refl d.1 e) next))
+  command_leads cs (command.Move label rank) us ws ts final d h next =
+      takes (at_command cs) (within cs at_moved) (codes "move") (label ∷ d.0 ∷ ws) ts final (h ∙ ap (λ x. x ++ ws) d.3)
+      (λ u e. ap (word_row cs u) e) (λ ts1 h1.
+      takes (within cs at_moved) (within cs (at_new_rank label)) label (d.0 ∷ ws) ts1 final h1
+      (λ u e. labels cs at_moved (λ x. inside (at_new_rank x)) label u refl d.1 e) (λ ts2 h2.
+      takes (within cs (at_new_rank label)) (at_command (cs ++ command.Move label rank ∷ [])) d.0 ws ts2 final h2
+      (λ u e. ranks cs (at_new_rank label) (λ n. whole_command (command.Move label n)) d.0 rank u refl d.2 e) next))
+  command_leads cs (command.Delete label) us ws ts final d h next =
+      takes (at_command cs) (within cs at_deleted) (codes "delete") (label ∷ ws) ts final (h ∙ ap (λ x. x ++ ws) d.1)
+      (λ u e. ap (word_row cs u) e) (λ ts1 h1.
+      takes (within cs at_deleted) (at_command (cs ++ command.Delete label ∷ [])) label ws ts1 final h1
+      (λ u e. labels cs at_deleted (λ x. whole_command (command.Delete x)) label u refl d.0 e) next)
+  command_leads cs (command.Show label) us ws ts final d h next =
+      takes (at_command cs) (within cs at_shown) (codes "show") (label ∷ ws) ts final (h ∙ ap (λ x. x ++ ws) d.1)
+      (λ u e. ap (word_row cs u) e) (λ ts1 h1.
+      takes (within cs at_shown) (at_command (cs ++ command.Show label ∷ [])) label ws ts1 final h1
+      (λ u e. labels cs at_shown (λ x. whole_command (command.Show x)) label u refl d.0 e) next)
+  command_leads cs command.List us ws ts final d h next =
+      takes (at_command cs) (at_command (cs ++ command.List ∷ [])) (codes "list") ws ts final (h ∙ ap (λ x. x ++ ws) d)
+      (λ u e. ap (word_row cs u) e) next
 
--- ---- words that lead through the rows are those of a script
+  commands_lead : (cs commands : List Command) (us ws : List Word) (ts : List Token) (final : Result Progress TextFault)
+      → SpellsEach (SpellsCommand t) commands us → words_of ts ≡ us ++ ws
+      → ((rest : List Token) → words_of rest ≡ ws → walk (script_language t) (progress s (at_command (cs ++ commands))) rest ≡ final)
+      → walk (script_language t) (progress s (at_command cs)) ts ≡ final
+  commands_lead cs [] us ws ts final d h next =
+      ap (λ x. walk (script_language t) (progress s (at_command x)) ts) (sym (append-nil cs)) ∙ next ts (h ∙ ap (λ x. x ++ ws) d)
+  commands_lead cs (c ∷ commands) us ws ts final d h next =
+      command_leads cs c d.0 (d.1 ++ ws) ts final d.3 (h ∙ ap (λ x. x ++ ws) d.2 ∙ append_assoc d.0 d.1 ws) (λ rest o.
+      commands_lead (cs ++ c ∷ []) commands d.1 ws rest final d.4 o (λ last e.
+      ap (λ x. walk (script_language t) (progress s (at_command x)) last) (append_assoc cs (c ∷ []) commands) ∙ next last e))
 
-cond_ok : (b : Bool) (t : Token) (r : Result Progress TextFault) (q : Progress) → cond b r (fault t BadToken) ≡ Ok q
-    → (b ≡ true) × (r ≡ Ok q)
-cond_ok true t r q h = (refl, h)
-cond_ok false t r q h = absurd cc
+-- ---- the words of transactions lead behind them
 
--- each row, where it doesn't fail
-begun : (s : Script) (t : Token) (q : Progress) → begin_row s t ≡ Ok q → (t.text ≡ codes "begin") × (progress s at_command ≡ q)
-begun s t q h =
-    let c = cond_ok (bytes_eq t.text (codes "begin")) t (at s at_command) q h in
-    let e : at s at_command ≡ Ok q = c.1 in
-    (same_word t.text (codes "begin") c.0, cc)
+begins : (s : Script) (u : Token) → u.text ≡ codes "begin" → begin_row s u ≡ at s (at_command [])
+begins s u e = ap (λ w. cond (bytes_eq w (codes "begin")) (at s (at_command [])) (fault u BadToken)) e
 
-commanded : (s : Script) (t : Token) (q : Progress) → command_row s t ≡ Ok q
-    → ((t.text ≡ codes "rename") × (progress s at_old_label ≡ q)) ⊎ ((t.text ≡ codes "show") × (progress s at_shown_label ≡ q))
-commanded s t q h = go (bytes_eq t.text (codes "rename")) refl h
+commits : (s : Script) (cs : List Command) (u : Token) → u.text ≡ codes "commit" → command_row s cs u ≡ at (s ++ cs ∷ []) outermost
+commits s cs u e =
+    ap (λ w. cond (bytes_eq w (codes "commit")) (at (s ++ cs ∷ []) outermost) (led s cs u (command_word w))) e
+
+pub script_leads : (t : Tables) (done todo : Script) (ws : List Word) (ts : List Token) → SpellsEach (SpellsTransaction t) todo ws
+    → words_of ts ≡ ws → walk (script_language t) (progress done outermost) ts ≡ Ok (progress (done ++ todo) outermost)
+script_leads t done [] ws [] d e =
+    walk_ends (script_language t) (progress done outermost) ∙ ap (λ s. Ok (progress s outermost)) (sym (append-nil done))
+script_leads t done [] ws (u ∷ us) d e = absurd (let x : words_of (u ∷ us) ≡ [] = e ∙ d in cc)
+script_leads t done (cs ∷ todo) ws ts d e =
+    let inner = d.3.0 in
+    let words : words_of ts ≡ codes "begin" ∷ (inner ++ codes "commit" ∷ d.1) = e ∙ d.2 ∙ ap (λ x. x ++ d.1) d.3.2
+    ∙ ap (λ x. codes "begin" ∷ x) (append_assoc inner (codes "commit" ∷ []) d.1) in
+    takes t done outermost (at_command []) (codes "begin") (inner ++ codes "commit" ∷ d.1) ts _ words (begins done) (λ ts1 h1.
+    commands_lead t done [] cs inner (codes "commit" ∷ d.1) ts1 _ d.3.1 h1 (λ ts2 h2.
+    last (λ us o. script_leads t (done ++ cs ∷ []) todo d.1 us d.4 o) ts2 h2))
   where
-    go : (b : Bool) → bytes_eq t.text (codes "rename") ≡ b
-        → cond b (at s at_old_label) (cond (bytes_eq t.text (codes "show")) (at s at_shown_label) (fault t BadToken)) ≡ Ok q
-        → ((t.text ≡ codes "rename") × (progress s at_old_label ≡ q)) ⊎ ((t.text ≡ codes "show") × (progress s at_shown_label ≡ q))
-    go true y g = inl (same_word t.text (codes "rename") y, cc)
-    go false n g =
-        let c = cond_ok (bytes_eq t.text (codes "show")) t (at s at_shown_label) q g in
-        let e : at s at_shown_label ≡ Ok q = c.1 in
-        inr (same_word t.text (codes "show") c.0, cc)
-
-labelled : (s : Script) (t : Token) (behind : Word → Place) (q : Progress) → label_row s (label_in t) behind ≡ Ok q
-    → (has_dollar t.text ≡ false) × (progress s (behind t.text) ≡ q)
-labelled s t behind q h = go (has_dollar t.text) refl h
-  where
-    go : (b : Bool) → has_dollar t.text ≡ b → label_row s (cond b (fault t BadToken) (Ok t.text)) behind ≡ Ok q
-        → (has_dollar t.text ≡ false) × (progress s (behind t.text) ≡ q)
-    go true y g = absurd cc
-    go false n g = (n, cc)
-
-committed : (s : Script) (command : Command) (t : Token) (q : Progress) → commit_row s command t ≡ Ok q
-    → (t.text ≡ codes "commit") × (progress (with s command) outermost ≡ q)
-committed s command t q h =
-    let c = cond_ok (bytes_eq t.text (codes "commit")) t (at (with s command) outermost) q h in
-    let e : at (with s command) outermost ≡ Ok q = c.1 in
-    (same_word t.text (codes "commit") c.0, cc)
-
--- a walk doesn't end inside of a transaction
-inside : (s : Script) (place : Place) (final : Progress) → place ≢ outermost → final.place ≡ outermost
-    → walk script_language (progress s place) [] ≡ Ok final → ⊥
-inside s place final n e h = n (ap (λ (p : Progress). p.place) (walk_none script_language (progress s place) final h) ∙ e)
-
--- a label, and a walk from behind it
-record ReadsLabel (s : Script) (behind : Word → Place) (ts : List Token) (final : Progress) : Type 0 where
-  label : Word
-  rest : List Token
-  parts : words_of ts ≡ label ∷ words_of rest
-  plain : has_dollar label ≡ false
-  walks : walk script_language (progress s (behind label)) rest ≡ Ok final
-  shorter : length rest < length ts
-
-reads_label : (s : Script) (place : Place) (behind : Word → Place) (ts : List Token) (final : Progress)
-    → ((t : Token) → in_place s place t ≡ label_row s (label_in t) behind)
-    → place ≢ outermost → final.place ≡ outermost → walk script_language (progress s place) ts ≡ Ok final → ReadsLabel s behind ts final
-reads_label s place behind [] final row n e h = absurd (inside s place final n e h)
-reads_label s place behind (t ∷ ts) final row n e h =
-    let r = walk_cons script_language (progress s place) final t ts h in
-    let l = labelled s t behind r.0 (sym (row t) ∙ r.1) in
-    record {
-      label = t.text;
-      rest = ts;
-      parts = refl;
-      plain = l.0;
-      walks = subst (λ q. walk script_language q ts ≡ Ok final) (sym l.1) r.2;
-      shorter = omega arith;
-    }
-
--- a command and commit, and a walk from behind them
-record ReadsCommand (s : Script) (ts : List Token) (final : Progress) : Type 0 where
-  command : Command
-  rest : List Token
-  parts : words_of ts ≡ command_spelling command ++ codes "commit" ∷ words_of rest
-  plain : HasPlainLabels command
-  walks : walk script_language (progress (with s command) outermost) rest ≡ Ok final
-  shorter : length rest < length ts
-
-record ReadsCommit (s : Script) (command : Command) (ts : List Token) (final : Progress) : Type 0 where
-  rest : List Token
-  parts : words_of ts ≡ codes "commit" ∷ words_of rest
-  walks : walk script_language (progress (with s command) outermost) rest ≡ Ok final
-  shorter : length rest < length ts
-
-reads_commit : (s : Script) (command : Command) (ts : List Token) (final : Progress) → final.place ≡ outermost
-    → walk script_language (progress s (at_commit command)) ts ≡ Ok final → ReadsCommit s command ts final
-reads_commit s command [] final e h = absurd (inside s (at_commit command) final (λ x. absurd cc) e h)
-reads_commit s command (t ∷ ts) final e h =
-    let r = walk_cons script_language (progress s (at_commit command)) final t ts h in
-    let c = committed s command t r.0 r.1 in
-    record {
-      rest = ts;
-      parts = ap (λ w. w ∷ words_of ts) c.0;
-      walks = subst (λ q. walk script_language q ts ≡ Ok final) (sym c.1) r.2;
-      shorter = omega arith;
-    }
-
-reads_rename : (s : Script) (t : Token) (ts : List Token) (final : Progress) → final.place ≡ outermost → t.text ≡ codes "rename"
-    → walk script_language (progress s at_old_label) ts ≡ Ok final → ReadsCommand s (t ∷ ts) final
-reads_rename s t ts final e is h =
-    let a = reads_label s at_old_label (λ x. at_new_label x) ts final (λ u. refl) (λ x. absurd cc) e h in
-    let b = reads_label s (at_new_label a.label) (λ x. at_commit (Rename a.label x)) a.rest final (λ u. refl) (λ x. absurd cc) e a.walks in
-    let d = reads_commit s (Rename a.label b.label) b.rest final e b.walks in
-    let behind_old : words_of a.rest ≡ b.label ∷ codes "commit" ∷ words_of d.rest = b.parts ∙ ap (λ ws. b.label ∷ ws) d.parts in
-    let behind_word : words_of ts ≡ a.label ∷ b.label ∷ codes "commit" ∷ words_of d.rest = a.parts ∙ ap (λ ws. a.label ∷ ws) behind_old in
-    let first : words_of (t ∷ ts) ≡ codes "rename" ∷ words_of ts = ap (λ w. w ∷ words_of ts) is in
-    record {
-      command = Rename a.label b.label;
-      rest = d.rest;
-      parts = first ∙ ap (λ ws. codes "rename" ∷ ws) behind_word;
-      plain = All-cons PlainWord a.label (b.label ∷ []) a.plain (All-cons PlainWord b.label [] b.plain (All-nil PlainWord));
-      walks = d.walks;
-      shorter =
-          let x : length a.rest < length ts = a.shorter in
-          let y : length b.rest < length a.rest = b.shorter in
-          let z : length d.rest < length b.rest = d.shorter in
-          omega arith;
-    }
-
-reads_show : (s : Script) (t : Token) (ts : List Token) (final : Progress) → final.place ≡ outermost → t.text ≡ codes "show"
-    → walk script_language (progress s at_shown_label) ts ≡ Ok final → ReadsCommand s (t ∷ ts) final
-reads_show s t ts final e is h =
-    let a = reads_label s at_shown_label (λ x. at_commit (Show x)) ts final (λ u. refl) (λ x. absurd cc) e h in
-    let d = reads_commit s (Show a.label) a.rest final e a.walks in
-    let behind_word : words_of ts ≡ a.label ∷ codes "commit" ∷ words_of d.rest = a.parts ∙ ap (λ ws. a.label ∷ ws) d.parts in
-    let first : words_of (t ∷ ts) ≡ codes "show" ∷ words_of ts = ap (λ w. w ∷ words_of ts) is in
-    record {
-      command = Show a.label;
-      rest = d.rest;
-      parts = first ∙ ap (λ ws. codes "show" ∷ ws) behind_word;
-      plain = All-cons PlainWord a.label [] a.plain (All-nil PlainWord);
-      walks = d.walks;
-      shorter = let x : length a.rest < length ts = a.shorter in let z : length d.rest < length a.rest = d.shorter in omega arith;
-    }
-
-reads_command : (s : Script) (ts : List Token) (final : Progress) → final.place ≡ outermost
-    → walk script_language (progress s at_command) ts ≡ Ok final → ReadsCommand s ts final
-reads_command s [] final e h = absurd (inside s at_command final (λ x. absurd cc) e h)
-reads_command s (t ∷ ts) final e h =
-    let r = walk_cons script_language (progress s at_command) final t ts h in
-    elim (commanded s t r.0 r.1) [
-      | inl c ↦ reads_rename s t ts final e c.0 (subst (λ q. walk script_language q ts ≡ Ok final) (sym c.1) r.2)
-      | inr c ↦ reads_show s t ts final e c.0 (subst (λ q. walk script_language q ts ≡ Ok final) (sym c.1) r.2)
-    ]
-
--- the transactions of which these are the words, behind those of s
-pub record ReadsTransactions (s : Script) (ts : List Token) (final : Progress) : Type 0 where
-  pub script : Script
-  pub parts : words_of ts ≡ flat_map spelling script
-  pub transactions : All IsTransaction script
-  pub whole : final.script ≡ s ++ script
-
-pub reads_script : (fuel : ℕ) (s : Script) (ts : List Token) (final : Progress) → length ts < fuel → final.place ≡ outermost
-    → walk script_language (progress s outermost) ts ≡ Ok final → ReadsTransactions s ts final
-reads_script zero s ts final lt e h = absurd (omega arith)
-reads_script (suc fuel) s [] final lt e h =
-    record {
-      script = [];
-      parts = refl;
-      transactions = All-nil IsTransaction;
-      whole = sym (ap (λ (p : Progress). p.script) (walk_none script_language (progress s outermost) final h)) ∙ sym (append-nil s);
-    }
-reads_script (suc fuel) s (t ∷ ts) final lt e h =
-    let r = walk_cons script_language (progress s outermost) final t ts h in
-    let b = begun s t r.0 r.1 in
-    let c = reads_command s ts final e (subst (λ q. walk script_language q ts ≡ Ok final) (sym b.1) r.2) in
-    let less : length c.rest < length ts = c.shorter in
-    let others = reads_script fuel (with s c.command) c.rest final (omega arith) e c.walks in
-    let first : words_of (t ∷ ts) ≡ codes "begin" ∷ words_of ts = ap (λ w. w ∷ words_of ts) b.0 in
-    let behind : words_of ts ≡ command_spelling c.command ++ codes "commit" ∷ flat_map spelling others.script = c.parts ∙ ap
-    (λ ws. command_spelling c.command ++ codes "commit" ∷ ws) others.parts in
-    record {
-      script = (c.command ∷ []) ∷ others.script;
-      parts = first ∙ ap (λ ws. codes "begin" ∷ ws) behind ∙ sym (transaction_words c.command (flat_map spelling others.script));
-      transactions =
-          All-cons IsTransaction (c.command ∷ []) others.script
-          (record { single = refl; labels = All-cons HasPlainLabels c.command [] c.plain (All-nil HasPlainLabels) })
-          others.transactions;
-      whole = others.whole ∙ append_assoc s ((c.command ∷ []) ∷ []) others.script;
-    }
+    last : ((us : List Token) → words_of us ≡ d.1
+        → walk (script_language t) (progress (done ++ cs ∷ []) outermost) us ≡ Ok (progress ((done ++ cs ∷ []) ++ todo) outermost))
+        → (ts2 : List Token) → words_of ts2 ≡ codes "commit" ∷ d.1
+        → walk (script_language t) (progress done (at_command cs)) ts2 ≡ Ok (progress (done ++ cs ∷ todo) outermost)
+    last again [] h = absurd cc
+    last again (u ∷ us) h =
+        let text_is : u.text ≡ codes "commit" = cc in
+        let rest_is : words_of us ≡ d.1 = cc in
+        walk_step (script_language t) (progress done (at_command cs)) (progress (done ++ cs ∷ []) outermost) u us
+        (commits done cs u text_is)
+        ∙ again us rest_is
+        ∙ ap (λ x. Ok (progress x outermost)) (append_assoc done (cs ∷ []) todo)

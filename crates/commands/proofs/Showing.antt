@@ -1,5 +1,5 @@
 -- A library and the database that it shows: a library verifies in any order, and where its database is declarable and its proofs check.
-use Rattle.std.proofs.Common.{◌≡◌, ◌≤◌, ℕ, Bool, true, false, List, [], ◌∷◌, Option, Some, None, length, get_or, map, refl, sym, ap}
+use Rattle.std.proofs.Common.{◌≡◌, ◌≤◌, ℕ, Bool, true, false, List, [], Option, Some, None, length, get_or, map, refl, sym}
 use Rattle.std.proofs.Common.{subst, arith}
 use Rattle.std.specs.Prelude.{IsTrue, ◌&&◌, is_some, nat_le}
 use mathlib.Core.Bool.{not}
@@ -26,7 +26,7 @@ use Rattle.commands.specs.Laws.{LibrariesAreSpelled}
 use Rattle.commands.proofs.Derivations.{Within, NamesOne, checks_within, steps_named, steps_some}
 use Rattle.commands.proofs.Frames.{frame_found, frames_within}
 use Rattle.commands.proofs.Labels.{distinct_permutation}
-use Rattle.commands.proofs.Lower.{lower_all, lower_has, lower_distinct}
+use Rattle.commands.proofs.Lower.{lower_all, lower_has, lower_distinct, labels-assertions}
 
 abbrev pub InRange : Ranked → Type 0
 InRange e = (1 ≤ e.rank) × (e.rank ≤ 4294967295)
@@ -110,10 +110,6 @@ units_of s lib v = λ i d lt.
       some_steps = λ theorem. steps_some (citable s lib e.rank) s.prelude a a.proof a.statement (v.checks i d lt theorem);
       steps = steps_nameable s lib e a.kind refl v.library (v.fit i d lt) (v.checks i d lt);
     }
-
-pub labels-assertions : (lib : List Ranked) → map (λ a. a.label) (map (λ e. e.assertion) lib) ≡ map label_of lib
-labels-assertions [] = refl
-labels-assertions (e ∷ lib) = ap (λ ls. label_of e ∷ ls) (labels-assertions lib)
 
 pub shown_declarable : (l : Listed) → Verifies l.setting l.entries → IsDeclarable l.setting.prelude (map (λ e. e.assertion) l.entries)
 shown_declarable l v =

@@ -1,5 +1,5 @@
 -- What is true of every opening, edit, transaction and export.
-use Rattle.std.specs.Prelude.{◌≡◌, List, map, Ok}
+use Rattle.std.specs.Prelude.{◌≡◌, ◌≤◌, ℕ, List, All, length, map, Ok}
 use Rattle.std.specs.Str.{bytes_eq}
 use Rattle.mmsyntax.specs.Tables.{Contents}
 use Rattle.mmsyntax.specs.Layout.{HasSpelling}
@@ -7,21 +7,30 @@ use Rattle.mmsyntax.specs.Assertions.{Distinct}
 use Rattle.proofcheck.specs.Databases.{AllCheck}
 use Rattle.commands.specs.declared.library.Ranked.{Ranked}
 use Rattle.commands.specs.declared.command.Command.{Command}
-use Rattle.commands.specs.Library.{Setting, Verifies, label_of, setting_of, opening, IsInExportOrder, ShowsInOrder, Listed, shown_database}
+use Rattle.commands.specs.Library.{Setting, Verifies, label_of, opening, IsInExportOrder, ShowsInOrder, in_export_order}
+use Rattle.commands.specs.Library.{Listed, shown_database}
+use Rattle.commands.specs.Fitting.{CommandFits}
 use Rattle.commands.specs.Edits.{Edited, edit}
 use Rattle.commands.specs.Transactions.{apply, library_of}
 
--- the opening library of what some text declares verifies, where each proof checks over the earlier assertions
+-- the opening library of what some text declares verifies where each proof checks over the earlier assertions, with as many slots as one
+-- likes, from 1 to 4,096, if there is room
 abbrev pub OpeningsVerify : Type 0
-OpeningsVerify = (db : Contents) → HasSpelling db → AllCheck db → Verifies (setting_of db) (opening db)
+OpeningsVerify =
+    (db : Contents) (slots : ℕ) → HasSpelling db → AllCheck db → 1 ≤ slots → slots ≤ 4096 → length db.assertions ≤ slots
+    → Verifies (record { prelude = db.prelude; slots = slots }) (opening db)
 
--- a command that is not refused leaves a library that verifies
+-- a command within the limits that is not refused leaves a library that verifies
 abbrev pub EditsVerify : Type 0
-EditsVerify = (s : Setting) (lib : List Ranked) (c : Command) (e : Edited) → Verifies s lib → edit s lib c ≡ Ok e → Verifies s e.library
+EditsVerify =
+    (s : Setting) (lib : List Ranked) (c : Command) (e : Edited) → Verifies s lib → CommandFits s.prelude c → edit s lib c ≡ Ok e
+    → Verifies s e.library
 
 -- so does a transaction, refused or not
 abbrev pub TransactionsVerify : Type 0
-TransactionsVerify = (s : Setting) (lib : List Ranked) (cs : List Command) → Verifies s lib → Verifies s (library_of lib (apply s lib cs))
+TransactionsVerify =
+    (s : Setting) (lib : List Ranked) (cs : List Command) → Verifies s lib → All (CommandFits s.prelude) cs
+    → Verifies s (library_of lib (apply s lib cs))
 
 -- a library that verifies, in whatever order, is spelled as a database
 abbrev pub LibrariesAreSpelled : Type 0
@@ -30,6 +39,10 @@ LibrariesAreSpelled = (l : Listed) → Verifies l.setting l.entries → HasSpell
 -- in export order, each proof of a library that verifies checks over the earlier assertions
 abbrev pub ShownLibrariesCheck : Type 0
 ShownLibrariesCheck = (l : Listed) → Verifies l.setting l.entries → IsInExportOrder l.entries → AllCheck (shown_database l)
+
+-- a library is shown in export order
+abbrev pub LibrariesAreShown : Type 0
+LibrariesAreShown = (lib : List Ranked) → ShowsInOrder lib (in_export_order lib)
 
 -- assertions of different labels have one export order
 abbrev pub ExportOrderIsOne : Type 0

@@ -1,8 +1,8 @@
 -- A library: what is kept, when it is sound, where it starts, and in which order it is shown.
-use Rattle.std.specs.Prelude.{◌≤◌, ◌+◌, ◌*◌, ℕ, List, [], ◌∷◌, length, map, filter, max, nat_lt, All, IsTrue, IsPermutation}
+use Rattle.std.specs.Prelude.{◌≤◌, ◌+◌, ◌*◌, ℕ, List, [], ◌∷◌, length, map, filter, nat_lt, All, IsTrue, IsPermutation, if◌then◌else◌}
 use Rattle.std.specs.List.Sorted.{IsSorted}
 use Rattle.std.specs.declared.cmp.Ordering.{Ordering}
-use Rattle.std.specs.Ordering.{nat_cmp, ordering_then}
+use Rattle.std.specs.Ordering.{nat_cmp, ordering_then, is_le}
 use Rattle.std.specs.Cmp.Lexicographic.{slice_cmp}
 use Rattle.std.specs.Str.{bytes_eq}
 use Rattle.mmsyntax.specs.declared.statement.Assertion.{Assertion}
@@ -62,10 +62,6 @@ ranked_from k (a ∷ rest) = record { rank = 100 * k; assertion = a } ∷ ranked
 abbrev pub opening : Contents → List Ranked
 opening db = ranked_from 1 db.assertions
 
--- as many slots as the database has assertions, at least one
-abbrev pub setting_of : Contents → Setting
-setting_of db = record { prelude = db.prelude; slots = max 1 (length db.assertions) }
-
 -- ---- the order in which it is shown
 
 -- by rank, then by the bytes of the label
@@ -74,6 +70,16 @@ entry_cmp e f = ordering_then (nat_cmp e.rank f.rank) (slice_cmp nat_cmp (label_
 
 abbrev pub IsInExportOrder : List Ranked → Type 0
 IsInExportOrder lib = IsSorted entry_cmp lib
+
+-- the list with one more assertion, before the first that comes behind it
+abbrev pub placed : Ranked → List Ranked → List Ranked
+placed e [] = e ∷ []
+placed e (f ∷ fs) = if is_le (entry_cmp e f) then e ∷ f ∷ fs else f ∷ placed e fs
+
+-- all assertions, each in its place
+abbrev pub in_export_order : List Ranked → List Ranked
+in_export_order [] = []
+in_export_order (e ∷ es) = placed e (in_export_order es)
 
 -- the assertions of a library in export order: the same ones, sorted
 pub record ShowsInOrder (lib shown : List Ranked) : Type 0 where

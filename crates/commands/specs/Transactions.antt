@@ -3,8 +3,8 @@ use Rattle.std.specs.Prelude.{ℕ, ◌+◌, List, [], ◌∷◌, Result, Ok, Err
 use Rattle.commands.specs.declared.library.Ranked.{Ranked}
 use Rattle.commands.specs.declared.command.Command.{Command}
 use Rattle.commands.specs.declared.command.Reply.{Reply}
-use Rattle.commands.specs.declared.command.Reason.{Reason}
-use Rattle.commands.specs.declared.command.Refused.{Refused}
+use Rattle.commands.specs.declared.reason.Reason.{Reason}
+use Rattle.commands.specs.declared.reason.Refused.{Refused}
 use Rattle.commands.specs.Library.{Setting}
 use Rattle.commands.specs.Edits.{Edited, edit}
 

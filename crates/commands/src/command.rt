@@ -1,34 +1,107 @@
-//! Commands, their replies, and the reasons of a refusal.
+//! Commands and their replies.
 
-ghost use Rattle.std.specs.Prelude.{◌≡◌, IfOk};
+ghost use Rattle.std.specs.Prelude.{◌≡◌, ◌↔◌, IfOk, IsTrue};
+ghost use Rattle.commands.specs.Fitting.{CommandFits};
 
 use crate::library::Ranked;
-use mmstatement::{Label, Sequence};
+use mmstatement::{Assertion, Kind, Label, Prelude, Sequence, Step, copy_steps, fits};
 use std::alloc::{AllocError, Global};
+
+/// The highest rank.
+const HIGHEST_RANK: u32 = 4_294_967_295;
+
+/// The most steps of a proof.
+const MOST_STEPS: usize = 16_384;
 
 /// A command on a library.
 #[derive(Debug, Drop)]
 pub enum Command {
+    /// Adds a theorem with a rank.
+    Add { rank: u32, assertion: Assertion },
+    /// Gives a theorem another proof.
+    Reprove { label: Label, steps: Sequence<Step> },
     /// Gives an assertion another label, in the assertion and in every proof that cites it.
     Rename { old: Label, new: Label },
+    /// Gives an assertion another rank.
+    Move { label: Label, rank: u32 },
+    /// Removes an assertion that no proof cites.
+    Delete { label: Label },
     /// Asks for an assertion.
     Show { label: Label },
+    /// Asks for all assertions, in export order.
+    List,
 }
 
 impl Command {
+    /// Whether the command is within the limits of a prelude: an added assertion fits it, and another proof has at most 16,384 steps. Of a
+    /// rank nothing is asked, as every `u32` is one.
+    pub fn fits(&self, prelude: &Prelude) -> bool
+        ensures { IsTrue result ↔ CommandFits prelude.now self.now }
+    {
+        match self {
+            Command::Add { rank, assertion } => *rank <= HIGHEST_RANK && fits(prelude, assertion),
+            Command::Reprove { steps, .. } => steps.as_slice().len() <= MOST_STEPS,
+            Command::Move { rank, .. } => *rank <= HIGHEST_RANK,
+            Command::Rename { .. }
+            | Command::Delete { .. }
+            | Command::Show { .. }
+            | Command::List => { true }
+        }
+    }
+
     /// An equal command.
     pub fn copy(&self, alloc: Global) -> Result<Command, AllocError>
         ensures { IfOk result (λ made. made ≡ self.now) }
     {
-        match self {
-            Command::Rename { old, new } => Ok(Command::Rename {
+        Ok(match self {
+            Command::Add { rank, assertion } => Command::Add {
+                rank: *rank,
+                assertion: assertion.copy(alloc)?,
+            },
+            Command::Reprove { label, steps } => Command::Reprove {
+                label: label.copy(alloc)?,
+                steps: copy_steps(alloc, steps.as_slice())?,
+            },
+            Command::Rename { old, new } => Command::Rename {
                 old: old.copy(alloc)?,
                 new: new.copy(alloc)?,
-            }),
-            Command::Show { label } => Ok(Command::Show {
+            },
+            Command::Move { label, rank } => Command::Move {
                 label: label.copy(alloc)?,
-            }),
-        }
+                rank: *rank,
+            },
+            Command::Delete { label } => Command::Delete {
+                label: label.copy(alloc)?,
+            },
+            Command::Show { label } => Command::Show {
+                label: label.copy(alloc)?,
+            },
+            Command::List => Command::List,
+        })
+    }
+}
+
+/// What `Command::List` tells of an assertion.
+#[derive(Debug, Drop)]
+pub struct Line {
+    pub rank: u32,
+    pub label: Label,
+    pub kind: Kind,
+    /// The number of assertions whose proof cites it.
+    pub citers: u64,
+}
+
+impl Line {
+    /// An equal line.
+    pub fn copy(&self, alloc: Global) -> Result<Line, AllocError>
+        ensures { IfOk result (λ made. made ≡ self.now) }
+    {
+        Ok(Line {
+            rank: self.rank,
+            label: self.label.copy(alloc)?,
+            kind: self.kind,
+            citers: self.citers,
+        })
     }
 }
 
@@ -39,6 +112,8 @@ pub enum Reply {
     Done,
     /// The assertion, its rank, and the number of assertions whose proof cites it.
     Shown { citers: u64, shown: Ranked },
+    /// All assertions, in export order.
+    Listed { lines: Sequence<Line> },
 }
 
 impl Reply {
@@ -46,59 +121,27 @@ impl Reply {
     pub fn copy(&self, alloc: Global) -> Result<Reply, AllocError>
         ensures { IfOk result (λ made. made ≡ self.now) }
     {
-        match self {
-            Reply::Done => Ok(Reply::Done),
-            Reply::Shown { citers, shown } => Ok(Reply::Shown {
+        Ok(match self {
+            Reply::Done => Reply::Done,
+            Reply::Shown { citers, shown } => Reply::Shown {
                 citers: *citers,
                 shown: shown.copy(alloc)?,
-            }),
-        }
+            },
+            Reply::Listed { lines } => Reply::Listed {
+                lines: copy_lines(alloc, lines.as_slice())?,
+            },
+        })
     }
 }
 
-/// Why a command is refused.
-#[derive(Clone, Copy, Debug, PartialEq, Eq)]
-pub enum Reason {
-    /// No assertion has the label.
-    UnknownLabel,
-    /// Another assertion has the label.
-    LabelTaken,
-    /// No assertion may have the label.
-    BadLabel,
-}
-
-impl Reason {
-    ghost use Rattle.commands.specs.Reasons.{number_of, name_of};
-
-    /// The number of the reason, from 1 to 12.
-    pub fn number(self) -> u32
-        ensures { result ≡ number_of self }
-    {
-        match self {
-            Reason::UnknownLabel => 1,
-            Reason::LabelTaken => 2,
-            Reason::BadLabel => 3,
-        }
+fn copy_lines(alloc: Global, lines: &[Line]) -> Result<Sequence<Line>, AllocError>
+    ensures { IfOk result (λ made. made ≡ lines.now) }
+{
+    let mut made = Vec::new(alloc);
+    for line in lines {
+        made.push(line.copy(alloc)?)?;
     }
-
-    /// The name of the reason, as reports print it.
-    pub fn name(self) -> &'static str
-        ensures { result.now ≡ name_of self }
-    {
-        match self {
-            Reason::UnknownLabel => "UnknownLabel",
-            Reason::LabelTaken => "LabelTaken",
-            Reason::BadLabel => "BadLabel",
-        }
-    }
-}
-
-/// The first command of a transaction that is refused. It refuses the whole transaction.
-#[derive(Clone, Copy, Debug, PartialEq, Eq)]
-pub struct Refused {
-    /// Which command, counted from 1.
-    pub index: usize,
-    pub reason: Reason,
+    Ok(Sequence::from_vec(made))
 }
 
 /// The commands of a transaction: all are done, or none.

@@ -1,16 +1,16 @@
 //! Laws of the definitions: each function does nothing, and its contract is the law.
 
 ghost use Rattle.commands.specs.Laws.{OpeningsVerify, EditsVerify, TransactionsVerify};
-ghost use Rattle.commands.specs.Laws.{LibrariesAreSpelled, ShownLibrariesCheck, ExportOrderIsOne};
+ghost use Rattle.commands.specs.Laws.{LibrariesAreSpelled, ShownLibrariesCheck, LibrariesAreShown, ExportOrderIsOne};
 
-/// The opening library of every database whose proofs check over the earlier assertions verifies: its ranks rise by 100 from 100 on,
-/// and its labels are lawful and differ, since some text declares them.
+/// The opening library of every database whose proofs check over the earlier assertions verifies, with any number of slots that has room
+/// for it: its ranks rise by 100 from 100 on, and its labels are lawful and differ, since some text declares them.
 pub fn openings_verify()
     ensures { OpeningsVerify }
 {}
 
 /// A library that verifies still does so after a command that is not refused, and after every transaction: after all
-/// commands of one that succeeds, and unchanged by one that is refused.
+/// commands of one that succeeds, and unchanged by one that is refused. Each command is within the limits of the prelude.
 pub fn transactions_verify()
     ensures edits { EditsVerify }
     ensures transactions { TransactionsVerify }
@@ -28,7 +28,9 @@ pub fn shown_libraries_check()
     ensures { ShownLibrariesCheck }
 {}
 
-/// A library whose labels differ has one export order: no two assertions tie by rank and label.
+/// What a library is listed as, is its export order; and a library whose labels differ has one: no two assertions tie by rank and
+/// label.
 pub fn export_order_is_one()
-    ensures { ExportOrderIsOne }
+    ensures shown { LibrariesAreShown }
+    ensures one { ExportOrderIsOne }
 {}

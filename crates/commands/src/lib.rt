@@ -4,14 +4,16 @@
 mod command;
 mod laws;
 mod library;
+mod reason;
 mod script;
 
-pub use command::{Command, Reason, Refused, Reply, Script, Transaction};
+pub use command::{Command, Line, Reply, Script, Transaction};
 pub use laws::{
     export_order_is_one, libraries_are_spelled, openings_verify, shown_libraries_check,
     transactions_verify,
 };
 pub use library::{PlainLibrary, Ranked};
+pub use reason::{Reason, Refused};
 pub use script::read_script;
 
 #[cfg(test)]

@@ -22,6 +22,7 @@ pub one_opened : (t : Tables) (xs : List Assertion) (a : Assertion) →
     length xs ≡ 1 → a ≡ get_or xs 0 a → IsOpened t (record { rank = 100; assertion = a } ∷ [])
 one_opened t xs a spelled checks one is =
     let same : xs ≡ a ∷ [] = only_item xs a one ∙ ap (λ (x : Assertion). x ∷ []) (sym is) in
-    opening_verifies (record { prelude = t; assertions = a ∷ [] })
+    opening_verifies (record { prelude = t; assertions = a ∷ [] }) 1
     (subst (λ (ys : List Assertion). HasSpelling (record { prelude = t; assertions = ys })) same spelled)
     (subst (λ (ys : List Assertion). AllCheck (record { prelude = t; assertions = ys })) same checks)
+    (omega arith) (omega arith) (omega arith)

@@ -1,117 +1,211 @@
--- What a list of entries has after one of them was changed.
-use Rattle.std.proofs.Common.{◌≡◌, ℕ, zero, suc, ◌≤◌, false, List, [], ◌∷◌, Some, length, map, set, refl}
-use Rattle.std.proofs.Common.{sym, ap, subst, ◌∙◌, inl, inr, arith}
-use Rattle.std.specs.Prelude.{◌||◌}
+-- What the places of a library have after one of them was changed, and which library that is.
+use Rattle.std.proofs.Common.{◌≡◌, ℕ, zero, suc, ◌+◌, ◌<◌, ◌≤◌, Bool, true, false, List, [], ◌∷◌, ◌++◌, Option, None, Some, length, map, set}
+use Rattle.std.proofs.Common.{refl, sym, ap, subst, ◌∙◌, arith, append-nil}
 use Rattle.std.specs.List.{slice_get}
-use Rattle.std.specs.Str.{bytes_eq}
-use Rattle.std.proofs.lemmas.Bool.{cases_Bool}
-use Rattle.std.proofs.lemmas.Map.Keys.{any_passes_from_place}
-use Rattle.mmsyntax.specs.declared.statement.Step.{Step}
+use Rattle.std.specs.Option.{option_map, is_some}
+use mathlib.Core.Bool.{not}
+use mir.Val.{bool_byte}
+use Rattle.std.proofs.lemmas.Bool.{cond-true, cond-false}
+use Rattle.std.proofs.lemmas.List.Elements.{filter_map-append}
+use Rattle.mmsyntax.proofs.Distinct.{or_false}
 use Rattle.commands.specs.declared.library.Ranked.{Ranked}
-use Rattle.commands.specs.Library.{label_of}
-use Rattle.commands.specs.Edits.{has, is_labelled}
-use Rattle.history.specs.Drafts.{with_label, changed_at, relabelled, reproved}
+use Rattle.commands.specs.Edits.{has, is_labelled, changed, without}
+use Rattle.history.specs.Entries.{Entries, living, standing, StandsIn}
+use Rattle.history.specs.Drafts.{IsAlone, changed_at, changed_all}
+use Rattle.history.proofs.Living.{none-has}
 
--- ---- the entry at the place, and the others
+-- ---- one place of a list
 
-pub changed-other : (lib : List Ranked) (p i : ℕ) (f : Ranked → Ranked) → (i ≡ p → ⊥) → slice_get (changed_at lib p f) i ≡ slice_get lib i
-changed-other [] p i f ne = refl
-changed-other (e ∷ es) zero zero f ne = absurd (ne refl)
-changed-other (e ∷ es) zero (suc i) f ne = refl
-changed-other (e ∷ es) (suc p) zero f ne = refl
-changed-other (e ∷ es) (suc p) (suc i) f ne = changed-other es p i f (λ e. ne (ap (λ n. suc n) e))
+module _ {A : Type 0} where
+  pub get-set_same : (xs : List A) (p : ℕ) (y : A) → p < length xs → slice_get (set xs p y) p ≡ Some y
+  get-set_same [] p y within = absurd (omega arith)
+  get-set_same (x ∷ xs) zero y within = refl
+  get-set_same (x ∷ xs) (suc p) y within = get-set_same xs p y (omega arith)
 
--- the entry at the place came of the one that was there
-pub changed-came : (lib : List Ranked) (p : ℕ) (f : Ranked → Ranked) (e : Ranked) → slice_get (changed_at lib p f) p ≡ Some e
-    → (was : Ranked) × (slice_get lib p ≡ Some was) × (f was ≡ e)
-changed-came [] p f e h = absurd cc
-changed-came (x ∷ xs) zero f e h = (x, refl, cc)
-changed-came (x ∷ xs) (suc p) f e h = changed-came xs p f e h
+  pub get-set_other : (xs : List A) (p q : ℕ) (y : A) → (q ≡ p → ⊥) → slice_get (set xs p y) q ≡ slice_get xs q
+  get-set_other [] p q y ne = refl
+  get-set_other (x ∷ xs) zero zero y ne = absurd (ne refl)
+  get-set_other (x ∷ xs) zero (suc q) y ne = refl
+  get-set_other (x ∷ xs) (suc p) zero y ne = refl
+  get-set_other (x ∷ xs) (suc p) (suc q) y ne = get-set_other xs p q y (λ e. ne (ap (λ n. suc n) e))
 
-pub relabelled-label : (lib : List Ranked) (p : ℕ) (w : List ℕ) (e : Ranked) → slice_get (relabelled lib p w) p ≡ Some e → label_of e ≡ w
-relabelled-label lib p w e h =
-    let came = changed-came lib p (with_label w) e h in
-    sym (ap label_of came.2)
+  pub get-set_is : (xs : List A) (p : ℕ) (y z : A) → slice_get (set xs p y) p ≡ Some z → y ≡ z
+  get-set_is [] p y z h = absurd cc
+  get-set_is (x ∷ xs) zero y z h = cc
+  get-set_is (x ∷ xs) (suc p) y z h = get-set_is xs p y z h
 
--- ---- the list
+  -- what stood there is given back
+  pub set-back : (xs : List A) (p : ℕ) (x y : A) → slice_get xs p ≡ Some x → set (set xs p y) p x ≡ xs
+  set-back [] p x y h = refl
+  set-back (z ∷ zs) zero x y h =
+      let same : x ≡ z = cc in
+      ap (λ w. w ∷ zs) same
+  set-back (z ∷ zs) (suc p) x y h = ap (λ ws. z ∷ ws) (set-back zs p x y h)
 
-pub length-changed : (lib : List Ranked) (p : ℕ) (f : Ranked → Ranked) → length (changed_at lib p f) ≡ length lib
-length-changed [] p f = refl
-length-changed (e ∷ es) zero f = refl
-length-changed (e ∷ es) (suc p) f = ap (λ n. suc n) (length-changed es p f)
+  pub get-left : (xs ys : List A) (p : ℕ) (z : A) → slice_get xs p ≡ Some z → slice_get (xs ++ ys) p ≡ Some z
+  get-left [] ys p z h = absurd cc
+  get-left (x ∷ xs) ys zero z h = h
+  get-left (x ∷ xs) ys (suc p) z h = get-left xs ys p z h
 
--- two changes, one after the other
-pub changed-twice : (lib : List Ranked) (p : ℕ) (f g : Ranked → Ranked)
-    → changed_at (changed_at lib p f) p g ≡ changed_at lib p (λ e. g (f e))
-changed-twice [] p f g = refl
-changed-twice (e ∷ es) zero f g = refl
-changed-twice (e ∷ es) (suc p) f g = ap (λ xs. e ∷ xs) (changed-twice es p f g)
+  pub get-last : (xs : List A) (x : A) → slice_get (xs ++ x ∷ []) (length xs) ≡ Some x
+  get-last [] x = refl
+  get-last (y ∷ xs) x = get-last xs x
 
-pub changed-set : (lib : List Ranked) (p : ℕ) (f : Ranked → Ranked) (e : Ranked) → slice_get lib p ≡ Some e
-    → set lib p (f e) ≡ changed_at lib p f
-changed-set [] p f e h = refl
-changed-set (x ∷ xs) zero f e h =
+  pub set-last : (xs : List A) (x y : A) → set (xs ++ x ∷ []) (length xs) y ≡ xs ++ y ∷ []
+  set-last [] x y = refl
+  set-last (z ∷ xs) x y = ap (λ ws. z ∷ ws) (set-last xs x y)
+
+  pub set-left : (xs ys : List A) (p : ℕ) (y : A) → p < length xs → set (xs ++ ys) p y ≡ set xs p y ++ ys
+  set-left [] ys p y within = absurd (omega arith)
+  set-left (x ∷ xs) ys zero y within = refl
+  set-left (x ∷ xs) ys (suc p) y within = ap (λ ws. x ∷ ws) (set-left xs ys p y (omega arith))
+
+-- ---- the library
+
+pub living-standing : (lib : List Ranked) → living (standing lib) ≡ lib
+living-standing [] = refl
+living-standing (e ∷ es) = ap (λ xs. e ∷ xs) (living-standing es)
+
+-- an empty place behind the others
+pub living-opened : (es : Entries) → living (es ++ None ∷ []) ≡ living es
+living-opened es = filter_map-append (λ o. o) es (None ∷ []) ∙ append-nil (living es)
+
+pub living-pushed : (es : Entries) (e : Ranked) → living (es ++ Some e ∷ []) ≡ living es ++ e ∷ []
+living-pushed es e = filter_map-append (λ o. o) es (Some e ∷ [])
+
+pub living-all : (f : Ranked → Ranked) (es : Entries) → living (changed_all f es) ≡ map f (living es)
+living-all f [] = refl
+living-all f (None ∷ es) = living-all f es
+living-all f (Some e ∷ es) = ap (λ xs. f e ∷ xs) (living-all f es)
+
+-- ---- one assertion that has a label
+
+pub alone-later : (o : Option Ranked) (es : Entries) (w : List ℕ) (p : ℕ) → IsAlone (o ∷ es) w (suc p) → IsAlone es w p
+alone-later o es w p a = record { others = λ q f at ne. a.others (suc q) f at (λ e. ne (omega arith)) }
+
+pub alone-first : (o : Option Ranked) (es : Entries) (w : List ℕ) → IsAlone (o ∷ es) w zero → has (living es) w ≡ false
+alone-first o es w a = none-has es w (λ q f at. a.others (suc q) f at (λ e. omega arith))
+
+changed-none : (w : List ℕ) (f : Ranked → Ranked) (lib : List Ranked) → has lib w ≡ false → changed w f lib ≡ lib
+changed-none w f [] h = refl
+changed-none w f (e ∷ es) h =
+    let both = or_false (is_labelled w e) (has es w) h in
+    ap (λ x. x ∷ changed w f es) (cond-false (is_labelled w e) (f e) e both.0) ∙ ap (λ xs. e ∷ xs) (changed-none w f es both.1)
+
+-- it is changed
+pub living-changed : (es : Entries) (w : List ℕ) (p : ℕ) (f : Ranked → Ranked) (e : Ranked) → StandsIn es p e → is_labelled w e ≡ true
+    → IsAlone es w p → living (set es p (Some (f e))) ≡ changed w f (living es)
+living-changed [] w p f e at own alone = absurd cc
+living-changed (None ∷ es) w zero f e at own alone = absurd cc
+living-changed (None ∷ es) w (suc p) f e at own alone = living-changed es w p f e at own (alone-later None es w p alone)
+living-changed (Some x ∷ es) w zero f e at own alone =
     let same : e ≡ x = cc in
-    ap (λ y. f y ∷ xs) same
-changed-set (x ∷ xs) (suc p) f e h = ap (λ es. x ∷ es) (changed-set xs p f e h)
+    let here : is_labelled w x ≡ true = subst (λ (y : Ranked). is_labelled w y ≡ true) same own in
+    ap (λ y. f y ∷ living es) same
+    ∙ ap (λ y. y ∷ living es) (sym (cond-true (is_labelled w x) (f x) x here))
+    ∙ ap (λ ys. changed w f (x ∷ []) ++ ys) (sym (changed-none w f (living es) (alone-first (Some x) es w alone)))
+living-changed (Some x ∷ es) w (suc p) f e at own alone =
+    let other = alone.others zero x refl (λ z. omega arith) in
+    ap (λ y. y ∷ living (set es p (Some (f e)))) (sym (cond-false (is_labelled w x) (f x) x other))
+    ∙ ap (λ ys. changed w f (x ∷ []) ++ ys) (living-changed es w p f e at own (alone-later (Some x) es w p alone))
 
--- two changes that do the same to the entry at the place
-pub changed-alike : (lib : List Ranked) (p : ℕ) (f g : Ranked → Ranked) (e : Ranked) → slice_get lib p ≡ Some e → f e ≡ g e
-    → changed_at lib p f ≡ changed_at lib p g
-changed-alike lib p f g e at same = sym (changed-set lib p f e at) ∙ ap (set lib p) same ∙ changed-set lib p g e at
+without-none : (w : List ℕ) (lib : List Ranked) → has lib w ≡ false → without w lib ≡ lib
+without-none w [] h = refl
+without-none w (e ∷ es) h =
+    let both = or_false (is_labelled w e) (has es w) h in
+    cond-true (not (is_labelled w e)) (e ∷ without w es) (without w es) (ap not both.0) ∙ ap (λ xs. e ∷ xs) (without-none w es both.1)
 
--- a change that does nothing
-pub changed-nothing : (lib : List Ranked) (p : ℕ) (f : Ranked → Ranked) (e : Ranked) → slice_get lib p ≡ Some e → f e ≡ e
-    → changed_at lib p f ≡ lib
-changed-nothing [] p f e h same = refl
-changed-nothing (x ∷ xs) zero f e h same =
-    let own : e ≡ x = cc in
-    ap (λ y. y ∷ xs) (subst (λ y. f y ≡ y) own same)
-changed-nothing (x ∷ xs) (suc p) f e h same = ap (λ es. x ∷ es) (changed-nothing xs p f e h same)
+-- it is removed
+pub living-removed : (es : Entries) (w : List ℕ) (p : ℕ) (e : Ranked) → StandsIn es p e → is_labelled w e ≡ true
+    → IsAlone es w p → living (set es p None) ≡ without w (living es)
+living-removed [] w p e at own alone = absurd cc
+living-removed (None ∷ es) w zero e at own alone = absurd cc
+living-removed (None ∷ es) w (suc p) e at own alone = living-removed es w p e at own (alone-later None es w p alone)
+living-removed (Some x ∷ es) w zero e at own alone =
+    let same : e ≡ x = cc in
+    let here : is_labelled w x ≡ true = subst (λ (y : Ranked). is_labelled w y ≡ true) same own in
+    sym (cond-false (not (is_labelled w x)) (x ∷ without w (living es)) (without w (living es)) (ap not here)
+    ∙ without-none w (living es) (alone-first (Some x) es w alone))
+living-removed (Some x ∷ es) w (suc p) e at own alone =
+    let other = alone.others zero x refl (λ z. omega arith) in
+    ap (λ ys. x ∷ ys) (living-removed es w p e at own (alone-later (Some x) es w p alone))
+    ∙ sym (cond-true (not (is_labelled w x)) (x ∷ without w (living es)) (without w (living es)) (ap not other))
+
+-- ---- how many there are
+
+pub count-changed : (es : Entries) (p : ℕ) (e x : Ranked) → StandsIn es p e → length (living (set es p (Some x))) ≡ length (living es)
+count-changed [] p e x at = absurd cc
+count-changed (None ∷ es) zero e x at = absurd cc
+count-changed (None ∷ es) (suc p) e x at = count-changed es p e x at
+count-changed (Some y ∷ es) zero e x at = refl
+count-changed (Some y ∷ es) (suc p) e x at = ap (λ n. suc n) (count-changed es p e x at)
+
+pub count-removed : (es : Entries) (p : ℕ) (e : Ranked) → StandsIn es p e → suc (length (living (set es p None))) ≡ length (living es)
+count-removed [] p e at = absurd cc
+count-removed (None ∷ es) zero e at = absurd cc
+count-removed (None ∷ es) (suc p) e at = count-removed es p e at
+count-removed (Some y ∷ es) zero e at = refl
+count-removed (Some y ∷ es) (suc p) e at = ap (λ n. suc n) (count-removed es p e at)
+
+pub count-put : (es : Entries) (p : ℕ) (x : Ranked) → slice_get es p ≡ Some None
+    → length (living (set es p (Some x))) ≡ suc (length (living es))
+count-put [] p x at = absurd cc
+count-put (None ∷ es) zero x at = refl
+count-put (None ∷ es) (suc p) x at = count-put es p x at
+count-put (Some y ∷ es) zero x at = absurd cc
+count-put (Some y ∷ es) (suc p) x at = ap (λ n. suc n) (count-put es p x at)
+
+-- there are at most as many as places
+pub count-within : (es : Entries) → length (living es) ≤ length es
+count-within [] = omega arith
+count-within (None ∷ es) = let rest = count-within es in omega arith
+count-within (Some e ∷ es) = let rest = count-within es in omega arith
 
 -- ---- a change of each in turn
 
--- the first i entries changed
-abbrev pub changed_below : ℕ → (Ranked → Ranked) → List Ranked → List Ranked
-changed_below zero f lib = lib
-changed_below (suc i) f [] = []
-changed_below (suc i) f (e ∷ es) = f e ∷ changed_below i f es
+pub changed-set : (f : Ranked → Ranked) (p : ℕ) (es : Entries) (o : Option Ranked) → slice_get es p ≡ Some o
+    → set es p (option_map f o) ≡ changed_at p f es
+changed-set f p [] o at = refl
+changed-set f zero (x ∷ es) o at =
+    let same : o ≡ x = cc in
+    ap (λ y. option_map f y ∷ es) same
+changed-set f (suc p) (x ∷ es) o at = ap (λ xs. x ∷ xs) (changed-set f p es o at)
 
-pub length-changed_below : (i : ℕ) (f : Ranked → Ranked) (lib : List Ranked) → length (changed_below i f lib) ≡ length lib
-length-changed_below zero f lib = refl
+-- a change that does nothing
+pub changed-nothing : (f : Ranked → Ranked) (p : ℕ) (es : Entries) → ((e : Ranked) → StandsIn es p e → f e ≡ e) → changed_at p f es ≡ es
+changed-nothing f p [] h = refl
+changed-nothing f zero (None ∷ es) h = refl
+changed-nothing f zero (Some e ∷ es) h = ap (λ x. Some x ∷ es) (h e refl)
+changed-nothing f (suc p) (x ∷ es) h = ap (λ xs. x ∷ xs) (changed-nothing f p es h)
+
+-- the first i places changed
+abbrev pub changed_below : ℕ → (Ranked → Ranked) → Entries → Entries
+changed_below zero f es = es
+changed_below (suc i) f [] = []
+changed_below (suc i) f (o ∷ os) = option_map f o ∷ changed_below i f os
+
+pub length-changed_below : (i : ℕ) (f : Ranked → Ranked) (es : Entries) → length (changed_below i f es) ≡ length es
+length-changed_below zero f es = refl
 length-changed_below (suc i) f [] = refl
-length-changed_below (suc i) f (e ∷ es) = ap (λ n. suc n) (length-changed_below i f es)
+length-changed_below (suc i) f (o ∷ os) = ap (λ n. suc n) (length-changed_below i f os)
 
 -- one more
-pub changed_below-next : (i : ℕ) (f : Ranked → Ranked) (lib : List Ranked)
-    → changed_at (changed_below i f lib) i f ≡ changed_below (suc i) f lib
+pub changed_below-next : (i : ℕ) (f : Ranked → Ranked) (es : Entries) → changed_at i f (changed_below i f es) ≡ changed_below (suc i) f es
 changed_below-next zero f [] = refl
-changed_below-next zero f (e ∷ es) = refl
+changed_below-next zero f (o ∷ os) = refl
 changed_below-next (suc i) f [] = refl
-changed_below-next (suc i) f (e ∷ es) = ap (λ xs. f e ∷ xs) (changed_below-next i f es)
+changed_below-next (suc i) f (o ∷ os) = ap (λ xs. option_map f o ∷ xs) (changed_below-next i f os)
 
-pub changed_below-all : (i : ℕ) (f : Ranked → Ranked) (lib : List Ranked) → length lib ≤ i → changed_below i f lib ≡ map f lib
+pub changed_below-all : (i : ℕ) (f : Ranked → Ranked) (es : Entries) → length es ≤ i → changed_below i f es ≡ changed_all f es
 changed_below-all zero f [] h = refl
-changed_below-all zero f (e ∷ es) h = absurd (omega arith)
+changed_below-all zero f (o ∷ os) h = absurd (omega arith)
 changed_below-all (suc i) f [] h = refl
-changed_below-all (suc i) f (e ∷ es) h = ap (λ xs. f e ∷ xs) (changed_below-all i f es (omega arith))
+changed_below-all (suc i) f (o ∷ os) h = ap (λ xs. option_map f o ∷ xs) (changed_below-all i f os (omega arith))
 
--- ---- labels that stay, and labels that no entry has
-
-pub labels-reproved : (lib : List Ranked) (p : ℕ) (steps : List Step) → map label_of (reproved lib p steps) ≡ map label_of lib
-labels-reproved [] p steps = refl
-labels-reproved (e ∷ es) zero steps = refl
-labels-reproved (e ∷ es) (suc p) steps = ap (λ ws. label_of e ∷ ws) (labels-reproved es p steps)
-
-pub has-not : (lib : List Ranked) (w : List ℕ) (p : ℕ) (e : Ranked) → has lib w ≡ false → slice_get lib p ≡ Some e
-    → bytes_eq w (label_of e) ≡ false
-has-not lib w p e free at =
-    elim (cases_Bool (bytes_eq w (label_of e))) [
-      | inl y ↦ let taken = any_passes_from_place (is_labelled w) lib p e at y in absurd cc
-      | inr n ↦ n
-    ]
-
-pub has-none : (lib : List Ranked) (w : List ℕ) → ((p : ℕ) (e : Ranked) → slice_get lib p ≡ Some e → bytes_eq w (label_of e) ≡ false)
-    → has lib w ≡ false
-has-none [] w h = refl
-has-none (e ∷ es) w h = ap (λ b. b || has es w) (h zero e refl) ∙ has-none es w (λ p f at. h (suc p) f at)
+-- there is one more where the place was empty, and else as many
+pub count-into : (es : Entries) (p : ℕ) (former : Option Ranked) (x : Ranked) (b : Bool) → slice_get es p ≡ Some former → is_some former ≡ not b
+    → length (living (set es p (Some x))) ≡ length (living es) + bool_byte b
+count-into es p None x true at h = let one = count-put es p x at in omega arith
+count-into es p None x false at h = absurd cc
+count-into es p (Some e) x true at h = absurd cc
+count-into es p (Some e) x false at h = let one = count-changed es p e x at in omega arith

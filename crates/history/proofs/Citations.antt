@@ -1,21 +1,18 @@
--- Labels replaced in proofs: one entry of a renamed library has another label, and each has its proof renamed.
-use Rattle.std.proofs.Common.{◌≡◌, ℕ, zero, suc, true, false, List, [], ◌∷◌, Some, map, refl, sym, ap, subst, ◌∙◌}
-use Rattle.std.specs.List.{list_any, slice_get}
+-- Labels replaced in proofs: one assertion of a renamed library has another label, and each has its proof renamed.
+use Rattle.std.proofs.Common.{◌≡◌, ℕ, zero, suc, true, false, List, [], ◌∷◌, None, Some, map, set, refl, sym, ap, subst, ◌∙◌, arith}
+use Rattle.std.specs.List.{list_any}
 use Rattle.std.specs.Str.{bytes_eq}
 use Rattle.mmsyntax.specs.declared.statement.Step.{Step}
 use Rattle.mmsyntax.specs.declared.statement.Step.TheVariants.{Float, Hyp, Cite}
-use Rattle.mmsyntax.specs.Assertions.{Distinct}
-use Rattle.mmsyntax.proofs.Names.{bytes_eq-same, bytes_eq-sym}
 use Rattle.mmsyntax.proofs.Distinct.{or_false}
 use Rattle.commands.specs.declared.library.Ranked.{Ranked}
 use Rattle.commands.specs.Library.{label_of}
 use Rattle.proofcheck.specs.Laws.{renamed, replacing, step_relabelled}
-use Rattle.commands.specs.Edits.{rename, is_citation, cites, has, is_labelled}
+use Rattle.commands.specs.Edits.{rename, is_citation, cites, has, is_labelled, with_proof}
 use Rattle.commands.proofs.Labels.{replacing-old, replacing-other}
-use Rattle.commands.proofs.Places.{has-labels}
-use Rattle.history.specs.Places.{StandsAt}
-use Rattle.history.specs.Drafts.{with_label, with_proof, citing, relabelled}
-use Rattle.history.proofs.Changing.{has-not}
+use Rattle.history.specs.Entries.{Entries, living, StandsIn}
+use Rattle.history.specs.Drafts.{IsAlone, with_label, citing, changed_all}
+use Rattle.history.proofs.Changing.{alone-first, alone-later, living-all}
 
 -- ---- proofs that do not cite the label
 
@@ -33,7 +30,7 @@ citing-alone old new e h = ap (λ steps. with_proof steps e) (steps_alone old ne
 
 -- ---- a library
 
--- the entry as a renaming leaves it, its label included
+-- the assertion as a renaming leaves it, its label included
 abbrev renamed_entry : List ℕ → List ℕ → Ranked → Ranked
 renamed_entry old new e = record { rank = e.rank; assertion = renamed old new e.assertion }
 
@@ -48,25 +45,20 @@ rename_free old new (e ∷ es) h =
     ap (λ x. x ∷ rename old new es) (relabelling old new (label_of e) e (replacing-other old new (label_of e) both.0))
     ∙ ap (λ xs. citing old new e ∷ xs) (rename_free old new es both.1)
 
-rename_there : (old new : List ℕ) (lib : List Ranked) (p : ℕ) (e : Ranked) → Distinct bytes_eq (map label_of lib) → slice_get lib p ≡ Some e
-    → label_of e ≡ old
-    → rename old new lib ≡ map (citing old new) (relabelled lib p new)
-rename_there old new [] p e apart at own = absurd cc
-rename_there old new (x ∷ xs) zero e apart at own =
-    let same : x ≡ e = cc in
-    let here : label_of x ≡ old = ap label_of same ∙ own in
-    let found = subst (λ l. bytes_eq old l ≡ true) (sym here) (bytes_eq-same old) in
-    let free : has xs old ≡ false = subst (λ l. has xs l ≡ false) here (sym (has-labels xs (label_of x)) ∙ apart.0) in
-    ap (λ y. y ∷ rename old new xs) (relabelling old new new x (replacing-old old new (label_of x) found))
-    ∙ ap (λ ys. citing old new (with_label new x) ∷ ys) (rename_free old new xs free)
-rename_there old new (x ∷ xs) (suc p) e apart at own =
-    let none = sym (has-labels xs (label_of x)) ∙ apart.0 in
-    let other : bytes_eq old (label_of x) ≡ false =
-    subst (λ l. bytes_eq l (label_of x) ≡ false) own (bytes_eq-sym (label_of e) (label_of x) ∙ has-not xs (label_of x) p e none at) in
-    ap (λ y. y ∷ rename old new xs) (relabelling old new (label_of x) x (replacing-other old new (label_of x) other))
-    ∙ ap (λ ys. citing old new x ∷ ys) (rename_there old new xs p e apart.1 at own)
-
--- a renaming gives one entry the new label, and renames each proof
-pub rename_place : (old new : List ℕ) (lib : List Ranked) (p : ℕ) → StandsAt lib old p → Distinct bytes_eq (map label_of lib)
-    → rename old new lib ≡ map (citing old new) (relabelled lib p new)
-rename_place old new lib p at apart = rename_there old new lib p at.entry apart at.at at.labelled
+-- a renaming gives one assertion the new label, and renames each proof
+pub rename_place : (old new : List ℕ) (es : Entries) (p : ℕ) (e : Ranked) → StandsIn es p e → is_labelled old e ≡ true → IsAlone es old p
+    → rename old new (living es) ≡ living (changed_all (citing old new) (set es p (Some (with_label new e))))
+rename_place old new [] p e at own alone = absurd cc
+rename_place old new (None ∷ es) zero e at own alone = absurd cc
+rename_place old new (None ∷ es) (suc p) e at own alone = rename_place old new es p e at own (alone-later None es old p alone)
+rename_place old new (Some x ∷ es) zero e at own alone =
+    let same : e ≡ x = cc in
+    let here : is_labelled old x ≡ true = subst (λ (y : Ranked). is_labelled old y ≡ true) same own in
+    ap (λ y. y ∷ rename old new (living es)) (relabelling old new new x (replacing-old old new (label_of x) here))
+    ∙ ap (λ ys. citing old new (with_label new x) ∷ ys)
+    (rename_free old new (living es) (alone-first (Some x) es old alone) ∙ sym (living-all (citing old new) es))
+    ∙ ap (λ y. citing old new (with_label new y) ∷ living (changed_all (citing old new) es)) (sym same)
+rename_place old new (Some x ∷ es) (suc p) e at own alone =
+    let other = alone.others zero x refl (λ z. omega arith) in
+    ap (λ y. y ∷ rename old new (living es)) (relabelling old new (label_of x) x (replacing-other old new (label_of x) other))
+    ∙ ap (λ ys. citing old new x ∷ ys) (rename_place old new es p e at own (alone-later (Some x) es old p alone))

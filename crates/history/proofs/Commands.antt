@@ -1,87 +1,152 @@
--- What each command does to a library that verifies, by the places of its labels.
-use Rattle.std.proofs.Common.{◌≡◌, ℕ, Bool, true, false, List, [], ◌∷◌, Option, None, Some, Ok, Err, map, ap, ◌∙◌}
-use mathlib.Core.Bool.{not}
-use Rattle.std.specs.Prelude.{slice_get}
+-- What each command does to the library of some entries, by the places of its labels.
+use Rattle.std.proofs.Common.{◌≡◌, ℕ, Bool, true, false, List, [], ◌∷◌, ◌++◌, Option, None, Some, Result, Ok, Err, length, set, refl, sym, ap, subst, ◌∙◌}
+use Rattle.std.specs.Prelude.{nat_le, ◌==◌}
+use Rattle.std.specs.Str.{bytes_eq}
 use Rattle.std.specs.Option.{is_some}
+use mathlib.Core.Bool.{not}
 use Rattle.std.proofs.lemmas.Bool.{cond-true, cond-false}
-use Rattle.std.proofs.lemmas.Option.{slice_get_within, get_or_from_slice_get}
+use Rattle.mmsyntax.specs.declared.statement.Assertion.{Assertion}
 use Rattle.mmsyntax.specs.Assertions.{is_lawful_label}
+use Rattle.mmsyntax.proofs.Names.{bytes_eq-same}
 use Rattle.commands.specs.declared.library.Ranked.{Ranked}
-use Rattle.commands.specs.declared.command.Command.TheVariants.{Rename, Show}
-use Rattle.commands.specs.declared.command.Reply.TheVariants.{Done, Shown}
-use Rattle.commands.specs.declared.command.Reason.{Reason}
-use Rattle.commands.specs.declared.command.Reason.TheVariants.{UnknownLabel, BadLabel, LabelTaken}
-use Rattle.commands.specs.Library.{Setting, Verifies, label_of}
-use Rattle.commands.specs.Edits.{Edited, Tests, tested, has, citers, rename, shown, edit}
-use Rattle.commands.proofs.Places.{has_at, find_entry, find_nowhere}
-use Rattle.history.specs.Places.{StandsAt, FoundAt}
-use Rattle.history.specs.Drafts.{relabelled, citing}
+use Rattle.commands.specs.declared.reason.Reason.{Reason}
+use Rattle.commands.specs.declared.reason.Reason.TheVariants as reason
+use Rattle.commands.specs.Library.{Setting, label_of}
+use Rattle.commands.specs.Edits.{Edited, Tests, tested, of_found, where_so, has, found, is_labelled, changed, without}
+use Rattle.commands.specs.Edits.{is_axiom, unranked, unlawful, taken, added, rename, add_tests}
+use Rattle.commands.proofs.Places.{find_nowhere}
+use Rattle.history.specs.Entries.{Entries, living, StandsIn}
+use Rattle.history.specs.Places.{Places, IsIndex, FoundAt}
+use Rattle.history.specs.Drafts.{IsAlone, with_label, citing, changed_all}
+use Rattle.history.specs.Refusals.{first_reason, proof_tests}
+use Rattle.history.proofs.Living.{found-at, stands-has, some-known}
+use Rattle.history.proofs.Changing.{living-changed, living-removed, living-pushed, set-last}
+use Rattle.history.proofs.Indexes.{stands-alone}
 use Rattle.history.proofs.Citations.{rename_place}
 
 -- ---- tests
 
-fails_here : (b : Bool) (r : Reason) (ts : Tests) (e : Edited) → b ≡ true → tested ((b, r) ∷ ts) e ≡ Err r
-fails_here b r ts e h = cond-true b (Err r) (tested ts e) h
+pub tested_some : (ts : Tests) (e : Edited) (r : Reason) → first_reason ts ≡ Some r → tested ts e ≡ Err r
+tested_some [] e r h = absurd cc
+tested_some (None ∷ ts) e r h = tested_some ts e r h
+tested_some (Some q ∷ ts) e r h =
+    let same : q ≡ r = cc in
+    ap (λ x. Err x) same
 
-passes : (b : Bool) (r : Reason) (ts : Tests) (e : Edited) → b ≡ false → tested ((b, r) ∷ ts) e ≡ tested ts e
-passes b r ts e h = cond-false b (Err r) (tested ts e) h
+pub tested_none : (ts : Tests) (e : Edited) → first_reason ts ≡ None → tested ts e ≡ Ok e
+tested_none [] e h = refl
+tested_none (None ∷ ts) e h = tested_none ts e h
+tested_none (Some q ∷ ts) e h = absurd cc
 
-stands_has : (lib : List Ranked) (w : List ℕ) (p : ℕ) → StandsAt lib w p → has lib w ≡ true
-stands_has lib w p s =
-    has_at lib w p s.entry (slice_get_within lib p s.entry s.at) (ap label_of (get_or_from_slice_get lib p s.entry s.entry s.at) ∙ s.labelled)
+pub so : (b : Bool) (r : Reason) → b ≡ true → where_so b r ≡ Some r
+so b r h = cond-true b (Some r) None h
 
--- what a look-up found
-pub found_none : (lib : List Ranked) (w : List ℕ) (o : Option ℕ) → FoundAt lib w o → false ≡ is_some o → has lib w ≡ false
-found_none lib w None h e = h
-found_none lib w (Some p) h e = absurd cc
+pub not_so : (b : Bool) (r : Reason) → b ≡ false → where_so b r ≡ None
+not_so b r h = cond-false b (Some r) None h
 
-pub found_some : (lib : List Ranked) (w : List ℕ) (o : Option ℕ) → FoundAt lib w o → true ≡ is_some o → (p : ℕ) × StandsAt lib w p
-found_some lib w None h e = absurd cc
-found_some lib w (Some p) h e = (p, h)
+-- the first test refuses
+pub first-some : (t : Option Reason) (ts : Tests) (r : Reason) → t ≡ Some r → first_reason (t ∷ ts) ≡ Some r
+first-some t ts r h = ap (λ x. first_reason (x ∷ ts)) h
 
--- ---- rename
+-- the first test passes
+pub first-none : (t : Option Reason) (ts : Tests) → t ≡ None → first_reason (t ∷ ts) ≡ first_reason ts
+first-none t ts h = ap (λ x. first_reason (x ∷ ts)) h
 
-module _ (s : Setting) (lib : List Ranked) (old new : List ℕ) where
-  abbrev after_rename : Edited
-  after_rename = record { library = rename old new lib; reply = Done }
+-- no test refuses: neither the first nor the rest
+pub first-parts : (t : Option Reason) (ts : Tests) → first_reason (t ∷ ts) ≡ None → (t ≡ None) × (first_reason ts ≡ None)
+first-parts None ts h = (refl, h)
+first-parts (Some r) ts h = absurd cc
 
-  abbrev last_test : Tests
-  last_test = (has lib new, LabelTaken) ∷ []
+so_not : (b : Bool) (r : Reason) → where_so b r ≡ None → b ≡ false
+so_not true r h = absurd cc
+so_not false r h = refl
 
-  abbrev later_tests : Tests
-  later_tests = (not (is_lawful_label s.prelude new), BadLabel) ∷ last_test
+-- more tests behind
+pub first-some_more : (ts us : Tests) (r : Reason) → first_reason ts ≡ Some r → first_reason (ts ++ us) ≡ Some r
+first-some_more [] us r h = absurd cc
+first-some_more (None ∷ ts) us r h = first-some_more ts us r h
+first-some_more (Some q ∷ ts) us r h = h
 
-  pub rename_unknown : has lib old ≡ false → edit s lib (Rename old new) ≡ Err UnknownLabel
-  rename_unknown h = fails_here (not (has lib old)) UnknownLabel later_tests after_rename (ap not h)
+pub first-none_more : (ts us : Tests) → first_reason ts ≡ None → first_reason (ts ++ us) ≡ first_reason us
+first-none_more [] us h = refl
+first-none_more (None ∷ ts) us h = first-none_more ts us h
+first-none_more (Some q ∷ ts) us h = absurd cc
 
-  past_unknown : (p : ℕ) → StandsAt lib old p → edit s lib (Rename old new) ≡ tested later_tests after_rename
-  past_unknown p at = passes (not (has lib old)) UnknownLabel later_tests after_rename (ap not (stands_has lib old p at))
+-- the tests of adding a theorem, behind those of the rank and the label
+pub add_front : (s : Setting) (lib : List Ranked) (rank : ℕ) (a : Assertion) → rank == 0 ≡ false → is_lawful_label s.prelude a.label ≡ true
+    → has lib a.label ≡ false
+    → first_reason (add_tests s lib rank a) ≡ first_reason (where_so (is_axiom a.kind) reason.AxiomNotAllowed ∷ (proof_tests s lib rank a ++ where_so (nat_le s.slots (length lib)) reason.LibraryFull ∷ []))
+add_front s lib rank a ranked lawful free =
+    first-none (unranked rank) _ (not_so (rank == 0) reason.BadRank ranked)
+    ∙ first-none (unlawful s a.label) _ (not_so (not (is_lawful_label s.prelude a.label)) reason.BadLabel (ap not lawful))
+    ∙ first-none (taken lib a.label) _ (not_so (has lib a.label) reason.LabelTaken free)
 
-  pub rename_bad : (p : ℕ) → StandsAt lib old p → is_lawful_label s.prelude new ≡ false → edit s lib (Rename old new) ≡ Err BadLabel
-  rename_bad p at h = past_unknown p at ∙ fails_here (not (is_lawful_label s.prelude new)) BadLabel last_test after_rename (ap not h)
+-- what may be added has a label that is free
+pub add_free : (s : Setting) (lib : List Ranked) (rank : ℕ) (a : Assertion) → first_reason (add_tests s lib rank a) ≡ None → has lib a.label ≡ false
+add_free s lib rank a h =
+    so_not (has lib a.label) reason.LabelTaken (first-parts (taken lib a.label) _ (first-parts (unlawful s a.label) _ (first-parts (unranked rank) _ h).1).1).0
 
-  past_bad : (p : ℕ) → StandsAt lib old p → is_lawful_label s.prelude new ≡ true
-      → edit s lib (Rename old new) ≡ tested last_test after_rename
-  past_bad p at h = past_unknown p at ∙ passes (not (is_lawful_label s.prelude new)) BadLabel last_test after_rename (ap not h)
+-- ---- labels
 
-  pub rename_taken : (p q : ℕ) → StandsAt lib old p → is_lawful_label s.prelude new ≡ true → StandsAt lib new q
-      → edit s lib (Rename old new) ≡ Err LabelTaken
-  rename_taken p q at h other = past_bad p at h ∙ fails_here (has lib new) LabelTaken [] after_rename (stands_has lib new q other)
+pub unknown_label : (lib : List Ranked) (w : List ℕ) (f : Ranked → Result Edited Reason) → has lib w ≡ false
+    → of_found (found lib w) f ≡ Err reason.UnknownLabel
+unknown_label lib w f h = ap (λ o. of_found o f) (find_nowhere lib w h)
 
-  pub rename_done : Verifies s lib → (p : ℕ) → StandsAt lib old p → is_lawful_label s.prelude new ≡ true → has lib new ≡ false
-      → edit s lib (Rename old new) ≡ Ok (record { library = map (citing old new) (relabelled lib p new); reply = Done })
-  rename_done v p at h free =
-      past_bad p at h ∙ passes (has lib new) LabelTaken [] after_rename free
-      ∙ ap (λ (l : List Ranked). Ok (record { library = l; reply = Done })) (rename_place old new lib p at v.library.distinct)
+-- the assertion at a place has the label
+pub record HasLabel (m : Places) (es : Entries) (w : List ℕ) (p : ℕ) (e : Ranked) : Type 0 where
+  pub indexed : IsIndex m es
+  pub at : StandsIn es p e
+  pub labelled : label_of e ≡ w
 
--- ---- show
+pub known_label : (m : Places) (es : Entries) (w : List ℕ) (p : ℕ) (e : Ranked) (f : Ranked → Result Edited Reason) → HasLabel m es w p e
+    → of_found (found (living es) w) f ≡ f e
+known_label m es w p e f h = ap (λ o. of_found o f) (found-at m es w p e h.indexed h.at h.labelled)
 
-pub show_unknown : (s : Setting) (lib : List Ranked) (w : List ℕ) → has lib w ≡ false → edit s lib (Show w) ≡ Err UnknownLabel
-show_unknown s lib w h = ap (shown lib) (find_nowhere lib w h)
+pub has_own : (m : Places) (es : Entries) (w : List ℕ) (p : ℕ) (e : Ranked) → HasLabel m es w p e → has (living es) w ≡ true
+has_own m es w p e h = stands-has es w p (record { entry = e; at = h.at; labelled = h.labelled })
 
-pub show_done : (s : Setting) (lib : List Ranked) (w : List ℕ) (p : ℕ) (e : Ranked) → Verifies s lib → slice_get lib p ≡ Some e
-    → label_of e ≡ w
-    → edit s lib (Show w) ≡ Ok (record { library = lib; reply = Shown (citers lib w) e })
-show_done s lib w p e v at own =
-    ap (shown lib) (find_entry lib w p e v.library.distinct at own)
-    ∙ ap (λ (k : List ℕ). Ok (record { library = lib; reply = Shown (citers lib k) e })) own
+-- whether a label is taken, by what a look-up found
+pub known : (slice held : Entries) (w v : List ℕ) (o : Option ℕ) (b : Bool) → slice ≡ held → w ≡ v → FoundAt slice w o → b ≡ is_some o
+    → has (living held) v ≡ b
+known slice held w v o b same own at is =
+    sym (is ∙ some-known slice w o at ∙ ap (λ l. has (living l) w) same ∙ ap (has (living held)) own)
+
+-- the same, of lists and labels that are equal
+pub has_label : (m : Places) (inside held slice : Entries) (w v : List ℕ) (p : ℕ) (e : Ranked) → IsIndex m inside → inside ≡ held → slice ≡ inside
+    → StandsIn slice p e → label_of e ≡ w → w ≡ v → HasLabel m held v p e
+has_label m inside held slice w v p e x same read at own as_label = record {
+  indexed = subst (IsIndex m) same x;
+  at = subst (λ l. StandsIn l p e) (read ∙ same) at;
+  labelled = own ∙ as_label;
+}
+
+pub free_in : (slice held : Entries) (w v : List ℕ) → slice ≡ held → w ≡ v → has (living slice) w ≡ false → has (living held) v ≡ false
+free_in slice held w v same as_label h = subst (λ l. has (living l) v ≡ false) same (subst (λ l. has (living slice) l ≡ false) as_label h)
+
+own_label : (w : List ℕ) (e : Ranked) → label_of e ≡ w → is_labelled w e ≡ true
+own_label w e h = subst (λ l. bytes_eq w l ≡ true) (sym h) (bytes_eq-same w)
+
+-- what becomes of the library where the assertion with a label is changed
+pub library-changed : (m : Places) (es : Entries) (w : List ℕ) (p : ℕ) (e : Ranked) (f : Ranked → Ranked) → HasLabel m es w p e
+    → living (set es p (Some (f e))) ≡ changed w f (living es)
+library-changed m es w p e f h =
+    living-changed es w p f e h.at (own_label w e h.labelled)
+    (subst (λ l. IsAlone es l p) h.labelled (stands-alone m es p e h.indexed h.at))
+
+pub library-without : (m : Places) (es : Entries) (w : List ℕ) (p : ℕ) (e : Ranked) → HasLabel m es w p e
+    → living (set es p None) ≡ without w (living es)
+library-without m es w p e h =
+    living-removed es w p e h.at (own_label w e h.labelled)
+    (subst (λ l. IsAlone es l p) h.labelled (stands-alone m es p e h.indexed h.at))
+
+pub library-renamed : (m : Places) (es : Entries) (old new : List ℕ) (p : ℕ) (e : Ranked) → HasLabel m es old p e
+    → living (changed_all (citing old new) (set es p (Some (with_label new e)))) ≡ rename old new (living es)
+library-renamed m es old new p e h =
+    sym (rename_place old new es p e h.at (own_label old e h.labelled)
+    (subst (λ l. IsAlone es l p) h.labelled (stands-alone m es p e h.indexed h.at)))
+
+pub library-added : (es : Entries) (rank : ℕ) (a : Assertion) (p : ℕ) → p ≡ length es
+    → living (set (es ++ None ∷ []) p (Some (record { rank = rank; assertion = a }))) ≡ added (living es) rank a
+library-added es rank a p last =
+    let e : Ranked = record { rank = rank; assertion = a } in
+    ap (λ k. living (set (es ++ None ∷ []) k (Some e))) last ∙ ap living (set-last es None (Some e)) ∙ living-pushed es e

@@ -5,22 +5,30 @@ use Rattle.std.proofs.lemmas.Option.{slice_get-get_or}
 use Rattle.commands.specs.declared.library.Ranked.{Ranked}
 use Rattle.commands.specs.Library.{Setting, Verifies}
 use Rattle.commands.proofs.Editing.{transaction_verifies}
-use Rattle.history.specs.Histories.{Entry, open_entry, void_entry, done_entry, after_entry, after_all}
+use Rattle.history.specs.Histories.{Entry, open_entry, void_entry, done_entry, EntryFits, EntriesFit, after_entry, after_all}
 use Rattle.history.specs.Laws.{FrontsVerify, GrowthIsReflexive, GrowthIsTransitive, SettledFrontsStay}
 
 -- ---- it verifies
 
-entry_verifies : (s : Setting) (lib : List Ranked) (e : Entry) → Verifies s lib → Verifies s (after_entry s lib e)
-entry_verifies s lib open_entry v = v
-entry_verifies s lib void_entry v = v
-entry_verifies s lib (done_entry cs replies) v = transaction_verifies s lib cs v
+entry_verifies : (s : Setting) (lib : List Ranked) (e : Entry) → Verifies s lib → EntryFits s.prelude e → Verifies s (after_entry s lib e)
+entry_verifies s lib open_entry v fit = v
+entry_verifies s lib void_entry v fit = v
+entry_verifies s lib (done_entry cs replies) v fit = transaction_verifies s lib cs v fit
 
-all_verify : (s : Setting) (lib : List Ranked) (es : List Entry) → Verifies s lib → Verifies s (after_all s lib es)
-all_verify s lib [] v = v
-all_verify s lib (e ∷ es) v = all_verify s (after_entry s lib e) es (entry_verifies s lib e v)
+all_verify : (s : Setting) (lib : List Ranked) (es : List Entry) → Verifies s lib → EntriesFit s.prelude es → Verifies s (after_all s lib es)
+all_verify s lib [] v fit = v
+all_verify s lib (e ∷ es) v fit =
+    all_verify s (after_entry s lib e) es (entry_verifies s lib e v (fit zero e (omega arith))) (λ i d lt. fit (suc i) d (omega arith))
+
+-- those of a front fit
+front_fits : (s : Setting) (h : List Entry) (k : ℕ) → EntriesFit s.prelude h → EntriesFit s.prelude (take k h)
+front_fits s h zero fit i d lt = absurd (omega arith)
+front_fits s [] (suc k) fit i d lt = absurd (omega arith)
+front_fits s (e ∷ es) (suc k) fit zero d lt = fit zero d (omega arith)
+front_fits s (e ∷ es) (suc k) fit (suc i) d lt = front_fits s es k (λ j f within. fit (suc j) f (omega arith)) i d (omega arith)
 
 pub fronts_verify : FrontsVerify
-fronts_verify s lib0 h k v = all_verify s lib0 (take k h) v
+fronts_verify s lib0 h k v fit = all_verify s lib0 (take k h) v (front_fits s h k fit)
 
 -- ---- growth
 

@@ -1,103 +1,164 @@
--- A map that has the place of each label, after changes of the map and of the list.
-use Rattle.std.proofs.Common.{◌≡◌, ℕ, zero, suc, Bool, true, false, cond, List, [], ◌∷◌, ◌++◌, Option, None, Some, length, refl, sym, ap}
-use Rattle.std.proofs.Common.{subst, ◌∙◌, ◌⊎◌, inl, inr}
-use Rattle.std.specs.List.{slice_get}
-use Rattle.std.specs.Option.{IsSome}
+-- A map that has the place of each label, after changes of the map and of a place.
+use Rattle.std.proofs.Common.{◌≡◌, ℕ, Bool, true, false, cond, List, [], ◌∷◌, ◌++◌, Option, None, Some, length, set, refl, sym, ap}
+use Rattle.std.proofs.Common.{zero, suc, subst, ◌∙◌, ◌⊎◌, inl, inr}
+use Rattle.std.specs.Option.{IsSome, is_some}
 use Rattle.std.specs.Str.{bytes_eq}
 use Rattle.std.proofs.lemmas.Bool.{cases_Bool, cases_eq, cond-true, cond-false}
 use Rattle.mmsyntax.proofs.Names.{same_bytes, bytes_eq-same}
-use Rattle.mmsyntax.specs.declared.statement.Step.{Step}
 use Rattle.commands.specs.declared.library.Ranked.{Ranked}
 use Rattle.commands.specs.Library.{label_of}
 use Rattle.commands.specs.Edits.{has}
-use Rattle.history.specs.Places.{Places, place_in, IsIndex, Puts, KeepsLabels}
-use Rattle.history.specs.Drafts.{with_label, with_proof, relabelled, reproved}
-use Rattle.history.proofs.Changing.{changed-other, changed-came, relabelled-label, has-not, has-none}
+use Rattle.history.specs.Entries.{Entries, living, StandsIn}
+use Rattle.history.specs.Places.{Places, place_in, IsIndex, Puts, KeepsLabels, FoundAt, StandsSomewhere}
+use Rattle.history.specs.Drafts.{IsAlone, CanStand}
+use Rattle.history.proofs.Living.{one-place, has-not-at}
+use Rattle.history.proofs.Changing.{get-set_is, get-set_other}
 
--- ---- look-ups
+-- ---- alone
 
--- no entry has a label where none stands at the place that the map has for it
-pub absent : (m : Places) (lib : List Ranked) (w : List ℕ) → IsIndex m lib
-    → ((p : ℕ) (e : Ranked) → place_in m w ≡ Some p → slice_get lib p ≡ Some e → bytes_eq w (label_of e) ≡ false) → has lib w ≡ false
-absent m lib w x h = has-none lib w (λ p e at.
-    elim (cases_Bool (bytes_eq w (label_of e))) [
-      | inl y ↦ h p e (ap (place_in m) (same_bytes w (label_of e) y) ∙ x.finds p e at) at
-      | inr n ↦ n
-    ])
+-- an assertion that stands is the only one with its label
+pub stands-alone : (m : Places) (es : Entries) (p : ℕ) (e : Ranked) → IsIndex m es → StandsIn es p e → IsAlone es (label_of e) p
+stands-alone m es p e x at = record {
+  others = λ q f here ne. elim (cases_Bool (bytes_eq (label_of e) (label_of f))) [
+    | inl y ↦ absurd (ne (sym (one-place m es p q e f x at here (same_bytes (label_of e) (label_of f) y))))
+    | inr n ↦ n
+  ];
+}
 
--- one label stands at one place
-pub one_place : (m : Places) (lib : List Ranked) (p q : ℕ) (e f : Ranked) → IsIndex m lib → slice_get lib p ≡ Some e
-    → slice_get lib q ≡ Some f → label_of e ≡ label_of f → p ≡ q
-one_place m lib p q e f x at_p at_q same =
-    let places : Some p ≡ Some q = sym (x.finds p e at_p) ∙ ap (place_in m) same ∙ x.finds q f at_q in
-    cc
+-- so is one whose label is free
+pub free-alone : (es : Entries) (w : List ℕ) (p : ℕ) → has (living es) w ≡ false → IsAlone es w p
+free-alone es w p free = record { others = λ q f at ne. has-not-at es w q f free at }
+
+abbrev pub IsAloneIn : Entries → Option Ranked → ℕ → Type 0
+IsAloneIn es None p = Unit {0}
+IsAloneIn es (Some e) p = IsAlone es (label_of e) p
+
+pub stand-alone : (m : Places) (es : Entries) (p : ℕ) (o : Option Ranked) → CanStand m es p o → IsAloneIn es o p
+stand-alone m es p None h = tt
+stand-alone m es p (Some e) h = h.0
+
+-- ---- maps
+
+-- the map n is m with the place for the label of what is put there
+abbrev pub PutsAt : Places → Option Ranked → ℕ → Places → Type 0
+PutsAt m None p n = (q : List ℕ) → place_in n q ≡ place_in m q
+PutsAt m (Some e) p n = Puts m (label_of e) p n
+
+-- a map that has the place already
+pub puts-same : (m : Places) (w : List ℕ) (p : ℕ) → place_in m w ≡ Some p → Puts m w p m
+puts-same m w p h q =
+    elim (cases_Bool (bytes_eq w q)) [
+      | inl y ↦ ap (place_in m) (sym (same_bytes w q y)) ∙ h ∙ sym (cond-true (bytes_eq w q) (Some p) (place_in m q) y)
+      | inr n ↦ sym (cond-false (bytes_eq w q) (Some p) (place_in m q) n)
+    ]
 
 some_cond : (b : Bool) (p : ℕ) (o : Option ℕ) → IsSome o → IsSome (cond b (Some p) o)
 some_cond true p o h = refl
 some_cond false p o h = h
 
-pub puts_keeps : (m n : Places) (w : List ℕ) (p : ℕ) → Puts m w p n → KeepsLabels m n
-puts_keeps m n w p h = record { keeps = λ q some. subst (λ o. IsSome o) (sym (h q)) (some_cond (bytes_eq w q) p (place_in m q) some) }
+pub puts-keeps : (m n : Places) (w : List ℕ) (p : ℕ) → Puts m w p n → KeepsLabels m n
+puts-keeps m n w p h = record { keeps = λ q some. subst (λ o. IsSome o) (sym (h q)) (some_cond (bytes_eq w q) p (place_in m q) some) }
+
+pub puts_at-keeps : (m n : Places) (o : Option Ranked) (p : ℕ) → PutsAt m o p n → KeepsLabels m n
+puts_at-keeps m n None p h = record { keeps = λ q some. subst (λ o. IsSome o) (sym (h q)) some }
+puts_at-keeps m n (Some e) p h = puts-keeps m n (label_of e) p h
 
 -- ---- changes
 
--- an entry was given a label that was free, and the map its place
-pub index-relabelled : (m n : Places) (lib : List Ranked) (p : ℕ) (w : List ℕ) → IsIndex m lib → has lib w ≡ false → Puts m w p n
-    → IsIndex n (relabelled lib p w)
-index-relabelled m n lib p w x free h = record {
+-- a place has something else
+pub index-set : (m n : Places) (es : Entries) (p : ℕ) (new : Option Ranked) → IsIndex m es → IsAloneIn es new p → PutsAt m new p n
+    → IsIndex n (set es p new)
+index-set m n es p None x alone h = record {
   finds = λ i e at. elim (cases_eq i p) [
     | inl same ↦
-        let own : label_of e ≡ w = relabelled-label lib p w e (subst (λ (k : ℕ). slice_get (relabelled lib p w) k ≡ Some e) same at) in
-        ap (place_in n) own ∙ h w ∙ cond-true (bytes_eq w w) (Some p) (place_in m w) (bytes_eq-same w) ∙ ap (λ k. Some k) (sym same)
+        let none : None ≡ Some e = get-set_is es p None (Some e) (subst (λ (k : ℕ). StandsIn (set es p None) k e) same at) in
+        absurd cc
+    | inr ne ↦ h (label_of e) ∙ x.finds i e (sym (get-set_other es p i None ne) ∙ at)
+  ];
+}
+index-set m n es p (Some f) x alone h = record {
+  finds = λ i e at. elim (cases_eq i p) [
+    | inl same ↦
+        let here : Some f ≡ Some e = get-set_is es p (Some f) (Some e) (subst (λ (k : ℕ). StandsIn (set es p (Some f)) k e) same at) in
+        let own : f ≡ e = cc in
+        let w = label_of f in
+        ap (λ (k : Ranked). place_in n (label_of k)) (sym own) ∙ h w
+        ∙ cond-true (bytes_eq w w) (Some p) (place_in m w) (bytes_eq-same w) ∙ ap (λ k. Some k) (sym same)
     | inr ne ↦
-        let was : slice_get lib i ≡ Some e = sym (changed-other lib p i (with_label w) ne) ∙ at in
-        h (label_of e) ∙ cond-false (bytes_eq w (label_of e)) (Some p) (place_in m (label_of e)) (has-not lib w i e free was)
+        let was : StandsIn es i e = sym (get-set_other es p i (Some f) ne) ∙ at in
+        h (label_of e) ∙ cond-false (bytes_eq (label_of f) (label_of e)) (Some p) (place_in m (label_of e)) (alone.others i e was ne)
         ∙ x.finds i e was
   ];
 }
 
--- an entry was given another proof
-pub index-reproved : (m : Places) (lib : List Ranked) (p : ℕ) (steps : List Step) → IsIndex m lib → IsIndex m (reproved lib p steps)
-index-reproved m lib p steps x = record {
-  finds = λ i e at. elim (cases_eq i p) [
-    | inl same ↦
-        let here : slice_get (reproved lib p steps) p ≡ Some e = subst (λ (k : ℕ). slice_get (reproved lib p steps) k ≡ Some e) same at in
-        let came = changed-came lib p (with_proof steps) e here in
-        ap (λ (y : Ranked). place_in m (label_of y)) (sym came.2) ∙ x.finds p came.0 came.1 ∙ ap (λ k. Some k) (sym same)
-    | inr ne ↦ x.finds i e (sym (changed-other lib p i (with_proof steps) ne) ∙ at)
-  ];
-}
-
--- the map lost a label that no entry has
-pub index-forgot : (m n : Places) (lib : List Ranked) (w : List ℕ) → IsIndex m lib → has lib w ≡ false
-    → ((q : List ℕ) → place_in n q ≡ cond (bytes_eq w q) None (place_in m q)) → IsIndex n lib
-index-forgot m n lib w x free h = record {
-  finds = λ i e at. h (label_of e) ∙ cond-false (bytes_eq w (label_of e)) None (place_in m (label_of e)) (has-not lib w i e free at)
+-- the map lost a label that no assertion has
+pub index-forgot : (m n : Places) (es : Entries) (w : List ℕ) → IsIndex m es → has (living es) w ≡ false
+    → ((q : List ℕ) → place_in n q ≡ cond (bytes_eq w q) None (place_in m q)) → IsIndex n es
+index-forgot m n es w x free h = record {
+  finds = λ i e at. h (label_of e) ∙ cond-false (bytes_eq w (label_of e)) None (place_in m (label_of e)) (has-not-at es w i e free at)
       ∙ x.finds i e at;
 }
 
-pushed-cases : (lib : List Ranked) (e : Ranked) (i : ℕ) (f : Ranked) → slice_get (lib ++ e ∷ []) i ≡ Some f
-    → (slice_get lib i ≡ Some f) ⊎ ((i ≡ length lib) × (e ≡ f))
-pushed-cases [] e zero f h = inr (refl, cc)
-pushed-cases [] e (suc i) f h = absurd cc
-pushed-cases (x ∷ xs) e zero f h = inl h
-pushed-cases (x ∷ xs) e (suc i) f h =
-    elim (pushed-cases xs e i f h) [
+-- what stands behind one more place
+pub pushed-cases : (es : Entries) (o : Option Ranked) (i : ℕ) (f : Ranked) → StandsIn (es ++ o ∷ []) i f
+    → StandsIn es i f ⊎ ((i ≡ length es) × (o ≡ Some f))
+pushed-cases [] o zero f h = inr (refl, cc)
+pushed-cases [] o (suc i) f h = absurd cc
+pushed-cases (x ∷ xs) o zero f h = inl h
+pushed-cases (x ∷ xs) o (suc i) f h =
+    elim (pushed-cases xs o i f h) [
       | inl at ↦ inl at
       | inr last ↦ inr (ap (λ n. suc n) last.0, last.1)
     ]
 
--- one more entry, with a label that was free
-pub index-pushed : (m n : Places) (lib : List Ranked) (e : Ranked) → IsIndex m lib → has lib (label_of e) ≡ false
-    → Puts m (label_of e) (length lib) n → IsIndex n (lib ++ e ∷ [])
-index-pushed m n lib e x free h =
+pub index-opened : (m : Places) (es : Entries) → IsIndex m es → IsIndex m (es ++ None ∷ [])
+index-opened m es x = record {
+  finds = λ i e at. elim (pushed-cases es None i e at) [
+    | inl was ↦ x.finds i e was
+    | inr last ↦ absurd (let none : None ≡ Some e = last.1 in cc)
+  ];
+}
+
+-- one more assertion, with a label that was free
+pub index-pushed : (m n : Places) (es : Entries) (e : Ranked) → IsIndex m es → has (living es) (label_of e) ≡ false
+    → Puts m (label_of e) (length es) n → IsIndex n (es ++ Some e ∷ [])
+index-pushed m n es e x free h =
     let w = label_of e in
     record {
-      finds = λ i f at. elim (pushed-cases lib e i f at) [
-        | inl was ↦ h (label_of f) ∙ cond-false (bytes_eq w (label_of f)) (Some (length lib)) (place_in m (label_of f)) (has-not lib w i f free was) ∙ x.finds i f was
+      finds = λ i f at. elim (pushed-cases es (Some e) i f at) [
+        | inl was ↦ h (label_of f) ∙ cond-false (bytes_eq w (label_of f)) (Some (length es)) (place_in m (label_of f)) (has-not-at es w i f free was) ∙ x.finds i f was
         | inr last ↦
-            ap (λ (k : Ranked). place_in n (label_of k)) (sym last.1) ∙ h w
-            ∙ cond-true (bytes_eq w w) (Some (length lib)) (place_in m w) (bytes_eq-same w)
+            let own : e ≡ f = cc in
+            ap (λ (k : Ranked). place_in n (label_of k)) (sym own) ∙ h w
+            ∙ cond-true (bytes_eq w w) (Some (length es)) (place_in m w) (bytes_eq-same w)
             ∙ ap (λ k. Some k) (sym last.0)
       ];
     }
+
+-- ---- a map that lost a label
+
+none_some : (o : Option ℕ) → o ≡ None → IsSome o → ⊥
+none_some None e h = absurd cc
+none_some (Some p) e h = absurd cc
+
+pub removed_fewer : (m n : Places) (w : List ℕ) → ((q : List ℕ) → place_in n q ≡ cond (bytes_eq w q) None (place_in m q)) → KeepsLabels n m
+removed_fewer m n w h = record {
+  keeps = λ q some. elim (cases_Bool (bytes_eq w q)) [
+    | inl y ↦ absurd (none_some (place_in n q) (h q ∙ cond-true (bytes_eq w q) None (place_in m q) y) some)
+    | inr other ↦ subst (λ o. IsSome o) (h q ∙ cond-false (bytes_eq w q) None (place_in m q) other) some
+  ];
+}
+
+pub removed_gone : (m n : Places) (w : List ℕ) → ((q : List ℕ) → place_in n q ≡ cond (bytes_eq w q) None (place_in m q))
+    → IsSome (place_in n w) → ⊥
+removed_gone m n w h some = none_some (place_in n w) (h w ∙ cond-true (bytes_eq w w) None (place_in m w) (bytes_eq-same w)) some
+
+-- ---- what a look-up found
+
+pub found_none : (es : Entries) (w : List ℕ) (o : Option ℕ) → FoundAt es w o → false ≡ is_some o → has (living es) w ≡ false
+found_none es w None h e = h
+found_none es w (Some p) h e = absurd cc
+
+pub found_some : (es : Entries) (w : List ℕ) (o : Option ℕ) → FoundAt es w o → true ≡ is_some o → StandsSomewhere es w
+found_some es w None h e = absurd cc
+found_some es w (Some p) h e = (p, h)

@@ -1,9 +1,13 @@
+pub mod Living
+pub mod Reading
+pub mod Citable
+pub mod Counting
+pub mod Lines
 pub mod Changing
-pub mod Citations
 pub mod Indexes
-pub mod Keys
 pub mod Undoing
-pub mod Taking
-pub mod Commands
 pub mod Openings
+pub mod Citations
+pub mod Commands
+pub mod Taking
 pub mod Fronts

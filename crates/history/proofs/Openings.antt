@@ -1,19 +1,23 @@
 -- The opening library: its entries one by one.
 use Rattle.std.proofs.Common.{◌≡◌, ℕ, zero, suc, ◌+◌, ◌*◌, ◌<◌, false, List, [], ◌∷◌, ◌++◌, Some, inl, inr, length, get_or, take, map}
-use Rattle.std.proofs.Common.{refl, sym, ap, ◌∙◌, arith}
+use Rattle.std.proofs.Common.{refl, sym, ap, subst, ◌∙◌, arith}
 use Rattle.std.specs.Prelude.{slice_get}
 use Rattle.std.specs.Str.{bytes_eq}
 use Rattle.std.proofs.lemmas.Bool.{cases_Bool}
-use Rattle.std.proofs.lemmas.List.{take_more}
+use Rattle.std.proofs.lemmas.List.{take_more, length-map}
 use Rattle.std.proofs.lemmas.Option.{slice_get_within, get_or_from_slice_get}
 use Rattle.mmsyntax.proofs.Names.{same_bytes}
 use Rattle.mmsyntax.specs.declared.statement.Assertion.{Assertion}
+use Rattle.mmsyntax.specs.Tables.{Tables}
 use Rattle.mmsyntax.specs.Assertions.{Distinct}
+use Rattle.mmstatement.specs.Frames.{frame}
 use Rattle.commands.specs.declared.library.Ranked.{Ranked}
 use Rattle.commands.specs.Library.{label_of, ranked_from}
 use Rattle.commands.specs.Edits.{has}
 use Rattle.commands.proofs.Places.{labels_apart}
-use Rattle.history.proofs.Changing.{has-none}
+use Rattle.history.specs.Entries.{standing, StandsIn, AreFramed}
+use Rattle.history.proofs.Living.{none-has}
+use Rattle.history.proofs.Changing.{living-standing}
 
 pub length-ranked_from : (k : ℕ) (xs : List Assertion) → length (ranked_from k xs) ≡ length xs
 length-ranked_from k [] = refl
@@ -51,12 +55,26 @@ front_get (x ∷ xs) (suc i) (suc p) f h =
     let r = front_get xs i p f h in
     (let lt = r.0 in omega arith, r.1)
 
+-- an assertion of a library that stands one place after another
+standing-at : (lib : List Ranked) (p : ℕ) (e : Ranked) → StandsIn (standing lib) p e → slice_get lib p ≡ Some e
+standing-at [] p e h = absurd cc
+standing-at (x ∷ xs) zero e h = cc
+standing-at (x ∷ xs) (suc p) e h = standing-at xs p e h
+
+framed_at : (t : Tables) (k : ℕ) (xs : List Assertion) (p : ℕ) (e : Ranked) → slice_get (ranked_from k xs) p ≡ Some e
+    → slice_get (map (frame t) xs) p ≡ Some (frame t e.assertion)
+framed_at t k [] p e h = absurd cc
+framed_at t k (x ∷ xs) zero e h =
+    let same : record { rank = 100 * k; assertion = x } ≡ e = cc in
+    ap (λ (y : Ranked). Some (frame t y.assertion)) same
+framed_at t k (x ∷ xs) (suc p) e h = framed_at t (k + 1) xs p e h
+
 -- where labels differ, the label of an entry is free before it
 pub front_free : (lib : List Ranked) (i : ℕ) (e : Ranked) → Distinct bytes_eq (map label_of lib) → slice_get lib i ≡ Some e
     → has (take i lib) (label_of e) ≡ false
 front_free lib i e apart at =
-    has-none (take i lib) (label_of e) (λ p f front.
-    let here = front_get lib i p f front in
+    subst (λ (l : List Ranked). has l (label_of e) ≡ false) (living-standing (take i lib)) (none-has (standing (take i lib)) (label_of e) (λ p f front.
+    let here = front_get lib i p f (standing-at (take i lib) p f front) in
     let before = here.0 in
     elim (cases_Bool (bytes_eq (label_of e) (label_of f))) [
       | inl y ↦
@@ -65,4 +83,13 @@ front_free lib i e apart at =
           ∙ sym (ap label_of (get_or_from_slice_get lib i e e at)) in
           absurd (labels_apart lib apart i p e (slice_get_within lib i e at) (slice_get_within lib p f here.1) (λ (z : p ≡ i). omega arith) same)
       | inr n ↦ n
-    ])
+    ]))
+
+-- ---- frames
+
+-- beside the opening library stand the frames of its assertions
+pub framed-opening : (t : Tables) (k : ℕ) (xs : List Assertion) → AreFramed t (standing (ranked_from k xs)) (map (frame t) xs)
+framed-opening t k xs = record {
+  long = length-map xs (frame t) ∙ sym (length-map (ranked_from k xs) (λ (e : Ranked). Some e) ∙ length-ranked_from k xs);
+  framed = λ p e at. framed_at t k xs p e (standing-at (ranked_from k xs) p e at);
+}

@@ -1,18 +1,20 @@
 -- Transactions, command by command.
 use Rattle.std.proofs.Common.{◌≡◌, ℕ, ◌+◌, List, [], ◌∷◌, ◌++◌, Result, Ok, Err, refl, sym, ap, subst, ◌∙◌, append-nil}
+use Rattle.std.specs.List.{All}
 use Rattle.std.proofs.lemmas.List.{append_assoc}
 use Rattle.commands.specs.declared.library.Ranked.{Ranked}
 use Rattle.commands.specs.declared.command.Command.{Command}
 use Rattle.commands.specs.declared.command.Reply.{Reply}
-use Rattle.commands.specs.declared.command.Reason.{Reason}
-use Rattle.commands.specs.declared.command.Refused.{Refused}
+use Rattle.commands.specs.declared.reason.Reason.{Reason}
+use Rattle.commands.specs.declared.reason.Refused.{Refused}
 use Rattle.commands.specs.Library.{Setting, Verifies}
+use Rattle.commands.specs.Fitting.{CommandFits}
 use Rattle.commands.specs.Edits.{edit}
 use Rattle.commands.specs.Transactions.{Applied, with_reply, then_apply, apply_from, apply}
-use Rattle.commands.proofs.Editing.{edit_verifies, apply_verifies}
+use Rattle.commands.proofs.Editing.{apply_verifies}
 use Rattle.history.specs.declared.editor.ApplyError.{ApplyError}
 use Rattle.history.specs.declared.editor.ApplyError.TheVariants as error
-use Rattle.history.specs.Drafts.{Drafted, Takes, TakesAll, KeepsStart, IsSettled}
+use Rattle.history.specs.Drafts.{Drafted, now_in, Takes, TakesAll, KeepsStart, Settles, IsSettled}
 
 -- the replies of earlier commands before those of later ones
 abbrev pub with_replies : List Reply → Result Applied Refused → Result Applied Refused
@@ -53,10 +55,10 @@ taken_none s n lib c cs replies reason h = ap (λ r. with_replies replies (then_
 
 -- a command that ends a transaction ends it with what the transaction answers
 pub error_ends : (start now after new : Drafted) (n : ℕ) (c : Command) (rest cs : List Command) (replies : List Reply) (e : ApplyError)
-    → apply start.setting start.library cs ≡ with_replies replies (apply_from now.setting n now.library (c ∷ rest))
+    → apply start.setting (now_in start) cs ≡ with_replies replies (apply_from now.setting n (now_in now) (c ∷ rest))
     → Takes n now c (Err e) after → TakesAll start cs (Err e) new
 error_ends start now after new n c rest cs replies (error.Refused r) so_far h =
-    so_far ∙ taken_none now.setting n now.library c rest replies r.reason h.1
+    so_far ∙ taken_none now.setting n (now_in now) c rest replies r.reason h.1
     ∙ ap (λ (k : ℕ). Err (record { index = k; reason = r.reason })) (sym h.0)
 error_ends start now after new n c rest cs replies error.NoMemory so_far h = tt
 
@@ -65,17 +67,14 @@ error_ends start now after new n c rest cs replies error.NoMemory so_far h = tt
 pub kept_on : (a b c : Drafted) → KeepsStart a b → KeepsStart b c → KeepsStart a c
 kept_on a b c h k = record { setting = k.setting ∙ h.setting; start = k.start ∙ h.start }
 
--- a command that is done leaves a library that verifies
-pub taken_verifies : (n : ℕ) (old new : Drafted) (c : Command) (reply : Reply) → Verifies old.setting old.library
-    → Takes n old c (Ok reply) new → KeepsStart old new → Verifies new.setting new.library
-taken_verifies n old new c reply v h k =
-    subst (λ s. Verifies s new.library) (sym k.setting) (edit_verifies old.setting old.library c (record { library = new.library; reply = reply }) v h)
-
 -- a transaction that is done is settled once its library is the new start
-pub done_settles : (old new : Drafted) (cs : List Command) (replies : List Reply) → IsSettled old → TakesAll old cs (Ok replies) new
-    → KeepsStart old new → IsSettled (record new { start = new.library; noted = [] })
-done_settles old new cs replies settled h k = record {
-  verifies = subst (λ s. Verifies s new.library) (sym k.setting) (apply_verifies old.setting old.library cs (record { library = new.library; replies = replies }) settled.verifies h);
-  settled = refl;
-  forgotten = refl;
-}
+pub done_settles : (old now new : Drafted) (cs : List Command) (replies : List Reply) → IsSettled old → All (CommandFits old.setting.prelude) cs
+    → TakesAll old cs (Ok replies) now → KeepsStart old now → Settles now (now_in now) new → IsSettled new
+done_settles old now new cs replies settled fit h k settles =
+    let same : new.setting ≡ old.setting = settles.setting ∙ k.setting in
+    let verifies = apply_verifies old.setting (now_in old) cs (record { library = now_in now; replies = replies }) settled.verifies fit h in
+    record {
+      verifies = subst (λ s. Verifies s (now_in new)) (sym same) (subst (Verifies old.setting) (sym settles.library) verifies);
+      settled = settles.start ∙ sym settles.library;
+      forgotten = settles.forgotten;
+    }

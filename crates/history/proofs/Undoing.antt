@@ -1,133 +1,324 @@
 -- Changes taken back: from the last to the first, they give the library before them.
-use Rattle.std.proofs.Common.{◌≡◌, ℕ, ◌<◌, false, List, [], ◌∷◌, ◌++◌, Some, length, map, take, drop}
+use Rattle.std.proofs.Common.{◌≡◌, ℕ, ◌⊎◌, List, [], ◌∷◌, ◌++◌, Option, None, Some, length, set, take, drop}
 use Rattle.std.proofs.Common.{arith, refl, sym, ap, subst, ◌∙◌, inl, inr}
 use Rattle.std.specs.List.{slice_get}
 use Rattle.std.specs.Map.{lookup}
 use Rattle.std.specs.Str.{bytes_eq}
-use Rattle.std.proofs.lemmas.List.{take-append-le, take_all}
 use Rattle.std.specs.Option.{IsSome}
-use Rattle.std.proofs.lemmas.Bool.{cases_Bool, cases_eq}
+use Rattle.std.proofs.lemmas.List.{length-set, length-append, map-append, take-append-le, take_all}
+use Rattle.std.proofs.lemmas.Bool.{cases_Bool, cases_eq, cond-false}
 use Rattle.std.proofs.lemmas.Option.{slice_get_within}
-use Rattle.mmsyntax.proofs.Names.{same_bytes, bytes_eq-sym}
-use Rattle.mmsyntax.specs.declared.statement.Step.{Step}
+use Rattle.mmsyntax.proofs.Names.{same_bytes}
+use Rattle.mmsyntax.specs.declared.statement.Frame.{Frame}
+use Rattle.mmsyntax.specs.Tables.{Tables}
+use Rattle.mmstatement.specs.Frames.{frame}
 use Rattle.commands.specs.declared.library.Ranked.{Ranked}
 use Rattle.commands.specs.Library.{label_of}
-use Rattle.commands.specs.Edits.{has}
 use Rattle.history.specs.declared.notes.Note.{Note}
-use Rattle.history.specs.declared.notes.Note.TheVariants.{Relabelled, Reproved}
-use Rattle.history.specs.Places.{Places, place_in, IsIndex, StandsAt, Puts, KeepsLabels}
-use Rattle.history.specs.Drafts.{with_label, with_proof, relabelled, reproved, taken_back, undone, former_labels}
-use Rattle.history.specs.Drafts.{CanRelabel, CanTakeBack, CanUndo, IsDraft}
-use Rattle.history.proofs.Changing.{changed-other, changed-twice, changed-nothing, relabelled-label, length-changed, has-not, has-none}
-use Rattle.history.proofs.Indexes.{one_place, puts_keeps, index-relabelled, index-reproved}
-use Rattle.history.proofs.Keys.{only-fewer, only-relabelled, only-reproved}
+use Rattle.history.specs.Entries.{Entries, living, StandsIn, AreFramed}
+use Rattle.history.specs.Places.{Places, place_in, IsIndex, HasOnly, StandsSomewhere, KeepsLabels, Puts}
+use Rattle.history.specs.Drafts.{taken_back, undone, formers, CanStand, CanTakeBack, CanUndo, AreNotesFramed, IsForgotten, IsDraft, IsCounted}
+use Rattle.history.proofs.Changing.{get-set_same, get-set_other, get-set_is, set-back, set-left, get-left, get-last, living-opened}
+use Rattle.history.proofs.Indexes.{IsAloneIn, PutsAt, stands-alone, puts_at-keeps, index-set, index-opened, pushed-cases}
 
 -- ---- one more change
 
-pub undone-push : (ns : List Note) (n : Note) (lib : List Ranked) → undone (ns ++ n ∷ []) lib ≡ undone ns (taken_back n lib)
-undone-push [] n lib = refl
-undone-push (k ∷ ns) n lib = ap (taken_back k) (undone-push ns n lib)
+pub undone-push : (ns : List Note) (n : Note) (es : Entries) → undone (ns ++ n ∷ []) es ≡ undone ns (taken_back n es)
+undone-push [] n es = refl
+undone-push (k ∷ ns) n es = ap (taken_back k) (undone-push ns n es)
 
-pub can_undo-push : (m : Places) (ns : List Note) (n : Note) (lib : List Ranked) → CanUndo m ns (taken_back n lib)
-    → CanTakeBack m lib n → CanUndo m (ns ++ n ∷ []) lib
-can_undo-push m [] n lib h c = (tt, c)
-can_undo-push m (k ∷ ns) n lib h c = (can_undo-push m ns n lib h.0 c, subst (λ l. CanTakeBack m l k) (sym (undone-push ns n lib)) h.1)
+pub can_undo-push : (m : Places) (ns : List Note) (n : Note) (es : Entries) → CanUndo m ns (taken_back n es)
+    → CanTakeBack m es n → CanUndo m (ns ++ n ∷ []) es
+can_undo-push m [] n es h c = (tt, c)
+can_undo-push m (k ∷ ns) n es h c = (can_undo-push m ns n es h.0 c, subst (λ l. CanTakeBack m l k) (sym (undone-push ns n es)) h.1)
 
-pub can_undo-split : (m : Places) (ns : List Note) (n : Note) (lib : List Ranked) → CanUndo m (ns ++ n ∷ []) lib
-    → CanUndo m ns (taken_back n lib) × CanTakeBack m lib n
-can_undo-split m [] n lib h = (tt, h.1)
-can_undo-split m (k ∷ ns) n lib h =
-    let rest = can_undo-split m ns n lib h.0 in
-    ((rest.0, subst (λ l. CanTakeBack m l k) (undone-push ns n lib) h.1), rest.1)
+pub can_undo-split : (m : Places) (ns : List Note) (n : Note) (es : Entries) → CanUndo m (ns ++ n ∷ []) es
+    → CanUndo m ns (taken_back n es) × CanTakeBack m es n
+can_undo-split m [] n es h = (tt, h.1)
+can_undo-split m (k ∷ ns) n es h =
+    let rest = can_undo-split m ns n es h.0 in
+    ((rest.0, subst (λ l. CanTakeBack m l k) (undone-push ns n es) h.1), rest.1)
 
 -- a map with more labels serves as well
-can_take-kept : (m n : Places) (x : Note) (lib : List Ranked) → KeepsLabels m n → CanTakeBack m lib x → CanTakeBack n lib x
-can_take-kept m n (Relabelled p w) lib k c = record { within = c.within; free = c.free; known = k.keeps w c.known }
-can_take-kept m n (Reproved p steps) lib k c = c
+can_stand-kept : (m n : Places) (es : Entries) (p : ℕ) (o : Option Ranked) → KeepsLabels m n → CanStand m es p o → CanStand n es p o
+can_stand-kept m n es p None k c = tt
+can_stand-kept m n es p (Some e) k c = (c.0, k.keeps (label_of e) c.1)
 
-pub can_undo-kept : (m n : Places) (ns : List Note) (lib : List Ranked) → KeepsLabels m n → CanUndo m ns lib → CanUndo n ns lib
-can_undo-kept m n [] lib k h = tt
-can_undo-kept m n (x ∷ ns) lib k h = (can_undo-kept m n ns lib k h.0, can_take-kept m n x (undone ns lib) k h.1)
+pub can_undo-kept : (m n : Places) (ns : List Note) (es : Entries) → KeepsLabels m n → CanUndo m ns es → CanUndo n ns es
+can_undo-kept m n [] es k h = tt
+can_undo-kept m n (x ∷ ns) es k h = (
+  can_undo-kept m n ns es k h.0,
+  record { within = h.1.within; stands = can_stand-kept m n (undone ns es) x.place x.former k h.1.stands },
+)
 
--- ---- a label can be taken back
+-- what stood at a place can be put there again
+can_take_back : (m n : Places) (es : Entries) (p : ℕ) (former new : Option Ranked) → IsIndex m es → slice_get es p ≡ Some former
+    → KeepsLabels m n → CanTakeBack n (set es p new) (record { place = p; former = former })
+can_take_back m n es p former new x at k = record {
+  within = (let lt = slice_get_within es p former at in omega (arith, length-set es p new));
+  stands = stands former at;
+}
+  where
+    stands : (o : Option Ranked) → slice_get es p ≡ Some o → CanStand n (set es p new) p o
+    stands None at = tt
+    stands (Some e) at =
+        let alone = stands-alone m es p e x at in (
+          record { others = λ q f here ne. alone.others q f (sym (get-set_other es p q new ne) ∙ here) ne },
+          k.keeps (label_of e) (subst (λ o. IsSome o) (sym (x.finds p e at)) refl),
+        )
 
-others_apart : (m : Places) (lib : List Ranked) (p i : ℕ) (e f : Ranked) → IsIndex m lib → slice_get lib p ≡ Some e
-    → slice_get lib i ≡ Some f → (i ≡ p → ⊥) → bytes_eq (label_of e) (label_of f) ≡ false
-others_apart m lib p i e f x at_p at_i ne =
-    elim (cases_Bool (bytes_eq (label_of e) (label_of f))) [
-      | inl y ↦ absurd (ne (sym (one_place m lib p i e f x at_p at_i (same_bytes (label_of e) (label_of f) y))))
-      | inr n ↦ n
+-- ---- the labels that the map has
+
+pub formers-push : (ns : List Note) (n : Note) → formers (ns ++ n ∷ []) ≡ formers ns ++ n.former ∷ []
+formers-push ns n = map-append (λ k. k.former) ns (n ∷ [])
+
+-- a map with no other label serves as well
+pub only-fewer : (m n : Places) (es fs : Entries) → KeepsLabels n m → HasOnly m es fs → HasOnly n es fs
+only-fewer m n es fs k h = record { among = λ q some. h.among q (k.keeps q some) }
+
+-- what stood at a place, where something else does now
+moved : (es : Entries) (p : ℕ) (former new : Option Ranked) (w : List ℕ) → slice_get es p ≡ Some former → StandsSomewhere es w
+    → StandsSomewhere (set es p new) w ⊎ ((e : Ranked) × (former ≡ Some e) × (label_of e ≡ w))
+moved es p former new w at s =
+    elim (cases_eq s.0 p) [
+      | inl same ↦
+          let here : StandsIn es p s.1.entry = subst (λ (k : ℕ). StandsIn es k s.1.entry) same s.1.at in
+          let one : former ≡ Some s.1.entry = cc in
+          inr (s.1.entry, one, s.1.labelled)
+      | inr ne ↦ inl (s.0, record { entry = s.1.entry; at = get-set_other es p s.0 new ne ∙ s.1.at; labelled = s.1.labelled })
     ]
 
-can_relabel : (m n : Places) (lib : List Ranked) (p : ℕ) (e : Ranked) (w : List ℕ) → IsIndex m lib → slice_get lib p ≡ Some e
-    → has lib w ≡ false → Puts m w p n
-    → CanRelabel n (relabelled lib p w) p (label_of e)
-can_relabel m n lib p e w x at free h = record {
-  within = subst (λ k. p < k) (sym (length-changed lib p (with_label w))) (slice_get_within lib p e at);
-  free = has-none (relabelled lib p w) (label_of e) (λ i f here. elim (cases_eq i p) [
-    | inl same ↦
-        let own : label_of f ≡ w = relabelled-label lib p w f (subst (λ (k : ℕ). slice_get (relabelled lib p w) k ≡ Some f) same here) in
-        ap (bytes_eq (label_of e)) own ∙ bytes_eq-sym (label_of e) w ∙ has-not lib w p e free at
-    | inr ne ↦ others_apart m lib p i e f x at (sym (changed-other lib p i (with_label w) ne) ∙ here) ne
-  ]);
-  known = (puts_keeps m n w p h).keeps (label_of e) (subst (λ o. IsSome o) (sym (x.finds p e at)) refl);
+-- an exchange of what two places have, one of the entries and one of the notes
+pub only-exchanged : (m : Places) (es fs : Entries) (p k : ℕ) (o former : Option Ranked) → slice_get es p ≡ Some o
+    → slice_get fs k ≡ Some former → HasOnly m es fs → HasOnly m (set es p former) (set fs k o)
+only-exchanged m es fs p k o former at_p at_k h = record {
+  among = λ w some. elim (h.among w some) [
+    | inl here ↦ elim (moved es p o former w at_p here) [
+      | inl stays ↦ inl stays
+      | inr went ↦ inr (k, record { entry = went.0; at = get-set_same fs k o (slice_get_within fs k former at_k) ∙ ap (λ x. Some x) went.1; labelled = went.2 })
+    ]
+    | inr there ↦ elim (moved fs k former o w at_k there) [
+      | inl stays ↦ inr stays
+      | inr went ↦ inl (p, record { entry = went.0; at = get-set_same es p former (slice_get_within es p o at_p) ∙ ap (λ x. Some x) went.1; labelled = went.2 })
+    ]
+  ];
 }
+
+pub somewhere-left : (es fs : Entries) (w : List ℕ) → StandsSomewhere es w → StandsSomewhere (es ++ fs) w
+somewhere-left es fs w s = (s.0, record { entry = s.1.entry; at = get-left es fs s.0 (Some s.1.entry) s.1.at; labelled = s.1.labelled })
+
+-- what a place had is noted, and the map has the place for the label of what it has
+only-noted : (m n : Places) (es fs : Entries) (p : ℕ) (former new : Option Ranked) → slice_get es p ≡ Some former → PutsAt m new p n
+    → HasOnly m es fs → HasOnly n (set es p new) (fs ++ former ∷ [])
+only-noted m n es fs p former new at puts h = record { among = λ w some. known new puts w some }
+  where
+    before : (x : Option Ranked) (w : List ℕ) → IsSome (place_in m w) → StandsSomewhere (set es p x) w ⊎ StandsSomewhere (fs ++ former ∷ []) w
+    before x w some = elim (h.among w some) [
+      | inl here ↦ elim (moved es p former x w at here) [
+        | inl stays ↦ inl stays
+        | inr went ↦ inr (length fs, record { entry = went.0; at = get-last fs former ∙ ap (λ x. Some x) went.1; labelled = went.2 })
+      ]
+      | inr there ↦ inr (somewhere-left fs (former ∷ []) w there)
+    ]
+
+    known : (x : Option Ranked) → PutsAt m x p n → (w : List ℕ) → IsSome (place_in n w)
+        → StandsSomewhere (set es p x) w ⊎ StandsSomewhere (fs ++ former ∷ []) w
+    known None puts w some = before None w (subst (λ o. IsSome o) (puts w) some)
+    known (Some e) puts w some = elim (cases_Bool (bytes_eq (label_of e) w)) [
+      | inl y ↦ inl (p, record { entry = e; at = get-set_same es p (Some e) (slice_get_within es p former at); labelled = same_bytes (label_of e) w y })
+      | inr other ↦ before (Some e) w (subst (λ o. IsSome o) (puts w ∙ cond-false (bytes_eq (label_of e) w) (Some p) (place_in m w) other) some)
+    ]
+
+-- the last note went, and with it its label, unless an assertion has it
+pub only-forgot : (m n : Places) (es : Entries) (ns : List Note) (note : Note) → KeepsLabels n m → IsForgotten n es note.former
+    → HasOnly m es (formers (ns ++ note ∷ [])) → HasOnly n es (formers ns)
+only-forgot m n es ns note fewer gone h = record {
+  among = λ w some.
+      let was = subst (λ xs. StandsSomewhere es w ⊎ StandsSomewhere xs w) (formers-push ns note) (h.among w (fewer.keeps w some)) in
+      elim was [
+        | inl here ↦ inl here
+        | inr there ↦ elim (pushed-cases (formers ns) note.former there.0 there.1.entry there.1.at) [
+          | inl stays ↦ inr (there.0, record { entry = there.1.entry; at = stays; labelled = there.1.labelled })
+          | inr last ↦
+              let own = subst (λ x. IsForgotten n es x) last.1 gone in
+              inl (subst (StandsSomewhere es) there.1.labelled (own (subst (λ l. IsSome (place_in n l)) (sym there.1.labelled) some)))
+        ]
+      ];
+}
+
+-- ---- frames
+
+-- a place has something else of the same frame
+framed-set : (t : Tables) (es : Entries) (frames : List Frame) (p : ℕ) (new : Option Ranked) → AreFramed t es frames
+    → ((e : Ranked) → new ≡ Some e → slice_get frames p ≡ Some (frame t e.assertion)) → AreFramed t (set es p new) frames
+framed-set t es frames p new h own = record {
+  long = h.long ∙ sym (length-set es p new);
+  framed = λ q e at. elim (cases_eq q p) [
+    | inl same ↦
+        let here = get-set_is es p new (Some e) (subst (λ (k : ℕ). StandsIn (set es p new) k e) same at) in
+        ap (slice_get frames) same ∙ own e here
+    | inr ne ↦ h.framed q e (sym (get-set_other es p q new ne) ∙ at)
+  ];
+}
+
+pub framed-undone : (t : Tables) (ns : List Note) (es : Entries) (frames : List Frame) → AreFramed t es frames → AreNotesFramed t ns frames
+    → AreFramed t (undone ns es) frames
+framed-undone t [] es frames h ns = h
+framed-undone t (n ∷ ns) es frames h all =
+    framed-set t (undone ns es) frames n.place n.former (framed-undone t ns es frames h all.0) all.1
+
+notes_framed-push : (t : Tables) (ns : List Note) (n : Note) (frames : List Frame) → AreNotesFramed t ns frames
+    → ((e : Ranked) → n.former ≡ Some e → slice_get frames n.place ≡ Some (frame t e.assertion)) → AreNotesFramed t (ns ++ n ∷ []) frames
+notes_framed-push t [] n frames h own = (tt, own)
+notes_framed-push t (k ∷ ns) n frames h own = (notes_framed-push t ns n frames h.0 own, h.1)
+
+notes_framed-opened : (t : Tables) (ns : List Note) (frames : List Frame) (f : Frame) → AreNotesFramed t ns frames
+    → AreNotesFramed t ns (frames ++ f ∷ [])
+notes_framed-opened t [] frames f h = tt
+notes_framed-opened t (n ∷ ns) frames f h = (
+  notes_framed-opened t ns frames f h.0,
+  λ e own. get-left frames (f ∷ []) n.place (frame t e.assertion) (h.1 e own),
+)
 
 -- ---- a draft after a change
 
 -- a map that finds the same is as good
-pub draft_same : (m n : Places) (ns : List Note) (lib : List Ranked) → n.entries ≡ m.entries → IsDraft m ns lib → IsDraft n ns lib
-draft_same m n ns lib same d =
+pub draft_same : (t : Tables) (m n : Places) (frames : List Frame) (ns : List Note) (es : Entries) → n.entries ≡ m.entries
+    → IsDraft t m frames ns es → IsDraft t n frames ns es
+draft_same t m n frames ns es same d =
     let found : (w : List ℕ) → place_in n w ≡ place_in m w = λ w. ap (lookup (λ k. bytes_eq w k.items)) same in
     record {
       indexed = record { finds = λ p e at. found (label_of e) ∙ d.indexed.finds p e at };
-      only =
-          only-fewer m n (map label_of lib ++ former_labels ns) (record { keeps = λ q some. subst (λ o. IsSome o) (found q) some }) d.only;
-      can_undo = can_undo-kept m n ns lib (record { keeps = λ q some. subst (λ o. IsSome o) (sym (found q)) some }) d.can_undo;
+      only = only-fewer m n es (formers ns) (record { keeps = λ q some. subst (λ o. IsSome o) (found q) some }) d.only;
+      framed = d.framed;
+      can_undo = can_undo-kept m n ns es (record { keeps = λ q some. subst (λ o. IsSome o) (sym (found q)) some }) d.can_undo;
+      noted = d.noted;
     }
 
--- an entry was given a label that was free, and its former label was noted
-pub draft_relabelled : (m n : Places) (ns after : List Note) (lib now : List Ranked) (p : ℕ) (w former : List ℕ) → IsDraft m ns lib
-    → StandsAt lib former p → has lib w ≡ false
-    → Puts m w p n → after ≡ ns ++ Relabelled p former ∷ [] → now ≡ relabelled lib p w
-    → IsDraft n after now × (undone after now ≡ undone ns lib)
-draft_relabelled m n ns after lib now p w former d at free h noted done =
-    let note : List ℕ → Note = λ f. Relabelled p f in
-    let own = label_of at.entry in
-    let back : taken_back (note former) (relabelled lib p w) ≡ lib = ap (relabelled (relabelled lib p w) p) (sym at.labelled)
-    ∙ changed-twice lib p (with_label w) (with_label own) ∙ changed-nothing lib p (with_label own) at.entry at.at refl in
-    let can : CanUndo n ns (taken_back (note former) (relabelled lib p w)) =
-    subst (CanUndo n ns) (sym back) (can_undo-kept m n ns lib (puts_keeps m n w p h) d.can_undo) in
-    let this : CanRelabel n (relabelled lib p w) p former =
-    subst (CanRelabel n (relabelled lib p w) p) at.labelled (can_relabel m n lib p at.entry w d.indexed at.at free h) in
-    let draft : IsDraft n (ns ++ note former ∷ []) (relabelled lib p w) = record {
-      indexed = index-relabelled m n lib p w d.indexed free h;
-      only = only-relabelled m n lib ns p w former h at d.only;
-      can_undo = can_undo-push n ns (note former) (relabelled lib p w) can this;
-    } in (
-      subst (λ ks. IsDraft n ks now) (sym noted) (subst (IsDraft n (ns ++ note former ∷ [])) (sym done) draft),
-      ap (λ ks. undone ks now) noted ∙ ap (undone (ns ++ note former ∷ [])) done ∙ undone-push ns (note former) (relabelled lib p w)
-          ∙ ap (undone ns) back,
+-- a place has something else, and what it had is noted
+pub draft_changed : (t : Tables) (m n : Places) (frames : List Frame) (ns : List Note) (es : Entries) (p : ℕ) (former new : Option Ranked)
+    → IsDraft t m frames ns es
+    → slice_get es p ≡ Some former → ((e : Ranked) → new ≡ Some e → slice_get frames p ≡ Some (frame t e.assertion))
+    → IsAloneIn es new p → PutsAt m new p n
+    → IsDraft t n frames (ns ++ record { place = p; former = former } ∷ []) (set es p new)
+    × (undone (ns ++ record { place = p; former = former } ∷ []) (set es p new) ≡ undone ns es)
+draft_changed t m n frames ns es p former new d at own alone puts =
+    let note : Note = record { place = p; former = former } in
+    let back : taken_back note (set es p new) ≡ es = set-back es p former new at in
+    let keeps = puts_at-keeps m n new p puts in
+    let can = subst (CanUndo n ns) (sym back) (can_undo-kept m n ns es keeps d.can_undo) in (
+      record {
+        indexed = index-set m n es p new d.indexed alone puts;
+        only = subst (HasOnly n (set es p new)) (sym (formers-push ns note)) (only-noted m n es (formers ns) p former new at puts d.only);
+        framed = framed-set t es frames p new d.framed own;
+        can_undo = can_undo-push n ns note (set es p new) can (can_take_back m n es p former new d.indexed at keeps);
+        noted = notes_framed-push t ns note frames d.noted (λ e is. d.framed.framed p e (at ∙ ap (λ x. Some x) is));
+      },
+      undone-push ns note (set es p new) ∙ ap (undone ns) back,
     )
 
--- an entry was given another proof, and its former proof was noted
-pub draft_reproved : (m : Places) (ns after : List Note) (lib now : List Ranked) (p : ℕ) (steps former : List Step) → IsDraft m ns lib
-    → p < length lib → reproved lib p former ≡ lib → after ≡ ns ++ Reproved p former ∷ [] → now ≡ reproved lib p steps
-    → IsDraft m after now × (undone after now ≡ undone ns lib)
-draft_reproved m ns after lib now p steps former d within own noted done =
-    let note : Note = Reproved p former in
-    let next = reproved lib p steps in
-    let back : taken_back note next ≡ lib = changed-twice lib p (with_proof steps) (with_proof former) ∙ own in
-    let inside : p < length next = subst (λ k. p < k) (sym (length-changed lib p (with_proof steps))) within in
-    let draft : IsDraft m (ns ++ note ∷ []) next = record {
-      indexed = index-reproved m lib p steps d.indexed;
-      only = only-reproved m lib ns p steps former d.only;
-      can_undo = can_undo-push m ns note next (subst (CanUndo m ns) (sym back) d.can_undo) inside;
-    } in (
-      subst (λ ks. IsDraft m ks now) (sym noted) (subst (IsDraft m (ns ++ note ∷ [])) (sym done) draft),
-      ap (λ ks. undone ks now) noted ∙ ap (undone (ns ++ note ∷ [])) done ∙ undone-push ns note next ∙ ap (undone ns) back,
+-- the same, with how many assertions there are
+pub draft_noted : (t : Tables) (m n : Places) (frames : List Frame) (ns after : List Note) (es now : Entries) (p : ℕ)
+    (former new : Option Ranked) (count count' start : ℕ) → IsDraft t m frames ns es → IsCounted count start ns es
+    → slice_get es p ≡ Some former → ((e : Ranked) → new ≡ Some e → slice_get frames p ≡ Some (frame t e.assertion))
+    → IsAloneIn es new p → PutsAt m new p n
+    → after ≡ ns ++ record { place = p; former = former } ∷ [] → now ≡ set es p new → count' ≡ length (living (set es p new))
+    → IsDraft t n frames after now × IsCounted count' start after now × (undone after now ≡ undone ns es)
+draft_noted t m n frames ns after es now p former new count count' start d k at own alone puts noted done counted =
+    let both = draft_changed t m n frames ns es p former new d at own alone puts in
+    let note : Note = record { place = p; former = former } in
+    let back : undone after now ≡ undone ns es = ap (λ ks. undone ks now) noted ∙ ap (undone (ns ++ note ∷ [])) done ∙ both.1 in (
+      subst (λ ks. IsDraft t n frames ks now) (sym noted) (subst (IsDraft t n frames (ns ++ note ∷ [])) (sym done) both.0),
+      record { now_right = counted ∙ ap (λ l. length (living l)) (sym done); start_right = k.start_right ∙ ap (λ l. length (living l)) (sym back) },
+      back,
     )
+
+-- ---- a draft with one more place
+
+undone-opened : (m : Places) (ns : List Note) (es : Entries) → CanUndo m ns es → undone ns (es ++ None ∷ []) ≡ undone ns es ++ None ∷ []
+undone-opened m [] es h = refl
+undone-opened m (n ∷ ns) es h =
+    ap (taken_back n) (undone-opened m ns es h.0) ∙ set-left (undone ns es) (None ∷ []) n.place n.former h.1.within
+
+can_stand-opened : (m : Places) (es : Entries) (p : ℕ) (o : Option Ranked) → CanStand m es p o → CanStand m (es ++ None ∷ []) p o
+can_stand-opened m es p None h = tt
+can_stand-opened m es p (Some e) h = (
+  record {
+    others = λ q f at ne. elim (pushed-cases es None q f at) [
+      | inl was ↦ h.0.others q f was ne
+      | inr last ↦ absurd (let none : None ≡ Some f = last.1 in cc)
+    ];
+  },
+  h.1,
+)
+
+can_undo-opened : (m : Places) (ns : List Note) (es : Entries) → CanUndo m ns es → CanUndo m ns (es ++ None ∷ [])
+can_undo-opened m [] es h = tt
+can_undo-opened m (n ∷ ns) es h =
+    let before = undone ns es in
+    let lt = h.1.within in (
+      can_undo-opened m ns es h.0,
+      subst (λ l. CanTakeBack m l n) (sym (undone-opened m ns es h.0))
+          (record {
+            within = omega (arith, length-append before (None ∷ []));
+            stands = can_stand-opened m before n.place n.former h.1.stands;
+          }),
+    )
+
+pub draft_opened : (t : Tables) (m : Places) (frames : List Frame) (f : Frame) (ns : List Note) (es : Entries) → IsDraft t m frames ns es
+    → IsDraft t m (frames ++ f ∷ []) ns (es ++ None ∷ []) × (living (undone ns (es ++ None ∷ [])) ≡ living (undone ns es))
+draft_opened t m frames f ns es d = (
+  record {
+    indexed = index-opened m es d.indexed;
+    only = record {
+      among = λ w some. elim (d.only.among w some) [
+        | inl here ↦ inl (somewhere-left es (None ∷ []) w here)
+        | inr there ↦ inr there
+      ];
+    };
+    framed = record {
+      long = (let long = d.framed.long in omega (arith, length-append frames (f ∷ []), length-append es (None ∷ [])));
+      framed = λ p e at. elim (pushed-cases es None p e at) [
+        | inl was ↦ get-left frames (f ∷ []) p (frame t e.assertion) (d.framed.framed p e was)
+        | inr last ↦ absurd (let none : None ≡ Some e = last.1 in cc)
+      ];
+    };
+    can_undo = can_undo-opened m ns es d.can_undo;
+    noted = notes_framed-opened t ns frames f d.noted;
+  },
+  ap living (undone-opened m ns es d.can_undo) ∙ living-opened (undone ns es),
+)
+
+-- ---- one more assertion, before any change
+
+pub only-pushed : (m n : Places) (es : Entries) (e : Ranked) (p : ℕ) → Puts m (label_of e) p n → HasOnly m es []
+    → HasOnly n (es ++ Some e ∷ []) []
+only-pushed m n es e p puts h = record {
+  among = λ w some. elim (cases_Bool (bytes_eq (label_of e) w)) [
+    | inl y ↦ inl (length es, record { entry = e; at = get-last es (Some e); labelled = same_bytes (label_of e) w y })
+    | inr other ↦ elim (h.among w (subst (λ o. IsSome o) (puts w ∙ cond-false (bytes_eq (label_of e) w) (Some p) (place_in m w) other) some)) [
+      | inl here ↦ inl (somewhere-left es (Some e ∷ []) w here)
+      | inr there ↦ inr there
+    ]
+  ];
+}
+
+-- ---- a draft of which nothing is noted
+
+pub draft_settled : (t : Tables) (m : Places) (frames : List Frame) (ns : List Note) (es : Entries) → ns ≡ [] → IsIndex m es → HasOnly m es []
+    → AreFramed t es frames → IsDraft t m frames ns es
+draft_settled t m frames ns es none indexed only framed =
+    subst (λ k. IsDraft t m frames k es) (sym none) (record { indexed = indexed; only = only; framed = framed; can_undo = tt; noted = tt })
+
+pub counted_settled : (n k : ℕ) (ns : List Note) (es : Entries) → ns ≡ [] → n ≡ length (living es) → k ≡ length (living es)
+    → IsCounted n k ns es
+counted_settled n k ns es none now start =
+    subst (λ l. IsCounted n k l es) (sym none) (record { now_right = now; start_right = start })
 
 -- a list that was written as a whole
-pub written_whole : (xs ys : List Ranked) (n : ℕ) → n ≡ length xs → length ys ≡ length xs → take n (ys ++ drop (length ys) xs) ≡ ys
+pub written_whole : {A : Type 0} (xs ys : List A) (n : ℕ) → n ≡ length xs → length ys ≡ length xs → take n (ys ++ drop (length ys) xs) ≡ ys
 written_whole xs ys n all same = take-append-le n ys (drop (length ys) xs) (omega arith) ∙ take_all n ys (omega arith)
+
+pub length-undone : (ns : List Note) (es : Entries) → length (undone ns es) ≡ length es
+length-undone [] es = refl
+length-undone (n ∷ ns) es = length-set (undone ns es) n.place n.former ∙ length-undone ns es

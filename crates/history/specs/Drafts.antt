@@ -1,115 +1,139 @@
 -- A library during a transaction: what was changed, and how it is taken back.
-use Rattle.std.specs.Prelude.{◌≡◌, ◌<◌, ◌++◌, ℕ, suc, zero, false, List, [], ◌∷◌, length, map}
-use Rattle.std.specs.Prelude.{IsSome, Contains, Result, Ok, Err}
-use Rattle.mmsyntax.specs.declared.statement.Step.{Step}
+use Rattle.std.specs.Prelude.{◌≡◌, ◌<◌, ℕ, zero, suc, List, [], ◌∷◌, length, map, set, slice_get, Option, Some, None}
+use Rattle.std.specs.Prelude.{◌≤◌, Vec, vec_len, vec_capacity, IsSome, Result, Ok, Err, false}
+use Rattle.std.specs.Option.{option_map}
+use Rattle.std.specs.Str.{bytes_eq}
+use Rattle.std.specs.declared.alloc.Global.{Global}
+use Rattle.mmsyntax.specs.declared.statement.Frame.{Frame}
+use Rattle.mmsyntax.specs.Tables.{Tables}
+use Rattle.mmstatement.specs.Frames.{frame}
 use Rattle.commands.specs.declared.library.Ranked.{Ranked}
 use Rattle.commands.specs.declared.command.Command.{Command}
 use Rattle.commands.specs.declared.command.Reply.{Reply}
 use Rattle.commands.specs.Library.{Setting, Verifies, label_of}
 use Rattle.proofcheck.specs.Laws.{replacing, step_relabelled}
-use Rattle.commands.specs.Edits.{has, edit}
+use Rattle.commands.specs.Edits.{with_proof, edit}
 use Rattle.commands.specs.Transactions.{apply}
 use Rattle.history.specs.declared.notes.Note.{Note}
-use Rattle.history.specs.declared.notes.Note.TheVariants.{Relabelled, Reproved}
 use Rattle.history.specs.declared.editor.ApplyError.{ApplyError}
 use Rattle.history.specs.declared.editor.ApplyError.TheVariants.{Refused, NoMemory}
-use Rattle.history.specs.Places.{Places, place_in, IsIndex, HasOnly, StandsAt}
+use Rattle.history.specs.Entries.{Entries, living, StandsIn, AreFramed}
+use Rattle.history.specs.Places.{Places, place_in, IsIndex, HasOnly, StandsSomewhere}
 
--- ---- changes of one entry
+-- ---- changes of one assertion
 
--- an entry with another label
+-- an assertion with another label
 abbrev pub with_label : List ℕ → Ranked → Ranked
 with_label w e = record e { assertion = record e.assertion { label = w } }
 
--- an entry with another proof
-abbrev pub with_proof : List Step → Ranked → Ranked
-with_proof steps e = record e { assertion = record e.assertion { proof = steps } }
-
--- an entry with a label replaced in its proof
+-- an assertion with a label replaced in its proof
 abbrev pub citing : List ℕ → List ℕ → Ranked → Ranked
 citing old new e = with_proof (map (step_relabelled (replacing old new)) e.assertion.proof) e
 
--- a library with the entry at a place changed
-abbrev pub changed_at : List Ranked → ℕ → (Ranked → Ranked) → List Ranked
-changed_at [] p change = []
-changed_at (e ∷ es) zero change = change e ∷ es
-changed_at (e ∷ es) (suc p) change = e ∷ changed_at es p change
+-- the assertion at a place changed, if there is one
+abbrev pub changed_at : ℕ → (Ranked → Ranked) → Entries → Entries
+changed_at p change [] = []
+changed_at zero change (o ∷ os) = option_map change o ∷ os
+changed_at (suc p) change (o ∷ os) = o ∷ changed_at p change os
 
-abbrev pub relabelled : List Ranked → ℕ → List ℕ → List Ranked
-relabelled lib p w = changed_at lib p (with_label w)
+-- each assertion changed
+abbrev pub changed_all : (Ranked → Ranked) → Entries → Entries
+changed_all change entries = map (option_map change) entries
 
-abbrev pub reproved : List Ranked → ℕ → List Step → List Ranked
-reproved lib p steps = changed_at lib p (with_proof steps)
+-- an assertion that may stand at a place in the stead of the one there: it has the same label and the same frame
+pub record Succeeds (t : Tables) (entries : Entries) (p : ℕ) (new : Ranked) : Type 0 where
+  pub former : Ranked
+  pub at : StandsIn entries p former
+  pub labelled : label_of new ≡ label_of former
+  pub framed : frame t new.assertion ≡ frame t former.assertion
 
 -- ---- changes taken back
 
--- a library with the label or the proof back that a change took
-abbrev pub taken_back : Note → List Ranked → List Ranked
-taken_back (Relabelled p w) lib = relabelled lib p w
-taken_back (Reproved p steps) lib = reproved lib p steps
+-- the entries with what a note holds back at its place
+abbrev pub taken_back : Note → Entries → Entries
+taken_back n entries = set entries n.place n.former
 
--- the library before some changes, from the library after them: the last is taken back first
-abbrev pub undone : List Note → List Ranked → List Ranked
-undone [] lib = lib
-undone (n ∷ ns) lib = taken_back n (undone ns lib)
+-- the entries before some changes, from those after them: the last is taken back first
+abbrev pub undone : List Note → Entries → Entries
+undone [] entries = entries
+undone (n ∷ ns) entries = taken_back n (undone ns entries)
 
--- a label is free in the library, and the map has it, so that giving it to the entry at a place takes no memory
-pub record CanRelabel (m : Places) (lib : List Ranked) (p : ℕ) (w : List ℕ) : Type 0 where
-  pub within : p < length lib
-  pub free : has lib w ≡ false
-  pub known : IsSome (place_in m w)
+-- what the notes hold
+abbrev pub formers : List Note → Entries
+formers ns = map (λ n. n.former) ns
 
--- a proof can be taken back at any place
-abbrev pub CanTakeBack : Places → List Ranked → Note → Type 0
-CanTakeBack m lib (Relabelled p w) = CanRelabel m lib p w
-CanTakeBack m lib (Reproved p steps) = p < length lib
+-- at every other place no assertion has the label
+pub record IsAlone (entries : Entries) (w : List ℕ) (p : ℕ) : Type 0 where
+  pub others : (q : ℕ) (f : Ranked) → StandsIn entries q f → (q ≡ p → ⊥) → bytes_eq w (label_of f) ≡ false
+
+-- an assertion may be put at a place, without memory: no other has its label, and the map has it
+abbrev pub CanStand : Places → Entries → ℕ → Option Ranked → Type 0
+CanStand m entries p None = Unit {0}
+CanStand m entries p (Some e) = IsAlone entries (label_of e) p × IsSome (place_in m (label_of e))
+
+pub record CanTakeBack (m : Places) (entries : Entries) (n : Note) : Type 0 where
+  pub within : n.place < length entries
+  pub stands : CanStand m entries n.place n.former
 
 -- each change can be taken back once the later ones are
-abbrev pub CanUndo : Places → List Note → List Ranked → Type 0
-CanUndo m [] lib = Unit {0}
-CanUndo m (n ∷ ns) lib = CanUndo m ns lib × CanTakeBack m (undone ns lib) n
+abbrev pub CanUndo : Places → List Note → Entries → Type 0
+CanUndo m [] entries = Unit {0}
+CanUndo m (n ∷ ns) entries = CanUndo m ns entries × CanTakeBack m (undone ns entries) n
 
--- what a note holds once its change was taken back from a library: the label that stood at the place, or some proof
-abbrev pub HoldsTaken : List Ranked → Note → Note → Type 0
-HoldsTaken lib (Relabelled p w) new = (v : List ℕ) × StandsAt lib v p × (new ≡ Relabelled p v)
-HoldsTaken lib (Reproved p steps) new = (held : List Step) × (new ≡ Reproved p held)
+-- the map has the label of what a note held only where an assertion has it
+abbrev pub IsForgotten : Places → Entries → Option Ranked → Type 0
+IsForgotten m entries None = Unit {0}
+IsForgotten m entries (Some e) = IsSome (place_in m (label_of e)) → StandsSomewhere entries (label_of e)
 
--- the labels that noted changes took
-abbrev pub former_labels : List Note → List (List ℕ)
-former_labels [] = []
-former_labels (Relabelled p w ∷ ns) = w ∷ former_labels ns
-former_labels (Reproved p steps ∷ ns) = former_labels ns
-
--- the map has the label that a note took only where an entry has it
-abbrev pub IsForgotten : Places → List Ranked → Note → Type 0
-IsForgotten m lib (Relabelled p w) = IsSome (place_in m w) → Contains (map label_of lib) w
-IsForgotten m lib (Reproved p steps) = Unit {0}
+-- the frames have, at the place of each note, the frame of what it holds
+abbrev pub AreNotesFramed : Tables → List Note → List Frame → Type 0
+AreNotesFramed t [] frames = Unit {0}
+AreNotesFramed t (n ∷ ns) frames =
+    AreNotesFramed t ns frames × ((e : Ranked) → n.former ≡ Some e → slice_get frames n.place ≡ Some (frame t e.assertion))
 
 -- ---- drafts
 
--- what a draft holds: the setting, the library at the start of the transaction, the library now, and the changes that are noted
+-- what a draft holds: the setting, the library at the start of the transaction, the assertions now by their places, the frames beside
+-- them, and the changes that are noted
 pub record Drafted : Type 0 where
   pub setting : Setting
   pub start : List Ranked
-  pub library : List Ranked
+  pub entries : Entries
+  pub frames : List Frame
   pub noted : List Note
 
+-- the library now
+abbrev pub now_in : Drafted → List Ranked
+now_in d = living d.entries
+
 -- what is always true of a draft's fields: the map has the labels of the library and those that were noted, and no other
-pub record IsDraft (m : Places) (notes : List Note) (lib : List Ranked) : Type 0 where
-  pub indexed : IsIndex m lib
-  pub only : HasOnly m (map label_of lib ++ former_labels notes)
-  pub can_undo : CanUndo m notes lib
+pub record IsDraft (t : Tables) (m : Places) (frames : List Frame) (notes : List Note) (entries : Entries) : Type 0 where
+  pub indexed : IsIndex m entries
+  pub only : HasOnly m entries (formers notes)
+  pub framed : AreFramed t entries frames
+  pub can_undo : CanUndo m notes entries
+  pub noted : AreNotesFramed t notes frames
+
+-- how many assertions there are, now and at the start of the transaction
+pub record IsCounted (now start : ℕ) (notes : List Note) (entries : Entries) : Type 0 where
+  pub now_right : now ≡ length (living entries)
+  pub start_right : start ≡ length (living (undone notes entries))
+
+-- an empty list with room for as many assertions as slots
+pub record IsShelf (slots : ℕ) (shelf : Vec Ranked Global) : Type 0 where
+  pub empty : vec_len shelf ≡ 0
+  pub room : slots ≤ vec_capacity shelf
 
 -- the n-th command of a transaction: its edit is done, or refused, or memory ran out
 abbrev pub Takes : ℕ → Drafted → Command → Result Reply ApplyError → Drafted → Type 0
-Takes n old c (Ok reply) new = edit old.setting old.library c ≡ Ok (record { library = new.library; reply = reply })
-Takes n old c (Err (Refused refused)) new = (refused.index ≡ n) × (edit old.setting old.library c ≡ Err refused.reason)
+Takes n old c (Ok reply) new = edit old.setting (now_in old) c ≡ Ok (record { library = now_in new; reply = reply })
+Takes n old c (Err (Refused refused)) new = (refused.index ≡ n) × (edit old.setting (now_in old) c ≡ Err refused.reason)
 Takes n old c (Err NoMemory) new = Unit {0}
 
 -- all commands of a transaction, one after another; after an error the library is anywhere on the way
 abbrev pub TakesAll : Drafted → List Command → Result (List Reply) ApplyError → Drafted → Type 0
-TakesAll old cs (Ok replies) new = apply old.setting old.library cs ≡ Ok (record { library = new.library; replies = replies })
-TakesAll old cs (Err (Refused refused)) new = apply old.setting old.library cs ≡ Err refused
+TakesAll old cs (Ok replies) new = apply old.setting (now_in old) cs ≡ Ok (record { library = now_in new; replies = replies })
+TakesAll old cs (Err (Refused refused)) new = apply old.setting (now_in old) cs ≡ Err refused
 TakesAll old cs (Err NoMemory) new = Unit {0}
 
 -- setting and start stay while commands are taken
@@ -117,8 +141,20 @@ pub record KeepsStart (old new : Drafted) : Type 0 where
   pub setting : new.setting ≡ old.setting
   pub start : new.start ≡ old.start
 
+-- setting, start and frames stay, and one place has this in place of what it had
+pub record Exchanges (old : Drafted) (p : ℕ) (o : Option Ranked) (new : Drafted) : Type 0 where
+  pub entries : new.entries ≡ set old.entries p o
+  pub frames : new.frames ≡ old.frames
+
+-- the library is a new start, and nothing is noted
+pub record Settles (old : Drafted) (lib : List Ranked) (new : Drafted) : Type 0 where
+  pub setting : new.setting ≡ old.setting
+  pub start : new.start ≡ lib
+  pub library : now_in new ≡ lib
+  pub forgotten : new.noted ≡ []
+
 -- between transactions: the library verifies, and nothing can be taken back or is noted
 pub record IsSettled (d : Drafted) : Type 0 where
-  pub verifies : Verifies d.setting d.library
-  pub settled : d.start ≡ d.library
+  pub verifies : Verifies d.setting (now_in d)
+  pub settled : d.start ≡ now_in d
   pub forgotten : d.noted ≡ []

@@ -1,9 +1,11 @@
 -- Histories: the transactions that drew a number, in order of number; and the library after a front of one.
-use Rattle.std.specs.Prelude.{◌≡◌, ◌≢◌, ◌≤◌, ℕ, List, [], ◌∷◌, length, take, slice_get, Some, Ok}
+use Rattle.std.specs.Prelude.{◌≡◌, ◌≢◌, ◌≤◌, ℕ, List, [], ◌∷◌, length, take, slice_get, All, Some, Ok}
 use Rattle.commands.specs.declared.library.Ranked.{Ranked}
 use Rattle.commands.specs.declared.command.Command.{Command}
 use Rattle.commands.specs.declared.command.Reply.{Reply}
+use Rattle.mmsyntax.specs.Tables.{Tables}
 use Rattle.commands.specs.Library.{Setting}
+use Rattle.commands.specs.Fitting.{CommandFits}
 use Rattle.commands.specs.Transactions.{apply, library_of}
 
 -- an entry: its number was drawn and nobody knows yet what becomes of it; or it holds no commands; or it is done, with its commands and
@@ -12,6 +14,16 @@ pub data Entry : Type 0 where
   open_entry : Entry
   void_entry : Entry
   done_entry : List Command → List Reply → Entry
+
+-- the commands of a done entry are within the limits of a prelude
+abbrev pub EntryFits : Tables → Entry → Type 0
+EntryFits t open_entry = Unit {0}
+EntryFits t void_entry = Unit {0}
+EntryFits t (done_entry cs replies) = All (CommandFits t) cs
+
+-- those of each done entry are
+abbrev pub EntriesFit : Tables → List Entry → Type 0
+EntriesFit t h = All (EntryFits t) h
 
 -- the library after one entry
 abbrev pub after_entry : Setting → List Ranked → Entry → List Ranked

@@ -2,11 +2,12 @@
 use Rattle.std.specs.Prelude.{◌≡◌, ◌≢◌, ◌<◌, ◌≤◌, ℕ, List, length, slice_get, Some}
 use Rattle.commands.specs.declared.library.Ranked.{Ranked}
 use Rattle.commands.specs.Library.{Setting, Verifies}
-use Rattle.history.specs.Histories.{Entry, open_entry, after, Grows}
+use Rattle.history.specs.Histories.{Entry, open_entry, EntriesFit, after, Grows}
 
--- from an opening library that verifies, the library after each front verifies
+-- from an opening library that verifies, the library after each front verifies, where the commands are within the limits of the prelude
 abbrev pub FrontsVerify : Type 0
-FrontsVerify = (s : Setting) (lib0 : List Ranked) (h : List Entry) (k : ℕ) → Verifies s lib0 → Verifies s (after s lib0 h k)
+FrontsVerify =
+    (s : Setting) (lib0 : List Ranked) (h : List Entry) (k : ℕ) → Verifies s lib0 → EntriesFit s.prelude h → Verifies s (after s lib0 h k)
 
 -- a history is a later one of itself
 abbrev pub GrowthIsReflexive : Type 0

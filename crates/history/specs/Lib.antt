@@ -1,6 +1,10 @@
 pub mod Editors
 pub mod Histories
+pub mod Entries
 pub mod Places
+pub mod Testing
+pub mod Listing
 pub mod Drafts
+pub mod Refusals
 pub mod Openings
 pub mod Laws

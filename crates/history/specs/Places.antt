@@ -1,5 +1,5 @@
 -- Where each label of a library stands: a map from labels to places.
-use Rattle.std.specs.Prelude.{◌≡◌, ℕ, false, cond, List, Option, Some, None, Vec, slice_get, IsSome, Contains}
+use Rattle.std.specs.Prelude.{◌≡◌, ◌⊎◌, ℕ, false, cond, List, Option, Some, None, Vec, IsSome}
 use Rattle.std.specs.Str.{bytes_eq}
 use Rattle.std.specs.HashMap.{HashMap, get_by}
 use Rattle.std.specs.declared.alloc.Global.{Global}
@@ -7,6 +7,7 @@ use Rattle.std.specs.declared.random_state.RandomState.{RandomState}
 use Rattle.commands.specs.declared.library.Ranked.{Ranked}
 use Rattle.commands.specs.Library.{label_of}
 use Rattle.commands.specs.Edits.{has}
+use Rattle.history.specs.Entries.{Entries, living, StandsIn}
 
 abbrev pub Places : Type 0
 Places = HashMap (Vec ℕ Global) ℕ RandomState
@@ -15,24 +16,28 @@ Places = HashMap (Vec ℕ Global) ℕ RandomState
 abbrev pub place_in : Places → List ℕ → Option ℕ
 place_in m w = get_by (λ k. bytes_eq w k.items) m
 
--- the map has the place of each entry for its label, so no two entries have one label; for other labels it may have any place
-pub record IsIndex (m : Places) (lib : List Ranked) : Type 0 where
-  pub finds : (p : ℕ) (e : Ranked) → slice_get lib p ≡ Some e → place_in m (label_of e) ≡ Some p
+-- the map has the place of each assertion for its label, so no two have one label; for other labels it may have any place
+pub record IsIndex (m : Places) (entries : Entries) : Type 0 where
+  pub finds : (p : ℕ) (e : Ranked) → StandsIn entries p e → place_in m (label_of e) ≡ Some p
 
--- each label that the map has is one of these
-pub record HasOnly (m : Places) (labels : List (List ℕ)) : Type 0 where
-  pub among : (w : List ℕ) → IsSome (place_in m w) → Contains labels w
-
--- the entry at a place has the label
-pub record StandsAt (lib : List Ranked) (w : List ℕ) (p : ℕ) : Type 0 where
+-- the assertion at a place has the label
+pub record StandsAt (entries : Entries) (w : List ℕ) (p : ℕ) : Type 0 where
   pub entry : Ranked
-  pub at : slice_get lib p ≡ Some entry
+  pub at : StandsIn entries p entry
   pub labelled : label_of entry ≡ w
 
--- the place of the entry that has the label, or that none has it
-abbrev pub FoundAt : List Ranked → List ℕ → Option ℕ → Type 0
-FoundAt lib w None = has lib w ≡ false
-FoundAt lib w (Some p) = StandsAt lib w p
+-- some place has an assertion with the label
+abbrev pub StandsSomewhere : Entries → List ℕ → Type 0
+StandsSomewhere entries w = (p : ℕ) × StandsAt entries w p
+
+-- each label that the map has is that of an assertion here or there
+pub record HasOnly (m : Places) (entries formers : Entries) : Type 0 where
+  pub among : (w : List ℕ) → IsSome (place_in m w) → StandsSomewhere entries w ⊎ StandsSomewhere formers w
+
+-- the place of the assertion that has the label, or that none has it
+abbrev pub FoundAt : Entries → List ℕ → Option ℕ → Type 0
+FoundAt entries w None = has (living entries) w ≡ false
+FoundAt entries w (Some p) = StandsAt entries w p
 
 -- n is the map m with a place for a label
 abbrev pub Puts : Places → List ℕ → ℕ → Places → Type 0

@@ -1,36 +1,13 @@
-//! Which proofs cite a label, and those proofs with another label in its place.
+//! Copies of assertions with another label, and with another label in the place of one that the proof cites.
 
 ghost use Rattle.std.specs.Prelude.{◌≡◌, map, IfOk};
 ghost use Rattle.proofcheck.specs.Laws.{replacing, step_relabelled};
-ghost use Rattle.commands.specs.Edits.{is_citation, cites, citers};
+ghost use Rattle.history.specs.Drafts.{with_label, citing};
 
+use crate::testing::is_citation;
 use commands::Ranked;
 use mmstatement::{Label, Sequence, Step};
 use std::alloc::{AllocError, Global};
-
-fn is_citation(step: &Step, label: &[u8]) -> bool
-    ensures { result ≡ is_citation label.now step.now }
-{
-    match step {
-        Step::Float(_) | Step::Hyp(_) => false,
-        Step::Cite(cited) => label == cited.as_slice(),
-    }
-}
-
-/// Whether the proof of an assertion cites a label.
-pub(crate) fn cites(entry: &Ranked, label: &[u8]) -> bool
-    ensures { result ≡ cites label.now entry.now }
-{
-    let steps = entry.assertion.proof.as_slice();
-    steps.iter().any(|step| is_citation(step, label))
-}
-
-/// The number of assertions whose proof cites a label.
-pub(crate) fn count_citers(entries: &[Ranked], label: &[u8]) -> usize
-    ensures { result ≡ citers entries.now label.now }
-{
-    entries.iter().filter(|entry| cites(entry, label)).count()
-}
 
 fn renamed_step(alloc: Global, step: &Step, old: &[u8], new: &Label) -> Result<Step, AllocError>
     ensures { IfOk result (λ made. made ≡ step_relabelled (replacing old.now new.now) step.now) }
@@ -43,7 +20,7 @@ fn renamed_step(alloc: Global, step: &Step, old: &[u8], new: &Label) -> Result<S
 }
 
 /// The steps of a proof with a label in the place of another.
-pub(crate) fn renamed_steps(
+fn renamed_steps(
     alloc: Global,
     steps: &[Step],
     old: &[u8],
@@ -56,4 +33,27 @@ pub(crate) fn renamed_steps(
         made.push(renamed_step(alloc, step, old, new)?)?;
     }
     Ok(Sequence::from_vec(made))
+}
+
+/// An assertion with a label in the place of another in its proof.
+pub(crate) fn recited(
+    alloc: Global,
+    entry: &Ranked,
+    old: &[u8],
+    new: &Label,
+) -> Result<Ranked, AllocError>
+    ensures { IfOk result (λ made. made ≡ citing old.now new.now entry.now) }
+{
+    let mut made = entry.copy(alloc)?;
+    made.assertion.proof = renamed_steps(alloc, entry.assertion.proof.as_slice(), old, new)?;
+    Ok(made)
+}
+
+/// An assertion with another label.
+pub(crate) fn relabelled(alloc: Global, entry: &Ranked, label: &Label) -> Result<Ranked, AllocError>
+    ensures { IfOk result (λ made. made ≡ with_label label.now entry.now) }
+{
+    let mut made = entry.copy(alloc)?;
+    made.assertion.label = label.copy(alloc)?;
+    Ok(made)
 }

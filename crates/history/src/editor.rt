@@ -2,7 +2,7 @@
 
 use crate::draft::Draft;
 use commands::{Command, PlainLibrary, Refused, Reply};
-use mmstatement::{Database, Sequence};
+use mmstatement::{Database, Prelude, Sequence};
 use std::alloc::{AllocError, Global};
 use std::hash::RandomState;
 use std::marker::Model;
@@ -57,19 +57,20 @@ pub struct Editor {
 
 impl Model for Editor {
     ghost use Rattle.history.specs.Editors.{Held};
-    ghost use Rattle.history.specs.Drafts.{IsSettled};
+    ghost use Rattle.history.specs.Drafts.{IsSettled, now_in};
 
     ghost Value = { Held };
 
-    ghost view = { λ e. record { setting = e.draft.setting; library = e.draft.library } };
+    ghost view = { λ e. record { setting = e.draft.setting; library = now_in e.draft } };
 
     ghost invariant = { λ e. IsSettled e.draft };
 }
 
 impl Editor {
-    ghost use Rattle.std.specs.Prelude.{◌≡◌, ◌≤◌, length};
+    ghost use Rattle.std.specs.Prelude.{◌≡◌, ◌≤◌, length, All};
     ghost use Rattle.proofcheck.specs.Databases.{AllCheck};
     ghost use Rattle.commands.specs.Library.{Verifies, ShowsInOrder};
+    ghost use Rattle.commands.specs.Fitting.{CommandFits};
     ghost use Rattle.history.specs.Editors.{Answers};
     ghost use Rattle.history.specs.Openings.{Opens};
 
@@ -98,6 +99,13 @@ impl Editor {
         Ok(Editor { draft })
     }
 
+    /// The prelude of its assertions.
+    pub fn prelude(&self) -> &Prelude
+        ensures { result.now ≡ self.now.setting.prelude }
+    {
+        self.draft.prelude()
+    }
+
     /// How many assertions the library may hold.
     pub fn slots(&self) -> usize
         ensures { result ≡ self.now.setting.slots }
@@ -113,7 +121,7 @@ impl Editor {
         self.draft.assertion_count()
     }
 
-    /// Does all commands of a transaction in order, and answers the reply to each.
+    /// Does all commands of a transaction in order, and answers the reply to each. Each command is within the limits of the prelude.
     ///
     /// # Errors
     ///
@@ -124,6 +132,7 @@ impl Editor {
         alloc: Global,
         commands: &[Command],
     ) -> Result<Sequence<Reply>, ApplyError>
+        requires { All (CommandFits self.old.setting.prelude) commands.now }
         ensures { Answers self.old commands.now result self.new }
     {
         match self.draft.take_all(alloc, commands) {

@@ -3,7 +3,7 @@
 ghost use Rattle.history.specs.Laws.{FrontsVerify, GrowthIsReflexive, GrowthIsTransitive, SettledFrontsStay};
 
 /// From an opening library that verifies, the library after each front of each history verifies, whether the history is
-/// legal or not.
+/// legal or not, where the commands of its done entries are within the limits of the prelude.
 pub fn fronts_verify()
     ensures { FrontsVerify }
 {}

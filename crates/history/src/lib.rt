@@ -5,8 +5,10 @@ mod citing;
 mod draft;
 mod editor;
 mod laws;
+mod listing;
 mod notes;
 mod places;
+mod testing;
 #[cfg(test)]
 mod tests;
 

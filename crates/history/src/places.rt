@@ -1,14 +1,16 @@
 //! Where each label of a library stands: a map from labels to places.
 
-ghost use Rattle.std.specs.Prelude.{◌≡◌, ◌∷◌, ◌++◌, ◌≤◌, [], false, length, map, IsSome, IfOk, OnOk, Contains};
+ghost use Rattle.std.specs.Prelude.{◌≡◌, ◌∷◌, ◌++◌, ◌≤◌, [], Some, false, length, map, IsSome, IfNone, IfSome, IfOk, OnOk};
 ghost use Rattle.std.specs.Str.{bytes_eq};
 ghost use Rattle.mmsyntax.specs.Assertions.{Distinct};
 ghost use Rattle.commands.specs.Library.{label_of, ranked_from};
 ghost use Rattle.commands.specs.Edits.{has};
-ghost use Rattle.history.specs.Places.{IsIndex, HasOnly, KeepsLabels, FoundAt, Puts, place_in};
+ghost use Rattle.mmstatement.specs.Frames.{frame};
+ghost use Rattle.history.specs.Entries.{living, standing, StandsIn};
+ghost use Rattle.history.specs.Places.{IsIndex, HasOnly, KeepsLabels, FoundAt, Puts, StandsSomewhere, place_in};
 
 use commands::Ranked;
-use mmstatement::Assertion;
+use mmstatement::{Assertion, Frame, Prelude, frame_of};
 use std::alloc::{AllocError, Global};
 use std::collections::HashMap;
 use std::hash::RandomState;
@@ -19,17 +21,32 @@ use std::hash::RandomState;
 pub(crate) type Places = HashMap<Vec<u8>, usize, RandomState>;
 
 /// The place of the assertion that has a label, if one has it: one look-up.
-pub(crate) fn find_label(entries: &[Ranked], places: &Places, label: &[u8]) -> Option<usize>
+pub(crate) fn find_label(entries: &[Option<Ranked>], places: &Places, label: &[u8]) -> Option<usize>
     requires { IsIndex places.now entries.now }
     ensures { FoundAt entries.now label.now result }
 {
     let place = *places.get(label)?;
-    let entry = entries.get(place)?;
+    let entry = entries.get(place)?.as_ref()?;
     if entry.assertion.label.as_slice() == label {
         Some(place)
     } else {
         None
     }
+}
+
+/// The assertion that has a label, with its place, if one has it.
+pub(crate) fn find_entry<'a>(
+    entries: &'a [Option<Ranked>],
+    places: &Places,
+    label: &[u8],
+) -> Option<(usize, &'a Ranked)>
+    requires { IsIndex places.now entries.now }
+    ensures none { IfNone result (has (living entries.now) label.now ≡ false) }
+    ensures some { IfSome result (λ found. StandsIn entries.now found.0 found.1.now × (label_of found.1.now ≡ label.now)) }
+{
+    let place = find_label(entries, places, label)?;
+    let entry = entries.get(place)?.as_ref()?;
+    Some((place, entry))
 }
 
 /// Notes another place for a label that stands in the map. It takes no memory.
@@ -43,11 +60,11 @@ pub(crate) fn put_place(places: &mut Places, label: &[u8], place: usize)
 }
 
 /// Drops a label from the map, unless an assertion has it.
-pub(crate) fn forget_label(entries: &[Ranked], places: &mut Places, label: &[u8])
+pub(crate) fn forget_label(entries: &[Option<Ranked>], places: &mut Places, label: &[u8])
     requires { IsIndex places.old entries.now }
     ensures indexed { IsIndex places.new entries.now }
     ensures fewer { KeepsLabels places.new places.old }
-    ensures gone { IsSome (place_in places.new label.now) → Contains (map label_of entries.now) label.now }
+    ensures gone { IsSome (place_in places.new label.now) → StandsSomewhere entries.now label.now }
 {
     if find_label(entries, places, label).is_none() {
         let _ = places.remove(label);
@@ -57,20 +74,20 @@ pub(crate) fn forget_label(entries: &[Ranked], places: &mut Places, label: &[u8]
 /// Puts an assertion behind the others. After an error the two may disagree.
 pub(crate) fn add_entry(
     alloc: Global,
-    entries: &mut Vec<Ranked>,
+    entries: &mut Vec<Option<Ranked>>,
     places: &mut Places,
     entry: Ranked,
 ) -> Result<(), AllocError>
     requires indexed { IsIndex places.old entries.old.items }
-    requires only { HasOnly places.old (map label_of entries.old.items) }
-    requires free { has entries.old.items (label_of entry) ≡ false }
-    ensures items { OnOk result (entries.new.items ≡ entries.old.items ++ entry ∷ []) }
+    requires only { HasOnly places.old entries.old.items [] }
+    requires free { has (living entries.old.items) (label_of entry) ≡ false }
+    ensures items { OnOk result (entries.new.items ≡ entries.old.items ++ Some entry ∷ []) }
     ensures indexed { OnOk result (IsIndex places.new entries.new.items) }
-    ensures only { OnOk result (HasOnly places.new (map label_of entries.new.items)) }
+    ensures only { OnOk result (HasOnly places.new entries.new.items []) }
 {
     let key = Vec::from_slice(alloc, entry.assertion.label.as_slice())?;
     places.insert(key, entries.len())?;
-    entries.push(entry)?;
+    entries.push(Some(entry))?;
     Ok(())
 }
 
@@ -79,12 +96,12 @@ pub(crate) fn open_entries(
     alloc: Global,
     keys: RandomState,
     assertions: &[Assertion],
-) -> Result<(Vec<Ranked>, Places), AllocError>
+) -> Result<(Vec<Option<Ranked>>, Places), AllocError>
     requires few { length assertions.now ≤ 4096 }
     requires distinct { Distinct bytes_eq (map label_of (ranked_from 1 assertions.now)) }
-    ensures entries { IfOk result (λ made. made.0.items ≡ ranked_from 1 assertions.now) }
+    ensures entries { IfOk result (λ made. made.0.items ≡ standing (ranked_from 1 assertions.now)) }
     ensures indexed { IfOk result (λ made. IsIndex made.1 made.0.items) }
-    ensures only { IfOk result (λ made. HasOnly made.1 (map label_of made.0.items)) }
+    ensures only { IfOk result (λ made. HasOnly made.1 made.0.items []) }
 {
     let mut entries = Vec::new(alloc);
     let mut places = HashMap::with_hasher(alloc, keys);
@@ -96,4 +113,19 @@ pub(crate) fn open_entries(
         add_entry(alloc, &mut entries, &mut places, entry)?;
     }
     Ok((entries, places))
+}
+
+/// The frames of assertions, in order.
+pub(crate) fn open_frames(
+    alloc: Global,
+    prelude: &Prelude,
+    assertions: &[Assertion],
+) -> Result<Vec<Frame>, AllocError>
+    ensures { IfOk result (λ made. made.items ≡ map (frame prelude.now) assertions.now) }
+{
+    let mut frames = Vec::new(alloc);
+    for assertion in assertions {
+        frames.push(frame_of(alloc, prelude, assertion)?)?;
+    }
+    Ok(frames)
 }

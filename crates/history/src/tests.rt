@@ -4,7 +4,7 @@ ghost use Rattle.std.specs.Prelude.{◌≤◌};
 
 use crate::{ApplyError, Editor, OpenError};
 use commands::{Command, PlainLibrary, Reason, Refused, Reply};
-use mmstatement::{Label, Sequence, Step, read_database};
+use mmstatement::{Assertion, Label, Sequence, Step, read_database};
 use proofcheck::check_all;
 use std::alloc::{AllocError, AllocGlobal, Global};
 use std::hash::RandomState;
@@ -44,6 +44,21 @@ fn opened(
     Ok(open_with(rt, text, 2)?.or(Err("the editor opens"))?)
 }
 
+/// Applies commands that are within the limits of the prelude.
+fn applied(
+    alloc: Global,
+    editor: &mut Editor,
+    commands: &[Command],
+) -> Result<Result<Sequence<Reply>, ApplyError>, Fail> {
+    if !commands
+        .iter()
+        .all(|command| command.fits(editor.prelude()))
+    {
+        return Err(Fail::from("a command is not within the limits"));
+    }
+    Ok(editor.apply(alloc, commands))
+}
+
 fn renames(alloc: Global, pairs: &[(&[u8], &[u8])]) -> Result<Vec<Command>, AllocError> {
     let mut commands = Vec::new(alloc);
     for (old, new) in pairs {
@@ -59,9 +74,9 @@ fn apply(
     alloc: Global,
     editor: &mut Editor,
     pairs: &[(&[u8], &[u8])],
-) -> Result<Option<ApplyError>, AllocError> {
+) -> Result<Option<ApplyError>, Fail> {
     let commands = renames(alloc, pairs)?;
-    Ok(editor.apply(alloc, commands.as_slice()).err())
+    Ok(applied(alloc, editor, commands.as_slice())?.err())
 }
 
 fn refused(index: usize, reason: Reason) -> Option<ApplyError> {
@@ -81,7 +96,7 @@ fn rank_of(alloc: Global, editor: &mut Editor, text: &[u8]) -> Result<Option<u32
     commands.push(Command::Show {
         label: label(alloc, text)?,
     })?;
-    let replies = editor.apply(alloc, commands.as_slice())?;
+    let replies = applied(alloc, editor, commands.as_slice())??;
     Ok(rank_in(replies.as_slice().first()))
 }
 
@@ -154,7 +169,7 @@ fn citers_of(alloc: Global, editor: &mut Editor, text: &[u8]) -> Result<Option<u
     commands.push(Command::Show {
         label: label(alloc, text)?,
     })?;
-    let replies = editor.apply(alloc, commands.as_slice())?;
+    let replies = applied(alloc, editor, commands.as_slice())??;
     match replies.as_slice().first() {
         Some(Reply::Shown { citers, .. }) => Ok(Some(*citers)),
         _ => Ok(None),
@@ -185,5 +200,76 @@ fn gives_proofs_back(rt: HostRuntime) -> Result<(), Fail> {
     assert_eq!(rt; citers_of(alloc, &mut editor, b"a")?, Some(1));
     let library = editor.into_library();
     assert_eq!(rt; cited(&library, 1), Some(b"a".as_slice()));
+    Ok(())
+}
+
+/// An assertion of the library as `Command::Add` takes it, with another label.
+fn again(alloc: Global, editor: &mut Editor, text: &[u8], named: &[u8]) -> Result<Assertion, Fail> {
+    let mut commands = Vec::new(alloc);
+    commands.push(Command::Show {
+        label: label(alloc, text)?,
+    })?;
+    let replies = applied(alloc, editor, commands.as_slice())??;
+    let Some(Reply::Shown { shown, .. }) = replies.as_slice().first() else {
+        return Err(Fail::from("the assertion is shown"));
+    };
+    let mut assertion = shown.assertion.copy(alloc)?;
+    assertion.label = label(alloc, named)?;
+    Ok(assertion)
+}
+
+fn delete(alloc: Global, text: &[u8]) -> Result<Command, AllocError> {
+    Ok(Command::Delete {
+        label: label(alloc, text)?,
+    })
+}
+
+#[test]
+fn gives_a_deleted_assertion_back(rt: HostRuntime) -> Result<(), Fail> {
+    let alloc = rt.alloc();
+    let mut editor = opened(&rt, PAIR)?;
+    let commands = vec![in alloc; delete(alloc, b"b")?, delete(alloc, b"b")?]?;
+    let second = applied(alloc, &mut editor, commands.as_slice())?.err();
+    assert_eq!(rt; second, refused(2, Reason::UnknownLabel));
+    assert_eq!(rt; editor.assertion_count(), 2);
+    assert_eq!(rt; rank_of(alloc, &mut editor, b"b")?, Some(200));
+    Ok(())
+}
+
+#[test]
+fn keeps_what_is_cited(rt: HostRuntime) -> Result<(), Fail> {
+    let alloc = rt.alloc();
+    let mut editor = cited_twice(&rt)?;
+    let commands = vec![in alloc; delete(alloc, b"a")?]?;
+    let cited = applied(alloc, &mut editor, commands.as_slice())?.err();
+    assert_eq!(rt; cited, refused(1, Reason::StillCited(1)));
+    let commands = vec![in alloc;
+        Command::Move {
+            label: label(alloc, b"a")?,
+            rank: 300
+        },
+    ]?;
+    let above = applied(alloc, &mut editor, commands.as_slice())?.err();
+    assert_eq!(rt; above, refused(1, Reason::CiterNotHigher));
+    Ok(())
+}
+
+#[test]
+fn adds_behind_a_deleted_assertion(rt: HostRuntime) -> Result<(), Fail> {
+    let alloc = rt.alloc();
+    let mut editor = cited_twice(&rt)?;
+    let assertion = again(alloc, &mut editor, b"t", b"u")?;
+    let commands = vec![in alloc;
+        delete(alloc, b"t")?,
+        Command::Add {
+            rank: 201,
+            assertion
+        },
+    ]?;
+    let error = applied(alloc, &mut editor, commands.as_slice())?.err();
+    assert_eq!(rt; error, None);
+    assert_eq!(rt; editor.assertion_count(), 3);
+    assert_eq!(rt; rank_of(alloc, &mut editor, b"u")?, Some(201));
+    assert_eq!(rt; citers_of(alloc, &mut editor, b"a")?, Some(1));
     Ok(())
 }

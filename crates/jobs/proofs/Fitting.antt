@@ -2,20 +2,20 @@
 use Rattle.std.proofs.Common.{◌≡◌, ℕ, ◌+◌, Bool, true, false, List, [], ◌∷◌, Option, Some, None, Result, Ok, Err, refl, subst, inl, inr}
 use Rattle.std.specs.Prelude.{All}
 use Rattle.std.specs.List.{find, AllByRecursion}
-use Rattle.std.proofs.lemmas.List.Elements.{All-cons, All-nil, recursion_from_All}
+use Rattle.std.proofs.lemmas.List.Elements.{All-cons, All-nil, All-head, All-tail, recursion_from_All}
 use Rattle.std.proofs.lemmas.Bool.{cases_Bool, cond-true, cond-false}
 use Rattle.mmsyntax.specs.Assertions.{Fits}
 use Rattle.commands.specs.declared.library.Ranked.{Ranked}
 use Rattle.commands.specs.declared.command.Command.{Command}
-use Rattle.commands.specs.declared.command.Command.TheVariants.{Rename, Show}
+use Rattle.commands.specs.declared.command.Command.TheVariants as command
 use Rattle.commands.specs.declared.command.Reply.{Reply}
-use Rattle.commands.specs.declared.command.Reason.{Reason}
-use Rattle.commands.specs.declared.command.Refused.{Refused as Refusal}
+use Rattle.commands.specs.declared.reason.Reason.{Reason}
+use Rattle.commands.specs.declared.reason.Refused.{Refused as Refusal}
 use Rattle.commands.specs.Library.{Setting, Verifies}
-use Rattle.commands.specs.Edits.{Edited, Tests, tested, rename_tests, is_labelled, shown, edit}
+use Rattle.commands.specs.Edits.{Edited, Tests, tested, of_found, found, add_tests, reprove_tests, rename_tests, move_tests, cited, is_labelled, edit}
+use Rattle.commands.specs.Fitting.{CommandFits, ReplyFits}
 use Rattle.commands.specs.Transactions.{Applied, with_reply, then_apply, apply_from, apply}
 use Rattle.commands.proofs.Editing.{edit_verifies}
-use Rattle.mmrefactor.specs.Outcomes.{ReplyFits}
 
 -- what is found in a list is one of its items
 found_holds : {A : Type 0} (P : A → Type 0) (p : A → Bool) (xs : List A) (x : A) → AllByRecursion P xs → find p xs ≡ Some x → P x
@@ -38,17 +38,26 @@ EditFits s (Err reason) = Unit {0}
 
 tested_fits : (s : Setting) (ts : Tests) (e : Edited) → ReplyFits s.prelude e.reply → EditFits s (tested ts e)
 tested_fits s [] e h = h
-tested_fits s ((true, reason) ∷ ts) e h = tt
-tested_fits s ((false, reason) ∷ ts) e h = tested_fits s ts e h
+tested_fits s (Some reason ∷ ts) e h = tt
+tested_fits s (None ∷ ts) e h = tested_fits s ts e h
 
-shown_fits : (s : Setting) (lib : List Ranked) (o : Option Ranked) → ((e : Ranked) → o ≡ Some e → Fits s.prelude e.assertion) → EditFits s (shown lib o)
-shown_fits s lib None h = tt
-shown_fits s lib (Some e) h = h e refl
+-- what is done with an assertion of the library
+of_found_fits : (s : Setting) (o : Option Ranked) (then : Ranked → Result Edited Reason) → ((e : Ranked) → o ≡ Some e → EditFits s (then e))
+    → EditFits s (of_found o then)
+of_found_fits s None then h = tt
+of_found_fits s (Some e) then h = h e refl
 
 edit_fits : (s : Setting) (lib : List Ranked) (c : Command) → Verifies s lib → EditFits s (edit s lib c)
-edit_fits s lib (Rename old new) v = tested_fits s (rename_tests s lib old new) _ tt
-edit_fits s lib (Show label) v =
-    shown_fits s lib (find (is_labelled label) lib) (λ e found. found_holds (λ x. Fits s.prelude x.assertion) (is_labelled label) lib e (recursion_from_All _ lib v.fit) found)
+edit_fits s lib (command.Add rank a) v = tested_fits s (add_tests s lib rank a) _ tt
+edit_fits s lib (command.Reprove label steps) v =
+    of_found_fits s (found lib label) _ (λ e at. tested_fits s (reprove_tests s lib steps e) _ tt)
+edit_fits s lib (command.Rename old new) v = tested_fits s (rename_tests s lib old new) _ tt
+edit_fits s lib (command.Move label rank) v = of_found_fits s (found lib label) _ (λ e at. tested_fits s (move_tests lib rank e) _ tt)
+edit_fits s lib (command.Delete label) v = of_found_fits s (found lib label) _ (λ e at. tested_fits s (cited lib label ∷ []) _ tt)
+edit_fits s lib (command.Show label) v =
+    of_found_fits s (found lib label) _
+    (λ e at. found_holds (λ x. Fits s.prelude x.assertion) (is_labelled label) lib e (recursion_from_All _ lib v.fit) at)
+edit_fits s lib command.List v = tt
 
 -- ---- transactions
 
@@ -65,12 +74,16 @@ then_fits : (s : Setting) (n : ℕ) (r : Result Edited Reason) (rest : List Rank
 then_fits s n (Ok e) rest h more = reply_fits s e.reply (rest e.library) h (more e refl)
 then_fits s n (Err reason) rest h more = tt
 
-apply_from_fits : (s : Setting) (n : ℕ) (lib : List Ranked) (cs : List Command) → Verifies s lib → AppliedFits s (apply_from s n lib cs)
+apply_from_fits : (s : Setting) (n : ℕ) (lib : List Ranked) (cs : List Command) → Verifies s lib → All (CommandFits s.prelude) cs
+    → AppliedFits s (apply_from s n lib cs)
 unfolding apply_from
-apply_from_fits s n lib [] v = All-nil (ReplyFits s.prelude)
-apply_from_fits s n lib (c ∷ cs) v =
-    then_fits s n (edit s lib c) (λ next. apply_from s (n + 1) next cs) (edit_fits s lib c v) (λ e h. apply_from_fits s (n + 1) e.library cs (edit_verifies s lib c e v h))
+apply_from_fits s n lib [] v fit = All-nil (ReplyFits s.prelude)
+apply_from_fits s n lib (c ∷ cs) v fit =
+    let P = CommandFits s.prelude in
+    then_fits s n (edit s lib c) (λ next. apply_from s (n + 1) next cs) (edit_fits s lib c v)
+    (λ e h. apply_from_fits s (n + 1) e.library cs (edit_verifies s lib c e v (All-head P c cs fit) h) (All-tail P c cs fit))
 
 -- the replies of a transaction that is not refused
-pub replies_fit : (s : Setting) (lib : List Ranked) (cs : List Command) (a : Applied) → Verifies s lib → apply s lib cs ≡ Ok a → All (ReplyFits s.prelude) a.replies
-replies_fit s lib cs a v h = subst (AppliedFits s) h (apply_from_fits s 1 lib cs v)
+pub replies_fit : (s : Setting) (lib : List Ranked) (cs : List Command) (a : Applied) → Verifies s lib → All (CommandFits s.prelude) cs
+    → apply s lib cs ≡ Ok a → All (ReplyFits s.prelude) a.replies
+replies_fit s lib cs a v fit h = subst (AppliedFits s) h (apply_from_fits s 1 lib cs v fit)

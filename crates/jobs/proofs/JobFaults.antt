@@ -5,16 +5,16 @@ use Rattle.std.proofs.lemmas.Bool.{cases_Bool, ltb-true, ltb-false}
 use Rattle.mmsyntax.specs.declared.statement.Assertion.{Assertion}
 use Rattle.mmtext.specs.declared.fault.TextFault.{TextFault}
 use Rattle.mmtext.specs.declared.fault.FaultKind.TheVariants.{NoMemory as OutOfMemory}
-use Rattle.mmsyntax.specs.Tables.{Contents}
+use Rattle.mmsyntax.specs.Tables.{Tables, Contents}
 use Rattle.mmtext.specs.Languages.{too_long}
 use Rattle.mmsyntax.specs.Faults.{FaultyDatabase}
 use Rattle.proofcheck.specs.declared.fault.ProofFault.{ProofFault}
 use Rattle.proofcheck.specs.declared.fault.ProofFaultKind.TheVariants.{NoMemory as NoMemoryOfProof}
 use Rattle.proofcheck.specs.Databases.{AllCheck, IsFirstFault as IsFirstFaultOfProofs}
-use Rattle.mmrefactor.specs.declared.job.Fault.{Fault}
-use Rattle.mmrefactor.specs.declared.job.Fault.TheVariants.{Text, Proof, NoMemory}
-use Rattle.mmrefactor.specs.Jobs.{Bytes, IsDatabase, IsChecked, IsLabelAt, IsFirstFault, IsProofFault, IsDatabaseFault}
-use Rattle.mmrefactor.specs.Jobs.{IsRunFault, IsTextFaultOf, IsProofFaultOf, IsRefusedBy, IsOrLacksMemory}
+use Rattle.jobs.specs.declared.job.Fault.{Fault}
+use Rattle.jobs.specs.declared.job.Fault.TheVariants.{Text, Proof, NoMemory}
+use Rattle.jobs.specs.Jobs.{Bytes, IsDatabase, IsChecked, IsLabelAt, IsFirstFault, IsProofFault, IsDatabaseFault}
+use Rattle.jobs.specs.Jobs.{IsRunFault, IsTextFaultOf, IsProofFaultOf, IsRefusedBy, IsOrLacksMemory}
 
 -- ---- proofs
 
@@ -136,7 +136,14 @@ run_refused_by_database text texts answer (Text (suc k) g) database only h = inr
 run_refused_by_database text texts answer (Proof label g) database only h = database (Proof label g) h
 run_refused_by_database text texts answer NoMemory database only h = elim h [ ]
 
-module _ (text : Bytes) (texts : List Bytes) (none : (g : Fault) → IsDatabaseFault text g → ⊥) where
+module _ (text : Bytes) (texts : List Bytes) (db : Contents) (p : Tables) (over : p ≡ db.prelude) (none : (g : Fault) → IsDatabaseFault text g → ⊥)
+    (same : (contents : Contents) → IsChecked text contents → db ≡ contents) where
+  -- the first fault of the scripts over the one database that is read
+  over_it : (k : ℕ) (g : TextFault) (contents : Contents) → IsChecked text contents → IsFirstFault contents.prelude texts k g
+      → IsFirstFault p texts k g
+  over_it k g contents checked =
+      subst (λ (t : Tables). IsFirstFault t texts k g) (sym (over ∙ ap (λ (c : Contents). c.prelude) (same contents checked)))
+
   refused_by_text : (k : ℕ) (g : TextFault) (answer : Fault) → IsRefusedBy (k + 1) g answer → IsOrLacksMemory (Text (suc k) g) answer
   refused_by_text k g NoMemory h = inr refl
   refused_by_text k g (Proof label q) h = elim h [ ]
@@ -145,16 +152,16 @@ module _ (text : Bytes) (texts : List Bytes) (none : (g : Fault) → IsDatabaseF
       inl (ap (λ (m : ℕ). Text m q) next ∙ ap (λ (x : TextFault). Text (suc k) x) h.1)
 
   -- a run is refused with the fault of a script
-  pub run_refused_by_script : (answer f : Fault) → ((k : ℕ) (g : TextFault) → IsFirstFault texts k g → IsRefusedBy (k + 1) g answer)
+  pub run_refused_by_script : (answer f : Fault) → ((k : ℕ) (g : TextFault) → IsFirstFault p texts k g → IsRefusedBy (k + 1) g answer)
       → IsRunFault text texts f → IsOrLacksMemory f answer
   run_refused_by_script answer (Text zero g) scripts h = absurd (none (Text zero g) h)
   run_refused_by_script answer (Proof label g) scripts h = absurd (none (Proof label g) h)
   run_refused_by_script answer NoMemory scripts h = elim h [ ]
-  run_refused_by_script answer (Text (suc k) g) scripts h = refused_by_text k g answer (scripts k g h.1)
+  run_refused_by_script answer (Text (suc k) g) scripts h = refused_by_text k g answer (scripts k g (over_it k g h.0.0 h.0.1 h.0.2))
 
   -- a run of scripts without a fault has none
-  pub run_faultless : (f : Fault) → ((k : ℕ) (g : TextFault) → IsFirstFault texts k g → ⊥) → IsRunFault text texts f → ⊥
+  pub run_faultless : (f : Fault) → ((k : ℕ) (g : TextFault) → IsFirstFault p texts k g → ⊥) → IsRunFault text texts f → ⊥
   run_faultless (Text zero g) scripts h = none (Text zero g) h
   run_faultless (Proof label g) scripts h = none (Proof label g) h
   run_faultless NoMemory scripts h = h
-  run_faultless (Text (suc k) g) scripts h = scripts k g h.1
+  run_faultless (Text (suc k) g) scripts h = scripts k g (over_it k g h.0.0 h.0.1 h.0.2)

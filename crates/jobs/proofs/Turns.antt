@@ -4,7 +4,7 @@ use Rattle.std.specs.Prelude.{All}
 use Rattle.std.proofs.Math.Seq.{drop-cons}
 use Rattle.std.proofs.lemmas.List.{drop_all}
 use Rattle.std.proofs.lemmas.List.Elements.{All-nil, All-push}
-use Rattle.mmrefactor.specs.Outcomes.{in_turn, after_turns}
+use Rattle.jobs.specs.Outcomes.{in_turn, after_turns}
 
 -- of the items xs, from a place on, i are done: these are their answers, each of which meets P, and now the others follow
 pub record Turns {S X O : Type 0} (answer : S → X → O) (next : S → X → S) (P : O → Type 0) (from now : S) (xs : List X) (i : ℕ) (done : List O) : Type 0 where

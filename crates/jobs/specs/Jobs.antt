@@ -5,23 +5,23 @@ use Rattle.std.specs.Fmt.{decimal}
 use Rattle.mmsyntax.specs.declared.statement.Assertion.{Assertion}
 use Rattle.mmtext.specs.declared.fault.TextFault.{TextFault}
 use Rattle.mmtext.specs.declared.fault.FaultKind.TheVariants.{NoMemory as OutOfMemory}
-use Rattle.mmsyntax.specs.Tables.{Contents}
+use Rattle.mmsyntax.specs.Tables.{Tables, Contents}
 use Rattle.mmsyntax.specs.Grammar.{Spells}
 use Rattle.mmsyntax.specs.Faults.{FaultyDatabase}
 use Rattle.proofcheck.specs.declared.fault.ProofFault.{ProofFault}
 use Rattle.proofcheck.specs.declared.fault.ProofFaultKind.TheVariants.{NoMemory as NoMemoryOfProof}
 use Rattle.proofcheck.specs.Databases.{AllCheck, IsFirstFault as IsFirstFaultOfProofs}
 use Rattle.commands.specs.declared.command.Command.{Command}
-use Rattle.commands.specs.Library.{Listed, ShowsInOrder, setting_of}
+use Rattle.commands.specs.Library.{Listed, ShowsInOrder}
 use Rattle.commands.specs.Scripts.{SpellsScript}
 use Rattle.commands.specs.ScriptFaults.{FaultyScript}
 use Rattle.export.specs.Exported.{Accepts, exported_text}
-use Rattle.mmrefactor.specs.declared.job.Job.{Job}
-use Rattle.mmrefactor.specs.declared.job.Job.TheVariants.{Check, Run}
-use Rattle.mmrefactor.specs.declared.job.Printed.{Printed}
-use Rattle.mmrefactor.specs.declared.job.Fault.{Fault}
-use Rattle.mmrefactor.specs.declared.job.Fault.TheVariants.{Text, Proof, NoMemory}
-use Rattle.mmrefactor.specs.Outcomes.{at_opening, after_scripts}
+use Rattle.jobs.specs.declared.job.Job.{Job}
+use Rattle.jobs.specs.declared.job.Job.TheVariants.{Check, Run}
+use Rattle.jobs.specs.declared.job.Printed.{Printed}
+use Rattle.jobs.specs.declared.job.Fault.{Fault}
+use Rattle.jobs.specs.declared.job.Fault.TheVariants.{Text, Proof, NoMemory}
+use Rattle.jobs.specs.Outcomes.{setting_of, at_opening, after_scripts}
 
 abbrev pub Bytes : Type 0
 Bytes = List ℕ
@@ -46,17 +46,17 @@ pub record IsDatabase (text : Bytes) (contents : Contents) : Type 0 where
   pub spelled : Spells text contents
   pub faultless : (f : TextFault) → FaultyDatabase text f → ⊥
 
--- the text of a script: it spells these transactions, and has no fault
-pub record IsScript (text : Bytes) (script : Orders) : Type 0 where
-  pub spelled : SpellsScript text script
-  pub faultless : (f : TextFault) → FaultyScript text f → ⊥
+-- the text of a script over a prelude: it spells these transactions, and has no fault
+pub record IsScript (p : Tables) (text : Bytes) (script : Orders) : Type 0 where
+  pub spelled : SpellsScript p text script
+  pub faultless : (f : TextFault) → FaultyScript p text f → ⊥
 
 -- each text is that of the script at its place
-abbrev pub AreScripts : List Bytes → List Orders → Type 0
-AreScripts [] [] = Unit {0}
-AreScripts [] (x ∷ xs) = ⊥
-AreScripts (t ∷ ts) [] = ⊥
-AreScripts (t ∷ ts) (x ∷ xs) = IsScript t x × AreScripts ts xs
+abbrev pub AreScripts : Tables → List Bytes → List Orders → Type 0
+AreScripts p [] [] = Unit {0}
+AreScripts p [] (x ∷ xs) = ⊥
+AreScripts p (t ∷ ts) [] = ⊥
+AreScripts p (t ∷ ts) (x ∷ xs) = IsScript p t x × AreScripts p ts xs
 
 -- the text of a database of which each proof checks
 pub record IsChecked (text : Bytes) (contents : Contents) : Type 0 where
@@ -75,7 +75,7 @@ pub record IsRun (db : Bytes) (texts : List Bytes) (out : Bytes) : Type 0 where
   pub contents : Contents
   pub checked : IsChecked db contents
   pub scripts : List Orders
-  pub ordered : AreScripts texts scripts
+  pub ordered : AreScripts contents.prelude texts scripts
   pub printed : PrintsRun contents scripts out
 
 abbrev pub DoneAsAsked : Job → Printed → Type 0
@@ -85,10 +85,10 @@ DoneAsAsked (Run db texts) p = IsRun db.items (map (λ t. t.items) texts.items) 
 -- ---- faults
 
 -- the fault of the script at a place, where each script before it is read
-abbrev pub IsFirstFault : List Bytes → ℕ → TextFault → Type 0
-IsFirstFault [] k f = ⊥
-IsFirstFault (t ∷ ts) zero f = FaultyScript t f
-IsFirstFault (t ∷ ts) (suc k) f = ((x : Orders) × IsScript t x) × IsFirstFault ts k f
+abbrev pub IsFirstFault : Tables → List Bytes → ℕ → TextFault → Type 0
+IsFirstFault p [] k f = ⊥
+IsFirstFault p (t ∷ ts) zero f = FaultyScript p t f
+IsFirstFault p (t ∷ ts) (suc k) f = ((x : Orders) × IsScript p t x) × IsFirstFault p ts k f
 
 -- the label of the assertion at a place
 abbrev pub IsLabelAt : Contents → ℕ → List ℕ → Type 0
@@ -109,7 +109,7 @@ IsDatabaseFault text _ = ⊥
 -- the fault of a run: that of its database, or the fault of the first script that has one, the k-th at the place k
 abbrev pub IsRunFault : Bytes → List Bytes → Fault → Type 0
 IsRunFault db texts (Text (suc k) f) =
-    ((contents : Contents) × IsChecked db contents) × IsFirstFault texts k f × (f.kind ≢ OutOfMemory)
+    ((contents : Contents) × IsChecked db contents × IsFirstFault contents.prelude texts k f) × (f.kind ≢ OutOfMemory)
 IsRunFault db texts f = IsDatabaseFault db f
 
 -- the first fault that a job has
@@ -128,10 +128,10 @@ RefusesWith f (Err g) = IsOrLacksMemory f g
 -- ---- as the functions see them
 
 -- the scripts' part of a fault
-abbrev pub IsScriptFault : List Bytes → Fault → Type 0
-IsScriptFault texts (Text (suc k) f) = IsFirstFault texts k f × (f.kind ≢ OutOfMemory)
-IsScriptFault texts NoMemory = Unit {0}
-IsScriptFault texts _ = ⊥
+abbrev pub IsScriptFault : Tables → List Bytes → Fault → Type 0
+IsScriptFault p texts (Text (suc k) f) = IsFirstFault p texts k f × (f.kind ≢ OutOfMemory)
+IsScriptFault p texts NoMemory = Unit {0}
+IsScriptFault p texts _ = ⊥
 
 -- the answer to the fault of a text: itself with its place, or want of memory
 abbrev pub IsTextFaultOf : ℕ → TextFault → Fault → Type 0

@@ -1,25 +1,36 @@
 -- The outcomes of scripts that one editor runs, one after another.
-use Rattle.std.specs.Prelude.{◌+◌, ℕ, Bool, true, false, List, [], ◌∷◌, length, Result, Ok, Err, All}
+use Rattle.std.specs.Prelude.{◌≡◌, ◌+◌, ℕ, Bool, true, false, nat_lt, List, [], ◌∷◌, length, Result, Ok, Err, All, if◌then◌else◌}
 use Rattle.std.specs.List.{list_any}
 use Rattle.mmsyntax.specs.Tables.{Tables, Contents}
-use Rattle.mmsyntax.specs.Assertions.{Fits}
 use Rattle.commands.specs.declared.library.Ranked.{Ranked}
 use Rattle.commands.specs.declared.command.Command.{Command}
-use Rattle.commands.specs.declared.command.Command.TheVariants.{Rename, Show}
-use Rattle.commands.specs.declared.command.Reply.{Reply}
-use Rattle.commands.specs.declared.command.Reply.TheVariants.{Done, Shown}
-use Rattle.commands.specs.declared.command.Refused.{Refused as Refusal}
+use Rattle.commands.specs.declared.command.Command.TheVariants as command
+use Rattle.commands.specs.declared.reason.Refused.{Refused as Refusal}
 use Rattle.commands.specs.Library.{Setting, opening}
+use Rattle.commands.specs.Fitting.{ReplyFits}
 use Rattle.commands.specs.Transactions.{Applied, apply, library_of}
 use Rattle.history.specs.Editors.{Held}
-use Rattle.mmrefactor.specs.declared.edits.Place.{Place}
-use Rattle.mmrefactor.specs.declared.outcome.Outcome.{Outcome}
-use Rattle.mmrefactor.specs.declared.outcome.Outcome.TheVariants.{Committed, Read, Refused}
+use Rattle.jobs.specs.declared.edits.Place.{Place}
+use Rattle.jobs.specs.declared.outcome.Outcome.{Outcome}
+use Rattle.jobs.specs.declared.outcome.Outcome.TheVariants.{Committed, Read, Refused, TooManyCommands}
 
 -- a command that changes the library where it is not refused
 abbrev pub is_edit : Command → Bool
-is_edit (Rename old new) = true
-is_edit (Show label) = false
+is_edit (command.Add rank a) = true
+is_edit (command.Reprove label steps) = true
+is_edit (command.Rename old new) = true
+is_edit (command.Move label rank) = true
+is_edit (command.Delete label) = true
+is_edit (command.Show label) = false
+is_edit command.List = false
+
+-- a transaction has at most 16 commands
+abbrev pub has_too_many : List Command → Bool
+has_too_many cs = nat_lt 16 (length cs)
+
+-- how a library of the program stands: over the prelude of its database, with 4,096 slots
+abbrev pub setting_of : Contents → Setting
+setting_of db = record { prelude = db.prelude; slots = 4096 }
 
 -- the library after the transactions so far, and how many of them were committed
 pub record Standing : Type 0 where
@@ -49,14 +60,22 @@ count_after n edits (Err r) = n
 abbrev pub answer_to : Setting → Standing → List Command → Result Applied Refusal
 answer_to s now cs = apply s now.library cs
 
-abbrev pub outcome_at : Setting → Standing → List Command → Outcome
-outcome_at s now cs = outcome_of now.count (list_any is_edit cs) (answer_to s now cs)
+-- what becomes of a transaction within the limit
+abbrev pub answered : Setting → Standing → List Command → Outcome
+answered s now cs = outcome_of now.count (list_any is_edit cs) (answer_to s now cs)
 
-abbrev pub standing_after : Setting → Standing → List Command → Standing
-standing_after s now cs = record {
+abbrev pub moved : Setting → Standing → List Command → Standing
+moved s now cs = record {
   library = library_of now.library (answer_to s now cs);
   count = count_after now.count (list_any is_edit cs) (answer_to s now cs);
 }
+
+-- one of more commands is not looked at
+abbrev pub outcome_at : Setting → Standing → List Command → Outcome
+outcome_at s now cs = if has_too_many cs then TooManyCommands else answered s now cs
+
+abbrev pub standing_after : Setting → Standing → List Command → Standing
+standing_after s now cs = if has_too_many cs then now else moved s now cs
 
 -- the answers to items in order, each from where the one before it left
 abbrev pub in_turn : {S X O : Type 0} → (S → X → O) → (S → X → S) → S → List X → List O
@@ -84,15 +103,11 @@ after_scripts s now xs = after_turns (after_script s) now xs
 
 -- ---- what a report can print
 
--- an assertion that is shown fits the prelude
-abbrev pub ReplyFits : Tables → Reply → Type 0
-ReplyFits t Done = Unit {0}
-ReplyFits t (Shown citers e) = Fits t e.assertion
-
 abbrev pub OutcomeFits : Tables → Outcome → Type 0
 OutcomeFits t (Committed n replies) = All (ReplyFits t) replies
 OutcomeFits t (Read n replies) = All (ReplyFits t) replies
 OutcomeFits t (Refused n index reason) = Unit {0}
+OutcomeFits t TooManyCommands = Unit {0}
 
 abbrev pub OutcomesFit : Tables → List (List Outcome) → Type 0
 OutcomesFit t rows = All (All (OutcomeFits t)) rows

@@ -1,11 +1,13 @@
 //! Scripts run one after another over one editor.
 
-ghost use Rattle.std.specs.Prelude.{◌≡◌, ◌<◌, ◌^◌, [], length, All, IfOk, OnOk};
+ghost use Rattle.std.specs.Prelude.{◌≡◌, ◌≤◌, ◌<◌, ◌^◌, [], length, All, IfOk, OnOk};
 ghost use Rattle.std.specs.List.{list_any};
 ghost use Rattle.proofcheck.specs.Databases.{AllCheck};
-ghost use Rattle.commands.specs.Library.{opening, setting_of, ShowsInOrder};
+ghost use Rattle.commands.specs.Library.{opening, ShowsInOrder};
+ghost use Rattle.commands.specs.Fitting.{CommandFits};
 ghost use Rattle.export.specs.Exported.{Accepts, exported_text};
-ghost use Rattle.mmrefactor.specs.Outcomes.{is_edit, standing, at_opening, outcome_at, standing_after, script_outcomes, after_script, all_outcomes, after_scripts, OutcomeFits, OutcomesFit};
+ghost use Rattle.jobs.specs.Outcomes.{setting_of, is_edit, standing, at_opening, answered, moved, outcome_at, standing_after};
+ghost use Rattle.jobs.specs.Outcomes.{script_outcomes, after_script, all_outcomes, after_scripts, OutcomeFits, OutcomesFit};
 
 use crate::outcome::Outcome;
 use commands::{Command, PlainLibrary, Script, Transaction};
@@ -13,6 +15,12 @@ use history::{ApplyError, Editor, OpenError};
 use mmstatement::{Database, Sequence};
 use std::alloc::{AllocError, Global};
 use std::hash::RandomState;
+
+/// The slots of a library of the program.
+const SLOTS: usize = 4096;
+
+/// The most commands of a transaction.
+const MOST_COMMANDS: usize = 16;
 
 /// Where a committed transaction stands in the scripts: both count from 0.
 #[derive(Clone, Copy, Debug)]
@@ -26,8 +34,12 @@ fn is_edit_command(command: &Command) -> bool
     ensures { result ≡ is_edit command.now }
 {
     match command {
-        Command::Rename { .. } => true,
-        Command::Show { .. } => false,
+        Command::Add { .. }
+        | Command::Reprove { .. }
+        | Command::Rename { .. }
+        | Command::Move { .. }
+        | Command::Delete { .. } => true,
+        Command::Show { .. } | Command::List => false,
     }
 }
 
@@ -45,17 +57,18 @@ fn count_of(history: &[Place]) -> u64
     history.len() as u64
 }
 
-/// Runs one transaction. A committed one becomes the next entry of the history.
-fn attempt(
+/// Runs one transaction of at most 16 commands. A committed one becomes the next entry of the history.
+fn submit(
     alloc: Global,
     editor: &mut Editor,
     history: &mut Vec<Place>,
     place: Place,
     transaction: &[Command],
 ) -> Result<Outcome, AllocError>
+    requires fit { All (CommandFits editor.old.setting.prelude) transaction.now }
     ensures setting { editor.new.setting ≡ editor.old.setting }
-    ensures outcome { IfOk result (λ o. o ≡ outcome_at editor.old.setting (standing editor.old history.old.items) transaction.now) }
-    ensures after { OnOk result (standing editor.new history.new.items ≡ standing_after editor.old.setting (standing editor.old history.old.items) transaction.now) }
+    ensures outcome { IfOk result (λ o. o ≡ answered editor.old.setting (standing editor.old history.old.items) transaction.now) }
+    ensures after { OnOk result (standing editor.new history.new.items ≡ moved editor.old.setting (standing editor.old history.old.items) transaction.now) }
     ensures fits { IfOk result (OutcomeFits editor.old.setting.prelude) }
 {
     let _count = editor.assertion_count();
@@ -85,6 +98,26 @@ fn attempt(
     }
 }
 
+/// Runs one transaction, unless it has too many commands.
+fn attempt(
+    alloc: Global,
+    editor: &mut Editor,
+    history: &mut Vec<Place>,
+    place: Place,
+    transaction: &[Command],
+) -> Result<Outcome, AllocError>
+    requires fit { All (CommandFits editor.old.setting.prelude) transaction.now }
+    ensures setting { editor.new.setting ≡ editor.old.setting }
+    ensures outcome { IfOk result (λ o. o ≡ outcome_at editor.old.setting (standing editor.old history.old.items) transaction.now) }
+    ensures after { OnOk result (standing editor.new history.new.items ≡ standing_after editor.old.setting (standing editor.old history.old.items) transaction.now) }
+    ensures fits { IfOk result (OutcomeFits editor.old.setting.prelude) }
+{
+    if transaction.len() > MOST_COMMANDS {
+        return Ok(Outcome::TooManyCommands);
+    }
+    submit(alloc, editor, history, place, transaction)
+}
+
 /// Runs the transactions of a script in order, whatever their outcomes.
 fn run_script(
     alloc: Global,
@@ -93,6 +126,7 @@ fn run_script(
     number: usize,
     script: &[Transaction],
 ) -> Result<Sequence<Outcome>, AllocError>
+    requires fit { All (All (CommandFits editor.old.setting.prelude)) script.now }
     ensures setting { editor.new.setting ≡ editor.old.setting }
     ensures outcomes { IfOk result (λ os. os ≡ script_outcomes editor.old.setting (standing editor.old history.old.items) script.now) }
     ensures after { OnOk result (standing editor.new history.new.items ≡ after_script editor.old.setting (standing editor.old history.old.items) script.now) }
@@ -115,6 +149,7 @@ fn run_all(
     editor: &mut Editor,
     scripts: &[Script],
 ) -> Result<Sequence<Sequence<Outcome>>, AllocError>
+    requires fit { All (All (All (CommandFits editor.old.setting.prelude))) scripts.now }
     ensures setting { editor.new.setting ≡ editor.old.setting }
     ensures outcomes { IfOk result (λ os. os ≡ all_outcomes editor.old.setting (standing editor.old []) scripts.now) }
     ensures after { OnOk result (editor.new.library ≡ (after_scripts editor.old.setting (standing editor.old []) scripts.now).library) }
@@ -128,13 +163,14 @@ fn run_all(
     Ok(Sequence::from_vec(rows))
 }
 
-/// Opens the editor of a database, with as many slots as it has assertions, at least one.
+/// Opens the editor of a database.
 fn open(alloc: Global, keys: RandomState, db: &Database) -> Result<Editor, AllocError>
     requires { AllCheck db.now }
     ensures { IfOk result (λ e. e ≡ record { setting = setting_of db.now; library = opening db.now }) }
 {
-    let slots = db.assertions().len().max(1);
-    match Editor::open(alloc, keys, db, slots) {
+    // A database has at most as many assertions as there are slots: its assertions say so.
+    let _assertions = db.assertions();
+    match Editor::open(alloc, keys, db, SLOTS) {
         Ok(editor) => Ok(editor),
         Err(OpenError::NoMemory) => Err(AllocError),
         Err(OpenError::TooMany) => unreachable!(),
@@ -144,14 +180,16 @@ fn open(alloc: Global, keys: RandomState, db: &Database) -> Result<Editor, Alloc
 /// Runs the transactions of all scripts, script after script, over one editor of the database, whose proofs check.
 ///
 /// An edit that is not refused is `Committed` with the next number from 1. What only reads is `Read`, and a refusal `Refused`, with the
-/// number of commits so far as its place. The library is the one after all of them. Fails only for want of memory.
+/// number of commits so far as its place; more than 16 commands are `TooManyCommands`. The library has 4,096 slots, and is the one after
+/// all transactions. Fails only for want of memory.
 pub fn edit_all(
     alloc: Global,
     keys: RandomState,
     db: &Database,
     scripts: &[Script],
 ) -> Result<(Sequence<Sequence<Outcome>>, PlainLibrary), AllocError>
-    requires { AllCheck db.now }
+    requires checks { AllCheck db.now }
+    requires fit { All (All (All (CommandFits db.now.prelude))) scripts.now }
     // The outcomes are those of the transactions' definition, in order from the opening library.
     ensures outcomes { IfOk result (λ r. r.0 ≡ all_outcomes (setting_of db.now) (at_opening db.now) scripts.now) }
     // The library is the one after them, in export order.

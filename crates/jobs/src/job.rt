@@ -1,5 +1,6 @@
 //! What the program is asked to do, what it prints, and why it prints nothing.
 
+use crate::report::text_of;
 use mmstatement::{Label, TextFault};
 use proofcheck::ProofFault;
 use std::alloc::{AllocError, AllocFailed};
@@ -35,14 +36,9 @@ pub enum Fault {
     NoMemory,
 }
 
-/// The text of a label, which has letters, digits and signs of ASCII alone.
-fn text_of(label: &Label) -> &str {
-    str::from_utf8(label.as_slice()).unwrap_or("?")
-}
-
 impl From<AllocError> for Fault {
     ghost use Rattle.std.specs.Prelude.{◌≡◌};
-    ghost use Rattle.mmrefactor.specs.declared.job.Fault.TheVariants.{NoMemory};
+    ghost use Rattle.jobs.specs.declared.job.Fault.TheVariants.{NoMemory};
 
     ghost from_gives = { λ _ f. f ≡ NoMemory };
 
@@ -53,7 +49,7 @@ impl From<AllocError> for Fault {
 
 impl<T: Drop> From<AllocFailed<T>> for Fault {
     ghost use Rattle.std.specs.Prelude.{◌≡◌};
-    ghost use Rattle.mmrefactor.specs.declared.job.Fault.TheVariants.{NoMemory};
+    ghost use Rattle.jobs.specs.declared.job.Fault.TheVariants.{NoMemory};
 
     ghost from_gives = { λ _ f. f ≡ NoMemory };
 

@@ -22,4 +22,6 @@ pub enum Outcome {
         index: usize,
         reason: Reason,
     },
+    /// It has more than 16 commands, and nothing of it was looked at.
+    TooManyCommands,
 }

@@ -1,11 +1,12 @@
 //! The report of a run: a line for each transaction, then its replies.
 
 ghost use Rattle.std.specs.Prelude.{All};
-ghost use Rattle.mmrefactor.specs.Outcomes.{ReplyFits, OutcomeFits, OutcomesFit};
+ghost use Rattle.commands.specs.Fitting.{ReplyFits};
+ghost use Rattle.jobs.specs.Outcomes.{OutcomeFits, OutcomesFit};
 
 use crate::outcome::Outcome;
-use commands::{Ranked, Reply};
-use mmstatement::{Prelude, Sequence, put_assertion};
+use commands::{Line, Ranked, Reason, Reply};
+use mmstatement::{Kind, Label, Prelude, Sequence, put_assertion};
 use std::alloc::{AllocError, Global};
 use std::io;
 use std::io::Write;
@@ -45,6 +46,38 @@ fn put_shown(
     put_indented(out, lines.as_slice())
 }
 
+/// The text of a label, which has letters, digits and signs of ASCII alone.
+pub(crate) fn text_of(label: &Label) -> &str {
+    str::from_utf8(label.as_slice()).unwrap_or("?")
+}
+
+/// `  listed N`, then a line for each assertion: its rank, its label, `a` or `p`, and the number of its citers.
+fn put_listed(out: &mut Vec<u8>, lines: &[Line]) -> Result<(), AllocError> {
+    let count = lines.len();
+    writeln!(out, "  listed {count}").map_err(out_of_memory)?;
+    for line in lines {
+        let (rank, label, citers) = (line.rank, text_of(&line.label), line.citers);
+        let kind = match line.kind {
+            Kind::Axiom => 'a',
+            Kind::Theorem => 'p',
+        };
+        writeln!(out, "    {rank} {label} {kind} {citers}").map_err(out_of_memory)?;
+    }
+    Ok(())
+}
+
+/// The number and the name of a reason, and what it says besides.
+fn put_reason(out: &mut Vec<u8>, reason: Reason) -> Result<(), AllocError> {
+    let number = reason.number();
+    let name = reason.name();
+    let written = match reason {
+        Reason::StillCited(citers) => writeln!(out, "{number} {name} {citers}"),
+        Reason::ProofFails(fault) => writeln!(out, "{number} {name} {fault}"),
+        _ => writeln!(out, "{number} {name}"),
+    };
+    written.map_err(out_of_memory)
+}
+
 fn put_reply(
     alloc: Global,
     out: &mut Vec<u8>,
@@ -56,6 +89,7 @@ fn put_reply(
     match reply {
         Reply::Done => out.extend_from_slice(b"  done\n"),
         Reply::Shown { citers, shown } => put_shown(alloc, out, prelude, *citers, shown),
+        Reply::Listed { lines } => put_listed(out, lines.as_slice()),
     }
 }
 
@@ -96,10 +130,10 @@ fn put_outcome(
             index,
             reason,
         } => {
-            let number = reason.number();
-            let name = reason.name();
-            writeln!(out, "refused {place} at {index}: {number} {name}").map_err(out_of_memory)
+            write!(out, "refused {place} at {index}: ").map_err(out_of_memory)?;
+            put_reason(out, *reason)
         }
+        Outcome::TooManyCommands => out.extend_from_slice(b"too many commands\n"),
     }
 }
 

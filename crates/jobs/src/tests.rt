@@ -1,7 +1,7 @@
 //! Jobs from bytes to bytes: the answers are from outside.
 
 use crate::job::Job;
-use crate::perform::perform;
+use crate::performing::perform;
 use std::alloc::{AllocError, Global};
 use std::hash::RandomState;
 use std::random::RandomSource;
@@ -63,12 +63,7 @@ fn tells_the_first_fault(rt: HostRuntime) -> Result<(), Fail> {
     let alloc = rt.alloc();
     let rows = [
         (MINI, "begin show commit", "text 3 Unfinished at byte 17"),
-        (MINI, "begin commit", "text 2 BadToken at byte 6"),
-        (
-            MINI,
-            "begin show we show we commit",
-            "text 2 BadToken at byte 14",
-        ),
+        (MINI, "begin lists commit", "text 2 BadToken at byte 6"),
         (
             "$c 0 0 $.",
             "begin commit",

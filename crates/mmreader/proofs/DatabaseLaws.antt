@@ -55,14 +55,20 @@ nothing_more : (t : Tables) (p : Position) (rest : List Token) → words_of rest
 nothing_more t p [] h = walk_ends (unit_language t) p
 nothing_more t p (u ∷ us) h = absurd cc
 
+-- the words of a statement lead from the start of a unit behind it
+pub unit_leads : (t : Tables) (s : Statement) (known : Known) (ts : List Token) → Declares (prelude_alone t) s known
+    → words_of ts ≡ spelling s → walk (unit_language t) (home (prelude_alone t)) ts ≡ Ok (home known)
+unit_leads t s known ts d h =
+    statement_leads (unit_language t) (unit_goes_on t) (prelude_alone t) (λ u q g. g) s known ts [] (Ok (home known)) d
+    (h ∙ sym (append-nil (spelling s))) (nothing_more t (home known))
+
 unit_token_spelled : (t : Tables) (bytes : List ℕ) (a : Assertion) → SpellsUnit t bytes a → token_reading (unit_language t) bytes ≡ Ok a
 unfolding token_reading
 unit_token_spelled t bytes a s =
     let l = unit_language t in
     let k = prelude_alone t in
     let r = runs_all l false (tokens bytes) (spelling s.statement) (statement_ordinary k s.statement s.known s.declared) s.words_are in
-    let w = statement_leads l (unit_goes_on t) k (λ u q h. h) s.statement s.known r.kept [] (Ok (home s.known)) s.declared
-    (r.words_are ∙ sym (append-nil (spelling s.statement))) (nothing_more t (home s.known)) in
+    let w = unit_leads t s.statement s.known r.kept s.declared r.words_are in
     ap (ended l (length bytes)) (r.runs (home k) (home s.known) w) ∙ ap (λ xs. finished (length bytes) (first_of xs)) s.single
 
 -- a text of at most 16,777,216 bytes is read as the assertion that it spells alone
@@ -85,7 +91,7 @@ said_ok l s a h = go s.in_comment refl h
     go false e g = (e, g)
 
 -- a reading that ends well is a run to a place where a text may end
-ended_ok : {P A : Type 0} (l : Language P A) (len : ℕ) (r : Result (State P) TextFault) (a : A) → ended l len r ≡ Ok a
+pub ended_ok : {P A : Type 0} (l : Language P A) (len : ℕ) (r : Result (State P) TextFault) (a : A) → ended l len r ≡ Ok a
     → (p : P) × (r ≡ Ok (here p false)) × (l.said p ≡ Some a)
 ended_ok l len (Err f) a h = absurd cc
 ended_ok l len (Ok s) a h =
@@ -128,7 +134,7 @@ unit_ok k (at_start outside) a h = (refl, h)
 unit_ok k (at_start (inside b)) a h = absurd cc
 unit_ok k p a h = absurd cc
 
-cond_fault : (b : Bool) (u : Token) (r : Result Position TextFault) (q : Position) → cond b (fault u BadToken) r ≡ Ok q
+pub cond_fault : (b : Bool) (u : Token) (r : Result Position TextFault) (q : Position) → cond b (fault u BadToken) r ≡ Ok q
     → (b ≡ false) × (r ≡ Ok q)
 cond_fault true u r q h = absurd cc
 cond_fault false u r q h = (refl, h)
@@ -160,39 +166,58 @@ declares_one k after (block ps c) closed none d = (
 )
 
 -- behind the unit a walk is at its end
-unit_ends : (t : Tables) (known : Known) (b : Assertion) (rest : List Token) (final : Position) → known.units.assertions ≡ b ∷ []
-    → walk (unit_language t) (home known) rest ≡ Ok final → (rest ≡ []) × (home known ≡ final)
-unit_ends t known b [] final one h = (refl, walk_none (unit_language t) (home known) final h)
-unit_ends t known b (u ∷ us) final one h =
-    let r = walk_cons (unit_language t) (home known) final u us h in
-    let none = (cond_fault (is_some (first_of known.units.assertions)) u (row (home known) u) r.0 r.1).0 in
-    absurd (let e : is_some (Some b) ≡ false = ap (λ xs. is_some (first_of xs)) (sym one) ∙ none in cc)
+pub unit_ends : (t : Tables) (q final : Position) (b : Assertion) (rest : List Token) → unit_at q.known q.place ≡ Some b
+    → walk (unit_language t) q rest ≡ Ok final → (rest ≡ []) × (q ≡ final)
+unit_ends t q final b [] some h = (refl, walk_none (unit_language t) q final h)
+unit_ends t q final b (u ∷ us) some h =
+    let r = walk_cons (unit_language t) q final u us h in
+    let none = (cond_fault (is_some (unit_at q.known q.place)) u (row q u) r.0 r.1).0 in
+    absurd (let e : is_some (Some b) ≡ false = ap is_some (sym some) ∙ none in cc)
 
-unit_walk_found : (t : Tables) (bytes : List ℕ) (a : Assertion) (kept : List Token) (final : Position) → IsClean bytes
-    → without_comments false (words_of (tokens bytes)) ≡ Some (words_of kept) → unit_at final.known final.place ≡ Some a
-    → walk (unit_language t) (home (prelude_alone t)) kept ≡ Ok final → SpellsUnit t bytes a
-unit_walk_found t bytes a [] final clean words_are said h =
+-- tokens that are the words of a statement, which declares the assertion alone
+pub record ParsedUnit (t : Tables) (ts : List Token) (a : Assertion) : Type 0 where
+  pub statement : Statement
+  pub parts : words_of ts ≡ spelling statement
+  pub known : Known
+  pub declared : Declares (prelude_alone t) statement known
+  pub single : known.units.assertions ≡ a ∷ []
+
+-- tokens that lead from the start of a unit behind it
+pub unit_parsed : (t : Tables) (a : Assertion) (ts : List Token) (final : Position) → unit_at final.known final.place ≡ Some a
+    → walk (unit_language t) (home (prelude_alone t)) ts ≡ Ok final → ParsedUnit t ts a
+unit_parsed t a [] final said h =
     absurd
     (let same = walk_none (unit_language t) (home (prelude_alone t)) final h in
     let e : None ≡ Some a = ap (λ (p : Position). unit_at p.known p.place) same ∙ said in
     cc)
-unit_walk_found t bytes a (u ∷ us) final clean words_are said h =
+unit_parsed t a (u ∷ us) final said h =
     let at_end = unit_ok final.known final.place a said in
     let r = reads_statement (unit_language t) (unit_stays t) final at_end.0 (prelude_alone t) u us h in
     let one = declares_one (prelude_alone t) r.after r.statement refl refl r.declared in
-    let ends = unit_ends t r.after one.0 r.rest final one.1 r.walks in
+    let ends = unit_ends t (home r.after) final one.0 r.rest (ap first_of one.1) r.walks in
     let last : first_of r.after.units.assertions ≡ Some a = ap (λ (p : Position). first_of p.known.units.assertions) ends.1 ∙ at_end.1 in
     let some_is : Some one.0 ≡ Some a = ap first_of (sym one.1) ∙ last in
     let same : one.0 ≡ a = cc in
     record {
-      clean = clean;
       statement = r.statement;
-      words_are =
-          words_are
-          ∙ ap (λ ws. Some ws) (r.parts ∙ ap (λ x. spelling r.statement ++ words_of x) ends.0 ∙ append-nil (spelling r.statement));
+      parts = r.parts ∙ ap (λ x. spelling r.statement ++ words_of x) ends.0 ∙ append-nil (spelling r.statement);
       known = r.after;
       declared = r.declared;
       single = one.1 ∙ ap (λ x. x ∷ []) same;
+    }
+
+unit_walk_found : (t : Tables) (bytes : List ℕ) (a : Assertion) (kept : List Token) (final : Position) → IsClean bytes
+    → without_comments false (words_of (tokens bytes)) ≡ Some (words_of kept) → unit_at final.known final.place ≡ Some a
+    → walk (unit_language t) (home (prelude_alone t)) kept ≡ Ok final → SpellsUnit t bytes a
+unit_walk_found t bytes a kept final clean words_are said h =
+    let u = unit_parsed t a kept final said h in
+    record {
+      clean = clean;
+      statement = u.statement;
+      words_are = words_are ∙ ap (λ ws. Some ws) u.parts;
+      known = u.known;
+      declared = u.declared;
+      single = u.single;
     }
 
 unit_token_found : (t : Tables) (bytes : List ℕ) (a : Assertion) → IsClean bytes → token_reading (unit_language t) bytes ≡ Ok a

@@ -109,7 +109,7 @@ label_row_is k s t w h e =
     row_at k (at_start s) t mark.Plain _ (mark_plain t.text (label_plain t.text is_l))
     (start_at k s t ∙ cond-true (is_label t.text) (at k (after_label s t)) (fault t BadToken) is_l)
 
-some_more : {A : Type 0} (xs : List A) (x : A) → (xs ++ x ∷ []) ≢ []
+pub some_more : {A : Type 0} (xs : List A) (x : A) → (xs ++ x ∷ []) ≢ []
 some_more [] x h = absurd cc
 some_more (y ∷ xs) x h = absurd cc
 

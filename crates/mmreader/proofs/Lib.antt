@@ -10,3 +10,4 @@ pub mod ParsedStatements
 pub mod DatabaseLaws
 pub mod DatabaseAnswers
 pub mod Runs
+pub mod UnitRows

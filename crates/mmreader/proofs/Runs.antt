@@ -104,7 +104,7 @@ type_here t w i h = (if_ok (has_dollar w) UnknownSymbol _ i h).0
 abbrev pub StandsAt : Position → Type 0
 StandsAt p = Stands p.known p.place
 
-abbrev OkStands : Result Position TextFault → Type 0
+abbrev pub OkStands : Result Position TextFault → Type 0
 OkStands r = OnPlace StandsAt r
 
 pub outside_roomy : IsRoomy outside
@@ -216,7 +216,7 @@ place_stands k (in_axiom s label e) t m h = axiom_stands k s label e t m h
 place_stands k (in_theorem s label e) t m h = theorem_stands k s label e t m h
 place_stands k (in_proof s label e steps) t m h = proof_stands k s label e steps t m h
 
-row_stands : (p : Position) (t : Token) → StandsAt p → OkStands (row p t)
+pub row_stands : (p : Position) (t : Token) → StandsAt p → OkStands (row p t)
 unfolding row
 row_stands p t h = place_stands p.known p.place t (mark_of t.text) h
 
@@ -232,7 +232,7 @@ row_at p t m is = ap (in_place p.known p.place t) (sym is)
 -- ---- single units
 
 -- outside of $c, $v and $f
-abbrev InUnit : Place → Type 0
+abbrev pub InUnit : Place → Type 0
 InUnit (in_constants b) = ⊥
 InUnit (in_variables b) = ⊥
 InUnit (float_type label) = ⊥
@@ -334,7 +334,7 @@ place_unit k (in_axiom s label e) t m c h = axiom_unit k s label e t m c
 place_unit k (in_theorem s label e) t m c h = theorem_unit k s label e t m c
 place_unit k (in_proof s label e steps) t m c h = proof_unit k s label e steps t m c
 
-row_unit : (p : Position) (t : Token) → UnitAt p → OnPlace UnitAt (row p t)
+pub row_unit : (p : Position) (t : Token) → UnitAt p → OnPlace UnitAt (row p t)
 unfolding row
 row_unit p t h = place_unit p.known p.place t (mark_of t.text) h.0 h.1
 

@@ -1,3 +1,5 @@
 pub mod Labels
 pub mod HypothesisPlaces
 pub mod Views
+pub mod UnitReadings
+pub mod UnitViews

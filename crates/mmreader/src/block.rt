@@ -27,13 +27,13 @@ impl<'a> Model for Hypothesis<'a> {
 
 /// The restricted pairs and the hypotheses. The map has the place of each hypothesis, for look-ups alone.
 #[derive(Drop)]
-pub(crate) struct Block<'a> {
+struct Content<'a> {
     pairs: BTreeSet<(u32, u32)>,
     hyps: Vec<Hypothesis<'a>>,
     places: HashMap<Vec<u8>, u32, RandomState>,
 }
 
-impl<'a> Model for Block<'a> {
+impl<'a> Model for Content<'a> {
     ghost use Rattle.mmsyntax.specs.Blocks.{Block as Seen};
     ghost use Rattle.mmreader.specs.HypothesisPlaces.{FindsHypotheses};
 
@@ -44,47 +44,42 @@ impl<'a> Model for Block<'a> {
     ghost invariant = { λ b. FindsHypotheses b.places b.hyps.items };
 }
 
-impl<'a> Block<'a> {
-    pub fn new(alloc: Global, keys: RandomState) -> Self
+impl<'a> Content<'a> {
+    fn new(alloc: Global, keys: RandomState) -> Self
         ensures { result ≡ no_block }
     {
-        Block {
+        Content {
             pairs: BTreeSet::new(alloc),
             hyps: Vec::new(alloc),
             places: HashMap::with_hasher(alloc, keys),
         }
     }
 
-    /// How many pairs are restricted.
-    pub fn pairs(&self) -> usize
+    fn pairs(&self) -> usize
         ensures { result ≡ length self.now.pairs }
     {
         self.pairs.len()
     }
 
-    /// How many hypotheses stand.
-    pub fn hypotheses(&self) -> usize
+    fn hypotheses(&self) -> usize
         ensures { result ≡ length self.now.hyps }
     {
         self.hyps.len()
     }
 
-    /// The place of the hypothesis with a label: one look-up in a map.
-    pub fn hypothesis_place(&self, word: &[u8]) -> Option<u32>
+    fn hypothesis_place(&self, word: &[u8]) -> Option<u32>
         ensures { result ≡ hypothesis_named self.now.hyps word.now }
     {
         self.places.get(word).copied()
     }
 
-    /// Restricts the pairs of a variable and each earlier one.
-    pub fn add_pairs(&mut self, variable: u32, earlier: &[u32]) -> Result<(), AllocError>
+    fn add_pairs(&mut self, variable: u32, earlier: &[u32]) -> Result<(), AllocError>
         ensures { OnOk result (self.new ≡ record self.old { pairs = with_pairs variable earlier.now self.old.pairs }) }
     {
         put_pairs(&mut self.pairs, variable, earlier)
     }
 
-    /// One more hypothesis.
-    pub fn add_hypothesis(
+    fn add_hypothesis(
         &mut self,
         alloc: Global,
         label: &'a [u8],
@@ -109,13 +104,83 @@ impl<'a> Block<'a> {
         }
     }
 
-    /// The pairs, ascending, and the hypotheses without their labels.
-    pub fn into_parts(self, alloc: Global) -> Result<(Vec<(u32, u32)>, Vec<Expr>), AllocError>
+    fn into_parts(self, alloc: Global) -> Result<(Vec<(u32, u32)>, Vec<Expr>), AllocError>
         ensures { IfOk result (λ r. (r.0.items ≡ self.entry.pairs) × (r.1.items ≡ map (λ h. h.expression) self.entry.hyps)) }
     {
         let pairs = listed_pairs(alloc, self.pairs)?;
         let hyps = expressions(alloc, self.hyps)?;
         Ok((pairs, hyps))
+    }
+}
+
+/// The restricted pairs and the hypotheses, on the heap: a place in the grammar holds a block, and moves with each token.
+#[derive(Drop)]
+pub(crate) struct Block<'a> {
+    content: Box<Content<'a>, Global>,
+}
+
+impl<'a> Model for Block<'a> {
+    ghost use Rattle.mmsyntax.specs.Blocks.{Block as Seen};
+
+    ghost Value = { Seen };
+
+    ghost view = { λ b. b.content.value };
+}
+
+impl<'a> Block<'a> {
+    pub fn new(alloc: Global, keys: RandomState) -> Result<Self, AllocError>
+        ensures { IfOk result (λ b. b ≡ no_block) }
+    {
+        let content = Box::new(alloc, Content::new(alloc, keys))?;
+        Ok(Block { content })
+    }
+
+    /// How many pairs are restricted.
+    pub fn pairs(&self) -> usize
+        ensures { result ≡ length self.now.pairs }
+    {
+        self.content.pairs()
+    }
+
+    /// How many hypotheses stand.
+    pub fn hypotheses(&self) -> usize
+        ensures { result ≡ length self.now.hyps }
+    {
+        self.content.hypotheses()
+    }
+
+    /// The place of the hypothesis with a label: one look-up in a map.
+    pub fn hypothesis_place(&self, word: &[u8]) -> Option<u32>
+        ensures { result ≡ hypothesis_named self.now.hyps word.now }
+    {
+        self.content.hypothesis_place(word)
+    }
+
+    /// Restricts the pairs of a variable and each earlier one.
+    pub fn add_pairs(&mut self, variable: u32, earlier: &[u32]) -> Result<(), AllocError>
+        ensures { OnOk result (self.new ≡ record self.old { pairs = with_pairs variable earlier.now self.old.pairs }) }
+    {
+        self.content.add_pairs(variable, earlier)
+    }
+
+    /// One more hypothesis.
+    pub fn add_hypothesis(
+        &mut self,
+        alloc: Global,
+        label: &'a [u8],
+        expression: Expr,
+    ) -> Result<(), AllocError>
+        requires { length self.old.hyps < 1000 }
+        ensures { OnOk result (self.new ≡ with_hypothesis self.old label.now expression) }
+    {
+        self.content.add_hypothesis(alloc, label, expression)
+    }
+
+    /// The pairs, ascending, and the hypotheses without their labels.
+    pub fn into_parts(self, alloc: Global) -> Result<(Vec<(u32, u32)>, Vec<Expr>), AllocError>
+        ensures { IfOk result (λ r. (r.0.items ≡ self.entry.pairs) × (r.1.items ≡ map (λ h. h.expression) self.entry.hyps)) }
+    {
+        Box::into_inner(self.content).into_parts(alloc)
     }
 }
 

@@ -6,4 +6,4 @@ mod known;
 mod place;
 mod reading;
 
-pub use reading::{read_assertion, read_database};
+pub use reading::{UnitProgress, UnitReader, named_step, read_assertion, read_database};

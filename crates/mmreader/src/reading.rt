@@ -14,6 +14,7 @@ ghost use Rattle.mmreader.specs.Views.{seen_place, seen_state, known_of, content
 mod labels;
 mod prelude_rows;
 mod steps;
+mod unit_reader;
 mod unit_rows;
 mod units;
 
@@ -28,6 +29,8 @@ use prelude_rows::next_prelude_place;
 use std::alloc::Global;
 use std::hash::RandomState;
 use unit_rows::next_unit_place;
+pub use steps::named_step;
+pub use unit_reader::{UnitProgress, UnitReader};
 pub use units::read_assertion;
 
 /// Where a token leads that stands outside of comments.

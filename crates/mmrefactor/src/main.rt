@@ -2,17 +2,9 @@
 #![tactic(auto)]
 
 mod arguments;
-mod edits;
-mod job;
-mod outcome;
-mod perform;
-mod report;
-#[cfg(test)]
-mod tests;
 
 use crate::arguments::{Task, command_line, task_of};
-use crate::job::{Fault, Job};
-use crate::perform::perform;
+use jobs::{Fault, Job, perform};
 use std::alloc::{AllocError, Global};
 use std::fmt::Display;
 use std::hash::RandomState;

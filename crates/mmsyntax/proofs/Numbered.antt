@@ -33,7 +33,7 @@ differ P a b h g = elim (cases_Bool (bytes_eq a b)) [
 pub both_true : (a b : Bool) → a ≡ true → b ≡ true → (a && b) ≡ true
 both_true a b h g = ap (λ x. x && b) h ∙ g
 
-first_or : (a b : Bool) → a ≡ true → (a || b) ≡ true
+pub first_or : (a b : Bool) → a ≡ true → (a || b) ≡ true
 first_or a b h = ap (λ x. x || b) h
 
 pub second_or : (a b : Bool) → b ≡ true → (a || b) ≡ true
@@ -66,7 +66,7 @@ count_push (x ∷ ds) d h g = last_of_three (leb 49 x) (leb x 57) (all_digits ds
 one_digit : (n : ℕ) → 0 < n → n < 10 → is_count ((48 + n) ∷ []) ≡ true
 one_digit n some h = grind (arith, nat_tests)
 
-decimal_count : (n : ℕ) → n < 2 ^ 64 → 0 < n → is_count (decimal n) ≡ true
+pub decimal_count : (n : ℕ) → n < 2 ^ 64 → 0 < n → is_count (decimal n) ≡ true
 decimal_count n small some = decimal_by_steps (λ m ds. 0 < m → is_count ds ≡ true) (λ m l a. one_digit m a l) (λ m ds l h a. count_push ds (48 + m % 10) (h (omega arith)) (digit (m % 10) (omega arith))) n small some
 
 -- ---- the form of the labels

@@ -12,8 +12,8 @@ mod token;
 pub use comments::{Turn, comment_turn};
 pub use fault::{FaultKind, Stop, TextFault, fault_at};
 pub use mark::{
-    Mark, contains_comment_mark, contains_dollar, contains_dot, is_label_token, mark_word,
-    names_hypothesis,
+    Mark, contains_comment_mark, contains_dollar, contains_dot, is_label_token, is_number_from_one,
+    mark_word, names_hypothesis,
 };
 pub use texts::{no_memory, text_fault, unfinished_at};
 pub use token::{Token, first_bad_byte, next_token};

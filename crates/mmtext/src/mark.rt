@@ -88,7 +88,7 @@ fn are_digits(word: &[u8]) -> bool
 }
 
 /// Whether the bytes are a decimal number from 1 without leading zero.
-fn is_number_from_one(word: &[u8]) -> bool
+pub fn is_number_from_one(word: &[u8]) -> bool
     ensures { result ≡ is_count word.now }
 {
     match word {

@@ -1,5 +1,5 @@
 -- What may be answered of a text: what it declares, or its fault, want of memory aside.
-use Rattle.std.specs.Prelude.{◌≡◌, ◌≢◌, ◌+◌, ℕ, List, Option, Some, None, length, slice_get}
+use Rattle.std.specs.Prelude.{◌≡◌, ◌≢◌, ◌+◌, ℕ, List, [], Option, Some, None, length, map, slice_get}
 use Rattle.mmtext.specs.declared.fault.FaultKind.TheVariants.{NoMemory as OutOfMemory}
 use Rattle.mmsyntax.specs.declared.statement.Assertion.{Assertion}
 use Rattle.mmsyntax.specs.Tables.{Tables, Contents}
@@ -9,8 +9,11 @@ use Rattle.mmsyntax.specs.Layout.{text_of, assertion_text}
 use Rattle.mmsyntax.specs.Assertions.{Fits}
 use Rattle.proofcheck.specs.declared.fault.ProofFaultKind.TheVariants.{NoMemory as NoMemoryOfProof}
 use Rattle.proofcheck.specs.Databases.{AllCheck, IsFirstFault}
+use Rattle.jobs.specs.declared.job.Fault.TheVariants.{NoMemory as NoMemoryOfJob}
+use Rattle.jobs.specs.Jobs.{IsRun, IsRunFault}
 use Rattle.rows.specs.declared.answer.Answer.{Answer}
-use Rattle.rows.specs.declared.answer.Answer.TheVariants.{Kept, Read, Faulty, Text, Unfit, Checked, Unread, FaultyProof}
+use Rattle.rows.specs.declared.answer.Answer.TheVariants.{Kept, Read, Faulty, Text, Unfit, Checked, Unread, FaultyProof, Failed}
+use Rattle.rows.specs.declared.runs.Runs.{Runs}
 
 -- a database is read, or has the fault
 abbrev pub IsReading : List ℕ → Answer → Type 0
@@ -49,3 +52,14 @@ abbrev pub Keeps : List ℕ → Option Contents → Answer → Type 0
 Keeps text (Some db) Kept = Spells text db
 Keeps text None (Faulty f) = f.kind ≢ OutOfMemory → FaultyDatabase text f
 Keeps text _ _ = ⊥
+
+-- what the run of scripts over a database prints, or its fault
+abbrev pub IsRunOf : List ℕ → List (List ℕ) → Answer → Type 0
+IsRunOf db scripts (Text out) = IsRun db scripts out.items
+IsRunOf db scripts (Failed fault) = fault ≢ NoMemoryOfJob → IsRunFault db scripts fault
+IsRunOf db scripts _ = ⊥
+
+-- the run of the scripts that were kept, none of which is kept any more
+abbrev pub AnswersRun : Runs → Runs → Answer → Type 0
+AnswersRun old new answer =
+    IsRunOf old.library.items (map (λ s. s.items) old.scripts.items) answer × (new.library ≡ old.library) × (new.scripts.items ≡ [])

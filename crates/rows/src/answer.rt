@@ -4,6 +4,8 @@ ghost use Rattle.std.specs.Prelude.{◌≡◌, IfOk};
 ghost use Rattle.rows.specs.Answers.{IsReading, IsRewriting, IsUnitRewriting, IsVerdict, IsCheck, Keeps};
 
 use crate::row::{Command, Row, command_of, text_of};
+use crate::runs::Runs;
+use jobs::Fault;
 use mmstatement::{
     Database, Label, TextFault, fits, read_assertion, read_database, write_assertion,
     write_database,
@@ -32,6 +34,8 @@ pub enum Answer {
     Unread(TextFault),
     /// The first proof that has a fault, by its label.
     FaultyProof { label: Label, fault: ProofFault },
+    /// The fault of a run.
+    Failed(Fault),
     /// An assertion without a prelude before it.
     NoPrelude,
     /// The header has no command.
@@ -138,7 +142,7 @@ fn keep_prelude(
     }
 }
 
-/// What is said of a row. Only a row of a prelude changes `prelude`.
+/// What is said of a row. Only a row of a prelude changes `prelude`, and one of a library, of a script or of a run `runs`.
 ///
 /// # Errors
 ///
@@ -148,6 +152,7 @@ pub fn answer_row(
     alloc: Global,
     keys: RandomState,
     prelude: &mut Option<Database>,
+    runs: &mut Runs,
     row: &Row<'_>,
 ) -> Result<Answer, AllocError> {
     let Some(command) = command_of(row.header) else {
@@ -163,5 +168,8 @@ pub fn answer_row(
             None => Ok(Answer::NoPrelude),
         },
         Command::Check => check(rt, alloc, keys, text.as_slice()),
+        Command::Library => Ok(runs.keep_library(text)),
+        Command::Script => runs.keep_script(text),
+        Command::Run => runs.run(rt, alloc, keys),
     }
 }

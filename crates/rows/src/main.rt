@@ -8,10 +8,12 @@
 mod answer;
 mod print;
 mod row;
+mod runs;
 
 use crate::answer::{Answer, answer_row};
 use crate::print::put_answer;
 use crate::row::next_row;
+use crate::runs::Runs;
 use mmstatement::Database;
 use std::alloc::{AllocError, Global};
 use std::hash::RandomState;
@@ -37,13 +39,14 @@ fn answer_table(
 ) -> Result<Vec<u8>, AllocError> {
     let mut out = Vec::new(alloc);
     let mut prelude: Option<Database> = None;
+    let mut runs = Runs::new(alloc);
     let mut rest = lines;
     // Each row has a line at least.
     for before in 0..lines.len() {
         let Some((row, behind)) = next_row(rest) else {
             break;
         };
-        let answer = answer_row(rt, alloc, keys, &mut prelude, &row)?;
+        let answer = answer_row(rt, alloc, keys, &mut prelude, &mut runs, &row)?;
         put_answer(&mut out, before + 1, &answer)?;
         rest = behind;
     }

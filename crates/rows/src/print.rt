@@ -44,6 +44,7 @@ pub fn put_answer(out: &mut Vec<u8>, number: usize, answer: &Answer) -> Result<(
             let label = text_of(label);
             writeln!(out, "{number} proof of {label}: {fault}")
         }
+        Answer::Failed(fault) => writeln!(out, "{number} fault {fault}"),
         Answer::NoPrelude => writeln!(out, "{number} no prelude"),
         Answer::NoCommand => writeln!(out, "{number} no command"),
     };

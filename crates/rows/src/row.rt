@@ -19,6 +19,12 @@ pub enum Command {
     Assertion,
     /// Whether the proofs of a database check.
     Check,
+    /// The text is the database that later runs begin with.
+    Library,
+    /// The text is a script of the next run, behind those that stand before it.
+    Script,
+    /// What the scripts since the last run print over the last library.
+    Run,
 }
 
 /// A row of a table.
@@ -87,6 +93,15 @@ pub fn command_of(header: &[u8]) -> Option<Command>
     }
     if header == b"== check".as_slice() {
         return Some(Command::Check);
+    }
+    if header == b"== library".as_slice() {
+        return Some(Command::Library);
+    }
+    if header == b"== script".as_slice() {
+        return Some(Command::Script);
+    }
+    if header == b"== run".as_slice() {
+        return Some(Command::Run);
     }
     None
 }

@@ -5,7 +5,7 @@ ghost use Rattle.std.specs.List.{list_any};
 ghost use Rattle.mmsyntax.specs.Tables.{meaning};
 ghost use Rattle.mmsyntax.specs.Rows.{first_fault};
 ghost use Rattle.mmsyntax.specs.Blocks.{typed_named, distinct_of, with_distinct};
-ghost use Rattle.mmsyntax.specs.Steps.{step_tests, float_named, hypothesis_named, step_of};
+ghost use Rattle.mmsyntax.specs.Steps.{step_tests, float_named, hypothesis_named, step_named, unless_faulty, step_of};
 ghost use Rattle.mmsyntax.specs.Faults.{block_of};
 ghost use Rattle.mmreader.specs.Views.{seen_scope};
 
@@ -104,7 +104,35 @@ fn float_labelled(symbols: &SymbolTable, word: &[u8]) -> Option<u32>
     }
 }
 
-/// The step that a word is behind `count` steps of a proof, or why it is none. No assertion is looked up.
+/// The step that a word is behind `count` steps of a proof where it names, if any, the hypothesis at a place; or why it is none. No
+/// assertion is looked up.
+pub fn named_step(
+    alloc: Global,
+    symbols: &SymbolTable,
+    hypothesis: Option<u32>,
+    count: usize,
+    word: &[u8],
+) -> Result<Result<Step, FaultKind>, AllocError>
+    ensures { IfOk result (λ r. r ≡ unless_faulty (first_fault (step_tests count word.now))
+        (step_named word.now (float_named (meaning symbols.now word.now)) hypothesis)) }
+{
+    if let Some(kind) = step_fault(count, word) {
+        return Ok(Err(kind));
+    }
+    if let Some(j) = float_labelled(symbols, word) {
+        return Ok(Ok(Step::Float(j)));
+    }
+    if let Some(n) = hypothesis {
+        return Ok(Ok(Step::Hyp(n)));
+    }
+    if contains_dot(word) || word.len() > MOST_LABEL_BYTES {
+        return Ok(Err(FaultKind::BadLabel));
+    }
+    let label = Vec::from_slice(alloc, word)?;
+    Ok(Ok(Step::Cite(Sequence::from_vec(label))))
+}
+
+/// The step that a word is behind `count` steps of a proof, or why it is none.
 #[tactic(auto, unfolding(mmsyntax::specs::Steps::step_of))]
 pub(crate) fn step_at(
     alloc: Global,
@@ -115,18 +143,5 @@ pub(crate) fn step_at(
 ) -> Result<Result<Step, FaultKind>, AllocError>
     ensures { IfOk result (λ r. r ≡ step_of symbols.now (block_of (seen_scope scope.now)).hyps count word.now) }
 {
-    if let Some(kind) = step_fault(count, word) {
-        return Ok(Err(kind));
-    }
-    if let Some(j) = float_labelled(symbols, word) {
-        return Ok(Ok(Step::Float(j)));
-    }
-    if let Some(n) = hypothesis_in(scope, word) {
-        return Ok(Ok(Step::Hyp(n)));
-    }
-    if contains_dot(word) || word.len() > MOST_LABEL_BYTES {
-        return Ok(Err(FaultKind::BadLabel));
-    }
-    let label = Vec::from_slice(alloc, word)?;
-    Ok(Ok(Step::Cite(Sequence::from_vec(label))))
+    named_step(alloc, symbols, hypothesis_in(scope, word), count, word)
 }

@@ -38,7 +38,7 @@ fn outermost<'a>(
             Ok(Place::Prelude(PreludePlace::InVariables(false)))
         }
         Mark::Opening => {
-            let block = Block::new(alloc, units.keys());
+            let block = Block::new(alloc, units.keys())?;
             Ok(Place::Unit(UnitPlace::AtStart(Scope::Inside(block))))
         }
         Mark::Constants | Mark::Variables | Mark::Disjoint => {

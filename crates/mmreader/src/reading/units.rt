@@ -24,7 +24,7 @@ use std::alloc::Global;
 use std::hash::RandomState;
 
 /// Whether a place is behind the unit.
-fn is_behind_unit(units: &Units, place: &Place<'_>) -> bool
+pub(super) fn is_behind_unit(units: &Units, place: &Place<'_>) -> bool
     ensures { (t : Tables) → result ≡ is_some (unit_at (known_of t units.now) (seen_place place.now)) }
 {
     is_outermost(place) && units.count() > 0

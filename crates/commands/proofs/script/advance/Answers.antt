@@ -8,26 +8,34 @@ use Rattle.commands.proofs.script.advance.Goals as goal
 
 pub returns-in-Skipped : goal.returns-in-Skipped
 returns-in-Skipped c =
-    skipped script_language (seen_state c.args.state) (seen c.args.token) _ _ _ c.mark_word-mark.ensures c.in_ok-in_comment.ensures
+    let t = c.args.prelude.now in
+    let l = script_language t in
+    skipped l (seen_state t c.args.state) (seen c.args.token) _ _ _ c.mark_word-mark.ensures c.in_ok-in_comment.ensures
     c.in-Skipped.is
 
 pub returns-in_ok-next_progress-in-Read : goal.returns-in_ok-next_progress-in-Read
 returns-in_ok-next_progress-in-Read c =
-    read_on script_language (seen_state c.args.state) (seen c.args.token) _ _ _ c.mark_word-mark.ensures c.in_ok-in_comment.ensures
+    let t = c.args.prelude.now in
+    let l = script_language t in
+    read_on l (seen_state t c.args.state) (seen c.args.token) _ _ _ c.mark_word-mark.ensures c.in_ok-in_comment.ensures
     c.in-Read.is c.in_ok-next_progress-in-Read.ensures
 
 pub returns-in_err-in_comment : goal.returns-in_err-in_comment
 returns-in_err-in_comment c =
+    let t = c.args.prelude.now in
+    let l = script_language t in
     let p = err_from_is_err_and c.from_residual.result c.from_residual.ensures.1 in
     rw (p.1, p.2) (
-    turn_stops script_language (seen_state c.args.state) (seen c.args.token) _ c.in_err-in_comment.field-0.0 c.mark_word-mark.ensures
+    turn_stops l (seen_state t c.args.state) (seen c.args.token) _ c.in_err-in_comment.field-0.0 c.mark_word-mark.ensures
     c.in_err-in_comment.ensures)
 
 pub returns-in_err-next_progress-in-Read : goal.returns-in_err-next_progress-in-Read
 returns-in_err-next_progress-in-Read c =
+    let t = c.args.prelude.now in
+    let l = script_language t in
     let r = c.from_residual-in_err-next_progress-in-Read in
     let p = err_from_is_err_and r.result r.ensures.1 in
     let why = c.in_err-next_progress-in-Read.field-0.0 in
     rw (p.1, p.2) (
-    row_stops script_language (seen_state c.args.state) (seen c.args.token) _ _ why c.mark_word-mark.ensures c.in_ok-in_comment.ensures
+    row_stops l (seen_state t c.args.state) (seen c.args.token) _ _ why c.mark_word-mark.ensures c.in_ok-in_comment.ensures
     c.in-Read.is c.in_err-next_progress-in-Read.ensures)

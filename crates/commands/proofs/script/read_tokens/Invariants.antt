@@ -1,3 +1,4 @@
+-- What the loop of `read_tokens` keeps.
 use Rattle.std.proofs.Common.{◌≡◌, length, ◌-◌, ◌≤◌, drop}
 use Rattle.mmtext.specs.Text.{tokens, tokens_from}
 use Rattle.mmtext.specs.Languages.{run, start_of}
@@ -9,8 +10,8 @@ use Rattle.commands.proofs.script.read_tokens.Given as goal
 abbrev pub invariant-loop-token : goal.invariant-loop-token
 invariant-loop-token l = record {
   within : l.at ≤ length l.text;
-  same : run script_language (seen_state l.state) (tokens_from l.at (drop l.at l.text)) ≡ run script_language (start_of script_language)
-      (tokens l.text);
+  same : run (script_language l.prelude) (seen_state l.prelude l.state) (tokens_from l.at (drop l.at l.text))
+      ≡ run (script_language l.prelude) (start_of (script_language l.prelude)) (tokens l.text);
 }
 
 abbrev pub decreases-loop-token : goal.decreases-loop-token

@@ -6,7 +6,7 @@ use Rattle.mmsyntax.specs.Layout.{HasSpelling}
 use Rattle.proofcheck.specs.Databases.{AllCheck}
 use Rattle.commands.specs.declared.library.Ranked.{Ranked}
 use Rattle.commands.specs.Library.{Verifies, opening}
-use Rattle.commands.proofs.Opening.{opening_verifies_in}
+use Rattle.commands.proofs.Opening.{opening_verifies}
 use Rattle.commands.proofs.Showing.{verifies_permutation}
 use Rattle.commands.proofs.tests.pair.Goals as goal
 
@@ -27,7 +27,7 @@ turned_verifies db a b spelled checks is =
     (opening (record { prelude = db.prelude; assertions = xs })) in
     let two = ap length is in
     let there : Opened (a ∷ b ∷ []) =
-    subst Opened is (opening_verifies_in db 2 spelled checks (omega arith) (omega arith) (omega arith)) in
+    subst Opened is (opening_verifies db 2 spelled checks (omega arith) (omega arith) (omega arith)) in
     let before = opening (record { prelude = db.prelude; assertions = a ∷ b ∷ [] }) in
     verifies_permutation (record { prelude = db.prelude; slots = 2 }) before (turned a b) there
     (IsPermutation-swap before (turned a b) 0 1 (omega arith) (omega arith) refl)

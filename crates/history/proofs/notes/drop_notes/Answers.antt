@@ -1,18 +1,17 @@
-use Rattle.std.proofs.Common.{◌++◌, List, subst}
+use Rattle.std.proofs.Common.{List, subst}
 use Rattle.history.specs.declared.notes.Note.{Note}
 use Rattle.history.specs.Places.{HasOnly}
-use Rattle.history.specs.Drafts.{former_labels}
-use Rattle.history.proofs.Keys.{labels, only-forgot}
+use Rattle.history.specs.Drafts.{formers}
+use Rattle.history.proofs.Undoing.{only-forgot}
 use Rattle.history.proofs.notes.drop_notes.Goals as goal
 
 pub loop-note-preserved : goal.loop-note-preserved
 loop-note-preserved c =
     let m = c.loop-note.places in
     let n = c.forget_note.new.places in
-    let lib = c.args.entries.now in
-    let was =
-    subst (λ (ns : List Note). HasOnly m (labels lib ++ former_labels ns)) c.in-Some.ensures.items c.loop-note.invariant.only in
+    let es = c.args.entries.now in
+    let was = subst (λ (ns : List Note). HasOnly m es (formers ns)) c.in-Some.ensures.items c.loop-note.invariant.only in
     record {
       indexed = c.forget_note.ensures.indexed;
-      only = only-forgot m n lib c.pop.new.self.items c.in-Some.note c.forget_note.ensures.fewer c.forget_note.ensures.gone was;
+      only = only-forgot m n es c.pop.new.self.items c.in-Some.note c.forget_note.ensures.fewer c.forget_note.ensures.gone was;
     }

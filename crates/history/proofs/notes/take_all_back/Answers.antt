@@ -1,9 +1,12 @@
-use Rattle.std.proofs.Common.{◌≡◌, ℕ, ◌+◌, ◌-◌, ◌≤◌, ◌<◌, List, ◌∷◌, ◌++◌, [], length, take, get_or, sym, ap, subst, ◌∙◌, arith}
-use Rattle.std.proofs.lemmas.List.{take_more, take-set, length-set}
+use Rattle.std.proofs.Common.{◌≡◌, ℕ, ◌+◌, ◌-◌, ◌≤◌, ◌<◌, List, ◌∷◌, ◌++◌, [], Some, length, take, get_or, sym, ap, subst, ◌∙◌, arith}
+use Rattle.std.specs.List.{slice_get}
+use Rattle.std.specs.Option.{option_map}
+use Rattle.std.proofs.lemmas.List.{take_more, take-set, length-set, map-set}
+use Rattle.std.proofs.lemmas.Option.{slice_get-get_or, slice_get-map}
 use Rattle.history.specs.declared.notes.Note.{Note}
-use Rattle.history.specs.Drafts.{CanUndo, undone, taken_back}
-use Rattle.history.proofs.Keys.{has-item, only-fewer, only-taken_back}
-use Rattle.history.proofs.Undoing.{can_undo-split, can_undo-kept, undone-push}
+use Rattle.history.specs.Places.{HasOnly}
+use Rattle.history.specs.Drafts.{CanUndo, undone, formers, taken_back}
+use Rattle.history.proofs.Undoing.{can_undo-split, can_undo-kept, undone-push, only-fewer, only-exchanged}
 use Rattle.history.proofs.notes.take_all_back.Goals as goal
 
 take_last : (ns : List Note) (left : ℕ) (d : Note) → 0 < left → left ≤ length ns
@@ -26,18 +29,24 @@ loop-left-preserved c =
     let k = x.left - 1 in
     let d = c.index-notes-left.result in
     let n = get_or x.notes k d in
+    let m = c.take_back.new.places in
+    let new = c.take_back.new.note in
     let last = take_last x.notes x.left d c.loop-left-test.true x.invariant.within in
     let split = can_undo-split x.places (take k x.notes) n x.entries (subst (λ ns. CanUndo x.places ns x.entries) last x.invariant.can) in
-    let can = can_undo-kept x.places c.take_back.new.places (take k x.notes) (taken_back n x.entries) c.take_back.ensures.labels split.0 in
+    let can = can_undo-kept x.places m (take k x.notes) (taken_back n x.entries) c.take_back.ensures.labels split.0 in
     let same = sym (undone-push (take k x.notes) n x.entries) ∙ ap (λ ns. undone ns x.entries) (sym last) ∙ x.invariant.same in
     let within = x.invariant.within in
+    let inside : k < length x.notes = (let some = c.loop-left-test.true in omega arith) in
+    let at : slice_get (formers x.notes) k ≡ Some n.former =
+    slice_get-map (λ (y : Note). y.former) x.notes k ∙ ap (option_map (λ (y : Note). y.former)) (slice_get-get_or x.notes k d inside) in
+    let only =
+    only-exchanged m x.entries (formers x.notes) n.place k new.former n.former c.take_back.ensures.noted at (only-fewer x.places m x.entries
+    (formers x.notes) c.take_back.ensures.fewer x.invariant.only) in
     record {
-      within = omega (arith, length-set x.notes k c.take_back.new.note);
+      within = omega (arith, length-set x.notes k new);
       indexed = c.take_back.ensures.indexed;
       only = rw c.take_back.ensures.entries
-          (only-taken_back c.take_back.new.places x.entries x.notes k n c.take_back.new.note (has-item x.notes k d
-          (omega arith)) c.take_back.ensures.noted
-          (only-fewer x.places c.take_back.new.places _ c.take_back.ensures.fewer x.invariant.only));
-      can = rw (take-set x.notes k c.take_back.new.note, c.take_back.ensures.entries) can;
-      same = rw (take-set x.notes k c.take_back.new.note, c.take_back.ensures.entries) same;
+          (subst (HasOnly m (taken_back n x.entries)) (sym (map-set (λ (y : Note). y.former) x.notes k new)) only);
+      can = rw (take-set x.notes k new, c.take_back.ensures.entries) can;
+      same = rw (take-set x.notes k new, c.take_back.ensures.entries) same;
     }

@@ -1,7 +1,6 @@
-use Rattle.std.proofs.Common.{◌≡◌, ◌≤◌, ◌++◌, length, map, take}
-use Rattle.commands.specs.Library.{label_of}
+use Rattle.std.proofs.Common.{◌≡◌, ◌≤◌, length, take}
 use Rattle.history.specs.Places.{IsIndex, HasOnly}
-use Rattle.history.specs.Drafts.{undone, former_labels, CanUndo}
+use Rattle.history.specs.Drafts.{undone, formers, CanUndo}
 use Rattle.history.proofs.notes.take_all_back.Given as goal
 
 -- what is left to take back leads to the same start
@@ -10,7 +9,7 @@ invariant-loop-left l =
     record {
       within : l.left ≤ length l.notes;
       indexed : IsIndex l.places l.entries;
-      only : HasOnly l.places (map label_of l.entries ++ former_labels l.notes);
+      only : HasOnly l.places l.entries (formers l.notes);
       can : CanUndo l.places (take l.left l.notes) l.entries;
       same : undone (take l.left l.notes) l.entries ≡ undone l.initial.notes l.initial.entries;
     }

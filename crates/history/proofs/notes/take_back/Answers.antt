@@ -1,19 +1,38 @@
-use Rattle.std.proofs.Common.{subst}
-use Rattle.history.specs.Places.{Puts}
-use Rattle.history.specs.Drafts.{CanRelabel, CanTakeBack}
-use Rattle.history.proofs.Indexes.{index-relabelled, index-reproved}
+use Rattle.std.proofs.Common.{◌≡◌, Option, None, Some, set, get_or, refl, sym, ap, subst, ◌∙◌}
+use Rattle.std.proofs.lemmas.Option.{slice_get-get_or}
+use Rattle.commands.specs.declared.library.Ranked.{Ranked}
+use Rattle.commands.specs.Library.{label_of}
+use Rattle.history.specs.declared.notes.Note.{Note}
+use Rattle.history.specs.Places.{IsIndex, Puts}
+use Rattle.history.proofs.Indexes.{PutsAt, stand-alone, index-set}
 use Rattle.history.proofs.notes.take_back.Goals as goal
+use Rattle.history.proofs.notes.take_back.Goals.{in-Some, in_default}
 
-pub returns-in-Relabelled-clause-indexed : goal.returns-in-Relabelled-clause-indexed
-returns-in-Relabelled-clause-indexed c =
-    let lib = c.args.entries.now in
+pub returns-clause-indexed : goal.returns-clause-indexed
+returns-clause-indexed c =
     let m = c.args.places.now in
-    let p = c.in-Relabelled.place in
-    let w = c.in-Relabelled.former in
-    let can : CanRelabel m lib p w = subst (CanTakeBack m lib) c.in-Relabelled.is c.requires.can in
-    let puts = subst (λ x. Puts m x p c.put_place.new.places) c.as_slice.ensures c.put_place.ensures in
-    rw c.swap_label.ensures.given (index-relabelled m c.put_place.new.places lib p w c.requires.indexed can.free puts)
+    let es = c.args.entries.now in
+    let note = c.args.note.now in
+    let n = c.match-note.places in
+    let puts : PutsAt m note.former note.place n = elim c.match-note.branch [
+      | in-Some w ↦
+          let put = subst (λ l. Puts m l note.place w.put_place.new.places) w.as_slice.ensures w.put_place.ensures in
+          subst (λ (o : Option Ranked). PutsAt m o note.place n) (sym w.in-Some.is)
+          (subst (λ x. Puts m (label_of w.in-Some.former) note.place x) (sym w.places-is) put)
+      | in_default w ↦
+          subst (λ (o : Option Ranked). PutsAt m o note.place n) (sym w.in_default.is)
+          (subst (λ x. PutsAt m None note.place x) (sym w.places-is) (λ q. refl))
+    ] in
+    let same : c.match-note.note ≡ note = elim c.match-note.branch [ in-Some w ↦ w.note-is | in_default w ↦ w.note-is ] in
+    let indexed =
+    index-set m n es note.place note.former c.requires.indexed (stand-alone m es note.place note.former c.requires.can.stands) puts in
+    rw c.swap.ensures.x_after (subst (λ (k : Note). IsIndex n (set es k.place k.former)) (sym same) indexed)
 
-pub returns-in-Reproved-clause-indexed : goal.returns-in-Reproved-clause-indexed
-returns-in-Reproved-clause-indexed c =
-    rw c.swap_proof.ensures.given (index-reproved c.args.places.now c.args.entries.now _ _ c.requires.indexed)
+pub returns-clause-noted : goal.returns-clause-noted
+returns-clause-noted c =
+    let es = c.args.entries.now in
+    let note = c.args.note.now in
+    let d = c.index-entries-note.result in
+    let same : c.match-note.note ≡ note = elim c.match-note.branch [ in-Some w ↦ w.note-is | in_default w ↦ w.note-is ] in
+    slice_get-get_or es note.place d c.requires.can.within
+    ∙ ap (λ x. Some x) (ap (λ (k : Note). get_or es k.place d) (sym same) ∙ sym c.swap.ensures.y_after)

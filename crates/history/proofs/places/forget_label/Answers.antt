@@ -1,18 +1,17 @@
 use Rattle.std.proofs.Common.{◌≡◌, false, None, rules, subst, sym}
 use Rattle.mmsyntax.proofs.Names.{after_update}
 use Rattle.commands.specs.Edits.{has}
+use Rattle.history.specs.Entries.{living}
 use Rattle.history.specs.Places.{FoundAt}
-use Rattle.history.proofs.Commands.{found_some}
-use Rattle.history.proofs.Indexes.{index-forgot}
-use Rattle.history.proofs.Keys.{removed_fewer, removed_gone, contains-entry}
+use Rattle.history.proofs.Indexes.{index-forgot, removed_fewer, removed_gone, found_some}
 use Rattle.history.proofs.places.forget_label.Goals as goal
 
 pub returns-then-is_none-clause-indexed : goal.returns-then-is_none-clause-indexed
 returns-then-is_none-clause-indexed c =
+    let es = c.args.entries.now in
     let none : c.find_label.result ≡ None = search rules in
-    let free : has c.args.entries.now c.args.label.now ≡ false =
-    subst (FoundAt c.args.entries.now c.args.label.now) none c.find_label.ensures in
-    index-forgot c.args.places.now c.remove.new.self c.args.entries.now c.args.label.now c.requires free
+    let free : has (living es) c.args.label.now ≡ false = subst (FoundAt es c.args.label.now) none c.find_label.ensures in
+    index-forgot c.args.places.now c.remove.new.self es c.args.label.now c.requires free
     (after_update c.args.label.now c.args.places.now c.remove.new.self None c.remove.ensures.updates)
 
 pub returns-then-is_none-clause-fewer : goal.returns-then-is_none-clause-fewer
@@ -27,6 +26,4 @@ returns-then-is_none-clause-gone c =
 
 pub returns-else-is_none-clause-gone : goal.returns-else-is_none-clause-gone
 returns-else-is_none-clause-gone c =
-    λ some.
-    let found = found_some c.args.entries.now c.args.label.now c.find_label.result c.find_label.ensures (sym c.if-is_none.ensures) in
-    contains-entry c.args.entries.now c.args.label.now found.0 found.1
+    λ some. found_some c.args.entries.now c.args.label.now c.find_label.result c.find_label.ensures (sym c.if-is_none.ensures)

@@ -1,9 +1,11 @@
-use Rattle.std.proofs.Common.{◌≡◌, ◌+◌, ◌*◌, [], ◌∷◌, ◌++◌, Some, length, refl, sym, ap, ◌∙◌, arith}
+use Rattle.std.proofs.Common.{◌≡◌, ◌+◌, ◌*◌, [], ◌∷◌, ◌++◌, Some, length, take, refl, sym, ap, ◌∙◌, arith}
 use Rattle.std.specs.List.{slice_get}
-use Rattle.std.proofs.lemmas.List.{take_all}
+use Rattle.std.proofs.lemmas.List.{take_all, map-append}
 use Rattle.std.proofs.lemmas.Option.{slice_get_read}
 use Rattle.commands.specs.declared.library.Ranked.{Ranked}
 use Rattle.commands.specs.Library.{ranked_from}
+use Rattle.history.specs.Entries.{standing}
+use Rattle.history.proofs.Changing.{living-standing}
 use Rattle.history.proofs.Openings.{length-ranked_from, ranked_from-at, ranked_from-next, front_free}
 use Rattle.history.proofs.places.open_entries.Goals as goal
 
@@ -15,7 +17,7 @@ add_entry-requires-clause-free c =
     let lib = ranked_from 1 xs in
     let item = slice_get_read xs (length xs) i c.index-assertions-i.result refl c.loop-i-test.true c.index-assertions-i.is in
     let at : slice_get xs i ≡ Some a = item ∙ ap (λ x. Some x) (sym c.in_ok-copy.ensures) in
-    rw c.loop-i.invariant.entries (front_free lib i (record { rank = 100 * (1 + i); assertion = a }) c.requires.distinct (ranked_from-at 1 xs i a at))
+    rw (c.loop-i.invariant.entries, living-standing) (front_free lib i (record { rank = 100 * (1 + i); assertion = a }) c.requires.distinct (ranked_from-at 1 xs i a at))
 
 pub loop-i-preserved : goal.loop-i-preserved
 loop-i-preserved c =
@@ -26,7 +28,8 @@ loop-i-preserved c =
     let item = slice_get_read xs (length xs) i c.index-assertions-i.result refl c.loop-i-test.true c.index-assertions-i.is in
     let at : slice_get xs i ≡ Some a = item ∙ ap (λ x. Some x) (sym c.in_ok-copy.ensures) in
     record {
-      entries = c.in_ok-add_entry.ensures.items ∙ ap (λ es. es ++ e ∷ []) c.loop-i.invariant.entries ∙ sym (ranked_from-next xs i a at);
+      entries = c.in_ok-add_entry.ensures.items ∙ ap (λ es. es ++ Some e ∷ []) c.loop-i.invariant.entries
+          ∙ sym (ap standing (ranked_from-next xs i a at) ∙ map-append (λ (x : Ranked). Some x) (take i (ranked_from 1 xs)) (e ∷ []));
       indexed = c.in_ok-add_entry.ensures.indexed;
       only = c.in_ok-add_entry.ensures.only;
     }
@@ -35,4 +38,4 @@ pub returns-clause-entries : goal.returns-clause-entries
 returns-clause-entries c =
     let lib = ranked_from 1 c.args.assertions.now in
     let past = c.loop-i-test.false in
-    c.loop-i.invariant.entries ∙ take_all c.loop-i.i lib (omega (arith, length-ranked_from 1 c.args.assertions.now))
+    c.loop-i.invariant.entries ∙ ap standing (take_all c.loop-i.i lib (omega (arith, length-ranked_from 1 c.args.assertions.now)))

@@ -1,12 +1,13 @@
-use Rattle.std.proofs.Common.{◌≡◌, map, take}
-use Rattle.commands.specs.Library.{label_of, ranked_from}
+use Rattle.std.proofs.Common.{◌≡◌, [], take}
+use Rattle.commands.specs.Library.{ranked_from}
+use Rattle.history.specs.Entries.{standing}
 use Rattle.history.specs.Places.{IsIndex, HasOnly}
 use Rattle.history.proofs.places.open_entries.Given as goal
 
 abbrev pub invariant-loop-i : goal.invariant-loop-i
 invariant-loop-i l =
     record {
-      entries : l.entries.items ≡ take l.i (ranked_from 1 l.assertions);
+      entries : l.entries.items ≡ standing (take l.i (ranked_from 1 l.assertions));
       indexed : IsIndex l.places l.entries.items;
-      only : HasOnly l.places (map label_of l.entries.items);
+      only : HasOnly l.places l.entries.items [];
     }

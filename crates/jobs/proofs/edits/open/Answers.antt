@@ -1,10 +1,12 @@
-use Rattle.std.proofs.Common.{◌≤◌, length, ap, arith}
+use Rattle.std.proofs.Common.{◌∙◌, ◌≤◌, ◌<◌, Err, length, ap, subst, arith}
 use Rattle.mmsyntax.proofs.Declarable.{declarable}
-use Rattle.mmrefactor.proofs.edits.open.Goals as goal
+use Rattle.history.specs.Openings.{Opens}
+use Rattle.jobs.proofs.edits.open.Goals as goal
 
 -- a database has at most 4,096 assertions
-pub open-requires : goal.open-requires
-open-requires c =
-    let few : length c.args.db.now.assertions ≤ 4096 = (declarable c.args.db.now c.assertions.ensures.sound).few in
-    let same = ap length c.assertions.ensures.value in
-    record { slots = (omega arith, omega arith); checks = c.requires }
+pub unreachable-requires : goal.unreachable-requires
+unreachable-requires c =
+    let db = c.args.db.now in
+    let few : length db.assertions ≤ 4096 = (declarable db c.assertions-assertions.ensures.sound).few in
+    let many : 4096 < length db.assertions = subst (Opens db 4096) (c.in-Err-TooMany.is ∙ ap Err c.in-Err-TooMany.field-0-is) c.open.ensures in
+    absurd (omega arith)

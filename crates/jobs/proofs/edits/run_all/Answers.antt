@@ -1,11 +1,11 @@
 use Rattle.std.proofs.Common.{◌≡◌, ◌∙◌, ◌+◌, List, [], subst, sym, ap, arith, rules}
 use Rattle.std.specs.Prelude.{All}
 use Rattle.commands.specs.Library.{Setting}
-use Rattle.mmrefactor.specs.declared.edits.Place.{Place}
-use Rattle.mmrefactor.specs.declared.outcome.Outcome.{Outcome}
-use Rattle.mmrefactor.specs.Outcomes.{Standing, standing, script_outcomes, after_script, OutcomeFits, OutcomesFit}
-use Rattle.mmrefactor.proofs.Turns.{Turns, begins, goes_on, ends}
-use Rattle.mmrefactor.proofs.edits.run_all.Goals as goal
+use Rattle.jobs.specs.declared.edits.Place.{Place}
+use Rattle.jobs.specs.declared.outcome.Outcome.{Outcome}
+use Rattle.jobs.specs.Outcomes.{Standing, standing, script_outcomes, after_script, OutcomeFits, OutcomesFit}
+use Rattle.jobs.proofs.Turns.{Turns, begins, goes_on, ends}
+use Rattle.jobs.proofs.edits.run_all.Goals as goal
 
 pub loop-i-init : goal.loop-i-init
 loop-i-init c =

@@ -1,8 +1,8 @@
 use Rattle.std.proofs.Common.{◌≡◌, []}
 use Rattle.std.specs.Prelude.{All}
-use Rattle.mmrefactor.specs.Outcomes.{standing, script_outcomes, after_script, OutcomeFits}
-use Rattle.mmrefactor.proofs.Turns.{Turns}
-use Rattle.mmrefactor.proofs.edits.run_all.Given as goal
+use Rattle.jobs.specs.Outcomes.{standing, script_outcomes, after_script, OutcomeFits}
+use Rattle.jobs.proofs.Turns.{Turns}
+use Rattle.jobs.proofs.edits.run_all.Given as goal
 
 abbrev pub invariant-loop-i : goal.invariant-loop-i
 invariant-loop-i l = record {

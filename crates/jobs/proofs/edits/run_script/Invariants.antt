@@ -1,7 +1,7 @@
 use Rattle.std.proofs.Common.{◌≡◌}
-use Rattle.mmrefactor.specs.Outcomes.{standing, outcome_at, standing_after, OutcomeFits}
-use Rattle.mmrefactor.proofs.Turns.{Turns}
-use Rattle.mmrefactor.proofs.edits.run_script.Given as goal
+use Rattle.jobs.specs.Outcomes.{standing, outcome_at, standing_after, OutcomeFits}
+use Rattle.jobs.proofs.Turns.{Turns}
+use Rattle.jobs.proofs.edits.run_script.Given as goal
 
 abbrev pub invariant-loop-i : goal.invariant-loop-i
 invariant-loop-i l = record {

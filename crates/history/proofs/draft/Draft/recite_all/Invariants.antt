@@ -7,6 +7,6 @@ use Rattle.history.proofs.draft.Draft.recite_all.Given as goal
 abbrev pub invariant-loop-place : goal.invariant-loop-place
 invariant-loop-place l =
     record {
-      renamed : l.self.library ≡ changed_below l.place (citing l.old l.new) l.initial.self.library;
+      renamed : l.self.entries ≡ changed_below l.place (citing l.old l.new) l.initial.self.entries;
       kept : KeepsStart l.initial.self l.self;
     }

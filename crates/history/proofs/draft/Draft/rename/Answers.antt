@@ -1,74 +1,111 @@
-use Rattle.std.proofs.Common.{◌≡◌, true, false, List, Ok, map, refl, sym, ap, subst, ◌∙◌}
-use Rattle.std.proofs.lemmas.Option.{slice_get_within}
+use Rattle.std.proofs.Common.{◌≡◌, Some, false, true, Ok, set, refl, sym, ap, subst, ◌∙◌}
+use Rattle.std.specs.List.{slice_get}
+use mathlib.Core.Bool.{not}
 use Rattle.mmsyntax.specs.Assertions.{is_lawful_label}
+use Rattle.mmstatement.specs.Frames.{frame}
 use Rattle.commands.specs.declared.library.Ranked.{Ranked}
-use Rattle.commands.specs.declared.command.Reply.TheVariants.{Done}
-use Rattle.commands.specs.Edits.{has}
-use Rattle.history.specs.Places.{StandsAt}
-use Rattle.history.specs.Drafts.{Drafted, citing}
-use Rattle.history.proofs.Commands.{found_none, found_some, rename_bad, rename_taken, rename_done}
-use Rattle.history.proofs.Taking.{kept_on}
+use Rattle.commands.specs.declared.reason.Reason.TheVariants as reason
+use Rattle.commands.specs.Edits.{has, done, unknown, unlawful, taken, rename_tests}
+use Rattle.history.specs.Entries.{living, StandsIn}
+use Rattle.history.specs.Drafts.{Drafted, now_in, citing, changed_all}
+use Rattle.history.proofs.Commands.{tested_some, tested_none, so, not_so, first-some, first-none, HasLabel, has_label, has_own, known, library-renamed}
 use Rattle.history.proofs.draft.Draft.rename.Goals as goal
 
 pub returns-then-not-is_lawful_label-clause-taken : goal.returns-then-not-is_lawful_label-clause-taken
 returns-then-not-is_lawful_label-clause-taken c =
     let d = c.args.self.now in
-    let old = c.args.old.now in
+    let lib = now_in d in
+    let i = c.self.inside in
+    let held : i.entries.items ≡ d.entries = ap (λ (x : Drafted). x.entries) c.self.view_is in
+    let slice : c.as_slice.result.now ≡ i.entries.items = c.as_slice.ensures.value in
+    let w = c.args.old.now in
+    let at = c.in-Some.ensures.some in
+    let e = c.in-Some.entry.now in
+    let p = c.in-Some.place in
+    let own : HasLabel i.places d.entries w p e =
+    has_label i.places i.entries.items d.entries c.as_slice.result.now c.as_slice-2.result.now w p e c.self.invariant.0.indexed held slice at.0 at.1 c.as_slice-2.ensures in
     let new = c.args.new.now in
-    let held : c.as_slice.result.now ≡ d.library = c.as_slice.ensures.value ∙ ap (λ (d : Drafted). d.library) c.self.view_is in
-    let at =
-    subst (λ l. StandsAt l old c.in-Some.place) held (subst
-    (λ w. StandsAt c.as_slice.result.now w c.in-Some.place) c.as_slice-2.ensures c.in-Some.ensures) in
-    let bad : is_lawful_label d.setting.prelude new ≡ false =
-    ap (λ (d : Drafted). is_lawful_label d.setting.prelude new) (sym c.self.view_is)
-    ∙ ap (is_lawful_label c.self.inside.prelude) (sym c.as_slice-3.ensures) ∙ sym c.if-not-is_lawful_label.ensures in
-    rw c.refused-then-not-is_lawful_label.ensures (refl, rename_bad d.setting d.library old new c.in-Some.place at bad)
+    let lawful : is_lawful_label d.setting.prelude new ≡ false =
+    ap (λ (x : Drafted). is_lawful_label x.setting.prelude new) (sym c.self.view_is)
+    ∙ ap (is_lawful_label i.prelude) (sym c.as_slice-3.ensures) ∙ sym c.is_lawful_label.ensures ∙ c.if-not-is_lawful_label.true in
+    let there = not_so (not (has lib w)) reason.UnknownLabel (ap not (has_own i.places d.entries w p e own)) in
+    let bad = so (not (is_lawful_label d.setting.prelude new)) reason.BadLabel (ap not lawful) in
+    let first = first-none (unknown lib w) _ there ∙ first-some (unlawful d.setting new) _ reason.BadLabel bad in
+    rw c.refused-then-not-is_lawful_label.ensures (refl, tested_some (rename_tests d.setting lib w new) _ reason.BadLabel first)
 
 pub returns-then-is_some-clause-taken : goal.returns-then-is_some-clause-taken
 returns-then-is_some-clause-taken c =
     let d = c.args.self.now in
-    let old = c.args.old.now in
+    let lib = now_in d in
+    let i = c.self.inside in
+    let held : i.entries.items ≡ d.entries = ap (λ (x : Drafted). x.entries) c.self.view_is in
+    let slice : c.as_slice.result.now ≡ i.entries.items = c.as_slice.ensures.value in
+    let w = c.args.old.now in
+    let at = c.in-Some.ensures.some in
+    let e = c.in-Some.entry.now in
+    let p = c.in-Some.place in
+    let own : HasLabel i.places d.entries w p e =
+    has_label i.places i.entries.items d.entries c.as_slice.result.now c.as_slice-2.result.now w p e c.self.invariant.0.indexed held slice at.0 at.1 c.as_slice-2.ensures in
     let new = c.args.new.now in
-    let held : c.as_slice.result.now ≡ d.library = c.as_slice.ensures.value ∙ ap (λ (d : Drafted). d.library) c.self.view_is in
-    let at =
-    subst (λ l. StandsAt l old c.in-Some.place) held (subst
-    (λ w. StandsAt c.as_slice.result.now w c.in-Some.place) c.as_slice-2.ensures c.in-Some.ensures) in
     let lawful : is_lawful_label d.setting.prelude new ≡ true =
-    ap (λ (d : Drafted). is_lawful_label d.setting.prelude new) (sym c.self.view_is)
-    ∙ ap (is_lawful_label c.self.inside.prelude) (sym c.as_slice-3.ensures) ∙ sym c.if-not-is_lawful_label.ensures in
-    let again : c.as_slice-4.result.now ≡ d.library = c.as_slice-4.ensures.value ∙ ap (λ (d : Drafted). d.library) c.self.view_is in
-    let other =
-    found_some c.as_slice-4.result.now c.as_slice-5.result.now c.find_label-2.result c.find_label-2.ensures c.if-is_some.ensures in
-    let taken =
-    subst (λ l. StandsAt l new other.0) again (subst (λ w. StandsAt c.as_slice-4.result.now w other.0) c.as_slice-5.ensures other.1) in
-    rw c.refused-then-is_some.ensures (refl, rename_taken d.setting d.library old new c.in-Some.place other.0 at lawful taken)
+    ap (λ (x : Drafted). is_lawful_label x.setting.prelude new) (sym c.self.view_is)
+    ∙ ap (is_lawful_label i.prelude) (sym c.as_slice-3.ensures) ∙ sym c.is_lawful_label.ensures ∙ c.if-not-is_lawful_label.false in
+    let there = not_so (not (has lib w)) reason.UnknownLabel (ap not (has_own i.places d.entries w p e own)) in
+    let good = not_so (not (is_lawful_label d.setting.prelude new)) reason.BadLabel (ap not lawful) in
+    let here : has lib new ≡ true =
+    known c.as_slice-4.result.now d.entries c.as_slice-5.result.now new c.find_label.result c.is_some.result (c.as_slice-4.ensures.value ∙ held) c.as_slice-5.ensures c.find_label.ensures c.is_some.ensures
+    ∙ c.if-is_some.true in
+    let first =
+    first-none (unknown lib w) _ there ∙ first-none (unlawful d.setting new) _ good
+    ∙ first-some (taken lib new) _ reason.LabelTaken (so (has lib new) reason.LabelTaken here) in
+    rw c.refused-then-is_some.ensures (refl, tested_some (rename_tests d.setting lib w new) _ reason.LabelTaken first)
 
-pub relabel-requires-clause-within : goal.relabel-requires-clause-within
-relabel-requires-clause-within c =
+pub put-requires-clause-framed : goal.put-requires-clause-framed
+put-requires-clause-framed c =
     let d = c.args.self.now in
-    let held : c.as_slice.result.now ≡ d.library = c.as_slice.ensures.value ∙ ap (λ (d : Drafted). d.library) c.self.view_is in
-    let at = subst (λ l. StandsAt l c.as_slice-2.result.now c.in-Some.place) held c.in-Some.ensures in
-    slice_get_within d.library c.in-Some.place at.entry at.at
+    let lib = now_in d in
+    let i = c.self.inside in
+    let held : i.entries.items ≡ d.entries = ap (λ (x : Drafted). x.entries) c.self.view_is in
+    let slice : c.as_slice.result.now ≡ i.entries.items = c.as_slice.ensures.value in
+    let w = c.args.old.now in
+    let at = c.in-Some.ensures.some in
+    let e = c.in-Some.entry.now in
+    let p = c.in-Some.place in
+    let own : HasLabel i.places d.entries w p e =
+    has_label i.places i.entries.items d.entries c.as_slice.result.now c.as_slice-2.result.now w p e c.self.invariant.0.indexed held slice at.0 at.1 c.as_slice-2.ensures in
+    let stands : StandsIn i.entries.items p e = subst (λ l. StandsIn l p e) slice at.0 in
+    let framed = c.self.invariant.0.framed.framed p e stands in
+    ap (λ (x : Drafted). slice_get x.frames p) (sym c.self.view_is) ∙ framed
+    ∙ ap (λ (x : Drafted). Some (frame x.setting.prelude e.assertion)) c.self.view_is
+    ∙ ap (λ (x : Ranked). Some (frame d.setting.prelude x.assertion)) (sym c.in_ok-renamed.ensures)
 
 pub returns-clause-taken : goal.returns-clause-taken
 returns-clause-taken c =
     let d = c.args.self.now in
-    let old = c.args.old.now in
-    let new = c.args.new.now in
+    let lib = now_in d in
+    let i = c.self.inside in
+    let held : i.entries.items ≡ d.entries = ap (λ (x : Drafted). x.entries) c.self.view_is in
+    let slice : c.as_slice.result.now ≡ i.entries.items = c.as_slice.ensures.value in
+    let w = c.args.old.now in
+    let at = c.in-Some.ensures.some in
+    let e = c.in-Some.entry.now in
     let p = c.in-Some.place in
-    let held : c.as_slice.result.now ≡ d.library = c.as_slice.ensures.value ∙ ap (λ (d : Drafted). d.library) c.self.view_is in
-    let at = subst (λ l. StandsAt l old p) held (subst (λ w. StandsAt c.as_slice.result.now w p) c.as_slice-2.ensures c.in-Some.ensures) in
+    let own : HasLabel i.places d.entries w p e =
+    has_label i.places i.entries.items d.entries c.as_slice.result.now c.as_slice-2.result.now w p e c.self.invariant.0.indexed held slice at.0 at.1 c.as_slice-2.ensures in
+    let new = c.args.new.now in
     let lawful : is_lawful_label d.setting.prelude new ≡ true =
-    ap (λ (d : Drafted). is_lawful_label d.setting.prelude new) (sym c.self.view_is)
-    ∙ ap (is_lawful_label c.self.inside.prelude) (sym c.as_slice-3.ensures) ∙ sym c.if-not-is_lawful_label.ensures in
-    let again : c.as_slice-4.result.now ≡ d.library = c.as_slice-4.ensures.value ∙ ap (λ (d : Drafted). d.library) c.self.view_is in
-    let none =
-    found_none c.as_slice-4.result.now c.as_slice-5.result.now c.find_label-2.result c.find_label-2.ensures c.if-is_some.ensures in
-    let free = subst (λ l. has l new ≡ false) again (subst (λ w. has c.as_slice-4.result.now w ≡ false) c.as_slice-5.ensures none) in
-    rename_done d.setting d.library old new c.requires p at lawful free
-    ∙ ap (λ (l : List Ranked). Ok (record { library = map (citing old new) l; reply = Done })) (sym c.in_ok-relabel.ensures.done)
-    ∙ ap (λ (l : List Ranked). Ok (record { library = l; reply = Done })) (sym c.in_ok-recite_all.ensures.done)
-
-pub returns-clause-kept : goal.returns-clause-kept
-returns-clause-kept c =
-    kept_on c.args.self.now c.relabel.new.self c.recite_all.new.self c.in_ok-relabel.ensures.kept c.in_ok-recite_all.ensures.kept
+    ap (λ (x : Drafted). is_lawful_label x.setting.prelude new) (sym c.self.view_is)
+    ∙ ap (is_lawful_label i.prelude) (sym c.as_slice-3.ensures) ∙ sym c.is_lawful_label.ensures ∙ c.if-not-is_lawful_label.false in
+    let there = not_so (not (has lib w)) reason.UnknownLabel (ap not (has_own i.places d.entries w p e own)) in
+    let good = not_so (not (is_lawful_label d.setting.prelude new)) reason.BadLabel (ap not lawful) in
+    let here : has lib new ≡ false =
+    known c.as_slice-4.result.now d.entries c.as_slice-5.result.now new c.find_label.result c.is_some.result (c.as_slice-4.ensures.value ∙ held) c.as_slice-5.ensures c.find_label.ensures c.is_some.ensures
+    ∙ c.if-is_some.false in
+    let first =
+    first-none (unknown lib w) _ there ∙ first-none (unlawful d.setting new) _ good
+    ∙ first-none (taken lib new) _ (not_so (has lib new) reason.LabelTaken here) in
+    let now =
+    c.in_ok-recite_all.ensures.done ∙ ap (changed_all (citing w new)) c.in_ok-put.ensures.done.entries
+    ∙ ap (λ (x : Ranked). changed_all (citing w new) (set d.entries p (Some x))) c.in_ok-renamed.ensures in
+    tested_none (rename_tests d.setting lib w new) _ first
+    ∙ ap (λ l. Ok (done l)) (sym (library-renamed i.places d.entries w new p e own) ∙ ap living (sym now))

@@ -1,42 +1,38 @@
-use Rattle.std.proofs.Common.{◌≡◌, ℕ, false, None, Some, Ok, get_or, refl, sym, ap, subst, ◌∙◌, rules}
-use Rattle.std.proofs.lemmas.Option.{get_or_from_slice_get}
-use Rattle.commands.specs.Library.{label_of}
+use Rattle.std.proofs.Common.{◌≡◌, ℕ, List, Ok, refl, sym, ap, ◌∙◌}
+use Rattle.commands.specs.declared.library.Ranked.{Ranked}
 use Rattle.commands.specs.declared.command.Reply.TheVariants.{Shown}
-use Rattle.commands.specs.Edits.{has, citers}
-use Rattle.history.specs.Places.{StandsAt, FoundAt}
-use Rattle.history.specs.Drafts.{Drafted}
-use Rattle.history.proofs.Commands.{show_unknown, show_done}
+use Rattle.commands.specs.Edits.{citers}
+use Rattle.history.specs.Entries.{living}
+use Rattle.history.specs.Drafts.{Drafted, now_in}
+use Rattle.history.proofs.Commands.{unknown_label, known_label, HasLabel, has_label, free_in}
 use Rattle.history.proofs.draft.Draft.show.Goals as goal
 
 pub returns-in_default : goal.returns-in_default
 returns-in_default c =
     let d = c.args.self.now in
-    let held : c.as_slice.result.now ≡ d.library = c.as_slice.ensures.value ∙ ap (λ (d : Drafted). d.library) c.self.view_is in
-    let none : c.find_label.result ≡ None = search rules in
-    let free : has c.as_slice.result.now c.as_slice-2.result.now ≡ false =
-    subst (FoundAt c.as_slice.result.now c.as_slice-2.result.now) none c.find_label.ensures in
-    rw c.refused.ensures (
-      refl,
-      show_unknown d.setting d.library c.args.label.now (subst
-          (λ w. has d.library w ≡ false) c.as_slice-2.ensures (subst (λ l. has l c.as_slice-2.result.now ≡ false) held free)),
-    )
+    let lib = now_in d in
+    let i = c.self.inside in
+    let held : i.entries.items ≡ d.entries = ap (λ (x : Drafted). x.entries) c.self.view_is in
+    let slice : c.as_slice-entries.result.now ≡ i.entries.items = c.as_slice-entries.ensures.value in
+    let w = c.args.label.now in
+    rw c.refused.ensures (refl, unknown_label lib w _ (free_in _ d.entries _ w (slice ∙ held) c.as_slice.ensures c.in_default.ensures.none))
 
 pub returns : goal.returns
 returns c =
     let d = c.args.self.now in
+    let lib = now_in d in
+    let i = c.self.inside in
+    let held : i.entries.items ≡ d.entries = ap (λ (x : Drafted). x.entries) c.self.view_is in
+    let slice : c.as_slice-entries.result.now ≡ i.entries.items = c.as_slice-entries.ensures.value in
     let w = c.args.label.now in
-    let p = c.in-Some.place in
-    let e = c.in_ok-shown.shown in
-    let held : c.as_slice.result.now ≡ d.library = c.as_slice.ensures.value ∙ ap (λ (d : Drafted). d.library) c.self.view_is in
-    let stands =
-    subst (λ l. StandsAt l w p) held (subst (λ w. StandsAt c.as_slice.result.now w p) c.as_slice-2.ensures c.in-Some.ensures) in
-    let read : c.index.result.now ≡ get_or c.self.inside.entries.items p c.index.result.now = c.index.ensures in
-    let own : c.index.result.now ≡ stands.entry =
-    read ∙ ap (λ (x : Drafted). get_or x.library p c.index.result.now) c.self.view_is
-    ∙ get_or_from_slice_get d.library p stands.entry c.index.result.now stands.at in
-    let same : e ≡ stands.entry = c.in_ok-shown.ensures ∙ own in
-    let again : c.as_slice-3.result.now ≡ d.library = c.as_slice-3.ensures.value ∙ ap (λ (d : Drafted). d.library) c.self.view_is in
-    let count : c.count_citers-citers.result ≡ citers d.library w =
-    c.count_citers-citers.ensures ∙ ap (λ l. citers l c.as_slice-4.result.now) again ∙ ap (citers d.library) c.as_slice-4.ensures in
-    show_done d.setting d.library w p e c.requires (stands.at ∙ ap (λ x. Some x) (sym same)) (ap label_of same ∙ stands.labelled)
-    ∙ ap (λ (n : ℕ). Ok (record { library = d.library; reply = Shown n e })) (sym count)
+    let found = c.in-Some.ensures.some in
+    let e = c.in-Some.entry.now in
+    let p = c.in-Some.field-0-0 in
+    let own : HasLabel i.places d.entries w p e =
+    has_label i.places i.entries.items d.entries c.as_slice-entries.result.now c.as_slice.result.now w p e c.self.invariant.0.indexed held slice found.0 found.1 c.as_slice.ensures in
+    let count : c.count_citers-citers.result ≡ citers lib w =
+    c.count_citers-citers.ensures ∙ ap (λ l. citers (living l) c.as_slice-2.result.now) (slice ∙ held) ∙ ap (citers lib) c.as_slice-2.ensures in
+    known_label i.places d.entries w p e _ own
+    ∙ ap (λ (k : List ℕ). Ok (record { library = lib; reply = Shown (citers lib k) e })) own.labelled
+    ∙ ap (λ (n : ℕ). Ok (record { library = lib; reply = Shown n e })) (sym count)
+    ∙ ap (λ (x : Ranked). Ok (record { library = lib; reply = Shown c.count_citers-citers.result x })) (sym c.in_ok-shown.ensures)

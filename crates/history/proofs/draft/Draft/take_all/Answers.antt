@@ -4,7 +4,8 @@ use Rattle.std.proofs.lemmas.Result.{err_from_is_err_and}
 use Rattle.commands.specs.declared.command.Command.{Command}
 use Rattle.commands.specs.declared.command.Reply.{Reply}
 use Rattle.commands.specs.Transactions.{apply_from}
-use Rattle.history.proofs.Taking.{with_replies, taken_all, taken_one, error_ends, kept_on, taken_verifies}
+use Rattle.history.specs.Drafts.{now_in}
+use Rattle.history.proofs.Taking.{with_replies, taken_all, taken_one, error_ends, kept_on}
 use Rattle.history.proofs.draft.Draft.take_all.Goals as goal
 
 -- the commands from the i-th on
@@ -20,7 +21,7 @@ returns-in_err-reply-clause-taken c =
     let command = c.index-commands-i.result in
     let left = from_place cs x.i command c.loop-i-test.true c.index-commands-i.is in
     let so_far =
-    x.invariant.so_far ∙ ap (λ ds. with_replies x.replies.items (apply_from x.self.setting (x.i + 1) x.self.library ds)) left in
+    x.invariant.so_far ∙ ap (λ ds. with_replies x.replies.items (apply_from x.self.setting (x.i + 1) (now_in x.self) ds)) left in
     let p = err_from_is_err_and c.from_residual.result c.from_residual.ensures.1 in
     rw (p.1, p.2) (error_ends c.args.self.now x.self c.take.new.self c.take.new.self (x.i + 1) command (drop (x.i + 1) cs) cs x.replies.items c.in_err-reply.field-0.0 so_far c.in_err-reply.ensures.taken)
 
@@ -36,12 +37,11 @@ loop-i-preserved c =
     let kept = c.in_ok-reply.ensures.kept in
     let pushed : c.push.new.self.items ≡ x.replies.items ++ reply ∷ [] = search rules in
     let so_far =
-    x.invariant.so_far ∙ ap (λ ds. with_replies x.replies.items (apply_from x.self.setting (x.i + 1) x.self.library ds)) left
-    ∙ taken_one x.self.setting (x.i + 1) x.self.library new.library command rest x.replies.items reply c.in_ok-reply.ensures.taken
-    ∙ ap (λ rs. with_replies rs (apply_from x.self.setting (x.i + 1 + 1) new.library rest)) (sym pushed)
-    ∙ ap (λ s. with_replies c.push.new.self.items (apply_from s (x.i + 1 + 1) new.library rest)) (sym kept.setting) in
+    x.invariant.so_far ∙ ap (λ ds. with_replies x.replies.items (apply_from x.self.setting (x.i + 1) (now_in x.self) ds)) left
+    ∙ taken_one x.self.setting (x.i + 1) (now_in x.self) (now_in new) command rest x.replies.items reply c.in_ok-reply.ensures.taken
+    ∙ ap (λ rs. with_replies rs (apply_from x.self.setting (x.i + 1 + 1) (now_in new) rest)) (sym pushed)
+    ∙ ap (λ s. with_replies c.push.new.self.items (apply_from s (x.i + 1 + 1) (now_in new) rest)) (sym kept.setting) in
     record {
-      verifies = taken_verifies (x.i + 1) x.self new command reply x.invariant.verifies c.in_ok-reply.ensures.taken kept;
       kept = kept_on c.args.self.now x.self new x.invariant.kept kept;
       so_far = so_far;
     }
@@ -50,6 +50,6 @@ pub returns-clause-taken : goal.returns-clause-taken
 returns-clause-taken c =
     let x = c.loop-i in
     let cs = c.args.commands.now in
-    x.invariant.so_far ∙ ap (λ ds. with_replies x.replies.items (apply_from x.self.setting (x.i + 1) x.self.library ds)) (drop_of_length-le cs c.loop-i-test.false)
-    ∙ taken_all x.self.setting (x.i + 1) x.self.library x.replies.items
-    ∙ ap (λ (rs : List Reply). Ok (record { library = x.self.library; replies = rs })) (sym c.from_vec.ensures)
+    x.invariant.so_far ∙ ap (λ ds. with_replies x.replies.items (apply_from x.self.setting (x.i + 1) (now_in x.self) ds)) (drop_of_length-le cs c.loop-i-test.false)
+    ∙ taken_all x.self.setting (x.i + 1) (now_in x.self) x.replies.items
+    ∙ ap (λ (rs : List Reply). Ok (record { library = now_in x.self; replies = rs })) (sym c.from_vec.ensures)

@@ -1,0 +1,68 @@
+//! Places in a script.
+
+use crate::command::{Command, Transaction};
+use mmreader::UnitReader;
+use mmstatement::{Label, Step};
+
+/// What was read of the command in which a token stands.
+#[derive(Drop)]
+pub(super) enum CommandPlace<'a> {
+    /// Behind `add`.
+    AtRank,
+    /// Behind `add` and a rank, in the assertion.
+    InUnit(u32, UnitReader<'a>),
+    /// Behind `reprove`.
+    AtReproved,
+    /// Behind `reprove` and a label.
+    AtProof(Label),
+    /// Behind `$=` and steps.
+    InProof(Label, Vec<Step>),
+    /// Behind `rename`.
+    AtOldLabel,
+    /// Behind `rename` and the old label.
+    AtNewLabel(Label),
+    /// Behind `move`.
+    AtMoved,
+    /// Behind `move` and a label.
+    AtNewRank(Label),
+    /// Behind `delete`.
+    AtDeleted,
+    /// Behind `show`.
+    AtShown,
+}
+
+/// What was read of the transaction in which a token stands.
+#[derive(Drop)]
+pub(super) enum Place<'a> {
+    /// Between transactions.
+    Outermost,
+    /// Behind `begin` and whole commands.
+    AtCommand(Vec<Command>),
+    /// In a command behind those.
+    Within(Vec<Command>, CommandPlace<'a>),
+}
+
+/// Where a token of a command leads.
+#[derive(Drop)]
+pub(super) enum Led<'a> {
+    /// To a place in the command.
+    Inside(CommandPlace<'a>),
+    /// Behind the command.
+    Whole(Command),
+}
+
+/// How far a script was read.
+#[derive(Drop)]
+pub(super) struct Progress<'a> {
+    /// The transactions that were committed, in order.
+    pub script: Vec<Transaction>,
+    /// The place behind them.
+    pub place: Place<'a>,
+}
+
+/// How far a script was read, and whether a comment is open there.
+#[derive(Drop)]
+pub(super) struct State<'a> {
+    pub progress: Progress<'a>,
+    pub in_comment: bool,
+}

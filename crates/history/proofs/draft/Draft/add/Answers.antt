@@ -1,0 +1,57 @@
+use Rattle.std.proofs.Common.{◌≡◌, [], ◌∷◌, ◌++◌, None, Some, Ok, length, set, refl, sym, ap, ◌∙◌}
+use Rattle.std.specs.List.{slice_get}
+use Rattle.mmsyntax.specs.declared.statement.Assertion.{Assertion}
+use Rattle.mmstatement.specs.Frames.{frame}
+use Rattle.commands.specs.Library.{Setting}
+use Rattle.commands.specs.Edits.{has, done, add_tests}
+use Rattle.history.specs.Entries.{Entries, living}
+use Rattle.history.specs.Drafts.{Drafted, now_in}
+use Rattle.history.proofs.Changing.{get-last, living-opened}
+use Rattle.history.proofs.Commands.{tested_some, tested_none, add_free, library-added}
+use Rattle.history.proofs.draft.Draft.add.Goals as goal
+
+pub returns-in-Some-clause-taken : goal.returns-in-Some-clause-taken
+returns-in-Some-clause-taken c =
+    let d = c.args.self.now in
+    rw c.refused.ensures (
+      refl,
+      tested_some (add_tests d.setting (now_in d) c.args.rank c.args.assertion.now) _ c.in-Some.reason (sym c.in_ok-reason.ensures ∙ c.in-Some.is),
+    )
+
+pub put-requires-clause-free : goal.put-requires-clause-free
+put-requires-clause-free c =
+    let d = c.args.self.now in
+    let a = c.args.assertion.now in
+    let free = add_free d.setting (now_in d) c.args.rank a (sym c.in_ok-reason.ensures ∙ c.in_default.is) in
+    let same = ap living c.in_ok-place.ensures.entries ∙ living-opened d.entries in
+    ap (λ l. has l c.in_ok-assertion.assertion.label) same
+    ∙ ap (λ (x : Assertion). has (now_in d) x.label) c.in_ok-assertion.ensures ∙ free
+
+pub put-requires-clause-framed : goal.put-requires-clause-framed
+put-requires-clause-framed c =
+    let d = c.args.self.now in
+    let i = c.self.inside in
+    let a = c.args.assertion.now in
+    let opened = c.in_ok-place.ensures in
+    let p = c.in_ok-place.place in
+    let f = c.in_ok-frame.frame in
+    let long : length d.frames ≡ length d.entries =
+    ap (λ (x : Drafted). length x.frames) (sym c.self.view_is) ∙ c.self.invariant.0.framed.long ∙ ap (λ (x : Drafted). length x.entries) c.self.view_is in
+    let made : f ≡ frame c.open_place.new.self.setting.prelude c.in_ok-assertion.assertion =
+    c.in_ok-frame.ensures ∙ ap (λ (x : Drafted). frame x.setting.prelude a) c.self.view_is
+    ∙ ap (λ (s : Setting). frame s.prelude a) (sym opened.kept.setting) ∙ ap (frame c.open_place.new.self.setting.prelude) (sym c.in_ok-assertion.ensures) in
+    ap (λ fs. slice_get fs p) opened.frames ∙ ap (slice_get (d.frames ++ f ∷ [])) (opened.place ∙ sym long) ∙ get-last d.frames f ∙ ap (λ x. Some x) made
+
+pub returns-clause-taken : goal.returns-clause-taken
+returns-clause-taken c =
+    let d = c.args.self.now in
+    let a = c.args.assertion.now in
+    let rank = c.args.rank in
+    let opened = c.in_ok-place.ensures in
+    let p = c.in_ok-place.place in
+    let now =
+    c.in_ok-put.ensures.done.entries
+    ∙ ap (λ (es : Entries). set es p (Some (record { rank = rank; assertion = c.in_ok-assertion.assertion }))) opened.entries
+    ∙ ap (λ (x : Assertion). set (d.entries ++ None ∷ []) p (Some (record { rank = rank; assertion = x }))) c.in_ok-assertion.ensures in
+    tested_none (add_tests d.setting (now_in d) rank a) _ (sym c.in_ok-reason.ensures ∙ c.in_default.is)
+    ∙ ap (λ l. Ok (done l)) (sym (library-added d.entries rank a p opened.place) ∙ ap living (sym now))

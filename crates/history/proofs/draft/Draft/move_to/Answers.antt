@@ -1,0 +1,130 @@
+use Rattle.std.proofs.Common.{◌≡◌, ℕ, Bool, List, Some, false, true, Ok, set, refl, sym, ap, ◌∙◌}
+use Rattle.std.specs.Prelude.{nat_le, ◌==◌, ◌&&◌}
+use Rattle.std.specs.List.{list_any}
+use Rattle.std.proofs.lemmas.Bool.{eq-eqb, ne_eqb}
+use Rattle.mmsyntax.specs.declared.statement.Step.{Step}
+use Rattle.commands.specs.declared.library.Ranked.{Ranked}
+use Rattle.commands.specs.declared.reason.Reason.TheVariants as reason
+use Rattle.commands.specs.Library.{label_of}
+use Rattle.commands.specs.Edits.{done, cites, cited_above, cites_not_below, citer_below, with_rank, move_tests, unranked}
+use Rattle.history.specs.Entries.{Entries, living}
+use Rattle.history.specs.Drafts.{Drafted, now_in}
+use Rattle.history.proofs.Commands.{tested_some, tested_none, so, not_so, first-some, first-none, unknown_label, known_label, HasLabel, has_label, free_in}
+use Rattle.history.proofs.Commands.{library-changed}
+use Rattle.history.proofs.draft.Draft.move_to.Goals as goal
+
+pub returns-in_default-clause-taken : goal.returns-in_default-clause-taken
+returns-in_default-clause-taken c =
+    let d = c.args.self.now in
+    let lib = now_in d in
+    let i = c.self.inside in
+    let held : i.entries.items ≡ d.entries = ap (λ (x : Drafted). x.entries) c.self.view_is in
+    let slice : c.as_slice-entries.result.now ≡ i.entries.items = c.as_slice-entries.ensures.value in
+    let w = c.args.label.now in
+    rw c.refused.ensures (refl, unknown_label lib w _ (free_in _ d.entries _ w (slice ∙ held) c.as_slice.ensures c.in_default.ensures.none))
+
+pub returns-then-rank-eq0-clause-taken : goal.returns-then-rank-eq0-clause-taken
+returns-then-rank-eq0-clause-taken c =
+    let d = c.args.self.now in
+    let lib = now_in d in
+    let i = c.self.inside in
+    let held : i.entries.items ≡ d.entries = ap (λ (x : Drafted). x.entries) c.self.view_is in
+    let slice : c.as_slice-entries.result.now ≡ i.entries.items = c.as_slice-entries.ensures.value in
+    let w = c.args.label.now in
+    let found = c.in-Some.ensures.some in
+    let e = c.in-Some.entry.now in
+    let p = c.in-Some.place in
+    let own : HasLabel i.places d.entries w p e =
+    has_label i.places i.entries.items d.entries c.as_slice-entries.result.now c.as_slice.result.now w p e c.self.invariant.0.indexed held slice found.0 found.1 c.as_slice.ensures in
+    let steps = e.assertion.proof in
+    let rank = c.args.rank in
+    let bad = so (rank == 0) reason.BadRank (eq-eqb rank 0 c.if-rank-eq0.true) in
+    rw c.refused-then-rank-eq0.ensures (
+      refl,
+      known_label i.places d.entries w p e _ own ∙ tested_some (move_tests lib rank e) _ reason.BadRank (first-some (unranked rank) _ reason.BadRank bad),
+    )
+
+-- what the test of the cited assertions answers, over the library and the proof
+below : (slice held : Entries) (rank : ℕ) (read steps : List Step) (b c : Bool) → slice ≡ held → read ≡ steps
+    → b ≡ list_any (cites_not_below (living slice) rank) read → b ≡ c → list_any (cites_not_below (living held) rank) steps ≡ c
+below slice held rank read steps b c same own h k =
+    sym (h ∙ ap (λ l. list_any (cites_not_below (living l) rank) read) same ∙ ap (list_any (cites_not_below (living held) rank)) own) ∙ k
+
+-- what the test of the citing ones answers
+above : (slice held : Entries) (rank : ℕ) (v w : List ℕ) (b c : Bool) → slice ≡ held → v ≡ w
+    → b ≡ list_any (λ e. cites v e && nat_le e.rank rank) (living slice) → b ≡ c
+    → list_any (λ e. cites w e && nat_le e.rank rank) (living held) ≡ c
+above slice held rank v w b c same own h k =
+    sym (h ∙ ap (λ l. list_any (λ e. cites v e && nat_le e.rank rank) (living l)) same
+    ∙ ap (λ x. list_any (λ e. cites x e && nat_le e.rank rank) (living held)) own) ∙ k
+
+pub returns-then-cites_not_below-clause-taken : goal.returns-then-cites_not_below-clause-taken
+returns-then-cites_not_below-clause-taken c =
+    let d = c.args.self.now in
+    let lib = now_in d in
+    let i = c.self.inside in
+    let held : i.entries.items ≡ d.entries = ap (λ (x : Drafted). x.entries) c.self.view_is in
+    let slice : c.as_slice-entries.result.now ≡ i.entries.items = c.as_slice-entries.ensures.value in
+    let w = c.args.label.now in
+    let found = c.in-Some.ensures.some in
+    let e = c.in-Some.entry.now in
+    let p = c.in-Some.place in
+    let own : HasLabel i.places d.entries w p e =
+    has_label i.places i.entries.items d.entries c.as_slice-entries.result.now c.as_slice.result.now w p e c.self.invariant.0.indexed held slice found.0 found.1 c.as_slice.ensures in
+    let steps = e.assertion.proof in
+    let rank = c.args.rank in
+    let ranked = not_so (rank == 0) reason.BadRank (ne_eqb rank 0 c.if-rank-eq0.false) in
+    let not_below = below _ d.entries rank _ steps _ true (slice ∙ held) c.as_slice-2.ensures c.cites_not_below.ensures c.if-cites_not_below.true in
+    let first = first-none (unranked rank) _ ranked ∙ first-some (cited_above lib rank steps) _ reason.CitedNotLower (so _ reason.CitedNotLower not_below) in
+    rw c.refused-then-cites_not_below.ensures (refl, known_label i.places d.entries w p e _ own ∙ tested_some (move_tests lib rank e) _ reason.CitedNotLower first)
+
+pub returns-then-has_citer_below-clause-taken : goal.returns-then-has_citer_below-clause-taken
+returns-then-has_citer_below-clause-taken c =
+    let d = c.args.self.now in
+    let lib = now_in d in
+    let i = c.self.inside in
+    let held : i.entries.items ≡ d.entries = ap (λ (x : Drafted). x.entries) c.self.view_is in
+    let slice : c.as_slice-entries.result.now ≡ i.entries.items = c.as_slice-entries.ensures.value in
+    let w = c.args.label.now in
+    let found = c.in-Some.ensures.some in
+    let e = c.in-Some.entry.now in
+    let p = c.in-Some.place in
+    let own : HasLabel i.places d.entries w p e =
+    has_label i.places i.entries.items d.entries c.as_slice-entries.result.now c.as_slice.result.now w p e c.self.invariant.0.indexed held slice found.0 found.1 c.as_slice.ensures in
+    let steps = e.assertion.proof in
+    let rank = c.args.rank in
+    let ranked = not_so (rank == 0) reason.BadRank (ne_eqb rank 0 c.if-rank-eq0.false) in
+    let all_below = below _ d.entries rank _ steps _ false (slice ∙ held) c.as_slice-2.ensures c.cites_not_below.ensures c.if-cites_not_below.false in
+    let not_above =
+    above _ d.entries rank _ (label_of e) _ true (slice ∙ held) (c.as_slice-3.ensures ∙ sym own.labelled) c.has_citer_below.ensures c.if-has_citer_below.true in
+    let first =
+    first-none (unranked rank) _ ranked ∙ first-none (cited_above lib rank steps) _ (not_so _ reason.CitedNotLower all_below)
+    ∙ first-some (citer_below lib rank (label_of e)) _ reason.CiterNotHigher (so _ reason.CiterNotHigher not_above) in
+    rw c.refused-then-has_citer_below.ensures (refl, known_label i.places d.entries w p e _ own ∙ tested_some (move_tests lib rank e) _ reason.CiterNotHigher first)
+
+pub returns-clause-taken : goal.returns-clause-taken
+returns-clause-taken c =
+    let d = c.args.self.now in
+    let lib = now_in d in
+    let i = c.self.inside in
+    let held : i.entries.items ≡ d.entries = ap (λ (x : Drafted). x.entries) c.self.view_is in
+    let slice : c.as_slice-entries.result.now ≡ i.entries.items = c.as_slice-entries.ensures.value in
+    let w = c.args.label.now in
+    let found = c.in-Some.ensures.some in
+    let e = c.in-Some.entry.now in
+    let p = c.in-Some.place in
+    let own : HasLabel i.places d.entries w p e =
+    has_label i.places i.entries.items d.entries c.as_slice-entries.result.now c.as_slice.result.now w p e c.self.invariant.0.indexed held slice found.0 found.1 c.as_slice.ensures in
+    let steps = e.assertion.proof in
+    let rank = c.args.rank in
+    let ranked = not_so (rank == 0) reason.BadRank (ne_eqb rank 0 c.if-rank-eq0.false) in
+    let all_below = below _ d.entries rank _ steps _ false (slice ∙ held) c.as_slice-2.ensures c.cites_not_below.ensures c.if-cites_not_below.false in
+    let all_above =
+    above _ d.entries rank _ (label_of e) _ false (slice ∙ held) (c.as_slice-3.ensures ∙ sym own.labelled) c.has_citer_below.ensures c.if-has_citer_below.false in
+    let first =
+    first-none (unranked rank) _ ranked ∙ first-none (cited_above lib rank steps) _ (not_so _ reason.CitedNotLower all_below)
+    ∙ first-none (citer_below lib rank (label_of e)) _ (not_so _ reason.CiterNotHigher all_above) in
+    let moved : record { rank = rank; assertion = c.in_ok-moved.moved.assertion } ≡ with_rank rank e = ap (with_rank rank) c.in_ok-moved.ensures in
+    let now = c.in_ok-replace.ensures.done.entries ∙ ap (λ (x : Ranked). set d.entries p (Some x)) moved in
+    known_label i.places d.entries w p e _ own ∙ tested_none (move_tests lib rank e) _ first
+    ∙ ap (λ l. Ok (done l)) (sym (library-changed i.places d.entries w p e (with_rank rank) own) ∙ ap living (sym now))

@@ -1,0 +1,5 @@
+use Rattle.history.specs.Listing.{AreCountedBefore}
+use Rattle.history.proofs.listing.count_by_place.Given as goal
+
+abbrev pub invariant-loop-place : goal.invariant-loop-place
+invariant-loop-place l = AreCountedBefore l.entries l.place l.counts.items l.stamps.items

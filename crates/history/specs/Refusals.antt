@@ -1,0 +1,16 @@
+-- The reason for which a command is refused: that of the first test that has one.
+use Rattle.std.specs.Prelude.{ℕ, [], ◌∷◌, List, Option, Some, None}
+use Rattle.mmsyntax.specs.declared.statement.Assertion.{Assertion}
+use Rattle.commands.specs.declared.library.Ranked.{Ranked}
+use Rattle.commands.specs.declared.reason.Reason.{Reason}
+use Rattle.commands.specs.Library.{Setting}
+use Rattle.commands.specs.Edits.{Tests, uncited, cited_above, unproved}
+
+abbrev pub first_reason : Tests → Option Reason
+first_reason [] = None
+first_reason (None ∷ ts) = first_reason ts
+first_reason (Some r ∷ ts) = Some r
+
+-- the tests of the proof of a theorem of a rank, in order
+abbrev pub proof_tests : Setting → List Ranked → ℕ → Assertion → Tests
+proof_tests s lib rank a = uncited lib a.proof ∷ cited_above lib rank a.proof ∷ unproved s lib rank a ∷ []

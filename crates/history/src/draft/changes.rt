@@ -1,0 +1,74 @@
+//! The changes of a library that can be taken back: what is put in a place, noted with what stood there.
+
+ghost use Rattle.std.specs.Prelude.{◌≡◌, ◌∷◌, ◌++◌, [], false, length, set, Some, None, slice_get, IfOk, OnOk};
+ghost use Rattle.mmstatement.specs.Frames.{frame};
+ghost use Rattle.commands.specs.declared.library.Ranked.{Ranked};
+ghost use Rattle.commands.specs.Library.{label_of};
+ghost use Rattle.commands.specs.Edits.{has};
+ghost use Rattle.history.specs.Entries.{StandsIn};
+ghost use Rattle.history.specs.Drafts.{now_in, Succeeds, Exchanges, KeepsStart};
+
+use super::Draft;
+use crate::notes::Note;
+use commands::Ranked;
+use mmstatement::Frame;
+use std::alloc::{AllocError, Global};
+use std::mem;
+
+impl Draft {
+    /// Puts an assertion in the place of another that has the same label and the same frame.
+    pub(super) fn replace(&mut self, place: usize, new: Ranked) -> Result<(), AllocError>
+        requires { Succeeds self.old.setting.prelude self.old.entries place new }
+        ensures done { OnOk result (Exchanges self.old place (Some new) self.new) }
+        ensures kept { KeepsStart self.old self.new }
+    {
+        self.notes.reserve(1)?;
+        let former = mem::replace(&mut self.entries[place], Some(new));
+        self.notes.push_reserved(Note { place, former });
+        Ok(())
+    }
+
+    /// Takes the assertion from a place that has one.
+    pub(super) fn remove(&mut self, place: usize) -> Result<(), AllocError>
+        requires { (e : Ranked) × StandsIn self.old.entries place e }
+        ensures done { OnOk result (Exchanges self.old place None self.new) }
+        ensures kept { KeepsStart self.old self.new }
+    {
+        self.notes.reserve(1)?;
+        let former = self.entries[place].take();
+        self.notes.push_reserved(Note { place, former });
+        self.count -= 1;
+        Ok(())
+    }
+
+    /// Puts an assertion, whose label is free, in a place that has its frame. All memory that it takes is taken before anything
+    /// changes.
+    pub(super) fn put(&mut self, alloc: Global, place: usize, new: Ranked) -> Result<(), AllocError>
+        requires free { has (now_in self.old) (label_of new) ≡ false }
+        requires framed { slice_get self.old.frames place ≡ Some (frame self.old.setting.prelude new.assertion) }
+        ensures done { OnOk result (Exchanges self.old place (Some new) self.new) }
+        ensures kept { KeepsStart self.old self.new }
+    {
+        let key = Vec::from_slice(alloc, new.assertion.label.as_slice())?;
+        self.notes.reserve(1)?;
+        self.places.insert(key, place)?;
+        let former = mem::replace(&mut self.entries[place], Some(new));
+        self.count += usize::from(former.is_none());
+        self.notes.push_reserved(Note { place, former });
+        Ok(())
+    }
+
+    /// One more place, empty, for an assertion of this frame. The library stays.
+    pub(super) fn open_place(&mut self, frame: Frame) -> Result<usize, AllocError>
+        ensures place { IfOk result (λ p. p ≡ length self.old.entries) }
+        ensures entries { OnOk result (self.new.entries ≡ self.old.entries ++ None ∷ []) }
+        ensures frames { OnOk result (self.new.frames ≡ self.old.frames ++ frame ∷ []) }
+        ensures kept { KeepsStart self.old self.new }
+    {
+        self.entries.reserve(1)?;
+        self.frames.reserve(1)?;
+        self.frames.push_reserved(frame);
+        self.entries.push_reserved(None);
+        Ok(self.entries.len() - 1)
+    }
+}

@@ -1,0 +1,308 @@
+//! Commands, one by one: each is done, or refused by the first test that fails.
+
+ghost use Rattle.std.specs.Prelude.{◌≡◌, ◌<◌, ℕ, length, IfOk, OnOk};
+ghost use Rattle.mmsyntax.specs.declared.statement.Kind.TheVariants.{Theorem};
+ghost use Rattle.commands.specs.declared.command.Command.TheVariants as command;
+ghost use Rattle.commands.specs.Edits.{add_tests};
+ghost use Rattle.history.specs.Drafts.{now_in, citing, changed_at, changed_all, KeepsStart, Takes, TakesAll};
+ghost use Rattle.history.specs.Refusals.{first_reason, proof_tests};
+ghost use Rattle.history.specs.declared.editor.ApplyError.TheVariants as error;
+
+use super::Draft;
+use crate::citing::{recited, relabelled};
+use crate::editor::ApplyError;
+use crate::listing::list_lines;
+use crate::places::{find_entry, find_label};
+use crate::testing::{
+    cites, cites_not_below, cites_unknown, count_citers, has_citer_below, proof_fault,
+};
+use commands::{Command, Ranked, Reason, Refused, Reply};
+use mmstatement::{Assertion, Kind, Label, Sequence, Step, copy_steps, frame_of, is_lawful_label};
+use std::alloc::{AllocError, Global};
+
+impl Draft {
+    /// The reason for which the proof of a theorem of this rank is refused.
+    fn refuse_proof(
+        &self,
+        alloc: Global,
+        rank: u32,
+        assertion: &Assertion,
+    ) -> Result<Option<Reason>, AllocError>
+        requires { assertion.now.kind ≡ Theorem }
+        ensures { IfOk result (λ found. found ≡ first_reason (proof_tests self.now.setting (now_in self.now) rank assertion.now)) }
+    {
+        let entries = self.entries.as_slice();
+        let steps = assertion.proof.as_slice();
+        if cites_unknown(entries, &self.places, steps) {
+            return Ok(Some(Reason::CitesUnknown));
+        }
+        if cites_not_below(entries, &self.places, rank, steps) {
+            return Ok(Some(Reason::CitedNotLower));
+        }
+        let frames = self.frames.as_slice();
+        let fault = proof_fault(
+            alloc,
+            &self.prelude,
+            entries,
+            frames,
+            &self.places,
+            rank,
+            assertion,
+        )?;
+        match fault {
+            Some(fault) => Ok(Some(Reason::ProofFails(fault))),
+            None => Ok(None),
+        }
+    }
+
+    /// The reason for which adding an assertion with this rank is refused.
+    fn refuse_add(
+        &self,
+        alloc: Global,
+        rank: u32,
+        assertion: &Assertion,
+    ) -> Result<Option<Reason>, AllocError>
+        ensures { IfOk result (λ found. found ≡ first_reason (add_tests self.now.setting (now_in self.now) rank assertion.now)) }
+    {
+        let label = assertion.label.as_slice();
+        if rank == 0 {
+            return Ok(Some(Reason::BadRank));
+        }
+        if !is_lawful_label(&self.prelude, label) {
+            return Ok(Some(Reason::BadLabel));
+        }
+        if find_label(self.entries.as_slice(), &self.places, label).is_some() {
+            return Ok(Some(Reason::LabelTaken));
+        }
+        if let Kind::Axiom = assertion.kind {
+            return Ok(Some(Reason::AxiomNotAllowed));
+        }
+        if let Some(reason) = self.refuse_proof(alloc, rank, assertion)? {
+            return Ok(Some(reason));
+        }
+        if self.count >= self.slots {
+            return Ok(Some(Reason::LibraryFull));
+        }
+        Ok(None)
+    }
+
+    fn add(
+        &mut self,
+        alloc: Global,
+        index: usize,
+        rank: u32,
+        assertion: &Assertion,
+    ) -> Result<Reply, ApplyError>
+        ensures taken { Takes index self.old (command.Add rank assertion.now) result self.new }
+        ensures kept { KeepsStart self.old self.new }
+    {
+        if let Some(reason) = self.refuse_add(alloc, rank, assertion)? {
+            return Err(refused(index, reason));
+        }
+        let frame = frame_of(alloc, &self.prelude, assertion)?;
+        let assertion = assertion.copy(alloc)?;
+        let place = self.open_place(frame)?;
+        self.put(alloc, place, Ranked { rank, assertion })?;
+        Ok(Reply::Done)
+    }
+
+    fn reprove(
+        &mut self,
+        alloc: Global,
+        index: usize,
+        label: &Label,
+        steps: &Sequence<Step>,
+    ) -> Result<Reply, ApplyError>
+        ensures taken { Takes index self.old (command.Reprove label.now steps.now) result self.new }
+        ensures kept { KeepsStart self.old self.new }
+    {
+        let Some((place, entry)) = find_entry(
+            self.entries.as_slice(),
+            &self.places,
+            label.as_slice(),
+        ) else {
+            return Err(refused(index, Reason::UnknownLabel));
+        };
+        if let Kind::Axiom = entry.assertion.kind {
+            return Err(refused(index, Reason::NotATheorem));
+        }
+        let mut new = entry.copy(alloc)?;
+        new.assertion.proof = copy_steps(alloc, steps.as_slice())?;
+        if let Some(reason) = self.refuse_proof(alloc, new.rank, &new.assertion)? {
+            return Err(refused(index, reason));
+        }
+        self.replace(place, new)?;
+        Ok(Reply::Done)
+    }
+
+    /// Replaces a label in the proof of the assertion at a place, if it has one.
+    fn recite(
+        &mut self,
+        alloc: Global,
+        place: usize,
+        old: &Label,
+        new: &Label,
+    ) -> Result<(), AllocError>
+        requires { place < length self.old.entries }
+        ensures done { OnOk result (self.new.entries ≡ changed_at place (citing old.now new.now) self.old.entries) }
+        ensures kept { KeepsStart self.old self.new }
+    {
+        let Some(entry) = &self.entries[place] else {
+            return Ok(());
+        };
+        if !cites(entry, old.as_slice()) {
+            return Ok(());
+        }
+        let recited = recited(alloc, entry, old.as_slice(), new)?;
+        self.replace(place, recited)?;
+        Ok(())
+    }
+
+    /// Replaces a label in every proof. After an error it is replaced in some of them.
+    fn recite_all(&mut self, alloc: Global, old: &Label, new: &Label) -> Result<(), AllocError>
+        ensures done { OnOk result (self.new.entries ≡ changed_all (citing old.now new.now) self.old.entries) }
+        ensures kept { KeepsStart self.old self.new }
+    {
+        for place in 0..self.entries.len() {
+            self.recite(alloc, place, old, new)?;
+        }
+        Ok(())
+    }
+
+    fn rename(
+        &mut self,
+        alloc: Global,
+        index: usize,
+        old: &Label,
+        new: &Label,
+    ) -> Result<Reply, ApplyError>
+        ensures taken { Takes index self.old (command.Rename old.now new.now) result self.new }
+        ensures kept { KeepsStart self.old self.new }
+    {
+        let Some((place, entry)) = find_entry(self.entries.as_slice(), &self.places, old.as_slice())
+        else {
+            return Err(refused(index, Reason::UnknownLabel));
+        };
+        if !is_lawful_label(&self.prelude, new.as_slice()) {
+            return Err(refused(index, Reason::BadLabel));
+        }
+        if find_label(self.entries.as_slice(), &self.places, new.as_slice()).is_some() {
+            return Err(refused(index, Reason::LabelTaken));
+        }
+        let renamed = relabelled(alloc, entry, new)?;
+        self.put(alloc, place, renamed)?;
+        self.recite_all(alloc, old, new)?;
+        Ok(Reply::Done)
+    }
+
+    fn move_to(
+        &mut self,
+        alloc: Global,
+        index: usize,
+        label: &Label,
+        rank: u32,
+    ) -> Result<Reply, ApplyError>
+        ensures taken { Takes index self.old (command.Move label.now rank) result self.new }
+        ensures kept { KeepsStart self.old self.new }
+    {
+        let entries = self.entries.as_slice();
+        let Some((place, entry)) = find_entry(entries, &self.places, label.as_slice()) else {
+            return Err(refused(index, Reason::UnknownLabel));
+        };
+        if rank == 0 {
+            return Err(refused(index, Reason::BadRank));
+        }
+        if cites_not_below(
+            entries,
+            &self.places,
+            rank,
+            entry.assertion.proof.as_slice(),
+        ) {
+            return Err(refused(index, Reason::CitedNotLower));
+        }
+        if has_citer_below(entries, rank, label.as_slice()) {
+            return Err(refused(index, Reason::CiterNotHigher));
+        }
+        let mut moved = entry.copy(alloc)?;
+        moved.rank = rank;
+        self.replace(place, moved)?;
+        Ok(Reply::Done)
+    }
+
+    fn delete(&mut self, index: usize, label: &Label) -> Result<Reply, ApplyError>
+        ensures taken { Takes index self.old (command.Delete label.now) result self.new }
+        ensures kept { KeepsStart self.old self.new }
+    {
+        let entries = self.entries.as_slice();
+        let Some(place) = find_label(entries, &self.places, label.as_slice()) else {
+            return Err(refused(index, Reason::UnknownLabel));
+        };
+        let citers = count_citers(entries, label.as_slice());
+        if citers > 0 {
+            return Err(refused(index, Reason::StillCited(citers as u64)));
+        }
+        self.remove(place)?;
+        Ok(Reply::Done)
+    }
+
+    fn show(&self, alloc: Global, index: usize, label: &Label) -> Result<Reply, ApplyError>
+        ensures { Takes index self.now (command.Show label.now) result self.now }
+    {
+        let entries = self.entries.as_slice();
+        let Some((_, entry)) = find_entry(entries, &self.places, label.as_slice()) else {
+            return Err(refused(index, Reason::UnknownLabel));
+        };
+        let shown = entry.copy(alloc)?;
+        let citers = count_citers(entries, label.as_slice());
+        Ok(Reply::Shown {
+            citers: citers as u64,
+            shown,
+        })
+    }
+
+    fn list(&self, alloc: Global) -> Result<Reply, ApplyError>
+        ensures { (index : ℕ) → Takes index self.now command.List result self.now }
+    {
+        let lines = list_lines(alloc, self.entries.as_slice(), &self.places)?;
+        Ok(Reply::Listed { lines })
+    }
+
+    fn take(&mut self, alloc: Global, index: usize, command: &Command) -> Result<Reply, ApplyError>
+        ensures taken { Takes index self.old command.now result self.new }
+        ensures kept { KeepsStart self.old self.new }
+    {
+        match command {
+            Command::Add { rank, assertion } => self.add(alloc, index, *rank, assertion),
+            Command::Reprove { label, steps } => self.reprove(alloc, index, label, steps),
+            Command::Rename { old, new } => self.rename(alloc, index, old, new),
+            Command::Move { label, rank } => self.move_to(alloc, index, label, *rank),
+            Command::Delete { label } => self.delete(index, label),
+            Command::Show { label } => self.show(alloc, index, label),
+            Command::List => self.list(alloc),
+        }
+    }
+
+    /// All commands in order, up to the first that is refused.
+    pub fn take_all(
+        &mut self,
+        alloc: Global,
+        commands: &[Command],
+    ) -> Result<Sequence<Reply>, ApplyError>
+        ensures taken { TakesAll self.old commands.now result self.new }
+        ensures kept { KeepsStart self.old self.new }
+    {
+        let mut replies = Vec::new(alloc);
+        for (i, command) in commands.iter().enumerate() {
+            let reply = self.take(alloc, i + 1, command)?;
+            replies.push(reply).map_err(AllocError::from)?;
+        }
+        Ok(Sequence::from_vec(replies))
+    }
+}
+
+/// The refusal of a command, by its number in the transaction, counted from 1.
+fn refused(index: usize, reason: Reason) -> ApplyError
+    ensures { result ≡ error.Refused (record { index = index; reason = reason }) }
+{
+    ApplyError::Refused(Refused { index, reason })
+}

@@ -1,0 +1,13 @@
+//! What the program does, on texts instead of files: a job from bytes to bytes.
+#![tactic(auto)]
+
+mod edits;
+mod job;
+mod outcome;
+mod performing;
+mod report;
+#[cfg(test)]
+mod tests;
+
+pub use job::{Fault, Job, Printed};
+pub use performing::perform;

@@ -1,0 +1,191 @@
+//! A job from bytes to bytes.
+
+ghost use Rattle.std.specs.Prelude.{◌≡◌, ◌≢◌, ◌<◌, ◌+◌, ◌++◌, ◌∷◌, [], ℕ, None, All, IfOk, OnOk, IfErr, map, length, codes};
+ghost use Rattle.std.specs.Fmt.{decimal};
+ghost use Rattle.mmtext.specs.declared.fault.FaultKind.TheVariants.{NoMemory as OutOfMemory};
+ghost use Rattle.mmtext.specs.declared.fault.TextFault.{TextFault as FaultOfText};
+ghost use Rattle.proofcheck.specs.Databases.{AllCheck, IsFirstFault as IsFirstFaultOfProofs};
+ghost use Rattle.jobs.specs.declared.job.Fault.{Fault as FaultOfJob};
+ghost use Rattle.jobs.specs.declared.job.Fault.TheVariants.{NoMemory};
+ghost use Rattle.jobs.specs.Jobs.{AreScripts, IsChecked, PrintsRun, IsCheck, IsRun, DoneAsAsked, IsLabelAt};
+ghost use Rattle.jobs.specs.Jobs.{IsFirstFault, IsTextFaultOf, IsScriptFault, IsProofFault, IsDatabaseFault};
+ghost use Rattle.jobs.specs.Jobs.{IsRunFault, IsFaultOf, IsRefusedWith, RefusesWith, IsProofFaultOf, GivesOrLacksMemory};
+ghost use Rattle.mmsyntax.specs.Tables.{Contents};
+ghost use Rattle.commands.specs.Fitting.{CommandFits};
+
+use crate::edits::edit_all;
+use crate::job::{Fault, Job, Printed};
+use crate::report::report;
+use commands::{Script, read_script};
+use export::write_library;
+use mmstatement::{Database, FaultKind, Label, Prelude, TextFault, read_database};
+use proofcheck::{ProofFault, ProofFaultKind, check_all};
+use std::alloc::{AllocError, Global};
+use std::hash::RandomState;
+use std::thread::Threads;
+
+/// The fault of a text, or want of memory.
+fn text_fault(file: usize, fault: TextFault) -> Fault
+    ensures { IsTextFaultOf file fault result }
+{
+    if fault.kind == FaultKind::NoMemory {
+        Fault::NoMemory
+    } else {
+        Fault::Text { file, fault }
+    }
+}
+
+/// Reads the scripts in order. The first fault is that of the first text that has one.
+fn read_scripts(alloc: Global, prelude: &Prelude, texts: &[Vec<u8>]) -> Result<Vec<Script>, Fault>
+    ensures ok { IfOk result (λ v. AreScripts prelude.now (map (λ t. t.items) texts.now) v.items) }
+    ensures fit { IfOk result (λ v. All (All (All (CommandFits prelude.now))) v.items) }
+    ensures err { IfErr result (IsScriptFault prelude.now (map (λ t. t.items) texts.now)) }
+    ensures refused { (k : ℕ) (f : FaultOfText) → IsFirstFault prelude.now (map (λ t. t.items) texts.now) k f → IsRefusedWith (k + 1) f result }
+{
+    let mut scripts = Vec::new(alloc);
+    for (i, text) in texts.iter().enumerate() {
+        match read_script(alloc, prelude, text.as_slice()) {
+            Ok(script) => scripts.push(script)?,
+            Err(fault) => return Err(text_fault(i + 1, fault)),
+        }
+    }
+    Ok(scripts)
+}
+
+/// The label of the assertion at a place of a database.
+fn label_at(alloc: Global, db: &Database, place: usize) -> Result<Label, AllocError>
+    requires { place < length db.now.assertions }
+    ensures { IfOk result (IsLabelAt db.now place) }
+{
+    db.assertions()[place].label.copy(alloc)
+}
+
+/// The fault of a proof, of the assertion with a number from 1, or want of memory.
+fn proof_fault(alloc: Global, db: &Database, number: usize, fault: ProofFault) -> Fault
+    requires { fault.kind ≢ ProofFaultKind.NoMemory → IsFirstFaultOfProofs db.now number fault }
+    ensures { IsProofFaultOf db.now number fault result }
+{
+    if fault.kind == ProofFaultKind::NoMemory {
+        return Fault::NoMemory;
+    }
+    match label_at(alloc, db, number - 1) {
+        Ok(label) => Fault::Proof { label, fault },
+        Err(_) => Fault::NoMemory,
+    }
+}
+
+/// Checks the proofs of a database, by many threads.
+fn check_proofs(rt: &(impl Threads + Sync), alloc: Global, db: &Database) -> Result<(), Fault>
+    ensures yes { OnOk result (AllCheck db.now) }
+    ensures only { AllCheck db.now → IfErr result (λ f. f ≡ NoMemory) }
+    ensures fault { IfErr result (λ f. f ≢ NoMemory → IsProofFault db.now f) }
+    ensures refused { (f : FaultOfJob) → IsProofFault db.now f → RefusesWith f result }
+{
+    match check_all(rt, alloc, db) {
+        Ok(()) => Ok(()),
+        Err((number, fault)) => Err(proof_fault(alloc, db, number, fault)),
+    }
+}
+
+/// Reads a database and checks its proofs.
+fn read_and_check(
+    rt: &(impl Threads + Sync),
+    alloc: Global,
+    keys: RandomState,
+    text: &[u8],
+) -> Result<Database, Fault>
+    ensures done { IfOk result (λ db. IsChecked text.now db) }
+    ensures only { (contents : Contents) → IsChecked text.now contents → GivesOrLacksMemory result contents }
+    ensures fault { IfErr result (λ f. f ≢ NoMemory → IsDatabaseFault text.now f) }
+    ensures refused { (f : FaultOfJob) → IsDatabaseFault text.now f → RefusesWith f result }
+{
+    let db = match read_database(alloc, keys, text) {
+        Ok(db) => db,
+        Err(fault) => return Err(text_fault(0, fault)),
+    };
+    check_proofs(rt, alloc, &db)?;
+    Ok(db)
+}
+
+/// What the run of scripts over a database prints.
+fn print_run(
+    alloc: Global,
+    keys: RandomState,
+    db: &Database,
+    scripts: &[Script],
+) -> Result<Vec<u8>, AllocError>
+    requires checks { AllCheck db.now }
+    requires fit { All (All (All (CommandFits db.now.prelude))) scripts.now }
+    ensures { IfOk result (λ v. PrintsRun db.now scripts.now v.items) }
+{
+    let (rows, library) = edit_all(alloc, keys, db, scripts)?;
+    let mut out = report(alloc, db.prelude(), rows.as_slice())?;
+    out.extend_from_slice(b"library\n")?;
+    let text = write_library(alloc, &library)?;
+    out.extend_from_slice(text.as_slice())?;
+    Ok(out)
+}
+
+/// `ok`, and the number of assertions.
+fn print_count(alloc: Global, count: usize) -> Result<Vec<u8>, AllocError>
+    ensures { IfOk result (λ out. out.items ≡ codes "ok " ++ (decimal count ++ 10 ∷ [])) }
+{
+    let line = format!(in alloc; "ok {count}\n")?;
+    Ok(line.into_bytes())
+}
+
+/// Checks the proofs of a database, as a text, and gives what is printed.
+fn check(
+    rt: &(impl Threads + Sync),
+    alloc: Global,
+    keys: RandomState,
+    db: &[u8],
+) -> Result<Vec<u8>, Fault>
+    ensures done { IfOk result (λ out. IsCheck db.now out.items) }
+    ensures fault { IfErr result (λ f. f ≢ NoMemory → IsDatabaseFault db.now f) }
+    ensures refused { (f : FaultOfJob) → IsDatabaseFault db.now f → RefusesWith f result }
+{
+    let db = read_and_check(rt, alloc, keys, db)?;
+    Ok(print_count(alloc, db.assertions().len())?)
+}
+
+/// Runs scripts over a database, as texts, and gives what is printed.
+fn run(
+    rt: &(impl Threads + Sync),
+    alloc: Global,
+    keys: RandomState,
+    db: &[u8],
+    scripts: &[Vec<u8>],
+) -> Result<Vec<u8>, Fault>
+    ensures done { IfOk result (λ out. IsRun db.now (map (λ t. t.items) scripts.now) out.items) }
+    ensures fault { IfErr result (λ f. f ≢ NoMemory → IsRunFault db.now (map (λ t. t.items) scripts.now) f) }
+    ensures refused { (f : FaultOfJob) → IsRunFault db.now (map (λ t. t.items) scripts.now) f → RefusesWith f result }
+{
+    let db = read_and_check(rt, alloc, keys, db)?;
+    let scripts = read_scripts(alloc, db.prelude(), scripts)?;
+    Ok(print_run(alloc, keys, &db, scripts.as_slice())?)
+}
+
+/// Does a job on texts, without files.
+///
+/// The faults are found in this order: the database's text, its proofs, then (of a run) each script's text. A job that has one prints
+/// nothing.
+pub fn perform(
+    rt: &(impl Threads + Sync),
+    alloc: Global,
+    keys: RandomState,
+    job: &Job,
+) -> Result<Printed, Fault>
+    // The texts are read as they are spelled, and what is printed ends with the exported text of the library after all transactions.
+    ensures done { IfOk result (λ p. DoneAsAsked job.now p) }
+    // The fault is the first that the job has, or memory ran out.
+    ensures fault { IfErr result (λ f. f ≢ NoMemory → IsFaultOf job.now f) }
+    // The first fault that the job has is answered, unless memory runs out.
+    ensures refused { (f : FaultOfJob) → IsFaultOf job.now f → RefusesWith f result }
+{
+    let out = match job {
+        Job::Check { db } => check(rt, alloc, keys, db.as_slice())?,
+        Job::Run { db, scripts } => run(rt, alloc, keys, db.as_slice(), scripts.as_slice())?,
+    };
+    Ok(Printed { out })
+}

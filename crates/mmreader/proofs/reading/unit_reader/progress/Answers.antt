@@ -1,0 +1,12 @@
+-- What is left to show of `progress`.
+use Rattle.std.proofs.Common.{[], sym, ◌∙◌}
+use Rattle.mmsyntax.specs.Tables.{Tables}
+use Rattle.mmreader.specs.Views.{known_of, seen_place}
+use Rattle.mmreader.proofs.UnitRows.{behind_first, some_first, not_behind}
+use Rattle.mmreader.proofs.reading.unit_reader.progress.Goals as goal
+
+pub unreachable-requires : goal.unreachable-requires
+unreachable-requires c =
+    let t : Tables = record { constants = []; variables = []; floats = [] } in
+    some_first (known_of t c.args.units) (seen_place c.args.place) (sym c.if-is_behind_unit.true ∙ c.is_behind_unit.ensures t)
+    (sym c.into_first.ensures ∙ c.in-None.is)

@@ -1,0 +1,21 @@
+-- What the reader of a single assertion gives for a token.
+use Rattle.std.specs.Prelude.{◌≡◌, Option, Some, None, Result, Ok, Err}
+use Rattle.mmtext.specs.declared.fault.Stop.{Stop}
+use Rattle.mmtext.specs.declared.fault.TextFault.{TextFault}
+use Rattle.mmtext.specs.Views.{Fails}
+use Rattle.mmsyntax.specs.Tables.{Tables}
+use Rattle.mmsyntax.specs.Faults.{Position, unit_at}
+use Rattle.mmreader.specs.declared.reading.unit_reader.UnitProgress.{UnitProgress}
+use Rattle.mmreader.specs.declared.reading.unit_reader.UnitProgress.TheVariants.{Within, Whole}
+use Rattle.mmreader.specs.UnitReadings.{position_of}
+
+-- within the assertion, or with the whole assertion behind it
+abbrev pub IsProgress : Tables → UnitProgress → Position → Type 0
+IsProgress t (Within r) p = (p ≡ position_of t r) × (unit_at p.known p.place ≡ None)
+IsProgress t (Whole a) p = unit_at p.known p.place ≡ Some a
+
+-- what a function returned is where a row leads, or why it doesn't lead on
+abbrev pub Progresses : Tables → Result UnitProgress Stop → Result Position TextFault → Type 0
+Progresses t (Ok u) (Ok p) = IsProgress t u p
+Progresses t (Ok u) (Err f) = ⊥
+Progresses t (Err e) read = Fails e read

@@ -1,0 +1,95 @@
+//! Reading a single assertion over a prelude token by token, for languages that have assertions in them.
+
+ghost use Rattle.std.specs.Prelude.{◌≡◌};
+ghost use Rattle.mmsyntax.specs.Tables.{Tables};
+ghost use Rattle.mmsyntax.specs.Faults.{row};
+ghost use Rattle.mmtext.specs.Views.{seen};
+ghost use Rattle.mmreader.specs.Views.{seen_place, seen_position, IsUnitPlace};
+ghost use Rattle.mmreader.specs.UnitReadings.{nothing_read, position_of, GoesOn};
+ghost use Rattle.mmreader.specs.UnitViews.{IsProgress, Progresses};
+
+use super::unit_rows::next_unit_place;
+use super::units::is_behind_unit;
+use crate::known::Units;
+use crate::place::{Place, Scope, UnitPlace};
+use mmsyntax::{Assertion, Prelude};
+use mmtext::{Stop, Token, mark_word};
+use std::alloc::Global;
+use std::hash::RandomState;
+use std::marker::Model;
+
+/// How far an assertion was read, alone or in its block. Contracts see what is known of it, and the place.
+#[derive(Drop)]
+pub struct UnitReader<'a> {
+    units: Units,
+    place: UnitPlace<'a>,
+}
+
+impl<'a> Model for UnitReader<'a> {
+    ghost use Rattle.mmreader.specs.Views.{seen_unit_place};
+    ghost use Rattle.mmreader.specs.UnitReadings.{UnitReading, GoesOn};
+
+    ghost Value = { UnitReading };
+
+    ghost view = { λ r. record { units = r.units; place = seen_unit_place r.place } };
+
+    ghost invariant = { λ r. GoesOn (record { units = r.units; place = seen_unit_place r.place }) };
+}
+
+/// What was read behind a token of an assertion.
+#[derive(Drop)]
+pub enum UnitProgress<'a> {
+    /// The assertion goes on.
+    Within(UnitReader<'a>),
+    /// The token was its last.
+    Whole(Assertion),
+}
+
+/// What was read at a place.
+fn progress<'a>(units: Units, place: Place<'a>) -> UnitProgress<'a>
+    requires unit { IsUnitPlace place }
+    requires goes_on { GoesOn (record { units = units; place = seen_place place }) }
+    ensures { (t : Tables) → IsProgress t result (seen_position t units place.entry) }
+{
+    if is_behind_unit(&units, &place) {
+        return match units.into_first() {
+            Some(assertion) => UnitProgress::Whole(assertion),
+            None => unreachable!(),
+        };
+    }
+    match place {
+        Place::Prelude(_) => unreachable!(),
+        Place::Unit(place) => UnitProgress::Within(UnitReader { units, place }),
+    }
+}
+
+impl<'a> UnitReader<'a> {
+    /// Before the first token. `keys` make the hashes of the maps that reading needs.
+    pub fn new(alloc: Global, keys: RandomState) -> Self
+        ensures { result ≡ nothing_read }
+    {
+        UnitReader {
+            units: Units::new(alloc, keys, true),
+            place: UnitPlace::AtStart(Scope::Outside),
+        }
+    }
+
+    /// What was read behind one more token, which stands outside of comments. All tokens of an assertion are read over one prelude.
+    ///
+    /// # Errors
+    ///
+    /// The fault that [`read_assertion`](super::read_assertion) has at the token, or want of memory.
+    pub fn read(
+        self,
+        alloc: Global,
+        prelude: &Prelude,
+        token: Token<'a>,
+    ) -> Result<UnitProgress<'a>, Stop>
+        ensures { Progresses prelude.now result (row (position_of prelude.now self.entry) (seen token.entry)) }
+    {
+        let UnitReader { mut units, place } = self;
+        let mark = mark_word(token.text);
+        let place = next_unit_place(alloc, prelude.symbols(), &mut units, place, token, mark)?;
+        Ok(progress(units, place))
+    }
+}
