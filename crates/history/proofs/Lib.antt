@@ -11,3 +11,4 @@ pub mod Citations
 pub mod Commands
 pub mod Taking
 pub mod Fronts
+pub mod Legal

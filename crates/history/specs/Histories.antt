@@ -7,6 +7,8 @@ use Rattle.mmsyntax.specs.Tables.{Tables}
 use Rattle.commands.specs.Library.{Setting}
 use Rattle.commands.specs.Fitting.{CommandFits}
 use Rattle.commands.specs.Transactions.{apply, library_of}
+use Rattle.history.specs.declared.history.Entry.{Entry as CodeEntry}
+use Rattle.history.specs.declared.history.Entry.TheVariants.{Void, Done}
 
 -- an entry: its number was drawn and nobody knows yet what becomes of it; or it holds no commands; or it is done, with its commands and
 -- their replies. The n-th entry of a history has the number n
@@ -49,3 +51,9 @@ abbrev pub IsLegal : Setting → List Ranked → List Entry → Type 0
 IsLegal s lib0 h =
     (i : ℕ) (cs : List Command) (replies : List Reply) → slice_get h i ≡ Some (done_entry cs replies)
     → (next : List Ranked) × (apply s (after s lib0 h i) cs ≡ Ok (record { library = next; replies = replies }))
+
+-- ---- the entries that the program keeps, none of which is open
+
+abbrev pub told : CodeEntry → Entry
+told Void = void_entry
+told (Done commands replies) = done_entry commands replies

@@ -8,3 +8,4 @@ pub mod Drafts
 pub mod Refusals
 pub mod Openings
 pub mod Laws
+pub mod Replays

@@ -22,7 +22,7 @@ use Rattle.mmsyntax.specs.Rows.{symbol_named, unless_full, symbol_of, first_faul
 use Rattle.mmsyntax.specs.Blocks.{Hypothesis, Block, with_pairs, typed_named, unless_repeated, distinct_of, with_distinct}
 use Rattle.mmsyntax.specs.Steps.{step_tests, float_named, hypothesis_named, step_named, unless_faulty, step_of}
 use Rattle.mmsyntax.specs.Grammar.{ReadsAfter, Restricts, StepsAfter}
-use Rattle.mmsyntax.specs.Layout.{no_float}
+use Rattle.mmsyntax.specs.Layout.{no_float, float_at}
 use Rattle.mmsyntax.specs.Assertions.{IsSymbolOf, BeginsWithConstant, IsExpression, IsPairOf, AreAscending, IsNameable, is_citable_label}
 use Rattle.mmsyntax.proofs.Names.{place_of-at, variable_from_named}
 use Rattle.mmsyntax.proofs.Distinct.{or_false, not_false, all_push, all_append}
@@ -52,9 +52,11 @@ typed_within : (t : Tables) (w : Word) (i j : ℕ) → meaning t w ≡ Some (Var
 unfolding meaning
 typed_within t w i j h = (place_of-at (λ f. eqb f.variable i) t.floats j no_float (variable_from_named t.floats _ _ _ i (Some j) h).2).0
 
-label_within : (t : Tables) (w : Word) (j : ℕ) → meaning t w ≡ Some (Label j) → j < length t.floats
+-- a word that names a $f is its label
+pub label_at : (t : Tables) (w : Word) (j : ℕ) → meaning t w ≡ Some (Label j)
+    → (j < length t.floats) × (bytes_eq w (float_at t.floats j).label ≡ true)
 unfolding meaning
-label_within t w j h = (place_of-at (λ f. bytes_eq w f.label) t.floats j no_float (label_place t.floats _ _ _ j h)).0
+label_at t w j h = place_of-at (λ f. bytes_eq w f.label) t.floats j no_float (label_place t.floats _ _ _ j h)
 
 -- ---- expressions
 
@@ -147,7 +149,7 @@ record StepPasses (t : Tables) (hyps : List Hypothesis) (count : ℕ) (w : Word)
   room : count < 16384
   is_named : step_named w (float_named (meaning t w)) (hypothesis_named hyps w) ≡ Ok s
 
-no_fault : (o : Option FaultKind) (r : Result Step FaultKind) (s : Step) → unless_faulty o r ≡ Ok s → (o ≡ None) × (r ≡ Ok s)
+pub no_fault : (o : Option FaultKind) (r : Result Step FaultKind) (s : Step) → unless_faulty o r ≡ Ok s → (o ≡ None) × (r ≡ Ok s)
 no_fault (Some kind) r s h = absurd cc
 no_fault None r s h = (refl, h)
 
@@ -163,7 +165,7 @@ step_passes t hyps count w s h =
     record { label = not_false (is_label w) c.0; room = leb-false 16384 count d.0; is_named = both.1 }
 
 float_label : (t : Tables) (w : Word) (o : Option Name) (j : ℕ) → meaning t w ≡ o → float_named o ≡ Some j → j < length t.floats
-float_label t w (Some (Label k)) j e h = let same : k ≡ j = cc in subst (λ (n : ℕ). n < length t.floats) same (label_within t w k e)
+float_label t w (Some (Label k)) j e h = let same : k ≡ j = cc in subst (λ (n : ℕ). n < length t.floats) same (label_at t w k e).0
 float_label t w (Some (Constant i)) j e h = absurd cc
 float_label t w (Some (Variable i o)) j e h = absurd cc
 float_label t w None j e h = absurd cc

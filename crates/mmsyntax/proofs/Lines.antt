@@ -56,32 +56,50 @@ one_more : (P : Word → Type 0) (w : Word) (o : Option (List Word)) (vs : List 
 one_more P w None vs h p f = absurd cc
 one_more P w (Some us) vs h p f = let e : w ∷ us ≡ vs = cc in subst (AllByRecursion P) e (p, f us refl)
 
-pub outside_words : (P : Word → Type 0) (c : Bool) (ws vs : List Word) → without_comments c ws ≡ Some vs → AllByRecursion P ws → AllByRecursion P vs
-outside_words P false [] vs h all = let e : [] ≡ vs = cc in subst (AllByRecursion P) e tt
-outside_words P true [] vs h all = absurd cc
-outside_words P false (w ∷ ws) vs h all = elim (cases_Bool (bytes_eq w (codes "$("))) [
-  | inl y ↦ outside_words P true ws vs (sym (cond-true (bytes_eq w (codes "$(")) (without_comments true ws) _ y) ∙ h) all.1
-  | inr n ↦ one_more P w (without_comments false ws) vs (sym (cond-false (bytes_eq w (codes "$(")) (without_comments true ws) (option_map (λ vs. w ∷ vs) (without_comments false ws)) n) ∙ h) all.0 (λ us e. outside_words P false ws us e all.1)
-]
-outside_words P true (w ∷ ws) vs h all = elim (cases_Bool (bytes_eq w (codes "$)"))) [
-  | inl y ↦ outside_words P false ws vs (sym (cond-true (bytes_eq w (codes "$)")) (without_comments false ws) _ y) ∙ h) all.1
-  | inr n ↦
-      let rest = sym (cond-false (bytes_eq w (codes "$)")) (without_comments false ws) (cond (has_comment_mark w) None (without_comments true ws)) n) ∙ h in
-      elim (cases_Bool (has_comment_mark w)) [
-        | inl y ↦ absurd (let e : None ≡ Some vs = sym (cond-true (has_comment_mark w) None (without_comments true ws) y) ∙ rest in cc)
-        | inr m ↦ outside_words P true ws vs (sym (cond-false (has_comment_mark w) None (without_comments true ws) m) ∙ rest) all.1
-      ]
-]
-
--- the words of a clean text outside of comments are words
-pub clean_words : (bytes : List ℕ) (vs : List Word) → IsClean bytes → without_comments false (words_of (tokens bytes)) ≡ Some vs → AllByRecursion IsWord vs
-clean_words bytes vs clean h = outside_words IsWord false (words_of (tokens bytes)) vs h (words_are bytes clean)
-
 -- a word that opens no comment
 abbrev pub IsWritten : Word → Type 0
 IsWritten w = IsWord w × (bytes_eq w (codes "$(") ≡ false)
 
-no_comment : (ws : List Word) → AllByRecursion IsWritten ws → without_comments false ws ≡ Some ws
+outside_words : (c : Bool) (ws vs : List Word) → without_comments c ws ≡ Some vs
+    → AllByRecursion IsWord ws → AllByRecursion IsWritten vs
+outside_words false [] vs h all = let e : [] ≡ vs = cc in subst (AllByRecursion IsWritten) e tt
+outside_words true [] vs h all = absurd cc
+outside_words false (w ∷ ws) vs h all = elim (cases_Bool (bytes_eq w (codes "$("))) [
+  | inl y ↦ outside_words true ws vs (sym (cond-true (bytes_eq w (codes "$(")) (without_comments true ws) _ y) ∙ h) all.1
+  | inr n ↦
+      let more = option_map (λ vs. w ∷ vs) (without_comments false ws) in
+      let rest = sym (cond-false (bytes_eq w (codes "$(")) (without_comments true ws) more n) ∙ h in
+      one_more IsWritten w (without_comments false ws) vs rest (all.0, n) (λ us e. outside_words false ws us e all.1)
+]
+outside_words true (w ∷ ws) vs h all = elim (cases_Bool (bytes_eq w (codes "$)"))) [
+  | inl y ↦ outside_words false ws vs (sym (cond-true (bytes_eq w (codes "$)")) (without_comments false ws) _ y) ∙ h) all.1
+  | inr n ↦
+      let more = cond (has_comment_mark w) None (without_comments true ws) in
+      let rest = sym (cond-false (bytes_eq w (codes "$)")) (without_comments false ws) more n) ∙ h in
+      elim (cases_Bool (has_comment_mark w)) [
+        | inl y ↦ absurd (let e : None ≡ Some vs = sym (cond-true (has_comment_mark w) None (without_comments true ws) y) ∙ rest in cc)
+        | inr m ↦ outside_words true ws vs (sym (cond-false (has_comment_mark w) None (without_comments true ws) m) ∙ rest) all.1
+      ]
+]
+
+-- the words of a clean text outside of comments are words that open none
+pub written_words : (bytes : List ℕ) (vs : List Word) → IsClean bytes
+    → without_comments false (words_of (tokens bytes)) ≡ Some vs → AllByRecursion IsWritten vs
+written_words bytes vs clean h = outside_words false (words_of (tokens bytes)) vs h (words_are bytes clean)
+
+-- facts of each item
+each : {A : Type 0} (P Q : A → Type 0) (xs : List A) → ((x : A) → P x → Q x) → AllByRecursion P xs → AllByRecursion Q xs
+each P Q [] f h = tt
+each P Q (x ∷ xs) f h = (f x h.0, each P Q xs f h.1)
+
+pub plain : (ws : List Word) → AllByRecursion IsWritten ws → AllByRecursion IsWord ws
+plain ws h = each IsWritten IsWord ws (λ w x. x.0) h
+
+pub clean_words : (bytes : List ℕ) (vs : List Word) → IsClean bytes
+    → without_comments false (words_of (tokens bytes)) ≡ Some vs → AllByRecursion IsWord vs
+clean_words bytes vs clean h = plain vs (written_words bytes vs clean h)
+
+pub no_comment : (ws : List Word) → AllByRecursion IsWritten ws → without_comments false ws ≡ Some ws
 no_comment [] h = refl
 no_comment (w ∷ ws) h =
     cond-false (bytes_eq w (codes "$(")) (without_comments true ws) (option_map (λ vs. w ∷ vs) (without_comments false ws)) h.0.1
@@ -107,7 +125,7 @@ first_word p w x rest h white =
     within (b ∷ bs) more g zero lt = g.0.0
     within (b ∷ bs) more g (suc k) lt = within bs more g.1 k (omega arith)
 
-white_first : (p x : ℕ) (rest : List ℕ) → is_white x ≡ true → tokens_from p (x ∷ rest) ≡ tokens_from (suc p) rest
+pub white_first : (p x : ℕ) (rest : List ℕ) → is_white x ≡ true → tokens_from p (x ∷ rest) ≡ tokens_from (suc p) rest
 unfolding tokens_from
 white_first p x rest white = cond-true (is_white x) (tokens_from (suc p) rest) (with_byte p x (ends_token rest) (tokens_from (suc p) rest)) white
 
@@ -127,10 +145,10 @@ spaced_words p (w ∷ ws) rest h =
     (later.0, ap (λ bs. words_of (tokens_from p bs)) split ∙ ap words_of (white_first p 32 (w ++ (spaced ws ++ 10 ∷ rest)) refl) ∙ next (suc p) w ws rest h.0 ∙ ap (λ x. w ∷ x) later.1)
 
 -- wherever the bytes stand, they say the words and then what follows
-abbrev Says : List ℕ → List Word → Type 0
+abbrev pub Says : List ℕ → List Word → Type 0
 Says bytes ws = (p : ℕ) (rest : List ℕ) → (q : ℕ) × (words_of (tokens_from p (bytes ++ rest)) ≡ ws ++ words_of (tokens_from q rest))
 
-says_append : (a b : List ℕ) (ws vs : List Word) → Says a ws → Says b vs → Says (a ++ b) (ws ++ vs)
+pub says_append : (a b : List ℕ) (ws vs : List Word) → Says a ws → Says b vs → Says (a ++ b) (ws ++ vs)
 says_append a b ws vs h g = λ p rest.
     let x = h p (b ++ rest) in
     let y = g x.0 rest in
@@ -142,7 +160,7 @@ says_flat f g (x ∷ xs) h =
     subst (λ bs. Says bs (flat_map g (x ∷ xs))) (sym (flat_map-cons f x xs))
     (subst (λ ws. Says (f x ++ flat_map f xs) ws) (sym (flat_map-cons g x xs)) (says_append (f x) (flat_map f xs) (g x) (flat_map g xs) h.0 (says_flat f g xs h.1)))
 
-says_line : (ws : List Word) → AllByRecursion IsWord ws → Says (line ws) ws
+pub says_line : (ws : List Word) → AllByRecursion IsWord ws → Says (line ws) ws
 says_line [] h = λ p rest. (suc p, ap words_of (white_first p 10 rest refl))
 says_line (w ∷ ws) h = λ p rest.
     let later = spaced_words (p + length w) ws rest h.1 in
@@ -161,11 +179,7 @@ all_parts P g (x ∷ xs) h =
     let all = subst (AllByRecursion P) (flat_map-cons g x xs) h in
     (all_left P (g x) (flat_map g xs) all, all_parts P g xs (all_right P (g x) (flat_map g xs) all))
 
-each : {A : Type 0} (P Q : A → Type 0) (xs : List A) → ((x : A) → P x → Q x) → AllByRecursion P xs → AllByRecursion Q xs
-each P Q [] f h = tt
-each P Q (x ∷ xs) f h = (f x h.0, each P Q xs f h.1)
-
-statement_says : (s : Statement) → AllByRecursion IsWord (spelling s) → Says (statement_text s) (spelling s)
+pub statement_says : (s : Statement) → AllByRecursion IsWord (spelling s) → Says (statement_text s) (spelling s)
 statement_says (constants ws) h = says_line (spelling (constants ws)) h
 statement_says (variables ws) h = says_line (spelling (variables ws)) h
 statement_says (float label c v) h = says_line (spelling (float label c v)) h
@@ -179,17 +193,14 @@ statement_says (block pieces claim) h =
     (says_append (flat_map (λ p. indented (piece_spelling p)) pieces) _ parts (claim_spelling claim ++ codes "$}" ∷ []) (says_flat (λ p. indented (piece_spelling p)) piece_spelling pieces pieces_say)
     (says_append (indented (claim_spelling claim)) (line (codes "$}" ∷ [])) (claim_spelling claim) (codes "$}" ∷ []) (says_indented (claim_spelling claim) (all_left IsWord (claim_spelling claim) (codes "$}" ∷ []) end)) (says_line (codes "$}" ∷ []) (all_right IsWord (claim_spelling claim) (codes "$}" ∷ []) end))))
 
-no_tokens : (p : ℕ) → words_of (tokens_from p []) ≡ []
+pub no_tokens : (p : ℕ) → words_of (tokens_from p []) ≡ []
 unfolding tokens_from
 no_tokens p = refl
 
-said : (bytes : List ℕ) (ws : List Word) → Says bytes ws → words_of (tokens bytes) ≡ ws
+pub said : (bytes : List ℕ) (ws : List Word) → Says bytes ws → words_of (tokens bytes) ≡ ws
 said bytes ws h =
     let x = h 0 [] in
     ap (λ bs. words_of (tokens_from 0 bs)) (sym (append-nil bytes)) ∙ x.1 ∙ ap (λ z. ws ++ z) (no_tokens x.0) ∙ append-nil ws
-
-plain : (ws : List Word) → AllByRecursion IsWritten ws → AllByRecursion IsWord ws
-plain ws h = each IsWritten IsWord ws (λ w x. x.0) h
 
 -- the words of the lines of statements are theirs
 pub statements_words : (ss : List Statement) → AllByRecursion IsWritten (flat_map spelling ss) → without_comments false (words_of (tokens (flat_map statement_text ss))) ≡ Some (flat_map spelling ss)
@@ -204,10 +215,10 @@ statement_words s h =
 
 -- ---- the bytes of lines
 
-abbrev AreLawful : List ℕ → Type 0
+abbrev pub AreLawful : List ℕ → Type 0
 AreLawful bytes = AllByRecursion (λ b. is_lawful b ≡ true) bytes
 
-lawful_append : (a b : List ℕ) → AreLawful a → AreLawful b → AreLawful (a ++ b)
+pub lawful_append : (a b : List ℕ) → AreLawful a → AreLawful b → AreLawful (a ++ b)
 lawful_append a b h g = all_append (λ b. is_lawful b ≡ true) a b h g
 
 lawful_word : (w : Word) → AllByRecursion IsPrintable w → AreLawful w
@@ -218,7 +229,7 @@ lawful_flat : {A : Type 0} (f : A → List ℕ) (xs : List A) → AllByRecursion
 lawful_flat f [] h = tt
 lawful_flat f (x ∷ xs) h = subst AreLawful (sym (flat_map-cons f x xs)) (lawful_append (f x) (flat_map f xs) h.0 (lawful_flat f xs h.1))
 
-lawful_line : (ws : List Word) → AllByRecursion IsWord ws → AreLawful (line ws)
+pub lawful_line : (ws : List Word) → AllByRecursion IsWord ws → AreLawful (line ws)
 lawful_line [] h = (refl, tt)
 lawful_line (w ∷ ws) h =
     let later = each IsWord (λ v. AreLawful (32 ∷ v)) ws (λ v g. (refl, lawful_word v g.1)) h.1 in
@@ -227,7 +238,7 @@ lawful_line (w ∷ ws) h =
 lawful_indented : (ws : List Word) → AllByRecursion IsWord ws → AreLawful (indented ws)
 lawful_indented ws h = (refl, (refl, lawful_line ws h))
 
-lawful_statement : (s : Statement) → AllByRecursion IsWord (spelling s) → AreLawful (statement_text s)
+pub lawful_statement : (s : Statement) → AllByRecursion IsWord (spelling s) → AreLawful (statement_text s)
 lawful_statement (constants ws) h = lawful_line (spelling (constants ws)) h
 lawful_statement (variables ws) h = lawful_line (spelling (variables ws)) h
 lawful_statement (float label c v) h = lawful_line (spelling (float label c v)) h
@@ -240,10 +251,14 @@ lawful_statement (block pieces claim) h =
     (lawful_append (flat_map (λ p. indented (piece_spelling p)) pieces) _ (lawful_flat (λ p. indented (piece_spelling p)) pieces (each (λ p. AllByRecursion IsWord (piece_spelling p)) (λ p. AreLawful (indented (piece_spelling p))) pieces (λ p g. lawful_indented (piece_spelling p) g) inner))
     (lawful_append (indented (claim_spelling claim)) (line (codes "$}" ∷ [])) (lawful_indented (claim_spelling claim) (all_left IsWord (claim_spelling claim) (codes "$}" ∷ []) end)) (lawful_line (codes "$}" ∷ []) (all_right IsWord (claim_spelling claim) (codes "$}" ∷ []) end))))
 
+pub clean_lawful : (bytes : List ℕ) → AreLawful bytes → IsClean bytes
+clean_lawful bytes h = λ k lt. to_index (λ b. is_lawful b ≡ true) bytes h k lt
+
 pub clean_statements : (ss : List Statement) → AllByRecursion IsWritten (flat_map spelling ss) → IsClean (flat_map statement_text ss)
 clean_statements ss h =
     let all = all_parts IsWord spelling ss (plain (flat_map spelling ss) h) in
-    λ k lt. to_index (λ b. is_lawful b ≡ true) (flat_map statement_text ss) (lawful_flat statement_text ss (each (λ s. AllByRecursion IsWord (spelling s)) (λ s. AreLawful (statement_text s)) ss lawful_statement all)) k lt
+    clean_lawful (flat_map statement_text ss)
+    (lawful_flat statement_text ss (each (λ s. AllByRecursion IsWord (spelling s)) (λ s. AreLawful (statement_text s)) ss lawful_statement all))
 
 pub clean_statement : (s : Statement) → AllByRecursion IsWritten (spelling s) → IsClean (statement_text s)
-clean_statement s h = λ k lt. to_index (λ b. is_lawful b ≡ true) (statement_text s) (lawful_statement s (plain (spelling s) h)) k lt
+clean_statement s h = clean_lawful (statement_text s) (lawful_statement s (plain (spelling s) h))

@@ -3,4 +3,6 @@
 
 mod writing;
 
-pub use writing::{put_assertion, put_prelude, write_assertion, write_database};
+pub use writing::{
+    put_assertion, put_prelude, put_steps, put_word, write_assertion, write_database,
+};

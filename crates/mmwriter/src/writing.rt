@@ -14,8 +14,10 @@ use itoa::Buffer;
 use mmsyntax::{Assertion, Database, Expr, Float, Kind, Label, Prelude, Step, Symbol};
 use std::alloc::{AllocError, Global};
 
-/// A word with a space before it.
-fn put_word(out: &mut Vec<u8>, word: &[u8]) -> Result<(), AllocError>
+/// Puts a space and a word behind `out`.
+///
+/// After an error nothing is promised of the bytes in `out`.
+pub fn put_word(out: &mut Vec<u8>, word: &[u8]) -> Result<(), AllocError>
     ensures { OnOk result (out.new.items ≡ out.old.items ++ 32 ∷ word.now) }
 {
     out.push(b' ')?;
@@ -116,7 +118,11 @@ fn put_step(
     }
 }
 
-fn put_steps(
+/// Puts the words of the steps of a proof behind `out`, with a space before each. `label` is that of the assertion that they prove.
+///
+/// A step that names a `$f` which the prelude does not have is written as an empty word. After an error nothing is promised of
+/// the bytes in `out`.
+pub fn put_steps(
     out: &mut Vec<u8>,
     prelude: &Prelude,
     label: &[u8],

@@ -1,0 +1,3 @@
+pub mod Told
+pub mod OtherSteps
+pub mod Retold

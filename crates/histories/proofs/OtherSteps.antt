@@ -1,0 +1,82 @@
+-- The words of another proof are those of its steps.
+use Rattle.std.proofs.Common.{◌≡◌, ℕ, zero, suc, Bool, true, ltb, List, [], ◌∷◌, ◌++◌, length, map, Option, Some, None, Ok, refl, sym, ap, subst, ◌∙◌, inl, inr, append_assoc}
+use Rattle.std.specs.Prelude.{◌||◌, find}
+use Rattle.std.specs.List.{range_with_len}
+use Rattle.std.specs.Str.{bytes_eq}
+use Rattle.std.proofs.lemmas.Bool.{cases_Bool, cond-true, cond-false}
+use Rattle.std.proofs.lemmas.List.{append-nil, map-append}
+use Rattle.mmtext.specs.declared.fault.FaultKind.TheVariants.{BadLabel}
+use Rattle.mmtext.specs.Words.{Word, has_dot}
+use Rattle.mmsyntax.specs.declared.statement.Step.{Step}
+use Rattle.mmsyntax.specs.declared.statement.Step.TheVariants.{Float, Hyp, Cite}
+use Rattle.mmsyntax.specs.declared.symbols.Name.{Name}
+use Rattle.mmsyntax.specs.declared.symbols.Name.TheVariants.{Constant, Variable, Label}
+use Rattle.mmsyntax.specs.Tables.{Tables, meaning}
+use Rattle.mmsyntax.specs.Rows.{first_fault}
+use Rattle.mmsyntax.specs.Steps.{step_tests, float_named, step_named}
+use Rattle.mmsyntax.specs.Layout.{hypothesis_label, step_word, float_at}
+use Rattle.mmsyntax.proofs.Names.{same_bytes}
+use Rattle.mmsyntax.proofs.Found.{label_at, no_fault}
+use Rattle.mmsyntax.proofs.Sound.{if_ok}
+use Rattle.commands.specs.Scripts.{hypothesis_numbered, counted_from_0, other_step_of, OtherSteps}
+
+-- what is found passes the test
+found_passes : (test : ℕ → Bool) (ns : List ℕ) (k : ℕ) → find test ns ≡ Some k → test k ≡ true
+found_passes test [] k h = absurd cc
+found_passes test (n ∷ ns) k h = elim (cases_Bool (test n)) [
+  | inl y ↦
+      let e : Some n ≡ Some k = sym (cond-true (test n) (Some n) (find test ns) y) ∙ h in
+      let same : n ≡ k = cc in
+      subst (λ (m : ℕ). test m ≡ true) same y
+  | inr f ↦ found_passes test ns k (sym (cond-false (test n) (Some n) (find test ns) f) ∙ h)
+]
+
+module _ (t : Tables) (label : Word) where
+  float_word : (w : Word) (o : Option Name) (j : ℕ) → meaning t w ≡ o → float_named o ≡ Some j → w ≡ (float_at t.floats j).label
+  float_word w (Some (Label k)) j e h =
+      let same : k ≡ j = cc in
+      subst (λ (n : ℕ). w ≡ (float_at t.floats n).label) same (same_bytes w (float_at t.floats k).label (label_at t w k e).1)
+  float_word w (Some (Constant i)) j e h = absurd cc
+  float_word w (Some (Variable i o)) j e h = absurd cc
+  float_word w None j e h = absurd cc
+
+  numbered_word : (w : Word) (o : Option ℕ) (n : ℕ) → hypothesis_numbered label w ≡ o → counted_from_0 o ≡ Some n
+      → w ≡ hypothesis_label label (suc n)
+  numbered_word w None n e h = absurd cc
+  numbered_word w (Some zero) n e h = absurd cc
+  numbered_word w (Some (suc k)) n e h =
+      let same : k ≡ n = cc in
+      let passes = found_passes (λ m. bytes_eq w (hypothesis_label label m)) (range_with_len 1 1000) (suc k) e in
+      subst (λ (m : ℕ). w ≡ hypothesis_label label (suc m)) same (same_bytes w (hypothesis_label label (suc k)) passes)
+
+  named_word : (w : Word) (s : Step) (f h : Option ℕ) → float_named (meaning t w) ≡ f → counted_from_0 (hypothesis_numbered label w) ≡ h
+      → step_named w f h ≡ Ok s → w ≡ step_word t label s
+  named_word w s (Some j) h ef eh n =
+      let same : Float j ≡ s = cc in
+      subst (λ (x : Step). w ≡ step_word t label x) same (float_word w (meaning t w) j refl ef)
+  named_word w s None (Some i) ef eh n =
+      let same : Hyp i ≡ s = cc in
+      subst (λ (x : Step). w ≡ step_word t label x) same (numbered_word w (hypothesis_numbered label w) i refl eh)
+  named_word w s None None ef eh n =
+      let both = if_ok (has_dot w || ltb 255 (length w)) BadLabel (Ok (Cite w)) s n in
+      let same : Cite w ≡ s = let e : Ok (Cite w) ≡ Ok s = both.1 in cc in
+      subst (λ (x : Step). w ≡ step_word t label x) same refl
+
+  -- a step is read from its own word
+  other_word : (count : ℕ) (w : Word) (s : Step) → other_step_of t label count w ≡ Ok s → w ≡ step_word t label s
+  unfolding other_step_of
+  other_word count w s h =
+      let both = no_fault (first_fault (step_tests count w)) _ s h in
+      named_word w s (float_named (meaning t w)) (counted_from_0 (hypothesis_numbered label w)) refl refl both.1
+
+  words_behind : (front : List Step) (ws : List Word) (steps : List Step) → OtherSteps t label front ws steps
+      → map (step_word t label) front ++ ws ≡ map (step_word t label) steps
+  words_behind front [] steps d = append-nil (map (step_word t label) front) ∙ ap (map (step_word t label)) d
+  words_behind front (w ∷ ws) steps d =
+      let f = step_word t label in
+      let one : w ≡ f d.0 = other_word (length front) w d.0 d.1 in
+      ap (λ v. map f front ++ v ∷ ws) one ∙ sym (append_assoc (map f front) (f d.0 ∷ []) ws)
+      ∙ ap (λ vs. vs ++ ws) (sym (map-append f front (d.0 ∷ []))) ∙ words_behind (front ++ d.0 ∷ []) ws steps d.2
+
+  pub other_words : (ws : List Word) (steps : List Step) → OtherSteps t label [] ws steps → ws ≡ map (step_word t label) steps
+  other_words ws steps d = words_behind [] ws steps d

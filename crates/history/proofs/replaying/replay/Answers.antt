@@ -1,0 +1,60 @@
+use Rattle.std.proofs.Common.{◌≡◌, ◌∙◌, ap, sym, subst, map, take, refl, rules}
+use Rattle.std.proofs.lemmas.Option.{slice_get_read}
+use Rattle.std.proofs.lemmas.List.{take_all, length-map}
+use Rattle.commands.specs.Library.{opening, ShowsInOrder}
+use Rattle.history.specs.Histories.{told, after_all, after_entry, IsLegal}
+use Rattle.history.specs.Replays.{slotted}
+use Rattle.history.proofs.Legal.{after-more, goes_on, first_differing, told_at}
+use Rattle.history.proofs.replaying.replay.Goals as goal
+
+pub repeats-requires : goal.repeats-requires
+repeats-requires c =
+    let x = c.index-history-i.result in
+    let at = told_at c.args.history.now c.loop-i.i x c.loop-i-test.true c.index-history-i.is in
+    record {
+      fit = rw (c.loop-i.invariant.1, at.1) (c.requires.fit c.loop-i.i (told x) at.0);
+    }
+
+pub returns-then-not-branch : goal.returns-then-not-branch
+returns-then-not-branch c =
+    let x = c.index-history-i.result in
+    let h = map told c.args.history.now in
+    let at = told_at c.args.history.now c.loop-i.i x c.loop-i-test.true c.index-history-i.is in
+    let same = c.in_ok-repeats.ensures.same in
+    first_differing (slotted c.args.db.now c.args.slots) (opening c.args.db.now) h c.loop-i.i (told x)
+    (slice_get_read h _ c.loop-i.i (told x) refl at.0 at.1) c.loop-i.invariant.3
+    (λ k. let t = same.1 (rw (c.loop-i.invariant.1, c.loop-i.invariant.2) k) in cc)
+
+pub loop-i-preserved : goal.loop-i-preserved
+loop-i-preserved c =
+    let x = c.index-history-i.result in
+    let h = map told c.args.history.now in
+    let s = slotted c.args.db.now c.args.slots in
+    let lib = opening c.args.db.now in
+    let i = c.loop-i.i in
+    let at = told_at c.args.history.now i x c.loop-i-test.true c.index-history-i.is in
+    let is_setting = c.loop-i.invariant.1 in
+    let is_library = c.loop-i.invariant.2 in
+    let same = c.in_ok-repeats.ensures.same in (
+      c.loop-i.invariant.0,
+      c.in_ok-repeats.ensures.setting ∙ is_setting,
+      c.in_ok-repeats.ensures.after
+          ∙ ap (λ t. after_entry t c.loop-i.editor.library (told x)) is_setting
+          ∙ ap (λ l. after_entry s l (told x)) is_library
+          ∙ sym (after-more s lib h i (told x) at.0 at.1),
+      goes_on s lib h i (told x) at.0 at.1 c.loop-i.invariant.3
+          (rw (is_setting, is_library) at (same.0 (search rules))),
+    )
+
+pub returns : goal.returns
+returns c =
+    let h = map told c.args.history.now in
+    let s = slotted c.args.db.now c.args.slots in
+    let lib = opening c.args.db.now in
+    let all : take c.loop-i.i h ≡ h = take_all c.loop-i.i h (rw length-map c.loop-i-test.false) in (
+      c.loop-i.invariant.0,
+      subst (λ g. IsLegal s lib g) all c.loop-i.invariant.3,
+      c.into_library.ensures.setting ∙ c.loop-i.invariant.1,
+      subst (λ l. ShowsInOrder l c.into_library.result.entries) (c.loop-i.invariant.2 ∙ ap (after_all s lib) all)
+          c.into_library.ensures.shown,
+    )

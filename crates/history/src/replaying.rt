@@ -1,0 +1,99 @@
+//! Histories done again: what an editor answers to their transactions, against the replies that they hold.
+
+ghost use Rattle.std.specs.Prelude.{◌≡◌, ◌≤◌, ◌↔◌, IfOk, OnOk, IsTrue, map};
+ghost use Rattle.proofcheck.specs.Databases.{AllCheck};
+ghost use Rattle.history.specs.Histories.{told, after_entry, EntryFits, EntriesFit};
+ghost use Rattle.history.specs.Openings.{Opens};
+ghost use Rattle.history.specs.Replays.{IsRepeated, Opened, Replays};
+
+use crate::editor::{ApplyError, Editor, OpenError};
+use crate::history::Entry;
+use crate::same::same_replies;
+use commands::PlainLibrary;
+use mmstatement::Database;
+use std::alloc::{AllocError, Global};
+use std::hash::RandomState;
+
+/// Why a history isn't replayed.
+#[derive(Clone, Copy, Debug, PartialEq, Eq)]
+pub enum ReplayError {
+    /// Entry n, counted from 1, is the first whose replies aren't the editor's.
+    Differs(usize),
+    /// The database has more assertions than there are slots.
+    TooMany,
+    /// Memory ran out.
+    NoMemory,
+}
+
+impl From<AllocError> for ReplayError {
+    ghost use Rattle.std.specs.Prelude.{◌≡◌};
+    ghost use Rattle.history.specs.declared.replaying.ReplayError.TheVariants.{NoMemory};
+
+    ghost from_gives = { λ _ error. error ≡ NoMemory };
+
+    fn from(_error: AllocError) -> Self {
+        ReplayError::NoMemory
+    }
+}
+
+/// Opens the editor of a database.
+fn open(
+    alloc: Global,
+    keys: RandomState,
+    db: &Database,
+    slots: usize,
+) -> Result<Editor, ReplayError>
+    requires slots { (1 ≤ slots) × (slots ≤ 4096) }
+    requires checks { AllCheck db.now }
+    ensures { Opened db.now slots result }
+{
+    match Editor::open(alloc, keys, db, slots) {
+        Ok(editor) => Ok(editor),
+        Err(OpenError::TooMany) => Err(ReplayError::TooMany),
+        Err(OpenError::NoMemory) => Err(ReplayError::NoMemory),
+    }
+}
+
+/// Does an entry's transaction, and says whether the replies are the entry's. An entry without commands has no others.
+fn repeats(alloc: Global, editor: &mut Editor, entry: &Entry) -> Result<bool, AllocError>
+    requires fit { EntryFits editor.old.setting.prelude (told entry.now) }
+    ensures setting { editor.new.setting ≡ editor.old.setting }
+    ensures same { IfOk result (λ same. IsTrue same ↔ IsRepeated editor.old.setting editor.old.library (told entry.now)) }
+    ensures after { OnOk result (editor.new.library ≡ after_entry editor.old.setting editor.old.library (told entry.now)) }
+{
+    let Entry::Done { commands, replies } = entry else {
+        return Ok(true);
+    };
+    match editor.apply(alloc, commands.as_slice()) {
+        Ok(made) => Ok(same_replies(made.as_slice(), replies.as_slice())),
+        Err(ApplyError::Refused(_)) => Ok(false),
+        Err(ApplyError::NoMemory) => Err(AllocError),
+    }
+}
+
+/// Does the transactions of a history again, from the opening library of a database whose proofs check, and answers the library after them.
+/// Each command is within the limits of the database's prelude. There are 1 to 4,096 slots.
+///
+/// # Errors
+///
+/// `Differs` with the first entry whose transaction is refused or has other replies than the entry's; `TooMany`; or `NoMemory`.
+pub fn replay(
+    alloc: Global,
+    keys: RandomState,
+    db: &Database,
+    slots: usize,
+    history: &[Entry],
+) -> Result<PlainLibrary, ReplayError>
+    requires slots { (1 ≤ slots) × (slots ≤ 4096) }
+    requires checks { AllCheck db.now }
+    requires fit { EntriesFit db.now.prelude (map told history.now) }
+    ensures { Replays db.now slots (map told history.now) result }
+{
+    let mut editor = open(alloc, keys, db, slots)?;
+    for (i, entry) in history.iter().enumerate() {
+        if !repeats(alloc, &mut editor, entry)? {
+            return Err(ReplayError::Differs(i + 1));
+        }
+    }
+    Ok(editor.into_library())
+}

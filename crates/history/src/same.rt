@@ -1,0 +1,96 @@
+//! Whether replies are equal, field by field.
+
+ghost use Rattle.std.specs.Prelude.{◌≡◌, ◌↔◌, IsTrue};
+
+use commands::{Line, Ranked, Reply};
+use mmstatement::{Assertion, Expr, Step};
+
+fn same_step(a: &Step, b: &Step) -> bool
+    ensures { IsTrue result ↔ (a.now ≡ b.now) }
+{
+    match (a, b) {
+        (Step::Float(i), Step::Float(j)) => i == j,
+        (Step::Hyp(i), Step::Hyp(j)) => i == j,
+        (Step::Cite(i), Step::Cite(j)) => i == j,
+        _ => false,
+    }
+}
+
+fn same_steps(a: &[Step], b: &[Step]) -> bool
+    ensures { IsTrue result ↔ (a.now ≡ b.now) }
+{
+    a.len() == b.len() && a.iter().zip(b).all(|(x, y)| same_step(x, y))
+}
+
+fn same_expression(a: &Expr, b: &Expr) -> bool
+    ensures { IsTrue result ↔ (a.now ≡ b.now) }
+{
+    a.as_slice() == b.as_slice()
+}
+
+fn same_expressions(a: &[Expr], b: &[Expr]) -> bool
+    ensures { IsTrue result ↔ (a.now ≡ b.now) }
+{
+    a.len() == b.len() && a.iter().zip(b).all(|(x, y)| same_expression(x, y))
+}
+
+fn same_pairs(a: &[(u32, u32)], b: &[(u32, u32)]) -> bool
+    ensures { IsTrue result ↔ (a.now ≡ b.now) }
+{
+    a == b
+}
+
+fn same_assertion(a: &Assertion, b: &Assertion) -> bool
+    ensures { IsTrue result ↔ (a.now ≡ b.now) }
+{
+    a.label == b.label
+        && a.kind == b.kind
+        && same_pairs(a.pairs.as_slice(), b.pairs.as_slice())
+        && same_expressions(a.hyps.as_slice(), b.hyps.as_slice())
+        && same_expression(&a.statement, &b.statement)
+        && same_steps(a.proof.as_slice(), b.proof.as_slice())
+}
+
+fn same_ranked(a: &Ranked, b: &Ranked) -> bool
+    ensures { IsTrue result ↔ (a.now ≡ b.now) }
+{
+    a.rank == b.rank && same_assertion(&a.assertion, &b.assertion)
+}
+
+fn same_line(a: &Line, b: &Line) -> bool
+    ensures { IsTrue result ↔ (a.now ≡ b.now) }
+{
+    a.rank == b.rank && a.label == b.label && a.kind == b.kind && a.citers == b.citers
+}
+
+fn same_lines(a: &[Line], b: &[Line]) -> bool
+    ensures { IsTrue result ↔ (a.now ≡ b.now) }
+{
+    a.len() == b.len() && a.iter().zip(b).all(|(x, y)| same_line(x, y))
+}
+
+fn same_reply(a: &Reply, b: &Reply) -> bool
+    ensures { IsTrue result ↔ (a.now ≡ b.now) }
+{
+    match (a, b) {
+        (Reply::Done, Reply::Done) => true,
+        (
+            Reply::Shown { citers, shown },
+            Reply::Shown {
+                citers: others,
+                shown: other,
+            },
+        ) => citers == others && same_ranked(shown, other),
+        (Reply::Listed { lines }, Reply::Listed { lines: others }) => {
+            same_lines(lines.as_slice(), others.as_slice())
+        }
+        _ => false,
+    }
+}
+
+/// Whether two lists of replies are equal.
+pub(crate) fn same_replies(a: &[Reply], b: &[Reply]) -> bool
+    ensures { IsTrue result ↔ (a.now ≡ b.now) }
+{
+    a.len() == b.len() && a.iter().zip(b).all(|(x, y)| same_reply(x, y))
+}
