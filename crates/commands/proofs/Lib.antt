@@ -20,8 +20,11 @@ pub mod Orders
 pub mod ExportOrder
 pub mod Listing
 pub mod Numerals
+pub mod HypothesisNumbers
 pub mod ScriptRows
+pub mod InnerUnits
+pub mod CommandWords
+pub mod CommandParsed
 pub mod ScriptWords
 pub mod ScriptParsed
 pub mod ScriptLaws
-pub mod HypothesisNumbers

@@ -19,7 +19,7 @@ use Rattle.mmsyntax.proofs.Names.{same_bytes, bytes_eq-same}
 use Rattle.mmsyntax.proofs.Distinct.{and_true}
 use Rattle.mmsyntax.proofs.Numbered.{first_or, second_or, decimal_count}
 use Rattle.commands.specs.ScriptFaults.{is_numeral}
-use Rattle.commands.specs.ScriptViews.{rank_written}
+use Rattle.commands.specs.ScriptViews.{written_within}
 
 -- ---- digits
 
@@ -113,20 +113,21 @@ one_more_digit ds i all lt =
 pub digit_here : (ds : List ℕ) (i : ℕ) → AllDigits 10 ds → i < length ds → 48 ≤ get_or ds i 0
 digit_here ds i all lt = (digit_at ds i all lt).0
 
-pub too_high : (ds : List ℕ) (i : ℕ) → 4294967295 < digits_value 10 (take i ds) → None ≡ rank_written ds
-too_high ds i h =
-    let le = digits_value-take-le 10 ds i (omega arith) in
-    let lt : 4294967295 < digits_value 10 ds = omega arith in
-    sym (cond-true (ltb 4294967295 (digits_value 10 ds)) None (Some (digits_value 10 ds)) (above (digits_value 10 ds) lt))
-  where
-    above : (n : ℕ) → 4294967295 < n → ltb 4294967295 n ≡ true
-    above n h = grind (arith, nat_tests)
+above : (high n : ℕ) → high < n → ltb high n ≡ true
+above high n h = grind (arith, nat_tests)
 
-pub written : (ds : List ℕ) (i n : ℕ) → length ds ≤ i → n ≡ digits_value 10 (take i ds) → n < 4294967296 → Some n ≡ rank_written ds
-written ds i n all is low =
+below : (high n : ℕ) → n ≤ high → ltb high n ≡ false
+below high n h = grind (arith, nat_tests)
+
+pub too_high : (highest : ℕ) (ds : List ℕ) (i : ℕ) → highest < digits_value 10 (take i ds) → None ≡ written_within highest ds
+too_high highest ds i h =
+    let le = digits_value-take-le 10 ds i (omega arith) in
+    let lt : highest < digits_value 10 ds = omega arith in
+    sym (cond-true (ltb highest (digits_value 10 ds)) None (Some (digits_value 10 ds)) (above highest (digits_value 10 ds) lt))
+
+pub written : (highest : ℕ) (ds : List ℕ) (i n : ℕ) → length ds ≤ i → n ≡ digits_value 10 (take i ds) → n ≤ highest
+    → Some n ≡ written_within highest ds
+written highest ds i n all is low =
     let e : n ≡ digits_value 10 ds = is ∙ ap (digits_value 10) (take_all i ds all) in
-    let v = digits_value 10 ds in
-    ap (λ x. Some x) e ∙ sym (cond-false (ltb 4294967295 v) None (Some v) (below v (omega arith)))
-  where
-    below : (n : ℕ) → n < 4294967296 → ltb 4294967295 n ≡ false
-    below n h = grind (arith, nat_tests)
+    ap (λ x. Some x) e
+    ∙ sym (cond-false (ltb highest (digits_value 10 ds)) None (Some (digits_value 10 ds)) (below highest (digits_value 10 ds) (omega arith)))

@@ -84,7 +84,7 @@ no_fault t bytes script f short s h = let e : Ok script ≡ Err f = sym (reading
 -- ---- what is spelled is within the limits
 
 -- an assertion that is declared alone fits
-unit_fits : (t : Tables) (st : Statement) (a : Assertion) → IsSoundPrelude t → AllByRecursion IsWord (spelling st) → DeclaresAlone t st a
+pub unit_fits : (t : Tables) (st : Statement) (a : Assertion) → IsSoundPrelude t → AllByRecursion IsWord (spelling st) → DeclaresAlone t st a
     → Fits t a
 unit_fits t st a sound words d =
     let before = alone_sound t true (sound_tables t sound) in
@@ -112,7 +112,7 @@ command_fits t sound (command.Show label) ws words d = tt
 command_fits t sound command.List ws words d = tt
 
 -- what holds of each item that words spell, holds of all
-each_fits : {A : Type 0} (spells : A → List Word → Type 0) (P : A → Type 0)
+pub each_fits : {A : Type 0} (spells : A → List Word → Type 0) (P : A → Type 0)
     → ((x : A) (ws : List Word) → AllByRecursion IsWord ws → spells x ws → P x) → (xs : List A) (ws : List Word)
     → AllByRecursion IsWord ws → SpellsEach spells xs ws → All P xs
 each_fits spells P one [] ws words d = All-nil P
@@ -120,7 +120,7 @@ each_fits spells P one (x ∷ xs) ws words d =
     let all = subst (AllByRecursion IsWord) d.2 words in
     All-cons P x xs (one x d.0 (all_left IsWord d.0 d.1 all) d.3) (each_fits spells P one xs d.1 (all_right IsWord d.0 d.1 all) d.4)
 
-transaction_fits : (t : Tables) → IsSoundPrelude t → (commands : List Command) (ws : List Word) → AllByRecursion IsWord ws
+pub transaction_fits : (t : Tables) → IsSoundPrelude t → (commands : List Command) (ws : List Word) → AllByRecursion IsWord ws
     → SpellsTransaction t commands ws → All (CommandFits t) commands
 transaction_fits t sound commands ws words d =
     let all = subst (AllByRecursion IsWord) d.2 words in

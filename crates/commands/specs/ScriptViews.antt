@@ -24,9 +24,13 @@ use Rattle.commands.specs.ScriptFaults.{Led, inside, whole_command, bad, bad_tex
 
 -- ---- words
 
--- the number of digits, up to the highest rank
+-- the number of digits, up to a highest
+abbrev pub written_within : ℕ → Word → Option ℕ
+written_within highest w = if nat_lt highest (digits_value 10 w) then None else Some (digits_value 10 w)
+
+-- a rank
 abbrev pub rank_written : Word → Option ℕ
-rank_written w = if nat_lt highest_rank (digits_value 10 w) then None else Some (digits_value 10 w)
+rank_written w = written_within highest_rank w
 
 -- the place of the hypothesis that a word names in another proof of L
 unfoldable pub place_numbered : Word → Word → Option ℕ
@@ -36,11 +40,15 @@ place_numbered label w = counted_from_0 (hypothesis_numbered label w)
 abbrev pub label_at : Token → Result Word TextFault
 label_at t = if has_dollar t.text then fault t BadToken else Ok t.text
 
+-- a number up to a highest, or the fault of a token that isn't one
+abbrev pub number_at : ℕ → Token → Result ℕ TextFault
+number_at highest t =
+    if is_numeral t.text then (if nat_lt highest (digits_value 10 t.text) then fault t TooLong else Ok (digits_value 10 t.text))
+    else fault t BadToken
+
 -- a rank, or the fault of a token that isn't one
 abbrev pub rank_at : Token → Result ℕ TextFault
-rank_at t =
-    if is_numeral t.text then (if nat_lt highest_rank (digits_value 10 t.text) then fault t TooLong else Ok (digits_value 10 t.text))
-    else fault t BadToken
+rank_at t = number_at highest_rank t
 
 -- ---- places
 

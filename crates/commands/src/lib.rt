@@ -14,7 +14,10 @@ pub use laws::{
 };
 pub use library::{PlainLibrary, Ranked};
 pub use reason::{Reason, Refused};
-pub use script::read_script;
+pub use script::{
+    CommandPlace, Led, count, is_numeral, number, read_command_word, read_in_command, read_label,
+    read_rank, read_script,
+};
 
 #[cfg(test)]
 mod tests;

@@ -18,13 +18,15 @@ mod numerals;
 mod place;
 
 use crate::command::{Command, Script, Transaction};
-use command_rows::{read_command_word, read_in_command};
+pub use command_rows::{read_command_word, read_in_command, read_label, read_rank};
 use mmstatement::{FaultKind, Prelude, Sequence, TextFault};
 use mmtext::{
     Stop, Token, Turn, comment_turn, fault_at, mark_word, next_token, no_memory, text_fault,
     unfinished_at,
 };
-use place::{Led, Place, Progress, State};
+pub use numerals::{count, is_numeral, number};
+use place::{Place, Progress, State};
+pub use place::{CommandPlace, Led};
 use std::alloc::Global;
 
 /// A place in a command, or one more command behind the others.

@@ -2,3 +2,4 @@ pub mod Grammar
 pub mod Places
 pub mod Layout
 pub mod Laws
+pub mod Views

@@ -1,5 +1,5 @@
 -- Scripts that are spelled one after another, and the first that has a fault.
-use Rattle.std.proofs.Common.{◌≡◌, ◌≢◌, ◌∙◌, ◌+◌, ◌<◌, ◌≤◌, ◌⊎◌, inl, inr, Result, Err, ℕ, zero, suc, List, [], ◌∷◌, ◌++◌, length, get_or, map, take, drop, Vec, subst, sym, ap, refl, arith, add-one}
+use Rattle.std.proofs.Common.{◌≡◌, ◌≢◌, ◌∙◌, ◌+◌, ◌<◌, ◌≤◌, ◌⊎◌, inl, inr, Result, Err, ℕ, zero, suc, List, [], ◌∷◌, ◌++◌, length, get_or, map, take, drop, Vec, subst, sym, ap, refl, arith}
 use Rattle.std.specs.declared.alloc.Global.{Global}
 use Rattle.std.proofs.lemmas.List.{take_more, take_all, take-append-drop, length-take-le, map-append}
 use Rattle.std.proofs.Math.Seq.{drop-cons}
@@ -8,7 +8,7 @@ use Rattle.mmtext.specs.declared.fault.FaultKind.TheVariants.{NoMemory as OutOfM
 use Rattle.commands.specs.Scripts.{SpellsScript}
 use Rattle.commands.specs.ScriptFaults.{FaultyScript}
 use Rattle.jobs.specs.declared.job.Fault.{Fault}
-use Rattle.jobs.specs.declared.job.Fault.TheVariants.{Text, Proof, NoMemory}
+use Rattle.jobs.specs.declared.job.Fault.TheVariants.{Text, Proof, Differs, NoMemory}
 use Rattle.jobs.specs.Jobs.{Bytes, Orders, IsScript, AreScripts, IsFirstFault, IsScriptFault, IsTextFaultOf, IsRefusedBy, IsRefusedWith}
 use Rattle.mmsyntax.specs.Tables.{Tables}
 
@@ -71,6 +71,7 @@ module _ (p : Tables) where
   pub script_fault : (ts : Texts) (xs : List Orders) (t : Vec ℕ Global) (i : ℕ) (f : TextFault) (fault : Fault) → i < length ts → t ≡ get_or ts i t → AreScripts p (bytes (take i ts)) xs
       → (f.kind ≢ OutOfMemory → FaultyScript p t.items f) → IsTextFaultOf (i + 1) f fault → IsScriptFault p (bytes ts) fault
   script_fault ts xs t i f NoMemory within is_t h faulty is = tt
+  script_fault ts xs t i f (Differs n) within is_t h faulty is = elim is [ ]
   script_fault ts xs t i f (Proof label g) within is_t h faulty is = elim is [ ]
   script_fault ts xs t i f (Text zero g) within is_t h faulty is = absurd (let z : 0 ≡ i + 1 = is.0 in omega arith)
   script_fault ts xs t i f (Text (suc k) g) within is_t h faulty is =
@@ -85,8 +86,9 @@ module _ (p : Tables) where
   abbrev Answers : (TextFault → Type 0) → TextFault → Type 0
   Answers F g = (h : TextFault) → F h → (g ≡ h) ⊎ (g.kind ≡ OutOfMemory)
 
-  refused_with : (n : ℕ) (g f : TextFault) (fault : Fault) → IsTextFaultOf n g fault → (g ≡ f) ⊎ (g.kind ≡ OutOfMemory) → IsRefusedBy n f fault
+  pub refused_with : (n : ℕ) (g f : TextFault) (fault : Fault) → IsTextFaultOf n g fault → (g ≡ f) ⊎ (g.kind ≡ OutOfMemory) → IsRefusedBy n f fault
   refused_with n g f NoMemory is h = tt
+  refused_with n g f (Differs j) is h = elim is [ ]
   refused_with n g f (Text m q) is (inl same) = (is.0, is.1 ∙ same)
   refused_with n g f (Text m q) is (inr out) = absurd (is.2 out)
   refused_with n g f (Proof label q) is h = elim is [ ]
@@ -94,6 +96,7 @@ module _ (p : Tables) where
   -- where the text has no fault, memory ran out
   out_of_memory : (n k : ℕ) (g f : TextFault) (fault : Fault) → IsTextFaultOf n g fault → (g.kind ≢ OutOfMemory → ⊥) → IsRefusedBy k f fault
   out_of_memory n k g f NoMemory is h = tt
+  out_of_memory n k g f (Differs j) is h = elim is [ ]
   out_of_memory n k g f (Text m q) is h = absurd (h is.2)
   out_of_memory n k g f (Proof label q) is h = elim is [ ]
 

@@ -2,3 +2,5 @@ pub mod Fitting
 pub mod Faults
 pub mod JobFaults
 pub mod Turns
+pub mod Kept
+pub mod ReplayFaults

@@ -1,5 +1,5 @@
 -- What a job prints, and which fault it has.
-use Rattle.std.specs.Prelude.{◌≡◌, ◌≢◌, ◌+◌, ◌⊎◌, ℕ, zero, suc, List, [], ◌∷◌, ◌++◌, Option, Some, None, codes, length, map, slice_get}
+use Rattle.std.specs.Prelude.{◌≡◌, ◌≢◌, ◌+◌, ◌⊎◌, ℕ, zero, suc, List, [], ◌∷◌, ◌++◌, Some, codes, length, map, slice_get}
 use Rattle.std.specs.Prelude.{Result, Ok, Err}
 use Rattle.std.specs.Fmt.{decimal}
 use Rattle.mmsyntax.specs.declared.statement.Assertion.{Assertion}
@@ -12,16 +12,22 @@ use Rattle.proofcheck.specs.declared.fault.ProofFault.{ProofFault}
 use Rattle.proofcheck.specs.declared.fault.ProofFaultKind.TheVariants.{NoMemory as NoMemoryOfProof}
 use Rattle.proofcheck.specs.Databases.{AllCheck, IsFirstFault as IsFirstFaultOfProofs}
 use Rattle.commands.specs.declared.command.Command.{Command}
-use Rattle.commands.specs.Library.{Listed, ShowsInOrder}
+use Rattle.commands.specs.Library.{Listed, ShowsInOrder, opening}
 use Rattle.commands.specs.Scripts.{SpellsScript}
 use Rattle.commands.specs.ScriptFaults.{FaultyScript}
+use Rattle.history.specs.declared.history.Entry.{Entry}
+use Rattle.history.specs.Histories.{told, after_all, IsLegal}
+use Rattle.history.specs.Replays.{IsFirstDiffering}
+use Rattle.histories.specs.Grammar.{SpellsHistory}
+use Rattle.histories.specs.Places.{FaultyHistory}
+use Rattle.histories.specs.Layout.{history_text}
 use Rattle.export.specs.Exported.{Accepts, exported_text}
 use Rattle.jobs.specs.declared.job.Job.{Job}
-use Rattle.jobs.specs.declared.job.Job.TheVariants.{Check, Run}
+use Rattle.jobs.specs.declared.job.Job.TheVariants.{Check, Run, Replay}
 use Rattle.jobs.specs.declared.job.Printed.{Printed}
 use Rattle.jobs.specs.declared.job.Fault.{Fault}
-use Rattle.jobs.specs.declared.job.Fault.TheVariants.{Text, Proof, NoMemory}
-use Rattle.jobs.specs.Outcomes.{setting_of, at_opening, after_scripts}
+use Rattle.jobs.specs.declared.job.Fault.TheVariants.{Text, Proof, Differs, NoMemory}
+use Rattle.jobs.specs.Outcomes.{Standing, setting_of, at_opening, after_scripts}
 
 abbrev pub Bytes : Type 0
 Bytes = List ℕ
@@ -32,13 +38,34 @@ Orders = List (List Command)
 
 -- ---- what is printed
 
--- a report, the line `library`, and the exported text of the library after all transactions, which is accepted
-pub record PrintsRun (contents : Contents) (scripts : List Orders) (out : Bytes) : Type 0 where
+-- the line `library`, and the exported text of a library
+abbrev pub library_lines : Listed → Bytes
+library_lines library = codes "library" ++ 10 ∷ exported_text library
+
+-- where the transactions of scripts leave
+abbrev pub left_by : Contents → List Orders → Standing
+left_by contents scripts = after_scripts (setting_of contents) (at_opening contents) scripts
+
+-- a report, and the library after all transactions, whose text is accepted; and the text of the history, which is of exactly those that
+-- were committed. Its replies are the editor's, and the library is the one after it
+pub record PrintsRun (contents : Contents) (scripts : List Orders) (out history : Bytes) : Type 0 where
   pub library : Listed
   pub setting : library.setting ≡ setting_of contents
-  pub shows : ShowsInOrder (after_scripts (setting_of contents) (at_opening contents) scripts).library library.entries
+  pub shows : ShowsInOrder (left_by contents scripts).library library.entries
   pub report : Bytes
-  pub prints : out ≡ report ++ (codes "library" ++ 10 ∷ exported_text library)
+  pub prints : out ≡ report ++ library_lines library
+  pub accepted : Accepts (exported_text library)
+  pub kept : history ≡ history_text contents.prelude (left_by contents scripts).entries
+  pub legal : IsLegal (setting_of contents) (opening contents) (map told (left_by contents scripts).entries)
+  pub follows : ShowsInOrder (after_all (setting_of contents) (opening contents) (map told (left_by contents scripts).entries)) library.entries
+
+-- `replayed`, the number of entries, and the library after them, whose text is accepted: the history is legal
+pub record PrintsReplay (contents : Contents) (history : List Entry) (out : Bytes) : Type 0 where
+  pub library : Listed
+  pub setting : library.setting ≡ setting_of contents
+  pub legal : IsLegal (setting_of contents) (opening contents) (map told history)
+  pub shows : ShowsInOrder (after_all (setting_of contents) (opening contents) (map told history)) library.entries
+  pub prints : out ≡ codes "replayed " ++ (decimal (length history) ++ 10 ∷ library_lines library)
   pub accepted : Accepts (exported_text library)
 
 -- the text of a database: it spells these contents, and has no fault
@@ -58,6 +85,11 @@ AreScripts p [] (x ∷ xs) = ⊥
 AreScripts p (t ∷ ts) [] = ⊥
 AreScripts p (t ∷ ts) (x ∷ xs) = IsScript p t x × AreScripts p ts xs
 
+-- the text of a history over a prelude: it spells these entries, and has no fault
+pub record IsHistory (p : Tables) (text : Bytes) (history : List Entry) : Type 0 where
+  pub spelled : SpellsHistory p text history
+  pub faultless : (f : TextFault) → FaultyHistory p text f → ⊥
+
 -- the text of a database of which each proof checks
 pub record IsChecked (text : Bytes) (contents : Contents) : Type 0 where
   pub read : IsDatabase text contents
@@ -71,16 +103,26 @@ pub record IsCheck (db : Bytes) (out : Bytes) : Type 0 where
 
 -- the database is read as it is spelled, and its proofs check; the scripts are read as they are spelled; and what is printed is that of
 -- their run
-pub record IsRun (db : Bytes) (texts : List Bytes) (out : Bytes) : Type 0 where
+pub record IsRun (db : Bytes) (texts : List Bytes) (out history : Bytes) : Type 0 where
   pub contents : Contents
   pub checked : IsChecked db contents
   pub scripts : List Orders
   pub ordered : AreScripts contents.prelude texts scripts
-  pub printed : PrintsRun contents scripts out
+  pub printed : PrintsRun contents scripts out history
+
+-- the database is read as it is spelled, and its proofs check; the history is read as it is spelled; and what is printed is that of its
+-- replay
+pub record IsReplay (db text : Bytes) (out : Bytes) : Type 0 where
+  pub contents : Contents
+  pub checked : IsChecked db contents
+  pub history : List Entry
+  pub read : IsHistory contents.prelude text history
+  pub printed : PrintsReplay contents history out
 
 abbrev pub DoneAsAsked : Job → Printed → Type 0
-DoneAsAsked (Check db) p = IsCheck db.items p.out.items
-DoneAsAsked (Run db texts) p = IsRun db.items (map (λ t. t.items) texts.items) p.out.items
+DoneAsAsked (Check db) p = IsCheck db.items p.out.items × (p.history.items ≡ [])
+DoneAsAsked (Run db texts) p = IsRun db.items (map (λ t. t.items) texts.items) p.out.items p.history.items
+DoneAsAsked (Replay db history) p = IsReplay db.items history.items p.out.items × (p.history.items ≡ [])
 
 -- ---- faults
 
@@ -112,10 +154,25 @@ IsRunFault db texts (Text (suc k) f) =
     ((contents : Contents) × IsChecked db contents × IsFirstFault contents.prelude texts k f) × (f.kind ≢ OutOfMemory)
 IsRunFault db texts f = IsDatabaseFault db f
 
+-- an entry is the first of the history that differs
+abbrev pub IsDifference : Contents → List Entry → Fault → Type 0
+IsDifference contents history (Differs n) = IsFirstDiffering (setting_of contents) (opening contents) (map told history) n
+IsDifference contents history _ = ⊥
+
+-- the fault of a replay: that of its database, or of the history's text, or the first entry that differs
+abbrev pub IsReplayFault : Bytes → Bytes → Fault → Type 0
+IsReplayFault db text (Text (suc zero) f) =
+    ((contents : Contents) × IsChecked db contents × FaultyHistory contents.prelude text f) × (f.kind ≢ OutOfMemory)
+IsReplayFault db text (Differs n) =
+    (contents : Contents) × (history : List Entry) × IsChecked db contents × IsHistory contents.prelude text history
+    × IsDifference contents history (Differs n)
+IsReplayFault db text f = IsDatabaseFault db f
+
 -- the first fault that a job has
 abbrev pub IsFaultOf : Job → Fault → Type 0
 IsFaultOf (Check db) f = IsDatabaseFault db.items f
 IsFaultOf (Run db texts) f = IsRunFault db.items (map (λ t. t.items) texts.items) f
+IsFaultOf (Replay db history) f = IsReplayFault db.items history.items f
 
 -- the answer where there is a fault: that fault, unless memory ran out
 abbrev pub IsOrLacksMemory : Fault → Fault → Type 0
@@ -156,7 +213,24 @@ IsProofFaultOf contents number fault (Proof label f) =
 IsProofFaultOf contents number fault NoMemory = Unit {0}
 IsProofFaultOf contents number fault _ = ⊥
 
--- the answer is the contents, unless memory ran out
-abbrev pub GivesOrLacksMemory : Result Contents Fault → Contents → Type 0
-GivesOrLacksMemory (Ok found) contents = found ≡ contents
-GivesOrLacksMemory (Err f) contents = f ≡ NoMemory
+-- the answer is what there is, unless memory ran out
+abbrev pub GivesOrLacksMemory : {A : Type 0} → Result A Fault → A → Type 0
+GivesOrLacksMemory (Ok found) a = found ≡ a
+GivesOrLacksMemory (Err f) a = f ≡ NoMemory
+
+-- the history's part of a fault
+abbrev pub IsHistoryFault : Tables → Bytes → Fault → Type 0
+IsHistoryFault p text (Text (suc zero) f) = FaultyHistory p text f × (f.kind ≢ OutOfMemory)
+IsHistoryFault p text NoMemory = Unit {0}
+IsHistoryFault p text _ = ⊥
+
+-- a library to which a history leads
+pub record IsReplayed (contents : Contents) (history : List Entry) (library : Listed) : Type 0 where
+  pub setting : library.setting ≡ setting_of contents
+  pub legal : IsLegal (setting_of contents) (opening contents) (map told history)
+  pub shows : ShowsInOrder (after_all (setting_of contents) (opening contents) (map told history)) library.entries
+
+-- what is printed of a run behind its report
+pub record ReportsRun (library : Listed) (out : Bytes) : Type 0 where
+  pub report : Bytes
+  pub prints : out ≡ report ++ library_lines library

@@ -1,5 +1,5 @@
 -- The outcomes of scripts that one editor runs, one after another.
-use Rattle.std.specs.Prelude.{◌≡◌, ◌+◌, ℕ, Bool, true, false, nat_lt, List, [], ◌∷◌, length, Result, Ok, Err, All, if◌then◌else◌}
+use Rattle.std.specs.Prelude.{◌+◌, ℕ, Bool, true, false, nat_lt, List, [], ◌∷◌, ◌++◌, length, Result, Ok, Err, All, if◌then◌else◌}
 use Rattle.std.specs.List.{list_any}
 use Rattle.mmsyntax.specs.Tables.{Tables, Contents}
 use Rattle.commands.specs.declared.library.Ranked.{Ranked}
@@ -9,8 +9,9 @@ use Rattle.commands.specs.declared.reason.Refused.{Refused as Refusal}
 use Rattle.commands.specs.Library.{Setting, opening}
 use Rattle.commands.specs.Fitting.{ReplyFits}
 use Rattle.commands.specs.Transactions.{Applied, apply, library_of}
+use Rattle.history.specs.declared.history.Entry.{Entry}
+use Rattle.history.specs.declared.history.Entry.TheVariants.{Done}
 use Rattle.history.specs.Editors.{Held}
-use Rattle.jobs.specs.declared.edits.Place.{Place}
 use Rattle.jobs.specs.declared.outcome.Outcome.{Outcome}
 use Rattle.jobs.specs.declared.outcome.Outcome.TheVariants.{Committed, Read, Refused, TooManyCommands}
 
@@ -32,18 +33,18 @@ has_too_many cs = nat_lt 16 (length cs)
 abbrev pub setting_of : Contents → Setting
 setting_of db = record { prelude = db.prelude; slots = 4096 }
 
--- the library after the transactions so far, and how many of them were committed
+-- the library after the transactions so far, and the history of those that were committed
 pub record Standing : Type 0 where
   pub library : List Ranked
-  pub count : ℕ
+  pub entries : List Entry
 
 -- where an editor stands whose history has these entries
-abbrev pub standing : Held → List Place → Standing
-standing e history = record { library = e.library; count = length history }
+abbrev pub standing : Held → List Entry → Standing
+standing e history = record { library = e.library; entries = history }
 
 -- where the editor of a database begins
 abbrev pub at_opening : Contents → Standing
-at_opening db = record { library = opening db; count = 0 }
+at_opening db = record { library = opening db; entries = [] }
 
 -- an edit that is not refused is committed with the next number; what only reads, and a refusal, stand at the count so far
 abbrev pub outcome_of : ℕ → Bool → Result Applied Refusal → Outcome
@@ -51,10 +52,11 @@ outcome_of n true (Ok a) = Committed (n + 1) a.replies
 outcome_of n false (Ok a) = Read n a.replies
 outcome_of n edits (Err r) = Refused n r.index r.reason
 
-abbrev pub count_after : ℕ → Bool → Result Applied Refusal → ℕ
-count_after n true (Ok a) = n + 1
-count_after n false (Ok a) = n
-count_after n edits (Err r) = n
+-- the first becomes the next entry of the history
+abbrev pub entries_after : List Command → List Entry → Bool → Result Applied Refusal → List Entry
+entries_after cs h true (Ok a) = h ++ Done cs a.replies ∷ []
+entries_after cs h false (Ok a) = h
+entries_after cs h edits (Err r) = h
 
 -- the answer of the transaction's definition
 abbrev pub answer_to : Setting → Standing → List Command → Result Applied Refusal
@@ -62,12 +64,12 @@ answer_to s now cs = apply s now.library cs
 
 -- what becomes of a transaction within the limit
 abbrev pub answered : Setting → Standing → List Command → Outcome
-answered s now cs = outcome_of now.count (list_any is_edit cs) (answer_to s now cs)
+answered s now cs = outcome_of (length now.entries) (list_any is_edit cs) (answer_to s now cs)
 
 abbrev pub moved : Setting → Standing → List Command → Standing
 moved s now cs = record {
   library = library_of now.library (answer_to s now cs);
-  count = count_after now.count (list_any is_edit cs) (answer_to s now cs);
+  entries = entries_after cs now.entries (list_any is_edit cs) (answer_to s now cs);
 }
 
 -- one of more commands is not looked at

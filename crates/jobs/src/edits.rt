@@ -1,33 +1,29 @@
 //! Scripts run one after another over one editor.
 
-ghost use Rattle.std.specs.Prelude.{◌≡◌, ◌≤◌, ◌<◌, ◌^◌, [], length, All, IfOk, OnOk};
+ghost use Rattle.std.specs.Prelude.{◌≡◌, ◌≤◌, ◌<◌, ◌^◌, [], length, map, All, IfOk, OnOk};
 ghost use Rattle.std.specs.List.{list_any};
 ghost use Rattle.proofcheck.specs.Databases.{AllCheck};
 ghost use Rattle.commands.specs.Library.{opening, ShowsInOrder};
 ghost use Rattle.commands.specs.Fitting.{CommandFits};
+ghost use Rattle.history.specs.Histories.{told, after_all, IsLegal};
+ghost use Rattle.histories.specs.Layout.{EntryFits};
 ghost use Rattle.export.specs.Exported.{Accepts, exported_text};
 ghost use Rattle.jobs.specs.Outcomes.{setting_of, is_edit, standing, at_opening, answered, moved, outcome_at, standing_after};
 ghost use Rattle.jobs.specs.Outcomes.{script_outcomes, after_script, all_outcomes, after_scripts, OutcomeFits, OutcomesFit};
 
+use crate::entries::done_entry;
 use crate::outcome::Outcome;
 use commands::{Command, PlainLibrary, Script, Transaction};
-use history::{ApplyError, Editor, OpenError};
+use history::{ApplyError, Editor, Entry, History, OpenError};
 use mmstatement::{Database, Sequence};
 use std::alloc::{AllocError, Global};
 use std::hash::RandomState;
 
 /// The slots of a library of the program.
-const SLOTS: usize = 4096;
+pub(crate) const SLOTS: usize = 4096;
 
 /// The most commands of a transaction.
 const MOST_COMMANDS: usize = 16;
-
-/// Where a committed transaction stands in the scripts: both count from 0.
-#[derive(Clone, Copy, Debug)]
-pub(crate) struct Place {
-    pub script: usize,
-    pub transaction: usize,
-}
 
 /// Whether a command changes the library where it is not refused.
 fn is_edit_command(command: &Command) -> bool
@@ -50,7 +46,7 @@ fn has_edit(commands: &[Command]) -> bool
 }
 
 /// The number of entries of a history.
-fn count_of(history: &[Place]) -> u64
+fn count_of(history: &[Entry]) -> u64
     ensures value { result ≡ length history.now }
     ensures small { result < 2 ^ 62 }
 {
@@ -61,8 +57,7 @@ fn count_of(history: &[Place]) -> u64
 fn submit(
     alloc: Global,
     editor: &mut Editor,
-    history: &mut Vec<Place>,
-    place: Place,
+    history: &mut Vec<Entry>,
     transaction: &[Command],
 ) -> Result<Outcome, AllocError>
     requires fit { All (CommandFits editor.old.setting.prelude) transaction.now }
@@ -77,7 +72,7 @@ fn submit(
     match editor.apply(alloc, transaction) {
         Ok(replies) => {
             if edits {
-                history.push(place)?;
+                history.push(done_entry(alloc, transaction, replies.as_slice())?)?;
                 Ok(Outcome::Committed {
                     number: before + 1,
                     replies,
@@ -102,8 +97,7 @@ fn submit(
 fn attempt(
     alloc: Global,
     editor: &mut Editor,
-    history: &mut Vec<Place>,
-    place: Place,
+    history: &mut Vec<Entry>,
     transaction: &[Command],
 ) -> Result<Outcome, AllocError>
     requires fit { All (CommandFits editor.old.setting.prelude) transaction.now }
@@ -115,15 +109,14 @@ fn attempt(
     if transaction.len() > MOST_COMMANDS {
         return Ok(Outcome::TooManyCommands);
     }
-    submit(alloc, editor, history, place, transaction)
+    submit(alloc, editor, history, transaction)
 }
 
 /// Runs the transactions of a script in order, whatever their outcomes.
 fn run_script(
     alloc: Global,
     editor: &mut Editor,
-    history: &mut Vec<Place>,
-    number: usize,
+    history: &mut Vec<Entry>,
     script: &[Transaction],
 ) -> Result<Sequence<Outcome>, AllocError>
     requires fit { All (All (CommandFits editor.old.setting.prelude)) script.now }
@@ -133,12 +126,8 @@ fn run_script(
     ensures fits { IfOk result (All (OutcomeFits editor.old.setting.prelude)) }
 {
     let mut outcomes = Vec::new(alloc);
-    for (i, transaction) in script.iter().enumerate() {
-        let place = Place {
-            script: number,
-            transaction: i,
-        };
-        outcomes.push(attempt(alloc, editor, history, place, transaction.as_slice())?)?;
+    for transaction in script {
+        outcomes.push(attempt(alloc, editor, history, transaction.as_slice())?)?;
     }
     Ok(Sequence::from_vec(outcomes))
 }
@@ -147,18 +136,18 @@ fn run_script(
 fn run_all(
     alloc: Global,
     editor: &mut Editor,
+    history: &mut Vec<Entry>,
     scripts: &[Script],
 ) -> Result<Sequence<Sequence<Outcome>>, AllocError>
     requires fit { All (All (All (CommandFits editor.old.setting.prelude))) scripts.now }
     ensures setting { editor.new.setting ≡ editor.old.setting }
-    ensures outcomes { IfOk result (λ os. os ≡ all_outcomes editor.old.setting (standing editor.old []) scripts.now) }
-    ensures after { OnOk result (editor.new.library ≡ (after_scripts editor.old.setting (standing editor.old []) scripts.now).library) }
+    ensures outcomes { IfOk result (λ os. os ≡ all_outcomes editor.old.setting (standing editor.old history.old.items) scripts.now) }
+    ensures after { OnOk result (standing editor.new history.new.items ≡ after_scripts editor.old.setting (standing editor.old history.old.items) scripts.now) }
     ensures fits { IfOk result (OutcomesFit editor.old.setting.prelude) }
 {
-    let mut history = Vec::new(alloc);
     let mut rows = Vec::new(alloc);
-    for (i, script) in scripts.iter().enumerate() {
-        rows.push(run_script(alloc, editor, &mut history, i, script.as_slice())?)?;
+    for script in scripts {
+        rows.push(run_script(alloc, editor, history, script.as_slice())?)?;
     }
     Ok(Sequence::from_vec(rows))
 }
@@ -177,32 +166,54 @@ fn open(alloc: Global, keys: RandomState, db: &Database) -> Result<Editor, Alloc
     }
 }
 
+/// What the transactions of all scripts leave.
+#[derive(Drop)]
+pub(crate) struct Edited {
+    /// What became of each transaction, script after script.
+    pub outcomes: Sequence<Sequence<Outcome>>,
+    /// The committed transactions with their replies, in the order of their numbers from 1.
+    pub history: History,
+    /// The library after them.
+    pub library: PlainLibrary,
+}
+
 /// Runs the transactions of all scripts, script after script, over one editor of the database, whose proofs check.
 ///
 /// An edit that is not refused is `Committed` with the next number from 1. What only reads is `Read`, and a refusal `Refused`, with the
 /// number of commits so far as its place; more than 16 commands are `TooManyCommands`. The library has 4,096 slots, and is the one after
 /// all transactions. Fails only for want of memory.
-pub fn edit_all(
+pub(crate) fn edit_all(
     alloc: Global,
     keys: RandomState,
     db: &Database,
     scripts: &[Script],
-) -> Result<(Sequence<Sequence<Outcome>>, PlainLibrary), AllocError>
+) -> Result<Edited, AllocError>
     requires checks { AllCheck db.now }
     requires fit { All (All (All (CommandFits db.now.prelude))) scripts.now }
     // The outcomes are those of the transactions' definition, in order from the opening library.
-    ensures outcomes { IfOk result (λ r. r.0 ≡ all_outcomes (setting_of db.now) (at_opening db.now) scripts.now) }
-    // The library is the one after them, in export order.
-    ensures setting { IfOk result (λ r. r.1.setting ≡ setting_of db.now) }
-    ensures library { IfOk result (λ r. ShowsInOrder (after_scripts (setting_of db.now) (at_opening db.now) scripts.now).library r.1.entries) }
+    ensures outcomes { IfOk result (λ e. e.outcomes ≡ all_outcomes (setting_of db.now) (at_opening db.now) scripts.now) }
+    // The history holds those that were committed. Each entry's replies are the editor's, and the library of the run is the one after it.
+    ensures history { IfOk result (λ e. e.history ≡ (after_scripts (setting_of db.now) (at_opening db.now) scripts.now).entries) }
+    ensures legal { IfOk result (λ e. IsLegal (setting_of db.now) (opening db.now) (map told e.history)) }
+    ensures follows { IfOk result (λ e. ShowsInOrder (after_all (setting_of db.now) (opening db.now) (map told e.history)) e.library.entries) }
+    // The library is the one after the transactions, in export order.
+    ensures setting { IfOk result (λ e. e.library.setting ≡ setting_of db.now) }
+    ensures library { IfOk result (λ e. ShowsInOrder (after_scripts (setting_of db.now) (at_opening db.now) scripts.now).library e.library.entries) }
     // Its export is a text that a checker of databases accepts.
-    ensures accepted { IfOk result (λ r. Accepts (exported_text r.1)) }
-    // What is shown can be printed.
-    ensures fits { IfOk result (λ r. OutcomesFit db.now.prelude r.0) }
+    ensures accepted { IfOk result (λ e. Accepts (exported_text e.library)) }
+    // What is shown, and the history, can be printed.
+    ensures fits { IfOk result (λ e. OutcomesFit db.now.prelude e.outcomes) }
+    ensures written { IfOk result (λ e. All (EntryFits db.now.prelude) e.history) }
 {
     let mut editor = open(alloc, keys, db)?;
-    let outcomes = run_all(alloc, &mut editor, scripts)?;
+    let _count = editor.assertion_count();
+    let mut history = Vec::new(alloc);
+    let outcomes = run_all(alloc, &mut editor, &mut history, scripts)?;
     let library = editor.into_library();
     let _entries = library.entries();
-    Ok((outcomes, library))
+    Ok(Edited {
+        outcomes,
+        history: Sequence::from_vec(history),
+        library,
+    })
 }

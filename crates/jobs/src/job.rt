@@ -1,7 +1,9 @@
 //! What the program is asked to do, what it prints, and why it prints nothing.
 
+ghost use Rattle.jobs.specs.Jobs.{IsTextFaultOf};
+
 use crate::report::text_of;
-use mmstatement::{Label, TextFault};
+use mmstatement::{FaultKind, Label, TextFault};
 use proofcheck::ProofFault;
 use std::alloc::{AllocError, AllocFailed};
 use thiserror::Error;
@@ -13,6 +15,8 @@ pub enum Job {
     Check { db: Vec<u8> },
     /// Runs the scripts, one after another, over the library of a database.
     Run { db: Vec<u8>, scripts: Vec<Vec<u8>> },
+    /// Does the transactions of a history again, over the library of a database, and compares their replies.
+    Replay { db: Vec<u8>, history: Vec<u8> },
 }
 
 /// What a job prints.
@@ -20,17 +24,22 @@ pub enum Job {
 pub struct Printed {
     /// The text for the standard output.
     pub out: Vec<u8>,
+    /// The text of a run's history: the transactions that were committed, with their replies. Empty for other jobs.
+    pub history: Vec<u8>,
 }
 
 /// Why a job prints nothing. Its text is the program's line, without the path of the file at fault.
 #[derive(Debug, Drop, Error)]
 pub enum Fault {
-    /// A text is not read. Texts count from 0: the database, then each script.
+    /// A text is not read. Texts count from 0: the database, then each script, or the history.
     #[error("text {} {} at byte {}", .fault.kind.number(), .fault.kind.name(), .fault.place)]
     Text { file: usize, fault: TextFault },
     /// The proof of the theorem with a label has a fault.
     #[error("proof of {}: step {}: {}", text_of(.label), .fault.step, .fault.kind)]
     Proof { label: Label, fault: ProofFault },
+    /// An entry of the history, counted from 1, is the first whose replies aren't the library's.
+    #[error("entry {0} differs")]
+    Differs(usize),
     /// Memory ran out.
     #[error("no memory")]
     NoMemory,
@@ -55,5 +64,16 @@ impl<T: Drop> From<AllocFailed<T>> for Fault {
 
     fn from(_error: AllocFailed<T>) -> Fault {
         Fault::NoMemory
+    }
+}
+
+/// The fault of a text, or want of memory.
+pub(crate) fn text_fault(file: usize, fault: TextFault) -> Fault
+    ensures { IsTextFaultOf file fault result }
+{
+    if fault.kind == FaultKind::NoMemory {
+        Fault::NoMemory
+    } else {
+        Fault::Text { file, fault }
     }
 }

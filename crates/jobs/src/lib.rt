@@ -2,9 +2,11 @@
 #![tactic(auto)]
 
 mod edits;
+mod entries;
 mod job;
 mod outcome;
 mod performing;
+mod replaying;
 mod report;
 #[cfg(test)]
 mod tests;

@@ -7,33 +7,25 @@ ghost use Rattle.mmtext.specs.declared.fault.TextFault.{TextFault as FaultOfText
 ghost use Rattle.proofcheck.specs.Databases.{AllCheck, IsFirstFault as IsFirstFaultOfProofs};
 ghost use Rattle.jobs.specs.declared.job.Fault.{Fault as FaultOfJob};
 ghost use Rattle.jobs.specs.declared.job.Fault.TheVariants.{NoMemory};
-ghost use Rattle.jobs.specs.Jobs.{AreScripts, IsChecked, PrintsRun, IsCheck, IsRun, DoneAsAsked, IsLabelAt};
+ghost use Rattle.jobs.specs.Jobs.{AreScripts, IsChecked, ReportsRun, PrintsRun, IsCheck, IsRun, IsReplay, DoneAsAsked, IsLabelAt};
+ghost use Rattle.jobs.specs.Outcomes.{OutcomesFit};
 ghost use Rattle.jobs.specs.Jobs.{IsFirstFault, IsTextFaultOf, IsScriptFault, IsProofFault, IsDatabaseFault};
-ghost use Rattle.jobs.specs.Jobs.{IsRunFault, IsFaultOf, IsRefusedWith, RefusesWith, IsProofFaultOf, GivesOrLacksMemory};
+ghost use Rattle.jobs.specs.Jobs.{IsRunFault, IsReplayFault, IsFaultOf, IsRefusedWith, RefusesWith, IsProofFaultOf, GivesOrLacksMemory};
 ghost use Rattle.mmsyntax.specs.Tables.{Contents};
 ghost use Rattle.commands.specs.Fitting.{CommandFits};
 
-use crate::edits::edit_all;
-use crate::job::{Fault, Job, Printed};
+use crate::edits::{Edited, edit_all};
+use crate::job::{Fault, Job, Printed, text_fault};
+use crate::replaying::{print_replay, read_entries};
 use crate::report::report;
 use commands::{Script, read_script};
 use export::write_library;
-use mmstatement::{Database, FaultKind, Label, Prelude, TextFault, read_database};
+use histories::write_history;
+use mmstatement::{Database, Label, Prelude, read_database};
 use proofcheck::{ProofFault, ProofFaultKind, check_all};
 use std::alloc::{AllocError, Global};
 use std::hash::RandomState;
 use std::thread::Threads;
-
-/// The fault of a text, or want of memory.
-fn text_fault(file: usize, fault: TextFault) -> Fault
-    ensures { IsTextFaultOf file fault result }
-{
-    if fault.kind == FaultKind::NoMemory {
-        Fault::NoMemory
-    } else {
-        Fault::Text { file, fault }
-    }
-}
 
 /// Reads the scripts in order. The first fault is that of the first text that has one.
 fn read_scripts(alloc: Global, prelude: &Prelude, texts: &[Vec<u8>]) -> Result<Vec<Script>, Fault>
@@ -107,23 +99,34 @@ fn read_and_check(
     Ok(db)
 }
 
-/// What the run of scripts over a database prints.
+/// The report of a run, and its library's text.
+fn report_run(alloc: Global, prelude: &Prelude, edited: &Edited) -> Result<Vec<u8>, AllocError>
+    requires { OutcomesFit prelude.now edited.now.outcomes }
+    ensures { IfOk result (λ v. ReportsRun edited.now.library v.items) }
+{
+    let mut out = report(alloc, prelude, edited.outcomes.as_slice())?;
+    out.extend_from_slice(b"library\n")?;
+    let text = write_library(alloc, &edited.library)?;
+    out.extend_from_slice(text.as_slice())?;
+    Ok(out)
+}
+
+/// What the run of scripts over a database prints, and its history's text.
 fn print_run(
     alloc: Global,
     keys: RandomState,
     db: &Database,
     scripts: &[Script],
-) -> Result<Vec<u8>, AllocError>
+) -> Result<Printed, AllocError>
     requires checks { AllCheck db.now }
     requires fit { All (All (All (CommandFits db.now.prelude))) scripts.now }
-    ensures { IfOk result (λ v. PrintsRun db.now scripts.now v.items) }
+    ensures { IfOk result (λ p. PrintsRun db.now scripts.now p.out.items p.history.items) }
 {
-    let (rows, library) = edit_all(alloc, keys, db, scripts)?;
-    let mut out = report(alloc, db.prelude(), rows.as_slice())?;
-    out.extend_from_slice(b"library\n")?;
-    let text = write_library(alloc, &library)?;
-    out.extend_from_slice(text.as_slice())?;
-    Ok(out)
+    let edited = edit_all(alloc, keys, db, scripts)?;
+    Ok(Printed {
+        out: report_run(alloc, db.prelude(), &edited)?,
+        history: write_history(alloc, db.prelude(), edited.history.as_slice())?,
+    })
 }
 
 /// `ok`, and the number of assertions.
@@ -156,8 +159,8 @@ fn run(
     keys: RandomState,
     db: &[u8],
     scripts: &[Vec<u8>],
-) -> Result<Vec<u8>, Fault>
-    ensures done { IfOk result (λ out. IsRun db.now (map (λ t. t.items) scripts.now) out.items) }
+) -> Result<Printed, Fault>
+    ensures done { IfOk result (λ p. IsRun db.now (map (λ t. t.items) scripts.now) p.out.items p.history.items) }
     ensures fault { IfErr result (λ f. f ≢ NoMemory → IsRunFault db.now (map (λ t. t.items) scripts.now) f) }
     ensures refused { (f : FaultOfJob) → IsRunFault db.now (map (λ t. t.items) scripts.now) f → RefusesWith f result }
 {
@@ -166,17 +169,35 @@ fn run(
     Ok(print_run(alloc, keys, &db, scripts.as_slice())?)
 }
 
+/// Does the transactions of a history again, over a database, as texts, and gives what is printed.
+fn replay(
+    rt: &(impl Threads + Sync),
+    alloc: Global,
+    keys: RandomState,
+    db: &[u8],
+    history: &[u8],
+) -> Result<Vec<u8>, Fault>
+    ensures done { IfOk result (λ out. IsReplay db.now history.now out.items) }
+    ensures fault { IfErr result (λ f. f ≢ NoMemory → IsReplayFault db.now history.now f) }
+    ensures refused { (f : FaultOfJob) → IsReplayFault db.now history.now f → RefusesWith f result }
+{
+    let db = read_and_check(rt, alloc, keys, db)?;
+    let entries = read_entries(alloc, db.prelude(), history)?;
+    print_replay(alloc, keys, &db, entries.as_slice())
+}
+
 /// Does a job on texts, without files.
 ///
-/// The faults are found in this order: the database's text, its proofs, then (of a run) each script's text. A job that has one prints
-/// nothing.
+/// The faults are found in this order: the database's text, its proofs, then each script's text, or the history's text and the first of
+/// its entries that differs. A job that has one prints nothing.
 pub fn perform(
     rt: &(impl Threads + Sync),
     alloc: Global,
     keys: RandomState,
     job: &Job,
 ) -> Result<Printed, Fault>
-    // The texts are read as they are spelled, and what is printed ends with the exported text of the library after all transactions.
+    // The texts are read as they are spelled, and what is printed ends with the exported text of the library after all transactions. A run's
+    // history holds exactly those that were committed, and is legal; a replayed history is legal too.
     ensures done { IfOk result (λ p. DoneAsAsked job.now p) }
     // The fault is the first that the job has, or memory ran out.
     ensures fault { IfErr result (λ f. f ≢ NoMemory → IsFaultOf job.now f) }
@@ -185,7 +206,15 @@ pub fn perform(
 {
     let out = match job {
         Job::Check { db } => check(rt, alloc, keys, db.as_slice())?,
-        Job::Run { db, scripts } => run(rt, alloc, keys, db.as_slice(), scripts.as_slice())?,
+        Job::Run { db, scripts } => {
+            return run(rt, alloc, keys, db.as_slice(), scripts.as_slice());
+        }
+        Job::Replay { db, history } => {
+            replay(rt, alloc, keys, db.as_slice(), history.as_slice())?
+        }
     };
-    Ok(Printed { out })
+    Ok(Printed {
+        out,
+        history: Vec::new(alloc),
+    })
 }

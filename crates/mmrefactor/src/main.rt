@@ -3,8 +3,8 @@
 
 mod arguments;
 
-use crate::arguments::{Task, command_line, task_of};
-use jobs::{Fault, Job, perform};
+use crate::arguments::{Order, Task, command_line, order_of};
+use jobs::{Fault, Job, Printed, perform};
 use std::alloc::{AllocError, Global};
 use std::fmt::Display;
 use std::hash::RandomState;
@@ -81,16 +81,49 @@ fn complain_of(rt: &impl Eprint, paths: &[&str], fault: &Fault) -> ExitCode {
         Fault::NoMemory => complain(rt, format_args!("{fault}")),
         Fault::Text { file, .. } => complain_at(rt, paths, *file, fault),
         Fault::Proof { .. } => complain_at(rt, paths, 0, fault),
+        Fault::Differs(_) => complain_at(rt, paths, 1, fault),
     }
 }
 
-/// Does a task on files: the first path is the database's.
+/// Writes the history of a run to its file, if the command line names one, and then prints what a job prints.
+fn print_job(
+    rt: &(impl Files + AllocGlobal + Print + Eprint),
+    history: Option<&str>,
+    printed: &Printed,
+) -> Result<ExitCode, AllocError> {
+    if let Some(path) = history {
+        match fs::write(rt, path, printed.history.as_slice()) {
+            Ok(()) => {}
+            Err(error) if error.kind() == io::ErrorKind::OutOfMemory => return Err(AllocError),
+            Err(_) => return Ok(complain(rt, format_args!("{path}: cannot write"))),
+        }
+    }
+    Ok(print_out(rt, printed.out.as_slice()))
+}
+
+/// The job of texts, the first of which is the database. None without texts.
+fn job_of(task: Task, mut texts: Vec<Vec<u8>>) -> Option<Job> {
+    if texts.is_empty() {
+        return None;
+    }
+    let db = texts.remove(0);
+    match task {
+        Task::Check => Some(Job::Check { db }),
+        Task::Run => Some(Job::Run { db, scripts: texts }),
+        Task::Replay => {
+            let history = texts.pop()?;
+            Some(Job::Replay { db, history })
+        }
+    }
+}
+
+/// Does on files what a command line asks for.
 fn run_files(
     rt: &(impl Files + AllocGlobal + Print + Eprint + RandomSource + Threads + Sync),
-    task: Task,
-    paths: &[&str],
+    order: &Order<'_>,
 ) -> Result<ExitCode, AllocError> {
-    let mut texts = match read_files(rt, paths) {
+    let paths = order.paths.as_slice();
+    let texts = match read_files(rt, paths) {
         Ok(texts) => texts,
         Err(Unread::Memory) => return Err(AllocError),
         Err(Unread::File(i)) => {
@@ -98,19 +131,14 @@ fn run_files(
             return Ok(complain(rt, format_args!("{path}: cannot read")));
         }
     };
-    if texts.is_empty() {
+    let Some(job) = job_of(order.task, texts) else {
         return Ok(ExitCode::from(2));
-    }
-    let db = texts.remove(0);
+    };
     let Ok(keys) = RandomState::new(rt) else {
         return Ok(complain(rt, "no random numbers"));
     };
-    let job = match task {
-        Task::Check => Job::Check { db },
-        Task::Run => Job::Run { db, scripts: texts },
-    };
     match perform(rt, rt.alloc(), keys, &job) {
-        Ok(printed) => Ok(print_out(rt, printed.out.as_slice())),
+        Ok(printed) => print_job(rt, order.history, &printed),
         Err(fault) => Ok(complain_of(rt, paths, &fault)),
     }
 }
@@ -127,8 +155,8 @@ fn obey(
     match command_line(alloc)?.try_get_matches_from(words.as_slice()) {
         Err(error) => Ok(print_usage(rt, &error)),
         Ok(matches) => {
-            let (task, paths) = task_of(alloc, &matches)?;
-            run_files(rt, task, paths.as_slice())
+            let order = order_of(alloc, &matches)?;
+            run_files(rt, &order)
         }
     }
 }

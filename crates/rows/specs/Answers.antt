@@ -10,7 +10,7 @@ use Rattle.mmsyntax.specs.Assertions.{Fits}
 use Rattle.proofcheck.specs.declared.fault.ProofFaultKind.TheVariants.{NoMemory as NoMemoryOfProof}
 use Rattle.proofcheck.specs.Databases.{AllCheck, IsFirstFault}
 use Rattle.jobs.specs.declared.job.Fault.TheVariants.{NoMemory as NoMemoryOfJob}
-use Rattle.jobs.specs.Jobs.{IsRun, IsRunFault}
+use Rattle.jobs.specs.Jobs.{IsRun, IsRunFault, IsReplay, IsReplayFault}
 use Rattle.rows.specs.declared.answer.Answer.{Answer}
 use Rattle.rows.specs.declared.answer.Answer.TheVariants.{Kept, Read, Faulty, Text, Unfit, Checked, Unread, FaultyProof, Failed}
 use Rattle.rows.specs.declared.runs.Runs.{Runs}
@@ -55,7 +55,7 @@ Keeps text _ _ = ⊥
 
 -- what the run of scripts over a database prints, or its fault
 abbrev pub IsRunOf : List ℕ → List (List ℕ) → Answer → Type 0
-IsRunOf db scripts (Text out) = IsRun db scripts out.items
+IsRunOf db scripts (Text out) = (history : List ℕ) × IsRun db scripts out.items history
 IsRunOf db scripts (Failed fault) = fault ≢ NoMemoryOfJob → IsRunFault db scripts fault
 IsRunOf db scripts _ = ⊥
 
@@ -63,3 +63,9 @@ IsRunOf db scripts _ = ⊥
 abbrev pub AnswersRun : Runs → Runs → Answer → Type 0
 AnswersRun old new answer =
     IsRunOf old.library.items (map (λ s. s.items) old.scripts.items) answer × (new.library ≡ old.library) × (new.scripts.items ≡ [])
+
+-- what the replay of a history over a database prints, or its fault
+abbrev pub IsReplayOf : List ℕ → List ℕ → Answer → Type 0
+IsReplayOf db history (Text out) = IsReplay db history out.items
+IsReplayOf db history (Failed fault) = fault ≢ NoMemoryOfJob → IsReplayFault db history fault
+IsReplayOf db history _ = ⊥

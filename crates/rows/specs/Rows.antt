@@ -3,7 +3,7 @@ use Rattle.std.specs.Prelude.{◌≡◌, ℕ, Bool, true, false, nat_eq, List, [
 use Rattle.std.specs.List.{starts_with}
 use Rattle.std.specs.Str.{bytes_eq}
 use Rattle.rows.specs.declared.row.Command.{Command}
-use Rattle.rows.specs.declared.row.Command.TheVariants.{Prelude, Database, Rewrite, Assertion, Check, Library, Script, Run}
+use Rattle.rows.specs.declared.row.Command.TheVariants.{Prelude, Database, Rewrite, Assertion, Check, Library, Script, Run, Replay}
 
 -- a line that begins a row
 abbrev pub is_header : List ℕ → Bool
@@ -28,4 +28,5 @@ command_named line =
     if bytes_eq line (codes "== check") then Some Check else (
     if bytes_eq line (codes "== library") then Some Library else (
     if bytes_eq line (codes "== script") then Some Script else (
-    if bytes_eq line (codes "== run") then Some Run else None)))))))
+    if bytes_eq line (codes "== run") then Some Run else (
+    if bytes_eq line (codes "== replay") then Some Replay else None))))))))

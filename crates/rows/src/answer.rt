@@ -171,5 +171,6 @@ pub fn answer_row(
         Command::Library => Ok(runs.keep_library(text)),
         Command::Script => runs.keep_script(text),
         Command::Run => runs.run(rt, alloc, keys),
+        Command::Replay => runs.replay(rt, alloc, keys, text),
     }
 }

@@ -25,6 +25,8 @@ pub enum Command {
     Script,
     /// What the scripts since the last run print over the last library.
     Run,
+    /// What the replay of the text, a history, prints over the last library.
+    Replay,
 }
 
 /// A row of a table.
@@ -102,6 +104,9 @@ pub fn command_of(header: &[u8]) -> Option<Command>
     }
     if header == b"== run".as_slice() {
         return Some(Command::Run);
+    }
+    if header == b"== replay".as_slice() {
+        return Some(Command::Replay);
     }
     None
 }

@@ -1,7 +1,7 @@
 //! Runs of scripts over a library.
 
 ghost use Rattle.std.specs.Prelude.{◌≡◌, ◌++◌, ◌∷◌, [], IfOk, OnOk};
-ghost use Rattle.rows.specs.Answers.{AnswersRun};
+ghost use Rattle.rows.specs.Answers.{AnswersRun, IsReplayOf};
 
 use crate::answer::Answer;
 use jobs::{Job, perform};
@@ -68,6 +68,26 @@ impl Runs {
         let scripts = mem::replace(&mut self.scripts, Vec::new(alloc));
         match perform(rt, alloc, keys, &Job::Run { db, scripts }) {
             Ok(printed) => Ok(Answer::Text(printed.out)),
+            Err(fault) => Ok(Answer::Failed(fault)),
+        }
+    }
+    /// Replays a history over the database. What was kept stays.
+    ///
+    /// # Errors
+    ///
+    /// Want of memory.
+    pub fn replay(
+        &self,
+        rt: &(impl Threads + Sync),
+        alloc: Global,
+        keys: RandomState,
+        history: Vec<u8>,
+    ) -> Result<Answer, AllocError>
+        ensures { IfOk result (IsReplayOf self.now.library.items history.items) }
+    {
+        let db = Vec::from_slice(alloc, self.library.as_slice())?;
+        match perform(rt, alloc, keys, &Job::Replay { db, history }) {
+            Ok(replayed) => Ok(Answer::Text(replayed.out)),
             Err(fault) => Ok(Answer::Failed(fault)),
         }
     }

@@ -19,7 +19,11 @@ use mmtext::{Mark, Stop, Token, contains_dollar, fault_at, mark_word};
 use std::alloc::{AllocError, Global};
 
 /// A label: a word without `$`.
-fn read_label(alloc: Global, token: Token<'_>) -> Result<Label, Stop>
+///
+/// # Errors
+///
+/// `BadToken` at a token with `$`, or want of memory.
+pub fn read_label(alloc: Global, token: Token<'_>) -> Result<Label, Stop>
     ensures { Gives (λ l. l) result (label_at (seen token.entry)) }
 {
     if contains_dollar(token.text) {
@@ -29,7 +33,11 @@ fn read_label(alloc: Global, token: Token<'_>) -> Result<Label, Stop>
 }
 
 /// A rank: a numeral, up to 4,294,967,295.
-fn read_rank(token: Token<'_>) -> Result<u32, Stop>
+///
+/// # Errors
+///
+/// `BadToken` at a token that is no numeral, and `TooLong` at a higher number.
+pub fn read_rank(token: Token<'_>) -> Result<u32, Stop>
     ensures { Gives (λ n. n) result (rank_at (seen token.entry)) }
 {
     if !is_numeral(token.text) {
@@ -107,8 +115,12 @@ fn read_step<'a>(
     }
 }
 
-/// The word of a command.
-pub(super) fn read_command_word<'a>(token: Token<'a>) -> Result<Led<'a>, Stop>
+/// Where the word of a command leads.
+///
+/// # Errors
+///
+/// `BadToken` at any other token.
+pub fn read_command_word<'a>(token: Token<'a>) -> Result<Led<'a>, Stop>
     ensures { (t : Tables) → Gives (seen_led t) result (decided (seen token.entry) (command_word token.entry.text.now)) }
 {
     let word = token.text;
@@ -132,8 +144,12 @@ pub(super) fn read_command_word<'a>(token: Token<'a>) -> Result<Led<'a>, Stop>
     Ok(Led::Inside(place))
 }
 
-/// Where a token leads that stands in a command.
-pub(super) fn read_in_command<'a>(
+/// Where a token leads that stands in a command, outside of comments. All tokens of a command are read over one prelude.
+///
+/// # Errors
+///
+/// The fault that [`read_script`](super::read_script) has at the token, or want of memory.
+pub fn read_in_command<'a>(
     alloc: Global,
     prelude: &Prelude,
     place: CommandPlace<'a>,

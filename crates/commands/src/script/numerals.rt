@@ -3,7 +3,7 @@
 ghost use Rattle.std.specs.Prelude.{◌≡◌};
 ghost use Rattle.std.specs.Str.Parse.{AllDigits};
 ghost use Rattle.commands.specs.ScriptFaults.{is_numeral};
-ghost use Rattle.commands.specs.ScriptViews.{rank_written, place_numbered};
+ghost use Rattle.commands.specs.ScriptViews.{written_within, rank_written, place_numbered};
 
 use mmtext::is_number_from_one;
 
@@ -11,24 +11,35 @@ use mmtext::is_number_from_one;
 const MOST_HYPOTHESES: u32 = 1000;
 
 /// Whether a word is a decimal number without leading zero.
-pub(super) fn is_numeral(word: &[u8]) -> bool
+pub fn is_numeral(word: &[u8]) -> bool
     ensures { result ≡ is_numeral word.now }
 {
     word == b"0".as_slice() || is_number_from_one(word)
 }
 
-/// The number that decimal digits write, if it is at most 4,294,967,295.
-pub(super) fn number(digits: &[u8]) -> Option<u32>
+/// The number that decimal digits write, if it is at most 18,446,744,073,709,551,615.
+pub fn count(digits: &[u8]) -> Option<u64>
     requires { AllDigits 10 digits.now }
-    ensures { result ≡ rank_written digits.now }
+    ensures { result ≡ written_within 18446744073709551615 digits.now }
 {
-    let mut number: u32 = 0;
+    let mut number: u64 = 0;
     for digit in digits {
         number = number
             .checked_mul(10)?
-            .checked_add(u32::from(*digit - b'0'))?;
+            .checked_add(u64::from(*digit - b'0'))?;
     }
     Some(number)
+}
+
+/// The number that decimal digits write, if it is at most 4,294,967,295.
+pub fn number(digits: &[u8]) -> Option<u32>
+    requires { AllDigits 10 digits.now }
+    ensures { result ≡ rank_written digits.now }
+{
+    match count(digits) {
+        Some(number) => u32::try_from(number).ok(),
+        None => None,
+    }
 }
 
 /// The place of the hypothesis that a word names in another proof of an assertion, whose label is given: `L.k` names the one at k - 1, for

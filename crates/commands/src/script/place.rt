@@ -6,7 +6,7 @@ use mmstatement::{Label, Step};
 
 /// What was read of the command in which a token stands.
 #[derive(Drop)]
-pub(super) enum CommandPlace<'a> {
+pub enum CommandPlace<'a> {
     /// Behind `add`.
     AtRank,
     /// Behind `add` and a rank, in the assertion.
@@ -44,7 +44,7 @@ pub(super) enum Place<'a> {
 
 /// Where a token of a command leads.
 #[derive(Drop)]
-pub(super) enum Led<'a> {
+pub enum Led<'a> {
     /// To a place in the command.
     Inside(CommandPlace<'a>),
     /// Behind the command.

@@ -1,6 +1,39 @@
+use Rattle.std.proofs.Common.{◌∙◌, map, sym, ap, subst}
+use Rattle.std.specs.Prelude.{All}
+use Rattle.commands.specs.Library.{opening, ShowsInOrder}
 use Rattle.export.proofs.Accepted.{exported_accepted}
+use Rattle.history.specs.Histories.{told, after_all, IsLegal}
+use Rattle.histories.specs.Layout.{EntryFits}
+use Rattle.jobs.specs.Outcomes.{setting_of, standing}
+use Rattle.jobs.proofs.Kept.{edited_kept}
 use Rattle.jobs.proofs.edits.edit_all.Goals as goal
+
+pub returns-clause-legal : goal.returns-clause-legal
+returns-clause-legal c =
+    let kept =
+    edited_kept c.args.db.now c.in_ok-editor.editor c.new-history.result.items
+    (standing c.run_all.new.editor c.run_all.new.history.items) c.args.scripts.now c.in_ok-editor.ensures
+    c.new-history.ensures.items c.assertion_count-count.ensures.verifies c.requires.fit c.in_ok-outcomes.ensures.after in
+    subst (λ es. IsLegal (setting_of c.args.db.now) (opening c.args.db.now) (map told es)) (sym c.from_vec.ensures) kept.legal
+
+pub returns-clause-follows : goal.returns-clause-follows
+returns-clause-follows c =
+    let kept =
+    edited_kept c.args.db.now c.in_ok-editor.editor c.new-history.result.items
+    (standing c.run_all.new.editor c.run_all.new.history.items) c.args.scripts.now c.in_ok-editor.ensures
+    c.new-history.ensures.items c.assertion_count-count.ensures.verifies c.requires.fit c.in_ok-outcomes.ensures.after in
+    subst (λ lib. ShowsInOrder lib c.into_library-library.result.entries)
+    (kept.after ∙ ap (λ es. after_all (setting_of c.args.db.now) (opening c.args.db.now) (map told es)) (sym c.from_vec.ensures))
+    c.into_library-library.ensures.shown
 
 pub returns-clause-accepted : goal.returns-clause-accepted
 returns-clause-accepted c = exported_accepted c.into_library-library.result c.entries-entries.ensures.verifies
     c.entries-entries.ensures.ordered
+
+pub returns-clause-written : goal.returns-clause-written
+returns-clause-written c =
+    let kept =
+    edited_kept c.args.db.now c.in_ok-editor.editor c.new-history.result.items
+    (standing c.run_all.new.editor c.run_all.new.history.items) c.args.scripts.now c.in_ok-editor.ensures
+    c.new-history.ensures.items c.assertion_count-count.ensures.verifies c.requires.fit c.in_ok-outcomes.ensures.after in
+    subst (All (EntryFits c.args.db.now.prelude)) (sym c.from_vec.ensures) kept.fit

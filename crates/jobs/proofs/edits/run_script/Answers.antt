@@ -6,8 +6,8 @@ use Rattle.jobs.specs.Outcomes.{standing, outcome_at, standing_after, OutcomeFit
 use Rattle.jobs.proofs.Turns.{Turns, begins, goes_on, ends}
 use Rattle.jobs.proofs.edits.run_script.Goals as goal
 
-pub loop-i-init : goal.loop-i-init
-loop-i-init c =
+pub loop-transaction-init : goal.loop-transaction-init
+loop-transaction-init c =
     let s = c.args.editor.now.setting in
     let from = standing c.args.editor.now c.args.history.now.items in
     record {
@@ -16,36 +16,36 @@ loop-i-init c =
     }
 
 pub returns-in_err-attempt-clause-setting : goal.returns-in_err-attempt-clause-setting
-returns-in_err-attempt-clause-setting c = c.attempt.ensures.setting ∙ c.loop-i.invariant.setting
+returns-in_err-attempt-clause-setting c = c.attempt.ensures.setting ∙ c.loop-transaction.invariant.setting
 
 pub returns-in_err-push-clause-setting : goal.returns-in_err-push-clause-setting
-returns-in_err-push-clause-setting c = c.attempt.ensures.setting ∙ c.loop-i.invariant.setting
+returns-in_err-push-clause-setting c = c.attempt.ensures.setting ∙ c.loop-transaction.invariant.setting
 
-pub loop-i-preserved : goal.loop-i-preserved
-loop-i-preserved c =
+pub loop-transaction-preserved : goal.loop-transaction-preserved
+loop-transaction-preserved c =
     let s = c.args.editor.now.setting in
-    let same = c.loop-i.invariant.setting in
+    let same = c.loop-transaction.invariant.setting in
     let from = standing c.args.editor.now c.args.history.now.items in
-    let now = standing c.loop-i.editor c.loop-i.history.items in
+    let now = standing c.loop-transaction.editor c.loop-transaction.history.items in
     let after = standing c.attempt.new.editor c.attempt.new.history.items in
-    let t = c.index-script-i.result in
+    let t = c.transaction-item.result in
     let o = c.in_ok-attempt.field-0 in
-    let is_o : o ≡ outcome_at s now t = subst (λ (q : Setting). o ≡ outcome_at q now t) same (c.in_ok-attempt.ensures.outcome ∙ ap (outcome_at c.loop-i.editor.setting now) c.as_slice.ensures) in
-    let is_after : after ≡ standing_after s now t = subst (λ (q : Setting). after ≡ standing_after q now t) same (c.in_ok-attempt.ensures.after ∙ ap (standing_after c.loop-i.editor.setting now) c.as_slice.ensures) in
+    let is_o : o ≡ outcome_at s now t = subst (λ (q : Setting). o ≡ outcome_at q now t) same (c.in_ok-attempt.ensures.outcome ∙ ap (outcome_at c.loop-transaction.editor.setting now) c.as_slice.ensures) in
+    let is_after : after ≡ standing_after s now t = subst (λ (q : Setting). after ≡ standing_after q now t) same (c.in_ok-attempt.ensures.after ∙ ap (standing_after c.loop-transaction.editor.setting now) c.as_slice.ensures) in
     let fits : OutcomeFits s.prelude o = subst (λ (q : Setting). OutcomeFits q.prelude o) same c.in_ok-attempt.ensures.fits in
     record {
       setting = c.attempt.ensures.setting ∙ same;
-      turns = subst (λ (done : List Outcome). Turns (outcome_at s) (standing_after s) (OutcomeFits s.prelude) from after c.args.script.now (c.loop-i.i + 1) done) (sym c.in_ok-push.ensures.items) (goes_on (outcome_at s) (standing_after s) (OutcomeFits s.prelude) from c.args.script.now now after t o c.loop-i.i c.loop-i.outcomes.items (omega arith) c.index-script-i.is is_o is_after fits c.loop-i.invariant.turns);
+      turns = subst (λ (done : List Outcome). Turns (outcome_at s) (standing_after s) (OutcomeFits s.prelude) from after c.args.script.now (c.loop-transaction.transaction-index + 1) done) (sym c.in_ok-push.ensures.items) (goes_on (outcome_at s) (standing_after s) (OutcomeFits s.prelude) from c.args.script.now now after t o c.loop-transaction.transaction-index c.loop-transaction.outcomes.items (omega arith) c.transaction-item.is is_o is_after fits c.loop-transaction.invariant.turns);
     }
 
 pub returns-clause-setting : goal.returns-clause-setting
-returns-clause-setting c = c.loop-i.invariant.setting
+returns-clause-setting c = c.loop-transaction.invariant.setting
 
 pub returns-clause-outcomes : goal.returns-clause-outcomes
-returns-clause-outcomes c = c.from_vec.ensures ∙ (ends _ _ _ _ _ _ _ _ (omega arith) c.loop-i.invariant.turns).0
+returns-clause-outcomes c = c.from_vec.ensures ∙ (ends _ _ _ _ _ _ _ _ (omega arith) c.loop-transaction.invariant.turns).0
 
 pub returns-clause-after : goal.returns-clause-after
-returns-clause-after c = (ends _ _ _ _ _ _ _ _ (omega arith) c.loop-i.invariant.turns).1
+returns-clause-after c = (ends _ _ _ _ _ _ _ _ (omega arith) c.loop-transaction.invariant.turns).1
 
 pub returns-clause-fits : goal.returns-clause-fits
-returns-clause-fits c = subst (λ (os : List Outcome). All (OutcomeFits c.args.editor.now.setting.prelude) os) (sym c.from_vec.ensures) c.loop-i.invariant.turns.meets
+returns-clause-fits c = subst (λ (os : List Outcome). All (OutcomeFits c.args.editor.now.setting.prelude) os) (sym c.from_vec.ensures) c.loop-transaction.invariant.turns.meets

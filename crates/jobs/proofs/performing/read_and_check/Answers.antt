@@ -1,14 +1,12 @@
-use Rattle.std.proofs.Common.{◌≡◌, subst, sym}
+use Rattle.std.proofs.Common.{subst, sym}
 use Rattle.std.proofs.lemmas.Result.{err_from_is_err_and}
-use Rattle.mmsyntax.specs.Tables.{Contents}
 use Rattle.proofcheck.specs.Databases.{AllCheck}
-use Rattle.jobs.specs.Jobs.{IsDatabase}
 use Rattle.jobs.proofs.JobFaults.{short_text, text_faulted, text_memory, text_refused, proof_of_database, database_refused, database_faultless}
 use Rattle.jobs.proofs.performing.read_and_check.Goals as goal
 
 pub returns-in-Err-clause-only : goal.returns-in-Err-clause-only
 returns-in-Err-clause-only g c contents checked =
-    text_memory c.in-Err.fault c.text_fault.result c.text_fault.ensures
+    text_memory 0 c.in-Err.fault c.text_fault.result c.text_fault.ensures
     (c.in-Err.ensures.only contents (short_text _ checked.read.faultless) checked.read.spelled)
 
 pub returns-in-Err-clause-fault : goal.returns-in-Err-clause-fault

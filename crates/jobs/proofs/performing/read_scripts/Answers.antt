@@ -1,4 +1,4 @@
-use Rattle.std.proofs.Common.{◌≡◌, ◌∙◌, ◌+◌, ◌<◌, ◌≤◌, ℕ, suc, List, ◌∷◌, [], ◌++◌, length, map, take, drop, subst, sym, ap, arith, rules, refl}
+use Rattle.std.proofs.Common.{◌+◌, List, ◌∷◌, [], ◌++◌, map, take, subst, sym, arith}
 use Rattle.std.specs.Prelude.{All}
 use Rattle.std.proofs.lemmas.List.Elements.{All-nil, All-push, All-same}
 use Rattle.mmsyntax.specs.Tables.{Tables}
