@@ -28,9 +28,9 @@ use mmtext::{
 use prelude_rows::next_prelude_place;
 use std::alloc::Global;
 use std::hash::RandomState;
-use unit_rows::next_unit_place;
 pub use steps::named_step;
 pub use unit_reader::{UnitProgress, UnitReader};
+use unit_rows::next_unit_place;
 pub use units::read_assertion;
 
 /// Where a token leads that stands outside of comments.
