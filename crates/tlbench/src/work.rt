@@ -28,9 +28,7 @@ impl Law for Anything {
 
     type Note = ();
 
-    ghost lawful = { λ _ _ _ _ _. Unit {0} };
-
-    ghost opens = { λ _ _. Unit {0} };
+    ghost terms = { record { lawful = λ _ _ _ _ _. Unit {0}; opens = λ _ _ _. Unit {0}; ranged = λ _ _. ⊥ } };
 }
 
 /// What came of the transactions.
@@ -66,9 +64,9 @@ fn attempt(
     picks: &mut Picks,
     writes: usize,
 ) -> (Pass<Anything>, bool)
-    requires fits { (pass.seat.table_id ≡ words.now.table.shared.table_id) × (words.now.cells ≡ length pass.seat.me.0.base) }
+    requires fits { (pass.seat.table_id ≡ words.now.table.shared.table_id) × (words.now.cells ≡ length pass.seat.me.0.base) × (words.now.room ≡ pass.seat.me.0.room) }
     requires picks { (picks.old.first + picks.old.span ≤ words.now.cells) × (0 < picks.old.span) }
-    ensures fits { (result.0.seat.table_id ≡ words.now.table.shared.table_id) × (words.now.cells ≡ length result.0.seat.me.0.base) }
+    ensures fits { (result.0.seat.table_id ≡ words.now.table.shared.table_id) × (words.now.cells ≡ length result.0.seat.me.0.base) × (words.now.room ≡ result.0.seat.me.0.room) }
     ensures picks { (picks.new.first ≡ picks.old.first) × (picks.new.span ≡ picks.old.span) }
 {
     let mode = if writes == 0 {
@@ -97,9 +95,9 @@ fn transact(
     picks: &mut Picks,
     writes: usize,
 ) -> (Pass<Anything>, bool)
-    requires fits { (pass.seat.table_id ≡ words.now.table.shared.table_id) × (words.now.cells ≡ length pass.seat.me.0.base) }
+    requires fits { (pass.seat.table_id ≡ words.now.table.shared.table_id) × (words.now.cells ≡ length pass.seat.me.0.base) × (words.now.room ≡ pass.seat.me.0.room) }
     requires picks { (picks.old.first + picks.old.span ≤ words.now.cells) × (0 < picks.old.span) }
-    ensures fits { (result.0.seat.table_id ≡ words.now.table.shared.table_id) × (words.now.cells ≡ length result.0.seat.me.0.base) }
+    ensures fits { (result.0.seat.table_id ≡ words.now.table.shared.table_id) × (words.now.cells ≡ length result.0.seat.me.0.base) × (words.now.room ≡ result.0.seat.me.0.room) }
     ensures picks { (picks.new.first ≡ picks.old.first) × (picks.new.span ≡ picks.old.span) }
 {
     for _ in 0..MOST_TRIES {
@@ -123,7 +121,7 @@ fn run_thread(
     writes: usize,
     transactions: u64,
 ) -> u64
-    requires fits { (pass.seat.table_id ≡ words.now.table.shared.table_id) × (words.now.cells ≡ length pass.seat.me.0.base) }
+    requires fits { (pass.seat.table_id ≡ words.now.table.shared.table_id) × (words.now.cells ≡ length pass.seat.me.0.base) × (words.now.room ≡ pass.seat.me.0.room) }
     requires picks { (picks.first + picks.span ≤ words.now.cells) × (0 < picks.span) }
     ensures { result ≤ transactions }
 {
@@ -148,10 +146,10 @@ fn zeros(alloc: Global, cells: usize) -> Result<Vec<u64>, AllocError>
 
 // The cells, all of value 0, with a pass for each of the two threads.
 fn opened(alloc: Global, cells: usize) -> Option<(Words<Anything>, Pass<Anything>, Pass<Anything>)>
-    ensures { IfSome result (λ r. (r.0.cells ≡ cells) × (r.1.seat.table_id ≡ r.0.table.shared.table_id) × (r.0.cells ≡ length r.1.seat.me.0.base) × (r.2.seat.table_id ≡ r.0.table.shared.table_id) × (r.0.cells ≡ length r.2.seat.me.0.base)) }
+    ensures { IfSome result (λ r. (r.0.cells ≡ cells) × (r.1.seat.table_id ≡ r.0.table.shared.table_id) × (r.0.cells ≡ length r.1.seat.me.0.base) × (r.0.room ≡ r.1.seat.me.0.room) × (r.2.seat.table_id ≡ r.0.table.shared.table_id) × (r.0.cells ≡ length r.2.seat.me.0.base) × (r.0.room ≡ r.2.seat.me.0.room)) }
 {
     let values = zeros(alloc, cells).ok()?;
-    let Ok((words, mut passes)) = open::<Anything>(alloc, &(), values.as_slice(), 2) else {
+    let Ok((words, mut passes)) = open::<Anything>(alloc, &(), values.as_slice(), &[], 0, 2) else {
         return None;
     };
     let second = passes.pop()?;

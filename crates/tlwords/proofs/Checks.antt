@@ -7,7 +7,7 @@ use Rattle.tlcore.specs.Machine.{placed, conflict}
 use Rattle.tlcore.proofs.Lists.{option_known, get_within}
 use Rattle.tlcore.proofs.Words.{SeatRead, at_checking, at_voiding}
 use Rattle.tlwords.specs.declared.log.Slot.{Slot}
-use Rattle.tlwords.specs.Seen.{Lawful}
+use Rattle.tlwords.specs.Terms.{Terms}
 use Rattle.tlwords.specs.Views.{View}
 use Rattle.tlwords.specs.Plays.{Mine, Checks, after_check}
 use Rattle.tlwords.specs.Runs.{word_seen, value_kept, was_read, IsKeptOf, HasCause}
@@ -63,12 +63,12 @@ unwanted_keeps slots c r e = go (was_read slots c) (value_kept slots c) r e
     go true (Some v) r e = (v, refl)
     go false o r e = cc
 
-module _ {S N : Type 0} (lawful : Lawful S N) (opens : S → List ℕ → Type 0) (slots : List Slot) (cells : List ℕ) (i : ℕ) (m : Mine S N)
+module _ {S N : Type 0} (terms : Terms S N) (slots : List Slot) (cells : List ℕ) (i : ℕ) (m : Mine S N)
     (k : IsKeptOf m.0.seat slots cells) where
-  pub check_starts : m.0.seat.place ≡ at_checking i 0 → Goes lawful opens m (placed m.0.seat (at_checking i 0)) m
-  check_starts e = goes_start lawful opens m (placed m.0.seat (at_checking i 0)) (λ j. let t : Seat = record m.0.seat { place = sym e j } in t)
+  pub check_starts : m.0.seat.place ≡ at_checking i 0 → Goes terms m (placed m.0.seat (at_checking i 0)) m
+  check_starts e = goes_start terms m (placed m.0.seat (at_checking i 0)) (λ j. let t : Seat = record m.0.seat { place = sym e j } in t)
 
-  pub check_skips : m.0.seat.place ≡ at_checking i 0 → i ≡ m.0.seat.rv → Passes lawful opens i m m
+  pub check_skips : m.0.seat.place ≡ at_checking i 0 → i ≡ m.0.seat.rv → Passes terms i m m
   check_skips e n =
       record { upto = 0; goes = check_starts e; may = or_left (is_next m.0.seat i) (all_settled m.0.seat.held 0 m.0.seat.reads) (eq-eqb (suc m.0.seat.rv) (suc i) (ap suc (sym n))) }
 
@@ -87,7 +87,7 @@ module _ {S N : Type 0} (lawful : Lawful S N) (opens : S → List ℕ → Type 0
         or_left (is_held x m.0.seat.held) (nat_lt x low) (ap (is_held x) held ∙ held_yes slots 0 0 (length slots) x v.0 (omega arith) (read_within slots x r) v.1))
         (λ (a : x < low). or_right (is_held x m.0.seat.held) (nat_lt x low) (lt_yes x low a)) (le_cases low x)
 
-    module _ (r : Mine S N) (g : Goes lawful opens m (placed m.0.seat (at_checking i low)) r) where
+    module _ (r : Mine S N) (g : Goes terms m (placed m.0.seat (at_checking i low)) r) where
       pub check_place : (c : ℕ) → low ≤ c → is_wanted slots false c ≡ true → NoneWanted slots false low c → i ≢ m.0.seat.rv
           → (j : ℕ) × (upto : ℕ) × (r.0.seat.place ≡ at_checking j upto) × (is_next r.0.seat j ≡ false) × (is_due r.0.seat upto c ≡ true)
       check_place c l w front ne = (
@@ -99,7 +99,7 @@ module _ {S N : Type 0} (lawful : Lawful S N) (opens : S → List ℕ → Type 0
       )
         where
           at : r.0.seat ≡ placed m.0.seat (at_checking i low)
-          at = goes_seat lawful opens m r (placed m.0.seat (at_checking i low)) g
+          at = goes_seat terms m r (placed m.0.seat (at_checking i low)) g
 
           open_still : is_settled m.0.seat.held low c ≡ false
           open_still =
@@ -110,7 +110,7 @@ module _ {S N : Type 0} (lawful : Lawful S N) (opens : S → List ℕ → Type 0
               (λ (a : c ≤ x). or_left (nat_le c x) (is_settled m.0.seat.held low x) (le_yes c x a))
               (λ (a : x < c). or_right (nat_le c x) (is_settled m.0.seat.held low x) (settled_cell c x front a (found_reads x e))) (le_cases c x))
 
-      pub check_ends : NoneWanted slots false low (length slots) → Passes lawful opens i m r
+      pub check_ends : NoneWanted slots false low (length slots) → Passes terms i m r
       check_ends front =
           record {
             upto = low;
@@ -120,22 +120,22 @@ module _ {S N : Type 0} (lawful : Lawful S N) (opens : S → List ℕ → Type 0
                 (λ x e. settled_cell (length slots) x front (read_within slots x (found_reads x e)) (found_reads x e)));
           }
 
-      module _ (c n : ℕ) (s : Mine S N) (t : Checks lawful opens c r n s) where
+      module _ (c n : ℕ) (s : Mine S N) (t : Checks terms c r n s) where
         looks : s.0 ≡ record r.0 { seen = s.0.seen; seat = after_check r.0.seat i c n; looked = Some (c, n) }
-        looks = t.is i low (ap (λ (t : Seat). t.place) (goes_seat lawful opens m r (placed m.0.seat (at_checking i low)) g))
+        looks = t.is i low (ap (λ (t : Seat). t.place) (goes_seat terms m r (placed m.0.seat (at_checking i low)) g))
 
-        pub check_goes : n % 2 ≡ 0 → n / 2 ≤ m.0.seat.rv → Goes lawful opens m (placed m.0.seat (at_checking i (c + 1))) s
+        pub check_goes : n % 2 ≡ 0 → n / 2 ≤ m.0.seat.rv → Goes terms m (placed m.0.seat (at_checking i (c + 1))) s
         check_goes even l =
-            goes_by lawful opens (λ (t : Seat). after_check t i c n) (Some (c, n)) m r s (placed m.0.seat (at_checking i low))
+            goes_by terms (λ (t : Seat). after_check t i c n) (Some (c, n)) m r s (placed m.0.seat (at_checking i low))
             (placed m.0.seat (at_checking i (c + 1))) g t.sees looks
             (if_true (passes n m.0.seat.rv) (placed m.0.seat (at_checking i (suc c))) (conflict (placed m.0.seat (at_checking i low)) (at_voiding i)) (passes_true n m.0.seat.rv even l)
             ∙ ap (λ (x : ℕ). placed m.0.seat (at_checking i x)) (let a : suc c ≡ c + 1 = omega arith in a))
 
         pub check_fails : (w : ℕ) (b : Option ℕ) → b ≡ Some w → word_seen slots c ≡ Some w → HasCause m.0.seat.rv n
-            → FailsTheCheck lawful opens slots i (record { cell = c; word = n; before = b }) m s
+            → FailsTheCheck terms slots i (record { cell = c; word = n; before = b }) m s
         check_fails w b is f cause =
             record {
-              goes = goes_by lawful opens (λ (t : Seat). after_check t i c n) (Some (c, n)) m r s (placed m.0.seat (at_checking i low))
+              goes = goes_by terms (λ (t : Seat). after_check t i c n) (Some (c, n)) m r s (placed m.0.seat (at_checking i low))
                   (conflict m.0.seat (at_voiding i)) g t.sees looks
                   (if_false (passes n m.0.seat.rv) (placed m.0.seat (at_checking i (suc c))) (conflict (placed m.0.seat (at_checking i low)) (at_voiding i)) (passes_false n m.0.seat.rv cause));
               finds = record { looked = ap (λ (v : View S N). v.looked) looks; written = t.written; before = f ∙ sym is };

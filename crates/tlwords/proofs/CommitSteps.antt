@@ -5,7 +5,7 @@ use mathlib.Core.Option.{none, some}
 use lib.ListN.{get_elem?}
 use prog.Atomic.{either}
 use Rattle.std.proofs.lemmas.List.{length-append}
-use Rattle.atomic_table.specs.Table.{step, keeps, Allows}
+use Rattle.atomic_table.specs.Table.{step, Allows}
 use Rattle.atomic_table.proofs.Lists.{exchanged}
 use Rattle.tlcore.specs.History.{Entry, wv, settle}
 use Rattle.tlcore.specs.Seats.{Seat, number_at, passes, reads_of, writes_of, find_read, find_held, all_below, all_settled, is_due, is_next, is_nil, without}
@@ -17,13 +17,17 @@ use Rattle.tlcore.proofs.Laws.{take_leads, draw_leads, check_leads, store_leads,
 use Rattle.tlcore.proofs.Lists.{get-append_cases, get-append_seam, get-append_left, get-set_same, get_within, length-append_one, length-slice_set}
 use Rattle.tlcore.proofs.Settling.{length-settle, get-settle_same}
 use Rattle.tlcore.proofs.Words.{CellWords, SeatRead, SeatHeld, SeatPlace, is_open, is_landed, is_void, landed_not_open, void_not_open, at_idle, at_reading, at_taking, at_checking, at_storing, at_failing, at_voiding, is_looking, not_looking}
-use Rattle.tlwords.specs.Seen.{Lawful, Call, Committed, Seen, SeenGrows, Has, IsSettled, IsDone, Agree}
+use Rattle.tlwords.specs.Ranges.{Range, Has, Names}
+use Rattle.tlwords.specs.Terms.{Terms, Permits}
+use Rattle.tlwords.specs.Seen.{Call, Committed, Seen, SeenGrows, IsSettled, IsDone, Agree}
 use Rattle.tlwords.specs.Views.{View, tells, Sound}
 use Rattle.tlwords.specs.Rule.{words_of, paired, lock_at, value_at, total_of, LookIsFresh, EntriesAre, IsTold, Suits, Ruled}
 use Rattle.tlwords.specs.Plays.{Mine, GivesBack, Sees, Takes, Checks, Stores, Releases, work_of, after_take, after_check, after_store, after_release, took, drew, checked, stored, released}
-use Rattle.tlwords.proofs.Paired.{clock_word, lock_word, lock_is_set, value_is_set}
-use Rattle.tlwords.proofs.Seens.{settled_grows, seen_refl, seen_trans, agree_grows, agree_snoc}
+use Rattle.tlwords.proofs.Paired.{clock_word, lock_word, lock_is_set, value_is_set, word_count, lock_within, value_within}
+use Rattle.tlwords.proofs.Seens.{settled_grows, seen_refl, seen_trans, permits_grow, agree_grows, agree_snoc}
+use Rattle.tlwords.proofs.Lifts.{lifted}
 use Rattle.tlwords.proofs.Keeps.{Rule, now, seat_at, moved, sound_of, goes, told_grows}
+use Rattle.tlwords.proofs.Fronts.{named_after, named_locked, held_named}
 use Rattle.tlwords.proofs.ReadSteps.{if_known, lock_back, value_back, no_number, cell_in, half_written, quiet}
 
 if_true : {A : Type 0} (b : Bool) (x y : A) → b ≡ true → (if b then x else y) ≡ x
@@ -38,44 +42,47 @@ place_known P false x y f g = g refl
 
 -- ---- Take
 
-module _ {S N : Type 0} (lawful : Lawful S N) (opens : S → List ℕ → Type 0) (setting : S) (base : List ℕ) where
+module _ {S N : Type 0} (terms : Terms S N) (setting : S) (base : List ℕ) (room : ℕ) where
   pub takes : (slots id c value old new : ℕ) (me : Mine S N) (y : S) → me.0.setting ≡ Some y → c < length me.0.base
       → (me.0.seat.place ≡ at_reading) ⊎ ((me.0.seat.place ≡ at_taking) × (all_below c me.0.seat.held ≡ true))
       → (d : SeatRead) → find_read c me.0.seat.reads ≡ Some d → d.word ≡ old → new ≡ old + 1
-      → Allows (Ruled lawful opens setting base) slots id me (lock_at c) (λ n. either (eqb n old) new n)
-      (took lawful opens value (step slots (lock_at c) old new none) me)
-  takes slots id c value old new me y set l p d read word up s r _ at _ =
+      → Allows (Ruled terms setting base room) slots id me (lock_at c) (λ n. either (eqb n old) new n)
+      (took terms value (step slots (lock_at c) old new none) me)
+  takes slots id c value old new me y set l p d read word up =
+      lifted terms setting base room slots id (lock_at c) me (λ n. either (eqb n old) new n)
+      (took terms value (step slots (lock_at c) old new none) me) λ ranges ws vs r at.
       let v : View S N = me.0 in
       let t : Seat = v.seat in
       let w : World = r.world in
-      let n : ℕ = slice_index s.words (lock_at c) in
-      let x : (x : CellWords) × (slice_get w.cells c ≡ Some x) = cell_in lawful opens setting base s.words s.views r id v at y set c l in
-      let is : n ≡ (x.0).lock = lock_word s.words w r.words_are c x.0 x.1 in
-      let e : slice_get w.seats id ≡ Some t = seat_at lawful opens setting base s.words s.views r id v at in
+      let n : ℕ = slice_index ws (lock_at c) in
+      let x : (x : CellWords) × (slice_get w.cells c ≡ Some x) = cell_in terms setting base room ranges ws vs r id v at y set c l in
+      let is : n ≡ (x.0).lock = lock_word ws w r.words_are c x.0 x.1 in
+      let e : slice_get w.seats id ≡ Some t = seat_at terms setting base room ranges ws vs r id v at in
       let lead : Leads base w id (Take c value) (take_cell w id t c value d.word x.0) = take_leads base w id t c value d x.0 r.invariant e p read x.1 in
       let keep : Keeps base w (take_cell w id t c value old x.0) = subst (λ (k : ℕ). Keeps base w (take_cell w id t c value k x.0)) word lead.keeps in
-      let h : Seen N = record { history = w.history; notes = r.notes } in
+      let h : Seen N = record { history = w.history; notes = r.notes; ranges = ranges } in
       let z : Seat = after_take t c value old n in
       let u : View S N = record v { seen = h; seat = z; looked = Some (c, n) } in
-      let f : Suits lawful setting base h r.owner v = r.suits id v at in
+      let f : Suits terms setting base room h r.owner v = r.suits id v at in
       let held : Seat = record t { place = at_taking; held = record { cell = c; word = old; value = value; stored = false } ∷ t.held } in
       let lost : Seat = conflict t (if is_nil t.held then at_idle else at_failing) in
       let none_now : (k : ℕ) → number_at t.place ≡ Some k → ⊥ = λ k a.
       ⊎_elim (λ (b : t.place ≡ at_reading). no_number t.place at_reading k b refl a)
       (λ (b : (t.place ≡ at_taking) × (all_below c t.held ≡ true)). no_number t.place at_taking k b.0 refl a) p in
       let P : ℕ → Seat → Type 0 = λ k z.
-      Rule lawful opens setting base (slice_set s.words (lock_at c) k) (slice_set s.views id (record v { seen = h; seat = z; looked = Some (c, n) }))
-      × Sees lawful opens v (record v { seen = h; seat = z; looked = Some (c, n) }) in
+      Rule terms setting base room ranges (slice_set ws (lock_at c) k) (slice_set vs id (record v { seen = h; seat = z; looked = Some (c, n) }))
+      × Sees terms v (record v { seen = h; seat = z; looked = Some (c, n) }) in
       let q : P (either (eqb n old) new n) z = exchanged n old new (λ (k : ℕ). P k z)
       (λ hit.
       let b : ((x.0).lock == old) ≡ true = eq-eqb (x.0).lock old (sym is ∙ hit) in
       let world : World = taken w id t c value old x.0 in
       let keep' : Keeps base w world =
       subst (λ (v : World). Keeps base w v) (if_true ((x.0).lock == old) world (with_seat w id lost) b) keep in
-      let words : slice_set s.words (lock_at c) new ≡ words_of world =
-      ap (λ (k : ℕ). slice_set s.words (lock_at c) k) (let g : new ≡ suc old = omega (arith, up) in g) ∙ lock_is_set s.words w r.words_are c (suc old) x.0 x.1 in
+      let words : slice_set ws (lock_at c) new ≡ words_of world =
+      ap (λ (k : ℕ). slice_set ws (lock_at c) k) (let g : new ≡ suc old = omega (arith, up) in g) ∙ lock_is_set ws w r.words_are c (suc old) x.0 x.1 in
       subst (λ (z : Seat). P new z) (sym (if_true (n == old) held lost (eq-eqb n old hit)))
-      (goes lawful opens setting base s.words s.views r id v at (slice_set s.words (lock_at c) new) world held v.runs (Some (c, n)) v.mine v.told keep' refl words
+      (goes terms setting base room ranges ws vs r id v at (slice_set ws (lock_at c) new) world held v.runs (Some (c, n)) v.mine v.told
+      (named_locked terms setting base room ranges ws vs r c (suc old) x.0 x.1) keep' refl words
       (length-slice_set w.cells c (record x.0 { lock = suc old })) refl (λ a. a) f.told
       (λ k a. absurd (none_now k a)) (λ k a. absurd (no_number at_taking at_taking k refl refl a))
       (λ d o a b. absurd (not_looking at_taking refl d o a b))))
@@ -84,19 +91,19 @@ module _ {S N : Type 0} (lawful : Lawful S N) (opens : S → List ℕ → Type 0
       let keep' : Keeps base w (with_seat w id lost) =
       subst (λ (v : World). Keeps base w v) (if_false ((x.0).lock == old) (taken w id t c value old x.0) (with_seat w id lost) b) keep in
       subst (λ (z : Seat). P n z) (sym (if_false (n == old) held lost (ne_eqb n old miss)))
-      (quiet lawful opens setting base s.words s.views r id v at (lock_at c) lost v.runs (Some (c, n)) v.told keep' f.told
+      (quiet terms setting base room ranges ws vs r id v at (lock_at c) lost v.runs (Some (c, n)) v.told keep' f.told
       (λ k a. absurd (none_now k a))
       (λ k a. absurd (place_known (λ (z : SeatPlace). number_at z ≡ Some k → ⊥) (is_nil t.held) at_idle at_failing
       (λ _ b. no_number at_idle at_idle k refl refl b) (λ _ b. no_number at_failing at_failing k refl refl b) a))
       (place_known (λ (z : SeatPlace). LookIsFresh w.history (conflict t z)) (is_nil t.held) at_idle at_failing
       (λ _ d o a b. absurd (not_looking at_idle refl d o a b)) (λ _ d o a b. absurd (not_looking at_failing refl d o a b)))
       (record v { seen = h; seat = lost; looked = Some (c, n) }) refl)) in (
+        lock_within ws w r.words_are c x.0 x.1,
         u,
-        keeps,
-        tt,
+        (refl, refl, refl),
         q.0,
-        subst (λ (k : ℕ). Takes lawful opens k value old me n (u, me.1)) (sym (lock_back c))
-            (record { sees = q.1; written = half_written lawful opens setting base s.words s.views r c n x.0 x.1 is; is = refl }),
+        subst (λ (k : ℕ). Takes terms k value old me n (u, me.1)) (sym (lock_back c))
+            (record { sees = q.1; written = half_written terms setting base room ranges ws vs r c n x.0 x.1 is; is = refl }),
       )
 
 -- ---- Draw
@@ -110,7 +117,7 @@ has_snoc k x (y ∷ xs) (inr more) = ⊎_elim (λ (h : Has k xs). inl (inr h)) (
 checking_same : (n i : ℕ) → number_at (at_checking n 0) ≡ Some i → n ≡ i
 checking_same n i e = cc
 
-module _ {S N : Type 0} (lawful : Lawful S N) (opens : S → List ℕ → Type 0) (setting : S) (base : List ℕ) where
+module _ {S N : Type 0} (terms : Terms S N) (setting : S) (base : List ℕ) (room : ℕ) where
   -- the numbers that the seats drew are no more than their rights allow
   total_few : (vs : List (View S N)) → ((j : ℕ) (v : View S N) → get_elem? vs j ≡ some v → length v.drawn ≤ 2 ^ 40 * v.rights)
       → total_of (λ (v : View S N). length v.drawn) vs ≤ 2 ^ 40 * total_of (λ (v : View S N). v.rights) vs
@@ -121,8 +128,8 @@ module _ {S N : Type 0} (lawful : Lawful S N) (opens : S → List ℕ → Type 0
       total_few vs (λ j u at. each (suc j) u at) in
       omega (arith, a, b)
 
-  few_now : (ws : List ℕ) (vs : List (View S N)) (r : Rule lawful opens setting base ws vs) → length (r.world).history ≤ 2 ^ 46
-  few_now ws vs r =
+  few_now : (ranges : List Range) (ws : List ℕ) (vs : List (View S N)) (r : Rule terms setting base room ranges ws vs) → length (r.world).history ≤ 2 ^ 46
+  few_now ranges ws vs r =
       let a : total_of (λ (v : View S N). length v.drawn) vs ≤ 2 ^ 40 * total_of (λ (v : View S N). v.rights) vs =
       total_few vs (λ j v at. (r.suits j v at).few) in
       let b : total_of (λ (v : View S N). v.rights) vs ≡ 64 = r.rights in
@@ -130,23 +137,23 @@ module _ {S N : Type 0} (lawful : Lawful S N) (opens : S → List ℕ → Type 0
       omega (arith, a, b, c)
 
   -- one entry more, with its note
-  more_entries : (h : List Entry) (ns : List N) (e : Entry) (n : N) → length ns ≡ length h
-      → EntriesAre lawful setting (record { history = h; notes = ns }) → lawful setting [] e.reads e.writes n → e.writes ≢ []
-      → EntriesAre lawful setting (record { history = h ++ e ∷ []; notes = ns ++ n ∷ [] })
-  more_entries h ns e n len all law wrote i f m a b = go (get-append_cases h e i) (get-append_cases ns n i)
+  more_entries : (ranges : List Range) (h : List Entry) (ns : List N) (e : Entry) (n : N) → length ns ≡ length h
+      → EntriesAre terms setting (record { history = h; notes = ns; ranges = ranges }) → Permits terms setting ranges e.reads e.writes n → e.writes ≢ []
+      → EntriesAre terms setting (record { history = h ++ e ∷ []; notes = ns ++ n ∷ []; ranges = ranges })
+  more_entries ranges h ns e n len all law wrote i f m a b = go (get-append_cases h e i) (get-append_cases ns n i)
     where
       last : (i ≡ length h) × (slice_get (h ++ e ∷ []) i ≡ Some e) → (i ≡ length ns) × (slice_get (ns ++ n ∷ []) i ≡ Some n)
-          → lawful setting [] f.reads f.writes m × (f.writes ≢ [])
+          → Permits terms setting ranges f.reads f.writes m × (f.writes ≢ [])
       last p q =
           let s : Some e ≡ Some f = sym p.1 ∙ a in
           let t : e ≡ f = cc in
           let u : Some n ≡ Some m = sym q.1 ∙ b in
           let k : n ≡ m = cc in
-          (subst (λ (z : Entry × N). lawful setting [] (z.0).reads (z.0).writes z.1) (λ j. (t j, k j)) law, subst (λ (z : Entry). z.writes ≢ []) t wrote)
+          (subst (λ (z : Entry × N). Permits terms setting ranges (z.0).reads (z.0).writes z.1) (λ j. (t j, k j)) law, subst (λ (z : Entry). z.writes ≢ []) t wrote)
 
       go : (slice_get (h ++ e ∷ []) i ≡ slice_get h i) ⊎ ((i ≡ length h) × (slice_get (h ++ e ∷ []) i ≡ Some e))
           → (slice_get (ns ++ n ∷ []) i ≡ slice_get ns i) ⊎ ((i ≡ length ns) × (slice_get (ns ++ n ∷ []) i ≡ Some n))
-          → lawful setting [] f.reads f.writes m × (f.writes ≢ [])
+          → Permits terms setting ranges f.reads f.writes m × (f.writes ≢ [])
       go (inl p) (inl q) = all i f m (sym p ∙ a) (sym q ∙ b)
       go (inl p) (inr q) =
           let w : i < length h = get_within h i f (sym p ∙ a) in
@@ -159,28 +166,30 @@ module _ {S N : Type 0} (lawful : Lawful S N) (opens : S → List ℕ → Type 0
       go (inr p) (inr q) = last p q
 
   pub draws : (slots id : ℕ) (me : Mine S N) (y : S) (note : N) → me.0.setting ≡ Some y → me.0.seat.place ≡ at_taking
-      → lawful y [] (reads_of me.0.seat.reads) (writes_of me.0.seat.held) note → writes_of me.0.seat.held ≢ []
+      → Permits terms y me.0.seen.ranges (reads_of me.0.seat.reads) (writes_of me.0.seat.held) note → writes_of me.0.seat.held ≢ []
       → length me.0.drawn + 1 ≤ 2 ^ 40 * me.0.rights
-      → Allows (Ruled lawful opens setting base) slots id me 1 (λ n. (n + 1) % 2 ^ 64) (drew lawful opens (Some note) (step slots 1 1 0 none) me)
-  draws slots id me y note set p law some_writes room s r _ at _ =
+      → Allows (Ruled terms setting base room) slots id me 1 (λ n. (n + 1) % 2 ^ 64) (drew terms (Some note) (step slots 1 1 0 none) me)
+  draws slots id me y note set p law some_writes left =
+      lifted terms setting base room slots id 1 me (λ n. (n + 1) % 2 ^ 64)
+      (drew terms (Some note) (step slots 1 1 0 none) me) λ ranges ws vs r at.
       let v : View S N = me.0 in
       let t : Seat = v.seat in
       let w : World = r.world in
-      let n : ℕ = slice_index s.words 1 in
-      let is : n ≡ w.clock = clock_word s.words w r.words_are in
+      let n : ℕ = slice_index ws 1 in
+      let is : n ≡ w.clock = clock_word ws w r.words_are in
       let clock : w.clock ≡ length w.history = (r.invariant).consistent.clock in
-      let e : slice_get w.seats id ≡ Some t = seat_at lawful opens setting base s.words s.views r id v at in
+      let e : slice_get w.seats id ≡ Some t = seat_at terms setting base room ranges ws vs r id v at in
       let lead : Leads base w id Draw (drawn w id t) = draw_leads base w id t r.invariant e p in
       let world : World = drawn w id t in
-      let f : Suits lawful setting base (now lawful opens setting base s.words s.views r) r.owner v = r.suits id v at in
-      let few : length w.history ≤ 2 ^ 46 = few_now s.words s.views r in
-      let g : Seen N = record { history = w.history; notes = r.notes } in
+      let f : Suits terms setting base room (now terms setting base room ranges ws vs r) r.owner v = r.suits id v at in
+      let few : length w.history ≤ 2 ^ 46 = few_now ranges ws vs r in
+      let g : Seen N = record { history = w.history; notes = r.notes; ranges = ranges } in
       let notes : List N = r.notes ++ note ∷ [] in
-      let h : Seen N = record { history = world.history; notes = notes } in
+      let h : Seen N = record { history = world.history; notes = notes; ranges = ranges } in
       let len : length world.history ≡ suc (length w.history) = length-append_one w.history (record { status = is_open; reads = reads_of t.reads; writes = writes_of t.held }) in
       let count : length notes ≡ suc (length r.notes) = length-append_one r.notes note in
       let same : length r.notes ≡ length w.history = r.notes_are in
-      let grow : SeenGrows g h = (lead.keeps.grows, λ i m a. get-append_left r.notes (note ∷ []) i (get_within r.notes i m a) ∙ a) in
+      let grow : SeenGrows g h = (lead.keeps.grows, λ i m a. get-append_left r.notes (note ∷ []) i (get_within r.notes i m a) ∙ a, λ x has. has) in
       let z : Seat = placed t (at_checking n 0) in
       let zz : z ≡ placed t (at_checking w.clock 0) = ap (λ (k : ℕ). placed t (at_checking k 0)) is in
       let u : View S N = record v { seen = h; seat = z; note = Some note; drawn = v.drawn ++ suc n ∷ [] } in
@@ -191,7 +200,7 @@ module _ {S N : Type 0} (lawful : Lawful S N) (opens : S → List ℕ → Type 0
       let more : length (v.drawn ++ suc n ∷ []) ≡ length v.drawn + 1 = length-append v.drawn (suc n ∷ []) in
       let there : slice_get notes n ≡ Some note =
       subst (λ (k : ℕ). slice_get notes k ≡ Some note) (let k : length r.notes ≡ n = omega (arith, same, is, clock) in k) (get-append_seam r.notes note) in
-      let suit : Suits lawful setting base h owner u = record {
+      let suit : Suits terms setting base room h owner u = record {
         own = record {
           setting_is = own.setting_is;
           grows = seen_refl h;
@@ -199,33 +208,36 @@ module _ {S N : Type 0} (lawful : Lawful S N) (opens : S → List ℕ → Type 0
               (λ (a : i ≡ suc n). (omega (arith, a, len, is, clock), ap (λ (b : Bool). std.cond b v.name (r.owner i)) (eq-eqb i (suc n) a)))
               (has_snoc i (suc n) v.drawn has);
         };
+        room_is = f.room_is;
         told = told_grows setting base g h r.owner owner v.told grow old f.told;
-        mine = agree_grows lawful setting base g h v.mine grow f.mine;
+        mine = agree_grows terms setting base g h v.mine grow f.mine;
         settled = λ i has. ⊎_elim
             (λ (a : Has (suc i) v.drawn). ⊎_elim (λ (b : number_at t.place ≡ Some i). absurd (no_number t.place at_taking i p refl b)) (λ (b : IsSettled w.history i). inr (settled_grows w.history world.history i lead.keeps.grows b)) (f.settled i a))
             (λ (a : suc i ≡ suc n). let b : n ≡ i = omega (arith, a) in inl (ap (λ (k : ℕ). Some k) b))
             (has_snoc (suc i) (suc n) v.drawn has);
         noted = λ i a. (note, refl, subst (λ (k : ℕ). slice_get notes k ≡ Some note) (checking_same n i a) there);
         look = λ d o a b. absurd (not_looking (at_checking n 0) refl d o a b);
-        few = omega (arith, more, room);
+        few = omega (arith, more, left);
       } in
-      let entries : EntriesAre lawful setting h =
-      more_entries w.history r.notes (record { status = is_open; reads = reads_of t.reads; writes = writes_of t.held }) note same r.entries
-      (subst (λ (x : S). lawful x [] (reads_of t.reads) (writes_of t.held) note) (f.own.setting_is y set).0 law) some_writes in
+      let entries : EntriesAre terms setting h =
+      more_entries ranges w.history r.notes (record { status = is_open; reads = reads_of t.reads; writes = writes_of t.held }) note same r.entries
+      (subst (λ (x : S). Permits terms x ranges (reads_of t.reads) (writes_of t.held) note) (f.own.setting_is y set).0
+      (permits_grow terms y v.seen.ranges ranges f.own.grows.2 law)) some_writes in
       let wrap : (n + 1) % 2 ^ 64 ≡ suc w.clock = omega (arith, is, clock, few) in
-      let words : slice_set s.words 1 ((n + 1) % 2 ^ 64) ≡ words_of world =
+      let words : slice_set ws 1 ((n + 1) % 2 ^ 64) ≡ words_of world =
       ap (λ (l : List ℕ). slice_set l 1 ((n + 1) % 2 ^ 64)) r.words_are ∙ ap (λ (k : ℕ). 0 ∷ k ∷ paired w.cells) wrap in
-      let rule : Rule lawful opens setting base (slice_set s.words 1 ((n + 1) % 2 ^ 64)) (slice_set s.views id u) =
-      moved lawful opens setting base s.words s.views r id v u at (slice_set s.words 1 ((n + 1) % 2 ^ 64)) world notes owner lead.keeps
+      let rule : Rule terms setting base room ranges (slice_set ws 1 ((n + 1) % 2 ^ 64)) (slice_set vs id u) =
+      moved terms setting base room ranges ws vs r id v u at ranges (slice_set ws 1 ((n + 1) % 2 ^ 64)) world notes owner (λ x has. has) r.lie
+      r.named lead.keeps
       (ap (λ (k : Seat). slice_set w.seats id k) (sym zz)) words refl grow.1 (omega (arith, count, same, len)) entries old suit refl
       (omega (arith, more, len)) in
-      let sound : Sound lawful opens u =
-      sound_of lawful opens setting base world notes owner id u lead.keeps.invariant entries r.opening suit
+      let sound : Sound terms u =
+      sound_of terms setting base room ranges world notes owner id u lead.keeps.invariant entries r.opening r.lie suit
       (get-set_same w.seats id (placed t (at_checking w.clock 0)) t e ∙ ap (λ (k : Seat). Some k) (sym zz)) refl in
       let before : length v.seen.history ≤ length w.history = f.own.grows.0.0 in (
+        (let l = word_count ws w r.words_are in omega (arith, l)),
         u,
-        keeps,
-        tt,
+        (refl, refl, refl),
         rule,
         record {
           sees = record { own = seen_trans v.seen g h f.own.grows grow; told = seen_trans v.told.seen g h f.told.grows grow; sound = sound };
@@ -243,40 +255,42 @@ module _ {S N : Type 0} (lawful : Lawful S N) (opens : S → List ℕ → Type 0
 checking_is : (i upto j other : ℕ) → at_checking i upto ≡ at_checking j other → i ≡ j
 checking_is i upto j other e = cc
 
-module _ {S N : Type 0} (lawful : Lawful S N) (opens : S → List ℕ → Type 0) (setting : S) (base : List ℕ) where
+module _ {S N : Type 0} (terms : Terms S N) (setting : S) (base : List ℕ) (room : ℕ) where
   pub checks : (slots id c i upto : ℕ) (me : Mine S N) (y : S) → me.0.setting ≡ Some y → c < length me.0.base
       → me.0.seat.place ≡ at_checking i upto → is_next me.0.seat i ≡ false → is_due me.0.seat upto c ≡ true
       → (d : SeatRead) → find_read c me.0.seat.reads ≡ Some d
-      → Allows (Ruled lawful opens setting base) slots id me (lock_at c) (λ n. n) (checked lawful opens (step slots (lock_at c) 0 0 none) me)
-  checks slots id c i upto me y set l p further due d read s r _ at _ =
+      → Allows (Ruled terms setting base room) slots id me (lock_at c) (λ n. n) (checked terms (step slots (lock_at c) 0 0 none) me)
+  checks slots id c i upto me y set l p further due d read =
+      lifted terms setting base room slots id (lock_at c) me (λ n. n)
+      (checked terms (step slots (lock_at c) 0 0 none) me) λ ranges ws vs r at.
       let v : View S N = me.0 in
       let t : Seat = v.seat in
       let w : World = r.world in
-      let n : ℕ = slice_index s.words (lock_at c) in
-      let x : (x : CellWords) × (slice_get w.cells c ≡ Some x) = cell_in lawful opens setting base s.words s.views r id v at y set c l in
-      let is : n ≡ (x.0).lock = lock_word s.words w r.words_are c x.0 x.1 in
-      let e : slice_get w.seats id ≡ Some t = seat_at lawful opens setting base s.words s.views r id v at in
+      let n : ℕ = slice_index ws (lock_at c) in
+      let x : (x : CellWords) × (slice_get w.cells c ≡ Some x) = cell_in terms setting base room ranges ws vs r id v at y set c l in
+      let is : n ≡ (x.0).lock = lock_word ws w r.words_are c x.0 x.1 in
+      let e : slice_get w.seats id ≡ Some t = seat_at terms setting base room ranges ws vs r id v at in
       let lead : Leads base w id (Check c) (check w id t i c x.0) = check_leads base w id t i upto c d x.0 r.invariant e p further due read x.1 in
       let keep : Keeps base w (with_seat w id (after_check t i c n)) =
       subst (λ (k : ℕ). Keeps base w (with_seat w id (after_check t i c k))) (sym is) lead.keeps in
-      let h : Seen N = record { history = w.history; notes = r.notes } in
+      let h : Seen N = record { history = w.history; notes = r.notes; ranges = ranges } in
       let z : Seat = after_check t i c n in
       let u : View S N = record v { seen = h; seat = z; looked = Some (c, n) } in
-      let f : Suits lawful setting base h r.owner v = r.suits id v at in
+      let f : Suits terms setting base room h r.owner v = r.suits id v at in
       let number : number_at z.place ≡ Some i = if_known (λ (z : Seat). number_at z.place ≡ Some i) (passes n t.rv) (placed t (at_checking i (suc c))) (conflict t (at_voiding i)) (λ _. refl) (λ _. refl) in
       let was : number_at t.place ≡ Some i = ap number_at p in
-      let q : Rule lawful opens setting base (slice_set s.words (lock_at c) n) (slice_set s.views id u) × Sees lawful opens v u =
-      quiet lawful opens setting base s.words s.views r id v at (lock_at c) z v.runs (Some (c, n)) v.told keep f.told
+      let q : Rule terms setting base room ranges (slice_set ws (lock_at c) n) (slice_set vs id u) × Sees terms v u =
+      quiet terms setting base room ranges ws vs r id v at (lock_at c) z v.runs (Some (c, n)) v.told keep f.told
       (λ k a. number ∙ (sym was ∙ a)) (λ k a. was ∙ (sym number ∙ a))
       (if_known (λ (z : Seat). LookIsFresh w.history z) (passes n t.rv) (placed t (at_checking i (suc c))) (conflict t (at_voiding i))
       (λ _ d o a b. absurd (not_looking (at_checking i (suc c)) refl d o a b)) (λ _ d o a b. absurd (not_looking (at_voiding i) refl d o a b))) u refl in (
+        lock_within ws w r.words_are c x.0 x.1,
         u,
-        keeps,
-        tt,
+        (refl, refl, refl),
         q.0,
-        subst (λ (k : ℕ). Checks lawful opens k me n (u, me.1)) (sym (lock_back c)) (record {
+        subst (λ (k : ℕ). Checks terms k me n (u, me.1)) (sym (lock_back c)) (record {
           sees = q.1;
-          written = half_written lawful opens setting base s.words s.views r c n x.0 x.1 is;
+          written = half_written terms setting base room ranges ws vs r c n x.0 x.1 is;
           is = λ j other a.
               let b : i ≡ j = checking_is i upto j other (sym p ∙ a) in
               ap (λ (k : ℕ). let m : View S N = record v { seen = h; seat = after_check t k c n; looked = Some (c, n) } in m) b;
@@ -291,42 +305,46 @@ storing_is i j e = cc
 storing_not_checking : (i j upto : ℕ) → at_storing i ≡ at_checking j upto → ⊥
 storing_not_checking i j upto e = cc
 
-module _ {S N : Type 0} (lawful : Lawful S N) (opens : S → List ℕ → Type 0) (setting : S) (base : List ℕ) where
+module _ {S N : Type 0} (terms : Terms S N) (setting : S) (base : List ℕ) (room : ℕ) where
   -- the rule after a store, which adds to the pass's calls what agrees
-  stores_go : (ws : List ℕ) (vs : List (View S N)) (r : Rule lawful opens setting base ws vs) (id : ℕ) (v : View S N) → get_elem? vs id ≡ some v
+  stores_go : (ranges : List Range) (ws : List ℕ) (vs : List (View S N)) (r : Rule terms setting base room ranges ws vs) (id : ℕ) (v : View S N) → get_elem? vs id ≡ some v
       → (c i : ℕ) (k : SeatHeld) (x : CellWords) (mine : List (Call N)) → slice_get (r.world).cells c ≡ Some x
       → Keeps base r.world (store r.world id v.seat i c k x) → number_at v.seat.place ≡ Some i
-      → (Agree lawful setting base (record { history = settle (r.world).history i is_landed; notes = r.notes }) v.mine
-      → Agree lawful setting base (record { history = settle (r.world).history i is_landed; notes = r.notes }) mine)
+      → (terms.ranged setting c → Names ranges k.value)
+      → (Agree terms setting base (record { history = settle (r.world).history i is_landed; notes = r.notes; ranges = ranges }) v.mine
+      → Agree terms setting base (record { history = settle (r.world).history i is_landed; notes = r.notes; ranges = ranges }) mine)
       → (u : View S N)
-      → u ≡ record v { seen = record { history = settle (r.world).history i is_landed; notes = r.notes }; seat = after_store v.seat i c; mine = mine }
-      → Rule lawful opens setting base (slice_set ws (value_at c) k.value) (slice_set vs id u) × Sees lawful opens v u
-  stores_go ws vs r id v at c i k x mine f stays number calls u is =
+      → u ≡ record v { seen = record { history = settle (r.world).history i is_landed; notes = r.notes; ranges = ranges }; seat = after_store v.seat i c; mine = mine }
+      → Rule terms setting base room ranges (slice_set ws (value_at c) k.value) (slice_set vs id u) × Sees terms v u
+  stores_go ranges ws vs r id v at c i k x mine f stays number names calls u is =
       let w : World = r.world in
       let world : World = store w id v.seat i c k x in
-      let h : Seen N = record { history = world.history; notes = r.notes } in
-      let suit : Suits lawful setting base (now lawful opens setting base ws vs r) r.owner v = r.suits id v at in
+      let h : Seen N = record { history = world.history; notes = r.notes; ranges = ranges } in
+      let suit : Suits terms setting base room (now terms setting base room ranges ws vs r) r.owner v = r.suits id v at in
       let len : length world.history ≡ length w.history = length-settle w.history i is_landed in
       let told : IsTold setting base h r.owner v.told =
-      told_grows setting base (now lawful opens setting base ws vs r) h r.owner r.owner v.told (stays.grows, λ i m a. a) (λ n l. refl) suit.told in
-      subst (λ (u : View S N). Rule lawful opens setting base (slice_set ws (value_at c) k.value) (slice_set vs id u) × Sees lawful opens v u) (sym is)
-      (goes lawful opens setting base ws vs r id v at (slice_set ws (value_at c) k.value) world (after_store v.seat i c) v.runs v.looked mine v.told stays refl
+      told_grows setting base (now terms setting base room ranges ws vs r) h r.owner r.owner v.told (stays.grows, λ i m a. a, λ y has. has) (λ n l. refl) suit.told in
+      subst (λ (u : View S N). Rule terms setting base room ranges (slice_set ws (value_at c) k.value) (slice_set vs id u) × Sees terms v u) (sym is)
+      (goes terms setting base room ranges ws vs r id v at (slice_set ws (value_at c) k.value) world (after_store v.seat i c) v.runs v.looked mine v.told
+      (named_after terms setting base room ranges ws vs r c (record x { value = k.value }) names) stays refl
       (value_is_set ws w r.words_are c k.value x f) (length-slice_set w.cells c (record x { value = k.value })) len calls told
       (λ j a. inl (sym number ∙ a)) (λ j a. number ∙ a) (λ d o a b. absurd (not_looking (at_storing i) refl d o a b)))
 
   pub stores : (slots id c i value : ℕ) (k : SeatHeld) (me : Mine S N) (y : S) → me.0.setting ≡ Some y → c < length me.0.base
       → ((upto : ℕ) × (me.0.seat.place ≡ at_checking i upto) × ((is_next me.0.seat i || all_settled me.0.seat.held upto me.0.seat.reads) ≡ true)) ⊎ (me.0.seat.place ≡ at_storing i)
       → find_held c me.0.seat.held ≡ Some k → k.value ≡ value
-      → Allows (Ruled lawful opens setting base) slots id me (value_at c) (λ _. value) (λ _. stored lawful opens (step slots (value_at c) value 0 none) me value)
-  stores slots id c i value k me y set l (inl p) holds is_value s r _ at _ =
+      → Allows (Ruled terms setting base room) slots id me (value_at c) (λ _. value) (λ _. stored terms (step slots (value_at c) value 0 none) me value)
+  stores slots id c i value k me y set l (inl p) holds is_value =
+      lifted terms setting base room slots id (value_at c) me (λ _. value)
+      (λ _. stored terms (step slots (value_at c) value 0 none) me value) λ ranges ws vs r at.
       let v : View S N = me.0 in
       let t : Seat = v.seat in
       let w : World = r.world in
-      let x : (x : CellWords) × (slice_get w.cells c ≡ Some x) = cell_in lawful opens setting base s.words s.views r id v at y set c l in
-      let e : slice_get w.seats id ≡ Some t = seat_at lawful opens setting base s.words s.views r id v at in
+      let x : (x : CellWords) × (slice_get w.cells c ≡ Some x) = cell_in terms setting base room ranges ws vs r id v at y set c l in
+      let e : slice_get w.seats id ≡ Some t = seat_at terms setting base room ranges ws vs r id v at in
       let lead : Leads base w id (Store c) (store w id t i c k x.0) = store_leads base w id t i c k x.0 r.invariant e (inl p) holds x.1 in
-      let h : Seen N = record { history = settle w.history i is_landed; notes = r.notes } in
-      let f : Suits lawful setting base (now lawful opens setting base s.words s.views r) r.owner v = r.suits id v at in
+      let h : Seen N = record { history = settle w.history i is_landed; notes = r.notes; ranges = ranges } in
+      let f : Suits terms setting base room (now terms setting base room ranges ws vs r) r.owner v = r.suits id v at in
       let number : number_at t.place ≡ Some i = ap number_at p.1 in
       let noted : (n : N) × (v.note ≡ Some n) × (slice_get r.notes i ≡ Some n) = f.noted i number in
       let ok : CheckingOk base w.history t i p.0 = subst (λ (z : SeatPlace). PlaceOk base w.cells w.history t z) p.1 ((r.invariant).consistent.seats id t e).place in
@@ -340,14 +358,15 @@ module _ {S N : Type 0} (lawful : Lawful S N) (opens : S → List ℕ → Type 0
       } in
       let mine : List (Call N) = v.mine ++ Committed (suc i) (work_of t noted.0) ∷ [] in
       let u : View S N = record v { seen = h; seat = after_store t i c; mine = mine } in
-      let q : Rule lawful opens setting base (slice_set s.words (value_at c) k.value) (slice_set s.views id u) × Sees lawful opens v u =
-      stores_go s.words s.views r id v at c i k x.0 mine x.1 lead.keeps number
-      (λ a. agree_snoc lawful setting base h v.mine (Committed (suc i) (work_of t noted.0)) a (i, refl, done)) u refl in (
+      let q : Rule terms setting base room ranges (slice_set ws (value_at c) k.value) (slice_set vs id u) × Sees terms v u =
+      stores_go ranges ws vs r id v at c i k x.0 mine x.1 lead.keeps number
+      (held_named terms setting base room ranges ws vs r id v at c i k (inl (p.0, p.1)) holds)
+      (λ a. agree_snoc terms setting base h v.mine (Committed (suc i) (work_of t noted.0)) a (i, refl, done)) u refl in (
+        value_within ws w r.words_are c x.0 x.1,
         u,
-        keeps,
-        tt,
-        subst (λ (z : ℕ). Rule lawful opens setting base (slice_set s.words (value_at c) z) (slice_set s.views id u)) is_value q.0,
-        subst (λ (z : ℕ). Stores lawful opens z me (u, me.1)) (sym (value_back c)) (record {
+        (refl, refl, refl),
+        subst (λ (z : ℕ). Rule terms setting base room ranges (slice_set ws (value_at c) z) (slice_set vs id u)) is_value q.0,
+        subst (λ (z : ℕ). Stores terms z me (u, me.1)) (sym (value_back c)) (record {
           sees = q.1;
           first = λ j other n a b.
               let g : i ≡ j = checking_is i p.0 j other (sym p.1 ∙ a) in
@@ -359,23 +378,26 @@ module _ {S N : Type 0} (lawful : Lawful S N) (opens : S → List ℕ → Type 0
           next = λ j a. absurd (storing_not_checking j i p.0 (sym a ∙ p.1));
         }),
       )
-  stores slots id c i value k me y set l (inr p) holds is_value s r _ at _ =
+  stores slots id c i value k me y set l (inr p) holds is_value =
+      lifted terms setting base room slots id (value_at c) me (λ _. value)
+      (λ _. stored terms (step slots (value_at c) value 0 none) me value) λ ranges ws vs r at.
       let v : View S N = me.0 in
       let t : Seat = v.seat in
       let w : World = r.world in
-      let x : (x : CellWords) × (slice_get w.cells c ≡ Some x) = cell_in lawful opens setting base s.words s.views r id v at y set c l in
-      let e : slice_get w.seats id ≡ Some t = seat_at lawful opens setting base s.words s.views r id v at in
+      let x : (x : CellWords) × (slice_get w.cells c ≡ Some x) = cell_in terms setting base room ranges ws vs r id v at y set c l in
+      let e : slice_get w.seats id ≡ Some t = seat_at terms setting base room ranges ws vs r id v at in
       let lead : Leads base w id (Store c) (store w id t i c k x.0) = store_leads base w id t i c k x.0 r.invariant e (inr p) holds x.1 in
-      let h : Seen N = record { history = settle w.history i is_landed; notes = r.notes } in
+      let h : Seen N = record { history = settle w.history i is_landed; notes = r.notes; ranges = ranges } in
       let number : number_at t.place ≡ Some i = ap number_at p in
       let u : View S N = record v { seen = h; seat = after_store t i c } in
-      let q : Rule lawful opens setting base (slice_set s.words (value_at c) k.value) (slice_set s.views id u) × Sees lawful opens v u =
-      stores_go s.words s.views r id v at c i k x.0 v.mine x.1 lead.keeps number (λ a. a) u refl in (
+      let q : Rule terms setting base room ranges (slice_set ws (value_at c) k.value) (slice_set vs id u) × Sees terms v u =
+      stores_go ranges ws vs r id v at c i k x.0 v.mine x.1 lead.keeps number
+      (held_named terms setting base room ranges ws vs r id v at c i k (inr p) holds) (λ a. a) u refl in (
+        value_within ws w r.words_are c x.0 x.1,
         u,
-        keeps,
-        tt,
-        subst (λ (z : ℕ). Rule lawful opens setting base (slice_set s.words (value_at c) z) (slice_set s.views id u)) is_value q.0,
-        subst (λ (z : ℕ). Stores lawful opens z me (u, me.1)) (sym (value_back c)) (record {
+        (refl, refl, refl),
+        subst (λ (z : ℕ). Rule terms setting base room ranges (slice_set ws (value_at c) z) (slice_set vs id u)) is_value q.0,
+        subst (λ (z : ℕ). Stores terms z me (u, me.1)) (sym (value_back c)) (record {
           sees = q.1;
           first = λ j other n a b. absurd (storing_not_checking i j other (sym p ∙ a));
           next = λ j a.
@@ -398,24 +420,25 @@ some_same i j e = cc
 voiding_is : (i j : ℕ) → at_voiding i ≡ at_voiding j → i ≡ j
 voiding_is i j e = cc
 
-module _ {S N : Type 0} (lawful : Lawful S N) (opens : S → List ℕ → Type 0) (setting : S) (base : List ℕ) where
+module _ {S N : Type 0} (terms : Terms S N) (setting : S) (base : List ℕ) (room : ℕ) where
   -- the rule after a release with this word, where the history becomes h; the entry of a run that has drawn is settled
-  releases_go : (ws : List ℕ) (vs : List (View S N)) (r : Rule lawful opens setting base ws vs) (id : ℕ) (v : View S N) → get_elem? vs id ≡ some v
+  releases_go : (ranges : List Range) (ws : List ℕ) (vs : List (View S N)) (r : Rule terms setting base room ranges ws vs) (id : ℕ) (v : View S N) → get_elem? vs id ≡ some v
       → (c word : ℕ) (x : CellWords) (h : List Entry) → slice_get (r.world).cells c ≡ Some x
       → Keeps base r.world (release r.world id v.seat c word x h) → length h ≡ length (r.world).history
       → ((i : ℕ) → number_at v.seat.place ≡ Some i → IsSettled h i)
       → ((d word value : ℕ) → is_looking v.seat.place ≡ false)
-      → Rule lawful opens setting base (slice_set ws (lock_at c) word) (slice_set vs id (record v { seen = record { history = h; notes = r.notes }; seat = after_release v.seat c }))
-      × Sees lawful opens v (record v { seen = record { history = h; notes = r.notes }; seat = after_release v.seat c })
-  releases_go ws vs r id v at c word x h f stays len ends free =
+      → Rule terms setting base room ranges (slice_set ws (lock_at c) word) (slice_set vs id (record v { seen = record { history = h; notes = r.notes; ranges = ranges }; seat = after_release v.seat c }))
+      × Sees terms v (record v { seen = record { history = h; notes = r.notes; ranges = ranges }; seat = after_release v.seat c })
+  releases_go ranges ws vs r id v at c word x h f stays len ends free =
       let w : World = r.world in
       let t : Seat = v.seat in
       let world : World = release w id t c word x h in
-      let later : Seen N = record { history = h; notes = r.notes } in
-      let suit : Suits lawful setting base (now lawful opens setting base ws vs r) r.owner v = r.suits id v at in
+      let later : Seen N = record { history = h; notes = r.notes; ranges = ranges } in
+      let suit : Suits terms setting base room (now terms setting base room ranges ws vs r) r.owner v = r.suits id v at in
       let told : IsTold setting base later r.owner v.told =
-      told_grows setting base (now lawful opens setting base ws vs r) later r.owner r.owner v.told (stays.grows, λ i m a. a) (λ n l. refl) suit.told in
-      goes lawful opens setting base ws vs r id v at (slice_set ws (lock_at c) word) world (after_release t c) v.runs v.looked v.mine v.told stays refl
+      told_grows setting base (now terms setting base room ranges ws vs r) later r.owner r.owner v.told (stays.grows, λ i m a. a, λ y has. has) (λ n l. refl) suit.told in
+      goes terms setting base room ranges ws vs r id v at (slice_set ws (lock_at c) word) world (after_release t c) v.runs v.looked v.mine v.told
+      (named_locked terms setting base room ranges ws vs r c word x f) stays refl
       (lock_is_set ws w r.words_are c word x f) (length-slice_set w.cells c (record x { lock = word })) len (λ a. a) told
       (λ i a. inr (ends i a))
       (λ i a. place_known (λ (z : SeatPlace). number_at z ≡ Some i → number_at t.place ≡ Some i) (is_nil (without c t.held)) at_idle t.place
@@ -425,67 +448,73 @@ module _ {S N : Type 0} (lawful : Lawful S N) (opens : S → List ℕ → Type 0
 
   pub releases : (slots id c new : ℕ) (k : SeatHeld) (me : Mine S N) (y : S) → me.0.setting ≡ Some y → c < length me.0.base
       → find_held c me.0.seat.held ≡ Some k → GivesBack me.0.seat k new
-      → Allows (Ruled lawful opens setting base) slots id me (lock_at c) (λ _. new) (λ _. released lawful opens (step slots (lock_at c) new 0 none) me new)
-  releases slots id c new k me y set l holds (inl p) s r _ at _ =
+      → Allows (Ruled terms setting base room) slots id me (lock_at c) (λ _. new) (λ _. released terms (step slots (lock_at c) new 0 none) me new)
+  releases slots id c new k me y set l holds (inl p) =
+      lifted terms setting base room slots id (lock_at c) me (λ _. new)
+      (λ _. released terms (step slots (lock_at c) new 0 none) me new) λ ranges ws vs r at.
       let v : View S N = me.0 in
       let t : Seat = v.seat in
       let w : World = r.world in
-      let x : (x : CellWords) × (slice_get w.cells c ≡ Some x) = cell_in lawful opens setting base s.words s.views r id v at y set c l in
-      let e : slice_get w.seats id ≡ Some t = seat_at lawful opens setting base s.words s.views r id v at in
+      let x : (x : CellWords) × (slice_get w.cells c ≡ Some x) = cell_in terms setting base room ranges ws vs r id v at y set c l in
+      let e : slice_get w.seats id ≡ Some t = seat_at terms setting base room ranges ws vs r id v at in
       let lead : Leads base w id (Release c) (release w id t c (2 * wv p.0) x.0 w.history) = release_leads base w id t p.0 c k x.0 r.invariant e p.1 holds p.2 x.1 in
       let ok : (e : Entry) × (slice_get w.history p.0 ≡ Some e) × (e.status ≡ is_landed) =
       subst (λ (z : SeatPlace). PlaceOk base w.cells w.history t z) p.1 ((r.invariant).consistent.seats id t e).place in
-      let u : View S N = record v { seen = record { history = w.history; notes = r.notes }; seat = after_release t c } in
-      let q : Rule lawful opens setting base (slice_set s.words (lock_at c) (2 * wv p.0)) (slice_set s.views id u) × Sees lawful opens v u =
-      releases_go s.words s.views r id v at c (2 * wv p.0) x.0 w.history x.1 lead.keeps refl
+      let u : View S N = record v { seen = record { history = w.history; notes = r.notes; ranges = ranges }; seat = after_release t c } in
+      let q : Rule terms setting base room ranges (slice_set ws (lock_at c) (2 * wv p.0)) (slice_set vs id u) × Sees terms v u =
+      releases_go ranges ws vs r id v at c (2 * wv p.0) x.0 w.history x.1 lead.keeps refl
       (λ j a. subst (λ (z : ℕ). IsSettled w.history z) (some_same p.0 j (sym (ap number_at p.1) ∙ a)) (ok.0, ok.1, λ b. landed_not_open (sym ok.2 ∙ b)))
       (λ d o a. ap is_looking p.1) in (
+        lock_within ws w r.words_are c x.0 x.1,
         u,
-        keeps,
-        tt,
-        subst (λ (z : ℕ). Rule lawful opens setting base (slice_set s.words (lock_at c) z) (slice_set s.views id u)) (sym p.3) q.0,
-        subst (λ (z : ℕ). Releases lawful opens z me (u, me.1)) (sym (lock_back c))
+        (refl, refl, refl),
+        subst (λ (z : ℕ). Rule terms setting base room ranges (slice_set ws (lock_at c) z) (slice_set vs id u)) (sym p.3) q.0,
+        subst (λ (z : ℕ). Releases terms z me (u, me.1)) (sym (lock_back c))
             (record { sees = q.1; void = λ j a. absurd (storing_not_voiding p.0 j (sym p.1 ∙ a)); is = refl }),
       )
-  releases slots id c new k me y set l holds (inr (inl p)) s r _ at _ =
+  releases slots id c new k me y set l holds (inr (inl p)) =
+      lifted terms setting base room slots id (lock_at c) me (λ _. new)
+      (λ _. released terms (step slots (lock_at c) new 0 none) me new) λ ranges ws vs r at.
       let v : View S N = me.0 in
       let t : Seat = v.seat in
       let w : World = r.world in
-      let x : (x : CellWords) × (slice_get w.cells c ≡ Some x) = cell_in lawful opens setting base s.words s.views r id v at y set c l in
-      let e : slice_get w.seats id ≡ Some t = seat_at lawful opens setting base s.words s.views r id v at in
+      let x : (x : CellWords) × (slice_get w.cells c ≡ Some x) = cell_in terms setting base room ranges ws vs r id v at y set c l in
+      let e : slice_get w.seats id ≡ Some t = seat_at terms setting base room ranges ws vs r id v at in
       let lead : Leads base w id (Release c) (release w id t c k.word x.0 w.history) = release_failed_leads base w id t c k x.0 r.invariant e p.0 holds x.1 in
-      let u : View S N = record v { seen = record { history = w.history; notes = r.notes }; seat = after_release t c } in
-      let q : Rule lawful opens setting base (slice_set s.words (lock_at c) k.word) (slice_set s.views id u) × Sees lawful opens v u =
-      releases_go s.words s.views r id v at c k.word x.0 w.history x.1 lead.keeps refl
+      let u : View S N = record v { seen = record { history = w.history; notes = r.notes; ranges = ranges }; seat = after_release t c } in
+      let q : Rule terms setting base room ranges (slice_set ws (lock_at c) k.word) (slice_set vs id u) × Sees terms v u =
+      releases_go ranges ws vs r id v at c k.word x.0 w.history x.1 lead.keeps refl
       (λ j a. absurd (no_number t.place at_failing j p.0 refl a)) (λ d o a. ap is_looking p.0) in (
+        lock_within ws w r.words_are c x.0 x.1,
         u,
-        keeps,
-        tt,
-        subst (λ (z : ℕ). Rule lawful opens setting base (slice_set s.words (lock_at c) z) (slice_set s.views id u)) (sym p.1) q.0,
-        subst (λ (z : ℕ). Releases lawful opens z me (u, me.1)) (sym (lock_back c))
+        (refl, refl, refl),
+        subst (λ (z : ℕ). Rule terms setting base room ranges (slice_set ws (lock_at c) z) (slice_set vs id u)) (sym p.1) q.0,
+        subst (λ (z : ℕ). Releases terms z me (u, me.1)) (sym (lock_back c))
             (record { sees = q.1; void = λ j a. absurd (failing_not_voiding j (sym p.0 ∙ a)); is = refl }),
       )
-  releases slots id c new k me y set l holds (inr (inr p)) s r _ at _ =
+  releases slots id c new k me y set l holds (inr (inr p)) =
+      lifted terms setting base room slots id (lock_at c) me (λ _. new)
+      (λ _. released terms (step slots (lock_at c) new 0 none) me new) λ ranges ws vs r at.
       let v : View S N = me.0 in
       let t : Seat = v.seat in
       let w : World = r.world in
-      let x : (x : CellWords) × (slice_get w.cells c ≡ Some x) = cell_in lawful opens setting base s.words s.views r id v at y set c l in
-      let e : slice_get w.seats id ≡ Some t = seat_at lawful opens setting base s.words s.views r id v at in
+      let x : (x : CellWords) × (slice_get w.cells c ≡ Some x) = cell_in terms setting base room ranges ws vs r id v at y set c l in
+      let e : slice_get w.seats id ≡ Some t = seat_at terms setting base room ranges ws vs r id v at in
       let h : List Entry = settle w.history p.0 is_void in
       let lead : Leads base w id (Release c) (release w id t c k.word x.0 h) = release_void_leads base w id t p.0 c k x.0 r.invariant e p.1 holds x.1 in
       let ok : (e : Entry) × (slice_get w.history p.0 ≡ Some e) × (e.status ≢ is_landed) =
       subst (λ (z : SeatPlace). PlaceOk base w.cells w.history t z) p.1 ((r.invariant).consistent.seats id t e).place in
       let there : slice_get h p.0 ≡ Some (record ok.0 { status = is_void }) = get-settle_same w.history p.0 is_void ok.0 ok.1 in
-      let u : View S N = record v { seen = record { history = h; notes = r.notes }; seat = after_release t c } in
-      let q : Rule lawful opens setting base (slice_set s.words (lock_at c) k.word) (slice_set s.views id u) × Sees lawful opens v u =
-      releases_go s.words s.views r id v at c k.word x.0 h x.1 lead.keeps (length-settle w.history p.0 is_void)
+      let u : View S N = record v { seen = record { history = h; notes = r.notes; ranges = ranges }; seat = after_release t c } in
+      let q : Rule terms setting base room ranges (slice_set ws (lock_at c) k.word) (slice_set vs id u) × Sees terms v u =
+      releases_go ranges ws vs r id v at c k.word x.0 h x.1 lead.keeps (length-settle w.history p.0 is_void)
       (λ j a. subst (λ (z : ℕ). IsSettled h z) (some_same p.0 j (sym (ap number_at p.1) ∙ a)) (record ok.0 { status = is_void }, there, void_not_open))
       (λ d o a. ap is_looking p.1) in (
+        lock_within ws w r.words_are c x.0 x.1,
         u,
-        keeps,
-        tt,
-        subst (λ (z : ℕ). Rule lawful opens setting base (slice_set s.words (lock_at c) z) (slice_set s.views id u)) (sym p.2) q.0,
-        subst (λ (z : ℕ). Releases lawful opens z me (u, me.1)) (sym (lock_back c)) (record {
+        (refl, refl, refl),
+        subst (λ (z : ℕ). Rule terms setting base room ranges (slice_set ws (lock_at c) z) (slice_set vs id u)) (sym p.2) q.0,
+        subst (λ (z : ℕ). Releases terms z me (u, me.1)) (sym (lock_back c)) (record {
           sees = q.1;
           void = λ j a. subst (λ (z : ℕ). (e : Entry) × (slice_get h z ≡ Some e) × (e.status ≡ is_void)) (voiding_is p.0 j (sym p.1 ∙ a)) (record ok.0 { status = is_void }, there, refl);
           is = refl;

@@ -1,18 +1,24 @@
 -- What the closed words show.
-use Rattle.std.proofs.Common.{◌≡◌, ℕ, zero, suc, ◌+◌, ◌*◌, ◌<◌, Some, List, [], ◌∷◌, length, slice_get, slice_index, sym, refl, ap, ◌∙◌, subst, arith}
+use Rattle.std.proofs.Common.{◌≡◌, ℕ, zero, suc, ◌+◌, ◌*◌, ◌<◌, ◌≤◌, Some, List, [], ◌∷◌, ◌++◌, length, slice_get, slice_index, sym, refl, ap, ◌∙◌, subst, arith}
 use mathlib.Core.Option.{some, some-injective}
 use lib.ListN.{get_elem?}
+use Rattle.std.proofs.lemmas.List.{length-append}
+use Rattle.atomic_table.specs.Table.{State}
 use Rattle.tlcore.specs.History.{Will, version, value, deed}
+use Rattle.tlcore.specs.Machine.{World}
 use Rattle.tlcore.proofs.Growth.{get_exists}
 use Rattle.tlcore.proofs.Lists.{get_within}
 use Rattle.tlcore.proofs.Words.{CellWords}
 use Rattle.tlwords.specs.declared.closing.ClosedCell.{ClosedCell}
-use Rattle.tlwords.specs.Seen.{Lawful, Legal, Agree}
+use Rattle.tlwords.specs.declared.closing.ClosedWords.{ClosedWords}
+use Rattle.tlwords.specs.Ranges.{Range, Has, IsStored}
+use Rattle.tlwords.specs.Terms.{Terms}
+use Rattle.tlwords.specs.Seen.{Seen, Legal, Agree}
 use Rattle.tlwords.specs.Views.{View}
-use Rattle.tlwords.specs.Rule.{lock_at, value_at, paired, words_of, Kept}
-use Rattle.tlwords.specs.Closing.{AreCellsOf, Shows, Closes, ClosesFor}
+use Rattle.tlwords.specs.Rule.{lock_at, value_at, tail_at, store_at, Kept, Ruled}
+use Rattle.tlwords.specs.Closing.{AreCellsOf, IsStoreOf, Shows, Closes, ClosesFor}
 use Rattle.tlwords.proofs.Keeps.{now, legal_of}
-use Rattle.tlwords.proofs.Paired.{clock_word, lock_word, value_word}
+use Rattle.tlwords.proofs.Paired.{word_count, clock_word, lock_word, lock_within, value_word, value_within}
 
 pub index_same : (xs : List ℕ) (i x : ℕ) → get_elem? xs i ≡ some x → slice_index xs i ≡ x
 index_same [] i x e = absurd (none_some x e)
@@ -22,51 +28,119 @@ index_same [] i x e = absurd (none_some x e)
 index_same (y ∷ ys) zero x e = some-injective y x e
 index_same (y ∷ ys) (suc i) x e = index_same ys i x e
 
-paired_length : (xs : List CellWords) → length (paired xs) ≡ 2 * length xs
-paired_length [] = refl
-paired_length (x ∷ xs) = let e : length (paired xs) ≡ 2 * length xs = paired_length xs in omega (arith, e)
+elem_left : (xs ys : List ℕ) (i : ℕ) → i < length xs → get_elem? (xs ++ ys) i ≡ get_elem? xs i
+elem_left [] ys i l = absurd (omega arith)
+elem_left (x ∷ xs) ys zero l = refl
+elem_left (x ∷ xs) ys (suc i) l = elem_left xs ys i (omega arith)
 
-module _ {S N : Type 0} (lawful : Lawful S N) (opens : S → List ℕ → Type 0) (setting : S) (base : List ℕ) (ws : List ℕ) (vs : List (View S N))
-    (r : Kept lawful opens setting base ws vs) (n clock : ℕ) (cells : List ClosedCell) (long : length ws ≡ 2 * n + 2) (count : length cells ≡ n)
-    (at : get_elem? ws 1 ≡ some clock) (so : AreCellsOf ws cells) where
-  many : n ≡ length (r.world).cells
+elem_seam : (xs : List ℕ) (y : ℕ) (ys : List ℕ) → get_elem? (xs ++ y ∷ ys) (length xs) ≡ some y
+elem_seam [] y ys = refl
+elem_seam (x ∷ xs) y ys = elem_seam xs y ys
+
+elem_right : (xs : List ℕ) (y : ℕ) (ys : List ℕ) (o : ℕ) → get_elem? (xs ++ y ∷ ys) (suc (length xs + o)) ≡ get_elem? ys o
+elem_right [] y ys o = let e : length {A = ℕ} [] + o ≡ o = omega arith in ap (λ (k : ℕ). get_elem? ys k) e
+elem_right (x ∷ xs) y ys o =
+    let e : length (x ∷ xs) + o ≡ suc (length xs + o) = omega arith in
+    ap (λ (k : ℕ). get_elem? (xs ++ y ∷ ys) k) e ∙ elem_right xs y ys o
+
+elem_of : (xs : List ℕ) (i x : ℕ) → slice_get xs i ≡ Some x → get_elem? xs i ≡ some x
+elem_of [] i x e = absurd (cc)
+elem_of (y ∷ ys) zero x e = let q : y ≡ x = cc in ap some q
+elem_of (y ∷ ys) (suc i) x e = elem_of ys i x e
+
+module _ {S N : Type 0} (terms : Terms S N) (setting : S) (base : List ℕ) (room : ℕ) (s : State (Unit {0}) (View S N)) (r : Ruled terms setting base room s)
+    (n : ℕ) (closed : ClosedWords) (long : length s.words ≡ 2 * n + 3 + room)
+    (clock_at : get_elem? s.words 1 ≡ some closed.clock) (tail_is : get_elem? s.words (tail_at n) ≡ some closed.tail)
+    (cells_are : AreCellsOf s.words closed.cells.items) (cells_count : length closed.cells.items ≡ n)
+    (store_is : IsStoreOf s.words n closed.store.items) (store_count : length closed.store.items ≡ room) where
+  abbrev k : Kept terms setting base room r.ranges r.front s.views
+  k = r.kept
+
+  abbrev w : World
+  w = k.world
+
+  abbrev last : Seen N
+  last = now terms setting base room r.ranges r.front s.views r.kept
+
+  front_count : length r.front ≡ 2 * length w.cells + 2
+  front_count = word_count r.front w k.words_are
+
+  many : n ≡ length w.cells
   many =
-      let a : length ws ≡ length (words_of r.world) = ap length r.words_are in
-      let b : length (paired (r.world).cells) ≡ 2 * length (r.world).cells = paired_length (r.world).cells in
-      omega (arith, a, b, long)
+      let a : length s.words ≡ length (r.front ++ r.tail ∷ r.store) = ap length r.words_are in
+      let b : length (r.front ++ r.tail ∷ r.store) ≡ length r.front + length (r.tail ∷ r.store) = length-append r.front (r.tail ∷ r.store) in
+      let c : length r.store ≡ room = (r.shelf).long in
+      let d : length r.front ≡ 2 * length w.cells + 2 = front_count in
+      omega (arith, a, b, c, d, long)
 
-  shown : Shows base (r.world).history clock cells
+  front_word : (i x : ℕ) → i < length r.front → get_elem? s.words i ≡ some x → slice_index r.front i ≡ x
+  front_word i x l e =
+      index_same r.front i x
+      (sym (elem_left r.front (r.tail ∷ r.store) i l) ∙ (ap (λ (l : List ℕ). get_elem? l i) (sym r.words_are) ∙ e))
+
+  tail_same : closed.tail ≡ r.tail
+  tail_same =
+      let at : tail_at n ≡ length r.front = let a : n ≡ length w.cells = many in let b : length r.front ≡ 2 * length w.cells + 2 = front_count in omega (arith, a, b) in
+      some-injective closed.tail r.tail
+      (sym tail_is ∙ (ap (λ (l : List ℕ). get_elem? l (tail_at n)) r.words_are
+      ∙ (ap (λ (i : ℕ). get_elem? (r.front ++ r.tail ∷ r.store) i) at ∙ elem_seam r.front r.tail r.store)))
+
+  store_word : (o x y : ℕ) → slice_get closed.store.items o ≡ Some x → slice_get r.store o ≡ Some y → x ≡ y
+  store_word o x y e f =
+      let at : store_at n o ≡ suc (length r.front + o) = let a : n ≡ length w.cells = many in let b : length r.front ≡ 2 * length w.cells + 2 = front_count in omega (arith, a, b) in
+      some-injective x y
+      (sym (store_is o x e) ∙ (ap (λ (l : List ℕ). get_elem? l (store_at n o)) r.words_are
+      ∙ (ap (λ (i : ℕ). get_elem? (r.front ++ r.tail ∷ r.store) i) at ∙ (elem_right r.front r.tail r.store o ∙ elem_of r.store o y f))))
+
+  store_same : (o y : ℕ) → slice_get r.store o ≡ Some y → slice_get closed.store.items o ≡ Some y
+  store_same o y f =
+      let l : o < length r.store = get_within r.store o y f in
+      let c : length r.store ≡ room = (r.shelf).long in
+      let x : (x : ℕ) × (slice_get closed.store.items o ≡ Some x) = get_exists closed.store.items o (omega (arith, l, c, store_count)) in
+      x.1 ∙ ap (λ (v : ℕ). Some v) (store_word o x.0 y x.1 f)
+
+  stored : (range : Range) → Has range r.ranges → IsStored closed.tail closed.store.items range
+  stored range has i x e =
+      let b : (slice_get r.store (range.start + i) ≡ Some x) × (range.start + i < r.tail) = (r.shelf).finished range has i x e in
+      let l : range.start + i < r.tail = b.1 in
+      let t : closed.tail ≡ r.tail = tail_same in
+      (store_same (range.start + i) x b.0, omega (arith, l, t))
+
+  shown : Shows base w.history closed.clock closed.cells.items
   shown =
       record {
-        clock_is = sym ((r.invariant).consistent.clock) ∙ (sym (clock_word ws r.world r.words_are) ∙ index_same ws 1 clock at);
-        count = count ∙ (many ∙ r.cells_are);
+        clock_is =
+            let l : 1 < length r.front = let b : length r.front ≡ 2 * length w.cells + 2 = front_count in omega (arith, b) in
+            sym ((k.invariant).consistent.clock) ∙ (sym (clock_word r.front w k.words_are) ∙ front_word 1 closed.clock l clock_at);
+        count = cells_count ∙ (many ∙ k.cells_are);
         free = λ c v x f e.
-            let y : (y : CellWords) × (slice_get (r.world).cells c ≡ Some y) = get_exists (r.world).cells c (let l : c < length cells = get_within cells c x f in let m : n ≡ length (r.world).cells = many in omega (arith, l, m, count)) in
-            let lock : (y.0).lock ≡ x.lock = sym (lock_word ws r.world r.words_are c y.0 y.1) ∙ index_same ws (lock_at c) x.lock (so c x f).0 in
-            let shows : (y.0).value ≡ x.value = sym (value_word ws r.world r.words_are c y.0 y.1) ∙ index_same ws (value_at c) x.value (so c x f).1 in
-            let ok : (v ≡ version (r.world).history c) × ((y.0).value ≡ value base (r.world).history c) × ((i u : ℕ) → deed (r.world).history c i ≡ Will u → ⊥) =
-            (r.invariant).consistent.cells c v y.0 y.1 (lock ∙ e) in
+            let y : (y : CellWords) × (slice_get w.cells c ≡ Some y) =
+            get_exists w.cells c (let l : c < length closed.cells.items = get_within closed.cells.items c x f in let m : n ≡ length w.cells = many in omega (arith, l, m, cells_count)) in
+            let lock : (y.0).lock ≡ x.lock =
+            sym (lock_word r.front w k.words_are c y.0 y.1) ∙ front_word (lock_at c) x.lock (lock_within r.front w k.words_are c y.0 y.1) (cells_are c x f).0 in
+            let shows : (y.0).value ≡ x.value =
+            sym (value_word r.front w k.words_are c y.0 y.1) ∙ front_word (value_at c) x.value (value_within r.front w k.words_are c y.0 y.1) (cells_are c x f).1 in
+            let ok : (v ≡ version w.history c) × ((y.0).value ≡ value base w.history c) × ((i u : ℕ) → deed w.history c i ≡ Will u → ⊥) =
+            (k.invariant).consistent.cells c v y.0 y.1 (lock ∙ e) in
             (ok.0, sym shows ∙ ok.1, ok.2);
       }
 
-  pub closes : Closes lawful setting base clock cells
-  closes =
-      record {
-        seen = now lawful opens setting base ws vs r;
-        legal = legal_of lawful opens setting base r.world r.notes r.invariant r.entries;
-        shows = shown;
-      }
+  legal : Legal terms setting base last
+  legal = legal_of terms setting base room r.ranges w k.notes k.invariant k.entries
 
-  pub closes_for : (id : ℕ) (v : View S N) → get_elem? vs id ≡ some v → ClosesFor lawful v clock cells
+  pub closes : Closes terms setting base closed
+  closes = record { seen = last; legal = legal; shows = shown; stored = stored }
+
+  pub closes_for : (id : ℕ) (v : View S N) → get_elem? s.views id ≡ some v → ClosesFor terms v closed
   closes_for id v there y e =
-      let f = r.suits id v there in
+      let f = k.suits id v there in
       let i = f.own.setting_is y e in (
         record {
-          seen = now lawful opens setting base ws vs r;
-          legal = subst (λ (z : S × List ℕ). Legal lawful z.0 z.1 (now lawful opens setting base ws vs r)) (λ j. (sym i.0 j, sym i.1 j))
-              (legal_of lawful opens setting base r.world r.notes r.invariant r.entries);
-          shows = subst (λ (o : List ℕ). Shows o (r.world).history clock cells) (sym i.1) shown;
+          seen = last;
+          legal = subst (λ (z : S × List ℕ). Legal terms z.0 z.1 last) (λ j. (sym i.0 j, sym i.1 j)) legal;
+          shows = subst (λ (o : List ℕ). Shows o w.history closed.clock closed.cells.items) (sym i.1) shown;
+          stored = stored;
         },
         f.own.grows,
-        subst (λ (z : S × List ℕ). Agree lawful z.0 z.1 (now lawful opens setting base ws vs r) v.mine) (λ j. (sym i.0 j, sym i.1 j)) f.mine,
+        subst (λ (z : S × List ℕ). Agree terms z.0 z.1 last v.mine) (λ j. (sym i.0 j, sym i.1 j)) f.mine,
       )

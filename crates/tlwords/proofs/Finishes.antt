@@ -3,16 +3,18 @@ use Rattle.std.proofs.Common.{◌≡◌, ◌≢◌, ℕ, Bool, true, false, if�
 use Rattle.tlcore.specs.Seats.{Seat, reads_of}
 use Rattle.tlcore.proofs.Words.{at_reading, at_taking, is_resting}
 use Rattle.tlwords.specs.declared.log.Slot.{Slot}
-use Rattle.tlwords.specs.Seen.{Lawful, Answered}
+use Rattle.tlwords.specs.Terms.{Pairs, Terms, Permits}
+use Rattle.tlwords.specs.Seen.{Answered}
 use Rattle.tlwords.specs.Views.{View}
 use Rattle.tlwords.specs.Plays.{Mine, Recalls}
 use Rattle.tlwords.specs.Runs.{IsKeptOf, IsPassOf, IsRunOf}
 use Rattle.tlwords.specs.Commits.{writes_kept, work_kept, HasAnswered, IsLawfulNow}
 use Rattle.tlwords.specs.Committing.{held_in, holding, Goes}
 use Rattle.tlwords.specs.Walks.{NoneWanted}
+use Rattle.tlwords.proofs.Seens.{permits_grow}
 use Rattle.tlwords.proofs.RunSteps.{left_fits}
 use Rattle.tlwords.proofs.Held.{no_writes}
-use Rattle.tlwords.proofs.Turns.{unkept_of, goes_seat, goes_setting}
+use Rattle.tlwords.proofs.Turns.{unkept_of, moves_grow, goes_seat, goes_setting}
 use Rattle.tlwords.proofs.Settles.{some_held}
 
 pub known_setting : {S : Type 0} (o : Option S) → is_some o ≡ true → (y : S) × (o ≡ Some y)
@@ -22,8 +24,16 @@ known_setting (Some y) e = (y, refl)
 pub nothing_kept : (t : Seat) (slots : List Slot) (cells : List ℕ) → IsKeptOf t slots cells → NoneWanted slots true 0 (length slots) → writes_kept slots ≡ []
 nothing_kept t slots cells k front = no_writes slots (length slots) (unkept_of t slots cells k 0 (length slots) front)
 
-module _ {S N : Type 0} (lawful : Lawful S N) (opens : S → List ℕ → Type 0) (slots : List Slot) (x : N) (m r : Mine S N) where
-  pub answers : Recalls lawful opens (Some x) m r → writes_kept slots ≡ [] → HasAnswered lawful opens (work_kept m.0.seat slots x) m r
+-- a run that is to write nothing is lawful so
+pub unwritten_lawful : {S N : Type 0} (terms : Terms S N) (slots : List Slot) (x : N) (v : View S N) → IsLawfulNow terms v slots x
+    → is_some v.setting ≡ true → writes_kept slots ≡ []
+    → (y : S) × (v.setting ≡ Some y) × Permits terms y v.seen.ranges (reads_of v.seat.reads) [] x
+unwritten_lawful terms slots x v f set e =
+    let y = known_setting v.setting set in
+    (y.0, y.1, subst (λ (ws : Pairs). Permits terms y.0 v.seen.ranges (reads_of v.seat.reads) ws x) e (f y.0 y.1))
+
+module _ {S N : Type 0} (terms : Terms S N) (slots : List Slot) (x : N) (m r : Mine S N) where
+  pub answers : Recalls terms (Some x) m r → writes_kept slots ≡ [] → HasAnswered terms (work_kept m.0.seat slots x) m r
   answers t e =
       record {
         sees = t.sees;
@@ -33,9 +43,9 @@ module _ {S N : Type 0} (lawful : Lawful S N) (opens : S → List ℕ → Type 0
         } in v);
       }
 
-  pub answered_fits : (count place : ℕ) → Recalls lawful opens (Some x) m r → IsRunOf m count place false → IsPassOf r count
+  pub answered_fits : (count place : ℕ) → Recalls terms (Some x) m r → IsRunOf m count place false → IsPassOf r count
   answered_fits count place t f =
-      let p : IsPassOf m count = left_fits lawful opens m count place false f in (
+      let p : IsPassOf m count = left_fits terms m count place false f in (
         ap (λ (v : View S N). is_some v.setting) (t.is x refl) ∙ p.0,
         ap (λ (v : View S N). is_resting v.seat.place) (t.is x refl) ∙ p.1,
         ap (λ (v : View S N). v.rights) (t.is x refl) ∙ p.2,
@@ -43,9 +53,9 @@ module _ {S N : Type 0} (lawful : Lawful S N) (opens : S → List ℕ → Type 0
         p.4,
       )
 
-  module _ (g : Goes lawful opens m (holding m.0.seat at_taking at_reading (held_in slots 0 0 (length slots))) r) where
+  module _ (g : Goes terms m (holding m.0.seat at_taking at_reading (held_in slots 0 0 (length slots))) r) where
     at : r.0.seat ≡ holding m.0.seat at_taking at_reading (held_in slots 0 0 (length slots))
-    at = goes_seat lawful opens m r (holding m.0.seat at_taking at_reading (held_in slots 0 0 (length slots))) g
+    at = goes_seat terms m r (holding m.0.seat at_taking at_reading (held_in slots 0 0 (length slots))) g
 
     pub taken_run : (place : ℕ) → writes_kept slots ≢ [] → m.0.seat.rv ≡ place
         → (r.0.seat.place ≡ at_taking) × (r.0.seat.rv ≡ place) × (r.0.seat.held ≡ held_in slots 0 0 (length slots))
@@ -55,10 +65,11 @@ module _ {S N : Type 0} (lawful : Lawful S N) (opens : S → List ℕ → Type 0
       ap (λ (t : Seat). t.held) at,
     )
 
-    pub taken_lawful : (y : S) → m.0.setting ≡ Some y → IsLawfulNow lawful m.0 slots x
-        → (z : S) × (r.0.setting ≡ Some z) × lawful z [] (reads_of r.0.seat.reads) (writes_kept slots) x
+    pub taken_lawful : (y : S) → m.0.setting ≡ Some y → IsLawfulNow terms m.0 slots x
+        → (z : S) × (r.0.setting ≡ Some z) × Permits terms z r.0.seen.ranges (reads_of r.0.seat.reads) (writes_kept slots) x
     taken_lawful y e f = (
       y,
-      goes_setting lawful opens m r (holding m.0.seat at_taking at_reading (held_in slots 0 0 (length slots))) y g e,
-      subst (λ (t : Seat). lawful y [] (reads_of t.reads) (writes_kept slots) x) (sym at) (f y e),
+      goes_setting terms m r (holding m.0.seat at_taking at_reading (held_in slots 0 0 (length slots))) y g e,
+      subst (λ (t : Seat). Permits terms y r.0.seen.ranges (reads_of t.reads) (writes_kept slots) x) (sym at)
+          (permits_grow terms y m.0.seen.ranges r.0.seen.ranges (moves_grow terms m r g.moves).2 (f y e)),
     )

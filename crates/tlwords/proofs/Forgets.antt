@@ -5,7 +5,8 @@ use mathlib.Core.Logic.{dite}
 use native.Mathlib.Decide.{ℕ_discrete}
 use Rattle.tlcore.specs.Seats.{Seat}
 use Rattle.tlwords.specs.declared.log.Slot.{Slot}
-use Rattle.tlwords.specs.Runs.{word_seen, value_kept, lists, counts, count_read, IsKeptOf}
+use Rattle.tlwords.specs.Views.{counts}
+use Rattle.tlwords.specs.Runs.{word_seen, value_kept, lists, count_read, IsKeptOf}
 use Rattle.tlwords.specs.Commits.{HasForgotten}
 use Rattle.tlwords.specs.Walks.{IsForgetting}
 use Rattle.tlwords.proofs.Logs.{seen_here, seen_else, kept_here, kept_else, word_at, count_set, lists_no_more, past_end, none_known}

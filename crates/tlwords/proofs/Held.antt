@@ -7,7 +7,7 @@ use Rattle.tlcore.specs.Seats.{find_held, is_held, all_below, without, stored, w
 use Rattle.tlcore.proofs.Lists.{option_known}
 use Rattle.tlcore.proofs.Words.{SeatHeld}
 use Rattle.tlwords.specs.declared.log.Slot.{Slot}
-use Rattle.tlwords.specs.Seen.{Pairs}
+use Rattle.tlwords.specs.Terms.{Pairs}
 use Rattle.tlwords.specs.Runs.{word_seen, value_kept}
 use Rattle.tlwords.specs.Commits.{with_write, writes_below}
 use Rattle.tlwords.specs.Committing.{word_or_zero, with_held, held_in}

@@ -1,10 +1,14 @@
 pub mod Seens
 pub mod Paired
 pub mod Keeps
+pub mod Fronts
 pub mod ReadSteps
 pub mod CommitSteps
 pub mod Logs
+pub mod Shelves
+pub mod Lifts
 pub mod OpenSteps
+pub mod Openings
 pub mod RunSteps
 pub mod Wanted
 pub mod Held
@@ -14,6 +18,9 @@ pub mod Checks
 pub mod Stores
 pub mod Settles
 pub mod Finishes
+pub mod Knows
 pub mod Forgets
 pub mod Ends
+pub mod Fillings
 pub mod Modes
+pub mod StoreSteps

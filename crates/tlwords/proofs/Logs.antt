@@ -10,7 +10,8 @@ use Rattle.tlcore.proofs.Lists.{get-set_same, get-set_other}
 use Rattle.tlcore.proofs.Growth.{get_exists}
 use Rattle.tlcore.proofs.Words.{SeatRead}
 use Rattle.tlwords.specs.declared.log.Slot.{Slot}
-use Rattle.tlwords.specs.Runs.{word_seen, value_kept, was_read, lists, counts, count_read, IsBlank, IsKeptOf, HasNoted, HasKept}
+use Rattle.tlwords.specs.Views.{counts}
+use Rattle.tlwords.specs.Runs.{word_seen, value_kept, was_read, lists, count_read, IsBlank, IsKeptOf, HasNoted, HasKept}
 use Rattle.tlwords.specs.Walks.{IsClearing}
 
 abbrev pub blank : Slot

@@ -29,6 +29,12 @@ read_kept Reading t u l k r n e h =
     (kept_same (noted Reading t) (noted Reading u) l.slots.items (listed l) refl h)
 read_kept Writing t u l k r n e h = kept_same (record t { reads = r ∷ t.reads }) u k.slots.items (listed k) e (n.0 t r h refl refl)
 
+-- where a run in this mode has the reads that it had, it keeps what it kept
+pub still_kept : (mode : Mode) (t u : Seat) (slots : List Slot) (cells : List ℕ) → u.reads ≡ t.reads → IsKeptOf (noted mode t) slots cells
+    → IsKeptOf (noted mode u) slots cells
+still_kept Reading t u slots cells e h = kept_same (noted Reading t) (noted Reading u) slots cells refl h
+still_kept Writing t u slots cells e h = kept_same t u slots cells e h
+
 pub notes : (mode : Mode) (l k : Log) (cell word : ℕ) → (mode ≡ Reading → k ≡ l)
     → (mode ≡ Writing → HasNoted l.slots.items (listed l) k.slots.items (listed k) cell word) → Notes mode l k cell word
 notes Reading l k cell word f g = f refl

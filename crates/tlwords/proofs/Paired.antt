@@ -1,8 +1,9 @@
 -- The words of a world: which word is whose, and what a store of one word does.
-use Rattle.std.proofs.Common.{◌≡◌, ℕ, zero, suc, ◌+◌, ◌*◌, Some, List, [], ◌∷◌, map, slice_get, slice_set, slice_index, sym, refl, ap, ◌∙◌, arith}
+use Rattle.std.proofs.Common.{◌≡◌, ℕ, zero, suc, ◌+◌, ◌*◌, ◌<◌, Some, List, [], ◌∷◌, length, map, slice_get, slice_set, slice_index, sym, refl, ap, ◌∙◌, arith}
 use mathlib.Core.Option as maybe
 use lib.ListN.{get_elem?}
 use Rattle.tlcore.specs.Machine.{World}
+use Rattle.tlcore.proofs.Lists.{get_within}
 use Rattle.tlcore.proofs.Words.{CellWords}
 use Rattle.tlwords.specs.Rule.{paired, words_of, lock_at, value_at}
 
@@ -62,10 +63,23 @@ lock_index c = omega arith
 value_index : (c : ℕ) → value_at c ≡ suc (suc (2 * c + 1))
 value_index c = omega arith
 
+paired_length : (xs : List CellWords) → length (paired xs) ≡ 2 * length xs
+paired_length [] = refl
+paired_length (x ∷ xs) = let r : length (paired xs) ≡ 2 * length xs = paired_length xs in omega (arith, r)
+
 -- which word is whose, in a table whose words are those of a world
 module _ (ws : List ℕ) (w : World) (e : ws ≡ words_of w) where
   pub clock_word : slice_index ws 1 ≡ w.clock
   clock_word = ap (λ (l : List ℕ). slice_index l 1) e
+
+  pub word_count : length ws ≡ 2 * length w.cells + 2
+  word_count = let l : length (paired w.cells) ≡ 2 * length w.cells = paired_length w.cells in ap length e ∙ omega (arith, l)
+
+  pub lock_within : (c : ℕ) (x : CellWords) → slice_get w.cells c ≡ Some x → lock_at c < length ws
+  lock_within c x f = let m : c < length w.cells = get_within w.cells c x f in let n = word_count in omega (arith, m, n)
+
+  pub value_within : (c : ℕ) (x : CellWords) → slice_get w.cells c ≡ Some x → value_at c < length ws
+  value_within c x f = let m : c < length w.cells = get_within w.cells c x f in let n = word_count in omega (arith, m, n)
 
   pub lock_word : (c : ℕ) (x : CellWords) → slice_get w.cells c ≡ Some x → slice_index ws (lock_at c) ≡ x.lock
   lock_word c x f =

@@ -5,7 +5,7 @@ use mathlib.Core.Option.{none, some}
 use native.Mathlib.Decide.{ℕ_discrete, dec_lt}
 use lib.ListN.{get_elem?}
 use Rattle.std.proofs.lemmas.List.{set-get_or}
-use Rattle.atomic_table.specs.Table.{step, keeps, Allows}
+use Rattle.atomic_table.specs.Table.{step, Allows}
 use Rattle.tlcore.specs.History.{Entry, WasWritten, Will, deed, version, version_after, value}
 use Rattle.tlcore.specs.Seats.{Seat, number_at, passes}
 use Rattle.tlcore.specs.Machine.{World, with_seat, begun, placed, conflict, look, load, relook}
@@ -17,12 +17,15 @@ use Rattle.tlcore.proofs.Halves.{halves}
 use Rattle.tlcore.proofs.Laws.{begin_leads, look_leads, load_leads, relook_leads}
 use Rattle.tlcore.proofs.SeatParts.{passes-old}
 use Rattle.tlcore.proofs.Words.{CellWords, SeatPlace, at_idle, at_reading, at_looked, at_loaded, not_looking, looked_same, loaded_same, looked_not_loaded}
-use Rattle.tlwords.specs.Seen.{Lawful, Seen}
+use Rattle.tlwords.specs.Ranges.{Range, Names}
+use Rattle.tlwords.specs.Terms.{Terms}
+use Rattle.tlwords.specs.Seen.{Seen}
 use Rattle.tlwords.specs.Views.{Told, View, untold}
 use Rattle.tlwords.specs.Rule.{lock_at, value_at, IsFresh, LookIsFresh, IsTold, Suits, Ruled}
 use Rattle.tlwords.specs.Plays.{Mine, Sees, Looks, began, after_look, after_relook, sampled, looked, loaded, relooked}
-use Rattle.tlwords.proofs.Paired.{clock_word, lock_word, value_word}
+use Rattle.tlwords.proofs.Paired.{clock_word, lock_word, value_word, word_count, lock_within, value_within}
 use Rattle.tlwords.proofs.Seens.{version_settled}
+use Rattle.tlwords.proofs.Lifts.{lifted}
 use Rattle.tlwords.proofs.Keeps.{Rule, now, seat_at, gone, goes, untold_is}
 
 -- a place without a number
@@ -81,60 +84,62 @@ pass_fresh o w c n rv x I f is l p =
     version_settled (deed w.history c) (length w.history) rv low l in
     (omega (arith, same, a, b.0), λ i u k e. b.1 i u e)
 
-module _ {S N : Type 0} (lawful : Lawful S N) (opens : S → List ℕ → Type 0) (setting : S) (base : List ℕ) where
+module _ {S N : Type 0} (terms : Terms S N) (setting : S) (base : List ℕ) (room : ℕ) where
   -- the cell is one of the world's
-  pub cell_in : (ws : List ℕ) (vs : List (View S N)) (r : Rule lawful opens setting base ws vs) (id : ℕ) (v : View S N)
+  pub cell_in : (ranges : List Range) (ws : List ℕ) (vs : List (View S N)) (r : Rule terms setting base room ranges ws vs) (id : ℕ) (v : View S N)
       → get_elem? vs id ≡ some v → (y : S) → v.setting ≡ Some y → (c : ℕ) → c < length v.base
       → (x : CellWords) × (slice_get (r.world).cells c ≡ Some x)
-  cell_in ws vs r id v at y e c l =
-      let f : Suits lawful setting base (now lawful opens setting base ws vs r) r.owner v = r.suits id v at in
+  cell_in ranges ws vs r id v at y e c l =
+      let f : Suits terms setting base room (now terms setting base room ranges ws vs r) r.owner v = r.suits id v at in
       let b : (y ≡ setting) × (v.base ≡ base) = f.own.setting_is y e in
       let same : length v.base ≡ length base = ap length b.1 in
       let cells : length (r.world).cells ≡ length base = r.cells_are in
       get_exists (r.world).cells c (omega (arith, l, same, cells))
 
   -- the half of a lock word is 0 or the number of a Done entry that writes the cell
-  pub half_written : (ws : List ℕ) (vs : List (View S N)) (r : Rule lawful opens setting base ws vs) (c n : ℕ) (x : CellWords)
+  pub half_written : (ranges : List Range) (ws : List ℕ) (vs : List (View S N)) (r : Rule terms setting base room ranges ws vs) (c n : ℕ) (x : CellWords)
       → slice_get (r.world).cells c ≡ Some x → n ≡ x.lock → WasWritten (r.world).history c (n / 2)
-  half_written ws vs r c n x f is =
+  half_written ranges ws vs r c n x f is =
       halves base r.world r.invariant c (n / 2) x f
       (⊎_elim (λ (e : n ≡ 2 * (n / 2)). inl (sym is ∙ e)) (λ (e : n ≡ suc (2 * (n / 2))). inr (sym is ∙ e)) (half_of n))
 
   -- a load, by an event that changes the seat alone
-  pub quiet : (ws : List ℕ) (vs : List (View S N)) (r : Rule lawful opens setting base ws vs) (id : ℕ) (v : View S N) → get_elem? vs id ≡ some v
+  pub quiet : (ranges : List Range) (ws : List ℕ) (vs : List (View S N)) (r : Rule terms setting base room ranges ws vs) (id : ℕ) (v : View S N) → get_elem? vs id ≡ some v
       → (i : ℕ) (z : Seat) (runs : ℕ) (looked : Option (ℕ × ℕ)) (told : Told S N)
-      → Keeps base r.world (with_seat r.world id z) → IsTold setting base (now lawful opens setting base ws vs r) r.owner told
+      → Keeps base r.world (with_seat r.world id z) → IsTold setting base (now terms setting base room ranges ws vs r) r.owner told
       → ((k : ℕ) → number_at v.seat.place ≡ Some k → number_at z.place ≡ Some k)
       → ((k : ℕ) → number_at z.place ≡ Some k → number_at v.seat.place ≡ Some k)
       → LookIsFresh (r.world).history z
-      → (w : View S N) → w ≡ gone lawful opens setting base ws vs r v (r.world) z runs looked v.mine told
-      → Rule lawful opens setting base (slice_set ws i (slice_index ws i)) (slice_set vs id w) × Sees lawful opens v w
-  quiet ws vs r id v at i z runs looked told stays is_told on back look w is =
-      subst (λ (w : View S N). Rule lawful opens setting base (slice_set ws i (slice_index ws i)) (slice_set vs id w) × Sees lawful opens v w) (sym is)
-      (goes lawful opens setting base ws vs r id v at (slice_set ws i (slice_index ws i)) (with_seat r.world id z) z runs looked v.mine told stays refl
+      → (w : View S N) → w ≡ gone terms setting base room ranges ws vs r v (r.world) z runs looked v.mine told
+      → Rule terms setting base room ranges (slice_set ws i (slice_index ws i)) (slice_set vs id w) × Sees terms v w
+  quiet ranges ws vs r id v at i z runs looked told stays is_told on back look w is =
+      subst (λ (w : View S N). Rule terms setting base room ranges (slice_set ws i (slice_index ws i)) (slice_set vs id w) × Sees terms v w) (sym is)
+      (goes terms setting base room ranges ws vs r id v at (slice_set ws i (slice_index ws i)) (with_seat r.world id z) z runs looked v.mine told r.named stays refl
       (set-get_or ws i 0 ∙ r.words_are) refl refl (λ a. a) is_told (λ k p. inl (on k p)) back look)
 
   pub samples : (slots id : ℕ) (me : Mine S N) → (me.0.seat.place ≡ at_idle) ⊎ (me.0.seat.place ≡ at_reading)
-      → Allows (Ruled lawful opens setting base) slots id me 1 (λ n. n) (sampled lawful opens (step slots 1 0 0 none) me)
-  samples slots id me p s r _ at _ =
+      → Allows (Ruled terms setting base room) slots id me 1 (λ n. n) (sampled terms (step slots 1 0 0 none) me)
+  samples slots id me p =
+      lifted terms setting base room slots id 1 me (λ n. n)
+      (sampled terms (step slots 1 0 0 none) me) λ ranges ws vs r at.
       let v : View S N = me.0 in
       let w : World = r.world in
-      let n : ℕ = slice_index s.words 1 in
-      let is : n ≡ w.clock = clock_word s.words w r.words_are in
-      let e : slice_get w.seats id ≡ Some v.seat = seat_at lawful opens setting base s.words s.views r id v at in
+      let n : ℕ = slice_index ws 1 in
+      let is : n ≡ w.clock = clock_word ws w r.words_are in
+      let e : slice_get w.seats id ≡ Some v.seat = seat_at terms setting base room ranges ws vs r id v at in
       let lead : Leads base w id Begin (with_seat w id (begun w v.seat)) = begin_leads base w id v.seat r.invariant e p in
       let keep : Keeps base w (with_seat w id (began n)) = subst (λ (k : ℕ). Keeps base w (with_seat w id (began k))) (sym is) lead.keeps in
-      let h : Seen N = record { history = w.history; notes = r.notes } in
+      let h : Seen N = record { history = w.history; notes = r.notes; ranges = ranges } in
       let u : View S N = record v { seen = h; seat = began n; told = untold; runs = v.runs + 1; looked = None } in
-      let q : Rule lawful opens setting base (slice_set s.words 1 n) (slice_set s.views id u) × Sees lawful opens v u =
-      quiet s.words s.views r id v at 1 (began n) (v.runs + 1) None untold keep (untold_is setting base h r.owner)
+      let q : Rule terms setting base room ranges (slice_set ws 1 n) (slice_set vs id u) × Sees terms v u =
+      quiet ranges ws vs r id v at 1 (began n) (v.runs + 1) None untold keep (untold_is setting base h r.owner)
       (λ k a. absurd (⊎_elim (λ (b : v.seat.place ≡ at_idle). no_number v.seat.place at_idle k b refl a) (λ (b : v.seat.place ≡ at_reading). no_number v.seat.place at_reading k b refl a) p))
       (λ k a. absurd (no_number at_reading at_reading k refl refl a))
       (λ c word value a. absurd (not_looking at_reading refl c word value a)) u refl in
       let f = r.suits id v at in (
+        (let l = word_count ws w r.words_are in omega arith),
         u,
-        keeps,
-        tt,
+        (refl, refl, refl),
         q.0,
         record {
           sees = q.1;
@@ -149,66 +154,75 @@ module _ {S N : Type 0} (lawful : Lawful S N) (opens : S → List ℕ → Type 0
       )
 
   pub looks : (slots id c : ℕ) (me : Mine S N) (y : S) → me.0.setting ≡ Some y → c < length me.0.base → me.0.seat.place ≡ at_reading
-      → Allows (Ruled lawful opens setting base) slots id me (lock_at c) (λ n. n) (looked lawful opens (step slots (lock_at c) 0 0 none) me)
-  looks slots id c me y set l p s r _ at _ =
+      → Allows (Ruled terms setting base room) slots id me (lock_at c) (λ n. n) (looked terms (step slots (lock_at c) 0 0 none) me)
+  looks slots id c me y set l p =
+      lifted terms setting base room slots id (lock_at c) me (λ n. n)
+      (looked terms (step slots (lock_at c) 0 0 none) me) λ ranges ws vs r at.
       let v : View S N = me.0 in
       let t : Seat = v.seat in
       let w : World = r.world in
-      let n : ℕ = slice_index s.words (lock_at c) in
-      let x : (x : CellWords) × (slice_get w.cells c ≡ Some x) = cell_in s.words s.views r id v at y set c l in
-      let is : n ≡ (x.0).lock = lock_word s.words w r.words_are c x.0 x.1 in
-      let e : slice_get w.seats id ≡ Some t = seat_at lawful opens setting base s.words s.views r id v at in
+      let n : ℕ = slice_index ws (lock_at c) in
+      let x : (x : CellWords) × (slice_get w.cells c ≡ Some x) = cell_in ranges ws vs r id v at y set c l in
+      let is : n ≡ (x.0).lock = lock_word ws w r.words_are c x.0 x.1 in
+      let e : slice_get w.seats id ≡ Some t = seat_at terms setting base room ranges ws vs r id v at in
       let lead : Leads base w id (Look c) (look w id t c x.0) = look_leads base w id t c x.0 r.invariant e p x.1 in
       let keep : Keeps base w (with_seat w id (after_look t c n)) =
       subst (λ (k : ℕ). Keeps base w (with_seat w id (after_look t c k))) (sym is) lead.keeps in
-      let h : Seen N = record { history = w.history; notes = r.notes } in
+      let h : Seen N = record { history = w.history; notes = r.notes; ranges = ranges } in
       let u : View S N = record v { seen = h; seat = after_look t c n; looked = Some (c, n) } in
-      let f : Suits lawful setting base h r.owner v = r.suits id v at in
+      let f : Suits terms setting base room h r.owner v = r.suits id v at in
       let rv : t.rv ≤ length w.history = ((r.invariant).consistent.seats id t e).rv in
-      let q : Rule lawful opens setting base (slice_set s.words (lock_at c) n) (slice_set s.views id u) × Sees lawful opens v u =
-      quiet s.words s.views r id v at (lock_at c) (after_look t c n) v.runs (Some (c, n)) v.told keep f.told
+      let q : Rule terms setting base room ranges (slice_set ws (lock_at c) n) (slice_set vs id u) × Sees terms v u =
+      quiet ranges ws vs r id v at (lock_at c) (after_look t c n) v.runs (Some (c, n)) v.told keep f.told
       (λ k a. absurd (no_number t.place at_reading k p refl a))
       (λ k a. absurd (if_known (λ (z : Seat). number_at z.place ≡ Some k → ⊥) (passes n t.rv) (placed t (at_looked c n)) (conflict t at_idle)
       (λ _ b. no_number (at_looked c n) (at_looked c n) k refl refl b) (λ _ b. no_number at_idle at_idle k refl refl b) a))
       (if_known (λ (z : Seat). LookIsFresh w.history z) (passes n t.rv) (placed t (at_looked c n)) (conflict t at_idle)
       (λ b. looked_fresh w.history t c n (pass_fresh base w c n t.rv x.0 r.invariant x.1 is rv b))
       (λ _ d word value a. absurd (not_looking at_idle refl d word value a))) u refl in (
+        lock_within ws w r.words_are c x.0 x.1,
         u,
-        keeps,
-        tt,
+        (refl, refl, refl),
         q.0,
-        subst (λ (k : ℕ). Looks lawful opens k me n (u, me.1)) (sym (lock_back c))
-            (record { sees = q.1; written = half_written s.words s.views r c n x.0 x.1 is; is = refl }),
+        subst (λ (k : ℕ). Looks terms k me n (u, me.1)) (sym (lock_back c))
+            (record { sees = q.1; written = half_written ranges ws vs r c n x.0 x.1 is; is = refl }),
       )
 
   pub loads : (slots id c word : ℕ) (me : Mine S N) (y : S) → me.0.setting ≡ Some y → c < length me.0.base → me.0.seat.place ≡ at_looked c word
-      → Allows (Ruled lawful opens setting base) slots id me (value_at c) (λ n. n) (loaded lawful opens (step slots (value_at c) 0 0 none) me)
-  loads slots id c word me y set l p s r _ at _ =
+      → Allows (Ruled terms setting base room) slots id me (value_at c) (λ n. n) (loaded terms (step slots (value_at c) 0 0 none) me)
+  loads slots id c word me y set l p =
+      lifted terms setting base room slots id (value_at c) me (λ n. n)
+      (loaded terms (step slots (value_at c) 0 0 none) me) λ ranges ws vs r at.
       let v : View S N = me.0 in
       let t : Seat = v.seat in
       let w : World = r.world in
-      let n : ℕ = slice_index s.words (value_at c) in
-      let x : (x : CellWords) × (slice_get w.cells c ≡ Some x) = cell_in s.words s.views r id v at y set c l in
-      let is : n ≡ (x.0).value = value_word s.words w r.words_are c x.0 x.1 in
-      let e : slice_get w.seats id ≡ Some t = seat_at lawful opens setting base s.words s.views r id v at in
+      let n : ℕ = slice_index ws (value_at c) in
+      let x : (x : CellWords) × (slice_get w.cells c ≡ Some x) = cell_in ranges ws vs r id v at y set c l in
+      let is : n ≡ (x.0).value = value_word ws w r.words_are c x.0 x.1 in
+      let e : slice_get w.seats id ≡ Some t = seat_at terms setting base room ranges ws vs r id v at in
       let lead : Leads base w id (Load c) (load w id t c word x.0) = load_leads base w id t c word x.0 r.invariant e p x.1 in
       let z : Seat = placed t (at_loaded c word n) in
       let keep : Keeps base w (with_seat w id z) =
       subst (λ (k : ℕ). Keeps base w (with_seat w id (placed t (at_loaded c word k)))) (sym is) lead.keeps in
-      let h : Seen N = record { history = w.history; notes = r.notes } in
+      let h : Seen N = record { history = w.history; notes = r.notes; ranges = ranges } in
       let u : View S N = record v { seen = h; seat = z } in
-      let f : Suits lawful setting base h r.owner v = r.suits id v at in
-      let q : Rule lawful opens setting base (slice_set s.words (value_at c) n) (slice_set s.views id u) × Sees lawful opens v u =
-      quiet s.words s.views r id v at (value_at c) z v.runs v.looked v.told keep f.told
+      let f : Suits terms setting base room h r.owner v = r.suits id v at in
+      let q : Rule terms setting base room ranges (slice_set ws (value_at c) n) (slice_set vs id u) × Sees terms v u =
+      quiet ranges ws vs r id v at (value_at c) z v.runs v.looked v.told keep f.told
       (λ k a. absurd (no_number t.place (at_looked c word) k p refl a))
       (λ k a. absurd (no_number (at_loaded c word n) (at_loaded c word n) k refl refl a))
       (loaded_fresh w.history t c word n (f.look c word 0 (inl p))) u refl in (
+        value_within ws w r.words_are c x.0 x.1,
         u,
-        keeps,
-        tt,
+        (refl, refl, refl),
         q.0,
         record {
           sees = q.1;
+          named = λ z d other known a ranged.
+              let b : (c ≡ d) × (word ≡ other) = looked_same c word d other (sym p ∙ a) in
+              let e2 : z ≡ setting = (f.own.setting_is z known).0 in
+              let at_setting : terms.ranged setting c = subst (λ (k : S × ℕ). terms.ranged k.0 k.1) (λ j. (e2 j, sym b.0 j)) ranged in
+              subst (λ (k : ℕ). Names ranges k) (sym is) (r.named c x.0 x.1 at_setting);
           is = λ d other a.
               let b : (c ≡ d) × (word ≡ other) = looked_same c word d other (sym p ∙ a) in
               ap (λ (k : ℕ × ℕ). let m : View S N = record v { seen = h; seat = placed t (at_loaded k.0 k.1 n) } in m) (λ j. (b.0 j, b.1 j));
@@ -217,33 +231,35 @@ module _ {S N : Type 0} (lawful : Lawful S N) (opens : S → List ℕ → Type 0
 
   pub relooks : (slots id c word value : ℕ) (me : Mine S N) (y : S) → me.0.setting ≡ Some y → c < length me.0.base
       → me.0.seat.place ≡ at_loaded c word value
-      → Allows (Ruled lawful opens setting base) slots id me (lock_at c) (λ n. n) (relooked lawful opens (step slots (lock_at c) 0 0 none) me)
-  relooks slots id c word value me y set l p s r _ at _ =
+      → Allows (Ruled terms setting base room) slots id me (lock_at c) (λ n. n) (relooked terms (step slots (lock_at c) 0 0 none) me)
+  relooks slots id c word value me y set l p =
+      lifted terms setting base room slots id (lock_at c) me (λ n. n)
+      (relooked terms (step slots (lock_at c) 0 0 none) me) λ ranges ws vs r at.
       let v : View S N = me.0 in
       let t : Seat = v.seat in
       let w : World = r.world in
-      let n : ℕ = slice_index s.words (lock_at c) in
-      let x : (x : CellWords) × (slice_get w.cells c ≡ Some x) = cell_in s.words s.views r id v at y set c l in
-      let is : n ≡ (x.0).lock = lock_word s.words w r.words_are c x.0 x.1 in
-      let e : slice_get w.seats id ≡ Some t = seat_at lawful opens setting base s.words s.views r id v at in
+      let n : ℕ = slice_index ws (lock_at c) in
+      let x : (x : CellWords) × (slice_get w.cells c ≡ Some x) = cell_in ranges ws vs r id v at y set c l in
+      let is : n ≡ (x.0).lock = lock_word ws w r.words_are c x.0 x.1 in
+      let e : slice_get w.seats id ≡ Some t = seat_at terms setting base room ranges ws vs r id v at in
       let lead : Leads base w id (Relook c) (relook w id t c word value x.0) = relook_leads base w id t c word value x.0 r.invariant e p x.1 in
       let z : Seat = after_relook t c word value n in
       let keep : Keeps base w (with_seat w id z) =
       subst (λ (k : ℕ). Keeps base w (with_seat w id (after_relook t c word value k))) (sym is) lead.keeps in
-      let h : Seen N = record { history = w.history; notes = r.notes } in
+      let h : Seen N = record { history = w.history; notes = r.notes; ranges = ranges } in
       let u : View S N = record v { seen = h; seat = z; looked = Some (c, n) } in
-      let f : Suits lawful setting base h r.owner v = r.suits id v at in
+      let f : Suits terms setting base room h r.owner v = r.suits id v at in
       let rv : t.rv ≤ length w.history = ((r.invariant).consistent.seats id t e).rv in
       let reads : Seat = record t { place = at_reading; reads = record { cell = c; word = word; value = value } ∷ t.reads } in
-      let q : Rule lawful opens setting base (slice_set s.words (lock_at c) n) (slice_set s.views id u) × Sees lawful opens v u =
-      quiet s.words s.views r id v at (lock_at c) z v.runs (Some (c, n)) v.told keep f.told
+      let q : Rule terms setting base room ranges (slice_set ws (lock_at c) n) (slice_set vs id u) × Sees terms v u =
+      quiet ranges ws vs r id v at (lock_at c) z v.runs (Some (c, n)) v.told keep f.told
       (λ k a. absurd (no_number t.place (at_loaded c word value) k p refl a))
       (λ k a. absurd (if_known (λ (z : Seat). number_at z.place ≡ Some k → ⊥) (n == word) reads (conflict t at_idle)
       (λ _ b. no_number at_reading at_reading k refl refl b) (λ _ b. no_number at_idle at_idle k refl refl b) a))
       (if_known (λ (z : Seat). LookIsFresh w.history z) (n == word) reads (conflict t at_idle)
       (λ _ d o a b. absurd (not_looking at_reading refl d o a b)) (λ _ d o a b. absurd (not_looking at_idle refl d o a b))) u refl in
       let same : (d other found : ℕ) → t.place ≡ at_loaded d other found → at_loaded c word value ≡ at_loaded d other found = λ d other found a. sym p ∙ a in
-      let half : WasWritten w.history c (n / 2) = half_written s.words s.views r c n x.0 x.1 is in
+      let half : WasWritten w.history c (n / 2) = half_written ranges ws vs r c n x.0 x.1 is in
       let fresh : IsFresh w.history t.rv c word = f.look c word value (inr p) in
       let miss : n ≢ word → n % 2 ≡ 0 → t.rv < n / 2 = λ other even.
       let b : (n / 2 ≡ version w.history c) × ((i u : ℕ) → deed w.history c i ≡ Will u → ⊥) = free_word base w c n x.0 r.invariant x.1 is even in
@@ -253,9 +269,9 @@ module _ {S N : Type 0} (lawful : Lawful S N) (opens : S → List ℕ → Type 0
       version_settled (deed w.history c) (length w.history) t.rv low rv in
       let a : word ≡ 2 * version_after (deed w.history c) t.rv = fresh.0 in
       absurd (other (omega (arith, even, k, a, b.0)))) in (
+        lock_within ws w r.words_are c x.0 x.1,
         u,
-        keeps,
-        tt,
+        (refl, refl, refl),
         q.0,
         record {
           sees = q.1;

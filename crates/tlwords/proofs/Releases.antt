@@ -6,7 +6,7 @@ use Rattle.tlcore.specs.Seats.{Seat, find_held, is_nil, without}
 use Rattle.tlcore.proofs.Lists.{known}
 use Rattle.tlcore.proofs.Words.{SeatHeld, at_idle, at_failing, at_voiding, at_storing}
 use Rattle.tlwords.specs.declared.log.Slot.{Slot}
-use Rattle.tlwords.specs.Seen.{Lawful}
+use Rattle.tlwords.specs.Terms.{Terms}
 use Rattle.tlwords.specs.Views.{View}
 use Rattle.tlwords.specs.Plays.{Mine, Releases, GivesBack, after_release}
 use Rattle.tlwords.specs.Runs.{word_seen, value_kept}
@@ -22,8 +22,8 @@ nil_not c (x ∷ ks) k e = refl
 idle_not_voiding : (i : ℕ) → at_idle ≡ at_voiding i → ⊥
 idle_not_voiding i e = cc
 
-module _ {S N : Type 0} (lawful : Lawful S N) (opens : S → List ℕ → Type 0) (slots : List Slot) (high : ℕ) (new : Option ℕ) (low : ℕ) (m r : Mine S N)
-    (g : Releasing lawful opens slots high new low m r) where
+module _ {S N : Type 0} (terms : Terms S N) (slots : List Slot) (high : ℕ) (new : Option ℕ) (low : ℕ) (m r : Mine S N)
+    (g : Releasing terms slots high new low m r) where
   abbrev still : List SeatHeld
   still = held_in slots g.done low high
 
@@ -33,14 +33,14 @@ module _ {S N : Type 0} (lawful : Lawful S N) (opens : S → List ℕ → Type 0
 
     still_at : r.0.seat.place ≡ g.place
     still_at =
-        ap (λ (t : Seat). t.place) (goes_seat lawful opens m r (holding m.0.seat g.place at_idle still) g.goes)
+        ap (λ (t : Seat). t.place) (goes_seat terms m r (holding m.0.seat g.place at_idle still) g.goes)
         ∙ ap (λ (b : Bool). if b then at_idle else g.place) some_held
 
     pub release_held : (w n : ℕ) → word_seen slots c ≡ Some w → n ≡ unwrap_or new w
         → (k : SeatHeld) × (find_held c r.0.seat.held ≡ Some k) × GivesBack r.0.seat k n
     release_held w n f is = (
       held_cell slots g.done c v,
-      ap (λ (t : Seat). find_held c t.held) (goes_seat lawful opens m r (holding m.0.seat g.place at_idle still) g.goes) ∙ held_find slots g.done low high c v l b e,
+      ap (λ (t : Seat). find_held c t.held) (goes_seat terms m r (holding m.0.seat g.place at_idle still) g.goes) ∙ held_find slots g.done low high c v l b e,
       go g.gives,
     )
       where
@@ -51,14 +51,14 @@ module _ {S N : Type 0} (lawful : Lawful S N) (opens : S → List ℕ → Type 0
             inr (⊎_elim (λ (q : g.place ≡ at_failing). inl (still_at ∙ q, back)) (λ (q : (i : ℕ) × (g.place ≡ at_voiding i)). inr (q.0, still_at ∙ q.1, back)) p.1)
         go (inr p) = inl (p.1.0, still_at ∙ p.1.1, lt_yes c g.done (let a : g.done ≡ high = p.0 in omega (arith, a, b)), is ∙ ap (λ (o : Option ℕ). unwrap_or o w) p.1.2)
 
-    pub release_goes : (s : Mine S N) → NoneKept slots low c → Releases lawful opens c r s → Releasing lawful opens slots high new (c + 1) m s
+    pub release_goes : (s : Mine S N) → NoneKept slots low c → Releases terms c r s → Releasing terms slots high new (c + 1) m s
     release_goes s unkept t =
         record {
           place = g.place;
           done = g.done;
           gives = g.gives;
           start = g.start;
-          goes = goes_by lawful opens (λ (t : Seat). after_release t c) r.0.looked m r s (holding m.0.seat g.place at_idle still)
+          goes = goes_by terms (λ (t : Seat). after_release t c) r.0.looked m r s (holding m.0.seat g.place at_idle still)
               (holding m.0.seat g.place at_idle (held_in slots g.done (c + 1) high)) g.goes t.sees t.is
               (λ j. let z : Seat = record m.0.seat { place = (if is_nil (left j) then at_idle else (if some_held j then at_idle else g.place)); held = left j } in z);
           looked = ap (λ (v : View S N). v.looked) t.is ∙ g.looked;
@@ -68,10 +68,10 @@ module _ {S N : Type 0} (lawful : Lawful S N) (opens : S → List ℕ → Type 0
         left : without c still ≡ held_in slots g.done (c + 1) high
         left = held_without slots g.done low high c l unkept ∙ ap (λ (x : ℕ). held_in slots g.done x high) (let a : suc c ≡ c + 1 = omega arith in a)
 
-  pub release_end : NoneKept slots low high → ReleasesAll lawful opens m r
+  pub release_end : NoneKept slots low high → ReleasesAll terms m r
   release_end unkept =
       record {
-        goes = subst (λ (ks : List SeatHeld). Goes lawful opens m (holding m.0.seat g.place at_idle ks) r) nothing g.goes;
+        goes = subst (λ (ks : List SeatHeld). Goes terms m (holding m.0.seat g.place at_idle ks) r) nothing g.goes;
         looked = g.looked;
         void = λ i e. was i e (known (is_nil (held_in slots g.done 0 high)));
       }
@@ -85,7 +85,7 @@ module _ {S N : Type 0} (lawful : Lawful S N) (opens : S → List ℕ → Type 0
       full : is_nil (held_in slots g.done 0 high) ≡ false → r.0.seat ≡ m.0.seat → ⊥
       full p q =
           let a : held_in slots g.done 0 high ≡ [] = sym (ap (λ (t : Seat). t.held) g.start) ∙ (sym (ap (λ (t : Seat). t.held) q)
-          ∙ (ap (λ (t : Seat). t.held) (goes_seat lawful opens m r (holding m.0.seat g.place at_idle still) g.goes) ∙ nothing)) in
+          ∙ (ap (λ (t : Seat). t.held) (goes_seat terms m r (holding m.0.seat g.place at_idle still) g.goes) ∙ nothing)) in
           let b : true ≡ false = sym (ap is_nil a) ∙ p in cc
 
       was : (i : ℕ) → m.0.seat.place ≡ at_voiding i → (is_nil (held_in slots g.done 0 high) ≡ true) ⊎ (is_nil (held_in slots g.done 0 high) ≡ false) → IsVoid r.0.seen i

@@ -6,11 +6,13 @@ use Rattle.std.proofs.lemmas.Bool.Decides.{nat_tests}
 use Rattle.tlcore.specs.Seats.{Seat, passes, is_nil}
 use Rattle.tlcore.specs.Machine.{placed, conflict}
 use Rattle.tlcore.proofs.Words.{at_idle, at_reading, at_looked, at_loaded, SeatPlace, is_reading, is_resting, reading_at}
-use Rattle.tlwords.specs.Seen.{Lawful, SeenGrows, Has}
+use Rattle.tlwords.specs.Terms.{Terms}
+use Rattle.tlwords.specs.Ranges.{Has}
+use Rattle.tlwords.specs.Seen.{SeenGrows}
 use Rattle.tlwords.specs.Views.{View, untold}
 use Rattle.tlwords.specs.Plays.{Mine, Sees, Sampled, Refreshes, began, told_by, witness, Looks, Loads, Relooks, after_relook}
 use Rattle.tlwords.specs.Runs.{HasCause, ReadsCell, Stops, Learns, IsPassOf, IsRunOf}
-use Rattle.tlwords.proofs.Seens.{seen_trans}
+use Rattle.tlwords.proofs.Seens.{seen_trans, names_grow}
 
 pub if_true : {A : Type 0} (b : Bool) (x y : A) → b ≡ true → (if b then x else y) ≡ x
 if_true b x y e = ap (λ (b : Bool). if b then x else y) e
@@ -35,15 +37,15 @@ pub passes_false : (word rv : ℕ) → HasCause rv word → passes word rv ≡ f
 passes_false word rv (inl e) = ap (λ (b : Bool). b && nat_le (word / 2) rv) (ne_eqb (word % 2) 0 (λ a. omega (arith, a, e)))
 passes_false word rv (inr l) = second_false (word % 2 == 0) (nat_le (word / 2) rv) (le_false (word / 2) rv l)
 
-module _ {S N : Type 0} (lawful : Lawful S N) (opens : S → List ℕ → Type 0) where
-  pub sees_trans : (u v w : View S N) → SeenGrows v.told.seen v.told.seen → v.told.seen ≡ u.told.seen → Sees lawful opens u v → Sees lawful opens v w
-      → Sees lawful opens u w
+module _ {S N : Type 0} (terms : Terms S N) where
+  pub sees_trans : (u v w : View S N) → SeenGrows v.told.seen v.told.seen → v.told.seen ≡ u.told.seen → Sees terms u v → Sees terms v w
+      → Sees terms u w
   sees_trans u v w _ same p q =
       record { own = seen_trans u.seen v.seen w.seen p.own q.own; told = seen_trans u.told.seen v.seen w.seen p.told q.own; sound = q.sound }
 
-  module _ (c : ℕ) (m0 m1 : Mine S N) (a : ℕ) (p : Looks lawful opens c m0 a m1) where
+  module _ (c : ℕ) (m0 m1 : Mine S N) (a : ℕ) (p : Looks terms c m0 a m1) where
     -- the first look doesn't pass
-    pub look_stops : HasCause m0.0.seat.rv a → Stops lawful opens c a m0 m1
+    pub look_stops : HasCause m0.0.seat.rv a → Stops terms c a m0 m1
     look_stops cause =
         record {
           sees = p.sees;
@@ -62,7 +64,7 @@ module _ {S N : Type 0} (lawful : Lawful S N) (opens : S → List ℕ → Type 0
       pub looked_place : m1.0.seat.place ≡ at_looked c a
       looked_place = ap (λ (v : View S N). v.seat.place) looked_is
 
-      module _ (m2 : Mine S N) (b : ℕ) (q : Loads lawful opens m1 b m2) where
+      module _ (m2 : Mine S N) (b : ℕ) (q : Loads terms m1 b m2) where
         loaded_is : m2.0 ≡ record m0.0 { seen = m2.0.seen; seat = placed m0.0.seat (at_loaded c a b); looked = Some (c, a) }
         loaded_is =
             q.is c a looked_place
@@ -71,13 +73,13 @@ module _ {S N : Type 0} (lawful : Lawful S N) (opens : S → List ℕ → Type 0
         pub loaded_place : m2.0.seat.place ≡ at_loaded c a b
         loaded_place = ap (λ (v : View S N). v.seat.place) loaded_is
 
-        module _ (m3 : Mine S N) (d : ℕ) (r : Relooks lawful opens m2 d m3) where
+        module _ (m3 : Mine S N) (d : ℕ) (r : Relooks terms m2 d m3) where
           relooked_is : m3.0 ≡ record m0.0 { seen = m3.0.seen; seat = after_relook (placed m0.0.seat (at_loaded c a b)) c a b d; looked = Some (c, d) }
           relooked_is =
               r.is c a b loaded_place
               ∙ ap (λ (v : View S N). let u : View S N = record v { seen = m3.0.seen; seat = after_relook v.seat c a b d; looked = Some (c, d) } in u) loaded_is
 
-          sees_all : Sees lawful opens m0.0 m3.0
+          sees_all : Sees terms m0.0 m3.0
           sees_all =
               record {
                 own = seen_trans m0.0.seen m1.0.seen m3.0.seen p.sees.own (seen_trans m1.0.seen m2.0.seen m3.0.seen q.sees.own r.sees.own);
@@ -85,16 +87,18 @@ module _ {S N : Type 0} (lawful : Lawful S N) (opens : S → List ℕ → Type 0
                 sound = r.sees.sound;
               }
 
-          pub read_is : d ≡ a → ReadsCell lawful opens c a b m0 m3
+          pub read_is : d ≡ a → ReadsCell terms c a b m0 m3
           read_is e =
               record {
                 sees = sees_all;
                 free = even;
+                named = λ x set ranged. names_grow m2.0.seen.ranges m3.0.seen.ranges b r.sees.own.2
+                    (q.named x c a (ap (λ (v : View S N). v.setting) looked_is ∙ set) looked_place ranged);
                 is = relooked_is ∙ ap (λ (z : Seat × ℕ). let v : View S N = record m0.0 { seen = m3.0.seen; seat = z.0; looked = Some (c, z.1) } in v)
                     (λ j. (if_true (d == a) (record m0.0.seat { place = at_reading; reads = record { cell = c; word = a; value = b } ∷ m0.0.seat.reads }) (conflict m0.0.seat at_idle) (eq-eqb d a e) j, e j));
               }
 
-          pub read_stops : d ≢ a → Stops lawful opens c d m0 m3
+          pub read_stops : d ≢ a → Stops terms c d m0 m3
           read_stops ne =
               record {
                 sees = sees_all;
@@ -108,8 +112,8 @@ module _ {S N : Type 0} (lawful : Lawful S N) (opens : S → List ℕ → Type 0
 
 -- ---- a run begins
 
-module _ {S N : Type 0} (lawful : Lawful S N) (opens : S → List ℕ → Type 0) where
-  pub begun_fits : (m : Mine S N) (n : ℕ) (r : Mine S N) (count : ℕ) → Sampled lawful opens m n r → IsPassOf m count → IsRunOf r count n false
+module _ {S N : Type 0} (terms : Terms S N) where
+  pub begun_fits : (m : Mine S N) (n : ℕ) (r : Mine S N) (count : ℕ) → Sampled terms m n r → IsPassOf m count → IsRunOf r count n false
   begun_fits m n r count t f = (
     ap (λ (v : View S N). is_some v.setting) t.is ∙ f.0,
     ap (λ (v : View S N). is_reading v.seat.place) t.is,
@@ -120,7 +124,7 @@ module _ {S N : Type 0} (lawful : Lawful S N) (opens : S → List ℕ → Type 0
     ap (λ (v : View S N). is_nil v.seat.held) t.is,
   )
 
-  pub begun_at : (m : Mine S N) (n : ℕ) (r : Mine S N) → Sampled lawful opens m n r → length m.0.seen.history ≤ n
+  pub begun_at : (m : Mine S N) (n : ℕ) (r : Mine S N) → Sampled terms m n r → length m.0.seen.history ≤ n
   begun_at m n r t =
       let a : length m.0.seen.history ≤ length r.0.seen.history = t.sees.own.0.0 in
       let b : length r.0.seen.history ≡ n = t.clock in
@@ -132,7 +136,7 @@ module _ {S N : Type 0} (lawful : Lawful S N) (opens : S → List ℕ → Type 0
   reading_fits true = refl
   reading_fits false = refl
 
-  pub read_fits : (c word value : ℕ) (m r : Mine S N) (count place : ℕ) (o : Bool) → ReadsCell lawful opens c word value m r → IsRunOf m count place o
+  pub read_fits : (c word value : ℕ) (m r : Mine S N) (count place : ℕ) (o : Bool) → ReadsCell terms c word value m r → IsRunOf m count place o
       → IsRunOf r count place o
   read_fits c word value m r count place o t f = (
     ap (λ (v : View S N). is_some v.setting) t.is ∙ f.0,
@@ -144,7 +148,7 @@ module _ {S N : Type 0} (lawful : Lawful S N) (opens : S → List ℕ → Type 0
     ap (λ (v : View S N). is_nil v.seat.held) t.is ∙ f.6,
   )
 
-  pub stop_fits : (c word : ℕ) (m r : Mine S N) (count place : ℕ) (o : Bool) → Stops lawful opens c word m r → IsRunOf m count place o
+  pub stop_fits : (c word : ℕ) (m r : Mine S N) (count place : ℕ) (o : Bool) → Stops terms c word m r → IsRunOf m count place o
       → IsRunOf r count place true
   stop_fits c word m r count place o t f = (
     ap (λ (v : View S N). is_some v.setting) t.is ∙ f.0,
@@ -168,7 +172,7 @@ module _ {S N : Type 0} (lawful : Lawful S N) (opens : S → List ℕ → Type 0
   -- ---- passes learn of each other
 
   pub learned : (m0 : Mine S N) (u0 : Mine S N) (m1 m2 u1 u2 : Mine S N) (n : ℕ) → m1 ≡ (told_by m0.0 (witness u0.0), m0.1) → u1 ≡ u0
-      → Sampled lawful opens m1 n m2 → Refreshes lawful opens u1 u2 → Learns lawful opens m0.0 u0.0 m2.0 u2.0
+      → Sampled terms m1 n m2 → Refreshes terms u1 u2 → Learns terms m0.0 u0.0 m2.0 u2.0
   learned m0 u0 m1 m2 u1 u2 n a b p q =
       let e : m1.0 ≡ told_by m0.0 (witness u0.0) = ap (λ (m : Mine S N). m.0) a in
       let f : u1.0 ≡ u0.0 = ap (λ (m : Mine S N). m.0) b in
@@ -185,7 +189,7 @@ module _ {S N : Type 0} (lawful : Lawful S N) (opens : S → List ℕ → Type 0
         other_is = q.is ∙ ap (λ (v : View S N). let u : View S N = record v { seen = u2.0.seen } in u) f;
       }
 
-  pub learned_fits : (m0 m1 m2 : Mine S N) (u : View S N) (n count : ℕ) → m1 ≡ (told_by m0.0 u, m0.1) → Sampled lawful opens m1 n m2 → IsPassOf m0 count
+  pub learned_fits : (m0 m1 m2 : Mine S N) (u : View S N) (n count : ℕ) → m1 ≡ (told_by m0.0 u, m0.1) → Sampled terms m1 n m2 → IsPassOf m0 count
       → IsPassOf m2 count
   learned_fits m0 m1 m2 u n count a p f =
       let e : m1.0 ≡ told_by m0.0 u = ap (λ (m : Mine S N). m.0) a in (

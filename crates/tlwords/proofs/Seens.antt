@@ -1,12 +1,14 @@
 -- Histories that were seen, as they grow.
 use Rattle.std.proofs.Common.{◌≡◌, ◌≢◌, ℕ, zero, suc, ◌*◌, ◌<◌, ◌≤◌, ◌⊎◌, inl, inr, Some, List, [], ◌∷◌, ◌++◌, length, slice_get, sym, refl, ap, ◌∙◌, subst, arith}
-use Rattle.tlcore.specs.History.{Entry, Deed, Nothing, Will, Did, EntryGrows, Grows, One, version_over, version_after, deed}
+use Rattle.tlcore.specs.History.{Entry, Deed, Nothing, Will, Did, EntryGrows, Grows, version_over, version_after, deed}
 use Rattle.tlcore.specs.Seats.{Seat}
 use Rattle.tlcore.proofs.Deeds.{did, version-same}
 use Rattle.tlcore.proofs.Growth.{deed-kept, get_exists, Grows-refl, Grows-trans, One-kept}
 use Rattle.tlcore.proofs.Lists.{get_within}
 use Rattle.tlcore.proofs.Words.{landed_not_open}
-use Rattle.tlwords.specs.Seen.{Lawful, Pairs, Work, Call, Committed, Answered, Seen, IsSettled, SeenGrows, IsDone, CallAgrees, Agree}
+use Rattle.tlwords.specs.Ranges.{Range, Within, Names}
+use Rattle.tlwords.specs.Terms.{Pairs, Terms, Permits}
+use Rattle.tlwords.specs.Seen.{Work, Call, Committed, Answered, Seen, IsSettled, SeenGrows, IsDone, CallAgrees, Agree}
 use Rattle.tlwords.specs.Rule.{IsFresh, LookIsFresh, EntriesAre}
 
 pub settled_grows : (g h : List Entry) (i : ℕ) → Grows g h → IsSettled g i → IsSettled h i
@@ -46,12 +48,34 @@ fresh_grows g h rv c word r l f = (
 pub look_grows : (g h : List Entry) (t : Seat) → Grows g h → t.rv ≤ length g → LookIsFresh g t → LookIsFresh h t
 look_grows g h t r l f c word value p = fresh_grows g h t.rv c word r l (f c word value p)
 
+-- ---- the ranges
+
+pub within_refl : (rs : List Range) → Within rs rs
+within_refl rs r h = h
+
+pub within_trans : (ps qs rs : List Range) → Within ps qs → Within qs rs → Within ps rs
+within_trans ps qs rs a b r h = b r (a r h)
+
+pub names_grow : (rs qs : List Range) (word : ℕ) → Within rs qs → Names rs word → Names qs word
+names_grow rs qs word l (inl e) = inl e
+names_grow rs qs word l (inr (r, h, e)) = inr (r, l r h, e)
+
+-- what some ranges permit, more of them permit too
+pub permits_grow : {S N : Type 0} {a b : Pairs} {n : N} (terms : Terms S N) (setting : S) (rs qs : List Range) → Within rs qs
+    → Permits terms setting rs a b n → Permits terms setting qs a b n
+permits_grow terms setting rs qs l p = record {
+  some = p.some;
+  among = λ r h. l r (p.among r h);
+  lawful = p.lawful;
+  named = λ c v h g. names_grow rs qs v l (p.named c v h g);
+}
+
 module _ {N : Type 0} where
   pub seen_refl : (g : Seen N) → SeenGrows g g
-  seen_refl g = (Grows-refl g.history, λ i n e. e)
+  seen_refl g = (Grows-refl g.history, λ i n e. e, λ r e. e)
 
   pub seen_trans : (f g h : Seen N) → SeenGrows f g → SeenGrows g h → SeenGrows f h
-  seen_trans f g h p q = (Grows-trans f.history g.history h.history p.0 q.0, λ i n e. q.1 i n (p.1 i n e))
+  seen_trans f g h p q = (Grows-trans f.history g.history h.history p.0 q.0, λ i n e. q.1 i n (p.1 i n e), λ r e. q.2 r (p.2 r e))
 
   pub done_grows : (g h : Seen N) (i : ℕ) (w : Work N) → SeenGrows g h → IsDone g i w → IsDone h i w
   done_grows g h i w r d =
@@ -65,33 +89,36 @@ module _ {N : Type 0} where
         note = r.1 i w.note d.note;
       }
 
-  module _ {S : Type 0} (lawful : Lawful S N) (setting : S) (base : List ℕ) where
-    pub agree_grows : (g h : Seen N) (cs : List (Call N)) → SeenGrows g h → Agree lawful setting base g cs → Agree lawful setting base h cs
+  module _ {S : Type 0} (terms : Terms S N) (setting : S) (base : List ℕ) where
+    pub agree_grows : (g h : Seen N) (cs : List (Call N)) → SeenGrows g h → Agree terms setting base g cs → Agree terms setting base h cs
     agree_grows g h [] r a = tt
     agree_grows g h (Committed n w ∷ cs) r a =
         let c : (i : ℕ) × (n ≡ suc i) × IsDone g i w = a.0 in
         ((c.0, c.1, done_grows g h c.0 w r c.2), agree_grows g h cs r a.1)
     agree_grows g h (Answered p w ∷ cs) r a =
-        let c : (p ≤ length g.history) × (w.writes ≡ []) × lawful setting [] w.reads [] w.note × One base g.history p w.reads = a.0 in
+        let c : CallAgrees terms setting base g (Answered p w) = a.0 in
         let l : length g.history ≤ length h.history = r.0.0 in
         let m : p ≤ length g.history = c.0 in
-        ((omega (arith, l, m), c.1, c.2, One-kept base g.history h.history p w.reads r.0 m c.3), agree_grows g h cs r a.1)
+        let p2 : Permits terms setting h.ranges w.reads [] w.note = permits_grow terms setting g.ranges h.ranges r.2 c.2 in
+        ((omega (arith, l, m), c.1, p2, One-kept base g.history h.history p w.reads r.0 m c.3), agree_grows g h cs r a.1)
 
-    pub agree_snoc : (g : Seen N) (cs : List (Call N)) (c : Call N) → Agree lawful setting base g cs → CallAgrees lawful setting base g c
-        → Agree lawful setting base g (cs ++ c ∷ [])
+    pub agree_snoc : (g : Seen N) (cs : List (Call N)) (c : Call N) → Agree terms setting base g cs → CallAgrees terms setting base g c
+        → Agree terms setting base g (cs ++ c ∷ [])
     agree_snoc g [] c a b = (b, tt)
     agree_snoc g (d ∷ cs) c a b = (a.0, agree_snoc g cs c a.1 b)
 
   -- entries keep their reads, writes and notes
-  pub entries_grow : {S : Type 0} (lawful : Lawful S N) (setting : S) (g h : List Entry) (ns : List N) → Grows g h → length h ≡ length g
-      → EntriesAre lawful setting (record { history = g; notes = ns }) → EntriesAre lawful setting (record { history = h; notes = ns })
-  entries_grow lawful setting g h ns r l a i e n f k =
+  pub entries_grow : {S : Type 0} (terms : Terms S N) (setting : S) (g h : List Entry) (ns : List N) (rs : List Range) → Grows g h
+      → length h ≡ length g → EntriesAre terms setting (record { history = g; notes = ns; ranges = rs })
+      → EntriesAre terms setting (record { history = h; notes = ns; ranges = rs })
+  entries_grow terms setting g h ns rs r l a i e n f k =
       let m : i < length h = get_within h i e f in
       let b : (x : Entry) × (slice_get g i ≡ Some x) = get_exists g i (omega (arith, m, l)) in
       let c : (x : Entry) × (slice_get h i ≡ Some x) × EntryGrows b.0 x = r.1 i b.0 b.1 in
       let p : Some c.0 ≡ Some e = sym c.1 ∙ f in
       let q : c.0 ≡ e = cc in
-      let was : lawful setting [] (b.0).reads (b.0).writes n × ((b.0).writes ≢ []) = a i b.0 n b.1 k in
-      let rs : e.reads ≡ (b.0).reads = ap (λ (x : Entry). x.reads) (sym q) ∙ c.2.0 in
-      let ws : e.writes ≡ (b.0).writes = ap (λ (x : Entry). x.writes) (sym q) ∙ c.2.1 in
-      (subst (λ (z : Pairs × Pairs). lawful setting [] z.0 z.1 n) (λ j. (sym rs j, sym ws j)) was.0, λ x. was.1 (sym ws ∙ x))
+      let was : Permits terms setting rs (b.0).reads (b.0).writes n × ((b.0).writes ≢ []) = a i b.0 n b.1 k in
+      let same_reads : e.reads ≡ (b.0).reads = ap (λ (x : Entry). x.reads) (sym q) ∙ c.2.0 in
+      let same_writes : e.writes ≡ (b.0).writes = ap (λ (x : Entry). x.writes) (sym q) ∙ c.2.1 in
+      let same : ((b.0).reads, (b.0).writes) ≡ (e.reads, e.writes) = λ j. (sym same_reads j, sym same_writes j) in
+      (subst (λ (z : Pairs × Pairs). Permits terms setting rs z.0 z.1 n) same was.0, λ x. was.1 (sym same_writes ∙ x))

@@ -8,7 +8,8 @@ use Rattle.tlcore.proofs.SeatParts.{is_nil-nil}
 use Rattle.tlcore.proofs.Words.{SeatHeld, SeatPlace, at_idle, at_taking, at_reading, at_checking, at_storing, at_voiding, at_failing}
 use Rattle.tlwords.specs.declared.log.Slot.{Slot}
 use Rattle.tlwords.specs.declared.outcome.Conflict.{Conflict}
-use Rattle.tlwords.specs.Seen.{Lawful, Work, Committed, IsDone}
+use Rattle.tlwords.specs.Terms.{Terms}
+use Rattle.tlwords.specs.Seen.{Work, Committed, IsDone}
 use Rattle.tlwords.specs.Views.{View}
 use Rattle.tlwords.specs.Plays.{Mine, Draws}
 use Rattle.tlwords.specs.Runs.{value_kept, IsKeptOf, HasCause}
@@ -51,26 +52,26 @@ ended u n w v = record v {
   mine = v.mine ++ Committed (suc n) w ∷ [];
 }
 
-module _ {S N : Type 0} (lawful : Lawful S N) (opens : S → List ℕ → Type 0) (slots : List Slot) where
+module _ {S N : Type 0} (terms : Terms S N) (slots : List Slot) where
   -- what a look found is found still when the locks are given back
-  finds_on : (k : Conflict) (m r : Mine S N) → ReleasesAll lawful opens m r → Finds lawful opens slots k m → Finds lawful opens slots k r
+  finds_on : (k : Conflict) (m r : Mine S N) → ReleasesAll terms m r → Finds terms slots k m → Finds terms slots k r
   finds_on k m r g f =
       record {
         looked = g.looked ∙ f.looked;
-        written = WasWritten-kept m.0.seen.history r.0.seen.history k.cell (k.word / 2) (moves_grow lawful opens m r g.goes.moves).0 f.written;
+        written = WasWritten-kept m.0.seen.history r.0.seen.history k.cell (k.word / 2) (moves_grow terms m r g.goes.moves).0 f.written;
         before = f.before;
       }
 
   -- ---- a take failed
 
-  module _ (k : Conflict) (m r : Mine S N) (f : FailsToTake lawful opens slots k m r) where
+  module _ (k : Conflict) (m r : Mine S N) (f : FailsToTake terms slots k m r) where
     lost : Seat
     lost = holding (conflict m.0.seat at_idle) at_failing at_idle (held_in slots 0 0 k.cell)
 
-    pub failed_releases : Releasing lawful opens slots k.cell None 0 r r
+    pub failed_releases : Releasing terms slots k.cell None 0 r r
     failed_releases =
         let e : r.0.seat ≡ holding (conflict m.0.seat at_idle) at_failing at_idle (held_in slots 0 0 k.cell) =
-        goes_seat lawful opens m r (holding (conflict m.0.seat at_idle) at_failing at_idle (held_in slots 0 0 k.cell)) f.goes in
+        goes_seat terms m r (holding (conflict m.0.seat at_idle) at_failing at_idle (held_in slots 0 0 k.cell)) f.goes in
         let start : r.0.seat ≡ holding r.0.seat at_failing at_idle (held_in slots 0 0 k.cell) =
         e ∙ ap (λ (t : Seat). holding t at_failing at_idle (held_in slots 0 0 k.cell)) (sym e) in
         record {
@@ -78,15 +79,15 @@ module _ {S N : Type 0} (lawful : Lawful S N) (opens : S → List ℕ → Type 0
           done = 0;
           gives = inl (refl, inl refl);
           start = start;
-          goes = goes_start lawful opens r (holding r.0.seat at_failing at_idle (held_in slots 0 0 k.cell)) (sym start);
+          goes = goes_start terms r (holding r.0.seat at_failing at_idle (held_in slots 0 0 k.cell)) (sym start);
           looked = refl;
           void = λ i e. inl refl;
         }
 
-    pub failed_ends : (n : N) (s : Mine S N) → ReleasesAll lawful opens r s → HasConflicted lawful opens slots n k m s
+    pub failed_ends : (n : N) (s : Mine S N) → ReleasesAll terms r s → HasConflicted terms slots n k m s
     failed_ends n s g =
         record {
-          sees = sees_on lawful opens m r s f.sees g.goes.moves;
+          sees = sees_on terms m r s f.sees g.goes.moves;
           finds = finds_on k r s g f.finds;
           cause = inr f.differs;
           entry = inl (g.goes.is ∙ ap (λ (v : View S N). let w : View S N = record v { seen = s.0.seen; seat = record v.seat { place = at_idle; held = [] }; looked = s.0.looked } in w) f.goes.is);
@@ -94,7 +95,7 @@ module _ {S N : Type 0} (lawful : Lawful S N) (opens : S → List ℕ → Type 0
 
   -- ---- a number was drawn
 
-  module _ (cells : List ℕ) (x : N) (m r : Mine S N) (n : ℕ) (d : Draws lawful opens (Some x) m n r) (kept : IsKeptOf m.0.seat slots cells)
+  module _ (cells : List ℕ) (x : N) (m r : Mine S N) (n : ℕ) (d : Draws terms (Some x) m n r) (kept : IsKeptOf m.0.seat slots cells)
       (held : m.0.seat.held ≡ held_in slots 0 0 (length slots)) (some : writes_kept slots ≢ []) where
     drawn_is : r.0 ≡ record m.0 { seen = r.0.seen; seat = placed m.0.seat (at_checking n 0); note = Some x; drawn = m.0.drawn ++ suc n ∷ [] }
     drawn_is = d.is x refl
@@ -112,9 +113,9 @@ module _ {S N : Type 0} (lawful : Lawful S N) (opens : S → List ℕ → Type 0
     drawn_base = ap (λ (v : View S N). length v.base) drawn_is
 
     -- the check failed
-    module _ (k : Conflict) (s : Mine S N) (f : FailsTheCheck lawful opens slots n k r s) where
+    module _ (k : Conflict) (s : Mine S N) (f : FailsTheCheck terms slots n k r s) where
       failed_seat : s.0.seat ≡ conflict r.0.seat (at_voiding n)
-      failed_seat = goes_seat lawful opens r s (conflict r.0.seat (at_voiding n)) f.goes
+      failed_seat = goes_seat terms r s (conflict r.0.seat (at_voiding n)) f.goes
 
       pub void_kept : IsKeptOf s.0.seat slots cells
       void_kept = kept_same r.0.seat s.0.seat slots cells (ap (λ (t : Seat). t.reads) failed_seat) drawn_kept
@@ -125,7 +126,7 @@ module _ {S N : Type 0} (lawful : Lawful S N) (opens : S → List ℕ → Type 0
       pub void_base : length s.0.base ≡ length m.0.base
       void_base = ap (λ (v : View S N). length v.base) f.goes.is ∙ drawn_base
 
-      pub void_releases : (high : ℕ) → high ≡ length slots → Releasing lawful opens slots high None 0 s s
+      pub void_releases : (high : ℕ) → high ≡ length slots → Releasing terms slots high None 0 s s
       void_releases high same =
           let full : is_nil (held_in slots 0 0 high) ≡ false = ap (λ (h : ℕ). is_nil (held_in slots 0 0 h)) same ∙ some_held slots 0 some in
           let h : s.0.seat.held ≡ held_in slots 0 0 high =
@@ -137,15 +138,15 @@ module _ {S N : Type 0} (lawful : Lawful S N) (opens : S → List ℕ → Type 0
             done = 0;
             gives = inl (refl, inr (n, refl));
             start = start;
-            goes = goes_start lawful opens s (holding s.0.seat (at_voiding n) at_idle (held_in slots 0 0 high)) (sym start);
+            goes = goes_start terms s (holding s.0.seat (at_voiding n) at_idle (held_in slots 0 0 high)) (sym start);
             looked = refl;
             void = λ i e. inl refl;
           }
 
-      pub void_ends : (z : Mine S N) → ReleasesAll lawful opens s z → HasConflicted lawful opens slots x k m z
+      pub void_ends : (z : Mine S N) → ReleasesAll terms s z → HasConflicted terms slots x k m z
       void_ends z g =
           record {
-            sees = sees_on lawful opens m s z (sees_on lawful opens m r s d.sees f.goes.moves) g.goes.moves;
+            sees = sees_on terms m s z (sees_on terms m r s d.sees f.goes.moves) g.goes.moves;
             finds = finds_on k s z g f.finds;
             cause = inl (subst (λ (t : Seat). HasCause t.rv k.word) drawn_seat f.cause);
             entry = inr (
@@ -153,19 +154,19 @@ module _ {S N : Type 0} (lawful : Lawful S N) (opens : S → List ℕ → Type 0
               d.later,
               g.void n (ap (λ (t : Seat). t.place) failed_seat),
               g.goes.is ∙ (ap (λ (v : View S N). let w : View S N = record v { seen = z.0.seen; seat = record v.seat { place = at_idle; held = [] }; looked = z.0.looked } in w) f.goes.is
-                  ∙ ap (λ (v : View S N). let w : View S N = record v { seen = z.0.seen; seat = over_seat lawful opens v.seat true; looked = z.0.looked } in w) drawn_is),
+                  ∙ ap (λ (v : View S N). let w : View S N = record v { seen = z.0.seen; seat = over_seat terms v.seat true; looked = z.0.looked } in w) drawn_is),
             );
           }
 
-      pub void_drawn : (z : Mine S N) → ReleasesAll lawful opens s z → length z.0.drawn ≡ length m.0.drawn + 1
+      pub void_drawn : (z : Mine S N) → ReleasesAll terms s z → length z.0.drawn ≡ length m.0.drawn + 1
       void_drawn z g =
           ap (λ (v : View S N). length v.drawn) g.goes.is ∙ (ap (λ (v : View S N). length v.drawn) f.goes.is
           ∙ (ap (λ (v : View S N). length v.drawn) drawn_is ∙ one_more m.0.drawn (suc n)))
 
     -- the check passed
-    module _ (s : Mine S N) (p : Passes lawful opens n r s) where
+    module _ (s : Mine S N) (p : Passes terms n r s) where
       passed_seat : s.0.seat ≡ placed r.0.seat (at_checking n p.upto)
-      passed_seat = goes_seat lawful opens r s (placed r.0.seat (at_checking n p.upto)) p.goes
+      passed_seat = goes_seat terms r s (placed r.0.seat (at_checking n p.upto)) p.goes
 
       passed_reads : s.0.seat.reads ≡ m.0.seat.reads
       passed_reads = ap (λ (t : Seat). t.reads) passed_seat ∙ ap (λ (t : Seat). t.reads) drawn_seat
@@ -192,7 +193,7 @@ module _ {S N : Type 0} (lawful : Lawful S N) (opens : S → List ℕ → Type 0
         ap (λ (v : View S N). v.note) p.goes.is ∙ ap (λ (v : View S N). v.note) drawn_is,
       )
 
-      module _ (z : Mine S N) (a : StoresTo lawful opens slots n (work_kept s.0.seat slots x) (length slots) s z) where
+      module _ (z : Mine S N) (a : StoresTo terms slots n (work_kept s.0.seat slots x) (length slots) s z) where
         pub done_kept : IsKeptOf z.0.seat slots cells
         done_kept = kept_same m.0.seat z.0.seat slots cells (ap (λ (v : View S N). v.seat.reads) a.is ∙ passed_reads) kept
 
@@ -202,7 +203,7 @@ module _ {S N : Type 0} (lawful : Lawful S N) (opens : S → List ℕ → Type 0
         pub done_base : length z.0.base ≡ length m.0.base
         done_base = ap (λ (v : View S N). length v.base) a.is ∙ passed_base
 
-        pub done_releases : (high w : ℕ) → high ≡ length slots → w ≡ 2 * suc n → Releasing lawful opens slots high (Some w) 0 z z
+        pub done_releases : (high w : ℕ) → high ≡ length slots → w ≡ 2 * suc n → Releasing terms slots high (Some w) 0 z z
         done_releases high w same new =
             let full : is_nil (held_in slots high 0 high) ≡ false = ap (λ (h : ℕ). is_nil (held_in slots h 0 h)) same ∙ some_held slots (length slots) some in
             let h : z.0.seat.held ≡ held_in slots high 0 high = ap (λ (v : View S N). v.seat.held) a.is ∙ sym (ap (λ (h : ℕ). held_in slots h 0 h) same) in
@@ -213,26 +214,26 @@ module _ {S N : Type 0} (lawful : Lawful S N) (opens : S → List ℕ → Type 0
               done = high;
               gives = inr (refl, (n, refl, ap (λ (w : ℕ). Some w) new));
               start = start;
-              goes = goes_start lawful opens z (holding z.0.seat (at_storing n) at_idle (held_in slots high 0 high)) (sym start);
+              goes = goes_start terms z (holding z.0.seat (at_storing n) at_idle (held_in slots high 0 high)) (sym start);
               looked = refl;
               void = λ i e. inl refl;
             }
 
-        pub done_ends : (u : Mine S N) → ReleasesAll lawful opens z u → (number : ℕ) → number ≡ suc n
-            → HasCommitted lawful opens number (work_kept m.0.seat slots x) m u
+        pub done_ends : (u : Mine S N) → ReleasesAll terms z u → (number : ℕ) → number ≡ suc n
+            → HasCommitted terms number (work_kept m.0.seat slots x) m u
         done_ends u g number is =
             record {
-              sees = sees_on lawful opens m z u (moves_then lawful opens m s z (inr (sees_on lawful opens m r s d.sees p.goes.moves)) a.sees) g.goes.moves;
+              sees = sees_on terms m z u (moves_then terms m s z (inr (sees_on terms m r s d.sees p.goes.moves)) a.sees) g.goes.moves;
               index = n;
               number_is = is;
               later = d.later;
               done = subst (λ (w : Work N). IsDone u.0.seen n w) same_work
-                  (done_grows z.0.seen u.0.seen n (work_kept s.0.seat slots x) (moves_grow lawful opens z u g.goes.moves) a.done);
+                  (done_grows z.0.seen u.0.seen n (work_kept s.0.seat slots x) (moves_grow terms z u g.goes.moves) a.done);
               is = g.goes.is ∙ (ap (λ (v : View S N). let w : View S N = record v { seen = u.0.seen; seat = record v.seat { place = at_idle; held = [] }; looked = u.0.looked } in w) a.is
                   ∙ (ap (ended u n (work_kept s.0.seat slots x)) p.goes.is ∙ (ap (ended u n (work_kept s.0.seat slots x)) drawn_is
                   ∙ (λ j. let w : View S N = record m.0 {
                     seen = u.0.seen;
-                    seat = over_seat lawful opens m.0.seat m.0.seat.conflicted;
+                    seat = over_seat terms m.0.seat m.0.seat.conflicted;
                     looked = u.0.looked;
                     note = Some x;
                     drawn = m.0.drawn ++ sym is j ∷ [];
@@ -245,35 +246,35 @@ module _ {S N : Type 0} (lawful : Lawful S N) (opens : S → List ℕ → Type 0
 
   -- ---- all locks were taken before
 
-  module _ (m r : Mine S N) (ks : List SeatHeld) (g : Goes lawful opens m (holding m.0.seat at_taking at_reading ks) r) where
+  module _ (m r : Mine S N) (ks : List SeatHeld) (g : Goes terms m (holding m.0.seat at_taking at_reading ks) r) where
     taken : Seat
     taken = holding m.0.seat at_taking at_reading ks
 
     pub taken_seat : r.0.seat ≡ holding m.0.seat at_taking at_reading ks
-    taken_seat = goes_seat lawful opens m r (holding m.0.seat at_taking at_reading ks) g
+    taken_seat = goes_seat terms m r (holding m.0.seat at_taking at_reading ks) g
 
     seen_before : (i : ℕ) → length r.0.seen.history ≤ i → length m.0.seen.history ≤ i
-    seen_before i l = let a : length m.0.seen.history ≤ length r.0.seen.history = (moves_grow lawful opens m r g.moves).0.0 in omega (arith, a, l)
+    seen_before i l = let a : length m.0.seen.history ≤ length r.0.seen.history = (moves_grow terms m r g.moves).0.0 in omega (arith, a, l)
 
-    pub committed_from : (number : ℕ) (x : N) (s : Mine S N) → HasCommitted lawful opens number (work_kept r.0.seat slots x) r s
-        → HasCommitted lawful opens number (work_kept m.0.seat slots x) m s
+    pub committed_from : (number : ℕ) (x : N) (s : Mine S N) → HasCommitted terms number (work_kept r.0.seat slots x) r s
+        → HasCommitted terms number (work_kept m.0.seat slots x) m s
     committed_from number x s h =
         record {
-          sees = moves_then lawful opens m r s g.moves h.sees;
+          sees = moves_then terms m r s g.moves h.sees;
           index = h.index;
           number_is = h.number_is;
           later = seen_before h.index h.later;
           done = subst (λ (w : Work N). IsDone s.0.seen h.index w) same_work h.done;
           is = h.is ∙ (ap (λ (v : View S N). let w : View S N = record v {
             seen = s.0.seen;
-            seat = over_seat lawful opens v.seat v.seat.conflicted;
+            seat = over_seat terms v.seat v.seat.conflicted;
             looked = s.0.looked;
             note = Some x;
             drawn = v.drawn ++ number ∷ [];
             mine = v.mine ++ Committed number (work_kept r.0.seat slots x) ∷ [];
           } in w) g.is ∙ ap (λ (k : Work N). let w : View S N = record m.0 {
             seen = s.0.seen;
-            seat = over_seat lawful opens m.0.seat m.0.seat.conflicted;
+            seat = over_seat terms m.0.seat m.0.seat.conflicted;
             looked = s.0.looked;
             note = Some x;
             drawn = m.0.drawn ++ number ∷ [];
@@ -284,24 +285,24 @@ module _ {S N : Type 0} (lawful : Lawful S N) (opens : S → List ℕ → Type 0
         same_work : work_kept r.0.seat slots x ≡ work_kept m.0.seat slots x
         same_work = ap (λ (t : Seat). work_kept t slots x) taken_seat
 
-    pub conflicted_from : (x : N) (k : Conflict) (s : Mine S N) → HasConflicted lawful opens slots x k r s → HasConflicted lawful opens slots x k m s
+    pub conflicted_from : (x : N) (k : Conflict) (s : Mine S N) → HasConflicted terms slots x k r s → HasConflicted terms slots x k m s
     conflicted_from x k s h =
         record {
-          sees = moves_then lawful opens m r s g.moves h.sees;
+          sees = moves_then terms m r s g.moves h.sees;
           finds = h.finds;
           cause = subst (λ (t : Seat). HasCause t.rv k.word ⊎ ((w : ℕ) × (k.before ≡ Some w) × (w ≢ k.word))) taken_seat h.cause;
           entry = ⊎_elim
-              (λ (e : s.0 ≡ record r.0 { seen = s.0.seen; seat = over_seat lawful opens r.0.seat true; looked = s.0.looked }).
-              inl (e ∙ ap (λ (v : View S N). let w : View S N = record v { seen = s.0.seen; seat = over_seat lawful opens v.seat true; looked = s.0.looked } in w) g.is))
+              (λ (e : s.0 ≡ record r.0 { seen = s.0.seen; seat = over_seat terms r.0.seat true; looked = s.0.looked }).
+              inl (e ∙ ap (λ (v : View S N). let w : View S N = record v { seen = s.0.seen; seat = over_seat terms v.seat true; looked = s.0.looked } in w) g.is))
               (λ (e : (i : ℕ) × (length r.0.seen.history ≤ i) × IsVoid s.0.seen i
-              × (s.0 ≡ record r.0 { seen = s.0.seen; seat = over_seat lawful opens r.0.seat true; looked = s.0.looked; note = Some x; drawn = r.0.drawn ++ suc i ∷ [] })).
+              × (s.0 ≡ record r.0 { seen = s.0.seen; seat = over_seat terms r.0.seat true; looked = s.0.looked; note = Some x; drawn = r.0.drawn ++ suc i ∷ [] })).
               inr (
                 e.0,
                 seen_before e.0 e.1,
                 e.2,
                 e.3 ∙ ap (λ (v : View S N). let w : View S N = record v {
                   seen = s.0.seen;
-                  seat = over_seat lawful opens v.seat true;
+                  seat = over_seat terms v.seat true;
                   looked = s.0.looked;
                   note = Some x;
                   drawn = v.drawn ++ suc e.0 ∷ [];

@@ -3,7 +3,8 @@ use Rattle.std.proofs.Common.{◌≡◌, ◌≢◌, ℕ, suc, ◌+◌, ◌<◌, 
 use Rattle.tlcore.specs.Seats.{find_held, is_next, all_settled, stored, reads_of, writes_of}
 use Rattle.tlcore.proofs.Words.{SeatHeld, at_checking, at_storing}
 use Rattle.tlwords.specs.declared.log.Slot.{Slot}
-use Rattle.tlwords.specs.Seen.{Lawful, Work, Committed, IsDone}
+use Rattle.tlwords.specs.Terms.{Terms}
+use Rattle.tlwords.specs.Seen.{Work, Committed, IsDone}
 use Rattle.tlwords.specs.Views.{View}
 use Rattle.tlwords.specs.Plays.{Mine, Stores as StoresOne, MayStore, after_store, work_of}
 use Rattle.tlwords.specs.Runs.{value_kept}
@@ -16,38 +17,38 @@ use Rattle.tlwords.proofs.Held.{NoneKept, held_cell, held_find, held_stored, hel
 pub unkept_both : (slots : List Slot) (a b c : ℕ) → NoneKept slots a b → NoneKept slots b c → NoneKept slots a c
 unkept_both slots a b c p q x l m = ⊎_elim (λ (z : b ≤ x). q x z m) (λ (z : x < b). p x l z) (le_cases b x)
 
-module _ {S N : Type 0} (lawful : Lawful S N) (opens : S → List ℕ → Type 0) (slots : List Slot) (i : ℕ) (x : N) (m : Mine S N) where
+module _ {S N : Type 0} (terms : Terms S N) (slots : List Slot) (i : ℕ) (x : N) (m : Mine S N) where
   abbrev pub work : Work N
   work = work_kept m.0.seat slots x
 
   -- nothing is to be stored yet, or all values below `low` are stored
   abbrev pub StoresSoFar : ℕ → Mine S N → Type 0
-  StoresSoFar low r = ((r ≡ m) × NoneKept slots 0 low) ⊎ StoresTo lawful opens slots i work low m r
+  StoresSoFar low r = ((r ≡ m) × NoneKept slots 0 low) ⊎ StoresTo terms slots i work low m r
 
   module _ (upto : ℕ) (at : m.0.seat.place ≡ at_checking i upto) (held : m.0.seat.held ≡ held_in slots 0 0 (length slots)) (low : ℕ) (r : Mine S N)
       (so : StoresSoFar low r) where
     pub store_setting : (y : S) → m.0.setting ≡ Some y → r.0.setting ≡ Some y
     store_setting y e = ⊎_elim (λ (p : (r ≡ m) × NoneKept slots 0 low). ap (λ (z : Mine S N). z.0.setting) p.0 ∙ e)
-        (λ (p : StoresTo lawful opens slots i work low m r). ap (λ (v : View S N). v.setting) p.is ∙ e) so
+        (λ (p : StoresTo terms slots i work low m r). ap (λ (v : View S N). v.setting) p.is ∙ e) so
 
     pub store_base : length r.0.base ≡ length m.0.base
     store_base = ⊎_elim (λ (p : (r ≡ m) × NoneKept slots 0 low). ap (λ (z : Mine S N). length z.0.base) p.0)
-        (λ (p : StoresTo lawful opens slots i work low m r). ap (λ (v : View S N). length v.base) p.is) so
+        (λ (p : StoresTo terms slots i work low m r). ap (λ (v : View S N). length v.base) p.is) so
 
     pub store_place : (is_next m.0.seat i || all_settled m.0.seat.held upto m.0.seat.reads) ≡ true → (j : ℕ) × MayStore r.0.seat j
     store_place may = ⊎_elim
         (λ (p : (r ≡ m) × NoneKept slots 0 low). subst (λ (z : Mine S N). (j : ℕ) × MayStore z.0.seat j) (sym p.0) (i, inl (upto, at, may)))
-        (λ (p : StoresTo lawful opens slots i work low m r). (i, inr (ap (λ (v : View S N). v.seat.place) p.is))) so
+        (λ (p : StoresTo terms slots i work low m r). (i, inr (ap (λ (v : View S N). v.seat.place) p.is))) so
 
     module _ (c v : ℕ) (b : c < length slots) (e : value_kept slots c ≡ Some v) where
       pub store_held : (k : SeatHeld) × (find_held c r.0.seat.held ≡ Some k) × (k.value ≡ v)
       store_held = ⊎_elim
           (λ (p : (r ≡ m) × NoneKept slots 0 low). (held_cell slots 0 c v, ap (λ (z : Mine S N). find_held c z.0.seat.held) p.0 ∙ (ap (find_held c) held ∙ held_find slots 0 0 (length slots) c v (omega arith) b e), refl))
-          (λ (p : StoresTo lawful opens slots i work low m r). (held_cell slots low c v, ap (λ (w : View S N). find_held c w.seat.held) p.is ∙ held_find slots low 0 (length slots) c v (omega arith) b e, refl)) so
+          (λ (p : StoresTo terms slots i work low m r). (held_cell slots low c v, ap (λ (w : View S N). find_held c w.seat.held) p.is ∙ held_find slots low 0 (length slots) c v (omega arith) b e, refl)) so
 
-      pub store_goes : (s : Mine S N) → m.0.note ≡ Some x → low ≤ c → NoneKept slots low c → StoresOne lawful opens c r s → StoresSoFar (c + 1) s
-      store_goes s noted l unkept t = inr (subst (λ (n : ℕ). StoresTo lawful opens slots i work n m s) (let a : suc c ≡ c + 1 = omega arith in a)
-          (⊎_elim (λ (p : (r ≡ m) × NoneKept slots 0 low). first p.1 (subst (λ (z : Mine S N). StoresOne lawful opens c z s) p.0 t)) next so))
+      pub store_goes : (s : Mine S N) → m.0.note ≡ Some x → low ≤ c → NoneKept slots low c → StoresOne terms c r s → StoresSoFar (c + 1) s
+      store_goes s noted l unkept t = inr (subst (λ (n : ℕ). StoresTo terms slots i work n m s) (let a : suc c ≡ c + 1 = omega arith in a)
+          (⊎_elim (λ (p : (r ≡ m) × NoneKept slots 0 low). first p.1 (subst (λ (z : Mine S N). StoresOne terms c z s) p.0 t)) next so))
         where
           same_work : work_of m.0.seat x ≡ work
           same_work = λ j. record {
@@ -56,7 +57,7 @@ module _ {S N : Type 0} (lawful : Lawful S N) (opens : S → List ℕ → Type 0
             note = x;
           }
 
-          first : NoneKept slots 0 low → StoresOne lawful opens c m s → StoresTo lawful opens slots i work (suc c) m s
+          first : NoneKept slots 0 low → StoresOne terms c m s → StoresTo terms slots i work (suc c) m s
           first before t =
               let f : IsDone s.0.seen i (work_of m.0.seat x)
               × (s.0 ≡ record m.0 { seen = s.0.seen; seat = after_store m.0.seat i c; mine = m.0.mine ++ Committed (suc i) (work_of m.0.seat x) ∷ [] }) = t.first i upto x at noted in
@@ -71,7 +72,7 @@ module _ {S N : Type 0} (lawful : Lawful S N) (opens : S → List ℕ → Type 0
                 } in w);
               }
 
-          next : StoresTo lawful opens slots i work low m r → StoresTo lawful opens slots i work (suc c) m s
+          next : StoresTo terms slots i work low m r → StoresTo terms slots i work (suc c) m s
           next p =
               let e : s.0 ≡ record r.0 { seen = s.0.seen; seat = after_store r.0.seat i c } = t.next i (ap (λ (v : View S N). v.seat.place) p.is) in
               record {
@@ -90,10 +91,10 @@ module _ {S N : Type 0} (lawful : Lawful S N) (opens : S → List ℕ → Type 0
                     } in w));
               }
 
-    pub store_ends : writes_kept slots ≢ [] → NoneKept slots low (length slots) → StoresTo lawful opens slots i work (length slots) m r
+    pub store_ends : writes_kept slots ≢ [] → NoneKept slots low (length slots) → StoresTo terms slots i work (length slots) m r
     store_ends some unkept = ⊎_elim
         (λ (p : (r ≡ m) × NoneKept slots 0 low). absurd (some (no_writes slots (length slots) (unkept_both slots 0 low (length slots) p.1 unkept))))
-        (λ (p : StoresTo lawful opens slots i work low m r). record {
+        (λ (p : StoresTo terms slots i work low m r). record {
           sees = p.sees;
           done = p.done;
           is = p.is ∙ (λ j. let w : View S N = record m.0 {

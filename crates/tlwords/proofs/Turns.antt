@@ -7,7 +7,8 @@ use Rattle.tlcore.specs.Machine.{conflict}
 use Rattle.tlcore.proofs.Lists.{known}
 use Rattle.tlcore.proofs.Words.{SeatRead, at_idle, at_reading, at_taking, at_failing}
 use Rattle.tlwords.specs.declared.log.Slot.{Slot}
-use Rattle.tlwords.specs.Seen.{Lawful, SeenGrows}
+use Rattle.tlwords.specs.Terms.{Terms}
+use Rattle.tlwords.specs.Seen.{SeenGrows}
 use Rattle.tlwords.specs.Views.{View}
 use Rattle.tlwords.specs.Plays.{Mine, Sees, Takes, after_take}
 use Rattle.tlwords.specs.Runs.{word_seen, value_kept, was_read, IsKeptOf}
@@ -39,14 +40,14 @@ pub seat_trans : {V : Type 0} (p q r : TableSeat (Unit {0}) V) → (q.table_id �
     → (r.table_id ≡ p.table_id) × (r.id ≡ p.id)
 seat_trans p q r a b = (b.0 ∙ a.0, b.1 ∙ a.1)
 
-module _ {S N : Type 0} (lawful : Lawful S N) (opens : S → List ℕ → Type 0) where
+module _ {S N : Type 0} (terms : Terms S N) where
   -- ---- steps, one after another
 
   abbrev pub Moves : Mine S N → Mine S N → Type 0
-  Moves m r = (r ≡ m) ⊎ Sees lawful opens m.0 r.0
+  Moves m r = (r ≡ m) ⊎ Sees terms m.0 r.0
 
-  pub moves_then : (m r s : Mine S N) → Moves m r → Sees lawful opens r.0 s.0 → Sees lawful opens m.0 s.0
-  moves_then m r s (inl e) p = subst (λ (z : Mine S N). Sees lawful opens z.0 s.0) e p
+  pub moves_then : (m r s : Mine S N) → Moves m r → Sees terms r.0 s.0 → Sees terms m.0 s.0
+  moves_then m r s (inl e) p = subst (λ (z : Mine S N). Sees terms z.0 s.0) e p
   moves_then m r s (inr q) p =
       record {
         own = seen_trans m.0.seen r.0.seen s.0.seen q.own p.own;
@@ -58,15 +59,15 @@ module _ {S N : Type 0} (lawful : Lawful S N) (opens : S → List ℕ → Type 0
   moves_on m r s p (inl e) = subst (λ (z : Mine S N). Moves m z) (sym e) p
   moves_on m r s p (inr q) = inr (moves_then m r s p q)
 
-  pub sees_on : (m r s : Mine S N) → Sees lawful opens m.0 r.0 → Moves r s → Sees lawful opens m.0 s.0
-  sees_on m r s p (inl e) = subst (λ (z : Mine S N). Sees lawful opens m.0 z.0) (sym e) p
+  pub sees_on : (m r s : Mine S N) → Sees terms m.0 r.0 → Moves r s → Sees terms m.0 s.0
+  sees_on m r s p (inl e) = subst (λ (z : Mine S N). Sees terms m.0 z.0) (sym e) p
   sees_on m r s p (inr q) = moves_then m r s (inr p) q
 
   pub moves_grow : (m r : Mine S N) → Moves m r → SeenGrows m.0.seen r.0.seen
   moves_grow m r (inl e) = subst (λ (z : Mine S N). SeenGrows m.0.seen z.0.seen) (sym e) (seen_refl m.0.seen)
   moves_grow m r (inr p) = p.own
 
-  pub goes_start : (m : Mine S N) (t : Seat) → t ≡ m.0.seat → Goes lawful opens m t m
+  pub goes_start : (m : Mine S N) (t : Seat) → t ≡ m.0.seat → Goes terms m t m
   goes_start m t e =
       record {
         moves = inl refl;
@@ -74,8 +75,8 @@ module _ {S N : Type 0} (lawful : Lawful S N) (opens : S → List ℕ → Type 0
       }
 
   -- a step that changes the seat by f
-  pub goes_by : (f : Seat → Seat) (o : Option (ℕ × ℕ)) (m r s : Mine S N) (t u : Seat) → Goes lawful opens m t r → Sees lawful opens r.0 s.0
-      → s.0 ≡ record r.0 { seen = s.0.seen; seat = f r.0.seat; looked = o } → f t ≡ u → Goes lawful opens m u s
+  pub goes_by : (f : Seat → Seat) (o : Option (ℕ × ℕ)) (m r s : Mine S N) (t u : Seat) → Goes terms m t r → Sees terms r.0 s.0
+      → s.0 ≡ record r.0 { seen = s.0.seen; seat = f r.0.seat; looked = o } → f t ≡ u → Goes terms m u s
   goes_by f o m r s t u g p e q =
       record {
         moves = inr (moves_then m r s g.moves p);
@@ -83,16 +84,16 @@ module _ {S N : Type 0} (lawful : Lawful S N) (opens : S → List ℕ → Type 0
             ∙ (λ j. let w : View S N = record m.0 { seen = s.0.seen; seat = q j; looked = sym (ap (λ (v : View S N). v.looked) e) j } in w));
       }
 
-  pub goes_seat : (m r : Mine S N) (t : Seat) → Goes lawful opens m t r → r.0.seat ≡ t
+  pub goes_seat : (m r : Mine S N) (t : Seat) → Goes terms m t r → r.0.seat ≡ t
   goes_seat m r t g = ap (λ (v : View S N). v.seat) g.is
 
-  pub goes_setting : (m r : Mine S N) (t : Seat) (y : S) → Goes lawful opens m t r → m.0.setting ≡ Some y → r.0.setting ≡ Some y
+  pub goes_setting : (m r : Mine S N) (t : Seat) (y : S) → Goes terms m t r → m.0.setting ≡ Some y → r.0.setting ≡ Some y
   goes_setting m r t y g e = ap (λ (v : View S N). v.setting) g.is ∙ e
 
-  pub goes_base : (m r : Mine S N) (t : Seat) → Goes lawful opens m t r → length r.0.base ≡ length m.0.base
+  pub goes_base : (m r : Mine S N) (t : Seat) → Goes terms m t r → length r.0.base ≡ length m.0.base
   goes_base m r t g = ap (λ (v : View S N). length v.base) g.is
 
-  pub goes_read : (m r : Mine S N) (t : Seat) → Goes lawful opens m t r → t.reads ≡ m.0.seat.reads → (c : ℕ) (d : SeatRead)
+  pub goes_read : (m r : Mine S N) (t : Seat) → Goes terms m t r → t.reads ≡ m.0.seat.reads → (c : ℕ) (d : SeatRead)
       → find_read c m.0.seat.reads ≡ Some d → find_read c r.0.seat.reads ≡ Some d
   goes_read m r t g e c d f = ap (λ (v : View S N). find_read c v.seat.reads) g.is ∙ (ap (find_read c) e ∙ f)
 
@@ -100,7 +101,7 @@ module _ {S N : Type 0} (lawful : Lawful S N) (opens : S → List ℕ → Type 0
 
   module _ (slots : List Slot) (m r : Mine S N) (low : ℕ) where
     abbrev Before : Type 0
-    Before = Goes lawful opens m (holding m.0.seat at_taking at_reading (held_in slots 0 0 low)) r
+    Before = Goes terms m (holding m.0.seat at_taking at_reading (held_in slots 0 0 low)) r
 
     pub take_place : Before → (c : ℕ) → low ≤ c
         → (r.0.seat.place ≡ at_reading) ⊎ ((r.0.seat.place ≡ at_taking) × (all_below c r.0.seat.held ≡ true))
@@ -111,9 +112,9 @@ module _ {S N : Type 0} (lawful : Lawful S N) (opens : S → List ℕ → Type 0
         go (inl e) = inl (ap (λ (v : View S N). v.seat.place) g.is ∙ ap (λ (b : Bool). if b then at_reading else at_taking) e)
         go (inr e) = inr (ap (λ (v : View S N). v.seat.place) g.is ∙ ap (λ (b : Bool). if b then at_reading else at_taking) e, ap (λ (v : View S N). all_below c v.seat.held) g.is ∙ held_below slots 0 0 low c l)
 
-    module _ (g : Before) (c v w n : ℕ) (s : Mine S N) (l : low ≤ c) (unkept : NoneKept slots low c) (t : Takes lawful opens c v w r n s) where
+    module _ (g : Before) (c v w n : ℕ) (s : Mine S N) (l : low ≤ c) (unkept : NoneKept slots low c) (t : Takes terms c v w r n s) where
       pub take_goes : value_kept slots c ≡ Some v → word_seen slots c ≡ Some w → n ≡ w
-          → Goes lawful opens m (holding m.0.seat at_taking at_reading (held_in slots 0 0 (c + 1))) s
+          → Goes terms m (holding m.0.seat at_taking at_reading (held_in slots 0 0 (c + 1))) s
       take_goes e f same =
           goes_by (λ (t : Seat). after_take t c v w n) (Some (c, n)) m r s (holding m.0.seat at_taking at_reading (held_in slots 0 0 low))
           (holding m.0.seat at_taking at_reading (held_in slots 0 0 (c + 1))) g t.sees t.is
@@ -122,7 +123,7 @@ module _ {S N : Type 0} (lawful : Lawful S N) (opens : S → List ℕ → Type 0
           ∙ ap (holding m.0.seat at_taking at_reading) (sym (held_more slots low c v w l unkept e f)))
 
       pub take_fails : (b : Option ℕ) → b ≡ Some w → c < length slots → word_seen slots c ≡ Some w → n ≢ w
-          → FailsToTake lawful opens slots (record { cell = c; word = n; before = b }) m s
+          → FailsToTake terms slots (record { cell = c; word = n; before = b }) m s
       take_fails b is within f ne =
           record {
             goes = goes_by (λ (t : Seat). after_take t c v w n) (Some (c, n)) m r s (holding m.0.seat at_taking at_reading (held_in slots 0 0 low))

@@ -1,18 +1,30 @@
 -- What the words show at the end.
-use Rattle.std.specs.Prelude.{◌≡◌, ℕ, ◌*◌, Some, List, length, slice_get}
+use Rattle.std.specs.Prelude.{◌≡◌, ℕ, ◌*◌, ◌≤◌, Some, List, [], length, slice_get, vec_capacity}
 use mathlib.Core.Option.{some}
 use lib.ListN.{get_elem?}
 use Rattle.tlcore.specs.History.{Entry, Will, version, value, deed}
 use Rattle.tlwords.specs.declared.closing.ClosedCell.{ClosedCell}
-use Rattle.tlwords.specs.Seen.{Lawful, Seen, SeenGrows, Legal, Agree}
+use Rattle.tlwords.specs.declared.closing.ClosedWords.{ClosedWords}
+use Rattle.tlwords.specs.Ranges.{Range, Has, IsStored}
+use Rattle.tlwords.specs.Terms.{Terms}
+use Rattle.tlwords.specs.Seen.{Seen, SeenGrows, Legal, Agree}
 use Rattle.tlwords.specs.Views.{View}
-use Rattle.tlwords.specs.Rule.{lock_at, value_at}
+use Rattle.tlwords.specs.Rule.{lock_at, value_at, store_at}
 
 -- the cells have these words
 abbrev pub AreCellsOf : List ℕ → List ClosedCell → Type 0
 AreCellsOf words cells =
     (c : ℕ) (x : ClosedCell) → slice_get cells c ≡ Some x
     → (get_elem? words (lock_at c) ≡ some x.lock) × (get_elem? words (value_at c) ≡ some x.value)
+
+-- the store behind so many cells has these words
+abbrev pub IsStoreOf : List ℕ → ℕ → List ℕ → Type 0
+IsStoreOf words cells store = (o w : ℕ) → slice_get store o ≡ Some w → get_elem? words (store_at cells o) ≡ some w
+
+-- nothing is gathered yet, and there is memory for so many cells and words of the store
+abbrev pub IsBlankFor : ℕ → ℕ → ClosedWords → Type 0
+IsBlankFor cells room closed =
+    ((closed.cells.items ≡ []) × (cells ≤ vec_capacity closed.cells)) × ((closed.store.items ≡ []) × (room ≤ vec_capacity closed.store))
 
 -- the words after the history h, over the opening values: a free cell shows its last Done writer, and no Open entry writes it
 pub record Shows (base : List ℕ) (h : List Entry) (clock : ℕ) (cells : List ClosedCell) : Type 0 where
@@ -21,14 +33,15 @@ pub record Shows (base : List ℕ) (h : List Entry) (clock : ℕ) (cells : List 
   pub free : (c v : ℕ) (x : ClosedCell) → slice_get cells c ≡ Some x → x.lock ≡ 2 * v
       → (v ≡ version h c) × (x.value ≡ value base h c) × ((i u : ℕ) → deed h c i ≡ Will u → ⊥)
 
--- there is one lawful history, which the words show
-pub record Closes {S N : Type 0} (lawful : Lawful S N) (setting : S) (base : List ℕ) (clock : ℕ) (cells : List ClosedCell) : Type 0 where
+-- there is one lawful history, which the words show, and the store has the finished ranges
+pub record Closes {S N : Type 0} (terms : Terms S N) (setting : S) (base : List ℕ) (words : ClosedWords) : Type 0 where
   pub seen : Seen N
-  pub legal : Legal lawful setting base seen
-  pub shows : Shows base seen.history clock cells
+  pub legal : Legal terms setting base seen
+  pub shows : Shows base seen.history words.clock words.cells.items
+  pub stored : (r : Range) → Has r seen.ranges → IsStored words.tail words.store.items r
 
 -- what the pass had seen grows into it, and its calls agree with it
-abbrev pub ClosesFor : {S N : Type 0} → Lawful S N → View S N → ℕ → List ClosedCell → Type 0
-ClosesFor {S} {N} lawful v clock cells =
+abbrev pub ClosesFor : {S N : Type 0} → Terms S N → View S N → ClosedWords → Type 0
+ClosesFor {S} {N} terms v words =
     (y : S) → v.setting ≡ Some y
-    → (c : Closes lawful y v.base clock cells) × SeenGrows v.seen c.seen × Agree lawful y v.base c.seen v.mine
+    → (c : Closes terms y v.base words) × SeenGrows v.seen c.seen × Agree terms y v.base c.seen v.mine

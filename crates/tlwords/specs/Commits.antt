@@ -7,7 +7,8 @@ use Rattle.tlwords.specs.declared.log.Slot.{Slot}
 use Rattle.tlwords.specs.declared.outcome.Conflict.{Conflict as ConflictValue}
 use Rattle.tlwords.specs.declared.outcome.Outcome.{Outcome}
 use Rattle.tlwords.specs.declared.outcome.Outcome.TheVariants.{Committed as EndsDone, Read as EndsRead, Conflict as EndsConflict, NumbersUsed}
-use Rattle.tlwords.specs.Seen.{Pairs, Lawful, Work, Seen, Committed, Answered, IsDone}
+use Rattle.tlwords.specs.Terms.{Pairs, Terms, Permits}
+use Rattle.tlwords.specs.Seen.{Work, Seen, Committed, Answered, IsDone}
 use Rattle.tlwords.specs.Views.{View}
 use Rattle.tlwords.specs.Plays.{Mine, Sees}
 use Rattle.tlwords.specs.Runs.{word_seen, value_kept, IsKeptOf, HasCause}
@@ -33,8 +34,8 @@ abbrev pub work_kept : {N : Type 0} → Seat → List Slot → N → Work N
 work_kept t slots n = record { reads = reads_of t.reads; writes = writes_kept slots; note = n }
 
 -- the run's work with this note is lawful
-abbrev pub IsLawfulNow : {S N : Type 0} → Lawful S N → View S N → List Slot → N → Type 0
-IsLawfulNow {S} {N} lawful v slots n = (x : S) → v.setting ≡ Some x → lawful x [] (reads_of v.seat.reads) (writes_kept slots) n
+abbrev pub IsLawfulNow : {S N : Type 0} → Terms S N → View S N → List Slot → N → Type 0
+IsLawfulNow {S} {N} terms v slots n = (x : S) → v.setting ≡ Some x → Permits terms x v.seen.ranges (reads_of v.seat.reads) (writes_kept slots) n
 
 -- ---- what was kept is thrown away
 
@@ -52,7 +53,7 @@ HasForgotten slots cells after more =
 abbrev pub IsVoid : {N : Type 0} → Seen N → ℕ → Type 0
 IsVoid g i = (e : Entry) × (slice_get g.history i ≡ Some e) × (e.status ≡ is_void)
 
-module _ {S N : Type 0} (lawful : Lawful S N) (opens : S → List ℕ → Type 0) where
+module _ {S N : Type 0} (terms : Terms S N) where
   -- a look or a take of the conflict's cell found its word
   pub record Finds (slots : List Slot) (k : ConflictValue) (r : Mine S N) : Type 0 where
     pub looked : r.0.looked ≡ Some (k.cell, k.word)
@@ -67,7 +68,7 @@ module _ {S N : Type 0} (lawful : Lawful S N) (opens : S → List ℕ → Type 0
 
   -- the call has this number, and its entry is Done, with its work
   pub record HasCommitted (number : ℕ) (w : Work N) (m r : Mine S N) : Type 0 where
-    pub sees : Sees lawful opens m.0 r.0
+    pub sees : Sees terms m.0 r.0
     pub index : ℕ
     pub number_is : number ≡ suc index
     pub later : length m.0.seen.history ≤ index
@@ -83,7 +84,7 @@ module _ {S N : Type 0} (lawful : Lawful S N) (opens : S → List ℕ → Type 0
 
   -- the call wrote nothing, and is one at its place
   pub record HasAnswered (w : Work N) (m r : Mine S N) : Type 0 where
-    pub sees : Sees lawful opens m.0 r.0
+    pub sees : Sees terms m.0 r.0
     pub is : r.0 ≡ record m.0 { seen = r.0.seen; mine = m.0.mine ++ Answered m.0.seat.rv w ∷ [] }
 
   -- no number was drawn, or one whose entry is Void
@@ -95,7 +96,7 @@ module _ {S N : Type 0} (lawful : Lawful S N) (opens : S → List ℕ → Type 0
 
   -- the call met this conflict
   pub record HasConflicted (slots : List Slot) (n : N) (k : ConflictValue) (m r : Mine S N) : Type 0 where
-    pub sees : Sees lawful opens m.0 r.0
+    pub sees : Sees terms m.0 r.0
     pub finds : Finds slots k r
     pub cause : HasCause m.0.seat.rv k.word ⊎ ((w : ℕ) × (k.before ≡ Some w) × (w ≢ k.word))
     pub entry : HasNoEntry n m r

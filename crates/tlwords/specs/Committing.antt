@@ -6,7 +6,8 @@ use Rattle.tlcore.specs.Machine.{placed, conflict}
 use Rattle.tlcore.proofs.Words.{SeatHeld, SeatPlace, at_idle, at_checking, at_storing, at_failing, at_voiding}
 use Rattle.tlwords.specs.declared.log.Slot.{Slot}
 use Rattle.tlwords.specs.declared.outcome.Conflict.{Conflict as ConflictValue}
-use Rattle.tlwords.specs.Seen.{Lawful, Work, Committed, IsDone}
+use Rattle.tlwords.specs.Terms.{Terms}
+use Rattle.tlwords.specs.Seen.{Work, Committed, IsDone}
 use Rattle.tlwords.specs.Plays.{Mine, Sees}
 use Rattle.tlwords.specs.Runs.{word_seen, value_kept, HasCause}
 use Rattle.tlwords.specs.Commits.{Finds, IsVoid}
@@ -30,24 +31,24 @@ held_in slots done low (suc n) = with_held slots done low n (value_kept slots n)
 abbrev pub holding : Seat → SeatPlace → SeatPlace → List SeatHeld → Seat
 holding t p none ks = record t { place = (if is_nil ks then none else p); held = ks }
 
-module _ {S N : Type 0} (lawful : Lawful S N) (opens : S → List ℕ → Type 0) where
+module _ {S N : Type 0} (terms : Terms S N) where
   -- the run has gone on to the seat t, and nothing else has changed but what was seen and the last look
   pub record Goes (m : Mine S N) (t : Seat) (r : Mine S N) : Type 0 where
-    pub moves : (r ≡ m) ⊎ Sees lawful opens m.0 r.0
+    pub moves : (r ≡ m) ⊎ Sees terms m.0 r.0
     pub is : r.0 ≡ record m.0 { seen = r.0.seen; seat = t; looked = r.0.looked }
 
   -- the take of the conflict's cell failed, and the smaller cells are held
   pub record FailsToTake (slots : List Slot) (k : ConflictValue) (m r : Mine S N) : Type 0 where
     pub goes : Goes m (holding (conflict m.0.seat at_idle) at_failing at_idle (held_in slots 0 0 k.cell)) r
-    pub sees : Sees lawful opens m.0 r.0
-    pub finds : Finds lawful opens slots k r
+    pub sees : Sees terms m.0 r.0
+    pub finds : Finds terms slots k r
     pub differs : (w : ℕ) × (k.before ≡ Some w) × (w ≢ k.word)
     pub within : k.cell < length slots
 
   -- a check of the conflict's cell failed
   pub record FailsTheCheck (slots : List Slot) (i : ℕ) (k : ConflictValue) (m r : Mine S N) : Type 0 where
     pub goes : Goes m (conflict m.0.seat (at_voiding i)) r
-    pub finds : Finds lawful opens slots k r
+    pub finds : Finds terms slots k r
     pub cause : HasCause m.0.seat.rv k.word
 
   -- the check passed, or wasn't needed
@@ -58,7 +59,7 @@ module _ {S N : Type 0} (lawful : Lawful S N) (opens : S → List ℕ → Type 0
 
   -- the values of the cells below `low` are stored, at least one
   pub record StoresTo (slots : List Slot) (i : ℕ) (w : Work N) (low : ℕ) (m r : Mine S N) : Type 0 where
-    pub sees : Sees lawful opens m.0 r.0
+    pub sees : Sees terms m.0 r.0
     pub done : IsDone r.0.seen i w
     pub is : r.0 ≡ record m.0 {
       seen = r.0.seen;

@@ -1,3 +1,5 @@
+pub mod Ranges
+pub mod Terms
 pub mod Seen
 pub mod Views
 pub mod Rule

@@ -6,8 +6,10 @@ use Rattle.tlcore.specs.History.{Entry, WasWritten, wv}
 use Rattle.tlcore.specs.Seats.{Seat, passes, reads_of, writes_of, is_nil, is_next, all_settled, without, stored as stored_in}
 use Rattle.tlcore.specs.Machine.{placed, conflict}
 use Rattle.tlcore.proofs.Words.{SeatHeld, is_void, at_idle, at_reading, at_looked, at_loaded, at_taking, at_checking, at_storing, at_failing, at_voiding}
-use Rattle.tlwords.specs.Seen.{Lawful, Work, Committed, Answered, SeenGrows, IsDone, Has}
-use Rattle.tlwords.specs.Views.{View, untold, tells, nobody, fresh, Sound}
+use Rattle.tlwords.specs.Ranges.{Range, Has, Names}
+use Rattle.tlwords.specs.Terms.{Terms}
+use Rattle.tlwords.specs.Seen.{Work, Committed, Answered, SeenGrows, IsDone}
+use Rattle.tlwords.specs.Views.{Staging, View, untold, tells, nobody, fresh, Sound}
 
 abbrev pub Mine : Type 0 → Type 0 → Type 0
 Mine S N = Me (Unit {0}) (View S N)
@@ -61,12 +63,12 @@ abbrev pub MayStore : Seat → ℕ → Type 0
 MayStore t i =
     ((upto : ℕ) × (t.place ≡ at_checking i upto) × ((is_next t i || all_settled t.held upto t.reads) ≡ true)) ⊎ (t.place ≡ at_storing i)
 
-module _ {S N : Type 0} (lawful : Lawful S N) (opens : S → List ℕ → Type 0) where
+module _ {S N : Type 0} (terms : Terms S N) where
   -- the whole history so far was seen
   pub record Sees (v w : View S N) : Type 0 where
     pub own : SeenGrows v.seen w.seen
     pub told : SeenGrows v.told.seen w.seen
-    pub sound : Sound lawful opens w
+    pub sound : Sound terms w
 
   -- Begin
   pub record Sampled (m : Mine S N) (n : ℕ) (r : Mine S N) : Type 0 where
@@ -83,9 +85,10 @@ module _ {S N : Type 0} (lawful : Lawful S N) (opens : S → List ℕ → Type 0
     pub written : WasWritten r.0.seen.history c (n / 2)
     pub is : r.0 ≡ record m.0 { seen = r.0.seen; seat = after_look m.0.seat c n; looked = Some (c, n) }
 
-  -- Load
+  -- Load: in a range cell it finds 0 or a word that names a finished range
   pub record Loads (m : Mine S N) (n : ℕ) (r : Mine S N) : Type 0 where
     pub sees : Sees m.0 r.0
+    pub named : (x : S) (c word : ℕ) → m.0.setting ≡ Some x → m.0.seat.place ≡ at_looked c word → terms.ranged x c → Names r.0.seen.ranges n
     pub is : (c word : ℕ) → m.0.seat.place ≡ at_looked c word
         → r.0 ≡ record m.0 { seen = r.0.seen; seat = placed m.0.seat (at_loaded c word n) }
 
@@ -146,6 +149,29 @@ module _ {S N : Type 0} (lawful : Lawful S N) (opens : S → List ℕ → Type 0
     pub sees : Sees m.0 r.0
     pub is : r.0 ≡ record m.0 { seen = r.0.seen }
 
+  -- ---- steps on the store
+
+  -- the tail found was n: the words from there on are taken for these words where the room has so many
+  pub record Advances (words : List ℕ) (m : Mine S N) (n : ℕ) (r : Mine S N) : Type 0 where
+    pub sees : Sees m.0 r.0
+    pub taken : n + length words ≤ m.0.room
+        → r.0 ≡ record m.0 { seen = r.0.seen; staging = Some (record { start = n; words = words; done = 0 }) }
+    pub refused : m.0.room < n + length words → r.0 ≡ record m.0 { seen = r.0.seen; full = Some (n, length words) }
+
+  -- the next word of the range is stored. With its last word the range is finished
+  pub record Fills (m r : Mine S N) : Type 0 where
+    pub sees : Sees m.0 r.0
+    pub next : (s : Staging) → m.0.staging ≡ Some s → s.done + 1 < length s.words
+        → r.0 ≡ record m.0 { seen = r.0.seen; staging = Some (record s { done = s.done + 1 }) }
+    pub last : (s : Staging) → m.0.staging ≡ Some s → s.done + 1 ≡ length s.words
+        → Has (record { start = s.start; words = s.words }) r.0.seen.ranges × (r.0 ≡ record m.0 { seen = r.0.seen; staging = None })
+
+  -- the word of the store with this index was loaded: it is that of each finished range that has one there
+  pub record Fetches (o : ℕ) (m : Mine S N) (n : ℕ) (r : Mine S N) : Type 0 where
+    pub sees : Sees m.0 r.0
+    pub found : (range : Range) (i w : ℕ) → Has range m.0.seen.ranges → slice_get range.words i ≡ Some w → range.start + i ≡ o → n ≡ w
+    pub is : r.0 ≡ record m.0 { seen = r.0.seen }
+
   -- the steps as the table has them: the cell of a word, from its index
 
   abbrev pub cell_at : Step (Unit {0}) → ℕ
@@ -185,6 +211,15 @@ module _ {S N : Type 0} (lawful : Lawful S N) (opens : S → List ℕ → Type 0
   abbrev pub refreshed : Step (Unit {0}) → Mine S N → ℕ → Mine S N → Type 0
   refreshed st m n r = Refreshes m r
 
+  abbrev pub advanced : List ℕ → Step (Unit {0}) → Mine S N → ℕ → Mine S N → Type 0
+  advanced words st m n r = Advances words m n r
+
+  abbrev pub filled : Step (Unit {0}) → Mine S N → ℕ → Mine S N → Type 0
+  filled st m n r = Fills m r
+
+  abbrev pub fetched : Step (Unit {0}) → Mine S N → ℕ → Mine S N → Type 0
+  fetched st m n r = Fetches (st.word - (2 * length m.0.base + 3)) m n r
+
 module _ {S N : Type 0} where
   abbrev pub IsSameSeat : TableSeat (Unit {0}) (View S N) → TableSeat (Unit {0}) (View S N) → Type 0
   IsSameSeat p q = (q.table_id ≡ p.table_id) × (q.id ≡ p.id)
@@ -198,4 +233,4 @@ module _ {S N : Type 0} where
 
   -- a new seat, with one part of the right to draw. Its name is the number of parts that there were
   abbrev pub newcomer : View S N → View S N
-  newcomer v = fresh v.setting v.base v.rights 1
+  newcomer v = fresh v.setting v.base v.room v.seen.ranges v.rights 1

@@ -4,7 +4,7 @@ use Rattle.tlwords.specs.declared.log.Log.{Log}
 use Rattle.tlwords.specs.declared.mode.Mode.{Mode}
 use Rattle.tlwords.specs.declared.mode.Mode.TheVariants.{Reading, Writing}
 use Rattle.tlwords.specs.declared.outcome.Conflict.{Conflict}
-use Rattle.tlwords.specs.Seen.{Lawful}
+use Rattle.tlwords.specs.Terms.{Terms}
 use Rattle.tlwords.specs.Plays.{Mine}
 use Rattle.tlwords.specs.Runs.{word_seen, value_kept, HasNoted, HasKept, ReadsCell, Stops}
 
@@ -25,11 +25,11 @@ abbrev pub Notes : Mode → Log → Log → ℕ → ℕ → Type 0
 Notes Reading l k cell word = k ≡ l
 Notes Writing l k cell word = HasNoted l.slots.items (listed l) k.slots.items (listed k) cell word
 
-module _ {S N : Type 0} (lawful : Lawful S N) (opens : S → List ℕ → Type 0) where
+module _ {S N : Type 0} (terms : Terms S N) where
   -- a read of the cell ended with this value, and was noted: the log l is k now
   abbrev pub HasRead : Mode → Mine S N → Log → Mine S N → Log → ℕ → ℕ → Type 0
-  HasRead mode m l r k cell value = (word : ℕ) × ReadsCell lawful opens cell word value m r × Notes mode l k cell word
+  HasRead mode m l r k cell value = (word : ℕ) × ReadsCell terms cell word value m r × Notes mode l k cell word
 
   -- a read of the cell ended with this conflict
   abbrev pub HasStopped : Mine S N → Log → Mine S N → ℕ → Conflict → Type 0
-  HasStopped m l r cell k = (k.cell ≡ cell) × (k.before ≡ word_seen l.slots.items cell) × Stops lawful opens cell k.word m r
+  HasStopped m l r cell k = (k.cell ≡ cell) × (k.before ≡ word_seen l.slots.items cell) × Stops terms cell k.word m r

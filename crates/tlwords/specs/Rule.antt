@@ -1,8 +1,9 @@
--- The rule of the table: there is a world of the machine that meets its invariant, and the words and the views are that world's.
+-- The rule of the table: there is a world of the machine that meets its invariant, and a store whose finished ranges never change, and
+-- the words and the views are theirs.
 --
 -- Word 0 is spare: it is only loaded, for what is no step of the machine. Word 1 is the clock. Then each cell has its lock word and its
--- value word side by side.
-use Rattle.std.specs.Prelude.{◌≡◌, ◌≢◌, ℕ, ◌+◌, ◌*◌, ◌^◌, ◌≤◌, Some, List, [], ◌∷◌, length, slice_get, map}
+-- value word side by side. Behind them come the tail of the store, which is the number of its words that are taken, and the store's words.
+use Rattle.std.specs.Prelude.{◌≡◌, ◌≢◌, ℕ, ◌+◌, ◌*◌, ◌^◌, ◌<◌, ◌≤◌, Some, List, [], ◌∷◌, ◌++◌, length, slice_get, map}
 use mathlib.Core.Option.{some}
 use lib.ListN.{get_elem?}
 use Rattle.atomic_table.specs.Table.{State}
@@ -12,8 +13,10 @@ use Rattle.tlcore.specs.Seats.{Seat, number_at}
 use Rattle.tlcore.specs.Machine.{World}
 use Rattle.tlcore.proofs.Words.{CellWords, at_looked, at_loaded}
 use Rattle.tlcore.specs.Invariant.{Invariant}
-use Rattle.tlwords.specs.Seen.{Lawful, Seen, SeenGrows, Has, IsSettled, Agree}
-use Rattle.tlwords.specs.Views.{Told, View, tells, fresh}
+use Rattle.tlwords.specs.Ranges.{Range, Has, Names, IsStored, LieIn}
+use Rattle.tlwords.specs.Terms.{Terms, Permits, Opened}
+use Rattle.tlwords.specs.Seen.{Seen, SeenGrows, IsSettled, Agree}
+use Rattle.tlwords.specs.Views.{Told, Staging, View, tells, fresh, counts}
 
 -- ---- the words
 
@@ -37,6 +40,13 @@ abbrev pub opening_words : List ℕ → List ℕ
 opening_words [] = []
 opening_words (v ∷ vs) = 0 ∷ v ∷ opening_words vs
 
+-- where the tail is, and the word o of the store, behind n cells
+abbrev pub tail_at : ℕ → ℕ
+tail_at n = 2 * n + 2
+
+abbrev pub store_at : ℕ → ℕ → ℕ
+store_at n o = 2 * n + 3 + o
+
 -- ---- the views
 
 -- what f gives of each view, added up
@@ -54,10 +64,23 @@ LookIsFresh h t =
     (c word value : ℕ) → (t.place ≡ at_looked c word) ⊎ (t.place ≡ at_loaded c word value) → IsFresh h t.rv c word
 
 -- each entry, an Open one too, is lawful and writes something
-abbrev pub EntriesAre : {S N : Type 0} → Lawful S N → S → Seen N → Type 0
-EntriesAre {S} {N} lawful setting g =
+abbrev pub EntriesAre : {S N : Type 0} → Terms S N → S → Seen N → Type 0
+EntriesAre {S} {N} terms setting g =
     (i : ℕ) (e : Entry) (n : N) → slice_get g.history i ≡ Some e → slice_get g.notes i ≡ Some n
-    → lawful setting [] e.reads e.writes n × (e.writes ≢ [])
+    → Permits terms setting g.ranges e.reads e.writes n × (e.writes ≢ [])
+
+-- ---- the store
+
+-- a seat's range lies in the store and below the tail, and its first words are stored, but not all
+pub record IsTaken (room tail : ℕ) (store : List ℕ) (s : Staging) : Type 0 where
+  pub inside : s.start + length s.words ≤ room
+  pub below : s.start + length s.words ≤ tail
+  pub left : s.done < length s.words
+  pub stored : (i w : ℕ) → i < s.done → slice_get s.words i ≡ Some w → slice_get store (s.start + i) ≡ Some w
+
+-- no word of the finished range is one of the seat's range
+abbrev pub IsApart : Staging → Range → Type 0
+IsApart s r = (i : ℕ) → i < length r.words → (r.start + i < s.start) ⊎ (s.start + length s.words ≤ r.start + i)
 
 module _ {S N : Type 0} where
   -- what a pass tells is of this history, and each of its numbers is its own
@@ -67,17 +90,19 @@ module _ {S N : Type 0} where
     pub owned : (n : ℕ) → Has n t.drawn → (n ≤ length now.history) × (owner n ≡ t.name)
 
   -- what holds of each view
-  pub record Suits (lawful : Lawful S N) (setting : S) (base : List ℕ) (now : Seen N) (owner : ℕ → ℕ) (v : View S N) : Type 0 where
+  pub record Suits (terms : Terms S N) (setting : S) (base : List ℕ) (room : ℕ) (now : Seen N) (owner : ℕ → ℕ) (v : View S N) : Type 0 where
     pub own : IsTold setting base now owner (tells v)
+    pub room_is : (x : S) → v.setting ≡ Some x → v.room ≡ room
     pub told : IsTold setting base now owner v.told
-    pub mine : Agree lawful setting base now v.mine
+    pub mine : Agree terms setting base now v.mine
     pub settled : (i : ℕ) → Has (suc i) v.drawn → (number_at v.seat.place ≡ Some i) ⊎ IsSettled now.history i
     pub noted : (i : ℕ) → number_at v.seat.place ≡ Some i → (n : N) × (v.note ≡ Some n) × (slice_get now.notes i ≡ Some n)
     pub look : LookIsFresh now.history v.seat
     -- 2^40 numbers for each part of the right to draw
     pub few : length v.drawn ≤ 2 ^ 40 * v.rights
 
-  pub record Kept (lawful : Lawful S N) (opens : S → List ℕ → Type 0) (setting : S) (base : List ℕ) (words : List ℕ) (views : List (View S N)) : Type 0 where
+  -- what holds of the clock and the cells' words
+  pub record Kept (terms : Terms S N) (setting : S) (base : List ℕ) (room : ℕ) (ranges : List Range) (words : List ℕ) (views : List (View S N)) : Type 0 where
     pub world : World
     pub notes : List N
     -- the name of the pass that drew the number
@@ -87,18 +112,39 @@ module _ {S N : Type 0} where
     pub seats_are : map (λ (v : View S N). v.seat) views ≡ world.seats
     pub cells_are : length world.cells ≡ length base
     pub notes_are : length notes ≡ length world.history
-    pub entries : EntriesAre lawful setting (record { history = world.history; notes = notes })
-    pub opening : opens setting base
+    pub entries : EntriesAre terms setting (record { history = world.history; notes = notes; ranges = ranges })
+    pub opening : Opened terms setting ranges base
+    pub named : (c : ℕ) (x : CellWords) → slice_get world.cells c ≡ Some x → terms.ranged setting c → Names ranges x.value
+    pub lie : LieIn room ranges
     pub suits : (j : ℕ) (v : View S N) → get_elem? views j ≡ some v
-        → Suits lawful setting base (record { history = world.history; notes = notes }) owner v
+        → Suits terms setting base room (record { history = world.history; notes = notes; ranges = ranges }) owner v
     -- so the clock is at most 2^46, and never wraps
     pub rights : total_of (λ (v : View S N). v.rights) views ≡ 64
     pub numbers : total_of (λ (v : View S N). length v.drawn) views ≡ length world.history
 
+  -- what holds of the tail and the store's words
+  pub record Shelf (room : ℕ) (ranges : List Range) (tail : ℕ) (store : List ℕ) (views : List (View S N)) : Type 0 where
+    pub long : length store ≡ room
+    pub small : room ≤ 2 ^ 24
+    pub finished : (r : Range) → Has r ranges → IsStored tail store r
+    pub taken : (j : ℕ) (v : View S N) (s : Staging) → get_elem? views j ≡ some v → v.staging ≡ Some s → IsTaken room tail store s
+    pub apart : (j : ℕ) (v : View S N) (s : Staging) (r : Range) → get_elem? views j ≡ some v → v.staging ≡ Some s → Has r ranges → IsApart s r
+    pub alone : (j k : ℕ) (u v : View S N) (s t : Staging) → j ≢ k → get_elem? views j ≡ some u → get_elem? views k ≡ some v
+        → u.staging ≡ Some s → v.staging ≡ Some t → (s.start + length s.words ≤ t.start) ⊎ (t.start + length t.words ≤ s.start)
+    -- each seat moves the tail beyond the room at most once, by the room and one word at most; so the tail never wraps
+    pub refused : tail ≤ room + (room + 1) * total_of (λ (v : View S N). counts v.full) views
+    pub once : (j : ℕ) (v : View S N) → get_elem? views j ≡ some v → counts v.full ≤ v.rights
+
   -- the rule
-  abbrev pub Ruled : Lawful S N → (S → List ℕ → Type 0) → S → List ℕ → State (Unit {0}) (View S N) → Type 0
-  Ruled lawful opens setting base s = Kept lawful opens setting base s.words s.views
+  pub record Ruled (terms : Terms S N) (setting : S) (base : List ℕ) (room : ℕ) (s : State (Unit {0}) (View S N)) : Type 0 where
+    pub front : List ℕ
+    pub tail : ℕ
+    pub store : List ℕ
+    pub ranges : List Range
+    pub words_are : s.words ≡ front ++ tail ∷ store
+    pub kept : Kept terms setting base room ranges front s.views
+    pub shelf : Shelf room ranges tail store s.views
 
   -- the first seat has all 64 parts of the right to draw, and makes the passes
-  abbrev pub first_view : S → List ℕ → View S N
-  first_view setting base = fresh (Some setting) base 0 64
+  abbrev pub first_view : S → List ℕ → ℕ → List Range → View S N
+  first_view setting base room ranges = fresh (Some setting) base room ranges 0 64

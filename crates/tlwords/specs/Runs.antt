@@ -6,11 +6,15 @@ use Rattle.tlcore.specs.History.{WasWritten}
 use Rattle.tlcore.specs.Seats.{Seat, find_read, is_nil}
 use Rattle.tlcore.specs.Machine.{conflict}
 use Rattle.tlcore.proofs.Words.{SeatRead, at_idle, at_reading, is_resting, is_reading}
+use Rattle.atomic_table.specs.Seated.{TableId}
+use Rattle.atomic_table.specs.declared.shared.Seat.{Seat as TableSeat}
 use Rattle.tlwords.specs.declared.log.Slot.{Slot}
 use Rattle.tlwords.specs.declared.mode.Mode.{Mode}
 use Rattle.tlwords.specs.declared.mode.Mode.TheVariants.{Reading, Writing}
-use Rattle.tlwords.specs.Seen.{Lawful, SeenGrows, Has}
-use Rattle.tlwords.specs.Views.{View, Sound, fresh, untold}
+use Rattle.tlwords.specs.Ranges.{Range, Has, Names, LieIn}
+use Rattle.tlwords.specs.Terms.{Terms}
+use Rattle.tlwords.specs.Seen.{SeenGrows}
+use Rattle.tlwords.specs.Views.{View, Sound, fresh, untold, counts}
 use Rattle.tlwords.specs.Plays.{Mine, Sees, began}
 
 -- ---- what is kept of the cells
@@ -28,10 +32,6 @@ was_read slots c = is_some (word_seen slots c)
 -- the cell is listed
 abbrev pub lists : ℕ → List ℕ → Bool
 lists c cells = list_any (λ d. d == c) cells
-
-abbrev pub counts : Option ℕ → ℕ
-counts None = 0
-counts (Some w) = 1
 
 -- how many cells were read
 abbrev pub count_read : List Slot → ℕ
@@ -75,6 +75,12 @@ HasKept slots cells after more cell value =
     × (length after ≡ length slots)
 
 module _ {S N : Type 0} where
+  -- what a pass or a run knows of the store: whether a staging was refused. No range is being staged
+  pub record KnowsStore (v : View S N) (refused : Bool) : Type 0 where
+    pub at_rest : v.staging ≡ None
+    pub full : is_some v.full ≡ refused
+    pub ranges : LieIn v.room v.seen.ranges
+
   abbrev pub IsPassOf : Mine S N → ℕ → Type 0
   IsPassOf m count =
       (is_some m.0.setting ≡ true) × (is_resting m.0.seat.place ≡ true) × (m.0.rights ≡ 1) × (length m.0.drawn ≡ count) × (count ≤ 2 ^ 40)
@@ -86,12 +92,21 @@ module _ {S N : Type 0} where
       × (length m.0.drawn ≡ count) × (count ≤ 2 ^ 40) × (m.0.seat.rv ≡ place) × (is_nil m.0.seat.held ≡ true)
 
   -- the opening's passes
-  abbrev pub IsNew : S → List ℕ → View S N → Type 0
-  IsNew setting base v = v ≡ fresh (Some setting) base v.name 1
+  abbrev pub IsNew : S → List ℕ → ℕ → List Range → View S N → Type 0
+  IsNew setting base room ranges v = v ≡ fresh (Some setting) base room ranges v.name 1
+
+  -- a pass of the opening sits at the table
+  pub record IsDealt (setting : S) (base : List ℕ) (room : ℕ) (ranges : List Range) (table : TableId) (seat : TableSeat (Unit {0}) (View S N)) : Type 0 where
+    pub at : seat.table_id ≡ table
+    pub new : IsNew setting base room ranges seat.me.0
+
+-- there are to be 1 to 64 sessions, and a room of at most 2^24 words
+abbrev pub IsBadShape : ℕ → ℕ → Type 0
+IsBadShape sessions room = ((sessions ≡ 0) ⊎ (64 < sessions)) ⊎ (2 ^ 24 < room)
 
 -- the first seat, once it has made k passes
-abbrev pub dealer : {S N : Type 0} → S → List ℕ → ℕ → View S N
-dealer setting base k = fresh (Some setting) base 0 (64 - k)
+abbrev pub dealer : {S N : Type 0} → S → List ℕ → ℕ → List Range → ℕ → View S N
+dealer setting base room ranges k = fresh (Some setting) base room ranges 0 (64 - k)
 
 -- k numbers, downwards from n
 abbrev pub down : ℕ → ℕ → List ℕ
@@ -104,20 +119,41 @@ down n (suc k) = n ∷ down (n - 1) k
 abbrev pub HasCause : ℕ → ℕ → Type 0
 HasCause place word = (word % 2 ≡ 1) ⊎ (place < word / 2)
 
-module _ {S N : Type 0} (lawful : Lawful S N) (opens : S → List ℕ → Type 0) where
+module _ {S N : Type 0} (terms : Terms S N) where
   -- the cell was read: it had this value under this lock word
   pub record ReadsCell (c word value : ℕ) (m r : Mine S N) : Type 0 where
-    pub sees : Sees lawful opens m.0 r.0
+    pub sees : Sees terms m.0 r.0
     pub free : word % 2 ≡ 0
+    pub named : (x : S) → m.0.setting ≡ Some x → terms.ranged x c → Names r.0.seen.ranges value
     pub is : r.0 ≡ record m.0 {
       seen = r.0.seen;
       seat = record m.0.seat { place = at_reading; reads = record { cell = c; word = word; value = value } ∷ m.0.seat.reads };
       looked = Some (c, word);
     }
 
+  -- the words are a finished range of the store now, from this start on
+  pub record Stages (words : List ℕ) (start : ℕ) (m r : Mine S N) : Type 0 where
+    pub sees : Sees terms m.0 r.0
+    pub unrefused : m.0.full ≡ None
+    pub finished : Has (record { start = start; words = words }) r.0.seen.ranges
+    pub is : r.0 ≡ record m.0 { seen = r.0.seen }
+
+  -- the seat's range of these words was finished
+  pub record Finishes (words : List ℕ) (start : ℕ) (m r : Mine S N) : Type 0 where
+    pub sees : Sees terms m.0 r.0
+    pub finished : Has (record { start = start; words = words }) r.0.seen.ranges
+    pub is : r.0 ≡ record m.0 { seen = r.0.seen; staging = None }
+
+  -- a staging of so many words was refused: one was before, and no step was made; or the tail that was found leaves too little room
+  abbrev pub Refuses : ℕ → Mine S N → Mine S N → Type 0
+  Refuses count m r =
+      ((p : ℕ × ℕ) × (m.0.full ≡ Some p) × (r ≡ m))
+      ⊎ ((tail : ℕ) × (m.0.full ≡ None) × (m.0.room < tail + count) × Sees terms m.0 r.0
+      × (r.0 ≡ record m.0 { seen = r.0.seen; full = Some (tail, count) }))
+
   -- a look found this word, and the run is over
   pub record Stops (c word : ℕ) (m r : Mine S N) : Type 0 where
-    pub sees : Sees lawful opens m.0 r.0
+    pub sees : Sees terms m.0 r.0
     pub written : WasWritten r.0.seen.history c (word / 2)
     pub cause : HasCause m.0.seat.rv word
     pub is : r.0 ≡ record m.0 { seen = r.0.seen; seat = conflict m.0.seat at_idle; looked = Some (c, word) }
@@ -127,8 +163,8 @@ module _ {S N : Type 0} (lawful : Lawful S N) (opens : S → List ℕ → Type 0
     pub own : SeenGrows v.seen v2.seen
     pub told : SeenGrows u.seen v2.seen
     pub other : SeenGrows u.seen u2.seen
-    pub sound : Sound lawful opens v2
-    pub other_sound : Sound lawful opens u2
+    pub sound : Sound terms v2
+    pub other_sound : Sound terms u2
     -- the numbers of passes with two names are different
     pub apart : v.name ≢ u.name → (k : ℕ) → Has k v.drawn → Has k u.drawn → ⊥
     pub same : (x y : S) → v.setting ≡ Some x → u.setting ≡ Some y → (x ≡ y) × (v.base ≡ u.base)

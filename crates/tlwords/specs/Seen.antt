@@ -1,20 +1,9 @@
--- What was seen of the history, with a note for each entry; what calls did, and when that agrees with the history.
+-- What was seen of the history, with a note for each entry, and of the store; what calls did, and when that agrees with the history.
 use Rattle.std.specs.Prelude.{◌≡◌, ◌≢◌, ℕ, suc, ◌≤◌, Some, List, [], ◌∷◌, length, slice_get, ◌⊎◌}
 use Rattle.tlcore.specs.History.{Entry, One, Grows}
 use Rattle.tlcore.proofs.Words.{is_open, is_landed}
-
--- cells with values
-abbrev pub Pairs : Type 0
-Pairs = List (ℕ × ℕ)
-
--- a finished range of the store: where it starts, and its words, which never change again
-pub record Range : Type 0 where
-  pub start : ℕ
-  pub words : List ℕ
-
--- which transactions are lawful: of the setting, the ranges, what is read, what is written, and the note
-abbrev pub Lawful : Type 0 → Type 0 → Type 1
-Lawful S N = S → List Range → Pairs → Pairs → N → Type 0
+use Rattle.tlwords.specs.Ranges.{Range, Within}
+use Rattle.tlwords.specs.Terms.{Pairs, Terms, Permits}
 
 -- what a transaction did: its reads, the newest first, its writes, the largest cell first, and its note
 pub record Work (N : Type 0) : Type 0 where
@@ -27,24 +16,20 @@ pub data Call (N : Type 0) : Type 0 where
   Committed : ℕ → Work N → Call N
   Answered : ℕ → Work N → Call N
 
--- a history, and the note of the entry i at the index i
+-- a history, the note of the entry i at the index i, and the finished ranges of the store
 pub record Seen (N : Type 0) : Type 0 where
   pub history : List Entry
   pub notes : List N
-
--- x stands in the list
-abbrev pub Has : ℕ → List ℕ → Type 0
-Has x [] = ⊥
-Has x (y ∷ ys) = (x ≡ y) ⊎ Has x ys
+  pub ranges : List Range
 
 -- the entry at the index i is Done or Void
 abbrev pub IsSettled : List Entry → ℕ → Type 0
 IsSettled h i = (e : Entry) × (slice_get h i ≡ Some e) × (e.status ≢ is_open)
 
 module _ {N : Type 0} where
-  -- nothing of a history
-  abbrev pub unseen : Seen N
-  unseen = record { history = []; notes = [] }
+  -- nothing of a history, and these ranges
+  abbrev pub opening_seen : List Range → Seen N
+  opening_seen ranges = record { history = []; notes = []; ranges = ranges }
 
   -- each note stays
   abbrev pub NotesGrow : List N → List N → Type 0
@@ -52,7 +37,7 @@ module _ {N : Type 0} where
 
   -- h is seen later than g
   abbrev pub SeenGrows : Seen N → Seen N → Type 0
-  SeenGrows g h = Grows g.history h.history × NotesGrow g.notes h.notes
+  SeenGrows g h = Grows g.history h.history × NotesGrow g.notes h.notes × Within g.ranges h.ranges
 
   -- the entry at the index i is Done, and w is its work
   pub record IsDone (g : Seen N) (i : ℕ) (w : Work N) : Type 0 where
@@ -63,18 +48,18 @@ module _ {N : Type 0} where
     pub writes : entry.writes ≡ w.writes
     pub note : slice_get g.notes i ≡ Some w.note
 
-  module _ {S : Type 0} (lawful : Lawful S N) (setting : S) (base : List ℕ) where
+  module _ {S : Type 0} (terms : Terms S N) (setting : S) (base : List ℕ) where
     -- each Done entry is lawful and writes something, and what it read is one version just before it
     abbrev pub Legal : Seen N → Type 0
     Legal g =
         (i : ℕ) (w : Work N) → IsDone g i w
-        → lawful setting [] w.reads w.writes w.note × (w.writes ≢ []) × One base g.history i w.reads
+        → Permits terms setting g.ranges w.reads w.writes w.note × (w.writes ≢ []) × One base g.history i w.reads
 
     -- a call with a number is the entry of that number. A call without one is lawful, and what it read is one version at its place
     abbrev pub CallAgrees : Seen N → Call N → Type 0
     CallAgrees g (Committed number w) = (i : ℕ) × (number ≡ suc i) × IsDone g i w
     CallAgrees g (Answered place w) =
-        (place ≤ length g.history) × (w.writes ≡ []) × lawful setting [] w.reads [] w.note × One base g.history place w.reads
+        (place ≤ length g.history) × (w.writes ≡ []) × Permits terms setting g.ranges w.reads [] w.note × One base g.history place w.reads
 
     -- each of the calls agrees
     abbrev pub Agree : Seen N → List (Call N) → Type 0

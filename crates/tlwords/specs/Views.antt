@@ -1,8 +1,10 @@
 -- What a pass shows, and what is so of it by itself, whatever the other passes do.
 use Rattle.std.specs.Prelude.{◌≡◌, ℕ, suc, ◌≤◌, Option, Some, None, List, [], length, ◌⊎◌}
+use Rattle.tlwords.specs.Ranges.{Range, Has, LieIn}
 use Rattle.tlcore.specs.History.{One}
 use Rattle.tlcore.specs.Seats.{Seat, idle, reads_of, number_at}
-use Rattle.tlwords.specs.Seen.{Lawful, Call, Seen, unseen, Has, IsSettled, Legal, Agree}
+use Rattle.tlwords.specs.Terms.{Terms, Opened}
+use Rattle.tlwords.specs.Seen.{Call, Seen, opening_seen, IsSettled, Legal, Agree}
 
 -- what one pass tells another: the setting, the opening values, what it has seen, its numbers and its name
 pub record Told (S N : Type 0) : Type 0 where
@@ -12,10 +14,22 @@ pub record Told (S N : Type 0) : Type 0 where
   pub drawn : List ℕ
   pub name : ℕ
 
+-- 1 where there is one
+abbrev pub counts : {A : Type 0} → Option A → ℕ
+counts None = 0
+counts (Some x) = 1
+
+-- a range that a seat has taken and not finished: where it starts, the words that it is to have, and how many of them are stored
+pub record Staging : Type 0 where
+  pub start : ℕ
+  pub words : List ℕ
+  pub done : ℕ
+
 pub record View (S N : Type 0) : Type 0 where
-  -- the setting and the opening values. A seat that is given up has none
+  -- the setting, the opening values, and how many words the store has. A seat that is given up has none
   pub setting : Option S
   pub base : List ℕ
+  pub room : ℕ
   -- the machine's seat: the run, its place, its reads and the cells that it holds
   pub seat : Seat
   -- the note of the run that drew last
@@ -30,46 +44,52 @@ pub record View (S N : Type 0) : Type 0 where
   -- its loads of the clock, and the cell and lock word that its last look or take since the last of these found
   pub runs : ℕ
   pub looked : Option (ℕ × ℕ)
+  -- the range that it is staging, and what its first staging that was refused found: the tail and the length
+  pub staging : Option Staging
+  pub full : Option (ℕ × ℕ)
   -- what it was told and hasn't yet seen by itself
   pub told : Told S N
 
 module _ {S N : Type 0} where
   abbrev pub untold : Told S N
-  untold = record { setting = None; base = []; seen = unseen; drawn = []; name = 0 }
+  untold = record { setting = None; base = []; seen = opening_seen []; drawn = []; name = 0 }
 
   abbrev pub tells : View S N → Told S N
   tells v = record { setting = v.setting; base = v.base; seen = v.seen; drawn = v.drawn; name = v.name }
 
   -- a pass that has done nothing yet
-  abbrev pub fresh : Option S → List ℕ → ℕ → ℕ → View S N
-  fresh setting base name rights =
+  abbrev pub fresh : Option S → List ℕ → ℕ → List Range → ℕ → ℕ → View S N
+  fresh setting base room ranges name rights =
       record {
         setting = setting;
         base = base;
+        room = room;
         seat = idle;
         note = None;
-        seen = unseen;
+        seen = opening_seen ranges;
         mine = [];
         name = name;
         drawn = [];
         rights = rights;
         runs = 0;
         looked = None;
+        staging = None;
+        full = None;
         told = untold;
       }
 
-  -- o says which openings there are
-  pub record Sound (lawful : Lawful S N) (opens : S → List ℕ → Type 0) (v : View S N) : Type 0 where
+  pub record Sound (terms : Terms S N) (v : View S N) : Type 0 where
     -- the run's place is in what was seen
     pub placed : v.seat.rv ≤ length v.seen.history
     -- what the run has read is one version at its place
     pub one : (x : S) → v.setting ≡ Some x → One v.base v.seen.history v.seat.rv (reads_of v.seat.reads)
-    pub legal : (x : S) → v.setting ≡ Some x → Legal lawful x v.base v.seen
-    pub mine : (x : S) → v.setting ≡ Some x → Agree lawful x v.base v.seen v.mine
-    pub opening : (x : S) → v.setting ≡ Some x → opens x v.base
+    pub legal : (x : S) → v.setting ≡ Some x → Legal terms x v.base v.seen
+    pub mine : (x : S) → v.setting ≡ Some x → Agree terms x v.base v.seen v.mine
+    pub opening : (x : S) → v.setting ≡ Some x → Opened terms x v.seen.ranges v.base
+    pub ranges : (x : S) → v.setting ≡ Some x → LieIn v.room v.seen.ranges
     -- each number that was drawn is that of the run, or its entry is Done or Void
     pub settled : (i : ℕ) → Has (suc i) v.drawn → (number_at v.seat.place ≡ Some i) ⊎ IsSettled v.seen.history i
 
 -- a seat that is given up, and knows what it tells at most
 abbrev pub nobody : {S N : Type 0} → View S N
-nobody = fresh None [] 0 0
+nobody = fresh None [] 0 [] 0 0

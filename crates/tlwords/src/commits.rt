@@ -8,6 +8,7 @@ ghost use Rattle.tlcore.specs.Seats.{is_next, all_settled, is_nil, reads_of};
 ghost use Rattle.tlcore.specs.Machine.{placed, conflict};
 ghost use Rattle.tlcore.proofs.Words.{SeatPlace, at_idle, at_reading, at_taking, at_checking, at_storing, at_failing, at_voiding};
 ghost use Rattle.tlwords.specs.Plays.{IsSameSeat};
+ghost use Rattle.tlwords.specs.Terms.{Permits};
 ghost use Rattle.tlwords.specs.Reads.{listed};
 ghost use Rattle.tlwords.specs.Runs.{IsKeptOf, noted, IsPassOf, IsRunOf};
 ghost use Rattle.tlwords.specs.declared.mode.Mode.TheVariants.{Reading};
@@ -32,8 +33,8 @@ fn take_all<L: Law>(words: &Words<L>, seat: &mut Place<L>, log: &Log) -> Result<
     requires kept { IsKeptOf seat.old.me.0.seat log.now.slots.items (listed log.now) }
     requires sorted { IsNonDecreasing (listed log.now) }
     ensures seat { IsSameSeat seat.old seat.new }
-    ensures ok { IfOk result (λ _. Goes L.lawful L.opens seat.old.me (holding seat.old.me.0.seat at_taking at_reading (held_in log.now.slots.items 0 0 (length log.now.slots.items))) seat.new.me) }
-    ensures err { IfErr result (λ k. FailsToTake L.lawful L.opens log.now.slots.items k seat.old.me seat.new.me) }
+    ensures ok { IfOk result (λ _. Goes L.terms seat.old.me (holding seat.old.me.0.seat at_taking at_reading (held_in log.now.slots.items 0 0 (length log.now.slots.items))) seat.new.me) }
+    ensures err { IfErr result (λ k. FailsToTake L.terms log.now.slots.items k seat.old.me seat.new.me) }
 {
     let mut next = 0;
     while let Some(kept) = log.next(next, true) {
@@ -66,8 +67,8 @@ fn check_all<L: Law>(
     requires kept { IsKeptOf seat.old.me.0.seat log.now.slots.items (listed log.now) }
     requires sorted { IsNonDecreasing (listed log.now) }
     ensures seat { IsSameSeat seat.old seat.new }
-    ensures ok { IfOk result (λ _. Passes L.lawful L.opens index seat.old.me seat.new.me) }
-    ensures err { IfErr result (λ k. FailsTheCheck L.lawful L.opens log.now.slots.items index k seat.old.me seat.new.me) }
+    ensures ok { IfOk result (λ _. Passes L.terms index seat.old.me seat.new.me) }
+    ensures err { IfErr result (λ k. FailsTheCheck L.terms log.now.slots.items index k seat.old.me seat.new.me) }
 {
     if index == place {
         return Ok(());
@@ -98,7 +99,7 @@ fn store_all<L: Law>(words: &Words<L>, seat: &mut Place<L>, log: &Log, index: u6
     requires sorted { IsNonDecreasing (listed log.now) }
     requires writes { writes_kept log.now.slots.items ≢ [] }
     ensures seat { IsSameSeat seat.old seat.new }
-    ensures stores { StoresTo L.lawful L.opens log.now.slots.items index (work_kept seat.old.me.0.seat log.now.slots.items note.now) (length log.now.slots.items) seat.old.me seat.new.me }
+    ensures stores { StoresTo L.terms log.now.slots.items index (work_kept seat.old.me.0.seat log.now.slots.items note.now) (length log.now.slots.items) seat.old.me seat.new.me }
 {
     let _ = index;
     let _ = note;
@@ -120,11 +121,11 @@ fn release_all<L: Law>(
     requires table { seat.old.table_id ≡ words.now.table.shared.table_id }
     requires setting { (y : L.Setting) × (seat.old.me.0.setting ≡ Some y) }
     requires cells { (length log.now.slots.items ≡ words.now.cells) × (length log.now.slots.items ≡ length seat.old.me.0.base) × (high ≤ length log.now.slots.items) }
-    requires run { Releasing L.lawful L.opens log.now.slots.items high new 0 seat.old.me seat.old.me }
+    requires run { Releasing L.terms log.now.slots.items high new 0 seat.old.me seat.old.me }
     requires kept { IsKeptOf seat.old.me.0.seat log.now.slots.items (listed log.now) }
     requires sorted { IsNonDecreasing (listed log.now) }
     ensures seat { IsSameSeat seat.old seat.new }
-    ensures releases { ReleasesAll L.lawful L.opens seat.old.me seat.new.me }
+    ensures releases { ReleasesAll L.terms seat.old.me seat.new.me }
 {
     let mut next = 0;
     while let Some(kept) = log.next(next, true) {
@@ -145,7 +146,7 @@ fn settle<L: Law>(
     note: &L::Note,
 ) -> Result<u64, Conflict>
     requires table { seat.old.table_id ≡ words.now.table.shared.table_id }
-    requires setting { (y : L.Setting) × (seat.old.me.0.setting ≡ Some y) × L.lawful y [] (reads_of seat.old.me.0.seat.reads) (writes_kept log.now.slots.items) note.now }
+    requires setting { (y : L.Setting) × (seat.old.me.0.setting ≡ Some y) × Permits L.terms y seat.old.me.0.seen.ranges (reads_of seat.old.me.0.seat.reads) (writes_kept log.now.slots.items) note.now }
     requires cells { (length log.now.slots.items ≡ words.now.cells) × (length log.now.slots.items ≡ length seat.old.me.0.base) }
     requires run { (seat.old.me.0.seat.place ≡ at_taking) × (seat.old.me.0.seat.rv ≡ place) × (seat.old.me.0.seat.held ≡ held_in log.now.slots.items 0 0 (length log.now.slots.items)) }
     requires kept { IsKeptOf seat.old.me.0.seat log.now.slots.items (listed log.now) }
@@ -153,8 +154,8 @@ fn settle<L: Law>(
     requires writes { writes_kept log.now.slots.items ≢ [] }
     requires room { length seat.old.me.0.drawn + 1 ≤ 2 ^ 40 * seat.old.me.0.rights }
     ensures seat { IsSameSeat seat.old seat.new }
-    ensures ok { IfOk result (λ n. HasCommitted L.lawful L.opens n (work_kept seat.old.me.0.seat log.now.slots.items note.now) seat.old.me seat.new.me) }
-    ensures err { IfErr result (λ k. HasConflicted L.lawful L.opens log.now.slots.items note.now k seat.old.me seat.new.me × (length seat.new.me.0.drawn ≡ length seat.old.me.0.drawn + 1)) }
+    ensures ok { IfOk result (λ n. HasCommitted L.terms n (work_kept seat.old.me.0.seat log.now.slots.items note.now) seat.old.me seat.new.me) }
+    ensures err { IfErr result (λ k. HasConflicted L.terms log.now.slots.items note.now k seat.old.me seat.new.me × (length seat.new.me.0.drawn ≡ length seat.old.me.0.drawn + 1)) }
 {
     let index = draw(words, seat, note);
     if let Err(conflict) = check_all(words, seat, log, place, index) {
@@ -184,10 +185,10 @@ fn finish<L: Law>(
     requires run { IsRunOf seat.old.me count.old place false }
     requires kept { IsKeptOf seat.old.me.0.seat log.now.slots.items (listed log.now) }
     requires sorted { IsNonDecreasing (listed log.now) }
-    requires lawful { IsLawfulNow L.lawful seat.old.me.0 log.now.slots.items note.now }
+    requires lawful { IsLawfulNow L.terms seat.old.me.0 log.now.slots.items note.now }
     ensures seat { IsSameSeat seat.old seat.new }
     ensures pass { IsPassOf seat.new.me count.new }
-    ensures ended { HasEnded L.lawful L.opens log.now.slots.items note.now seat.old.me seat.new.me result }
+    ensures ended { HasEnded L.terms log.now.slots.items note.now seat.old.me seat.new.me result }
 {
     let Some(_) = log.next(0, true) else {
         recall(words, seat, note);
@@ -221,12 +222,12 @@ pub(crate) fn conclude<L: Law>(
     requires cells { (length log.old.slots.items ≡ words.now.cells) × (length log.old.slots.items ≡ length seat.old.me.0.base) }
     requires run { IsRunOf seat.old.me count.old place false }
     requires kept { IsKeptOf (noted mode seat.old.me.0.seat) log.old.slots.items (listed log.old) }
-    requires lawful { IsLawfulNow L.lawful seat.old.me.0 log.old.slots.items note.now }
+    requires lawful { IsLawfulNow L.terms seat.old.me.0 log.old.slots.items note.now }
     ensures seat { IsSameSeat seat.old seat.new }
     ensures pass { IsPassOf seat.new.me count.new }
     ensures log { (log.new.slots ≡ log.old.slots) × IsKeptOf (noted mode seat.old.me.0.seat) log.new.slots.items (listed log.new) }
     ensures reading { mode ≡ Reading → result ≡ EndsRead place }
-    ensures ended { HasEnded L.lawful L.opens log.old.slots.items note.now seat.old.me seat.new.me result }
+    ensures ended { HasEnded L.terms log.old.slots.items note.now seat.old.me seat.new.me result }
 {
     match mode {
         Mode::Reading => {

@@ -1,10 +1,10 @@
-//! Which transactions are lawful.
+//! What a memory is asked to keep.
 #![tactic(auto)]
 
-ghost use Rattle.std.specs.Prelude.{ℕ, List};
-ghost use Rattle.tlwords.specs.Seen.{Range};
+ghost use Rattle.tlwords.specs.Terms.{Terms};
 
-/// What a transaction has to keep, and of which opening values. The memory asks it of each commit and hands it on to each pass.
+/// What a transaction has to keep, of which opening, and which cells hold words that name ranges of the store. The memory asks it of each
+/// commit and hands it on to each pass.
 ///
 /// No value of such a type is made: it is named as a type argument.
 pub trait Law {
@@ -14,9 +14,6 @@ pub trait Law {
     /// What a transaction says of itself.
     type Note;
 
-    /// Of the setting, finished ranges of the store, what was read, what is written, each a cell and a value, and the note.
-    ghost lawful: { Self.Setting → List Range → List (ℕ × ℕ) → List (ℕ × ℕ) → Self.Note → Type 0 };
-
-    /// Of the setting and the opening values.
-    ghost opens: { Self.Setting → List ℕ → Type 0 };
+    /// Which transactions are lawful, of which opening values, and which cells hold 0 or a word that names a range.
+    ghost terms: { Terms Self.Setting Self.Note };
 }

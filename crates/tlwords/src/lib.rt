@@ -1,7 +1,8 @@
 //! A software transactional memory over shared 64-bit words: Transactional Locking II with a versioned lock word for each cell.
 //!
 //! Words are opened with a pass for each session. A run begins on a pass, to read only or to write too; it reads, keeps what it writes, and
-//! commits or leaves; passes learn of each other. The store is to come.
+//! commits or leaves; passes learn of each other. What is longer than
+//! a word is staged in a store, whose words are written once and which cells name by range.
 #![tactic(auto)]
 
 mod closing;
@@ -16,6 +17,10 @@ mod plays;
 mod rule;
 mod runs;
 mod steps;
+mod store;
+mod store_steps;
+#[cfg(test)]
+mod store_tests;
 #[cfg(test)]
 mod tests;
 mod view;
@@ -24,10 +29,11 @@ mod words;
 pub use closing::{ClosedCell, ClosedWords, close};
 pub use law::Law;
 pub use mode::Mode;
-pub use opening::{OpenFault, open};
+pub use opening::{MOST_ROOM, OpenFault, open};
 pub use outcome::{Conflict, Outcome};
 pub use passes::Pass;
 pub use rule::{Board, Ground, Opening, Place, Rule};
 pub use runs::{Run, begin, learn};
+pub use store::{Range, StoreFull};
 pub use view::View;
 pub use words::Words;

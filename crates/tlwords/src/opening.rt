@@ -1,10 +1,13 @@
 //! The opening of a memory.
 #![tactic(auto)]
 
-ghost use Rattle.std.specs.Prelude.{◌≡◌, ℕ, ◌+◌, ◌*◌, ◌<◌, ◌≤◌, ◌^◌, [], ◌∷◌, length, IfOk, IfErr, Err, All, map, ◌⊎◌};
+ghost use Rattle.std.specs.Prelude.{◌≡◌, ℕ, ◌+◌, ◌*◌, ◌<◌, ◌≤◌, ◌^◌, [], ◌∷◌, ◌++◌, ◌-◌, length, replicate, IfOk, IfErr, Err, All, map, ◌⊎◌};
+ghost use Rattle.tlwords.specs.Ranges.{Range, ranges_named};
 ghost use Rattle.tlwords.specs.Rule.{opening_words};
-ghost use Rattle.tlwords.specs.declared.opening.OpenFault.TheVariants.{BadShape};
-ghost use Rattle.tlwords.specs.Runs.{IsNew, down, dealer};
+ghost use Rattle.tlwords.specs.Terms.{AreNamed};
+ghost use Rattle.tlwords.specs.declared.opening.OpenFault.TheVariants.{BadShape, StoreFull};
+ghost use Rattle.tlwords.specs.Ranges.{LieIn};
+ghost use Rattle.tlwords.specs.Runs.{IsDealt, IsBadShape, down, dealer};
 
 use crate::law::Law;
 use crate::log::Log;
@@ -19,38 +22,65 @@ use std::snapshot::Snapshot;
 /// Why a memory was not opened.
 #[derive(Clone, Copy)]
 pub enum OpenFault {
-    /// There are to be 1 to 64 sessions.
+    /// There are to be 1 to 64 sessions, and a room of 0 to 16,777,216 words.
     BadShape,
+    /// The store's opening words are more than its room.
+    StoreFull,
     /// There was no memory.
     NoMemory,
 }
 
-/// Opens a memory whose cells have these values, with a pass for each session.
+impl From<AllocError> for OpenFault {
+    ghost use Rattle.tlwords.specs.declared.opening.OpenFault.TheVariants.{NoMemory};
+
+    ghost from_gives = { λ _ fault. fault ≡ NoMemory };
+
+    fn from(_error: AllocError) -> Self {
+        OpenFault::NoMemory
+    }
+}
+
+/// The most words that a store has.
+pub const MOST_ROOM: usize = 1 << 24;
+
+/// Opens a memory whose cells have these values, with a pass for each session, and a store of `room` words that begins with `store`.
+///
+/// The ranges of the store that the values name are finished, and each pass has seen them.
+///
+/// # Errors
+///
+/// `BadShape` for other than 1 to 64 sessions, or a room of more than 16,777,216 words; then `StoreFull` where `store` has more words than
+/// the room; and `NoMemory`.
 pub fn open<L: Law>(
     alloc: Global,
     setting: &L::Setting,
     values: &[u64],
+    store: &[u64],
+    room: usize,
     sessions: usize,
 ) -> Result<(Words<L>, Vec<Pass<L>>), OpenFault>
-    requires opens { L.opens setting.now values.now }
-    ensures cells { IfOk result (λ r. r.0.cells ≡ length values.now) }
-    ensures passes { IfOk result (λ r. All (λ p. (p.seat.table_id ≡ r.0.table.shared.table_id) × (r.0.cells ≡ length p.seat.me.0.base) × IsNew setting.now values.now p.seat.me.0) r.1.items) }
+    requires opens { L.terms.opens setting.now (ranges_named store.now values.now) values.now }
+    requires named { AreNamed L.terms setting.now (ranges_named store.now values.now) values.now }
+    ensures sizes { IfOk result (λ r. (r.0.cells ≡ length values.now) × (r.0.room ≡ room)) }
+    ensures passes { IfOk result (λ r. All (λ p. IsDealt setting.now values.now room (ranges_named store.now values.now) r.0.table.shared.table_id p.seat) r.1.items) }
     ensures names { IfOk result (λ r. map (λ p. p.seat.me.0.name) r.1.items ≡ down 64 sessions) }
-    ensures shape { IfErr result (λ e. e ≡ BadShape → (sessions ≡ 0) ⊎ (64 < sessions)) }
-    ensures refused { (sessions ≡ 0) ⊎ (64 < sessions) → result ≡ Err BadShape }
+    ensures shape { (IsBadShape sessions room → result ≡ Err BadShape) × (result ≡ Err BadShape → IsBadShape sessions room) }
+    ensures full { ((IsBadShape sessions room → ⊥) → room < length store.now → result ≡ Err StoreFull) × (result ≡ Err StoreFull → room < length store.now) }
 {
-    if sessions == 0 || sessions > 64 {
+    if sessions == 0 || sessions > 64 || room > MOST_ROOM {
         return Err(OpenFault::BadShape);
     }
-    let Ok(words) = first_words(alloc, values) else {
-        return Err(OpenFault::NoMemory);
-    };
-    let Ok(copied) = copy_values(alloc, values) else {
-        return Err(OpenFault::NoMemory);
-    };
+    if store.len() > room {
+        return Err(OpenFault::StoreFull);
+    }
+    let words = first_words(alloc, values, store, room)?;
+    let copied = copy_values(alloc, values)?;
+    let stored = copy_values(alloc, store)?;
     let about = Opening {
         setting: Snapshot::of(setting),
         values: Snapshot::of(&copied),
+        store: Snapshot::of(&stored),
+        room,
     };
     let made = Table::of_words(alloc, words.as_slice(), &about);
     let Ok((table, mut seat)) = made else {
@@ -59,11 +89,10 @@ pub fn open<L: Law>(
     let words = Words {
         table,
         cells: values.len(),
+        room,
     };
-    match deal_all(alloc, &words, &mut seat, setting, values, sessions) {
-        Ok(passes) => Ok((words, passes)),
-        Err(_) => Err(OpenFault::NoMemory),
-    }
+    let passes = deal_all(alloc, &words, &mut seat, setting, values, store, sessions)?;
+    Ok((words, passes))
 }
 
 fn copy_values(alloc: Global, values: &[u64]) -> Result<Vec<u64>, AllocError>
@@ -74,8 +103,26 @@ fn copy_values(alloc: Global, values: &[u64]) -> Result<Vec<u64>, AllocError>
     Ok(copied)
 }
 
+// The spare word and the clock, then the two words of each cell, the tail of the store, and the store's words.
+fn first_words(
+    alloc: Global,
+    values: &[u64],
+    store: &[u64],
+    room: usize,
+) -> Result<Vec<u64>, AllocError>
+    requires { (length store.now ≤ room) × (room ≤ 2 ^ 24) }
+    ensures { IfOk result (λ v. v.items ≡ (0 ∷ 0 ∷ opening_words values.now) ++ length store.now ∷ (store.now ++ replicate (room - length store.now) 0)) }
+{
+    let mut words = cell_words(alloc, values)?;
+    words.push(store.len() as u64)?;
+    words.extend_from_slice(store)?;
+    let length = words.len() + (room - store.len());
+    words.resize(length, 0)?;
+    Ok(words)
+}
+
 // The spare word and the clock, and then the two words of each cell.
-fn first_words(alloc: Global, values: &[u64]) -> Result<Vec<u64>, AllocError>
+fn cell_words(alloc: Global, values: &[u64]) -> Result<Vec<u64>, AllocError>
     ensures { IfOk result (λ v. v.items ≡ 0 ∷ 0 ∷ opening_words values.now) }
 {
     let mut words = Vec::new(alloc);
@@ -95,15 +142,18 @@ fn deal_all<L: Law>(
     seat: &mut Place<L>,
     setting: &L::Setting,
     values: &[u64],
+    store: &[u64],
     sessions: usize,
 ) -> Result<Vec<Pass<L>>, AllocError>
     requires table { (seat.old.table_id ≡ words.now.table.shared.table_id) × (words.now.cells ≡ length values.now) }
-    requires first { (sessions ≤ 64) × (seat.old.me.0 ≡ dealer setting.now values.now 0) }
-    ensures passes { IfOk result (λ v. All (λ p. (p.seat.table_id ≡ words.now.table.shared.table_id) × (words.now.cells ≡ length p.seat.me.0.base) × IsNew setting.now values.now p.seat.me.0) v.items) }
+    requires store { LieIn words.now.room (ranges_named store.now values.now) }
+    requires first { (sessions ≤ 64) × (seat.old.me.0 ≡ dealer setting.now values.now words.now.room (ranges_named store.now values.now) 0) }
+    ensures passes { IfOk result (λ v. All (λ p. IsDealt setting.now values.now words.now.room (ranges_named store.now values.now) words.now.table.shared.table_id p.seat) v.items) }
     ensures names { IfOk result (λ v. map (λ p. p.seat.me.0.name) v.items ≡ down 64 sessions) }
 {
     let _ = setting;
     let _ = values;
+    let _ = store;
     let mut passes = Vec::new(alloc);
     for _ in 0..sessions {
         let log = Log::new(alloc, words.cells)?;
@@ -112,6 +162,7 @@ fn deal_all<L: Law>(
             seat: words.table.shared.split_seat::<Deal>(seat),
             log,
             count: 0,
+            full: false,
         };
         passes.push_reserved(pass);
     }

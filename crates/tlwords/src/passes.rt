@@ -2,7 +2,7 @@
 #![tactic(auto)]
 
 ghost use Rattle.std.specs.Prelude.{◌≡◌, length};
-ghost use Rattle.tlwords.specs.Runs.{IsPassOf, IsBlank};
+ghost use Rattle.tlwords.specs.Runs.{IsPassOf, IsBlank, KnowsStore};
 
 use crate::law::Law;
 use crate::log::Log;
@@ -13,7 +13,9 @@ pub struct Pass<L: Law> {
     pub(crate) seat: Place<L>,
     pub(crate) log: Log,
     pub(crate) count: u64,
+    pub(crate) full: bool,
     pub ghost fits: { IsPassOf seat.me count },
+    pub ghost knows: { KnowsStore seat.me.0 full },
     pub ghost blank: { IsBlank log.slots.items },
     pub ghost unused: { log.used ≡ 0 },
     pub ghost room: { length log.slots.items ≡ length seat.me.0.base },
@@ -25,16 +27,22 @@ impl<L: Law> Drop for Pass<L> {
             seat: _,
             log: _,
             count: _,
+            full: _,
         } = self;
     }
 }
 
 impl<L: Law> Pass<L> {
-    pub(crate) fn into_parts(self) -> (Place<L>, Log, u64)
-        ensures parts { (result.0 ≡ self.seat) × (result.1 ≡ self.log) × (result.2 ≡ self.count) }
-        ensures fits { IsPassOf result.0.me result.2 × IsBlank result.1.slots.items × (result.1.used ≡ 0) × (length result.1.slots.items ≡ length result.0.me.0.base) }
+    pub(crate) fn into_parts(self) -> (Place<L>, Log, u64, bool)
+        ensures parts { (result.0 ≡ self.seat) × (result.1 ≡ self.log) × (result.2 ≡ self.count) × (result.3 ≡ self.full) }
+        ensures fits { IsPassOf result.0.me result.2 × IsBlank result.1.slots.items × (result.1.used ≡ 0) × (length result.1.slots.items ≡ length result.0.me.0.base) × KnowsStore result.0.me.0 result.3 }
     {
-        let Pass { seat, log, count } = self;
-        (seat, log, count)
+        let Pass {
+            seat,
+            log,
+            count,
+            full,
+        } = self;
+        (seat, log, count, full)
     }
 }

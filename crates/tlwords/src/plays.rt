@@ -1,8 +1,8 @@
 //! What each step tells. These types are for the proofs alone.
 #![tactic(auto)]
 
-ghost use Rattle.std.specs.Prelude.{ℕ, ◌-◌, Option, None};
-ghost use Rattle.tlwords.specs.Plays.{sampled, looked, loaded, relooked, took, drew, checked, stored, released, recalled, refreshed, newcomer, witness, told_by};
+ghost use Rattle.std.specs.Prelude.{ℕ, ◌-◌, List, [], Option, None};
+ghost use Rattle.tlwords.specs.Plays.{sampled, looked, loaded, relooked, took, drew, checked, stored, released, recalled, refreshed, advanced, filled, fetched, newcomer, witness, told_by};
 ghost use Rattle.tlwords.specs.Views.{nobody};
 
 use crate::law::Law;
@@ -10,17 +10,21 @@ use crate::view::View;
 use atomic_table::{Join, Play, Split};
 use std::marker::{Brand, PhantomData};
 
-/// What a call tells a step that the step's words do not show: the value to be stored later, and the note.
+/// What a call tells a step that the step's words do not show: the value to be stored later, the note, and the words of a range.
 pub(crate) trait Said<N> {
     ghost value: { ℕ };
 
     ghost note: { Option N };
+
+    ghost words: { List ℕ };
 }
 
 impl<N> Said<N> for Brand {
     ghost value = { 0 };
 
     ghost note = { None };
+
+    ghost words = { [] };
 }
 
 /// Makes a seat for a pass of the first seat.
@@ -53,7 +57,7 @@ pub(crate) struct Begin<L> {
 }
 
 impl<L: Law> Play<(), View<L::Setting, L::Note>> for Begin<L> {
-    ghost then = { sampled L.lawful L.opens };
+    ghost then = { sampled L.terms };
 }
 
 /// First look at a lock word.
@@ -62,7 +66,7 @@ pub(crate) struct Look<L> {
 }
 
 impl<L: Law> Play<(), View<L::Setting, L::Note>> for Look<L> {
-    ghost then = { looked L.lawful L.opens };
+    ghost then = { looked L.terms };
 }
 
 /// Load of a value word.
@@ -71,7 +75,7 @@ pub(crate) struct Load<L> {
 }
 
 impl<L: Law> Play<(), View<L::Setting, L::Note>> for Load<L> {
-    ghost then = { loaded L.lawful L.opens };
+    ghost then = { loaded L.terms };
 }
 
 /// Second look at a lock word.
@@ -80,7 +84,7 @@ pub(crate) struct Relook<L> {
 }
 
 impl<L: Law> Play<(), View<L::Setting, L::Note>> for Relook<L> {
-    ghost then = { relooked L.lawful L.opens };
+    ghost then = { relooked L.terms };
 }
 
 /// One try to lock a cell.
@@ -89,7 +93,7 @@ pub(crate) struct Take<L, G> {
 }
 
 impl<L: Law, G: Said<L::Note>> Play<(), View<L::Setting, L::Note>> for Take<L, G> {
-    ghost then = { took L.lawful L.opens G.value };
+    ghost then = { took L.terms G.value };
 }
 
 /// Advances the clock.
@@ -98,7 +102,7 @@ pub(crate) struct Draw<L, G> {
 }
 
 impl<L: Law, G: Said<L::Note>> Play<(), View<L::Setting, L::Note>> for Draw<L, G> {
-    ghost then = { drew L.lawful L.opens G.note };
+    ghost then = { drew L.terms G.note };
 }
 
 /// Look at the lock word of a cell that was read, after the draw.
@@ -107,7 +111,7 @@ pub(crate) struct Check<L> {
 }
 
 impl<L: Law> Play<(), View<L::Setting, L::Note>> for Check<L> {
-    ghost then = { checked L.lawful L.opens };
+    ghost then = { checked L.terms };
 }
 
 /// Store of a value word.
@@ -116,7 +120,7 @@ pub(crate) struct Store<L> {
 }
 
 impl<L: Law> Play<(), View<L::Setting, L::Note>> for Store<L> {
-    ghost then = { stored L.lawful L.opens };
+    ghost then = { stored L.terms };
 }
 
 /// Store of a lock word.
@@ -125,7 +129,7 @@ pub(crate) struct Release<L> {
 }
 
 impl<L: Law> Play<(), View<L::Setting, L::Note>> for Release<L> {
-    ghost then = { released L.lawful L.opens };
+    ghost then = { released L.terms };
 }
 
 /// Load of the spare word, which adds a call that wrote nothing to those of the pass.
@@ -134,7 +138,7 @@ pub(crate) struct Recall<L, G> {
 }
 
 impl<L: Law, G: Said<L::Note>> Play<(), View<L::Setting, L::Note>> for Recall<L, G> {
-    ghost then = { recalled L.lawful L.opens G.note };
+    ghost then = { recalled L.terms G.note };
 }
 
 /// Load of the spare word, to see the history so far.
@@ -143,5 +147,32 @@ pub(crate) struct Refresh<L> {
 }
 
 impl<L: Law> Play<(), View<L::Setting, L::Note>> for Refresh<L> {
-    ghost then = { refreshed L.lawful L.opens };
+    ghost then = { refreshed L.terms };
+}
+
+/// Advances the tail of the store.
+pub(crate) struct Advance<L, G> {
+    law: PhantomData<(L, G)>,
+}
+
+impl<L: Law, G: Said<L::Note>> Play<(), View<L::Setting, L::Note>> for Advance<L, G> {
+    ghost then = { advanced L.terms G.words };
+}
+
+/// Store of a word of the store.
+pub(crate) struct Fill<L> {
+    law: PhantomData<L>,
+}
+
+impl<L: Law> Play<(), View<L::Setting, L::Note>> for Fill<L> {
+    ghost then = { filled L.terms };
+}
+
+/// Load of a word of the store.
+pub(crate) struct Fetch<L> {
+    law: PhantomData<L>,
+}
+
+impl<L: Law> Play<(), View<L::Setting, L::Note>> for Fetch<L> {
+    ghost then = { fetched L.terms };
 }

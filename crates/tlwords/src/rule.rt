@@ -8,10 +8,12 @@ use std::alloc::Global;
 use std::marker::PhantomData;
 use std::snapshot::Snapshot;
 
-/// What the table is told once: the setting and the opening values of the cells.
+/// What the table is told once: the setting, the opening values of the cells, the store's opening words, and how many words it has room for.
 pub struct Opening<S> {
     pub(crate) setting: Snapshot<S>,
     pub(crate) values: Snapshot<Vec<u64>>,
+    pub(crate) store: Snapshot<Vec<u64>>,
+    pub(crate) room: usize,
 }
 
 impl<S> Drop for Opening<S> {
@@ -19,21 +21,25 @@ impl<S> Drop for Opening<S> {
         let Opening {
             setting: _,
             values: _,
+            store: _,
+            room: _,
         } = self;
     }
 }
 
-/// Names the rule: there is a world of the machine that meets its invariant, and the words and the views are that world's.
+/// Names the rule: there is a world of the machine that meets its invariant, and a store whose finished ranges never change, and the words
+/// and the views are theirs.
 pub struct Rule<L> {
     law: PhantomData<L>,
 }
 
 impl<L: Law> TableRule<(), View<L::Setting, L::Note>, Opening<L::Setting>> for Rule<L> {
+    ghost use Rattle.tlwords.specs.Ranges.{ranges_named};
     ghost use Rattle.tlwords.specs.Rule.{Ruled, first_view};
 
-    ghost holds = { λ key s. Ruled L.lawful L.opens key.setting.value key.values.value.items s };
+    ghost holds = { λ key s. Ruled L.terms key.setting.value key.values.value.items key.room s };
 
-    ghost first = { λ key. first_view key.setting.value key.values.value.items };
+    ghost first = { λ key. first_view key.setting.value key.values.value.items key.room (ranges_named key.store.value.items key.values.value.items) };
 }
 
 /// The words that all passes share.

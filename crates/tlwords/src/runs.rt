@@ -3,7 +3,7 @@
 
 ghost use Rattle.std.specs.Prelude.{◌≡◌, ℕ, ◌<◌, ◌≤◌, ◌⊎◌, Some, None, length, take, is_some, true, Ok, Err, IfOk, IfErr};
 ghost use Rattle.tlwords.specs.Plays.{IsSameSeat, Sampled};
-ghost use Rattle.tlwords.specs.Runs.{IsRunOf, IsKeptOf, IsBlank, noted, word_seen, value_kept, was_read, Learns};
+ghost use Rattle.tlwords.specs.Runs.{IsRunOf, IsKeptOf, IsBlank, KnowsStore, noted, word_seen, value_kept, was_read, Learns};
 ghost use Rattle.tlwords.specs.Reads.{listed, LogKeeps, kept_for, HasRead, HasStopped};
 ghost use Rattle.tlwords.specs.Commits.{IsLawfulNow, HasForgotten, HasEnded};
 ghost use Rattle.tlwords.specs.declared.outcome.Outcome.TheVariants.{Read as EndsRead, Conflict as EndsConflict};
@@ -29,24 +29,28 @@ pub struct Run<'w, L: Law> {
     pub(crate) place: u64,
     pub(crate) mode: Mode,
     pub(crate) over: Option<Conflict>,
+    pub(crate) full: bool,
     pub ghost table_is: { (seat.table_id ≡ words.now.table.shared.table_id) × (words.now.cells ≡ length seat.me.0.base) },
+    pub ghost room_is: { words.now.room ≡ seat.me.0.room },
     pub ghost fits: { IsRunOf seat.me count place (is_some over) },
     pub ghost kept: { IsKeptOf (noted mode seat.me.0.seat) log.slots.items (take log.used log.touched.items) },
     pub ghost room: { length log.slots.items ≡ length seat.me.0.base },
+    pub ghost knows: { KnowsStore seat.me.0 full },
 }
 
 /// Begins a run in this mode, by one load of the clock.
 pub fn begin<'w, L: Law>(words: &'w Words<L>, pass: Pass<L>, mode: Mode) -> Run<'w, L>
-    requires { (pass.seat.table_id ≡ words.now.table.shared.table_id) × (words.now.cells ≡ length pass.seat.me.0.base) }
+    requires table { (pass.seat.table_id ≡ words.now.table.shared.table_id) × (words.now.cells ≡ length pass.seat.me.0.base) }
+    requires room { words.now.room ≡ pass.seat.me.0.room }
     ensures words { result.words.now ≡ words.now }
     ensures seat { (result.seat.table_id ≡ pass.seat.table_id) × (result.seat.id ≡ pass.seat.id) }
-    ensures begins { Sampled L.lawful L.opens pass.seat.me result.place result.seat.me }
+    ensures begins { Sampled L.terms pass.seat.me result.place result.seat.me }
     ensures place { length pass.seat.me.0.seen.history ≤ result.place }
     ensures mode { result.mode ≡ mode }
     ensures open { result.over ≡ None }
     ensures blank { IsBlank result.log.slots.items }
 {
-    let (mut seat, log, count) = pass.into_parts();
+    let (mut seat, log, count, full) = pass.into_parts();
     let place = steps::begin(words, &mut seat);
     Run {
         words,
@@ -56,6 +60,7 @@ pub fn begin<'w, L: Law>(words: &'w Words<L>, pass: Pass<L>, mode: Mode) -> Run<
         place,
         mode,
         over: None,
+        full,
     }
 }
 
@@ -86,11 +91,11 @@ impl<'w, L: Law> Run<'w, L> {
     /// In Reading mode nothing of it is kept. An error is a conflict, and the run is over: each later read answers the same conflict, without a step.
     pub fn read(&mut self, cell: usize) -> Result<u64, Conflict>
         requires { cell < self.old.words.now.cells }
-        ensures same { (self.new.words.now ≡ self.old.words.now) × IsSameSeat self.old.seat self.new.seat × (self.new.place ≡ self.old.place) × (self.new.count ≡ self.old.count) × (self.new.mode ≡ self.old.mode) }
+        ensures same { (self.new.words.now ≡ self.old.words.now) × IsSameSeat self.old.seat self.new.seat × (self.new.place ≡ self.old.place) × (self.new.count ≡ self.old.count) × (self.new.mode ≡ self.old.mode) × (self.new.full ≡ self.old.full) }
         ensures over { (k : ConflictValue) → self.old.over ≡ Some k → (result ≡ Err k) × (self.new ≡ self.old) }
         ensures kept { (v : ℕ) → self.old.over ≡ None → kept_for self.old.log cell ≡ Some v → (result ≡ Ok v) × (self.new ≡ self.old) }
-        ensures ok { self.old.over ≡ None → kept_for self.old.log cell ≡ None → IfOk result (λ v. (self.new.over ≡ None) × HasRead L.lawful L.opens self.old.mode self.old.seat.me self.old.log self.new.seat.me self.new.log cell v) }
-        ensures err { self.old.over ≡ None → IfErr result (λ k. (self.new.over ≡ Some k) × (self.new.log ≡ self.old.log) × HasStopped L.lawful L.opens self.old.seat.me self.old.log self.new.seat.me cell k) }
+        ensures ok { self.old.over ≡ None → kept_for self.old.log cell ≡ None → IfOk result (λ v. (self.new.over ≡ None) × HasRead L.terms self.old.mode self.old.seat.me self.old.log self.new.seat.me self.new.log cell v) }
+        ensures err { self.old.over ≡ None → IfErr result (λ k. (self.new.over ≡ Some k) × (self.new.log ≡ self.old.log) × HasStopped L.terms self.old.seat.me self.old.log self.new.seat.me cell k) }
     {
         if let Some(conflict) = self.over {
             return Err(conflict);
@@ -122,7 +127,7 @@ impl<'w, L: Law> Run<'w, L> {
         requires cell { cell < self.old.words.now.cells }
         requires read { was_read self.old.log.slots.items cell ≡ true }
         ensures kept { LogKeeps self.old.log self.new.log cell value }
-        ensures same { (self.new.words.now ≡ self.old.words.now) × (self.new.seat ≡ self.old.seat) × (self.new.place ≡ self.old.place) × (self.new.count ≡ self.old.count) × (self.new.over ≡ self.old.over) × (self.new.mode ≡ self.old.mode) }
+        ensures same { (self.new.words.now ≡ self.old.words.now) × (self.new.seat ≡ self.old.seat) × (self.new.place ≡ self.old.place) × (self.new.count ≡ self.old.count) × (self.new.over ≡ self.old.over) × (self.new.mode ≡ self.old.mode) × (self.new.full ≡ self.old.full) }
     {
         self.log.keep(cell, value);
     }
@@ -130,7 +135,7 @@ impl<'w, L: Law> Run<'w, L> {
     /// Throws away what was kept aside: the run has written nothing. It makes no step on the words.
     pub fn forget(&mut self)
         ensures forgets { HasForgotten self.old.log.slots.items (listed self.old.log) self.new.log.slots.items (listed self.new.log) }
-        ensures same { (self.new.words.now ≡ self.old.words.now) × (self.new.seat ≡ self.old.seat) × (self.new.place ≡ self.old.place) × (self.new.count ≡ self.old.count) × (self.new.over ≡ self.old.over) × (self.new.mode ≡ self.old.mode) }
+        ensures same { (self.new.words.now ≡ self.old.words.now) × (self.new.seat ≡ self.old.seat) × (self.new.place ≡ self.old.place) × (self.new.count ≡ self.old.count) × (self.new.over ≡ self.old.over) × (self.new.mode ≡ self.old.mode) × (self.new.full ≡ self.old.full) }
     {
         self.log.forget();
     }
@@ -141,11 +146,11 @@ impl<'w, L: Law> Run<'w, L> {
     /// gives the locks back. After a conflict each lock has its former word, and a number that was drawn is used up. A run that wrote
     /// nothing, as each one in Reading mode, only loads the spare word. One that has met a conflict answers it again, without a step.
     pub fn commit(self, note: &L::Note) -> (Pass<L>, Outcome)
-        requires lawful { self.over ≡ None → IsLawfulNow L.lawful self.seat.me.0 self.log.slots.items note.now }
+        requires lawful { self.over ≡ None → IsLawfulNow L.terms self.seat.me.0 self.log.slots.items note.now }
         ensures same { IsSameSeat self.entry.seat result.0.seat }
         ensures over { (k : ConflictValue) → self.entry.over ≡ Some k → (result.1 ≡ EndsConflict k) × (result.0.seat.me ≡ self.entry.seat.me) }
         ensures reading { self.entry.over ≡ None → self.entry.mode ≡ Reading → result.1 ≡ EndsRead self.entry.place }
-        ensures ended { self.entry.over ≡ None → HasEnded L.lawful L.opens self.entry.log.slots.items note.now self.entry.seat.me result.0.seat.me result.1 }
+        ensures ended { self.entry.over ≡ None → HasEnded L.terms self.entry.log.slots.items note.now self.entry.seat.me result.0.seat.me result.1 }
     {
         let Run {
             words,
@@ -155,18 +160,25 @@ impl<'w, L: Law> Run<'w, L> {
             place,
             mode,
             over,
+            full,
         } = self;
         let outcome = match over {
             Some(conflict) => Outcome::Conflict(conflict),
             None => conclude(words, &mut seat, &mut log, &mut count, place, mode, note),
         };
         log.clear();
-        (Pass { seat, log, count }, outcome)
+        let pass = Pass {
+            seat,
+            log,
+            count,
+            full,
+        };
+        (pass, outcome)
     }
 
     /// Ends the run with nothing written. It walks over the cells that the run has read.
     pub fn leave(self) -> Pass<L>
-        ensures { (result.seat ≡ self.entry.seat) × (result.count ≡ self.entry.count) }
+        ensures { (result.seat ≡ self.entry.seat) × (result.count ≡ self.entry.count) × (result.full ≡ self.entry.full) }
     {
         let Run {
             words: _,
@@ -176,9 +188,15 @@ impl<'w, L: Law> Run<'w, L> {
             place: _,
             mode: _,
             over: _,
+            full,
         } = self;
         log.clear();
-        Pass { seat, log, count }
+        Pass {
+            seat,
+            log,
+            count,
+            full,
+        }
     }
 }
 
@@ -187,7 +205,7 @@ pub fn learn<L: Law>(words: &Words<L>, pass: &mut Pass<L>, other: &mut Pass<L>)
     requires { (pass.old.seat.table_id ≡ words.now.table.shared.table_id) × (other.old.seat.table_id ≡ words.now.table.shared.table_id) }
     ensures seat { IsSameSeat pass.old.seat pass.new.seat }
     ensures other { IsSameSeat other.old.seat other.new.seat }
-    ensures learns { Learns L.lawful L.opens pass.old.seat.me.0 other.old.seat.me.0 pass.new.seat.me.0 other.new.seat.me.0 }
+    ensures learns { Learns L.terms pass.old.seat.me.0 other.old.seat.me.0 pass.new.seat.me.0 other.new.seat.me.0 }
 {
     steps::tell(words, &mut pass.seat, &mut other.seat);
     steps::begin(words, &mut pass.seat);

@@ -1,10 +1,11 @@
-//! Single steps on the words. Each is one load, store, compare-exchange or fetch-and-add of one word, and but for `recall` and
-//! `refresh`, which load the spare word, one event of the machine.
+//! Single steps on the clock and the cells' words. Each is one load, store, compare-exchange or fetch-and-add of one word, and but for
+//! `recall` and `refresh`, which load the spare word, one event of the machine.
 #![tactic(auto)]
 
 ghost use Rattle.std.specs.Prelude.{◌≡◌, ◌≢◌, ℕ, suc, ◌+◌, ◌*◌, ◌^◌, ◌<◌, ◌≤◌, ◌⊎◌, ◌||◌, Some, [], length, true, false};
 ghost use Rattle.tlcore.specs.Seats.{reads_of, writes_of, find_read, find_held, all_below, all_settled, is_due, is_next};
 ghost use Rattle.tlcore.specs.History.{wv};
+ghost use Rattle.tlwords.specs.Terms.{Permits};
 ghost use Rattle.tlcore.proofs.Words.{SeatRead, SeatHeld, at_idle, at_reading, at_looked, at_loaded, at_taking, at_checking, at_storing, at_failing, at_voiding};
 ghost use Rattle.tlwords.specs.Plays.{IsSameSeat, GivesBack, MayStore, Sampled, Looks, Loads, Relooks, Takes, Draws, Checks, Stores, Releases, Recalls, Refreshes, told_by, witness};
 
@@ -21,7 +22,7 @@ pub(crate) fn begin<L: Law>(words: &Words<L>, seat: &mut Place<L>) -> u64
     requires table { seat.old.table_id ≡ words.now.table.shared.table_id }
     requires place { (seat.old.me.0.seat.place ≡ at_idle) ⊎ (seat.old.me.0.seat.place ≡ at_reading) }
     ensures seat { IsSameSeat seat.old seat.new }
-    ensures told { Sampled L.lawful L.opens seat.old.me result seat.new.me }
+    ensures told { Sampled L.terms seat.old.me result seat.new.me }
 {
     words.table.shared.load::<Begin<L>>(seat, 1)
 }
@@ -33,7 +34,7 @@ pub(crate) fn look<L: Law>(words: &Words<L>, seat: &mut Place<L>, cell: usize) -
     requires cell { (cell < words.now.cells) × (cell < length seat.old.me.0.base) }
     requires place { seat.old.me.0.seat.place ≡ at_reading }
     ensures seat { IsSameSeat seat.old seat.new }
-    ensures told { Looks L.lawful L.opens cell seat.old.me result seat.new.me }
+    ensures told { Looks L.terms cell seat.old.me result seat.new.me }
 {
     words.table.shared.load::<Look<L>>(seat, 2 * cell + 2)
 }
@@ -45,7 +46,7 @@ pub(crate) fn load<L: Law>(words: &Words<L>, seat: &mut Place<L>, cell: usize, w
     requires cell { (cell < words.now.cells) × (cell < length seat.old.me.0.base) }
     requires place { seat.old.me.0.seat.place ≡ at_looked cell word }
     ensures seat { IsSameSeat seat.old seat.new }
-    ensures told { Loads L.lawful L.opens seat.old.me result seat.new.me }
+    ensures told { Loads L.terms seat.old.me result seat.new.me }
 {
     let _ = word;
     words.table.shared.load::<Load<L>>(seat, 2 * cell + 3)
@@ -64,7 +65,7 @@ pub(crate) fn relook<L: Law>(
     requires cell { (cell < words.now.cells) × (cell < length seat.old.me.0.base) }
     requires place { seat.old.me.0.seat.place ≡ at_loaded cell word value }
     ensures seat { IsSameSeat seat.old seat.new }
-    ensures told { Relooks L.lawful L.opens seat.old.me result seat.new.me }
+    ensures told { Relooks L.terms seat.old.me result seat.new.me }
 {
     let _ = word;
     let _ = value;
@@ -86,7 +87,7 @@ fn take_saying<L: Law, G: Said<L::Note>>(
     requires read { (d : SeatRead) × (find_read cell seat.old.me.0.seat.reads ≡ Some d) × (d.word ≡ word) }
     requires room { word + 1 < 2 ^ 64 }
     ensures seat { IsSameSeat seat.old seat.new }
-    ensures told { Takes L.lawful L.opens cell value word seat.old.me result seat.new.me }
+    ensures told { Takes L.terms cell value word seat.old.me result seat.new.me }
 {
     let _ = value;
     words
@@ -110,7 +111,7 @@ pub(crate) fn take<L: Law>(
     requires read { (d : SeatRead) × (find_read cell seat.old.me.0.seat.reads ≡ Some d) × (d.word ≡ word) }
     requires room { word + 1 < 2 ^ 64 }
     ensures seat { IsSameSeat seat.old seat.new }
-    ensures told { Takes L.lawful L.opens cell value word seat.old.me result seat.new.me }
+    ensures told { Takes L.terms cell value word seat.old.me result seat.new.me }
 {
     take_saying::<L, Brand>(words, seat, cell, word, value)
 }
@@ -121,13 +122,13 @@ fn draw_saying<L: Law, G: Said<L::Note>>(
     note: &L::Note,
 ) -> u64
     requires table { seat.old.table_id ≡ words.now.table.shared.table_id }
-    requires setting { (y : L.Setting) × (seat.old.me.0.setting ≡ Some y) × L.lawful y [] (reads_of seat.old.me.0.seat.reads) (writes_of seat.old.me.0.seat.held) note.now }
+    requires setting { (y : L.Setting) × (seat.old.me.0.setting ≡ Some y) × Permits L.terms y seat.old.me.0.seen.ranges (reads_of seat.old.me.0.seat.reads) (writes_of seat.old.me.0.seat.held) note.now }
     requires said { G.note ≡ Some note.now }
     requires place { seat.old.me.0.seat.place ≡ at_taking }
     requires writes { writes_of seat.old.me.0.seat.held ≢ [] }
     requires room { length seat.old.me.0.drawn + 1 ≤ 2 ^ 40 * seat.old.me.0.rights }
     ensures seat { IsSameSeat seat.old seat.new }
-    ensures told { Draws L.lawful L.opens (Some note.now) seat.old.me result seat.new.me }
+    ensures told { Draws L.terms (Some note.now) seat.old.me result seat.new.me }
 {
     let _ = note;
     words.table.shared.fetch_add::<Draw<L, G>>(seat, 1, 1)
@@ -136,12 +137,12 @@ fn draw_saying<L: Law, G: Said<L::Note>>(
 /// Advances the clock. The run's number is one more than the result.
 pub(crate) fn draw<L: Law>(words: &Words<L>, seat: &mut Place<L>, note: &L::Note) -> u64
     requires table { seat.old.table_id ≡ words.now.table.shared.table_id }
-    requires setting { (y : L.Setting) × (seat.old.me.0.setting ≡ Some y) × L.lawful y [] (reads_of seat.old.me.0.seat.reads) (writes_of seat.old.me.0.seat.held) note.now }
+    requires setting { (y : L.Setting) × (seat.old.me.0.setting ≡ Some y) × Permits L.terms y seat.old.me.0.seen.ranges (reads_of seat.old.me.0.seat.reads) (writes_of seat.old.me.0.seat.held) note.now }
     requires place { seat.old.me.0.seat.place ≡ at_taking }
     requires writes { writes_of seat.old.me.0.seat.held ≢ [] }
     requires room { length seat.old.me.0.drawn + 1 ≤ 2 ^ 40 * seat.old.me.0.rights }
     ensures seat { IsSameSeat seat.old seat.new }
-    ensures told { Draws L.lawful L.opens (Some note.now) seat.old.me result seat.new.me }
+    ensures told { Draws L.terms (Some note.now) seat.old.me result seat.new.me }
 {
     draw_saying::<L, Brand>(words, seat, note)
 }
@@ -154,7 +155,7 @@ pub(crate) fn check<L: Law>(words: &Words<L>, seat: &mut Place<L>, cell: usize) 
     requires place { (i : ℕ) × (upto : ℕ) × (seat.old.me.0.seat.place ≡ at_checking i upto) × (is_next seat.old.me.0.seat i ≡ false) × (is_due seat.old.me.0.seat upto cell ≡ true) }
     requires read { (d : SeatRead) × (find_read cell seat.old.me.0.seat.reads ≡ Some d) }
     ensures seat { IsSameSeat seat.old seat.new }
-    ensures told { Checks L.lawful L.opens cell seat.old.me result seat.new.me }
+    ensures told { Checks L.terms cell seat.old.me result seat.new.me }
 {
     words.table.shared.load::<Check<L>>(seat, 2 * cell + 2)
 }
@@ -167,7 +168,7 @@ pub(crate) fn store<L: Law>(words: &Words<L>, seat: &mut Place<L>, cell: usize, 
     requires place { (i : ℕ) × MayStore seat.old.me.0.seat i }
     requires held { (k : SeatHeld) × (find_held cell seat.old.me.0.seat.held ≡ Some k) × (k.value ≡ value) }
     ensures seat { IsSameSeat seat.old seat.new }
-    ensures told { Stores L.lawful L.opens cell seat.old.me seat.new.me }
+    ensures told { Stores L.terms cell seat.old.me seat.new.me }
 {
     words
         .table
@@ -182,7 +183,7 @@ pub(crate) fn release<L: Law>(words: &Words<L>, seat: &mut Place<L>, cell: usize
     requires cell { (cell < words.now.cells) × (cell < length seat.old.me.0.base) }
     requires held { (k : SeatHeld) × (find_held cell seat.old.me.0.seat.held ≡ Some k) × GivesBack seat.old.me.0.seat k word }
     ensures seat { IsSameSeat seat.old seat.new }
-    ensures told { Releases L.lawful L.opens cell seat.old.me seat.new.me }
+    ensures told { Releases L.terms cell seat.old.me seat.new.me }
 {
     words
         .table
@@ -192,10 +193,10 @@ pub(crate) fn release<L: Law>(words: &Words<L>, seat: &mut Place<L>, cell: usize
 
 fn recall_saying<L: Law, G: Said<L::Note>>(words: &Words<L>, seat: &mut Place<L>, note: &L::Note)
     requires table { seat.old.table_id ≡ words.now.table.shared.table_id }
-    requires setting { (y : L.Setting) × (seat.old.me.0.setting ≡ Some y) × L.lawful y [] (reads_of seat.old.me.0.seat.reads) [] note.now }
+    requires setting { (y : L.Setting) × (seat.old.me.0.setting ≡ Some y) × Permits L.terms y seat.old.me.0.seen.ranges (reads_of seat.old.me.0.seat.reads) [] note.now }
     requires said { G.note ≡ Some note.now }
     ensures seat { IsSameSeat seat.old seat.new }
-    ensures told { Recalls L.lawful L.opens (Some note.now) seat.old.me seat.new.me }
+    ensures told { Recalls L.terms (Some note.now) seat.old.me seat.new.me }
 {
     let _ = note;
     words.table.shared.load::<Recall<L, G>>(seat, 0);
@@ -204,9 +205,9 @@ fn recall_saying<L: Law, G: Said<L::Note>>(words: &Words<L>, seat: &mut Place<L>
 /// Adds a call that wrote nothing to those of the pass, by a load of the spare word.
 pub(crate) fn recall<L: Law>(words: &Words<L>, seat: &mut Place<L>, note: &L::Note)
     requires table { seat.old.table_id ≡ words.now.table.shared.table_id }
-    requires setting { (y : L.Setting) × (seat.old.me.0.setting ≡ Some y) × L.lawful y [] (reads_of seat.old.me.0.seat.reads) [] note.now }
+    requires setting { (y : L.Setting) × (seat.old.me.0.setting ≡ Some y) × Permits L.terms y seat.old.me.0.seen.ranges (reads_of seat.old.me.0.seat.reads) [] note.now }
     ensures seat { IsSameSeat seat.old seat.new }
-    ensures told { Recalls L.lawful L.opens (Some note.now) seat.old.me seat.new.me }
+    ensures told { Recalls L.terms (Some note.now) seat.old.me seat.new.me }
 {
     recall_saying::<L, Brand>(words, seat, note);
 }
@@ -215,7 +216,7 @@ pub(crate) fn recall<L: Law>(words: &Words<L>, seat: &mut Place<L>, note: &L::No
 pub(crate) fn refresh<L: Law>(words: &Words<L>, seat: &mut Place<L>)
     requires table { seat.old.table_id ≡ words.now.table.shared.table_id }
     ensures seat { IsSameSeat seat.old seat.new }
-    ensures told { Refreshes L.lawful L.opens seat.old.me seat.new.me }
+    ensures told { Refreshes L.terms seat.old.me seat.new.me }
 {
     words.table.shared.load::<Refresh<L>>(seat, 0);
 }

@@ -14,14 +14,21 @@ use crate::steps::{load, look, relook};
 pub struct Words<L: Law> {
     pub(crate) table: Board<L>,
     pub(crate) cells: usize,
-    pub ghost sized: { table.shared.table_id.words ≡ 2 * cells + 2 },
+    /// How many words the store has.
+    pub(crate) room: usize,
+    pub ghost sized: { table.shared.table_id.words ≡ 2 * cells + 3 + room },
     pub ghost empty: { table.shared.table_id.slots ≡ 0 },
-    pub ghost small: { cells < 2 ^ 59 },
+    pub ghost small: { (cells < 2 ^ 59) × (room ≤ 2 ^ 24) },
+    pub ghost keyed: { table.shared.key.room ≡ room },
 }
 
 impl<L: Law> Drop for Words<L> {
     fn drop(self) {
-        let Words { table: _, cells: _ } = self;
+        let Words {
+            table: _,
+            cells: _,
+            room: _,
+        } = self;
     }
 }
 
@@ -33,10 +40,21 @@ impl<L: Law> Words<L> {
         self.cells
     }
 
+    /// The number of words that the store has, taken or not.
+    pub fn room(&self) -> usize
+        ensures { result ≡ self.now.room }
+    {
+        self.room
+    }
+
     pub(crate) fn into_table(self) -> Board<L>
         ensures { result ≡ self.table }
     {
-        let Words { table, cells: _ } = self;
+        let Words {
+            table,
+            cells: _,
+            room: _,
+        } = self;
         table
     }
 }
@@ -60,8 +78,8 @@ pub(crate) fn fetch<L: Law>(
     requires cell { (cell < words.now.cells) × (cell < length seat.old.me.0.base) }
     requires run { (seat.old.me.0.seat.place ≡ at_reading) × (seat.old.me.0.seat.rv ≡ place) }
     ensures seat { IsSameSeat seat.old seat.new }
-    ensures ok { IfOk result (λ f. ReadsCell L.lawful L.opens cell f.word f.value seat.old.me seat.new.me) }
-    ensures err { IfErr result (λ n. Stops L.lawful L.opens cell n seat.old.me seat.new.me) }
+    ensures ok { IfOk result (λ f. ReadsCell L.terms cell f.word f.value seat.old.me seat.new.me) }
+    ensures err { IfErr result (λ n. Stops L.terms cell n seat.old.me seat.new.me) }
 {
     let word = look(words, seat, cell);
     if word % 2 != 0 || word / 2 > place {

@@ -1,19 +1,17 @@
-use Rattle.std.proofs.Common.{[], sym, subst}
-use Rattle.tlcore.specs.Seats.{Seat, reads_of}
-use Rattle.tlwords.specs.Seen.{Pairs}
+use Rattle.std.proofs.Common.{sym, subst}
+use Rattle.tlcore.specs.Seats.{Seat}
 use Rattle.tlwords.specs.Runs.{IsKeptOf, noted}
 use Rattle.tlwords.specs.Reads.{listed}
 use Rattle.tlwords.proofs.Wanted.{log_sorted}
 use Rattle.tlwords.proofs.Modes.{nothing_written, writing_noted}
-use Rattle.tlwords.proofs.Finishes.{known_setting, answers, answered_fits}
+use Rattle.tlwords.proofs.Finishes.{unwritten_lawful, answers, answered_fits}
 use Rattle.tlwords.proofs.commits.conclude.Goals as goal
 
 pub recall-requires-clause-setting : goal.recall-requires-clause-setting
 recall-requires-clause-setting g c =
     let v = c.args.seat.now.me.0 in
-    let y = known_setting v.setting c.requires.run.0 in
-    let e = nothing_written c.args.mode c.in-Reading.is v.seat c.args.log.now.slots.items _ c.requires.kept in
-    (y.0, y.1, subst (λ (ws : Pairs). g.L.Law.lawful y.0 [] (reads_of v.seat.reads) ws c.args.note.now) e (c.requires.lawful y.0 y.1))
+    unwritten_lawful g.L.Law.terms c.args.log.now.slots.items c.args.note.now v c.requires.lawful c.requires.run.0
+    (nothing_written c.args.mode c.in-Reading.is v.seat c.args.log.now.slots.items _ c.requires.kept)
 
 pub finish-requires-clause-kept : goal.finish-requires-clause-kept
 finish-requires-clause-kept g c =
@@ -25,12 +23,12 @@ finish-requires-clause-kept g c =
 
 pub returns-in-Reading-clause-pass : goal.returns-in-Reading-clause-pass
 returns-in-Reading-clause-pass g c =
-    answered_fits g.L.Law.lawful g.L.Law.opens c.args.log.now.slots.items c.args.note.now _ _ _ _ c.recall.ensures.told c.requires.run
+    answered_fits g.L.Law.terms c.args.log.now.slots.items c.args.note.now _ _ _ _ c.recall.ensures.told c.requires.run
 
 pub returns-in-Reading-clause-ended : goal.returns-in-Reading-clause-ended
 returns-in-Reading-clause-ended g c =
     let e = nothing_written c.args.mode c.in-Reading.is c.args.seat.now.me.0.seat c.args.log.now.slots.items _ c.requires.kept in
-    (e, sym c.requires.run.5, answers g.L.Law.lawful g.L.Law.opens c.args.log.now.slots.items c.args.note.now _ _ c.recall.ensures.told e)
+    (e, sym c.requires.run.5, answers g.L.Law.terms c.args.log.now.slots.items c.args.note.now _ _ c.recall.ensures.told e)
 
 pub returns-in-Writing-clause-log : goal.returns-in-Writing-clause-log
 returns-in-Writing-clause-log g c =

@@ -10,7 +10,7 @@ pub loop-next-init : goal.loop-next-init
 loop-next-init g c = (
   (refl, refl),
   omega arith,
-  goes_start g.L.Law.lawful g.L.Law.opens c.args.seat.now.me (holding c.args.seat.now.me.0.seat at_taking at_reading [])
+  goes_start g.L.Law.terms c.args.seat.now.me (holding c.args.seat.now.me.0.seat at_taking at_reading [])
       (λ j. let t : Seat = record c.args.seat.now.me.0.seat { place = sym c.requires.run.0 j; held = sym c.requires.run.1 j } in t),
 )
 
@@ -19,24 +19,24 @@ take-found-requires-clause-table g c = c.loop-next.invariant.0.0 ∙ c.requires.
 
 pub take-found-requires-clause-setting : goal.take-found-requires-clause-setting
 take-found-requires-clause-setting g c =
-    (c.requires.setting.0, goes_setting g.L.Law.lawful g.L.Law.opens _ _ _ _ c.loop-next.invariant.2 c.requires.setting.1)
+    (c.requires.setting.0, goes_setting g.L.Law.terms _ _ _ _ c.loop-next.invariant.2 c.requires.setting.1)
 
 pub take-found-requires-clause-cell : goal.take-found-requires-clause-cell
 take-found-requires-clause-cell g c =
     let l = c.in-Some.ensures.some.0.1 in
-    let a = goes_base g.L.Law.lawful g.L.Law.opens _ _ _ c.loop-next.invariant.2 in
+    let a = goes_base g.L.Law.terms _ _ _ c.loop-next.invariant.2 in
     let p = c.requires.cells.0 in
     let q = c.requires.cells.1 in
     (omega arith, omega arith)
 
 pub take-found-requires-clause-place : goal.take-found-requires-clause-place
 take-found-requires-clause-place g c =
-    take_place g.L.Law.lawful g.L.Law.opens c.args.log.now.slots.items _ _ c.loop-next.next c.loop-next.invariant.2 c.in-Some.kept.cell c.in-Some.ensures.some.0.0
+    take_place g.L.Law.terms c.args.log.now.slots.items _ _ c.loop-next.next c.loop-next.invariant.2 c.in-Some.kept.cell c.in-Some.ensures.some.0.0
 
 pub take-found-requires-clause-read : goal.take-found-requires-clause-read
 take-found-requires-clause-read g c =
     let d = read_found c.args.seat.now.me.0.seat c.args.log.now.slots.items _ c.requires.kept c.in-Some.kept.cell c.in-Some.kept.word c.in-Some.ensures.some.1 in
-    (d.0, goes_read g.L.Law.lawful g.L.Law.opens _ _ _ c.loop-next.invariant.2 refl c.in-Some.kept.cell d.0 d.1, d.2)
+    (d.0, goes_read g.L.Law.terms _ _ _ c.loop-next.invariant.2 refl c.in-Some.kept.cell d.0 d.1, d.2)
 
 pub take-found-requires-clause-room : goal.take-found-requires-clause-room
 take-found-requires-clause-room g c =
@@ -49,7 +49,7 @@ returns-then-found-kept-clause-seat g c =
 pub returns-then-found-kept-clause-err : goal.returns-then-found-kept-clause-err
 returns-then-found-kept-clause-err g c =
     let s = c.in-Some.ensures.some in
-    take_fails g.L.Law.lawful g.L.Law.opens c.args.log.now.slots.items _ _ c.loop-next.next c.loop-next.invariant.2 c.in-Some.kept.cell c.in-Some.kept.value c.in-Some.kept.word
+    take_fails g.L.Law.terms c.args.log.now.slots.items _ _ c.loop-next.next c.loop-next.invariant.2 c.in-Some.kept.cell c.in-Some.kept.value c.in-Some.kept.word
     c.take-found.result _ s.0.0 (unkept_of c.args.seat.now.me.0.seat c.args.log.now.slots.items _ c.requires.kept _ _ s.0.3) c.take-found.ensures.told _ refl s.0.1 s.1 c.if-found-kept.true
 
 pub loop-next-smaller : goal.loop-next-smaller
@@ -60,7 +60,7 @@ loop-next-preserved g c =
     let s = c.in-Some.ensures.some in (
       seat_trans c.args.seat.now c.loop-next.seat c.take-found.new.seat c.loop-next.invariant.0 c.take-found.ensures.seat,
       (let b = s.0.1 in omega arith),
-      take_goes g.L.Law.lawful g.L.Law.opens c.args.log.now.slots.items _ _ c.loop-next.next c.loop-next.invariant.2 c.in-Some.kept.cell c.in-Some.kept.value c.in-Some.kept.word
+      take_goes g.L.Law.terms c.args.log.now.slots.items _ _ c.loop-next.next c.loop-next.invariant.2 c.in-Some.kept.cell c.in-Some.kept.value c.in-Some.kept.word
           c.take-found.result _ s.0.0 (unkept_of c.args.seat.now.me.0.seat c.args.log.now.slots.items _ c.requires.kept _ _ s.0.3) c.take-found.ensures.told (s.2 refl) s.1 c.if-found-kept.false,
     )
 
@@ -69,6 +69,6 @@ returns-clause-seat g c = c.loop-next.invariant.0
 
 pub returns-clause-ok : goal.returns-clause-ok
 returns-clause-ok g c =
-    subst (λ (ks : List SeatHeld). Goes g.L.Law.lawful g.L.Law.opens c.args.seat.now.me (holding c.args.seat.now.me.0.seat at_taking at_reading ks) c.loop-next.seat.me)
+    subst (λ (ks : List SeatHeld). Goes g.L.Law.terms c.args.seat.now.me (holding c.args.seat.now.me.0.seat at_taking at_reading ks) c.loop-next.seat.me)
     (sym (held_on c.args.log.now.slots.items 0 0 c.loop-next.next (length c.args.log.now.slots.items) c.loop-next.invariant.1 (unkept_of c.args.seat.now.me.0.seat c.args.log.now.slots.items _ c.requires.kept _ _ c.in_default.ensures.none)))
     c.loop-next.invariant.2

@@ -1,5 +1,6 @@
-use Rattle.tlwords.proofs.OpenSteps.{opening_more}
+use Rattle.std.proofs.Common.{arith}
 use Rattle.tlwords.proofs.opening.first_words.Goals as goal
 
-pub loop-i-preserved : goal.loop-i-preserved
-loop-i-preserved c = opening_more c.args.values.now c.loop-i.i _ c.loop-i.words.items c.push-in-loop-i.new.self.items c.push-in-loop-i-2.new.self.items c.loop-i-test.true c.loop-i.invariant c.in_ok-push-3.ensures.items c.in_ok-push-4.ensures.items
+pub overflow_add-length : goal.overflow_add-length
+overflow_add-length c =
+    let v = c.extend_from_slice.new.self in let s = v.small in let o = v.ok.0 in let l = c.len.ensures in let r = c.requires.1 in omega arith

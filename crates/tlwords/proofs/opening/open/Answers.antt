@@ -1,16 +1,27 @@
 use Rattle.std.proofs.Common.{arith, ap, ◌∙◌, length, ◌≡◌, ◌+◌, ◌*◌}
-use Rattle.tlwords.proofs.OpenSteps.{opens_so, opening_length}
+use Rattle.tlwords.proofs.Openings.{opens_so, words_length, lie_named}
 use Rattle.tlwords.proofs.opening.open.Goals as goal
 
 pub of_words-made-requires : goal.of_words-made-requires
 of_words-made-requires g c =
-    rw (c.as_slice.ensures.value, c.of.ensures, c.of-2.ensures, c.in-Ok-copy_values.ensures) (opens_so g.L.Law.lawful g.L.Law.opens c.args.setting.now c.args.values.now c.in-Ok.words.items c.in-Ok.ensures c.requires.opens)
+    let l = c.if-store-room.false in let m = c.if-room-gt-MOST_ROOM.false in
+    rw (c.as_slice.ensures.value, c.of.ensures, c.of-2.ensures, c.of-3.ensures, c.in_ok-copied.ensures, c.in_ok-stored.ensures)
+    (opens_so g.L.Law.terms c.args.setting.now c.args.values.now c.args.store.now c.in_ok-words.words.items c.args.room (omega arith) (omega arith)
+    c.in_ok-words.ensures c.requires.opens c.requires.named)
 
 pub invariant_of-words : goal.invariant_of-words
 invariant_of-words g c =
-    let a = c.in-Ok-made.ensures in
-    let b : length c.as_slice.result.now ≡ 2 * length c.args.values.now + 2 =
-    ap length (c.as_slice.ensures.value ∙ c.in-Ok.ensures) ∙ (let l = opening_length c.args.values.now in omega arith) in
-    let d : length c.in-Ok.words.items ≡ 2 * length c.args.values.now + 2 =
-    ap length c.in-Ok.ensures ∙ (let l = opening_length c.args.values.now in omega arith) in
-    record { sized = a.0 ∙ b; empty = a.1; small = (let s = c.in-Ok.words.small in let o = c.in-Ok.words.ok.0 in omega arith) }
+    let l = c.if-store-room.false in let m = c.if-room-gt-MOST_ROOM.false in
+    let a = c.in-Ok.ensures in
+    let n = words_length c.args.values.now c.args.store.now c.args.room (omega arith) in
+    let b : length c.as_slice.result.now ≡ 2 * length c.args.values.now + 3 + c.args.room = ap length (c.as_slice.ensures.value ∙ c.in_ok-words.ensures) ∙ n in
+    let d : length c.in_ok-words.words.items ≡ 2 * length c.args.values.now + 3 + c.args.room = ap length c.in_ok-words.ensures ∙ n in
+    record {
+      sized = a.0 ∙ b;
+      empty = a.1;
+      small = (let s = c.in_ok-words.words.small in let o = c.in_ok-words.words.ok.0 in omega arith, omega arith);
+      keyed = ap (λ k. k.room) a.5;
+    }
+
+pub deal_all-requires-clause-store : goal.deal_all-requires-clause-store
+deal_all-requires-clause-store g c = let l = c.if-store-room.false in lie_named c.args.store.now c.args.values.now c.args.room (omega arith)

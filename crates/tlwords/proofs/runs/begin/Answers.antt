@@ -1,6 +1,7 @@
 use Rattle.std.proofs.Common.{◌∙◌, ap, length, sym}
 use Rattle.tlcore.proofs.Words.{resting_at}
 use Rattle.tlwords.proofs.RunSteps.{begun_fits}
+use Rattle.tlwords.proofs.Knows.{begun_knows}
 use Rattle.tlwords.specs.Runs.{noted}
 use Rattle.tlwords.proofs.Logs.{blank_kept}
 use Rattle.tlwords.proofs.Modes.{no_reads}
@@ -14,10 +15,15 @@ invariant_of-result g c =
     let p = c.into_parts-seat.ensures.parts in
     let f = c.into_parts-seat.ensures.fits in
     let t = c.begin-place.ensures.told in record {
-      table_is = (c.begin-place.ensures.seat.0 ∙ (ap (λ s. s.table_id) p.0 ∙ c.requires.0), c.requires.1 ∙ (ap (λ s. length s.me.0.base) (sym p.0) ∙ sym (ap (λ v. length v.base) t.is)));
-      fits = begun_fits g.L.Law.lawful g.L.Law.opens _ _ _ _ t f.0;
+      table_is = (
+        c.begin-place.ensures.seat.0 ∙ (ap (λ s. s.table_id) p.0 ∙ c.requires.table.0),
+        c.requires.table.1 ∙ (ap (λ s. length s.me.0.base) (sym p.0) ∙ sym (ap (λ v. length v.base) t.is)),
+      );
+      room_is = c.requires.room ∙ (ap (λ s. s.me.0.room) (sym p.0) ∙ sym (ap (λ v. v.room) t.is));
+      fits = begun_fits g.L.Law.terms _ _ _ _ t f.0;
       kept =
           let u = c.begin-place.new.seat.me.0.seat in
           blank_kept (noted c.args.mode u) _ _ _ (no_reads c.args.mode u (ap (λ v. v.seat.reads) t.is)) f.1 f.2;
       room = f.3 ∙ sym (ap (λ v. length v.base) t.is);
+      knows = begun_knows g.L.Law.terms _ _ _ _ t f.0.0 f.4;
     }

@@ -1,7 +1,21 @@
+use Rattle.tlwords.specs.Plays.{witness}
 use Rattle.tlwords.proofs.RunSteps.{learned}
+use Rattle.tlwords.proofs.Knows.{learned_knows, refreshed_knows}
 use Rattle.tlwords.proofs.runs.learn.Goals as goal
 
 pub returns-clause-learns : goal.returns-clause-learns
 returns-clause-learns g c =
-    learned g.L.Law.lawful g.L.Law.opens c.args.pass.now.seat.me c.args.other.now.seat.me c.tell.new.seat.me c.begin.new.seat.me c.tell.new.other.me c.refresh.new.seat.me _
+    learned g.L.Law.terms c.args.pass.now.seat.me c.args.other.now.seat.me c.tell.new.seat.me c.begin.new.seat.me c.tell.new.other.me c.refresh.new.seat.me _
     c.tell.ensures.seat.1 c.tell.ensures.other.1 c.begin.ensures.told c.refresh.ensures.told
+
+pub invariant_of-pass-clause-knows : goal.invariant_of-pass-clause-knows
+invariant_of-pass-clause-knows g c =
+    let p = c.args.pass.now in
+    learned_knows g.L.Law.terms p.seat.me c.tell.new.seat.me c.begin.new.seat.me (witness c.args.other.now.seat.me.0) _ p.full
+    c.tell.ensures.seat.1 c.begin.ensures.told p.fits.0 p.knows
+
+pub invariant_of-other-clause-knows : goal.invariant_of-other-clause-knows
+invariant_of-other-clause-knows g c =
+    let p = c.args.other.now in
+    refreshed_knows g.L.Law.terms p.seat.me c.tell.new.other.me c.refresh.new.seat.me p.full c.tell.ensures.other.1 c.refresh.ensures.told
+    p.fits.0 p.knows

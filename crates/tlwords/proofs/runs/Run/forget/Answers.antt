@@ -9,7 +9,9 @@ pub invariant_of-self : goal.invariant_of-self
 invariant_of-self g c =
     let s = c.args.self.now in record {
       table_is = s.table_is;
+      room_is = s.room_is;
       fits = s.fits;
       kept = c.forget.ensures.0 (noted s.mode s.seat.me.0.seat) s.kept;
       room = c.forget.ensures.4 ∙ s.room;
+      knows = s.knows;
     }

@@ -8,7 +8,8 @@ clear-requires g c = (noted c.args.self.mode c.args.self.seat.me.0.seat, c.args.
 
 pub invariant_of-result : goal.invariant_of-result
 invariant_of-result g c = record {
-  fits = left_fits g.L.Law.lawful g.L.Law.opens c.args.self.seat.me _ _ _ c.args.self.fits;
+  fits = left_fits g.L.Law.terms c.args.self.seat.me _ _ _ c.args.self.fits;
+  knows = c.args.self.knows;
   blank = c.clear.ensures.blank;
   unused = c.clear.ensures.size.0;
   room = c.clear.ensures.size.1 ∙ c.args.self.room;

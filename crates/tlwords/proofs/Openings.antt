@@ -1,0 +1,228 @@
+-- The rule at the opening, and the passes of an opening.
+use Rattle.std.proofs.Common.{◌≡◌, ◌≢◌, ℕ, zero, suc, ◌+◌, ◌-◌, ◌*◌, ◌/◌, ◌%◌, ◌^◌, ◌<◌, ◌≤◌, ◌⊎◌, inl, inr, false, Some, None, List, [], ◌∷◌, ◌++◌, length, map, slice_get, sym, refl, ap, ◌∙◌, subst, arith, All, take, drop, replicate}
+use mathlib.Core.Option.{some, some-injective, some-ne-none}
+use lib.ListN.{get_elem?}
+use Rattle.std.specs.Prelude.{slice_index_or}
+use Rattle.std.proofs.lemmas.List.{map-append, length-append, length-replicate}
+use Rattle.std.proofs.lemmas.List.Elements.{All-append}
+use Rattle.atomic_table.specs.Table.{opening}
+use Rattle.tlcore.specs.Schedules.{start, opened}
+use Rattle.tlcore.proofs.Growth.{get_exists}
+use Rattle.tlcore.proofs.Lists.{get-append_left, get_within}
+use Rattle.tlcore.proofs.Opacity.{start_ok}
+use Rattle.tlcore.proofs.Words.{CellWords}
+use Rattle.tlwords.specs.Ranges.{Range, Has, Names, IsStored, LieIn, range_named, ranges_named}
+use Rattle.tlwords.specs.Terms.{Terms, AreNamed}
+use Rattle.tlwords.specs.Seen.{Seen, opening_seen}
+use Rattle.tlwords.specs.Views.{Staging, View, untold, fresh, counts}
+use Rattle.tlwords.specs.Rule.{paired, opening_words, IsTold, Suits, Kept, Shelf, Ruled, first_view}
+use Rattle.tlwords.specs.Runs.{down, dealer, IsNew, KnowsStore}
+use Rattle.tlwords.specs.Plays.{Mine, newcomer}
+use Rattle.tlwords.proofs.Logs.{take_next}
+use Rattle.tlwords.proofs.Seens.{seen_refl}
+use Rattle.tlwords.proofs.Keeps.{untold_is}
+use Rattle.tlwords.proofs.OpenSteps.{blank_suits}
+
+-- ---- the opening
+
+paired_opened : (vs : List ℕ) → opening_words vs ≡ paired (opened vs)
+paired_opened [] = refl
+paired_opened (v ∷ vs) = ap (λ (l : List ℕ). 0 ∷ v ∷ l) (paired_opened vs)
+
+length_opened : (vs : List ℕ) → length (opened vs) ≡ length vs
+length_opened [] = refl
+length_opened (v ∷ vs) = ap suc (length_opened vs)
+
+only_one : {V : Type 0} (a : V) (P : V → Type 0) → P a → (j : ℕ) (v : V) → get_elem? (a ∷ []) j ≡ some v → P v
+only_one a P p zero v e = subst P (some-injective a v e) p
+only_one a P p (suc j) v e = absurd (some-ne-none v (sym e))
+
+some_one : {S : Type 0} (a b : S) → Some a ≡ Some b → b ≡ a
+some_one a b e = cc
+
+no_staging : {S N : Type 0} {A : Type 0} (v : View S N) (s : Staging) → v.staging ≡ None → v.staging ≡ Some s → A
+no_staging v s e f = absurd (cc)
+
+get_opened : (vs : List ℕ) (c : ℕ) (x : CellWords) → slice_get (opened vs) c ≡ Some x → slice_get vs c ≡ Some x.value
+get_opened [] c x e = absurd (cc)
+get_opened (v ∷ vs) zero x e = let q : record { lock = 0; value = v } ≡ x = cc in ap (λ (z : CellWords). Some z.value) q
+get_opened (v ∷ vs) (suc c) x e = get_opened vs c x e
+
+-- what stands in a part of the list stands in the list
+taken : (n i w : ℕ) (xs : List ℕ) → slice_get (take n xs) i ≡ Some w → slice_get xs i ≡ Some w
+taken zero i w xs e = absurd (cc)
+taken (suc n) i w [] e = absurd (cc)
+taken (suc n) zero w (x ∷ xs) e = e
+taken (suc n) (suc i) w (x ∷ xs) e = taken n i w xs e
+
+part_get : (n s i w : ℕ) (xs : List ℕ) → slice_get (take n (drop s xs)) i ≡ Some w → slice_get xs (s + i) ≡ Some w
+part_get n zero i w xs e = ap (λ (k : ℕ). slice_get xs k) (let z : 0 + i ≡ i = omega arith in z) ∙ taken n i w xs e
+part_get n (suc s) i w [] e = let none : slice_get [] i ≡ Some w = taken n i w [] e in absurd (cc)
+part_get n (suc s) i w (x ∷ xs) e = ap (λ (k : ℕ). slice_get (x ∷ xs) k) (let k : suc s + i ≡ suc (s + i) = omega arith in k) ∙ part_get n s i w xs e
+
+part_within : (n s i : ℕ) (xs : List ℕ) → i < length (take n (drop s xs)) → s + i < length xs
+part_within n s i xs l =
+    let b = get_exists (take n (drop s xs)) i l in
+    get_within xs (s + i) b.0 (part_get n s i b.0 xs b.1)
+
+-- a range that the values name is one that some value names
+named_by : (P : Range → Type 0) (store values : List ℕ) → ((v : ℕ) → P (range_named store v)) → (r : Range) → Has r (ranges_named store values) → P r
+named_by P store [] all r has = absurd has
+named_by P store (v ∷ vs) all r (inl e) = subst P (sym e) (all v)
+named_by P store (v ∷ vs) all r (inr has) = named_by P store vs all r has
+
+pub lie_named : (store values : List ℕ) (room : ℕ) → length store ≤ room → LieIn room (ranges_named store values)
+lie_named store values room l =
+    named_by (λ r. (i : ℕ) → i < length r.words → r.start + i < room) store values
+    (λ v i m. let w = part_within (v % 2 ^ 25) (v / 2 ^ 25) i store m in omega (arith, w, l))
+
+-- the ranges that the values name are stored, whatever stands behind the store's opening words
+pub named_stored : (store values more : List ℕ) (r : Range) → Has r (ranges_named store values) → IsStored (length store) (store ++ more) r
+named_stored store values more =
+    named_by (λ r. IsStored (length store) (store ++ more) r) store values
+    (λ v i w e.
+    let here = part_get (v % 2 ^ 25) (v / 2 ^ 25) i w store e in
+    let l = get_within store (v / 2 ^ 25 + i) w here in
+    (get-append_left store more (v / 2 ^ 25 + i) l ∙ here, l))
+
+module _ {S N : Type 0} (terms : Terms S N) (setting : S) (values store : List ℕ) (room : ℕ) (fits : length store ≤ room) where
+  shelf_so : room ≤ 2 ^ 24 → (ranges : List Range) → ((r : Range) → Has r ranges → IsStored (length store) (store ++ replicate (room - length store) 0) r)
+      → (base : List ℕ) → Shelf room ranges (length store) (store ++ replicate (room - length store) 0) (first_view {N = N} setting base room ranges ∷ [])
+  shelf_so small ranges stored base =
+      let first : View S N = first_view setting base room ranges in
+      let unstaged : (j : ℕ) (v : View S N) → get_elem? (first ∷ []) j ≡ some v → v.staging ≡ None = only_one first (λ v. v.staging ≡ None) refl in
+      record {
+        long =
+            let zeros : List ℕ = replicate (room - length store) 0 in
+            let a : length (store ++ zeros) ≡ length store + length zeros = length-append store zeros in
+            let b : length zeros ≡ room - length store = length-replicate (room - length store) 0 in
+            omega (arith, a, b, fits);
+        small = small;
+        finished = stored;
+        taken = λ j v s at e. no_staging v s (unstaged j v at) e;
+        apart = λ j v s r at e has. no_staging v s (unstaged j v at) e;
+        alone = λ j k u v s t ne at there e f. no_staging u s (unstaged j u at) e;
+        refused = omega (arith, fits);
+        once = only_one first (λ v. counts v.full ≤ v.rights) (omega arith);
+      }
+
+  kept_so : terms.opens setting (ranges_named store values) values → AreNamed terms setting (ranges_named store values) values
+      → Kept terms setting values room (ranges_named store values) (0 ∷ 0 ∷ opening_words values) (first_view setting values room (ranges_named store values) ∷ [])
+  kept_so fact named =
+      let ranges : List Range = ranges_named store values in
+      let first : View S N = first_view setting values room ranges in
+      let g : Seen N = opening_seen ranges in
+      let plain : IsTold {S = S} setting values g (λ _. 0) untold = untold_is setting values g (λ _. 0) in
+      let suit : Suits terms setting values room g (λ _. 0) first =
+      blank_suits terms setting values room g (λ _. 0) first refl refl refl (λ x e. refl)
+      (record { setting_is = λ x e. (some_one setting x e, refl); grows = seen_refl g; owned = λ n has. absurd has }) plain in
+      record {
+        world = start values 1;
+        notes = [];
+        owner = λ _. 0;
+        invariant = start_ok values 1;
+        words_are = ap (λ (l : List ℕ). 0 ∷ 0 ∷ l) (paired_opened values);
+        seats_are = refl;
+        cells_are = length_opened values;
+        notes_are = refl;
+        entries = λ i e n a b. absurd (cc);
+        opening = record { some = ranges; among = λ r has. has; opens = fact };
+        named = λ c x at is. named c x.value (get_opened values c x at) is;
+        lie = lie_named store values room fits;
+        suits = only_one first (λ v. Suits terms setting values room g (λ _. 0) v) suit;
+        rights = refl;
+        numbers = refl;
+      }
+
+pub opens_so : {S N : Type 0} (terms : Terms S N) (setting : S) (values store words : List ℕ) (room : ℕ) → length store ≤ room → room ≤ 2 ^ 24
+    → words ≡ (0 ∷ 0 ∷ opening_words values) ++ length store ∷ (store ++ replicate (room - length store) 0)
+    → terms.opens setting (ranges_named store values) values → AreNamed terms setting (ranges_named store values) values
+    → Ruled terms setting values room (opening words [] (first_view setting values room (ranges_named store values)))
+opens_so terms setting values store words room fits small is fact named =
+    record {
+      front = 0 ∷ 0 ∷ opening_words values;
+      tail = length store;
+      store = store ++ replicate (room - length store) 0;
+      ranges = ranges_named store values;
+      words_are = is;
+      kept = kept_so terms setting values store room fits fact named;
+      shelf = shelf_so terms setting values store room fits small (ranges_named store values)
+          (named_stored store values (replicate (room - length store) 0)) values;
+    }
+
+-- ---- the passes of an opening
+
+pub opening_snoc : (xs : List ℕ) (v : ℕ) → opening_words (xs ++ v ∷ []) ≡ opening_words xs ++ 0 ∷ v ∷ []
+opening_snoc [] v = refl
+opening_snoc (x ∷ xs) v = ap (λ (l : List ℕ). 0 ∷ x ∷ l) (opening_snoc xs v)
+
+pub opening_more : (vs : List ℕ) (i v : ℕ) (xs ys zs : List ℕ) → i < length vs → xs ≡ 0 ∷ 0 ∷ opening_words (take i vs) → ys ≡ xs ++ 0 ∷ []
+    → zs ≡ ys ++ slice_index_or vs i v ∷ [] → zs ≡ 0 ∷ 0 ∷ opening_words (take (i + 1) vs)
+opening_more vs i v xs ys zs l a b c =
+    c ∙ (ap (λ (l : List ℕ). l ++ slice_index_or vs i v ∷ []) (b ∙ ap (λ (l : List ℕ). l ++ 0 ∷ []) a)
+    ∙ (ap (λ (l : List ℕ). 0 ∷ 0 ∷ l) (two (opening_words (take i vs)) (slice_index_or vs i v) ∙ sym (opening_snoc (take i vs) (slice_index_or vs i v)))
+    ∙ sym (ap (λ (l : List ℕ). 0 ∷ 0 ∷ opening_words l) (take_next vs i v l))))
+  where
+    two : (xs : List ℕ) (v : ℕ) → (xs ++ 0 ∷ []) ++ v ∷ [] ≡ xs ++ 0 ∷ v ∷ []
+    two [] v = refl
+    two (x ∷ xs) v = ap (λ (l : List ℕ). x ∷ l) (two xs v)
+
+pub opening_length : (xs : List ℕ) → length (opening_words xs) ≡ 2 * length xs
+opening_length [] = refl
+opening_length (x ∷ xs) = let r : length (opening_words xs) ≡ 2 * length xs = opening_length xs in omega (arith, r)
+
+pub words_length : (values store : List ℕ) (room : ℕ) → length store ≤ room
+    → length ((0 ∷ 0 ∷ opening_words values) ++ length store ∷ (store ++ replicate (room - length store) 0)) ≡ 2 * length values + 3 + room
+words_length values store room l =
+    let zeros : List ℕ = replicate (room - length store) 0 in
+    let a : length ((0 ∷ 0 ∷ opening_words values) ++ length store ∷ (store ++ zeros)) ≡ length (0 ∷ 0 ∷ opening_words values) + length (length store ∷ (store ++ zeros)) =
+    length-append (0 ∷ 0 ∷ opening_words values) (length store ∷ (store ++ zeros)) in
+    let b : length (store ++ zeros) ≡ length store + length zeros = length-append store zeros in
+    let c : length zeros ≡ room - length store = length-replicate (room - length store) 0 in
+    let d : length (opening_words values) ≡ 2 * length values = opening_length values in
+    omega (arith, a, b, c, d, l)
+
+down_snoc : (m n : ℕ) → down m (suc n) ≡ down m n ++ (m - n) ∷ []
+down_snoc m zero = let e : m ≡ m - 0 = omega arith in ap (λ (z : ℕ). z ∷ []) e
+down_snoc m (suc n) =
+    let e : (m - 1) - n ≡ m - suc n = omega arith in
+    ap (λ (l : List ℕ). m ∷ l) (down_snoc (m - 1) n) ∙ ap (λ (z : ℕ). m ∷ (down (m - 1) n ++ z ∷ [])) e
+
+all_one : {X : Type 0} (P : X → Type 0) (y : X) → P y → All P (y ∷ [])
+all_one P y p zero d l = p
+all_one P y p (suc k) d l = absurd (omega arith)
+
+dealt_more : {X : Type 0} (P : X → Type 0) (f : X → ℕ) (xs : List X) (y : X) (n : ℕ) → length xs ≡ n → All P xs → map f xs ≡ down 64 n → P y → f y ≡ 64 - n
+    → (length (xs ++ y ∷ []) ≡ n + 1) × All P (xs ++ y ∷ []) × (map f (xs ++ y ∷ []) ≡ down 64 (n + 1))
+dealt_more P f xs y n len all names p name =
+    let e : suc n ≡ n + 1 = omega arith in
+    let l : length (xs ++ y ∷ []) ≡ length xs + 1 = length-append xs (y ∷ []) in (
+      omega (arith, l, len),
+      All-append P xs (y ∷ []) all (all_one P y p),
+      map-append f xs (y ∷ []) ∙ ((λ i. names i ++ name i ∷ []) ∙ (sym (down_snoc 64 n) ∙ ap (down 64) e)),
+    )
+
+pub dealt_all : {X : Type 0} (P : X → Type 0) (f : X → ℕ) (xs ys zs : List X) (y : X) (n : ℕ) → ys ≡ xs → zs ≡ ys ++ y ∷ [] → length xs ≡ n → All P xs
+    → map f xs ≡ down 64 n → P y → f y ≡ 64 - n → (length zs ≡ n + 1) × All P zs × (map f zs ≡ down 64 (n + 1))
+dealt_all {X} P f xs ys zs y n same is len all names p name =
+    let Q : List X → Type 0 = λ l. (length l ≡ n + 1) × All P l × (map f l ≡ down 64 (n + 1)) in
+    subst Q (sym (is ∙ ap (λ (l : List X). l ++ y ∷ []) same)) (dealt_more P f xs y n len all names p name)
+
+module _ {S N : Type 0} (setting : S) (base : List ℕ) (room : ℕ) (ranges : List Range) where
+  pub new_of : (m r : Mine S N) (k : ℕ) → m.0 ≡ dealer setting base room ranges k → r ≡ (newcomer m.0, [])
+      → IsNew setting base room ranges r.0 × (r.0.name ≡ 64 - k)
+  new_of m r k e is =
+      let f : r.0 ≡ newcomer (dealer setting base room ranges k) = ap (λ m. m.0) is ∙ ap newcomer e in
+      let name : r.0.name ≡ 64 - k = ap (λ (v : View S N). v.name) f in
+      (f ∙ ap (λ (n : ℕ). fresh (Some setting) base room ranges n 1) (sym name), name)
+
+  pub dealer_more : (m r : Mine S N) (k : ℕ) → m.0 ≡ dealer setting base room ranges k → r ≡ (record m.0 { rights = m.0.rights - 1 }, m.1)
+      → r.0 ≡ dealer setting base room ranges (k + 1)
+  dealer_more m r k e is =
+      let a : r.0 ≡ record m.0 { rights = m.0.rights - 1 } = ap (λ m. m.0) is in
+      let g : View S N → View S N = λ v. record v { rights = v.rights - 1 } in
+      let b : (64 - k) - 1 ≡ 64 - (k + 1) = omega arith in
+      a ∙ (ap g e ∙ ap (λ (n : ℕ). fresh (Some setting) base room ranges 0 n) b)
+
+  pub new_knows : (r : Mine S N) → IsNew setting base room ranges r.0 → LieIn room ranges → KnowsStore r.0 false
+  new_knows r is lie = subst (λ (v : View S N). KnowsStore v false) (sym is) (record { at_rest = refl; full = refl; ranges = lie })

@@ -1,0 +1,40 @@
+-- Ranges of the store: runs of store words that are written once, and the words that name them.
+use Rattle.std.specs.Prelude.{◌≡◌, ℕ, ◌+◌, ◌*◌, ◌/◌, ◌%◌, ◌^◌, ◌<◌, Some, List, [], ◌∷◌, length, map, take, drop, slice_get, ◌⊎◌}
+
+-- a finished range of the store: where it starts, and its words, which never change again
+pub record Range : Type 0 where
+  pub start : ℕ
+  pub words : List ℕ
+
+-- x stands in the list
+abbrev pub Has : {A : Type 0} → A → List A → Type 0
+Has x [] = ⊥
+Has x (y ∷ ys) = (x ≡ y) ⊎ Has x ys
+
+-- each of these ranges is one of those
+abbrev pub Within : List Range → List Range → Type 0
+Within ranges more = (r : Range) → Has r ranges → Has r more
+
+-- the word that names a range
+abbrev pub word_of : Range → ℕ
+word_of r = r.start * 2 ^ 25 + length r.words
+
+-- the word is 0, or names one of the ranges
+abbrev pub Names : List Range → ℕ → Type 0
+Names ranges word = (word ≡ 0) ⊎ ((r : Range) × Has r ranges × (word ≡ word_of r))
+
+-- the store has the words of the range at its place, and the places are taken
+abbrev pub IsStored : ℕ → List ℕ → Range → Type 0
+IsStored tail store r = (i w : ℕ) → slice_get r.words i ≡ Some w → (slice_get store (r.start + i) ≡ Some w) × (r.start + i < tail)
+
+-- the ranges lie in a store of so many words
+abbrev pub LieIn : ℕ → List Range → Type 0
+LieIn room ranges = (r : Range) → Has r ranges → (i : ℕ) → i < length r.words → r.start + i < room
+
+-- the range of the store that a word names
+abbrev pub range_named : List ℕ → ℕ → Range
+range_named store word = record { start = word / 2 ^ 25; words = take (word % 2 ^ 25) (drop (word / 2 ^ 25) store) }
+
+-- the ranges of the store that the values name
+abbrev pub ranges_named : List ℕ → List ℕ → List Range
+ranges_named store values = map (range_named store) values

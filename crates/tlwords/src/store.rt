@@ -1,0 +1,83 @@
+//! The store of a run: ranges of words that are written once and never change.
+#![tactic(auto)]
+
+ghost use Rattle.std.specs.Prelude.{◌≡◌, ◌≢◌, ℕ, ◌+◌, ◌<◌, ◌≤◌, List, Some, [], length, slice_get, IfOk, IfErr};
+ghost use Rattle.tlwords.specs.Ranges.{Has};
+ghost use Rattle.tlwords.specs.Plays.{IsSameSeat, Sees};
+ghost use Rattle.tlwords.specs.Views.{Staging};
+ghost use Rattle.tlwords.specs.Runs.{Stages, Finishes, Refuses};
+
+use crate::law::Law;
+use crate::rule::Place;
+use crate::runs::Run;
+use crate::store_steps::{advance, fetch_word, fill};
+use crate::words::Words;
+
+/// A range of the store.
+#[derive(Clone, Copy, Debug, PartialEq, Eq)]
+pub struct Range {
+    /// The index of its first word in the store, from 0.
+    pub start: usize,
+    /// How many words it has.
+    pub len: usize,
+}
+
+/// The store has no room for the words, or had none for those that this session wanted to stage before.
+#[derive(Clone, Copy, Debug, PartialEq, Eq)]
+pub struct StoreFull;
+
+impl<'w, L: Law> Run<'w, L> {
+    /// The word `index`, from 0, of a finished range that this session has seen. It is one load.
+    pub fn load(&mut self, range: Range, index: usize) -> u64
+        requires { (words : List ℕ) × Has (record { start = range.start; words = words }) self.old.seat.me.0.seen.ranges × (length words ≡ range.len) × (index < range.len) }
+        ensures value { (words : List ℕ) → Has (record { start = range.start; words = words }) self.old.seat.me.0.seen.ranges → length words ≡ range.len → slice_get words index ≡ Some result }
+        ensures sees { Sees L.terms self.old.seat.me.0 self.new.seat.me.0 }
+        ensures is { self.new.seat.me.0 ≡ record self.old.seat.me.0 { seen = self.new.seat.me.0.seen } }
+        ensures same { (self.new.words.now ≡ self.old.words.now) × IsSameSeat self.old.seat self.new.seat × (self.new.place ≡ self.old.place) × (self.new.count ≡ self.old.count) × (self.new.mode ≡ self.old.mode) × (self.new.over ≡ self.old.over) × (self.new.log ≡ self.old.log) × (self.new.full ≡ self.old.full) }
+    {
+        fetch_word(self.words, &mut self.seat, range.start + index)
+    }
+
+    /// Writes these words into the store, as a range that is finished and never changes. It takes no memory, and the cells stay.
+    ///
+    /// # Errors
+    ///
+    /// `StoreFull` where the words that are left are too few, and from then on for each staging of this session, without a step.
+    pub fn stage(&mut self, words: &[u64]) -> Result<Range, StoreFull>
+        requires { words.now ≢ [] }
+        ensures ok { IfOk result (λ range. (range.len ≡ length words.now) × Stages L.terms words.now range.start self.old.seat.me self.new.seat.me) }
+        ensures err { IfErr result (λ _. Refuses L.terms (length words.now) self.old.seat.me self.new.seat.me) }
+        ensures same { (self.new.words.now ≡ self.old.words.now) × IsSameSeat self.old.seat self.new.seat × (self.new.place ≡ self.old.place) × (self.new.count ≡ self.old.count) × (self.new.mode ≡ self.old.mode) × (self.new.over ≡ self.old.over) × (self.new.log ≡ self.old.log) }
+    {
+        if self.full {
+            return Err(StoreFull);
+        }
+        let room = self.words.room;
+        let start = advance(self.words, &mut self.seat, words);
+        if words.len() > room || start > (room - words.len()) as u64 {
+            self.full = true;
+            return Err(StoreFull);
+        }
+        let start = start as usize;
+        fill_all(self.words, &mut self.seat, start, words);
+        Ok(Range {
+            start,
+            len: words.len(),
+        })
+    }
+}
+
+// Stores the words of the range that the seat has taken, from the first to the last.
+fn fill_all<L: Law>(words: &Words<L>, seat: &mut Place<L>, start: usize, range: &[u64])
+    requires table { seat.old.table_id ≡ words.now.table.shared.table_id }
+    requires setting { (y : L.Setting) × (seat.old.me.0.setting ≡ Some y) }
+    requires sizes { (words.now.cells ≡ length seat.old.me.0.base) × (words.now.room ≡ seat.old.me.0.room) × (start + length range.now ≤ words.now.room) }
+    requires some_words { range.now ≢ [] }
+    requires staging { seat.old.me.0.staging ≡ Some (record { start = start; words = range.now; done = 0 }) }
+    ensures seat { IsSameSeat seat.old seat.new }
+    ensures finished { Finishes L.terms range.now start seat.old.me seat.new.me }
+{
+    for (i, word) in range.iter().enumerate() {
+        fill(words, seat, start + i, *word);
+    }
+}

@@ -1,0 +1,76 @@
+//! Single steps on the store: the tail, and the words that are written once. Each is one load, store or fetch-and-add of one word.
+#![tactic(auto)]
+
+ghost use Rattle.std.specs.Prelude.{◌≡◌, ◌≢◌, ℕ, ◌+◌, ◌<◌, ◌≤◌, Some, None, [], length, min, slice_get};
+ghost use Rattle.tlwords.specs.Plays.{IsSameSeat, Advances, Fills, Fetches};
+ghost use Rattle.tlwords.specs.Views.{Staging};
+
+use crate::law::Law;
+use crate::plays::{Advance, Fetch, Fill, Said};
+use crate::rule::Place;
+use crate::words::Words;
+use std::marker::Brand;
+
+fn advance_saying<L: Law, G: Said<L::Note>>(
+    words: &Words<L>,
+    seat: &mut Place<L>,
+    range: &[u64],
+) -> u64
+    requires table { seat.old.table_id ≡ words.now.table.shared.table_id }
+    requires setting { (y : L.Setting) × (seat.old.me.0.setting ≡ Some y) }
+    requires sizes { (words.now.cells ≡ length seat.old.me.0.base) × (words.now.room ≡ seat.old.me.0.room) }
+    requires said { G.words ≡ range.now }
+    requires some_words { range.now ≢ [] }
+    requires open { (seat.old.me.0.staging ≡ None) × (seat.old.me.0.full ≡ None) × (1 ≤ seat.old.me.0.rights) }
+    ensures seat { IsSameSeat seat.old seat.new }
+    ensures told { Advances L.terms range.now seat.old.me result seat.new.me }
+{
+    let count = range.len().min(words.room + 1);
+    words
+        .table
+        .shared
+        .fetch_add::<Advance<L, G>>(seat, 2 * words.cells + 2, count as u64)
+}
+
+/// Advances the tail of the store by the number of these words, or by the room and one where that is less, so that it never wraps. The
+/// result is the tail before.
+pub(crate) fn advance<L: Law>(words: &Words<L>, seat: &mut Place<L>, range: &[u64]) -> u64
+    requires table { seat.old.table_id ≡ words.now.table.shared.table_id }
+    requires setting { (y : L.Setting) × (seat.old.me.0.setting ≡ Some y) }
+    requires sizes { (words.now.cells ≡ length seat.old.me.0.base) × (words.now.room ≡ seat.old.me.0.room) }
+    requires some_words { range.now ≢ [] }
+    requires open { (seat.old.me.0.staging ≡ None) × (seat.old.me.0.full ≡ None) × (1 ≤ seat.old.me.0.rights) }
+    ensures seat { IsSameSeat seat.old seat.new }
+    ensures told { Advances L.terms range.now seat.old.me result seat.new.me }
+{
+    advance_saying::<L, Brand>(words, seat, range)
+}
+
+/// Stores the next word of the range that the seat has taken, at this index of the store.
+pub(crate) fn fill<L: Law>(words: &Words<L>, seat: &mut Place<L>, offset: usize, word: u64)
+    requires table { seat.old.table_id ≡ words.now.table.shared.table_id }
+    requires setting { (y : L.Setting) × (seat.old.me.0.setting ≡ Some y) }
+    requires sizes { (words.now.cells ≡ length seat.old.me.0.base) × (words.now.room ≡ seat.old.me.0.room) × (offset < words.now.room) }
+    requires staging { (s : Staging) × (seat.old.me.0.staging ≡ Some s) × (offset ≡ s.start + s.done) × (slice_get s.words s.done ≡ Some word) }
+    ensures seat { IsSameSeat seat.old seat.new }
+    ensures told { Fills L.terms seat.old.me seat.new.me }
+{
+    words
+        .table
+        .shared
+        .store::<Fill<L>>(seat, 2 * words.cells + 3 + offset, word);
+}
+
+/// Loads the word of the store at this index.
+pub(crate) fn fetch_word<L: Law>(words: &Words<L>, seat: &mut Place<L>, offset: usize) -> u64
+    requires table { seat.old.table_id ≡ words.now.table.shared.table_id }
+    requires setting { (y : L.Setting) × (seat.old.me.0.setting ≡ Some y) }
+    requires sizes { (words.now.cells ≡ length seat.old.me.0.base) × (words.now.room ≡ seat.old.me.0.room) × (offset < words.now.room) }
+    ensures seat { IsSameSeat seat.old seat.new }
+    ensures told { Fetches L.terms offset seat.old.me result seat.new.me }
+{
+    words
+        .table
+        .shared
+        .load::<Fetch<L>>(seat, 2 * words.cells + 3 + offset)
+}
