@@ -11,8 +11,8 @@ use Rattle.tlcore.proofs.Lists.{get_within}
 use Rattle.tlcore.proofs.Words.{CellWords}
 use Rattle.tlwords.specs.declared.closing.ClosedCell.{ClosedCell}
 use Rattle.tlwords.specs.declared.closing.ClosedWords.{ClosedWords}
-use Rattle.tlwords.specs.Ranges.{Range, Has, IsStored}
-use Rattle.tlwords.specs.Terms.{Terms}
+use Rattle.tlwords.specs.Ranges.{Range, Has, Names, IsStored}
+use Rattle.tlwords.specs.Terms.{Terms, Opened}
 use Rattle.tlwords.specs.Seen.{Seen, Legal, Agree}
 use Rattle.tlwords.specs.Views.{View}
 use Rattle.tlwords.specs.Rule.{lock_at, value_at, tail_at, store_at, Kept, Ruled}
@@ -106,6 +106,18 @@ module _ {S N : Type 0} (terms : Terms S N) (setting : S) (base : List ℕ) (roo
       let t : closed.tail ≡ r.tail = tail_same in
       (store_same (range.start + i) x b.0, omega (arith, l, t))
 
+  -- the cell as the machine has it
+  cell_same : (c : ℕ) (x : ClosedCell) → slice_get closed.cells.items c ≡ Some x
+      → (y : CellWords) × (slice_get w.cells c ≡ Some y) × (y.lock ≡ x.lock) × (y.value ≡ x.value)
+  cell_same c x f =
+      let y : (y : CellWords) × (slice_get w.cells c ≡ Some y) =
+      get_exists w.cells c (let l : c < length closed.cells.items = get_within closed.cells.items c x f in let m : n ≡ length w.cells = many in omega (arith, l, m, cells_count)) in
+      let lock : (y.0).lock ≡ x.lock =
+      sym (lock_word r.front w k.words_are c y.0 y.1) ∙ front_word (lock_at c) x.lock (lock_within r.front w k.words_are c y.0 y.1) (cells_are c x f).0 in
+      let shows : (y.0).value ≡ x.value =
+      sym (value_word r.front w k.words_are c y.0 y.1) ∙ front_word (value_at c) x.value (value_within r.front w k.words_are c y.0 y.1) (cells_are c x f).1 in
+      (y.0, y.1, lock, shows)
+
   shown : Shows base w.history closed.clock closed.cells.items
   shown =
       record {
@@ -114,22 +126,22 @@ module _ {S N : Type 0} (terms : Terms S N) (setting : S) (base : List ℕ) (roo
             sym ((k.invariant).consistent.clock) ∙ (sym (clock_word r.front w k.words_are) ∙ front_word 1 closed.clock l clock_at);
         count = cells_count ∙ (many ∙ k.cells_are);
         free = λ c v x f e.
-            let y : (y : CellWords) × (slice_get w.cells c ≡ Some y) =
-            get_exists w.cells c (let l : c < length closed.cells.items = get_within closed.cells.items c x f in let m : n ≡ length w.cells = many in omega (arith, l, m, cells_count)) in
-            let lock : (y.0).lock ≡ x.lock =
-            sym (lock_word r.front w k.words_are c y.0 y.1) ∙ front_word (lock_at c) x.lock (lock_within r.front w k.words_are c y.0 y.1) (cells_are c x f).0 in
-            let shows : (y.0).value ≡ x.value =
-            sym (value_word r.front w k.words_are c y.0 y.1) ∙ front_word (value_at c) x.value (value_within r.front w k.words_are c y.0 y.1) (cells_are c x f).1 in
+            let y : (y : CellWords) × (slice_get w.cells c ≡ Some y) × (y.lock ≡ x.lock) × (y.value ≡ x.value) = cell_same c x f in
             let ok : (v ≡ version w.history c) × ((y.0).value ≡ value base w.history c) × ((i u : ℕ) → deed w.history c i ≡ Will u → ⊥) =
-            (k.invariant).consistent.cells c v y.0 y.1 (lock ∙ e) in
-            (ok.0, sym shows ∙ ok.1, ok.2);
+            (k.invariant).consistent.cells c v y.0 y.1 (y.2 ∙ e) in
+            (ok.0, sym y.3 ∙ ok.1, ok.2);
       }
+
+  named : (c : ℕ) (x : ClosedCell) → slice_get closed.cells.items c ≡ Some x → terms.ranged setting c → Names r.ranges x.value
+  named c x f is =
+      let y : (y : CellWords) × (slice_get w.cells c ≡ Some y) × (y.lock ≡ x.lock) × (y.value ≡ x.value) = cell_same c x f in
+      subst (λ (v : ℕ). Names r.ranges v) y.3 (k.named c y.0 y.1 is)
 
   legal : Legal terms setting base last
   legal = legal_of terms setting base room r.ranges w k.notes k.invariant k.entries
 
   pub closes : Closes terms setting base closed
-  closes = record { seen = last; legal = legal; shows = shown; stored = stored }
+  closes = record { seen = last; legal = legal; shows = shown; stored = stored; opened = k.opening; named = named }
 
   pub closes_for : (id : ℕ) (v : View S N) → get_elem? s.views id ≡ some v → ClosesFor terms v closed
   closes_for id v there y e =
@@ -140,6 +152,8 @@ module _ {S N : Type 0} (terms : Terms S N) (setting : S) (base : List ℕ) (roo
           legal = subst (λ (z : S × List ℕ). Legal terms z.0 z.1 last) (λ j. (sym i.0 j, sym i.1 j)) legal;
           shows = subst (λ (o : List ℕ). Shows o w.history closed.clock closed.cells.items) (sym i.1) shown;
           stored = stored;
+          opened = subst (λ (z : S × List ℕ). Opened terms z.0 r.ranges z.1) (λ j. (sym i.0 j, sym i.1 j)) k.opening;
+          named = λ c x at is. named c x at (subst (λ (z : S). terms.ranged z c) i.0 is);
         },
         f.own.grows,
         subst (λ (z : S × List ℕ). Agree terms z.0 z.1 last v.mine) (λ j. (sym i.0 j, sym i.1 j)) f.mine,

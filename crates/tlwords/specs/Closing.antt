@@ -5,8 +5,8 @@ use lib.ListN.{get_elem?}
 use Rattle.tlcore.specs.History.{Entry, Will, version, value, deed}
 use Rattle.tlwords.specs.declared.closing.ClosedCell.{ClosedCell}
 use Rattle.tlwords.specs.declared.closing.ClosedWords.{ClosedWords}
-use Rattle.tlwords.specs.Ranges.{Range, Has, IsStored}
-use Rattle.tlwords.specs.Terms.{Terms}
+use Rattle.tlwords.specs.Ranges.{Range, Has, Names, IsStored}
+use Rattle.tlwords.specs.Terms.{Terms, Opened}
 use Rattle.tlwords.specs.Seen.{Seen, SeenGrows, Legal, Agree}
 use Rattle.tlwords.specs.Views.{View}
 use Rattle.tlwords.specs.Rule.{lock_at, value_at, store_at}
@@ -33,12 +33,15 @@ pub record Shows (base : List ℕ) (h : List Entry) (clock : ℕ) (cells : List 
   pub free : (c v : ℕ) (x : ClosedCell) → slice_get cells c ≡ Some x → x.lock ≡ 2 * v
       → (v ≡ version h c) × (x.value ≡ value base h c) × ((i u : ℕ) → deed h c i ≡ Will u → ⊥)
 
--- there is one lawful history, which the words show, and the store has the finished ranges
+-- there is one lawful history, of a lawful opening, which the words show; the store has the finished ranges; and what a range cell holds
+-- at the end, locked or free, is 0 or names one of these
 pub record Closes {S N : Type 0} (terms : Terms S N) (setting : S) (base : List ℕ) (words : ClosedWords) : Type 0 where
   pub seen : Seen N
   pub legal : Legal terms setting base seen
   pub shows : Shows base seen.history words.clock words.cells.items
   pub stored : (r : Range) → Has r seen.ranges → IsStored words.tail words.store.items r
+  pub opened : Opened terms setting seen.ranges base
+  pub named : (c : ℕ) (x : ClosedCell) → slice_get words.cells.items c ≡ Some x → terms.ranged setting c → Names seen.ranges x.value
 
 -- what the pass had seen grows into it, and its calls agree with it
 abbrev pub ClosesFor : {S N : Type 0} → Terms S N → View S N → ClosedWords → Type 0

@@ -62,6 +62,7 @@ pub fn open<L: Law>(
     requires opens { L.terms.opens setting.now (ranges_named store.now values.now) values.now }
     requires named { AreNamed L.terms setting.now (ranges_named store.now values.now) values.now }
     ensures sizes { IfOk result (λ r. (r.0.cells ≡ length values.now) × (r.0.room ≡ room)) }
+    ensures key { IfOk result (λ r. (r.0.table.shared.key.setting.value ≡ setting.now) × (r.0.table.shared.key.values.value.items ≡ values.now) × (r.0.table.shared.key.store.value.items ≡ store.now)) }
     ensures passes { IfOk result (λ r. All (λ p. IsDealt setting.now values.now room (ranges_named store.now values.now) r.0.table.shared.table_id p.seat) r.1.items) }
     ensures names { IfOk result (λ r. map (λ p. p.seat.me.0.name) r.1.items ≡ down 64 sessions) }
     ensures shape { (IsBadShape sessions room → result ≡ Err BadShape) × (result ≡ Err BadShape → IsBadShape sessions room) }

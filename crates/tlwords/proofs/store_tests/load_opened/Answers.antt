@@ -1,0 +1,33 @@
+use Rattle.std.proofs.Common.{◌≡◌, ◌-◌, Some, List, ℕ, [], ◌∷◌, inl, refl, sym, ap, ◌∙◌, subst, arith, get_or}
+use Rattle.std.specs.Prelude.{vec_len}
+use Rattle.tlwords.specs.Ranges.{Range, Has, range_named}
+use Rattle.tlwords.proofs.store_tests.load_opened.Goals as goal
+
+-- the range of the last two words
+abbrev last_two : Range
+last_two = record { start = 1; words = 8 ∷ 9 ∷ [] }
+
+there : (ranges : List Range) → ranges ≡ range_named (7 ∷ 8 ∷ 9 ∷ []) 33554434 ∷ [] → Has last_two ranges
+there ranges e = subst (λ (rs : List Range). Has last_two rs) (sym e) (inl refl)
+
+pub load-first-requires : goal.load-first-requires
+load-first-requires c =
+    let pass = c.in_ok-pass.pass in
+    let f = c.in_ok-pass.ensures.cases in
+    let last : ℕ = vec_len c.in-Ok.passes - 1 in
+    let dealt = c.in-Ok.ensures.passes last pass (omega arith) in
+    let same = c.in_ok-pass.ensures.value pass (omega arith) in
+    let popped : pass ≡ get_or c.in-Ok.passes.items last pass = cc in
+    let has = there _ (ap (λ p. p.seat.me.0.seen.ranges) popped ∙ ap (λ v. v.seen.ranges) dealt.new) in
+    (8 ∷ 9 ∷ [], c.begin-run.ensures.begins.sees.own.2 last_two has, refl, omega arith)
+
+pub load-second-requires : goal.load-second-requires
+load-second-requires c =
+    let pass = c.in_ok-pass.pass in
+    let f = c.in_ok-pass.ensures.cases in
+    let last : ℕ = vec_len c.in-Ok.passes - 1 in
+    let dealt = c.in-Ok.ensures.passes last pass (omega arith) in
+    let same = c.in_ok-pass.ensures.value pass (omega arith) in
+    let popped : pass ≡ get_or c.in-Ok.passes.items last pass = cc in
+    let has = there _ (ap (λ p. p.seat.me.0.seen.ranges) popped ∙ ap (λ v. v.seen.ranges) dealt.new) in
+    (8 ∷ 9 ∷ [], c.load-first.ensures.sees.own.2 last_two (c.begin-run.ensures.begins.sees.own.2 last_two has), refl, omega arith)
