@@ -1,5 +1,8 @@
 -- Labels replaced in proofs: one assertion of a renamed library has another label, and each has its proof renamed.
-use Rattle.std.proofs.Common.{◌≡◌, ℕ, zero, suc, true, false, List, [], ◌∷◌, None, Some, map, set, refl, sym, ap, subst, ◌∙◌, arith}
+use Rattle.std.proofs.Common.{◌≡◌, ℕ, zero, suc, Bool, true, false, ◌⊎◌, inl, inr, List, [], ◌∷◌, None, Some, map, set, refl, sym, ap, subst, ◌∙◌, arith}
+use Rattle.std.specs.Prelude.{◌||◌}
+use Rattle.std.proofs.lemmas.Bool.{cases_Bool}
+use Rattle.mmsyntax.proofs.Names.{same_bytes}
 use Rattle.std.specs.List.{list_any}
 use Rattle.std.specs.Str.{bytes_eq}
 use Rattle.mmsyntax.specs.declared.statement.Step.{Step}
@@ -62,3 +65,38 @@ rename_place old new (Some x ∷ es) (suc p) e at own alone =
     let other = alone.others zero x refl (λ z. omega arith) in
     ap (λ y. y ∷ rename old new (living es)) (relabelling old new (label_of x) x (replacing-other old new (label_of x) other))
     ∙ ap (λ ys. citing old new x ∷ ys) (rename_place old new es p e at own (alone-later (Some x) es old p alone))
+
+-- ---- what is cited then
+
+-- steps with a label in the place of another cite the new label, or what they cited before
+steps_renamed : (old new w : List ℕ) (steps : List Step) → list_any (is_citation w) (map (step_relabelled (replacing old new)) steps) ≡ true
+    → (w ≡ new) ⊎ (list_any (is_citation w) steps ≡ true)
+steps_renamed old new w [] h = absurd cc
+steps_renamed old new w (Float i ∷ steps) h = steps_renamed old new w steps h
+steps_renamed old new w (Hyp k ∷ steps) h = steps_renamed old new w steps h
+steps_renamed old new w (Cite l ∷ steps) h =
+    let rest = list_any (is_citation w) steps in
+    let rest' = list_any (is_citation w) (map (step_relabelled (replacing old new)) steps) in
+    elim (cases_Bool (bytes_eq old l)) [
+      | inl y ↦ elim (cases_Bool (bytes_eq w new)) [
+        | inl own ↦ inl (same_bytes w new own)
+        | inr other ↦
+            let here : bytes_eq w (replacing old new l) ≡ false = ap (bytes_eq w) (replacing-old old new l y) ∙ other in
+            later (bytes_eq w l) rest (steps_renamed old new w steps (ap (λ b. b || rest') (sym here) ∙ h))
+      ]
+      | inr n ↦
+          let kept : bytes_eq w (replacing old new l) ≡ bytes_eq w l = ap (bytes_eq w) (replacing-other old new l n) in
+          elim (cases_Bool (bytes_eq w l)) [
+            | inl y ↦ inr (ap (λ b. b || rest) y)
+            | inr other ↦
+                later (bytes_eq w l) rest (steps_renamed old new w steps (ap (λ b. b || rest') (sym (kept ∙ other)) ∙ h))
+          ]
+    ]
+  where
+    later : (b r : Bool) → (w ≡ new) ⊎ (r ≡ true) → (w ≡ new) ⊎ ((b || r) ≡ true)
+    later b r (inl own) = inl own
+    later true r (inr there) = inr refl
+    later false r (inr there) = inr there
+
+pub cites-renamed : (old new w : List ℕ) (e : Ranked) → cites w (citing old new e) ≡ true → (w ≡ new) ⊎ (cites w e ≡ true)
+cites-renamed old new w e h = steps_renamed old new w e.assertion.proof h

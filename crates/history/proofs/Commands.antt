@@ -1,6 +1,7 @@
 -- What each command does to the library of some entries, by the places of its labels.
 use Rattle.std.proofs.Common.{◌≡◌, ℕ, Bool, true, false, List, [], ◌∷◌, ◌++◌, Option, None, Some, Result, Ok, Err, length, set, refl, sym, ap, subst, ◌∙◌}
 use Rattle.std.specs.Prelude.{nat_le, ◌==◌}
+use Rattle.std.specs.List.{list_any}
 use Rattle.std.specs.Str.{bytes_eq}
 use Rattle.std.specs.Option.{is_some}
 use mathlib.Core.Bool.{not}
@@ -13,7 +14,7 @@ use Rattle.commands.specs.declared.reason.Reason.{Reason}
 use Rattle.commands.specs.declared.reason.Reason.TheVariants as reason
 use Rattle.commands.specs.Library.{Setting, label_of}
 use Rattle.commands.specs.Edits.{Edited, Tests, tested, of_found, where_so, has, found, is_labelled, changed, without}
-use Rattle.commands.specs.Edits.{is_axiom, unranked, unlawful, taken, added, rename, add_tests}
+use Rattle.commands.specs.Edits.{is_axiom, unranked, unlawful, taken, uncited, cites_unknown, added, rename, add_tests}
 use Rattle.commands.proofs.Places.{find_nowhere}
 use Rattle.history.specs.Entries.{Entries, living, StandsIn}
 use Rattle.history.specs.Places.{Places, IsIndex, FoundAt}
@@ -85,6 +86,15 @@ add_front s lib rank a ranked lawful free =
 pub add_free : (s : Setting) (lib : List Ranked) (rank : ℕ) (a : Assertion) → first_reason (add_tests s lib rank a) ≡ None → has lib a.label ≡ false
 add_free s lib rank a h =
     so_not (has lib a.label) reason.LabelTaken (first-parts (taken lib a.label) _ (first-parts (unlawful s a.label) _ (first-parts (unranked rank) _ h).1).1).0
+
+-- and cites known labels alone
+pub add_known : (s : Setting) (lib : List Ranked) (rank : ℕ) (a : Assertion) → first_reason (add_tests s lib rank a) ≡ None
+    → list_any (cites_unknown lib) a.proof ≡ false
+add_known s lib rank a h =
+    let labelled = (first-parts (unlawful s a.label) _ (first-parts (unranked rank) _ h).1).1 in
+    let theorem = (first-parts (taken lib a.label) _ labelled).1 in
+    let proof = (first-parts (where_so (is_axiom a.kind) reason.AxiomNotAllowed) _ theorem).1 in
+    so_not (list_any (cites_unknown lib) a.proof) reason.CitesUnknown (first-parts (uncited lib a.proof) _ proof).0
 
 -- ---- labels
 

@@ -6,8 +6,14 @@ pub mod Lines
 pub mod Changing
 pub mod Indexes
 pub mod Undoing
+pub mod Listed
 pub mod Openings
 pub mod Citations
+pub mod Ascending
+pub mod Covering
+pub mod Members
+pub mod Reciting
+pub mod Known
 pub mod Commands
 pub mod Taking
 pub mod Fronts

@@ -235,7 +235,7 @@ draft_noted t m n frames ns after es now p former new count count' start d k at 
 
 -- ---- a draft with one more place
 
-undone-opened : (m : Places) (ns : List Note) (es : Entries) → CanUndo m ns es → undone ns (es ++ None ∷ []) ≡ undone ns es ++ None ∷ []
+pub undone-opened : (m : Places) (ns : List Note) (es : Entries) → CanUndo m ns es → undone ns (es ++ None ∷ []) ≡ undone ns es ++ None ∷ []
 undone-opened m [] es h = refl
 undone-opened m (n ∷ ns) es h =
     ap (taken_back n) (undone-opened m ns es h.0) ∙ set-left (undone ns es) (None ∷ []) n.place n.former h.1.within

@@ -17,8 +17,9 @@ use Rattle.commands.specs.Transactions.{apply}
 use Rattle.history.specs.declared.notes.Note.{Note}
 use Rattle.history.specs.declared.editor.ApplyError.{ApplyError}
 use Rattle.history.specs.declared.editor.ApplyError.TheVariants.{Refused, NoMemory}
-use Rattle.history.specs.Entries.{Entries, living, StandsIn, AreFramed}
+use Rattle.history.specs.Entries.{Entries, living, standing, StandsIn, AreFramed}
 use Rattle.history.specs.Places.{Places, place_in, IsIndex, HasOnly, StandsSomewhere}
+use Rattle.history.specs.Citers.{Citers, AreAscending, Covers}
 
 -- ---- changes of one assertion
 
@@ -93,13 +94,14 @@ AreNotesFramed t (n ∷ ns) frames =
 
 -- ---- drafts
 
--- what a draft holds: the setting, the library at the start of the transaction, the assertions now by their places, the frames beside
--- them, and the changes that are noted
+-- what a draft holds: the setting, the library at the start of the transaction, the assertions now by their places, beside them their
+-- frames and who may cite them, and the changes that are noted
 pub record Drafted : Type 0 where
   pub setting : Setting
   pub start : List Ranked
   pub entries : Entries
   pub frames : List Frame
+  pub citers : Citers
   pub noted : List Note
 
 -- the library now
@@ -113,6 +115,14 @@ pub record IsDraft (t : Tables) (m : Places) (frames : List Frame) (notes : List
   pub framed : AreFramed t entries frames
   pub can_undo : CanUndo m notes entries
   pub noted : AreNotesFramed t notes frames
+
+-- what is always true of a draft's lists of citers: there is one for each place, and they cover the assertions now, and those at the start
+-- of the transaction
+pub record AreCiters (citers : Citers) (notes : List Note) (entries : Entries) : Type 0 where
+  pub long : length citers ≡ length entries
+  pub ascending : AreAscending citers
+  pub covers_now : Covers citers entries
+  pub covers_start : Covers citers (undone notes entries)
 
 -- how many assertions there are, now and at the start of the transaction
 pub record IsCounted (now start : ℕ) (notes : List Note) (entries : Entries) : Type 0 where
@@ -136,15 +146,23 @@ TakesAll old cs (Ok replies) new = apply old.setting (now_in old) cs ≡ Ok (rec
 TakesAll old cs (Err (Refused refused)) new = apply old.setting (now_in old) cs ≡ Err refused
 TakesAll old cs (Err NoMemory) new = Unit {0}
 
+-- a library as it is opened, before any command
+pub record IsOpened (s : Setting) (lib : List Ranked) (d : Drafted) : Type 0 where
+  pub setting : d.setting ≡ s
+  pub start : d.start ≡ lib
+  pub entries : d.entries ≡ standing lib
+  pub noted : d.noted ≡ []
+
 -- setting and start stay while commands are taken
 pub record KeepsStart (old new : Drafted) : Type 0 where
   pub setting : new.setting ≡ old.setting
   pub start : new.start ≡ old.start
 
--- setting, start and frames stay, and one place has this in place of what it had
+-- frames and citers stay, and one place has this in place of what it had
 pub record Exchanges (old : Drafted) (p : ℕ) (o : Option Ranked) (new : Drafted) : Type 0 where
   pub entries : new.entries ≡ set old.entries p o
   pub frames : new.frames ≡ old.frames
+  pub citers : new.citers ≡ old.citers
 
 -- the library is a new start, and nothing is noted
 pub record Settles (old : Drafted) (lib : List Ranked) (new : Drafted) : Type 0 where

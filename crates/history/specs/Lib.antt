@@ -4,6 +4,7 @@ pub mod Entries
 pub mod Places
 pub mod Testing
 pub mod Listing
+pub mod Citers
 pub mod Drafts
 pub mod Refusals
 pub mod Openings

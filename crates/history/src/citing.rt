@@ -2,11 +2,12 @@
 
 ghost use Rattle.std.specs.Prelude.{◌≡◌, map, IfOk};
 ghost use Rattle.proofcheck.specs.Laws.{replacing, step_relabelled};
+ghost use Rattle.commands.specs.Edits.{with_proof};
 ghost use Rattle.history.specs.Drafts.{with_label, citing};
 
 use crate::testing::is_citation;
 use commands::Ranked;
-use mmstatement::{Label, Sequence, Step};
+use mmstatement::{Assertion, Expr, Label, Sequence, Step};
 use std::alloc::{AllocError, Global};
 
 fn renamed_step(alloc: Global, step: &Step, old: &[u8], new: &Label) -> Result<Step, AllocError>
@@ -35,6 +36,38 @@ fn renamed_steps(
     Ok(Sequence::from_vec(made))
 }
 
+fn copy_expressions(alloc: Global, expressions: &[Expr]) -> Result<Sequence<Expr>, AllocError>
+    ensures { IfOk result (λ made. made ≡ expressions.now) }
+{
+    let mut made = Vec::new(alloc);
+    for expression in expressions {
+        made.push(expression.copy(alloc)?)?;
+    }
+    Ok(Sequence::from_vec(made))
+}
+
+/// An assertion with another proof: the proof that it has isn't copied.
+pub(crate) fn reproved(
+    alloc: Global,
+    entry: &Ranked,
+    proof: Sequence<Step>,
+) -> Result<Ranked, AllocError>
+    ensures { IfOk result (λ made. made ≡ with_proof proof entry.now) }
+{
+    let assertion = &entry.assertion;
+    Ok(Ranked {
+        rank: entry.rank,
+        assertion: Assertion {
+            label: assertion.label.copy(alloc)?,
+            kind: assertion.kind,
+            pairs: assertion.pairs.copy(alloc)?,
+            hyps: copy_expressions(alloc, assertion.hyps.as_slice())?,
+            statement: assertion.statement.copy(alloc)?,
+            proof,
+        },
+    })
+}
+
 /// An assertion with a label in the place of another in its proof.
 pub(crate) fn recited(
     alloc: Global,
@@ -44,9 +77,8 @@ pub(crate) fn recited(
 ) -> Result<Ranked, AllocError>
     ensures { IfOk result (λ made. made ≡ citing old.now new.now entry.now) }
 {
-    let mut made = entry.copy(alloc)?;
-    made.assertion.proof = renamed_steps(alloc, entry.assertion.proof.as_slice(), old, new)?;
-    Ok(made)
+    let proof = renamed_steps(alloc, entry.assertion.proof.as_slice(), old, new)?;
+    reproved(alloc, entry, proof)
 }
 
 /// An assertion with another label.

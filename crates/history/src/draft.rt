@@ -1,13 +1,13 @@
 //! A library during a transaction: all that was done to it can be taken back, and that takes no memory.
 
-ghost use Rattle.std.specs.Prelude.{◌≡◌, ◌≤◌, [], length, map, IfOk, vec_len, vec_capacity};
+ghost use Rattle.std.specs.Prelude.{◌≡◌, ◌≤◌, length, map, IfOk, vec_len, vec_capacity};
 ghost use Rattle.std.specs.Str.{bytes_eq};
 ghost use Rattle.mmsyntax.specs.Assertions.{Distinct};
-ghost use Rattle.mmstatement.specs.Frames.{frame};
-ghost use Rattle.commands.specs.Library.{Setting, Verifies, ShowsInOrder, label_of, ranked_from};
-ghost use Rattle.history.specs.Entries.{living, standing};
-ghost use Rattle.history.specs.Drafts.{now_in, Settles};
+ghost use Rattle.commands.specs.Library.{Verifies, ShowsInOrder, label_of, ranked_from};
+ghost use Rattle.history.specs.Entries.{living};
+ghost use Rattle.history.specs.Drafts.{now_in, IsOpened, Settles};
 
+use crate::citers::{Citers, open_citers};
 use crate::notes::{Note, drop_notes, take_all_back};
 use crate::places::{Places, open_entries, open_frames};
 use commands::{PlainLibrary, Ranked};
@@ -19,8 +19,8 @@ use std::marker::Model;
 mod changes;
 mod edits;
 
-/// A clause sees the setting, the library as the transaction found it, the assertions now by their places, their frames, and the
-/// changes noted since.
+/// A clause sees the setting, the library as the transaction found it, the assertions now by their places, their frames, who may cite
+/// them, and the changes noted since.
 #[derive(Drop)]
 pub(crate) struct Draft {
     prelude: Prelude,
@@ -30,6 +30,8 @@ pub(crate) struct Draft {
     /// The frame of each assertion, at its place.
     frames: Vec<Frame>,
     places: Places,
+    /// Lists only grow, so that taking changes back leaves them as they are.
+    citers: Citers,
     /// How many assertions there are.
     count: usize,
     /// How many there were at the start of the transaction.
@@ -41,7 +43,7 @@ pub(crate) struct Draft {
 
 impl Model for Draft {
     ghost use Rattle.history.specs.Entries.{living};
-    ghost use Rattle.history.specs.Drafts.{Drafted, undone, IsDraft, IsCounted, IsShelf};
+    ghost use Rattle.history.specs.Drafts.{Drafted, undone, IsDraft, AreCiters, IsCounted, IsShelf};
 
     ghost Value = { Drafted };
 
@@ -50,12 +52,14 @@ impl Model for Draft {
       start = living (undone d.notes.items d.entries.items);
       entries = d.entries.items;
       frames = d.frames.items;
+      citers = d.citers.items;
       noted = d.notes.items;
     } };
 
     ghost invariant = { λ d. IsDraft d.prelude d.places d.frames.items d.notes.items d.entries.items
         × IsCounted d.count d.start_count d.notes.items d.entries.items
-        × IsShelf d.slots d.shelf };
+        × IsShelf d.slots d.shelf
+        × AreCiters d.citers.items d.notes.items d.entries.items };
 }
 
 impl Draft {
@@ -69,17 +73,18 @@ impl Draft {
     ) -> Result<Draft, AllocError>
         requires few { length assertions.now ≤ 4096 }
         requires distinct { Distinct bytes_eq (map label_of (ranked_from 1 assertions.now)) }
-        ensures { let lib = ranked_from 1 assertions.now in let s : Setting = record { prelude = prelude; slots = slots } in
-            IfOk result (λ made. made ≡ record { setting = s; start = lib; entries = standing lib; frames = map (frame prelude) assertions.now; noted = [] }) }
+        ensures { IfOk result (IsOpened (record { prelude = prelude; slots = slots }) (ranked_from 1 assertions.now)) }
     {
         let (entries, places) = open_entries(alloc, keys, assertions)?;
         let frames = open_frames(alloc, &prelude, assertions)?;
+        let citers = open_citers(alloc, entries.as_slice(), &places)?;
         Ok(Draft {
             prelude,
             slots,
             entries,
             frames,
             places,
+            citers,
             count: assertions.len(),
             start_count: assertions.len(),
             notes: Vec::new(alloc),

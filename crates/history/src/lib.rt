@@ -1,6 +1,7 @@
 //! The one-thread editor, and histories: the library after a front of one, and their replay.
 #![tactic(auto)]
 
+mod citers;
 mod citing;
 mod draft;
 mod editor;

@@ -5,6 +5,7 @@ ghost use Rattle.std.specs.Str.{bytes_eq};
 ghost use Rattle.mmsyntax.specs.Assertions.{Distinct};
 ghost use Rattle.commands.specs.Library.{label_of, ranked_from};
 ghost use Rattle.commands.specs.Edits.{has};
+ghost use Rattle.commands.specs.declared.library.Ranked.{Ranked as RankedView};
 ghost use Rattle.mmstatement.specs.Frames.{frame};
 ghost use Rattle.history.specs.Entries.{living, standing, StandsIn};
 ghost use Rattle.history.specs.Places.{IsIndex, HasOnly, KeepsLabels, FoundAt, Puts, StandsSomewhere, place_in};
@@ -47,6 +48,14 @@ pub(crate) fn find_entry<'a>(
     let place = find_label(entries, places, label)?;
     let entry = entries.get(place)?.as_ref()?;
     Some((place, entry))
+}
+
+/// The assertion at a place, if there is one.
+pub(crate) fn entry_at(entries: &[Option<Ranked>], place: usize) -> Option<&Ranked>
+    ensures none { IfNone result ((e : RankedView) → StandsIn entries.now place e → ⊥) }
+    ensures some { IfSome result (λ e. StandsIn entries.now place e.now) }
+{
+    entries.get(place)?.as_ref()
 }
 
 /// Notes another place for a label that stands in the map. It takes no memory.

@@ -2,15 +2,17 @@
 
 ghost use Rattle.std.specs.Prelude.{◌≡◌, ◌&&◌, ℕ, nat_le, option_map, IfOk};
 ghost use Rattle.std.specs.List.{list_any};
+ghost use Rattle.std.specs.List.Sorted.{IsStrictlyIncreasing};
 ghost use Rattle.std.specs.Option.{option_copied};
 ghost use Rattle.mmsyntax.specs.declared.statement.Kind.TheVariants.{Theorem};
-ghost use Rattle.commands.specs.Edits.{found, is_citation, cites, citers, cites_unknown, cites_not_below, unproved};
+ghost use Rattle.commands.specs.Edits.{found, is_citation, cites, citers as citers_of, cites_unknown, cites_not_below, unproved};
 ghost use Rattle.commands.specs.declared.reason.Reason.TheVariants as reason;
 ghost use Rattle.history.specs.Entries.{living, AreFramed};
 ghost use Rattle.history.specs.Places.{IsIndex};
-ghost use Rattle.history.specs.Testing.{passes_there, cites_from};
+ghost use Rattle.history.specs.Citers.{HasAllCiters};
+ghost use Rattle.history.specs.Testing.{passes_at, cites_from};
 
-use crate::places::{Places, find_label};
+use crate::places::{Places, entry_at, find_label};
 use commands::Ranked;
 use mmstatement::{Assertion, Frame, Label, Prelude, Step};
 use proofcheck::{Frames, ProofFault, ProofFaultKind, check};
@@ -34,44 +36,56 @@ pub(crate) fn cites(entry: &Ranked, label: &[u8]) -> bool
 }
 
 /// Whether a place has an assertion whose proof cites a label.
-fn cites_there(place: &Option<Ranked>, label: &[u8]) -> bool
-    ensures { result ≡ passes_there (cites label.now) place.now }
+fn cites_at(entries: &[Option<Ranked>], place: usize, label: &[u8]) -> bool
+    ensures { result ≡ passes_at (cites label.now) entries.now place }
 {
-    match place {
+    match entry_at(entries, place) {
         None => false,
         Some(entry) => cites(entry, label),
     }
 }
 
 /// Whether a place has an assertion of this rank or a lower one whose proof cites a label.
-fn cites_there_below(place: &Option<Ranked>, rank: u32, label: &[u8]) -> bool
-    ensures { result ≡ passes_there (cites_from label.now rank) place.now }
+fn cites_at_below(entries: &[Option<Ranked>], place: usize, rank: u32, label: &[u8]) -> bool
+    ensures { result ≡ passes_at (cites_from label.now rank) entries.now place }
 {
-    match place {
+    match entry_at(entries, place) {
         None => false,
-        Some(entry) => cites(entry, label) && entry.rank <= rank,
+        Some(entry) => entry.rank <= rank && cites(entry, label),
     }
 }
 
-/// Whether the proof of an assertion of this rank or a lower one cites a label.
-pub(crate) fn has_citer_below(entries: &[Option<Ranked>], rank: u32, label: &[u8]) -> bool
+/// Whether one of some places has an assertion of this rank or a lower one whose proof cites a label.
+fn some_cites_below(entries: &[Option<Ranked>], places: &[usize], rank: u32, label: &[u8]) -> bool
+    ensures { result ≡ list_any (passes_at (cites_from label.now rank) entries.now) places.now }
+{
+    places
+        .iter()
+        .any(|place| cites_at_below(entries, *place, rank, label))
+}
+
+/// Whether the proof of an assertion of this rank or a lower one cites a label. Its citers are among some places.
+pub(crate) fn has_citer_below(
+    entries: &[Option<Ranked>],
+    citers: &[usize],
+    rank: u32,
+    label: &[u8],
+) -> bool
+    requires { HasAllCiters entries.now label.now citers.now }
     ensures { result ≡ list_any (λ e. cites label.now e && nat_le e.rank rank) (living entries.now) }
 {
-    for place in entries {
-        if cites_there_below(place, rank, label) {
-            return true;
-        }
-    }
-    false
+    some_cites_below(entries, citers, rank, label)
 }
 
-/// The number of assertions whose proof cites a label.
-pub(crate) fn count_citers(entries: &[Option<Ranked>], label: &[u8]) -> usize
-    ensures { result ≡ citers (living entries.now) label.now }
+/// The number of assertions whose proof cites a label. Its citers are among some places, which ascend.
+pub(crate) fn count_citers(entries: &[Option<Ranked>], citers: &[usize], label: &[u8]) -> usize
+    requires ascending { IsStrictlyIncreasing citers.now }
+    requires all { HasAllCiters entries.now label.now citers.now }
+    ensures { result ≡ citers_of (living entries.now) label.now }
 {
-    entries
+    citers
         .iter()
-        .filter(|place| cites_there(place, label))
+        .filter(|place| cites_at(entries, **place, label))
         .count()
 }
 

@@ -6,19 +6,22 @@ ghost use Rattle.commands.specs.declared.library.Ranked.{Ranked};
 ghost use Rattle.commands.specs.Library.{label_of};
 ghost use Rattle.commands.specs.Edits.{has};
 ghost use Rattle.history.specs.Entries.{StandsIn};
+ghost use Rattle.history.specs.Citers.{AreEntered, Covers};
 ghost use Rattle.history.specs.Drafts.{now_in, Succeeds, Exchanges, KeepsStart};
 
 use super::Draft;
+use crate::citers::enter_citer;
 use crate::notes::Note;
 use commands::Ranked;
-use mmstatement::Frame;
+use mmstatement::{Frame, Step};
 use std::alloc::{AllocError, Global};
 use std::mem;
 
 impl Draft {
     /// Puts an assertion in the place of another that has the same label and the same frame.
     pub(super) fn replace(&mut self, place: usize, new: Ranked) -> Result<(), AllocError>
-        requires { Succeeds self.old.setting.prelude self.old.entries place new }
+        requires succeeds { Succeeds self.old.setting.prelude self.old.entries place new }
+        requires covered { Covers self.old.citers (set self.old.entries place (Some new)) }
         ensures done { OnOk result (Exchanges self.old place (Some new) self.new) }
         ensures kept { KeepsStart self.old self.new }
     {
@@ -46,6 +49,7 @@ impl Draft {
     pub(super) fn put(&mut self, alloc: Global, place: usize, new: Ranked) -> Result<(), AllocError>
         requires free { has (now_in self.old) (label_of new) ≡ false }
         requires framed { slice_get self.old.frames place ≡ Some (frame self.old.setting.prelude new.assertion) }
+        requires covered { Covers self.old.citers (set self.old.entries place (Some new)) }
         ensures done { OnOk result (Exchanges self.old place (Some new) self.new) }
         ensures kept { KeepsStart self.old self.new }
     {
@@ -59,7 +63,7 @@ impl Draft {
     }
 
     /// One more place, empty, for an assertion of this frame. The library stays.
-    pub(super) fn open_place(&mut self, frame: Frame) -> Result<usize, AllocError>
+    pub(super) fn open_place(&mut self, alloc: Global, frame: Frame) -> Result<usize, AllocError>
         ensures place { IfOk result (λ p. p ≡ length self.old.entries) }
         ensures entries { OnOk result (self.new.entries ≡ self.old.entries ++ None ∷ []) }
         ensures frames { OnOk result (self.new.frames ≡ self.old.frames ++ frame ∷ []) }
@@ -67,8 +71,26 @@ impl Draft {
     {
         self.entries.reserve(1)?;
         self.frames.reserve(1)?;
+        self.citers.push(Vec::new(alloc))?;
         self.frames.push_reserved(frame);
         self.entries.push_reserved(None);
         Ok(self.entries.len() - 1)
+    }
+
+    /// Puts a place into the list of each assertion that some steps cite. The library stays.
+    pub(super) fn cite(&mut self, place: usize, steps: &[Step]) -> Result<(), AllocError>
+        ensures entered { OnOk result (AreEntered self.new.citers self.new.entries steps.now place) }
+        ensures covered { Covers self.new.citers self.new.entries }
+        ensures entries { self.new.entries ≡ self.old.entries }
+        ensures frames { self.new.frames ≡ self.old.frames }
+        ensures kept { KeepsStart self.old self.new }
+    {
+        enter_citer(
+            self.entries.as_slice(),
+            &self.places,
+            self.citers.as_mut_slice(),
+            steps,
+            place,
+        )
     }
 }

@@ -1,18 +1,25 @@
 //! Commands, one by one: each is done, or refused by the first test that fails.
 
-ghost use Rattle.std.specs.Prelude.{◌≡◌, ◌<◌, ℕ, length, IfOk, OnOk};
+ghost use Rattle.std.specs.Prelude.{◌≡◌, ℕ, All, Contains, IfOk, OnOk};
+ghost use Rattle.std.specs.List.Sorted.{IsStrictlyIncreasing};
 ghost use Rattle.mmsyntax.specs.declared.statement.Kind.TheVariants.{Theorem};
 ghost use Rattle.commands.specs.declared.command.Command.TheVariants as command;
-ghost use Rattle.commands.specs.Edits.{add_tests};
+ghost use Rattle.commands.specs.Edits.{add_tests, citers};
+ghost use Rattle.commands.specs.Fitting.{CommandFits};
+ghost use Rattle.commands.specs.Library.{Verifies, label_of};
+ghost use Rattle.commands.specs.declared.library.Ranked.{Ranked};
+ghost use Rattle.history.specs.Entries.{StandsIn};
+ghost use Rattle.history.specs.Citers.{HasAllCiters, IsCiter};
+ghost use Rattle.history.specs.Places.{StandsAt};
 ghost use Rattle.history.specs.Drafts.{now_in, citing, changed_at, changed_all, KeepsStart, Takes, TakesAll};
 ghost use Rattle.history.specs.Refusals.{first_reason, proof_tests};
 ghost use Rattle.history.specs.declared.editor.ApplyError.TheVariants as error;
 
 use super::Draft;
-use crate::citing::{recited, relabelled};
+use crate::citing::{recited, relabelled, reproved};
 use crate::editor::ApplyError;
 use crate::listing::list_lines;
-use crate::places::{find_entry, find_label};
+use crate::places::{entry_at, find_entry, find_label};
 use crate::testing::{
     cites, cites_not_below, cites_unknown, count_citers, has_citer_below, proof_fault,
 };
@@ -21,6 +28,24 @@ use mmstatement::{Assertion, Kind, Label, Sequence, Step, copy_steps, frame_of, 
 use std::alloc::{AllocError, Global};
 
 impl Draft {
+    /// The places among which are all whose proof cites the assertion at a place.
+    fn citers_of(&self, place: usize) -> &[usize]
+        requires { (e : Ranked) × StandsIn self.now.entries place e }
+        ensures ascending { IsStrictlyIncreasing result.now }
+        ensures listed { (q : ℕ) → Contains result.now q → IsCiter self.now.citers place q }
+        ensures all { (e : Ranked) → StandsIn self.now.entries place e → HasAllCiters self.now.entries (label_of e) result.now }
+    {
+        self.citers[place].as_slice()
+    }
+
+    /// The number of assertions whose proof cites the one with a label, which stands at a place.
+    fn count_citers(&self, place: usize, label: &[u8]) -> usize
+        requires { StandsAt self.now.entries label.now place }
+        ensures { result ≡ citers (now_in self.now) label.now }
+    {
+        count_citers(self.entries.as_slice(), self.citers_of(place), label)
+    }
+
     /// The reason for which the proof of a theorem of this rank is refused.
     fn refuse_proof(
         &self,
@@ -93,6 +118,7 @@ impl Draft {
         rank: u32,
         assertion: &Assertion,
     ) -> Result<Reply, ApplyError>
+        requires { Verifies self.old.setting (now_in self.old) }
         ensures taken { Takes index self.old (command.Add rank assertion.now) result self.new }
         ensures kept { KeepsStart self.old self.new }
     {
@@ -101,7 +127,8 @@ impl Draft {
         }
         let frame = frame_of(alloc, &self.prelude, assertion)?;
         let assertion = assertion.copy(alloc)?;
-        let place = self.open_place(frame)?;
+        let place = self.open_place(alloc, frame)?;
+        self.cite(place, assertion.proof.as_slice())?;
         self.put(alloc, place, Ranked { rank, assertion })?;
         Ok(Reply::Done)
     }
@@ -126,16 +153,18 @@ impl Draft {
         if let Kind::Axiom = entry.assertion.kind {
             return Err(refused(index, Reason::NotATheorem));
         }
-        let mut new = entry.copy(alloc)?;
-        new.assertion.proof = copy_steps(alloc, steps.as_slice())?;
+        let proof = copy_steps(alloc, steps.as_slice())?;
+        let new = reproved(alloc, entry, proof)?;
         if let Some(reason) = self.refuse_proof(alloc, new.rank, &new.assertion)? {
             return Err(refused(index, reason));
         }
+        self.cite(place, steps.as_slice())?;
         self.replace(place, new)?;
         Ok(Reply::Done)
     }
 
-    /// Replaces a label in the proof of the assertion at a place, if it has one.
+    /// Replaces a label in the proof of the assertion at a place, if it has one. The place stands in the list of the one with the new
+    /// label.
     fn recite(
         &mut self,
         alloc: Global,
@@ -143,11 +172,12 @@ impl Draft {
         old: &Label,
         new: &Label,
     ) -> Result<(), AllocError>
-        requires { place < length self.old.entries }
+        requires { (p : ℕ) × StandsAt self.old.entries new.now p × IsCiter self.old.citers p place }
         ensures done { OnOk result (self.new.entries ≡ changed_at place (citing old.now new.now) self.old.entries) }
+        ensures citers { OnOk result (self.new.citers ≡ self.old.citers) }
         ensures kept { KeepsStart self.old self.new }
     {
-        let Some(entry) = &self.entries[place] else {
+        let Some(entry) = entry_at(self.entries.as_slice(), place) else {
             return Ok(());
         };
         if !cites(entry, old.as_slice()) {
@@ -158,13 +188,23 @@ impl Draft {
         Ok(())
     }
 
-    /// Replaces a label in every proof. After an error it is replaced in some of them.
-    fn recite_all(&mut self, alloc: Global, old: &Label, new: &Label) -> Result<(), AllocError>
+    /// Replaces a label in every proof: in those at some places, which stand in the list of the assertion with the new label. After an
+    /// error it is replaced in some of them.
+    fn recite_all(
+        &mut self,
+        alloc: Global,
+        citers: &[usize],
+        old: &Label,
+        new: &Label,
+    ) -> Result<(), AllocError>
+        requires ascending { IsStrictlyIncreasing citers.now }
+        requires all { HasAllCiters self.old.entries old.now citers.now }
+        requires listed { (p : ℕ) × StandsAt self.old.entries new.now p × ((q : ℕ) → Contains citers.now q → IsCiter self.old.citers p q) }
         ensures done { OnOk result (self.new.entries ≡ changed_all (citing old.now new.now) self.old.entries) }
         ensures kept { KeepsStart self.old self.new }
     {
-        for place in 0..self.entries.len() {
-            self.recite(alloc, place, old, new)?;
+        for place in citers {
+            self.recite(alloc, *place, old, new)?;
         }
         Ok(())
     }
@@ -176,6 +216,7 @@ impl Draft {
         old: &Label,
         new: &Label,
     ) -> Result<Reply, ApplyError>
+        requires { Verifies self.old.setting (now_in self.old) }
         ensures taken { Takes index self.old (command.Rename old.now new.now) result self.new }
         ensures kept { KeepsStart self.old self.new }
     {
@@ -190,8 +231,9 @@ impl Draft {
             return Err(refused(index, Reason::LabelTaken));
         }
         let renamed = relabelled(alloc, entry, new)?;
+        let citers = Vec::from_slice(alloc, self.citers_of(place))?;
         self.put(alloc, place, renamed)?;
-        self.recite_all(alloc, old, new)?;
+        self.recite_all(alloc, citers.as_slice(), old, new)?;
         Ok(Reply::Done)
     }
 
@@ -220,7 +262,8 @@ impl Draft {
         ) {
             return Err(refused(index, Reason::CitedNotLower));
         }
-        if has_citer_below(entries, rank, label.as_slice()) {
+        let citers = self.citers[place].as_slice();
+        if has_citer_below(entries, citers, rank, label.as_slice()) {
             return Err(refused(index, Reason::CiterNotHigher));
         }
         let mut moved = entry.copy(alloc)?;
@@ -237,7 +280,7 @@ impl Draft {
         let Some(place) = find_label(entries, &self.places, label.as_slice()) else {
             return Err(refused(index, Reason::UnknownLabel));
         };
-        let citers = count_citers(entries, label.as_slice());
+        let citers = self.count_citers(place, label.as_slice());
         if citers > 0 {
             return Err(refused(index, Reason::StillCited(citers as u64)));
         }
@@ -249,11 +292,11 @@ impl Draft {
         ensures { Takes index self.now (command.Show label.now) result self.now }
     {
         let entries = self.entries.as_slice();
-        let Some((_, entry)) = find_entry(entries, &self.places, label.as_slice()) else {
+        let Some((place, entry)) = find_entry(entries, &self.places, label.as_slice()) else {
             return Err(refused(index, Reason::UnknownLabel));
         };
         let shown = entry.copy(alloc)?;
-        let citers = count_citers(entries, label.as_slice());
+        let citers = self.count_citers(place, label.as_slice());
         Ok(Reply::Shown {
             citers: citers as u64,
             shown,
@@ -268,6 +311,7 @@ impl Draft {
     }
 
     fn take(&mut self, alloc: Global, index: usize, command: &Command) -> Result<Reply, ApplyError>
+        requires { Verifies self.old.setting (now_in self.old) }
         ensures taken { Takes index self.old command.now result self.new }
         ensures kept { KeepsStart self.old self.new }
     {
@@ -288,6 +332,8 @@ impl Draft {
         alloc: Global,
         commands: &[Command],
     ) -> Result<Sequence<Reply>, ApplyError>
+        requires verifies { Verifies self.old.setting (now_in self.old) }
+        requires fit { All (CommandFits self.old.setting.prelude) commands.now }
         ensures taken { TakesAll self.old commands.now result self.new }
         ensures kept { KeepsStart self.old self.new }
     {

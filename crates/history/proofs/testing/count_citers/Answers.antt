@@ -1,11 +1,14 @@
-use Rattle.std.proofs.Common.{rules, sym, ◌∙◌, ◌≡◌}
+use Rattle.std.proofs.Common.{rules, ◌∙◌, ◌≡◌}
 use Rattle.std.specs.List.{count_by}
 use Rattle.commands.specs.Edits.{cites}
-use Rattle.history.specs.Testing.{passes_there}
-use Rattle.history.proofs.Living.{count-living}
+use Rattle.history.specs.Testing.{passes_at}
+use Rattle.history.proofs.Members.{count-members}
 use Rattle.history.proofs.testing.count_citers.Goals as goal
 
 pub returns : goal.returns
 returns c =
-    let by_place : c.count.result ≡ count_by (passes_there (cites c.args.label.now)) c.args.entries.now = search rules in
-    by_place ∙ sym (count-living (cites c.args.label.now) c.args.entries.now)
+    let es = c.args.entries.now in
+    let places = c.args.citers.now in
+    let test = cites c.args.label.now in
+    let by_place : c.count.result ≡ count_by (passes_at test es) places = search rules in
+    by_place ∙ count-members test es places c.requires.ascending c.requires.all.all

@@ -33,7 +33,7 @@ returns-then-citers-gt0-clause-taken c =
     let own : HasLabel i.places d.entries w p e =
     has_label i.places i.entries.items d.entries c.as_slice-entries.result.now c.as_slice.result.now w p e c.self.invariant.0.indexed held slice at.at at.labelled c.as_slice.ensures in
     let count : c.count_citers-citers.result ≡ citers lib w =
-    c.count_citers-citers.ensures ∙ ap (λ l. citers (living l) c.as_slice-2.result.now) (slice ∙ held) ∙ ap (citers lib) c.as_slice-2.ensures in
+    c.count_citers-citers.ensures ∙ ap (citers lib) c.as_slice-2.ensures in
     let some = c.if-citers-gt0.true in
     let many = so (nat_le 1 (citers lib w)) (reason.StillCited (citers lib w)) (le-leb 1 (citers lib w) (omega arith)) in
     rw c.refused-then-citers-gt0.ensures (
@@ -56,7 +56,7 @@ returns-clause-taken c =
     let own : HasLabel i.places d.entries w p e =
     has_label i.places i.entries.items d.entries c.as_slice-entries.result.now c.as_slice.result.now w p e c.self.invariant.0.indexed held slice at.at at.labelled c.as_slice.ensures in
     let count : c.count_citers-citers.result ≡ citers lib w =
-    c.count_citers-citers.ensures ∙ ap (λ l. citers (living l) c.as_slice-2.result.now) (slice ∙ held) ∙ ap (citers lib) c.as_slice-2.ensures in
+    c.count_citers-citers.ensures ∙ ap (citers lib) c.as_slice-2.ensures in
     let none = c.if-citers-gt0.false in
     let few = not_so (nat_le 1 (citers lib w)) (reason.StillCited (citers lib w)) (lt-leb 1 (citers lib w) (omega arith)) in
     known_label i.places d.entries w p e _ own ∙ tested_none (cited lib w ∷ []) _ (first-none (cited lib w) [] few)

@@ -1,14 +1,18 @@
-use Rattle.std.proofs.Common.{◌≡◌, ℕ, Bool, List, Some, false, true, Ok, set, refl, sym, ap, ◌∙◌}
+use Rattle.std.proofs.Common.{◌≡◌, ℕ, Bool, List, Some, false, true, Ok, length, set, refl, sym, ap, subst, ◌∙◌}
 use Rattle.std.specs.Prelude.{nat_le, ◌==◌, ◌&&◌}
 use Rattle.std.specs.List.{list_any}
 use Rattle.std.proofs.lemmas.Bool.{eq-eqb, ne_eqb}
+use Rattle.std.proofs.lemmas.Option.{slice_get_read}
 use Rattle.mmsyntax.specs.declared.statement.Step.{Step}
 use Rattle.commands.specs.declared.library.Ranked.{Ranked}
 use Rattle.commands.specs.declared.reason.Reason.TheVariants as reason
 use Rattle.commands.specs.Library.{label_of}
 use Rattle.commands.specs.Edits.{done, cites, cited_above, cites_not_below, citer_below, with_rank, move_tests, unranked}
-use Rattle.history.specs.Entries.{Entries, living}
+use Rattle.history.specs.Entries.{Entries, living, StandsIn}
+use Rattle.history.specs.Places.{StandsAt}
+use Rattle.history.specs.Citers.{Covers, HasAllCiters}
 use Rattle.history.specs.Drafts.{Drafted, now_in}
+use Rattle.history.proofs.Covering.{all-listed, list-within, covers-replaced}
 use Rattle.history.proofs.Commands.{tested_some, tested_none, so, not_so, first-some, first-none, unknown_label, known_label, HasLabel, has_label, free_in}
 use Rattle.history.proofs.Commands.{library-changed}
 use Rattle.history.proofs.draft.Draft.move_to.Goals as goal
@@ -77,6 +81,39 @@ returns-then-cites_not_below-clause-taken c =
     let not_below = below _ d.entries rank _ steps _ true (slice ∙ held) c.as_slice-2.ensures c.cites_not_below.ensures c.if-cites_not_below.true in
     let first = first-none (unranked rank) _ ranked ∙ first-some (cited_above lib rank steps) _ reason.CitedNotLower (so _ reason.CitedNotLower not_below) in
     rw c.refused-then-cites_not_below.ensures (refl, known_label i.places d.entries w p e _ own ∙ tested_some (move_tests lib rank e) _ reason.CitedNotLower first)
+
+pub has_citer_below-requires : goal.has_citer_below-requires
+has_citer_below-requires c =
+    let d = c.args.self.now in
+    let i = c.self.inside in
+    let held : i.entries.items ≡ d.entries = ap (λ (x : Drafted). x.entries) c.self.view_is in
+    let slice : c.as_slice-entries.result.now ≡ i.entries.items = c.as_slice-entries.ensures.value in
+    let w = c.args.label.now in
+    let found = c.in-Some.ensures.some in
+    let e = c.in-Some.entry.now in
+    let p = c.in-Some.place in
+    let at : StandsIn i.entries.items p e = subst (λ l. StandsIn l p e) slice found.0 in
+    let stands : StandsAt i.entries.items (label_of e) p = record { entry = e; at = at; labelled = refl } in
+    let within = list-within i.citers.items i.entries.items (label_of e) p stands c.self.invariant.3.long in
+    let own = slice_get_read i.citers.items (length i.citers.items) p c.index.result.now refl within c.index.ensures in
+    let all = all-listed i.citers.items i.entries.items p e c.index.result.now c.self.invariant.3.covers_now at own in
+    rw (slice, c.as_slice-3.ensures, c.as_slice-citers.ensures.value)
+    (subst (λ l. HasAllCiters i.entries.items l c.index.result.now.items) (found.1 ∙ c.as_slice.ensures) all)
+
+pub replace-requires-clause-covered : goal.replace-requires-clause-covered
+replace-requires-clause-covered c =
+    let d = c.args.self.now in
+    let i = c.self.inside in
+    let held : i.entries.items ≡ d.entries = ap (λ (x : Drafted). x.entries) c.self.view_is in
+    let slice : c.as_slice-entries.result.now ≡ i.entries.items = c.as_slice-entries.ensures.value in
+    let w = c.args.label.now in
+    let found = c.in-Some.ensures.some in
+    let e = c.in-Some.entry.now in
+    let p = c.in-Some.place in
+    let at : StandsIn d.entries p e = subst (λ l. StandsIn l p e) (slice ∙ held) found.0 in
+    let covers : Covers d.citers d.entries = subst (λ (x : Drafted). Covers x.citers x.entries) c.self.view_is c.self.invariant.3.covers_now in
+    rw c.in_ok-moved.ensures
+    (covers-replaced d.citers d.entries p (with_rank c.args.rank e) covers e at refl (λ r x at_r here. covers.listed r p x e at_r at here))
 
 pub returns-then-has_citer_below-clause-taken : goal.returns-then-has_citer_below-clause-taken
 returns-then-has_citer_below-clause-taken c =

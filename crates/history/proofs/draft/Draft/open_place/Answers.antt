@@ -1,7 +1,8 @@
-use Rattle.std.proofs.Common.{◌≡◌, ◌∷◌, ◌++◌, [], None, length, sym, ap, subst, ◌∙◌}
+use Rattle.std.proofs.Common.{◌≡◌, ◌∷◌, ◌++◌, [], None, length, rules, sym, ap, subst, ◌∙◌}
 use Rattle.history.specs.Entries.{living}
-use Rattle.history.specs.Drafts.{Drafted, IsDraft, IsCounted, undone}
+use Rattle.history.specs.Drafts.{Drafted, IsDraft, AreCiters, IsCounted, undone}
 use Rattle.history.proofs.Changing.{living-opened}
+use Rattle.history.proofs.Listed.{citers_opened}
 use Rattle.history.proofs.Undoing.{draft_opened}
 use Rattle.history.proofs.draft.Draft.open_place.Goals as goal
 
@@ -28,10 +29,20 @@ opened c =
       start,
     )
 
+listed : (c : goal.After-len) → AreCiters c.push.new.self.items c.self.inside.notes.items c.push_reserved-2.new.self.items
+listed c =
+    let i = c.self.inside in
+    let es = i.entries.items in
+    let ns = i.notes.items in
+    let more = citers_opened i.places i.citers.items c.new.result ns es c.new.ensures.items c.self.invariant.0.can_undo c.self.invariant.3 in
+    let now = c.push_reserved-2.ensures.items ∙ ap (λ l. l ++ None ∷ []) c.reserve.ensures.items in
+    let lists : c.push.new.self.items ≡ i.citers.items ++ c.new.result ∷ [] = search rules in
+    subst (λ l. AreCiters c.push.new.self.items ns l) (sym now) (subst (λ l. AreCiters l ns (es ++ None ∷ [])) (sym lists) more)
+
 pub invariant_of-self-2 : goal.invariant_of-self-2
 invariant_of-self-2 c =
     let r = opened c in
-    (r.0, r.1, c.self.invariant.2)
+    (r.0, r.1, c.self.invariant.2, listed c)
 
 pub returns-clause-kept : goal.returns-clause-kept
 returns-clause-kept c =

@@ -11,9 +11,11 @@ use Rattle.commands.specs.Edits.{has}
 use Rattle.history.specs.declared.notes.Note.{Note}
 use Rattle.history.specs.Entries.{Entries, living}
 use Rattle.history.specs.Places.{Puts}
+use Rattle.history.specs.Citers.{Covers}
 use Rattle.history.specs.Drafts.{Drafted, IsDraft, IsCounted, undone}
 use Rattle.history.proofs.Changing.{count-into, count-within}
 use Rattle.history.proofs.Indexes.{free-alone}
+use Rattle.history.proofs.Listed.{citers_noted}
 use Rattle.history.proofs.Undoing.{draft_noted, draft_same}
 use Rattle.history.proofs.draft.Draft.put.Goals as goal
 
@@ -29,7 +31,7 @@ pub invariant_of-self-in_err-insert : goal.invariant_of-self-in_err-insert
 invariant_of-self-in_err-insert c =
     let i = c.self.inside in
     rw c.reserve.ensures.items
-    (draft_same i.prelude i.places c.insert.new.self i.frames.items i.notes.items i.entries.items c.in_err-insert.ensures.err c.self.invariant.0, c.self.invariant.1, c.self.invariant.2)
+    (draft_same i.prelude i.places c.insert.new.self i.frames.items i.notes.items i.entries.items c.in_err-insert.ensures.err c.self.invariant.0, c.self.invariant.1, c.self.invariant.2, c.self.invariant.3)
 
 pub index_mut-requires : goal.index_mut-requires
 index_mut-requires c =
@@ -100,8 +102,14 @@ put c =
 
 pub invariant_of-self-2 : goal.invariant_of-self-2
 invariant_of-self-2 c =
+    let i = c.self.inside in
+    let es = i.entries.items in
+    let p = c.args.place in
     let r = put c in
-    (r.0, r.1, c.self.invariant.2)
+    let covered = subst (λ (d : Drafted). Covers d.citers (set d.entries p (Some c.args.new))) (sym c.self.view_is) c.requires.covered in
+    let listed = citers_noted i.citers.items i.notes.items c.push_reserved.new.self.items es p c.replace-former.new.dest c.self.invariant.3
+    (subst (λ o. Covers i.citers.items (set es p o)) (sym c.replace-former.ensures.after) covered) r.2 in
+    (r.0, r.1, c.self.invariant.2, listed)
 
 pub returns-clause-kept : goal.returns-clause-kept
 returns-clause-kept c =
@@ -114,4 +122,5 @@ returns-clause-done c =
       entries = ap (set c.self.inside.entries.items c.args.place) c.replace-former.ensures.after
           ∙ ap (λ (d : Drafted). set d.entries c.args.place (Some c.args.new)) c.self.view_is;
       frames = ap (λ (d : Drafted). d.frames) c.self.view_is;
+      citers = ap (λ (d : Drafted). d.citers) c.self.view_is;
     }

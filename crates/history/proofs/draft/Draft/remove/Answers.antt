@@ -3,8 +3,11 @@ use Rattle.std.proofs.lemmas.Option.{slice_get_within, slice_get_read}
 use Rattle.commands.specs.declared.library.Ranked.{Ranked}
 use Rattle.history.specs.declared.notes.Note.{Note}
 use Rattle.history.specs.Entries.{Entries, living, StandsIn}
+use Rattle.history.specs.Citers.{Covers}
 use Rattle.history.specs.Drafts.{Drafted, IsDraft, IsCounted, undone}
 use Rattle.history.proofs.Changing.{count-removed}
+use Rattle.history.proofs.Covering.{covers-removed}
+use Rattle.history.proofs.Listed.{citers_noted}
 use Rattle.history.proofs.Undoing.{draft_noted}
 use Rattle.history.proofs.draft.Draft.remove.Goals as goal
 
@@ -47,8 +50,14 @@ overflow_sub-self c =
 
 pub invariant_of-self-2 : goal.invariant_of-self-2
 invariant_of-self-2 c =
+    let i = c.self.inside in
+    let es = i.entries.items in
+    let p = c.args.place in
     let r = removed c in
-    (r.0, r.1, c.self.invariant.2)
+    let covered = covers-removed i.citers.items es p c.self.invariant.3.covers_now in
+    let listed = citers_noted i.citers.items i.notes.items c.push_reserved.new.self.items es p c.take-former.new.self c.self.invariant.3
+    (subst (λ o. Covers i.citers.items (set es p o)) (sym c.take-former.ensures.after) covered) r.2 in
+    (r.0, r.1, c.self.invariant.2, listed)
 
 pub returns-clause-kept : goal.returns-clause-kept
 returns-clause-kept c =

@@ -1,5 +1,6 @@
 use Rattle.std.proofs.Common.{◌≡◌, Some, false, true, Ok, set, refl, sym, ap, subst, ◌∙◌}
-use Rattle.std.specs.List.{slice_get}
+use Rattle.std.specs.List.{slice_get, Contains}
+use Rattle.std.proofs.lemmas.Option.{slice_get_within}
 use mathlib.Core.Bool.{not}
 use Rattle.mmsyntax.specs.Assertions.{is_lawful_label}
 use Rattle.mmstatement.specs.Frames.{frame}
@@ -7,7 +8,11 @@ use Rattle.commands.specs.declared.library.Ranked.{Ranked}
 use Rattle.commands.specs.declared.reason.Reason.TheVariants as reason
 use Rattle.commands.specs.Edits.{has, done, unknown, unlawful, taken, rename_tests}
 use Rattle.history.specs.Entries.{living, StandsIn}
-use Rattle.history.specs.Drafts.{Drafted, now_in, citing, changed_all}
+use Rattle.history.specs.Citers.{Covers, HasAllCiters, IsCiter}
+use Rattle.history.specs.Drafts.{Drafted, now_in, with_label, citing, changed_all}
+use Rattle.history.proofs.Covering.{covers-fresh, all-relabelled}
+use Rattle.history.proofs.Changing.{get-set_same}
+use Rattle.history.proofs.Known.{verified-uncited}
 use Rattle.history.proofs.Commands.{tested_some, tested_none, so, not_so, first-some, first-none, HasLabel, has_label, has_own, known, library-renamed}
 use Rattle.history.proofs.draft.Draft.rename.Goals as goal
 
@@ -78,6 +83,92 @@ put-requires-clause-framed c =
     ap (λ (x : Drafted). slice_get x.frames p) (sym c.self.view_is) ∙ framed
     ∙ ap (λ (x : Drafted). Some (frame x.setting.prelude e.assertion)) c.self.view_is
     ∙ ap (λ (x : Ranked). Some (frame d.setting.prelude x.assertion)) (sym c.in_ok-renamed.ensures)
+
+pub citers_of-requires : goal.citers_of-requires
+citers_of-requires c =
+    let d = c.args.self.now in
+    let lib = now_in d in
+    let i = c.self.inside in
+    let held : i.entries.items ≡ d.entries = ap (λ (x : Drafted). x.entries) c.self.view_is in
+    let slice : c.as_slice.result.now ≡ i.entries.items = c.as_slice.ensures.value in
+    let w = c.args.old.now in
+    let at = c.in-Some.ensures.some in
+    let e = c.in-Some.entry.now in
+    let p = c.in-Some.place in
+    let own : HasLabel i.places d.entries w p e =
+    has_label i.places i.entries.items d.entries c.as_slice.result.now c.as_slice-2.result.now w p e c.self.invariant.0.indexed held slice at.0 at.1 c.as_slice-2.ensures in
+    let new = c.args.new.now in
+    (e, own.at)
+
+pub put-requires-clause-covered : goal.put-requires-clause-covered
+put-requires-clause-covered c =
+    let d = c.args.self.now in
+    let lib = now_in d in
+    let i = c.self.inside in
+    let held : i.entries.items ≡ d.entries = ap (λ (x : Drafted). x.entries) c.self.view_is in
+    let slice : c.as_slice.result.now ≡ i.entries.items = c.as_slice.ensures.value in
+    let w = c.args.old.now in
+    let at = c.in-Some.ensures.some in
+    let e = c.in-Some.entry.now in
+    let p = c.in-Some.place in
+    let own : HasLabel i.places d.entries w p e =
+    has_label i.places i.entries.items d.entries c.as_slice.result.now c.as_slice-2.result.now w p e c.self.invariant.0.indexed held slice at.0 at.1 c.as_slice-2.ensures in
+    let new = c.args.new.now in
+    let free : has lib new ≡ false =
+    known c.as_slice-4.result.now d.entries c.as_slice-5.result.now new c.find_label.result c.is_some.result (c.as_slice-4.ensures.value ∙ held) c.as_slice-5.ensures c.find_label.ensures c.is_some.ensures
+    ∙ c.if-is_some.false in
+    let covers : Covers d.citers d.entries = subst (λ (x : Drafted). Covers x.citers x.entries) c.self.view_is c.self.invariant.3.covers_now in
+    rw c.in_ok-renamed.ensures
+    (covers-fresh d.citers d.entries p (with_label new e) covers (verified-uncited d.setting d.entries new c.requires free)
+    (verified-uncited d.setting d.entries new c.requires free p e own.at)
+    (λ r x at_r here. covers.listed r p x e at_r own.at here))
+
+pub recite_all-requires-clause-all : goal.recite_all-requires-clause-all
+recite_all-requires-clause-all c =
+    let d = c.args.self.now in
+    let lib = now_in d in
+    let i = c.self.inside in
+    let held : i.entries.items ≡ d.entries = ap (λ (x : Drafted). x.entries) c.self.view_is in
+    let slice : c.as_slice.result.now ≡ i.entries.items = c.as_slice.ensures.value in
+    let w = c.args.old.now in
+    let at = c.in-Some.ensures.some in
+    let e = c.in-Some.entry.now in
+    let p = c.in-Some.place in
+    let own : HasLabel i.places d.entries w p e =
+    has_label i.places i.entries.items d.entries c.as_slice.result.now c.as_slice-2.result.now w p e c.self.invariant.0.indexed held slice at.0 at.1 c.as_slice-2.ensures in
+    let new = c.args.new.now in
+    let same : c.as_slice-6.result.now ≡ c.citers_of.result.now = c.as_slice-6.ensures.value ∙ c.in_ok-citers.ensures.items in
+    let now = c.in_ok-put.ensures.done.entries ∙ ap (λ (x : Ranked). set d.entries p (Some x)) c.in_ok-renamed.ensures in
+    let all : HasAllCiters d.entries w c.citers_of.result.now =
+    subst (λ l. HasAllCiters d.entries l c.citers_of.result.now) own.labelled (c.citers_of.ensures.all e own.at) in
+    rw (same, now) (all-relabelled d.entries p e w new c.citers_of.result.now all own.at)
+
+pub recite_all-requires-clause-listed : goal.recite_all-requires-clause-listed
+recite_all-requires-clause-listed c =
+    let d = c.args.self.now in
+    let lib = now_in d in
+    let i = c.self.inside in
+    let held : i.entries.items ≡ d.entries = ap (λ (x : Drafted). x.entries) c.self.view_is in
+    let slice : c.as_slice.result.now ≡ i.entries.items = c.as_slice.ensures.value in
+    let w = c.args.old.now in
+    let at = c.in-Some.ensures.some in
+    let e = c.in-Some.entry.now in
+    let p = c.in-Some.place in
+    let own : HasLabel i.places d.entries w p e =
+    has_label i.places i.entries.items d.entries c.as_slice.result.now c.as_slice-2.result.now w p e c.self.invariant.0.indexed held slice at.0 at.1 c.as_slice-2.ensures in
+    let new = c.args.new.now in
+    let same : c.as_slice-6.result.now ≡ c.citers_of.result.now = c.as_slice-6.ensures.value ∙ c.in_ok-citers.ensures.items in
+    let now = c.in_ok-put.ensures.done.entries ∙ ap (λ (x : Ranked). set d.entries p (Some x)) c.in_ok-renamed.ensures in
+    let within = slice_get_within d.entries p (Some e) own.at in (
+      p,
+      record {
+        entry = with_label new e;
+        at = ap (λ es. slice_get es p) now ∙ get-set_same d.entries p (Some (with_label new e)) within;
+        labelled = refl;
+      },
+      λ q at. subst (λ cs. IsCiter cs p q) (sym c.in_ok-put.ensures.done.citers)
+          (c.citers_of.ensures.listed q (subst (λ l. Contains l q) same at)),
+    )
 
 pub returns-clause-taken : goal.returns-clause-taken
 returns-clause-taken c =

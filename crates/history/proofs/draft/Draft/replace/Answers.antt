@@ -7,9 +7,11 @@ use Rattle.commands.specs.Library.{label_of}
 use Rattle.history.specs.declared.notes.Note.{Note}
 use Rattle.history.specs.Entries.{living, StandsIn}
 use Rattle.history.specs.Places.{Puts, place_in}
+use Rattle.history.specs.Citers.{Covers}
 use Rattle.history.specs.Drafts.{Drafted, IsDraft, IsCounted, IsAlone, undone}
 use Rattle.history.proofs.Changing.{count-changed}
 use Rattle.history.proofs.Indexes.{puts-same, stands-alone}
+use Rattle.history.proofs.Listed.{citers_noted}
 use Rattle.history.proofs.Undoing.{draft_noted}
 use Rattle.history.proofs.draft.Draft.replace.Goals as goal
 
@@ -29,16 +31,16 @@ replaced c =
     let m = i.places in
     let p = c.args.place in
     let new = c.args.new in
-    let was = c.requires.former in
+    let was = c.requires.succeeds.former in
     let held : es ≡ c.args.self.now.entries = ap (λ (d : Drafted). d.entries) c.self.view_is in
-    let stands : StandsIn es p was = subst (λ l. StandsIn l p was) (sym held) c.requires.at in
+    let stands : StandsIn es p was = subst (λ l. StandsIn l p was) (sym held) c.requires.succeeds.at in
     let one = stands-alone m es p was c.self.invariant.0.indexed stands in
-    let alone : IsAlone es (label_of new) p = subst (λ w. IsAlone es w p) (sym c.requires.labelled) one in
+    let alone : IsAlone es (label_of new) p = subst (λ w. IsAlone es w p) (sym c.requires.succeeds.labelled) one in
     let puts : Puts m (label_of new) p m =
-    puts-same m (label_of new) p (ap (place_in m) c.requires.labelled ∙ c.self.invariant.0.indexed.finds p was stands) in
+    puts-same m (label_of new) p (ap (place_in m) c.requires.succeeds.labelled ∙ c.self.invariant.0.indexed.finds p was stands) in
     let framed = c.self.invariant.0.framed.framed p was stands in
     let table = ap (λ (d : Drafted). d.setting.prelude) c.self.view_is in
-    let frames : frame t new.assertion ≡ frame t was.assertion = rw table c.requires.framed in
+    let frames : frame t new.assertion ≡ frame t was.assertion = rw table c.requires.succeeds.framed in
     let own : (e : Ranked) → Some new ≡ Some e → slice_get i.frames.items p ≡ Some (frame t e.assertion) = λ e is.
     let same : new ≡ e = cc in
     framed ∙ ap (λ f. Some f) (sym frames) ∙ ap (λ (x : Ranked). Some (frame t x.assertion)) same in
@@ -52,8 +54,14 @@ replaced c =
 
 pub invariant_of-self-2 : goal.invariant_of-self-2
 invariant_of-self-2 c =
+    let i = c.self.inside in
+    let es = i.entries.items in
+    let p = c.args.place in
     let r = replaced c in
-    (r.0, r.1, c.self.invariant.2)
+    let covered = subst (λ (d : Drafted). Covers d.citers (set d.entries p (Some c.args.new))) (sym c.self.view_is) c.requires.covered in
+    let listed = citers_noted i.citers.items i.notes.items c.push_reserved.new.self.items es p c.replace-former.new.dest c.self.invariant.3
+    (subst (λ o. Covers i.citers.items (set es p o)) (sym c.replace-former.ensures.after) covered) r.2 in
+    (r.0, r.1, c.self.invariant.2, listed)
 
 pub returns-clause-kept : goal.returns-clause-kept
 returns-clause-kept c =

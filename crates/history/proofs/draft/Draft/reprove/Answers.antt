@@ -1,10 +1,13 @@
-use Rattle.std.proofs.Common.{◌≡◌, Some, Ok, set, refl, sym, ap, ◌∙◌}
+use Rattle.std.proofs.Common.{◌≡◌, Some, Ok, true, set, refl, sym, ap, subst, ◌∙◌}
 use Rattle.commands.specs.declared.library.Ranked.{Ranked}
 use Rattle.commands.specs.declared.reason.Reason.TheVariants as reason
 use Rattle.commands.specs.Edits.{is_axiom, where_so, done, with_proof, reprove_tests}
-use Rattle.history.specs.Entries.{living}
+use Rattle.commands.specs.Library.{label_of}
+use Rattle.history.specs.Entries.{Entries, living, StandsIn}
+use Rattle.history.specs.Listing.{some_cites}
 use Rattle.history.specs.Drafts.{Drafted, now_in}
 use Rattle.history.specs.Refusals.{first_reason, proof_tests}
+use Rattle.history.proofs.Covering.{covers-replaced}
 use Rattle.history.proofs.Commands.{tested_some, tested_none, so, not_so, first-some, first-none, unknown_label, known_label, HasLabel, has_label, free_in}
 use Rattle.history.proofs.Commands.{library-changed}
 use Rattle.history.proofs.draft.Draft.reprove.Goals as goal
@@ -53,11 +56,34 @@ returns-in-Some-2-clause-taken c =
     let tests = reprove_tests d.setting lib steps e in
     let theorem = not_so (is_axiom e.assertion.kind) reason.NotATheorem (ap is_axiom c.in_default-kind.is) in
     let front = first-none (where_so (is_axiom e.assertion.kind) reason.NotATheorem) (proof_tests d.setting lib e.rank (with_proof steps e).assertion) theorem in
-    let made : with_proof c.in_ok-new-2.field-0 c.in_ok-new.new ≡ with_proof steps e =
-    ap (with_proof c.in_ok-new-2.field-0) c.in_ok-new.ensures ∙ ap (λ s. with_proof s e) (c.in_ok-new-2.ensures ∙ c.as_slice-3.ensures) in
+    let made : c.in_ok-new.new ≡ with_proof steps e =
+    c.in_ok-new.ensures ∙ ap (λ s. with_proof s e) (c.in_ok-proof.ensures ∙ c.as_slice-3.ensures) in
     let tested : c.in_ok-reason.field-0 ≡ first_reason (proof_tests d.setting lib e.rank (with_proof steps e).assertion) =
     c.in_ok-reason.ensures ∙ ap (λ (x : Ranked). first_reason (proof_tests d.setting lib x.rank x.assertion)) made in
     rw c.refused-in-Some-2.ensures (refl, known_label i.places d.entries w p e _ own ∙ tested_some tests _ c.in-Some-2.reason (front ∙ sym tested ∙ c.in-Some-2.is))
+
+pub replace-requires-clause-covered : goal.replace-requires-clause-covered
+replace-requires-clause-covered c =
+    let d = c.args.self.now in
+    let lib = now_in d in
+    let i = c.self.inside in
+    let held : i.entries.items ≡ d.entries = ap (λ (x : Drafted). x.entries) c.self.view_is in
+    let slice : c.as_slice.result.now ≡ i.entries.items = c.as_slice.ensures.value in
+    let w = c.args.label.now in
+    let at = c.in-Some.ensures.some in
+    let e = c.in-Some.entry.now in
+    let p = c.in-Some.place in
+    let own : HasLabel i.places d.entries w p e =
+    has_label i.places i.entries.items d.entries c.as_slice.result.now c.as_slice-2.result.now w p e c.self.invariant.0.indexed held slice at.0 at.1 c.as_slice-2.ensures in
+    let next = c.cite.new.self in
+    let cited = c.in_ok-cite.ensures in
+    let steps = c.args.steps.now in
+    let made : c.in_ok-new.new ≡ with_proof steps e =
+    c.in_ok-new.ensures ∙ ap (λ s. with_proof s e) (c.in_ok-proof.ensures ∙ c.as_slice-3.ensures) in
+    let at_p : StandsIn next.entries p e = subst (λ es. StandsIn es p e) (sym cited.entries) own.at in
+    rw made
+    (covers-replaced next.citers next.entries p (with_proof steps e) cited.covered e at_p refl
+    (λ r x at_r here. cited.entered.entered r x at_r (subst (λ ss. some_cites ss (label_of x) ≡ true) (sym c.as_slice-4.ensures) here)))
 
 pub returns-clause-taken : goal.returns-clause-taken
 returns-clause-taken c =
@@ -76,10 +102,12 @@ returns-clause-taken c =
     let tests = reprove_tests d.setting lib steps e in
     let theorem = not_so (is_axiom e.assertion.kind) reason.NotATheorem (ap is_axiom c.in_default-kind.is) in
     let front = first-none (where_so (is_axiom e.assertion.kind) reason.NotATheorem) (proof_tests d.setting lib e.rank (with_proof steps e).assertion) theorem in
-    let made : with_proof c.in_ok-new-2.field-0 c.in_ok-new.new ≡ with_proof steps e =
-    ap (with_proof c.in_ok-new-2.field-0) c.in_ok-new.ensures ∙ ap (λ s. with_proof s e) (c.in_ok-new-2.ensures ∙ c.as_slice-3.ensures) in
+    let made : c.in_ok-new.new ≡ with_proof steps e =
+    c.in_ok-new.ensures ∙ ap (λ s. with_proof s e) (c.in_ok-proof.ensures ∙ c.as_slice-3.ensures) in
     let tested : c.in_ok-reason.field-0 ≡ first_reason (proof_tests d.setting lib e.rank (with_proof steps e).assertion) =
     c.in_ok-reason.ensures ∙ ap (λ (x : Ranked). first_reason (proof_tests d.setting lib x.rank x.assertion)) made in
-    let now = c.in_ok-replace.ensures.done.entries ∙ ap (λ (x : Ranked). set d.entries p (Some x)) made in
+    let now =
+    c.in_ok-replace.ensures.done.entries ∙ ap (λ (es : Entries). set es p (Some c.in_ok-new.new)) c.in_ok-cite.ensures.entries
+    ∙ ap (λ (x : Ranked). set d.entries p (Some x)) made in
     known_label i.places d.entries w p e _ own ∙ tested_none tests _ (front ∙ sym tested ∙ c.in_default-2.is)
     ∙ ap (λ l. Ok (done l)) (sym (library-changed i.places d.entries w p e (with_proof steps) own) ∙ ap living (sym now))

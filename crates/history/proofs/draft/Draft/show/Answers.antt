@@ -2,7 +2,6 @@ use Rattle.std.proofs.Common.{◌≡◌, ℕ, List, Ok, refl, sym, ap, ◌∙◌
 use Rattle.commands.specs.declared.library.Ranked.{Ranked}
 use Rattle.commands.specs.declared.command.Reply.TheVariants.{Shown}
 use Rattle.commands.specs.Edits.{citers}
-use Rattle.history.specs.Entries.{living}
 use Rattle.history.specs.Drafts.{Drafted, now_in}
 use Rattle.history.proofs.Commands.{unknown_label, known_label, HasLabel, has_label, free_in}
 use Rattle.history.proofs.draft.Draft.show.Goals as goal
@@ -27,11 +26,11 @@ returns c =
     let w = c.args.label.now in
     let found = c.in-Some.ensures.some in
     let e = c.in-Some.entry.now in
-    let p = c.in-Some.field-0-0 in
+    let p = c.in-Some.place in
     let own : HasLabel i.places d.entries w p e =
     has_label i.places i.entries.items d.entries c.as_slice-entries.result.now c.as_slice.result.now w p e c.self.invariant.0.indexed held slice found.0 found.1 c.as_slice.ensures in
     let count : c.count_citers-citers.result ≡ citers lib w =
-    c.count_citers-citers.ensures ∙ ap (λ l. citers (living l) c.as_slice-2.result.now) (slice ∙ held) ∙ ap (citers lib) c.as_slice-2.ensures in
+    c.count_citers-citers.ensures ∙ ap (citers lib) c.as_slice-2.ensures in
     known_label i.places d.entries w p e _ own
     ∙ ap (λ (k : List ℕ). Ok (record { library = lib; reply = Shown (citers lib k) e })) own.labelled
     ∙ ap (λ (n : ℕ). Ok (record { library = lib; reply = Shown n e })) (sym count)

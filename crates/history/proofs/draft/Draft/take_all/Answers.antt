@@ -1,9 +1,13 @@
-use Rattle.std.proofs.Common.{◌≡◌, ℕ, suc, ◌+◌, ◌<◌, List, [], ◌∷◌, ◌++◌, Ok, length, get_or, drop, sym, ap, ◌∙◌, rules, arith, drop-cons}
+use Rattle.std.proofs.Common.{◌≡◌, ℕ, suc, ◌+◌, ◌<◌, List, [], ◌∷◌, ◌++◌, Ok, length, get_or, drop, sym, ap, subst, ◌∙◌, rules, arith, drop-cons}
 use Rattle.std.proofs.Math.ListN.{drop_of_length-le}
 use Rattle.std.proofs.lemmas.Result.{err_from_is_err_and}
 use Rattle.commands.specs.declared.command.Command.{Command}
 use Rattle.commands.specs.declared.command.Reply.{Reply}
+use Rattle.commands.specs.Edits.{Edited}
+use Rattle.commands.specs.Fitting.{CommandFits}
+use Rattle.commands.specs.Library.{Setting, Verifies}
 use Rattle.commands.specs.Transactions.{apply_from}
+use Rattle.commands.proofs.Editing.{edit_verifies}
 use Rattle.history.specs.Drafts.{now_in}
 use Rattle.history.proofs.Taking.{with_replies, taken_all, taken_one, error_ends, kept_on}
 use Rattle.history.proofs.draft.Draft.take_all.Goals as goal
@@ -41,7 +45,14 @@ loop-i-preserved c =
     ∙ taken_one x.self.setting (x.i + 1) (now_in x.self) (now_in new) command rest x.replies.items reply c.in_ok-reply.ensures.taken
     ∙ ap (λ rs. with_replies rs (apply_from x.self.setting (x.i + 1 + 1) (now_in new) rest)) (sym pushed)
     ∙ ap (λ s. with_replies c.push.new.self.items (apply_from s (x.i + 1 + 1) (now_in new) rest)) (sym kept.setting) in
+    let fits = c.requires.fit x.i command c.loop-i-test.true in
+    let fit : CommandFits x.self.setting.prelude command =
+    subst (λ (s : Setting). CommandFits s.prelude command) (sym x.invariant.kept.setting)
+    (subst (CommandFits c.args.self.now.setting.prelude) (sym c.index-commands-i.is) fits) in
+    let next : Edited = record { library = now_in new; reply = reply } in
+    let verifies = edit_verifies x.self.setting (now_in x.self) command next x.invariant.verifies fit c.in_ok-reply.ensures.taken in
     record {
+      verifies = subst (λ s. Verifies s (now_in new)) (sym kept.setting) verifies;
       kept = kept_on c.args.self.now x.self new x.invariant.kept kept;
       so_far = so_far;
     }

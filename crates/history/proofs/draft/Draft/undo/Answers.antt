@@ -1,7 +1,9 @@
 use Rattle.std.proofs.Common.{◌≡◌, [], length, rules, sym, ap, subst, ◌∙◌}
 use Rattle.history.specs.Entries.{living, AreFramed}
 use Rattle.history.specs.Places.{IsIndex, HasOnly}
+use Rattle.history.specs.Citers.{Covers}
 use Rattle.history.specs.Drafts.{undone}
+use Rattle.history.proofs.Listed.{citers_settled}
 use Rattle.history.proofs.Undoing.{draft_settled, counted_settled, framed-undone, written_whole, length-undone}
 use Rattle.history.proofs.draft.Draft.undo.Goals as goal
 
@@ -27,4 +29,6 @@ invariant_of-self c =
       draft_settled i.prelude m i.frames.items left _ none (subst (IsIndex m) read c.drop_notes.ensures.indexed) (subst (λ l. HasOnly m l []) read c.drop_notes.ensures.only) (subst (λ l. AreFramed i.prelude l i.frames.items) (sym is) framed),
       counted_settled i.start_count i.start_count left _ none same same,
       c.self.invariant.2,
+      citers_settled i.citers.items left _ none (c.self.invariant.3.long ∙ sym (length-undone ns es) ∙ ap length (sym is)) c.self.invariant.3.ascending
+          (subst (Covers i.citers.items) (sym is) c.self.invariant.3.covers_start),
     )

@@ -5,6 +5,10 @@ use Rattle.history.specs.Editors.{Held}
 use Rattle.history.proofs.Taking.{done_settles}
 use Rattle.history.proofs.editor.Editor.apply.Goals as goal
 
+pub take_all-requires-clause-fit : goal.take_all-requires-clause-fit
+take_all-requires-clause-fit c =
+    subst (λ (h : Held). All (CommandFits h.setting.prelude) c.args.commands.now) (sym c.self.view_is) c.requires
+
 pub invariant_of-self : goal.invariant_of-self
 invariant_of-self c =
     let cs = c.args.commands.now in
