@@ -18,6 +18,8 @@ use Rattle.tlwords.specs.Views.{View}
 use Rattle.tlwords.specs.Rule.{lock_at, value_at, tail_at, store_at, Kept, Ruled}
 use Rattle.tlwords.specs.Closing.{AreCellsOf, IsStoreOf, Shows, Closes, ClosesFor}
 use Rattle.tlwords.proofs.Keeps.{now, legal_of}
+use Rattle.tlwords.proofs.ReadSteps.{half_written}
+use Rattle.tlwords.proofs.Shelves.{tail_least}
 use Rattle.tlwords.proofs.Paired.{word_count, clock_word, lock_word, lock_within, value_word, value_within}
 
 pub index_same : (xs : List ℕ) (i x : ℕ) → get_elem? xs i ≡ some x → slice_index xs i ≡ x
@@ -106,6 +108,12 @@ module _ {S N : Type 0} (terms : Terms S N) (setting : S) (base : List ℕ) (roo
       let t : closed.tail ≡ r.tail = tail_same in
       (store_same (range.start + i) x b.0, omega (arith, l, t))
 
+  refused : closed.tail ≤ length closed.store.items + (length closed.store.items + 1) * 64
+  refused =
+      let same : closed.tail ≡ r.tail = tail_same in
+      let least : closed.tail ≤ room + (room + 1) * 64 = let l = tail_least room r.tail r.ranges r.store s.views r.shelf k.rights in omega (arith, l, same) in
+      subst (λ (m : ℕ). closed.tail ≤ m + (m + 1) * 64) (sym store_count) least
+
   -- the cell as the machine has it
   cell_same : (c : ℕ) (x : ClosedCell) → slice_get closed.cells.items c ≡ Some x
       → (y : CellWords) × (slice_get w.cells c ≡ Some y) × (y.lock ≡ x.lock) × (y.value ≡ x.value)
@@ -130,6 +138,9 @@ module _ {S N : Type 0} (terms : Terms S N) (setting : S) (base : List ℕ) (roo
             let ok : (v ≡ version w.history c) × ((y.0).value ≡ value base w.history c) × ((i u : ℕ) → deed w.history c i ≡ Will u → ⊥) =
             (k.invariant).consistent.cells c v y.0 y.1 (y.2 ∙ e) in
             (ok.0, sym y.3 ∙ ok.1, ok.2);
+        written = λ c x f.
+            let y : (y : CellWords) × (slice_get w.cells c ≡ Some y) × (y.lock ≡ x.lock) × (y.value ≡ x.value) = cell_same c x f in
+            half_written terms setting base room r.ranges r.front s.views r.kept c x.lock y.0 y.1 (sym y.2);
       }
 
   named : (c : ℕ) (x : ClosedCell) → slice_get closed.cells.items c ≡ Some x → terms.ranged setting c → Names r.ranges x.value
@@ -141,7 +152,7 @@ module _ {S N : Type 0} (terms : Terms S N) (setting : S) (base : List ℕ) (roo
   legal = legal_of terms setting base room r.ranges w k.notes k.invariant k.entries
 
   pub closes : Closes terms setting base closed
-  closes = record { seen = last; legal = legal; shows = shown; stored = stored; opened = k.opening; named = named }
+  closes = record { seen = last; legal = legal; shows = shown; stored = stored; refused = refused; opened = k.opening; named = named }
 
   pub closes_for : (id : ℕ) (v : View S N) → get_elem? s.views id ≡ some v → ClosesFor terms v closed
   closes_for id v there y e =
@@ -152,6 +163,7 @@ module _ {S N : Type 0} (terms : Terms S N) (setting : S) (base : List ℕ) (roo
           legal = subst (λ (z : S × List ℕ). Legal terms z.0 z.1 last) (λ j. (sym i.0 j, sym i.1 j)) legal;
           shows = subst (λ (o : List ℕ). Shows o w.history closed.clock closed.cells.items) (sym i.1) shown;
           stored = stored;
+          refused = refused;
           opened = subst (λ (z : S × List ℕ). Opened terms z.0 r.ranges z.1) (λ j. (sym i.0 j, sym i.1 j)) k.opening;
           named = λ c x at is. named c x at (subst (λ (z : S). terms.ranged z c) i.0 is);
         },

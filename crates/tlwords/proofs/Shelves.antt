@@ -97,16 +97,22 @@ module _ {S N : Type 0} where
       let b : total_of f vs ≤ total_of g vs = total_least f g vs (λ j u at. each (suc j) u at) in
       omega (arith, a, b)
 
-  -- the tail is far from its greatest number
-  pub tail_small : (room tail : ℕ) (ranges : List Range) (store : List ℕ) (vs : List (View S N)) → Shelf room ranges tail store vs
-      → total_of (λ (v : View S N). v.rights) vs ≡ 64 → tail ≤ 2 ^ 31
-  tail_small room tail ranges store vs h rights =
+  -- each of the 64 parts of the right moves the tail beyond the room once at most
+  pub tail_least : (room tail : ℕ) (ranges : List Range) (store : List ℕ) (vs : List (View S N)) → Shelf room ranges tail store vs
+      → total_of (λ (v : View S N). v.rights) vs ≡ 64 → tail ≤ room + (room + 1) * 64
+  tail_least room tail ranges store vs h rights =
       let few : total_of (λ (v : View S N). counts v.full) vs ≤ total_of (λ (v : View S N). v.rights) vs = total_least (λ (v : View S N). counts v.full) (λ (v : View S N). v.rights) vs h.once in
       let least : total_of (λ (v : View S N). counts v.full) vs ≤ 64 = omega (arith, few, rights) in
       let many : (room + 1) * total_of (λ (v : View S N). counts v.full) vs ≤ (room + 1) * 64 = mul-le-mul_left (room + 1) least in
       let refused : tail ≤ room + (room + 1) * total_of (λ (v : View S N). counts v.full) vs = h.refused in
+      omega (arith, many, refused)
+
+  -- the tail is far from its greatest number
+  pub tail_small : (room tail : ℕ) (ranges : List Range) (store : List ℕ) (vs : List (View S N)) → Shelf room ranges tail store vs
+      → total_of (λ (v : View S N). v.rights) vs ≡ 64 → tail ≤ 2 ^ 31
+  tail_small room tail ranges store vs h rights =
+      let whole : tail ≤ room + (room + 1) * 64 = tail_least room tail ranges store vs h rights in
       let small : room ≤ 2 ^ 24 = h.small in
-      let whole : tail ≤ room + (room + 1) * 64 = omega (arith, many, refused) in
       omega (arith, whole, small)
 
   -- so an advance by the room and one at most doesn't wrap

@@ -1,8 +1,8 @@
 -- What the words show at the end.
-use Rattle.std.specs.Prelude.{◌≡◌, ℕ, ◌*◌, ◌≤◌, Some, List, [], length, slice_get, vec_capacity}
+use Rattle.std.specs.Prelude.{◌≡◌, ℕ, ◌+◌, ◌*◌, ◌/◌, ◌≤◌, Some, List, [], length, slice_get, vec_capacity}
 use mathlib.Core.Option.{some}
 use lib.ListN.{get_elem?}
-use Rattle.tlcore.specs.History.{Entry, Will, version, value, deed}
+use Rattle.tlcore.specs.History.{Entry, WasWritten, Will, version, value, deed}
 use Rattle.tlwords.specs.declared.closing.ClosedCell.{ClosedCell}
 use Rattle.tlwords.specs.declared.closing.ClosedWords.{ClosedWords}
 use Rattle.tlwords.specs.Ranges.{Range, Has, Names, IsStored}
@@ -32,6 +32,8 @@ pub record Shows (base : List ℕ) (h : List Entry) (clock : ℕ) (cells : List 
   pub count : length cells ≡ length base
   pub free : (c v : ℕ) (x : ClosedCell) → slice_get cells c ≡ Some x → x.lock ≡ 2 * v
       → (v ≡ version h c) × (x.value ≡ value base h c) × ((i u : ℕ) → deed h c i ≡ Will u → ⊥)
+  -- the half of a lock word, locked or free, is 0 or the number of a Done entry that writes the cell
+  pub written : (c : ℕ) (x : ClosedCell) → slice_get cells c ≡ Some x → WasWritten h c (x.lock / 2)
 
 -- there is one lawful history, of a lawful opening, which the words show; the store has the finished ranges; and what a range cell holds
 -- at the end, locked or free, is 0 or names one of these
@@ -40,6 +42,8 @@ pub record Closes {S N : Type 0} (terms : Terms S N) (setting : S) (base : List 
   pub legal : Legal terms setting base seen
   pub shows : Shows base seen.history words.clock words.cells.items
   pub stored : (r : Range) → Has r seen.ranges → IsStored words.tail words.store.items r
+  -- each of 64 sessions was refused at most once by a step, which adds the room and one at most
+  pub refused : words.tail ≤ length words.store.items + (length words.store.items + 1) * 64
   pub opened : Opened terms setting seen.ranges base
   pub named : (c : ℕ) (x : ClosedCell) → slice_get words.cells.items c ≡ Some x → terms.ranged setting c → Names seen.ranges x.value
 
