@@ -1,7 +1,6 @@
 -- How far a range of the store is filled, and what a run knows after steps on the store.
-use Rattle.std.proofs.Common.{◌≡◌, ◌≢◌, ℕ, zero, suc, ◌+◌, ◌<◌, ◌≤◌, ◌⊎◌, inl, inr, Bool, true, false, is_some, Option, Some, None, List, [], ◌∷◌, length, slice_get, sym, refl, ap, ◌∙◌, subst, arith}
+use Rattle.std.proofs.Common.{◌≡◌, ◌≢◌, ℕ, ◌+◌, ◌<◌, ◌≤◌, ◌⊎◌, inl, inr, Bool, true, false, is_some, Option, Some, None, List, [], ◌∷◌, length, slice_get, sym, refl, ap, ◌∙◌, subst, arith}
 use Rattle.tlcore.proofs.Growth.{get_exists, Grows-trans}
-use Rattle.tlwords.specs.Ranges.{Range, Has}
 use Rattle.tlwords.specs.Terms.{Terms}
 use Rattle.tlwords.specs.Seen.{Seen, SeenGrows}
 use Rattle.tlwords.specs.Views.{Staging, View}

@@ -11,7 +11,7 @@ use Rattle.tlcore.specs.Laws.{Keeps}
 use Rattle.tlcore.proofs.Lists.{get-set_same}
 use Rattle.tlcore.proofs.SeatParts.{ReadsOk-one}
 use Rattle.tlcore.proofs.Words.{CellWords}
-use Rattle.tlwords.specs.Ranges.{Range, Has, Within, Names, LieIn}
+use Rattle.tlwords.specs.Ranges.{Range, Within, Names, LieIn}
 use Rattle.tlwords.specs.Terms.{Terms, Permits, Opened}
 use Rattle.tlwords.specs.Seen.{Call, Seen, SeenGrows, NotesGrow, IsSettled, Legal, Agree}
 use Rattle.tlwords.specs.Views.{Told, View, tells, untold, Sound}

@@ -1,5 +1,5 @@
 -- Where the front, the tail and the store stand among the table's words, and steps on the front as steps of the whole table.
-use Rattle.std.proofs.Common.{◌≡◌, ℕ, suc, ◌+◌, ◌-◌, ◌*◌, ◌<◌, ◌≤◌, List, [], ◌∷◌, ◌++◌, length, slice_set, slice_index, sym, refl, ap, ◌∙◌, subst, arith}
+use Rattle.std.proofs.Common.{◌≡◌, ℕ, suc, ◌-◌, ◌*◌, List, [], ◌∷◌, ◌++◌, length, slice_set, slice_index, sym, refl, ap, ◌∙◌, subst, arith}
 use Rattle.std.proofs.lemmas.List.{get_or_append_left, get_or-append_right, set-append_left, set-append_right}
 use Rattle.atomic_table.specs.Table.{keeps, Allows}
 use Rattle.tlcore.proofs.Words.{CellWords}

@@ -1,30 +1,23 @@
 -- Loads of the spare word, and seats that are made of one another or told of one another.
-use Rattle.std.proofs.Common.{◌≡◌, ◌≢◌, ℕ, zero, suc, ◌+◌, ◌-◌, ◌*◌, ◌<◌, ◌≤◌, inl, ⊎_elim, Some, None, List, [], ◌∷◌, ◌++◌, length, map, slice_get, slice_set, slice_index, sym, refl, ap, ◌∙◌, subst, arith}
-use mathlib.Core.Option.{none, some, some-injective, some-ne-none}
+use Rattle.std.proofs.Common.{◌≡◌, ◌≢◌, ℕ, suc, ◌+◌, ◌-◌, ◌≤◌, inl, ⊎_elim, Some, None, List, [], ◌∷◌, ◌++◌, length, map, slice_get, slice_set, slice_index, sym, refl, ap, ◌∙◌, subst, arith}
+use mathlib.Core.Option.{none, some}
 use lib.ListN.{get_elem?}
-use Rattle.std.proofs.Common.{All, take}
-use Rattle.std.specs.Prelude.{slice_index_or}
-use Rattle.tlwords.proofs.Logs.{take_next}
-use Rattle.std.proofs.lemmas.List.{set-get_or, map-append, length-append}
-use Rattle.std.proofs.lemmas.List.Elements.{All-append}
-use Rattle.tlwords.specs.Runs.{down, dealer, IsNew}
-use Rattle.atomic_table.specs.Table.{step, keeps, Allows, Splits, Joins, opening}
+use Rattle.std.proofs.lemmas.List.{set-get_or}
+use Rattle.atomic_table.specs.Table.{step, Allows, Splits, Joins}
 use Rattle.atomic_table.proofs.Lists.{at_set, at_snoc, set_else}
 use Rattle.tlcore.specs.Seats.{Seat, idle, reads_of}
 use Rattle.tlcore.specs.Machine.{World}
-use Rattle.tlcore.specs.Schedules.{start, opened}
 use Rattle.tlcore.specs.Invariant.{SeatOk}
 use Rattle.tlcore.specs.Laws.{Keeps}
 use Rattle.tlcore.proofs.Growth.{Grows-refl}
 use Rattle.tlcore.proofs.Laws.{idle_seat_keeps}
-use Rattle.tlcore.proofs.Opacity.{start_ok}
 use Rattle.tlcore.proofs.SeatParts.{ReadsOk-one}
 use Rattle.tlcore.proofs.Words.{at_idle, is_looking, not_looking}
 use Rattle.tlwords.specs.Ranges.{Range, Has}
 use Rattle.tlwords.specs.Terms.{Terms, Permits}
 use Rattle.tlwords.specs.Seen.{Work, Call, Answered, Seen, Agree}
 use Rattle.tlwords.specs.Views.{View, tells, untold, nobody, counts}
-use Rattle.tlwords.specs.Rule.{paired, opening_words, total_of, IsTold, Suits, Ruled, first_view}
+use Rattle.tlwords.specs.Rule.{total_of, IsTold, Suits, Ruled}
 use Rattle.tlwords.specs.Plays.{Mine, Sees, recalled, refreshed, witness, told_by, newcomer}
 use Rattle.tlwords.proofs.Paired.{set_same, map_set, word_count}
 use Rattle.tlwords.proofs.Seens.{agree_snoc, permits_grow}

@@ -1,6 +1,5 @@
 -- The laws of the store: what the steps of one seat do to the tail, the store's words and the finished ranges, whatever the others stage.
-use Rattle.std.proofs.Common.{◌≡◌, ◌≢◌, ℕ, zero, suc, ◌+◌, ◌*◌, ◌%◌, ◌^◌, ◌<◌, ◌≤◌, ◌⊎◌, inl, inr, ⊎_elim, min, Option, Some, None, List, [], ◌∷◌, ◌++◌, length, slice_get, slice_set, sym, refl, ap, ◌∙◌, subst, mul-suc, mul-le-mul_left, arith}
-use Rattle.std.proofs.Math.Nat.{min-eq_left, min-le_left, min-le_right, mod-eq_of_lt}
+use Rattle.std.proofs.Common.{◌≡◌, ◌≢◌, ℕ, suc, ◌+◌, ◌*◌, ◌%◌, ◌^◌, ◌<◌, ◌≤◌, ◌⊎◌, inl, inr, ⊎_elim, Option, Some, None, List, [], ◌∷◌, ◌++◌, length, slice_get, slice_set, sym, refl, ap, ◌∙◌, subst, mul-suc, mul-le-mul_left, arith}
 use mathlib.Core.Option.{some}
 use lib.ListN.{get_elem?}
 use Rattle.atomic_table.proofs.Lists.{at_set, at_snoc}
@@ -9,7 +8,7 @@ use Rattle.tlcore.proofs.Lists.{get-set_same, get-set_other, get_within, length-
 use Rattle.tlwords.specs.Ranges.{Range, Has, IsStored, LieIn}
 use Rattle.tlwords.specs.Views.{Staging, View, counts}
 use Rattle.tlwords.specs.Rule.{total_of, IsTaken, IsApart, Shelf}
-use Rattle.tlwords.proofs.Keeps.{IsSameShelf, total_set}
+use Rattle.tlwords.proofs.Keeps.{total_set}
 
 -- the two have no word in common
 abbrev pub AreApart : Staging → Staging → Type 0

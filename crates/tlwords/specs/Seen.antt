@@ -1,5 +1,5 @@
 -- What was seen of the history, with a note for each entry, and of the store; what calls did, and when that agrees with the history.
-use Rattle.std.specs.Prelude.{◌≡◌, ◌≢◌, ℕ, suc, ◌≤◌, Some, List, [], ◌∷◌, length, slice_get, ◌⊎◌}
+use Rattle.std.specs.Prelude.{◌≡◌, ◌≢◌, ℕ, suc, ◌≤◌, Some, List, [], ◌∷◌, length, slice_get}
 use Rattle.tlcore.specs.History.{Entry, One, Grows}
 use Rattle.tlcore.proofs.Words.{is_open, is_landed}
 use Rattle.tlwords.specs.Ranges.{Range, Within}

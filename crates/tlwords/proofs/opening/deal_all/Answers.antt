@@ -1,4 +1,4 @@
-use Rattle.std.proofs.Common.{arith, ◌∙◌, ap, sym, length, ◌≡◌, ◌-◌}
+use Rattle.std.proofs.Common.{arith, ◌∙◌, ap, ◌≡◌, ◌-◌}
 use Rattle.tlwords.specs.Ranges.{ranges_named}
 use Rattle.tlwords.specs.Runs.{IsDealt}
 use Rattle.tlwords.proofs.OpenSteps.{deals}
