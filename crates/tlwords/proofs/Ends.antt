@@ -111,19 +111,23 @@ module _ {S N : Type 0} (terms : Terms S N) (setting : S) (base : List ℕ) (roo
   refused : closed.tail ≤ length closed.store.items + (length closed.store.items + 1) * 64
   refused =
       let same : closed.tail ≡ r.tail = tail_same in
-      let least : closed.tail ≤ room + (room + 1) * 64 = let l = tail_least room r.tail r.ranges r.store s.views r.shelf k.rights in omega (arith, l, same) in
+      let l : r.tail ≤ room + (room + 1) * 64 = tail_least room r.tail r.ranges r.store s.views r.shelf k.rights in
+      let least : closed.tail ≤ room + (room + 1) * 64 = omega (arith, l, same) in
       subst (λ (m : ℕ). closed.tail ≤ m + (m + 1) * 64) (sym store_count) least
 
   -- the cell as the machine has it
   cell_same : (c : ℕ) (x : ClosedCell) → slice_get closed.cells.items c ≡ Some x
       → (y : CellWords) × (slice_get w.cells c ≡ Some y) × (y.lock ≡ x.lock) × (y.value ≡ x.value)
   cell_same c x f =
-      let y : (y : CellWords) × (slice_get w.cells c ≡ Some y) =
-      get_exists w.cells c (let l : c < length closed.cells.items = get_within closed.cells.items c x f in let m : n ≡ length w.cells = many in omega (arith, l, m, cells_count)) in
+      let l : c < length closed.cells.items = get_within closed.cells.items c x f in
+      let m : n ≡ length w.cells = many in
+      let y : (y : CellWords) × (slice_get w.cells c ≡ Some y) = get_exists w.cells c (omega (arith, l, m, cells_count)) in
       let lock : (y.0).lock ≡ x.lock =
-      sym (lock_word r.front w k.words_are c y.0 y.1) ∙ front_word (lock_at c) x.lock (lock_within r.front w k.words_are c y.0 y.1) (cells_are c x f).0 in
+      sym (lock_word r.front w k.words_are c y.0 y.1)
+      ∙ front_word (lock_at c) x.lock (lock_within r.front w k.words_are c y.0 y.1) (cells_are c x f).0 in
       let shows : (y.0).value ≡ x.value =
-      sym (value_word r.front w k.words_are c y.0 y.1) ∙ front_word (value_at c) x.value (value_within r.front w k.words_are c y.0 y.1) (cells_are c x f).1 in
+      sym (value_word r.front w k.words_are c y.0 y.1)
+      ∙ front_word (value_at c) x.value (value_within r.front w k.words_are c y.0 y.1) (cells_are c x f).1 in
       (y.0, y.1, lock, shows)
 
   shown : Shows base w.history closed.clock closed.cells.items

@@ -100,7 +100,8 @@ module _ {S N : Type 0} where
   pub tail_least : (room tail : ℕ) (ranges : List Range) (store : List ℕ) (vs : List (View S N)) → Shelf room ranges tail store vs
       → total_of (λ (v : View S N). v.rights) vs ≡ 64 → tail ≤ room + (room + 1) * 64
   tail_least room tail ranges store vs h rights =
-      let few : total_of (λ (v : View S N). counts v.full) vs ≤ total_of (λ (v : View S N). v.rights) vs = total_least (λ (v : View S N). counts v.full) (λ (v : View S N). v.rights) vs h.once in
+      let few : total_of (λ (v : View S N). counts v.full) vs ≤ total_of (λ (v : View S N). v.rights) vs =
+      total_least (λ (v : View S N). counts v.full) (λ (v : View S N). v.rights) vs h.once in
       let least : total_of (λ (v : View S N). counts v.full) vs ≤ 64 = omega (arith, few, rights) in
       let many : (room + 1) * total_of (λ (v : View S N). counts v.full) vs ≤ (room + 1) * 64 = mul-le-mul_left (room + 1) least in
       let refused : tail ≤ room + (room + 1) * total_of (λ (v : View S N). counts v.full) vs = h.refused in
