@@ -1,22 +1,28 @@
 //! Which cells transactions touch.
 #![tactic(auto)]
 
-/// Which cells the transactions of the two threads touch.
+ghost use Rattle.std.specs.Prelude.{◌≡◌, Some};
+ghost use Rattle.tlbench.specs.Names.{name_of};
+
+/// Which cells the transactions of the threads touch.
 #[derive(Clone, Copy)]
 pub enum Pattern {
-    /// Each thread reads and writes cells of its own half.
+    /// Each thread reads and writes cells of its own part.
     Disjoint,
-    /// Both read and write cells anywhere.
+    /// All read and write cells anywhere.
     Uniform,
-    /// Both read and write the first eight cells.
+    /// All read and write the first eight cells.
     Hot,
-    /// Both read cells anywhere.
+    /// All read cells anywhere, and write none.
     Read,
 }
 
 impl Pattern {
     /// The pattern of that name.
-    pub fn named(name: &str) -> Option<Pattern> {
+    pub fn named(name: &str) -> Option<Pattern>
+        ensures found { (p : Pattern) → name.now ≡ name_of p → result ≡ Some p }
+        ensures named { (p : Pattern) → result ≡ Some p → name.now ≡ name_of p }
+    {
         match name {
             "disjoint" => Some(Pattern::Disjoint),
             "uniform" => Some(Pattern::Uniform),

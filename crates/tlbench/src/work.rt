@@ -1,21 +1,19 @@
-//! The transactions of two threads.
+//! The transactions of the threads.
 #![tactic(auto)]
 
-ghost use Rattle.std.specs.Prelude.{◌≡◌, ◌+◌, ◌<◌, ◌≤◌, None, true, IfSome, IfOk, length};
+ghost use Rattle.std.specs.Prelude.{◌≡◌, ◌+◌, ◌*◌, ◌<◌, ◌≤◌, None, true, All, IfSome, IfOk, length};
 ghost use Rattle.tlwords.specs.Plays.{IsSameSeat};
+ghost use denote.Param.Send.{IsSync};
 ghost use Rattle.tlwords.specs.declared.mode.Mode.TheVariants.{Writing};
+ghost use Rattle.tlbench.specs.Sizes.{size};
 
 use crate::pattern::Pattern;
 use crate::picks::Picks;
+use crate::task::{Task, Team};
 use std::alloc::{AllocError, Global};
 use std::thread;
 use std::thread::{Threads, join};
 use tlwords::{Law, Mode, Outcome, Pass, Run, Words, begin, close, open};
-
-// How many cells a transaction reads, and to how many of them it adds one.
-const READS: usize = 4;
-
-const WRITES: usize = 2;
 
 // How often a transaction is tried before it is given up.
 const MOST_TRIES: u64 = 1 << 32;
@@ -40,6 +38,49 @@ pub struct Done {
     pub sum: u64,
 }
 
+// How many cells a transaction reads, and to how many of them it adds one.
+#[derive(Clone, Copy)]
+struct Shape {
+    reads: usize,
+    writes: usize,
+}
+
+impl Shape {
+    fn of(pattern: Pattern) -> Shape {
+        match pattern {
+            Pattern::Read => Shape {
+                reads: 100,
+                writes: 0,
+            },
+            _ => Shape {
+                reads: 4,
+                writes: 2,
+            },
+        }
+    }
+}
+
+/// What one thread works with.
+struct Worker<'w> {
+    words: &'w Words<Anything>,
+    pass: Pass<Anything>,
+    picks: Picks,
+    shape: Shape,
+    ghost fits: { (pass.seat.table_id ≡ words.now.table.shared.table_id) × (words.now.cells ≡ length pass.seat.me.0.base) × (words.now.room ≡ pass.seat.me.0.room) },
+    ghost within: { (picks.first + picks.span ≤ words.now.cells) × (0 < picks.span) },
+}
+
+impl<'w> Drop for Worker<'w> {
+    fn drop(self) {
+        let Worker {
+            words: _,
+            pass: _,
+            picks: _,
+            shape: _,
+        } = self;
+    }
+}
+
 // Reads the cell, and adds one to it if it is to be written. False is a conflict.
 fn touch(run: &mut Run<'_, Anything>, cell: usize, writes: bool) -> bool
     requires open { run.old.over ≡ None }
@@ -62,20 +103,21 @@ fn attempt(
     words: &Words<Anything>,
     pass: Pass<Anything>,
     picks: &mut Picks,
-    writes: usize,
+    shape: Shape,
 ) -> (Pass<Anything>, bool)
     requires fits { (pass.seat.table_id ≡ words.now.table.shared.table_id) × (words.now.cells ≡ length pass.seat.me.0.base) × (words.now.room ≡ pass.seat.me.0.room) }
     requires picks { (picks.old.first + picks.old.span ≤ words.now.cells) × (0 < picks.old.span) }
     ensures fits { (result.0.seat.table_id ≡ words.now.table.shared.table_id) × (words.now.cells ≡ length result.0.seat.me.0.base) × (words.now.room ≡ result.0.seat.me.0.room) }
     ensures picks { (picks.new.first ≡ picks.old.first) × (picks.new.span ≡ picks.old.span) }
 {
+    let Shape { reads, writes } = shape;
     let mode = if writes == 0 {
         Mode::Reading
     } else {
         Mode::Writing
     };
     let mut run = begin(words, pass, mode);
-    for i in 0..READS {
+    for i in 0..reads {
         let cell = picks.draw();
         if !touch(&mut run, cell, i < writes) {
             return (run.leave(), false);
@@ -88,52 +130,84 @@ fn attempt(
     )
 }
 
-// Tries a transaction until it commits.
-fn transact(
-    words: &Words<Anything>,
-    mut pass: Pass<Anything>,
-    picks: &mut Picks,
-    writes: usize,
-) -> (Pass<Anything>, bool)
-    requires fits { (pass.seat.table_id ≡ words.now.table.shared.table_id) × (words.now.cells ≡ length pass.seat.me.0.base) × (words.now.room ≡ pass.seat.me.0.room) }
-    requires picks { (picks.old.first + picks.old.span ≤ words.now.cells) × (0 < picks.old.span) }
-    ensures fits { (result.0.seat.table_id ≡ words.now.table.shared.table_id) × (words.now.cells ≡ length result.0.seat.me.0.base) × (words.now.room ≡ result.0.seat.me.0.room) }
-    ensures picks { (picks.new.first ≡ picks.old.first) × (picks.new.span ≡ picks.old.span) }
-{
-    for _ in 0..MOST_TRIES {
-        let start = *picks;
-        let (next, done) = attempt(words, pass, picks, writes);
-        pass = next;
-        if done {
-            return (pass, true);
+impl<'w> Worker<'w> {
+    // Tries a transaction until it commits.
+    fn transact(self) -> (Worker<'w>, bool) {
+        let Worker {
+            words,
+            mut pass,
+            mut picks,
+            shape,
+        } = self;
+        let mut done = false;
+        for _ in 0..MOST_TRIES {
+            let start = picks;
+            let (next, committed) = attempt(words, pass, &mut picks, shape);
+            pass = next;
+            if committed {
+                done = true;
+                break;
+            }
+            picks = start;
+            thread::yield_now();
         }
-        *picks = start;
-        thread::yield_now();
+        let worker = Worker {
+            words,
+            pass,
+            picks,
+            shape,
+        };
+        (worker, done)
     }
-    (pass, false)
 }
 
 // The transactions of one thread. It answers how many committed.
-fn run_thread(
-    words: &Words<Anything>,
-    mut pass: Pass<Anything>,
-    mut picks: Picks,
-    writes: usize,
-    transactions: u64,
-) -> u64
-    requires fits { (pass.seat.table_id ≡ words.now.table.shared.table_id) × (words.now.cells ≡ length pass.seat.me.0.base) × (words.now.room ≡ pass.seat.me.0.room) }
-    requires picks { (picks.first + picks.span ≤ words.now.cells) × (0 < picks.span) }
+fn run_one(mut worker: Worker<'_>, transactions: u32) -> u64
     ensures { result ≤ transactions }
 {
     let mut committed = 0;
     for _ in 0..transactions {
-        let (next, done) = transact(words, pass, &mut picks, writes);
-        pass = next;
+        let (next, done) = worker.transact();
+        worker = next;
         if done {
             committed += 1;
         }
     }
     committed
+}
+
+// The transactions of two threads.
+fn run_two(
+    rt: &(impl Threads + Sync),
+    workers: (Worker<'_>, Worker<'_>),
+    transactions: u32,
+) -> u64 {
+    let (first, second) = workers;
+    let one = move || -> u64
+        ensures { result ≤ transactions }
+    { run_one(first, transactions) };
+    let two = move || -> u64
+        ensures { result ≤ transactions }
+    { run_one(second, transactions) };
+    let (one, two) = join(rt, one, two);
+    one.saturating_add(two)
+}
+
+// The transactions of four threads.
+fn run_four<R: Threads + Sync>(
+    rt: &R,
+    front: (Worker<'_>, Worker<'_>),
+    back: (Worker<'_>, Worker<'_>),
+    transactions: u32,
+) -> u64 {
+    let one = move || -> u64
+        requires { IsSync R.row }
+    { run_two(rt, front, transactions) };
+    let two = move || -> u64
+        requires { IsSync R.row }
+    { run_two(rt, back, transactions) };
+    let (one, two) = join(rt, one, two);
+    one.saturating_add(two)
 }
 
 fn zeros(alloc: Global, cells: usize) -> Result<Vec<u64>, AllocError>
@@ -144,46 +218,90 @@ fn zeros(alloc: Global, cells: usize) -> Result<Vec<u64>, AllocError>
     Ok(values)
 }
 
-// The cells, all of value 0, with a pass for each of the two threads.
-fn opened(alloc: Global, cells: usize) -> Option<(Words<Anything>, Pass<Anything>, Pass<Anything>)>
-    ensures { IfSome result (λ r. (r.0.cells ≡ cells) × (r.1.seat.table_id ≡ r.0.table.shared.table_id) × (r.0.cells ≡ length r.1.seat.me.0.base) × (r.0.room ≡ r.1.seat.me.0.room) × (r.2.seat.table_id ≡ r.0.table.shared.table_id) × (r.0.cells ≡ length r.2.seat.me.0.base) × (r.0.room ≡ r.2.seat.me.0.room)) }
+// The cells, all of value 0, with a pass for each of so many threads.
+fn opened(
+    alloc: Global,
+    cells: usize,
+    threads: usize,
+) -> Option<(Words<Anything>, Vec<Pass<Anything>>)>
+    ensures cells { IfSome result (λ r. r.0.cells ≡ cells) }
+    ensures passes { IfSome result (λ r. All (λ p. (p.seat.table_id ≡ r.0.table.shared.table_id) × (r.0.cells ≡ length p.seat.me.0.base) × (r.0.room ≡ p.seat.me.0.room)) r.1.items) }
 {
     let values = zeros(alloc, cells).ok()?;
-    let Ok((words, mut passes)) = open::<Anything>(alloc, &(), values.as_slice(), &[], 0, 2) else {
-        return None;
-    };
-    let second = passes.pop()?;
-    let first = passes.pop()?;
-    Some((words, first, second))
+    open::<Anything>(alloc, &(), values.as_slice(), &[], 0, threads).ok()
 }
 
-/// Runs so many transactions on each of two threads. None is no memory, or no cells.
-pub fn run_all(
+// The next pass, with the work of the thread of this number.
+fn hired<'w>(
+    words: &'w Words<Anything>,
+    passes: &mut Vec<Pass<Anything>>,
+    task: &Task,
+    thread: usize,
+) -> Option<Worker<'w>>
+    requires cells { words.now.cells ≡ task.now.cells }
+    requires thread { thread < size task.now.team }
+    requires passes { All (λ p. (p.seat.table_id ≡ words.now.table.shared.table_id) × (words.now.cells ≡ length p.seat.me.0.base) × (words.now.room ≡ p.seat.me.0.room)) passes.old.items }
+    ensures { All (λ p. (p.seat.table_id ≡ words.now.table.shared.table_id) × (words.now.cells ≡ length p.seat.me.0.base) × (words.now.room ≡ p.seat.me.0.room)) passes.new.items }
+{
+    let pass = passes.pop()?;
+    Some(Worker {
+        words,
+        pass,
+        picks: Picks::new(task, thread)?,
+        shape: Shape::of(task.pattern),
+    })
+}
+
+// The workers of the thread of this number and of the next one.
+fn hired_pair<'w>(
+    words: &'w Words<Anything>,
+    passes: &mut Vec<Pass<Anything>>,
+    task: &Task,
+    thread: usize,
+) -> Option<(Worker<'w>, Worker<'w>)>
+    requires cells { words.now.cells ≡ task.now.cells }
+    requires thread { thread + 1 < size task.now.team }
+    requires passes { All (λ p. (p.seat.table_id ≡ words.now.table.shared.table_id) × (words.now.cells ≡ length p.seat.me.0.base) × (words.now.room ≡ p.seat.me.0.room)) passes.old.items }
+    ensures { All (λ p. (p.seat.table_id ≡ words.now.table.shared.table_id) × (words.now.cells ≡ length p.seat.me.0.base) × (words.now.room ≡ p.seat.me.0.room)) passes.new.items }
+{
+    let first = hired(words, passes, task, thread)?;
+    let second = hired(words, passes, task, thread + 1)?;
+    Some((first, second))
+}
+
+// The transactions of all threads. It answers how many committed; None is no cells for a thread.
+fn run_team(
     rt: &(impl Threads + Sync),
-    alloc: Global,
-    pattern: Pattern,
-    cells: usize,
-    transactions: u64,
-) -> Option<Done> {
-    let ours = Picks::new(pattern, cells, false)?;
-    let theirs = Picks::new(pattern, cells, true)?;
-    let writes = match pattern {
-        Pattern::Read => 0,
-        _ => WRITES,
-    };
-    let (words, first, second) = opened(alloc, cells)?;
-    let (one, two) = join(
-        rt,
-        || run_thread(&words, first, ours, writes, transactions),
-        || run_thread(&words, second, theirs, writes, transactions),
-    );
+    words: &Words<Anything>,
+    mut passes: Vec<Pass<Anything>>,
+    task: &Task,
+) -> Option<u64>
+    requires cells { words.now.cells ≡ task.now.cells }
+    requires passes { All (λ p. (p.seat.table_id ≡ words.now.table.shared.table_id) × (words.now.cells ≡ length p.seat.me.0.base) × (words.now.room ≡ p.seat.me.0.room)) passes.items }
+{
+    let count = task.transactions;
+    match task.team {
+        Team::One => Some(run_one(hired(words, &mut passes, task, 0)?, count)),
+        Team::Two => {
+            let workers = hired_pair(words, &mut passes, task, 0)?;
+            Some(run_two(rt, workers, count))
+        }
+        Team::Four => {
+            let front = hired_pair(words, &mut passes, task, 0)?;
+            let back = hired_pair(words, &mut passes, task, 2)?;
+            Some(run_four(rt, front, back, count))
+        }
+    }
+}
+
+/// Runs the transactions of the task. None is no memory, or no cells for a thread, or more than 2^32 of them.
+pub fn run_all(rt: &(impl Threads + Sync), alloc: Global, task: &Task) -> Option<Done> {
+    let (words, passes) = opened(alloc, task.cells, task.team.size())?;
+    let committed = run_team(rt, &words, passes, task)?;
     let closed = close(alloc, words, None).ok()?;
     let sum = closed
         .cells
         .iter()
         .fold(0u64, |sum, cell| sum.wrapping_add(cell.value));
-    Some(Done {
-        committed: one.wrapping_add(two),
-        sum,
-    })
+    Some(Done { committed, sum })
 }

@@ -1,5 +1,5 @@
 use Rattle.std.proofs.Common.{◌≡◌, length}
-use Rattle.tlbench.proofs.work.transact.Given as goal
+use Rattle.tlbench.proofs.work.Worker.transact.Given as goal
 
 abbrev pub invariant-loop : goal.invariant-loop
 invariant-loop l =
