@@ -8,10 +8,10 @@ use Rattle.tlcore.specs.History.{Will, version, value, deed}
 use Rattle.tlcore.specs.Machine.{World}
 use Rattle.tlcore.proofs.Growth.{get_exists}
 use Rattle.tlcore.proofs.Lists.{get_within}
-use Rattle.tlcore.proofs.Words.{CellWords}
+use Rattle.tlcore.specs.declared.cells.Cell.{Cell}
 use Rattle.tlwords.specs.declared.closing.ClosedCell.{ClosedCell}
 use Rattle.tlwords.specs.declared.closing.ClosedWords.{ClosedWords}
-use Rattle.tlwords.specs.Ranges.{Range, Has, Names, IsStored}
+use Rattle.ranges.specs.Ranges.{Range, Has, Names, IsStored}
 use Rattle.tlwords.specs.Terms.{Terms, Opened}
 use Rattle.tlwords.specs.Seen.{Seen, Legal, Agree}
 use Rattle.tlwords.specs.Views.{View}
@@ -117,11 +117,11 @@ module _ {S N : Type 0} (terms : Terms S N) (setting : S) (base : List ℕ) (roo
 
   -- the cell as the machine has it
   cell_same : (c : ℕ) (x : ClosedCell) → slice_get closed.cells.items c ≡ Some x
-      → (y : CellWords) × (slice_get w.cells c ≡ Some y) × (y.lock ≡ x.lock) × (y.value ≡ x.value)
+      → (y : Cell) × (slice_get w.cells c ≡ Some y) × (y.lock ≡ x.lock) × (y.value ≡ x.value)
   cell_same c x f =
       let l : c < length closed.cells.items = get_within closed.cells.items c x f in
       let m : n ≡ length w.cells = many in
-      let y : (y : CellWords) × (slice_get w.cells c ≡ Some y) = get_exists w.cells c (omega (arith, l, m, cells_count)) in
+      let y : (y : Cell) × (slice_get w.cells c ≡ Some y) = get_exists w.cells c (omega (arith, l, m, cells_count)) in
       let lock : (y.0).lock ≡ x.lock =
       sym (lock_word r.front w k.words_are c y.0 y.1)
       ∙ front_word (lock_at c) x.lock (lock_within r.front w k.words_are c y.0 y.1) (cells_are c x f).0 in
@@ -138,18 +138,18 @@ module _ {S N : Type 0} (terms : Terms S N) (setting : S) (base : List ℕ) (roo
             sym ((k.invariant).consistent.clock) ∙ (sym (clock_word r.front w k.words_are) ∙ front_word 1 closed.clock l clock_at);
         count = cells_count ∙ (many ∙ k.cells_are);
         free = λ c v x f e.
-            let y : (y : CellWords) × (slice_get w.cells c ≡ Some y) × (y.lock ≡ x.lock) × (y.value ≡ x.value) = cell_same c x f in
+            let y : (y : Cell) × (slice_get w.cells c ≡ Some y) × (y.lock ≡ x.lock) × (y.value ≡ x.value) = cell_same c x f in
             let ok : (v ≡ version w.history c) × ((y.0).value ≡ value base w.history c) × ((i u : ℕ) → deed w.history c i ≡ Will u → ⊥) =
             (k.invariant).consistent.cells c v y.0 y.1 (y.2 ∙ e) in
             (ok.0, sym y.3 ∙ ok.1, ok.2);
         written = λ c x f.
-            let y : (y : CellWords) × (slice_get w.cells c ≡ Some y) × (y.lock ≡ x.lock) × (y.value ≡ x.value) = cell_same c x f in
+            let y : (y : Cell) × (slice_get w.cells c ≡ Some y) × (y.lock ≡ x.lock) × (y.value ≡ x.value) = cell_same c x f in
             half_written terms setting base room r.ranges r.front s.views r.kept c x.lock y.0 y.1 (sym y.2);
       }
 
   named : (c : ℕ) (x : ClosedCell) → slice_get closed.cells.items c ≡ Some x → terms.ranged setting c → Names r.ranges x.value
   named c x f is =
-      let y : (y : CellWords) × (slice_get w.cells c ≡ Some y) × (y.lock ≡ x.lock) × (y.value ≡ x.value) = cell_same c x f in
+      let y : (y : Cell) × (slice_get w.cells c ≡ Some y) × (y.lock ≡ x.lock) × (y.value ≡ x.value) = cell_same c x f in
       subst (λ (v : ℕ). Names r.ranges v) y.3 (k.named c y.0 y.1 is)
 
   legal : Legal terms setting base last

@@ -1,9 +1,11 @@
 -- The ends of a commit that wrote nothing, and what a run needs to go on to its draw.
 use Rattle.std.proofs.Common.{◌≡◌, ◌≢◌, ℕ, Bool, true, false, if◌then◌else◌, is_some, Option, Some, None, List, [], ◌∷◌, ◌++◌, length, sym, refl, ap, ◌∙◌, subst}
 use Rattle.tlcore.specs.Seats.{Seat, reads_of}
-use Rattle.tlcore.proofs.Words.{at_reading, at_taking, is_resting}
+use Rattle.tlcore.specs.declared.seats.Place.TheVariants.{Reading, Taking}
+use Rattle.tlcore.specs.Seats.{is_resting}
 use Rattle.tlwords.specs.declared.log.Slot.{Slot}
-use Rattle.tlwords.specs.Terms.{Pairs, Terms, Permits}
+use Rattle.ranges.specs.Pairs.{Pairs}
+use Rattle.tlwords.specs.Terms.{Terms, Permits}
 use Rattle.tlwords.specs.Seen.{Answered}
 use Rattle.tlwords.specs.Views.{View}
 use Rattle.tlwords.specs.Plays.{Mine, Recalls}
@@ -53,14 +55,14 @@ module _ {S N : Type 0} (terms : Terms S N) (slots : List Slot) (x : N) (m r : M
         p.4,
       )
 
-  module _ (g : Goes terms m (holding m.0.seat at_taking at_reading (held_in slots 0 0 (length slots))) r) where
-    at : r.0.seat ≡ holding m.0.seat at_taking at_reading (held_in slots 0 0 (length slots))
-    at = goes_seat terms m r (holding m.0.seat at_taking at_reading (held_in slots 0 0 (length slots))) g
+  module _ (g : Goes terms m (holding m.0.seat Taking Reading (held_in slots 0 0 (length slots))) r) where
+    at : r.0.seat ≡ holding m.0.seat Taking Reading (held_in slots 0 0 (length slots))
+    at = goes_seat terms m r (holding m.0.seat Taking Reading (held_in slots 0 0 (length slots))) g
 
     pub taken_run : (place : ℕ) → writes_kept slots ≢ [] → m.0.seat.rv ≡ place
-        → (r.0.seat.place ≡ at_taking) × (r.0.seat.rv ≡ place) × (r.0.seat.held ≡ held_in slots 0 0 (length slots))
+        → (r.0.seat.place ≡ Taking) × (r.0.seat.rv ≡ place) × (r.0.seat.held ≡ held_in slots 0 0 (length slots))
     taken_run place some e = (
-      ap (λ (t : Seat). t.place) at ∙ ap (λ (b : Bool). if b then at_reading else at_taking) (some_held slots 0 some),
+      ap (λ (t : Seat). t.place) at ∙ ap (λ (b : Bool). if b then Reading else Taking) (some_held slots 0 some),
       ap (λ (t : Seat). t.rv) at ∙ e,
       ap (λ (t : Seat). t.held) at,
     )
@@ -69,7 +71,7 @@ module _ {S N : Type 0} (terms : Terms S N) (slots : List Slot) (x : N) (m r : M
         → (z : S) × (r.0.setting ≡ Some z) × Permits terms z r.0.seen.ranges (reads_of r.0.seat.reads) (writes_kept slots) x
     taken_lawful y e f = (
       y,
-      goes_setting terms m r (holding m.0.seat at_taking at_reading (held_in slots 0 0 (length slots))) y g e,
+      goes_setting terms m r (holding m.0.seat Taking Reading (held_in slots 0 0 (length slots))) y g e,
       subst (λ (t : Seat). Permits terms y r.0.seen.ranges (reads_of t.reads) (writes_kept slots) x) (sym at)
           (permits_grow terms y m.0.seen.ranges r.0.seen.ranges (moves_grow terms m r g.moves).2 (f y e)),
     )

@@ -2,7 +2,7 @@
 use Rattle.std.proofs.Common.{◌≡◌, ℕ, suc, ◌-◌, ◌*◌, List, [], ◌∷◌, ◌++◌, length, slice_set, slice_index, sym, refl, ap, ◌∙◌, subst, arith}
 use Rattle.std.proofs.lemmas.List.{get_or_append_left, get_or-append_right, set-append_left, set-append_right}
 use Rattle.atomic_table.specs.Table.{keeps, Allows}
-use Rattle.tlcore.proofs.Words.{CellWords}
+use Rattle.tlcore.specs.declared.cells.Cell.{Cell}
 use Rattle.tlwords.specs.Terms.{Terms}
 use Rattle.tlwords.specs.Views.{View}
 use Rattle.tlwords.specs.Rule.{paired, tail_at, store_at, Kept, Ruled}
@@ -10,7 +10,7 @@ use Rattle.tlwords.specs.Plays.{Mine}
 use Rattle.tlwords.proofs.Keeps.{AllowsFront}
 use Rattle.tlwords.proofs.Shelves.{shelf_same}
 
-length-paired : (xs : List CellWords) → length (paired xs) ≡ 2 * length xs
+length-paired : (xs : List Cell) → length (paired xs) ≡ 2 * length xs
 length-paired [] = refl
 length-paired (x ∷ xs) = let r : length (paired xs) ≡ 2 * length xs = length-paired xs in omega (arith, r)
 

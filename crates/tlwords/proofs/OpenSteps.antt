@@ -12,8 +12,9 @@ use Rattle.tlcore.specs.Laws.{Keeps}
 use Rattle.tlcore.proofs.Growth.{Grows-refl}
 use Rattle.tlcore.proofs.Laws.{idle_seat_keeps}
 use Rattle.tlcore.proofs.SeatParts.{ReadsOk-one}
-use Rattle.tlcore.proofs.Words.{at_idle, is_looking, not_looking}
-use Rattle.tlwords.specs.Ranges.{Range, Has}
+use Rattle.tlcore.specs.declared.seats.Place.TheVariants.{Idle}
+use Rattle.tlcore.proofs.Words.{is_looking, not_looking}
+use Rattle.ranges.specs.Ranges.{Range, Has}
 use Rattle.tlwords.specs.Terms.{Terms, Permits}
 use Rattle.tlwords.specs.Seen.{Work, Call, Answered, Seen, Agree}
 use Rattle.tlwords.specs.Views.{View, tells, untold, nobody, counts}
@@ -146,14 +147,14 @@ module _ {S N : Type 0} (terms : Terms S N) (setting : S) (base : List ℕ) (roo
       → ((x : S) → v.setting ≡ Some x → v.room ≡ room) → IsTold setting base g owner (tells v) → IsTold setting base g owner v.told
       → Suits terms setting base room g owner v
   blank_suits g owner v idles calls undrawn same_room own told =
-      let place : v.seat.place ≡ at_idle = ap (λ (t : Seat). t.place) idles in
+      let place : v.seat.place ≡ Idle = ap (λ (t : Seat). t.place) idles in
       record {
         own = own;
         room_is = same_room;
         told = told;
         mine = subst (λ (cs : List (Call N)). Agree terms setting base g cs) (sym calls) tt;
         settled = λ i has. absurd (subst (λ (ns : List ℕ). Has (suc i) ns) undrawn has);
-        noted = λ i a. absurd (no_number v.seat.place at_idle i place refl a);
+        noted = λ i a. absurd (no_number v.seat.place Idle i place refl a);
         look = λ c word value a. absurd (not_looking v.seat.place (ap is_looking place) c word value a);
         few = let a : length v.drawn ≡ 0 = ap length undrawn in omega (arith, a);
       }

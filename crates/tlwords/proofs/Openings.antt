@@ -1,5 +1,5 @@
 -- The rule at the opening, and the passes of an opening.
-use Rattle.std.proofs.Common.{◌≡◌, ℕ, zero, suc, ◌+◌, ◌-◌, ◌*◌, ◌/◌, ◌%◌, ◌^◌, ◌<◌, ◌≤◌, inl, inr, false, Some, None, List, [], ◌∷◌, ◌++◌, length, map, slice_get, sym, refl, ap, ◌∙◌, subst, arith, All, take, drop, replicate}
+use Rattle.std.proofs.Common.{◌≡◌, ℕ, zero, suc, ◌+◌, ◌-◌, ◌*◌, ◌^◌, ◌<◌, ◌≤◌, false, Some, None, List, [], ◌∷◌, ◌++◌, length, map, slice_get, sym, refl, ap, ◌∙◌, subst, arith, All, take, replicate}
 use mathlib.Core.Option.{some, some-injective, some-ne-none}
 use lib.ListN.{get_elem?}
 use Rattle.std.specs.Prelude.{slice_index_or}
@@ -7,11 +7,11 @@ use Rattle.std.proofs.lemmas.List.{map-append, length-append, length-replicate}
 use Rattle.std.proofs.lemmas.List.Elements.{All-append}
 use Rattle.atomic_table.specs.Table.{opening}
 use Rattle.tlcore.specs.Schedules.{start, opened}
-use Rattle.tlcore.proofs.Growth.{get_exists}
-use Rattle.tlcore.proofs.Lists.{get-append_left, get_within}
 use Rattle.tlcore.proofs.Opacity.{start_ok}
-use Rattle.tlcore.proofs.Words.{CellWords}
-use Rattle.tlwords.specs.Ranges.{Range, Has, IsStored, LieIn, range_named, ranges_named}
+use Rattle.tlcore.specs.declared.cells.Cell.{Cell}
+use Rattle.ranges.proofs.Named.{named_stored}
+use Rattle.ranges.proofs.Named.{named_of_one}
+use Rattle.ranges.specs.Ranges.{Range, Has, IsStored, AreOfOneStore, ranges_named}
 use Rattle.tlwords.specs.Terms.{Terms, AreNamed}
 use Rattle.tlwords.specs.Seen.{Seen, opening_seen}
 use Rattle.tlwords.specs.Views.{Staging, View, untold, fresh, counts}
@@ -43,47 +43,10 @@ some_one a b e = cc
 no_staging : {S N : Type 0} {A : Type 0} (v : View S N) (s : Staging) → v.staging ≡ None → v.staging ≡ Some s → A
 no_staging v s e f = absurd (cc)
 
-get_opened : (vs : List ℕ) (c : ℕ) (x : CellWords) → slice_get (opened vs) c ≡ Some x → slice_get vs c ≡ Some x.value
+get_opened : (vs : List ℕ) (c : ℕ) (x : Cell) → slice_get (opened vs) c ≡ Some x → slice_get vs c ≡ Some x.value
 get_opened [] c x e = absurd (cc)
-get_opened (v ∷ vs) zero x e = let q : record { lock = 0; value = v } ≡ x = cc in ap (λ (z : CellWords). Some z.value) q
+get_opened (v ∷ vs) zero x e = let q : record { lock = 0; value = v } ≡ x = cc in ap (λ (z : Cell). Some z.value) q
 get_opened (v ∷ vs) (suc c) x e = get_opened vs c x e
-
--- what stands in a part of the list stands in the list
-taken : (n i w : ℕ) (xs : List ℕ) → slice_get (take n xs) i ≡ Some w → slice_get xs i ≡ Some w
-taken zero i w xs e = absurd (cc)
-taken (suc n) i w [] e = absurd (cc)
-taken (suc n) zero w (x ∷ xs) e = e
-taken (suc n) (suc i) w (x ∷ xs) e = taken n i w xs e
-
-part_get : (n s i w : ℕ) (xs : List ℕ) → slice_get (take n (drop s xs)) i ≡ Some w → slice_get xs (s + i) ≡ Some w
-part_get n zero i w xs e = ap (λ (k : ℕ). slice_get xs k) (let z : 0 + i ≡ i = omega arith in z) ∙ taken n i w xs e
-part_get n (suc s) i w [] e = let none : slice_get [] i ≡ Some w = taken n i w [] e in absurd (cc)
-part_get n (suc s) i w (x ∷ xs) e = ap (λ (k : ℕ). slice_get (x ∷ xs) k) (let k : suc s + i ≡ suc (s + i) = omega arith in k) ∙ part_get n s i w xs e
-
-part_within : (n s i : ℕ) (xs : List ℕ) → i < length (take n (drop s xs)) → s + i < length xs
-part_within n s i xs l =
-    let b = get_exists (take n (drop s xs)) i l in
-    get_within xs (s + i) b.0 (part_get n s i b.0 xs b.1)
-
--- a range that the values name is one that some value names
-named_by : (P : Range → Type 0) (store values : List ℕ) → ((v : ℕ) → P (range_named store v)) → (r : Range) → Has r (ranges_named store values) → P r
-named_by P store [] all r has = absurd has
-named_by P store (v ∷ vs) all r (inl e) = subst P (sym e) (all v)
-named_by P store (v ∷ vs) all r (inr has) = named_by P store vs all r has
-
-pub lie_named : (store values : List ℕ) (room : ℕ) → length store ≤ room → LieIn room (ranges_named store values)
-lie_named store values room l =
-    named_by (λ r. (i : ℕ) → i < length r.words → r.start + i < room) store values
-    (λ v i m. let w = part_within (v % 2 ^ 25) (v / 2 ^ 25) i store m in omega (arith, w, l))
-
--- the ranges that the values name are stored, whatever stands behind the store's opening words
-pub named_stored : (store values more : List ℕ) (r : Range) → Has r (ranges_named store values) → IsStored (length store) (store ++ more) r
-named_stored store values more =
-    named_by (λ r. IsStored (length store) (store ++ more) r) store values
-    (λ v i w e.
-    let here = part_get (v % 2 ^ 25) (v / 2 ^ 25) i w store e in
-    let l = get_within store (v / 2 ^ 25 + i) w here in
-    (get-append_left store more (v / 2 ^ 25 + i) l ∙ here, l))
 
 module _ {S N : Type 0} (terms : Terms S N) (setting : S) (values store : List ℕ) (room : ℕ) (fits : length store ≤ room) where
   shelf_so : room ≤ 2 ^ 24 → (ranges : List Range) → ((r : Range) → Has r ranges → IsStored (length store) (store ++ replicate (room - length store) 0) r)
@@ -128,7 +91,7 @@ module _ {S N : Type 0} (terms : Terms S N) (setting : S) (values store : List �
         entries = λ i e n a b. absurd (cc);
         opening = record { some = ranges; among = λ r has. has; opens = fact };
         named = λ c x at is. named c x.value (get_opened values c x at) is;
-        lie = lie_named store values room fits;
+        lie = named_of_one store values room fits;
         suits = only_one first (λ v. Suits terms setting values room g (λ _. 0) v) suit;
         rights = refl;
         numbers = refl;
@@ -224,5 +187,5 @@ module _ {S N : Type 0} (setting : S) (base : List ℕ) (room : ℕ) (ranges : L
       let b : (64 - k) - 1 ≡ 64 - (k + 1) = omega arith in
       a ∙ (ap g e ∙ ap (λ (n : ℕ). fresh (Some setting) base room ranges 0 n) b)
 
-  pub new_knows : (r : Mine S N) → IsNew setting base room ranges r.0 → LieIn room ranges → KnowsStore r.0 false
+  pub new_knows : (r : Mine S N) → IsNew setting base room ranges r.0 → AreOfOneStore room ranges → KnowsStore r.0 false
   new_knows r is lie = subst (λ (v : View S N). KnowsStore v false) (sym is) (record { at_rest = refl; full = refl; ranges = lie })

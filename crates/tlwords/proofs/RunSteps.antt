@@ -5,14 +5,18 @@ use native.Mathlib.Decide.{ℕ_discrete}
 use Rattle.std.proofs.lemmas.Bool.Decides.{nat_tests}
 use Rattle.tlcore.specs.Seats.{Seat, passes, is_nil}
 use Rattle.tlcore.specs.Machine.{placed, conflict}
-use Rattle.tlcore.proofs.Words.{at_idle, at_reading, at_looked, at_loaded, SeatPlace, is_reading, is_resting, reading_at}
+use Rattle.tlcore.specs.declared.seats.Place.{Place}
+use Rattle.tlcore.specs.declared.seats.Place.TheVariants.{Idle, Reading, Looked, Loaded}
+use Rattle.tlcore.specs.Seats.{is_reading, is_resting}
+use Rattle.tlcore.proofs.Words.{reading_at}
 use Rattle.tlwords.specs.Terms.{Terms}
-use Rattle.tlwords.specs.Ranges.{Has}
+use Rattle.ranges.specs.Ranges.{Has}
 use Rattle.tlwords.specs.Seen.{SeenGrows}
 use Rattle.tlwords.specs.Views.{View, untold}
 use Rattle.tlwords.specs.Plays.{Mine, Sees, Sampled, Refreshes, began, told_by, witness, Looks, Loads, Relooks, after_relook}
 use Rattle.tlwords.specs.Runs.{HasCause, ReadsCell, Stops, Learns, IsPassOf, IsRunOf}
-use Rattle.tlwords.proofs.Seens.{seen_trans, names_grow}
+use Rattle.ranges.proofs.Grown.{names_grow}
+use Rattle.tlwords.proofs.Seens.{seen_trans}
 
 pub if_true : {A : Type 0} (b : Bool) (x y : A) → b ≡ true → (if b then x else y) ≡ x
 if_true b x y e = ap (λ (b : Bool). if b then x else y) e
@@ -52,29 +56,29 @@ module _ {S N : Type 0} (terms : Terms S N) where
           written = p.written;
           cause = cause;
           is = p.is ∙ ap (λ (t : Seat). let v : View S N = record m0.0 { seen = m1.0.seen; seat = t; looked = Some (c, a) } in v)
-              (if_false (passes a m0.0.seat.rv) (placed m0.0.seat (at_looked c a)) (conflict m0.0.seat at_idle) (passes_false a m0.0.seat.rv cause));
+              (if_false (passes a m0.0.seat.rv) (placed m0.0.seat (Looked c a)) (conflict m0.0.seat Idle) (passes_false a m0.0.seat.rv cause));
         }
 
     module _ (even : a % 2 ≡ 0) (low : a / 2 ≤ m0.0.seat.rv) where
-      looked_is : m1.0 ≡ record m0.0 { seen = m1.0.seen; seat = placed m0.0.seat (at_looked c a); looked = Some (c, a) }
+      looked_is : m1.0 ≡ record m0.0 { seen = m1.0.seen; seat = placed m0.0.seat (Looked c a); looked = Some (c, a) }
       looked_is =
           p.is ∙ ap (λ (t : Seat). let v : View S N = record m0.0 { seen = m1.0.seen; seat = t; looked = Some (c, a) } in v)
-          (if_true (passes a m0.0.seat.rv) (placed m0.0.seat (at_looked c a)) (conflict m0.0.seat at_idle) (passes_true a m0.0.seat.rv even low))
+          (if_true (passes a m0.0.seat.rv) (placed m0.0.seat (Looked c a)) (conflict m0.0.seat Idle) (passes_true a m0.0.seat.rv even low))
 
-      pub looked_place : m1.0.seat.place ≡ at_looked c a
+      pub looked_place : m1.0.seat.place ≡ Looked c a
       looked_place = ap (λ (v : View S N). v.seat.place) looked_is
 
       module _ (m2 : Mine S N) (b : ℕ) (q : Loads terms m1 b m2) where
-        loaded_is : m2.0 ≡ record m0.0 { seen = m2.0.seen; seat = placed m0.0.seat (at_loaded c a b); looked = Some (c, a) }
+        loaded_is : m2.0 ≡ record m0.0 { seen = m2.0.seen; seat = placed m0.0.seat (Loaded c a b); looked = Some (c, a) }
         loaded_is =
             q.is c a looked_place
-            ∙ ap (λ (v : View S N). let u : View S N = record v { seen = m2.0.seen; seat = placed v.seat (at_loaded c a b) } in u) looked_is
+            ∙ ap (λ (v : View S N). let u : View S N = record v { seen = m2.0.seen; seat = placed v.seat (Loaded c a b) } in u) looked_is
 
-        pub loaded_place : m2.0.seat.place ≡ at_loaded c a b
+        pub loaded_place : m2.0.seat.place ≡ Loaded c a b
         loaded_place = ap (λ (v : View S N). v.seat.place) loaded_is
 
         module _ (m3 : Mine S N) (d : ℕ) (r : Relooks terms m2 d m3) where
-          relooked_is : m3.0 ≡ record m0.0 { seen = m3.0.seen; seat = after_relook (placed m0.0.seat (at_loaded c a b)) c a b d; looked = Some (c, d) }
+          relooked_is : m3.0 ≡ record m0.0 { seen = m3.0.seen; seat = after_relook (placed m0.0.seat (Loaded c a b)) c a b d; looked = Some (c, d) }
           relooked_is =
               r.is c a b loaded_place
               ∙ ap (λ (v : View S N). let u : View S N = record v { seen = m3.0.seen; seat = after_relook v.seat c a b d; looked = Some (c, d) } in u) loaded_is
@@ -95,7 +99,7 @@ module _ {S N : Type 0} (terms : Terms S N) where
                 named = λ x set ranged. names_grow m2.0.seen.ranges m3.0.seen.ranges b r.sees.own.2
                     (q.named x c a (ap (λ (v : View S N). v.setting) looked_is ∙ set) looked_place ranged);
                 is = relooked_is ∙ ap (λ (z : Seat × ℕ). let v : View S N = record m0.0 { seen = m3.0.seen; seat = z.0; looked = Some (c, z.1) } in v)
-                    (λ j. (if_true (d == a) (record m0.0.seat { place = at_reading; reads = record { cell = c; word = a; value = b } ∷ m0.0.seat.reads }) (conflict m0.0.seat at_idle) (eq-eqb d a e) j, e j));
+                    (λ j. (if_true (d == a) (record m0.0.seat { place = Reading; reads = record { cell = c; word = a; value = b } ∷ m0.0.seat.reads }) (conflict m0.0.seat Idle) (eq-eqb d a e) j, e j));
               }
 
           pub read_stops : d ≢ a → Stops terms c d m0 m3
@@ -107,7 +111,7 @@ module _ {S N : Type 0} (terms : Terms S N) where
                     (λ e. inr (subst (λ (k : ℕ). k < d / 2) (ap (λ (v : View S N). v.seat.rv) loaded_is) (r.missed c a b loaded_place ne e)))
                     (λ e. inl (omega (arith, e)));
                 is = relooked_is ∙ ap (λ (t : Seat). let v : View S N = record m0.0 { seen = m3.0.seen; seat = t; looked = Some (c, d) } in v)
-                    (if_false (d == a) (record m0.0.seat { place = at_reading; reads = record { cell = c; word = a; value = b } ∷ m0.0.seat.reads }) (conflict m0.0.seat at_idle) (ne_eqb d a ne));
+                    (if_false (d == a) (record m0.0.seat { place = Reading; reads = record { cell = c; word = a; value = b } ∷ m0.0.seat.reads }) (conflict m0.0.seat Idle) (ne_eqb d a ne));
               }
 
 -- ---- a run begins
@@ -132,7 +136,7 @@ module _ {S N : Type 0} (terms : Terms S N) where
 
   -- ---- a run reads
 
-  reading_fits : (o : Bool) → (if o then is_resting at_reading else is_reading at_reading) ≡ true
+  reading_fits : (o : Bool) → (if o then is_resting Reading else is_reading Reading) ≡ true
   reading_fits true = refl
   reading_fits false = refl
 
@@ -165,7 +169,7 @@ module _ {S N : Type 0} (terms : Terms S N) where
   pub left_fits : (m : Mine S N) (count place : ℕ) (o : Bool) → IsRunOf m count place o → IsPassOf m count
   left_fits m count place o f = (f.0, rests m.0.seat.place o f.1, f.2, f.3, f.4)
     where
-      rests : (p : SeatPlace) (o : Bool) → (if o then is_resting p else is_reading p) ≡ true → is_resting p ≡ true
+      rests : (p : Place) (o : Bool) → (if o then is_resting p else is_reading p) ≡ true → is_resting p ≡ true
       rests p true e = e
       rests p false e = ap is_resting (reading_at p e)
 

@@ -5,7 +5,10 @@ use lib.ListN.{get_elem?}
 use Rattle.atomic_table.proofs.Lists.{at_set, at_snoc}
 use Rattle.std.proofs.lemmas.Option.{slice_get-get_or}
 use Rattle.tlcore.proofs.Lists.{get-set_same, get-set_other, get_within, length-slice_set, same_or_not}
-use Rattle.tlwords.specs.Ranges.{Range, Has, IsStored, LieIn}
+use Rattle.ranges.proofs.Stored.{stored_coherent}
+use Rattle.ranges.proofs.Stored.{stored_on}
+use Rattle.ranges.proofs.Stored.{below_tail}
+use Rattle.ranges.specs.Ranges.{Range, Has, IsStored, AreOfOneStore}
 use Rattle.tlwords.specs.Views.{Staging, View, counts}
 use Rattle.tlwords.specs.Rule.{total_of, IsTaken, IsApart, Shelf}
 use Rattle.tlwords.proofs.Keeps.{total_set}
@@ -22,20 +25,10 @@ one_staging o s t p q = let b : Some s ≡ Some t = sym p ∙ q in cc
 
 -- ---- a tail and words that go on
 
-pub stored_on : (tail later : ℕ) (store : List ℕ) (r : Range) → tail ≤ later → IsStored tail store r → IsStored later store r
-stored_on tail later store r l f i w e =
-    let a : (slice_get store (r.start + i) ≡ Some w) × (r.start + i < tail) = f i w e in
-    let b : r.start + i < tail = a.1 in
-    (a.0, omega (arith, b, l))
-
 pub taken_on : (room tail later : ℕ) (store : List ℕ) (s : Staging) → tail ≤ later → IsTaken room tail store s → IsTaken room later store s
 taken_on room tail later store s l f =
     let b : s.start + length s.words ≤ tail = f.below in
     record { inside = f.inside; below = omega (arith, b, l); left = f.left; stored = f.stored }
-
--- a word of a finished range lies below the tail
-pub below_tail : (tail : ℕ) (store : List ℕ) (r : Range) (i : ℕ) → IsStored tail store r → i < length r.words → r.start + i < tail
-below_tail tail store r i f l = (f i _ (slice_get-get_or r.words i 0 l)).1
 
 module _ {S N : Type 0} where
   -- what the change of one seat leaves the others
@@ -331,25 +324,26 @@ module _ {S N : Type 0} where
     abbrev pub with_range : List Range
     with_range = (record { start = s.start; words = s.words }) ∷ ranges
 
+    -- once the last word is stored, all of these are
+    new_stored : s.done + 1 ≡ length s.words → IsStored tail with_word (record { start = s.start; words = s.words })
+    new_stored last i x e =
+        let l : i < length s.words = get_within s.words i x e in
+        let below : s.start + length s.words ≤ tail = mine.below in
+        (stored_next i x (omega (arith, l, last)) e, omega (arith, l, below))
+
+    all_finished : s.done + 1 ≡ length s.words → (r : Range) → Has r with_range → IsStored tail with_word r
+    all_finished last r (inl p) = subst (λ (r : Range). IsStored tail with_word r) (sym p) (new_stored last)
+    all_finished last r (inr has) = finished_stay r has
+
     -- the range is finished
     pub shelf_finished : (w : View S N) → s.done + 1 ≡ length s.words → w.staging ≡ None → w.full ≡ v.full → w.rights ≡ v.rights
         → Shelf room with_range tail with_word (slice_set vs id w)
     shelf_finished w last after full rights =
-        shelf_set room tail tail ranges with_range store with_word vs id w h long finished
+        shelf_set room tail tail ranges with_range store with_word vs id w h long (all_finished last)
         (record { taken = others_taken; apart = others_apart })
         (λ z e. absurd (some_is_none w.staging z after e))
         (refused_stays w full) (once_stays w full rights)
       where
-        new_stored : IsStored tail with_word (record { start = s.start; words = s.words })
-        new_stored i x e =
-            let l : i < length s.words = get_within s.words i x e in
-            let below : s.start + length s.words ≤ tail = mine.below in
-            (stored_next i x (omega (arith, l, last)) e, omega (arith, l, below))
-
-        finished : (r : Range) → Has r with_range → IsStored tail with_word r
-        finished r (inl p) = subst (λ (r : Range). IsStored tail with_word r) (sym p) new_stored
-        finished r (inr has) = finished_stay r has
-
         new_apart : (j : ℕ) (u : View S N) (t : Staging) → j ≢ id → get_elem? vs j ≡ some u → u.staging ≡ Some t
             → IsApart t (record { start = s.start; words = s.words })
         new_apart j u t other at_u e i l = ⊎_elim
@@ -362,8 +356,11 @@ module _ {S N : Type 0} where
         others_apart j u t r other at_u e (inr has) = h.apart j u t r at_u e has
 
     -- each of them lies in the room
-    pub lie_more : LieIn room ranges → LieIn room with_range
-    lie_more lie r (inl p) i l =
+    lies_more : AreOfOneStore room ranges → (r : Range) → Has r with_range → (i : ℕ) → i < length r.words → r.start + i < room
+    lies_more lie r (inl p) i l =
         let b : s.start + length s.words ≤ room = mine.inside in
         subst (λ (r : Range). (i : ℕ) → i < length r.words → r.start + i < room) (sym p) (λ i l. omega (arith, b, l)) i l
-    lie_more lie r (inr has) i l = lie r has i l
+    lies_more lie r (inr has) i l = lie.0 r has i l
+
+    pub lie_more : s.done + 1 ≡ length s.words → AreOfOneStore room ranges → AreOfOneStore room with_range
+    lie_more last lie = (lies_more lie, stored_coherent tail with_word with_range (all_finished last))

@@ -10,14 +10,15 @@ use Rattle.tlcore.specs.Machine.{World}
 use Rattle.tlcore.specs.Laws.{Keeps}
 use Rattle.tlcore.proofs.Growth.{Grows-refl}
 use Rattle.tlcore.proofs.Lists.{get_within}
-use Rattle.tlwords.specs.Ranges.{Range, Has, Within, LieIn}
+use Rattle.ranges.specs.Ranges.{Range, Has, Within, AreOfOneStore}
 use Rattle.tlwords.specs.Terms.{Terms}
 use Rattle.tlwords.specs.Seen.{Seen, SeenGrows}
 use Rattle.tlwords.specs.Views.{Staging, View, tells}
 use Rattle.tlwords.specs.Rule.{tail_at, store_at, EntriesAre, IsTold, Suits, Shelf, Ruled}
 use Rattle.tlwords.specs.Plays.{Mine, Sees, Fetches, advanced, filled, fetched}
 use Rattle.tlwords.proofs.Paired.{set_same}
-use Rattle.tlwords.proofs.Seens.{seen_refl, seen_trans, agree_grows, permits_grow, names_grow, within_refl}
+use Rattle.ranges.proofs.Grown.{names_grow, within_refl}
+use Rattle.tlwords.proofs.Seens.{seen_refl, seen_trans, agree_grows, permits_grow}
 use Rattle.tlwords.proofs.Keeps.{Rule, now, seat_at, moved, sound_of, told_grows}
 use Rattle.tlwords.proofs.Lifts.{front_long, tail_word, tail_is_set, store_word, store_is_set}
 use Rattle.tlwords.proofs.Shelves.{one_staging, tail_stays, shelf_same, shelf_taken, shelf_refused, shelf_filled, shelf_finished, with_range, lie_more}
@@ -36,7 +37,7 @@ module _ {S N : Type 0} (terms : Terms S N) (setting : S) (base : List ℕ) (roo
     abbrev pub aside : List Range → Option Staging → Option (ℕ × ℕ) → View S N
     aside qs staging full = record v { seen = record { history = (r.world).history; notes = r.notes; ranges = qs }; staging = staging; full = full }
 
-    pub beside : get_elem? vs id ≡ some v → (qs : List Range) (staging : Option Staging) (full : Option (ℕ × ℕ)) → Within ranges qs → LieIn room qs
+    pub beside : get_elem? vs id ≡ some v → (qs : List Range) (staging : Option Staging) (full : Option (ℕ × ℕ)) → Within ranges qs → AreOfOneStore room qs
         → Rule terms setting base room qs front (slice_set vs id (aside qs staging full)) × Sees terms v (aside qs staging full)
     beside at qs staging full wider lie =
         let world : World = r.world in
@@ -68,7 +69,7 @@ module _ {S N : Type 0} (terms : Terms S N) (setting : S) (base : List ℕ) (roo
           record {
             own = seen_trans v.seen g h f.own.grows grow;
             told = seen_trans v.told.seen g h f.told.grows grow;
-            sound = sound_of terms setting base room qs world r.notes r.owner id w r.invariant entries rule.opening lie suit e refl;
+            sound = sound_of terms setting base room qs world r.notes r.owner id w r.invariant r.notes_are entries rule.opening lie suit e refl;
           },
         )
 
@@ -217,7 +218,7 @@ module _ {S N : Type 0} (terms : Terms S N) (setting : S) (base : List ℕ) (roo
           let qs : List Range = with_range room r.tail r.ranges r.store s.views id v t word r.shelf at staging next in
           let u : View S N = aside r.ranges r.front s.views r.kept id v qs None v.full in
           let q = beside r.ranges r.front s.views r.kept id v at qs None v.full (λ x has. inr has)
-          (lie_more room r.tail r.ranges r.store s.views id v t word r.shelf at staging next (r.kept).lie) in (
+          (lie_more room r.tail r.ranges r.store s.views id v t word r.shelf at staging next last (r.kept).lie) in (
             u,
             keeps,
             tt,

@@ -5,7 +5,7 @@ use lib.ListN.{get_elem?}
 use Rattle.tlcore.specs.History.{Entry, WasWritten, Will, version, value, deed}
 use Rattle.tlwords.specs.declared.closing.ClosedCell.{ClosedCell}
 use Rattle.tlwords.specs.declared.closing.ClosedWords.{ClosedWords}
-use Rattle.tlwords.specs.Ranges.{Range, Has, Names, IsStored}
+use Rattle.ranges.specs.Ranges.{Range, Has, Names, IsStored}
 use Rattle.tlwords.specs.Terms.{Terms, Opened}
 use Rattle.tlwords.specs.Seen.{Seen, SeenGrows, Legal, Agree}
 use Rattle.tlwords.specs.Views.{View}

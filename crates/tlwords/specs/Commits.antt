@@ -2,12 +2,14 @@
 use Rattle.std.specs.Prelude.{◌≡◌, ◌≢◌, ℕ, zero, suc, ◌/◌, ◌^◌, ◌≤◌, Bool, true, Option, Some, None, List, [], ◌∷◌, ◌++◌, length, slice_get, ◌⊎◌}
 use Rattle.tlcore.specs.History.{Entry, WasWritten}
 use Rattle.tlcore.specs.Seats.{Seat, reads_of}
-use Rattle.tlcore.proofs.Words.{is_void, at_idle}
+use Rattle.tlcore.specs.declared.entries.Status.TheVariants.{Void}
+use Rattle.tlcore.specs.declared.seats.Place.TheVariants.{Idle}
 use Rattle.tlwords.specs.declared.log.Slot.{Slot}
 use Rattle.tlwords.specs.declared.outcome.Conflict.{Conflict as ConflictValue}
 use Rattle.tlwords.specs.declared.outcome.Outcome.{Outcome}
 use Rattle.tlwords.specs.declared.outcome.Outcome.TheVariants.{Committed as EndsDone, Read as EndsRead, Conflict as EndsConflict, NumbersUsed}
-use Rattle.tlwords.specs.Terms.{Pairs, Terms, Permits}
+use Rattle.ranges.specs.Pairs.{Pairs}
+use Rattle.tlwords.specs.Terms.{Terms, Permits}
 use Rattle.tlwords.specs.Seen.{Work, Seen, Committed, Answered, IsDone}
 use Rattle.tlwords.specs.Views.{View}
 use Rattle.tlwords.specs.Plays.{Mine, Sees}
@@ -51,7 +53,7 @@ HasForgotten slots cells after more =
 
 -- the entry at the index i is Void
 abbrev pub IsVoid : {N : Type 0} → Seen N → ℕ → Type 0
-IsVoid g i = (e : Entry) × (slice_get g.history i ≡ Some e) × (e.status ≡ is_void)
+IsVoid g i = (e : Entry) × (slice_get g.history i ≡ Some e) × (e.status ≡ Void)
 
 module _ {S N : Type 0} (terms : Terms S N) where
   -- a look or a take of the conflict's cell found its word
@@ -64,7 +66,7 @@ module _ {S N : Type 0} (terms : Terms S N) where
 
   -- the seat of a run that is over
   abbrev pub over_seat : Seat → Bool → Seat
-  over_seat t conflicted = record t { place = at_idle; held = []; conflicted = conflicted }
+  over_seat t conflicted = record t { place = Idle; held = []; conflicted = conflicted }
 
   -- the call has this number, and its entry is Done, with its work
   pub record HasCommitted (number : ℕ) (w : Work N) (m r : Mine S N) : Type 0 where

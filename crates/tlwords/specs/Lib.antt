@@ -1,4 +1,3 @@
-pub mod Ranges
 pub mod Terms
 pub mod Seen
 pub mod Views

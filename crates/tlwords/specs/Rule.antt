@@ -11,9 +11,10 @@ use Rattle.std.specs.Prelude.{suc, ◌⊎◌}
 use Rattle.tlcore.specs.History.{Entry, version_after, deed, NoneWill}
 use Rattle.tlcore.specs.Seats.{Seat, number_at}
 use Rattle.tlcore.specs.Machine.{World}
-use Rattle.tlcore.proofs.Words.{CellWords, at_looked, at_loaded}
+use Rattle.tlcore.specs.declared.cells.Cell.{Cell}
+use Rattle.tlcore.specs.declared.seats.Place.TheVariants.{Looked, Loaded}
 use Rattle.tlcore.specs.Invariant.{Invariant}
-use Rattle.tlwords.specs.Ranges.{Range, Has, Names, IsStored, LieIn}
+use Rattle.ranges.specs.Ranges.{Range, Has, Names, IsStored, AreOfOneStore}
 use Rattle.tlwords.specs.Terms.{Terms, Permits, Opened}
 use Rattle.tlwords.specs.Seen.{Seen, SeenGrows, IsSettled, Agree}
 use Rattle.tlwords.specs.Views.{Told, Staging, View, tells, fresh, counts}
@@ -21,7 +22,7 @@ use Rattle.tlwords.specs.Views.{Told, Staging, View, tells, fresh, counts}
 -- ---- the words
 
 -- the lock word and the value word of each cell
-abbrev pub paired : List CellWords → List ℕ
+abbrev pub paired : List Cell → List ℕ
 paired [] = []
 paired (x ∷ xs) = x.lock ∷ x.value ∷ paired xs
 
@@ -61,7 +62,7 @@ IsFresh h rv c word = (word ≡ 2 * version_after (deed h c) rv) × NoneWill (de
 -- the same of the seat's look, until its second look
 abbrev pub LookIsFresh : List Entry → Seat → Type 0
 LookIsFresh h t =
-    (c word value : ℕ) → (t.place ≡ at_looked c word) ⊎ (t.place ≡ at_loaded c word value) → IsFresh h t.rv c word
+    (c word value : ℕ) → (t.place ≡ Looked c word) ⊎ (t.place ≡ Loaded c word value) → IsFresh h t.rv c word
 
 -- each entry, an Open one too, is lawful and writes something
 abbrev pub EntriesAre : {S N : Type 0} → Terms S N → S → Seen N → Type 0
@@ -114,8 +115,8 @@ module _ {S N : Type 0} where
     pub notes_are : length notes ≡ length world.history
     pub entries : EntriesAre terms setting (record { history = world.history; notes = notes; ranges = ranges })
     pub opening : Opened terms setting ranges base
-    pub named : (c : ℕ) (x : CellWords) → slice_get world.cells c ≡ Some x → terms.ranged setting c → Names ranges x.value
-    pub lie : LieIn room ranges
+    pub named : (c : ℕ) (x : Cell) → slice_get world.cells c ≡ Some x → terms.ranged setting c → Names ranges x.value
+    pub lie : AreOfOneStore room ranges
     pub suits : (j : ℕ) (v : View S N) → get_elem? views j ≡ some v
         → Suits terms setting base room (record { history = world.history; notes = notes; ranges = ranges }) owner v
     -- so the clock is at most 2^46, and never wraps

@@ -1,10 +1,7 @@
 -- The terms of a memory: which transactions are lawful, of which opening, and which cells hold words that name ranges.
 use Rattle.std.specs.Prelude.{◌≡◌, ℕ, List, Some, slice_get}
-use Rattle.tlwords.specs.Ranges.{Range, Has, Within, Names}
-
--- cells with values
-abbrev pub Pairs : Type 0
-Pairs = List (ℕ × ℕ)
+use Rattle.ranges.specs.Pairs.{Pairs}
+use Rattle.ranges.specs.Ranges.{Range, Has, Within, Names}
 
 pub record Terms (S N : Type 0) : Type 1 where
   -- of the setting, finished ranges of the store, what is read, what is written, and the note

@@ -2,11 +2,11 @@
 #![tactic(auto)]
 
 ghost use Rattle.std.specs.Prelude.{◌≡◌, ℕ, ◌+◌, ◌*◌, ◌<◌, ◌≤◌, ◌^◌, [], ◌∷◌, ◌++◌, ◌-◌, length, replicate, IfOk, IfErr, Err, All, map, ◌⊎◌};
-ghost use Rattle.tlwords.specs.Ranges.{Range, ranges_named};
+ghost use Rattle.ranges.specs.Ranges.{Range, ranges_named};
 ghost use Rattle.tlwords.specs.Rule.{opening_words};
 ghost use Rattle.tlwords.specs.Terms.{AreNamed};
 ghost use Rattle.tlwords.specs.declared.opening.OpenFault.TheVariants.{BadShape, StoreFull};
-ghost use Rattle.tlwords.specs.Ranges.{LieIn};
+ghost use Rattle.ranges.specs.Ranges.{AreOfOneStore};
 ghost use Rattle.tlwords.specs.Runs.{IsDealt, IsBadShape, down, dealer};
 
 use crate::law::Law;
@@ -147,7 +147,7 @@ fn deal_all<L: Law>(
     sessions: usize,
 ) -> Result<Vec<Pass<L>>, AllocError>
     requires table { (seat.old.table_id ≡ words.now.table.shared.table_id) × (words.now.cells ≡ length values.now) }
-    requires store { LieIn words.now.room (ranges_named store.now values.now) }
+    requires store { AreOfOneStore words.now.room (ranges_named store.now values.now) }
     requires first { (sessions ≤ 64) × (seat.old.me.0 ≡ dealer setting.now values.now words.now.room (ranges_named store.now values.now) 0) }
     ensures passes { IfOk result (λ v. All (λ p. IsDealt setting.now values.now words.now.room (ranges_named store.now values.now) words.now.table.shared.table_id p.seat) v.items) }
     ensures names { IfOk result (λ v. map (λ p. p.seat.me.0.name) v.items ≡ down 64 sessions) }

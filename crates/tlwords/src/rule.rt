@@ -34,7 +34,7 @@ pub struct Rule<L> {
 }
 
 impl<L: Law> TableRule<(), View<L::Setting, L::Note>, Opening<L::Setting>> for Rule<L> {
-    ghost use Rattle.tlwords.specs.Ranges.{ranges_named};
+    ghost use Rattle.ranges.specs.Ranges.{ranges_named};
     ghost use Rattle.tlwords.specs.Rule.{Ruled, first_view};
 
     ghost holds = { λ key s. Ruled L.terms key.setting.value key.values.value.items key.room s };

@@ -2,7 +2,7 @@
 #![tactic(auto)]
 
 ghost use Rattle.std.specs.Prelude.{◌≡◌, ◌≢◌, ℕ, ◌+◌, ◌<◌, ◌≤◌, List, Some, [], length, slice_get, IfOk, IfErr};
-ghost use Rattle.tlwords.specs.Ranges.{Has};
+ghost use Rattle.ranges.specs.Ranges.{Has};
 ghost use Rattle.tlwords.specs.Plays.{IsSameSeat, Sees};
 ghost use Rattle.tlwords.specs.Views.{Staging};
 ghost use Rattle.tlwords.specs.Runs.{Stages, Finishes, Refuses};

@@ -1,6 +1,7 @@
 use Rattle.std.proofs.Common.{arith, sym, ap, ◌∙◌, subst}
 use Rattle.tlcore.specs.Seats.{reads_of, writes_of}
-use Rattle.tlwords.specs.Terms.{Pairs, Permits}
+use Rattle.ranges.specs.Pairs.{Pairs}
+use Rattle.tlwords.specs.Terms.{Permits}
 use Rattle.tlwords.proofs.Held.{held_writes}
 use Rattle.tlwords.proofs.Settles.{void_releases, void_ends, void_drawn, done_releases, done_ends}
 use Rattle.tlwords.proofs.commits.settle.Goals as goal

@@ -1,5 +1,5 @@
 use Rattle.std.proofs.Common.{arith, ◌∙◌, ap, ◌≡◌, ◌-◌}
-use Rattle.tlwords.specs.Ranges.{ranges_named}
+use Rattle.ranges.specs.Ranges.{ranges_named}
 use Rattle.tlwords.specs.Runs.{IsDealt}
 use Rattle.tlwords.proofs.OpenSteps.{deals}
 use Rattle.tlwords.proofs.Openings.{dealt_all, new_of, dealer_more, new_knows}

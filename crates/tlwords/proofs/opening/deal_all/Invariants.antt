@@ -1,5 +1,5 @@
 use Rattle.std.proofs.Common.{◌≡◌, length, All, map}
-use Rattle.tlwords.specs.Ranges.{ranges_named}
+use Rattle.ranges.specs.Ranges.{ranges_named}
 use Rattle.tlwords.specs.Runs.{down, IsDealt, dealer}
 use Rattle.tlwords.proofs.opening.deal_all.Given as goal
 

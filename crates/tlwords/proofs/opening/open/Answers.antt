@@ -1,5 +1,6 @@
 use Rattle.std.proofs.Common.{arith, ap, ◌∙◌, length, ◌≡◌, ◌+◌, ◌*◌}
-use Rattle.tlwords.proofs.Openings.{opens_so, words_length, lie_named}
+use Rattle.ranges.proofs.Named.{named_of_one}
+use Rattle.tlwords.proofs.Openings.{opens_so, words_length}
 use Rattle.tlwords.proofs.opening.open.Goals as goal
 
 pub of_words-made-requires : goal.of_words-made-requires
@@ -24,4 +25,4 @@ invariant_of-words g c =
     }
 
 pub deal_all-requires-clause-store : goal.deal_all-requires-clause-store
-deal_all-requires-clause-store g c = let l = c.if-store-room.false in lie_named c.args.store.now c.args.values.now c.args.room (omega arith)
+deal_all-requires-clause-store g c = let l = c.if-store-room.false in named_of_one c.args.store.now c.args.values.now c.args.room (omega arith)

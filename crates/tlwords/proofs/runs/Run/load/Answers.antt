@@ -9,7 +9,7 @@ overflow_add-range g c =
     let q = c.requires in
     let e = q.2 in
     let i = q.3 in
-    let l : c.args.range.start + c.args.index < s.seat.me.0.room = s.knows.ranges _ q.1 c.args.index (omega arith) in
+    let l : c.args.range.start + c.args.index < s.seat.me.0.room = s.knows.ranges.0 _ q.1 c.args.index (omega arith) in
     let r = s.room_is in
     let m = s.words.now.small.1 in
     omega arith
@@ -18,7 +18,7 @@ pub fetch_word-requires-clause-sizes : goal.fetch_word-requires-clause-sizes
 fetch_word-requires-clause-sizes g c =
     let s = c.args.self.now in
     let q = c.requires in
-    let l : c.args.range.start + c.args.index < s.seat.me.0.room = s.knows.ranges _ q.1 c.args.index (let e = q.2 in let i = q.3 in omega arith) in
+    let l : c.args.range.start + c.args.index < s.seat.me.0.room = s.knows.ranges.0 _ q.1 c.args.index (let e = q.2 in let i = q.3 in omega arith) in
     let r = s.room_is in
     (s.table_is.1, r, omega arith)
 

@@ -27,9 +27,15 @@ Names ranges word = (word ≡ 0) ⊎ ((r : Range) × Has r ranges × (word ≡ w
 abbrev pub IsStored : ℕ → List ℕ → Range → Type 0
 IsStored tail store r = (i w : ℕ) → slice_get r.words i ≡ Some w → (slice_get store (r.start + i) ≡ Some w) × (r.start + i < tail)
 
--- the ranges lie in a store of so many words
-abbrev pub LieIn : ℕ → List Range → Type 0
-LieIn room ranges = (r : Range) → Has r ranges → (i : ℕ) → i < length r.words → r.start + i < room
+-- two of the ranges that share a word of the store have the same value there
+abbrev pub AreCoherent : List Range → Type 0
+AreCoherent ranges =
+    (r q : Range) (i j w v : ℕ) → Has r ranges → Has q ranges → r.start + i ≡ q.start + j
+    → slice_get r.words i ≡ Some w → slice_get q.words j ≡ Some v → w ≡ v
+
+-- the ranges are of one store of so many words: each lies in it, and they are coherent
+abbrev pub AreOfOneStore : ℕ → List Range → Type 0
+AreOfOneStore room ranges = ((r : Range) → Has r ranges → (i : ℕ) → i < length r.words → r.start + i < room) × AreCoherent ranges
 
 -- the range of the store that a word names
 abbrev pub range_named : List ℕ → ℕ → Range
