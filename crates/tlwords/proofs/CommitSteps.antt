@@ -49,13 +49,13 @@ place_known P false x y f g = g refl
 -- ---- Take
 
 module _ {S N : Type 0} (terms : Terms S N) (setting : S) (base : List ℕ) (room : ℕ) where
-  pub takes : (slots id c value old new : ℕ) (me : Mine S N) (y : S) → me.0.setting ≡ Some y → c < length me.0.base
+  pub takes : (opened : List ℕ) (slots id c value old new : ℕ) (me : Mine S N) (y : S) → me.0.setting ≡ Some y → c < length me.0.base
       → (me.0.seat.place ≡ Reading) ⊎ ((me.0.seat.place ≡ Taking) × (all_below c me.0.seat.held ≡ true))
       → (d : Read) → find_read c me.0.seat.reads ≡ Some d → d.word ≡ old → new ≡ old + 1
-      → Allows (Ruled terms setting base room) slots id me (lock_at c) (λ n. either (eqb n old) new n)
+      → Allows (Ruled terms setting base room opened) slots id me (lock_at c) (λ n. either (eqb n old) new n)
       (took terms value (step slots (lock_at c) old new none) me)
-  takes slots id c value old new me y set l p d read word up =
-      lifted terms setting base room slots id (lock_at c) me (λ n. either (eqb n old) new n)
+  takes opened slots id c value old new me y set l p d read word up =
+      lifted terms setting base room opened slots id (lock_at c) me (λ n. either (eqb n old) new n)
       (took terms value (step slots (lock_at c) old new none) me) λ ranges ws vs r at.
       let v : View S N = me.0 in
       let t : Seat = v.seat in
@@ -171,12 +171,12 @@ module _ {S N : Type 0} (terms : Terms S N) (setting : S) (base : List ℕ) (roo
           absurd (omega (arith, w, g, len))
       go (inr p) (inr q) = last p q
 
-  pub draws : (slots id : ℕ) (me : Mine S N) (y : S) (note : N) → me.0.setting ≡ Some y → me.0.seat.place ≡ Taking
+  pub draws : (opened : List ℕ) (slots id : ℕ) (me : Mine S N) (y : S) (note : N) → me.0.setting ≡ Some y → me.0.seat.place ≡ Taking
       → Permits terms y me.0.seen.ranges (reads_of me.0.seat.reads) (writes_of me.0.seat.held) note → writes_of me.0.seat.held ≢ []
       → length me.0.drawn + 1 ≤ 2 ^ 40 * me.0.rights
-      → Allows (Ruled terms setting base room) slots id me 1 (λ n. (n + 1) % 2 ^ 64) (drew terms (Some note) (step slots 1 1 0 none) me)
-  draws slots id me y note set p law some_writes left =
-      lifted terms setting base room slots id 1 me (λ n. (n + 1) % 2 ^ 64)
+      → Allows (Ruled terms setting base room opened) slots id me 1 (λ n. (n + 1) % 2 ^ 64) (drew terms (Some note) (step slots 1 1 0 none) me)
+  draws opened slots id me y note set p law some_writes left =
+      lifted terms setting base room opened slots id 1 me (λ n. (n + 1) % 2 ^ 64)
       (drew terms (Some note) (step slots 1 1 0 none) me) λ ranges ws vs r at.
       let v : View S N = me.0 in
       let t : Seat = v.seat in
@@ -262,12 +262,12 @@ checking_is : (i upto j other : ℕ) → Checking i upto ≡ Checking j other �
 checking_is i upto j other e = cc
 
 module _ {S N : Type 0} (terms : Terms S N) (setting : S) (base : List ℕ) (room : ℕ) where
-  pub checks : (slots id c i upto : ℕ) (me : Mine S N) (y : S) → me.0.setting ≡ Some y → c < length me.0.base
+  pub checks : (opened : List ℕ) (slots id c i upto : ℕ) (me : Mine S N) (y : S) → me.0.setting ≡ Some y → c < length me.0.base
       → me.0.seat.place ≡ Checking i upto → is_next me.0.seat i ≡ false → is_due me.0.seat upto c ≡ true
       → (d : Read) → find_read c me.0.seat.reads ≡ Some d
-      → Allows (Ruled terms setting base room) slots id me (lock_at c) (λ n. n) (checked terms (step slots (lock_at c) 0 0 none) me)
-  checks slots id c i upto me y set l p further due d read =
-      lifted terms setting base room slots id (lock_at c) me (λ n. n)
+      → Allows (Ruled terms setting base room opened) slots id me (lock_at c) (λ n. n) (checked terms (step slots (lock_at c) 0 0 none) me)
+  checks opened slots id c i upto me y set l p further due d read =
+      lifted terms setting base room opened slots id (lock_at c) me (λ n. n)
       (checked terms (step slots (lock_at c) 0 0 none) me) λ ranges ws vs r at.
       let v : View S N = me.0 in
       let t : Seat = v.seat in
@@ -336,12 +336,12 @@ module _ {S N : Type 0} (terms : Terms S N) (setting : S) (base : List ℕ) (roo
       (value_is_set ws w r.words_are c k.value x f) (length-slice_set w.cells c (record x { value = k.value })) len calls told
       (λ j a. inl (sym number ∙ a)) (λ j a. number ∙ a) (λ d o a b. absurd (not_looking (Storing i) refl d o a b)))
 
-  pub stores : (slots id c i value : ℕ) (k : Held) (me : Mine S N) (y : S) → me.0.setting ≡ Some y → c < length me.0.base
+  pub stores : (opened : List ℕ) (slots id c i value : ℕ) (k : Held) (me : Mine S N) (y : S) → me.0.setting ≡ Some y → c < length me.0.base
       → ((upto : ℕ) × (me.0.seat.place ≡ Checking i upto) × ((is_next me.0.seat i || all_settled me.0.seat.held upto me.0.seat.reads) ≡ true)) ⊎ (me.0.seat.place ≡ Storing i)
       → find_held c me.0.seat.held ≡ Some k → k.value ≡ value
-      → Allows (Ruled terms setting base room) slots id me (value_at c) (λ _. value) (λ _. stored terms (step slots (value_at c) value 0 none) me value)
-  stores slots id c i value k me y set l (inl p) holds is_value =
-      lifted terms setting base room slots id (value_at c) me (λ _. value)
+      → Allows (Ruled terms setting base room opened) slots id me (value_at c) (λ _. value) (λ _. stored terms (step slots (value_at c) value 0 none) me value)
+  stores opened slots id c i value k me y set l (inl p) holds is_value =
+      lifted terms setting base room opened slots id (value_at c) me (λ _. value)
       (λ _. stored terms (step slots (value_at c) value 0 none) me value) λ ranges ws vs r at.
       let v : View S N = me.0 in
       let t : Seat = v.seat in
@@ -384,8 +384,8 @@ module _ {S N : Type 0} (terms : Terms S N) (setting : S) (base : List ℕ) (roo
           next = λ j a. absurd (storing_not_checking j i p.0 (sym a ∙ p.1));
         }),
       )
-  stores slots id c i value k me y set l (inr p) holds is_value =
-      lifted terms setting base room slots id (value_at c) me (λ _. value)
+  stores opened slots id c i value k me y set l (inr p) holds is_value =
+      lifted terms setting base room opened slots id (value_at c) me (λ _. value)
       (λ _. stored terms (step slots (value_at c) value 0 none) me value) λ ranges ws vs r at.
       let v : View S N = me.0 in
       let t : Seat = v.seat in
@@ -452,11 +452,11 @@ module _ {S N : Type 0} (terms : Terms S N) (setting : S) (base : List ℕ) (roo
       (place_known (λ (z : Place). LookIsFresh h (record t { place = z; held = without c t.held })) (is_nil (without c t.held)) Idle t.place
       (λ _ d o a b. absurd (not_looking Idle refl d o a b)) (λ _ d o a b. absurd (not_looking t.place (free d o a) d o a b)))
 
-  pub releases : (slots id c new : ℕ) (k : Held) (me : Mine S N) (y : S) → me.0.setting ≡ Some y → c < length me.0.base
+  pub releases : (opened : List ℕ) (slots id c new : ℕ) (k : Held) (me : Mine S N) (y : S) → me.0.setting ≡ Some y → c < length me.0.base
       → find_held c me.0.seat.held ≡ Some k → GivesBack me.0.seat k new
-      → Allows (Ruled terms setting base room) slots id me (lock_at c) (λ _. new) (λ _. released terms (step slots (lock_at c) new 0 none) me new)
-  releases slots id c new k me y set l holds (inl p) =
-      lifted terms setting base room slots id (lock_at c) me (λ _. new)
+      → Allows (Ruled terms setting base room opened) slots id me (lock_at c) (λ _. new) (λ _. released terms (step slots (lock_at c) new 0 none) me new)
+  releases opened slots id c new k me y set l holds (inl p) =
+      lifted terms setting base room opened slots id (lock_at c) me (λ _. new)
       (λ _. released terms (step slots (lock_at c) new 0 none) me new) λ ranges ws vs r at.
       let v : View S N = me.0 in
       let t : Seat = v.seat in
@@ -478,8 +478,8 @@ module _ {S N : Type 0} (terms : Terms S N) (setting : S) (base : List ℕ) (roo
         subst (λ (z : ℕ). Releases terms z me (u, me.1)) (sym (lock_back c))
             (record { sees = q.1; void = λ j a. absurd (storing_not_voiding p.0 j (sym p.1 ∙ a)); is = refl }),
       )
-  releases slots id c new k me y set l holds (inr (inl p)) =
-      lifted terms setting base room slots id (lock_at c) me (λ _. new)
+  releases opened slots id c new k me y set l holds (inr (inl p)) =
+      lifted terms setting base room opened slots id (lock_at c) me (λ _. new)
       (λ _. released terms (step slots (lock_at c) new 0 none) me new) λ ranges ws vs r at.
       let v : View S N = me.0 in
       let t : Seat = v.seat in
@@ -498,8 +498,8 @@ module _ {S N : Type 0} (terms : Terms S N) (setting : S) (base : List ℕ) (roo
         subst (λ (z : ℕ). Releases terms z me (u, me.1)) (sym (lock_back c))
             (record { sees = q.1; void = λ j a. absurd (failing_not_voiding j (sym p.0 ∙ a)); is = refl }),
       )
-  releases slots id c new k me y set l holds (inr (inr p)) =
-      lifted terms setting base room slots id (lock_at c) me (λ _. new)
+  releases opened slots id c new k me y set l holds (inr (inr p)) =
+      lifted terms setting base room opened slots id (lock_at c) me (λ _. new)
       (λ _. released terms (step slots (lock_at c) new 0 none) me new) λ ranges ws vs r at.
       let v : View S N = me.0 in
       let t : Seat = v.seat in

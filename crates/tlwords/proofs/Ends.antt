@@ -50,7 +50,8 @@ elem_of [] i x e = absurd (cc)
 elem_of (y ∷ ys) zero x e = let q : y ≡ x = cc in ap some q
 elem_of (y ∷ ys) (suc i) x e = elem_of ys i x e
 
-module _ {S N : Type 0} (terms : Terms S N) (setting : S) (base : List ℕ) (room : ℕ) (s : State (Unit {0}) (View S N)) (r : Ruled terms setting base room s)
+module _ {S N : Type 0} (terms : Terms S N) (setting : S) (base : List ℕ) (room : ℕ) (opened : List ℕ) (s : State (Unit {0}) (View S N))
+    (r : Ruled terms setting base room opened s)
     (n : ℕ) (closed : ClosedWords) (long : length s.words ≡ 2 * n + 3 + room)
     (clock_at : get_elem? s.words 1 ≡ some closed.clock) (tail_is : get_elem? s.words (tail_at n) ≡ some closed.tail)
     (cells_are : AreCellsOf s.words closed.cells.items) (cells_count : length closed.cells.items ≡ n)
@@ -111,7 +112,7 @@ module _ {S N : Type 0} (terms : Terms S N) (setting : S) (base : List ℕ) (roo
   refused : closed.tail ≤ length closed.store.items + (length closed.store.items + 1) * 64
   refused =
       let same : closed.tail ≡ r.tail = tail_same in
-      let l : r.tail ≤ room + (room + 1) * 64 = tail_least room r.tail r.ranges r.store s.views r.shelf k.rights in
+      let l : r.tail ≤ room + (room + 1) * 64 = tail_least (length opened) room r.tail s.views (r.shelf).tail_is k.rights in
       let least : closed.tail ≤ room + (room + 1) * 64 = omega (arith, l, same) in
       subst (λ (m : ℕ). closed.tail ≤ m + (m + 1) * 64) (sym store_count) least
 

@@ -51,13 +51,17 @@ module _ {S N : Type 0} (setting : S) (base : List ℕ) where
   untold_is g owner =
       record { setting_is = λ x e. absurd (cc); grows = ((omega arith, λ i e p. absurd (cc)), λ i n p. absurd (cc), λ r has. absurd has); owned = λ n has. absurd has }
 
+-- how far a pass has moved the tail, and its refusal
+abbrev pub moves_of : {S N : Type 0} → View S N → Option (ℕ × ℕ) × ℕ × ℕ
+moves_of v = (v.full, v.taken, v.added)
+
 module _ {S N : Type 0} (terms : Terms S N) (setting : S) (base : List ℕ) (room : ℕ) where
   abbrev pub Rule : List Range → List ℕ → List (View S N) → Type 0
   Rule = Kept terms setting base room
 
-  -- the two have the same range and the same refusal, and as many parts of the right to draw
+  -- the two have the same range and the same refusal, have moved the tail as far, and have as many parts of the right to draw
   abbrev pub IsSameShelf : View S N → View S N → Type 0
-  IsSameShelf v w = (w.staging ≡ v.staging) × (w.full ≡ v.full) × (w.rights ≡ v.rights)
+  IsSameShelf v w = (w.staging ≡ v.staging) × (moves_of w ≡ moves_of v) × (w.rights ≡ v.rights)
 
   -- whatever the front is when its word i becomes f of what it was, the seat has a new view that keeps the front's rule and touches nothing of
   -- the store, and `then` holds of the number found and of the seat after

@@ -7,6 +7,7 @@ use Rattle.std.proofs.lemmas.List.{map-append, length-append, length-replicate}
 use Rattle.std.proofs.lemmas.List.Elements.{All-append}
 use Rattle.atomic_table.specs.Table.{opening}
 use Rattle.tlcore.specs.Schedules.{start, opened}
+use Rattle.tlcore.proofs.Lists.{get-append_left, get_within}
 use Rattle.tlcore.proofs.Opacity.{start_ok}
 use Rattle.tlcore.specs.declared.cells.Cell.{Cell}
 use Rattle.ranges.proofs.Named.{named_stored}
@@ -14,8 +15,8 @@ use Rattle.ranges.proofs.Named.{named_of_one}
 use Rattle.ranges.specs.Ranges.{Range, Has, IsStored, AreOfOneStore, ranges_named}
 use Rattle.tlwords.specs.Terms.{Terms, AreNamed}
 use Rattle.tlwords.specs.Seen.{Seen, opening_seen}
-use Rattle.tlwords.specs.Views.{Staging, View, untold, fresh, counts}
-use Rattle.tlwords.specs.Rule.{paired, opening_words, IsTold, Suits, Kept, Shelf, Ruled, first_view}
+use Rattle.tlwords.specs.Views.{Staging, View, untold, fresh}
+use Rattle.tlwords.specs.Rule.{paired, opening_words, IsTold, Suits, Kept, Adds, Shelf, Ruled, first_view}
 use Rattle.tlwords.specs.Runs.{down, dealer, IsNew, KnowsStore}
 use Rattle.tlwords.specs.Plays.{Mine, newcomer}
 use Rattle.tlwords.proofs.Logs.{take_next}
@@ -48,9 +49,17 @@ get_opened [] c x e = absurd (cc)
 get_opened (v ∷ vs) zero x e = let q : record { lock = 0; value = v } ≡ x = cc in ap (λ (z : Cell). Some z.value) q
 get_opened (v ∷ vs) (suc c) x e = get_opened vs c x e
 
+-- behind a list stand so many zeros
+zeros_behind : (xs : List ℕ) (n o : ℕ) → length xs ≤ o → o < length xs + n → slice_get (xs ++ replicate n 0) o ≡ Some 0
+zeros_behind [] zero o l m = absurd (omega (arith, m))
+zeros_behind [] (suc n) zero l m = refl
+zeros_behind [] (suc n) (suc o) l m = zeros_behind [] n o (omega arith) (omega (arith, m))
+zeros_behind (x ∷ xs) n zero l m = absurd (omega (arith, l))
+zeros_behind (x ∷ xs) n (suc o) l m = zeros_behind xs n o (omega (arith, l)) (omega (arith, m))
+
 module _ {S N : Type 0} (terms : Terms S N) (setting : S) (values store : List ℕ) (room : ℕ) (fits : length store ≤ room) where
   shelf_so : room ≤ 2 ^ 24 → (ranges : List Range) → ((r : Range) → Has r ranges → IsStored (length store) (store ++ replicate (room - length store) 0) r)
-      → (base : List ℕ) → Shelf room ranges (length store) (store ++ replicate (room - length store) 0) (first_view {N = N} setting base room ranges ∷ [])
+      → (base : List ℕ) → Shelf room store ranges (length store) (store ++ replicate (room - length store) 0) (first_view {N = N} setting base room ranges ∷ [])
   shelf_so small ranges stored base =
       let first : View S N = first_view setting base room ranges in
       let unstaged : (j : ℕ) (v : View S N) → get_elem? (first ∷ []) j ≡ some v → v.staging ≡ None = only_one first (λ v. v.staging ≡ None) refl in
@@ -65,9 +74,19 @@ module _ {S N : Type 0} (terms : Terms S N) (setting : S) (values store : List �
         taken = λ j v s at e. no_staging v s (unstaged j v at) e;
         apart = λ j v s r at e has. no_staging v s (unstaged j v at) e;
         alone = λ j k u v s t ne at there e f. no_staging u s (unstaged j u at) e;
-        refused = omega (arith, fits);
-        once = only_one first (λ v. counts v.full ≤ v.rights) (omega arith);
+        left = record {
+          opening = λ o w e. get-append_left store (replicate (room - length store) 0) o (get_within store o w e) ∙ e;
+          blank = blank;
+        };
+        tail_is = record {
+          is = omega arith;
+          most = omega (arith, fits);
+          each = only_one first (λ v. Adds room (length store) v) (record { once = omega arith; unrefused = λ _. refl; found = λ n count e. absurd (cc) });
+        };
       }
+    where
+      blank : (o : ℕ) → length store ≤ o → o < room → slice_get (store ++ replicate (room - length store) 0) o ≡ Some 0
+      blank o l m = zeros_behind store (room - length store) o l (omega (arith, l, m, fits))
 
   kept_so : terms.opens setting (ranges_named store values) values → AreNamed terms setting (ranges_named store values) values
       → Kept terms setting values room (ranges_named store values) (0 ∷ 0 ∷ opening_words values) (first_view setting values room (ranges_named store values) ∷ [])
@@ -100,7 +119,7 @@ module _ {S N : Type 0} (terms : Terms S N) (setting : S) (values store : List �
 pub opens_so : {S N : Type 0} (terms : Terms S N) (setting : S) (values store words : List ℕ) (room : ℕ) → length store ≤ room → room ≤ 2 ^ 24
     → words ≡ (0 ∷ 0 ∷ opening_words values) ++ length store ∷ (store ++ replicate (room - length store) 0)
     → terms.opens setting (ranges_named store values) values → AreNamed terms setting (ranges_named store values) values
-    → Ruled terms setting values room (opening words [] (first_view setting values room (ranges_named store values)))
+    → Ruled terms setting values room store (opening words [] (first_view setting values room (ranges_named store values)))
 opens_so terms setting values store words room fits small is fact named =
     record {
       front = 0 ∷ 0 ∷ opening_words values;

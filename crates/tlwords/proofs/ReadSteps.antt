@@ -120,10 +120,10 @@ module _ {S N : Type 0} (terms : Terms S N) (setting : S) (base : List ℕ) (roo
       (goes terms setting base room ranges ws vs r id v at (slice_set ws i (slice_index ws i)) (with_seat r.world id z) z runs looked v.mine told r.named stays refl
       (set-get_or ws i 0 ∙ r.words_are) refl refl (λ a. a) is_told (λ k p. inl (on k p)) back look)
 
-  pub samples : (slots id : ℕ) (me : Mine S N) → (me.0.seat.place ≡ Idle) ⊎ (me.0.seat.place ≡ Reading)
-      → Allows (Ruled terms setting base room) slots id me 1 (λ n. n) (sampled terms (step slots 1 0 0 none) me)
-  samples slots id me p =
-      lifted terms setting base room slots id 1 me (λ n. n)
+  pub samples : (opened : List ℕ) (slots id : ℕ) (me : Mine S N) → (me.0.seat.place ≡ Idle) ⊎ (me.0.seat.place ≡ Reading)
+      → Allows (Ruled terms setting base room opened) slots id me 1 (λ n. n) (sampled terms (step slots 1 0 0 none) me)
+  samples opened slots id me p =
+      lifted terms setting base room opened slots id 1 me (λ n. n)
       (sampled terms (step slots 1 0 0 none) me) λ ranges ws vs r at.
       let v : View S N = me.0 in
       let w : World = r.world in
@@ -156,10 +156,10 @@ module _ {S N : Type 0} (terms : Terms S N) (setting : S) (base : List ℕ) (roo
         },
       )
 
-  pub looks : (slots id c : ℕ) (me : Mine S N) (y : S) → me.0.setting ≡ Some y → c < length me.0.base → me.0.seat.place ≡ Reading
-      → Allows (Ruled terms setting base room) slots id me (lock_at c) (λ n. n) (looked terms (step slots (lock_at c) 0 0 none) me)
-  looks slots id c me y set l p =
-      lifted terms setting base room slots id (lock_at c) me (λ n. n)
+  pub looks : (opened : List ℕ) (slots id c : ℕ) (me : Mine S N) (y : S) → me.0.setting ≡ Some y → c < length me.0.base → me.0.seat.place ≡ Reading
+      → Allows (Ruled terms setting base room opened) slots id me (lock_at c) (λ n. n) (looked terms (step slots (lock_at c) 0 0 none) me)
+  looks opened slots id c me y set l p =
+      lifted terms setting base room opened slots id (lock_at c) me (λ n. n)
       (looked terms (step slots (lock_at c) 0 0 none) me) λ ranges ws vs r at.
       let v : View S N = me.0 in
       let t : Seat = v.seat in
@@ -191,10 +191,10 @@ module _ {S N : Type 0} (terms : Terms S N) (setting : S) (base : List ℕ) (roo
             (record { sees = q.1; written = half_written ranges ws vs r c n x.0 x.1 is; is = refl }),
       )
 
-  pub loads : (slots id c word : ℕ) (me : Mine S N) (y : S) → me.0.setting ≡ Some y → c < length me.0.base → me.0.seat.place ≡ Looked c word
-      → Allows (Ruled terms setting base room) slots id me (value_at c) (λ n. n) (loaded terms (step slots (value_at c) 0 0 none) me)
-  loads slots id c word me y set l p =
-      lifted terms setting base room slots id (value_at c) me (λ n. n)
+  pub loads : (opened : List ℕ) (slots id c word : ℕ) (me : Mine S N) (y : S) → me.0.setting ≡ Some y → c < length me.0.base → me.0.seat.place ≡ Looked c word
+      → Allows (Ruled terms setting base room opened) slots id me (value_at c) (λ n. n) (loaded terms (step slots (value_at c) 0 0 none) me)
+  loads opened slots id c word me y set l p =
+      lifted terms setting base room opened slots id (value_at c) me (λ n. n)
       (loaded terms (step slots (value_at c) 0 0 none) me) λ ranges ws vs r at.
       let v : View S N = me.0 in
       let t : Seat = v.seat in
@@ -232,11 +232,11 @@ module _ {S N : Type 0} (terms : Terms S N) (setting : S) (base : List ℕ) (roo
         },
       )
 
-  pub relooks : (slots id c word value : ℕ) (me : Mine S N) (y : S) → me.0.setting ≡ Some y → c < length me.0.base
+  pub relooks : (opened : List ℕ) (slots id c word value : ℕ) (me : Mine S N) (y : S) → me.0.setting ≡ Some y → c < length me.0.base
       → me.0.seat.place ≡ Loaded c word value
-      → Allows (Ruled terms setting base room) slots id me (lock_at c) (λ n. n) (relooked terms (step slots (lock_at c) 0 0 none) me)
-  relooks slots id c word value me y set l p =
-      lifted terms setting base room slots id (lock_at c) me (λ n. n)
+      → Allows (Ruled terms setting base room opened) slots id me (lock_at c) (λ n. n) (relooked terms (step slots (lock_at c) 0 0 none) me)
+  relooks opened slots id c word value me y set l p =
+      lifted terms setting base room opened slots id (lock_at c) me (λ n. n)
       (relooked terms (step slots (lock_at c) 0 0 none) me) λ ranges ws vs r at.
       let v : View S N = me.0 in
       let t : Seat = v.seat in

@@ -1,5 +1,5 @@
 -- What each step tells: of the seat before, the number found (at a store, the number stored) and the seat after.
-use Rattle.std.specs.Prelude.{◌≡◌, ◌≢◌, ℕ, suc, ◌+◌, ◌-◌, ◌*◌, ◌/◌, ◌%◌, ◌^◌, ◌<◌, ◌≤◌, Option, Some, None, List, [], ◌∷◌, ◌++◌, length, slice_get, if◌then◌else◌, true, false, ◌==◌, ◌||◌, ◌⊎◌}
+use Rattle.std.specs.Prelude.{◌≡◌, ◌≢◌, ℕ, suc, ◌+◌, ◌-◌, ◌*◌, ◌/◌, ◌%◌, ◌^◌, ◌<◌, ◌≤◌, Option, Some, None, List, [], ◌∷◌, ◌++◌, length, slice_get, if◌then◌else◌, true, false, ◌==◌, ◌||◌, ◌⊎◌, min}
 use Rattle.atomic_table.specs.Table.{Me, Step}
 use Rattle.atomic_table.specs.declared.shared.Seat.{Seat as TableSeat}
 use Rattle.tlcore.specs.History.{Entry, WasWritten, wv}
@@ -153,12 +153,13 @@ module _ {S N : Type 0} (terms : Terms S N) where
 
   -- ---- steps on the store
 
-  -- the tail found was n: the words from there on are taken for these words where the room has so many
+  -- the tail found was n: the words from there on are taken for these words where the room has so many. What was added to the tail is counted
   pub record Advances (words : List ℕ) (m : Mine S N) (n : ℕ) (r : Mine S N) : Type 0 where
     pub sees : Sees m.0 r.0
     pub taken : n + length words ≤ m.0.room
-        → r.0 ≡ record m.0 { seen = r.0.seen; staging = Some (record { start = n; words = words; done = 0 }) }
-    pub refused : m.0.room < n + length words → r.0 ≡ record m.0 { seen = r.0.seen; full = Some (n, length words) }
+        → r.0 ≡ record m.0 { seen = r.0.seen; staging = Some (record { start = n; words = words; done = 0 }); taken = m.0.taken + length words }
+    pub refused : m.0.room < n + length words
+        → r.0 ≡ record m.0 { seen = r.0.seen; full = Some (n, length words); added = min (length words) (m.0.room + 1) }
 
   -- the next word of the range is stored. With its last word the range is finished
   pub record Fills (m r : Mine S N) : Type 0 where

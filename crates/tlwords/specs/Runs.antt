@@ -1,5 +1,5 @@
 -- What a pass and a run keep, and what their calls tell.
-use Rattle.std.specs.Prelude.{◌≡◌, ◌≢◌, ℕ, zero, suc, ◌+◌, ◌-◌, ◌/◌, ◌%◌, ◌^◌, ◌<◌, ◌≤◌, ◌==◌, Bool, true, is_some, if◌then◌else◌, Option, Some, None, List, [], ◌∷◌, length, slice_get, ◌⊎◌, option_and_then}
+use Rattle.std.specs.Prelude.{◌≡◌, ◌≢◌, ℕ, zero, suc, ◌+◌, ◌-◌, ◌/◌, ◌%◌, ◌^◌, ◌<◌, ◌≤◌, ◌==◌, Bool, true, is_some, if◌then◌else◌, Option, Some, None, List, [], ◌∷◌, length, slice_get, ◌⊎◌, option_and_then, min}
 use Rattle.std.specs.List.{list_any}
 use Rattle.std.specs.Option.{option_map}
 use Rattle.tlcore.specs.History.{WasWritten}
@@ -133,12 +133,13 @@ module _ {S N : Type 0} (terms : Terms S N) where
       looked = Some (c, word);
     }
 
-  -- the words are a finished range of the store now, from this start on
+  -- the words are a finished range of the store now, from this start on, and the pass has taken as many words more
   pub record Stages (words : List ℕ) (start : ℕ) (m r : Mine S N) : Type 0 where
     pub sees : Sees terms m.0 r.0
     pub unrefused : m.0.full ≡ None
+    pub inside : start + length words ≤ m.0.room
     pub finished : Has (record { start = start; words = words }) r.0.seen.ranges
-    pub is : r.0 ≡ record m.0 { seen = r.0.seen }
+    pub is : r.0 ≡ record m.0 { seen = r.0.seen; taken = m.0.taken + length words }
 
   -- the seat's range of these words was finished
   pub record Finishes (words : List ℕ) (start : ℕ) (m r : Mine S N) : Type 0 where
@@ -146,12 +147,13 @@ module _ {S N : Type 0} (terms : Terms S N) where
     pub finished : Has (record { start = start; words = words }) r.0.seen.ranges
     pub is : r.0 ≡ record m.0 { seen = r.0.seen; staging = None }
 
-  -- a staging of so many words was refused: one was before, and no step was made; or the tail that was found leaves too little room
+  -- a staging of so many words was refused: one was before, and no step was made; or the tail that was
+  -- found leaves too little room, and moved on by the smaller of their number and the room and one
   abbrev pub Refuses : ℕ → Mine S N → Mine S N → Type 0
   Refuses count m r =
       ((p : ℕ × ℕ) × (m.0.full ≡ Some p) × (r ≡ m))
       ⊎ ((tail : ℕ) × (m.0.full ≡ None) × (m.0.room < tail + count) × Sees terms m.0 r.0
-      × (r.0 ≡ record m.0 { seen = r.0.seen; full = Some (tail, count) }))
+      × (r.0 ≡ record m.0 { seen = r.0.seen; full = Some (tail, count); added = min count (m.0.room + 1) }))
 
   -- a look found this word, and the run is over
   pub record Stops (c word : ℕ) (m r : Mine S N) : Type 0 where

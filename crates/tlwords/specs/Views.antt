@@ -47,6 +47,9 @@ pub record View (S N : Type 0) : Type 0 where
   -- the range that it is staging, and what its first staging that was refused found: the tail and the length
   pub staging : Option Staging
   pub full : Option (ℕ × ℕ)
+  -- how many words of the store it has taken, and what its first staging that was refused added to the tail
+  pub taken : ℕ
+  pub added : ℕ
   -- what it was told and hasn't yet seen by itself
   pub told : Told S N
 
@@ -75,6 +78,8 @@ module _ {S N : Type 0} where
         looked = None;
         staging = None;
         full = None;
+        taken = 0;
+        added = 0;
         told = untold;
       }
 

@@ -37,7 +37,7 @@ impl<L: Law> TableRule<(), View<L::Setting, L::Note>, Opening<L::Setting>> for R
     ghost use Rattle.ranges.specs.Ranges.{ranges_named};
     ghost use Rattle.tlwords.specs.Rule.{Ruled, first_view};
 
-    ghost holds = { λ key s. Ruled L.terms key.setting.value key.values.value.items key.room s };
+    ghost holds = { λ key s. Ruled L.terms key.setting.value key.values.value.items key.room key.store.value.items s };
 
     ghost first = { λ key. first_view key.setting.value key.values.value.items key.room (ranges_named key.store.value.items key.values.value.items) };
 }

@@ -8,7 +8,7 @@ use Rattle.tlwords.proofs.opening.deal_all.Goals as goal
 pub split_seat-requires : goal.split_seat-requires
 split_seat-requires g c =
     let i = c.loop.invariant in let e : c.loop.seat.me.0.rights ≡ 64 - c.loop.counter = ap (λ v. v.rights) i.1 in let l = c.loop-test.true in let m = c.requires.first.0 in
-    (i.0, (let s = c.args.words.now.sized in omega arith), deals g.L.Law.terms _ _ _ _ _ (ap (λ v. v.drawn) i.1) (omega arith) (ap (λ v. v.full) i.1))
+    (i.0, (let s = c.args.words.now.sized in omega arith), deals g.L.Law.terms _ _ _ _ _ _ (ap (λ v. v.drawn) i.1) (omega arith) (ap (λ v. v.full) i.1))
 
 pub loop-preserved : goal.loop-preserved
 loop-preserved g c =
