@@ -1,5 +1,5 @@
 -- What a pass knows of the store, as its calls go.
-use Rattle.std.proofs.Common.{◌≡◌, ◌≤◌, ⊎_elim, Bool, true, is_some, ℕ, suc, Some, None, List, [], ◌∷◌, ◌++◌, length, sym, ap, ◌∙◌, subst}
+use Rattle.std.proofs.Common.{◌≡◌, Bool, true, is_some, ℕ, Some, None, List, sym, ap, ◌∙◌, subst}
 use Rattle.atomic_table.specs.declared.shared.Seat.{Seat as TableSeat}
 use Rattle.tlwords.specs.declared.log.Slot.{Slot}
 use Rattle.tlwords.specs.declared.outcome.Outcome.{Outcome}
@@ -8,7 +8,7 @@ use Rattle.tlwords.specs.Terms.{Terms}
 use Rattle.tlwords.specs.Views.{View, Sound}
 use Rattle.tlwords.specs.Plays.{Mine, Sampled, Refreshes, told_by}
 use Rattle.tlwords.specs.Runs.{KnowsStore, ReadsCell, Stops}
-use Rattle.tlwords.specs.Commits.{work_kept, over_seat, HasEnded, HasCommitted, HasAnswered, HasConflicted, IsVoid}
+use Rattle.tlwords.specs.Commits.{work_kept, HasEnded, HasCommitted, HasAnswered, HasConflicted}
 use Rattle.tlwords.proofs.RunSteps.{known_setting}
 
 pub seat_knows : {S N : Type 0} (p q : TableSeat (Unit {0}) (View S N)) (o : Bool) → q ≡ p → KnowsStore p.me.0 o → KnowsStore q.me.0 o

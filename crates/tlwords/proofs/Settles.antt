@@ -15,7 +15,7 @@ use Rattle.tlwords.specs.Seen.{Work, Committed, IsDone}
 use Rattle.tlwords.specs.Views.{View}
 use Rattle.tlwords.specs.Plays.{Mine, Draws}
 use Rattle.tlwords.specs.Runs.{value_kept, IsKeptOf, HasCause}
-use Rattle.tlwords.specs.Commits.{writes_kept, work_kept, over_seat, IsVoid, Finds, HasCommitted, HasNoEntry, HasConflicted}
+use Rattle.tlwords.specs.Commits.{writes_kept, work_kept, over_seat, Finds, HasCommitted, HasNoEntry, HasConflicted}
 use Rattle.tlwords.specs.Committing.{held_in, holding, Goes, FailsToTake, FailsTheCheck, Passes, StoresTo, Releasing, ReleasesAll}
 use Rattle.tlwords.proofs.Seens.{done_grows}
 use Rattle.tlwords.proofs.Logs.{kept_same}
