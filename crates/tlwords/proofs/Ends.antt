@@ -11,7 +11,7 @@ use Rattle.tlcore.proofs.Lists.{get_within}
 use Rattle.tlcore.specs.declared.cells.Cell.{Cell}
 use Rattle.tlwords.specs.declared.closing.ClosedCell.{ClosedCell}
 use Rattle.tlwords.specs.declared.closing.ClosedWords.{ClosedWords}
-use Rattle.ranges.specs.Ranges.{Range, Has, Names, IsStored}
+use Rattle.ranges.specs.Ranges.{Range, Has, Names, IsStored, AreOfOneStore}
 use Rattle.tlwords.specs.Terms.{Terms, Opened}
 use Rattle.tlwords.specs.Seen.{Seen, Legal, Agree}
 use Rattle.tlwords.specs.Views.{View}
@@ -109,6 +109,9 @@ module _ {S N : Type 0} (terms : Terms S N) (setting : S) (base : List ℕ) (roo
       let t : closed.tail ≡ r.tail = tail_same in
       (store_same (range.start + i) x b.0, omega (arith, l, t))
 
+  one_store : AreOfOneStore (length closed.store.items) r.ranges
+  one_store = subst (λ (m : ℕ). AreOfOneStore m r.ranges) (sym store_count) k.lie
+
   refused : closed.tail ≤ length closed.store.items + (length closed.store.items + 1) * 64
   refused =
       let same : closed.tail ≡ r.tail = tail_same in
@@ -157,7 +160,17 @@ module _ {S N : Type 0} (terms : Terms S N) (setting : S) (base : List ℕ) (roo
   legal = legal_of terms setting base room r.ranges w k.notes k.invariant k.entries
 
   pub closes : Closes terms setting base closed
-  closes = record { seen = last; legal = legal; shows = shown; stored = stored; refused = refused; opened = k.opening; named = named }
+  closes = record {
+    seen = last;
+    noted = k.notes_are;
+    legal = legal;
+    shows = shown;
+    stored = stored;
+    ranges = one_store;
+    refused = refused;
+    opened = k.opening;
+    named = named;
+  }
 
   pub closes_for : (id : ℕ) (v : View S N) → get_elem? s.views id ≡ some v → ClosesFor terms v closed
   closes_for id v there y e =
@@ -165,9 +178,11 @@ module _ {S N : Type 0} (terms : Terms S N) (setting : S) (base : List ℕ) (roo
       let i = f.own.setting_is y e in (
         record {
           seen = last;
+          noted = k.notes_are;
           legal = subst (λ (z : S × List ℕ). Legal terms z.0 z.1 last) (λ j. (sym i.0 j, sym i.1 j)) legal;
           shows = subst (λ (o : List ℕ). Shows o w.history closed.clock closed.cells.items) (sym i.1) shown;
           stored = stored;
+          ranges = one_store;
           refused = refused;
           opened = subst (λ (z : S × List ℕ). Opened terms z.0 r.ranges z.1) (λ j. (sym i.0 j, sym i.1 j)) k.opening;
           named = λ c x at is. named c x at (subst (λ (z : S). terms.ranged z c) i.0 is);

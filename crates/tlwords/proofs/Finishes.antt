@@ -1,5 +1,5 @@
 -- The ends of a commit that wrote nothing, and what a run needs to go on to its draw.
-use Rattle.std.proofs.Common.{◌≡◌, ◌≢◌, ℕ, Bool, true, false, if◌then◌else◌, is_some, Option, Some, None, List, [], ◌∷◌, ◌++◌, length, sym, refl, ap, ◌∙◌, subst}
+use Rattle.std.proofs.Common.{◌≡◌, ◌≢◌, ℕ, Bool, true, false, if◌then◌else◌, is_some, Some, List, [], ◌∷◌, ◌++◌, length, sym, refl, ap, ◌∙◌, subst}
 use Rattle.tlcore.specs.Seats.{Seat, reads_of}
 use Rattle.tlcore.specs.declared.seats.Place.TheVariants.{Reading, Taking}
 use Rattle.tlcore.specs.Seats.{is_resting}
@@ -14,14 +14,10 @@ use Rattle.tlwords.specs.Commits.{writes_kept, work_kept, HasAnswered, IsLawfulN
 use Rattle.tlwords.specs.Committing.{held_in, holding, Goes}
 use Rattle.tlwords.specs.Walks.{NoneWanted}
 use Rattle.tlwords.proofs.Seens.{permits_grow}
-use Rattle.tlwords.proofs.RunSteps.{left_fits}
+use Rattle.tlwords.proofs.RunSteps.{left_fits, known_setting}
 use Rattle.tlwords.proofs.Held.{no_writes}
 use Rattle.tlwords.proofs.Turns.{unkept_of, moves_grow, goes_seat, goes_setting}
 use Rattle.tlwords.proofs.Settles.{some_held}
-
-pub known_setting : {S : Type 0} (o : Option S) → is_some o ≡ true → (y : S) × (o ≡ Some y)
-known_setting None e = let a : false ≡ true = e in absurd (cc)
-known_setting (Some y) e = (y, refl)
 
 pub nothing_kept : (t : Seat) (slots : List Slot) (cells : List ℕ) → IsKeptOf t slots cells → NoneWanted slots true 0 (length slots) → writes_kept slots ≡ []
 nothing_kept t slots cells k front = no_writes slots (length slots) (unkept_of t slots cells k 0 (length slots) front)

@@ -15,7 +15,7 @@ use Rattle.ranges.proofs.Named.{named_of_one}
 use Rattle.ranges.specs.Ranges.{Range, Has, IsStored, AreOfOneStore, ranges_named}
 use Rattle.tlwords.specs.Terms.{Terms, AreNamed}
 use Rattle.tlwords.specs.Seen.{Seen, opening_seen}
-use Rattle.tlwords.specs.Views.{Staging, View, untold, fresh}
+use Rattle.tlwords.specs.Views.{Staging, View, Sound, untold, fresh}
 use Rattle.tlwords.specs.Rule.{paired, opening_words, IsTold, Suits, Kept, Adds, Shelf, Ruled, first_view}
 use Rattle.tlwords.specs.Runs.{down, dealer, IsNew, KnowsStore}
 use Rattle.tlwords.specs.Plays.{Mine, newcomer}
@@ -208,3 +208,25 @@ module _ {S N : Type 0} (setting : S) (base : List ℕ) (room : ℕ) (ranges : L
 
   pub new_knows : (r : Mine S N) → IsNew setting base room ranges r.0 → AreOfOneStore room ranges → KnowsStore r.0 false
   new_knows r is lie = subst (λ (v : View S N). KnowsStore v false) (sym is) (record { at_rest = refl; full = refl; ranges = lie })
+
+  -- a pass of a lawful opening is sound
+  pub new_sound : (terms : Terms S N) (v : View S N) → IsNew setting base room ranges v → terms.opens setting ranges base
+      → AreOfOneStore room ranges → Sound terms v
+  new_sound terms v is opens one = subst (λ (v : View S N). Sound terms v) (sym is) sound
+    where
+      new : View S N
+      new = fresh (Some setting) base room ranges v.name 1
+
+      sound : Sound terms new
+      sound = record {
+        placed = omega arith;
+        one = λ x e. tt;
+        legal = λ x e i w d. let b = d.here in absurd (cc);
+        noted = refl;
+        mine = λ x e. tt;
+        opening = λ x e.
+            let same : setting ≡ x = cc in
+            record { some = ranges; among = λ r has. has; opens = subst (λ (x : S). terms.opens x ranges base) same opens };
+        ranges = λ x e. one;
+        settled = λ i has. absurd has;
+      }

@@ -1,5 +1,5 @@
 -- A commit, from the draw on: its parts put together.
-use Rattle.std.proofs.Common.{◌≡◌, ◌≢◌, ℕ, suc, ◌+◌, ◌*◌, ◌/◌, ◌<◌, ◌≤◌, ◌⊎◌, inl, inr, ⊎_elim, Bool, true, false, ◌||◌, if◌then◌else◌, Some, None, List, [], ◌∷◌, ◌++◌, length, sym, refl, ap, ◌∙◌, subst, arith}
+use Rattle.std.proofs.Common.{◌≡◌, ◌≢◌, ℕ, suc, ◌+◌, ◌*◌, ◌/◌, ◌<◌, ◌≤◌, ◌⊎◌, inl, inr, ⊎_elim, Bool, true, false, ◌||◌, if◌then◌else◌, Option, Some, None, List, [], ◌∷◌, ◌++◌, length, sym, refl, ap, ◌∙◌, subst, arith}
 use Rattle.tlcore.specs.Seats.{Seat, is_nil, is_next, all_settled, reads_of, writes_of}
 use Rattle.tlcore.specs.Machine.{placed, conflict}
 use Rattle.tlcore.proofs.Growth.{WasWritten-kept}
@@ -15,7 +15,7 @@ use Rattle.tlwords.specs.Seen.{Work, Committed, IsDone}
 use Rattle.tlwords.specs.Views.{View}
 use Rattle.tlwords.specs.Plays.{Mine, Draws}
 use Rattle.tlwords.specs.Runs.{value_kept, IsKeptOf, HasCause}
-use Rattle.tlwords.specs.Commits.{writes_kept, work_kept, over_seat, IsVoid, Finds, HasCommitted, HasConflicted}
+use Rattle.tlwords.specs.Commits.{writes_kept, work_kept, over_seat, Finds, HasCommitted, HasNoEntry, HasConflicted}
 use Rattle.tlwords.specs.Committing.{held_in, holding, Goes, FailsToTake, FailsTheCheck, Passes, StoresTo, Releasing, ReleasesAll}
 use Rattle.tlwords.proofs.Seens.{done_grows}
 use Rattle.tlwords.proofs.Logs.{kept_same}
@@ -86,13 +86,13 @@ module _ {S N : Type 0} (terms : Terms S N) (slots : List Slot) where
           void = λ i e. inl refl;
         }
 
-    pub failed_ends : (n : N) (s : Mine S N) → ReleasesAll terms r s → HasConflicted terms slots n k m s
+    pub failed_ends : (n : N) (s : Mine S N) → ReleasesAll terms r s → HasConflicted terms slots n k None m s
     failed_ends n s g =
         record {
           sees = sees_on terms m r s f.sees g.goes.moves;
           finds = finds_on k r s g f.finds;
           cause = inr f.differs;
-          entry = inl (g.goes.is ∙ ap (λ (v : View S N). let w : View S N = record v { seen = s.0.seen; seat = record v.seat { place = Idle; held = [] }; looked = s.0.looked } in w) f.goes.is);
+          entry = g.goes.is ∙ ap (λ (v : View S N). let w : View S N = record v { seen = s.0.seen; seat = record v.seat { place = Idle; held = [] }; looked = s.0.looked } in w) f.goes.is;
         }
 
   -- ---- a number was drawn
@@ -145,18 +145,26 @@ module _ {S N : Type 0} (terms : Terms S N) (slots : List Slot) where
             void = λ i e. inl refl;
           }
 
-      pub void_ends : (z : Mine S N) → ReleasesAll terms s z → HasConflicted terms slots x k m z
-      void_ends z g =
+      pub void_ends : (z : Mine S N) → ReleasesAll terms s z → (number : ℕ) → number ≡ suc n → HasConflicted terms slots x k (Some number) m z
+      void_ends z g number is =
           record {
             sees = sees_on terms m s z (sees_on terms m r s d.sees f.goes.moves) g.goes.moves;
             finds = finds_on k s z g f.finds;
             cause = inl (subst (λ (t : Seat). HasCause t.rv k.word) drawn_seat f.cause);
-            entry = inr (
+            entry = (
               n,
+              is,
               d.later,
               g.void n (ap (λ (t : Seat). t.place) failed_seat),
               g.goes.is ∙ (ap (λ (v : View S N). let w : View S N = record v { seen = z.0.seen; seat = record v.seat { place = Idle; held = [] }; looked = z.0.looked } in w) f.goes.is
-                  ∙ ap (λ (v : View S N). let w : View S N = record v { seen = z.0.seen; seat = over_seat terms v.seat true; looked = z.0.looked } in w) drawn_is),
+                  ∙ ap (λ (v : View S N). let w : View S N = record v { seen = z.0.seen; seat = over_seat terms v.seat true; looked = z.0.looked } in w) drawn_is)
+                  ∙ (λ j. let w : View S N = record m.0 {
+                    seen = z.0.seen;
+                    seat = over_seat terms m.0.seat true;
+                    looked = z.0.looked;
+                    note = Some x;
+                    drawn = m.0.drawn ++ sym is j ∷ [];
+                  } in w),
             );
           }
 
@@ -287,28 +295,29 @@ module _ {S N : Type 0} (terms : Terms S N) (slots : List Slot) where
         same_work : work_kept r.0.seat slots x ≡ work_kept m.0.seat slots x
         same_work = ap (λ (t : Seat). work_kept t slots x) taken_seat
 
-    pub conflicted_from : (x : N) (k : Conflict) (s : Mine S N) → HasConflicted terms slots x k r s → HasConflicted terms slots x k m s
-    conflicted_from x k s h =
+    unentered : (x : N) (drawn : Option ℕ) (s : Mine S N) → HasNoEntry terms x drawn r s → HasNoEntry terms x drawn m s
+    unentered x None s e =
+        e ∙ ap (λ (v : View S N). let w : View S N = record v { seen = s.0.seen; seat = over_seat terms v.seat true; looked = s.0.looked } in w) g.is
+    unentered x (Some number) s e = (
+      e.0,
+      e.1,
+      seen_before e.0 e.2,
+      e.3,
+      e.4 ∙ ap (λ (v : View S N). let w : View S N = record v {
+        seen = s.0.seen;
+        seat = over_seat terms v.seat true;
+        looked = s.0.looked;
+        note = Some x;
+        drawn = v.drawn ++ number ∷ [];
+      } in w) g.is,
+    )
+
+    pub conflicted_from : (x : N) (k : Conflict) (drawn : Option ℕ) (s : Mine S N) → HasConflicted terms slots x k drawn r s
+        → HasConflicted terms slots x k drawn m s
+    conflicted_from x k drawn s h =
         record {
           sees = moves_then terms m r s g.moves h.sees;
           finds = h.finds;
           cause = subst (λ (t : Seat). HasCause t.rv k.word ⊎ ((w : ℕ) × (k.before ≡ Some w) × (w ≢ k.word))) taken_seat h.cause;
-          entry = ⊎_elim
-              (λ (e : s.0 ≡ record r.0 { seen = s.0.seen; seat = over_seat terms r.0.seat true; looked = s.0.looked }).
-              inl (e ∙ ap (λ (v : View S N). let w : View S N = record v { seen = s.0.seen; seat = over_seat terms v.seat true; looked = s.0.looked } in w) g.is))
-              (λ (e : (i : ℕ) × (length r.0.seen.history ≤ i) × IsVoid s.0.seen i
-              × (s.0 ≡ record r.0 { seen = s.0.seen; seat = over_seat terms r.0.seat true; looked = s.0.looked; note = Some x; drawn = r.0.drawn ++ suc i ∷ [] })).
-              inr (
-                e.0,
-                seen_before e.0 e.1,
-                e.2,
-                e.3 ∙ ap (λ (v : View S N). let w : View S N = record v {
-                  seen = s.0.seen;
-                  seat = over_seat terms v.seat true;
-                  looked = s.0.looked;
-                  note = Some x;
-                  drawn = v.drawn ++ suc e.0 ∷ [];
-                } in w) g.is,
-              ))
-              h.entry;
+          entry = unentered x drawn s h.entry;
         }

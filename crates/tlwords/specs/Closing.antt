@@ -5,7 +5,7 @@ use lib.ListN.{get_elem?}
 use Rattle.tlcore.specs.History.{Entry, WasWritten, Will, version, value, deed}
 use Rattle.tlwords.specs.declared.closing.ClosedCell.{ClosedCell}
 use Rattle.tlwords.specs.declared.closing.ClosedWords.{ClosedWords}
-use Rattle.ranges.specs.Ranges.{Range, Has, Names, IsStored}
+use Rattle.ranges.specs.Ranges.{Range, Has, Names, IsStored, AreOfOneStore}
 use Rattle.tlwords.specs.Terms.{Terms, Opened}
 use Rattle.tlwords.specs.Seen.{Seen, SeenGrows, Legal, Agree}
 use Rattle.tlwords.specs.Views.{View}
@@ -39,9 +39,13 @@ pub record Shows (base : List ℕ) (h : List Entry) (clock : ℕ) (cells : List 
 -- at the end, locked or free, is 0 or names one of these
 pub record Closes {S N : Type 0} (terms : Terms S N) (setting : S) (base : List ℕ) (words : ClosedWords) : Type 0 where
   pub seen : Seen N
+  -- each entry has its note
+  pub noted : length seen.notes ≡ length seen.history
   pub legal : Legal terms setting base seen
   pub shows : Shows base seen.history words.clock words.cells.items
   pub stored : (r : Range) → Has r seen.ranges → IsStored words.tail words.store.items r
+  -- so they are of this one store
+  pub ranges : AreOfOneStore (length words.store.items) seen.ranges
   -- each of 64 sessions was refused at most once by a step, which adds the room and one at most
   pub refused : words.tail ≤ length words.store.items + (length words.store.items + 1) * 64
   pub opened : Opened terms setting seen.ranges base

@@ -89,23 +89,29 @@ module _ {S N : Type 0} (terms : Terms S N) where
     pub sees : Sees terms m.0 r.0
     pub is : r.0 ≡ record m.0 { seen = r.0.seen; mine = m.0.mine ++ Answered m.0.seat.rv w ∷ [] }
 
-  -- no number was drawn, or one whose entry is Void
-  abbrev pub HasNoEntry : N → Mine S N → Mine S N → Type 0
-  HasNoEntry n m r =
-      (r.0 ≡ record m.0 { seen = r.0.seen; seat = over_seat m.0.seat true; looked = r.0.looked })
-      ⊎ ((i : ℕ) × (length m.0.seen.history ≤ i) × IsVoid r.0.seen i
-      × (r.0 ≡ record m.0 { seen = r.0.seen; seat = over_seat m.0.seat true; looked = r.0.looked; note = Some n; drawn = m.0.drawn ++ suc i ∷ [] }))
+  -- no number was drawn, or this one alone, whose entry is Void
+  abbrev pub HasNoEntry : N → Option ℕ → Mine S N → Mine S N → Type 0
+  HasNoEntry n None m r = r.0 ≡ record m.0 { seen = r.0.seen; seat = over_seat m.0.seat true; looked = r.0.looked }
+  HasNoEntry n (Some number) m r =
+      (i : ℕ) × (number ≡ suc i) × (length m.0.seen.history ≤ i) × IsVoid r.0.seen i
+      × (r.0 ≡ record m.0 {
+        seen = r.0.seen;
+        seat = over_seat m.0.seat true;
+        looked = r.0.looked;
+        note = Some n;
+        drawn = m.0.drawn ++ number ∷ [];
+      })
 
-  -- the call met this conflict
-  pub record HasConflicted (slots : List Slot) (n : N) (k : ConflictValue) (m r : Mine S N) : Type 0 where
+  -- the call met this conflict, and drew this number or none
+  pub record HasConflicted (slots : List Slot) (n : N) (k : ConflictValue) (drawn : Option ℕ) (m r : Mine S N) : Type 0 where
     pub sees : Sees terms m.0 r.0
     pub finds : Finds slots k r
     pub cause : HasCause m.0.seat.rv k.word ⊎ ((w : ℕ) × (k.before ≡ Some w) × (w ≢ k.word))
-    pub entry : HasNoEntry n m r
+    pub entry : HasNoEntry n drawn m r
 
   -- what a commit of what was kept tells
   abbrev pub HasEnded : List Slot → N → Mine S N → Mine S N → Outcome → Type 0
   HasEnded slots n m r (EndsDone number) = (writes_kept slots ≢ []) × HasCommitted number (work_kept m.0.seat slots n) m r
   HasEnded slots n m r (EndsRead place) = (writes_kept slots ≡ []) × (place ≡ m.0.seat.rv) × HasAnswered (work_kept m.0.seat slots n) m r
-  HasEnded slots n m r (EndsConflict k) = (writes_kept slots ≢ []) × HasConflicted slots n k m r
+  HasEnded slots n m r (EndsConflict k drawn) = (writes_kept slots ≢ []) × HasConflicted slots n k drawn m r
   HasEnded slots n m r NumbersUsed = (writes_kept slots ≢ []) × (length m.0.drawn ≡ 2 ^ 40) × (r ≡ m)

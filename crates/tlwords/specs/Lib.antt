@@ -9,3 +9,4 @@ pub mod Walks
 pub mod Commits
 pub mod Committing
 pub mod Closing
+pub mod Events

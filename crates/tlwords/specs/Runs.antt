@@ -15,7 +15,7 @@ use Rattle.tlwords.specs.declared.mode.Mode.{Mode}
 use Rattle.tlwords.specs.declared.mode.Mode.TheVariants.{Reading, Writing}
 use Rattle.ranges.specs.Ranges.{Range, Has, Names, AreOfOneStore}
 use Rattle.tlwords.specs.Terms.{Terms}
-use Rattle.tlwords.specs.Seen.{SeenGrows}
+use Rattle.tlwords.specs.Seen.{SeenGrows, Agree}
 use Rattle.tlwords.specs.Views.{View, Sound, fresh, untold, counts}
 use Rattle.tlwords.specs.Plays.{Mine, Sees, began}
 
@@ -167,6 +167,8 @@ module _ {S N : Type 0} (terms : Terms S N) where
     pub own : SeenGrows v.seen v2.seen
     pub told : SeenGrows u.seen v2.seen
     pub other : SeenGrows u.seen u2.seen
+    -- the calls of u agree with what v has seen now
+    pub calls : (x : S) → v.setting ≡ Some x → Agree terms x v.base v2.seen u.mine
     pub sound : Sound terms v2
     pub other_sound : Sound terms u2
     -- the numbers of passes with two names are different

@@ -137,14 +137,14 @@ fn release_all<L: Law>(
     }
 }
 
-// From the draw on: the cells to be written are held. An error is the check that failed.
+// From the draw on: the cells to be written are held. An error is the check that failed, and the number that was drawn.
 fn settle<L: Law>(
     words: &Words<L>,
     seat: &mut Place<L>,
     log: &Log,
     place: u64,
     note: &L::Note,
-) -> Result<u64, Conflict>
+) -> Result<u64, (Conflict, u64)>
     requires table { seat.old.table_id ≡ words.now.table.shared.table_id }
     requires setting { (y : L.Setting) × (seat.old.me.0.setting ≡ Some y) × Permits L.terms y seat.old.me.0.seen.ranges (reads_of seat.old.me.0.seat.reads) (writes_kept log.now.slots.items) note.now }
     requires cells { (length log.now.slots.items ≡ words.now.cells) × (length log.now.slots.items ≡ length seat.old.me.0.base) }
@@ -155,15 +155,15 @@ fn settle<L: Law>(
     requires room { length seat.old.me.0.drawn + 1 ≤ 2 ^ 40 * seat.old.me.0.rights }
     ensures seat { IsSameSeat seat.old seat.new }
     ensures ok { IfOk result (λ n. HasCommitted L.terms n (work_kept seat.old.me.0.seat log.now.slots.items note.now) seat.old.me seat.new.me) }
-    ensures err { IfErr result (λ k. HasConflicted L.terms log.now.slots.items note.now k seat.old.me seat.new.me × (length seat.new.me.0.drawn ≡ length seat.old.me.0.drawn + 1)) }
+    ensures err { IfErr result (λ k. HasConflicted L.terms log.now.slots.items note.now k.0 (Some k.1) seat.old.me seat.new.me × (length seat.new.me.0.drawn ≡ length seat.old.me.0.drawn + 1)) }
 {
     let index = draw(words, seat, note);
+    let number = index + 1;
     if let Err(conflict) = check_all(words, seat, log, place, index) {
         release_all(words, seat, log, words.cells, None);
-        return Err(conflict);
+        return Err((conflict, number));
     }
     store_all(words, seat, log, index, note);
-    let number = index + 1;
     release_all(words, seat, log, words.cells, Some(2 * number));
     Ok(number)
 }
@@ -199,12 +199,18 @@ fn finish<L: Law>(
     }
     if let Err(conflict) = take_all(words, seat, log) {
         release_all(words, seat, log, conflict.cell, None);
-        return Outcome::Conflict(conflict);
+        return Outcome::Conflict {
+            conflict,
+            drawn: None,
+        };
     }
     *count += 1;
     match settle(words, seat, log, place, note) {
         Ok(number) => Outcome::Committed(number),
-        Err(conflict) => Outcome::Conflict(conflict),
+        Err((conflict, number)) => Outcome::Conflict {
+            conflict,
+            drawn: Some(number),
+        },
     }
 }
 

@@ -144,11 +144,12 @@ impl<'w, L: Law> Run<'w, L> {
     ///
     /// It takes the locks of the cells to be written, draws a number, looks again at the other cells that were read, stores the values and
     /// gives the locks back. After a conflict each lock has its former word, and a number that was drawn is used up. A run that wrote
-    /// nothing, as each one in Reading mode, only loads the spare word. One that has met a conflict answers it again, without a step.
+    /// nothing, as each one in Reading mode, only loads the spare word. One that has met a conflict answers it again, without a step and
+    /// without a number.
     pub fn commit(self, note: &L::Note) -> (Pass<L>, Outcome)
         requires lawful { self.over ≡ None → IsLawfulNow L.terms self.seat.me.0 self.log.slots.items note.now }
         ensures same { IsSameSeat self.entry.seat result.0.seat }
-        ensures over { (k : ConflictValue) → self.entry.over ≡ Some k → (result.1 ≡ EndsConflict k) × (result.0.seat.me ≡ self.entry.seat.me) }
+        ensures over { (k : ConflictValue) → self.entry.over ≡ Some k → (result.1 ≡ EndsConflict k None) × (result.0.seat.me ≡ self.entry.seat.me) }
         ensures reading { self.entry.over ≡ None → self.entry.mode ≡ Reading → result.1 ≡ EndsRead self.entry.place }
         ensures ended { self.entry.over ≡ None → HasEnded L.terms self.entry.log.slots.items note.now self.entry.seat.me result.0.seat.me result.1 }
     {
@@ -163,7 +164,10 @@ impl<'w, L: Law> Run<'w, L> {
             full,
         } = self;
         let outcome = match over {
-            Some(conflict) => Outcome::Conflict(conflict),
+            Some(conflict) => Outcome::Conflict {
+                conflict,
+                drawn: None,
+            },
             None => conclude(words, &mut seat, &mut log, &mut count, place, mode, note),
         };
         log.clear();
@@ -200,14 +204,14 @@ impl<'w, L: Law> Run<'w, L> {
     }
 }
 
-/// Tells a pass what another one has seen. It makes one load of the clock, for the first, and three of the spare word.
+/// Tells a pass what another one has seen by now, with the other's calls. It makes three loads of the spare word, and one of the clock.
 pub fn learn<L: Law>(words: &Words<L>, pass: &mut Pass<L>, other: &mut Pass<L>)
     requires { (pass.old.seat.table_id ≡ words.now.table.shared.table_id) × (other.old.seat.table_id ≡ words.now.table.shared.table_id) }
     ensures seat { IsSameSeat pass.old.seat pass.new.seat }
     ensures other { IsSameSeat other.old.seat other.new.seat }
     ensures learns { Learns L.terms pass.old.seat.me.0 other.old.seat.me.0 pass.new.seat.me.0 other.new.seat.me.0 }
 {
+    steps::refresh(words, &mut other.seat);
     steps::tell(words, &mut pass.seat, &mut other.seat);
     steps::begin(words, &mut pass.seat);
-    steps::refresh(words, &mut other.seat);
 }

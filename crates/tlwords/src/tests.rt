@@ -33,7 +33,15 @@ fn add_one(words: &Words<Anything>, pass: Pass<Anything>, cell: usize) -> (Pass<
             run.write(cell, x.wrapping_add(1));
             run.commit(&7)
         }
-        Err(conflict) => (run.leave(), Outcome::Conflict(conflict)),
+        Err(conflict) => (run.leave(), told(conflict)),
+    }
+}
+
+// The outcome of a run that met a conflict at a read.
+fn told(conflict: Conflict) -> Outcome {
+    Outcome::Conflict {
+        conflict,
+        drawn: None,
     }
 }
 
@@ -80,7 +88,7 @@ fn follow(
             let (x, second) = run.commit(&8);
             (x, first, second)
         }
-        Err(conflict) => (run.leave(), first, Outcome::Conflict(conflict)),
+        Err(conflict) => (run.leave(), first, told(conflict)),
     }
 }
 
@@ -181,7 +189,7 @@ fn opened(alloc: Global) -> Option<(Words<Anything>, Pass<Anything>, Pass<Anythi
 }
 
 fn is_conflict(outcome: Outcome, before: Option<u64>) -> bool {
-    let Outcome::Conflict(conflict) = outcome else {
+    let Outcome::Conflict { conflict, .. } = outcome else {
         return false;
     };
     conflict.cell == 5 && conflict.word == 2 && conflict.before == before
