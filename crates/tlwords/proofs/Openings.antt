@@ -1,5 +1,5 @@
 -- The rule at the opening, and the passes of an opening.
-use Rattle.std.proofs.Common.{◌≡◌, ℕ, zero, suc, ◌+◌, ◌-◌, ◌*◌, ◌/◌, ◌%◌, ◌^◌, ◌<◌, ◌≤◌, inl, inr, false, Some, None, List, [], ◌∷◌, ◌++◌, length, map, slice_get, sym, refl, ap, ◌∙◌, subst, arith, All, take, drop, replicate}
+use Rattle.std.proofs.Common.{◌≡◌, ◌≢◌, ◌⊎◌, ⊎_elim, Bool, true, ℕ, zero, suc, ◌+◌, ◌-◌, ◌*◌, ◌/◌, ◌%◌, ◌^◌, ◌<◌, ◌≤◌, inl, inr, false, Some, None, List, [], ◌∷◌, ◌++◌, length, map, slice_get, sym, refl, ap, ◌∙◌, subst, arith, All, take, drop, replicate}
 use mathlib.Core.Option.{some, some-injective, some-ne-none}
 use lib.ListN.{get_elem?}
 use Rattle.std.specs.Prelude.{slice_index_or}
@@ -11,7 +11,7 @@ use Rattle.tlcore.proofs.Growth.{get_exists}
 use Rattle.tlcore.proofs.Lists.{get-append_left, get_within}
 use Rattle.tlcore.proofs.Opacity.{start_ok}
 use Rattle.tlcore.proofs.Words.{CellWords}
-use Rattle.tlwords.specs.Ranges.{Range, Has, IsStored, LieIn, range_named, ranges_named}
+use Rattle.tlwords.specs.Ranges.{Range, Has, IsStored, LieIn, range_named, with_range, with_named, named_from, ranges_named, IsNamed}
 use Rattle.tlwords.specs.Terms.{Terms, AreNamed}
 use Rattle.tlwords.specs.Seen.{Seen, opening_seen}
 use Rattle.tlwords.specs.Views.{Staging, View, untold, fresh}
@@ -65,25 +65,91 @@ part_within n s i xs l =
     let b = get_exists (take n (drop s xs)) i l in
     get_within xs (s + i) b.0 (part_get n s i b.0 xs b.1)
 
--- a range that the values name is one that some value names
-named_by : (P : Range → Type 0) (store values : List ℕ) → ((v : ℕ) → P (range_named store v)) → (r : Range) → Has r (ranges_named store values) → P r
-named_by P store [] all r has = absurd has
-named_by P store (v ∷ vs) all r (inl e) = subst P (sym e) (all v)
-named_by P store (v ∷ vs) all r (inr has) = named_by P store vs all r has
+-- a range that an opening names is one that some value of a range cell names, and has words
+has_range : (r q : Range) (ws : List ℕ) (rs : List Range) → Has r (with_range q ws rs) → ((r ≡ q) × (ws ≢ [])) ⊎ Has r rs
+has_range r q [] rs has = inr has
+has_range r q (w ∷ ws) rs (inl e) = inl (e, λ p. cons_not_nil w ws p)
+  where
+    cons_not_nil : (w : ℕ) (ws : List ℕ) → w ∷ ws ≡ [] → ⊥
+    cons_not_nil w ws e = cc
+has_range r q (w ∷ ws) rs (inr has) = inr has
 
-pub lie_named : (store values : List ℕ) (room : ℕ) → length store ≤ room → LieIn room (ranges_named store values)
-lie_named store values room l =
-    named_by (λ r. (i : ℕ) → i < length r.words → r.start + i < room) store values
-    (λ v i m. let w = part_within (v % 2 ^ 25) (v / 2 ^ 25) i store m in omega (arith, w, l))
+has_named : (b : Bool) (r q : Range) (rs : List Range) → Has r (with_named b q rs) → ((b ≡ true) × (r ≡ q) × (q.words ≢ [])) ⊎ Has r rs
+has_named false r q rs has = inr has
+has_named true r q rs has = ⊎_elim (λ (p : (r ≡ q) × (q.words ≢ [])). inl (refl, p.0, p.1)) (λ (p : Has r rs). inr p) (has_range r q q.words rs has)
+
+named_in : (ranged : ℕ → Bool) (store : List ℕ) (c : ℕ) (values : List ℕ) (r : Range) → Has r (named_from ranged store c values)
+    → (k : ℕ) × (v : ℕ) × (slice_get values k ≡ Some v) × (ranged (c + k) ≡ true) × (r ≡ range_named store v) × (r.words ≢ [])
+named_in ranged store c [] r has = absurd has
+named_in ranged store c (v ∷ vs) r has = ⊎_elim
+    (λ (p : (ranged c ≡ true) × (r ≡ range_named store v) × ((range_named store v).words ≢ [])). (
+      0,
+      v,
+      refl,
+      ap ranged (let z : c + 0 ≡ c = omega arith in z) ∙ p.0,
+      p.1,
+      λ e. p.2 (ap (λ (q : Range). q.words) (sym p.1) ∙ e),
+    ))
+    (λ (p : Has r (named_from ranged store (suc c) vs)).
+    let q = named_in ranged store (suc c) vs r p in
+    (suc q.0, q.1, q.2, ap ranged (let z : c + suc q.0 ≡ suc c + q.0 = omega arith in z) ∙ q.3, q.4, q.5))
+    (has_named (ranged c) r (range_named store v) (named_from ranged store (suc c) vs) has)
+
+pub is_named : (ranged : ℕ → Bool) (store values : List ℕ) (r : Range) → Has r (ranges_named ranged store values) → IsNamed ranged store values r
+is_named ranged store values r has =
+    let q = named_in ranged store 0 values r has in
+    (q.0, q.1, q.2, ap ranged (let z : q.0 ≡ 0 + q.0 = omega arith in z) ∙ q.3, q.4, q.5)
+
+here_range : (r : Range) (ws : List ℕ) (rs : List Range) → ws ≢ [] → Has r (with_range r ws rs)
+here_range r [] rs has_words = absurd (has_words refl)
+here_range r (w ∷ ws) rs has_words = inl refl
+
+here_named : (b : Bool) (r : Range) (rs : List Range) → b ≡ true → r.words ≢ [] → Has r (with_named b r rs)
+here_named false r rs e has_words = absurd (cc)
+here_named true r rs e has_words = here_range r r.words rs has_words
+
+there_range : (r q : Range) (ws : List ℕ) (rs : List Range) → Has r rs → Has r (with_range q ws rs)
+there_range r q [] rs has = has
+there_range r q (w ∷ ws) rs has = inr has
+
+there_named : (b : Bool) (r q : Range) (rs : List Range) → Has r rs → Has r (with_named b q rs)
+there_named false r q rs has = has
+there_named true r q rs has = there_range r q q.words rs has
+
+named_at : (ranged : ℕ → Bool) (store : List ℕ) (c k v : ℕ) (values : List ℕ) → slice_get values k ≡ Some v → ranged (c + k) ≡ true
+    → (range_named store v).words ≢ [] → Has (range_named store v) (named_from ranged store c values)
+named_at ranged store c k v [] e is has_words = absurd (cc)
+named_at ranged store c zero v (u ∷ us) e is has_words =
+    let q : u ≡ v = cc in
+    subst (λ (x : ℕ). Has (range_named store v) (with_named (ranged c) (range_named store x) (named_from ranged store (suc c) us))) (sym q)
+    (here_named (ranged c) (range_named store v) (named_from ranged store (suc c) us) (ap ranged (let z : c ≡ c + 0 = omega arith in z) ∙ is) has_words)
+named_at ranged store c (suc k) v (u ∷ us) e is has_words =
+    there_named (ranged c) (range_named store v) (range_named store u) (named_from ranged store (suc c) us)
+    (named_at ranged store (suc c) k v us e (ap ranged (let z : suc c + k ≡ c + suc k = omega arith in z) ∙ is) has_words)
+
+-- the ranges of an opening are those that its range cells name and that have words
+pub has_its_ranges : (ranged : ℕ → Bool) (store values : List ℕ) (r : Range) → IsNamed ranged store values r → Has r (ranges_named ranged store values)
+has_its_ranges ranged store values r p =
+    subst (λ (q : Range). Has q (ranges_named ranged store values)) (sym p.4)
+    (named_at ranged store 0 p.0 p.1 values p.2 (ap ranged (let z : 0 + p.0 ≡ p.0 = omega arith in z) ∙ p.3)
+    (λ e. p.5 (ap (λ (q : Range). q.words) p.4 ∙ e)))
+
+pub lie_named : (ranged : ℕ → Bool) (store values : List ℕ) (room : ℕ) → length store ≤ room → LieIn room (ranges_named ranged store values)
+lie_named ranged store values room l r has =
+    let p = is_named ranged store values r has in
+    subst (λ (r : Range). (i : ℕ) → i < length r.words → r.start + i < room) (sym p.4)
+    (λ i m. let w = part_within (p.1 % 2 ^ 25) (p.1 / 2 ^ 25) i store m in omega (arith, w, l))
 
 -- the ranges that the values name are stored, whatever stands behind the store's opening words
-pub named_stored : (store values more : List ℕ) (r : Range) → Has r (ranges_named store values) → IsStored (length store) (store ++ more) r
-named_stored store values more =
-    named_by (λ r. IsStored (length store) (store ++ more) r) store values
-    (λ v i w e.
-    let here = part_get (v % 2 ^ 25) (v / 2 ^ 25) i w store e in
-    let l = get_within store (v / 2 ^ 25 + i) w here in
-    (get-append_left store more (v / 2 ^ 25 + i) l ∙ here, l))
+pub named_stored : (ranged : ℕ → Bool) (store values more : List ℕ) (r : Range) → Has r (ranges_named ranged store values)
+    → IsStored (length store) (store ++ more) r
+named_stored ranged store values more r has =
+    let p = is_named ranged store values r has in
+    subst (λ (r : Range). IsStored (length store) (store ++ more) r) (sym p.4)
+    (λ i w e.
+    let here = part_get (p.1 % 2 ^ 25) (p.1 / 2 ^ 25) i w store e in
+    let l = get_within store (p.1 / 2 ^ 25 + i) w here in
+    (get-append_left store more (p.1 / 2 ^ 25 + i) l ∙ here, l))
 
 -- behind a list stand so many zeros
 zeros_behind : (xs : List ℕ) (n o : ℕ) → length xs ≤ o → o < length xs + n → slice_get (xs ++ replicate n 0) o ≡ Some 0
@@ -124,10 +190,10 @@ module _ {S N : Type 0} (terms : Terms S N) (setting : S) (values store : List �
       blank : (o : ℕ) → length store ≤ o → o < room → slice_get (store ++ replicate (room - length store) 0) o ≡ Some 0
       blank o l m = zeros_behind store (room - length store) o l (omega (arith, l, m, fits))
 
-  kept_so : terms.opens setting (ranges_named store values) values → AreNamed terms setting (ranges_named store values) values
-      → Kept terms setting values room (ranges_named store values) (0 ∷ 0 ∷ opening_words values) (first_view setting values room (ranges_named store values) ∷ [])
+  kept_so : terms.opens setting (ranges_named (terms.ranged setting) store values) values → AreNamed terms setting (ranges_named (terms.ranged setting) store values) values
+      → Kept terms setting values room (ranges_named (terms.ranged setting) store values) (0 ∷ 0 ∷ opening_words values) (first_view setting values room (ranges_named (terms.ranged setting) store values) ∷ [])
   kept_so fact named =
-      let ranges : List Range = ranges_named store values in
+      let ranges : List Range = ranges_named (terms.ranged setting) store values in
       let first : View S N = first_view setting values room ranges in
       let g : Seen N = opening_seen ranges in
       let plain : IsTold {S = S} setting values g (λ _. 0) untold = untold_is setting values g (λ _. 0) in
@@ -146,7 +212,7 @@ module _ {S N : Type 0} (terms : Terms S N) (setting : S) (values store : List �
         entries = λ i e n a b. absurd (cc);
         opening = record { some = ranges; among = λ r has. has; opens = fact };
         named = λ c x at is. named c x.value (get_opened values c x at) is;
-        lie = lie_named store values room fits;
+        lie = lie_named (terms.ranged setting) store values room fits;
         suits = only_one first (λ v. Suits terms setting values room g (λ _. 0) v) suit;
         rights = refl;
         numbers = refl;
@@ -154,18 +220,18 @@ module _ {S N : Type 0} (terms : Terms S N) (setting : S) (values store : List �
 
 pub opens_so : {S N : Type 0} (terms : Terms S N) (setting : S) (values store words : List ℕ) (room : ℕ) → length store ≤ room → room ≤ 2 ^ 24
     → words ≡ (0 ∷ 0 ∷ opening_words values) ++ length store ∷ (store ++ replicate (room - length store) 0)
-    → terms.opens setting (ranges_named store values) values → AreNamed terms setting (ranges_named store values) values
-    → Ruled terms setting values room store (opening words [] (first_view setting values room (ranges_named store values)))
+    → terms.opens setting (ranges_named (terms.ranged setting) store values) values → AreNamed terms setting (ranges_named (terms.ranged setting) store values) values
+    → Ruled terms setting values room store (opening words [] (first_view setting values room (ranges_named (terms.ranged setting) store values)))
 opens_so terms setting values store words room fits small is fact named =
     record {
       front = 0 ∷ 0 ∷ opening_words values;
       tail = length store;
       store = store ++ replicate (room - length store) 0;
-      ranges = ranges_named store values;
+      ranges = ranges_named (terms.ranged setting) store values;
       words_are = is;
       kept = kept_so terms setting values store room fits fact named;
-      shelf = shelf_so terms setting values store room fits small (ranges_named store values)
-          (named_stored store values (replicate (room - length store) 0)) values;
+      shelf = shelf_so terms setting values store room fits small (ranges_named (terms.ranged setting) store values)
+          (named_stored (terms.ranged setting) store values (replicate (room - length store) 0)) values;
     }
 
 -- ---- the passes of an opening

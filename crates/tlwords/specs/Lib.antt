@@ -10,3 +10,4 @@ pub mod Walks
 pub mod Commits
 pub mod Committing
 pub mod Closing
+pub mod Faults

@@ -24,4 +24,4 @@ invariant_of-words g c =
     }
 
 pub deal_all-requires-clause-store : goal.deal_all-requires-clause-store
-deal_all-requires-clause-store g c = let l = c.if-store-room.false in lie_named c.args.store.now c.args.values.now c.args.room (omega arith)
+deal_all-requires-clause-store g c = let l = c.if-store-room.false in lie_named (g.L.Law.terms.ranged c.args.setting.now) c.args.store.now c.args.values.now c.args.room (omega arith)
