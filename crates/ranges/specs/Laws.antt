@@ -1,6 +1,6 @@
 -- Laws of ranges, for whoever keeps them.
-use Rattle.std.specs.Prelude.{◌≡◌, ℕ, ◌^◌, ◌<◌, ◌≤◌, List, ◌++◌, length}
-use Rattle.ranges.specs.Ranges.{Range, Has, Within, word_of, Names, IsStored, AreCoherent, AreOfOneStore, ranges_named}
+use Rattle.std.specs.Prelude.{◌≡◌, ◌↔◌, ℕ, Bool, ◌^◌, ◌<◌, ◌≤◌, List, ◌++◌, length}
+use Rattle.ranges.specs.Ranges.{Range, Has, Within, word_of, Names, IsStored, AreCoherent, AreOfOneStore, ranges_named, IsNamed}
 
 -- ranges that are stored in one store are coherent
 abbrev pub StoredAreCoherent : Type 0
@@ -17,11 +17,18 @@ WordsNameOne =
 abbrev pub NamesLast : Type 0
 NamesLast = (ranges more : List Range) (word : ℕ) → Within ranges more → Names ranges word → Names more word
 
--- the ranges of a store that words name are stored in it, whatever stands behind its words
+-- the ranges of an opening are exactly those that its range cells name, but empty ones
+abbrev pub NamesItsRanges : Type 0
+NamesItsRanges =
+    (ranged : ℕ → Bool) (store values : List ℕ) (r : Range) → Has r (ranges_named ranged store values) ↔ IsNamed ranged store values r
+
+-- they are stored, whatever stands behind the words of the store
 abbrev pub NamedAreStored : Type 0
 NamedAreStored =
-    (store values more : List ℕ) (r : Range) → Has r (ranges_named store values) → IsStored (length store) (store ++ more) r
+    (ranged : ℕ → Bool) (store values more : List ℕ) (r : Range) → Has r (ranges_named ranged store values)
+    → IsStored (length store) (store ++ more) r
 
--- the ranges of a store that words name are of one store, of any room that the words of the store fit into
+-- they are of one store, of any room that the words of the store fit into
 abbrev pub NamedAreOfOneStore : Type 0
-NamedAreOfOneStore = (store values : List ℕ) (room : ℕ) → length store ≤ room → AreOfOneStore room (ranges_named store values)
+NamedAreOfOneStore =
+    (ranged : ℕ → Bool) (store values : List ℕ) (room : ℕ) → length store ≤ room → AreOfOneStore room (ranges_named ranged store values)

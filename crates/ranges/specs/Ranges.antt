@@ -1,5 +1,5 @@
 -- Ranges of the store: runs of store words that are written once, and the words that name them.
-use Rattle.std.specs.Prelude.{◌≡◌, ℕ, ◌+◌, ◌*◌, ◌/◌, ◌%◌, ◌^◌, ◌<◌, Some, List, [], ◌∷◌, length, map, take, drop, slice_get, ◌⊎◌}
+use Rattle.std.specs.Prelude.{◌≡◌, ◌≢◌, ℕ, suc, Bool, true, false, ◌+◌, ◌*◌, ◌/◌, ◌%◌, ◌^◌, ◌<◌, Some, List, [], ◌∷◌, length, take, drop, slice_get, ◌⊎◌}
 
 -- a finished range of the store: where it starts, and its words, which never change again
 pub record Range : Type 0 where
@@ -41,6 +41,26 @@ AreOfOneStore room ranges = ((r : Range) → Has r ranges → (i : ℕ) → i < 
 abbrev pub range_named : List ℕ → ℕ → Range
 range_named store word = record { start = word / 2 ^ 25; words = take (word % 2 ^ 25) (drop (word / 2 ^ 25) store) }
 
--- the ranges of the store that the values name
-abbrev pub ranges_named : List ℕ → List ℕ → List Range
-ranges_named store values = map (range_named store) values
+-- the range is one of them where it has words, before the others
+abbrev pub with_range : Range → List ℕ → List Range → List Range
+with_range r [] rs = rs
+with_range r (w ∷ ws) rs = r ∷ rs
+
+-- before the others, what the word names, where the cell is a range cell
+abbrev pub with_named : Bool → Range → List Range → List Range
+with_named false r rs = rs
+with_named true r rs = with_range r r.words rs
+
+-- the ranges of the store that the values of range cells name, from the cell c on
+abbrev pub named_from : (ℕ → Bool) → List ℕ → ℕ → List ℕ → List Range
+named_from ranged store c [] = []
+named_from ranged store c (v ∷ vs) = with_named (ranged c) (range_named store v) (named_from ranged store (suc c) vs)
+
+-- the ranges of an opening: those of the store that the values of its range cells name, none of them empty
+abbrev pub ranges_named : (ℕ → Bool) → List ℕ → List ℕ → List Range
+ranges_named ranged store values = named_from ranged store 0 values
+
+-- some range cell names it, and it has words
+abbrev pub IsNamed : (ℕ → Bool) → List ℕ → List ℕ → Range → Type 0
+IsNamed ranged store values r =
+    (c : ℕ) × (v : ℕ) × (slice_get values c ≡ Some v) × (ranged c ≡ true) × (r ≡ range_named store v) × (r.words ≢ [])

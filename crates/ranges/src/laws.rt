@@ -1,6 +1,6 @@
 //! Laws of the definitions: each function does nothing, and its contract is the law.
 
-ghost use Rattle.ranges.specs.Laws.{StoredAreCoherent, WordsNameOne, NamesLast, NamedAreStored, NamedAreOfOneStore};
+ghost use Rattle.ranges.specs.Laws.{StoredAreCoherent, WordsNameOne, NamesLast, NamesItsRanges, NamedAreStored, NamedAreOfOneStore};
 
 /// Ranges that are stored in one store are coherent: where two share a word of the store, they have the same value there.
 pub fn stored_are_coherent()
@@ -17,7 +17,12 @@ pub fn names_last()
     ensures { NamesLast }
 {}
 
-/// The ranges of a store that words name are stored in it, whatever stands behind its words, and are of one store.
+/// The ranges of an opening are exactly those that its range cells name, but empty ones.
+pub fn openings_name_their_ranges()
+    ensures { NamesItsRanges }
+{}
+
+/// The ranges of an opening are stored, whatever stands behind the words of the store, and are of one store.
 pub fn named_are_stored()
     ensures stored { NamedAreStored }
     ensures one { NamedAreOfOneStore }

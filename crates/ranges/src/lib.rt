@@ -5,4 +5,6 @@
 
 mod laws;
 
-pub use laws::{named_are_stored, names_last, stored_are_coherent, words_name_one};
+pub use laws::{
+    named_are_stored, names_last, openings_name_their_ranges, stored_are_coherent, words_name_one,
+};

@@ -1,7 +1,7 @@
 //! The transactions of the threads.
 #![tactic(auto)]
 
-ghost use Rattle.std.specs.Prelude.{◌≡◌, ◌+◌, ◌*◌, ◌<◌, ◌≤◌, None, true, All, IfSome, IfOk, length};
+ghost use Rattle.std.specs.Prelude.{false, ◌≡◌, ◌+◌, ◌*◌, ◌<◌, ◌≤◌, None, true, All, IfSome, IfOk, length};
 ghost use Rattle.tlwords.specs.Plays.{IsSameSeat};
 ghost use denote.Param.Send.{IsSync};
 ghost use Rattle.tlwords.specs.declared.mode.Mode.TheVariants.{Writing};
@@ -26,7 +26,7 @@ impl Law for Anything {
 
     type Note = ();
 
-    ghost terms = { record { lawful = λ _ _ _ _ _. Unit {0}; opens = λ _ _ _. Unit {0}; ranged = λ _ _. ⊥ } };
+    ghost terms = { record { lawful = λ _ _ _ _ _. Unit {0}; opens = λ _ _ _. Unit {0}; ranged = λ _ _. false } };
 }
 
 /// What came of the transactions.

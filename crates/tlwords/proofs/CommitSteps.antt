@@ -316,7 +316,7 @@ module _ {S N : Type 0} (terms : Terms S N) (setting : S) (base : List ℕ) (roo
   stores_go : (ranges : List Range) (ws : List ℕ) (vs : List (View S N)) (r : Rule terms setting base room ranges ws vs) (id : ℕ) (v : View S N) → get_elem? vs id ≡ some v
       → (c i : ℕ) (k : Held) (x : Cell) (mine : List (Call N)) → slice_get (r.world).cells c ≡ Some x
       → Keeps base r.world (store r.world id v.seat i c k x) → number_at v.seat.place ≡ Some i
-      → (terms.ranged setting c → Names ranges k.value)
+      → (terms.ranged setting c ≡ true → Names ranges k.value)
       → (Agree terms setting base (record { history = settle (r.world).history i Done; notes = r.notes; ranges = ranges }) v.mine
       → Agree terms setting base (record { history = settle (r.world).history i Done; notes = r.notes; ranges = ranges }) mine)
       → (u : View S N)

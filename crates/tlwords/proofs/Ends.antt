@@ -1,5 +1,5 @@
 -- What the closed words show.
-use Rattle.std.proofs.Common.{◌≡◌, ℕ, zero, suc, ◌+◌, ◌*◌, ◌<◌, ◌≤◌, Some, List, [], ◌∷◌, ◌++◌, length, slice_get, slice_index, sym, refl, ap, ◌∙◌, subst, arith}
+use Rattle.std.proofs.Common.{◌≡◌, ℕ, zero, suc, ◌+◌, ◌*◌, ◌<◌, ◌≤◌, Some, List, [], ◌∷◌, ◌++◌, length, slice_get, slice_index, sym, refl, ap, ◌∙◌, subst, arith, true}
 use mathlib.Core.Option.{some, some-injective}
 use lib.ListN.{get_elem?}
 use Rattle.std.proofs.lemmas.List.{length-append}
@@ -151,7 +151,7 @@ module _ {S N : Type 0} (terms : Terms S N) (setting : S) (base : List ℕ) (roo
             half_written terms setting base room r.ranges r.front s.views r.kept c x.lock y.0 y.1 (sym y.2);
       }
 
-  named : (c : ℕ) (x : ClosedCell) → slice_get closed.cells.items c ≡ Some x → terms.ranged setting c → Names r.ranges x.value
+  named : (c : ℕ) (x : ClosedCell) → slice_get closed.cells.items c ≡ Some x → terms.ranged setting c ≡ true → Names r.ranges x.value
   named c x f is =
       let y : (y : Cell) × (slice_get w.cells c ≡ Some y) × (y.lock ≡ x.lock) × (y.value ≡ x.value) = cell_same c x f in
       subst (λ (v : ℕ). Names r.ranges v) y.3 (k.named c y.0 y.1 is)
@@ -185,7 +185,7 @@ module _ {S N : Type 0} (terms : Terms S N) (setting : S) (base : List ℕ) (roo
           ranges = one_store;
           refused = refused;
           opened = subst (λ (z : S × List ℕ). Opened terms z.0 r.ranges z.1) (λ j. (sym i.0 j, sym i.1 j)) k.opening;
-          named = λ c x at is. named c x at (subst (λ (z : S). terms.ranged z c) i.0 is);
+          named = λ c x at is. named c x at (subst (λ (z : S). terms.ranged z c ≡ true) i.0 is);
         },
         f.own.grows,
         subst (λ (z : S × List ℕ). Agree terms z.0 z.1 last v.mine) (λ j. (sym i.0 j, sym i.1 j)) f.mine,

@@ -64,23 +64,23 @@ done_written None v e = cc
 module _ {S N : Type 0} (terms : Terms S N) (setting : S) (base : List ℕ) (room : ℕ) where
   module _ (ranges : List Range) (ws : List ℕ) (vs : List (View S N)) (r : Rule terms setting base room ranges ws vs) where
     -- a cell gets new words, and its value names a range where the cell is a range cell: so does each
-    pub named_after : (c : ℕ) (y : Cell) → (terms.ranged setting c → Names ranges y.value)
-        → (d : ℕ) (x : Cell) → slice_get (slice_set (r.world).cells c y) d ≡ Some x → terms.ranged setting d → Names ranges x.value
+    pub named_after : (c : ℕ) (y : Cell) → (terms.ranged setting c ≡ true → Names ranges y.value)
+        → (d : ℕ) (x : Cell) → slice_get (slice_set (r.world).cells c y) d ≡ Some x → terms.ranged setting d ≡ true → Names ranges x.value
     named_after c y new d x e ranged = ⊎_elim
         (λ (p : (d ≡ c) × (x ≡ y)).
-        subst (λ (z : Cell). Names ranges z.value) (sym p.1) (new (subst (terms.ranged setting) p.0 ranged)))
+        subst (λ (z : Cell). Names ranges z.value) (sym p.1) (new (subst (λ (e : ℕ). terms.ranged setting e ≡ true) p.0 ranged)))
         (λ (p : (d ≢ c) × (slice_get (r.world).cells d ≡ Some x)). r.named d x p.1 ranged)
         (get-set_cases (r.world).cells c d y x e)
 
     -- only the lock word of the cell is new
     pub named_locked : (c word : ℕ) (x : Cell) → slice_get (r.world).cells c ≡ Some x
         → (d : ℕ) (y : Cell) → slice_get (slice_set (r.world).cells c (record x { lock = word })) d ≡ Some y
-        → terms.ranged setting d → Names ranges y.value
+        → terms.ranged setting d ≡ true → Names ranges y.value
     named_locked c word x f = named_after c (record x { lock = word }) (r.named c x f)
 
     -- what an entry writes to a range cell names a range
     written_named : (i c v : ℕ) (e : Entry) (n : N) → slice_get (r.world).history i ≡ Some e → slice_get r.notes i ≡ Some n
-        → written c e.writes ≡ Some v → terms.ranged setting c → Names ranges v
+        → written c e.writes ≡ Some v → terms.ranged setting c ≡ true → Names ranges v
     written_named i c v e n here note wrote ranged =
         let p : Permits terms setting ranges e.reads e.writes n × (e.writes ≢ []) = r.entries i e n here note in
         (p.0).named c v (written_has c v e.writes wrote) ranged
@@ -88,7 +88,7 @@ module _ {S N : Type 0} (terms : Terms S N) (setting : S) (base : List ℕ) (roo
     -- what a seat that has drawn is to store in a range cell names a range
     pub held_named : (id : ℕ) (v : View S N) → get_elem? vs id ≡ some v → (c i : ℕ) (k : Held)
         → ((upto : ℕ) × (v.seat.place ≡ Checking i upto)) ⊎ (v.seat.place ≡ Storing i) → find_held c v.seat.held ≡ Some k
-        → terms.ranged setting c → Names ranges k.value
+        → terms.ranged setting c ≡ true → Names ranges k.value
     held_named id v at c i k (inl p) holds =
         let t : Seat = v.seat in
         let e : slice_get (r.world).seats id ≡ Some t = seat_at terms setting base room ranges ws vs r id v at in

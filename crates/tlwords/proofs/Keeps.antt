@@ -1,5 +1,5 @@
 -- Each step of a seat keeps the rule.
-use Rattle.std.proofs.Common.{◌≡◌, ◌≢◌, ℕ, zero, suc, ◌+◌, ◌<◌, ◌≤◌, ◌⊎◌, inl, inr, ⊎_elim, Option, Some, List, [], ◌∷◌, length, slice_get, slice_set, slice_index, sym, refl, ap, ◌∙◌, subst, arith}
+use Rattle.std.proofs.Common.{◌≡◌, ◌≢◌, ℕ, zero, suc, ◌+◌, ◌<◌, ◌≤◌, ◌⊎◌, inl, inr, ⊎_elim, Option, Some, List, [], ◌∷◌, length, slice_get, slice_set, slice_index, sym, refl, ap, ◌∙◌, subst, arith, true}
 use mathlib.Core.Option.{some, some-injective, some-ne-none}
 use lib.ListN.{get_elem?}
 use Rattle.atomic_table.proofs.Lists.{at_set}
@@ -142,7 +142,7 @@ module _ {S N : Type 0} (terms : Terms S N) (setting : S) (base : List ℕ) (roo
     -- a step of the seat id, after which it has the view w
     pub moved : (id : ℕ) (v w : View S N) → get_elem? vs id ≡ some v → (qs : List Range) (after : List ℕ) (world : World) (notes : List N) (owner : ℕ → ℕ)
         → Within ranges qs → AreOfOneStore room qs
-        → ((c : ℕ) (x : Cell) → slice_get world.cells c ≡ Some x → terms.ranged setting c → Names qs x.value)
+        → ((c : ℕ) (x : Cell) → slice_get world.cells c ≡ Some x → terms.ranged setting c ≡ true → Names qs x.value)
         → Keeps base r.world world → world.seats ≡ slice_set (r.world).seats id w.seat → after ≡ words_of world
         → length world.cells ≡ length (r.world).cells → NotesGrow r.notes notes → length notes ≡ length world.history
         → EntriesAre terms setting (record { history = world.history; notes = notes; ranges = qs })
@@ -192,7 +192,7 @@ module _ {S N : Type 0} (terms : Terms S N) (setting : S) (base : List ℕ) (roo
     -- a step without a new number, by one event of the machine
     pub goes : (id : ℕ) (v : View S N) → get_elem? vs id ≡ some v
         → (after : List ℕ) (world : World) (z : Seat) (runs : ℕ) (looked : Option (ℕ × ℕ)) (mine : List (Call N)) (told : Told S N)
-        → ((c : ℕ) (x : Cell) → slice_get world.cells c ≡ Some x → terms.ranged setting c → Names ranges x.value)
+        → ((c : ℕ) (x : Cell) → slice_get world.cells c ≡ Some x → terms.ranged setting c ≡ true → Names ranges x.value)
         → Keeps base r.world world → world.seats ≡ slice_set (r.world).seats id z → after ≡ words_of world
         → length world.cells ≡ length (r.world).cells → length world.history ≡ length (r.world).history
         → (Agree terms setting base (record { history = world.history; notes = r.notes; ranges = ranges }) v.mine

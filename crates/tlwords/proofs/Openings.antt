@@ -10,8 +10,7 @@ use Rattle.tlcore.specs.Schedules.{start, opened}
 use Rattle.tlcore.proofs.Lists.{get-append_left, get_within}
 use Rattle.tlcore.proofs.Opacity.{start_ok}
 use Rattle.tlcore.specs.declared.cells.Cell.{Cell}
-use Rattle.ranges.proofs.Named.{named_stored}
-use Rattle.ranges.proofs.Named.{named_of_one}
+use Rattle.ranges.proofs.Named.{named_stored, named_of_one}
 use Rattle.ranges.specs.Ranges.{Range, Has, IsStored, AreOfOneStore, ranges_named}
 use Rattle.tlwords.specs.Terms.{Terms, AreNamed}
 use Rattle.tlwords.specs.Seen.{Seen, opening_seen}
@@ -88,10 +87,10 @@ module _ {S N : Type 0} (terms : Terms S N) (setting : S) (values store : List �
       blank : (o : ℕ) → length store ≤ o → o < room → slice_get (store ++ replicate (room - length store) 0) o ≡ Some 0
       blank o l m = zeros_behind store (room - length store) o l (omega (arith, l, m, fits))
 
-  kept_so : terms.opens setting (ranges_named store values) values → AreNamed terms setting (ranges_named store values) values
-      → Kept terms setting values room (ranges_named store values) (0 ∷ 0 ∷ opening_words values) (first_view setting values room (ranges_named store values) ∷ [])
+  kept_so : terms.opens setting (ranges_named (terms.ranged setting) store values) values → AreNamed terms setting (ranges_named (terms.ranged setting) store values) values
+      → Kept terms setting values room (ranges_named (terms.ranged setting) store values) (0 ∷ 0 ∷ opening_words values) (first_view setting values room (ranges_named (terms.ranged setting) store values) ∷ [])
   kept_so fact named =
-      let ranges : List Range = ranges_named store values in
+      let ranges : List Range = ranges_named (terms.ranged setting) store values in
       let first : View S N = first_view setting values room ranges in
       let g : Seen N = opening_seen ranges in
       let plain : IsTold {S = S} setting values g (λ _. 0) untold = untold_is setting values g (λ _. 0) in
@@ -110,7 +109,7 @@ module _ {S N : Type 0} (terms : Terms S N) (setting : S) (values store : List �
         entries = λ i e n a b. absurd (cc);
         opening = record { some = ranges; among = λ r has. has; opens = fact };
         named = λ c x at is. named c x.value (get_opened values c x at) is;
-        lie = named_of_one store values room fits;
+        lie = named_of_one (terms.ranged setting) store values room fits;
         suits = only_one first (λ v. Suits terms setting values room g (λ _. 0) v) suit;
         rights = refl;
         numbers = refl;
@@ -118,18 +117,18 @@ module _ {S N : Type 0} (terms : Terms S N) (setting : S) (values store : List �
 
 pub opens_so : {S N : Type 0} (terms : Terms S N) (setting : S) (values store words : List ℕ) (room : ℕ) → length store ≤ room → room ≤ 2 ^ 24
     → words ≡ (0 ∷ 0 ∷ opening_words values) ++ length store ∷ (store ++ replicate (room - length store) 0)
-    → terms.opens setting (ranges_named store values) values → AreNamed terms setting (ranges_named store values) values
-    → Ruled terms setting values room store (opening words [] (first_view setting values room (ranges_named store values)))
+    → terms.opens setting (ranges_named (terms.ranged setting) store values) values → AreNamed terms setting (ranges_named (terms.ranged setting) store values) values
+    → Ruled terms setting values room store (opening words [] (first_view setting values room (ranges_named (terms.ranged setting) store values)))
 opens_so terms setting values store words room fits small is fact named =
     record {
       front = 0 ∷ 0 ∷ opening_words values;
       tail = length store;
       store = store ++ replicate (room - length store) 0;
-      ranges = ranges_named store values;
+      ranges = ranges_named (terms.ranged setting) store values;
       words_are = is;
       kept = kept_so terms setting values store room fits fact named;
-      shelf = shelf_so terms setting values store room fits small (ranges_named store values)
-          (named_stored store values (replicate (room - length store) 0)) values;
+      shelf = shelf_so terms setting values store room fits small (ranges_named (terms.ranged setting) store values)
+          (named_stored (terms.ranged setting) store values (replicate (room - length store) 0)) values;
     }
 
 -- ---- the passes of an opening

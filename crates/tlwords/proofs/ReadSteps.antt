@@ -224,7 +224,7 @@ module _ {S N : Type 0} (terms : Terms S N) (setting : S) (base : List ℕ) (roo
           named = λ z d other known a ranged.
               let b : (c ≡ d) × (word ≡ other) = looked_same c word d other (sym p ∙ a) in
               let e2 : z ≡ setting = (f.own.setting_is z known).0 in
-              let at_setting : terms.ranged setting c = subst (λ (k : S × ℕ). terms.ranged k.0 k.1) (λ j. (e2 j, sym b.0 j)) ranged in
+              let at_setting : terms.ranged setting c ≡ true = subst (λ (k : S × ℕ). terms.ranged k.0 k.1 ≡ true) (λ j. (e2 j, sym b.0 j)) ranged in
               subst (λ (k : ℕ). Names ranges k) (sym is) (r.named c x.0 x.1 at_setting);
           is = λ d other a.
               let b : (c ≡ d) × (word ≡ other) = looked_same c word d other (sym p ∙ a) in

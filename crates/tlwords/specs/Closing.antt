@@ -1,5 +1,5 @@
 -- What the words show at the end.
-use Rattle.std.specs.Prelude.{◌≡◌, ℕ, ◌+◌, ◌*◌, ◌/◌, ◌≤◌, Some, List, [], length, slice_get, vec_capacity}
+use Rattle.std.specs.Prelude.{◌≡◌, ℕ, ◌+◌, ◌*◌, ◌/◌, ◌≤◌, Some, List, [], length, slice_get, vec_capacity, true}
 use mathlib.Core.Option.{some}
 use lib.ListN.{get_elem?}
 use Rattle.tlcore.specs.History.{Entry, WasWritten, Will, version, value, deed}
@@ -49,7 +49,7 @@ pub record Closes {S N : Type 0} (terms : Terms S N) (setting : S) (base : List 
   -- each of 64 sessions was refused at most once by a step, which adds the room and one at most
   pub refused : words.tail ≤ length words.store.items + (length words.store.items + 1) * 64
   pub opened : Opened terms setting seen.ranges base
-  pub named : (c : ℕ) (x : ClosedCell) → slice_get words.cells.items c ≡ Some x → terms.ranged setting c → Names seen.ranges x.value
+  pub named : (c : ℕ) (x : ClosedCell) → slice_get words.cells.items c ≡ Some x → terms.ranged setting c ≡ true → Names seen.ranges x.value
 
 -- what the pass had seen grows into it, and its calls agree with it
 abbrev pub ClosesFor : {S N : Type 0} → Terms S N → View S N → ClosedWords → Type 0

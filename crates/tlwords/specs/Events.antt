@@ -24,11 +24,11 @@ use Rattle.tlwords.specs.Plays.{Mine, GivesBack, MayStore, Sampled, Looks, Loads
 abbrev pub clock_at : ℕ
 clock_at = 1
 
-module _ {S N : Type 0} (terms : Terms S N) (setting : S) (base : List ℕ) (room : ℕ) where
+module _ {S N : Type 0} (terms : Terms S N) (setting : S) (base : List ℕ) (room : ℕ) (opened : List ℕ) where
   -- a table that keeps the rule, by a world of the machine, and a seat with what it knows before a step and after it
   pub record Moment (m r : Mine S N) : Type 0 where
     pub state : State (Unit {0}) (View S N)
-    pub rule : Ruled terms setting base room state
+    pub rule : Ruled terms setting base room opened state
     pub seat : ℕ
     pub here : get_elem? state.views seat ≡ some m.0
 

@@ -90,7 +90,7 @@ module _ {S N : Type 0} (terms : Terms S N) where
   -- Load: in a range cell it finds 0 or a word that names a finished range
   pub record Loads (m : Mine S N) (n : ℕ) (r : Mine S N) : Type 0 where
     pub sees : Sees m.0 r.0
-    pub named : (x : S) (c word : ℕ) → m.0.setting ≡ Some x → m.0.seat.place ≡ Looked c word → terms.ranged x c → Names r.0.seen.ranges n
+    pub named : (x : S) (c word : ℕ) → m.0.setting ≡ Some x → m.0.seat.place ≡ Looked c word → terms.ranged x c ≡ true → Names r.0.seen.ranges n
     pub is : (c word : ℕ) → m.0.seat.place ≡ Looked c word
         → r.0 ≡ record m.0 { seen = r.0.seen; seat = placed m.0.seat (Loaded c word n) }
 

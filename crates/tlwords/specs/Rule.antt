@@ -3,7 +3,7 @@
 --
 -- Word 0 is spare: it is only loaded, for what is no step of the machine. Word 1 is the clock. Then each cell has its lock word and its
 -- value word side by side. Behind them come the tail of the store, which is the number of its words that are taken, and the store's words.
-use Rattle.std.specs.Prelude.{◌≡◌, ◌≢◌, ℕ, ◌+◌, ◌*◌, ◌^◌, ◌<◌, ◌≤◌, Some, List, [], ◌∷◌, ◌++◌, length, slice_get, map, min, None}
+use Rattle.std.specs.Prelude.{◌≡◌, ◌≢◌, ℕ, ◌+◌, ◌*◌, ◌^◌, ◌<◌, ◌≤◌, Some, List, [], ◌∷◌, ◌++◌, length, slice_get, map, min, None, true}
 use mathlib.Core.Option.{some}
 use lib.ListN.{get_elem?}
 use Rattle.atomic_table.specs.Table.{State}
@@ -121,7 +121,7 @@ module _ {S N : Type 0} where
     pub notes_are : length notes ≡ length world.history
     pub entries : EntriesAre terms setting (record { history = world.history; notes = notes; ranges = ranges })
     pub opening : Opened terms setting ranges base
-    pub named : (c : ℕ) (x : Cell) → slice_get world.cells c ≡ Some x → terms.ranged setting c → Names ranges x.value
+    pub named : (c : ℕ) (x : Cell) → slice_get world.cells c ≡ Some x → terms.ranged setting c ≡ true → Names ranges x.value
     pub lie : AreOfOneStore room ranges
     pub suits : (j : ℕ) (v : View S N) → get_elem? views j ≡ some v
         → Suits terms setting base room (record { history = world.history; notes = notes; ranges = ranges }) owner v

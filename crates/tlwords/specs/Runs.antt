@@ -126,7 +126,7 @@ module _ {S N : Type 0} (terms : Terms S N) where
   pub record ReadsCell (c word value : ℕ) (m r : Mine S N) : Type 0 where
     pub sees : Sees terms m.0 r.0
     pub free : word % 2 ≡ 0
-    pub named : (x : S) → m.0.setting ≡ Some x → terms.ranged x c → Names r.0.seen.ranges value
+    pub named : (x : S) → m.0.setting ≡ Some x → terms.ranged x c ≡ true → Names r.0.seen.ranges value
     pub is : r.0 ≡ record m.0 {
       seen = r.0.seen;
       seat = record m.0.seat { place = AtReading; reads = record { cell = c; word = word; value = value } ∷ m.0.seat.reads };

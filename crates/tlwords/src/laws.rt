@@ -14,15 +14,15 @@ use crate::law::Law;
 /// steps on the store's words.
 pub fn running_steps<L: Law>()
     // A run begins: a load of the clock.
-    ensures clock_load { (setting : L.Setting) (base : List ℕ) (room : ℕ) → ClockLoadIsEvent L.terms setting base room }
+    ensures clock_load { (setting : L.Setting) (base : List ℕ) (room : ℕ) (opened : List ℕ) → ClockLoadIsEvent L.terms setting base room opened }
     // A read: a look at the lock word, a load of the value word, and a second look.
-    ensures look { (setting : L.Setting) (base : List ℕ) (room : ℕ) → LookIsEvent L.terms setting base room }
-    ensures load { (setting : L.Setting) (base : List ℕ) (room : ℕ) → LoadIsEvent L.terms setting base room }
-    ensures second_look { (setting : L.Setting) (base : List ℕ) (room : ℕ) → RelookIsEvent L.terms setting base room }
+    ensures look { (setting : L.Setting) (base : List ℕ) (room : ℕ) (opened : List ℕ) → LookIsEvent L.terms setting base room opened }
+    ensures load { (setting : L.Setting) (base : List ℕ) (room : ℕ) (opened : List ℕ) → LoadIsEvent L.terms setting base room opened }
+    ensures second_look { (setting : L.Setting) (base : List ℕ) (room : ℕ) (opened : List ℕ) → RelookIsEvent L.terms setting base room opened }
     // A commit: the locks are taken, a number is drawn, the other reads are checked, the values are stored, and the locks are released.
-    ensures take { (setting : L.Setting) (base : List ℕ) (room : ℕ) → TakeIsEvent L.terms setting base room }
-    ensures draw { (setting : L.Setting) (base : List ℕ) (room : ℕ) → DrawIsEvent L.terms setting base room }
-    ensures check { (setting : L.Setting) (base : List ℕ) (room : ℕ) → CheckIsEvent L.terms setting base room }
-    ensures store { (setting : L.Setting) (base : List ℕ) (room : ℕ) → StoreIsEvent L.terms setting base room }
-    ensures release { (setting : L.Setting) (base : List ℕ) (room : ℕ) → ReleaseIsEvent L.terms setting base room }
+    ensures take { (setting : L.Setting) (base : List ℕ) (room : ℕ) (opened : List ℕ) → TakeIsEvent L.terms setting base room opened }
+    ensures draw { (setting : L.Setting) (base : List ℕ) (room : ℕ) (opened : List ℕ) → DrawIsEvent L.terms setting base room opened }
+    ensures check { (setting : L.Setting) (base : List ℕ) (room : ℕ) (opened : List ℕ) → CheckIsEvent L.terms setting base room opened }
+    ensures store { (setting : L.Setting) (base : List ℕ) (room : ℕ) (opened : List ℕ) → StoreIsEvent L.terms setting base room opened }
+    ensures release { (setting : L.Setting) (base : List ℕ) (room : ℕ) (opened : List ℕ) → ReleaseIsEvent L.terms setting base room opened }
 {}

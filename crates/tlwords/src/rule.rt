@@ -39,7 +39,7 @@ impl<L: Law> TableRule<(), View<L::Setting, L::Note>, Opening<L::Setting>> for R
 
     ghost holds = { λ key s. Ruled L.terms key.setting.value key.values.value.items key.room key.store.value.items s };
 
-    ghost first = { λ key. first_view key.setting.value key.values.value.items key.room (ranges_named key.store.value.items key.values.value.items) };
+    ghost first = { λ key. first_view key.setting.value key.values.value.items key.room (ranges_named (L.terms.ranged key.setting.value) key.store.value.items key.values.value.items) };
 }
 
 /// The words that all passes share.

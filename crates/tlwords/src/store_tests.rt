@@ -1,6 +1,6 @@
 //! The store, on one thread.
 
-ghost use Rattle.std.specs.Prelude.{◌≡◌, ◌≢◌, [], length, IfSome, IfOk};
+ghost use Rattle.std.specs.Prelude.{false, ◌≡◌, ◌≢◌, [], length, IfSome, IfOk};
 
 use crate::{Law, Mode, OpenFault, Pass, Range, StoreFull, Words, begin, close, open};
 use std::alloc::Global;
@@ -13,7 +13,7 @@ impl Law for Anything {
 
     type Note = u64;
 
-    ghost terms = { record { lawful = λ _ _ _ _ _. Unit {0}; opens = λ _ _ _. Unit {0}; ranged = λ _ _. ⊥ } };
+    ghost terms = { record { lawful = λ _ _ _ _ _. Unit {0}; opens = λ _ _ _. Unit {0}; ranged = λ _ _. false } };
 }
 
 // One cell, a store of four words, and two passes.

@@ -1,6 +1,6 @@
 //! Runs that meet, on one thread.
 
-ghost use Rattle.std.specs.Prelude.{◌≡◌, ◌<◌, ◌⊎◌, length, IfSome};
+ghost use Rattle.std.specs.Prelude.{false, ◌≡◌, ◌<◌, ◌⊎◌, length, IfSome};
 
 use crate::{ClosedWords, Conflict, Law, Mode, Outcome, Pass, Words, begin, close, learn, open};
 use std::alloc::Global;
@@ -15,7 +15,7 @@ impl Law for Anything {
 
     type Note = u64;
 
-    ghost terms = { record { lawful = λ _ _ _ _ _. Unit {0}; opens = λ _ _ _. Unit {0}; ranged = λ _ _. ⊥ } };
+    ghost terms = { record { lawful = λ _ _ _ _ _. Unit {0}; opens = λ _ _ _. Unit {0}; ranged = λ _ _. false } };
 }
 
 // How often a thread tries before it gives up.

@@ -13,7 +13,7 @@ split_seat-requires g c =
 pub loop-preserved : goal.loop-preserved
 loop-preserved g c =
     let i = c.loop.invariant in let e = c.split_seat.ensures in
-    let setting = c.args.setting.now in let base = c.args.values.now in let room = c.args.words.now.room in let ranges = ranges_named c.args.store.now c.args.values.now in
+    let setting = c.args.setting.now in let base = c.args.values.now in let room = c.args.words.now.room in let ranges = ranges_named (g.L.Law.terms.ranged setting) c.args.store.now c.args.values.now in
     let new = new_of setting base room ranges c.loop.seat.me c.split_seat.result.me c.loop.counter i.1 e.4 in
     let m = dealt_all (λ p. IsDealt setting base room ranges c.args.words.now.table.shared.table_id p.seat) (λ p. p.seat.me.0.name)
     c.loop.passes.items c.reserve.new.self.items c.push_reserved.new.self.items _ c.loop.counter c.in_ok-reserve.ensures.items c.push_reserved.ensures.items i.2 i.3 i.4
@@ -23,5 +23,5 @@ loop-preserved g c =
 pub invariant_of-pass-clause-knows : goal.invariant_of-pass-clause-knows
 invariant_of-pass-clause-knows g c =
     let i = c.loop.invariant in
-    let setting = c.args.setting.now in let base = c.args.values.now in let room = c.args.words.now.room in let ranges = ranges_named c.args.store.now c.args.values.now in
+    let setting = c.args.setting.now in let base = c.args.values.now in let room = c.args.words.now.room in let ranges = ranges_named (g.L.Law.terms.ranged setting) c.args.store.now c.args.values.now in
     new_knows setting base room ranges c.split_seat.result.me (new_of setting base room ranges c.loop.seat.me c.split_seat.result.me c.loop.counter i.1 c.split_seat.ensures.4).0 c.requires.store

@@ -26,11 +26,11 @@ invariant_of-words g c =
     }
 
 pub deal_all-requires-clause-store : goal.deal_all-requires-clause-store
-deal_all-requires-clause-store g c = let l = c.if-store-room.false in named_of_one c.args.store.now c.args.values.now c.args.room (omega arith)
+deal_all-requires-clause-store g c = let l = c.if-store-room.false in named_of_one (g.L.Law.terms.ranged c.args.setting.now) c.args.store.now c.args.values.now c.args.room (omega arith)
 
 pub returns-clause-sound : goal.returns-clause-sound
 returns-clause-sound g c = λ k d l.
     let small = c.if-store-room.false in
     let p = c.in_ok-passes.ensures.passes k d l in
-    new_sound c.args.setting.now c.args.values.now c.args.room (ranges_named c.args.store.now c.args.values.now) g.L.Law.terms _ p.new c.requires.opens
-    (named_of_one c.args.store.now c.args.values.now c.args.room (omega arith))
+    new_sound c.args.setting.now c.args.values.now c.args.room (ranges_named (g.L.Law.terms.ranged c.args.setting.now) c.args.store.now c.args.values.now) g.L.Law.terms _ p.new c.requires.opens
+    (named_of_one (g.L.Law.terms.ranged c.args.setting.now) c.args.store.now c.args.values.now c.args.room (omega arith))
