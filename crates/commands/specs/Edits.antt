@@ -13,7 +13,7 @@ use Rattle.mmsyntax.specs.Assertions.{is_lawful_label}
 use Rattle.proofcheck.specs.declared.fault.ProofFault.{ProofFault}
 use Rattle.proofcheck.specs.Derivation.{Tree}
 use Rattle.proofcheck.specs.Laws.{renamed}
-use Rattle.proofcheck.proofs.Outcome.{outcome}
+use Rattle.proofcheck.specs.Outcomes.{outcome}
 use Rattle.commands.specs.declared.library.Ranked.{Ranked}
 use Rattle.commands.specs.declared.command.Command.{Command}
 use Rattle.commands.specs.declared.command.Command.TheVariants as command
