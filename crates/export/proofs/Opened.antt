@@ -4,9 +4,9 @@ use Rattle.mmsyntax.specs.declared.statement.Assertion.{Assertion}
 use Rattle.mmsyntax.specs.Tables.{Tables}
 use Rattle.mmsyntax.specs.Layout.{HasSpelling}
 use Rattle.proofcheck.specs.Databases.{AllCheck}
-use Rattle.commands.specs.declared.library.Ranked.{Ranked}
-use Rattle.commands.specs.Library.{Verifies}
-use Rattle.commands.proofs.Opening.{opening_verifies}
+use Rattle.library.specs.declared.library.Ranked.{Ranked}
+use Rattle.library.specs.Library.{Verifies}
+use Rattle.library.proofs.Opening.{opening_verifies}
 
 only_item : (xs : List Assertion) (d : Assertion) → length xs ≡ 1 → xs ≡ get_or xs 0 d ∷ []
 only_item [] d one = absurd (omega arith)

@@ -1,7 +1,7 @@
 //! Exports to writers that take few bytes at a call, fail, or take none.
 
 use crate::{ExportError, export};
-use commands::{PlainLibrary, Ranked};
+use library::{PlainLibrary, Ranked};
 use mmstatement::read_database;
 use proofcheck::check_all;
 use std::alloc::{AllocGlobal, Global};

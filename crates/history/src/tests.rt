@@ -3,7 +3,7 @@
 ghost use Rattle.std.specs.Prelude.{◌≤◌};
 
 use crate::{ApplyError, Editor, OpenError};
-use commands::{Command, PlainLibrary, Reason, Refused, Reply};
+use library::{Command, PlainLibrary, Reason, Refused, Reply};
 use mmstatement::{Assertion, Label, Sequence, Step, read_database};
 use proofcheck::check_all;
 use std::alloc::{AllocError, AllocGlobal, Global};

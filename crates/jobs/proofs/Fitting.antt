@@ -5,17 +5,17 @@ use Rattle.std.specs.List.{find, AllByRecursion}
 use Rattle.std.proofs.lemmas.List.Elements.{All-cons, All-nil, All-head, All-tail, recursion_from_All}
 use Rattle.std.proofs.lemmas.Bool.{cases_Bool, cond-true, cond-false}
 use Rattle.mmsyntax.specs.Assertions.{Fits}
-use Rattle.commands.specs.declared.library.Ranked.{Ranked}
-use Rattle.commands.specs.declared.command.Command.{Command}
-use Rattle.commands.specs.declared.command.Command.TheVariants as command
-use Rattle.commands.specs.declared.command.Reply.{Reply}
-use Rattle.commands.specs.declared.reason.Reason.{Reason}
-use Rattle.commands.specs.declared.reason.Refused.{Refused as Refusal}
-use Rattle.commands.specs.Library.{Setting, Verifies}
-use Rattle.commands.specs.Edits.{Edited, Tests, tested, of_found, found, add_tests, reprove_tests, rename_tests, move_tests, cited, is_labelled, edit}
-use Rattle.commands.specs.Fitting.{CommandFits, ReplyFits}
-use Rattle.commands.specs.Transactions.{Applied, with_reply, then_apply, apply_from, apply}
-use Rattle.commands.proofs.Editing.{edit_verifies}
+use Rattle.library.specs.declared.library.Ranked.{Ranked}
+use Rattle.library.specs.declared.command.Command.{Command}
+use Rattle.library.specs.declared.command.Command.TheVariants as command
+use Rattle.library.specs.declared.command.Reply.{Reply}
+use Rattle.library.specs.declared.reason.Reason.{Reason}
+use Rattle.library.specs.declared.reason.Refused.{Refused as Refusal}
+use Rattle.library.specs.Library.{Setting, Verifies}
+use Rattle.library.specs.Edits.{Edited, Tests, tested, of_found, found, add_tests, reprove_tests, rename_tests, move_tests, cited, is_labelled, edit}
+use Rattle.library.specs.Fitting.{CommandFits, ReplyFits}
+use Rattle.library.specs.Transactions.{Applied, with_reply, then_apply, apply_from, apply}
+use Rattle.library.proofs.Editing.{edit_verifies}
 
 -- what is found in a list is one of its items
 found_holds : {A : Type 0} (P : A → Type 0) (p : A → Bool) (xs : List A) (x : A) → AllByRecursion P xs → find p xs ≡ Some x → P x

@@ -11,16 +11,16 @@ use Rattle.mmsyntax.specs.Faults.{FaultyDatabase}
 use Rattle.proofcheck.specs.declared.fault.ProofFault.{ProofFault}
 use Rattle.proofcheck.specs.declared.fault.ProofFaultKind.TheVariants.{NoMemory as NoMemoryOfProof}
 use Rattle.proofcheck.specs.Databases.{AllCheck, IsFirstFault as IsFirstFaultOfProofs}
-use Rattle.commands.specs.declared.command.Command.{Command}
-use Rattle.commands.specs.Library.{Listed, ShowsInOrder, opening}
+use Rattle.library.specs.declared.command.Command.{Command}
+use Rattle.library.specs.Library.{Listed, ShowsInOrder, opening}
 use Rattle.commands.specs.Scripts.{SpellsScript}
 use Rattle.commands.specs.ScriptFaults.{FaultyScript}
-use Rattle.history.specs.declared.history.Entry.{Entry}
-use Rattle.history.specs.Histories.{told, after_all, IsLegal}
+use Rattle.library.specs.declared.history.Entry.{Entry}
+use Rattle.library.specs.Histories.{told, after_all, IsLegal}
 use Rattle.history.specs.Replays.{IsFirstDiffering}
-use Rattle.histories.specs.Grammar.{SpellsHistory}
-use Rattle.histories.specs.Places.{FaultyHistory}
-use Rattle.histories.specs.Layout.{history_text}
+use Rattle.historytext.specs.Grammar.{SpellsHistory}
+use Rattle.historytext.specs.Places.{FaultyHistory}
+use Rattle.historytext.specs.Layout.{history_text}
 use Rattle.export.specs.Exported.{Accepts, exported_text}
 use Rattle.jobs.specs.declared.job.Job.{Job}
 use Rattle.jobs.specs.declared.job.Job.TheVariants.{Check, Run, Replay}

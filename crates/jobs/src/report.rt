@@ -1,11 +1,11 @@
 //! The report of a run: a line for each transaction, then its replies.
 
 ghost use Rattle.std.specs.Prelude.{All};
-ghost use Rattle.commands.specs.Fitting.{ReplyFits};
+ghost use Rattle.library.specs.Fitting.{ReplyFits};
 ghost use Rattle.jobs.specs.Outcomes.{OutcomeFits, OutcomesFit};
 
 use crate::outcome::Outcome;
-use commands::{Line, Ranked, Reason, Reply};
+use library::{Line, Ranked, Reason, Reply};
 use mmstatement::{Kind, Label, Prelude, Sequence, put_assertion};
 use std::alloc::{AllocError, Global};
 use std::io;

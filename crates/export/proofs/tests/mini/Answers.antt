@@ -1,7 +1,7 @@
 use Rattle.std.proofs.Common.{◌≡◌, List, [], ◌∷◌, length, get_or, subst, sym, ap, ◌∙◌, arith, rules}
 use Rattle.mmsyntax.specs.declared.statement.Assertion.{Assertion}
 use Rattle.mmsyntax.specs.Tables.{Tables}
-use Rattle.commands.specs.declared.library.Ranked.{Ranked}
+use Rattle.library.specs.declared.library.Ranked.{Ranked}
 use Rattle.export.proofs.Opened.{IsOpened, one_opened}
 use Rattle.export.proofs.tests.mini.Goals as goal
 

@@ -1,9 +1,9 @@
 use Rattle.std.proofs.Common.{◌∙◌, map, sym, ap, subst}
 use Rattle.std.specs.Prelude.{All}
-use Rattle.commands.specs.Library.{opening, ShowsInOrder}
+use Rattle.library.specs.Library.{opening, ShowsInOrder}
 use Rattle.export.proofs.Accepted.{exported_accepted}
-use Rattle.history.specs.Histories.{told, after_all, IsLegal}
-use Rattle.histories.specs.Layout.{EntryFits}
+use Rattle.library.specs.Histories.{told, after_all, IsLegal}
+use Rattle.historytext.specs.Layout.{EntryFits}
 use Rattle.jobs.specs.Outcomes.{setting_of, standing}
 use Rattle.jobs.proofs.Kept.{edited_kept}
 use Rattle.jobs.proofs.edits.edit_all.Goals as goal

@@ -1,7 +1,7 @@
 use Rattle.std.proofs.Common.{◌∙◌, map, ap, subst}
-use Rattle.commands.specs.Library.{opening, ShowsInOrder}
-use Rattle.history.specs.Histories.{told, after_all, IsLegal}
-use Rattle.histories.specs.Layout.{history_text}
+use Rattle.library.specs.Library.{opening, ShowsInOrder}
+use Rattle.library.specs.Histories.{told, after_all, IsLegal}
+use Rattle.historytext.specs.Layout.{history_text}
 use Rattle.jobs.specs.Outcomes.{setting_of}
 use Rattle.jobs.proofs.performing.print_run.Goals as goal
 
