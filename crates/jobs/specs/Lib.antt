@@ -1,2 +1,4 @@
 pub mod Outcomes
+pub mod Reports
+pub mod FaultLines
 pub mod Jobs

@@ -8,6 +8,7 @@ mod outcome;
 mod performing;
 mod replaying;
 mod report;
+mod telling;
 #[cfg(test)]
 mod tests;
 
