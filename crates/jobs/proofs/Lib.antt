@@ -6,3 +6,4 @@ pub mod Kept
 pub mod ReplayFaults
 pub mod Shown
 pub mod ReportLines
+pub mod Fronts

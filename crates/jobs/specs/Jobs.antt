@@ -12,11 +12,11 @@ use Rattle.proofcheck.specs.declared.fault.ProofFault.{ProofFault}
 use Rattle.proofcheck.specs.declared.fault.ProofFaultKind.TheVariants.{NoMemory as NoMemoryOfProof}
 use Rattle.proofcheck.specs.Databases.{AllCheck, IsFirstFault as IsFirstFaultOfProofs}
 use Rattle.commands.specs.declared.command.Command.{Command}
-use Rattle.commands.specs.Library.{Listed, ShowsInOrder, opening}
+use Rattle.commands.specs.Library.{Listed, ShowsInOrder, Verifies, opening}
 use Rattle.commands.specs.Scripts.{SpellsScript}
 use Rattle.commands.specs.ScriptFaults.{FaultyScript}
 use Rattle.history.specs.declared.history.Entry.{Entry}
-use Rattle.history.specs.Histories.{told, after_all, IsLegal}
+use Rattle.history.specs.Histories.{told, after, after_all, IsLegal}
 use Rattle.history.specs.Replays.{IsFirstDiffering}
 use Rattle.histories.specs.Grammar.{SpellsHistory}
 use Rattle.histories.specs.Places.{FaultyHistory}
@@ -52,8 +52,9 @@ outcomes_of contents scripts = all_outcomes (setting_of contents) (at_opening co
 abbrev pub left_by : Contents → List Orders → Standing
 left_by contents scripts = after_scripts (setting_of contents) (at_opening contents) scripts
 
--- the report of what becomes of all transactions, and the library after them, whose text is accepted; and the text of the history, which is of exactly those that
--- were committed. Its replies are the editor's, and the library is the one after it
+-- the report of what becomes of all transactions, and the library after them, whose text is accepted; and the text of the history, which
+-- is of exactly those that were committed. Its replies are the editor's, and the library is the one after it; after each front of it, too,
+-- the library verifies
 pub record PrintsRun (contents : Contents) (scripts : List Orders) (out history : Bytes) : Type 0 where
   pub library : Listed
   pub setting : library.setting ≡ setting_of contents
@@ -63,6 +64,7 @@ pub record PrintsRun (contents : Contents) (scripts : List Orders) (out history 
   pub kept : history ≡ history_text contents.prelude (left_by contents scripts).entries
   pub legal : IsLegal (setting_of contents) (opening contents) (map told (left_by contents scripts).entries)
   pub follows : ShowsInOrder (after_all (setting_of contents) (opening contents) (map told (left_by contents scripts).entries)) library.entries
+  pub fronts : (k : ℕ) → Verifies (setting_of contents) (after (setting_of contents) (opening contents) (map told (left_by contents scripts).entries) k)
 
 -- `replayed`, the number of entries, and the library after them, whose text is accepted: the history is legal
 pub record PrintsReplay (contents : Contents) (history : List Entry) (out : Bytes) : Type 0 where

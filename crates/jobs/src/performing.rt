@@ -123,6 +123,8 @@ fn print_run(
     requires fit { All (All (All (CommandFits db.now.prelude))) scripts.now }
     ensures { IfOk result (λ p. PrintsRun db.now scripts.now p.out.items p.history.items) }
 {
+    // Some text declares a database: its assertions say so.
+    let _assertions = db.assertions();
     let edited = edit_all(alloc, keys, db, scripts)?;
     Ok(Printed {
         out: report_run(alloc, db.prelude(), &edited)?,

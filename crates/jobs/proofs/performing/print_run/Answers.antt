@@ -1,10 +1,12 @@
 use Rattle.std.proofs.Common.{◌∙◌, ◌++◌, map, ap, subst}
+use Rattle.std.specs.Prelude.{All}
 use Rattle.commands.specs.Library.{opening, ShowsInOrder}
 use Rattle.history.specs.Histories.{told, after_all, IsLegal}
-use Rattle.histories.specs.Layout.{history_text}
+use Rattle.histories.specs.Layout.{history_text, EntryFits}
 use Rattle.jobs.specs.Outcomes.{setting_of}
 use Rattle.jobs.specs.Reports.{report_text}
-use Rattle.jobs.specs.Jobs.{library_lines}
+use Rattle.jobs.specs.Jobs.{left_by, library_lines}
+use Rattle.jobs.proofs.Fronts.{fronts_of}
 use Rattle.jobs.proofs.performing.print_run.Goals as goal
 
 pub returns : goal.returns
@@ -28,4 +30,7 @@ returns c =
       follows =
           subst (λ es. ShowsInOrder (after_all (setting_of db) (opening db) (map told es)) edited.library.entries) left.history
           left.follows;
+      fronts =
+          fronts_of db (left_by db c.args.scripts.now).entries c.assertions-assertions.ensures.sound c.requires.checks
+          (subst (All (EntryFits db.prelude)) left.history left.written);
     }
