@@ -4,3 +4,6 @@ pub mod JobFaults
 pub mod Turns
 pub mod Kept
 pub mod ReplayFaults
+pub mod Shown
+pub mod ReportLines
+pub mod Fronts
