@@ -18,6 +18,3 @@ pub use script::{
     CommandPlace, Led, count, is_numeral, number, read_command_word, read_in_command, read_label,
     read_rank, read_script,
 };
-
-#[cfg(test)]
-mod tests;

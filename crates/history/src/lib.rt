@@ -13,8 +13,6 @@ mod places;
 mod replaying;
 mod same;
 mod testing;
-#[cfg(test)]
-mod tests;
 
 pub use editor::{ApplyError, Editor, OpenError};
 pub use history::{Entry, History};

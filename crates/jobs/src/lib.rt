@@ -8,8 +8,6 @@ mod outcome;
 mod performing;
 mod replaying;
 mod report;
-#[cfg(test)]
-mod tests;
 
 pub use job::{Fault, Job, Printed};
 pub use performing::perform;

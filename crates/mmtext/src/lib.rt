@@ -4,8 +4,6 @@
 mod comments;
 mod fault;
 mod mark;
-#[cfg(test)]
-mod tests;
 mod texts;
 mod token;
 

@@ -24,6 +24,3 @@ pub use crate::actions::Action;
 pub use crate::machine::{World, step};
 pub use crate::schedules::{Ran, run_schedule};
 pub use crate::theorem::{every_event, every_schedule};
-
-#[cfg(test)]
-mod tests;
