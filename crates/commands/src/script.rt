@@ -208,6 +208,3 @@ pub fn read_script(alloc: Global, prelude: &Prelude, text: &[u8]) -> Result<Scri
         Err(Stop::Memory) => Err(no_memory()),
     }
 }
-
-#[cfg(test)]
-mod tests;

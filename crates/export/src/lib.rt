@@ -5,8 +5,6 @@
 #![tactic(auto)]
 
 mod error;
-#[cfg(test)]
-mod tests;
 mod text;
 mod writing;
 

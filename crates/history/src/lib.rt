@@ -11,8 +11,6 @@ mod places;
 mod replaying;
 mod same;
 mod testing;
-#[cfg(test)]
-mod tests;
 
 pub use editor::{ApplyError, Editor, OpenError};
 pub use library::{Entry, History};

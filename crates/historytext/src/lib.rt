@@ -16,6 +16,3 @@ pub use reading::read_history;
 pub use replies::put_reply;
 pub use transactions::put_transaction;
 pub use writing::write_history;
-
-#[cfg(test)]
-mod tests;

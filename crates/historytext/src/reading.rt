@@ -191,6 +191,3 @@ pub fn read_history(alloc: Global, prelude: &Prelude, text: &[u8]) -> Result<His
         Err(Stop::Memory) => Err(no_memory()),
     }
 }
-
-#[cfg(test)]
-mod tests;

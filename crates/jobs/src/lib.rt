@@ -11,8 +11,6 @@ mod replaying;
 mod report;
 mod task;
 mod telling;
-#[cfg(test)]
-mod tests;
 
 pub use answering::{Answered, answer};
 pub use job::{Fault, Job, Printed};

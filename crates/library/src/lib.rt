@@ -6,8 +6,6 @@ mod history;
 mod laws;
 mod library;
 mod reason;
-#[cfg(test)]
-mod tests;
 
 pub use command::{
     Command, Line, MOST_COMMANDS, Reply, Script, Transaction, copy_commands, copy_replies,

@@ -8,9 +8,6 @@ ghost use Rattle.mmstatement.specs.Frames.{frame, is_mandatory, is_variable, occ
 use mmsyntax::{Assertion, Expr, Frame, Prelude, Sequence, Symbol};
 use std::alloc::{AllocError, Global};
 
-#[cfg(test)]
-mod tests;
-
 /// Marks a symbol's place, if it is a variable.
 fn mark_symbol(marks: &mut [bool], symbol: Symbol)
     ensures { (j : ℕ) → j < length marks.old

@@ -3,8 +3,6 @@
 
 mod frames;
 mod substitution;
-#[cfg(test)]
-mod tests;
 
 pub use frames::frame_of;
 pub use mmreader::{read_assertion, read_database};

@@ -7,9 +7,6 @@ use mmsyntax::{Expr, Sequence, Symbol};
 use std::alloc::{AllocError, Global};
 use std::{fmt, slice};
 
-#[cfg(test)]
-mod tests;
-
 const MOST_SYMBOLS: usize = 65535;
 
 /// Why an expression isn't made, in the order of their numbers from 1.

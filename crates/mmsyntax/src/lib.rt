@@ -9,8 +9,6 @@ mod prelude;
 mod sequence;
 mod statement;
 mod symbols;
-#[cfg(test)]
-mod tests;
 
 pub use database::Database;
 pub use fitting::{fits, is_lawful_label};

@@ -5,8 +5,6 @@ mod comments;
 mod fault;
 pub mod laws;
 mod mark;
-#[cfg(test)]
-mod tests;
 mod texts;
 mod token;
 

@@ -15,8 +15,6 @@ pub mod laws;
 mod node;
 mod pairs;
 mod substitutes;
-#[cfg(test)]
-mod tests;
 
 pub use checking::check;
 pub use databases::check_all;

@@ -27,6 +27,3 @@ pub use crate::machine::{World, step};
 pub use crate::schedules::{Ran, run_schedule};
 pub use crate::seats::{Held, Place, Read};
 pub use crate::theorem::{every_event, every_schedule};
-
-#[cfg(test)]
-mod tests;

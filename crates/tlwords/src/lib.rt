@@ -20,10 +20,6 @@ mod runs;
 mod steps;
 mod store;
 mod store_steps;
-#[cfg(test)]
-mod store_tests;
-#[cfg(test)]
-mod tests;
 mod view;
 mod words;
 

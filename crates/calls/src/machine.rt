@@ -1,10 +1,10 @@
-//! Schedules whose ends are known, and all interleavings of two short transactions.
+//! The machine: schedules whose ends are known, and all interleavings of two short transactions.
 
 ghost use Rattle.std.specs.Prelude.{◌<◌};
 
-use crate::{Action, Ran, World, run_schedule, step};
 use std::alloc::{AllocError, Global};
 use std::test::Fail;
+use tlcore::{Action, Ran, World, run_schedule, step};
 
 /// A seat and its action.
 type Event = (usize, Action);

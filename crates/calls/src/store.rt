@@ -2,23 +2,16 @@
 
 ghost use Rattle.std.specs.Prelude.{false, ◌≡◌, ◌≢◌, [], length, IfSome, IfOk};
 
-use crate::{Law, Mode, OpenFault, Pass, Range, StoreFull, Words, begin, close, open};
+use crate::shared::Anything;
 use std::alloc::Global;
 use std::test::Fail;
-
-struct Anything;
-
-impl Law for Anything {
-    type Setting = ();
-
-    type Note = u64;
-
-    ghost terms = { record { lawful = λ _ _ _ _ _. Unit {0}; opens = λ _ _ _. Unit {0}; ranged = λ _ _. false } };
-}
+use tlwords::{Mode, OpenFault, Pass, Range, StoreFull, Words, begin, close, open};
 
 // One cell, a store of four words, and two passes.
 fn opened(alloc: Global) -> Option<(Words<Anything>, Pass<Anything>, Pass<Anything>)>
-    ensures { IfSome result (λ r. (r.1.seat.table_id ≡ r.0.table.shared.table_id) × (r.0.cells ≡ length r.1.seat.me.0.base) × (r.0.room ≡ r.1.seat.me.0.room) × (r.2.seat.table_id ≡ r.0.table.shared.table_id) × (r.0.cells ≡ length r.2.seat.me.0.base) × (r.0.room ≡ r.2.seat.me.0.room)) }
+    ensures { IfSome result (λ r. (r.1.seat.table_id ≡ r.0.table.shared.table_id) × (r.0.cells ≡ length r.1.seat.me.0.base)
+        × (r.0.room ≡ r.1.seat.me.0.room) × (r.2.seat.table_id ≡ r.0.table.shared.table_id) × (r.0.cells ≡ length r.2.seat.me.0.base)
+        × (r.0.room ≡ r.2.seat.me.0.room)) }
 {
     let Ok((words, mut passes)) = open::<Anything>(alloc, &(), &[0], &[], 4, 2) else {
         return None;
@@ -30,8 +23,10 @@ fn opened(alloc: Global) -> Option<(Words<Anything>, Pass<Anything>, Pass<Anythi
 
 // Stages three words, and reads each of them back.
 fn stage_three(words: &Words<Anything>, pass: Pass<Anything>) -> (Pass<Anything>, Option<[u64; 3]>)
-    requires fits { (pass.seat.table_id ≡ words.now.table.shared.table_id) × (words.now.cells ≡ length pass.seat.me.0.base) × (words.now.room ≡ pass.seat.me.0.room) }
-    ensures { (result.0.seat.table_id ≡ words.now.table.shared.table_id) × (words.now.cells ≡ length result.0.seat.me.0.base) × (words.now.room ≡ result.0.seat.me.0.room) }
+    requires fits { (pass.seat.table_id ≡ words.now.table.shared.table_id) × (words.now.cells ≡ length pass.seat.me.0.base)
+        × (words.now.room ≡ pass.seat.me.0.room) }
+    ensures { (result.0.seat.table_id ≡ words.now.table.shared.table_id) × (words.now.cells ≡ length result.0.seat.me.0.base)
+        × (words.now.room ≡ result.0.seat.me.0.room) }
 {
     let mut run = begin(words, pass, Mode::Reading);
     match run.stage(&[7, 8, 9]) {
@@ -47,9 +42,11 @@ fn stage_three(words: &Words<Anything>, pass: Pass<Anything>) -> (Pass<Anything>
 
 // Whether the store has no room for these words.
 fn refuses(words: &Words<Anything>, pass: Pass<Anything>, staged: &[u64]) -> (Pass<Anything>, bool)
-    requires fits { (pass.seat.table_id ≡ words.now.table.shared.table_id) × (words.now.cells ≡ length pass.seat.me.0.base) × (words.now.room ≡ pass.seat.me.0.room) }
+    requires fits { (pass.seat.table_id ≡ words.now.table.shared.table_id) × (words.now.cells ≡ length pass.seat.me.0.base)
+        × (words.now.room ≡ pass.seat.me.0.room) }
     requires some_words { staged.now ≢ [] }
-    ensures { (result.0.seat.table_id ≡ words.now.table.shared.table_id) × (words.now.cells ≡ length result.0.seat.me.0.base) × (words.now.room ≡ result.0.seat.me.0.room) }
+    ensures { (result.0.seat.table_id ≡ words.now.table.shared.table_id) × (words.now.cells ≡ length result.0.seat.me.0.base)
+        × (words.now.room ≡ result.0.seat.me.0.room) }
 {
     let mut run = begin(words, pass, Mode::Reading);
     let refused = matches!(run.stage(staged), Err(StoreFull));

@@ -1,5 +1,5 @@
 use Rattle.std.proofs.Common.{◌≡◌, sym, arith}
-use Rattle.tlwords.proofs.store_tests.stage_three.Goals as goal
+use Rattle.calls.proofs.store.stage_three.Goals as goal
 
 pub load-first-requires : goal.load-first-requires
 load-first-requires c =

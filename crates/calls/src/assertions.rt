@@ -1,13 +1,9 @@
-//! Data made by hand: copies, and the order of labels.
+//! Assertions made by hand: copies, the order of labels, and what fits a prelude.
 
-use crate::sequence::Sequence;
-use crate::statement::{Assertion, Expr, Frame, Kind, Label, Step, Symbol};
+use crate::shared::{database, pair, sequence};
+use mmstatement::{Assertion, Expr, Frame, Kind, Label, Sequence, Step, Symbol, fits};
 use std::alloc::{AllocError, Global};
 use std::test::Fail;
-
-fn sequence<T: Copy>(alloc: Global, items: &[T]) -> Result<Sequence<T>, AllocError> {
-    Ok(Sequence::from_vec(Vec::from_slice(alloc, items)?))
-}
 
 fn expression(alloc: Global) -> Result<Expr, AllocError> {
     sequence(alloc, &[Symbol::Const(1), Symbol::Var(0), Symbol::Var(1)])
@@ -28,7 +24,7 @@ fn steps(alloc: Global) -> Result<Sequence<Step>, AllocError> {
     Ok(Sequence::from_vec(steps))
 }
 
-/// A theorem over `PAIR` with everything in it, whose pairs are as given.
+/// A theorem with everything in it, whose pairs are as given.
 fn theorem(alloc: Global, pairs: &[(u32, u32)]) -> Result<Assertion, AllocError> {
     Ok(Assertion {
         label: sequence(alloc, b"th".as_slice())?,
@@ -41,7 +37,7 @@ fn theorem(alloc: Global, pairs: &[(u32, u32)]) -> Result<Assertion, AllocError>
 }
 
 #[test]
-fn copies_an_assertion(rt: HostRuntime) -> Result<(), Fail> {
+fn a_copied_assertion_is_equal(rt: HostRuntime) -> Result<(), Fail> {
     let alloc = rt.alloc();
     let made = theorem(alloc, &[(0, 1)])?;
     let copy = made.copy(alloc)?;
@@ -53,7 +49,7 @@ fn copies_an_assertion(rt: HostRuntime) -> Result<(), Fail> {
 }
 
 #[test]
-fn copies_a_frame(rt: HostRuntime) -> Result<(), Fail> {
+fn a_copied_frame_is_equal(rt: HostRuntime) -> Result<(), Fail> {
     let alloc = rt.alloc();
     let frame = Frame {
         floats: sequence(alloc, &[0, 1])?,
@@ -69,24 +65,36 @@ fn copies_a_frame(rt: HostRuntime) -> Result<(), Fail> {
     Ok(())
 }
 
+/// Whether two labels are equal, and whether the first is less.
+fn compared(alloc: Global, left: &[u8], right: &[u8]) -> Result<(bool, bool), AllocError> {
+    let one: Label = sequence(alloc, left)?;
+    let other: Label = sequence(alloc, right)?;
+    Ok((one == other, one < other))
+}
+
 #[test]
-fn orders_labels(rt: HostRuntime) -> Result<(), Fail> {
+fn labels_have_the_order_of_bytes(rt: HostRuntime) -> Result<(), Fail> {
     let alloc = rt.alloc();
-    let rows: [(&[u8], &[u8], bool, bool); 4] = [
-        (b"a", b"a", true, false),
-        (b"a", b"ab", false, true),
-        (b"b", b"ab", false, false),
-        (b"A", b"a", false, true),
-    ];
-    for (left, right, equal, less) in rows {
-        let one: Label = sequence(alloc, left)?;
-        let other: Label = sequence(alloc, right)?;
-        assert_eq!(rt;
-            (one == other, one < other),
-            (equal, less),
-            "{left:?} and {right:?}"
-        );
-    }
-    assert_eq!(rt; expression(alloc)?.copy(alloc)?.into_vec().len(), 3);
+    assert_eq!(rt; compared(alloc, b"a", b"a")?, (true, false));
+    assert_eq!(rt; compared(alloc, b"a", b"ab")?, (false, true));
+    assert_eq!(rt; compared(alloc, b"b", b"ab")?, (false, false));
+    assert_eq!(rt; compared(alloc, b"A", b"a")?, (false, true));
+    Ok(())
+}
+
+/// Whether the theorem with these pairs fits the prelude of two `$f`.
+fn pairs_fit(rt: &HostRuntime, pairs: &[(u32, u32)]) -> Result<bool, Fail> {
+    let db = database(rt, pair())?;
+    let made = theorem(rt.alloc(), pairs)?;
+    Ok(fits(db.prelude(), &made))
+}
+
+#[test]
+fn pairs_fit_in_order(rt: HostRuntime) -> Result<(), Fail> {
+    assert!(rt; pairs_fit(&rt, &[])?);
+    assert!(rt; pairs_fit(&rt, &[(0, 1)])?);
+    assert!(rt; !pairs_fit(&rt, &[(1, 0)])?);
+    assert!(rt; !pairs_fit(&rt, &[(0, 1), (0, 1)])?);
+    assert!(rt; !pairs_fit(&rt, &[(0, 2)])?);
     Ok(())
 }

@@ -2,30 +2,23 @@
 
 ghost use Rattle.std.specs.Prelude.{false, ◌≡◌, ◌<◌, ◌⊎◌, length, IfSome};
 
-use crate::{ClosedWords, Conflict, Law, Mode, Outcome, Pass, Words, begin, close, learn, open};
+use crate::shared::Anything;
 use std::alloc::Global;
 use std::test::Fail;
 use std::thread;
 use std::thread::{Threads, join};
-
-struct Anything;
-
-impl Law for Anything {
-    type Setting = ();
-
-    type Note = u64;
-
-    ghost terms = { record { lawful = λ _ _ _ _ _. Unit {0}; opens = λ _ _ _. Unit {0}; ranged = λ _ _. false } };
-}
+use tlwords::{ClosedWords, Mode, Outcome, Pass, Words, begin, close, learn, open};
 
 // How often a thread tries before it gives up.
 const MOST_TRIES: u64 = 100_000_000;
 
 // Reads a cell and writes one more.
 fn add_one(words: &Words<Anything>, pass: Pass<Anything>, cell: usize) -> (Pass<Anything>, Outcome)
-    requires fits { (pass.seat.table_id ≡ words.now.table.shared.table_id) × (words.now.cells ≡ length pass.seat.me.0.base) × (words.now.room ≡ pass.seat.me.0.room) }
+    requires fits { (pass.seat.table_id ≡ words.now.table.shared.table_id) × (words.now.cells ≡ length pass.seat.me.0.base)
+        × (words.now.room ≡ pass.seat.me.0.room) }
     requires cell { cell < words.now.cells }
-    ensures { (result.0.seat.table_id ≡ words.now.table.shared.table_id) × (words.now.cells ≡ length result.0.seat.me.0.base) × (words.now.room ≡ result.0.seat.me.0.room) }
+    ensures { (result.0.seat.table_id ≡ words.now.table.shared.table_id) × (words.now.cells ≡ length result.0.seat.me.0.base)
+        × (words.now.room ≡ result.0.seat.me.0.room) }
 {
     let mut run = begin(words, pass, Mode::Writing);
     match run.read(cell) {
@@ -52,8 +45,10 @@ fn meet(
     y: Pass<Anything>,
     written: usize,
 ) -> (Pass<Anything>, Outcome, Outcome)
-    requires x { (x.seat.table_id ≡ words.now.table.shared.table_id) × (words.now.cells ≡ length x.seat.me.0.base) × (words.now.room ≡ x.seat.me.0.room) }
-    requires y { (y.seat.table_id ≡ words.now.table.shared.table_id) × (words.now.cells ≡ length y.seat.me.0.base) × (words.now.room ≡ y.seat.me.0.room) }
+    requires x { (x.seat.table_id ≡ words.now.table.shared.table_id) × (words.now.cells ≡ length x.seat.me.0.base)
+        × (words.now.room ≡ x.seat.me.0.room) }
+    requires y { (y.seat.table_id ≡ words.now.table.shared.table_id) × (words.now.cells ≡ length y.seat.me.0.base)
+        × (words.now.room ≡ y.seat.me.0.room) }
     requires cells { (6 < words.now.cells) × ((written ≡ 5) ⊎ (written ≡ 6)) }
     ensures { result.0.seat.table_id ≡ words.now.table.shared.table_id }
 {
@@ -75,8 +70,10 @@ fn follow(
     y: Pass<Anything>,
     other: usize,
 ) -> (Pass<Anything>, Outcome, Outcome)
-    requires x { (x.seat.table_id ≡ words.now.table.shared.table_id) × (words.now.cells ≡ length x.seat.me.0.base) × (words.now.room ≡ x.seat.me.0.room) }
-    requires y { (y.seat.table_id ≡ words.now.table.shared.table_id) × (words.now.cells ≡ length y.seat.me.0.base) × (words.now.room ≡ y.seat.me.0.room) }
+    requires x { (x.seat.table_id ≡ words.now.table.shared.table_id) × (words.now.cells ≡ length x.seat.me.0.base)
+        × (words.now.room ≡ x.seat.me.0.room) }
+    requires y { (y.seat.table_id ≡ words.now.table.shared.table_id) × (words.now.cells ≡ length y.seat.me.0.base)
+        × (words.now.room ≡ y.seat.me.0.room) }
     requires cells { (6 < words.now.cells) × (other < words.now.cells) }
     ensures { result.0.seat.table_id ≡ words.now.table.shared.table_id }
 {
@@ -98,8 +95,10 @@ fn pass_by(
     x: Pass<Anything>,
     y: Pass<Anything>,
 ) -> (Pass<Anything>, Outcome, Outcome)
-    requires x { (x.seat.table_id ≡ words.now.table.shared.table_id) × (words.now.cells ≡ length x.seat.me.0.base) × (words.now.room ≡ x.seat.me.0.room) }
-    requires y { (y.seat.table_id ≡ words.now.table.shared.table_id) × (words.now.cells ≡ length y.seat.me.0.base) × (words.now.room ≡ y.seat.me.0.room) }
+    requires x { (x.seat.table_id ≡ words.now.table.shared.table_id) × (words.now.cells ≡ length x.seat.me.0.base)
+        × (words.now.room ≡ x.seat.me.0.room) }
+    requires y { (y.seat.table_id ≡ words.now.table.shared.table_id) × (words.now.cells ≡ length y.seat.me.0.base)
+        × (words.now.room ≡ y.seat.me.0.room) }
     requires cells { 6 < words.now.cells }
     ensures { result.0.seat.table_id ≡ words.now.table.shared.table_id }
 {
@@ -119,8 +118,10 @@ fn look_twice(
     x: Pass<Anything>,
     y: Pass<Anything>,
 ) -> (Outcome, [Option<u64>; 2], Outcome)
-    requires x { (x.seat.table_id ≡ words.now.table.shared.table_id) × (words.now.cells ≡ length x.seat.me.0.base) × (words.now.room ≡ x.seat.me.0.room) }
-    requires y { (y.seat.table_id ≡ words.now.table.shared.table_id) × (words.now.cells ≡ length y.seat.me.0.base) × (words.now.room ≡ y.seat.me.0.room) }
+    requires x { (x.seat.table_id ≡ words.now.table.shared.table_id) × (words.now.cells ≡ length x.seat.me.0.base)
+        × (words.now.room ≡ x.seat.me.0.room) }
+    requires y { (y.seat.table_id ≡ words.now.table.shared.table_id) × (words.now.cells ≡ length y.seat.me.0.base)
+        × (words.now.room ≡ y.seat.me.0.room) }
     requires cells { 6 < words.now.cells }
 {
     let mut run = begin(words, x, Mode::Reading);
@@ -134,7 +135,8 @@ fn look_twice(
 
 // Adds one to cell 0 until it has committed so often, and answers how often it did. It gives up after too many conflicts.
 fn add_often(words: &Words<Anything>, mut pass: Pass<Anything>, times: u64) -> u64
-    requires fits { (pass.seat.table_id ≡ words.now.table.shared.table_id) × (words.now.cells ≡ length pass.seat.me.0.base) × (words.now.room ≡ pass.seat.me.0.room) }
+    requires fits { (pass.seat.table_id ≡ words.now.table.shared.table_id) × (words.now.cells ≡ length pass.seat.me.0.base)
+        × (words.now.room ≡ pass.seat.me.0.room) }
     requires cells { 0 < words.now.cells }
 {
     let mut done = 0;
@@ -161,8 +163,10 @@ fn add_together(
     y: Pass<Anything>,
     times: u64,
 ) -> (u64, u64)
-    requires x { (x.seat.table_id ≡ words.now.table.shared.table_id) × (words.now.cells ≡ length x.seat.me.0.base) × (words.now.room ≡ x.seat.me.0.room) }
-    requires y { (y.seat.table_id ≡ words.now.table.shared.table_id) × (words.now.cells ≡ length y.seat.me.0.base) × (words.now.room ≡ y.seat.me.0.room) }
+    requires x { (x.seat.table_id ≡ words.now.table.shared.table_id) × (words.now.cells ≡ length x.seat.me.0.base)
+        × (words.now.room ≡ x.seat.me.0.room) }
+    requires y { (y.seat.table_id ≡ words.now.table.shared.table_id) × (words.now.cells ≡ length y.seat.me.0.base)
+        × (words.now.room ≡ y.seat.me.0.room) }
     requires cells { 0 < words.now.cells }
 {
     join(
@@ -174,7 +178,9 @@ fn add_together(
 
 // Seven cells of value 0, and two passes.
 fn opened(alloc: Global) -> Option<(Words<Anything>, Pass<Anything>, Pass<Anything>)>
-    ensures { IfSome result (λ r. (r.0.cells ≡ 7) × (r.1.seat.table_id ≡ r.0.table.shared.table_id) × (r.0.cells ≡ length r.1.seat.me.0.base) × (r.0.room ≡ r.1.seat.me.0.room) × (r.2.seat.table_id ≡ r.0.table.shared.table_id) × (r.0.cells ≡ length r.2.seat.me.0.base) × (r.0.room ≡ r.2.seat.me.0.room)) }
+    ensures { IfSome result (λ r. (r.0.cells ≡ 7) × (r.1.seat.table_id ≡ r.0.table.shared.table_id) × (r.0.cells ≡ length r.1.seat.me.0.base)
+        × (r.0.room ≡ r.1.seat.me.0.room) × (r.2.seat.table_id ≡ r.0.table.shared.table_id) × (r.0.cells ≡ length r.2.seat.me.0.base)
+        × (r.0.room ≡ r.2.seat.me.0.room)) }
 {
     let Ok((words, mut passes)) = open::<Anything>(alloc, &(), &[0; 7], &[], 0, 2) else {
         return None;

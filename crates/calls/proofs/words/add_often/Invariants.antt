@@ -1,5 +1,5 @@
 use Rattle.std.proofs.Common.{◌≡◌, ◌≤◌, length}
-use Rattle.tlwords.proofs.tests.add_often.Given as goal
+use Rattle.calls.proofs.words.add_often.Given as goal
 
 abbrev pub invariant-loop : goal.invariant-loop
 invariant-loop l =

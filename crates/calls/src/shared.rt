@@ -1,0 +1,71 @@
+//! What several modules of tests begin with: databases, libraries and lists of small texts.
+
+ghost use Rattle.std.specs.Prelude.{false, ◌≤◌};
+
+use commands::PlainLibrary;
+use history::{Editor, OpenError};
+use mmstatement::{Database, Sequence, read_database};
+use proofcheck::check_all;
+use std::alloc::{AllocError, AllocGlobal, Global};
+use std::hash::RandomState;
+use std::random::RandomSource;
+use std::test::Fail;
+use std::thread::Threads;
+use tlwords::Law;
+
+/// 23 bytes: one constant, and an axiom.
+pub fn mini() -> &'static [u8] {
+    b"$c wff $.\nwe $a wff $.\n"
+}
+
+/// Two constants, two variables with their `$f`, an axiom and a constant axiom, in the canonical layout.
+pub fn pair() -> &'static [u8] {
+    b"$c wff |- $.\n$v x y $.\nwx $f wff x $.\nwy $f wff y $.\nid $a |- x y x $.\nwc $a wff $.\n"
+}
+
+/// The database of a text.
+pub fn database(rt: &(impl AllocGlobal + RandomSource), text: &[u8]) -> Result<Database, Fail> {
+    Ok(read_database(rt.alloc(), RandomState::new(rt)?, text)?)
+}
+
+/// The editor of a database whose proofs check, with room for so many assertions, or why it isn't opened.
+pub fn editor(
+    rt: &(impl AllocGlobal + RandomSource + Threads + Sync),
+    text: &[u8],
+    slots: usize,
+) -> Result<Result<Editor, OpenError>, Fail>
+    requires { (1 ≤ slots) × (slots ≤ 4096) }
+{
+    let db = database(rt, text)?;
+    let Ok(()) = check_all(rt, rt.alloc(), &db) else {
+        return Err(Fail::from("the proofs of the database check"));
+    };
+    Ok(Editor::open(rt.alloc(), RandomState::new(rt)?, &db, slots))
+}
+
+/// The opening library of a database of at most four assertions whose proofs check.
+pub fn library(
+    rt: &(impl AllocGlobal + RandomSource + Threads + Sync),
+    text: &[u8],
+) -> Result<PlainLibrary, Fail> {
+    match editor(rt, text, 4)? {
+        Ok(editor) => Ok(editor.into_library()),
+        Err(_) => Err(Fail::from("the editor opens")),
+    }
+}
+
+/// The list of these items.
+pub fn sequence<T: Copy>(alloc: Global, items: &[T]) -> Result<Sequence<T>, AllocError> {
+    Ok(Sequence::from_vec(Vec::from_slice(alloc, items)?))
+}
+
+/// Any transaction is lawful, and no cell names a range.
+pub struct Anything;
+
+impl Law for Anything {
+    type Setting = ();
+
+    type Note = u64;
+
+    ghost terms = { record { lawful = λ _ _ _ _ _. Unit {0}; opens = λ _ _ _. Unit {0}; ranged = λ _ _. false } };
+}
