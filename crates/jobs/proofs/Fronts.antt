@@ -11,7 +11,7 @@ use Rattle.library.proofs.Opening.{opening_verifies}
 use Rattle.library.specs.declared.history.Entry.{Entry}
 use Rattle.library.specs.declared.history.Entry.TheVariants.{Void, Done}
 use Rattle.library.specs.Histories.{told, after, EntriesFit, EntryFits as ToldFits}
-use Rattle.history.proofs.Fronts.{fronts_verify}
+use Rattle.library.proofs.Fronts.{fronts_verify}
 use Rattle.historytext.specs.Layout.{EntryFits}
 use Rattle.jobs.specs.Outcomes.{setting_of}
 
