@@ -10,3 +10,4 @@ pub mod Commits
 pub mod Committing
 pub mod Closing
 pub mod Events
+pub mod Callers
