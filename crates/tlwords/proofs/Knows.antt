@@ -1,5 +1,6 @@
 -- What a pass knows of the store, as its calls go.
-use Rattle.std.proofs.Common.{◌≡◌, Bool, true, is_some, ℕ, Some, None, List, sym, ap, ◌∙◌, subst}
+use Rattle.std.proofs.Common.{◌≡◌, Bool, true, is_some, ℕ, Some, None, List, length, sym, ap, ◌∙◌, subst}
+use Rattle.atomic_table.specs.Seated.{TableId}
 use Rattle.atomic_table.specs.declared.shared.Seat.{Seat as TableSeat}
 use Rattle.tlwords.specs.declared.log.Slot.{Slot}
 use Rattle.tlwords.specs.declared.outcome.Outcome.{Outcome}
@@ -76,3 +77,33 @@ module _ {S N : Type 0} (terms : Terms S N) where
       subst (λ (m : Mine S N). KnowsStore m.0 o) (sym a)
       (knows_on m0.0 m1.0 o q.sees.sound (ap (λ (v : View S N). is_some v.setting) q.is ∙ set) (ap (λ (v : View S N). v.staging) q.is)
       (ap (λ (v : View S N). v.full) q.is) k)
+
+  -- a commit leaves the opening values and the room as they are
+  pub ended_same : (slots : List Slot) (n : N) (m r : Mine S N) (e : Outcome) → HasEnded terms slots n m r e
+      → (r.0.base ≡ m.0.base) × (r.0.room ≡ m.0.room)
+  ended_same slots n m r (EndsDone number) h =
+      let c : HasCommitted terms number (work_kept m.0.seat slots n) m r = h.1 in
+      (ap (λ (v : View S N). v.base) c.is, ap (λ (v : View S N). v.room) c.is)
+  ended_same slots n m r (EndsRead place) h =
+      let a : HasAnswered terms (work_kept m.0.seat slots n) m r = h.2 in
+      (ap (λ (v : View S N). v.base) a.is, ap (λ (v : View S N). v.room) a.is)
+  ended_same slots n m r (EndsConflict k None) h =
+      let c : HasConflicted terms slots n k None m r = h.1 in
+      (ap (λ (v : View S N). v.base) c.entry, ap (λ (v : View S N). v.room) c.entry)
+  ended_same slots n m r (EndsConflict k (Some number)) h =
+      let c : HasConflicted terms slots n k (Some number) m r = h.1 in
+      (ap (λ (v : View S N). v.base) c.entry.4, ap (λ (v : View S N). v.room) c.entry.4)
+  ended_same slots n m r NumbersUsed h = (ap (λ (z : Mine S N). z.0.base) h.2, ap (λ (z : Mine S N). z.0.room) h.2)
+
+-- a seat at this table, with so many cells and words of the store
+abbrev pub FitsTable : {S N : Type 0} → TableId → ℕ → ℕ → TableSeat (Unit {0}) (View S N) → Type 0
+FitsTable table cells room p = (p.table_id ≡ table) × (cells ≡ length p.me.0.base) × (room ≡ p.me.0.room)
+
+pub fits_same : {S N : Type 0} (table : TableId) (cells room : ℕ) (p q : TableSeat (Unit {0}) (View S N)) → q ≡ p → FitsTable table cells room p
+    → FitsTable table cells room q
+fits_same {S} {N} table cells room p q e f = subst (λ (t : TableSeat (Unit {0}) (View S N)). FitsTable table cells room t) (sym e) f
+
+-- a step or more of the seat leave it at the table, with the opening values and the room as they are
+pub fits_goes : {S N : Type 0} (table : TableId) (cells room : ℕ) (p q : TableSeat (Unit {0}) (View S N)) → q.table_id ≡ p.table_id
+    → (q.me.0.base ≡ p.me.0.base) × (q.me.0.room ≡ p.me.0.room) → FitsTable table cells room p → FitsTable table cells room q
+fits_goes table cells room p q e same f = (e ∙ f.0, f.1 ∙ sym (ap length same.0), f.2 ∙ sym same.1)

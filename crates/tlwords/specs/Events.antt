@@ -37,8 +37,8 @@ module _ {S N : Type 0} (terms : Terms S N) (setting : S) (base : List ℕ) (roo
     abbrev pub found : ℕ → ℕ
     found i = slice_index at.state.words i
 
-    -- the step that leaves `left` at the word i is this action of the seat, from the rule's world, which shows the words and the seats before,
-    -- to a world that shows those after it. It is lawful there, keeps the invariant, and the history grows
+    -- the step that leaves `left` at the word i is this action of the seat, from the rule's world, which shows the words and the seats
+    -- before it, to a world that shows those after it. It is lawful there, keeps the invariant, and the history grows
     pub record IsEvent (action : Action) (i left : ℕ) : Type 0 where
       pub words_before : at.state.words ≡ words_of at.rule.kept.world ++ at.rule.tail ∷ at.rule.store
       pub seats_before : map (λ v. v.seat) at.state.views ≡ at.rule.kept.world.seats
@@ -50,7 +50,8 @@ module _ {S N : Type 0} (terms : Terms S N) (setting : S) (base : List ℕ) (roo
   -- Begin: a load of the clock
   abbrev pub ClockLoadIsEvent : Type 0
   ClockLoadIsEvent =
-      (m r : Mine S N) (at : Moment m r) → (m.0.seat.place ≡ Idle) ⊎ (m.0.seat.place ≡ Reading) → Sampled terms m (found m r at clock_at) r
+      (m r : Mine S N) (at : Moment m r) → (m.0.seat.place ≡ Idle) ⊎ (m.0.seat.place ≡ Reading)
+      → Sampled terms m (found m r at clock_at) r
       → IsEvent m r at Begin clock_at (found m r at clock_at)
 
   -- the cell c is one of the cells of a seat that is not given up
@@ -60,13 +61,15 @@ module _ {S N : Type 0} (terms : Terms S N) (setting : S) (base : List ℕ) (roo
   -- Look: a load of the cell's lock word
   abbrev pub LookIsEvent : Type 0
   LookIsEvent =
-      (m r : Mine S N) (at : Moment m r) (c : ℕ) → HasCell m c → m.0.seat.place ≡ Reading → Looks terms c m (found m r at (lock_at c)) r
+      (m r : Mine S N) (at : Moment m r) (c : ℕ) → HasCell m c → m.0.seat.place ≡ Reading
+      → Looks terms c m (found m r at (lock_at c)) r
       → IsEvent m r at (Look c) (lock_at c) (found m r at (lock_at c))
 
   -- Load: a load of the cell's value word
   abbrev pub LoadIsEvent : Type 0
   LoadIsEvent =
-      (m r : Mine S N) (at : Moment m r) (c word : ℕ) → HasCell m c → m.0.seat.place ≡ Looked c word → Loads terms m (found m r at (value_at c)) r
+      (m r : Mine S N) (at : Moment m r) (c word : ℕ) → HasCell m c → m.0.seat.place ≡ Looked c word
+      → Loads terms m (found m r at (value_at c)) r
       → IsEvent m r at (Load c) (value_at c) (found m r at (value_at c))
 
   -- Relook: a load of the cell's lock word
@@ -102,8 +105,8 @@ module _ {S N : Type 0} (terms : Terms S N) (setting : S) (base : List ℕ) (roo
   -- Store: a store of the cell's value word
   abbrev pub StoreIsEvent : Type 0
   StoreIsEvent =
-      (m r : Mine S N) (at : Moment m r) (i c : ℕ) (k : Held) → HasCell m c → MayStore m.0.seat i → find_held c m.0.seat.held ≡ Some k
-      → Stores terms c m r
+      (m r : Mine S N) (at : Moment m r) (i c : ℕ) (k : Held) → HasCell m c → MayStore m.0.seat i
+      → find_held c m.0.seat.held ≡ Some k → Stores terms c m r
       → IsEvent m r at (Store c) (value_at c) k.value
 
   -- Release: a store of the cell's lock word

@@ -11,3 +11,4 @@ pub mod Committing
 pub mod Closing
 pub mod Events
 pub mod Faults
+pub mod Callers

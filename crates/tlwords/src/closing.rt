@@ -5,6 +5,7 @@ ghost use Rattle.std.specs.Prelude.{◌≡◌, ℕ, ◌+◌, ◌*◌, ◌<◌, �
 ghost use mathlib.Core.Option.{some};
 ghost use lib.ListN.{get_elem?};
 ghost use Rattle.std.specs.Slots.{slots_items, slots_len, IsFull};
+ghost use Rattle.tlwords.specs.Callers.{SitsAt};
 ghost use Rattle.tlwords.specs.Closing.{AreCellsOf, IsStoreOf, IsBlankFor, Closes, ClosesFor};
 ghost use Rattle.tlwords.specs.Rule.{tail_at};
 
@@ -43,7 +44,7 @@ pub fn close<L: Law>(
     words: Words<L>,
     pass: Option<Pass<L>>,
 ) -> Result<ClosedWords, AllocError>
-    requires { IfSome pass (λ p. p.seat.table_id ≡ words.table.shared.table_id) }
+    requires { IfSome pass (λ p. SitsAt words p) }
     ensures words { IfOk result (λ c. Closes L.terms words.table.shared.key.setting.value words.table.shared.key.values.value.items c) }
     ensures pass { IfOk result (λ c. IfSome pass (λ p. ClosesFor L.terms p.seat.me.0 c)) }
     ensures store { IfOk result (λ c. length c.store.items ≡ words.room) }

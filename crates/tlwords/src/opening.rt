@@ -5,6 +5,7 @@ ghost use Rattle.std.specs.Prelude.{◌≡◌, ℕ, ◌+◌, ◌*◌, ◌<◌, �
 ghost use Rattle.ranges.specs.Ranges.{Range, ranges_named};
 ghost use Rattle.tlwords.specs.Rule.{opening_words};
 ghost use Rattle.tlwords.specs.Terms.{AreNamed};
+ghost use Rattle.tlwords.specs.Callers.{AreOfOneOpening};
 ghost use Rattle.tlwords.specs.Views.{Sound};
 ghost use Rattle.tlwords.specs.declared.opening.OpenFault.TheVariants.{BadShape, StoreFull};
 ghost use Rattle.ranges.specs.Ranges.{AreOfOneStore};
@@ -109,6 +110,7 @@ pub fn open<L: Law>(
     ensures sizes { IfOk result (λ r. (r.0.cells ≡ length values.now) × (r.0.room ≡ room)) }
     ensures key { IfOk result (λ r. (r.0.table.shared.key.setting.value ≡ setting.now) × (r.0.table.shared.key.values.value.items ≡ values.now) × (r.0.table.shared.key.store.value.items ≡ store.now)) }
     ensures passes { IfOk result (λ r. All (λ p. IsDealt setting.now values.now room (ranges_named (L.terms.ranged setting.now) store.now values.now) r.0.table.shared.table_id p.seat) r.1.items) }
+    ensures opening { IfOk result (λ r. All (λ p. AreOfOneOpening r.0 p) r.1.items) }
     ensures sound { IfOk result (λ r. All (λ p. Sound L.terms p.seat.me.0) r.1.items) }
     ensures names { IfOk result (λ r. map (λ p. p.seat.me.0.name) r.1.items ≡ down 64 sessions) }
     ensures shape { (IsBadShape sessions room → result ≡ Err BadShape) × (result ≡ Err BadShape → IsBadShape sessions room) }

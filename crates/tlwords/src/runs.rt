@@ -4,6 +4,7 @@
 ghost use Rattle.std.specs.Prelude.{◌≡◌, ℕ, ◌<◌, ◌≤◌, ◌⊎◌, Some, None, length, take, is_some, true, Ok, Err, IfOk, IfErr};
 ghost use Rattle.tlwords.specs.Plays.{IsSameSeat, Sampled};
 ghost use Rattle.tlwords.specs.Runs.{IsRunOf, IsKeptOf, IsBlank, KnowsStore, noted, word_seen, value_kept, was_read, Learns};
+ghost use Rattle.tlwords.specs.Callers.{SitsAt, AreOfOneOpening};
 ghost use Rattle.tlwords.specs.Reads.{listed, LogKeeps, kept_for, HasRead, HasStopped};
 ghost use Rattle.tlwords.specs.Commits.{IsLawfulNow, HasForgotten, HasEnded};
 ghost use Rattle.tlwords.specs.declared.outcome.Outcome.TheVariants.{Read as EndsRead, Conflict as EndsConflict};
@@ -40,10 +41,9 @@ pub struct Run<'w, L: Law> {
 
 /// Begins a run in this mode, by one load of the clock.
 pub fn begin<'w, L: Law>(words: &'w Words<L>, pass: Pass<L>, mode: Mode) -> Run<'w, L>
-    requires table { (pass.seat.table_id ≡ words.now.table.shared.table_id) × (words.now.cells ≡ length pass.seat.me.0.base) }
-    requires room { words.now.room ≡ pass.seat.me.0.room }
+    requires opening { AreOfOneOpening words.now pass }
     ensures words { result.words.now ≡ words.now }
-    ensures seat { (result.seat.table_id ≡ pass.seat.table_id) × (result.seat.id ≡ pass.seat.id) }
+    ensures seat { IsSameSeat pass.seat result.seat }
     ensures begins { Sampled L.terms pass.seat.me result.place result.seat.me }
     ensures place { length pass.seat.me.0.seen.history ≤ result.place }
     ensures mode { result.mode ≡ mode }
@@ -149,6 +149,7 @@ impl<'w, L: Law> Run<'w, L> {
     pub fn commit(self, note: &L::Note) -> (Pass<L>, Outcome)
         requires lawful { self.over ≡ None → IsLawfulNow L.terms self.seat.me.0 self.log.slots.items note.now }
         ensures same { IsSameSeat self.entry.seat result.0.seat }
+        ensures opening { AreOfOneOpening self.entry.words.now result.0 }
         ensures over { (k : ConflictValue) → self.entry.over ≡ Some k → (result.1 ≡ EndsConflict k None) × (result.0.seat.me ≡ self.entry.seat.me) }
         ensures reading { self.entry.over ≡ None → self.entry.mode ≡ Reading → result.1 ≡ EndsRead self.entry.place }
         ensures ended { self.entry.over ≡ None → HasEnded L.terms self.entry.log.slots.items note.now self.entry.seat.me result.0.seat.me result.1 }
@@ -182,7 +183,8 @@ impl<'w, L: Law> Run<'w, L> {
 
     /// Ends the run with nothing written. It walks over the cells that the run has read.
     pub fn leave(self) -> Pass<L>
-        ensures { (result.seat ≡ self.entry.seat) × (result.count ≡ self.entry.count) × (result.full ≡ self.entry.full) }
+        ensures same { (result.seat ≡ self.entry.seat) × (result.count ≡ self.entry.count) × (result.full ≡ self.entry.full) }
+        ensures opening { AreOfOneOpening self.entry.words.now result }
     {
         let Run {
             words: _,
@@ -206,9 +208,10 @@ impl<'w, L: Law> Run<'w, L> {
 
 /// Tells a pass what another one has seen by now, with the other's calls. It makes three loads of the spare word, and one of the clock.
 pub fn learn<L: Law>(words: &Words<L>, pass: &mut Pass<L>, other: &mut Pass<L>)
-    requires { (pass.old.seat.table_id ≡ words.now.table.shared.table_id) × (other.old.seat.table_id ≡ words.now.table.shared.table_id) }
+    requires { SitsAt words.now pass.old × SitsAt words.now other.old }
     ensures seat { IsSameSeat pass.old.seat pass.new.seat }
     ensures other { IsSameSeat other.old.seat other.new.seat }
+    ensures opening { (AreOfOneOpening words.now pass.old → AreOfOneOpening words.now pass.new) × (AreOfOneOpening words.now other.old → AreOfOneOpening words.now other.new) }
     ensures learns { Learns L.terms pass.old.seat.me.0 other.old.seat.me.0 pass.new.seat.me.0 other.new.seat.me.0 }
 {
     steps::refresh(words, &mut other.seat);
