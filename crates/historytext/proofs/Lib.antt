@@ -6,3 +6,4 @@ pub mod HistoryRows
 pub mod HistoryWords
 pub mod HistoryParsed
 pub mod HistoryLaws
+pub mod LegalFits

@@ -1,5 +1,6 @@
 -- The outcomes of scripts that one editor runs, one after another.
-use Rattle.std.specs.Prelude.{◌+◌, ℕ, Bool, true, false, List, [], ◌∷◌, ◌++◌, length, Result, Ok, Err, All, if◌then◌else◌}
+use Rattle.std.specs.Prelude.{◌+◌, ℕ, Bool, true, false, List, [], ◌∷◌, ◌++◌, length, Result, Ok, Err, All, IsTrue, if◌then◌else◌}
+use Rattle.std.specs.List.{AllZip}
 use Rattle.mmsyntax.specs.Tables.{Tables, Contents}
 use Rattle.library.specs.declared.library.Ranked.{Ranked}
 use Rattle.library.specs.declared.command.Command.{Command}
@@ -9,6 +10,8 @@ use Rattle.library.specs.Fitting.{ReplyFits}
 use Rattle.library.specs.Transactions.{Applied, apply, library_of, has_edit, has_too_many}
 use Rattle.library.specs.declared.history.Entry.{Entry}
 use Rattle.library.specs.declared.history.Entry.TheVariants.{Done}
+use Rattle.library.specs.Histories.{Entry as HistoryEntry}
+use Rattle.library.specs.Agrees.{Agrees, committed, read, refused}
 use Rattle.history.specs.Editors.{Held}
 use Rattle.jobs.specs.declared.outcome.Outcome.{Outcome}
 use Rattle.jobs.specs.declared.outcome.Outcome.TheVariants.{Committed, Read, Refused, TooManyCommands}
@@ -86,6 +89,19 @@ all_outcomes s now xs = in_turn (script_outcomes s) (after_script s) now xs
 
 abbrev pub after_scripts : Setting → Standing → List (List (List Command)) → Standing
 after_scripts s now xs = after_turns (after_script s) now xs
+
+-- ---- what the outcomes tell
+
+-- what an outcome tells of a transaction is so in a history from this opening library; that it has too many commands is so of itself
+abbrev pub OutcomeAgrees : Setting → List Ranked → List HistoryEntry → List Command → Outcome → Type 0
+OutcomeAgrees s lib0 h cs (Committed n replies) = Agrees s lib0 h cs (committed n replies)
+OutcomeAgrees s lib0 h cs (Read k replies) = Agrees s lib0 h cs (read k replies)
+OutcomeAgrees s lib0 h cs (Refused k index reason) = Agrees s lib0 h cs (refused k (record { index = index; reason = reason }))
+OutcomeAgrees s lib0 h cs TooManyCommands = IsTrue (has_too_many cs)
+
+-- each outcome of each script, transaction by transaction
+abbrev pub OutcomesAgree : Setting → List Ranked → List HistoryEntry → List (List (List Command)) → List (List Outcome) → Type 0
+OutcomesAgree s lib0 h scripts rows = AllZip (AllZip (OutcomeAgrees s lib0 h)) scripts rows
 
 -- ---- what a report can print
 

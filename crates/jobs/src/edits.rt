@@ -8,7 +8,7 @@ ghost use Rattle.library.specs.Histories.{told, after_all, IsLegal};
 ghost use Rattle.historytext.specs.Layout.{EntryFits};
 ghost use Rattle.export.specs.Exported.{Accepts, exported_text};
 ghost use Rattle.jobs.specs.Outcomes.{setting_of, standing, at_opening, answered, moved, outcome_at, standing_after};
-ghost use Rattle.jobs.specs.Outcomes.{script_outcomes, after_script, all_outcomes, after_scripts, OutcomeFits, OutcomesFit};
+ghost use Rattle.jobs.specs.Outcomes.{script_outcomes, after_script, all_outcomes, after_scripts, OutcomeFits, OutcomesFit, OutcomesAgree};
 
 use crate::entries::done_entry;
 use crate::outcome::Outcome;
@@ -171,6 +171,8 @@ pub(crate) fn edit_all(
     // The history holds those that were committed. Each entry's replies are the editor's, and the library of the run is the one after it.
     ensures history { IfOk result (λ e. e.history ≡ (after_scripts (setting_of db.now) (at_opening db.now) scripts.now).entries) }
     ensures legal { IfOk result (λ e. IsLegal (setting_of db.now) (opening db.now) (map told e.history)) }
+    // What each outcome tells is so in the history: a commit is its entry, and a read or a refusal the definition's answer at its place.
+    ensures agree { IfOk result (λ e. OutcomesAgree (setting_of db.now) (opening db.now) (map told e.history) scripts.now e.outcomes) }
     ensures follows { IfOk result (λ e. ShowsInOrder (after_all (setting_of db.now) (opening db.now) (map told e.history)) e.library.entries) }
     // The library is the one after the transactions, in export order.
     ensures setting { IfOk result (λ e. e.library.setting ≡ setting_of db.now) }

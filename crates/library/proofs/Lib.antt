@@ -19,5 +19,8 @@ pub mod Editing
 pub mod Orders
 pub mod ExportOrder
 pub mod Listing
+pub mod Leaving
+pub mod Fitting
 pub mod Fronts
 pub mod Legal
+pub mod Agreeing

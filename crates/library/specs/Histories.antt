@@ -1,5 +1,5 @@
 -- Histories: the transactions that drew a number, in order of number; and the library after a front of one.
-use Rattle.std.specs.Prelude.{◌≡◌, ◌≢◌, ◌≤◌, ℕ, List, [], ◌∷◌, length, take, slice_get, All, Some, Ok}
+use Rattle.std.specs.Prelude.{◌≡◌, ◌≢◌, ◌<◌, ◌≤◌, ℕ, List, [], ◌∷◌, length, take, slice_get, All, Some, Ok}
 use Rattle.library.specs.declared.library.Ranked.{Ranked}
 use Rattle.library.specs.declared.command.Command.{Command}
 use Rattle.library.specs.declared.command.Reply.{Reply}
@@ -40,6 +40,10 @@ after_all s lib (e ∷ es) = after_all s (after_entry s lib e) es
 -- the library after the first k entries, which are a front of the history
 abbrev pub after : Setting → List Ranked → List Entry → ℕ → List Ranked
 after s lib h k = after_all s lib (take k h)
+
+-- none of the first k entries is open
+abbrev pub IsSettledBefore : ℕ → List Entry → Type 0
+IsSettledBefore k h = (i : ℕ) → i < k → slice_get h i ≢ Some open_entry
 
 -- a later history of the same run: at least as long, and what was settled stays
 pub record Grows (g h : List Entry) : Type 0 where

@@ -4,4 +4,5 @@ pub mod Edits
 pub mod Fitting
 pub mod Transactions
 pub mod Histories
+pub mod Agrees
 pub mod Laws

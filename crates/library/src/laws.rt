@@ -3,6 +3,7 @@
 ghost use Rattle.library.specs.Laws.{OpeningsVerify, EditsVerify, TransactionsVerify};
 ghost use Rattle.library.specs.Laws.{LibrariesAreSpelled, ShownLibrariesCheck, LibrariesAreShown, ExportOrderIsOne};
 ghost use Rattle.library.specs.Laws.{FrontsVerify, GrowthIsReflexive, GrowthIsTransitive, SettledFrontsStay};
+ghost use Rattle.library.specs.Laws.{ReadsLeave, RepliesFit, LegalRepliesFit, AgreementStays, CommitsAreLegal};
 
 /// The opening library of every database whose proofs check over the earlier assertions verifies, with any number of slots that has room
 /// for it: its ranks rise by 100 from 100 on, and its labels are lawful and differ, since some text declares them.
@@ -48,4 +49,23 @@ pub fn settled_fronts_stay()
     ensures reflexive { GrowthIsReflexive }
     ensures transitive { GrowthIsTransitive }
     ensures stay { SettledFrontsStay }
+{}
+
+/// A transaction none of whose commands is an edit leaves the library as it was.
+pub fn reads_leave_the_library()
+    ensures { ReadsLeave }
+{}
+
+/// The replies of a transaction on a library that verifies are within the limits of the prelude, where its commands are; so are those of each
+/// done entry of a history that is legal from such a library.
+pub fn replies_are_within_limits()
+    ensures replies { RepliesFit }
+    ensures histories { LegalRepliesFit }
+{}
+
+/// What is told of a transaction and agrees with a history, whose entries below its place are settled, agrees with every later one. And a
+/// committed transaction that agrees with a legal history has the replies of the definition of transactions.
+pub fn agreement_stays()
+    ensures stays { AgreementStays }
+    ensures legal { CommitsAreLegal }
 {}

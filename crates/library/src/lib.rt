@@ -13,8 +13,9 @@ pub use command::{
 };
 pub use history::{Entry, History};
 pub use laws::{
-    export_order_is_one, fronts_verify, libraries_are_spelled, openings_verify,
-    settled_fronts_stay, shown_libraries_check, transactions_verify,
+    agreement_stays, export_order_is_one, fronts_verify, libraries_are_spelled, openings_verify,
+    reads_leave_the_library, replies_are_within_limits, settled_fronts_stay, shown_libraries_check,
+    transactions_verify,
 };
 pub use library::{PlainLibrary, Ranked};
 pub use reason::{Reason, Refused};

@@ -15,6 +15,7 @@ use Rattle.library.specs.Library.{Setting, Verifies}
 use Rattle.library.specs.Edits.{Edited, Tests, tested, of_found, found, add_tests, reprove_tests, rename_tests, move_tests, cited, is_labelled, edit}
 use Rattle.library.specs.Fitting.{CommandFits, ReplyFits}
 use Rattle.library.specs.Transactions.{Applied, with_reply, then_apply, apply_from, apply}
+use Rattle.library.specs.Laws.{RepliesFit}
 use Rattle.library.proofs.Editing.{edit_verifies}
 
 -- what is found in a list is one of its items
@@ -84,6 +85,5 @@ apply_from_fits s n lib (c ∷ cs) v fit =
     (λ e h. apply_from_fits s (n + 1) e.library cs (edit_verifies s lib c e v (All-head P c cs fit) h) (All-tail P c cs fit))
 
 -- the replies of a transaction that is not refused
-pub replies_fit : (s : Setting) (lib : List Ranked) (cs : List Command) (a : Applied) → Verifies s lib → All (CommandFits s.prelude) cs
-    → apply s lib cs ≡ Ok a → All (ReplyFits s.prelude) a.replies
+pub replies_fit : RepliesFit
 replies_fit s lib cs a v fit h = subst (AppliedFits s) h (apply_from_fits s 1 lib cs v fit)
