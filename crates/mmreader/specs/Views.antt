@@ -9,6 +9,8 @@ use Rattle.mmreader.specs.declared.place.UnitPlace.{UnitPlace}
 use Rattle.mmreader.specs.declared.place.UnitPlace.TheVariants as unit
 use Rattle.mmreader.specs.declared.place.Place.{Place as CodePlace}
 use Rattle.mmreader.specs.declared.place.Place.TheVariants as code
+use Rattle.mmreader.specs.declared.place.Behind.{Behind as CodeBehind}
+use Rattle.mmreader.specs.declared.place.Behind.TheVariants.{Statement, BlockEnd}
 use Rattle.mmreader.specs.declared.place.State.{State as CodeState}
 use Rattle.mmtext.specs.declared.fault.Stop.{Stop}
 use Rattle.mmtext.specs.declared.fault.TextFault.{TextFault}
@@ -57,6 +59,11 @@ seen_place (code.Unit p) = seen_unit_place p
 -- a place of the code, beside what is known there
 abbrev pub seen_position : Tables → Units → CodePlace → Position
 seen_position t u p = record { known = known_of t u; place = seen_place p }
+
+-- where a text goes on behind an assertion
+abbrev pub seen_behind : CodeBehind → Place
+seen_behind Statement = at_start outside
+seen_behind BlockEnd = at_close
 
 -- a state of the code, beside what is known there
 abbrev pub seen_state : Tables → Units → CodeState → State Position

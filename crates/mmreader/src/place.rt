@@ -1,7 +1,7 @@
 //! Places in the grammar.
 
 ghost use Rattle.std.specs.Prelude.{◌≡◌};
-ghost use Rattle.mmreader.specs.Views.{seen_place, is_outermost};
+ghost use Rattle.mmreader.specs.Views.{seen_place, seen_behind, is_outermost};
 
 use crate::block::Block;
 use mmsyntax::{Step, Symbol};
@@ -55,6 +55,27 @@ pub(crate) enum UnitPlace<'a> {
 pub(crate) enum Place<'a> {
     Prelude(PreludePlace<'a>),
     Unit(UnitPlace<'a>),
+}
+
+/// Where a text goes on behind an assertion.
+#[derive(Clone, Copy)]
+pub(crate) enum Behind {
+    /// At the start of a statement, outermost.
+    Statement,
+    /// In the block of the assertion, whose end has to follow.
+    BlockEnd,
+}
+
+impl Behind {
+    /// The place there.
+    pub fn place<'a>(self) -> Place<'a>
+        ensures { seen_place result ≡ seen_behind self }
+    {
+        match self {
+            Behind::Statement => Place::Unit(UnitPlace::AtStart(Scope::Outside)),
+            Behind::BlockEnd => Place::Unit(UnitPlace::AtClose),
+        }
+    }
 }
 
 /// A place, and whether a comment is open there.

@@ -79,11 +79,11 @@ fn advance<'a>(
 fn finish(
     symbols: SymbolTable,
     units: Units,
-    state: State<'_>,
+    state: &State<'_>,
     length: usize,
 ) -> Result<(SymbolTable, Vec<Assertion>), Stop>
     ensures { Gives (λ r. contents_of r.0 r.1.items) result
-        (finished length (said_at database_language (seen_state symbols units state.entry))) }
+        (finished length (said_at database_language (seen_state symbols units state.now))) }
 {
     if state.in_comment || !is_outermost(&state.place) {
         return Err(unfinished_at(length));
@@ -110,7 +110,7 @@ fn read_tokens(
         at = token.place + token.text.len();
         state = advance(alloc, &mut symbols, &mut units, state, token)?;
     }
-    finish(symbols, units, state, text.len())
+    finish(symbols, units, &state, text.len())
 }
 
 /// What a text declares: its length is tested first, then its bytes, then its tokens.

@@ -1,5 +1,7 @@
 -- The words of symbols, of pairs and of steps are read as these again.
-use Rattle.std.proofs.Common.{◌≡◌, ◌≢◌, ℕ, zero, suc, ◌^◌, ◌<◌, ◌≤◌, Bool, true, false, cond, eqb, leb, ltb, List, [], ◌∷◌, ◌++◌, length, get_or, drop, map, Option, Some, None, Ok, Err, refl, sym, ap, subst, ◌∙◌, inl, inr, arith, append_assoc, length-append}
+use Rattle.std.proofs.Common.{◌≡◌, ◌≢◌, ℕ, zero, suc, ◌^◌, ◌<◌, ◌≤◌, Bool, true, false, cond, eqb, leb, ltb, List, [], ◌∷◌, ◌++◌, length}
+use Rattle.std.proofs.Common.{get_or, drop, map, Option, Some, None, Ok, Err, refl, sym, ap, subst, ◌∙◌, inl, inr, arith, append_assoc}
+use Rattle.std.proofs.Common.{length-append}
 use Rattle.std.specs.Prelude.{◌||◌, ◌&&◌, is_some, codes}
 use mathlib.Core.Bool.{not}
 use Rattle.std.specs.List.{list_any, AllByRecursion}
@@ -27,7 +29,8 @@ use Rattle.mmsyntax.specs.Grammar.{ReadsAfter, Restricts, StepsAfter}
 use Rattle.mmsyntax.specs.Layout.{word_at, no_float, float_at, symbol_word, hypothesis_label, step_word}
 use Rattle.mmsyntax.specs.Assertions.{IsSymbolOf, BeginsWithConstant, IsExpression, IsPairOf, AreAscending, IsNameable, Distinct}
 use Rattle.mmtext.proofs.Marks.{label_plain}
-use Rattle.mmsyntax.proofs.Distinct.{any_at, any-map, cross, place_of-item, place_of-absent, distinct_left, distinct_right, float_labels, is_some-meaning, none_of, all_map}
+use Rattle.mmsyntax.proofs.Distinct.{any_at, any-map, cross, place_of-item, place_of-absent, distinct_left, distinct_right, float_labels}
+use Rattle.mmsyntax.proofs.Distinct.{is_some-meaning, none_of, all_map}
 use Rattle.mmsyntax.proofs.Sound.{IsSymbolWord, IsFloatSound, IsLabelWord, AreSound, variables_used}
 use Rattle.mmsyntax.proofs.Pairs.{next_pair}
 use Rattle.mmsyntax.proofs.Numbered.{differ, label_bytes, number_label, number_dot, number_form}

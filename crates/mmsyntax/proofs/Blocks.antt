@@ -1,5 +1,6 @@
 -- The canonical statement of a unit, alone or in its block, declares the unit.
-use Rattle.std.proofs.Common.{◌≡◌, ◌≢◌, ℕ, suc, ◌+◌, ◌^◌, ◌<◌, ◌≤◌, Bool, true, false, leb, ltb, List, [], ◌∷◌, ◌++◌, length, drop, map, None, refl, sym, ap, subst, ◌∙◌, arith, append_assoc, length-append}
+use Rattle.std.proofs.Common.{◌≡◌, ◌≢◌, ℕ, suc, ◌+◌, ◌^◌, ◌<◌, ◌≤◌, Bool, true, false, leb, ltb, List, [], ◌∷◌, ◌++◌, length, drop, map}
+use Rattle.std.proofs.Common.{None, refl, sym, ap, subst, ◌∙◌, arith, append_assoc, length-append}
 use Rattle.std.specs.Prelude.{is_some, IsTrue}
 use Rattle.std.specs.List.{list_any, AllByRecursion}
 use Rattle.std.specs.Str.{bytes_eq}
@@ -20,14 +21,17 @@ use Rattle.mmsyntax.specs.Rows.{Known, is_used, Pass, first_fault, assertion_lab
 use Rattle.mmsyntax.specs.Blocks.{Hypothesis, Block, no_block, hypothesis_label_tests, with_hypothesis}
 use Rattle.mmsyntax.specs.Grammar.{Claim, Piece, Restricts, ReadsAfter, StepsAfter, Claims, HoldAll, Declares, DeclareAll}
 use Rattle.mmsyntax.specs.Faults.{database_of}
-use Rattle.mmsyntax.specs.Layout.{hypothesis_label, symbol_word, step_word, distinct_pieces, hypothesis_pieces, claim_of_kind, claim_of, unit_of, unit_statement}
+use Rattle.mmsyntax.specs.Layout.{hypothesis_label, symbol_word, step_word, distinct_pieces, hypothesis_pieces, claim_of_kind, claim_of}
+use Rattle.mmsyntax.specs.Layout.{unit_of, unit_statement}
 use Rattle.mmsyntax.specs.Assertions.{IsExpression, IsPairOf, AreAscending, IsNameable, IsUnit, is_lawful_label, Distinct}
 use Rattle.mmsyntax.proofs.Names.{bytes_eq-sym}
 use Rattle.mmsyntax.proofs.Distinct.{distinct_front, labels_of, not_used, none_of, all_push, all_weaker}
 use Rattle.mmsyntax.proofs.Sound.{AreSound}
 use Rattle.mmsyntax.proofs.Units.{expressions}
-use Rattle.mmsyntax.proofs.Numbered.{differ, number_dot, number_label, number_short, IsNumbered, IsEarlier, earlier, still_earlier, newest, not_earlier, made, made_dots, made_named}
-use Rattle.mmsyntax.proofs.Again.{none_cond, IsPlainLabel, plain_label, label_word, number_not_named, reads_again, some_words, restricts_again, steps_again}
+use Rattle.mmsyntax.proofs.Numbered.{differ, number_dot, number_label, number_short, IsNumbered, IsEarlier, earlier, still_earlier}
+use Rattle.mmsyntax.proofs.Numbered.{newest, not_earlier, made, made_dots, made_named}
+use Rattle.mmsyntax.proofs.Again.{none_cond, IsPlainLabel, plain_label, label_word, number_not_named, reads_again, some_words}
+use Rattle.mmsyntax.proofs.Again.{restricts_again, steps_again}
 
 -- ---- in general
 

@@ -12,7 +12,8 @@ use Rattle.mmsyntax.specs.Tables.{Contents, Tables}
 use Rattle.mmsyntax.specs.Rows.{Known, nothing, prelude_alone}
 use Rattle.mmsyntax.specs.Faults.{database_of}
 use Rattle.mmsyntax.specs.Grammar.{spelling, Spells, SpellsUnit}
-use Rattle.mmsyntax.specs.Layout.{no_float, unit_statement, canonical_prelude, canonical, prelude_text, statement_text, assertion_text, text_of, IsWithin, IsFloatWithin, IsUnitWithin, IsWhole, HasSpelling, IsSoundPrelude, HasUnitSpelling}
+use Rattle.mmsyntax.specs.Layout.{no_float, unit_statement, canonical_prelude, canonical, prelude_text, statement_text, assertion_text}
+use Rattle.mmsyntax.specs.Layout.{text_of, IsWithin, IsFloatWithin, IsUnitWithin, IsWhole, HasSpelling, IsSoundPrelude, HasUnitSpelling}
 use Rattle.mmsyntax.specs.Assertions.{IsSymbolOf, IsExpression, Fits, IsUnit, is_lawful_label}
 use Rattle.mmsyntax.proofs.Distinct.{all_weaker}
 use Rattle.mmsyntax.proofs.Lines.{clean_words, statements_words, clean_statements, statement_words, clean_statement}

@@ -1,5 +1,6 @@
 -- A sound prelude is declared again item by item: each name is new behind those before it.
-use Rattle.std.proofs.Common.{◌≡◌, ℕ, zero, suc, ◌<◌, ◌≤◌, Bool, false, eqb, List, [], ◌∷◌, ◌++◌, length, get_or, take, Some, None, refl, sym, ap, subst, ◌∙◌, arith, append_assoc}
+use Rattle.std.proofs.Common.{◌≡◌, ℕ, zero, suc, ◌<◌, ◌≤◌, Bool, false, eqb, List, [], ◌∷◌, ◌++◌, length, get_or, take, Some, None, refl}
+use Rattle.std.proofs.Common.{sym, ap, subst, ◌∙◌, arith, append_assoc}
 use Rattle.std.specs.List.{list_any}
 use Rattle.std.specs.Str.{bytes_eq}
 use Rattle.std.proofs.lemmas.List.{append-nil, get_or-map, get_or_default, take-map, length-map}
@@ -12,7 +13,8 @@ use Rattle.mmtext.specs.Words.{Word}
 use Rattle.mmsyntax.specs.Layout.{IsSoundPrelude, word_at, float_at, no_float}
 use Rattle.mmsyntax.specs.Assertions.{Distinct}
 use Rattle.mmsyntax.proofs.Names.{bytes_eq-sym}
-use Rattle.mmsyntax.proofs.Distinct.{cross, distinct_left, distinct_right, any_at, place_of-item, place_of-absent, float_labels, is_some-meaning}
+use Rattle.mmsyntax.proofs.Distinct.{cross, distinct_left, distinct_right, any_at, place_of-item, place_of-absent, float_labels}
+use Rattle.mmsyntax.proofs.Distinct.{is_some-meaning}
 use Rattle.mmsyntax.proofs.Sound.{AreSound, variables_used, any_swap, eqb-sym}
 use Rattle.mmsyntax.proofs.Again.{none_is}
 use Rattle.mmsyntax.proofs.Canonical.{sound_tables, floats_within}

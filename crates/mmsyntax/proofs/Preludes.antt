@@ -1,5 +1,6 @@
 -- The canonical statements of a sound prelude declare it.
-use Rattle.std.proofs.Common.{◌≡◌, ℕ, ◌<◌, ◌≤◌, false, eqb, List, [], ◌∷◌, ◌++◌, length, map, Some, None, Ok, Err, refl, sym, ap, subst, ◌∙◌, arith, append_assoc, length-append}
+use Rattle.std.proofs.Common.{◌≡◌, ℕ, ◌<◌, ◌≤◌, false, eqb, List, [], ◌∷◌, ◌++◌, length, map, Some, None, Ok, Err, refl, sym, ap, subst}
+use Rattle.std.proofs.Common.{◌∙◌, arith, append_assoc, length-append}
 use Rattle.std.specs.List.{list_any, AllByRecursion}
 use Rattle.std.specs.Str.{bytes_eq}
 use Rattle.std.proofs.lemmas.Bool.{cond-false, lt-leb}
@@ -14,7 +15,8 @@ use Rattle.mmsyntax.specs.Grammar.{Statement, DeclaresConstants, DeclaresVariabl
 use Rattle.mmsyntax.specs.Layout.{word_at, constants_of, variables_of, float_statement, canonical_prelude}
 use Rattle.mmsyntax.specs.Assertions.{Distinct}
 use Rattle.mmsyntax.proofs.Names.{bytes_eq-sym}
-use Rattle.mmsyntax.proofs.Distinct.{distinct_front, distinct_left, distinct_right, cross, place_of-item, place_of-absent, float_labels, prelude_names, is_some-meaning, not_used}
+use Rattle.mmsyntax.proofs.Distinct.{distinct_front, distinct_left, distinct_right, cross, place_of-item, place_of-absent, float_labels}
+use Rattle.mmsyntax.proofs.Distinct.{prelude_names, is_some-meaning, not_used}
 use Rattle.mmsyntax.proofs.Sound.{IsSymbolWord, IsLabelWord, bare, IsFloatSound, AreSound, variables_used, any_swap, eqb-sym}
 use Rattle.mmsyntax.proofs.Again.{none_cond, plain_at}
 

@@ -1,5 +1,6 @@
 -- What is true of all that statements of a prelude declare.
-use Rattle.std.proofs.Common.{◌≡◌, ℕ, ◌+◌, ◌<◌, ◌≤◌, Bool, true, false, cond, eqb, List, [], ◌∷◌, ◌++◌, length, Option, Some, None, Result, Ok, Err, refl, sym, ap, subst, ◌∙◌, arith, append_assoc, length-append, leb-false}
+use Rattle.std.proofs.Common.{◌≡◌, ℕ, ◌+◌, ◌<◌, ◌≤◌, Bool, true, false, cond, eqb, List, [], ◌∷◌, ◌++◌, length, Option, Some, None}
+use Rattle.std.proofs.Common.{Result, Ok, Err, refl, sym, ap, subst, ◌∙◌, arith, append_assoc, length-append, leb-false}
 use Rattle.std.specs.Prelude.{◌||◌, is_some, IsTrue, nat_lt}
 use Rattle.std.specs.List.{list_any, AllByRecursion}
 use Rattle.std.specs.Str.{bytes_eq}
@@ -11,12 +12,15 @@ use Rattle.mmsyntax.specs.declared.symbols.Name.TheVariants.{Constant, Variable,
 use Rattle.mmtext.specs.declared.fault.FaultKind.{FaultKind}
 use Rattle.mmtext.specs.Words.{Word, has_dollar, has_dot, is_label, has_hypothesis_form}
 use Rattle.mmsyntax.specs.Tables.{Tables, place_of, float_of, named, meaning}
-use Rattle.mmsyntax.specs.Rows.{Known, no_units, nothing, in_prelude, Pass, symbol_tests, label_tests, float_label_tests, type_named, type_of, variable_named, variable_of, with_constant, with_variable, with_float, with_hypothesis_label, with_assertion}
+use Rattle.mmsyntax.specs.Rows.{Known, no_units, nothing, in_prelude, Pass, symbol_tests, label_tests, float_label_tests, type_named}
+use Rattle.mmsyntax.specs.Rows.{type_of, variable_named, variable_of, with_constant, with_variable, with_float, with_hypothesis_label}
+use Rattle.mmsyntax.specs.Rows.{with_assertion}
 use Rattle.mmsyntax.specs.Grammar.{DeclaresConstants, DeclaresVariables}
 pub use Rattle.mmsyntax.specs.Preludes.{IsSymbolWord, IsLabelWord, IsFloatSound, AreSound, variables_used}
 use Rattle.mmsyntax.specs.Assertions.{Distinct, IsUnit, is_lawful_label}
 use Rattle.mmsyntax.proofs.Names.{place_of-at, variable_from_named, bytes_eq-sym}
-use Rattle.mmsyntax.proofs.Distinct.{distinct_insert, float_labels, labels_of, prelude_names, is_some-meaning, is_some-place_of, IsNew, new_word, all_push, all_weaker}
+use Rattle.mmsyntax.proofs.Distinct.{distinct_insert, float_labels, labels_of, prelude_names, is_some-meaning, is_some-place_of, IsNew}
+use Rattle.mmsyntax.proofs.Distinct.{new_word, all_push, all_weaker}
 use Rattle.mmsyntax.proofs.Lines.{IsWord}
 
 -- the tables alone

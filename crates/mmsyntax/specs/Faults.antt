@@ -17,7 +17,8 @@ use Rattle.mmtext.specs.Languages.{Language, fault, Faulty}
 use Rattle.mmsyntax.specs.Rows.{Known, nothing, prelude_alone, Tests, first_fault, in_prelude, symbol_tests, float_label_tests}
 use Rattle.mmsyntax.specs.Rows.{assertion_label_tests, symbol_of, type_of, variable_of, with_constant, with_variable, with_float}
 use Rattle.mmsyntax.specs.Rows.{with_hypothesis_label, with_assertion}
-use Rattle.mmsyntax.specs.Blocks.{Block, no_block, distinct_of, with_distinct, hypothesis_label_tests, with_hypothesis, axiom_of, theorem_of}
+use Rattle.mmsyntax.specs.Blocks.{Block, no_block, distinct_of, with_distinct, hypothesis_label_tests, with_hypothesis, axiom_of}
+use Rattle.mmsyntax.specs.Blocks.{theorem_of}
 use Rattle.mmsyntax.specs.Steps.{step_of}
 
 -- ---- places

@@ -13,7 +13,8 @@ use Rattle.mmsyntax.specs.declared.statement.Float.{Float as FloatOf}
 use Rattle.mmsyntax.specs.declared.statement.Assertion.{Assertion}
 use Rattle.mmtext.specs.Words.{Word}
 use Rattle.mmsyntax.specs.Tables.{Contents, Tables}
-use Rattle.mmsyntax.specs.Grammar.{Claim, asserted, proved, Piece, distinct, hypothesis, Statement, constants, variables, float, alone, block}
+use Rattle.mmsyntax.specs.Grammar.{Claim, asserted, proved, Piece, distinct, hypothesis, Statement, constants, variables, float, alone}
+use Rattle.mmsyntax.specs.Grammar.{block}
 use Rattle.mmsyntax.specs.Grammar.{claim_spelling, piece_spelling, spelling, Spells, SpellsUnit}
 
 -- ---- words

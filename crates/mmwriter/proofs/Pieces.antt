@@ -1,5 +1,6 @@
 -- The lines of the pieces of a block, one behind the other, and of a unit with a block.
-use Rattle.std.proofs.Common.{◌≡◌, ℕ, suc, ◌+◌, ◌<◌, eqb, false, List, [], ◌∷◌, ◌++◌, length, get_or, take, map, refl, sym, ap, ◌∙◌, ◌⊎◌, inl, inr, arith, append_assoc}
+use Rattle.std.proofs.Common.{◌≡◌, ℕ, suc, ◌+◌, ◌<◌, eqb, false, List, [], ◌∷◌, ◌++◌, length, get_or, take, map, refl, sym, ap, ◌∙◌, ◌⊎◌}
+use Rattle.std.proofs.Common.{inl, inr, arith, append_assoc}
 use Rattle.std.specs.List.{flat_map}
 use Rattle.std.proofs.lemmas.List.{append-nil, take_more, length-take-le}
 use Rattle.std.proofs.lemmas.List.Concat.{flat_map-cons}
@@ -9,7 +10,8 @@ use Rattle.mmsyntax.specs.declared.statement.Assertion.{Assertion}
 use Rattle.mmtext.specs.Words.{Word}
 use Rattle.mmsyntax.specs.Tables.{Tables}
 use Rattle.mmsyntax.specs.Grammar.{Piece, hypothesis, block, piece_spelling}
-use Rattle.mmsyntax.specs.Layout.{hypothesis_label, symbol_word, distinct_pieces, hypothesis_pieces, claim_of, unit_of, indented, statement_text, assertion_text}
+use Rattle.mmsyntax.specs.Layout.{hypothesis_label, symbol_word, distinct_pieces, hypothesis_pieces, claim_of, unit_of, indented}
+use Rattle.mmsyntax.specs.Layout.{statement_text, assertion_text}
 
 -- the lines of pieces
 abbrev pub piece_lines : List Piece → List ℕ

@@ -1,11 +1,13 @@
 -- Each test of a citation tells what it is the test of.
-use Rattle.std.proofs.Common.{◌≡◌, ℕ, zero, suc, ◌<◌, ◌≤◌, Bool, true, false, cond, List, [], ◌∷◌, ◌⊎◌, inl, inr, Option, None, Some, All, Contains}
+use Rattle.std.proofs.Common.{◌≡◌, ℕ, zero, suc, ◌<◌, ◌≤◌, Bool, true, false, cond, List, [], ◌∷◌, ◌⊎◌, inl, inr, Option, None, Some, All}
+use Rattle.std.proofs.Common.{Contains}
 use Rattle.std.proofs.Common.{length, slice_get, Result, Ok, Err, refl, sym, ap, ◌∙◌, arith, eqb}
 use Rattle.std.specs.Prelude.{◌||◌}
 use Rattle.std.specs.Bool.{Decides}
 use Rattle.std.specs.List.{list_any, list_all}
 use mathlib.Core.Bool.{not}
-use Rattle.std.proofs.lemmas.Bool.Decides.{Decides-eqb, Decides-ltb, Decides-and, Decides-or, Decides-not, Decides-like, Decides-by_and, not_from_Decides}
+use Rattle.std.proofs.lemmas.Bool.Decides.{Decides-eqb, Decides-ltb, Decides-and, Decides-or, Decides-not, Decides-like, Decides-by_and}
+use Rattle.std.proofs.lemmas.Bool.Decides.{not_from_Decides}
 use Rattle.std.proofs.lemmas.Slice.Eq.{slice_eq-Decides}
 use Rattle.std.proofs.lemmas.List.Elements.{Contains-get_or, All-contains}
 use Rattle.mmsyntax.specs.declared.statement.Symbol.{Symbol}
@@ -17,7 +19,8 @@ use Rattle.mmsyntax.specs.declared.statement.Assertion.{Assertion}
 use Rattle.proofcheck.specs.declared.fault.ProofFaultKind.{ProofFaultKind}
 use Rattle.proofcheck.specs.declared.fault.ProofFaultKind.TheVariants.{WrongType, HypothesisDiffers, NotDisjoint, TooLong}
 use Rattle.mmstatement.specs.Substitution.{replacement}
-use Rattle.proofcheck.specs.Derivation.{Expression, Gives, IsApart, AreApart, HaveTypes, TypesFit, HypothesesFit, PairsFit, conclusion, arity}
+use Rattle.proofcheck.specs.Derivation.{Expression, Gives, IsApart, AreApart, HaveTypes, TypesFit, HypothesesFit, PairsFit, conclusion}
+use Rattle.proofcheck.specs.Derivation.{arity}
 use Rattle.proofcheck.specs.Derivation.{in_order, substitution}
 use Rattle.proofcheck.specs.Faults.{FailsTest}
 use Rattle.proofcheck.specs.Outcomes.{begins_with_type, types_fit, same_symbol, same_expression, hypotheses_fit, same_pair, symbols_apart}
@@ -39,8 +42,8 @@ types-decide : (p : Tables) (floats : List ℕ) (es : List Expression) → Decid
 types-decide p [] es = (λ _. tt, λ _. refl)
 types-decide p (i ∷ is) [] = (λ h. absurd cc, λ h. absurd h)
 types-decide p (i ∷ is) (e ∷ es) =
-    Decides-and (begins_with_type (slice_get p.floats i) (slice_get e 0)) (types_fit p is es) (begins (slice_get p.floats i) (slice_get e 0))
-    (types-decide p is es)
+    Decides-and (begins_with_type (slice_get p.floats i) (slice_get e 0)) (types_fit p is es)
+    (begins (slice_get p.floats i) (slice_get e 0)) (types-decide p is es)
 
 -- ---- expressions
 
@@ -104,8 +107,8 @@ apart-all pairs d e =
     (λ h. λ k x lt. λ m y lt'. λ u v ex ey. h.apart u v (rw ex at (Contains-get_or d k x lt)) (rw ey at (Contains-get_or e m y lt')))
     (Decides-by_and (λ x. list_all (symbols_apart pairs x) e) (λ x. All (λ y. Apart pairs x y) e)
     (list_all (λ x. list_all (symbols_apart pairs x) e))
-    (λ x. Decides-by_and (symbols_apart pairs x) (λ y. Apart pairs x y) (list_all (symbols_apart pairs x)) (λ y. apart-decides pairs x y) refl
-    (λ _ _. refl) e) refl (λ _ _. refl) d)
+    (λ x. Decides-by_and (symbols_apart pairs x) (λ y. Apart pairs x y) (list_all (symbols_apart pairs x))
+    (λ y. apart-decides pairs x y) refl (λ _ _. refl) e) refl (λ _ _. refl) d)
 
 pairs_fit-decides : (a : Assertion) (f : Frame) (es : List Expression) → Decides (pairs_fit a f es) (PairsFit a f es)
 pairs_fit-decides a f es =

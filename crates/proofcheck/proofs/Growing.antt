@@ -1,6 +1,7 @@
 -- A forest that grows step by step: each step moves over its expressions, or fails; and what is left over is the outcome.
 use Rattle.std.proofs.Common.{◌≡◌, ℕ, ◌+◌, ◌-◌, ◌≤◌, Bool, true, false, cond, List, [], ◌∷◌, ◌++◌, Option, None, Some, length, take, drop}
-use Rattle.std.proofs.Common.{slice_get, Result, Ok, Err, refl, sym, ap, subst, ◌∙◌, append-nil, append_assoc, arith, take-append-drop, Contains, zero, suc, ltb, length-append}
+use Rattle.std.proofs.Common.{slice_get, Result, Ok, Err, refl, sym, ap, subst, ◌∙◌, append-nil, append_assoc, arith, take-append-drop}
+use Rattle.std.proofs.Common.{Contains, zero, suc, ltb, length-append}
 use Rattle.std.specs.List.{AllByRecursion}
 use Rattle.std.specs.Bool.{Decides}
 use Rattle.std.proofs.Math.Seq.{take-append_seam}
@@ -123,7 +124,11 @@ module _ (lib : Citable) (p : Tables) (a : Assertion) where
       ap (λ k. drop (k - arity f) (expressions_of gs)) (length-map gs (λ (g : Grown). g.gives)) ∙ expressions_above n gs in
       let given = subst (λ es. IsCited p a f es (Ok x)) above gives in
       let args = derive-each (drop n gs) (all_drop n gs h) in (
-        (f, e, (expressions_of (take n gs), expressions_of (drop n gs), x, expressions_parts n gs, given, expressions_of-append (take n gs) (g ∷ []))),
+        (
+          f,
+          e,
+          (expressions_of (take n gs), expressions_of (drop n gs), x, expressions_parts n gs, given, expressions_of-append (take n gs) (g ∷ [])),
+        ),
         one_more (take n gs) g (all_take n gs h) (f, expressions_of (drop n gs), e, args, given),
         listings_of (take n gs) (g ∷ [])
             ∙ ap (λ xs. listings (trees_of (take n gs)) ++ xs) (append-nil (listing g.tree))
@@ -170,7 +175,8 @@ module _ (lib : Citable) (p : Tables) (a : Assertion) where
       → IsOutcome lib p a (left_over a.statement (length a.proof) gs)
   end-is [] runs h l = end-fault lib p a [] (end-at NotOneLeft) runs refl (λ e. let bad : 0 ≡ 1 = e in absurd (omega arith))
   end-is (g ∷ []) runs h l =
-      one-left g (same_expression g.gives a.statement) (expressions-decide g.gives a.statement) runs h.0 (sym (append-nil (listing g.tree)) ∙ l)
+      one-left g (same_expression g.gives a.statement) (expressions-decide g.gives a.statement) runs h.0
+      (sym (append-nil (listing g.tree)) ∙ l)
   end-is (g ∷ k ∷ gs) runs h l =
       end-fault lib p a (expressions_of (g ∷ k ∷ gs)) (end-at NotOneLeft) runs refl
       (λ e. let bad : length (expressions_of (g ∷ k ∷ gs)) ≡ 1 = e in absurd (omega arith))

@@ -14,8 +14,8 @@ pub fn trees()
     ensures { TreeIsOne }
 {}
 
-/// Steps come to one outcome: the tree of which they are the listing, where it derives the statement, or their fault. It is that of a forest
-/// that grows step by step, and depends on no more of what may be cited than the labels that the steps cite.
+/// Steps come to one outcome: the tree of which they are the listing, where it derives the statement, or their fault. It is that of a
+/// forest that grows step by step, and depends on no more of what may be cited than the labels that the steps cite.
 pub fn outcomes()
     ensures one { OutcomeIsOne }
     ensures grown { OutcomeIsGrown }

@@ -6,13 +6,13 @@ ghost use Rattle.mmsyntax.specs.Faults.{outermost_row, block_row, close_row, key
 ghost use Rattle.mmsyntax.specs.Faults.{theorem_row, proof_row, behind, block_of, in_place, Stands};
 ghost use Rattle.mmtext.specs.Views.{seen};
 ghost use Rattle.mmtext.specs.declared.mark.Mark.TheVariants.{Floating, Essential};
-ghost use Rattle.mmreader.specs.Views.{seen_scope, seen_place, seen_unit_place, known_of, Leads};
+ghost use Rattle.mmreader.specs.Views.{seen_scope, seen_behind, seen_unit_place, known_of, Leads};
 
 use super::labels::{MOST_SYMBOLS, hypothesis_label_fault, label_fault, symbol_at};
 use super::steps::{restrict, step_at};
 use crate::block::Block;
 use crate::known::Units;
-use crate::place::{Place, PreludePlace, Scope, UnitPlace};
+use crate::place::{Behind, Place, PreludePlace, Scope, UnitPlace};
 use mmsyntax::{Assertion, Kind, Sequence, Step, Symbol, SymbolTable};
 use mmtext::{FaultKind, Mark, Stop, Token, fault_at, is_label_token};
 use std::alloc::{AllocError, Global};
@@ -232,13 +232,13 @@ fn hypothesis<'a>(
     }
 }
 
-/// The place behind an assertion.
-fn place_behind<'a>(scope: &Scope<'_>) -> Place<'a>
-    ensures { seen_place result ≡ behind (seen_scope scope.now) }
+/// Where a text goes on behind the assertion of a scope.
+fn behind(scope: &Scope<'_>) -> Behind
+    ensures { seen_behind result ≡ behind (seen_scope scope.now) }
 {
     match scope {
-        Scope::Outside => Place::Unit(UnitPlace::AtStart(Scope::Outside)),
-        Scope::Inside(_) => Place::Unit(UnitPlace::AtClose),
+        Scope::Outside => Behind::Statement,
+        Scope::Inside(_) => Behind::BlockEnd,
     }
 }
 
@@ -282,11 +282,11 @@ fn axiom_symbol<'a>(
         (axiom_row (known_of symbols.now units.old) (seen_scope scope.entry) label.entry.now expression.items (seen token.entry) mark) }
 {
     if mark == Mark::End && !expression.is_empty() {
-        let next = place_behind(&scope);
+        let next = behind(&scope);
         let steps = Vec::new(alloc);
         let assertion = assertion_in(alloc, scope, label, Kind::Axiom, expression, steps)?;
         units.add_assertion(alloc, assertion)?;
-        return Ok(next);
+        return Ok(next.place());
     }
     match symbol_at(symbols, expression.len(), token.text) {
         Ok(s) => {
@@ -341,10 +341,10 @@ fn proof_step<'a>(
         mark) }
 {
     if mark == Mark::End && !steps.is_empty() {
-        let next = place_behind(&scope);
+        let next = behind(&scope);
         let assertion = assertion_in(alloc, scope, label, Kind::Theorem, expression, steps)?;
         units.add_assertion(alloc, assertion)?;
-        return Ok(next);
+        return Ok(next.place());
     }
     match step_at(alloc, symbols, &scope, steps.len(), token.text)? {
         Ok(step) => {

@@ -78,8 +78,8 @@ fn advance<'a>(
 }
 
 /// The unit of a text that ends in a state. `length` is that of the text.
-fn finish(units: Units, state: State<'_>, length: usize) -> Result<Assertion, Stop>
-    ensures { (t : Tables) → Gives (λ a. a) result (finished length (said_at (unit_language t) (seen_state t units state.entry))) }
+fn finish(units: Units, state: &State<'_>, length: usize) -> Result<Assertion, Stop>
+    ensures { (t : Tables) → Gives (λ a. a) result (finished length (said_at (unit_language t) (seen_state t units state.now))) }
 {
     if state.in_comment || !is_outermost(&state.place) {
         return Err(unfinished_at(length));
@@ -109,7 +109,7 @@ fn read_tokens(
         at = token.place + token.text.len();
         state = advance(alloc, symbols, &mut units, state, token)?;
     }
-    finish(units, state, text.len())
+    finish(units, &state, text.len())
 }
 
 /// The unit that a text is: its length is tested first, then its bytes, then its tokens.

@@ -9,10 +9,14 @@ use Rattle.mmreader.proofs.DatabaseLaws.{database_grammar}
 use Rattle.mmreader.proofs.reading.read_database.Goals as goal
 
 pub into_database-requires : goal.into_database-requires
-into_database-requires c = record { text = c.args.text.now; spells = read_spelled database_language Spells database_grammar c.args.text.now _ c.in-Ok.ensures }
+into_database-requires c = record {
+  text = c.args.text.now;
+  spells = read_spelled database_language Spells database_grammar c.args.text.now _ c.in-Ok.ensures;
+}
 
 pub returns-in-Ok-clause-found : goal.returns-in-Ok-clause-found
-returns-in-Ok-clause-found c = rw c.into_database.ensures (read_spelled database_language Spells database_grammar c.args.text.now _ c.in-Ok.ensures)
+returns-in-Ok-clause-found c =
+    rw c.into_database.ensures (read_spelled database_language Spells database_grammar c.args.text.now _ c.in-Ok.ensures)
 
 pub returns-in-Ok-clause-only : goal.returns-in-Ok-clause-only
 returns-in-Ok-clause-only c = λ db short s.
