@@ -16,7 +16,7 @@ use Rattle.proofcheck.proofs.Outcome.{outcome-tree, outcome-fault}
 use Rattle.library.specs.declared.library.Ranked.{Ranked}
 use Rattle.library.specs.declared.reason.Reason.TheVariants.{ProofFails}
 use Rattle.library.specs.Library.{Setting, label_of, lower, citable}
-use Rattle.library.specs.Edits.{has, fault_of, unproved}
+use Rattle.library.specs.Edits.{has, fault_of, proof_fails}
 use Rattle.library.proofs.Frames.{frame_found, frame_given}
 use Rattle.library.proofs.Lower.{lower_all, lower_has, lower_distinct}
 use Rattle.library.proofs.Places.{has_at}
@@ -66,12 +66,12 @@ frame-below t m xs rank i e x at below =
 
 -- ---- proofs
 
-pub unproved-none : (s : Setting) (lib : List Ranked) (rank : ℕ) (a : Assertion) → a.kind ≡ Theorem
-    → Checks (citable s lib rank) s.prelude a → unproved s lib rank a ≡ None
-unproved-none s lib rank a theorem checks =
+pub proof_fails-none : (s : Setting) (lib : List Ranked) (rank : ℕ) (a : Assertion) → a.kind ≡ Theorem
+    → Checks (citable s lib rank) s.prelude a → proof_fails s lib rank a ≡ None
+proof_fails-none s lib rank a theorem checks =
     let proof = checks theorem in
     ap fault_of (outcome-tree (citable s lib rank) s.prelude a proof.0 proof.1 proof.2)
 
-pub unproved-fault : (s : Setting) (lib : List Ranked) (rank : ℕ) (a : Assertion) (fault : ProofFault)
-    → HasProofFault (citable s lib rank) s.prelude a fault → unproved s lib rank a ≡ Some (ProofFails fault)
-unproved-fault s lib rank a fault h = ap fault_of (outcome-fault (citable s lib rank) s.prelude a fault h.1)
+pub proof_fails-fault : (s : Setting) (lib : List Ranked) (rank : ℕ) (a : Assertion) (fault : ProofFault)
+    → HasProofFault (citable s lib rank) s.prelude a fault → proof_fails s lib rank a ≡ Some (ProofFails fault)
+proof_fails-fault s lib rank a fault h = ap fault_of (outcome-fault (citable s lib rank) s.prelude a fault h.1)

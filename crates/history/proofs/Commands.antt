@@ -2,7 +2,6 @@
 use Rattle.std.proofs.Common.{◌≡◌, ℕ, Bool, true, false, List, [], ◌∷◌, ◌++◌, Option, None, Some, Result, Ok, Err, length, set, refl, sym, ap, subst, ◌∙◌}
 use Rattle.std.specs.Prelude.{nat_le, ◌==◌}
 use Rattle.std.specs.List.{list_any}
-use Rattle.std.specs.Str.{bytes_eq}
 use Rattle.std.specs.Option.{is_some}
 use mathlib.Core.Bool.{not}
 use Rattle.std.proofs.lemmas.Bool.{cond-true, cond-false}
@@ -13,7 +12,7 @@ use Rattle.library.specs.declared.reason.Reason.{Reason}
 use Rattle.library.specs.declared.reason.Reason.TheVariants as reason
 use Rattle.library.specs.Library.{Setting, label_of}
 use Rattle.library.specs.Edits.{Edited, Tests, tested, of_found, where_so, has, found, is_labelled, changed, without}
-use Rattle.library.specs.Edits.{is_axiom, unranked, unlawful, taken, uncited, cites_unknown, added, rename, add_tests}
+use Rattle.library.specs.Edits.{is_axiom, bad_rank, bad_label, label_taken, cites_unknown, is_of_unknown, added, rename, add_tests}
 use Rattle.library.proofs.Editing.{where_none}
 use Rattle.library.proofs.Places.{find_nowhere, is_labelled-own}
 use Rattle.history.specs.Entries.{Entries, living, StandsIn}
@@ -74,29 +73,29 @@ pub add_front : (s : Setting) (lib : List Ranked) (rank : ℕ) (a : Assertion) �
     → has lib a.label ≡ false
     → first_reason (add_tests s lib rank a) ≡ first_reason (where_so (is_axiom a.kind) reason.AxiomNotAllowed ∷ (proof_tests s lib rank a ++ where_so (nat_le s.slots (length lib)) reason.LibraryFull ∷ []))
 add_front s lib rank a ranked lawful free =
-    first-none (unranked rank) _ (not_so (rank == 0) reason.BadRank ranked)
-    ∙ first-none (unlawful s a.label) _ (not_so (not (is_lawful_label s.prelude a.label)) reason.BadLabel (ap not lawful))
-    ∙ first-none (taken lib a.label) _ (not_so (has lib a.label) reason.LabelTaken free)
+    first-none (bad_rank rank) _ (not_so (rank == 0) reason.BadRank ranked)
+    ∙ first-none (bad_label s a.label) _ (not_so (not (is_lawful_label s.prelude a.label)) reason.BadLabel (ap not lawful))
+    ∙ first-none (label_taken lib a.label) _ (not_so (has lib a.label) reason.LabelTaken free)
 
 -- what may be added has a label that is free
 pub add_free : (s : Setting) (lib : List Ranked) (rank : ℕ) (a : Assertion) → first_reason (add_tests s lib rank a) ≡ None → has lib a.label ≡ false
 add_free s lib rank a h =
-    where_none (has lib a.label) reason.LabelTaken (first-parts (taken lib a.label) _ (first-parts (unlawful s a.label) _ (first-parts (unranked rank) _ h).1).1).0
+    where_none (has lib a.label) reason.LabelTaken (first-parts (label_taken lib a.label) _ (first-parts (bad_label s a.label) _ (first-parts (bad_rank rank) _ h).1).1).0
 
 -- and cites known labels alone
 pub add_known : (s : Setting) (lib : List Ranked) (rank : ℕ) (a : Assertion) → first_reason (add_tests s lib rank a) ≡ None
-    → list_any (cites_unknown lib) a.proof ≡ false
+    → list_any (is_of_unknown lib) a.proof ≡ false
 add_known s lib rank a h =
-    let labelled = (first-parts (unlawful s a.label) _ (first-parts (unranked rank) _ h).1).1 in
-    let theorem = (first-parts (taken lib a.label) _ labelled).1 in
+    let labelled = (first-parts (bad_label s a.label) _ (first-parts (bad_rank rank) _ h).1).1 in
+    let theorem = (first-parts (label_taken lib a.label) _ labelled).1 in
     let proof = (first-parts (where_so (is_axiom a.kind) reason.AxiomNotAllowed) _ theorem).1 in
-    where_none (list_any (cites_unknown lib) a.proof) reason.CitesUnknown (first-parts (uncited lib a.proof) _ proof).0
+    where_none (list_any (is_of_unknown lib) a.proof) reason.CitesUnknown (first-parts (cites_unknown lib a.proof) _ proof).0
 
 -- ---- labels
 
-pub unknown_label : (lib : List Ranked) (w : List ℕ) (f : Ranked → Result Edited Reason) → has lib w ≡ false
+pub found_nowhere : (lib : List Ranked) (w : List ℕ) (f : Ranked → Result Edited Reason) → has lib w ≡ false
     → of_found (found lib w) f ≡ Err reason.UnknownLabel
-unknown_label lib w f h = ap (λ o. of_found o f) (find_nowhere lib w h)
+found_nowhere lib w f h = ap (λ o. of_found o f) (find_nowhere lib w h)
 
 -- the assertion at a place has the label
 pub record HasLabel (m : Places) (es : Entries) (w : List ℕ) (p : ℕ) (e : Ranked) : Type 0 where

@@ -17,7 +17,7 @@ use Rattle.mmsyntax.proofs.Names.{same_bytes}
 use Rattle.proofcheck.specs.Derivation.{Citable, Checks}
 use Rattle.library.specs.declared.library.Ranked.{Ranked}
 use Rattle.library.specs.Library.{Setting, Verifies, citable}
-use Rattle.library.specs.Edits.{has, is_citation, cites, cites_unknown}
+use Rattle.library.specs.Edits.{has, is_citation, cites, is_of_unknown}
 use Rattle.library.proofs.Derivations.{NamesOne, steps_named}
 use Rattle.history.specs.Entries.{Entries, living, StandsIn}
 use Rattle.history.proofs.Living.{stands-living}
@@ -57,13 +57,13 @@ verified-uncited s es w v free q f at =
         (steps_named lib s.prelude a a.proof a.statement (checks is))
 
 -- steps that cite known labels alone don't cite one that is free
-pub known-uncited : (lib : List Ranked) (w : List ℕ) (steps : List Step) → has lib w ≡ false → list_any (cites_unknown lib) steps ≡ false
+pub known-uncited : (lib : List Ranked) (w : List ℕ) (steps : List Step) → has lib w ≡ false → list_any (is_of_unknown lib) steps ≡ false
     → list_any (is_citation w) steps ≡ false
 known-uncited lib w [] free h = refl
 known-uncited lib w (Float i ∷ steps) free h = known-uncited lib w steps free h
 known-uncited lib w (Hyp k ∷ steps) free h = known-uncited lib w steps free h
 known-uncited lib w (Cite l ∷ steps) free h =
-    let both = or_false (not (has lib l)) (list_any (cites_unknown lib) steps) h in
+    let both = or_false (not (has lib l)) (list_any (is_of_unknown lib) steps) h in
     both_false (bytes_eq w l) (list_any (is_citation w) steps) (elim (cases_Bool (bytes_eq w l)) [
       | inl y ↦
           let unknown : has lib l ≡ false = ap (has lib) (sym (same_bytes w l y)) ∙ free in

@@ -4,7 +4,7 @@ use Rattle.mmsyntax.specs.declared.statement.Assertion.{Assertion}
 use Rattle.library.specs.declared.library.Ranked.{Ranked}
 use Rattle.library.specs.declared.reason.Reason.{Reason}
 use Rattle.library.specs.Library.{Setting}
-use Rattle.library.specs.Edits.{Tests, uncited, cited_above, unproved}
+use Rattle.library.specs.Edits.{Tests, cites_unknown, cited_not_lower, proof_fails}
 
 abbrev pub first_reason : Tests → Option Reason
 first_reason [] = None
@@ -13,4 +13,4 @@ first_reason (Some r ∷ ts) = Some r
 
 -- the tests of the proof of a theorem of a rank, in order
 abbrev pub proof_tests : Setting → List Ranked → ℕ → Assertion → Tests
-proof_tests s lib rank a = uncited lib a.proof ∷ cited_above lib rank a.proof ∷ unproved s lib rank a ∷ []
+proof_tests s lib rank a = cites_unknown lib a.proof ∷ cited_not_lower lib rank a.proof ∷ proof_fails s lib rank a ∷ []

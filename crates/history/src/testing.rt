@@ -5,7 +5,7 @@ ghost use Rattle.std.specs.List.{list_any};
 ghost use Rattle.std.specs.List.Sorted.{IsStrictlyIncreasing};
 ghost use Rattle.std.specs.Option.{option_copied};
 ghost use Rattle.mmsyntax.specs.declared.statement.Kind.TheVariants.{Theorem};
-ghost use Rattle.library.specs.Edits.{found, is_citation, cites, citers as citers_of, cites_unknown, cites_not_below, unproved};
+ghost use Rattle.library.specs.Edits.{found, is_citation, cites, citers as citers_of, is_of_unknown, cites_not_below, proof_fails};
 ghost use Rattle.library.specs.declared.reason.Reason.TheVariants as reason;
 ghost use Rattle.history.specs.Entries.{living, AreFramed};
 ghost use Rattle.history.specs.Places.{IsIndex};
@@ -92,7 +92,7 @@ pub(crate) fn count_citers(entries: &[Option<Ranked>], citers: &[usize], label: 
 /// Whether a step cites a label that no assertion has.
 fn is_of_unknown(entries: &[Option<Ranked>], places: &Places, step: &Step) -> bool
     requires { IsIndex places.now entries.now }
-    ensures { result ≡ cites_unknown (living entries.now) step.now }
+    ensures { result ≡ is_of_unknown (living entries.now) step.now }
 {
     match step {
         Step::Float(_) | Step::Hyp(_) => false,
@@ -103,7 +103,7 @@ fn is_of_unknown(entries: &[Option<Ranked>], places: &Places, step: &Step) -> bo
 /// Whether some step cites a label that no assertion has.
 pub(crate) fn cites_unknown(entries: &[Option<Ranked>], places: &Places, steps: &[Step]) -> bool
     requires { IsIndex places.now entries.now }
-    ensures { result ≡ list_any (cites_unknown (living entries.now)) steps.now }
+    ensures { result ≡ list_any (is_of_unknown (living entries.now)) steps.now }
 {
     steps
         .iter()
@@ -199,7 +199,7 @@ pub(crate) fn proof_fault(
     requires framed { AreFramed prelude.now entries.now frames.now }
     requires theorem { assertion.now.kind ≡ Theorem }
     ensures { (slots : ℕ) → IfOk result (λ fault. option_map reason.ProofFails fault
-        ≡ unproved (record { prelude = prelude.now; slots = slots }) (living entries.now) rank assertion.now) }
+        ≡ proof_fails (record { prelude = prelude.now; slots = slots }) (living entries.now) rank assertion.now) }
 {
     let lower = Lower {
         prelude,

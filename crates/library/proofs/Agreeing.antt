@@ -1,11 +1,10 @@
 -- What is told of a transaction agrees with every later history; and the replies of a legal history fit.
-use Rattle.std.proofs.Common.{◌≡◌, ℕ, ◌+◌, ◌≤◌, List, length, take, Some, Ok, Err, sym, ap, subst, ◌∙◌, arith}
-use Rattle.std.specs.Prelude.{All, slice_get}
+use Rattle.std.proofs.Common.{◌≡◌, ℕ, ◌≤◌, List, length, Ok, Err, sym, subst, arith}
+use Rattle.std.specs.Prelude.{All}
 use Rattle.std.proofs.lemmas.Option.{slice_get_within, get_or_from_slice_get}
 use Rattle.library.specs.declared.library.Ranked.{Ranked}
-use Rattle.library.specs.declared.command.Command.{Command}
 use Rattle.library.specs.Library.{Setting, ShowsInOrder}
-use Rattle.library.specs.Transactions.{Applied, apply}
+use Rattle.library.specs.Transactions.{apply}
 use Rattle.library.specs.Fitting.{CommandFits}
 use Rattle.library.specs.Histories.{Entry, open_entry, done_entry, EntryFits, after, Grows, IsSettledBefore}
 use Rattle.library.specs.Agrees.{committed, read, refused, snapshot, ReadsOver}

@@ -24,7 +24,7 @@ use Rattle.library.specs.declared.reason.Reason.TheVariants.{NotATheorem, Librar
 use Rattle.library.specs.declared.reason.Refused.{Refused}
 use Rattle.library.specs.Library.{Setting, Verifies, label_of, citable, in_export_order}
 use Rattle.library.specs.Edits.{Edited, Tests, tested, of_found, done, has, found, cites, citers, added, changed, with_rank, with_proof}
-use Rattle.library.specs.Edits.{rename, without, where_so, is_axiom, unranked, unlawful, cites_not_below, cited, fault_of, unproved}
+use Rattle.library.specs.Edits.{rename, without, where_so, is_axiom, bad_rank, bad_label, cites_not_below, still_cited, fault_of, proof_fails}
 use Rattle.library.specs.Edits.{add_tests, reprove_tests, rename_tests, move_tests, shown, line, edit}
 use Rattle.library.specs.Fitting.{CommandFits, highest_rank}
 use Rattle.library.specs.Transactions.{Applied, with_reply, then_apply, apply_from, apply, library_of}
@@ -57,8 +57,8 @@ pub where_none : (b : Bool) (r : Reason) → where_so b r ≡ None → b ≡ fal
 where_none true r h = absurd cc
 where_none false r h = refl
 
-not_unproved : (s : Setting) (lib : List Ranked) (e : Ranked) → unproved s lib e.rank e.assertion ≡ None → ChecksIn s lib e
-not_unproved s lib e h theorem =
+proof_checks : (s : Setting) (lib : List Ranked) (e : Ranked) → proof_fails s lib e.rank e.assertion ≡ None → ChecksIn s lib e
+proof_checks s lib e h theorem =
     proved (outcome (citable s lib e.rank) s.prelude e.assertion) (outcome-is (citable s lib e.rank) s.prelude e.assertion) h
   where
     proved : (r : Result Tree ProofFault) → IsOutcome (citable s lib e.rank) s.prelude e.assertion r → fault_of r ≡ None
@@ -67,12 +67,12 @@ not_unproved s lib e h theorem =
     proved (Err fault) is none = absurd cc
 
 -- a rank that is not 0 is at least 1
-ranked_where : (rank : ℕ) → unranked rank ≡ None → 1 ≤ rank
+ranked_where : (rank : ℕ) → bad_rank rank ≡ None → 1 ≤ rank
 ranked_where rank h =
     let ne = eqb-false rank 0 (where_none (rank == 0) BadRank h) in
     omega arith
 
-lawful_where : (s : Setting) (label : List ℕ) → unlawful s label ≡ None → IsTrue (is_lawful_label s.prelude label)
+lawful_where : (s : Setting) (label : List ℕ) → bad_label s label ≡ None → IsTrue (is_lawful_label s.prelude label)
 lawful_where s label h =
     not-false (is_lawful_label s.prelude label) (where_none (not (is_lawful_label s.prelude label)) BadLabel h)
 
@@ -99,14 +99,14 @@ add_kept s lib rank a v fits t =
     let e : Ranked = record { rank = rank; assertion = a } in
     let free = where_none (has lib a.label) LabelTaken t.1.1.0 in
     let room = leb-false s.slots (length lib) (where_none (nat_le s.slots (length lib)) LibraryFull behind.1.0) in
-    add_verifies s lib e v (ranked_where rank t.0, fits.0) (lawful_where s a.label t.1.0) free room fits.1 (not_unproved s lib e behind.0)
+    add_verifies s lib e v (ranked_where rank t.0, fits.0) (lawful_where s a.label t.1.0) free room fits.1 (proof_checks s lib e behind.0)
 
 reprove_kept : (s : Setting) (lib : List Ranked) (label : List ℕ) (steps : List Step) (e : Ranked) → Verifies s lib
     → found lib label ≡ Some e → length steps ≤ 16384 → NoneRefuses (reprove_tests s lib steps e)
     → Verifies s (changed label (with_proof steps) lib)
 reprove_kept s lib label steps e v here few t =
     let theorem = where_none (is_axiom e.assertion.kind) NotATheorem t.0 in
-    reprove_verifies s lib label steps e v here theorem few (not_unproved s lib (with_proof steps e) t.1.1.1.0)
+    reprove_verifies s lib label steps e v here theorem few (proof_checks s lib (with_proof steps e) t.1.1.1.0)
 
 rename_kept : (s : Setting) (lib : List Ranked) (old new : List ℕ) → Verifies s lib → NoneRefuses (rename_tests s lib old new)
     → Verifies s (rename old new lib)
@@ -120,7 +120,7 @@ move_kept s lib label rank e v here fits t =
     (where_none (list_any (cites_not_below lib rank) e.assertion.proof) CitedNotLower t.1.0)
     (where_none (list_any (λ f. cites (label_of e) f && nat_le f.rank rank) lib) CiterNotHigher t.1.1.0)
 
-delete_kept : (s : Setting) (lib : List Ranked) (label : List ℕ) → Verifies s lib → cited lib label ≡ None
+delete_kept : (s : Setting) (lib : List Ranked) (label : List ℕ) → Verifies s lib → still_cited lib label ≡ None
     → Verifies s (without label lib)
 delete_kept s lib label v t =
     let few = leb-false 1 (citers lib label) (where_none (nat_le 1 (citers lib label)) (StillCited (citers lib label)) t) in
@@ -145,7 +145,7 @@ edit_verifies s lib (Move label rank) e v fits h =
     found_kept s (found lib label) (λ f. tested (move_tests lib rank f) next) e
     (λ f here. edit_kept s (move_tests lib rank f) next e (move_kept s lib label rank f v here fits)) h
 edit_verifies s lib (Delete label) e v fits h =
-    let ts : Tests = cited lib label ∷ [] in
+    let ts : Tests = still_cited lib label ∷ [] in
     let next = done (without label lib) in
     found_kept s (found lib label) (λ f. tested ts next) e
     (λ f here. edit_kept s ts next e (λ t. delete_kept s lib label v t.0)) h

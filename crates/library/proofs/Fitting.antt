@@ -12,9 +12,9 @@ use Rattle.library.specs.declared.command.Reply.{Reply}
 use Rattle.library.specs.declared.reason.Reason.{Reason}
 use Rattle.library.specs.declared.reason.Refused.{Refused as Refusal}
 use Rattle.library.specs.Library.{Setting, Verifies}
-use Rattle.library.specs.Edits.{Edited, Tests, tested, of_found, found, add_tests, reprove_tests, rename_tests, move_tests, cited, is_labelled, edit}
+use Rattle.library.specs.Edits.{Edited, Tests, tested, of_found, found, add_tests, reprove_tests, rename_tests, move_tests, still_cited, is_labelled, edit}
 use Rattle.library.specs.Fitting.{CommandFits, ReplyFits}
-use Rattle.library.specs.Transactions.{Applied, with_reply, then_apply, apply_from, apply}
+use Rattle.library.specs.Transactions.{Applied, with_reply, then_apply, apply_from}
 use Rattle.library.specs.Laws.{RepliesFit}
 use Rattle.library.proofs.Editing.{edit_verifies}
 
@@ -54,7 +54,7 @@ edit_fits s lib (command.Reprove label steps) v =
     of_found_fits s (found lib label) _ (λ e at. tested_fits s (reprove_tests s lib steps e) _ tt)
 edit_fits s lib (command.Rename old new) v = tested_fits s (rename_tests s lib old new) _ tt
 edit_fits s lib (command.Move label rank) v = of_found_fits s (found lib label) _ (λ e at. tested_fits s (move_tests lib rank e) _ tt)
-edit_fits s lib (command.Delete label) v = of_found_fits s (found lib label) _ (λ e at. tested_fits s (cited lib label ∷ []) _ tt)
+edit_fits s lib (command.Delete label) v = of_found_fits s (found lib label) _ (λ e at. tested_fits s (still_cited lib label ∷ []) _ tt)
 edit_fits s lib (command.Show label) v =
     of_found_fits s (found lib label) _
     (λ e at. found_holds (λ x. Fits s.prelude x.assertion) (is_labelled label) lib e (recursion_from_All _ lib v.fit) at)

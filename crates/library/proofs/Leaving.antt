@@ -9,7 +9,7 @@ use Rattle.library.specs.declared.reason.Reason.{Reason}
 use Rattle.library.specs.declared.reason.Refused.{Refused as Refusal}
 use Rattle.library.specs.Library.{Setting}
 use Rattle.library.specs.Edits.{Edited, is_edit, of_found, found, shown, edit}
-use Rattle.library.specs.Transactions.{Applied, with_reply, then_apply, apply_from, apply, has_edit}
+use Rattle.library.specs.Transactions.{Applied, with_reply, then_apply, apply_from, has_edit}
 use Rattle.library.specs.Laws.{ReadsLeave}
 
 abbrev Leaves : List Ranked → Result Edited Reason → Type 0

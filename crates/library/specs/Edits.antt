@@ -101,30 +101,30 @@ is_axiom Axiom = true
 is_axiom Theorem = false
 
 -- no assertion has the label
-abbrev pub unknown : List Ranked → List ℕ → Option Reason
-unknown lib label = where_so (not (has lib label)) reason.UnknownLabel
+abbrev pub unknown_label : List Ranked → List ℕ → Option Reason
+unknown_label lib label = where_so (not (has lib label)) reason.UnknownLabel
 
 -- no assertion may have the label
-abbrev pub unlawful : Setting → List ℕ → Option Reason
-unlawful s label = where_so (not (is_lawful_label s.prelude label)) reason.BadLabel
+abbrev pub bad_label : Setting → List ℕ → Option Reason
+bad_label s label = where_so (not (is_lawful_label s.prelude label)) reason.BadLabel
 
 -- another assertion has the label
-abbrev pub taken : List Ranked → List ℕ → Option Reason
-taken lib label = where_so (has lib label) reason.LabelTaken
+abbrev pub label_taken : List Ranked → List ℕ → Option Reason
+label_taken lib label = where_so (has lib label) reason.LabelTaken
 
 -- a rank is at least 1
-abbrev pub unranked : ℕ → Option Reason
-unranked rank = where_so (rank == 0) reason.BadRank
+abbrev pub bad_rank : ℕ → Option Reason
+bad_rank rank = where_so (rank == 0) reason.BadRank
 
 -- whether a step cites a label that no assertion has
-abbrev pub cites_unknown : List Ranked → Step → Bool
-cites_unknown lib (Float i) = false
-cites_unknown lib (Hyp k) = false
-cites_unknown lib (Cite label) = not (has lib label)
+abbrev pub is_of_unknown : List Ranked → Step → Bool
+is_of_unknown lib (Float i) = false
+is_of_unknown lib (Hyp k) = false
+is_of_unknown lib (Cite label) = not (has lib label)
 
 -- some step does
-abbrev pub uncited : List Ranked → List Step → Option Reason
-uncited lib steps = where_so (list_any (cites_unknown lib) steps) reason.CitesUnknown
+abbrev pub cites_unknown : List Ranked → List Step → Option Reason
+cites_unknown lib steps = where_so (list_any (is_of_unknown lib) steps) reason.CitesUnknown
 
 -- whether the assertion with the label has this rank or a higher one
 abbrev pub is_not_below : ℕ → Option Ranked → Bool
@@ -138,36 +138,36 @@ cites_not_below lib rank (Hyp k) = false
 cites_not_below lib rank (Cite label) = is_not_below rank (found lib label)
 
 -- some step does
-abbrev pub cited_above : List Ranked → ℕ → List Step → Option Reason
-cited_above lib rank steps = where_so (list_any (cites_not_below lib rank) steps) reason.CitedNotLower
+abbrev pub cited_not_lower : List Ranked → ℕ → List Step → Option Reason
+cited_not_lower lib rank steps = where_so (list_any (cites_not_below lib rank) steps) reason.CitedNotLower
 
 -- an assertion that cites the label isn't above the rank
-abbrev pub citer_below : List Ranked → ℕ → List ℕ → Option Reason
-citer_below lib rank label = where_so (list_any (λ e. cites label e && nat_le e.rank rank) lib) reason.CiterNotHigher
+abbrev pub citer_not_higher : List Ranked → ℕ → List ℕ → Option Reason
+citer_not_higher lib rank label = where_so (list_any (λ e. cites label e && nat_le e.rank rank) lib) reason.CiterNotHigher
 
 -- a proof cites the label
-abbrev pub cited : List Ranked → List ℕ → Option Reason
-cited lib label = where_so (nat_le 1 (citers lib label)) (reason.StillCited (citers lib label))
+abbrev pub still_cited : List Ranked → List ℕ → Option Reason
+still_cited lib label = where_so (nat_le 1 (citers lib label)) (reason.StillCited (citers lib label))
 
 abbrev pub fault_of : Result Tree ProofFault → Option Reason
 fault_of (Ok tree) = None
 fault_of (Err fault) = Some (reason.ProofFails fault)
 
 -- the steps of a theorem of this rank aren't the listing of a tree that derives its statement over the assertions of lower rank
-abbrev pub unproved : Setting → List Ranked → ℕ → Assertion → Option Reason
-unproved s lib rank a = fault_of (outcome (citable s lib rank) s.prelude a)
+abbrev pub proof_fails : Setting → List Ranked → ℕ → Assertion → Option Reason
+proof_fails s lib rank a = fault_of (outcome (citable s lib rank) s.prelude a)
 
 -- ---- the tests of each command, in order
 
 abbrev pub add_tests : Setting → List Ranked → ℕ → Assertion → Tests
 add_tests s lib rank a =
-    unranked rank
-    ∷ unlawful s a.label
-    ∷ taken lib a.label
+    bad_rank rank
+    ∷ bad_label s a.label
+    ∷ label_taken lib a.label
     ∷ where_so (is_axiom a.kind) reason.AxiomNotAllowed
-    ∷ uncited lib a.proof
-    ∷ cited_above lib rank a.proof
-    ∷ unproved s lib rank a
+    ∷ cites_unknown lib a.proof
+    ∷ cited_not_lower lib rank a.proof
+    ∷ proof_fails s lib rank a
     ∷ where_so (nat_le s.slots (length lib)) reason.LibraryFull
     ∷ []
 
@@ -175,17 +175,17 @@ add_tests s lib rank a =
 abbrev pub reprove_tests : Setting → List Ranked → List Step → Ranked → Tests
 reprove_tests s lib steps e =
     where_so (is_axiom e.assertion.kind) reason.NotATheorem
-    ∷ uncited lib steps
-    ∷ cited_above lib e.rank steps
-    ∷ unproved s lib e.rank (with_proof steps e).assertion
+    ∷ cites_unknown lib steps
+    ∷ cited_not_lower lib e.rank steps
+    ∷ proof_fails s lib e.rank (with_proof steps e).assertion
     ∷ []
 
 abbrev pub rename_tests : Setting → List Ranked → List ℕ → List ℕ → Tests
-rename_tests s lib old new = unknown lib old ∷ unlawful s new ∷ taken lib new ∷ []
+rename_tests s lib old new = unknown_label lib old ∷ bad_label s new ∷ label_taken lib new ∷ []
 
 -- of the assertion that is found
 abbrev pub move_tests : List Ranked → ℕ → Ranked → Tests
-move_tests lib rank e = unranked rank ∷ cited_above lib rank e.assertion.proof ∷ citer_below lib rank (label_of e) ∷ []
+move_tests lib rank e = bad_rank rank ∷ cited_not_lower lib rank e.assertion.proof ∷ citer_not_higher lib rank (label_of e) ∷ []
 
 -- ---- edits
 
@@ -228,6 +228,6 @@ edit s lib (command.Reprove label steps) =
 edit s lib (command.Rename old new) = tested (rename_tests s lib old new) (done (rename old new lib))
 edit s lib (command.Move label rank) =
     of_found (found lib label) (λ e. tested (move_tests lib rank e) (done (changed label (with_rank rank) lib)))
-edit s lib (command.Delete label) = of_found (found lib label) (λ e. tested (cited lib label ∷ []) (done (without label lib)))
+edit s lib (command.Delete label) = of_found (found lib label) (λ e. tested (still_cited lib label ∷ []) (done (without label lib)))
 edit s lib (command.Show label) = of_found (found lib label) (λ e. Ok (shown lib e))
 edit s lib command.List = Ok (listed lib)

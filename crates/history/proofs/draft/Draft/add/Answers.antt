@@ -4,7 +4,7 @@ use Rattle.mmsyntax.specs.declared.statement.Assertion.{Assertion}
 use Rattle.mmstatement.specs.Frames.{frame}
 use Rattle.library.specs.declared.library.Ranked.{Ranked}
 use Rattle.library.specs.Library.{Setting, label_of}
-use Rattle.library.specs.Edits.{has, cites_unknown, done, add_tests}
+use Rattle.library.specs.Edits.{has, is_of_unknown, done, add_tests}
 use Rattle.history.specs.Entries.{Entries, living, StandsIn}
 use Rattle.history.specs.Listing.{some_cites}
 use Rattle.history.specs.Drafts.{Drafted, now_in}
@@ -59,8 +59,8 @@ put-requires-clause-covered c =
     let new : Ranked = record { rank = c.args.rank; assertion = b } in
     let tests = sym c.in_ok-reason.ensures ∙ c.in_default.is in
     let free : has lib b.label ≡ false = ap (λ (x : Assertion). has lib x.label) c.in_ok-assertion.ensures ∙ add_free d.setting lib c.args.rank a tests in
-    let known : list_any (cites_unknown lib) b.proof ≡ false =
-    ap (λ (x : Assertion). list_any (cites_unknown lib) x.proof) c.in_ok-assertion.ensures ∙ add_known d.setting lib c.args.rank a tests in
+    let known : list_any (is_of_unknown lib) b.proof ≡ false =
+    ap (λ (x : Assertion). list_any (is_of_unknown lib) x.proof) c.in_ok-assertion.ensures ∙ add_known d.setting lib c.args.rank a tests in
     let now : next.entries ≡ d.entries ++ None ∷ [] = cited.entries ∙ c.in_ok-place.ensures.entries in
     covers-fresh next.citers next.entries p new cited.covered
     (λ q f at. verified-uncited d.setting d.entries b.label c.requires free q f (stands-opened d.entries q f (subst (λ es. StandsIn es q f) now at)))

@@ -2,10 +2,10 @@ use Rattle.std.proofs.Common.{◌≡◌, ◌∷◌, [], Ok, Err, refl, sym, ap, 
 use Rattle.std.specs.Prelude.{nat_le}
 use Rattle.std.proofs.lemmas.Bool.{le-leb, lt-leb}
 use Rattle.library.specs.declared.reason.Reason.TheVariants as reason
-use Rattle.library.specs.Edits.{done, cited, citers}
+use Rattle.library.specs.Edits.{done, still_cited, citers}
 use Rattle.history.specs.Entries.{living}
 use Rattle.history.specs.Drafts.{Drafted, now_in}
-use Rattle.history.proofs.Commands.{tested_some, tested_none, so, not_so, first-some, first-none, unknown_label, known_label, HasLabel, has_label, free_in}
+use Rattle.history.proofs.Commands.{tested_some, tested_none, so, not_so, first-some, first-none, found_nowhere, known_label, HasLabel, has_label, free_in}
 use Rattle.history.proofs.Commands.{library-without}
 use Rattle.history.proofs.draft.Draft.delete.Goals as goal
 
@@ -17,7 +17,7 @@ returns-in_default-clause-taken c =
     let held : i.entries.items ≡ d.entries = ap (λ (x : Drafted). x.entries) c.self.view_is in
     let slice : c.as_slice-entries.result.now ≡ i.entries.items = c.as_slice-entries.ensures.value in
     let w = c.args.label.now in
-    rw c.refused.ensures (refl, unknown_label lib w _ (free_in _ d.entries _ w (slice ∙ held) c.as_slice.ensures c.in_default.ensures))
+    rw c.refused.ensures (refl, found_nowhere lib w _ (free_in _ d.entries _ w (slice ∙ held) c.as_slice.ensures c.in_default.ensures))
 
 pub returns-then-citers-gt0-clause-taken : goal.returns-then-citers-gt0-clause-taken
 returns-then-citers-gt0-clause-taken c =
@@ -38,7 +38,7 @@ returns-then-citers-gt0-clause-taken c =
     let many = so (nat_le 1 (citers lib w)) (reason.StillCited (citers lib w)) (le-leb 1 (citers lib w) (omega arith)) in
     rw c.refused-then-citers-gt0.ensures (
       refl,
-      known_label i.places d.entries w p e _ own ∙ tested_some (cited lib w ∷ []) _ _ (first-some (cited lib w) [] _ many)
+      known_label i.places d.entries w p e _ own ∙ tested_some (still_cited lib w ∷ []) _ _ (first-some (still_cited lib w) [] _ many)
           ∙ ap (λ n. Err (reason.StillCited n)) (sym count),
     )
 
@@ -59,5 +59,5 @@ returns-clause-taken c =
     c.count_citers-citers.ensures ∙ ap (citers lib) c.as_slice-2.ensures in
     let none = c.if-citers-gt0.false in
     let few = not_so (nat_le 1 (citers lib w)) (reason.StillCited (citers lib w)) (lt-leb 1 (citers lib w) (omega arith)) in
-    known_label i.places d.entries w p e _ own ∙ tested_none (cited lib w ∷ []) _ (first-none (cited lib w) [] few)
+    known_label i.places d.entries w p e _ own ∙ tested_none (still_cited lib w ∷ []) _ (first-none (still_cited lib w) [] few)
     ∙ ap (λ l. Ok (done l)) (sym (library-without i.places d.entries w p e own) ∙ ap living (sym c.in_ok-remove.ensures.done.entries))

@@ -7,13 +7,13 @@ use Rattle.mmsyntax.specs.declared.statement.Step.{Step}
 use Rattle.library.specs.declared.library.Ranked.{Ranked}
 use Rattle.library.specs.declared.reason.Reason.TheVariants as reason
 use Rattle.library.specs.Library.{label_of}
-use Rattle.library.specs.Edits.{done, cites, cited_above, cites_not_below, citer_below, with_rank, move_tests, unranked}
+use Rattle.library.specs.Edits.{done, cites, cited_not_lower, cites_not_below, citer_not_higher, with_rank, move_tests, bad_rank}
 use Rattle.history.specs.Entries.{Entries, living, StandsIn}
 use Rattle.history.specs.Places.{StandsAt}
 use Rattle.history.specs.Citers.{Covers, HasAllCiters}
 use Rattle.history.specs.Drafts.{Drafted, now_in}
 use Rattle.history.proofs.Covering.{all-listed, list-within, covers-replaced}
-use Rattle.history.proofs.Commands.{tested_some, tested_none, so, not_so, first-some, first-none, unknown_label, known_label, HasLabel, has_label, free_in}
+use Rattle.history.proofs.Commands.{tested_some, tested_none, so, not_so, first-some, first-none, found_nowhere, known_label, HasLabel, has_label, free_in}
 use Rattle.history.proofs.Commands.{library-changed}
 use Rattle.history.proofs.draft.Draft.move_to.Goals as goal
 
@@ -25,7 +25,7 @@ returns-in_default-clause-taken c =
     let held : i.entries.items ≡ d.entries = ap (λ (x : Drafted). x.entries) c.self.view_is in
     let slice : c.as_slice-entries.result.now ≡ i.entries.items = c.as_slice-entries.ensures.value in
     let w = c.args.label.now in
-    rw c.refused.ensures (refl, unknown_label lib w _ (free_in _ d.entries _ w (slice ∙ held) c.as_slice.ensures c.in_default.ensures.none))
+    rw c.refused.ensures (refl, found_nowhere lib w _ (free_in _ d.entries _ w (slice ∙ held) c.as_slice.ensures c.in_default.ensures.none))
 
 pub returns-then-rank-eq0-clause-taken : goal.returns-then-rank-eq0-clause-taken
 returns-then-rank-eq0-clause-taken c =
@@ -45,7 +45,7 @@ returns-then-rank-eq0-clause-taken c =
     let bad = so (rank == 0) reason.BadRank (eq-eqb rank 0 c.if-rank-eq0.true) in
     rw c.refused-then-rank-eq0.ensures (
       refl,
-      known_label i.places d.entries w p e _ own ∙ tested_some (move_tests lib rank e) _ reason.BadRank (first-some (unranked rank) _ reason.BadRank bad),
+      known_label i.places d.entries w p e _ own ∙ tested_some (move_tests lib rank e) _ reason.BadRank (first-some (bad_rank rank) _ reason.BadRank bad),
     )
 
 -- what the test of the cited assertions answers, over the library and the proof
@@ -79,7 +79,7 @@ returns-then-cites_not_below-clause-taken c =
     let rank = c.args.rank in
     let ranked = not_so (rank == 0) reason.BadRank (ne_eqb rank 0 c.if-rank-eq0.false) in
     let not_below = below _ d.entries rank _ steps _ true (slice ∙ held) c.as_slice-2.ensures c.cites_not_below.ensures c.if-cites_not_below.true in
-    let first = first-none (unranked rank) _ ranked ∙ first-some (cited_above lib rank steps) _ reason.CitedNotLower (so _ reason.CitedNotLower not_below) in
+    let first = first-none (bad_rank rank) _ ranked ∙ first-some (cited_not_lower lib rank steps) _ reason.CitedNotLower (so _ reason.CitedNotLower not_below) in
     rw c.refused-then-cites_not_below.ensures (refl, known_label i.places d.entries w p e _ own ∙ tested_some (move_tests lib rank e) _ reason.CitedNotLower first)
 
 pub has_citer_below-requires : goal.has_citer_below-requires
@@ -135,8 +135,8 @@ returns-then-has_citer_below-clause-taken c =
     let not_above =
     above _ d.entries rank _ (label_of e) _ true (slice ∙ held) (c.as_slice-3.ensures ∙ sym own.labelled) c.has_citer_below.ensures c.if-has_citer_below.true in
     let first =
-    first-none (unranked rank) _ ranked ∙ first-none (cited_above lib rank steps) _ (not_so _ reason.CitedNotLower all_below)
-    ∙ first-some (citer_below lib rank (label_of e)) _ reason.CiterNotHigher (so _ reason.CiterNotHigher not_above) in
+    first-none (bad_rank rank) _ ranked ∙ first-none (cited_not_lower lib rank steps) _ (not_so _ reason.CitedNotLower all_below)
+    ∙ first-some (citer_not_higher lib rank (label_of e)) _ reason.CiterNotHigher (so _ reason.CiterNotHigher not_above) in
     rw c.refused-then-has_citer_below.ensures (refl, known_label i.places d.entries w p e _ own ∙ tested_some (move_tests lib rank e) _ reason.CiterNotHigher first)
 
 pub returns-clause-taken : goal.returns-clause-taken
@@ -159,8 +159,8 @@ returns-clause-taken c =
     let all_above =
     above _ d.entries rank _ (label_of e) _ false (slice ∙ held) (c.as_slice-3.ensures ∙ sym own.labelled) c.has_citer_below.ensures c.if-has_citer_below.false in
     let first =
-    first-none (unranked rank) _ ranked ∙ first-none (cited_above lib rank steps) _ (not_so _ reason.CitedNotLower all_below)
-    ∙ first-none (citer_below lib rank (label_of e)) _ (not_so _ reason.CiterNotHigher all_above) in
+    first-none (bad_rank rank) _ ranked ∙ first-none (cited_not_lower lib rank steps) _ (not_so _ reason.CitedNotLower all_below)
+    ∙ first-none (citer_not_higher lib rank (label_of e)) _ (not_so _ reason.CiterNotHigher all_above) in
     let moved : record { rank = rank; assertion = c.in_ok-moved.moved.assertion } ≡ with_rank rank e = ap (with_rank rank) c.in_ok-moved.ensures in
     let now = c.in_ok-replace.ensures.done.entries ∙ ap (λ (x : Ranked). set d.entries p (Some x)) moved in
     known_label i.places d.entries w p e _ own ∙ tested_none (move_tests lib rank e) _ first

@@ -7,7 +7,7 @@ use Rattle.proofcheck.specs.declared.fault.ProofFault.{ProofFault}
 use Rattle.library.specs.declared.reason.Reason.{Reason}
 use Rattle.library.specs.declared.reason.Reason.TheVariants as reason
 use Rattle.library.specs.Library.{Setting}
-use Rattle.library.specs.Edits.{cites_unknown, cites_not_below, unproved, uncited, cited_above}
+use Rattle.library.specs.Edits.{is_of_unknown, cites_not_below, proof_fails, cites_unknown, cited_not_lower}
 use Rattle.history.specs.Entries.{Entries, living}
 use Rattle.history.specs.Drafts.{Drafted}
 use Rattle.history.specs.Refusals.{first_reason, proof_tests}
@@ -17,17 +17,17 @@ use Rattle.history.proofs.draft.Draft.refuse_proof.Goals as goal
 -- the steps pass, and what is left is the fault of the proof
 passed : (s : Setting) (slice held : Entries) (rank : ℕ) (steps : List Step) (a : Assertion) (u v : Bool) (o : Option ProofFault)
     → slice ≡ held → steps ≡ a.proof
-    → u ≡ list_any (cites_unknown (living slice)) steps → u ≡ false → v ≡ list_any (cites_not_below (living slice) rank) steps → v ≡ false
-    → option_map reason.ProofFails o ≡ unproved s (living slice) rank a
+    → u ≡ list_any (is_of_unknown (living slice)) steps → u ≡ false → v ≡ list_any (cites_not_below (living slice) rank) steps → v ≡ false
+    → option_map reason.ProofFails o ≡ proof_fails s (living slice) rank a
     → option_map reason.ProofFails o ≡ first_reason (proof_tests s (living held) rank a)
 passed s slice held rank steps a u v o same own known no_unknown below no_above fault =
     let lib = living held in
-    let first : list_any (cites_unknown lib) a.proof ≡ false =
-    sym (known ∙ ap (λ l. list_any (cites_unknown (living l)) steps) same ∙ ap (list_any (cites_unknown lib)) own) ∙ no_unknown in
+    let first : list_any (is_of_unknown lib) a.proof ≡ false =
+    sym (known ∙ ap (λ l. list_any (is_of_unknown (living l)) steps) same ∙ ap (list_any (is_of_unknown lib)) own) ∙ no_unknown in
     let second : list_any (cites_not_below lib rank) a.proof ≡ false =
     sym (below ∙ ap (λ l. list_any (cites_not_below (living l) rank) steps) same ∙ ap (list_any (cites_not_below lib rank)) own) ∙ no_above in
-    fault ∙ ap (λ l. unproved s (living l) rank a) same ∙ only (unproved s lib rank a)
-    ∙ sym (first-none (uncited lib a.proof) _ (not_so _ reason.CitesUnknown first) ∙ first-none (cited_above lib rank a.proof) _ (not_so _ reason.CitedNotLower second))
+    fault ∙ ap (λ l. proof_fails s (living l) rank a) same ∙ only (proof_fails s lib rank a)
+    ∙ sym (first-none (cites_unknown lib a.proof) _ (not_so _ reason.CitesUnknown first) ∙ first-none (cited_not_lower lib rank a.proof) _ (not_so _ reason.CitedNotLower second))
   where
     only : (t : Option Reason) → t ≡ first_reason (t ∷ [])
     only None = refl
@@ -39,7 +39,7 @@ returns-in-Some c =
     let i = c.self.inside in
     let a = c.args.assertion.now in
     let held = c.as_slice-entries.ensures.value ∙ ap (λ (x : Drafted). x.entries) c.self.view_is in
-    let fault = c.in_ok-fault.ensures i.slots ∙ ap (λ (x : Drafted). unproved x.setting (living c.as_slice-entries.result.now) c.args.rank a) c.self.view_is in
+    let fault = c.in_ok-fault.ensures i.slots ∙ ap (λ (x : Drafted). proof_fails x.setting (living c.as_slice-entries.result.now) c.args.rank a) c.self.view_is in
     ap (option_map reason.ProofFails) (sym c.in-Some.is)
     ∙ passed d.setting c.as_slice-entries.result.now d.entries c.args.rank c.as_slice-steps.result.now a _ _ c.in_ok-fault.fault held c.as_slice-steps.ensures c.cites_unknown.ensures c.if-cites_unknown.false c.cites_not_below.ensures c.if-cites_not_below.false fault
 
@@ -49,6 +49,6 @@ returns-in-None c =
     let i = c.self.inside in
     let a = c.args.assertion.now in
     let held = c.as_slice-entries.ensures.value ∙ ap (λ (x : Drafted). x.entries) c.self.view_is in
-    let fault = c.in_ok-fault.ensures i.slots ∙ ap (λ (x : Drafted). unproved x.setting (living c.as_slice-entries.result.now) c.args.rank a) c.self.view_is in
+    let fault = c.in_ok-fault.ensures i.slots ∙ ap (λ (x : Drafted). proof_fails x.setting (living c.as_slice-entries.result.now) c.args.rank a) c.self.view_is in
     ap (option_map reason.ProofFails) (sym c.in-None.is)
     ∙ passed d.setting c.as_slice-entries.result.now d.entries c.args.rank c.as_slice-steps.result.now a _ _ c.in_ok-fault.fault held c.as_slice-steps.ensures c.cites_unknown.ensures c.if-cites_unknown.false c.cites_not_below.ensures c.if-cites_not_below.false fault

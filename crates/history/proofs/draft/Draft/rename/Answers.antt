@@ -6,7 +6,7 @@ use Rattle.mmsyntax.specs.Assertions.{is_lawful_label}
 use Rattle.mmstatement.specs.Frames.{frame}
 use Rattle.library.specs.declared.library.Ranked.{Ranked}
 use Rattle.library.specs.declared.reason.Reason.TheVariants as reason
-use Rattle.library.specs.Edits.{has, done, unknown, unlawful, taken, rename_tests}
+use Rattle.library.specs.Edits.{has, done, unknown_label, bad_label, label_taken, rename_tests}
 use Rattle.history.specs.Entries.{living, StandsIn}
 use Rattle.history.specs.Citers.{Covers, HasAllCiters, IsCiter}
 use Rattle.history.specs.Drafts.{Drafted, now_in, with_label, citing, changed_all}
@@ -35,7 +35,7 @@ returns-then-not-is_lawful_label-clause-taken c =
     ∙ ap (is_lawful_label i.prelude) (sym c.as_slice-3.ensures) ∙ sym c.is_lawful_label.ensures ∙ c.if-not-is_lawful_label.true in
     let there = not_so (not (has lib w)) reason.UnknownLabel (ap not (has_own i.places d.entries w p e own)) in
     let bad = so (not (is_lawful_label d.setting.prelude new)) reason.BadLabel (ap not lawful) in
-    let first = first-none (unknown lib w) _ there ∙ first-some (unlawful d.setting new) _ reason.BadLabel bad in
+    let first = first-none (unknown_label lib w) _ there ∙ first-some (bad_label d.setting new) _ reason.BadLabel bad in
     rw c.refused-then-not-is_lawful_label.ensures (refl, tested_some (rename_tests d.setting lib w new) _ reason.BadLabel first)
 
 pub returns-then-is_some-clause-taken : goal.returns-then-is_some-clause-taken
@@ -61,8 +61,8 @@ returns-then-is_some-clause-taken c =
     known c.as_slice-4.result.now d.entries c.as_slice-5.result.now new c.find_label.result c.is_some.result (c.as_slice-4.ensures.value ∙ held) c.as_slice-5.ensures c.find_label.ensures c.is_some.ensures
     ∙ c.if-is_some.true in
     let first =
-    first-none (unknown lib w) _ there ∙ first-none (unlawful d.setting new) _ good
-    ∙ first-some (taken lib new) _ reason.LabelTaken (so (has lib new) reason.LabelTaken here) in
+    first-none (unknown_label lib w) _ there ∙ first-none (bad_label d.setting new) _ good
+    ∙ first-some (label_taken lib new) _ reason.LabelTaken (so (has lib new) reason.LabelTaken here) in
     rw c.refused-then-is_some.ensures (refl, tested_some (rename_tests d.setting lib w new) _ reason.LabelTaken first)
 
 pub put-requires-clause-framed : goal.put-requires-clause-framed
@@ -193,8 +193,8 @@ returns-clause-taken c =
     known c.as_slice-4.result.now d.entries c.as_slice-5.result.now new c.find_label.result c.is_some.result (c.as_slice-4.ensures.value ∙ held) c.as_slice-5.ensures c.find_label.ensures c.is_some.ensures
     ∙ c.if-is_some.false in
     let first =
-    first-none (unknown lib w) _ there ∙ first-none (unlawful d.setting new) _ good
-    ∙ first-none (taken lib new) _ (not_so (has lib new) reason.LabelTaken here) in
+    first-none (unknown_label lib w) _ there ∙ first-none (bad_label d.setting new) _ good
+    ∙ first-none (label_taken lib new) _ (not_so (has lib new) reason.LabelTaken here) in
     let now =
     c.in_ok-recite_all.ensures.done ∙ ap (changed_all (citing w new)) c.in_ok-put.ensures.done.entries
     ∙ ap (λ (x : Ranked). changed_all (citing w new) (set d.entries p (Some x))) c.in_ok-renamed.ensures in

@@ -8,7 +8,7 @@ use Rattle.history.specs.Listing.{some_cites}
 use Rattle.history.specs.Drafts.{Drafted, now_in}
 use Rattle.history.specs.Refusals.{first_reason, proof_tests}
 use Rattle.history.proofs.Covering.{covers-replaced}
-use Rattle.history.proofs.Commands.{tested_some, tested_none, so, not_so, first-some, first-none, unknown_label, known_label, HasLabel, has_label, free_in}
+use Rattle.history.proofs.Commands.{tested_some, tested_none, so, not_so, first-some, first-none, found_nowhere, known_label, HasLabel, has_label, free_in}
 use Rattle.history.proofs.Commands.{library-changed}
 use Rattle.history.proofs.draft.Draft.reprove.Goals as goal
 
@@ -20,7 +20,7 @@ returns-in_default-clause-taken c =
     let held : i.entries.items ≡ d.entries = ap (λ (x : Drafted). x.entries) c.self.view_is in
     let slice : c.as_slice.result.now ≡ i.entries.items = c.as_slice.ensures.value in
     let w = c.args.label.now in
-    rw c.refused.ensures (refl, unknown_label lib w _ (free_in _ d.entries _ w (slice ∙ held) c.as_slice-2.ensures c.in_default.ensures.none))
+    rw c.refused.ensures (refl, found_nowhere lib w _ (free_in _ d.entries _ w (slice ∙ held) c.as_slice-2.ensures c.in_default.ensures.none))
 
 pub returns-in-Axiom-clause-taken : goal.returns-in-Axiom-clause-taken
 returns-in-Axiom-clause-taken c =

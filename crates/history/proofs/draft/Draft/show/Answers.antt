@@ -3,7 +3,7 @@ use Rattle.library.specs.declared.library.Ranked.{Ranked}
 use Rattle.library.specs.declared.command.Reply.TheVariants.{Shown}
 use Rattle.library.specs.Edits.{citers}
 use Rattle.history.specs.Drafts.{Drafted, now_in}
-use Rattle.history.proofs.Commands.{unknown_label, known_label, HasLabel, has_label, free_in}
+use Rattle.history.proofs.Commands.{found_nowhere, known_label, HasLabel, has_label, free_in}
 use Rattle.history.proofs.draft.Draft.show.Goals as goal
 
 pub returns-in_default : goal.returns-in_default
@@ -14,7 +14,7 @@ returns-in_default c =
     let held : i.entries.items ≡ d.entries = ap (λ (x : Drafted). x.entries) c.self.view_is in
     let slice : c.as_slice-entries.result.now ≡ i.entries.items = c.as_slice-entries.ensures.value in
     let w = c.args.label.now in
-    rw c.refused.ensures (refl, unknown_label lib w _ (free_in _ d.entries _ w (slice ∙ held) c.as_slice.ensures c.in_default.ensures.none))
+    rw c.refused.ensures (refl, found_nowhere lib w _ (free_in _ d.entries _ w (slice ∙ held) c.as_slice.ensures c.in_default.ensures.none))
 
 pub returns : goal.returns
 returns c =
