@@ -1,6 +1,6 @@
 //! Reading a script, token by token.
 
-ghost use Rattle.std.specs.Prelude.{◌≡◌, ◌≢◌, ◌≤◌, List, length, All, IfOk, IfErr};
+ghost use Rattle.std.specs.Prelude.{◌≡◌, ◌≢◌, ◌≤◌, ◌⊎◌, List, length, All, IfOk, IfErr};
 ghost use Rattle.mmtext.specs.declared.fault.FaultKind.TheVariants.{NoMemory};
 ghost use Rattle.mmtext.specs.declared.fault.TextFault.{TextFault};
 ghost use Rattle.mmtext.specs.Text.{Token as SeenToken};
@@ -197,6 +197,8 @@ pub fn read_script(alloc: Global, prelude: &Prelude, text: &[u8]) -> Result<Scri
         → ReadsScript result script }
     // Any other fault than want of memory is the text's.
     ensures fault { IfErr result (λ f. f.kind ≢ NoMemory → FaultyScript prelude.now text.now f) }
+    // A fault is the text's, or want of memory, whose place is 0.
+    ensures place { IfErr result (λ f. (f ≡ record { place = 0; kind = NoMemory }) ⊎ FaultyScript prelude.now text.now f) }
     // A text with a fault is refused with it, unless memory runs out.
     ensures refused { (f : TextFault) → FaultyScript prelude.now text.now f → RefusesScript result f }
 {

@@ -1,6 +1,6 @@
 //! Reading a history, token by token.
 
-ghost use Rattle.std.specs.Prelude.{◌≡◌, ◌≢◌, ◌≤◌, List, length, All, IfOk, IfErr};
+ghost use Rattle.std.specs.Prelude.{◌≡◌, ◌≢◌, ◌≤◌, ◌⊎◌, List, length, All, IfOk, IfErr};
 ghost use Rattle.mmtext.specs.declared.fault.FaultKind.TheVariants.{NoMemory};
 ghost use Rattle.mmtext.specs.declared.fault.TextFault.{TextFault};
 ghost use Rattle.mmtext.specs.Views.{seen, Gives};
@@ -180,6 +180,8 @@ pub fn read_history(alloc: Global, prelude: &Prelude, text: &[u8]) -> Result<His
     ensures only { (history : List Entry) → length text.now ≤ 16777216 → SpellsHistory prelude.now text.now history → Reads result history }
     // Any other fault than want of memory is the text's.
     ensures fault { IfErr result (λ f. f.kind ≢ NoMemory → FaultyHistory prelude.now text.now f) }
+    // A fault is the text's, or want of memory, whose place is 0.
+    ensures place { IfErr result (λ f. (f ≡ record { place = 0; kind = NoMemory }) ⊎ FaultyHistory prelude.now text.now f) }
     // A text with a fault is refused with it, unless memory runs out.
     ensures refused { (f : TextFault) → FaultyHistory prelude.now text.now f → Refuses result f }
 {

@@ -7,3 +7,4 @@ pub mod ReplayFaults
 pub mod Shown
 pub mod ReportLines
 pub mod Fronts
+pub mod LabelText

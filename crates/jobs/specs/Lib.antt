@@ -3,3 +3,4 @@ pub mod Reports
 pub mod FaultLines
 pub mod Jobs
 pub mod Tasks
+pub mod Laws

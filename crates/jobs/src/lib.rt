@@ -5,6 +5,7 @@ mod answering;
 mod edits;
 mod entries;
 mod job;
+mod laws;
 mod outcome;
 mod performing;
 mod replaying;
@@ -14,5 +15,6 @@ mod telling;
 
 pub use answering::{Answered, answer};
 pub use job::{Fault, Job, Printed};
+pub use laws::{fault_labels_are_shown, spelled_scripts_fit};
 pub use performing::perform;
 pub use task::{Task, job_of};

@@ -1,6 +1,6 @@
 //! Reading a database, token by token.
 
-ghost use Rattle.std.specs.Prelude.{◌≡◌, ◌≢◌, ◌≤◌, length, IfOk, IfErr};
+ghost use Rattle.std.specs.Prelude.{◌≡◌, ◌≢◌, ◌≤◌, ◌⊎◌, length, IfOk, IfErr};
 ghost use Rattle.mmtext.specs.declared.fault.TextFault.{TextFault};
 ghost use Rattle.mmtext.specs.declared.fault.FaultKind.TheVariants.{NoMemory};
 ghost use Rattle.mmsyntax.specs.Tables.{Contents};
@@ -171,6 +171,8 @@ pub fn read_database(alloc: Global, keys: RandomState, text: &[u8]) -> Result<Da
     ensures only { (db : Contents) → length text.now ≤ 16777216 → Spells text.now db → Reads result db }
     // Any other fault than want of memory is the text's.
     ensures fault { IfErr result (λ f. f.kind ≢ NoMemory → FaultyDatabase text.now f) }
+    // A fault is the text's, or want of memory, whose place is 0.
+    ensures place { IfErr result (λ f. (f ≡ record { place = 0; kind = NoMemory }) ⊎ FaultyDatabase text.now f) }
     // A text with a fault is refused with it, unless memory runs out.
     ensures refused { (f : TextFault) → FaultyDatabase text.now f → Refuses result f }
 {

@@ -1,6 +1,6 @@
 //! Reading a single assertion over a prelude, alone or in its block.
 
-ghost use Rattle.std.specs.Prelude.{◌≡◌, ◌≢◌, ◌≤◌, length, is_some, IfOk, IfErr};
+ghost use Rattle.std.specs.Prelude.{◌≡◌, ◌≢◌, ◌≤◌, ◌⊎◌, length, is_some, IfOk, IfErr};
 ghost use Rattle.mmtext.specs.declared.fault.TextFault.{TextFault};
 ghost use Rattle.mmtext.specs.declared.fault.FaultKind.TheVariants.{NoMemory};
 ghost use Rattle.mmsyntax.specs.declared.statement.Assertion.{Assertion};
@@ -149,6 +149,8 @@ pub fn read_assertion(
     ensures only { (a : Assertion) → length text.now ≤ 16777216 → SpellsUnit prelude.now text.now a → Reads result a }
     // Any other fault than want of memory is the text's.
     ensures fault { IfErr result (λ f. f.kind ≢ NoMemory → FaultyUnit prelude.now text.now f) }
+    // A fault is the text's, or want of memory, whose place is 0.
+    ensures place { IfErr result (λ f. (f ≡ record { place = 0; kind = NoMemory }) ⊎ FaultyUnit prelude.now text.now f) }
     // A text with a fault is refused with it, unless memory runs out.
     ensures refused { (f : TextFault) → FaultyUnit prelude.now text.now f → Refuses result f }
 {

@@ -1,5 +1,5 @@
 -- What is left to show of `read_history`.
-use Rattle.std.proofs.Common.{◌∙◌, inl}
+use Rattle.std.proofs.Common.{◌∙◌, inl, inr}
 use Rattle.historytext.specs.Places.{history_language}
 use Rattle.mmtext.proofs.Readings.{reading_fault, not_both, same_fault}
 use Rattle.mmtext.proofs.Turns.{fault_given}
@@ -33,6 +33,11 @@ pub returns-in-Err-Fault-clause-fault : goal.returns-in-Err-Fault-clause-fault
 returns-in-Err-Fault-clause-fault c = λ _.
     reading_fault (history_language c.args.prelude.now) c.args.text.now c.in-Err-Fault.fault
     (fault_given _ c.in-Err-Fault.fault _ c.in-Err-Fault.field-0-is c.in-Err-Fault.ensures)
+
+pub returns-in-Err-Fault-clause-place : goal.returns-in-Err-Fault-clause-place
+returns-in-Err-Fault-clause-place c = inr (
+    reading_fault (history_language c.args.prelude.now) c.args.text.now c.in-Err-Fault.fault
+    (fault_given _ c.in-Err-Fault.fault _ c.in-Err-Fault.field-0-is c.in-Err-Fault.ensures))
 
 pub returns-in-Err-Fault-clause-refused : goal.returns-in-Err-Fault-clause-refused
 returns-in-Err-Fault-clause-refused c = λ f faulty.

@@ -1,5 +1,5 @@
 -- What is left to show of `read_database`.
-use Rattle.std.proofs.Common.{◌∙◌, inl}
+use Rattle.std.proofs.Common.{◌∙◌, inl, inr}
 use Rattle.mmsyntax.specs.Faults.{database_language}
 use Rattle.mmsyntax.specs.Grammar.{Spells}
 use Rattle.mmtext.proofs.TextLaws.{read_spelled, spelled_answered, spelled_faultless}
@@ -34,6 +34,11 @@ pub returns-in-Err-Fault-clause-fault : goal.returns-in-Err-Fault-clause-fault
 returns-in-Err-Fault-clause-fault c = λ _.
     reading_fault database_language c.args.text.now c.in-Err-Fault.fault
     (fault_given _ c.in-Err-Fault.fault _ c.in-Err-Fault.field-0-is c.in-Err-Fault.ensures)
+
+pub returns-in-Err-Fault-clause-place : goal.returns-in-Err-Fault-clause-place
+returns-in-Err-Fault-clause-place c = inr (
+    reading_fault database_language c.args.text.now c.in-Err-Fault.fault
+    (fault_given _ c.in-Err-Fault.fault _ c.in-Err-Fault.field-0-is c.in-Err-Fault.ensures))
 
 pub returns-in-Err-Fault-clause-refused : goal.returns-in-Err-Fault-clause-refused
 returns-in-Err-Fault-clause-refused c = λ f faulty.

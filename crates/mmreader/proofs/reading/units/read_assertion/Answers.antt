@@ -1,5 +1,5 @@
 -- What is left to show of `read_assertion`.
-use Rattle.std.proofs.Common.{inl}
+use Rattle.std.proofs.Common.{inl, inr}
 use Rattle.mmsyntax.specs.Faults.{unit_language}
 use Rattle.mmsyntax.specs.Grammar.{SpellsUnit}
 use Rattle.mmtext.proofs.TextLaws.{read_spelled, spelled_answered, spelled_faultless}
@@ -38,6 +38,12 @@ returns-in-Err-Fault-clause-fault c = λ _.
     let given = fault_given _ c.in-Err-Fault.fault _ c.in-Err-Fault.field-0-is c.in-Err-Fault.ensures in
     let read = unit_err_over _ c.args.prelude.now c.args.text.now c.in-Err-Fault.fault c.symbols.ensures given in
     reading_fault (unit_language c.args.prelude.now) c.args.text.now c.in-Err-Fault.fault read
+
+pub returns-in-Err-Fault-clause-place : goal.returns-in-Err-Fault-clause-place
+returns-in-Err-Fault-clause-place c = inr (
+    let given = fault_given _ c.in-Err-Fault.fault _ c.in-Err-Fault.field-0-is c.in-Err-Fault.ensures in
+    let read = unit_err_over _ c.args.prelude.now c.args.text.now c.in-Err-Fault.fault c.symbols.ensures given in
+    reading_fault (unit_language c.args.prelude.now) c.args.text.now c.in-Err-Fault.fault read)
 
 pub returns-in-Err-Fault-clause-refused : goal.returns-in-Err-Fault-clause-refused
 returns-in-Err-Fault-clause-refused c = λ f faulty.

@@ -1,0 +1,5 @@
+use Rattle.commands.proofs.ScriptLaws.{script_fits}
+use Rattle.jobs.proofs.laws.spelled_scripts_fit.Goals as goal
+
+pub returns : goal.returns
+returns c = script_fits
