@@ -43,7 +43,8 @@ count_within (zero ∷ ps) c e = let a : count_placed ps ≤ length ps = count_a
 count_within (suc k ∷ ps) zero e = let a : Some (suc k) ≡ Some 0 = e in let b : suc k ≡ 0 = cc in absurd (omega arith)
 count_within (suc k ∷ ps) (suc c) e = let a : count_placed ps < length ps = count_within ps c e in omega (arith, a)
 
-count_set : (places : List ℕ) (c n : ℕ) → slice_get places c ≡ Some 0 → count_placed (slice_set places c (suc n)) ≡ suc (count_placed places)
+count_set : (places : List ℕ) (c n : ℕ) → slice_get places c ≡ Some 0 → count_placed (slice_set places c (suc n)) ≡ suc
+    (count_placed places)
 count_set [] c n e = absurd (cc)
 count_set (zero ∷ ps) zero n e = refl
 count_set (zero ∷ ps) (suc c) n e = count_set ps c n e
@@ -70,7 +71,8 @@ some_number o a b p q = let r : Some a ≡ Some b = sym p ∙ q in cc
 
 module _ (places : List ℕ) (entries : List Entry) (ix : IsIndexed places entries) (c : ℕ) (e : Entry) (at : e.cell ≡ c) where
   -- two ways to see a cell's slot agree where they do at each place that a cell has
-  same_at : (f g : ℕ → Slot) (j : ℕ) → f zero ≡ g zero → ((k : ℕ) (d : Entry) → slice_get entries k ≡ Some d → d.cell ≡ j → f (suc k) ≡ g (suc k))
+  same_at : (f g : ℕ → Slot) (j : ℕ) → f zero ≡ g zero → ((k : ℕ) (d : Entry) → slice_get entries k ≡ Some d → d.cell ≡ j → f (suc k) ≡ g
+      (suc k))
       → option_map f (slice_get places j) ≡ option_map g (slice_get places j)
   same_at f g j z s = go (slice_get places j) (λ k p. let d = ix.placed j k p in s k d.0 d.1 d.2)
     where
@@ -96,7 +98,8 @@ module _ (places : List ℕ) (entries : List Entry) (ix : IsIndexed places entri
         ∙ ap (slice_get (slice_set (slots_of places entries) c (slot_of e))) (sym p)))))
         (λ n. slice_get-map (slot_at more) after j
         ∙ (ap (option_map (slot_at more)) (get-set_other places c j (suc (length entries)) n)
-        ∙ (same_at (slot_at more) (slot_at entries) j refl (λ k d g _. ap slot_in (get-append_left entries (e ∷ []) k (get_within entries k d g)))
+        ∙ (same_at (slot_at more) (slot_at entries) j refl
+        (λ k d g _. ap slot_in (get-append_left entries (e ∷ []) k (get_within entries k d g)))
         ∙ (sym (slice_get-map (slot_at entries) places j) ∙ sym (get-set_other (slots_of places entries) c j (slot_of e) n))))))
 
     pub pushed_indexed : IsIndexed after more
@@ -105,7 +108,8 @@ module _ (places : List ℕ) (entries : List Entry) (ix : IsIndexed places entri
           each = λ k d g. ⊎_elim
               (λ p. let was : slice_get entries k ≡ Some d = sym p ∙ g in
               dite (ℕ_discrete d.cell c)
-              (λ q. let a : 0 ≡ suc k = some_number (slice_get places c) 0 (suc k) new (ap (slice_get places) (sym q) ∙ ix.each k d was) in absurd (omega (arith, a)))
+              (λ q. let a : 0 ≡ suc k = some_number (slice_get places c) 0 (suc k) new (ap (slice_get places) (sym q) ∙ ix.each k d was)
+              in absurd (omega (arith, a)))
               (λ n. get-set_other places c d.cell (suc (length entries)) n ∙ ix.each k d was))
               (λ p. let same : e ≡ d = some_other k e d (slice_get more k) p.1 g in
               ap (slice_get after) (ap (λ (x : Entry). x.cell) (sym same) ∙ at)
@@ -138,21 +142,24 @@ module _ (places : List ℕ) (entries : List Entry) (ix : IsIndexed places entri
         ∙ ap (slice_get (slice_set (slots_of places entries) c (slot_of e))) (sym p)))))
         (λ n. slice_get-map (slot_at set) places j
         ∙ (same_at (slot_at set) (slot_at entries) j refl (λ k d g q. ap slot_in (get-set_other entries i k e
-        (λ b. n (sym q ∙ (ap (λ (x : Entry). x.cell) (some_other k d old.0 (slice_get entries i) (ap (slice_get entries) (sym b) ∙ g) old.1) ∙ old.2)))))
+        (λ b. n (sym q ∙ (ap (λ (x : Entry). x.cell) (some_other k d old.0 (slice_get entries i) (ap (slice_get entries) (sym b) ∙ g)
+        old.1) ∙ old.2)))))
         ∙ (sym (slice_get-map (slot_at entries) places j) ∙ sym (get-set_other (slots_of places entries) c j (slot_of e) n)))))
 
     pub set_indexed : IsIndexed places set
     set_indexed =
         record {
           each = λ k d g. dite (ℕ_discrete k i)
-              (λ p. let same : e ≡ d = some_other k e d (slice_get set i) (get-set_same entries i e old.0 old.1) (ap (slice_get set) (sym p) ∙ g) in
+              (λ p. let same : e ≡ d = some_other k e d (slice_get set i) (get-set_same entries i e old.0 old.1)
+              (ap (slice_get set) (sym p) ∙ g) in
               ap (slice_get places) (ap (λ (x : Entry). x.cell) (sym same) ∙ at) ∙ (there ∙ ap (λ n. Some (suc n)) (sym p)))
               (λ n. ix.each k d (sym (get-set_other entries i k e n) ∙ g));
           placed = λ j k g. dite (ℕ_discrete k i)
               (λ p. let d = ix.placed j k g in (
                 e,
                 ap (slice_get set) p ∙ get-set_same entries i e old.0 old.1,
-                at ∙ (sym old.2 ∙ (ap (λ (x : Entry). x.cell) (some_other k old.0 d.0 (slice_get entries i) old.1 (ap (slice_get entries) (sym p) ∙ d.1)) ∙ d.2)),
+                at ∙ (sym old.2 ∙ (ap (λ (x : Entry). x.cell)
+                    (some_other k old.0 d.0 (slice_get entries i) old.1 (ap (slice_get entries) (sym p) ∙ d.1)) ∙ d.2)),
               ))
               (λ n. let d = ix.placed j k g in (d.0, get-set_other entries i k e n ∙ d.1, d.2));
           count = ix.count ∙ sym (length-slice_set entries i e);
@@ -170,14 +177,22 @@ wiped_indexed places after w =
     }
 
 pub wiped_blank : (places after : List ℕ) → IsWiped places after → IsBlank (slots_of after [])
-wiped_blank places after w c = go (slice_get after c) (λ n e. some_number (slice_get after c) n 0 e (w.1 c (get_within after c n e))) (slice_get-map (slot_at []) after c)
+wiped_blank places after w c = go (slice_get after c) (λ n e. some_number (slice_get after c) n 0 e (w.1 c (get_within after c n e)))
+    (slice_get-map (slot_at []) after c)
   where
     go : (o : Option ℕ) → ((n : ℕ) → o ≡ Some n → n ≡ 0) → slice_get (slots_of after []) c ≡ option_map (slot_at []) o
         → (word_seen (slots_of after []) c ≡ None) × (value_kept (slots_of after []) c ≡ None)
-    go None z e = (ap (λ (o : Option Slot). option_and_then (λ (s : Slot). s.word) o) e, ap (λ (o : Option Slot). option_and_then (λ (s : Slot). s.kept) o) e)
+    go None z e = (
+      ap (λ (o : Option Slot). option_and_then (λ (s : Slot). s.word) o) e,
+      ap
+          (λ (o : Option Slot). option_and_then (λ (s : Slot). s.kept) o) e,
+    )
     go (Some n) z e =
-        let f : slice_get (slots_of after []) c ≡ Some blank = e ∙ ap (λ k. Some (slot_at [] k)) (z n refl) in
-        (ap (λ (o : Option Slot). option_and_then (λ (s : Slot). s.word) o) f, ap (λ (o : Option Slot). option_and_then (λ (s : Slot). s.kept) o) f)
+        let f : slice_get (slots_of after []) c ≡ Some blank = e ∙ ap (λ k. Some (slot_at [] k)) (z n refl) in (
+          ap (λ (o : Option Slot). option_and_then (λ (s : Slot). s.word) o) f,
+          ap
+              (λ (o : Option Slot). option_and_then (λ (s : Slot). s.kept) o) f,
+        )
 
 -- ---- the values are thrown away
 
@@ -190,7 +205,8 @@ unwritten_indexed places entries ix =
       count = ix.count ∙ sym (map_length unwritten entries);
     }
   where
-    go : (k : ℕ) (e : Entry) (o : Option Entry) → ((d : Entry) → o ≡ Some d → slice_get places d.cell ≡ Some (suc k)) → option_map unwritten o ≡ Some e
+    go : (k : ℕ) (e : Entry) (o : Option Entry) → ((d : Entry) → o ≡ Some d → slice_get places d.cell ≡ Some (suc k)) → option_map
+        unwritten o ≡ Some e
         → slice_get places e.cell ≡ Some (suc k)
     go k e None h g = absurd (cc)
     go k e (Some d) h g =
@@ -233,7 +249,8 @@ module _ (places : List ℕ) (entries : List Entry) where
   same_word : (c : ℕ) → word_seen now c ≡ word_seen first c
   same_word c = ap (λ (o : Option Slot). option_and_then (λ (s : Slot). s.word) o) (slot_now c) ∙ go (slice_get first c)
     where
-      go : (o : Option Slot) → option_and_then (λ (s : Slot). s.word) (option_map unwritten_slot o) ≡ option_and_then (λ (s : Slot). s.word) o
+      go : (o : Option Slot) → option_and_then (λ (s : Slot). s.word) (option_map unwritten_slot o) ≡ option_and_then
+          (λ (s : Slot). s.word) o
       go None = refl
       go (Some s) = refl
 
@@ -261,7 +278,8 @@ DroppedTo first now n =
 pub dropped_all : (first now : List Entry) (n : ℕ) → length now ≤ n → DroppedTo first now n → now ≡ map unwritten first
 dropped_all first now n l p = same_list now (map unwritten first)
     (λ k. ⊎_elim (λ (a : k < n). p.1 k a ∙ sym (slice_get-map unwritten first k))
-    (λ (a : n ≤ k). past now k (omega arith) ∙ sym (past (map unwritten first) k (let b = map_length unwritten first in omega (arith, b, p.0)))) (cases_lt k n))
+    (λ (a : n ≤ k). past now k (omega arith) ∙ sym
+    (past (map unwritten first) k (let b = map_length unwritten first in omega (arith, b, p.0)))) (cases_lt k n))
   where
     past : (xs : List Entry) (k : ℕ) → length xs ≤ k → slice_get xs k ≡ None
     past xs k l = slice_get_past xs k l
@@ -273,13 +291,15 @@ WipedTo places entries now n =
     × ((c : ℕ) → (c < length now → slice_get now c ≡ Some 0)
     ⊎ ((slice_get now c ≡ slice_get places c) × ((k : ℕ) (e : Entry) → k < n → slice_get entries k ≡ Some e → e.cell ≢ c)))
 
-pub wiped_next : (places : List ℕ) (entries : List Entry) (now : List ℕ) (n : ℕ) (d : Entry) → ((f : Entry) → slice_get entries n ≡ Some f → f ≡ d)
+pub wiped_next : (places : List ℕ) (entries : List Entry) (now : List ℕ) (n : ℕ) (d : Entry) →
+    ((f : Entry) → slice_get entries n ≡ Some f → f ≡ d)
     → WipedTo places entries now n → WipedTo places entries (slice_set now d.cell 0) (n + 1)
 wiped_next places entries now n d is p = (
   length-slice_set now d.cell 0 ∙ p.0,
   λ c. dite (ℕ_discrete c d.cell)
       (λ q. inl (λ m. ap (slice_get (slice_set now d.cell 0)) q
-      ∙ (let y = get_exists now d.cell (let a = length-slice_set now d.cell 0 in omega (arith, a, m, q)) in get-set_same now d.cell 0 y.0 y.1)))
+      ∙ (let y = get_exists now d.cell (let a = length-slice_set now d.cell 0 in omega (arith, a, m, q)) in get-set_same now d.cell 0 y.0
+      y.1)))
       (λ q. ⊎_elim (λ h. inl (λ m. get-set_other now d.cell c 0 q ∙ h (let a = length-slice_set now d.cell 0 in omega (arith, a, m))))
       (λ h. inr (
         get-set_other now d.cell c 0 q ∙ h.0,
@@ -290,14 +310,16 @@ wiped_next places entries now n d is p = (
       )) (p.1 c)),
 )
 
-pub wiped_all : (places : List ℕ) (entries : List Entry) (now : List ℕ) (n : ℕ) → IsIndexed places entries → length entries ≤ n → WipedTo places entries now n
+pub wiped_all : (places : List ℕ) (entries : List Entry) (now : List ℕ) (n : ℕ) → IsIndexed places entries → length entries ≤ n → WipedTo
+    places entries now n
     → IsWiped places now
 wiped_all places entries now n ix l p = (
   p.0,
   λ c m. ⊎_elim (λ h. h m) (λ h. h.0 ∙ go c h.1 (get_exists places c (omega (arith, m, p.0)))) (p.1 c),
 )
   where
-    go : (c : ℕ) → ((k : ℕ) (e : Entry) → k < n → slice_get entries k ≡ Some e → e.cell ≢ c) → (y : ℕ) × (slice_get places c ≡ Some y) → slice_get places c ≡ Some 0
+    go : (c : ℕ) → ((k : ℕ) (e : Entry) → k < n → slice_get entries k ≡ Some e → e.cell ≢ c) → (y : ℕ) × (slice_get places c ≡ Some y) →
+        slice_get places c ≡ Some 0
     go c h y = at y.0 y.1
       where
         at : (y : ℕ) → slice_get places c ≡ Some y → slice_get places c ≡ Some 0
@@ -315,7 +337,8 @@ take_none (suc n) (x ∷ xs) e = absurd (cc)
 
 pub zeros_filled : (n m : ℕ) (xs : List ℕ) → xs ≡ [] → m ≡ 0 → take n xs ++ replicate (n - m) 0 ≡ replicate n 0
 zeros_filled n m xs e z =
-    ap (λ (ys : List ℕ). ys ++ replicate (n - m) 0) (take_none n xs e) ∙ ap (λ (k : ℕ). replicate k 0) (let a : n - m ≡ n = omega (arith, z) in a)
+    ap (λ (ys : List ℕ). ys ++ replicate (n - m) 0) (take_none n xs e) ∙ ap (λ (k : ℕ). replicate k 0)
+    (let a : n - m ≡ n = omega (arith, z) in a)
 
 pub zeros_wiped : (n : ℕ) → IsWiped (replicate n 0) (replicate n 0)
 zeros_wiped n = (refl, λ c l. go n c l)
@@ -398,13 +421,16 @@ module _ (places : List ℕ) (entries : List Entry) (ix : IsIndexed places entri
       pub noted_again : (word : ℕ) → word % 2 ≡ 0
           → HasNoted slots (slots_of places (slice_set entries (n - 1) (record { cell = cell; word = word; kept = d.kept }))) cell word
       noted_again word even =
-          subst (λ s. HasNoted slots s cell word) (sym (set_view places entries ix cell (record { cell = cell; word = word; kept = d.kept }) refl (n - 1) there))
+          subst (λ s. HasNoted slots s cell word) (sym
+          (set_view places entries ix cell (record { cell = cell; word = word; kept = d.kept }) refl (n - 1) there))
           (is_noted slots cell word d.kept l even (sym entry_seen.1))
 
       pub value_kept_new : (value : ℕ) → was_read slots cell ≡ true
-          → HasKept slots (slots_of places (slice_set entries (n - 1) (record { cell = cell; word = d.word; kept = Some value }))) cell value
+          → HasKept slots (slots_of places (slice_set entries (n - 1) (record { cell = cell; word = d.word; kept = Some value }))) cell
+          value
       value_kept_new value read =
-          subst (λ s. HasKept slots s cell value) (sym (set_view places entries ix cell (record { cell = cell; word = d.word; kept = Some value }) refl (n - 1) there))
+          subst (λ s. HasKept slots s cell value) (sym
+          (set_view places entries ix cell (record { cell = cell; word = d.word; kept = Some value }) refl (n - 1) there))
           (is_kept slots cell value (Some d.word) l (sym entry_seen.0) read)
 
     pub entry_set : (e : Entry) → e.cell ≡ cell → IsIndexed places (slice_set entries (n - 1) e)

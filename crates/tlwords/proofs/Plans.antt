@@ -40,7 +40,8 @@ module _ (slots : List Slot) (kept : Bool) (ts : List Touched) (p : IsPlan slots
   plan_next n t l e =
       let x = get_exists ts n l in
       let same : x.0 ≡ t = sym (get_or_from_slice_get ts n x.0 t x.1) ∙ sym e in
-      ap (low_of ts) (let a : n + 1 ≡ suc n = omega arith in a) ∙ (ap behind x.1 ∙ (ap (λ (y : Touched). suc y.cell) same ∙ (let a : suc t.cell ≡ t.cell + 1 = omega arith in a)))
+      ap (low_of ts) (let a : n + 1 ≡ suc n = omega arith in a) ∙
+      (ap behind x.1 ∙ (ap (λ (y : Touched). suc y.cell) same ∙ (let a : suc t.cell ≡ t.cell + 1 = omega arith in a)))
 
   pub plan_low : (n : ℕ) → n ≤ length ts → low_of ts n ≤ length slots
   plan_low zero l = omega arith
@@ -57,25 +58,30 @@ module _ (slots : List Slot) (kept : Bool) (ts : List Touched) (p : IsPlan slots
 module _ (slots : List Slot) where
   -- what is to be so of each cell of a plan
   abbrev Fits : Bool → Touched → Type 0
-  Fits kept t = (t.cell < length slots) × (is_wanted slots kept t.cell ≡ true) × (word_seen slots t.cell ≡ Some t.word) × (kept ≡ true → value_kept slots t.cell ≡ Some t.value)
+  Fits kept t = (t.cell < length slots) × (is_wanted slots kept t.cell ≡ true) × (word_seen slots t.cell ≡ Some t.word) ×
+      (kept ≡ true → value_kept slots t.cell ≡ Some t.value)
 
   -- an entry has what is kept of its cell
   abbrev Matches : Entry → Type 0
   Matches e = (e.cell < length slots) × (word_seen slots e.cell ≡ Some e.word) × (value_kept slots e.cell ≡ e.kept)
 
-  wanted_so : (kept : Bool) (c : ℕ) (w : ℕ) (o : Option ℕ) → word_seen slots c ≡ Some w → value_kept slots c ≡ o → (if kept then is_some o else not (is_some o)) ≡ true
+  wanted_so : (kept : Bool) (c : ℕ) (w : ℕ) (o : Option ℕ) → word_seen slots c ≡ Some w → value_kept slots c ≡ o →
+      (if kept then is_some o else not (is_some o)) ≡ true
       → is_wanted slots kept c ≡ true
   wanted_so true c w o a b e = ap (λ p. is_some p && is_some (value_kept slots c)) a ∙ (ap is_some b ∙ e)
   wanted_so false c w o a b e = ap (λ p. is_some p && not (is_some (value_kept slots c))) a ∙ (ap (λ p. not (is_some p)) b ∙ e)
 
-  pick_fits : (kept : Bool) (e : Entry) (o : Option ℕ) → o ≡ e.kept → Matches e → (k : ℕ) (t : Touched) → slice_get (pick kept e o) k ≡ Some t → Fits kept t
+  pick_fits : (kept : Bool) (e : Entry) (o : Option ℕ) → o ≡ e.kept → Matches e → (k : ℕ) (t : Touched) → slice_get (pick kept e o) k ≡
+      Some t → Fits kept t
   pick_fits true e None q m k t g = absurd (cc)
   pick_fits true e (Some v) q m zero t g =
-      subst (Fits true) {x = record { cell = e.cell; word = e.word; value = v }} (let a : Some (record { cell = e.cell; word = e.word; value = v }) ≡ Some t = g in cc)
+      subst (Fits true) {x = record { cell = e.cell; word = e.word; value = v }}
+      (let a : Some (record { cell = e.cell; word = e.word; value = v }) ≡ Some t = g in cc)
       (m.0, wanted_so true e.cell e.word (Some v) m.1 (m.2 ∙ sym q) refl, m.1, λ _. m.2 ∙ sym q)
   pick_fits true e (Some v) q m (suc k) t g = absurd (cc)
   pick_fits false e None q m zero t g =
-      subst (Fits false) {x = record { cell = e.cell; word = e.word; value = 0 }} (let a : Some (record { cell = e.cell; word = e.word; value = 0 }) ≡ Some t = g in cc)
+      subst (Fits false) {x = record { cell = e.cell; word = e.word; value = 0 }}
+      (let a : Some (record { cell = e.cell; word = e.word; value = 0 }) ≡ Some t = g in cc)
       (m.0, wanted_so false e.cell e.word None m.1 (m.2 ∙ sym q) refl, m.1, λ f. absurd (cc))
   pick_fits false e None q m (suc k) t g = absurd (cc)
   pick_fits false e (Some v) q m k t g = absurd (cc)
@@ -101,7 +107,8 @@ module _ (slots : List Slot) where
   any_append c (x ∷ xs) ys h = go (x.cell == c) h (any_append c xs ys)
     where
       go : (b : Bool) → ((b || list_any (λ t. t.cell == c) xs) ≡ true) ⊎ (list_any (λ t. t.cell == c) ys ≡ true)
-          → ((list_any (λ t. t.cell == c) xs ≡ true) ⊎ (list_any (λ t. t.cell == c) ys ≡ true) → list_any (λ t. t.cell == c) (xs ++ ys) ≡ true)
+          → ((list_any (λ t. t.cell == c) xs ≡ true) ⊎ (list_any (λ t. t.cell == c) ys ≡ true) → list_any (λ t. t.cell == c) (xs ++ ys) ≡
+          true)
           → (b || list_any (λ t. t.cell == c) (xs ++ ys)) ≡ true
       go true h ih = refl
       go false h ih = ih h
@@ -113,7 +120,8 @@ module _ (slots : List Slot) where
   pick_any false e None h = ap (λ b. b || false) (eq-eqb e.cell e.cell refl)
   pick_any false e (Some v) h = absurd (cc)
 
-  picked_any : (kept : Bool) (es : List Entry) (k : ℕ) (e : Entry) → slice_get es k ≡ Some e → (if kept then is_some e.kept else not (is_some e.kept)) ≡ true
+  picked_any : (kept : Bool) (es : List Entry) (k : ℕ) (e : Entry) → slice_get es k ≡ Some e →
+      (if kept then is_some e.kept else not (is_some e.kept)) ≡ true
       → list_any (λ t. t.cell == e.cell) (picked kept es) ≡ true
   picked_any kept [] k e g h = absurd (cc)
   picked_any kept (d ∷ es) zero e g h =
@@ -122,10 +130,12 @@ module _ (slots : List Slot) where
       (inl (subst (λ (x : Entry). list_any (λ t. t.cell == e.cell) (pick kept x x.kept) ≡ true) (sym p) (pick_any kept e e.kept h)))
   picked_any kept (d ∷ es) (suc k) e g h = any_append e.cell (pick kept d d.kept) (picked kept es) (inr (picked_any kept es k e g h))
 
-  any_at : (c : ℕ) (ts : List Touched) → list_any (λ t. t.cell == c) ts ≡ true → (k : ℕ) × (t : Touched) × (slice_get ts k ≡ Some t) × (t.cell ≡ c)
+  any_at : (c : ℕ) (ts : List Touched) → list_any (λ t. t.cell == c) ts ≡ true → (k : ℕ) × (t : Touched) × (slice_get ts k ≡ Some t) ×
+      (t.cell ≡ c)
   any_at c [] e = absurd (cc)
   any_at c (t ∷ ts) e = ⊎_elim (λ p. (zero, t, refl, eqb-true t.cell c p))
-      (λ p. let r = any_at c ts (sym (ap (λ b. b || list_any (λ t. t.cell == c) ts) p) ∙ e) in (suc r.0, r.1, r.2, r.3)) (known (t.cell == c))
+      (λ p. let r = any_at c ts (sym (ap (λ b. b || list_any (λ t. t.cell == c) ts) p) ∙ e) in (suc r.0, r.1, r.2, r.3))
+      (known (t.cell == c))
 
   -- ---- each cell is picked once at most
 
@@ -155,7 +165,8 @@ module _ (slots : List Slot) where
   pick_none false e None c n = ap (λ (b : Bool). 0 + (if b then 1 else 0)) (ne_eqb e.cell c n)
   pick_none false e (Some v) c n = refl
 
-  picked_none : (kept : Bool) (es : List Entry) (c : ℕ) → ((k : ℕ) (e : Entry) → slice_get es k ≡ Some e → e.cell ≢ c) → sum_by (one c) (picked kept es) ≡ 0
+  picked_none : (kept : Bool) (es : List Entry) (c : ℕ) → ((k : ℕ) (e : Entry) → slice_get es k ≡ Some e → e.cell ≢ c) → sum_by (one c)
+      (picked kept es) ≡ 0
   picked_none kept [] c h = refl
   picked_none kept (e ∷ es) c h =
       let a = sum_by-append (one c) (pick kept e e.kept) (picked kept es) in
@@ -172,9 +183,11 @@ module _ (slots : List Slot) where
       let a = sum_by-append (one c) (pick kept e e.kept) (picked kept es) in
       dite (ℕ_discrete e.cell c)
       (λ p. let b = pick_most kept e e.kept c in
-      let d = picked_none kept es c (λ k f g q. let z : zero ≡ suc k = h zero (suc k) e f refl g (p ∙ sym q) in absurd (omega (arith, z))) in omega (arith, a, b, d))
+      let d = picked_none kept es c (λ k f g q. let z : zero ≡ suc k = h zero (suc k) e f refl g (p ∙ sym q) in absurd
+      (omega (arith, z))) in omega (arith, a, b, d))
       (λ n. let b = pick_none kept e e.kept c n in
-      let d = picked_most kept es (λ i j u v g q s. let z : suc i ≡ suc j = h (suc i) (suc j) u v g q s in omega (arith, z)) c in omega (arith, a, b, d))
+      let d = picked_most kept es (λ i j u v g q s. let z : suc i ≡ suc j = h (suc i) (suc j) u v g q s in omega (arith, z)) c in omega
+      (arith, a, b, d))
 
   -- ---- the cells in ascending order
 
@@ -194,10 +207,13 @@ module _ (slots : List Slot) where
     differ i x y g h e =
         let c = y.cell in
         let m = get_within ts (suc i) y h in
-        let a : sum_by (one c) (take (i + 1) ts) ≡ sum_by (one c) (take i ts) + one c (slice_index_or ts i x) = sum_by_more (one c) ts i x (omega arith) in
-        let b : sum_by (one c) (take (i + 1) ts) + one c (slice_index_or ts (i + 1) x) ≤ sum_by (one c) ts = sum_by_more_le (one c) ts (i + 1) x (omega arith) in
+        let a : sum_by (one c) (take (i + 1) ts) ≡ sum_by (one c) (take i ts) + one c (slice_index_or ts i x) = sum_by_more (one c) ts i
+        x (omega arith) in
+        let b : sum_by (one c) (take (i + 1) ts) + one c (slice_index_or ts (i + 1) x) ≤ sum_by (one c) ts = sum_by_more_le (one c) ts
+        (i + 1) x (omega arith) in
         let p : one c (slice_index_or ts i x) ≡ 1 = ap (one c) (get_or_from_slice_get ts i x x g) ∙ one_at c x e in
-        let s : slice_index_or ts (i + 1) x ≡ y = ap (λ n. slice_index_or ts n x) (let z : i + 1 ≡ suc i = omega arith in z) ∙ get_or_from_slice_get ts (suc i) y x h in
+        let s : slice_index_or ts (i + 1) x ≡ y = ap (λ n. slice_index_or ts n x) (let z : i + 1 ≡ suc i = omega arith in z) ∙
+        get_or_from_slice_get ts (suc i) y x h in
         let q : one c (slice_index_or ts (i + 1) x) ≡ 1 = ap (one c) s ∙ one_at c y refl in
         let o = once c in omega (arith, a, b, p, q, o)
 
@@ -233,7 +249,8 @@ module _ (slots : List Slot) where
           low_under n t g,
           f.0,
           f.1,
-          λ c l m. none_between n c (let b = get_within ts n t g in omega (arith, b)) l (λ k u b h. let a = rises n k t u b g h in omega (arith, a, m)),
+          λ c l m. none_between n c (let b = get_within ts n t g in omega (arith, b)) l
+              (λ k u b h. let a = rises n k t u b g h in omega (arith, a, m)),
         ),
         f.2,
         f.3,
@@ -267,14 +284,17 @@ module _ (places : List ℕ) (entries : List Entry) (ix : IsIndexed places entri
     where
       go : (o : Option ℕ) → slice_get places c ≡ o → (k : ℕ) × (e : Entry) × (slice_get entries k ≡ Some e) × (e.cell ≡ c)
       go None p =
-          let a : false ≡ true = sym (ap (λ (o : Option Slot). is_some (option_and_then (λ (s : Slot). s.word) o)) (slice_get-map (slot_at entries) places c ∙ ap (option_map (slot_at entries)) p)) ∙ w in absurd (cc)
+          let a : false ≡ true = sym (ap (λ (o : Option Slot). is_some (option_and_then (λ (s : Slot). s.word) o))
+          (slice_get-map (slot_at entries) places c ∙ ap (option_map (slot_at entries)) p)) ∙ w in absurd (cc)
       go (Some zero) p =
-          let a : false ≡ true = sym (ap (λ (o : Option Slot). is_some (option_and_then (λ (s : Slot). s.word) o)) (slot_found places entries c zero p)) ∙ w in absurd (cc)
+          let a : false ≡ true = sym (ap (λ (o : Option Slot). is_some (option_and_then (λ (s : Slot). s.word) o))
+          (slot_found places entries c zero p)) ∙ w in absurd (cc)
       go (Some (suc k)) p = let d = ix.placed c k p in (k, d.0, d.1, d.2)
 
   picked_found : (kept : Bool) (c : ℕ) → is_wanted seen kept c ≡ true → list_any (λ t. t.cell == c) (picked kept entries) ≡ true
   picked_found kept c w =
-      let r = read_entry c (both_left (was_read seen c) (if kept then is_some (value_kept seen c) else not (is_some (value_kept seen c))) w) in
+      let r = read_entry c (both_left (was_read seen c) (if kept then is_some (value_kept seen c) else not (is_some (value_kept seen c)))
+      w) in
       let m = entry_matches r.0 r.1 r.2 in
       let v : value_kept seen c ≡ r.1.kept = ap (value_kept seen) (sym r.3) ∙ m.2 in
       subst (λ n. list_any (λ t. t.cell == n) (picked kept entries) ≡ true) r.3
@@ -282,13 +302,15 @@ module _ (places : List ℕ) (entries : List Entry) (ix : IsIndexed places entri
       (subst (λ (o : Option ℕ). (if kept then is_some o else not (is_some o)) ≡ true) v
       (both_right (was_read seen c) (if kept then is_some (value_kept seen c) else not (is_some (value_kept seen c))) w)))
 
-  pub planned : (kept : Bool) (ts : List Touched) → IsPermutation (picked kept entries) ts → IsNonDecreasingBy (λ (t : Touched). t.cell) ts → IsPlan seen kept ts
+  pub planned : (kept : Bool) (ts : List Touched) → IsPermutation (picked kept entries) ts → IsNonDecreasingBy (λ (t : Touched). t.cell)
+      ts → IsPlan seen kept ts
   planned kept ts p up =
       ascending seen kept ts
       (λ k t g. subst (Fits seen kept) (get_or_from_slice_get ts k t t g)
       (All-permutation (Fits seen kept) (picked kept entries) ts p
       (λ k d l. let x = get_exists (picked kept entries) k l in
-      subst (Fits seen kept) (sym (get_or_from_slice_get (picked kept entries) k x.0 d x.1)) (picked_fit seen kept entries entry_matches k x.0 x.1))
+      subst (Fits seen kept) (sym (get_or_from_slice_get (picked kept entries) k x.0 d x.1))
+      (picked_fit seen kept entries entry_matches k x.0 x.1))
       k t (get_within ts k t g)))
       (λ c w. sym (list_any-IsPermutation (λ t. t.cell == c) (picked kept entries) ts p) ∙ picked_found kept c w)
       (λ c. let a = sum_by-IsPermutation (one seen c) (picked kept entries) ts p in
@@ -313,9 +335,11 @@ picked_length kept (e ∷ es) = go (pick kept e e.kept) (short kept e e.kept) (p
 pub picked_more : (kept : Bool) (es : List Entry) (e : Entry) → picked kept (es ++ e ∷ []) ≡ picked kept es ++ pick kept e e.kept
 picked_more kept [] e = append-nil (pick kept e e.kept)
 picked_more kept (d ∷ es) e =
-    ap (λ ts. pick kept d d.kept ++ ts) (picked_more kept es e) ∙ sym (append_assoc (pick kept d d.kept) (picked kept es) (pick kept e e.kept))
+    ap (λ ts. pick kept d d.kept ++ ts) (picked_more kept es e) ∙ sym
+    (append_assoc (pick kept d d.kept) (picked kept es) (pick kept e e.kept))
 
-pub plan_same : (l k : Log) → k.slots ≡ l.slots → k.writes ≡ l.writes → IsPlan l.slots true l.writes.items → IsPlan k.slots true k.writes.items
+pub plan_same : (l k : Log) → k.slots ≡ l.slots → k.writes ≡ l.writes → IsPlan l.slots true l.writes.items → IsPlan k.slots true
+    k.writes.items
 plan_same l k e f p = subst (λ s. IsPlan s true k.writes.items) (sym e) (subst (λ w. IsPlan l.slots true w.items) (sym f) p)
 
 pub picked_next : (kept : Bool) (es : List Entry) (n : ℕ) (d : Entry) → n < length es

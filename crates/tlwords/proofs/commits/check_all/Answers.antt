@@ -11,7 +11,8 @@ use Rattle.tlwords.proofs.commits.check_all.Goals.{then-word-ne0-via-then-word-n
 
 pub returns-then-index-place-clause-ok : goal.returns-then-index-place-clause-ok
 returns-then-index-place-clause-ok g c =
-    check_skips g.L.Law.terms c.args.log.now.slots c.args.index c.args.seat.now.me c.requires.kept c.requires.run.0 (c.if-index-place.true ∙ sym c.requires.run.1)
+    check_skips g.L.Law.terms c.args.log.now.slots c.args.index c.args.seat.now.me c.requires.kept c.requires.run.0
+    (c.if-index-place.true ∙ sym c.requires.run.1)
 
 pub loop-i-init : goal.loop-i-init
 loop-i-init g c =
@@ -28,7 +29,8 @@ pub check-word-requires-clause-cell : goal.check-word-requires-clause-cell
 check-word-requires-clause-cell g c =
     let ws = c.plan_checks.new.self.checks.items in
     let t = c.index-read.result.now in
-    let n : c.loop-i.i < length ws = let a = c.loop-i-test.true in let b = c.len-i-end.ensures in let d = c.plan_checks.new.self.checks.ok.0 in omega arith in
+    let n : c.loop-i.i < length ws = let a = c.loop-i-test.true in let b = c.len-i-end.ensures in let d =
+    c.plan_checks.new.self.checks.ok.0 in omega arith in
     let p : IsPlan c.args.log.now.slots false ws = subst (λ x. IsPlan x false ws) c.plan_checks.ensures.same.0 c.plan_checks.ensures.plan in
     let s = plan_at c.args.log.now.slots false ws p c.loop-i.i t n c.index-read.ensures in
     let l = s.0.1 in
@@ -41,33 +43,39 @@ pub check-word-requires-clause-place : goal.check-word-requires-clause-place
 check-word-requires-clause-place g c =
     let ws = c.plan_checks.new.self.checks.items in
     let t = c.index-read.result.now in
-    let n : c.loop-i.i < length ws = let a = c.loop-i-test.true in let b = c.len-i-end.ensures in let d = c.plan_checks.new.self.checks.ok.0 in omega arith in
+    let n : c.loop-i.i < length ws = let a = c.loop-i-test.true in let b = c.len-i-end.ensures in let d =
+    c.plan_checks.new.self.checks.ok.0 in omega arith in
     let p : IsPlan c.args.log.now.slots false ws = subst (λ x. IsPlan x false ws) c.plan_checks.ensures.same.0 c.plan_checks.ensures.plan in
     let s = plan_at c.args.log.now.slots false ws p c.loop-i.i t n c.index-read.ensures in
-    check_place g.L.Law.terms c.args.log.now.slots c.args.index c.args.seat.now.me c.requires.kept c.requires.run.2 (low_of ws c.loop-i.i) _ c.loop-i.invariant.1
+    check_place g.L.Law.terms c.args.log.now.slots c.args.index c.args.seat.now.me c.requires.kept c.requires.run.2
+    (low_of ws c.loop-i.i) _ c.loop-i.invariant.1
     t.cell s.0.0 s.0.2 s.0.3 (λ e. c.if-index-place.false (e ∙ c.requires.run.1))
 
 pub check-word-requires-clause-read : goal.check-word-requires-clause-read
 check-word-requires-clause-read g c =
     let ws = c.plan_checks.new.self.checks.items in
     let t = c.index-read.result.now in
-    let n : c.loop-i.i < length ws = let a = c.loop-i-test.true in let b = c.len-i-end.ensures in let d = c.plan_checks.new.self.checks.ok.0 in omega arith in
+    let n : c.loop-i.i < length ws = let a = c.loop-i-test.true in let b = c.len-i-end.ensures in let d =
+    c.plan_checks.new.self.checks.ok.0 in omega arith in
     let p : IsPlan c.args.log.now.slots false ws = subst (λ x. IsPlan x false ws) c.plan_checks.ensures.same.0 c.plan_checks.ensures.plan in
     let s = plan_at c.args.log.now.slots false ws p c.loop-i.i t n c.index-read.ensures in
     let d = read_found c.args.seat.now.me.0.seat c.args.log.now.slots c.requires.kept t.cell t.word s.1 in
     (d.0, goes_read g.L.Law.terms _ _ _ c.loop-i.invariant.1 refl t.cell d.0 d.1)
 
 pub returns-then-word-ne0-clause-seat : goal.returns-then-word-ne0-clause-seat
-returns-then-word-ne0-clause-seat g c = seat_trans c.args.seat.now c.loop-i.seat c.check-word.new.seat c.loop-i.invariant.0 c.check-word.ensures.seat
+returns-then-word-ne0-clause-seat g c = seat_trans c.args.seat.now c.loop-i.seat c.check-word.new.seat c.loop-i.invariant.0
+    c.check-word.ensures.seat
 
 pub returns-then-word-ne0-clause-err : goal.returns-then-word-ne0-clause-err
 returns-then-word-ne0-clause-err g c =
     let ws = c.plan_checks.new.self.checks.items in
     let t = c.index-read.result.now in
-    let n : c.loop-i.i < length ws = let a = c.loop-i-test.true in let b = c.len-i-end.ensures in let d = c.plan_checks.new.self.checks.ok.0 in omega arith in
+    let n : c.loop-i.i < length ws = let a = c.loop-i-test.true in let b = c.len-i-end.ensures in let d =
+    c.plan_checks.new.self.checks.ok.0 in omega arith in
     let p : IsPlan c.args.log.now.slots false ws = subst (λ x. IsPlan x false ws) c.plan_checks.ensures.same.0 c.plan_checks.ensures.plan in
     let s = plan_at c.args.log.now.slots false ws p c.loop-i.i t n c.index-read.ensures in
-    check_fails g.L.Law.terms c.args.log.now.slots c.args.index c.args.seat.now.me c.requires.kept c.requires.run.2 (low_of ws c.loop-i.i) _ c.loop-i.invariant.1
+    check_fails g.L.Law.terms c.args.log.now.slots c.args.index c.args.seat.now.me c.requires.kept c.requires.run.2
+    (low_of ws c.loop-i.i) _ c.loop-i.invariant.1
     t.cell c.check-word.result _ c.check-word.ensures.told t.word _ refl s.1
     (elim c.then-word-ne0.branch [
       | then-word-ne0-via-then-word-ne0 w ↦ inl (let a = w.if-word-ne0.true in omega arith)
@@ -78,14 +86,17 @@ pub loop-i-preserved : goal.loop-i-preserved
 loop-i-preserved g c =
     let ws = c.plan_checks.new.self.checks.items in
     let t = c.index-read.result.now in
-    let n : c.loop-i.i < length ws = let a = c.loop-i-test.true in let b = c.len-i-end.ensures in let d = c.plan_checks.new.self.checks.ok.0 in omega arith in
+    let n : c.loop-i.i < length ws = let a = c.loop-i-test.true in let b = c.len-i-end.ensures in let d =
+    c.plan_checks.new.self.checks.ok.0 in omega arith in
     let p : IsPlan c.args.log.now.slots false ws = subst (λ x. IsPlan x false ws) c.plan_checks.ensures.same.0 c.plan_checks.ensures.plan in
     let s = plan_at c.args.log.now.slots false ws p c.loop-i.i t n c.index-read.ensures in
     let m = c.args.seat.now.me in (
       seat_trans c.args.seat.now c.loop-i.seat c.check-word.new.seat c.loop-i.invariant.0 c.check-word.ensures.seat,
       subst (λ k. Goes g.L.Law.terms m (placed m.0.seat (at_checking c.args.index k)) c.check-word.new.seat.me)
-          {x = t.cell + 1} {y = low_of ws (c.loop-i.i + 1)} (sym (plan_next c.args.log.now.slots false ws p c.loop-i.i t n c.index-read.ensures))
-          (check_goes g.L.Law.terms c.args.log.now.slots c.args.index c.args.seat.now.me c.requires.kept c.requires.run.2 (low_of ws c.loop-i.i) _ c.loop-i.invariant.1
+          {x = t.cell + 1} {y = low_of ws (c.loop-i.i + 1)}
+          (sym (plan_next c.args.log.now.slots false ws p c.loop-i.i t n c.index-read.ensures))
+          (check_goes g.L.Law.terms c.args.log.now.slots c.args.index c.args.seat.now.me c.requires.kept c.requires.run.2
+          (low_of ws c.loop-i.i) _ c.loop-i.invariant.1
           t.cell c.check-word.result _ c.check-word.ensures.told (omega arith) (let a = c.requires.run.1 in omega arith)),
     )
 
@@ -101,4 +112,5 @@ returns-clause-ok g c =
     let all : c.loop-i.i ≤ length ws = let a = c.loop-i.auto.i-end in omega arith in
     let p : IsPlan c.args.log.now.slots false ws = subst (λ x. IsPlan x false ws) c.plan_checks.ensures.same.0 c.plan_checks.ensures.plan in
     let none = plan_end c.args.log.now.slots false ws p c.loop-i.i past all in
-    check_ends g.L.Law.terms c.args.log.now.slots c.args.index c.args.seat.now.me c.requires.kept c.requires.run.2 (low_of ws c.loop-i.i) _ c.loop-i.invariant.1 none
+    check_ends g.L.Law.terms c.args.log.now.slots c.args.index c.args.seat.now.me c.requires.kept c.requires.run.2 (low_of ws c.loop-i.i)
+    _ c.loop-i.invariant.1 none

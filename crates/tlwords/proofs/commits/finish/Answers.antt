@@ -12,10 +12,12 @@ recall-requires-clause-setting g c =
     let e = c.plan_writes.ensures.same in
     let slots = c.plan_writes.new.self.slots in
     let v = c.plan_writes.new.self.writes in
-    let none : length v.items ≡ 0 = let a = v.ok.0 in let b = equal_numbers _ 0 (sym c.is_empty.ensures ∙ c.if-is_empty.true) in omega arith in
+    let none : length v.items ≡ 0 = let a = v.ok.0 in let b = equal_numbers _ 0 (sym c.is_empty.ensures ∙ c.if-is_empty.true) in omega
+    arith in
     let kept = subst (λ x. IsKeptOf c.args.seat.now.me.0.seat x) (sym e) c.requires.kept in
     let nothing : writes_kept c.args.log.now.slots ≡ [] =
-    subst (λ x. writes_kept x ≡ []) e (nothing_kept c.args.seat.now.me.0.seat slots kept (plan_none slots v.items c.plan_writes.ensures.plan none)) in
+    subst (λ x. writes_kept x ≡ []) e (nothing_kept c.args.seat.now.me.0.seat slots kept
+    (plan_none slots v.items c.plan_writes.ensures.plan none)) in
     unwritten_lawful g.L.Law.terms c.args.log.now.slots c.args.note.now c.args.seat.now.me.0 c.requires.lawful c.requires.run.0 nothing
 
 pub returns-then-is_empty-clause-pass : goal.returns-then-is_empty-clause-pass
@@ -27,10 +29,12 @@ returns-then-is_empty-clause-ended g c =
     let e = c.plan_writes.ensures.same in
     let slots = c.plan_writes.new.self.slots in
     let v = c.plan_writes.new.self.writes in
-    let none : length v.items ≡ 0 = let a = v.ok.0 in let b = equal_numbers _ 0 (sym c.is_empty.ensures ∙ c.if-is_empty.true) in omega arith in
+    let none : length v.items ≡ 0 = let a = v.ok.0 in let b = equal_numbers _ 0 (sym c.is_empty.ensures ∙ c.if-is_empty.true) in omega
+    arith in
     let kept = subst (λ x. IsKeptOf c.args.seat.now.me.0.seat x) (sym e) c.requires.kept in
     let nothing : writes_kept c.args.log.now.slots ≡ [] =
-    subst (λ x. writes_kept x ≡ []) e (nothing_kept c.args.seat.now.me.0.seat slots kept (plan_none slots v.items c.plan_writes.ensures.plan none)) in
+    subst (λ x. writes_kept x ≡ []) e (nothing_kept c.args.seat.now.me.0.seat slots kept
+    (plan_none slots v.items c.plan_writes.ensures.plan none)) in
     (nothing, sym c.requires.run.5, answers g.L.Law.terms c.args.log.now.slots c.args.note.now _ _ c.recall.ensures.told nothing)
 
 pub returns-then-count-ge-MOST_NUMBERS-clause-ended :
@@ -92,7 +96,8 @@ returns-in-Ok-clause-ended g c =
     let most : length v.items ≢ 0 = λ z. other_numbers _ 0 (sym c.is_empty.ensures ∙ c.if-is_empty.false) (let a = v.ok.0 in a ∙ z) in
     let some : writes_kept slots ≢ [] = plan_some slots v.items c.plan_writes.ensures.plan most in (
       subst (λ x. writes_kept x ≢ []) e some,
-      subst (λ x. HasCommitted g.L.Law.terms c.in-Ok.number (work_kept c.args.seat.now.me.0.seat x c.args.note.now) c.args.seat.now.me c.settle.new.seat.me) e
+      subst (λ x. HasCommitted g.L.Law.terms c.in-Ok.number (work_kept c.args.seat.now.me.0.seat x c.args.note.now) c.args.seat.now.me
+          c.settle.new.seat.me) e
           (committed_from g.L.Law.terms slots _ _ _ c.in_default.ensures.ok _ c.args.note.now _ c.in-Ok.ensures.ok),
     )
 

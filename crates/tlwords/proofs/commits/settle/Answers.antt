@@ -19,24 +19,29 @@ draw-index-requires-clause-setting g c =
     )
 
 pub draw-index-requires-clause-writes : goal.draw-index-requires-clause-writes
-draw-index-requires-clause-writes g c = λ e. c.requires.writes (sym (ap writes_of c.requires.run.2 ∙ held_writes c.args.log.now.slots 0 _) ∙ e)
+draw-index-requires-clause-writes g c = λ e. c.requires.writes
+    (sym (ap writes_of c.requires.run.2 ∙ held_writes c.args.log.now.slots 0 _) ∙ e)
 
 pub release_all-requires-clause-run : goal.release_all-requires-clause-run
 release_all-requires-clause-run g c =
     let e = c.check_all.ensures.log in
     let r = c.check_all.new.seat.me in
     subst (λ x. Releasing g.L.Law.terms x c.args.words.now.cells None 0 r r) (sym e.0)
-    (void_releases g.L.Law.terms c.args.log.now.slots c.args.note.now _ _ c.draw-index.result c.draw-index.ensures.told c.requires.kept c.requires.run.2 c.requires.writes
+    (void_releases g.L.Law.terms c.args.log.now.slots c.args.note.now _ _ c.draw-index.result c.draw-index.ensures.told c.requires.kept
+    c.requires.run.2 c.requires.writes
     c.in-Err.conflict _ c.in-Err.ensures.err c.args.words.now.cells (sym c.requires.cells.0))
 
 pub release_all-requires-clause-plan : goal.release_all-requires-clause-plan
-release_all-requires-clause-plan g c = let e = c.check_all.ensures.log in plan_same c.args.log.now c.check_all.new.log e.0 e.1 c.requires.plan
+release_all-requires-clause-plan g c = let e = c.check_all.ensures.log in plan_same c.args.log.now c.check_all.new.log e.0 e.1
+    c.requires.plan
 
 pub returns-in-Err-clause-err : goal.returns-in-Err-clause-err
 returns-in-Err-clause-err g c = (
-  void_ends g.L.Law.terms c.args.log.now.slots c.args.note.now _ _ c.draw-index.result c.draw-index.ensures.told c.requires.kept c.requires.run.2 c.requires.writes
+  void_ends g.L.Law.terms c.args.log.now.slots c.args.note.now _ _ c.draw-index.result c.draw-index.ensures.told c.requires.kept
+      c.requires.run.2 c.requires.writes
       c.in-Err.conflict _ c.in-Err.ensures.err _ c.release_all.ensures.releases,
-  void_drawn g.L.Law.terms c.args.log.now.slots c.args.note.now _ _ c.draw-index.result c.draw-index.ensures.told c.requires.kept c.requires.run.2 c.requires.writes
+  void_drawn g.L.Law.terms c.args.log.now.slots c.args.note.now _ _ c.draw-index.result c.draw-index.ensures.told c.requires.kept
+      c.requires.run.2 c.requires.writes
       c.in-Err.conflict _ c.in-Err.ensures.err _ c.release_all.ensures.releases,
 )
 
@@ -47,19 +52,24 @@ pub release_all-requires-2-clause-run : goal.release_all-requires-2-clause-run
 release_all-requires-2-clause-run g c =
     let e = c.check_all.ensures.log in
     let m = c.check_all.new.seat.me in
-    let st = subst (λ x. StoresTo g.L.Law.terms x c.draw-index.result (work_kept m.0.seat x c.args.note.now) (length x) m c.store_all.new.seat.me) e.0 c.store_all.ensures.stores in
+    let st = subst (λ x. StoresTo g.L.Law.terms x c.draw-index.result (work_kept m.0.seat x c.args.note.now) (length x) m
+    c.store_all.new.seat.me) e.0 c.store_all.ensures.stores in
     let r = c.store_all.new.seat.me in
     subst (λ x. Releasing g.L.Law.terms x c.args.words.now.cells (Some (2 * (c.draw-index.result + 1))) 0 r r) (sym e.0)
-    (done_releases g.L.Law.terms c.args.log.now.slots c.args.note.now _ _ c.draw-index.result c.draw-index.ensures.told c.requires.kept c.requires.run.2 c.requires.writes
+    (done_releases g.L.Law.terms c.args.log.now.slots c.args.note.now _ _ c.draw-index.result c.draw-index.ensures.told c.requires.kept
+    c.requires.run.2 c.requires.writes
     _ c.in_default.ensures.ok _ st c.args.words.now.cells _ (sym c.requires.cells.0) (omega arith))
 
 pub release_all-requires-2-clause-plan : goal.release_all-requires-2-clause-plan
-release_all-requires-2-clause-plan g c = let e = c.check_all.ensures.log in plan_same c.args.log.now c.check_all.new.log e.0 e.1 c.requires.plan
+release_all-requires-2-clause-plan g c = let e = c.check_all.ensures.log in plan_same c.args.log.now c.check_all.new.log e.0 e.1
+    c.requires.plan
 
 pub returns-clause-ok : goal.returns-clause-ok
 returns-clause-ok g c =
     let e = c.check_all.ensures.log in
     let m = c.check_all.new.seat.me in
-    let st = subst (λ x. StoresTo g.L.Law.terms x c.draw-index.result (work_kept m.0.seat x c.args.note.now) (length x) m c.store_all.new.seat.me) e.0 c.store_all.ensures.stores in
-    done_ends g.L.Law.terms c.args.log.now.slots c.args.note.now _ _ c.draw-index.result c.draw-index.ensures.told c.requires.kept c.requires.run.2 c.requires.writes
+    let st = subst (λ x. StoresTo g.L.Law.terms x c.draw-index.result (work_kept m.0.seat x c.args.note.now) (length x) m
+    c.store_all.new.seat.me) e.0 c.store_all.ensures.stores in
+    done_ends g.L.Law.terms c.args.log.now.slots c.args.note.now _ _ c.draw-index.result c.draw-index.ensures.told c.requires.kept
+    c.requires.run.2 c.requires.writes
     _ c.in_default.ensures.ok _ st _ c.release_all-2.ensures.releases _ (omega arith)

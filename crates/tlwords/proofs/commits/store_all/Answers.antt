@@ -15,7 +15,8 @@ pub store-requires-clause-setting : goal.store-requires-clause-setting
 store-requires-clause-setting g c =
     let ws = c.args.log.now.writes.items in (
       c.requires.setting.0,
-      store_setting g.L.Law.terms c.args.log.now.slots c.args.index c.args.note.now c.args.seat.now.me _ c.requires.run.1 c.requires.held.0 (low_of ws c.loop-i.i) _
+      store_setting g.L.Law.terms c.args.log.now.slots c.args.index c.args.note.now c.args.seat.now.me _ c.requires.run.1
+          c.requires.held.0 (low_of ws c.loop-i.i) _
           c.loop-i.invariant.1 _ c.requires.setting.1,
     )
 
@@ -23,10 +24,12 @@ pub store-requires-clause-cell : goal.store-requires-clause-cell
 store-requires-clause-cell g c =
     let ws = c.args.log.now.writes.items in
     let t = c.index-kept.result.now in
-    let n : c.loop-i.i < length ws = let a = c.loop-i-test.true in let b = c.len-i-end.ensures in let d = c.args.log.now.writes.ok.0 in omega arith in
+    let n : c.loop-i.i < length ws = let a = c.loop-i-test.true in let b = c.len-i-end.ensures in let d = c.args.log.now.writes.ok.0 in
+    omega arith in
     let s = plan_at c.args.log.now.slots true ws c.requires.plan c.loop-i.i t n c.index-kept.ensures in
     let l = s.0.1 in
-    let a = store_base g.L.Law.terms c.args.log.now.slots c.args.index c.args.note.now c.args.seat.now.me _ c.requires.run.1 c.requires.held.0 (low_of ws c.loop-i.i) _
+    let a = store_base g.L.Law.terms c.args.log.now.slots c.args.index c.args.note.now c.args.seat.now.me _ c.requires.run.1
+    c.requires.held.0 (low_of ws c.loop-i.i) _
     c.loop-i.invariant.1 in
     let p = c.requires.cells.0 in
     let q = c.requires.cells.1 in
@@ -35,29 +38,35 @@ store-requires-clause-cell g c =
 pub store-requires-clause-place : goal.store-requires-clause-place
 store-requires-clause-place g c =
     let ws = c.args.log.now.writes.items in
-    store_place g.L.Law.terms c.args.log.now.slots c.args.index c.args.note.now c.args.seat.now.me _ c.requires.run.1 c.requires.held.0 (low_of ws c.loop-i.i) _
+    store_place g.L.Law.terms c.args.log.now.slots c.args.index c.args.note.now c.args.seat.now.me _ c.requires.run.1 c.requires.held.0
+    (low_of ws c.loop-i.i) _
     c.loop-i.invariant.1 c.requires.run.2
 
 pub store-requires-clause-held : goal.store-requires-clause-held
 store-requires-clause-held g c =
     let ws = c.args.log.now.writes.items in
     let t = c.index-kept.result.now in
-    let n : c.loop-i.i < length ws = let a = c.loop-i-test.true in let b = c.len-i-end.ensures in let d = c.args.log.now.writes.ok.0 in omega arith in
+    let n : c.loop-i.i < length ws = let a = c.loop-i-test.true in let b = c.len-i-end.ensures in let d = c.args.log.now.writes.ok.0 in
+    omega arith in
     let s = plan_at c.args.log.now.slots true ws c.requires.plan c.loop-i.i t n c.index-kept.ensures in
-    store_held g.L.Law.terms c.args.log.now.slots c.args.index c.args.note.now c.args.seat.now.me _ c.requires.run.1 c.requires.held.0 (low_of ws c.loop-i.i) _
+    store_held g.L.Law.terms c.args.log.now.slots c.args.index c.args.note.now c.args.seat.now.me _ c.requires.run.1 c.requires.held.0
+    (low_of ws c.loop-i.i) _
     c.loop-i.invariant.1 t.cell t.value s.0.1 (s.2 refl)
 
 pub loop-i-preserved : goal.loop-i-preserved
 loop-i-preserved g c =
     let ws = c.args.log.now.writes.items in
     let t = c.index-kept.result.now in
-    let n : c.loop-i.i < length ws = let a = c.loop-i-test.true in let b = c.len-i-end.ensures in let d = c.args.log.now.writes.ok.0 in omega arith in
+    let n : c.loop-i.i < length ws = let a = c.loop-i-test.true in let b = c.len-i-end.ensures in let d = c.args.log.now.writes.ok.0 in
+    omega arith in
     let s = plan_at c.args.log.now.slots true ws c.requires.plan c.loop-i.i t n c.index-kept.ensures in
     let m = c.args.seat.now.me in (
       seat_trans c.args.seat.now c.loop-i.seat c.store.new.seat c.loop-i.invariant.0 c.store.ensures.seat,
       subst (λ k. StoresSoFar g.L.Law.terms c.args.log.now.slots c.args.index c.args.note.now m k c.store.new.seat.me)
-          {x = t.cell + 1} {y = low_of ws (c.loop-i.i + 1)} (sym (plan_next c.args.log.now.slots true ws c.requires.plan c.loop-i.i t n c.index-kept.ensures))
-          (store_goes g.L.Law.terms c.args.log.now.slots c.args.index c.args.note.now c.args.seat.now.me _ c.requires.run.1 c.requires.held.0 (low_of ws c.loop-i.i) _
+          {x = t.cell + 1} {y = low_of ws (c.loop-i.i + 1)}
+          (sym (plan_next c.args.log.now.slots true ws c.requires.plan c.loop-i.i t n c.index-kept.ensures))
+          (store_goes g.L.Law.terms c.args.log.now.slots c.args.index c.args.note.now c.args.seat.now.me _ c.requires.run.1
+          c.requires.held.0 (low_of ws c.loop-i.i) _
           c.loop-i.invariant.1 t.cell t.value s.0.1 (s.2 refl) _ c.requires.held.1 s.0.0
           (unkept_of m.0.seat c.args.log.now.slots c.requires.kept _ _ s.0.3) c.store.ensures.told),
     )
@@ -73,5 +82,6 @@ returns-clause-stores g c =
     let past : length ws ≤ c.loop-i.i = let a = c.loop-i-test.false in omega arith in
     let all : c.loop-i.i ≤ length ws = let a = c.loop-i.auto.i-end in omega arith in
     let none = plan_end c.args.log.now.slots true ws c.requires.plan c.loop-i.i past all in
-    store_ends g.L.Law.terms c.args.log.now.slots c.args.index c.args.note.now c.args.seat.now.me _ c.requires.run.1 c.requires.held.0 (low_of ws c.loop-i.i) _
+    store_ends g.L.Law.terms c.args.log.now.slots c.args.index c.args.note.now c.args.seat.now.me _ c.requires.run.1 c.requires.held.0
+    (low_of ws c.loop-i.i) _
     c.loop-i.invariant.1 c.requires.writes (unkept_of c.args.seat.now.me.0.seat c.args.log.now.slots c.requires.kept _ _ none)

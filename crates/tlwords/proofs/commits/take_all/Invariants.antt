@@ -7,4 +7,5 @@ use Rattle.tlwords.proofs.commits.take_all.Given as goal
 abbrev pub invariant-loop-i : goal.invariant-loop-i
 invariant-loop-i g l =
     IsSameSeat l.fn.seat l.seat
-    × Goes g.L.Law.terms l.fn.seat.me (holding l.fn.seat.me.0.seat at_taking at_reading (held_in l.log.slots 0 0 (low_of l.log.writes.items l.i))) l.seat.me
+    × Goes g.L.Law.terms l.fn.seat.me (holding l.fn.seat.me.0.seat at_taking at_reading
+    (held_in l.log.slots 0 0 (low_of l.log.writes.items l.i))) l.seat.me

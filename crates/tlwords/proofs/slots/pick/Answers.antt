@@ -14,7 +14,8 @@ push_reserved-requires c =
     let a = ap length i.0 in
     let b = picked_length c.args.kept (take c.loop-i.i c.args.entries.now) in
     let d = length-take-le c.loop-i.i c.args.entries.now c.loop-i.auto.i-end in
-    let e = c.loop-i-test.true in let f = i.1 in let g = c.requires in let h = c.loop-i.plan.ok.0 in let k = c.clear.ensures.capacity in omega arith
+    let e = c.loop-i-test.true in let f = i.1 in let g = c.requires in let h = c.loop-i.plan.ok.0 in let k = c.clear.ensures.capacity in
+    omega arith
 
 pub loop-i-preserved : goal.loop-i-preserved
 loop-i-preserved c =
@@ -26,9 +27,17 @@ loop-i-preserved c =
     elim c.if-is_some-kept.branch [
       | then-is_some-kept w ↦
           let p = w.push_reserved in (
-            ap (λ v. v.items) w.plan-is ∙ (p.ensures.items ∙ (ap (λ ts. ts ++ record { cell = e.cell; word = e.word; value = w.unwrap_or.result } ∷ []) i.0
-                ∙ (picked_here c.args.kept (picked c.args.kept (take c.loop-i.i es)) e w.unwrap_or.result w.unwrap_or.ensures (ap (λ b. beq b c.args.kept) (sym c.is_some.ensures) ∙ w.if-is_some-kept.true) ∙ sym more))),
+            ap (λ v. v.items) w.plan-is ∙ (p.ensures.items ∙
+                (ap (λ ts. ts ++ record { cell = e.cell; word = e.word; value = w.unwrap_or.result } ∷ []) i.0
+                ∙ (picked_here c.args.kept (picked c.args.kept (take c.loop-i.i es)) e w.unwrap_or.result w.unwrap_or.ensures
+                (ap (λ b. beq b c.args.kept) (sym c.is_some.ensures) ∙ w.if-is_some-kept.true) ∙ sym more))),
             ap (λ v. vec_capacity v) w.plan-is ∙ (p.ensures.capacity ∙ i.1),
           )
-      | else-is_some-kept w ↦ (ap (λ v. v.items) w.plan-is ∙ (i.0 ∙ (picked_else c.args.kept (picked c.args.kept (take c.loop-i.i es)) e (ap (λ b. beq b c.args.kept) (sym c.is_some.ensures) ∙ w.if-is_some-kept.false) ∙ sym more)), ap (λ v. vec_capacity v) w.plan-is ∙ i.1)
+      | else-is_some-kept w ↦ (
+        ap (λ v. v.items) w.plan-is ∙
+            (i.0 ∙ (picked_else c.args.kept (picked c.args.kept (take c.loop-i.i es)) e
+            (ap (λ b. beq b c.args.kept) (sym c.is_some.ensures) ∙ w.if-is_some-kept.false) ∙ sym more)),
+        ap (λ v. vec_capacity v)
+            w.plan-is ∙ i.1,
+      )
     ]

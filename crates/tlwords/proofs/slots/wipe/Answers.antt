@@ -23,4 +23,5 @@ loop-i-preserved c =
     (λ f g. sym (get_or_from_slice_get c.args.entries.now c.loop-i.i f d g)) c.loop-i.invariant
 
 pub returns : goal.returns
-returns c = wiped_all c.args.places.now c.args.entries.now c.loop-i.places c.loop-i.i c.requires.indexed c.loop-i-test.false c.loop-i.invariant
+returns c = wiped_all c.args.places.now c.args.entries.now c.loop-i.places c.loop-i.i c.requires.indexed c.loop-i-test.false
+    c.loop-i.invariant

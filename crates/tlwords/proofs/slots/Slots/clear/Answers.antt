@@ -14,7 +14,8 @@ invariant_of-self c =
     let long : length now ≡ length s.places.items = c.wipe.ensures.0 ∙ ap length c.as_mut_slice.ensures.value in
     let size : length now ≡ s.places.len = long ∙ sym s.places.ok.0 in
     let room = c.clear.ensures.capacity in
-    subst (λ ps. IsIndexed ps c.clear.new.self.items × (length ps ≤ vec_capacity c.clear.new.self) × (length ps < 2 ^ 32)) (sym (take_at now _ s.places.len size)) (
+    subst (λ ps. IsIndexed ps c.clear.new.self.items × (length ps ≤ vec_capacity c.clear.new.self) × (length ps < 2 ^ 32))
+    (sym (take_at now _ s.places.len size)) (
       subst (IsIndexed now) (sym c.clear.ensures.items) (wiped_indexed _ now c.wipe.ensures),
       (let a = i.1 in omega arith),
       (let a = i.2 in omega arith),

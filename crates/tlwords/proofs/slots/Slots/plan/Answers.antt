@@ -20,7 +20,9 @@ pub returns-clause-plan : goal.returns-clause-plan
 returns-clause-plan c =
     let s = c.self.inside in
     let e = c.sort_unstable_by_key in
-    let is : c.pick.new.plan.items ≡ picked c.args.kept s.entries.items = c.pick.ensures.plan ∙ ap (picked c.args.kept) c.as_slice.ensures.value in
+    let is : c.pick.new.plan.items ≡ picked c.args.kept s.entries.items = c.pick.ensures.plan ∙ ap (picked c.args.kept)
+    c.as_slice.ensures.value in
     subst (λ x. IsPlan x c.args.kept e.new.self.items) c.self.view_is
-    (planned s.places.items s.entries.items c.self.invariant.0 c.args.kept e.new.self.items (subst (λ x. IsPermutation x e.new.self.items) is e.ensures.permutation)
+    (planned s.places.items s.entries.items c.self.invariant.0 c.args.kept e.new.self.items
+    (subst (λ x. IsPermutation x e.new.self.items) is e.ensures.permutation)
     (IsNonDecreasingBy-from_sort_by_key (λ t. t.cell) e.new.self.items e.ensures.sorted (λ a r q k. search rules)))
