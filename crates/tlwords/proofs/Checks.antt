@@ -64,8 +64,8 @@ unwanted_keeps slots c r e = go (was_read slots c) (value_kept slots c) r e
     go true (Some v) r e = (v, refl)
     go false o r e = cc
 
-module _ {S N : Type 0} (terms : Terms S N) (slots : List Slot) (cells : List ℕ) (i : ℕ) (m : Mine S N)
-    (k : IsKeptOf m.0.seat slots cells) where
+module _ {S N : Type 0} (terms : Terms S N) (slots : List Slot) (i : ℕ) (m : Mine S N)
+    (k : IsKeptOf m.0.seat slots) where
   pub check_starts : m.0.seat.place ≡ Checking i 0 → Goes terms m (placed m.0.seat (Checking i 0)) m
   check_starts e = goes_start terms m (placed m.0.seat (Checking i 0)) (λ j. let t : Seat = record m.0.seat { place = sym e j } in t)
 

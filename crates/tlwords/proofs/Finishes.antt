@@ -19,8 +19,8 @@ use Rattle.tlwords.proofs.Held.{no_writes}
 use Rattle.tlwords.proofs.Turns.{unkept_of, moves_grow, goes_seat, goes_setting}
 use Rattle.tlwords.proofs.Settles.{some_held}
 
-pub nothing_kept : (t : Seat) (slots : List Slot) (cells : List ℕ) → IsKeptOf t slots cells → NoneWanted slots true 0 (length slots) → writes_kept slots ≡ []
-nothing_kept t slots cells k front = no_writes slots (length slots) (unkept_of t slots cells k 0 (length slots) front)
+pub nothing_kept : (t : Seat) (slots : List Slot) → IsKeptOf t slots → NoneWanted slots true 0 (length slots) → writes_kept slots ≡ []
+nothing_kept t slots k front = no_writes slots (length slots) (unkept_of t slots k 0 (length slots) front)
 
 -- a run that is to write nothing is lawful so
 pub unwritten_lawful : {S N : Type 0} (terms : Terms S N) (slots : List Slot) (x : N) (v : View S N) → IsLawfulNow terms v slots x

@@ -10,7 +10,8 @@ pub mod Lifts
 pub mod OpenSteps
 pub mod Openings
 pub mod RunSteps
-pub mod Wanted
+pub mod Entries
+pub mod Plans
 pub mod Held
 pub mod Turns
 pub mod Releases
@@ -19,7 +20,6 @@ pub mod Stores
 pub mod Settles
 pub mod Finishes
 pub mod Knows
-pub mod Forgets
 pub mod Ends
 pub mod Fillings
 pub mod Modes

@@ -97,7 +97,7 @@ module _ {S N : Type 0} (terms : Terms S N) (slots : List Slot) where
 
   -- ---- a number was drawn
 
-  module _ (cells : List ℕ) (x : N) (m r : Mine S N) (n : ℕ) (d : Draws terms (Some x) m n r) (kept : IsKeptOf m.0.seat slots cells)
+  module _ (x : N) (m r : Mine S N) (n : ℕ) (d : Draws terms (Some x) m n r) (kept : IsKeptOf m.0.seat slots)
       (held : m.0.seat.held ≡ held_in slots 0 0 (length slots)) (some : writes_kept slots ≢ []) where
     drawn_is : r.0 ≡ record m.0 { seen = r.0.seen; seat = placed m.0.seat (Checking n 0); note = Some x; drawn = m.0.drawn ++ suc n ∷ [] }
     drawn_is = d.is x refl
@@ -105,8 +105,8 @@ module _ {S N : Type 0} (terms : Terms S N) (slots : List Slot) where
     pub drawn_seat : r.0.seat ≡ placed m.0.seat (Checking n 0)
     drawn_seat = ap (λ (v : View S N). v.seat) drawn_is
 
-    pub drawn_kept : IsKeptOf r.0.seat slots cells
-    drawn_kept = kept_same m.0.seat r.0.seat slots cells (ap (λ (t : Seat). t.reads) drawn_seat) kept
+    pub drawn_kept : IsKeptOf r.0.seat slots
+    drawn_kept = kept_same m.0.seat r.0.seat slots (ap (λ (t : Seat). t.reads) drawn_seat) kept
 
     pub drawn_setting : (y : S) → m.0.setting ≡ Some y → r.0.setting ≡ Some y
     drawn_setting y e = ap (λ (v : View S N). v.setting) drawn_is ∙ e
@@ -119,8 +119,8 @@ module _ {S N : Type 0} (terms : Terms S N) (slots : List Slot) where
       failed_seat : s.0.seat ≡ conflict r.0.seat (Voiding n)
       failed_seat = goes_seat terms r s (conflict r.0.seat (Voiding n)) f.goes
 
-      pub void_kept : IsKeptOf s.0.seat slots cells
-      void_kept = kept_same r.0.seat s.0.seat slots cells (ap (λ (t : Seat). t.reads) failed_seat) drawn_kept
+      pub void_kept : IsKeptOf s.0.seat slots
+      void_kept = kept_same r.0.seat s.0.seat slots (ap (λ (t : Seat). t.reads) failed_seat) drawn_kept
 
       pub void_setting : (y : S) → m.0.setting ≡ Some y → s.0.setting ≡ Some y
       void_setting y e = ap (λ (v : View S N). v.setting) f.goes.is ∙ drawn_setting y e
@@ -181,8 +181,8 @@ module _ {S N : Type 0} (terms : Terms S N) (slots : List Slot) where
       passed_reads : s.0.seat.reads ≡ m.0.seat.reads
       passed_reads = ap (λ (t : Seat). t.reads) passed_seat ∙ ap (λ (t : Seat). t.reads) drawn_seat
 
-      pub passed_kept : IsKeptOf s.0.seat slots cells
-      passed_kept = kept_same m.0.seat s.0.seat slots cells passed_reads kept
+      pub passed_kept : IsKeptOf s.0.seat slots
+      passed_kept = kept_same m.0.seat s.0.seat slots passed_reads kept
 
       pub passed_setting : (y : S) → m.0.setting ≡ Some y → s.0.setting ≡ Some y
       passed_setting y e = ap (λ (v : View S N). v.setting) p.goes.is ∙ drawn_setting y e
@@ -204,8 +204,8 @@ module _ {S N : Type 0} (terms : Terms S N) (slots : List Slot) where
       )
 
       module _ (z : Mine S N) (a : StoresTo terms slots n (work_kept s.0.seat slots x) (length slots) s z) where
-        pub done_kept : IsKeptOf z.0.seat slots cells
-        done_kept = kept_same m.0.seat z.0.seat slots cells (ap (λ (v : View S N). v.seat.reads) a.is ∙ passed_reads) kept
+        pub done_kept : IsKeptOf z.0.seat slots
+        done_kept = kept_same m.0.seat z.0.seat slots (ap (λ (v : View S N). v.seat.reads) a.is ∙ passed_reads) kept
 
         pub done_setting : (y : S) → m.0.setting ≡ Some y → z.0.setting ≡ Some y
         done_setting y e = ap (λ (v : View S N). v.setting) a.is ∙ passed_setting y e

@@ -21,7 +21,7 @@ use Rattle.tlwords.proofs.Held.{NoneKept, held_on, held_more, held_below}
 
 -- ---- what is kept
 
-module _ (t : Seat) (slots : List Slot) (cells : List ℕ) (k : IsKeptOf t slots cells) where
+module _ (t : Seat) (slots : List Slot) (k : IsKeptOf t slots) where
   pub unkept_of : (a b : ℕ) → NoneWanted slots true a b → NoneKept slots a b
   unkept_of a b front c l m = go (value_kept slots c) (was_read slots c) (k.1 c) (front c l m)
     where

@@ -41,10 +41,10 @@ IsLawfulNow {S} {N} terms v slots n = (x : S) → v.setting ≡ Some x → Permi
 
 -- ---- what was kept is thrown away
 
--- no value is kept any more: the slots and the cells listed, before and after
-abbrev pub HasForgotten : List Slot → List ℕ → List Slot → List ℕ → Type 0
-HasForgotten slots cells after more =
-    ((t : Seat) → IsKeptOf t slots cells → IsKeptOf t after more)
+-- no value is kept any more: the slots before and after
+abbrev pub HasForgotten : List Slot → List Slot → Type 0
+HasForgotten slots after =
+    ((t : Seat) → IsKeptOf t slots → IsKeptOf t after)
     × ((c : ℕ) → value_kept after c ≡ None)
     × ((c : ℕ) → word_seen after c ≡ word_seen slots c)
     × (writes_kept after ≡ []) × (length after ≡ length slots)

@@ -6,6 +6,7 @@ pub mod Plays
 pub mod Runs
 pub mod Reads
 pub mod Walks
+pub mod Entries
 pub mod Commits
 pub mod Committing
 pub mod Closing

@@ -31,46 +31,35 @@ value_kept slots c = option_and_then (λ s. s.kept) (slice_get slots c)
 abbrev pub was_read : List Slot → ℕ → Bool
 was_read slots c = is_some (word_seen slots c)
 
--- the cell is listed
-abbrev pub lists : ℕ → List ℕ → Bool
-lists c cells = list_any (λ d. d == c) cells
-
--- how many cells were read
-abbrev pub count_read : List Slot → ℕ
-count_read [] = 0
-count_read (s ∷ ss) = counts s.word + count_read ss
-
 -- nothing is kept
 abbrev pub IsBlank : List Slot → Type 0
 IsBlank slots = (c : ℕ) → (word_seen slots c ≡ None) × (value_kept slots c ≡ None)
 
 -- what is kept is of the seat's reads, and a cell is written only after it was read
-abbrev pub IsKeptOf : Seat → List Slot → List ℕ → Type 0
-IsKeptOf t slots cells =
+abbrev pub IsKeptOf : Seat → List Slot → Type 0
+IsKeptOf t slots =
     ((c : ℕ) → word_seen slots c ≡ option_map (λ r. r.word) (find_read c t.reads))
     × ((c : ℕ) → is_some (value_kept slots c) ≡ true → was_read slots c ≡ true)
     × ((c w : ℕ) → word_seen slots c ≡ Some w → w % 2 ≡ 0)
-    × ((c : ℕ) → was_read slots c ≡ true → lists c cells ≡ true)
-    × (count_read slots ≡ length cells)
 
 -- the seat with the reads that a run in this mode keeps
 abbrev pub noted : Mode → Seat → Seat
 noted Reading t = record t { reads = [] }
 noted Writing t = t
 
--- a read of the cell under this word was noted: the slots and the cells listed, before and after
-abbrev pub HasNoted : List Slot → List ℕ → List Slot → List ℕ → ℕ → ℕ → Type 0
-HasNoted slots cells after more cell word =
-    ((t : Seat) (r : Read) → IsKeptOf t slots cells → r.cell ≡ cell → r.word ≡ word → IsKeptOf (record t { reads = r ∷ t.reads }) after more)
+-- a read of the cell under this word was noted: the slots before and after
+abbrev pub HasNoted : List Slot → List Slot → ℕ → ℕ → Type 0
+HasNoted slots after cell word =
+    ((t : Seat) (r : Read) → IsKeptOf t slots → r.cell ≡ cell → r.word ≡ word → IsKeptOf (record t { reads = r ∷ t.reads }) after)
     × ((c : ℕ) → value_kept after c ≡ value_kept slots c)
     × (was_read after cell ≡ true)
     × ((c : ℕ) → was_read slots c ≡ true → was_read after c ≡ true)
     × (length after ≡ length slots)
 
 -- a value was kept aside for the cell
-abbrev pub HasKept : List Slot → List ℕ → List Slot → List ℕ → ℕ → ℕ → Type 0
-HasKept slots cells after more cell value =
-    ((t : Seat) → IsKeptOf t slots cells → IsKeptOf t after more)
+abbrev pub HasKept : List Slot → List Slot → ℕ → ℕ → Type 0
+HasKept slots after cell value =
+    ((t : Seat) → IsKeptOf t slots → IsKeptOf t after)
     × (value_kept after cell ≡ Some value)
     × ((c : ℕ) → c ≢ cell → value_kept after c ≡ value_kept slots c)
     × ((c : ℕ) → word_seen after c ≡ word_seen slots c)

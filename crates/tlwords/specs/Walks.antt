@@ -1,25 +1,8 @@
--- The cells of a log, as they are gone over.
-use Rattle.std.specs.Prelude.{◌≡◌, ℕ, ◌<◌, ◌≤◌, ◌&&◌, ◌⊎◌, not, Bool, true, false, is_some, if◌then◌else◌, None, List, length, slice_index}
+-- The cells of a log that a step of a commit is for, as it goes over them.
+use Rattle.std.specs.Prelude.{◌≡◌, ℕ, zero, suc, ◌<◌, ◌≤◌, ◌&&◌, not, Bool, true, false, is_some, if◌then◌else◌, Option, Some, None, List, length, slice_get}
 use Rattle.tlwords.specs.declared.log.Slot.{Slot}
-use Rattle.tlwords.specs.Runs.{word_seen, value_kept, was_read, lists, count_read}
-
--- ---- what was kept is thrown away
-
--- what was kept at first is thrown away of the cells that are done
-abbrev pub IsClearing : List Slot → List Slot → List ℕ → Type 0
-IsClearing first slots done =
-    (c : ℕ)
-    → ((word_seen slots c ≡ None) × (value_kept slots c ≡ None))
-    ⊎ ((word_seen slots c ≡ word_seen first c) × (value_kept slots c ≡ value_kept first c) × (lists c done ≡ false))
-
--- of the cells that are done no value is kept; the others have theirs, and each has the word that was seen
-abbrev pub IsForgetting : List Slot → List Slot → List ℕ → Type 0
-IsForgetting first slots done =
-    ((c : ℕ) → (word_seen slots c ≡ word_seen first c)
-    × ((value_kept slots c ≡ None) ⊎ ((value_kept slots c ≡ value_kept first c) × (lists c done ≡ false))))
-    × (count_read slots ≡ count_read first) × (length slots ≡ length first)
-
--- ---- the cells in ascending order
+use Rattle.tlwords.specs.declared.log.Touched.{Touched}
+use Rattle.tlwords.specs.Runs.{word_seen, value_kept, was_read}
 
 -- the cell was read, and is to be written or not, as `kept` says
 abbrev pub is_wanted : List Slot → Bool → ℕ → Bool
@@ -33,7 +16,23 @@ NoneWanted slots kept low high = (c : ℕ) → low ≤ c → c < high → is_wan
 abbrev pub IsLeast : List Slot → Bool → ℕ → ℕ → Type 0
 IsLeast slots kept low c = (low ≤ c) × (c < length slots) × (is_wanted slots kept c ≡ true) × NoneWanted slots kept low c
 
--- of the cells, in ascending order, the first n stand before `from`, and the others from `from` on
-abbrev pub StartsFrom : ℕ → List ℕ → ℕ → Type 0
-StartsFrom from cells n =
-    ((k : ℕ) → k < n → slice_index cells k < from) × ((k : ℕ) → n ≤ k → k < length cells → from ≤ slice_index cells k)
+-- t is the least cell from `low` on that is wanted, with the word that was seen and the value to be written
+abbrev pub IsNext : List Slot → Bool → ℕ → Touched → Type 0
+IsNext slots kept low t =
+    IsLeast slots kept low t.cell × (word_seen slots t.cell ≡ Some t.word) × (kept ≡ true → value_kept slots t.cell ≡ Some t.value)
+
+-- the first cell behind that of t
+abbrev pub behind : Option Touched → ℕ
+behind None = 0
+behind (Some t) = suc t.cell
+
+-- the first cell behind the first n of these
+abbrev pub low_of : List Touched → ℕ → ℕ
+low_of ts zero = 0
+low_of ts (suc n) = behind (slice_get ts n)
+
+-- these are the cells that are wanted, in ascending order
+abbrev pub IsPlan : List Slot → Bool → List Touched → Type 0
+IsPlan slots kept ts =
+    ((n : ℕ) (t : Touched) → slice_get ts n ≡ Some t → IsNext slots kept (low_of ts n) t)
+    × NoneWanted slots kept (low_of ts (length ts)) (length slots)

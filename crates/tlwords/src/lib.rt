@@ -17,6 +17,7 @@ mod passes;
 mod plays;
 mod rule;
 mod runs;
+mod slots;
 mod steps;
 mod store;
 mod store_steps;

@@ -16,9 +16,8 @@ pub struct Pass<L: Law> {
     pub(crate) full: bool,
     pub ghost fits: { IsPassOf seat.me count },
     pub ghost knows: { KnowsStore seat.me.0 full },
-    pub ghost blank: { IsBlank log.slots.items },
-    pub ghost unused: { log.used ≡ 0 },
-    pub ghost room: { length log.slots.items ≡ length seat.me.0.base },
+    pub ghost blank: { IsBlank log.slots },
+    pub ghost room: { length log.slots ≡ length seat.me.0.base },
 }
 
 impl<L: Law> Drop for Pass<L> {
@@ -35,7 +34,7 @@ impl<L: Law> Drop for Pass<L> {
 impl<L: Law> Pass<L> {
     pub(crate) fn into_parts(self) -> (Place<L>, Log, u64, bool)
         ensures parts { (result.0 ≡ self.seat) × (result.1 ≡ self.log) × (result.2 ≡ self.count) × (result.3 ≡ self.full) }
-        ensures fits { IsPassOf result.0.me result.2 × IsBlank result.1.slots.items × (result.1.used ≡ 0) × (length result.1.slots.items ≡ length result.0.me.0.base) × KnowsStore result.0.me.0 result.3 }
+        ensures fits { IsPassOf result.0.me result.2 × IsBlank result.1.slots × (length result.1.slots ≡ length result.0.me.0.base) × KnowsStore result.0.me.0 result.3 }
     {
         let Pass {
             seat,

@@ -5,7 +5,7 @@ ghost use Rattle.std.specs.Prelude.{◌≡◌, ℕ, ◌<◌, ◌≤◌, ◌⊎�
 ghost use Rattle.tlwords.specs.Plays.{IsSameSeat, Sampled};
 ghost use Rattle.tlwords.specs.Runs.{IsRunOf, IsKeptOf, IsBlank, KnowsStore, noted, word_seen, value_kept, was_read, Learns};
 ghost use Rattle.tlwords.specs.Callers.{SitsAt, AreOfOneOpening};
-ghost use Rattle.tlwords.specs.Reads.{listed, LogKeeps, kept_for, HasRead, HasStopped};
+ghost use Rattle.tlwords.specs.Reads.{LogKeeps, kept_for, HasRead, HasStopped};
 ghost use Rattle.tlwords.specs.Commits.{IsLawfulNow, HasForgotten, HasEnded};
 ghost use Rattle.tlwords.specs.declared.outcome.Outcome.TheVariants.{Read as EndsRead, Conflict as EndsConflict};
 ghost use Rattle.tlwords.specs.declared.mode.Mode.TheVariants.{Reading, Writing};
@@ -34,8 +34,8 @@ pub struct Run<'w, L: Law> {
     pub ghost table_is: { (seat.table_id ≡ words.now.table.shared.table_id) × (words.now.cells ≡ length seat.me.0.base) },
     pub ghost room_is: { words.now.room ≡ seat.me.0.room },
     pub ghost fits: { IsRunOf seat.me count place (is_some over) },
-    pub ghost kept: { IsKeptOf (noted mode seat.me.0.seat) log.slots.items (take log.used log.touched.items) },
-    pub ghost room: { length log.slots.items ≡ length seat.me.0.base },
+    pub ghost kept: { IsKeptOf (noted mode seat.me.0.seat) log.slots },
+    pub ghost room: { length log.slots ≡ length seat.me.0.base },
     pub ghost knows: { KnowsStore seat.me.0 full },
 }
 
@@ -48,7 +48,7 @@ pub fn begin<'w, L: Law>(words: &'w Words<L>, pass: Pass<L>, mode: Mode) -> Run<
     ensures place { length pass.seat.me.0.seen.history ≤ result.place }
     ensures mode { result.mode ≡ mode }
     ensures open { result.over ≡ None }
-    ensures blank { IsBlank result.log.slots.items }
+    ensures blank { IsBlank result.log.slots }
 {
     let (mut seat, log, count, full) = pass.into_parts();
     let place = steps::begin(words, &mut seat);
@@ -75,7 +75,7 @@ impl<'w, L: Law> Run<'w, L> {
     // What is kept of the cell.
     fn slot(&self, cell: usize) -> Slot
         requires { cell < self.now.words.now.cells }
-        ensures { (word_seen self.now.log.slots.items cell ≡ result.word) × (value_kept self.now.log.slots.items cell ≡ result.kept) }
+        ensures { (word_seen self.now.log.slots cell ≡ result.word) × (value_kept self.now.log.slots cell ≡ result.kept) }
     {
         match self.mode {
             Mode::Reading => Slot {
@@ -125,7 +125,7 @@ impl<'w, L: Law> Run<'w, L> {
     pub fn write(&mut self, cell: usize, value: u64)
         requires mode { self.old.mode ≡ Writing }
         requires cell { cell < self.old.words.now.cells }
-        requires read { was_read self.old.log.slots.items cell ≡ true }
+        requires read { was_read self.old.log.slots cell ≡ true }
         ensures kept { LogKeeps self.old.log self.new.log cell value }
         ensures same { (self.new.words.now ≡ self.old.words.now) × (self.new.seat ≡ self.old.seat) × (self.new.place ≡ self.old.place) × (self.new.count ≡ self.old.count) × (self.new.over ≡ self.old.over) × (self.new.mode ≡ self.old.mode) × (self.new.full ≡ self.old.full) }
     {
@@ -134,7 +134,7 @@ impl<'w, L: Law> Run<'w, L> {
 
     /// Throws away what was kept aside: the run has written nothing. It makes no step on the words.
     pub fn forget(&mut self)
-        ensures forgets { HasForgotten self.old.log.slots.items (listed self.old.log) self.new.log.slots.items (listed self.new.log) }
+        ensures forgets { HasForgotten self.old.log.slots self.new.log.slots }
         ensures same { (self.new.words.now ≡ self.old.words.now) × (self.new.seat ≡ self.old.seat) × (self.new.place ≡ self.old.place) × (self.new.count ≡ self.old.count) × (self.new.over ≡ self.old.over) × (self.new.mode ≡ self.old.mode) × (self.new.full ≡ self.old.full) }
     {
         self.log.forget();
@@ -147,12 +147,12 @@ impl<'w, L: Law> Run<'w, L> {
     /// nothing, as each one in Reading mode, only loads the spare word. One that has met a conflict answers it again, without a step and
     /// without a number.
     pub fn commit(self, note: &L::Note) -> (Pass<L>, Outcome)
-        requires lawful { self.over ≡ None → IsLawfulNow L.terms self.seat.me.0 self.log.slots.items note.now }
+        requires lawful { self.over ≡ None → IsLawfulNow L.terms self.seat.me.0 self.log.slots note.now }
         ensures same { IsSameSeat self.entry.seat result.0.seat }
         ensures opening { AreOfOneOpening self.entry.words.now result.0 }
         ensures over { (k : ConflictValue) → self.entry.over ≡ Some k → (result.1 ≡ EndsConflict k None) × (result.0.seat.me ≡ self.entry.seat.me) }
         ensures reading { self.entry.over ≡ None → self.entry.mode ≡ Reading → result.1 ≡ EndsRead self.entry.place }
-        ensures ended { self.entry.over ≡ None → HasEnded L.terms self.entry.log.slots.items note.now self.entry.seat.me result.0.seat.me result.1 }
+        ensures ended { self.entry.over ≡ None → HasEnded L.terms self.entry.log.slots note.now self.entry.seat.me result.0.seat.me result.1 }
     {
         let Run {
             words,

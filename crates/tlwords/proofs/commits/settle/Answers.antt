@@ -1,8 +1,11 @@
-use Rattle.std.proofs.Common.{arith, sym, ap, ◌∙◌, subst}
+use Rattle.std.proofs.Common.{arith, sym, ap, ◌∙◌, subst, None, Some, ◌*◌, ◌+◌, length}
 use Rattle.tlcore.specs.Seats.{reads_of, writes_of}
 use Rattle.ranges.specs.Pairs.{Pairs}
 use Rattle.tlwords.specs.Terms.{Permits}
 use Rattle.tlwords.proofs.Held.{held_writes}
+use Rattle.tlwords.specs.Committing.{Releasing, StoresTo}
+use Rattle.tlwords.specs.Commits.{work_kept}
+use Rattle.tlwords.proofs.Plans.{plan_same}
 use Rattle.tlwords.proofs.Settles.{void_releases, void_ends, void_drawn, done_releases, done_ends}
 use Rattle.tlwords.proofs.commits.settle.Goals as goal
 
@@ -13,31 +16,61 @@ draw-index-requires-clause-setting g c =
       y.0,
       y.1,
       subst (λ (ws : Pairs). Permits g.L.Law.terms y.0 v.seen.ranges (reads_of v.seat.reads) ws c.args.note.now)
-          (sym (ap writes_of c.requires.run.2 ∙ held_writes c.args.log.now.slots.items 0 _)) y.2,
+          (sym (ap writes_of c.requires.run.2 ∙ held_writes c.args.log.now.slots 0 _)) y.2,
     )
 
 pub draw-index-requires-clause-writes : goal.draw-index-requires-clause-writes
-draw-index-requires-clause-writes g c = λ e. c.requires.writes (sym (ap writes_of c.requires.run.2 ∙ held_writes c.args.log.now.slots.items 0 _) ∙ e)
+draw-index-requires-clause-writes g c = λ e. c.requires.writes
+    (sym (ap writes_of c.requires.run.2 ∙ held_writes c.args.log.now.slots 0 _) ∙ e)
 
 pub release_all-requires-clause-run : goal.release_all-requires-clause-run
 release_all-requires-clause-run g c =
-    void_releases g.L.Law.terms c.args.log.now.slots.items _ c.args.note.now _ _ c.draw-index.result c.draw-index.ensures.told c.requires.kept c.requires.run.2 c.requires.writes
-    c.in-Err.conflict _ c.in-Err.ensures.err c.args.words.now.cells (sym c.requires.cells.0)
+    let e = c.check_all.ensures.log in
+    let r = c.check_all.new.seat.me in
+    subst (λ x. Releasing g.L.Law.terms x c.args.words.now.cells None 0 r r) (sym e.0)
+    (void_releases g.L.Law.terms c.args.log.now.slots c.args.note.now _ _ c.draw-index.result c.draw-index.ensures.told c.requires.kept
+    c.requires.run.2 c.requires.writes
+    c.in-Err.conflict _ c.in-Err.ensures.err c.args.words.now.cells (sym c.requires.cells.0))
+
+pub release_all-requires-clause-plan : goal.release_all-requires-clause-plan
+release_all-requires-clause-plan g c = let e = c.check_all.ensures.log in plan_same c.args.log.now c.check_all.new.log e.0 e.1
+    c.requires.plan
 
 pub returns-in-Err-clause-err : goal.returns-in-Err-clause-err
 returns-in-Err-clause-err g c = (
-  void_ends g.L.Law.terms c.args.log.now.slots.items _ c.args.note.now _ _ c.draw-index.result c.draw-index.ensures.told c.requires.kept c.requires.run.2 c.requires.writes
+  void_ends g.L.Law.terms c.args.log.now.slots c.args.note.now _ _ c.draw-index.result c.draw-index.ensures.told c.requires.kept
+      c.requires.run.2 c.requires.writes
       c.in-Err.conflict _ c.in-Err.ensures.err _ c.release_all.ensures.releases _ (omega arith),
-  void_drawn g.L.Law.terms c.args.log.now.slots.items _ c.args.note.now _ _ c.draw-index.result c.draw-index.ensures.told c.requires.kept c.requires.run.2 c.requires.writes
+  void_drawn g.L.Law.terms c.args.log.now.slots c.args.note.now _ _ c.draw-index.result c.draw-index.ensures.told c.requires.kept
+      c.requires.run.2 c.requires.writes
       c.in-Err.conflict _ c.in-Err.ensures.err _ c.release_all.ensures.releases,
 )
 
+pub store_all-requires-clause-plan : goal.store_all-requires-clause-plan
+store_all-requires-clause-plan g c = let e = c.check_all.ensures.log in plan_same c.args.log.now c.check_all.new.log e.0 e.1 c.requires.plan
+
 pub release_all-requires-2-clause-run : goal.release_all-requires-2-clause-run
 release_all-requires-2-clause-run g c =
-    done_releases g.L.Law.terms c.args.log.now.slots.items _ c.args.note.now _ _ c.draw-index.result c.draw-index.ensures.told c.requires.kept c.requires.run.2 c.requires.writes
-    _ c.in_default.ensures.ok _ c.store_all.ensures.stores c.args.words.now.cells _ (sym c.requires.cells.0) (omega arith)
+    let e = c.check_all.ensures.log in
+    let m = c.check_all.new.seat.me in
+    let st = subst (λ x. StoresTo g.L.Law.terms x c.draw-index.result (work_kept m.0.seat x c.args.note.now) (length x) m
+    c.store_all.new.seat.me) e.0 c.store_all.ensures.stores in
+    let r = c.store_all.new.seat.me in
+    subst (λ x. Releasing g.L.Law.terms x c.args.words.now.cells (Some (2 * (c.draw-index.result + 1))) 0 r r) (sym e.0)
+    (done_releases g.L.Law.terms c.args.log.now.slots c.args.note.now _ _ c.draw-index.result c.draw-index.ensures.told c.requires.kept
+    c.requires.run.2 c.requires.writes
+    _ c.in_default.ensures.ok _ st c.args.words.now.cells _ (sym c.requires.cells.0) (omega arith))
+
+pub release_all-requires-2-clause-plan : goal.release_all-requires-2-clause-plan
+release_all-requires-2-clause-plan g c = let e = c.check_all.ensures.log in plan_same c.args.log.now c.check_all.new.log e.0 e.1
+    c.requires.plan
 
 pub returns-clause-ok : goal.returns-clause-ok
 returns-clause-ok g c =
-    done_ends g.L.Law.terms c.args.log.now.slots.items _ c.args.note.now _ _ c.draw-index.result c.draw-index.ensures.told c.requires.kept c.requires.run.2 c.requires.writes
-    _ c.in_default.ensures.ok _ c.store_all.ensures.stores _ c.release_all-2.ensures.releases _ (omega arith)
+    let e = c.check_all.ensures.log in
+    let m = c.check_all.new.seat.me in
+    let st = subst (λ x. StoresTo g.L.Law.terms x c.draw-index.result (work_kept m.0.seat x c.args.note.now) (length x) m
+    c.store_all.new.seat.me) e.0 c.store_all.ensures.stores in
+    done_ends g.L.Law.terms c.args.log.now.slots c.args.note.now _ _ c.draw-index.result c.draw-index.ensures.told c.requires.kept
+    c.requires.run.2 c.requires.writes
+    _ c.in_default.ensures.ok _ st _ c.release_all-2.ensures.releases _ (omega arith)

@@ -1,59 +1,87 @@
-use Rattle.std.proofs.Common.{arith, refl, inl, ◌∙◌}
+use Rattle.std.proofs.Common.{arith, refl, inl, sym, subst, ◌∙◌, ◌<◌, ◌≤◌, ◌+◌, length, true}
+use Rattle.tlwords.specs.Walks.{low_of}
+use Rattle.tlwords.proofs.Plans.{plan_at, plan_next, plan_end}
 use Rattle.tlwords.proofs.Turns.{unkept_of, seat_trans}
-use Rattle.tlwords.proofs.Stores.{store_setting, store_base, store_place, store_held, store_goes, store_ends}
+use Rattle.tlwords.proofs.Stores.{StoresSoFar, store_setting, store_base, store_place, store_held, store_goes, store_ends}
 use Rattle.tlwords.proofs.commits.store_all.Goals as goal
 
-pub loop-next-init : goal.loop-next-init
-loop-next-init g c = ((refl, refl), omega arith, inl (refl, λ x a b. absurd (omega arith)))
+pub loop-i-init : goal.loop-i-init
+loop-i-init g c = ((refl, refl), inl (refl, λ x a b. absurd (omega arith)))
 
 pub store-requires-clause-table : goal.store-requires-clause-table
-store-requires-clause-table g c = c.loop-next.invariant.0.0 ∙ c.requires.table
+store-requires-clause-table g c = c.loop-i.invariant.0.0 ∙ c.requires.table
 
 pub store-requires-clause-setting : goal.store-requires-clause-setting
-store-requires-clause-setting g c = (
-  c.requires.setting.0,
-  store_setting g.L.Law.terms c.args.log.now.slots.items c.args.index c.args.note.now c.args.seat.now.me _ c.requires.run.1 c.requires.held.0 c.loop-next.next _
-      c.loop-next.invariant.2 _ c.requires.setting.1,
-)
+store-requires-clause-setting g c =
+    let ws = c.args.log.now.writes.items in (
+      c.requires.setting.0,
+      store_setting g.L.Law.terms c.args.log.now.slots c.args.index c.args.note.now c.args.seat.now.me _ c.requires.run.1
+          c.requires.held.0 (low_of ws c.loop-i.i) _
+          c.loop-i.invariant.1 _ c.requires.setting.1,
+    )
 
 pub store-requires-clause-cell : goal.store-requires-clause-cell
 store-requires-clause-cell g c =
-    let l = c.in-Some.ensures.some.0.1 in
-    let a =
-    store_base g.L.Law.terms c.args.log.now.slots.items c.args.index c.args.note.now c.args.seat.now.me _ c.requires.run.1 c.requires.held.0 c.loop-next.next _
-    c.loop-next.invariant.2 in
+    let ws = c.args.log.now.writes.items in
+    let t = c.index-kept.result.now in
+    let n : c.loop-i.i < length ws = let a = c.loop-i-test.true in let b = c.len-i-end.ensures in let d = c.args.log.now.writes.ok.0 in
+    omega arith in
+    let s = plan_at c.args.log.now.slots true ws c.requires.plan c.loop-i.i t n c.index-kept.ensures in
+    let l = s.0.1 in
+    let a = store_base g.L.Law.terms c.args.log.now.slots c.args.index c.args.note.now c.args.seat.now.me _ c.requires.run.1
+    c.requires.held.0 (low_of ws c.loop-i.i) _
+    c.loop-i.invariant.1 in
     let p = c.requires.cells.0 in
     let q = c.requires.cells.1 in
     (omega arith, omega arith)
 
 pub store-requires-clause-place : goal.store-requires-clause-place
 store-requires-clause-place g c =
-    store_place g.L.Law.terms c.args.log.now.slots.items c.args.index c.args.note.now c.args.seat.now.me _ c.requires.run.1 c.requires.held.0 c.loop-next.next _
-    c.loop-next.invariant.2 c.requires.run.2
+    let ws = c.args.log.now.writes.items in
+    store_place g.L.Law.terms c.args.log.now.slots c.args.index c.args.note.now c.args.seat.now.me _ c.requires.run.1 c.requires.held.0
+    (low_of ws c.loop-i.i) _
+    c.loop-i.invariant.1 c.requires.run.2
 
 pub store-requires-clause-held : goal.store-requires-clause-held
 store-requires-clause-held g c =
-    let s = c.in-Some.ensures.some in
-    store_held g.L.Law.terms c.args.log.now.slots.items c.args.index c.args.note.now c.args.seat.now.me _ c.requires.run.1 c.requires.held.0 c.loop-next.next _
-    c.loop-next.invariant.2 c.in-Some.kept.cell c.in-Some.kept.value s.0.1 (s.2 refl)
+    let ws = c.args.log.now.writes.items in
+    let t = c.index-kept.result.now in
+    let n : c.loop-i.i < length ws = let a = c.loop-i-test.true in let b = c.len-i-end.ensures in let d = c.args.log.now.writes.ok.0 in
+    omega arith in
+    let s = plan_at c.args.log.now.slots true ws c.requires.plan c.loop-i.i t n c.index-kept.ensures in
+    store_held g.L.Law.terms c.args.log.now.slots c.args.index c.args.note.now c.args.seat.now.me _ c.requires.run.1 c.requires.held.0
+    (low_of ws c.loop-i.i) _
+    c.loop-i.invariant.1 t.cell t.value s.0.1 (s.2 refl)
 
-pub loop-next-smaller : goal.loop-next-smaller
-loop-next-smaller g c = let s = c.in-Some.ensures.some.0 in let a = s.0 in let b = s.1 in omega arith
-
-pub loop-next-preserved : goal.loop-next-preserved
-loop-next-preserved g c =
-    let s = c.in-Some.ensures.some in (
-      seat_trans c.args.seat.now c.loop-next.seat c.store.new.seat c.loop-next.invariant.0 c.store.ensures.seat,
-      (let b = s.0.1 in omega arith),
-      store_goes g.L.Law.terms c.args.log.now.slots.items c.args.index c.args.note.now c.args.seat.now.me _ c.requires.run.1 c.requires.held.0 c.loop-next.next _
-          c.loop-next.invariant.2 c.in-Some.kept.cell c.in-Some.kept.value s.0.1 (s.2 refl) _ c.requires.held.1 s.0.0
-          (unkept_of c.args.seat.now.me.0.seat c.args.log.now.slots.items _ c.requires.kept _ _ s.0.3) c.store.ensures.told,
+pub loop-i-preserved : goal.loop-i-preserved
+loop-i-preserved g c =
+    let ws = c.args.log.now.writes.items in
+    let t = c.index-kept.result.now in
+    let n : c.loop-i.i < length ws = let a = c.loop-i-test.true in let b = c.len-i-end.ensures in let d = c.args.log.now.writes.ok.0 in
+    omega arith in
+    let s = plan_at c.args.log.now.slots true ws c.requires.plan c.loop-i.i t n c.index-kept.ensures in
+    let m = c.args.seat.now.me in (
+      seat_trans c.args.seat.now c.loop-i.seat c.store.new.seat c.loop-i.invariant.0 c.store.ensures.seat,
+      subst (λ k. StoresSoFar g.L.Law.terms c.args.log.now.slots c.args.index c.args.note.now m k c.store.new.seat.me)
+          {x = t.cell + 1} {y = low_of ws (c.loop-i.i + 1)}
+          (sym (plan_next c.args.log.now.slots true ws c.requires.plan c.loop-i.i t n c.index-kept.ensures))
+          (store_goes g.L.Law.terms c.args.log.now.slots c.args.index c.args.note.now c.args.seat.now.me _ c.requires.run.1
+          c.requires.held.0 (low_of ws c.loop-i.i) _
+          c.loop-i.invariant.1 t.cell t.value s.0.1 (s.2 refl) _ c.requires.held.1 s.0.0
+          (unkept_of m.0.seat c.args.log.now.slots c.requires.kept _ _ s.0.3) c.store.ensures.told),
     )
 
 pub returns-clause-seat : goal.returns-clause-seat
-returns-clause-seat g c = c.loop-next.invariant.0
+returns-clause-seat g c = c.loop-i.invariant.0
 
 pub returns-clause-stores : goal.returns-clause-stores
 returns-clause-stores g c =
-    store_ends g.L.Law.terms c.args.log.now.slots.items c.args.index c.args.note.now c.args.seat.now.me _ c.requires.run.1 c.requires.held.0 c.loop-next.next _
-    c.loop-next.invariant.2 c.requires.writes (unkept_of c.args.seat.now.me.0.seat c.args.log.now.slots.items _ c.requires.kept _ _ c.in_default.ensures.none)
+    let ws = c.args.log.now.writes.items in
+    let d = c.args.log.now.writes.ok.0 in
+    let b = c.len-i-end.ensures in
+    let past : length ws ≤ c.loop-i.i = let a = c.loop-i-test.false in omega arith in
+    let all : c.loop-i.i ≤ length ws = let a = c.loop-i.auto.i-end in omega arith in
+    let none = plan_end c.args.log.now.slots true ws c.requires.plan c.loop-i.i past all in
+    store_ends g.L.Law.terms c.args.log.now.slots c.args.index c.args.note.now c.args.seat.now.me _ c.requires.run.1 c.requires.held.0
+    (low_of ws c.loop-i.i) _
+    c.loop-i.invariant.1 c.requires.writes (unkept_of c.args.seat.now.me.0.seat c.args.log.now.slots c.requires.kept _ _ none)

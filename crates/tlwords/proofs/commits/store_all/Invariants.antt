@@ -1,12 +1,9 @@
-use Rattle.std.proofs.Common.{◌≤◌, length, ◌-◌}
 use Rattle.tlwords.specs.Plays.{IsSameSeat}
+use Rattle.tlwords.specs.Walks.{low_of}
 use Rattle.tlwords.proofs.Stores.{StoresSoFar}
 use Rattle.tlwords.proofs.commits.store_all.Given as goal
 
-abbrev pub invariant-loop-next : goal.invariant-loop-next
-invariant-loop-next g l =
-    IsSameSeat l.fn.seat l.seat × (l.next ≤ length l.log.slots.items)
-    × StoresSoFar g.L.Law.terms l.log.slots.items l.index l.note l.fn.seat.me l.next l.seat.me
-
-abbrev pub decreases-loop-next : goal.decreases-loop-next
-decreases-loop-next g l = length l.log.slots.items - l.next
+abbrev pub invariant-loop-i : goal.invariant-loop-i
+invariant-loop-i g l =
+    IsSameSeat l.fn.seat l.seat × StoresSoFar g.L.Law.terms l.log.slots l.index l.note l.fn.seat.me (low_of l.log.writes.items l.i)
+    l.seat.me

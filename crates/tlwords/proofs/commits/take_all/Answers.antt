@@ -1,75 +1,117 @@
-use Rattle.std.proofs.Common.{arith, refl, sym, subst, ◌∙◌, length, List, []}
+use Rattle.std.proofs.Common.{arith, refl, sym, subst, ◌∙◌, ◌<◌, ◌≤◌, ◌+◌, length, List, [], true}
 use Rattle.tlcore.specs.Seats.{Seat}
 use Rattle.tlcore.specs.declared.seats.Held.{Held}
 use Rattle.tlcore.specs.declared.seats.Place.TheVariants.{Reading, Taking}
-use Rattle.tlwords.specs.Committing.{holding, Goes}
+use Rattle.tlwords.specs.Walks.{low_of}
+use Rattle.tlwords.specs.Committing.{held_in, holding, Goes}
 use Rattle.tlwords.proofs.Held.{held_on}
+use Rattle.tlwords.proofs.Plans.{plan_at, plan_next, plan_low, plan_end}
 use Rattle.tlwords.proofs.Turns.{unkept_of, read_found, goes_start, goes_setting, goes_base, goes_read, seat_trans, take_place, take_goes, take_fails}
 use Rattle.tlwords.proofs.commits.take_all.Goals as goal
 
-pub loop-next-init : goal.loop-next-init
-loop-next-init g c = (
+pub loop-i-init : goal.loop-i-init
+loop-i-init g c = (
   (refl, refl),
-  omega arith,
   goes_start g.L.Law.terms c.args.seat.now.me (holding c.args.seat.now.me.0.seat Taking Reading [])
       (λ j. let t : Seat = record c.args.seat.now.me.0.seat { place = sym c.requires.run.0 j; held = sym c.requires.run.1 j } in t),
 )
 
 pub take-found-requires-clause-table : goal.take-found-requires-clause-table
-take-found-requires-clause-table g c = c.loop-next.invariant.0.0 ∙ c.requires.table
+take-found-requires-clause-table g c = c.loop-i.invariant.0.0 ∙ c.requires.table
 
 pub take-found-requires-clause-setting : goal.take-found-requires-clause-setting
 take-found-requires-clause-setting g c =
-    (c.requires.setting.0, goes_setting g.L.Law.terms _ _ _ _ c.loop-next.invariant.2 c.requires.setting.1)
+    (c.requires.setting.0, goes_setting g.L.Law.terms _ _ _ _ c.loop-i.invariant.1 c.requires.setting.1)
 
 pub take-found-requires-clause-cell : goal.take-found-requires-clause-cell
 take-found-requires-clause-cell g c =
-    let l = c.in-Some.ensures.some.0.1 in
-    let a = goes_base g.L.Law.terms _ _ _ c.loop-next.invariant.2 in
+    let ws = c.args.log.now.writes.items in
+    let t = c.index.result.now in
+    let n : c.loop-i.i < length ws = let a = c.loop-i-test.true in let b = c.len-i-end.ensures in let d = c.args.log.now.writes.ok.0 in
+    omega arith in
+    let s = plan_at c.args.log.now.slots true ws c.requires.plan c.loop-i.i t n c.index.ensures in
+    let l = s.0.1 in
+    let a = goes_base g.L.Law.terms _ _ _ c.loop-i.invariant.1 in
     let p = c.requires.cells.0 in
     let q = c.requires.cells.1 in
     (omega arith, omega arith)
 
 pub take-found-requires-clause-place : goal.take-found-requires-clause-place
 take-found-requires-clause-place g c =
-    take_place g.L.Law.terms c.args.log.now.slots.items _ _ c.loop-next.next c.loop-next.invariant.2 c.in-Some.kept.cell c.in-Some.ensures.some.0.0
+    let ws = c.args.log.now.writes.items in
+    let t = c.index.result.now in
+    let n : c.loop-i.i < length ws = let a = c.loop-i-test.true in let b = c.len-i-end.ensures in let d = c.args.log.now.writes.ok.0 in
+    omega arith in
+    let s = plan_at c.args.log.now.slots true ws c.requires.plan c.loop-i.i t n c.index.ensures in
+    take_place g.L.Law.terms c.args.log.now.slots _ _ (low_of ws c.loop-i.i) c.loop-i.invariant.1 t.cell s.0.0
 
 pub take-found-requires-clause-read : goal.take-found-requires-clause-read
 take-found-requires-clause-read g c =
-    let d = read_found c.args.seat.now.me.0.seat c.args.log.now.slots.items _ c.requires.kept c.in-Some.kept.cell c.in-Some.kept.word c.in-Some.ensures.some.1 in
-    (d.0, goes_read g.L.Law.terms _ _ _ c.loop-next.invariant.2 refl c.in-Some.kept.cell d.0 d.1, d.2)
+    let ws = c.args.log.now.writes.items in
+    let t = c.index.result.now in
+    let n : c.loop-i.i < length ws = let a = c.loop-i-test.true in let b = c.len-i-end.ensures in let d = c.args.log.now.writes.ok.0 in
+    omega arith in
+    let s = plan_at c.args.log.now.slots true ws c.requires.plan c.loop-i.i t n c.index.ensures in
+    let d = read_found c.args.seat.now.me.0.seat c.args.log.now.slots c.requires.kept t.cell t.word s.1 in
+    (d.0, goes_read g.L.Law.terms _ _ _ c.loop-i.invariant.1 refl t.cell d.0 d.1, d.2)
 
 pub take-found-requires-clause-room : goal.take-found-requires-clause-room
 take-found-requires-clause-room g c =
-    let even = c.requires.kept.2 c.in-Some.kept.cell c.in-Some.kept.word c.in-Some.ensures.some.1 in omega arith
+    let ws = c.args.log.now.writes.items in
+    let t = c.index.result.now in
+    let n : c.loop-i.i < length ws = let a = c.loop-i-test.true in let b = c.len-i-end.ensures in let d = c.args.log.now.writes.ok.0 in
+    omega arith in
+    let s = plan_at c.args.log.now.slots true ws c.requires.plan c.loop-i.i t n c.index.ensures in
+    let even = c.requires.kept.2 t.cell t.word s.1 in omega arith
 
-pub returns-then-found-kept-clause-seat : goal.returns-then-found-kept-clause-seat
-returns-then-found-kept-clause-seat g c =
-    seat_trans c.args.seat.now c.loop-next.seat c.take-found.new.seat c.loop-next.invariant.0 c.take-found.ensures.seat
+pub returns-then-found-word-clause-seat : goal.returns-then-found-word-clause-seat
+returns-then-found-word-clause-seat g c =
+    seat_trans c.args.seat.now c.loop-i.seat c.take-found.new.seat c.loop-i.invariant.0 c.take-found.ensures.seat
 
-pub returns-then-found-kept-clause-err : goal.returns-then-found-kept-clause-err
-returns-then-found-kept-clause-err g c =
-    let s = c.in-Some.ensures.some in
-    take_fails g.L.Law.terms c.args.log.now.slots.items _ _ c.loop-next.next c.loop-next.invariant.2 c.in-Some.kept.cell c.in-Some.kept.value c.in-Some.kept.word
-    c.take-found.result _ s.0.0 (unkept_of c.args.seat.now.me.0.seat c.args.log.now.slots.items _ c.requires.kept _ _ s.0.3) c.take-found.ensures.told _ refl s.0.1 s.1 c.if-found-kept.true
+pub returns-then-found-word-clause-err : goal.returns-then-found-word-clause-err
+returns-then-found-word-clause-err g c =
+    let ws = c.args.log.now.writes.items in
+    let t = c.index.result.now in
+    let n : c.loop-i.i < length ws = let a = c.loop-i-test.true in let b = c.len-i-end.ensures in let d = c.args.log.now.writes.ok.0 in
+    omega arith in
+    let s = plan_at c.args.log.now.slots true ws c.requires.plan c.loop-i.i t n c.index.ensures in
+    take_fails g.L.Law.terms c.args.log.now.slots _ _ (low_of ws c.loop-i.i) c.loop-i.invariant.1 t.cell t.value t.word
+    c.take-found.result _ s.0.0 (unkept_of c.args.seat.now.me.0.seat c.args.log.now.slots c.requires.kept _ _ s.0.3)
+    c.take-found.ensures.told _ refl s.0.1 s.1 c.if-found-word.true
 
-pub loop-next-smaller : goal.loop-next-smaller
-loop-next-smaller g c = let s = c.in-Some.ensures.some.0 in let a = s.0 in let b = s.1 in omega arith
-
-pub loop-next-preserved : goal.loop-next-preserved
-loop-next-preserved g c =
-    let s = c.in-Some.ensures.some in (
-      seat_trans c.args.seat.now c.loop-next.seat c.take-found.new.seat c.loop-next.invariant.0 c.take-found.ensures.seat,
-      (let b = s.0.1 in omega arith),
-      take_goes g.L.Law.terms c.args.log.now.slots.items _ _ c.loop-next.next c.loop-next.invariant.2 c.in-Some.kept.cell c.in-Some.kept.value c.in-Some.kept.word
-          c.take-found.result _ s.0.0 (unkept_of c.args.seat.now.me.0.seat c.args.log.now.slots.items _ c.requires.kept _ _ s.0.3) c.take-found.ensures.told (s.2 refl) s.1 c.if-found-kept.false,
+pub loop-i-preserved : goal.loop-i-preserved
+loop-i-preserved g c =
+    let ws = c.args.log.now.writes.items in
+    let t = c.index.result.now in
+    let n : c.loop-i.i < length ws = let a = c.loop-i-test.true in let b = c.len-i-end.ensures in let d = c.args.log.now.writes.ok.0 in
+    omega arith in
+    let s = plan_at c.args.log.now.slots true ws c.requires.plan c.loop-i.i t n c.index.ensures in
+    let m = c.args.seat.now.me in (
+      seat_trans c.args.seat.now c.loop-i.seat c.take-found.new.seat c.loop-i.invariant.0 c.take-found.ensures.seat,
+      subst (λ k. Goes g.L.Law.terms m (holding m.0.seat Taking Reading (held_in c.args.log.now.slots 0 0 k))
+          c.take-found.new.seat.me)
+          {x = t.cell + 1} {y = low_of ws (c.loop-i.i + 1)}
+          (sym (plan_next c.args.log.now.slots true ws c.requires.plan c.loop-i.i t n c.index.ensures))
+          (take_goes g.L.Law.terms c.args.log.now.slots _ _ (low_of ws c.loop-i.i) c.loop-i.invariant.1 t.cell t.value t.word
+          c.take-found.result _ s.0.0 (unkept_of m.0.seat c.args.log.now.slots c.requires.kept _ _ s.0.3) c.take-found.ensures.told
+          (s.2 refl) s.1 c.if-found-word.false),
     )
 
 pub returns-clause-seat : goal.returns-clause-seat
-returns-clause-seat g c = c.loop-next.invariant.0
+returns-clause-seat g c = c.loop-i.invariant.0
 
 pub returns-clause-ok : goal.returns-clause-ok
 returns-clause-ok g c =
-    subst (λ (ks : List Held). Goes g.L.Law.terms c.args.seat.now.me (holding c.args.seat.now.me.0.seat Taking Reading ks) c.loop-next.seat.me)
-    (sym (held_on c.args.log.now.slots.items 0 0 c.loop-next.next (length c.args.log.now.slots.items) c.loop-next.invariant.1 (unkept_of c.args.seat.now.me.0.seat c.args.log.now.slots.items _ c.requires.kept _ _ c.in_default.ensures.none)))
-    c.loop-next.invariant.2
+    let ws = c.args.log.now.writes.items in
+    let d = c.args.log.now.writes.ok.0 in
+    let b = c.len-i-end.ensures in
+    let past : length ws ≤ c.loop-i.i = let a = c.loop-i-test.false in omega arith in
+    let all : c.loop-i.i ≤ length ws = let a = c.loop-i.auto.i-end in omega arith in
+    let none = plan_end c.args.log.now.slots true ws c.requires.plan c.loop-i.i past all in
+    let m = c.args.seat.now.me in
+    subst (λ (ks : List Held). Goes g.L.Law.terms m (holding m.0.seat Taking Reading ks) c.loop-i.seat.me)
+    {x = held_in c.args.log.now.slots 0 0 (low_of ws c.loop-i.i)} {y = held_in c.args.log.now.slots 0 0 (length c.args.log.now.slots)}
+    (sym (held_on c.args.log.now.slots 0 0 (low_of ws c.loop-i.i) (length c.args.log.now.slots)
+    (plan_low c.args.log.now.slots true ws c.requires.plan c.loop-i.i all)
+    (unkept_of m.0.seat c.args.log.now.slots c.requires.kept _ _ none)))
+    c.loop-i.invariant.1

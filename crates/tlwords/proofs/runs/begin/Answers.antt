@@ -23,7 +23,7 @@ invariant_of-result g c =
       fits = begun_fits g.L.Law.terms _ _ _ _ t f.0;
       kept =
           let u = c.begin-place.new.seat.me.0.seat in
-          blank_kept (noted c.args.mode u) _ _ _ (no_reads c.args.mode u (ap (λ v. v.seat.reads) t.is)) f.1 f.2;
-      room = f.3 ∙ sym (ap (λ v. length v.base) t.is);
-      knows = begun_knows g.L.Law.terms _ _ _ _ t f.0.0 f.4;
+          blank_kept (noted c.args.mode u) _ (no_reads c.args.mode u (ap (λ v. v.seat.reads) t.is)) f.1;
+      room = f.2 ∙ sym (ap (λ v. length v.base) t.is);
+      knows = begun_knows g.L.Law.terms _ _ _ _ t f.0.0 f.3;
     }

@@ -1,20 +1,6 @@
-use Rattle.std.proofs.Common.{sym, subst}
-use Rattle.tlwords.specs.declared.log.Log.{Log}
-use Rattle.tlwords.specs.Runs.{IsKeptOf, noted}
-use Rattle.tlwords.specs.Reads.{listed}
 use Rattle.tlwords.proofs.Knows.{seat_knows, ended_knows, ended_same, FitsTable, fits_same, fits_goes}
 use Rattle.tlwords.proofs.runs.Run.commit.Goals as goal
 use Rattle.tlwords.proofs.runs.Run.commit.Goals.{in-Some, in-None}
-
-pub clear-requires : goal.clear-requires
-clear-requires g c =
-    let t = noted c.args.self.mode c.args.self.seat.me.0.seat in (
-      t,
-      elim c.match-over.branch [
-        | in-Some w ↦ subst (λ (l : Log). IsKeptOf t l.slots.items (listed l)) (sym w.log-is) c.args.self.kept
-        | in-None w ↦ subst (λ (l : Log). IsKeptOf t l.slots.items (listed l)) (sym w.log-is) w.conclude-outcome.ensures.log.1
-      ],
-    )
 
 pub invariant_of-pass-clause-knows : goal.invariant_of-pass-clause-knows
 invariant_of-pass-clause-knows g c =
@@ -23,7 +9,7 @@ invariant_of-pass-clause-knows g c =
       | in-Some w ↦ seat_knows s.seat c.match-over.seat s.full w.seat-is s.knows
       | in-None w ↦
           let e = w.conclude-outcome in
-          let k = ended_knows g.L.Law.terms s.log.slots.items c.args.note.now s.seat.me e.new.seat.me e.result s.full e.ensures.ended in
+          let k = ended_knows g.L.Law.terms s.log.slots c.args.note.now s.seat.me e.new.seat.me e.result s.full e.ensures.ended in
           seat_knows e.new.seat c.match-over.seat s.full w.seat-is (k s.fits.0 s.knows)
     ]
 
@@ -38,5 +24,5 @@ returns-clause-opening g c =
           let e = b.conclude-outcome in
           fits_same w.table.shared.table_id w.cells w.room e.new.seat c.match-over.seat b.seat-is
           (fits_goes w.table.shared.table_id w.cells w.room s.seat e.new.seat e.ensures.seat.0
-          (ended_same g.L.Law.terms s.log.slots.items c.args.note.now s.seat.me e.new.seat.me e.result e.ensures.ended) fits)
+          (ended_same g.L.Law.terms s.log.slots c.args.note.now s.seat.me e.new.seat.me e.result e.ensures.ended) fits)
     ]

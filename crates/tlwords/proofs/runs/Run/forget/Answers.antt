@@ -2,9 +2,6 @@ use Rattle.std.proofs.Common.{◌∙◌}
 use Rattle.tlwords.specs.Runs.{noted}
 use Rattle.tlwords.proofs.runs.Run.forget.Goals as goal
 
-pub forget-requires : goal.forget-requires
-forget-requires g c = (noted c.args.self.now.mode c.args.self.now.seat.me.0.seat, c.args.self.now.kept)
-
 pub invariant_of-self : goal.invariant_of-self
 invariant_of-self g c =
     let s = c.args.self.now in record {

@@ -30,7 +30,7 @@ invariant_of-self g c =
       table_is = (c.fetch_word.ensures.seat.0 ∙ s.table_is.0, s.table_is.1 ∙ ap (λ v. length v.base) (sym is));
       room_is = s.room_is ∙ ap (λ v. v.room) (sym is);
       fits = fits_on g.L.Law.terms s.seat.me c.fetch_word.new.seat.me _ _ _ is _ _ _ s.fits;
-      kept = subst (λ u. IsKeptOf (noted s.mode u) s.log.slots.items (take s.log.used s.log.touched.items)) (ap (λ v. v.seat) (sym is)) s.kept;
+      kept = subst (λ u. IsKeptOf (noted s.mode u) s.log.slots) (ap (λ v. v.seat) (sym is)) s.kept;
       room = s.room ∙ ap (λ v. length v.base) (sym is);
       knows = knows_on g.L.Law.terms s.seat.me c.fetch_word.new.seat.me _ _ _ is _ s.fits.0 s.knows.at_rest t.sees s.knows.full;
     }

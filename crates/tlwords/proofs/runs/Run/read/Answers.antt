@@ -1,12 +1,8 @@
 use Rattle.std.proofs.Common.{◌∙◌, ap, length, sym}
-use Rattle.tlwords.specs.Runs.{noted}
 use Rattle.tlwords.proofs.RunSteps.{read_fits}
 use Rattle.tlwords.proofs.Knows.{read_knows, stop_knows}
 use Rattle.tlwords.proofs.Modes.{notes, read_kept, still_kept, read_room}
 use Rattle.tlwords.proofs.runs.Run.read.Goals as goal
-
-pub note-requires-clause-kept : goal.note-requires-clause-kept
-note-requires-clause-kept g c = (noted c.args.self.now.mode c.args.self.now.seat.me.0.seat, c.args.self.now.kept)
 
 pub invariant_of-self : goal.invariant_of-self
 invariant_of-self g c =
@@ -32,7 +28,7 @@ invariant_of-self-in-Err-clause-knows g c =
 pub invariant_of-self-in-Err-clause-kept : goal.invariant_of-self-in-Err-clause-kept
 invariant_of-self-in-Err-clause-kept g c =
     let s = c.args.self.now in
-    still_kept s.mode s.seat.me.0.seat c.fetch.new.seat.me.0.seat _ _ (ap (λ v. v.seat.reads) c.in-Err.ensures.err.is) s.kept
+    still_kept s.mode s.seat.me.0.seat c.fetch.new.seat.me.0.seat _ (ap (λ v. v.seat.reads) c.in-Err.ensures.err.is) s.kept
 
 pub returns-in-Ok-clause-ok : goal.returns-in-Ok-clause-ok
 returns-in-Ok-clause-ok g c = λ o k.

@@ -18,7 +18,7 @@ invariant_of-self g c =
       table_is = (c.advance-start.ensures.seat.0 ∙ s.table_is.0, s.table_is.1 ∙ ap (λ v. length v.base) (sym is));
       room_is = room ∙ ap (λ v. v.room) (sym is);
       fits = fits_on g.L.Law.terms s.seat.me c.advance-start.new.seat.me _ _ _ is _ _ _ s.fits;
-      kept = subst (λ u. IsKeptOf (noted s.mode u) s.log.slots.items (take s.log.used s.log.touched.items)) (sym seat) s.kept;
+      kept = subst (λ u. IsKeptOf (noted s.mode u) s.log.slots) (sym seat) s.kept;
       room = s.room ∙ ap (λ v. length v.base) (sym is);
       knows = knows_on g.L.Law.terms s.seat.me c.advance-start.new.seat.me _ _ _ is _ s.fits.0 s.knows.at_rest t.sees refl;
     }
@@ -36,7 +36,7 @@ invariant_of-self-2 g c =
       table_is = (c.fill_all.ensures.seat.0 ∙ (c.advance-start.ensures.seat.0 ∙ s.table_is.0), s.table_is.1 ∙ ap (λ v. length v.base) (sym is));
       room_is = room ∙ ap (λ v. v.room) (sym is);
       fits = fits_on g.L.Law.terms s.seat.me c.fill_all.new.seat.me _ _ _ is _ _ _ s.fits;
-      kept = subst (λ u. IsKeptOf (noted s.mode u) s.log.slots.items (take s.log.used s.log.touched.items)) (sym seat) s.kept;
+      kept = subst (λ u. IsKeptOf (noted s.mode u) s.log.slots) (sym seat) s.kept;
       room = s.room ∙ ap (λ v. length v.base) (sym is);
       knows = knows_on g.L.Law.terms s.seat.me c.fill_all.new.seat.me _ _ _ is _ s.fits.0 s.knows.at_rest st.sees s.knows.full;
     }
