@@ -2,8 +2,8 @@
 
 use crate::shared::{database, mini};
 use commands::{Command, Reply};
-use histories::{read_history, write_history};
-use history::Entry;
+use historytext::{read_history, write_history};
+use library::Entry;
 use std::alloc::{AllocError, Global};
 use std::test::Fail;
 

@@ -1,6 +1,6 @@
 //! What several modules of tests begin with: databases, libraries and lists of small texts.
 
-ghost use Rattle.std.specs.Prelude.{◌≤◌};
+ghost use Rattle.std.specs.Prelude.{false, ◌≤◌};
 
 use commands::PlainLibrary;
 use history::{Editor, OpenError};
@@ -78,5 +78,5 @@ impl Law for Anything {
 
     type Note = u64;
 
-    ghost terms = { record { lawful = λ _ _ _ _ _. Unit {0}; opens = λ _ _ _. Unit {0}; ranged = λ _ _. ⊥ } };
+    ghost terms = { record { lawful = λ _ _ _ _ _. Unit {0}; opens = λ _ _ _. Unit {0}; ranged = λ _ _. false } };
 }

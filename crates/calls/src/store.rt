@@ -1,11 +1,21 @@
 //! The store, on one thread.
 
-ghost use Rattle.std.specs.Prelude.{◌≡◌, ◌≢◌, [], length, IfSome, IfOk};
+ghost use Rattle.std.specs.Prelude.{true, false, ◌≡◌, ◌≢◌, [], length, IfSome, IfOk};
 
 use crate::shared::Anything;
 use std::alloc::Global;
 use std::test::Fail;
 use tlwords::{Mode, OpenFault, Pass, Range, StoreFull, Words, begin, close, open};
+
+struct Named;
+
+impl Law for Named {
+    type Setting = ();
+
+    type Note = u64;
+
+    ghost terms = { record { lawful = λ _ _ _ _ _. Unit {0}; opens = λ _ _ _. Unit {0}; ranged = λ _ _. true } };
+}
 
 // One cell, a store of four words, and two passes.
 fn opened(alloc: Global) -> Option<(Words<Anything>, Pass<Anything>, Pass<Anything>)>
@@ -56,7 +66,7 @@ fn refuses(words: &Words<Anything>, pass: Pass<Anything>, staged: &[u64]) -> (Pa
 // Loads both words of the range that the one value names.
 fn load_opened(alloc: Global) -> Option<[u64; 2]> {
     let named = (1 << 25) + 2;
-    let opening = open::<Anything>(alloc, &(), &[named], &[7, 8, 9], 4, 1);
+    let opening = open::<Named>(alloc, &(), &[named], &[7, 8, 9], 4, 1);
     let Ok((words, mut passes)) = opening else {
         return None;
     };

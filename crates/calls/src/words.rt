@@ -1,6 +1,6 @@
 //! Runs that meet, on one thread.
 
-ghost use Rattle.std.specs.Prelude.{◌≡◌, ◌<◌, ◌⊎◌, length, IfSome};
+ghost use Rattle.std.specs.Prelude.{false, ◌≡◌, ◌<◌, ◌⊎◌, length, IfSome};
 
 use crate::shared::Anything;
 use std::alloc::Global;
@@ -26,7 +26,15 @@ fn add_one(words: &Words<Anything>, pass: Pass<Anything>, cell: usize) -> (Pass<
             run.write(cell, x.wrapping_add(1));
             run.commit(&7)
         }
-        Err(conflict) => (run.leave(), Outcome::Conflict(conflict)),
+        Err(conflict) => (run.leave(), told(conflict)),
+    }
+}
+
+// The outcome of a run that met a conflict at a read.
+fn told(conflict: Conflict) -> Outcome {
+    Outcome::Conflict {
+        conflict,
+        drawn: None,
     }
 }
 
@@ -77,7 +85,7 @@ fn follow(
             let (x, second) = run.commit(&8);
             (x, first, second)
         }
-        Err(conflict) => (run.leave(), first, Outcome::Conflict(conflict)),
+        Err(conflict) => (run.leave(), first, told(conflict)),
     }
 }
 
@@ -187,7 +195,7 @@ fn opened(alloc: Global) -> Option<(Words<Anything>, Pass<Anything>, Pass<Anythi
 }
 
 fn is_conflict(outcome: Outcome, before: Option<u64>) -> bool {
-    let Outcome::Conflict(conflict) = outcome else {
+    let Outcome::Conflict { conflict, .. } = outcome else {
         return false;
     };
     conflict.cell == 5 && conflict.word == 2 && conflict.before == before

@@ -15,8 +15,8 @@ use Rattle.mmtext.proofs.CommentLaws.{walk, walk_none, walk_cons, same_word}
 use Rattle.mmsyntax.specs.declared.statement.Step.{Step}
 use Rattle.mmsyntax.specs.Tables.{Tables}
 use Rattle.mmsyntax.specs.Grammar.{spelling}
-use Rattle.commands.specs.declared.command.Command.{Command}
-use Rattle.commands.specs.declared.command.Command.TheVariants as command
+use Rattle.library.specs.declared.command.Command.{Command}
+use Rattle.library.specs.declared.command.Command.TheVariants as command
 use Rattle.commands.specs.Scripts.{IsRank, OtherSteps, SpellsCommand, SpellsEach, other_step_of}
 use Rattle.commands.specs.ScriptFaults.{CommandPlace, at_rank, in_unit, at_reproved, at_proof, in_proof, at_old_label, at_new_label}
 use Rattle.commands.specs.ScriptFaults.{at_moved, at_new_rank, at_deleted, at_shown, Led, inside, whole_command, bad, label_row, rank_row}

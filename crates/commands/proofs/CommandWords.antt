@@ -18,8 +18,8 @@ use Rattle.mmsyntax.specs.Faults.{Position, row, unit_at}
 use Rattle.mmsyntax.specs.Grammar.{spelling}
 use Rattle.mmreader.proofs.Keywords.{end_mark, proof_mark, mark_plain}
 use Rattle.mmreader.proofs.Ordinary.{statement_ordinary}
-use Rattle.commands.specs.declared.command.Command.{Command}
-use Rattle.commands.specs.declared.command.Command.TheVariants as command
+use Rattle.library.specs.declared.command.Command.{Command}
+use Rattle.library.specs.declared.command.Command.TheVariants as command
 use Rattle.commands.specs.Scripts.{IsRank, OtherSteps, SpellsCommand, SpellsEach, SpellsTransaction, other_step_of}
 use Rattle.commands.specs.ScriptFaults.{CommandPlace, at_rank, in_unit, at_reproved, at_proof, in_proof, at_old_label, at_new_label, at_moved, at_new_rank, at_deleted, at_shown, Led, inside, whole_command, bad, bad_text, label_row, rank_row, unit_start, unit_led, unit_row, proof_start, step_led, step_row, in_command, command_word}
 use Rattle.commands.proofs.ScriptRows.{rank_plain, StepPasses, step_passes, label_led, rank_led, step_end, step_plain}

@@ -15,7 +15,7 @@ use Rattle.mmsyntax.specs.Tables.{Tables}
 use Rattle.mmsyntax.specs.Faults.{Position, row, unit_at, unit_language, first_of}
 use Rattle.mmsyntax.specs.Grammar.{Statement, spelling}
 use Rattle.mmreader.proofs.Leading.{home}
-use Rattle.mmreader.proofs.DatabaseLaws.{unit_leads, unit_parsed}
+use Rattle.mmreader.proofs.DatabaseLaws.{unit_leads, unit_parsed, unit_ends, cond_fault}
 use Rattle.commands.specs.Scripts.{DeclaresAlone}
 use Rattle.commands.specs.ScriptFaults.{unit_start}
 
@@ -57,20 +57,6 @@ splits (w ∷ us) ws (t ∷ ts) h =
       front = ap (λ x. x ∷ words_of r.kept) first ∙ ap (λ x. w ∷ x) r.front;
       back = r.back;
     }
-
-cond_fault : (b : Bool) (u : Token) (r : Result Position TextFault) (q : Position) → cond b (fault u BadToken) r ≡ Ok q
-    → (b ≡ false) × (r ≡ Ok q)
-cond_fault true u r q h = absurd cc
-cond_fault false u r q h = (refl, h)
-
--- behind the unit a walk is at its end
-unit_ends : (t : Tables) (q final : Position) (b : Assertion) (us : List Token) → unit_at q.known q.place ≡ Some b
-    → walk (unit_language t) q us ≡ Ok final → (us ≡ []) × (q ≡ final)
-unit_ends t q final b [] some h = (refl, walk_none (unit_language t) q final h)
-unit_ends t q final b (u ∷ us) some h =
-    let r = walk_cons (unit_language t) q final u us h in
-    let none = (cond_fault (is_some (unit_at q.known q.place)) u (row q u) r.0 r.1).0 in
-    absurd (let e : is_some (Some b) ≡ false = ap is_some (sym some) ∙ none in cc)
 
 -- what was read of the rest of an assertion, and a walk on from behind it
 record ReadsRest {P A : Type 0} (l : Language P A) (t : Tables) (behind : Assertion → P) (p : Position) (ts : List Token) (final : P)

@@ -116,8 +116,8 @@ digit_here ds i all lt = (digit_at ds i all lt).0
 above : (high n : ℕ) → high < n → ltb high n ≡ true
 above high n h = grind (arith, nat_tests)
 
-below : (high n : ℕ) → n ≤ high → ltb high n ≡ false
-below high n h = grind (arith, nat_tests)
+pub not_above : (high n : ℕ) → n ≤ high → ltb high n ≡ false
+not_above high n h = grind (arith, nat_tests)
 
 pub too_high : (highest : ℕ) (ds : List ℕ) (i : ℕ) → highest < digits_value 10 (take i ds) → None ≡ written_within highest ds
 too_high highest ds i h =
@@ -130,4 +130,4 @@ pub written : (highest : ℕ) (ds : List ℕ) (i n : ℕ) → length ds ≤ i �
 written highest ds i n all is low =
     let e : n ≡ digits_value 10 ds = is ∙ ap (digits_value 10) (take_all i ds all) in
     ap (λ x. Some x) e
-    ∙ sym (cond-false (ltb highest (digits_value 10 ds)) None (Some (digits_value 10 ds)) (below highest (digits_value 10 ds) (omega arith)))
+    ∙ sym (cond-false (ltb highest (digits_value 10 ds)) None (Some (digits_value 10 ds)) (not_above highest (digits_value 10 ds) (omega arith)))

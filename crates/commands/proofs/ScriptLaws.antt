@@ -23,9 +23,9 @@ use Rattle.mmsyntax.proofs.Sound.{alone_sound}
 use Rattle.mmsyntax.proofs.Units.{statement_sound, closed_tables}
 use Rattle.mmsyntax.proofs.Canonical.{sound_tables}
 use Rattle.mmreader.proofs.DatabaseLaws.{ended_ok}
-use Rattle.commands.specs.declared.command.Command.{Command}
-use Rattle.commands.specs.declared.command.Command.TheVariants as command
-use Rattle.commands.specs.Fitting.{CommandFits}
+use Rattle.library.specs.declared.command.Command.{Command}
+use Rattle.library.specs.declared.command.Command.TheVariants as command
+use Rattle.library.specs.Fitting.{CommandFits}
 use Rattle.commands.specs.Scripts.{IsRank, OtherSteps, DeclaresAlone, SpellsCommand, SpellsEach, SpellsTransaction, SpellsScript}
 use Rattle.commands.specs.ScriptFaults.{Place, outermost, at_command, within, Progress, whole, script_language}
 use Rattle.commands.proofs.ScriptRows.{Script, progress, StepPasses, step_passes}

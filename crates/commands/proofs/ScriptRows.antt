@@ -22,9 +22,9 @@ use Rattle.mmsyntax.specs.Rows.{first_fault}
 use Rattle.mmsyntax.specs.Steps.{step_tests, float_named, step_named, unless_faulty}
 use Rattle.mmsyntax.proofs.Sound.{cond_none}
 use Rattle.mmreader.proofs.Keywords.{Says, says}
-use Rattle.commands.specs.declared.command.Command.{Command}
-use Rattle.commands.specs.declared.command.Command.TheVariants as command
-use Rattle.commands.specs.Fitting.{highest_rank}
+use Rattle.library.specs.declared.command.Command.{Command}
+use Rattle.library.specs.declared.command.Command.TheVariants as command
+use Rattle.library.specs.Fitting.{highest_rank}
 use Rattle.commands.specs.Scripts.{IsRank, other_step_of}
 use Rattle.commands.specs.ScriptFaults.{CommandPlace, at_rank, in_unit, at_reproved, at_proof, in_proof, at_old_label, at_new_label}
 use Rattle.commands.specs.ScriptFaults.{at_moved, at_new_rank, at_deleted, at_shown, Place, outermost, at_command, within, Progress, Led}

@@ -9,7 +9,7 @@ use Rattle.mmtext.specs.Comments.{words_of}
 use Rattle.mmtext.specs.Languages.{fault}
 use Rattle.mmtext.proofs.CommentLaws.{walk, walk_ends, IsOrdinary}
 use Rattle.mmsyntax.specs.Tables.{Tables}
-use Rattle.commands.specs.declared.command.Command.{Command}
+use Rattle.library.specs.declared.command.Command.{Command}
 use Rattle.commands.specs.Scripts.{SpellsEach, SpellsTransaction}
 use Rattle.commands.specs.ScriptFaults.{outermost, at_command, within, Progress, Led, inside, whole_command, bad, bad_text, in_command}
 use Rattle.commands.specs.ScriptFaults.{command_word, at, led, begin_row, script_language}

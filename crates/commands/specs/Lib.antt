@@ -1,9 +1,3 @@
-pub mod Reasons
-pub mod Library
-pub mod Edits
-pub mod Fitting
-pub mod Transactions
-pub mod Laws
 pub mod Scripts
 pub mod ScriptFaults
 pub mod ScriptViews

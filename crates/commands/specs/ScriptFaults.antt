@@ -16,9 +16,9 @@ use Rattle.mmsyntax.specs.declared.statement.Assertion.{Assertion}
 use Rattle.mmsyntax.specs.Tables.{Tables}
 use Rattle.mmsyntax.specs.Rows.{prelude_alone}
 use Rattle.mmsyntax.specs.Faults.{Position, at_start, outside, row, unit_at}
-use Rattle.commands.specs.declared.command.Command.{Command}
-use Rattle.commands.specs.declared.command.Command.TheVariants as command
-use Rattle.commands.specs.Fitting.{highest_rank}
+use Rattle.library.specs.declared.command.Command.{Command}
+use Rattle.library.specs.declared.command.Command.TheVariants as command
+use Rattle.library.specs.Fitting.{highest_rank}
 use Rattle.commands.specs.Scripts.{other_step_of}
 
 -- ---- places

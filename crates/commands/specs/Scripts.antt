@@ -17,9 +17,9 @@ use Rattle.mmsyntax.specs.Rows.{Known, prelude_alone, first_fault}
 use Rattle.mmsyntax.specs.Steps.{step_tests, float_named, step_named, unless_faulty}
 use Rattle.mmsyntax.specs.Grammar.{Statement, spelling, Declares}
 use Rattle.mmsyntax.specs.Layout.{hypothesis_label}
-use Rattle.commands.specs.declared.command.Command.{Command}
-use Rattle.commands.specs.declared.command.Command.TheVariants as command
-use Rattle.commands.specs.Fitting.{highest_rank}
+use Rattle.library.specs.declared.command.Command.{Command}
+use Rattle.library.specs.declared.command.Command.TheVariants as command
+use Rattle.library.specs.Fitting.{highest_rank}
 
 -- ---- words
 

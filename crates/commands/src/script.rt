@@ -7,8 +7,8 @@ ghost use Rattle.mmtext.specs.Text.{Token as SeenToken};
 ghost use Rattle.mmtext.specs.Views.{seen, Gives};
 ghost use Rattle.mmtext.specs.Languages.{step, said_at, finished, token_reading, reading};
 ghost use Rattle.mmsyntax.specs.Tables.{Tables};
-ghost use Rattle.commands.specs.declared.command.Command.{Command};
-ghost use Rattle.commands.specs.Fitting.{CommandFits};
+ghost use Rattle.library.specs.declared.command.Command.{Command};
+ghost use Rattle.library.specs.Fitting.{CommandFits};
 ghost use Rattle.commands.specs.Scripts.{SpellsScript, ReadsScript, RefusesScript};
 ghost use Rattle.commands.specs.ScriptFaults.{led, command_row, in_place, script_language, FaultyScript};
 ghost use Rattle.commands.specs.ScriptViews.{seen_led, seen_place, seen_progress, seen_state};
@@ -17,8 +17,8 @@ mod command_rows;
 mod numerals;
 mod place;
 
-use crate::command::{Command, Script, Transaction};
 pub use command_rows::{read_command_word, read_in_command, read_label, read_rank};
+use library::{Command, Script, Transaction};
 use mmstatement::{FaultKind, Prelude, Sequence, TextFault};
 use mmtext::{
     Stop, Token, Turn, comment_turn, fault_at, mark_word, next_token, no_memory, text_fault,

@@ -1,7 +1,7 @@
 -- The exported text of a library that verifies is accepted.
-use Rattle.commands.specs.Library.{Listed, Verifies, IsInExportOrder, shown_database}
-use Rattle.commands.proofs.ExportOrder.{shown_check}
-use Rattle.commands.proofs.Showing.{shown_spelled}
+use Rattle.library.specs.Library.{Listed, Verifies, IsInExportOrder, shown_database}
+use Rattle.library.proofs.ExportOrder.{shown_check}
+use Rattle.library.proofs.Showing.{shown_spelled}
 use Rattle.mmsyntax.proofs.Canonical.{spelled_again}
 use Rattle.export.specs.Exported.{exported_text, Accepts}
 

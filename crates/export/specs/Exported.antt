@@ -4,7 +4,7 @@ use Rattle.mmsyntax.specs.Tables.{Contents}
 use Rattle.mmsyntax.specs.Grammar.{Spells}
 use Rattle.mmsyntax.specs.Layout.{text_of}
 use Rattle.proofcheck.specs.Databases.{AllCheck}
-use Rattle.commands.specs.Library.{Listed, shown_database}
+use Rattle.library.specs.Library.{Listed, shown_database}
 
 -- the canonical layout of what a library shows: the prelude, then its assertions in export order
 abbrev pub exported_text : Listed → List ℕ

@@ -3,7 +3,7 @@
 ghost use Rattle.std.specs.Prelude.{◌≡◌, IfOk};
 ghost use Rattle.export.specs.Exported.{exported_text, Accepts};
 
-use commands::PlainLibrary;
+use library::PlainLibrary;
 use mmstatement::{put_assertion, put_prelude};
 use std::alloc::{AllocError, Global};
 

@@ -6,7 +6,7 @@ ghost use Rattle.export.specs.Exported.{exported_text, Accepts};
 
 use crate::error::ExportError;
 use crate::text::write_library;
-use commands::PlainLibrary;
+use library::PlainLibrary;
 use std::alloc::Global;
 use std::io::Write;
 

@@ -8,8 +8,8 @@ use mir.Val.{bool_byte}
 use Rattle.std.proofs.lemmas.Bool.{cond-true, cond-false}
 use Rattle.std.proofs.lemmas.List.Elements.{filter_map-append}
 use Rattle.mmsyntax.proofs.Distinct.{or_false}
-use Rattle.commands.specs.declared.library.Ranked.{Ranked}
-use Rattle.commands.specs.Edits.{has, is_labelled, changed, without}
+use Rattle.library.specs.declared.library.Ranked.{Ranked}
+use Rattle.library.specs.Edits.{has, is_labelled, changed, without}
 use Rattle.history.specs.Entries.{Entries, living, standing, StandsIn}
 use Rattle.history.specs.Drafts.{IsAlone, changed_at, changed_all}
 use Rattle.history.proofs.Living.{none-has}

@@ -13,13 +13,13 @@ use Rattle.proofcheck.specs.Databases.{frame_in}
 use Rattle.proofcheck.specs.Derivation.{Checks}
 use Rattle.proofcheck.specs.Faults.{HasProofFault}
 use Rattle.proofcheck.proofs.Outcome.{outcome-tree, outcome-fault}
-use Rattle.commands.specs.declared.library.Ranked.{Ranked}
-use Rattle.commands.specs.declared.reason.Reason.TheVariants.{ProofFails}
-use Rattle.commands.specs.Library.{Setting, label_of, lower, citable}
-use Rattle.commands.specs.Edits.{has, fault_of, unproved}
-use Rattle.commands.proofs.Frames.{frame_found, frame_given}
-use Rattle.commands.proofs.Lower.{lower_all, lower_has, lower_distinct}
-use Rattle.commands.proofs.Places.{has_at}
+use Rattle.library.specs.declared.library.Ranked.{Ranked}
+use Rattle.library.specs.declared.reason.Reason.TheVariants.{ProofFails}
+use Rattle.library.specs.Library.{Setting, label_of, lower, citable}
+use Rattle.library.specs.Edits.{has, fault_of, unproved}
+use Rattle.library.proofs.Frames.{frame_found, frame_given}
+use Rattle.library.proofs.Lower.{lower_all, lower_has, lower_distinct}
+use Rattle.library.proofs.Places.{has_at}
 use Rattle.history.specs.Entries.{Entries, living, StandsIn}
 use Rattle.history.specs.Places.{Places, IsIndex}
 use Rattle.history.proofs.Living.{contained-stands, stands-living, one-place, labels-distinct}

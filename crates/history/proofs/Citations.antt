@@ -8,11 +8,12 @@ use Rattle.std.specs.Str.{bytes_eq}
 use Rattle.mmsyntax.specs.declared.statement.Step.{Step}
 use Rattle.mmsyntax.specs.declared.statement.Step.TheVariants.{Float, Hyp, Cite}
 use Rattle.mmsyntax.proofs.Distinct.{or_false}
-use Rattle.commands.specs.declared.library.Ranked.{Ranked}
-use Rattle.commands.specs.Library.{label_of}
+use Rattle.library.specs.declared.library.Ranked.{Ranked}
+use Rattle.library.specs.Library.{label_of}
 use Rattle.proofcheck.specs.Laws.{renamed, replacing, step_relabelled}
-use Rattle.commands.specs.Edits.{rename, is_citation, cites, has, is_labelled, with_proof}
-use Rattle.commands.proofs.Labels.{replacing-old, replacing-other}
+use Rattle.library.specs.Edits.{rename, is_citation, cites, has, is_labelled, with_proof}
+use Rattle.library.proofs.Labels.{replacing-old, replacing-other}
+use Rattle.library.proofs.Renaming.{renamed_entry}
 use Rattle.history.specs.Entries.{Entries, living, StandsIn}
 use Rattle.history.specs.Drafts.{IsAlone, with_label, citing, changed_all}
 use Rattle.history.proofs.Changing.{alone-first, alone-later, living-all}
@@ -32,10 +33,6 @@ pub citing-alone : (old new : List ℕ) (e : Ranked) → cites old e ≡ false �
 citing-alone old new e h = ap (λ steps. with_proof steps e) (steps_alone old new e.assertion.proof h)
 
 -- ---- a library
-
--- the assertion as a renaming leaves it, its label included
-abbrev renamed_entry : List ℕ → List ℕ → Ranked → Ranked
-renamed_entry old new e = record { rank = e.rank; assertion = renamed old new e.assertion }
 
 relabelling : (old new w : List ℕ) (e : Ranked) → replacing old new (label_of e) ≡ w
     → renamed_entry old new e ≡ citing old new (with_label w e)

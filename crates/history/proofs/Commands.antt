@@ -8,14 +8,14 @@ use mathlib.Core.Bool.{not}
 use Rattle.std.proofs.lemmas.Bool.{cond-true, cond-false}
 use Rattle.mmsyntax.specs.declared.statement.Assertion.{Assertion}
 use Rattle.mmsyntax.specs.Assertions.{is_lawful_label}
-use Rattle.mmsyntax.proofs.Names.{bytes_eq-same}
-use Rattle.commands.specs.declared.library.Ranked.{Ranked}
-use Rattle.commands.specs.declared.reason.Reason.{Reason}
-use Rattle.commands.specs.declared.reason.Reason.TheVariants as reason
-use Rattle.commands.specs.Library.{Setting, label_of}
-use Rattle.commands.specs.Edits.{Edited, Tests, tested, of_found, where_so, has, found, is_labelled, changed, without}
-use Rattle.commands.specs.Edits.{is_axiom, unranked, unlawful, taken, uncited, cites_unknown, added, rename, add_tests}
-use Rattle.commands.proofs.Places.{find_nowhere}
+use Rattle.library.specs.declared.library.Ranked.{Ranked}
+use Rattle.library.specs.declared.reason.Reason.{Reason}
+use Rattle.library.specs.declared.reason.Reason.TheVariants as reason
+use Rattle.library.specs.Library.{Setting, label_of}
+use Rattle.library.specs.Edits.{Edited, Tests, tested, of_found, where_so, has, found, is_labelled, changed, without}
+use Rattle.library.specs.Edits.{is_axiom, unranked, unlawful, taken, uncited, cites_unknown, added, rename, add_tests}
+use Rattle.library.proofs.Editing.{where_none}
+use Rattle.library.proofs.Places.{find_nowhere, is_labelled-own}
 use Rattle.history.specs.Entries.{Entries, living, StandsIn}
 use Rattle.history.specs.Places.{Places, IsIndex, FoundAt}
 use Rattle.history.specs.Drafts.{IsAlone, with_label, citing, changed_all}
@@ -58,10 +58,6 @@ pub first-parts : (t : Option Reason) (ts : Tests) → first_reason (t ∷ ts) �
 first-parts None ts h = (refl, h)
 first-parts (Some r) ts h = absurd cc
 
-so_not : (b : Bool) (r : Reason) → where_so b r ≡ None → b ≡ false
-so_not true r h = absurd cc
-so_not false r h = refl
-
 -- more tests behind
 pub first-some_more : (ts us : Tests) (r : Reason) → first_reason ts ≡ Some r → first_reason (ts ++ us) ≡ Some r
 first-some_more [] us r h = absurd cc
@@ -85,7 +81,7 @@ add_front s lib rank a ranked lawful free =
 -- what may be added has a label that is free
 pub add_free : (s : Setting) (lib : List Ranked) (rank : ℕ) (a : Assertion) → first_reason (add_tests s lib rank a) ≡ None → has lib a.label ≡ false
 add_free s lib rank a h =
-    so_not (has lib a.label) reason.LabelTaken (first-parts (taken lib a.label) _ (first-parts (unlawful s a.label) _ (first-parts (unranked rank) _ h).1).1).0
+    where_none (has lib a.label) reason.LabelTaken (first-parts (taken lib a.label) _ (first-parts (unlawful s a.label) _ (first-parts (unranked rank) _ h).1).1).0
 
 -- and cites known labels alone
 pub add_known : (s : Setting) (lib : List Ranked) (rank : ℕ) (a : Assertion) → first_reason (add_tests s lib rank a) ≡ None
@@ -94,7 +90,7 @@ add_known s lib rank a h =
     let labelled = (first-parts (unlawful s a.label) _ (first-parts (unranked rank) _ h).1).1 in
     let theorem = (first-parts (taken lib a.label) _ labelled).1 in
     let proof = (first-parts (where_so (is_axiom a.kind) reason.AxiomNotAllowed) _ theorem).1 in
-    so_not (list_any (cites_unknown lib) a.proof) reason.CitesUnknown (first-parts (uncited lib a.proof) _ proof).0
+    where_none (list_any (cites_unknown lib) a.proof) reason.CitesUnknown (first-parts (uncited lib a.proof) _ proof).0
 
 -- ---- labels
 
@@ -133,26 +129,23 @@ has_label m inside held slice w v p e x same read at own as_label = record {
 pub free_in : (slice held : Entries) (w v : List ℕ) → slice ≡ held → w ≡ v → has (living slice) w ≡ false → has (living held) v ≡ false
 free_in slice held w v same as_label h = subst (λ l. has (living l) v ≡ false) same (subst (λ l. has (living slice) l ≡ false) as_label h)
 
-own_label : (w : List ℕ) (e : Ranked) → label_of e ≡ w → is_labelled w e ≡ true
-own_label w e h = subst (λ l. bytes_eq w l ≡ true) (sym h) (bytes_eq-same w)
-
 -- what becomes of the library where the assertion with a label is changed
 pub library-changed : (m : Places) (es : Entries) (w : List ℕ) (p : ℕ) (e : Ranked) (f : Ranked → Ranked) → HasLabel m es w p e
     → living (set es p (Some (f e))) ≡ changed w f (living es)
 library-changed m es w p e f h =
-    living-changed es w p f e h.at (own_label w e h.labelled)
+    living-changed es w p f e h.at (is_labelled-own w e h.labelled)
     (subst (λ l. IsAlone es l p) h.labelled (stands-alone m es p e h.indexed h.at))
 
 pub library-without : (m : Places) (es : Entries) (w : List ℕ) (p : ℕ) (e : Ranked) → HasLabel m es w p e
     → living (set es p None) ≡ without w (living es)
 library-without m es w p e h =
-    living-removed es w p e h.at (own_label w e h.labelled)
+    living-removed es w p e h.at (is_labelled-own w e h.labelled)
     (subst (λ l. IsAlone es l p) h.labelled (stands-alone m es p e h.indexed h.at))
 
 pub library-renamed : (m : Places) (es : Entries) (old new : List ℕ) (p : ℕ) (e : Ranked) → HasLabel m es old p e
     → living (changed_all (citing old new) (set es p (Some (with_label new e)))) ≡ rename old new (living es)
 library-renamed m es old new p e h =
-    sym (rename_place old new es p e h.at (own_label old e h.labelled)
+    sym (rename_place old new es p e h.at (is_labelled-own old e h.labelled)
     (subst (λ l. IsAlone es l p) h.labelled (stands-alone m es p e h.indexed h.at)))
 
 pub library-added : (es : Entries) (rank : ℕ) (a : Assertion) (p : ℕ) → p ≡ length es

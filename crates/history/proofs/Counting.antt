@@ -11,10 +11,10 @@ use Rattle.std.proofs.lemmas.Option.{slice_get_within}
 use Rattle.mmsyntax.specs.declared.statement.Step.{Step}
 use Rattle.mmsyntax.specs.declared.statement.Step.TheVariants.{Float, Hyp, Cite}
 use Rattle.mmsyntax.proofs.Names.{same_bytes, bytes_eq-same}
-use Rattle.commands.specs.declared.library.Ranked.{Ranked}
-use Rattle.commands.specs.Library.{label_of}
-use Rattle.commands.specs.Edits.{is_citation, cites}
-use Rattle.commands.proofs.Counts.{one_if}
+use Rattle.library.specs.declared.library.Ranked.{Ranked}
+use Rattle.library.specs.Library.{label_of}
+use Rattle.library.specs.Edits.{is_citation, cites}
+use Rattle.library.proofs.Counts.{one_if}
 use Rattle.history.specs.Entries.{Entries, StandsIn}
 use Rattle.history.specs.Places.{Places, IsIndex, StandsAt}
 use Rattle.history.specs.Testing.{passes_there}

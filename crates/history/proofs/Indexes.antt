@@ -5,9 +5,9 @@ use Rattle.std.specs.Option.{IsSome, is_some}
 use Rattle.std.specs.Str.{bytes_eq}
 use Rattle.std.proofs.lemmas.Bool.{cases_Bool, cases_eq, cond-true, cond-false}
 use Rattle.mmsyntax.proofs.Names.{same_bytes, bytes_eq-same}
-use Rattle.commands.specs.declared.library.Ranked.{Ranked}
-use Rattle.commands.specs.Library.{label_of}
-use Rattle.commands.specs.Edits.{has}
+use Rattle.library.specs.declared.library.Ranked.{Ranked}
+use Rattle.library.specs.Library.{label_of}
+use Rattle.library.specs.Edits.{has}
 use Rattle.history.specs.Entries.{Entries, living, StandsIn}
 use Rattle.history.specs.Places.{Places, place_in, IsIndex, Puts, KeepsLabels, FoundAt, StandsSomewhere}
 use Rattle.history.specs.Drafts.{IsAlone, CanStand}

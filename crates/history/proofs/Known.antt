@@ -15,10 +15,10 @@ use Rattle.mmsyntax.specs.Tables.{Tables}
 use Rattle.mmsyntax.proofs.Distinct.{or_false, both_false}
 use Rattle.mmsyntax.proofs.Names.{same_bytes}
 use Rattle.proofcheck.specs.Derivation.{Citable, Checks}
-use Rattle.commands.specs.declared.library.Ranked.{Ranked}
-use Rattle.commands.specs.Library.{Setting, Verifies, citable}
-use Rattle.commands.specs.Edits.{has, is_citation, cites, cites_unknown}
-use Rattle.commands.proofs.Derivations.{NamesOne, steps_named}
+use Rattle.library.specs.declared.library.Ranked.{Ranked}
+use Rattle.library.specs.Library.{Setting, Verifies, citable}
+use Rattle.library.specs.Edits.{has, is_citation, cites, cites_unknown}
+use Rattle.library.proofs.Derivations.{NamesOne, steps_named}
 use Rattle.history.specs.Entries.{Entries, living, StandsIn}
 use Rattle.history.proofs.Living.{stands-living}
 use Rattle.history.proofs.Citable.{frame-unknown}

@@ -16,5 +16,4 @@ pub mod Reciting
 pub mod Known
 pub mod Commands
 pub mod Taking
-pub mod Fronts
-pub mod Legal
+pub mod Differing

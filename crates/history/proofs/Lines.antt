@@ -16,13 +16,13 @@ use Rattle.std.proofs.lemmas.List.Sorted.{IsPermutation-sym, IsPermutation-trans
 use Rattle.std.proofs.lemmas.List.Sorted.{length_permutation}
 use Rattle.std.proofs.lemmas.Map.Lookups.{exact_bytes, exact_pairs, exact_unsigned}
 use Rattle.mmsyntax.specs.Assertions.{Distinct}
-use Rattle.commands.specs.declared.command.Line.{Line}
-use Rattle.commands.specs.declared.library.Ranked.{Ranked}
-use Rattle.commands.specs.Library.{label_of, entry_cmp, in_export_order}
-use Rattle.commands.specs.Edits.{line}
-use Rattle.commands.proofs.Listing.{library_shown}
-use Rattle.commands.proofs.Orders.{ties_at}
-use Rattle.commands.proofs.Places.{labels_apart}
+use Rattle.library.specs.declared.command.Line.{Line}
+use Rattle.library.specs.declared.library.Ranked.{Ranked}
+use Rattle.library.specs.Library.{label_of, entry_cmp, in_export_order}
+use Rattle.library.specs.Edits.{line}
+use Rattle.library.proofs.Listing.{library_shown}
+use Rattle.library.proofs.Orders.{ties_at}
+use Rattle.library.proofs.Places.{labels_apart}
 use Rattle.history.specs.Entries.{Entries, living}
 use Rattle.history.specs.Listing.{line_cmp}
 

@@ -4,7 +4,7 @@ use Rattle.std.specs.List.Sorted.{IsStrictlyIncreasing}
 use Rattle.std.specs.declared.alloc.Global.{Global}
 use Rattle.std.proofs.lemmas.List.{length-set, length-append}
 use Rattle.std.proofs.lemmas.List.Elements.{All-append, All-cons, All-nil}
-use Rattle.commands.specs.declared.library.Ranked.{Ranked}
+use Rattle.library.specs.declared.library.Ranked.{Ranked}
 use Rattle.history.specs.declared.notes.Note.{Note}
 use Rattle.history.specs.Entries.{Entries}
 use Rattle.history.specs.Places.{Places}

@@ -11,11 +11,11 @@ use Rattle.std.proofs.lemmas.List.Sums.{sum_by-cons}
 use Rattle.mmsyntax.specs.Assertions.{Distinct}
 use Rattle.mmsyntax.proofs.Distinct.{both_false}
 use Rattle.mmsyntax.proofs.Names.{same_bytes}
-use Rattle.commands.specs.declared.library.Ranked.{Ranked}
-use Rattle.commands.specs.Library.{label_of}
-use Rattle.commands.specs.Edits.{has, found, is_labelled}
-use Rattle.commands.proofs.Counts.{one_if}
-use Rattle.commands.proofs.Places.{has_at, has-labels, find_at}
+use Rattle.library.specs.declared.library.Ranked.{Ranked}
+use Rattle.library.specs.Library.{label_of}
+use Rattle.library.specs.Edits.{has, found, is_labelled}
+use Rattle.library.proofs.Counts.{one_if}
+use Rattle.library.proofs.Places.{has_at, has-labels, find_at}
 use Rattle.history.specs.Entries.{Entries, living, StandsIn}
 use Rattle.history.specs.Places.{Places, place_in, IsIndex, StandsAt, FoundAt}
 use Rattle.history.specs.Testing.{passes_there}

@@ -9,8 +9,8 @@ use Rattle.std.proofs.lemmas.List.Sums.{sum_by-cons}
 use Rattle.std.proofs.lemmas.List.{get_or-set_other}
 use Rattle.std.proofs.lemmas.Option.{get_or_from_slice_get}
 use Rattle.mmsyntax.proofs.Distinct.{both_false}
-use Rattle.commands.specs.declared.library.Ranked.{Ranked}
-use Rattle.commands.proofs.Counts.{one_if, none_counted}
+use Rattle.library.specs.declared.library.Ranked.{Ranked}
+use Rattle.library.proofs.Counts.{one_if, none_counted}
 use Rattle.history.specs.Entries.{Entries, living, StandsIn}
 use Rattle.history.specs.Testing.{passes_there, passes_at}
 use Rattle.history.proofs.Ascending.{rest-ascends, first-below, first-or-rest}

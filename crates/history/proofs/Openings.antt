@@ -11,17 +11,14 @@ use Rattle.mmsyntax.specs.declared.statement.Assertion.{Assertion}
 use Rattle.mmsyntax.specs.Tables.{Tables}
 use Rattle.mmsyntax.specs.Assertions.{Distinct}
 use Rattle.mmstatement.specs.Frames.{frame}
-use Rattle.commands.specs.declared.library.Ranked.{Ranked}
-use Rattle.commands.specs.Library.{label_of, ranked_from}
-use Rattle.commands.specs.Edits.{has}
-use Rattle.commands.proofs.Places.{labels_apart}
+use Rattle.library.specs.declared.library.Ranked.{Ranked}
+use Rattle.library.specs.Library.{label_of, ranked_from}
+use Rattle.library.specs.Edits.{has}
+use Rattle.library.proofs.Opening.{length-ranked_from}
+use Rattle.library.proofs.Places.{labels_apart}
 use Rattle.history.specs.Entries.{standing, StandsIn, AreFramed}
 use Rattle.history.proofs.Living.{none-has}
 use Rattle.history.proofs.Changing.{living-standing}
-
-pub length-ranked_from : (k : ℕ) (xs : List Assertion) → length (ranked_from k xs) ≡ length xs
-length-ranked_from k [] = refl
-length-ranked_from k (a ∷ xs) = ap (λ n. suc n) (length-ranked_from (k + 1) xs)
 
 -- the i-th entry, from 0 on
 pub ranked_from-at : (k : ℕ) (xs : List Assertion) (i : ℕ) (a : Assertion) → slice_get xs i ≡ Some a

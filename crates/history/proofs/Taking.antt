@@ -2,16 +2,16 @@
 use Rattle.std.proofs.Common.{◌≡◌, ℕ, ◌+◌, List, [], ◌∷◌, ◌++◌, Result, Ok, Err, refl, sym, ap, subst, ◌∙◌, append-nil}
 use Rattle.std.specs.List.{All}
 use Rattle.std.proofs.lemmas.List.{append_assoc}
-use Rattle.commands.specs.declared.library.Ranked.{Ranked}
-use Rattle.commands.specs.declared.command.Command.{Command}
-use Rattle.commands.specs.declared.command.Reply.{Reply}
-use Rattle.commands.specs.declared.reason.Reason.{Reason}
-use Rattle.commands.specs.declared.reason.Refused.{Refused}
-use Rattle.commands.specs.Library.{Setting, Verifies}
-use Rattle.commands.specs.Fitting.{CommandFits}
-use Rattle.commands.specs.Edits.{edit}
-use Rattle.commands.specs.Transactions.{Applied, with_reply, then_apply, apply_from, apply}
-use Rattle.commands.proofs.Editing.{apply_verifies}
+use Rattle.library.specs.declared.library.Ranked.{Ranked}
+use Rattle.library.specs.declared.command.Command.{Command}
+use Rattle.library.specs.declared.command.Reply.{Reply}
+use Rattle.library.specs.declared.reason.Reason.{Reason}
+use Rattle.library.specs.declared.reason.Refused.{Refused}
+use Rattle.library.specs.Library.{Setting, Verifies}
+use Rattle.library.specs.Fitting.{CommandFits}
+use Rattle.library.specs.Edits.{edit}
+use Rattle.library.specs.Transactions.{Applied, with_reply, then_apply, apply_from, apply}
+use Rattle.library.proofs.Editing.{apply_verifies}
 use Rattle.history.specs.declared.editor.ApplyError.{ApplyError}
 use Rattle.history.specs.declared.editor.ApplyError.TheVariants as error
 use Rattle.history.specs.Drafts.{Drafted, now_in, Takes, TakesAll, KeepsStart, Settles, IsSettled}

@@ -12,8 +12,8 @@ use Rattle.mmsyntax.proofs.Names.{same_bytes}
 use Rattle.mmsyntax.specs.declared.statement.Frame.{Frame}
 use Rattle.mmsyntax.specs.Tables.{Tables}
 use Rattle.mmstatement.specs.Frames.{frame}
-use Rattle.commands.specs.declared.library.Ranked.{Ranked}
-use Rattle.commands.specs.Library.{label_of}
+use Rattle.library.specs.declared.library.Ranked.{Ranked}
+use Rattle.library.specs.Library.{label_of}
 use Rattle.history.specs.declared.notes.Note.{Note}
 use Rattle.history.specs.Entries.{Entries, living, StandsIn, AreFramed}
 use Rattle.history.specs.Places.{Places, place_in, IsIndex, HasOnly, StandsSomewhere, KeepsLabels, Puts}

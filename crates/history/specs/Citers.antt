@@ -3,9 +3,9 @@ use Rattle.std.specs.Prelude.{◌≡◌, ℕ, true, List, All, Contains, Vec, sl
 use Rattle.std.specs.List.Sorted.{IsStrictlyIncreasing}
 use Rattle.std.specs.declared.alloc.Global.{Global}
 use Rattle.mmsyntax.specs.declared.statement.Step.{Step}
-use Rattle.commands.specs.declared.library.Ranked.{Ranked}
-use Rattle.commands.specs.Library.{label_of}
-use Rattle.commands.specs.Edits.{cites}
+use Rattle.library.specs.declared.library.Ranked.{Ranked}
+use Rattle.library.specs.Library.{label_of}
+use Rattle.library.specs.Edits.{cites}
 use Rattle.history.specs.Entries.{Entries, StandsIn}
 use Rattle.history.specs.Listing.{some_cites}
 

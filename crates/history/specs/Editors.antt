@@ -1,10 +1,10 @@
 -- What an editor holds, and what its answers say.
 use Rattle.std.specs.Prelude.{◌≡◌, List, Result, Ok, Err}
-use Rattle.commands.specs.declared.library.Ranked.{Ranked}
-use Rattle.commands.specs.declared.command.Command.{Command}
-use Rattle.commands.specs.declared.command.Reply.{Reply}
-use Rattle.commands.specs.Library.{Setting}
-use Rattle.commands.specs.Transactions.{apply}
+use Rattle.library.specs.declared.library.Ranked.{Ranked}
+use Rattle.library.specs.declared.command.Command.{Command}
+use Rattle.library.specs.declared.command.Reply.{Reply}
+use Rattle.library.specs.Library.{Setting}
+use Rattle.library.specs.Transactions.{apply}
 use Rattle.history.specs.declared.editor.ApplyError.{ApplyError}
 use Rattle.history.specs.declared.editor.ApplyError.TheVariants.{Refused, NoMemory}
 

@@ -1,5 +1,4 @@
 pub mod Editors
-pub mod Histories
 pub mod Entries
 pub mod Places
 pub mod Testing
@@ -8,5 +7,4 @@ pub mod Citers
 pub mod Drafts
 pub mod Refusals
 pub mod Openings
-pub mod Laws
 pub mod Replays

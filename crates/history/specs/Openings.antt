@@ -1,7 +1,7 @@
 -- When an editor is opened on a database, and on which library.
 use Rattle.std.specs.Prelude.{◌≡◌, ◌<◌, ◌≤◌, ℕ, length, Result, Ok, Err}
 use Rattle.mmsyntax.specs.Tables.{Contents}
-use Rattle.commands.specs.Library.{opening}
+use Rattle.library.specs.Library.{opening}
 use Rattle.history.specs.declared.editor.OpenError.{OpenError}
 use Rattle.history.specs.declared.editor.OpenError.TheVariants.{TooMany, NoMemory}
 use Rattle.history.specs.Editors.{Held}

@@ -4,9 +4,9 @@ use Rattle.std.specs.Str.{bytes_eq}
 use Rattle.std.specs.HashMap.{HashMap, get_by}
 use Rattle.std.specs.declared.alloc.Global.{Global}
 use Rattle.std.specs.declared.random_state.RandomState.{RandomState}
-use Rattle.commands.specs.declared.library.Ranked.{Ranked}
-use Rattle.commands.specs.Library.{label_of}
-use Rattle.commands.specs.Edits.{has}
+use Rattle.library.specs.declared.library.Ranked.{Ranked}
+use Rattle.library.specs.Library.{label_of}
+use Rattle.library.specs.Edits.{has}
 use Rattle.history.specs.Entries.{Entries, living, StandsIn}
 
 abbrev pub Places : Type 0

@@ -1,10 +1,10 @@
 -- The reason for which a command is refused: that of the first test that has one.
 use Rattle.std.specs.Prelude.{ℕ, [], ◌∷◌, List, Option, Some, None}
 use Rattle.mmsyntax.specs.declared.statement.Assertion.{Assertion}
-use Rattle.commands.specs.declared.library.Ranked.{Ranked}
-use Rattle.commands.specs.declared.reason.Reason.{Reason}
-use Rattle.commands.specs.Library.{Setting}
-use Rattle.commands.specs.Edits.{Tests, uncited, cited_above, unproved}
+use Rattle.library.specs.declared.library.Ranked.{Ranked}
+use Rattle.library.specs.declared.reason.Reason.{Reason}
+use Rattle.library.specs.Library.{Setting}
+use Rattle.library.specs.Edits.{Tests, uncited, cited_above, unproved}
 
 abbrev pub first_reason : Tests → Option Reason
 first_reason [] = None

@@ -1,15 +1,15 @@
 -- When a history is replayed, to which library, and which entry is the first that differs.
 use Rattle.std.specs.Prelude.{◌≡◌, ◌≢◌, ◌+◌, ◌<◌, ◌≤◌, ℕ, List, length, take, slice_get, Some, Result, Ok, Err}
 use Rattle.mmsyntax.specs.Tables.{Contents}
-use Rattle.commands.specs.declared.library.Ranked.{Ranked}
-use Rattle.commands.specs.declared.command.Command.{Command}
-use Rattle.commands.specs.declared.command.Reply.{Reply}
-use Rattle.commands.specs.Library.{Setting, Listed, opening, ShowsInOrder}
-use Rattle.commands.specs.Transactions.{apply}
+use Rattle.library.specs.declared.library.Ranked.{Ranked}
+use Rattle.library.specs.declared.command.Command.{Command}
+use Rattle.library.specs.declared.command.Reply.{Reply}
+use Rattle.library.specs.Library.{Setting, Listed, opening, ShowsInOrder}
+use Rattle.library.specs.Transactions.{apply}
 use Rattle.history.specs.declared.replaying.ReplayError.{ReplayError}
 use Rattle.history.specs.declared.replaying.ReplayError.TheVariants.{Differs, TooMany, NoMemory}
 use Rattle.history.specs.Editors.{Held}
-use Rattle.history.specs.Histories.{Entry, done_entry, after, after_all, IsLegal}
+use Rattle.library.specs.Histories.{Entry, done_entry, after, after_all, IsLegal}
 
 -- so many slots over the prelude of a database
 abbrev pub slotted : Contents → ℕ → Setting
@@ -43,8 +43,3 @@ Opened db slots (Ok e) = (length db.assertions ≤ slots) × (e ≡ record { set
 Opened db slots (Err (Differs n)) = ⊥
 Opened db slots (Err TooMany) = slots < length db.assertions
 Opened db slots (Err NoMemory) = Unit {0}
-
--- an entry's replies are the editor's, where it holds commands
-abbrev pub IsRepeated : Setting → List Ranked → Entry → Type 0
-IsRepeated s lib (done_entry cs replies) = (next : List Ranked) × (apply s lib cs ≡ Ok (record { library = next; replies = replies }))
-IsRepeated s lib _ = Unit {0}

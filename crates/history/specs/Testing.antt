@@ -1,7 +1,7 @@
 -- What the tests of commands ask of one place of the entries.
 use Rattle.std.specs.Prelude.{ℕ, Bool, false, ◌&&◌, nat_le, slice_index_or, List, Option, None, Some}
-use Rattle.commands.specs.declared.library.Ranked.{Ranked}
-use Rattle.commands.specs.Edits.{cites}
+use Rattle.library.specs.declared.library.Ranked.{Ranked}
+use Rattle.library.specs.Edits.{cites}
 use Rattle.history.specs.Entries.{Entries}
 
 -- whether a place has an assertion that passes the test

@@ -6,7 +6,7 @@ ghost use Rattle.history.specs.Places.{IsIndex};
 ghost use Rattle.history.specs.Citers.{AreAscending, AreEntered, Covers, KeepsCiters};
 
 use crate::places::{Places, find_label};
-use commands::Ranked;
+use library::Ranked;
 use mmstatement::Step;
 use std::alloc::{AllocError, Global};
 

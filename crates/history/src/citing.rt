@@ -2,11 +2,11 @@
 
 ghost use Rattle.std.specs.Prelude.{◌≡◌, map, IfOk};
 ghost use Rattle.proofcheck.specs.Laws.{replacing, step_relabelled};
-ghost use Rattle.commands.specs.Edits.{with_proof};
+ghost use Rattle.library.specs.Edits.{with_proof};
 ghost use Rattle.history.specs.Drafts.{with_label, citing};
 
 use crate::testing::is_citation;
-use commands::Ranked;
+use library::Ranked;
 use mmstatement::{Assertion, Expr, Label, Sequence, Step};
 use std::alloc::{AllocError, Global};
 

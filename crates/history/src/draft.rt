@@ -3,14 +3,14 @@
 ghost use Rattle.std.specs.Prelude.{◌≡◌, ◌≤◌, length, map, IfOk, vec_len, vec_capacity};
 ghost use Rattle.std.specs.Str.{bytes_eq};
 ghost use Rattle.mmsyntax.specs.Assertions.{Distinct};
-ghost use Rattle.commands.specs.Library.{Verifies, ShowsInOrder, label_of, ranked_from};
+ghost use Rattle.library.specs.Library.{Verifies, ShowsInOrder, label_of, ranked_from};
 ghost use Rattle.history.specs.Entries.{living};
 ghost use Rattle.history.specs.Drafts.{now_in, IsOpened, Settles};
 
 use crate::citers::{Citers, open_citers};
 use crate::notes::{Note, drop_notes, take_all_back};
 use crate::places::{Places, open_entries, open_frames};
-use commands::{PlainLibrary, Ranked};
+use library::{PlainLibrary, Ranked};
 use mmstatement::{Assertion, Frame, Prelude};
 use std::alloc::{AllocError, Global};
 use std::hash::RandomState;

@@ -1,7 +1,7 @@
 //! The one-thread editor: the definition of transactions as a program.
 
 use crate::draft::Draft;
-use commands::{Command, PlainLibrary, Refused, Reply};
+use library::{Command, PlainLibrary, Refused, Reply};
 use mmstatement::{Database, Prelude, Sequence};
 use std::alloc::{AllocError, Global};
 use std::hash::RandomState;
@@ -69,8 +69,8 @@ impl Model for Editor {
 impl Editor {
     ghost use Rattle.std.specs.Prelude.{◌≡◌, ◌≤◌, length, All};
     ghost use Rattle.proofcheck.specs.Databases.{AllCheck};
-    ghost use Rattle.commands.specs.Library.{Verifies, ShowsInOrder};
-    ghost use Rattle.commands.specs.Fitting.{CommandFits};
+    ghost use Rattle.library.specs.Library.{Verifies, ShowsInOrder};
+    ghost use Rattle.library.specs.Fitting.{CommandFits};
     ghost use Rattle.history.specs.Editors.{Answers};
     ghost use Rattle.history.specs.Openings.{Opens};
 

@@ -2,15 +2,15 @@
 
 ghost use Rattle.std.specs.Prelude.{◌≡◌, ◌<◌, ◌∷◌, ◌++◌, [], ℕ, List, length, map, slice_index, IfOk};
 ghost use Rattle.mmsyntax.specs.declared.statement.Step.{Step};
-ghost use Rattle.commands.specs.declared.library.Ranked.{Ranked};
-ghost use Rattle.commands.specs.Library.{label_of, in_export_order};
-ghost use Rattle.commands.specs.Edits.{line};
+ghost use Rattle.library.specs.declared.library.Ranked.{Ranked};
+ghost use Rattle.library.specs.Library.{label_of, in_export_order};
+ghost use Rattle.library.specs.Edits.{line};
 ghost use Rattle.history.specs.Entries.{living, StandsIn};
 ghost use Rattle.history.specs.Places.{IsIndex};
 ghost use Rattle.history.specs.Listing.{line_cmp, AreNoted, AreCounted};
 
 use crate::places::{Places, find_label};
-use commands::{Line, Ranked};
+use library::{Line, Ranked};
 use mmstatement::{Sequence, Step};
 use std::alloc::{AllocError, Global};
 use std::cmp::Ordering;

@@ -5,7 +5,7 @@ ghost use Rattle.history.specs.Places.{IsIndex, HasOnly, KeepsLabels};
 ghost use Rattle.history.specs.Drafts.{taken_back, undone, formers, CanTakeBack, CanUndo, IsForgotten};
 
 use crate::places::{Places, forget_label, put_place};
-use commands::Ranked;
+use library::Ranked;
 use std::mem;
 
 /// A change that was done at a place, counted from 0: what stood there before, an assertion or none.

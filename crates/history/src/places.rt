@@ -3,14 +3,14 @@
 ghost use Rattle.std.specs.Prelude.{◌≡◌, ◌∷◌, ◌++◌, ◌≤◌, [], Some, false, length, map, IsSome, IfNone, IfSome, IfOk, OnOk};
 ghost use Rattle.std.specs.Str.{bytes_eq};
 ghost use Rattle.mmsyntax.specs.Assertions.{Distinct};
-ghost use Rattle.commands.specs.Library.{label_of, ranked_from};
-ghost use Rattle.commands.specs.Edits.{has};
-ghost use Rattle.commands.specs.declared.library.Ranked.{Ranked as RankedView};
+ghost use Rattle.library.specs.Library.{label_of, ranked_from};
+ghost use Rattle.library.specs.Edits.{has};
+ghost use Rattle.library.specs.declared.library.Ranked.{Ranked as RankedView};
 ghost use Rattle.mmstatement.specs.Frames.{frame};
 ghost use Rattle.history.specs.Entries.{living, standing, StandsIn};
 ghost use Rattle.history.specs.Places.{IsIndex, HasOnly, KeepsLabels, FoundAt, Puts, StandsSomewhere, place_in};
 
-use commands::Ranked;
+use library::Ranked;
 use mmstatement::{Assertion, Frame, Prelude, frame_of};
 use std::alloc::{AllocError, Global};
 use std::collections::HashMap;

@@ -2,14 +2,13 @@
 
 ghost use Rattle.std.specs.Prelude.{◌≡◌, ◌≤◌, ◌↔◌, IfOk, OnOk, IsTrue, map};
 ghost use Rattle.proofcheck.specs.Databases.{AllCheck};
-ghost use Rattle.history.specs.Histories.{told, after_entry, EntryFits, EntriesFit};
+ghost use Rattle.library.specs.Histories.{told, after_entry, EntryFits, EntriesFit, IsRepeated};
 ghost use Rattle.history.specs.Openings.{Opens};
-ghost use Rattle.history.specs.Replays.{IsRepeated, Opened, Replays};
+ghost use Rattle.history.specs.Replays.{Opened, Replays};
 
 use crate::editor::{ApplyError, Editor, OpenError};
-use crate::history::Entry;
 use crate::same::same_replies;
-use commands::PlainLibrary;
+use library::{Entry, PlainLibrary};
 use mmstatement::Database;
 use std::alloc::{AllocError, Global};
 use std::hash::RandomState;

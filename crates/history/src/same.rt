@@ -2,7 +2,7 @@
 
 ghost use Rattle.std.specs.Prelude.{◌≡◌, ◌↔◌, IsTrue};
 
-use commands::{Line, Ranked, Reply};
+use library::{Line, Ranked, Reply};
 use mmstatement::{Assertion, Expr, Step};
 
 fn same_step(a: &Step, b: &Step) -> bool

@@ -5,15 +5,15 @@ ghost use Rattle.std.specs.List.{list_any};
 ghost use Rattle.std.specs.List.Sorted.{IsStrictlyIncreasing};
 ghost use Rattle.std.specs.Option.{option_copied};
 ghost use Rattle.mmsyntax.specs.declared.statement.Kind.TheVariants.{Theorem};
-ghost use Rattle.commands.specs.Edits.{found, is_citation, cites, citers as citers_of, cites_unknown, cites_not_below, unproved};
-ghost use Rattle.commands.specs.declared.reason.Reason.TheVariants as reason;
+ghost use Rattle.library.specs.Edits.{found, is_citation, cites, citers as citers_of, cites_unknown, cites_not_below, unproved};
+ghost use Rattle.library.specs.declared.reason.Reason.TheVariants as reason;
 ghost use Rattle.history.specs.Entries.{living, AreFramed};
 ghost use Rattle.history.specs.Places.{IsIndex};
 ghost use Rattle.history.specs.Citers.{HasAllCiters};
 ghost use Rattle.history.specs.Testing.{passes_at, cites_from};
 
 use crate::places::{Places, entry_at, find_label};
-use commands::Ranked;
+use library::Ranked;
 use mmstatement::{Assertion, Frame, Label, Prelude, Step};
 use proofcheck::{Frames, ProofFault, ProofFaultKind, check};
 use std::alloc::{AllocError, Global};
@@ -169,7 +169,7 @@ struct Lower<'a> {
 
 impl Frames for Lower<'_> {
     ghost use Rattle.proofcheck.specs.Databases.{frame_in};
-    ghost use Rattle.commands.specs.Library.{lower};
+    ghost use Rattle.library.specs.Library.{lower};
     ghost use Rattle.history.specs.Entries.{living};
 
     ghost frames = { λ s label. frame_in s.prelude.now (lower (living s.entries.now) s.rank) label };

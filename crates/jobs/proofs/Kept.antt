@@ -1,75 +1,25 @@
 -- The history of a run is legal from the opening, and the library of the run is the one after it.
 use Rattle.std.proofs.Common.{◌≡◌, ◌∙◌, ℕ, ◌+◌, Bool, true, false, List, [], ◌∷◌, ◌++◌, Option, Some, None, Result, Ok, Err, map, refl, sym, ap, subst}
 use Rattle.std.specs.Prelude.{All, if◌then◌else◌}
-use Rattle.std.specs.List.{list_any}
-use Rattle.std.proofs.lemmas.Bool.{or_parts}
 use Rattle.std.proofs.lemmas.List.{map-append}
 use Rattle.std.proofs.lemmas.List.Elements.{All-nil, All-push, All-head, All-tail}
-use Rattle.commands.specs.declared.library.Ranked.{Ranked}
-use Rattle.commands.specs.declared.command.Command.{Command}
-use Rattle.commands.specs.declared.command.Command.TheVariants as command
-use Rattle.commands.specs.declared.command.Reply.{Reply}
-use Rattle.commands.specs.declared.reason.Reason.{Reason}
-use Rattle.commands.specs.declared.reason.Refused.{Refused as Refusal}
+use Rattle.library.specs.declared.library.Ranked.{Ranked}
+use Rattle.library.specs.declared.command.Command.{Command}
+use Rattle.library.specs.declared.reason.Refused.{Refused as Refusal}
 use Rattle.mmsyntax.specs.Tables.{Contents}
-use Rattle.commands.specs.Library.{Setting, Verifies, opening}
-use Rattle.commands.specs.Edits.{Edited, of_found, found, shown, edit}
-use Rattle.commands.specs.Fitting.{CommandFits}
-use Rattle.commands.specs.Transactions.{Applied, with_reply, then_apply, apply_from, apply, library_of}
-use Rattle.commands.proofs.Editing.{apply_verifies}
-use Rattle.history.specs.declared.history.Entry.{Entry}
-use Rattle.history.specs.declared.history.Entry.TheVariants.{Done}
+use Rattle.library.specs.Library.{Setting, Verifies, opening}
+use Rattle.library.specs.Fitting.{CommandFits}
+use Rattle.library.specs.Transactions.{Applied, apply, library_of, has_edit, has_too_many}
+use Rattle.library.proofs.Editing.{apply_verifies}
+use Rattle.library.specs.declared.history.Entry.{Entry}
+use Rattle.library.specs.declared.history.Entry.TheVariants.{Done}
 use Rattle.history.specs.Editors.{Held}
-use Rattle.history.specs.Histories.{told, after_all, IsLegal}
-use Rattle.history.proofs.Legal.{after_all-more, legal_more}
-use Rattle.histories.specs.Layout.{EntryFits}
-use Rattle.jobs.specs.Outcomes.{Standing, setting_of, standing, at_opening, is_edit, has_too_many, entries_after, moved, standing_after, after_turns, after_script, after_scripts}
-use Rattle.jobs.proofs.Fitting.{replies_fit}
-
--- ---- a transaction without an edit leaves the library as it was
-
-abbrev Leaves : List Ranked → Result Edited Reason → Type 0
-Leaves lib (Ok e) = e.library ≡ lib
-Leaves lib (Err reason) = Unit {0}
-
-shown_leaves : (lib : List Ranked) (o : Option Ranked) → Leaves lib (of_found o (λ e. Ok (shown lib e)))
-shown_leaves lib None = tt
-shown_leaves lib (Some e) = refl
-
-edit_leaves : (s : Setting) (lib : List Ranked) (c : Command) → is_edit c ≡ false → Leaves lib (edit s lib c)
-edit_leaves s lib (command.Add rank a) reads = absurd cc
-edit_leaves s lib (command.Reprove label steps) reads = absurd cc
-edit_leaves s lib (command.Rename old new) reads = absurd cc
-edit_leaves s lib (command.Move label rank) reads = absurd cc
-edit_leaves s lib (command.Delete label) reads = absurd cc
-edit_leaves s lib (command.Show label) reads = shown_leaves lib (found lib label)
-edit_leaves s lib command.List reads = refl
-
-abbrev AppliedLeaves : List Ranked → Result Applied Refusal → Type 0
-AppliedLeaves lib (Ok a) = a.library ≡ lib
-AppliedLeaves lib (Err r) = Unit {0}
-
-reply_leaves : (lib : List Ranked) (reply : Reply) (r : Result Applied Refusal) → AppliedLeaves lib r → AppliedLeaves lib (with_reply reply r)
-reply_leaves lib reply (Ok a) h = h
-reply_leaves lib reply (Err r) h = tt
-
-then_leaves : (lib : List Ranked) (n : ℕ) (r : Result Edited Reason) (rest : List Ranked → Result Applied Refusal) → Leaves lib r
-    → ((next : List Ranked) → next ≡ lib → AppliedLeaves lib (rest next)) → AppliedLeaves lib (then_apply n r rest)
-then_leaves lib n (Ok e) rest h more = reply_leaves lib e.reply (rest e.library) (more e.library h)
-then_leaves lib n (Err reason) rest h more = tt
-
-apply_from_leaves : (s : Setting) (n : ℕ) (lib now : List Ranked) (cs : List Command) → now ≡ lib → list_any is_edit cs ≡ false
-    → AppliedLeaves lib (apply_from s n now cs)
-unfolding apply_from
-apply_from_leaves s n lib now [] same reads = same
-apply_from_leaves s n lib now (c ∷ cs) same reads =
-    let both = or_parts (is_edit c) (list_any is_edit cs) reads in
-    then_leaves lib n (edit s now c) (λ next. apply_from s (n + 1) next cs) (subst (λ l. Leaves l (edit s now c)) same (edit_leaves s now c both.0))
-    (λ next is. apply_from_leaves s (n + 1) lib next cs is both.1)
-
-apply_leaves : (s : Setting) (lib : List Ranked) (cs : List Command) (a : Applied) → list_any is_edit cs ≡ false → apply s lib cs ≡ Ok a
-    → a.library ≡ lib
-apply_leaves s lib cs a reads h = subst (AppliedLeaves lib) h (apply_from_leaves s 1 lib lib cs refl reads)
+use Rattle.library.specs.Histories.{told, after_all, IsLegal}
+use Rattle.library.proofs.Legal.{after_all-more, legal_more}
+use Rattle.historytext.specs.Layout.{EntryFits}
+use Rattle.jobs.specs.Outcomes.{Standing, setting_of, standing, at_opening, entries_after, moved, standing_after, after_turns, after_script, after_scripts}
+use Rattle.library.proofs.Fitting.{replies_fit}
+use Rattle.library.proofs.Leaving.{apply_leaves}
 
 -- ---- where a run stands
 
@@ -114,7 +64,7 @@ module _ (s : Setting) (lib0 : List Ranked) where
     fit = k.fit;
   }
 
-  answered_kept : (now : Standing) (cs : List Command) (b : Bool) (r : Result Applied Refusal) → list_any is_edit cs ≡ b
+  answered_kept : (now : Standing) (cs : List Command) (b : Bool) (r : Result Applied Refusal) → has_edit cs ≡ b
       → apply s now.library cs ≡ r → IsKept s lib0 now → All (CommandFits s.prelude) cs
       → IsKept s lib0 (record { library = library_of now.library r; entries = entries_after cs now.entries b r })
   answered_kept now cs true (Ok a) edits is k fit = done_kept now cs a k fit is
@@ -122,12 +72,12 @@ module _ (s : Setting) (lib0 : List Ranked) where
   answered_kept now cs true (Err r) edits is k fit = k
   answered_kept now cs false (Err r) edits is k fit = k
 
-  transaction_kept : (now : Standing) (cs : List Command) → IsKept s lib0 now → All (CommandFits s.prelude) cs
+  pub transaction_kept : (now : Standing) (cs : List Command) → IsKept s lib0 now → All (CommandFits s.prelude) cs
       → IsKept s lib0 (standing_after s now cs)
   transaction_kept now cs k fit =
       elim (has_too_many cs) as (λ b. IsKept s lib0 (if b then now else moved s now cs)) [
         | true ↦ k
-        | false ↦ answered_kept now cs (list_any is_edit cs) (apply s now.library cs) refl refl k fit
+        | false ↦ answered_kept now cs (has_edit cs) (apply s now.library cs) refl refl k fit
       ]
 
   -- ---- all of them
@@ -139,11 +89,13 @@ module _ (s : Setting) (lib0 : List Ranked) where
   turns_kept next P keeps now (x ∷ xs) k all =
       turns_kept next P keeps (next now x) xs (keeps now x k (All-head P x xs all)) (All-tail P x xs all)
 
+  pub script_kept : (now : Standing) (script : List (List Command)) → IsKept s lib0 now → All (All (CommandFits s.prelude)) script
+      → IsKept s lib0 (after_script s now script)
+  script_kept = turns_kept (standing_after s) (All (CommandFits s.prelude)) transaction_kept
+
   pub run_kept : (now : Standing) (scripts : List (List (List Command))) → IsKept s lib0 now
       → All (All (All (CommandFits s.prelude))) scripts → IsKept s lib0 (after_scripts s now scripts)
-  run_kept =
-      turns_kept (after_script s) (All (All (CommandFits s.prelude)))
-      (turns_kept (standing_after s) (All (CommandFits s.prelude)) transaction_kept)
+  run_kept = turns_kept (after_script s) (All (All (CommandFits s.prelude))) script_kept
 
 -- where the editor of a database is left by a run
 pub edited_kept : (db : Contents) (e : Held) (none : List Entry) (end : Standing) (scripts : List (List (List Command)))

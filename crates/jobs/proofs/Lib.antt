@@ -1,6 +1,9 @@
-pub mod Fitting
 pub mod Faults
 pub mod JobFaults
 pub mod Turns
 pub mod Kept
+pub mod Agreeing
 pub mod ReplayFaults
+pub mod Shown
+pub mod ReportLines
+pub mod Fronts

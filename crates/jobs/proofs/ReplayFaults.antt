@@ -7,13 +7,13 @@ use Rattle.mmtext.specs.declared.fault.TextFault.{TextFault}
 use Rattle.mmtext.specs.declared.fault.FaultKind.TheVariants.{NoMemory as OutOfMemory}
 use Rattle.mmtext.specs.Languages.{too_long}
 use Rattle.mmsyntax.specs.Tables.{Tables, Contents}
-use Rattle.commands.specs.Library.{opening}
-use Rattle.history.specs.declared.history.Entry.{Entry}
-use Rattle.history.specs.declared.history.Entry.TheVariants.{Void, Done}
-use Rattle.history.specs.Histories.{told, IsLegal, EntryFits as CommandsFit}
-use Rattle.history.proofs.Legal.{no_first_differing, one_first_differing}
-use Rattle.histories.specs.Layout.{EntryFits}
-use Rattle.histories.specs.Places.{FaultyHistory}
+use Rattle.library.specs.Library.{opening}
+use Rattle.library.specs.declared.history.Entry.{Entry}
+use Rattle.library.specs.declared.history.Entry.TheVariants.{Void, Done}
+use Rattle.library.specs.Histories.{told, IsLegal, EntryFits as CommandsFit}
+use Rattle.history.proofs.Differing.{no_first_differing, one_first_differing}
+use Rattle.historytext.specs.Layout.{EntryFits}
+use Rattle.historytext.specs.Places.{FaultyHistory}
 use Rattle.jobs.specs.declared.job.Fault.{Fault}
 use Rattle.jobs.specs.declared.job.Fault.TheVariants.{Text, Proof, Differs, NoMemory}
 use Rattle.jobs.specs.Outcomes.{setting_of}

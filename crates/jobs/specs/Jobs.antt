@@ -11,23 +11,25 @@ use Rattle.mmsyntax.specs.Faults.{FaultyDatabase}
 use Rattle.proofcheck.specs.declared.fault.ProofFault.{ProofFault}
 use Rattle.proofcheck.specs.declared.fault.ProofFaultKind.TheVariants.{NoMemory as NoMemoryOfProof}
 use Rattle.proofcheck.specs.Databases.{AllCheck, IsFirstFault as IsFirstFaultOfProofs}
-use Rattle.commands.specs.declared.command.Command.{Command}
-use Rattle.commands.specs.Library.{Listed, ShowsInOrder, opening}
+use Rattle.library.specs.declared.command.Command.{Command}
+use Rattle.library.specs.Library.{Listed, ShowsInOrder, Verifies, opening}
 use Rattle.commands.specs.Scripts.{SpellsScript}
 use Rattle.commands.specs.ScriptFaults.{FaultyScript}
-use Rattle.history.specs.declared.history.Entry.{Entry}
-use Rattle.history.specs.Histories.{told, after_all, IsLegal}
+use Rattle.library.specs.declared.history.Entry.{Entry}
+use Rattle.library.specs.Histories.{told, after, after_all, IsLegal}
 use Rattle.history.specs.Replays.{IsFirstDiffering}
-use Rattle.histories.specs.Grammar.{SpellsHistory}
-use Rattle.histories.specs.Places.{FaultyHistory}
-use Rattle.histories.specs.Layout.{history_text}
+use Rattle.historytext.specs.Grammar.{SpellsHistory}
+use Rattle.historytext.specs.Places.{FaultyHistory}
+use Rattle.historytext.specs.Layout.{history_text}
 use Rattle.export.specs.Exported.{Accepts, exported_text}
 use Rattle.jobs.specs.declared.job.Job.{Job}
 use Rattle.jobs.specs.declared.job.Job.TheVariants.{Check, Run, Replay}
 use Rattle.jobs.specs.declared.job.Printed.{Printed}
 use Rattle.jobs.specs.declared.job.Fault.{Fault}
 use Rattle.jobs.specs.declared.job.Fault.TheVariants.{Text, Proof, Differs, NoMemory}
-use Rattle.jobs.specs.Outcomes.{Standing, setting_of, at_opening, after_scripts}
+use Rattle.jobs.specs.Outcomes.{Standing, setting_of, at_opening, all_outcomes, after_scripts}
+use Rattle.jobs.specs.Reports.{report_text}
+use Rattle.jobs.specs.declared.outcome.Outcome.{Outcome}
 
 abbrev pub Bytes : Type 0
 Bytes = List ℕ
@@ -42,22 +44,27 @@ Orders = List (List Command)
 abbrev pub library_lines : Listed → Bytes
 library_lines library = codes "library" ++ 10 ∷ exported_text library
 
+-- what becomes of the transactions of scripts, script after script
+abbrev pub outcomes_of : Contents → List Orders → List (List Outcome)
+outcomes_of contents scripts = all_outcomes (setting_of contents) (at_opening contents) scripts
+
 -- where the transactions of scripts leave
 abbrev pub left_by : Contents → List Orders → Standing
 left_by contents scripts = after_scripts (setting_of contents) (at_opening contents) scripts
 
--- a report, and the library after all transactions, whose text is accepted; and the text of the history, which is of exactly those that
--- were committed. Its replies are the editor's, and the library is the one after it
+-- the report of what becomes of all transactions, and the library after them, whose text is accepted; and the text of the history, which
+-- is of exactly those that were committed. Its replies are the editor's, and the library is the one after it; after each front of it, too,
+-- the library verifies
 pub record PrintsRun (contents : Contents) (scripts : List Orders) (out history : Bytes) : Type 0 where
   pub library : Listed
   pub setting : library.setting ≡ setting_of contents
   pub shows : ShowsInOrder (left_by contents scripts).library library.entries
-  pub report : Bytes
-  pub prints : out ≡ report ++ library_lines library
+  pub prints : out ≡ report_text contents.prelude (outcomes_of contents scripts) ++ library_lines library
   pub accepted : Accepts (exported_text library)
   pub kept : history ≡ history_text contents.prelude (left_by contents scripts).entries
   pub legal : IsLegal (setting_of contents) (opening contents) (map told (left_by contents scripts).entries)
   pub follows : ShowsInOrder (after_all (setting_of contents) (opening contents) (map told (left_by contents scripts).entries)) library.entries
+  pub fronts : (k : ℕ) → Verifies (setting_of contents) (after (setting_of contents) (opening contents) (map told (left_by contents scripts).entries) k)
 
 -- `replayed`, the number of entries, and the library after them, whose text is accepted: the history is legal
 pub record PrintsReplay (contents : Contents) (history : List Entry) (out : Bytes) : Type 0 where
@@ -229,8 +236,3 @@ pub record IsReplayed (contents : Contents) (history : List Entry) (library : Li
   pub setting : library.setting ≡ setting_of contents
   pub legal : IsLegal (setting_of contents) (opening contents) (map told history)
   pub shows : ShowsInOrder (after_all (setting_of contents) (opening contents) (map told history)) library.entries
-
--- what is printed of a run behind its report
-pub record ReportsRun (library : Listed) (out : Bytes) : Type 0 where
-  pub report : Bytes
-  pub prints : out ≡ report ++ library_lines library

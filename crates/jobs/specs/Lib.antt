@@ -1,2 +1,5 @@
 pub mod Outcomes
+pub mod Reports
+pub mod FaultLines
 pub mod Jobs
+pub mod Tasks

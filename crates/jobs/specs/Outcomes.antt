@@ -1,33 +1,20 @@
 -- The outcomes of scripts that one editor runs, one after another.
-use Rattle.std.specs.Prelude.{◌+◌, ℕ, Bool, true, false, nat_lt, List, [], ◌∷◌, ◌++◌, length, Result, Ok, Err, All, if◌then◌else◌}
-use Rattle.std.specs.List.{list_any}
+use Rattle.std.specs.Prelude.{◌+◌, ℕ, Bool, true, false, List, [], ◌∷◌, ◌++◌, length, Result, Ok, Err, All, IsTrue, if◌then◌else◌}
+use Rattle.std.specs.List.{AllZip}
 use Rattle.mmsyntax.specs.Tables.{Tables, Contents}
-use Rattle.commands.specs.declared.library.Ranked.{Ranked}
-use Rattle.commands.specs.declared.command.Command.{Command}
-use Rattle.commands.specs.declared.command.Command.TheVariants as command
-use Rattle.commands.specs.declared.reason.Refused.{Refused as Refusal}
-use Rattle.commands.specs.Library.{Setting, opening}
-use Rattle.commands.specs.Fitting.{ReplyFits}
-use Rattle.commands.specs.Transactions.{Applied, apply, library_of}
-use Rattle.history.specs.declared.history.Entry.{Entry}
-use Rattle.history.specs.declared.history.Entry.TheVariants.{Done}
+use Rattle.library.specs.declared.library.Ranked.{Ranked}
+use Rattle.library.specs.declared.command.Command.{Command}
+use Rattle.library.specs.declared.reason.Refused.{Refused as Refusal}
+use Rattle.library.specs.Library.{Setting, opening}
+use Rattle.library.specs.Fitting.{ReplyFits}
+use Rattle.library.specs.Transactions.{Applied, apply, library_of, has_edit, has_too_many}
+use Rattle.library.specs.declared.history.Entry.{Entry}
+use Rattle.library.specs.declared.history.Entry.TheVariants.{Done}
+use Rattle.library.specs.Histories.{Entry as HistoryEntry}
+use Rattle.library.specs.Agrees.{Agrees, committed, read, refused}
 use Rattle.history.specs.Editors.{Held}
 use Rattle.jobs.specs.declared.outcome.Outcome.{Outcome}
 use Rattle.jobs.specs.declared.outcome.Outcome.TheVariants.{Committed, Read, Refused, TooManyCommands}
-
--- a command that changes the library where it is not refused
-abbrev pub is_edit : Command → Bool
-is_edit (command.Add rank a) = true
-is_edit (command.Reprove label steps) = true
-is_edit (command.Rename old new) = true
-is_edit (command.Move label rank) = true
-is_edit (command.Delete label) = true
-is_edit (command.Show label) = false
-is_edit command.List = false
-
--- a transaction has at most 16 commands
-abbrev pub has_too_many : List Command → Bool
-has_too_many cs = nat_lt 16 (length cs)
 
 -- how a library of the program stands: over the prelude of its database, with 4,096 slots
 abbrev pub setting_of : Contents → Setting
@@ -64,12 +51,12 @@ answer_to s now cs = apply s now.library cs
 
 -- what becomes of a transaction within the limit
 abbrev pub answered : Setting → Standing → List Command → Outcome
-answered s now cs = outcome_of (length now.entries) (list_any is_edit cs) (answer_to s now cs)
+answered s now cs = outcome_of (length now.entries) (has_edit cs) (answer_to s now cs)
 
 abbrev pub moved : Setting → Standing → List Command → Standing
 moved s now cs = record {
   library = library_of now.library (answer_to s now cs);
-  entries = entries_after cs now.entries (list_any is_edit cs) (answer_to s now cs);
+  entries = entries_after cs now.entries (has_edit cs) (answer_to s now cs);
 }
 
 -- one of more commands is not looked at
@@ -102,6 +89,19 @@ all_outcomes s now xs = in_turn (script_outcomes s) (after_script s) now xs
 
 abbrev pub after_scripts : Setting → Standing → List (List (List Command)) → Standing
 after_scripts s now xs = after_turns (after_script s) now xs
+
+-- ---- what the outcomes tell
+
+-- what an outcome tells of a transaction is so in a history from this opening library; that it has too many commands is so of itself
+abbrev pub OutcomeAgrees : Setting → List Ranked → List HistoryEntry → List Command → Outcome → Type 0
+OutcomeAgrees s lib0 h cs (Committed n replies) = Agrees s lib0 h cs (committed n replies)
+OutcomeAgrees s lib0 h cs (Read k replies) = Agrees s lib0 h cs (read k replies)
+OutcomeAgrees s lib0 h cs (Refused k index reason) = Agrees s lib0 h cs (refused k (record { index = index; reason = reason }))
+OutcomeAgrees s lib0 h cs TooManyCommands = IsTrue (has_too_many cs)
+
+-- each outcome of each script, transaction by transaction
+abbrev pub OutcomesAgree : Setting → List Ranked → List HistoryEntry → List (List (List Command)) → List (List Outcome) → Type 0
+OutcomesAgree s lib0 h scripts rows = AllZip (AllZip (OutcomeAgrees s lib0 h)) scripts rows
 
 -- ---- what a report can print
 

@@ -1,49 +1,25 @@
 //! Scripts run one after another over one editor.
 
 ghost use Rattle.std.specs.Prelude.{◌≡◌, ◌≤◌, ◌<◌, ◌^◌, [], length, map, All, IfOk, OnOk};
-ghost use Rattle.std.specs.List.{list_any};
 ghost use Rattle.proofcheck.specs.Databases.{AllCheck};
-ghost use Rattle.commands.specs.Library.{opening, ShowsInOrder};
-ghost use Rattle.commands.specs.Fitting.{CommandFits};
-ghost use Rattle.history.specs.Histories.{told, after_all, IsLegal};
-ghost use Rattle.histories.specs.Layout.{EntryFits};
+ghost use Rattle.library.specs.Library.{opening, ShowsInOrder};
+ghost use Rattle.library.specs.Fitting.{CommandFits};
+ghost use Rattle.library.specs.Histories.{told, after_all, IsLegal};
+ghost use Rattle.historytext.specs.Layout.{EntryFits};
 ghost use Rattle.export.specs.Exported.{Accepts, exported_text};
-ghost use Rattle.jobs.specs.Outcomes.{setting_of, is_edit, standing, at_opening, answered, moved, outcome_at, standing_after};
-ghost use Rattle.jobs.specs.Outcomes.{script_outcomes, after_script, all_outcomes, after_scripts, OutcomeFits, OutcomesFit};
+ghost use Rattle.jobs.specs.Outcomes.{setting_of, standing, at_opening, answered, moved, outcome_at, standing_after};
+ghost use Rattle.jobs.specs.Outcomes.{script_outcomes, after_script, all_outcomes, after_scripts, OutcomeFits, OutcomesFit, OutcomesAgree};
 
 use crate::entries::done_entry;
 use crate::outcome::Outcome;
-use commands::{Command, PlainLibrary, Script, Transaction};
-use history::{ApplyError, Editor, Entry, History, OpenError};
+use history::{ApplyError, Editor, OpenError};
+use library::{Command, Entry, History, PlainLibrary, Script, Transaction, has_edit, has_too_many};
 use mmstatement::{Database, Sequence};
 use std::alloc::{AllocError, Global};
 use std::hash::RandomState;
 
 /// The slots of a library of the program.
 pub(crate) const SLOTS: usize = 4096;
-
-/// The most commands of a transaction.
-const MOST_COMMANDS: usize = 16;
-
-/// Whether a command changes the library where it is not refused.
-fn is_edit_command(command: &Command) -> bool
-    ensures { result ≡ is_edit command.now }
-{
-    match command {
-        Command::Add { .. }
-        | Command::Reprove { .. }
-        | Command::Rename { .. }
-        | Command::Move { .. }
-        | Command::Delete { .. } => true,
-        Command::Show { .. } | Command::List => false,
-    }
-}
-
-fn has_edit(commands: &[Command]) -> bool
-    ensures { result ≡ list_any is_edit commands.now }
-{
-    commands.iter().any(|command| is_edit_command(command))
-}
 
 /// The number of entries of a history.
 fn count_of(history: &[Entry]) -> u64
@@ -106,7 +82,7 @@ fn attempt(
     ensures after { OnOk result (standing editor.new history.new.items ≡ standing_after editor.old.setting (standing editor.old history.old.items) transaction.now) }
     ensures fits { IfOk result (OutcomeFits editor.old.setting.prelude) }
 {
-    if transaction.len() > MOST_COMMANDS {
+    if has_too_many(transaction) {
         return Ok(Outcome::TooManyCommands);
     }
     submit(alloc, editor, history, transaction)
@@ -195,6 +171,8 @@ pub(crate) fn edit_all(
     // The history holds those that were committed. Each entry's replies are the editor's, and the library of the run is the one after it.
     ensures history { IfOk result (λ e. e.history ≡ (after_scripts (setting_of db.now) (at_opening db.now) scripts.now).entries) }
     ensures legal { IfOk result (λ e. IsLegal (setting_of db.now) (opening db.now) (map told e.history)) }
+    // What each outcome tells is so in the history: a commit is its entry, and a read or a refusal the definition's answer at its place.
+    ensures agree { IfOk result (λ e. OutcomesAgree (setting_of db.now) (opening db.now) (map told e.history) scripts.now e.outcomes) }
     ensures follows { IfOk result (λ e. ShowsInOrder (after_all (setting_of db.now) (opening db.now) (map told e.history)) e.library.entries) }
     // The library is the one after the transactions, in export order.
     ensures setting { IfOk result (λ e. e.library.setting ≡ setting_of db.now) }

@@ -2,11 +2,9 @@
 
 ghost use Rattle.jobs.specs.Jobs.{IsTextFaultOf};
 
-use crate::report::text_of;
 use mmstatement::{FaultKind, Label, TextFault};
 use proofcheck::ProofFault;
 use std::alloc::{AllocError, AllocFailed};
-use thiserror::Error;
 
 /// A job over texts: what files hold, as bytes.
 #[derive(Debug, Drop)]
@@ -29,19 +27,15 @@ pub struct Printed {
 }
 
 /// Why a job prints nothing. Its text is the program's line, without the path of the file at fault.
-#[derive(Debug, Drop, Error)]
+#[derive(Debug, Drop)]
 pub enum Fault {
     /// A text is not read. Texts count from 0: the database, then each script, or the history.
-    #[error("text {} {} at byte {}", .fault.kind.number(), .fault.kind.name(), .fault.place)]
     Text { file: usize, fault: TextFault },
     /// The proof of the theorem with a label has a fault.
-    #[error("proof of {}: step {}: {}", text_of(.label), .fault.step, .fault.kind)]
     Proof { label: Label, fault: ProofFault },
     /// An entry of the history, counted from 1, is the first whose replies aren't the library's.
-    #[error("entry {0} differs")]
     Differs(usize),
     /// Memory ran out.
-    #[error("no memory")]
     NoMemory,
 }
 

@@ -1,6 +1,7 @@
 //! What the program does, on texts instead of files: a job from bytes to bytes.
 #![tactic(auto)]
 
+mod answering;
 mod edits;
 mod entries;
 mod job;
@@ -8,6 +9,10 @@ mod outcome;
 mod performing;
 mod replaying;
 mod report;
+mod task;
+mod telling;
 
+pub use answering::{Answered, answer};
 pub use job::{Fault, Job, Printed};
 pub use performing::perform;
+pub use task::{Task, job_of};

@@ -1,6 +1,6 @@
 //! What becomes of a transaction.
 
-use commands::{Reason, Reply};
+use library::{Reason, Reply};
 use mmstatement::Sequence;
 
 /// What became of a transaction.

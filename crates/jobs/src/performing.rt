@@ -7,20 +7,22 @@ ghost use Rattle.mmtext.specs.declared.fault.TextFault.{TextFault as FaultOfText
 ghost use Rattle.proofcheck.specs.Databases.{AllCheck, IsFirstFault as IsFirstFaultOfProofs};
 ghost use Rattle.jobs.specs.declared.job.Fault.{Fault as FaultOfJob};
 ghost use Rattle.jobs.specs.declared.job.Fault.TheVariants.{NoMemory};
-ghost use Rattle.jobs.specs.Jobs.{AreScripts, IsChecked, ReportsRun, PrintsRun, IsCheck, IsRun, IsReplay, DoneAsAsked, IsLabelAt};
+ghost use Rattle.jobs.specs.Jobs.{AreScripts, IsChecked, library_lines, PrintsRun, IsCheck, IsRun, IsReplay, DoneAsAsked, IsLabelAt};
 ghost use Rattle.jobs.specs.Outcomes.{OutcomesFit};
+ghost use Rattle.jobs.specs.Reports.{report_text};
 ghost use Rattle.jobs.specs.Jobs.{IsFirstFault, IsTextFaultOf, IsScriptFault, IsProofFault, IsDatabaseFault};
 ghost use Rattle.jobs.specs.Jobs.{IsRunFault, IsReplayFault, IsFaultOf, IsRefusedWith, RefusesWith, IsProofFaultOf, GivesOrLacksMemory};
 ghost use Rattle.mmsyntax.specs.Tables.{Contents};
-ghost use Rattle.commands.specs.Fitting.{CommandFits};
+ghost use Rattle.library.specs.Fitting.{CommandFits};
 
 use crate::edits::{Edited, edit_all};
 use crate::job::{Fault, Job, Printed, text_fault};
 use crate::replaying::{print_replay, read_entries};
 use crate::report::report;
-use commands::{Script, read_script};
+use commands::read_script;
 use export::write_library;
-use histories::write_history;
+use historytext::write_history;
+use library::Script;
 use mmstatement::{Database, Label, Prelude, read_database};
 use proofcheck::{ProofFault, ProofFaultKind, check_all};
 use std::alloc::{AllocError, Global};
@@ -102,7 +104,7 @@ fn read_and_check(
 /// The report of a run, and its library's text.
 fn report_run(alloc: Global, prelude: &Prelude, edited: &Edited) -> Result<Vec<u8>, AllocError>
     requires { OutcomesFit prelude.now edited.now.outcomes }
-    ensures { IfOk result (λ v. ReportsRun edited.now.library v.items) }
+    ensures { IfOk result (λ v. v.items ≡ report_text prelude.now edited.now.outcomes ++ library_lines edited.now.library) }
 {
     let mut out = report(alloc, prelude, edited.outcomes.as_slice())?;
     out.extend_from_slice(b"library\n")?;
@@ -122,6 +124,8 @@ fn print_run(
     requires fit { All (All (All (CommandFits db.now.prelude))) scripts.now }
     ensures { IfOk result (λ p. PrintsRun db.now scripts.now p.out.items p.history.items) }
 {
+    // Some text declares a database: its assertions say so.
+    let _assertions = db.assertions();
     let edited = edit_all(alloc, keys, db, scripts)?;
     Ok(Printed {
         out: report_run(alloc, db.prelude(), &edited)?,
@@ -196,8 +200,9 @@ pub fn perform(
     keys: RandomState,
     job: &Job,
 ) -> Result<Printed, Fault>
-    // The texts are read as they are spelled, and what is printed ends with the exported text of the library after all transactions. A run's
-    // history holds exactly those that were committed, and is legal; a replayed history is legal too.
+    // The texts are read as they are spelled. A run prints the report of what becomes of all its transactions, and then, as a replay does,
+    // the exported text of the library after them. Its history holds exactly those that were committed, and is legal; a replayed history is
+    // legal too.
     ensures done { IfOk result (λ p. DoneAsAsked job.now p) }
     // The fault is the first that the job has, or memory ran out.
     ensures fault { IfErr result (λ f. f ≢ NoMemory → IsFaultOf job.now f) }

@@ -4,9 +4,9 @@ ghost use Rattle.std.specs.Prelude.{◌≡◌, ◌≢◌, ◌++◌, ◌∷◌, L
 ghost use Rattle.std.specs.Fmt.{decimal};
 ghost use Rattle.mmtext.specs.declared.fault.TextFault.{TextFault as FaultOfText};
 ghost use Rattle.proofcheck.specs.Databases.{AllCheck};
-ghost use Rattle.history.specs.declared.history.Entry.{Entry as EntryOf};
-ghost use Rattle.histories.specs.Places.{FaultyHistory};
-ghost use Rattle.histories.specs.Layout.{EntryFits};
+ghost use Rattle.library.specs.declared.history.Entry.{Entry as EntryOf};
+ghost use Rattle.historytext.specs.Places.{FaultyHistory};
+ghost use Rattle.historytext.specs.Layout.{EntryFits};
 ghost use Rattle.jobs.specs.declared.job.Fault.{Fault as FaultOfJob};
 ghost use Rattle.jobs.specs.declared.job.Fault.TheVariants.{NoMemory};
 ghost use Rattle.jobs.specs.Jobs.{library_lines, IsHistory, IsReplayed, PrintsReplay, IsHistoryFault, IsDifference};
@@ -14,10 +14,10 @@ ghost use Rattle.jobs.specs.Jobs.{GivesOrLacksMemory, IsRefusedWith, RefusesWith
 
 use crate::edits::SLOTS;
 use crate::job::{Fault, text_fault};
-use commands::PlainLibrary;
 use export::write_library;
-use histories::read_history;
-use history::{Entry, History, ReplayError};
+use history::ReplayError;
+use historytext::read_history;
+use library::{Entry, History, PlainLibrary};
 use mmstatement::{Database, Prelude};
 use std::alloc::{AllocError, Global};
 use std::hash::RandomState;

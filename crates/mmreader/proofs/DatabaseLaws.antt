@@ -1,5 +1,5 @@
 -- The languages of databases and of single units against the grammar: what they say is what the text spells, both ways.
-use Rattle.std.proofs.Common.{◌≡◌, ℕ, suc, ◌≤◌, Bool, true, false, cond, List, [], ◌∷◌, ◌++◌, length, Option, Some, None, Result, Ok}
+use Rattle.std.proofs.Common.{◌≡◌, ℕ, suc, Bool, true, false, cond, List, [], ◌∷◌, ◌++◌, length, Option, Some, None, Result, Ok}
 use Rattle.std.proofs.Common.{Err, refl, sym, ap, ◌∙◌, arith, append-nil}
 use Rattle.std.specs.Prelude.{is_some}
 use Rattle.std.specs.List.{flat_map}
@@ -11,13 +11,13 @@ use Rattle.mmtext.specs.Text.{Token, tokens, IsClean}
 use Rattle.mmtext.specs.Comments.{words_of, without_comments}
 use Rattle.mmsyntax.specs.Tables.{Tables, Contents}
 use Rattle.mmsyntax.specs.Blocks.{Block, no_block}
-use Rattle.mmtext.specs.Languages.{Language, State, fault, run, said_at, finished, ended, token_reading, reading}
+use Rattle.mmtext.specs.Languages.{Language, State, fault, run, said_at, finished, ended, token_reading}
+use Rattle.mmtext.specs.Laws.{IsGrammarOf}
 use Rattle.mmsyntax.specs.Rows.{Known, nothing, prelude_alone, in_prelude}
 use Rattle.mmsyntax.specs.Faults.{outside, inside, Place, at_start, Position, row, database_of, whole, database_language}
 use Rattle.mmsyntax.specs.Faults.{first_of, unit_at, unit_language}
 use Rattle.mmsyntax.specs.Grammar.{Piece, distinct, hypothesis, Statement, constants, variables, float, alone, block, spelling}
 use Rattle.mmsyntax.specs.Grammar.{HoldAll, Declares, Spells, SpellsUnit}
-use Rattle.mmtext.proofs.Readings.{reading_ok, clean_reading}
 use Rattle.mmtext.proofs.CommentLaws.{here, walk, walk_ends, walk_none, walk_cons, walks_outside, runs_all}
 use Rattle.mmreader.proofs.Ordinary.{statement_ordinary, statements_ordinary}
 use Rattle.mmreader.proofs.Leading.{there, home, IsInner, GoesOnInside}
@@ -35,11 +35,6 @@ database_token_spelled bytes db s =
     s.words_are in
     let w = statements_lead l (λ k p i t q h. h) (λ k t q h. h) s.statements nothing s.known r.kept s.declared r.words_are in
     ap (ended l (length bytes)) (r.runs (home nothing) (home s.known) w) ∙ ap (λ d. Ok d) s.whole
-
--- a text of at most 16,777,216 bytes is read as the database that it spells
-pub database_spelled : (bytes : List ℕ) (db : Contents) → length bytes ≤ 16777216 → Spells bytes db
-    → reading database_language bytes ≡ Ok db
-database_spelled bytes db short s = clean_reading database_language bytes short s.clean ∙ database_token_spelled bytes db s
 
 -- within its statement, a unit isn't finished
 unit_inside : (k : Known) (p : Place) → IsInner p → unit_at k p ≡ None
@@ -70,11 +65,6 @@ unit_token_spelled t bytes a s =
     let r = runs_all l false (tokens bytes) (spelling s.statement) (statement_ordinary k s.statement s.known s.declared) s.words_are in
     let w = unit_leads t s.statement s.known r.kept s.declared r.words_are in
     ap (ended l (length bytes)) (r.runs (home k) (home s.known) w) ∙ ap (λ xs. finished (length bytes) (first_of xs)) s.single
-
--- a text of at most 16,777,216 bytes is read as the assertion that it spells alone
-pub unit_spelled : (t : Tables) (bytes : List ℕ) (a : Assertion) → length bytes ≤ 16777216 → SpellsUnit t bytes a
-    → reading (unit_language t) bytes ≡ Ok a
-unit_spelled t bytes a short s = clean_reading (unit_language t) bytes short s.clean ∙ unit_token_spelled t bytes a s
 
 -- ---- what is read is spelled
 
@@ -125,9 +115,9 @@ database_token_found bytes db clean h =
     let o = walks_outside l false (home nothing) f.0 (tokens bytes) f.1 in
     database_walk_found bytes db o.kept f.0 clean o.words_are f.2 o.walks
 
--- a text spells the database that is read from it
-pub database_found : (bytes : List ℕ) (db : Contents) → reading database_language bytes ≡ Ok db → Spells bytes db
-database_found bytes db h = let r = reading_ok database_language bytes db h in database_token_found bytes db r.0 r.1
+-- what a text spells as a database is what the language of databases says
+pub database_grammar : IsGrammarOf database_language Spells
+database_grammar bytes db = (λ s. (s.clean, database_token_spelled bytes db s), λ h. database_token_found bytes db h.0 h.1)
 
 unit_ok : (k : Known) (p : Place) (a : Assertion) → unit_at k p ≡ Some a → (p ≡ at_start outside) × (first_of k.units.assertions ≡ Some a)
 unit_ok k (at_start outside) a h = (refl, h)
@@ -230,6 +220,6 @@ unit_token_found t bytes a clean h =
     let o = walks_outside l false start f.0 (tokens bytes) f.1 in
     unit_walk_found t bytes a o.kept f.0 clean o.words_are f.2 o.walks
 
--- a text spells, alone, the assertion that is read from it
-pub unit_found : (t : Tables) (bytes : List ℕ) (a : Assertion) → reading (unit_language t) bytes ≡ Ok a → SpellsUnit t bytes a
-unit_found t bytes a h = let r = reading_ok (unit_language t) bytes a h in unit_token_found t bytes a r.0 r.1
+-- what a text spells as an assertion over a prelude is what the language of single assertions says
+pub unit_grammar : (t : Tables) → IsGrammarOf (unit_language t) (SpellsUnit t)
+unit_grammar t bytes a = (λ s. (s.clean, unit_token_spelled t bytes a s), λ h. unit_token_found t bytes a h.0 h.1)

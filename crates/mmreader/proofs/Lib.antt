@@ -8,6 +8,6 @@ pub mod ParsedRows
 pub mod Parsed
 pub mod ParsedStatements
 pub mod DatabaseLaws
-pub mod DatabaseAnswers
+pub mod SamePreludes
 pub mod Runs
 pub mod UnitRows

@@ -1,16 +1,14 @@
 -- What stands in the middle of statements, and that a single unit never comes to a $c, $v or $f.
-use Rattle.std.proofs.Common.{◌≡◌, ℕ, ◌<◌, ◌≤◌, Bool, true, false, cond, List, [], ◌∷◌, ◌++◌, length, Option, Some, None, Result, Ok, Err}
+use Rattle.std.proofs.Common.{◌≡◌, ℕ, ◌<◌, Bool, true, false, cond, List, [], ◌∷◌, ◌++◌, length, Option, Some, None, Result, Ok, Err}
 use Rattle.std.proofs.Common.{refl, sym, ap, subst, ◌∙◌, arith, leb-false, length-append}
-use Rattle.std.specs.Prelude.{◌||◌, is_some, nat_lt, nat_le}
+use Rattle.std.specs.Prelude.{is_some, nat_lt, nat_le}
 use mathlib.Core.Bool.{not}
-use Rattle.std.proofs.lemmas.Bool.{cond-false}
+use Rattle.std.proofs.lemmas.Bool.{cond-false, or_parts}
 use Rattle.mmsyntax.specs.declared.statement.Symbol.{Symbol}
 use Rattle.mmsyntax.specs.declared.statement.Step.{Step}
 use Rattle.mmtext.specs.declared.fault.FaultKind.{FaultKind}
 use Rattle.mmtext.specs.declared.fault.FaultKind.TheVariants.{OutOfProfile, BadToken, UnknownSymbol, RepeatedLabel, BadLabel, TooLong}
 use Rattle.mmtext.specs.declared.fault.TextFault.{TextFault}
-use Rattle.mmsyntax.specs.declared.symbols.Name.{Name}
-use Rattle.mmsyntax.specs.declared.symbols.Name.TheVariants.{Constant, Variable, Label}
 use Rattle.mmtext.specs.declared.mark.Mark.{Mark}
 use Rattle.mmtext.specs.declared.mark.Mark.TheVariants as mark
 use Rattle.mmreader.specs.declared.place.Place.{Place as CodePlace}
@@ -29,9 +27,11 @@ use Rattle.mmsyntax.specs.Faults.{Scope, outside, inside, block_of, Place, at_st
 use Rattle.mmsyntax.specs.Faults.{float_type, float_variable, float_end, in_distinct, in_hypothesis, in_axiom, in_theorem, in_proof}
 use Rattle.mmsyntax.specs.Faults.{Position, at, faulted, tested, given, outermost_row, block_row, close_row, keyword_row, constant_row}
 use Rattle.mmsyntax.specs.Faults.{variable_row, float_end_row, distinct_row, hypothesis_row, axiom_row, theorem_row, proof_row, behind}
-use Rattle.mmsyntax.specs.Faults.{in_place, row, unit_at, unit_row, database_language, unit_language, IsFree, IsRoomy, Stands}
+use Rattle.mmsyntax.specs.Faults.{in_place, row, unit_at, unit_row, database_language, unit_language, IsRoomy, Stands}
 use Rattle.mmreader.specs.Views.{seen_place, IsUnitPlace}
 use Rattle.mmtext.proofs.Turns.{OnPlace, keeps_step}
+use Rattle.mmsyntax.proofs.Sound.{cond_none, if_ok, free_variable}
+use Rattle.mmsyntax.proofs.Again.{none_is}
 
 -- ---- what a row keeps
 
@@ -51,25 +51,13 @@ ok_given Q t (Err kind) next h = tt
 
 -- ---- tests that passed
 
-pub cond_none : (b : Bool) (kind : FaultKind) (o : Option FaultKind) → cond b (Some kind) o ≡ None → (b ≡ false) × (o ≡ None)
-cond_none true kind o h = absurd cc
-cond_none false kind o h = (refl, h)
-
-or_false : (a b : Bool) → (a || b) ≡ false → (a ≡ false) × (b ≡ false)
-or_false true b h = absurd cc
-or_false false b h = (refl, h)
-
-not_some : {A : Type 0} (o : Option A) → is_some o ≡ false → o ≡ None
-not_some None h = refl
-not_some (Some x) h = absurd cc
-
 pub label_free : (k : Known) (count limit : ℕ) (w : Word) → first_fault (label_tests k count limit w) ≡ None
     → (meaning k.tables w ≡ None) × (count < limit)
 label_free k count limit w h =
     let one = cond_none _ _ _ h in
     let two = cond_none _ _ _ one.1 in
     let three = cond_none _ _ _ two.1 in
-    (not_some (meaning k.tables w) (or_false _ _ two.0).0, leb-false limit count three.0)
+    (none_is (meaning k.tables w) (or_parts _ _ two.0).0, leb-false limit count three.0)
 
 room_left : (k : Known) (b : Block) (w : Word) → first_fault (hypothesis_label_tests k b w) ≡ None → length b.hyps < 1000
 room_left k b w h =
@@ -77,17 +65,6 @@ room_left k b w h =
     let two = (cond_none (nat_lt 260 (length w)) BadLabel (cond (is_used k w) (Some RepeatedLabel) full) h).1 in
     let three = (cond_none (is_used k w) RepeatedLabel full two).1 in
     leb-false 1000 (length b.hyps) (cond_none (nat_le 1000 (length b.hyps)) TooLong None three).0
-
-free_variable : (o : Option Name) (i : ℕ) → variable_named o ≡ Ok i → o ≡ Some (Variable i None)
-free_variable None i h = absurd cc
-free_variable (Some (Constant j)) i h = absurd cc
-free_variable (Some (Variable j None)) i h = ap (λ k. Some (Variable k None)) (let e : j ≡ i = cc in e)
-free_variable (Some (Variable j (Some k))) i h = absurd cc
-free_variable (Some (Label j)) i h = absurd cc
-
-if_ok : {A : Type 0} (b : Bool) (d : FaultKind) (r : Result A FaultKind) (x : A) → cond b (Err d) r ≡ Ok x → (b ≡ false) × (r ≡ Ok x)
-if_ok true d r x h = absurd cc
-if_ok false d r x h = (refl, h)
 
 -- a symbol of a $f has no $
 pub variable_here : (t : Tables) (w : Word) (v : ℕ) → variable_of t w ≡ Ok v

@@ -1,5 +1,5 @@
 -- A single assertion, token by token: what its rows keep.
-use Rattle.std.proofs.Common.{◌≡◌, Bool, true, false, cond, List, [], ◌∷◌, ◌++◌, Option, Some, None, Result, Ok, Err, refl, sym, ap, subst}
+use Rattle.std.proofs.Common.{◌≡◌, true, false, Option, Some, None, Result, Ok, Err, refl, sym, ap, subst}
 use Rattle.std.proofs.Common.{◌∙◌}
 use Rattle.std.specs.Prelude.{is_some}
 use Rattle.mmsyntax.specs.declared.statement.Assertion.{Assertion}
@@ -9,7 +9,6 @@ use Rattle.mmtext.specs.declared.fault.TextFault.{TextFault}
 use Rattle.mmreader.specs.declared.place.UnitPlace.{UnitPlace}
 use Rattle.mmreader.specs.declared.place.UnitPlace.TheVariants as unit
 use Rattle.mmreader.specs.declared.place.Place.{Place as CodePlace}
-use Rattle.mmreader.specs.declared.place.Place.TheVariants as code
 use Rattle.mmtext.specs.declared.fault.Stop.{Stop}
 use Rattle.mmtext.specs.Views.{Fails}
 use Rattle.mmreader.specs.declared.reading.unit_reader.UnitProgress.{UnitProgress}

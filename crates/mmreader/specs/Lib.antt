@@ -3,3 +3,4 @@ pub mod HypothesisPlaces
 pub mod Views
 pub mod UnitReadings
 pub mod UnitViews
+pub mod Laws

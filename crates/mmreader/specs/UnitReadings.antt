@@ -1,5 +1,5 @@
 -- How far an assertion was read over a prelude.
-use Rattle.std.specs.Prelude.{◌≡◌, true, length}
+use Rattle.std.specs.Prelude.{◌≡◌, true}
 use Rattle.mmsyntax.specs.Tables.{Tables}
 use Rattle.mmsyntax.specs.Rows.{Units, no_units}
 use Rattle.mmsyntax.specs.Faults.{Place, outside, at_start, Position, Stands}

@@ -3,6 +3,7 @@
 
 mod block;
 mod known;
+pub mod laws;
 mod place;
 mod reading;
 

@@ -163,7 +163,7 @@ fn read_text(
 ///   a label; `TooLong` for too many steps; `BadLabel` for a label that is too long or has a `.`, unless it is that of a `$f` or of a `$e`
 ///   of the block.
 /// - `Unfinished` at the length of the text: it ends in a statement, in a block or in a comment.
-/// - `NoMemory`, with place 0: memory ran out.
+/// - `NoMemory`: memory ran out; its place says nothing.
 pub fn read_database(alloc: Global, keys: RandomState, text: &[u8]) -> Result<Database, TextFault>
     // What is read is spelled so.
     ensures found { IfOk result (λ db. Spells text.now db) }

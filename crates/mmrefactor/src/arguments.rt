@@ -1,6 +1,7 @@
 //! The command line.
 
 use clap::{Arg, ArgAction, ArgMatches, Command};
+use jobs::Task;
 use std::alloc::{AllocError, Global};
 
 /// The database of a job.
@@ -56,14 +57,6 @@ pub(crate) fn command_line<'a>(alloc: Global) -> Result<Command<'a>, AllocError>
         .subcommand(check)?
         .subcommand(run_line(alloc)?)?
         .subcommand(replay_line(alloc)?)
-}
-
-/// What is to be done.
-#[derive(Clone, Copy, Debug, PartialEq, Eq)]
-pub(crate) enum Task {
-    Check,
-    Run,
-    Replay,
 }
 
 /// What a command line asks for.

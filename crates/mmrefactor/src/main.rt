@@ -3,8 +3,8 @@
 
 mod arguments;
 
-use crate::arguments::{Order, Task, command_line, order_of};
-use jobs::{Fault, Job, Printed, perform};
+use crate::arguments::{Order, command_line, order_of};
+use jobs::{Answered, Printed, answer, job_of};
 use std::alloc::{AllocError, Global};
 use std::fmt::Display;
 use std::hash::RandomState;
@@ -69,22 +69,6 @@ fn read_files(rt: &(impl Files + AllocGlobal), paths: &[&str]) -> Result<Vec<Vec
     Ok(texts)
 }
 
-/// The line of a fault in a file, with the path of that file.
-fn complain_at(rt: &impl Eprint, paths: &[&str], file: usize, fault: &Fault) -> ExitCode {
-    let path = paths.get(file).copied().unwrap_or("");
-    complain(rt, format_args!("{path}: {fault}"))
-}
-
-/// The line of a fault.
-fn complain_of(rt: &impl Eprint, paths: &[&str], fault: &Fault) -> ExitCode {
-    match fault {
-        Fault::NoMemory => complain(rt, format_args!("{fault}")),
-        Fault::Text { file, .. } => complain_at(rt, paths, *file, fault),
-        Fault::Proof { .. } => complain_at(rt, paths, 0, fault),
-        Fault::Differs(_) => complain_at(rt, paths, 1, fault),
-    }
-}
-
 /// Writes the history of a run to its file, if the command line names one, and then prints what a job prints.
 fn print_job(
     rt: &(impl Files + AllocGlobal + Print + Eprint),
@@ -99,22 +83,6 @@ fn print_job(
         }
     }
     Ok(print_out(rt, printed.out.as_slice()))
-}
-
-/// The job of texts, the first of which is the database. None without texts.
-fn job_of(task: Task, mut texts: Vec<Vec<u8>>) -> Option<Job> {
-    if texts.is_empty() {
-        return None;
-    }
-    let db = texts.remove(0);
-    match task {
-        Task::Check => Some(Job::Check { db }),
-        Task::Run => Some(Job::Run { db, scripts: texts }),
-        Task::Replay => {
-            let history = texts.pop()?;
-            Some(Job::Replay { db, history })
-        }
-    }
 }
 
 /// Does on files what a command line asks for.
@@ -137,9 +105,9 @@ fn run_files(
     let Ok(keys) = RandomState::new(rt) else {
         return Ok(complain(rt, "no random numbers"));
     };
-    match perform(rt, rt.alloc(), keys, &job) {
-        Ok(printed) => print_job(rt, order.history, &printed),
-        Err(fault) => Ok(complain_of(rt, paths, &fault)),
+    match answer(rt, rt.alloc(), keys, &job, paths)? {
+        Answered::Done(printed) => print_job(rt, order.history, &printed),
+        Answered::Refused(line) => Ok(complain(rt, line.as_str())),
     }
 }
 

@@ -1,4 +1,5 @@
 -- Marks of variables: what one more symbol, and one more place, do to them.
+use Rattle.std.proofs.Math.Bool.{or-false}
 use Rattle.std.proofs.Common.{◌≡◌, ℕ, ◌+◌, ◌<◌, Bool, true, false, cond, ◌||◌, List, [], ◌∷◌, ◌++◌, length, drop, get_or, set, refl, sym}
 use Rattle.std.proofs.Common.{ap, ◌∙◌, arith, map-id, add-one}
 use Rattle.std.proofs.Math.Seq.{drop-cons}
@@ -27,17 +28,13 @@ or_front marked old here rest done e h = rw e (or_assoc old here rest ∙ h)
     or_assoc true y z = refl
     or_assoc false y z = refl
 
-pub or_false : (b : Bool) → (b || false) ≡ b
-or_false true = refl
-or_false false = refl
-
 pub mark_one : (marks : List Bool) (k j : ℕ) → k < length marks
     → get_or (set marks k true) j false ≡ (get_or marks j false || eqb k j)
 mark_one marks k j lt = elim (eqb k j) as (λ b. eqb k j ≡ b → get_or (set marks k true) j false ≡ (get_or marks j false || b)) [
   | true ↦ λ e. let at : k ≡ j = (Decides-eqb k j).0 e in
       rw (← at) (get_or-set_same marks k true false lt ∙ sym (or_true (get_or marks k false)))
   | false ↦ λ e. let ne : j ≢ k = λ at. let both : eqb k j ≡ true = (Decides-eqb k j).1 (sym at) in cc in
-      get_or-set_other marks k j true false ne ∙ sym (or_false (get_or marks j false))
+      get_or-set_other marks k j true false ne ∙ sym (or-false (get_or marks j false))
 ] refl
   where
     or_true : (b : Bool) → (b || true) ≡ true
@@ -49,4 +46,4 @@ pub mark_none : (marks : List Bool) (k j : ℕ) → length marks ≤ k → j < l
 mark_none marks k j le lt =
     let no : eqb k j ≡ false = elim (eqb k j) as (λ b. eqb k j ≡ b → b ≡ false)
     [ true ↦ λ e. let at : k ≡ j = (Decides-eqb k j).0 e in absurd (omega arith) | false ↦ λ e. refl ] refl in
-    rw no (sym (or_false (get_or marks j false)))
+    rw no (sym (or-false (get_or marks j false)))

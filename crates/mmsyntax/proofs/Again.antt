@@ -1,11 +1,11 @@
 -- The words of symbols, of pairs and of steps are read as these again.
-use Rattle.std.proofs.Common.{◌≡◌, ◌≢◌, ℕ, zero, suc, ◌+◌, ◌^◌, ◌<◌, ◌≤◌, Bool, true, false, cond, eqb, leb, ltb, List, [], ◌∷◌, ◌++◌, length, get_or, drop, map, Option, Some, None, Result, Ok, Err, refl, sym, ap, subst, ◌∙◌, inl, inr, arith, append_assoc, length-append}
-use Rattle.std.specs.Prelude.{◌||◌, ◌&&◌, is_some, IsTrue, codes}
+use Rattle.std.proofs.Common.{◌≡◌, ◌≢◌, ℕ, zero, suc, ◌^◌, ◌<◌, ◌≤◌, Bool, true, false, cond, eqb, leb, ltb, List, [], ◌∷◌, ◌++◌, length, get_or, drop, map, Option, Some, None, Ok, Err, refl, sym, ap, subst, ◌∙◌, inl, inr, arith, append_assoc, length-append}
+use Rattle.std.specs.Prelude.{◌||◌, ◌&&◌, is_some, codes}
 use mathlib.Core.Bool.{not}
 use Rattle.std.specs.List.{list_any, AllByRecursion}
 use Rattle.std.specs.Option.{option_map}
 use Rattle.std.specs.Str.{bytes_eq}
-use Rattle.std.proofs.lemmas.Bool.{cases_Bool, cond-true, cond-false, eqb-true, lt-leb, le-ltb}
+use Rattle.std.proofs.lemmas.Bool.{cases_Bool, cond-true, cond-false, eqb-true, lt-leb, le-ltb, or_parts, not-true, or_from}
 use Rattle.std.proofs.lemmas.Bool.Decides.{nat_tests}
 use Rattle.std.proofs.lemmas.List.{append-nil, get_or-map, length-map}
 use Rattle.std.proofs.lemmas.List.Elements.{All-from_recursion, recursion_from_All}
@@ -15,20 +15,19 @@ use Rattle.mmsyntax.specs.declared.statement.Symbol.TheVariants.{Const, Var}
 use Rattle.mmsyntax.specs.declared.statement.Step.{Step}
 use Rattle.mmsyntax.specs.declared.statement.Step.TheVariants.{Float as FloatStep, Hyp, Cite}
 use Rattle.mmsyntax.specs.declared.statement.Float.{Float}
-use Rattle.mmsyntax.specs.declared.symbols.Name.{Name}
 use Rattle.mmsyntax.specs.declared.symbols.Name.TheVariants.{Constant, Variable, Label}
 use Rattle.mmtext.specs.declared.fault.FaultKind.{FaultKind}
 use Rattle.mmtext.specs.declared.fault.FaultKind.TheVariants.{BadToken, BadLabel, OutOfProfile, TooLong}
-use Rattle.mmtext.specs.Words.{Word, has_dollar, has_dot, is_label_byte, is_label, has_hypothesis_form}
+use Rattle.mmtext.specs.Words.{Word, has_dollar, has_dot, is_label, has_hypothesis_form}
 use Rattle.mmsyntax.specs.Tables.{Tables, place_of, float_of, named, meaning}
 use Rattle.mmsyntax.specs.Rows.{symbol_named, unless_full, symbol_of, first_fault}
-use Rattle.mmsyntax.specs.Blocks.{Hypothesis, Block, with_pair, ordered, typed_named, unless_repeated, distinct_of}
+use Rattle.mmsyntax.specs.Blocks.{Hypothesis, with_pair, ordered, typed_named, unless_repeated, distinct_of}
 use Rattle.mmsyntax.specs.Steps.{step_tests, float_named, hypothesis_named, step_named, unless_faulty, step_of}
 use Rattle.mmsyntax.specs.Grammar.{ReadsAfter, Restricts, StepsAfter}
 use Rattle.mmsyntax.specs.Layout.{word_at, no_float, float_at, symbol_word, hypothesis_label, step_word}
-use Rattle.mmsyntax.specs.Assertions.{IsSymbolOf, BeginsWithConstant, IsExpression, IsPairOf, AreAscending, IsNameable, is_citable_label, Distinct}
-use Rattle.mmsyntax.proofs.Distinct.{or_false, both_false, and_true, not_true, any_at, any-map, cross, place_of-item, place_of-absent, distinct_left, distinct_right, prelude_names, float_labels, is_some-meaning, none_of, all_map}
-use Rattle.mmsyntax.proofs.Lines.{IsWord}
+use Rattle.mmsyntax.specs.Assertions.{IsSymbolOf, BeginsWithConstant, IsExpression, IsPairOf, AreAscending, IsNameable, Distinct}
+use Rattle.mmtext.proofs.Marks.{label_plain}
+use Rattle.mmsyntax.proofs.Distinct.{any_at, any-map, cross, place_of-item, place_of-absent, distinct_left, distinct_right, float_labels, is_some-meaning, none_of, all_map}
 use Rattle.mmsyntax.proofs.Sound.{IsSymbolWord, IsFloatSound, IsLabelWord, AreSound, variables_used}
 use Rattle.mmsyntax.proofs.Pairs.{next_pair}
 use Rattle.mmsyntax.proofs.Numbered.{differ, label_bytes, number_label, number_dot, number_form}
@@ -87,20 +86,13 @@ not_empty (b ∷ bs) h = λ e. absurd cc
 pub plain_label : (w : Word) (is_named : Bool) → (leb 1 (length w) && leb (length w) 255 && is_label w && not (has_dot w) && not is_named) ≡ true → IsPlainLabel w is_named
 plain_label w is_named h =
     let p = five_true (leb 1 (length w)) (leb (length w) 255) (is_label w) (not (has_dot w)) (not is_named) h in
-    record { some = not_empty w p.0; short = le (length w) 255 p.1; label = p.2; dots = not_true (has_dot w) p.3; new = not_true is_named p.4 }
+    record { some = not_empty w p.0; short = le (length w) 255 p.1; label = p.2; dots = not-true (has_dot w) p.3; new = not-true is_named p.4 }
   where
     le : (a b : ℕ) → leb a b ≡ true → a ≤ b
     le a b h = grind (arith, nat_tests)
 
 pub label_word : (w : Word) (is_named : Bool) → IsPlainLabel w is_named → IsLabelWord w
-label_word w is_named p = record { label = p.label; plain = both_false (has_dot w) (ltb 255 (length w)) p.dots (le-ltb 255 (length w) p.short); word = (p.some, label_bytes w p.label) }
-
-no_dollar_byte : (b : ℕ) → is_label_byte b ≡ true → eqb b 36 ≡ false
-no_dollar_byte b h = elim (cases_Bool (eqb b 36)) [ inl y ↦ absurd (let e : is_label_byte 36 ≡ true = subst (λ c. is_label_byte c ≡ true) (eqb-true b 36 y) h in let f : is_label_byte 36 ≡ false = refl in cc) | inr n ↦ n ]
-
-pub label_plain : (w : Word) → is_label w ≡ true → has_dollar w ≡ false
-label_plain [] h = refl
-label_plain (b ∷ bs) h = let both = and_true (is_label_byte b) (is_label bs) h in ap (λ c. c || has_dollar bs) (no_dollar_byte b both.0) ∙ label_plain bs both.1
+label_word w is_named p = record { label = p.label; plain = or_from (has_dot w) (ltb 255 (length w)) p.dots (le-ltb 255 (length w) p.short); word = (p.some, label_bytes w p.label) }
 
 -- ---- the names of sound tables
 
@@ -142,7 +134,7 @@ module _ (t : Tables) (s : AreSound t) where
       let it : get_or ls j [] ≡ w = get_or-map (λ f. f.label) t.floats j no_float [] lt in
       let d : Distinct bytes_eq (symbols ++ ls) = subst (Distinct bytes_eq) (sym (append_assoc t.constants t.variables ls)) s.distinct in
       let absent = subst (λ (x : Word). list_any (bytes_eq x) symbols ≡ false) it (cross symbols ls j d within) in
-      let both = or_false (list_any (bytes_eq w) t.constants) (list_any (bytes_eq w) t.variables) (sym (list_any-append (bytes_eq w) t.constants t.variables) ∙ absent) in
+      let both = or_parts (list_any (bytes_eq w) t.constants) (list_any (bytes_eq w) t.variables) (sym (list_any-append (bytes_eq w) t.constants t.variables) ∙ absent) in
       let found = subst (λ (x : Word). place_of (bytes_eq x) ls ≡ Some j) it (place_of-item ls j (distinct_right bytes_eq symbols ls d) within) in
       let l = place_of (λ f. bytes_eq w f.label) t.floats in
       ap (λ c. named t.floats c (place_of (bytes_eq w) t.variables) l) (place_of-absent (bytes_eq w) t.constants both.0)
@@ -155,12 +147,12 @@ module _ (t : Tables) (s : AreSound t) where
       let w = hypothesis_label label n in
       let has_form = number_form label n some is_l small pos in
       let symbol : (v : Word) → IsSymbolWord v → bytes_eq w v ≡ false = λ v h. differ has_hypothesis_form w v has_form h.form in
-      let labels = all_map (IsFloatSound t) (λ v. has_dot v ≡ false) (λ f. f.label) t.floats (λ f h. (or_false (has_dot f.label) (ltb 255 (length f.label)) h.label.plain).0) s.floats_sound in
+      let labels = all_map (IsFloatSound t) (λ v. has_dot v ≡ false) (λ f. f.label) t.floats (λ f h. (or_parts (has_dot f.label) (ltb 255 (length f.label)) h.label.plain).0) s.floats_sound in
       is_some-meaning t w
       ∙ list_any-append (bytes_eq w) t.constants _
-      ∙ both_false (list_any (bytes_eq w) t.constants) _ (none_of IsSymbolWord w t.constants symbol s.constants_sound)
+      ∙ or_from (list_any (bytes_eq w) t.constants) _ (none_of IsSymbolWord w t.constants symbol s.constants_sound)
       (list_any-append (bytes_eq w) t.variables (float_labels t.floats)
-      ∙ both_false (list_any (bytes_eq w) t.variables) _ (none_of IsSymbolWord w t.variables symbol s.variables_sound)
+      ∙ or_from (list_any (bytes_eq w) t.variables) _ (none_of IsSymbolWord w t.variables symbol s.variables_sound)
       (none_of (λ v. has_dot v ≡ false) w (float_labels t.floats) (λ v h. differ has_dot w v (number_dot label _) h) labels))
 
   -- ---- expressions
@@ -249,7 +241,7 @@ module _ (t : Tables) (s : AreSound t) where
   unfolding step_of
   step_ok hyps count w x plain label room h =
       let tests = step_tests count w in
-      let odd : (bytes_eq w (codes "?") || bytes_eq w (codes "(")) ≡ false = both_false (bytes_eq w (codes "?")) (bytes_eq w (codes "(")) (differ is_label w (codes "?") label refl) (differ is_label w (codes "(") label refl) in
+      let odd : (bytes_eq w (codes "?") || bytes_eq w (codes "(")) ≡ false = or_from (bytes_eq w (codes "?")) (bytes_eq w (codes "(")) (differ is_label w (codes "?") label refl) (differ is_label w (codes "(") label refl) in
       let pass : first_fault tests ≡ None =
       none_cond (bytes_eq w (codes "?") || bytes_eq w (codes "(")) OutOfProfile (first_fault (drop 1 tests)) odd
       (none_cond (has_dollar w) BadToken (first_fault (drop 2 tests)) plain
@@ -261,7 +253,7 @@ module _ (t : Tables) (s : AreSound t) where
       (found : (n : ℕ) → n < count → hypothesis_named hyps (hypothesis_label label (suc n)) ≡ Some n) where
     no_dots : (w : Word) (hs : List Hypothesis) → has_dot w ≡ false → AllByRecursion (λ h. has_dot h.label ≡ true) hs → list_any (λ h. bytes_eq w h.label) hs ≡ false
     no_dots w [] h all = refl
-    no_dots w (x ∷ hs) h all = both_false (bytes_eq w x.label) (list_any (λ h. bytes_eq w h.label) hs) (differ (λ v. not (has_dot v)) w x.label (ap not h) (ap not all.0)) (no_dots w hs h all.1)
+    no_dots w (x ∷ hs) h all = or_from (bytes_eq w x.label) (list_any (λ h. bytes_eq w h.label) hs) (differ (λ v. not (has_dot v)) w x.label (ap not h) (ap not all.0)) (no_dots w hs h all.1)
 
     step_again : (n : ℕ) (x : Step) → n < 16384 → IsNameable t count x → step_of t hyps n (step_word t label x) ≡ Ok x
     step_again n (FloatStep j) room lt =

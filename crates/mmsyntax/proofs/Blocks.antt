@@ -14,16 +14,16 @@ use Rattle.mmsyntax.specs.declared.statement.Kind.TheVariants.{Axiom, Theorem}
 use Rattle.mmsyntax.specs.declared.statement.Step.{Step}
 use Rattle.mmsyntax.specs.declared.statement.Assertion.{Assertion}
 use Rattle.mmtext.specs.declared.fault.FaultKind.TheVariants.{RepeatedLabel, BadLabel, TooLong}
-use Rattle.mmtext.specs.Words.{Word, has_dot, is_label}
+use Rattle.mmtext.specs.Words.{Word, has_dot}
 use Rattle.mmsyntax.specs.Tables.{Tables, meaning}
 use Rattle.mmsyntax.specs.Rows.{Known, is_used, Pass, first_fault, assertion_label_tests, with_assertion}
-use Rattle.mmsyntax.specs.Blocks.{Hypothesis, Block, no_block, hypothesis_label_tests, with_hypothesis, assertion_of, axiom_of, theorem_of}
-use Rattle.mmsyntax.specs.Grammar.{Claim, Piece, hypothesis, Statement, Restricts, ReadsAfter, StepsAfter, Claims, Holds, HoldAll, Declares, DeclareAll}
+use Rattle.mmsyntax.specs.Blocks.{Hypothesis, Block, no_block, hypothesis_label_tests, with_hypothesis}
+use Rattle.mmsyntax.specs.Grammar.{Claim, Piece, Restricts, ReadsAfter, StepsAfter, Claims, HoldAll, Declares, DeclareAll}
 use Rattle.mmsyntax.specs.Faults.{database_of}
 use Rattle.mmsyntax.specs.Layout.{hypothesis_label, symbol_word, step_word, distinct_pieces, hypothesis_pieces, claim_of_kind, claim_of, unit_of, unit_statement}
 use Rattle.mmsyntax.specs.Assertions.{IsExpression, IsPairOf, AreAscending, IsNameable, IsUnit, is_lawful_label, Distinct}
 use Rattle.mmsyntax.proofs.Names.{bytes_eq-sym}
-use Rattle.mmsyntax.proofs.Distinct.{distinct_front, labels_of, not_used, none_of, all_push, all_weaker, all_map}
+use Rattle.mmsyntax.proofs.Distinct.{distinct_front, labels_of, not_used, none_of, all_push, all_weaker}
 use Rattle.mmsyntax.proofs.Sound.{AreSound}
 use Rattle.mmsyntax.proofs.Units.{expressions}
 use Rattle.mmsyntax.proofs.Numbered.{differ, number_dot, number_label, number_short, IsNumbered, IsEarlier, earlier, still_earlier, newest, not_earlier, made, made_dots, made_named}

@@ -1,5 +1,5 @@
 -- What has a spelling is spelled by its canonical text.
-use Rattle.std.proofs.Common.{◌≡◌, ℕ, ◌<◌, Bool, true, false, List, [], ◌∷◌, ◌++◌, map, Option, Some, refl, sym, ap, subst, ◌∙◌, arith}
+use Rattle.std.proofs.Common.{◌≡◌, ℕ, ◌<◌, true, false, List, [], ◌∷◌, ◌++◌, map, refl, sym, ap, subst, ◌∙◌, arith}
 use Rattle.std.specs.Prelude.{All, IsTrue}
 use Rattle.std.specs.List.{flat_map, AllByRecursion}
 use Rattle.std.proofs.lemmas.List.Elements.{All-from_recursion}
@@ -11,14 +11,13 @@ use Rattle.mmsyntax.specs.declared.statement.Assertion.{Assertion}
 use Rattle.mmsyntax.specs.Tables.{Contents, Tables}
 use Rattle.mmsyntax.specs.Rows.{Known, nothing, prelude_alone}
 use Rattle.mmsyntax.specs.Faults.{database_of}
-use Rattle.mmsyntax.specs.Grammar.{spelling, Declares, Spells, SpellsUnit}
+use Rattle.mmsyntax.specs.Grammar.{spelling, Spells, SpellsUnit}
 use Rattle.mmsyntax.specs.Layout.{no_float, unit_statement, canonical_prelude, canonical, prelude_text, statement_text, assertion_text, text_of, IsWithin, IsFloatWithin, IsUnitWithin, IsWhole, HasSpelling, IsSoundPrelude, HasUnitSpelling}
-use Rattle.mmsyntax.specs.Assertions.{IsSymbolOf, IsExpression, IsPairOf, Fits, IsUnit, is_lawful_label}
+use Rattle.mmsyntax.specs.Assertions.{IsSymbolOf, IsExpression, Fits, IsUnit, is_lawful_label}
 use Rattle.mmsyntax.proofs.Distinct.{all_weaker}
 use Rattle.mmsyntax.proofs.Lines.{clean_words, statements_words, clean_statements, statement_words, clean_statement}
 use Rattle.mmsyntax.proofs.Sound.{bare, IsFloatSound, AreSound, IsSound, nothing_sound, alone_sound}
 use Rattle.mmsyntax.proofs.Units.{statement_sound, all_sound, closed_tables}
-use Rattle.mmsyntax.proofs.Again.{float_sound}
 use Rattle.mmsyntax.proofs.Preludes.{declare_append, prelude_declares}
 use Rattle.mmsyntax.proofs.Blocks.{unit_declares, units_declare}
 use Rattle.mmsyntax.proofs.Written.{canonical_written, unit_written}

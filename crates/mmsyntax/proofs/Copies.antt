@@ -1,10 +1,10 @@
 -- A sound prelude is declared again item by item: each name is new behind those before it.
-use Rattle.std.proofs.Common.{◌≡◌, ℕ, zero, suc, ◌<◌, ◌≤◌, Bool, false, eqb, List, [], ◌∷◌, ◌++◌, length, get_or, map, take, Option, Some, None, refl, sym, ap, subst, ◌∙◌, arith, append_assoc}
-use Rattle.std.specs.Prelude.{is_some}
+use Rattle.std.proofs.Common.{◌≡◌, ℕ, zero, suc, ◌<◌, ◌≤◌, Bool, false, eqb, List, [], ◌∷◌, ◌++◌, length, get_or, take, Some, None, refl, sym, ap, subst, ◌∙◌, arith, append_assoc}
 use Rattle.std.specs.List.{list_any}
 use Rattle.std.specs.Str.{bytes_eq}
 use Rattle.std.proofs.lemmas.List.{append-nil, get_or-map, get_or_default, take-map, length-map}
 use Rattle.std.proofs.lemmas.List.Folds.{list_any-append}
+use Rattle.std.proofs.lemmas.Bool.{or_from}
 use Rattle.mmsyntax.specs.declared.statement.Float.{Float}
 use Rattle.mmsyntax.specs.declared.symbols.Name.TheVariants.{Variable}
 use Rattle.mmsyntax.specs.Tables.{Tables, place_of, named, meaning}
@@ -12,7 +12,7 @@ use Rattle.mmtext.specs.Words.{Word}
 use Rattle.mmsyntax.specs.Layout.{IsSoundPrelude, word_at, float_at, no_float}
 use Rattle.mmsyntax.specs.Assertions.{Distinct}
 use Rattle.mmsyntax.proofs.Names.{bytes_eq-sym}
-use Rattle.mmsyntax.proofs.Distinct.{both_false, cross, distinct_left, distinct_right, any_at, place_of-item, place_of-absent, float_labels, is_some-meaning}
+use Rattle.mmsyntax.proofs.Distinct.{cross, distinct_left, distinct_right, any_at, place_of-item, place_of-absent, float_labels, is_some-meaning}
 use Rattle.mmsyntax.proofs.Sound.{AreSound, variables_used, any_swap, eqb-sym}
 use Rattle.mmsyntax.proofs.Again.{none_is}
 use Rattle.mmsyntax.proofs.Canonical.{sound_tables, floats_within}
@@ -34,7 +34,7 @@ module _ {A : Type 0} (eq : A → A → Bool) (eq-sym : (a b : A) → eq a b ≡
   absent_before (x ∷ xs) zero d h lt = refl
   absent_before (x ∷ xs) (suc i) d h lt =
       let y = get_or xs i d in
-      both_false (eq y x) (list_any (eq y) (take i xs)) (eq-sym y x ∙ any_at (eq x) xs i d h.0 (omega arith)) (absent_before xs i d h.1 (omega arith))
+      or_from (eq y x) (list_any (eq y) (take i xs)) (eq-sym y x ∙ any_at (eq x) xs i d h.0 (omega arith)) (absent_before xs i d h.1 (omega arith))
 
 -- an item as the code reads it, at a default of its own
 pub item_at : {A : Type 0} (xs items : List A) (i : ℕ) (x d : A) → items ≡ xs → x ≡ get_or items i x → i < length items → (x ≡ get_or xs i d) × (i < length xs)
@@ -73,7 +73,7 @@ module _ (t : Tables) (sound : IsSoundPrelude t) where
       none_is _ (
       is_some-meaning (variables_before t i) w ∙ ap (λ x. list_any (bytes_eq w) (t.constants ++ x)) (append-nil (take i t.variables))
       ∙ list_any-append (bytes_eq w) t.constants (take i t.variables)
-      ∙ both_false _ _ (cross t.constants t.variables i both lt) (absent_before bytes_eq bytes_eq-sym t.variables i [] (distinct_right bytes_eq t.constants t.variables both) lt)
+      ∙ or_from _ _ (cross t.constants t.variables i both lt) (absent_before bytes_eq bytes_eq-sym t.variables i [] (distinct_right bytes_eq t.constants t.variables both) lt)
       )
 
   label_is_new : (i : ℕ) → i < length t.floats → meaning (floats_before t i) (float_at t.floats i).label ≡ None
@@ -83,7 +83,7 @@ module _ (t : Tables) (sound : IsSoundPrelude t) where
       let d : Distinct bytes_eq (symbols ++ ls) = subst (Distinct bytes_eq) (sym (append_assoc t.constants t.variables ls)) all_distinct in
       let within : i < length ls = omega (arith, length-map t.floats (λ (f : Float). f.label)) in
       let absent : list_any (bytes_eq (get_or ls i [])) (symbols ++ take i ls) ≡ false =
-      list_any-append (bytes_eq (get_or ls i [])) symbols (take i ls) ∙ both_false _ _ (cross symbols ls i d within) (absent_before bytes_eq bytes_eq-sym ls i [] (distinct_right bytes_eq symbols ls d) within) in
+      list_any-append (bytes_eq (get_or ls i [])) symbols (take i ls) ∙ or_from _ _ (cross symbols ls i d within) (absent_before bytes_eq bytes_eq-sym ls i [] (distinct_right bytes_eq symbols ls d) within) in
       let it : get_or ls i [] ≡ (float_at t.floats i).label = get_or-map (λ f. f.label) t.floats i no_float [] lt in
       let w = (float_at t.floats i).label in
       none_is _ (

@@ -1,11 +1,12 @@
 -- What is spelled is declarable, and what is declarable is spelled: databases, and single units.
-use Rattle.std.proofs.Common.{◌≡◌, ℕ, ◌<◌, List, [], refl}
+use Rattle.std.proofs.Common.{List, []}
 use Rattle.std.specs.Prelude.{All, IsTrue}
 use Rattle.std.proofs.lemmas.List.Elements.{All-from_recursion, recursion_from_All}
 use Rattle.mmsyntax.specs.declared.statement.Assertion.{Assertion}
 use Rattle.mmsyntax.specs.Tables.{Tables, Contents}
 use Rattle.mmsyntax.specs.Layout.{HasSpelling, IsSoundPrelude, HasUnitSpelling, IsWithin, IsFloatWithin, assertion_text, text_of}
 use Rattle.mmsyntax.specs.Assertions.{Fits, IsUnit, is_lawful_label, IsDeclarable}
+use Rattle.mmsyntax.specs.Laws.{SoundWhereApart}
 use Rattle.mmsyntax.proofs.Sound.{IsSound, alone_sound}
 use Rattle.mmsyntax.proofs.Canonical as canonical
 use Rattle.mmsyntax.proofs.Canonical.{known_at, sound_of, sound_tables, spelled, unit_spells, fits_within}
@@ -52,3 +53,13 @@ spelled_where_declarable db d = record { text = text_of db; spells = spelled db 
 
 pub spelled_where_unit : (t : Tables) (a : Assertion) → IsSoundPrelude t → IsUnit t a × IsTrue (is_lawful_label t a.label) → HasUnitSpelling t a
 spelled_where_unit t a h both = record { text = assertion_text t a; spells = unit_spells t a h both.0 both.1 }
+
+-- a prelude that is sound is spelled by its own text, and only such a one is spelled
+pub sound_where_apart : SoundWhereApart
+sound_where_apart t = (
+  sound_tables t,
+  λ s. record {
+    text = text_of (record { prelude = t; assertions = [] });
+    spells = spelled (record { prelude = t; assertions = [] }) (alone_sound t _ s);
+  },
+)

@@ -1,40 +1,22 @@
 -- Lists whose items differ, and the names of what is known.
 use Rattle.std.proofs.Common.{◌≡◌, ℕ, zero, suc, ◌<◌, Bool, true, false, cond, List, [], ◌∷◌, ◌++◌, length, get_or, map, Option, Some, None, refl, sym, ap, subst, ◌∙◌, arith, append_assoc}
-use Rattle.std.specs.Prelude.{◌||◌, ◌&&◌, is_some}
-use mathlib.Core.Bool.{not}
+use Rattle.std.specs.Prelude.{◌||◌, is_some}
 use Rattle.std.specs.Option.{option_map}
 use Rattle.std.specs.List.{list_any, AllByRecursion}
 use Rattle.std.specs.Str.{bytes_eq}
-use Rattle.std.proofs.lemmas.Bool.{cond-true, cond-false}
+use Rattle.std.proofs.lemmas.Bool.{cond-true, cond-false, or_parts, or_from}
 use Rattle.std.proofs.lemmas.List.Folds.{list_any-append}
+pub use Rattle.std.proofs.lemmas.Bool.{or_parts as or_false, and_parts as and_true, or_from as both_false}
 use Rattle.mmsyntax.specs.declared.statement.Float.{Float}
 use Rattle.mmsyntax.specs.declared.statement.Assertion.{Assertion}
 use Rattle.mmsyntax.specs.Tables.{Tables, place_of, named, meaning}
 use Rattle.mmsyntax.specs.Rows.{Known, is_used, is_assertion_label}
 use Rattle.mmtext.specs.Words.{Word}
 use Rattle.mmsyntax.specs.Assertions.{Distinct}
+pub use Rattle.mmsyntax.specs.Preludes.{float_labels, prelude_names}
 use Rattle.mmsyntax.proofs.Names.{bytes_eq-same, bytes_eq-sym}
 
 -- ---- in general
-
-pub or_false : (a b : Bool) → (a || b) ≡ false → (a ≡ false) × (b ≡ false)
-or_false true b h = absurd cc
-or_false false b h = (refl, h)
-
-pub and_true : (a b : Bool) → (a && b) ≡ true → (a ≡ true) × (b ≡ true)
-and_true true b h = (refl, h)
-and_true false b h = absurd cc
-
-pub not_true : (b : Bool) → not b ≡ true → b ≡ false
-not_true true h = absurd cc
-not_true false h = refl
-
-pub not_false : (b : Bool) → not b ≡ false → b ≡ true
-not_false true h = refl
-not_false false h = absurd cc
-
-pub both_false : (a b : Bool) → a ≡ false → b ≡ false → (a || b) ≡ false
-both_false a b p q = ap (λ c. c || b) p ∙ q
 
 swap_or : (a b c : Bool) → (a || (b || c)) ≡ (b || (a || c))
 swap_or true true c = refl
@@ -50,18 +32,18 @@ module _ {A : Type 0} (eq : A → A → Bool) (eq-sym : (a b : A) → eq a b ≡
   pub distinct_insert : (a b : List A) (w : A) → Distinct eq (a ++ b) → list_any (eq w) (a ++ b) ≡ false → Distinct eq (a ++ w ∷ b)
   distinct_insert [] b w d h = (h, d)
   distinct_insert (x ∷ a) b w d h =
-      let both = or_false (eq w x) (list_any (eq w) (a ++ b)) h in
-      (any_insert (eq x) a b w ∙ both_false (eq x w) (list_any (eq x) (a ++ b)) (eq-sym x w ∙ both.0) d.0, distinct_insert a b w d.1 both.1)
+      let both = or_parts (eq w x) (list_any (eq w) (a ++ b)) h in
+      (any_insert (eq x) a b w ∙ or_from (eq x w) (list_any (eq x) (a ++ b)) (eq-sym x w ∙ both.0) d.0, distinct_insert a b w d.1 both.1)
 
   pub distinct_front : (a b : List A) (w : A) → Distinct eq (a ++ w ∷ b) → list_any (eq w) a ≡ false
   distinct_front [] b w d = refl
   distinct_front (x ∷ a) b w d =
-      let both = or_false (eq x w) (list_any (eq x) (a ++ b)) (sym (any_insert (eq x) a b w) ∙ d.0) in
-      both_false (eq w x) (list_any (eq w) a) (eq-sym w x ∙ both.0) (distinct_front a b w d.1)
+      let both = or_parts (eq x w) (list_any (eq x) (a ++ b)) (sym (any_insert (eq x) a b w) ∙ d.0) in
+      or_from (eq w x) (list_any (eq w) a) (eq-sym w x ∙ both.0) (distinct_front a b w d.1)
 
 pub distinct_left : {A : Type 0} (eq : A → A → Bool) (a b : List A) → Distinct eq (a ++ b) → Distinct eq a
 distinct_left eq [] b d = tt
-distinct_left eq (x ∷ a) b d = ((or_false (list_any (eq x) a) (list_any (eq x) b) (sym (list_any-append (eq x) a b) ∙ d.0)).0, distinct_left eq a b d.1)
+distinct_left eq (x ∷ a) b d = ((or_parts (list_any (eq x) a) (list_any (eq x) b) (sym (list_any-append (eq x) a b) ∙ d.0)).0, distinct_left eq a b d.1)
 
 pub distinct_right : {A : Type 0} (eq : A → A → Bool) (a b : List A) → Distinct eq (a ++ b) → Distinct eq b
 distinct_right eq [] b d = d
@@ -69,8 +51,8 @@ distinct_right eq (x ∷ a) b d = distinct_right eq a b d.1
 
 pub any_at : {A : Type 0} (p : A → Bool) (xs : List A) (i : ℕ) (d : A) → list_any p xs ≡ false → i < length xs → p (get_or xs i d) ≡ false
 any_at p [] i d h lt = absurd (omega arith)
-any_at p (x ∷ xs) zero d h lt = (or_false (p x) (list_any p xs) h).0
-any_at p (x ∷ xs) (suc i) d h lt = any_at p xs i d (or_false (p x) (list_any p xs) h).1 (omega arith)
+any_at p (x ∷ xs) zero d h lt = (or_parts (p x) (list_any p xs) h).0
+any_at p (x ∷ xs) (suc i) d h lt = any_at p xs i d (or_parts (p x) (list_any p xs) h).1 (omega arith)
 
 -- a word of the second list is none of the first
 pub cross : (a b : List Word) (i : ℕ) → Distinct bytes_eq (a ++ b) → i < length b → list_any (bytes_eq (get_or b i [])) a ≡ false
@@ -78,7 +60,7 @@ cross a [] i d lt = absurd (omega arith)
 cross a (x ∷ b) zero d lt = distinct_front bytes_eq bytes_eq-sym a b x d
 cross a (x ∷ b) (suc i) d lt =
     let w = get_or b i [] in
-    (or_false (list_any (bytes_eq w) a) (list_any (bytes_eq w) (x ∷ [])) (sym (list_any-append (bytes_eq w) a (x ∷ [])) ∙ cross (a ++ x ∷ []) b i (subst (Distinct bytes_eq) (sym (append_assoc a (x ∷ []) b)) d) (omega arith))).0
+    (or_parts (list_any (bytes_eq w) a) (list_any (bytes_eq w) (x ∷ [])) (sym (list_any-append (bytes_eq w) a (x ∷ [])) ∙ cross (a ++ x ∷ []) b i (subst (Distinct bytes_eq) (sym (append_assoc a (x ∷ []) b)) d) (omega arith))).0
 
 -- an item of a list of different words is found at its place
 pub place_of-item : (ws : List Word) (i : ℕ) → Distinct bytes_eq ws → i < length ws → place_of (bytes_eq (get_or ws i [])) ws ≡ Some i
@@ -93,7 +75,7 @@ place_of-item (w ∷ ws) (suc i) d lt =
 pub place_of-absent : {A : Type 0} (p : A → Bool) (xs : List A) → list_any p xs ≡ false → place_of p xs ≡ None
 place_of-absent p [] h = refl
 place_of-absent p (x ∷ xs) h =
-    let both = or_false (p x) (list_any p xs) h in
+    let both = or_parts (p x) (list_any p xs) h in
     cond-false (p x) (Some 0) _ both.0 ∙ ap (λ o. option_map (λ n. suc n) o) (place_of-absent p xs both.1)
 
 is_some-map : (o : Option ℕ) → is_some (option_map (λ n. suc n) o) ≡ is_some o
@@ -114,15 +96,8 @@ any-map p f (x ∷ xs) = ap (λ b. p (f x) || b) (any-map p f xs)
 
 -- ---- names
 
-abbrev pub float_labels : List Float → List Word
-float_labels fs = map (λ f. f.label) fs
-
 abbrev pub labels_of : List Assertion → List Word
 labels_of xs = map (λ a. a.label) xs
-
--- all symbols and labels of a prelude
-abbrev pub prelude_names : Tables → List Word
-prelude_names t = t.constants ++ (t.variables ++ float_labels t.floats)
 
 is_some-named : (fs : List Float) (c v l : Option ℕ) → is_some (named fs c v l) ≡ (is_some c || (is_some v || is_some l))
 is_some-named fs (Some i) v l = refl
@@ -151,14 +126,14 @@ pub record IsNew (k : Known) (w : Word) : Type 0 where
 
 pub new_word : (k : Known) (w : Word) → is_used k w ≡ false → IsNew k w
 new_word k w h =
-    let a = or_false (is_some (meaning k.tables w)) _ h in
-    let b = or_false (is_assertion_label k.units.assertions w) _ a.1 in
+    let a = or_parts (is_some (meaning k.tables w)) _ h in
+    let b = or_parts (is_assertion_label k.units.assertions w) _ a.1 in
     record { not_named = a.0; not_label = any-map (bytes_eq w) (λ a. a.label) k.units.assertions ∙ b.0; not_hypothesis = b.1 }
 
 pub not_used : (k : Known) (w : Word) → IsNew k w → is_used k w ≡ false
 not_used k w n =
-    both_false (is_some (meaning k.tables w)) _ n.not_named
-    (both_false (is_assertion_label k.units.assertions w) _ (sym (any-map (bytes_eq w) (λ a. a.label) k.units.assertions) ∙ n.not_label) n.not_hypothesis)
+    or_from (is_some (meaning k.tables w)) _ n.not_named
+    (or_from (is_assertion_label k.units.assertions w) _ (sym (any-map (bytes_eq w) (λ a. a.label) k.units.assertions) ∙ n.not_label) n.not_hypothesis)
 
 -- ---- facts of each item
 
@@ -189,4 +164,4 @@ all_map P Q f (x ∷ xs) g h = (g x h.0, all_map P Q f xs g h.1)
 -- a word that differs from each is none of them
 pub none_of : (Q : Word → Type 0) (w : Word) (ws : List Word) → ((v : Word) → Q v → bytes_eq w v ≡ false) → AllByRecursion Q ws → list_any (bytes_eq w) ws ≡ false
 none_of Q w [] f h = refl
-none_of Q w (v ∷ ws) f h = both_false (bytes_eq w v) (list_any (bytes_eq w) ws) (f v h.0) (none_of Q w ws f h.1)
+none_of Q w (v ∷ ws) f h = or_from (bytes_eq w v) (list_any (bytes_eq w) ws) (f v h.0) (none_of Q w ws f h.1)

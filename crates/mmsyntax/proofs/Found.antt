@@ -1,10 +1,10 @@
 -- What words are found to be: expressions, steps that have a name, restricted pairs.
-use Rattle.std.proofs.Common.{◌≡◌, ◌≢◌, ℕ, suc, ◌+◌, ◌<◌, ◌≤◌, Bool, true, false, cond, eqb, leb, ltb, List, [], ◌∷◌, ◌++◌, length, drop, Option, Some, None, Result, Ok, Err, refl, sym, ap, subst, ◌∙◌, arith, length-append}
-use Rattle.std.specs.Prelude.{◌||◌, ◌&&◌, All, is_some, IsTrue, codes}
+use Rattle.std.proofs.Common.{◌≡◌, ◌≢◌, ℕ, suc, ◌<◌, ◌≤◌, Bool, true, false, eqb, leb, ltb, List, [], ◌∷◌, ◌++◌, length, drop, Option, Some, None, Result, Ok, Err, refl, ap, subst, arith, length-append}
+use Rattle.std.specs.Prelude.{◌||◌, ◌&&◌, is_some, codes}
 use mathlib.Core.Bool.{not}
 use Rattle.std.specs.List.{list_any, AllByRecursion}
 use Rattle.std.specs.Str.{bytes_eq}
-use Rattle.std.proofs.lemmas.Bool.{ltb-false, leb-false}
+use Rattle.std.proofs.lemmas.Bool.{ltb-false, leb-false, or_parts, not-false}
 use Rattle.std.proofs.lemmas.Bool.Decides.{nat_tests}
 use Rattle.std.proofs.lemmas.List.Elements.{All-from_recursion}
 use Rattle.mmsyntax.specs.declared.statement.Symbol.{Symbol}
@@ -17,15 +17,15 @@ use Rattle.mmsyntax.specs.declared.symbols.Name.TheVariants.{Constant, Variable,
 use Rattle.mmtext.specs.declared.fault.FaultKind.{FaultKind}
 use Rattle.mmtext.specs.declared.fault.FaultKind.TheVariants.{BadToken, BadLabel, TooLong, OutOfProfile}
 use Rattle.mmtext.specs.Words.{Word, has_dollar, has_dot, is_label}
-use Rattle.mmsyntax.specs.Tables.{Tables, place_of, float_of, named, meaning}
+use Rattle.mmsyntax.specs.Tables.{Tables, named, meaning}
 use Rattle.mmsyntax.specs.Rows.{symbol_named, unless_full, symbol_of, first_fault}
 use Rattle.mmsyntax.specs.Blocks.{Hypothesis, Block, with_pairs, typed_named, unless_repeated, distinct_of, with_distinct}
 use Rattle.mmsyntax.specs.Steps.{step_tests, float_named, hypothesis_named, step_named, unless_faulty, step_of}
 use Rattle.mmsyntax.specs.Grammar.{ReadsAfter, Restricts, StepsAfter}
 use Rattle.mmsyntax.specs.Layout.{no_float, float_at}
-use Rattle.mmsyntax.specs.Assertions.{IsSymbolOf, BeginsWithConstant, IsExpression, IsPairOf, AreAscending, IsNameable, is_citable_label}
+use Rattle.mmsyntax.specs.Assertions.{IsSymbolOf, BeginsWithConstant, IsExpression, IsPairOf, AreAscending, IsNameable}
 use Rattle.mmsyntax.proofs.Names.{place_of-at, variable_from_named}
-use Rattle.mmsyntax.proofs.Distinct.{or_false, not_false, all_push, all_append}
+use Rattle.mmsyntax.proofs.Distinct.{all_push}
 use Rattle.mmsyntax.proofs.Lines.{IsWord}
 use Rattle.mmsyntax.proofs.Sound.{cond_none, if_ok}
 use Rattle.mmsyntax.proofs.Pairs.{pairs_with, pairs_ascend}
@@ -138,7 +138,7 @@ all_five a b c d e h i j k l = rw (h, i, j, k, l)
 pub label_five : (w : Word) (named : Bool) → IsWord w → is_label w ≡ true → (has_dot w || ltb 255 (length w)) ≡ false → named ≡ false
     → (leb 1 (length w) && leb (length w) 255 && is_label w && not (has_dot w) && not named) ≡ true
 label_five w named word label plain new =
-    let p = or_false (has_dot w) (ltb 255 (length w)) plain in
+    let p = or_parts (has_dot w) (ltb 255 (length w)) plain in
     all_five (leb 1 (length w)) (leb (length w) 255) (is_label w) (not (has_dot w)) (not named) (some_bytes w word.0) (at_most (length w) 255 p.1) label (ap not p.0) (ap not new)
 
 -- ---- steps
@@ -162,7 +162,7 @@ step_passes t hyps count w s h =
     let b = cond_none (has_dollar w) BadToken (first_fault (drop 2 tests)) a.1 in
     let c = cond_none (not (is_label w)) BadToken (first_fault (drop 3 tests)) b.1 in
     let d = cond_none (leb 16384 count) TooLong None c.1 in
-    record { label = not_false (is_label w) c.0; room = leb-false 16384 count d.0; is_named = both.1 }
+    record { label = not-false (is_label w) c.0; room = leb-false 16384 count d.0; is_named = both.1 }
 
 float_label : (t : Tables) (w : Word) (o : Option Name) (j : ℕ) → meaning t w ≡ o → float_named o ≡ Some j → j < length t.floats
 float_label t w (Some (Label k)) j e h = let same : k ≡ j = cc in subst (λ (n : ℕ). n < length t.floats) same (label_at t w k e).0

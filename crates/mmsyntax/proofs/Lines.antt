@@ -10,18 +10,11 @@ use Rattle.std.proofs.lemmas.List.Concat.{flat_map-cons}
 use Rattle.mmtext.specs.Words.{Word}
 use Rattle.mmtext.specs.Text.{Token, is_white, is_lawful, ends_token, with_byte, tokens_from, tokens, IsClean, has_comment_mark}
 use Rattle.mmtext.specs.Comments.{words_of, without_comments}
-use Rattle.mmsyntax.specs.Grammar.{Piece, Claim, Statement, constants, variables, float, alone, block, claim_spelling, piece_spelling, spelling}
+use Rattle.mmsyntax.specs.Grammar.{Statement, constants, variables, float, alone, block, claim_spelling, piece_spelling, spelling}
 use Rattle.mmsyntax.specs.Layout.{spaced, line, indented, statement_text}
+pub use Rattle.mmsyntax.specs.Preludes.{IsPrintable, IsWord}
 use Rattle.mmtext.proofs.Tokens.{word_at}
 use Rattle.mmsyntax.proofs.Distinct.{all_left, all_right, all_append}
-
--- bytes of a token
-abbrev pub IsPrintable : ℕ → Type 0
-IsPrintable b = (is_white b ≡ false) × (is_lawful b ≡ true)
-
--- what a token may be
-abbrev pub IsWord : Word → Type 0
-IsWord w = (w ≢ []) × AllByRecursion IsPrintable w
 
 -- ---- the tokens of a clean text are words
 

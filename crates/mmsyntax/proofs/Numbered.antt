@@ -1,24 +1,22 @@
 -- The labels of hypotheses, L.1, L.2, ..: their form, their length, and that they differ from other names and from one another.
-use Rattle.std.proofs.Common.{◌≡◌, ◌≢◌, ℕ, suc, ◌+◌, ◌%◌, ◌/◌, ◌^◌, ◌<◌, ◌≤◌, Bool, true, false, eqb, leb, ltb, List, [], ◌∷◌, ◌++◌, length, Option, Some, None, refl, sym, ap, subst, ◌∙◌, inl, inr, arith, length-append, zero, cond}
-use Rattle.std.specs.Prelude.{◌||◌, ◌&&◌}
-use mathlib.Core.Bool.{not}
+use Rattle.std.proofs.Common.{◌≡◌, ◌≢◌, ℕ, suc, ◌+◌, ◌%◌, ◌^◌, ◌<◌, ◌≤◌, Bool, true, false, eqb, leb, List, [], ◌∷◌, ◌++◌, length, Some, refl, sym, ap, subst, ◌∙◌, inl, inr, arith, length-append, zero}
+use Rattle.std.specs.Prelude.{◌&&◌}
 use Rattle.std.specs.List.{list_any, AllByRecursion}
 use Rattle.std.specs.Option.{option_map}
 use Rattle.std.specs.Fmt.{decimal}
 use Rattle.std.specs.Str.{bytes_eq}
-use Rattle.std.proofs.lemmas.Bool.{cases_Bool, cond-true, cond-false}
+use Rattle.std.proofs.lemmas.Bool.{cases_Bool, cond-true, cond-false, or_parts, and_parts, and_from, or_left, or_right}
 use Rattle.std.proofs.lemmas.Bool.Decides.{nat_tests}
 use Rattle.std.proofs.lemmas.Fmt.{decimal_by_steps, decimal_injective, length-decimal-le}
 use Rattle.std.proofs.lemmas.List.Folds.{list_any-append}
+pub use Rattle.std.proofs.lemmas.Bool.{or_left as first_or, or_right as second_or}
 use Rattle.mmsyntax.specs.declared.statement.Symbol.{Symbol}
 use Rattle.mmtext.specs.Words.{Word, has_dot, is_digit, all_digits, is_label_byte, is_label, is_count, has_number, has_hypothesis_form}
 use Rattle.mmtext.specs.Text.{is_white, is_lawful}
-use Rattle.mmsyntax.specs.Tables.{place_of}
 use Rattle.mmsyntax.specs.Blocks.{Hypothesis}
 use Rattle.mmsyntax.specs.Steps.{hypothesis_named}
 use Rattle.mmsyntax.specs.Layout.{hypothesis_label}
 use Rattle.mmsyntax.proofs.Names.{same_bytes, bytes_eq-same}
-use Rattle.mmsyntax.proofs.Distinct.{or_false, and_true}
 use Rattle.mmsyntax.proofs.Lines.{IsPrintable, IsWord}
 
 -- ---- in general
@@ -30,23 +28,13 @@ differ P a b h g = elim (cases_Bool (bytes_eq a b)) [
   | inr n ↦ n
 ]
 
-pub both_true : (a b : Bool) → a ≡ true → b ≡ true → (a && b) ≡ true
-both_true a b h g = ap (λ x. x && b) h ∙ g
-
-pub first_or : (a b : Bool) → a ≡ true → (a || b) ≡ true
-first_or a b h = ap (λ x. x || b) h
-
-pub second_or : (a b : Bool) → b ≡ true → (a || b) ≡ true
-second_or true b h = refl
-second_or false b h = h
-
 -- ---- decimals
 
 digits_push : (ds : List ℕ) (d : ℕ) → all_digits ds ≡ true → is_digit d ≡ true → all_digits (ds ++ d ∷ []) ≡ true
-digits_push [] d h g = both_true (is_digit d) true g refl
+digits_push [] d h g = and_from (is_digit d) true g refl
 digits_push (x ∷ ds) d h g =
-    let both = and_true (is_digit x) (all_digits ds) h in
-    both_true (is_digit x) (all_digits (ds ++ d ∷ [])) both.0 (digits_push ds d both.1 g)
+    let both = and_parts (is_digit x) (all_digits ds) h in
+    and_from (is_digit x) (all_digits (ds ++ d ∷ [])) both.0 (digits_push ds d both.1 g)
 
 digit : (n : ℕ) → n < 10 → is_digit (48 + n) ≡ true
 digit n h = grind (arith, nat_tests)
@@ -77,33 +65,33 @@ digit_byte b h = grind (arith, nat_tests)
 digits_label : (ds : List ℕ) → all_digits ds ≡ true → is_label ds ≡ true
 digits_label [] h = refl
 digits_label (d ∷ ds) h =
-    let both = and_true (is_digit d) (all_digits ds) h in
-    both_true (is_label_byte d) (is_label ds) (digit_byte d both.0) (digits_label ds both.1)
+    let both = and_parts (is_digit d) (all_digits ds) h in
+    and_from (is_label_byte d) (is_label ds) (digit_byte d both.0) (digits_label ds both.1)
 
 label_append : (a b : Word) → is_label a ≡ true → is_label b ≡ true → is_label (a ++ b) ≡ true
 label_append [] b h g = g
 label_append (x ∷ a) b h g =
-    let both = and_true (is_label_byte x) (is_label a) h in
-    both_true (is_label_byte x) (is_label (a ++ b)) both.0 (label_append a b both.1 g)
+    let both = and_parts (is_label_byte x) (is_label a) h in
+    and_from (is_label_byte x) (is_label (a ++ b)) both.0 (label_append a b both.1 g)
 
 pub number_label : (label : Word) (n : ℕ) → is_label label ≡ true → n < 2 ^ 64 → is_label (hypothesis_label label n) ≡ true
 number_label label n h small = label_append label (46 ∷ decimal n) h (digits_label (decimal n) (decimal_digits n small))
 
 pub number_dot : (label : Word) (ds : List ℕ) → has_dot (label ++ 46 ∷ ds) ≡ true
 number_dot [] ds = refl
-number_dot (b ∷ label) ds = second_or (eqb b 46) (has_dot (label ++ 46 ∷ ds)) (number_dot label ds)
+number_dot (b ∷ label) ds = or_right (eqb b 46) (has_dot (label ++ 46 ∷ ds)) (number_dot label ds)
 
 has_number_behind : (label : Word) (ds : List ℕ) → is_label label ≡ true → is_count ds ≡ true → has_number true (label ++ 46 ∷ ds) ≡ true
-has_number_behind [] ds h g = first_or (is_count ds) (is_label_byte 46 && has_number true ds) g
+has_number_behind [] ds h g = or_left (is_count ds) (is_label_byte 46 && has_number true ds) g
 has_number_behind (b ∷ label) ds h g =
-    let both = and_true (is_label_byte b) (is_label label) h in
-    second_or _ (is_label_byte b && has_number true (label ++ 46 ∷ ds)) (both_true (is_label_byte b) (has_number true (label ++ 46 ∷ ds)) both.0 (has_number_behind label ds both.1 g))
+    let both = and_parts (is_label_byte b) (is_label label) h in
+    or_right _ (is_label_byte b && has_number true (label ++ 46 ∷ ds)) (and_from (is_label_byte b) (has_number true (label ++ 46 ∷ ds)) both.0 (has_number_behind label ds both.1 g))
 
 form : (label : Word) (ds : List ℕ) → label ≢ [] → is_label label ≡ true → is_count ds ≡ true → has_hypothesis_form (label ++ 46 ∷ ds) ≡ true
 form [] ds some h g = absurd (some refl)
 form (b ∷ label) ds some h g =
-    let both = and_true (is_label_byte b) (is_label label) h in
-    both_true (is_label_byte b) (has_number true (label ++ 46 ∷ ds)) both.0 (has_number_behind label ds both.1 g)
+    let both = and_parts (is_label_byte b) (is_label label) h in
+    and_from (is_label_byte b) (has_number true (label ++ 46 ∷ ds)) both.0 (has_number_behind label ds both.1 g)
 
 pub number_form : (label : Word) (n : ℕ) → label ≢ [] → is_label label ≡ true → n < 2 ^ 64 → 0 < n → has_hypothesis_form (hypothesis_label label n) ≡ true
 number_form label n some h small pos = form label (decimal n) some h (decimal_count n small pos)
@@ -124,7 +112,7 @@ label_byte b h = (white b h, lawful b h)
 
 pub label_bytes : (w : Word) → is_label w ≡ true → AllByRecursion IsPrintable w
 label_bytes [] h = tt
-label_bytes (b ∷ bs) h = let both = and_true (is_label_byte b) (is_label bs) h in (label_byte b both.0, label_bytes bs both.1)
+label_bytes (b ∷ bs) h = let both = and_parts (is_label_byte b) (is_label bs) h in (label_byte b both.0, label_bytes bs both.1)
 
 some_more : (label : Word) (b : ℕ) (ds : List ℕ) → (label ++ b ∷ ds) ≢ []
 some_more [] b ds = λ h. absurd cc
@@ -146,7 +134,7 @@ split_dot (x ∷ a) [] ds es h g e =
 split_dot (x ∷ a) (y ∷ b) ds es h g e =
     let first : x ≡ y = cc in
     let rest : a ++ 46 ∷ ds ≡ b ++ 46 ∷ es = cc in
-    let both = split_dot a b ds es (or_false (eqb x 46) (has_dot a) h).1 (or_false (eqb y 46) (has_dot b) g).1 rest in
+    let both = split_dot a b ds es (or_parts (eqb x 46) (has_dot a) h).1 (or_parts (eqb y 46) (has_dot b) g).1 rest in
     (let s : a ≡ b = both.0 in cc, both.1)
 
 number_apart : (a b : Word) (m n : ℕ) → has_dot a ≡ false → has_dot b ≡ false → m < 2 ^ 64 → n < 2 ^ 64 → (a ≡ b → m ≡ n → ⊥) → bytes_eq (hypothesis_label a m) (hypothesis_label b n) ≡ false
@@ -172,7 +160,7 @@ pub record IsEarlier (labels : List Word) (last : Word) (count : ℕ) (w : Word)
   pub before : numbered.label ≡ last → numbered.n ≤ count
 
 any_more : (labels : List Word) (last w : Word) → list_any (bytes_eq w) labels ≡ true → list_any (bytes_eq w) (labels ++ last ∷ []) ≡ true
-any_more labels last w h = list_any-append (bytes_eq w) labels (last ∷ []) ∙ first_or (list_any (bytes_eq w) labels) _ h
+any_more labels last w h = list_any-append (bytes_eq w) labels (last ∷ []) ∙ or_left (list_any (bytes_eq w) labels) _ h
 
 pub earlier : (labels : List Word) (last w : Word) → list_any (bytes_eq last) labels ≡ false → IsNumbered labels w → IsEarlier labels last 0 w
 earlier labels last w new p = record {
@@ -184,7 +172,7 @@ pub still_earlier : (labels : List Word) (last : Word) (count : ℕ) (w : Word) 
 still_earlier labels last count w p = record { numbered = p.numbered; before = λ e. let le : p.numbered.n ≤ count = p.before e in omega arith }
 
 is_last : (labels : List Word) (last : Word) → list_any (bytes_eq last) (labels ++ last ∷ []) ≡ true
-is_last labels last = list_any-append (bytes_eq last) labels (last ∷ []) ∙ second_or (list_any (bytes_eq last) labels) _ (first_or (bytes_eq last last) false (bytes_eq-same last))
+is_last labels last = list_any-append (bytes_eq last) labels (last ∷ []) ∙ or_right (list_any (bytes_eq last) labels) _ (or_left (bytes_eq last last) false (bytes_eq-same last))
 
 pub newest : (labels : List Word) (last : Word) (count : ℕ) → has_dot last ≡ false → suc count < 2 ^ 64 → IsEarlier labels last (suc count) (hypothesis_label last (suc count))
 newest labels last count plain small = record {

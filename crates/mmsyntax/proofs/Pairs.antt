@@ -1,13 +1,13 @@
 -- Ascending pairs with one more stay ascending, and end at a pair that comes behind all.
-use Rattle.std.proofs.Common.{◌≡◌, ℕ, suc, ◌+◌, ◌<◌, ◌≤◌, Bool, true, false, cond, eqb, ltb, List, [], ◌∷◌, ◌++◌, length, refl, sym, ap, subst, ◌∙◌, ◌⊎◌, inl, inr, arith}
-use Rattle.std.specs.Prelude.{◌||◌, ◌&&◌, All, nat_lt}
+use Rattle.std.proofs.Common.{◌≡◌, ℕ, ◌<◌, ◌≤◌, Bool, true, false, cond, eqb, ltb, List, [], ◌∷◌, ◌++◌, refl, sym, ap, subst, ◌∙◌, inl, inr, arith}
+use Rattle.std.specs.Prelude.{◌||◌, ◌&&◌}
 use Rattle.std.specs.List.{list_any, AllByRecursion}
-use Rattle.std.proofs.lemmas.Bool.{cases_Bool, cond-true, cond-false, eqb-true, ltb-true, ltb-false, lt-ltb}
+use Rattle.std.proofs.lemmas.Bool.{cases_Bool, cond-true, cond-false, eqb-true, ltb-true, ltb-false, lt-ltb, or_parts, and_parts}
 use Rattle.std.proofs.lemmas.Bool.Decides.{eqb_tells}
 use Rattle.std.proofs.lemmas.List.Elements.{All-from_recursion, recursion_from_All}
 use Rattle.mmsyntax.specs.Blocks.{is_pair_below, is_same_pair, with_pair, with_pairs, ordered}
 use Rattle.mmsyntax.specs.Assertions.{ComesBefore, AreAscending, IsPairOf}
-use Rattle.mmsyntax.proofs.Distinct.{or_false, and_true, all_weaker, all_right}
+use Rattle.mmsyntax.proofs.Distinct.{all_weaker, all_right}
 use Rattle.mmsyntax.proofs.Ascending.{before_trans}
 
 -- the test of Blocks, as the relation of Assertions
@@ -16,7 +16,7 @@ below_before : (p q : ℕ × ℕ) → is_pair_below p q ≡ true → ComesBefore
 below_before p q h = elim (cases_Bool (ltb p.0 q.0)) [
   | inl y ↦ inl (ltb-true p.0 q.0 y)
   | inr n ↦
-      let both = and_true (eqb p.0 q.0) (ltb p.1 q.1) (sym (ap (λ b. b || (eqb p.0 q.0 && ltb p.1 q.1)) n) ∙ h) in
+      let both = and_parts (eqb p.0 q.0) (ltb p.1 q.1) (sym (ap (λ b. b || (eqb p.0 q.0 && ltb p.1 q.1)) n) ∙ h) in
       inr (eqb-true p.0 q.0 both.0, ltb-true p.1 q.1 both.1)
 ]
 
@@ -37,7 +37,7 @@ below_from p q (inr both) =
 
 after_otherwise : (p q : ℕ × ℕ) → is_same_pair p q ≡ false → is_pair_below p q ≡ false → ComesBefore q p
 after_otherwise p q s b =
-    let apart = or_false (ltb p.0 q.0) (eqb p.0 q.0 && ltb p.1 q.1) b in
+    let apart = or_parts (ltb p.0 q.0) (eqb p.0 q.0 && ltb p.1 q.1) b in
     let le : q.0 ≤ p.0 = ltb-false p.0 q.0 apart.0 in
     elim (eqb_tells p.0 q.0) [
       | inl y ↦
@@ -100,7 +100,7 @@ ordered_pair count i j apart a b = elim (cases_Bool (ltb i j)) [
 pub pairs_with : (count j : ℕ) (is : List ℕ) (ps : List (ℕ × ℕ)) → j < count → AllByRecursion (λ i. i < count) is → list_any (λ i. eqb i j) is ≡ false → AllByRecursion (IsPairOf count) ps → AllByRecursion (IsPairOf count) (with_pairs j is ps)
 pairs_with count j [] ps lt h apart g = g
 pairs_with count j (i ∷ is) ps lt h apart g =
-    let both = or_false (eqb i j) (list_any (λ i. eqb i j) is) apart in
+    let both = or_parts (eqb i j) (list_any (λ i. eqb i j) is) apart in
     pairs_with count j is (with_pair (ordered i j) ps) lt h.1 both.1 (all_with (IsPairOf count) (ordered i j) ps (ordered_pair count i j both.0 h.0 lt) g)
 
 pub pairs_ascend : (j : ℕ) (is : List ℕ) (ps : List (ℕ × ℕ)) → AreAscending ps → AreAscending (with_pairs j is ps)

@@ -1,32 +1,22 @@
 -- The canonical statements of a sound prelude declare it.
-use Rattle.std.proofs.Common.{◌≡◌, ℕ, suc, ◌+◌, ◌^◌, ◌<◌, ◌≤◌, Bool, true, false, cond, eqb, leb, ltb, List, [], ◌∷◌, ◌++◌, length, drop, map, Option, Some, None, Result, Ok, Err, refl, sym, ap, subst, ◌∙◌, arith, append_assoc, length-append}
-use Rattle.std.specs.Prelude.{is_some, IsTrue}
+use Rattle.std.proofs.Common.{◌≡◌, ℕ, ◌<◌, ◌≤◌, false, eqb, List, [], ◌∷◌, ◌++◌, length, map, Some, None, Ok, Err, refl, sym, ap, subst, ◌∙◌, arith, append_assoc, length-append}
 use Rattle.std.specs.List.{list_any, AllByRecursion}
 use Rattle.std.specs.Str.{bytes_eq}
-use Rattle.std.proofs.lemmas.Bool.{cond-false, lt-leb, le-ltb}
+use Rattle.std.proofs.lemmas.Bool.{cond-false, lt-leb}
 use Rattle.std.proofs.lemmas.List.{append-nil, map-append}
-use Rattle.std.proofs.lemmas.List.Elements.{recursion_from_All}
-use Rattle.mmsyntax.specs.declared.statement.Symbol.{Symbol}
-use Rattle.mmsyntax.specs.declared.statement.Kind.{Kind}
-use Rattle.mmsyntax.specs.declared.statement.Kind.TheVariants.{Axiom, Theorem}
-use Rattle.mmsyntax.specs.declared.statement.Step.{Step}
 use Rattle.mmsyntax.specs.declared.statement.Float.{Float}
-use Rattle.mmsyntax.specs.declared.statement.Assertion.{Assertion}
 use Rattle.mmsyntax.specs.declared.symbols.Name.TheVariants.{Variable}
-use Rattle.mmtext.specs.declared.fault.FaultKind.TheVariants.{RepeatedLabel, BadLabel, TooLong, UnknownSymbol}
-use Rattle.mmtext.specs.Words.{Word, has_dollar, has_dot}
+use Rattle.mmtext.specs.declared.fault.FaultKind.TheVariants.{UnknownSymbol}
+use Rattle.mmtext.specs.Words.{Word, has_dollar}
 use Rattle.mmsyntax.specs.Tables.{Tables, place_of, float_of, named, meaning}
-use Rattle.mmsyntax.specs.Rows.{Known, nothing, no_units, is_used, Pass, first_fault, symbol_tests, label_tests, assertion_label_tests, type_named, type_of, variable_named, variable_of, with_assertion}
-use Rattle.mmsyntax.specs.Blocks.{Hypothesis, Block, no_block, hypothesis_label_tests, with_hypothesis, assertion_of, axiom_of, theorem_of}
-use Rattle.mmsyntax.specs.Grammar.{Claim, Piece, Statement, DeclaresConstants, DeclaresVariables, Claims, Holds, HoldAll, Declares, DeclareAll}
-use Rattle.mmsyntax.specs.Faults.{database_of}
-use Rattle.mmsyntax.specs.Layout.{word_at, hypothesis_label, symbol_word, step_word, constants_of, variables_of, float_statement, distinct_pieces, hypothesis_pieces, claim_of_kind, claim_of, unit_of, unit_statement, canonical_prelude, canonical}
-use Rattle.mmsyntax.specs.Assertions.{Distinct, IsExpression, IsPairOf, AreAscending, IsNameable, IsUnit, is_lawful_label}
+use Rattle.mmsyntax.specs.Rows.{Known, nothing, is_used, Pass, symbol_tests, label_tests, type_named, type_of, variable_named, variable_of}
+use Rattle.mmsyntax.specs.Grammar.{Statement, DeclaresConstants, DeclaresVariables, Declares, DeclareAll}
+use Rattle.mmsyntax.specs.Layout.{word_at, constants_of, variables_of, float_statement, canonical_prelude}
+use Rattle.mmsyntax.specs.Assertions.{Distinct}
 use Rattle.mmsyntax.proofs.Names.{bytes_eq-sym}
-use Rattle.mmsyntax.proofs.Distinct.{distinct_front, distinct_left, distinct_right, cross, place_of-item, place_of-absent, float_labels, labels_of, prelude_names, is_some-meaning, not_used, none_of, all_push, all_weaker, all_map}
-use Rattle.mmsyntax.proofs.Sound.{IsSymbolWord, IsLabelWord, bare, IsFloatSound, AreSound, IsSound, variables_used, any_swap, eqb-sym}
-use Rattle.mmsyntax.proofs.Numbered.{differ, number_dot, number_label, number_short, IsNumbered, IsEarlier, earlier, still_earlier, newest, not_earlier, made, made_dots, made_named}
-use Rattle.mmsyntax.proofs.Again.{none_cond, IsPlainLabel, plain_label, label_word, plain_at, symbol_is_word, number_not_named, reads_again, some_words, restricts_again, steps_again}
+use Rattle.mmsyntax.proofs.Distinct.{distinct_front, distinct_left, distinct_right, cross, place_of-item, place_of-absent, float_labels, prelude_names, is_some-meaning, not_used}
+use Rattle.mmsyntax.proofs.Sound.{IsSymbolWord, IsLabelWord, bare, IsFloatSound, AreSound, variables_used, any_swap, eqb-sym}
+use Rattle.mmsyntax.proofs.Again.{none_cond, plain_at}
 
 -- ---- tests pass
 

@@ -1,5 +1,5 @@
 -- What is true of all that statements of a prelude declare.
-use Rattle.std.proofs.Common.{◌≡◌, ◌≢◌, ℕ, ◌+◌, ◌<◌, ◌≤◌, Bool, true, false, cond, eqb, List, [], ◌∷◌, ◌++◌, length, map, Option, Some, None, Result, Ok, Err, refl, sym, ap, subst, ◌∙◌, arith, append_assoc, length-append, leb-false}
+use Rattle.std.proofs.Common.{◌≡◌, ℕ, ◌+◌, ◌<◌, ◌≤◌, Bool, true, false, cond, eqb, List, [], ◌∷◌, ◌++◌, length, Option, Some, None, Result, Ok, Err, refl, sym, ap, subst, ◌∙◌, arith, append_assoc, length-append, leb-false}
 use Rattle.std.specs.Prelude.{◌||◌, is_some, IsTrue, nat_lt}
 use Rattle.std.specs.List.{list_any, AllByRecursion}
 use Rattle.std.specs.Str.{bytes_eq}
@@ -11,50 +11,19 @@ use Rattle.mmsyntax.specs.declared.symbols.Name.TheVariants.{Constant, Variable,
 use Rattle.mmtext.specs.declared.fault.FaultKind.{FaultKind}
 use Rattle.mmtext.specs.Words.{Word, has_dollar, has_dot, is_label, has_hypothesis_form}
 use Rattle.mmsyntax.specs.Tables.{Tables, place_of, float_of, named, meaning}
-use Rattle.mmsyntax.specs.Rows.{Known, no_units, nothing, is_used, in_prelude, Pass, symbol_tests, label_tests, float_label_tests, type_named, type_of, variable_named, variable_of, with_constant, with_variable, with_float, with_hypothesis_label, with_assertion}
+use Rattle.mmsyntax.specs.Rows.{Known, no_units, nothing, in_prelude, Pass, symbol_tests, label_tests, float_label_tests, type_named, type_of, variable_named, variable_of, with_constant, with_variable, with_float, with_hypothesis_label, with_assertion}
 use Rattle.mmsyntax.specs.Grammar.{DeclaresConstants, DeclaresVariables}
+pub use Rattle.mmsyntax.specs.Preludes.{IsSymbolWord, IsLabelWord, IsFloatSound, AreSound, variables_used}
 use Rattle.mmsyntax.specs.Assertions.{Distinct, IsUnit, is_lawful_label}
 use Rattle.mmsyntax.proofs.Names.{place_of-at, variable_from_named, bytes_eq-sym}
 use Rattle.mmsyntax.proofs.Distinct.{distinct_insert, float_labels, labels_of, prelude_names, is_some-meaning, is_some-place_of, IsNew, new_word, all_push, all_weaker}
 use Rattle.mmsyntax.proofs.Lines.{IsWord}
 
--- ---- facts of words
-
-pub record IsSymbolWord (w : Word) : Type 0 where
-  pub no_dollar : has_dollar w ≡ false
-  pub short : nat_lt 255 (length w) ≡ false
-  pub form : has_hypothesis_form w ≡ false
-  pub word : IsWord w
-
-pub record IsLabelWord (w : Word) : Type 0 where
-  pub label : IsTrue (is_label w)
-  pub plain : (has_dot w || nat_lt 255 (length w)) ≡ false
-  pub word : IsWord w
-
-pub record IsFloatSound (t : Tables) (f : Float) : Type 0 where
-  pub label : IsLabelWord f.label
-  pub type_within : f.type_code < length t.constants
-  pub variable_within : f.variable < length t.variables
-
 -- the tables alone
 abbrev pub bare : Tables → Known
 bare t = record { tables = t; units = no_units false }
 
-abbrev pub variables_used : List Float → List ℕ
-variables_used fs = map (λ f. f.variable) fs
-
--- what a prelude declares
-pub record AreSound (t : Tables) : Type 0 where
-  pub distinct : Distinct bytes_eq (prelude_names t)
-  pub constants_sound : AllByRecursion IsSymbolWord t.constants
-  pub variables_sound : AllByRecursion IsSymbolWord t.variables
-  pub floats_sound : AllByRecursion (IsFloatSound t) t.floats
-  pub apart : Distinct eqb (variables_used t.floats)
-  pub constants_fit : length t.constants ≤ 65535
-  pub variables_fit : length t.variables ≤ 65535
-  pub floats_fit : length t.floats ≤ 65535
-
--- and the assertions: what stands in the middle of a text is known of them, whatever the labels of $e are
+-- sound tables and the assertions: what stands in the middle of a text is known of them, whatever the labels of $e are
 pub record IsSound (k : Known) : Type 0 where
   pub tables : AreSound k.tables
   pub units : AllByRecursion (IsUnit k.tables) k.units.assertions
@@ -197,16 +166,16 @@ type_place : (t : Tables) (w : Word) (i : ℕ) → type_of t w ≡ Ok i → plac
 unfolding type_of meaning
 type_place t w i h = constant_from_type t.floats _ _ _ i (if_ok (has_dollar w) _ _ i h).1
 
-variable_from_type : (o : Option Name) (i : ℕ) → variable_named o ≡ Ok i → o ≡ Some (Variable i None)
-variable_from_type None i h = absurd cc
-variable_from_type (Some (Constant j)) i h = absurd cc
-variable_from_type (Some (Variable j None)) i h = ap (λ k. Some (Variable k None)) (let e : j ≡ i = cc in e)
-variable_from_type (Some (Variable j (Some k))) i h = absurd cc
-variable_from_type (Some (Label j)) i h = absurd cc
+pub free_variable : (o : Option Name) (i : ℕ) → variable_named o ≡ Ok i → o ≡ Some (Variable i None)
+free_variable None i h = absurd cc
+free_variable (Some (Constant j)) i h = absurd cc
+free_variable (Some (Variable j None)) i h = ap (λ k. Some (Variable k None)) (let e : j ≡ i = cc in e)
+free_variable (Some (Variable j (Some k))) i h = absurd cc
+free_variable (Some (Label j)) i h = absurd cc
 
 variable_place : (t : Tables) (w : Word) (v : ℕ) → variable_of t w ≡ Ok v → (place_of (bytes_eq w) t.constants ≡ None) × (place_of (bytes_eq w) t.variables ≡ Some v) × (float_of t.floats v ≡ None)
 unfolding variable_of meaning
-variable_place t w v h = variable_from_named t.floats _ _ _ v None (variable_from_type _ v (if_ok (has_dollar w) _ _ v h).1)
+variable_place t w v h = variable_from_named t.floats _ _ _ v None (free_variable _ v (if_ok (has_dollar w) _ _ v h).1)
 
 not_some : (o : Option ℕ) → o ≡ None → is_some o ≡ false
 not_some o h = ap is_some h

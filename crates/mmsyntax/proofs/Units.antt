@@ -1,9 +1,8 @@
 -- What a block, an assertion and a statement declare is sound.
-use Rattle.std.proofs.Common.{◌≡◌, ◌≢◌, ℕ, ◌+◌, ◌<◌, ◌≤◌, Bool, true, false, leb, ltb, List, [], ◌∷◌, ◌++◌, length, drop, map, None, refl, sym, ap, subst, ◌∙◌, arith, length-append, leb-false}
-use Rattle.std.specs.Prelude.{All, IsTrue, codes}
+use Rattle.std.proofs.Common.{◌≡◌, ℕ, ◌<◌, ◌≤◌, Bool, true, leb, ltb, List, [], ◌∷◌, ◌++◌, length, drop, map, None, refl, sym, ap, subst, ◌∙◌, arith, length-append, leb-false}
+use Rattle.std.specs.Prelude.{IsTrue, codes}
 use mathlib.Core.Bool.{not}
 use Rattle.std.specs.List.{flat_map, AllByRecursion}
-use Rattle.std.specs.Str.{bytes_eq}
 use Rattle.std.proofs.lemmas.List.{length-map, map-append}
 use Rattle.std.proofs.lemmas.List.Concat.{flat_map-cons}
 use Rattle.std.proofs.lemmas.List.Elements.{All-from_recursion}
@@ -14,14 +13,14 @@ use Rattle.mmsyntax.specs.declared.statement.Step.{Step}
 use Rattle.mmsyntax.specs.declared.statement.Assertion.{Assertion}
 use Rattle.mmtext.specs.declared.fault.FaultKind.TheVariants.{RepeatedLabel, BadLabel, TooLong}
 use Rattle.mmtext.specs.Words.{Word, is_label}
-use Rattle.mmsyntax.specs.Tables.{Tables, meaning}
-use Rattle.mmsyntax.specs.Rows.{Known, Pass, is_used, first_fault, in_prelude, assertion_label_tests, with_hypothesis_label, with_assertion}
+use Rattle.mmsyntax.specs.Tables.{Tables}
+use Rattle.mmsyntax.specs.Rows.{Known, Pass, is_used, first_fault, in_prelude, assertion_label_tests, with_assertion}
 use Rattle.mmsyntax.specs.Blocks.{Hypothesis, Block, no_block, hypothesis_label_tests, with_hypothesis, assertion_of, axiom_of, theorem_of}
 use Rattle.mmsyntax.specs.Grammar.{Claim, asserted, proved, Piece, distinct, hypothesis, Statement, constants, variables, float, alone, block, claim_spelling, piece_spelling, spelling, Claims, Holds, HoldAll, Declares, DeclareAll}
-use Rattle.mmsyntax.specs.Assertions.{IsExpression, IsPairOf, Fits, IsNameable, IsUnit, is_lawful_label}
-use Rattle.mmsyntax.proofs.Distinct.{all_push, all_left, all_right, or_false}
+use Rattle.mmsyntax.specs.Assertions.{IsExpression, IsPairOf, Fits, IsNameable, IsUnit}
+use Rattle.mmsyntax.proofs.Distinct.{all_push, all_left, all_right}
 use Rattle.mmsyntax.proofs.Lines.{IsWord}
-use Rattle.mmsyntax.proofs.Sound.{IsSound, cond_none, label_passes, LabelPasses, constants_all, variables_all, float_sound, hypothesis_sound, assertion_sound}
+use Rattle.mmsyntax.proofs.Sound.{IsSound, cond_none, label_passes, constants_all, variables_all, float_sound, hypothesis_sound, assertion_sound}
 use Rattle.mmsyntax.proofs.Found.{read_expression, label_five, AreSteps, read_steps, AreRestricted, restricts}
 
 abbrev pub expressions : List Hypothesis → List (List Symbol)

@@ -1,5 +1,5 @@
 -- The words of canonical statements may stand in a text: none is empty, has white space, or opens a comment.
-use Rattle.std.proofs.Common.{◌≡◌, ◌≢◌, ℕ, suc, ◌+◌, ◌^◌, ◌<◌, ◌≤◌, Bool, true, false, List, [], ◌∷◌, ◌++◌, length, map, refl, sym, ap, subst, ◌∙◌, arith}
+use Rattle.std.proofs.Common.{◌≡◌, ℕ, suc, ◌+◌, ◌^◌, ◌<◌, ◌≤◌, true, false, List, [], ◌∷◌, ◌++◌, length, map, refl, sym, ap, subst, arith}
 use Rattle.std.specs.Prelude.{IsTrue, is_some, codes}
 use mathlib.Core.Bool.{not}
 use Rattle.std.specs.List.{flat_map, AllByRecursion}
@@ -7,7 +7,7 @@ use Rattle.std.specs.Str.{bytes_eq}
 use Rattle.std.proofs.lemmas.List.Concat.{flat_map-cons}
 use Rattle.std.proofs.lemmas.List.Elements.{recursion_from_All}
 use Rattle.mmsyntax.specs.declared.statement.Symbol.{Symbol}
-use Rattle.mmsyntax.specs.declared.statement.Symbol.TheVariants.{Const, Var}
+use Rattle.mmsyntax.specs.declared.statement.Symbol.TheVariants.{Var}
 use Rattle.mmsyntax.specs.declared.statement.Kind.{Kind}
 use Rattle.mmsyntax.specs.declared.statement.Kind.TheVariants.{Axiom, Theorem}
 use Rattle.mmsyntax.specs.declared.statement.Step.{Step}
@@ -18,12 +18,12 @@ use Rattle.mmtext.specs.Words.{Word, has_dollar, is_label}
 use Rattle.mmtext.specs.Text.{is_white, is_lawful}
 use Rattle.mmsyntax.specs.Tables.{Tables, meaning}
 use Rattle.mmsyntax.specs.Steps.{float_named}
-use Rattle.mmsyntax.specs.Grammar.{Claim, Piece, Statement, block, claim_spelling, piece_spelling, spelling}
+use Rattle.mmsyntax.specs.Grammar.{Claim, Piece, Statement, claim_spelling, piece_spelling, spelling}
 use Rattle.mmsyntax.specs.Layout.{word_at, hypothesis_label, symbol_word, step_word, constants_of, variables_of, float_statement, distinct_pieces, hypothesis_pieces, claim_of_kind, claim_of, unit_of, unit_statement, canonical_prelude, canonical}
 use Rattle.mmsyntax.specs.Assertions.{IsSymbolOf, IsExpression, IsPairOf, IsNameable, IsUnit, is_lawful_label}
 use Rattle.mmsyntax.proofs.Distinct.{all_append, all_map}
 use Rattle.mmsyntax.proofs.Lines.{IsWord, IsWritten}
-use Rattle.mmsyntax.proofs.Sound.{IsSymbolWord, IsLabelWord, IsFloatSound, AreSound, IsSound}
+use Rattle.mmsyntax.proofs.Sound.{IsSymbolWord, IsFloatSound, AreSound}
 use Rattle.mmsyntax.proofs.Numbered.{differ, number_label, number_word}
 use Rattle.mmsyntax.proofs.Again.{IsPlainLabel, plain_label, label_word, plain_at, symbol_is_word, float_sound}
 

@@ -6,3 +6,5 @@ pub mod Faults
 pub mod Grammar
 pub mod Layout
 pub mod Assertions
+pub mod Preludes
+pub mod Laws

@@ -5,7 +5,6 @@ use Rattle.std.specs.Option.{option_map}
 use Rattle.std.specs.Str.{bytes_eq}
 use Rattle.std.proofs.lemmas.Bool.{cases_Bool, cond-true, cond-false}
 use Rattle.std.proofs.lemmas.List.Elements.{All-head, All-tail}
-use Rattle.std.proofs.lemmas.Slice.Eq.{bytes_eq-Decides}
 use Rattle.mmtext.specs.declared.fault.FaultKind.TheVariants.{BadToken}
 use Rattle.mmtext.specs.declared.fault.TextFault.{TextFault}
 use Rattle.mmtext.specs.declared.mark.Mark.{Mark}
@@ -15,10 +14,9 @@ use Rattle.mmtext.specs.Text.{Token, dollar_mark, mark_of, has_comment_mark}
 use Rattle.mmtext.specs.Words.{Word}
 use Rattle.mmtext.specs.Comments.{words_of, without_comments}
 use Rattle.mmtext.specs.Languages.{Language, State, fault, led, outside_comment, inside_comment, step, then_run, run}
+pub use Rattle.mmtext.proofs.Marks.{same_word}
+use Rattle.mmtext.proofs.Marks.{Says, says}
 use Rattle.mmtext.proofs.Readings.{run_step, run_none, run_nil, run_cons}
-
-pub same_word : (a b : Word) → bytes_eq a b ≡ true → a ≡ b
-same_word a b h = (bytes_eq-Decides a b).0 h
 
 -- ---- walks
 
@@ -54,37 +52,6 @@ walk_cons {P} l p final t ts h = go (l.row p t) refl h
     go (Err f) e g = absurd cc
 
 -- ---- the marks of comments
-
-abbrev Says : Mark → Word → Type 0
-Says mark.Comment w = w ≡ codes "$("
-Says mark.Uncomment w = w ≡ codes "$)"
-Says _ w = Unit {0}
-
-says_cond : (w : Word) (b : Bool) (x y : Mark) → (b ≡ true → Says x w) → Says y w → Says (cond b x y) w
-says_cond w true x y p q = p refl
-says_cond w false x y p q = q
-
-says_dollar : (w : Word) → Says (dollar_mark w) w
-says_dollar w =
-    says_cond w (bytes_eq w (codes "$c")) mark.Constants _ (λ _. tt)
-    (says_cond w (bytes_eq w (codes "$v")) mark.Variables _ (λ _. tt)
-    (says_cond w (bytes_eq w (codes "$f")) mark.Floating _ (λ _. tt)
-    (says_cond w (bytes_eq w (codes "$a")) mark.Axiom _ (λ _. tt)
-    (says_cond w (bytes_eq w (codes "$.")) mark.End _ (λ _. tt)
-    (says_cond w (bytes_eq w (codes "$p")) mark.Provable _ (λ _. tt)
-    (says_cond w (bytes_eq w (codes "$e")) mark.Essential _ (λ _. tt)
-    (says_cond w (bytes_eq w (codes "$d")) mark.Disjoint _ (λ _. tt)
-    (says_cond w (bytes_eq w (codes "${")) mark.Opening _ (λ _. tt)
-    (says_cond w (bytes_eq w (codes "$}")) mark.Closing _ (λ _. tt)
-    (says_cond w (bytes_eq w (codes "$=")) mark.Proof _ (λ _. tt)
-    (says_cond w (bytes_eq w (codes "$(")) mark.Comment _ (same_word w (codes "$("))
-    (says_cond w (bytes_eq w (codes "$)")) mark.Uncomment _ (same_word w (codes "$)"))
-    (says_cond w (bytes_eq w (codes "$[")) mark.Include _ (λ _. tt)
-    (says_cond w (bytes_eq w (codes "$]")) mark.Included mark.Stray (λ _. tt) tt))))))))))))))
-
-says : (w : Word) → Says (mark_of w) w
-unfolding mark_of
-says w = says_cond w (has_dollar w) (dollar_mark w) mark.Plain (λ _. says_dollar w) tt
 
 comment_marks : (mark_of (codes "$(") ≡ mark.Comment) × (mark_of (codes "$)") ≡ mark.Uncomment)
 unfolding mark_of

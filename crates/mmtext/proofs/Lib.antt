@@ -1,4 +1,6 @@
 pub mod Tokens
+pub mod Marks
 pub mod Readings
 pub mod CommentLaws
 pub mod Turns
+pub mod TextLaws

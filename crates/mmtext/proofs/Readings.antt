@@ -35,7 +35,7 @@ use Rattle.std.proofs.Common.{
 }
 use Rattle.std.specs.Prelude.{slice_index}
 use Rattle.std.specs.List.{position_or_len}
-use Rattle.std.proofs.lemmas.Bool.{cases_Bool, cond-true, cond-false, ltb-true, ltb-false, le-ltb, lt-ltb}
+use Rattle.std.proofs.lemmas.Bool.{cases_Bool, cond-true, cond-false, ltb-true, ltb-false, le-ltb, lt-ltb, not-true, not-false}
 use Rattle.std.proofs.lemmas.List.Quantifiers.{position-Some}
 use Rattle.std.proofs.lemmas.List.Sums.{position_or_len_is}
 use mathlib.Core.Bool.{not}
@@ -111,19 +111,11 @@ stops_here l text s t ts us f is h same = ap (ended l (length text)) (sym same �
 
 -- ---- bytes
 
-not_true : (b : Bool) → not b ≡ true → b ≡ false
-not_true true h = absurd cc
-not_true false h = refl
-
-not_false : (b : Bool) → not b ≡ false → b ≡ true
-not_false true h = refl
-not_false false h = absurd cc
-
 bad_found : (bytes : List ℕ) (i : ℕ) → bad_byte bytes ≡ Some i
     → (i < length bytes) × (is_lawful (slice_index bytes i) ≡ false) × IsCleanBefore i bytes
 bad_found bytes i h =
     let p = position-Some (λ b. not (is_lawful b)) bytes i 0 h in
-    (p.0, not_true (is_lawful (get_or bytes i 0)) p.1, λ k lt. not_false (is_lawful (get_or bytes k 0)) (p.2 k lt))
+    (p.0, not-true (is_lawful (get_or bytes i 0)) p.1, λ k lt. not-false (is_lawful (get_or bytes k 0)) (p.2 k lt))
 
 none_after : (p : ℕ → Bool) (xs : List ℕ) → length xs ≤ position_or_len p xs → (k : ℕ) → k < length xs → p (get_or xs k 0) ≡ false
 none_after p [] h k lt = absurd (omega arith)
@@ -145,7 +137,7 @@ clean_from_none bytes h = λ k lt.
       | inl y ↦ absurd (let e : Some (position_or_len p bytes) ≡ None = sym (cond-true _ (Some (position_or_len p bytes)) None y) ∙ h in cc)
       | inr n ↦ ltb-false _ _ n
     ] in
-    not_false (is_lawful (get_or bytes k 0)) (none_after p bytes past k lt)
+    not-false (is_lawful (get_or bytes k 0)) (none_after p bytes past k lt)
 
 none_from_clean : (bytes : List ℕ) → IsClean bytes → bad_byte bytes ≡ None
 none_from_clean bytes clean =

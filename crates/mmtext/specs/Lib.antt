@@ -4,3 +4,4 @@ pub mod Languages
 pub mod Comments
 pub mod FaultNames
 pub mod Views
+pub mod Laws

@@ -3,6 +3,7 @@
 
 mod comments;
 mod fault;
+pub mod laws;
 mod mark;
 mod texts;
 mod token;

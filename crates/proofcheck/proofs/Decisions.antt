@@ -1,11 +1,13 @@
--- Each test of a citation is decided.
-use Rattle.std.proofs.Common.{◌≡◌, ℕ, zero, suc, ◌<◌, Bool, true, false, List, [], ◌∷◌, ◌⊎◌, inl, inr, Option, None, Some, All, Contains}
-use Rattle.std.proofs.Common.{length, slice_get, refl, sym, ap, ◌∙◌, arith, eqb}
-use Rattle.std.proofs.lemmas.Bool.Decides.{Decides-eqb, Decides-ltb}
+-- Each test of a citation tells what it is the test of.
+use Rattle.std.proofs.Common.{◌≡◌, ℕ, zero, suc, ◌<◌, ◌≤◌, Bool, true, false, cond, List, [], ◌∷◌, ◌⊎◌, inl, inr, Option, None, Some, All, Contains}
+use Rattle.std.proofs.Common.{length, slice_get, Result, Ok, Err, refl, sym, ap, ◌∙◌, arith, eqb}
+use Rattle.std.specs.Prelude.{◌||◌}
+use Rattle.std.specs.Bool.{Decides}
+use Rattle.std.specs.List.{list_any, list_all}
+use mathlib.Core.Bool.{not}
+use Rattle.std.proofs.lemmas.Bool.Decides.{Decides-eqb, Decides-ltb, Decides-and, Decides-or, Decides-not, Decides-like, Decides-by_and, not_from_Decides}
 use Rattle.std.proofs.lemmas.Slice.Eq.{slice_eq-Decides}
 use Rattle.std.proofs.lemmas.List.Elements.{Contains-get_or, All-contains}
-use Rattle.std.specs.Bool.{Decides}
-use Rattle.std.specs.Cmp.Lexicographic.{pointwise}
 use Rattle.mmsyntax.specs.declared.statement.Symbol.{Symbol}
 use Rattle.mmsyntax.specs.declared.statement.Symbol.TheVariants.{Const, Var}
 use Rattle.mmsyntax.specs.declared.statement.Float.{Float as FloatOf}
@@ -14,148 +16,128 @@ use Rattle.mmsyntax.specs.declared.statement.Frame.{Frame}
 use Rattle.mmsyntax.specs.declared.statement.Assertion.{Assertion}
 use Rattle.proofcheck.specs.declared.fault.ProofFaultKind.{ProofFaultKind}
 use Rattle.proofcheck.specs.declared.fault.ProofFaultKind.TheVariants.{WrongType, HypothesisDiffers, NotDisjoint, TooLong}
-use Rattle.mmsyntax.specs.contracts.statement.SymbolPartialEq.TheImpl.{eq-value}
 use Rattle.mmstatement.specs.Substitution.{replacement}
-use Rattle.proofcheck.specs.Derivation.{Expression, Gives, IsApart, AreApart, HasType, HaveTypes, TypesFit, HypothesesFit, PairsFit}
-use Rattle.proofcheck.specs.Derivation.{conclusion, arity, in_order, substitution}
+use Rattle.proofcheck.specs.Derivation.{Expression, Gives, IsApart, AreApart, HaveTypes, TypesFit, HypothesesFit, PairsFit, conclusion, arity}
+use Rattle.proofcheck.specs.Derivation.{in_order, substitution}
 use Rattle.proofcheck.specs.Faults.{FailsTest}
-use Rattle.proofcheck.proofs.Nodes.{symbol_decides}
-use Rattle.proofcheck.proofs.Plain.{None-Some}
+use Rattle.proofcheck.specs.Outcomes.{begins_with_type, types_fit, same_symbol, same_expression, hypotheses_fit, same_pair, symbols_apart}
+use Rattle.proofcheck.specs.Outcomes.{are_apart, pairs_fit, cited}
 
--- a fact holds or fails
-abbrev pub Decided : Type 0 → Type 0
-Decided P = P ⊎ (P → ⊥)
+-- ---- types
 
-decided : {P : Type 0} (b : Bool) → Decides b P → Decided P
-decided true d = inl (d.0 refl)
-decided false d = inr (λ h. let both = d.1 h in cc)
+begins : (o : Option FloatOf) (s : Option Symbol)
+    → Decides (begins_with_type o s) ((f : FloatOf) × (o ≡ Some f) × (s ≡ Some (Const f.type_code)))
+begins None s = (λ h. absurd cc, λ h. let e = h.1 in absurd cc)
+begins (Some f) None = (λ h. absurd cc, λ h. let e = h.2 in absurd cc)
+begins (Some f) (Some (Var j)) = (λ h. absurd cc, λ h. let e = h.2 in absurd cc)
+begins (Some f) (Some (Const c)) =
+    Decides-like (eqb c f.type_code) (λ k. (f, refl, ap (λ x. Some (Const x)) k))
+    (λ h. let float : f ≡ h.0 = cc in let code : c ≡ h.0.type_code = cc in code ∙ ap (λ g. g.type_code) (sym float))
+    (Decides-eqb c f.type_code)
 
-both : {P Q : Type 0} → Decided P → Decided Q → Decided (P × Q)
-both (inl p) (inl q) = inl (p, q)
-both (inl p) (inr k) = inr (λ h. k h.1)
-both (inr n) q = inr (λ h. n h.0)
+types-decide : (p : Tables) (floats : List ℕ) (es : List Expression) → Decides (types_fit p floats es) (HaveTypes p floats es)
+types-decide p [] es = (λ _. tt, λ _. refl)
+types-decide p (i ∷ is) [] = (λ h. absurd cc, λ h. absurd h)
+types-decide p (i ∷ is) (e ∷ es) =
+    Decides-and (begins_with_type (slice_get p.floats i) (slice_get e 0)) (types_fit p is es) (begins (slice_get p.floats i) (slice_get e 0))
+    (types-decide p is es)
 
-same_fact : {P Q : Type 0} → (P → Q) → (Q → P) → Decided P → Decided Q
-same_fact f g (inl p) = inl (f p)
-same_fact f g (inr n) = inr (λ q. n (g q))
+-- ---- expressions
 
--- a fact of each element
-each : {X : Type 0} (P : X → Type 0) → ((x : X) → Decided (P x)) → (xs : List X) → Decided (All P xs)
-each P test [] = inl (λ k d lt. absurd (omega arith))
-each P test (x ∷ xs) = join (test x) (each P test xs)
+symbols-decide : (x y : Symbol) → Decides (same_symbol x y) (x ≡ y)
+symbols-decide (Const c) (Const d) = (λ e. ap Const ((Decides-eqb c d).0 e), λ e. let same : c ≡ d = cc in (Decides-eqb c d).1 same)
+symbols-decide (Const c) (Var k) = (λ e. cc, λ e. cc)
+symbols-decide (Var j) (Const d) = (λ e. cc, λ e. cc)
+symbols-decide (Var j) (Var k) = (λ e. ap Var ((Decides-eqb j k).0 e), λ e. let same : j ≡ k = cc in (Decides-eqb j k).1 same)
+
+pub expressions-decide : (d e : Expression) → Decides (same_expression d e) (d ≡ e)
+expressions-decide d e = slice_eq-Decides symbols-decide d e _ refl
+
+hypotheses-decide : (f : Frame) (es : List Expression) → Decides (hypotheses_fit f es) (HypothesesFit f es)
+hypotheses-decide f es = slice_eq-Decides expressions-decide _ _ _ refl
+
+-- ---- pairs
+
+pairs-decide : (q r : ℕ × ℕ) → Decides (same_pair q r) (q ≡ r)
+pairs-decide q r =
+    Decides-like (same_pair q r) (λ h. λ i. (h.0 i, h.1 i)) (λ e. (ap (λ x. x.0) e, ap (λ x. x.1) e))
+    (Decides-and (eqb q.0 r.0) (eqb q.1 r.1) (Decides-eqb q.0 r.0) (Decides-eqb q.1 r.1))
+
+contains-decides : {X : Type 0} (test : X → X → Bool) → ((x y : X) → Decides (test x y) (x ≡ y)) → (xs : List X) (y : X)
+    → Decides (list_any (λ x. test x y) xs) (Contains xs y)
+contains-decides test each [] y = (λ h. absurd cc, λ h. let lt = h.1 in absurd (omega arith))
+contains-decides test each (x ∷ xs) y =
+    Decides-like (test x y || list_any (λ z. test z y) xs) to from
+    (Decides-or (test x y) (list_any (λ z. test z y) xs) (each x y) (contains-decides test each xs y))
   where
-    join : Decided (P x) → Decided (All P xs) → Decided (All P (x ∷ xs))
-    join (inl p) (inl all) = inl cons_all
-      where
-        cons_all : All P (x ∷ xs)
-        cons_all zero d lt = p
-        cons_all (suc k) d lt = all k d (omega arith)
-    join (inl p) (inr n) = inr (λ h. n (λ k d lt. h (suc k) d (omega arith)))
-    join (inr n) q = inr (λ h. n (h 0 x (omega arith)))
+    to : (x ≡ y) ⊎ Contains xs y → Contains (x ∷ xs) y
+    to (inl e) = (0, omega arith, e)
+    to (inr h) = (suc h.0, omega (arith, h.1), h.2)
 
-contains : {X : Type 0} → ((x y : X) → Decided (x ≡ y)) → (xs : List X) (y : X) → Decided (Contains xs y)
-contains test [] y = inr (λ h. let lt = h.1 in absurd (omega arith))
-contains test (x ∷ xs) y = join (test x y) (contains test xs y)
-  where
-    shift : (h : Contains (x ∷ xs) y) → (x ≡ y → ⊥) → Contains xs y
-    shift (zero, lt, e) n = absurd (n e)
-    shift (suc k, lt, e) n = (k, omega arith, e)
-
-    join : Decided (x ≡ y) → Decided (Contains xs y) → Decided (Contains (x ∷ xs) y)
-    join (inl e) q = inl (0, omega arith, e)
-    join (inr n) (inl h) = inl (suc h.0, omega (arith, h.1), h.2)
-    join (inr n) (inr m) = inr (λ h. m (shift h n))
-
-same_number : (m n : ℕ) → Decided (m ≡ n)
-same_number m n = decided (eqb m n) (Decides-eqb m n)
-
-same_pair : (q r : ℕ × ℕ) → Decided (q ≡ r)
-same_pair q r =
-    same_fact (λ h. λ i. (h.0 i, h.1 i)) (λ e. (ap (λ x. x.0) e, ap (λ x. x.1) e)) (both (same_number q.0 r.0) (same_number q.1 r.1))
-
-is_apart : (pairs : List (ℕ × ℕ)) (u v : ℕ) → Decided (IsApart pairs u v)
-is_apart pairs u v =
-    same_fact (λ h. record { differ = h.0; paired = h.1 }) (λ h. (h.differ, h.paired))
-    (both (opposite (same_number u v)) (contains same_pair pairs (in_order u v)))
-  where
-    opposite : {P : Type 0} → Decided P → Decided (P → ⊥)
-    opposite (inl h) = inr (λ k. k h)
-    opposite (inr n) = inl n
+    from : Contains (x ∷ xs) y → (x ≡ y) ⊎ Contains xs y
+    from (zero, lt, e) = inl e
+    from (suc k, lt, e) = inr (k, omega arith, e)
 
 -- where both symbols are variables, they are apart
 Apart : List (ℕ × ℕ) → Symbol → Symbol → Type 0
 Apart pairs x y = (u v : ℕ) → x ≡ Var u → y ≡ Var v → IsApart pairs u v
 
-symbols_apart : (pairs : List (ℕ × ℕ)) (x y : Symbol) → Decided (Apart pairs x y)
+apart-decides : (pairs : List (ℕ × ℕ)) (x y : Symbol) → Decides (symbols_apart pairs x y) (Apart pairs x y)
 unfolding Apart
-symbols_apart pairs (Const c) y = inl (λ u v e k. cc)
-symbols_apart pairs (Var i) (Const d) = inl (λ u v e k. cc)
-symbols_apart pairs (Var i) (Var j) =
-    same_fact (λ h u v e k. let left : i ≡ u = cc in let right : j ≡ v = cc in rw (← left, ← right) h) (λ h. h i j refl refl)
-    (is_apart pairs i j)
+apart-decides pairs (Const c) y = (λ _ u v e k. absurd cc, λ _. refl)
+apart-decides pairs (Var i) (Const d) = (λ _ u v e k. absurd cc, λ _. refl)
+apart-decides pairs (Var i) (Var j) =
+    Decides-like (symbols_apart pairs (Var i) (Var j))
+    (λ h u v e k. let left : i ≡ u = cc in let right : j ≡ v = cc in rw (← left, ← right) (record { differ = h.0; paired = h.1 }))
+    (λ h. let apart = h i j refl refl in (apart.differ, apart.paired))
+    (Decides-and (not (eqb i j)) (list_any (λ q. same_pair q (in_order i j)) pairs) (Decides-not (eqb i j) (Decides-eqb i j))
+    (contains-decides same_pair pairs-decide pairs (in_order i j)))
 
-are_apart : (pairs : List (ℕ × ℕ)) (d e : Expression) → Decided (AreApart pairs d e)
+apart-all : (pairs : List (ℕ × ℕ)) (d e : Expression) → Decides (are_apart pairs d e) (AreApart pairs d e)
 unfolding Apart
-are_apart pairs d e =
-    same_fact
+apart-all pairs d e =
+    Decides-like (are_apart pairs d e)
     (λ h. record {
       apart = λ u v cu cv. All-contains (λ y. Apart pairs (Var u) y) e (Var v)
           (All-contains (λ x. All (λ y. Apart pairs x y) e) d (Var u) h cu) cv u v refl refl;
     })
     (λ h. λ k x lt. λ m y lt'. λ u v ex ey. h.apart u v (rw ex at (Contains-get_or d k x lt)) (rw ey at (Contains-get_or e m y lt')))
-    (each (λ x. All (λ y. Apart pairs x y) e) (λ x. each (λ y. Apart pairs x y) (λ y. symbols_apart pairs x y) e) d)
+    (Decides-by_and (λ x. list_all (symbols_apart pairs x) e) (λ x. All (λ y. Apart pairs x y) e)
+    (list_all (λ x. list_all (symbols_apart pairs x) e))
+    (λ x. Decides-by_and (symbols_apart pairs x) (λ y. Apart pairs x y) (list_all (symbols_apart pairs x)) (λ y. apart-decides pairs x y) refl
+    (λ _ _. refl) e) refl (λ _ _. refl) d)
 
-has_type : (p : Tables) (i : ℕ) (e : Expression) (o : Option FloatOf) (s : Option Symbol) → slice_get p.floats i ≡ o → slice_get e 0 ≡ s
-    → Decided (HasType p i e)
-has_type p i e None s eo es = inr (λ h. None-Some h.0 (slice_get p.floats i) eo h.1)
-has_type p i e (Some f) None eo es = inr (λ h. None-Some _ (slice_get e 0) es h.2)
-has_type p i e (Some f) (Some (Var j)) eo es = inr (λ h. let at : Some (Var j) ≡ Some (Const h.0.type_code) = sym es ∙ h.2 in cc)
-has_type p i e (Some f) (Some (Const c)) eo es =
-    same_fact (λ k. (f, eo, es ∙ ap (λ x. Some (Const x)) k))
-    (λ h. let float : f ≡ h.0 = cc in let at : Some (Const c) ≡ Some (Const h.0.type_code) = sym es ∙ h.2 in
-    let code : c ≡ h.0.type_code = cc in code ∙ ap (λ g. g.type_code) (sym float))
-    (same_number c f.type_code)
+pairs_fit-decides : (a : Assertion) (f : Frame) (es : List Expression) → Decides (pairs_fit a f es) (PairsFit a f es)
+pairs_fit-decides a f es =
+    let s = substitution f.floats es in
+    let test : ℕ × ℕ → Bool = λ q. are_apart a.pairs (replacement s q.0) (replacement s q.1) in
+    Decides-by_and test (λ q. AreApart a.pairs (replacement s q.0) (replacement s q.1)) (list_all test)
+    (λ q. apart-all a.pairs (replacement s q.0) (replacement s q.1)) refl (λ _ _. refl) f.pairs
 
-have_types : (p : Tables) (floats : List ℕ) (es : List Expression) → Decided (HaveTypes p floats es)
-have_types p [] es = inl tt
-have_types p (i ∷ is) [] = inr (λ h. h)
-have_types p (i ∷ is) (e ∷ es) = both (has_type p i e _ _ refl refl) (have_types p is es)
+-- ---- citations
 
-pub same_expression : (d e : Expression) → Decided (d ≡ e)
-same_expression d e = decided (pointwise eq-value.it d e) (slice_eq-Decides symbol_decides d e _ refl)
+-- what a citation comes to: the expression that it gives, or the first test that fails
+abbrev pub IsCited : Tables → Assertion → Frame → List Expression → Result Expression ProofFaultKind → Type 0
+IsCited p a f es (Ok e) = Gives p a f es e
+IsCited p a f es (Err kind) = FailsTest p a f es kind
 
-same_expressions : (ds es : List Expression) → Decided (ds ≡ es)
-same_expressions ds es =
-    decided (pointwise (pointwise eq-value.it) ds es) (slice_eq-Decides (λ d e. slice_eq-Decides symbol_decides d e _ refl) ds es _ refl)
+unless : (C : Result Expression ProofFaultKind → Type 0) {P : Type 0} (b : Bool) (kind : ProofFaultKind)
+    (later : Result Expression ProofFaultKind) → Decides b P → ((P → ⊥) → C (Err kind)) → (P → C later) → C (cond (not b) (Err kind) later)
+unless C true kind later d fails passes = passes (d.0 refl)
+unless C false kind later d fails passes = fails (not_from_Decides false d refl)
 
-module _ (p : Tables) (a : Assertion) (f : Frame) where
-  -- a node gives an expression, or a test is the first to fail
-  pub node-decided : (args : List Expression) → length args ≡ arity f
-      → ((e : Expression) × Gives p a f args e) ⊎ ((kind : ProofFaultKind) × FailsTest p a f args kind)
-  node-decided args n =
-      types (have_types p f.floats args)
-    where
-      long : TypesFit p f args → HypothesesFit f args → PairsFit a f args → Decided (65535 < length (conclusion f args))
-          → ((e : Expression) × Gives p a f args e) ⊎ ((kind : ProofFaultKind) × FailsTest p a f args kind)
-      long t h d (inl lt) = inr (TooLong, (t, h, d, lt))
-      long t h d (inr not_long) =
-          inl (conclusion f args, record { one_each = n; types = t; hypotheses = h; pairs = d; is_conclusion = refl; short = omega arith })
+too_long : (p : Tables) (a : Assertion) (f : Frame) (es : List Expression) (b : Bool) → length es ≡ arity f
+    → Decides b (65535 < length (conclusion f es)) → TypesFit p f es → HypothesesFit f es → PairsFit a f es
+    → IsCited p a f es (cond b (Err TooLong) (Ok (conclusion f es)))
+too_long p a f es true n d t h k = (t, h, k, d.0 refl)
+too_long p a f es false n d t h k =
+    let short : length (conclusion f es) ≤ 65535 = omega (arith, not_from_Decides false d refl) in
+    record { one_each = n; types = t; hypotheses = h; pairs = k; is_conclusion = refl; short = short }
 
-      pairs : TypesFit p f args → HypothesesFit f args → Decided (PairsFit a f args)
-          → ((e : Expression) × Gives p a f args e) ⊎ ((kind : ProofFaultKind) × FailsTest p a f args kind)
-      pairs t h (inl d) = long t h d (decided _ (Decides-ltb 65535 (length (conclusion f args))))
-      pairs t h (inr k) = inr (NotDisjoint, (t, h, k))
-
-      hyps : TypesFit p f args → Decided (HypothesesFit f args)
-          → ((e : Expression) × Gives p a f args e) ⊎ ((kind : ProofFaultKind) × FailsTest p a f args kind)
-      hyps t (inl h) = pairs t h (each
-          (λ q. AreApart a.pairs (replacement (substitution f.floats args) q.0) (replacement (substitution f.floats args) q.1))
-          (λ q. are_apart a.pairs _ _) f.pairs)
-      hyps t (inr k) = inr (HypothesisDiffers, (t, k))
-
-      types : Decided (TypesFit p f args) → ((e : Expression) × Gives p a f args e) ⊎ ((kind : ProofFaultKind) × FailsTest p a f args kind)
-      types (inl t) = hyps t (same_expressions _ _)
-      types (inr k) = inr (WrongType, k)
-
-pub decided_lt : (m n : ℕ) → Decided (m < n)
-decided_lt m n = decided _ (Decides-ltb m n)
+pub cited-is : (p : Tables) (a : Assertion) (f : Frame) (es : List Expression) → length es ≡ arity f → IsCited p a f es (cited p a f es)
+cited-is p a f es n =
+    let C = λ (r : Result Expression ProofFaultKind). IsCited p a f es r in
+    unless C (types_fit p f.floats es) WrongType _ (types-decide p f.floats es) (λ no. no)
+    (λ t. unless C (hypotheses_fit f es) HypothesisDiffers _ (hypotheses-decide f es) (λ no. (t, no))
+    (λ h. unless C (pairs_fit a f es) NotDisjoint _ (pairs_fit-decides a f es) (λ no. (t, h, no))
+    (λ k. too_long p a f es _ n (Decides-ltb 65535 (length (conclusion f es))) t h k)))

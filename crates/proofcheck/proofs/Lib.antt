@@ -9,6 +9,6 @@ pub mod Relabelling
 pub mod OneFault
 pub mod OneTree
 pub mod Decisions
-pub mod Verdict
+pub mod Growing
 pub mod Exact
 pub mod Outcome

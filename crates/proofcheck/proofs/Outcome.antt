@@ -1,32 +1,18 @@
--- What the steps of an assertion come to, as a function: their tree, or their fault. It is defined by the decision, so crates above
--- name it in their definitions, and know it by its laws alone.
-use Rattle.std.proofs.Common.{◌≡◌, ⊎_elim, inl, inr, ap, sym, ◌∙◌, Result, Ok, Err}
-use Rattle.std.specs.Prelude.{MatchResult}
+-- What the steps of an assertion come to is one: their tree, or their fault.
+use Rattle.std.proofs.Common.{◌≡◌, ap, sym, ◌∙◌, Result, Ok, Err}
 use Rattle.mmsyntax.specs.declared.statement.Assertion.{Assertion}
 use Rattle.mmsyntax.specs.Tables.{Tables}
 use Rattle.proofcheck.specs.declared.fault.ProofFault.{ProofFault}
 use Rattle.proofcheck.specs.Derivation.{Citable, Tree, Derives, listing}
 use Rattle.proofcheck.specs.Faults.{HasFault}
+pub use Rattle.proofcheck.specs.Outcomes.{outcome, IsOutcome}
 use Rattle.proofcheck.proofs.OneFault.{fault-is-one, fault-excludes-proof}
 use Rattle.proofcheck.proofs.OneTree.{tree-is-one}
-use Rattle.proofcheck.proofs.Verdict.{Verdict, verdict}
-
--- the tree of which the steps are the listing, where it derives the statement, or the fault
-pub outcome : Citable → Tables → Assertion → Result Tree ProofFault
-outcome lib p a = ⊎_elim (λ h. Ok h.0) (λ f. Err f.0) (verdict lib p a)
-
--- a result is that tree or that fault
-abbrev pub IsOutcome : Citable → Tables → Assertion → Result Tree ProofFault → Type 0
-IsOutcome lib p a r = MatchResult r (λ tree. (listing tree ≡ a.proof) × Derives lib p a tree a.statement) (λ fault. HasFault lib p a fault)
+use Rattle.proofcheck.proofs.Growing.{outcome-grown}
 
 -- the outcome is
 pub outcome-is : (lib : Citable) (p : Tables) (a : Assertion) → IsOutcome lib p a (outcome lib p a)
-unfolding outcome
-outcome-is lib p a = cases (verdict lib p a)
-  where
-    cases : (v : Verdict lib p a) → IsOutcome lib p a (⊎_elim (λ h. Ok h.0) (λ f. Err f.0) v)
-    cases (inl h) = (h.1, h.2)
-    cases (inr f) = f.1
+outcome-is lib p a = outcome-grown lib p a
 
 -- and nothing else is: there is one outcome
 pub outcome-is-one : (lib : Citable) (p : Tables) (a : Assertion) (r s : Result Tree ProofFault) → IsOutcome lib p a r

@@ -1,5 +1,5 @@
 -- Laws of proofs: a listing has one tree, a proof one fault, and a change of labels keeps what is derived.
-use Rattle.std.specs.Prelude.{◌≡◌, ◌≢◌, ℕ, All, List, ◌⊎◌, Some, Contains, map, nat_eq, if◌then◌else◌}
+use Rattle.std.specs.Prelude.{◌≡◌, ◌≢◌, ℕ, All, List, ◌⊎◌, Some, Contains, Result, map, nat_eq, if◌then◌else◌}
 use Rattle.std.specs.Cmp.Lexicographic.{pointwise}
 use Rattle.mmsyntax.specs.Tables.{Tables}
 use Rattle.mmsyntax.specs.declared.statement.Frame.{Frame}
@@ -11,6 +11,7 @@ use Rattle.proofcheck.specs.declared.fault.ProofFault.{ProofFault}
 use Rattle.proofcheck.specs.Derivation.{Expression, Citable, Tree, Trees, float, hyp, node, none, some, Derives, listing, Proves}
 use Rattle.proofcheck.specs.Faults.{HasFault}
 use Rattle.proofcheck.specs.Databases.{frame_in}
+use Rattle.proofcheck.specs.Outcomes.{IsOutcome, outcome}
 
 -- a proof has at most one fault, and none where its steps list a tree that derives the statement
 abbrev pub FaultIsOne : Type 0
@@ -26,6 +27,21 @@ abbrev pub TreeIsOne : Type 0
 TreeIsOne =
     (lib : Citable) (p : Tables) (a : Assertion) (t u : Tree) (d e : Expression) → Derives lib p a t d → Derives lib p a u e
     → listing t ≡ listing u → (t ≡ u) × (d ≡ e)
+
+-- a proof has one outcome: its tree or its fault, and no other
+abbrev pub OutcomeIsOne : Type 0
+OutcomeIsOne =
+    (lib : Citable) (p : Tables) (a : Assertion) (r s : Result Tree ProofFault) → IsOutcome lib p a r → IsOutcome lib p a s → r ≡ s
+
+-- and it is what a forest comes to that grows step by step
+abbrev pub OutcomeIsGrown : Type 0
+OutcomeIsGrown = (lib : Citable) (p : Tables) (a : Assertion) → IsOutcome lib p a (outcome lib p a)
+
+-- over what may be cited only the labels count that the steps cite
+abbrev pub OutcomeByCited : Type 0
+OutcomeByCited =
+    (lib lib' : Citable) (p : Tables) (a : Assertion) → ((label : List ℕ) → Contains a.proof (Cite label) → lib label ≡ lib' label)
+    → outcome lib p a ≡ outcome lib' p a
 
 abbrev mutual
   -- the tree with its labels changed

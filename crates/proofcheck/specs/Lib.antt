@@ -5,3 +5,4 @@ pub mod Moves
 pub mod Databases
 pub mod Laws
 pub mod Held
+pub mod Outcomes

@@ -1,7 +1,8 @@
 //! The transactions of the threads.
 #![tactic(auto)]
 
-ghost use Rattle.std.specs.Prelude.{◌≡◌, ◌+◌, ◌*◌, ◌<◌, ◌≤◌, None, true, All, IfSome, IfOk, length};
+ghost use Rattle.std.specs.Prelude.{false, ◌≡◌, ◌+◌, ◌*◌, ◌<◌, ◌≤◌, None, true, All, IfSome, IfOk, length};
+ghost use Rattle.tlwords.specs.Callers.{AreOfOneOpening};
 ghost use Rattle.tlwords.specs.Plays.{IsSameSeat};
 ghost use denote.Param.Send.{IsSync};
 ghost use Rattle.tlwords.specs.declared.mode.Mode.TheVariants.{Writing};
@@ -26,7 +27,7 @@ impl Law for Anything {
 
     type Note = ();
 
-    ghost terms = { record { lawful = λ _ _ _ _ _. Unit {0}; opens = λ _ _ _. Unit {0}; ranged = λ _ _. ⊥ } };
+    ghost terms = { record { lawful = λ _ _ _ _ _. Unit {0}; opens = λ _ _ _. Unit {0}; ranged = λ _ _. false } };
 }
 
 /// What came of the transactions.
@@ -66,7 +67,7 @@ struct Worker<'w> {
     pass: Pass<Anything>,
     picks: Picks,
     shape: Shape,
-    ghost fits: { (pass.seat.table_id ≡ words.now.table.shared.table_id) × (words.now.cells ≡ length pass.seat.me.0.base) × (words.now.room ≡ pass.seat.me.0.room) },
+    ghost fits: { AreOfOneOpening words.now pass },
     ghost within: { (picks.first + picks.span ≤ words.now.cells) × (0 < picks.span) },
 }
 
@@ -105,9 +106,9 @@ fn attempt(
     picks: &mut Picks,
     shape: Shape,
 ) -> (Pass<Anything>, bool)
-    requires fits { (pass.seat.table_id ≡ words.now.table.shared.table_id) × (words.now.cells ≡ length pass.seat.me.0.base) × (words.now.room ≡ pass.seat.me.0.room) }
+    requires fits { AreOfOneOpening words.now pass }
     requires picks { (picks.old.first + picks.old.span ≤ words.now.cells) × (0 < picks.old.span) }
-    ensures fits { (result.0.seat.table_id ≡ words.now.table.shared.table_id) × (words.now.cells ≡ length result.0.seat.me.0.base) × (words.now.room ≡ result.0.seat.me.0.room) }
+    ensures fits { AreOfOneOpening words.now result.0 }
     ensures picks { (picks.new.first ≡ picks.old.first) × (picks.new.span ≡ picks.old.span) }
 {
     let Shape { reads, writes } = shape;
@@ -225,7 +226,7 @@ fn opened(
     threads: usize,
 ) -> Option<(Words<Anything>, Vec<Pass<Anything>>)>
     ensures cells { IfSome result (λ r. r.0.cells ≡ cells) }
-    ensures passes { IfSome result (λ r. All (λ p. (p.seat.table_id ≡ r.0.table.shared.table_id) × (r.0.cells ≡ length p.seat.me.0.base) × (r.0.room ≡ p.seat.me.0.room)) r.1.items) }
+    ensures passes { IfSome result (λ r. All (λ p. AreOfOneOpening r.0 p) r.1.items) }
 {
     let values = zeros(alloc, cells).ok()?;
     open::<Anything>(alloc, &(), values.as_slice(), &[], 0, threads).ok()
@@ -240,8 +241,8 @@ fn hired<'w>(
 ) -> Option<Worker<'w>>
     requires cells { words.now.cells ≡ task.now.cells }
     requires thread { thread < size task.now.team }
-    requires passes { All (λ p. (p.seat.table_id ≡ words.now.table.shared.table_id) × (words.now.cells ≡ length p.seat.me.0.base) × (words.now.room ≡ p.seat.me.0.room)) passes.old.items }
-    ensures { All (λ p. (p.seat.table_id ≡ words.now.table.shared.table_id) × (words.now.cells ≡ length p.seat.me.0.base) × (words.now.room ≡ p.seat.me.0.room)) passes.new.items }
+    requires passes { All (λ p. AreOfOneOpening words.now p) passes.old.items }
+    ensures { All (λ p. AreOfOneOpening words.now p) passes.new.items }
 {
     let pass = passes.pop()?;
     Some(Worker {
@@ -261,8 +262,8 @@ fn hired_pair<'w>(
 ) -> Option<(Worker<'w>, Worker<'w>)>
     requires cells { words.now.cells ≡ task.now.cells }
     requires thread { thread + 1 < size task.now.team }
-    requires passes { All (λ p. (p.seat.table_id ≡ words.now.table.shared.table_id) × (words.now.cells ≡ length p.seat.me.0.base) × (words.now.room ≡ p.seat.me.0.room)) passes.old.items }
-    ensures { All (λ p. (p.seat.table_id ≡ words.now.table.shared.table_id) × (words.now.cells ≡ length p.seat.me.0.base) × (words.now.room ≡ p.seat.me.0.room)) passes.new.items }
+    requires passes { All (λ p. AreOfOneOpening words.now p) passes.old.items }
+    ensures { All (λ p. AreOfOneOpening words.now p) passes.new.items }
 {
     let first = hired(words, passes, task, thread)?;
     let second = hired(words, passes, task, thread + 1)?;
@@ -277,7 +278,7 @@ fn run_team(
     task: &Task,
 ) -> Option<u64>
     requires cells { words.now.cells ≡ task.now.cells }
-    requires passes { All (λ p. (p.seat.table_id ≡ words.now.table.shared.table_id) × (words.now.cells ≡ length p.seat.me.0.base) × (words.now.room ≡ p.seat.me.0.room)) passes.items }
+    requires passes { All (λ p. AreOfOneOpening words.now p) passes.items }
 {
     let count = task.transactions;
     match task.team {

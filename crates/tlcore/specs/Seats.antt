@@ -34,6 +34,30 @@ number_at (Storing i) = Some i
 number_at Failing = None
 number_at (Voiding i) = Some i
 
+-- no run, or one outside a read that holds no cell
+abbrev pub is_resting : Place → Bool
+is_resting Idle = true
+is_resting Reading = true
+is_resting (Looked c word) = false
+is_resting (Loaded c word value) = false
+is_resting Taking = false
+is_resting (Checking i upto) = false
+is_resting (Storing i) = false
+is_resting Failing = false
+is_resting (Voiding i) = false
+
+-- a run outside a read that holds no cell
+abbrev pub is_reading : Place → Bool
+is_reading Idle = false
+is_reading Reading = true
+is_reading (Looked c word) = false
+is_reading (Loaded c word value) = false
+is_reading Taking = false
+is_reading (Checking i upto) = false
+is_reading (Storing i) = false
+is_reading Failing = false
+is_reading (Voiding i) = false
+
 -- ---- the lock word
 
 -- a lock word is twice its version, and one more where it is locked. A look passes where it is free and of version at most rv

@@ -21,6 +21,9 @@ mod sets;
 mod theorem;
 
 pub use crate::actions::Action;
+pub use crate::cells::Cell;
+pub use crate::entries::Status;
 pub use crate::machine::{World, step};
 pub use crate::schedules::{Ran, run_schedule};
+pub use crate::seats::{Held, Place, Read};
 pub use crate::theorem::{every_event, every_schedule};

@@ -5,7 +5,8 @@ use Rattle.std.specs.Option.{option_map}
 use Rattle.tlcore.specs.Seats.{Seat, find_read, is_held, is_settled, settled_below, all_settled, is_due, is_next, passes}
 use Rattle.tlcore.specs.Machine.{placed, conflict}
 use Rattle.tlcore.proofs.Lists.{option_known, get_within}
-use Rattle.tlcore.proofs.Words.{SeatRead, at_checking, at_voiding}
+use Rattle.tlcore.specs.declared.seats.Read.{Read}
+use Rattle.tlcore.specs.declared.seats.Place.TheVariants.{Checking, Voiding}
 use Rattle.tlwords.specs.declared.log.Slot.{Slot}
 use Rattle.tlwords.specs.Terms.{Terms}
 use Rattle.tlwords.specs.Views.{View}
@@ -25,7 +26,7 @@ or_right true b e = refl
 or_right false b e = e
 
 -- what holds of each cell that was read holds of each read
-reads_all : (p : ℕ → Bool) (rs : List SeatRead) → ((c : ℕ) → is_some (find_read c rs) ≡ true → p c ≡ true) → list_all (λ r. p r.cell) rs ≡ true
+reads_all : (p : ℕ → Bool) (rs : List Read) → ((c : ℕ) → is_some (find_read c rs) ≡ true → p c ≡ true) → list_all (λ r. p r.cell) rs ≡ true
 reads_all p [] each = refl
 reads_all p (r ∷ rs) each =
     λ j. here j && reads_all p rs (λ c e. each c (more c e)) j
@@ -65,17 +66,17 @@ unwanted_keeps slots c r e = go (was_read slots c) (value_kept slots c) r e
 
 module _ {S N : Type 0} (terms : Terms S N) (slots : List Slot) (cells : List ℕ) (i : ℕ) (m : Mine S N)
     (k : IsKeptOf m.0.seat slots cells) where
-  pub check_starts : m.0.seat.place ≡ at_checking i 0 → Goes terms m (placed m.0.seat (at_checking i 0)) m
-  check_starts e = goes_start terms m (placed m.0.seat (at_checking i 0)) (λ j. let t : Seat = record m.0.seat { place = sym e j } in t)
+  pub check_starts : m.0.seat.place ≡ Checking i 0 → Goes terms m (placed m.0.seat (Checking i 0)) m
+  check_starts e = goes_start terms m (placed m.0.seat (Checking i 0)) (λ j. let t : Seat = record m.0.seat { place = sym e j } in t)
 
-  pub check_skips : m.0.seat.place ≡ at_checking i 0 → i ≡ m.0.seat.rv → Passes terms i m m
+  pub check_skips : m.0.seat.place ≡ Checking i 0 → i ≡ m.0.seat.rv → Passes terms i m m
   check_skips e n =
       record { upto = 0; goes = check_starts e; may = or_left (is_next m.0.seat i) (all_settled m.0.seat.held 0 m.0.seat.reads) (eq-eqb (suc m.0.seat.rv) (suc i) (ap suc (sym n))) }
 
   found_reads : (c : ℕ) → is_some (find_read c m.0.seat.reads) ≡ true → was_read slots c ≡ true
   found_reads c e = ap is_some (k.0 c) ∙ go (find_read c m.0.seat.reads) e
     where
-      go : (o : Option SeatRead) → is_some o ≡ true → is_some (option_map (λ (r : SeatRead). r.word) o) ≡ true
+      go : (o : Option Read) → is_some o ≡ true → is_some (option_map (λ (r : Read). r.word) o) ≡ true
       go None e = e
       go (Some r) e = refl
 
@@ -87,9 +88,9 @@ module _ {S N : Type 0} (terms : Terms S N) (slots : List Slot) (cells : List �
         or_left (is_held x m.0.seat.held) (nat_lt x low) (ap (is_held x) held ∙ held_yes slots 0 0 (length slots) x v.0 (omega arith) (read_within slots x r) v.1))
         (λ (a : x < low). or_right (is_held x m.0.seat.held) (nat_lt x low) (lt_yes x low a)) (le_cases low x)
 
-    module _ (r : Mine S N) (g : Goes terms m (placed m.0.seat (at_checking i low)) r) where
+    module _ (r : Mine S N) (g : Goes terms m (placed m.0.seat (Checking i low)) r) where
       pub check_place : (c : ℕ) → low ≤ c → is_wanted slots false c ≡ true → NoneWanted slots false low c → i ≢ m.0.seat.rv
-          → (j : ℕ) × (upto : ℕ) × (r.0.seat.place ≡ at_checking j upto) × (is_next r.0.seat j ≡ false) × (is_due r.0.seat upto c ≡ true)
+          → (j : ℕ) × (upto : ℕ) × (r.0.seat.place ≡ Checking j upto) × (is_next r.0.seat j ≡ false) × (is_due r.0.seat upto c ≡ true)
       check_place c l w front ne = (
         i,
         low,
@@ -98,8 +99,8 @@ module _ {S N : Type 0} (terms : Terms S N) (slots : List Slot) (cells : List �
         ap (λ (t : Seat). is_due t low c) at ∙ (λ j. not (open_still j) && rest j),
       )
         where
-          at : r.0.seat ≡ placed m.0.seat (at_checking i low)
-          at = goes_seat terms m r (placed m.0.seat (at_checking i low)) g
+          at : r.0.seat ≡ placed m.0.seat (Checking i low)
+          at = goes_seat terms m r (placed m.0.seat (Checking i low)) g
 
           open_still : is_settled m.0.seat.held low c ≡ false
           open_still =
@@ -122,22 +123,22 @@ module _ {S N : Type 0} (terms : Terms S N) (slots : List Slot) (cells : List �
 
       module _ (c n : ℕ) (s : Mine S N) (t : Checks terms c r n s) where
         looks : s.0 ≡ record r.0 { seen = s.0.seen; seat = after_check r.0.seat i c n; looked = Some (c, n) }
-        looks = t.is i low (ap (λ (t : Seat). t.place) (goes_seat terms m r (placed m.0.seat (at_checking i low)) g))
+        looks = t.is i low (ap (λ (t : Seat). t.place) (goes_seat terms m r (placed m.0.seat (Checking i low)) g))
 
-        pub check_goes : n % 2 ≡ 0 → n / 2 ≤ m.0.seat.rv → Goes terms m (placed m.0.seat (at_checking i (c + 1))) s
+        pub check_goes : n % 2 ≡ 0 → n / 2 ≤ m.0.seat.rv → Goes terms m (placed m.0.seat (Checking i (c + 1))) s
         check_goes even l =
-            goes_by terms (λ (t : Seat). after_check t i c n) (Some (c, n)) m r s (placed m.0.seat (at_checking i low))
-            (placed m.0.seat (at_checking i (c + 1))) g t.sees looks
-            (if_true (passes n m.0.seat.rv) (placed m.0.seat (at_checking i (suc c))) (conflict (placed m.0.seat (at_checking i low)) (at_voiding i)) (passes_true n m.0.seat.rv even l)
-            ∙ ap (λ (x : ℕ). placed m.0.seat (at_checking i x)) (let a : suc c ≡ c + 1 = omega arith in a))
+            goes_by terms (λ (t : Seat). after_check t i c n) (Some (c, n)) m r s (placed m.0.seat (Checking i low))
+            (placed m.0.seat (Checking i (c + 1))) g t.sees looks
+            (if_true (passes n m.0.seat.rv) (placed m.0.seat (Checking i (suc c))) (conflict (placed m.0.seat (Checking i low)) (Voiding i)) (passes_true n m.0.seat.rv even l)
+            ∙ ap (λ (x : ℕ). placed m.0.seat (Checking i x)) (let a : suc c ≡ c + 1 = omega arith in a))
 
         pub check_fails : (w : ℕ) (b : Option ℕ) → b ≡ Some w → word_seen slots c ≡ Some w → HasCause m.0.seat.rv n
             → FailsTheCheck terms slots i (record { cell = c; word = n; before = b }) m s
         check_fails w b is f cause =
             record {
-              goes = goes_by terms (λ (t : Seat). after_check t i c n) (Some (c, n)) m r s (placed m.0.seat (at_checking i low))
-                  (conflict m.0.seat (at_voiding i)) g t.sees looks
-                  (if_false (passes n m.0.seat.rv) (placed m.0.seat (at_checking i (suc c))) (conflict (placed m.0.seat (at_checking i low)) (at_voiding i)) (passes_false n m.0.seat.rv cause));
+              goes = goes_by terms (λ (t : Seat). after_check t i c n) (Some (c, n)) m r s (placed m.0.seat (Checking i low))
+                  (conflict m.0.seat (Voiding i)) g t.sees looks
+                  (if_false (passes n m.0.seat.rv) (placed m.0.seat (Checking i (suc c))) (conflict (placed m.0.seat (Checking i low)) (Voiding i)) (passes_false n m.0.seat.rv cause));
               finds = record { looked = ap (λ (v : View S N). v.looked) looks; written = t.written; before = f ∙ sym is };
               cause = cause;
             }

@@ -16,8 +16,14 @@ use Rattle.tlcore.specs.Laws.{Leads, Keeps}
 use Rattle.tlcore.proofs.Laws.{take_leads, draw_leads, check_leads, store_leads, release_leads, release_failed_leads, release_void_leads}
 use Rattle.tlcore.proofs.Lists.{get-append_cases, get-append_seam, get-append_left, get-set_same, get_within, length-append_one, length-slice_set}
 use Rattle.tlcore.proofs.Settling.{length-settle, get-settle_same}
-use Rattle.tlcore.proofs.Words.{CellWords, SeatRead, SeatHeld, SeatPlace, is_open, is_landed, is_void, landed_not_open, void_not_open, at_idle, at_reading, at_taking, at_checking, at_storing, at_failing, at_voiding, is_looking, not_looking}
-use Rattle.tlwords.specs.Ranges.{Range, Has, Names}
+use Rattle.tlcore.specs.declared.entries.Status.TheVariants.{Open, Done, Void}
+use Rattle.tlcore.specs.declared.cells.Cell.{Cell}
+use Rattle.tlcore.specs.declared.seats.Read.{Read}
+use Rattle.tlcore.specs.declared.seats.Held.{Held}
+use Rattle.tlcore.specs.declared.seats.Place.{Place}
+use Rattle.tlcore.specs.declared.seats.Place.TheVariants.{Idle, Reading, Taking, Checking, Storing, Failing, Voiding}
+use Rattle.tlcore.proofs.Words.{landed_not_open, void_not_open, is_looking, not_looking}
+use Rattle.ranges.specs.Ranges.{Range, Has, Names}
 use Rattle.tlwords.specs.Terms.{Terms, Permits}
 use Rattle.tlwords.specs.Seen.{Call, Committed, Seen, SeenGrows, IsSettled, IsDone, Agree}
 use Rattle.tlwords.specs.Views.{View, tells, Sound}
@@ -36,26 +42,26 @@ if_true b x y e = ap (λ (b : Bool). if b then x else y) e
 if_false : {A : Type 0} (b : Bool) (x y : A) → b ≡ false → (if b then x else y) ≡ y
 if_false b x y e = ap (λ (b : Bool). if b then x else y) e
 
-place_known : (P : SeatPlace → Type 0) (b : Bool) (x y : SeatPlace) → (b ≡ true → P x) → (b ≡ false → P y) → P (if b then x else y)
+place_known : (P : Place → Type 0) (b : Bool) (x y : Place) → (b ≡ true → P x) → (b ≡ false → P y) → P (if b then x else y)
 place_known P true x y f g = f refl
 place_known P false x y f g = g refl
 
 -- ---- Take
 
 module _ {S N : Type 0} (terms : Terms S N) (setting : S) (base : List ℕ) (room : ℕ) where
-  pub takes : (slots id c value old new : ℕ) (me : Mine S N) (y : S) → me.0.setting ≡ Some y → c < length me.0.base
-      → (me.0.seat.place ≡ at_reading) ⊎ ((me.0.seat.place ≡ at_taking) × (all_below c me.0.seat.held ≡ true))
-      → (d : SeatRead) → find_read c me.0.seat.reads ≡ Some d → d.word ≡ old → new ≡ old + 1
-      → Allows (Ruled terms setting base room) slots id me (lock_at c) (λ n. either (eqb n old) new n)
+  pub takes : (opened : List ℕ) (slots id c value old new : ℕ) (me : Mine S N) (y : S) → me.0.setting ≡ Some y → c < length me.0.base
+      → (me.0.seat.place ≡ Reading) ⊎ ((me.0.seat.place ≡ Taking) × (all_below c me.0.seat.held ≡ true))
+      → (d : Read) → find_read c me.0.seat.reads ≡ Some d → d.word ≡ old → new ≡ old + 1
+      → Allows (Ruled terms setting base room opened) slots id me (lock_at c) (λ n. either (eqb n old) new n)
       (took terms value (step slots (lock_at c) old new none) me)
-  takes slots id c value old new me y set l p d read word up =
-      lifted terms setting base room slots id (lock_at c) me (λ n. either (eqb n old) new n)
+  takes opened slots id c value old new me y set l p d read word up =
+      lifted terms setting base room opened slots id (lock_at c) me (λ n. either (eqb n old) new n)
       (took terms value (step slots (lock_at c) old new none) me) λ ranges ws vs r at.
       let v : View S N = me.0 in
       let t : Seat = v.seat in
       let w : World = r.world in
       let n : ℕ = slice_index ws (lock_at c) in
-      let x : (x : CellWords) × (slice_get w.cells c ≡ Some x) = cell_in terms setting base room ranges ws vs r id v at y set c l in
+      let x : (x : Cell) × (slice_get w.cells c ≡ Some x) = cell_in terms setting base room ranges ws vs r id v at y set c l in
       let is : n ≡ (x.0).lock = lock_word ws w r.words_are c x.0 x.1 in
       let e : slice_get w.seats id ≡ Some t = seat_at terms setting base room ranges ws vs r id v at in
       let lead : Leads base w id (Take c value) (take_cell w id t c value d.word x.0) = take_leads base w id t c value d x.0 r.invariant e p read x.1 in
@@ -64,11 +70,11 @@ module _ {S N : Type 0} (terms : Terms S N) (setting : S) (base : List ℕ) (roo
       let z : Seat = after_take t c value old n in
       let u : View S N = record v { seen = h; seat = z; looked = Some (c, n) } in
       let f : Suits terms setting base room h r.owner v = r.suits id v at in
-      let held : Seat = record t { place = at_taking; held = record { cell = c; word = old; value = value; stored = false } ∷ t.held } in
-      let lost : Seat = conflict t (if is_nil t.held then at_idle else at_failing) in
+      let held : Seat = record t { place = Taking; held = record { cell = c; word = old; value = value; stored = false } ∷ t.held } in
+      let lost : Seat = conflict t (if is_nil t.held then Idle else Failing) in
       let none_now : (k : ℕ) → number_at t.place ≡ Some k → ⊥ = λ k a.
-      ⊎_elim (λ (b : t.place ≡ at_reading). no_number t.place at_reading k b refl a)
-      (λ (b : (t.place ≡ at_taking) × (all_below c t.held ≡ true)). no_number t.place at_taking k b.0 refl a) p in
+      ⊎_elim (λ (b : t.place ≡ Reading). no_number t.place Reading k b refl a)
+      (λ (b : (t.place ≡ Taking) × (all_below c t.held ≡ true)). no_number t.place Taking k b.0 refl a) p in
       let P : ℕ → Seat → Type 0 = λ k z.
       Rule terms setting base room ranges (slice_set ws (lock_at c) k) (slice_set vs id (record v { seen = h; seat = z; looked = Some (c, n) }))
       × Sees terms v (record v { seen = h; seat = z; looked = Some (c, n) }) in
@@ -84,8 +90,8 @@ module _ {S N : Type 0} (terms : Terms S N) (setting : S) (base : List ℕ) (roo
       (goes terms setting base room ranges ws vs r id v at (slice_set ws (lock_at c) new) world held v.runs (Some (c, n)) v.mine v.told
       (named_locked terms setting base room ranges ws vs r c (suc old) x.0 x.1) keep' refl words
       (length-slice_set w.cells c (record x.0 { lock = suc old })) refl (λ a. a) f.told
-      (λ k a. absurd (none_now k a)) (λ k a. absurd (no_number at_taking at_taking k refl refl a))
-      (λ d o a b. absurd (not_looking at_taking refl d o a b))))
+      (λ k a. absurd (none_now k a)) (λ k a. absurd (no_number Taking Taking k refl refl a))
+      (λ d o a b. absurd (not_looking Taking refl d o a b))))
       (λ miss.
       let b : ((x.0).lock == old) ≡ false = ne_eqb (x.0).lock old (λ a. miss (is ∙ a)) in
       let keep' : Keeps base w (with_seat w id lost) =
@@ -93,10 +99,10 @@ module _ {S N : Type 0} (terms : Terms S N) (setting : S) (base : List ℕ) (roo
       subst (λ (z : Seat). P n z) (sym (if_false (n == old) held lost (ne_eqb n old miss)))
       (quiet terms setting base room ranges ws vs r id v at (lock_at c) lost v.runs (Some (c, n)) v.told keep' f.told
       (λ k a. absurd (none_now k a))
-      (λ k a. absurd (place_known (λ (z : SeatPlace). number_at z ≡ Some k → ⊥) (is_nil t.held) at_idle at_failing
-      (λ _ b. no_number at_idle at_idle k refl refl b) (λ _ b. no_number at_failing at_failing k refl refl b) a))
-      (place_known (λ (z : SeatPlace). LookIsFresh w.history (conflict t z)) (is_nil t.held) at_idle at_failing
-      (λ _ d o a b. absurd (not_looking at_idle refl d o a b)) (λ _ d o a b. absurd (not_looking at_failing refl d o a b)))
+      (λ k a. absurd (place_known (λ (z : Place). number_at z ≡ Some k → ⊥) (is_nil t.held) Idle Failing
+      (λ _ b. no_number Idle Idle k refl refl b) (λ _ b. no_number Failing Failing k refl refl b) a))
+      (place_known (λ (z : Place). LookIsFresh w.history (conflict t z)) (is_nil t.held) Idle Failing
+      (λ _ d o a b. absurd (not_looking Idle refl d o a b)) (λ _ d o a b. absurd (not_looking Failing refl d o a b)))
       (record v { seen = h; seat = lost; looked = Some (c, n) }) refl)) in (
         lock_within ws w r.words_are c x.0 x.1,
         u,
@@ -114,7 +120,7 @@ has_snoc k x [] (inr h) = absurd h
 has_snoc k x (y ∷ xs) (inl e) = inl (inl e)
 has_snoc k x (y ∷ xs) (inr more) = ⊎_elim (λ (h : Has k xs). inl (inr h)) (λ (e : k ≡ x). inr e) (has_snoc k x xs more)
 
-checking_same : (n i : ℕ) → number_at (at_checking n 0) ≡ Some i → n ≡ i
+checking_same : (n i : ℕ) → number_at (Checking n 0) ≡ Some i → n ≡ i
 checking_same n i e = cc
 
 module _ {S N : Type 0} (terms : Terms S N) (setting : S) (base : List ℕ) (room : ℕ) where
@@ -165,12 +171,12 @@ module _ {S N : Type 0} (terms : Terms S N) (setting : S) (base : List ℕ) (roo
           absurd (omega (arith, w, g, len))
       go (inr p) (inr q) = last p q
 
-  pub draws : (slots id : ℕ) (me : Mine S N) (y : S) (note : N) → me.0.setting ≡ Some y → me.0.seat.place ≡ at_taking
+  pub draws : (opened : List ℕ) (slots id : ℕ) (me : Mine S N) (y : S) (note : N) → me.0.setting ≡ Some y → me.0.seat.place ≡ Taking
       → Permits terms y me.0.seen.ranges (reads_of me.0.seat.reads) (writes_of me.0.seat.held) note → writes_of me.0.seat.held ≢ []
       → length me.0.drawn + 1 ≤ 2 ^ 40 * me.0.rights
-      → Allows (Ruled terms setting base room) slots id me 1 (λ n. (n + 1) % 2 ^ 64) (drew terms (Some note) (step slots 1 1 0 none) me)
-  draws slots id me y note set p law some_writes left =
-      lifted terms setting base room slots id 1 me (λ n. (n + 1) % 2 ^ 64)
+      → Allows (Ruled terms setting base room opened) slots id me 1 (λ n. (n + 1) % 2 ^ 64) (drew terms (Some note) (step slots 1 1 0 none) me)
+  draws opened slots id me y note set p law some_writes left =
+      lifted terms setting base room opened slots id 1 me (λ n. (n + 1) % 2 ^ 64)
       (drew terms (Some note) (step slots 1 1 0 none) me) λ ranges ws vs r at.
       let v : View S N = me.0 in
       let t : Seat = v.seat in
@@ -186,12 +192,12 @@ module _ {S N : Type 0} (terms : Terms S N) (setting : S) (base : List ℕ) (roo
       let g : Seen N = record { history = w.history; notes = r.notes; ranges = ranges } in
       let notes : List N = r.notes ++ note ∷ [] in
       let h : Seen N = record { history = world.history; notes = notes; ranges = ranges } in
-      let len : length world.history ≡ suc (length w.history) = length-append_one w.history (record { status = is_open; reads = reads_of t.reads; writes = writes_of t.held }) in
+      let len : length world.history ≡ suc (length w.history) = length-append_one w.history (record { status = Open; reads = reads_of t.reads; writes = writes_of t.held }) in
       let count : length notes ≡ suc (length r.notes) = length-append_one r.notes note in
       let same : length r.notes ≡ length w.history = r.notes_are in
       let grow : SeenGrows g h = (lead.keeps.grows, λ i m a. get-append_left r.notes (note ∷ []) i (get_within r.notes i m a) ∙ a, λ x has. has) in
-      let z : Seat = placed t (at_checking n 0) in
-      let zz : z ≡ placed t (at_checking w.clock 0) = ap (λ (k : ℕ). placed t (at_checking k 0)) is in
+      let z : Seat = placed t (Checking n 0) in
+      let zz : z ≡ placed t (Checking w.clock 0) = ap (λ (k : ℕ). placed t (Checking k 0)) is in
       let u : View S N = record v { seen = h; seat = z; note = Some note; drawn = v.drawn ++ suc n ∷ [] } in
       let owner : ℕ → ℕ = λ i. std.cond (eqb i (suc n)) v.name (r.owner i) in
       let old : (i : ℕ) → i ≤ length w.history → owner i ≡ r.owner i = λ i l.
@@ -212,15 +218,15 @@ module _ {S N : Type 0} (terms : Terms S N) (setting : S) (base : List ℕ) (roo
         told = told_grows setting base g h r.owner owner v.told grow old f.told;
         mine = agree_grows terms setting base g h v.mine grow f.mine;
         settled = λ i has. ⊎_elim
-            (λ (a : Has (suc i) v.drawn). ⊎_elim (λ (b : number_at t.place ≡ Some i). absurd (no_number t.place at_taking i p refl b)) (λ (b : IsSettled w.history i). inr (settled_grows w.history world.history i lead.keeps.grows b)) (f.settled i a))
+            (λ (a : Has (suc i) v.drawn). ⊎_elim (λ (b : number_at t.place ≡ Some i). absurd (no_number t.place Taking i p refl b)) (λ (b : IsSettled w.history i). inr (settled_grows w.history world.history i lead.keeps.grows b)) (f.settled i a))
             (λ (a : suc i ≡ suc n). let b : n ≡ i = omega (arith, a) in inl (ap (λ (k : ℕ). Some k) b))
             (has_snoc (suc i) (suc n) v.drawn has);
         noted = λ i a. (note, refl, subst (λ (k : ℕ). slice_get notes k ≡ Some note) (checking_same n i a) there);
-        look = λ d o a b. absurd (not_looking (at_checking n 0) refl d o a b);
+        look = λ d o a b. absurd (not_looking (Checking n 0) refl d o a b);
         few = omega (arith, more, left);
       } in
       let entries : EntriesAre terms setting h =
-      more_entries ranges w.history r.notes (record { status = is_open; reads = reads_of t.reads; writes = writes_of t.held }) note same r.entries
+      more_entries ranges w.history r.notes (record { status = Open; reads = reads_of t.reads; writes = writes_of t.held }) note same r.entries
       (subst (λ (x : S). Permits terms x ranges (reads_of t.reads) (writes_of t.held) note) (f.own.setting_is y set).0
       (permits_grow terms y v.seen.ranges ranges f.own.grows.2 law)) some_writes in
       let wrap : (n + 1) % 2 ^ 64 ≡ suc w.clock = omega (arith, is, clock, few) in
@@ -232,8 +238,8 @@ module _ {S N : Type 0} (terms : Terms S N) (setting : S) (base : List ℕ) (roo
       (ap (λ (k : Seat). slice_set w.seats id k) (sym zz)) words refl grow.1 (omega (arith, count, same, len)) entries old suit refl
       (omega (arith, more, len)) in
       let sound : Sound terms u =
-      sound_of terms setting base room ranges world notes owner id u lead.keeps.invariant entries r.opening r.lie suit
-      (get-set_same w.seats id (placed t (at_checking w.clock 0)) t e ∙ ap (λ (k : Seat). Some k) (sym zz)) refl in
+      sound_of terms setting base room ranges world notes owner id u lead.keeps.invariant (omega (arith, count, same, len)) entries r.opening r.lie suit
+      (get-set_same w.seats id (placed t (Checking w.clock 0)) t e ∙ ap (λ (k : Seat). Some k) (sym zz)) refl in
       let before : length v.seen.history ≤ length w.history = f.own.grows.0.0 in (
         (let l = word_count ws w r.words_are in omega (arith, l)),
         u,
@@ -252,22 +258,22 @@ module _ {S N : Type 0} (terms : Terms S N) (setting : S) (base : List ℕ) (roo
 
 -- ---- Check
 
-checking_is : (i upto j other : ℕ) → at_checking i upto ≡ at_checking j other → i ≡ j
+checking_is : (i upto j other : ℕ) → Checking i upto ≡ Checking j other → i ≡ j
 checking_is i upto j other e = cc
 
 module _ {S N : Type 0} (terms : Terms S N) (setting : S) (base : List ℕ) (room : ℕ) where
-  pub checks : (slots id c i upto : ℕ) (me : Mine S N) (y : S) → me.0.setting ≡ Some y → c < length me.0.base
-      → me.0.seat.place ≡ at_checking i upto → is_next me.0.seat i ≡ false → is_due me.0.seat upto c ≡ true
-      → (d : SeatRead) → find_read c me.0.seat.reads ≡ Some d
-      → Allows (Ruled terms setting base room) slots id me (lock_at c) (λ n. n) (checked terms (step slots (lock_at c) 0 0 none) me)
-  checks slots id c i upto me y set l p further due d read =
-      lifted terms setting base room slots id (lock_at c) me (λ n. n)
+  pub checks : (opened : List ℕ) (slots id c i upto : ℕ) (me : Mine S N) (y : S) → me.0.setting ≡ Some y → c < length me.0.base
+      → me.0.seat.place ≡ Checking i upto → is_next me.0.seat i ≡ false → is_due me.0.seat upto c ≡ true
+      → (d : Read) → find_read c me.0.seat.reads ≡ Some d
+      → Allows (Ruled terms setting base room opened) slots id me (lock_at c) (λ n. n) (checked terms (step slots (lock_at c) 0 0 none) me)
+  checks opened slots id c i upto me y set l p further due d read =
+      lifted terms setting base room opened slots id (lock_at c) me (λ n. n)
       (checked terms (step slots (lock_at c) 0 0 none) me) λ ranges ws vs r at.
       let v : View S N = me.0 in
       let t : Seat = v.seat in
       let w : World = r.world in
       let n : ℕ = slice_index ws (lock_at c) in
-      let x : (x : CellWords) × (slice_get w.cells c ≡ Some x) = cell_in terms setting base room ranges ws vs r id v at y set c l in
+      let x : (x : Cell) × (slice_get w.cells c ≡ Some x) = cell_in terms setting base room ranges ws vs r id v at y set c l in
       let is : n ≡ (x.0).lock = lock_word ws w r.words_are c x.0 x.1 in
       let e : slice_get w.seats id ≡ Some t = seat_at terms setting base room ranges ws vs r id v at in
       let lead : Leads base w id (Check c) (check w id t i c x.0) = check_leads base w id t i upto c d x.0 r.invariant e p further due read x.1 in
@@ -277,13 +283,13 @@ module _ {S N : Type 0} (terms : Terms S N) (setting : S) (base : List ℕ) (roo
       let z : Seat = after_check t i c n in
       let u : View S N = record v { seen = h; seat = z; looked = Some (c, n) } in
       let f : Suits terms setting base room h r.owner v = r.suits id v at in
-      let number : number_at z.place ≡ Some i = if_known (λ (z : Seat). number_at z.place ≡ Some i) (passes n t.rv) (placed t (at_checking i (suc c))) (conflict t (at_voiding i)) (λ _. refl) (λ _. refl) in
+      let number : number_at z.place ≡ Some i = if_known (λ (z : Seat). number_at z.place ≡ Some i) (passes n t.rv) (placed t (Checking i (suc c))) (conflict t (Voiding i)) (λ _. refl) (λ _. refl) in
       let was : number_at t.place ≡ Some i = ap number_at p in
       let q : Rule terms setting base room ranges (slice_set ws (lock_at c) n) (slice_set vs id u) × Sees terms v u =
       quiet terms setting base room ranges ws vs r id v at (lock_at c) z v.runs (Some (c, n)) v.told keep f.told
       (λ k a. number ∙ (sym was ∙ a)) (λ k a. was ∙ (sym number ∙ a))
-      (if_known (λ (z : Seat). LookIsFresh w.history z) (passes n t.rv) (placed t (at_checking i (suc c))) (conflict t (at_voiding i))
-      (λ _ d o a b. absurd (not_looking (at_checking i (suc c)) refl d o a b)) (λ _ d o a b. absurd (not_looking (at_voiding i) refl d o a b))) u refl in (
+      (if_known (λ (z : Seat). LookIsFresh w.history z) (passes n t.rv) (placed t (Checking i (suc c))) (conflict t (Voiding i))
+      (λ _ d o a b. absurd (not_looking (Checking i (suc c)) refl d o a b)) (λ _ d o a b. absurd (not_looking (Voiding i) refl d o a b))) u refl in (
         lock_within ws w r.words_are c x.0 x.1,
         u,
         (refl, refl, refl),
@@ -299,58 +305,58 @@ module _ {S N : Type 0} (terms : Terms S N) (setting : S) (base : List ℕ) (roo
 
 -- ---- Store
 
-storing_is : (i j : ℕ) → at_storing i ≡ at_storing j → i ≡ j
+storing_is : (i j : ℕ) → Storing i ≡ Storing j → i ≡ j
 storing_is i j e = cc
 
-storing_not_checking : (i j upto : ℕ) → at_storing i ≡ at_checking j upto → ⊥
+storing_not_checking : (i j upto : ℕ) → Storing i ≡ Checking j upto → ⊥
 storing_not_checking i j upto e = cc
 
 module _ {S N : Type 0} (terms : Terms S N) (setting : S) (base : List ℕ) (room : ℕ) where
   -- the rule after a store, which adds to the pass's calls what agrees
   stores_go : (ranges : List Range) (ws : List ℕ) (vs : List (View S N)) (r : Rule terms setting base room ranges ws vs) (id : ℕ) (v : View S N) → get_elem? vs id ≡ some v
-      → (c i : ℕ) (k : SeatHeld) (x : CellWords) (mine : List (Call N)) → slice_get (r.world).cells c ≡ Some x
+      → (c i : ℕ) (k : Held) (x : Cell) (mine : List (Call N)) → slice_get (r.world).cells c ≡ Some x
       → Keeps base r.world (store r.world id v.seat i c k x) → number_at v.seat.place ≡ Some i
-      → (terms.ranged setting c → Names ranges k.value)
-      → (Agree terms setting base (record { history = settle (r.world).history i is_landed; notes = r.notes; ranges = ranges }) v.mine
-      → Agree terms setting base (record { history = settle (r.world).history i is_landed; notes = r.notes; ranges = ranges }) mine)
+      → (terms.ranged setting c ≡ true → Names ranges k.value)
+      → (Agree terms setting base (record { history = settle (r.world).history i Done; notes = r.notes; ranges = ranges }) v.mine
+      → Agree terms setting base (record { history = settle (r.world).history i Done; notes = r.notes; ranges = ranges }) mine)
       → (u : View S N)
-      → u ≡ record v { seen = record { history = settle (r.world).history i is_landed; notes = r.notes; ranges = ranges }; seat = after_store v.seat i c; mine = mine }
+      → u ≡ record v { seen = record { history = settle (r.world).history i Done; notes = r.notes; ranges = ranges }; seat = after_store v.seat i c; mine = mine }
       → Rule terms setting base room ranges (slice_set ws (value_at c) k.value) (slice_set vs id u) × Sees terms v u
   stores_go ranges ws vs r id v at c i k x mine f stays number names calls u is =
       let w : World = r.world in
       let world : World = store w id v.seat i c k x in
       let h : Seen N = record { history = world.history; notes = r.notes; ranges = ranges } in
       let suit : Suits terms setting base room (now terms setting base room ranges ws vs r) r.owner v = r.suits id v at in
-      let len : length world.history ≡ length w.history = length-settle w.history i is_landed in
+      let len : length world.history ≡ length w.history = length-settle w.history i Done in
       let told : IsTold setting base h r.owner v.told =
       told_grows setting base (now terms setting base room ranges ws vs r) h r.owner r.owner v.told (stays.grows, λ i m a. a, λ y has. has) (λ n l. refl) suit.told in
       subst (λ (u : View S N). Rule terms setting base room ranges (slice_set ws (value_at c) k.value) (slice_set vs id u) × Sees terms v u) (sym is)
       (goes terms setting base room ranges ws vs r id v at (slice_set ws (value_at c) k.value) world (after_store v.seat i c) v.runs v.looked mine v.told
       (named_after terms setting base room ranges ws vs r c (record x { value = k.value }) names) stays refl
       (value_is_set ws w r.words_are c k.value x f) (length-slice_set w.cells c (record x { value = k.value })) len calls told
-      (λ j a. inl (sym number ∙ a)) (λ j a. number ∙ a) (λ d o a b. absurd (not_looking (at_storing i) refl d o a b)))
+      (λ j a. inl (sym number ∙ a)) (λ j a. number ∙ a) (λ d o a b. absurd (not_looking (Storing i) refl d o a b)))
 
-  pub stores : (slots id c i value : ℕ) (k : SeatHeld) (me : Mine S N) (y : S) → me.0.setting ≡ Some y → c < length me.0.base
-      → ((upto : ℕ) × (me.0.seat.place ≡ at_checking i upto) × ((is_next me.0.seat i || all_settled me.0.seat.held upto me.0.seat.reads) ≡ true)) ⊎ (me.0.seat.place ≡ at_storing i)
+  pub stores : (opened : List ℕ) (slots id c i value : ℕ) (k : Held) (me : Mine S N) (y : S) → me.0.setting ≡ Some y → c < length me.0.base
+      → ((upto : ℕ) × (me.0.seat.place ≡ Checking i upto) × ((is_next me.0.seat i || all_settled me.0.seat.held upto me.0.seat.reads) ≡ true)) ⊎ (me.0.seat.place ≡ Storing i)
       → find_held c me.0.seat.held ≡ Some k → k.value ≡ value
-      → Allows (Ruled terms setting base room) slots id me (value_at c) (λ _. value) (λ _. stored terms (step slots (value_at c) value 0 none) me value)
-  stores slots id c i value k me y set l (inl p) holds is_value =
-      lifted terms setting base room slots id (value_at c) me (λ _. value)
+      → Allows (Ruled terms setting base room opened) slots id me (value_at c) (λ _. value) (λ _. stored terms (step slots (value_at c) value 0 none) me value)
+  stores opened slots id c i value k me y set l (inl p) holds is_value =
+      lifted terms setting base room opened slots id (value_at c) me (λ _. value)
       (λ _. stored terms (step slots (value_at c) value 0 none) me value) λ ranges ws vs r at.
       let v : View S N = me.0 in
       let t : Seat = v.seat in
       let w : World = r.world in
-      let x : (x : CellWords) × (slice_get w.cells c ≡ Some x) = cell_in terms setting base room ranges ws vs r id v at y set c l in
+      let x : (x : Cell) × (slice_get w.cells c ≡ Some x) = cell_in terms setting base room ranges ws vs r id v at y set c l in
       let e : slice_get w.seats id ≡ Some t = seat_at terms setting base room ranges ws vs r id v at in
       let lead : Leads base w id (Store c) (store w id t i c k x.0) = store_leads base w id t i c k x.0 r.invariant e (inl p) holds x.1 in
-      let h : Seen N = record { history = settle w.history i is_landed; notes = r.notes; ranges = ranges } in
+      let h : Seen N = record { history = settle w.history i Done; notes = r.notes; ranges = ranges } in
       let f : Suits terms setting base room (now terms setting base room ranges ws vs r) r.owner v = r.suits id v at in
       let number : number_at t.place ≡ Some i = ap number_at p.1 in
       let noted : (n : N) × (v.note ≡ Some n) × (slice_get r.notes i ≡ Some n) = f.noted i number in
-      let ok : CheckingOk base w.history t i p.0 = subst (λ (z : SeatPlace). PlaceOk base w.cells w.history t z) p.1 ((r.invariant).consistent.seats id t e).place in
+      let ok : CheckingOk base w.history t i p.0 = subst (λ (z : Place). PlaceOk base w.cells w.history t z) p.1 ((r.invariant).consistent.seats id t e).place in
       let done : IsDone h i (work_of t noted.0) = record {
-        entry = record ok.entry { status = is_landed };
-        here = get-settle_same w.history i is_landed ok.entry ok.here;
+        entry = record ok.entry { status = Done };
+        here = get-settle_same w.history i Done ok.entry ok.here;
         done = refl;
         reads = ok.reads;
         writes = ok.writes;
@@ -378,16 +384,16 @@ module _ {S N : Type 0} (terms : Terms S N) (setting : S) (base : List ℕ) (roo
           next = λ j a. absurd (storing_not_checking j i p.0 (sym a ∙ p.1));
         }),
       )
-  stores slots id c i value k me y set l (inr p) holds is_value =
-      lifted terms setting base room slots id (value_at c) me (λ _. value)
+  stores opened slots id c i value k me y set l (inr p) holds is_value =
+      lifted terms setting base room opened slots id (value_at c) me (λ _. value)
       (λ _. stored terms (step slots (value_at c) value 0 none) me value) λ ranges ws vs r at.
       let v : View S N = me.0 in
       let t : Seat = v.seat in
       let w : World = r.world in
-      let x : (x : CellWords) × (slice_get w.cells c ≡ Some x) = cell_in terms setting base room ranges ws vs r id v at y set c l in
+      let x : (x : Cell) × (slice_get w.cells c ≡ Some x) = cell_in terms setting base room ranges ws vs r id v at y set c l in
       let e : slice_get w.seats id ≡ Some t = seat_at terms setting base room ranges ws vs r id v at in
       let lead : Leads base w id (Store c) (store w id t i c k x.0) = store_leads base w id t i c k x.0 r.invariant e (inr p) holds x.1 in
-      let h : Seen N = record { history = settle w.history i is_landed; notes = r.notes; ranges = ranges } in
+      let h : Seen N = record { history = settle w.history i Done; notes = r.notes; ranges = ranges } in
       let number : number_at t.place ≡ Some i = ap number_at p in
       let u : View S N = record v { seen = h; seat = after_store t i c } in
       let q : Rule terms setting base room ranges (slice_set ws (value_at c) k.value) (slice_set vs id u) × Sees terms v u =
@@ -408,22 +414,22 @@ module _ {S N : Type 0} (terms : Terms S N) (setting : S) (base : List ℕ) (roo
 
 -- ---- Release
 
-storing_not_voiding : (i j : ℕ) → at_storing i ≡ at_voiding j → ⊥
+storing_not_voiding : (i j : ℕ) → Storing i ≡ Voiding j → ⊥
 storing_not_voiding i j e = cc
 
-failing_not_voiding : (j : ℕ) → at_failing ≡ at_voiding j → ⊥
+failing_not_voiding : (j : ℕ) → Failing ≡ Voiding j → ⊥
 failing_not_voiding j e = cc
 
 some_same : (i j : ℕ) → Some i ≡ Some j → i ≡ j
 some_same i j e = cc
 
-voiding_is : (i j : ℕ) → at_voiding i ≡ at_voiding j → i ≡ j
+voiding_is : (i j : ℕ) → Voiding i ≡ Voiding j → i ≡ j
 voiding_is i j e = cc
 
 module _ {S N : Type 0} (terms : Terms S N) (setting : S) (base : List ℕ) (room : ℕ) where
   -- the rule after a release with this word, where the history becomes h; the entry of a run that has drawn is settled
   releases_go : (ranges : List Range) (ws : List ℕ) (vs : List (View S N)) (r : Rule terms setting base room ranges ws vs) (id : ℕ) (v : View S N) → get_elem? vs id ≡ some v
-      → (c word : ℕ) (x : CellWords) (h : List Entry) → slice_get (r.world).cells c ≡ Some x
+      → (c word : ℕ) (x : Cell) (h : List Entry) → slice_get (r.world).cells c ≡ Some x
       → Keeps base r.world (release r.world id v.seat c word x h) → length h ≡ length (r.world).history
       → ((i : ℕ) → number_at v.seat.place ≡ Some i → IsSettled h i)
       → ((d word value : ℕ) → is_looking v.seat.place ≡ false)
@@ -441,25 +447,25 @@ module _ {S N : Type 0} (terms : Terms S N) (setting : S) (base : List ℕ) (roo
       (named_locked terms setting base room ranges ws vs r c word x f) stays refl
       (lock_is_set ws w r.words_are c word x f) (length-slice_set w.cells c (record x { lock = word })) len (λ a. a) told
       (λ i a. inr (ends i a))
-      (λ i a. place_known (λ (z : SeatPlace). number_at z ≡ Some i → number_at t.place ≡ Some i) (is_nil (without c t.held)) at_idle t.place
-      (λ _ b. absurd (no_number at_idle at_idle i refl refl b)) (λ _ b. b) a)
-      (place_known (λ (z : SeatPlace). LookIsFresh h (record t { place = z; held = without c t.held })) (is_nil (without c t.held)) at_idle t.place
-      (λ _ d o a b. absurd (not_looking at_idle refl d o a b)) (λ _ d o a b. absurd (not_looking t.place (free d o a) d o a b)))
+      (λ i a. place_known (λ (z : Place). number_at z ≡ Some i → number_at t.place ≡ Some i) (is_nil (without c t.held)) Idle t.place
+      (λ _ b. absurd (no_number Idle Idle i refl refl b)) (λ _ b. b) a)
+      (place_known (λ (z : Place). LookIsFresh h (record t { place = z; held = without c t.held })) (is_nil (without c t.held)) Idle t.place
+      (λ _ d o a b. absurd (not_looking Idle refl d o a b)) (λ _ d o a b. absurd (not_looking t.place (free d o a) d o a b)))
 
-  pub releases : (slots id c new : ℕ) (k : SeatHeld) (me : Mine S N) (y : S) → me.0.setting ≡ Some y → c < length me.0.base
+  pub releases : (opened : List ℕ) (slots id c new : ℕ) (k : Held) (me : Mine S N) (y : S) → me.0.setting ≡ Some y → c < length me.0.base
       → find_held c me.0.seat.held ≡ Some k → GivesBack me.0.seat k new
-      → Allows (Ruled terms setting base room) slots id me (lock_at c) (λ _. new) (λ _. released terms (step slots (lock_at c) new 0 none) me new)
-  releases slots id c new k me y set l holds (inl p) =
-      lifted terms setting base room slots id (lock_at c) me (λ _. new)
+      → Allows (Ruled terms setting base room opened) slots id me (lock_at c) (λ _. new) (λ _. released terms (step slots (lock_at c) new 0 none) me new)
+  releases opened slots id c new k me y set l holds (inl p) =
+      lifted terms setting base room opened slots id (lock_at c) me (λ _. new)
       (λ _. released terms (step slots (lock_at c) new 0 none) me new) λ ranges ws vs r at.
       let v : View S N = me.0 in
       let t : Seat = v.seat in
       let w : World = r.world in
-      let x : (x : CellWords) × (slice_get w.cells c ≡ Some x) = cell_in terms setting base room ranges ws vs r id v at y set c l in
+      let x : (x : Cell) × (slice_get w.cells c ≡ Some x) = cell_in terms setting base room ranges ws vs r id v at y set c l in
       let e : slice_get w.seats id ≡ Some t = seat_at terms setting base room ranges ws vs r id v at in
       let lead : Leads base w id (Release c) (release w id t c (2 * wv p.0) x.0 w.history) = release_leads base w id t p.0 c k x.0 r.invariant e p.1 holds p.2 x.1 in
-      let ok : (e : Entry) × (slice_get w.history p.0 ≡ Some e) × (e.status ≡ is_landed) =
-      subst (λ (z : SeatPlace). PlaceOk base w.cells w.history t z) p.1 ((r.invariant).consistent.seats id t e).place in
+      let ok : (e : Entry) × (slice_get w.history p.0 ≡ Some e) × (e.status ≡ Done) =
+      subst (λ (z : Place). PlaceOk base w.cells w.history t z) p.1 ((r.invariant).consistent.seats id t e).place in
       let u : View S N = record v { seen = record { history = w.history; notes = r.notes; ranges = ranges }; seat = after_release t c } in
       let q : Rule terms setting base room ranges (slice_set ws (lock_at c) (2 * wv p.0)) (slice_set vs id u) × Sees terms v u =
       releases_go ranges ws vs r id v at c (2 * wv p.0) x.0 w.history x.1 lead.keeps refl
@@ -472,19 +478,19 @@ module _ {S N : Type 0} (terms : Terms S N) (setting : S) (base : List ℕ) (roo
         subst (λ (z : ℕ). Releases terms z me (u, me.1)) (sym (lock_back c))
             (record { sees = q.1; void = λ j a. absurd (storing_not_voiding p.0 j (sym p.1 ∙ a)); is = refl }),
       )
-  releases slots id c new k me y set l holds (inr (inl p)) =
-      lifted terms setting base room slots id (lock_at c) me (λ _. new)
+  releases opened slots id c new k me y set l holds (inr (inl p)) =
+      lifted terms setting base room opened slots id (lock_at c) me (λ _. new)
       (λ _. released terms (step slots (lock_at c) new 0 none) me new) λ ranges ws vs r at.
       let v : View S N = me.0 in
       let t : Seat = v.seat in
       let w : World = r.world in
-      let x : (x : CellWords) × (slice_get w.cells c ≡ Some x) = cell_in terms setting base room ranges ws vs r id v at y set c l in
+      let x : (x : Cell) × (slice_get w.cells c ≡ Some x) = cell_in terms setting base room ranges ws vs r id v at y set c l in
       let e : slice_get w.seats id ≡ Some t = seat_at terms setting base room ranges ws vs r id v at in
       let lead : Leads base w id (Release c) (release w id t c k.word x.0 w.history) = release_failed_leads base w id t c k x.0 r.invariant e p.0 holds x.1 in
       let u : View S N = record v { seen = record { history = w.history; notes = r.notes; ranges = ranges }; seat = after_release t c } in
       let q : Rule terms setting base room ranges (slice_set ws (lock_at c) k.word) (slice_set vs id u) × Sees terms v u =
       releases_go ranges ws vs r id v at c k.word x.0 w.history x.1 lead.keeps refl
-      (λ j a. absurd (no_number t.place at_failing j p.0 refl a)) (λ d o a. ap is_looking p.0) in (
+      (λ j a. absurd (no_number t.place Failing j p.0 refl a)) (λ d o a. ap is_looking p.0) in (
         lock_within ws w r.words_are c x.0 x.1,
         u,
         (refl, refl, refl),
@@ -492,23 +498,23 @@ module _ {S N : Type 0} (terms : Terms S N) (setting : S) (base : List ℕ) (roo
         subst (λ (z : ℕ). Releases terms z me (u, me.1)) (sym (lock_back c))
             (record { sees = q.1; void = λ j a. absurd (failing_not_voiding j (sym p.0 ∙ a)); is = refl }),
       )
-  releases slots id c new k me y set l holds (inr (inr p)) =
-      lifted terms setting base room slots id (lock_at c) me (λ _. new)
+  releases opened slots id c new k me y set l holds (inr (inr p)) =
+      lifted terms setting base room opened slots id (lock_at c) me (λ _. new)
       (λ _. released terms (step slots (lock_at c) new 0 none) me new) λ ranges ws vs r at.
       let v : View S N = me.0 in
       let t : Seat = v.seat in
       let w : World = r.world in
-      let x : (x : CellWords) × (slice_get w.cells c ≡ Some x) = cell_in terms setting base room ranges ws vs r id v at y set c l in
+      let x : (x : Cell) × (slice_get w.cells c ≡ Some x) = cell_in terms setting base room ranges ws vs r id v at y set c l in
       let e : slice_get w.seats id ≡ Some t = seat_at terms setting base room ranges ws vs r id v at in
-      let h : List Entry = settle w.history p.0 is_void in
+      let h : List Entry = settle w.history p.0 Void in
       let lead : Leads base w id (Release c) (release w id t c k.word x.0 h) = release_void_leads base w id t p.0 c k x.0 r.invariant e p.1 holds x.1 in
-      let ok : (e : Entry) × (slice_get w.history p.0 ≡ Some e) × (e.status ≢ is_landed) =
-      subst (λ (z : SeatPlace). PlaceOk base w.cells w.history t z) p.1 ((r.invariant).consistent.seats id t e).place in
-      let there : slice_get h p.0 ≡ Some (record ok.0 { status = is_void }) = get-settle_same w.history p.0 is_void ok.0 ok.1 in
+      let ok : (e : Entry) × (slice_get w.history p.0 ≡ Some e) × (e.status ≢ Done) =
+      subst (λ (z : Place). PlaceOk base w.cells w.history t z) p.1 ((r.invariant).consistent.seats id t e).place in
+      let there : slice_get h p.0 ≡ Some (record ok.0 { status = Void }) = get-settle_same w.history p.0 Void ok.0 ok.1 in
       let u : View S N = record v { seen = record { history = h; notes = r.notes; ranges = ranges }; seat = after_release t c } in
       let q : Rule terms setting base room ranges (slice_set ws (lock_at c) k.word) (slice_set vs id u) × Sees terms v u =
-      releases_go ranges ws vs r id v at c k.word x.0 h x.1 lead.keeps (length-settle w.history p.0 is_void)
-      (λ j a. subst (λ (z : ℕ). IsSettled h z) (some_same p.0 j (sym (ap number_at p.1) ∙ a)) (record ok.0 { status = is_void }, there, void_not_open))
+      releases_go ranges ws vs r id v at c k.word x.0 h x.1 lead.keeps (length-settle w.history p.0 Void)
+      (λ j a. subst (λ (z : ℕ). IsSettled h z) (some_same p.0 j (sym (ap number_at p.1) ∙ a)) (record ok.0 { status = Void }, there, void_not_open))
       (λ d o a. ap is_looking p.1) in (
         lock_within ws w r.words_are c x.0 x.1,
         u,
@@ -516,7 +522,7 @@ module _ {S N : Type 0} (terms : Terms S N) (setting : S) (base : List ℕ) (roo
         subst (λ (z : ℕ). Rule terms setting base room ranges (slice_set ws (lock_at c) z) (slice_set vs id u)) (sym p.2) q.0,
         subst (λ (z : ℕ). Releases terms z me (u, me.1)) (sym (lock_back c)) (record {
           sees = q.1;
-          void = λ j a. subst (λ (z : ℕ). (e : Entry) × (slice_get h z ≡ Some e) × (e.status ≡ is_void)) (voiding_is p.0 j (sym p.1 ∙ a)) (record ok.0 { status = is_void }, there, refl);
+          void = λ j a. subst (λ (z : ℕ). (e : Entry) × (slice_get h z ≡ Some e) × (e.status ≡ Void)) (voiding_is p.0 j (sym p.1 ∙ a)) (record ok.0 { status = Void }, there, refl);
           is = refl;
         }),
       )

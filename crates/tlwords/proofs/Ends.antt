@@ -1,6 +1,6 @@
 -- What the closed words show.
-use Rattle.std.proofs.Common.{◌≡◌, ℕ, zero, suc, ◌+◌, ◌*◌, ◌<◌, ◌≤◌, Some, List, [], ◌∷◌, ◌++◌, length, slice_get, slice_index, sym, refl, ap, ◌∙◌, subst, arith}
-use mathlib.Core.Option.{some, some-injective}
+use Rattle.std.proofs.Common.{◌≡◌, ℕ, zero, suc, ◌+◌, ◌*◌, ◌<◌, ◌≤◌, Some, List, [], ◌∷◌, ◌++◌, length, slice_get, slice_index, min, sym, refl, ap, ◌∙◌, subst, arith, true}
+use mathlib.Core.Option.{some, some-injective, some-ne-none}
 use lib.ListN.{get_elem?}
 use Rattle.std.proofs.lemmas.List.{length-append}
 use Rattle.atomic_table.specs.Table.{State}
@@ -8,16 +8,16 @@ use Rattle.tlcore.specs.History.{Will, version, value, deed}
 use Rattle.tlcore.specs.Machine.{World}
 use Rattle.tlcore.proofs.Growth.{get_exists}
 use Rattle.tlcore.proofs.Lists.{get_within}
-use Rattle.tlcore.proofs.Words.{CellWords}
+use Rattle.tlcore.specs.declared.cells.Cell.{Cell}
 use Rattle.tlwords.specs.declared.closing.ClosedCell.{ClosedCell}
 use Rattle.tlwords.specs.declared.closing.ClosedWords.{ClosedWords}
-use Rattle.tlwords.specs.Ranges.{Range, Has, Names, IsStored}
+use Rattle.ranges.specs.Ranges.{Range, Has, Names, IsStored, AreOfOneStore}
 use Rattle.tlwords.specs.Terms.{Terms, Opened}
 use Rattle.tlwords.specs.Seen.{Seen, Legal, Agree}
 use Rattle.tlwords.specs.Views.{View}
-use Rattle.tlwords.specs.Rule.{lock_at, value_at, tail_at, store_at, Kept, Ruled}
-use Rattle.tlwords.specs.Closing.{AreCellsOf, IsStoreOf, Shows, Closes, ClosesFor}
-use Rattle.tlwords.proofs.Keeps.{now, legal_of}
+use Rattle.tlwords.specs.Rule.{lock_at, value_at, tail_at, store_at, total_of, IsLeft, Adds, Kept, Ruled}
+use Rattle.tlwords.specs.Closing.{AreCellsOf, IsStoreOf, Shows, IsWorldOf, Closes, EndsIn, ClosesFor}
+use Rattle.tlwords.proofs.Keeps.{now, seat_at, legal_of}
 use Rattle.tlwords.proofs.ReadSteps.{half_written}
 use Rattle.tlwords.proofs.Shelves.{tail_least}
 use Rattle.tlwords.proofs.Paired.{word_count, clock_word, lock_word, lock_within, value_word, value_within}
@@ -50,7 +50,14 @@ elem_of [] i x e = absurd (cc)
 elem_of (y ∷ ys) zero x e = let q : y ≡ x = cc in ap some q
 elem_of (y ∷ ys) (suc i) x e = elem_of ys i x e
 
-module _ {S N : Type 0} (terms : Terms S N) (setting : S) (base : List ℕ) (room : ℕ) (s : State (Unit {0}) (View S N)) (r : Ruled terms setting base room s)
+-- one of them is at most all of them together
+total_has : {V : Type 0} (f : V → ℕ) (vs : List V) (id : ℕ) (v : V) → get_elem? vs id ≡ some v → f v ≤ total_of f vs
+total_has f [] id v at = absurd (some-ne-none v (sym at))
+total_has f (u ∷ vs) zero v at = let e : f u ≡ f v = ap f (some-injective u v at) in omega (arith, e)
+total_has f (u ∷ vs) (suc id) v at = let r : f v ≤ total_of f vs = total_has f vs id v at in omega (arith, r)
+
+module _ {S N : Type 0} (terms : Terms S N) (setting : S) (base : List ℕ) (room : ℕ) (opened : List ℕ) (s : State (Unit {0}) (View S N))
+    (r : Ruled terms setting base room opened s)
     (n : ℕ) (closed : ClosedWords) (long : length s.words ≡ 2 * n + 3 + room)
     (clock_at : get_elem? s.words 1 ≡ some closed.clock) (tail_is : get_elem? s.words (tail_at n) ≡ some closed.tail)
     (cells_are : AreCellsOf s.words closed.cells.items) (cells_count : length closed.cells.items ≡ n)
@@ -108,20 +115,23 @@ module _ {S N : Type 0} (terms : Terms S N) (setting : S) (base : List ℕ) (roo
       let t : closed.tail ≡ r.tail = tail_same in
       (store_same (range.start + i) x b.0, omega (arith, l, t))
 
+  one_store : AreOfOneStore (length closed.store.items) r.ranges
+  one_store = subst (λ (m : ℕ). AreOfOneStore m r.ranges) (sym store_count) k.lie
+
   refused : closed.tail ≤ length closed.store.items + (length closed.store.items + 1) * 64
   refused =
       let same : closed.tail ≡ r.tail = tail_same in
-      let l : r.tail ≤ room + (room + 1) * 64 = tail_least room r.tail r.ranges r.store s.views r.shelf k.rights in
+      let l : r.tail ≤ room + (room + 1) * 64 = tail_least (length opened) room r.tail s.views (r.shelf).tail_is k.rights in
       let least : closed.tail ≤ room + (room + 1) * 64 = omega (arith, l, same) in
       subst (λ (m : ℕ). closed.tail ≤ m + (m + 1) * 64) (sym store_count) least
 
   -- the cell as the machine has it
   cell_same : (c : ℕ) (x : ClosedCell) → slice_get closed.cells.items c ≡ Some x
-      → (y : CellWords) × (slice_get w.cells c ≡ Some y) × (y.lock ≡ x.lock) × (y.value ≡ x.value)
+      → (y : Cell) × (slice_get w.cells c ≡ Some y) × (y.lock ≡ x.lock) × (y.value ≡ x.value)
   cell_same c x f =
       let l : c < length closed.cells.items = get_within closed.cells.items c x f in
       let m : n ≡ length w.cells = many in
-      let y : (y : CellWords) × (slice_get w.cells c ≡ Some y) = get_exists w.cells c (omega (arith, l, m, cells_count)) in
+      let y : (y : Cell) × (slice_get w.cells c ≡ Some y) = get_exists w.cells c (omega (arith, l, m, cells_count)) in
       let lock : (y.0).lock ≡ x.lock =
       sym (lock_word r.front w k.words_are c y.0 y.1)
       ∙ front_word (lock_at c) x.lock (lock_within r.front w k.words_are c y.0 y.1) (cells_are c x f).0 in
@@ -138,39 +148,85 @@ module _ {S N : Type 0} (terms : Terms S N) (setting : S) (base : List ℕ) (roo
             sym ((k.invariant).consistent.clock) ∙ (sym (clock_word r.front w k.words_are) ∙ front_word 1 closed.clock l clock_at);
         count = cells_count ∙ (many ∙ k.cells_are);
         free = λ c v x f e.
-            let y : (y : CellWords) × (slice_get w.cells c ≡ Some y) × (y.lock ≡ x.lock) × (y.value ≡ x.value) = cell_same c x f in
+            let y : (y : Cell) × (slice_get w.cells c ≡ Some y) × (y.lock ≡ x.lock) × (y.value ≡ x.value) = cell_same c x f in
             let ok : (v ≡ version w.history c) × ((y.0).value ≡ value base w.history c) × ((i u : ℕ) → deed w.history c i ≡ Will u → ⊥) =
             (k.invariant).consistent.cells c v y.0 y.1 (y.2 ∙ e) in
             (ok.0, sym y.3 ∙ ok.1, ok.2);
         written = λ c x f.
-            let y : (y : CellWords) × (slice_get w.cells c ≡ Some y) × (y.lock ≡ x.lock) × (y.value ≡ x.value) = cell_same c x f in
+            let y : (y : Cell) × (slice_get w.cells c ≡ Some y) × (y.lock ≡ x.lock) × (y.value ≡ x.value) = cell_same c x f in
             half_written terms setting base room r.ranges r.front s.views r.kept c x.lock y.0 y.1 (sym y.2);
       }
 
-  named : (c : ℕ) (x : ClosedCell) → slice_get closed.cells.items c ≡ Some x → terms.ranged setting c → Names r.ranges x.value
+  named : (c : ℕ) (x : ClosedCell) → slice_get closed.cells.items c ≡ Some x → terms.ranged setting c ≡ true → Names r.ranges x.value
   named c x f is =
-      let y : (y : CellWords) × (slice_get w.cells c ≡ Some y) × (y.lock ≡ x.lock) × (y.value ≡ x.value) = cell_same c x f in
+      let y : (y : Cell) × (slice_get w.cells c ≡ Some y) × (y.lock ≡ x.lock) × (y.value ≡ x.value) = cell_same c x f in
       subst (λ (v : ℕ). Names r.ranges v) y.3 (k.named c y.0 y.1 is)
 
   legal : Legal terms setting base last
   legal = legal_of terms setting base room r.ranges w k.notes k.invariant k.entries
 
-  pub closes : Closes terms setting base closed
-  closes = record { seen = last; legal = legal; shows = shown; stored = stored; refused = refused; opened = k.opening; named = named }
+  is_world : IsWorldOf base w.history closed.clock closed.cells.items w
+  is_world = record {
+    invariant = k.invariant;
+    history_is = refl;
+    clock_is = (k.invariant).consistent.clock ∙ shown.clock_is;
+    count = let m : n ≡ length w.cells = many in omega (arith, m, cells_count);
+    cells_are = λ c x f.
+        let y : (y : Cell) × (slice_get w.cells c ≡ Some y) × (y.lock ≡ x.lock) × (y.value ≡ x.value) = cell_same c x f in
+        y.1 ∙ (λ i. Some (record { lock = y.2 i; value = y.3 i }));
+  }
 
-  pub closes_for : (id : ℕ) (v : View S N) → get_elem? s.views id ≡ some v → ClosesFor terms v closed
-  closes_for id v there y e =
+  left : IsLeft opened (length closed.store.items) closed.tail closed.store.items
+  left = record {
+    opening = λ o x e. store_same o x ((r.shelf).left.opening o x e);
+    blank = λ o l m.
+        let t : closed.tail ≡ r.tail = tail_same in
+        store_same o 0 ((r.shelf).left.blank o (omega (arith, l, t)) (omega (arith, m, store_count)));
+  }
+
+  behind : length opened ≤ closed.tail
+  behind =
+      let t : closed.tail ≡ r.tail = tail_same in
+      let a : r.tail ≡ length opened + total_of (λ (v : View S N). v.taken + v.added) s.views = (r.shelf).tail_is.is in
+      omega (arith, t, a)
+
+  pub closes : Closes terms setting base opened closed
+  closes = record {
+    seen = last;
+    world = w;
+    is_world = is_world;
+    noted = k.notes_are;
+    legal = legal;
+    shows = shown;
+    stored = stored;
+    ranges = one_store;
+    left = left;
+    behind = behind;
+    refused = refused;
+    opening = k.opening;
+    named = named;
+  }
+
+  ends_in : (id : ℕ) (v : View S N) → get_elem? s.views id ≡ some v → EndsIn terms setting base opened closed closes v
+  unfolding closes
+  ends_in id v there =
       let f = k.suits id v there in
-      let i = f.own.setting_is y e in (
-        record {
-          seen = last;
-          legal = subst (λ (z : S × List ℕ). Legal terms z.0 z.1 last) (λ j. (sym i.0 j, sym i.1 j)) legal;
-          shows = subst (λ (o : List ℕ). Shows o w.history closed.clock closed.cells.items) (sym i.1) shown;
-          stored = stored;
-          refused = refused;
-          opened = subst (λ (z : S × List ℕ). Opened terms z.0 r.ranges z.1) (λ j. (sym i.0 j, sym i.1 j)) k.opening;
-          named = λ c x at is. named c x at (subst (λ (z : S). terms.ranged z c) i.0 is);
-        },
-        f.own.grows,
-        subst (λ (z : S × List ℕ). Agree terms z.0 z.1 last v.mine) (λ j. (sym i.0 j, sym i.1 j)) f.mine,
-      )
+      let t : closed.tail ≡ r.tail = tail_same in
+      let a : Adds room r.tail v = (r.shelf).tail_is.each id v there in record {
+        grows = f.own.grows;
+        mine = f.mine;
+        seat = (id, seat_at terms setting base room r.ranges r.front s.views r.kept id v there);
+        moved =
+            let b : r.tail ≡ length opened + total_of (λ (x : View S N). x.taken + x.added) s.views = (r.shelf).tail_is.is in
+            let c : v.taken + v.added ≤ total_of (λ (x : View S N). x.taken + x.added) s.views = total_has (λ (x : View S N). x.taken + x.added) s.views id v there in
+            omega (arith, t, b, c);
+        found = λ m count e.
+            let b : m + min count (room + 1) ≤ r.tail = a.found m count e in
+            subst (λ (z : ℕ × ℕ). m + min count (z.0 + 1) ≤ z.1) (λ i. (sym store_count i, sym t i)) b;
+      }
+
+  pub closes_for : (id : ℕ) (v : View S N) → get_elem? s.views id ≡ some v → ClosesFor terms opened v closed
+  closes_for id v there y e =
+      let i = (k.suits id v there).own.setting_is y e in
+      subst (λ (z : S × List ℕ). (c : Closes terms z.0 z.1 opened closed) × EndsIn terms z.0 z.1 opened closed c v) (λ j. (sym i.0 j, sym i.1 j))
+      (closes, ends_in id v there)

@@ -72,7 +72,8 @@ module _ {S N : Type 0} (terms : Terms S N) where
   no_refusal None b e f = refl
   no_refusal (Some x) b e f = absurd (cc)
 
-  module _ (m r : Mine S N) (o : Option (ℕ × ℕ)) (is : r.0 ≡ record m.0 { seen = r.0.seen; full = o }) where
+  module _ (m r : Mine S N) (o : Option (ℕ × ℕ)) (taken added : ℕ)
+      (is : r.0 ≡ record m.0 { seen = r.0.seen; full = o; taken = taken; added = added }) where
     pub fits_on : (count place : ℕ) (b : Bool) → IsRunOf m count place b → IsRunOf r count place b
     fits_on count place b f = subst (λ (v : View S N). IsRunOf {S = S} {N = N} (v, r.1) count place b) (sym is) f
 
@@ -92,7 +93,8 @@ module _ {S N : Type 0} (terms : Terms S N) where
       record {
         sees = sees_on m.0 r.0 q.0 a.sees f.sees;
         unrefused = unrefused;
+        inside = l;
         finished = f.finished;
         is = f.is ∙ (ap (λ (v : View S N). let w : View S N = record v { seen = q.0.seen; staging = None } in w) (a.taken l)
-            ∙ ap (λ s. let w : View S N = record m.0 { seen = q.0.seen; staging = s } in w) (sym rest));
+            ∙ ap (λ s. let w : View S N = record m.0 { seen = q.0.seen; staging = s; taken = m.0.taken + length words } in w) (sym rest));
       }

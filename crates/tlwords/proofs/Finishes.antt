@@ -1,9 +1,11 @@
 -- The ends of a commit that wrote nothing, and what a run needs to go on to its draw.
-use Rattle.std.proofs.Common.{◌≡◌, ◌≢◌, ℕ, Bool, true, false, if◌then◌else◌, is_some, Option, Some, None, List, [], ◌∷◌, ◌++◌, length, sym, refl, ap, ◌∙◌, subst}
+use Rattle.std.proofs.Common.{◌≡◌, ◌≢◌, ℕ, Bool, true, false, if◌then◌else◌, is_some, Some, List, [], ◌∷◌, ◌++◌, length, sym, refl, ap, ◌∙◌, subst}
 use Rattle.tlcore.specs.Seats.{Seat, reads_of}
-use Rattle.tlcore.proofs.Words.{at_reading, at_taking, is_resting}
+use Rattle.tlcore.specs.declared.seats.Place.TheVariants.{Reading, Taking}
+use Rattle.tlcore.specs.Seats.{is_resting}
 use Rattle.tlwords.specs.declared.log.Slot.{Slot}
-use Rattle.tlwords.specs.Terms.{Pairs, Terms, Permits}
+use Rattle.ranges.specs.Pairs.{Pairs}
+use Rattle.tlwords.specs.Terms.{Terms, Permits}
 use Rattle.tlwords.specs.Seen.{Answered}
 use Rattle.tlwords.specs.Views.{View}
 use Rattle.tlwords.specs.Plays.{Mine, Recalls}
@@ -12,14 +14,10 @@ use Rattle.tlwords.specs.Commits.{writes_kept, work_kept, HasAnswered, IsLawfulN
 use Rattle.tlwords.specs.Committing.{held_in, holding, Goes}
 use Rattle.tlwords.specs.Walks.{NoneWanted}
 use Rattle.tlwords.proofs.Seens.{permits_grow}
-use Rattle.tlwords.proofs.RunSteps.{left_fits}
+use Rattle.tlwords.proofs.RunSteps.{left_fits, known_setting}
 use Rattle.tlwords.proofs.Held.{no_writes}
 use Rattle.tlwords.proofs.Turns.{unkept_of, moves_grow, goes_seat, goes_setting}
 use Rattle.tlwords.proofs.Settles.{some_held}
-
-pub known_setting : {S : Type 0} (o : Option S) → is_some o ≡ true → (y : S) × (o ≡ Some y)
-known_setting None e = let a : false ≡ true = e in absurd (cc)
-known_setting (Some y) e = (y, refl)
 
 pub nothing_kept : (t : Seat) (slots : List Slot) (cells : List ℕ) → IsKeptOf t slots cells → NoneWanted slots true 0 (length slots) → writes_kept slots ≡ []
 nothing_kept t slots cells k front = no_writes slots (length slots) (unkept_of t slots cells k 0 (length slots) front)
@@ -53,14 +51,14 @@ module _ {S N : Type 0} (terms : Terms S N) (slots : List Slot) (x : N) (m r : M
         p.4,
       )
 
-  module _ (g : Goes terms m (holding m.0.seat at_taking at_reading (held_in slots 0 0 (length slots))) r) where
-    at : r.0.seat ≡ holding m.0.seat at_taking at_reading (held_in slots 0 0 (length slots))
-    at = goes_seat terms m r (holding m.0.seat at_taking at_reading (held_in slots 0 0 (length slots))) g
+  module _ (g : Goes terms m (holding m.0.seat Taking Reading (held_in slots 0 0 (length slots))) r) where
+    at : r.0.seat ≡ holding m.0.seat Taking Reading (held_in slots 0 0 (length slots))
+    at = goes_seat terms m r (holding m.0.seat Taking Reading (held_in slots 0 0 (length slots))) g
 
     pub taken_run : (place : ℕ) → writes_kept slots ≢ [] → m.0.seat.rv ≡ place
-        → (r.0.seat.place ≡ at_taking) × (r.0.seat.rv ≡ place) × (r.0.seat.held ≡ held_in slots 0 0 (length slots))
+        → (r.0.seat.place ≡ Taking) × (r.0.seat.rv ≡ place) × (r.0.seat.held ≡ held_in slots 0 0 (length slots))
     taken_run place some e = (
-      ap (λ (t : Seat). t.place) at ∙ ap (λ (b : Bool). if b then at_reading else at_taking) (some_held slots 0 some),
+      ap (λ (t : Seat). t.place) at ∙ ap (λ (b : Bool). if b then Reading else Taking) (some_held slots 0 some),
       ap (λ (t : Seat). t.rv) at ∙ e,
       ap (λ (t : Seat). t.held) at,
     )
@@ -69,7 +67,7 @@ module _ {S N : Type 0} (terms : Terms S N) (slots : List Slot) (x : N) (m r : M
         → (z : S) × (r.0.setting ≡ Some z) × Permits terms z r.0.seen.ranges (reads_of r.0.seat.reads) (writes_kept slots) x
     taken_lawful y e f = (
       y,
-      goes_setting terms m r (holding m.0.seat at_taking at_reading (held_in slots 0 0 (length slots))) y g e,
+      goes_setting terms m r (holding m.0.seat Taking Reading (held_in slots 0 0 (length slots))) y g e,
       subst (λ (t : Seat). Permits terms y r.0.seen.ranges (reads_of t.reads) (writes_kept slots) x) (sym at)
           (permits_grow terms y m.0.seen.ranges r.0.seen.ranges (moves_grow terms m r g.moves).2 (f y e)),
     )

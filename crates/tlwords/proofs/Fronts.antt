@@ -8,9 +8,14 @@ use Rattle.tlcore.specs.Invariant.{PlaceOk, HeldOk, HeldShows, CheckingOk, done_
 use Rattle.tlcore.proofs.Lists.{get-set_cases, equal_numbers, known}
 use Rattle.tlcore.proofs.SeatParts.{written-held}
 use Rattle.tlcore.proofs.Settling.{deed_now}
-use Rattle.tlcore.proofs.Words.{CellWords, SeatHeld, SeatPlace, is_landed, at_checking, at_storing}
-use Rattle.tlwords.specs.Ranges.{Range, Has, Names}
-use Rattle.tlwords.specs.Terms.{Pairs, Terms, Permits}
+use Rattle.tlcore.specs.declared.entries.Status.TheVariants.{Done}
+use Rattle.tlcore.specs.declared.cells.Cell.{Cell}
+use Rattle.tlcore.specs.declared.seats.Held.{Held}
+use Rattle.tlcore.specs.declared.seats.Place.{Place}
+use Rattle.tlcore.specs.declared.seats.Place.TheVariants.{Checking, Storing}
+use Rattle.ranges.specs.Ranges.{Range, Has, Names}
+use Rattle.ranges.specs.Pairs.{Pairs}
+use Rattle.tlwords.specs.Terms.{Terms, Permits}
 use Rattle.tlwords.specs.Views.{View}
 use Rattle.tlwords.specs.Rule.{Suits}
 use Rattle.tlwords.proofs.Keeps.{Rule, now, seat_at}
@@ -52,45 +57,45 @@ newest_did d o (suc n) i e = go (d n) refl (newest_did d o n i)
         ap d m ∙ (p ∙ ap (λ (z : ℕ). Did z) (sym s))
 
 -- the value that a Done entry wrote is that of its writes
-done_written : (w : Option ℕ) (v : ℕ) → deed_of is_landed w ≡ Did v → w ≡ Some v
+done_written : (w : Option ℕ) (v : ℕ) → deed_of Done w ≡ Did v → w ≡ Some v
 done_written (Some x) v e = let q : x ≡ v = cc in ap (λ (z : ℕ). Some z) q
 done_written None v e = cc
 
 module _ {S N : Type 0} (terms : Terms S N) (setting : S) (base : List ℕ) (room : ℕ) where
   module _ (ranges : List Range) (ws : List ℕ) (vs : List (View S N)) (r : Rule terms setting base room ranges ws vs) where
     -- a cell gets new words, and its value names a range where the cell is a range cell: so does each
-    pub named_after : (c : ℕ) (y : CellWords) → (terms.ranged setting c → Names ranges y.value)
-        → (d : ℕ) (x : CellWords) → slice_get (slice_set (r.world).cells c y) d ≡ Some x → terms.ranged setting d → Names ranges x.value
+    pub named_after : (c : ℕ) (y : Cell) → (terms.ranged setting c ≡ true → Names ranges y.value)
+        → (d : ℕ) (x : Cell) → slice_get (slice_set (r.world).cells c y) d ≡ Some x → terms.ranged setting d ≡ true → Names ranges x.value
     named_after c y new d x e ranged = ⊎_elim
         (λ (p : (d ≡ c) × (x ≡ y)).
-        subst (λ (z : CellWords). Names ranges z.value) (sym p.1) (new (subst (terms.ranged setting) p.0 ranged)))
+        subst (λ (z : Cell). Names ranges z.value) (sym p.1) (new (subst (λ (e : ℕ). terms.ranged setting e ≡ true) p.0 ranged)))
         (λ (p : (d ≢ c) × (slice_get (r.world).cells d ≡ Some x)). r.named d x p.1 ranged)
         (get-set_cases (r.world).cells c d y x e)
 
     -- only the lock word of the cell is new
-    pub named_locked : (c word : ℕ) (x : CellWords) → slice_get (r.world).cells c ≡ Some x
-        → (d : ℕ) (y : CellWords) → slice_get (slice_set (r.world).cells c (record x { lock = word })) d ≡ Some y
-        → terms.ranged setting d → Names ranges y.value
+    pub named_locked : (c word : ℕ) (x : Cell) → slice_get (r.world).cells c ≡ Some x
+        → (d : ℕ) (y : Cell) → slice_get (slice_set (r.world).cells c (record x { lock = word })) d ≡ Some y
+        → terms.ranged setting d ≡ true → Names ranges y.value
     named_locked c word x f = named_after c (record x { lock = word }) (r.named c x f)
 
     -- what an entry writes to a range cell names a range
     written_named : (i c v : ℕ) (e : Entry) (n : N) → slice_get (r.world).history i ≡ Some e → slice_get r.notes i ≡ Some n
-        → written c e.writes ≡ Some v → terms.ranged setting c → Names ranges v
+        → written c e.writes ≡ Some v → terms.ranged setting c ≡ true → Names ranges v
     written_named i c v e n here note wrote ranged =
         let p : Permits terms setting ranges e.reads e.writes n × (e.writes ≢ []) = r.entries i e n here note in
         (p.0).named c v (written_has c v e.writes wrote) ranged
 
     -- what a seat that has drawn is to store in a range cell names a range
-    pub held_named : (id : ℕ) (v : View S N) → get_elem? vs id ≡ some v → (c i : ℕ) (k : SeatHeld)
-        → ((upto : ℕ) × (v.seat.place ≡ at_checking i upto)) ⊎ (v.seat.place ≡ at_storing i) → find_held c v.seat.held ≡ Some k
-        → terms.ranged setting c → Names ranges k.value
+    pub held_named : (id : ℕ) (v : View S N) → get_elem? vs id ≡ some v → (c i : ℕ) (k : Held)
+        → ((upto : ℕ) × (v.seat.place ≡ Checking i upto)) ⊎ (v.seat.place ≡ Storing i) → find_held c v.seat.held ≡ Some k
+        → terms.ranged setting c ≡ true → Names ranges k.value
     held_named id v at c i k (inl p) holds =
         let t : Seat = v.seat in
         let e : slice_get (r.world).seats id ≡ Some t = seat_at terms setting base room ranges ws vs r id v at in
         let f : Suits terms setting base room (now terms setting base room ranges ws vs r) r.owner v = r.suits id v at in
         let noted : (n : N) × (v.note ≡ Some n) × (slice_get r.notes i ≡ Some n) = f.noted i (ap number_at p.1) in
         let ok : CheckingOk base (r.world).history t i p.0 =
-        subst (λ (z : SeatPlace). PlaceOk base (r.world).cells (r.world).history t z) p.1 ((r.invariant).consistent.seats id t e).place in
+        subst (λ (z : Place). PlaceOk base (r.world).cells (r.world).history t z) p.1 ((r.invariant).consistent.seats id t e).place in
         let wrote : written c (ok.entry).writes ≡ Some k.value = ap (λ (ps : Pairs). written c ps) ok.writes ∙ written-held c t.held k holds in
         written_named i c k.value ok.entry noted.0 ok.here noted.2 wrote
     held_named id v at c i k (inr p) holds =
@@ -99,14 +104,14 @@ module _ {S N : Type 0} (terms : Terms S N) (setting : S) (base : List ℕ) (roo
         let e : slice_get (r.world).seats id ≡ Some t = seat_at terms setting base room ranges ws vs r id v at in
         let f : Suits terms setting base room (now terms setting base room ranges ws vs r) r.owner v = r.suits id v at in
         let noted : (n : N) × (v.note ≡ Some n) × (slice_get r.notes i ≡ Some n) = f.noted i (ap number_at p) in
-        let ok : (e : Entry) × (slice_get h i ≡ Some e) × (e.status ≡ is_landed) =
-        subst (λ (z : SeatPlace). PlaceOk base (r.world).cells h t z) p ((r.invariant).consistent.seats id t e).place in
-        let b : (x : CellWords) × (slice_get (r.world).cells c ≡ Some x) × HeldOk base h t.rv t.place c k x =
+        let ok : (e : Entry) × (slice_get h i ≡ Some e) × (e.status ≡ Done) =
+        subst (λ (z : Place). PlaceOk base (r.world).cells h t z) p ((r.invariant).consistent.seats id t e).place in
+        let b : (x : Cell) × (slice_get (r.world).cells c ≡ Some x) × HeldOk base h t.rv t.place c k x =
         ((r.invariant).consistent.seats id t e).held c k holds in
         let shows : (version h c ≡ wv i) × (value base h c ≡ k.value) × (k.stored ≡ true → (b.0).value ≡ k.value) =
-        subst (λ (z : SeatPlace). HeldShows base h (done_at z) c k b.0) p b.2.shows in
+        subst (λ (z : Place). HeldShows base h (done_at z) c k b.0) p b.2.shows in
         let did : deed h c i ≡ Did k.value =
         newest_did (deed h c) (slice_index base c) (length h) i shows.0 ∙ ap (λ (z : ℕ). Did z) shows.1 in
-        let is : deed_of is_landed (written c (ok.0).writes) ≡ Did k.value =
+        let is : deed_of Done (written c (ok.0).writes) ≡ Did k.value =
         ap (λ (s : _). deed_of s (written c (ok.0).writes)) (sym ok.2) ∙ (sym (deed_now h i c ok.0 ok.1) ∙ did) in
         written_named i c k.value ok.0 noted.0 ok.1 noted.2 (done_written (written c (ok.0).writes) k.value is)

@@ -5,9 +5,9 @@ use mathlib.Core.Logic.{dite}
 use native.Mathlib.Decide.{ℕ_discrete}
 use Rattle.tlcore.specs.Seats.{find_held, is_held, all_below, without, stored, writes_of, marked}
 use Rattle.tlcore.proofs.Lists.{option_known}
-use Rattle.tlcore.proofs.Words.{SeatHeld}
+use Rattle.tlcore.specs.declared.seats.Held.{Held}
 use Rattle.tlwords.specs.declared.log.Slot.{Slot}
-use Rattle.tlwords.specs.Terms.{Pairs}
+use Rattle.ranges.specs.Pairs.{Pairs}
 use Rattle.tlwords.specs.Runs.{word_seen, value_kept}
 use Rattle.tlwords.specs.Commits.{with_write, writes_below}
 use Rattle.tlwords.specs.Committing.{word_or_zero, with_held, held_in}
@@ -36,7 +36,7 @@ module _ (slots : List Slot) where
   NoneKept a b = (c : ℕ) → a ≤ c → c < b → value_kept slots c ≡ None
 
   -- the cell n, held for this value
-  abbrev pub held_cell : ℕ → ℕ → ℕ → SeatHeld
+  abbrev pub held_cell : ℕ → ℕ → ℕ → Held
   held_cell d n v = record { cell = n; word = word_or_zero (word_seen slots n); value = v; stored = nat_lt n d }
 
   step_none : (d low n : ℕ) → value_kept slots n ≡ None → held_in slots d low (suc n) ≡ held_in slots d low n
@@ -90,7 +90,7 @@ module _ (slots : List Slot) where
       → held_in slots 0 0 (c + 1) ≡ record { cell = c; word = w; value = v; stored = false } ∷ held_in slots 0 0 k
   held_more k c v w l unkept e f =
       ap (held_in slots 0 0) (let a : c + 1 ≡ suc c = omega arith in a) ∙ (step_some 0 0 c v e (omega arith)
-      ∙ (λ j. (let h : SeatHeld = record { cell = c; word = word_or_zero (f j); value = v; stored = lt_no c 0 (omega arith) j } in h) ∷ held_on 0 0 k c l unkept j))
+      ∙ (λ j. (let h : Held = record { cell = c; word = word_or_zero (f j); value = v; stored = lt_no c 0 (omega arith) j } in h) ∷ held_on 0 0 k c l unkept j))
 
   -- ---- the cells
 
@@ -158,7 +158,7 @@ module _ (slots : List Slot) where
   -- ---- a store, and a release
 
   pub same_marks : (d e n v : ℕ) → nat_lt n d ≡ nat_lt n e → held_cell d n v ≡ held_cell e n v
-  same_marks d e n v q = ap (λ (b : Bool). let k : SeatHeld = record { cell = n; word = word_or_zero (word_seen slots n); value = v; stored = b } in k) q
+  same_marks d e n v q = ap (λ (b : Bool). let k : Held = record { cell = n; word = word_or_zero (word_seen slots n); value = v; stored = b } in k) q
 
   -- the cell c is stored, and the kept ones below it were before
   pub held_stored : (d low n c : ℕ) → d ≤ c → NoneKept d c → stored c (held_in slots d low n) ≡ held_in slots (suc c) low n
@@ -173,7 +173,7 @@ module _ (slots : List Slot) where
       mark : (v : ℕ) → value_kept slots n ≡ Some v → marked c (held_cell d n v) ≡ held_cell (suc c) n v
       mark v e = dite (ℕ_discrete n c)
           (λ (same : n ≡ c). ap (λ (b : Bool). if b then record (held_cell d n v) { stored = true } else held_cell d n v) (eq-eqb n c same)
-          ∙ ap (λ (b : Bool). let k : SeatHeld = record { cell = n; word = word_or_zero (word_seen slots n); value = v; stored = b } in k) (sym (lt_yes n (suc c) (omega arith))))
+          ∙ ap (λ (b : Bool). let k : Held = record { cell = n; word = word_or_zero (word_seen slots n); value = v; stored = b } in k) (sym (lt_yes n (suc c) (omega arith))))
           (λ (other : n ≢ c). ap (λ (b : Bool). if b then record (held_cell d n v) { stored = true } else held_cell d n v) (ne_eqb n c other)
           ∙ same_marks d (suc c) n v (⊎_elim (λ (m : d ≤ n). lt_no n d m ∙ sym (lt_no n (suc c) (above v e other m)))
           (λ (m : n < d). lt_yes n d m ∙ sym (lt_yes n (suc c) (omega arith))) (le_cases d n)))
@@ -195,7 +195,7 @@ module _ (slots : List Slot) where
       go (inl e) (inl m) ih =
           ap (without c) (step_some d low n e.0 e.1 (omega arith))
           ∙ (ap (λ (b : Bool). if not b then held_cell d n e.0 ∷ without c (held_in slots d low n) else without c (held_in slots d low n)) (ne_eqb n c (omega arith))
-          ∙ (ap (λ (ks : List SeatHeld). held_cell d n e.0 ∷ ks) ih ∙ sym (step_some d (suc c) n e.0 e.1 m)))
+          ∙ (ap (λ (ks : List Held). held_cell d n e.0 ∷ ks) ih ∙ sym (step_some d (suc c) n e.0 e.1 m)))
       go (inl e) (inr m) ih = dite (ℕ_discrete n c)
           (λ (same : n ≡ c). ap (without c) (step_some d low n e.0 e.1 (omega arith))
           ∙ (ap (λ (b : Bool). if not b then held_cell d n e.0 ∷ without c (held_in slots d low n) else without c (held_in slots d low n)) (eq-eqb n c same)

@@ -1,5 +1,5 @@
 -- Each step of a seat keeps the rule.
-use Rattle.std.proofs.Common.{◌≡◌, ◌≢◌, ℕ, zero, suc, ◌+◌, ◌<◌, ◌≤◌, ◌⊎◌, inl, inr, ⊎_elim, Option, Some, List, [], ◌∷◌, length, slice_get, slice_set, slice_index, sym, refl, ap, ◌∙◌, subst, arith}
+use Rattle.std.proofs.Common.{◌≡◌, ◌≢◌, ℕ, zero, suc, ◌+◌, ◌<◌, ◌≤◌, ◌⊎◌, inl, inr, ⊎_elim, Option, Some, List, [], ◌∷◌, length, slice_get, slice_set, slice_index, sym, refl, ap, ◌∙◌, subst, arith, true}
 use mathlib.Core.Option.{some, some-injective, some-ne-none}
 use lib.ListN.{get_elem?}
 use Rattle.atomic_table.proofs.Lists.{at_set}
@@ -10,8 +10,8 @@ use Rattle.tlcore.specs.Invariant.{Invariant, SeatOk}
 use Rattle.tlcore.specs.Laws.{Keeps}
 use Rattle.tlcore.proofs.Lists.{get-set_same}
 use Rattle.tlcore.proofs.SeatParts.{ReadsOk-one}
-use Rattle.tlcore.proofs.Words.{CellWords}
-use Rattle.tlwords.specs.Ranges.{Range, Within, Names, LieIn}
+use Rattle.tlcore.specs.declared.cells.Cell.{Cell}
+use Rattle.ranges.specs.Ranges.{Range, Within, Names, AreOfOneStore}
 use Rattle.tlwords.specs.Terms.{Terms, Permits, Opened}
 use Rattle.tlwords.specs.Seen.{Call, Seen, SeenGrows, NotesGrow, IsSettled, Legal, Agree}
 use Rattle.tlwords.specs.Views.{Told, View, tells, untold, Sound}
@@ -51,13 +51,17 @@ module _ {S N : Type 0} (setting : S) (base : List ℕ) where
   untold_is g owner =
       record { setting_is = λ x e. absurd (cc); grows = ((omega arith, λ i e p. absurd (cc)), λ i n p. absurd (cc), λ r has. absurd has); owned = λ n has. absurd has }
 
+-- how far a pass has moved the tail, and its refusal
+abbrev pub moves_of : {S N : Type 0} → View S N → Option (ℕ × ℕ) × ℕ × ℕ
+moves_of v = (v.full, v.taken, v.added)
+
 module _ {S N : Type 0} (terms : Terms S N) (setting : S) (base : List ℕ) (room : ℕ) where
   abbrev pub Rule : List Range → List ℕ → List (View S N) → Type 0
   Rule = Kept terms setting base room
 
-  -- the two have the same range and the same refusal, and as many parts of the right to draw
+  -- the two have the same range and the same refusal, have moved the tail as far, and have as many parts of the right to draw
   abbrev pub IsSameShelf : View S N → View S N → Type 0
-  IsSameShelf v w = (w.staging ≡ v.staging) × (w.full ≡ v.full) × (w.rights ≡ v.rights)
+  IsSameShelf v w = (w.staging ≡ v.staging) × (moves_of w ≡ moves_of v) × (w.rights ≡ v.rights)
 
   -- whatever the front is when its word i becomes f of what it was, the seat has a new view that keeps the front's rule and touches nothing of
   -- the store, and `then` holds of the number found and of the seat after
@@ -94,10 +98,11 @@ module _ {S N : Type 0} (terms : Terms S N) (setting : S) (base : List ℕ) (roo
 
   -- a view that has seen the whole history is sound
   pub sound_of : (ranges : List Range) (world : World) (notes : List N) (owner : ℕ → ℕ) (id : ℕ) (v : View S N) → Invariant base world
-      → EntriesAre terms setting (record { history = world.history; notes = notes; ranges = ranges }) → Opened terms setting ranges base → LieIn room ranges
+      → length notes ≡ length world.history
+      → EntriesAre terms setting (record { history = world.history; notes = notes; ranges = ranges }) → Opened terms setting ranges base → AreOfOneStore room ranges
       → Suits terms setting base room (record { history = world.history; notes = notes; ranges = ranges }) owner v → slice_get world.seats id ≡ Some v.seat
       → v.seen ≡ record { history = world.history; notes = notes; ranges = ranges } → Sound terms v
-  sound_of ranges world notes owner id v I entries opening lie f at is =
+  sound_of ranges world notes owner id v I noted entries opening lie f at is =
       let g : Seen N = record { history = world.history; notes = notes; ranges = ranges } in
       let ok : SeatOk base world.cells world.history v.seat = I.consistent.seats id v.seat at in
       record {
@@ -108,6 +113,7 @@ module _ {S N : Type 0} (terms : Terms S N) (setting : S) (base : List ℕ) (roo
         legal = λ x e.
             let b : (x ≡ setting) × (v.base ≡ base) = f.own.setting_is x e in
             subst (λ (g : Seen N). Legal terms x v.base g) (sym is) (subst (λ (z : S × List ℕ). Legal terms z.0 z.1 g) (λ j. (sym b.0 j, sym b.1 j)) (legal_of ranges world notes I entries));
+        noted = subst (λ (g : Seen N). length g.notes ≡ length g.history) (sym is) noted;
         mine = λ x e.
             let b : (x ≡ setting) × (v.base ≡ base) = f.own.setting_is x e in
             subst (λ (g : Seen N). Agree terms x v.base g v.mine) (sym is) (subst (λ (z : S × List ℕ). Agree terms z.0 z.1 g v.mine) (λ j. (sym b.0 j, sym b.1 j)) f.mine);
@@ -115,7 +121,7 @@ module _ {S N : Type 0} (terms : Terms S N) (setting : S) (base : List ℕ) (roo
             let b : (x ≡ setting) × (v.base ≡ base) = f.own.setting_is x e in
             subst (λ (g : Seen N). Opened terms x g.ranges v.base) (sym is) (subst (λ (z : S × List ℕ). Opened terms z.0 ranges z.1) (λ j. (sym b.0 j, sym b.1 j)) opening);
         ranges = λ x e.
-            subst (λ (g : Seen N). LieIn v.room g.ranges) (sym is) (subst (λ (k : ℕ). LieIn k ranges) (sym (f.room_is x e)) lie);
+            subst (λ (g : Seen N). AreOfOneStore v.room g.ranges) (sym is) (subst (λ (k : ℕ). AreOfOneStore k ranges) (sym (f.room_is x e)) lie);
         settled = λ i has. subst (λ (g : Seen N). (number_at v.seat.place ≡ Some i) ⊎ IsSettled g.history i) (sym is) (f.settled i has);
       }
 
@@ -135,8 +141,8 @@ module _ {S N : Type 0} (terms : Terms S N) (setting : S) (base : List ℕ) (roo
 
     -- a step of the seat id, after which it has the view w
     pub moved : (id : ℕ) (v w : View S N) → get_elem? vs id ≡ some v → (qs : List Range) (after : List ℕ) (world : World) (notes : List N) (owner : ℕ → ℕ)
-        → Within ranges qs → LieIn room qs
-        → ((c : ℕ) (x : CellWords) → slice_get world.cells c ≡ Some x → terms.ranged setting c → Names qs x.value)
+        → Within ranges qs → AreOfOneStore room qs
+        → ((c : ℕ) (x : Cell) → slice_get world.cells c ≡ Some x → terms.ranged setting c ≡ true → Names qs x.value)
         → Keeps base r.world world → world.seats ≡ slice_set (r.world).seats id w.seat → after ≡ words_of world
         → length world.cells ≡ length (r.world).cells → NotesGrow r.notes notes → length notes ≡ length world.history
         → EntriesAre terms setting (record { history = world.history; notes = notes; ranges = qs })
@@ -186,7 +192,7 @@ module _ {S N : Type 0} (terms : Terms S N) (setting : S) (base : List ℕ) (roo
     -- a step without a new number, by one event of the machine
     pub goes : (id : ℕ) (v : View S N) → get_elem? vs id ≡ some v
         → (after : List ℕ) (world : World) (z : Seat) (runs : ℕ) (looked : Option (ℕ × ℕ)) (mine : List (Call N)) (told : Told S N)
-        → ((c : ℕ) (x : CellWords) → slice_get world.cells c ≡ Some x → terms.ranged setting c → Names ranges x.value)
+        → ((c : ℕ) (x : Cell) → slice_get world.cells c ≡ Some x → terms.ranged setting c ≡ true → Names ranges x.value)
         → Keeps base r.world world → world.seats ≡ slice_set (r.world).seats id z → after ≡ words_of world
         → length world.cells ≡ length (r.world).cells → length world.history ≡ length (r.world).history
         → (Agree terms setting base (record { history = world.history; notes = r.notes; ranges = ranges }) v.mine
@@ -221,7 +227,7 @@ module _ {S N : Type 0} (terms : Terms S N) (setting : S) (base : List ℕ) (roo
             own = seen_trans v.seen now later f.own.grows grow;
             told = seen_trans v.told.seen now later f.told.grows grow;
             sound =
-                sound_of ranges world r.notes r.owner id w keeps.invariant
+                sound_of ranges world r.notes r.owner id w keeps.invariant (r.notes_are ∙ sym len)
                 (entries_grow terms setting (r.world).history world.history r.notes ranges keeps.grows len r.entries) r.opening r.lie suit
                 (ap (λ (l : List Seat). slice_get l id) seats ∙ get-set_same (r.world).seats id z v.seat (seat_at id v at)) refl;
           },

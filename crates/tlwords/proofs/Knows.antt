@@ -1,5 +1,6 @@
 -- What a pass knows of the store, as its calls go.
-use Rattle.std.proofs.Common.{◌≡◌, ◌≤◌, ⊎_elim, Bool, true, is_some, ℕ, suc, Some, List, [], ◌∷◌, ◌++◌, length, sym, ap, ◌∙◌, subst}
+use Rattle.std.proofs.Common.{◌≡◌, Bool, true, is_some, ℕ, Some, None, List, length, sym, ap, ◌∙◌, subst}
+use Rattle.atomic_table.specs.Seated.{TableId}
 use Rattle.atomic_table.specs.declared.shared.Seat.{Seat as TableSeat}
 use Rattle.tlwords.specs.declared.log.Slot.{Slot}
 use Rattle.tlwords.specs.declared.outcome.Outcome.{Outcome}
@@ -8,8 +9,8 @@ use Rattle.tlwords.specs.Terms.{Terms}
 use Rattle.tlwords.specs.Views.{View, Sound}
 use Rattle.tlwords.specs.Plays.{Mine, Sampled, Refreshes, told_by}
 use Rattle.tlwords.specs.Runs.{KnowsStore, ReadsCell, Stops}
-use Rattle.tlwords.specs.Commits.{work_kept, over_seat, HasEnded, HasCommitted, HasAnswered, HasConflicted, IsVoid}
-use Rattle.tlwords.proofs.Finishes.{known_setting}
+use Rattle.tlwords.specs.Commits.{work_kept, HasEnded, HasCommitted, HasAnswered, HasConflicted}
+use Rattle.tlwords.proofs.RunSteps.{known_setting}
 
 pub seat_knows : {S N : Type 0} (p q : TableSeat (Unit {0}) (View S N)) (o : Bool) → q ≡ p → KnowsStore p.me.0 o → KnowsStore q.me.0 o
 seat_knows {S} {N} p q o e k = subst (λ (t : TableSeat (Unit {0}) (View S N)). KnowsStore t.me.0 o) (sym e) k
@@ -50,23 +51,15 @@ module _ {S N : Type 0} (terms : Terms S N) where
       let a : HasAnswered terms (work_kept m.0.seat slots n) m r = h.2 in
       knows_on m.0 r.0 o a.sees.sound (ap (λ (v : View S N). is_some v.setting) a.is ∙ set) (ap (λ (v : View S N). v.staging) a.is)
       (ap (λ (v : View S N). v.full) a.is) k
-  ended_knows slots n m r (EndsConflict j) o h set k =
-      let c : HasConflicted terms slots n j m r = h.1 in
-      ⊎_elim
-      (λ (e : r.0 ≡ record m.0 { seen = r.0.seen; seat = over_seat terms m.0.seat true; looked = r.0.looked }).
+  ended_knows slots n m r (EndsConflict j None) o h set k =
+      let c : HasConflicted terms slots n j None m r = h.1 in
+      knows_on m.0 r.0 o c.sees.sound (ap (λ (v : View S N). is_some v.setting) c.entry ∙ set) (ap (λ (v : View S N). v.staging) c.entry)
+      (ap (λ (v : View S N). v.full) c.entry) k
+  ended_knows slots n m r (EndsConflict j (Some number)) o h set k =
+      let c : HasConflicted terms slots n j (Some number) m r = h.1 in
+      let e = c.entry.4 in
       knows_on m.0 r.0 o c.sees.sound (ap (λ (v : View S N). is_some v.setting) e ∙ set) (ap (λ (v : View S N). v.staging) e)
-      (ap (λ (v : View S N). v.full) e) k)
-      (λ (e : (i : ℕ) × (length m.0.seen.history ≤ i) × IsVoid r.0.seen i
-      × (r.0 ≡ record m.0 {
-        seen = r.0.seen;
-        seat = over_seat terms m.0.seat true;
-        looked = r.0.looked;
-        note = Some n;
-        drawn = m.0.drawn ++ suc i ∷ [];
-      })).
-      knows_on m.0 r.0 o c.sees.sound (ap (λ (v : View S N). is_some v.setting) e.3 ∙ set) (ap (λ (v : View S N). v.staging) e.3)
-      (ap (λ (v : View S N). v.full) e.3) k)
-      c.entry
+      (ap (λ (v : View S N). v.full) e) k
   ended_knows slots n m r NumbersUsed o h set k = subst (λ (z : Mine S N). KnowsStore z.0 o) (sym h.2) k
 
   pub learned_knows : (m0 m1 m2 : Mine S N) (u : View S N) (n : ℕ) (o : Bool) → m1 ≡ (told_by m0.0 u, m0.1) → Sampled terms m1 n m2
@@ -78,11 +71,39 @@ module _ {S N : Type 0} (terms : Terms S N) where
       (ap (λ (v : View S N). v.staging) p.is ∙ ap (λ (v : View S N). v.staging) e)
       (ap (λ (v : View S N). v.full) p.is ∙ ap (λ (v : View S N). v.full) e) k
 
-  pub refreshed_knows : (m0 m1 m2 : Mine S N) (o : Bool) → m1 ≡ m0 → Refreshes terms m1 m2 → is_some m0.0.setting ≡ true
+  pub refreshed_knows : (m0 m1 m2 : Mine S N) (o : Bool) → Refreshes terms m0 m1 → m2 ≡ m1 → is_some m0.0.setting ≡ true
       → KnowsStore m0.0 o → KnowsStore m2.0 o
-  refreshed_knows m0 m1 m2 o a q set k =
-      let e : m1.0 ≡ m0.0 = ap (λ (m : Mine S N). m.0) a in
-      knows_on m0.0 m2.0 o q.sees.sound
-      (ap (λ (v : View S N). is_some v.setting) q.is ∙ (ap (λ (v : View S N). is_some v.setting) e ∙ set))
-      (ap (λ (v : View S N). v.staging) q.is ∙ ap (λ (v : View S N). v.staging) e)
-      (ap (λ (v : View S N). v.full) q.is ∙ ap (λ (v : View S N). v.full) e) k
+  refreshed_knows m0 m1 m2 o q a set k =
+      subst (λ (m : Mine S N). KnowsStore m.0 o) (sym a)
+      (knows_on m0.0 m1.0 o q.sees.sound (ap (λ (v : View S N). is_some v.setting) q.is ∙ set) (ap (λ (v : View S N). v.staging) q.is)
+      (ap (λ (v : View S N). v.full) q.is) k)
+
+  -- a commit leaves the opening values and the room as they are
+  pub ended_same : (slots : List Slot) (n : N) (m r : Mine S N) (e : Outcome) → HasEnded terms slots n m r e
+      → (r.0.base ≡ m.0.base) × (r.0.room ≡ m.0.room)
+  ended_same slots n m r (EndsDone number) h =
+      let c : HasCommitted terms number (work_kept m.0.seat slots n) m r = h.1 in
+      (ap (λ (v : View S N). v.base) c.is, ap (λ (v : View S N). v.room) c.is)
+  ended_same slots n m r (EndsRead place) h =
+      let a : HasAnswered terms (work_kept m.0.seat slots n) m r = h.2 in
+      (ap (λ (v : View S N). v.base) a.is, ap (λ (v : View S N). v.room) a.is)
+  ended_same slots n m r (EndsConflict k None) h =
+      let c : HasConflicted terms slots n k None m r = h.1 in
+      (ap (λ (v : View S N). v.base) c.entry, ap (λ (v : View S N). v.room) c.entry)
+  ended_same slots n m r (EndsConflict k (Some number)) h =
+      let c : HasConflicted terms slots n k (Some number) m r = h.1 in
+      (ap (λ (v : View S N). v.base) c.entry.4, ap (λ (v : View S N). v.room) c.entry.4)
+  ended_same slots n m r NumbersUsed h = (ap (λ (z : Mine S N). z.0.base) h.2, ap (λ (z : Mine S N). z.0.room) h.2)
+
+-- a seat at this table, with so many cells and words of the store
+abbrev pub FitsTable : {S N : Type 0} → TableId → ℕ → ℕ → TableSeat (Unit {0}) (View S N) → Type 0
+FitsTable table cells room p = (p.table_id ≡ table) × (cells ≡ length p.me.0.base) × (room ≡ p.me.0.room)
+
+pub fits_same : {S N : Type 0} (table : TableId) (cells room : ℕ) (p q : TableSeat (Unit {0}) (View S N)) → q ≡ p → FitsTable table cells room p
+    → FitsTable table cells room q
+fits_same {S} {N} table cells room p q e f = subst (λ (t : TableSeat (Unit {0}) (View S N)). FitsTable table cells room t) (sym e) f
+
+-- a step or more of the seat leave it at the table, with the opening values and the room as they are
+pub fits_goes : {S N : Type 0} (table : TableId) (cells room : ℕ) (p q : TableSeat (Unit {0}) (View S N)) → q.table_id ≡ p.table_id
+    → (q.me.0.base ≡ p.me.0.base) × (q.me.0.room ≡ p.me.0.room) → FitsTable table cells room p → FitsTable table cells room q
+fits_goes table cells room p q e same f = (e ∙ f.0, f.1 ∙ sym (ap length same.0), f.2 ∙ sym same.1)

@@ -24,3 +24,4 @@ pub mod Ends
 pub mod Fillings
 pub mod Modes
 pub mod StoreSteps
+pub mod Events

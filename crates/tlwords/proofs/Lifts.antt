@@ -2,7 +2,7 @@
 use Rattle.std.proofs.Common.{◌≡◌, ℕ, suc, ◌-◌, ◌*◌, List, [], ◌∷◌, ◌++◌, length, slice_set, slice_index, sym, refl, ap, ◌∙◌, subst, arith}
 use Rattle.std.proofs.lemmas.List.{get_or_append_left, get_or-append_right, set-append_left, set-append_right}
 use Rattle.atomic_table.specs.Table.{keeps, Allows}
-use Rattle.tlcore.proofs.Words.{CellWords}
+use Rattle.tlcore.specs.declared.cells.Cell.{Cell}
 use Rattle.tlwords.specs.Terms.{Terms}
 use Rattle.tlwords.specs.Views.{View}
 use Rattle.tlwords.specs.Rule.{paired, tail_at, store_at, Kept, Ruled}
@@ -10,7 +10,7 @@ use Rattle.tlwords.specs.Plays.{Mine}
 use Rattle.tlwords.proofs.Keeps.{AllowsFront}
 use Rattle.tlwords.proofs.Shelves.{shelf_same}
 
-length-paired : (xs : List CellWords) → length (paired xs) ≡ 2 * length xs
+length-paired : (xs : List Cell) → length (paired xs) ≡ 2 * length xs
 length-paired [] = refl
 length-paired (x ∷ xs) = let r : length (paired xs) ≡ 2 * length xs = length-paired xs in omega (arith, r)
 
@@ -50,9 +50,9 @@ module _ {S N : Type 0} (terms : Terms S N) (setting : S) (base : List ℕ) (roo
       omega (arith, a, b, c)
 
   -- a step on the front is one of the table
-  pub lifted : (slots id i : ℕ) (me : Mine S N) (f : ℕ → ℕ) (then : ℕ → Mine S N → Type 0) → AllowsFront terms setting base room id me i f then
-      → Allows (Ruled terms setting base room) slots id me i f then
-  lifted slots id i me f then allows s r _ at _ =
+  pub lifted : (opened : List ℕ) (slots id i : ℕ) (me : Mine S N) (f : ℕ → ℕ) (then : ℕ → Mine S N → Type 0) → AllowsFront terms setting base room id me i f then
+      → Allows (Ruled terms setting base room opened) slots id me i f then
+  lifted opened slots id i me f then allows s r _ at _ =
       let q = allows r.ranges r.front s.views r.kept at in
       let u : View S N = q.1 in
       let same : slice_index s.words i ≡ slice_index r.front i =
@@ -70,7 +70,7 @@ module _ {S N : Type 0} (terms : Terms S N) (setting : S) (base : List ℕ) (roo
               ∙ (ap (λ (n : ℕ). slice_set (r.front ++ r.tail ∷ r.store) i (f n)) same
               ∙ set-append_left r.front (r.tail ∷ r.store) i (f (slice_index r.front i)) q.0);
           kept = q.3;
-          shelf = shelf_same room r.tail r.ranges r.store s.views id me.0 u r.shelf at q.2;
+          shelf = shelf_same room opened r.tail r.ranges r.store s.views id me.0 u r.shelf at q.2;
         },
         subst (λ (n : ℕ). then n (u, me.1)) (sym same) q.4,
       )

@@ -8,7 +8,7 @@ use native.Mathlib.Decide.{ℕ_discrete}
 use Rattle.tlcore.specs.Seats.{Seat, find_read}
 use Rattle.tlcore.proofs.Lists.{get-set_same, get-set_other}
 use Rattle.tlcore.proofs.Growth.{get_exists}
-use Rattle.tlcore.proofs.Words.{SeatRead}
+use Rattle.tlcore.specs.declared.seats.Read.{Read}
 use Rattle.tlwords.specs.declared.log.Slot.{Slot}
 use Rattle.tlwords.specs.Views.{counts}
 use Rattle.tlwords.specs.Runs.{word_seen, value_kept, was_read, lists, count_read, IsBlank, IsKeptOf, HasNoted, HasKept}
@@ -96,10 +96,10 @@ take_set (y ∷ ys) (suc n) x l = ap (λ (l : List ℕ). y ∷ l) (take_set ys n
 
 -- ---- a read is noted
 
-find_here : (r : SeatRead) (rs : List SeatRead) → find_read r.cell (r ∷ rs) ≡ Some r
+find_here : (r : Read) (rs : List Read) → find_read r.cell (r ∷ rs) ≡ Some r
 find_here r rs = rw (eq-eqb r.cell r.cell refl) refl
 
-find_else : (c : ℕ) (r : SeatRead) (rs : List SeatRead) → r.cell ≢ c → find_read c (r ∷ rs) ≡ find_read c rs
+find_else : (c : ℕ) (r : Read) (rs : List Read) → r.cell ≢ c → find_read c (r ∷ rs) ≡ find_read c rs
 find_else c r rs n = rw (ne_eqb r.cell c n) refl
 
 module _ (slots : List Slot) (cells more : List ℕ) (cell word : ℕ) (kept : Option ℕ) (l : cell < length slots) (even : word % 2 ≡ 0)
@@ -119,14 +119,14 @@ module _ (slots : List Slot) (cells more : List ℕ) (cell word : ℕ) (kept : O
   noted_still c was = dite (ℕ_discrete c cell) (λ e. ap (was_read after) e ∙ noted_here)
       (λ n. ap is_some (seen_else slots cell (record { word = Some word; kept = kept }) c n) ∙ was)
 
-  pub noted_kept : (t : Seat) (r : SeatRead) → IsKeptOf t slots cells → r.cell ≡ cell → r.word ≡ word
+  pub noted_kept : (t : Seat) (r : Read) → IsKeptOf t slots cells → r.cell ≡ cell → r.word ≡ word
       → ((c : ℕ) → was_read slots c ≡ true → lists c more ≡ true) → lists cell more ≡ true → count_read after ≡ length more
       → IsKeptOf (record t { reads = r ∷ t.reads }) after more
   noted_kept t r k a b old here count = (
     λ c. dite (ℕ_discrete c cell)
         (λ e. ap (word_seen after) e ∙ (seen_here slots cell (record { word = Some word; kept = kept }) l ∙ (ap (λ (w : ℕ). Some w) (sym b)
-        ∙ sym (ap (λ (j : ℕ). option_map (λ (r : SeatRead). r.word) (find_read j (r ∷ t.reads))) (e ∙ sym a) ∙ ap (option_map (λ (r : SeatRead). r.word)) (find_here r t.reads)))))
-        (λ n. seen_else slots cell (record { word = Some word; kept = kept }) c n ∙ (k.0 c ∙ sym (ap (option_map (λ (r : SeatRead). r.word)) (find_else c r t.reads (λ e. n (sym e ∙ a)))))),
+        ∙ sym (ap (λ (j : ℕ). option_map (λ (r : Read). r.word) (find_read j (r ∷ t.reads))) (e ∙ sym a) ∙ ap (option_map (λ (r : Read). r.word)) (find_here r t.reads)))))
+        (λ n. seen_else slots cell (record { word = Some word; kept = kept }) c n ∙ (k.0 c ∙ sym (ap (option_map (λ (r : Read). r.word)) (find_else c r t.reads (λ e. n (sym e ∙ a)))))),
     λ c is. noted_still c (k.1 c (ap is_some (sym (noted_values c)) ∙ is)),
     λ c w is. dite (ℕ_discrete c cell)
         (λ e. let p : Some word ≡ Some w = sym (seen_here slots cell (record { word = Some word; kept = kept }) l) ∙ (ap (word_seen after) (sym e) ∙ is) in
@@ -321,7 +321,7 @@ some_is o w e s = let a : None ≡ Some w = sym e ∙ s in cc
 
 pub blank_kept : (t : Seat) (slots : List Slot) (cells : List ℕ) (used : ℕ) → t.reads ≡ [] → IsBlank slots → used ≡ 0 → IsKeptOf t slots (take used cells)
 blank_kept t slots cells used none_read b e = (
-  λ c. (b c).0 ∙ sym (ap (λ (rs : List SeatRead). option_map (λ (r : SeatRead). r.word) (find_read c rs)) none_read),
+  λ c. (b c).0 ∙ sym (ap (λ (rs : List Read). option_map (λ (r : Read). r.word) (find_read c rs)) none_read),
   λ c is. absurd (some_none (value_kept slots c) (b c).1 is),
   λ c w is. absurd (some_is (word_seen slots c) w (b c).0 is),
   λ c was. absurd (some_none (word_seen slots c) (b c).0 was),
@@ -332,4 +332,4 @@ blank_kept t slots cells used none_read b e = (
 
 pub kept_same : (t u : Seat) (slots : List Slot) (cells : List ℕ) → u.reads ≡ t.reads → IsKeptOf t slots cells → IsKeptOf u slots cells
 kept_same t u slots cells e k =
-    (λ c. k.0 c ∙ ap (λ (rs : List SeatRead). option_map (λ (r : SeatRead). r.word) (find_read c rs)) (sym e), k.1, k.2, k.3, k.4)
+    (λ c. k.0 c ∙ ap (λ (rs : List Read). option_map (λ (r : Read). r.word) (find_read c rs)) (sym e), k.1, k.2, k.3, k.4)

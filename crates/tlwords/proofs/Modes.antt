@@ -1,7 +1,7 @@
 -- What a run keeps of its reads, by its mode.
 use Rattle.std.proofs.Common.{◌≡◌, ℕ, is_some, true, false, List, [], ◌∷◌, length, refl, sym, ap, ◌∙◌, subst}
 use Rattle.tlcore.specs.Seats.{Seat}
-use Rattle.tlcore.proofs.Words.{SeatRead}
+use Rattle.tlcore.specs.declared.seats.Read.{Read}
 use Rattle.tlwords.specs.declared.mode.Mode.{Mode}
 use Rattle.tlwords.specs.declared.mode.Mode.TheVariants.{Reading, Writing}
 use Rattle.tlwords.specs.declared.log.Slot.{Slot}
@@ -22,7 +22,7 @@ reading_blank t slots cells k c =
     (k.0 c, none_known (value_kept slots c) (λ is. let a : true ≡ false = sym (k.1 c is) ∙ ap is_some (k.0 c) in cc))
 
 -- after a read by a run in this mode, whose log was l and is k now
-pub read_kept : (mode : Mode) (t u : Seat) (l k : Log) (r : SeatRead) → Notes mode l k r.cell r.word → u.reads ≡ r ∷ t.reads
+pub read_kept : (mode : Mode) (t u : Seat) (l k : Log) (r : Read) → Notes mode l k r.cell r.word → u.reads ≡ r ∷ t.reads
     → IsKeptOf (noted mode t) l.slots.items (listed l) → IsKeptOf (noted mode u) k.slots.items (listed k)
 read_kept Reading t u l k r n e h =
     subst (λ (z : Log). IsKeptOf (noted Reading u) z.slots.items (listed z)) (sym n)

@@ -12,18 +12,19 @@ use Rattle.tlcore.specs.Laws.{Keeps}
 use Rattle.tlcore.proofs.Growth.{Grows-refl}
 use Rattle.tlcore.proofs.Laws.{idle_seat_keeps}
 use Rattle.tlcore.proofs.SeatParts.{ReadsOk-one}
-use Rattle.tlcore.proofs.Words.{at_idle, is_looking, not_looking}
-use Rattle.tlwords.specs.Ranges.{Range, Has}
+use Rattle.tlcore.specs.declared.seats.Place.TheVariants.{Idle}
+use Rattle.tlcore.proofs.Words.{is_looking, not_looking}
+use Rattle.ranges.specs.Ranges.{Range, Has}
 use Rattle.tlwords.specs.Terms.{Terms, Permits}
 use Rattle.tlwords.specs.Seen.{Work, Call, Answered, Seen, Agree}
-use Rattle.tlwords.specs.Views.{View, tells, untold, nobody, counts}
+use Rattle.tlwords.specs.Views.{View, tells, untold, nobody}
 use Rattle.tlwords.specs.Rule.{total_of, IsTold, Suits, Ruled}
 use Rattle.tlwords.specs.Plays.{Mine, Sees, recalled, refreshed, witness, told_by, newcomer}
 use Rattle.tlwords.proofs.Paired.{set_same, map_set, word_count}
 use Rattle.tlwords.proofs.Seens.{agree_snoc, permits_grow}
 use Rattle.tlwords.proofs.Shelves.{shelf_same, shelf_shared}
 use Rattle.tlwords.proofs.Lifts.{lifted}
-use Rattle.tlwords.proofs.Keeps.{Rule, now, seat_at, seat_ok, moved, goes, untold_is, total_set}
+use Rattle.tlwords.proofs.Keeps.{moves_of, Rule, now, seat_at, seat_ok, moved, goes, untold_is, total_set}
 use Rattle.tlwords.proofs.ReadSteps.{no_number}
 
 module _ {S N : Type 0} (terms : Terms S N) (setting : S) (base : List ℕ) (room : ℕ) where
@@ -41,9 +42,9 @@ module _ {S N : Type 0} (terms : Terms S N) (setting : S) (base : List ℕ) (roo
       goes terms setting base room ranges ws vs r id v at (slice_set ws 0 (slice_index ws 0)) w v.seat v.runs v.looked mine v.told r.named same
       (sym (set_same w.seats id v.seat e)) (set-get_or ws 0 0 ∙ r.words_are) refl refl calls f.told (λ i a. inl a) (λ i a. a) f.look
 
-  pub refreshes : (slots id : ℕ) (me : Mine S N) → Allows (Ruled terms setting base room) slots id me 0 (λ n. n) (refreshed terms (step slots 0 0 0 none) me)
-  refreshes slots id me =
-      lifted terms setting base room slots id 0 me (λ n. n)
+  pub refreshes : (opened : List ℕ) (slots id : ℕ) (me : Mine S N) → Allows (Ruled terms setting base room opened) slots id me 0 (λ n. n) (refreshed terms (step slots 0 0 0 none) me)
+  refreshes opened slots id me =
+      lifted terms setting base room opened slots id 0 me (λ n. n)
       (refreshed terms (step slots 0 0 0 none) me) λ ranges ws vs r at.
       let q = rests ranges ws vs r id me.0 at me.0.mine (λ a. a) in (
         (let l = word_count ws r.world r.words_are in omega arith),
@@ -53,10 +54,10 @@ module _ {S N : Type 0} (terms : Terms S N) (setting : S) (base : List ℕ) (roo
         record { sees = q.1; is = refl },
       )
 
-  pub recalls : (slots id : ℕ) (me : Mine S N) (y : S) (note : N) → me.0.setting ≡ Some y → Permits terms y me.0.seen.ranges (reads_of me.0.seat.reads) [] note
-      → Allows (Ruled terms setting base room) slots id me 0 (λ n. n) (recalled terms (Some note) (step slots 0 0 0 none) me)
-  recalls slots id me y note set law =
-      lifted terms setting base room slots id 0 me (λ n. n)
+  pub recalls : (opened : List ℕ) (slots id : ℕ) (me : Mine S N) (y : S) (note : N) → me.0.setting ≡ Some y → Permits terms y me.0.seen.ranges (reads_of me.0.seat.reads) [] note
+      → Allows (Ruled terms setting base room opened) slots id me 0 (λ n. n) (recalled terms (Some note) (step slots 0 0 0 none) me)
+  recalls opened slots id me y note set law =
+      lifted terms setting base room opened slots id 0 me (λ n. n)
       (recalled terms (Some note) (step slots 0 0 0 none) me) λ ranges ws vs r at.
       let v : View S N = me.0 in
       let t : Seat = v.seat in
@@ -146,20 +147,20 @@ module _ {S N : Type 0} (terms : Terms S N) (setting : S) (base : List ℕ) (roo
       → ((x : S) → v.setting ≡ Some x → v.room ≡ room) → IsTold setting base g owner (tells v) → IsTold setting base g owner v.told
       → Suits terms setting base room g owner v
   blank_suits g owner v idles calls undrawn same_room own told =
-      let place : v.seat.place ≡ at_idle = ap (λ (t : Seat). t.place) idles in
+      let place : v.seat.place ≡ Idle = ap (λ (t : Seat). t.place) idles in
       record {
         own = own;
         room_is = same_room;
         told = told;
         mine = subst (λ (cs : List (Call N)). Agree terms setting base g cs) (sym calls) tt;
         settled = λ i has. absurd (subst (λ (ns : List ℕ). Has (suc i) ns) undrawn has);
-        noted = λ i a. absurd (no_number v.seat.place at_idle i place refl a);
+        noted = λ i a. absurd (no_number v.seat.place Idle i place refl a);
         look = λ c word value a. absurd (not_looking v.seat.place (ap is_looking place) c word value a);
         few = let a : length v.drawn ≡ 0 = ap length undrawn in omega (arith, a);
       }
 
-  pub notes : (id : ℕ) (v : View S N) → Splits (Ruled terms setting base room) id v v (witness v)
-  notes id v s r at =
+  pub notes : (opened : List ℕ) (id : ℕ) (v : View S N) → Splits (Ruled terms setting base room opened) id v v (witness v)
+  notes opened id v s r at =
       let ranges : List Range = r.ranges in
       let ws : List ℕ = r.front in
       let g : Seen N = now terms setting base room ranges ws s.views r.kept in
@@ -173,12 +174,12 @@ module _ {S N : Type 0} (terms : Terms S N) (setting : S) (base : List ℕ) (roo
         words_are = r.words_are;
         kept = shared ranges ws s.views r.kept id v v (witness v) at f
             (blank_suits g (r.kept).owner (witness v) refl refl refl (λ x e. absurd (cc)) plain f.own) refl refl (omega arith) (omega arith);
-        shelf = shelf_shared room r.tail ranges r.store s.views id v v (witness v) r.shelf at refl refl ((r.shelf).once id v at) refl refl;
+        shelf = shelf_shared room opened r.tail ranges r.store s.views id v v (witness v) r.shelf at refl refl ((r.shelf).tail_is.each id v at).once (refl, refl);
       }
 
-  pub deals : (id : ℕ) (v : View S N) → v.drawn ≡ [] → 1 ≤ v.rights → v.full ≡ None
-      → Splits (Ruled terms setting base room) id v (record v { rights = v.rights - 1 }) (newcomer v)
-  deals id v none_drawn some_rights unrefused s r at =
+  pub deals : (opened : List ℕ) (id : ℕ) (v : View S N) → v.drawn ≡ [] → 1 ≤ v.rights → v.full ≡ None
+      → Splits (Ruled terms setting base room opened) id v (record v { rights = v.rights - 1 }) (newcomer v)
+  deals opened id v none_drawn some_rights unrefused s r at =
       let ranges : List Range = r.ranges in
       let ws : List ℕ = r.front in
       let g : Seen N = now terms setting base room ranges ws s.views r.kept in
@@ -209,8 +210,8 @@ module _ {S N : Type 0} (terms : Terms S N) (setting : S) (base : List ℕ) (roo
         words_are = r.words_are;
         kept = shared ranges ws s.views r.kept id v left (newcomer v) at suit
             (blank_suits g (r.kept).owner (newcomer v) refl refl refl f.room_is new plain) refl refl (omega (arith, some_rights)) (omega (arith, count));
-        shelf = shelf_shared room r.tail ranges r.store s.views id v left (newcomer v) r.shelf at refl refl
-            (let none_full : counts v.full ≡ 0 = ap counts unrefused in omega (arith, none_full)) refl refl;
+        shelf = shelf_shared room opened r.tail ranges r.store s.views id v left (newcomer v) r.shelf at refl refl
+            (let none : v.added ≡ 0 = ((r.shelf).tail_is.each id v at).unrefused unrefused in omega (arith, none)) (refl, refl);
       }
 
   -- a view changes, and its seat, its rights and the count of its numbers stay
@@ -223,9 +224,9 @@ module _ {S N : Type 0} (terms : Terms S N) (setting : S) (base : List ℕ) (roo
       (sym (ap (λ (t : Seat). slice_set (r.world).seats id t) same ∙ set_same (r.world).seats id v.seat e)) r.words_are refl (λ i n a. a) r.notes_are r.entries
       (λ n l. refl) suit rights (omega (arith, count))
 
-  pub joins : (id : ℕ) (v : View S N) (other : ℕ) (w : View S N) → w.seat ≡ idle → w.rights ≡ 0 → w.drawn ≡ [] → w.staging ≡ None
-      → w.full ≡ None → Joins (Ruled terms setting base room) id v other w (told_by v w) nobody
-  joins id v other w idles no_rights none_drawn unstaged unrefused s r at apart there =
+  pub joins : (opened : List ℕ) (id : ℕ) (v : View S N) (other : ℕ) (w : View S N) → w.seat ≡ idle → w.rights ≡ 0 → w.drawn ≡ [] → w.staging ≡ None
+      → moves_of w ≡ (None, 0, 0) → Joins (Ruled terms setting base room opened) id v other w (told_by v w) nobody
+  joins opened id v other w idles no_rights none_drawn unstaged unmoved s r at apart there =
       let ranges : List Range = r.ranges in
       let ws : List ℕ = r.front in
       let b : View S N = told_by v w in
@@ -255,6 +256,6 @@ module _ {S N : Type 0} (terms : Terms S N) (setting : S) (base : List ℕ) (roo
         words_are = r.words_are;
         kept = changed ranges ws vs first other w nobody there
             (blank_suits g' first.owner nobody refl refl refl (λ x e. absurd (cc)) plain plain) (sym idles) (sym no_rights) (sym (ap length none_drawn));
-        shelf = shelf_same room r.tail ranges r.store vs other w nobody
-            (shelf_same room r.tail ranges r.store s.views id v b r.shelf at (refl, refl, refl)) there (sym unstaged, sym unrefused, sym no_rights);
+        shelf = shelf_same room opened r.tail ranges r.store vs other w nobody
+            (shelf_same room opened r.tail ranges r.store s.views id v b r.shelf at (refl, refl, refl)) there (sym unstaged, sym unmoved, sym no_rights);
       }

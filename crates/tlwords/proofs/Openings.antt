@@ -1,5 +1,5 @@
 -- The rule at the opening, and the passes of an opening.
-use Rattle.std.proofs.Common.{◌≡◌, ℕ, zero, suc, ◌+◌, ◌-◌, ◌*◌, ◌/◌, ◌%◌, ◌^◌, ◌<◌, ◌≤◌, inl, inr, false, Some, None, List, [], ◌∷◌, ◌++◌, length, map, slice_get, sym, refl, ap, ◌∙◌, subst, arith, All, take, drop, replicate}
+use Rattle.std.proofs.Common.{◌≡◌, ℕ, zero, suc, ◌+◌, ◌-◌, ◌*◌, ◌^◌, ◌<◌, ◌≤◌, false, Some, None, List, [], ◌∷◌, ◌++◌, length, map, slice_get, sym, refl, ap, ◌∙◌, subst, arith, All, take, replicate}
 use mathlib.Core.Option.{some, some-injective, some-ne-none}
 use lib.ListN.{get_elem?}
 use Rattle.std.specs.Prelude.{slice_index_or}
@@ -7,15 +7,15 @@ use Rattle.std.proofs.lemmas.List.{map-append, length-append, length-replicate}
 use Rattle.std.proofs.lemmas.List.Elements.{All-append}
 use Rattle.atomic_table.specs.Table.{opening}
 use Rattle.tlcore.specs.Schedules.{start, opened}
-use Rattle.tlcore.proofs.Growth.{get_exists}
 use Rattle.tlcore.proofs.Lists.{get-append_left, get_within}
 use Rattle.tlcore.proofs.Opacity.{start_ok}
-use Rattle.tlcore.proofs.Words.{CellWords}
-use Rattle.tlwords.specs.Ranges.{Range, Has, IsStored, LieIn, range_named, ranges_named}
+use Rattle.tlcore.specs.declared.cells.Cell.{Cell}
+use Rattle.ranges.proofs.Named.{named_stored, named_of_one}
+use Rattle.ranges.specs.Ranges.{Range, Has, IsStored, AreOfOneStore, ranges_named}
 use Rattle.tlwords.specs.Terms.{Terms, AreNamed}
 use Rattle.tlwords.specs.Seen.{Seen, opening_seen}
-use Rattle.tlwords.specs.Views.{Staging, View, untold, fresh, counts}
-use Rattle.tlwords.specs.Rule.{paired, opening_words, IsTold, Suits, Kept, Shelf, Ruled, first_view}
+use Rattle.tlwords.specs.Views.{Staging, View, Sound, untold, fresh}
+use Rattle.tlwords.specs.Rule.{paired, opening_words, IsTold, Suits, Kept, Adds, Shelf, Ruled, first_view}
 use Rattle.tlwords.specs.Runs.{down, dealer, IsNew, KnowsStore}
 use Rattle.tlwords.specs.Plays.{Mine, newcomer}
 use Rattle.tlwords.proofs.Logs.{take_next}
@@ -43,51 +43,22 @@ some_one a b e = cc
 no_staging : {S N : Type 0} {A : Type 0} (v : View S N) (s : Staging) → v.staging ≡ None → v.staging ≡ Some s → A
 no_staging v s e f = absurd (cc)
 
-get_opened : (vs : List ℕ) (c : ℕ) (x : CellWords) → slice_get (opened vs) c ≡ Some x → slice_get vs c ≡ Some x.value
+get_opened : (vs : List ℕ) (c : ℕ) (x : Cell) → slice_get (opened vs) c ≡ Some x → slice_get vs c ≡ Some x.value
 get_opened [] c x e = absurd (cc)
-get_opened (v ∷ vs) zero x e = let q : record { lock = 0; value = v } ≡ x = cc in ap (λ (z : CellWords). Some z.value) q
+get_opened (v ∷ vs) zero x e = let q : record { lock = 0; value = v } ≡ x = cc in ap (λ (z : Cell). Some z.value) q
 get_opened (v ∷ vs) (suc c) x e = get_opened vs c x e
 
--- what stands in a part of the list stands in the list
-taken : (n i w : ℕ) (xs : List ℕ) → slice_get (take n xs) i ≡ Some w → slice_get xs i ≡ Some w
-taken zero i w xs e = absurd (cc)
-taken (suc n) i w [] e = absurd (cc)
-taken (suc n) zero w (x ∷ xs) e = e
-taken (suc n) (suc i) w (x ∷ xs) e = taken n i w xs e
-
-part_get : (n s i w : ℕ) (xs : List ℕ) → slice_get (take n (drop s xs)) i ≡ Some w → slice_get xs (s + i) ≡ Some w
-part_get n zero i w xs e = ap (λ (k : ℕ). slice_get xs k) (let z : 0 + i ≡ i = omega arith in z) ∙ taken n i w xs e
-part_get n (suc s) i w [] e = let none : slice_get [] i ≡ Some w = taken n i w [] e in absurd (cc)
-part_get n (suc s) i w (x ∷ xs) e = ap (λ (k : ℕ). slice_get (x ∷ xs) k) (let k : suc s + i ≡ suc (s + i) = omega arith in k) ∙ part_get n s i w xs e
-
-part_within : (n s i : ℕ) (xs : List ℕ) → i < length (take n (drop s xs)) → s + i < length xs
-part_within n s i xs l =
-    let b = get_exists (take n (drop s xs)) i l in
-    get_within xs (s + i) b.0 (part_get n s i b.0 xs b.1)
-
--- a range that the values name is one that some value names
-named_by : (P : Range → Type 0) (store values : List ℕ) → ((v : ℕ) → P (range_named store v)) → (r : Range) → Has r (ranges_named store values) → P r
-named_by P store [] all r has = absurd has
-named_by P store (v ∷ vs) all r (inl e) = subst P (sym e) (all v)
-named_by P store (v ∷ vs) all r (inr has) = named_by P store vs all r has
-
-pub lie_named : (store values : List ℕ) (room : ℕ) → length store ≤ room → LieIn room (ranges_named store values)
-lie_named store values room l =
-    named_by (λ r. (i : ℕ) → i < length r.words → r.start + i < room) store values
-    (λ v i m. let w = part_within (v % 2 ^ 25) (v / 2 ^ 25) i store m in omega (arith, w, l))
-
--- the ranges that the values name are stored, whatever stands behind the store's opening words
-pub named_stored : (store values more : List ℕ) (r : Range) → Has r (ranges_named store values) → IsStored (length store) (store ++ more) r
-named_stored store values more =
-    named_by (λ r. IsStored (length store) (store ++ more) r) store values
-    (λ v i w e.
-    let here = part_get (v % 2 ^ 25) (v / 2 ^ 25) i w store e in
-    let l = get_within store (v / 2 ^ 25 + i) w here in
-    (get-append_left store more (v / 2 ^ 25 + i) l ∙ here, l))
+-- behind a list stand so many zeros
+zeros_behind : (xs : List ℕ) (n o : ℕ) → length xs ≤ o → o < length xs + n → slice_get (xs ++ replicate n 0) o ≡ Some 0
+zeros_behind [] zero o l m = absurd (omega (arith, m))
+zeros_behind [] (suc n) zero l m = refl
+zeros_behind [] (suc n) (suc o) l m = zeros_behind [] n o (omega arith) (omega (arith, m))
+zeros_behind (x ∷ xs) n zero l m = absurd (omega (arith, l))
+zeros_behind (x ∷ xs) n (suc o) l m = zeros_behind xs n o (omega (arith, l)) (omega (arith, m))
 
 module _ {S N : Type 0} (terms : Terms S N) (setting : S) (values store : List ℕ) (room : ℕ) (fits : length store ≤ room) where
   shelf_so : room ≤ 2 ^ 24 → (ranges : List Range) → ((r : Range) → Has r ranges → IsStored (length store) (store ++ replicate (room - length store) 0) r)
-      → (base : List ℕ) → Shelf room ranges (length store) (store ++ replicate (room - length store) 0) (first_view {N = N} setting base room ranges ∷ [])
+      → (base : List ℕ) → Shelf room store ranges (length store) (store ++ replicate (room - length store) 0) (first_view {N = N} setting base room ranges ∷ [])
   shelf_so small ranges stored base =
       let first : View S N = first_view setting base room ranges in
       let unstaged : (j : ℕ) (v : View S N) → get_elem? (first ∷ []) j ≡ some v → v.staging ≡ None = only_one first (λ v. v.staging ≡ None) refl in
@@ -102,14 +73,24 @@ module _ {S N : Type 0} (terms : Terms S N) (setting : S) (values store : List �
         taken = λ j v s at e. no_staging v s (unstaged j v at) e;
         apart = λ j v s r at e has. no_staging v s (unstaged j v at) e;
         alone = λ j k u v s t ne at there e f. no_staging u s (unstaged j u at) e;
-        refused = omega (arith, fits);
-        once = only_one first (λ v. counts v.full ≤ v.rights) (omega arith);
+        left = record {
+          opening = λ o w e. get-append_left store (replicate (room - length store) 0) o (get_within store o w e) ∙ e;
+          blank = blank;
+        };
+        tail_is = record {
+          is = omega arith;
+          most = omega (arith, fits);
+          each = only_one first (λ v. Adds room (length store) v) (record { once = omega arith; unrefused = λ _. refl; found = λ n count e. absurd (cc) });
+        };
       }
+    where
+      blank : (o : ℕ) → length store ≤ o → o < room → slice_get (store ++ replicate (room - length store) 0) o ≡ Some 0
+      blank o l m = zeros_behind store (room - length store) o l (omega (arith, l, m, fits))
 
-  kept_so : terms.opens setting (ranges_named store values) values → AreNamed terms setting (ranges_named store values) values
-      → Kept terms setting values room (ranges_named store values) (0 ∷ 0 ∷ opening_words values) (first_view setting values room (ranges_named store values) ∷ [])
+  kept_so : terms.opens setting (ranges_named (terms.ranged setting) store values) values → AreNamed terms setting (ranges_named (terms.ranged setting) store values) values
+      → Kept terms setting values room (ranges_named (terms.ranged setting) store values) (0 ∷ 0 ∷ opening_words values) (first_view setting values room (ranges_named (terms.ranged setting) store values) ∷ [])
   kept_so fact named =
-      let ranges : List Range = ranges_named store values in
+      let ranges : List Range = ranges_named (terms.ranged setting) store values in
       let first : View S N = first_view setting values room ranges in
       let g : Seen N = opening_seen ranges in
       let plain : IsTold {S = S} setting values g (λ _. 0) untold = untold_is setting values g (λ _. 0) in
@@ -128,7 +109,7 @@ module _ {S N : Type 0} (terms : Terms S N) (setting : S) (values store : List �
         entries = λ i e n a b. absurd (cc);
         opening = record { some = ranges; among = λ r has. has; opens = fact };
         named = λ c x at is. named c x.value (get_opened values c x at) is;
-        lie = lie_named store values room fits;
+        lie = named_of_one (terms.ranged setting) store values room fits;
         suits = only_one first (λ v. Suits terms setting values room g (λ _. 0) v) suit;
         rights = refl;
         numbers = refl;
@@ -136,18 +117,18 @@ module _ {S N : Type 0} (terms : Terms S N) (setting : S) (values store : List �
 
 pub opens_so : {S N : Type 0} (terms : Terms S N) (setting : S) (values store words : List ℕ) (room : ℕ) → length store ≤ room → room ≤ 2 ^ 24
     → words ≡ (0 ∷ 0 ∷ opening_words values) ++ length store ∷ (store ++ replicate (room - length store) 0)
-    → terms.opens setting (ranges_named store values) values → AreNamed terms setting (ranges_named store values) values
-    → Ruled terms setting values room (opening words [] (first_view setting values room (ranges_named store values)))
+    → terms.opens setting (ranges_named (terms.ranged setting) store values) values → AreNamed terms setting (ranges_named (terms.ranged setting) store values) values
+    → Ruled terms setting values room store (opening words [] (first_view setting values room (ranges_named (terms.ranged setting) store values)))
 opens_so terms setting values store words room fits small is fact named =
     record {
       front = 0 ∷ 0 ∷ opening_words values;
       tail = length store;
       store = store ++ replicate (room - length store) 0;
-      ranges = ranges_named store values;
+      ranges = ranges_named (terms.ranged setting) store values;
       words_are = is;
       kept = kept_so terms setting values store room fits fact named;
-      shelf = shelf_so terms setting values store room fits small (ranges_named store values)
-          (named_stored store values (replicate (room - length store) 0)) values;
+      shelf = shelf_so terms setting values store room fits small (ranges_named (terms.ranged setting) store values)
+          (named_stored (terms.ranged setting) store values (replicate (room - length store) 0)) values;
     }
 
 -- ---- the passes of an opening
@@ -224,5 +205,27 @@ module _ {S N : Type 0} (setting : S) (base : List ℕ) (room : ℕ) (ranges : L
       let b : (64 - k) - 1 ≡ 64 - (k + 1) = omega arith in
       a ∙ (ap g e ∙ ap (λ (n : ℕ). fresh (Some setting) base room ranges 0 n) b)
 
-  pub new_knows : (r : Mine S N) → IsNew setting base room ranges r.0 → LieIn room ranges → KnowsStore r.0 false
+  pub new_knows : (r : Mine S N) → IsNew setting base room ranges r.0 → AreOfOneStore room ranges → KnowsStore r.0 false
   new_knows r is lie = subst (λ (v : View S N). KnowsStore v false) (sym is) (record { at_rest = refl; full = refl; ranges = lie })
+
+  -- a pass of a lawful opening is sound
+  pub new_sound : (terms : Terms S N) (v : View S N) → IsNew setting base room ranges v → terms.opens setting ranges base
+      → AreOfOneStore room ranges → Sound terms v
+  new_sound terms v is opens one = subst (λ (v : View S N). Sound terms v) (sym is) sound
+    where
+      new : View S N
+      new = fresh (Some setting) base room ranges v.name 1
+
+      sound : Sound terms new
+      sound = record {
+        placed = omega arith;
+        one = λ x e. tt;
+        legal = λ x e i w d. let b = d.here in absurd (cc);
+        noted = refl;
+        mine = λ x e. tt;
+        opening = λ x e.
+            let same : setting ≡ x = cc in
+            record { some = ranges; among = λ r has. has; opens = subst (λ (x : S). terms.opens x ranges base) same opens };
+        ranges = λ x e. one;
+        settled = λ i has. absurd has;
+      }

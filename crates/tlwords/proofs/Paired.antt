@@ -4,7 +4,7 @@ use mathlib.Core.Option as maybe
 use lib.ListN.{get_elem?}
 use Rattle.tlcore.specs.Machine.{World}
 use Rattle.tlcore.proofs.Lists.{get_within}
-use Rattle.tlcore.proofs.Words.{CellWords}
+use Rattle.tlcore.specs.declared.cells.Cell.{Cell}
 use Rattle.tlwords.specs.Rule.{paired, words_of, lock_at, value_at}
 
 pub get_same : {A : Type 0} (xs : List A) (i : ℕ) (x : A) → get_elem? xs i ≡ maybe.some x → slice_get xs i ≡ Some x
@@ -33,27 +33,27 @@ double c = omega arith
 doubled : (c : ℕ) → 2 * suc c + 1 ≡ suc (suc (2 * c + 1))
 doubled c = omega arith
 
-get_lock : (xs : List CellWords) (c : ℕ) (x : CellWords) → slice_get xs c ≡ Some x → slice_index (paired xs) (2 * c) ≡ x.lock
+get_lock : (xs : List Cell) (c : ℕ) (x : Cell) → slice_get xs c ≡ Some x → slice_index (paired xs) (2 * c) ≡ x.lock
 get_lock [] c x e = cc
-get_lock (y ∷ xs) zero x e = let q : y ≡ x = cc in ap (λ (z : CellWords). z.lock) q
+get_lock (y ∷ xs) zero x e = let q : y ≡ x = cc in ap (λ (z : Cell). z.lock) q
 get_lock (y ∷ xs) (suc c) x e = ap (λ (i : ℕ). slice_index (paired (y ∷ xs)) i) (double c) ∙ get_lock xs c x e
 
-get_value : (xs : List CellWords) (c : ℕ) (x : CellWords) → slice_get xs c ≡ Some x → slice_index (paired xs) (2 * c + 1) ≡ x.value
+get_value : (xs : List Cell) (c : ℕ) (x : Cell) → slice_get xs c ≡ Some x → slice_index (paired xs) (2 * c + 1) ≡ x.value
 get_value [] c x e = cc
-get_value (y ∷ xs) zero x e = let q : y ≡ x = cc in ap (λ (z : CellWords). z.value) q
+get_value (y ∷ xs) zero x e = let q : y ≡ x = cc in ap (λ (z : Cell). z.value) q
 get_value (y ∷ xs) (suc c) x e = ap (λ (i : ℕ). slice_index (paired (y ∷ xs)) i) (doubled c) ∙ get_value xs c x e
 
-set_lock : (xs : List CellWords) (c n : ℕ) (x : CellWords) → slice_get xs c ≡ Some x
+set_lock : (xs : List Cell) (c n : ℕ) (x : Cell) → slice_get xs c ≡ Some x
     → slice_set (paired xs) (2 * c) n ≡ paired (slice_set xs c (record x { lock = n }))
 set_lock [] c n x e = cc
-set_lock (y ∷ xs) zero n x e = let q : y ≡ x = cc in ap (λ (z : CellWords). n ∷ z.value ∷ paired xs) q
+set_lock (y ∷ xs) zero n x e = let q : y ≡ x = cc in ap (λ (z : Cell). n ∷ z.value ∷ paired xs) q
 set_lock (y ∷ xs) (suc c) n x e =
     ap (λ (i : ℕ). slice_set (paired (y ∷ xs)) i n) (double c) ∙ ap (λ (l : List ℕ). y.lock ∷ y.value ∷ l) (set_lock xs c n x e)
 
-set_value : (xs : List CellWords) (c n : ℕ) (x : CellWords) → slice_get xs c ≡ Some x
+set_value : (xs : List Cell) (c n : ℕ) (x : Cell) → slice_get xs c ≡ Some x
     → slice_set (paired xs) (2 * c + 1) n ≡ paired (slice_set xs c (record x { value = n }))
 set_value [] c n x e = cc
-set_value (y ∷ xs) zero n x e = let q : y ≡ x = cc in ap (λ (z : CellWords). z.lock ∷ n ∷ paired xs) q
+set_value (y ∷ xs) zero n x e = let q : y ≡ x = cc in ap (λ (z : Cell). z.lock ∷ n ∷ paired xs) q
 set_value (y ∷ xs) (suc c) n x e =
     ap (λ (i : ℕ). slice_set (paired (y ∷ xs)) i n) (doubled c) ∙ ap (λ (l : List ℕ). y.lock ∷ y.value ∷ l) (set_value xs c n x e)
 
@@ -63,7 +63,7 @@ lock_index c = omega arith
 value_index : (c : ℕ) → value_at c ≡ suc (suc (2 * c + 1))
 value_index c = omega arith
 
-paired_length : (xs : List CellWords) → length (paired xs) ≡ 2 * length xs
+paired_length : (xs : List Cell) → length (paired xs) ≡ 2 * length xs
 paired_length [] = refl
 paired_length (x ∷ xs) = let r : length (paired xs) ≡ 2 * length xs = paired_length xs in omega (arith, r)
 
@@ -75,30 +75,30 @@ module _ (ws : List ℕ) (w : World) (e : ws ≡ words_of w) where
   pub word_count : length ws ≡ 2 * length w.cells + 2
   word_count = let l : length (paired w.cells) ≡ 2 * length w.cells = paired_length w.cells in ap length e ∙ omega (arith, l)
 
-  pub lock_within : (c : ℕ) (x : CellWords) → slice_get w.cells c ≡ Some x → lock_at c < length ws
+  pub lock_within : (c : ℕ) (x : Cell) → slice_get w.cells c ≡ Some x → lock_at c < length ws
   lock_within c x f = let m : c < length w.cells = get_within w.cells c x f in let n = word_count in omega (arith, m, n)
 
-  pub value_within : (c : ℕ) (x : CellWords) → slice_get w.cells c ≡ Some x → value_at c < length ws
+  pub value_within : (c : ℕ) (x : Cell) → slice_get w.cells c ≡ Some x → value_at c < length ws
   value_within c x f = let m : c < length w.cells = get_within w.cells c x f in let n = word_count in omega (arith, m, n)
 
-  pub lock_word : (c : ℕ) (x : CellWords) → slice_get w.cells c ≡ Some x → slice_index ws (lock_at c) ≡ x.lock
+  pub lock_word : (c : ℕ) (x : Cell) → slice_get w.cells c ≡ Some x → slice_index ws (lock_at c) ≡ x.lock
   lock_word c x f =
       ap (λ (l : List ℕ). slice_index l (lock_at c)) e
       ∙ (ap (λ (i : ℕ). slice_index (words_of w) i) (lock_index c) ∙ get_lock w.cells c x f)
 
-  pub value_word : (c : ℕ) (x : CellWords) → slice_get w.cells c ≡ Some x → slice_index ws (value_at c) ≡ x.value
+  pub value_word : (c : ℕ) (x : Cell) → slice_get w.cells c ≡ Some x → slice_index ws (value_at c) ≡ x.value
   value_word c x f =
       ap (λ (l : List ℕ). slice_index l (value_at c)) e
       ∙ (ap (λ (i : ℕ). slice_index (words_of w) i) (value_index c) ∙ get_value w.cells c x f)
 
-  pub lock_is_set : (c n : ℕ) (x : CellWords) → slice_get w.cells c ≡ Some x
+  pub lock_is_set : (c n : ℕ) (x : Cell) → slice_get w.cells c ≡ Some x
       → slice_set ws (lock_at c) n ≡ 0 ∷ w.clock ∷ paired (slice_set w.cells c (record x { lock = n }))
   lock_is_set c n x f =
       ap (λ (l : List ℕ). slice_set l (lock_at c) n) e
       ∙ (ap (λ (i : ℕ). slice_set (words_of w) i n) (lock_index c)
       ∙ ap (λ (l : List ℕ). 0 ∷ w.clock ∷ l) (set_lock w.cells c n x f))
 
-  pub value_is_set : (c n : ℕ) (x : CellWords) → slice_get w.cells c ≡ Some x
+  pub value_is_set : (c n : ℕ) (x : Cell) → slice_get w.cells c ≡ Some x
       → slice_set ws (value_at c) n ≡ 0 ∷ w.clock ∷ paired (slice_set w.cells c (record x { value = n }))
   value_is_set c n x f =
       ap (λ (l : List ℕ). slice_set l (value_at c) n) e

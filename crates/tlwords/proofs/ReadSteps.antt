@@ -16,8 +16,11 @@ use Rattle.tlcore.proofs.Growth.{get_exists}
 use Rattle.tlcore.proofs.Halves.{halves}
 use Rattle.tlcore.proofs.Laws.{begin_leads, look_leads, load_leads, relook_leads}
 use Rattle.tlcore.proofs.SeatParts.{passes-old}
-use Rattle.tlcore.proofs.Words.{CellWords, SeatPlace, at_idle, at_reading, at_looked, at_loaded, not_looking, looked_same, loaded_same, looked_not_loaded}
-use Rattle.tlwords.specs.Ranges.{Range, Names}
+use Rattle.tlcore.specs.declared.cells.Cell.{Cell}
+use Rattle.tlcore.specs.declared.seats.Place.{Place}
+use Rattle.tlcore.specs.declared.seats.Place.TheVariants.{Idle, Reading, Looked, Loaded}
+use Rattle.tlcore.proofs.Words.{not_looking, looked_same, loaded_same, looked_not_loaded}
+use Rattle.ranges.specs.Ranges.{Range, Names}
 use Rattle.tlwords.specs.Terms.{Terms}
 use Rattle.tlwords.specs.Seen.{Seen}
 use Rattle.tlwords.specs.Views.{Told, View, untold}
@@ -29,7 +32,7 @@ use Rattle.tlwords.proofs.Lifts.{lifted}
 use Rattle.tlwords.proofs.Keeps.{Rule, now, seat_at, gone, goes, untold_is}
 
 -- a place without a number
-pub no_number : (p q : SeatPlace) (i : ℕ) → p ≡ q → number_at q ≡ None → number_at p ≡ Some i → ⊥
+pub no_number : (p q : Place) (i : ℕ) → p ≡ q → number_at q ≡ None → number_at p ≡ Some i → ⊥
 no_number p q i e n s = let b : None ≡ Some i = sym n ∙ (sym (ap number_at e) ∙ s) in cc
 
 -- ---- tests and halves
@@ -49,20 +52,20 @@ value_back c = omega arith
 
 -- ---- looks
 
-looked_fresh : (h : List Entry) (t : Seat) (c word : ℕ) → IsFresh h t.rv c word → LookIsFresh h (placed t (at_looked c word))
+looked_fresh : (h : List Entry) (t : Seat) (c word : ℕ) → IsFresh h t.rv c word → LookIsFresh h (placed t (Looked c word))
 looked_fresh h t c word f d other value (inl p) =
     let e : (c ≡ d) × (word ≡ other) = looked_same c word d other p in
     subst (λ (z : ℕ × ℕ). IsFresh h t.rv z.0 z.1) (λ j. (e.0 j, e.1 j)) f
 looked_fresh h t c word f d other value (inr p) = absurd (looked_not_loaded c word d other value p)
 
-loaded_fresh : (h : List Entry) (t : Seat) (c word seen : ℕ) → IsFresh h t.rv c word → LookIsFresh h (placed t (at_loaded c word seen))
+loaded_fresh : (h : List Entry) (t : Seat) (c word seen : ℕ) → IsFresh h t.rv c word → LookIsFresh h (placed t (Loaded c word seen))
 loaded_fresh h t c word seen f d other value (inl p) = absurd (looked_not_loaded d other c word seen (sym p))
 loaded_fresh h t c word seen f d other value (inr p) =
     let e : (c ≡ d) × (word ≡ other) = loaded_same c word seen d other value p in
     subst (λ (z : ℕ × ℕ). IsFresh h t.rv z.0 z.1) (λ j. (e.0 j, e.1 j)) f
 
 -- a free lock word is twice the cell's version
-pub free_word : (o : List ℕ) (w : World) (c n : ℕ) (x : CellWords) → Invariant o w → slice_get w.cells c ≡ Some x → n ≡ x.lock → n % 2 ≡ 0
+pub free_word : (o : List ℕ) (w : World) (c n : ℕ) (x : Cell) → Invariant o w → slice_get w.cells c ≡ Some x → n ≡ x.lock → n % 2 ≡ 0
     → (n / 2 ≡ version w.history c) × ((i u : ℕ) → deed w.history c i ≡ Will u → ⊥)
 free_word o w c n x I f is even =
     let e : x.lock ≡ 2 * (n / 2) = omega (arith, is, even) in
@@ -71,7 +74,7 @@ free_word o w c n x I f is even =
     (b.0, b.2)
 
 -- a look that passes finds a fresh word
-pass_fresh : (o : List ℕ) (w : World) (c n rv : ℕ) (x : CellWords) → Invariant o w → slice_get w.cells c ≡ Some x → n ≡ x.lock
+pass_fresh : (o : List ℕ) (w : World) (c n rv : ℕ) (x : Cell) → Invariant o w → slice_get w.cells c ≡ Some x → n ≡ x.lock
     → rv ≤ length w.history → passes n rv ≡ true → IsFresh w.history rv c n
 pass_fresh o w c n rv x I f is l p =
     let old : IsOld n rv = passes-old n rv p in
@@ -88,7 +91,7 @@ module _ {S N : Type 0} (terms : Terms S N) (setting : S) (base : List ℕ) (roo
   -- the cell is one of the world's
   pub cell_in : (ranges : List Range) (ws : List ℕ) (vs : List (View S N)) (r : Rule terms setting base room ranges ws vs) (id : ℕ) (v : View S N)
       → get_elem? vs id ≡ some v → (y : S) → v.setting ≡ Some y → (c : ℕ) → c < length v.base
-      → (x : CellWords) × (slice_get (r.world).cells c ≡ Some x)
+      → (x : Cell) × (slice_get (r.world).cells c ≡ Some x)
   cell_in ranges ws vs r id v at y e c l =
       let f : Suits terms setting base room (now terms setting base room ranges ws vs r) r.owner v = r.suits id v at in
       let b : (y ≡ setting) × (v.base ≡ base) = f.own.setting_is y e in
@@ -97,7 +100,7 @@ module _ {S N : Type 0} (terms : Terms S N) (setting : S) (base : List ℕ) (roo
       get_exists (r.world).cells c (omega (arith, l, same, cells))
 
   -- the half of a lock word is 0 or the number of a Done entry that writes the cell
-  pub half_written : (ranges : List Range) (ws : List ℕ) (vs : List (View S N)) (r : Rule terms setting base room ranges ws vs) (c n : ℕ) (x : CellWords)
+  pub half_written : (ranges : List Range) (ws : List ℕ) (vs : List (View S N)) (r : Rule terms setting base room ranges ws vs) (c n : ℕ) (x : Cell)
       → slice_get (r.world).cells c ≡ Some x → n ≡ x.lock → WasWritten (r.world).history c (n / 2)
   half_written ranges ws vs r c n x f is =
       halves base r.world r.invariant c (n / 2) x f
@@ -117,10 +120,10 @@ module _ {S N : Type 0} (terms : Terms S N) (setting : S) (base : List ℕ) (roo
       (goes terms setting base room ranges ws vs r id v at (slice_set ws i (slice_index ws i)) (with_seat r.world id z) z runs looked v.mine told r.named stays refl
       (set-get_or ws i 0 ∙ r.words_are) refl refl (λ a. a) is_told (λ k p. inl (on k p)) back look)
 
-  pub samples : (slots id : ℕ) (me : Mine S N) → (me.0.seat.place ≡ at_idle) ⊎ (me.0.seat.place ≡ at_reading)
-      → Allows (Ruled terms setting base room) slots id me 1 (λ n. n) (sampled terms (step slots 1 0 0 none) me)
-  samples slots id me p =
-      lifted terms setting base room slots id 1 me (λ n. n)
+  pub samples : (opened : List ℕ) (slots id : ℕ) (me : Mine S N) → (me.0.seat.place ≡ Idle) ⊎ (me.0.seat.place ≡ Reading)
+      → Allows (Ruled terms setting base room opened) slots id me 1 (λ n. n) (sampled terms (step slots 1 0 0 none) me)
+  samples opened slots id me p =
+      lifted terms setting base room opened slots id 1 me (λ n. n)
       (sampled terms (step slots 1 0 0 none) me) λ ranges ws vs r at.
       let v : View S N = me.0 in
       let w : World = r.world in
@@ -133,9 +136,9 @@ module _ {S N : Type 0} (terms : Terms S N) (setting : S) (base : List ℕ) (roo
       let u : View S N = record v { seen = h; seat = began n; told = untold; runs = v.runs + 1; looked = None } in
       let q : Rule terms setting base room ranges (slice_set ws 1 n) (slice_set vs id u) × Sees terms v u =
       quiet ranges ws vs r id v at 1 (began n) (v.runs + 1) None untold keep (untold_is setting base h r.owner)
-      (λ k a. absurd (⊎_elim (λ (b : v.seat.place ≡ at_idle). no_number v.seat.place at_idle k b refl a) (λ (b : v.seat.place ≡ at_reading). no_number v.seat.place at_reading k b refl a) p))
-      (λ k a. absurd (no_number at_reading at_reading k refl refl a))
-      (λ c word value a. absurd (not_looking at_reading refl c word value a)) u refl in
+      (λ k a. absurd (⊎_elim (λ (b : v.seat.place ≡ Idle). no_number v.seat.place Idle k b refl a) (λ (b : v.seat.place ≡ Reading). no_number v.seat.place Reading k b refl a) p))
+      (λ k a. absurd (no_number Reading Reading k refl refl a))
+      (λ c word value a. absurd (not_looking Reading refl c word value a)) u refl in
       let f = r.suits id v at in (
         (let l = word_count ws w r.words_are in omega arith),
         u,
@@ -153,16 +156,16 @@ module _ {S N : Type 0} (terms : Terms S N) (setting : S) (base : List ℕ) (roo
         },
       )
 
-  pub looks : (slots id c : ℕ) (me : Mine S N) (y : S) → me.0.setting ≡ Some y → c < length me.0.base → me.0.seat.place ≡ at_reading
-      → Allows (Ruled terms setting base room) slots id me (lock_at c) (λ n. n) (looked terms (step slots (lock_at c) 0 0 none) me)
-  looks slots id c me y set l p =
-      lifted terms setting base room slots id (lock_at c) me (λ n. n)
+  pub looks : (opened : List ℕ) (slots id c : ℕ) (me : Mine S N) (y : S) → me.0.setting ≡ Some y → c < length me.0.base → me.0.seat.place ≡ Reading
+      → Allows (Ruled terms setting base room opened) slots id me (lock_at c) (λ n. n) (looked terms (step slots (lock_at c) 0 0 none) me)
+  looks opened slots id c me y set l p =
+      lifted terms setting base room opened slots id (lock_at c) me (λ n. n)
       (looked terms (step slots (lock_at c) 0 0 none) me) λ ranges ws vs r at.
       let v : View S N = me.0 in
       let t : Seat = v.seat in
       let w : World = r.world in
       let n : ℕ = slice_index ws (lock_at c) in
-      let x : (x : CellWords) × (slice_get w.cells c ≡ Some x) = cell_in ranges ws vs r id v at y set c l in
+      let x : (x : Cell) × (slice_get w.cells c ≡ Some x) = cell_in ranges ws vs r id v at y set c l in
       let is : n ≡ (x.0).lock = lock_word ws w r.words_are c x.0 x.1 in
       let e : slice_get w.seats id ≡ Some t = seat_at terms setting base room ranges ws vs r id v at in
       let lead : Leads base w id (Look c) (look w id t c x.0) = look_leads base w id t c x.0 r.invariant e p x.1 in
@@ -174,12 +177,12 @@ module _ {S N : Type 0} (terms : Terms S N) (setting : S) (base : List ℕ) (roo
       let rv : t.rv ≤ length w.history = ((r.invariant).consistent.seats id t e).rv in
       let q : Rule terms setting base room ranges (slice_set ws (lock_at c) n) (slice_set vs id u) × Sees terms v u =
       quiet ranges ws vs r id v at (lock_at c) (after_look t c n) v.runs (Some (c, n)) v.told keep f.told
-      (λ k a. absurd (no_number t.place at_reading k p refl a))
-      (λ k a. absurd (if_known (λ (z : Seat). number_at z.place ≡ Some k → ⊥) (passes n t.rv) (placed t (at_looked c n)) (conflict t at_idle)
-      (λ _ b. no_number (at_looked c n) (at_looked c n) k refl refl b) (λ _ b. no_number at_idle at_idle k refl refl b) a))
-      (if_known (λ (z : Seat). LookIsFresh w.history z) (passes n t.rv) (placed t (at_looked c n)) (conflict t at_idle)
+      (λ k a. absurd (no_number t.place Reading k p refl a))
+      (λ k a. absurd (if_known (λ (z : Seat). number_at z.place ≡ Some k → ⊥) (passes n t.rv) (placed t (Looked c n)) (conflict t Idle)
+      (λ _ b. no_number (Looked c n) (Looked c n) k refl refl b) (λ _ b. no_number Idle Idle k refl refl b) a))
+      (if_known (λ (z : Seat). LookIsFresh w.history z) (passes n t.rv) (placed t (Looked c n)) (conflict t Idle)
       (λ b. looked_fresh w.history t c n (pass_fresh base w c n t.rv x.0 r.invariant x.1 is rv b))
-      (λ _ d word value a. absurd (not_looking at_idle refl d word value a))) u refl in (
+      (λ _ d word value a. absurd (not_looking Idle refl d word value a))) u refl in (
         lock_within ws w r.words_are c x.0 x.1,
         u,
         (refl, refl, refl),
@@ -188,29 +191,29 @@ module _ {S N : Type 0} (terms : Terms S N) (setting : S) (base : List ℕ) (roo
             (record { sees = q.1; written = half_written ranges ws vs r c n x.0 x.1 is; is = refl }),
       )
 
-  pub loads : (slots id c word : ℕ) (me : Mine S N) (y : S) → me.0.setting ≡ Some y → c < length me.0.base → me.0.seat.place ≡ at_looked c word
-      → Allows (Ruled terms setting base room) slots id me (value_at c) (λ n. n) (loaded terms (step slots (value_at c) 0 0 none) me)
-  loads slots id c word me y set l p =
-      lifted terms setting base room slots id (value_at c) me (λ n. n)
+  pub loads : (opened : List ℕ) (slots id c word : ℕ) (me : Mine S N) (y : S) → me.0.setting ≡ Some y → c < length me.0.base → me.0.seat.place ≡ Looked c word
+      → Allows (Ruled terms setting base room opened) slots id me (value_at c) (λ n. n) (loaded terms (step slots (value_at c) 0 0 none) me)
+  loads opened slots id c word me y set l p =
+      lifted terms setting base room opened slots id (value_at c) me (λ n. n)
       (loaded terms (step slots (value_at c) 0 0 none) me) λ ranges ws vs r at.
       let v : View S N = me.0 in
       let t : Seat = v.seat in
       let w : World = r.world in
       let n : ℕ = slice_index ws (value_at c) in
-      let x : (x : CellWords) × (slice_get w.cells c ≡ Some x) = cell_in ranges ws vs r id v at y set c l in
+      let x : (x : Cell) × (slice_get w.cells c ≡ Some x) = cell_in ranges ws vs r id v at y set c l in
       let is : n ≡ (x.0).value = value_word ws w r.words_are c x.0 x.1 in
       let e : slice_get w.seats id ≡ Some t = seat_at terms setting base room ranges ws vs r id v at in
       let lead : Leads base w id (Load c) (load w id t c word x.0) = load_leads base w id t c word x.0 r.invariant e p x.1 in
-      let z : Seat = placed t (at_loaded c word n) in
+      let z : Seat = placed t (Loaded c word n) in
       let keep : Keeps base w (with_seat w id z) =
-      subst (λ (k : ℕ). Keeps base w (with_seat w id (placed t (at_loaded c word k)))) (sym is) lead.keeps in
+      subst (λ (k : ℕ). Keeps base w (with_seat w id (placed t (Loaded c word k)))) (sym is) lead.keeps in
       let h : Seen N = record { history = w.history; notes = r.notes; ranges = ranges } in
       let u : View S N = record v { seen = h; seat = z } in
       let f : Suits terms setting base room h r.owner v = r.suits id v at in
       let q : Rule terms setting base room ranges (slice_set ws (value_at c) n) (slice_set vs id u) × Sees terms v u =
       quiet ranges ws vs r id v at (value_at c) z v.runs v.looked v.told keep f.told
-      (λ k a. absurd (no_number t.place (at_looked c word) k p refl a))
-      (λ k a. absurd (no_number (at_loaded c word n) (at_loaded c word n) k refl refl a))
+      (λ k a. absurd (no_number t.place (Looked c word) k p refl a))
+      (λ k a. absurd (no_number (Loaded c word n) (Loaded c word n) k refl refl a))
       (loaded_fresh w.history t c word n (f.look c word 0 (inl p))) u refl in (
         value_within ws w r.words_are c x.0 x.1,
         u,
@@ -221,25 +224,25 @@ module _ {S N : Type 0} (terms : Terms S N) (setting : S) (base : List ℕ) (roo
           named = λ z d other known a ranged.
               let b : (c ≡ d) × (word ≡ other) = looked_same c word d other (sym p ∙ a) in
               let e2 : z ≡ setting = (f.own.setting_is z known).0 in
-              let at_setting : terms.ranged setting c = subst (λ (k : S × ℕ). terms.ranged k.0 k.1) (λ j. (e2 j, sym b.0 j)) ranged in
+              let at_setting : terms.ranged setting c ≡ true = subst (λ (k : S × ℕ). terms.ranged k.0 k.1 ≡ true) (λ j. (e2 j, sym b.0 j)) ranged in
               subst (λ (k : ℕ). Names ranges k) (sym is) (r.named c x.0 x.1 at_setting);
           is = λ d other a.
               let b : (c ≡ d) × (word ≡ other) = looked_same c word d other (sym p ∙ a) in
-              ap (λ (k : ℕ × ℕ). let m : View S N = record v { seen = h; seat = placed t (at_loaded k.0 k.1 n) } in m) (λ j. (b.0 j, b.1 j));
+              ap (λ (k : ℕ × ℕ). let m : View S N = record v { seen = h; seat = placed t (Loaded k.0 k.1 n) } in m) (λ j. (b.0 j, b.1 j));
         },
       )
 
-  pub relooks : (slots id c word value : ℕ) (me : Mine S N) (y : S) → me.0.setting ≡ Some y → c < length me.0.base
-      → me.0.seat.place ≡ at_loaded c word value
-      → Allows (Ruled terms setting base room) slots id me (lock_at c) (λ n. n) (relooked terms (step slots (lock_at c) 0 0 none) me)
-  relooks slots id c word value me y set l p =
-      lifted terms setting base room slots id (lock_at c) me (λ n. n)
+  pub relooks : (opened : List ℕ) (slots id c word value : ℕ) (me : Mine S N) (y : S) → me.0.setting ≡ Some y → c < length me.0.base
+      → me.0.seat.place ≡ Loaded c word value
+      → Allows (Ruled terms setting base room opened) slots id me (lock_at c) (λ n. n) (relooked terms (step slots (lock_at c) 0 0 none) me)
+  relooks opened slots id c word value me y set l p =
+      lifted terms setting base room opened slots id (lock_at c) me (λ n. n)
       (relooked terms (step slots (lock_at c) 0 0 none) me) λ ranges ws vs r at.
       let v : View S N = me.0 in
       let t : Seat = v.seat in
       let w : World = r.world in
       let n : ℕ = slice_index ws (lock_at c) in
-      let x : (x : CellWords) × (slice_get w.cells c ≡ Some x) = cell_in ranges ws vs r id v at y set c l in
+      let x : (x : Cell) × (slice_get w.cells c ≡ Some x) = cell_in ranges ws vs r id v at y set c l in
       let is : n ≡ (x.0).lock = lock_word ws w r.words_are c x.0 x.1 in
       let e : slice_get w.seats id ≡ Some t = seat_at terms setting base room ranges ws vs r id v at in
       let lead : Leads base w id (Relook c) (relook w id t c word value x.0) = relook_leads base w id t c word value x.0 r.invariant e p x.1 in
@@ -250,15 +253,15 @@ module _ {S N : Type 0} (terms : Terms S N) (setting : S) (base : List ℕ) (roo
       let u : View S N = record v { seen = h; seat = z; looked = Some (c, n) } in
       let f : Suits terms setting base room h r.owner v = r.suits id v at in
       let rv : t.rv ≤ length w.history = ((r.invariant).consistent.seats id t e).rv in
-      let reads : Seat = record t { place = at_reading; reads = record { cell = c; word = word; value = value } ∷ t.reads } in
+      let reads : Seat = record t { place = Reading; reads = record { cell = c; word = word; value = value } ∷ t.reads } in
       let q : Rule terms setting base room ranges (slice_set ws (lock_at c) n) (slice_set vs id u) × Sees terms v u =
       quiet ranges ws vs r id v at (lock_at c) z v.runs (Some (c, n)) v.told keep f.told
-      (λ k a. absurd (no_number t.place (at_loaded c word value) k p refl a))
-      (λ k a. absurd (if_known (λ (z : Seat). number_at z.place ≡ Some k → ⊥) (n == word) reads (conflict t at_idle)
-      (λ _ b. no_number at_reading at_reading k refl refl b) (λ _ b. no_number at_idle at_idle k refl refl b) a))
-      (if_known (λ (z : Seat). LookIsFresh w.history z) (n == word) reads (conflict t at_idle)
-      (λ _ d o a b. absurd (not_looking at_reading refl d o a b)) (λ _ d o a b. absurd (not_looking at_idle refl d o a b))) u refl in
-      let same : (d other found : ℕ) → t.place ≡ at_loaded d other found → at_loaded c word value ≡ at_loaded d other found = λ d other found a. sym p ∙ a in
+      (λ k a. absurd (no_number t.place (Loaded c word value) k p refl a))
+      (λ k a. absurd (if_known (λ (z : Seat). number_at z.place ≡ Some k → ⊥) (n == word) reads (conflict t Idle)
+      (λ _ b. no_number Reading Reading k refl refl b) (λ _ b. no_number Idle Idle k refl refl b) a))
+      (if_known (λ (z : Seat). LookIsFresh w.history z) (n == word) reads (conflict t Idle)
+      (λ _ d o a b. absurd (not_looking Reading refl d o a b)) (λ _ d o a b. absurd (not_looking Idle refl d o a b))) u refl in
+      let same : (d other found : ℕ) → t.place ≡ Loaded d other found → Loaded c word value ≡ Loaded d other found = λ d other found a. sym p ∙ a in
       let half : WasWritten w.history c (n / 2) = half_written ranges ws vs r c n x.0 x.1 is in
       let fresh : IsFresh w.history t.rv c word = f.look c word value (inr p) in
       let miss : n ≢ word → n % 2 ≡ 0 → t.rv < n / 2 = λ other even.
@@ -281,7 +284,7 @@ module _ {S N : Type 0} (terms : Terms S N) (setting : S) (base : List ℕ) (roo
         },
       )
     where
-      is_at : (d other found : ℕ) → at_loaded c word value ≡ at_loaded d other found → (v : View S N) (h : Seen N) (n : ℕ)
+      is_at : (d other found : ℕ) → Loaded c word value ≡ Loaded d other found → (v : View S N) (h : Seen N) (n : ℕ)
           → record v { seen = h; seat = after_relook v.seat c word value n; looked = Some (c, n) } ≡ record v { seen = h; seat = after_relook v.seat d other found n; looked = Some (d, n) }
       is_at d other found a v h n =
           let i : c ≡ d = cc in

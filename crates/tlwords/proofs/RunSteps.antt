@@ -1,24 +1,32 @@
 -- The three steps of a read.
-use Rattle.std.proofs.Common.{◌≡◌, ◌≢◌, ℕ, ◌+◌, ◌/◌, ◌%◌, ◌<◌, ◌≤◌, inl, inr, eq-eqb, ne_eqb, nat_le, Bool, true, false, if◌then◌else◌, ◌==◌, ◌&&◌, is_some, Some, None, ◌∷◌, length, sym, refl, ap, ◌∙◌, subst, arith}
+use Rattle.std.proofs.Common.{◌≡◌, ◌≢◌, ℕ, ◌+◌, ◌/◌, ◌%◌, ◌<◌, ◌≤◌, inl, inr, eq-eqb, ne_eqb, nat_le, Bool, true, false, if◌then◌else◌, ◌==◌, ◌&&◌, is_some, Option, Some, None, List, ◌∷◌, length, sym, refl, ap, ◌∙◌, subst, arith}
 use mathlib.Core.Logic.{dite}
 use native.Mathlib.Decide.{ℕ_discrete}
 use Rattle.std.proofs.lemmas.Bool.Decides.{nat_tests}
 use Rattle.tlcore.specs.Seats.{Seat, passes, is_nil}
 use Rattle.tlcore.specs.Machine.{placed, conflict}
-use Rattle.tlcore.proofs.Words.{at_idle, at_reading, at_looked, at_loaded, SeatPlace, is_reading, is_resting, reading_at}
+use Rattle.tlcore.specs.declared.seats.Place.{Place}
+use Rattle.tlcore.specs.declared.seats.Place.TheVariants.{Idle, Reading, Looked, Loaded}
+use Rattle.tlcore.specs.Seats.{is_reading, is_resting}
+use Rattle.tlcore.proofs.Words.{reading_at}
 use Rattle.tlwords.specs.Terms.{Terms}
-use Rattle.tlwords.specs.Ranges.{Has}
-use Rattle.tlwords.specs.Seen.{SeenGrows}
-use Rattle.tlwords.specs.Views.{View, untold}
+use Rattle.ranges.specs.Ranges.{Has}
+use Rattle.tlwords.specs.Seen.{Call, Seen, SeenGrows, Agree}
+use Rattle.tlwords.specs.Views.{View, Sound, untold}
 use Rattle.tlwords.specs.Plays.{Mine, Sees, Sampled, Refreshes, began, told_by, witness, Looks, Loads, Relooks, after_relook}
 use Rattle.tlwords.specs.Runs.{HasCause, ReadsCell, Stops, Learns, IsPassOf, IsRunOf}
-use Rattle.tlwords.proofs.Seens.{seen_trans, names_grow}
+use Rattle.ranges.proofs.Grown.{names_grow}
+use Rattle.tlwords.proofs.Seens.{seen_trans, agree_grows}
 
 pub if_true : {A : Type 0} (b : Bool) (x y : A) → b ≡ true → (if b then x else y) ≡ x
 if_true b x y e = ap (λ (b : Bool). if b then x else y) e
 
 pub if_false : {A : Type 0} (b : Bool) (x y : A) → b ≡ false → (if b then x else y) ≡ y
 if_false b x y e = ap (λ (b : Bool). if b then x else y) e
+
+pub known_setting : {S : Type 0} (o : Option S) → is_some o ≡ true → (y : S) × (o ≡ Some y)
+known_setting None e = let a : false ≡ true = e in absurd (cc)
+known_setting (Some y) e = (y, refl)
 
 le_true : (a b : ℕ) → a ≤ b → nat_le a b ≡ true
 le_true a b l = grind (arith, nat_tests)
@@ -52,29 +60,29 @@ module _ {S N : Type 0} (terms : Terms S N) where
           written = p.written;
           cause = cause;
           is = p.is ∙ ap (λ (t : Seat). let v : View S N = record m0.0 { seen = m1.0.seen; seat = t; looked = Some (c, a) } in v)
-              (if_false (passes a m0.0.seat.rv) (placed m0.0.seat (at_looked c a)) (conflict m0.0.seat at_idle) (passes_false a m0.0.seat.rv cause));
+              (if_false (passes a m0.0.seat.rv) (placed m0.0.seat (Looked c a)) (conflict m0.0.seat Idle) (passes_false a m0.0.seat.rv cause));
         }
 
     module _ (even : a % 2 ≡ 0) (low : a / 2 ≤ m0.0.seat.rv) where
-      looked_is : m1.0 ≡ record m0.0 { seen = m1.0.seen; seat = placed m0.0.seat (at_looked c a); looked = Some (c, a) }
+      looked_is : m1.0 ≡ record m0.0 { seen = m1.0.seen; seat = placed m0.0.seat (Looked c a); looked = Some (c, a) }
       looked_is =
           p.is ∙ ap (λ (t : Seat). let v : View S N = record m0.0 { seen = m1.0.seen; seat = t; looked = Some (c, a) } in v)
-          (if_true (passes a m0.0.seat.rv) (placed m0.0.seat (at_looked c a)) (conflict m0.0.seat at_idle) (passes_true a m0.0.seat.rv even low))
+          (if_true (passes a m0.0.seat.rv) (placed m0.0.seat (Looked c a)) (conflict m0.0.seat Idle) (passes_true a m0.0.seat.rv even low))
 
-      pub looked_place : m1.0.seat.place ≡ at_looked c a
+      pub looked_place : m1.0.seat.place ≡ Looked c a
       looked_place = ap (λ (v : View S N). v.seat.place) looked_is
 
       module _ (m2 : Mine S N) (b : ℕ) (q : Loads terms m1 b m2) where
-        loaded_is : m2.0 ≡ record m0.0 { seen = m2.0.seen; seat = placed m0.0.seat (at_loaded c a b); looked = Some (c, a) }
+        loaded_is : m2.0 ≡ record m0.0 { seen = m2.0.seen; seat = placed m0.0.seat (Loaded c a b); looked = Some (c, a) }
         loaded_is =
             q.is c a looked_place
-            ∙ ap (λ (v : View S N). let u : View S N = record v { seen = m2.0.seen; seat = placed v.seat (at_loaded c a b) } in u) looked_is
+            ∙ ap (λ (v : View S N). let u : View S N = record v { seen = m2.0.seen; seat = placed v.seat (Loaded c a b) } in u) looked_is
 
-        pub loaded_place : m2.0.seat.place ≡ at_loaded c a b
+        pub loaded_place : m2.0.seat.place ≡ Loaded c a b
         loaded_place = ap (λ (v : View S N). v.seat.place) loaded_is
 
         module _ (m3 : Mine S N) (d : ℕ) (r : Relooks terms m2 d m3) where
-          relooked_is : m3.0 ≡ record m0.0 { seen = m3.0.seen; seat = after_relook (placed m0.0.seat (at_loaded c a b)) c a b d; looked = Some (c, d) }
+          relooked_is : m3.0 ≡ record m0.0 { seen = m3.0.seen; seat = after_relook (placed m0.0.seat (Loaded c a b)) c a b d; looked = Some (c, d) }
           relooked_is =
               r.is c a b loaded_place
               ∙ ap (λ (v : View S N). let u : View S N = record v { seen = m3.0.seen; seat = after_relook v.seat c a b d; looked = Some (c, d) } in u) loaded_is
@@ -95,7 +103,7 @@ module _ {S N : Type 0} (terms : Terms S N) where
                 named = λ x set ranged. names_grow m2.0.seen.ranges m3.0.seen.ranges b r.sees.own.2
                     (q.named x c a (ap (λ (v : View S N). v.setting) looked_is ∙ set) looked_place ranged);
                 is = relooked_is ∙ ap (λ (z : Seat × ℕ). let v : View S N = record m0.0 { seen = m3.0.seen; seat = z.0; looked = Some (c, z.1) } in v)
-                    (λ j. (if_true (d == a) (record m0.0.seat { place = at_reading; reads = record { cell = c; word = a; value = b } ∷ m0.0.seat.reads }) (conflict m0.0.seat at_idle) (eq-eqb d a e) j, e j));
+                    (λ j. (if_true (d == a) (record m0.0.seat { place = Reading; reads = record { cell = c; word = a; value = b } ∷ m0.0.seat.reads }) (conflict m0.0.seat Idle) (eq-eqb d a e) j, e j));
               }
 
           pub read_stops : d ≢ a → Stops terms c d m0 m3
@@ -107,7 +115,7 @@ module _ {S N : Type 0} (terms : Terms S N) where
                     (λ e. inr (subst (λ (k : ℕ). k < d / 2) (ap (λ (v : View S N). v.seat.rv) loaded_is) (r.missed c a b loaded_place ne e)))
                     (λ e. inl (omega (arith, e)));
                 is = relooked_is ∙ ap (λ (t : Seat). let v : View S N = record m0.0 { seen = m3.0.seen; seat = t; looked = Some (c, d) } in v)
-                    (if_false (d == a) (record m0.0.seat { place = at_reading; reads = record { cell = c; word = a; value = b } ∷ m0.0.seat.reads }) (conflict m0.0.seat at_idle) (ne_eqb d a ne));
+                    (if_false (d == a) (record m0.0.seat { place = Reading; reads = record { cell = c; word = a; value = b } ∷ m0.0.seat.reads }) (conflict m0.0.seat Idle) (ne_eqb d a ne));
               }
 
 -- ---- a run begins
@@ -132,7 +140,7 @@ module _ {S N : Type 0} (terms : Terms S N) where
 
   -- ---- a run reads
 
-  reading_fits : (o : Bool) → (if o then is_resting at_reading else is_reading at_reading) ≡ true
+  reading_fits : (o : Bool) → (if o then is_resting Reading else is_reading Reading) ≡ true
   reading_fits true = refl
   reading_fits false = refl
 
@@ -165,28 +173,41 @@ module _ {S N : Type 0} (terms : Terms S N) where
   pub left_fits : (m : Mine S N) (count place : ℕ) (o : Bool) → IsRunOf m count place o → IsPassOf m count
   left_fits m count place o f = (f.0, rests m.0.seat.place o f.1, f.2, f.3, f.4)
     where
-      rests : (p : SeatPlace) (o : Bool) → (if o then is_resting p else is_reading p) ≡ true → is_resting p ≡ true
+      rests : (p : Place) (o : Bool) → (if o then is_resting p else is_reading p) ≡ true → is_resting p ≡ true
       rests p true e = e
       rests p false e = ap is_resting (reading_at p e)
 
   -- ---- passes learn of each other
 
-  pub learned : (m0 : Mine S N) (u0 : Mine S N) (m1 m2 u1 u2 : Mine S N) (n : ℕ) → m1 ≡ (told_by m0.0 (witness u0.0), m0.1) → u1 ≡ u0
-      → Sampled terms m1 n m2 → Refreshes terms u1 u2 → Learns terms m0.0 u0.0 m2.0 u2.0
-  learned m0 u0 m1 m2 u1 u2 n a b p q =
-      let e : m1.0 ≡ told_by m0.0 (witness u0.0) = ap (λ (m : Mine S N). m.0) a in
-      let f : u1.0 ≡ u0.0 = ap (λ (m : Mine S N). m.0) b in
+  pub learned : (m0 u0 u1 m1 u2 m2 : Mine S N) (n : ℕ) → is_some u0.0.setting ≡ true → Refreshes terms u0 u1
+      → m1 ≡ (told_by m0.0 (witness u1.0), m0.1) → u2 ≡ u1 → Sampled terms m1 n m2 → Learns terms m0.0 u0.0 m2.0 u2.0
+  learned m0 u0 u1 m1 u2 m2 n known q a b p =
+      let e : m1.0 ≡ told_by m0.0 (witness u1.0) = ap (λ (m : Mine S N). m.0) a in
+      let f : u2.0 ≡ u1.0 = ap (λ (m : Mine S N). m.0) b in
+      let told : SeenGrows u1.0.seen m2.0.seen = subst (λ (v : View S N). SeenGrows v.told.seen m2.0.seen) e p.sees.told in
+      let same : (x y : S) → m0.0.setting ≡ Some x → u1.0.setting ≡ Some y → (x ≡ y) × (m0.0.base ≡ u1.0.base) =
+      subst (λ (v : View S N). (x y : S) → v.setting ≡ Some x → v.told.setting ≡ Some y → (x ≡ y) × (v.base ≡ v.told.base)) e p.same in
       record {
         own = subst (λ (v : View S N). SeenGrows v.seen m2.0.seen) e p.sees.own;
-        told = subst (λ (v : View S N). SeenGrows v.told.seen m2.0.seen) e p.sees.told;
-        other = subst (λ (v : View S N). SeenGrows v.seen u2.0.seen) f q.sees.own;
+        told = seen_trans u0.0.seen u1.0.seen m2.0.seen q.sees.own told;
+        other = subst (λ (v : View S N). SeenGrows u0.0.seen v.seen) (sym f) q.sees.own;
+        calls = λ x set.
+            let y = known_setting u0.0.setting known in
+            let there : u1.0.setting ≡ Some y.0 = ap (λ (v : View S N). v.setting) q.is ∙ y.1 in
+            let z : (x ≡ y.0) × (m0.0.base ≡ u1.0.base) = same x y.0 set there in
+            let agree : Agree terms y.0 u1.0.base u1.0.seen u1.0.mine = q.sees.sound.mine y.0 there in
+            let now : Agree terms x m0.0.base m2.0.seen u1.0.mine =
+            subst (λ (k : S × List ℕ). Agree terms k.0 k.1 m2.0.seen u1.0.mine) (λ j. (sym z.0 j, sym z.1 j))
+            (agree_grows terms y.0 u1.0.base u1.0.seen m2.0.seen u1.0.mine told agree) in
+            subst (λ (cs : List (Call N)). Agree terms x m0.0.base m2.0.seen cs) (ap (λ (v : View S N). v.mine) q.is) now;
         sound = p.sees.sound;
-        other_sound = q.sees.sound;
-        apart = subst (λ (v : View S N). v.name ≢ v.told.name → (k : ℕ) → Has k v.drawn → Has k v.told.drawn → ⊥) e p.apart;
-        same = subst (λ (v : View S N). (x y : S) → v.setting ≡ Some x → v.told.setting ≡ Some y → (x ≡ y) × (v.base ≡ v.told.base)) e p.same;
+        other_sound = subst (λ (v : View S N). Sound terms v) (sym f) q.sees.sound;
+        apart = subst (λ (v : View S N). m0.0.name ≢ v.name → (k : ℕ) → Has k m0.0.drawn → Has k v.drawn → ⊥) q.is
+            (subst (λ (v : View S N). v.name ≢ v.told.name → (k : ℕ) → Has k v.drawn → Has k v.told.drawn → ⊥) e p.apart);
+        same = subst (λ (v : View S N). (x y : S) → m0.0.setting ≡ Some x → v.setting ≡ Some y → (x ≡ y) × (m0.0.base ≡ v.base)) q.is same;
         is = p.is ∙ (ap (λ (v : View S N). let w : View S N = record v { seen = m2.0.seen; seat = began n; told = untold; runs = v.runs + 1; looked = None } in w) e
             ∙ ap (λ (k : ℕ). let w : View S N = record m0.0 { seen = m2.0.seen; seat = began k; told = untold; runs = m0.0.runs + 1; looked = None } in w) (sym p.clock));
-        other_is = q.is ∙ ap (λ (v : View S N). let u : View S N = record v { seen = u2.0.seen } in u) f;
+        other_is = f ∙ (q.is ∙ ap (λ (g : Seen N). let w : View S N = record u0.0 { seen = g } in w) (ap (λ (v : View S N). v.seen) (sym f)));
       }
 
   pub learned_fits : (m0 m1 m2 : Mine S N) (u : View S N) (n count : ℕ) → m1 ≡ (told_by m0.0 u, m0.1) → Sampled terms m1 n m2 → IsPassOf m0 count

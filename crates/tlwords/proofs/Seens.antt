@@ -6,8 +6,10 @@ use Rattle.tlcore.proofs.Deeds.{did, version-same}
 use Rattle.tlcore.proofs.Growth.{deed-kept, get_exists, Grows-refl, Grows-trans, One-kept}
 use Rattle.tlcore.proofs.Lists.{get_within}
 use Rattle.tlcore.proofs.Words.{landed_not_open}
-use Rattle.tlwords.specs.Ranges.{Range, Within, Names}
-use Rattle.tlwords.specs.Terms.{Pairs, Terms, Permits}
+use Rattle.ranges.proofs.Grown.{names_grow}
+use Rattle.ranges.specs.Ranges.{Range, Within}
+use Rattle.ranges.specs.Pairs.{Pairs}
+use Rattle.tlwords.specs.Terms.{Terms, Permits}
 use Rattle.tlwords.specs.Seen.{Work, Call, Committed, Answered, Seen, IsSettled, SeenGrows, IsDone, CallAgrees, Agree}
 use Rattle.tlwords.specs.Rule.{IsFresh, LookIsFresh, EntriesAre}
 
@@ -49,16 +51,6 @@ pub look_grows : (g h : List Entry) (t : Seat) → Grows g h → t.rv ≤ length
 look_grows g h t r l f c word value p = fresh_grows g h t.rv c word r l (f c word value p)
 
 -- ---- the ranges
-
-pub within_refl : (rs : List Range) → Within rs rs
-within_refl rs r h = h
-
-pub within_trans : (ps qs rs : List Range) → Within ps qs → Within qs rs → Within ps rs
-within_trans ps qs rs a b r h = b r (a r h)
-
-pub names_grow : (rs qs : List Range) (word : ℕ) → Within rs qs → Names rs word → Names qs word
-names_grow rs qs word l (inl e) = inl e
-names_grow rs qs word l (inr (r, h, e)) = inr (r, l r h, e)
 
 -- what some ranges permit, more of them permit too
 pub permits_grow : {S N : Type 0} {a b : Pairs} {n : N} (terms : Terms S N) (setting : S) (rs qs : List Range) → Within rs qs

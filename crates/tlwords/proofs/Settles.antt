@@ -1,11 +1,13 @@
 -- A commit, from the draw on: its parts put together.
-use Rattle.std.proofs.Common.{◌≡◌, ◌≢◌, ℕ, suc, ◌+◌, ◌*◌, ◌/◌, ◌<◌, ◌≤◌, ◌⊎◌, inl, inr, ⊎_elim, Bool, true, false, ◌||◌, if◌then◌else◌, Some, None, List, [], ◌∷◌, ◌++◌, length, sym, refl, ap, ◌∙◌, subst, arith}
+use Rattle.std.proofs.Common.{◌≡◌, ◌≢◌, ℕ, suc, ◌+◌, ◌*◌, ◌/◌, ◌<◌, ◌≤◌, ◌⊎◌, inl, inr, ⊎_elim, Bool, true, false, ◌||◌, if◌then◌else◌, Option, Some, None, List, [], ◌∷◌, ◌++◌, length, sym, refl, ap, ◌∙◌, subst, arith}
 use Rattle.tlcore.specs.Seats.{Seat, is_nil, is_next, all_settled, reads_of, writes_of}
 use Rattle.tlcore.specs.Machine.{placed, conflict}
 use Rattle.tlcore.proofs.Growth.{WasWritten-kept}
 use Rattle.tlcore.proofs.Lists.{known, length-append_one}
 use Rattle.tlcore.proofs.SeatParts.{is_nil-nil}
-use Rattle.tlcore.proofs.Words.{SeatHeld, SeatPlace, at_idle, at_taking, at_reading, at_checking, at_storing, at_voiding, at_failing}
+use Rattle.tlcore.specs.declared.seats.Held.{Held}
+use Rattle.tlcore.specs.declared.seats.Place.{Place}
+use Rattle.tlcore.specs.declared.seats.Place.TheVariants.{Idle, Taking, Reading, Checking, Storing, Voiding, Failing}
 use Rattle.tlwords.specs.declared.log.Slot.{Slot}
 use Rattle.tlwords.specs.declared.outcome.Conflict.{Conflict}
 use Rattle.tlwords.specs.Terms.{Terms}
@@ -13,7 +15,7 @@ use Rattle.tlwords.specs.Seen.{Work, Committed, IsDone}
 use Rattle.tlwords.specs.Views.{View}
 use Rattle.tlwords.specs.Plays.{Mine, Draws}
 use Rattle.tlwords.specs.Runs.{value_kept, IsKeptOf, HasCause}
-use Rattle.tlwords.specs.Commits.{writes_kept, work_kept, over_seat, IsVoid, Finds, HasCommitted, HasConflicted}
+use Rattle.tlwords.specs.Commits.{writes_kept, work_kept, over_seat, Finds, HasCommitted, HasNoEntry, HasConflicted}
 use Rattle.tlwords.specs.Committing.{held_in, holding, Goes, FailsToTake, FailsTheCheck, Passes, StoresTo, Releasing, ReleasesAll}
 use Rattle.tlwords.proofs.Seens.{done_grows}
 use Rattle.tlwords.proofs.Logs.{kept_same}
@@ -27,7 +29,7 @@ module _ (slots : List Slot) where
       let full : is_nil (held_in slots 0 0 (length slots)) ≡ false = nil_not c (held_in slots 0 0 (length slots)) (held_cell slots 0 c v) (held_find slots 0 0 (length slots) c v (omega arith) l e) in
       empty (held_in slots 0 0 (length slots)) full (held_writes slots 0 (length slots) ∙ p)
     where
-      empty : (ks : List SeatHeld) → is_nil ks ≡ false → writes_of ks ≡ [] → ⊥
+      empty : (ks : List Held) → is_nil ks ≡ false → writes_of ks ≡ [] → ⊥
       empty [] f e = let a : true ≡ false = f in cc
       empty (k ∷ ks) f e = cc
 
@@ -36,9 +38,9 @@ module _ (slots : List Slot) where
       (λ (p : is_nil (held_in slots d 0 (length slots)) ≡ true). absurd (some (sym (held_writes slots d (length slots)) ∙ ap writes_of (is_nil-nil (held_in slots d 0 (length slots)) p))))
       (λ (p : is_nil (held_in slots d 0 (length slots)) ≡ false). p) (known (is_nil (held_in slots d 0 (length slots))))
 
-holds : (t : Seat) (p : SeatPlace) (ks : List SeatHeld) → t.place ≡ p → t.held ≡ ks → is_nil ks ≡ false → t ≡ holding t p at_idle ks
+holds : (t : Seat) (p : Place) (ks : List Held) → t.place ≡ p → t.held ≡ ks → is_nil ks ≡ false → t ≡ holding t p Idle ks
 holds t p ks e f n =
-    λ j. let z : Seat = record t { place = (e ∙ sym (ap (λ (b : Bool). if b then at_idle else p) n)) j; held = f j } in z
+    λ j. let z : Seat = record t { place = (e ∙ sym (ap (λ (b : Bool). if b then Idle else p) n)) j; held = f j } in z
 
 pub one_more : (ns : List ℕ) (n : ℕ) → length (ns ++ n ∷ []) ≡ length ns + 1
 one_more ns n = let e : length (ns ++ n ∷ []) ≡ suc (length ns) = length-append_one ns n in omega (arith, e)
@@ -47,7 +49,7 @@ one_more ns n = let e : length (ns ++ n ∷ []) ≡ suc (length ns) = length-app
 abbrev ended : {S N : Type 0} → Mine S N → ℕ → Work N → View S N → View S N
 ended u n w v = record v {
   seen = u.0.seen;
-  seat = record v.seat { place = at_idle; held = [] };
+  seat = record v.seat { place = Idle; held = [] };
   looked = u.0.looked;
   mine = v.mine ++ Committed (suc n) w ∷ [];
 }
@@ -66,41 +68,41 @@ module _ {S N : Type 0} (terms : Terms S N) (slots : List Slot) where
 
   module _ (k : Conflict) (m r : Mine S N) (f : FailsToTake terms slots k m r) where
     lost : Seat
-    lost = holding (conflict m.0.seat at_idle) at_failing at_idle (held_in slots 0 0 k.cell)
+    lost = holding (conflict m.0.seat Idle) Failing Idle (held_in slots 0 0 k.cell)
 
     pub failed_releases : Releasing terms slots k.cell None 0 r r
     failed_releases =
-        let e : r.0.seat ≡ holding (conflict m.0.seat at_idle) at_failing at_idle (held_in slots 0 0 k.cell) =
-        goes_seat terms m r (holding (conflict m.0.seat at_idle) at_failing at_idle (held_in slots 0 0 k.cell)) f.goes in
-        let start : r.0.seat ≡ holding r.0.seat at_failing at_idle (held_in slots 0 0 k.cell) =
-        e ∙ ap (λ (t : Seat). holding t at_failing at_idle (held_in slots 0 0 k.cell)) (sym e) in
+        let e : r.0.seat ≡ holding (conflict m.0.seat Idle) Failing Idle (held_in slots 0 0 k.cell) =
+        goes_seat terms m r (holding (conflict m.0.seat Idle) Failing Idle (held_in slots 0 0 k.cell)) f.goes in
+        let start : r.0.seat ≡ holding r.0.seat Failing Idle (held_in slots 0 0 k.cell) =
+        e ∙ ap (λ (t : Seat). holding t Failing Idle (held_in slots 0 0 k.cell)) (sym e) in
         record {
-          place = at_failing;
+          place = Failing;
           done = 0;
           gives = inl (refl, inl refl);
           start = start;
-          goes = goes_start terms r (holding r.0.seat at_failing at_idle (held_in slots 0 0 k.cell)) (sym start);
+          goes = goes_start terms r (holding r.0.seat Failing Idle (held_in slots 0 0 k.cell)) (sym start);
           looked = refl;
           void = λ i e. inl refl;
         }
 
-    pub failed_ends : (n : N) (s : Mine S N) → ReleasesAll terms r s → HasConflicted terms slots n k m s
+    pub failed_ends : (n : N) (s : Mine S N) → ReleasesAll terms r s → HasConflicted terms slots n k None m s
     failed_ends n s g =
         record {
           sees = sees_on terms m r s f.sees g.goes.moves;
           finds = finds_on k r s g f.finds;
           cause = inr f.differs;
-          entry = inl (g.goes.is ∙ ap (λ (v : View S N). let w : View S N = record v { seen = s.0.seen; seat = record v.seat { place = at_idle; held = [] }; looked = s.0.looked } in w) f.goes.is);
+          entry = g.goes.is ∙ ap (λ (v : View S N). let w : View S N = record v { seen = s.0.seen; seat = record v.seat { place = Idle; held = [] }; looked = s.0.looked } in w) f.goes.is;
         }
 
   -- ---- a number was drawn
 
   module _ (cells : List ℕ) (x : N) (m r : Mine S N) (n : ℕ) (d : Draws terms (Some x) m n r) (kept : IsKeptOf m.0.seat slots cells)
       (held : m.0.seat.held ≡ held_in slots 0 0 (length slots)) (some : writes_kept slots ≢ []) where
-    drawn_is : r.0 ≡ record m.0 { seen = r.0.seen; seat = placed m.0.seat (at_checking n 0); note = Some x; drawn = m.0.drawn ++ suc n ∷ [] }
+    drawn_is : r.0 ≡ record m.0 { seen = r.0.seen; seat = placed m.0.seat (Checking n 0); note = Some x; drawn = m.0.drawn ++ suc n ∷ [] }
     drawn_is = d.is x refl
 
-    pub drawn_seat : r.0.seat ≡ placed m.0.seat (at_checking n 0)
+    pub drawn_seat : r.0.seat ≡ placed m.0.seat (Checking n 0)
     drawn_seat = ap (λ (v : View S N). v.seat) drawn_is
 
     pub drawn_kept : IsKeptOf r.0.seat slots cells
@@ -114,8 +116,8 @@ module _ {S N : Type 0} (terms : Terms S N) (slots : List Slot) where
 
     -- the check failed
     module _ (k : Conflict) (s : Mine S N) (f : FailsTheCheck terms slots n k r s) where
-      failed_seat : s.0.seat ≡ conflict r.0.seat (at_voiding n)
-      failed_seat = goes_seat terms r s (conflict r.0.seat (at_voiding n)) f.goes
+      failed_seat : s.0.seat ≡ conflict r.0.seat (Voiding n)
+      failed_seat = goes_seat terms r s (conflict r.0.seat (Voiding n)) f.goes
 
       pub void_kept : IsKeptOf s.0.seat slots cells
       void_kept = kept_same r.0.seat s.0.seat slots cells (ap (λ (t : Seat). t.reads) failed_seat) drawn_kept
@@ -131,30 +133,38 @@ module _ {S N : Type 0} (terms : Terms S N) (slots : List Slot) where
           let full : is_nil (held_in slots 0 0 high) ≡ false = ap (λ (h : ℕ). is_nil (held_in slots 0 0 h)) same ∙ some_held slots 0 some in
           let h : s.0.seat.held ≡ held_in slots 0 0 high =
           ap (λ (t : Seat). t.held) failed_seat ∙ (ap (λ (t : Seat). t.held) drawn_seat ∙ (held ∙ sym (ap (held_in slots 0 0) same))) in
-          let start : s.0.seat ≡ holding s.0.seat (at_voiding n) at_idle (held_in slots 0 0 high) =
-          holds s.0.seat (at_voiding n) (held_in slots 0 0 high) (ap (λ (t : Seat). t.place) failed_seat) h full in
+          let start : s.0.seat ≡ holding s.0.seat (Voiding n) Idle (held_in slots 0 0 high) =
+          holds s.0.seat (Voiding n) (held_in slots 0 0 high) (ap (λ (t : Seat). t.place) failed_seat) h full in
           record {
-            place = at_voiding n;
+            place = Voiding n;
             done = 0;
             gives = inl (refl, inr (n, refl));
             start = start;
-            goes = goes_start terms s (holding s.0.seat (at_voiding n) at_idle (held_in slots 0 0 high)) (sym start);
+            goes = goes_start terms s (holding s.0.seat (Voiding n) Idle (held_in slots 0 0 high)) (sym start);
             looked = refl;
             void = λ i e. inl refl;
           }
 
-      pub void_ends : (z : Mine S N) → ReleasesAll terms s z → HasConflicted terms slots x k m z
-      void_ends z g =
+      pub void_ends : (z : Mine S N) → ReleasesAll terms s z → (number : ℕ) → number ≡ suc n → HasConflicted terms slots x k (Some number) m z
+      void_ends z g number is =
           record {
             sees = sees_on terms m s z (sees_on terms m r s d.sees f.goes.moves) g.goes.moves;
             finds = finds_on k s z g f.finds;
             cause = inl (subst (λ (t : Seat). HasCause t.rv k.word) drawn_seat f.cause);
-            entry = inr (
+            entry = (
               n,
+              is,
               d.later,
               g.void n (ap (λ (t : Seat). t.place) failed_seat),
-              g.goes.is ∙ (ap (λ (v : View S N). let w : View S N = record v { seen = z.0.seen; seat = record v.seat { place = at_idle; held = [] }; looked = z.0.looked } in w) f.goes.is
-                  ∙ ap (λ (v : View S N). let w : View S N = record v { seen = z.0.seen; seat = over_seat terms v.seat true; looked = z.0.looked } in w) drawn_is),
+              g.goes.is ∙ (ap (λ (v : View S N). let w : View S N = record v { seen = z.0.seen; seat = record v.seat { place = Idle; held = [] }; looked = z.0.looked } in w) f.goes.is
+                  ∙ ap (λ (v : View S N). let w : View S N = record v { seen = z.0.seen; seat = over_seat terms v.seat true; looked = z.0.looked } in w) drawn_is)
+                  ∙ (λ j. let w : View S N = record m.0 {
+                    seen = z.0.seen;
+                    seat = over_seat terms m.0.seat true;
+                    looked = z.0.looked;
+                    note = Some x;
+                    drawn = m.0.drawn ++ sym is j ∷ [];
+                  } in w),
             );
           }
 
@@ -165,8 +175,8 @@ module _ {S N : Type 0} (terms : Terms S N) (slots : List Slot) where
 
     -- the check passed
     module _ (s : Mine S N) (p : Passes terms n r s) where
-      passed_seat : s.0.seat ≡ placed r.0.seat (at_checking n p.upto)
-      passed_seat = goes_seat terms r s (placed r.0.seat (at_checking n p.upto)) p.goes
+      passed_seat : s.0.seat ≡ placed r.0.seat (Checking n p.upto)
+      passed_seat = goes_seat terms r s (placed r.0.seat (Checking n p.upto)) p.goes
 
       passed_reads : s.0.seat.reads ≡ m.0.seat.reads
       passed_reads = ap (λ (t : Seat). t.reads) passed_seat ∙ ap (λ (t : Seat). t.reads) drawn_seat
@@ -180,7 +190,7 @@ module _ {S N : Type 0} (terms : Terms S N) (slots : List Slot) where
       pub passed_base : length s.0.base ≡ length m.0.base
       passed_base = ap (λ (v : View S N). length v.base) p.goes.is ∙ drawn_base
 
-      pub passed_run : (upto : ℕ) × (s.0.seat.place ≡ at_checking n upto) × ((is_next s.0.seat n || all_settled s.0.seat.held upto s.0.seat.reads) ≡ true)
+      pub passed_run : (upto : ℕ) × (s.0.seat.place ≡ Checking n upto) × ((is_next s.0.seat n || all_settled s.0.seat.held upto s.0.seat.reads) ≡ true)
       passed_run = (
         p.upto,
         ap (λ (t : Seat). t.place) passed_seat,
@@ -207,14 +217,14 @@ module _ {S N : Type 0} (terms : Terms S N) (slots : List Slot) where
         done_releases high w same new =
             let full : is_nil (held_in slots high 0 high) ≡ false = ap (λ (h : ℕ). is_nil (held_in slots h 0 h)) same ∙ some_held slots (length slots) some in
             let h : z.0.seat.held ≡ held_in slots high 0 high = ap (λ (v : View S N). v.seat.held) a.is ∙ sym (ap (λ (h : ℕ). held_in slots h 0 h) same) in
-            let start : z.0.seat ≡ holding z.0.seat (at_storing n) at_idle (held_in slots high 0 high) =
-            holds z.0.seat (at_storing n) (held_in slots high 0 high) (ap (λ (v : View S N). v.seat.place) a.is) h full in
+            let start : z.0.seat ≡ holding z.0.seat (Storing n) Idle (held_in slots high 0 high) =
+            holds z.0.seat (Storing n) (held_in slots high 0 high) (ap (λ (v : View S N). v.seat.place) a.is) h full in
             record {
-              place = at_storing n;
+              place = Storing n;
               done = high;
               gives = inr (refl, (n, refl, ap (λ (w : ℕ). Some w) new));
               start = start;
-              goes = goes_start terms z (holding z.0.seat (at_storing n) at_idle (held_in slots high 0 high)) (sym start);
+              goes = goes_start terms z (holding z.0.seat (Storing n) Idle (held_in slots high 0 high)) (sym start);
               looked = refl;
               void = λ i e. inl refl;
             }
@@ -229,7 +239,7 @@ module _ {S N : Type 0} (terms : Terms S N) (slots : List Slot) where
               later = d.later;
               done = subst (λ (w : Work N). IsDone u.0.seen n w) same_work
                   (done_grows z.0.seen u.0.seen n (work_kept s.0.seat slots x) (moves_grow terms z u g.goes.moves) a.done);
-              is = g.goes.is ∙ (ap (λ (v : View S N). let w : View S N = record v { seen = u.0.seen; seat = record v.seat { place = at_idle; held = [] }; looked = u.0.looked } in w) a.is
+              is = g.goes.is ∙ (ap (λ (v : View S N). let w : View S N = record v { seen = u.0.seen; seat = record v.seat { place = Idle; held = [] }; looked = u.0.looked } in w) a.is
                   ∙ (ap (ended u n (work_kept s.0.seat slots x)) p.goes.is ∙ (ap (ended u n (work_kept s.0.seat slots x)) drawn_is
                   ∙ (λ j. let w : View S N = record m.0 {
                     seen = u.0.seen;
@@ -246,12 +256,12 @@ module _ {S N : Type 0} (terms : Terms S N) (slots : List Slot) where
 
   -- ---- all locks were taken before
 
-  module _ (m r : Mine S N) (ks : List SeatHeld) (g : Goes terms m (holding m.0.seat at_taking at_reading ks) r) where
+  module _ (m r : Mine S N) (ks : List Held) (g : Goes terms m (holding m.0.seat Taking Reading ks) r) where
     taken : Seat
-    taken = holding m.0.seat at_taking at_reading ks
+    taken = holding m.0.seat Taking Reading ks
 
-    pub taken_seat : r.0.seat ≡ holding m.0.seat at_taking at_reading ks
-    taken_seat = goes_seat terms m r (holding m.0.seat at_taking at_reading ks) g
+    pub taken_seat : r.0.seat ≡ holding m.0.seat Taking Reading ks
+    taken_seat = goes_seat terms m r (holding m.0.seat Taking Reading ks) g
 
     seen_before : (i : ℕ) → length r.0.seen.history ≤ i → length m.0.seen.history ≤ i
     seen_before i l = let a : length m.0.seen.history ≤ length r.0.seen.history = (moves_grow terms m r g.moves).0.0 in omega (arith, a, l)
@@ -285,28 +295,29 @@ module _ {S N : Type 0} (terms : Terms S N) (slots : List Slot) where
         same_work : work_kept r.0.seat slots x ≡ work_kept m.0.seat slots x
         same_work = ap (λ (t : Seat). work_kept t slots x) taken_seat
 
-    pub conflicted_from : (x : N) (k : Conflict) (s : Mine S N) → HasConflicted terms slots x k r s → HasConflicted terms slots x k m s
-    conflicted_from x k s h =
+    unentered : (x : N) (drawn : Option ℕ) (s : Mine S N) → HasNoEntry terms x drawn r s → HasNoEntry terms x drawn m s
+    unentered x None s e =
+        e ∙ ap (λ (v : View S N). let w : View S N = record v { seen = s.0.seen; seat = over_seat terms v.seat true; looked = s.0.looked } in w) g.is
+    unentered x (Some number) s e = (
+      e.0,
+      e.1,
+      seen_before e.0 e.2,
+      e.3,
+      e.4 ∙ ap (λ (v : View S N). let w : View S N = record v {
+        seen = s.0.seen;
+        seat = over_seat terms v.seat true;
+        looked = s.0.looked;
+        note = Some x;
+        drawn = v.drawn ++ number ∷ [];
+      } in w) g.is,
+    )
+
+    pub conflicted_from : (x : N) (k : Conflict) (drawn : Option ℕ) (s : Mine S N) → HasConflicted terms slots x k drawn r s
+        → HasConflicted terms slots x k drawn m s
+    conflicted_from x k drawn s h =
         record {
           sees = moves_then terms m r s g.moves h.sees;
           finds = h.finds;
           cause = subst (λ (t : Seat). HasCause t.rv k.word ⊎ ((w : ℕ) × (k.before ≡ Some w) × (w ≢ k.word))) taken_seat h.cause;
-          entry = ⊎_elim
-              (λ (e : s.0 ≡ record r.0 { seen = s.0.seen; seat = over_seat terms r.0.seat true; looked = s.0.looked }).
-              inl (e ∙ ap (λ (v : View S N). let w : View S N = record v { seen = s.0.seen; seat = over_seat terms v.seat true; looked = s.0.looked } in w) g.is))
-              (λ (e : (i : ℕ) × (length r.0.seen.history ≤ i) × IsVoid s.0.seen i
-              × (s.0 ≡ record r.0 { seen = s.0.seen; seat = over_seat terms r.0.seat true; looked = s.0.looked; note = Some x; drawn = r.0.drawn ++ suc i ∷ [] })).
-              inr (
-                e.0,
-                seen_before e.0 e.1,
-                e.2,
-                e.3 ∙ ap (λ (v : View S N). let w : View S N = record v {
-                  seen = s.0.seen;
-                  seat = over_seat terms v.seat true;
-                  looked = s.0.looked;
-                  note = Some x;
-                  drawn = v.drawn ++ suc e.0 ∷ [];
-                } in w) g.is,
-              ))
-              h.entry;
+          entry = unentered x drawn s h.entry;
         }

@@ -10,14 +10,15 @@ use Rattle.tlcore.specs.Machine.{World}
 use Rattle.tlcore.specs.Laws.{Keeps}
 use Rattle.tlcore.proofs.Growth.{Grows-refl}
 use Rattle.tlcore.proofs.Lists.{get_within}
-use Rattle.tlwords.specs.Ranges.{Range, Has, Within, LieIn}
+use Rattle.ranges.specs.Ranges.{Range, Has, Within, AreOfOneStore}
 use Rattle.tlwords.specs.Terms.{Terms}
 use Rattle.tlwords.specs.Seen.{Seen, SeenGrows}
 use Rattle.tlwords.specs.Views.{Staging, View, tells}
 use Rattle.tlwords.specs.Rule.{tail_at, store_at, EntriesAre, IsTold, Suits, Shelf, Ruled}
 use Rattle.tlwords.specs.Plays.{Mine, Sees, Fetches, advanced, filled, fetched}
 use Rattle.tlwords.proofs.Paired.{set_same}
-use Rattle.tlwords.proofs.Seens.{seen_refl, seen_trans, agree_grows, permits_grow, names_grow, within_refl}
+use Rattle.ranges.proofs.Grown.{names_grow, within_refl}
+use Rattle.tlwords.proofs.Seens.{seen_refl, seen_trans, agree_grows, permits_grow}
 use Rattle.tlwords.proofs.Keeps.{Rule, now, seat_at, moved, sound_of, told_grows}
 use Rattle.tlwords.proofs.Lifts.{front_long, tail_word, tail_is_set, store_word, store_is_set}
 use Rattle.tlwords.proofs.Shelves.{one_staging, tail_stays, shelf_same, shelf_taken, shelf_refused, shelf_filled, shelf_finished, with_range, lie_more}
@@ -33,16 +34,17 @@ module _ {S N : Type 0} (terms : Terms S N) (setting : S) (base : List ℕ) (roo
 
   module _ (ranges : List Range) (front : List ℕ) (vs : List (View S N)) (r : Rule terms setting base room ranges front vs) (id : ℕ) (v : View S N) where
     -- the view after a step that has found these ranges finished
-    abbrev pub aside : List Range → Option Staging → Option (ℕ × ℕ) → View S N
-    aside qs staging full = record v { seen = record { history = (r.world).history; notes = r.notes; ranges = qs }; staging = staging; full = full }
+    abbrev pub aside : List Range → Option Staging → Option (ℕ × ℕ) → ℕ → ℕ → View S N
+    aside qs staging full taken added =
+        record v { seen = record { history = (r.world).history; notes = r.notes; ranges = qs }; staging = staging; full = full; taken = taken; added = added }
 
-    pub beside : get_elem? vs id ≡ some v → (qs : List Range) (staging : Option Staging) (full : Option (ℕ × ℕ)) → Within ranges qs → LieIn room qs
-        → Rule terms setting base room qs front (slice_set vs id (aside qs staging full)) × Sees terms v (aside qs staging full)
-    beside at qs staging full wider lie =
+    pub beside : get_elem? vs id ≡ some v → (qs : List Range) (staging : Option Staging) (full : Option (ℕ × ℕ)) (taken added : ℕ) → Within ranges qs → AreOfOneStore room qs
+        → Rule terms setting base room qs front (slice_set vs id (aside qs staging full taken added)) × Sees terms v (aside qs staging full taken added)
+    beside at qs staging full taken added wider lie =
         let world : World = r.world in
         let g : Seen N = now terms setting base room ranges front vs r in
         let h : Seen N = record { history = world.history; notes = r.notes; ranges = qs } in
-        let w : View S N = aside qs staging full in
+        let w : View S N = aside qs staging full taken added in
         let f : Suits terms setting base room g r.owner v = r.suits id v at in
         let e : slice_get world.seats id ≡ Some v.seat = seat_at terms setting base room ranges front vs r id v at in
         let still : Keeps base world world = record { invariant = r.invariant; grows = Grows-refl world.history } in
@@ -68,33 +70,33 @@ module _ {S N : Type 0} (terms : Terms S N) (setting : S) (base : List ℕ) (roo
           record {
             own = seen_trans v.seen g h f.own.grows grow;
             told = seen_trans v.told.seen g h f.told.grows grow;
-            sound = sound_of terms setting base room qs world r.notes r.owner id w r.invariant entries rule.opening lie suit e refl;
+            sound = sound_of terms setting base room qs world r.notes r.owner id w r.invariant r.notes_are entries rule.opening lie suit e refl;
           },
         )
 
   -- the front's words are before those of the store
-  long_front : (cells : ℕ) (me : Mine S N) (y : S) → me.0.setting ≡ Some y → cells ≡ length me.0.base
-      → (id : ℕ) (s : State (Unit {0}) (View S N)) (r : Ruled terms setting base room s) → get_elem? s.views id ≡ some me.0
+  long_front : (opened : List ℕ) (cells : ℕ) (me : Mine S N) (y : S) → me.0.setting ≡ Some y → cells ≡ length me.0.base
+      → (id : ℕ) (s : State (Unit {0}) (View S N)) (r : Ruled terms setting base room opened s) → get_elem? s.views id ≡ some me.0
       → (length r.front ≡ tail_at cells) × (me.0.room ≡ room)
-  long_front cells me y set count id s r at =
+  long_front opened cells me y set count id s r at =
       let f = (r.kept).suits id me.0 at in
       let b : length me.0.base ≡ length base = ap length (f.own.setting_is y set).1 in
       let l : length r.front ≡ tail_at (length base) = front_long terms setting base room r.ranges r.front s.views r.kept in
       (omega (arith, l, b, count), f.room_is y set)
 
   -- the seat has a view that keeps the rule when the word i becomes n, and `then` holds of it
-  abbrev Moves : State (Unit {0}) (View S N) → ℕ → ℕ → ℕ → Mine S N → (Mine S N → Type 0) → Type 0
-  Moves s i n id me then =
-      (w : View S N) × (a : Act (Unit {0})) × Valid s.homes me.1 a × Ruled terms setting base room (stepped s i n id me.1 w a)
+  abbrev Moves : List ℕ → State (Unit {0}) (View S N) → ℕ → ℕ → ℕ → Mine S N → (Mine S N → Type 0) → Type 0
+  Moves opened s i n id me then =
+      (w : View S N) × (a : Act (Unit {0})) × Valid s.homes me.1 a × Ruled terms setting base room opened (stepped s i n id me.1 w a)
       × then (w, carried_after me.1 a)
 
   -- ---- Advance
 
-  pub advances : (slots id cells count : ℕ) (words : List ℕ) (me : Mine S N) (y : S) → me.0.setting ≡ Some y → cells ≡ length me.0.base
+  pub advances : (opened : List ℕ) (slots id cells count : ℕ) (words : List ℕ) (me : Mine S N) (y : S) → me.0.setting ≡ Some y → cells ≡ length me.0.base
       → count ≡ min (length words) (me.0.room + 1) → words ≢ [] → me.0.full ≡ None → 1 ≤ me.0.rights
-      → Allows (Ruled terms setting base room) slots id me (tail_at cells) (λ n. (n + count) % 2 ^ 64)
+      → Allows (Ruled terms setting base room opened) slots id me (tail_at cells) (λ n. (n + count) % 2 ^ 64)
       (advanced terms words (step slots (tail_at cells) count 0 none) me)
-  advances slots id cells count words me y set cells_are is_count some_words unrefused some_rights s r _ at _ =
+  advances opened slots id cells count words me y set cells_are is_count some_words unrefused some_rights s r _ at _ =
       go (fits_or_not (r.tail + length words) room)
     where
       v : View S N
@@ -104,7 +106,7 @@ module _ {S N : Type 0} (terms : Terms S N) (setting : S) (base : List ℕ) (roo
       n = slice_index s.words (tail_at cells)
 
       known : (length r.front ≡ tail_at cells) × (v.room ≡ room)
-      known = long_front cells me y set cells_are id s r at
+      known = long_front opened cells me y set cells_are id s r at
 
       is : n ≡ r.tail
       is = ap (λ (ws : List ℕ). slice_index ws (tail_at cells)) r.words_are ∙ tail_word r.front r.tail r.store cells known.0
@@ -118,16 +120,16 @@ module _ {S N : Type 0} (terms : Terms S N) (setting : S) (base : List ℕ) (roo
       words_are : slice_set s.words (tail_at cells) ((n + count) % 2 ^ 64) ≡ r.front ++ (r.tail + count) ∷ r.store
       words_are =
           ap (λ (k : ℕ). slice_set s.words (tail_at cells) ((k + count) % 2 ^ 64)) is
-          ∙ (ap (λ (k : ℕ). slice_set s.words (tail_at cells) k) (tail_stays room r.tail count r.ranges r.store s.views r.shelf (r.kept).rights least)
+          ∙ (ap (λ (k : ℕ). slice_set s.words (tail_at cells) k) (tail_stays (length opened) room r.tail count s.views (r.shelf).tail_is (r.shelf).small (r.kept).rights least)
           ∙ (ap (λ (ws : List ℕ). slice_set ws (tail_at cells) (r.tail + count)) r.words_are
           ∙ tail_is_set r.front r.tail r.store cells known.0 (r.tail + count)))
 
       go : (r.tail + length words ≤ room) ⊎ (room < r.tail + length words)
-          → Moves s (tail_at cells) ((n + count) % 2 ^ 64) id me (advanced terms words (step slots (tail_at cells) count 0 none) me n)
+          → Moves opened s (tail_at cells) ((n + count) % 2 ^ 64) id me (advanced terms words (step slots (tail_at cells) count 0 none) me n)
       go (inl fits) =
           let taken : Option Staging = Some (record { start = n; words = words; done = 0 }) in
-          let u : View S N = aside r.ranges r.front s.views r.kept id v r.ranges taken v.full in
-          let q = beside r.ranges r.front s.views r.kept id v at r.ranges taken v.full (within_refl r.ranges) (r.kept).lie in
+          let u : View S N = aside r.ranges r.front s.views r.kept id v r.ranges taken v.full (v.taken + length words) v.added in
+          let q = beside r.ranges r.front s.views r.kept id v at r.ranges taken v.full (v.taken + length words) v.added (within_refl r.ranges) (r.kept).lie in
           let b : v.room ≡ room = known.1 in
           let whole : count ≡ length words = is_count ∙ min-eq_left (omega (arith, fits, b)) in (
             u,
@@ -140,16 +142,16 @@ module _ {S N : Type 0} (terms : Terms S N) (setting : S) (base : List ℕ) (roo
               ranges = r.ranges;
               words_are = words_are;
               kept = q.0;
-              shelf = subst (λ (k : ℕ). Shelf room r.ranges (r.tail + k) r.store (slice_set s.views id u)) (sym whole)
-                  (shelf_taken room r.tail r.ranges r.store s.views id v u words r.shelf at some_words fits
+              shelf = subst (λ (k : ℕ). Shelf room opened r.ranges (r.tail + k) r.store (slice_set s.views id u)) (sym whole)
+                  (shelf_taken room opened r.tail r.ranges r.store s.views id v u words r.shelf at some_words fits
                   (ap (λ (k : ℕ). let z : Option Staging = Some (record { start = k; words = words; done = 0 }) in z) is) refl refl);
             },
             record { sees = q.1; taken = λ _. refl; refused = λ l. absurd (omega (arith, l, fits, is, b)) },
           )
       go (inr above) =
           let full : Option (ℕ × ℕ) = Some (n, length words) in
-          let u : View S N = aside r.ranges r.front s.views r.kept id v r.ranges v.staging full in
-          let q = beside r.ranges r.front s.views r.kept id v at r.ranges v.staging full (within_refl r.ranges) (r.kept).lie in
+          let u : View S N = aside r.ranges r.front s.views r.kept id v r.ranges v.staging full v.taken count in
+          let q = beside r.ranges r.front s.views r.kept id v at r.ranges v.staging full v.taken count (within_refl r.ranges) (r.kept).lie in
           let b : v.room ≡ room = known.1 in (
             u,
             keeps,
@@ -161,24 +163,30 @@ module _ {S N : Type 0} (terms : Terms S N) (setting : S) (base : List ℕ) (roo
               ranges = r.ranges;
               words_are = words_are;
               kept = q.0;
-              shelf = shelf_refused room r.tail r.ranges r.store s.views id v u count (n, length words) r.shelf at unrefused some_rights least refl refl refl;
+              shelf = shelf_refused room opened r.tail r.ranges r.store s.views id v u (length words) count r.shelf at unrefused some_rights
+                  (is_count ∙ ap (λ (k : ℕ). min (length words) (k + 1)) b) refl
+                  (ap (λ (k : ℕ). let m : Option (ℕ × ℕ) × ℕ × ℕ = (Some (k, length words), v.taken, count) in m) is) refl;
             },
-            record { sees = q.1; taken = λ l. absurd (omega (arith, l, above, is, b)); refused = λ _. refl },
+            record {
+              sees = q.1;
+              taken = λ l. absurd (omega (arith, l, above, is, b));
+              refused = λ _. ap (λ (k : ℕ). let z : View S N = record u { added = k } in z) is_count;
+            },
           )
 
   -- ---- Fill
 
-  pub fills : (slots id cells o word : ℕ) (me : Mine S N) (y : S) → me.0.setting ≡ Some y → cells ≡ length me.0.base
+  pub fills : (opened : List ℕ) (slots id cells o word : ℕ) (me : Mine S N) (y : S) → me.0.setting ≡ Some y → cells ≡ length me.0.base
       → (t : Staging) → me.0.staging ≡ Some t → o ≡ t.start + t.done → slice_get t.words t.done ≡ Some word
-      → Allows (Ruled terms setting base room) slots id me (store_at cells o) (λ _. word) (filled terms (step slots (store_at cells o) word 0 none) me)
-  fills slots id cells o word me y set cells_are t staging place next s r _ at _ =
+      → Allows (Ruled terms setting base room opened) slots id me (store_at cells o) (λ _. word) (filled terms (step slots (store_at cells o) word 0 none) me)
+  fills opened slots id cells o word me y set cells_are t staging place next s r _ at _ =
       go (more_or_last t.done (length t.words) (get_within t.words t.done word next))
     where
       v : View S N
       v = me.0
 
       known : (length r.front ≡ tail_at cells) × (v.room ≡ room)
-      known = long_front cells me y set cells_are id s r at
+      known = long_front opened cells me y set cells_are id s r at
 
       words_are : slice_set s.words (store_at cells o) word ≡ r.front ++ r.tail ∷ slice_set r.store (t.start + t.done) word
       words_are =
@@ -187,11 +195,11 @@ module _ {S N : Type 0} (terms : Terms S N) (setting : S) (base : List ℕ) (roo
           ∙ ap (λ (k : ℕ). r.front ++ r.tail ∷ slice_set r.store k word) place)
 
       go : (t.done + 1 < length t.words) ⊎ (t.done + 1 ≡ length t.words)
-          → Moves s (store_at cells o) word id me (filled terms (step slots (store_at cells o) word 0 none) me (slice_index s.words (store_at cells o)))
+          → Moves opened s (store_at cells o) word id me (filled terms (step slots (store_at cells o) word 0 none) me (slice_index s.words (store_at cells o)))
       go (inl more) =
           let after : Option Staging = Some (record t { done = t.done + 1 }) in
-          let u : View S N = aside r.ranges r.front s.views r.kept id v r.ranges after v.full in
-          let q = beside r.ranges r.front s.views r.kept id v at r.ranges after v.full (within_refl r.ranges) (r.kept).lie in (
+          let u : View S N = aside r.ranges r.front s.views r.kept id v r.ranges after v.full v.taken v.added in
+          let q = beside r.ranges r.front s.views r.kept id v at r.ranges after v.full v.taken v.added (within_refl r.ranges) (r.kept).lie in (
             u,
             keeps,
             tt,
@@ -202,7 +210,7 @@ module _ {S N : Type 0} (terms : Terms S N) (setting : S) (base : List ℕ) (roo
               ranges = r.ranges;
               words_are = words_are;
               kept = q.0;
-              shelf = shelf_filled room r.tail r.ranges r.store s.views id v t word r.shelf at staging next u more refl refl refl;
+              shelf = shelf_filled room opened r.tail r.ranges r.store s.views id v t word r.shelf at staging next u more refl refl refl;
             },
             record {
               sees = q.1;
@@ -214,10 +222,10 @@ module _ {S N : Type 0} (terms : Terms S N) (setting : S) (base : List ℕ) (roo
             },
           )
       go (inr last) =
-          let qs : List Range = with_range room r.tail r.ranges r.store s.views id v t word r.shelf at staging next in
-          let u : View S N = aside r.ranges r.front s.views r.kept id v qs None v.full in
-          let q = beside r.ranges r.front s.views r.kept id v at qs None v.full (λ x has. inr has)
-          (lie_more room r.tail r.ranges r.store s.views id v t word r.shelf at staging next (r.kept).lie) in (
+          let qs : List Range = with_range room opened r.tail r.ranges r.store s.views id v t word r.shelf at staging next in
+          let u : View S N = aside r.ranges r.front s.views r.kept id v qs None v.full v.taken v.added in
+          let q = beside r.ranges r.front s.views r.kept id v at qs None v.full v.taken v.added (λ x has. inr has)
+          (lie_more room opened r.tail r.ranges r.store s.views id v t word r.shelf at staging next last (r.kept).lie) in (
             u,
             keeps,
             tt,
@@ -228,7 +236,7 @@ module _ {S N : Type 0} (terms : Terms S N) (setting : S) (base : List ℕ) (roo
               ranges = qs;
               words_are = words_are;
               kept = q.0;
-              shelf = shelf_finished room r.tail r.ranges r.store s.views id v t word r.shelf at staging next u last refl refl refl;
+              shelf = shelf_finished room opened r.tail r.ranges r.store s.views id v t word r.shelf at staging next u last refl refl refl;
             },
             record {
               sees = q.1;
@@ -244,17 +252,17 @@ module _ {S N : Type 0} (terms : Terms S N) (setting : S) (base : List ℕ) (roo
 
   -- ---- Fetch
 
-  pub fetches : (slots id cells o : ℕ) (me : Mine S N) (y : S) → me.0.setting ≡ Some y → cells ≡ length me.0.base
-      → Allows (Ruled terms setting base room) slots id me (store_at cells o) (λ n. n) (fetched terms (step slots (store_at cells o) 0 0 none) me)
-  fetches slots id cells o me y set cells_are s r _ at _ =
+  pub fetches : (opened : List ℕ) (slots id cells o : ℕ) (me : Mine S N) (y : S) → me.0.setting ≡ Some y → cells ≡ length me.0.base
+      → Allows (Ruled terms setting base room opened) slots id me (store_at cells o) (λ n. n) (fetched terms (step slots (store_at cells o) 0 0 none) me)
+  fetches opened slots id cells o me y set cells_are s r _ at _ =
       let v : View S N = me.0 in
       let n : ℕ = slice_index s.words (store_at cells o) in
-      let known : (length r.front ≡ tail_at cells) × (v.room ≡ room) = long_front cells me y set cells_are id s r at in
+      let known : (length r.front ≡ tail_at cells) × (v.room ≡ room) = long_front opened cells me y set cells_are id s r at in
       let is : n ≡ slice_index r.store o =
       ap (λ (ws : List ℕ). slice_index ws (store_at cells o)) r.words_are ∙ store_word r.front r.tail r.store cells known.0 o in
       let f = (r.kept).suits id v at in
-      let u : View S N = aside r.ranges r.front s.views r.kept id v r.ranges v.staging v.full in
-      let q = beside r.ranges r.front s.views r.kept id v at r.ranges v.staging v.full (within_refl r.ranges) (r.kept).lie in
+      let u : View S N = aside r.ranges r.front s.views r.kept id v r.ranges v.staging v.full v.taken v.added in
+      let q = beside r.ranges r.front s.views r.kept id v at r.ranges v.staging v.full v.taken v.added (within_refl r.ranges) (r.kept).lie in
       let index : o ≡ store_at cells o - (2 * length v.base + 3) = omega (arith, cells_are) in (
         u,
         keeps,
@@ -266,7 +274,7 @@ module _ {S N : Type 0} (terms : Terms S N) (setting : S) (base : List ℕ) (roo
           ranges = r.ranges;
           words_are = set-get_or s.words (store_at cells o) 0 ∙ r.words_are;
           kept = q.0;
-          shelf = shelf_same room r.tail r.ranges r.store s.views id v u r.shelf at (refl, refl, refl);
+          shelf = shelf_same room opened r.tail r.ranges r.store s.views id v u r.shelf at (refl, refl, refl);
         },
         subst (λ (k : ℕ). Fetches terms k me n (u, me.1)) index (record {
           sees = q.1;

@@ -1,7 +1,8 @@
 -- A run that stores its values, one after another.
 use Rattle.std.proofs.Common.{◌≡◌, ◌≢◌, ℕ, suc, ◌+◌, ◌<◌, ◌≤◌, ◌⊎◌, inl, inr, ⊎_elim, ◌||◌, true, Some, List, [], ◌∷◌, ◌++◌, length, sym, refl, ap, ◌∙◌, subst, arith}
 use Rattle.tlcore.specs.Seats.{find_held, is_next, all_settled, stored, reads_of, writes_of}
-use Rattle.tlcore.proofs.Words.{SeatHeld, at_checking, at_storing}
+use Rattle.tlcore.specs.declared.seats.Held.{Held}
+use Rattle.tlcore.specs.declared.seats.Place.TheVariants.{Checking, Storing}
 use Rattle.tlwords.specs.declared.log.Slot.{Slot}
 use Rattle.tlwords.specs.Terms.{Terms}
 use Rattle.tlwords.specs.Seen.{Work, Committed, IsDone}
@@ -25,7 +26,7 @@ module _ {S N : Type 0} (terms : Terms S N) (slots : List Slot) (i : ℕ) (x : N
   abbrev pub StoresSoFar : ℕ → Mine S N → Type 0
   StoresSoFar low r = ((r ≡ m) × NoneKept slots 0 low) ⊎ StoresTo terms slots i work low m r
 
-  module _ (upto : ℕ) (at : m.0.seat.place ≡ at_checking i upto) (held : m.0.seat.held ≡ held_in slots 0 0 (length slots)) (low : ℕ) (r : Mine S N)
+  module _ (upto : ℕ) (at : m.0.seat.place ≡ Checking i upto) (held : m.0.seat.held ≡ held_in slots 0 0 (length slots)) (low : ℕ) (r : Mine S N)
       (so : StoresSoFar low r) where
     pub store_setting : (y : S) → m.0.setting ≡ Some y → r.0.setting ≡ Some y
     store_setting y e = ⊎_elim (λ (p : (r ≡ m) × NoneKept slots 0 low). ap (λ (z : Mine S N). z.0.setting) p.0 ∙ e)
@@ -41,7 +42,7 @@ module _ {S N : Type 0} (terms : Terms S N) (slots : List Slot) (i : ℕ) (x : N
         (λ (p : StoresTo terms slots i work low m r). (i, inr (ap (λ (v : View S N). v.seat.place) p.is))) so
 
     module _ (c v : ℕ) (b : c < length slots) (e : value_kept slots c ≡ Some v) where
-      pub store_held : (k : SeatHeld) × (find_held c r.0.seat.held ≡ Some k) × (k.value ≡ v)
+      pub store_held : (k : Held) × (find_held c r.0.seat.held ≡ Some k) × (k.value ≡ v)
       store_held = ⊎_elim
           (λ (p : (r ≡ m) × NoneKept slots 0 low). (held_cell slots 0 c v, ap (λ (z : Mine S N). find_held c z.0.seat.held) p.0 ∙ (ap (find_held c) held ∙ held_find slots 0 0 (length slots) c v (omega arith) b e), refl))
           (λ (p : StoresTo terms slots i work low m r). (held_cell slots low c v, ap (λ (w : View S N). find_held c w.seat.held) p.is ∙ held_find slots low 0 (length slots) c v (omega arith) b e, refl)) so
@@ -66,7 +67,7 @@ module _ {S N : Type 0} (terms : Terms S N) (slots : List Slot) (i : ℕ) (x : N
                 done = subst (λ (w : Work N). IsDone s.0.seen i w) same_work f.0;
                 is = f.1 ∙ (λ j. let w : View S N = record m.0 {
                   seen = s.0.seen;
-                  seat = record m.0.seat { place = at_storing i; held = (ap (stored c) held ∙ held_stored slots 0 0 (length slots) c (omega arith) (unkept_both slots 0 low c before unkept)) j };
+                  seat = record m.0.seat { place = Storing i; held = (ap (stored c) held ∙ held_stored slots 0 0 (length slots) c (omega arith) (unkept_both slots 0 low c before unkept)) j };
                   looked = sym (ap (λ (v : View S N). v.looked) f.1) j;
                   mine = m.0.mine ++ Committed (suc i) (same_work j) ∷ [];
                 } in w);
@@ -85,7 +86,7 @@ module _ {S N : Type 0} (terms : Terms S N) (slots : List Slot) (i : ℕ) (x : N
                 is = e ∙ (ap (λ (v : View S N). let w : View S N = record v { seen = s.0.seen; seat = after_store v.seat i c } in w) p.is
                     ∙ (λ j. let w : View S N = record m.0 {
                       seen = s.0.seen;
-                      seat = record m.0.seat { place = at_storing i; held = held_stored slots low 0 (length slots) c l unkept j };
+                      seat = record m.0.seat { place = Storing i; held = held_stored slots low 0 (length slots) c l unkept j };
                       looked = sym (ap (λ (v : View S N). v.looked) e) j;
                       mine = m.0.mine ++ Committed (suc i) work ∷ [];
                     } in w));
@@ -99,7 +100,7 @@ module _ {S N : Type 0} (terms : Terms S N) (slots : List Slot) (i : ℕ) (x : N
           done = p.done;
           is = p.is ∙ (λ j. let w : View S N = record m.0 {
             seen = r.0.seen;
-            seat = record m.0.seat { place = at_storing i; held = held_done slots low (length slots) 0 (length slots) (omega arith) unkept j };
+            seat = record m.0.seat { place = Storing i; held = held_done slots low (length slots) 0 (length slots) (omega arith) unkept j };
             looked = r.0.looked;
             mine = m.0.mine ++ Committed (suc i) work ∷ [];
           } in w);

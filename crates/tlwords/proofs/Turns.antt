@@ -5,7 +5,8 @@ use Rattle.atomic_table.specs.declared.shared.Seat.{Seat as TableSeat}
 use Rattle.tlcore.specs.Seats.{Seat, find_read, is_nil, all_below}
 use Rattle.tlcore.specs.Machine.{conflict}
 use Rattle.tlcore.proofs.Lists.{known}
-use Rattle.tlcore.proofs.Words.{SeatRead, at_idle, at_reading, at_taking, at_failing}
+use Rattle.tlcore.specs.declared.seats.Read.{Read}
+use Rattle.tlcore.specs.declared.seats.Place.TheVariants.{Idle, Reading, Taking, Failing}
 use Rattle.tlwords.specs.declared.log.Slot.{Slot}
 use Rattle.tlwords.specs.Terms.{Terms}
 use Rattle.tlwords.specs.Seen.{SeenGrows}
@@ -29,10 +30,10 @@ module _ (t : Seat) (slots : List Slot) (cells : List ℕ) (k : IsKeptOf t slots
       go (Some v) r f e = let a : (true && true) ≡ false = sym (ap (λ (b : Bool). b && true) (f refl)) ∙ e in cc
 
   -- the read under the word that was seen
-  pub read_found : (c w : ℕ) → word_seen slots c ≡ Some w → (d : SeatRead) × (find_read c t.reads ≡ Some d) × (d.word ≡ w)
+  pub read_found : (c w : ℕ) → word_seen slots c ≡ Some w → (d : Read) × (find_read c t.reads ≡ Some d) × (d.word ≡ w)
   read_found c w e = go (find_read c t.reads) (sym (k.0 c) ∙ e)
     where
-      go : (o : Option SeatRead) → option_map (λ (r : SeatRead). r.word) o ≡ Some w → (d : SeatRead) × (o ≡ Some d) × (d.word ≡ w)
+      go : (o : Option Read) → option_map (λ (r : Read). r.word) o ≡ Some w → (d : Read) × (o ≡ Some d) × (d.word ≡ w)
       go None e = cc
       go (Some d) e = (d, refl, let q : d.word ≡ w = cc in q)
 
@@ -93,7 +94,7 @@ module _ {S N : Type 0} (terms : Terms S N) where
   pub goes_base : (m r : Mine S N) (t : Seat) → Goes terms m t r → length r.0.base ≡ length m.0.base
   goes_base m r t g = ap (λ (v : View S N). length v.base) g.is
 
-  pub goes_read : (m r : Mine S N) (t : Seat) → Goes terms m t r → t.reads ≡ m.0.seat.reads → (c : ℕ) (d : SeatRead)
+  pub goes_read : (m r : Mine S N) (t : Seat) → Goes terms m t r → t.reads ≡ m.0.seat.reads → (c : ℕ) (d : Read)
       → find_read c m.0.seat.reads ≡ Some d → find_read c r.0.seat.reads ≡ Some d
   goes_read m r t g e c d f = ap (λ (v : View S N). find_read c v.seat.reads) g.is ∙ (ap (find_read c) e ∙ f)
 
@@ -101,36 +102,36 @@ module _ {S N : Type 0} (terms : Terms S N) where
 
   module _ (slots : List Slot) (m r : Mine S N) (low : ℕ) where
     abbrev Before : Type 0
-    Before = Goes terms m (holding m.0.seat at_taking at_reading (held_in slots 0 0 low)) r
+    Before = Goes terms m (holding m.0.seat Taking Reading (held_in slots 0 0 low)) r
 
     pub take_place : Before → (c : ℕ) → low ≤ c
-        → (r.0.seat.place ≡ at_reading) ⊎ ((r.0.seat.place ≡ at_taking) × (all_below c r.0.seat.held ≡ true))
+        → (r.0.seat.place ≡ Reading) ⊎ ((r.0.seat.place ≡ Taking) × (all_below c r.0.seat.held ≡ true))
     take_place g c l = go (known (is_nil (held_in slots 0 0 low)))
       where
         go : (is_nil (held_in slots 0 0 low) ≡ true) ⊎ (is_nil (held_in slots 0 0 low) ≡ false)
-            → (r.0.seat.place ≡ at_reading) ⊎ ((r.0.seat.place ≡ at_taking) × (all_below c r.0.seat.held ≡ true))
-        go (inl e) = inl (ap (λ (v : View S N). v.seat.place) g.is ∙ ap (λ (b : Bool). if b then at_reading else at_taking) e)
-        go (inr e) = inr (ap (λ (v : View S N). v.seat.place) g.is ∙ ap (λ (b : Bool). if b then at_reading else at_taking) e, ap (λ (v : View S N). all_below c v.seat.held) g.is ∙ held_below slots 0 0 low c l)
+            → (r.0.seat.place ≡ Reading) ⊎ ((r.0.seat.place ≡ Taking) × (all_below c r.0.seat.held ≡ true))
+        go (inl e) = inl (ap (λ (v : View S N). v.seat.place) g.is ∙ ap (λ (b : Bool). if b then Reading else Taking) e)
+        go (inr e) = inr (ap (λ (v : View S N). v.seat.place) g.is ∙ ap (λ (b : Bool). if b then Reading else Taking) e, ap (λ (v : View S N). all_below c v.seat.held) g.is ∙ held_below slots 0 0 low c l)
 
     module _ (g : Before) (c v w n : ℕ) (s : Mine S N) (l : low ≤ c) (unkept : NoneKept slots low c) (t : Takes terms c v w r n s) where
       pub take_goes : value_kept slots c ≡ Some v → word_seen slots c ≡ Some w → n ≡ w
-          → Goes terms m (holding m.0.seat at_taking at_reading (held_in slots 0 0 (c + 1))) s
+          → Goes terms m (holding m.0.seat Taking Reading (held_in slots 0 0 (c + 1))) s
       take_goes e f same =
-          goes_by (λ (t : Seat). after_take t c v w n) (Some (c, n)) m r s (holding m.0.seat at_taking at_reading (held_in slots 0 0 low))
-          (holding m.0.seat at_taking at_reading (held_in slots 0 0 (c + 1))) g t.sees t.is
-          (if_true (n == w) (record m.0.seat { place = at_taking; held = record { cell = c; word = w; value = v; stored = false } ∷ held_in slots 0 0 low })
-          (conflict (holding m.0.seat at_taking at_reading (held_in slots 0 0 low)) (if is_nil (held_in slots 0 0 low) then at_idle else at_failing)) (eq-eqb n w same)
-          ∙ ap (holding m.0.seat at_taking at_reading) (sym (held_more slots low c v w l unkept e f)))
+          goes_by (λ (t : Seat). after_take t c v w n) (Some (c, n)) m r s (holding m.0.seat Taking Reading (held_in slots 0 0 low))
+          (holding m.0.seat Taking Reading (held_in slots 0 0 (c + 1))) g t.sees t.is
+          (if_true (n == w) (record m.0.seat { place = Taking; held = record { cell = c; word = w; value = v; stored = false } ∷ held_in slots 0 0 low })
+          (conflict (holding m.0.seat Taking Reading (held_in slots 0 0 low)) (if is_nil (held_in slots 0 0 low) then Idle else Failing)) (eq-eqb n w same)
+          ∙ ap (holding m.0.seat Taking Reading) (sym (held_more slots low c v w l unkept e f)))
 
       pub take_fails : (b : Option ℕ) → b ≡ Some w → c < length slots → word_seen slots c ≡ Some w → n ≢ w
           → FailsToTake terms slots (record { cell = c; word = n; before = b }) m s
       take_fails b is within f ne =
           record {
-            goes = goes_by (λ (t : Seat). after_take t c v w n) (Some (c, n)) m r s (holding m.0.seat at_taking at_reading (held_in slots 0 0 low))
-                (holding (conflict m.0.seat at_idle) at_failing at_idle (held_in slots 0 0 c)) g t.sees t.is
-                (if_false (n == w) (record m.0.seat { place = at_taking; held = record { cell = c; word = w; value = v; stored = false } ∷ held_in slots 0 0 low })
-                (conflict (holding m.0.seat at_taking at_reading (held_in slots 0 0 low)) (if is_nil (held_in slots 0 0 low) then at_idle else at_failing)) (ne_eqb n w ne)
-                ∙ ap (holding (conflict m.0.seat at_idle) at_failing at_idle) (sym (held_on slots 0 0 low c l unkept)));
+            goes = goes_by (λ (t : Seat). after_take t c v w n) (Some (c, n)) m r s (holding m.0.seat Taking Reading (held_in slots 0 0 low))
+                (holding (conflict m.0.seat Idle) Failing Idle (held_in slots 0 0 c)) g t.sees t.is
+                (if_false (n == w) (record m.0.seat { place = Taking; held = record { cell = c; word = w; value = v; stored = false } ∷ held_in slots 0 0 low })
+                (conflict (holding m.0.seat Taking Reading (held_in slots 0 0 low)) (if is_nil (held_in slots 0 0 low) then Idle else Failing)) (ne_eqb n w ne)
+                ∙ ap (holding (conflict m.0.seat Idle) Failing Idle) (sym (held_on slots 0 0 low c l unkept)));
             finds = record { looked = ap (λ (v : View S N). v.looked) t.is; written = t.written; before = f ∙ sym is };
             sees = moves_then m r s g.moves t.sees;
             differs = (w, is, λ z. ne (sym z));

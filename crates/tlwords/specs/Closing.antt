@@ -1,15 +1,17 @@
 -- What the words show at the end.
-use Rattle.std.specs.Prelude.{◌≡◌, ℕ, ◌+◌, ◌*◌, ◌/◌, ◌≤◌, Some, List, [], length, slice_get, vec_capacity}
+use Rattle.std.specs.Prelude.{◌≡◌, ℕ, ◌+◌, ◌*◌, ◌/◌, ◌≤◌, Some, List, [], length, slice_get, vec_capacity, min, true}
 use mathlib.Core.Option.{some}
 use lib.ListN.{get_elem?}
 use Rattle.tlcore.specs.History.{Entry, WasWritten, Will, version, value, deed}
 use Rattle.tlwords.specs.declared.closing.ClosedCell.{ClosedCell}
 use Rattle.tlwords.specs.declared.closing.ClosedWords.{ClosedWords}
-use Rattle.tlwords.specs.Ranges.{Range, Has, Names, IsStored}
+use Rattle.ranges.specs.Ranges.{Range, Has, Names, IsStored, AreOfOneStore}
 use Rattle.tlwords.specs.Terms.{Terms, Opened}
 use Rattle.tlwords.specs.Seen.{Seen, SeenGrows, Legal, Agree}
 use Rattle.tlwords.specs.Views.{View}
-use Rattle.tlwords.specs.Rule.{lock_at, value_at, store_at}
+use Rattle.tlwords.specs.Rule.{lock_at, value_at, store_at, IsLeft}
+use Rattle.tlcore.specs.Machine.{World}
+use Rattle.tlcore.specs.Invariant.{Invariant}
 
 -- the cells have these words
 abbrev pub AreCellsOf : List ℕ → List ClosedCell → Type 0
@@ -35,20 +37,44 @@ pub record Shows (base : List ℕ) (h : List Entry) (clock : ℕ) (cells : List 
   -- the half of a lock word, locked or free, is 0 or the number of a Done entry that writes the cell
   pub written : (c : ℕ) (x : ClosedCell) → slice_get cells c ≡ Some x → WasWritten h c (x.lock / 2)
 
--- there is one lawful history, of a lawful opening, which the words show; the store has the finished ranges; and what a range cell holds
--- at the end, locked or free, is 0 or names one of these
-pub record Closes {S N : Type 0} (terms : Terms S N) (setting : S) (base : List ℕ) (words : ClosedWords) : Type 0 where
+-- the machine's world of this history, in which its invariant holds, has the clock and the cells that the words show
+pub record IsWorldOf (base : List ℕ) (h : List Entry) (clock : ℕ) (cells : List ClosedCell) (w : World) : Type 0 where
+  pub invariant : Invariant base w
+  pub history_is : w.history ≡ h
+  pub clock_is : w.clock ≡ clock
+  pub count : length w.cells ≡ length cells
+  pub cells_are : (c : ℕ) (x : ClosedCell) → slice_get cells c ≡ Some x → slice_get w.cells c ≡ Some (record { lock = x.lock; value = x.value })
+
+-- there is one lawful history, of a lawful opening, which the words show; the store has the finished ranges, the opening's words and, from
+-- the tail on, zeros; and what a range cell holds at the end, locked or free, is 0 or names one of these ranges
+pub record Closes {S N : Type 0} (terms : Terms S N) (setting : S) (base opened : List ℕ) (words : ClosedWords) : Type 0 where
   pub seen : Seen N
+  pub world : World
+  pub is_world : IsWorldOf base seen.history words.clock words.cells.items world
+  -- each entry has its note
+  pub noted : length seen.notes ≡ length seen.history
   pub legal : Legal terms setting base seen
   pub shows : Shows base seen.history words.clock words.cells.items
   pub stored : (r : Range) → Has r seen.ranges → IsStored words.tail words.store.items r
+  -- so they are of this one store
+  pub ranges : AreOfOneStore (length words.store.items) seen.ranges
+  pub left : IsLeft opened (length words.store.items) words.tail words.store.items
+  pub behind : length opened ≤ words.tail
   -- each of 64 sessions was refused at most once by a step, which adds the room and one at most
   pub refused : words.tail ≤ length words.store.items + (length words.store.items + 1) * 64
-  pub opened : Opened terms setting seen.ranges base
-  pub named : (c : ℕ) (x : ClosedCell) → slice_get words.cells.items c ≡ Some x → terms.ranged setting c → Names seen.ranges x.value
+  pub opening : Opened terms setting seen.ranges base
+  pub named : (c : ℕ) (x : ClosedCell) → slice_get words.cells.items c ≡ Some x → terms.ranged setting c ≡ true → Names seen.ranges x.value
 
--- what the pass had seen grows into it, and its calls agree with it
-abbrev pub ClosesFor : {S N : Type 0} → Terms S N → View S N → ClosedWords → Type 0
-ClosesFor {S} {N} terms v words =
-    (y : S) → v.setting ≡ Some y
-    → (c : Closes terms y v.base words) × SeenGrows v.seen c.seen × Agree terms y v.base c.seen v.mine
+-- what the pass had seen grows into it, its calls agree with it, its seat is one of the world's, and the tail is where it moved it at least
+pub record EndsIn {S N : Type 0} (terms : Terms S N) (setting : S) (base opened : List ℕ) (words : ClosedWords) (c : Closes terms setting base opened words)
+    (v : View S N) : Type 0 where
+  pub grows : SeenGrows v.seen c.seen
+  pub mine : Agree terms setting base c.seen v.mine
+  pub seat : (j : ℕ) × (slice_get (c.world).seats j ≡ Some v.seat)
+  pub moved : length opened + (v.taken + v.added) ≤ words.tail
+  pub found : (n count : ℕ) → v.full ≡ Some (n, count) → n + min count (length words.store.items + 1) ≤ words.tail
+
+-- so it is of the pass, whose setting and opening values are these
+abbrev pub ClosesFor : {S N : Type 0} → Terms S N → List ℕ → View S N → ClosedWords → Type 0
+ClosesFor {S} {N} terms opened v words =
+    (y : S) → v.setting ≡ Some y → (c : Closes terms y v.base opened words) × EndsIn terms y v.base opened words c v

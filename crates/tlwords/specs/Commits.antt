@@ -2,12 +2,14 @@
 use Rattle.std.specs.Prelude.{◌≡◌, ◌≢◌, ℕ, zero, suc, ◌/◌, ◌^◌, ◌≤◌, Bool, true, Option, Some, None, List, [], ◌∷◌, ◌++◌, length, slice_get, ◌⊎◌}
 use Rattle.tlcore.specs.History.{Entry, WasWritten}
 use Rattle.tlcore.specs.Seats.{Seat, reads_of}
-use Rattle.tlcore.proofs.Words.{is_void, at_idle}
+use Rattle.tlcore.specs.declared.entries.Status.TheVariants.{Void}
+use Rattle.tlcore.specs.declared.seats.Place.TheVariants.{Idle}
 use Rattle.tlwords.specs.declared.log.Slot.{Slot}
 use Rattle.tlwords.specs.declared.outcome.Conflict.{Conflict as ConflictValue}
 use Rattle.tlwords.specs.declared.outcome.Outcome.{Outcome}
 use Rattle.tlwords.specs.declared.outcome.Outcome.TheVariants.{Committed as EndsDone, Read as EndsRead, Conflict as EndsConflict, NumbersUsed}
-use Rattle.tlwords.specs.Terms.{Pairs, Terms, Permits}
+use Rattle.ranges.specs.Pairs.{Pairs}
+use Rattle.tlwords.specs.Terms.{Terms, Permits}
 use Rattle.tlwords.specs.Seen.{Work, Seen, Committed, Answered, IsDone}
 use Rattle.tlwords.specs.Views.{View}
 use Rattle.tlwords.specs.Plays.{Mine, Sees}
@@ -51,7 +53,7 @@ HasForgotten slots cells after more =
 
 -- the entry at the index i is Void
 abbrev pub IsVoid : {N : Type 0} → Seen N → ℕ → Type 0
-IsVoid g i = (e : Entry) × (slice_get g.history i ≡ Some e) × (e.status ≡ is_void)
+IsVoid g i = (e : Entry) × (slice_get g.history i ≡ Some e) × (e.status ≡ Void)
 
 module _ {S N : Type 0} (terms : Terms S N) where
   -- a look or a take of the conflict's cell found its word
@@ -64,7 +66,7 @@ module _ {S N : Type 0} (terms : Terms S N) where
 
   -- the seat of a run that is over
   abbrev pub over_seat : Seat → Bool → Seat
-  over_seat t conflicted = record t { place = at_idle; held = []; conflicted = conflicted }
+  over_seat t conflicted = record t { place = Idle; held = []; conflicted = conflicted }
 
   -- the call has this number, and its entry is Done, with its work
   pub record HasCommitted (number : ℕ) (w : Work N) (m r : Mine S N) : Type 0 where
@@ -87,23 +89,29 @@ module _ {S N : Type 0} (terms : Terms S N) where
     pub sees : Sees terms m.0 r.0
     pub is : r.0 ≡ record m.0 { seen = r.0.seen; mine = m.0.mine ++ Answered m.0.seat.rv w ∷ [] }
 
-  -- no number was drawn, or one whose entry is Void
-  abbrev pub HasNoEntry : N → Mine S N → Mine S N → Type 0
-  HasNoEntry n m r =
-      (r.0 ≡ record m.0 { seen = r.0.seen; seat = over_seat m.0.seat true; looked = r.0.looked })
-      ⊎ ((i : ℕ) × (length m.0.seen.history ≤ i) × IsVoid r.0.seen i
-      × (r.0 ≡ record m.0 { seen = r.0.seen; seat = over_seat m.0.seat true; looked = r.0.looked; note = Some n; drawn = m.0.drawn ++ suc i ∷ [] }))
+  -- no number was drawn, or this one alone, whose entry is Void
+  abbrev pub HasNoEntry : N → Option ℕ → Mine S N → Mine S N → Type 0
+  HasNoEntry n None m r = r.0 ≡ record m.0 { seen = r.0.seen; seat = over_seat m.0.seat true; looked = r.0.looked }
+  HasNoEntry n (Some number) m r =
+      (i : ℕ) × (number ≡ suc i) × (length m.0.seen.history ≤ i) × IsVoid r.0.seen i
+      × (r.0 ≡ record m.0 {
+        seen = r.0.seen;
+        seat = over_seat m.0.seat true;
+        looked = r.0.looked;
+        note = Some n;
+        drawn = m.0.drawn ++ number ∷ [];
+      })
 
-  -- the call met this conflict
-  pub record HasConflicted (slots : List Slot) (n : N) (k : ConflictValue) (m r : Mine S N) : Type 0 where
+  -- the call met this conflict, and drew this number or none
+  pub record HasConflicted (slots : List Slot) (n : N) (k : ConflictValue) (drawn : Option ℕ) (m r : Mine S N) : Type 0 where
     pub sees : Sees terms m.0 r.0
     pub finds : Finds slots k r
     pub cause : HasCause m.0.seat.rv k.word ⊎ ((w : ℕ) × (k.before ≡ Some w) × (w ≢ k.word))
-    pub entry : HasNoEntry n m r
+    pub entry : HasNoEntry n drawn m r
 
   -- what a commit of what was kept tells
   abbrev pub HasEnded : List Slot → N → Mine S N → Mine S N → Outcome → Type 0
   HasEnded slots n m r (EndsDone number) = (writes_kept slots ≢ []) × HasCommitted number (work_kept m.0.seat slots n) m r
   HasEnded slots n m r (EndsRead place) = (writes_kept slots ≡ []) × (place ≡ m.0.seat.rv) × HasAnswered (work_kept m.0.seat slots n) m r
-  HasEnded slots n m r (EndsConflict k) = (writes_kept slots ≢ []) × HasConflicted slots n k m r
+  HasEnded slots n m r (EndsConflict k drawn) = (writes_kept slots ≢ []) × HasConflicted slots n k drawn m r
   HasEnded slots n m r NumbersUsed = (writes_kept slots ≢ []) × (length m.0.drawn ≡ 2 ^ 40) × (r ≡ m)

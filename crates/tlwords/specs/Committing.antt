@@ -3,7 +3,9 @@ use Rattle.std.specs.Prelude.{◌≡◌, ◌≢◌, ℕ, zero, suc, ◌*◌, ◌
 use Rattle.tlcore.specs.History.{wv}
 use Rattle.tlcore.specs.Seats.{Seat, is_nil, is_next, all_settled}
 use Rattle.tlcore.specs.Machine.{placed, conflict}
-use Rattle.tlcore.proofs.Words.{SeatHeld, SeatPlace, at_idle, at_checking, at_storing, at_failing, at_voiding}
+use Rattle.tlcore.specs.declared.seats.Held.{Held}
+use Rattle.tlcore.specs.declared.seats.Place.{Place}
+use Rattle.tlcore.specs.declared.seats.Place.TheVariants.{Idle, Checking, Storing, Failing, Voiding}
 use Rattle.tlwords.specs.declared.log.Slot.{Slot}
 use Rattle.tlwords.specs.declared.outcome.Conflict.{Conflict as ConflictValue}
 use Rattle.tlwords.specs.Terms.{Terms}
@@ -17,18 +19,18 @@ word_or_zero None = 0
 word_or_zero (Some w) = w
 
 -- the cell c is held beside the others where a value is kept for it and it stands from `low` on; the value of one below `done` is stored
-abbrev pub with_held : List Slot → ℕ → ℕ → ℕ → Option ℕ → List SeatHeld → List SeatHeld
+abbrev pub with_held : List Slot → ℕ → ℕ → ℕ → Option ℕ → List Held → List Held
 with_held slots done low c None ks = ks
 with_held slots done low c (Some v) ks =
     if nat_le low c then record { cell = c; word = word_or_zero (word_seen slots c); value = v; stored = nat_lt c done } ∷ ks else ks
 
 -- the cells from `low` to before n for which a value is kept, the largest first
-abbrev pub held_in : List Slot → ℕ → ℕ → ℕ → List SeatHeld
+abbrev pub held_in : List Slot → ℕ → ℕ → ℕ → List Held
 held_in slots done low zero = []
 held_in slots done low (suc n) = with_held slots done low n (value_kept slots n) (held_in slots done low n)
 
 -- a run at the place p that holds these cells, or is idle where it holds none
-abbrev pub holding : Seat → SeatPlace → SeatPlace → List SeatHeld → Seat
+abbrev pub holding : Seat → Place → Place → List Held → Seat
 holding t p none ks = record t { place = (if is_nil ks then none else p); held = ks }
 
 module _ {S N : Type 0} (terms : Terms S N) where
@@ -39,7 +41,7 @@ module _ {S N : Type 0} (terms : Terms S N) where
 
   -- the take of the conflict's cell failed, and the smaller cells are held
   pub record FailsToTake (slots : List Slot) (k : ConflictValue) (m r : Mine S N) : Type 0 where
-    pub goes : Goes m (holding (conflict m.0.seat at_idle) at_failing at_idle (held_in slots 0 0 k.cell)) r
+    pub goes : Goes m (holding (conflict m.0.seat Idle) Failing Idle (held_in slots 0 0 k.cell)) r
     pub sees : Sees terms m.0 r.0
     pub finds : Finds terms slots k r
     pub differs : (w : ℕ) × (k.before ≡ Some w) × (w ≢ k.word)
@@ -47,14 +49,14 @@ module _ {S N : Type 0} (terms : Terms S N) where
 
   -- a check of the conflict's cell failed
   pub record FailsTheCheck (slots : List Slot) (i : ℕ) (k : ConflictValue) (m r : Mine S N) : Type 0 where
-    pub goes : Goes m (conflict m.0.seat (at_voiding i)) r
+    pub goes : Goes m (conflict m.0.seat (Voiding i)) r
     pub finds : Finds terms slots k r
     pub cause : HasCause m.0.seat.rv k.word
 
   -- the check passed, or wasn't needed
   pub record Passes (i : ℕ) (m r : Mine S N) : Type 0 where
     pub upto : ℕ
-    pub goes : Goes m (placed m.0.seat (at_checking i upto)) r
+    pub goes : Goes m (placed m.0.seat (Checking i upto)) r
     pub may : (is_next m.0.seat i || all_settled m.0.seat.held upto m.0.seat.reads) ≡ true
 
   -- the values of the cells below `low` are stored, at least one
@@ -63,25 +65,25 @@ module _ {S N : Type 0} (terms : Terms S N) where
     pub done : IsDone r.0.seen i w
     pub is : r.0 ≡ record m.0 {
       seen = r.0.seen;
-      seat = record m.0.seat { place = at_storing i; held = held_in slots low 0 (length slots) };
+      seat = record m.0.seat { place = Storing i; held = held_in slots low 0 (length slots) };
       looked = r.0.looked;
       mine = m.0.mine ++ Committed (wv i) w ∷ [];
     }
 
   -- the cells below `low` are released. Each gets its former word back, or the new one once all values are stored
   pub record Releasing (slots : List Slot) (high : ℕ) (new : Option ℕ) (low : ℕ) (m r : Mine S N) : Type 0 where
-    pub place : SeatPlace
+    pub place : Place
     pub done : ℕ
     pub gives :
-        ((new ≡ None) × ((place ≡ at_failing) ⊎ ((i : ℕ) × (place ≡ at_voiding i))))
-        ⊎ ((done ≡ high) × ((i : ℕ) × (place ≡ at_storing i) × (new ≡ Some (2 * wv i))))
-    pub start : m.0.seat ≡ holding m.0.seat place at_idle (held_in slots done 0 high)
-    pub goes : Goes m (holding m.0.seat place at_idle (held_in slots done low high)) r
+        ((new ≡ None) × ((place ≡ Failing) ⊎ ((i : ℕ) × (place ≡ Voiding i))))
+        ⊎ ((done ≡ high) × ((i : ℕ) × (place ≡ Storing i) × (new ≡ Some (2 * wv i))))
+    pub start : m.0.seat ≡ holding m.0.seat place Idle (held_in slots done 0 high)
+    pub goes : Goes m (holding m.0.seat place Idle (held_in slots done low high)) r
     pub looked : r.0.looked ≡ m.0.looked
-    pub void : (i : ℕ) → place ≡ at_voiding i → (r ≡ m) ⊎ IsVoid r.0.seen i
+    pub void : (i : ℕ) → place ≡ Voiding i → (r ≡ m) ⊎ IsVoid r.0.seen i
 
   -- nothing is held any more
   pub record ReleasesAll (m r : Mine S N) : Type 0 where
-    pub goes : Goes m (record m.0.seat { place = at_idle; held = [] }) r
+    pub goes : Goes m (record m.0.seat { place = Idle; held = [] }) r
     pub looked : r.0.looked ≡ m.0.looked
-    pub void : (i : ℕ) → m.0.seat.place ≡ at_voiding i → IsVoid r.0.seen i
+    pub void : (i : ℕ) → m.0.seat.place ≡ Voiding i → IsVoid r.0.seen i

@@ -1,4 +1,3 @@
-pub mod Ranges
 pub mod Terms
 pub mod Seen
 pub mod Views
@@ -10,3 +9,6 @@ pub mod Walks
 pub mod Commits
 pub mod Committing
 pub mod Closing
+pub mod Events
+pub mod Faults
+pub mod Callers

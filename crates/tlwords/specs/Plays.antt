@@ -1,12 +1,14 @@
 -- What each step tells: of the seat before, the number found (at a store, the number stored) and the seat after.
-use Rattle.std.specs.Prelude.{◌≡◌, ◌≢◌, ℕ, suc, ◌+◌, ◌-◌, ◌*◌, ◌/◌, ◌%◌, ◌^◌, ◌<◌, ◌≤◌, Option, Some, None, List, [], ◌∷◌, ◌++◌, length, slice_get, if◌then◌else◌, true, false, ◌==◌, ◌||◌, ◌⊎◌}
+use Rattle.std.specs.Prelude.{◌≡◌, ◌≢◌, ℕ, suc, ◌+◌, ◌-◌, ◌*◌, ◌/◌, ◌%◌, ◌^◌, ◌<◌, ◌≤◌, Option, Some, None, List, [], ◌∷◌, ◌++◌, length, slice_get, if◌then◌else◌, true, false, ◌==◌, ◌||◌, ◌⊎◌, min}
 use Rattle.atomic_table.specs.Table.{Me, Step}
 use Rattle.atomic_table.specs.declared.shared.Seat.{Seat as TableSeat}
 use Rattle.tlcore.specs.History.{Entry, WasWritten, wv}
 use Rattle.tlcore.specs.Seats.{Seat, passes, reads_of, writes_of, is_nil, is_next, all_settled, without, stored as stored_in}
 use Rattle.tlcore.specs.Machine.{placed, conflict}
-use Rattle.tlcore.proofs.Words.{SeatHeld, is_void, at_idle, at_reading, at_looked, at_loaded, at_taking, at_checking, at_storing, at_failing, at_voiding}
-use Rattle.tlwords.specs.Ranges.{Range, Has, Names}
+use Rattle.tlcore.specs.declared.entries.Status.TheVariants.{Void}
+use Rattle.tlcore.specs.declared.seats.Held.{Held}
+use Rattle.tlcore.specs.declared.seats.Place.TheVariants.{Idle, Reading, Looked, Loaded, Taking, Checking, Storing, Failing, Voiding}
+use Rattle.ranges.specs.Ranges.{Range, Has, Names}
 use Rattle.tlwords.specs.Terms.{Terms}
 use Rattle.tlwords.specs.Seen.{Work, Committed, Answered, SeenGrows, IsDone}
 use Rattle.tlwords.specs.Views.{Staging, View, untold, tells, nobody, fresh, Sound}
@@ -20,48 +22,48 @@ work_of t n = record { reads = reads_of t.reads; writes = writes_of t.held; note
 
 -- a run that has just begun at this place
 abbrev pub began : ℕ → Seat
-began place = record { place = at_reading; rv = place; reads = []; held = []; conflicted = false }
+began place = record { place = Reading; rv = place; reads = []; held = []; conflicted = false }
 
 -- after a look at the cell that found this word
 abbrev pub after_look : Seat → ℕ → ℕ → Seat
-after_look t c word = if passes word t.rv then placed t (at_looked c word) else conflict t at_idle
+after_look t c word = if passes word t.rv then placed t (Looked c word) else conflict t Idle
 
 -- after the second look, where the first found `word` and `value` was loaded, and this one found n
 abbrev pub after_relook : Seat → ℕ → ℕ → ℕ → ℕ → Seat
 after_relook t c word value n =
     if n == word
-    then record t { place = at_reading; reads = record { cell = c; word = word; value = value } ∷ t.reads }
-    else conflict t at_idle
+    then record t { place = Reading; reads = record { cell = c; word = word; value = value } ∷ t.reads }
+    else conflict t Idle
 
 -- after a try to take the cell from the word `word`, which found n
 abbrev pub after_take : Seat → ℕ → ℕ → ℕ → ℕ → Seat
 after_take t c value word n =
     if n == word
-    then record t { place = at_taking; held = record { cell = c; word = word; value = value; stored = false } ∷ t.held }
-    else conflict t (if is_nil t.held then at_idle else at_failing)
+    then record t { place = Taking; held = record { cell = c; word = word; value = value; stored = false } ∷ t.held }
+    else conflict t (if is_nil t.held then Idle else Failing)
 
 -- after a check of the cell that found this word
 abbrev pub after_check : Seat → ℕ → ℕ → ℕ → Seat
-after_check t i c word = if passes word t.rv then placed t (at_checking i (suc c)) else conflict t (at_voiding i)
+after_check t i c word = if passes word t.rv then placed t (Checking i (suc c)) else conflict t (Voiding i)
 
 -- after the store of the cell's value
 abbrev pub after_store : Seat → ℕ → ℕ → Seat
-after_store t i c = record t { place = at_storing i; held = stored_in c t.held }
+after_store t i c = record t { place = Storing i; held = stored_in c t.held }
 
 -- after the release of the cell
 abbrev pub after_release : Seat → ℕ → Seat
-after_release t c = record t { place = (if is_nil (without c t.held) then at_idle else t.place); held = without c t.held }
+after_release t c = record t { place = (if is_nil (without c t.held) then Idle else t.place); held = without c t.held }
 
 -- what a release gives back: after a store twice the run's number, and after a conflict the word that the take found
-abbrev pub GivesBack : Seat → SeatHeld → ℕ → Type 0
+abbrev pub GivesBack : Seat → Held → ℕ → Type 0
 GivesBack t k word =
-    ((i : ℕ) × (t.place ≡ at_storing i) × (k.stored ≡ true) × (word ≡ 2 * wv i))
-    ⊎ (((t.place ≡ at_failing) × (word ≡ k.word)) ⊎ ((i : ℕ) × (t.place ≡ at_voiding i) × (word ≡ k.word)))
+    ((i : ℕ) × (t.place ≡ Storing i) × (k.stored ≡ true) × (word ≡ 2 * wv i))
+    ⊎ (((t.place ≡ Failing) × (word ≡ k.word)) ⊎ ((i : ℕ) × (t.place ≡ Voiding i) × (word ≡ k.word)))
 
 -- when a store is lawful: the check has passed, or isn't needed
 abbrev pub MayStore : Seat → ℕ → Type 0
 MayStore t i =
-    ((upto : ℕ) × (t.place ≡ at_checking i upto) × ((is_next t i || all_settled t.held upto t.reads) ≡ true)) ⊎ (t.place ≡ at_storing i)
+    ((upto : ℕ) × (t.place ≡ Checking i upto) × ((is_next t i || all_settled t.held upto t.reads) ≡ true)) ⊎ (t.place ≡ Storing i)
 
 module _ {S N : Type 0} (terms : Terms S N) where
   -- the whole history so far was seen
@@ -88,17 +90,17 @@ module _ {S N : Type 0} (terms : Terms S N) where
   -- Load: in a range cell it finds 0 or a word that names a finished range
   pub record Loads (m : Mine S N) (n : ℕ) (r : Mine S N) : Type 0 where
     pub sees : Sees m.0 r.0
-    pub named : (x : S) (c word : ℕ) → m.0.setting ≡ Some x → m.0.seat.place ≡ at_looked c word → terms.ranged x c → Names r.0.seen.ranges n
-    pub is : (c word : ℕ) → m.0.seat.place ≡ at_looked c word
-        → r.0 ≡ record m.0 { seen = r.0.seen; seat = placed m.0.seat (at_loaded c word n) }
+    pub named : (x : S) (c word : ℕ) → m.0.setting ≡ Some x → m.0.seat.place ≡ Looked c word → terms.ranged x c ≡ true → Names r.0.seen.ranges n
+    pub is : (c word : ℕ) → m.0.seat.place ≡ Looked c word
+        → r.0 ≡ record m.0 { seen = r.0.seen; seat = placed m.0.seat (Loaded c word n) }
 
   -- Relook
   pub record Relooks (m : Mine S N) (n : ℕ) (r : Mine S N) : Type 0 where
     pub sees : Sees m.0 r.0
-    pub written : (c word value : ℕ) → m.0.seat.place ≡ at_loaded c word value → WasWritten r.0.seen.history c (n / 2)
+    pub written : (c word value : ℕ) → m.0.seat.place ≡ Loaded c word value → WasWritten r.0.seen.history c (n / 2)
     -- another word than that of the first look is locked, or of a version above the place
-    pub missed : (c word value : ℕ) → m.0.seat.place ≡ at_loaded c word value → n ≢ word → n % 2 ≡ 0 → m.0.seat.rv < n / 2
-    pub is : (c word value : ℕ) → m.0.seat.place ≡ at_loaded c word value
+    pub missed : (c word value : ℕ) → m.0.seat.place ≡ Loaded c word value → n ≢ word → n % 2 ≡ 0 → m.0.seat.rv < n / 2
+    pub is : (c word value : ℕ) → m.0.seat.place ≡ Loaded c word value
         → r.0 ≡ record m.0 { seen = r.0.seen; seat = after_relook m.0.seat c word value n; looked = Some (c, n) }
 
   -- Take, from the word `word`
@@ -114,27 +116,27 @@ module _ {S N : Type 0} (terms : Terms S N) where
     pub later : length m.0.seen.history ≤ n
     pub few : n ≤ 2 ^ 46
     pub is : (x : N) → note ≡ Some x
-        → r.0 ≡ record m.0 { seen = r.0.seen; seat = placed m.0.seat (at_checking n 0); note = Some x; drawn = m.0.drawn ++ suc n ∷ [] }
+        → r.0 ≡ record m.0 { seen = r.0.seen; seat = placed m.0.seat (Checking n 0); note = Some x; drawn = m.0.drawn ++ suc n ∷ [] }
 
   -- Check
   pub record Checks (c : ℕ) (m : Mine S N) (n : ℕ) (r : Mine S N) : Type 0 where
     pub sees : Sees m.0 r.0
     pub written : WasWritten r.0.seen.history c (n / 2)
-    pub is : (i upto : ℕ) → m.0.seat.place ≡ at_checking i upto
+    pub is : (i upto : ℕ) → m.0.seat.place ≡ Checking i upto
         → r.0 ≡ record m.0 { seen = r.0.seen; seat = after_check m.0.seat i c n; looked = Some (c, n) }
 
   -- Store: the first one makes the entry Done, and the call is one of the pass
   pub record Stores (c : ℕ) (m r : Mine S N) : Type 0 where
     pub sees : Sees m.0 r.0
-    pub first : (i upto : ℕ) (x : N) → m.0.seat.place ≡ at_checking i upto → m.0.note ≡ Some x
+    pub first : (i upto : ℕ) (x : N) → m.0.seat.place ≡ Checking i upto → m.0.note ≡ Some x
         → IsDone r.0.seen i (work_of m.0.seat x)
         × (r.0 ≡ record m.0 { seen = r.0.seen; seat = after_store m.0.seat i c; mine = m.0.mine ++ Committed (suc i) (work_of m.0.seat x) ∷ [] })
-    pub next : (i : ℕ) → m.0.seat.place ≡ at_storing i → r.0 ≡ record m.0 { seen = r.0.seen; seat = after_store m.0.seat i c }
+    pub next : (i : ℕ) → m.0.seat.place ≡ Storing i → r.0 ≡ record m.0 { seen = r.0.seen; seat = after_store m.0.seat i c }
 
   -- Release: after a failed check the entry is Void
   pub record Releases (c : ℕ) (m r : Mine S N) : Type 0 where
     pub sees : Sees m.0 r.0
-    pub void : (i : ℕ) → m.0.seat.place ≡ at_voiding i → (e : Entry) × (slice_get r.0.seen.history i ≡ Some e) × (e.status ≡ is_void)
+    pub void : (i : ℕ) → m.0.seat.place ≡ Voiding i → (e : Entry) × (slice_get r.0.seen.history i ≡ Some e) × (e.status ≡ Void)
     pub is : r.0 ≡ record m.0 { seen = r.0.seen; seat = after_release m.0.seat c }
 
   -- a load of the spare word, where a run that wrote nothing ends
@@ -151,12 +153,13 @@ module _ {S N : Type 0} (terms : Terms S N) where
 
   -- ---- steps on the store
 
-  -- the tail found was n: the words from there on are taken for these words where the room has so many
+  -- the tail found was n: the words from there on are taken for these words where the room has so many. What was added to the tail is counted
   pub record Advances (words : List ℕ) (m : Mine S N) (n : ℕ) (r : Mine S N) : Type 0 where
     pub sees : Sees m.0 r.0
     pub taken : n + length words ≤ m.0.room
-        → r.0 ≡ record m.0 { seen = r.0.seen; staging = Some (record { start = n; words = words; done = 0 }) }
-    pub refused : m.0.room < n + length words → r.0 ≡ record m.0 { seen = r.0.seen; full = Some (n, length words) }
+        → r.0 ≡ record m.0 { seen = r.0.seen; staging = Some (record { start = n; words = words; done = 0 }); taken = m.0.taken + length words }
+    pub refused : m.0.room < n + length words
+        → r.0 ≡ record m.0 { seen = r.0.seen; full = Some (n, length words); added = min (length words) (m.0.room + 1) }
 
   -- the next word of the range is stored. With its last word the range is finished
   pub record Fills (m r : Mine S N) : Type 0 where

@@ -3,7 +3,7 @@
 --
 -- Word 0 is spare: it is only loaded, for what is no step of the machine. Word 1 is the clock. Then each cell has its lock word and its
 -- value word side by side. Behind them come the tail of the store, which is the number of its words that are taken, and the store's words.
-use Rattle.std.specs.Prelude.{◌≡◌, ◌≢◌, ℕ, ◌+◌, ◌*◌, ◌^◌, ◌<◌, ◌≤◌, Some, List, [], ◌∷◌, ◌++◌, length, slice_get, map}
+use Rattle.std.specs.Prelude.{◌≡◌, ◌≢◌, ℕ, ◌+◌, ◌*◌, ◌^◌, ◌<◌, ◌≤◌, Some, List, [], ◌∷◌, ◌++◌, length, slice_get, map, min, None, true}
 use mathlib.Core.Option.{some}
 use lib.ListN.{get_elem?}
 use Rattle.atomic_table.specs.Table.{State}
@@ -11,17 +11,18 @@ use Rattle.std.specs.Prelude.{suc, ◌⊎◌}
 use Rattle.tlcore.specs.History.{Entry, version_after, deed, NoneWill}
 use Rattle.tlcore.specs.Seats.{Seat, number_at}
 use Rattle.tlcore.specs.Machine.{World}
-use Rattle.tlcore.proofs.Words.{CellWords, at_looked, at_loaded}
+use Rattle.tlcore.specs.declared.cells.Cell.{Cell}
+use Rattle.tlcore.specs.declared.seats.Place.TheVariants.{Looked, Loaded}
 use Rattle.tlcore.specs.Invariant.{Invariant}
-use Rattle.tlwords.specs.Ranges.{Range, Has, Names, IsStored, LieIn}
+use Rattle.ranges.specs.Ranges.{Range, Has, Names, IsStored, AreOfOneStore}
 use Rattle.tlwords.specs.Terms.{Terms, Permits, Opened}
 use Rattle.tlwords.specs.Seen.{Seen, SeenGrows, IsSettled, Agree}
-use Rattle.tlwords.specs.Views.{Told, Staging, View, tells, fresh, counts}
+use Rattle.tlwords.specs.Views.{Told, Staging, View, tells, fresh}
 
 -- ---- the words
 
 -- the lock word and the value word of each cell
-abbrev pub paired : List CellWords → List ℕ
+abbrev pub paired : List Cell → List ℕ
 paired [] = []
 paired (x ∷ xs) = x.lock ∷ x.value ∷ paired xs
 
@@ -61,7 +62,7 @@ IsFresh h rv c word = (word ≡ 2 * version_after (deed h c) rv) × NoneWill (de
 -- the same of the seat's look, until its second look
 abbrev pub LookIsFresh : List Entry → Seat → Type 0
 LookIsFresh h t =
-    (c word value : ℕ) → (t.place ≡ at_looked c word) ⊎ (t.place ≡ at_loaded c word value) → IsFresh h t.rv c word
+    (c word value : ℕ) → (t.place ≡ Looked c word) ⊎ (t.place ≡ Loaded c word value) → IsFresh h t.rv c word
 
 -- each entry, an Open one too, is lawful and writes something
 abbrev pub EntriesAre : {S N : Type 0} → Terms S N → S → Seen N → Type 0
@@ -71,8 +72,9 @@ EntriesAre {S} {N} terms setting g =
 
 -- ---- the store
 
--- a seat's range lies in the store and below the tail, and its first words are stored, but not all
-pub record IsTaken (room tail : ℕ) (store : List ℕ) (s : Staging) : Type 0 where
+-- a seat's range lies in the store, behind the opening's words, which are so many, and below the tail; its first words are stored, but not all
+pub record IsTaken (opened room tail : ℕ) (store : List ℕ) (s : Staging) : Type 0 where
+  pub behind : opened ≤ s.start
   pub inside : s.start + length s.words ≤ room
   pub below : s.start + length s.words ≤ tail
   pub left : s.done < length s.words
@@ -81,6 +83,11 @@ pub record IsTaken (room tail : ℕ) (store : List ℕ) (s : Staging) : Type 0 w
 -- no word of the finished range is one of the seat's range
 abbrev pub IsApart : Staging → Range → Type 0
 IsApart s r = (i : ℕ) → i < length r.words → (r.start + i < s.start) ⊎ (s.start + length s.words ≤ r.start + i)
+
+-- the opening's words stay where they were, and no word from the tail on was written
+pub record IsLeft (opened : List ℕ) (room tail : ℕ) (store : List ℕ) : Type 0 where
+  pub opening : (o w : ℕ) → slice_get opened o ≡ Some w → slice_get store o ≡ Some w
+  pub blank : (o : ℕ) → tail ≤ o → o < room → slice_get store o ≡ Some 0
 
 module _ {S N : Type 0} where
   -- what a pass tells is of this history, and each of its numbers is its own
@@ -114,36 +121,47 @@ module _ {S N : Type 0} where
     pub notes_are : length notes ≡ length world.history
     pub entries : EntriesAre terms setting (record { history = world.history; notes = notes; ranges = ranges })
     pub opening : Opened terms setting ranges base
-    pub named : (c : ℕ) (x : CellWords) → slice_get world.cells c ≡ Some x → terms.ranged setting c → Names ranges x.value
-    pub lie : LieIn room ranges
+    pub named : (c : ℕ) (x : Cell) → slice_get world.cells c ≡ Some x → terms.ranged setting c ≡ true → Names ranges x.value
+    pub lie : AreOfOneStore room ranges
     pub suits : (j : ℕ) (v : View S N) → get_elem? views j ≡ some v
         → Suits terms setting base room (record { history = world.history; notes = notes; ranges = ranges }) owner v
     -- so the clock is at most 2^46, and never wraps
     pub rights : total_of (λ (v : View S N). v.rights) views ≡ 64
     pub numbers : total_of (λ (v : View S N). length v.drawn) views ≡ length world.history
 
+  -- what holds of the tail and one view. It moves the tail beyond the room at most once, by the room and one word at most
+  pub record Adds (room tail : ℕ) (v : View S N) : Type 0 where
+    pub once : v.added ≤ (room + 1) * v.rights
+    pub unrefused : v.full ≡ None → v.added ≡ 0
+    pub found : (n count : ℕ) → v.full ≡ Some (n, count) → n + min count (room + 1) ≤ tail
+
+  -- the tail is behind the opening's words, which are so many, by what each view took, and what stagings that were refused added. So it never wraps
+  pub record IsTail (opened room tail : ℕ) (views : List (View S N)) : Type 0 where
+    pub is : tail ≡ opened + total_of (λ (v : View S N). v.taken + v.added) views
+    pub most : tail ≤ room + total_of (λ (v : View S N). v.added) views
+    pub each : (j : ℕ) (v : View S N) → get_elem? views j ≡ some v → Adds room tail v
+
   -- what holds of the tail and the store's words
-  pub record Shelf (room : ℕ) (ranges : List Range) (tail : ℕ) (store : List ℕ) (views : List (View S N)) : Type 0 where
+  pub record Shelf (room : ℕ) (opened : List ℕ) (ranges : List Range) (tail : ℕ) (store : List ℕ) (views : List (View S N)) : Type 0 where
     pub long : length store ≡ room
     pub small : room ≤ 2 ^ 24
+    pub left : IsLeft opened room tail store
+    pub tail_is : IsTail (length opened) room tail views
     pub finished : (r : Range) → Has r ranges → IsStored tail store r
-    pub taken : (j : ℕ) (v : View S N) (s : Staging) → get_elem? views j ≡ some v → v.staging ≡ Some s → IsTaken room tail store s
+    pub taken : (j : ℕ) (v : View S N) (s : Staging) → get_elem? views j ≡ some v → v.staging ≡ Some s → IsTaken (length opened) room tail store s
     pub apart : (j : ℕ) (v : View S N) (s : Staging) (r : Range) → get_elem? views j ≡ some v → v.staging ≡ Some s → Has r ranges → IsApart s r
     pub alone : (j k : ℕ) (u v : View S N) (s t : Staging) → j ≢ k → get_elem? views j ≡ some u → get_elem? views k ≡ some v
         → u.staging ≡ Some s → v.staging ≡ Some t → (s.start + length s.words ≤ t.start) ⊎ (t.start + length t.words ≤ s.start)
-    -- each seat moves the tail beyond the room at most once, by the room and one word at most; so the tail never wraps
-    pub refused : tail ≤ room + (room + 1) * total_of (λ (v : View S N). counts v.full) views
-    pub once : (j : ℕ) (v : View S N) → get_elem? views j ≡ some v → counts v.full ≤ v.rights
 
-  -- the rule
-  pub record Ruled (terms : Terms S N) (setting : S) (base : List ℕ) (room : ℕ) (s : State (Unit {0}) (View S N)) : Type 0 where
+  -- the rule, of the setting, the opening values of the cells, the store's room and its opening words
+  pub record Ruled (terms : Terms S N) (setting : S) (base : List ℕ) (room : ℕ) (opened : List ℕ) (s : State (Unit {0}) (View S N)) : Type 0 where
     pub front : List ℕ
     pub tail : ℕ
     pub store : List ℕ
     pub ranges : List Range
     pub words_are : s.words ≡ front ++ tail ∷ store
     pub kept : Kept terms setting base room ranges front s.views
-    pub shelf : Shelf room ranges tail store s.views
+    pub shelf : Shelf room opened ranges tail store s.views
 
   -- the first seat has all 64 parts of the right to draw, and makes the passes
   abbrev pub first_view : S → List ℕ → ℕ → List Range → View S N

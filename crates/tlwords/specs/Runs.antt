@@ -1,19 +1,21 @@
 -- What a pass and a run keep, and what their calls tell.
-use Rattle.std.specs.Prelude.{◌≡◌, ◌≢◌, ℕ, zero, suc, ◌+◌, ◌-◌, ◌/◌, ◌%◌, ◌^◌, ◌<◌, ◌≤◌, ◌==◌, Bool, true, is_some, if◌then◌else◌, Option, Some, None, List, [], ◌∷◌, length, slice_get, ◌⊎◌, option_and_then}
+use Rattle.std.specs.Prelude.{◌≡◌, ◌≢◌, ℕ, zero, suc, ◌+◌, ◌-◌, ◌/◌, ◌%◌, ◌^◌, ◌<◌, ◌≤◌, ◌==◌, Bool, true, is_some, if◌then◌else◌, Option, Some, None, List, [], ◌∷◌, length, slice_get, ◌⊎◌, option_and_then, min}
 use Rattle.std.specs.List.{list_any}
 use Rattle.std.specs.Option.{option_map}
 use Rattle.tlcore.specs.History.{WasWritten}
 use Rattle.tlcore.specs.Seats.{Seat, find_read, is_nil}
 use Rattle.tlcore.specs.Machine.{conflict}
-use Rattle.tlcore.proofs.Words.{SeatRead, at_idle, at_reading, is_resting, is_reading}
+use Rattle.tlcore.specs.declared.seats.Read.{Read}
+use Rattle.tlcore.specs.declared.seats.Place.TheVariants.{Idle, Reading as AtReading}
+use Rattle.tlcore.specs.Seats.{is_resting, is_reading}
 use Rattle.atomic_table.specs.Seated.{TableId}
 use Rattle.atomic_table.specs.declared.shared.Seat.{Seat as TableSeat}
 use Rattle.tlwords.specs.declared.log.Slot.{Slot}
 use Rattle.tlwords.specs.declared.mode.Mode.{Mode}
 use Rattle.tlwords.specs.declared.mode.Mode.TheVariants.{Reading, Writing}
-use Rattle.tlwords.specs.Ranges.{Range, Has, Names, LieIn}
+use Rattle.ranges.specs.Ranges.{Range, Has, Names, AreOfOneStore}
 use Rattle.tlwords.specs.Terms.{Terms}
-use Rattle.tlwords.specs.Seen.{SeenGrows}
+use Rattle.tlwords.specs.Seen.{SeenGrows, Agree}
 use Rattle.tlwords.specs.Views.{View, Sound, fresh, untold, counts}
 use Rattle.tlwords.specs.Plays.{Mine, Sees, began}
 
@@ -59,7 +61,7 @@ noted Writing t = t
 -- a read of the cell under this word was noted: the slots and the cells listed, before and after
 abbrev pub HasNoted : List Slot → List ℕ → List Slot → List ℕ → ℕ → ℕ → Type 0
 HasNoted slots cells after more cell word =
-    ((t : Seat) (r : SeatRead) → IsKeptOf t slots cells → r.cell ≡ cell → r.word ≡ word → IsKeptOf (record t { reads = r ∷ t.reads }) after more)
+    ((t : Seat) (r : Read) → IsKeptOf t slots cells → r.cell ≡ cell → r.word ≡ word → IsKeptOf (record t { reads = r ∷ t.reads }) after more)
     × ((c : ℕ) → value_kept after c ≡ value_kept slots c)
     × (was_read after cell ≡ true)
     × ((c : ℕ) → was_read slots c ≡ true → was_read after c ≡ true)
@@ -79,7 +81,7 @@ module _ {S N : Type 0} where
   pub record KnowsStore (v : View S N) (refused : Bool) : Type 0 where
     pub at_rest : v.staging ≡ None
     pub full : is_some v.full ≡ refused
-    pub ranges : LieIn v.room v.seen.ranges
+    pub ranges : AreOfOneStore v.room v.seen.ranges
 
   abbrev pub IsPassOf : Mine S N → ℕ → Type 0
   IsPassOf m count =
@@ -124,19 +126,20 @@ module _ {S N : Type 0} (terms : Terms S N) where
   pub record ReadsCell (c word value : ℕ) (m r : Mine S N) : Type 0 where
     pub sees : Sees terms m.0 r.0
     pub free : word % 2 ≡ 0
-    pub named : (x : S) → m.0.setting ≡ Some x → terms.ranged x c → Names r.0.seen.ranges value
+    pub named : (x : S) → m.0.setting ≡ Some x → terms.ranged x c ≡ true → Names r.0.seen.ranges value
     pub is : r.0 ≡ record m.0 {
       seen = r.0.seen;
-      seat = record m.0.seat { place = at_reading; reads = record { cell = c; word = word; value = value } ∷ m.0.seat.reads };
+      seat = record m.0.seat { place = AtReading; reads = record { cell = c; word = word; value = value } ∷ m.0.seat.reads };
       looked = Some (c, word);
     }
 
-  -- the words are a finished range of the store now, from this start on
+  -- the words are a finished range of the store now, from this start on, and the pass has taken as many words more
   pub record Stages (words : List ℕ) (start : ℕ) (m r : Mine S N) : Type 0 where
     pub sees : Sees terms m.0 r.0
     pub unrefused : m.0.full ≡ None
+    pub inside : start + length words ≤ m.0.room
     pub finished : Has (record { start = start; words = words }) r.0.seen.ranges
-    pub is : r.0 ≡ record m.0 { seen = r.0.seen }
+    pub is : r.0 ≡ record m.0 { seen = r.0.seen; taken = m.0.taken + length words }
 
   -- the seat's range of these words was finished
   pub record Finishes (words : List ℕ) (start : ℕ) (m r : Mine S N) : Type 0 where
@@ -144,25 +147,28 @@ module _ {S N : Type 0} (terms : Terms S N) where
     pub finished : Has (record { start = start; words = words }) r.0.seen.ranges
     pub is : r.0 ≡ record m.0 { seen = r.0.seen; staging = None }
 
-  -- a staging of so many words was refused: one was before, and no step was made; or the tail that was found leaves too little room
+  -- a staging of so many words was refused: one was before, and no step was made; or the tail that was
+  -- found leaves too little room, and moved on by the smaller of their number and the room and one
   abbrev pub Refuses : ℕ → Mine S N → Mine S N → Type 0
   Refuses count m r =
       ((p : ℕ × ℕ) × (m.0.full ≡ Some p) × (r ≡ m))
       ⊎ ((tail : ℕ) × (m.0.full ≡ None) × (m.0.room < tail + count) × Sees terms m.0 r.0
-      × (r.0 ≡ record m.0 { seen = r.0.seen; full = Some (tail, count) }))
+      × (r.0 ≡ record m.0 { seen = r.0.seen; full = Some (tail, count); added = min count (m.0.room + 1) }))
 
   -- a look found this word, and the run is over
   pub record Stops (c word : ℕ) (m r : Mine S N) : Type 0 where
     pub sees : Sees terms m.0 r.0
     pub written : WasWritten r.0.seen.history c (word / 2)
     pub cause : HasCause m.0.seat.rv word
-    pub is : r.0 ≡ record m.0 { seen = r.0.seen; seat = conflict m.0.seat at_idle; looked = Some (c, word) }
+    pub is : r.0 ≡ record m.0 { seen = r.0.seen; seat = conflict m.0.seat Idle; looked = Some (c, word) }
 
   -- a pass v has learnt of u: they are v2 and u2 now
   pub record Learns (v u v2 u2 : View S N) : Type 0 where
     pub own : SeenGrows v.seen v2.seen
     pub told : SeenGrows u.seen v2.seen
     pub other : SeenGrows u.seen u2.seen
+    -- the calls of u agree with what v has seen now
+    pub calls : (x : S) → v.setting ≡ Some x → Agree terms x v.base v2.seen u.mine
     pub sound : Sound terms v2
     pub other_sound : Sound terms u2
     -- the numbers of passes with two names are different

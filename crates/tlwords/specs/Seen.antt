@@ -1,9 +1,10 @@
 -- What was seen of the history, with a note for each entry, and of the store; what calls did, and when that agrees with the history.
 use Rattle.std.specs.Prelude.{◌≡◌, ◌≢◌, ℕ, suc, ◌≤◌, Some, List, [], ◌∷◌, length, slice_get}
 use Rattle.tlcore.specs.History.{Entry, One, Grows}
-use Rattle.tlcore.proofs.Words.{is_open, is_landed}
-use Rattle.tlwords.specs.Ranges.{Range, Within}
-use Rattle.tlwords.specs.Terms.{Pairs, Terms, Permits}
+use Rattle.tlcore.specs.declared.entries.Status.TheVariants.{Open, Done}
+use Rattle.ranges.specs.Ranges.{Range, Within}
+use Rattle.ranges.specs.Pairs.{Pairs}
+use Rattle.tlwords.specs.Terms.{Terms, Permits}
 
 -- what a transaction did: its reads, the newest first, its writes, the largest cell first, and its note
 pub record Work (N : Type 0) : Type 0 where
@@ -24,7 +25,7 @@ pub record Seen (N : Type 0) : Type 0 where
 
 -- the entry at the index i is Done or Void
 abbrev pub IsSettled : List Entry → ℕ → Type 0
-IsSettled h i = (e : Entry) × (slice_get h i ≡ Some e) × (e.status ≢ is_open)
+IsSettled h i = (e : Entry) × (slice_get h i ≡ Some e) × (e.status ≢ Open)
 
 module _ {N : Type 0} where
   -- nothing of a history, and these ranges
@@ -43,7 +44,7 @@ module _ {N : Type 0} where
   pub record IsDone (g : Seen N) (i : ℕ) (w : Work N) : Type 0 where
     pub entry : Entry
     pub here : slice_get g.history i ≡ Some entry
-    pub done : entry.status ≡ is_landed
+    pub done : entry.status ≡ Done
     pub reads : entry.reads ≡ w.reads
     pub writes : entry.writes ≡ w.writes
     pub note : slice_get g.notes i ≡ Some w.note

@@ -1,6 +1,6 @@
 -- What a pass shows, and what is so of it by itself, whatever the other passes do.
 use Rattle.std.specs.Prelude.{◌≡◌, ℕ, suc, ◌≤◌, Option, Some, None, List, [], length, ◌⊎◌}
-use Rattle.tlwords.specs.Ranges.{Range, Has, LieIn}
+use Rattle.ranges.specs.Ranges.{Range, Has, AreOfOneStore}
 use Rattle.tlcore.specs.History.{One}
 use Rattle.tlcore.specs.Seats.{Seat, idle, reads_of, number_at}
 use Rattle.tlwords.specs.Terms.{Terms, Opened}
@@ -47,6 +47,9 @@ pub record View (S N : Type 0) : Type 0 where
   -- the range that it is staging, and what its first staging that was refused found: the tail and the length
   pub staging : Option Staging
   pub full : Option (ℕ × ℕ)
+  -- how many words of the store it has taken, and what its first staging that was refused added to the tail
+  pub taken : ℕ
+  pub added : ℕ
   -- what it was told and hasn't yet seen by itself
   pub told : Told S N
 
@@ -75,6 +78,8 @@ module _ {S N : Type 0} where
         looked = None;
         staging = None;
         full = None;
+        taken = 0;
+        added = 0;
         told = untold;
       }
 
@@ -84,9 +89,11 @@ module _ {S N : Type 0} where
     -- what the run has read is one version at its place
     pub one : (x : S) → v.setting ≡ Some x → One v.base v.seen.history v.seat.rv (reads_of v.seat.reads)
     pub legal : (x : S) → v.setting ≡ Some x → Legal terms x v.base v.seen
+    -- each entry has its note
+    pub noted : length v.seen.notes ≡ length v.seen.history
     pub mine : (x : S) → v.setting ≡ Some x → Agree terms x v.base v.seen v.mine
     pub opening : (x : S) → v.setting ≡ Some x → Opened terms x v.seen.ranges v.base
-    pub ranges : (x : S) → v.setting ≡ Some x → LieIn v.room v.seen.ranges
+    pub ranges : (x : S) → v.setting ≡ Some x → AreOfOneStore v.room v.seen.ranges
     -- each number that was drawn is that of the run, or its entry is Done or Void
     pub settled : (i : ℕ) → Has (suc i) v.drawn → (number_at v.seat.place ≡ Some i) ⊎ IsSettled v.seen.history i
 

@@ -5,6 +5,7 @@ ghost use Rattle.std.specs.Prelude.{◌≡◌, ℕ, ◌+◌, ◌*◌, ◌<◌, �
 ghost use mathlib.Core.Option.{some};
 ghost use lib.ListN.{get_elem?};
 ghost use Rattle.std.specs.Slots.{slots_items, slots_len, IsFull};
+ghost use Rattle.tlwords.specs.Callers.{SitsAt};
 ghost use Rattle.tlwords.specs.Closing.{AreCellsOf, IsStoreOf, IsBlankFor, Closes, ClosesFor};
 ghost use Rattle.tlwords.specs.Rule.{tail_at};
 
@@ -43,9 +44,9 @@ pub fn close<L: Law>(
     words: Words<L>,
     pass: Option<Pass<L>>,
 ) -> Result<ClosedWords, AllocError>
-    requires { IfSome pass (λ p. p.seat.table_id ≡ words.table.shared.table_id) }
-    ensures words { IfOk result (λ c. Closes L.terms words.table.shared.key.setting.value words.table.shared.key.values.value.items c) }
-    ensures pass { IfOk result (λ c. IfSome pass (λ p. ClosesFor L.terms p.seat.me.0 c)) }
+    requires { IfSome pass (λ p. SitsAt words p) }
+    ensures words { IfOk result (λ c. Closes L.terms words.table.shared.key.setting.value words.table.shared.key.values.value.items words.table.shared.key.store.value.items c) }
+    ensures pass { IfOk result (λ c. IfSome pass (λ p. ClosesFor L.terms words.table.shared.key.store.value.items p.seat.me.0 c)) }
     ensures store { IfOk result (λ c. length c.store.items ≡ words.room) }
 {
     let cells = words.cells;
@@ -74,8 +75,8 @@ fn close_with<L: Law>(
     requires words { (table.shared.table_id.words ≡ 2 * cells + 3 + room) × (table.shared.table_id.slots ≡ 0) × (cells < 2 ^ 59) × (room ≤ 2 ^ 24) }
     requires keyed { table.shared.key.room ≡ room }
     requires blank { IsBlankFor cells room closed }
-    ensures words { Closes L.terms table.shared.key.setting.value table.shared.key.values.value.items result }
-    ensures pass { ClosesFor L.terms seat.me.0 result }
+    ensures words { Closes L.terms table.shared.key.setting.value table.shared.key.values.value.items table.shared.key.store.value.items result }
+    ensures pass { ClosesFor L.terms table.shared.key.store.value.items seat.me.0 result }
     ensures store { length result.store.items ≡ room }
 {
     let table = table.close_with(seat);
@@ -91,7 +92,7 @@ fn close_alone<L: Law>(
     requires words { (table.shared.table_id.words ≡ 2 * cells + 3 + room) × (table.shared.table_id.slots ≡ 0) × (cells < 2 ^ 59) × (room ≤ 2 ^ 24) }
     requires keyed { table.shared.key.room ≡ room }
     requires blank { IsBlankFor cells room closed }
-    ensures words { Closes L.terms table.shared.key.setting.value table.shared.key.values.value.items result }
+    ensures words { Closes L.terms table.shared.key.setting.value table.shared.key.values.value.items table.shared.key.store.value.items result }
     ensures store { length result.store.items ≡ room }
 {
     let table = table.close();

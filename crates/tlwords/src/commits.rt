@@ -6,7 +6,7 @@ ghost use Rattle.std.specs.List.Sorted.{IsNonDecreasing};
 ghost use Rattle.tlcore.specs.History.{wv};
 ghost use Rattle.tlcore.specs.Seats.{is_next, all_settled, is_nil, reads_of};
 ghost use Rattle.tlcore.specs.Machine.{placed, conflict};
-ghost use Rattle.tlcore.proofs.Words.{SeatPlace, at_idle, at_reading, at_taking, at_checking, at_storing, at_failing, at_voiding};
+ghost use Rattle.tlcore.specs.declared.seats.Place.TheVariants.{Idle, Reading as AtReading, Taking, Checking, Storing, Failing, Voiding};
 ghost use Rattle.tlwords.specs.Plays.{IsSameSeat};
 ghost use Rattle.tlwords.specs.Terms.{Permits};
 ghost use Rattle.tlwords.specs.Reads.{listed};
@@ -29,11 +29,11 @@ fn take_all<L: Law>(words: &Words<L>, seat: &mut Place<L>, log: &Log) -> Result<
     requires table { seat.old.table_id ≡ words.now.table.shared.table_id }
     requires setting { (y : L.Setting) × (seat.old.me.0.setting ≡ Some y) }
     requires cells { (length log.now.slots.items ≡ words.now.cells) × (length log.now.slots.items ≡ length seat.old.me.0.base) }
-    requires run { (seat.old.me.0.seat.place ≡ at_reading) × (seat.old.me.0.seat.held ≡ []) }
+    requires run { (seat.old.me.0.seat.place ≡ AtReading) × (seat.old.me.0.seat.held ≡ []) }
     requires kept { IsKeptOf seat.old.me.0.seat log.now.slots.items (listed log.now) }
     requires sorted { IsNonDecreasing (listed log.now) }
     ensures seat { IsSameSeat seat.old seat.new }
-    ensures ok { IfOk result (λ _. Goes L.terms seat.old.me (holding seat.old.me.0.seat at_taking at_reading (held_in log.now.slots.items 0 0 (length log.now.slots.items))) seat.new.me) }
+    ensures ok { IfOk result (λ _. Goes L.terms seat.old.me (holding seat.old.me.0.seat Taking AtReading (held_in log.now.slots.items 0 0 (length log.now.slots.items))) seat.new.me) }
     ensures err { IfErr result (λ k. FailsToTake L.terms log.now.slots.items k seat.old.me seat.new.me) }
 {
     let mut next = 0;
@@ -63,7 +63,7 @@ fn check_all<L: Law>(
     requires table { seat.old.table_id ≡ words.now.table.shared.table_id }
     requires setting { (y : L.Setting) × (seat.old.me.0.setting ≡ Some y) }
     requires cells { (length log.now.slots.items ≡ words.now.cells) × (length log.now.slots.items ≡ length seat.old.me.0.base) }
-    requires run { (seat.old.me.0.seat.place ≡ at_checking index 0) × (seat.old.me.0.seat.rv ≡ place) × (seat.old.me.0.seat.held ≡ held_in log.now.slots.items 0 0 (length log.now.slots.items)) }
+    requires run { (seat.old.me.0.seat.place ≡ Checking index 0) × (seat.old.me.0.seat.rv ≡ place) × (seat.old.me.0.seat.held ≡ held_in log.now.slots.items 0 0 (length log.now.slots.items)) }
     requires kept { IsKeptOf seat.old.me.0.seat log.now.slots.items (listed log.now) }
     requires sorted { IsNonDecreasing (listed log.now) }
     ensures seat { IsSameSeat seat.old seat.new }
@@ -93,7 +93,7 @@ fn store_all<L: Law>(words: &Words<L>, seat: &mut Place<L>, log: &Log, index: u6
     requires table { seat.old.table_id ≡ words.now.table.shared.table_id }
     requires setting { (y : L.Setting) × (seat.old.me.0.setting ≡ Some y) }
     requires cells { (length log.now.slots.items ≡ words.now.cells) × (length log.now.slots.items ≡ length seat.old.me.0.base) }
-    requires run { (upto : ℕ) × (seat.old.me.0.seat.place ≡ at_checking index upto) × ((is_next seat.old.me.0.seat index || all_settled seat.old.me.0.seat.held upto seat.old.me.0.seat.reads) ≡ true) }
+    requires run { (upto : ℕ) × (seat.old.me.0.seat.place ≡ Checking index upto) × ((is_next seat.old.me.0.seat index || all_settled seat.old.me.0.seat.held upto seat.old.me.0.seat.reads) ≡ true) }
     requires held { (seat.old.me.0.seat.held ≡ held_in log.now.slots.items 0 0 (length log.now.slots.items)) × (seat.old.me.0.note ≡ Some note.now) }
     requires kept { IsKeptOf seat.old.me.0.seat log.now.slots.items (listed log.now) }
     requires sorted { IsNonDecreasing (listed log.now) }
@@ -137,33 +137,33 @@ fn release_all<L: Law>(
     }
 }
 
-// From the draw on: the cells to be written are held. An error is the check that failed.
+// From the draw on: the cells to be written are held. An error is the check that failed, and the number that was drawn.
 fn settle<L: Law>(
     words: &Words<L>,
     seat: &mut Place<L>,
     log: &Log,
     place: u64,
     note: &L::Note,
-) -> Result<u64, Conflict>
+) -> Result<u64, (Conflict, u64)>
     requires table { seat.old.table_id ≡ words.now.table.shared.table_id }
     requires setting { (y : L.Setting) × (seat.old.me.0.setting ≡ Some y) × Permits L.terms y seat.old.me.0.seen.ranges (reads_of seat.old.me.0.seat.reads) (writes_kept log.now.slots.items) note.now }
     requires cells { (length log.now.slots.items ≡ words.now.cells) × (length log.now.slots.items ≡ length seat.old.me.0.base) }
-    requires run { (seat.old.me.0.seat.place ≡ at_taking) × (seat.old.me.0.seat.rv ≡ place) × (seat.old.me.0.seat.held ≡ held_in log.now.slots.items 0 0 (length log.now.slots.items)) }
+    requires run { (seat.old.me.0.seat.place ≡ Taking) × (seat.old.me.0.seat.rv ≡ place) × (seat.old.me.0.seat.held ≡ held_in log.now.slots.items 0 0 (length log.now.slots.items)) }
     requires kept { IsKeptOf seat.old.me.0.seat log.now.slots.items (listed log.now) }
     requires sorted { IsNonDecreasing (listed log.now) }
     requires writes { writes_kept log.now.slots.items ≢ [] }
     requires room { length seat.old.me.0.drawn + 1 ≤ 2 ^ 40 * seat.old.me.0.rights }
     ensures seat { IsSameSeat seat.old seat.new }
     ensures ok { IfOk result (λ n. HasCommitted L.terms n (work_kept seat.old.me.0.seat log.now.slots.items note.now) seat.old.me seat.new.me) }
-    ensures err { IfErr result (λ k. HasConflicted L.terms log.now.slots.items note.now k seat.old.me seat.new.me × (length seat.new.me.0.drawn ≡ length seat.old.me.0.drawn + 1)) }
+    ensures err { IfErr result (λ k. HasConflicted L.terms log.now.slots.items note.now k.0 (Some k.1) seat.old.me seat.new.me × (length seat.new.me.0.drawn ≡ length seat.old.me.0.drawn + 1)) }
 {
     let index = draw(words, seat, note);
+    let number = index + 1;
     if let Err(conflict) = check_all(words, seat, log, place, index) {
         release_all(words, seat, log, words.cells, None);
-        return Err(conflict);
+        return Err((conflict, number));
     }
     store_all(words, seat, log, index, note);
-    let number = index + 1;
     release_all(words, seat, log, words.cells, Some(2 * number));
     Ok(number)
 }
@@ -199,12 +199,18 @@ fn finish<L: Law>(
     }
     if let Err(conflict) = take_all(words, seat, log) {
         release_all(words, seat, log, conflict.cell, None);
-        return Outcome::Conflict(conflict);
+        return Outcome::Conflict {
+            conflict,
+            drawn: None,
+        };
     }
     *count += 1;
     match settle(words, seat, log, place, note) {
         Ok(number) => Outcome::Committed(number),
-        Err(conflict) => Outcome::Conflict(conflict),
+        Err((conflict, number)) => Outcome::Conflict {
+            conflict,
+            drawn: Some(number),
+        },
     }
 }
 

@@ -8,6 +8,7 @@
 mod closing;
 mod commits;
 mod law;
+mod laws;
 mod log;
 mod mode;
 mod opening;
@@ -24,6 +25,7 @@ mod words;
 
 pub use closing::{ClosedCell, ClosedWords, close};
 pub use law::Law;
+pub use laws::running_steps;
 pub use mode::Mode;
 pub use opening::{MOST_ROOM, OpenFault, open};
 pub use outcome::{Conflict, Outcome};

@@ -2,11 +2,13 @@
 #![tactic(auto)]
 
 ghost use Rattle.std.specs.Prelude.{◌≡◌, ℕ, ◌+◌, ◌*◌, ◌<◌, ◌≤◌, ◌^◌, [], ◌∷◌, ◌++◌, ◌-◌, length, replicate, IfOk, IfErr, Err, All, map, ◌⊎◌};
-ghost use Rattle.tlwords.specs.Ranges.{Range, ranges_named};
+ghost use Rattle.ranges.specs.Ranges.{Range, ranges_named};
 ghost use Rattle.tlwords.specs.Rule.{opening_words};
 ghost use Rattle.tlwords.specs.Terms.{AreNamed};
+ghost use Rattle.tlwords.specs.Callers.{AreOfOneOpening};
+ghost use Rattle.tlwords.specs.Views.{Sound};
 ghost use Rattle.tlwords.specs.declared.opening.OpenFault.TheVariants.{BadShape, StoreFull};
-ghost use Rattle.tlwords.specs.Ranges.{LieIn};
+ghost use Rattle.ranges.specs.Ranges.{AreOfOneStore};
 ghost use Rattle.tlwords.specs.Runs.{IsDealt, IsBadShape, down, dealer};
 
 use crate::law::Law;
@@ -17,10 +19,12 @@ use crate::rule::{Opening, Place};
 use crate::words::Words;
 use atomic_table::Table;
 use std::alloc::{AllocError, Global};
+use std::error::Error;
+use std::fmt;
 use std::snapshot::Snapshot;
 
 /// Why a memory was not opened.
-#[derive(Clone, Copy)]
+#[derive(Clone, Copy, Debug, PartialEq, Eq)]
 pub enum OpenFault {
     /// There are to be 1 to 64 sessions, and a room of 0 to 16,777,216 words.
     BadShape,
@@ -29,6 +33,48 @@ pub enum OpenFault {
     /// There was no memory.
     NoMemory,
 }
+
+impl OpenFault {
+    ghost use Rattle.tlwords.specs.Faults.{number_of, name_of};
+
+    /// The number of the fault, from 1 to 3.
+    pub fn number(self) -> u32
+        ensures { result ≡ number_of self }
+    {
+        match self {
+            OpenFault::BadShape => 1,
+            OpenFault::StoreFull => 2,
+            OpenFault::NoMemory => 3,
+        }
+    }
+
+    /// The name of the fault, as messages print it.
+    pub fn name(self) -> &'static str
+        ensures { result.now ≡ name_of self }
+    {
+        match self {
+            OpenFault::BadShape => "BadShape",
+            OpenFault::StoreFull => "StoreFull",
+            OpenFault::NoMemory => "NoMemory",
+        }
+    }
+}
+
+/// The number and the name of the fault, as in `2 StoreFull`.
+impl fmt::Display for OpenFault {
+    ghost use Rattle.std.specs.Prelude.{Some};
+    ghost use Rattle.tlwords.specs.Faults.{number_of, name_of, printed};
+
+    ghost output = { λ fault. Some (printed (number_of fault) (name_of fault)) };
+
+    fn fmt<W: fmt::Write>(&self, f: &mut fmt::Formatter<W>) -> fmt::Result {
+        let number = self.number();
+        let name = self.name();
+        write!(f, "{number} {name}")
+    }
+}
+
+impl Error for OpenFault {}
 
 impl From<AllocError> for OpenFault {
     ghost use Rattle.tlwords.specs.declared.opening.OpenFault.TheVariants.{NoMemory};
@@ -45,7 +91,7 @@ pub const MOST_ROOM: usize = 1 << 24;
 
 /// Opens a memory whose cells have these values, with a pass for each session, and a store of `room` words that begins with `store`.
 ///
-/// The ranges of the store that the values name are finished, and each pass has seen them.
+/// The ranges of the store that the values of range cells name are finished, but empty ones, and each pass has seen them.
 ///
 /// # Errors
 ///
@@ -59,11 +105,13 @@ pub fn open<L: Law>(
     room: usize,
     sessions: usize,
 ) -> Result<(Words<L>, Vec<Pass<L>>), OpenFault>
-    requires opens { L.terms.opens setting.now (ranges_named store.now values.now) values.now }
-    requires named { AreNamed L.terms setting.now (ranges_named store.now values.now) values.now }
+    requires opens { L.terms.opens setting.now (ranges_named (L.terms.ranged setting.now) store.now values.now) values.now }
+    requires named { AreNamed L.terms setting.now (ranges_named (L.terms.ranged setting.now) store.now values.now) values.now }
     ensures sizes { IfOk result (λ r. (r.0.cells ≡ length values.now) × (r.0.room ≡ room)) }
     ensures key { IfOk result (λ r. (r.0.table.shared.key.setting.value ≡ setting.now) × (r.0.table.shared.key.values.value.items ≡ values.now) × (r.0.table.shared.key.store.value.items ≡ store.now)) }
-    ensures passes { IfOk result (λ r. All (λ p. IsDealt setting.now values.now room (ranges_named store.now values.now) r.0.table.shared.table_id p.seat) r.1.items) }
+    ensures passes { IfOk result (λ r. All (λ p. IsDealt setting.now values.now room (ranges_named (L.terms.ranged setting.now) store.now values.now) r.0.table.shared.table_id p.seat) r.1.items) }
+    ensures opening { IfOk result (λ r. All (λ p. AreOfOneOpening r.0 p) r.1.items) }
+    ensures sound { IfOk result (λ r. All (λ p. Sound L.terms p.seat.me.0) r.1.items) }
     ensures names { IfOk result (λ r. map (λ p. p.seat.me.0.name) r.1.items ≡ down 64 sessions) }
     ensures shape { (IsBadShape sessions room → result ≡ Err BadShape) × (result ≡ Err BadShape → IsBadShape sessions room) }
     ensures full { ((IsBadShape sessions room → ⊥) → room < length store.now → result ≡ Err StoreFull) × (result ≡ Err StoreFull → room < length store.now) }
@@ -147,9 +195,9 @@ fn deal_all<L: Law>(
     sessions: usize,
 ) -> Result<Vec<Pass<L>>, AllocError>
     requires table { (seat.old.table_id ≡ words.now.table.shared.table_id) × (words.now.cells ≡ length values.now) }
-    requires store { LieIn words.now.room (ranges_named store.now values.now) }
-    requires first { (sessions ≤ 64) × (seat.old.me.0 ≡ dealer setting.now values.now words.now.room (ranges_named store.now values.now) 0) }
-    ensures passes { IfOk result (λ v. All (λ p. IsDealt setting.now values.now words.now.room (ranges_named store.now values.now) words.now.table.shared.table_id p.seat) v.items) }
+    requires store { AreOfOneStore words.now.room (ranges_named (L.terms.ranged setting.now) store.now values.now) }
+    requires first { (sessions ≤ 64) × (seat.old.me.0 ≡ dealer setting.now values.now words.now.room (ranges_named (L.terms.ranged setting.now) store.now values.now) 0) }
+    ensures passes { IfOk result (λ v. All (λ p. IsDealt setting.now values.now words.now.room (ranges_named (L.terms.ranged setting.now) store.now values.now) words.now.table.shared.table_id p.seat) v.items) }
     ensures names { IfOk result (λ v. map (λ p. p.seat.me.0.name) v.items ≡ down 64 sessions) }
 {
     let _ = setting;

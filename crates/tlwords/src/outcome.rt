@@ -20,7 +20,12 @@ pub enum Outcome {
     /// It wrote nothing, and saw all that had committed at this place.
     Read(u64),
     /// It met a conflict, and nothing was written.
-    Conflict(Conflict),
+    Conflict {
+        /// The look or the try to lock that ended the run.
+        conflict: Conflict,
+        /// The number that this commit has drawn, from 1: it is used up. None where it has drawn none.
+        drawn: Option<u64>,
+    },
     /// The pass has drawn 2^40 numbers, and nothing was written.
     NumbersUsed,
 }

@@ -34,12 +34,12 @@ pub struct Rule<L> {
 }
 
 impl<L: Law> TableRule<(), View<L::Setting, L::Note>, Opening<L::Setting>> for Rule<L> {
-    ghost use Rattle.tlwords.specs.Ranges.{ranges_named};
+    ghost use Rattle.ranges.specs.Ranges.{ranges_named};
     ghost use Rattle.tlwords.specs.Rule.{Ruled, first_view};
 
-    ghost holds = { λ key s. Ruled L.terms key.setting.value key.values.value.items key.room s };
+    ghost holds = { λ key s. Ruled L.terms key.setting.value key.values.value.items key.room key.store.value.items s };
 
-    ghost first = { λ key. first_view key.setting.value key.values.value.items key.room (ranges_named key.store.value.items key.values.value.items) };
+    ghost first = { λ key. first_view key.setting.value key.values.value.items key.room (ranges_named (L.terms.ranged key.setting.value) key.store.value.items key.values.value.items) };
 }
 
 /// The words that all passes share.

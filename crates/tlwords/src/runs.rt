@@ -4,6 +4,7 @@
 ghost use Rattle.std.specs.Prelude.{◌≡◌, ℕ, ◌<◌, ◌≤◌, ◌⊎◌, Some, None, length, take, is_some, true, Ok, Err, IfOk, IfErr};
 ghost use Rattle.tlwords.specs.Plays.{IsSameSeat, Sampled};
 ghost use Rattle.tlwords.specs.Runs.{IsRunOf, IsKeptOf, IsBlank, KnowsStore, noted, word_seen, value_kept, was_read, Learns};
+ghost use Rattle.tlwords.specs.Callers.{SitsAt, AreOfOneOpening};
 ghost use Rattle.tlwords.specs.Reads.{listed, LogKeeps, kept_for, HasRead, HasStopped};
 ghost use Rattle.tlwords.specs.Commits.{IsLawfulNow, HasForgotten, HasEnded};
 ghost use Rattle.tlwords.specs.declared.outcome.Outcome.TheVariants.{Read as EndsRead, Conflict as EndsConflict};
@@ -40,10 +41,9 @@ pub struct Run<'w, L: Law> {
 
 /// Begins a run in this mode, by one load of the clock.
 pub fn begin<'w, L: Law>(words: &'w Words<L>, pass: Pass<L>, mode: Mode) -> Run<'w, L>
-    requires table { (pass.seat.table_id ≡ words.now.table.shared.table_id) × (words.now.cells ≡ length pass.seat.me.0.base) }
-    requires room { words.now.room ≡ pass.seat.me.0.room }
+    requires opening { AreOfOneOpening words.now pass }
     ensures words { result.words.now ≡ words.now }
-    ensures seat { (result.seat.table_id ≡ pass.seat.table_id) × (result.seat.id ≡ pass.seat.id) }
+    ensures seat { IsSameSeat pass.seat result.seat }
     ensures begins { Sampled L.terms pass.seat.me result.place result.seat.me }
     ensures place { length pass.seat.me.0.seen.history ≤ result.place }
     ensures mode { result.mode ≡ mode }
@@ -144,11 +144,13 @@ impl<'w, L: Law> Run<'w, L> {
     ///
     /// It takes the locks of the cells to be written, draws a number, looks again at the other cells that were read, stores the values and
     /// gives the locks back. After a conflict each lock has its former word, and a number that was drawn is used up. A run that wrote
-    /// nothing, as each one in Reading mode, only loads the spare word. One that has met a conflict answers it again, without a step.
+    /// nothing, as each one in Reading mode, only loads the spare word. One that has met a conflict answers it again, without a step and
+    /// without a number.
     pub fn commit(self, note: &L::Note) -> (Pass<L>, Outcome)
         requires lawful { self.over ≡ None → IsLawfulNow L.terms self.seat.me.0 self.log.slots.items note.now }
         ensures same { IsSameSeat self.entry.seat result.0.seat }
-        ensures over { (k : ConflictValue) → self.entry.over ≡ Some k → (result.1 ≡ EndsConflict k) × (result.0.seat.me ≡ self.entry.seat.me) }
+        ensures opening { AreOfOneOpening self.entry.words.now result.0 }
+        ensures over { (k : ConflictValue) → self.entry.over ≡ Some k → (result.1 ≡ EndsConflict k None) × (result.0.seat.me ≡ self.entry.seat.me) }
         ensures reading { self.entry.over ≡ None → self.entry.mode ≡ Reading → result.1 ≡ EndsRead self.entry.place }
         ensures ended { self.entry.over ≡ None → HasEnded L.terms self.entry.log.slots.items note.now self.entry.seat.me result.0.seat.me result.1 }
     {
@@ -163,7 +165,10 @@ impl<'w, L: Law> Run<'w, L> {
             full,
         } = self;
         let outcome = match over {
-            Some(conflict) => Outcome::Conflict(conflict),
+            Some(conflict) => Outcome::Conflict {
+                conflict,
+                drawn: None,
+            },
             None => conclude(words, &mut seat, &mut log, &mut count, place, mode, note),
         };
         log.clear();
@@ -178,7 +183,8 @@ impl<'w, L: Law> Run<'w, L> {
 
     /// Ends the run with nothing written. It walks over the cells that the run has read.
     pub fn leave(self) -> Pass<L>
-        ensures { (result.seat ≡ self.entry.seat) × (result.count ≡ self.entry.count) × (result.full ≡ self.entry.full) }
+        ensures same { (result.seat ≡ self.entry.seat) × (result.count ≡ self.entry.count) × (result.full ≡ self.entry.full) }
+        ensures opening { AreOfOneOpening self.entry.words.now result }
     {
         let Run {
             words: _,
@@ -200,14 +206,15 @@ impl<'w, L: Law> Run<'w, L> {
     }
 }
 
-/// Tells a pass what another one has seen. It makes one load of the clock, for the first, and three of the spare word.
+/// Tells a pass what another one has seen by now, with the other's calls. It makes three loads of the spare word, and one of the clock.
 pub fn learn<L: Law>(words: &Words<L>, pass: &mut Pass<L>, other: &mut Pass<L>)
-    requires { (pass.old.seat.table_id ≡ words.now.table.shared.table_id) × (other.old.seat.table_id ≡ words.now.table.shared.table_id) }
+    requires { SitsAt words.now pass.old × SitsAt words.now other.old }
     ensures seat { IsSameSeat pass.old.seat pass.new.seat }
     ensures other { IsSameSeat other.old.seat other.new.seat }
+    ensures opening { (AreOfOneOpening words.now pass.old → AreOfOneOpening words.now pass.new) × (AreOfOneOpening words.now other.old → AreOfOneOpening words.now other.new) }
     ensures learns { Learns L.terms pass.old.seat.me.0 other.old.seat.me.0 pass.new.seat.me.0 other.new.seat.me.0 }
 {
+    steps::refresh(words, &mut other.seat);
     steps::tell(words, &mut pass.seat, &mut other.seat);
     steps::begin(words, &mut pass.seat);
-    steps::refresh(words, &mut other.seat);
 }

@@ -6,7 +6,9 @@ ghost use Rattle.std.specs.Prelude.{◌≡◌, ◌≢◌, ℕ, suc, ◌+◌, ◌
 ghost use Rattle.tlcore.specs.Seats.{reads_of, writes_of, find_read, find_held, all_below, all_settled, is_due, is_next};
 ghost use Rattle.tlcore.specs.History.{wv};
 ghost use Rattle.tlwords.specs.Terms.{Permits};
-ghost use Rattle.tlcore.proofs.Words.{SeatRead, SeatHeld, at_idle, at_reading, at_looked, at_loaded, at_taking, at_checking, at_storing, at_failing, at_voiding};
+ghost use Rattle.tlcore.specs.declared.seats.Read.{Read};
+ghost use Rattle.tlcore.specs.declared.seats.Held.{Held};
+ghost use Rattle.tlcore.specs.declared.seats.Place.TheVariants.{Idle, Reading, Looked, Loaded, Taking, Checking, Storing, Failing, Voiding};
 ghost use Rattle.tlwords.specs.Plays.{IsSameSeat, GivesBack, MayStore, Sampled, Looks, Loads, Relooks, Takes, Draws, Checks, Stores, Releases, Recalls, Refreshes, told_by, witness};
 
 use crate::law::Law;
@@ -20,7 +22,7 @@ use std::marker::Brand;
 /// Samples the clock as the place of a new run.
 pub(crate) fn begin<L: Law>(words: &Words<L>, seat: &mut Place<L>) -> u64
     requires table { seat.old.table_id ≡ words.now.table.shared.table_id }
-    requires place { (seat.old.me.0.seat.place ≡ at_idle) ⊎ (seat.old.me.0.seat.place ≡ at_reading) }
+    requires place { (seat.old.me.0.seat.place ≡ Idle) ⊎ (seat.old.me.0.seat.place ≡ Reading) }
     ensures seat { IsSameSeat seat.old seat.new }
     ensures told { Sampled L.terms seat.old.me result seat.new.me }
 {
@@ -32,7 +34,7 @@ pub(crate) fn look<L: Law>(words: &Words<L>, seat: &mut Place<L>, cell: usize) -
     requires table { seat.old.table_id ≡ words.now.table.shared.table_id }
     requires setting { (y : L.Setting) × (seat.old.me.0.setting ≡ Some y) }
     requires cell { (cell < words.now.cells) × (cell < length seat.old.me.0.base) }
-    requires place { seat.old.me.0.seat.place ≡ at_reading }
+    requires place { seat.old.me.0.seat.place ≡ Reading }
     ensures seat { IsSameSeat seat.old seat.new }
     ensures told { Looks L.terms cell seat.old.me result seat.new.me }
 {
@@ -44,7 +46,7 @@ pub(crate) fn load<L: Law>(words: &Words<L>, seat: &mut Place<L>, cell: usize, w
     requires table { seat.old.table_id ≡ words.now.table.shared.table_id }
     requires setting { (y : L.Setting) × (seat.old.me.0.setting ≡ Some y) }
     requires cell { (cell < words.now.cells) × (cell < length seat.old.me.0.base) }
-    requires place { seat.old.me.0.seat.place ≡ at_looked cell word }
+    requires place { seat.old.me.0.seat.place ≡ Looked cell word }
     ensures seat { IsSameSeat seat.old seat.new }
     ensures told { Loads L.terms seat.old.me result seat.new.me }
 {
@@ -63,7 +65,7 @@ pub(crate) fn relook<L: Law>(
     requires table { seat.old.table_id ≡ words.now.table.shared.table_id }
     requires setting { (y : L.Setting) × (seat.old.me.0.setting ≡ Some y) }
     requires cell { (cell < words.now.cells) × (cell < length seat.old.me.0.base) }
-    requires place { seat.old.me.0.seat.place ≡ at_loaded cell word value }
+    requires place { seat.old.me.0.seat.place ≡ Loaded cell word value }
     ensures seat { IsSameSeat seat.old seat.new }
     ensures told { Relooks L.terms seat.old.me result seat.new.me }
 {
@@ -83,8 +85,8 @@ fn take_saying<L: Law, G: Said<L::Note>>(
     requires setting { (y : L.Setting) × (seat.old.me.0.setting ≡ Some y) }
     requires cell { (cell < words.now.cells) × (cell < length seat.old.me.0.base) }
     requires said { G.value ≡ value }
-    requires place { (seat.old.me.0.seat.place ≡ at_reading) ⊎ ((seat.old.me.0.seat.place ≡ at_taking) × (all_below cell seat.old.me.0.seat.held ≡ true)) }
-    requires read { (d : SeatRead) × (find_read cell seat.old.me.0.seat.reads ≡ Some d) × (d.word ≡ word) }
+    requires place { (seat.old.me.0.seat.place ≡ Reading) ⊎ ((seat.old.me.0.seat.place ≡ Taking) × (all_below cell seat.old.me.0.seat.held ≡ true)) }
+    requires read { (d : Read) × (find_read cell seat.old.me.0.seat.reads ≡ Some d) × (d.word ≡ word) }
     requires room { word + 1 < 2 ^ 64 }
     ensures seat { IsSameSeat seat.old seat.new }
     ensures told { Takes L.terms cell value word seat.old.me result seat.new.me }
@@ -107,8 +109,8 @@ pub(crate) fn take<L: Law>(
     requires table { seat.old.table_id ≡ words.now.table.shared.table_id }
     requires setting { (y : L.Setting) × (seat.old.me.0.setting ≡ Some y) }
     requires cell { (cell < words.now.cells) × (cell < length seat.old.me.0.base) }
-    requires place { (seat.old.me.0.seat.place ≡ at_reading) ⊎ ((seat.old.me.0.seat.place ≡ at_taking) × (all_below cell seat.old.me.0.seat.held ≡ true)) }
-    requires read { (d : SeatRead) × (find_read cell seat.old.me.0.seat.reads ≡ Some d) × (d.word ≡ word) }
+    requires place { (seat.old.me.0.seat.place ≡ Reading) ⊎ ((seat.old.me.0.seat.place ≡ Taking) × (all_below cell seat.old.me.0.seat.held ≡ true)) }
+    requires read { (d : Read) × (find_read cell seat.old.me.0.seat.reads ≡ Some d) × (d.word ≡ word) }
     requires room { word + 1 < 2 ^ 64 }
     ensures seat { IsSameSeat seat.old seat.new }
     ensures told { Takes L.terms cell value word seat.old.me result seat.new.me }
@@ -124,7 +126,7 @@ fn draw_saying<L: Law, G: Said<L::Note>>(
     requires table { seat.old.table_id ≡ words.now.table.shared.table_id }
     requires setting { (y : L.Setting) × (seat.old.me.0.setting ≡ Some y) × Permits L.terms y seat.old.me.0.seen.ranges (reads_of seat.old.me.0.seat.reads) (writes_of seat.old.me.0.seat.held) note.now }
     requires said { G.note ≡ Some note.now }
-    requires place { seat.old.me.0.seat.place ≡ at_taking }
+    requires place { seat.old.me.0.seat.place ≡ Taking }
     requires writes { writes_of seat.old.me.0.seat.held ≢ [] }
     requires room { length seat.old.me.0.drawn + 1 ≤ 2 ^ 40 * seat.old.me.0.rights }
     ensures seat { IsSameSeat seat.old seat.new }
@@ -138,7 +140,7 @@ fn draw_saying<L: Law, G: Said<L::Note>>(
 pub(crate) fn draw<L: Law>(words: &Words<L>, seat: &mut Place<L>, note: &L::Note) -> u64
     requires table { seat.old.table_id ≡ words.now.table.shared.table_id }
     requires setting { (y : L.Setting) × (seat.old.me.0.setting ≡ Some y) × Permits L.terms y seat.old.me.0.seen.ranges (reads_of seat.old.me.0.seat.reads) (writes_of seat.old.me.0.seat.held) note.now }
-    requires place { seat.old.me.0.seat.place ≡ at_taking }
+    requires place { seat.old.me.0.seat.place ≡ Taking }
     requires writes { writes_of seat.old.me.0.seat.held ≢ [] }
     requires room { length seat.old.me.0.drawn + 1 ≤ 2 ^ 40 * seat.old.me.0.rights }
     ensures seat { IsSameSeat seat.old seat.new }
@@ -152,8 +154,8 @@ pub(crate) fn check<L: Law>(words: &Words<L>, seat: &mut Place<L>, cell: usize) 
     requires table { seat.old.table_id ≡ words.now.table.shared.table_id }
     requires setting { (y : L.Setting) × (seat.old.me.0.setting ≡ Some y) }
     requires cell { (cell < words.now.cells) × (cell < length seat.old.me.0.base) }
-    requires place { (i : ℕ) × (upto : ℕ) × (seat.old.me.0.seat.place ≡ at_checking i upto) × (is_next seat.old.me.0.seat i ≡ false) × (is_due seat.old.me.0.seat upto cell ≡ true) }
-    requires read { (d : SeatRead) × (find_read cell seat.old.me.0.seat.reads ≡ Some d) }
+    requires place { (i : ℕ) × (upto : ℕ) × (seat.old.me.0.seat.place ≡ Checking i upto) × (is_next seat.old.me.0.seat i ≡ false) × (is_due seat.old.me.0.seat upto cell ≡ true) }
+    requires read { (d : Read) × (find_read cell seat.old.me.0.seat.reads ≡ Some d) }
     ensures seat { IsSameSeat seat.old seat.new }
     ensures told { Checks L.terms cell seat.old.me result seat.new.me }
 {
@@ -166,7 +168,7 @@ pub(crate) fn store<L: Law>(words: &Words<L>, seat: &mut Place<L>, cell: usize, 
     requires setting { (y : L.Setting) × (seat.old.me.0.setting ≡ Some y) }
     requires cell { (cell < words.now.cells) × (cell < length seat.old.me.0.base) }
     requires place { (i : ℕ) × MayStore seat.old.me.0.seat i }
-    requires held { (k : SeatHeld) × (find_held cell seat.old.me.0.seat.held ≡ Some k) × (k.value ≡ value) }
+    requires held { (k : Held) × (find_held cell seat.old.me.0.seat.held ≡ Some k) × (k.value ≡ value) }
     ensures seat { IsSameSeat seat.old seat.new }
     ensures told { Stores L.terms cell seat.old.me seat.new.me }
 {
@@ -181,7 +183,7 @@ pub(crate) fn release<L: Law>(words: &Words<L>, seat: &mut Place<L>, cell: usize
     requires table { seat.old.table_id ≡ words.now.table.shared.table_id }
     requires setting { (y : L.Setting) × (seat.old.me.0.setting ≡ Some y) }
     requires cell { (cell < words.now.cells) × (cell < length seat.old.me.0.base) }
-    requires held { (k : SeatHeld) × (find_held cell seat.old.me.0.seat.held ≡ Some k) × GivesBack seat.old.me.0.seat k word }
+    requires held { (k : Held) × (find_held cell seat.old.me.0.seat.held ≡ Some k) × GivesBack seat.old.me.0.seat k word }
     ensures seat { IsSameSeat seat.old seat.new }
     ensures told { Releases L.terms cell seat.old.me seat.new.me }
 {

@@ -2,7 +2,7 @@
 #![tactic(auto)]
 
 ghost use Rattle.std.specs.Prelude.{◌≡◌, ◌≢◌, ℕ, ◌+◌, ◌<◌, ◌≤◌, List, Some, [], length, slice_get, IfOk, IfErr};
-ghost use Rattle.tlwords.specs.Ranges.{Has};
+ghost use Rattle.ranges.specs.Ranges.{Has};
 ghost use Rattle.tlwords.specs.Plays.{IsSameSeat, Sees};
 ghost use Rattle.tlwords.specs.Views.{Staging};
 ghost use Rattle.tlwords.specs.Runs.{Stages, Finishes, Refuses};
@@ -12,6 +12,8 @@ use crate::rule::Place;
 use crate::runs::Run;
 use crate::store_steps::{advance, fetch_word, fill};
 use crate::words::Words;
+use std::error::Error;
+use std::fmt;
 
 /// A range of the store.
 #[derive(Clone, Copy, Debug, PartialEq, Eq)]
@@ -25,6 +27,40 @@ pub struct Range {
 /// The store has no room for the words, or had none for those that this session wanted to stage before.
 #[derive(Clone, Copy, Debug, PartialEq, Eq)]
 pub struct StoreFull;
+
+impl StoreFull {
+    ghost use Rattle.std.specs.Prelude.{codes};
+
+    /// The number of the refusal: 1.
+    pub fn number(self) -> u32
+        ensures { result ≡ 1 }
+    {
+        1
+    }
+
+    /// The name of the refusal, as messages print it.
+    pub fn name(self) -> &'static str
+        ensures { result.now ≡ codes "StoreFull" }
+    {
+        "StoreFull"
+    }
+}
+
+/// The number and the name of the refusal, as in `1 StoreFull`.
+impl fmt::Display for StoreFull {
+    ghost use Rattle.std.specs.Prelude.{Some, codes};
+    ghost use Rattle.tlwords.specs.Faults.{printed};
+
+    ghost output = { λ _. Some (printed 1 (codes "StoreFull")) };
+
+    fn fmt<W: fmt::Write>(&self, f: &mut fmt::Formatter<W>) -> fmt::Result {
+        let number = self.number();
+        let name = self.name();
+        write!(f, "{number} {name}")
+    }
+}
+
+impl Error for StoreFull {}
 
 impl<'w, L: Law> Run<'w, L> {
     /// The word `index`, from 0, of a finished range that this session has seen. It is one load.

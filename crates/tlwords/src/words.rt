@@ -2,7 +2,7 @@
 #![tactic(auto)]
 
 ghost use Rattle.std.specs.Prelude.{◌≡◌, ◌≢◌, ℕ, ◌+◌, ◌*◌, ◌/◌, ◌%◌, ◌^◌, ◌<◌, ◌≤◌, Some, length, IfErr, IfOk};
-ghost use Rattle.tlcore.proofs.Words.{at_reading};
+ghost use Rattle.tlcore.specs.declared.seats.Place.TheVariants.{Reading};
 ghost use Rattle.tlwords.specs.Plays.{IsSameSeat};
 ghost use Rattle.tlwords.specs.Runs.{ReadsCell, Stops};
 
@@ -76,7 +76,7 @@ pub(crate) fn fetch<L: Law>(
     requires table { seat.old.table_id ≡ words.now.table.shared.table_id }
     requires setting { (y : L.Setting) × (seat.old.me.0.setting ≡ Some y) }
     requires cell { (cell < words.now.cells) × (cell < length seat.old.me.0.base) }
-    requires run { (seat.old.me.0.seat.place ≡ at_reading) × (seat.old.me.0.seat.rv ≡ place) }
+    requires run { (seat.old.me.0.seat.place ≡ Reading) × (seat.old.me.0.seat.rv ≡ place) }
     ensures seat { IsSameSeat seat.old seat.new }
     ensures ok { IfOk result (λ f. ReadsCell L.terms cell f.word f.value seat.old.me seat.new.me) }
     ensures err { IfErr result (λ n. Stops L.terms cell n seat.old.me seat.new.me) }

@@ -12,7 +12,7 @@ ghost use Rattle.commands.specs.ScriptViews.{label_at, rank_at, decided, seen_co
 
 use super::numerals::{hypothesis_place, is_numeral, number};
 use super::place::{CommandPlace, Led};
-use crate::command::Command;
+use library::Command;
 use mmreader::{UnitProgress, UnitReader, named_step};
 use mmstatement::{FaultKind, Label, Prelude, Sequence, Step};
 use mmtext::{Mark, Stop, Token, contains_dollar, fault_at, mark_word};

@@ -1,6 +1,6 @@
 //! Places in a script.
 
-use crate::command::{Command, Transaction};
+use library::{Command, Transaction};
 use mmreader::UnitReader;
 use mmstatement::{Label, Step};
 

@@ -2,9 +2,9 @@
 
 ghost use Rattle.std.specs.Prelude.{◌≡◌, ◌∷◌, ◌++◌, [], false, length, set, Some, None, slice_get, IfOk, OnOk};
 ghost use Rattle.mmstatement.specs.Frames.{frame};
-ghost use Rattle.commands.specs.declared.library.Ranked.{Ranked};
-ghost use Rattle.commands.specs.Library.{label_of};
-ghost use Rattle.commands.specs.Edits.{has};
+ghost use Rattle.library.specs.declared.library.Ranked.{Ranked};
+ghost use Rattle.library.specs.Library.{label_of};
+ghost use Rattle.library.specs.Edits.{has};
 ghost use Rattle.history.specs.Entries.{StandsIn};
 ghost use Rattle.history.specs.Citers.{AreEntered, Covers};
 ghost use Rattle.history.specs.Drafts.{now_in, Succeeds, Exchanges, KeepsStart};
@@ -12,7 +12,7 @@ ghost use Rattle.history.specs.Drafts.{now_in, Succeeds, Exchanges, KeepsStart};
 use super::Draft;
 use crate::citers::enter_citer;
 use crate::notes::Note;
-use commands::Ranked;
+use library::Ranked;
 use mmstatement::{Frame, Step};
 use std::alloc::{AllocError, Global};
 use std::mem;

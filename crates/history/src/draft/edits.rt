@@ -3,11 +3,11 @@
 ghost use Rattle.std.specs.Prelude.{◌≡◌, ℕ, All, Contains, IfOk, OnOk};
 ghost use Rattle.std.specs.List.Sorted.{IsStrictlyIncreasing};
 ghost use Rattle.mmsyntax.specs.declared.statement.Kind.TheVariants.{Theorem};
-ghost use Rattle.commands.specs.declared.command.Command.TheVariants as command;
-ghost use Rattle.commands.specs.Edits.{add_tests, citers};
-ghost use Rattle.commands.specs.Fitting.{CommandFits};
-ghost use Rattle.commands.specs.Library.{Verifies, label_of};
-ghost use Rattle.commands.specs.declared.library.Ranked.{Ranked};
+ghost use Rattle.library.specs.declared.command.Command.TheVariants as command;
+ghost use Rattle.library.specs.Edits.{add_tests, citers};
+ghost use Rattle.library.specs.Fitting.{CommandFits};
+ghost use Rattle.library.specs.Library.{Verifies, label_of};
+ghost use Rattle.library.specs.declared.library.Ranked.{Ranked};
 ghost use Rattle.history.specs.Entries.{StandsIn};
 ghost use Rattle.history.specs.Citers.{HasAllCiters, IsCiter};
 ghost use Rattle.history.specs.Places.{StandsAt};
@@ -23,7 +23,7 @@ use crate::places::{entry_at, find_entry, find_label};
 use crate::testing::{
     cites, cites_not_below, cites_unknown, count_citers, has_citer_below, proof_fault,
 };
-use commands::{Command, Ranked, Reason, Refused, Reply};
+use library::{Command, Ranked, Reason, Refused, Reply};
 use mmstatement::{Assertion, Kind, Label, Sequence, Step, copy_steps, frame_of, is_lawful_label};
 use std::alloc::{AllocError, Global};
 

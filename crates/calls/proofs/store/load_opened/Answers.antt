@@ -1,6 +1,6 @@
 use Rattle.std.proofs.Common.{◌≡◌, ◌-◌, List, ℕ, [], ◌∷◌, inl, refl, sym, ap, ◌∙◌, subst, arith, get_or}
 use Rattle.std.specs.Prelude.{vec_len}
-use Rattle.tlwords.specs.Ranges.{Range, Has, range_named}
+use Rattle.ranges.specs.Ranges.{Range, Has, range_named}
 use Rattle.calls.proofs.store.load_opened.Goals as goal
 
 -- the range of the last two words

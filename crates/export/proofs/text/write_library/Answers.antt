@@ -2,7 +2,7 @@ use Rattle.std.proofs.Common.{[], ◌∷◌, ◌++◌, map, take, sym, ap, ◌�
 use Rattle.std.specs.List.{flat_map}
 use Rattle.std.proofs.lemmas.List.{flat_map_more, map-append, take_more}
 use Rattle.mmsyntax.specs.Layout.{prelude_text, assertion_text}
-use Rattle.commands.specs.declared.library.Ranked.{Ranked}
+use Rattle.library.specs.declared.library.Ranked.{Ranked}
 use Rattle.export.proofs.Accepted.{exported_accepted}
 use Rattle.export.proofs.text.write_library.Goals as goal
 

@@ -2,7 +2,7 @@ use Rattle.std.proofs.Common.{◌<◌, length, set, rules, ◌∙◌, Result, Ok
 use Rattle.std.proofs.lemmas.Option.{slice_get-get_or}
 use Rattle.mmsyntax.specs.declared.statement.Step.TheVariants.{Cite}
 use Rattle.mmsyntax.proofs.Names.{bytes_eq-sym}
-use Rattle.commands.specs.Library.{label_of}
+use Rattle.library.specs.Library.{label_of}
 use Rattle.history.proofs.Changing.{get-set_same}
 use Rattle.history.proofs.Covering.{entered-cited, entered-unknown, keeps-set, list-within}
 use Rattle.history.proofs.Living.{has-not-at}

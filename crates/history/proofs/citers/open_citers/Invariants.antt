@@ -1,7 +1,7 @@
 use Rattle.std.proofs.Common.{◌≡◌, ◌<◌, ℕ, true, length}
-use Rattle.commands.specs.declared.library.Ranked.{Ranked}
-use Rattle.commands.specs.Library.{label_of}
-use Rattle.commands.specs.Edits.{cites}
+use Rattle.library.specs.declared.library.Ranked.{Ranked}
+use Rattle.library.specs.Library.{label_of}
+use Rattle.library.specs.Edits.{cites}
 use Rattle.history.specs.Entries.{StandsIn}
 use Rattle.history.specs.Citers.{AreAscending, IsCiter}
 use Rattle.history.proofs.citers.open_citers.Given as goal

@@ -2,8 +2,8 @@ use Rattle.std.proofs.Common.{◌≡◌, ◌≤◌, length, take, sym, ap, ◌�
 use Rattle.std.specs.List.{count_by}
 use Rattle.std.proofs.lemmas.List.{take_all, with_items_is}
 use Rattle.std.proofs.lemmas.List.Sums.{count_by-le-length}
-use Rattle.commands.specs.Library.{label_of}
-use Rattle.commands.specs.Edits.{cites}
+use Rattle.library.specs.Library.{label_of}
+use Rattle.library.specs.Edits.{cites}
 use Rattle.history.specs.Testing.{passes_there}
 use Rattle.history.proofs.Counting.{counted-empty, counted-proof}
 use Rattle.history.proofs.Living.{count-living}

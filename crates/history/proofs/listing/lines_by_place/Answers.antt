@@ -1,8 +1,8 @@
 use Rattle.std.proofs.Common.{◌≡◌, ℕ, Some, length, refl, sym, ap, ◌∙◌}
 use Rattle.std.proofs.lemmas.Option.{slice_get_read}
-use Rattle.commands.specs.declared.command.Line.{Line}
-use Rattle.commands.specs.Library.{label_of}
-use Rattle.commands.specs.Edits.{line}
+use Rattle.library.specs.declared.command.Line.{Line}
+use Rattle.library.specs.Library.{label_of}
+use Rattle.library.specs.Edits.{line}
 use Rattle.history.specs.Entries.{living, StandsIn}
 use Rattle.history.proofs.Lines.{lines-empty, lines-more}
 use Rattle.history.proofs.listing.lines_by_place.Goals as goal

@@ -1,5 +1,5 @@
 use Rattle.std.proofs.Common.{◌≡◌, map, take}
-use Rattle.commands.specs.Edits.{line}
+use Rattle.library.specs.Edits.{line}
 use Rattle.history.specs.Entries.{living}
 use Rattle.history.proofs.listing.lines_by_place.Given as goal
 

@@ -1,6 +1,6 @@
 use Rattle.std.proofs.Common.{rules, ◌∙◌}
 use Rattle.std.specs.List.Sorted.{IsSorted}
-use Rattle.commands.proofs.Orders.{sorted_by}
+use Rattle.library.proofs.Orders.{sorted_by}
 use Rattle.history.specs.Entries.{living}
 use Rattle.history.specs.Listing.{line_cmp}
 use Rattle.history.proofs.Lines.{line_cmp_total, lines-in-order}

@@ -1,7 +1,7 @@
 use Rattle.std.proofs.Common.{◌<◌, length, ◌∙◌, rules}
 use Rattle.mmsyntax.specs.declared.statement.Step.TheVariants.{Cite}
 use Rattle.mmsyntax.proofs.Names.{bytes_eq-sym}
-use Rattle.commands.specs.Library.{label_of}
+use Rattle.library.specs.Library.{label_of}
 use Rattle.history.proofs.Counting.{no-citation, place-within, noted-else, noted-again, noted-new}
 use Rattle.history.proofs.Living.{has-not-at}
 use Rattle.history.proofs.listing.note_step.Goals as goal

@@ -1,6 +1,6 @@
 use Rattle.std.proofs.Common.{◌≡◌, Some, length, rules, subst}
 use Rattle.mmsyntax.proofs.Names.{after_update}
-use Rattle.commands.specs.Library.{label_of}
+use Rattle.library.specs.Library.{label_of}
 use Rattle.history.specs.Places.{Puts}
 use Rattle.history.proofs.Indexes.{index-pushed}
 use Rattle.history.proofs.Undoing.{only-pushed}

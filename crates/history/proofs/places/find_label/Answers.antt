@@ -2,8 +2,8 @@ use Rattle.std.proofs.Common.{◌≡◌, true, false, None, Some, sym, ap, ◌�
 use Rattle.std.specs.List.{slice_get}
 use Rattle.std.specs.Str.{bytes_eq}
 use Rattle.mmsyntax.proofs.Names.{same_bytes, bytes_eq-sym}
-use Rattle.commands.specs.declared.library.Ranked.{Ranked}
-use Rattle.commands.specs.Library.{label_of}
+use Rattle.library.specs.declared.library.Ranked.{Ranked}
+use Rattle.library.specs.Library.{label_of}
 use Rattle.history.specs.Entries.{StandsIn}
 use Rattle.history.specs.Places.{place_in}
 use Rattle.history.proofs.Living.{absent}

@@ -1,6 +1,6 @@
 use Rattle.std.proofs.Common.{◌≡◌, false, None, rules, subst, sym}
 use Rattle.mmsyntax.proofs.Names.{after_update}
-use Rattle.commands.specs.Edits.{has}
+use Rattle.library.specs.Edits.{has}
 use Rattle.history.specs.Entries.{living}
 use Rattle.history.specs.Places.{FoundAt}
 use Rattle.history.proofs.Indexes.{index-forgot, removed_fewer, removed_gone, found_some}

@@ -2,11 +2,12 @@ use Rattle.std.proofs.Common.{◌≡◌, ◌+◌, ◌*◌, [], ◌∷◌, ◌++�
 use Rattle.std.specs.List.{slice_get}
 use Rattle.std.proofs.lemmas.List.{take_all, map-append}
 use Rattle.std.proofs.lemmas.Option.{slice_get_read}
-use Rattle.commands.specs.declared.library.Ranked.{Ranked}
-use Rattle.commands.specs.Library.{ranked_from}
+use Rattle.library.specs.declared.library.Ranked.{Ranked}
+use Rattle.library.specs.Library.{ranked_from}
 use Rattle.history.specs.Entries.{standing}
 use Rattle.history.proofs.Changing.{living-standing}
-use Rattle.history.proofs.Openings.{length-ranked_from, ranked_from-at, ranked_from-next, front_free}
+use Rattle.library.proofs.Opening.{length-ranked_from}
+use Rattle.history.proofs.Openings.{ranked_from-at, ranked_from-next, front_free}
 use Rattle.history.proofs.places.open_entries.Goals as goal
 
 pub add_entry-requires-clause-free : goal.add_entry-requires-clause-free

@@ -1,5 +1,5 @@
 use Rattle.std.proofs.Common.{◌≡◌, [], take}
-use Rattle.commands.specs.Library.{ranked_from}
+use Rattle.library.specs.Library.{ranked_from}
 use Rattle.history.specs.Entries.{standing}
 use Rattle.history.specs.Places.{IsIndex, HasOnly}
 use Rattle.history.proofs.places.open_entries.Given as goal

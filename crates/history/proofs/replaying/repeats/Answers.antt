@@ -1,4 +1,4 @@
-use Rattle.history.proofs.Legal.{repeated_where_same}
+use Rattle.history.proofs.Differing.{repeated_where_same}
 use Rattle.history.proofs.replaying.repeats.Goals as goal
 
 pub returns-in-Ok-clause-same : goal.returns-in-Ok-clause-same

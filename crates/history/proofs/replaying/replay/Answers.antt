@@ -1,10 +1,11 @@
 use Rattle.std.proofs.Common.{◌≡◌, ◌∙◌, ap, sym, subst, map, take, refl, rules}
 use Rattle.std.proofs.lemmas.Option.{slice_get_read}
 use Rattle.std.proofs.lemmas.List.{take_all, length-map}
-use Rattle.commands.specs.Library.{opening, ShowsInOrder}
-use Rattle.history.specs.Histories.{told, after_all, after_entry, IsLegal}
+use Rattle.library.specs.Library.{opening, ShowsInOrder}
+use Rattle.library.specs.Histories.{told, after_all, after_entry, IsLegal}
 use Rattle.history.specs.Replays.{slotted}
-use Rattle.history.proofs.Legal.{after-more, goes_on, first_differing, told_at}
+use Rattle.library.proofs.Legal.{after-more, goes_on, told_at}
+use Rattle.history.proofs.Differing.{first_differing}
 use Rattle.history.proofs.replaying.replay.Goals as goal
 
 pub repeats-requires : goal.repeats-requires

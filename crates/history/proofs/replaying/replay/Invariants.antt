@@ -1,7 +1,7 @@
 -- The entries so far are legal, and the editor holds the library after them.
 use Rattle.std.proofs.Common.{◌≡◌, ◌≤◌, map, length, take}
-use Rattle.commands.specs.Library.{opening}
-use Rattle.history.specs.Histories.{told, after, IsLegal}
+use Rattle.library.specs.Library.{opening}
+use Rattle.library.specs.Histories.{told, after, IsLegal}
 use Rattle.history.specs.Replays.{slotted}
 use Rattle.history.proofs.replaying.replay.Given as goal
 

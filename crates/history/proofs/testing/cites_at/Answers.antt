@@ -1,5 +1,5 @@
 use Rattle.std.proofs.Common.{sym, ◌∙◌}
-use Rattle.commands.specs.Edits.{cites}
+use Rattle.library.specs.Edits.{cites}
 use Rattle.history.proofs.Members.{passes-standing, passes-absent}
 use Rattle.history.proofs.testing.cites_at.Goals as goal
 

@@ -1,7 +1,7 @@
 use Rattle.std.proofs.Common.{sym, ◌∙◌}
 use Rattle.std.specs.Prelude.{nat_le}
 use Rattle.std.proofs.lemmas.Bool.{le-leb, lt-leb}
-use Rattle.commands.specs.Edits.{cites}
+use Rattle.library.specs.Edits.{cites}
 use Rattle.history.specs.Testing.{cites_from}
 use Rattle.history.proofs.Members.{passes-standing, passes-absent, and-true, and-false}
 use Rattle.history.proofs.testing.cites_at_below.Goals as goal

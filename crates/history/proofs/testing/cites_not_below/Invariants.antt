@@ -1,6 +1,6 @@
 use Rattle.std.proofs.Common.{◌≡◌, false, take}
 use Rattle.std.specs.List.{list_any}
-use Rattle.commands.specs.Edits.{cites_not_below}
+use Rattle.library.specs.Edits.{cites_not_below}
 use Rattle.history.specs.Entries.{living}
 use Rattle.history.proofs.testing.cites_not_below.Given as goal
 

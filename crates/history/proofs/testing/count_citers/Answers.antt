@@ -1,6 +1,6 @@
 use Rattle.std.proofs.Common.{rules, ◌∙◌, ◌≡◌}
 use Rattle.std.specs.List.{count_by}
-use Rattle.commands.specs.Edits.{cites}
+use Rattle.library.specs.Edits.{cites}
 use Rattle.history.specs.Testing.{passes_at}
 use Rattle.history.proofs.Members.{count-members}
 use Rattle.history.proofs.testing.count_citers.Goals as goal

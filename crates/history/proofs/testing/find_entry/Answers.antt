@@ -1,5 +1,5 @@
 use Rattle.std.proofs.Common.{◌≡◌, None, Some, sym, ◌∙◌}
-use Rattle.commands.proofs.Places.{find_nowhere}
+use Rattle.library.proofs.Places.{find_nowhere}
 use Rattle.history.specs.Entries.{living}
 use Rattle.history.proofs.Living.{found-at, stands-read}
 use Rattle.history.proofs.Reading.{item-past, item-read}

@@ -1,7 +1,7 @@
 use Rattle.std.proofs.Common.{◌∙◌}
 use Rattle.std.specs.Prelude.{nat_le}
 use Rattle.mmsyntax.proofs.Distinct.{and_true}
-use Rattle.commands.specs.Edits.{cites}
+use Rattle.library.specs.Edits.{cites}
 use Rattle.history.specs.Testing.{cites_from}
 use Rattle.history.proofs.Members.{any-members}
 use Rattle.history.proofs.testing.has_citer_below.Goals as goal

@@ -1,10 +1,11 @@
 use Rattle.std.proofs.Common.{◌∙◌, map, sym, ap, subst}
 use Rattle.std.specs.Prelude.{All}
-use Rattle.commands.specs.Library.{opening, ShowsInOrder}
+use Rattle.library.specs.Library.{opening, ShowsInOrder}
 use Rattle.export.proofs.Accepted.{exported_accepted}
-use Rattle.history.specs.Histories.{told, after_all, IsLegal}
-use Rattle.histories.specs.Layout.{EntryFits}
-use Rattle.jobs.specs.Outcomes.{setting_of, standing}
+use Rattle.library.specs.Histories.{told, after_all, IsLegal}
+use Rattle.historytext.specs.Layout.{EntryFits}
+use Rattle.jobs.specs.Outcomes.{setting_of, standing, OutcomesAgree}
+use Rattle.jobs.proofs.Agreeing.{edited_agrees}
 use Rattle.jobs.proofs.Kept.{edited_kept}
 use Rattle.jobs.proofs.edits.edit_all.Goals as goal
 
@@ -15,6 +16,16 @@ returns-clause-legal c =
     (standing c.run_all.new.editor c.run_all.new.history.items) c.args.scripts.now c.in_ok-editor.ensures
     c.new-history.ensures.items c.assertion_count-count.ensures.verifies c.requires.fit c.in_ok-outcomes.ensures.after in
     subst (λ es. IsLegal (setting_of c.args.db.now) (opening c.args.db.now) (map told es)) (sym c.from_vec.ensures) kept.legal
+
+pub returns-clause-agree : goal.returns-clause-agree
+returns-clause-agree c =
+    let agree =
+    edited_agrees c.args.db.now c.in_ok-editor.editor c.new-history.result.items
+    (standing c.run_all.new.editor c.run_all.new.history.items) c.args.scripts.now c.in_ok-outcomes.outcomes c.in_ok-editor.ensures
+    c.new-history.ensures.items c.assertion_count-count.ensures.verifies c.requires.fit c.in_ok-outcomes.ensures.after
+    c.in_ok-outcomes.ensures.outcomes in
+    subst (λ es. OutcomesAgree (setting_of c.args.db.now) (opening c.args.db.now) (map told es) c.args.scripts.now c.in_ok-outcomes.outcomes)
+    (sym c.from_vec.ensures) agree
 
 pub returns-clause-follows : goal.returns-clause-follows
 returns-clause-follows c =

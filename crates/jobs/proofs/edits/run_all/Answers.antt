@@ -1,6 +1,6 @@
 use Rattle.std.proofs.Common.{◌≡◌, ◌∙◌, ◌+◌, List, subst, sym, ap, arith, rules}
 use Rattle.std.specs.Prelude.{All}
-use Rattle.commands.specs.Library.{Setting}
+use Rattle.library.specs.Library.{Setting}
 use Rattle.jobs.specs.declared.outcome.Outcome.{Outcome}
 use Rattle.jobs.specs.Outcomes.{standing, script_outcomes, after_script, OutcomeFits, OutcomesFit}
 use Rattle.jobs.proofs.Turns.{Turns, begins, goes_on, ends}

@@ -1,4 +1,4 @@
-use Rattle.jobs.proofs.Fitting.{replies_fit}
+use Rattle.library.proofs.Fitting.{replies_fit}
 use Rattle.jobs.proofs.edits.submit.Goals as goal
 
 pub returns-in_ok-push-in-Ok-clause-fits : goal.returns-in_ok-push-in-Ok-clause-fits

@@ -1,6 +1,6 @@
 use Rattle.std.proofs.Common.{map, take}
 use Rattle.std.specs.Prelude.{All}
-use Rattle.commands.specs.Fitting.{CommandFits}
+use Rattle.library.specs.Fitting.{CommandFits}
 use Rattle.jobs.specs.Jobs.{AreScripts}
 use Rattle.jobs.proofs.performing.read_scripts.Given as goal
 

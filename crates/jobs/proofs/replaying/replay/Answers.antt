@@ -1,7 +1,7 @@
 use Rattle.std.proofs.Common.{◌∙◌, ◌≤◌, ◌<◌, Err, length, map, get_or, ap, sym, inl, subst, arith}
 use Rattle.std.proofs.lemmas.List.Elements.{All-map}
 use Rattle.mmsyntax.proofs.Declarable.{declarable}
-use Rattle.history.specs.Histories.{told, EntryFits as CommandsFit}
+use Rattle.library.specs.Histories.{told, EntryFits as CommandsFit}
 use Rattle.history.specs.Replays.{Replays}
 use Rattle.jobs.proofs.ReplayFaults.{commands_fit, one_difference}
 use Rattle.jobs.proofs.replaying.replay.Goals as goal

@@ -1,5 +1,5 @@
 -- What is left to show of `advance`.
-use Rattle.std.proofs.Common.{◌≡◌, sym, subst, ◌∙◌}
+use Rattle.std.proofs.Common.{sym, subst, ◌∙◌}
 use Rattle.std.proofs.lemmas.Result.{err_from_is_err_and}
 use Rattle.mmsyntax.specs.Faults.{database_language}
 use Rattle.mmtext.specs.Views.{seen, Fails}

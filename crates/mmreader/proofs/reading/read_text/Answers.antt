@@ -1,5 +1,5 @@
 -- What is left to show of `read_text`.
-use Rattle.std.proofs.Common.{sym, ap, ◌∙◌}
+use Rattle.std.proofs.Common.{sym, ◌∙◌}
 use Rattle.mmsyntax.specs.Faults.{database_language}
 use Rattle.mmtext.proofs.Turns.{same_reading, faulty_bytes, clean_bytes}
 use Rattle.mmreader.proofs.reading.read_text.Goals as goal

@@ -1,5 +1,5 @@
 -- What is left to show of `put_hypotheses`.
-use Rattle.std.proofs.Common.{◌≡◌, ◌++◌, ◌+◌, refl, ap, ◌∙◌, map}
+use Rattle.std.proofs.Common.{◌++◌, ◌+◌, refl, ap, ◌∙◌, map}
 use Rattle.mmsyntax.specs.Grammar.{hypothesis, piece_spelling}
 use Rattle.mmsyntax.specs.Layout.{hypothesis_label, symbol_word, indented}
 use Rattle.mmwriter.proofs.Pieces.{one_more}

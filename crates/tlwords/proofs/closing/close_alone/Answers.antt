@@ -13,7 +13,7 @@ returns-clause-words g c =
     let r = c.requires.words.0 in
     let q = c.requires.keyed in
     let n = c.close-table.result.words.ok.0 in
-    closes g.L.Law.terms _ _ _ f.0 f.1 c.args.cells c.gather.result (ap length f.2 ∙ omega arith)
+    closes g.L.Law.terms _ _ _ _ f.0 f.1 c.args.cells c.gather.result (ap length f.2 ∙ omega arith)
     (ap (λ (l : List ℕ). get_elem? l 1) f.2 ∙ e.clock.0) (ap (λ (l : List ℕ). get_elem? l (tail_at c.args.cells)) f.2 ∙ e.clock.1)
     (subst (λ (l : List ℕ). AreCellsOf l c.gather.result.cells.items) (sym f.2) e.cells.0) e.cells.1
     (subst (λ (l : List ℕ). IsStoreOf l c.args.cells c.gather.result.store.items) (sym f.2) e.store.0) (e.store.1 ∙ sym q)

@@ -1,6 +1,7 @@
 use Rattle.std.proofs.Common.{arith, refl, sym}
 use Rattle.tlwords.proofs.Settles.{some_writes, failed_ends, committed_from, conflicted_from}
-use Rattle.tlwords.proofs.Finishes.{known_setting, unwritten_lawful, nothing_kept, answers, answered_fits, taken_run, taken_lawful}
+use Rattle.tlwords.proofs.Finishes.{unwritten_lawful, nothing_kept, answers, answered_fits, taken_run, taken_lawful}
+use Rattle.tlwords.proofs.RunSteps.{known_setting}
 use Rattle.tlwords.proofs.commits.finish.Goals as goal
 
 pub recall-requires-clause-setting : goal.recall-requires-clause-setting
@@ -58,5 +59,5 @@ pub returns-in-Err-settle-clause-ended : goal.returns-in-Err-settle-clause-ended
 returns-in-Err-settle-clause-ended g c =
     let s = c.in-Some.ensures.some in (
       some_writes c.args.log.now.slots.items _ _ s.0.1 (s.2 refl),
-      conflicted_from g.L.Law.terms c.args.log.now.slots.items _ _ _ c.in_default-take_all.ensures.ok c.args.note.now _ _ c.in-Err-settle.ensures.err.0,
+      conflicted_from g.L.Law.terms c.args.log.now.slots.items _ _ _ c.in_default-take_all.ensures.ok c.args.note.now _ _ _ c.in-Err-settle.ensures.err.0,
     )

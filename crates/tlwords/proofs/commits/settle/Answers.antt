@@ -1,6 +1,7 @@
 use Rattle.std.proofs.Common.{arith, sym, ap, ◌∙◌, subst}
 use Rattle.tlcore.specs.Seats.{reads_of, writes_of}
-use Rattle.tlwords.specs.Terms.{Pairs, Permits}
+use Rattle.ranges.specs.Pairs.{Pairs}
+use Rattle.tlwords.specs.Terms.{Permits}
 use Rattle.tlwords.proofs.Held.{held_writes}
 use Rattle.tlwords.proofs.Settles.{void_releases, void_ends, void_drawn, done_releases, done_ends}
 use Rattle.tlwords.proofs.commits.settle.Goals as goal
@@ -26,7 +27,7 @@ release_all-requires-clause-run g c =
 pub returns-in-Err-clause-err : goal.returns-in-Err-clause-err
 returns-in-Err-clause-err g c = (
   void_ends g.L.Law.terms c.args.log.now.slots.items _ c.args.note.now _ _ c.draw-index.result c.draw-index.ensures.told c.requires.kept c.requires.run.2 c.requires.writes
-      c.in-Err.conflict _ c.in-Err.ensures.err _ c.release_all.ensures.releases,
+      c.in-Err.conflict _ c.in-Err.ensures.err _ c.release_all.ensures.releases _ (omega arith),
   void_drawn g.L.Law.terms c.args.log.now.slots.items _ c.args.note.now _ _ c.draw-index.result c.draw-index.ensures.told c.requires.kept c.requires.run.2 c.requires.writes
       c.in-Err.conflict _ c.in-Err.ensures.err _ c.release_all.ensures.releases,
 )

@@ -1,6 +1,7 @@
 use Rattle.std.proofs.Common.{arith, refl, sym, subst, ◌∙◌, length, List, []}
 use Rattle.tlcore.specs.Seats.{Seat}
-use Rattle.tlcore.proofs.Words.{SeatHeld, at_reading, at_taking}
+use Rattle.tlcore.specs.declared.seats.Held.{Held}
+use Rattle.tlcore.specs.declared.seats.Place.TheVariants.{Reading, Taking}
 use Rattle.tlwords.specs.Committing.{holding, Goes}
 use Rattle.tlwords.proofs.Held.{held_on}
 use Rattle.tlwords.proofs.Turns.{unkept_of, read_found, goes_start, goes_setting, goes_base, goes_read, seat_trans, take_place, take_goes, take_fails}
@@ -10,7 +11,7 @@ pub loop-next-init : goal.loop-next-init
 loop-next-init g c = (
   (refl, refl),
   omega arith,
-  goes_start g.L.Law.terms c.args.seat.now.me (holding c.args.seat.now.me.0.seat at_taking at_reading [])
+  goes_start g.L.Law.terms c.args.seat.now.me (holding c.args.seat.now.me.0.seat Taking Reading [])
       (λ j. let t : Seat = record c.args.seat.now.me.0.seat { place = sym c.requires.run.0 j; held = sym c.requires.run.1 j } in t),
 )
 
@@ -69,6 +70,6 @@ returns-clause-seat g c = c.loop-next.invariant.0
 
 pub returns-clause-ok : goal.returns-clause-ok
 returns-clause-ok g c =
-    subst (λ (ks : List SeatHeld). Goes g.L.Law.terms c.args.seat.now.me (holding c.args.seat.now.me.0.seat at_taking at_reading ks) c.loop-next.seat.me)
+    subst (λ (ks : List Held). Goes g.L.Law.terms c.args.seat.now.me (holding c.args.seat.now.me.0.seat Taking Reading ks) c.loop-next.seat.me)
     (sym (held_on c.args.log.now.slots.items 0 0 c.loop-next.next (length c.args.log.now.slots.items) c.loop-next.invariant.1 (unkept_of c.args.seat.now.me.0.seat c.args.log.now.slots.items _ c.requires.kept _ _ c.in_default.ensures.none)))
     c.loop-next.invariant.2

@@ -1,5 +1,5 @@
 use Rattle.std.proofs.Common.{arith, ◌∙◌, ap, ◌≡◌, ◌-◌}
-use Rattle.tlwords.specs.Ranges.{ranges_named}
+use Rattle.ranges.specs.Ranges.{ranges_named}
 use Rattle.tlwords.specs.Runs.{IsDealt}
 use Rattle.tlwords.proofs.OpenSteps.{deals}
 use Rattle.tlwords.proofs.Openings.{dealt_all, new_of, dealer_more, new_knows}
@@ -8,12 +8,12 @@ use Rattle.tlwords.proofs.opening.deal_all.Goals as goal
 pub split_seat-requires : goal.split_seat-requires
 split_seat-requires g c =
     let i = c.loop.invariant in let e : c.loop.seat.me.0.rights ≡ 64 - c.loop.counter = ap (λ v. v.rights) i.1 in let l = c.loop-test.true in let m = c.requires.first.0 in
-    (i.0, (let s = c.args.words.now.sized in omega arith), deals g.L.Law.terms _ _ _ _ _ (ap (λ v. v.drawn) i.1) (omega arith) (ap (λ v. v.full) i.1))
+    (i.0, (let s = c.args.words.now.sized in omega arith), deals g.L.Law.terms _ _ _ _ _ _ (ap (λ v. v.drawn) i.1) (omega arith) (ap (λ v. v.full) i.1))
 
 pub loop-preserved : goal.loop-preserved
 loop-preserved g c =
     let i = c.loop.invariant in let e = c.split_seat.ensures in
-    let setting = c.args.setting.now in let base = c.args.values.now in let room = c.args.words.now.room in let ranges = ranges_named c.args.store.now c.args.values.now in
+    let setting = c.args.setting.now in let base = c.args.values.now in let room = c.args.words.now.room in let ranges = ranges_named (g.L.Law.terms.ranged setting) c.args.store.now c.args.values.now in
     let new = new_of setting base room ranges c.loop.seat.me c.split_seat.result.me c.loop.counter i.1 e.4 in
     let m = dealt_all (λ p. IsDealt setting base room ranges c.args.words.now.table.shared.table_id p.seat) (λ p. p.seat.me.0.name)
     c.loop.passes.items c.reserve.new.self.items c.push_reserved.new.self.items _ c.loop.counter c.in_ok-reserve.ensures.items c.push_reserved.ensures.items i.2 i.3 i.4
@@ -23,5 +23,5 @@ loop-preserved g c =
 pub invariant_of-pass-clause-knows : goal.invariant_of-pass-clause-knows
 invariant_of-pass-clause-knows g c =
     let i = c.loop.invariant in
-    let setting = c.args.setting.now in let base = c.args.values.now in let room = c.args.words.now.room in let ranges = ranges_named c.args.store.now c.args.values.now in
+    let setting = c.args.setting.now in let base = c.args.values.now in let room = c.args.words.now.room in let ranges = ranges_named (g.L.Law.terms.ranged setting) c.args.store.now c.args.values.now in
     new_knows setting base room ranges c.split_seat.result.me (new_of setting base room ranges c.loop.seat.me c.split_seat.result.me c.loop.counter i.1 c.split_seat.ensures.4).0 c.requires.store

@@ -1,5 +1,7 @@
-use Rattle.std.proofs.Common.{arith, ap, ◌∙◌, length, ◌≡◌, ◌+◌, ◌*◌}
-use Rattle.tlwords.proofs.Openings.{opens_so, words_length, lie_named}
+use Rattle.std.proofs.Common.{arith, ap, sym, ◌∙◌, length, ◌≡◌, ◌+◌, ◌*◌}
+use Rattle.ranges.proofs.Named.{named_of_one}
+use Rattle.ranges.specs.Ranges.{ranges_named}
+use Rattle.tlwords.proofs.Openings.{opens_so, words_length, new_sound}
 use Rattle.tlwords.proofs.opening.open.Goals as goal
 
 pub of_words-made-requires : goal.of_words-made-requires
@@ -24,4 +26,16 @@ invariant_of-words g c =
     }
 
 pub deal_all-requires-clause-store : goal.deal_all-requires-clause-store
-deal_all-requires-clause-store g c = let l = c.if-store-room.false in lie_named c.args.store.now c.args.values.now c.args.room (omega arith)
+deal_all-requires-clause-store g c = let l = c.if-store-room.false in named_of_one (g.L.Law.terms.ranged c.args.setting.now) c.args.store.now c.args.values.now c.args.room (omega arith)
+
+pub returns-clause-sound : goal.returns-clause-sound
+returns-clause-sound g c = λ k d l.
+    let small = c.if-store-room.false in
+    let p = c.in_ok-passes.ensures.passes k d l in
+    new_sound c.args.setting.now c.args.values.now c.args.room (ranges_named (g.L.Law.terms.ranged c.args.setting.now) c.args.store.now c.args.values.now) g.L.Law.terms _ p.new c.requires.opens
+    (named_of_one (g.L.Law.terms.ranged c.args.setting.now) c.args.store.now c.args.values.now c.args.room (omega arith))
+
+pub returns-clause-opening : goal.returns-clause-opening
+returns-clause-opening g c = λ k d l.
+    let p = c.in_ok-passes.ensures.passes k d l in
+    (p.at, ap (λ v. length v.base) (sym p.new), ap (λ v. v.room) (sym p.new))

@@ -16,10 +16,10 @@ invariant_of-result g c =
     let f = c.into_parts-seat.ensures.fits in
     let t = c.begin-place.ensures.told in record {
       table_is = (
-        c.begin-place.ensures.seat.0 ∙ (ap (λ s. s.table_id) p.0 ∙ c.requires.table.0),
-        c.requires.table.1 ∙ (ap (λ s. length s.me.0.base) (sym p.0) ∙ sym (ap (λ v. length v.base) t.is)),
+        c.begin-place.ensures.seat.0 ∙ (ap (λ s. s.table_id) p.0 ∙ c.requires.opening.0),
+        c.requires.opening.1 ∙ (ap (λ s. length s.me.0.base) (sym p.0) ∙ sym (ap (λ v. length v.base) t.is)),
       );
-      room_is = c.requires.room ∙ (ap (λ s. s.me.0.room) (sym p.0) ∙ sym (ap (λ v. v.room) t.is));
+      room_is = c.requires.opening.2 ∙ (ap (λ s. s.me.0.room) (sym p.0) ∙ sym (ap (λ v. v.room) t.is));
       fits = begun_fits g.L.Law.terms _ _ _ _ t f.0;
       kept =
           let u = c.begin-place.new.seat.me.0.seat in

@@ -3,7 +3,7 @@ use Rattle.std.proofs.Common.{ℕ, sym, subst}
 use Rattle.std.proofs.lemmas.Result.{err_from_is_err_and}
 use Rattle.mmtext.specs.Views.{seen, Fails, Gives}
 use Rattle.commands.specs.declared.script.place.CommandPlace.{CommandPlace}
-use Rattle.commands.specs.declared.command.Command.TheVariants as command
+use Rattle.library.specs.declared.command.Command.TheVariants as command
 use Rattle.commands.specs.ScriptFaults.{in_unit, inside, whole_command, unit_start, in_command}
 use Rattle.commands.specs.ScriptViews.{seen_command_place, seen_led, decided}
 use Rattle.commands.proofs.ScriptRows.{rank_fails}

@@ -2,9 +2,9 @@ use Rattle.std.proofs.Common.{◌≡◌, [], ◌∷◌, ◌++◌, None, Some, Ok
 use Rattle.std.specs.List.{slice_get, list_any}
 use Rattle.mmsyntax.specs.declared.statement.Assertion.{Assertion}
 use Rattle.mmstatement.specs.Frames.{frame}
-use Rattle.commands.specs.declared.library.Ranked.{Ranked}
-use Rattle.commands.specs.Library.{Setting, label_of}
-use Rattle.commands.specs.Edits.{has, cites_unknown, done, add_tests}
+use Rattle.library.specs.declared.library.Ranked.{Ranked}
+use Rattle.library.specs.Library.{Setting, label_of}
+use Rattle.library.specs.Edits.{has, cites_unknown, done, add_tests}
 use Rattle.history.specs.Entries.{Entries, living, StandsIn}
 use Rattle.history.specs.Listing.{some_cites}
 use Rattle.history.specs.Drafts.{Drafted, now_in}

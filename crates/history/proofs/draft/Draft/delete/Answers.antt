@@ -1,8 +1,8 @@
 use Rattle.std.proofs.Common.{◌≡◌, ◌∷◌, [], Ok, Err, refl, sym, ap, ◌∙◌, arith}
 use Rattle.std.specs.Prelude.{nat_le}
 use Rattle.std.proofs.lemmas.Bool.{le-leb, lt-leb}
-use Rattle.commands.specs.declared.reason.Reason.TheVariants as reason
-use Rattle.commands.specs.Edits.{done, cited, citers}
+use Rattle.library.specs.declared.reason.Reason.TheVariants as reason
+use Rattle.library.specs.Edits.{done, cited, citers}
 use Rattle.history.specs.Entries.{living}
 use Rattle.history.specs.Drafts.{Drafted, now_in}
 use Rattle.history.proofs.Commands.{tested_some, tested_none, so, not_so, first-some, first-none, unknown_label, known_label, HasLabel, has_label, free_in}

@@ -4,10 +4,10 @@ use Rattle.std.specs.List.{list_any}
 use Rattle.std.proofs.lemmas.Bool.{eq-eqb, ne_eqb}
 use Rattle.std.proofs.lemmas.Option.{slice_get_read}
 use Rattle.mmsyntax.specs.declared.statement.Step.{Step}
-use Rattle.commands.specs.declared.library.Ranked.{Ranked}
-use Rattle.commands.specs.declared.reason.Reason.TheVariants as reason
-use Rattle.commands.specs.Library.{label_of}
-use Rattle.commands.specs.Edits.{done, cites, cited_above, cites_not_below, citer_below, with_rank, move_tests, unranked}
+use Rattle.library.specs.declared.library.Ranked.{Ranked}
+use Rattle.library.specs.declared.reason.Reason.TheVariants as reason
+use Rattle.library.specs.Library.{label_of}
+use Rattle.library.specs.Edits.{done, cites, cited_above, cites_not_below, citer_below, with_rank, move_tests, unranked}
 use Rattle.history.specs.Entries.{Entries, living, StandsIn}
 use Rattle.history.specs.Places.{StandsAt}
 use Rattle.history.specs.Citers.{Covers, HasAllCiters}

@@ -1,11 +1,12 @@
 use Rattle.std.proofs.Common.{◌≡◌, length, map, sym, ap, subst, ◌∙◌}
 use Rattle.mmstatement.specs.Frames.{frame}
-use Rattle.commands.specs.Library.{ranked_from}
+use Rattle.library.specs.Library.{ranked_from}
 use Rattle.history.specs.Entries.{living, standing, AreFramed}
 use Rattle.history.specs.Citers.{Covers}
 use Rattle.history.specs.Drafts.{undone}
 use Rattle.history.proofs.Changing.{living-standing}
-use Rattle.history.proofs.Openings.{framed-opening, length-ranked_from}
+use Rattle.library.proofs.Opening.{length-ranked_from}
+use Rattle.history.proofs.Openings.{framed-opening}
 use Rattle.history.proofs.Listed.{citers_settled}
 use Rattle.history.proofs.Undoing.{draft_settled, counted_settled}
 use Rattle.history.proofs.draft.Draft.open.Goals as goal

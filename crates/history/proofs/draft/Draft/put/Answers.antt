@@ -5,9 +5,9 @@ use Rattle.std.proofs.lemmas.Option.{slice_get_within, slice_get_read}
 use Rattle.mmsyntax.proofs.Names.{after_update}
 use Rattle.mmsyntax.specs.declared.statement.Frame.{Frame}
 use Rattle.mmstatement.specs.Frames.{frame}
-use Rattle.commands.specs.declared.library.Ranked.{Ranked}
-use Rattle.commands.specs.Library.{label_of}
-use Rattle.commands.specs.Edits.{has}
+use Rattle.library.specs.declared.library.Ranked.{Ranked}
+use Rattle.library.specs.Library.{label_of}
+use Rattle.library.specs.Edits.{has}
 use Rattle.history.specs.declared.notes.Note.{Note}
 use Rattle.history.specs.Entries.{Entries, living}
 use Rattle.history.specs.Places.{Puts}

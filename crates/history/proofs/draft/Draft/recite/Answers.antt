@@ -1,7 +1,7 @@
 use Rattle.std.proofs.Common.{◌≡◌, Some, false, set, refl, sym, ap, subst, ◌∙◌, inl, inr}
-use Rattle.commands.specs.declared.library.Ranked.{Ranked}
-use Rattle.commands.specs.Library.{label_of}
-use Rattle.commands.specs.Edits.{cites}
+use Rattle.library.specs.declared.library.Ranked.{Ranked}
+use Rattle.library.specs.Library.{label_of}
+use Rattle.library.specs.Edits.{cites}
 use Rattle.history.specs.Entries.{StandsIn}
 use Rattle.history.specs.Citers.{Covers, IsCiter}
 use Rattle.history.specs.Places.{IsIndex}

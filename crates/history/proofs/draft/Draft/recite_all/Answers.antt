@@ -2,7 +2,7 @@ use Rattle.std.proofs.Common.{◌≡◌, ℕ, suc, ◌+◌, ◌<◌, List, ◌�
 use Rattle.std.proofs.Math.ListN.{drop_of_length-le}
 use Rattle.std.proofs.lemmas.List.Elements.{Contains-get_or}
 use Rattle.std.proofs.lemmas.Bool.{false_from_ne_true}
-use Rattle.commands.specs.Edits.{cites}
+use Rattle.library.specs.Edits.{cites}
 use Rattle.history.specs.Entries.{Entries}
 use Rattle.history.specs.Citers.{IsCiter}
 use Rattle.history.specs.Places.{StandsAt}

@@ -3,8 +3,8 @@ use Rattle.std.specs.Prelude.{◌==◌}
 use mathlib.Core.Bool.{not}
 use Rattle.std.proofs.lemmas.Bool.{ne_eqb}
 use Rattle.mmsyntax.specs.Assertions.{is_lawful_label}
-use Rattle.commands.specs.declared.reason.Reason.TheVariants as reason
-use Rattle.commands.specs.Edits.{has, unranked, unlawful, taken}
+use Rattle.library.specs.declared.reason.Reason.TheVariants as reason
+use Rattle.library.specs.Edits.{has, unranked, unlawful, taken}
 use Rattle.history.specs.Drafts.{Drafted, now_in}
 use Rattle.history.proofs.Commands.{so, not_so, first-some, first-none, known}
 use Rattle.history.proofs.draft.Draft.refuse_add.Goals as goal

@@ -4,10 +4,10 @@ use Rattle.std.specs.Option.{option_map}
 use Rattle.mmsyntax.specs.declared.statement.Step.{Step}
 use Rattle.mmsyntax.specs.declared.statement.Assertion.{Assertion}
 use Rattle.proofcheck.specs.declared.fault.ProofFault.{ProofFault}
-use Rattle.commands.specs.declared.reason.Reason.{Reason}
-use Rattle.commands.specs.declared.reason.Reason.TheVariants as reason
-use Rattle.commands.specs.Library.{Setting}
-use Rattle.commands.specs.Edits.{cites_unknown, cites_not_below, unproved, uncited, cited_above}
+use Rattle.library.specs.declared.reason.Reason.{Reason}
+use Rattle.library.specs.declared.reason.Reason.TheVariants as reason
+use Rattle.library.specs.Library.{Setting}
+use Rattle.library.specs.Edits.{cites_unknown, cites_not_below, unproved, uncited, cited_above}
 use Rattle.history.specs.Entries.{Entries, living}
 use Rattle.history.specs.Drafts.{Drafted}
 use Rattle.history.specs.Refusals.{first_reason, proof_tests}

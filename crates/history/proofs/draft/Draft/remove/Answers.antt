@@ -1,6 +1,6 @@
 use Rattle.std.proofs.Common.{◌≡◌, ℕ, ◌-◌, None, arith, ◌∷◌, ◌++◌, [], Some, length, set, refl, sym, ap, subst, ◌∙◌}
 use Rattle.std.proofs.lemmas.Option.{slice_get_within, slice_get_read}
-use Rattle.commands.specs.declared.library.Ranked.{Ranked}
+use Rattle.library.specs.declared.library.Ranked.{Ranked}
 use Rattle.history.specs.declared.notes.Note.{Note}
 use Rattle.history.specs.Entries.{Entries, living, StandsIn}
 use Rattle.history.specs.Citers.{Covers}

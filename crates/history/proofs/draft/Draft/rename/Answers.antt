@@ -4,9 +4,9 @@ use Rattle.std.proofs.lemmas.Option.{slice_get_within}
 use mathlib.Core.Bool.{not}
 use Rattle.mmsyntax.specs.Assertions.{is_lawful_label}
 use Rattle.mmstatement.specs.Frames.{frame}
-use Rattle.commands.specs.declared.library.Ranked.{Ranked}
-use Rattle.commands.specs.declared.reason.Reason.TheVariants as reason
-use Rattle.commands.specs.Edits.{has, done, unknown, unlawful, taken, rename_tests}
+use Rattle.library.specs.declared.library.Ranked.{Ranked}
+use Rattle.library.specs.declared.reason.Reason.TheVariants as reason
+use Rattle.library.specs.Edits.{has, done, unknown, unlawful, taken, rename_tests}
 use Rattle.history.specs.Entries.{living, StandsIn}
 use Rattle.history.specs.Citers.{Covers, HasAllCiters, IsCiter}
 use Rattle.history.specs.Drafts.{Drafted, now_in, with_label, citing, changed_all}

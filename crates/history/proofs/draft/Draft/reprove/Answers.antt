@@ -1,8 +1,8 @@
 use Rattle.std.proofs.Common.{◌≡◌, Some, Ok, true, set, refl, sym, ap, subst, ◌∙◌}
-use Rattle.commands.specs.declared.library.Ranked.{Ranked}
-use Rattle.commands.specs.declared.reason.Reason.TheVariants as reason
-use Rattle.commands.specs.Edits.{is_axiom, where_so, done, with_proof, reprove_tests}
-use Rattle.commands.specs.Library.{label_of}
+use Rattle.library.specs.declared.library.Ranked.{Ranked}
+use Rattle.library.specs.declared.reason.Reason.TheVariants as reason
+use Rattle.library.specs.Edits.{is_axiom, where_so, done, with_proof, reprove_tests}
+use Rattle.library.specs.Library.{label_of}
 use Rattle.history.specs.Entries.{Entries, living, StandsIn}
 use Rattle.history.specs.Listing.{some_cites}
 use Rattle.history.specs.Drafts.{Drafted, now_in}

@@ -1,7 +1,7 @@
 use Rattle.std.proofs.Common.{◌≡◌, ℕ, List, Ok, refl, sym, ap, ◌∙◌}
-use Rattle.commands.specs.declared.library.Ranked.{Ranked}
-use Rattle.commands.specs.declared.command.Reply.TheVariants.{Shown}
-use Rattle.commands.specs.Edits.{citers}
+use Rattle.library.specs.declared.library.Ranked.{Ranked}
+use Rattle.library.specs.declared.command.Reply.TheVariants.{Shown}
+use Rattle.library.specs.Edits.{citers}
 use Rattle.history.specs.Drafts.{Drafted, now_in}
 use Rattle.history.proofs.Commands.{unknown_label, known_label, HasLabel, has_label, free_in}
 use Rattle.history.proofs.draft.Draft.show.Goals as goal

@@ -1,13 +1,13 @@
 use Rattle.std.proofs.Common.{◌≡◌, ℕ, suc, ◌+◌, ◌<◌, List, [], ◌∷◌, ◌++◌, Ok, length, get_or, drop, sym, ap, subst, ◌∙◌, rules, arith, drop-cons}
 use Rattle.std.proofs.Math.ListN.{drop_of_length-le}
 use Rattle.std.proofs.lemmas.Result.{err_from_is_err_and}
-use Rattle.commands.specs.declared.command.Command.{Command}
-use Rattle.commands.specs.declared.command.Reply.{Reply}
-use Rattle.commands.specs.Edits.{Edited}
-use Rattle.commands.specs.Fitting.{CommandFits}
-use Rattle.commands.specs.Library.{Setting, Verifies}
-use Rattle.commands.specs.Transactions.{apply_from}
-use Rattle.commands.proofs.Editing.{edit_verifies}
+use Rattle.library.specs.declared.command.Command.{Command}
+use Rattle.library.specs.declared.command.Reply.{Reply}
+use Rattle.library.specs.Edits.{Edited}
+use Rattle.library.specs.Fitting.{CommandFits}
+use Rattle.library.specs.Library.{Setting, Verifies}
+use Rattle.library.specs.Transactions.{apply_from}
+use Rattle.library.proofs.Editing.{edit_verifies}
 use Rattle.history.specs.Drafts.{now_in}
 use Rattle.history.proofs.Taking.{with_replies, taken_all, taken_one, error_ends, kept_on}
 use Rattle.history.proofs.draft.Draft.take_all.Goals as goal

@@ -1,6 +1,6 @@
 use Rattle.std.proofs.Common.{◌≡◌, ◌+◌, drop}
-use Rattle.commands.specs.Library.{Verifies}
-use Rattle.commands.specs.Transactions.{apply, apply_from}
+use Rattle.library.specs.Library.{Verifies}
+use Rattle.library.specs.Transactions.{apply, apply_from}
 use Rattle.history.specs.Drafts.{KeepsStart, now_in}
 use Rattle.history.proofs.Taking.{with_replies}
 use Rattle.history.proofs.draft.Draft.take_all.Given as goal

@@ -1,6 +1,6 @@
 use Rattle.std.proofs.Common.{sym, subst}
 use Rattle.std.specs.List.{All}
-use Rattle.commands.specs.Fitting.{CommandFits}
+use Rattle.library.specs.Fitting.{CommandFits}
 use Rattle.history.specs.Editors.{Held}
 use Rattle.history.proofs.Taking.{done_settles}
 use Rattle.history.proofs.editor.Editor.apply.Goals as goal

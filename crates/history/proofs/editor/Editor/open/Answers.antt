@@ -2,8 +2,8 @@ use Rattle.std.proofs.Common.{◌≡◌, ◌≤◌, map, length, sym, ap, subst,
 use Rattle.std.specs.Str.{bytes_eq}
 use Rattle.mmsyntax.specs.Assertions.{Distinct}
 use Rattle.history.specs.Entries.{living}
-use Rattle.commands.specs.Library.{Setting, Verifies, label_of, ranked_from, opening}
-use Rattle.commands.proofs.Opening.{opening_verifies}
+use Rattle.library.specs.Library.{Setting, Verifies, label_of, ranked_from, opening}
+use Rattle.library.proofs.Opening.{opening_verifies}
 use Rattle.history.specs.Drafts.{now_in}
 use Rattle.history.proofs.Changing.{living-standing}
 use Rattle.history.proofs.editor.Editor.open.Goals as goal

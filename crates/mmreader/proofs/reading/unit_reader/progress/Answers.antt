@@ -2,7 +2,7 @@
 use Rattle.std.proofs.Common.{[], sym, ◌∙◌}
 use Rattle.mmsyntax.specs.Tables.{Tables}
 use Rattle.mmreader.specs.Views.{known_of, seen_place}
-use Rattle.mmreader.proofs.UnitRows.{behind_first, some_first, not_behind}
+use Rattle.mmreader.proofs.UnitRows.{some_first}
 use Rattle.mmreader.proofs.reading.unit_reader.progress.Goals as goal
 
 pub unreachable-requires : goal.unreachable-requires

@@ -6,7 +6,7 @@ use Rattle.mmtext.specs.Views.{seen}
 use Rattle.mmreader.specs.Views.{seen_state}
 use Rattle.mmtext.proofs.Readings.{goes_on, ends_here}
 use Rattle.mmtext.proofs.Turns.{same_reading, stopped}
-use Rattle.mmreader.proofs.Runs.{unit_stands_step, unit_step, unit_place}
+use Rattle.mmreader.proofs.Runs.{unit_stands_step, unit_step}
 use Rattle.mmreader.proofs.reading.units.read_tokens.Goals as goal
 
 pub loop-token-preserved : goal.loop-token-preserved

@@ -14,3 +14,6 @@ invariant_of-result g c = record {
   unused = c.clear.ensures.size.0;
   room = c.clear.ensures.size.1 ∙ c.args.self.room;
 }
+
+pub returns-clause-opening : goal.returns-clause-opening
+returns-clause-opening g c = (c.args.self.table_is.0, c.args.self.table_is.1, c.args.self.room_is)

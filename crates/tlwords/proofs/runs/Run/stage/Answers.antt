@@ -17,10 +17,10 @@ invariant_of-self g c =
     let seat = ap (λ v. v.seat) is in record {
       table_is = (c.advance-start.ensures.seat.0 ∙ s.table_is.0, s.table_is.1 ∙ ap (λ v. length v.base) (sym is));
       room_is = room ∙ ap (λ v. v.room) (sym is);
-      fits = fits_on g.L.Law.terms s.seat.me c.advance-start.new.seat.me _ is _ _ _ s.fits;
+      fits = fits_on g.L.Law.terms s.seat.me c.advance-start.new.seat.me _ _ _ is _ _ _ s.fits;
       kept = subst (λ u. IsKeptOf (noted s.mode u) s.log.slots.items (take s.log.used s.log.touched.items)) (sym seat) s.kept;
       room = s.room ∙ ap (λ v. length v.base) (sym is);
-      knows = knows_on g.L.Law.terms s.seat.me c.advance-start.new.seat.me _ is _ s.fits.0 s.knows.at_rest t.sees refl;
+      knows = knows_on g.L.Law.terms s.seat.me c.advance-start.new.seat.me _ _ _ is _ s.fits.0 s.knows.at_rest t.sees refl;
     }
 
 pub invariant_of-self-2 : goal.invariant_of-self-2
@@ -35,10 +35,10 @@ invariant_of-self-2 g c =
     let seat = ap (λ v. v.seat) is in record {
       table_is = (c.fill_all.ensures.seat.0 ∙ (c.advance-start.ensures.seat.0 ∙ s.table_is.0), s.table_is.1 ∙ ap (λ v. length v.base) (sym is));
       room_is = room ∙ ap (λ v. v.room) (sym is);
-      fits = fits_on g.L.Law.terms s.seat.me c.fill_all.new.seat.me _ is _ _ _ s.fits;
+      fits = fits_on g.L.Law.terms s.seat.me c.fill_all.new.seat.me _ _ _ is _ _ _ s.fits;
       kept = subst (λ u. IsKeptOf (noted s.mode u) s.log.slots.items (take s.log.used s.log.touched.items)) (sym seat) s.kept;
       room = s.room ∙ ap (λ v. length v.base) (sym is);
-      knows = knows_on g.L.Law.terms s.seat.me c.fill_all.new.seat.me _ is _ s.fits.0 s.knows.at_rest st.sees s.knows.full;
+      knows = knows_on g.L.Law.terms s.seat.me c.fill_all.new.seat.me _ _ _ is _ s.fits.0 s.knows.at_rest st.sees s.knows.full;
     }
 
 pub returns-clause-ok : goal.returns-clause-ok

@@ -1,5 +1,0 @@
-use Rattle.commands.proofs.ExportOrder.{shown_check}
-use Rattle.commands.proofs.laws.shown_libraries_check.Goals as goal
-
-pub returns : goal.returns
-returns c = shown_check

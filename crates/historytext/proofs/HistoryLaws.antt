@@ -1,0 +1,108 @@
+-- What the reader of histories gives is what the text spells, and is within the limits.
+use Rattle.std.proofs.Common.{◌≡◌, ℕ, zero, suc, ◌≤◌, false, List, [], ◌∷◌, ◌++◌, length, Option, Some, None, Result, Ok, Err, refl, sym, ap, subst, ◌∙◌}
+use Rattle.std.specs.Prelude.{All, codes}
+use Rattle.std.specs.List.{AllByRecursion}
+use Rattle.mmtext.specs.declared.fault.TextFault.{TextFault}
+use Rattle.mmtext.specs.Text.{Token, tokens, IsClean}
+use Rattle.mmtext.specs.Words.{Word}
+use Rattle.mmtext.specs.Languages.{State, run, ended, token_reading, reading}
+use Rattle.mmtext.proofs.Readings.{reading_ok, clean_reading}
+use Rattle.mmtext.proofs.CommentLaws.{here, walks_outside, runs_all}
+use Rattle.mmsyntax.specs.Tables.{Tables}
+use Rattle.mmsyntax.specs.Layout.{IsSoundPrelude}
+use Rattle.mmsyntax.proofs.Distinct.{all_left, all_right}
+use Rattle.mmsyntax.proofs.Lines.{IsWord, clean_words}
+use Rattle.mmreader.proofs.DatabaseLaws.{ended_ok}
+use Rattle.library.specs.declared.command.Reply.{Reply}
+use Rattle.library.specs.declared.command.Reply.TheVariants.{Done, Shown, Listed}
+use Rattle.library.specs.Fitting.{ReplyFits}
+use Rattle.commands.specs.Scripts.{SpellsEach}
+use Rattle.commands.proofs.ScriptLaws.{unit_fits, each_fits, transaction_fits}
+use Rattle.library.specs.declared.history.Entry.{Entry}
+use Rattle.library.specs.declared.history.Entry.TheVariants as entry
+use Rattle.historytext.specs.Grammar.{SpellsReply, SpellsEntry, SpellsHistory}
+use Rattle.historytext.specs.Layout.{EntryFits}
+use Rattle.historytext.specs.Places.{Place, at_history, at_count, at_entry, in_entry, Progress, whole, history_language}
+use Rattle.historytext.proofs.HistoryRows.{progress}
+use Rattle.historytext.proofs.HistoryWords.{history_ordinary, history_leads}
+use Rattle.historytext.proofs.HistoryParsed.{ReadsHistory, reads_history}
+
+-- ---- what is read is spelled
+
+whole_ok : (es : List Entry) (place : Place) (history : List Entry) → whole es place ≡ Some history → (place ≡ at_entry 0) × (es ≡ history)
+whole_ok es at_history history h = absurd cc
+whole_ok es at_count history h = absurd cc
+whole_ok es (at_entry zero) history h = (refl, cc)
+whole_ok es (at_entry (suc left)) history h = absurd cc
+whole_ok es (in_entry left p) history h = absurd cc
+
+token_found : (t : Tables) (bytes : List ℕ) (history : List Entry) → IsClean bytes → token_reading (history_language t) bytes ≡ Ok history
+    → SpellsHistory t bytes history
+unfolding token_reading
+token_found t bytes history clean h =
+    let l = history_language t in
+    let f = ended_ok l (length bytes) (run l (here (progress [] at_history) false) (tokens bytes)) history h in
+    let final = f.0 in
+    let w = whole_ok final.entries final.place history f.2 in
+    let o = walks_outside l false (progress [] at_history) final (tokens bytes) f.1 in
+    let r = reads_history t final w.0 o.kept o.walks in
+    subst (λ s. SpellsHistory t bytes s) w.1
+    (record {
+      clean = clean;
+      count = r.count;
+      inner = r.inner;
+      words_are = o.words_are ∙ ap (λ ws. Some ws) r.parts;
+      counted = r.counted;
+      entries = r.spells;
+    })
+
+pub reading_found : (t : Tables) (bytes : List ℕ) (history : List Entry) → reading (history_language t) bytes ≡ Ok history
+    → SpellsHistory t bytes history
+reading_found t bytes history h = let r = reading_ok (history_language t) bytes history h in token_found t bytes history r.0 r.1
+
+-- ---- what is spelled is read
+
+token_spelled : (t : Tables) (bytes : List ℕ) (history : List Entry) → SpellsHistory t bytes history
+    → token_reading (history_language t) bytes ≡ Ok history
+unfolding token_reading
+token_spelled t bytes history s =
+    let l = history_language t in
+    let r = runs_all l false (tokens bytes) (codes "history" ∷ s.count ∷ s.inner) (history_ordinary t history s.count s.inner s.counted s.entries)
+    s.words_are in
+    ap (ended l (length bytes))
+    (r.runs (progress [] at_history) (progress history (at_entry 0)) (history_leads t history s.count s.inner r.kept s.counted s.entries r.words_are))
+
+reading_spelled : (t : Tables) (bytes : List ℕ) (history : List Entry) → length bytes ≤ 16777216 → SpellsHistory t bytes history
+    → reading (history_language t) bytes ≡ Ok history
+reading_spelled t bytes history short s = clean_reading (history_language t) bytes short s.clean ∙ token_spelled t bytes history s
+
+-- the answer of a reader that gives what reading gives, at a text that is spelled
+pub same_history : (t : Tables) (bytes : List ℕ) (history found : List Entry) → length bytes ≤ 16777216 → SpellsHistory t bytes history
+    → reading (history_language t) bytes ≡ Ok found → found ≡ history
+same_history t bytes history found short s h = let e : Ok history ≡ Ok found = sym (reading_spelled t bytes history short s) ∙ h in cc
+
+pub no_fault : (t : Tables) (bytes : List ℕ) (history : List Entry) (f : TextFault) → length bytes ≤ 16777216 → SpellsHistory t bytes history
+    → reading (history_language t) bytes ≡ Err f → ⊥
+no_fault t bytes history f short s h = let e : Ok history ≡ Err f = sym (reading_spelled t bytes history short s) ∙ h in absurd cc
+
+-- ---- what is spelled is within the limits
+
+reply_fits : (t : Tables) → IsSoundPrelude t → (r : Reply) (ws : List Word) → AllByRecursion IsWord ws → SpellsReply t r ws → ReplyFits t r
+reply_fits t sound Done ws words d = tt
+reply_fits t sound (Shown citers e) ws words d =
+    let all = subst (AllByRecursion IsWord) d.6 words in unit_fits t d.2 e.assertion sound all.1.1.1 d.5
+reply_fits t sound (Listed lines) ws words d = tt
+
+entry_fits : (t : Tables) → IsSoundPrelude t → (e : Entry) (ws : List Word) → AllByRecursion IsWord ws → SpellsEntry t e ws → EntryFits t e
+entry_fits t sound entry.Void ws words d = tt
+entry_fits t sound (entry.Done commands replies) ws words d =
+    let all = subst (AllByRecursion IsWord) d.5 words in
+    let asked = all_left IsWord d.0 d.1 all.1 in
+    let answered = all_right IsWord d.0 d.1 all.1 in
+    (transaction_fits t sound commands d.0 asked d.2, each_fits (SpellsReply t) (ReplyFits t) (reply_fits t sound) replies d.1 answered d.3)
+
+pub history_fits : (t : Tables) (bytes : List ℕ) (history : List Entry) → IsSoundPrelude t → SpellsHistory t bytes history
+    → All (EntryFits t) history
+history_fits t bytes history sound s =
+    let words = clean_words bytes (codes "history" ∷ s.count ∷ s.inner) s.clean s.words_are in
+    each_fits (SpellsEntry t) (EntryFits t) (entry_fits t sound) history s.inner words.1.1 s.entries

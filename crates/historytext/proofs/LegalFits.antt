@@ -1,0 +1,29 @@
+-- The entries of a legal history can be written.
+use Rattle.std.proofs.Common.{◌≡◌, ◌∙◌, ℕ, ◌<◌, List, Some, length, map, get_or, ap, sym, subst, arith}
+use Rattle.std.specs.Prelude.{All, slice_get}
+use Rattle.std.proofs.lemmas.List.{length-map, get_or-map}
+use Rattle.std.proofs.lemmas.Option.{slice_get-get_or}
+use Rattle.library.specs.declared.library.Ranked.{Ranked}
+use Rattle.library.specs.declared.history.Entry.{Entry as CodeEntry}
+use Rattle.library.specs.declared.history.Entry.TheVariants.{Void, Done}
+use Rattle.library.specs.Library.{Setting, Verifies}
+use Rattle.library.specs.Histories.{told, EntryFits as CommandsFit, EntriesFit, IsLegal}
+use Rattle.library.proofs.Agreeing.{legal_replies_fit}
+use Rattle.historytext.specs.Layout.{EntryFits}
+use Rattle.historytext.specs.Laws.{LegalHistoriesFit}
+
+module _ (s : Setting) (lib0 : List Ranked) (h : List CodeEntry) (v : Verifies s lib0) (fit : EntriesFit s.prelude (map told h))
+    (legal : IsLegal s lib0 (map told h)) where
+  entry_fits : (i : ℕ) (e : CodeEntry) → slice_get (map told h) i ≡ Some (told e) → CommandsFit s.prelude (told e) → EntryFits s.prelude e
+  entry_fits i Void at commands = tt
+  entry_fits i (Done cs replies) at commands = (commands, legal_replies_fit s lib0 (map told h) i cs replies v fit legal at)
+
+pub legal_histories_fit : LegalHistoriesFit
+legal_histories_fit s lib0 h v fit legal i d lt =
+    let e = get_or h i d in
+    let same = length-map h told in
+    let within : i < length (map told h) = omega arith in
+    let is : get_or (map told h) i (told d) ≡ told e = get_or-map told h i d (told d) lt in
+    let at : slice_get (map told h) i ≡ Some (told e) =
+    slice_get-get_or (map told h) i (told d) within ∙ ap (λ x. Some x) is in
+    entry_fits s lib0 h v fit legal i e at (subst (CommandsFit s.prelude) is (fit i (told d) within))

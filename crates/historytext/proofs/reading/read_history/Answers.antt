@@ -1,0 +1,40 @@
+-- What is left to show of `read_history`.
+use Rattle.std.proofs.Common.{◌∙◌, inl}
+use Rattle.historytext.specs.Places.{history_language}
+use Rattle.mmtext.proofs.Readings.{reading_fault, not_both, same_fault}
+use Rattle.mmtext.proofs.Turns.{fault_given}
+use Rattle.historytext.proofs.HistoryLaws.{reading_found, same_history, no_fault, history_fits}
+use Rattle.historytext.proofs.reading.read_history.Goals as goal
+
+pub returns-in-Ok-clause-found : goal.returns-in-Ok-clause-found
+returns-in-Ok-clause-found c = rw c.from_vec.ensures (reading_found c.args.prelude.now c.args.text.now c.in-Ok.entries.items c.in-Ok.ensures)
+
+pub returns-in-Ok-clause-fits : goal.returns-in-Ok-clause-fits
+returns-in-Ok-clause-fits c =
+    let t = c.args.prelude.now in
+    let bytes = c.args.text.now in
+    let history = c.in-Ok.entries.items in
+    rw c.from_vec.ensures (history_fits t bytes history c.floats-floats.ensures.sound (reading_found t bytes history c.in-Ok.ensures))
+
+pub returns-in-Ok-clause-only : goal.returns-in-Ok-clause-only
+returns-in-Ok-clause-only c = λ history short s.
+    c.from_vec.ensures ∙ same_history c.args.prelude.now c.args.text.now history c.in-Ok.entries.items short s c.in-Ok.ensures
+
+pub returns-in-Ok-clause-refused : goal.returns-in-Ok-clause-refused
+returns-in-Ok-clause-refused c = λ f faulty.
+    not_both (history_language c.args.prelude.now) c.args.text.now f c.in-Ok.entries.items faulty c.in-Ok.ensures
+
+pub returns-in-Err-Fault-clause-only : goal.returns-in-Err-Fault-clause-only
+returns-in-Err-Fault-clause-only c = λ history short s.
+    let given = fault_given _ c.in-Err-Fault.fault _ c.in-Err-Fault.field-0-is c.in-Err-Fault.ensures in
+    absurd (no_fault c.args.prelude.now c.args.text.now history c.in-Err-Fault.fault short s given)
+
+pub returns-in-Err-Fault-clause-fault : goal.returns-in-Err-Fault-clause-fault
+returns-in-Err-Fault-clause-fault c = λ _.
+    reading_fault (history_language c.args.prelude.now) c.args.text.now c.in-Err-Fault.fault
+    (fault_given _ c.in-Err-Fault.fault _ c.in-Err-Fault.field-0-is c.in-Err-Fault.ensures)
+
+pub returns-in-Err-Fault-clause-refused : goal.returns-in-Err-Fault-clause-refused
+returns-in-Err-Fault-clause-refused c = λ f faulty.
+    let given = fault_given _ c.in-Err-Fault.fault _ c.in-Err-Fault.field-0-is c.in-Err-Fault.ensures in
+    inl (same_fault (history_language c.args.prelude.now) c.args.text.now f c.in-Err-Fault.fault faulty given)

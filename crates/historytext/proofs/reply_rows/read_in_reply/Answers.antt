@@ -1,0 +1,67 @@
+-- What is left to show of `read_in_reply`.
+use Rattle.std.proofs.Common.{ℕ, [], ◌∷◌, ◌++◌, sym, subst}
+use Rattle.std.proofs.lemmas.Result.{err_from_is_err_and}
+use Rattle.mmtext.specs.Views.{seen, Fails}
+use Rattle.library.specs.Fitting.{highest_rank}
+use Rattle.commands.specs.ScriptFaults.{unit_start}
+use Rattle.historytext.specs.declared.place.ReplyPlace.{ReplyPlace}
+use Rattle.historytext.specs.Grammar.{highest_count}
+use Rattle.historytext.specs.Places.{going, at_shown_citers, in_shown, at_label, lines_left, in_reply}
+use Rattle.historytext.specs.Views.{answer, seen_reply_place}
+use Rattle.historytext.proofs.Rows.{number_fails}
+use Rattle.historytext.proofs.reply_rows.read_in_reply.Goals as goal
+
+pub returns-in_err-rank-in-AtShownRank : goal.returns-in_err-rank-in-AtShownRank
+returns-in_err-rank-in-AtShownRank c =
+    let t = c.args.prelude.now in
+    let u = seen c.args.token in
+    let r = c.from_residual in
+    let p = err_from_is_err_and r.result r.ensures.1 in
+    let why = c.in_err-rank-in-AtShownRank.field-0.0 in
+    rw (p.1, p.2) (
+    subst (λ (x : ReplyPlace). Fails why (answer u (in_reply t (seen_reply_place t x) u))) (sym c.in-AtShownRank.is)
+    (number_fails highest_rank u (λ (n : ℕ). going (at_shown_citers n)) why c.in_err-rank-in-AtShownRank.ensures))
+
+pub returns-in_err-citers-in-AtShownCiters : goal.returns-in_err-citers-in-AtShownCiters
+returns-in_err-citers-in-AtShownCiters c =
+    let t = c.args.prelude.now in
+    let u = seen c.args.token in
+    let r = c.from_residual-in_err-citers-in-AtShownCiters in
+    let p = err_from_is_err_and r.result r.ensures.1 in
+    let why = c.in_err-citers-in-AtShownCiters.field-0.0 in
+    rw (p.1, p.2) (
+    subst (λ (x : ReplyPlace). Fails why (answer u (in_reply t (seen_reply_place t x) u))) (sym c.in-AtShownCiters.is)
+    (number_fails highest_count u (λ (n : ℕ). going (in_shown c.in-AtShownCiters.rank n (unit_start t))) why c.in_err-citers-in-AtShownCiters.ensures))
+
+pub returns-in_err-left-in-AtLines : goal.returns-in_err-left-in-AtLines
+returns-in_err-left-in-AtLines c =
+    let t = c.args.prelude.now in
+    let u = seen c.args.token in
+    let r = c.from_residual-in_err-left-in-AtLines in
+    let p = err_from_is_err_and r.result r.ensures.1 in
+    let why = c.in_err-left-in-AtLines.field-0.0 in
+    rw (p.1, p.2) (
+    subst (λ (x : ReplyPlace). Fails why (answer u (in_reply t (seen_reply_place t x) u))) (sym c.in-AtLines.is)
+    (number_fails highest_count u (λ (n : ℕ). lines_left n []) why c.in_err-left-in-AtLines.ensures))
+
+pub returns-in_err-rank-in-AtLine : goal.returns-in_err-rank-in-AtLine
+returns-in_err-rank-in-AtLine c =
+    let t = c.args.prelude.now in
+    let u = seen c.args.token in
+    let r = c.from_residual-in_err-rank-in-AtLine in
+    let p = err_from_is_err_and r.result r.ensures.1 in
+    let why = c.in_err-rank-in-AtLine.field-0.0 in
+    rw (p.1, p.2) (
+    subst (λ (x : ReplyPlace). Fails why (answer u (in_reply t (seen_reply_place t x) u))) (sym c.in-AtLine.is)
+    (number_fails highest_rank u (λ (n : ℕ). going (at_label c.in-AtLine.left c.in-AtLine.lines.items n)) why c.in_err-rank-in-AtLine.ensures))
+
+pub returns-in_err-citers-in-AtCiters : goal.returns-in_err-citers-in-AtCiters
+returns-in_err-citers-in-AtCiters c =
+    let t = c.args.prelude.now in
+    let u = seen c.args.token in
+    let r = c.from_residual-in_err-citers-in-AtCiters in
+    let p = err_from_is_err_and r.result r.ensures.1 in
+    let why = c.in_err-citers-in-AtCiters.field-0.0 in
+    rw (p.1, p.2) (
+    subst (λ (x : ReplyPlace). Fails why (answer u (in_reply t (seen_reply_place t x) u))) (sym c.in-AtCiters.is)
+    (number_fails highest_count u (λ (n : ℕ). lines_left c.in-AtCiters.left (c.in-AtCiters.lines.items ++ record { rank = c.in-AtCiters.rank; label = c.in-AtCiters.label; kind = c.in-AtCiters.kind; citers = n } ∷ [])) why c.in_err-citers-in-AtCiters.ensures))

@@ -1,0 +1,66 @@
+-- The canonical text of a history: transactions at the left edge, replies as a report prints them.
+use Rattle.std.specs.Prelude.{ℕ, Bool, true, false, ◌==◌, List, [], ◌∷◌, ◌++◌, length, map, All, codes}
+use Rattle.std.specs.List.{flat_map}
+use Rattle.std.specs.Fmt.{decimal}
+use Rattle.mmtext.specs.Words.{Word}
+use Rattle.mmsyntax.specs.Tables.{Tables}
+use Rattle.mmsyntax.specs.Layout.{line, step_word, assertion_text}
+use Rattle.library.specs.declared.command.Command.{Command}
+use Rattle.library.specs.declared.command.Command.TheVariants as command
+use Rattle.library.specs.declared.command.Line.{Line}
+use Rattle.library.specs.declared.command.Reply.{Reply}
+use Rattle.library.specs.declared.command.Reply.TheVariants.{Done, Shown, Listed}
+use Rattle.library.specs.declared.history.Entry.{Entry}
+use Rattle.library.specs.declared.history.Entry.TheVariants as entry
+use Rattle.library.specs.Fitting.{CommandFits, ReplyFits}
+use Rattle.historytext.specs.Grammar.{kind_word}
+
+-- ---- transactions: a line for begin, each command and commit
+
+-- the lines of a command: an assertion that is added stands in lines of its own
+abbrev pub command_text : Tables → Command → List ℕ
+command_text t (command.Add rank a) = line (codes "add" ∷ decimal rank ∷ []) ++ assertion_text t a
+command_text t (command.Reprove label steps) =
+    line (codes "reprove" ∷ label ∷ codes "$=" ∷ (map (step_word t label) steps ++ codes "$." ∷ []))
+command_text t (command.Rename old new) = line (codes "rename" ∷ old ∷ new ∷ [])
+command_text t (command.Move label rank) = line (codes "move" ∷ label ∷ decimal rank ∷ [])
+command_text t (command.Delete label) = line (codes "delete" ∷ label ∷ [])
+command_text t (command.Show label) = line (codes "show" ∷ label ∷ [])
+command_text t command.List = line (codes "list" ∷ [])
+
+abbrev pub transaction_text : Tables → List Command → List ℕ
+transaction_text t commands = line (codes "begin" ∷ []) ++ (flat_map (command_text t) commands ++ line (codes "commit" ∷ []))
+
+-- ---- replies: two spaces before each, four before what belongs to it
+
+-- four spaces before each line of a text; `begins` says whether a line begins here
+abbrev pub set_in : Bool → List ℕ → List ℕ
+set_in begins [] = []
+set_in true (b ∷ bs) = codes "    " ++ b ∷ set_in (b == 10) bs
+set_in false (b ∷ bs) = b ∷ set_in (b == 10) bs
+
+abbrev pub line_text : Line → List ℕ
+line_text l = codes "    " ++ line (decimal l.rank ∷ l.label ∷ kind_word l.kind ∷ decimal l.citers ∷ [])
+
+abbrev pub reply_text : Tables → Reply → List ℕ
+reply_text t Done = codes "  " ++ line (codes "done" ∷ [])
+reply_text t (Shown citers e) =
+    codes "  " ++ (line (codes "shown" ∷ decimal e.rank ∷ decimal citers ∷ []) ++ set_in true (assertion_text t e.assertion))
+reply_text t (Listed lines) = codes "  " ++ (line (codes "listed" ∷ decimal (length lines) ∷ []) ++ flat_map line_text lines)
+
+-- ---- histories
+
+abbrev pub entry_text : Tables → Entry → List ℕ
+entry_text t entry.Void = line (codes "void" ∷ [])
+entry_text t (entry.Done commands replies) =
+    line (codes "done" ∷ []) ++ (transaction_text t commands ++ flat_map (reply_text t) replies)
+
+abbrev pub history_text : Tables → List Entry → List ℕ
+history_text t history = line (codes "history" ∷ decimal (length history) ∷ []) ++ flat_map (entry_text t) history
+
+-- ---- what can be written
+
+-- commands and replies within the limits of the prelude
+abbrev pub EntryFits : Tables → Entry → Type 0
+EntryFits t entry.Void = Unit {0}
+EntryFits t (entry.Done commands replies) = All (CommandFits t) commands × All (ReplyFits t) replies

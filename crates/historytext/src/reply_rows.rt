@@ -1,0 +1,145 @@
+//! Reading a reply: one function for each kind of word in it.
+
+ghost use Rattle.std.specs.Prelude.{◌≡◌};
+ghost use Rattle.mmtext.specs.Views.{seen, Gives};
+ghost use Rattle.mmsyntax.specs.Tables.{Tables};
+ghost use Rattle.mmsyntax.specs.Faults.{row};
+ghost use Rattle.mmreader.specs.UnitReadings.{position_of};
+ghost use Rattle.historytext.specs.Places.{in_reply, lines_left, reply_word, shown_row};
+ghost use Rattle.historytext.specs.Views.{answer, count_at, kind_at, seen_answered, seen_reply_place};
+
+use crate::place::{Answered, ReplyPlace};
+use commands::{count, is_numeral, read_label, read_rank};
+use library::{Line, Ranked, Reply};
+use mmreader::{UnitProgress, UnitReader};
+use mmstatement::{FaultKind, Kind, Prelude, Sequence};
+use mmtext::{Stop, Token, fault_at};
+use std::alloc::Global;
+
+/// A number of entries, lines or citers: a numeral, up to 18,446,744,073,709,551,615.
+pub(crate) fn read_count(token: Token<'_>) -> Result<u64, Stop>
+    ensures { Gives (λ n. n) result (count_at (seen token.entry)) }
+{
+    if !is_numeral(token.text) {
+        return Err(fault_at(token, FaultKind::BadToken));
+    }
+    match count(token.text) {
+        Some(number) => Ok(number),
+        None => Err(fault_at(token, FaultKind::TooLong)),
+    }
+}
+
+/// The kind in a line: `a` or `p`.
+fn read_kind(token: Token<'_>) -> Result<Kind, Stop>
+    ensures { Gives (λ k. k) result (kind_at (seen token.entry)) }
+{
+    if token.text == b"a".as_slice() {
+        Ok(Kind::Axiom)
+    } else if token.text == b"p".as_slice() {
+        Ok(Kind::Theorem)
+    } else {
+        Err(fault_at(token, FaultKind::BadToken))
+    }
+}
+
+/// Behind whole lines, with so many left.
+fn lines_left<'a>(left: u64, lines: Vec<Line>) -> Answered<'a>
+    ensures { (t : Tables) → seen_answered t result ≡ lines_left left lines.items }
+{
+    if left == 0 {
+        let lines = Sequence::from_vec(lines);
+        return Answered::Whole(Reply::Listed { lines });
+    }
+    Answered::Going(ReplyPlace::AtLine(left - 1, lines))
+}
+
+/// A token of the assertion that is shown.
+fn read_in_shown<'a>(
+    alloc: Global,
+    prelude: &Prelude,
+    rank: u32,
+    citers: u64,
+    reader: UnitReader<'a>,
+    token: Token<'a>,
+) -> Result<Answered<'a>, Stop>
+    ensures { Gives (seen_answered prelude.now) result
+        (answer (seen token.entry) (shown_row rank citers (row (position_of prelude.now reader.entry) (seen token.entry)))) }
+{
+    match reader.read(alloc, prelude, token)? {
+        UnitProgress::Within(reader) => {
+            Ok(Answered::Going(ReplyPlace::InShown(rank, citers, reader)))
+        }
+        UnitProgress::Whole(assertion) => {
+            let shown = Ranked { rank, assertion };
+            Ok(Answered::Whole(Reply::Shown { citers, shown }))
+        }
+    }
+}
+
+/// The word of a reply.
+pub(crate) fn read_reply_word<'a>(token: Token<'a>) -> Result<Answered<'a>, Stop>
+    ensures { (t : Tables) → Gives (seen_answered t) result (answer (seen token.entry) (reply_word token.entry.text.now)) }
+{
+    let word = token.text;
+    if word == b"done".as_slice() {
+        Ok(Answered::Whole(Reply::Done))
+    } else if word == b"shown".as_slice() {
+        Ok(Answered::Going(ReplyPlace::AtShownRank))
+    } else if word == b"listed".as_slice() {
+        Ok(Answered::Going(ReplyPlace::AtLines))
+    } else {
+        Err(fault_at(token, FaultKind::BadToken))
+    }
+}
+
+/// Where a token leads that stands in a reply.
+pub(crate) fn read_in_reply<'a>(
+    alloc: Global,
+    prelude: &Prelude,
+    place: ReplyPlace<'a>,
+    token: Token<'a>,
+) -> Result<Answered<'a>, Stop>
+    ensures { Gives (seen_answered prelude.now) result
+        (answer (seen token.entry) (in_reply prelude.now (seen_reply_place prelude.now place.entry) (seen token.entry))) }
+{
+    let next = match place {
+        ReplyPlace::AtShownRank => {
+            let rank = read_rank(token)?;
+            ReplyPlace::AtShownCiters(rank)
+        }
+        ReplyPlace::AtShownCiters(rank) => {
+            let citers = read_count(token)?;
+            ReplyPlace::InShown(rank, citers, UnitReader::new(alloc, prelude.keys()))
+        }
+        ReplyPlace::InShown(rank, citers, reader) => {
+            return read_in_shown(alloc, prelude, rank, citers, reader, token);
+        }
+        ReplyPlace::AtLines => {
+            let left = read_count(token)?;
+            return Ok(lines_left(left, Vec::new(alloc)));
+        }
+        ReplyPlace::AtLine(left, lines) => {
+            let rank = read_rank(token)?;
+            ReplyPlace::AtLabel(left, lines, rank)
+        }
+        ReplyPlace::AtLabel(left, lines, rank) => {
+            let label = read_label(alloc, token)?;
+            ReplyPlace::AtKind(left, lines, rank, label)
+        }
+        ReplyPlace::AtKind(left, lines, rank, label) => {
+            let kind = read_kind(token)?;
+            ReplyPlace::AtCiters(left, lines, rank, label, kind)
+        }
+        ReplyPlace::AtCiters(left, mut lines, rank, label, kind) => {
+            let citers = read_count(token)?;
+            lines.push(Line {
+                rank,
+                label,
+                kind,
+                citers,
+            })?;
+            return Ok(lines_left(left, lines));
+        }
+    };
+    Ok(Answered::Going(next))
+}

@@ -1,0 +1,55 @@
+-- The report of a run: for each transaction a line with its number and its outcome, and the lines of its replies.
+use Rattle.std.specs.Prelude.{ℕ, ◌+◌, List, [], ◌∷◌, ◌++◌, codes}
+use Rattle.std.specs.List.{flat_map}
+use Rattle.std.specs.Fmt.{decimal}
+use Rattle.mmsyntax.specs.Tables.{Tables}
+use Rattle.mmsyntax.specs.Layout.{line}
+use Rattle.proofcheck.specs.FaultNames.{printed_fault}
+use Rattle.library.specs.declared.reason.Reason.{Reason}
+use Rattle.library.specs.declared.reason.Reason.TheVariants.{StillCited, ProofFails}
+use Rattle.library.specs.Reasons.{number_of, name_of}
+use Rattle.historytext.specs.Layout.{reply_text}
+use Rattle.jobs.specs.declared.outcome.Outcome.{Outcome}
+use Rattle.jobs.specs.declared.outcome.Outcome.TheVariants.{Committed, Read, Refused, TooManyCommands}
+
+-- ---- reasons
+
+-- what stands behind the name of a reason: the number of citers, or the step and the fault of the proof
+abbrev pub said_besides : Reason → List ℕ
+said_besides (StillCited citers) = 32 ∷ decimal citers
+said_besides (ProofFails fault) = 32 ∷ printed_fault fault
+said_besides _ = []
+
+-- number, space, name, and what is said besides, as in: 2 LabelTaken; 8 StillCited 3; 11 ProofFails step 1: 2 StackShort
+abbrev pub reason_text : Reason → List ℕ
+reason_text reason = decimal (number_of reason) ++ 32 ∷ (name_of reason ++ said_besides reason)
+
+-- ---- outcomes
+
+-- `committed N` or `read PLACE`, then the lines of the replies in order; `refused PLACE at INDEX: ` and the reason; `too many commands`
+abbrev pub outcome_text : Tables → Outcome → List ℕ
+outcome_text t (Committed number replies) = line (codes "committed" ∷ decimal number ∷ []) ++ flat_map (reply_text t) replies
+outcome_text t (Read place replies) = line (codes "read" ∷ decimal place ∷ []) ++ flat_map (reply_text t) replies
+outcome_text t (Refused place index reason) =
+    codes "refused " ++ (decimal place ++ (codes " at " ++ (decimal index ++ (codes ": " ++ (reason_text reason ++ 10 ∷ [])))))
+outcome_text t TooManyCommands = codes "too many commands" ++ 10 ∷ []
+
+-- ---- reports
+
+-- the lines of the k-th transaction of the s-th script: `S.T `, then the outcome's
+abbrev pub numbered_text : Tables → ℕ → ℕ → Outcome → List ℕ
+numbered_text t s k outcome = decimal s ++ 46 ∷ (decimal k ++ 32 ∷ outcome_text t outcome)
+
+-- those of the transactions of the s-th script, from the k-th on
+abbrev pub script_text_from : Tables → ℕ → ℕ → List Outcome → List ℕ
+script_text_from t s k [] = []
+script_text_from t s k (o ∷ os) = numbered_text t s k o ++ script_text_from t s (k + 1) os
+
+-- those of the scripts from the s-th on
+abbrev pub scripts_text_from : Tables → ℕ → List (List Outcome) → List ℕ
+scripts_text_from t s [] = []
+scripts_text_from t s (row ∷ rows) = script_text_from t s 1 row ++ scripts_text_from t (s + 1) rows
+
+-- the report of all scripts; scripts count from 1, and so do the transactions of each
+abbrev pub report_text : Tables → List (List Outcome) → List ℕ
+report_text t rows = scripts_text_from t 1 rows

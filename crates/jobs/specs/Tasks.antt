@@ -1,0 +1,49 @@
+-- What is asked of texts, and what is answered.
+use Rattle.std.specs.Prelude.{◌≡◌, ◌≢◌, ◌≤◌, ◌⊎◌, ℕ, List, [], ◌∷◌, map, string_bytes}
+use Rattle.jobs.specs.declared.job.Job.{Job}
+use Rattle.jobs.specs.declared.job.Job.TheVariants as job
+use Rattle.jobs.specs.declared.job.Fault.{Fault}
+use Rattle.jobs.specs.declared.job.Fault.TheVariants.{NoMemory}
+use Rattle.jobs.specs.declared.task.Task.{Task}
+use Rattle.jobs.specs.declared.task.Task.TheVariants.{Check, Run, Replay}
+use Rattle.jobs.specs.declared.answering.Answered.{Answered}
+use Rattle.jobs.specs.declared.answering.Answered.TheVariants.{Done, Refused}
+use Rattle.jobs.specs.FaultLines.{line_of, fault_text}
+use Rattle.jobs.specs.Jobs.{Bytes, DoneAsAsked, IsFaultOf}
+
+-- ---- jobs of texts
+
+-- the texts of a job: its database, then all its scripts in order, or its history
+abbrev pub texts_of : Job → List Bytes
+texts_of (job.Check db) = db.items ∷ []
+texts_of (job.Run db scripts) = db.items ∷ map (λ t. t.items) scripts.items
+texts_of (job.Replay db history) = db.items ∷ history.items ∷ []
+
+abbrev pub task_of : Job → Task
+task_of (job.Check db) = Check
+task_of (job.Run db scripts) = Run
+task_of (job.Replay db history) = Replay
+
+-- so many texts are a job: a database alone; one before any number of scripts; one before a history
+abbrev pub TakesTexts : Task → ℕ → Type 0
+TakesTexts Check count = count ≡ 1
+TakesTexts Run count = 1 ≤ count
+TakesTexts Replay count = count ≡ 2
+
+-- the job of a task on exactly these texts
+pub record IsJobOf (asked : Task) (given : List Bytes) (j : Job) : Type 0 where
+  pub task : task_of j ≡ asked
+  pub texts : texts_of j ≡ given
+
+-- ---- what is answered
+
+-- what the job prints; or the line of its fault, behind the path of the text that has it; or that there is no memory
+abbrev pub Answers : List Bytes → Job → Answered → Type 0
+Answers paths j (Done printed) = DoneAsAsked j printed
+Answers paths j (Refused line) =
+    (fault : Fault) × (fault ≢ NoMemory → IsFaultOf j fault) × (string_bytes line ≡ line_of paths fault)
+
+-- the line of a fault that the job has, unless memory ran out
+abbrev pub IsLineOf : List Bytes → Fault → Answered → Type 0
+IsLineOf paths fault (Done printed) = ⊥
+IsLineOf paths fault (Refused line) = (string_bytes line ≡ line_of paths fault) ⊎ (string_bytes line ≡ fault_text NoMemory)

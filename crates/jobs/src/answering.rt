@@ -1,0 +1,44 @@
+//! What the program answers to a job: what it prints, or the line of its fault.
+
+ghost use Rattle.std.specs.Prelude.{◌≡◌, map, IfOk};
+ghost use Rattle.jobs.specs.declared.job.Fault.{Fault as FaultOfJob};
+ghost use Rattle.jobs.specs.Jobs.{IsFaultOf};
+ghost use Rattle.jobs.specs.Tasks.{Answers, IsLineOf};
+
+use crate::job::{Job, Printed};
+use crate::performing::perform;
+use std::alloc::{AllocError, Global};
+use std::hash::RandomState;
+use std::thread::Threads;
+
+/// What the program answers to a job.
+#[derive(Debug, Drop)]
+pub enum Answered {
+    /// The job is done: this is printed.
+    Done(Printed),
+    /// The job has a fault: nothing is printed but this line, on the standard error.
+    Refused(String),
+}
+
+/// Does a job on the texts of files, of which `paths` are the paths: the database's, then each script's, or the history's.
+///
+/// # Errors
+///
+/// Want of memory for the line of a fault.
+pub fn answer(
+    rt: &(impl Threads + Sync),
+    alloc: Global,
+    keys: RandomState,
+    job: &Job,
+    paths: &[&str],
+) -> Result<Answered, AllocError>
+    // What is printed is the job's. The line is that of a fault of the job, and names the file that has it.
+    ensures answers { IfOk result (Answers (map (λ path. path.now) paths.now) job.now) }
+    // The first fault that the job has is told, unless memory runs out.
+    ensures refused { (f : FaultOfJob) → IsFaultOf job.now f → IfOk result (IsLineOf (map (λ path. path.now) paths.now) f) }
+{
+    match perform(rt, alloc, keys, job) {
+        Ok(printed) => Ok(Answered::Done(printed)),
+        Err(fault) => Ok(Answered::Refused(fault.line(alloc, paths)?)),
+    }
+}

@@ -1,0 +1,43 @@
+-- What a filter and a map keep of a list: elements, and different labels.
+use Rattle.std.proofs.Common.{◌≡◌, ℕ, Bool, true, List, ◌++◌, map, refl, ap, subst, ◌∙◌, inl, inr, arith}
+use Rattle.std.specs.Prelude.{filter}
+use mathlib.Core.Bool.{not}
+use Rattle.std.specs.List.{Contains}
+use Rattle.std.specs.List.Sorted.{IsPermutation}
+use Rattle.std.specs.Str.{bytes_eq}
+use Rattle.std.proofs.lemmas.Bool.{both_ways, not-true}
+use Rattle.std.proofs.lemmas.List.{length-map, get_or-map, map-append}
+use Rattle.std.proofs.lemmas.List.Elements.{All-contains, Contains-append_cases, filter_passes}
+use Rattle.std.proofs.lemmas.List.Sorted.{Contains-permutation, IsPermutation-map, IsPermutation-filter_both}
+use Rattle.mmsyntax.specs.Assertions.{Distinct}
+use Rattle.mmsyntax.proofs.Distinct.{distinct_left}
+use Rattle.library.proofs.Labels.{distinct_permutation}
+
+-- what a map makes of an element is an element
+pub contains_mapped : {A B : Type 0} (f : A → B) (xs : List A) (x : A) → Contains xs x → Contains (map f xs) (f x)
+contains_mapped f xs x at = (at.0, omega (arith, at.1, length-map xs f), get_or-map f xs at.0 x (f x) at.1 ∙ ap f at.2)
+
+-- those that pass, and then the others
+sorted_out : {A : Type 0} (p : A → Bool) (xs : List A) → IsPermutation xs (filter p xs ++ filter (λ x. not (p x)) xs)
+sorted_out p xs = IsPermutation-filter_both p (λ x. not (p x)) (λ x. refl) xs
+
+-- an element that passes is kept
+pub contains_filtered : {A : Type 0} (p : A → Bool) (xs : List A) (x : A) → Contains xs x → p x ≡ true → Contains (filter p xs) x
+contains_filtered {A} p xs x at passes =
+    let q = λ (y : A). not (p y) in
+    elim (Contains-append_cases (filter p xs) (filter q xs) x (Contains-permutation xs _ x (sorted_out p xs) at)) [
+      | inl kept ↦ kept
+      | inr gone ↦
+          let fails = All-contains (λ y. q y ≡ true) (filter q xs) x (filter_passes q xs) gone in
+          absurd (both_ways (p x) (not-true (p x) fails) passes)
+    ]
+
+-- what is kept has different keys, where all have
+pub distinct_filtered : {A : Type 0} (key : A → List ℕ) (p : A → Bool) (xs : List A) → Distinct bytes_eq (map key xs)
+    → Distinct bytes_eq (map key (filter p xs))
+distinct_filtered key p xs apart =
+    let kept = filter p xs in
+    let gone = filter (λ x. not (p x)) xs in
+    let moved = IsPermutation-map key xs (kept ++ gone) (sorted_out p xs) in
+    let all = distinct_permutation (map key xs) (map key (kept ++ gone)) moved apart in
+    distinct_left bytes_eq (map key kept) (map key gone) (subst (Distinct bytes_eq) (map-append key kept gone) all)

@@ -1,0 +1,233 @@
+-- What one command does to a library, and its reply, or why it is refused.
+use Rattle.std.specs.Prelude.{ℕ, Bool, true, false, ◌==◌, ◌&&◌, nat_le, List, [], ◌∷◌, ◌++◌, Option, Some, None, Result, Ok, Err, map, filter}
+use Rattle.std.specs.Prelude.{length, count_by, find, if◌then◌else◌}
+use mathlib.Core.Bool.{not}
+use Rattle.std.specs.List.{list_any}
+use Rattle.std.specs.Str.{bytes_eq}
+use Rattle.mmsyntax.specs.declared.statement.Assertion.{Assertion}
+use Rattle.mmsyntax.specs.declared.statement.Kind.{Kind}
+use Rattle.mmsyntax.specs.declared.statement.Kind.TheVariants.{Axiom, Theorem}
+use Rattle.mmsyntax.specs.declared.statement.Step.{Step}
+use Rattle.mmsyntax.specs.declared.statement.Step.TheVariants.{Float, Hyp, Cite}
+use Rattle.mmsyntax.specs.Assertions.{is_lawful_label}
+use Rattle.proofcheck.specs.declared.fault.ProofFault.{ProofFault}
+use Rattle.proofcheck.specs.Derivation.{Tree}
+use Rattle.proofcheck.specs.Laws.{renamed}
+use Rattle.proofcheck.specs.Outcomes.{outcome}
+use Rattle.library.specs.declared.library.Ranked.{Ranked}
+use Rattle.library.specs.declared.command.Command.{Command}
+use Rattle.library.specs.declared.command.Command.TheVariants as command
+use Rattle.library.specs.declared.command.Line.{Line}
+use Rattle.library.specs.declared.command.Reply.{Reply}
+use Rattle.library.specs.declared.command.Reply.TheVariants.{Done, Shown, Listed}
+use Rattle.library.specs.declared.reason.Reason.{Reason}
+use Rattle.library.specs.declared.reason.Reason.TheVariants as reason
+use Rattle.library.specs.Library.{Setting, label_of, citable, in_export_order}
+
+-- ---- labels in a library
+
+abbrev pub is_labelled : List ℕ → Ranked → Bool
+is_labelled label e = bytes_eq label (label_of e)
+
+-- whether some assertion has the label
+abbrev pub has : List Ranked → List ℕ → Bool
+has lib label = list_any (is_labelled label) lib
+
+-- the assertion with the label
+abbrev pub found : List Ranked → List ℕ → Option Ranked
+found lib label = find (is_labelled label) lib
+
+abbrev pub is_citation : List ℕ → Step → Bool
+is_citation label (Float i) = false
+is_citation label (Hyp k) = false
+is_citation label (Cite cited) = bytes_eq label cited
+
+-- whether the proof of an assertion cites the label
+abbrev pub cites : List ℕ → Ranked → Bool
+cites label e = list_any (is_citation label) e.assertion.proof
+
+-- the number of assertions whose proof cites the label
+abbrev pub citers : List Ranked → List ℕ → ℕ
+citers lib label = count_by (cites label) lib
+
+-- ---- edits and what only reads
+
+-- a command that changes the library where it is not refused
+abbrev pub is_edit : Command → Bool
+is_edit (command.Add rank a) = true
+is_edit (command.Reprove label steps) = true
+is_edit (command.Rename old new) = true
+is_edit (command.Move label rank) = true
+is_edit (command.Delete label) = true
+is_edit (command.Show label) = false
+is_edit command.List = false
+
+-- ---- what becomes of a library
+
+-- an assertion is added behind the others
+abbrev pub added : List Ranked → ℕ → Assertion → List Ranked
+added lib rank a = lib ++ record { rank = rank; assertion = a } ∷ []
+
+abbrev pub with_rank : ℕ → Ranked → Ranked
+with_rank rank e = record e { rank = rank }
+
+abbrev pub with_proof : List Step → Ranked → Ranked
+with_proof steps e = record e { assertion = record e.assertion { proof = steps } }
+
+-- the assertion with the label is changed
+abbrev pub changed : List ℕ → (Ranked → Ranked) → List Ranked → List Ranked
+changed label change lib = map (λ e. if is_labelled label e then change e else e) lib
+
+-- the label is replaced, in the assertion and in every proof
+abbrev pub rename : List ℕ → List ℕ → List Ranked → List Ranked
+rename old new lib = map (λ e. record { rank = e.rank; assertion = renamed old new e.assertion }) lib
+
+-- the assertion with the label is removed
+abbrev pub without : List ℕ → List Ranked → List Ranked
+without label lib = filter (λ e. not (is_labelled label e)) lib
+
+-- ---- tests
+
+-- a test gives the reason for which it refuses, if it does
+abbrev pub Tests : Type 0
+Tests = List (Option Reason)
+
+-- refused for a reason, where something holds
+abbrev pub where_so : Bool → Reason → Option Reason
+where_so b r = if b then Some r else None
+
+abbrev pub is_axiom : Kind → Bool
+is_axiom Axiom = true
+is_axiom Theorem = false
+
+-- no assertion has the label
+abbrev pub unknown : List Ranked → List ℕ → Option Reason
+unknown lib label = where_so (not (has lib label)) reason.UnknownLabel
+
+-- no assertion may have the label
+abbrev pub unlawful : Setting → List ℕ → Option Reason
+unlawful s label = where_so (not (is_lawful_label s.prelude label)) reason.BadLabel
+
+-- another assertion has the label
+abbrev pub taken : List Ranked → List ℕ → Option Reason
+taken lib label = where_so (has lib label) reason.LabelTaken
+
+-- a rank is at least 1
+abbrev pub unranked : ℕ → Option Reason
+unranked rank = where_so (rank == 0) reason.BadRank
+
+-- whether a step cites a label that no assertion has
+abbrev pub cites_unknown : List Ranked → Step → Bool
+cites_unknown lib (Float i) = false
+cites_unknown lib (Hyp k) = false
+cites_unknown lib (Cite label) = not (has lib label)
+
+-- some step does
+abbrev pub uncited : List Ranked → List Step → Option Reason
+uncited lib steps = where_so (list_any (cites_unknown lib) steps) reason.CitesUnknown
+
+-- whether the assertion with the label has this rank or a higher one
+abbrev pub is_not_below : ℕ → Option Ranked → Bool
+is_not_below rank None = false
+is_not_below rank (Some e) = nat_le rank e.rank
+
+-- whether a step cites an assertion that isn't below the rank
+abbrev pub cites_not_below : List Ranked → ℕ → Step → Bool
+cites_not_below lib rank (Float i) = false
+cites_not_below lib rank (Hyp k) = false
+cites_not_below lib rank (Cite label) = is_not_below rank (found lib label)
+
+-- some step does
+abbrev pub cited_above : List Ranked → ℕ → List Step → Option Reason
+cited_above lib rank steps = where_so (list_any (cites_not_below lib rank) steps) reason.CitedNotLower
+
+-- an assertion that cites the label isn't above the rank
+abbrev pub citer_below : List Ranked → ℕ → List ℕ → Option Reason
+citer_below lib rank label = where_so (list_any (λ e. cites label e && nat_le e.rank rank) lib) reason.CiterNotHigher
+
+-- a proof cites the label
+abbrev pub cited : List Ranked → List ℕ → Option Reason
+cited lib label = where_so (nat_le 1 (citers lib label)) (reason.StillCited (citers lib label))
+
+abbrev pub fault_of : Result Tree ProofFault → Option Reason
+fault_of (Ok tree) = None
+fault_of (Err fault) = Some (reason.ProofFails fault)
+
+-- the steps of a theorem of this rank aren't the listing of a tree that derives its statement over the assertions of lower rank
+abbrev pub unproved : Setting → List Ranked → ℕ → Assertion → Option Reason
+unproved s lib rank a = fault_of (outcome (citable s lib rank) s.prelude a)
+
+-- ---- the tests of each command, in order
+
+abbrev pub add_tests : Setting → List Ranked → ℕ → Assertion → Tests
+add_tests s lib rank a =
+    unranked rank
+    ∷ unlawful s a.label
+    ∷ taken lib a.label
+    ∷ where_so (is_axiom a.kind) reason.AxiomNotAllowed
+    ∷ uncited lib a.proof
+    ∷ cited_above lib rank a.proof
+    ∷ unproved s lib rank a
+    ∷ where_so (nat_le s.slots (length lib)) reason.LibraryFull
+    ∷ []
+
+-- of the assertion that is found
+abbrev pub reprove_tests : Setting → List Ranked → List Step → Ranked → Tests
+reprove_tests s lib steps e =
+    where_so (is_axiom e.assertion.kind) reason.NotATheorem
+    ∷ uncited lib steps
+    ∷ cited_above lib e.rank steps
+    ∷ unproved s lib e.rank (with_proof steps e).assertion
+    ∷ []
+
+abbrev pub rename_tests : Setting → List Ranked → List ℕ → List ℕ → Tests
+rename_tests s lib old new = unknown lib old ∷ unlawful s new ∷ taken lib new ∷ []
+
+-- of the assertion that is found
+abbrev pub move_tests : List Ranked → ℕ → Ranked → Tests
+move_tests lib rank e = unranked rank ∷ cited_above lib rank e.assertion.proof ∷ citer_below lib rank (label_of e) ∷ []
+
+-- ---- edits
+
+-- a library with a reply
+pub record Edited : Type 0 where
+  pub library : List Ranked
+  pub reply : Reply
+
+-- a library that was changed
+abbrev pub done : List Ranked → Edited
+done lib = record { library = lib; reply = Done }
+
+-- the reason of the first test that refuses, and else the edit
+abbrev pub tested : Tests → Edited → Result Edited Reason
+tested [] edited = Ok edited
+tested (None ∷ ts) edited = tested ts edited
+tested (Some r ∷ ts) edited = Err r
+
+-- what is done with the assertion that has a label, if one has it
+abbrev pub of_found : Option Ranked → (Ranked → Result Edited Reason) → Result Edited Reason
+of_found None edit = Err reason.UnknownLabel
+of_found (Some e) edit = edit e
+
+-- what is shown of an assertion
+abbrev pub shown : List Ranked → Ranked → Edited
+shown lib e = record { library = lib; reply = Shown (citers lib (label_of e)) e }
+
+-- what is listed of an assertion
+abbrev pub line : List Ranked → Ranked → Line
+line lib e = record { rank = e.rank; label = label_of e; kind = e.assertion.kind; citers = citers lib (label_of e) }
+
+-- all assertions in export order
+abbrev pub listed : List Ranked → Edited
+listed lib = record { library = lib; reply = Listed (map (line lib) (in_export_order lib)) }
+
+abbrev pub edit : Setting → List Ranked → Command → Result Edited Reason
+edit s lib (command.Add rank a) = tested (add_tests s lib rank a) (done (added lib rank a))
+edit s lib (command.Reprove label steps) =
+    of_found (found lib label) (λ e. tested (reprove_tests s lib steps e) (done (changed label (with_proof steps) lib)))
+edit s lib (command.Rename old new) = tested (rename_tests s lib old new) (done (rename old new lib))
+edit s lib (command.Move label rank) =
+    of_found (found lib label) (λ e. tested (move_tests lib rank e) (done (changed label (with_rank rank) lib)))
+edit s lib (command.Delete label) = of_found (found lib label) (λ e. tested (cited lib label ∷ []) (done (without label lib)))
+edit s lib (command.Show label) = of_found (found lib label) (λ e. Ok (shown lib e))
+edit s lib command.List = Ok (listed lib)

@@ -1,0 +1,28 @@
+-- Which commands and replies are within the limits of a prelude.
+use Rattle.std.specs.Prelude.{ℕ, ◌≤◌, length}
+use Rattle.mmsyntax.specs.Tables.{Tables}
+use Rattle.mmsyntax.specs.Assertions.{Fits}
+use Rattle.library.specs.declared.command.Command.{Command}
+use Rattle.library.specs.declared.command.Command.TheVariants.{Add, Reprove, Rename, Move, Delete, Show, List}
+use Rattle.library.specs.declared.command.Reply.{Reply}
+use Rattle.library.specs.declared.command.Reply.TheVariants.{Done, Shown, Listed}
+
+-- the highest rank
+abbrev pub highest_rank : ℕ
+highest_rank = 4294967295
+
+-- a rank is at most the highest, an added assertion fits the prelude, and another proof has at most 16,384 steps
+abbrev pub CommandFits : Tables → Command → Type 0
+CommandFits t (Add rank a) = (rank ≤ highest_rank) × Fits t a
+CommandFits t (Reprove label steps) = length steps ≤ 16384
+CommandFits t (Rename old new) = Unit {0}
+CommandFits t (Move label rank) = rank ≤ highest_rank
+CommandFits t (Delete label) = Unit {0}
+CommandFits t (Show label) = Unit {0}
+CommandFits t List = Unit {0}
+
+-- an assertion that is shown fits the prelude
+abbrev pub ReplyFits : Tables → Reply → Type 0
+ReplyFits t Done = Unit {0}
+ReplyFits t (Shown citers e) = Fits t e.assertion
+ReplyFits t (Listed lines) = Unit {0}

@@ -1,0 +1,21 @@
+//! A library of assertions with ranks: the commands on it and their replies, what each does, as a definition; and histories of transactions.
+#![tactic(auto)]
+
+mod command;
+mod history;
+mod laws;
+mod library;
+mod reason;
+
+pub use command::{
+    Command, Line, MOST_COMMANDS, Reply, Script, Transaction, copy_commands, copy_replies,
+    has_edit, has_too_many,
+};
+pub use history::{Entry, History};
+pub use laws::{
+    agreement_stays, export_order_is_one, fronts_verify, libraries_are_spelled, openings_verify,
+    reads_leave_the_library, replies_are_within_limits, settled_fronts_stay, shown_libraries_check,
+    transactions_verify,
+};
+pub use library::{PlainLibrary, Ranked};
+pub use reason::{Reason, Refused};

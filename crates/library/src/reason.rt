@@ -1,0 +1,86 @@
+//! Why commands are refused.
+
+ghost use Rattle.std.specs.Prelude.{◌≡◌};
+
+use proofcheck::ProofFault;
+
+/// Why a command is refused.
+#[derive(Clone, Copy, Debug, PartialEq, Eq)]
+pub enum Reason {
+    /// No assertion has the label.
+    UnknownLabel,
+    /// Another assertion has the label.
+    LabelTaken,
+    /// No assertion may have the label.
+    BadLabel,
+    /// A rank of 0.
+    BadRank,
+    /// A step cites a label that no assertion has.
+    CitesUnknown,
+    /// A step cites an assertion that isn't below the rank of the citing one.
+    CitedNotLower,
+    /// An assertion that cites this one isn't above the new rank.
+    CiterNotHigher,
+    /// So many assertions, at least one, cite this one in their proofs.
+    StillCited(u64),
+    /// An axiom has no proof.
+    NotATheorem,
+    /// An axiom can't be added.
+    AxiomNotAllowed,
+    /// The first fault of the proof.
+    ProofFails(ProofFault),
+    /// The library has as many assertions as slots.
+    LibraryFull,
+}
+
+impl Reason {
+    ghost use Rattle.library.specs.Reasons.{number_of, name_of};
+
+    /// The number of the reason, from 1 to 12.
+    pub fn number(self) -> u32
+        ensures { result ≡ number_of self }
+    {
+        match self {
+            Reason::UnknownLabel => 1,
+            Reason::LabelTaken => 2,
+            Reason::BadLabel => 3,
+            Reason::BadRank => 4,
+            Reason::CitesUnknown => 5,
+            Reason::CitedNotLower => 6,
+            Reason::CiterNotHigher => 7,
+            Reason::StillCited(_) => 8,
+            Reason::NotATheorem => 9,
+            Reason::AxiomNotAllowed => 10,
+            Reason::ProofFails(_) => 11,
+            Reason::LibraryFull => 12,
+        }
+    }
+
+    /// The name of the reason, as reports print it.
+    pub fn name(self) -> &'static str
+        ensures { result.now ≡ name_of self }
+    {
+        match self {
+            Reason::UnknownLabel => "UnknownLabel",
+            Reason::LabelTaken => "LabelTaken",
+            Reason::BadLabel => "BadLabel",
+            Reason::BadRank => "BadRank",
+            Reason::CitesUnknown => "CitesUnknown",
+            Reason::CitedNotLower => "CitedNotLower",
+            Reason::CiterNotHigher => "CiterNotHigher",
+            Reason::StillCited(_) => "StillCited",
+            Reason::NotATheorem => "NotATheorem",
+            Reason::AxiomNotAllowed => "AxiomNotAllowed",
+            Reason::ProofFails(_) => "ProofFails",
+            Reason::LibraryFull => "LibraryFull",
+        }
+    }
+}
+
+/// The first command of a transaction that is refused. It refuses the whole transaction.
+#[derive(Clone, Copy, Debug, PartialEq, Eq)]
+pub struct Refused {
+    /// Which command, counted from 1.
+    pub index: usize,
+    pub reason: Reason,
+}

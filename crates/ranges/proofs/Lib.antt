@@ -1,0 +1,4 @@
+pub mod Named
+pub mod Stored
+pub mod Grown
+pub mod Words

@@ -1,0 +1,3 @@
+pub mod Ranges
+pub mod Pairs
+pub mod Laws
