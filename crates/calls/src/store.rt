@@ -5,7 +5,7 @@ ghost use Rattle.std.specs.Prelude.{true, false, ◌≡◌, ◌≢◌, [], lengt
 use crate::shared::Anything;
 use std::alloc::Global;
 use std::test::Fail;
-use tlwords::{Mode, OpenFault, Pass, Range, StoreFull, Words, begin, close, open};
+use tlwords::{Law, Mode, OpenFault, Pass, Range, StoreFull, Words, begin, close, open};
 
 struct Named;
 

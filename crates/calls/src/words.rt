@@ -7,7 +7,7 @@ use std::alloc::Global;
 use std::test::Fail;
 use std::thread;
 use std::thread::{Threads, join};
-use tlwords::{ClosedWords, Mode, Outcome, Pass, Words, begin, close, learn, open};
+use tlwords::{ClosedWords, Conflict, Mode, Outcome, Pass, Words, begin, close, learn, open};
 
 // How often a thread tries before it gives up.
 const MOST_TRIES: u64 = 100_000_000;
