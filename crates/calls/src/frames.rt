@@ -1,4 +1,4 @@
-//! Frames of assertions made by hand.
+//! Frames of assertions made by hand, and their copies.
 
 use crate::shared::{database, sequence};
 use mmstatement::{Assertion, Expr, Frame, Kind, Sequence, Symbol, frame_of};
@@ -37,14 +37,15 @@ fn axiom(alloc: Global, hyp: &[Symbol], statement: &[Symbol]) -> Result<Assertio
     })
 }
 
-/// The frame of the axiom of a `$e` and a statement.
+/// A copy of the frame of the axiom of a `$e` and a statement.
 fn framed(rt: &HostRuntime, hyp: &[Symbol], statement: &[Symbol]) -> Result<Frame, Fail> {
     let db = database(rt, three())?;
     let axiom = axiom(rt.alloc(), hyp, statement)?;
-    Ok(frame_of(rt.alloc(), db.prelude(), &axiom)?)
+    let made = frame_of(rt.alloc(), db.prelude(), &axiom)?;
+    Ok(made.copy(rt.alloc())?)
 }
 
-/// Whether the frame of the axiom of a `$e` and a statement has them, and these `$f` and pairs.
+/// Whether the copied frame of the axiom of a `$e` and a statement has them, and these `$f` and pairs.
 fn has_frame(
     rt: &HostRuntime,
     hyp: &[Symbol],

@@ -13,13 +13,13 @@ mod databases;
 #[cfg(test)]
 mod editing;
 #[cfg(test)]
+mod entries;
+#[cfg(test)]
 mod exporting;
 #[cfg(test)]
 mod faults;
 #[cfg(test)]
 mod frames;
-#[cfg(test)]
-mod histories;
 #[cfg(test)]
 mod machine;
 #[cfg(test)]

@@ -18,9 +18,20 @@ pub fn mini() -> &'static [u8] {
     b"$c wff $.\nwe $a wff $.\n"
 }
 
-/// Two constants, two variables with their `$f`, an axiom and a constant axiom, in the canonical layout.
-pub fn pair() -> &'static [u8] {
-    b"$c wff |- $.\n$v x y $.\nwx $f wff x $.\nwy $f wff y $.\nid $a |- x y x $.\nwc $a wff $.\n"
+/// Two constants, two variables with their `$f`, two axioms, and a theorem with everything in it, in the canonical layout.
+pub fn small() -> &'static [u8] {
+    b"$c wff |- $.
+$v x y $.
+wx $f wff x $.
+wy $f wff y $.
+id $a |- x y x $.
+wc $a wff $.
+${
+  $d x y $.
+  th.1 $e |- x y $.
+  th $p |- x y $= wy th.1 id $.
+$}
+"
 }
 
 /// The database of a text.

@@ -9,7 +9,29 @@ use std::test::Fail;
 
 /// A lost number, and an entry with each command and each reply.
 fn canonical() -> &'static [u8] {
-    b"history 2\nvoid\ndone\nbegin\nadd 200\nt $p wff $= we $.\nreprove t $= we $.\nrename t u\nmove u 300\ndelete v\nshow u\nlist\ncommit\n  done\n  done\n  done\n  done\n  done\n  shown 300 3\n    u $p wff $= we $.\n  listed 1\n    300 u p 0\n"
+    b"history 2
+void
+done
+begin
+add 200
+t $p wff $= we $.
+reprove t $= we $.
+rename t u
+move u 300
+delete v
+show u
+list
+commit
+  done
+  done
+  done
+  done
+  done
+  shown 300 3
+    u $p wff $= we $.
+  listed 1
+    300 u p 0
+"
 }
 
 #[test]
