@@ -1,5 +1,5 @@
 -- The labels of a database are text.
-use Rattle.std.proofs.Common.{◌≡◌, ◌∙◌, ℕ, ◌<◌, Bool, true, List, length, get_or, Option, Some, subst, sym, ap, arith}
+use Rattle.std.proofs.Common.{◌≡◌, ◌∙◌, ℕ, ◌<◌, true, List, length, get_or, Some, subst, sym, ap, arith}
 use Rattle.std.specs.Prelude.{All, ◌&&◌, slice_get, nat_le, is_some}
 use mathlib.Core.Bool.{not}
 use Rattle.std.specs.Option.{unwrap_or}
@@ -12,15 +12,14 @@ use Rattle.std.proofs.lemmas.Str.{IsUtf8-from_ascii}
 use Rattle.std.proofs.lemmas.Str.Ascii.{IsAscii-from_all}
 use Rattle.mmtext.specs.Words.{is_label_byte, is_label, has_dot}
 use Rattle.mmsyntax.specs.declared.statement.Assertion.{Assertion}
-use Rattle.mmsyntax.specs.Tables.{Tables, Contents, meaning}
+use Rattle.mmsyntax.specs.Tables.{Tables, meaning}
 use Rattle.mmsyntax.specs.Assertions.{is_lawful_label}
 use Rattle.mmsyntax.proofs.Declarable.{declarable}
 use Rattle.proofcheck.specs.declared.fault.ProofFault.{ProofFault}
-use Rattle.jobs.specs.declared.job.Job.{Job}
 use Rattle.jobs.specs.declared.job.Job.TheVariants.{Check, Run, Replay}
 use Rattle.jobs.specs.declared.job.Fault.TheVariants.{Proof}
 use Rattle.jobs.specs.FaultLines.{shown_label}
-use Rattle.jobs.specs.Jobs.{Bytes, IsDatabaseFault, IsFaultOf}
+use Rattle.jobs.specs.Jobs.{Bytes, IsDatabaseFault}
 use Rattle.jobs.specs.Laws.{FaultLabelsAreShown}
 use Rattle.jobs.proofs.Shown.{shown_text}
 
