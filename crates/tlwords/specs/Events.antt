@@ -1,7 +1,8 @@
 -- Each step that a run makes on the clock or on a word of a cell is one event of tlcore's machine, in a table that keeps the rule.
 --
 -- The premises of each kind are those of the step, and what the step tells. `found` is the word as the step found it. The kinds are those
--- of the machine's actions: clock load, look, load, second look, take, draw, check, store, release. A load of the spare word, by which a
+-- of the machine's actions, with the steps of TL2 (Dice, Shalev, Shavit, DISC 2006, section 2.2, write transactions) in brackets: clock
+-- load (step 1), look, load and second look (2), take (3), draw (4), check (5), store and release (6). A load of the spare word, by which a
 -- pass sees the history so far, is no step of the machine; nor is a step on the tail or on a word of the store.
 use Rattle.std.specs.Prelude.{◌≡◌, ℕ, ◌+◌, ◌%◌, ◌^◌, ◌<◌, ◌==◌, if◌then◌else◌, ◌⊎◌, true, false, Some, List, ◌∷◌, ◌++◌, length, map, slice_index, slice_set}
 use mathlib.Core.Option.{some}
@@ -47,7 +48,7 @@ module _ {S N : Type 0} (terms : Terms S N) (setting : S) (base : List ℕ) (roo
       pub words_after : slice_set at.state.words i left ≡ words_of after ++ at.rule.tail ∷ at.rule.store
       pub seats_after : map (λ v. v.seat) (slice_set at.state.views at.seat r.0) ≡ after.seats
 
-  -- Begin: a load of the clock
+  -- Begin (step 1): a load of the clock
   abbrev pub ClockLoadIsEvent : Type 0
   ClockLoadIsEvent =
       (m r : Mine S N) (at : Moment m r) → (m.0.seat.place ≡ Idle) ⊎ (m.0.seat.place ≡ Reading)
@@ -58,28 +59,28 @@ module _ {S N : Type 0} (terms : Terms S N) (setting : S) (base : List ℕ) (roo
   abbrev pub HasCell : Mine S N → ℕ → Type 0
   HasCell m c = ((y : S) × (m.0.setting ≡ Some y)) × (c < length m.0.base)
 
-  -- Look: a load of the cell's lock word
+  -- Look (step 2): a load of the cell's lock word
   abbrev pub LookIsEvent : Type 0
   LookIsEvent =
       (m r : Mine S N) (at : Moment m r) (c : ℕ) → HasCell m c → m.0.seat.place ≡ Reading
       → Looks terms c m (found m r at (lock_at c)) r
       → IsEvent m r at (Look c) (lock_at c) (found m r at (lock_at c))
 
-  -- Load: a load of the cell's value word
+  -- Load (step 2): a load of the cell's value word
   abbrev pub LoadIsEvent : Type 0
   LoadIsEvent =
       (m r : Mine S N) (at : Moment m r) (c word : ℕ) → HasCell m c → m.0.seat.place ≡ Looked c word
       → Loads terms m (found m r at (value_at c)) r
       → IsEvent m r at (Load c) (value_at c) (found m r at (value_at c))
 
-  -- Relook: a load of the cell's lock word
+  -- Relook (step 2): a load of the cell's lock word
   abbrev pub RelookIsEvent : Type 0
   RelookIsEvent =
       (m r : Mine S N) (at : Moment m r) (c word value : ℕ) → HasCell m c → m.0.seat.place ≡ Loaded c word value
       → Relooks terms m (found m r at (lock_at c)) r
       → IsEvent m r at (Relook c) (lock_at c) (found m r at (lock_at c))
 
-  -- Take: a compare-exchange of the cell's lock word from the word of its read to one more
+  -- Take (step 3): a compare-exchange of the cell's lock word from the word of its read to one more
   abbrev pub TakeIsEvent : Type 0
   TakeIsEvent =
       (m r : Mine S N) (at : Moment m r) (c value : ℕ) (d : Read) → HasCell m c
@@ -88,13 +89,13 @@ module _ {S N : Type 0} (terms : Terms S N) (setting : S) (base : List ℕ) (roo
       → IsEvent m r at (Take c value) (lock_at c)
       (if found m r at (lock_at c) == d.word then d.word + 1 else found m r at (lock_at c))
 
-  -- Draw: a fetch-and-add of 1 to the clock, as a word of 64 bits
+  -- Draw (step 4): a fetch-and-add of 1 to the clock, as a word of 64 bits
   abbrev pub DrawIsEvent : Type 0
   DrawIsEvent =
       (m r : Mine S N) (at : Moment m r) (note : N) → m.0.seat.place ≡ Taking → Draws terms (Some note) m (found m r at clock_at) r
       → IsEvent m r at Draw clock_at ((found m r at clock_at + 1) % 2 ^ 64)
 
-  -- Check: a load of the cell's lock word
+  -- Check (step 5): a load of the cell's lock word
   abbrev pub CheckIsEvent : Type 0
   CheckIsEvent =
       (m r : Mine S N) (at : Moment m r) (i upto c : ℕ) (d : Read) → HasCell m c → m.0.seat.place ≡ Checking i upto
@@ -102,14 +103,14 @@ module _ {S N : Type 0} (terms : Terms S N) (setting : S) (base : List ℕ) (roo
       → Checks terms c m (found m r at (lock_at c)) r
       → IsEvent m r at (Check c) (lock_at c) (found m r at (lock_at c))
 
-  -- Store: a store of the cell's value word
+  -- Store (step 6): a store of the cell's value word
   abbrev pub StoreIsEvent : Type 0
   StoreIsEvent =
       (m r : Mine S N) (at : Moment m r) (i c : ℕ) (k : Held) → HasCell m c → MayStore m.0.seat i
       → find_held c m.0.seat.held ≡ Some k → Stores terms c m r
       → IsEvent m r at (Store c) (value_at c) k.value
 
-  -- Release: a store of the cell's lock word
+  -- Release (step 6): a store of the cell's lock word
   abbrev pub ReleaseIsEvent : Type 0
   ReleaseIsEvent =
       (m r : Mine S N) (at : Moment m r) (c word : ℕ) (k : Held) → HasCell m c → find_held c m.0.seat.held ≡ Some k
