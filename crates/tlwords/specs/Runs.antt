@@ -1,6 +1,5 @@
 -- What a pass and a run keep, and what their calls tell.
-use Rattle.std.specs.Prelude.{◌≡◌, ◌≢◌, ℕ, zero, suc, ◌+◌, ◌-◌, ◌/◌, ◌%◌, ◌^◌, ◌<◌, ◌≤◌, ◌==◌, Bool, true, is_some, if◌then◌else◌, Option, Some, None, List, [], ◌∷◌, length, slice_get, ◌⊎◌, option_and_then}
-use Rattle.std.specs.List.{list_any}
+use Rattle.std.specs.Prelude.{◌≡◌, ◌≢◌, ℕ, zero, suc, ◌+◌, ◌-◌, ◌/◌, ◌%◌, ◌^◌, ◌<◌, ◌≤◌, Bool, true, is_some, if◌then◌else◌, Option, Some, None, List, [], ◌∷◌, length, slice_get, ◌⊎◌, option_and_then}
 use Rattle.std.specs.Option.{option_map}
 use Rattle.tlcore.specs.History.{WasWritten}
 use Rattle.tlcore.specs.Seats.{Seat, find_read, is_nil}
@@ -14,7 +13,7 @@ use Rattle.tlwords.specs.declared.mode.Mode.TheVariants.{Reading, Writing}
 use Rattle.tlwords.specs.Ranges.{Range, Has, Names, LieIn}
 use Rattle.tlwords.specs.Terms.{Terms}
 use Rattle.tlwords.specs.Seen.{SeenGrows}
-use Rattle.tlwords.specs.Views.{View, Sound, fresh, untold, counts}
+use Rattle.tlwords.specs.Views.{View, Sound, fresh, untold}
 use Rattle.tlwords.specs.Plays.{Mine, Sees, began}
 
 -- ---- what is kept of the cells
