@@ -6,7 +6,7 @@ use Rattle.std.proofs.lemmas.Option.{slice_get-map, slice_get_past, get_or_from_
 use Rattle.std.proofs.lemmas.Bool.{cases_lt}
 use mathlib.Core.Logic.{dite}
 use native.Mathlib.Decide.{ℕ_discrete}
-use Rattle.tlcore.proofs.Lists.{get-set_same, get-set_other, get_within, get-append_left, get-append_seam, get-append_cases, length-append_one, length-slice_set, option_known}
+use Rattle.tlcore.proofs.Lists.{get-set_same, get-set_other, get_within, get-append_left, get-append_seam, get-append_cases, length-append_one, length-slice_set}
 use Rattle.tlcore.proofs.Growth.{get_exists}
 use Rattle.tlwords.specs.declared.log.Slot.{Slot}
 use Rattle.tlwords.specs.declared.slots.Entry.{Entry}

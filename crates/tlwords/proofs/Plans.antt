@@ -2,24 +2,24 @@
 use Rattle.std.proofs.Common.{◌≡◌, ◌≢◌, ℕ, zero, suc, ◌+◌, ◌<◌, ◌≤◌, ◌⊎◌, inl, inr, ⊎_elim, eqb-true, eq-eqb, ne_eqb, Bool, true, false, ◌==◌, ◌||◌, not, is_some, if◌then◌else◌, Option, Some, None, List, [], ◌∷◌, ◌++◌, length, take, slice_get, sym, refl, ap, ◌∙◌, subst, arith}
 use Rattle.std.specs.Prelude.{slice_index_or, option_and_then, ◌&&◌}
 use Rattle.std.specs.Option.{option_map, unwrap_or}
-use Rattle.std.specs.List.{All, list_any, sum_by}
+use Rattle.std.specs.List.{list_any, sum_by}
 use Rattle.std.specs.List.Sorted.{IsPermutation, IsNonDecreasingBy}
 use Rattle.std.proofs.lemmas.List.Sorted.{All-permutation, list_any-IsPermutation, sum_by-IsPermutation}
-use Rattle.std.proofs.lemmas.List.Sums.{sum_by-append, sum_by-cons, sum_by_more, sum_by_more_le}
+use Rattle.std.proofs.lemmas.List.Sums.{sum_by-append, sum_by_more, sum_by_more_le}
 use Rattle.std.proofs.lemmas.Option.{get_or_from_slice_get, slice_get-map}
 use Rattle.std.proofs.lemmas.Bool.{cases_lt}
 use Rattle.std.proofs.lemmas.List.{append-nil, append_assoc, length-append, take_more}
 use mathlib.Core.Logic.{dite}
 use mathlib.Core.Bool.{beq}
 use native.Mathlib.Decide.{ℕ_discrete}
-use Rattle.tlcore.proofs.Lists.{known, both_left, both_right, get_within, option_known}
+use Rattle.tlcore.proofs.Lists.{known, both_left, both_right, get_within}
 use Rattle.tlcore.proofs.Growth.{get_exists}
 use Rattle.tlwords.specs.declared.log.Slot.{Slot}
 use Rattle.tlwords.specs.declared.log.Touched.{Touched}
 use Rattle.tlwords.specs.declared.log.Log.{Log}
 use Rattle.tlwords.specs.declared.slots.Entry.{Entry}
 use Rattle.tlwords.specs.Runs.{word_seen, value_kept, was_read}
-use Rattle.tlwords.specs.Walks.{is_wanted, NoneWanted, IsLeast, IsNext, low_of, behind, IsPlan}
+use Rattle.tlwords.specs.Walks.{is_wanted, NoneWanted, IsNext, low_of, behind, IsPlan}
 use Rattle.tlwords.specs.Entries.{slots_of, slot_at, slot_in, IsIndexed, pick, picked}
 use Rattle.tlwords.specs.Commits.{writes_kept}
 use Rattle.tlwords.proofs.Entries.{slot_found}

@@ -1,6 +1,6 @@
 -- What a pass and a run keep, and what their calls tell.
-use Rattle.std.specs.Prelude.{◌≡◌, ◌≢◌, ℕ, zero, suc, ◌+◌, ◌-◌, ◌/◌, ◌%◌, ◌^◌, ◌<◌, ◌≤◌, ◌==◌, Bool, true, is_some, if◌then◌else◌, Option, Some, None, List, [], ◌∷◌, length, slice_get, ◌⊎◌, option_and_then, min}
-use Rattle.std.specs.List.{list_any}
+use Rattle.std.specs.Prelude.{◌≡◌, ◌≢◌, ℕ, zero, suc, ◌+◌, ◌-◌, ◌/◌, ◌%◌, ◌^◌, ◌<◌, ◌≤◌, Bool, true, is_some, if◌then◌else◌, Option}
+use Rattle.std.specs.Prelude.{Some, None, List, [], ◌∷◌, length, slice_get, ◌⊎◌, option_and_then, min}
 use Rattle.std.specs.Option.{option_map}
 use Rattle.tlcore.specs.History.{WasWritten}
 use Rattle.tlcore.specs.Seats.{Seat, find_read, is_nil}
@@ -16,7 +16,7 @@ use Rattle.tlwords.specs.declared.mode.Mode.TheVariants.{Reading, Writing}
 use Rattle.ranges.specs.Ranges.{Range, Has, Names, AreOfOneStore}
 use Rattle.tlwords.specs.Terms.{Terms}
 use Rattle.tlwords.specs.Seen.{SeenGrows, Agree}
-use Rattle.tlwords.specs.Views.{View, Sound, fresh, untold, counts}
+use Rattle.tlwords.specs.Views.{View, Sound, fresh, untold}
 use Rattle.tlwords.specs.Plays.{Mine, Sees, began}
 
 -- ---- what is kept of the cells

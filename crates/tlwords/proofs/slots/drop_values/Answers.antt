@@ -1,5 +1,5 @@
 use Rattle.tlwords.proofs.Entries.{dropped_all}
-use Rattle.std.proofs.Common.{arith, length}
+use Rattle.std.proofs.Common.{arith}
 use Rattle.tlwords.proofs.slots.drop_values.Goals as goal
 
 pub returns : goal.returns

@@ -1,9 +1,9 @@
-use Rattle.std.proofs.Common.{arith, ◌≡◌, ◌++◌, ◌+◌, None, [], ◌∷◌, length, take, slice_index_or, sym, ap, ◌∙◌}
+use Rattle.std.proofs.Common.{arith, ◌++◌, None, [], ◌∷◌, length, take, slice_index_or, sym, ap, ◌∙◌}
 use mathlib.Core.Bool.{beq}
 use Rattle.std.specs.Vec.{vec_capacity}
 use Rattle.std.proofs.lemmas.List.{length-take-le}
 use Rattle.tlwords.specs.declared.slots.Entry.{Entry}
-use Rattle.tlwords.specs.Entries.{pick, picked}
+use Rattle.tlwords.specs.Entries.{picked}
 use Rattle.tlwords.proofs.Plans.{picked_length, picked_next, picked_here, picked_else}
 use Rattle.tlwords.proofs.slots.pick.Goals.{then-is_some-kept, else-is_some-kept}
 use Rattle.tlwords.proofs.slots.pick.Goals as goal

@@ -1,4 +1,4 @@
-use Rattle.std.proofs.Common.{arith, ◌≡◌, ◌<◌, length, sym, slice_index_or, None}
+use Rattle.std.proofs.Common.{arith, sym, slice_index_or, None}
 use Rattle.std.proofs.lemmas.Option.{get_or_from_slice_get}
 use Rattle.tlwords.specs.declared.slots.Entry.{Entry}
 use Rattle.tlwords.proofs.Entries.{wiped_next, wiped_all, entry_bound}

@@ -1,4 +1,4 @@
-use Rattle.std.proofs.Common.{arith, sym, ap, refl, ◌∙◌, subst, length, take, ◌+◌, ◌<◌}
+use Rattle.std.proofs.Common.{arith, sym, ap, refl, ◌∙◌, subst, length, ◌+◌, ◌<◌}
 use Rattle.tlwords.specs.Runs.{IsKeptOf, noted}
 use Rattle.tlwords.proofs.Fillings.{fits_on, knows_on, range_word}
 use Rattle.tlwords.proofs.runs.Run.load.Goals as goal

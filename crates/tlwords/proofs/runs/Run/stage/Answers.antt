@@ -1,4 +1,4 @@
-use Rattle.std.proofs.Common.{arith, refl, sym, ap, ◌∙◌, subst, length, take, ◌+◌, ◌<◌, ◌≤◌}
+use Rattle.std.proofs.Common.{arith, refl, sym, ap, ◌∙◌, subst, length, ◌+◌, ◌<◌, ◌≤◌}
 use Rattle.tlwords.specs.Runs.{IsKeptOf, noted}
 use Rattle.tlwords.proofs.Fillings.{fits_on, knows_on, no_refusal, staged}
 use Rattle.tlwords.proofs.runs.Run.stage.Goals.{then-words-room-via-then-words-room, then-words-room-via-else-words-room+then-start-room}

@@ -1,4 +1,4 @@
-use Rattle.std.proofs.Common.{arith, ◌≡◌, ◌<◌, length, ap, subst, sym, Some, ◌∙◌}
+use Rattle.std.proofs.Common.{arith, ◌≡◌, ◌<◌, length, subst, sym, Some}
 use Rattle.tlwords.specs.Runs.{word_seen, value_kept}
 use Rattle.tlwords.specs.Entries.{slots_of}
 use Rattle.tlwords.proofs.Entries.{entry_within, entry_seen}

@@ -1,4 +1,4 @@
-use Rattle.std.proofs.Common.{arith, ◌≡◌, ◌<◌, ◌-◌, slice_set, length, subst, sym, refl, ap, ◌∙◌, true, false, is_some, Some}
+use Rattle.std.proofs.Common.{◌≡◌, ◌<◌, ◌-◌, slice_set, length, subst, sym, refl, ap, ◌∙◌, true, false, is_some, Some}
 use Rattle.tlwords.specs.Runs.{was_read, HasKept}
 use Rattle.tlwords.specs.Entries.{slots_of}
 use Rattle.tlwords.proofs.Entries.{read_placed, entry_set, value_kept_new}

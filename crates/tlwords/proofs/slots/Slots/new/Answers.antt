@@ -1,4 +1,4 @@
-use Rattle.std.proofs.Common.{arith, ◌≡◌, ◌≤◌, ◌<◌, ◌^◌, [], length, replicate, subst, sym, ap, ◌∙◌}
+use Rattle.std.proofs.Common.{arith, ◌≡◌, [], replicate, subst, sym, ◌∙◌}
 use Rattle.tlwords.specs.Runs.{IsBlank}
 use Rattle.tlwords.specs.Entries.{slots_of, slot_at, IsIndexed}
 use Rattle.tlwords.proofs.Entries.{map_length, zeros_filled, zeros_wiped, wiped_indexed, wiped_blank}

@@ -1,4 +1,4 @@
-use Rattle.std.proofs.Common.{arith, ◌≡◌, ◌<◌, ◌-◌, ◌+◌, slice_set, length, length-set, subst, sym, refl, ap, ◌∙◌}
+use Rattle.std.proofs.Common.{arith, ◌≡◌, ◌<◌, ◌-◌, ◌+◌, slice_set, length, length-set, subst, sym, refl}
 use Rattle.tlwords.specs.Runs.{HasNoted}
 use Rattle.tlwords.specs.Entries.{slots_of}
 use Rattle.tlwords.proofs.Entries.{room_left, noted_indexed, noted_new, entry_within, entry_set, noted_again}
