@@ -29,7 +29,7 @@ fn take_all<L: Law>(words: &Words<L>, seat: &mut Place<L>, log: &Log) -> Result<
     requires table { seat.old.table_id ≡ words.now.table.shared.table_id }
     requires setting { (y : L.Setting) × (seat.old.me.0.setting ≡ Some y) }
     requires cells { (length log.now.slots.items ≡ words.now.cells) × (length log.now.slots.items ≡ length seat.old.me.0.base) }
-    requires run { (seat.old.me.0.seat.place ≡ at_reading) × (seat.old.me.0.seat.held ≡ []) }
+    requires run { (seat.old.me.0.seat.place ≡ at_reading) × (seat.old.me.0.seat.held ≡ []) × (1 ≤ seat.old.me.0.rights) }
     requires kept { IsKeptOf seat.old.me.0.seat log.now.slots.items (listed log.now) }
     requires sorted { IsNonDecreasing (listed log.now) }
     ensures seat { IsSameSeat seat.old seat.new }

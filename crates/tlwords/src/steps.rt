@@ -85,7 +85,7 @@ fn take_saying<L: Law, G: Said<L::Note>>(
     requires said { G.value ≡ value }
     requires place { (seat.old.me.0.seat.place ≡ at_reading) ⊎ ((seat.old.me.0.seat.place ≡ at_taking) × (all_below cell seat.old.me.0.seat.held ≡ true)) }
     requires read { (d : SeatRead) × (find_read cell seat.old.me.0.seat.reads ≡ Some d) × (d.word ≡ word) }
-    requires room { word + 1 < 2 ^ 64 }
+    requires room { (word + 1 < 2 ^ 64) × (1 ≤ seat.old.me.0.rights) }
     ensures seat { IsSameSeat seat.old seat.new }
     ensures told { Takes L.terms cell value word seat.old.me result seat.new.me }
 {
@@ -109,7 +109,7 @@ pub(crate) fn take<L: Law>(
     requires cell { (cell < words.now.cells) × (cell < length seat.old.me.0.base) }
     requires place { (seat.old.me.0.seat.place ≡ at_reading) ⊎ ((seat.old.me.0.seat.place ≡ at_taking) × (all_below cell seat.old.me.0.seat.held ≡ true)) }
     requires read { (d : SeatRead) × (find_read cell seat.old.me.0.seat.reads ≡ Some d) × (d.word ≡ word) }
-    requires room { word + 1 < 2 ^ 64 }
+    requires room { (word + 1 < 2 ^ 64) × (1 ≤ seat.old.me.0.rights) }
     ensures seat { IsSameSeat seat.old seat.new }
     ensures told { Takes L.terms cell value word seat.old.me result seat.new.me }
 {

@@ -10,7 +10,7 @@ returns-then-index-place-clause-ok g c =
 
 pub loop-next-init : goal.loop-next-init
 loop-next-init g c =
-    ((refl, refl), omega arith, check_starts g.L.Law.terms c.args.log.now.slots.items _ c.args.index c.args.seat.now.me c.requires.kept c.requires.run.0)
+    ((refl, refl, refl), omega arith, check_starts g.L.Law.terms c.args.log.now.slots.items _ c.args.index c.args.seat.now.me c.requires.kept c.requires.run.0)
 
 pub check-word-requires-clause-table : goal.check-word-requires-clause-table
 check-word-requires-clause-table g c = c.loop-next.invariant.0.0 ∙ c.requires.table

@@ -4,7 +4,7 @@ use Rattle.tlwords.proofs.Releases.{release_held, release_goes, release_end}
 use Rattle.tlwords.proofs.commits.release_all.Goals as goal
 
 pub loop-next-init : goal.loop-next-init
-loop-next-init g c = ((refl, refl), omega arith, c.requires.run)
+loop-next-init g c = ((refl, refl, refl), omega arith, c.requires.run)
 
 pub returns-then-kept-high-clause-seat : goal.returns-then-kept-high-clause-seat
 returns-then-kept-high-clause-seat g c = c.loop-next.invariant.0

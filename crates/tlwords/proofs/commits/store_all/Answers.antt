@@ -4,7 +4,7 @@ use Rattle.tlwords.proofs.Stores.{store_setting, store_base, store_place, store_
 use Rattle.tlwords.proofs.commits.store_all.Goals as goal
 
 pub loop-next-init : goal.loop-next-init
-loop-next-init g c = ((refl, refl), omega arith, inl (refl, λ x a b. absurd (omega arith)))
+loop-next-init g c = ((refl, refl, refl), omega arith, inl (refl, λ x a b. absurd (omega arith)))
 
 pub store-requires-clause-table : goal.store-requires-clause-table
 store-requires-clause-table g c = c.loop-next.invariant.0.0 ∙ c.requires.table

@@ -3,12 +3,12 @@ use Rattle.tlcore.specs.Seats.{Seat}
 use Rattle.tlcore.proofs.Words.{SeatHeld, at_reading, at_taking}
 use Rattle.tlwords.specs.Committing.{holding, Goes}
 use Rattle.tlwords.proofs.Held.{held_on}
-use Rattle.tlwords.proofs.Turns.{unkept_of, read_found, goes_start, goes_setting, goes_base, goes_read, seat_trans, take_place, take_goes, take_fails}
+use Rattle.tlwords.proofs.Turns.{unkept_of, read_found, goes_start, goes_setting, goes_base, goes_rights, goes_read, seat_trans, take_place, take_goes, take_fails}
 use Rattle.tlwords.proofs.commits.take_all.Goals as goal
 
 pub loop-next-init : goal.loop-next-init
 loop-next-init g c = (
-  (refl, refl),
+  (refl, refl, refl),
   omega arith,
   goes_start g.L.Law.terms c.args.seat.now.me (holding c.args.seat.now.me.0.seat at_taking at_reading [])
       (λ j. let t : Seat = record c.args.seat.now.me.0.seat { place = sym c.requires.run.0 j; held = sym c.requires.run.1 j } in t),
@@ -40,7 +40,10 @@ take-found-requires-clause-read g c =
 
 pub take-found-requires-clause-room : goal.take-found-requires-clause-room
 take-found-requires-clause-room g c =
-    let even = c.requires.kept.2 c.in-Some.kept.cell c.in-Some.kept.word c.in-Some.ensures.some.1 in omega arith
+    let even = c.requires.kept.2 c.in-Some.kept.cell c.in-Some.kept.word c.in-Some.ensures.some.1 in
+    let same = goes_rights g.L.Law.terms _ _ _ c.loop-next.invariant.2 in
+    let enough = c.requires.run.2 in
+    (omega arith, omega arith)
 
 pub returns-then-found-kept-clause-seat : goal.returns-then-found-kept-clause-seat
 returns-then-found-kept-clause-seat g c =
