@@ -86,7 +86,7 @@ fn a_staged_range_is_read_back(rt: HostRuntime) -> Result<(), Fail> {
     };
     let (x, read) = stage_three(&words, x);
     assert!(rt; read == Some([7, 8, 9]));
-    let closed = close(rt.alloc(), words, Some(x))?;
+    let closed = close(rt.alloc(), words, vec![in rt.alloc(); x]?)?;
     assert!(rt; closed.tail == 3 && closed.store.as_slice() == [7, 8, 9, 0].as_slice());
     Ok(())
 }
@@ -101,7 +101,7 @@ fn a_session_that_was_refused_stays_refused(rt: HostRuntime) -> Result<(), Fail>
     let (_, one) = refuses(&words, x, &[1]);
     let (y, other) = refuses(&words, y, &[1]);
     assert!(rt; two && one && other);
-    let closed = close(rt.alloc(), words, Some(y))?;
+    let closed = close(rt.alloc(), words, vec![in rt.alloc(); y]?)?;
     assert!(rt; closed.tail == 6 && closed.store.as_slice() == [7, 8, 9, 0].as_slice());
     Ok(())
 }
@@ -125,7 +125,7 @@ fn more_words_than_the_room_are_refused(rt: HostRuntime) -> Result<(), Fail> {
     };
     let (_, refused) = refuses(&words, x, &[0; 100]);
     assert!(rt; refused);
-    let closed = close(rt.alloc(), words, Some(y))?;
+    let closed = close(rt.alloc(), words, vec![in rt.alloc(); y]?)?;
     assert!(rt; closed.tail == 5);
     Ok(())
 }

@@ -229,7 +229,7 @@ fn a_taken_lock_word_is_another_than_that_read(rt: HostRuntime) -> Result<(), Fa
     };
     let (x, first, second) = meet(&words, x, y, 5);
     assert!(rt; committed(first) == 1 && is_conflict(second, Some(0)));
-    let closed = close(rt.alloc(), words, Some(x))?;
+    let closed = close(rt.alloc(), words, vec![in rt.alloc(); x]?)?;
     assert!(rt; shown(&closed) == [1, 2, 1, 0, 0]);
     Ok(())
 }
@@ -241,7 +241,7 @@ fn a_failed_check_gives_the_lock_back(rt: HostRuntime) -> Result<(), Fail> {
     };
     let (x, first, second) = meet(&words, x, y, 6);
     assert!(rt; committed(first) == 1 && is_conflict(second, Some(0)));
-    let closed = close(rt.alloc(), words, Some(x))?;
+    let closed = close(rt.alloc(), words, vec![in rt.alloc(); x]?)?;
     assert!(rt; shown(&closed) == [2, 2, 1, 0, 0]);
     Ok(())
 }
@@ -253,7 +253,7 @@ fn a_late_read_conflicts(rt: HostRuntime) -> Result<(), Fail> {
     };
     let (x, first, second) = follow(&words, x, y, 5);
     assert!(rt; committed(first) == 1 && is_conflict(second, None));
-    let closed = close(rt.alloc(), words, Some(x))?;
+    let closed = close(rt.alloc(), words, vec![in rt.alloc(); x]?)?;
     assert!(rt; shown(&closed) == [1, 2, 1, 0, 0]);
     Ok(())
 }
@@ -265,7 +265,7 @@ fn writes_of_other_cells_do_not_conflict(rt: HostRuntime) -> Result<(), Fail> {
     };
     let (x, first, second) = follow(&words, x, y, 6);
     assert!(rt; committed(first) == 1 && committed(second) == 2);
-    let closed = close(rt.alloc(), words, Some(x))?;
+    let closed = close(rt.alloc(), words, vec![in rt.alloc(); x]?)?;
     assert!(rt; shown(&closed) == [2, 4, 3, 2, 1]);
     Ok(())
 }
@@ -277,7 +277,7 @@ fn a_read_before_a_commit_elsewhere_stands(rt: HostRuntime) -> Result<(), Fail> 
     };
     let (x, first, second) = pass_by(&words, x, y);
     assert!(rt; committed(first) == 1 && committed(second) == 2);
-    let closed = close(rt.alloc(), words, Some(x))?;
+    let closed = close(rt.alloc(), words, vec![in rt.alloc(); x]?)?;
     assert!(rt; shown(&closed) == [2, 4, 9, 2, 1]);
     Ok(())
 }
@@ -313,7 +313,7 @@ fn no_increment_is_lost(rt: HostRuntime) -> Result<(), Fail> {
     };
     let (first, second) = add_together(&rt, &words, x, y, 10_000);
     assert!(rt; first == 10_000 && second == 10_000);
-    let closed = close(rt.alloc(), words, None)?;
+    let closed = close(rt.alloc(), words, Vec::new(rt.alloc()))?;
     let value = closed.cells.get(0).map(|cell| cell.value);
     assert!(rt; closed.clock >= 20_000 && value == Some(20_000));
     Ok(())
@@ -336,7 +336,7 @@ fn what_was_forgotten_is_not_written(rt: HostRuntime) -> Result<(), Fail> {
     run.forget();
     let (_, second) = run.commit(&8);
     assert!(rt; matches!(second, Outcome::Read(1)));
-    let closed = close(rt.alloc(), words, Some(x))?;
+    let closed = close(rt.alloc(), words, vec![in rt.alloc(); x]?)?;
     assert!(rt; shown(&closed) == [1, 0, 0, 2, 1]);
     Ok(())
 }

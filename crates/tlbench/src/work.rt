@@ -299,7 +299,7 @@ fn run_team(
 pub fn run_all(rt: &(impl Threads + Sync), alloc: Global, task: &Task) -> Option<Done> {
     let (words, passes) = opened(alloc, task.cells, task.team.size())?;
     let committed = run_team(rt, &words, passes, task)?;
-    let closed = close(alloc, words, None).ok()?;
+    let closed = close(alloc, words, Vec::new(alloc)).ok()?;
     let sum = closed
         .cells
         .iter()

@@ -8,7 +8,7 @@ use Rattle.std.proofs.lemmas.List.{length-append}
 use Rattle.atomic_table.specs.Table.{step, Allows}
 use Rattle.atomic_table.proofs.Lists.{exchanged}
 use Rattle.tlcore.specs.History.{Entry, wv, settle}
-use Rattle.tlcore.specs.Seats.{Seat, number_at, passes, reads_of, writes_of, find_read, find_held, all_below, all_settled, is_due, is_next, is_nil, without}
+use Rattle.tlcore.specs.Seats.{Seat, number_at, passes, reads_of, writes_of, find_read, find_held, all_below, all_settled, is_due, is_next, is_nil, without, stored as stored_in}
 use Rattle.tlcore.specs.Machine.{World, with_seat, placed, conflict, taken, take_cell, drawn, check, store, release}
 use Rattle.tlcore.specs.Invariant.{PlaceOk, CheckingOk}
 use Rattle.tlcore.specs.declared.actions.Action.TheVariants.{Take, Draw, Check, Store, Release}
@@ -26,13 +26,13 @@ use Rattle.tlcore.proofs.Words.{landed_not_open, void_not_open, is_looking, not_
 use Rattle.ranges.specs.Ranges.{Range, Has, Names}
 use Rattle.tlwords.specs.Terms.{Terms, Permits}
 use Rattle.tlwords.specs.Seen.{Call, Committed, Seen, SeenGrows, IsSettled, IsDone, Agree}
-use Rattle.tlwords.specs.Views.{View, tells, Sound}
-use Rattle.tlwords.specs.Rule.{words_of, paired, lock_at, value_at, total_of, LookIsFresh, EntriesAre, IsTold, Suits, Ruled}
-use Rattle.tlwords.specs.Plays.{Mine, GivesBack, Sees, Takes, Checks, Stores, Releases, work_of, after_take, after_check, after_store, after_release, took, drew, checked, stored, released}
+use Rattle.tlwords.specs.Views.{Gone, View, tells, Sound}
+use Rattle.tlwords.specs.Rule.{Start, rights_of, numbers_of, words_of, paired, lock_at, value_at, total_of, LookIsFresh, EntriesAre, IsTold, Suits, Ruled}
+use Rattle.tlwords.specs.Plays.{Mine, GivesBack, Sees, Takes, Checks, Stores, Releases, work_of, after_take, after_check, after_store, after_release, took, drew, checked, stored, released, bare}
 use Rattle.tlwords.proofs.Paired.{clock_word, lock_word, lock_is_set, value_is_set, word_count, lock_within, value_within}
 use Rattle.tlwords.proofs.Seens.{settled_grows, seen_refl, seen_trans, permits_grow, agree_grows, agree_snoc}
 use Rattle.tlwords.proofs.Lifts.{lifted}
-use Rattle.tlwords.proofs.Keeps.{Rule, now, seat_at, moved, sound_of, goes, told_grows}
+use Rattle.tlwords.proofs.Keeps.{Rule, gone_grows, now, seat_at, moved, sound_of, goes, told_grows}
 use Rattle.tlwords.proofs.Fronts.{named_after, named_locked, held_named}
 use Rattle.tlwords.proofs.ReadSteps.{if_known, lock_back, value_back, no_number, cell_in, half_written, quiet}
 
@@ -49,12 +49,12 @@ place_known P false x y f g = g refl
 -- ---- Take
 
 module _ {S N : Type 0} (terms : Terms S N) (setting : S) (base : List ℕ) (room : ℕ) where
-  pub takes : (opened : List ℕ) (slots id c value old new : ℕ) (me : Mine S N) (y : S) → me.0.setting ≡ Some y → c < length me.0.base
+  pub takes : (opened : Start) (slots id c value old new : ℕ) (me : Mine S N) (y : S) → me.0.setting ≡ Some y → c < length me.0.base
       → (me.0.seat.place ≡ Reading) ⊎ ((me.0.seat.place ≡ Taking) × (all_below c me.0.seat.held ≡ true))
-      → (d : Read) → find_read c me.0.seat.reads ≡ Some d → d.word ≡ old → new ≡ old + 1
+      → (d : Read) → find_read c me.0.seat.reads ≡ Some d → d.word ≡ old → new ≡ old + 1 → 1 ≤ me.0.rights
       → Allows (Ruled terms setting base room opened) slots id me (lock_at c) (λ n. either (eqb n old) new n)
-      (took terms value (step slots (lock_at c) old new none) me)
-  takes opened slots id c value old new me y set l p d read word up =
+      (bare (took terms value) (step slots (lock_at c) old new none) me)
+  takes opened slots id c value old new me y set l p d read word up some_rights =
       lifted terms setting base room opened slots id (lock_at c) me (λ n. either (eqb n old) new n)
       (took terms value (step slots (lock_at c) old new none) me) λ ranges ws vs r at.
       let v : View S N = me.0 in
@@ -91,7 +91,7 @@ module _ {S N : Type 0} (terms : Terms S N) (setting : S) (base : List ℕ) (roo
       (named_locked terms setting base room ranges ws vs r c (suc old) x.0 x.1) keep' refl words
       (length-slice_set w.cells c (record x.0 { lock = suc old })) refl (λ a. a) f.told
       (λ k a. absurd (none_now k a)) (λ k a. absurd (no_number Taking Taking k refl refl a))
-      (λ d o a b. absurd (not_looking Taking refl d o a b))))
+      (λ d o a b. absurd (not_looking Taking refl d o a b)) (λ e _. absurd (omega (arith, e, some_rights)))))
       (λ miss.
       let b : ((x.0).lock == old) ≡ false = ne_eqb (x.0).lock old (λ a. miss (is ∙ a)) in
       let keep' : Keeps base w (with_seat w id lost) =
@@ -103,7 +103,7 @@ module _ {S N : Type 0} (terms : Terms S N) (setting : S) (base : List ℕ) (roo
       (λ _ b. no_number Idle Idle k refl refl b) (λ _ b. no_number Failing Failing k refl refl b) a))
       (place_known (λ (z : Place). LookIsFresh w.history (conflict t z)) (is_nil t.held) Idle Failing
       (λ _ d o a b. absurd (not_looking Idle refl d o a b)) (λ _ d o a b. absurd (not_looking Failing refl d o a b)))
-      (record v { seen = h; seat = lost; looked = Some (c, n) }) refl)) in (
+      (λ _ b. b) (record v { seen = h; seat = lost; looked = Some (c, n) }) refl)) in (
         lock_within ws w r.words_are c x.0 x.1,
         u,
         (refl, refl, refl),
@@ -124,22 +124,35 @@ checking_same : (n i : ℕ) → number_at (Checking n 0) ≡ Some i → n ≡ i
 checking_same n i e = cc
 
 module _ {S N : Type 0} (terms : Terms S N) (setting : S) (base : List ℕ) (room : ℕ) where
+  gone_few : (gs : List (Gone S N)) → ((g : Gone S N) → Has g gs → length g.told.drawn ≤ 2 ^ 40)
+      → total_of (λ (g : Gone S N). length g.told.drawn) gs ≤ 2 ^ 40 * length gs
+  gone_few [] each = omega arith
+  gone_few (g ∷ gs) each =
+      let a : length g.told.drawn ≤ 2 ^ 40 = each g (inl refl) in
+      let b : total_of (λ (g : Gone S N). length g.told.drawn) gs ≤ 2 ^ 40 * length gs = gone_few gs (λ x has. each x (inr has)) in
+      omega (arith, a, b)
+
   -- the numbers that the seats drew are no more than their rights allow
-  total_few : (vs : List (View S N)) → ((j : ℕ) (v : View S N) → get_elem? vs j ≡ some v → length v.drawn ≤ 2 ^ 40 * v.rights)
-      → total_of (λ (v : View S N). length v.drawn) vs ≤ 2 ^ 40 * total_of (λ (v : View S N). v.rights) vs
+  total_few : (vs : List (View S N)) → ((j : ℕ) (v : View S N) → get_elem? vs j ≡ some v → numbers_of v ≤ 2 ^ 40 * rights_of v)
+      → total_of numbers_of vs ≤ 2 ^ 40 * total_of rights_of vs
   total_few [] each = omega arith
   total_few (v ∷ vs) each =
-      let a : length v.drawn ≤ 2 ^ 40 * v.rights = each 0 v refl in
-      let b : total_of (λ (v : View S N). length v.drawn) vs ≤ 2 ^ 40 * total_of (λ (v : View S N). v.rights) vs =
-      total_few vs (λ j u at. each (suc j) u at) in
+      let a : numbers_of v ≤ 2 ^ 40 * rights_of v = each 0 v refl in
+      let b : total_of numbers_of vs ≤ 2 ^ 40 * total_of rights_of vs = total_few vs (λ j u at. each (suc j) u at) in
+      omega (arith, a, b)
+
+  pub numbers_few : (g : Seen N) (owner : ℕ → ℕ) (v : View S N) → Suits terms setting base room g owner v → numbers_of v ≤ 2 ^ 40 * rights_of v
+  numbers_few g owner v f =
+      let a : length v.drawn ≤ 2 ^ 40 * v.rights = f.few in
+      let b : total_of (λ (g : Gone S N). length g.told.drawn) v.gone ≤ 2 ^ 40 * length v.gone = gone_few v.gone (λ x has. (f.gone x has).few) in
       omega (arith, a, b)
 
   few_now : (ranges : List Range) (ws : List ℕ) (vs : List (View S N)) (r : Rule terms setting base room ranges ws vs) → length (r.world).history ≤ 2 ^ 46
   few_now ranges ws vs r =
-      let a : total_of (λ (v : View S N). length v.drawn) vs ≤ 2 ^ 40 * total_of (λ (v : View S N). v.rights) vs =
-      total_few vs (λ j v at. (r.suits j v at).few) in
-      let b : total_of (λ (v : View S N). v.rights) vs ≡ 64 = r.rights in
-      let c : total_of (λ (v : View S N). length v.drawn) vs ≡ length (r.world).history = r.numbers in
+      let a : total_of numbers_of vs ≤ 2 ^ 40 * total_of rights_of vs =
+      total_few vs (λ j v at. numbers_few (now terms setting base room ranges ws vs r) r.owner v (r.suits j v at)) in
+      let b : total_of rights_of vs ≤ 64 = r.rights in
+      let c : total_of numbers_of vs ≡ length (r.world).history = r.numbers in
       omega (arith, a, b, c)
 
   -- one entry more, with its note
@@ -171,10 +184,10 @@ module _ {S N : Type 0} (terms : Terms S N) (setting : S) (base : List ℕ) (roo
           absurd (omega (arith, w, g, len))
       go (inr p) (inr q) = last p q
 
-  pub draws : (opened : List ℕ) (slots id : ℕ) (me : Mine S N) (y : S) (note : N) → me.0.setting ≡ Some y → me.0.seat.place ≡ Taking
+  pub draws : (opened : Start) (slots id : ℕ) (me : Mine S N) (y : S) (note : N) → me.0.setting ≡ Some y → me.0.seat.place ≡ Taking
       → Permits terms y me.0.seen.ranges (reads_of me.0.seat.reads) (writes_of me.0.seat.held) note → writes_of me.0.seat.held ≢ []
       → length me.0.drawn + 1 ≤ 2 ^ 40 * me.0.rights
-      → Allows (Ruled terms setting base room opened) slots id me 1 (λ n. (n + 1) % 2 ^ 64) (drew terms (Some note) (step slots 1 1 0 none) me)
+      → Allows (Ruled terms setting base room opened) slots id me 1 (λ n. (n + 1) % 2 ^ 64) (bare (drew terms (Some note)) (step slots 1 1 0 none) me)
   draws opened slots id me y note set p law some_writes left =
       lifted terms setting base room opened slots id 1 me (λ n. (n + 1) % 2 ^ 64)
       (drew terms (Some note) (step slots 1 1 0 none) me) λ ranges ws vs r at.
@@ -224,6 +237,8 @@ module _ {S N : Type 0} (terms : Terms S N) (setting : S) (base : List ℕ) (roo
         noted = λ i a. (note, refl, subst (λ (k : ℕ). slice_get notes k ≡ Some note) (checking_same n i a) there);
         look = λ d o a b. absurd (not_looking (Checking n 0) refl d o a b);
         few = omega (arith, more, left);
+        unheld = f.unheld;
+        gone = gone_grows terms setting base room g h r.owner owner v.gone grow old f.gone;
       } in
       let entries : EntriesAre terms setting h =
       more_entries ranges w.history r.notes (record { status = Open; reads = reads_of t.reads; writes = writes_of t.held }) note same r.entries
@@ -262,10 +277,10 @@ checking_is : (i upto j other : ℕ) → Checking i upto ≡ Checking j other �
 checking_is i upto j other e = cc
 
 module _ {S N : Type 0} (terms : Terms S N) (setting : S) (base : List ℕ) (room : ℕ) where
-  pub checks : (opened : List ℕ) (slots id c i upto : ℕ) (me : Mine S N) (y : S) → me.0.setting ≡ Some y → c < length me.0.base
+  pub checks : (opened : Start) (slots id c i upto : ℕ) (me : Mine S N) (y : S) → me.0.setting ≡ Some y → c < length me.0.base
       → me.0.seat.place ≡ Checking i upto → is_next me.0.seat i ≡ false → is_due me.0.seat upto c ≡ true
       → (d : Read) → find_read c me.0.seat.reads ≡ Some d
-      → Allows (Ruled terms setting base room opened) slots id me (lock_at c) (λ n. n) (checked terms (step slots (lock_at c) 0 0 none) me)
+      → Allows (Ruled terms setting base room opened) slots id me (lock_at c) (λ n. n) (bare (checked terms) (step slots (lock_at c) 0 0 none) me)
   checks opened slots id c i upto me y set l p further due d read =
       lifted terms setting base room opened slots id (lock_at c) me (λ n. n)
       (checked terms (step slots (lock_at c) 0 0 none) me) λ ranges ws vs r at.
@@ -289,7 +304,8 @@ module _ {S N : Type 0} (terms : Terms S N) (setting : S) (base : List ℕ) (roo
       quiet terms setting base room ranges ws vs r id v at (lock_at c) z v.runs (Some (c, n)) v.told keep f.told
       (λ k a. number ∙ (sym was ∙ a)) (λ k a. was ∙ (sym number ∙ a))
       (if_known (λ (z : Seat). LookIsFresh w.history z) (passes n t.rv) (placed t (Checking i (suc c))) (conflict t (Voiding i))
-      (λ _ d o a b. absurd (not_looking (Checking i (suc c)) refl d o a b)) (λ _ d o a b. absurd (not_looking (Voiding i) refl d o a b))) u refl in (
+      (λ _ d o a b. absurd (not_looking (Checking i (suc c)) refl d o a b)) (λ _ d o a b. absurd (not_looking (Voiding i) refl d o a b)))
+      (λ _ b. if_known (λ (z : Seat). z.held ≡ []) (passes n t.rv) (placed t (Checking i (suc c))) (conflict t (Voiding i)) (λ _. b) (λ _. b)) u refl in (
         lock_within ws w r.words_are c x.0 x.1,
         u,
         (refl, refl, refl),
@@ -334,12 +350,12 @@ module _ {S N : Type 0} (terms : Terms S N) (setting : S) (base : List ℕ) (roo
       (goes terms setting base room ranges ws vs r id v at (slice_set ws (value_at c) k.value) world (after_store v.seat i c) v.runs v.looked mine v.told
       (named_after terms setting base room ranges ws vs r c (record x { value = k.value }) names) stays refl
       (value_is_set ws w r.words_are c k.value x f) (length-slice_set w.cells c (record x { value = k.value })) len calls told
-      (λ j a. inl (sym number ∙ a)) (λ j a. number ∙ a) (λ d o a b. absurd (not_looking (Storing i) refl d o a b)))
+      (λ j a. inl (sym number ∙ a)) (λ j a. number ∙ a) (λ d o a b. absurd (not_looking (Storing i) refl d o a b)) (λ _ b. ap (stored_in c) b))
 
-  pub stores : (opened : List ℕ) (slots id c i value : ℕ) (k : Held) (me : Mine S N) (y : S) → me.0.setting ≡ Some y → c < length me.0.base
+  pub stores : (opened : Start) (slots id c i value : ℕ) (k : Held) (me : Mine S N) (y : S) → me.0.setting ≡ Some y → c < length me.0.base
       → ((upto : ℕ) × (me.0.seat.place ≡ Checking i upto) × ((is_next me.0.seat i || all_settled me.0.seat.held upto me.0.seat.reads) ≡ true)) ⊎ (me.0.seat.place ≡ Storing i)
       → find_held c me.0.seat.held ≡ Some k → k.value ≡ value
-      → Allows (Ruled terms setting base room opened) slots id me (value_at c) (λ _. value) (λ _. stored terms (step slots (value_at c) value 0 none) me value)
+      → Allows (Ruled terms setting base room opened) slots id me (value_at c) (λ _. value) (λ _. bare (stored terms) (step slots (value_at c) value 0 none) me value)
   stores opened slots id c i value k me y set l (inl p) holds is_value =
       lifted terms setting base room opened slots id (value_at c) me (λ _. value)
       (λ _. stored terms (step slots (value_at c) value 0 none) me value) λ ranges ws vs r at.
@@ -451,10 +467,11 @@ module _ {S N : Type 0} (terms : Terms S N) (setting : S) (base : List ℕ) (roo
       (λ _ b. absurd (no_number Idle Idle i refl refl b)) (λ _ b. b) a)
       (place_known (λ (z : Place). LookIsFresh h (record t { place = z; held = without c t.held })) (is_nil (without c t.held)) Idle t.place
       (λ _ d o a b. absurd (not_looking Idle refl d o a b)) (λ _ d o a b. absurd (not_looking t.place (free d o a) d o a b)))
+      (λ _ b. ap (without c) b)
 
-  pub releases : (opened : List ℕ) (slots id c new : ℕ) (k : Held) (me : Mine S N) (y : S) → me.0.setting ≡ Some y → c < length me.0.base
+  pub releases : (opened : Start) (slots id c new : ℕ) (k : Held) (me : Mine S N) (y : S) → me.0.setting ≡ Some y → c < length me.0.base
       → find_held c me.0.seat.held ≡ Some k → GivesBack me.0.seat k new
-      → Allows (Ruled terms setting base room opened) slots id me (lock_at c) (λ _. new) (λ _. released terms (step slots (lock_at c) new 0 none) me new)
+      → Allows (Ruled terms setting base room opened) slots id me (lock_at c) (λ _. new) (λ _. bare (released terms) (step slots (lock_at c) new 0 none) me new)
   releases opened slots id c new k me y set l holds (inl p) =
       lifted terms setting base room opened slots id (lock_at c) me (λ _. new)
       (λ _. released terms (step slots (lock_at c) new 0 none) me new) λ ranges ws vs r at.

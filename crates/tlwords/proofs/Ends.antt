@@ -1,25 +1,28 @@
 -- What the closed words show.
-use Rattle.std.proofs.Common.{◌≡◌, ℕ, zero, suc, ◌+◌, ◌*◌, ◌<◌, ◌≤◌, Some, List, [], ◌∷◌, ◌++◌, length, slice_get, slice_index, min, sym, refl, ap, ◌∙◌, subst, arith, true}
+use Rattle.std.proofs.Common.{◌≡◌, ◌≢◌, ◌⊎◌, inl, inr, ⊎_elim, true, ◌/◌, ◌%◌, ◌^◌, map, ℕ, zero, suc, ◌+◌, ◌*◌, ◌<◌, ◌≤◌, Some, List, [], ◌∷◌, ◌++◌, length, slice_get, slice_index, min, sym, refl, ap, ◌∙◌, subst, arith, true}
 use mathlib.Core.Option.{some, some-injective, some-ne-none}
 use lib.ListN.{get_elem?}
-use Rattle.std.proofs.lemmas.List.{length-append}
+use Rattle.std.proofs.lemmas.List.{length-append, length-map}
 use Rattle.atomic_table.specs.Table.{State}
 use Rattle.tlcore.specs.History.{Will, version, value, deed}
+use Rattle.tlcore.specs.Seats.{Seat}
 use Rattle.tlcore.specs.Machine.{World}
 use Rattle.tlcore.proofs.Growth.{get_exists}
-use Rattle.tlcore.proofs.Lists.{get_within}
+use Rattle.tlcore.proofs.Lists.{get_within, same_or_not}
+use Rattle.tlcore.specs.Seats.{is_resting}
 use Rattle.tlcore.specs.declared.cells.Cell.{Cell}
 use Rattle.tlwords.specs.declared.closing.ClosedCell.{ClosedCell}
 use Rattle.tlwords.specs.declared.closing.ClosedWords.{ClosedWords}
 use Rattle.ranges.specs.Ranges.{Range, Has, Names, IsStored, AreOfOneStore}
 use Rattle.tlwords.specs.Terms.{Terms, Opened}
 use Rattle.tlwords.specs.Seen.{Seen, Legal, Agree}
-use Rattle.tlwords.specs.Views.{View}
-use Rattle.tlwords.specs.Rule.{lock_at, value_at, tail_at, store_at, total_of, IsLeft, Adds, Kept, Ruled}
-use Rattle.tlwords.specs.Closing.{AreCellsOf, IsStoreOf, Shows, IsWorldOf, Closes, EndsIn, ClosesFor}
+use Rattle.tlwords.specs.Views.{Gone, View, gone_of}
+use Rattle.tlwords.specs.Rule.{lock_at, value_at, tail_at, store_at, total_of, Start, IsLeft, rights_of, numbers_of, moved_of, Adds, Kept, Ruled}
+use Rattle.tlwords.specs.Closing.{AreCellsOf, IsStoreOf, Shows, IsWorldOf, Closes, EndsIn, IsStill, ClosesAll}
 use Rattle.tlwords.proofs.Keeps.{now, seat_at, legal_of}
-use Rattle.tlwords.proofs.ReadSteps.{half_written}
-use Rattle.tlwords.proofs.Shelves.{tail_least}
+use Rattle.tlwords.proofs.Gathers.{nothing_held, rests_unheld}
+use Rattle.tlwords.proofs.ReadSteps.{half_of, half_written}
+use Rattle.tlwords.proofs.Shelves.{tail_least, total_snoc}
 use Rattle.tlwords.proofs.Paired.{word_count, clock_word, lock_word, lock_within, value_word, value_within}
 
 pub index_same : (xs : List ℕ) (i x : ℕ) → get_elem? xs i ≡ some x → slice_index xs i ≡ x
@@ -56,7 +59,80 @@ total_has f [] id v at = absurd (some-ne-none v (sym at))
 total_has f (u ∷ vs) zero v at = let e : f u ≡ f v = ap f (some-injective u v at) in omega (arith, e)
 total_has f (u ∷ vs) (suc id) v at = let r : f v ≤ total_of f vs = total_has f vs id v at in omega (arith, r)
 
-module _ {S N : Type 0} (terms : Terms S N) (setting : S) (base : List ℕ) (room : ℕ) (opened : List ℕ) (s : State (Unit {0}) (View S N))
+-- where one of them is all together, the others are nothing
+others_none : {V : Type 0} (f : V → ℕ) (vs : List V) (id : ℕ) (v : V) → get_elem? vs id ≡ some v → total_of f vs ≡ f v
+    → (j : ℕ) (u : V) → j ≢ id → get_elem? vs j ≡ some u → f u ≡ 0
+others_none f [] id v at e j u other there = absurd (some-ne-none v (sym at))
+others_none f (x ∷ xs) zero v at e zero u other there = absurd (other refl)
+others_none f (x ∷ xs) zero v at e (suc j) u other there =
+    let a : f x ≡ f v = ap f (some-injective x v at) in
+    let b : f u ≤ total_of f xs = total_has f xs j u there in
+    omega (arith, a, b, e)
+others_none f (x ∷ xs) (suc id) v at e zero u other there =
+    let a : f x ≡ f u = ap f (some-injective x u there) in
+    let b : f v ≤ total_of f xs = total_has f xs id v at in
+    omega (arith, a, b, e)
+others_none f (x ∷ xs) (suc id) v at e (suc j) u other there =
+    let b : f v ≤ total_of f xs = total_has f xs id v at in
+    others_none f xs id v at (omega (arith, b, e)) j u (λ p. other (ap suc p)) there
+
+none_total : {V : Type 0} (f : V → ℕ) (vs : List V) → ((j : ℕ) (u : V) → get_elem? vs j ≡ some u → f u ≡ 0) → total_of f vs ≡ 0
+none_total f [] each = refl
+none_total f (x ∷ xs) each =
+    let a : f x ≡ 0 = each 0 x refl in
+    let b : total_of f xs ≡ 0 = none_total f xs (λ j u at. each (suc j) u at) in
+    omega (arith, a, b)
+
+-- where the others are nothing, one of them is all together
+only_one : {V : Type 0} (f : V → ℕ) (vs : List V) (id : ℕ) (v : V) → get_elem? vs id ≡ some v
+    → ((j : ℕ) (u : V) → j ≢ id → get_elem? vs j ≡ some u → f u ≡ 0) → total_of f vs ≡ f v
+only_one f [] id v at each = absurd (some-ne-none v (sym at))
+only_one f (x ∷ xs) zero v at each =
+    let a : f x ≡ f v = ap f (some-injective x v at) in
+    let b : total_of f xs ≡ 0 = none_total f xs (λ j u there. each (suc j) u (λ p. omega (arith, p)) there) in
+    omega (arith, a, b)
+only_one f (x ∷ xs) (suc id) v at each =
+    let a : f x ≡ 0 = each 0 x (λ p. omega (arith, p)) refl in
+    let b : total_of f xs ≡ f v = only_one f xs id v at (λ j u other there. each (suc j) u (λ p. other (omega (arith, p))) there) in
+    omega (arith, a, b)
+
+no_length : {A : Type 0} (xs : List A) → length xs ≡ 0 → xs ≡ []
+no_length [] e = refl
+no_length (x ∷ xs) e = absurd (omega (arith, e))
+
+-- the view of a seat
+seat_view : {V X : Type 0} (f : V → X) (vs : List V) (i : ℕ) (x : X) → slice_get (map f vs) i ≡ Some x
+    → (v : V) × (get_elem? vs i ≡ some v) × (f v ≡ x)
+seat_view f [] i x e = absurd (cc)
+seat_view f (v ∷ vs) zero x e = let q : f v ≡ x = cc in (v, refl, q)
+seat_view f (v ∷ vs) (suc i) x e = seat_view f vs i x e
+
+total_map : {U V : Type 0} (f : V → ℕ) (g : U → V) (us : List U) → total_of f (map g us) ≡ total_of (λ (u : U). f (g u)) us
+total_map f g [] = refl
+total_map f g (u ∷ us) = ap (λ (n : ℕ). f (g u) + n) (total_map f g us)
+
+has_map : {U V : Type 0} (g : U → V) (u : U) (us : List U) → Has u us → Has (g u) (map g us)
+has_map g u [] has = absurd has
+has_map g u (x ∷ us) (inl e) = inl (ap g e)
+has_map g u (x ∷ us) (inr has) = inr (has_map g u us has)
+
+has_split : {U : Type 0} (u : U) (us : List U) (v : U) → Has u (us ++ v ∷ []) → Has u us ⊎ (u ≡ v)
+has_split u [] v (inl e) = inr e
+has_split u [] v (inr has) = absurd has
+has_split u (x ∷ us) v (inl e) = inl (inl e)
+has_split u (x ∷ us) v (inr has) = ⊎_elim (λ (p : Has u us). inl (inr p)) (λ (p : u ≡ v). inr p) (has_split u us v has)
+
+-- a pass has moved the tail with those that were given up to it
+given_moved : {S N : Type 0} (v : View S N) (gs : List (Gone S N)) (us : List (View S N)) → gs ≡ map gone_of us
+    → moved_of (record v { gone = gs }) ≡ total_of (λ (x : View S N). x.taken + x.added) (us ++ v ∷ [])
+given_moved {S} {N} v gs us gone =
+    let a : total_of (λ (g : Gone S N). g.taken + g.added) gs ≡ total_of (λ (x : View S N). x.taken + x.added) us =
+    ap (total_of (λ (g : Gone S N). g.taken + g.added)) gone ∙ total_map (λ (g : Gone S N). g.taken + g.added) gone_of us in
+    let b : total_of (λ (x : View S N). x.taken + x.added) (us ++ v ∷ []) ≡ total_of (λ (x : View S N). x.taken + x.added) us + (v.taken + v.added) =
+    total_snoc (λ (x : View S N). x.taken + x.added) us v in
+    omega (arith, a, b)
+
+module _ {S N : Type 0} (terms : Terms S N) (setting : S) (base : List ℕ) (room : ℕ) (opened : Start) (s : State (Unit {0}) (View S N))
     (r : Ruled terms setting base room opened s)
     (n : ℕ) (closed : ClosedWords) (long : length s.words ≡ 2 * n + 3 + room)
     (clock_at : get_elem? s.words 1 ≡ some closed.clock) (tail_is : get_elem? s.words (tail_at n) ≡ some closed.tail)
@@ -121,7 +197,7 @@ module _ {S N : Type 0} (terms : Terms S N) (setting : S) (base : List ℕ) (roo
   refused : closed.tail ≤ length closed.store.items + (length closed.store.items + 1) * 64
   refused =
       let same : closed.tail ≡ r.tail = tail_same in
-      let l : r.tail ≤ room + (room + 1) * 64 = tail_least (length opened) room r.tail s.views (r.shelf).tail_is k.rights in
+      let l : r.tail ≤ room + (room + 1) * 64 = tail_least (length opened.store) room r.tail s.views (r.shelf).tail_is k.rights in
       let least : closed.tail ≤ room + (room + 1) * 64 = omega (arith, l, same) in
       subst (λ (m : ℕ). closed.tail ≤ m + (m + 1) * 64) (sym store_count) least
 
@@ -176,7 +252,7 @@ module _ {S N : Type 0} (terms : Terms S N) (setting : S) (base : List ℕ) (roo
         y.1 ∙ (λ i. Some (record { lock = y.2 i; value = y.3 i }));
   }
 
-  left : IsLeft opened (length closed.store.items) closed.tail closed.store.items
+  left : IsLeft opened.store (length closed.store.items) closed.tail closed.store.items
   left = record {
     opening = λ o x e. store_same o x ((r.shelf).left.opening o x e);
     blank = λ o l m.
@@ -184,13 +260,13 @@ module _ {S N : Type 0} (terms : Terms S N) (setting : S) (base : List ℕ) (roo
         store_same o 0 ((r.shelf).left.blank o (omega (arith, l, t)) (omega (arith, m, store_count)));
   }
 
-  behind : length opened ≤ closed.tail
+  behind : length opened.store ≤ closed.tail
   behind =
       let t : closed.tail ≡ r.tail = tail_same in
-      let a : r.tail ≡ length opened + total_of (λ (v : View S N). v.taken + v.added) s.views = (r.shelf).tail_is.is in
+      let a : r.tail ≡ length opened.store + total_of moved_of s.views = (r.shelf).tail_is.is in
       omega (arith, t, a)
 
-  pub closes : Closes terms setting base opened closed
+  pub closes : Closes terms setting base opened.store closed
   closes = record {
     seen = last;
     world = w;
@@ -207,26 +283,127 @@ module _ {S N : Type 0} (terms : Terms S N) (setting : S) (base : List ℕ) (roo
     named = named;
   }
 
-  ends_in : (id : ℕ) (v : View S N) → get_elem? s.views id ≡ some v → EndsIn terms setting base opened closed closes v
-  unfolding closes
-  ends_in id v there =
-      let f = k.suits id v there in
+  found_of : (m count : ℕ) → m + min count (room + 1) ≤ r.tail → m + min count (length closed.store.items + 1) ≤ closed.tail
+  found_of m count b =
       let t : closed.tail ≡ r.tail = tail_same in
-      let a : Adds room r.tail v = (r.shelf).tail_is.each id v there in record {
-        grows = f.own.grows;
-        mine = f.mine;
-        seat = (id, seat_at terms setting base room r.ranges r.front s.views r.kept id v there);
+      subst (λ (z : ℕ × ℕ). m + min count (z.0 + 1) ≤ z.1) (λ i. (sym store_count i, sym t i)) b
+
+  -- a view's own pass
+  own_ends : (id : ℕ) (v : View S N) → get_elem? s.views id ≡ some v → EndsIn terms setting base opened.store closed closes v
+  unfolding closes
+  own_ends id v there =
+      let f = k.suits id v there in
+      let a : Adds room r.tail v = (r.shelf).tail_is.each id v there in
+      record { same = f.own.setting_is; grows = f.own.grows; mine = f.mine; found = λ m count e. found_of m count (a.found m count e) }
+
+  -- a pass that was given up to it
+  gone_ends : (id : ℕ) (v u : View S N) → get_elem? s.views id ≡ some v → Has (gone_of u) v.gone → EndsIn terms setting base opened.store closed closes u
+  unfolding closes
+  gone_ends id v u there has =
+      let f = (k.suits id v there).gone (gone_of u) has in
+      let a : Adds room r.tail v = (r.shelf).tail_is.each id v there in
+      record { same = f.told.setting_is; grows = f.told.grows; mine = f.mine; found = λ m count e. found_of m count ((a.gone (gone_of u) has).1 m count e) }
+
+  -- no other seat can have anything: it has no part of the right to draw
+  module _ (id : ℕ) (last_pass : View S N) (gs : List (Gone S N)) (there : get_elem? s.views id ≡ some (record last_pass { gone = gs }))
+      (unheld : last_pass.seat.held ≡ []) (us : List (View S N)) (one : last_pass.rights ≡ 1) (gone : gs ≡ map gone_of us)
+      (every : length (us ++ last_pass ∷ []) ≡ opened.sessions) where
+    abbrev v : View S N
+    v = record last_pass { gone = gs }
+
+    all_rights : total_of rights_of s.views ≡ rights_of v
+    all_rights =
+        let a : total_of rights_of s.views ≡ opened.sessions = r.dealt in
+        let b : length (us ++ last_pass ∷ []) ≡ length us + 1 = length-append us (last_pass ∷ []) in
+        let c : length gs ≡ length us = ap length gone ∙ length-map us gone_of in
+        omega (arith, a, b, c, one, every)
+
+    poor : (j : ℕ) (u : View S N) → j ≢ id → get_elem? s.views j ≡ some u → (u.rights ≡ 0) × (u.gone ≡ [])
+    poor j u other at =
+        let a : rights_of u ≡ 0 = others_none rights_of s.views id v there all_rights j u other at in
+        (omega (arith, a), no_length u.gone (let b : length u.gone ≡ 0 = omega (arith, a) in b))
+
+    all_unheld : (j : ℕ) (u : View S N) → get_elem? s.views j ≡ some u → u.seat.held ≡ []
+    all_unheld j u at = ⊎_elim
+        (λ (p : j ≡ id). ap (λ (x : View S N). x.seat.held) (some-injective u v (sym at ∙ (ap (λ (i : ℕ). get_elem? s.views i) p ∙ there))) ∙ unheld)
+        (λ (p : j ≢ id). (k.suits j u at).unheld (poor j u p at).0)
+        (same_or_not id j)
+
+    free : (c : ℕ) (x : ClosedCell) → slice_get closed.cells.items c ≡ Some x → x.lock % 2 ≡ 0
+    free c x f =
+        let y : (y : Cell) × (slice_get w.cells c ≡ Some y) × (y.lock ≡ x.lock) × (y.value ≡ x.value) = cell_same c x f in
+        ⊎_elim (λ (e : x.lock ≡ 2 * (x.lock / 2)). omega (arith, e))
+        (λ (e : x.lock ≡ suc (2 * (x.lock / 2))).
+        let b = (k.invariant).locked_are_held c (x.lock / 2) y.0 y.1 (y.2 ∙ e) in
+        let u = seat_view (λ (x : View S N). x.seat) s.views b.0 b.1 (ap (λ (l : List Seat). slice_get l b.0) k.seats_are ∙ b.2) in
+        absurd (nothing_held b.1 c (ap (λ (t : Seat). t.held) (sym u.2) ∙ all_unheld b.0 u.0 u.1) b.3))
+        (half_of x.lock)
+
+    pub still : IsStill opened.store closed (us ++ last_pass ∷ [])
+    still = record {
+      free = free;
+      clock =
+          let a : total_of numbers_of s.views ≡ length w.history = k.numbers in
+          let b : total_of numbers_of s.views ≡ numbers_of v = only_one numbers_of s.views id v there (λ j u other at.
+          let p = poor j u other at in
+          let c : length u.drawn ≤ 2 ^ 40 * u.rights = (k.suits j u at).few in
+          let z : total_of (λ (g : Gone S N). length g.told.drawn) u.gone ≡ 0 = ap (total_of (λ (g : Gone S N). length g.told.drawn)) p.1 in
+          let q : u.rights ≡ 0 = p.0 in
+          omega (arith, c, z, q)) in
+          let c : total_of (λ (x : View S N). length x.drawn) (us ++ last_pass ∷ []) ≡ total_of (λ (x : View S N). length x.drawn) us + length last_pass.drawn =
+          total_snoc (λ (x : View S N). length x.drawn) us last_pass in
+          let d : total_of (λ (g : Gone S N). length g.told.drawn) gs ≡ total_of (λ (x : View S N). length x.drawn) us =
+          ap (total_of (λ (g : Gone S N). length g.told.drawn)) gone ∙ total_map (λ (g : Gone S N). length g.told.drawn) gone_of us in
+          let e : length w.history ≡ closed.clock = shown.clock_is in
+          omega (arith, a, b, c, d, e);
+      tail =
+          let a : r.tail ≡ length opened.store + total_of moved_of s.views = (r.shelf).tail_is.is in
+          let b : total_of moved_of s.views ≡ moved_of v = only_one moved_of s.views id v there (λ j u other at.
+          let p = poor j u other at in
+          let h : Adds room r.tail u = (r.shelf).tail_is.each j u at in
+          let c : u.taken ≡ 0 = h.untaken p.0 in
+          let d : u.added ≤ (room + 1) * 0 = subst (λ (n : ℕ). u.added ≤ (room + 1) * n) p.0 h.once in
+          let z : total_of (λ (g : Gone S N). g.taken + g.added) u.gone ≡ 0 = ap (total_of (λ (g : Gone S N). g.taken + g.added)) p.1 in
+          omega (arith, c, d, z)) in
+          let c : moved_of v ≡ total_of (λ (x : View S N). x.taken + x.added) (us ++ last_pass ∷ []) = given_moved last_pass gs us gone in
+          let t : closed.tail ≡ r.tail = tail_same in
+          omega (arith, a, b, c, t);
+    }
+
+  pub closes_all : (id : ℕ) (x : View S N) (gs : List (Gone S N)) → get_elem? s.views id ≡ some (record x { gone = gs }) → is_resting x.seat.place ≡ true
+      → x.rights ≡ 1
+      → (us : List (View S N)) → gs ≡ map gone_of us → ClosesAll terms setting base opened.store opened.sessions (us ++ x ∷ []) closed
+  closes_all id x gs there rest one us gone =
+      let v : View S N = record x { gone = gs } in
+      let unheld : x.seat.held ≡ [] =
+      rests_unheld base w id x.seat k.invariant (seat_at terms setting base room r.ranges r.front s.views r.kept id v there) rest in
+      let own : EndsIn terms setting base opened.store closed closes v = own_ends id v there in
+      let mine : EndsIn terms setting base opened.store closed closes x =
+      record { same = own.same; grows = own.grows; mine = own.mine; found = own.found } in
+      record {
+        closes = closes;
+        each = λ u has. ⊎_elim
+            (λ (p : Has u us). gone_ends id v u there (subst (λ (gs : List (Gone S N)). Has (gone_of u) gs) (sym gone) (has_map gone_of u us p)))
+            (λ (p : u ≡ x). subst (λ (z : View S N). EndsIn terms setting base opened.store closed closes z) (sym p) mine)
+            (has_split u us x has);
         moved =
-            let b : r.tail ≡ length opened + total_of (λ (x : View S N). x.taken + x.added) s.views = (r.shelf).tail_is.is in
-            let c : v.taken + v.added ≤ total_of (λ (x : View S N). x.taken + x.added) s.views = total_has (λ (x : View S N). x.taken + x.added) s.views id v there in
-            omega (arith, t, b, c);
-        found = λ m count e.
-            let b : m + min count (room + 1) ≤ r.tail = a.found m count e in
-            subst (λ (z : ℕ × ℕ). m + min count (z.0 + 1) ≤ z.1) (λ i. (sym store_count i, sym t i)) b;
+            let t : closed.tail ≡ r.tail = tail_same in
+            let a : r.tail ≡ length opened.store + total_of moved_of s.views = (r.shelf).tail_is.is in
+            let b : moved_of v ≤ total_of moved_of s.views = total_has moved_of s.views id v there in
+            let c : moved_of v ≡ total_of (λ (x : View S N). x.taken + x.added) (us ++ x ∷ []) = given_moved x gs us gone in
+            omega (arith, t, a, b, c);
+        still = still id x gs there unheld us one gone;
       }
 
-  pub closes_for : (id : ℕ) (v : View S N) → get_elem? s.views id ≡ some v → ClosesFor terms opened v closed
-  closes_for id v there y e =
-      let i = (k.suits id v there).own.setting_is y e in
-      subst (λ (z : S × List ℕ). (c : Closes terms z.0 z.1 opened closed) × EndsIn terms z.0 z.1 opened closed c v) (λ j. (sym i.0 j, sym i.1 j))
-      (closes, ends_in id v there)
+  pub closes_alone : 1 ≤ opened.sessions → ClosesAll {S = S} {N = N} terms setting base opened.store opened.sessions [] closed
+  closes_alone some_sessions = record {
+    closes = closes;
+    each = λ u has. absurd has;
+    moved = let b : length opened.store ≤ closed.tail = behind in omega (arith, b);
+    still = λ e. absurd (omega (arith, e, some_sessions));
+  }
+
+-- what a seat knows after all these passes were given up to it
+pub gone_all : {P S N : Type 0} (f : P → View S N) (ps : List P) (gs : List (Gone S N)) → gs ≡ [] → map (λ (p : P). gone_of (f p)) ps ++ gs ≡ map gone_of (map f ps)
+gone_all f [] gs e = e
+gone_all {P} {S} {N} f (p ∷ ps) gs e = ap (λ (l : List (Gone S N)). gone_of (f p) ∷ l) (gone_all f ps gs e)

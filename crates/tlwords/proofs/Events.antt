@@ -15,7 +15,7 @@ use Rattle.tlcore.specs.declared.seats.Place.TheVariants.{Idle, Loaded, Taking, 
 use Rattle.tlcore.proofs.Laws.{begin_leads, look_leads, load_leads, relook_leads, take_leads, draw_leads, check_leads, store_leads, release_leads, release_failed_leads, release_void_leads}
 use Rattle.tlwords.specs.Terms.{Terms}
 use Rattle.tlwords.specs.Views.{View}
-use Rattle.tlwords.specs.Rule.{words_of, paired, lock_at, value_at}
+use Rattle.tlwords.specs.Rule.{Start, words_of, paired, lock_at, value_at}
 use Rattle.tlwords.specs.Plays.{Mine, began, after_look, after_relook, after_take, after_check, after_store, after_release}
 use Rattle.tlwords.specs.Events.{clock_at, Moment, found, IsEvent, HasCell, ClockLoadIsEvent, LookIsEvent, LoadIsEvent, RelookIsEvent, TakeIsEvent, DrawIsEvent, CheckIsEvent, StoreIsEvent, ReleaseIsEvent}
 use Rattle.tlwords.proofs.Paired.{map_set, clock_word, lock_word, value_word, word_count, lock_within, value_within, lock_is_set, value_is_set}
@@ -23,7 +23,7 @@ use Rattle.tlwords.proofs.Keeps.{Rule, seat_at}
 use Rattle.tlwords.proofs.ReadSteps.{cell_in}
 use Rattle.tlwords.proofs.RunSteps.{if_true, if_false}
 
-module _ {S N : Type 0} (terms : Terms S N) (setting : S) (base : List ℕ) (room : ℕ) (opened : List ℕ) where
+module _ {S N : Type 0} (terms : Terms S N) (setting : S) (base : List ℕ) (room : ℕ) (opened : Start) where
   module _ (m r : Mine S N) (at : Moment terms setting base room opened m r) where
     abbrev k : Rule terms setting base room at.rule.ranges at.rule.front at.state.views
     k = at.rule.kept

@@ -77,11 +77,12 @@ module _ {S N : Type 0} (terms : Terms S N) where
     pub fits_on : (count place : ℕ) (b : Bool) → IsRunOf m count place b → IsRunOf r count place b
     fits_on count place b f = subst (λ (v : View S N). IsRunOf {S = S} {N = N} (v, r.1) count place b) (sym is) f
 
-    pub knows_on : (b : Bool) → is_some m.0.setting ≡ true → m.0.staging ≡ None → Sees terms m.0 r.0 → is_some o ≡ b → KnowsStore r.0 b
-    knows_on b set rest s f =
+    pub knows_on : (b : Bool) → is_some m.0.setting ≡ true → m.0.staging ≡ None → m.0.gone ≡ [] → Sees terms m.0 r.0 → is_some o ≡ b → KnowsStore r.0 b
+    knows_on b set rest alone s f =
         let y : (x : S) × (m.0.setting ≡ Some x) = some_setting m.0.setting set in
         record {
           at_rest = ap (λ v. v.staging) is ∙ rest;
+          alone = ap (λ v. v.gone) is ∙ alone;
           full = ap (λ (v : View S N). is_some v.full) is ∙ f;
           ranges = (s.sound).ranges y.0 (ap (λ v. v.setting) is ∙ y.1);
         }

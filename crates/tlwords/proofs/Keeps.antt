@@ -11,11 +11,11 @@ use Rattle.tlcore.specs.Laws.{Keeps}
 use Rattle.tlcore.proofs.Lists.{get-set_same}
 use Rattle.tlcore.proofs.SeatParts.{ReadsOk-one}
 use Rattle.tlcore.specs.declared.cells.Cell.{Cell}
-use Rattle.ranges.specs.Ranges.{Range, Within, Names, AreOfOneStore}
+use Rattle.ranges.specs.Ranges.{Range, Has, Within, Names, AreOfOneStore}
 use Rattle.tlwords.specs.Terms.{Terms, Permits, Opened}
 use Rattle.tlwords.specs.Seen.{Call, Seen, SeenGrows, NotesGrow, IsSettled, Legal, Agree}
-use Rattle.tlwords.specs.Views.{Told, View, tells, untold, Sound}
-use Rattle.tlwords.specs.Rule.{words_of, total_of, LookIsFresh, EntriesAre, IsTold, Suits, Kept}
+use Rattle.tlwords.specs.Views.{Told, Gone, View, tells, untold, Sound}
+use Rattle.tlwords.specs.Rule.{words_of, total_of, LookIsFresh, EntriesAre, IsTold, IsGone, rights_of, numbers_of, Suits, Kept}
 use Rattle.tlwords.specs.Plays.{Mine, Sees}
 use Rattle.tlwords.proofs.Seens.{settled_grows, look_grows, seen_refl, seen_trans, agree_grows, entries_grow}
 use Rattle.tlwords.proofs.Paired.{get_same, get_map, map_set}
@@ -51,9 +51,9 @@ module _ {S N : Type 0} (setting : S) (base : List ℕ) where
   untold_is g owner =
       record { setting_is = λ x e. absurd (cc); grows = ((omega arith, λ i e p. absurd (cc)), λ i n p. absurd (cc), λ r has. absurd has); owned = λ n has. absurd has }
 
--- how far a pass has moved the tail, and its refusal
-abbrev pub moves_of : {S N : Type 0} → View S N → Option (ℕ × ℕ) × ℕ × ℕ
-moves_of v = (v.full, v.taken, v.added)
+-- how far a pass has moved the tail, its refusal, and the passes that were given up to it
+abbrev pub moves_of : {S N : Type 0} → View S N → Option (ℕ × ℕ) × ℕ × ℕ × List (Gone S N)
+moves_of v = (v.full, v.taken, v.added, v.gone)
 
 module _ {S N : Type 0} (terms : Terms S N) (setting : S) (base : List ℕ) (room : ℕ) where
   abbrev pub Rule : List Range → List ℕ → List (View S N) → Type 0
@@ -71,6 +71,16 @@ module _ {S N : Type 0} (terms : Terms S N) (setting : S) (base : List ℕ) (roo
       → (i < length ws) × (u : View S N) × IsSameShelf me.0 u × Rule ranges (slice_set ws i (f (slice_index ws i))) (slice_set vs id u)
       × then (slice_index ws i) (u, me.1)
 
+  -- what stays of passes that were given up stays so
+  pub gone_grows : (g h : Seen N) (owner later : ℕ → ℕ) (gs : List (Gone S N)) → SeenGrows g h
+      → ((n : ℕ) → n ≤ length g.history → later n ≡ owner n)
+      → ((x : Gone S N) → Has x gs → IsGone terms setting base g owner x) → (x : Gone S N) → Has x gs → IsGone terms setting base h later x
+  gone_grows g h owner later gs r same f x has = record {
+    told = told_grows setting base g h owner later x.told r same (f x has).told;
+    mine = agree_grows terms setting base g h x.mine r (f x has).mine;
+    few = (f x has).few;
+  }
+
   suits_grow : (g h : Seen N) (owner later : ℕ → ℕ) (v : View S N) → SeenGrows g h
       → ((n : ℕ) → n ≤ length g.history → later n ≡ owner n) → v.seat.rv ≤ length g.history
       → Suits terms setting base room g owner v → Suits terms setting base room h later v
@@ -84,6 +94,8 @@ module _ {S N : Type 0} (terms : Terms S N) (setting : S) (base : List ℕ) (roo
         noted = λ i p. let b : (n : N) × (v.note ≡ Some n) × (slice_get g.notes i ≡ Some n) = f.noted i p in (b.0, b.1, r.1 i b.0 b.2);
         look = look_grows g.history h.history v.seat r.0 l f.look;
         few = f.few;
+        unheld = f.unheld;
+        gone = gone_grows g h owner later v.gone r same f.gone;
       }
 
   pub legal_of : (ranges : List Range) (world : World) (notes : List N) → Invariant base world → EntriesAre terms setting (record { history = world.history; notes = notes; ranges = ranges })
@@ -148,7 +160,8 @@ module _ {S N : Type 0} (terms : Terms S N) (setting : S) (base : List ℕ) (roo
         → EntriesAre terms setting (record { history = world.history; notes = notes; ranges = qs })
         → ((n : ℕ) → n ≤ length (r.world).history → owner n ≡ r.owner n)
         → Suits terms setting base room (record { history = world.history; notes = notes; ranges = qs }) owner w
-        → w.rights ≡ v.rights → length w.drawn + length (r.world).history ≡ length v.drawn + length world.history
+        → rights_of w ≡ rights_of v
+        → numbers_of w + length (r.world).history ≡ numbers_of v + length world.history
         → Rule qs after (slice_set vs id w)
     moved id v w at qs after world notes owner wider lie named keeps seats words cells more count entries same suit rights numbers =
         let later : Seen N = record { history = world.history; notes = notes; ranges = qs } in
@@ -172,21 +185,18 @@ module _ {S N : Type 0} (terms : Terms S N) (setting : S) (base : List ℕ) (roo
               (λ (t : (j ≢ id) × (get_elem? vs j ≡ some u)). suits_grow now later r.owner owner u (keeps.grows, more, wider) same (seat_ok j u t.1).rv (r.suits j u t.1))
               (at_set vs id j w u there);
           rights =
-              let t : total_of (λ (u : View S N). u.rights) (slice_set vs id w) + v.rights ≡ total_of (λ (u : View S N). u.rights) vs + w.rights =
-              total_set (λ (u : View S N). u.rights) vs id v w at in
-              let all : total_of (λ (u : View S N). u.rights) vs ≡ 64 = r.rights in
+              let t : total_of rights_of (slice_set vs id w) + rights_of v ≡ total_of rights_of vs + rights_of w = total_set rights_of vs id v w at in
+              let all : total_of rights_of vs ≤ 64 = r.rights in
               omega (arith, t, all, rights);
           numbers =
-              let t :
-              total_of (λ (u : View S N). length u.drawn) (slice_set vs id w) + length v.drawn ≡ total_of (λ (u : View S N). length u.drawn) vs + length w.drawn =
-              total_set (λ (u : View S N). length u.drawn) vs id v w at in
-              let all : total_of (λ (u : View S N). length u.drawn) vs ≡ length (r.world).history = r.numbers in
+              let t : total_of numbers_of (slice_set vs id w) + numbers_of v ≡ total_of numbers_of vs + numbers_of w = total_set numbers_of vs id v w at in
+              let all : total_of numbers_of vs ≡ length (r.world).history = r.numbers in
               omega (arith, t, all, numbers);
         }
 
     -- the view after a step without a new number
-    abbrev pub gone : View S N → World → Seat → ℕ → Option (ℕ × ℕ) → List (Call N) → Told S N → View S N
-    gone v world z runs looked mine told =
+    abbrev pub after_step : View S N → World → Seat → ℕ → Option (ℕ × ℕ) → List (Call N) → Told S N → View S N
+    after_step v world z runs looked mine told =
         record v { seen = record { history = world.history; notes = r.notes; ranges = ranges }; seat = z; runs = runs; looked = looked; mine = mine; told = told }
 
     -- a step without a new number, by one event of the machine
@@ -200,11 +210,11 @@ module _ {S N : Type 0} (terms : Terms S N) (setting : S) (base : List ℕ) (roo
         → IsTold setting base (record { history = world.history; notes = r.notes; ranges = ranges }) r.owner told
         → ((i : ℕ) → number_at v.seat.place ≡ Some i → (number_at z.place ≡ Some i) ⊎ IsSettled world.history i)
         → ((i : ℕ) → number_at z.place ≡ Some i → number_at v.seat.place ≡ Some i)
-        → LookIsFresh world.history z
-        → Rule ranges after (slice_set vs id (gone v world z runs looked mine told)) × Sees terms v (gone v world z runs looked mine told)
-    goes id v at after world z runs looked mine told named keeps seats words cells len calls is_told settles noted look =
+        → LookIsFresh world.history z → (v.rights ≡ 0 → v.seat.held ≡ [] → z.held ≡ [])
+        → Rule ranges after (slice_set vs id (after_step v world z runs looked mine told)) × Sees terms v (after_step v world z runs looked mine told)
+    goes id v at after world z runs looked mine told named keeps seats words cells len calls is_told settles noted look unheld =
         let later : Seen N = record { history = world.history; notes = r.notes; ranges = ranges } in
-        let w : View S N = gone v world z runs looked mine told in
+        let w : View S N = after_step v world z runs looked mine told in
         let f : Suits terms setting base room now r.owner v = r.suits id v at in
         let grow : SeenGrows now later = (keeps.grows, λ i n e. e, λ x has. has) in
         let own : IsTold setting base later r.owner (tells v) = told_grows setting base now later r.owner r.owner (tells v) grow (λ n l. refl) f.own in
@@ -219,6 +229,8 @@ module _ {S N : Type 0} (terms : Terms S N) (setting : S) (base : List ℕ) (roo
           noted = λ i p. f.noted i (noted i p);
           look = look;
           few = f.few;
+          unheld = λ e. unheld e (f.unheld e);
+          gone = gone_grows now later r.owner r.owner v.gone grow (λ n l. refl) f.gone;
         } in
         let rule : Rule ranges after (slice_set vs id w) = moved id v w at ranges after world r.notes r.owner (λ x has. has) r.lie named keeps seats words cells grow.1 (r.notes_are ∙ sym len)
         (entries_grow terms setting (r.world).history world.history r.notes ranges keeps.grows len r.entries) (λ n l. refl) suit refl (omega (arith, len)) in (

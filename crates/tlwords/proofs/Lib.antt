@@ -8,6 +8,7 @@ pub mod Logs
 pub mod Shelves
 pub mod Lifts
 pub mod OpenSteps
+pub mod Gathers
 pub mod Openings
 pub mod RunSteps
 pub mod Entries

@@ -5,10 +5,10 @@ use Rattle.atomic_table.specs.Table.{keeps, Allows}
 use Rattle.tlcore.specs.declared.cells.Cell.{Cell}
 use Rattle.tlwords.specs.Terms.{Terms}
 use Rattle.tlwords.specs.Views.{View}
-use Rattle.tlwords.specs.Rule.{paired, tail_at, store_at, Kept, Ruled}
+use Rattle.tlwords.specs.Rule.{Start, paired, tail_at, store_at, Kept, Ruled}
 use Rattle.tlwords.specs.Plays.{Mine}
 use Rattle.tlwords.proofs.Keeps.{AllowsFront}
-use Rattle.tlwords.proofs.Shelves.{shelf_same}
+use Rattle.tlwords.proofs.Shelves.{dealt_same, shelf_same}
 
 length-paired : (xs : List Cell) → length (paired xs) ≡ 2 * length xs
 length-paired [] = refl
@@ -50,8 +50,8 @@ module _ {S N : Type 0} (terms : Terms S N) (setting : S) (base : List ℕ) (roo
       omega (arith, a, b, c)
 
   -- a step on the front is one of the table
-  pub lifted : (opened : List ℕ) (slots id i : ℕ) (me : Mine S N) (f : ℕ → ℕ) (then : ℕ → Mine S N → Type 0) → AllowsFront terms setting base room id me i f then
-      → Allows (Ruled terms setting base room opened) slots id me i f then
+  pub lifted : (opened : Start) (slots id i : ℕ) (me : Mine S N) (f : ℕ → ℕ) (then : ℕ → Mine S N → Type 0) → AllowsFront terms setting base room id me i f then
+      → Allows (Ruled terms setting base room opened) slots id me i f (λ n r. then n r × (r.1 ≡ me.1))
   lifted opened slots id i me f then allows s r _ at _ =
       let q = allows r.ranges r.front s.views r.kept at in
       let u : View S N = q.1 in
@@ -70,7 +70,11 @@ module _ {S N : Type 0} (terms : Terms S N) (setting : S) (base : List ℕ) (roo
               ∙ (ap (λ (n : ℕ). slice_set (r.front ++ r.tail ∷ r.store) i (f n)) same
               ∙ set-append_left r.front (r.tail ∷ r.store) i (f (slice_index r.front i)) q.0);
           kept = q.3;
-          shelf = shelf_same room opened r.tail r.ranges r.store s.views id me.0 u r.shelf at q.2;
+          dealt =
+              let a : u.rights ≡ me.0.rights = q.2.2 in
+              let b : length u.gone ≡ length me.0.gone = ap (λ m. length m.3) q.2.1 in
+              dealt_same s.views id me.0 u at (omega (arith, a, b)) ∙ r.dealt;
+          shelf = shelf_same room opened.store r.tail r.ranges r.store s.views id me.0 u r.shelf at q.2;
         },
-        subst (λ (n : ℕ). then n (u, me.1)) (sym same) q.4,
+        (subst (λ (n : ℕ). then n (u, me.1)) (sym same) q.4, refl),
       )

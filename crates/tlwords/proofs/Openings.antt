@@ -56,11 +56,11 @@ zeros_behind [] (suc n) (suc o) l m = zeros_behind [] n o (omega arith) (omega (
 zeros_behind (x ∷ xs) n zero l m = absurd (omega (arith, l))
 zeros_behind (x ∷ xs) n (suc o) l m = zeros_behind xs n o (omega (arith, l)) (omega (arith, m))
 
-module _ {S N : Type 0} (terms : Terms S N) (setting : S) (values store : List ℕ) (room : ℕ) (fits : length store ≤ room) where
+module _ {S N : Type 0} (terms : Terms S N) (setting : S) (values store : List ℕ) (room sessions : ℕ) (fits : length store ≤ room) where
   shelf_so : room ≤ 2 ^ 24 → (ranges : List Range) → ((r : Range) → Has r ranges → IsStored (length store) (store ++ replicate (room - length store) 0) r)
-      → (base : List ℕ) → Shelf room store ranges (length store) (store ++ replicate (room - length store) 0) (first_view {N = N} setting base room ranges ∷ [])
+      → (base : List ℕ) → Shelf room store ranges (length store) (store ++ replicate (room - length store) 0) (first_view {N = N} setting base room ranges sessions ∷ [])
   shelf_so small ranges stored base =
-      let first : View S N = first_view setting base room ranges in
+      let first : View S N = first_view setting base room ranges sessions in
       let unstaged : (j : ℕ) (v : View S N) → get_elem? (first ∷ []) j ≡ some v → v.staging ≡ None = only_one first (λ v. v.staging ≡ None) refl in
       record {
         long =
@@ -80,22 +80,28 @@ module _ {S N : Type 0} (terms : Terms S N) (setting : S) (values store : List �
         tail_is = record {
           is = omega arith;
           most = omega (arith, fits);
-          each = only_one first (λ v. Adds room (length store) v) (record { once = omega arith; unrefused = λ _. refl; found = λ n count e. absurd (cc) });
+          each = only_one first (λ v. Adds room (length store) v) (record {
+            once = omega arith;
+            unrefused = λ _. refl;
+            found = λ n count e. absurd (cc);
+            untaken = λ _. refl;
+            gone = λ g has. absurd has;
+          });
         };
       }
     where
       blank : (o : ℕ) → length store ≤ o → o < room → slice_get (store ++ replicate (room - length store) 0) o ≡ Some 0
       blank o l m = zeros_behind store (room - length store) o l (omega (arith, l, m, fits))
 
-  kept_so : terms.opens setting (ranges_named (terms.ranged setting) store values) values → AreNamed terms setting (ranges_named (terms.ranged setting) store values) values
-      → Kept terms setting values room (ranges_named (terms.ranged setting) store values) (0 ∷ 0 ∷ opening_words values) (first_view setting values room (ranges_named (terms.ranged setting) store values) ∷ [])
-  kept_so fact named =
+  kept_so : sessions ≤ 64 → terms.opens setting (ranges_named (terms.ranged setting) store values) values → AreNamed terms setting (ranges_named (terms.ranged setting) store values) values
+      → Kept terms setting values room (ranges_named (terms.ranged setting) store values) (0 ∷ 0 ∷ opening_words values) (first_view setting values room (ranges_named (terms.ranged setting) store values) sessions ∷ [])
+  kept_so few fact named =
       let ranges : List Range = ranges_named (terms.ranged setting) store values in
-      let first : View S N = first_view setting values room ranges in
+      let first : View S N = first_view setting values room ranges sessions in
       let g : Seen N = opening_seen ranges in
       let plain : IsTold {S = S} setting values g (λ _. 0) untold = untold_is setting values g (λ _. 0) in
       let suit : Suits terms setting values room g (λ _. 0) first =
-      blank_suits terms setting values room g (λ _. 0) first refl refl refl (λ x e. refl)
+      blank_suits terms setting values room g (λ _. 0) first refl refl refl refl (λ x e. refl)
       (record { setting_is = λ x e. (some_one setting x e, refl); grows = seen_refl g; owned = λ n has. absurd has }) plain in
       record {
         world = start values 1;
@@ -111,23 +117,25 @@ module _ {S N : Type 0} (terms : Terms S N) (setting : S) (values store : List �
         named = λ c x at is. named c x.value (get_opened values c x at) is;
         lie = named_of_one (terms.ranged setting) store values room fits;
         suits = only_one first (λ v. Suits terms setting values room g (λ _. 0) v) suit;
-        rights = refl;
+        rights = omega (arith, few);
         numbers = refl;
       }
 
-pub opens_so : {S N : Type 0} (terms : Terms S N) (setting : S) (values store words : List ℕ) (room : ℕ) → length store ≤ room → room ≤ 2 ^ 24
+pub opens_so : {S N : Type 0} (terms : Terms S N) (setting : S) (values store words : List ℕ) (room sessions : ℕ) → length store ≤ room → room ≤ 2 ^ 24 → sessions ≤ 64
     → words ≡ (0 ∷ 0 ∷ opening_words values) ++ length store ∷ (store ++ replicate (room - length store) 0)
     → terms.opens setting (ranges_named (terms.ranged setting) store values) values → AreNamed terms setting (ranges_named (terms.ranged setting) store values) values
-    → Ruled terms setting values room store (opening words [] (first_view setting values room (ranges_named (terms.ranged setting) store values)))
-opens_so terms setting values store words room fits small is fact named =
+    → Ruled terms setting values room (record { store = store; sessions = sessions })
+    (opening words [] (first_view setting values room (ranges_named (terms.ranged setting) store values) sessions))
+opens_so terms setting values store words room sessions fits small few is fact named =
     record {
       front = 0 ∷ 0 ∷ opening_words values;
       tail = length store;
       store = store ++ replicate (room - length store) 0;
       ranges = ranges_named (terms.ranged setting) store values;
       words_are = is;
-      kept = kept_so terms setting values store room fits fact named;
-      shelf = shelf_so terms setting values store room fits small (ranges_named (terms.ranged setting) store values)
+      kept = kept_so terms setting values store room sessions fits few fact named;
+      dealt = omega arith;
+      shelf = shelf_so terms setting values store room sessions fits small (ranges_named (terms.ranged setting) store values)
           (named_stored (terms.ranged setting) store values (replicate (room - length store) 0)) values;
     }
 
@@ -173,40 +181,40 @@ all_one : {X : Type 0} (P : X → Type 0) (y : X) → P y → All P (y ∷ [])
 all_one P y p zero d l = p
 all_one P y p (suc k) d l = absurd (omega arith)
 
-dealt_more : {X : Type 0} (P : X → Type 0) (f : X → ℕ) (xs : List X) (y : X) (n : ℕ) → length xs ≡ n → All P xs → map f xs ≡ down 64 n → P y → f y ≡ 64 - n
-    → (length (xs ++ y ∷ []) ≡ n + 1) × All P (xs ++ y ∷ []) × (map f (xs ++ y ∷ []) ≡ down 64 (n + 1))
-dealt_more P f xs y n len all names p name =
+dealt_more : {X : Type 0} (P : X → Type 0) (f : X → ℕ) (sessions : ℕ) (xs : List X) (y : X) (n : ℕ) → length xs ≡ n → All P xs → map f xs ≡ down sessions n → P y → f y ≡ sessions - n
+    → (length (xs ++ y ∷ []) ≡ n + 1) × All P (xs ++ y ∷ []) × (map f (xs ++ y ∷ []) ≡ down sessions (n + 1))
+dealt_more P f sessions xs y n len all names p name =
     let e : suc n ≡ n + 1 = omega arith in
     let l : length (xs ++ y ∷ []) ≡ length xs + 1 = length-append xs (y ∷ []) in (
       omega (arith, l, len),
       All-append P xs (y ∷ []) all (all_one P y p),
-      map-append f xs (y ∷ []) ∙ ((λ i. names i ++ name i ∷ []) ∙ (sym (down_snoc 64 n) ∙ ap (down 64) e)),
+      map-append f xs (y ∷ []) ∙ ((λ i. names i ++ name i ∷ []) ∙ (sym (down_snoc sessions n) ∙ ap (down sessions) e)),
     )
 
-pub dealt_all : {X : Type 0} (P : X → Type 0) (f : X → ℕ) (xs ys zs : List X) (y : X) (n : ℕ) → ys ≡ xs → zs ≡ ys ++ y ∷ [] → length xs ≡ n → All P xs
-    → map f xs ≡ down 64 n → P y → f y ≡ 64 - n → (length zs ≡ n + 1) × All P zs × (map f zs ≡ down 64 (n + 1))
-dealt_all {X} P f xs ys zs y n same is len all names p name =
-    let Q : List X → Type 0 = λ l. (length l ≡ n + 1) × All P l × (map f l ≡ down 64 (n + 1)) in
-    subst Q (sym (is ∙ ap (λ (l : List X). l ++ y ∷ []) same)) (dealt_more P f xs y n len all names p name)
+pub dealt_all : {X : Type 0} (P : X → Type 0) (f : X → ℕ) (sessions : ℕ) (xs ys zs : List X) (y : X) (n : ℕ) → ys ≡ xs → zs ≡ ys ++ y ∷ [] → length xs ≡ n → All P xs
+    → map f xs ≡ down sessions n → P y → f y ≡ sessions - n → (length zs ≡ n + 1) × All P zs × (map f zs ≡ down sessions (n + 1))
+dealt_all {X} P f sessions xs ys zs y n same is len all names p name =
+    let Q : List X → Type 0 = λ l. (length l ≡ n + 1) × All P l × (map f l ≡ down sessions (n + 1)) in
+    subst Q (sym (is ∙ ap (λ (l : List X). l ++ y ∷ []) same)) (dealt_more P f sessions xs y n len all names p name)
 
-module _ {S N : Type 0} (setting : S) (base : List ℕ) (room : ℕ) (ranges : List Range) where
-  pub new_of : (m r : Mine S N) (k : ℕ) → m.0 ≡ dealer setting base room ranges k → r ≡ (newcomer m.0, [])
-      → IsNew setting base room ranges r.0 × (r.0.name ≡ 64 - k)
+module _ {S N : Type 0} (setting : S) (base : List ℕ) (room : ℕ) (ranges : List Range) (sessions : ℕ) where
+  pub new_of : (m r : Mine S N) (k : ℕ) → m.0 ≡ dealer setting base room ranges sessions k → r ≡ (newcomer m.0, [])
+      → IsNew setting base room ranges r.0 × (r.0.name ≡ sessions - k)
   new_of m r k e is =
-      let f : r.0 ≡ newcomer (dealer setting base room ranges k) = ap (λ m. m.0) is ∙ ap newcomer e in
-      let name : r.0.name ≡ 64 - k = ap (λ (v : View S N). v.name) f in
+      let f : r.0 ≡ newcomer (dealer setting base room ranges sessions k) = ap (λ m. m.0) is ∙ ap newcomer e in
+      let name : r.0.name ≡ sessions - k = ap (λ (v : View S N). v.name) f in
       (f ∙ ap (λ (n : ℕ). fresh (Some setting) base room ranges n 1) (sym name), name)
 
-  pub dealer_more : (m r : Mine S N) (k : ℕ) → m.0 ≡ dealer setting base room ranges k → r ≡ (record m.0 { rights = m.0.rights - 1 }, m.1)
-      → r.0 ≡ dealer setting base room ranges (k + 1)
+  pub dealer_more : (m r : Mine S N) (k : ℕ) → m.0 ≡ dealer setting base room ranges sessions k → r ≡ (record m.0 { rights = m.0.rights - 1 }, m.1)
+      → r.0 ≡ dealer setting base room ranges sessions (k + 1)
   dealer_more m r k e is =
       let a : r.0 ≡ record m.0 { rights = m.0.rights - 1 } = ap (λ m. m.0) is in
       let g : View S N → View S N = λ v. record v { rights = v.rights - 1 } in
-      let b : (64 - k) - 1 ≡ 64 - (k + 1) = omega arith in
+      let b : (sessions - k) - 1 ≡ sessions - (k + 1) = omega arith in
       a ∙ (ap g e ∙ ap (λ (n : ℕ). fresh (Some setting) base room ranges 0 n) b)
 
   pub new_knows : (r : Mine S N) → IsNew setting base room ranges r.0 → AreOfOneStore room ranges → KnowsStore r.0 false
-  new_knows r is lie = subst (λ (v : View S N). KnowsStore v false) (sym is) (record { at_rest = refl; full = refl; ranges = lie })
+  new_knows r is lie = subst (λ (v : View S N). KnowsStore v false) (sym is) (record { at_rest = refl; alone = refl; full = refl; ranges = lie })
 
   -- a pass of a lawful opening is sound
   pub new_sound : (terms : Terms S N) (v : View S N) → IsNew setting base room ranges v → terms.opens setting ranges base

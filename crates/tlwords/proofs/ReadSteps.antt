@@ -1,5 +1,5 @@
 -- Begin, Look, Load and Relook keep the rule: each is one event of the machine.
-use Rattle.std.proofs.Common.{◌≡◌, ◌≢◌, ℕ, suc, ◌+◌, ◌-◌, ◌*◌, ◌/◌, ◌%◌, ◌<◌, ◌≤◌, ◌⊎◌, inl, inr, ⊎_elim, Bool, true, false, if◌then◌else◌, ◌==◌, Option, Some, None, List, ◌∷◌, length, slice_get, slice_set, slice_index, sym, refl, ap, ◌∙◌, subst, arith}
+use Rattle.std.proofs.Common.{◌≡◌, ◌≢◌, ℕ, suc, ◌+◌, ◌-◌, ◌*◌, ◌/◌, ◌%◌, ◌<◌, ◌≤◌, ◌⊎◌, inl, inr, ⊎_elim, Bool, true, false, if◌then◌else◌, ◌==◌, Option, Some, None, List, [], ◌∷◌, length, slice_get, slice_set, slice_index, sym, refl, ap, ◌∙◌, subst, arith}
 use mathlib.Core.Logic.{dite}
 use mathlib.Core.Option.{none, some}
 use native.Mathlib.Decide.{ℕ_discrete, dec_lt}
@@ -24,12 +24,12 @@ use Rattle.ranges.specs.Ranges.{Range, Names}
 use Rattle.tlwords.specs.Terms.{Terms}
 use Rattle.tlwords.specs.Seen.{Seen}
 use Rattle.tlwords.specs.Views.{Told, View, untold}
-use Rattle.tlwords.specs.Rule.{lock_at, value_at, IsFresh, LookIsFresh, IsTold, Suits, Ruled}
-use Rattle.tlwords.specs.Plays.{Mine, Sees, Looks, began, after_look, after_relook, sampled, looked, loaded, relooked}
+use Rattle.tlwords.specs.Rule.{Start, lock_at, value_at, IsFresh, LookIsFresh, IsTold, Suits, Ruled}
+use Rattle.tlwords.specs.Plays.{Mine, Sees, Looks, began, after_look, after_relook, sampled, looked, loaded, relooked, bare}
 use Rattle.tlwords.proofs.Paired.{clock_word, lock_word, value_word, word_count, lock_within, value_within}
 use Rattle.tlwords.proofs.Seens.{version_settled}
 use Rattle.tlwords.proofs.Lifts.{lifted}
-use Rattle.tlwords.proofs.Keeps.{Rule, now, seat_at, gone, goes, untold_is}
+use Rattle.tlwords.proofs.Keeps.{Rule, now, seat_at, after_step, goes, untold_is}
 
 -- a place without a number
 pub no_number : (p q : Place) (i : ℕ) → p ≡ q → number_at q ≡ None → number_at p ≡ Some i → ⊥
@@ -112,16 +112,16 @@ module _ {S N : Type 0} (terms : Terms S N) (setting : S) (base : List ℕ) (roo
       → Keeps base r.world (with_seat r.world id z) → IsTold setting base (now terms setting base room ranges ws vs r) r.owner told
       → ((k : ℕ) → number_at v.seat.place ≡ Some k → number_at z.place ≡ Some k)
       → ((k : ℕ) → number_at z.place ≡ Some k → number_at v.seat.place ≡ Some k)
-      → LookIsFresh (r.world).history z
-      → (w : View S N) → w ≡ gone terms setting base room ranges ws vs r v (r.world) z runs looked v.mine told
+      → LookIsFresh (r.world).history z → (v.rights ≡ 0 → v.seat.held ≡ [] → z.held ≡ [])
+      → (w : View S N) → w ≡ after_step terms setting base room ranges ws vs r v (r.world) z runs looked v.mine told
       → Rule terms setting base room ranges (slice_set ws i (slice_index ws i)) (slice_set vs id w) × Sees terms v w
-  quiet ranges ws vs r id v at i z runs looked told stays is_told on back look w is =
+  quiet ranges ws vs r id v at i z runs looked told stays is_told on back look unheld w is =
       subst (λ (w : View S N). Rule terms setting base room ranges (slice_set ws i (slice_index ws i)) (slice_set vs id w) × Sees terms v w) (sym is)
       (goes terms setting base room ranges ws vs r id v at (slice_set ws i (slice_index ws i)) (with_seat r.world id z) z runs looked v.mine told r.named stays refl
-      (set-get_or ws i 0 ∙ r.words_are) refl refl (λ a. a) is_told (λ k p. inl (on k p)) back look)
+      (set-get_or ws i 0 ∙ r.words_are) refl refl (λ a. a) is_told (λ k p. inl (on k p)) back look unheld)
 
-  pub samples : (opened : List ℕ) (slots id : ℕ) (me : Mine S N) → (me.0.seat.place ≡ Idle) ⊎ (me.0.seat.place ≡ Reading)
-      → Allows (Ruled terms setting base room opened) slots id me 1 (λ n. n) (sampled terms (step slots 1 0 0 none) me)
+  pub samples : (opened : Start) (slots id : ℕ) (me : Mine S N) → (me.0.seat.place ≡ Idle) ⊎ (me.0.seat.place ≡ Reading)
+      → Allows (Ruled terms setting base room opened) slots id me 1 (λ n. n) (bare (sampled terms) (step slots 1 0 0 none) me)
   samples opened slots id me p =
       lifted terms setting base room opened slots id 1 me (λ n. n)
       (sampled terms (step slots 1 0 0 none) me) λ ranges ws vs r at.
@@ -138,7 +138,7 @@ module _ {S N : Type 0} (terms : Terms S N) (setting : S) (base : List ℕ) (roo
       quiet ranges ws vs r id v at 1 (began n) (v.runs + 1) None untold keep (untold_is setting base h r.owner)
       (λ k a. absurd (⊎_elim (λ (b : v.seat.place ≡ Idle). no_number v.seat.place Idle k b refl a) (λ (b : v.seat.place ≡ Reading). no_number v.seat.place Reading k b refl a) p))
       (λ k a. absurd (no_number Reading Reading k refl refl a))
-      (λ c word value a. absurd (not_looking Reading refl c word value a)) u refl in
+      (λ c word value a. absurd (not_looking Reading refl c word value a)) (λ _ _. refl) u refl in
       let f = r.suits id v at in (
         (let l = word_count ws w r.words_are in omega arith),
         u,
@@ -156,8 +156,8 @@ module _ {S N : Type 0} (terms : Terms S N) (setting : S) (base : List ℕ) (roo
         },
       )
 
-  pub looks : (opened : List ℕ) (slots id c : ℕ) (me : Mine S N) (y : S) → me.0.setting ≡ Some y → c < length me.0.base → me.0.seat.place ≡ Reading
-      → Allows (Ruled terms setting base room opened) slots id me (lock_at c) (λ n. n) (looked terms (step slots (lock_at c) 0 0 none) me)
+  pub looks : (opened : Start) (slots id c : ℕ) (me : Mine S N) (y : S) → me.0.setting ≡ Some y → c < length me.0.base → me.0.seat.place ≡ Reading
+      → Allows (Ruled terms setting base room opened) slots id me (lock_at c) (λ n. n) (bare (looked terms) (step slots (lock_at c) 0 0 none) me)
   looks opened slots id c me y set l p =
       lifted terms setting base room opened slots id (lock_at c) me (λ n. n)
       (looked terms (step slots (lock_at c) 0 0 none) me) λ ranges ws vs r at.
@@ -182,7 +182,8 @@ module _ {S N : Type 0} (terms : Terms S N) (setting : S) (base : List ℕ) (roo
       (λ _ b. no_number (Looked c n) (Looked c n) k refl refl b) (λ _ b. no_number Idle Idle k refl refl b) a))
       (if_known (λ (z : Seat). LookIsFresh w.history z) (passes n t.rv) (placed t (Looked c n)) (conflict t Idle)
       (λ b. looked_fresh w.history t c n (pass_fresh base w c n t.rv x.0 r.invariant x.1 is rv b))
-      (λ _ d word value a. absurd (not_looking Idle refl d word value a))) u refl in (
+      (λ _ d word value a. absurd (not_looking Idle refl d word value a)))
+      (λ _ b. if_known (λ (z : Seat). z.held ≡ []) (passes n t.rv) (placed t (Looked c n)) (conflict t Idle) (λ _. b) (λ _. b)) u refl in (
         lock_within ws w r.words_are c x.0 x.1,
         u,
         (refl, refl, refl),
@@ -191,8 +192,8 @@ module _ {S N : Type 0} (terms : Terms S N) (setting : S) (base : List ℕ) (roo
             (record { sees = q.1; written = half_written ranges ws vs r c n x.0 x.1 is; is = refl }),
       )
 
-  pub loads : (opened : List ℕ) (slots id c word : ℕ) (me : Mine S N) (y : S) → me.0.setting ≡ Some y → c < length me.0.base → me.0.seat.place ≡ Looked c word
-      → Allows (Ruled terms setting base room opened) slots id me (value_at c) (λ n. n) (loaded terms (step slots (value_at c) 0 0 none) me)
+  pub loads : (opened : Start) (slots id c word : ℕ) (me : Mine S N) (y : S) → me.0.setting ≡ Some y → c < length me.0.base → me.0.seat.place ≡ Looked c word
+      → Allows (Ruled terms setting base room opened) slots id me (value_at c) (λ n. n) (bare (loaded terms) (step slots (value_at c) 0 0 none) me)
   loads opened slots id c word me y set l p =
       lifted terms setting base room opened slots id (value_at c) me (λ n. n)
       (loaded terms (step slots (value_at c) 0 0 none) me) λ ranges ws vs r at.
@@ -214,7 +215,7 @@ module _ {S N : Type 0} (terms : Terms S N) (setting : S) (base : List ℕ) (roo
       quiet ranges ws vs r id v at (value_at c) z v.runs v.looked v.told keep f.told
       (λ k a. absurd (no_number t.place (Looked c word) k p refl a))
       (λ k a. absurd (no_number (Loaded c word n) (Loaded c word n) k refl refl a))
-      (loaded_fresh w.history t c word n (f.look c word 0 (inl p))) u refl in (
+      (loaded_fresh w.history t c word n (f.look c word 0 (inl p))) (λ _ b. b) u refl in (
         value_within ws w r.words_are c x.0 x.1,
         u,
         (refl, refl, refl),
@@ -232,9 +233,9 @@ module _ {S N : Type 0} (terms : Terms S N) (setting : S) (base : List ℕ) (roo
         },
       )
 
-  pub relooks : (opened : List ℕ) (slots id c word value : ℕ) (me : Mine S N) (y : S) → me.0.setting ≡ Some y → c < length me.0.base
+  pub relooks : (opened : Start) (slots id c word value : ℕ) (me : Mine S N) (y : S) → me.0.setting ≡ Some y → c < length me.0.base
       → me.0.seat.place ≡ Loaded c word value
-      → Allows (Ruled terms setting base room opened) slots id me (lock_at c) (λ n. n) (relooked terms (step slots (lock_at c) 0 0 none) me)
+      → Allows (Ruled terms setting base room opened) slots id me (lock_at c) (λ n. n) (bare (relooked terms) (step slots (lock_at c) 0 0 none) me)
   relooks opened slots id c word value me y set l p =
       lifted terms setting base room opened slots id (lock_at c) me (λ n. n)
       (relooked terms (step slots (lock_at c) 0 0 none) me) λ ranges ws vs r at.
@@ -260,7 +261,8 @@ module _ {S N : Type 0} (terms : Terms S N) (setting : S) (base : List ℕ) (roo
       (λ k a. absurd (if_known (λ (z : Seat). number_at z.place ≡ Some k → ⊥) (n == word) reads (conflict t Idle)
       (λ _ b. no_number Reading Reading k refl refl b) (λ _ b. no_number Idle Idle k refl refl b) a))
       (if_known (λ (z : Seat). LookIsFresh w.history z) (n == word) reads (conflict t Idle)
-      (λ _ d o a b. absurd (not_looking Reading refl d o a b)) (λ _ d o a b. absurd (not_looking Idle refl d o a b))) u refl in
+      (λ _ d o a b. absurd (not_looking Reading refl d o a b)) (λ _ d o a b. absurd (not_looking Idle refl d o a b)))
+      (λ _ b. if_known (λ (z : Seat). z.held ≡ []) (n == word) reads (conflict t Idle) (λ _. b) (λ _. b)) u refl in
       let same : (d other found : ℕ) → t.place ≡ Loaded d other found → Loaded c word value ≡ Loaded d other found = λ d other found a. sym p ∙ a in
       let half : WasWritten w.history c (n / 2) = half_written ranges ws vs r c n x.0 x.1 is in
       let fresh : IsFresh w.history t.rv c word = f.look c word value (inr p) in

@@ -8,8 +8,8 @@ use Rattle.std.proofs.lemmas.Option.{slice_get-get_or}
 use Rattle.tlcore.proofs.Lists.{get-set_same, get-set_other, get_within, length-slice_set, same_or_not}
 use Rattle.ranges.proofs.Stored.{stored_coherent, stored_on, below_tail}
 use Rattle.ranges.specs.Ranges.{Range, Has, IsStored, AreOfOneStore}
-use Rattle.tlwords.specs.Views.{Staging, View}
-use Rattle.tlwords.specs.Rule.{total_of, IsTaken, IsApart, IsLeft, Adds, IsTail, Shelf}
+use Rattle.tlwords.specs.Views.{Staging, Gone, View}
+use Rattle.tlwords.specs.Rule.{total_of, IsTaken, IsApart, IsLeft, rights_of, moved_of, added_of, Adds, IsTail, Shelf}
 use Rattle.tlwords.proofs.Keeps.{total_set, moves_of}
 
 -- the two have no word in common
@@ -85,20 +85,43 @@ module _ {S N : Type 0} where
       let c : k * (g v + total_of g vs) ≡ k * g v + k * total_of g vs = mul-add k (g v) (total_of g vs) in
       omega (arith, a, b, c)
 
+  pub dealt_same : (vs : List (View S N)) (id : ℕ) (v w : View S N) → get_elem? vs id ≡ some v → rights_of w ≡ rights_of v
+      → total_of rights_of (slice_set vs id w) ≡ total_of rights_of vs
+  dealt_same vs id v w at e =
+      let t : total_of rights_of (slice_set vs id w) + rights_of v ≡ total_of rights_of vs + rights_of w =
+      total_set rights_of vs id v w at in
+      omega (arith, t, e)
+
+  gone_least : (k : ℕ) (gs : List (Gone S N)) → ((g : Gone S N) → Has g gs → g.added ≤ k) → total_of (λ (g : Gone S N). g.added) gs ≤ k * length gs
+  gone_least k [] each = omega arith
+  gone_least k (g ∷ gs) each =
+      let a : g.added ≤ k = each g (inl refl) in
+      let b : total_of (λ (g : Gone S N). g.added) gs ≤ k * length gs = gone_least k gs (λ x has. each x (inr has)) in
+      let c : k * (1 + length gs) ≡ k * 1 + k * length gs = mul-add k 1 (length gs) in
+      let d : k * suc (length gs) ≡ k * (1 + length gs) = ap (λ (n : ℕ). k * n) (let e : suc (length gs) ≡ 1 + length gs = omega arith in e) in
+      omega (arith, a, b, c, d)
+
+  adds_least : (room tail : ℕ) (v : View S N) → Adds room tail v → added_of v ≤ (room + 1) * rights_of v
+  adds_least room tail v f =
+      let a : v.added ≤ (room + 1) * v.rights = f.once in
+      let b : total_of (λ (g : Gone S N). g.added) v.gone ≤ (room + 1) * length v.gone = gone_least (room + 1) v.gone (λ g has. (f.gone g has).0) in
+      let c : (room + 1) * (v.rights + length v.gone) ≡ (room + 1) * v.rights + (room + 1) * length v.gone = mul-add (room + 1) v.rights (length v.gone) in
+      omega (arith, a, b, c)
+
   -- each of the 64 parts of the right moves the tail beyond the room once at most
   pub tail_least : (opened room tail : ℕ) (vs : List (View S N)) → IsTail opened room tail vs
-      → total_of (λ (v : View S N). v.rights) vs ≡ 64 → tail ≤ room + (room + 1) * 64
+      → total_of rights_of vs ≤ 64 → tail ≤ room + (room + 1) * 64
   tail_least opened room tail vs h rights =
-      let few : total_of (λ (v : View S N). v.added) vs ≤ (room + 1) * total_of (λ (v : View S N). v.rights) vs =
-      total_least (room + 1) (λ (v : View S N). v.added) (λ (v : View S N). v.rights) vs (λ j v at. (h.each j v at).once) in
-      let least : total_of (λ (v : View S N). v.added) vs ≤ (room + 1) * 64 =
-      subst (λ (n : ℕ). total_of (λ (v : View S N). v.added) vs ≤ (room + 1) * n) rights few in
-      let most : tail ≤ room + total_of (λ (v : View S N). v.added) vs = h.most in
+      let few : total_of added_of vs ≤ (room + 1) * total_of rights_of vs =
+      total_least (room + 1) added_of rights_of vs (λ j v at. adds_least room tail v (h.each j v at)) in
+      let many : (room + 1) * total_of rights_of vs ≤ (room + 1) * 64 = mul-le-mul_left (room + 1) rights in
+      let least : total_of added_of vs ≤ (room + 1) * 64 = omega (arith, few, many) in
+      let most : tail ≤ room + total_of added_of vs = h.most in
       omega (arith, least, most)
 
   -- so an advance by the room and one at most doesn't wrap
   pub tail_stays : (opened room tail count : ℕ) (vs : List (View S N)) → IsTail opened room tail vs → room ≤ 2 ^ 24
-      → total_of (λ (v : View S N). v.rights) vs ≡ 64 → count ≤ room + 1 → (tail + count) % 2 ^ 64 ≡ tail + count
+      → total_of rights_of vs ≤ 64 → count ≤ room + 1 → (tail + count) % 2 ^ 64 ≡ tail + count
   tail_stays opened room tail count vs h small rights least =
       let a : tail ≤ room + (room + 1) * 64 = tail_least opened room tail vs h rights in
       omega (arith, a, small, least)
@@ -108,17 +131,18 @@ module _ {S N : Type 0} where
     once = f.once;
     unrefused = f.unrefused;
     found = λ n count e. let a : n + min count (room + 1) ≤ tail = f.found n count e in omega (arith, a, l);
+    untaken = f.untaken;
+    gone = λ g has. ((f.gone g has).0, λ n count e. let a : n + min count (room + 1) ≤ tail = (f.gone g has).1 n count e in omega (arith, a, l));
   }
 
   -- the seat id goes on with the view w, and the tail with it
   tail_set : (opened room tail later : ℕ) (vs : List (View S N)) (id : ℕ) (v w : View S N) → IsTail opened room tail vs → get_elem? vs id ≡ some v
-      → tail ≤ later → later + (v.taken + v.added) ≡ tail + (w.taken + w.added)
-      → later ≤ room + total_of (λ (x : View S N). x.added) (slice_set vs id w) → Adds room later w → IsTail opened room later (slice_set vs id w)
+      → tail ≤ later → later + moved_of v ≡ tail + moved_of w
+      → later ≤ room + total_of added_of (slice_set vs id w) → Adds room later w → IsTail opened room later (slice_set vs id w)
   tail_set opened room tail later vs id v w h at l moves most adds = record {
     is =
-        let a : tail ≡ opened + total_of (λ (x : View S N). x.taken + x.added) vs = h.is in
-        let b : total_of (λ (x : View S N). x.taken + x.added) (slice_set vs id w) + (v.taken + v.added)
-        ≡ total_of (λ (x : View S N). x.taken + x.added) vs + (w.taken + w.added) = total_set (λ (x : View S N). x.taken + x.added) vs id v w at in
+        let a : tail ≡ opened + total_of moved_of vs = h.is in
+        let b : total_of moved_of (slice_set vs id w) + moved_of v ≡ total_of moved_of vs + moved_of w = total_set moved_of vs id v w at in
         omega (arith, a, b, moves);
     most = most;
     each = λ j u there. ⊎_elim
@@ -128,17 +152,23 @@ module _ {S N : Type 0} where
 
   -- the view w has moved the tail as far as v, and has parts of the right to draw enough
   tail_kept : (opened room tail : ℕ) (vs : List (View S N)) (id : ℕ) (v w : View S N) → IsTail opened room tail vs → get_elem? vs id ≡ some v
-      → moves_of w ≡ moves_of v → w.added ≤ (room + 1) * w.rights → IsTail opened room tail (slice_set vs id w)
-  tail_kept opened room tail vs id v w h at same once =
+      → moves_of w ≡ moves_of v → w.added ≤ (room + 1) * w.rights → (w.rights ≡ 0 → w.taken ≡ 0) → IsTail opened room tail (slice_set vs id w)
+  tail_kept opened room tail vs id v w h at same once untaken =
       let full : w.full ≡ v.full = ap (λ m. m.0) same in
-      let taken : w.taken ≡ v.taken = ap (λ m. m.1) same in
       let added : w.added ≡ v.added = ap (λ m. m.2) same in
       let f : Adds room tail v = h.each id v at in
-      let most : tail ≤ room + total_of (λ (x : View S N). x.added) vs = h.most in
-      let t : total_of (λ (x : View S N). x.added) (slice_set vs id w) + v.added ≡ total_of (λ (x : View S N). x.added) vs + w.added =
-      total_set (λ (x : View S N). x.added) vs id v w at in
-      tail_set opened room tail tail vs id v w h at (omega arith) (omega (arith, taken, added)) (omega (arith, most, t, added))
-      (record { once = once; unrefused = λ e. added ∙ f.unrefused (sym full ∙ e); found = λ n count e. f.found n count (sym full ∙ e) })
+      let most : tail ≤ room + total_of added_of vs = h.most in
+      let moved : moved_of w ≡ moved_of v = ap (λ m. (m.1 + m.2) + total_of (λ (g : Gone S N). g.taken + g.added) m.3) same in
+      let more : added_of w ≡ added_of v = ap (λ m. m.2 + total_of (λ (g : Gone S N). g.added) m.3) same in
+      let t : total_of added_of (slice_set vs id w) + added_of v ≡ total_of added_of vs + added_of w = total_set added_of vs id v w at in
+      tail_set opened room tail tail vs id v w h at (omega arith) (omega (arith, moved)) (omega (arith, most, t, more))
+      (record {
+        once = once;
+        unrefused = λ e. added ∙ f.unrefused (sym full ∙ e);
+        found = λ n count e. f.found n count (sym full ∙ e);
+        untaken = untaken;
+        gone = λ g has. f.gone g (subst (λ (gs : List (Gone S N)). Has g gs) (ap (λ m. m.3) same) has);
+      })
 
   tail_same : (opened room tail : ℕ) (vs : List (View S N)) (id : ℕ) (v w : View S N) → IsTail opened room tail vs → get_elem? vs id ≡ some v
       → moves_of w ≡ moves_of v → w.rights ≡ v.rights → IsTail opened room tail (slice_set vs id w)
@@ -147,6 +177,7 @@ module _ {S N : Type 0} where
       let added : w.added ≡ v.added = ap (λ m. m.2) same in
       tail_kept opened room tail vs id v w h at same
       (subst (λ (n : ℕ × ℕ). n.0 ≤ (room + 1) * n.1) (λ i. (sym added i, sym rights i)) once)
+      (λ e. ap (λ m. m.1) same ∙ (h.each id v at).untaken (sym rights ∙ e))
 
   -- ---- seats
 
@@ -184,13 +215,13 @@ module _ {S N : Type 0} where
       shelf_kept room opened tail ranges store vs id v w h at same.0
       (tail_same (length opened) room tail vs id v w h.tail_is at same.1 same.2)
 
-  total_snoc : (f : View S N → ℕ) (vs : List (View S N)) (u : View S N) → total_of f (vs ++ u ∷ []) ≡ total_of f vs + f u
+  pub total_snoc : (f : View S N → ℕ) (vs : List (View S N)) (u : View S N) → total_of f (vs ++ u ∷ []) ≡ total_of f vs + f u
   total_snoc f [] u = omega arith
   total_snoc f (v ∷ vs) u = let r : total_of f (vs ++ u ∷ []) ≡ total_of f vs + f u = total_snoc f vs u in omega (arith, r)
 
   -- it has staged nothing, and wasn't refused
   abbrev pub IsUnused : View S N → Type 0
-  IsUnused u = (u.staging ≡ None) × (moves_of u ≡ (None, 0, 0))
+  IsUnused u = (u.staging ≡ None) × (moves_of u ≡ (None, 0, 0, []))
 
   -- a new seat that has staged nothing
   shelf_snoc : (room : ℕ) (opened : List ℕ) (tail : ℕ) (ranges : List Range) (store : List ℕ) (vs : List (View S N)) (u : View S N)
@@ -205,19 +236,21 @@ module _ {S N : Type 0} where
         let full : u.full ≡ None = ap (λ m. m.0) unused.1 in
         record {
           is =
-              let a : tail ≡ length opened + total_of (λ (x : View S N). x.taken + x.added) vs = h.tail_is.is in
-              let b : total_of (λ (x : View S N). x.taken + x.added) (vs ++ u ∷ []) ≡ total_of (λ (x : View S N). x.taken + x.added) vs + (u.taken + u.added) =
-              total_snoc (λ (x : View S N). x.taken + x.added) vs u in
-              omega (arith, a, b, taken, added);
+              let a : tail ≡ length opened + total_of moved_of vs = h.tail_is.is in
+              let b : total_of moved_of (vs ++ u ∷ []) ≡ total_of moved_of vs + moved_of u = total_snoc moved_of vs u in
+              let c : moved_of u ≡ 0 = ap (λ m. (m.1 + m.2) + total_of (λ (g : Gone S N). g.taken + g.added) m.3) unused.1 in
+              omega (arith, a, b, c);
           most =
-              let a : tail ≤ room + total_of (λ (x : View S N). x.added) vs = h.tail_is.most in
-              let b : total_of (λ (x : View S N). x.added) (vs ++ u ∷ []) ≡ total_of (λ (x : View S N). x.added) vs + u.added = total_snoc (λ (x : View S N). x.added) vs u in
+              let a : tail ≤ room + total_of added_of vs = h.tail_is.most in
+              let b : total_of added_of (vs ++ u ∷ []) ≡ total_of added_of vs + added_of u = total_snoc added_of vs u in
               omega (arith, a, b);
           each = λ j v there. ⊎_elim (λ (p : get_elem? vs j ≡ some v). h.tail_is.each j v p)
               (λ (p : u ≡ v). subst (λ (x : View S N). Adds room tail x) p (record {
                 once = omega (arith, added);
                 unrefused = λ _. added;
                 found = λ n count e. absurd (none_is_some u.full (n, count) full e);
+                untaken = λ _. taken;
+                gone = λ g has. absurd (subst (λ (gs : List (Gone S N)). Has g gs) (ap (λ m. m.3) unused.1) has);
               }))
               (at_snoc vs u v j there);
         };
@@ -236,19 +269,19 @@ module _ {S N : Type 0} where
 
   pub shelf_shared : (room : ℕ) (opened : List ℕ) (tail : ℕ) (ranges : List Range) (store : List ℕ) (vs : List (View S N)) (id : ℕ) (v w u : View S N)
       → Shelf room opened ranges tail store vs → get_elem? vs id ≡ some v → w.staging ≡ v.staging → moves_of w ≡ moves_of v
-      → w.added ≤ (room + 1) * w.rights → IsUnused u → Shelf room opened ranges tail store (slice_set vs id w ++ u ∷ [])
-  shelf_shared room opened tail ranges store vs id v w u h at staging same once unused =
+      → w.added ≤ (room + 1) * w.rights → (w.rights ≡ 0 → w.taken ≡ 0) → IsUnused u → Shelf room opened ranges tail store (slice_set vs id w ++ u ∷ [])
+  shelf_shared room opened tail ranges store vs id v w u h at staging same once untaken unused =
       shelf_snoc room opened tail ranges store (slice_set vs id w) u
-      (shelf_kept room opened tail ranges store vs id v w h at staging (tail_kept (length opened) room tail vs id v w h.tail_is at same once)) unused
+      (shelf_kept room opened tail ranges store vs id v w h at staging (tail_kept (length opened) room tail vs id v w h.tail_is at same once untaken)) unused
 
   -- ---- the tail moves
 
   -- the words up to the new tail are the seat's
   pub shelf_taken : (room : ℕ) (opened : List ℕ) (tail : ℕ) (ranges : List Range) (store : List ℕ) (vs : List (View S N)) (id : ℕ) (v w : View S N) (words : List ℕ)
       → Shelf room opened ranges tail store vs → get_elem? vs id ≡ some v → words ≢ [] → tail + length words ≤ room
-      → w.staging ≡ Some (record { start = tail; words = words; done = 0 }) → moves_of w ≡ (v.full, v.taken + length words, v.added) → w.rights ≡ v.rights
+      → w.staging ≡ Some (record { start = tail; words = words; done = 0 }) → moves_of w ≡ (v.full, v.taken + length words, v.added, v.gone) → w.rights ≡ v.rights → 1 ≤ v.rights
       → Shelf room opened ranges (tail + length words) store (slice_set vs id w)
-  shelf_taken room opened tail ranges store vs id v w words h at some_words fits staging moves rights =
+  shelf_taken room opened tail ranges store vs id v w words h at some_words fits staging moves rights some_rights =
       shelf_set room opened tail (tail + length words) ranges ranges store store vs id w h h.long
       (left_on opened room tail (tail + length words) store (omega arith) h.left) counted
       (λ r has. stored_on tail (tail + length words) store r (omega arith) (h.finished r has))
@@ -263,20 +296,24 @@ module _ {S N : Type 0} where
       counted : IsTail (length opened) room (tail + length words) (slice_set vs id w)
       counted =
           let full : w.full ≡ v.full = ap (λ m. m.0) moves in
-          let taken : w.taken ≡ v.taken + length words = ap (λ m. m.1) moves in
           let added : w.added ≡ v.added = ap (λ m. m.2) moves in
+          let all : moved_of w ≡ ((v.taken + length words) + v.added) + total_of (λ (g : Gone S N). g.taken + g.added) v.gone =
+          ap (λ m. (m.1 + m.2) + total_of (λ (g : Gone S N). g.taken + g.added) m.3) moves in
+          let moved : moved_of w ≡ moved_of v + length words = omega (arith, all) in
           let f : Adds room (tail + length words) v = adds_on room tail (tail + length words) v (omega arith) (h.tail_is.each id v at) in
-          tail_set (length opened) room tail (tail + length words) vs id v w h.tail_is at (omega arith) (omega (arith, taken, added)) (omega (arith, fits))
+          tail_set (length opened) room tail (tail + length words) vs id v w h.tail_is at (omega arith) (omega (arith, moved)) (omega (arith, fits))
           (record {
             once = subst (λ (n : ℕ × ℕ). n.0 ≤ (room + 1) * n.1) (λ i. (sym added i, sym rights i)) f.once;
             unrefused = λ e. added ∙ f.unrefused (sym full ∙ e);
             found = λ n count e. f.found n count (sym full ∙ e);
+            untaken = λ e. absurd (omega (arith, e, rights, some_rights));
+            gone = λ g has. f.gone g (subst (λ (gs : List (Gone S N)). Has g gs) (ap (λ m. m.3) moves) has);
           })
 
       own : Own (length opened) room (tail + length words) ranges store vs id (record { start = tail; words = words; done = 0 })
       own = record {
         taken = record {
-          behind = let a : tail ≡ length opened + total_of (λ (x : View S N). x.taken + x.added) vs = h.tail_is.is in omega (arith, a);
+          behind = let a : tail ≡ length opened + total_of moved_of vs = h.tail_is.is in omega (arith, a);
           inside = fits;
           below = omega arith;
           left = longer words some_words;
@@ -289,7 +326,7 @@ module _ {S N : Type 0} where
   -- the tail is beyond the room
   pub shelf_refused : (room : ℕ) (opened : List ℕ) (tail : ℕ) (ranges : List Range) (store : List ℕ) (vs : List (View S N)) (id : ℕ) (v w : View S N) (many count : ℕ)
       → Shelf room opened ranges tail store vs → get_elem? vs id ≡ some v → v.full ≡ None → 1 ≤ v.rights → count ≡ min many (room + 1)
-      → w.staging ≡ v.staging → moves_of w ≡ (Some (tail, many), v.taken, count) → w.rights ≡ v.rights
+      → w.staging ≡ v.staging → moves_of w ≡ (Some (tail, many), v.taken, count, v.gone) → w.rights ≡ v.rights
       → Shelf room opened ranges (tail + count) store (slice_set vs id w)
   shelf_refused room opened tail ranges store vs id v w many count h at none_refused some_rights is_count staging moves rights =
       shelf_set room opened tail (tail + count) ranges ranges store store vs id w h h.long
@@ -306,19 +343,23 @@ module _ {S N : Type 0} where
       counted : IsTail (length opened) room (tail + count) (slice_set vs id w)
       counted =
           let full : w.full ≡ Some (tail, many) = ap (λ m. m.0) moves in
-          let taken : w.taken ≡ v.taken = ap (λ m. m.1) moves in
           let added : w.added ≡ count = ap (λ m. m.2) moves in
+          let moved : moved_of w ≡ (v.taken + count) + total_of (λ (g : Gone S N). g.taken + g.added) v.gone =
+          ap (λ m. (m.1 + m.2) + total_of (λ (g : Gone S N). g.taken + g.added) m.3) moves in
+          let more : added_of w ≡ count + total_of (λ (g : Gone S N). g.added) v.gone = ap (λ m. m.2 + total_of (λ (g : Gone S N). g.added) m.3) moves in
           let none : v.added ≡ 0 = (h.tail_is.each id v at).unrefused none_refused in
-          let most : tail ≤ room + total_of (λ (x : View S N). x.added) vs = h.tail_is.most in
-          let t : total_of (λ (x : View S N). x.added) (slice_set vs id w) + v.added ≡ total_of (λ (x : View S N). x.added) vs + w.added =
-          total_set (λ (x : View S N). x.added) vs id v w at in
+          let most : tail ≤ room + total_of added_of vs = h.tail_is.most in
+          let t : total_of added_of (slice_set vs id w) + added_of v ≡ total_of added_of vs + added_of w = total_set added_of vs id v w at in
           let least : min many (room + 1) ≤ room + 1 = min-le_right many (room + 1) in
           let product : (room + 1) * 1 ≤ (room + 1) * w.rights = mul-le-mul_left (room + 1) (let l : 1 ≤ w.rights = omega (arith, some_rights, rights) in l) in
-          tail_set (length opened) room tail (tail + count) vs id v w h.tail_is at (omega arith) (omega (arith, taken, added, none)) (omega (arith, most, t, added, none))
+          tail_set (length opened) room tail (tail + count) vs id v w h.tail_is at (omega arith) (omega (arith, moved, none)) (omega (arith, most, t, more, none))
           (record {
             once = omega (arith, added, is_count, least, product);
             unrefused = λ e. absurd (some_is_none w.full (tail, many) e full);
             found = found w.full full;
+            untaken = λ e. absurd (omega (arith, e, rights, some_rights));
+            gone = λ g has. (adds_on room tail (tail + count) v (omega arith) (h.tail_is.each id v at)).gone g
+                (subst (λ (gs : List (Gone S N)). Has g gs) (ap (λ m. m.3) moves) has);
           })
 
   -- ---- the seat's next word is stored

@@ -13,15 +13,15 @@ use Rattle.tlcore.proofs.Lists.{get_within}
 use Rattle.ranges.specs.Ranges.{Range, Has, Within, AreOfOneStore}
 use Rattle.tlwords.specs.Terms.{Terms}
 use Rattle.tlwords.specs.Seen.{Seen, SeenGrows}
-use Rattle.tlwords.specs.Views.{Staging, View, tells}
-use Rattle.tlwords.specs.Rule.{tail_at, store_at, EntriesAre, IsTold, Suits, Shelf, Ruled}
-use Rattle.tlwords.specs.Plays.{Mine, Sees, Fetches, advanced, filled, fetched}
+use Rattle.tlwords.specs.Views.{Staging, Gone, View, tells}
+use Rattle.tlwords.specs.Rule.{total_of, Start, tail_at, store_at, EntriesAre, IsTold, Suits, Shelf, Ruled}
+use Rattle.tlwords.specs.Plays.{Mine, Sees, Fetches, advanced, filled, fetched, bare}
 use Rattle.tlwords.proofs.Paired.{set_same}
 use Rattle.ranges.proofs.Grown.{names_grow, within_refl}
 use Rattle.tlwords.proofs.Seens.{seen_refl, seen_trans, agree_grows, permits_grow}
-use Rattle.tlwords.proofs.Keeps.{Rule, now, seat_at, moved, sound_of, told_grows}
+use Rattle.tlwords.proofs.Keeps.{Rule, gone_grows, now, seat_at, moved, sound_of, told_grows}
 use Rattle.tlwords.proofs.Lifts.{front_long, tail_word, tail_is_set, store_word, store_is_set}
-use Rattle.tlwords.proofs.Shelves.{one_staging, tail_stays, shelf_same, shelf_taken, shelf_refused, shelf_filled, shelf_finished, with_range, lie_more}
+use Rattle.tlwords.proofs.Shelves.{dealt_same, one_staging, tail_stays, shelf_same, shelf_taken, shelf_refused, shelf_filled, shelf_finished, with_range, lie_more}
 
 fits_or_not : (a b : ℕ) → (a ≤ b) ⊎ (b < a)
 fits_or_not a b = grind arith
@@ -61,6 +61,8 @@ module _ {S N : Type 0} (terms : Terms S N) (setting : S) (base : List ℕ) (roo
           noted = f.noted;
           look = f.look;
           few = f.few;
+          unheld = f.unheld;
+          gone = gone_grows terms setting base room g h r.owner r.owner v.gone grow (λ n l. refl) f.gone;
         } in
         let rule : Rule terms setting base room qs front (slice_set vs id w) =
         moved terms setting base room ranges front vs r id v w at qs front world r.notes r.owner wider lie
@@ -75,7 +77,7 @@ module _ {S N : Type 0} (terms : Terms S N) (setting : S) (base : List ℕ) (roo
         )
 
   -- the front's words are before those of the store
-  long_front : (opened : List ℕ) (cells : ℕ) (me : Mine S N) (y : S) → me.0.setting ≡ Some y → cells ≡ length me.0.base
+  long_front : (opened : Start) (cells : ℕ) (me : Mine S N) (y : S) → me.0.setting ≡ Some y → cells ≡ length me.0.base
       → (id : ℕ) (s : State (Unit {0}) (View S N)) (r : Ruled terms setting base room opened s) → get_elem? s.views id ≡ some me.0
       → (length r.front ≡ tail_at cells) × (me.0.room ≡ room)
   long_front opened cells me y set count id s r at =
@@ -85,17 +87,17 @@ module _ {S N : Type 0} (terms : Terms S N) (setting : S) (base : List ℕ) (roo
       (omega (arith, l, b, count), f.room_is y set)
 
   -- the seat has a view that keeps the rule when the word i becomes n, and `then` holds of it
-  abbrev Moves : List ℕ → State (Unit {0}) (View S N) → ℕ → ℕ → ℕ → Mine S N → (Mine S N → Type 0) → Type 0
+  abbrev Moves : Start → State (Unit {0}) (View S N) → ℕ → ℕ → ℕ → Mine S N → (Mine S N → Type 0) → Type 0
   Moves opened s i n id me then =
       (w : View S N) × (a : Act (Unit {0})) × Valid s.homes me.1 a × Ruled terms setting base room opened (stepped s i n id me.1 w a)
       × then (w, carried_after me.1 a)
 
   -- ---- Advance
 
-  pub advances : (opened : List ℕ) (slots id cells count : ℕ) (words : List ℕ) (me : Mine S N) (y : S) → me.0.setting ≡ Some y → cells ≡ length me.0.base
+  pub advances : (opened : Start) (slots id cells count : ℕ) (words : List ℕ) (me : Mine S N) (y : S) → me.0.setting ≡ Some y → cells ≡ length me.0.base
       → count ≡ min (length words) (me.0.room + 1) → words ≢ [] → me.0.full ≡ None → 1 ≤ me.0.rights
       → Allows (Ruled terms setting base room opened) slots id me (tail_at cells) (λ n. (n + count) % 2 ^ 64)
-      (advanced terms words (step slots (tail_at cells) count 0 none) me)
+      (bare (advanced terms words) (step slots (tail_at cells) count 0 none) me)
   advances opened slots id cells count words me y set cells_are is_count some_words unrefused some_rights s r _ at _ =
       go (fits_or_not (r.tail + length words) room)
     where
@@ -120,12 +122,12 @@ module _ {S N : Type 0} (terms : Terms S N) (setting : S) (base : List ℕ) (roo
       words_are : slice_set s.words (tail_at cells) ((n + count) % 2 ^ 64) ≡ r.front ++ (r.tail + count) ∷ r.store
       words_are =
           ap (λ (k : ℕ). slice_set s.words (tail_at cells) ((k + count) % 2 ^ 64)) is
-          ∙ (ap (λ (k : ℕ). slice_set s.words (tail_at cells) k) (tail_stays (length opened) room r.tail count s.views (r.shelf).tail_is (r.shelf).small (r.kept).rights least)
+          ∙ (ap (λ (k : ℕ). slice_set s.words (tail_at cells) k) (tail_stays (length opened.store) room r.tail count s.views (r.shelf).tail_is (r.shelf).small (r.kept).rights least)
           ∙ (ap (λ (ws : List ℕ). slice_set ws (tail_at cells) (r.tail + count)) r.words_are
           ∙ tail_is_set r.front r.tail r.store cells known.0 (r.tail + count)))
 
       go : (r.tail + length words ≤ room) ⊎ (room < r.tail + length words)
-          → Moves opened s (tail_at cells) ((n + count) % 2 ^ 64) id me (advanced terms words (step slots (tail_at cells) count 0 none) me n)
+          → Moves opened s (tail_at cells) ((n + count) % 2 ^ 64) id me (bare (advanced terms words) (step slots (tail_at cells) count 0 none) me n)
       go (inl fits) =
           let taken : Option Staging = Some (record { start = n; words = words; done = 0 }) in
           let u : View S N = aside r.ranges r.front s.views r.kept id v r.ranges taken v.full (v.taken + length words) v.added in
@@ -142,11 +144,12 @@ module _ {S N : Type 0} (terms : Terms S N) (setting : S) (base : List ℕ) (roo
               ranges = r.ranges;
               words_are = words_are;
               kept = q.0;
-              shelf = subst (λ (k : ℕ). Shelf room opened r.ranges (r.tail + k) r.store (slice_set s.views id u)) (sym whole)
-                  (shelf_taken room opened r.tail r.ranges r.store s.views id v u words r.shelf at some_words fits
-                  (ap (λ (k : ℕ). let z : Option Staging = Some (record { start = k; words = words; done = 0 }) in z) is) refl refl);
+              dealt = dealt_same s.views id v u at refl ∙ r.dealt;
+              shelf = subst (λ (k : ℕ). Shelf room opened.store r.ranges (r.tail + k) r.store (slice_set s.views id u)) (sym whole)
+                  (shelf_taken room opened.store r.tail r.ranges r.store s.views id v u words r.shelf at some_words fits
+                  (ap (λ (k : ℕ). let z : Option Staging = Some (record { start = k; words = words; done = 0 }) in z) is) refl refl some_rights);
             },
-            record { sees = q.1; taken = λ _. refl; refused = λ l. absurd (omega (arith, l, fits, is, b)) },
+            (record { sees = q.1; taken = λ _. refl; refused = λ l. absurd (omega (arith, l, fits, is, b)) }, refl),
           )
       go (inr above) =
           let full : Option (ℕ × ℕ) = Some (n, length words) in
@@ -163,22 +166,26 @@ module _ {S N : Type 0} (terms : Terms S N) (setting : S) (base : List ℕ) (roo
               ranges = r.ranges;
               words_are = words_are;
               kept = q.0;
-              shelf = shelf_refused room opened r.tail r.ranges r.store s.views id v u (length words) count r.shelf at unrefused some_rights
+              dealt = dealt_same s.views id v u at refl ∙ r.dealt;
+              shelf = shelf_refused room opened.store r.tail r.ranges r.store s.views id v u (length words) count r.shelf at unrefused some_rights
                   (is_count ∙ ap (λ (k : ℕ). min (length words) (k + 1)) b) refl
-                  (ap (λ (k : ℕ). let m : Option (ℕ × ℕ) × ℕ × ℕ = (Some (k, length words), v.taken, count) in m) is) refl;
+                  (ap (λ (k : ℕ). let m : Option (ℕ × ℕ) × ℕ × ℕ × List (Gone S N) = (Some (k, length words), v.taken, count, v.gone) in m) is) refl;
             },
-            record {
-              sees = q.1;
-              taken = λ l. absurd (omega (arith, l, above, is, b));
-              refused = λ _. ap (λ (k : ℕ). let z : View S N = record u { added = k } in z) is_count;
-            },
+            (
+              record {
+                sees = q.1;
+                taken = λ l. absurd (omega (arith, l, above, is, b));
+                refused = λ _. ap (λ (k : ℕ). let z : View S N = record u { added = k } in z) is_count;
+              },
+              refl,
+            ),
           )
 
   -- ---- Fill
 
-  pub fills : (opened : List ℕ) (slots id cells o word : ℕ) (me : Mine S N) (y : S) → me.0.setting ≡ Some y → cells ≡ length me.0.base
+  pub fills : (opened : Start) (slots id cells o word : ℕ) (me : Mine S N) (y : S) → me.0.setting ≡ Some y → cells ≡ length me.0.base
       → (t : Staging) → me.0.staging ≡ Some t → o ≡ t.start + t.done → slice_get t.words t.done ≡ Some word
-      → Allows (Ruled terms setting base room opened) slots id me (store_at cells o) (λ _. word) (filled terms (step slots (store_at cells o) word 0 none) me)
+      → Allows (Ruled terms setting base room opened) slots id me (store_at cells o) (λ _. word) (bare (filled terms) (step slots (store_at cells o) word 0 none) me)
   fills opened slots id cells o word me y set cells_are t staging place next s r _ at _ =
       go (more_or_last t.done (length t.words) (get_within t.words t.done word next))
     where
@@ -195,7 +202,7 @@ module _ {S N : Type 0} (terms : Terms S N) (setting : S) (base : List ℕ) (roo
           ∙ ap (λ (k : ℕ). r.front ++ r.tail ∷ slice_set r.store k word) place)
 
       go : (t.done + 1 < length t.words) ⊎ (t.done + 1 ≡ length t.words)
-          → Moves opened s (store_at cells o) word id me (filled terms (step slots (store_at cells o) word 0 none) me (slice_index s.words (store_at cells o)))
+          → Moves opened s (store_at cells o) word id me (bare (filled terms) (step slots (store_at cells o) word 0 none) me (slice_index s.words (store_at cells o)))
       go (inl more) =
           let after : Option Staging = Some (record t { done = t.done + 1 }) in
           let u : View S N = aside r.ranges r.front s.views r.kept id v r.ranges after v.full v.taken v.added in
@@ -210,22 +217,26 @@ module _ {S N : Type 0} (terms : Terms S N) (setting : S) (base : List ℕ) (roo
               ranges = r.ranges;
               words_are = words_are;
               kept = q.0;
-              shelf = shelf_filled room opened r.tail r.ranges r.store s.views id v t word r.shelf at staging next u more refl refl refl;
+              dealt = dealt_same s.views id v u at refl ∙ r.dealt;
+              shelf = shelf_filled room opened.store r.tail r.ranges r.store s.views id v t word r.shelf at staging next u more refl refl refl;
             },
-            record {
-              sees = q.1;
-              next = λ z e _. ap (λ (z : Staging). let w : View S N = record v { seen = u.seen; staging = Some (record z { done = z.done + 1 }) } in w)
-                  (one_staging v.staging t z staging e);
-              last = λ z e l. absurd (let same : length t.words ≡ length z.words = ap (λ (z : Staging). length z.words) (one_staging v.staging t z staging e) in
-                  let done : t.done ≡ z.done = ap (λ (z : Staging). z.done) (one_staging v.staging t z staging e) in
-                  omega (arith, more, l, same, done));
-            },
+            (
+              record {
+                sees = q.1;
+                next = λ z e _. ap (λ (z : Staging). let w : View S N = record v { seen = u.seen; staging = Some (record z { done = z.done + 1 }) } in w)
+                    (one_staging v.staging t z staging e);
+                last = λ z e l. absurd (let same : length t.words ≡ length z.words = ap (λ (z : Staging). length z.words) (one_staging v.staging t z staging e) in
+                    let done : t.done ≡ z.done = ap (λ (z : Staging). z.done) (one_staging v.staging t z staging e) in
+                    omega (arith, more, l, same, done));
+              },
+              refl,
+            ),
           )
       go (inr last) =
-          let qs : List Range = with_range room opened r.tail r.ranges r.store s.views id v t word r.shelf at staging next in
+          let qs : List Range = with_range room opened.store r.tail r.ranges r.store s.views id v t word r.shelf at staging next in
           let u : View S N = aside r.ranges r.front s.views r.kept id v qs None v.full v.taken v.added in
           let q = beside r.ranges r.front s.views r.kept id v at qs None v.full v.taken v.added (λ x has. inr has)
-          (lie_more room opened r.tail r.ranges r.store s.views id v t word r.shelf at staging next last (r.kept).lie) in (
+          (lie_more room opened.store r.tail r.ranges r.store s.views id v t word r.shelf at staging next last (r.kept).lie) in (
             u,
             keeps,
             tt,
@@ -236,24 +247,28 @@ module _ {S N : Type 0} (terms : Terms S N) (setting : S) (base : List ℕ) (roo
               ranges = qs;
               words_are = words_are;
               kept = q.0;
-              shelf = shelf_finished room opened r.tail r.ranges r.store s.views id v t word r.shelf at staging next u last refl refl refl;
+              dealt = dealt_same s.views id v u at refl ∙ r.dealt;
+              shelf = shelf_finished room opened.store r.tail r.ranges r.store s.views id v t word r.shelf at staging next u last refl refl refl;
             },
-            record {
-              sees = q.1;
-              next = λ z e l. absurd (let same : length t.words ≡ length z.words = ap (λ (z : Staging). length z.words) (one_staging v.staging t z staging e) in
-                  let done : t.done ≡ z.done = ap (λ (z : Staging). z.done) (one_staging v.staging t z staging e) in
-                  omega (arith, last, l, same, done));
-              last = λ z e _. (
-                subst (λ (z : Staging). Has (record { start = z.start; words = z.words }) qs) (one_staging v.staging t z staging e) (inl refl),
-                refl,
-              );
-            },
+            (
+              record {
+                sees = q.1;
+                next = λ z e l. absurd (let same : length t.words ≡ length z.words = ap (λ (z : Staging). length z.words) (one_staging v.staging t z staging e) in
+                    let done : t.done ≡ z.done = ap (λ (z : Staging). z.done) (one_staging v.staging t z staging e) in
+                    omega (arith, last, l, same, done));
+                last = λ z e _. (
+                  subst (λ (z : Staging). Has (record { start = z.start; words = z.words }) qs) (one_staging v.staging t z staging e) (inl refl),
+                  refl,
+                );
+              },
+              refl,
+            ),
           )
 
   -- ---- Fetch
 
-  pub fetches : (opened : List ℕ) (slots id cells o : ℕ) (me : Mine S N) (y : S) → me.0.setting ≡ Some y → cells ≡ length me.0.base
-      → Allows (Ruled terms setting base room opened) slots id me (store_at cells o) (λ n. n) (fetched terms (step slots (store_at cells o) 0 0 none) me)
+  pub fetches : (opened : Start) (slots id cells o : ℕ) (me : Mine S N) (y : S) → me.0.setting ≡ Some y → cells ≡ length me.0.base
+      → Allows (Ruled terms setting base room opened) slots id me (store_at cells o) (λ n. n) (bare (fetched terms) (step slots (store_at cells o) 0 0 none) me)
   fetches opened slots id cells o me y set cells_are s r _ at _ =
       let v : View S N = me.0 in
       let n : ℕ = slice_index s.words (store_at cells o) in
@@ -274,13 +289,17 @@ module _ {S N : Type 0} (terms : Terms S N) (setting : S) (base : List ℕ) (roo
           ranges = r.ranges;
           words_are = set-get_or s.words (store_at cells o) 0 ∙ r.words_are;
           kept = q.0;
-          shelf = shelf_same room opened r.tail r.ranges r.store s.views id v u r.shelf at (refl, refl, refl);
+          dealt = dealt_same s.views id v u at refl ∙ r.dealt;
+          shelf = shelf_same room opened.store r.tail r.ranges r.store s.views id v u r.shelf at (refl, refl, refl);
         },
-        subst (λ (k : ℕ). Fetches terms k me n (u, me.1)) index (record {
-          sees = q.1;
-          found = λ range i w has e place.
-              let there : slice_get r.store (range.start + i) ≡ Some w = ((r.shelf).finished range ((f.own.grows).2 range has) i w e).0 in
-              is ∙ (ap (λ (k : ℕ). slice_index r.store k) (sym place) ∙ get_or_from_slice_get r.store (range.start + i) w 0 there);
-          is = refl;
-        }),
+        (
+          subst (λ (k : ℕ). Fetches terms k me n (u, me.1)) index (record {
+            sees = q.1;
+            found = λ range i w has e place.
+                let there : slice_get r.store (range.start + i) ≡ Some w = ((r.shelf).finished range ((f.own.grows).2 range has) i w e).0 in
+                is ∙ (ap (λ (k : ℕ). slice_index r.store k) (sym place) ∙ get_or_from_slice_get r.store (range.start + i) w 0 there);
+            is = refl;
+          }),
+          refl,
+        ),
       )

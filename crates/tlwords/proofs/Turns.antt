@@ -11,7 +11,7 @@ use Rattle.tlwords.specs.declared.log.Slot.{Slot}
 use Rattle.tlwords.specs.Terms.{Terms}
 use Rattle.tlwords.specs.Seen.{SeenGrows}
 use Rattle.tlwords.specs.Views.{View}
-use Rattle.tlwords.specs.Plays.{Mine, Sees, Takes, after_take}
+use Rattle.tlwords.specs.Plays.{Mine, Sees, Takes, after_take, IsSameSeat}
 use Rattle.tlwords.specs.Runs.{word_seen, value_kept, was_read, IsKeptOf}
 use Rattle.tlwords.specs.Committing.{held_in, holding, Goes, FailsToTake}
 use Rattle.tlwords.specs.Walks.{NoneWanted}
@@ -37,9 +37,8 @@ module _ (t : Seat) (slots : List Slot) (k : IsKeptOf t slots) where
       go None e = cc
       go (Some d) e = (d, refl, let q : d.word ≡ w = cc in q)
 
-pub seat_trans : {V : Type 0} (p q r : TableSeat (Unit {0}) V) → (q.table_id ≡ p.table_id) × (q.id ≡ p.id) → (r.table_id ≡ q.table_id) × (r.id ≡ q.id)
-    → (r.table_id ≡ p.table_id) × (r.id ≡ p.id)
-seat_trans p q r a b = (b.0 ∙ a.0, b.1 ∙ a.1)
+pub seat_trans : {S N : Type 0} (p q r : TableSeat (Unit {0}) (View S N)) → IsSameSeat p q → IsSameSeat q r → IsSameSeat p r
+seat_trans p q r a b = (b.0 ∙ a.0, b.1 ∙ a.1, b.2 ∙ a.2)
 
 module _ {S N : Type 0} (terms : Terms S N) where
   -- ---- steps, one after another
@@ -93,6 +92,9 @@ module _ {S N : Type 0} (terms : Terms S N) where
 
   pub goes_base : (m r : Mine S N) (t : Seat) → Goes terms m t r → length r.0.base ≡ length m.0.base
   goes_base m r t g = ap (λ (v : View S N). length v.base) g.is
+
+  pub goes_rights : (m r : Mine S N) (t : Seat) → Goes terms m t r → r.0.rights ≡ m.0.rights
+  goes_rights m r t g = ap (λ (v : View S N). v.rights) g.is
 
   pub goes_read : (m r : Mine S N) (t : Seat) → Goes terms m t r → t.reads ≡ m.0.seat.reads → (c : ℕ) (d : Read)
       → find_read c m.0.seat.reads ≡ Some d → find_read c r.0.seat.reads ≡ Some d

@@ -1,5 +1,5 @@
 -- What the words show at the end.
-use Rattle.std.specs.Prelude.{◌≡◌, ℕ, ◌+◌, ◌*◌, ◌/◌, ◌≤◌, Some, List, [], length, slice_get, vec_capacity, min, true}
+use Rattle.std.specs.Prelude.{◌%◌, ◌≡◌, ℕ, ◌+◌, ◌*◌, ◌/◌, ◌≤◌, Some, List, [], length, slice_get, vec_capacity, min, true}
 use mathlib.Core.Option.{some}
 use lib.ListN.{get_elem?}
 use Rattle.tlcore.specs.History.{Entry, WasWritten, Will, version, value, deed}
@@ -9,7 +9,7 @@ use Rattle.ranges.specs.Ranges.{Range, Has, Names, IsStored, AreOfOneStore}
 use Rattle.tlwords.specs.Terms.{Terms, Opened}
 use Rattle.tlwords.specs.Seen.{Seen, SeenGrows, Legal, Agree}
 use Rattle.tlwords.specs.Views.{View}
-use Rattle.tlwords.specs.Rule.{lock_at, value_at, store_at, IsLeft}
+use Rattle.tlwords.specs.Rule.{lock_at, value_at, store_at, total_of, IsLeft}
 use Rattle.tlcore.specs.Machine.{World}
 use Rattle.tlcore.specs.Invariant.{Invariant}
 
@@ -65,16 +65,24 @@ pub record Closes {S N : Type 0} (terms : Terms S N) (setting : S) (base opened 
   pub opening : Opened terms setting seen.ranges base
   pub named : (c : ℕ) (x : ClosedCell) → slice_get words.cells.items c ≡ Some x → terms.ranged setting c ≡ true → Names seen.ranges x.value
 
--- what the pass had seen grows into it, its calls agree with it, its seat is one of the world's, and the tail is where it moved it at least
+-- what the pass had seen grows into it, its calls agree with it, and the tail is behind a staging of it that was refused
 pub record EndsIn {S N : Type 0} (terms : Terms S N) (setting : S) (base opened : List ℕ) (words : ClosedWords) (c : Closes terms setting base opened words)
     (v : View S N) : Type 0 where
+  pub same : (y : S) → v.setting ≡ Some y → (y ≡ setting) × (v.base ≡ base)
   pub grows : SeenGrows v.seen c.seen
   pub mine : Agree terms setting base c.seen v.mine
-  pub seat : (j : ℕ) × (slice_get (c.world).seats j ≡ Some v.seat)
-  pub moved : length opened + (v.taken + v.added) ≤ words.tail
   pub found : (n count : ℕ) → v.full ≡ Some (n, count) → n + min count (length words.store.items + 1) ≤ words.tail
 
--- so it is of the pass, whose setting and opening values are these
-abbrev pub ClosesFor : {S N : Type 0} → Terms S N → List ℕ → View S N → ClosedWords → Type 0
-ClosesFor {S} {N} terms opened v words =
-    (y : S) → v.setting ≡ Some y → (c : Closes terms y v.base opened words) × EndsIn terms y v.base opened words c v
+-- no lock is held, the clock is how many numbers these passes drew, and the tail is where the opening and they moved it
+pub record IsStill {S N : Type 0} (opened : List ℕ) (words : ClosedWords) (given : List (View S N)) : Type 0 where
+  pub free : (c : ℕ) (x : ClosedCell) → slice_get words.cells.items c ≡ Some x → x.lock % 2 ≡ 0
+  pub clock : words.clock ≡ total_of (λ (v : View S N). length v.drawn) given
+  pub tail : words.tail ≡ length opened + total_of (λ (v : View S N). v.taken + v.added) given
+
+-- the words close a memory of so many sessions; each of the passes given ended in it, and where these are all, the words are still
+pub record ClosesAll {S N : Type 0} (terms : Terms S N) (setting : S) (base opened : List ℕ) (sessions : ℕ) (given : List (View S N)) (words : ClosedWords) :
+    Type 0 where
+  pub closes : Closes terms setting base opened words
+  pub each : (v : View S N) → Has v given → EndsIn terms setting base opened words closes v
+  pub moved : length opened + total_of (λ (v : View S N). v.taken + v.added) given ≤ words.tail
+  pub still : length given ≡ sessions → IsStill opened words given

@@ -18,14 +18,14 @@ use Rattle.tlcore.specs.declared.seats.Held.{Held}
 use Rattle.tlcore.specs.declared.seats.Place.TheVariants.{Idle, Reading, Looked, Loaded, Taking, Checking}
 use Rattle.tlwords.specs.Terms.{Terms}
 use Rattle.tlwords.specs.Views.{View}
-use Rattle.tlwords.specs.Rule.{Ruled, words_of, lock_at, value_at}
+use Rattle.tlwords.specs.Rule.{Start, Ruled, words_of, lock_at, value_at}
 use Rattle.tlwords.specs.Plays.{Mine, GivesBack, MayStore, Sampled, Looks, Loads, Relooks, Takes, Draws, Checks, Stores, Releases}
 
 -- the clock is the word 1
 abbrev pub clock_at : ℕ
 clock_at = 1
 
-module _ {S N : Type 0} (terms : Terms S N) (setting : S) (base : List ℕ) (room : ℕ) (opened : List ℕ) where
+module _ {S N : Type 0} (terms : Terms S N) (setting : S) (base : List ℕ) (room : ℕ) (opened : Start) where
   -- a table that keeps the rule, by a world of the machine, and a seat with what it knows before a step and after it
   pub record Moment (m r : Mine S N) : Type 0 where
     pub state : State (Unit {0}) (View S N)

@@ -11,7 +11,7 @@ use Rattle.tlcore.specs.declared.seats.Place.TheVariants.{Idle, Reading, Looked,
 use Rattle.ranges.specs.Ranges.{Range, Has, Names}
 use Rattle.tlwords.specs.Terms.{Terms}
 use Rattle.tlwords.specs.Seen.{Work, Committed, Answered, SeenGrows, IsDone}
-use Rattle.tlwords.specs.Views.{Staging, View, untold, tells, nobody, fresh, Sound}
+use Rattle.tlwords.specs.Views.{Staging, View, untold, tells, gone_of, nobody, fresh, Sound}
 
 abbrev pub Mine : Type 0 → Type 0 → Type 0
 Mine S N = Me (Unit {0}) (View S N)
@@ -225,7 +225,11 @@ module _ {S N : Type 0} (terms : Terms S N) where
 
 module _ {S N : Type 0} where
   abbrev pub IsSameSeat : TableSeat (Unit {0}) (View S N) → TableSeat (Unit {0}) (View S N) → Type 0
-  IsSameSeat p q = (q.table_id ≡ p.table_id) × (q.id ≡ p.id)
+  IsSameSeat p q = (q.table_id ≡ p.table_id) × (q.id ≡ p.id) × (q.me.1 ≡ p.me.1)
+
+  -- the seat takes and gives no slot, of which the table has none
+  abbrev pub bare : (Step (Unit {0}) → Mine S N → ℕ → Mine S N → Type 0) → Step (Unit {0}) → Mine S N → ℕ → Mine S N → Type 0
+  bare says st m n r = says st m n r × (r.1 ≡ m.1)
 
   -- what a seat is told of another one
   abbrev pub witness : View S N → View S N
@@ -233,6 +237,10 @@ module _ {S N : Type 0} where
 
   abbrev pub told_by : View S N → View S N → View S N
   told_by v w = record v { told = w.told }
+
+  -- the pass w is given up to v
+  abbrev pub given_up : View S N → View S N → View S N
+  given_up v w = record v { gone = gone_of w ∷ v.gone }
 
   -- a new seat, with one part of the right to draw. Its name is the number of parts that there were
   abbrev pub newcomer : View S N → View S N

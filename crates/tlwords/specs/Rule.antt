@@ -17,7 +17,7 @@ use Rattle.tlcore.specs.Invariant.{Invariant}
 use Rattle.ranges.specs.Ranges.{Range, Has, Names, IsStored, AreOfOneStore}
 use Rattle.tlwords.specs.Terms.{Terms, Permits, Opened}
 use Rattle.tlwords.specs.Seen.{Seen, SeenGrows, IsSettled, Agree}
-use Rattle.tlwords.specs.Views.{Told, Staging, View, tells, fresh}
+use Rattle.tlwords.specs.Views.{Told, Gone, Staging, View, tells, fresh}
 
 -- ---- the words
 
@@ -72,6 +72,11 @@ EntriesAre {S} {N} terms setting g =
 
 -- ---- the store
 
+-- how a memory was opened: the store's words, and how many sessions there are
+pub record Start : Type 0 where
+  pub store : List ℕ
+  pub sessions : ℕ
+
 -- a seat's range lies in the store, behind the opening's words, which are so many, and below the tail; its first words are stored, but not all
 pub record IsTaken (opened room tail : ℕ) (store : List ℕ) (s : Staging) : Type 0 where
   pub behind : opened ≤ s.start
@@ -96,6 +101,26 @@ module _ {S N : Type 0} where
     pub grows : SeenGrows t.seen now
     pub owned : (n : ℕ) → Has n t.drawn → (n ≤ length now.history) × (owner n ≡ t.name)
 
+  -- what holds of a pass that was given up
+  pub record IsGone (terms : Terms S N) (setting : S) (base : List ℕ) (now : Seen N) (owner : ℕ → ℕ) (g : Gone S N) : Type 0 where
+    pub told : IsTold setting base now owner g.told
+    pub mine : Agree terms setting base now g.mine
+    pub few : length g.told.drawn ≤ 2 ^ 40
+
+  -- its parts of the right to draw, with those of the passes that were given up to it, which had one each
+  abbrev pub rights_of : View S N → ℕ
+  rights_of v = v.rights + length v.gone
+
+  -- how many numbers were drawn, how far the tail was moved, and by how much beyond the room at most
+  abbrev pub numbers_of : View S N → ℕ
+  numbers_of v = length v.drawn + total_of (λ (g : Gone S N). length g.told.drawn) v.gone
+
+  abbrev pub moved_of : View S N → ℕ
+  moved_of v = (v.taken + v.added) + total_of (λ (g : Gone S N). g.taken + g.added) v.gone
+
+  abbrev pub added_of : View S N → ℕ
+  added_of v = v.added + total_of (λ (g : Gone S N). g.added) v.gone
+
   -- what holds of each view
   pub record Suits (terms : Terms S N) (setting : S) (base : List ℕ) (room : ℕ) (now : Seen N) (owner : ℕ → ℕ) (v : View S N) : Type 0 where
     pub own : IsTold setting base now owner (tells v)
@@ -105,8 +130,10 @@ module _ {S N : Type 0} where
     pub settled : (i : ℕ) → Has (suc i) v.drawn → (number_at v.seat.place ≡ Some i) ⊎ IsSettled now.history i
     pub noted : (i : ℕ) → number_at v.seat.place ≡ Some i → (n : N) × (v.note ≡ Some n) × (slice_get now.notes i ≡ Some n)
     pub look : LookIsFresh now.history v.seat
-    -- 2^40 numbers for each part of the right to draw
+    -- 2^40 numbers for each part of the right to draw; a seat that has none holds no cell
     pub few : length v.drawn ≤ 2 ^ 40 * v.rights
+    pub unheld : v.rights ≡ 0 → v.seat.held ≡ []
+    pub gone : (g : Gone S N) → Has g v.gone → IsGone terms setting base now owner g
 
   -- what holds of the clock and the cells' words
   pub record Kept (terms : Terms S N) (setting : S) (base : List ℕ) (room : ℕ) (ranges : List Range) (words : List ℕ) (views : List (View S N)) : Type 0 where
@@ -126,19 +153,22 @@ module _ {S N : Type 0} where
     pub suits : (j : ℕ) (v : View S N) → get_elem? views j ≡ some v
         → Suits terms setting base room (record { history = world.history; notes = notes; ranges = ranges }) owner v
     -- so the clock is at most 2^46, and never wraps
-    pub rights : total_of (λ (v : View S N). v.rights) views ≡ 64
-    pub numbers : total_of (λ (v : View S N). length v.drawn) views ≡ length world.history
+    pub rights : total_of rights_of views ≤ 64
+    pub numbers : total_of numbers_of views ≡ length world.history
 
   -- what holds of the tail and one view. It moves the tail beyond the room at most once, by the room and one word at most
   pub record Adds (room tail : ℕ) (v : View S N) : Type 0 where
     pub once : v.added ≤ (room + 1) * v.rights
     pub unrefused : v.full ≡ None → v.added ≡ 0
     pub found : (n count : ℕ) → v.full ≡ Some (n, count) → n + min count (room + 1) ≤ tail
+    pub untaken : v.rights ≡ 0 → v.taken ≡ 0
+    pub gone : (g : Gone S N) → Has g v.gone
+        → (g.added ≤ room + 1) × ((n count : ℕ) → g.full ≡ Some (n, count) → n + min count (room + 1) ≤ tail)
 
   -- the tail is behind the opening's words, which are so many, by what each view took, and what stagings that were refused added. So it never wraps
   pub record IsTail (opened room tail : ℕ) (views : List (View S N)) : Type 0 where
-    pub is : tail ≡ opened + total_of (λ (v : View S N). v.taken + v.added) views
-    pub most : tail ≤ room + total_of (λ (v : View S N). v.added) views
+    pub is : tail ≡ opened + total_of moved_of views
+    pub most : tail ≤ room + total_of added_of views
     pub each : (j : ℕ) (v : View S N) → get_elem? views j ≡ some v → Adds room tail v
 
   -- what holds of the tail and the store's words
@@ -153,16 +183,17 @@ module _ {S N : Type 0} where
     pub alone : (j k : ℕ) (u v : View S N) (s t : Staging) → j ≢ k → get_elem? views j ≡ some u → get_elem? views k ≡ some v
         → u.staging ≡ Some s → v.staging ≡ Some t → (s.start + length s.words ≤ t.start) ⊎ (t.start + length t.words ≤ s.start)
 
-  -- the rule, of the setting, the opening values of the cells, the store's room and its opening words
-  pub record Ruled (terms : Terms S N) (setting : S) (base : List ℕ) (room : ℕ) (opened : List ℕ) (s : State (Unit {0}) (View S N)) : Type 0 where
+  -- the rule, of the setting, the opening values of the cells, the store's room and how it was opened
+  pub record Ruled (terms : Terms S N) (setting : S) (base : List ℕ) (room : ℕ) (opened : Start) (s : State (Unit {0}) (View S N)) : Type 0 where
     pub front : List ℕ
     pub tail : ℕ
     pub store : List ℕ
     pub ranges : List Range
     pub words_are : s.words ≡ front ++ tail ∷ store
     pub kept : Kept terms setting base room ranges front s.views
-    pub shelf : Shelf room opened ranges tail store s.views
+    pub shelf : Shelf room opened.store ranges tail store s.views
+    pub dealt : total_of rights_of s.views ≡ opened.sessions
 
-  -- the first seat has all 64 parts of the right to draw, and makes the passes
-  abbrev pub first_view : S → List ℕ → ℕ → List Range → View S N
-  first_view setting base room ranges = fresh (Some setting) base room ranges 0 64
+  -- the first seat has a part of the right to draw for each session, and makes the passes
+  abbrev pub first_view : S → List ℕ → ℕ → List Range → ℕ → View S N
+  first_view setting base room ranges sessions = fresh (Some setting) base room ranges 0 sessions

@@ -66,9 +66,10 @@ HasKept slots after cell value =
     × (length after ≡ length slots)
 
 module _ {S N : Type 0} where
-  -- what a pass or a run knows of the store: whether a staging was refused. No range is being staged
+  -- what a pass or a run knows of the store: whether a staging was refused. No range is being staged, and no pass was given up to it
   pub record KnowsStore (v : View S N) (refused : Bool) : Type 0 where
     pub at_rest : v.staging ≡ None
+    pub alone : v.gone ≡ []
     pub full : is_some v.full ≡ refused
     pub ranges : AreOfOneStore v.room v.seen.ranges
 
@@ -95,9 +96,9 @@ module _ {S N : Type 0} where
 abbrev pub IsBadShape : ℕ → ℕ → Type 0
 IsBadShape sessions room = ((sessions ≡ 0) ⊎ (64 < sessions)) ⊎ (2 ^ 24 < room)
 
--- the first seat, once it has made k passes
-abbrev pub dealer : {S N : Type 0} → S → List ℕ → ℕ → List Range → ℕ → View S N
-dealer setting base room ranges k = fresh (Some setting) base room ranges 0 (64 - k)
+-- the first seat, once it has made k passes for that many sessions
+abbrev pub dealer : {S N : Type 0} → S → List ℕ → ℕ → List Range → ℕ → ℕ → View S N
+dealer setting base room ranges sessions k = fresh (Some setting) base room ranges 0 (sessions - k)
 
 -- k numbers, downwards from n
 abbrev pub down : ℕ → ℕ → List ℕ

@@ -25,6 +25,14 @@ pub record Staging : Type 0 where
   pub words : List ℕ
   pub done : ℕ
 
+-- what stays of a pass that was given up to another one at the end: what it tells, its calls, and what it did to the tail
+pub record Gone (S N : Type 0) : Type 0 where
+  pub told : Told S N
+  pub mine : List (Call N)
+  pub full : Option (ℕ × ℕ)
+  pub taken : ℕ
+  pub added : ℕ
+
 pub record View (S N : Type 0) : Type 0 where
   -- the setting, the opening values, and how many words the store has. A seat that is given up has none
   pub setting : Option S
@@ -50,6 +58,8 @@ pub record View (S N : Type 0) : Type 0 where
   -- how many words of the store it has taken, and what its first staging that was refused added to the tail
   pub taken : ℕ
   pub added : ℕ
+  -- the passes that were given up to it
+  pub gone : List (Gone S N)
   -- what it was told and hasn't yet seen by itself
   pub told : Told S N
 
@@ -59,6 +69,9 @@ module _ {S N : Type 0} where
 
   abbrev pub tells : View S N → Told S N
   tells v = record { setting = v.setting; base = v.base; seen = v.seen; drawn = v.drawn; name = v.name }
+
+  abbrev pub gone_of : View S N → Gone S N
+  gone_of v = record { told = tells v; mine = v.mine; full = v.full; taken = v.taken; added = v.added }
 
   -- a pass that has done nothing yet
   abbrev pub fresh : Option S → List ℕ → ℕ → List Range → ℕ → ℕ → View S N
@@ -80,6 +93,7 @@ module _ {S N : Type 0} where
         full = None;
         taken = 0;
         added = 0;
+        gone = [];
         told = untold;
       }
 

@@ -1,16 +1,19 @@
 //! The end of a memory.
 #![tactic(auto)]
 
-ghost use Rattle.std.specs.Prelude.{◌≡◌, ℕ, ◌+◌, ◌*◌, ◌<◌, ◌≤◌, ◌^◌, [], length, IfOk, IfSome, vec_capacity};
+ghost use Rattle.std.specs.Prelude.{◌≡◌, ℕ, ◌+◌, ◌*◌, ◌<◌, ◌≤◌, ◌^◌, [], ◌∷◌, ◌++◌, All, map, length, IfOk, vec_capacity};
 ghost use mathlib.Core.Option.{some};
 ghost use lib.ListN.{get_elem?};
 ghost use Rattle.std.specs.Slots.{slots_items, slots_len, IsFull};
 ghost use Rattle.tlwords.specs.Callers.{SitsAt};
-ghost use Rattle.tlwords.specs.Closing.{AreCellsOf, IsStoreOf, IsBlankFor, Closes, ClosesFor};
+ghost use Rattle.tlwords.specs.Closing.{AreCellsOf, IsStoreOf, IsBlankFor, ClosesAll};
+ghost use Rattle.tlwords.specs.Plays.{IsSameSeat};
+ghost use Rattle.tlwords.specs.Views.{gone_of};
 ghost use Rattle.tlwords.specs.Rule.{tail_at};
 
 use crate::law::Law;
 use crate::passes::Pass;
+use crate::plays::GiveUp;
 use crate::rule::{Board, Place};
 use crate::words::Words;
 use atomic_table::Closed;
@@ -38,15 +41,16 @@ pub struct ClosedWords {
     pub store: Vec<u64>,
 }
 
-/// Ends a memory. Its words show one history, into which grows what the pass had seen, and the store has each finished range.
+/// Ends a memory, and the passes of it that are given. Its words show one history, into which grows what each of the passes had seen, and the
+/// store has each finished range. Where as many passes are given as there were sessions, no lock is held any more, and the clock and the
+/// tail are where these passes moved them.
 pub fn close<L: Law>(
     alloc: Global,
     words: Words<L>,
-    pass: Option<Pass<L>>,
+    passes: Vec<Pass<L>>,
 ) -> Result<ClosedWords, AllocError>
-    requires { IfSome pass (λ p. SitsAt words p) }
-    ensures words { IfOk result (λ c. Closes L.terms words.table.shared.key.setting.value words.table.shared.key.values.value.items words.table.shared.key.store.value.items c) }
-    ensures pass { IfOk result (λ c. IfSome pass (λ p. ClosesFor L.terms words.table.shared.key.store.value.items p.seat.me.0 c)) }
+    requires { All (λ p. SitsAt words p) passes.items }
+    ensures closes { IfOk result (λ c. ClosesAll L.terms words.table.shared.key.setting.value words.table.shared.key.values.value.items words.table.shared.key.store.value.items words.table.shared.key.sessions (map (λ p. p.seat.me.0) passes.items) c) }
     ensures store { IfOk result (λ c. length c.store.items ≡ words.room) }
 {
     let cells = words.cells;
@@ -58,27 +62,45 @@ pub fn close<L: Law>(
         store: Vec::with_capacity(alloc, room)?,
     };
     let table = words.into_table();
-    match pass {
-        Some(pass) => Ok(close_with::<L>(table, pass.into_parts().0, closed, cells, room)),
+    let mut passes = passes;
+    match passes.pop() {
+        Some(last) => Ok(close_with::<L>(table, last, passes, closed, cells, room)),
         None => Ok(close_alone::<L>(table, closed, cells, room)),
+    }
+}
+
+// Gives all these passes up to the one of this seat, the last of them first.
+fn give_up_all<L: Law>(table: &Board<L>, seat: &mut Place<L>, passes: &mut Vec<Pass<L>>)
+    requires seat { (seat.old.table_id ≡ table.now.shared.table_id) × (0 < table.now.shared.table_id.words) }
+    requires passes { All (λ p. p.seat.table_id ≡ table.now.shared.table_id) passes.old.items }
+    ensures seat { IsSameSeat seat.old seat.new }
+    ensures is { seat.new.me.0 ≡ record seat.old.me.0 { gone = seat.new.me.0.gone } }
+    ensures gone { seat.new.me.0.gone ≡ map (λ p. gone_of p.seat.me.0) passes.old.items ++ seat.old.me.0.gone }
+{
+    while let Some(pass) = passes.pop() {
+        let parts = pass.into_parts();
+        table.shared.join_seat::<GiveUp>(seat, parts.0);
     }
 }
 
 fn close_with<L: Law>(
     table: Board<L>,
-    seat: Place<L>,
+    last: Pass<L>,
+    mut passes: Vec<Pass<L>>,
     closed: ClosedWords,
     cells: usize,
     room: usize,
 ) -> ClosedWords
-    requires seat { seat.table_id ≡ table.shared.table_id }
+    requires last { last.seat.table_id ≡ table.shared.table_id }
+    requires passes { All (λ p. p.seat.table_id ≡ table.shared.table_id) passes.items }
     requires words { (table.shared.table_id.words ≡ 2 * cells + 3 + room) × (table.shared.table_id.slots ≡ 0) × (cells < 2 ^ 59) × (room ≤ 2 ^ 24) }
     requires keyed { table.shared.key.room ≡ room }
     requires blank { IsBlankFor cells room closed }
-    ensures words { Closes L.terms table.shared.key.setting.value table.shared.key.values.value.items table.shared.key.store.value.items result }
-    ensures pass { ClosesFor L.terms table.shared.key.store.value.items seat.me.0 result }
+    ensures closes { ClosesAll L.terms table.shared.key.setting.value table.shared.key.values.value.items table.shared.key.store.value.items table.shared.key.sessions (map (λ p. p.seat.me.0) passes.items ++ last.seat.me.0 ∷ []) result }
     ensures store { length result.store.items ≡ room }
 {
+    let mut seat = last.into_parts().0;
+    give_up_all::<L>(&table, &mut seat, &mut passes);
     let table = table.close_with(seat);
     gather(table, closed, cells, room)
 }
@@ -90,9 +112,9 @@ fn close_alone<L: Law>(
     room: usize,
 ) -> ClosedWords
     requires words { (table.shared.table_id.words ≡ 2 * cells + 3 + room) × (table.shared.table_id.slots ≡ 0) × (cells < 2 ^ 59) × (room ≤ 2 ^ 24) }
-    requires keyed { table.shared.key.room ≡ room }
+    requires keyed { (table.shared.key.room ≡ room) × (1 ≤ table.shared.key.sessions) }
     requires blank { IsBlankFor cells room closed }
-    ensures words { Closes L.terms table.shared.key.setting.value table.shared.key.values.value.items table.shared.key.store.value.items result }
+    ensures closes { ClosesAll L.terms table.shared.key.setting.value table.shared.key.values.value.items table.shared.key.store.value.items table.shared.key.sessions [] result }
     ensures store { length result.store.items ≡ room }
 {
     let table = table.close();

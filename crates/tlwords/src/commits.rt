@@ -28,7 +28,7 @@ fn take_all<L: Law>(words: &Words<L>, seat: &mut Place<L>, log: &Log) -> Result<
     requires table { seat.old.table_id ≡ words.now.table.shared.table_id }
     requires setting { (y : L.Setting) × (seat.old.me.0.setting ≡ Some y) }
     requires cells { (length log.now.slots ≡ words.now.cells) × (length log.now.slots ≡ length seat.old.me.0.base) }
-    requires run { (seat.old.me.0.seat.place ≡ AtReading) × (seat.old.me.0.seat.held ≡ []) }
+    requires run { (seat.old.me.0.seat.place ≡ AtReading) × (seat.old.me.0.seat.held ≡ []) × (1 ≤ seat.old.me.0.rights) }
     requires kept { IsKeptOf seat.old.me.0.seat log.now.slots }
     requires plan { IsPlan log.now.slots true log.now.writes.items }
     ensures seat { IsSameSeat seat.old seat.new }

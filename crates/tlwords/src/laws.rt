@@ -2,6 +2,7 @@
 #![tactic(auto)]
 
 ghost use Rattle.std.specs.Prelude.{ℕ, List};
+ghost use Rattle.tlwords.specs.Rule.{Start};
 ghost use Rattle.tlwords.specs.Events.{ClockLoadIsEvent, LookIsEvent, LoadIsEvent, RelookIsEvent, TakeIsEvent, DrawIsEvent, CheckIsEvent, StoreIsEvent, ReleaseIsEvent};
 
 use crate::law::Law;
@@ -14,15 +15,15 @@ use crate::law::Law;
 /// steps on the store's words.
 pub fn running_steps<L: Law>()
     // A run begins: a load of the clock.
-    ensures clock_load { (setting : L.Setting) (base : List ℕ) (room : ℕ) (opened : List ℕ) → ClockLoadIsEvent L.terms setting base room opened }
+    ensures clock_load { (setting : L.Setting) (base : List ℕ) (room : ℕ) (opened : Start) → ClockLoadIsEvent L.terms setting base room opened }
     // A read: a look at the lock word, a load of the value word, and a second look.
-    ensures look { (setting : L.Setting) (base : List ℕ) (room : ℕ) (opened : List ℕ) → LookIsEvent L.terms setting base room opened }
-    ensures load { (setting : L.Setting) (base : List ℕ) (room : ℕ) (opened : List ℕ) → LoadIsEvent L.terms setting base room opened }
-    ensures second_look { (setting : L.Setting) (base : List ℕ) (room : ℕ) (opened : List ℕ) → RelookIsEvent L.terms setting base room opened }
+    ensures look { (setting : L.Setting) (base : List ℕ) (room : ℕ) (opened : Start) → LookIsEvent L.terms setting base room opened }
+    ensures load { (setting : L.Setting) (base : List ℕ) (room : ℕ) (opened : Start) → LoadIsEvent L.terms setting base room opened }
+    ensures second_look { (setting : L.Setting) (base : List ℕ) (room : ℕ) (opened : Start) → RelookIsEvent L.terms setting base room opened }
     // A commit: the locks are taken, a number is drawn, the other reads are checked, the values are stored, and the locks are released.
-    ensures take { (setting : L.Setting) (base : List ℕ) (room : ℕ) (opened : List ℕ) → TakeIsEvent L.terms setting base room opened }
-    ensures draw { (setting : L.Setting) (base : List ℕ) (room : ℕ) (opened : List ℕ) → DrawIsEvent L.terms setting base room opened }
-    ensures check { (setting : L.Setting) (base : List ℕ) (room : ℕ) (opened : List ℕ) → CheckIsEvent L.terms setting base room opened }
-    ensures store { (setting : L.Setting) (base : List ℕ) (room : ℕ) (opened : List ℕ) → StoreIsEvent L.terms setting base room opened }
-    ensures release { (setting : L.Setting) (base : List ℕ) (room : ℕ) (opened : List ℕ) → ReleaseIsEvent L.terms setting base room opened }
+    ensures take { (setting : L.Setting) (base : List ℕ) (room : ℕ) (opened : Start) → TakeIsEvent L.terms setting base room opened }
+    ensures draw { (setting : L.Setting) (base : List ℕ) (room : ℕ) (opened : Start) → DrawIsEvent L.terms setting base room opened }
+    ensures check { (setting : L.Setting) (base : List ℕ) (room : ℕ) (opened : Start) → CheckIsEvent L.terms setting base room opened }
+    ensures store { (setting : L.Setting) (base : List ℕ) (room : ℕ) (opened : Start) → StoreIsEvent L.terms setting base room opened }
+    ensures release { (setting : L.Setting) (base : List ℕ) (room : ℕ) (opened : Start) → ReleaseIsEvent L.terms setting base room opened }
 {}

@@ -108,11 +108,11 @@ pub fn open<L: Law>(
     requires opens { L.terms.opens setting.now (ranges_named (L.terms.ranged setting.now) store.now values.now) values.now }
     requires named { AreNamed L.terms setting.now (ranges_named (L.terms.ranged setting.now) store.now values.now) values.now }
     ensures sizes { IfOk result (λ r. (r.0.cells ≡ length values.now) × (r.0.room ≡ room)) }
-    ensures key { IfOk result (λ r. (r.0.table.shared.key.setting.value ≡ setting.now) × (r.0.table.shared.key.values.value.items ≡ values.now) × (r.0.table.shared.key.store.value.items ≡ store.now)) }
+    ensures key { IfOk result (λ r. (r.0.table.shared.key.setting.value ≡ setting.now) × (r.0.table.shared.key.values.value.items ≡ values.now) × (r.0.table.shared.key.store.value.items ≡ store.now) × (r.0.table.shared.key.sessions ≡ sessions)) }
     ensures passes { IfOk result (λ r. All (λ p. IsDealt setting.now values.now room (ranges_named (L.terms.ranged setting.now) store.now values.now) r.0.table.shared.table_id p.seat) r.1.items) }
     ensures opening { IfOk result (λ r. All (λ p. AreOfOneOpening r.0 p) r.1.items) }
     ensures sound { IfOk result (λ r. All (λ p. Sound L.terms p.seat.me.0) r.1.items) }
-    ensures names { IfOk result (λ r. map (λ p. p.seat.me.0.name) r.1.items ≡ down 64 sessions) }
+    ensures names { IfOk result (λ r. map (λ p. p.seat.me.0.name) r.1.items ≡ down sessions sessions) }
     ensures shape { (IsBadShape sessions room → result ≡ Err BadShape) × (result ≡ Err BadShape → IsBadShape sessions room) }
     ensures full { ((IsBadShape sessions room → ⊥) → room < length store.now → result ≡ Err StoreFull) × (result ≡ Err StoreFull → room < length store.now) }
 {
@@ -130,6 +130,7 @@ pub fn open<L: Law>(
         values: Snapshot::of(&copied),
         store: Snapshot::of(&stored),
         room,
+        sessions,
     };
     let made = Table::of_words(alloc, words.as_slice(), &about);
     let Ok((table, mut seat)) = made else {
@@ -196,9 +197,9 @@ fn deal_all<L: Law>(
 ) -> Result<Vec<Pass<L>>, AllocError>
     requires table { (seat.old.table_id ≡ words.now.table.shared.table_id) × (words.now.cells ≡ length values.now) }
     requires store { AreOfOneStore words.now.room (ranges_named (L.terms.ranged setting.now) store.now values.now) }
-    requires first { (sessions ≤ 64) × (seat.old.me.0 ≡ dealer setting.now values.now words.now.room (ranges_named (L.terms.ranged setting.now) store.now values.now) 0) }
+    requires first { (sessions ≤ 64) × (seat.old.me.0 ≡ dealer setting.now values.now words.now.room (ranges_named (L.terms.ranged setting.now) store.now values.now) sessions 0) }
     ensures passes { IfOk result (λ v. All (λ p. IsDealt setting.now values.now words.now.room (ranges_named (L.terms.ranged setting.now) store.now values.now) words.now.table.shared.table_id p.seat) v.items) }
-    ensures names { IfOk result (λ v. map (λ p. p.seat.me.0.name) v.items ≡ down 64 sessions) }
+    ensures names { IfOk result (λ v. map (λ p. p.seat.me.0.name) v.items ≡ down sessions sessions) }
 {
     let _ = setting;
     let _ = values;

@@ -1,7 +1,7 @@
 //! Passes: a seat at the table, and what it keeps of the cells.
 #![tactic(auto)]
 
-ghost use Rattle.std.specs.Prelude.{◌≡◌, length};
+ghost use Rattle.std.specs.Prelude.{◌≡◌, [], length};
 ghost use Rattle.tlwords.specs.Runs.{IsPassOf, IsBlank, KnowsStore};
 
 use crate::law::Law;
@@ -16,6 +16,7 @@ pub struct Pass<L: Law> {
     pub(crate) full: bool,
     pub ghost fits: { IsPassOf seat.me count },
     pub ghost knows: { KnowsStore seat.me.0 full },
+    pub ghost bare: { seat.me.1 ≡ [] },
     pub ghost blank: { IsBlank log.slots },
     pub ghost room: { length log.slots ≡ length seat.me.0.base },
 }

@@ -2,7 +2,7 @@
 #![tactic(auto)]
 
 ghost use Rattle.std.specs.Prelude.{ℕ, ◌-◌, List, [], Option, None};
-ghost use Rattle.tlwords.specs.Plays.{sampled, looked, loaded, relooked, took, drew, checked, stored, released, recalled, refreshed, advanced, filled, fetched, newcomer, witness, told_by};
+ghost use Rattle.tlwords.specs.Plays.{sampled, looked, loaded, relooked, took, drew, checked, stored, released, recalled, refreshed, advanced, filled, fetched, newcomer, witness, told_by, given_up, bare};
 ghost use Rattle.tlwords.specs.Views.{nobody};
 
 use crate::law::Law;
@@ -51,13 +51,22 @@ impl<S, N> Join<View<S, N>> for Tell {
     ghost spent = { nobody };
 }
 
+/// Gives a pass up to another one.
+pub(crate) struct GiveUp;
+
+impl<S, N> Join<View<S, N>> for GiveUp {
+    ghost both = { given_up };
+
+    ghost spent = { nobody };
+}
+
 /// Samples the clock.
 pub(crate) struct Begin<L> {
     law: PhantomData<L>,
 }
 
 impl<L: Law> Play<(), View<L::Setting, L::Note>> for Begin<L> {
-    ghost then = { sampled L.terms };
+    ghost then = { bare (sampled L.terms) };
 }
 
 /// First look at a lock word.
@@ -66,7 +75,7 @@ pub(crate) struct Look<L> {
 }
 
 impl<L: Law> Play<(), View<L::Setting, L::Note>> for Look<L> {
-    ghost then = { looked L.terms };
+    ghost then = { bare (looked L.terms) };
 }
 
 /// Load of a value word.
@@ -75,7 +84,7 @@ pub(crate) struct Load<L> {
 }
 
 impl<L: Law> Play<(), View<L::Setting, L::Note>> for Load<L> {
-    ghost then = { loaded L.terms };
+    ghost then = { bare (loaded L.terms) };
 }
 
 /// Second look at a lock word.
@@ -84,7 +93,7 @@ pub(crate) struct Relook<L> {
 }
 
 impl<L: Law> Play<(), View<L::Setting, L::Note>> for Relook<L> {
-    ghost then = { relooked L.terms };
+    ghost then = { bare (relooked L.terms) };
 }
 
 /// One try to lock a cell.
@@ -93,7 +102,7 @@ pub(crate) struct Take<L, G> {
 }
 
 impl<L: Law, G: Said<L::Note>> Play<(), View<L::Setting, L::Note>> for Take<L, G> {
-    ghost then = { took L.terms G.value };
+    ghost then = { bare (took L.terms G.value) };
 }
 
 /// Advances the clock.
@@ -102,7 +111,7 @@ pub(crate) struct Draw<L, G> {
 }
 
 impl<L: Law, G: Said<L::Note>> Play<(), View<L::Setting, L::Note>> for Draw<L, G> {
-    ghost then = { drew L.terms G.note };
+    ghost then = { bare (drew L.terms G.note) };
 }
 
 /// Look at the lock word of a cell that was read, after the draw.
@@ -111,7 +120,7 @@ pub(crate) struct Check<L> {
 }
 
 impl<L: Law> Play<(), View<L::Setting, L::Note>> for Check<L> {
-    ghost then = { checked L.terms };
+    ghost then = { bare (checked L.terms) };
 }
 
 /// Store of a value word.
@@ -120,7 +129,7 @@ pub(crate) struct Store<L> {
 }
 
 impl<L: Law> Play<(), View<L::Setting, L::Note>> for Store<L> {
-    ghost then = { stored L.terms };
+    ghost then = { bare (stored L.terms) };
 }
 
 /// Store of a lock word.
@@ -129,7 +138,7 @@ pub(crate) struct Release<L> {
 }
 
 impl<L: Law> Play<(), View<L::Setting, L::Note>> for Release<L> {
-    ghost then = { released L.terms };
+    ghost then = { bare (released L.terms) };
 }
 
 /// Load of the spare word, which adds a call that wrote nothing to those of the pass.
@@ -138,7 +147,7 @@ pub(crate) struct Recall<L, G> {
 }
 
 impl<L: Law, G: Said<L::Note>> Play<(), View<L::Setting, L::Note>> for Recall<L, G> {
-    ghost then = { recalled L.terms G.note };
+    ghost then = { bare (recalled L.terms G.note) };
 }
 
 /// Load of the spare word, to see the history so far.
@@ -147,7 +156,7 @@ pub(crate) struct Refresh<L> {
 }
 
 impl<L: Law> Play<(), View<L::Setting, L::Note>> for Refresh<L> {
-    ghost then = { refreshed L.terms };
+    ghost then = { bare (refreshed L.terms) };
 }
 
 /// Advances the tail of the store.
@@ -156,7 +165,7 @@ pub(crate) struct Advance<L, G> {
 }
 
 impl<L: Law, G: Said<L::Note>> Play<(), View<L::Setting, L::Note>> for Advance<L, G> {
-    ghost then = { advanced L.terms G.words };
+    ghost then = { bare (advanced L.terms G.words) };
 }
 
 /// Store of a word of the store.
@@ -165,7 +174,7 @@ pub(crate) struct Fill<L> {
 }
 
 impl<L: Law> Play<(), View<L::Setting, L::Note>> for Fill<L> {
-    ghost then = { filled L.terms };
+    ghost then = { bare (filled L.terms) };
 }
 
 /// Load of a word of the store.
@@ -174,5 +183,5 @@ pub(crate) struct Fetch<L> {
 }
 
 impl<L: Law> Play<(), View<L::Setting, L::Note>> for Fetch<L> {
-    ghost then = { fetched L.terms };
+    ghost then = { bare (fetched L.terms) };
 }

@@ -8,12 +8,14 @@ use std::alloc::Global;
 use std::marker::PhantomData;
 use std::snapshot::Snapshot;
 
-/// What the table is told once: the setting, the opening values of the cells, the store's opening words, and how many words it has room for.
+/// What the table is told once: the setting, the opening values of the cells, the store's opening words, how many words it
+/// has room for, and how many sessions there are.
 pub struct Opening<S> {
     pub(crate) setting: Snapshot<S>,
     pub(crate) values: Snapshot<Vec<u64>>,
     pub(crate) store: Snapshot<Vec<u64>>,
     pub(crate) room: usize,
+    pub(crate) sessions: usize,
 }
 
 impl<S> Drop for Opening<S> {
@@ -23,6 +25,7 @@ impl<S> Drop for Opening<S> {
             values: _,
             store: _,
             room: _,
+            sessions: _,
         } = self;
     }
 }
@@ -37,9 +40,9 @@ impl<L: Law> TableRule<(), View<L::Setting, L::Note>, Opening<L::Setting>> for R
     ghost use Rattle.ranges.specs.Ranges.{ranges_named};
     ghost use Rattle.tlwords.specs.Rule.{Ruled, first_view};
 
-    ghost holds = { λ key s. Ruled L.terms key.setting.value key.values.value.items key.room key.store.value.items s };
+    ghost holds = { λ key s. Ruled L.terms key.setting.value key.values.value.items key.room (record { store = key.store.value.items; sessions = key.sessions }) s };
 
-    ghost first = { λ key. first_view key.setting.value key.values.value.items key.room (ranges_named (L.terms.ranged key.setting.value) key.store.value.items key.values.value.items) };
+    ghost first = { λ key. first_view key.setting.value key.values.value.items key.room (ranges_named (L.terms.ranged key.setting.value) key.store.value.items key.values.value.items) key.sessions };
 }
 
 /// The words that all passes share.

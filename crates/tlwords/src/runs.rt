@@ -1,7 +1,7 @@
 //! Runs: transactions as they go.
 #![tactic(auto)]
 
-ghost use Rattle.std.specs.Prelude.{◌≡◌, ℕ, ◌<◌, ◌≤◌, ◌⊎◌, Some, None, length, take, is_some, true, Ok, Err, IfOk, IfErr};
+ghost use Rattle.std.specs.Prelude.{◌≡◌, [], ℕ, ◌<◌, ◌≤◌, ◌⊎◌, Some, None, length, take, is_some, true, Ok, Err, IfOk, IfErr};
 ghost use Rattle.tlwords.specs.Plays.{IsSameSeat, Sampled};
 ghost use Rattle.tlwords.specs.Runs.{IsRunOf, IsKeptOf, IsBlank, KnowsStore, noted, word_seen, value_kept, was_read, Learns};
 ghost use Rattle.tlwords.specs.Callers.{SitsAt, AreOfOneOpening};
@@ -37,6 +37,7 @@ pub struct Run<'w, L: Law> {
     pub ghost kept: { IsKeptOf (noted mode seat.me.0.seat) log.slots },
     pub ghost room: { length log.slots ≡ length seat.me.0.base },
     pub ghost knows: { KnowsStore seat.me.0 full },
+    pub ghost bare: { seat.me.1 ≡ [] },
 }
 
 /// Begins a run in this mode, by one load of the clock.

@@ -87,7 +87,7 @@ fn take_saying<L: Law, G: Said<L::Note>>(
     requires said { G.value ≡ value }
     requires place { (seat.old.me.0.seat.place ≡ Reading) ⊎ ((seat.old.me.0.seat.place ≡ Taking) × (all_below cell seat.old.me.0.seat.held ≡ true)) }
     requires read { (d : Read) × (find_read cell seat.old.me.0.seat.reads ≡ Some d) × (d.word ≡ word) }
-    requires room { word + 1 < 2 ^ 64 }
+    requires room { (word + 1 < 2 ^ 64) × (1 ≤ seat.old.me.0.rights) }
     ensures seat { IsSameSeat seat.old seat.new }
     ensures told { Takes L.terms cell value word seat.old.me result seat.new.me }
 {
@@ -111,7 +111,7 @@ pub(crate) fn take<L: Law>(
     requires cell { (cell < words.now.cells) × (cell < length seat.old.me.0.base) }
     requires place { (seat.old.me.0.seat.place ≡ Reading) ⊎ ((seat.old.me.0.seat.place ≡ Taking) × (all_below cell seat.old.me.0.seat.held ≡ true)) }
     requires read { (d : Read) × (find_read cell seat.old.me.0.seat.reads ≡ Some d) × (d.word ≡ word) }
-    requires room { word + 1 < 2 ^ 64 }
+    requires room { (word + 1 < 2 ^ 64) × (1 ≤ seat.old.me.0.rights) }
     ensures seat { IsSameSeat seat.old seat.new }
     ensures told { Takes L.terms cell value word seat.old.me result seat.new.me }
 {

@@ -20,6 +20,7 @@ pub struct Words<L: Law> {
     pub ghost empty: { table.shared.table_id.slots ≡ 0 },
     pub ghost small: { (cells < 2 ^ 59) × (room ≤ 2 ^ 24) },
     pub ghost keyed: { table.shared.key.room ≡ room },
+    pub ghost dealt: { 1 ≤ table.shared.key.sessions },
 }
 
 impl<L: Law> Drop for Words<L> {

@@ -1,11 +1,18 @@
-use Rattle.std.proofs.Common.{◌≡◌, ◌-◌, List, ℕ, [], ◌∷◌, inl, refl, sym, ap, ◌∙◌, subst, arith, get_or}
+use Rattle.std.proofs.Common.{◌≡◌, ◌-◌, List, ℕ, zero, suc, true, Some, [], ◌∷◌, inl, inr, refl, slice_get, sym, ap, ◌∙◌, subst, arith, get_or}
 use Rattle.std.specs.Prelude.{vec_len}
-use Rattle.ranges.specs.Ranges.{Range, Has, range_named}
+use Rattle.ranges.specs.Ranges.{Range, Has, Names, range_named, ranges_named}
 use Rattle.calls.proofs.store.load_opened.Goals as goal
 
 -- the range of the last two words
 abbrev last_two : Range
 last_two = record { start = 1; words = 8 ∷ 9 ∷ [] }
+
+named_only : (i v : ℕ) → slice_get (33554434 ∷ []) i ≡ Some v → Names (ranges_named (λ _. true) (7 ∷ 8 ∷ 9 ∷ []) (33554434 ∷ [])) v
+named_only zero v e = let q : 33554434 ≡ v = cc in inr (last_two, inl refl, sym q)
+named_only (suc i) v e = absurd (cc)
+
+pub open-opening-requires-clause-named : goal.open-opening-requires-clause-named
+open-opening-requires-clause-named c i v e _ = named_only i v e
 
 there : (ranges : List Range) → ranges ≡ range_named (7 ∷ 8 ∷ 9 ∷ []) 33554434 ∷ [] → Has last_two ranges
 there ranges e = subst (λ (rs : List Range). Has last_two rs) (sym e) (inl refl)

@@ -1,25 +1,15 @@
-use Rattle.std.proofs.Common.{arith, ◌∙◌, ap, subst, sym, length, List, ℕ}
+use Rattle.std.proofs.Common.{◌≡◌, arith, ◌∙◌, ap, subst, sym, length, List, ℕ, map, []}
+use mathlib.Core.Option.{some}
 use lib.ListN.{get_elem?}
 use Rattle.tlwords.specs.Closing.{AreCellsOf, IsStoreOf}
+use Rattle.tlwords.specs.Views.{gone_of}
 use Rattle.tlwords.specs.Rule.{tail_at}
-use Rattle.tlwords.proofs.Ends.{closes, closes_for}
+use Rattle.tlwords.proofs.Gathers.{given_of}
+use Rattle.tlwords.proofs.Ends.{closes_all, gone_all}
 use Rattle.tlwords.proofs.closing.close_with.Goals as goal
 
-pub returns-clause-words : goal.returns-clause-words
-returns-clause-words g c =
-    let f = c.close_with-table.ensures.values.2 in
-    let e = c.gather.ensures in
-    let k = c.close_with-table.ensures.counts.0 in
-    let r = c.requires.words.0 in
-    let q = c.requires.keyed in
-    let n = c.close_with-table.result.words.ok.0 in
-    closes g.L.Law.terms _ _ _ _ f.0 f.1.0 c.args.cells c.gather.result (ap length f.2 ∙ omega arith)
-    (ap (λ (l : List ℕ). get_elem? l 1) f.2 ∙ e.clock.0) (ap (λ (l : List ℕ). get_elem? l (tail_at c.args.cells)) f.2 ∙ e.clock.1)
-    (subst (λ (l : List ℕ). AreCellsOf l c.gather.result.cells.items) (sym f.2) e.cells.0) e.cells.1
-    (subst (λ (l : List ℕ). IsStoreOf l c.args.cells c.gather.result.store.items) (sym f.2) e.store.0) (e.store.1 ∙ sym q)
-
-pub returns-clause-pass : goal.returns-clause-pass
-returns-clause-pass g c =
+pub returns-clause-closes : goal.returns-clause-closes
+returns-clause-closes g c =
     let f = c.close_with-table.ensures.values.2 in
     let e = c.gather.ensures in
     let k = c.close_with-table.ensures.counts.0 in
@@ -27,7 +17,17 @@ returns-clause-pass g c =
     let q = c.requires.keyed in
     let n = c.close_with-table.result.words.ok.0 in
     let about = c.args.table.shared.key in
-    closes_for g.L.Law.terms about.setting.value about.values.value.items about.room about.store.value.items f.0 f.1.0 c.args.cells c.gather.result (ap length f.2 ∙ omega arith)
+    let x = c.args.last.seat.me.0 in
+    let p = c.into_parts.ensures in
+    let all = c.give_up_all.ensures in
+    let seat = c.give_up_all.new.seat in
+    let gs = seat.me.0.gone in
+    let same : seat.me.0 ≡ record x { gone = gs } = given_of seat.me.0 _ x all.is (ap (λ s. s.me.0) p.parts.0) in
+    let gone : gs ≡ map gone_of (map (λ p. p.seat.me.0) c.args.passes.items) =
+    all.gone ∙ gone_all (λ p. p.seat.me.0) c.args.passes.items _ (ap (λ s. s.me.0.gone) p.parts.0 ∙ c.args.last.knows.alone) in
+    closes_all g.L.Law.terms about.setting.value about.values.value.items about.room
+    (record { store = about.store.value.items; sessions = about.sessions }) f.0 f.1.0 c.args.cells c.gather.result (ap length f.2 ∙ omega arith)
     (ap (λ (l : List ℕ). get_elem? l 1) f.2 ∙ e.clock.0) (ap (λ (l : List ℕ). get_elem? l (tail_at c.args.cells)) f.2 ∙ e.clock.1)
     (subst (λ (l : List ℕ). AreCellsOf l c.gather.result.cells.items) (sym f.2) e.cells.0) e.cells.1
-    (subst (λ (l : List ℕ). IsStoreOf l c.args.cells c.gather.result.store.items) (sym f.2) e.store.0) (e.store.1 ∙ sym q) c.args.seat.id c.args.seat.me.0 f.1.1
+    (subst (λ (l : List ℕ). IsStoreOf l c.args.cells c.gather.result.store.items) (sym f.2) e.store.0) (e.store.1 ∙ sym q) seat.id x gs
+    (f.1.1 ∙ ap some same) c.args.last.fits.1 c.args.last.fits.2 (map (λ p. p.seat.me.0) c.args.passes.items) gone

@@ -16,7 +16,7 @@ returns-then-index-place-clause-ok g c =
 
 pub loop-i-init : goal.loop-i-init
 loop-i-init g c =
-    ((refl, refl), check_starts g.L.Law.terms c.args.log.now.slots c.args.index c.args.seat.now.me c.requires.kept c.requires.run.0)
+    ((refl, refl, refl), check_starts g.L.Law.terms c.args.log.now.slots c.args.index c.args.seat.now.me c.requires.kept c.requires.run.0)
 
 pub check-word-requires-clause-table : goal.check-word-requires-clause-table
 check-word-requires-clause-table g c = c.loop-i.invariant.0.0 ∙ c.requires.table

@@ -7,7 +7,7 @@ use Rattle.tlwords.proofs.Releases.{release_held, release_goes, release_end}
 use Rattle.tlwords.proofs.commits.release_all.Goals as goal
 
 pub loop-i-init : goal.loop-i-init
-loop-i-init g c = ((refl, refl), c.requires.run)
+loop-i-init g c = ((refl, refl, refl), c.requires.run)
 
 pub returns-then-kept-high-clause-seat : goal.returns-then-kept-high-clause-seat
 returns-then-kept-high-clause-seat g c = c.loop-i.invariant.0

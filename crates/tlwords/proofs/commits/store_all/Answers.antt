@@ -6,7 +6,7 @@ use Rattle.tlwords.proofs.Stores.{StoresSoFar, store_setting, store_base, store_
 use Rattle.tlwords.proofs.commits.store_all.Goals as goal
 
 pub loop-i-init : goal.loop-i-init
-loop-i-init g c = ((refl, refl), inl (refl, λ x a b. absurd (omega arith)))
+loop-i-init g c = ((refl, refl, refl), inl (refl, λ x a b. absurd (omega arith)))
 
 pub store-requires-clause-table : goal.store-requires-clause-table
 store-requires-clause-table g c = c.loop-i.invariant.0.0 ∙ c.requires.table

@@ -6,12 +6,12 @@ use Rattle.tlwords.specs.Walks.{low_of}
 use Rattle.tlwords.specs.Committing.{held_in, holding, Goes}
 use Rattle.tlwords.proofs.Held.{held_on}
 use Rattle.tlwords.proofs.Plans.{plan_at, plan_next, plan_low, plan_end}
-use Rattle.tlwords.proofs.Turns.{unkept_of, read_found, goes_start, goes_setting, goes_base, goes_read, seat_trans, take_place, take_goes, take_fails}
+use Rattle.tlwords.proofs.Turns.{unkept_of, read_found, goes_start, goes_setting, goes_base, goes_rights, goes_read, seat_trans, take_place, take_goes, take_fails}
 use Rattle.tlwords.proofs.commits.take_all.Goals as goal
 
 pub loop-i-init : goal.loop-i-init
 loop-i-init g c = (
-  (refl, refl),
+  (refl, refl, refl),
   goes_start g.L.Law.terms c.args.seat.now.me (holding c.args.seat.now.me.0.seat Taking Reading [])
       (λ j. let t : Seat = record c.args.seat.now.me.0.seat { place = sym c.requires.run.0 j; held = sym c.requires.run.1 j } in t),
 )
@@ -62,7 +62,10 @@ take-found-requires-clause-room g c =
     let n : c.loop-i.i < length ws = let a = c.loop-i-test.true in let b = c.len-i-end.ensures in let d = c.args.log.now.writes.ok.0 in
     omega arith in
     let s = plan_at c.args.log.now.slots true ws c.requires.plan c.loop-i.i t n c.index.ensures in
-    let even = c.requires.kept.2 t.cell t.word s.1 in omega arith
+    let even = c.requires.kept.2 t.cell t.word s.1 in
+    let same = goes_rights g.L.Law.terms _ _ _ c.loop-i.invariant.1 in
+    let enough = c.requires.run.2 in
+    (omega arith, omega arith)
 
 pub returns-then-found-word-clause-seat : goal.returns-then-found-word-clause-seat
 returns-then-found-word-clause-seat g c =

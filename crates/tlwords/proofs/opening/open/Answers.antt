@@ -8,7 +8,7 @@ pub of_words-made-requires : goal.of_words-made-requires
 of_words-made-requires g c =
     let l = c.if-store-room.false in let m = c.if-room-gt-MOST_ROOM.false in
     rw (c.as_slice.ensures.value, c.of.ensures, c.of-2.ensures, c.of-3.ensures, c.in_ok-copied.ensures, c.in_ok-stored.ensures)
-    (opens_so g.L.Law.terms c.args.setting.now c.args.values.now c.args.store.now c.in_ok-words.words.items c.args.room (omega arith) (omega arith)
+    (opens_so g.L.Law.terms c.args.setting.now c.args.values.now c.args.store.now c.in_ok-words.words.items c.args.room c.args.sessions (omega arith) (omega arith) (let f = c.if-sessions-gt64.false in omega arith)
     c.in_ok-words.ensures c.requires.opens c.requires.named)
 
 pub invariant_of-words : goal.invariant_of-words
@@ -23,6 +23,7 @@ invariant_of-words g c =
       empty = a.1;
       small = (let s = c.in_ok-words.words.small in let o = c.in_ok-words.words.ok.0 in omega arith, omega arith);
       keyed = ap (λ k. k.room) a.5;
+      dealt = let q : c.in-Ok.table.shared.key.sessions ≡ c.args.sessions = ap (λ k. k.sessions) a.5 in let z = c.if-sessions-eq0.false in omega arith;
     }
 
 pub deal_all-requires-clause-store : goal.deal_all-requires-clause-store
@@ -32,7 +33,7 @@ pub returns-clause-sound : goal.returns-clause-sound
 returns-clause-sound g c = λ k d l.
     let small = c.if-store-room.false in
     let p = c.in_ok-passes.ensures.passes k d l in
-    new_sound c.args.setting.now c.args.values.now c.args.room (ranges_named (g.L.Law.terms.ranged c.args.setting.now) c.args.store.now c.args.values.now) g.L.Law.terms _ p.new c.requires.opens
+    new_sound c.args.setting.now c.args.values.now c.args.room (ranges_named (g.L.Law.terms.ranged c.args.setting.now) c.args.store.now c.args.values.now) c.args.sessions g.L.Law.terms _ p.new c.requires.opens
     (named_of_one (g.L.Law.terms.ranged c.args.setting.now) c.args.store.now c.args.values.now c.args.room (omega arith))
 
 pub returns-clause-opening : goal.returns-clause-opening

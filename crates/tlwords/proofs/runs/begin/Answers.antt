@@ -25,5 +25,6 @@ invariant_of-result g c =
           let u = c.begin-place.new.seat.me.0.seat in
           blank_kept (noted c.args.mode u) _ (no_reads c.args.mode u (ap (λ v. v.seat.reads) t.is)) f.1;
       room = f.2 ∙ sym (ap (λ v. length v.base) t.is);
+      bare = c.begin-place.ensures.seat.2 ∙ (ap (λ s. s.me.1) p.0 ∙ c.args.pass.bare);
       knows = begun_knows g.L.Law.terms _ _ _ _ t f.0.0 f.3;
     }

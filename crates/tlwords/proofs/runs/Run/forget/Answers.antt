@@ -11,4 +11,5 @@ invariant_of-self g c =
       kept = c.forget.ensures.0 (noted s.mode s.seat.me.0.seat) s.kept;
       room = c.forget.ensures.4 ∙ s.room;
       knows = s.knows;
+      bare = s.bare;
     }

@@ -6,6 +6,7 @@ pub invariant_of-result : goal.invariant_of-result
 invariant_of-result g c = record {
   fits = left_fits g.L.Law.terms c.args.self.seat.me _ _ _ c.args.self.fits;
   knows = c.args.self.knows;
+  bare = c.args.self.bare;
   blank = c.clear.ensures.blank;
   room = c.clear.ensures.size ∙ c.args.self.room;
 }

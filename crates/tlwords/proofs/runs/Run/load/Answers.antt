@@ -32,7 +32,8 @@ invariant_of-self g c =
       fits = fits_on g.L.Law.terms s.seat.me c.fetch_word.new.seat.me _ _ _ is _ _ _ s.fits;
       kept = subst (λ u. IsKeptOf (noted s.mode u) s.log.slots) (ap (λ v. v.seat) (sym is)) s.kept;
       room = s.room ∙ ap (λ v. length v.base) (sym is);
-      knows = knows_on g.L.Law.terms s.seat.me c.fetch_word.new.seat.me _ _ _ is _ s.fits.0 s.knows.at_rest t.sees s.knows.full;
+      bare = c.fetch_word.ensures.seat.2 ∙ s.bare;
+      knows = knows_on g.L.Law.terms s.seat.me c.fetch_word.new.seat.me _ _ _ is _ s.fits.0 s.knows.at_rest s.knows.alone t.sees s.knows.full;
     }
 
 pub returns-clause-value : goal.returns-clause-value

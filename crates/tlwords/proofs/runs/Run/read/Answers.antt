@@ -17,6 +17,7 @@ invariant_of-self g c =
           read_kept s.mode s.seat.me.0.seat c.fetch.new.seat.me.0.seat s.log c.note.new.self
           (record { cell = c.args.cell; word = found.word; value = found.value }) n (ap (λ v. v.seat.reads) t.is) s.kept;
       room = read_room s.mode s.log c.note.new.self c.args.cell c.in-Ok.found.word n ∙ (s.room ∙ ap (λ v. length v.base) (sym t.is));
+      bare = c.fetch.ensures.seat.2 ∙ s.bare;
       knows = read_knows g.L.Law.terms _ _ _ _ _ _ t s.fits.0 s.knows;
     }
 

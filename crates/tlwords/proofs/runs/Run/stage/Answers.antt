@@ -20,7 +20,8 @@ invariant_of-self g c =
       fits = fits_on g.L.Law.terms s.seat.me c.advance-start.new.seat.me _ _ _ is _ _ _ s.fits;
       kept = subst (λ u. IsKeptOf (noted s.mode u) s.log.slots) (sym seat) s.kept;
       room = s.room ∙ ap (λ v. length v.base) (sym is);
-      knows = knows_on g.L.Law.terms s.seat.me c.advance-start.new.seat.me _ _ _ is _ s.fits.0 s.knows.at_rest t.sees refl;
+      bare = c.advance-start.ensures.seat.2 ∙ s.bare;
+      knows = knows_on g.L.Law.terms s.seat.me c.advance-start.new.seat.me _ _ _ is _ s.fits.0 s.knows.at_rest s.knows.alone t.sees refl;
     }
 
 pub invariant_of-self-2 : goal.invariant_of-self-2
@@ -38,7 +39,8 @@ invariant_of-self-2 g c =
       fits = fits_on g.L.Law.terms s.seat.me c.fill_all.new.seat.me _ _ _ is _ _ _ s.fits;
       kept = subst (λ u. IsKeptOf (noted s.mode u) s.log.slots) (sym seat) s.kept;
       room = s.room ∙ ap (λ v. length v.base) (sym is);
-      knows = knows_on g.L.Law.terms s.seat.me c.fill_all.new.seat.me _ _ _ is _ s.fits.0 s.knows.at_rest st.sees s.knows.full;
+      bare = c.fill_all.ensures.seat.2 ∙ (c.advance-start.ensures.seat.2 ∙ s.bare);
+      knows = knows_on g.L.Law.terms s.seat.me c.fill_all.new.seat.me _ _ _ is _ s.fits.0 s.knows.at_rest s.knows.alone st.sees s.knows.full;
     }
 
 pub returns-clause-ok : goal.returns-clause-ok

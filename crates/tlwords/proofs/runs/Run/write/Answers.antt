@@ -11,4 +11,5 @@ invariant_of-self g c =
       kept = c.keep.ensures.0 (noted s.mode s.seat.me.0.seat) s.kept;
       room = c.keep.ensures.4 ∙ s.room;
       knows = s.knows;
+      bare = s.bare;
     }
