@@ -8,8 +8,8 @@ ghost use Rattle.jobs.specs.Outcomes.{OutcomeFits, OutcomesFit};
 ghost use Rattle.jobs.specs.Reports.{reason_text, outcome_text, script_text_from, report_text};
 
 use crate::outcome::Outcome;
-use library::{Reason, Reply};
 use historytext::put_reply;
+use library::{Reason, Reply};
 use mmstatement::{Prelude, Sequence};
 use std::alloc::{AllocError, Global};
 
