@@ -3,7 +3,7 @@ use Rattle.std.specs.Prelude.{◌≡◌, ℕ, List, All}
 use Rattle.mmsyntax.specs.Tables.{Tables}
 use Rattle.mmsyntax.specs.Layout.{IsSoundPrelude}
 use Rattle.proofcheck.specs.declared.fault.ProofFault.{ProofFault}
-use Rattle.commands.specs.Fitting.{CommandFits}
+use Rattle.library.specs.Fitting.{CommandFits}
 use Rattle.commands.specs.Scripts.{SpellsScript}
 use Rattle.jobs.specs.declared.job.Job.{Job}
 use Rattle.jobs.specs.declared.job.Fault.TheVariants.{Proof}
