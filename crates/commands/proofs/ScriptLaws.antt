@@ -8,6 +8,7 @@ use Rattle.mmtext.specs.declared.fault.TextFault.{TextFault}
 use Rattle.mmtext.specs.Text.{Token, tokens, IsClean}
 use Rattle.mmtext.specs.Words.{Word}
 use Rattle.mmtext.specs.Languages.{State, run, ended, token_reading, reading}
+use Rattle.mmtext.specs.Laws.{IsGrammarOf}
 use Rattle.mmtext.proofs.Readings.{reading_ok, clean_reading}
 use Rattle.mmtext.proofs.CommentLaws.{here, walks_outside, runs_all}
 use Rattle.mmsyntax.specs.declared.statement.Step.{Step}
@@ -67,6 +68,10 @@ token_spelled t bytes script s =
     let r = runs_all l false (tokens bytes) s.words (script_ordinary t script s.words s.transactions) s.words_are in
     ap (ended l (length bytes))
     (r.runs (progress [] outermost) (progress script outermost) (script_leads t [] script s.words r.kept s.transactions r.words_are))
+
+-- what is spelled is what the language says
+pub script_grammar : (t : Tables) → IsGrammarOf (script_language t) (SpellsScript t)
+script_grammar t bytes script = (λ s. (s.clean, token_spelled t bytes script s), λ h. token_found t bytes script h.0 h.1)
 
 reading_spelled : (t : Tables) (bytes : List ℕ) (script : Script) → length bytes ≤ 16777216 → SpellsScript t bytes script
     → reading (script_language t) bytes ≡ Ok script

@@ -1,3 +1,4 @@
 pub mod Scripts
 pub mod ScriptFaults
 pub mod ScriptViews
+pub mod Laws

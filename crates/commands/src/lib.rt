@@ -1,8 +1,10 @@
 //! Scripts of commands on a library, read exactly.
 #![tactic(auto)]
 
+mod laws;
 mod script;
 
+pub use laws::one_script_or_fault;
 pub use library::{
     Command, Line, PlainLibrary, Ranked, Reason, Refused, Reply, Script, Transaction,
 };

@@ -6,6 +6,7 @@ use Rattle.mmtext.specs.declared.fault.TextFault.{TextFault}
 use Rattle.mmtext.specs.Text.{Token, tokens, IsClean}
 use Rattle.mmtext.specs.Words.{Word}
 use Rattle.mmtext.specs.Languages.{State, run, ended, token_reading, reading}
+use Rattle.mmtext.specs.Laws.{IsGrammarOf}
 use Rattle.mmtext.proofs.Readings.{reading_ok, clean_reading}
 use Rattle.mmtext.proofs.CommentLaws.{here, walks_outside, runs_all}
 use Rattle.mmsyntax.specs.Tables.{Tables}
@@ -71,6 +72,10 @@ token_spelled t bytes history s =
     s.words_are in
     ap (ended l (length bytes))
     (r.runs (progress [] at_history) (progress history (at_entry 0)) (history_leads t history s.count s.inner r.kept s.counted s.entries r.words_are))
+
+-- what is spelled is what the language says
+pub history_grammar : (t : Tables) → IsGrammarOf (history_language t) (SpellsHistory t)
+history_grammar t bytes history = (λ s. (s.clean, token_spelled t bytes history s), λ h. token_found t bytes history h.0 h.1)
 
 reading_spelled : (t : Tables) (bytes : List ℕ) (history : List Entry) → length bytes ≤ 16777216 → SpellsHistory t bytes history
     → reading (history_language t) bytes ≡ Ok history

@@ -1,7 +1,7 @@
 //! Laws of the texts: each function does nothing, and its contract is the law.
 
 ghost use Rattle.historytext.specs.Laws.{TextsSpell, LegalHistoriesFit};
-ghost use Rattle.historytext.specs.Places.{FaultyHistory};
+ghost use Rattle.historytext.specs.Laws.{HistoryIsOne, HistoryFaultIsOne, HistoryHasNoFault, FaultyIsNoHistory, HistoryOrFault, HistoriesAreSaid};
 
 /// The canonical text of a history that some text spells is spelled by it.
 pub fn texts_spell()
@@ -12,4 +12,15 @@ pub fn texts_spell()
 /// within the limits of the prelude.
 pub fn legal_histories_fit()
     ensures { LegalHistoriesFit }
+{}
+
+/// Over a prelude a text spells at most one history, and has at most one fault. One of at most 16,777,216 bytes has either a history or a fault,
+/// and not both; a longer one may spell a history, and its one fault is its length.
+pub fn one_history_or_fault()
+    ensures history { HistoryIsOne }
+    ensures fault { HistoryFaultIsOne }
+    ensures faultless { HistoryHasNoFault }
+    ensures faulty { FaultyIsNoHistory }
+    ensures either { HistoryOrFault }
+    ensures said { HistoriesAreSaid }
 {}
