@@ -1,5 +1,5 @@
--- What is true of every script that is spelled, and of every fault of a job.
-use Rattle.std.specs.Prelude.{◌≡◌, ℕ, List, All}
+-- What is true of every script that is spelled, of every fault of a job, and of every text that is accepted.
+use Rattle.std.specs.Prelude.{◌≡◌, ◌≤◌, ℕ, List, All, length}
 use Rattle.mmsyntax.specs.Tables.{Tables}
 use Rattle.mmsyntax.specs.Layout.{IsSoundPrelude}
 use Rattle.proofcheck.specs.declared.fault.ProofFault.{ProofFault}
@@ -8,7 +8,8 @@ use Rattle.commands.specs.Scripts.{SpellsScript}
 use Rattle.jobs.specs.declared.job.Job.{Job}
 use Rattle.jobs.specs.declared.job.Fault.TheVariants.{Proof}
 use Rattle.jobs.specs.FaultLines.{shown_label}
-use Rattle.jobs.specs.Jobs.{Bytes, Orders, IsFaultOf}
+use Rattle.export.specs.Exported.{Accepts}
+use Rattle.jobs.specs.Jobs.{Bytes, Orders, IsChecked, IsFaultOf}
 
 -- over a prelude that some text declares, each command of a script that is spelled is within the limits
 abbrev pub SpelledScriptsFit : Type 0
@@ -18,3 +19,7 @@ SpelledScriptsFit =
 -- the label in the fault of a job is printed as it is
 abbrev pub FaultLabelsAreShown : Type 0
 FaultLabelsAreShown = (j : Job) (label : List ℕ) (fault : ProofFault) → IsFaultOf j (Proof label fault) → shown_label label ≡ label
+
+-- an accepted text of at most 16,777,216 bytes is read, as the database that it spells, and each of its proofs checks: so is each export
+abbrev pub AcceptedTextsCheck : Type 0
+AcceptedTextsCheck = (text : Bytes) (a : Accepts text) → length text ≤ 16777216 → IsChecked text a.database

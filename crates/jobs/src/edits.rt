@@ -144,7 +144,7 @@ fn open(alloc: Global, keys: RandomState, db: &Database) -> Result<Editor, Alloc
 
 /// What the transactions of all scripts leave.
 #[derive(Drop)]
-pub(crate) struct Edited {
+pub struct Edited {
     /// What became of each transaction, script after script.
     pub outcomes: Sequence<Sequence<Outcome>>,
     /// The committed transactions with their replies, in the order of their numbers from 1.
@@ -158,7 +158,7 @@ pub(crate) struct Edited {
 /// An edit that is not refused is `Committed` with the next number from 1. What only reads is `Read`, and a refusal `Refused`, with the
 /// number of commits so far as its place; more than 16 commands are `TooManyCommands`. The library has 4,096 slots, and is the one after
 /// all transactions. Fails only for want of memory.
-pub(crate) fn edit_all(
+pub fn edit_all(
     alloc: Global,
     keys: RandomState,
     db: &Database,

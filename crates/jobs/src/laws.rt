@@ -1,6 +1,6 @@
 //! Laws of the definitions: each function does nothing, and its contract is the law.
 
-ghost use Rattle.jobs.specs.Laws.{SpelledScriptsFit, FaultLabelsAreShown};
+ghost use Rattle.jobs.specs.Laws.{SpelledScriptsFit, FaultLabelsAreShown, AcceptedTextsCheck};
 
 /// Over a prelude that some text declares, each command of a script that is spelled is within the limits of that prelude.
 pub fn spelled_scripts_fit()
@@ -10,4 +10,10 @@ pub fn spelled_scripts_fit()
 /// The line of a faulty proof has the label of its theorem as it stands in the database: a label is text.
 pub fn fault_labels_are_shown()
     ensures { FaultLabelsAreShown }
+{}
+
+/// An accepted text of at most 16,777,216 bytes, as each export of a run or a replay of that length is, is the text of a database: it has no
+/// fault, and each of its proofs checks.
+pub fn accepted_texts_check()
+    ensures { AcceptedTextsCheck }
 {}
