@@ -40,12 +40,12 @@ use Rattle.library.proofs.Showing.{ChecksIn}
 -- ---- tests
 
 -- no test refuses
-abbrev NoneRefuses : Tests → Type 0
+abbrev pub NoneRefuses : Tests → Type 0
 NoneRefuses [] = Unit {0}
 NoneRefuses (t ∷ ts) = (t ≡ None) × NoneRefuses ts
 
 -- what passes its tests is the edit
-tests_passed : (ts : Tests) (edited e : Edited) → tested ts edited ≡ Ok e → NoneRefuses ts × (edited ≡ e)
+pub tests_passed : (ts : Tests) (edited e : Edited) → tested ts edited ≡ Ok e → NoneRefuses ts × (edited ≡ e)
 tests_passed [] edited e h = (tt, cc)
 tests_passed (None ∷ ts) edited e h =
     let later = tests_passed ts edited e h in
@@ -72,7 +72,7 @@ ranked_where rank h =
     let ne = eqb-false rank 0 (where_none (rank == 0) BadRank h) in
     omega arith
 
-lawful_where : (s : Setting) (label : List ℕ) → bad_label s label ≡ None → IsTrue (is_lawful_label s.prelude label)
+pub lawful_where : (s : Setting) (label : List ℕ) → bad_label s label ≡ None → IsTrue (is_lawful_label s.prelude label)
 lawful_where s label h =
     not-false (is_lawful_label s.prelude label) (where_none (not (is_lawful_label s.prelude label)) BadLabel h)
 

@@ -24,3 +24,4 @@ pub mod Fitting
 pub mod Fronts
 pub mod Legal
 pub mod Agreeing
+pub mod Naming

@@ -240,9 +240,10 @@ module _ (t : Tables) (s : AreSound t) where
 
   -- ---- steps
 
-  step_ok : (hyps : List Hypothesis) (count : ℕ) (w : Word) (x : Step) → has_dollar w ≡ false → is_label w ≡ true → count < 16384 → step_named w (float_named (meaning t w)) (hypothesis_named hyps w) ≡ Ok x → step_of t hyps count w ≡ Ok x
-  unfolding step_of
-  step_ok hyps count w x plain label room h =
+  step_ok : (hyp : Option ℕ) (count : ℕ) (w : Word) (x : Step) → has_dollar w ≡ false → is_label w ≡ true → count < 16384
+      → step_named w (float_named (meaning t w)) hyp ≡ Ok x
+      → unless_faulty (first_fault (step_tests count w)) (step_named w (float_named (meaning t w)) hyp) ≡ Ok x
+  step_ok hyp count w x plain label room h =
       let tests = step_tests count w in
       let odd : (bytes_eq w (codes "?") || bytes_eq w (codes "(")) ≡ false = or_from (bytes_eq w (codes "?")) (bytes_eq w (codes "(")) (differ is_label w (codes "?") label refl) (differ is_label w (codes "(") label refl) in
       let pass : first_fault tests ≡ None =
@@ -250,7 +251,34 @@ module _ (t : Tables) (s : AreSound t) where
       (none_cond (has_dollar w) BadToken (first_fault (drop 2 tests)) plain
       (none_cond (not (is_label w)) BadToken (first_fault (drop 3 tests)) (ap not label)
       (none_cond (leb 16384 count) TooLong None (lt-leb 16384 count room) refl))) in
-      ap (λ o. unless_faulty o (step_named w (float_named (meaning t w)) (hypothesis_named hyps w))) pass ∙ h
+      ap (λ o. unless_faulty o (step_named w (float_named (meaning t w)) hyp)) pass ∙ h
+
+  -- what the word of a step finds among the hypotheses: its number, or nothing
+  abbrev pub Finds : Step → Option ℕ → Type 0
+  Finds (FloatStep j) hyp = Unit {0}
+  Finds (Hyp m) hyp = hyp ≡ Some m
+  Finds (Cite w) hyp = hyp ≡ None
+
+  module _ (label : Word) (some : label ≢ []) (is_l : is_label label ≡ true) (count : ℕ) (few : count ≤ 1000) where
+    -- the word of a step is read as the step, however hypotheses are found
+    pub named_again : (n : ℕ) (x : Step) (hyp : Option ℕ) → n < 16384 → IsNameable t count x → Finds x hyp
+        → let w = step_word t label x in unless_faulty (first_fault (step_tests n w)) (step_named w (float_named (meaning t w)) hyp) ≡ Ok x
+    named_again n (FloatStep j) hyp room lt finds =
+        let w = (float_at t.floats j).label in
+        let f = (float_sound j lt).label in
+        step_ok hyp n w (FloatStep j) (label_plain w f.label) f.label room (ap (λ o. step_named w (float_named o) hyp) (label_meaning j lt))
+    named_again n (Hyp m) hyp room lt finds =
+        let w = hypothesis_label label (suc m) in
+        let small : m < count = lt in
+        let is_l' = number_label label (suc m) is_l (omega arith) in
+        let none : meaning t w ≡ None = none_is (meaning t w) (number_not_named label (suc m) some is_l (omega arith) (omega arith)) in
+        step_ok hyp n w (Hyp m) (label_plain w is_l') is_l' room (ap (λ o. step_named w (float_named o) hyp) none ∙ ap (step_named w None) finds)
+    named_again n (Cite w) hyp room h finds =
+        let p = plain_label w (is_some (float_named (meaning t w))) h in
+        let none : float_named (meaning t w) ≡ None = none_is (float_named (meaning t w)) p.new in
+        step_ok hyp n w (Cite w) (label_plain w p.label) p.label room
+        (ap (λ o. step_named w o hyp) none ∙ ap (step_named w None) finds
+        ∙ cond-false (has_dot w || ltb 255 (length w)) (Err BadLabel) (Ok (Cite w)) (label_word w (is_some (float_named (meaning t w))) p).plain)
 
   module _ (label : Word) (some : label ≢ []) (is_l : is_label label ≡ true) (hyps : List Hypothesis) (count : ℕ) (few : count ≤ 1000) (dots : AllByRecursion (λ h. has_dot h.label ≡ true) hyps)
       (found : (n : ℕ) → n < count → hypothesis_named hyps (hypothesis_label label (suc n)) ≡ Some n) where
@@ -258,24 +286,15 @@ module _ (t : Tables) (s : AreSound t) where
     no_dots w [] h all = refl
     no_dots w (x ∷ hs) h all = or_from (bytes_eq w x.label) (list_any (λ h. bytes_eq w h.label) hs) (differ (λ v. not (has_dot v)) w x.label (ap not h) (ap not all.0)) (no_dots w hs h all.1)
 
+    finds_here : (x : Step) → IsNameable t count x → Finds x (hypothesis_named hyps (step_word t label x))
+    finds_here (FloatStep j) lt = tt
+    finds_here (Hyp m) lt = found m lt
+    finds_here (Cite w) h =
+        place_of-absent (λ h. bytes_eq w h.label) hyps (no_dots w hyps (plain_label w (is_some (float_named (meaning t w))) h).dots dots)
+
     step_again : (n : ℕ) (x : Step) → n < 16384 → IsNameable t count x → step_of t hyps n (step_word t label x) ≡ Ok x
-    step_again n (FloatStep j) room lt =
-        let w = (float_at t.floats j).label in
-        let f = (float_sound j lt).label in
-        step_ok hyps n w (FloatStep j) (label_plain w f.label) f.label room (ap (λ o. step_named w (float_named o) (hypothesis_named hyps w)) (label_meaning j lt))
-    step_again n (Hyp m) room lt =
-        let w = hypothesis_label label (suc m) in
-        let small : m < count = lt in
-        let is_l' = number_label label (suc m) is_l (omega arith) in
-        let none : meaning t w ≡ None = none_is (meaning t w) (number_not_named label (suc m) some is_l (omega arith) (omega arith)) in
-        step_ok hyps n w (Hyp m) (label_plain w is_l') is_l' room (ap (λ o. step_named w (float_named o) (hypothesis_named hyps w)) none ∙ ap (step_named w None) (found m lt))
-    step_again n (Cite w) room h =
-        let p = plain_label w (is_some (float_named (meaning t w))) h in
-        let none : float_named (meaning t w) ≡ None = none_is (float_named (meaning t w)) p.new in
-        let absent : hypothesis_named hyps w ≡ None = place_of-absent (λ h. bytes_eq w h.label) hyps (no_dots w hyps p.dots dots) in
-        step_ok hyps n w (Cite w) (label_plain w p.label) p.label room
-        (ap (λ o. step_named w o (hypothesis_named hyps w)) none ∙ ap (step_named w None) absent
-        ∙ cond-false (has_dot w || ltb 255 (length w)) (Err BadLabel) (Ok (Cite w)) (label_word w (is_some (float_named (meaning t w))) p).plain)
+    unfolding step_of
+    step_again n x room h = named_again label some is_l count few n x (hypothesis_named hyps (step_word t label x)) room h (finds_here x h)
 
     pub steps_again : (front rest : List Step) → AllByRecursion (IsNameable t count) rest → length (front ++ rest) ≤ 16384 → StepsAfter t hyps front (map (step_word t label) rest) (front ++ rest)
     steps_again front [] h fit = sym (append-nil front)

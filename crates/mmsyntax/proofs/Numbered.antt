@@ -75,8 +75,11 @@ label_append (x ∷ a) b h g =
     let both = and_parts (is_label_byte x) (is_label a) h in
     and_from (is_label_byte x) (is_label (a ++ b)) both.0 (label_append a b both.1 g)
 
+pub decimal_label : (n : ℕ) → n < 2 ^ 64 → is_label (decimal n) ≡ true
+decimal_label n small = digits_label (decimal n) (decimal_digits n small)
+
 pub number_label : (label : Word) (n : ℕ) → is_label label ≡ true → n < 2 ^ 64 → is_label (hypothesis_label label n) ≡ true
-number_label label n h small = label_append label (46 ∷ decimal n) h (digits_label (decimal n) (decimal_digits n small))
+number_label label n h small = label_append label (46 ∷ decimal n) h (decimal_label n small)
 
 pub number_dot : (label : Word) (ds : List ℕ) → has_dot (label ++ 46 ∷ ds) ≡ true
 number_dot [] ds = refl

@@ -29,7 +29,8 @@ use Rattle.mmsyntax.proofs.Sound.{IsSymbolWord, IsFloatSound, AreSound}
 use Rattle.mmsyntax.proofs.Numbered.{differ, number_label, number_word}
 use Rattle.mmsyntax.proofs.Again.{IsPlainLabel, plain_label, label_word, plain_at, symbol_is_word, float_sound}
 
-keyword : (b : ℕ) → is_white b ≡ false → is_lawful b ≡ true → bytes_eq (36 ∷ b ∷ []) (codes "$(") ≡ false → IsWritten (36 ∷ b ∷ [])
+-- a $ before a byte that opens no comment
+pub keyword : (b : ℕ) → is_white b ≡ false → is_lawful b ≡ true → bytes_eq (36 ∷ b ∷ []) (codes "$(") ≡ false → IsWritten (36 ∷ b ∷ [])
 keyword b white lawful other = (((λ x. absurd cc), ((refl, refl), ((white, lawful), tt))), other)
 
 end_word : IsWritten (codes "$.")
@@ -38,7 +39,7 @@ end_word = keyword 46 refl refl refl
 symbol_written : (w : Word) → IsSymbolWord w → IsWritten w
 symbol_written w h = (h.word, differ (λ v. not (has_dollar v)) w (codes "$(") (ap not h.no_dollar) refl)
 
-label_written : (w : Word) → IsWord w → is_label w ≡ true → IsWritten w
+pub label_written : (w : Word) → IsWord w → is_label w ≡ true → IsWritten w
 label_written w h label = (h, differ is_label w (codes "$(") label refl)
 
 all_flat : {A : Type 0} (f : A → List Word) (xs : List A) → AllByRecursion (λ x. AllByRecursion IsWritten (f x)) xs → AllByRecursion IsWritten (flat_map f xs)
@@ -105,7 +106,7 @@ module _ (t : Tables) (s : AreSound t) where
       let w = hypothesis_label label (suc n) in
       ((label_written w (number_word label (suc n) is_l small) (number_label label (suc n) is_l small), (keyword 101 refl refl refl, ended (map (symbol_word t) e) (expression_written e h.0))), hypotheses_written label is_l (suc n) es (omega arith) h.1)
 
-  step_written : (label : Word) → is_label label ≡ true → (count : ℕ) → count ≤ 1000 → (x : Step) → IsNameable t count x → IsWritten (step_word t label x)
+  pub step_written : (label : Word) → is_label label ≡ true → (count : ℕ) → count ≤ 1000 → (x : Step) → IsNameable t count x → IsWritten (step_word t label x)
   step_written label is_l count few (FloatStep j) lt = let f = (float_sound t s j lt).label in label_written _ f.word f.label
   step_written label is_l count few (Hyp n) lt =
       let within : n < count = lt in

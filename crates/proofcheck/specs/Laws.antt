@@ -1,7 +1,7 @@
 -- Laws of proofs: a listing has one tree, a proof one fault, and a change of labels keeps what is derived.
 use Rattle.std.specs.Prelude.{◌≡◌, ◌≢◌, ℕ, All, List, ◌⊎◌, Some, Contains, Result, map, nat_eq, if◌then◌else◌}
 use Rattle.std.specs.Cmp.Lexicographic.{pointwise}
-use Rattle.mmsyntax.specs.Tables.{Tables}
+use Rattle.mmsyntax.specs.Tables.{Tables, Contents}
 use Rattle.mmsyntax.specs.declared.statement.Frame.{Frame}
 use Rattle.mmsyntax.specs.declared.statement.Assertion.{Assertion}
 use Rattle.mmsyntax.specs.declared.statement.Step.{Step}
@@ -10,7 +10,7 @@ use Rattle.mmstatement.specs.Frames.{frame}
 use Rattle.proofcheck.specs.declared.fault.ProofFault.{ProofFault}
 use Rattle.proofcheck.specs.Derivation.{Expression, Citable, Tree, Trees, float, hyp, node, none, some, Derives, listing, Proves}
 use Rattle.proofcheck.specs.Faults.{HasFault}
-use Rattle.proofcheck.specs.Databases.{frame_in}
+use Rattle.proofcheck.specs.Databases.{frame_in, AllCheck, IsFirstFault}
 use Rattle.proofcheck.specs.Outcomes.{IsOutcome, outcome}
 
 -- a proof has at most one fault, and none where its steps list a tree that derives the statement
@@ -21,6 +21,14 @@ FaultIsOne =
 abbrev pub FaultExcludesProof : Type 0
 FaultExcludesProof =
     (lib : Citable) (p : Tables) (a : Assertion) (f : ProofFault) → HasFault lib p a f → Proves lib p a a.proof a.statement → ⊥
+
+-- a database has at most one first fault, and none where each of its proofs checks
+abbrev pub FirstFaultIsOne : Type 0
+FirstFaultIsOne =
+    (db : Contents) (i j : ℕ) (f g : ProofFault) → IsFirstFault db i f → IsFirstFault db j g → (i ≡ j) × (f ≡ g)
+
+abbrev pub FirstFaultExcludesCheck : Type 0
+FirstFaultExcludesCheck = (db : Contents) (i : ℕ) (f : ProofFault) → IsFirstFault db i f → AllCheck db → ⊥
 
 -- steps list at most one tree
 abbrev pub TreeIsOne : Type 0

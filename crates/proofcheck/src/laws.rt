@@ -1,12 +1,19 @@
 //! Laws of proofs and their trees: functions without a body, whose contracts are the laws.
 
 ghost use Rattle.proofcheck.specs.Laws.{AlikeStandsFor, FaultExcludesProof, FaultIsOne, RelabelledDerives, RelabelledProves};
+ghost use Rattle.proofcheck.specs.Laws.{FirstFaultExcludesCheck, FirstFaultIsOne};
 ghost use Rattle.proofcheck.specs.Laws.{OutcomeByCited, OutcomeIsGrown, OutcomeIsOne, RenamedProves, ReplacedDerives, TreeIsOne};
 
 /// A proof has at most one fault, and none where its steps are the listing of a tree that derives the statement.
 pub fn faults()
     ensures one { FaultIsOne }
     ensures excludes { FaultExcludesProof }
+{}
+
+/// A database has at most one first fault, and none where each of its proofs checks.
+pub fn first_faults()
+    ensures one { FirstFaultIsOne }
+    ensures excludes { FirstFaultExcludesCheck }
 {}
 
 /// Steps are the listing of at most one tree that derives something, and it derives one expression.
