@@ -8,3 +8,4 @@ pub mod Shown
 pub mod ReportLines
 pub mod Fronts
 pub mod LabelText
+pub mod Accepted

@@ -1,5 +1,5 @@
 -- What a job prints, and which fault it has.
-use Rattle.std.specs.Prelude.{◌≡◌, ◌≢◌, ◌+◌, ◌⊎◌, ℕ, zero, suc, List, [], ◌∷◌, ◌++◌, Some, codes, length, map, slice_get}
+use Rattle.std.specs.Prelude.{◌≡◌, ◌≢◌, ◌≤◌, ◌+◌, ◌⊎◌, ℕ, zero, suc, List, [], ◌∷◌, ◌++◌, Some, codes, length, map, slice_get}
 use Rattle.std.specs.Prelude.{Result, Ok, Err}
 use Rattle.std.specs.Fmt.{decimal}
 use Rattle.mmsyntax.specs.declared.statement.Assertion.{Assertion}
@@ -102,11 +102,15 @@ pub record IsChecked (text : Bytes) (contents : Contents) : Type 0 where
   pub read : IsDatabase text contents
   pub checks : AllCheck contents
 
+-- `ok`, and the number of assertions
+abbrev pub ok_line : Contents → Bytes
+ok_line contents = codes "ok " ++ (decimal (length contents.assertions) ++ 10 ∷ [])
+
 -- the database is read as it is spelled, its proofs check, and what is printed is the number of its assertions
 pub record IsCheck (db : Bytes) (out : Bytes) : Type 0 where
   pub contents : Contents
   pub checked : IsChecked db contents
-  pub prints : out ≡ codes "ok " ++ (decimal (length contents.assertions) ++ 10 ∷ [])
+  pub prints : out ≡ ok_line contents
 
 -- the database is read as it is spelled, and its proofs check; the scripts are read as they are spelled; and what is printed is that of
 -- their run
@@ -188,6 +192,16 @@ IsOrLacksMemory f g = (g ≡ f) ⊎ (g ≡ NoMemory)
 abbrev pub RefusesWith : {A : Type 0} → Fault → Result A Fault → Type 0
 RefusesWith f (Ok done) = ⊥
 RefusesWith f (Err g) = IsOrLacksMemory f g
+
+-- `ok` is answered, unless memory ran out
+abbrev pub IsOkOf : Contents → Result Printed Fault → Type 0
+IsOkOf contents (Ok printed) = printed.out.items ≡ ok_line contents
+IsOkOf contents (Err f) = f ≡ NoMemory
+
+-- to a check of a text of at most 16,777,216 bytes that is accepted, as each export is
+abbrev pub AnswersOk : Job → Result Printed Fault → Type 0
+AnswersOk (Check db) answer = (a : Accepts db.items) → length db.items ≤ 16777216 → IsOkOf a.database answer
+AnswersOk _ answer = Unit {0}
 
 -- ---- as the functions see them
 

@@ -1,11 +1,14 @@
 -- What is true of every script that is spelled, of every fault of a job, and of every text that is accepted.
-use Rattle.std.specs.Prelude.{◌≡◌, ◌≤◌, ℕ, List, All, length}
+use Rattle.std.specs.Prelude.{◌≡◌, ◌≤◌, ℕ, List, All, Vec, length}
+use Rattle.std.specs.declared.alloc.Global.{Global}
 use Rattle.mmsyntax.specs.Tables.{Tables}
 use Rattle.mmsyntax.specs.Layout.{IsSoundPrelude}
 use Rattle.proofcheck.specs.declared.fault.ProofFault.{ProofFault}
 use Rattle.library.specs.Fitting.{CommandFits}
 use Rattle.commands.specs.Scripts.{SpellsScript}
 use Rattle.jobs.specs.declared.job.Job.{Job}
+use Rattle.jobs.specs.declared.job.Job.TheVariants.{Check}
+use Rattle.jobs.specs.declared.job.Fault.{Fault}
 use Rattle.jobs.specs.declared.job.Fault.TheVariants.{Proof}
 use Rattle.jobs.specs.FaultLines.{shown_label}
 use Rattle.export.specs.Exported.{Accepts}
@@ -23,3 +26,8 @@ FaultLabelsAreShown = (j : Job) (label : List ℕ) (fault : ProofFault) → IsFa
 -- an accepted text of at most 16,777,216 bytes is read, as the database that it spells, and each of its proofs checks: so is each export
 abbrev pub AcceptedTextsCheck : Type 0
 AcceptedTextsCheck = (text : Bytes) (a : Accepts text) → length text ≤ 16777216 → IsChecked text a.database
+
+-- and a check of it has no fault
+abbrev pub AcceptedTextsHaveNoFault : Type 0
+AcceptedTextsHaveNoFault =
+    (text : Vec ℕ Global) (f : Fault) → Accepts text.items → length text.items ≤ 16777216 → IsFaultOf (Check text) f → ⊥

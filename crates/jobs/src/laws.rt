@@ -1,6 +1,6 @@
 //! Laws of the definitions: each function does nothing, and its contract is the law.
 
-ghost use Rattle.jobs.specs.Laws.{SpelledScriptsFit, FaultLabelsAreShown, AcceptedTextsCheck};
+ghost use Rattle.jobs.specs.Laws.{SpelledScriptsFit, FaultLabelsAreShown, AcceptedTextsCheck, AcceptedTextsHaveNoFault};
 
 /// Over a prelude that some text declares, each command of a script that is spelled is within the limits of that prelude.
 pub fn spelled_scripts_fit()
@@ -13,7 +13,8 @@ pub fn fault_labels_are_shown()
 {}
 
 /// An accepted text of at most 16,777,216 bytes, as each export of a run or a replay of that length is, is the text of a database: it has no
-/// fault, and each of its proofs checks.
+/// fault, and each of its proofs checks. So a check of it has no fault.
 pub fn accepted_texts_check()
-    ensures { AcceptedTextsCheck }
+    ensures checked { AcceptedTextsCheck }
+    ensures faultless { AcceptedTextsHaveNoFault }
 {}
