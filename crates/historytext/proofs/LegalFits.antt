@@ -12,6 +12,15 @@ use Rattle.library.proofs.Agreeing.{legal_replies_fit}
 use Rattle.historytext.specs.Layout.{EntryFits}
 use Rattle.historytext.specs.Laws.{LegalHistoriesFit}
 
+-- an entry at its place, as the definitions see it
+pub told_there : (h : List CodeEntry) (i : ℕ) (d : CodeEntry) → i < length h
+    → (get_or (map told h) i (told d) ≡ told (get_or h i d)) × (slice_get (map told h) i ≡ Some (told (get_or h i d)))
+told_there h i d lt =
+    let same = length-map h told in
+    let within : i < length (map told h) = omega arith in
+    let is = get_or-map told h i d (told d) lt in
+    (is, slice_get-get_or (map told h) i (told d) within ∙ ap (λ x. Some x) is)
+
 module _ (s : Setting) (lib0 : List Ranked) (h : List CodeEntry) (v : Verifies s lib0) (fit : EntriesFit s.prelude (map told h))
     (legal : IsLegal s lib0 (map told h)) where
   entry_fits : (i : ℕ) (e : CodeEntry) → slice_get (map told h) i ≡ Some (told e) → CommandsFit s.prelude (told e) → EntryFits s.prelude e
@@ -20,10 +29,5 @@ module _ (s : Setting) (lib0 : List Ranked) (h : List CodeEntry) (v : Verifies s
 
 pub legal_histories_fit : LegalHistoriesFit
 legal_histories_fit s lib0 h v fit legal i d lt =
-    let e = get_or h i d in
-    let same = length-map h told in
-    let within : i < length (map told h) = omega arith in
-    let is : get_or (map told h) i (told d) ≡ told e = get_or-map told h i d (told d) lt in
-    let at : slice_get (map told h) i ≡ Some (told e) =
-    slice_get-get_or (map told h) i (told d) within ∙ ap (λ x. Some x) is in
-    entry_fits s lib0 h v fit legal i e at (subst (CommandsFit s.prelude) is (fit i (told d) within))
+    let at = told_there h i d lt in
+    entry_fits s lib0 h v fit legal i (get_or h i d) at.1 (subst (CommandsFit s.prelude) at.0 (fit i (told d) (omega (arith, length-map h told))))

@@ -7,3 +7,4 @@ pub mod HistoryWords
 pub mod HistoryParsed
 pub mod HistoryLaws
 pub mod LegalFits
+pub mod Spelled

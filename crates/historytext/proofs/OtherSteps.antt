@@ -1,12 +1,14 @@
--- The words of another proof are those of its steps.
-use Rattle.std.proofs.Common.{◌≡◌, ℕ, zero, suc, Bool, true, ltb, List, [], ◌∷◌, ◌++◌, length, map, Option, Some, None, Ok, refl, sym, ap, subst, ◌∙◌, inl, inr, append_assoc}
-use Rattle.std.specs.Prelude.{◌||◌, find}
-use Rattle.std.specs.List.{range_with_len}
+-- The words of another proof are those of its steps, which are read from them again.
+use Rattle.std.proofs.Common.{◌≡◌, ◌≢◌, ℕ, zero, suc, ◌<◌, ◌≤◌, Bool, true, false, ltb, List, [], ◌∷◌, ◌++◌, length, map, Option, Some, None, Ok}
+use Rattle.std.proofs.Common.{refl, sym, ap, subst, ◌∙◌, inl, inr, append_assoc, arith, length-append}
+use Rattle.std.specs.Prelude.{◌||◌, find, is_some}
+use Rattle.std.specs.Fmt.{decimal}
+use Rattle.std.specs.List.{range_with_len, AllByRecursion}
 use Rattle.std.specs.Str.{bytes_eq}
 use Rattle.std.proofs.lemmas.Bool.{cases_Bool, cond-true, cond-false}
 use Rattle.std.proofs.lemmas.List.{append-nil, map-append}
 use Rattle.mmtext.specs.declared.fault.FaultKind.TheVariants.{BadLabel}
-use Rattle.mmtext.specs.Words.{Word, has_dot}
+use Rattle.mmtext.specs.Words.{Word, has_dot, is_label}
 use Rattle.mmsyntax.specs.declared.statement.Step.{Step}
 use Rattle.mmsyntax.specs.declared.statement.Step.TheVariants.{Float, Hyp, Cite}
 use Rattle.mmsyntax.specs.declared.symbols.Name.{Name}
@@ -15,10 +17,15 @@ use Rattle.mmsyntax.specs.Tables.{Tables, meaning}
 use Rattle.mmsyntax.specs.Rows.{first_fault}
 use Rattle.mmsyntax.specs.Steps.{step_tests, float_named, step_named}
 use Rattle.mmsyntax.specs.Layout.{hypothesis_label, step_word, float_at}
+use Rattle.mmsyntax.specs.Assertions.{IsNameable}
+use Rattle.mmsyntax.specs.Preludes.{AreSound}
+use Rattle.mmsyntax.proofs.Again.{plain_label, Finds, named_again}
 use Rattle.mmsyntax.proofs.Names.{same_bytes}
+use Rattle.mmsyntax.proofs.Numbered.{number_dot}
 use Rattle.mmsyntax.proofs.Found.{label_at, no_fault}
 use Rattle.mmsyntax.proofs.Sound.{if_ok}
 use Rattle.commands.specs.Scripts.{hypothesis_numbered, counted_from_0, other_step_of, OtherSteps}
+use Rattle.commands.proofs.HypothesisNumbers.{numbered_some, numbered_none}
 
 -- what is found passes the test
 found_passes : (test : ℕ → Bool) (ns : List ℕ) (k : ℕ) → find test ns ≡ Some k → test k ≡ true
@@ -80,3 +87,34 @@ module _ (t : Tables) (label : Word) where
 
   pub other_words : (ws : List Word) (steps : List Step) → OtherSteps t label [] ws steps → ws ≡ map (step_word t label) steps
   other_words ws steps d = words_behind [] ws steps d
+
+-- ---- and its steps are those of their words
+
+module _ (t : Tables) (s : AreSound t) (label : Word) (some : label ≢ []) (is_l : is_label label ≡ true) where
+  -- a step finds its own hypothesis, if it has one
+  finds_numbered : (x : Step) → IsNameable t 1000 x → Finds x (counted_from_0 (hypothesis_numbered label (step_word t label x)))
+  finds_numbered (Float j) h = tt
+  finds_numbered (Hyp m) h =
+      let within : m < 1000 = h in
+      ap counted_from_0 (numbered_some label (hypothesis_label label (suc m)) (suc m) (omega arith) (omega arith) refl)
+  finds_numbered (Cite w) h =
+      let plain = (plain_label w (is_some (float_named (meaning t w))) h).dots in
+      ap counted_from_0 (numbered_none label w (λ j low high e.
+      let e : true ≡ false = sym (number_dot label (decimal j)) ∙ ap has_dot (sym e) ∙ plain in cc))
+
+  other_again : (count : ℕ) (x : Step) → count < 16384 → IsNameable t 1000 x → other_step_of t label count (step_word t label x) ≡ Ok x
+  unfolding other_step_of
+  other_again count x room h =
+      named_again t s label some is_l 1000 (omega arith) count x (counted_from_0 (hypothesis_numbered label (step_word t label x))) room h
+      (finds_numbered x h)
+
+  pub others_again : (front rest : List Step) → AllByRecursion (IsNameable t 1000) rest → length (front ++ rest) ≤ 16384
+      → OtherSteps t label front (map (step_word t label) rest) (front ++ rest)
+  others_again front [] h few = sym (append-nil front)
+  others_again front (x ∷ rest) h few =
+      let more : (front ++ x ∷ []) ++ rest ≡ front ++ x ∷ rest = append_assoc front (x ∷ []) rest in (
+        x,
+        other_again (length front) x (omega (arith, length-append front (x ∷ rest))) h.0,
+        subst (OtherSteps t label (front ++ x ∷ []) (map (step_word t label) rest)) more
+            (others_again (front ++ x ∷ []) rest h.1 (subst (λ (ys : List Step). length ys ≤ 16384) (sym more) few)),
+      )

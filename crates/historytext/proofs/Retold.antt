@@ -1,6 +1,6 @@
 -- What words of a text spell is spelled by the words of its canonical lines: commands, replies, entries, histories.
 use Rattle.std.proofs.Common.{◌≡◌, ◌≢◌, ℕ, false, true, List, [], ◌∷◌, ◌++◌, length, map, refl, sym, ap, subst, ◌∙◌, arith}
-use Rattle.std.specs.Prelude.{codes}
+use Rattle.std.specs.Prelude.{codes, IsTrue}
 use Rattle.std.specs.Fmt.{decimal}
 use Rattle.std.specs.List.{flat_map, AllByRecursion}
 use Rattle.std.proofs.lemmas.List.Concat.{flat_map-cons}
@@ -10,6 +10,7 @@ use Rattle.mmsyntax.specs.declared.statement.Assertion.{Assertion}
 use Rattle.mmsyntax.specs.Tables.{Tables}
 use Rattle.mmsyntax.specs.Grammar.{Statement, spelling}
 use Rattle.mmsyntax.specs.Layout.{line, step_word, unit_statement, statement_text, assertion_text, IsSoundPrelude, HasUnitSpelling}
+use Rattle.mmsyntax.specs.Assertions.{IsUnit, is_lawful_label}
 use Rattle.mmsyntax.proofs.Distinct.{all_left, all_right}
 use Rattle.mmsyntax.proofs.Lines.{IsWritten, written_words, statement_words, clean_statement, clean_lawful, said, no_comment}
 use Rattle.mmsyntax.proofs.Canonical.{sound_tables, spelled_unit}
@@ -52,10 +53,24 @@ each_retold spells text again (x ∷ xs) ws h s =
 
 -- ---- assertions
 
--- the canonical lines of an assertion that some statement declares alone
-record UnitRetold (t : Tables) (a : Assertion) : Type 0 where
-  declares : DeclaresAlone t (unit_statement t a) a
-  told : Told (assertion_text t a) (spelling (unit_statement t a))
+-- the canonical lines of an assertion that a statement declares alone
+pub record UnitRetold (t : Tables) (a : Assertion) : Type 0 where
+  pub declares : DeclaresAlone t (unit_statement t a) a
+  pub told : Told (assertion_text t a) (spelling (unit_statement t a))
+
+-- its canonical statement declares a unit with a lawful label alone
+pub unit_alone : (t : Tables) (a : Assertion) → IsSoundPrelude t → IsUnit t a → IsTrue (is_lawful_label t a.label) → UnitRetold t a
+unit_alone t a sound unit lawful =
+    let tables = sound_tables t sound in
+    let again = unit_declares t tables true [] [] a unit lawful tt refl (omega arith) tt in
+    record {
+      declares = (
+        record { tables = t; units = record { assertions = a ∷ []; hypothesis_labels = again.behind; prelude_closed = true } },
+        again.declares,
+        refl,
+      );
+      told = told_statement (unit_statement t a) (unit_written t tables a unit lawful);
+    }
 
 unit_retold : (t : Tables) (unit : Statement) (a : Assertion) → IsSoundPrelude t → AllByRecursion IsWritten (spelling unit)
     → DeclaresAlone t unit a → UnitRetold t a
@@ -72,16 +87,7 @@ unit_retold t unit a sound h d =
       };
     } in
     let is_unit = spelled_unit t a sound has in
-    let tables = sound_tables t sound in
-    let again = unit_declares t tables true [] [] a is_unit.0 is_unit.1 tt refl (omega arith) tt in
-    record {
-      declares = (
-        record { tables = t; units = record { assertions = a ∷ []; hypothesis_labels = again.behind; prelude_closed = true } },
-        again.declares,
-        refl,
-      );
-      told = told_statement (unit_statement t a) (unit_written t tables a is_unit.0 is_unit.1);
-    }
+    unit_alone t a sound is_unit.0 is_unit.1
 
 -- ---- lines of replies
 

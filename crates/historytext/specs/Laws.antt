@@ -1,10 +1,10 @@
 -- What is true of every history and of its canonical text.
-use Rattle.std.specs.Prelude.{ℕ, List, All, map}
+use Rattle.std.specs.Prelude.{◌≤◌, ℕ, List, All, length, map}
 use Rattle.mmtext.specs.Laws.{IsGrammarOf, SpellsOne, HasOneFault, SpellsWithoutFault, FailsByLength, SpellsOrFails}
 use Rattle.mmsyntax.specs.Tables.{Tables}
 use Rattle.mmsyntax.specs.Layout.{IsSoundPrelude}
 use Rattle.library.specs.declared.history.Entry.{Entry}
-use Rattle.historytext.specs.Grammar.{SpellsHistory}
+use Rattle.historytext.specs.Grammar.{highest_count, SpellsHistory}
 use Rattle.library.specs.declared.library.Ranked.{Ranked}
 use Rattle.library.specs.Library.{Setting, Verifies}
 use Rattle.library.specs.Histories.{told, EntriesFit, IsLegal}
@@ -21,6 +21,13 @@ abbrev pub LegalHistoriesFit : Type 0
 LegalHistoriesFit =
     (s : Setting) (lib0 : List Ranked) (history : List Entry) → Verifies s lib0 → EntriesFit s.prelude (map told history)
     → IsLegal s lib0 (map told history) → All (EntryFits s.prelude) history
+
+-- and it is spelled by its canonical text, where it has at most 18,446,744,073,709,551,615 entries
+abbrev pub LegalHistoriesAreSpelled : Type 0
+LegalHistoriesAreSpelled =
+    (s : Setting) (lib0 : List Ranked) (history : List Entry) → Verifies s lib0 → EntriesFit s.prelude (map told history)
+    → IsLegal s lib0 (map told history) → length history ≤ highest_count
+    → SpellsHistory s.prelude (history_text s.prelude history) history
 
 -- a text spells at most one history
 abbrev pub HistoryIsOne : Type 0

@@ -11,7 +11,9 @@ mod reply_rows;
 mod transactions;
 mod writing;
 
-pub use laws::{legal_histories_fit, one_history_or_fault, texts_spell};
+pub use laws::{
+    legal_histories_are_spelled, legal_histories_fit, one_history_or_fault, texts_spell,
+};
 pub use reading::read_history;
 pub use replies::put_reply;
 pub use transactions::put_transaction;

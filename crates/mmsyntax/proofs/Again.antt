@@ -97,6 +97,12 @@ plain_label w is_named h =
 pub label_word : (w : Word) (is_named : Bool) → IsPlainLabel w is_named → IsLabelWord w
 label_word w is_named p = record { label = p.label; plain = or_from (has_dot w) (ltb 255 (length w)) p.dots (le-ltb 255 (length w) p.short); word = (p.some, label_bytes w p.label) }
 
+-- what the word of a step finds among the hypotheses: its number, or nothing
+abbrev pub Finds : Step → Option ℕ → Type 0
+Finds (FloatStep j) hyp = Unit {0}
+Finds (Hyp m) hyp = hyp ≡ Some m
+Finds (Cite w) hyp = hyp ≡ None
+
 -- ---- the names of sound tables
 
 module _ (t : Tables) (s : AreSound t) where
@@ -252,12 +258,6 @@ module _ (t : Tables) (s : AreSound t) where
       (none_cond (not (is_label w)) BadToken (first_fault (drop 3 tests)) (ap not label)
       (none_cond (leb 16384 count) TooLong None (lt-leb 16384 count room) refl))) in
       ap (λ o. unless_faulty o (step_named w (float_named (meaning t w)) hyp)) pass ∙ h
-
-  -- what the word of a step finds among the hypotheses: its number, or nothing
-  abbrev pub Finds : Step → Option ℕ → Type 0
-  Finds (FloatStep j) hyp = Unit {0}
-  Finds (Hyp m) hyp = hyp ≡ Some m
-  Finds (Cite w) hyp = hyp ≡ None
 
   module _ (label : Word) (some : label ≢ []) (is_l : is_label label ≡ true) (count : ℕ) (few : count ≤ 1000) where
     -- the word of a step is read as the step, however hypotheses are found
