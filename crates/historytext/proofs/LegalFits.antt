@@ -1,7 +1,9 @@
--- The entries of a legal history can be written.
+-- The entries of a legal history can be written, and what can be written is within the limits.
 use Rattle.std.proofs.Common.{◌≡◌, ◌∙◌, ℕ, ◌<◌, List, Some, length, map, get_or, ap, subst, arith}
-use Rattle.std.specs.Prelude.{slice_get}
+use Rattle.std.specs.Prelude.{All, slice_get}
 use Rattle.std.proofs.lemmas.List.{length-map, get_or-map}
+use Rattle.std.proofs.lemmas.List.Elements.{All-map, All-weaker}
+use Rattle.mmsyntax.specs.Tables.{Tables}
 use Rattle.std.proofs.lemmas.Option.{slice_get-get_or}
 use Rattle.library.specs.declared.library.Ranked.{Ranked}
 use Rattle.library.specs.declared.history.Entry.{Entry as CodeEntry}
@@ -11,6 +13,14 @@ use Rattle.library.specs.Histories.{told, EntryFits as CommandsFit, EntriesFit, 
 use Rattle.library.proofs.Agreeing.{legal_replies_fit}
 use Rattle.historytext.specs.Layout.{EntryFits}
 use Rattle.historytext.specs.Laws.{LegalHistoriesFit}
+
+-- the commands of an entry that can be written are within the limits
+told_fits : (t : Tables) (e : CodeEntry) → EntryFits t e → CommandsFit t (told e)
+told_fits t Void h = tt
+told_fits t (Done commands replies) h = h.0
+
+pub entries_fit : (t : Tables) (es : List CodeEntry) → All (EntryFits t) es → EntriesFit t (map told es)
+entries_fit t es h = All-map (CommandsFit t) told es (All-weaker (EntryFits t) (λ e. CommandsFit t (told e)) (told_fits t) es h)
 
 -- an entry at its place, as the definitions see it
 pub told_there : (h : List CodeEntry) (i : ℕ) (d : CodeEntry) → i < length h

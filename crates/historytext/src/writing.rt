@@ -79,7 +79,7 @@ fn put_entries(
 /// The canonical text of a history over a prelude.
 ///
 /// It spells the history wherever some text does: where each step of another proof names a `$f` that there is, an assertion, or one of
-/// the first 1,000 hypotheses, and every label may stand in a text.
+/// the first 1,000 hypotheses, and every label may stand in a text. So it does for a legal history (`legal_histories_are_spelled`).
 pub fn write_history(
     alloc: Global,
     prelude: &Prelude,

@@ -1,26 +1,18 @@
 -- The library after each front of a run's history verifies.
 use Rattle.std.proofs.Common.{◌≤◌, ℕ, List, length, map, arith}
 use Rattle.std.specs.Prelude.{All}
-use Rattle.std.proofs.lemmas.List.Elements.{All-map, All-weaker}
-use Rattle.mmsyntax.specs.Tables.{Tables, Contents}
+use Rattle.mmsyntax.specs.Tables.{Contents}
 use Rattle.mmsyntax.specs.Layout.{HasSpelling}
 use Rattle.mmsyntax.proofs.Declarable.{declarable}
 use Rattle.proofcheck.specs.Databases.{AllCheck}
 use Rattle.library.specs.Library.{Verifies, opening}
 use Rattle.library.proofs.Opening.{opening_verifies}
 use Rattle.library.specs.declared.history.Entry.{Entry}
-use Rattle.library.specs.declared.history.Entry.TheVariants.{Void, Done}
-use Rattle.library.specs.Histories.{told, after, EntriesFit, EntryFits as ToldFits}
+use Rattle.library.specs.Histories.{told, after}
 use Rattle.library.proofs.Fronts.{fronts_verify}
 use Rattle.historytext.specs.Layout.{EntryFits}
+use Rattle.historytext.proofs.LegalFits.{entries_fit}
 use Rattle.jobs.specs.Outcomes.{setting_of}
-
-told_fits : (t : Tables) (e : Entry) → EntryFits t e → ToldFits t (told e)
-told_fits t Void h = tt
-told_fits t (Done commands replies) h = h.0
-
-entries_fit : (t : Tables) (es : List Entry) → All (EntryFits t) es → EntriesFit t (map told es)
-entries_fit t es h = All-map (ToldFits t) told es (All-weaker (EntryFits t) (λ e. ToldFits t (told e)) (told_fits t) es h)
 
 -- of entries that can be written, over a database whose proofs check
 pub fronts_of : (db : Contents) (es : List Entry) → HasSpelling db → AllCheck db → All (EntryFits db.prelude) es

@@ -1,5 +1,5 @@
 -- The history of a run is legal from the opening, and the library of the run is the one after it.
-use Rattle.std.proofs.Common.{◌≡◌, ◌∙◌, Bool, true, false, List, [], ◌∷◌, ◌++◌, Result, Ok, Err, map, refl, sym, ap, subst}
+use Rattle.std.proofs.Common.{◌≡◌, ◌∙◌, ◌≤◌, length, Bool, true, false, List, [], ◌∷◌, ◌++◌, Result, Ok, Err, map, refl, sym, ap, subst}
 use Rattle.std.specs.Prelude.{All, if◌then◌else◌}
 use Rattle.std.proofs.lemmas.List.{map-append}
 use Rattle.std.proofs.lemmas.List.Elements.{All-nil, All-push, All-head, All-tail}
@@ -16,7 +16,10 @@ use Rattle.library.specs.declared.history.Entry.TheVariants.{Done}
 use Rattle.history.specs.Editors.{Held}
 use Rattle.library.specs.Histories.{told, after_all, IsLegal}
 use Rattle.library.proofs.Legal.{after_all-more, legal_more}
-use Rattle.historytext.specs.Layout.{EntryFits}
+use Rattle.historytext.specs.Grammar.{highest_count, SpellsHistory}
+use Rattle.historytext.specs.Layout.{EntryFits, history_text}
+use Rattle.historytext.proofs.LegalFits.{entries_fit}
+use Rattle.historytext.proofs.Spelled.{legal_histories_are_spelled}
 use Rattle.jobs.specs.Outcomes.{Standing, setting_of, standing, at_opening, entries_after, moved, standing_after, after_turns, after_script, after_scripts}
 use Rattle.library.proofs.Fitting.{replies_fit}
 use Rattle.library.proofs.Leaving.{apply_leaves}
@@ -96,6 +99,11 @@ module _ (s : Setting) (lib0 : List Ranked) where
   pub run_kept : (now : Standing) (scripts : List (List (List Command))) → IsKept s lib0 now
       → All (All (All (CommandFits s.prelude))) scripts → IsKept s lib0 (after_scripts s now scripts)
   run_kept = turns_kept (after_script s) (All (All (CommandFits s.prelude))) script_kept
+
+  -- its history is spelled, where a text can count its entries
+  pub kept_spelled : (now : Standing) → IsKept s lib0 now → Verifies s lib0 → length now.entries ≤ highest_count
+      → SpellsHistory s.prelude (history_text s.prelude now.entries) now.entries
+  kept_spelled now k v few = legal_histories_are_spelled s lib0 now.entries v (entries_fit s.prelude now.entries k.fit) k.legal few
 
 -- where the editor of a database is left by a run
 pub edited_kept : (db : Contents) (e : Held) (none : List Entry) (end : Standing) (scripts : List (List (List Command)))

@@ -9,3 +9,4 @@ pub mod ReportLines
 pub mod Fronts
 pub mod LabelText
 pub mod Accepted
+pub mod Own

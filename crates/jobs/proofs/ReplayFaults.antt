@@ -9,10 +9,8 @@ use Rattle.mmtext.specs.Languages.{too_long}
 use Rattle.mmsyntax.specs.Tables.{Tables, Contents}
 use Rattle.library.specs.Library.{opening}
 use Rattle.library.specs.declared.history.Entry.{Entry}
-use Rattle.library.specs.declared.history.Entry.TheVariants.{Void, Done}
-use Rattle.library.specs.Histories.{told, IsLegal, EntryFits as CommandsFit}
+use Rattle.library.specs.Histories.{told, IsLegal}
 use Rattle.history.proofs.Differing.{no_first_differing, one_first_differing}
-use Rattle.historytext.specs.Layout.{EntryFits}
 use Rattle.historytext.specs.Places.{FaultyHistory}
 use Rattle.jobs.specs.declared.job.Fault.{Fault}
 use Rattle.jobs.specs.declared.job.Fault.TheVariants.{Text, Proof, Differs, NoMemory}
@@ -42,11 +40,6 @@ history_faulted p text g (Text (suc zero) q) is faulty ne = (
 )
 
 -- ---- its entries
-
--- what can be written can be done
-pub commands_fit : (t : Tables) (e : Entry) → EntryFits t e → CommandsFit t (told e)
-commands_fit t Void h = tt
-commands_fit t (Done commands replies) h = h.0
 
 -- the first that differs is the only one
 pub one_difference : (contents : Contents) (history : List Entry) (n : ℕ) (f : Fault) → IsDifference contents history (Differs n)

@@ -53,8 +53,8 @@ abbrev pub left_by : Contents → List Orders → Standing
 left_by contents scripts = after_scripts (setting_of contents) (at_opening contents) scripts
 
 -- the report of what becomes of all transactions, and the library after them, whose text is accepted; and the text of the history, which
--- is of exactly those that were committed. Its replies are the editor's, and the library is the one after it; after each front of it, too,
--- the library verifies
+-- is of exactly those that were committed, and spells it. Its replies are the editor's, and the library is the one after it; after each
+-- front of it, too, the library verifies
 pub record PrintsRun (contents : Contents) (scripts : List Orders) (out history : Bytes) : Type 0 where
   pub library : Listed
   pub setting : library.setting ≡ setting_of contents
@@ -62,9 +62,14 @@ pub record PrintsRun (contents : Contents) (scripts : List Orders) (out history 
   pub prints : out ≡ report_text contents.prelude (outcomes_of contents scripts) ++ library_lines library
   pub accepted : Accepts (exported_text library)
   pub kept : history ≡ history_text contents.prelude (left_by contents scripts).entries
+  pub spelled : SpellsHistory contents.prelude history (left_by contents scripts).entries
   pub legal : IsLegal (setting_of contents) (opening contents) (map told (left_by contents scripts).entries)
   pub follows : ShowsInOrder (after_all (setting_of contents) (opening contents) (map told (left_by contents scripts).entries)) library.entries
   pub fronts : (k : ℕ) → Verifies (setting_of contents) (after (setting_of contents) (opening contents) (map told (left_by contents scripts).entries) k)
+
+-- `replayed`, a number of entries, and a library
+abbrev pub replayed_lines : ℕ → Listed → Bytes
+replayed_lines count library = codes "replayed " ++ (decimal count ++ 10 ∷ library_lines library)
 
 -- `replayed`, the number of entries, and the library after them, whose text is accepted: the history is legal
 pub record PrintsReplay (contents : Contents) (history : List Entry) (out : Bytes) : Type 0 where
@@ -72,7 +77,7 @@ pub record PrintsReplay (contents : Contents) (history : List Entry) (out : Byte
   pub setting : library.setting ≡ setting_of contents
   pub legal : IsLegal (setting_of contents) (opening contents) (map told history)
   pub shows : ShowsInOrder (after_all (setting_of contents) (opening contents) (map told history)) library.entries
-  pub prints : out ≡ codes "replayed " ++ (decimal (length history) ++ 10 ∷ library_lines library)
+  pub prints : out ≡ replayed_lines (length history) library
   pub accepted : Accepts (exported_text library)
 
 -- the text of a database: it spells these contents, and has no fault
@@ -193,15 +198,22 @@ abbrev pub RefusesWith : {A : Type 0} → Fault → Result A Fault → Type 0
 RefusesWith f (Ok done) = ⊥
 RefusesWith f (Err g) = IsOrLacksMemory f g
 
--- `ok` is answered, unless memory ran out
-abbrev pub IsOkOf : Contents → Result Printed Fault → Type 0
-IsOkOf contents (Ok printed) = printed.out.items ≡ ok_line contents
-IsOkOf contents (Err f) = f ≡ NoMemory
+-- ---- what the program answers to its own texts
 
--- to a check of a text of at most 16,777,216 bytes that is accepted, as each export is
-abbrev pub AnswersOk : Job → Result Printed Fault → Type 0
-AnswersOk (Check db) answer = (a : Accepts db.items) → length db.items ≤ 16777216 → IsOkOf a.database answer
-AnswersOk _ answer = Unit {0}
+-- this is printed, unless memory ran out
+abbrev pub PrintsOrLacksMemory : Bytes → Result Printed Fault → Type 0
+PrintsOrLacksMemory out (Ok printed) = printed.out.items ≡ out
+PrintsOrLacksMemory out (Err f) = f ≡ NoMemory
+
+-- to a check of a text that is accepted, as each export is: `ok`; to a replay of the history that a run over the same database gave: the
+-- library of that run. Each has at most 16,777,216 bytes
+abbrev pub AnswersItsOwn : Job → Result Printed Fault → Type 0
+AnswersItsOwn (Check db) answer =
+    (a : Accepts db.items) → length db.items ≤ 16777216 → PrintsOrLacksMemory (ok_line a.database) answer
+AnswersItsOwn (Run db texts) answer = Unit {0}
+AnswersItsOwn (Replay db history) answer =
+    (texts : List Bytes) (out : Bytes) (run : IsRun db.items texts out history.items) → length history.items ≤ 16777216
+    → PrintsOrLacksMemory (replayed_lines (length (left_by run.contents run.scripts).entries) run.printed.library) answer
 
 -- ---- as the functions see them
 

@@ -7,12 +7,12 @@ use Rattle.proofcheck.specs.declared.fault.ProofFault.{ProofFault}
 use Rattle.library.specs.Fitting.{CommandFits}
 use Rattle.commands.specs.Scripts.{SpellsScript}
 use Rattle.jobs.specs.declared.job.Job.{Job}
-use Rattle.jobs.specs.declared.job.Job.TheVariants.{Check}
+use Rattle.jobs.specs.declared.job.Job.TheVariants.{Check, Replay}
 use Rattle.jobs.specs.declared.job.Fault.{Fault}
 use Rattle.jobs.specs.declared.job.Fault.TheVariants.{Proof}
 use Rattle.jobs.specs.FaultLines.{shown_label}
 use Rattle.export.specs.Exported.{Accepts}
-use Rattle.jobs.specs.Jobs.{Bytes, Orders, IsChecked, IsFaultOf}
+use Rattle.jobs.specs.Jobs.{Bytes, Orders, IsChecked, IsRun, IsFaultOf}
 
 -- over a prelude that some text declares, each command of a script that is spelled is within the limits
 abbrev pub SpelledScriptsFit : Type 0
@@ -31,3 +31,9 @@ AcceptedTextsCheck = (text : Bytes) (a : Accepts text) → length text ≤ 16777
 abbrev pub AcceptedTextsHaveNoFault : Type 0
 AcceptedTextsHaveNoFault =
     (text : Vec ℕ Global) (f : Fault) → Accepts text.items → length text.items ≤ 16777216 → IsFaultOf (Check text) f → ⊥
+
+-- nor has a replay of the history that a run gave, over the same database, where its text has at most 16,777,216 bytes
+abbrev pub RunsHaveNoFaultAgain : Type 0
+RunsHaveNoFaultAgain =
+    (db history : Vec ℕ Global) (texts : List Bytes) (out : Bytes) (f : Fault) → IsRun db.items texts out history.items
+    → length history.items ≤ 16777216 → IsFaultOf (Replay db history) f → ⊥

@@ -5,7 +5,8 @@ ghost use Rattle.proofcheck.specs.Databases.{AllCheck};
 ghost use Rattle.library.specs.Library.{opening, ShowsInOrder};
 ghost use Rattle.library.specs.Fitting.{CommandFits};
 ghost use Rattle.library.specs.Histories.{told, after_all, IsLegal};
-ghost use Rattle.historytext.specs.Layout.{EntryFits};
+ghost use Rattle.historytext.specs.Grammar.{SpellsHistory};
+ghost use Rattle.historytext.specs.Layout.{EntryFits, history_text};
 ghost use Rattle.export.specs.Exported.{Accepts, exported_text};
 ghost use Rattle.jobs.specs.Outcomes.{setting_of, standing, at_opening, answered, moved, outcome_at, standing_after};
 ghost use Rattle.jobs.specs.Outcomes.{script_outcomes, after_script, all_outcomes, after_scripts, OutcomeFits, OutcomesFit, OutcomesAgree};
@@ -182,11 +183,15 @@ pub fn edit_all(
     // What is shown, and the history, can be printed.
     ensures fits { IfOk result (λ e. OutcomesFit db.now.prelude e.outcomes) }
     ensures written { IfOk result (λ e. All (EntryFits db.now.prelude) e.history) }
+    // The canonical text of the history spells it, so that it is read again.
+    ensures spelled { IfOk result (λ e. SpellsHistory db.now.prelude (history_text db.now.prelude e.history) e.history) }
 {
     let mut editor = open(alloc, keys, db)?;
     let _count = editor.assertion_count();
     let mut history = Vec::new(alloc);
     let outcomes = run_all(alloc, &mut editor, &mut history, scripts)?;
+    // There are no more entries than a text can count.
+    let _entry_count = count_of(&history);
     let library = editor.into_library();
     let _entries = library.entries();
     Ok(Edited {

@@ -1,6 +1,6 @@
 //! Laws of the definitions: each function does nothing, and its contract is the law.
 
-ghost use Rattle.jobs.specs.Laws.{SpelledScriptsFit, FaultLabelsAreShown, AcceptedTextsCheck, AcceptedTextsHaveNoFault};
+ghost use Rattle.jobs.specs.Laws.{SpelledScriptsFit, FaultLabelsAreShown, AcceptedTextsCheck, AcceptedTextsHaveNoFault, RunsHaveNoFaultAgain};
 
 /// Over a prelude that some text declares, each command of a script that is spelled is within the limits of that prelude.
 pub fn spelled_scripts_fit()
@@ -17,4 +17,9 @@ pub fn fault_labels_are_shown()
 pub fn accepted_texts_check()
     ensures checked { AcceptedTextsCheck }
     ensures faultless { AcceptedTextsHaveNoFault }
+{}
+
+/// The history that a run gave, whose text has at most 16,777,216 bytes, is replayed over the same database without a fault.
+pub fn runs_are_replayed()
+    ensures { RunsHaveNoFaultAgain }
 {}

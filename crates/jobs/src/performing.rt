@@ -11,7 +11,7 @@ ghost use Rattle.jobs.specs.Jobs.{AreScripts, IsChecked, library_lines, PrintsRu
 ghost use Rattle.jobs.specs.Outcomes.{OutcomesFit};
 ghost use Rattle.jobs.specs.Reports.{report_text};
 ghost use Rattle.jobs.specs.Jobs.{IsFirstFault, IsTextFaultOf, IsScriptFault, IsProofFault, IsDatabaseFault};
-ghost use Rattle.jobs.specs.Jobs.{IsRunFault, IsReplayFault, IsFaultOf, AnswersOk, IsRefusedWith, RefusesWith, IsProofFaultOf, GivesOrLacksMemory};
+ghost use Rattle.jobs.specs.Jobs.{IsRunFault, IsReplayFault, IsFaultOf, AnswersItsOwn, IsRefusedWith, RefusesWith, IsProofFaultOf, GivesOrLacksMemory};
 ghost use Rattle.mmsyntax.specs.Tables.{Contents};
 ghost use Rattle.library.specs.Fitting.{CommandFits};
 
@@ -208,8 +208,9 @@ pub fn perform(
     ensures fault { IfErr result (λ f. f ≢ NoMemory → IsFaultOf job.now f) }
     // The first fault that the job has is answered, unless memory runs out.
     ensures refused { (f : FaultOfJob) → IsFaultOf job.now f → RefusesWith f result }
-    // A check answers `ok` to each accepted text of at most 16,777,216 bytes, as each such export is, unless memory runs out.
-    ensures accepted { AnswersOk job.now result }
+    // To an accepted text of at most 16,777,216 bytes, as each such export is, a check answers `ok`, unless memory runs out; and to the
+    // history of a run over the same database a replay answers the library of that run.
+    ensures own { AnswersItsOwn job.now result }
 {
     let out = match job {
         Job::Check { db } => check(rt, alloc, keys, db.as_slice())?,

@@ -1,9 +1,13 @@
 use Rattle.std.proofs.Common.{rules}
-use Rattle.jobs.proofs.Accepted.{accepted_is_ok}
+use Rattle.jobs.proofs.Own.{answers_its_own}
 use Rattle.jobs.proofs.performing.perform.Goals as goal
 
-pub returns-in_err-out-in-Check-clause-accepted : goal.returns-in_err-out-in-Check-clause-accepted
-returns-in_err-out-in-Check-clause-accepted g c = accepted_is_ok c.args.job.now c.from_residual.result (search rules) (search rules)
+pub returns-in_err-out-in-Check-clause-own : goal.returns-in_err-out-in-Check-clause-own
+returns-in_err-out-in-Check-clause-own g c = answers_its_own c.args.job.now c.from_residual.result (search rules) (search rules)
 
-pub returns-clause-accepted : goal.returns-clause-accepted
-returns-clause-accepted g c = accepted_is_ok c.args.job.now _ (search rules) tt
+pub returns-clause-own : goal.returns-clause-own
+returns-clause-own g c = answers_its_own c.args.job.now _ (search rules) tt
+
+pub returns-in_err-out-in-Replay-clause-own : goal.returns-in_err-out-in-Replay-clause-own
+returns-in_err-out-in-Replay-clause-own g c =
+    answers_its_own c.args.job.now c.from_residual-in_err-out-in-Replay.result (search rules) (search rules)

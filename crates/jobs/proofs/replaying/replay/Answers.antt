@@ -1,15 +1,13 @@
-use Rattle.std.proofs.Common.{◌∙◌, ◌≤◌, ◌<◌, Err, length, map, get_or, ap, sym, inl, subst, arith}
-use Rattle.std.proofs.lemmas.List.Elements.{All-map}
+use Rattle.std.proofs.Common.{◌∙◌, ◌≤◌, ◌<◌, Err, length, map, ap, sym, inl, subst, arith}
 use Rattle.mmsyntax.proofs.Declarable.{declarable}
-use Rattle.library.specs.Histories.{told, EntryFits as CommandsFit}
+use Rattle.library.specs.Histories.{told}
 use Rattle.history.specs.Replays.{Replays}
-use Rattle.jobs.proofs.ReplayFaults.{commands_fit, one_difference}
+use Rattle.historytext.proofs.LegalFits.{entries_fit}
+use Rattle.jobs.proofs.ReplayFaults.{one_difference}
 use Rattle.jobs.proofs.replaying.replay.Goals as goal
 
 pub replay-requires-clause-fit : goal.replay-requires-clause-fit
-replay-requires-clause-fit c =
-    All-map (CommandsFit c.args.db.now.prelude) told c.args.history.now
-    (λ k d lt. commands_fit c.args.db.now.prelude (get_or c.args.history.now k d) (c.requires.fit k d lt))
+replay-requires-clause-fit c = entries_fit c.args.db.now.prelude c.args.history.now c.requires.fit
 
 -- a database has at most 4,096 assertions
 pub unreachable-requires : goal.unreachable-requires
