@@ -23,6 +23,8 @@ mod frames;
 #[cfg(test)]
 mod machine;
 #[cfg(test)]
+mod openings;
+#[cfg(test)]
 mod shared;
 #[cfg(test)]
 mod store;
