@@ -21,13 +21,16 @@ use Rattle.mmsyntax.specs.Steps.{float_named}
 use Rattle.mmsyntax.specs.Grammar.{Claim, Piece, Statement, claim_spelling, piece_spelling, spelling}
 use Rattle.mmsyntax.specs.Layout.{word_at, hypothesis_label, symbol_word, step_word, constants_of, variables_of, float_statement}
 use Rattle.mmsyntax.specs.Layout.{distinct_pieces, hypothesis_pieces, claim_of_kind, claim_of, unit_of, unit_statement, canonical_prelude}
-use Rattle.mmsyntax.specs.Layout.{canonical}
 use Rattle.mmsyntax.specs.Assertions.{IsSymbolOf, IsExpression, IsPairOf, IsNameable, IsUnit, is_lawful_label}
 use Rattle.mmsyntax.proofs.Distinct.{all_append, all_map}
 use Rattle.mmsyntax.proofs.Lines.{IsWord, IsWritten}
 use Rattle.mmsyntax.proofs.Sound.{IsSymbolWord, IsFloatSound, AreSound}
 use Rattle.mmsyntax.proofs.Numbered.{differ, number_label, number_word}
 use Rattle.mmsyntax.proofs.Again.{IsPlainLabel, plain_label, label_word, plain_at, symbol_is_word, float_sound}
+
+-- the statements of the canonical text: the prelude's, then each assertion's
+abbrev pub canonical : Tables → List Assertion → List Statement
+canonical t xs = canonical_prelude t ++ map (unit_statement t) xs
 
 keyword : (b : ℕ) → is_white b ≡ false → is_lawful b ≡ true → bytes_eq (36 ∷ b ∷ []) (codes "$(") ≡ false → IsWritten (36 ∷ b ∷ [])
 keyword b white lawful other = (((λ x. absurd cc), ((refl, refl), ((white, lawful), tt))), other)

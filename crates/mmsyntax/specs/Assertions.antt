@@ -1,6 +1,6 @@
 -- Which assertions fit a prelude, which labels they may have, and which lists of them a text declares (Metamath book,
 -- section 4.1.3).
-use Rattle.std.specs.Prelude.{◌≡◌, ◌≢◌, ◌<◌, ◌≤◌, ◌⊎◌, ◌↔◌, ℕ, Bool, false, ◌&&◌, nat_le, List, [], ◌∷◌, length, All, map, is_some, IsTrue}
+use Rattle.std.specs.Prelude.{◌≡◌, ◌≢◌, ◌<◌, ◌≤◌, ◌↔◌, ℕ, Bool, false, ◌&&◌, nat_le, List, [], ◌∷◌, length, All, map, is_some, IsTrue}
 use mathlib.Core.Bool.{not}
 use Rattle.std.specs.List.{list_any}
 use Rattle.std.specs.Str.{bytes_eq}
@@ -11,6 +11,7 @@ use Rattle.mmsyntax.specs.declared.statement.Step.{Step}
 use Rattle.mmsyntax.specs.declared.statement.Step.TheVariants.{Float, Hyp, Cite}
 use Rattle.mmsyntax.specs.declared.statement.Assertion.{Assertion}
 use Rattle.mmsyntax.specs.Tables.{Tables, Contents, meaning}
+use Rattle.mmsyntax.specs.Blocks.{is_pair_below}
 use Rattle.mmtext.specs.Words.{is_label, has_dot}
 use Rattle.mmsyntax.specs.Steps.{float_named}
 use Rattle.mmsyntax.specs.Layout.{HasSpelling, IsSoundPrelude, HasUnitSpelling}
@@ -43,7 +44,7 @@ IsPairOf count p = (p.0 < p.1) × (p.1 < count)
 
 -- by the first place, then by the second
 abbrev pub ComesBefore : ℕ × ℕ → ℕ × ℕ → Type 0
-ComesBefore p q = (p.0 < q.0) ⊎ ((p.0 ≡ q.0) × (p.1 < q.1))
+ComesBefore p q = IsTrue (is_pair_below p q)
 
 -- each pair comes before the next: ascending, without repeats
 abbrev pub AreAscending : List (ℕ × ℕ) → Type 0

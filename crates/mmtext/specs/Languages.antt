@@ -132,7 +132,7 @@ pub data Faulty {P A : Type 0} (l : Language P A) (bytes : List ℕ) (f : TextFa
   -- the first byte that may not stand in a text
   bad : (place : ℕ) → length bytes ≤ 16777216 → place < length bytes → IsCleanBefore place bytes
       → is_lawful (slice_index bytes place) ≡ false → f ≡ record { place = place; kind = BadByte } → Faulty l bytes f
-  -- the longest front of tokens that break no test, and the fault of the token behind it
+  -- a front of the tokens that breaks no test, and the fault of the token behind it, which breaks one
   at_token : (front rest : List Token) (t : Token) (s : State P) → length bytes ≤ 16777216 → IsClean bytes
       → tokens bytes ≡ front ++ t ∷ rest → Reaches l front s → step l s t ≡ Err f → Faulty l bytes f
   -- no token breaks a test, and the text may not end there
