@@ -335,6 +335,7 @@ pub fn write_assertion(
     ensures text { IfOk result (λ v. v.items ≡ assertion_text prelude.now assertion.now) }
     ensures spelled { IfOk result (λ v. HasUnitSpelling prelude.now assertion.now → SpellsUnit prelude.now v.items assertion.now) }
 {
+    // For the proof: some text declares the prelude.
     let _floats = prelude.floats();
     let mut out = Vec::new(alloc);
     put_assertion(&mut out, prelude, assertion)?;
