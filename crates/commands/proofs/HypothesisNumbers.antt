@@ -14,7 +14,7 @@ use Rattle.mmtext.specs.Words.{Word, is_count}
 use Rattle.mmsyntax.specs.Layout.{hypothesis_label}
 use Rattle.mmsyntax.proofs.Names.{same_bytes, bytes_eq-same}
 use Rattle.mmsyntax.proofs.Numbered.{decimal_count}
-use Rattle.library.specs.Fitting.{highest_rank}
+use Rattle.library.specs.Library.{highest_rank}
 use Rattle.commands.specs.Scripts.{hypothesis_numbered, counted_from_0}
 use Rattle.commands.specs.ScriptViews.{rank_written, place_numbered}
 use Rattle.commands.proofs.Numerals.{count_decimal, decimal_value}

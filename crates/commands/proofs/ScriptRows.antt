@@ -24,7 +24,7 @@ use Rattle.mmsyntax.proofs.Sound.{cond_none}
 use Rattle.mmreader.proofs.Keywords.{Says, says}
 use Rattle.library.specs.declared.command.Command.{Command}
 use Rattle.library.specs.declared.command.Command.TheVariants as command
-use Rattle.library.specs.Fitting.{highest_rank}
+use Rattle.library.specs.Library.{highest_rank}
 use Rattle.commands.specs.Scripts.{IsRank, other_step_of}
 use Rattle.commands.specs.ScriptFaults.{CommandPlace, at_rank, in_unit, at_reproved, at_proof, in_proof, at_old_label, at_new_label}
 use Rattle.commands.specs.ScriptFaults.{at_moved, at_new_rank, at_deleted, at_shown, Place, outermost, at_command, within, Progress, Led}

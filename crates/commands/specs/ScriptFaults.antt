@@ -18,7 +18,7 @@ use Rattle.mmsyntax.specs.Rows.{prelude_alone}
 use Rattle.mmsyntax.specs.Faults.{Position, at_start, outside, row, unit_at}
 use Rattle.library.specs.declared.command.Command.{Command}
 use Rattle.library.specs.declared.command.Command.TheVariants as command
-use Rattle.library.specs.Fitting.{highest_rank}
+use Rattle.library.specs.Library.{highest_rank}
 use Rattle.commands.specs.Scripts.{other_step_of}
 
 -- ---- places

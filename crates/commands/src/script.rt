@@ -203,6 +203,7 @@ pub fn read_script(alloc: Global, prelude: &Prelude, text: &[u8]) -> Result<Scri
     ensures refused { (f : TextFault) → FaultyScript prelude.now text.now f → RefusesScript result f }
 {
     // Some text declares a prelude, so what is read over it fits.
+    // For the proof: some text declares the prelude.
     let _floats = prelude.floats();
     match read_text(alloc, prelude, text) {
         Ok(script) => Ok(Sequence::from_vec(script)),

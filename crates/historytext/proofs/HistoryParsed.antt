@@ -18,7 +18,7 @@ use Rattle.library.specs.declared.command.Command.{Command}
 use Rattle.library.specs.declared.command.Line.{Line}
 use Rattle.library.specs.declared.command.Reply.{Reply}
 use Rattle.library.specs.declared.command.Reply.TheVariants.{Done, Shown, Listed}
-use Rattle.library.specs.Fitting.{highest_rank}
+use Rattle.library.specs.Library.{highest_rank}
 use Rattle.commands.specs.Scripts.{IsRank, SpellsEach}
 use Rattle.commands.specs.ScriptFaults.{unit_start}
 use Rattle.commands.proofs.InnerUnits.{ReadsUnit, reads_unit}

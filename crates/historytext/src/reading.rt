@@ -186,6 +186,7 @@ pub fn read_history(alloc: Global, prelude: &Prelude, text: &[u8]) -> Result<His
     ensures refused { (f : TextFault) → FaultyHistory prelude.now text.now f → Refuses result f }
 {
     // Some text declares a prelude, so what is read over it fits.
+    // For the proof: some text declares the prelude.
     let _floats = prelude.floats();
     match read_text(alloc, prelude, text) {
         Ok(entries) => Ok(Sequence::from_vec(entries)),

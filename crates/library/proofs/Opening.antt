@@ -1,18 +1,17 @@
 -- The opening library of a database verifies.
-use Rattle.std.proofs.Common.{◌≡◌, ℕ, zero, suc, ◌+◌, ◌*◌, ◌<◌, ◌≤◌, List, [], ◌∷◌, length, get_or, take, map, max, refl, sym, ap, subst}
+use Rattle.std.proofs.Common.{◌≡◌, ℕ, zero, suc, ◌+◌, ◌*◌, ◌<◌, ◌≤◌, List, [], ◌∷◌, length, get_or, take, map, refl, sym, ap, subst}
 use Rattle.std.proofs.Common.{◌∙◌, arith}
 use Rattle.std.specs.List.{All}
 use Rattle.std.proofs.lemmas.List.Elements.{All-nil, All-cons}
 use Rattle.std.proofs.lemmas.Option.{slice_get-get_or}
 use Rattle.mmsyntax.specs.declared.statement.Assertion.{Assertion}
 use Rattle.mmsyntax.specs.Tables.{Contents}
-use Rattle.mmsyntax.specs.Layout.{HasSpelling}
 use Rattle.mmsyntax.specs.Assertions.{IsDeclarable}
 use Rattle.mmsyntax.proofs.Declarable.{declarable}
 use Rattle.proofcheck.specs.Databases.{AllCheck, frame_in}
 use Rattle.proofcheck.specs.Derivation.{Checks}
 use Rattle.library.specs.declared.library.Ranked.{Ranked}
-use Rattle.library.specs.Library.{Setting, Verifies, lower, ranked_from, opening}
+use Rattle.library.specs.Library.{Setting, lower, ranked_from, opening}
 use Rattle.library.specs.Laws.{OpeningsVerify}
 use Rattle.library.proofs.Lower.{lower_none, lower_first}
 use Rattle.library.proofs.Showing.{InRange, ChecksIn, verifies_shown}
