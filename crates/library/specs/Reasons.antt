@@ -1,6 +1,7 @@
 -- The number and the name of each reason, and how a reason is printed.
 use Rattle.std.specs.Prelude.{ℕ, List, [], ◌∷◌, ◌++◌, codes}
 use Rattle.std.specs.Fmt.{decimal}
+use Rattle.mmtext.specs.FaultNames.{numbered_name}
 use Rattle.proofcheck.specs.FaultNames.{printed_fault}
 use Rattle.library.specs.declared.reason.Reason.{Reason}
 use Rattle.library.specs.declared.reason.Reason.TheVariants.{UnknownLabel, LabelTaken, BadLabel, BadRank, CitesUnknown, CitedNotLower}
@@ -40,6 +41,6 @@ said_besides (StillCited citers) = 32 ∷ decimal citers
 said_besides (ProofFails fault) = 32 ∷ printed_fault fault
 said_besides _ = []
 
--- number, space, name, and what is said besides, as in: 2 LabelTaken; 8 StillCited 3; 11 ProofFails step 1: 2 StackShort
+-- as in: 2 LabelTaken; 8 StillCited 3; 11 ProofFails step 1: 2 StackShort
 abbrev pub printed_reason : Reason → List ℕ
-printed_reason reason = decimal (number_of reason) ++ 32 ∷ (name_of reason ++ said_besides reason)
+printed_reason reason = numbered_name (number_of reason) (name_of reason ++ said_besides reason)

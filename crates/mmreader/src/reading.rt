@@ -4,9 +4,9 @@ ghost use Rattle.std.specs.Prelude.{◌≡◌, ◌≢◌, ◌≤◌, ◌⊎◌, 
 ghost use Rattle.mmtext.specs.declared.fault.TextFault.{TextFault};
 ghost use Rattle.mmtext.specs.declared.fault.FaultKind.TheVariants.{NoMemory};
 ghost use Rattle.mmsyntax.specs.Tables.{Contents};
-ghost use Rattle.mmtext.specs.Languages.{step, said_at, finished, token_reading, reading};
+ghost use Rattle.mmtext.specs.Languages.{step, said_at, finished, token_reading, reading, Reads, Refuses};
 ghost use Rattle.mmsyntax.specs.Faults.{in_place, database_language, FaultyDatabase};
-ghost use Rattle.mmsyntax.specs.Grammar.{Spells, Reads, Refuses};
+ghost use Rattle.mmsyntax.specs.Grammar.{Spells};
 ghost use Rattle.mmsyntax.specs.Layout.{HasSpelling};
 ghost use Rattle.mmtext.specs.Views.{seen, Gives};
 ghost use Rattle.mmreader.specs.Standing.{Stands};

@@ -33,8 +33,12 @@ name_of TooLong = codes "TooLong"
 name_of NoMemory = codes "NoMemory"
 
 -- number, space, name
+abbrev pub numbered_name : ℕ → List ℕ → List ℕ
+numbered_name number name = decimal number ++ 32 ∷ name
+
+-- as in: 2 BadToken
 abbrev pub printed_kind : FaultKind → List ℕ
-printed_kind kind = decimal (number_of kind) ++ 32 ∷ name_of kind
+printed_kind kind = numbered_name (number_of kind) (name_of kind)
 
 -- the kind, then the byte, as in: 2 BadToken at byte 6
 abbrev pub printed_fault : TextFault → List ℕ

@@ -3,6 +3,7 @@ use Rattle.std.specs.Prelude.{
   ◌≡◌,
   ◌<◌,
   ◌≤◌,
+  ◌⊎◌,
   ℕ,
   Bool,
   true,
@@ -23,7 +24,7 @@ use Rattle.std.specs.Prelude.{
   if◌then◌else◌,
 }
 use Rattle.mmtext.specs.declared.fault.FaultKind.{FaultKind}
-use Rattle.mmtext.specs.declared.fault.FaultKind.TheVariants.{BadByte, BadToken, Unfinished, OutOfProfile, TooLong}
+use Rattle.mmtext.specs.declared.fault.FaultKind.TheVariants.{BadByte, BadToken, Unfinished, OutOfProfile, TooLong, NoMemory}
 use Rattle.mmtext.specs.declared.fault.TextFault.{TextFault}
 use Rattle.mmtext.specs.declared.mark.Mark.{Mark}
 use Rattle.mmtext.specs.declared.mark.Mark.TheVariants as mark
@@ -138,3 +139,15 @@ pub data Faulty {P A : Type 0} (l : Language P A) (bytes : List ℕ) (f : TextFa
   -- no token breaks a test, and the text may not end there
   unfinished : (s : State P) → length bytes ≤ 16777216 → IsClean bytes → Reaches l (tokens bytes) s → said_at l s ≡ None
       → f ≡ record { place = length bytes; kind = Unfinished } → Faulty l bytes f
+
+-- ---- what a reader answers
+
+-- the answer is what is spelled, unless memory ran out
+abbrev pub Reads : {A : Type 0} → Result A TextFault → A → Type 0
+Reads (Ok found) a = found ≡ a
+Reads (Err f) a = f.kind ≡ NoMemory
+
+-- the answer is the fault, unless memory ran out
+abbrev pub Refuses : {A : Type 0} → Result A TextFault → TextFault → Type 0
+Refuses (Ok found) f = ⊥
+Refuses (Err g) f = (g ≡ f) ⊎ (g.kind ≡ NoMemory)
