@@ -206,9 +206,6 @@ fn deal_all<L: Law>(
     ensures passes { IfOk result (λ v. All (λ p. IsDealt setting.now values.now words.now.room (ranges_named (L.terms.ranged setting.now) store.now values.now) words.now.table.shared.table_id p.seat) v.items) }
     ensures names { IfOk result (λ v. map (λ p. p.seat.me.0.name) v.items ≡ down sessions sessions) }
 {
-    let _ = setting;
-    let _ = values;
-    let _ = store;
     let mut passes = Vec::new(alloc);
     for _ in 0..sessions {
         let log = Log::new(alloc, words.cells)?;

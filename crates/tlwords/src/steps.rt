@@ -54,7 +54,6 @@ pub(crate) fn load<L: Law>(words: &Words<L>, seat: &mut Place<L>, cell: usize, w
     ensures seat { IsSameSeat seat.old seat.new }
     ensures told { Loads L.terms seat.old.me result seat.new.me }
 {
-    let _ = word;
     words
         .table
         .shared
@@ -76,8 +75,6 @@ pub(crate) fn relook<L: Law>(
     ensures seat { IsSameSeat seat.old seat.new }
     ensures told { Relooks L.terms seat.old.me result seat.new.me }
 {
-    let _ = word;
-    let _ = value;
     words
         .table
         .shared
@@ -101,7 +98,6 @@ fn take_saying<L: Law, G: Said<L::Note>>(
     ensures seat { IsSameSeat seat.old seat.new }
     ensures told { Takes L.terms cell value word seat.old.me result seat.new.me }
 {
-    let _ = value;
     words
         .table
         .shared
@@ -142,7 +138,6 @@ fn draw_saying<L: Law, G: Said<L::Note>>(
     ensures seat { IsSameSeat seat.old seat.new }
     ensures told { Draws L.terms (Some note.now) seat.old.me result seat.new.me }
 {
-    let _ = note;
     words.table.shared.fetch_add::<Draw<L, G>>(seat, CLOCK, 1)
 }
 
@@ -213,7 +208,6 @@ fn recall_saying<L: Law, G: Said<L::Note>>(words: &Words<L>, seat: &mut Place<L>
     ensures seat { IsSameSeat seat.old seat.new }
     ensures told { Recalls L.terms (Some note.now) seat.old.me seat.new.me }
 {
-    let _ = note;
     words.table.shared.load::<Recall<L, G>>(seat, SPARE);
 }
 
