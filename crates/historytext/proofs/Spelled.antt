@@ -135,10 +135,10 @@ module _ (t : Tables) (sound : IsSoundPrelude t) where
           (
             lawful_written label h.0,
             (
-              keyword 61 refl refl refl,
+              keyword 61 refl refl,
               all_append IsWritten named (codes "$." ∷ [])
                   (all_map (IsNameable t 1000) IsWritten (step_word t label) steps (step_written t s label p.label 1000 (omega arith)) nameable)
-                  (keyword 46 refl refl refl, tt),
+                  (keyword 46 refl refl, tt),
             ),
           ),
         );
