@@ -1,5 +1,6 @@
 -- Bodies: what stands in the store for a label, a statement and a proof, as lists of words. The layout is this project's own.
-use Rattle.std.specs.Prelude.{◌≡◌, ℕ, ◌+◌, ◌*◌, ◌^◌, ◌<◌, List, [], ◌∷◌, ◌++◌, length, map, All}
+use Rattle.std.specs.Prelude.{◌≡◌, ℕ, ◌+◌, ◌*◌, ◌^◌, ◌<◌, List, ◌∷◌, ◌++◌, length, map, All}
+use Rattle.std.specs.List.{flat_map}
 use Rattle.mmsyntax.specs.declared.statement.Symbol.{Symbol}
 use Rattle.mmsyntax.specs.declared.statement.Symbol.TheVariants.{Const, Var}
 use Rattle.mmsyntax.specs.declared.statement.Kind.{Kind}
@@ -36,8 +37,7 @@ expression_words e = length e ∷ map symbol_word e
 
 -- expressions one after another
 abbrev pub expressions_words : List (List Symbol) → List ℕ
-expressions_words [] = []
-expressions_words (e ∷ es) = expression_words e ++ expressions_words es
+expressions_words es = flat_map expression_words es
 
 -- the kind, the number of pairs, the number of hypotheses; each pair, each hypothesis, and the statement
 abbrev pub statement_body : Statement → List ℕ

@@ -3,12 +3,13 @@
 //! What is decoded are words that some body encodes to: then the body is given. Other words give some value, within the memory of their number.
 
 ghost use Rattle.std.specs.Prelude.{◌≡◌, ℕ, ◌^◌, ◌<◌, List, ◌++◌, All, IfOk};
-ghost use Rattle.bodystore.specs.Bodies.{label_body, symbol_word, expression_words, statement_body, proof_body, IsSmallSymbol, IsSmallStatement, IsSmallStep};
+ghost use Rattle.bodystore.specs.Bodies.{label_body, expression_words, statement_body, proof_body, IsSmallSymbol, IsSmallStatement, IsSmallStep};
 
 use crate::cursor::Cursor;
 use crate::statement::Statement;
 use crate::stored::StoredStep;
-use mmsyntax::{Expr, Kind, Label, Sequence, Symbol};
+use crate::words::{kind_of, pair_of, symbol_of};
+use mmsyntax::{Expr, Label, Sequence};
 use std::alloc::{AllocError, Global};
 
 /// The label whose body has these words.
@@ -35,20 +36,15 @@ pub fn decode_statement(alloc: Global, words: &[u64]) -> Result<Statement, Alloc
     ensures { (s : _) → IsSmallStatement s → statement_body s ≡ words.now → IfOk result (λ made. made ≡ s) }
 {
     let mut cursor = Cursor::new(words);
-    let kind = if cursor.next() == 0 {
-        Kind::Axiom
-    } else {
-        Kind::Theorem
-    };
+    let kind = kind_of(cursor.next());
     let pair_count = cursor.count();
     let hyp_count = cursor.count();
     let mut pairs = Vec::new(alloc);
-    for _ in 0..pair_count {
-        let word = cursor.next();
-        pairs.push(((word / 4_294_967_296) as u32, (word % 4_294_967_296) as u32))?;
+    'pairs: for _ in 0..pair_count {
+        pairs.push(pair_of(cursor.next()))?;
     }
     let mut hyps = Vec::new(alloc);
-    for _ in 0..hyp_count {
+    'hyps: for _ in 0..hyp_count {
         hyps.push(read_expression(alloc, &mut cursor)?)?;
     }
     let statement = read_expression(alloc, &mut cursor)?;
@@ -85,15 +81,4 @@ fn read_expression(alloc: Global, cursor: &mut Cursor<'_>) -> Result<Expr, Alloc
         symbols.push(symbol_of(cursor.next()))?;
     }
     Ok(Sequence::from_vec(symbols))
-}
-
-fn symbol_of(word: u64) -> Symbol
-    ensures { (x : _) → IsSmallSymbol x → symbol_word x ≡ word → result ≡ x }
-{
-    let place = (word / 2 & 0xffff_ffff) as u32;
-    if word % 2 == 0 {
-        Symbol::Const(place)
-    } else {
-        Symbol::Var(place)
-    }
 }

@@ -1,10 +1,11 @@
 //! From labels, statements and proofs to the words of their bodies.
 
 ghost use Rattle.std.specs.Prelude.{◌≡◌, ◌++◌, map, IfOk, OnOk};
-ghost use Rattle.bodystore.specs.Bodies.{label_body, symbol_word, kind_word, pair_word, expression_words, expressions_words, statement_body, statement_of, proof_body};
+ghost use Rattle.bodystore.specs.Bodies.{label_body, expression_words, expressions_words, statement_body, statement_of, proof_body};
 
 use crate::stored::StoredStep;
-use mmsyntax::{Assertion, Expr, Kind, Symbol};
+use crate::words::{kind_word, pair_word, symbol_word};
+use mmsyntax::{Assertion, Expr, Symbol};
 use std::alloc::{AllocError, Global};
 
 /// The body of a label: one word for each byte.
@@ -35,8 +36,8 @@ pub fn encode_statement(alloc: Global, assertion: &Assertion) -> Result<Vec<u64>
     words.push(kind_word(assertion.kind))?;
     words.push(assertion.pairs.as_slice().len() as u64)?;
     words.push(assertion.hyps.as_slice().len() as u64)?;
-    for (first, second) in assertion.pairs.as_slice() {
-        words.push((*first as u64) * 4_294_967_296 + *second as u64)?;
+    for pair in assertion.pairs.as_slice() {
+        words.push(pair_word(*pair))?;
     }
     push_expressions(&mut words, assertion.hyps.as_slice())?;
     push_expression(&mut words, assertion.statement.as_slice())?;
@@ -56,24 +57,6 @@ pub fn encode_proof(alloc: Global, steps: &[StoredStep]) -> Result<Vec<u64>, All
         words.push(step.word())?;
     }
     Ok(words)
-}
-
-fn kind_word(kind: Kind) -> u64
-    ensures { result ≡ kind_word kind }
-{
-    match kind {
-        Kind::Axiom => 0,
-        Kind::Theorem => 1,
-    }
-}
-
-fn symbol_word(symbol: Symbol) -> u64
-    ensures { result ≡ symbol_word symbol }
-{
-    match symbol {
-        Symbol::Const(place) => 2 * place as u64,
-        Symbol::Var(place) => 2 * place as u64 + 1,
-    }
 }
 
 fn push_expression(words: &mut Vec<u64>, symbols: &[Symbol]) -> Result<(), AllocError>

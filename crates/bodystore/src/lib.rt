@@ -6,6 +6,7 @@ mod decode;
 mod encode;
 mod statement;
 mod stored;
+mod words;
 
 pub use decode::{decode_label, decode_proof, decode_statement};
 pub use encode::{encode_label, encode_proof, encode_statement};
