@@ -1,1 +1,3 @@
 pub mod Reading
+pub mod One
+pub mod Small

@@ -1,5 +1,5 @@
 -- Bodies: what stands in the store for a label, a statement and a proof, as lists of words. The layout is this project's own.
-use Rattle.std.specs.Prelude.{◌≡◌, ℕ, ◌+◌, ◌*◌, ◌^◌, ◌<◌, List, ◌∷◌, ◌++◌, length, map, All}
+use Rattle.std.specs.Prelude.{ℕ, ◌+◌, ◌*◌, ◌^◌, ◌<◌, List, ◌∷◌, ◌++◌, length, map, All}
 use Rattle.std.specs.List.{flat_map}
 use Rattle.mmsyntax.specs.declared.statement.Symbol.{Symbol}
 use Rattle.mmsyntax.specs.declared.statement.Symbol.TheVariants.{Const, Var}

@@ -1,5 +1,5 @@
 -- What is left to show of `decode_label`.
-use Rattle.std.proofs.Common.{◌≡◌, map, ap, ◌∙◌, sym}
+use Rattle.std.proofs.Common.{map, ap, ◌∙◌, sym}
 use Rattle.std.specs.Prelude.{bit_and}
 use Rattle.std.proofs.lemmas.List.{take_all}
 use Rattle.bodystore.proofs.Reading.{low_bytes}

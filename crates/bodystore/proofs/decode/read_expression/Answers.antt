@@ -28,8 +28,7 @@ returns c e more small is =
     let i = c.loop.counter in
     let kept = c.loop.invariant e more small is in
     let count : c.count-count.result ≡ length e = kept.0 in
-    let past : length e ≤ i = omega (arith, c.loop-test.false) in
-    (
+    let past : length e ≤ i = omega (arith, c.loop-test.false) in (
       c.from_vec.ensures ∙ kept.1 ∙ take_all i e past,
       kept.2 ∙ ap (λ ys. map symbol_word ys ++ more) (drop_all i e past),
     )
