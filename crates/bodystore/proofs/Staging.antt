@@ -22,7 +22,8 @@ use Rattle.bodystore.specs.Laws.{StagedGoOn, NothingIsStaged, NotingKeepsStaged,
 abbrev Starts : Type 0
 Starts = HashMap (Vec ℕ Global) ℕ RandomState
 
-find_entries : (q : List ℕ) (es : List (Vec ℕ Global × ℕ)) → find (slice_cmp nat_cmp) q (map (λ e. (e.0.items, e.1)) es) ≡ lookup (λ k. bytes_eq q k.items) es
+find_entries : (q : List ℕ) (es : List (Vec ℕ Global × ℕ))
+    → find (slice_cmp nat_cmp) q (map (λ e. (e.0.items, e.1)) es) ≡ lookup (λ k. bytes_eq q k.items) es
 find_entries q [] = refl
 find_entries q (e ∷ es) = λ i. cond (is_eq-slice_cmp q e.0.items i) (Some e.1) (find_entries q es i)
 
@@ -61,7 +62,8 @@ noting_keeps ranges stage words start has are others place is =
       | inr n ↦ are others place (sym (cond-false _ (Some start) (get stage others) n) ∙ sym at ∙ is)
     ]
 
-start_of : (words : List ℕ) (o : Option ℕ) (r : Place) → option_map (range_at words) o ≡ Some r → (o ≡ Some r.start) × (r.len ≡ length words)
+start_of : (words : List ℕ) (o : Option ℕ) (r : Place) → option_map (range_at words) o ≡ Some r
+    → (o ≡ Some r.start) × (r.len ≡ length words)
 start_of words None r is = absurd (cc is)
 start_of words (Some start) r is =
     let own : record { start = start; len = length words } ≡ r = cc in

@@ -42,6 +42,7 @@ impl<'a> Cursor<'a> {
     /// The next word as a number of things that are still to be read: at most as many as there are words behind it.
     pub(crate) fn count(&mut self) -> usize
         ensures more { (w : ℕ) (ws : List ℕ) → self.old ≡ w ∷ ws → w ≤ length ws → (result ≡ w) × (self.new ≡ ws) }
+        ensures few { result ≤ length self.new }
     {
         let word = self.next();
         if word <= self.rest.len() as u64 {

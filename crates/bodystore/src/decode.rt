@@ -1,9 +1,10 @@
 //! From the words of bodies back to labels, statements and proofs.
 //!
-//! What is decoded are words that some body encodes to: then the body is given. Other words give some value, within the memory of their number.
+//! Words that some body encodes to give that body. Other words give some value, which is not longer than they are.
 
 ghost use Rattle.std.specs.Prelude.{◌≡◌, ℕ, ◌^◌, ◌<◌, List, ◌++◌, All, IfOk};
-ghost use Rattle.bodystore.specs.Bodies.{label_body, expression_words, statement_body, proof_body, IsSmallSymbol, IsSmallStatement, IsSmallStep};
+ghost use Rattle.bodystore.specs.Bodies.{label_body, expression_words, statement_body, proof_body};
+ghost use Rattle.bodystore.specs.Bodies.{IsSmallSymbol, IsSmallStatement, IsSmallStep};
 
 use crate::cursor::Cursor;
 use crate::statement::Statement;
@@ -73,7 +74,8 @@ pub fn decode_proof(alloc: Global, words: &[u64]) -> Result<Vec<StoredStep>, All
 
 /// The next expression: its length, and as many symbols.
 fn read_expression(alloc: Global, cursor: &mut Cursor<'_>) -> Result<Expr, AllocError>
-    ensures { (e : List _) (more : List ℕ) → All IsSmallSymbol e → cursor.old ≡ expression_words e ++ more → IfOk result (λ made. (made ≡ e) × (cursor.new ≡ more)) }
+    ensures { (e : List _) (more : List ℕ) → All IsSmallSymbol e → cursor.old ≡ expression_words e ++ more
+        → IfOk result (λ made. (made ≡ e) × (cursor.new ≡ more)) }
 {
     let count = cursor.count();
     let mut symbols = Vec::new(alloc);

@@ -23,8 +23,8 @@ pub fn encode_label(alloc: Global, label: &[u8]) -> Result<Vec<u64>, AllocError>
     Ok(words)
 }
 
-/// The body of an assertion's statement: its kind, the numbers of its pairs and of its hypotheses, each pair, each hypothesis and the statement,
-/// each expression with its length before it.
+/// The body of an assertion's statement: its kind, the numbers of its pairs and of its hypotheses, each pair, each hypothesis and
+/// the statement, each expression with its length before it.
 ///
 /// # Errors
 ///

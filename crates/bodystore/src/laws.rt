@@ -1,6 +1,7 @@
 //! Laws of bodies: each function does nothing, and its contract is the law.
 
-ghost use Rattle.bodystore.specs.Laws.{StatementBodiesAreOne, ProofBodiesAreOne, StatementBodiesHaveWords, ProofBodiesHaveWords, FittingAreSmall, StagedGoOn, NothingIsStaged, NotingKeepsStaged, FoundIsStaged};
+ghost use Rattle.bodystore.specs.Laws.{StatementBodiesAreOne, ProofBodiesAreOne, StatementBodiesHaveWords, ProofBodiesHaveWords};
+ghost use Rattle.bodystore.specs.Laws.{FittingAreSmall, StagedGoOn, NothingIsStaged, NotingKeepsStaged, FoundIsStaged};
 
 /// A statement body is of one statement whose places are below 2^32.
 pub fn statement_bodies_are_one()
@@ -23,8 +24,8 @@ pub fn fitting_are_small()
     ensures { FittingAreSmall }
 {}
 
-/// Staged ranges go on to be among the ranges where there are more; at first there are none; to note one more of the ranges keeps it; and what
-/// is found is one of the ranges.
+/// Staged ranges go on to be among the ranges where there are more; at first there are none; to note one more of the ranges
+/// keeps it; and what is found is one of the ranges.
 pub fn staged_are_ranges()
     ensures go_on { StagedGoOn }
     ensures nothing { NothingIsStaged }

@@ -43,6 +43,7 @@ impl Stage {
     }
 
     /// The range that was noted with these words, if one was: one look-up.
+    #[tactic(auto, using(crate::proofs::Staging::looked_up))]
     pub fn find(&self, words: &[u64]) -> Option<Range>
         ensures { result ≡ option_map (range_at words.now) (map.get self.now words.now) }
     {
@@ -58,6 +59,7 @@ impl Stage {
     /// # Errors
     ///
     /// Want of memory: the stage is as it was.
+    #[tactic(auto, using(crate::proofs::Staging::noted))]
     pub fn note(&mut self, alloc: Global, words: &[u64], range: Range) -> Result<(), AllocError>
         requires { range.len ≡ length words.now }
         ensures ok { OnOk result (self.new ≡ map.insert self.old words.now range.start) }

@@ -19,7 +19,8 @@ pub struct Statement {
 impl Statement {
     /// The assertion with this statement, a label and a proof. It takes no memory.
     pub fn into_assertion(self, label: Label, proof: Sequence<Step>) -> Assertion
-        ensures { result ≡ record { label = label; kind = self.kind; pairs = self.pairs; hyps = self.hyps; statement = self.statement; proof = proof } }
+        ensures { result
+            ≡ record { label = label; kind = self.kind; pairs = self.pairs; hyps = self.hyps; statement = self.statement; proof = proof } }
     {
         Assertion {
             label,

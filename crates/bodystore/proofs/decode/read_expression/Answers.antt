@@ -8,7 +8,8 @@ use Rattle.bodystore.proofs.decode.read_expression.Goals as goal
 
 pub loop-init : goal.loop-init
 loop-init c e more small is =
-    let room : length e ≤ length (map symbol_word e ++ more) = omega (arith, length-append (map symbol_word e) more, length-map e symbol_word) in
+    let long = length-append (map symbol_word e) more in
+    let room : length e ≤ length (map symbol_word e ++ more) = omega (arith, long, length-map e symbol_word) in
     let counted = c.count-count.ensures.more _ _ is room in
     (counted.0, c.new-symbols.ensures.items, counted.1)
 
