@@ -1,6 +1,6 @@
 //! From the words of bodies back to labels, statements and proofs.
 //!
-//! Words that some body encodes to give that body. Other words give some value, which is not longer than they are.
+//! Words of a body give what it is of. Other words give some value, in memory in proportion to their number.
 
 ghost use Rattle.std.specs.Prelude.{◌≡◌, ℕ, ◌^◌, ◌<◌, List, ◌++◌, All, IfOk};
 ghost use Rattle.bodystore.specs.Bodies.{label_body, expression_words, statement_body, proof_body};
