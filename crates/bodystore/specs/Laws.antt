@@ -1,4 +1,4 @@
--- Laws of bodies, for whoever keeps them.
+-- Laws of bodies and of stages, for whoever keeps them.
 use Rattle.std.specs.Prelude.{◌≡◌, ◌≢◌, ℕ, Some, List, [], length}
 use Rattle.std.specs.Option.{option_map}
 use Rattle.std.specs.FinMap.{empty, get, insert}

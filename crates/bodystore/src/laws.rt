@@ -1,4 +1,4 @@
-//! Laws of bodies: each function does nothing, and its contract is the law.
+//! Laws of bodies and of stages: each function does nothing, and its contract is the law.
 
 ghost use Rattle.bodystore.specs.Laws.{StatementBodiesAreOne, ProofBodiesAreOne, StatementBodiesHaveWords, ProofBodiesHaveWords};
 ghost use Rattle.bodystore.specs.Laws.{FittingAreSmall, StagedGoOn, NothingIsStaged, NotingKeepsStaged, FoundIsStaged};
