@@ -7,7 +7,7 @@ use Rattle.std.specs.Cmp.Lexicographic.{slice_cmp, nat_list_cmp_total}
 use Rattle.std.specs.Map.{lookup}
 use Rattle.std.specs.HashMap as hash
 use Rattle.std.specs.HashMap.{HashMap}
-use Rattle.std.specs.FinMap.{find, get, insert, get-from_entries, get-empty, get-insert, same_map}
+use Rattle.std.specs.FinMap.{empty, find, get, insert, get-from_entries, get-empty, get-insert, same_map}
 use Rattle.std.specs.declared.alloc.Global.{Global}
 use Rattle.std.specs.declared.random_state.RandomState.{RandomState}
 use Rattle.std.proofs.lemmas.Bool.{cases_Bool, cond-true, cond-false}
@@ -45,22 +45,27 @@ noted m n key start h =
 -- ---- the ranges of a stage
 
 pub staged_go_on : StagedGoOn
-staged_go_on ranges more stage within are words start is = within _ (are words start is)
+staged_go_on ranges more stage within are = record { among = λ words start is. within _ (are.among words start is) }
+
+not_empty : (words : List ℕ) (start : ℕ) → get {X = ℕ} {R = slice_cmp nat_cmp} empty words ≡ Some start → ⊥
+not_empty words start is = let none = sym (get-empty (slice_cmp nat_cmp) words) ∙ is in cc none
 
 pub nothing_staged : NothingIsStaged
-nothing_staged ranges words start is = let none = sym (get-empty (slice_cmp nat_cmp) words) ∙ is in absurd (cc none)
+nothing_staged ranges = record { among = λ words start is. absurd (not_empty words start is) }
 
 pub noting_keeps : NotingKeepsStaged
-noting_keeps ranges stage words start has are others place is =
-    let at = get-insert nat_list_cmp_total stage words start others in
-    elim (cases_Bool (is_eq (slice_cmp nat_cmp others words))) [
-      | inl y ↦
-          let same : others ≡ words = same_bytes others words (sym (is_eq-slice_cmp others words) ∙ y) in
-          let here : Some start ≡ Some place = sym (cond-true _ (Some start) (get stage others) y) ∙ sym at ∙ is in
-          let starts : start ≡ place = cc in
-          subst (λ z. Has z ranges) (λ i. record { start = starts i; words = sym same i }) has
-      | inr n ↦ are others place (sym (cond-false _ (Some start) (get stage others) n) ∙ sym at ∙ is)
-    ]
+noting_keeps ranges stage words start has are = record {
+  among = λ others place is.
+      let at = get-insert nat_list_cmp_total stage words start others in
+      elim (cases_Bool (is_eq (slice_cmp nat_cmp others words))) [
+        | inl y ↦
+            let same : others ≡ words = same_bytes others words (sym (is_eq-slice_cmp others words) ∙ y) in
+            let here : Some start ≡ Some place = sym (cond-true _ (Some start) (get stage others) y) ∙ sym at ∙ is in
+            let starts : start ≡ place = cc in
+            subst (λ z. Has z ranges) (λ i. record { start = starts i; words = sym same i }) has
+        | inr n ↦ are.among others place (sym (cond-false _ (Some start) (get stage others) n) ∙ sym at ∙ is)
+      ];
+}
 
 start_of : (words : List ℕ) (o : Option ℕ) (r : Place) → option_map (range_at words) o ≡ Some r
     → (o ≡ Some r.start) × (r.len ≡ length words)
@@ -72,4 +77,4 @@ start_of words (Some start) r is =
 pub found_is_staged : FoundIsStaged
 found_is_staged ranges stage words r are is =
     let own = start_of words (get stage words) r is in
-    (are words r.start own.0, own.1)
+    (are.among words r.start own.0, own.1)

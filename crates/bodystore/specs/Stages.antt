@@ -22,5 +22,5 @@ abbrev pub range_at : List ℕ → ℕ → Place
 range_at words start = record { start = start; len = length words }
 
 -- each staged range is one of the ranges, with just its words
-abbrev pub AreStaged : List Range → Staged → Type 0
-AreStaged ranges stage = (words : List ℕ) (start : ℕ) → get stage words ≡ Some start → Has (record { start = start; words = words }) ranges
+pub record AreStaged (ranges : List Range) (stage : Staged) : Type 0 where
+  pub among : (words : List ℕ) (start : ℕ) → get stage words ≡ Some start → Has (record { start = start; words = words }) ranges
