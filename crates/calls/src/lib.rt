@@ -9,6 +9,8 @@
 #[cfg(test)]
 mod assertions;
 #[cfg(test)]
+mod bodies;
+#[cfg(test)]
 mod databases;
 #[cfg(test)]
 mod editing;
