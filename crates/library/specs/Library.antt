@@ -73,8 +73,12 @@ opening db = ranked_from 1 db.assertions
 -- ---- the order in which it is shown
 
 -- by rank, then by the bytes of the label
+abbrev pub by_rank_then_label : {A : Type 0} → (A → ℕ) → (A → List ℕ) → A → A → Ordering
+by_rank_then_label rank label a b = ordering_then (nat_cmp (rank a) (rank b)) (slice_cmp nat_cmp (label a) (label b))
+
+-- so of assertions
 abbrev pub entry_cmp : Ranked → Ranked → Ordering
-entry_cmp e f = ordering_then (nat_cmp e.rank f.rank) (slice_cmp nat_cmp (label_of e) (label_of f))
+entry_cmp e f = by_rank_then_label (λ x. x.rank) label_of e f
 
 abbrev pub IsInExportOrder : List Ranked → Type 0
 IsInExportOrder lib = IsSorted entry_cmp lib
