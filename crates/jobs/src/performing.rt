@@ -11,7 +11,8 @@ ghost use Rattle.jobs.specs.Jobs.{AreScripts, IsChecked, library_lines, PrintsRu
 ghost use Rattle.jobs.specs.Outcomes.{OutcomesFit};
 ghost use Rattle.jobs.specs.Reports.{report_text};
 ghost use Rattle.jobs.specs.Jobs.{IsFirstFault, IsTextFaultOf, IsScriptFault, IsProofFault, IsDatabaseFault};
-ghost use Rattle.jobs.specs.Jobs.{IsRunFault, IsReplayFault, IsFaultOf, AnswersItsOwn, IsRefusedWith, RefusesWith, IsProofFaultOf, GivesOrLacksMemory};
+ghost use Rattle.jobs.specs.Jobs.{IsRunFault, IsReplayFault, IsFaultOf, IsRefusedWith, RefusesWith, IsProofFaultOf, GivesOrLacksMemory};
+ghost use Rattle.jobs.specs.Jobs.{AnswersItsOwn, IsPrintedBy};
 ghost use Rattle.mmsyntax.specs.Tables.{Contents};
 ghost use Rattle.library.specs.Fitting.{CommandFits};
 
@@ -210,7 +211,7 @@ pub fn perform(
     ensures refused { (f : FaultOfJob) → IsFaultOf job.now f → RefusesWith f result }
     // To an accepted text of at most 16,777,216 bytes, as each such export is, a check answers `ok`, unless memory runs out; and to the
     // history of a run over the same database a replay answers the library of that run.
-    ensures own { AnswersItsOwn job.now result }
+    ensures own { AnswersItsOwn job.now (IsPrintedBy result) }
 {
     let out = match job {
         Job::Check { db } => check(rt, alloc, keys, db.as_slice())?,
