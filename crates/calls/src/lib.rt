@@ -9,6 +9,8 @@
 #[cfg(test)]
 mod assertions;
 #[cfg(test)]
+mod bodies;
+#[cfg(test)]
 mod databases;
 #[cfg(test)]
 mod editing;
@@ -22,6 +24,8 @@ mod faults;
 mod frames;
 #[cfg(test)]
 mod machine;
+#[cfg(test)]
+mod openings;
 #[cfg(test)]
 mod shared;
 #[cfg(test)]

@@ -156,12 +156,17 @@ fn entries_settle_out_of_order(rt: HostRuntime) -> Result<(), Fail> {
     let before = run_parts(alloc, &[&a[..6], &b, &reads])?;
     let end = expected((18, 2), [1, 4], [0, 9], [None, Some(true)], false);
     assert_eq!(rt; shown(&before, 2), end);
+    assert_eq!(rt; before.world.value_read(2, 1), Some(9));
     let after = run_parts(
         alloc,
         &[&a[..6], &b, &reads, &[(2, Action::Look(0))], &a[6..]],
     )?;
     let end = expected((21, 2), [2, 4], [8, 9], [Some(true), Some(true)], true);
     assert_eq!(rt; shown(&after, 2), end);
+    assert_eq!(rt;
+        (after.world.value_read(2, 1), after.world.value_read(2, 0)),
+        (Some(9), None)
+    );
 
     // X has read both cells when B takes one of them. Nobody drew a number in between, so X has nothing to check.
     let x = [
@@ -187,6 +192,33 @@ fn entries_settle_out_of_order(rt: HostRuntime) -> Result<(), Fail> {
     let stores = run_parts(alloc, &[&x[..7], &b[..5], &x[7..], &b[5..]])?;
     let end = expected((19, 2), [4, 2], [6, 5], [Some(true), Some(true)], false);
     assert_eq!(rt; shown(&stores, 0), end);
+    Ok(())
+}
+
+/// X reads both cells, Y writes the first and commits, and X takes the second: its check fails, its entry is Void, and the lock is given back.
+#[test]
+fn a_failed_check_voids_the_entry(rt: HostRuntime) -> Result<(), Fail> {
+    let x = [
+        (0, Action::Begin),
+        (0, Action::Look(0)),
+        (0, Action::Load(0)),
+        (0, Action::Relook(0)),
+        (0, Action::Look(1)),
+        (0, Action::Load(1)),
+        (0, Action::Relook(1)),
+        (0, Action::Take(1, 9)),
+        (0, Action::Draw),
+        (0, Action::Check(0)),
+        (0, Action::Release(1)),
+    ];
+    let y = write(1, 0, 1);
+    let ran = run_parts(rt.alloc(), &[&x[..7], &y, &x[7..]])?;
+    let end = expected((19, 2), [2, 0], [1, 0], [Some(true), Some(false)], true);
+    assert_eq!(rt; shown(&ran, 0), end);
+    assert_eq!(rt;
+        (ran.world.value_read(0, 0), ran.world.value_read(3, 0)),
+        (Some(0), None)
+    );
     Ok(())
 }
 

@@ -1,11 +1,14 @@
 //! The store, on one thread.
 
-ghost use Rattle.std.specs.Prelude.{true, false, ◌≡◌, ◌≢◌, [], length, IfSome, IfOk};
+ghost use Rattle.std.specs.Prelude.{true, false, ◌≢◌, ◌<◌, [], IfSome};
+ghost use Rattle.tlwords.specs.Callers.{AreOfOneOpening};
 
 use crate::shared::Anything;
 use std::alloc::Global;
 use std::test::Fail;
-use tlwords::{Law, Mode, OpenFault, Pass, Range, StoreFull, Words, begin, close, open};
+use tlwords::{
+    Law, Mode, OpenFault, Outcome, Pass, Range, StoreFull, Words, begin, close, learn, open,
+};
 
 struct Named;
 
@@ -19,9 +22,7 @@ impl Law for Named {
 
 // One cell, a store of four words, and two passes.
 fn opened(alloc: Global) -> Option<(Words<Anything>, Pass<Anything>, Pass<Anything>)>
-    ensures { IfSome result (λ r. (r.1.seat.table_id ≡ r.0.table.shared.table_id) × (r.0.cells ≡ length r.1.seat.me.0.base)
-        × (r.0.room ≡ r.1.seat.me.0.room) × (r.2.seat.table_id ≡ r.0.table.shared.table_id) × (r.0.cells ≡ length r.2.seat.me.0.base)
-        × (r.0.room ≡ r.2.seat.me.0.room)) }
+    ensures { IfSome result (λ r. AreOfOneOpening r.0 r.1 × AreOfOneOpening r.0 r.2) }
 {
     let Ok((words, mut passes)) = open::<Anything>(alloc, &(), &[0], &[], 4, 2) else {
         return None;
@@ -33,10 +34,8 @@ fn opened(alloc: Global) -> Option<(Words<Anything>, Pass<Anything>, Pass<Anythi
 
 // Stages three words, and reads each of them back.
 fn stage_three(words: &Words<Anything>, pass: Pass<Anything>) -> (Pass<Anything>, Option<[u64; 3]>)
-    requires fits { (pass.seat.table_id ≡ words.now.table.shared.table_id) × (words.now.cells ≡ length pass.seat.me.0.base)
-        × (words.now.room ≡ pass.seat.me.0.room) }
-    ensures { (result.0.seat.table_id ≡ words.now.table.shared.table_id) × (words.now.cells ≡ length result.0.seat.me.0.base)
-        × (words.now.room ≡ result.0.seat.me.0.room) }
+    requires opening { AreOfOneOpening words.now pass }
+    ensures { AreOfOneOpening words.now result.0 }
 {
     let mut run = begin(words, pass, Mode::Reading);
     match run.stage(&[7, 8, 9]) {
@@ -52,11 +51,9 @@ fn stage_three(words: &Words<Anything>, pass: Pass<Anything>) -> (Pass<Anything>
 
 // Whether the store has no room for these words.
 fn refuses(words: &Words<Anything>, pass: Pass<Anything>, staged: &[u64]) -> (Pass<Anything>, bool)
-    requires fits { (pass.seat.table_id ≡ words.now.table.shared.table_id) × (words.now.cells ≡ length pass.seat.me.0.base)
-        × (words.now.room ≡ pass.seat.me.0.room) }
+    requires opening { AreOfOneOpening words.now pass }
     requires some_words { staged.now ≢ [] }
-    ensures { (result.0.seat.table_id ≡ words.now.table.shared.table_id) × (words.now.cells ≡ length result.0.seat.me.0.base)
-        × (words.now.room ≡ result.0.seat.me.0.room) }
+    ensures { AreOfOneOpening words.now result.0 }
 {
     let mut run = begin(words, pass, Mode::Reading);
     let refused = matches!(run.stage(staged), Err(StoreFull));
@@ -77,6 +74,57 @@ fn load_opened(alloc: Global) -> Option<[u64; 2]> {
     let second = run.load(range, 1);
     let _ = run.leave();
     Some([first, second])
+}
+
+// Stages these words, writes the word that names them into cell 0, and commits.
+fn publish(words: &Words<Named>, pass: Pass<Named>, staged: &[u64]) -> (Pass<Named>, bool)
+    requires opening { AreOfOneOpening words.now pass }
+    requires some_words { staged.now ≢ [] }
+    requires cell { 0 < words.now.cells }
+    ensures { AreOfOneOpening words.now result.0 }
+{
+    let mut run = begin(words, pass, Mode::Writing);
+    let Ok(_) = run.read(0) else {
+        return (run.leave(), false);
+    };
+    let Ok(range) = run.stage(staged) else {
+        return (run.leave(), false);
+    };
+    run.write(0, range.start as u64 * (1 << 25) + range.len as u64);
+    let (pass, outcome) = run.commit(&7);
+    (pass, matches!(outcome, Outcome::Committed(1)))
+}
+
+// Learns what the other pass has seen, and loads both words of the range that cell 0 names.
+fn load_published(
+    words: &Words<Named>,
+    mut pass: Pass<Named>,
+    other: &mut Pass<Named>,
+) -> Option<[u64; 2]>
+    requires pass { AreOfOneOpening words.now pass }
+    requires other { AreOfOneOpening words.now other.old }
+    requires cell { 0 < words.now.cells }
+    ensures { AreOfOneOpening words.now other.new }
+{
+    learn(words, &mut pass, other);
+    let mut run = begin(words, pass, Mode::Reading);
+    let Ok(name) = run.read(0) else {
+        let _ = run.leave();
+        return None;
+    };
+    let range = Range {
+        start: (name / (1 << 25)) as usize,
+        len: (name % (1 << 25)) as usize,
+    };
+    let loaded = if range.len == 2 {
+        let first = run.load(range, 0);
+        let second = run.load(range, 1);
+        Some([first, second])
+    } else {
+        None
+    };
+    let _ = run.leave();
+    loaded
 }
 
 #[test]
@@ -150,5 +198,23 @@ fn a_store_that_is_longer_than_the_room_is_refused(rt: HostRuntime) -> Result<()
 fn too_large_a_room_is_a_bad_shape(rt: HostRuntime) -> Result<(), Fail> {
     let opening = open::<Anything>(rt.alloc(), &(), &[0], &[], 16_777_217, 1);
     assert!(rt; matches!(opening, Err(OpenFault::BadShape)));
+    Ok(())
+}
+
+#[test]
+fn a_range_that_one_session_publishes_is_loaded_by_another(rt: HostRuntime) -> Result<(), Fail> {
+    let alloc = rt.alloc();
+    let Ok((words, mut passes)) = open::<Named>(alloc, &(), &[0], &[], 4, 2) else {
+        panic!(rt; "no words")
+    };
+    let Some(x) = passes.pop() else {
+        panic!(rt; "no pass")
+    };
+    let Some(y) = passes.pop() else {
+        panic!(rt; "one pass")
+    };
+    let (mut x, published) = publish(&words, x, &[7, 8]);
+    let loaded = load_published(&words, y, &mut x);
+    assert!(rt; published && loaded == Some([7, 8]));
     Ok(())
 }

@@ -1,6 +1,7 @@
 //! Runs that meet, on one thread.
 
-ghost use Rattle.std.specs.Prelude.{false, ◌≡◌, ◌<◌, ◌⊎◌, length, IfSome};
+ghost use Rattle.std.specs.Prelude.{false, ◌≡◌, ◌<◌, ◌⊎◌, IfSome};
+ghost use Rattle.tlwords.specs.Callers.{SitsAt, AreOfOneOpening};
 
 use crate::shared::Anything;
 use std::alloc::Global;
@@ -14,11 +15,9 @@ const MOST_TRIES: u64 = 100_000_000;
 
 // Reads a cell and writes one more.
 fn add_one(words: &Words<Anything>, pass: Pass<Anything>, cell: usize) -> (Pass<Anything>, Outcome)
-    requires fits { (pass.seat.table_id ≡ words.now.table.shared.table_id) × (words.now.cells ≡ length pass.seat.me.0.base)
-        × (words.now.room ≡ pass.seat.me.0.room) }
+    requires opening { AreOfOneOpening words.now pass }
     requires cell { cell < words.now.cells }
-    ensures { (result.0.seat.table_id ≡ words.now.table.shared.table_id) × (words.now.cells ≡ length result.0.seat.me.0.base)
-        × (words.now.room ≡ result.0.seat.me.0.room) }
+    ensures { AreOfOneOpening words.now result.0 }
 {
     let mut run = begin(words, pass, Mode::Writing);
     match run.read(cell) {
@@ -45,12 +44,10 @@ fn meet(
     y: Pass<Anything>,
     written: usize,
 ) -> (Pass<Anything>, Outcome, Outcome)
-    requires x { (x.seat.table_id ≡ words.now.table.shared.table_id) × (words.now.cells ≡ length x.seat.me.0.base)
-        × (words.now.room ≡ x.seat.me.0.room) }
-    requires y { (y.seat.table_id ≡ words.now.table.shared.table_id) × (words.now.cells ≡ length y.seat.me.0.base)
-        × (words.now.room ≡ y.seat.me.0.room) }
+    requires x { AreOfOneOpening words.now x }
+    requires y { AreOfOneOpening words.now y }
     requires cells { (6 < words.now.cells) × ((written ≡ 5) ⊎ (written ≡ 6)) }
-    ensures { result.0.seat.table_id ≡ words.now.table.shared.table_id }
+    ensures { SitsAt words.now result.0 }
 {
     let mut run = begin(words, x, Mode::Writing);
     let a = run.read(5);
@@ -70,12 +67,10 @@ fn follow(
     y: Pass<Anything>,
     other: usize,
 ) -> (Pass<Anything>, Outcome, Outcome)
-    requires x { (x.seat.table_id ≡ words.now.table.shared.table_id) × (words.now.cells ≡ length x.seat.me.0.base)
-        × (words.now.room ≡ x.seat.me.0.room) }
-    requires y { (y.seat.table_id ≡ words.now.table.shared.table_id) × (words.now.cells ≡ length y.seat.me.0.base)
-        × (words.now.room ≡ y.seat.me.0.room) }
+    requires x { AreOfOneOpening words.now x }
+    requires y { AreOfOneOpening words.now y }
     requires cells { (6 < words.now.cells) × (other < words.now.cells) }
-    ensures { result.0.seat.table_id ≡ words.now.table.shared.table_id }
+    ensures { SitsAt words.now result.0 }
 {
     let mut run = begin(words, x, Mode::Writing);
     let (_, first) = add_one(words, y, other);
@@ -95,12 +90,10 @@ fn pass_by(
     x: Pass<Anything>,
     y: Pass<Anything>,
 ) -> (Pass<Anything>, Outcome, Outcome)
-    requires x { (x.seat.table_id ≡ words.now.table.shared.table_id) × (words.now.cells ≡ length x.seat.me.0.base)
-        × (words.now.room ≡ x.seat.me.0.room) }
-    requires y { (y.seat.table_id ≡ words.now.table.shared.table_id) × (words.now.cells ≡ length y.seat.me.0.base)
-        × (words.now.room ≡ y.seat.me.0.room) }
+    requires x { AreOfOneOpening words.now x }
+    requires y { AreOfOneOpening words.now y }
     requires cells { 6 < words.now.cells }
-    ensures { result.0.seat.table_id ≡ words.now.table.shared.table_id }
+    ensures { SitsAt words.now result.0 }
 {
     let mut run = begin(words, x, Mode::Writing);
     let read = run.read(5);
@@ -118,10 +111,8 @@ fn look_twice(
     x: Pass<Anything>,
     y: Pass<Anything>,
 ) -> (Outcome, [Option<u64>; 2], Outcome)
-    requires x { (x.seat.table_id ≡ words.now.table.shared.table_id) × (words.now.cells ≡ length x.seat.me.0.base)
-        × (words.now.room ≡ x.seat.me.0.room) }
-    requires y { (y.seat.table_id ≡ words.now.table.shared.table_id) × (words.now.cells ≡ length y.seat.me.0.base)
-        × (words.now.room ≡ y.seat.me.0.room) }
+    requires x { AreOfOneOpening words.now x }
+    requires y { AreOfOneOpening words.now y }
     requires cells { 6 < words.now.cells }
 {
     let mut run = begin(words, x, Mode::Reading);
@@ -135,8 +126,7 @@ fn look_twice(
 
 // Adds one to cell 0 until it has committed so often, and answers how often it did. It gives up after too many conflicts.
 fn add_often(words: &Words<Anything>, mut pass: Pass<Anything>, times: u64) -> u64
-    requires fits { (pass.seat.table_id ≡ words.now.table.shared.table_id) × (words.now.cells ≡ length pass.seat.me.0.base)
-        × (words.now.room ≡ pass.seat.me.0.room) }
+    requires opening { AreOfOneOpening words.now pass }
     requires cells { 0 < words.now.cells }
 {
     let mut done = 0;
@@ -163,10 +153,8 @@ fn add_together(
     y: Pass<Anything>,
     times: u64,
 ) -> (u64, u64)
-    requires x { (x.seat.table_id ≡ words.now.table.shared.table_id) × (words.now.cells ≡ length x.seat.me.0.base)
-        × (words.now.room ≡ x.seat.me.0.room) }
-    requires y { (y.seat.table_id ≡ words.now.table.shared.table_id) × (words.now.cells ≡ length y.seat.me.0.base)
-        × (words.now.room ≡ y.seat.me.0.room) }
+    requires x { AreOfOneOpening words.now x }
+    requires y { AreOfOneOpening words.now y }
     requires cells { 0 < words.now.cells }
 {
     join(
@@ -178,9 +166,7 @@ fn add_together(
 
 // Seven cells of value 0, and two passes.
 fn opened(alloc: Global) -> Option<(Words<Anything>, Pass<Anything>, Pass<Anything>)>
-    ensures { IfSome result (λ r. (r.0.cells ≡ 7) × (r.1.seat.table_id ≡ r.0.table.shared.table_id) × (r.0.cells ≡ length r.1.seat.me.0.base)
-        × (r.0.room ≡ r.1.seat.me.0.room) × (r.2.seat.table_id ≡ r.0.table.shared.table_id) × (r.0.cells ≡ length r.2.seat.me.0.base)
-        × (r.0.room ≡ r.2.seat.me.0.room)) }
+    ensures { IfSome result (λ r. (r.0.cells ≡ 7) × AreOfOneOpening r.0 r.1 × AreOfOneOpening r.0 r.2) }
 {
     let Ok((words, mut passes)) = open::<Anything>(alloc, &(), &[0; 7], &[], 0, 2) else {
         return None;
@@ -194,11 +180,12 @@ fn opened(alloc: Global) -> Option<(Words<Anything>, Pass<Anything>, Pass<Anythi
     Some((words, x, y))
 }
 
-fn is_conflict(outcome: Outcome, before: Option<u64>) -> bool {
-    let Outcome::Conflict { conflict, .. } = outcome else {
+// A conflict at cell 5, which Y has written, after this lock word and with this number drawn.
+fn is_conflict(outcome: Outcome, before: Option<u64>, number: Option<u64>) -> bool {
+    let Outcome::Conflict { conflict, drawn } = outcome else {
         return false;
     };
-    conflict.cell == 5 && conflict.word == 2 && conflict.before == before
+    conflict.cell == 5 && conflict.word == 2 && conflict.before == before && drawn == number
 }
 
 fn committed(outcome: Outcome) -> u64 {
@@ -228,7 +215,7 @@ fn a_taken_lock_word_is_another_than_that_read(rt: HostRuntime) -> Result<(), Fa
         panic!(rt; "no words")
     };
     let (x, first, second) = meet(&words, x, y, 5);
-    assert!(rt; committed(first) == 1 && is_conflict(second, Some(0)));
+    assert!(rt; committed(first) == 1 && is_conflict(second, Some(0), None));
     let closed = close(rt.alloc(), words, vec![in rt.alloc(); x]?)?;
     assert!(rt; shown(&closed) == [1, 2, 1, 0, 0]);
     Ok(())
@@ -240,7 +227,7 @@ fn a_failed_check_gives_the_lock_back(rt: HostRuntime) -> Result<(), Fail> {
         panic!(rt; "no words")
     };
     let (x, first, second) = meet(&words, x, y, 6);
-    assert!(rt; committed(first) == 1 && is_conflict(second, Some(0)));
+    assert!(rt; committed(first) == 1 && is_conflict(second, Some(0), Some(2)));
     let closed = close(rt.alloc(), words, vec![in rt.alloc(); x]?)?;
     assert!(rt; shown(&closed) == [2, 2, 1, 0, 0]);
     Ok(())
@@ -252,7 +239,7 @@ fn a_late_read_conflicts(rt: HostRuntime) -> Result<(), Fail> {
         panic!(rt; "no words")
     };
     let (x, first, second) = follow(&words, x, y, 5);
-    assert!(rt; committed(first) == 1 && is_conflict(second, None));
+    assert!(rt; committed(first) == 1 && is_conflict(second, None, None));
     let closed = close(rt.alloc(), words, vec![in rt.alloc(); x]?)?;
     assert!(rt; shown(&closed) == [1, 2, 1, 0, 0]);
     Ok(())
@@ -288,7 +275,9 @@ fn a_run_that_only_reads_keeps_no_reads(rt: HostRuntime) -> Result<(), Fail> {
         panic!(rt; "no words")
     };
     let (first, read, second) = look_twice(&words, x, y);
-    assert!(rt; committed(first) == 1 && read == [Some(0), Some(0)] && is_conflict(second, None));
+    assert!(rt;
+        committed(first) == 1 && read == [Some(0), Some(0)] && is_conflict(second, None, None)
+    );
     Ok(())
 }
 

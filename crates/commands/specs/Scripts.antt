@@ -1,12 +1,10 @@
 -- The grammar of scripts: which words spell transactions, and which bytes spell a script.
-use Rattle.std.specs.Prelude.{◌≡◌, ◌≢◌, ◌≤◌, ℕ, zero, suc, false, List, [], ◌∷◌, ◌++◌, length, Option, Some, None, Result, Ok, Err}
-use Rattle.std.specs.Prelude.{◌⊎◌, codes, find}
+use Rattle.std.specs.Prelude.{◌≡◌, ◌≢◌, ◌≤◌, ℕ, zero, suc, false, List, [], ◌∷◌, ◌++◌, length, Option, Some, None, Result, Ok}
+use Rattle.std.specs.Prelude.{codes, find}
 use Rattle.std.specs.List.{range_with_len}
 use Rattle.std.specs.Fmt.{decimal}
 use Rattle.std.specs.Str.{bytes_eq}
-use Rattle.mmtext.specs.declared.fault.TextFault.{TextFault}
 use Rattle.mmtext.specs.declared.fault.FaultKind.{FaultKind}
-use Rattle.mmtext.specs.declared.fault.FaultKind.TheVariants.{NoMemory}
 use Rattle.mmtext.specs.Text.{tokens, IsClean}
 use Rattle.mmtext.specs.Words.{Word, has_dollar}
 use Rattle.mmtext.specs.Comments.{words_of, without_comments}
@@ -19,7 +17,7 @@ use Rattle.mmsyntax.specs.Grammar.{Statement, spelling, Declares}
 use Rattle.mmsyntax.specs.Layout.{hypothesis_label}
 use Rattle.library.specs.declared.command.Command.{Command}
 use Rattle.library.specs.declared.command.Command.TheVariants as command
-use Rattle.library.specs.Fitting.{highest_rank}
+use Rattle.library.specs.Library.{highest_rank}
 
 -- ---- words
 
@@ -93,13 +91,3 @@ pub record SpellsScript (t : Tables) (bytes : List ℕ) (script : List (List Com
   pub words : List Word
   pub words_are : without_comments false (words_of (tokens bytes)) ≡ Some words
   pub transactions : SpellsEach (SpellsTransaction t) script words
-
--- the answer is the script, unless memory ran out
-abbrev pub ReadsScript : Result (List (List Command)) TextFault → List (List Command) → Type 0
-ReadsScript (Ok found) script = found ≡ script
-ReadsScript (Err f) script = f.kind ≡ NoMemory
-
--- the answer is the fault, unless memory ran out
-abbrev pub RefusesScript : Result (List (List Command)) TextFault → TextFault → Type 0
-RefusesScript (Ok found) f = ⊥
-RefusesScript (Err g) f = (g ≡ f) ⊎ (g.kind ≡ NoMemory)

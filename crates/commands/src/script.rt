@@ -5,11 +5,11 @@ ghost use Rattle.mmtext.specs.declared.fault.FaultKind.TheVariants.{NoMemory};
 ghost use Rattle.mmtext.specs.declared.fault.TextFault.{TextFault};
 ghost use Rattle.mmtext.specs.Text.{Token as SeenToken};
 ghost use Rattle.mmtext.specs.Views.{seen, Gives};
-ghost use Rattle.mmtext.specs.Languages.{step, said_at, finished, token_reading, reading};
+ghost use Rattle.mmtext.specs.Languages.{step, said_at, finished, token_reading, reading, Reads, Refuses};
 ghost use Rattle.mmsyntax.specs.Tables.{Tables};
 ghost use Rattle.library.specs.declared.command.Command.{Command};
 ghost use Rattle.library.specs.Fitting.{CommandFits};
-ghost use Rattle.commands.specs.Scripts.{SpellsScript, ReadsScript, RefusesScript};
+ghost use Rattle.commands.specs.Scripts.{SpellsScript};
 ghost use Rattle.commands.specs.ScriptFaults.{led, command_row, in_place, script_language, FaultyScript};
 ghost use Rattle.commands.specs.ScriptViews.{seen_led, seen_place, seen_progress, seen_state};
 
@@ -194,15 +194,16 @@ pub fn read_script(alloc: Global, prelude: &Prelude, text: &[u8]) -> Result<Scri
     ensures fits { IfOk result (λ script. All (λ commands. All (CommandFits prelude.now) commands) script) }
     // What is spelled so is read, if the text isn't too long, unless memory runs out.
     ensures only { (script : List (List Command)) → length text.now ≤ 16777216 → SpellsScript prelude.now text.now script
-        → ReadsScript result script }
+        → Reads result script }
     // Any other fault than want of memory is the text's.
     ensures fault { IfErr result (λ f. f.kind ≢ NoMemory → FaultyScript prelude.now text.now f) }
     // A fault is the text's, or want of memory, whose place is 0.
     ensures place { IfErr result (λ f. (f ≡ record { place = 0; kind = NoMemory }) ⊎ FaultyScript prelude.now text.now f) }
     // A text with a fault is refused with it, unless memory runs out.
-    ensures refused { (f : TextFault) → FaultyScript prelude.now text.now f → RefusesScript result f }
+    ensures refused { (f : TextFault) → FaultyScript prelude.now text.now f → Refuses result f }
 {
     // Some text declares a prelude, so what is read over it fits.
+    // For the proof: some text declares the prelude.
     let _floats = prelude.floats();
     match read_text(alloc, prelude, text) {
         Ok(script) => Ok(Sequence::from_vec(script)),

@@ -11,7 +11,7 @@ use Rattle.library.specs.declared.library.Ranked.{Ranked}
 use Rattle.library.specs.declared.reason.Reason.{Reason}
 use Rattle.library.specs.declared.reason.Reason.TheVariants as reason
 use Rattle.library.specs.Library.{Setting, label_of}
-use Rattle.library.specs.Edits.{Edited, Tests, tested, of_found, where_so, has, found, is_labelled, changed, without}
+use Rattle.library.specs.Edits.{Edited, Tests, tested, of_found, where_so, has, found, changed, without}
 use Rattle.library.specs.Edits.{is_axiom, bad_rank, bad_label, label_taken, cites_unknown, is_of_unknown, added, rename, add_tests}
 use Rattle.library.proofs.Editing.{where_none}
 use Rattle.library.proofs.Places.{find_nowhere, is_labelled-own}

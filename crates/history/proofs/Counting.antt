@@ -1,7 +1,7 @@
 -- How often each assertion is cited, counted by places: one step more, and one proof more.
 use Rattle.std.proofs.Common.{◌≡◌, ◌<◌, ◌≤◌, ◌+◌, ℕ, true, false, cond, List, [], ◌∷◌, ◌++◌, Option, None, Some, length, get_or, take, set}
 use Rattle.std.proofs.Common.{refl, sym, ap, subst, ◌∙◌, inl, inr, arith}
-use Rattle.std.specs.Prelude.{◌||◌}
+use Rattle.std.specs.Prelude.{◌||◌, slice_index}
 use Rattle.std.specs.List.{count_by, slice_get}
 use Rattle.std.specs.Str.{bytes_eq}
 use Rattle.std.proofs.lemmas.Bool.{cases_Bool, cases_eq, cond-true, cond-false, both_ways}
@@ -18,7 +18,7 @@ use Rattle.library.proofs.Counts.{one_if}
 use Rattle.history.specs.Entries.{Entries, StandsIn}
 use Rattle.history.specs.Places.{Places, IsIndex, StandsAt}
 use Rattle.history.specs.Testing.{passes_there}
-use Rattle.history.specs.Listing.{some_cites, AreNoted, AreCountedBefore}
+use Rattle.history.specs.Listing.{some_cites, AreNoted}
 use Rattle.history.proofs.Living.{one-place}
 
 -- ---- one step more
@@ -134,6 +134,14 @@ module _ (xs : Entries) (n : ℕ) (steps : List Step) (first counts stamps : Lis
     }
 
 -- ---- one proof more
+
+-- what is kept by place while the proofs of the first k entries are counted: how many of them cite each assertion, and an older stamp
+pub record AreCountedBefore (entries : Entries) (k : ℕ) (counts stamps : List ℕ) : Type 0 where
+  pub counts_long : length counts ≡ length entries
+  pub stamps_long : length stamps ≡ length entries
+  pub counted : (p : ℕ) (e : Ranked) → StandsIn entries p e
+      → slice_index counts p ≡ count_by (passes_there (cites (label_of e))) (take k entries)
+  pub older : (p : ℕ) (e : Ranked) → StandsIn entries p e → slice_index stamps p ≤ k
 
 module _ (xs : Entries) (k : ℕ) (o : Option Ranked) (k_in : k < length xs) (here : get_or xs k o ≡ o) where
   -- the count of the first entries, with one more

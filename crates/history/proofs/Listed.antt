@@ -8,7 +8,7 @@ use Rattle.library.specs.declared.library.Ranked.{Ranked}
 use Rattle.history.specs.declared.notes.Note.{Note}
 use Rattle.history.specs.Entries.{Entries}
 use Rattle.history.specs.Places.{Places}
-use Rattle.history.specs.Citers.{Citers, Covers, KeepsCiters, AreAscending}
+use Rattle.history.specs.Citers.{Citers, Covers, KeepsCiters, EachAscends}
 use Rattle.history.specs.Drafts.{undone, CanUndo, AreCiters}
 use Rattle.history.proofs.Covering.{keeps-pushed, covers-kept, covers-opened}
 use Rattle.history.proofs.Undoing.{undone-opened}
@@ -24,7 +24,7 @@ citers_noted c ns after es p o k covered back = record {
 }
 
 -- lists grow
-pub citers_grown : (c d : Citers) (ns : List Note) (es : Entries) → length d ≡ length c → AreAscending d → KeepsCiters c d
+pub citers_grown : (c d : Citers) (ns : List Note) (es : Entries) → length d ≡ length c → EachAscends d → KeepsCiters c d
     → AreCiters c ns es → AreCiters d ns es
 citers_grown c d ns es long up kept k = record {
   long = long ∙ k.long;
@@ -49,7 +49,7 @@ citers_opened m c last ns es empty can k =
     }
 
 -- nothing is noted
-pub citers_settled : (c : Citers) (ns : List Note) (es : Entries) → ns ≡ [] → length c ≡ length es → AreAscending c → Covers c es
+pub citers_settled : (c : Citers) (ns : List Note) (es : Entries) → ns ≡ [] → length c ≡ length es → EachAscends c → Covers c es
     → AreCiters c ns es
 citers_settled c ns es none long up covered =
     subst (λ k. AreCiters c k es) (sym none) (record { long = long; ascending = up; covers_now = covered; covers_start = covered })

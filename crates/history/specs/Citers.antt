@@ -1,4 +1,4 @@
--- Who may cite whom: for each place, the places whose proof may cite the assertion there.
+-- Of the code's inside, apart from the rules: for each place, the places whose proof may cite the assertion there.
 use Rattle.std.specs.Prelude.{◌≡◌, ℕ, true, List, All, Contains, Vec, slice_get, Some}
 use Rattle.std.specs.List.Sorted.{IsStrictlyIncreasing}
 use Rattle.std.specs.declared.alloc.Global.{Global}
@@ -20,8 +20,8 @@ pub record IsCiter (citers : Citers) (p q : ℕ) : Type 0 where
   pub member : Contains list.items q
 
 -- each list ascends, so that no place stands in it twice
-abbrev pub AreAscending : Citers → Type 0
-AreAscending citers = All (λ list. IsStrictlyIncreasing list.items) citers
+abbrev pub EachAscends : Citers → Type 0
+EachAscends citers = All (λ list. IsStrictlyIncreasing list.items) citers
 
 -- where the proof at q cites the label of the assertion at p, q stands in the list of p; others may stand there too
 pub record Covers (citers : Citers) (entries : Entries) : Type 0 where

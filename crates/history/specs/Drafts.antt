@@ -1,4 +1,4 @@
--- A library during a transaction: what was changed, and how it is taken back.
+-- Of the code's inside, apart from the rules: a library during a transaction: what was changed, and how it is taken back.
 use Rattle.std.specs.Prelude.{◌≡◌, ◌<◌, ℕ, zero, suc, List, [], ◌∷◌, length, map, set, slice_get, Option, Some, None}
 use Rattle.std.specs.Prelude.{◌≤◌, Vec, vec_len, vec_capacity, IsSome, Result, Ok, Err, false}
 use Rattle.std.specs.Option.{option_map}
@@ -19,7 +19,7 @@ use Rattle.history.specs.declared.editor.ApplyError.{ApplyError}
 use Rattle.history.specs.declared.editor.ApplyError.TheVariants.{Refused, NoMemory}
 use Rattle.history.specs.Entries.{Entries, living, standing, StandsIn, AreFramed}
 use Rattle.history.specs.Places.{Places, place_in, IsIndex, HasOnly, StandsSomewhere}
-use Rattle.history.specs.Citers.{Citers, AreAscending, Covers}
+use Rattle.history.specs.Citers.{Citers, EachAscends, Covers}
 
 -- ---- changes of one assertion
 
@@ -120,7 +120,7 @@ pub record IsDraft (t : Tables) (m : Places) (frames : List Frame) (notes : List
 -- of the transaction
 pub record AreCiters (citers : Citers) (notes : List Note) (entries : Entries) : Type 0 where
   pub long : length citers ≡ length entries
-  pub ascending : AreAscending citers
+  pub ascending : EachAscends citers
   pub covers_now : Covers citers entries
   pub covers_start : Covers citers (undone notes entries)
 

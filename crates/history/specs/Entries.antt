@@ -1,4 +1,5 @@
--- The assertions of an editor by their places: a place whose assertion was deleted is empty, and the others keep theirs.
+-- Of the code's inside, apart from the rules: the assertions of an editor by their places.
+-- A place whose assertion was deleted is empty, and the others keep theirs.
 use Rattle.std.specs.Prelude.{◌≡◌, ℕ, List, filter_map, length, map, Option, Some, slice_get}
 use Rattle.mmsyntax.specs.declared.statement.Frame.{Frame}
 use Rattle.mmsyntax.specs.Tables.{Tables}

@@ -1,4 +1,7 @@
 pub mod Editors
+pub mod Openings
+pub mod Replays
+pub mod Errors
 pub mod Entries
 pub mod Places
 pub mod Testing
@@ -6,5 +9,3 @@ pub mod Listing
 pub mod Citers
 pub mod Drafts
 pub mod Refusals
-pub mod Openings
-pub mod Replays

@@ -1,5 +1,5 @@
--- How assertions are listed: the order of their lines, and how often each is cited, counted by places.
-use Rattle.std.specs.Prelude.{◌≡◌, ◌<◌, ◌≤◌, ◌+◌, ℕ, Bool, true, false, cond, List, length, take, slice_index, count_by}
+-- Of the code's inside, apart from the rules: the order of listed lines, and how often each assertion is cited, counted by places.
+use Rattle.std.specs.Prelude.{◌≡◌, ◌<◌, ◌+◌, ℕ, Bool, true, false, cond, List, length, slice_index}
 use Rattle.std.specs.List.{list_any}
 use Rattle.std.specs.Cmp.Lexicographic.{slice_cmp}
 use Rattle.std.specs.Ordering.{nat_cmp, ordering_then}
@@ -8,9 +8,8 @@ use Rattle.mmsyntax.specs.declared.statement.Step.{Step}
 use Rattle.library.specs.declared.command.Line.{Line}
 use Rattle.library.specs.declared.library.Ranked.{Ranked}
 use Rattle.library.specs.Library.{label_of}
-use Rattle.library.specs.Edits.{is_citation, cites, citers}
+use Rattle.library.specs.Edits.{is_citation, citers}
 use Rattle.history.specs.Entries.{Entries, living, StandsIn}
-use Rattle.history.specs.Testing.{passes_there}
 
 -- by rank, then by the bytes of the label
 abbrev pub line_cmp : Line → Line → Ordering
@@ -27,14 +26,6 @@ pub record AreNoted (entries : Entries) (number : ℕ) (steps : List Step) (firs
       → slice_index counts p ≡ slice_index first p + cond (some_cites steps (label_of e)) 1 0
   pub stamped : (p : ℕ) (e : Ranked) → StandsIn entries p e → some_cites steps (label_of e) ≡ true → slice_index stamps p ≡ number
   pub older : (p : ℕ) (e : Ranked) → StandsIn entries p e → some_cites steps (label_of e) ≡ false → slice_index stamps p < number
-
--- what is kept by place while the proofs of the first k entries are counted: how many of them cite each assertion, and an older stamp
-pub record AreCountedBefore (entries : Entries) (k : ℕ) (counts stamps : List ℕ) : Type 0 where
-  pub counts_long : length counts ≡ length entries
-  pub stamps_long : length stamps ≡ length entries
-  pub counted : (p : ℕ) (e : Ranked) → StandsIn entries p e
-      → slice_index counts p ≡ count_by (passes_there (cites (label_of e))) (take k entries)
-  pub older : (p : ℕ) (e : Ranked) → StandsIn entries p e → slice_index stamps p ≤ k
 
 -- by place, the number of assertions whose proof cites the one there
 pub record AreCounted (entries : Entries) (counts : List ℕ) : Type 0 where

@@ -1,4 +1,4 @@
--- Where each label of a library stands: a map from labels to places.
+-- Of the code's inside, apart from the rules: where each label of a library stands: a map from labels to places.
 use Rattle.std.specs.Prelude.{◌≡◌, ◌⊎◌, ℕ, false, cond, List, Option, Some, None, Vec, IsSome}
 use Rattle.std.specs.Str.{bytes_eq}
 use Rattle.std.specs.HashMap.{HashMap, get_by}

@@ -1,4 +1,4 @@
--- The reason for which a command is refused: that of the first test that has one.
+-- Of the code's inside, apart from the rules: the reason for which a command is refused, that of the first test that has one.
 use Rattle.std.specs.Prelude.{ℕ, [], ◌∷◌, List, Option, Some, None}
 use Rattle.mmsyntax.specs.declared.statement.Assertion.{Assertion}
 use Rattle.library.specs.declared.library.Ranked.{Ranked}

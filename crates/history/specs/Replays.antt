@@ -4,16 +4,13 @@ use Rattle.mmsyntax.specs.Tables.{Contents}
 use Rattle.library.specs.declared.library.Ranked.{Ranked}
 use Rattle.library.specs.declared.command.Command.{Command}
 use Rattle.library.specs.declared.command.Reply.{Reply}
-use Rattle.library.specs.Library.{Setting, Listed, opening, ShowsInOrder}
+use Rattle.library.specs.Library.{Setting, setting_over, Listed, opening, ShowsInOrder}
 use Rattle.library.specs.Transactions.{apply}
+use Rattle.history.specs.declared.editor.OpenError.{OpenError}
+use Rattle.history.specs.declared.editor.OpenError.TheVariants as opening_error
 use Rattle.history.specs.declared.replaying.ReplayError.{ReplayError}
 use Rattle.history.specs.declared.replaying.ReplayError.TheVariants.{Differs, TooMany, NoMemory}
-use Rattle.history.specs.Editors.{Held}
 use Rattle.library.specs.Histories.{Entry, done_entry, after, after_all, IsLegal}
-
--- so many slots over the prelude of a database
-abbrev pub slotted : Contents → ℕ → Setting
-slotted db slots = record { prelude = db.prelude; slots = slots }
 
 -- the first entry whose replies aren't the editor's: those before it are legal, and its transaction is refused, or has other replies
 pub record IsFirstDiffering (s : Setting) (lib0 : List Ranked) (h : List Entry) (n : ℕ) : Type 0 where
@@ -25,21 +22,17 @@ pub record IsFirstDiffering (s : Setting) (lib0 : List Ranked) (h : List Entry) 
   pub stands : slice_get h place ≡ Some (done_entry commands replies)
   pub differs : (next : List Ranked) → apply s (after s lib0 h place) commands ≢ Ok (record { library = next; replies = replies })
 
+-- the error of a replay whose editor isn't opened
+abbrev pub unopened : OpenError → ReplayError
+unopened opening_error.TooMany = TooMany
+unopened opening_error.NoMemory = NoMemory
+
 -- a history that is legal from the opening of the database, with the library after it in export order; or the first entry that differs
 abbrev pub Replays : Contents → ℕ → List Entry → Result Listed ReplayError → Type 0
 Replays db slots h (Ok library) = (length db.assertions ≤ slots)
-    × IsLegal (slotted db slots) (opening db) h
-    × (library.setting ≡ slotted db slots)
-    × ShowsInOrder (after_all (slotted db slots) (opening db) h) library.entries
-Replays db slots h (Err (Differs n)) = IsFirstDiffering (slotted db slots) (opening db) h n
+    × IsLegal (setting_over db slots) (opening db) h
+    × (library.setting ≡ setting_over db slots)
+    × ShowsInOrder (after_all (setting_over db slots) (opening db) h) library.entries
+Replays db slots h (Err (Differs n)) = IsFirstDiffering (setting_over db slots) (opening db) h n
 Replays db slots h (Err TooMany) = slots < length db.assertions
 Replays db slots h (Err NoMemory) = Unit {0}
-
--- ---- as the functions see them
-
--- an editor's opening, with the errors of a replay
-abbrev pub Opened : Contents → ℕ → Result Held ReplayError → Type 0
-Opened db slots (Ok e) = (length db.assertions ≤ slots) × (e ≡ record { setting = slotted db slots; library = opening db })
-Opened db slots (Err (Differs n)) = ⊥
-Opened db slots (Err TooMany) = slots < length db.assertions
-Opened db slots (Err NoMemory) = Unit {0}

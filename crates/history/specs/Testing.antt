@@ -1,4 +1,4 @@
--- What the tests of commands ask of one place of the entries.
+-- Of the code's inside, apart from the rules: what the tests of commands ask of one place of the entries.
 use Rattle.std.specs.Prelude.{ℕ, Bool, false, ◌&&◌, nat_le, slice_index_or, List, Option, None, Some}
 use Rattle.library.specs.declared.library.Ranked.{Ranked}
 use Rattle.library.specs.Edits.{cites}

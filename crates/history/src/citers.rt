@@ -3,7 +3,7 @@
 ghost use Rattle.std.specs.Prelude.{◌≡◌, ◌∷◌, [], ℕ, length, Contains, IfOk, OnOk};
 ghost use Rattle.std.specs.List.Sorted.{IsStrictlyIncreasing};
 ghost use Rattle.history.specs.Places.{IsIndex};
-ghost use Rattle.history.specs.Citers.{AreAscending, AreEntered, Covers, KeepsCiters};
+ghost use Rattle.history.specs.Citers.{EachAscends, AreEntered, Covers, KeepsCiters};
 
 use crate::places::{Places, find_label};
 use library::Ranked;
@@ -43,8 +43,8 @@ fn enter_step(
 ) -> Result<(), AllocError>
     requires indexed { IsIndex places.now entries.now }
     requires long { length citers.old ≡ length entries.now }
-    requires ascending { AreAscending citers.old }
-    ensures ascending { AreAscending citers.new }
+    requires ascending { EachAscends citers.old }
+    ensures ascending { EachAscends citers.new }
     ensures kept { KeepsCiters citers.old citers.new }
     ensures entered { OnOk result (AreEntered citers.new entries.now (step.now ∷ []) place) }
 {
@@ -68,9 +68,9 @@ pub(crate) fn enter_citer(
 ) -> Result<(), AllocError>
     requires indexed { IsIndex places.now entries.now }
     requires long { length citers.old ≡ length entries.now }
-    requires ascending { AreAscending citers.old }
+    requires ascending { EachAscends citers.old }
     ensures long { length citers.new ≡ length citers.old }
-    ensures ascending { AreAscending citers.new }
+    ensures ascending { EachAscends citers.new }
     ensures kept { KeepsCiters citers.old citers.new }
     ensures entered { OnOk result (AreEntered citers.new entries.now steps.now place) }
 {
@@ -83,7 +83,7 @@ pub(crate) fn enter_citer(
 /// So many empty lists.
 fn empty_lists(alloc: Global, count: usize) -> Result<Citers, AllocError>
     ensures long { IfOk result (λ made. length made.items ≡ count) }
-    ensures ascending { IfOk result (λ made. AreAscending made.items) }
+    ensures ascending { IfOk result (λ made. EachAscends made.items) }
 {
     let mut citers = Vec::with_capacity(alloc, count)?;
     for _ in 0..count {
@@ -100,7 +100,7 @@ pub(crate) fn open_citers(
 ) -> Result<Citers, AllocError>
     requires { IsIndex places.now entries.now }
     ensures long { IfOk result (λ made. length made.items ≡ length entries.now) }
-    ensures ascending { IfOk result (λ made. AreAscending made.items) }
+    ensures ascending { IfOk result (λ made. EachAscends made.items) }
     ensures covered { IfOk result (λ made. Covers made.items entries.now) }
 {
     let mut citers = empty_lists(alloc, entries.len())?;

@@ -6,23 +6,78 @@ use mmstatement::{Database, Prelude, Sequence};
 use std::alloc::{AllocError, Global};
 use std::hash::RandomState;
 use std::marker::Model;
+use thiserror::Error;
 
-/// Why an editor is not opened.
-#[derive(Clone, Copy, Debug, PartialEq, Eq)]
+/// Why an editor is not opened, in the order of their numbers from 1.
+#[derive(Clone, Copy, Debug, PartialEq, Eq, Error)]
 pub enum OpenError {
     /// The database has more assertions than there are slots.
+    #[error("more assertions than slots")]
     TooMany,
     /// Memory ran out.
+    #[error("out of memory")]
     NoMemory,
 }
 
-/// Why a transaction has no replies. The library is then as it was.
-#[derive(Clone, Copy, Debug, PartialEq, Eq)]
+/// Why a transaction has no replies, in the order of their numbers from 1. The library is then as it was.
+#[derive(Clone, Copy, Debug, PartialEq, Eq, Error)]
 pub enum ApplyError {
     /// A command was refused, and with it the transaction.
+    #[error("{0}")]
     Refused(Refused),
     /// Memory ran out.
+    #[error("out of memory")]
     NoMemory,
+}
+
+impl OpenError {
+    ghost use Rattle.std.specs.Prelude.{◌≡◌};
+    ghost use Rattle.history.specs.Errors.{open_number, open_name};
+
+    /// The number of the error, 1 or 2.
+    pub fn number(self) -> u32
+        ensures { result ≡ open_number self }
+    {
+        match self {
+            OpenError::TooMany => 1,
+            OpenError::NoMemory => 2,
+        }
+    }
+
+    /// The name of the error: its variant's word.
+    pub fn name(self) -> &'static str
+        ensures { result.now ≡ open_name self }
+    {
+        match self {
+            OpenError::TooMany => "TooMany",
+            OpenError::NoMemory => "NoMemory",
+        }
+    }
+}
+
+impl ApplyError {
+    ghost use Rattle.std.specs.Prelude.{◌≡◌};
+    ghost use Rattle.history.specs.Errors.{apply_number, apply_name};
+
+    /// The number of the error, 1 or 2.
+    pub fn number(self) -> u32
+        ensures { result ≡ apply_number self }
+    {
+        match self {
+            ApplyError::Refused(_) => 1,
+            ApplyError::NoMemory => 2,
+        }
+    }
+
+    /// The name of the error: its variant's word.
+    pub fn name(self) -> &'static str
+        ensures { result.now ≡ apply_name self }
+    {
+        match self {
+            ApplyError::Refused(_) => "Refused",
+            ApplyError::NoMemory => "NoMemory",
+        }
+    }
 }
 
 impl From<AllocError> for OpenError {

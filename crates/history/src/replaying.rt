@@ -3,8 +3,7 @@
 ghost use Rattle.std.specs.Prelude.{◌≡◌, ◌≤◌, ◌↔◌, IfOk, OnOk, IsTrue, map};
 ghost use Rattle.proofcheck.specs.Databases.{AllCheck};
 ghost use Rattle.library.specs.Histories.{told, after_entry, EntryFits, EntriesFit, IsRepeated};
-ghost use Rattle.history.specs.Openings.{Opens};
-ghost use Rattle.history.specs.Replays.{Opened, Replays};
+ghost use Rattle.history.specs.Replays.{Replays};
 
 use crate::editor::{ApplyError, Editor, OpenError};
 use crate::same::same_replies;
@@ -12,16 +11,61 @@ use library::{Entry, PlainLibrary};
 use mmstatement::Database;
 use std::alloc::{AllocError, Global};
 use std::hash::RandomState;
+use thiserror::Error;
 
-/// Why a history isn't replayed.
-#[derive(Clone, Copy, Debug, PartialEq, Eq)]
+/// Why a history isn't replayed, in the order of their numbers from 1.
+#[derive(Clone, Copy, Debug, PartialEq, Eq, Error)]
 pub enum ReplayError {
     /// Entry n, counted from 1, is the first whose replies aren't the editor's.
+    #[error("entry {0} differs")]
     Differs(usize),
     /// The database has more assertions than there are slots.
+    #[error("more assertions than slots")]
     TooMany,
     /// Memory ran out.
+    #[error("out of memory")]
     NoMemory,
+}
+
+impl ReplayError {
+    ghost use Rattle.std.specs.Prelude.{◌≡◌};
+    ghost use Rattle.history.specs.Errors.{replay_number, replay_name};
+
+    /// The number of the error, from 1 to 3.
+    pub fn number(self) -> u32
+        ensures { result ≡ replay_number self }
+    {
+        match self {
+            ReplayError::Differs(_) => 1,
+            ReplayError::TooMany => 2,
+            ReplayError::NoMemory => 3,
+        }
+    }
+
+    /// The name of the error: its variant's word.
+    pub fn name(self) -> &'static str
+        ensures { result.now ≡ replay_name self }
+    {
+        match self {
+            ReplayError::Differs(_) => "Differs",
+            ReplayError::TooMany => "TooMany",
+            ReplayError::NoMemory => "NoMemory",
+        }
+    }
+}
+
+impl From<OpenError> for ReplayError {
+    ghost use Rattle.std.specs.Prelude.{◌≡◌};
+    ghost use Rattle.history.specs.Replays.{unopened};
+
+    ghost from_gives = { λ opening error. error ≡ unopened opening };
+
+    fn from(error: OpenError) -> Self {
+        match error {
+            OpenError::TooMany => ReplayError::TooMany,
+            OpenError::NoMemory => ReplayError::NoMemory,
+        }
+    }
 }
 
 impl From<AllocError> for ReplayError {
@@ -32,24 +76,6 @@ impl From<AllocError> for ReplayError {
 
     fn from(_error: AllocError) -> Self {
         ReplayError::NoMemory
-    }
-}
-
-/// Opens the editor of a database.
-fn open(
-    alloc: Global,
-    keys: RandomState,
-    db: &Database,
-    slots: usize,
-) -> Result<Editor, ReplayError>
-    requires slots { (1 ≤ slots) × (slots ≤ 4096) }
-    requires checks { AllCheck db.now }
-    ensures { Opened db.now slots result }
-{
-    match Editor::open(alloc, keys, db, slots) {
-        Ok(editor) => Ok(editor),
-        Err(OpenError::TooMany) => Err(ReplayError::TooMany),
-        Err(OpenError::NoMemory) => Err(ReplayError::NoMemory),
     }
 }
 
@@ -88,7 +114,7 @@ pub fn replay(
     requires fit { EntriesFit db.now.prelude (map told history.now) }
     ensures { Replays db.now slots (map told history.now) result }
 {
-    let mut editor = open(alloc, keys, db, slots)?;
+    let mut editor = Editor::open(alloc, keys, db, slots)?;
     for (i, entry) in history.iter().enumerate() {
         if !repeats(alloc, &mut editor, entry)? {
             return Err(ReplayError::Differs(i + 1));

@@ -1,4 +1,4 @@
--- How the values of the reader of histories are seen.
+-- Of the code's inside, apart from the rules: how the values of the reader of histories are seen.
 use Rattle.std.specs.Prelude.{ℕ, Result, Ok, Err, if◌then◌else◌, codes}
 use Rattle.std.specs.Str.{bytes_eq}
 use Rattle.mmtext.specs.declared.fault.FaultKind.TheVariants.{BadToken}

@@ -4,8 +4,7 @@ ghost use Rattle.std.specs.Prelude.{◌≡◌, ◌≢◌, ◌≤◌, ◌⊎◌, 
 ghost use Rattle.mmtext.specs.declared.fault.FaultKind.TheVariants.{NoMemory};
 ghost use Rattle.mmtext.specs.declared.fault.TextFault.{TextFault};
 ghost use Rattle.mmtext.specs.Views.{seen, Gives};
-ghost use Rattle.mmtext.specs.Languages.{step, said_at, finished, token_reading, reading};
-ghost use Rattle.mmsyntax.specs.Grammar.{Reads, Refuses};
+ghost use Rattle.mmtext.specs.Languages.{step, said_at, finished, token_reading, reading, Reads, Refuses};
 ghost use Rattle.mmsyntax.specs.Tables.{Tables};
 ghost use Rattle.library.specs.declared.history.Entry.{Entry};
 ghost use Rattle.historytext.specs.Grammar.{SpellsHistory};
@@ -186,6 +185,7 @@ pub fn read_history(alloc: Global, prelude: &Prelude, text: &[u8]) -> Result<His
     ensures refused { (f : TextFault) → FaultyHistory prelude.now text.now f → Refuses result f }
 {
     // Some text declares a prelude, so what is read over it fits.
+    // For the proof: some text declares the prelude.
     let _floats = prelude.floats();
     match read_text(alloc, prelude, text) {
         Ok(entries) => Ok(Sequence::from_vec(entries)),

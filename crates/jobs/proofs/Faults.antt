@@ -9,7 +9,8 @@ use Rattle.commands.specs.Scripts.{SpellsScript}
 use Rattle.commands.specs.ScriptFaults.{FaultyScript}
 use Rattle.jobs.specs.declared.job.Fault.{Fault}
 use Rattle.jobs.specs.declared.job.Fault.TheVariants.{Text, Proof, Differs, NoMemory}
-use Rattle.jobs.specs.Jobs.{Bytes, Orders, IsScript, AreScripts, IsFirstFault, IsScriptFault, IsTextFaultOf, IsRefusedBy, IsRefusedWith}
+use Rattle.jobs.specs.Jobs.{Bytes, Orders, IsScript, AreScripts, IsFirstFault}
+use Rattle.jobs.specs.Parts.{IsScriptFault, IsTextFaultOf, IsRefusedBy, IsRefusedWith}
 use Rattle.mmsyntax.specs.Tables.{Tables}
 
 module _ (p : Tables) where

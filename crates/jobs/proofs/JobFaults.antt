@@ -14,7 +14,8 @@ use Rattle.proofcheck.specs.Databases.{IsFirstFault as IsFirstFaultOfProofs}
 use Rattle.jobs.specs.declared.job.Fault.{Fault}
 use Rattle.jobs.specs.declared.job.Fault.TheVariants.{Text, Proof, Differs, NoMemory}
 use Rattle.jobs.specs.Jobs.{Bytes, IsDatabase, IsChecked, IsLabelAt, IsFirstFault, IsProofFault, IsDatabaseFault}
-use Rattle.jobs.specs.Jobs.{IsRunFault, IsTextFaultOf, IsProofFaultOf, IsRefusedBy, IsOrLacksMemory}
+use Rattle.jobs.specs.Jobs.{IsRunFault, IsOrLacksMemory}
+use Rattle.jobs.specs.Parts.{IsTextFaultOf, IsProofFaultOf, IsRefusedBy}
 
 -- ---- proofs
 

@@ -15,8 +15,10 @@ use Rattle.historytext.specs.Places.{FaultyHistory}
 use Rattle.jobs.specs.declared.job.Fault.{Fault}
 use Rattle.jobs.specs.declared.job.Fault.TheVariants.{Text, Proof, Differs, NoMemory}
 use Rattle.jobs.specs.Outcomes.{setting_of}
-use Rattle.jobs.specs.Jobs.{Bytes, IsChecked, IsHistory, IsDatabaseFault, IsHistoryFault, IsDifference, IsReplayFault}
-use Rattle.jobs.specs.Jobs.{PrintsReplay, IsReplay, IsTextFaultOf, IsRefusedBy, IsOrLacksMemory, RefusesWith}
+use Rattle.jobs.specs.Jobs.{Bytes, IsChecked, IsHistory, IsDatabaseFault, IsDifference, IsReplayFault}
+use Rattle.jobs.specs.Parts.{IsHistoryFault}
+use Rattle.jobs.specs.Jobs.{PrintsReplay, IsReplay, IsOrLacksMemory, RefusesWith}
+use Rattle.jobs.specs.Parts.{IsTextFaultOf, IsRefusedBy}
 
 -- ---- the text of the history
 

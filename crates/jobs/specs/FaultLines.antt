@@ -2,7 +2,7 @@
 use Rattle.std.specs.Prelude.{ℕ, List, [], ◌++◌, Option, Some, None, codes, slice_index_or, if◌then◌else◌}
 use Rattle.std.specs.Str.{is_utf8}
 use Rattle.std.specs.Fmt.{decimal}
-use Rattle.mmtext.specs.FaultNames.{printed_kind}
+use Rattle.mmtext.specs.FaultNames.{printed_fault as printed_text_fault}
 use Rattle.proofcheck.specs.FaultNames.{printed_fault}
 use Rattle.jobs.specs.declared.job.Fault.{Fault}
 use Rattle.jobs.specs.declared.job.Fault.TheVariants.{Text, Proof, Differs, NoMemory}
@@ -13,7 +13,7 @@ shown_label label = if is_utf8 label then label else codes "?"
 
 -- `text K Name at byte B`, `proof of LABEL: step STEP: K Name`, `entry N differs` or `no memory`
 abbrev pub fault_text : Fault → List ℕ
-fault_text (Text file fault) = codes "text " ++ (printed_kind fault.kind ++ (codes " at byte " ++ decimal fault.place))
+fault_text (Text file fault) = codes "text " ++ printed_text_fault fault
 fault_text (Proof label fault) = codes "proof of " ++ (shown_label label ++ (codes ": " ++ printed_fault fault))
 fault_text (Differs n) = codes "entry " ++ (decimal n ++ codes " differs")
 fault_text NoMemory = codes "no memory"

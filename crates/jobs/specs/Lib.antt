@@ -2,5 +2,6 @@ pub mod Outcomes
 pub mod Reports
 pub mod FaultLines
 pub mod Jobs
+pub mod Parts
 pub mod Tasks
 pub mod Laws

@@ -5,7 +5,7 @@ use Rattle.mmsyntax.specs.Tables.{Tables, Contents}
 use Rattle.library.specs.declared.library.Ranked.{Ranked}
 use Rattle.library.specs.declared.command.Command.{Command}
 use Rattle.library.specs.declared.reason.Refused.{Refused as Refusal}
-use Rattle.library.specs.Library.{Setting, opening}
+use Rattle.library.specs.Library.{Setting, setting_over, opening}
 use Rattle.library.specs.Fitting.{ReplyFits}
 use Rattle.library.specs.Transactions.{Applied, apply, library_of, has_edit, has_too_many}
 use Rattle.library.specs.declared.history.Entry.{Entry}
@@ -18,7 +18,7 @@ use Rattle.jobs.specs.declared.outcome.Outcome.TheVariants.{Committed, Read, Ref
 
 -- how a library of the program stands: over the prelude of its database, with 4,096 slots
 abbrev pub setting_of : Contents → Setting
-setting_of db = record { prelude = db.prelude; slots = 4096 }
+setting_of db = setting_over db 4096
 
 -- the library after the transactions so far, and the history of those that were committed
 pub record Standing : Type 0 where

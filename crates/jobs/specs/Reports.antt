@@ -4,25 +4,10 @@ use Rattle.std.specs.List.{flat_map}
 use Rattle.std.specs.Fmt.{decimal}
 use Rattle.mmsyntax.specs.Tables.{Tables}
 use Rattle.mmsyntax.specs.Layout.{line}
-use Rattle.proofcheck.specs.FaultNames.{printed_fault}
-use Rattle.library.specs.declared.reason.Reason.{Reason}
-use Rattle.library.specs.declared.reason.Reason.TheVariants.{StillCited, ProofFails}
-use Rattle.library.specs.Reasons.{number_of, name_of}
+use Rattle.library.specs.Reasons.{printed_reason}
 use Rattle.historytext.specs.Layout.{reply_text}
 use Rattle.jobs.specs.declared.outcome.Outcome.{Outcome}
 use Rattle.jobs.specs.declared.outcome.Outcome.TheVariants.{Committed, Read, Refused, TooManyCommands}
-
--- ---- reasons
-
--- what stands behind the name of a reason: the number of citers, or the step and the fault of the proof
-abbrev pub said_besides : Reason → List ℕ
-said_besides (StillCited citers) = 32 ∷ decimal citers
-said_besides (ProofFails fault) = 32 ∷ printed_fault fault
-said_besides _ = []
-
--- number, space, name, and what is said besides, as in: 2 LabelTaken; 8 StillCited 3; 11 ProofFails step 1: 2 StackShort
-abbrev pub reason_text : Reason → List ℕ
-reason_text reason = decimal (number_of reason) ++ 32 ∷ (name_of reason ++ said_besides reason)
 
 -- ---- outcomes
 
@@ -31,7 +16,7 @@ abbrev pub outcome_text : Tables → Outcome → List ℕ
 outcome_text t (Committed number replies) = line (codes "committed" ∷ decimal number ∷ []) ++ flat_map (reply_text t) replies
 outcome_text t (Read place replies) = line (codes "read" ∷ decimal place ∷ []) ++ flat_map (reply_text t) replies
 outcome_text t (Refused place index reason) =
-    codes "refused " ++ (decimal place ++ (codes " at " ++ (decimal index ++ (codes ": " ++ (reason_text reason ++ 10 ∷ [])))))
+    codes "refused " ++ (decimal place ++ (codes " at " ++ (decimal index ++ (codes ": " ++ (printed_reason reason ++ 10 ∷ [])))))
 outcome_text t TooManyCommands = codes "too many commands" ++ 10 ∷ []
 
 -- ---- reports

@@ -43,6 +43,7 @@ fn submit(
     ensures after { OnOk result (standing editor.new history.new.items ≡ moved editor.old.setting (standing editor.old history.old.items) transaction.now) }
     ensures fits { IfOk result (OutcomeFits editor.old.setting.prelude) }
 {
+    // For the proof: the editor's library verifies.
     let _count = editor.assertion_count();
     let before = count_of(history);
     let edits = has_edit(transaction);
@@ -134,7 +135,7 @@ fn open(alloc: Global, keys: RandomState, db: &Database) -> Result<Editor, Alloc
     requires { AllCheck db.now }
     ensures { IfOk result (λ e. e ≡ record { setting = setting_of db.now; library = opening db.now }) }
 {
-    // A database has at most as many assertions as there are slots: its assertions say so.
+    // For the proof: a database has at most as many assertions as there are slots.
     let _assertions = db.assertions();
     match Editor::open(alloc, keys, db, SLOTS) {
         Ok(editor) => Ok(editor),
@@ -187,12 +188,14 @@ pub fn edit_all(
     ensures spelled { IfOk result (λ e. SpellsHistory db.now.prelude (history_text db.now.prelude e.history) e.history) }
 {
     let mut editor = open(alloc, keys, db)?;
+    // For the proof: the editor's library verifies.
     let _count = editor.assertion_count();
     let mut history = Vec::new(alloc);
     let outcomes = run_all(alloc, &mut editor, &mut history, scripts)?;
     // There are no more entries than a text can count.
     let _entry_count = count_of(&history);
     let library = editor.into_library();
+    // For the proof: the library verifies, and is in export order.
     let _entries = library.entries();
     Ok(Edited {
         outcomes,

@@ -1,6 +1,6 @@
 //! What the program is asked to do, what it prints, and why it prints nothing.
 
-ghost use Rattle.jobs.specs.Jobs.{IsTextFaultOf};
+ghost use Rattle.jobs.specs.Parts.{IsTextFaultOf};
 
 use mmstatement::{FaultKind, Label, TextFault};
 use proofcheck::ProofFault;

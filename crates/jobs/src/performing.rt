@@ -10,9 +10,10 @@ ghost use Rattle.jobs.specs.declared.job.Fault.TheVariants.{NoMemory};
 ghost use Rattle.jobs.specs.Jobs.{AreScripts, IsChecked, library_lines, PrintsRun, IsCheck, IsRun, IsReplay, DoneAsAsked, IsLabelAt};
 ghost use Rattle.jobs.specs.Outcomes.{OutcomesFit};
 ghost use Rattle.jobs.specs.Reports.{report_text};
-ghost use Rattle.jobs.specs.Jobs.{IsFirstFault, IsTextFaultOf, IsScriptFault, IsProofFault, IsDatabaseFault};
-ghost use Rattle.jobs.specs.Jobs.{IsRunFault, IsReplayFault, IsFaultOf, IsRefusedWith, RefusesWith, IsProofFaultOf, GivesOrLacksMemory};
-ghost use Rattle.jobs.specs.Jobs.{AnswersItsOwn, IsPrintedBy};
+ghost use Rattle.jobs.specs.Jobs.{IsFirstFault, IsProofFault, IsDatabaseFault};
+ghost use Rattle.jobs.specs.Parts.{IsTextFaultOf, IsScriptFault};
+ghost use Rattle.jobs.specs.Jobs.{IsRunFault, IsReplayFault, IsFaultOf, AnswersItsOwn, IsPrintedBy, RefusesWith};
+ghost use Rattle.jobs.specs.Parts.{IsRefusedWith, IsProofFaultOf, GivesOrLacksMemory};
 ghost use Rattle.mmsyntax.specs.Tables.{Contents};
 ghost use Rattle.library.specs.Fitting.{CommandFits};
 
@@ -125,7 +126,7 @@ fn print_run(
     requires fit { All (All (All (CommandFits db.now.prelude))) scripts.now }
     ensures { IfOk result (λ p. PrintsRun db.now scripts.now p.out.items p.history.items) }
 {
-    // Some text declares a database: its assertions say so.
+    // For the proof: some text declares the database.
     let _assertions = db.assertions();
     let edited = edit_all(alloc, keys, db, scripts)?;
     Ok(Printed {

@@ -9,8 +9,10 @@ ghost use Rattle.historytext.specs.Places.{FaultyHistory};
 ghost use Rattle.historytext.specs.Layout.{EntryFits};
 ghost use Rattle.jobs.specs.declared.job.Fault.{Fault as FaultOfJob};
 ghost use Rattle.jobs.specs.declared.job.Fault.TheVariants.{NoMemory};
-ghost use Rattle.jobs.specs.Jobs.{library_lines, IsHistory, IsReplayed, PrintsReplay, IsHistoryFault, IsDifference};
-ghost use Rattle.jobs.specs.Jobs.{GivesOrLacksMemory, IsRefusedWith, RefusesWith};
+ghost use Rattle.jobs.specs.Jobs.{library_lines, IsHistory, PrintsReplay, IsDifference};
+ghost use Rattle.jobs.specs.Parts.{IsReplayed, IsHistoryFault};
+ghost use Rattle.jobs.specs.Jobs.{RefusesWith};
+ghost use Rattle.jobs.specs.Parts.{GivesOrLacksMemory, IsRefusedWith};
 
 use crate::edits::SLOTS;
 use crate::job::{Fault, text_fault};
@@ -49,7 +51,7 @@ fn replay(
     ensures fault { IfErr result (λ f. f ≢ NoMemory → IsDifference db.now history.now f) }
     ensures refused { (f : FaultOfJob) → IsDifference db.now history.now f → RefusesWith f result }
 {
-    // A database has at most as many assertions as there are slots: its assertions say so.
+    // For the proof: a database has at most as many assertions as there are slots.
     let _assertions = db.assertions();
     match history::replay(alloc, keys, db, SLOTS, history) {
         Ok(library) => Ok(library),
@@ -85,6 +87,7 @@ pub(crate) fn print_replay(
     ensures refused { (f : FaultOfJob) → IsDifference db.now history.now f → RefusesWith f result }
 {
     let library = replay(alloc, keys, db, history)?;
+    // For the proof: the library verifies, and is in export order.
     let _entries = library.entries();
     Ok(replayed_text(alloc, history.len(), &library)?)
 }

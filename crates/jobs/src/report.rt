@@ -1,30 +1,17 @@
 //! The report of a run: a line for each transaction, then its replies.
 
-ghost use Rattle.std.specs.Prelude.{◌≡◌, ◌++◌, All, IfOk, OnOk, string_bytes};
+ghost use Rattle.std.specs.Prelude.{◌≡◌, ◌++◌, All, IfOk, OnOk};
 ghost use Rattle.std.specs.List.{flat_map};
 ghost use Rattle.library.specs.Fitting.{ReplyFits};
 ghost use Rattle.historytext.specs.Layout.{reply_text};
 ghost use Rattle.jobs.specs.Outcomes.{OutcomeFits, OutcomesFit};
-ghost use Rattle.jobs.specs.Reports.{reason_text, outcome_text, script_text_from, report_text};
+ghost use Rattle.jobs.specs.Reports.{outcome_text, script_text_from, report_text};
 
 use crate::outcome::Outcome;
 use historytext::put_reply;
 use library::{Reason, Reply};
 use mmstatement::{Prelude, Sequence};
 use std::alloc::{AllocError, Global};
-
-/// The number and the name of a reason, and what it says besides.
-fn text_of_reason(alloc: Global, reason: Reason) -> Result<String, AllocError>
-    ensures { IfOk result (λ text. string_bytes text ≡ reason_text reason) }
-{
-    let number = reason.number();
-    let name = reason.name();
-    match reason {
-        Reason::StillCited(citers) => format!(in alloc; "{number} {name} {citers}"),
-        Reason::ProofFails(fault) => format!(in alloc; "{number} {name} {fault}"),
-        _ => format!(in alloc; "{number} {name}"),
-    }
-}
 
 /// The lines of replies, in order.
 fn put_replies(
@@ -53,8 +40,7 @@ fn put_refusal(
 ) -> Result<(), AllocError>
     ensures { OnOk result (out.new.items ≡ out.old.items ++ outcome_text prelude.now (Outcome.Refused place index reason)) }
 {
-    let why = text_of_reason(alloc, reason)?;
-    let line = format!(in alloc; "refused {place} at {index}: {why}\n")?;
+    let line = format!(in alloc; "refused {place} at {index}: {reason}\n")?;
     out.extend_from_slice(line.as_bytes())
 }
 

@@ -28,10 +28,7 @@ impl fmt::Display for Fault {
 
     fn fmt<W: fmt::Write>(&self, f: &mut fmt::Formatter<W>) -> fmt::Result {
         match self {
-            Fault::Text { fault, .. } => {
-                let (kind, place) = (fault.kind, fault.place);
-                write!(f, "text {kind} at byte {place}")
-            }
+            Fault::Text { fault, .. } => write!(f, "text {fault}"),
             Fault::Proof { label, fault } => {
                 let label = text_of(label);
                 write!(f, "proof of {label}: {fault}")

@@ -1,15 +1,12 @@
 -- Which commands and replies are within the limits of a prelude.
-use Rattle.std.specs.Prelude.{ℕ, ◌≤◌, length}
+use Rattle.std.specs.Prelude.{◌≤◌, length}
 use Rattle.mmsyntax.specs.Tables.{Tables}
 use Rattle.mmsyntax.specs.Assertions.{Fits}
+use Rattle.library.specs.Library.{highest_rank}
 use Rattle.library.specs.declared.command.Command.{Command}
 use Rattle.library.specs.declared.command.Command.TheVariants.{Add, Reprove, Rename, Move, Delete, Show, List}
 use Rattle.library.specs.declared.command.Reply.{Reply}
 use Rattle.library.specs.declared.command.Reply.TheVariants.{Done, Shown, Listed}
-
--- the highest rank
-abbrev pub highest_rank : ℕ
-highest_rank = 4294967295
 
 -- a rank is at most the highest, an added assertion fits the prelude, and another proof has at most 16,384 steps
 abbrev pub CommandFits : Tables → Command → Type 0

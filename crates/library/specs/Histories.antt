@@ -1,12 +1,12 @@
 -- Histories: the transactions that drew a number, in order of number; and the library after a front of one.
-use Rattle.std.specs.Prelude.{◌≡◌, ◌≢◌, ◌<◌, ◌≤◌, ℕ, List, [], ◌∷◌, length, take, slice_get, All, Some, Ok}
+use Rattle.std.specs.Prelude.{◌≡◌, ◌≢◌, ◌<◌, ◌≤◌, ℕ, List, [], ◌∷◌, length, take, slice_get, All, Some}
 use Rattle.library.specs.declared.library.Ranked.{Ranked}
 use Rattle.library.specs.declared.command.Command.{Command}
 use Rattle.library.specs.declared.command.Reply.{Reply}
 use Rattle.mmsyntax.specs.Tables.{Tables}
 use Rattle.library.specs.Library.{Setting}
 use Rattle.library.specs.Fitting.{CommandFits}
-use Rattle.library.specs.Transactions.{apply, library_of}
+use Rattle.library.specs.Transactions.{apply, HasReplies, library_of}
 use Rattle.library.specs.declared.history.Entry.{Entry as CodeEntry}
 use Rattle.library.specs.declared.history.Entry.TheVariants.{Void, Done}
 
@@ -52,14 +52,14 @@ pub record Grows (g h : List Entry) : Type 0 where
 
 -- an entry's replies are the editor's, where it holds commands
 abbrev pub IsRepeated : Setting → List Ranked → Entry → Type 0
-IsRepeated s lib (done_entry cs replies) = (next : List Ranked) × (apply s lib cs ≡ Ok (record { library = next; replies = replies }))
+IsRepeated s lib (done_entry cs replies) = HasReplies s lib cs replies
 IsRepeated s lib _ = Unit {0}
 
 -- each done entry's replies are the one-thread editor's, from the library after the entries before it
 abbrev pub IsLegal : Setting → List Ranked → List Entry → Type 0
 IsLegal s lib0 h =
     (i : ℕ) (cs : List Command) (replies : List Reply) → slice_get h i ≡ Some (done_entry cs replies)
-    → (next : List Ranked) × (apply s (after s lib0 h i) cs ≡ Ok (record { library = next; replies = replies }))
+    → HasReplies s (after s lib0 h i) cs replies
 
 -- ---- the entries that the program keeps, none of which is open
 

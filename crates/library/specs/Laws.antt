@@ -9,10 +9,10 @@ use Rattle.library.specs.declared.library.Ranked.{Ranked}
 use Rattle.library.specs.declared.command.Command.{Command}
 use Rattle.library.specs.declared.command.Reply.{Reply}
 use Rattle.library.specs.Library.{Setting, Verifies, label_of, opening, IsInExportOrder, ShowsInOrder, in_export_order}
-use Rattle.library.specs.Library.{Listed, shown_database}
+use Rattle.library.specs.Library.{setting_over, Listed, shown_database}
 use Rattle.library.specs.Fitting.{CommandFits, ReplyFits}
 use Rattle.library.specs.Edits.{Edited, edit}
-use Rattle.library.specs.Transactions.{Applied, apply, library_of, has_edit}
+use Rattle.library.specs.Transactions.{Applied, apply, HasReplies, library_of, has_edit}
 use Rattle.library.specs.Histories.{Entry, done_entry, EntriesFit, after, Grows, IsSettledBefore, IsLegal}
 use Rattle.library.specs.Agrees.{Answer, committed, Agrees, IsSettledBelow}
 
@@ -21,7 +21,7 @@ use Rattle.library.specs.Agrees.{Answer, committed, Agrees, IsSettledBelow}
 abbrev pub OpeningsVerify : Type 0
 OpeningsVerify =
     (db : Contents) (slots : ℕ) → HasSpelling db → AllCheck db → 1 ≤ slots → slots ≤ 4096 → length db.assertions ≤ slots
-    → Verifies (record { prelude = db.prelude; slots = slots }) (opening db)
+    → Verifies (setting_over db slots) (opening db)
 
 -- a command within the limits that is not refused leaves a library that verifies
 abbrev pub EditsVerify : Type 0
@@ -102,4 +102,4 @@ abbrev pub CommitsAreLegal : Type 0
 CommitsAreLegal =
     (s : Setting) (lib0 : List Ranked) (h : List Entry) (cs : List Command) (k : ℕ) (replies : List Reply) → IsLegal s lib0 h
     → Agrees s lib0 h cs (committed (k + 1) replies)
-    → (next : List Ranked) × (apply s (after s lib0 h k) cs ≡ Ok (record { library = next; replies = replies }))
+    → HasReplies s (after s lib0 h k) cs replies

@@ -24,13 +24,21 @@ pub record IsSetting (s : Setting) : Type 0 where
   pub some : 1 ≤ s.slots
   pub few : s.slots ≤ 4096
 
+-- so many slots over the prelude of a database
+abbrev pub setting_over : Contents → ℕ → Setting
+setting_over db slots = record { prelude = db.prelude; slots = slots }
+
+-- the highest rank
+abbrev pub highest_rank : ℕ
+highest_rank = 4294967295
+
 abbrev pub label_of : Ranked → List ℕ
 label_of e = e.assertion.label
 
 -- a library is a list of assertions with ranks, in whatever order: each rank from 1 to 4,294,967,295, each label lawful and no other's, at
 -- most as many as slots
 pub record IsLibrary (s : Setting) (lib : List Ranked) : Type 0 where
-  pub ranks : All (λ e. (1 ≤ e.rank) × (e.rank ≤ 4294967295)) lib
+  pub ranks : All (λ e. (1 ≤ e.rank) × (e.rank ≤ highest_rank)) lib
   pub lawful : All (λ e. IsTrue (is_lawful_label s.prelude (label_of e))) lib
   pub distinct : Distinct bytes_eq (map label_of lib)
   pub room : length lib ≤ s.slots

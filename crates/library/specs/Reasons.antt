@@ -1,5 +1,8 @@
--- The number and the name of each reason.
-use Rattle.std.specs.Prelude.{ℕ, List, codes}
+-- The number and the name of each reason, and how a reason is printed.
+use Rattle.std.specs.Prelude.{ℕ, List, [], ◌∷◌, ◌++◌, codes}
+use Rattle.std.specs.Fmt.{decimal}
+use Rattle.mmtext.specs.FaultNames.{numbered_name}
+use Rattle.proofcheck.specs.FaultNames.{printed_fault}
 use Rattle.library.specs.declared.reason.Reason.{Reason}
 use Rattle.library.specs.declared.reason.Reason.TheVariants.{UnknownLabel, LabelTaken, BadLabel, BadRank, CitesUnknown, CitedNotLower}
 use Rattle.library.specs.declared.reason.Reason.TheVariants.{CiterNotHigher, StillCited, NotATheorem, AxiomNotAllowed, ProofFails, LibraryFull}
@@ -31,3 +34,13 @@ name_of NotATheorem = codes "NotATheorem"
 name_of AxiomNotAllowed = codes "AxiomNotAllowed"
 name_of (ProofFails fault) = codes "ProofFails"
 name_of LibraryFull = codes "LibraryFull"
+
+-- what stands behind the name of a reason: the number of citers, or the step and the fault of the proof
+abbrev pub said_besides : Reason → List ℕ
+said_besides (StillCited citers) = 32 ∷ decimal citers
+said_besides (ProofFails fault) = 32 ∷ printed_fault fault
+said_besides _ = []
+
+-- as in: 2 LabelTaken; 8 StillCited 3; 11 ProofFails step 1: 2 StackShort
+abbrev pub printed_reason : Reason → List ℕ
+printed_reason reason = numbered_name (number_of reason) (name_of reason ++ said_besides reason)

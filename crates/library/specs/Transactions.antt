@@ -1,5 +1,5 @@
 -- A transaction: all its commands in order, or, from the first refusal on, none of them.
-use Rattle.std.specs.Prelude.{ℕ, ◌+◌, Bool, nat_lt, length, List, [], ◌∷◌, Result, Ok, Err}
+use Rattle.std.specs.Prelude.{◌≡◌, ℕ, ◌+◌, Bool, nat_lt, length, List, [], ◌∷◌, Result, Ok, Err}
 use Rattle.std.specs.List.{list_any}
 use Rattle.library.specs.declared.library.Ranked.{Ranked}
 use Rattle.library.specs.declared.command.Command.{Command}
@@ -43,6 +43,10 @@ apply_from s n lib (c ∷ cs) = then_apply n (edit s lib c) (λ next. apply_from
 -- the library and the replies after the commands, or the first that is refused, counted from 1, with its reason
 abbrev pub apply : Setting → List Ranked → List Command → Result Applied Refused
 apply s lib cs = apply_from s 1 lib cs
+
+-- a transaction isn't refused, and these are its replies
+abbrev pub HasReplies : Setting → List Ranked → List Command → List Reply → Type 0
+HasReplies s lib cs replies = (next : List Ranked) × (apply s lib cs ≡ Ok (record { library = next; replies = replies }))
 
 -- the library after a transaction: as it was where the transaction is refused
 abbrev pub library_of : List Ranked → Result Applied Refused → List Ranked

@@ -3,6 +3,8 @@
 ghost use Rattle.std.specs.Prelude.{◌≡◌};
 
 use proofcheck::ProofFault;
+use std::{error, fmt};
+use thiserror::Error;
 
 /// Why a command is refused.
 #[derive(Clone, Copy, Debug, PartialEq, Eq)]
@@ -77,8 +79,29 @@ impl Reason {
     }
 }
 
+/// The number and the name of the reason, and what it says besides, as in `2 LabelTaken` and `8 StillCited 3`.
+impl fmt::Display for Reason {
+    ghost use Rattle.std.specs.Prelude.{Some};
+    ghost use Rattle.library.specs.Reasons.{printed_reason};
+
+    ghost output = { λ reason. Some (printed_reason reason) };
+
+    fn fmt<W: fmt::Write>(&self, f: &mut fmt::Formatter<W>) -> fmt::Result {
+        let number = self.number();
+        let name = self.name();
+        match self {
+            Reason::StillCited(citers) => write!(f, "{number} {name} {citers}"),
+            Reason::ProofFails(fault) => write!(f, "{number} {name} {fault}"),
+            _ => write!(f, "{number} {name}"),
+        }
+    }
+}
+
+impl error::Error for Reason {}
+
 /// The first command of a transaction that is refused. It refuses the whole transaction.
-#[derive(Clone, Copy, Debug, PartialEq, Eq)]
+#[derive(Clone, Copy, Debug, PartialEq, Eq, Error)]
+#[error("command {index} is refused: {reason}")]
 pub struct Refused {
     /// Which command, counted from 1.
     pub index: usize,

@@ -11,6 +11,7 @@ use Rattle.mmtext.specs.declared.fault.FaultKind.TheVariants.{OutOfProfile, BadT
 use Rattle.mmtext.specs.declared.fault.TextFault.{TextFault}
 use Rattle.mmtext.specs.declared.mark.Mark.{Mark}
 use Rattle.mmtext.specs.declared.mark.Mark.TheVariants as mark
+use Rattle.mmreader.specs.Standing.{IsRoomy, Stands}
 use Rattle.mmreader.specs.declared.place.Place.{Place as CodePlace}
 use Rattle.mmreader.specs.declared.place.Place.TheVariants as code
 use Rattle.mmreader.specs.declared.place.PreludePlace.TheVariants as prelude
@@ -27,7 +28,7 @@ use Rattle.mmsyntax.specs.Faults.{Scope, outside, inside, block_of, Place, at_st
 use Rattle.mmsyntax.specs.Faults.{float_type, float_variable, float_end, in_distinct, in_hypothesis, in_axiom, in_theorem, in_proof}
 use Rattle.mmsyntax.specs.Faults.{Position, at, faulted, tested, given, outermost_row, block_row, close_row, keyword_row, constant_row}
 use Rattle.mmsyntax.specs.Faults.{variable_row, float_end_row, distinct_row, hypothesis_row, axiom_row, theorem_row, proof_row, behind}
-use Rattle.mmsyntax.specs.Faults.{in_place, row, unit_at, unit_row, database_language, unit_language, IsRoomy, Stands}
+use Rattle.mmsyntax.specs.Faults.{in_place, row, unit_at, unit_row, database_language, unit_language}
 use Rattle.mmreader.specs.Views.{seen_place, IsUnitPlace}
 use Rattle.mmtext.proofs.Turns.{OnPlace, keeps_step}
 use Rattle.mmsyntax.proofs.Sound.{cond_none, if_ok, free_variable}

@@ -6,6 +6,7 @@ use Rattle.mmsyntax.specs.declared.statement.Assertion.{Assertion}
 use Rattle.mmtext.specs.Text.{Token, mark_of}
 use Rattle.mmtext.specs.declared.mark.Mark.{Mark}
 use Rattle.mmtext.specs.declared.fault.TextFault.{TextFault}
+use Rattle.mmreader.specs.Standing.{Stands}
 use Rattle.mmreader.specs.declared.place.UnitPlace.{UnitPlace}
 use Rattle.mmreader.specs.declared.place.UnitPlace.TheVariants as unit
 use Rattle.mmreader.specs.declared.place.Place.{Place as CodePlace}
@@ -17,7 +18,7 @@ use Rattle.mmtext.proofs.Turns.{OnPlace}
 use Rattle.mmsyntax.specs.Tables.{Tables}
 use Rattle.mmsyntax.specs.Rows.{Known, Units}
 use Rattle.mmsyntax.specs.Faults.{Place, outside, inside, at_start, in_constants, in_variables, float_type, float_variable, float_end}
-use Rattle.mmsyntax.specs.Faults.{Position, in_place, row, first_of, unit_at, Stands}
+use Rattle.mmsyntax.specs.Faults.{Position, in_place, row, first_of, unit_at}
 use Rattle.mmreader.specs.Views.{seen_place, seen_unit_place, seen_position, known_of, IsUnitPlace}
 use Rattle.mmreader.specs.UnitReadings.{UnitReading, position_of, GoesOn}
 use Rattle.mmreader.proofs.Runs.{InUnit, UnitAt, StandsAt, row_at, row_stands, row_unit, unit_place}

@@ -1,4 +1,4 @@
--- The places of a block's hypotheses, as a map.
+-- Of the code's inside, apart from the rules: the places of a block's hypotheses, as a map.
 use Rattle.std.specs.Prelude.{◌≡◌, ℕ, List, Vec}
 use Rattle.std.specs.Str.{bytes_eq}
 use Rattle.std.specs.HashMap.{HashMap, get_by}

@@ -1,4 +1,4 @@
--- The labels of assertions and of all $e, as a map.
+-- Of the code's inside, apart from the rules: the labels of assertions and of all $e, as a map.
 use Rattle.std.specs.Prelude.{◌≡◌, ℕ, List, Vec, is_some}
 use Rattle.std.specs.Str.{bytes_eq}
 use Rattle.std.specs.HashMap.{HashMap, get_by}

@@ -1,8 +1,9 @@
--- How far an assertion was read over a prelude.
+-- Of the code's inside, apart from the rules: how far an assertion was read over a prelude.
 use Rattle.std.specs.Prelude.{◌≡◌, true}
 use Rattle.mmsyntax.specs.Tables.{Tables}
 use Rattle.mmsyntax.specs.Rows.{Units, no_units}
-use Rattle.mmsyntax.specs.Faults.{Place, outside, at_start, Position, Stands}
+use Rattle.mmsyntax.specs.Faults.{Place, outside, at_start, Position}
+use Rattle.mmreader.specs.Standing.{Stands}
 use Rattle.mmreader.specs.Views.{known_of}
 
 -- what is known of it, and the place

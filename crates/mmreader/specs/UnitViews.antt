@@ -1,4 +1,4 @@
--- What the reader of a single assertion gives for a token.
+-- Of the code's inside, apart from the rules: what the reader of a single assertion gives for a token.
 use Rattle.std.specs.Prelude.{◌≡◌, Some, None, Result, Ok, Err}
 use Rattle.mmtext.specs.declared.fault.Stop.{Stop}
 use Rattle.mmtext.specs.declared.fault.TextFault.{TextFault}

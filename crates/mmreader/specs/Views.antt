@@ -1,4 +1,4 @@
--- How the code's values are seen.
+-- Of the code's inside, apart from the rules: how the code's values are seen, and what its functions give for a token.
 use Rattle.std.specs.Prelude.{Bool, true, false, List, Result}
 use Rattle.mmsyntax.specs.declared.statement.Assertion.{Assertion}
 use Rattle.mmreader.specs.declared.place.Scope.{Scope as CodeScope}

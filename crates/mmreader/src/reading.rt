@@ -4,11 +4,12 @@ ghost use Rattle.std.specs.Prelude.{◌≡◌, ◌≢◌, ◌≤◌, ◌⊎◌, 
 ghost use Rattle.mmtext.specs.declared.fault.TextFault.{TextFault};
 ghost use Rattle.mmtext.specs.declared.fault.FaultKind.TheVariants.{NoMemory};
 ghost use Rattle.mmsyntax.specs.Tables.{Contents};
-ghost use Rattle.mmtext.specs.Languages.{step, said_at, finished, token_reading, reading};
-ghost use Rattle.mmsyntax.specs.Faults.{in_place, database_language, FaultyDatabase, Stands};
-ghost use Rattle.mmsyntax.specs.Grammar.{Spells, Reads, Refuses};
+ghost use Rattle.mmtext.specs.Languages.{step, said_at, finished, token_reading, reading, Reads, Refuses};
+ghost use Rattle.mmsyntax.specs.Faults.{in_place, database_language, FaultyDatabase};
+ghost use Rattle.mmsyntax.specs.Grammar.{Spells};
 ghost use Rattle.mmsyntax.specs.Layout.{HasSpelling};
 ghost use Rattle.mmtext.specs.Views.{seen, Gives};
+ghost use Rattle.mmreader.specs.Standing.{Stands};
 ghost use Rattle.mmreader.specs.Views.{seen_place, seen_state, known_of, contents_of, Leads};
 
 mod labels;
@@ -163,7 +164,7 @@ fn read_text(
 ///   a label; `TooLong` for too many steps; `BadLabel` for a label that is too long or has a `.`, unless it is that of a `$f` or of a `$e`
 ///   of the block.
 /// - `Unfinished` at the length of the text: it ends in a statement, in a block or in a comment.
-/// - `NoMemory`: memory ran out; its place says nothing.
+/// - `NoMemory`: memory ran out; its place is 0, whatever was read.
 pub fn read_database(alloc: Global, keys: RandomState, text: &[u8]) -> Result<Database, TextFault>
     // What is read is spelled so.
     ensures found { IfOk result (λ db. Spells text.now db) }

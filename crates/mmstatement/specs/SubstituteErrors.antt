@@ -1,6 +1,6 @@
 -- The number and the name of each error of a substitution.
-use Rattle.std.specs.Prelude.{ℕ, List, ◌∷◌, ◌++◌, codes}
-use Rattle.std.specs.Fmt.{decimal}
+use Rattle.std.specs.Prelude.{ℕ, List, codes}
+use Rattle.mmtext.specs.FaultNames.{numbered_name}
 use Rattle.mmstatement.specs.declared.substitution.SubstituteError.{SubstituteError}
 use Rattle.mmstatement.specs.declared.substitution.SubstituteError.TheVariants.{TooLong, NoMemory}
 
@@ -14,6 +14,6 @@ abbrev pub name_of : SubstituteError → List ℕ
 name_of TooLong = codes "TooLong"
 name_of NoMemory = codes "NoMemory"
 
--- number, space, name
+-- as in: 1 TooLong
 abbrev pub printed_error : SubstituteError → List ℕ
-printed_error error = decimal (number_of error) ++ 32 ∷ name_of error
+printed_error error = numbered_name (number_of error) (name_of error)

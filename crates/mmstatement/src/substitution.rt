@@ -5,6 +5,7 @@ ghost use Rattle.mmstatement.specs.Substitution.{replacement, subst};
 
 use mmsyntax::{Expr, Sequence, Symbol};
 use std::alloc::{AllocError, Global};
+use std::error::Error;
 use std::{fmt, slice};
 
 const MOST_SYMBOLS: usize = 65535;
@@ -56,6 +57,8 @@ impl fmt::Display for SubstituteError {
         write!(f, "{number} {name}")
     }
 }
+
+impl Error for SubstituteError {}
 
 impl From<AllocError> for SubstituteError {
     ghost use Rattle.std.specs.Prelude.{◌≡◌};

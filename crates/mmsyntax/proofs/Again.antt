@@ -23,7 +23,7 @@ use Rattle.mmtext.specs.declared.fault.FaultKind.TheVariants.{BadToken, BadLabel
 use Rattle.mmtext.specs.Words.{Word, has_dollar, has_dot, is_label, has_hypothesis_form}
 use Rattle.mmsyntax.specs.Tables.{Tables, place_of, float_of, named, meaning}
 use Rattle.mmsyntax.specs.Rows.{symbol_named, unless_full, symbol_of, first_fault}
-use Rattle.mmsyntax.specs.Blocks.{Hypothesis, with_pair, ordered, typed_named, unless_repeated, distinct_of}
+use Rattle.mmsyntax.specs.Blocks.{Hypothesis, with_pair, in_order, typed_named, unless_repeated, distinct_of}
 use Rattle.mmsyntax.specs.Steps.{step_tests, float_named, hypothesis_named, step_named, unless_faulty, step_of}
 use Rattle.mmsyntax.specs.Grammar.{ReadsAfter, Restricts, StepsAfter}
 use Rattle.mmsyntax.specs.Layout.{word_at, no_float, float_at, symbol_word, hypothesis_label, step_word}
@@ -236,12 +236,12 @@ module _ (t : Tables) (s : AreSound t) where
       let j = p.1 in
       let lt : i < j = is_pair.0 in
       let within : j < length t.floats = is_pair.1 in
-      let placed : with_pair (ordered i j) front ≡ front ++ p ∷ [] = next_pair front i j rest lt a in
+      let placed : with_pair (in_order i j) front ≡ front ++ p ∷ [] = next_pair front i j rest lt a in
       let short : length (front ++ p ∷ []) ≤ 65535 = omega (arith, length-append front (p ∷ rest), length-append front (p ∷ [])) in
       let first : unless_repeated [] front (Ok i) ≡ Ok i = cond-false (ltb 65535 (length front)) (Err TooLong) (Ok i) (not_full (length front) (omega (arith, length-append front (p ∷ rest)))) in
       let second : unless_repeated (i ∷ []) front (Ok j) ≡ Ok j =
       cond-false (eqb i j || false) (Err BadToken) _ (apart_of i j lt)
-      ∙ cond-false (ltb 65535 (length (with_pair (ordered i j) front))) (Err TooLong) (Ok j) (ap (λ (x : List (ℕ × ℕ)). ltb 65535 (length x)) placed ∙ not_full (length (front ++ p ∷ [])) short) in
+      ∙ cond-false (ltb 65535 (length (with_pair (in_order i j) front))) (Err TooLong) (Ok j) (ap (λ (x : List (ℕ × ℕ)). ltb 65535 (length x)) placed ∙ not_full (length (front ++ p ∷ [])) short) in
       (i, distinct_again [] front i (omega arith) first, (j, distinct_again (i ∷ []) front j within second, (omega arith, ap (λ x. record { pairs = x; hyps = hyps }) placed)))
 
   -- ---- steps

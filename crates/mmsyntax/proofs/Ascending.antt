@@ -1,6 +1,9 @@
 -- Pairs ascend where each comes before the next one.
-use Rattle.std.proofs.Common.{◌≡◌, ℕ, zero, suc, ◌<◌, ◌≤◌, List, [], ◌∷◌, length, get_or, take, drop, inl, inr, arith}
-use Rattle.std.specs.Prelude.{All}
+use Rattle.std.proofs.Common.{◌≡◌, ℕ, zero, suc, ◌<◌, ◌≤◌, true, false, eqb, ltb, List, [], ◌∷◌, length, get_or, take, drop, sym, ap, ◌∙◌}
+use Rattle.std.proofs.Common.{◌⊎◌, inl, inr, arith}
+use Rattle.std.specs.Prelude.{All, ◌||◌, ◌&&◌}
+use Rattle.std.proofs.lemmas.Bool.{cases_Bool, eqb-true, ltb-true, lt-ltb, and_parts}
+use Rattle.std.proofs.lemmas.Bool.Decides.{eqb_tells}
 use Rattle.mmsyntax.specs.Assertions.{ComesBefore, AreAscending}
 
 -- each pair comes before the next one
@@ -9,11 +12,41 @@ AscendByNext [] = Unit {0}
 AscendByNext (p ∷ []) = Unit {0}
 AscendByNext (p ∷ (q ∷ ps)) = ComesBefore p q × AscendByNext (q ∷ ps)
 
+-- what the test of pairs tells: by the first place, then by the second
+abbrev pub IsBefore : ℕ × ℕ → ℕ × ℕ → Type 0
+IsBefore p q = (p.0 < q.0) ⊎ ((p.0 ≡ q.0) × (p.1 < q.1))
+
+pub before_parts : (p q : ℕ × ℕ) → ComesBefore p q → IsBefore p q
+before_parts p q h = elim (cases_Bool (ltb p.0 q.0)) [
+  | inl y ↦ inl (ltb-true p.0 q.0 y)
+  | inr n ↦
+      let both = and_parts (eqb p.0 q.0) (ltb p.1 q.1) (sym (ap (λ b. b || (eqb p.0 q.0 && ltb p.1 q.1)) n) ∙ h) in
+      inr (eqb-true p.0 q.0 both.0, ltb-true p.1 q.1 both.1)
+]
+
+pub before_from : (p q : ℕ × ℕ) → IsBefore p q → ComesBefore p q
+before_from p q (inl lt) = ap (λ b. b || (eqb p.0 q.0 && ltb p.1 q.1)) (lt-ltb p.0 q.0 lt)
+before_from p q (inr both) =
+    let e : p.0 ≡ q.0 = both.0 in
+    let no : ltb p.0 q.0 ≡ false = not_below p.0 q.0 e in
+    let yes : eqb p.0 q.0 ≡ true = same p.0 q.0 e in
+    let lt : ltb p.1 q.1 ≡ true = lt-ltb p.1 q.1 both.1 in
+    rw (no, yes, lt)
+  where
+    not_below : (a b : ℕ) → a ≡ b → ltb a b ≡ false
+    not_below a b e = grind arith
+
+    same : (a b : ℕ) → a ≡ b → eqb a b ≡ true
+    same a b e = elim (eqb_tells a b) [ inl y ↦ y.0 | inr n ↦ absurd (n.1 e) ]
+
 pub before_trans : (p q r : ℕ × ℕ) → ComesBefore p q → ComesBefore q r → ComesBefore p r
-before_trans p q r (inl a) (inl b) = inl (omega arith)
-before_trans p q r (inl a) (inr b) = inl (let e : q.0 ≡ r.0 = b.0 in omega arith)
-before_trans p q r (inr a) (inl b) = inl (let e : p.0 ≡ q.0 = a.0 in omega arith)
-before_trans p q r (inr a) (inr b) = inr (let e : p.0 ≡ q.0 = a.0 in let f : q.0 ≡ r.0 = b.0 in omega arith, let e : p.1 < q.1 = a.1 in let f : q.1 < r.1 = b.1 in omega arith)
+before_trans p q r h g = before_from p r (parts_trans (before_parts p q h) (before_parts q r g))
+  where
+    parts_trans : IsBefore p q → IsBefore q r → IsBefore p r
+    parts_trans (inl a) (inl b) = inl (omega arith)
+    parts_trans (inl a) (inr b) = inl (let e : q.0 ≡ r.0 = b.0 in omega arith)
+    parts_trans (inr a) (inl b) = inl (let e : p.0 ≡ q.0 = a.0 in omega arith)
+    parts_trans (inr a) (inr b) = inr (let e : p.0 ≡ q.0 = a.0 in let f : q.0 ≡ r.0 = b.0 in omega arith, let e : p.1 < q.1 = a.1 in let f : q.1 < r.1 = b.1 in omega arith)
 
 pub by_next : (ps : List (ℕ × ℕ)) → AreAscending ps → AscendByNext ps
 by_next [] a = tt

@@ -1,27 +1,24 @@
 -- What has a spelling is spelled by its canonical text.
-use Rattle.std.proofs.Common.{◌≡◌, ℕ, ◌<◌, true, false, List, [], ◌∷◌, ◌++◌, map, refl, sym, ap, subst, ◌∙◌, arith}
+use Rattle.std.proofs.Common.{◌≡◌, ℕ, true, false, List, [], ◌∷◌, ◌++◌, map, refl, sym, ap, subst, ◌∙◌, arith}
 use Rattle.std.specs.Prelude.{All, IsTrue}
 use Rattle.std.specs.List.{flat_map, AllByRecursion}
 use Rattle.std.proofs.lemmas.List.Elements.{All-from_recursion}
 use Rattle.std.proofs.lemmas.List.Folds.{flat_map-map}
 use Rattle.std.proofs.lemmas.Grind.{flat_map-append}
-use Rattle.mmsyntax.specs.declared.statement.Symbol.{Symbol}
-use Rattle.mmsyntax.specs.declared.statement.Symbol.TheVariants.{Const, Var}
 use Rattle.mmsyntax.specs.declared.statement.Assertion.{Assertion}
 use Rattle.mmsyntax.specs.Tables.{Contents, Tables}
 use Rattle.mmsyntax.specs.Rows.{Known, nothing, prelude_alone}
 use Rattle.mmsyntax.specs.Faults.{database_of}
 use Rattle.mmsyntax.specs.Grammar.{spelling, Spells, SpellsUnit}
-use Rattle.mmsyntax.specs.Layout.{no_float, unit_statement, canonical_prelude, canonical, prelude_text, statement_text, assertion_text}
-use Rattle.mmsyntax.specs.Layout.{text_of, IsWithin, IsFloatWithin, IsUnitWithin, IsWhole, HasSpelling, IsSoundPrelude, HasUnitSpelling}
-use Rattle.mmsyntax.specs.Assertions.{IsSymbolOf, IsExpression, Fits, IsUnit, is_lawful_label}
-use Rattle.mmsyntax.proofs.Distinct.{all_weaker}
+use Rattle.mmsyntax.specs.Layout.{unit_statement, canonical_prelude, prelude_text, statement_text, assertion_text}
+use Rattle.mmsyntax.specs.Layout.{text_of, HasSpelling, IsSoundPrelude, HasUnitSpelling}
+use Rattle.mmsyntax.specs.Assertions.{IsUnit, is_lawful_label}
 use Rattle.mmsyntax.proofs.Lines.{clean_words, statements_words, clean_statements, statement_words, clean_statement}
 use Rattle.mmsyntax.proofs.Sound.{bare, IsFloatSound, AreSound, IsSound, nothing_sound, alone_sound}
 use Rattle.mmsyntax.proofs.Units.{statement_sound, all_sound, closed_tables}
 use Rattle.mmsyntax.proofs.Preludes.{declare_append, prelude_declares}
 use Rattle.mmsyntax.proofs.Blocks.{unit_declares, units_declare}
-use Rattle.mmsyntax.proofs.Written.{canonical_written, unit_written}
+use Rattle.mmsyntax.proofs.Written.{canonical, canonical_written, unit_written}
 
 -- ---- what is spelled is sound
 
@@ -101,34 +98,6 @@ unit_spelled_again t a sound h = let both = spelled_unit t a sound h in unit_spe
 
 -- ---- places
 
-pub floats_within : (t : Tables) → IsSoundPrelude t → All (IsFloatWithin t) t.floats
-floats_within t h = All-from_recursion (IsFloatWithin t) t.floats (all_weaker (IsFloatSound t) (IsFloatWithin t) t.floats (λ f x. (x.type_within, x.variable_within)) (sound_tables t h).floats_sound)
-
-module _ (t : Tables) (h : IsSoundPrelude t) where
-  symbol_within : (s : Symbol) → IsSymbolOf t s → IsWithin t s
-  symbol_within (Const i) lt = lt
-  symbol_within (Var j) lt = (lt, (floats_within t h j no_float lt).1)
-
-  expression_within : (e : List Symbol) → IsExpression t e → All (IsWithin t) e
-  expression_within e x = λ i d lt. symbol_within _ (x.symbols i d lt)
-
-  -- what fits can be written
-  pub fits_within : (a : Assertion) → Fits t a → IsUnitWithin t a
-  fits_within a f = record {
-    pairs = λ i d lt. let p = f.pairs_within i d lt in (symbol_within (Var _) (below p.0 p.1), symbol_within (Var _) p.1);
-    hyps = λ i d lt. expression_within _ (f.hyps i d lt);
-    statement = expression_within a.statement f.statement;
-  }
-    where
-      below : {a b c : ℕ} → a < b → b < c → a < c
-      below p q = omega arith
-
-pub is_whole : (db : Contents) → HasSpelling db → IsWhole db
-is_whole db h =
-    let t = db.prelude in
-    let s = sound_of db h in
-    let sound : IsSoundPrelude t = record { text = text_of (record { prelude = t; assertions = [] }); spells = spelled (record { prelude = t; assertions = [] }) (alone_sound t true s.tables) } in
-    record {
-      floats = floats_within t sound;
-      assertions = All-from_recursion (IsUnitWithin t) db.assertions (all_weaker (IsUnit t) (IsUnitWithin t) db.assertions (λ a u. fits_within t sound a u.fits) s.units);
-    }
+-- the places in the $f of a prelude that is spelled are its own
+pub floats_sound : (t : Tables) → IsSoundPrelude t → All (IsFloatSound t) t.floats
+floats_sound t h = All-from_recursion (IsFloatSound t) t.floats (sound_tables t h).floats_sound

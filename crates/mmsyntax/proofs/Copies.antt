@@ -17,7 +17,7 @@ use Rattle.mmsyntax.proofs.Distinct.{cross, distinct_left, distinct_right, any_a
 use Rattle.mmsyntax.proofs.Distinct.{is_some-meaning}
 use Rattle.mmsyntax.proofs.Sound.{AreSound, variables_used, any_swap, eqb-sym}
 use Rattle.mmsyntax.proofs.Again.{none_is}
-use Rattle.mmsyntax.proofs.Canonical.{sound_tables, floats_within}
+use Rattle.mmsyntax.proofs.Canonical.{sound_tables, floats_sound}
 
 -- the tables of a prelude up to a constant, a variable, a $f
 abbrev pub constants_before : Tables → ℕ → Tables
@@ -104,7 +104,7 @@ module _ (t : Tables) (sound : IsSoundPrelude t) where
       let p = place_of (bytes_eq w) t.variables in
       let l = place_of (λ f. bytes_eq w f.label) fs in
       let both : Distinct bytes_eq (t.constants ++ t.variables) = distinct_left bytes_eq (t.constants ++ t.variables) (float_labels t.floats) (subst (Distinct bytes_eq) (sym (append_assoc t.constants t.variables (float_labels t.floats))) all_distinct) in
-      let within : v < length t.variables = (floats_within t sound i no_float lt).1 in
+      let within : v < length t.variables = (floats_sound t sound i no_float lt).variable_within in
       let used : i < length (variables_used t.floats) = omega (arith, length-map t.floats (λ (f : Float). f.variable)) in
       let it : get_or (variables_used t.floats) i 0 ≡ v = get_or-map (λ f. f.variable) t.floats i no_float 0 lt in
       let absent : list_any (eqb v) (variables_used fs) ≡ false =
@@ -119,7 +119,7 @@ module _ (t : Tables) (sound : IsSoundPrelude t) where
   float_label_is_new i f lt e = subst (λ (g : Float). meaning (floats_before t i) g.label ≡ None) (sym e) (label_is_new i lt)
 
   pub float_variable_within : (i : ℕ) (f : Float) → i < length t.floats → f ≡ float_at t.floats i → f.variable < length t.variables
-  float_variable_within i f lt e = subst (λ (g : Float). g.variable < length t.variables) (sym e) (floats_within t sound i no_float lt).1
+  float_variable_within i f lt e = subst (λ (g : Float). g.variable < length t.variables) (sym e) (floats_sound t sound i no_float lt).variable_within
 
   pub float_variable_is_free : (i : ℕ) (f : Float) → i < length t.floats → f ≡ float_at t.floats i → meaning (floats_before t i) (word_at t.variables f.variable) ≡ Some (Variable f.variable None)
   float_variable_is_free i f lt e = subst (λ (g : Float). meaning (floats_before t i) (word_at t.variables g.variable) ≡ Some (Variable g.variable None)) (sym e) (variable_is_free i lt)

@@ -1,15 +1,14 @@
 -- What is spelled is declarable, and what is declarable is spelled: databases, and single units.
 use Rattle.std.proofs.Common.{List, []}
-use Rattle.std.specs.Prelude.{All, IsTrue}
+use Rattle.std.specs.Prelude.{IsTrue}
 use Rattle.std.proofs.lemmas.List.Elements.{All-from_recursion, recursion_from_All}
 use Rattle.mmsyntax.specs.declared.statement.Assertion.{Assertion}
 use Rattle.mmsyntax.specs.Tables.{Tables, Contents}
-use Rattle.mmsyntax.specs.Layout.{HasSpelling, IsSoundPrelude, HasUnitSpelling, IsWithin, IsFloatWithin, assertion_text, text_of}
-use Rattle.mmsyntax.specs.Assertions.{Fits, IsUnit, is_lawful_label, IsDeclarable}
+use Rattle.mmsyntax.specs.Layout.{HasSpelling, IsSoundPrelude, HasUnitSpelling, assertion_text, text_of}
+use Rattle.mmsyntax.specs.Assertions.{IsUnit, is_lawful_label, IsDeclarable}
 use Rattle.mmsyntax.specs.Laws.{SoundWhereApart}
 use Rattle.mmsyntax.proofs.Sound.{IsSound, alone_sound}
-use Rattle.mmsyntax.proofs.Canonical as canonical
-use Rattle.mmsyntax.proofs.Canonical.{known_at, sound_of, sound_tables, spelled, unit_spells, fits_within}
+use Rattle.mmsyntax.proofs.Canonical.{known_at, sound_of, sound_tables, spelled, unit_spells}
 
 -- the prelude of what is spelled is sound by itself
 pub prelude_sound : (t : Tables) (xs : List Assertion) → HasSpelling (record { prelude = t; assertions = xs }) → IsSoundPrelude t
@@ -17,14 +16,7 @@ prelude_sound t xs h =
     let s = sound_of (record { prelude = t; assertions = xs }) h in
     record { text = text_of (record { prelude = t; assertions = [] }); spells = spelled (record { prelude = t; assertions = [] }) (alone_sound t _ s.tables) }
 
--- the places in the $f of a sound prelude are its own
-pub floats_within : (t : Tables) → IsSoundPrelude t → All (IsFloatWithin t) t.floats
-floats_within t h = canonical.floats_within t h
-
--- the symbols of a statement that fits are of the prelude
-pub statement_within : (t : Tables) (a : Assertion) → IsSoundPrelude t → Fits t a → All (IsWithin t) a.statement
-statement_within t a h f = (fits_within t h a f).statement
-
+-- what is spelled is declarable
 pub declarable : (db : Contents) → HasSpelling db → IsDeclarable db.prelude db.assertions
 declarable db h =
     let t = db.prelude in

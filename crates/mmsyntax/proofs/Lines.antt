@@ -1,21 +1,34 @@
 -- The tokens of lines, and the bytes of tokens.
 use Rattle.std.proofs.Common.{◌≡◌, ◌≢◌, ℕ, zero, suc, ◌+◌, ◌<◌, Bool, true, false, cond, List, [], ◌∷◌, ◌++◌, length, get_or, drop}
 use Rattle.std.proofs.Common.{Option, Some, None, refl, sym, ap, subst, ◌∙◌, inl, inr, arith, append_assoc, length-append}
-use Rattle.std.specs.Prelude.{IsTrue, codes}
+use Rattle.std.specs.Prelude.{◌||◌, IsTrue, codes}
 use Rattle.std.specs.Option.{option_map}
 use Rattle.std.specs.List.{flat_map, AllByRecursion}
 use Rattle.std.specs.Str.{bytes_eq}
 use Rattle.std.proofs.lemmas.Bool.{cases_Bool, cond-true, cond-false}
+use Rattle.std.proofs.lemmas.Bool.Decides.{nat_tests}
 use Rattle.std.proofs.lemmas.List.{append-nil, take_at, drop_at}
 use Rattle.std.proofs.lemmas.List.Concat.{flat_map-cons}
 use Rattle.mmtext.specs.Words.{Word}
-use Rattle.mmtext.specs.Text.{Token, is_white, is_lawful, ends_token, with_byte, tokens_from, tokens, IsClean, has_comment_mark}
+use Rattle.mmtext.specs.Text.{Token, is_white, is_printable, is_lawful, ends_token, with_byte, tokens_from, tokens, IsClean, has_comment_mark}
 use Rattle.mmtext.specs.Comments.{words_of, without_comments}
 use Rattle.mmsyntax.specs.Grammar.{Statement, constants, variables, float, alone, block, claim_spelling, piece_spelling, spelling}
 use Rattle.mmsyntax.specs.Layout.{spaced, line, indented, statement_text}
 pub use Rattle.mmsyntax.specs.Preludes.{IsPrintable, IsWord}
 use Rattle.mmtext.proofs.Tokens.{word_at}
 use Rattle.mmsyntax.proofs.Distinct.{all_left, all_right, all_append}
+
+-- ---- printable bytes
+
+-- a lawful byte that isn't white is printable, and the other way round
+printable_where : (b : ℕ) → is_white b ≡ false → is_lawful b ≡ true → IsPrintable b
+printable_where b white lawful = sym (ap (λ x. x || is_printable b) white) ∙ lawful
+
+printable-not_white : (b : ℕ) → IsPrintable b → is_white b ≡ false
+printable-not_white b h = grind (arith, nat_tests)
+
+printable-lawful : (b : ℕ) → IsPrintable b → is_lawful b ≡ true
+printable-lawful b h = elim (is_white b) as (λ x. (x || is_printable b) ≡ true) [ true ↦ refl | false ↦ h ]
 
 -- ---- the tokens of a clean text are words
 
@@ -29,7 +42,7 @@ unfolding tokens_from
 words_from p [] h = tt
 words_from p (b ∷ bs) h = elim (cases_Bool (is_white b)) [
   | inl y ↦ subst (λ ts. AllByRecursion IsWord (words_of ts)) (sym (cond-true (is_white b) (tokens_from (suc p) bs) _ y)) (words_from (suc p) bs h.1)
-  | inr n ↦ subst (λ ts. AllByRecursion IsWord (words_of ts)) (sym (cond-false (is_white b) (tokens_from (suc p) bs) (with_byte p b (ends_token bs) (tokens_from (suc p) bs)) n)) (starts_word p b (ends_token bs) (tokens_from (suc p) bs) (n, h.0) (words_from (suc p) bs h.1))
+  | inr n ↦ subst (λ ts. AllByRecursion IsWord (words_of ts)) (sym (cond-false (is_white b) (tokens_from (suc p) bs) (with_byte p b (ends_token bs) (tokens_from (suc p) bs)) n)) (starts_word p b (ends_token bs) (tokens_from (suc p) bs) (printable_where b n h.0) (words_from (suc p) bs h.1))
 ]
 
 by_index : (bytes : List ℕ) → ((k : ℕ) → k < length bytes → IsTrue (is_lawful (get_or bytes k 0))) → AllByRecursion (λ b. is_lawful b ≡ true) bytes
@@ -116,7 +129,7 @@ first_word p w x rest h white =
 
     within : (v more : List ℕ) → AllByRecursion IsPrintable v → (k : ℕ) → k < length v → is_white (get_or (v ++ more) k 0) ≡ false
     within [] more g k lt = absurd (omega arith)
-    within (b ∷ bs) more g zero lt = g.0.0
+    within (b ∷ bs) more g zero lt = printable-not_white b g.0
     within (b ∷ bs) more g (suc k) lt = within bs more g.1 k (omega arith)
 
 pub white_first : (p x : ℕ) (rest : List ℕ) → is_white x ≡ true → tokens_from p (x ∷ rest) ≡ tokens_from (suc p) rest
@@ -217,7 +230,7 @@ lawful_append a b h g = all_append (λ b. is_lawful b ≡ true) a b h g
 
 lawful_word : (w : Word) → AllByRecursion IsPrintable w → AreLawful w
 lawful_word [] h = tt
-lawful_word (b ∷ bs) h = (h.0.1, lawful_word bs h.1)
+lawful_word (b ∷ bs) h = (printable-lawful b h.0, lawful_word bs h.1)
 
 lawful_flat : {A : Type 0} (f : A → List ℕ) (xs : List A) → AllByRecursion (λ x. AreLawful (f x)) xs → AreLawful (flat_map f xs)
 lawful_flat f [] h = tt

@@ -17,7 +17,8 @@ pub use Rattle.mmtext.proofs.Marks.{same_word as same_bytes}
 use Rattle.mmsyntax.specs.declared.statement.Float.{Float}
 use Rattle.mmsyntax.specs.declared.symbols.Name.{Name}
 use Rattle.mmsyntax.specs.declared.symbols.Name.TheVariants.{Constant, Variable, Label}
-use Rattle.mmsyntax.specs.Tables.{Tables, place_of, float_of, named, meaning, AreTyped, IsSymbolTable}
+use Rattle.mmsyntax.specs.Tables.{Tables, place_of, float_of, named, meaning}
+use Rattle.mmsyntax.specs.Indexes.{AreTyped, IsSymbolTable}
 
 -- ---- a map whose keys are byte vectors
 

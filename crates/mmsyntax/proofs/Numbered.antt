@@ -13,7 +13,6 @@ use Rattle.std.proofs.lemmas.List.Folds.{list_any-append}
 pub use Rattle.std.proofs.lemmas.Bool.{or_left as first_or, or_right as second_or}
 use Rattle.mmsyntax.specs.declared.statement.Symbol.{Symbol}
 use Rattle.mmtext.specs.Words.{Word, has_dot, is_digit, all_digits, is_label_byte, is_label, is_count, has_number, has_hypothesis_form}
-use Rattle.mmtext.specs.Text.{is_white, is_lawful}
 use Rattle.mmsyntax.specs.Blocks.{Hypothesis}
 use Rattle.mmsyntax.specs.Steps.{hypothesis_named}
 use Rattle.mmsyntax.specs.Layout.{hypothesis_label}
@@ -106,13 +105,7 @@ number_short label n short few = omega (arith, length-append label (46 ∷ decim
 -- ---- labels as words
 
 label_byte : (b : ℕ) → is_label_byte b ≡ true → IsPrintable b
-label_byte b h = (white b h, lawful b h)
-  where
-    white : (b : ℕ) → is_label_byte b ≡ true → is_white b ≡ false
-    white b h = grind (arith, nat_tests)
-
-    lawful : (b : ℕ) → is_label_byte b ≡ true → is_lawful b ≡ true
-    lawful b h = grind (arith, nat_tests)
+label_byte b h = grind (arith, nat_tests)
 
 pub label_bytes : (w : Word) → is_label w ≡ true → AllByRecursion IsPrintable w
 label_bytes [] h = tt

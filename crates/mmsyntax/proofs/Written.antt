@@ -15,13 +15,12 @@ use Rattle.mmsyntax.specs.declared.statement.Step.TheVariants.{Float as FloatSte
 use Rattle.mmsyntax.specs.declared.statement.Float.{Float}
 use Rattle.mmsyntax.specs.declared.statement.Assertion.{Assertion}
 use Rattle.mmtext.specs.Words.{Word, has_dollar, is_label}
-use Rattle.mmtext.specs.Text.{is_white, is_lawful}
+use Rattle.mmtext.specs.Text.{is_printable}
 use Rattle.mmsyntax.specs.Tables.{Tables, meaning}
 use Rattle.mmsyntax.specs.Steps.{float_named}
 use Rattle.mmsyntax.specs.Grammar.{Claim, Piece, Statement, claim_spelling, piece_spelling, spelling}
 use Rattle.mmsyntax.specs.Layout.{word_at, hypothesis_label, symbol_word, step_word, constants_of, variables_of, float_statement}
 use Rattle.mmsyntax.specs.Layout.{distinct_pieces, hypothesis_pieces, claim_of_kind, claim_of, unit_of, unit_statement, canonical_prelude}
-use Rattle.mmsyntax.specs.Layout.{canonical}
 use Rattle.mmsyntax.specs.Assertions.{IsSymbolOf, IsExpression, IsPairOf, IsNameable, IsUnit, is_lawful_label}
 use Rattle.mmsyntax.proofs.Distinct.{all_append, all_map}
 use Rattle.mmsyntax.proofs.Lines.{IsWord, IsWritten}
@@ -29,12 +28,16 @@ use Rattle.mmsyntax.proofs.Sound.{IsSymbolWord, IsFloatSound, AreSound}
 use Rattle.mmsyntax.proofs.Numbered.{differ, number_label, number_word}
 use Rattle.mmsyntax.proofs.Again.{IsPlainLabel, plain_label, label_word, plain_at, symbol_is_word, float_sound}
 
+-- the statements of the canonical text: the prelude's, then each assertion's
+abbrev pub canonical : Tables → List Assertion → List Statement
+canonical t xs = canonical_prelude t ++ map (unit_statement t) xs
+
 -- a $ before a byte that opens no comment
-pub keyword : (b : ℕ) → is_white b ≡ false → is_lawful b ≡ true → bytes_eq (36 ∷ b ∷ []) (codes "$(") ≡ false → IsWritten (36 ∷ b ∷ [])
-keyword b white lawful other = (((λ x. absurd cc), ((refl, refl), ((white, lawful), tt))), other)
+pub keyword : (b : ℕ) → is_printable b ≡ true → bytes_eq (36 ∷ b ∷ []) (codes "$(") ≡ false → IsWritten (36 ∷ b ∷ [])
+keyword b printable other = (((λ x. absurd cc), (refl, (printable, tt))), other)
 
 end_word : IsWritten (codes "$.")
-end_word = keyword 46 refl refl refl
+end_word = keyword 46 refl refl
 
 symbol_written : (w : Word) → IsSymbolWord w → IsWritten w
 symbol_written w h = (h.word, differ (λ v. not (has_dollar v)) w (codes "$(") (ap not h.no_dollar) refl)
@@ -64,12 +67,12 @@ ArePieceWords p = AllByRecursion IsWritten (piece_spelling p)
 constants_written : (cs : List Word) → AllByRecursion IsSymbolWord cs → AllByRecursion AreWritten (constants_of cs)
 unfolding AreWritten
 constants_written [] h = tt
-constants_written (w ∷ ws) h = ((keyword 99 refl refl refl, ended (w ∷ ws) (symbols_written (w ∷ ws) h)), tt)
+constants_written (w ∷ ws) h = ((keyword 99 refl refl, ended (w ∷ ws) (symbols_written (w ∷ ws) h)), tt)
 
 variables_written : (vs : List Word) → AllByRecursion IsSymbolWord vs → AllByRecursion AreWritten (variables_of vs)
 unfolding AreWritten
 variables_written [] h = tt
-variables_written (w ∷ ws) h = ((keyword 118 refl refl refl, ended (w ∷ ws) (symbols_written (w ∷ ws) h)), tt)
+variables_written (w ∷ ws) h = ((keyword 118 refl refl, ended (w ∷ ws) (symbols_written (w ∷ ws) h)), tt)
 
 module _ (t : Tables) (s : AreSound t) where
   float_written : (f : Float) → IsFloatSound t f → AreWritten (float_statement t f)
@@ -77,7 +80,7 @@ module _ (t : Tables) (s : AreSound t) where
   float_written f x = (
     label_written f.label x.label.word x.label.label,
     (
-      keyword 102 refl refl refl,
+      keyword 102 refl refl,
       (
         symbol_written (word_at t.constants f.type_code) (plain_at t.constants f.type_code s.constants_sound x.type_within),
         (symbol_written (word_at t.variables f.variable) (plain_at t.variables f.variable s.variables_sound x.variable_within), (end_word, tt)),
@@ -96,7 +99,7 @@ module _ (t : Tables) (s : AreSound t) where
       let lt : p.0 < p.1 = h.0.0 in
       let within : p.1 < length t.floats = h.0.1 in
       let first : p.0 < length t.floats = omega arith in
-      ((keyword 100 refl refl refl, (symbol_written (symbol_word t (Var p.0)) (symbol_is_word t s (Var p.0) first), (symbol_written (symbol_word t (Var p.1)) (symbol_is_word t s (Var p.1) within), (end_word, tt)))), pairs_written ps h.1)
+      ((keyword 100 refl refl, (symbol_written (symbol_word t (Var p.0)) (symbol_is_word t s (Var p.0) first), (symbol_written (symbol_word t (Var p.1)) (symbol_is_word t s (Var p.1) within), (end_word, tt)))), pairs_written ps h.1)
 
   hypotheses_written : (label : Word) → is_label label ≡ true → (n : ℕ) (es : List (List Symbol)) → n + length es ≤ 1000 → AllByRecursion (IsExpression t) es → AllByRecursion ArePieceWords (hypothesis_pieces t label n es)
   unfolding ArePieceWords
@@ -104,7 +107,7 @@ module _ (t : Tables) (s : AreSound t) where
   hypotheses_written label is_l n (e ∷ es) fit h =
       let small : suc n < 2 ^ 64 = omega arith in
       let w = hypothesis_label label (suc n) in
-      ((label_written w (number_word label (suc n) is_l small) (number_label label (suc n) is_l small), (keyword 101 refl refl refl, ended (map (symbol_word t) e) (expression_written e h.0))), hypotheses_written label is_l (suc n) es (omega arith) h.1)
+      ((label_written w (number_word label (suc n) is_l small) (number_label label (suc n) is_l small), (keyword 101 refl refl, ended (map (symbol_word t) e) (expression_written e h.0))), hypotheses_written label is_l (suc n) es (omega arith) h.1)
 
   pub step_written : (label : Word) → is_label label ≡ true → (count : ℕ) → count ≤ 1000 → (x : Step) → IsNameable t count x → IsWritten (step_word t label x)
   step_written label is_l count few (FloatStep j) lt = let f = (float_sound t s j lt).label in label_written _ f.word f.label
@@ -118,18 +121,18 @@ module _ (t : Tables) (s : AreSound t) where
 
   claim_written : (a : Assertion) (kind : Kind) → IsUnit t a → IsPlainLabel a.label (is_some (meaning t a.label)) → AllByRecursion IsWritten (claim_spelling (claim_of_kind kind a.label (map (symbol_word t) a.statement) (map (step_word t a.label) a.proof)))
   claim_written a Axiom u p =
-      (label_written a.label (label_word a.label (is_some (meaning t a.label)) p).word p.label, (keyword 97 refl refl refl, ended (map (symbol_word t) a.statement) (expression_written a.statement u.fits.statement)))
+      (label_written a.label (label_word a.label (is_some (meaning t a.label)) p).word p.label, (keyword 97 refl refl, ended (map (symbol_word t) a.statement) (expression_written a.statement u.fits.statement)))
   claim_written a Theorem u p =
       let ws = map (symbol_word t) a.statement in
       let few : length a.hyps ≤ 1000 = u.fits.few_hyps in
       let steps = all_map (IsNameable t (length a.hyps)) IsWritten (step_word t a.label) a.proof (step_written a.label p.label (length a.hyps) few) (recursion_from_All (IsNameable t (length a.hyps)) a.proof u.steps) in
-      (label_written a.label (label_word a.label (is_some (meaning t a.label)) p).word p.label, (keyword 112 refl refl refl, all_append IsWritten ws _ (expression_written a.statement u.fits.statement) (keyword 61 refl refl refl, ended (map (step_word t a.label) a.proof) steps)))
+      (label_written a.label (label_word a.label (is_some (meaning t a.label)) p).word p.label, (keyword 112 refl refl, all_append IsWritten ws _ (expression_written a.statement u.fits.statement) (keyword 61 refl refl, ended (map (step_word t a.label) a.proof) steps)))
 
   unit_of_written : (ps : List Piece) (claim : Claim) → AllByRecursion ArePieceWords ps → AllByRecursion IsWritten (claim_spelling claim) → AreWritten (unit_of ps claim)
   unfolding AreWritten ArePieceWords
   unit_of_written [] claim h c = c
   unit_of_written (p ∷ ps) claim h c =
-      (keyword 123 refl refl refl, all_append IsWritten (flat_map piece_spelling (p ∷ ps)) _ (all_flat piece_spelling (p ∷ ps) h) (all_append IsWritten (claim_spelling claim) (codes "$}" ∷ []) c (keyword 125 refl refl refl, tt)))
+      (keyword 123 refl refl, all_append IsWritten (flat_map piece_spelling (p ∷ ps)) _ (all_flat piece_spelling (p ∷ ps) h) (all_append IsWritten (claim_spelling claim) (codes "$}" ∷ []) c (keyword 125 refl refl, tt)))
 
   unit_words : (a : Assertion) → IsUnit t a → IsTrue (is_lawful_label t a.label) → AreWritten (unit_statement t a)
   unit_words a u lawful =

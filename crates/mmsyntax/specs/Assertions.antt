@@ -1,6 +1,6 @@
 -- Which assertions fit a prelude, which labels they may have, and which lists of them a text declares (Metamath book,
 -- section 4.1.3).
-use Rattle.std.specs.Prelude.{◌≡◌, ◌≢◌, ◌<◌, ◌≤◌, ◌⊎◌, ◌↔◌, ℕ, Bool, false, ◌&&◌, nat_le, List, [], ◌∷◌, length, All, map, is_some, IsTrue}
+use Rattle.std.specs.Prelude.{◌≡◌, ◌≢◌, ◌<◌, ◌≤◌, ◌↔◌, ℕ, Bool, false, ◌&&◌, nat_le, List, [], ◌∷◌, length, All, map, is_some, IsTrue}
 use mathlib.Core.Bool.{not}
 use Rattle.std.specs.List.{list_any}
 use Rattle.std.specs.Str.{bytes_eq}
@@ -11,6 +11,7 @@ use Rattle.mmsyntax.specs.declared.statement.Step.{Step}
 use Rattle.mmsyntax.specs.declared.statement.Step.TheVariants.{Float, Hyp, Cite}
 use Rattle.mmsyntax.specs.declared.statement.Assertion.{Assertion}
 use Rattle.mmsyntax.specs.Tables.{Tables, Contents, meaning}
+use Rattle.mmsyntax.specs.Blocks.{is_pair_below}
 use Rattle.mmtext.specs.Words.{is_label, has_dot}
 use Rattle.mmsyntax.specs.Steps.{float_named}
 use Rattle.mmsyntax.specs.Layout.{HasSpelling, IsSoundPrelude, HasUnitSpelling}
@@ -43,7 +44,7 @@ IsPairOf count p = (p.0 < p.1) × (p.1 < count)
 
 -- by the first place, then by the second
 abbrev pub ComesBefore : ℕ × ℕ → ℕ × ℕ → Type 0
-ComesBefore p q = (p.0 < q.0) ⊎ ((p.0 ≡ q.0) × (p.1 < q.1))
+ComesBefore p q = IsTrue (is_pair_below p q)
 
 -- each pair comes before the next: ascending, without repeats
 abbrev pub AreAscending : List (ℕ × ℕ) → Type 0
@@ -62,11 +63,13 @@ pub record Fits (t : Tables) (a : Assertion) : Type 0 where
   pub no_axiom_proof : a.kind ≡ Axiom → a.proof ≡ []
   pub few_steps : length a.proof ≤ 16384
 
--- the label of an assertion: 1 to 255 bytes of a label token without a dot, that names nothing of the prelude (sections
--- 4.1.1 and 4.1.3)
+-- 1 to 255 bytes of a label token without a dot (section 4.1.1; the dot is the profile's)
+abbrev pub is_plain_label : List ℕ → Bool
+is_plain_label w = nat_le 1 (length w) && nat_le (length w) 255 && is_label w && not (has_dot w)
+
+-- the label of an assertion: a plain label that names nothing of the prelude (section 4.1.3)
 abbrev pub is_lawful_label : Tables → List ℕ → Bool
-is_lawful_label t w =
-    nat_le 1 (length w) && nat_le (length w) 255 && is_label w && not (has_dot w) && not (is_some (meaning t w))
+is_lawful_label t w = is_plain_label w && not (is_some (meaning t w))
 
 -- ---- steps
 
@@ -74,10 +77,9 @@ is_lawful_label t w =
 abbrev pub is_float_label : Tables → List ℕ → Bool
 is_float_label t w = is_some (float_named (meaning t w))
 
--- a label that a step can cite: 1 to 255 bytes of a label token without a dot, and no label of a $f
+-- a label that a step can cite: a plain label, and no label of a $f
 abbrev pub is_citable_label : Tables → List ℕ → Bool
-is_citable_label t w =
-    nat_le 1 (length w) && nat_le (length w) 255 && is_label w && not (has_dot w) && not (is_float_label t w)
+is_citable_label t w = is_plain_label w && not (is_float_label t w)
 
 -- a step that a text can name: a $f of the prelude, one of the hypotheses, or a label
 abbrev pub IsNameable : Tables → ℕ → Step → Type 0

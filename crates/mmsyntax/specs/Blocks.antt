@@ -34,10 +34,11 @@ no_block = record { pairs = []; hyps = [] }
 
 -- ---- $d: each pair of the listed variables is restricted (section 4.1.3)
 
--- by the first place, then by the second
+-- whether a pair comes before another: by the first place, then by the second
 abbrev pub is_pair_below : ℕ × ℕ → ℕ × ℕ → Bool
 is_pair_below p q = nat_lt p.0 q.0 || ((p.0 == q.0) && nat_lt p.1 q.1)
 
+-- whether two pairs are equal
 abbrev pub is_same_pair : ℕ × ℕ → ℕ × ℕ → Bool
 is_same_pair p q = (p.0 == q.0) && (p.1 == q.1)
 
@@ -46,14 +47,14 @@ abbrev pub with_pair : ℕ × ℕ → List (ℕ × ℕ) → List (ℕ × ℕ)
 with_pair p [] = p ∷ []
 with_pair p (q ∷ qs) = if is_same_pair p q then q ∷ qs else (if is_pair_below p q then p ∷ q ∷ qs else q ∷ with_pair p qs)
 
--- the pair of two $f, the earlier first
-abbrev pub ordered : ℕ → ℕ → ℕ × ℕ
-ordered i j = if nat_lt i j then (i, j) else (j, i)
+-- two $f as a pair, the earlier first
+abbrev pub in_order : ℕ → ℕ → ℕ × ℕ
+in_order i j = if nat_lt i j then (i, j) else (j, i)
 
 -- with the pairs of j and each of some others
 abbrev pub with_pairs : ℕ → List ℕ → List (ℕ × ℕ) → List (ℕ × ℕ)
 with_pairs j [] ps = ps
-with_pairs j (i ∷ is) ps = with_pairs j is (with_pair (ordered i j) ps)
+with_pairs j (i ∷ is) ps = with_pairs j is (with_pair (in_order i j) ps)
 
 -- the $f of the variable that a word names (section 4.1.3)
 abbrev pub typed_named : Option Name → Result ℕ FaultKind

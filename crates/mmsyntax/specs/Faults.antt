@@ -1,10 +1,9 @@
 -- Each token outside of comments in its place in the grammar: where it leads, or its fault. One function for each row of the table of tests.
-use Rattle.std.specs.Prelude.{◌≡◌, ◌<◌, ◌≤◌, ℕ, Bool, true, false, List, [], ◌∷◌, ◌++◌, length, Option, Some, None, Result, Ok, Err}
+use Rattle.std.specs.Prelude.{ℕ, Bool, true, false, List, [], ◌∷◌, ◌++◌, length, Option, Some, None, Result, Ok, Err}
 use Rattle.std.specs.Prelude.{if◌then◌else◌, is_some}
 use Rattle.mmsyntax.specs.declared.statement.Symbol.{Symbol}
 use Rattle.mmsyntax.specs.declared.statement.Step.{Step}
 use Rattle.mmsyntax.specs.declared.statement.Assertion.{Assertion}
-use Rattle.mmsyntax.specs.declared.symbols.Name.TheVariants.{Variable}
 use Rattle.mmtext.specs.declared.fault.FaultKind.{FaultKind}
 use Rattle.mmtext.specs.declared.fault.FaultKind.TheVariants.{BadToken, OutOfProfile}
 use Rattle.mmtext.specs.declared.fault.TextFault.{TextFault}
@@ -12,7 +11,7 @@ use Rattle.mmtext.specs.declared.mark.Mark.{Mark}
 use Rattle.mmtext.specs.declared.mark.Mark.TheVariants as mark
 use Rattle.mmtext.specs.Words.{Word, is_label}
 use Rattle.mmtext.specs.Text.{Token, mark_of}
-use Rattle.mmsyntax.specs.Tables.{Tables, Contents, meaning}
+use Rattle.mmsyntax.specs.Tables.{Tables, Contents}
 use Rattle.mmtext.specs.Languages.{Language, fault, Faulty}
 use Rattle.mmsyntax.specs.Rows.{Known, nothing, prelude_alone, Tests, first_fault, in_prelude, symbol_tests, float_label_tests}
 use Rattle.mmsyntax.specs.Rows.{assertion_label_tests, symbol_of, type_of, variable_of, with_constant, with_variable, with_float}
@@ -278,27 +277,3 @@ unit_language t = record {
 -- the fault of a text as one unit
 abbrev pub FaultyUnit : Tables → List ℕ → TextFault → Type 0
 FaultyUnit t bytes f = Faulty (unit_language t) bytes f
-
--- ---- in the middle of a statement
-
--- a label is free, and there is room for a $f
-abbrev pub IsFree : Known → Word → Type 0
-IsFree k label = (meaning k.tables label ≡ None) × (length k.tables.floats < 65535)
-
--- a block has at most 1,000 hypotheses
-abbrev pub IsRoomy : Scope → Type 0
-IsRoomy s = length (block_of s).hyps ≤ 1000
-
--- what holds of what is known in the middle of a statement: in a $f its label is free, there is room, and its variable has none yet
-abbrev pub Stands : Known → Place → Type 0
-Stands k (at_start s) = IsRoomy s
-Stands k (after_label s label) = IsRoomy s
-Stands k (float_type label) = IsFree k label
-Stands k (float_variable label i) = IsFree k label
-Stands k (float_end label i w v) = IsFree k label × (meaning k.tables w ≡ Some (Variable v None))
-Stands k (in_distinct b vs) = IsRoomy (inside b)
-Stands k (in_hypothesis b label e) = length b.hyps < 1000
-Stands k (in_axiom s label e) = IsRoomy s
-Stands k (in_theorem s label e) = IsRoomy s
-Stands k (in_proof s label e steps) = IsRoomy s
-Stands k _ = Unit {0}

@@ -1,11 +1,9 @@
 -- The grammar: a text is spelled by statements whose tests pass, each after the earlier ones (Metamath book, section 4.1.3).
-use Rattle.std.specs.Prelude.{◌≡◌, ◌≢◌, ◌≤◌, ℕ, false, List, [], ◌∷◌, ◌++◌, length, Some, Result, Ok, Err, IsTrue, ◌⊎◌, codes}
+use Rattle.std.specs.Prelude.{◌≡◌, ◌≢◌, ◌≤◌, ℕ, false, List, [], ◌∷◌, ◌++◌, length, Some, Ok, IsTrue, codes}
 use Rattle.std.specs.List.{flat_map}
 use Rattle.mmsyntax.specs.declared.statement.Symbol.{Symbol}
 use Rattle.mmsyntax.specs.declared.statement.Step.{Step}
 use Rattle.mmsyntax.specs.declared.statement.Assertion.{Assertion}
-use Rattle.mmtext.specs.declared.fault.TextFault.{TextFault}
-use Rattle.mmtext.specs.declared.fault.FaultKind.TheVariants.{NoMemory}
 use Rattle.mmtext.specs.Words.{Word, is_label}
 use Rattle.mmtext.specs.Text.{tokens, IsClean}
 use Rattle.mmtext.specs.Comments.{words_of, without_comments}
@@ -143,13 +141,3 @@ pub record SpellsUnit (t : Tables) (bytes : List ℕ) (a : Assertion) : Type 0 w
   pub known : Known
   pub declared : Declares (prelude_alone t) statement known
   pub single : known.units.assertions ≡ a ∷ []
-
--- the answer is what is spelled, unless memory ran out
-abbrev pub Reads : {A : Type 0} → Result A TextFault → A → Type 0
-Reads (Ok found) a = found ≡ a
-Reads (Err f) a = f.kind ≡ NoMemory
-
--- the answer is the fault, unless memory ran out
-abbrev pub Refuses : {A : Type 0} → Result A TextFault → TextFault → Type 0
-Refuses (Ok found) f = ⊥
-Refuses (Err g) f = (g ≡ f) ⊎ (g.kind ≡ NoMemory)

@@ -1,5 +1,5 @@
 -- The canonical layout: one line for each statement, words separated by one space, what stands in a block indented by two.
-use Rattle.std.specs.Prelude.{◌<◌, ℕ, suc, List, [], ◌∷◌, ◌++◌, length, map, slice_index_or, All}
+use Rattle.std.specs.Prelude.{ℕ, suc, List, [], ◌∷◌, ◌++◌, map, slice_index_or}
 use Rattle.std.specs.List.{flat_map}
 use Rattle.std.specs.Fmt.{decimal}
 use Rattle.std.specs.Prelude.{codes}
@@ -94,10 +94,6 @@ unit_statement t a = unit_of (distinct_pieces t a.pairs ++ hypothesis_pieces t a
 abbrev pub canonical_prelude : Tables → List Statement
 canonical_prelude t = constants_of t.constants ++ (variables_of t.variables ++ map (float_statement t) t.floats)
 
--- the prelude, then each assertion
-abbrev pub canonical : Tables → List Assertion → List Statement
-canonical t xs = canonical_prelude t ++ map (unit_statement t) xs
-
 -- ---- lines
 
 -- each word with a space before it
@@ -132,27 +128,7 @@ assertion_text t a = statement_text (unit_statement t a)
 abbrev pub text_of : Contents → List ℕ
 text_of db = prelude_text db.prelude ++ flat_map (assertion_text db.prelude) db.assertions
 
--- ---- what can be written
-
--- a symbol of the prelude
-abbrev pub IsWithin : Tables → Symbol → Type 0
-IsWithin t (Const i) = i < length t.constants
-IsWithin t (Var j) = (j < length t.floats) × ((float_at t.floats j).variable < length t.variables)
-
--- the type and the variable of a $f are of the prelude
-abbrev pub IsFloatWithin : Tables → FloatOf → Type 0
-IsFloatWithin t f = (f.type_code < length t.constants) × (f.variable < length t.variables)
-
--- the pairs, the hypotheses and the statement of an assertion are of the prelude
-pub record IsUnitWithin (t : Tables) (a : Assertion) : Type 0 where
-  pub pairs : All (λ p. IsWithin t (Var p.0) × IsWithin t (Var p.1)) a.pairs
-  pub hyps : All (All (IsWithin t)) a.hyps
-  pub statement : All (IsWithin t) a.statement
-
--- every place is one of the prelude
-pub record IsWhole (db : Contents) : Type 0 where
-  pub floats : All (IsFloatWithin db.prelude) db.prelude.floats
-  pub assertions : All (IsUnitWithin db.prelude) db.assertions
+-- ---- what has a spelling
 
 -- some text is spelled by the database
 pub record HasSpelling (db : Contents) : Type 0 where

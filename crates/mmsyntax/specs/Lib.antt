@@ -8,3 +8,4 @@ pub mod Layout
 pub mod Assertions
 pub mod Preludes
 pub mod Laws
+pub mod Indexes

@@ -1,10 +1,10 @@
 -- Which preludes are sound: names differ, each $f has a declared type and a declared variable, a variable has one $f, and all is
 -- within the limits (Metamath book, sections 4.1.1 and 4.1.3).
-use Rattle.std.specs.Prelude.{◌≡◌, ◌≢◌, ◌<◌, ◌≤◌, ◌||◌, ◌==◌, ℕ, true, false, nat_lt, List, [], ◌++◌, length, map, IsTrue}
+use Rattle.std.specs.Prelude.{◌≡◌, ◌≢◌, ◌<◌, ◌≤◌, ◌||◌, ◌==◌, ℕ, false, nat_lt, List, [], ◌++◌, length, map, IsTrue}
 use Rattle.std.specs.List.{AllByRecursion}
 use Rattle.std.specs.Str.{bytes_eq}
 use Rattle.mmtext.specs.Words.{Word, has_dollar, has_dot, is_label, has_hypothesis_form}
-use Rattle.mmtext.specs.Text.{is_white, is_lawful}
+use Rattle.mmtext.specs.Text.{is_printable}
 use Rattle.mmsyntax.specs.declared.statement.Float.{Float}
 use Rattle.mmsyntax.specs.Tables.{Tables}
 use Rattle.mmsyntax.specs.Assertions.{Distinct}
@@ -13,7 +13,7 @@ use Rattle.mmsyntax.specs.Assertions.{Distinct}
 
 -- a byte of a token: one of the 94 printable characters (section 4.1.1)
 abbrev pub IsPrintable : ℕ → Type 0
-IsPrintable b = (is_white b ≡ false) × (is_lawful b ≡ true)
+IsPrintable b = IsTrue (is_printable b)
 
 -- what a token may be
 abbrev pub IsWord : Word → Type 0

@@ -1,11 +1,7 @@
 -- The prelude as three lists, and what a word names in it (Metamath book, section 4.1.3).
-use Rattle.std.specs.Prelude.{◌≡◌, ◌<◌, ℕ, suc, Bool, List, length, [], ◌∷◌, Option, Some, None, Vec, ◌==◌, if◌then◌else◌}
+use Rattle.std.specs.Prelude.{ℕ, suc, Bool, List, [], ◌∷◌, Option, Some, None, ◌==◌, if◌then◌else◌}
 use Rattle.std.specs.Option.{option_map}
-use Rattle.std.specs.List.{AllByRecursion}
 use Rattle.std.specs.Str.{bytes_eq}
-use Rattle.std.specs.HashMap.{HashMap, get_by}
-use Rattle.std.specs.declared.alloc.Global.{Global}
-use Rattle.std.specs.declared.random_state.RandomState.{RandomState}
 use Rattle.mmsyntax.specs.declared.statement.Float.{Float}
 use Rattle.mmsyntax.specs.declared.statement.Assertion.{Assertion}
 use Rattle.mmsyntax.specs.declared.symbols.Name.{Name}
@@ -44,16 +40,3 @@ meaning t w =
     let v = place_of (bytes_eq w) t.variables in
     let l = place_of (λ f. bytes_eq w f.label) t.floats in
     named t.floats c v l
-
--- each $f is of a variable
-abbrev pub AreTyped : List Float → ℕ → Type 0
-AreTyped fs count = AllByRecursion (λ f. f.variable < count) fs
-
--- the map finds what each word means
-abbrev pub IsIndexed : HashMap (Vec ℕ Global) Name RandomState → Tables → Type 0
-IsIndexed m t = (w : List ℕ) → get_by (λ k. bytes_eq w k.items) m ≡ meaning t w
-
--- what is always true of the fields of a prelude
-pub record IsSymbolTable (m : HashMap (Vec ℕ Global) Name RandomState) (t : Tables) : Type 0 where
-  pub indexed : IsIndexed m t
-  pub typed : AreTyped t.floats (length t.variables)

@@ -35,7 +35,8 @@ pub struct SymbolTable {
 }
 
 impl Model for SymbolTable {
-    ghost use Rattle.mmsyntax.specs.Tables.{Tables, IsSymbolTable};
+    ghost use Rattle.mmsyntax.specs.Tables.{Tables};
+    ghost use Rattle.mmsyntax.specs.Indexes.{IsSymbolTable};
 
     ghost Value = { Tables };
 

@@ -1,9 +1,10 @@
--- The number and the name of each kind of fault.
+-- The number and the name of each kind of fault, and how a fault is printed.
 use Rattle.std.specs.Prelude.{ℕ, List, ◌∷◌, ◌++◌, codes}
 use Rattle.std.specs.Fmt.{decimal}
 use Rattle.mmtext.specs.declared.fault.FaultKind.{FaultKind}
 use Rattle.mmtext.specs.declared.fault.FaultKind.TheVariants.{BadByte, BadToken, Unfinished, OutOfProfile, UnknownSymbol}
 use Rattle.mmtext.specs.declared.fault.FaultKind.TheVariants.{RepeatedLabel, BadLabel, NoTypeFor, TooLong, NoMemory}
+use Rattle.mmtext.specs.declared.fault.TextFault.{TextFault}
 
 -- numbers from 1
 abbrev pub number_of : FaultKind → ℕ
@@ -32,5 +33,13 @@ name_of TooLong = codes "TooLong"
 name_of NoMemory = codes "NoMemory"
 
 -- number, space, name
+abbrev pub numbered_name : ℕ → List ℕ → List ℕ
+numbered_name number name = decimal number ++ 32 ∷ name
+
+-- as in: 2 BadToken
 abbrev pub printed_kind : FaultKind → List ℕ
-printed_kind kind = decimal (number_of kind) ++ 32 ∷ name_of kind
+printed_kind kind = numbered_name (number_of kind) (name_of kind)
+
+-- the kind, then the byte, as in: 2 BadToken at byte 6
+abbrev pub printed_fault : TextFault → List ℕ
+printed_fault fault = printed_kind fault.kind ++ (codes " at byte " ++ decimal fault.place)

@@ -3,6 +3,7 @@ use Rattle.std.specs.Prelude.{
   ◌≡◌,
   ◌<◌,
   ◌≤◌,
+  ◌⊎◌,
   ℕ,
   Bool,
   true,
@@ -23,7 +24,7 @@ use Rattle.std.specs.Prelude.{
   if◌then◌else◌,
 }
 use Rattle.mmtext.specs.declared.fault.FaultKind.{FaultKind}
-use Rattle.mmtext.specs.declared.fault.FaultKind.TheVariants.{BadByte, BadToken, Unfinished, OutOfProfile, TooLong}
+use Rattle.mmtext.specs.declared.fault.FaultKind.TheVariants.{BadByte, BadToken, Unfinished, OutOfProfile, TooLong, NoMemory}
 use Rattle.mmtext.specs.declared.fault.TextFault.{TextFault}
 use Rattle.mmtext.specs.declared.mark.Mark.{Mark}
 use Rattle.mmtext.specs.declared.mark.Mark.TheVariants as mark
@@ -132,9 +133,21 @@ pub data Faulty {P A : Type 0} (l : Language P A) (bytes : List ℕ) (f : TextFa
   -- the first byte that may not stand in a text
   bad : (place : ℕ) → length bytes ≤ 16777216 → place < length bytes → IsCleanBefore place bytes
       → is_lawful (slice_index bytes place) ≡ false → f ≡ record { place = place; kind = BadByte } → Faulty l bytes f
-  -- the longest front of tokens that break no test, and the fault of the token behind it
+  -- a front of the tokens that breaks no test, and the fault of the token behind it, which breaks one
   at_token : (front rest : List Token) (t : Token) (s : State P) → length bytes ≤ 16777216 → IsClean bytes
       → tokens bytes ≡ front ++ t ∷ rest → Reaches l front s → step l s t ≡ Err f → Faulty l bytes f
   -- no token breaks a test, and the text may not end there
   unfinished : (s : State P) → length bytes ≤ 16777216 → IsClean bytes → Reaches l (tokens bytes) s → said_at l s ≡ None
       → f ≡ record { place = length bytes; kind = Unfinished } → Faulty l bytes f
+
+-- ---- what a reader answers
+
+-- the answer is what is spelled, unless memory ran out
+abbrev pub Reads : {A : Type 0} → Result A TextFault → A → Type 0
+Reads (Ok found) a = found ≡ a
+Reads (Err f) a = f.kind ≡ NoMemory
+
+-- the answer is the fault, unless memory ran out
+abbrev pub Refuses : {A : Type 0} → Result A TextFault → TextFault → Type 0
+Refuses (Ok found) f = ⊥
+Refuses (Err g) f = (g ≡ f) ⊎ (g.kind ≡ NoMemory)

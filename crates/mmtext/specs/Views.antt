@@ -1,4 +1,4 @@
--- How the code's values are seen by readers of any text.
+-- Of the code's inside, apart from the rules: how readers of any text see the code's values, and what their functions give for a token.
 use Rattle.std.specs.Prelude.{◌≡◌, ℕ, nat_lt, Bool, true, false, List, length, Option, Some, Result, Ok, Err, if◌then◌else◌}
 use Rattle.std.specs.Option.{option_map}
 use Rattle.mmtext.specs.declared.token.Token.{Token as CodeToken}

@@ -5,7 +5,8 @@ ghost use Rattle.mmtext.specs.declared.fault.Stop.TheVariants.{Fault};
 
 use crate::token::Token;
 use std::alloc::{AllocError, AllocFailed};
-use std::fmt;
+use std::{error, fmt};
+use thiserror::Error;
 
 /// The kind of a fault of a text, in the order of their numbers from 1.
 #[derive(Clone, Copy, Debug, PartialEq, Eq)]
@@ -36,7 +37,7 @@ pub enum FaultKind {
 #[derive(Clone, Copy, Debug, PartialEq, Eq)]
 pub struct TextFault {
     /// The byte at which the token at fault begins, counted from 0. For `BadByte` the first bad byte; for `Unfinished` the length of
-    /// the text; for a text over the limit 16,777,216; for `NoMemory` it says nothing.
+    /// the text; for a text over the limit 16,777,216; for `NoMemory` 0, whatever was read.
     pub place: usize,
     pub kind: FaultKind,
 }
@@ -96,10 +97,33 @@ impl fmt::Display for FaultKind {
     }
 }
 
+/// The kind and the byte, as in `2 BadToken at byte 6`.
+impl fmt::Display for TextFault {
+    ghost use Rattle.std.specs.Prelude.{Some};
+    ghost use Rattle.mmtext.specs.FaultNames.{printed_fault};
+
+    ghost output = { λ fault. Some (printed_fault fault) };
+
+    fn fmt<W: fmt::Write>(&self, f: &mut fmt::Formatter<W>) -> fmt::Result {
+        let number = self.kind.number();
+        let name = self.kind.name();
+        let place = self.place;
+        write!(f, "{number} {name} at byte {place}")
+    }
+}
+
+impl error::Error for FaultKind {}
+
+impl error::Error for TextFault {}
+
 /// Why a step of reading fails.
-#[derive(Debug, Drop)]
+#[derive(Debug, Drop, Error)]
 pub enum Stop {
+    /// Memory ran out.
+    #[error("out of memory")]
     Memory,
+    /// The text has this fault.
+    #[error("{0}")]
     Fault(TextFault),
 }
 

@@ -5,10 +5,11 @@ ghost use Rattle.std.specs.List.{flat_map};
 ghost use Rattle.std.specs.Fmt.{decimal};
 ghost use Rattle.mmsyntax.specs.declared.statement.Symbol.TheVariants.{Var};
 ghost use Rattle.mmsyntax.specs.Grammar.{asserted, proved, distinct, hypothesis, block, claim_spelling, piece_spelling, Spells, SpellsUnit};
-ghost use Rattle.mmsyntax.specs.Assertions.{Fits};
+ghost use Rattle.mmsyntax.specs.Assertions.{IsSymbolOf, IsExpression, IsPairOf, Fits};
 ghost use Rattle.mmsyntax.specs.Layout.{symbol_word, step_word, hypothesis_label, spaced, line, indented, statement_text, float_statement};
 ghost use Rattle.mmsyntax.specs.Layout.{distinct_pieces, hypothesis_pieces, claim_of, prelude_text, assertion_text, text_of};
-ghost use Rattle.mmsyntax.specs.Layout.{IsWithin, IsFloatWithin, IsUnitWithin, HasUnitSpelling};
+ghost use Rattle.mmsyntax.specs.Layout.{HasUnitSpelling};
+ghost use Rattle.mmsyntax.specs.Preludes.{IsFloatSound};
 
 use itoa::Buffer;
 use mmsyntax::{Assertion, Database, Expr, Float, Kind, Label, Prelude, Step, Symbol};
@@ -52,7 +53,7 @@ fn put_names(out: &mut Vec<u8>, keyword: &[u8], names: &[Label]) -> Result<(), A
 
 /// The word of a symbol.
 fn word_of(prelude: &Prelude, symbol: Symbol) -> &[u8]
-    requires { IsWithin prelude.now symbol }
+    requires { IsSymbolOf prelude.now symbol }
     ensures { result.now ≡ symbol_word prelude.now symbol }
 {
     match symbol {
@@ -65,7 +66,7 @@ fn word_of(prelude: &Prelude, symbol: Symbol) -> &[u8]
 }
 
 fn put_float(out: &mut Vec<u8>, prelude: &Prelude, float: &Float) -> Result<(), AllocError>
-    requires { IsFloatWithin prelude.now float.now }
+    requires { IsFloatSound prelude.now float.now }
     ensures { OnOk result (out.new.items ≡ out.old.items ++ statement_text (float_statement prelude.now float.now)) }
 {
     out.extend_from_slice(float.label.as_slice())?;
@@ -79,7 +80,7 @@ fn put_float(out: &mut Vec<u8>, prelude: &Prelude, float: &Float) -> Result<(), 
 }
 
 fn put_symbols(out: &mut Vec<u8>, prelude: &Prelude, symbols: &[Symbol]) -> Result<(), AllocError>
-    requires { All (IsWithin prelude.now) symbols.now }
+    requires { All (IsSymbolOf prelude.now) symbols.now }
     ensures { OnOk result (out.new.items ≡ out.old.items ++ spaced (map (symbol_word prelude.now) symbols.now)) }
 {
     for symbol in symbols {
@@ -137,7 +138,7 @@ pub fn put_steps(
 }
 
 fn put_axiom(out: &mut Vec<u8>, prelude: &Prelude, assertion: &Assertion) -> Result<(), AllocError>
-    requires { All (IsWithin prelude.now) assertion.now.statement }
+    requires { All (IsSymbolOf prelude.now) assertion.now.statement }
     ensures { OnOk result (out.new.items ≡ out.old.items
         ++ line (claim_spelling (asserted assertion.now.label (map (symbol_word prelude.now) assertion.now.statement)))) }
 {
@@ -152,7 +153,7 @@ fn put_theorem(
     prelude: &Prelude,
     assertion: &Assertion,
 ) -> Result<(), AllocError>
-    requires { All (IsWithin prelude.now) assertion.now.statement }
+    requires { All (IsSymbolOf prelude.now) assertion.now.statement }
     ensures { OnOk result (out.new.items ≡ out.old.items
         ++ line (claim_spelling (proved assertion.now.label (map (symbol_word prelude.now) assertion.now.statement)
         (map (step_word prelude.now assertion.now.label) assertion.now.proof)))) }
@@ -168,7 +169,7 @@ fn put_theorem(
 
 /// The line of an assertion without its block.
 fn put_claim(out: &mut Vec<u8>, prelude: &Prelude, assertion: &Assertion) -> Result<(), AllocError>
-    requires { All (IsWithin prelude.now) assertion.now.statement }
+    requires { All (IsSymbolOf prelude.now) assertion.now.statement }
     ensures { OnOk result (out.new.items ≡ out.old.items ++ line (claim_spelling (claim_of prelude.now assertion.now))) }
 {
     match assertion.kind {
@@ -179,7 +180,7 @@ fn put_claim(out: &mut Vec<u8>, prelude: &Prelude, assertion: &Assertion) -> Res
 
 /// The `$d` of a pair.
 fn put_pair(out: &mut Vec<u8>, prelude: &Prelude, pair: (u32, u32)) -> Result<(), AllocError>
-    requires { IsWithin prelude.now (Var pair.0) × IsWithin prelude.now (Var pair.1) }
+    requires { IsPairOf (length prelude.now.floats) pair }
     ensures { OnOk result (out.new.items ≡ out.old.items
         ++ indented (piece_spelling (distinct (symbol_word prelude.now (Var pair.0) ∷ symbol_word prelude.now (Var pair.1) ∷ [])))) }
 {
@@ -190,7 +191,7 @@ fn put_pair(out: &mut Vec<u8>, prelude: &Prelude, pair: (u32, u32)) -> Result<()
 }
 
 fn put_pairs(out: &mut Vec<u8>, prelude: &Prelude, pairs: &[(u32, u32)]) -> Result<(), AllocError>
-    requires { All (λ p. IsWithin prelude.now (Var p.0) × IsWithin prelude.now (Var p.1)) pairs.now }
+    requires { All (IsPairOf (length prelude.now.floats)) pairs.now }
     ensures { OnOk result (out.new.items ≡ out.old.items
         ++ flat_map (λ p. indented (piece_spelling p)) (distinct_pieces prelude.now pairs.now)) }
 {
@@ -208,7 +209,7 @@ fn put_hypothesis(
     number: u64,
     symbols: &[Symbol],
 ) -> Result<(), AllocError>
-    requires { All (IsWithin prelude.now) symbols.now }
+    requires { All (IsSymbolOf prelude.now) symbols.now }
     ensures { OnOk result (out.new.items ≡ out.old.items
         ++ indented (piece_spelling (hypothesis (hypothesis_label label.now number) (map (symbol_word prelude.now) symbols.now)))) }
 {
@@ -225,7 +226,7 @@ fn put_hypotheses(
     label: &[u8],
     hyps: &[Expr],
 ) -> Result<(), AllocError>
-    requires { All (All (IsWithin prelude.now)) hyps.now }
+    requires { All (IsExpression prelude.now) hyps.now }
     ensures { OnOk result (out.new.items ≡ out.old.items
         ++ flat_map (λ p. indented (piece_spelling p)) (hypothesis_pieces prelude.now label.now 0 hyps.now)) }
 {
@@ -237,7 +238,7 @@ fn put_hypotheses(
 
 /// The lines of an assertion in its block.
 fn put_block(out: &mut Vec<u8>, prelude: &Prelude, assertion: &Assertion) -> Result<(), AllocError>
-    requires { IsUnitWithin prelude.now assertion.now }
+    requires { Fits prelude.now assertion.now }
     ensures { OnOk result (out.new.items ≡ out.old.items ++ statement_text (block
         (distinct_pieces prelude.now assertion.now.pairs ++ hypothesis_pieces prelude.now assertion.now.label 0 assertion.now.hyps)
         (claim_of prelude.now assertion.now))) }
@@ -249,67 +250,6 @@ fn put_block(out: &mut Vec<u8>, prelude: &Prelude, assertion: &Assertion) -> Res
     out.extend_from_slice(b"  ")?;
     put_claim(out, prelude, assertion)?;
     out.extend_from_slice(b"$}\n")
-}
-
-/// The lines of an assertion: a block only where it has pairs or hypotheses.
-fn put_unit(out: &mut Vec<u8>, prelude: &Prelude, assertion: &Assertion) -> Result<(), AllocError>
-    requires { IsUnitWithin prelude.now assertion.now }
-    ensures { OnOk result (out.new.items ≡ out.old.items ++ assertion_text prelude.now assertion.now) }
-{
-    if assertion.pairs.as_slice().is_empty() && assertion.hyps.as_slice().is_empty() {
-        return put_claim(out, prelude, assertion);
-    }
-    put_block(out, prelude, assertion)
-}
-
-fn put_floats(out: &mut Vec<u8>, prelude: &Prelude, floats: &[Float]) -> Result<(), AllocError>
-    requires { All (IsFloatWithin prelude.now) floats.now }
-    ensures { OnOk result (out.new.items ≡ out.old.items ++ flat_map statement_text (map (float_statement prelude.now) floats.now)) }
-{
-    for float in floats {
-        put_float(out, prelude, float)?;
-    }
-    Ok(())
-}
-
-fn put_units(
-    out: &mut Vec<u8>,
-    prelude: &Prelude,
-    assertions: &[Assertion],
-) -> Result<(), AllocError>
-    requires { All (IsUnitWithin prelude.now) assertions.now }
-    ensures { OnOk result (out.new.items ≡ out.old.items ++ flat_map (assertion_text prelude.now) assertions.now) }
-{
-    for assertion in assertions {
-        put_unit(out, prelude, assertion)?;
-    }
-    Ok(())
-}
-
-/// The lines of a prelude whose `$f` are of its own constants and variables.
-fn put_tables(out: &mut Vec<u8>, prelude: &Prelude) -> Result<(), AllocError>
-    requires { All (IsFloatWithin prelude.now) prelude.now.floats }
-    ensures { OnOk result (out.new.items ≡ out.old.items ++ prelude_text prelude.now) }
-{
-    let constants = prelude.constants();
-    if !constants.is_empty() {
-        put_names(out, b"$c", constants)?;
-    }
-    let variables = prelude.variables();
-    if !variables.is_empty() {
-        put_names(out, b"$v", variables)?;
-    }
-    put_floats(out, prelude, prelude.floats())
-}
-
-/// Puts the canonical lines of a prelude behind `out`.
-///
-/// After an error nothing is promised of the bytes in `out`.
-pub fn put_prelude(out: &mut Vec<u8>, prelude: &Prelude) -> Result<(), AllocError>
-    ensures { OnOk result (out.new.items ≡ out.old.items ++ prelude_text prelude.now) }
-{
-    let _floats = prelude.floats();
-    put_tables(out, prelude)
 }
 
 /// Puts the canonical lines of an assertion behind `out`: one line, or a block where it has pairs or hypotheses.
@@ -324,8 +264,51 @@ pub fn put_assertion(
     requires { Fits prelude.now assertion.now }
     ensures { OnOk result (out.new.items ≡ out.old.items ++ assertion_text prelude.now assertion.now) }
 {
-    let _floats = prelude.floats();
-    put_unit(out, prelude, assertion)
+    if assertion.pairs.as_slice().is_empty() && assertion.hyps.as_slice().is_empty() {
+        return put_claim(out, prelude, assertion);
+    }
+    put_block(out, prelude, assertion)
+}
+
+fn put_floats(out: &mut Vec<u8>, prelude: &Prelude, floats: &[Float]) -> Result<(), AllocError>
+    requires { All (IsFloatSound prelude.now) floats.now }
+    ensures { OnOk result (out.new.items ≡ out.old.items ++ flat_map statement_text (map (float_statement prelude.now) floats.now)) }
+{
+    for float in floats {
+        put_float(out, prelude, float)?;
+    }
+    Ok(())
+}
+
+fn put_units(
+    out: &mut Vec<u8>,
+    prelude: &Prelude,
+    assertions: &[Assertion],
+) -> Result<(), AllocError>
+    requires { All (Fits prelude.now) assertions.now }
+    ensures { OnOk result (out.new.items ≡ out.old.items ++ flat_map (assertion_text prelude.now) assertions.now) }
+{
+    for assertion in assertions {
+        put_assertion(out, prelude, assertion)?;
+    }
+    Ok(())
+}
+
+/// Puts the canonical lines of a prelude behind `out`.
+///
+/// After an error nothing is promised of the bytes in `out`.
+pub fn put_prelude(out: &mut Vec<u8>, prelude: &Prelude) -> Result<(), AllocError>
+    ensures { OnOk result (out.new.items ≡ out.old.items ++ prelude_text prelude.now) }
+{
+    let constants = prelude.constants();
+    if !constants.is_empty() {
+        put_names(out, b"$c", constants)?;
+    }
+    let variables = prelude.variables();
+    if !variables.is_empty() {
+        put_names(out, b"$v", variables)?;
+    }
+    put_floats(out, prelude, prelude.floats())
 }
 
 /// The canonical text of a database.
@@ -352,6 +335,7 @@ pub fn write_assertion(
     ensures text { IfOk result (λ v. v.items ≡ assertion_text prelude.now assertion.now) }
     ensures spelled { IfOk result (λ v. HasUnitSpelling prelude.now assertion.now → SpellsUnit prelude.now v.items assertion.now) }
 {
+    // For the proof: some text declares the prelude.
     let _floats = prelude.floats();
     let mut out = Vec::new(alloc);
     put_assertion(&mut out, prelude, assertion)?;

@@ -14,6 +14,7 @@ use Rattle.mmsyntax.specs.declared.statement.Symbol.{Symbol}
 use Rattle.mmsyntax.specs.declared.statement.Symbol.TheVariants.{Const, Var}
 use Rattle.mmsyntax.specs.declared.statement.Float.{Float as FloatOf}
 use Rattle.mmsyntax.specs.Tables.{Tables}
+use Rattle.mmsyntax.specs.Blocks.{in_order, is_same_pair}
 use Rattle.mmsyntax.specs.declared.statement.Frame.{Frame}
 use Rattle.mmsyntax.specs.declared.statement.Assertion.{Assertion}
 use Rattle.proofcheck.specs.declared.fault.ProofFaultKind.{ProofFaultKind}
@@ -21,9 +22,9 @@ use Rattle.proofcheck.specs.declared.fault.ProofFaultKind.TheVariants.{WrongType
 use Rattle.mmstatement.specs.Substitution.{replacement}
 use Rattle.proofcheck.specs.Derivation.{Expression, Gives, IsApart, AreApart, HaveTypes, TypesFit, HypothesesFit, PairsFit, conclusion}
 use Rattle.proofcheck.specs.Derivation.{arity}
-use Rattle.proofcheck.specs.Derivation.{in_order, substitution}
+use Rattle.proofcheck.specs.Derivation.{substitution}
 use Rattle.proofcheck.specs.Faults.{FailsTest}
-use Rattle.proofcheck.specs.Outcomes.{begins_with_type, types_fit, same_symbol, same_expression, hypotheses_fit, same_pair, symbols_apart}
+use Rattle.proofcheck.specs.Outcomes.{begins_with_type, types_fit, same_symbol, same_expression, hypotheses_fit, symbols_apart}
 use Rattle.proofcheck.specs.Outcomes.{are_apart, pairs_fit, cited}
 
 -- ---- types
@@ -61,9 +62,9 @@ hypotheses-decide f es = slice_eq-Decides expressions-decide _ _ _ refl
 
 -- ---- pairs
 
-pairs-decide : (q r : ℕ × ℕ) → Decides (same_pair q r) (q ≡ r)
+pairs-decide : (q r : ℕ × ℕ) → Decides (is_same_pair q r) (q ≡ r)
 pairs-decide q r =
-    Decides-like (same_pair q r) (λ h. λ i. (h.0 i, h.1 i)) (λ e. (ap (λ x. x.0) e, ap (λ x. x.1) e))
+    Decides-like (is_same_pair q r) (λ h. λ i. (h.0 i, h.1 i)) (λ e. (ap (λ x. x.0) e, ap (λ x. x.1) e))
     (Decides-and (eqb q.0 r.0) (eqb q.1 r.1) (Decides-eqb q.0 r.0) (Decides-eqb q.1 r.1))
 
 contains-decides : {X : Type 0} (test : X → X → Bool) → ((x y : X) → Decides (test x y) (x ≡ y)) → (xs : List X) (y : X)
@@ -93,8 +94,8 @@ apart-decides pairs (Var i) (Var j) =
     Decides-like (symbols_apart pairs (Var i) (Var j))
     (λ h u v e k. let left : i ≡ u = cc in let right : j ≡ v = cc in rw (← left, ← right) (record { differ = h.0; paired = h.1 }))
     (λ h. let apart = h i j refl refl in (apart.differ, apart.paired))
-    (Decides-and (not (eqb i j)) (list_any (λ q. same_pair q (in_order i j)) pairs) (Decides-not (eqb i j) (Decides-eqb i j))
-    (contains-decides same_pair pairs-decide pairs (in_order i j)))
+    (Decides-and (not (eqb i j)) (list_any (λ q. is_same_pair q (in_order i j)) pairs) (Decides-not (eqb i j) (Decides-eqb i j))
+    (contains-decides is_same_pair pairs-decide pairs (in_order i j)))
 
 apart-all : (pairs : List (ℕ × ℕ)) (d e : Expression) → Decides (are_apart pairs d e) (AreApart pairs d e)
 unfolding Apart

@@ -1,14 +1,15 @@
 -- Frames by place, below a limit, are the frames of the assertions before it.
 use Rattle.std.proofs.Common.{◌≡◌, ℕ, zero, suc, ◌+◌, ◌<◌, ◌≤◌, Bool, true, false, cond, List, [], ◌∷◌, ◌++◌, Option, None, Some, length}
-use Rattle.std.proofs.Common.{take, map, slice_get, refl, sym, ap, subst, ◌∙◌, append_assoc, arith, length-append, ltb, nat_eq, get_or}
-use Rattle.std.specs.Cmp.Lexicographic.{pointwise}
+use Rattle.std.proofs.Common.{take, map, slice_get, refl, sym, ap, subst, ◌∙◌, append_assoc, arith, length-append, ltb, get_or}
+use Rattle.std.specs.Str.{bytes_eq}
 use Rattle.std.proofs.lemmas.List.{take_more, length-take-le}
 use Rattle.std.proofs.lemmas.Bool.Decides.{Decides-ltb}
 use Rattle.mmsyntax.specs.Tables.{Tables}
 use Rattle.mmsyntax.specs.declared.statement.Frame.{Frame}
 use Rattle.mmsyntax.specs.declared.statement.Assertion.{Assertion}
 use Rattle.mmstatement.specs.Frames.{frame}
-use Rattle.proofcheck.specs.Databases.{frame_in, place_from, frame_below, first_of_two, citable_at, ChecksAt, HasFaultAt}
+use Rattle.proofcheck.specs.Databases.{frame_in, citable_at, ChecksAt, HasFaultAt}
+use Rattle.proofcheck.specs.Reports.{place_from, frame_below, first_of_two}
 use Rattle.proofcheck.specs.Derivation.{Citable, Checks}
 use Rattle.proofcheck.specs.Faults.{HasProofFault}
 use Rattle.proofcheck.specs.declared.fault.ProofFault.{ProofFault}
@@ -17,24 +18,24 @@ use Rattle.proofcheck.proofs.Plain.{at_seam}
 
 pub place_from-push : (n : ℕ) (label : List ℕ) (xs : List Assertion) (a : Assertion)
     → place_from n label (xs ++ a ∷ []) ≡ first_of_two (place_from n label xs)
-    (cond (pointwise nat_eq a.label label) (Some (n + length xs)) None)
+    (cond (bytes_eq a.label label) (Some (n + length xs)) None)
 place_from-push n label [] a =
-    ap (λ m. cond (pointwise nat_eq a.label label) (Some m) None) (let e : n ≡ n + 0 = omega arith in e)
+    ap (λ m. cond (bytes_eq a.label label) (Some m) None) (let e : n ≡ n + 0 = omega arith in e)
 place_from-push n label (x ∷ xs) a =
-    elim (pointwise nat_eq x.label label)
+    elim (bytes_eq x.label label)
     as (λ b. cond b (Some n) (place_from (n + 1) label (xs ++ a ∷ []))
     ≡ first_of_two (cond b (Some n) (place_from (n + 1) label xs))
-    (cond (pointwise nat_eq a.label label) (Some (n + length (x ∷ xs))) None)) [
+    (cond (bytes_eq a.label label) (Some (n + length (x ∷ xs))) None)) [
       | true ↦ refl
       | false ↦ place_from-push (n + 1) label xs a
-          ∙ ap (λ m. first_of_two (place_from (n + 1) label xs) (cond (pointwise nat_eq a.label label) (Some m) None))
+          ∙ ap (λ m. first_of_two (place_from (n + 1) label xs) (cond (bytes_eq a.label label) (Some m) None))
           (let e : n + 1 + length xs ≡ n + length (x ∷ xs) = omega arith in e)
     ]
 
 pub place_from-low : (n : ℕ) (label : List ℕ) (xs : List Assertion) (m : ℕ) → place_from n label xs ≡ Some m → n ≤ m
 place_from-low n label [] m e = cc
 place_from-low n label (x ∷ xs) m e =
-    elim (pointwise nat_eq x.label label) as (λ b. cond b (Some n) (place_from (n + 1) label xs) ≡ Some m → n ≤ m) [
+    elim (bytes_eq x.label label) as (λ b. cond b (Some n) (place_from (n + 1) label xs) ≡ Some m → n ≤ m) [
       | true ↦ λ h. let same : n ≡ m = cc in omega arith
       | false ↦ λ h. let low = place_from-low (n + 1) label xs m h in omega arith
     ] e
@@ -51,7 +52,7 @@ below-general : (p : Tables) (label : List ℕ) (xs : List Assertion) (pre : Lis
 below-general p label xs pre zero = none-below _ _ _ (λ m e. let low = place_from-low (length pre) label xs m e in omega arith)
 below-general p label [] pre (suc k) = refl
 below-general p label (x ∷ xs) pre (suc k) =
-    elim (pointwise nat_eq x.label label)
+    elim (bytes_eq x.label label)
     as (λ b. frame_below (pre ++ map (frame p) (x ∷ xs)) (length pre + suc k)
     (cond b (Some (length pre)) (place_from (length pre + 1) label xs))
     ≡ cond b (Some (frame p x)) (frame_in p (take k xs) label)) [
@@ -71,7 +72,7 @@ below-cited p xs k label = ap (λ n. frame_below (map (frame p) xs) n (place_fro
 -- one more place noted
 pub places_more : (found found' : Option ℕ) (label : List ℕ) (xs : List Assertion) (i : ℕ) (a : Assertion) → i < length xs → a
     ≡ get_or xs i a
-    → found ≡ place_from 0 label (take i xs) → found' ≡ first_of_two found (cond (pointwise nat_eq a.label label) (Some i) None)
+    → found ≡ place_from 0 label (take i xs) → found' ≡ first_of_two found (cond (bytes_eq a.label label) (Some i) None)
     → found' ≡ place_from 0 label (take (i + 1) xs)
 places_more found found' label xs i a lt is so_far next =
     let front : take (i + 1) xs ≡ take i xs ++ a ∷ [] = take_more xs i a lt ∙ ap (λ x. take i xs ++ x ∷ []) (sym is) in

@@ -8,7 +8,8 @@ use Rattle.std.proofs.lemmas.Option.{slice_get_within}
 use Rattle.mmsyntax.specs.Tables.{Contents}
 use Rattle.proofcheck.specs.declared.fault.ProofFault.{ProofFault}
 use Rattle.proofcheck.specs.declared.fault.ProofFaultKind.TheVariants.{NoMemory}
-use Rattle.proofcheck.specs.Databases.{ChecksAt, HasFaultAt, IsFirstFault, IsFirstReport, ReportsAt}
+use Rattle.proofcheck.specs.Databases.{ChecksAt, HasFaultAt, IsFirstFault}
+use Rattle.proofcheck.specs.Reports.{IsFirstReport, ReportsAt}
 
 module _ (db : Contents) where
   -- what the first report of n places from a start on says

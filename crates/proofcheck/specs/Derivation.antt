@@ -1,6 +1,6 @@
 -- Trees of a proof, what each derives, and the steps that it lists (Metamath book, section 4.1.4).
 use Rattle.std.specs.Prelude.{◌≡◌, ◌≢◌, ℕ, ◌+◌, ◌≤◌, List, [], ◌∷◌, ◌++◌, Option, Some, All, Contains, length, map, zip, drop}
-use Rattle.std.specs.Prelude.{slice_get, nat_lt, if◌then◌else◌}
+use Rattle.std.specs.Prelude.{slice_get}
 use Rattle.mmsyntax.specs.declared.statement.Symbol.{Symbol}
 use Rattle.mmsyntax.specs.declared.statement.Symbol.TheVariants.{Const, Var}
 use Rattle.mmsyntax.specs.declared.statement.Float.{Float as FloatOf}
@@ -10,6 +10,7 @@ use Rattle.mmsyntax.specs.declared.statement.Kind.TheVariants.{Theorem}
 use Rattle.mmsyntax.specs.declared.statement.Step.{Step}
 use Rattle.mmsyntax.specs.declared.statement.Step.TheVariants.{Float, Hyp, Cite}
 use Rattle.mmsyntax.specs.Tables.{Tables}
+use Rattle.mmsyntax.specs.Blocks.{in_order}
 use Rattle.mmstatement.specs.Substitution.{subst, replacement}
 
 -- an expression
@@ -52,10 +53,6 @@ HaveTypes p (i ∷ is) (e ∷ es) = HasType p i e × HaveTypes p is es
 -- each $f with its substitute: the expression without its type, which may be empty
 abbrev pub substitution : List ℕ → List Expression → List (ℕ × Expression)
 substitution floats es = zip floats (map (drop 1) es)
-
--- two variables as a pair, the lower first
-abbrev pub in_order : ℕ → ℕ → ℕ × ℕ
-in_order u v = if nat_lt u v then (u, v) else (v, u)
 
 -- two variables differ and are one of the restricted pairs
 pub record IsApart (pairs : List (ℕ × ℕ)) (u v : ℕ) : Type 0 where

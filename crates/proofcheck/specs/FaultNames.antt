@@ -1,6 +1,7 @@
 -- The number and the name of each kind of fault of a proof.
-use Rattle.std.specs.Prelude.{ℕ, List, ◌∷◌, ◌++◌, codes}
+use Rattle.std.specs.Prelude.{ℕ, List, ◌++◌, codes}
 use Rattle.std.specs.Fmt.{decimal}
+use Rattle.mmstatement.specs.FaultNames.{numbered_name}
 use Rattle.proofcheck.specs.declared.fault.ProofFault.{ProofFault}
 use Rattle.proofcheck.specs.declared.fault.ProofFaultKind.{ProofFaultKind}
 use Rattle.proofcheck.specs.declared.fault.ProofFaultKind.TheVariants.{UnknownStep, StackShort, WrongType, HypothesisDiffers}
@@ -30,9 +31,9 @@ name_of StatementDiffers = codes "StatementDiffers"
 name_of TooLong = codes "TooLong"
 name_of NoMemory = codes "NoMemory"
 
--- number, space, name
+-- as in: 6 NotOneLeft
 abbrev pub printed_kind : ProofFaultKind → List ℕ
-printed_kind kind = decimal (number_of kind) ++ 32 ∷ name_of kind
+printed_kind kind = numbered_name (number_of kind) (name_of kind)
 
 -- the step, then the kind, as in: step 3: 6 NotOneLeft
 abbrev pub printed_fault : ProofFault → List ℕ

@@ -1,4 +1,4 @@
--- How an entry of the stack is seen.
+-- Of the code's inside, apart from the rules: how an entry of the stack is seen.
 use Rattle.std.specs.Prelude.{List}
 use Rattle.mmsyntax.specs.declared.statement.Symbol.{Symbol}
 use Rattle.proofcheck.specs.declared.entry.Held.{Held}

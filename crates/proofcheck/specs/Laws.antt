@@ -1,6 +1,6 @@
 -- Laws of proofs: a listing has one tree, a proof one fault, and a change of labels keeps what is derived.
-use Rattle.std.specs.Prelude.{◌≡◌, ◌≢◌, ℕ, All, List, ◌⊎◌, Some, Contains, Result, map, nat_eq, if◌then◌else◌}
-use Rattle.std.specs.Cmp.Lexicographic.{pointwise}
+use Rattle.std.specs.Prelude.{◌≡◌, ◌≢◌, ℕ, All, List, ◌⊎◌, Some, Contains, Result, map, if◌then◌else◌}
+use Rattle.std.specs.Str.{bytes_eq}
 use Rattle.mmsyntax.specs.Tables.{Tables, Contents}
 use Rattle.mmsyntax.specs.declared.statement.Frame.{Frame}
 use Rattle.mmsyntax.specs.declared.statement.Assertion.{Assertion}
@@ -97,7 +97,7 @@ RelabelledDerives =
 
 -- the one label becomes the other
 abbrev pub replacing : List ℕ → List ℕ → List ℕ → List ℕ
-replacing old new label = if pointwise nat_eq old label then new else label
+replacing old new label = if bytes_eq old label then new else label
 
 -- a tree in which the citations of one assertion became citations of another, that states the same of the same hypotheses
 -- and asks for no further pairs, derives the same expression

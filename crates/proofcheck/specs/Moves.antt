@@ -1,4 +1,4 @@
--- What the steps of a proof do to the expressions of the trees so far, as the code sees them.
+-- Of the code's inside, apart from the rules: what the steps of a proof do to the expressions of the trees so far.
 use Rattle.std.specs.Prelude.{◌≡◌, List, [], ◌∷◌, ◌++◌, Some, slice_get, length, ◌<◌, ◌≤◌}
 use Rattle.mmsyntax.specs.Tables.{Tables}
 use Rattle.mmsyntax.specs.declared.statement.Symbol.{Symbol}

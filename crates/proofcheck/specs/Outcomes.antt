@@ -13,13 +13,14 @@ use Rattle.mmsyntax.specs.declared.statement.Assertion.{Assertion}
 use Rattle.mmsyntax.specs.declared.statement.Step.{Step}
 use Rattle.mmsyntax.specs.declared.statement.Step.TheVariants.{Float, Hyp, Cite}
 use Rattle.mmsyntax.specs.Tables.{Tables}
+use Rattle.mmsyntax.specs.Blocks.{in_order, is_same_pair}
 use Rattle.mmstatement.specs.Substitution.{subst, replacement}
 use Rattle.proofcheck.specs.declared.fault.ProofFault.{ProofFault}
 use Rattle.proofcheck.specs.declared.fault.ProofFaultKind.{ProofFaultKind}
 use Rattle.proofcheck.specs.declared.fault.ProofFaultKind.TheVariants.{UnknownStep, StackShort, WrongType, HypothesisDiffers}
 use Rattle.proofcheck.specs.declared.fault.ProofFaultKind.TheVariants.{NotDisjoint, NotOneLeft, StatementDiffers, TooLong}
 use Rattle.proofcheck.specs.Derivation.{Expression, Citable, Tree, Trees, float, hyp, node, none, some, Derives, listing, arity}
-use Rattle.proofcheck.specs.Derivation.{substitution, in_order, conclusion}
+use Rattle.proofcheck.specs.Derivation.{substitution, conclusion}
 use Rattle.proofcheck.specs.Faults.{HasFault, last}
 
 -- ---- the relation
@@ -55,13 +56,9 @@ same_expression d e = pointwise same_symbol d e
 abbrev pub hypotheses_fit : Frame → List Expression → Bool
 hypotheses_fit f es = pointwise same_expression (map (subst (substitution f.floats es)) f.hyps) (drop (length f.floats) es)
 
--- two pairs are equal
-abbrev pub same_pair : ℕ × ℕ → ℕ × ℕ → Bool
-same_pair q r = (q.0 == r.0) && (q.1 == r.1)
-
 -- two symbols are no variables, or variables that differ and are one of the restricted pairs
 abbrev pub symbols_apart : List (ℕ × ℕ) → Symbol → Symbol → Bool
-symbols_apart pairs (Var u) (Var v) = not (u == v) && list_any (λ q. same_pair q (in_order u v)) pairs
+symbols_apart pairs (Var u) (Var v) = not (u == v) && list_any (λ q. is_same_pair q (in_order u v)) pairs
 symbols_apart pairs _ _ = true
 
 -- all symbols of the one expression are apart from all of the other

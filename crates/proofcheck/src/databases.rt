@@ -4,7 +4,8 @@ ghost use Rattle.std.specs.Prelude.{◌≡◌, ◌≢◌, ◌<◌, List, ℕ, is
 ghost use Rattle.std.specs.HashMap.{get_by};
 ghost use Rattle.std.specs.Str.{bytes_eq};
 ghost use Rattle.mmstatement.specs.Frames.{frame};
-ghost use Rattle.proofcheck.specs.Databases.{AllCheck, ChecksAt, HasFaultAt, IsFirstFault, IsFirstReport, ReportsAt, place_from};
+ghost use Rattle.proofcheck.specs.Databases.{AllCheck, ChecksAt, HasFaultAt, IsFirstFault};
+ghost use Rattle.proofcheck.specs.Reports.{IsFirstReport, ReportsAt, place_from};
 
 use crate::checking::check;
 use crate::earlier::{Earlier, places_of};
@@ -69,6 +70,7 @@ fn report_at(
     requires places { (label : List ℕ) → get_by (λ k. bytes_eq label k.items) places.now ≡ place_from 0 label db.now.assertions }
     ensures { ReportsAt db.now i result }
 {
+    // For the proof: the assertions have a length, so the number behind this place is none too high.
     let _count = db.assertions().len();
     match check_at(alloc, db, frames, places, i) {
         Ok(()) => None,

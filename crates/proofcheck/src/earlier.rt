@@ -1,10 +1,9 @@
 //! What the proof of an assertion of a database may cite: the assertions before it, by one map from labels to places.
 
-ghost use Rattle.std.specs.Prelude.{◌≡◌, List, ℕ, Some, None, nat_eq, if◌then◌else◌, IfOk, OnOk};
-ghost use Rattle.std.specs.Cmp.Lexicographic.{pointwise};
+ghost use Rattle.std.specs.Prelude.{◌≡◌, List, ℕ, Some, None, if◌then◌else◌, IfOk, OnOk};
 ghost use Rattle.std.specs.HashMap.{get_by};
 ghost use Rattle.std.specs.Str.{bytes_eq};
-ghost use Rattle.proofcheck.specs.Databases.{first_of_two, frame_below, place_from};
+ghost use Rattle.proofcheck.specs.Reports.{first_of_two, frame_below, place_from};
 
 use crate::frames::Frames;
 use mmstatement::{Assertion, Frame, Label};
@@ -45,7 +44,7 @@ fn note_place(
     place: usize,
 ) -> Result<(), AllocError>
     ensures { OnOk result ((q : List ℕ) → get_by (λ k. bytes_eq q k.items) places.new
-        ≡ first_of_two (get_by (λ k. bytes_eq q k.items) places.old) (if pointwise nat_eq label.now q then Some place else None)) }
+        ≡ first_of_two (get_by (λ k. bytes_eq q k.items) places.old) (if bytes_eq label.now q then Some place else None)) }
 {
     if places.contains_key(label) {
         return Ok(());

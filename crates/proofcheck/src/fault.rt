@@ -3,6 +3,7 @@
 ghost use Rattle.std.specs.Prelude.{◌≡◌};
 
 use std::alloc::AllocError;
+use std::error::Error;
 use std::fmt;
 
 /// The test that a proof fails, in the order of their numbers from 1.
@@ -104,6 +105,10 @@ impl fmt::Display for ProofFault {
         write!(f, "step {step}: {number} {name}")
     }
 }
+
+impl Error for ProofFaultKind {}
+
+impl Error for ProofFault {}
 
 impl From<AllocError> for ProofFaultKind {
     ghost use Rattle.std.specs.Prelude.{◌≡◌};

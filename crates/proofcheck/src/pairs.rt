@@ -2,7 +2,8 @@
 
 ghost use Rattle.std.specs.Prelude.{◌≡◌, ◌↔◌, ◌≤◌, ◌⊎◌, ℕ, IsTrue, IfOk, OnOk, All, Contains, length};
 ghost use Rattle.mmstatement.specs.Substitution.{replacement};
-ghost use Rattle.proofcheck.specs.Derivation.{AreApart, IsApart, in_order, substitution};
+ghost use Rattle.mmsyntax.specs.Blocks.{in_order};
+ghost use Rattle.proofcheck.specs.Derivation.{AreApart, IsApart, substitution};
 
 use crate::entry::Entry;
 use crate::substitutes::substitute_of;

@@ -2,7 +2,7 @@
 #![tactic(auto)]
 
 ghost use Rattle.std.specs.Option.{option_map, unwrap_or};
-ghost use Rattle.std.specs.Prelude.{◌≡◌, ◌<◌, ℕ, List, IfOk, Some, length, slice_get, false};
+ghost use Rattle.std.specs.Prelude.{◌≡◌, ◌<◌, ℕ, List, IfOk, Some, length, slice_get, option_and_then, false};
 ghost use Rattle.tlcore.specs.History.{settled as settled_in};
 ghost use Rattle.tlcore.specs.Seats.{Read as ReadValue, find_read as find_read_of};
 ghost use Rattle.tlcore.specs.Machine.{next};
@@ -15,6 +15,7 @@ use crate::committing::{check, draw, release, store, take};
 use crate::entries::{Entry, Status};
 use crate::reading::{begin, load, look, relook};
 use crate::seats::{Place, Seat};
+use crate::sets::find_read;
 use std::alloc::{AllocError, Global};
 use std::marker::Model;
 
@@ -105,6 +106,21 @@ impl World {
             Status::Open => None,
             Status::Void => Some(false),
             Status::Done => Some(true),
+        }
+    }
+
+    /// The value that the last read of a cell found, of those that the seat's last run has ended. Seats and cells count from 0.
+    ///
+    /// None where there is no such seat, and where the run has ended no read of the cell.
+    pub fn value_read(&self, seat: usize, cell: usize) -> Option<u64>
+        ensures { result ≡ option_and_then (λ t. option_map (λ r. r.value) (find_read_of cell t.reads)) (slice_get self.now.seats seat) }
+    {
+        let seats = self.seats.as_slice();
+        if seat < seats.len() {
+            let seat = &seats[seat];
+            find_read(cell, seat.reads.as_slice()).map(|read| read.value)
+        } else {
+            None
         }
     }
 
@@ -226,6 +242,7 @@ fn advance(
     requires { MeetsInvariant (world_of cells.old.items seats.old.items history.old.items) }
     ensures { let now = world_of cells.old.items seats.old.items history.old.items in let later = world_of cells.new.items seats.new.items history.new.items in IfOk result (λ b. IsNext now seat action b later) }
 {
+    // For the proof: the next number is none too high.
     let _short = is_short(history);
     if seat >= seats.len() {
         return Ok(false);

@@ -27,7 +27,8 @@ use Rattle.ranges.specs.Ranges.{Range, Has, Names}
 use Rattle.tlwords.specs.Terms.{Terms, Permits}
 use Rattle.tlwords.specs.Seen.{Call, Committed, Seen, SeenGrows, IsSettled, IsDone, Agree}
 use Rattle.tlwords.specs.Views.{Gone, View, tells, Sound}
-use Rattle.tlwords.specs.Rule.{Start, rights_of, numbers_of, words_of, paired, lock_at, value_at, total_of, LookIsFresh, EntriesAre, IsTold, Suits, Ruled}
+use Rattle.tlwords.specs.Layout.{clock_at, lock_at, value_at, paired, front_of, words_of}
+use Rattle.tlwords.specs.Rule.{Start, rights_of, numbers_of, total_of, LookIsFresh, EntriesAre, IsTold, Suits, Ruled}
 use Rattle.tlwords.specs.Plays.{Mine, GivesBack, Sees, Takes, Checks, Stores, Releases, work_of, after_take, after_check, after_store, after_release, took, drew, checked, stored, released, bare}
 use Rattle.tlwords.proofs.Paired.{clock_word, lock_word, lock_is_set, value_is_set, word_count, lock_within, value_within}
 use Rattle.tlwords.proofs.Seens.{settled_grows, seen_refl, seen_trans, permits_grow, agree_grows, agree_snoc}
@@ -187,14 +188,15 @@ module _ {S N : Type 0} (terms : Terms S N) (setting : S) (base : List ℕ) (roo
   pub draws : (opened : Start) (slots id : ℕ) (me : Mine S N) (y : S) (note : N) → me.0.setting ≡ Some y → me.0.seat.place ≡ Taking
       → Permits terms y me.0.seen.ranges (reads_of me.0.seat.reads) (writes_of me.0.seat.held) note → writes_of me.0.seat.held ≢ []
       → length me.0.drawn + 1 ≤ 2 ^ 40 * me.0.rights
-      → Allows (Ruled terms setting base room opened) slots id me 1 (λ n. (n + 1) % 2 ^ 64) (bare (drew terms (Some note)) (step slots 1 1 0 none) me)
+      → Allows (Ruled terms setting base room opened) slots id me clock_at (λ n. (n + 1) % 2 ^ 64)
+      (bare (drew terms (Some note)) (step slots clock_at 1 0 none) me)
   draws opened slots id me y note set p law some_writes left =
-      lifted terms setting base room opened slots id 1 me (λ n. (n + 1) % 2 ^ 64)
-      (drew terms (Some note) (step slots 1 1 0 none) me) λ ranges ws vs r at.
+      lifted terms setting base room opened slots id clock_at me (λ n. (n + 1) % 2 ^ 64)
+      (drew terms (Some note) (step slots clock_at 1 0 none) me) λ ranges ws vs r at.
       let v : View S N = me.0 in
       let t : Seat = v.seat in
       let w : World = r.world in
-      let n : ℕ = slice_index ws 1 in
+      let n : ℕ = slice_index ws clock_at in
       let is : n ≡ w.clock = clock_word ws w r.words_are in
       let clock : w.clock ≡ length w.history = (r.invariant).consistent.clock in
       let e : slice_get w.seats id ≡ Some t = seat_at terms setting base room ranges ws vs r id v at in
@@ -245,10 +247,10 @@ module _ {S N : Type 0} (terms : Terms S N) (setting : S) (base : List ℕ) (roo
       (subst (λ (x : S). Permits terms x ranges (reads_of t.reads) (writes_of t.held) note) (f.own.setting_is y set).0
       (permits_grow terms y v.seen.ranges ranges f.own.grows.2 law)) some_writes in
       let wrap : (n + 1) % 2 ^ 64 ≡ suc w.clock = omega (arith, is, clock, few) in
-      let words : slice_set ws 1 ((n + 1) % 2 ^ 64) ≡ words_of world =
-      ap (λ (l : List ℕ). slice_set l 1 ((n + 1) % 2 ^ 64)) r.words_are ∙ ap (λ (k : ℕ). 0 ∷ k ∷ paired w.cells) wrap in
-      let rule : Rule terms setting base room ranges (slice_set ws 1 ((n + 1) % 2 ^ 64)) (slice_set vs id u) =
-      moved terms setting base room ranges ws vs r id v u at ranges (slice_set ws 1 ((n + 1) % 2 ^ 64)) world notes owner (λ x has. has) r.lie
+      let words : slice_set ws clock_at ((n + 1) % 2 ^ 64) ≡ words_of world =
+      ap (λ (l : List ℕ). slice_set l clock_at ((n + 1) % 2 ^ 64)) r.words_are ∙ ap (λ (k : ℕ). front_of k (paired w.cells)) wrap in
+      let rule : Rule terms setting base room ranges (slice_set ws clock_at ((n + 1) % 2 ^ 64)) (slice_set vs id u) =
+      moved terms setting base room ranges ws vs r id v u at ranges (slice_set ws clock_at ((n + 1) % 2 ^ 64)) world notes owner (λ x has. has) r.lie
       r.named lead.keeps
       (ap (λ (k : Seat). slice_set w.seats id k) (sym zz)) words refl grow.1 (omega (arith, count, same, len)) entries old suit refl
       (omega (arith, more, len)) in

@@ -14,10 +14,11 @@ use Rattle.tlcore.specs.declared.cells.Cell.{Cell}
 use Rattle.tlwords.specs.declared.closing.ClosedCell.{ClosedCell}
 use Rattle.tlwords.specs.declared.closing.ClosedWords.{ClosedWords}
 use Rattle.ranges.specs.Ranges.{Range, Has, Names, IsStored, AreOfOneStore}
-use Rattle.tlwords.specs.Terms.{Terms, Opened}
-use Rattle.tlwords.specs.Seen.{Seen, Legal, Agree}
+use Rattle.tlwords.specs.Terms.{Terms}
+use Rattle.tlwords.specs.Seen.{Seen, Legal}
 use Rattle.tlwords.specs.Views.{Gone, View, gone_of}
-use Rattle.tlwords.specs.Rule.{lock_at, value_at, tail_at, store_at, total_of, Start, IsLeft, rights_of, numbers_of, moved_of, Adds, Kept, Ruled}
+use Rattle.tlwords.specs.Layout.{clock_at, lock_at, value_at, front_size, tail_at, store_at, shelf_of}
+use Rattle.tlwords.specs.Rule.{total_of, Start, IsLeft, rights_of, numbers_of, moved_of, Adds, Kept, Ruled}
 use Rattle.tlwords.specs.Closing.{AreCellsOf, IsStoreOf, Shows, IsWorldOf, Closes, EndsIn, IsStill, ClosesAll}
 use Rattle.tlwords.proofs.Keeps.{now, seat_at, legal_of}
 use Rattle.tlwords.proofs.Gathers.{nothing_held, rests_unheld}
@@ -38,15 +39,11 @@ elem_left [] ys i l = absurd (omega arith)
 elem_left (x ∷ xs) ys zero l = refl
 elem_left (x ∷ xs) ys (suc i) l = elem_left xs ys i (omega arith)
 
-elem_seam : (xs : List ℕ) (y : ℕ) (ys : List ℕ) → get_elem? (xs ++ y ∷ ys) (length xs) ≡ some y
-elem_seam [] y ys = refl
-elem_seam (x ∷ xs) y ys = elem_seam xs y ys
-
-elem_right : (xs : List ℕ) (y : ℕ) (ys : List ℕ) (o : ℕ) → get_elem? (xs ++ y ∷ ys) (suc (length xs + o)) ≡ get_elem? ys o
-elem_right [] y ys o = let e : length {A = ℕ} [] + o ≡ o = omega arith in ap (λ (k : ℕ). get_elem? ys k) e
-elem_right (x ∷ xs) y ys o =
+elem_right : (xs ys : List ℕ) (o : ℕ) → get_elem? (xs ++ ys) (length xs + o) ≡ get_elem? ys o
+elem_right [] ys o = let e : length {A = ℕ} [] + o ≡ o = omega arith in ap (λ (k : ℕ). get_elem? ys k) e
+elem_right (x ∷ xs) ys o =
     let e : length (x ∷ xs) + o ≡ suc (length xs + o) = omega arith in
-    ap (λ (k : ℕ). get_elem? (xs ++ y ∷ ys) k) e ∙ elem_right xs y ys o
+    ap (λ (k : ℕ). get_elem? (x ∷ (xs ++ ys)) k) e ∙ elem_right xs ys o
 
 elem_of : (xs : List ℕ) (i x : ℕ) → slice_get xs i ≡ Some x → get_elem? xs i ≡ some x
 elem_of [] i x e = absurd (cc)
@@ -134,8 +131,8 @@ given_moved {S} {N} v gs us gone =
 
 module _ {S N : Type 0} (terms : Terms S N) (setting : S) (base : List ℕ) (room : ℕ) (opened : Start) (s : State (Unit {0}) (View S N))
     (r : Ruled terms setting base room opened s)
-    (n : ℕ) (closed : ClosedWords) (long : length s.words ≡ 2 * n + 3 + room)
-    (clock_at : get_elem? s.words 1 ≡ some closed.clock) (tail_is : get_elem? s.words (tail_at n) ≡ some closed.tail)
+    (n : ℕ) (closed : ClosedWords) (long : length s.words ≡ store_at n room)
+    (clock_is : get_elem? s.words clock_at ≡ some closed.clock) (tail_is : get_elem? s.words (tail_at n) ≡ some closed.tail)
     (cells_are : AreCellsOf s.words closed.cells.items) (cells_count : length closed.cells.items ≡ n)
     (store_is : IsStoreOf s.words n closed.store.items) (store_count : length closed.store.items ≡ room) where
   abbrev k : Kept terms setting base room r.ranges r.front s.views
@@ -147,35 +144,35 @@ module _ {S N : Type 0} (terms : Terms S N) (setting : S) (base : List ℕ) (roo
   abbrev last : Seen N
   last = now terms setting base room r.ranges r.front s.views r.kept
 
-  front_count : length r.front ≡ 2 * length w.cells + 2
+  front_count : length r.front ≡ front_size (length w.cells)
   front_count = word_count r.front w k.words_are
 
   many : n ≡ length w.cells
   many =
-      let a : length s.words ≡ length (r.front ++ r.tail ∷ r.store) = ap length r.words_are in
-      let b : length (r.front ++ r.tail ∷ r.store) ≡ length r.front + length (r.tail ∷ r.store) = length-append r.front (r.tail ∷ r.store) in
+      let a : length s.words ≡ length (r.front ++ shelf_of r.tail r.store) = ap length r.words_are in
+      let b : length (r.front ++ shelf_of r.tail r.store) ≡ length r.front + length (shelf_of r.tail r.store) = length-append r.front (shelf_of r.tail r.store) in
       let c : length r.store ≡ room = (r.shelf).long in
-      let d : length r.front ≡ 2 * length w.cells + 2 = front_count in
+      let d : length r.front ≡ front_size (length w.cells) = front_count in
       omega (arith, a, b, c, d, long)
 
   front_word : (i x : ℕ) → i < length r.front → get_elem? s.words i ≡ some x → slice_index r.front i ≡ x
   front_word i x l e =
       index_same r.front i x
-      (sym (elem_left r.front (r.tail ∷ r.store) i l) ∙ (ap (λ (l : List ℕ). get_elem? l i) (sym r.words_are) ∙ e))
+      (sym (elem_left r.front (shelf_of r.tail r.store) i l) ∙ (ap (λ (l : List ℕ). get_elem? l i) (sym r.words_are) ∙ e))
 
   tail_same : closed.tail ≡ r.tail
   tail_same =
-      let at : tail_at n ≡ length r.front = let a : n ≡ length w.cells = many in let b : length r.front ≡ 2 * length w.cells + 2 = front_count in omega (arith, a, b) in
+      let at : tail_at n ≡ length r.front + 7 = let a : n ≡ length w.cells = many in let b : length r.front ≡ front_size (length w.cells) = front_count in omega (arith, a, b) in
       some-injective closed.tail r.tail
       (sym tail_is ∙ (ap (λ (l : List ℕ). get_elem? l (tail_at n)) r.words_are
-      ∙ (ap (λ (i : ℕ). get_elem? (r.front ++ r.tail ∷ r.store) i) at ∙ elem_seam r.front r.tail r.store)))
+      ∙ (ap (λ (i : ℕ). get_elem? (r.front ++ shelf_of r.tail r.store) i) at ∙ elem_right r.front (shelf_of r.tail r.store) 7)))
 
   store_word : (o x y : ℕ) → slice_get closed.store.items o ≡ Some x → slice_get r.store o ≡ Some y → x ≡ y
   store_word o x y e f =
-      let at : store_at n o ≡ suc (length r.front + o) = let a : n ≡ length w.cells = many in let b : length r.front ≡ 2 * length w.cells + 2 = front_count in omega (arith, a, b) in
+      let at : store_at n o ≡ length r.front + (15 + o) = let a : n ≡ length w.cells = many in let b : length r.front ≡ front_size (length w.cells) = front_count in omega (arith, a, b) in
       some-injective x y
       (sym (store_is o x e) ∙ (ap (λ (l : List ℕ). get_elem? l (store_at n o)) r.words_are
-      ∙ (ap (λ (i : ℕ). get_elem? (r.front ++ r.tail ∷ r.store) i) at ∙ (elem_right r.front r.tail r.store o ∙ elem_of r.store o y f))))
+      ∙ (ap (λ (i : ℕ). get_elem? (r.front ++ shelf_of r.tail r.store) i) at ∙ (elem_right r.front (shelf_of r.tail r.store) (15 + o) ∙ (elem_right (shelf_of r.tail []) r.store o ∙ elem_of r.store o y f)))))
 
   store_same : (o y : ℕ) → slice_get r.store o ≡ Some y → slice_get closed.store.items o ≡ Some y
   store_same o y f =
@@ -220,8 +217,8 @@ module _ {S N : Type 0} (terms : Terms S N) (setting : S) (base : List ℕ) (roo
   shown =
       record {
         clock_is =
-            let l : 1 < length r.front = let b : length r.front ≡ 2 * length w.cells + 2 = front_count in omega (arith, b) in
-            sym ((k.invariant).consistent.clock) ∙ (sym (clock_word r.front w k.words_are) ∙ front_word 1 closed.clock l clock_at);
+            let l : clock_at < length r.front = let b : length r.front ≡ front_size (length w.cells) = front_count in omega (arith, b) in
+            sym ((k.invariant).consistent.clock) ∙ (sym (clock_word r.front w k.words_are) ∙ front_word clock_at closed.clock l clock_is);
         count = cells_count ∙ (many ∙ k.cells_are);
         free = λ c v x f e.
             let y : (y : Cell) × (slice_get w.cells c ≡ Some y) × (y.lock ≡ x.lock) × (y.value ≡ x.value) = cell_same c x f in

@@ -15,9 +15,10 @@ use Rattle.tlcore.specs.declared.seats.Place.TheVariants.{Idle, Loaded, Taking, 
 use Rattle.tlcore.proofs.Laws.{begin_leads, look_leads, load_leads, relook_leads, take_leads, draw_leads, check_leads, store_leads, release_leads, release_failed_leads, release_void_leads}
 use Rattle.tlwords.specs.Terms.{Terms}
 use Rattle.tlwords.specs.Views.{View}
-use Rattle.tlwords.specs.Rule.{Start, words_of, paired, lock_at, value_at}
+use Rattle.tlwords.specs.Layout.{clock_at, lock_at, value_at, paired, front_of, words_of, shelf_of}
+use Rattle.tlwords.specs.Rule.{Start}
 use Rattle.tlwords.specs.Plays.{Mine, began, after_look, after_relook, after_take, after_check, after_store, after_release}
-use Rattle.tlwords.specs.Events.{clock_at, Moment, found, IsEvent, HasCell, ClockLoadIsEvent, LookIsEvent, LoadIsEvent, RelookIsEvent, TakeIsEvent, DrawIsEvent, CheckIsEvent, StoreIsEvent, ReleaseIsEvent}
+use Rattle.tlwords.specs.Events.{Moment, found, IsEvent, HasCell, ClockLoadIsEvent, LookIsEvent, LoadIsEvent, RelookIsEvent, TakeIsEvent, DrawIsEvent, CheckIsEvent, StoreIsEvent, ReleaseIsEvent}
 use Rattle.tlwords.proofs.Paired.{map_set, clock_word, lock_word, value_word, word_count, lock_within, value_within, lock_is_set, value_is_set}
 use Rattle.tlwords.proofs.Keeps.{Rule, seat_at}
 use Rattle.tlwords.proofs.ReadSteps.{cell_in}
@@ -43,7 +44,7 @@ module _ {S N : Type 0} (terms : Terms S N) (setting : S) (base : List ℕ) (roo
     -- a word of the front, as the step finds it
     found_front : (i : ℕ) → i < length front → found terms setting base room opened m r at i ≡ slice_index front i
     found_front i l =
-        ap (λ (ws : List ℕ). slice_index ws i) at.rule.words_are ∙ get_or_append_left front (at.rule.tail ∷ at.rule.store) 0 i l
+        ap (λ (ws : List ℕ). slice_index ws i) at.rule.words_are ∙ get_or_append_left front (shelf_of at.rule.tail at.rule.store) 0 i l
 
     -- a step on the front, by an event that sets its word
     event : (action : Action) (i left : ℕ) (after : World) → i < length front → Leads base w at.seat action after
@@ -51,13 +52,13 @@ module _ {S N : Type 0} (terms : Terms S N) (setting : S) (base : List ℕ) (roo
         → IsEvent terms setting base room opened m r at action i left
     event action i left after l leads words seats =
         record {
-          words_before = at.rule.words_are ∙ ap (λ (ws : List ℕ). ws ++ at.rule.tail ∷ at.rule.store) k.words_are;
+          words_before = at.rule.words_are ∙ ap (λ (ws : List ℕ). ws ++ shelf_of at.rule.tail at.rule.store) k.words_are;
           seats_before = k.seats_are;
           after = after;
           leads = leads;
           words_after = ap (λ (ws : List ℕ). slice_set ws i left) at.rule.words_are
-              ∙ (set-append_left front (at.rule.tail ∷ at.rule.store) i left l
-              ∙ ap (λ (ws : List ℕ). ws ++ at.rule.tail ∷ at.rule.store) words);
+              ∙ (set-append_left front (shelf_of at.rule.tail at.rule.store) i left l
+              ∙ ap (λ (ws : List ℕ). ws ++ shelf_of at.rule.tail at.rule.store) words);
           seats_after = map_set (λ (v : View S N). v.seat) at.state.views at.seat r.0
               ∙ (ap (λ (ts : List Seat). slice_set ts at.seat r.0.seat) k.seats_are ∙ seats);
         }
@@ -169,7 +170,7 @@ module _ {S N : Type 0} (terms : Terms S N) (setting : S) (base : List ℕ) (roo
       let wrap : (n + 1) % 2 ^ 64 ≡ suc w.clock = omega (arith, is, few) in
       event m r at Draw clock_at ((n + 1) % 2 ^ 64) (drawn w at.seat m.0.seat) (clock_within m r at)
       (draw_leads base w at.seat m.0.seat at.rule.kept.invariant (here_seat m r at) place)
-      (ap (λ (l : List ℕ). slice_set l 1 ((n + 1) % 2 ^ 64)) at.rule.kept.words_are ∙ ap (λ (k : ℕ). 0 ∷ k ∷ paired w.cells) wrap)
+      (ap (λ (l : List ℕ). slice_set l clock_at ((n + 1) % 2 ^ 64)) at.rule.kept.words_are ∙ ap (λ (k : ℕ). front_of k (paired w.cells)) wrap)
       (ap (λ (t : Seat). slice_set w.seats at.seat t)
       (ap (λ (v : View S N). v.seat) (t.is note refl) ∙ ap (λ (k : ℕ). placed m.0.seat (Checking k 0)) is))
 

@@ -15,7 +15,8 @@ use Rattle.ranges.specs.Ranges.{Range, Has, Within, Names, AreOfOneStore}
 use Rattle.tlwords.specs.Terms.{Terms, Permits, Opened}
 use Rattle.tlwords.specs.Seen.{Call, Seen, SeenGrows, NotesGrow, IsSettled, Legal, Agree}
 use Rattle.tlwords.specs.Views.{Told, Gone, View, tells, untold, Sound}
-use Rattle.tlwords.specs.Rule.{words_of, total_of, LookIsFresh, EntriesAre, IsTold, IsGone, rights_of, numbers_of, Suits, Kept}
+use Rattle.tlwords.specs.Layout.{words_of}
+use Rattle.tlwords.specs.Rule.{total_of, LookIsFresh, EntriesAre, IsTold, IsGone, rights_of, numbers_of, Suits, Kept}
 use Rattle.tlwords.specs.Plays.{Mine, Sees}
 use Rattle.tlwords.proofs.Seens.{settled_grows, look_grows, seen_refl, seen_trans, agree_grows, entries_grow}
 use Rattle.tlwords.proofs.Paired.{get_same, get_map, map_set}

@@ -1,5 +1,5 @@
 -- What a pass knows of the store, as its calls go.
-use Rattle.std.proofs.Common.{◌≡◌, Bool, true, is_some, Option, ℕ, Some, None, List, [], ◌∷◌, length, sym, ap, ◌∙◌, subst}
+use Rattle.std.proofs.Common.{◌≡◌, Bool, true, is_some, Option, ℕ, Some, None, List, length, sym, ap, ◌∙◌, subst}
 use Rattle.atomic_table.specs.Seated.{TableId}
 use Rattle.atomic_table.specs.declared.shared.Seat.{Seat as TableSeat}
 use Rattle.tlwords.specs.declared.log.Slot.{Slot}

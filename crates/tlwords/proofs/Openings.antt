@@ -3,7 +3,7 @@ use Rattle.std.proofs.Common.{◌≡◌, ℕ, zero, suc, ◌+◌, ◌-◌, ◌*�
 use mathlib.Core.Option.{some, some-injective, some-ne-none}
 use lib.ListN.{get_elem?}
 use Rattle.std.specs.Prelude.{slice_index_or}
-use Rattle.std.proofs.lemmas.List.{map-append, length-append, length-replicate}
+use Rattle.std.proofs.lemmas.List.{append_assoc, map-append, length-append, length-replicate, take_all}
 use Rattle.std.proofs.lemmas.List.Elements.{All-append}
 use Rattle.atomic_table.specs.Table.{opening}
 use Rattle.tlcore.specs.Schedules.{start, opened}
@@ -15,7 +15,8 @@ use Rattle.ranges.specs.Ranges.{Range, Has, IsStored, AreOfOneStore, ranges_name
 use Rattle.tlwords.specs.Terms.{Terms, AreNamed}
 use Rattle.tlwords.specs.Seen.{Seen, opening_seen}
 use Rattle.tlwords.specs.Views.{Staging, View, Sound, untold, fresh}
-use Rattle.tlwords.specs.Rule.{paired, opening_words, IsTold, Suits, Kept, Adds, Shelf, Ruled, first_view}
+use Rattle.tlwords.specs.Layout.{store_at, paired, opening_words, unused, front_of, shelf_of}
+use Rattle.tlwords.specs.Rule.{IsTold, Suits, Kept, Adds, Shelf, Ruled, first_view}
 use Rattle.tlwords.specs.Runs.{down, dealer, IsNew, KnowsStore}
 use Rattle.tlwords.specs.Plays.{Mine, newcomer}
 use Rattle.tlwords.proofs.Logs.{take_next}
@@ -94,7 +95,7 @@ module _ {S N : Type 0} (terms : Terms S N) (setting : S) (values store : List �
       blank o l m = zeros_behind store (room - length store) o l (omega (arith, l, m, fits))
 
   kept_so : sessions ≤ 64 → terms.opens setting (ranges_named (terms.ranged setting) store values) values → AreNamed terms setting (ranges_named (terms.ranged setting) store values) values
-      → Kept terms setting values room (ranges_named (terms.ranged setting) store values) (0 ∷ 0 ∷ opening_words values) (first_view setting values room (ranges_named (terms.ranged setting) store values) sessions ∷ [])
+      → Kept terms setting values room (ranges_named (terms.ranged setting) store values) (front_of 0 (opening_words values)) (first_view setting values room (ranges_named (terms.ranged setting) store values) sessions ∷ [])
   kept_so few fact named =
       let ranges : List Range = ranges_named (terms.ranged setting) store values in
       let first : View S N = first_view setting values room ranges sessions in
@@ -108,7 +109,7 @@ module _ {S N : Type 0} (terms : Terms S N) (setting : S) (values store : List �
         notes = [];
         owner = λ _. 0;
         invariant = start_ok values 1;
-        words_are = ap (λ (l : List ℕ). 0 ∷ 0 ∷ l) (paired_opened values);
+        words_are = ap (front_of 0) (paired_opened values);
         seats_are = refl;
         cells_are = length_opened values;
         notes_are = refl;
@@ -122,13 +123,13 @@ module _ {S N : Type 0} (terms : Terms S N) (setting : S) (values store : List �
       }
 
 pub opens_so : {S N : Type 0} (terms : Terms S N) (setting : S) (values store words : List ℕ) (room sessions : ℕ) → length store ≤ room → room ≤ 2 ^ 24 → sessions ≤ 64
-    → words ≡ (0 ∷ 0 ∷ opening_words values) ++ length store ∷ (store ++ replicate (room - length store) 0)
+    → words ≡ front_of 0 (opening_words values) ++ shelf_of (length store) (store ++ replicate (room - length store) 0)
     → terms.opens setting (ranges_named (terms.ranged setting) store values) values → AreNamed terms setting (ranges_named (terms.ranged setting) store values) values
     → Ruled terms setting values room (record { store = store; sessions = sessions })
     (opening words [] (first_view setting values room (ranges_named (terms.ranged setting) store values) sessions))
 opens_so terms setting values store words room sessions fits small few is fact named =
     record {
-      front = 0 ∷ 0 ∷ opening_words values;
+      front = front_of 0 (opening_words values);
       tail = length store;
       store = store ++ replicate (room - length store) 0;
       ranges = ranges_named (terms.ranged setting) store values;
@@ -145,12 +146,12 @@ pub opening_snoc : (xs : List ℕ) (v : ℕ) → opening_words (xs ++ v ∷ []) 
 opening_snoc [] v = refl
 opening_snoc (x ∷ xs) v = ap (λ (l : List ℕ). 0 ∷ x ∷ l) (opening_snoc xs v)
 
-pub opening_more : (vs : List ℕ) (i v : ℕ) (xs ys zs : List ℕ) → i < length vs → xs ≡ 0 ∷ 0 ∷ opening_words (take i vs) → ys ≡ xs ++ 0 ∷ []
-    → zs ≡ ys ++ slice_index_or vs i v ∷ [] → zs ≡ 0 ∷ 0 ∷ opening_words (take (i + 1) vs)
+pub opening_more : (vs : List ℕ) (i v : ℕ) (xs ys zs : List ℕ) → i < length vs → xs ≡ front_of 0 (opening_words (take i vs)) → ys ≡ xs ++ 0 ∷ []
+    → zs ≡ ys ++ slice_index_or vs i v ∷ [] → zs ≡ front_of 0 (opening_words (take (i + 1) vs))
 opening_more vs i v xs ys zs l a b c =
     c ∙ (ap (λ (l : List ℕ). l ++ slice_index_or vs i v ∷ []) (b ∙ ap (λ (l : List ℕ). l ++ 0 ∷ []) a)
-    ∙ (ap (λ (l : List ℕ). 0 ∷ 0 ∷ l) (two (opening_words (take i vs)) (slice_index_or vs i v) ∙ sym (opening_snoc (take i vs) (slice_index_or vs i v)))
-    ∙ sym (ap (λ (l : List ℕ). 0 ∷ 0 ∷ opening_words l) (take_next vs i v l))))
+    ∙ (ap (front_of 0) (two (opening_words (take i vs)) (slice_index_or vs i v) ∙ sym (opening_snoc (take i vs) (slice_index_or vs i v)))
+    ∙ sym (ap (λ (l : List ℕ). front_of 0 (opening_words l)) (take_next vs i v l))))
   where
     two : (xs : List ℕ) (v : ℕ) → (xs ++ 0 ∷ []) ++ v ∷ [] ≡ xs ++ 0 ∷ v ∷ []
     two [] v = refl
@@ -161,15 +162,29 @@ opening_length [] = refl
 opening_length (x ∷ xs) = let r : length (opening_words xs) ≡ 2 * length xs = opening_length xs in omega (arith, r)
 
 pub words_length : (values store : List ℕ) (room : ℕ) → length store ≤ room
-    → length ((0 ∷ 0 ∷ opening_words values) ++ length store ∷ (store ++ replicate (room - length store) 0)) ≡ 2 * length values + 3 + room
+    → length (front_of 0 (opening_words values) ++ shelf_of (length store) (store ++ replicate (room - length store) 0)) ≡ store_at (length values) room
 words_length values store room l =
     let zeros : List ℕ = replicate (room - length store) 0 in
-    let a : length ((0 ∷ 0 ∷ opening_words values) ++ length store ∷ (store ++ zeros)) ≡ length (0 ∷ 0 ∷ opening_words values) + length (length store ∷ (store ++ zeros)) =
-    length-append (0 ∷ 0 ∷ opening_words values) (length store ∷ (store ++ zeros)) in
+    let a : length (front_of 0 (opening_words values) ++ shelf_of (length store) (store ++ zeros)) ≡ length (front_of 0 (opening_words values)) + length (shelf_of (length store) (store ++ zeros)) =
+    length-append (front_of 0 (opening_words values)) (shelf_of (length store) (store ++ zeros)) in
     let b : length (store ++ zeros) ≡ length store + length zeros = length-append store zeros in
     let c : length zeros ≡ room - length store = length-replicate (room - length store) 0 in
     let d : length (opening_words values) ≡ 2 * length values = opening_length values in
     omega (arith, a, b, c, d, l)
+
+-- the table's words, as they are put one behind the other
+pub all_words : (front store zeros a b c d e : List ℕ) (tail : ℕ) → a ≡ front ++ unused → b ≡ a ++ tail ∷ [] → c ≡ b ++ unused → d ≡ c ++ store
+    → e ≡ d ++ zeros → e ≡ front ++ shelf_of tail (store ++ zeros)
+all_words front store zeros a b c d e tail p q r s t =
+    t ∙ (ap (λ (l : List ℕ). l ++ zeros) (s ∙ ap (λ (l : List ℕ). l ++ store) (r ∙ ap (λ (l : List ℕ). l ++ unused) (q
+    ∙ ap (λ (l : List ℕ). l ++ tail ∷ []) p))) ∙ simp append_assoc)
+
+-- what stands behind a list that is made longer
+pub longer : (xs ys : List ℕ) (n k m len : ℕ) → len ≡ length xs → n ≡ len + k → m ≡ length xs → ys ≡ take n xs ++ replicate (n - m) 0 → ys ≡ xs ++ replicate k 0
+longer xs ys n k m len a b d e =
+    let all : length xs ≤ n = omega arith in
+    let rest : n - m ≡ k = omega arith in
+    e ∙ (ap (λ (l : List ℕ). l ++ replicate (n - m) 0) (take_all n xs all) ∙ ap (λ (j : ℕ). xs ++ replicate j 0) rest)
 
 down_snoc : (m n : ℕ) → down m (suc n) ≡ down m n ++ (m - n) ∷ []
 down_snoc m zero = let e : m ≡ m - 0 = omega arith in ap (λ (z : ℕ). z ∷ []) e

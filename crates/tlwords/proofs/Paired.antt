@@ -1,11 +1,12 @@
 -- The words of a world: which word is whose, and what a store of one word does.
-use Rattle.std.proofs.Common.{◌≡◌, ℕ, zero, suc, ◌+◌, ◌*◌, ◌<◌, Some, List, [], ◌∷◌, length, map, slice_get, slice_set, slice_index, sym, refl, ap, ◌∙◌, arith}
+use Rattle.std.proofs.Common.{◌≡◌, ℕ, zero, suc, ◌+◌, ◌-◌, ◌*◌, ◌<◌, Some, List, [], ◌∷◌, length, map, slice_get, slice_set, slice_index, sym, refl, ap, ◌∙◌, arith}
+use Rattle.std.proofs.lemmas.List.{get_or-append_right, set-append_right}
 use mathlib.Core.Option as maybe
 use lib.ListN.{get_elem?}
 use Rattle.tlcore.specs.Machine.{World}
 use Rattle.tlcore.proofs.Lists.{get_within}
 use Rattle.tlcore.specs.declared.cells.Cell.{Cell}
-use Rattle.tlwords.specs.Rule.{paired, words_of, lock_at, value_at}
+use Rattle.tlwords.specs.Layout.{clock_at, lock_at, value_at, front_size, paired, front_of, words_of}
 
 pub get_same : {A : Type 0} (xs : List A) (i : ℕ) (x : A) → get_elem? xs i ≡ maybe.some x → slice_get xs i ≡ Some x
 get_same [] i x e = cc
@@ -57,10 +58,18 @@ set_value (y ∷ xs) zero n x e = let q : y ≡ x = cc in ap (λ (z : Cell). z.l
 set_value (y ∷ xs) (suc c) n x e =
     ap (λ (i : ℕ). slice_set (paired (y ∷ xs)) i n) (doubled c) ∙ ap (λ (l : List ℕ). y.lock ∷ y.value ∷ l) (set_value xs c n x e)
 
-lock_index : (c : ℕ) → lock_at c ≡ suc (suc (2 * c))
-lock_index c = omega arith
+-- a word of the cells, among those of the front
+in_cells : (clock : ℕ) (cells : List ℕ) (i k : ℕ) → i ≡ k + 16 → slice_index (front_of clock cells) i ≡ slice_index cells k
+in_cells clock cells i k e =
+    get_or-append_right (front_of clock []) cells 16 i 0 refl (omega arith)
+    ∙ ap (λ (j : ℕ). slice_index cells j) (let f : i - 16 ≡ k = omega arith in f)
 
-value_index : (c : ℕ) → value_at c ≡ suc (suc (2 * c + 1))
+set_cells : (clock : ℕ) (cells : List ℕ) (i k n : ℕ) → i ≡ k + 16 → slice_set (front_of clock cells) i n ≡ front_of clock (slice_set cells k n)
+set_cells clock cells i k n e =
+    set-append_right (front_of clock []) cells 16 i n refl (omega arith)
+    ∙ ap (λ (j : ℕ). front_of clock (slice_set cells j n)) (let f : i - 16 ≡ k = omega arith in f)
+
+value_index : (c : ℕ) → value_at c ≡ (2 * c + 1) + 16
 value_index c = omega arith
 
 paired_length : (xs : List Cell) → length (paired xs) ≡ 2 * length xs
@@ -69,10 +78,10 @@ paired_length (x ∷ xs) = let r : length (paired xs) ≡ 2 * length xs = paired
 
 -- which word is whose, in a table whose words are those of a world
 module _ (ws : List ℕ) (w : World) (e : ws ≡ words_of w) where
-  pub clock_word : slice_index ws 1 ≡ w.clock
-  clock_word = ap (λ (l : List ℕ). slice_index l 1) e
+  pub clock_word : slice_index ws clock_at ≡ w.clock
+  clock_word = ap (λ (l : List ℕ). slice_index l clock_at) e
 
-  pub word_count : length ws ≡ 2 * length w.cells + 2
+  pub word_count : length ws ≡ front_size (length w.cells)
   word_count = let l : length (paired w.cells) ≡ 2 * length w.cells = paired_length w.cells in ap length e ∙ omega (arith, l)
 
   pub lock_within : (c : ℕ) (x : Cell) → slice_get w.cells c ≡ Some x → lock_at c < length ws
@@ -84,23 +93,23 @@ module _ (ws : List ℕ) (w : World) (e : ws ≡ words_of w) where
   pub lock_word : (c : ℕ) (x : Cell) → slice_get w.cells c ≡ Some x → slice_index ws (lock_at c) ≡ x.lock
   lock_word c x f =
       ap (λ (l : List ℕ). slice_index l (lock_at c)) e
-      ∙ (ap (λ (i : ℕ). slice_index (words_of w) i) (lock_index c) ∙ get_lock w.cells c x f)
+      ∙ (in_cells w.clock (paired w.cells) (lock_at c) (2 * c) refl ∙ get_lock w.cells c x f)
 
   pub value_word : (c : ℕ) (x : Cell) → slice_get w.cells c ≡ Some x → slice_index ws (value_at c) ≡ x.value
   value_word c x f =
       ap (λ (l : List ℕ). slice_index l (value_at c)) e
-      ∙ (ap (λ (i : ℕ). slice_index (words_of w) i) (value_index c) ∙ get_value w.cells c x f)
+      ∙ (in_cells w.clock (paired w.cells) (value_at c) (2 * c + 1) (value_index c) ∙ get_value w.cells c x f)
 
   pub lock_is_set : (c n : ℕ) (x : Cell) → slice_get w.cells c ≡ Some x
-      → slice_set ws (lock_at c) n ≡ 0 ∷ w.clock ∷ paired (slice_set w.cells c (record x { lock = n }))
+      → slice_set ws (lock_at c) n ≡ words_of (record w { cells = slice_set w.cells c (record x { lock = n }) })
   lock_is_set c n x f =
       ap (λ (l : List ℕ). slice_set l (lock_at c) n) e
-      ∙ (ap (λ (i : ℕ). slice_set (words_of w) i n) (lock_index c)
-      ∙ ap (λ (l : List ℕ). 0 ∷ w.clock ∷ l) (set_lock w.cells c n x f))
+      ∙ (set_cells w.clock (paired w.cells) (lock_at c) (2 * c) n refl
+      ∙ ap (λ (l : List ℕ). front_of w.clock l) (set_lock w.cells c n x f))
 
   pub value_is_set : (c n : ℕ) (x : Cell) → slice_get w.cells c ≡ Some x
-      → slice_set ws (value_at c) n ≡ 0 ∷ w.clock ∷ paired (slice_set w.cells c (record x { value = n }))
+      → slice_set ws (value_at c) n ≡ words_of (record w { cells = slice_set w.cells c (record x { value = n }) })
   value_is_set c n x f =
       ap (λ (l : List ℕ). slice_set l (value_at c) n) e
-      ∙ (ap (λ (i : ℕ). slice_set (words_of w) i n) (value_index c)
-      ∙ ap (λ (l : List ℕ). 0 ∷ w.clock ∷ l) (set_value w.cells c n x f))
+      ∙ (set_cells w.clock (paired w.cells) (value_at c) (2 * c + 1) n (value_index c)
+      ∙ ap (λ (l : List ℕ). front_of w.clock l) (set_value w.cells c n x f))

@@ -24,7 +24,8 @@ use Rattle.ranges.specs.Ranges.{Range, Names}
 use Rattle.tlwords.specs.Terms.{Terms}
 use Rattle.tlwords.specs.Seen.{Seen}
 use Rattle.tlwords.specs.Views.{Told, View, untold}
-use Rattle.tlwords.specs.Rule.{Start, lock_at, value_at, IsFresh, LookIsFresh, IsTold, Suits, Ruled}
+use Rattle.tlwords.specs.Layout.{clock_at, lock_at, value_at}
+use Rattle.tlwords.specs.Rule.{Start, IsFresh, LookIsFresh, IsTold, Suits, Ruled}
 use Rattle.tlwords.specs.Plays.{Mine, Sees, Looks, began, after_look, after_relook, sampled, looked, loaded, relooked, bare}
 use Rattle.tlwords.proofs.Paired.{clock_word, lock_word, value_word, word_count, lock_within, value_within}
 use Rattle.tlwords.proofs.Seens.{version_settled}
@@ -44,10 +45,10 @@ if_known P false x y f g = g refl
 pub half_of : (n : ℕ) → (n ≡ 2 * (n / 2)) ⊎ (n ≡ suc (2 * (n / 2)))
 half_of n = dite (ℕ_discrete (n % 2) 0) (λ e. inl (omega arith)) (λ e. inr (omega arith))
 
-pub lock_back : (c : ℕ) → (lock_at c - 2) / 2 ≡ c
+pub lock_back : (c : ℕ) → (lock_at c - lock_at 0) / 2 ≡ c
 lock_back c = omega arith
 
-pub value_back : (c : ℕ) → (value_at c - 2) / 2 ≡ c
+pub value_back : (c : ℕ) → (value_at c - lock_at 0) / 2 ≡ c
 value_back c = omega arith
 
 -- ---- looks
@@ -121,21 +122,21 @@ module _ {S N : Type 0} (terms : Terms S N) (setting : S) (base : List ℕ) (roo
       (set-get_or ws i 0 ∙ r.words_are) refl refl (λ a. a) is_told (λ k p. inl (on k p)) back look unheld)
 
   pub samples : (opened : Start) (slots id : ℕ) (me : Mine S N) → (me.0.seat.place ≡ Idle) ⊎ (me.0.seat.place ≡ Reading)
-      → Allows (Ruled terms setting base room opened) slots id me 1 (λ n. n) (bare (sampled terms) (step slots 1 0 0 none) me)
+      → Allows (Ruled terms setting base room opened) slots id me clock_at (λ n. n) (bare (sampled terms) (step slots clock_at 0 0 none) me)
   samples opened slots id me p =
-      lifted terms setting base room opened slots id 1 me (λ n. n)
-      (sampled terms (step slots 1 0 0 none) me) λ ranges ws vs r at.
+      lifted terms setting base room opened slots id clock_at me (λ n. n)
+      (sampled terms (step slots clock_at 0 0 none) me) λ ranges ws vs r at.
       let v : View S N = me.0 in
       let w : World = r.world in
-      let n : ℕ = slice_index ws 1 in
+      let n : ℕ = slice_index ws clock_at in
       let is : n ≡ w.clock = clock_word ws w r.words_are in
       let e : slice_get w.seats id ≡ Some v.seat = seat_at terms setting base room ranges ws vs r id v at in
       let lead : Leads base w id Begin (with_seat w id (begun w v.seat)) = begin_leads base w id v.seat r.invariant e p in
       let keep : Keeps base w (with_seat w id (began n)) = subst (λ (k : ℕ). Keeps base w (with_seat w id (began k))) (sym is) lead.keeps in
       let h : Seen N = record { history = w.history; notes = r.notes; ranges = ranges } in
       let u : View S N = record v { seen = h; seat = began n; told = untold; runs = v.runs + 1; looked = None } in
-      let q : Rule terms setting base room ranges (slice_set ws 1 n) (slice_set vs id u) × Sees terms v u =
-      quiet ranges ws vs r id v at 1 (began n) (v.runs + 1) None untold keep (untold_is setting base h r.owner)
+      let q : Rule terms setting base room ranges (slice_set ws clock_at n) (slice_set vs id u) × Sees terms v u =
+      quiet ranges ws vs r id v at clock_at (began n) (v.runs + 1) None untold keep (untold_is setting base h r.owner)
       (λ k a. absurd (⊎_elim (λ (b : v.seat.place ≡ Idle). no_number v.seat.place Idle k b refl a) (λ (b : v.seat.place ≡ Reading). no_number v.seat.place Reading k b refl a) p))
       (λ k a. absurd (no_number Reading Reading k refl refl a))
       (λ c word value a. absurd (not_looking Reading refl c word value a)) (λ _ _. refl) u refl in

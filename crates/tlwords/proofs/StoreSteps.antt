@@ -1,5 +1,5 @@
 -- The steps on the store keep the rule: Advance, Fill and Fetch leave the front as it is.
-use Rattle.std.proofs.Common.{◌≡◌, ◌≢◌, ℕ, ◌+◌, ◌-◌, ◌*◌, ◌%◌, ◌^◌, ◌<◌, ◌≤◌, ◌⊎◌, inl, inr, min, Option, Some, None, List, [], ◌∷◌, ◌++◌, length, slice_get, slice_set, slice_index, sym, refl, ap, ◌∙◌, subst, arith}
+use Rattle.std.proofs.Common.{◌≡◌, ◌≢◌, ℕ, ◌+◌, ◌-◌, ◌%◌, ◌^◌, ◌<◌, ◌≤◌, ◌⊎◌, inl, inr, min, Option, Some, None, List, [], ◌++◌, length, slice_get, slice_set, slice_index, sym, refl, ap, ◌∙◌, subst, arith}
 use Rattle.std.proofs.Math.Nat.{min-eq_left, min-le_right}
 use Rattle.std.proofs.lemmas.List.{set-get_or}
 use Rattle.std.proofs.lemmas.Option.{get_or_from_slice_get}
@@ -14,7 +14,8 @@ use Rattle.ranges.specs.Ranges.{Range, Has, Within, AreOfOneStore}
 use Rattle.tlwords.specs.Terms.{Terms}
 use Rattle.tlwords.specs.Seen.{Seen, SeenGrows}
 use Rattle.tlwords.specs.Views.{Staging, Gone, View, tells}
-use Rattle.tlwords.specs.Rule.{total_of, Start, tail_at, store_at, EntriesAre, IsTold, Suits, Shelf, Ruled}
+use Rattle.tlwords.specs.Layout.{front_size, tail_at, store_at, shelf_of}
+use Rattle.tlwords.specs.Rule.{Start, EntriesAre, IsTold, Suits, Shelf, Ruled}
 use Rattle.tlwords.specs.Plays.{Mine, Sees, Fetches, advanced, filled, fetched, bare}
 use Rattle.tlwords.proofs.Paired.{set_same}
 use Rattle.ranges.proofs.Grown.{names_grow, within_refl}
@@ -79,11 +80,11 @@ module _ {S N : Type 0} (terms : Terms S N) (setting : S) (base : List ℕ) (roo
   -- the front's words are before those of the store
   long_front : (opened : Start) (cells : ℕ) (me : Mine S N) (y : S) → me.0.setting ≡ Some y → cells ≡ length me.0.base
       → (id : ℕ) (s : State (Unit {0}) (View S N)) (r : Ruled terms setting base room opened s) → get_elem? s.views id ≡ some me.0
-      → (length r.front ≡ tail_at cells) × (me.0.room ≡ room)
+      → (length r.front ≡ front_size cells) × (me.0.room ≡ room)
   long_front opened cells me y set count id s r at =
       let f = (r.kept).suits id me.0 at in
       let b : length me.0.base ≡ length base = ap length (f.own.setting_is y set).1 in
-      let l : length r.front ≡ tail_at (length base) = front_long terms setting base room r.ranges r.front s.views r.kept in
+      let l : length r.front ≡ front_size (length base) = front_long terms setting base room r.ranges r.front s.views r.kept in
       (omega (arith, l, b, count), f.room_is y set)
 
   -- the seat has a view that keeps the rule when the word i becomes n, and `then` holds of it
@@ -107,7 +108,7 @@ module _ {S N : Type 0} (terms : Terms S N) (setting : S) (base : List ℕ) (roo
       n : ℕ
       n = slice_index s.words (tail_at cells)
 
-      known : (length r.front ≡ tail_at cells) × (v.room ≡ room)
+      known : (length r.front ≡ front_size cells) × (v.room ≡ room)
       known = long_front opened cells me y set cells_are id s r at
 
       is : n ≡ r.tail
@@ -119,7 +120,7 @@ module _ {S N : Type 0} (terms : Terms S N) (setting : S) (base : List ℕ) (roo
           let b : v.room ≡ room = known.1 in
           omega (arith, a, b, is_count)
 
-      words_are : slice_set s.words (tail_at cells) ((n + count) % 2 ^ 64) ≡ r.front ++ (r.tail + count) ∷ r.store
+      words_are : slice_set s.words (tail_at cells) ((n + count) % 2 ^ 64) ≡ r.front ++ shelf_of (r.tail + count) r.store
       words_are =
           ap (λ (k : ℕ). slice_set s.words (tail_at cells) ((k + count) % 2 ^ 64)) is
           ∙ (ap (λ (k : ℕ). slice_set s.words (tail_at cells) k) (tail_stays (length opened.store) room r.tail count s.views (r.shelf).tail_is (r.shelf).small (r.kept).rights least)
@@ -192,14 +193,14 @@ module _ {S N : Type 0} (terms : Terms S N) (setting : S) (base : List ℕ) (roo
       v : View S N
       v = me.0
 
-      known : (length r.front ≡ tail_at cells) × (v.room ≡ room)
+      known : (length r.front ≡ front_size cells) × (v.room ≡ room)
       known = long_front opened cells me y set cells_are id s r at
 
-      words_are : slice_set s.words (store_at cells o) word ≡ r.front ++ r.tail ∷ slice_set r.store (t.start + t.done) word
+      words_are : slice_set s.words (store_at cells o) word ≡ r.front ++ shelf_of r.tail (slice_set r.store (t.start + t.done) word)
       words_are =
           ap (λ (ws : List ℕ). slice_set ws (store_at cells o) word) r.words_are
           ∙ (store_is_set r.front r.tail r.store cells known.0 o word
-          ∙ ap (λ (k : ℕ). r.front ++ r.tail ∷ slice_set r.store k word) place)
+          ∙ ap (λ (k : ℕ). r.front ++ shelf_of r.tail (slice_set r.store k word)) place)
 
       go : (t.done + 1 < length t.words) ⊎ (t.done + 1 ≡ length t.words)
           → Moves opened s (store_at cells o) word id me (bare (filled terms) (step slots (store_at cells o) word 0 none) me (slice_index s.words (store_at cells o)))
@@ -272,13 +273,13 @@ module _ {S N : Type 0} (terms : Terms S N) (setting : S) (base : List ℕ) (roo
   fetches opened slots id cells o me y set cells_are s r _ at _ =
       let v : View S N = me.0 in
       let n : ℕ = slice_index s.words (store_at cells o) in
-      let known : (length r.front ≡ tail_at cells) × (v.room ≡ room) = long_front opened cells me y set cells_are id s r at in
+      let known : (length r.front ≡ front_size cells) × (v.room ≡ room) = long_front opened cells me y set cells_are id s r at in
       let is : n ≡ slice_index r.store o =
       ap (λ (ws : List ℕ). slice_index ws (store_at cells o)) r.words_are ∙ store_word r.front r.tail r.store cells known.0 o in
       let f = (r.kept).suits id v at in
       let u : View S N = aside r.ranges r.front s.views r.kept id v r.ranges v.staging v.full v.taken v.added in
       let q = beside r.ranges r.front s.views r.kept id v at r.ranges v.staging v.full v.taken v.added (within_refl r.ranges) (r.kept).lie in
-      let index : o ≡ store_at cells o - (2 * length v.base + 3) = omega (arith, cells_are) in (
+      let index : o ≡ store_at cells o - store_at (length v.base) 0 = omega (arith, cells_are) in (
         u,
         keeps,
         tt,

@@ -9,7 +9,8 @@ use Rattle.ranges.specs.Ranges.{Range, Has, Names, IsStored, AreOfOneStore}
 use Rattle.tlwords.specs.Terms.{Terms, Opened}
 use Rattle.tlwords.specs.Seen.{Seen, SeenGrows, Legal, Agree}
 use Rattle.tlwords.specs.Views.{View}
-use Rattle.tlwords.specs.Rule.{lock_at, value_at, store_at, total_of, IsLeft}
+use Rattle.tlwords.specs.Layout.{lock_at, value_at, store_at}
+use Rattle.tlwords.specs.Rule.{total_of, IsLeft}
 use Rattle.tlcore.specs.Machine.{World}
 use Rattle.tlcore.specs.Invariant.{Invariant}
 

@@ -1,4 +1,5 @@
--- What is kept of the cells, as a list of those that were read, and the places of their entries in it.
+-- Of the code's inside, apart from the rules: what is kept of the cells, as a list of those that were read, and the
+-- places of their entries in it.
 use Rattle.std.specs.Prelude.{◌≡◌, ℕ, zero, suc, ◌<◌, Bool, true, false, Option, Some, None, List, [], ◌∷◌, ◌++◌, length, slice_get, map}
 use Rattle.tlwords.specs.declared.log.Touched.{Touched}
 use Rattle.tlwords.specs.declared.log.Slot.{Slot}

@@ -4,7 +4,7 @@
 -- of the machine's actions, with the steps of TL2 (Dice, Shalev, Shavit, DISC 2006, section 2.2, write transactions) in brackets: clock
 -- load (step 1), look, load and second look (2), take (3), draw (4), check (5), store and release (6). A load of the spare word, by which a
 -- pass sees the history so far, is no step of the machine; nor is a step on the tail or on a word of the store.
-use Rattle.std.specs.Prelude.{◌≡◌, ℕ, ◌+◌, ◌%◌, ◌^◌, ◌<◌, ◌==◌, if◌then◌else◌, ◌⊎◌, true, false, Some, List, ◌∷◌, ◌++◌, length, map, slice_index, slice_set}
+use Rattle.std.specs.Prelude.{◌≡◌, ℕ, ◌+◌, ◌%◌, ◌^◌, ◌<◌, ◌==◌, if◌then◌else◌, ◌⊎◌, true, false, Some, List, ◌++◌, length, map, slice_index, slice_set}
 use mathlib.Core.Option.{some}
 use lib.ListN.{get_elem?}
 use Rattle.atomic_table.specs.Table.{State}
@@ -18,12 +18,9 @@ use Rattle.tlcore.specs.declared.seats.Held.{Held}
 use Rattle.tlcore.specs.declared.seats.Place.TheVariants.{Idle, Reading, Looked, Loaded, Taking, Checking}
 use Rattle.tlwords.specs.Terms.{Terms}
 use Rattle.tlwords.specs.Views.{View}
-use Rattle.tlwords.specs.Rule.{Start, Ruled, words_of, lock_at, value_at}
+use Rattle.tlwords.specs.Layout.{clock_at, lock_at, value_at, words_of, shelf_of}
+use Rattle.tlwords.specs.Rule.{Start, Ruled}
 use Rattle.tlwords.specs.Plays.{Mine, GivesBack, MayStore, Sampled, Looks, Loads, Relooks, Takes, Draws, Checks, Stores, Releases}
-
--- the clock is the word 1
-abbrev pub clock_at : ℕ
-clock_at = 1
 
 module _ {S N : Type 0} (terms : Terms S N) (setting : S) (base : List ℕ) (room : ℕ) (opened : Start) where
   -- a table that keeps the rule, by a world of the machine, and a seat with what it knows before a step and after it
@@ -41,11 +38,11 @@ module _ {S N : Type 0} (terms : Terms S N) (setting : S) (base : List ℕ) (roo
     -- the step that leaves `left` at the word i is this action of the seat, from the rule's world, which shows the words and the seats
     -- before it, to a world that shows those after it. It is lawful there, keeps the invariant, and the history grows
     pub record IsEvent (action : Action) (i left : ℕ) : Type 0 where
-      pub words_before : at.state.words ≡ words_of at.rule.kept.world ++ at.rule.tail ∷ at.rule.store
+      pub words_before : at.state.words ≡ words_of at.rule.kept.world ++ shelf_of at.rule.tail at.rule.store
       pub seats_before : map (λ v. v.seat) at.state.views ≡ at.rule.kept.world.seats
       pub after : World
       pub leads : Leads base at.rule.kept.world at.seat action after
-      pub words_after : slice_set at.state.words i left ≡ words_of after ++ at.rule.tail ∷ at.rule.store
+      pub words_after : slice_set at.state.words i left ≡ words_of after ++ shelf_of at.rule.tail at.rule.store
       pub seats_after : map (λ v. v.seat) (slice_set at.state.views at.seat r.0) ≡ after.seats
 
   -- Begin (step 1): a load of the clock

@@ -1,6 +1,7 @@
 pub mod Terms
 pub mod Seen
 pub mod Views
+pub mod Layout
 pub mod Rule
 pub mod Plays
 pub mod Runs

@@ -11,6 +11,7 @@ use Rattle.tlcore.specs.declared.seats.Place.TheVariants.{Idle, Reading, Looked,
 use Rattle.ranges.specs.Ranges.{Range, Has, Names}
 use Rattle.tlwords.specs.Terms.{Terms}
 use Rattle.tlwords.specs.Seen.{Work, Committed, Answered, SeenGrows, IsDone}
+use Rattle.tlwords.specs.Layout.{lock_at, store_at}
 use Rattle.tlwords.specs.Views.{Staging, View, untold, tells, gone_of, nobody, fresh, Sound}
 
 abbrev pub Mine : Type 0 → Type 0 → Type 0
@@ -178,7 +179,7 @@ module _ {S N : Type 0} (terms : Terms S N) where
   -- the steps as the table has them: the cell of a word, from its index
 
   abbrev pub cell_at : Step (Unit {0}) → ℕ
-  cell_at st = (st.word - 2) / 2
+  cell_at st = (st.word - lock_at 0) / 2
 
   abbrev pub sampled : Step (Unit {0}) → Mine S N → ℕ → Mine S N → Type 0
   sampled st m n r = Sampled m n r
@@ -221,7 +222,7 @@ module _ {S N : Type 0} (terms : Terms S N) where
   filled st m n r = Fills m r
 
   abbrev pub fetched : Step (Unit {0}) → Mine S N → ℕ → Mine S N → Type 0
-  fetched st m n r = Fetches (st.word - (2 * length m.0.base + 3)) m n r
+  fetched st m n r = Fetches (st.word - store_at (length m.0.base) 0) m n r
 
 module _ {S N : Type 0} where
   abbrev pub IsSameSeat : TableSeat (Unit {0}) (View S N) → TableSeat (Unit {0}) (View S N) → Type 0

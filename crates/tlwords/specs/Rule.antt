@@ -1,8 +1,5 @@
 -- The rule of the table: there is a world of the machine that meets its invariant, and a store whose finished ranges never change, and
 -- the words and the views are theirs.
---
--- Word 0 is spare: it is only loaded, for what is no step of the machine. Word 1 is the clock. Then each cell has its lock word and its
--- value word side by side. Behind them come the tail of the store, which is the number of its words that are taken, and the store's words.
 use Rattle.std.specs.Prelude.{◌≡◌, ◌≢◌, ℕ, ◌+◌, ◌*◌, ◌^◌, ◌<◌, ◌≤◌, Some, List, [], ◌∷◌, ◌++◌, length, slice_get, map, min, None, true}
 use mathlib.Core.Option.{some}
 use lib.ListN.{get_elem?}
@@ -18,35 +15,7 @@ use Rattle.ranges.specs.Ranges.{Range, Has, Names, IsStored, AreOfOneStore}
 use Rattle.tlwords.specs.Terms.{Terms, Permits, Opened}
 use Rattle.tlwords.specs.Seen.{Seen, SeenGrows, IsSettled, Agree}
 use Rattle.tlwords.specs.Views.{Told, Gone, Staging, View, tells, fresh}
-
--- ---- the words
-
--- the lock word and the value word of each cell
-abbrev pub paired : List Cell → List ℕ
-paired [] = []
-paired (x ∷ xs) = x.lock ∷ x.value ∷ paired xs
-
-abbrev pub words_of : World → List ℕ
-words_of w = 0 ∷ w.clock ∷ paired w.cells
-
--- where the words of the cell c are
-abbrev pub lock_at : ℕ → ℕ
-lock_at c = 2 * c + 2
-
-abbrev pub value_at : ℕ → ℕ
-value_at c = 2 * c + 3
-
--- the words before the first step
-abbrev pub opening_words : List ℕ → List ℕ
-opening_words [] = []
-opening_words (v ∷ vs) = 0 ∷ v ∷ opening_words vs
-
--- where the tail is, and the word o of the store, behind n cells
-abbrev pub tail_at : ℕ → ℕ
-tail_at n = 2 * n + 2
-
-abbrev pub store_at : ℕ → ℕ → ℕ
-store_at n o = 2 * n + 3 + o
+use Rattle.tlwords.specs.Layout.{words_of, shelf_of}
 
 -- ---- the views
 
@@ -189,7 +158,7 @@ module _ {S N : Type 0} where
     pub tail : ℕ
     pub store : List ℕ
     pub ranges : List Range
-    pub words_are : s.words ≡ front ++ tail ∷ store
+    pub words_are : s.words ≡ front ++ shelf_of tail store
     pub kept : Kept terms setting base room ranges front s.views
     pub shelf : Shelf room opened.store ranges tail store s.views
     pub dealt : total_of rights_of s.views ≡ opened.sessions

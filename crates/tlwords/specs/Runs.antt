@@ -92,9 +92,9 @@ module _ {S N : Type 0} where
     pub at : seat.table_id ≡ table
     pub new : IsNew setting base room ranges seat.me.0
 
--- there are to be 1 to 64 sessions, and a room of at most 2^24 words
-abbrev pub IsBadShape : ℕ → ℕ → Type 0
-IsBadShape sessions room = ((sessions ≡ 0) ⊎ (64 < sessions)) ⊎ (2 ^ 24 < room)
+-- there are to be at most 2^32 - 1 cells, 1 to 64 sessions, and a room of at most 2^24 words
+abbrev pub IsBadShape : ℕ → ℕ → ℕ → Type 0
+IsBadShape cells sessions room = (2 ^ 32 ≤ cells) ⊎ (((sessions ≡ 0) ⊎ (64 < sessions)) ⊎ (2 ^ 24 < room))
 
 -- the first seat, once it has made k passes for that many sessions
 abbrev pub dealer : {S N : Type 0} → S → List ℕ → ℕ → List Range → ℕ → ℕ → View S N

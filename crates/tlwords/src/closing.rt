@@ -9,9 +9,10 @@ ghost use Rattle.tlwords.specs.Callers.{SitsAt};
 ghost use Rattle.tlwords.specs.Closing.{AreCellsOf, IsStoreOf, IsBlankFor, ClosesAll};
 ghost use Rattle.tlwords.specs.Plays.{IsSameSeat};
 ghost use Rattle.tlwords.specs.Views.{gone_of};
-ghost use Rattle.tlwords.specs.Rule.{tail_at};
+ghost use Rattle.tlwords.specs.Layout.{clock_at, front_size, tail_at, store_at};
 
 use crate::law::Law;
+use crate::layout::{CLOCK, FIRST_LOCK, FIRST_VALUE, STORE, TAIL};
 use crate::passes::Pass;
 use crate::plays::GiveUp;
 use crate::rule::{Board, Place};
@@ -93,7 +94,7 @@ fn close_with<L: Law>(
 ) -> ClosedWords
     requires last { last.seat.table_id ≡ table.shared.table_id }
     requires passes { All (λ p. p.seat.table_id ≡ table.shared.table_id) passes.items }
-    requires words { (table.shared.table_id.words ≡ 2 * cells + 3 + room) × (table.shared.table_id.slots ≡ 0) × (cells < 2 ^ 59) × (room ≤ 2 ^ 24) }
+    requires words { (table.shared.table_id.words ≡ store_at cells room) × (table.shared.table_id.slots ≡ 0) × (cells < 2 ^ 32) × (room ≤ 2 ^ 24) }
     requires keyed { table.shared.key.room ≡ room }
     requires blank { IsBlankFor cells room closed }
     ensures closes { ClosesAll L.terms table.shared.key.setting.value table.shared.key.values.value.items table.shared.key.store.value.items table.shared.key.sessions (map (λ p. p.seat.me.0) passes.items ++ last.seat.me.0 ∷ []) result }
@@ -111,7 +112,7 @@ fn close_alone<L: Law>(
     cells: usize,
     room: usize,
 ) -> ClosedWords
-    requires words { (table.shared.table_id.words ≡ 2 * cells + 3 + room) × (table.shared.table_id.slots ≡ 0) × (cells < 2 ^ 59) × (room ≤ 2 ^ 24) }
+    requires words { (table.shared.table_id.words ≡ store_at cells room) × (table.shared.table_id.slots ≡ 0) × (cells < 2 ^ 32) × (room ≤ 2 ^ 24) }
     requires keyed { (table.shared.key.room ≡ room) × (1 ≤ table.shared.key.sessions) }
     requires blank { IsBlankFor cells room closed }
     ensures closes { ClosesAll L.terms table.shared.key.setting.value table.shared.key.values.value.items table.shared.key.store.value.items table.shared.key.sessions [] result }
@@ -128,14 +129,14 @@ fn gather(
     cells: usize,
     room: usize,
 ) -> ClosedWords
-    requires words { (slots_len table.words ≡ 2 * cells + 3 + room) × IsFull table.words × (slots_len table.slots ≡ 0) × (cells < 2 ^ 59) × (room ≤ 2 ^ 24) }
+    requires words { (slots_len table.words ≡ store_at cells room) × IsFull table.words × (slots_len table.slots ≡ 0) × (cells < 2 ^ 32) × (room ≤ 2 ^ 24) }
     requires blank { IsBlankFor cells room closed }
-    ensures clock { (get_elem? (slots_items table.words) 1 ≡ some result.clock) × (get_elem? (slots_items table.words) (tail_at cells) ≡ some result.tail) }
+    ensures clock { (get_elem? (slots_items table.words) clock_at ≡ some result.clock) × (get_elem? (slots_items table.words) (tail_at cells) ≡ some result.tail) }
     ensures cells { AreCellsOf (slots_items table.words) result.cells.items × (length result.cells.items ≡ cells) }
     ensures store { IsStoreOf (slots_items table.words) cells result.store.items × (length result.store.items ≡ room) }
 {
-    closed.clock = table.word(1);
-    closed.tail = table.word(2 * cells + 2);
+    closed.clock = table.word(CLOCK);
+    closed.tail = table.word(2 * cells + TAIL);
     gather_cells(&table, &mut closed.cells, cells);
     gather_store(&table, &mut closed.store, cells, room);
     table.free();
@@ -143,24 +144,24 @@ fn gather(
 }
 
 fn gather_cells(table: &Closed<(), Global>, closed: &mut Vec<ClosedCell>, cells: usize)
-    requires words { (2 * cells + 2 ≤ slots_len table.now.words) × IsFull table.now.words × (cells < 2 ^ 59) }
+    requires words { (front_size cells ≤ slots_len table.now.words) × IsFull table.now.words × (cells < 2 ^ 32) }
     requires blank { (closed.old.items ≡ []) × (cells ≤ vec_capacity closed.old) }
     ensures { AreCellsOf (slots_items table.now.words) closed.new.items × (length closed.new.items ≡ cells) }
 {
     for cell in 0..cells {
         closed.push_reserved(ClosedCell {
-            lock: table.word(2 * cell + 2),
-            value: table.word(2 * cell + 3),
+            lock: table.word(2 * cell + FIRST_LOCK),
+            value: table.word(2 * cell + FIRST_VALUE),
         });
     }
 }
 
 fn gather_store(table: &Closed<(), Global>, closed: &mut Vec<u64>, cells: usize, room: usize)
-    requires words { (2 * cells + 3 + room ≤ slots_len table.now.words) × IsFull table.now.words × (cells < 2 ^ 59) × (room ≤ 2 ^ 24) }
+    requires words { (store_at cells room ≤ slots_len table.now.words) × IsFull table.now.words × (cells < 2 ^ 32) × (room ≤ 2 ^ 24) }
     requires blank { (closed.old.items ≡ []) × (room ≤ vec_capacity closed.old) }
     ensures { IsStoreOf (slots_items table.now.words) cells closed.new.items × (length closed.new.items ≡ room) }
 {
     for offset in 0..room {
-        closed.push_reserved(table.word(2 * cells + 3 + offset));
+        closed.push_reserved(table.word(2 * cells + STORE + offset));
     }
 }

@@ -99,8 +99,6 @@ fn store_all<L: Law>(words: &Words<L>, seat: &mut Place<L>, log: &Log, index: u6
     ensures seat { IsSameSeat seat.old seat.new }
     ensures stores { StoresTo L.terms log.now.slots index (work_kept seat.old.me.0.seat log.now.slots note.now) (length log.now.slots) seat.old.me seat.new.me }
 {
-    let _ = index;
-    let _ = note;
     for i in 0..log.writes.len() {
         let kept = log.writes[i];
         store(words, seat, kept.cell, kept.value);

@@ -1,7 +1,7 @@
 //! What a pass keeps of the cells that its run touches, and lists for the steps of its commit, with a place for every cell.
 #![tactic(auto)]
 
-ghost use Rattle.std.specs.Prelude.{◌≡◌, ℕ, ◌%◌, ◌<◌, ◌≤◌, length, IfOk, true, false};
+ghost use Rattle.std.specs.Prelude.{◌≡◌, ℕ, ◌%◌, ◌^◌, ◌<◌, ◌≤◌, length, IfOk, true, false};
 ghost use Rattle.std.specs.Vec.{vec_capacity};
 ghost use Rattle.tlwords.specs.Runs.{word_seen, value_kept, was_read, IsBlank, HasNoted, HasKept};
 ghost use Rattle.tlwords.specs.Walks.{IsPlan};
@@ -43,6 +43,7 @@ pub struct Log {
 impl Log {
     /// With a place for so many cells, and nothing kept.
     pub(crate) fn new(alloc: Global, cells: usize) -> Result<Log, AllocError>
+        requires { cells < 2 ^ 32 }
         ensures { IfOk result (λ l. (length l.slots ≡ cells) × IsBlank l.slots) }
     {
         Ok(Log {

@@ -3,7 +3,7 @@
 
 ghost use Rattle.std.specs.Prelude.{◌≡◌, ℕ, ◌+◌, ◌*◌, ◌<◌, ◌≤◌, ◌^◌, [], ◌∷◌, ◌++◌, ◌-◌, length, replicate, IfOk, IfErr, Err, All, map, ◌⊎◌};
 ghost use Rattle.ranges.specs.Ranges.{Range, ranges_named};
-ghost use Rattle.tlwords.specs.Rule.{opening_words};
+ghost use Rattle.tlwords.specs.Layout.{opening_words, front_of, shelf_of};
 ghost use Rattle.tlwords.specs.Terms.{AreNamed};
 ghost use Rattle.tlwords.specs.Callers.{AreOfOneOpening};
 ghost use Rattle.tlwords.specs.Views.{Sound};
@@ -12,6 +12,7 @@ ghost use Rattle.ranges.specs.Ranges.{AreOfOneStore};
 ghost use Rattle.tlwords.specs.Runs.{IsDealt, IsBadShape, down, dealer};
 
 use crate::law::Law;
+use crate::layout::{HEAD, UNUSED};
 use crate::log::Log;
 use crate::passes::Pass;
 use crate::plays::Deal;
@@ -26,7 +27,7 @@ use std::snapshot::Snapshot;
 /// Why a memory was not opened.
 #[derive(Clone, Copy, Debug, PartialEq, Eq)]
 pub enum OpenFault {
-    /// There are to be 1 to 64 sessions, and a room of 0 to 16,777,216 words.
+    /// There are to be 0 to 4,294,967,295 cells, 1 to 64 sessions, and a room of 0 to 16,777,216 words.
     BadShape,
     /// The store's opening words are more than its room.
     StoreFull,
@@ -86,6 +87,9 @@ impl From<AllocError> for OpenFault {
     }
 }
 
+/// The most cells that a memory has.
+pub const MOST_CELLS: usize = (1 << 32) - 1;
+
 /// The most words that a store has.
 pub const MOST_ROOM: usize = 1 << 24;
 
@@ -95,8 +99,8 @@ pub const MOST_ROOM: usize = 1 << 24;
 ///
 /// # Errors
 ///
-/// `BadShape` for other than 1 to 64 sessions, or a room of more than 16,777,216 words; then `StoreFull` where `store` has more words than
-/// the room; and `NoMemory`.
+/// `BadShape` for more than 4,294,967,295 cells, other than 1 to 64 sessions, or a room of more than 16,777,216 words; then `StoreFull` where
+/// `store` has more words than the room; and `NoMemory`.
 pub fn open<L: Law>(
     alloc: Global,
     setting: &L::Setting,
@@ -113,10 +117,10 @@ pub fn open<L: Law>(
     ensures opening { IfOk result (λ r. All (λ p. AreOfOneOpening r.0 p) r.1.items) }
     ensures sound { IfOk result (λ r. All (λ p. Sound L.terms p.seat.me.0) r.1.items) }
     ensures names { IfOk result (λ r. map (λ p. p.seat.me.0.name) r.1.items ≡ down sessions sessions) }
-    ensures shape { (IsBadShape sessions room → result ≡ Err BadShape) × (result ≡ Err BadShape → IsBadShape sessions room) }
-    ensures full { ((IsBadShape sessions room → ⊥) → room < length store.now → result ≡ Err StoreFull) × (result ≡ Err StoreFull → room < length store.now) }
+    ensures shape { (IsBadShape (length values.now) sessions room → result ≡ Err BadShape) × (result ≡ Err BadShape → IsBadShape (length values.now) sessions room) }
+    ensures full { ((IsBadShape (length values.now) sessions room → ⊥) → room < length store.now → result ≡ Err StoreFull) × (result ≡ Err StoreFull → room < length store.now) }
 {
-    if sessions == 0 || sessions > 64 || room > MOST_ROOM {
+    if values.len() > MOST_CELLS || sessions == 0 || sessions > 64 || room > MOST_ROOM {
         return Err(OpenFault::BadShape);
     }
     if store.len() > room {
@@ -153,7 +157,7 @@ fn copy_values(alloc: Global, values: &[u64]) -> Result<Vec<u64>, AllocError>
     Ok(copied)
 }
 
-// The spare word and the clock, then the two words of each cell, the tail of the store, and the store's words.
+// All words of the table: those of the clock and the cells, and behind them the tail of the store and the store's words.
 fn first_words(
     alloc: Global,
     values: &[u64],
@@ -161,23 +165,24 @@ fn first_words(
     room: usize,
 ) -> Result<Vec<u64>, AllocError>
     requires { (length store.now ≤ room) × (room ≤ 2 ^ 24) }
-    ensures { IfOk result (λ v. v.items ≡ (0 ∷ 0 ∷ opening_words values.now) ++ length store.now ∷ (store.now ++ replicate (room - length store.now) 0)) }
+    ensures { IfOk result (λ v. v.items ≡ front_of 0 (opening_words values.now) ++ shelf_of (length store.now) (store.now ++ replicate (room - length store.now) 0)) }
 {
     let mut words = cell_words(alloc, values)?;
+    words.extend_from_slice(&UNUSED)?;
     words.push(store.len() as u64)?;
+    words.extend_from_slice(&UNUSED)?;
     words.extend_from_slice(store)?;
     let length = words.len() + (room - store.len());
     words.resize(length, 0)?;
     Ok(words)
 }
 
-// The spare word and the clock, and then the two words of each cell.
+// The words of the clock and the cells.
 fn cell_words(alloc: Global, values: &[u64]) -> Result<Vec<u64>, AllocError>
-    ensures { IfOk result (λ v. v.items ≡ 0 ∷ 0 ∷ opening_words values.now) }
+    ensures { IfOk result (λ v. v.items ≡ front_of 0 (opening_words values.now)) }
 {
     let mut words = Vec::new(alloc);
-    words.push(0)?;
-    words.push(0)?;
+    words.extend_from_slice(&HEAD)?;
     for i in 0..values.len() {
         words.push(0)?;
         words.push(values[i])?;
@@ -201,9 +206,6 @@ fn deal_all<L: Law>(
     ensures passes { IfOk result (λ v. All (λ p. IsDealt setting.now values.now words.now.room (ranges_named (L.terms.ranged setting.now) store.now values.now) words.now.table.shared.table_id p.seat) v.items) }
     ensures names { IfOk result (λ v. map (λ p. p.seat.me.0.name) v.items ≡ down sessions sessions) }
 {
-    let _ = setting;
-    let _ = values;
-    let _ = store;
     let mut passes = Vec::new(alloc);
     for _ in 0..sessions {
         let log = Log::new(alloc, words.cells)?;

@@ -45,17 +45,12 @@ impl Model for Slots {
     ghost invariant = { λ s. IsIndexed s.places.items s.entries.items × (length s.places.items ≤ vec_capacity s.entries) × (length s.places.items < 2 ^ 32) };
 }
 
-// The most cells that places can be told of.
-const MOST_CELLS: usize = u32::MAX as usize;
-
 impl Slots {
-    /// With nothing kept. More than 4,294,967,295 cells are more than there is memory for.
+    /// With nothing kept.
     pub(crate) fn new(alloc: Global, cells: usize) -> Result<Slots, AllocError>
+        requires { cells < 2 ^ 32 }
         ensures { IfOk result (λ s. (length s ≡ cells) × IsBlank s) }
     {
-        if cells > MOST_CELLS {
-            return Err(AllocError);
-        }
         let mut places = Vec::new(alloc);
         places.resize(cells, 0)?;
         let entries = Vec::with_capacity(alloc, cells)?;

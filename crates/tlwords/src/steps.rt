@@ -12,6 +12,7 @@ ghost use Rattle.tlcore.specs.declared.seats.Place.TheVariants.{Idle, Reading, L
 ghost use Rattle.tlwords.specs.Plays.{IsSameSeat, GivesBack, MayStore, Sampled, Looks, Loads, Relooks, Takes, Draws, Checks, Stores, Releases, Recalls, Refreshes, told_by, witness};
 
 use crate::law::Law;
+use crate::layout::{CLOCK, FIRST_LOCK, FIRST_VALUE, SPARE};
 use crate::plays::{
     Begin, Check, Draw, Load, Look, Recall, Refresh, Release, Relook, Said, Store, Take, Tell,
 };
@@ -26,7 +27,7 @@ pub(crate) fn begin<L: Law>(words: &Words<L>, seat: &mut Place<L>) -> u64
     ensures seat { IsSameSeat seat.old seat.new }
     ensures told { Sampled L.terms seat.old.me result seat.new.me }
 {
-    words.table.shared.load::<Begin<L>>(seat, 1)
+    words.table.shared.load::<Begin<L>>(seat, CLOCK)
 }
 
 /// First look at the cell's lock word.
@@ -38,7 +39,10 @@ pub(crate) fn look<L: Law>(words: &Words<L>, seat: &mut Place<L>, cell: usize) -
     ensures seat { IsSameSeat seat.old seat.new }
     ensures told { Looks L.terms cell seat.old.me result seat.new.me }
 {
-    words.table.shared.load::<Look<L>>(seat, 2 * cell + 2)
+    words
+        .table
+        .shared
+        .load::<Look<L>>(seat, 2 * cell + FIRST_LOCK)
 }
 
 /// Load of the cell's value word, after a look that found this lock word.
@@ -50,8 +54,10 @@ pub(crate) fn load<L: Law>(words: &Words<L>, seat: &mut Place<L>, cell: usize, w
     ensures seat { IsSameSeat seat.old seat.new }
     ensures told { Loads L.terms seat.old.me result seat.new.me }
 {
-    let _ = word;
-    words.table.shared.load::<Load<L>>(seat, 2 * cell + 3)
+    words
+        .table
+        .shared
+        .load::<Load<L>>(seat, 2 * cell + FIRST_VALUE)
 }
 
 /// Second look at the cell's lock word, after the load of this value.
@@ -69,9 +75,10 @@ pub(crate) fn relook<L: Law>(
     ensures seat { IsSameSeat seat.old seat.new }
     ensures told { Relooks L.terms seat.old.me result seat.new.me }
 {
-    let _ = word;
-    let _ = value;
-    words.table.shared.load::<Relook<L>>(seat, 2 * cell + 2)
+    words
+        .table
+        .shared
+        .load::<Relook<L>>(seat, 2 * cell + FIRST_LOCK)
 }
 
 fn take_saying<L: Law, G: Said<L::Note>>(
@@ -91,11 +98,10 @@ fn take_saying<L: Law, G: Said<L::Note>>(
     ensures seat { IsSameSeat seat.old seat.new }
     ensures told { Takes L.terms cell value word seat.old.me result seat.new.me }
 {
-    let _ = value;
     words
         .table
         .shared
-        .compare_exchange::<Take<L, G>>(seat, 2 * cell + 2, word, word + 1)
+        .compare_exchange::<Take<L, G>>(seat, 2 * cell + FIRST_LOCK, word, word + 1)
 }
 
 /// One try to lock the cell, from the word that its read has seen. The value is the one to be stored.
@@ -132,8 +138,7 @@ fn draw_saying<L: Law, G: Said<L::Note>>(
     ensures seat { IsSameSeat seat.old seat.new }
     ensures told { Draws L.terms (Some note.now) seat.old.me result seat.new.me }
 {
-    let _ = note;
-    words.table.shared.fetch_add::<Draw<L, G>>(seat, 1, 1)
+    words.table.shared.fetch_add::<Draw<L, G>>(seat, CLOCK, 1)
 }
 
 /// Advances the clock. The run's number is one more than the result.
@@ -159,7 +164,10 @@ pub(crate) fn check<L: Law>(words: &Words<L>, seat: &mut Place<L>, cell: usize) 
     ensures seat { IsSameSeat seat.old seat.new }
     ensures told { Checks L.terms cell seat.old.me result seat.new.me }
 {
-    words.table.shared.load::<Check<L>>(seat, 2 * cell + 2)
+    words
+        .table
+        .shared
+        .load::<Check<L>>(seat, 2 * cell + FIRST_LOCK)
 }
 
 /// Store of the value of a cell that the run holds.
@@ -175,7 +183,7 @@ pub(crate) fn store<L: Law>(words: &Words<L>, seat: &mut Place<L>, cell: usize, 
     words
         .table
         .shared
-        .store::<Store<L>>(seat, 2 * cell + 3, value);
+        .store::<Store<L>>(seat, 2 * cell + FIRST_VALUE, value);
 }
 
 /// Store of the lock word of a cell that the run holds.
@@ -190,7 +198,7 @@ pub(crate) fn release<L: Law>(words: &Words<L>, seat: &mut Place<L>, cell: usize
     words
         .table
         .shared
-        .store::<Release<L>>(seat, 2 * cell + 2, word);
+        .store::<Release<L>>(seat, 2 * cell + FIRST_LOCK, word);
 }
 
 fn recall_saying<L: Law, G: Said<L::Note>>(words: &Words<L>, seat: &mut Place<L>, note: &L::Note)
@@ -200,8 +208,7 @@ fn recall_saying<L: Law, G: Said<L::Note>>(words: &Words<L>, seat: &mut Place<L>
     ensures seat { IsSameSeat seat.old seat.new }
     ensures told { Recalls L.terms (Some note.now) seat.old.me seat.new.me }
 {
-    let _ = note;
-    words.table.shared.load::<Recall<L, G>>(seat, 0);
+    words.table.shared.load::<Recall<L, G>>(seat, SPARE);
 }
 
 /// Adds a call that wrote nothing to those of the pass, by a load of the spare word.
@@ -220,7 +227,7 @@ pub(crate) fn refresh<L: Law>(words: &Words<L>, seat: &mut Place<L>)
     ensures seat { IsSameSeat seat.old seat.new }
     ensures told { Refreshes L.terms seat.old.me seat.new.me }
 {
-    words.table.shared.load::<Refresh<L>>(seat, 0);
+    words.table.shared.load::<Refresh<L>>(seat, SPARE);
 }
 
 /// Tells one seat what another has seen, by two loads of the spare word. It is to sample the clock next.

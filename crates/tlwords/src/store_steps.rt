@@ -6,6 +6,7 @@ ghost use Rattle.tlwords.specs.Plays.{IsSameSeat, Advances, Fills, Fetches};
 ghost use Rattle.tlwords.specs.Views.{Staging};
 
 use crate::law::Law;
+use crate::layout::{STORE, TAIL};
 use crate::plays::{Advance, Fetch, Fill, Said};
 use crate::rule::Place;
 use crate::words::Words;
@@ -29,7 +30,7 @@ fn advance_saying<L: Law, G: Said<L::Note>>(
     words
         .table
         .shared
-        .fetch_add::<Advance<L, G>>(seat, 2 * words.cells + 2, count as u64)
+        .fetch_add::<Advance<L, G>>(seat, 2 * words.cells + TAIL, count as u64)
 }
 
 /// Advances the tail of the store by the number of these words, or by the room and one where that is less, so that it never wraps. The
@@ -58,7 +59,7 @@ pub(crate) fn fill<L: Law>(words: &Words<L>, seat: &mut Place<L>, offset: usize,
     words
         .table
         .shared
-        .store::<Fill<L>>(seat, 2 * words.cells + 3 + offset, word);
+        .store::<Fill<L>>(seat, 2 * words.cells + STORE + offset, word);
 }
 
 /// Loads the word of the store at this index.
@@ -72,5 +73,5 @@ pub(crate) fn fetch_word<L: Law>(words: &Words<L>, seat: &mut Place<L>, offset: 
     words
         .table
         .shared
-        .load::<Fetch<L>>(seat, 2 * words.cells + 3 + offset)
+        .load::<Fetch<L>>(seat, 2 * words.cells + STORE + offset)
 }

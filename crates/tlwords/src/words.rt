@@ -3,6 +3,7 @@
 
 ghost use Rattle.std.specs.Prelude.{◌≡◌, ◌≢◌, ℕ, ◌+◌, ◌*◌, ◌/◌, ◌%◌, ◌^◌, ◌<◌, ◌≤◌, Some, length, IfErr, IfOk};
 ghost use Rattle.tlcore.specs.declared.seats.Place.TheVariants.{Reading};
+ghost use Rattle.tlwords.specs.Layout.{store_at};
 ghost use Rattle.tlwords.specs.Plays.{IsSameSeat};
 ghost use Rattle.tlwords.specs.Runs.{ReadsCell, Stops};
 
@@ -16,9 +17,9 @@ pub struct Words<L: Law> {
     pub(crate) cells: usize,
     /// How many words the store has.
     pub(crate) room: usize,
-    pub ghost sized: { table.shared.table_id.words ≡ 2 * cells + 3 + room },
+    pub ghost sized: { table.shared.table_id.words ≡ store_at cells room },
     pub ghost empty: { table.shared.table_id.slots ≡ 0 },
-    pub ghost small: { (cells < 2 ^ 59) × (room ≤ 2 ^ 24) },
+    pub ghost small: { (cells < 2 ^ 32) × (room ≤ 2 ^ 24) },
     pub ghost keyed: { table.shared.key.room ≡ room },
     pub ghost dealt: { 1 ≤ table.shared.key.sessions },
 }

@@ -4,8 +4,8 @@ ghost use Rattle.std.specs.Prelude.{◌≡◌, None, Some};
 ghost use Rattle.mmsyntax.specs.Tables.{meaning};
 ghost use Rattle.mmsyntax.specs.Rows.{type_of, variable_of};
 ghost use Rattle.mmsyntax.specs.Faults.{constant_row, variable_row, type_row, float_variable_row, float_end_row, in_place};
-ghost use Rattle.mmsyntax.specs.Faults.{IsFree, Stands};
 ghost use Rattle.mmtext.specs.Views.{seen};
+ghost use Rattle.mmreader.specs.Standing.{IsFree, Stands};
 ghost use Rattle.mmreader.specs.Views.{seen_prelude_place, known_of, Leads};
 ghost use Rattle.mmsyntax.specs.declared.symbols.Name.TheVariants.{Variable};
 

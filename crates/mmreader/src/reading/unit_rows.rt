@@ -3,9 +3,10 @@
 ghost use Rattle.std.specs.Prelude.{◌≡◌, ◌<◌, length, IfOk};
 ghost use Rattle.mmsyntax.specs.Blocks.{with_distinct, distinct_of, assertion_of};
 ghost use Rattle.mmsyntax.specs.Faults.{outermost_row, block_row, close_row, keyword_row, distinct_row, hypothesis_row, axiom_row};
-ghost use Rattle.mmsyntax.specs.Faults.{theorem_row, proof_row, behind, block_of, in_place, Stands};
+ghost use Rattle.mmsyntax.specs.Faults.{theorem_row, proof_row, behind, block_of, in_place};
 ghost use Rattle.mmtext.specs.Views.{seen};
 ghost use Rattle.mmtext.specs.declared.mark.Mark.TheVariants.{Floating, Essential};
+ghost use Rattle.mmreader.specs.Standing.{Stands};
 ghost use Rattle.mmreader.specs.Views.{seen_scope, seen_behind, seen_unit_place, known_of, Leads};
 
 use super::labels::{MOST_SYMBOLS, hypothesis_label_fault, label_fault, symbol_at};

@@ -6,10 +6,11 @@ ghost use Rattle.mmtext.specs.declared.fault.FaultKind.TheVariants.{NoMemory};
 ghost use Rattle.mmsyntax.specs.declared.statement.Assertion.{Assertion};
 ghost use Rattle.mmtext.specs.Text.{mark_of};
 ghost use Rattle.mmsyntax.specs.Tables.{Tables};
-ghost use Rattle.mmtext.specs.Languages.{step, said_at, finished, token_reading, reading};
-ghost use Rattle.mmsyntax.specs.Faults.{unit_at, unit_row, unit_language, FaultyUnit, Stands};
-ghost use Rattle.mmsyntax.specs.Grammar.{SpellsUnit, Reads, Refuses};
+ghost use Rattle.mmtext.specs.Languages.{step, said_at, finished, token_reading, reading, Reads, Refuses};
+ghost use Rattle.mmsyntax.specs.Faults.{unit_at, unit_row, unit_language, FaultyUnit};
+ghost use Rattle.mmsyntax.specs.Grammar.{SpellsUnit};
 ghost use Rattle.mmtext.specs.Views.{seen, Gives};
+ghost use Rattle.mmreader.specs.Standing.{Stands};
 ghost use Rattle.mmreader.specs.Views.{seen_place, seen_position, seen_state, known_of, IsUnitPlace, Leads};
 
 use super::unit_rows::next_unit_place;

@@ -1,4 +1,5 @@
-use Rattle.history.specs.Listing.{AreCountedBefore}
+-- What the loop of `count_by_place` keeps.
+use Rattle.history.proofs.Counting.{AreCountedBefore}
 use Rattle.history.proofs.listing.count_by_place.Given as goal
 
 abbrev pub invariant-loop-place : goal.invariant-loop-place

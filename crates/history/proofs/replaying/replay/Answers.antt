@@ -1,9 +1,8 @@
 use Rattle.std.proofs.Common.{◌≡◌, ◌∙◌, ap, sym, subst, map, take, refl, rules}
 use Rattle.std.proofs.lemmas.Option.{slice_get_read}
 use Rattle.std.proofs.lemmas.List.{take_all, length-map}
-use Rattle.library.specs.Library.{opening, ShowsInOrder}
+use Rattle.library.specs.Library.{setting_over, opening, ShowsInOrder}
 use Rattle.library.specs.Histories.{told, after_all, after_entry, IsLegal}
-use Rattle.history.specs.Replays.{slotted}
 use Rattle.library.proofs.Legal.{after-more, goes_on, told_at}
 use Rattle.history.proofs.Differing.{first_differing}
 use Rattle.history.proofs.replaying.replay.Goals as goal
@@ -22,7 +21,7 @@ returns-then-not-branch c =
     let h = map told c.args.history.now in
     let at = told_at c.args.history.now c.loop-i.i x c.loop-i-test.true c.index-history-i.is in
     let same = c.in_ok-repeats.ensures.same in
-    first_differing (slotted c.args.db.now c.args.slots) (opening c.args.db.now) h c.loop-i.i (told x)
+    first_differing (setting_over c.args.db.now c.args.slots) (opening c.args.db.now) h c.loop-i.i (told x)
     (slice_get_read h _ c.loop-i.i (told x) refl at.0 at.1) c.loop-i.invariant.3
     (λ k. let t = same.1 (rw (c.loop-i.invariant.1, c.loop-i.invariant.2) k) in cc)
 
@@ -30,7 +29,7 @@ pub loop-i-preserved : goal.loop-i-preserved
 loop-i-preserved c =
     let x = c.index-history-i.result in
     let h = map told c.args.history.now in
-    let s = slotted c.args.db.now c.args.slots in
+    let s = setting_over c.args.db.now c.args.slots in
     let lib = opening c.args.db.now in
     let i = c.loop-i.i in
     let at = told_at c.args.history.now i x c.loop-i-test.true c.index-history-i.is in
@@ -50,7 +49,7 @@ loop-i-preserved c =
 pub returns : goal.returns
 returns c =
     let h = map told c.args.history.now in
-    let s = slotted c.args.db.now c.args.slots in
+    let s = setting_over c.args.db.now c.args.slots in
     let lib = opening c.args.db.now in
     let all : take c.loop-i.i h ≡ h = take_all c.loop-i.i h (rw length-map c.loop-i-test.false) in (
       c.loop-i.invariant.0,

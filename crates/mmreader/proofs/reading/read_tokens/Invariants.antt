@@ -2,7 +2,8 @@
 use Rattle.std.proofs.Common.{◌≡◌, length, ◌-◌, ◌≤◌, drop}
 use Rattle.mmtext.specs.Text.{tokens, tokens_from}
 use Rattle.mmtext.specs.Languages.{run, start_of}
-use Rattle.mmsyntax.specs.Faults.{database_language, Stands}
+use Rattle.mmsyntax.specs.Faults.{database_language}
+use Rattle.mmreader.specs.Standing.{Stands}
 use Rattle.mmreader.specs.Views.{seen_place, seen_state, known_of}
 use Rattle.mmreader.proofs.reading.read_tokens.Given as goal
 

@@ -4,7 +4,8 @@ use Rattle.std.proofs.lemmas.Result.{on_ok_weaker, IfErr-weaker}
 use Rattle.std.specs.HashMap.{get_by}
 use Rattle.std.specs.Str.{bytes_eq}
 use Rattle.proofcheck.specs.Derivation.{Citable}
-use Rattle.proofcheck.specs.Databases.{citable_at, frame_below}
+use Rattle.proofcheck.specs.Databases.{citable_at}
+use Rattle.proofcheck.specs.Reports.{frame_below}
 use Rattle.proofcheck.proofs.Places.{below-cited, checks-at, fault-at}
 use Rattle.proofcheck.proofs.databases.check_at.Goals as goal
 

@@ -3,7 +3,7 @@ use Rattle.std.specs.Prelude.{is_some}
 use Rattle.std.specs.List.{range_with_len, AllZip}
 use Rattle.rayon.specs.Numbers.{nat_range}
 use Rattle.rayon.proofs.ToStd.{nat_range-All, answers-by_ref, filter_by_mask-filter}
-use Rattle.proofcheck.specs.Databases.{ReportsAt}
+use Rattle.proofcheck.specs.Reports.{ReportsAt}
 use Rattle.proofcheck.proofs.databases.first_report.Goals as goal
 
 pub find_first-requires-clause-items : goal.find_first-requires-clause-items

@@ -1,7 +1,7 @@
 use Rattle.std.proofs.Common.{◌≡◌, ℕ, List, take}
 use Rattle.std.specs.HashMap.{get_by}
 use Rattle.std.specs.Str.{bytes_eq}
-use Rattle.proofcheck.specs.Databases.{place_from}
+use Rattle.proofcheck.specs.Reports.{place_from}
 use Rattle.proofcheck.proofs.earlier.places_of.Given as goal
 
 abbrev pub invariant-loop-i : goal.invariant-loop-i

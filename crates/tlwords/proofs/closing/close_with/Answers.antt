@@ -1,9 +1,9 @@
-use Rattle.std.proofs.Common.{◌≡◌, arith, ◌∙◌, ap, subst, sym, length, List, ℕ, map, []}
+use Rattle.std.proofs.Common.{◌≡◌, arith, ◌∙◌, ap, subst, sym, length, List, ℕ, map}
 use mathlib.Core.Option.{some}
 use lib.ListN.{get_elem?}
 use Rattle.tlwords.specs.Closing.{AreCellsOf, IsStoreOf}
 use Rattle.tlwords.specs.Views.{gone_of}
-use Rattle.tlwords.specs.Rule.{tail_at}
+use Rattle.tlwords.specs.Layout.{clock_at, tail_at}
 use Rattle.tlwords.proofs.Gathers.{given_of}
 use Rattle.tlwords.proofs.Ends.{closes_all, gone_all}
 use Rattle.tlwords.proofs.closing.close_with.Goals as goal
@@ -27,7 +27,7 @@ returns-clause-closes g c =
     all.gone ∙ gone_all (λ p. p.seat.me.0) c.args.passes.items _ (ap (λ s. s.me.0.gone) p.parts.0 ∙ c.args.last.knows.alone) in
     closes_all g.L.Law.terms about.setting.value about.values.value.items about.room
     (record { store = about.store.value.items; sessions = about.sessions }) f.0 f.1.0 c.args.cells c.gather.result (ap length f.2 ∙ omega arith)
-    (ap (λ (l : List ℕ). get_elem? l 1) f.2 ∙ e.clock.0) (ap (λ (l : List ℕ). get_elem? l (tail_at c.args.cells)) f.2 ∙ e.clock.1)
+    (ap (λ (l : List ℕ). get_elem? l clock_at) f.2 ∙ e.clock.0) (ap (λ (l : List ℕ). get_elem? l (tail_at c.args.cells)) f.2 ∙ e.clock.1)
     (subst (λ (l : List ℕ). AreCellsOf l c.gather.result.cells.items) (sym f.2) e.cells.0) e.cells.1
     (subst (λ (l : List ℕ). IsStoreOf l c.args.cells c.gather.result.store.items) (sym f.2) e.store.0) (e.store.1 ∙ sym q) seat.id x gs
     (f.1.1 ∙ ap some same) c.args.last.fits.1 c.args.last.fits.2 (map (λ p. p.seat.me.0) c.args.passes.items) gone

@@ -1,6 +1,7 @@
-use Rattle.std.proofs.Common.{arith, ap, sym, ◌∙◌, length, ◌≡◌, ◌+◌, ◌*◌}
+use Rattle.std.proofs.Common.{arith, ap, sym, ◌∙◌, length, ◌≡◌}
 use Rattle.ranges.proofs.Named.{named_of_one}
 use Rattle.ranges.specs.Ranges.{ranges_named}
+use Rattle.tlwords.specs.Layout.{store_at}
 use Rattle.tlwords.proofs.Openings.{opens_so, words_length, new_sound}
 use Rattle.tlwords.proofs.opening.open.Goals as goal
 
@@ -16,12 +17,12 @@ invariant_of-words g c =
     let l = c.if-store-room.false in let m = c.if-room-gt-MOST_ROOM.false in
     let a = c.in-Ok.ensures in
     let n = words_length c.args.values.now c.args.store.now c.args.room (omega arith) in
-    let b : length c.as_slice.result.now ≡ 2 * length c.args.values.now + 3 + c.args.room = ap length (c.as_slice.ensures.value ∙ c.in_ok-words.ensures) ∙ n in
-    let d : length c.in_ok-words.words.items ≡ 2 * length c.args.values.now + 3 + c.args.room = ap length c.in_ok-words.ensures ∙ n in
+    let b : length c.as_slice.result.now ≡ store_at (length c.args.values.now) c.args.room = ap length (c.as_slice.ensures.value ∙ c.in_ok-words.ensures) ∙ n in
+    let d : length c.in_ok-words.words.items ≡ store_at (length c.args.values.now) c.args.room = ap length c.in_ok-words.ensures ∙ n in
     record {
       sized = a.0 ∙ b;
       empty = a.1;
-      small = (let s = c.in_ok-words.words.small in let o = c.in_ok-words.words.ok.0 in omega arith, omega arith);
+      small = (let s = c.if-values-gt-MOST_CELLS.false in omega arith, omega arith);
       keyed = ap (λ k. k.room) a.5;
       dealt = let q : c.in-Ok.table.shared.key.sessions ≡ c.args.sessions = ap (λ k. k.sessions) a.5 in let z = c.if-sessions-eq0.false in omega arith;
     }

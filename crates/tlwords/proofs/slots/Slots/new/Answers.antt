@@ -13,7 +13,7 @@ invariant_of-result c =
     let long = c.in_ok-resize.ensures.len in
     let ok = c.resize.new.self.ok.0 in
     let room = c.in_ok-entries.ensures.capacity in
-    let few = c.if-cells-gt-MOST_CELLS.false in (
+    let few = c.requires in (
       subst (λ es. IsIndexed ps es) (sym c.in_ok-entries.ensures.items)
           (subst (λ xs. IsIndexed xs []) (sym zeros) (wiped_indexed _ _ (zeros_wiped n))),
       omega arith,

@@ -1,0 +1,4 @@
+pub mod Reading
+pub mod One
+pub mod Small
+pub mod Staging

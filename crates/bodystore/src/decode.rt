@@ -1,0 +1,86 @@
+//! From the words of bodies back to labels, statements and proofs.
+//!
+//! Words of a body give what it is of. Other words give some value, in memory in proportion to their number.
+
+ghost use Rattle.std.specs.Prelude.{◌≡◌, ℕ, ◌^◌, ◌<◌, List, ◌++◌, All, IfOk};
+ghost use Rattle.bodystore.specs.Bodies.{label_body, expression_words, statement_body, proof_body};
+ghost use Rattle.bodystore.specs.Bodies.{IsSmallSymbol, IsSmallStatement, IsSmallStep};
+
+use crate::cursor::Cursor;
+use crate::statement::Statement;
+use crate::stored::StoredStep;
+use crate::words::{kind_of, pair_of, symbol_of};
+use mmsyntax::{Expr, Label, Sequence};
+use std::alloc::{AllocError, Global};
+
+/// The label whose body has these words.
+///
+/// # Errors
+///
+/// Want of memory.
+pub fn decode_label(alloc: Global, words: &[u64]) -> Result<Label, AllocError>
+    ensures { (label : List ℕ) → All (λ byte. byte < 2 ^ 8) label → label_body label ≡ words.now → IfOk result (λ made. made ≡ label) }
+{
+    let mut bytes = Vec::with_capacity(alloc, words.len())?;
+    for word in words {
+        bytes.push((*word & 0xff) as u8)?;
+    }
+    Ok(Sequence::from_vec(bytes))
+}
+
+/// The statement whose body has these words.
+///
+/// # Errors
+///
+/// Want of memory.
+pub fn decode_statement(alloc: Global, words: &[u64]) -> Result<Statement, AllocError>
+    ensures { (s : _) → IsSmallStatement s → statement_body s ≡ words.now → IfOk result (λ made. made ≡ s) }
+{
+    let mut cursor = Cursor::new(words);
+    let kind = kind_of(cursor.next());
+    let pair_count = cursor.count();
+    let hyp_count = cursor.count();
+    let mut pairs = Vec::new(alloc);
+    'pairs: for _ in 0..pair_count {
+        pairs.push(pair_of(cursor.next()))?;
+    }
+    let mut hyps = Vec::new(alloc);
+    'hyps: for _ in 0..hyp_count {
+        hyps.push(read_expression(alloc, &mut cursor)?)?;
+    }
+    let statement = read_expression(alloc, &mut cursor)?;
+    Ok(Statement {
+        kind,
+        pairs: Sequence::from_vec(pairs),
+        hyps: Sequence::from_vec(hyps),
+        statement,
+    })
+}
+
+/// The steps of the proof whose body has these words.
+///
+/// # Errors
+///
+/// Want of memory.
+pub fn decode_proof(alloc: Global, words: &[u64]) -> Result<Vec<StoredStep>, AllocError>
+    ensures { (steps : _) → All IsSmallStep steps → proof_body steps ≡ words.now → IfOk result (λ made. made.items ≡ steps) }
+{
+    let mut steps = Vec::with_capacity(alloc, words.len())?;
+    for word in words {
+        steps.push(StoredStep::of_word(*word))?;
+    }
+    Ok(steps)
+}
+
+/// The next expression: its length, and as many symbols.
+fn read_expression(alloc: Global, cursor: &mut Cursor<'_>) -> Result<Expr, AllocError>
+    ensures { (e : List _) (more : List ℕ) → All IsSmallSymbol e → cursor.old ≡ expression_words e ++ more
+        → IfOk result (λ made. (made ≡ e) × (cursor.new ≡ more)) }
+{
+    let count = cursor.count();
+    let mut symbols = Vec::new(alloc);
+    for _ in 0..count {
+        symbols.push(symbol_of(cursor.next()))?;
+    }
+    Ok(Sequence::from_vec(symbols))
+}

@@ -1,0 +1,2 @@
+//! The library in cells.
+#![tactic(auto)]
