@@ -14,7 +14,7 @@ use Rattle.commands.specs.Scripts.{SpellsEach, SpellsTransaction}
 use Rattle.commands.specs.ScriptFaults.{Place, outermost, at_command, within, Progress, at, script_language}
 use Rattle.commands.proofs.ScriptRows.{Script, progress}
 use Rattle.commands.proofs.ScriptWords.{asking, asks}
-use Rattle.commands.proofs.CommandParsed.{IsApart, reads_commands}
+use Rattle.commands.proofs.CommandParsed.{IsApart, ReadsCommands, reads_commands}
 
 -- the transactions of which these are the words, behind those of s
 pub record ReadsTransactions (t : Tables) (s : Script) (ts : List Token) (final : Progress) : Type 0 where

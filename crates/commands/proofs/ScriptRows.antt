@@ -1,17 +1,19 @@
 -- The rows of a script at its words, in both directions.
-use Rattle.std.proofs.Common.{◌≡◌, ◌≢◌, ℕ, ◌^◌, ◌<◌, ◌≤◌, Bool, true, false, cond, ltb, leb, List, [], ◌∷◌, ◌++◌, length, Option, Some}
+use Rattle.std.proofs.Common.{◌≡◌, ◌≢◌, ℕ, ◌+◌, ◌^◌, ◌<◌, ◌≤◌, Bool, true, false, cond, ltb, leb, List, [], ◌∷◌, ◌++◌, length, Option, Some}
 use Rattle.std.proofs.Common.{None, Result, Ok, Err, refl, sym, ap, subst, ◌∙◌, arith}
-use Rattle.std.specs.Prelude.{codes}
+use Rattle.std.specs.Prelude.{codes, is_some}
+use Rattle.std.specs.Fmt.{decimal}
 use Rattle.std.specs.Str.{bytes_eq}
 use Rattle.std.specs.Str.Parse.{digits_value}
 use Rattle.std.proofs.lemmas.Bool.{cond-true, cond-false}
 use Rattle.std.proofs.lemmas.Bool.Decides.{nat_tests}
 use Rattle.mmtext.specs.declared.fault.FaultKind.{FaultKind}
 use Rattle.mmtext.specs.declared.fault.FaultKind.TheVariants.{BadToken, TooLong, OutOfProfile}
+use Rattle.mmtext.specs.declared.fault.TextFault.{TextFault}
 use Rattle.mmtext.specs.declared.mark.Mark.{Mark}
 use Rattle.mmtext.specs.declared.mark.Mark.TheVariants as mark
 use Rattle.mmtext.specs.Text.{Token, mark_of}
-use Rattle.mmtext.specs.Words.{Word, has_dollar}
+use Rattle.mmtext.specs.Words.{Word, has_dollar, is_label}
 use Rattle.mmtext.specs.Languages.{fault}
 use Rattle.mmtext.proofs.CommentLaws.{same_word}
 use Rattle.mmsyntax.specs.declared.statement.Step.{Step}
@@ -22,10 +24,10 @@ use Rattle.mmsyntax.proofs.Sound.{cond_none}
 use Rattle.mmreader.proofs.Keywords.{Says, says}
 use Rattle.library.specs.declared.command.Command.{Command}
 use Rattle.library.specs.declared.command.Command.TheVariants as command
-use Rattle.library.specs.Library.{highest_rank}
+use Rattle.library.specs.Fitting.{highest_rank}
 use Rattle.commands.specs.Scripts.{IsRank, other_step_of}
-use Rattle.commands.specs.ScriptFaults.{at_rank, at_reproved, in_proof, at_old_label}
-use Rattle.commands.specs.ScriptFaults.{at_moved, at_deleted, at_shown, Place, outermost, Progress, Led}
+use Rattle.commands.specs.ScriptFaults.{CommandPlace, at_rank, in_unit, at_reproved, at_proof, in_proof, at_old_label, at_new_label}
+use Rattle.commands.specs.ScriptFaults.{at_moved, at_new_rank, at_deleted, at_shown, Place, outermost, at_command, within, Progress, Led}
 use Rattle.commands.specs.ScriptFaults.{inside, whole_command, bad, bad_text, label_row, is_numeral, rank_row, proof_start, step_led}
 use Rattle.commands.specs.ScriptFaults.{step_row, command_word, at, led, command_row}
 use Rattle.mmtext.specs.declared.fault.Stop.{Stop}

@@ -1,5 +1,5 @@
 -- The fault of a script: each token outside of comments in its place, one function a place.
-use Rattle.std.specs.Prelude.{ℕ, Bool, ◌||◌, nat_lt, List, [], ◌∷◌, ◌++◌, length, Option, Some, None}
+use Rattle.std.specs.Prelude.{ℕ, Bool, true, false, ◌||◌, ◌&&◌, ◌==◌, nat_le, nat_lt, List, [], ◌∷◌, ◌++◌, length, Option, Some, None}
 use Rattle.std.specs.Prelude.{Result, Ok, Err, if◌then◌else◌, codes}
 use Rattle.std.specs.Str.{bytes_eq}
 use Rattle.std.specs.Str.Parse.{digits_value}
@@ -18,7 +18,7 @@ use Rattle.mmsyntax.specs.Rows.{prelude_alone}
 use Rattle.mmsyntax.specs.Faults.{Position, at_start, outside, row, unit_at}
 use Rattle.library.specs.declared.command.Command.{Command}
 use Rattle.library.specs.declared.command.Command.TheVariants as command
-use Rattle.library.specs.Library.{highest_rank}
+use Rattle.library.specs.Fitting.{highest_rank}
 use Rattle.commands.specs.Scripts.{other_step_of}
 
 -- ---- places

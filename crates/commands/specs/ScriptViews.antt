@@ -16,7 +16,7 @@ use Rattle.commands.specs.declared.script.place.Led.{Led as CodeLed}
 use Rattle.commands.specs.declared.script.place.Led.TheVariants as led
 use Rattle.commands.specs.declared.script.place.Progress.{Progress as CodeProgress}
 use Rattle.commands.specs.declared.script.place.State.{State as CodeState}
-use Rattle.library.specs.Library.{highest_rank}
+use Rattle.library.specs.Fitting.{highest_rank}
 use Rattle.commands.specs.Scripts.{hypothesis_numbered, counted_from_0}
 use Rattle.commands.specs.ScriptFaults.{CommandPlace, at_rank, in_unit, at_reproved, at_proof, in_proof, at_old_label, at_new_label}
 use Rattle.commands.specs.ScriptFaults.{at_moved, at_new_rank, at_deleted, at_shown, Place, outermost, at_command, within, Progress}

@@ -17,7 +17,7 @@ use Rattle.mmsyntax.specs.Grammar.{Statement, spelling, Declares}
 use Rattle.mmsyntax.specs.Layout.{hypothesis_label}
 use Rattle.library.specs.declared.command.Command.{Command}
 use Rattle.library.specs.declared.command.Command.TheVariants as command
-use Rattle.library.specs.Library.{highest_rank}
+use Rattle.library.specs.Fitting.{highest_rank}
 
 -- ---- words
 

@@ -1,5 +1,6 @@
 -- Ascending lists of places: one place more, and how often a test passes over them.
-use Rattle.std.proofs.Common.{◌≡◌, ◌≢◌, ℕ, true, false, ltb, Some, zero, suc, ◌+◌, ◌-◌, ◌<◌, ◌≤◌, ◌⊎◌, List, [], ◌∷◌, length, get_or, take, drop, insert}
+use Rattle.std.proofs.Common.{◌≡◌, ◌≢◌, ℕ, true, false, ltb, Some, zero, suc, ◌+◌, ◌-◌, ◌<◌, ◌≤◌, ◌⊎◌, List, [], ◌∷◌, length, get_or, take}
+use Rattle.std.proofs.Common.{drop, insert}
 use Rattle.std.proofs.Common.{sym, ap, subst, ◌∙◌, inl, inr, arith}
 use Rattle.std.specs.List.{Contains, slice_get}
 use Rattle.std.specs.List.Sorted.{IsStrictlyIncreasing, IsPartitionPoint, IsPartitionedBy}
@@ -27,7 +28,8 @@ module _ (xs : List ℕ) (i q : ℕ) (within : i ≤ length xs) where
             let own : get_or (insert xs i q) k 0 ≡ get_or xs k 0 = get_or-insert_below xs i q 0 k below within in
             elim (cases_eq (k + 1) i) [
               | inl next ↦
-                  let later : get_or (insert xs i q) (k + 1) 0 ≡ q = ap (λ n. get_or (insert xs i q) n 0) next ∙ get_or-insert_at xs i q 0 within in
+                  let later : get_or (insert xs i q) (k + 1) 0 ≡ q =
+                  ap (λ n. get_or (insert xs i q) n 0) next ∙ get_or-insert_at xs i q 0 within in
                   rw (own, later) (before k below)
               | inr more ↦
                   let lower : k + 1 < i = omega arith in

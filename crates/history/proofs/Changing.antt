@@ -1,5 +1,6 @@
 -- What the places of a library have after one of them was changed, and which library that is.
-use Rattle.std.proofs.Common.{◌≡◌, ℕ, zero, suc, ◌+◌, ◌<◌, ◌≤◌, Bool, true, false, List, [], ◌∷◌, ◌++◌, Option, None, Some, length, map, set}
+use Rattle.std.proofs.Common.{◌≡◌, ℕ, zero, suc, ◌+◌, ◌<◌, ◌≤◌, Bool, true, false, List, [], ◌∷◌, ◌++◌, Option, None, Some, length, map}
+use Rattle.std.proofs.Common.{set}
 use Rattle.std.proofs.Common.{refl, sym, ap, subst, ◌∙◌, arith, append-nil}
 use Rattle.std.specs.List.{slice_get}
 use Rattle.std.specs.Option.{option_map, is_some}
@@ -203,7 +204,8 @@ changed_below-all (suc i) f [] h = refl
 changed_below-all (suc i) f (o ∷ os) h = ap (λ xs. option_map f o ∷ xs) (changed_below-all i f os (omega arith))
 
 -- there is one more where the place was empty, and else as many
-pub count-into : (es : Entries) (p : ℕ) (former : Option Ranked) (x : Ranked) (b : Bool) → slice_get es p ≡ Some former → is_some former ≡ not b
+pub count-into : (es : Entries) (p : ℕ) (former : Option Ranked) (x : Ranked) (b : Bool) → slice_get es p ≡ Some former
+    → is_some former ≡ not b
     → length (living (set es p (Some x))) ≡ length (living es) + bool_byte b
 count-into es p None x true at h = let one = count-put es p x at in omega arith
 count-into es p None x false at h = absurd cc

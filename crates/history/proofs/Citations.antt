@@ -1,5 +1,6 @@
 -- Labels replaced in proofs: one assertion of a renamed library has another label, and each has its proof renamed.
-use Rattle.std.proofs.Common.{◌≡◌, ℕ, zero, suc, Bool, true, false, ◌⊎◌, inl, inr, List, [], ◌∷◌, None, Some, map, set, refl, sym, ap, subst, ◌∙◌, arith}
+use Rattle.std.proofs.Common.{◌≡◌, ℕ, zero, suc, Bool, true, false, ◌⊎◌, inl, inr, List, [], ◌∷◌, None, Some, map, set, refl, sym, ap}
+use Rattle.std.proofs.Common.{subst, ◌∙◌, arith}
 use Rattle.std.specs.Prelude.{◌||◌}
 use Rattle.std.proofs.lemmas.Bool.{cases_Bool}
 use Rattle.mmsyntax.proofs.Names.{same_bytes}
@@ -20,7 +21,8 @@ use Rattle.history.proofs.Changing.{alone-first, alone-later, living-all}
 
 -- ---- proofs that do not cite the label
 
-steps_alone : (old new : List ℕ) (steps : List Step) → list_any (is_citation old) steps ≡ false → map (step_relabelled (replacing old new)) steps ≡ steps
+steps_alone : (old new : List ℕ) (steps : List Step) → list_any (is_citation old) steps ≡ false
+    → map (step_relabelled (replacing old new)) steps ≡ steps
 steps_alone old new [] h = refl
 steps_alone old new (Float i ∷ steps) h = ap (λ xs. Float i ∷ xs) (steps_alone old new steps h)
 steps_alone old new (Hyp k ∷ steps) h = ap (λ xs. Hyp k ∷ xs) (steps_alone old new steps h)

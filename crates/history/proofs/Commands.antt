@@ -1,5 +1,6 @@
 -- What each command does to the library of some entries, by the places of its labels.
-use Rattle.std.proofs.Common.{◌≡◌, ℕ, Bool, true, false, List, [], ◌∷◌, ◌++◌, Option, None, Some, Result, Ok, Err, length, set, refl, sym, ap, subst, ◌∙◌}
+use Rattle.std.proofs.Common.{◌≡◌, ℕ, Bool, true, false, List, [], ◌∷◌, ◌++◌, Option, None, Some, Result, Ok, Err, length, set, refl, sym}
+use Rattle.std.proofs.Common.{ap, subst, ◌∙◌}
 use Rattle.std.specs.Prelude.{nat_le, ◌==◌}
 use Rattle.std.specs.List.{list_any}
 use Rattle.std.specs.Option.{is_some}
@@ -71,16 +72,20 @@ first-none_more (Some q ∷ ts) us h = absurd cc
 -- the tests of adding a theorem, behind those of the rank and the label
 pub add_front : (s : Setting) (lib : List Ranked) (rank : ℕ) (a : Assertion) → rank == 0 ≡ false → is_lawful_label s.prelude a.label ≡ true
     → has lib a.label ≡ false
-    → first_reason (add_tests s lib rank a) ≡ first_reason (where_so (is_axiom a.kind) reason.AxiomNotAllowed ∷ (proof_tests s lib rank a ++ where_so (nat_le s.slots (length lib)) reason.LibraryFull ∷ []))
+    → first_reason (add_tests s lib rank a) ≡ first_reason
+    (where_so (is_axiom a.kind) reason.AxiomNotAllowed ∷ (proof_tests s lib rank a
+    ++ where_so (nat_le s.slots (length lib)) reason.LibraryFull ∷ []))
 add_front s lib rank a ranked lawful free =
     first-none (bad_rank rank) _ (not_so (rank == 0) reason.BadRank ranked)
     ∙ first-none (bad_label s a.label) _ (not_so (not (is_lawful_label s.prelude a.label)) reason.BadLabel (ap not lawful))
     ∙ first-none (label_taken lib a.label) _ (not_so (has lib a.label) reason.LabelTaken free)
 
 -- what may be added has a label that is free
-pub add_free : (s : Setting) (lib : List Ranked) (rank : ℕ) (a : Assertion) → first_reason (add_tests s lib rank a) ≡ None → has lib a.label ≡ false
+pub add_free : (s : Setting) (lib : List Ranked) (rank : ℕ) (a : Assertion) → first_reason (add_tests s lib rank a) ≡ None
+    → has lib a.label ≡ false
 add_free s lib rank a h =
-    where_none (has lib a.label) reason.LabelTaken (first-parts (label_taken lib a.label) _ (first-parts (bad_label s a.label) _ (first-parts (bad_rank rank) _ h).1).1).0
+    where_none (has lib a.label) reason.LabelTaken (first-parts (label_taken lib a.label) _
+    (first-parts (bad_label s a.label) _ (first-parts (bad_rank rank) _ h).1).1).0
 
 -- and cites known labels alone
 pub add_known : (s : Setting) (lib : List Ranked) (rank : ℕ) (a : Assertion) → first_reason (add_tests s lib rank a) ≡ None
@@ -117,7 +122,8 @@ known slice held w v o b same own at is =
     sym (is ∙ some-known slice w o at ∙ ap (λ l. has (living l) w) same ∙ ap (has (living held)) own)
 
 -- the same, of lists and labels that are equal
-pub has_label : (m : Places) (inside held slice : Entries) (w v : List ℕ) (p : ℕ) (e : Ranked) → IsIndex m inside → inside ≡ held → slice ≡ inside
+pub has_label : (m : Places) (inside held slice : Entries) (w v : List ℕ) (p : ℕ) (e : Ranked) → IsIndex m inside → inside ≡ held
+    → slice ≡ inside
     → StandsIn slice p e → label_of e ≡ w → w ≡ v → HasLabel m held v p e
 has_label m inside held slice w v p e x same read at own as_label = record {
   indexed = subst (IsIndex m) same x;

@@ -122,7 +122,8 @@ module _ (c : Citers) (es : Entries) (p : ℕ) (new : Ranked) (h : Covers c es) 
               let here' : cites (label_of new) f ≡ true = subst (λ (x : Ranked). cites (label_of x) f ≡ true) (sym first.1) here in
               subst (λ k. IsCiter c k q) (sym first.0) (elim (stands-set es p q new f at_q) [
                 | inl second ↦
-                    subst (λ k. IsCiter c p k) (sym second.0) (own (subst (λ (x : Ranked). cites (label_of new) x ≡ true) (sym second.1) here'))
+                    subst (λ k. IsCiter c p k) (sym second.0) (own (subst (λ (x : Ranked). cites (label_of new) x
+                    ≡ true) (sym second.1) here'))
                 | inr other ↦ citing q f other.1 here'
               ])
           | inr there ↦
@@ -165,7 +166,8 @@ entered-cited c m es w p q x s h = record {
 }
 
 -- one that cites no assertion
-pub entered-unknown : (c : Citers) (es : Entries) (s : Step) (q : ℕ) → ((p : ℕ) (e : Ranked) → StandsIn es p e → is_citation (label_of e) s ≡ false)
+pub entered-unknown : (c : Citers) (es : Entries) (s : Step) (q : ℕ)
+    → ((p : ℕ) (e : Ranked) → StandsIn es p e → is_citation (label_of e) s ≡ false)
     → AreEntered c es (s ∷ []) q
 entered-unknown c es s q none = record {
   entered = λ p e at here. absurd (both_ways (some_cites (s ∷ []) (label_of e)) (ap (λ b. b || false) (none p e at)) here);

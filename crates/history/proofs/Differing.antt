@@ -31,7 +31,8 @@ abbrev applied : List Ranked → List Reply → Applied
 applied lib replies = record { library = lib; replies = replies }
 
 -- a transaction that was done repeats an entry of the same commands where its replies are the entry's
-pub repeated_where_same : (s : Setting) (lib next : List Ranked) (given cs : List Command) (made shown replies others : List Reply) (b : Bool)
+pub repeated_where_same : (s : Setting) (lib next : List Ranked) (given cs : List Command) (made shown replies others : List Reply)
+    (b : Bool)
     → apply s lib given ≡ Ok (record { library = next; replies = made }) → given ≡ cs → shown ≡ made → others ≡ replies
     → IsTrue b ↔ (shown ≡ others) → IsTrue b ↔ IsRepeated s lib (done_entry cs replies)
 repeated_where_same s lib next given cs made shown replies others b answer is_given is_shown is_others same = (

@@ -126,7 +126,8 @@ index-pushed m n es e x free h =
     let w = label_of e in
     record {
       finds = λ i f at. elim (pushed-cases es (Some e) i f at) [
-        | inl was ↦ h (label_of f) ∙ cond-false (bytes_eq w (label_of f)) (Some (length es)) (place_in m (label_of f)) (has-not-at es w i f free was) ∙ x.finds i f was
+        | inl was ↦ h (label_of f) ∙ cond-false (bytes_eq w (label_of f)) (Some (length es)) (place_in m (label_of f))
+            (has-not-at es w i f free was) ∙ x.finds i f was
         | inr last ↦
             let own : e ≡ f = cc in
             ap (λ (k : Ranked). place_in n (label_of k)) (sym own) ∙ h w

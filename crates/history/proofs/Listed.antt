@@ -14,7 +14,8 @@ use Rattle.history.proofs.Covering.{keeps-pushed, covers-kept, covers-opened}
 use Rattle.history.proofs.Undoing.{undone-opened}
 
 -- a place has something else, and what it had is noted
-pub citers_noted : (c : Citers) (ns after : List Note) (es : Entries) (p : ℕ) (o : Option Ranked) → AreCiters c ns es → Covers c (set es p o)
+pub citers_noted : (c : Citers) (ns after : List Note) (es : Entries) (p : ℕ) (o : Option Ranked) → AreCiters c ns es
+    → Covers c (set es p o)
     → undone after (set es p o) ≡ undone ns es → AreCiters c after (set es p o)
 citers_noted c ns after es p o k covered back = record {
   long = k.long ∙ sym (length-set es p o);

@@ -75,7 +75,8 @@ module _ (test : Ranked → Bool) where
             ])
       ]
 
-  pub any-members : (es : Entries) (places : List ℕ) → HasPassing test es places → list_any (passes_at test es) places ≡ list_any test (living es)
+  pub any-members : (es : Entries) (places : List ℕ) → HasPassing test es places
+      → list_any (passes_at test es) places ≡ list_any test (living es)
   any-members es places h = any-places es places h ∙ sym (any-living test es)
 
   -- ---- how many pass
@@ -97,7 +98,8 @@ module _ (test : Ranked → Bool) where
   count-above es x [] h = refl
   count-above es x (q ∷ qs) h =
       let above = h q (0, omega arith, refl) in
-      let same : passes_at test (set es x None) q ≡ passes_at test es q = ap (passes_there test) (get_or-set_other es x q None None (omega arith)) in
+      let same : passes_at test (set es x None) q ≡ passes_at test es q =
+      ap (passes_there test) (get_or-set_other es x q None None (omega arith)) in
       let one : one_if (passes_at test (set es x None)) q ≡ one_if (passes_at test es) q = ap (λ b. cond b 1 0) same in
       omega (
         arith,

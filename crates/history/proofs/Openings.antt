@@ -70,7 +70,8 @@ framed_at t k (x ∷ xs) (suc p) e h = framed_at t (k + 1) xs p e h
 pub front_free : (lib : List Ranked) (i : ℕ) (e : Ranked) → Distinct bytes_eq (map label_of lib) → slice_get lib i ≡ Some e
     → has (take i lib) (label_of e) ≡ false
 front_free lib i e apart at =
-    subst (λ (l : List Ranked). has l (label_of e) ≡ false) (living-standing (take i lib)) (none-has (standing (take i lib)) (label_of e) (λ p f front.
+    subst (λ (l : List Ranked). has l (label_of e) ≡ false) (living-standing (take i lib))
+    (none-has (standing (take i lib)) (label_of e) (λ p f front.
     let here = front_get lib i p f (standing-at (take i lib) p f front) in
     let before = here.0 in
     elim (cases_Bool (bytes_eq (label_of e) (label_of f))) [
@@ -78,7 +79,8 @@ front_free lib i e apart at =
           let same : label_of (get_or lib p e) ≡ label_of (get_or lib i e) =
           ap label_of (get_or_from_slice_get lib p f e here.1) ∙ sym (same_bytes (label_of e) (label_of f) y)
           ∙ sym (ap label_of (get_or_from_slice_get lib i e e at)) in
-          absurd (labels_apart lib apart i p e (slice_get_within lib i e at) (slice_get_within lib p f here.1) (λ (z : p ≡ i). omega arith) same)
+          absurd (labels_apart lib apart i p e (slice_get_within lib i e at) (slice_get_within lib p f here.1)
+          (λ (z : p ≡ i). omega arith) same)
       | inr n ↦ n
     ]))
 

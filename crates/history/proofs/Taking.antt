@@ -68,7 +68,8 @@ pub kept_on : (a b c : Drafted) → KeepsStart a b → KeepsStart b c → KeepsS
 kept_on a b c h k = record { setting = k.setting ∙ h.setting; start = k.start ∙ h.start }
 
 -- a transaction that is done is settled once its library is the new start
-pub done_settles : (old now new : Drafted) (cs : List Command) (replies : List Reply) → IsSettled old → All (CommandFits old.setting.prelude) cs
+pub done_settles : (old now new : Drafted) (cs : List Command) (replies : List Reply) → IsSettled old
+    → All (CommandFits old.setting.prelude) cs
     → TakesAll old cs (Ok replies) now → KeepsStart old now → Settles now (now_in now) new → IsSettled new
 done_settles old now new cs replies settled fit h k settles =
     let same : new.setting ≡ old.setting = settles.setting ∙ k.setting in

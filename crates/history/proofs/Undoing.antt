@@ -17,7 +17,8 @@ use Rattle.library.specs.Library.{label_of}
 use Rattle.history.specs.declared.notes.Note.{Note}
 use Rattle.history.specs.Entries.{Entries, living, StandsIn, AreFramed}
 use Rattle.history.specs.Places.{Places, place_in, IsIndex, HasOnly, StandsSomewhere, KeepsLabels, Puts}
-use Rattle.history.specs.Drafts.{taken_back, undone, formers, CanStand, CanTakeBack, CanUndo, AreNotesFramed, IsForgotten, IsDraft, IsCounted}
+use Rattle.history.specs.Drafts.{taken_back, undone, formers, CanStand, CanTakeBack, CanUndo, AreNotesFramed, IsForgotten, IsDraft}
+use Rattle.history.specs.Drafts.{IsCounted}
 use Rattle.history.proofs.Changing.{get-set_same, get-set_other, get-set_is, set-back, set-left, get-left, get-last, living-opened}
 use Rattle.history.proofs.Indexes.{IsAloneIn, PutsAt, stands-alone, puts_at-keeps, index-set, index-opened, pushed-cases}
 
@@ -95,11 +96,27 @@ only-exchanged m es fs p k o former at_p at_k h = record {
   among = λ w some. elim (h.among w some) [
     | inl here ↦ elim (moved es p o former w at_p here) [
       | inl stays ↦ inl stays
-      | inr went ↦ inr (k, record { entry = went.0; at = get-set_same fs k o (slice_get_within fs k former at_k) ∙ ap (λ x. Some x) went.1; labelled = went.2 })
+      | inr went ↦ inr (
+        k,
+        record {
+          entry = went.0;
+          at =
+              get-set_same fs k o (slice_get_within fs k former at_k) ∙ ap (λ x. Some x) went.1;
+          labelled = went.2;
+        },
+      )
     ]
     | inr there ↦ elim (moved fs k former o w at_k there) [
       | inl stays ↦ inr stays
-      | inr went ↦ inl (p, record { entry = went.0; at = get-set_same es p former (slice_get_within es p o at_p) ∙ ap (λ x. Some x) went.1; labelled = went.2 })
+      | inr went ↦ inl (
+        p,
+        record {
+          entry = went.0;
+          at =
+              get-set_same es p former (slice_get_within es p o at_p) ∙ ap (λ x. Some x) went.1;
+          labelled = went.2;
+        },
+      )
     ]
   ];
 }
@@ -112,7 +129,8 @@ only-noted : (m n : Places) (es fs : Entries) (p : ℕ) (former new : Option Ran
     → HasOnly m es fs → HasOnly n (set es p new) (fs ++ former ∷ [])
 only-noted m n es fs p former new at puts h = record { among = λ w some. known new puts w some }
   where
-    before : (x : Option Ranked) (w : List ℕ) → IsSome (place_in m w) → StandsSomewhere (set es p x) w ⊎ StandsSomewhere (fs ++ former ∷ []) w
+    before : (x : Option Ranked) (w : List ℕ) → IsSome (place_in m w)
+        → StandsSomewhere (set es p x) w ⊎ StandsSomewhere (fs ++ former ∷ []) w
     before x w some = elim (h.among w some) [
       | inl here ↦ elim (moved es p former x w at here) [
         | inl stays ↦ inl stays
@@ -125,8 +143,17 @@ only-noted m n es fs p former new at puts h = record { among = λ w some. known 
         → StandsSomewhere (set es p x) w ⊎ StandsSomewhere (fs ++ former ∷ []) w
     known None puts w some = before None w (subst (λ o. IsSome o) (puts w) some)
     known (Some e) puts w some = elim (cases_Bool (bytes_eq (label_of e) w)) [
-      | inl y ↦ inl (p, record { entry = e; at = get-set_same es p (Some e) (slice_get_within es p former at); labelled = same_bytes (label_of e) w y })
-      | inr other ↦ before (Some e) w (subst (λ o. IsSome o) (puts w ∙ cond-false (bytes_eq (label_of e) w) (Some p) (place_in m w) other) some)
+      | inl y ↦ inl (
+        p,
+        record {
+          entry = e;
+          at = get-set_same es p (Some e) (slice_get_within es p former at);
+          labelled =
+              same_bytes (label_of e) w y;
+        },
+      )
+      | inr other ↦ before (Some e) w (subst (λ o. IsSome o)
+          (puts w ∙ cond-false (bytes_eq (label_of e) w) (Some p) (place_in m w) other) some)
     ]
 
 -- the last note went, and with it its label, unless an assertion has it
@@ -229,7 +256,11 @@ draft_noted t m n frames ns after es now p former new count count' start d k at 
     let note : Note = record { place = p; former = former } in
     let back : undone after now ≡ undone ns es = ap (λ ks. undone ks now) noted ∙ ap (undone (ns ++ note ∷ [])) done ∙ both.1 in (
       subst (λ ks. IsDraft t n frames ks now) (sym noted) (subst (IsDraft t n frames (ns ++ note ∷ [])) (sym done) both.0),
-      record { now_right = counted ∙ ap (λ l. length (living l)) (sym done); start_right = k.start_right ∙ ap (λ l. length (living l)) (sym back) },
+      record {
+        now_right = counted ∙ ap (λ l. length (living l)) (sym done);
+        start_right =
+            k.start_right ∙ ap (λ l. length (living l)) (sym back);
+      },
       back,
     )
 
@@ -296,16 +327,18 @@ pub only-pushed : (m n : Places) (es : Entries) (e : Ranked) (p : ℕ) → Puts 
 only-pushed m n es e p puts h = record {
   among = λ w some. elim (cases_Bool (bytes_eq (label_of e) w)) [
     | inl y ↦ inl (length es, record { entry = e; at = get-last es (Some e); labelled = same_bytes (label_of e) w y })
-    | inr other ↦ elim (h.among w (subst (λ o. IsSome o) (puts w ∙ cond-false (bytes_eq (label_of e) w) (Some p) (place_in m w) other) some)) [
-      | inl here ↦ inl (somewhere-left es (Some e ∷ []) w here)
-      | inr there ↦ inr there
-    ]
+    | inr other ↦ elim (h.among w (subst (λ o. IsSome o)
+        (puts w ∙ cond-false (bytes_eq (label_of e) w) (Some p) (place_in m w) other) some)) [
+          | inl here ↦ inl (somewhere-left es (Some e ∷ []) w here)
+          | inr there ↦ inr there
+        ]
   ];
 }
 
 -- ---- a draft of which nothing is noted
 
-pub draft_settled : (t : Tables) (m : Places) (frames : List Frame) (ns : List Note) (es : Entries) → ns ≡ [] → IsIndex m es → HasOnly m es []
+pub draft_settled : (t : Tables) (m : Places) (frames : List Frame) (ns : List Note) (es : Entries) → ns ≡ [] → IsIndex m es
+    → HasOnly m es []
     → AreFramed t es frames → IsDraft t m frames ns es
 draft_settled t m frames ns es none indexed only framed =
     subst (λ k. IsDraft t m frames k es) (sym none) (record { indexed = indexed; only = only; framed = framed; can_undo = tt; noted = tt })

@@ -16,6 +16,7 @@ pub record Held : Type 0 where
 -- the answer to a transaction is its definition's: the replies and the new library, or the refusal and the old one. Where memory ran out
 -- the library is the old one too
 abbrev pub Answers : Held → List Command → Result (List Reply) ApplyError → Held → Type 0
-Answers old cs (Ok replies) new = (apply old.setting old.library cs ≡ Ok (record { library = new.library; replies = replies })) × (new.setting ≡ old.setting)
+Answers old cs (Ok replies) new = (apply old.setting old.library cs ≡ Ok (record { library = new.library; replies = replies }))
+    × (new.setting ≡ old.setting)
 Answers old cs (Err (Refused refused)) new = (apply old.setting old.library cs ≡ Err refused) × (new ≡ old)
 Answers old cs (Err NoMemory) new = new ≡ old

@@ -1,5 +1,6 @@
 -- What each outcome of a run tells is so in the history of the run.
-use Rattle.std.proofs.Common.{◌≡◌, ◌∙◌, ℕ, zero, suc, ◌≤◌, Bool, true, false, List, [], ◌∷◌, ◌++◌, Some, Result, Ok, Err, length, map, refl, sym, ap, subst, arith}
+use Rattle.std.proofs.Common.{◌≡◌, ◌∙◌, ℕ, zero, suc, ◌≤◌, Bool, true, false, List, [], ◌∷◌, ◌++◌, Some, Result, Ok, Err, length, map, refl}
+use Rattle.std.proofs.Common.{sym, ap, subst, arith}
 use Rattle.std.specs.Prelude.{◌≢◌, All, slice_get, if◌then◌else◌}
 use Rattle.std.specs.List.{AllZip}
 use Rattle.std.proofs.lemmas.List.{take_all, length-map}
@@ -21,8 +22,10 @@ use Rattle.library.proofs.Agreeing.{agreement_stays}
 use Rattle.history.specs.Editors.{Held}
 use Rattle.jobs.specs.declared.outcome.Outcome.{Outcome}
 use Rattle.jobs.specs.declared.outcome.Outcome.TheVariants.{Committed, Read, Refused, TooManyCommands}
-use Rattle.jobs.specs.Outcomes.{Standing, setting_of, standing, at_opening, outcome_of, entries_after, answered, moved, outcome_at, standing_after}
-use Rattle.jobs.specs.Outcomes.{in_turn, after_turns, script_outcomes, after_script, all_outcomes, after_scripts, OutcomeAgrees, OutcomesAgree}
+use Rattle.jobs.specs.Outcomes.{Standing, setting_of, standing, at_opening, outcome_of, entries_after, answered, moved, outcome_at}
+use Rattle.jobs.specs.Outcomes.{standing_after}
+use Rattle.jobs.specs.Outcomes.{in_turn, after_turns, script_outcomes, after_script, all_outcomes, after_scripts, OutcomeAgrees}
+use Rattle.jobs.specs.Outcomes.{OutcomesAgree}
 use Rattle.jobs.proofs.Kept.{IsKept, opening_kept, transaction_kept, script_kept}
 
 -- ---- the history of a run
@@ -42,7 +45,8 @@ longer : (es more : List CodeEntry) → length (map told es) ≤ length (map tol
 longer [] more = omega arith
 longer (e ∷ es) more = let h = longer es more in omega arith
 
-kept_before : (es more : List CodeEntry) (i : ℕ) (e : Entry) → slice_get (map told es) i ≡ Some e → slice_get (map told (es ++ more)) i ≡ Some e
+kept_before : (es more : List CodeEntry) (i : ℕ) (e : Entry) → slice_get (map told es) i ≡ Some e
+    → slice_get (map told (es ++ more)) i ≡ Some e
 kept_before [] more i e h = absurd cc
 kept_before (x ∷ es) more zero e h = h
 kept_before (x ∷ es) more (suc i) e h = kept_before es more i e h
@@ -112,7 +116,8 @@ module _ (s : Setting) (lib0 : List Ranked) where
 
 -- ---- all of them
 
-zip_stays : {X O : Type 0} (R S : X → O → Type 0) → ((x : X) (o : O) → R x o → S x o) → (xs : List X) (os : List O) → AllZip R xs os → AllZip S xs os
+zip_stays : {X O : Type 0} (R S : X → O → Type 0) → ((x : X) (o : O) → R x o → S x o) → (xs : List X) (os : List O) → AllZip R xs os
+    → AllZip S xs os
 zip_stays R S stays [] [] a = tt
 zip_stays R S stays [] (o ∷ os) a = absurd a
 zip_stays R S stays (x ∷ xs) [] a = absurd a
@@ -127,7 +132,8 @@ turns_grow next grows now (x ∷ xs) =
     (grows now x) (turns_grow next grows (next now x) xs)
 
 module _ (s : Setting) (lib0 : List Ranked) where
-  turns_agree : {X O : Type 0} (answer : Standing → X → O) (next : Standing → X → Standing) (P : X → Type 0) (R : List Entry → X → O → Type 0)
+  turns_agree : {X O : Type 0} (answer : Standing → X → O) (next : Standing → X → Standing) (P : X → Type 0)
+      (R : List Entry → X → O → Type 0)
       → ((now : Standing) (x : X) → IsKept s lib0 now → P x → IsKept s lib0 (next now x))
       → ((now : Standing) (x : X) → Grows (map told now.entries) (map told (next now x).entries))
       → ((now : Standing) (x : X) → IsKept s lib0 now → P x → R (map told (next now x).entries) x (answer now x))

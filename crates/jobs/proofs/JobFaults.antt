@@ -149,7 +149,8 @@ run_refused_by_database text texts answer (Proof label g) database only h = data
 run_refused_by_database text texts answer NoMemory database only h = elim h [ ]
 run_refused_by_database text texts answer (Differs n) database only h = elim h [ ]
 
-module _ (text : Bytes) (texts : List Bytes) (db : Contents) (p : Tables) (over : p ≡ db.prelude) (none : (g : Fault) → IsDatabaseFault text g → ⊥)
+module _ (text : Bytes) (texts : List Bytes) (db : Contents) (p : Tables) (over : p ≡ db.prelude)
+    (none : (g : Fault) → IsDatabaseFault text g → ⊥)
     (same : (contents : Contents) → IsChecked text contents → db ≡ contents) where
   -- the first fault of the scripts over the one database that is read
   over_it : (k : ℕ) (g : TextFault) (contents : Contents) → IsChecked text contents → IsFirstFault contents.prelude texts k g

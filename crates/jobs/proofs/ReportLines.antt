@@ -19,6 +19,7 @@ told_on t s i out number mid end all os o within is numbered is_mid is_end befor
     let rest = script_text_from t s (i + 1 + 1) (drop (i + 1) os) in
     let ends : end ≡ (out ++ (decimal s ++ 46 ∷ (decimal (i + 1) ++ 32 ∷ []))) ++ outcome_text t o =
     is_end ∙ ap (λ m. m ++ outcome_text t o) (is_mid ∙ ap (λ n. out ++ n) numbered) in
-    let joined : ((out ++ (decimal s ++ 46 ∷ (decimal (i + 1) ++ 32 ∷ []))) ++ outcome_text t o) ++ rest ≡ out ++ (numbered_text t s (i + 1) o ++ rest) =
+    let joined : ((out ++ (decimal s ++ 46 ∷ (decimal (i + 1) ++ 32 ∷ []))) ++ outcome_text t o) ++ rest
+    ≡ out ++ (numbered_text t s (i + 1) o ++ rest) =
     simp append_assoc in
     ap (λ e. e ++ rest) ends ∙ joined ∙ ap (λ xs. out ++ script_text_from t s (i + 1) xs) (sym (here os i o within is)) ∙ before

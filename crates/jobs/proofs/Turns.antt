@@ -1,5 +1,6 @@
 -- A loop over items in turn: what is done so far, and what is left.
-use Rattle.std.proofs.Common.{◌≡◌, ℕ, suc, ◌+◌, ◌<◌, ◌≤◌, List, [], ◌∷◌, ◌++◌, length, get_or, drop, refl, sym, ap, ◌∙◌, append_assoc, append-nil, add-one}
+use Rattle.std.proofs.Common.{◌≡◌, ℕ, suc, ◌+◌, ◌<◌, ◌≤◌, List, [], ◌∷◌, ◌++◌, length, get_or, drop, refl, sym, ap, ◌∙◌, append_assoc}
+use Rattle.std.proofs.Common.{append-nil, add-one}
 use Rattle.std.specs.Prelude.{All}
 use Rattle.std.proofs.Math.Seq.{drop-cons}
 use Rattle.std.proofs.lemmas.List.{drop_all}
@@ -7,7 +8,8 @@ use Rattle.std.proofs.lemmas.List.Elements.{All-nil, All-push}
 use Rattle.jobs.specs.Outcomes.{in_turn, after_turns}
 
 -- of the items xs, from a place on, i are done: these are their answers, each of which meets P, and now the others follow
-pub record Turns {S X O : Type 0} (answer : S → X → O) (next : S → X → S) (P : O → Type 0) (from now : S) (xs : List X) (i : ℕ) (done : List O) : Type 0 where
+pub record Turns {S X O : Type 0} (answer : S → X → O) (next : S → X → S) (P : O → Type 0) (from now : S) (xs : List X) (i : ℕ)
+    (done : List O) : Type 0 where
   pub answers : in_turn answer next from xs ≡ done ++ in_turn answer next now (drop i xs)
   pub after : after_turns next from xs ≡ after_turns next now (drop i xs)
   pub meets : All P done
@@ -18,7 +20,8 @@ module _ {S X O : Type 0} (answer : S → X → O) (next : S → X → S) (P : O
   begins = record { answers = refl; after = refl; meets = All-nil P }
 
   -- one more is done
-  pub goes_on : (now n : S) (x : X) (o : O) (i : ℕ) (done : List O) → i < length xs → x ≡ get_or xs i x → o ≡ answer now x → n ≡ next now x → P o
+  pub goes_on : (now n : S) (x : X) (o : O) (i : ℕ) (done : List O) → i < length xs → x ≡ get_or xs i x → o ≡ answer now x → n ≡ next now x
+      → P o
       → Turns answer next P from now xs i done → Turns answer next P from n xs (i + 1) (done ++ o ∷ [])
   goes_on now n x o i done within is_x is_o is_n meets_o t =
       let rest = drop (suc i) xs in

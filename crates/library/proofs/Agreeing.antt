@@ -47,4 +47,5 @@ legal_replies_fit s lib0 h i cs replies v fit legal at =
     let is = get_or_from_slice_get h i e open_entry at in
     let commands : All (CommandFits s.prelude) cs = subst (EntryFits s.prelude) is (fit i open_entry within) in
     let answer = legal i cs replies at in
-    replies_fit s (after s lib0 h i) cs (record { library = answer.0; replies = replies }) (fronts_verify s lib0 h i v fit) commands answer.1
+    replies_fit s (after s lib0 h i) cs (record { library = answer.0; replies = replies })
+    (fronts_verify s lib0 h i v fit) commands answer.1

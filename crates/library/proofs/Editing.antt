@@ -26,8 +26,7 @@ use Rattle.library.specs.Library.{Setting, Verifies, label_of, citable, in_expor
 use Rattle.library.specs.Edits.{Edited, Tests, tested, of_found, done, has, found, cites, citers, added, changed, with_rank, with_proof}
 use Rattle.library.specs.Edits.{rename, without, where_so, is_axiom, bad_rank, bad_label, cites_not_below, still_cited, fault_of, proof_fails}
 use Rattle.library.specs.Edits.{add_tests, reprove_tests, rename_tests, move_tests, shown, line, edit}
-use Rattle.library.specs.Library.{highest_rank}
-use Rattle.library.specs.Fitting.{CommandFits}
+use Rattle.library.specs.Fitting.{CommandFits, highest_rank}
 use Rattle.library.specs.Transactions.{Applied, with_reply, then_apply, apply_from, apply, library_of}
 use Rattle.library.specs.Laws.{EditsVerify, TransactionsVerify}
 use Rattle.library.proofs.Adding.{add_verifies}

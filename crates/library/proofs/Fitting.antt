@@ -12,7 +12,8 @@ use Rattle.library.specs.declared.command.Reply.{Reply}
 use Rattle.library.specs.declared.reason.Reason.{Reason}
 use Rattle.library.specs.declared.reason.Refused.{Refused as Refusal}
 use Rattle.library.specs.Library.{Setting, Verifies}
-use Rattle.library.specs.Edits.{Edited, Tests, tested, of_found, found, add_tests, reprove_tests, rename_tests, move_tests, still_cited, is_labelled, edit}
+use Rattle.library.specs.Edits.{Edited, Tests, tested, of_found, found, add_tests, reprove_tests, rename_tests, move_tests, still_cited}
+use Rattle.library.specs.Edits.{is_labelled, edit}
 use Rattle.library.specs.Fitting.{CommandFits, ReplyFits}
 use Rattle.library.specs.Transactions.{Applied, with_reply, then_apply, apply_from}
 use Rattle.library.specs.Laws.{RepliesFit}
@@ -66,7 +67,8 @@ abbrev AppliedFits : Setting → Result Applied Refusal → Type 0
 AppliedFits s (Ok a) = All (ReplyFits s.prelude) a.replies
 AppliedFits s (Err r) = Unit {0}
 
-reply_fits : (s : Setting) (reply : Reply) (r : Result Applied Refusal) → ReplyFits s.prelude reply → AppliedFits s r → AppliedFits s (with_reply reply r)
+reply_fits : (s : Setting) (reply : Reply) (r : Result Applied Refusal) → ReplyFits s.prelude reply → AppliedFits s r
+    → AppliedFits s (with_reply reply r)
 reply_fits s reply (Ok a) h rest = All-cons (ReplyFits s.prelude) reply a.replies h rest
 reply_fits s reply (Err r) h rest = tt
 

@@ -15,7 +15,8 @@ entry_verifies s lib open_entry v fit = v
 entry_verifies s lib void_entry v fit = v
 entry_verifies s lib (done_entry cs replies) v fit = transaction_verifies s lib cs v fit
 
-all_verify : (s : Setting) (lib : List Ranked) (es : List Entry) → Verifies s lib → EntriesFit s.prelude es → Verifies s (after_all s lib es)
+all_verify : (s : Setting) (lib : List Ranked) (es : List Entry) → Verifies s lib → EntriesFit s.prelude es
+    → Verifies s (after_all s lib es)
 all_verify s lib [] v fit = v
 all_verify s lib (e ∷ es) v fit =
     all_verify s (after_entry s lib e) es (entry_verifies s lib e v (fit zero e (omega arith))) (λ i d lt. fit (suc i) d (omega arith))

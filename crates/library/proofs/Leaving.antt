@@ -33,7 +33,8 @@ abbrev AppliedLeaves : List Ranked → Result Applied Refusal → Type 0
 AppliedLeaves lib (Ok a) = a.library ≡ lib
 AppliedLeaves lib (Err r) = Unit {0}
 
-reply_leaves : (lib : List Ranked) (reply : Reply) (r : Result Applied Refusal) → AppliedLeaves lib r → AppliedLeaves lib (with_reply reply r)
+reply_leaves : (lib : List Ranked) (reply : Reply) (r : Result Applied Refusal) → AppliedLeaves lib r
+    → AppliedLeaves lib (with_reply reply r)
 reply_leaves lib reply (Ok a) h = h
 reply_leaves lib reply (Err r) h = tt
 
@@ -48,7 +49,8 @@ unfolding apply_from
 apply_from_leaves s n lib now [] same reads = same
 apply_from_leaves s n lib now (c ∷ cs) same reads =
     let both = or_parts (is_edit c) (has_edit cs) reads in
-    then_leaves lib n (edit s now c) (λ next. apply_from s (n + 1) next cs) (subst (λ l. Leaves l (edit s now c)) same (edit_leaves s now c both.0))
+    then_leaves lib n (edit s now c) (λ next. apply_from s (n + 1) next cs)
+    (subst (λ l. Leaves l (edit s now c)) same (edit_leaves s now c both.0))
     (λ next is. apply_from_leaves s (n + 1) lib next cs is both.1)
 
 pub apply_leaves : ReadsLeave

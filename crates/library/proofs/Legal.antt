@@ -32,7 +32,8 @@ module _ (s : Setting) (lib : List Ranked) (h : List Entry) (i : ℕ) (e : Entry
   pub after-more : i < length h → e ≡ get_or h i e → after s lib h (i + 1) ≡ after_entry s (after s lib h i) e
   after-more lt is = ap (after_all s lib) (one_more lt is) ∙ after_all-more s lib (take i h) e
 
-  pub goes_on : i < length h → e ≡ get_or h i e → IsLegal s lib (take i h) → IsRepeated s (after s lib h i) e → IsLegal s lib (take (i + 1) h)
+  pub goes_on : i < length h → e ≡ get_or h i e → IsLegal s lib (take i h) → IsRepeated s (after s lib h i) e
+      → IsLegal s lib (take (i + 1) h)
   goes_on lt is legal repeated = subst (λ g. IsLegal s lib g) (sym (one_more lt is)) (legal_more s lib (take i h) e legal repeated)
 
 -- an entry that the program keeps, as the definitions see it

@@ -1,5 +1,6 @@
 -- What one command does to a library, and its reply, or why it is refused.
-use Rattle.std.specs.Prelude.{ℕ, Bool, true, false, ◌==◌, ◌&&◌, nat_le, List, [], ◌∷◌, ◌++◌, Option, Some, None, Result, Ok, Err, map, filter}
+use Rattle.std.specs.Prelude.{ℕ, Bool, true, false, ◌==◌, ◌&&◌, nat_le, List, [], ◌∷◌, ◌++◌, Option, Some, None, Result, Ok, Err, map}
+use Rattle.std.specs.Prelude.{filter}
 use Rattle.std.specs.Prelude.{length, count_by, find, if◌then◌else◌}
 use mathlib.Core.Bool.{not}
 use Rattle.std.specs.List.{list_any}

@@ -2,7 +2,7 @@
 use Rattle.std.specs.Prelude.{◌≤◌, length}
 use Rattle.mmsyntax.specs.Tables.{Tables}
 use Rattle.mmsyntax.specs.Assertions.{Fits}
-use Rattle.library.specs.Library.{highest_rank}
+pub use Rattle.library.specs.Library.{highest_rank}
 use Rattle.library.specs.declared.command.Command.{Command}
 use Rattle.library.specs.declared.command.Command.TheVariants.{Add, Reprove, Rename, Move, Delete, Show, List}
 use Rattle.library.specs.declared.command.Reply.{Reply}

@@ -97,7 +97,7 @@ AgreementStays =
     (s : Setting) (lib0 : List Ranked) (g h : List Entry) (cs : List Command) (a : Answer) → Grows g h → IsSettledBelow g a
     → Agrees s lib0 g cs a → Agrees s lib0 h cs a
 
--- in a legal history, a transaction that committed with number n has the replies of the definition over the library after the entries before
+-- in a legal history, a transaction that committed with a number has the definition's replies over the library after the entries before
 abbrev pub CommitsAreLegal : Type 0
 CommitsAreLegal =
     (s : Setting) (lib0 : List Ranked) (h : List Entry) (cs : List Command) (k : ℕ) (replies : List Reply) → IsLegal s lib0 h

@@ -5,7 +5,8 @@ use Rattle.mmtext.specs.FaultNames.{numbered_name}
 use Rattle.proofcheck.specs.FaultNames.{printed_fault}
 use Rattle.library.specs.declared.reason.Reason.{Reason}
 use Rattle.library.specs.declared.reason.Reason.TheVariants.{UnknownLabel, LabelTaken, BadLabel, BadRank, CitesUnknown, CitedNotLower}
-use Rattle.library.specs.declared.reason.Reason.TheVariants.{CiterNotHigher, StillCited, NotATheorem, AxiomNotAllowed, ProofFails, LibraryFull}
+use Rattle.library.specs.declared.reason.Reason.TheVariants.{CiterNotHigher, StillCited, NotATheorem, AxiomNotAllowed, ProofFails}
+use Rattle.library.specs.declared.reason.Reason.TheVariants.{LibraryFull}
 
 abbrev pub number_of : Reason → ℕ
 number_of UnknownLabel = 1

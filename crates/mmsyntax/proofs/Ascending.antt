@@ -46,7 +46,11 @@ before_trans p q r h g = before_from p r (parts_trans (before_parts p q h) (befo
     parts_trans (inl a) (inl b) = inl (omega arith)
     parts_trans (inl a) (inr b) = inl (let e : q.0 ≡ r.0 = b.0 in omega arith)
     parts_trans (inr a) (inl b) = inl (let e : p.0 ≡ q.0 = a.0 in omega arith)
-    parts_trans (inr a) (inr b) = inr (let e : p.0 ≡ q.0 = a.0 in let f : q.0 ≡ r.0 = b.0 in omega arith, let e : p.1 < q.1 = a.1 in let f : q.1 < r.1 = b.1 in omega arith)
+    parts_trans (inr a) (inr b) = inr (
+      let e : p.0 ≡ q.0 = a.0 in let f : q.0 ≡ r.0 = b.0 in omega arith,
+      let e : p.1 < q.1 = a.1 in
+          let f : q.1 < r.1 = b.1 in omega arith,
+    )
 
 pub by_next : (ps : List (ℕ × ℕ)) → AreAscending ps → AscendByNext ps
 by_next [] a = tt
@@ -69,7 +73,8 @@ nothing_ascends [] h = tt
 nothing_ascends (p ∷ ps) h = absurd (omega arith)
 
 -- the first pair comes before the next, where one is left
-pub first_two : (ps : List (ℕ × ℕ)) (n : ℕ) (d : ℕ × ℕ) → 1 ≤ length (take n (drop 1 ps)) → AscendByNext ps → ComesBefore (get_or ps 0 d) (get_or (take n (drop 1 ps)) 0 d)
+pub first_two : (ps : List (ℕ × ℕ)) (n : ℕ) (d : ℕ × ℕ) → 1 ≤ length (take n (drop 1 ps)) → AscendByNext ps
+    → ComesBefore (get_or ps 0 d) (get_or (take n (drop 1 ps)) 0 d)
 first_two ps zero d h a = absurd (omega arith)
 first_two [] (suc n) d h a = absurd (omega arith)
 first_two (p ∷ []) (suc n) d h a = absurd (omega arith)

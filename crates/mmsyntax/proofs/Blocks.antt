@@ -39,8 +39,14 @@ hold_append : (k m n : Known) (b c d : Block) (ps qs : List Piece) → HoldAll k
 hold_append k m n b c d [] qs h g = subst (λ x. HoldAll x b qs n d) (sym h.0) (subst (λ x. HoldAll m x qs n d) (sym h.1) g)
 hold_append k m n b c d (p ∷ ps) qs h g = (h.0, h.1, h.2, hold_append h.0 m n h.1 c d ps qs h.3 g)
 
-unit_from : (k next after : Known) (held : Block) (a : Assertion) (ps : List Piece) (claim : Claim) → HoldAll k no_block ps next held → Claims next held claim a → with_assertion next a ≡ after → Declares k (unit_of ps claim) after
-unit_from k next after held a [] claim h c e = (a, subst (λ x. Claims x no_block claim a) (sym h.0) (subst (λ x. Claims next x claim a) (sym h.1) c), ap (λ x. with_assertion x a) h.0 ∙ e)
+unit_from : (k next after : Known) (held : Block) (a : Assertion) (ps : List Piece) (claim : Claim) → HoldAll k no_block ps next held
+    → Claims next held claim a → with_assertion next a ≡ after → Declares k (unit_of ps claim) after
+unit_from k next after held a [] claim h c e = (
+  a,
+  subst (λ x. Claims x no_block claim a) (sym h.0)
+      (subst (λ x. Claims next x claim a) (sym h.1) c),
+  ap (λ x. with_assertion x a) h.0 ∙ e,
+)
 unit_from k next after held a (p ∷ ps) claim h c e = (next, held, a, h, c, e)
 
 made_expressions : (label : Word) (n : ℕ) (es : List (List Symbol)) → expressions (made label n es) ≡ es
@@ -48,7 +54,8 @@ unfolding made
 made_expressions label n [] = refl
 made_expressions label n (e ∷ es) = ap (λ x. e ∷ x) (made_expressions label (suc n) es)
 
-made_cons : (label : Word) (n : ℕ) (e : List Symbol) (es : List (List Symbol)) → made label n (e ∷ es) ≡ record { label = hypothesis_label label (suc n); expression = e } ∷ made label (suc n) es
+made_cons : (label : Word) (n : ℕ) (e : List Symbol) (es : List (List Symbol))
+    → made label n (e ∷ es) ≡ record { label = hypothesis_label label (suc n); expression = e } ∷ made label (suc n) es
 unfolding made
 made_cons label n e es = refl
 
@@ -63,36 +70,49 @@ module _ (t : Tables) (s : AreSound t) where
 
   -- ---- $d
 
-  pairs_hold : (k : Known) (front rest : List (ℕ × ℕ)) → k.tables ≡ t → AllByRecursion (IsPairOf (length t.floats)) rest → AreAscending (front ++ rest) → length (front ++ rest) ≤ 65535
+  pairs_hold : (k : Known) (front rest : List (ℕ × ℕ)) → k.tables ≡ t → AllByRecursion (IsPairOf (length t.floats)) rest
+      → AreAscending (front ++ rest) → length (front ++ rest) ≤ 65535
       → HoldAll k (record { pairs = front; hyps = [] }) (distinct_pieces t rest) k (record { pairs = front ++ rest; hyps = [] })
   pairs_hold k front [] same h a fit = (refl, ap (λ x. record { pairs = x; hyps = [] }) (sym (append-nil front)))
   pairs_hold k front (p ∷ rest) same h a fit =
       let more : (front ++ p ∷ []) ++ rest ≡ front ++ p ∷ rest = append_assoc front (p ∷ []) rest in (
         k,
         record { pairs = front ++ p ∷ []; hyps = [] },
-        (refl, subst (λ x. Restricts x (record { pairs = front; hyps = [] }) [] (symbol_word t (Var p.0) ∷ symbol_word t (Var p.1) ∷ []) (record { pairs = front ++ p ∷ []; hyps = [] })) (sym same) (restricts_again t s front p rest [] h.0 a fit)),
-        subst (λ x. HoldAll k (record { pairs = front ++ p ∷ []; hyps = [] }) (distinct_pieces t rest) k (record { pairs = x; hyps = [] })) more
-            (pairs_hold k (front ++ p ∷ []) rest same h.1 (subst AreAscending (sym more) a) (subst (λ (x : List (ℕ × ℕ)). length x ≤ 65535) (sym more) fit)),
+        (
+          refl,
+          subst (λ x. Restricts x (record { pairs = front; hyps = [] }) [] (symbol_word t (Var p.0) ∷ symbol_word t (Var p.1) ∷ [])
+              (record { pairs = front ++ p ∷ []; hyps = [] })) (sym same) (restricts_again t s front p rest [] h.0 a fit),
+        ),
+        subst (λ x. HoldAll k (record { pairs = front ++ p ∷ []; hyps = [] }) (distinct_pieces t rest) k (record { pairs = x; hyps = [] }))
+            more
+            (pairs_hold k (front ++ p ∷ []) rest same h.1 (subst AreAscending (sym more) a)
+            (subst (λ (x : List (ℕ × ℕ)). length x ≤ 65535) (sym more) fit)),
       )
 
   -- ---- $e
 
-  module _ (closed : Bool) (front : List Assertion) (label : Word) (p : IsPlainLabel label (is_some (meaning t label))) (no_dots : AllByRecursion (λ w. has_dot w ≡ false) (labels_of front)) where
-    new_number : (n : ℕ) (hs : List Word) → n < 1000 → AllByRecursion (IsEarlier (labels_of front) label n) hs → is_used (k3 closed front hs) (hypothesis_label label (suc n)) ≡ false
+  module _ (closed : Bool) (front : List Assertion) (label : Word) (p : IsPlainLabel label (is_some (meaning t label)))
+      (no_dots : AllByRecursion (λ w. has_dot w ≡ false) (labels_of front)) where
+    new_number : (n : ℕ) (hs : List Word) → n < 1000 → AllByRecursion (IsEarlier (labels_of front) label n) hs
+        → is_used (k3 closed front hs) (hypothesis_label label (suc n)) ≡ false
     new_number n hs lt old =
         let w = hypothesis_label label (suc n) in
         not_used (k3 closed front hs) w (record {
           not_named = number_not_named t s label (suc n) p.some p.label (omega arith) (omega arith);
           not_label = none_of (λ v. has_dot v ≡ false) w (labels_of front) (λ v h. differ has_dot w v (number_dot label _) h) no_dots;
-          not_hypothesis = none_of (IsEarlier (labels_of front) label n) w hs (λ v h. not_earlier (labels_of front) label n v p.dots (omega arith) h) old;
+          not_hypothesis = none_of (IsEarlier (labels_of front) label n) w hs
+              (λ v h. not_earlier (labels_of front) label n v p.dots (omega arith) h) old;
         })
 
-    number_pass : (n : ℕ) (hs : List Word) (b : Block) → n ≡ length b.hyps → n < 1000 → AllByRecursion (IsEarlier (labels_of front) label n) hs → Pass (hypothesis_label_tests (k3 closed front hs) b (hypothesis_label label (suc n)))
+    number_pass : (n : ℕ) (hs : List Word) (b : Block) → n ≡ length b.hyps → n < 1000
+        → AllByRecursion (IsEarlier (labels_of front) label n) hs
+        → Pass (hypothesis_label_tests (k3 closed front hs) b (hypothesis_label label (suc n)))
     number_pass n hs b e lt old =
         let w = hypothesis_label label (suc n) in
         let k = k3 closed front hs in
         let tests = hypothesis_label_tests k b w in
-        none_cond (ltb 260 (length w)) BadLabel (first_fault (drop 1 tests)) (le-ltb 260 (length w) (number_short label (suc n) p.short (omega arith)))
+        none_cond (ltb 260 (length w)) BadLabel (first_fault (drop 1 tests))
+        (le-ltb 260 (length w) (number_short label (suc n) p.short (omega arith)))
         (none_cond (is_used k w) RepeatedLabel (first_fault (drop 2 tests)) (new_number n hs lt old)
         (none_cond (leb 1000 (length b.hyps)) TooLong None (lt-leb 1000 (length b.hyps) (omega arith)) refl))
 
@@ -100,9 +120,11 @@ module _ (t : Tables) (s : AreSound t) where
     record HypothesesHold (hs : List Word) (b : Block) (n : ℕ) (es : List (List Symbol)) : Type 0 where
       behind : List Word
       numbered : AllByRecursion (IsNumbered (labels_of front ++ label ∷ [])) behind
-      hold : HoldAll (k3 closed front hs) b (hypothesis_pieces t label n es) (k3 closed front behind) (record { pairs = b.pairs; hyps = b.hyps ++ made label n es })
+      hold : HoldAll (k3 closed front hs) b (hypothesis_pieces t label n es) (k3 closed front behind)
+          (record { pairs = b.pairs; hyps = b.hyps ++ made label n es })
 
-    hypotheses_hold : (hs : List Word) (b : Block) (n : ℕ) (es : List (List Symbol)) → n ≡ length b.hyps → n + length es ≤ 1000 → AllByRecursion (IsEarlier (labels_of front) label n) hs → AllByRecursion (IsExpression t) es → HypothesesHold hs b n es
+    hypotheses_hold : (hs : List Word) (b : Block) (n : ℕ) (es : List (List Symbol)) → n ≡ length b.hyps → n + length es ≤ 1000
+        → AllByRecursion (IsEarlier (labels_of front) label n) hs → AllByRecursion (IsExpression t) es → HypothesesHold hs b n es
     hypotheses_hold hs b n [] e fit old h = record {
       behind = hs;
       numbered = all_weaker (IsEarlier (labels_of front) label n) (IsNumbered (labels_of front ++ label ∷ [])) hs (λ w x. x.numbered) old;
@@ -112,18 +134,27 @@ module _ (t : Tables) (s : AreSound t) where
         let w = hypothesis_label label (suc n) in
         let new : Hypothesis = record { label = w; expression = x } in
         let small : suc n < 2 ^ 64 = omega arith in
-        let older = all_weaker (IsEarlier (labels_of front) label n) (IsEarlier (labels_of front) label (suc n)) hs (still_earlier (labels_of front) label n) old in
+        let older = all_weaker (IsEarlier (labels_of front) label n) (IsEarlier (labels_of front) label (suc n)) hs
+        (still_earlier (labels_of front) label n) old in
         let now = all_push (IsEarlier (labels_of front) label (suc n)) hs w older (newest (labels_of front) label n p.dots small) in
-        let rest = hypotheses_hold (hs ++ w ∷ []) (with_hypothesis b w x) (suc n) es (omega (arith, length-append b.hyps (new ∷ []))) (omega arith) now h.1 in
-        let all : (b.hyps ++ new ∷ []) ++ made label (suc n) es ≡ b.hyps ++ made label n (x ∷ es) = append_assoc b.hyps (new ∷ []) (made label (suc n) es) ∙ ap (λ y. b.hyps ++ y) (sym (made_cons label n x es)) in
+        let rest = hypotheses_hold (hs ++ w ∷ []) (with_hypothesis b w x) (suc n) es (omega (arith, length-append b.hyps (new ∷ [])))
+        (omega arith) now h.1 in
+        let all : (b.hyps ++ new ∷ []) ++ made label (suc n) es ≡ b.hyps ++ made label n (x ∷ es) =
+        append_assoc b.hyps (new ∷ []) (made label (suc n) es) ∙ ap (λ y. b.hyps ++ y) (sym (made_cons label n x es)) in
         record {
           behind = rest.behind;
           numbered = rest.numbered;
           hold = (
             k3 closed front (hs ++ w ∷ []),
             with_hypothesis b w x,
-            (number_label label (suc n) p.label small, number_pass n hs b e (omega arith) old, some_words t s x h.0, (x, reads_again t s x h.0, refl, refl)),
-            subst (λ y. HoldAll (k3 closed front (hs ++ w ∷ [])) (with_hypothesis b w x) (hypothesis_pieces t label (suc n) es) (k3 closed front rest.behind) (record { pairs = b.pairs; hyps = y })) all rest.hold,
+            (
+              number_label label (suc n) p.label small,
+              number_pass n hs b e (omega arith) old,
+              some_words t s x h.0,
+              (x, reads_again t s x h.0, refl, refl),
+            ),
+            subst (λ y. HoldAll (k3 closed front (hs ++ w ∷ [])) (with_hypothesis b w x) (hypothesis_pieces t label (suc n) es)
+                (k3 closed front rest.behind) (record { pairs = b.pairs; hyps = y })) all rest.hold,
           );
         }
 
@@ -136,10 +167,13 @@ module _ (t : Tables) (s : AreSound t) where
   abbrev unit_with : Word → List (ℕ × ℕ) → List Symbol → Kind → List (List Symbol) → List Step → Assertion
   unit_with w ps e kind hs p = record { label = w; kind = kind; pairs = ps; hyps = hs; statement = e; proof = p }
 
-  same_unit : (w : Word) (k l : Kind) (ps : List (ℕ × ℕ)) (hs gs : List (List Symbol)) (e : List Symbol) (p q : List Step) → l ≡ k → gs ≡ hs → q ≡ p → unit_with w ps e l gs q ≡ unit_with w ps e k hs p
-  same_unit w k l ps hs gs e p q i j m = ap (λ x. unit_with w ps e x gs q) i ∙ ap (λ x. unit_with w ps e k x q) j ∙ ap (λ x. unit_with w ps e k hs x) m
+  same_unit : (w : Word) (k l : Kind) (ps : List (ℕ × ℕ)) (hs gs : List (List Symbol)) (e : List Symbol) (p q : List Step) → l ≡ k → gs ≡ hs
+      → q ≡ p → unit_with w ps e l gs q ≡ unit_with w ps e k hs p
+  same_unit w k l ps hs gs e p q i j m = ap (λ x. unit_with w ps e x gs q) i ∙ ap (λ x. unit_with w ps e k x q) j
+      ∙ ap (λ x. unit_with w ps e k hs x) m
 
-  claim_of_unit : (k : Known) (a : Assertion) (kind : Kind) → k.tables ≡ t → IsUnit t a → IsPlainLabel a.label (is_some (meaning t a.label)) → Pass (assertion_label_tests k a.label) → a.kind ≡ kind
+  claim_of_unit : (k : Known) (a : Assertion) (kind : Kind) → k.tables ≡ t → IsUnit t a → IsPlainLabel a.label (is_some (meaning t a.label))
+      → Pass (assertion_label_tests k a.label) → a.kind ≡ kind
       → Claims k (held a) (claim_of_kind kind a.label (map (symbol_word t) a.statement) (map (step_word t a.label) a.proof)) a
   claim_of_unit k a Axiom same u p pass e =
       let x = u.fits.statement in (
@@ -149,7 +183,8 @@ module _ (t : Tables) (s : AreSound t) where
         (
           a.statement,
           subst (λ y. ReadsAfter y [] (map (symbol_word t) a.statement) a.statement) (sym same) (reads_again t s a.statement x),
-          same_unit a.label a.kind Axiom a.pairs a.hyps (expressions (made a.label 0 a.hyps)) a.statement a.proof [] (sym e) (made_expressions a.label 0 a.hyps) (sym (u.fits.no_axiom_proof e)),
+          same_unit a.label a.kind Axiom a.pairs a.hyps (expressions (made a.label 0 a.hyps)) a.statement a.proof [] (sym e)
+              (made_expressions a.label 0 a.hyps) (sym (u.fits.no_axiom_proof e)),
         ),
       )
   claim_of_unit k a Theorem same u p pass e =
@@ -157,7 +192,8 @@ module _ (t : Tables) (s : AreSound t) where
       let hyps = made a.label 0 a.hyps in
       let few : length a.hyps ≤ 1000 = u.fits.few_hyps in
       let found = λ (n : ℕ) (lt : n < length a.hyps). made_named a.label 0 n n a.hyps p.dots (omega arith) lt (omega arith) in
-      let steps = steps_again t s a.label p.some p.label hyps (length a.hyps) few (made_dots a.label 0 a.hyps) found [] a.proof (recursion_from_All (IsNameable t (length a.hyps)) a.proof u.steps) u.fits.few_steps in (
+      let steps = steps_again t s a.label p.some p.label hyps (length a.hyps) few (made_dots a.label 0 a.hyps) found [] a.proof
+      (recursion_from_All (IsNameable t (length a.hyps)) a.proof u.steps) u.fits.few_steps in (
         p.label,
         pass,
         some_words t s a.statement x,
@@ -167,7 +203,8 @@ module _ (t : Tables) (s : AreSound t) where
           a.proof,
           subst (λ y. ReadsAfter y [] (map (symbol_word t) a.statement) a.statement) (sym same) (reads_again t s a.statement x),
           subst (λ y. StepsAfter y hyps [] (map (step_word t a.label) a.proof) a.proof) (sym same) steps,
-          same_unit a.label a.kind Theorem a.pairs a.hyps (expressions hyps) a.statement a.proof a.proof (sym e) (made_expressions a.label 0 a.hyps) refl,
+          same_unit a.label a.kind Theorem a.pairs a.hyps (expressions hyps) a.statement a.proof a.proof (sym e)
+              (made_expressions a.label 0 a.hyps) refl,
         ),
       )
     where
@@ -183,27 +220,36 @@ module _ (t : Tables) (s : AreSound t) where
     pub numbered : AllByRecursion (IsNumbered (labels_of (front ++ a ∷ []))) behind
     pub declares : Declares (k3 closed front hs) (unit_statement t a) (k3 true (front ++ a ∷ []) behind)
 
-  pub unit_declares : (closed : Bool) (front : List Assertion) (hs : List Word) (a : Assertion) → IsUnit t a → IsTrue (is_lawful_label t a.label) → AllByRecursion (λ w. has_dot w ≡ false) (labels_of front) → list_any (bytes_eq a.label) (labels_of front) ≡ false → length front < 4096
+  pub unit_declares : (closed : Bool) (front : List Assertion) (hs : List Word) (a : Assertion) → IsUnit t a
+      → IsTrue (is_lawful_label t a.label) → AllByRecursion (λ w. has_dot w ≡ false) (labels_of front)
+      → list_any (bytes_eq a.label) (labels_of front) ≡ false → length front < 4096
       → AllByRecursion (IsNumbered (labels_of front)) hs → UnitDeclares closed front hs a
   unit_declares closed front hs a u lawful dots new room old =
       let k = k3 closed front hs in
       let p = plain_label a.label (is_some (meaning t a.label)) lawful in
       let few : length a.hyps ≤ 1000 = u.fits.few_hyps in
-      let first = pairs_hold k [] a.pairs refl (recursion_from_All (IsPairOf (length t.floats)) a.pairs u.fits.pairs_within) u.fits.pairs_ascend u.fits.few_pairs in
-      let earlier_all = all_weaker (IsNumbered (labels_of front)) (IsEarlier (labels_of front) a.label 0) hs (λ w x. earlier (labels_of front) a.label w new x) old in
-      let second = hypotheses_hold closed front a.label p dots hs (record { pairs = a.pairs; hyps = [] }) 0 a.hyps refl (omega arith) earlier_all (recursion_from_All (IsExpression t) a.hyps u.fits.hyps) in
+      let first = pairs_hold k [] a.pairs refl (recursion_from_All (IsPairOf (length t.floats)) a.pairs u.fits.pairs_within)
+      u.fits.pairs_ascend u.fits.few_pairs in
+      let earlier_all = all_weaker (IsNumbered (labels_of front)) (IsEarlier (labels_of front) a.label 0) hs
+      (λ w x. earlier (labels_of front) a.label w new x) old in
+      let second = hypotheses_hold closed front a.label p dots hs (record { pairs = a.pairs; hyps = [] }) 0 a.hyps refl
+      (omega arith) earlier_all (recursion_from_All (IsExpression t) a.hyps u.fits.hyps) in
       let next = k3 closed front second.behind in
       let labels : labels_of (front ++ a ∷ []) ≡ labels_of front ++ a.label ∷ [] = map-append (λ x. x.label) front (a ∷ []) in
       let number = second.numbered in
-      let absent : list_any (bytes_eq a.label) second.behind ≡ false = none_of (IsNumbered (labels_of front ++ a.label ∷ [])) a.label second.behind (λ v x. differ (λ u. not (has_dot u)) a.label v (ap not p.dots) (ap not (ap has_dot x.is_it ∙ number_dot x.label _))) number in
+      let absent : list_any (bytes_eq a.label) second.behind ≡ false =
+      none_of (IsNumbered (labels_of front ++ a.label ∷ [])) a.label second.behind
+      (λ v x. differ (λ u. not (has_dot u)) a.label v (ap not p.dots) (ap not (ap has_dot x.is_it ∙ number_dot x.label _))) number in
       let unused = not_used next a.label (record { not_named = p.new; not_label = new; not_hypothesis = absent }) in
       let word = label_word a.label (is_some (meaning t a.label)) p in
-      let pass : Pass (assertion_label_tests next a.label) = none_cond _ _ _ word.plain (none_cond _ _ _ unused (none_cond _ _ _ (lt-leb 4096 (length front) room) refl)) in
+      let pass : Pass (assertion_label_tests next a.label) =
+      none_cond _ _ _ word.plain (none_cond _ _ _ unused (none_cond _ _ _ (lt-leb 4096 (length front) room) refl)) in
       record {
         behind = second.behind;
         numbered = subst (λ ls. AllByRecursion (IsNumbered ls) second.behind) (sym labels) number;
         declares = unit_from k next (k3 true (front ++ a ∷ []) second.behind) (held a) a _ (claim_of t a)
-            (hold_append k k next no_block (record { pairs = a.pairs; hyps = [] }) (held a) (distinct_pieces t a.pairs) (hypothesis_pieces t a.label 0 a.hyps) first second.hold)
+            (hold_append k k next no_block (record { pairs = a.pairs; hyps = [] }) (held a) (distinct_pieces t a.pairs)
+            (hypothesis_pieces t a.label 0 a.hyps) first second.hold)
             (claim_of_unit next a a.kind refl u p pass refl) refl;
       }
 
@@ -213,8 +259,10 @@ module _ (t : Tables) (s : AreSound t) where
     pub declares : DeclareAll (k3 closed front hs) (map (unit_statement t) rest) known
     pub whole : database_of known ≡ record { prelude = t; assertions = front ++ rest }
 
-  pub units_declare : (closed : Bool) (front : List Assertion) (hs : List Word) (rest : List Assertion) → AllByRecursion (IsUnit t) rest → AllByRecursion (λ a. IsTrue (is_lawful_label t a.label)) rest → AllByRecursion (λ w. has_dot w ≡ false) (labels_of front)
-      → Distinct bytes_eq (labels_of (front ++ rest)) → length (front ++ rest) ≤ 4096 → AllByRecursion (IsNumbered (labels_of front)) hs → UnitsDeclare closed front hs rest
+  pub units_declare : (closed : Bool) (front : List Assertion) (hs : List Word) (rest : List Assertion) → AllByRecursion (IsUnit t) rest
+      → AllByRecursion (λ a. IsTrue (is_lawful_label t a.label)) rest → AllByRecursion (λ w. has_dot w ≡ false) (labels_of front)
+      → Distinct bytes_eq (labels_of (front ++ rest)) → length (front ++ rest) ≤ 4096 → AllByRecursion (IsNumbered (labels_of front)) hs
+      → UnitsDeclare closed front hs rest
   units_declare closed front hs [] u l dots d fit old = record {
     known = k3 closed front hs;
     declares = refl;
@@ -222,10 +270,19 @@ module _ (t : Tables) (s : AreSound t) where
   }
   units_declare closed front hs (a ∷ rest) u l dots d fit old =
       let p = plain_label a.label (is_some (meaning t a.label)) l.0 in
-      let new = distinct_front bytes_eq bytes_eq-sym (labels_of front) (labels_of rest) a.label (subst (Distinct bytes_eq) (map-append (λ x. x.label) front (a ∷ rest)) d) in
+      let new = distinct_front bytes_eq bytes_eq-sym (labels_of front) (labels_of rest) a.label
+      (subst (Distinct bytes_eq) (map-append (λ x. x.label) front (a ∷ rest)) d) in
       let one = unit_declares closed front hs a u.0 l.0 dots new (omega (arith, length-append front (a ∷ rest))) old in
       let more : (front ++ a ∷ []) ++ rest ≡ front ++ a ∷ rest = append_assoc front (a ∷ []) rest in
       let labels : labels_of (front ++ a ∷ []) ≡ labels_of front ++ a.label ∷ [] = map-append (λ x. x.label) front (a ∷ []) in
-      let dots' = subst (AllByRecursion (λ w. has_dot w ≡ false)) (sym labels) (all_push (λ w. has_dot w ≡ false) (labels_of front) a.label dots p.dots) in
-      let all = units_declare true (front ++ a ∷ []) one.behind rest u.1 l.1 dots' (subst (λ xs. Distinct bytes_eq (labels_of xs)) (sym more) d) (subst (λ (x : List Assertion). length x ≤ 4096) (sym more) fit) one.numbered in
-      record { known = all.known; declares = (k3 true (front ++ a ∷ []) one.behind, one.declares, all.declares); whole = all.whole ∙ ap (λ x. record { prelude = t; assertions = x }) more }
+      let dots' = subst (AllByRecursion (λ w. has_dot w ≡ false)) (sym labels)
+      (all_push (λ w. has_dot w ≡ false) (labels_of front) a.label dots p.dots) in
+      let all = units_declare true (front ++ a ∷ []) one.behind rest u.1 l.1 dots'
+      (subst (λ xs. Distinct bytes_eq (labels_of xs)) (sym more) d)
+      (subst (λ (x : List Assertion). length x ≤ 4096) (sym more) fit) one.numbered in
+      record {
+        known = all.known;
+        declares = (k3 true (front ++ a ∷ []) one.behind, one.declares, all.declares);
+        whole =
+            all.whole ∙ ap (λ x. record { prelude = t; assertions = x }) more;
+      }

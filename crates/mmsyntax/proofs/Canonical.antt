@@ -27,10 +27,19 @@ abbrev pub known_at : Contents → Known
 known_at db = record { tables = db.prelude; units = record { assertions = db.assertions; hypothesis_labels = []; prelude_closed = true } }
 
 settled : (k : Known) → IsSound k → IsSound (known_at (database_of k))
-settled k s = record { tables = s.tables; units = s.units; lawful = s.lawful; distinct = s.distinct; few = s.few; unclosed = λ h. absurd cc }
+settled k s = record {
+  tables = s.tables;
+  units = s.units;
+  lawful = s.lawful;
+  distinct = s.distinct;
+  few = s.few;
+  unclosed =
+      λ h. absurd cc;
+}
 
 known_sound : (bytes : List ℕ) (db : Contents) (s : Spells bytes db) → IsSound s.known
-known_sound bytes db s = all_sound s.statements nothing s.known nothing_sound (clean_words bytes (flat_map spelling s.statements) s.clean s.words_are) s.declared
+known_sound bytes db s = all_sound s.statements nothing s.known nothing_sound
+    (clean_words bytes (flat_map spelling s.statements) s.clean s.words_are) s.declared
 
 pub sound_of : (db : Contents) → HasSpelling db → IsSound (known_at db)
 sound_of db h = subst (λ (d : Contents). IsSound (known_at d)) h.spells.whole (settled h.spells.known (known_sound h.text db h.spells))
@@ -59,7 +68,8 @@ spelled db s =
       statements = ss;
       words_are = statements_words ss words;
       known = units.known;
-      declared = declare_append nothing (bare t) units.known (canonical_prelude t) (map (unit_statement t) xs) (prelude_declares t s.tables) units.declares;
+      declared = declare_append nothing (bare t) units.known (canonical_prelude t) (map (unit_statement t) xs)
+          (prelude_declares t s.tables) units.declares;
       whole = units.whole;
     })
 
@@ -68,7 +78,8 @@ spelled_again db h = spelled db (sound_of db h)
 
 -- ---- single units
 
-pub unit_spells : (t : Tables) (a : Assertion) → IsSoundPrelude t → IsUnit t a → IsTrue (is_lawful_label t a.label) → SpellsUnit t (assertion_text t a) a
+pub unit_spells : (t : Tables) (a : Assertion) → IsSoundPrelude t → IsUnit t a → IsTrue (is_lawful_label t a.label)
+    → SpellsUnit t (assertion_text t a) a
 unit_spells t a sound u lawful =
     let s = sound_tables t sound in
     let words = unit_written t s a u lawful in

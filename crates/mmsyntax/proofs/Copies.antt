@@ -36,10 +36,12 @@ module _ {A : Type 0} (eq : A → A → Bool) (eq-sym : (a b : A) → eq a b ≡
   absent_before (x ∷ xs) zero d h lt = refl
   absent_before (x ∷ xs) (suc i) d h lt =
       let y = get_or xs i d in
-      or_from (eq y x) (list_any (eq y) (take i xs)) (eq-sym y x ∙ any_at (eq x) xs i d h.0 (omega arith)) (absent_before xs i d h.1 (omega arith))
+      or_from (eq y x) (list_any (eq y) (take i xs)) (eq-sym y x ∙ any_at (eq x) xs i d h.0 (omega arith))
+      (absent_before xs i d h.1 (omega arith))
 
 -- an item as the code reads it, at a default of its own
-pub item_at : {A : Type 0} (xs items : List A) (i : ℕ) (x d : A) → items ≡ xs → x ≡ get_or items i x → i < length items → (x ≡ get_or xs i d) × (i < length xs)
+pub item_at : {A : Type 0} (xs items : List A) (i : ℕ) (x d : A) → items ≡ xs → x ≡ get_or items i x → i < length items
+    → (x ≡ get_or xs i d) × (i < length xs)
 item_at {A} xs items i x d e h lt =
     let within : i < length xs = subst (λ (ys : List A). i < length ys) e lt in
     (h ∙ ap (λ ys. get_or ys i x) e ∙ get_or_default xs i x d within, within)
@@ -71,11 +73,14 @@ module _ (t : Tables) (sound : IsSoundPrelude t) where
   pub variable_is_new : (i : ℕ) → i < length t.variables → meaning (variables_before t i) (word_at t.variables i) ≡ None
   variable_is_new i lt =
       let w = word_at t.variables i in
-      let both : Distinct bytes_eq (t.constants ++ t.variables) = distinct_left bytes_eq (t.constants ++ t.variables) (float_labels t.floats) (subst (Distinct bytes_eq) (sym (append_assoc t.constants t.variables (float_labels t.floats))) all_distinct) in
+      let both : Distinct bytes_eq (t.constants ++ t.variables) =
+      distinct_left bytes_eq (t.constants ++ t.variables) (float_labels t.floats)
+      (subst (Distinct bytes_eq) (sym (append_assoc t.constants t.variables (float_labels t.floats))) all_distinct) in
       none_is _ (
       is_some-meaning (variables_before t i) w ∙ ap (λ x. list_any (bytes_eq w) (t.constants ++ x)) (append-nil (take i t.variables))
       ∙ list_any-append (bytes_eq w) t.constants (take i t.variables)
-      ∙ or_from _ _ (cross t.constants t.variables i both lt) (absent_before bytes_eq bytes_eq-sym t.variables i [] (distinct_right bytes_eq t.constants t.variables both) lt)
+      ∙ or_from _ _ (cross t.constants t.variables i both lt)
+      (absent_before bytes_eq bytes_eq-sym t.variables i [] (distinct_right bytes_eq t.constants t.variables both) lt)
       )
 
   label_is_new : (i : ℕ) → i < length t.floats → meaning (floats_before t i) (float_at t.floats i).label ≡ None
@@ -85,7 +90,9 @@ module _ (t : Tables) (sound : IsSoundPrelude t) where
       let d : Distinct bytes_eq (symbols ++ ls) = subst (Distinct bytes_eq) (sym (append_assoc t.constants t.variables ls)) all_distinct in
       let within : i < length ls = omega (arith, length-map t.floats (λ (f : Float). f.label)) in
       let absent : list_any (bytes_eq (get_or ls i [])) (symbols ++ take i ls) ≡ false =
-      list_any-append (bytes_eq (get_or ls i [])) symbols (take i ls) ∙ or_from _ _ (cross symbols ls i d within) (absent_before bytes_eq bytes_eq-sym ls i [] (distinct_right bytes_eq symbols ls d) within) in
+      list_any-append (bytes_eq (get_or ls i [])) symbols (take i ls)
+      ∙ or_from _ _ (cross symbols ls i d within) (absent_before bytes_eq bytes_eq-sym ls i []
+      (distinct_right bytes_eq symbols ls d) within) in
       let it : get_or ls i [] ≡ (float_at t.floats i).label = get_or-map (λ f. f.label) t.floats i no_float [] lt in
       let w = (float_at t.floats i).label in
       none_is _ (
@@ -95,7 +102,8 @@ module _ (t : Tables) (sound : IsSoundPrelude t) where
       ∙ subst (λ (x : Word). list_any (bytes_eq x) (symbols ++ take i ls) ≡ false) it absent
       )
 
-  variable_is_free : (i : ℕ) → i < length t.floats → meaning (floats_before t i) (word_at t.variables (float_at t.floats i).variable) ≡ Some (Variable (float_at t.floats i).variable None)
+  variable_is_free : (i : ℕ) → i < length t.floats → meaning (floats_before t i) (word_at t.variables (float_at t.floats i).variable)
+      ≡ Some (Variable (float_at t.floats i).variable None)
   unfolding meaning
   variable_is_free i lt =
       let v = (float_at t.floats i).variable in
@@ -103,13 +111,16 @@ module _ (t : Tables) (sound : IsSoundPrelude t) where
       let fs = take i t.floats in
       let p = place_of (bytes_eq w) t.variables in
       let l = place_of (λ f. bytes_eq w f.label) fs in
-      let both : Distinct bytes_eq (t.constants ++ t.variables) = distinct_left bytes_eq (t.constants ++ t.variables) (float_labels t.floats) (subst (Distinct bytes_eq) (sym (append_assoc t.constants t.variables (float_labels t.floats))) all_distinct) in
+      let both : Distinct bytes_eq (t.constants ++ t.variables) =
+      distinct_left bytes_eq (t.constants ++ t.variables) (float_labels t.floats)
+      (subst (Distinct bytes_eq) (sym (append_assoc t.constants t.variables (float_labels t.floats))) all_distinct) in
       let within : v < length t.variables = (floats_sound t sound i no_float lt).variable_within in
       let used : i < length (variables_used t.floats) = omega (arith, length-map t.floats (λ (f : Float). f.variable)) in
       let it : get_or (variables_used t.floats) i 0 ≡ v = get_or-map (λ f. f.variable) t.floats i no_float 0 lt in
       let absent : list_any (eqb v) (variables_used fs) ≡ false =
       ap (list_any (eqb v)) (sym (take-map (λ f. f.variable) i t.floats))
-      ∙ subst (λ (x : ℕ). list_any (eqb x) (take i (variables_used t.floats)) ≡ false) it (absent_before eqb eqb-sym (variables_used t.floats) i 0 it_is_sound.apart used) in
+      ∙ subst (λ (x : ℕ). list_any (eqb x) (take i (variables_used t.floats)) ≡ false) it
+      (absent_before eqb eqb-sym (variables_used t.floats) i 0 it_is_sound.apart used) in
       ap (λ c. named fs c p l) (place_of-absent (bytes_eq w) t.constants (cross t.constants t.variables v both within))
       ∙ ap (λ p. named fs None p l) (place_of-item t.variables v (distinct_right bytes_eq t.constants t.variables both) within)
       ∙ ap (λ o. Some (Variable v o)) (place_of-absent (λ f. eqb f.variable v) fs (any_swap fs v ∙ absent))
@@ -119,7 +130,10 @@ module _ (t : Tables) (sound : IsSoundPrelude t) where
   float_label_is_new i f lt e = subst (λ (g : Float). meaning (floats_before t i) g.label ≡ None) (sym e) (label_is_new i lt)
 
   pub float_variable_within : (i : ℕ) (f : Float) → i < length t.floats → f ≡ float_at t.floats i → f.variable < length t.variables
-  float_variable_within i f lt e = subst (λ (g : Float). g.variable < length t.variables) (sym e) (floats_sound t sound i no_float lt).variable_within
+  float_variable_within i f lt e = subst (λ (g : Float). g.variable < length t.variables) (sym e)
+      (floats_sound t sound i no_float lt).variable_within
 
-  pub float_variable_is_free : (i : ℕ) (f : Float) → i < length t.floats → f ≡ float_at t.floats i → meaning (floats_before t i) (word_at t.variables f.variable) ≡ Some (Variable f.variable None)
-  float_variable_is_free i f lt e = subst (λ (g : Float). meaning (floats_before t i) (word_at t.variables g.variable) ≡ Some (Variable g.variable None)) (sym e) (variable_is_free i lt)
+  pub float_variable_is_free : (i : ℕ) (f : Float) → i < length t.floats → f ≡ float_at t.floats i
+      → meaning (floats_before t i) (word_at t.variables f.variable) ≡ Some (Variable f.variable None)
+  float_variable_is_free i f lt e = subst (λ (g : Float). meaning (floats_before t i) (word_at t.variables g.variable)
+      ≡ Some (Variable g.variable None)) (sym e) (variable_is_free i lt)

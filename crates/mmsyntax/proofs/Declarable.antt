@@ -14,7 +14,11 @@ use Rattle.mmsyntax.proofs.Canonical.{known_at, sound_of, sound_tables, spelled,
 pub prelude_sound : (t : Tables) (xs : List Assertion) → HasSpelling (record { prelude = t; assertions = xs }) → IsSoundPrelude t
 prelude_sound t xs h =
     let s = sound_of (record { prelude = t; assertions = xs }) h in
-    record { text = text_of (record { prelude = t; assertions = [] }); spells = spelled (record { prelude = t; assertions = [] }) (alone_sound t _ s.tables) }
+    record {
+      text = text_of (record { prelude = t; assertions = [] });
+      spells =
+          spelled (record { prelude = t; assertions = [] }) (alone_sound t _ s.tables);
+    }
 
 -- what is spelled is declarable
 pub declarable : (db : Contents) → HasSpelling db → IsDeclarable db.prelude db.assertions
@@ -43,7 +47,8 @@ sound_again db d = record {
 pub spelled_where_declarable : (db : Contents) → IsDeclarable db.prelude db.assertions → HasSpelling db
 spelled_where_declarable db d = record { text = text_of db; spells = spelled db (sound_again db d) }
 
-pub spelled_where_unit : (t : Tables) (a : Assertion) → IsSoundPrelude t → IsUnit t a × IsTrue (is_lawful_label t a.label) → HasUnitSpelling t a
+pub spelled_where_unit : (t : Tables) (a : Assertion) → IsSoundPrelude t → IsUnit t a × IsTrue (is_lawful_label t a.label)
+    → HasUnitSpelling t a
 spelled_where_unit t a h both = record { text = assertion_text t a; spells = unit_spells t a h both.0 both.1 }
 
 -- a prelude that is sound is spelled by its own text, and only such a one is spelled

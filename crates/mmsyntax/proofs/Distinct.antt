@@ -44,7 +44,11 @@ module _ {A : Type 0} (eq : A → A → Bool) (eq-sym : (a b : A) → eq a b ≡
 
 pub distinct_left : {A : Type 0} (eq : A → A → Bool) (a b : List A) → Distinct eq (a ++ b) → Distinct eq a
 distinct_left eq [] b d = tt
-distinct_left eq (x ∷ a) b d = ((or_parts (list_any (eq x) a) (list_any (eq x) b) (sym (list_any-append (eq x) a b) ∙ d.0)).0, distinct_left eq a b d.1)
+distinct_left eq (x ∷ a) b d = (
+  (or_parts (list_any (eq x) a) (list_any (eq x) b) (sym (list_any-append (eq x) a b) ∙ d.0)).0,
+  distinct_left
+      eq a b d.1,
+)
 
 pub distinct_right : {A : Type 0} (eq : A → A → Bool) (a b : List A) → Distinct eq (a ++ b) → Distinct eq b
 distinct_right eq [] b d = d
@@ -61,7 +65,9 @@ cross a [] i d lt = absurd (omega arith)
 cross a (x ∷ b) zero d lt = distinct_front bytes_eq bytes_eq-sym a b x d
 cross a (x ∷ b) (suc i) d lt =
     let w = get_or b i [] in
-    (or_parts (list_any (bytes_eq w) a) (list_any (bytes_eq w) (x ∷ [])) (sym (list_any-append (bytes_eq w) a (x ∷ [])) ∙ cross (a ++ x ∷ []) b i (subst (Distinct bytes_eq) (sym (append_assoc a (x ∷ []) b)) d) (omega arith))).0
+    (or_parts (list_any (bytes_eq w) a) (list_any (bytes_eq w) (x ∷ []))
+    (sym (list_any-append (bytes_eq w) a (x ∷ [])) ∙ cross (a ++ x ∷ []) b i
+    (subst (Distinct bytes_eq) (sym (append_assoc a (x ∷ []) b)) d) (omega arith))).0
 
 -- an item of a list of different words is found at its place
 pub place_of-item : (ws : List Word) (i : ℕ) → Distinct bytes_eq ws → i < length ws → place_of (bytes_eq (get_or ws i [])) ws ≡ Some i
@@ -69,7 +75,8 @@ place_of-item [] i d lt = absurd (omega arith)
 place_of-item (w ∷ ws) zero d lt = cond-true (bytes_eq w w) (Some 0) _ (bytes_eq-same w)
 place_of-item (w ∷ ws) (suc i) d lt =
     let w' = get_or ws i [] in
-    cond-false (bytes_eq w' w) (Some 0) (option_map (λ n. suc n) (place_of (bytes_eq w') ws)) (bytes_eq-sym w' w ∙ any_at (bytes_eq w) ws i [] d.0 (omega arith))
+    cond-false (bytes_eq w' w) (Some 0) (option_map (λ n. suc n) (place_of (bytes_eq w') ws))
+    (bytes_eq-sym w' w ∙ any_at (bytes_eq w) ws i [] d.0 (omega arith))
     ∙ ap (λ o. option_map (λ n. suc n) o) (place_of-item ws i d.1 (omega arith))
 
 -- what is at no place
@@ -89,7 +96,8 @@ is_some-or false o = refl
 
 pub is_some-place_of : {A : Type 0} (p : A → Bool) (xs : List A) → is_some (place_of p xs) ≡ list_any p xs
 is_some-place_of p [] = refl
-is_some-place_of p (x ∷ xs) = is_some-or (p x) (option_map (λ n. suc n) (place_of p xs)) ∙ ap (λ b. p x || b) (is_some-map (place_of p xs) ∙ is_some-place_of p xs)
+is_some-place_of p (x ∷ xs) = is_some-or (p x) (option_map (λ n. suc n) (place_of p xs))
+    ∙ ap (λ b. p x || b) (is_some-map (place_of p xs) ∙ is_some-place_of p xs)
 
 pub any-map : {A B : Type 0} (p : B → Bool) (f : A → B) (xs : List A) → list_any p (map f xs) ≡ list_any (λ x. p (f x)) xs
 any-map p f [] = refl
@@ -134,7 +142,8 @@ new_word k w h =
 pub not_used : (k : Known) (w : Word) → IsNew k w → is_used k w ≡ false
 not_used k w n =
     or_from (is_some (meaning k.tables w)) _ n.not_named
-    (or_from (is_assertion_label k.units.assertions w) _ (sym (any-map (bytes_eq w) (λ a. a.label) k.units.assertions) ∙ n.not_label) n.not_hypothesis)
+    (or_from (is_assertion_label k.units.assertions w) _
+    (sym (any-map (bytes_eq w) (λ a. a.label) k.units.assertions) ∙ n.not_label) n.not_hypothesis)
 
 -- ---- facts of each item
 
@@ -158,11 +167,13 @@ pub all_right : {A : Type 0} (P : A → Type 0) (xs ys : List A) → AllByRecurs
 all_right P [] ys h = h
 all_right P (x ∷ xs) ys h = all_right P xs ys h.1
 
-pub all_map : {A B : Type 0} (P : A → Type 0) (Q : B → Type 0) (f : A → B) (xs : List A) → ((x : A) → P x → Q (f x)) → AllByRecursion P xs → AllByRecursion Q (map f xs)
+pub all_map : {A B : Type 0} (P : A → Type 0) (Q : B → Type 0) (f : A → B) (xs : List A) → ((x : A) → P x → Q (f x)) → AllByRecursion P xs
+    → AllByRecursion Q (map f xs)
 all_map P Q f [] g h = tt
 all_map P Q f (x ∷ xs) g h = (g x h.0, all_map P Q f xs g h.1)
 
 -- a word that differs from each is none of them
-pub none_of : (Q : Word → Type 0) (w : Word) (ws : List Word) → ((v : Word) → Q v → bytes_eq w v ≡ false) → AllByRecursion Q ws → list_any (bytes_eq w) ws ≡ false
+pub none_of : (Q : Word → Type 0) (w : Word) (ws : List Word) → ((v : Word) → Q v → bytes_eq w v ≡ false) → AllByRecursion Q ws
+    → list_any (bytes_eq w) ws ≡ false
 none_of Q w [] f h = refl
 none_of Q w (v ∷ ws) f h = or_from (bytes_eq w v) (list_any (bytes_eq w) ws) (f v h.0) (none_of Q w ws f h.1)

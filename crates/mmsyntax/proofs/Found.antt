@@ -65,11 +65,13 @@ room_left : (count : ℕ) (r : Result Symbol FaultKind) (s : Symbol) → unless_
 room_left count (Err kind) s h = absurd cc
 room_left count (Ok x) s h = if_ok (leb 65535 count) TooLong (Ok x) s h
 
-symbol_parts : (t : Tables) (n : ℕ) (w : Word) (s : Symbol) → symbol_of t n w ≡ Ok s → (leb 65535 n ≡ false) × (symbol_named (eqb n 0) (meaning t w) ≡ Ok s)
+symbol_parts : (t : Tables) (n : ℕ) (w : Word) (s : Symbol) → symbol_of t n w ≡ Ok s
+    → (leb 65535 n ≡ false) × (symbol_named (eqb n 0) (meaning t w) ≡ Ok s)
 unfolding symbol_of
 symbol_parts t n w s h = room_left n _ s (if_ok (has_dollar w) BadToken _ s h).1
 
-symbol_found : (t : Tables) (w : Word) (first : Bool) (o : Option Name) (s : Symbol) → meaning t w ≡ o → symbol_named first o ≡ Ok s → IsSymbolOf t s
+symbol_found : (t : Tables) (w : Word) (first : Bool) (o : Option Name) (s : Symbol) → meaning t w ≡ o → symbol_named first o ≡ Ok s
+    → IsSymbolOf t s
 symbol_found t w true (Some (Constant i)) s e h = let same : Const i ≡ s = cc in subst (IsSymbolOf t) same (constant_within t w i e)
 symbol_found t w false (Some (Constant i)) s e h = let same : Const i ≡ s = cc in subst (IsSymbolOf t) same (constant_within t w i e)
 symbol_found t w false (Some (Variable i (Some j))) s e h = let same : Var j ≡ s = cc in subst (IsSymbolOf t) same (typed_within t w i j e)
@@ -81,13 +83,15 @@ symbol_found t w false (Some (Label j)) s e h = absurd cc
 symbol_found t w true None s e h = absurd cc
 symbol_found t w false None s e h = absurd cc
 
-reads_symbols : (t : Tables) (front : List Symbol) (ws : List Word) (e : List Symbol) → AllByRecursion (IsSymbolOf t) front → ReadsAfter t front ws e → AllByRecursion (IsSymbolOf t) e
+reads_symbols : (t : Tables) (front : List Symbol) (ws : List Word) (e : List Symbol) → AllByRecursion (IsSymbolOf t) front
+    → ReadsAfter t front ws e → AllByRecursion (IsSymbolOf t) e
 reads_symbols t front [] e h d = subst (AllByRecursion (IsSymbolOf t)) d h
 reads_symbols t front (w ∷ ws) e h d =
     let s = symbol_found t w (eqb (length front) 0) (meaning t w) d.0 refl (symbol_parts t (length front) w d.0 d.1).1 in
     reads_symbols t (front ++ d.0 ∷ []) ws e (all_push (IsSymbolOf t) front d.0 h s) d.2
 
-reads_short : (t : Tables) (front : List Symbol) (ws : List Word) (e : List Symbol) → length front ≤ 65535 → ReadsAfter t front ws e → length e ≤ 65535
+reads_short : (t : Tables) (front : List Symbol) (ws : List Word) (e : List Symbol) → length front ≤ 65535 → ReadsAfter t front ws e
+    → length e ≤ 65535
 reads_short t front [] e h d = subst (λ (x : List Symbol). length x ≤ 65535) d h
 reads_short t front (w ∷ ws) e h d =
     let room : length front < 65535 = leb-false 65535 (length front) (symbol_parts t (length front) w d.0 d.1).0 in
@@ -105,7 +109,8 @@ begins_more [] s h = absurd h
 begins_more (Const i ∷ front) s h = tt
 begins_more (Var j ∷ front) s h = absurd h
 
-reads_begins : (t : Tables) (front : List Symbol) (ws : List Word) (e : List Symbol) → BeginsWithConstant front → ReadsAfter t front ws e → BeginsWithConstant e
+reads_begins : (t : Tables) (front : List Symbol) (ws : List Word) (e : List Symbol) → BeginsWithConstant front → ReadsAfter t front ws e
+    → BeginsWithConstant e
 reads_begins t front [] e h d = subst BeginsWithConstant d h
 reads_begins t front (w ∷ ws) e h d = reads_begins t (front ++ d.0 ∷ []) ws e (begins_more front d.0 h) d.2
 
@@ -140,7 +145,8 @@ pub label_five : (w : Word) (named : Bool) → IsWord w → is_label w ≡ true 
     → (leb 1 (length w) && leb (length w) 255 && is_label w && not (has_dot w) && not named) ≡ true
 label_five w named word label plain new =
     let p = or_parts (has_dot w) (ltb 255 (length w)) plain in
-    all_five (leb 1 (length w)) (leb (length w) 255) (is_label w) (not (has_dot w)) (not named) (some_bytes w word.0) (at_most (length w) 255 p.1) label (ap not p.0) (ap not new)
+    all_five (leb 1 (length w)) (leb (length w) 255) (is_label w) (not (has_dot w)) (not named) (some_bytes w word.0)
+    (at_most (length w) 255 p.1) label (ap not p.0) (ap not new)
 
 -- ---- steps
 
@@ -154,7 +160,8 @@ pub no_fault : (o : Option FaultKind) (r : Result Step FaultKind) (s : Step) →
 no_fault (Some kind) r s h = absurd cc
 no_fault None r s h = (refl, h)
 
-step_passes : (t : Tables) (hyps : List Hypothesis) (count : ℕ) (w : Word) (s : Step) → step_of t hyps count w ≡ Ok s → StepPasses t hyps count w s
+step_passes : (t : Tables) (hyps : List Hypothesis) (count : ℕ) (w : Word) (s : Step) → step_of t hyps count w ≡ Ok s
+    → StepPasses t hyps count w s
 unfolding step_of
 step_passes t hyps count w s h =
     let both = no_fault (first_fault (step_tests count w)) _ s h in
@@ -171,22 +178,28 @@ float_label t w (Some (Constant i)) j e h = absurd cc
 float_label t w (Some (Variable i o)) j e h = absurd cc
 float_label t w None j e h = absurd cc
 
-named_step : (t : Tables) (hyps : List Hypothesis) (w : Word) (s : Step) (f h : Option ℕ) → IsWord w → is_label w ≡ true → float_named (meaning t w) ≡ f → hypothesis_named hyps w ≡ h → step_named w f h ≡ Ok s → IsNameable t (length hyps) s
-named_step t hyps w s (Some j) h word label ef eh n = let same : FloatStep j ≡ s = cc in subst (IsNameable t (length hyps)) same (float_label t w (meaning t w) j refl ef)
-named_step t hyps w s None (Some i) word label ef eh n = let same : Hyp i ≡ s = cc in subst (IsNameable t (length hyps)) same (place_of-at (λ h. bytes_eq w h.label) hyps i (record { label = []; expression = [] }) eh).0
+named_step : (t : Tables) (hyps : List Hypothesis) (w : Word) (s : Step) (f h : Option ℕ) → IsWord w → is_label w ≡ true
+    → float_named (meaning t w) ≡ f → hypothesis_named hyps w ≡ h → step_named w f h ≡ Ok s → IsNameable t (length hyps) s
+named_step t hyps w s (Some j) h word label ef eh n = let same : FloatStep j ≡ s = cc in
+    subst (IsNameable t (length hyps)) same (float_label t w (meaning t w) j refl ef)
+named_step t hyps w s None (Some i) word label ef eh n = let same : Hyp i ≡ s = cc in
+    subst (IsNameable t (length hyps)) same (place_of-at (λ h. bytes_eq w h.label) hyps i (record { label = []; expression = [] }) eh).0
 named_step t hyps w s None None word label ef eh n =
     let both = if_ok (has_dot w || ltb 255 (length w)) BadLabel (Ok (Cite w)) s n in
     let same : Cite w ≡ s = let e : Ok (Cite w) ≡ Ok s = both.1 in cc in
     subst (IsNameable t (length hyps)) same (label_five w (is_some (float_named (meaning t w))) word label both.0 (ap is_some ef))
 
-steps_nameable : (t : Tables) (hyps : List Hypothesis) (front : List Step) (ws : List Word) (steps : List Step) → AllByRecursion IsWord ws → AllByRecursion (IsNameable t (length hyps)) front → StepsAfter t hyps front ws steps → AllByRecursion (IsNameable t (length hyps)) steps
+steps_nameable : (t : Tables) (hyps : List Hypothesis) (front : List Step) (ws : List Word) (steps : List Step) → AllByRecursion IsWord ws
+    → AllByRecursion (IsNameable t (length hyps)) front → StepsAfter t hyps front ws steps
+    → AllByRecursion (IsNameable t (length hyps)) steps
 steps_nameable t hyps front [] steps words h d = subst (AllByRecursion (IsNameable t (length hyps))) d h
 steps_nameable t hyps front (w ∷ ws) steps words h d =
     let p = step_passes t hyps (length front) w d.0 d.1 in
     let s = named_step t hyps w d.0 (float_named (meaning t w)) (hypothesis_named hyps w) words.0 p.label refl refl p.is_named in
     steps_nameable t hyps (front ++ d.0 ∷ []) ws steps words.1 (all_push (IsNameable t (length hyps)) front d.0 h s) d.2
 
-steps_few : (t : Tables) (hyps : List Hypothesis) (front : List Step) (ws : List Word) (steps : List Step) → length front ≤ 16384 → StepsAfter t hyps front ws steps → length steps ≤ 16384
+steps_few : (t : Tables) (hyps : List Hypothesis) (front : List Step) (ws : List Word) (steps : List Step) → length front ≤ 16384
+    → StepsAfter t hyps front ws steps → length steps ≤ 16384
 steps_few t hyps front [] steps h d = subst (λ (x : List Step). length x ≤ 16384) d h
 steps_few t hyps front (w ∷ ws) steps h d =
     let room : length front < 16384 = (step_passes t hyps (length front) w d.0 d.1).room in
@@ -196,11 +209,13 @@ more_steps : (front : List Step) (s : Step) → (front ++ s ∷ []) ≢ []
 more_steps [] s = λ h. absurd cc
 more_steps (x ∷ front) s = λ h. absurd cc
 
-steps_stay : (t : Tables) (hyps : List Hypothesis) (front : List Step) (ws : List Word) (steps : List Step) → front ≢ [] → StepsAfter t hyps front ws steps → steps ≢ []
+steps_stay : (t : Tables) (hyps : List Hypothesis) (front : List Step) (ws : List Word) (steps : List Step) → front ≢ []
+    → StepsAfter t hyps front ws steps → steps ≢ []
 steps_stay t hyps front [] steps some d = subst (λ (x : List Step). x ≢ []) d some
 steps_stay t hyps front (w ∷ ws) steps some d = steps_stay t hyps (front ++ d.0 ∷ []) ws steps (more_steps front d.0) d.2
 
-steps_some : (t : Tables) (hyps : List Hypothesis) (ws : List Word) (steps : List Step) → ws ≢ [] → StepsAfter t hyps [] ws steps → steps ≢ []
+steps_some : (t : Tables) (hyps : List Hypothesis) (ws : List Word) (steps : List Step) → ws ≢ [] → StepsAfter t hyps [] ws steps
+    → steps ≢ []
 steps_some t hyps [] steps some d = absurd (some refl)
 steps_some t hyps (w ∷ ws) steps some d = steps_stay t hyps (d.0 ∷ []) ws steps (more_steps [] d.0) d.2
 
@@ -210,7 +225,8 @@ pub record AreSteps (t : Tables) (hyps : ℕ) (steps : List Step) : Type 0 where
   pub few : length steps ≤ 16384
   pub some : steps ≢ []
 
-pub read_steps : (t : Tables) (hyps : List Hypothesis) (ws : List Word) (steps : List Step) → ws ≢ [] → AllByRecursion IsWord ws → StepsAfter t hyps [] ws steps → AreSteps t (length hyps) steps
+pub read_steps : (t : Tables) (hyps : List Hypothesis) (ws : List Word) (steps : List Step) → ws ≢ [] → AllByRecursion IsWord ws
+    → StepsAfter t hyps [] ws steps → AreSteps t (length hyps) steps
 read_steps t hyps ws steps some words d = record {
   nameable = steps_nameable t hyps [] ws steps words tt d;
   few = steps_few t hyps [] ws steps (omega arith) d;
@@ -225,26 +241,34 @@ pub record AreRestricted (t : Tables) (ps : List (ℕ × ℕ)) : Type 0 where
   pub few : length ps ≤ 65535
 
 typed_found : (t : Tables) (w : Word) (o : Option Name) (j : ℕ) → meaning t w ≡ o → typed_named o ≡ Ok j → j < length t.floats
-typed_found t w (Some (Variable i (Some k))) j e h = let same : k ≡ j = cc in subst (λ (n : ℕ). n < length t.floats) same (typed_within t w i k e)
+typed_found t w (Some (Variable i (Some k))) j e h = let same : k ≡ j = cc in
+    subst (λ (n : ℕ). n < length t.floats) same (typed_within t w i k e)
 typed_found t w (Some (Variable i None)) j e h = absurd cc
 typed_found t w (Some (Constant i)) j e h = absurd cc
 typed_found t w (Some (Label i)) j e h = absurd cc
 typed_found t w None j e h = absurd cc
 
-not_repeated : (vs : List ℕ) (ps : List (ℕ × ℕ)) (r : Result ℕ FaultKind) (j : ℕ) → unless_repeated vs ps r ≡ Ok j → (r ≡ Ok j) × (list_any (λ i. eqb i j) vs ≡ false) × (ltb 65535 (length (with_pairs j vs ps)) ≡ false)
+not_repeated : (vs : List ℕ) (ps : List (ℕ × ℕ)) (r : Result ℕ FaultKind) (j : ℕ) → unless_repeated vs ps r ≡ Ok j
+    → (r ≡ Ok j) × (list_any (λ i. eqb i j) vs ≡ false) × (ltb 65535 (length (with_pairs j vs ps)) ≡ false)
 not_repeated vs ps (Err kind) j h = absurd cc
 not_repeated vs ps (Ok k) j h =
     let a = if_ok (list_any (λ i. eqb i k) vs) BadToken _ j h in
     let b = if_ok (ltb 65535 (length (with_pairs k vs ps))) TooLong (Ok k) j a.1 in
-    let same : k ≡ j = let e : Ok k ≡ Ok j = b.1 in cc in
-    (b.1, subst (λ (n : ℕ). list_any (λ i. eqb i n) vs ≡ false) same a.0, subst (λ (n : ℕ). ltb 65535 (length (with_pairs n vs ps)) ≡ false) same b.0)
+    let same : k ≡ j = let e : Ok k ≡ Ok j = b.1 in cc in (
+      b.1,
+      subst (λ (n : ℕ). list_any (λ i. eqb i n) vs ≡ false) same a.0,
+      subst
+          (λ (n : ℕ). ltb 65535 (length (with_pairs n vs ps)) ≡ false) same b.0,
+    )
 
-restricted : (t : Tables) (vs : List ℕ) (ps : List (ℕ × ℕ)) (w : Word) (j : ℕ) → distinct_of t vs ps w ≡ Ok j → (typed_named (meaning t w) ≡ Ok j) × (list_any (λ i. eqb i j) vs ≡ false) × (ltb 65535 (length (with_pairs j vs ps)) ≡ false)
+restricted : (t : Tables) (vs : List ℕ) (ps : List (ℕ × ℕ)) (w : Word) (j : ℕ) → distinct_of t vs ps w ≡ Ok j
+    → (typed_named (meaning t w) ≡ Ok j) × (list_any (λ i. eqb i j) vs ≡ false) × (ltb 65535 (length (with_pairs j vs ps)) ≡ false)
 unfolding distinct_of
 restricted t vs ps w j h = not_repeated vs ps _ j (if_ok (has_dollar w) BadToken _ j h).1
 
 -- a $d leaves the hypotheses, and restricted pairs
-pub restricts : (t : Tables) (b : Block) (vs : List ℕ) (ws : List Word) (after : Block) → AllByRecursion (λ j. j < length t.floats) vs → AreRestricted t b.pairs → Restricts t b vs ws after → AreRestricted t after.pairs × (b.hyps ≡ after.hyps)
+pub restricts : (t : Tables) (b : Block) (vs : List ℕ) (ws : List Word) (after : Block) → AllByRecursion (λ j. j < length t.floats) vs
+    → AreRestricted t b.pairs → Restricts t b vs ws after → AreRestricted t after.pairs × (b.hyps ≡ after.hyps)
 restricts t b vs [] after within h d = (subst (λ (x : Block). AreRestricted t x.pairs) d.1 h, ap (λ (x : Block). x.hyps) d.1)
 restricts t b vs (w ∷ ws) after within h d =
     let j = d.0 in

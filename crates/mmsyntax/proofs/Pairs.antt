@@ -31,7 +31,11 @@ after_otherwise p q s b =
     ]
   where
     strict : (a b : ℕ) → a ≤ b → (a ≡ b → ⊥) → a < b
-    strict a b le ne = elim (cases_Bool (ltb a b)) [ inl y ↦ ltb-true a b y | inr n ↦ absurd (ne (let h : b ≤ a = ltb-false a b n in omega arith)) ]
+    strict a b le ne = elim (cases_Bool (ltb a b)) [
+      | inl y ↦ ltb-true a b y
+      | inr n ↦
+          absurd (ne (let h : b ≤ a = ltb-false a b n in omega arith))
+    ]
 
 -- ---- one more pair
 
@@ -39,10 +43,12 @@ all_with : (P : ℕ × ℕ → Type 0) (p : ℕ × ℕ) (ps : List (ℕ × ℕ))
 all_with P p [] h g = (h, tt)
 all_with P p (q ∷ qs) h g = elim (cases_Bool (is_same_pair p q)) [
   | inl y ↦ subst (AllByRecursion P) (sym (cond-true (is_same_pair p q) (q ∷ qs) _ y)) g
-  | inr n ↦ subst (AllByRecursion P) (sym (cond-false (is_same_pair p q) (q ∷ qs) (cond (is_pair_below p q) (p ∷ q ∷ qs) (q ∷ with_pair p qs)) n))
+  | inr n ↦ subst (AllByRecursion P) (sym (cond-false (is_same_pair p q) (q ∷ qs) (cond (is_pair_below p q) (p ∷ q ∷ qs)
+      (q ∷ with_pair p qs)) n))
       (elim (cases_Bool (is_pair_below p q)) [
         | inl y ↦ subst (AllByRecursion P) (sym (cond-true (is_pair_below p q) (p ∷ q ∷ qs) _ y)) (h, g)
-        | inr m ↦ subst (AllByRecursion P) (sym (cond-false (is_pair_below p q) (p ∷ q ∷ qs) (q ∷ with_pair p qs) m)) (g.0, all_with P p qs h g.1)
+        | inr m ↦ subst (AllByRecursion P) (sym (cond-false (is_pair_below p q) (p ∷ q ∷ qs) (q ∷ with_pair p qs) m))
+            (g.0, all_with P p qs h g.1)
       ])
 ]
 
@@ -53,11 +59,14 @@ ascends_with p (q ∷ qs) a = elim (cases_Bool (is_same_pair p q)) [
   | inr n ↦ subst AreAscending (sym (cond-false (is_same_pair p q) (q ∷ qs) (cond (is_pair_below p q) (p ∷ q ∷ qs) (q ∷ with_pair p qs)) n))
       (elim (cases_Bool (is_pair_below p q)) [
         | inl y ↦
-            let rest = all_weaker (ComesBefore q) (ComesBefore p) qs (λ r h. before_trans p q r y h) (recursion_from_All (ComesBefore q) qs a.0) in
-            subst AreAscending (sym (cond-true (is_pair_below p q) (p ∷ q ∷ qs) _ y)) (All-from_recursion (ComesBefore p) (q ∷ qs) (y, rest), a)
+            let rest = all_weaker (ComesBefore q) (ComesBefore p) qs (λ r h. before_trans p q r y h)
+            (recursion_from_All (ComesBefore q) qs a.0) in
+            subst AreAscending (sym (cond-true (is_pair_below p q) (p ∷ q ∷ qs) _ y))
+            (All-from_recursion (ComesBefore p) (q ∷ qs) (y, rest), a)
         | inr m ↦
             let rest = all_with (ComesBefore q) p qs (after_otherwise p q n m) (recursion_from_All (ComesBefore q) qs a.0) in
-            subst AreAscending (sym (cond-false (is_pair_below p q) (p ∷ q ∷ qs) (q ∷ with_pair p qs) m)) (All-from_recursion (ComesBefore q) (with_pair p qs) rest, ascends_with p qs a.1)
+            subst AreAscending (sym (cond-false (is_pair_below p q) (p ∷ q ∷ qs) (q ∷ with_pair p qs) m))
+            (All-from_recursion (ComesBefore q) (with_pair p qs) rest, ascends_with p qs a.1)
       ])
 ]
 
@@ -74,11 +83,13 @@ in_order-is_pair count i j apart a b = elim (cases_Bool (ltb i j)) [
     strict : (i j : ℕ) → j ≤ i → eqb i j ≡ false → j < i
     strict i j le h = grind arith
 
-pub pairs_with : (count j : ℕ) (is : List ℕ) (ps : List (ℕ × ℕ)) → j < count → AllByRecursion (λ i. i < count) is → list_any (λ i. eqb i j) is ≡ false → AllByRecursion (IsPairOf count) ps → AllByRecursion (IsPairOf count) (with_pairs j is ps)
+pub pairs_with : (count j : ℕ) (is : List ℕ) (ps : List (ℕ × ℕ)) → j < count → AllByRecursion (λ i. i < count) is
+    → list_any (λ i. eqb i j) is ≡ false → AllByRecursion (IsPairOf count) ps → AllByRecursion (IsPairOf count) (with_pairs j is ps)
 pairs_with count j [] ps lt h apart g = g
 pairs_with count j (i ∷ is) ps lt h apart g =
     let both = or_parts (eqb i j) (list_any (λ i. eqb i j) is) apart in
-    pairs_with count j is (with_pair (in_order i j) ps) lt h.1 both.1 (all_with (IsPairOf count) (in_order i j) ps (in_order-is_pair count i j both.0 h.0 lt) g)
+    pairs_with count j is (with_pair (in_order i j) ps) lt h.1 both.1
+    (all_with (IsPairOf count) (in_order i j) ps (in_order-is_pair count i j both.0 h.0 lt) g)
 
 pub pairs_ascend : (j : ℕ) (is : List ℕ) (ps : List (ℕ × ℕ)) → AreAscending ps → AreAscending (with_pairs j is ps)
 pairs_ascend j [] ps a = a
@@ -116,11 +127,18 @@ with_last p (q ∷ qs) h =
     ∙ cond-false (is_pair_below p q) (p ∷ q ∷ qs) (q ∷ with_pair p qs) (below_before_not p q h.0)
     ∙ ap (λ x. q ∷ x) (with_last p qs h.1)
 
-all_before : (front : List (ℕ × ℕ)) (p : ℕ × ℕ) (rest : List (ℕ × ℕ)) → AreAscending (front ++ p ∷ rest) → AllByRecursion (λ q. ComesBefore q p) front
+all_before : (front : List (ℕ × ℕ)) (p : ℕ × ℕ) (rest : List (ℕ × ℕ)) → AreAscending (front ++ p ∷ rest)
+    → AllByRecursion (λ q. ComesBefore q p) front
 all_before [] p rest a = tt
-all_before (q ∷ front) p rest a = ((all_right (ComesBefore q) front (p ∷ rest) (recursion_from_All (ComesBefore q) (front ++ p ∷ rest) a.0)).0, all_before front p rest a.1)
+all_before (q ∷ front) p rest a = (
+  (all_right (ComesBefore q) front (p ∷ rest) (recursion_from_All (ComesBefore q) (front ++ p ∷ rest) a.0)).0,
+  all_before front p rest
+      a.1,
+)
 
 -- the next of ascending pairs comes at the end
-pub next_pair : (front : List (ℕ × ℕ)) (i j : ℕ) (rest : List (ℕ × ℕ)) → i < j → AreAscending (front ++ (i, j) ∷ rest) → with_pair (in_order i j) front ≡ front ++ (i, j) ∷ []
+pub next_pair : (front : List (ℕ × ℕ)) (i j : ℕ) (rest : List (ℕ × ℕ)) → i < j → AreAscending (front ++ (i, j) ∷ rest)
+    → with_pair (in_order i j) front ≡ front ++ (i, j) ∷ []
 next_pair front i j rest lt a =
-    ap (λ p. with_pair p front) (cond-true (ltb i j) (i, j) (j, i) (lt-ltb i j lt)) ∙ with_last (i, j) front (all_before front (i, j) rest a)
+    ap (λ p. with_pair p front) (cond-true (ltb i j) (i, j) (j, i) (lt-ltb i j lt))
+    ∙ with_last (i, j) front (all_before front (i, j) rest a)

@@ -38,7 +38,17 @@ pub record IsSound (k : Known) : Type 0 where
 
 pub nothing_sound : IsSound nothing
 nothing_sound = record {
-  tables = record { distinct = tt; constants_sound = tt; variables_sound = tt; floats_sound = tt; apart = tt; constants_fit = omega arith; variables_fit = omega arith; floats_fit = omega arith };
+  tables = record {
+    distinct = tt;
+    constants_sound = tt;
+    variables_sound = tt;
+    floats_sound = tt;
+    apart = tt;
+    constants_fit =
+        omega arith;
+    variables_fit = omega arith;
+    floats_fit = omega arith;
+  };
   units = tt;
   lawful = tt;
   distinct = tt;
@@ -86,11 +96,20 @@ label_passes k n limit w h =
 
 -- ---- names stay different
 
-new_name : (t : Tables) (a b : List Word) (w : Word) → Distinct bytes_eq (prelude_names t) → is_some (meaning t w) ≡ false → prelude_names t ≡ a ++ b → Distinct bytes_eq (a ++ w ∷ b)
-new_name t a b w d new e = distinct_insert bytes_eq bytes_eq-sym a b w (subst (Distinct bytes_eq) e d) (subst (λ ns. list_any (bytes_eq w) ns ≡ false) e (sym (is_some-meaning t w) ∙ new))
+new_name : (t : Tables) (a b : List Word) (w : Word) → Distinct bytes_eq (prelude_names t) → is_some (meaning t w) ≡ false
+    → prelude_names t ≡ a ++ b → Distinct bytes_eq (a ++ w ∷ b)
+new_name t a b w d new e = distinct_insert bytes_eq bytes_eq-sym a b w (subst (Distinct bytes_eq) e d)
+    (subst (λ ns. list_any (bytes_eq w) ns ≡ false) e (sym (is_some-meaning t w) ∙ new))
 
-grow_float : (t u : Tables) (fs : List Float) → length t.constants ≤ length u.constants → length t.variables ≤ length u.variables → AllByRecursion (IsFloatSound t) fs → AllByRecursion (IsFloatSound u) fs
-grow_float t u fs c v h = all_weaker (IsFloatSound t) (IsFloatSound u) fs (λ f s. record { label = s.label; type_within = let lt : f.type_code < length t.constants = s.type_within in omega arith; variable_within = let lt : f.variable < length t.variables = s.variable_within in omega arith }) h
+grow_float : (t u : Tables) (fs : List Float) → length t.constants ≤ length u.constants → length t.variables ≤ length u.variables
+    → AllByRecursion (IsFloatSound t) fs → AllByRecursion (IsFloatSound u) fs
+grow_float t u fs c v h = all_weaker (IsFloatSound t) (IsFloatSound u) fs
+    (λ f s. record {
+      label = s.label;
+      type_within = let lt : f.type_code < length t.constants = s.type_within in
+          omega arith;
+      variable_within = let lt : f.variable < length t.variables = s.variable_within in omega arith;
+    }) h
 
 more : (ws : List Word) (w : Word) → length (ws ++ w ∷ []) ≡ length ws + 1
 more ws w = length-append ws (w ∷ [])
@@ -108,7 +127,8 @@ with_tables k t opens s now =
       unclosed = s.unclosed;
     }
 
-constant_sound : (k : Known) (w : Word) → IsTrue (in_prelude k) → IsSound k → IsWord w → Pass (symbol_tests k (length k.tables.constants) w) → IsSound (with_constant k w)
+constant_sound : (k : Known) (w : Word) → IsTrue (in_prelude k) → IsSound k → IsWord w → Pass (symbol_tests k (length k.tables.constants) w)
+    → IsSound (with_constant k w)
 constant_sound k w opens sound is_word pass =
     let s = sound.tables in
     let t = k.tables in
@@ -116,8 +136,10 @@ constant_sound k w opens sound is_word pass =
     let after = record t { constants = t.constants ++ w ∷ [] } in
     let later = t.variables ++ float_labels t.floats in
     with_tables k after opens sound (record {
-      distinct = subst (Distinct bytes_eq) (sym (append_assoc t.constants (w ∷ []) later)) (new_name t t.constants later w s.distinct p.new.not_named refl);
-      constants_sound = all_push IsSymbolWord t.constants w s.constants_sound (record { no_dollar = p.no_dollar; short = p.short; form = p.form; word = is_word });
+      distinct = subst (Distinct bytes_eq) (sym (append_assoc t.constants (w ∷ []) later))
+          (new_name t t.constants later w s.distinct p.new.not_named refl);
+      constants_sound = all_push IsSymbolWord t.constants w s.constants_sound
+          (record { no_dollar = p.no_dollar; short = p.short; form = p.form; word = is_word });
       variables_sound = s.variables_sound;
       floats_sound = grow_float t after t.floats (omega (arith, more t.constants w)) (omega arith) s.floats_sound;
       apart = s.apart;
@@ -126,7 +148,8 @@ constant_sound k w opens sound is_word pass =
       floats_fit = s.floats_fit;
     })
 
-variable_sound : (k : Known) (w : Word) → IsTrue (in_prelude k) → IsSound k → IsWord w → Pass (symbol_tests k (length k.tables.variables) w) → IsSound (with_variable k w)
+variable_sound : (k : Known) (w : Word) → IsTrue (in_prelude k) → IsSound k → IsWord w → Pass (symbol_tests k (length k.tables.variables) w)
+    → IsSound (with_variable k w)
 variable_sound k w opens sound is_word pass =
     let s = sound.tables in
     let t = k.tables in
@@ -136,9 +159,11 @@ variable_sound k w opens sound is_word pass =
     let vs = t.variables in
     let later = float_labels t.floats in
     with_tables k after opens sound (record {
-      distinct = subst (Distinct bytes_eq) (append_assoc cs vs (w ∷ later) ∙ ap (λ x. cs ++ x) (sym (append_assoc vs (w ∷ []) later))) (new_name t (cs ++ vs) later w s.distinct p.new.not_named (sym (append_assoc cs vs later)));
+      distinct = subst (Distinct bytes_eq) (append_assoc cs vs (w ∷ later) ∙ ap (λ x. cs ++ x) (sym (append_assoc vs (w ∷ []) later)))
+          (new_name t (cs ++ vs) later w s.distinct p.new.not_named (sym (append_assoc cs vs later)));
       constants_sound = s.constants_sound;
-      variables_sound = all_push IsSymbolWord vs w s.variables_sound (record { no_dollar = p.no_dollar; short = p.short; form = p.form; word = is_word });
+      variables_sound = all_push IsSymbolWord vs w s.variables_sound
+          (record { no_dollar = p.no_dollar; short = p.short; form = p.form; word = is_word });
       floats_sound = grow_float t after t.floats (omega arith) (omega (arith, more vs w)) s.floats_sound;
       apart = s.apart;
       constants_fit = s.constants_fit;
@@ -146,11 +171,13 @@ variable_sound k w opens sound is_word pass =
       floats_fit = s.floats_fit;
     })
 
-pub constants_all : (k : Known) (ws : List Word) (after : Known) → IsTrue (in_prelude k) → IsSound k → AllByRecursion IsWord ws → DeclaresConstants k ws after → IsSound after
+pub constants_all : (k : Known) (ws : List Word) (after : Known) → IsTrue (in_prelude k) → IsSound k → AllByRecursion IsWord ws
+    → DeclaresConstants k ws after → IsSound after
 constants_all k [] after opens s h d = subst IsSound d s
 constants_all k (w ∷ ws) after opens s h d = constants_all (with_constant k w) ws after opens (constant_sound k w opens s h.0 d.0) h.1 d.1
 
-pub variables_all : (k : Known) (ws : List Word) (after : Known) → IsTrue (in_prelude k) → IsSound k → AllByRecursion IsWord ws → DeclaresVariables k ws after → IsSound after
+pub variables_all : (k : Known) (ws : List Word) (after : Known) → IsTrue (in_prelude k) → IsSound k → AllByRecursion IsWord ws
+    → DeclaresVariables k ws after → IsSound after
 variables_all k [] after opens s h d = subst IsSound d s
 variables_all k (w ∷ ws) after opens s h d = variables_all (with_variable k w) ws after opens (variable_sound k w opens s h.0 d.0) h.1 d.1
 
@@ -177,7 +204,8 @@ free_variable (Some (Variable j None)) i h = ap (λ k. Some (Variable k None)) (
 free_variable (Some (Variable j (Some k))) i h = absurd cc
 free_variable (Some (Label j)) i h = absurd cc
 
-variable_place : (t : Tables) (w : Word) (v : ℕ) → variable_of t w ≡ Ok v → (place_of (bytes_eq w) t.constants ≡ None) × (place_of (bytes_eq w) t.variables ≡ Some v) × (float_of t.floats v ≡ None)
+variable_place : (t : Tables) (w : Word) (v : ℕ) → variable_of t w ≡ Ok v
+    → (place_of (bytes_eq w) t.constants ≡ None) × (place_of (bytes_eq w) t.variables ≡ Some v) × (float_of t.floats v ≡ None)
 unfolding variable_of meaning
 variable_place t w v h = variable_from_named t.floats _ _ _ v None (free_variable _ v (if_ok (has_dollar w) _ _ v h).1)
 
@@ -189,12 +217,15 @@ eqb-sym a b = grind arith
 
 pub any_swap : (fs : List Float) (v : ℕ) → list_any (λ f. eqb f.variable v) fs ≡ list_any (eqb v) (variables_used fs)
 any_swap [] v = refl
-any_swap (f ∷ fs) v = ap (λ b. b || list_any (λ f. eqb f.variable v) fs) (eqb-sym f.variable v) ∙ ap (λ b. eqb v f.variable || b) (any_swap fs v)
+any_swap (f ∷ fs) v = ap (λ b. b || list_any (λ f. eqb f.variable v) fs) (eqb-sym f.variable v)
+    ∙ ap (λ b. eqb v f.variable || b) (any_swap fs v)
 
 float_absent : (fs : List Float) (v : ℕ) → float_of fs v ≡ None → list_any (eqb v) (variables_used fs) ≡ false
 float_absent fs v h = sym (any_swap fs v) ∙ sym (is_some-place_of (λ f. eqb f.variable v) fs) ∙ not_some (float_of fs v) h
 
-pub float_sound : (k after : Known) (label c v : Word) (i j : ℕ) → IsTrue (in_prelude k) → IsSound k → IsWord label → IsTrue (is_label label) → Pass (float_label_tests k label) → type_of k.tables c ≡ Ok i → variable_of k.tables v ≡ Ok j → with_float k label i j ≡ after → IsSound after
+pub float_sound : (k after : Known) (label c v : Word) (i j : ℕ) → IsTrue (in_prelude k) → IsSound k → IsWord label
+    → IsTrue (is_label label) → Pass (float_label_tests k label) → type_of k.tables c ≡ Ok i → variable_of k.tables v ≡ Ok j
+    → with_float k label i j ≡ after → IsSound after
 float_sound k after label c v i j opens sound is_word is_l pass ty va whole =
     let s = sound.tables in
     let t = k.tables in
@@ -213,11 +244,15 @@ float_sound k after label c v i j opens sound is_word is_l pass ty va whole =
     ∙ ap (λ l. cs ++ l) (sym (append_assoc vs (float_labels fs) (label ∷ [])))
     ∙ sym (append_assoc cs (vs ++ float_labels fs) (label ∷ [])) in
     subst IsSound whole (with_tables k now opens sound (record {
-      distinct = subst (Distinct bytes_eq) (sym spelled) (new_name t (prelude_names t) [] label s.distinct p.new.not_named (sym (append-nil (prelude_names t))));
+      distinct = subst (Distinct bytes_eq) (sym spelled)
+          (new_name t (prelude_names t) [] label s.distinct p.new.not_named (sym (append-nil (prelude_names t))));
       constants_sound = s.constants_sound;
       variables_sound = s.variables_sound;
-      floats_sound = all_push (IsFloatSound now) fs f same (record { label = record { label = is_l; plain = p.plain; word = is_word }; type_within = it.0; variable_within = iv.0 });
-      apart = subst (Distinct eqb) (sym (map-append (λ g. g.variable) fs (f ∷ []))) (distinct_insert eqb eqb-sym (variables_used fs) [] j (subst (Distinct eqb) (sym (append-nil (variables_used fs))) s.apart) (ap (list_any (eqb j)) (append-nil (variables_used fs)) ∙ float_absent fs j place.2));
+      floats_sound = all_push (IsFloatSound now) fs f same
+          (record { label = record { label = is_l; plain = p.plain; word = is_word }; type_within = it.0; variable_within = iv.0 });
+      apart = subst (Distinct eqb) (sym (map-append (λ g. g.variable) fs (f ∷ [])))
+          (distinct_insert eqb eqb-sym (variables_used fs) [] j (subst (Distinct eqb) (sym (append-nil (variables_used fs))) s.apart)
+          (ap (list_any (eqb j)) (append-nil (variables_used fs)) ∙ float_absent fs j place.2));
       constants_fit = s.constants_fit;
       variables_fit = s.variables_fit;
       floats_fit = let r : length fs < 65535 = p.room in omega (arith, length-append fs (f ∷ []));
@@ -226,9 +261,18 @@ float_sound k after label c v i j opens sound is_word is_l pass ty va whole =
 -- ---- $e, $a and $p
 
 pub hypothesis_sound : (k : Known) (w : Word) → IsSound k → IsSound (with_hypothesis_label k w)
-hypothesis_sound k w s = record { tables = s.tables; units = s.units; lawful = s.lawful; distinct = s.distinct; few = s.few; unclosed = s.unclosed }
+hypothesis_sound k w s = record {
+  tables = s.tables;
+  units = s.units;
+  lawful = s.lawful;
+  distinct = s.distinct;
+  few = s.few;
+  unclosed =
+      s.unclosed;
+}
 
-pub assertion_sound : (k : Known) (a : Assertion) → IsSound k → IsUnit k.tables a → IsTrue (is_lawful_label k.tables a.label) → list_any (bytes_eq a.label) (labels_of k.units.assertions) ≡ false → length k.units.assertions < 4096 → IsSound (with_assertion k a)
+pub assertion_sound : (k : Known) (a : Assertion) → IsSound k → IsUnit k.tables a → IsTrue (is_lawful_label k.tables a.label)
+    → list_any (bytes_eq a.label) (labels_of k.units.assertions) ≡ false → length k.units.assertions < 4096 → IsSound (with_assertion k a)
 assertion_sound k a s unit lawful new room =
     let xs = k.units.assertions in
     let ls = labels_of xs in
@@ -236,7 +280,9 @@ assertion_sound k a s unit lawful new room =
       tables = s.tables;
       units = all_push (IsUnit k.tables) xs a s.units unit;
       lawful = all_push (λ x. IsTrue (is_lawful_label k.tables x.label)) xs a s.lawful lawful;
-      distinct = subst (Distinct bytes_eq) (sym (map-append (λ x. x.label) xs (a ∷ []))) (distinct_insert bytes_eq bytes_eq-sym ls [] a.label (subst (Distinct bytes_eq) (sym (append-nil ls)) s.distinct) (ap (list_any (bytes_eq a.label)) (append-nil ls) ∙ new));
+      distinct = subst (Distinct bytes_eq) (sym (map-append (λ x. x.label) xs (a ∷ [])))
+          (distinct_insert bytes_eq bytes_eq-sym ls [] a.label (subst (Distinct bytes_eq) (sym (append-nil ls)) s.distinct)
+          (ap (list_any (bytes_eq a.label)) (append-nil ls) ∙ new));
       few = omega (arith, length-append xs (a ∷ []));
       unclosed = λ h. absurd cc;
     }

@@ -48,10 +48,12 @@ hypothesis_room k b w h =
     let d = cond_none (leb 1000 (length b.hyps)) TooLong None c.1 in
     leb-false 1000 (length b.hyps) d.0
 
-held_hypothesis : (t : Tables) (b : Block) (w : Word) (e : List Symbol) → IsBlockSound t b → length b.hyps < 1000 → IsExpression t e → IsBlockSound t (with_hypothesis b w e)
+held_hypothesis : (t : Tables) (b : Block) (w : Word) (e : List Symbol) → IsBlockSound t b → length b.hyps < 1000 → IsExpression t e
+    → IsBlockSound t (with_hypothesis b w e)
 held_hypothesis t b w e s room x = record {
   pairs = s.pairs;
-  hyps = subst (AllByRecursion (IsExpression t)) (sym (map-append (λ h. h.expression) b.hyps (record { label = w; expression = e } ∷ []))) (all_push (IsExpression t) (expressions b.hyps) e s.hyps x);
+  hyps = subst (AllByRecursion (IsExpression t)) (sym (map-append (λ h. h.expression) b.hyps (record { label = w; expression = e } ∷ [])))
+      (all_push (IsExpression t) (expressions b.hyps) e s.hyps x);
   few_hyps = omega (arith, length-append b.hyps (record { label = w; expression = e } ∷ []));
 }
 
@@ -68,18 +70,22 @@ record IsHeld (k after : Known) (held : Block) : Type 0 where
   sound : IsSound after
   block : IsBlockSound after.tables held
 
-piece_held : (k : Known) (b : Block) (p : Piece) (after : Known) (held : Block) → IsSound k → IsBlockSound k.tables b → Holds k b p after held → IsHeld k after held
+piece_held : (k : Known) (b : Block) (p : Piece) (after : Known) (held : Block) → IsSound k → IsBlockSound k.tables b
+    → Holds k b p after held → IsHeld k after held
 piece_held k b (distinct ws) after held s h d =
-    subst (λ (x : Known). IsHeld k x held) d.0 (record { tables = refl; sound = s; block = held_pairs k.tables b held h (restricts k.tables b [] ws held tt h.pairs d.1) })
+    subst (λ (x : Known). IsHeld k x held) d.0 (record
+    { tables = refl; sound = s; block = held_pairs k.tables b held h (restricts k.tables b [] ws held tt h.pairs d.1) })
 piece_held k b (hypothesis label ws) after held s h d =
     let rest = d.3 in
     let e = rest.0 in
     let x = read_expression k.tables ws e d.2 rest.1 in
     let now = held_hypothesis k.tables b label e h (hypothesis_room k b label d.1) x in
     subst (λ (c : Block). IsHeld k after c) rest.3
-    (subst (λ (x : Known). IsHeld k x (with_hypothesis b label e)) rest.2 (record { tables = refl; sound = hypothesis_sound k label s; block = now }))
+    (subst (λ (x : Known). IsHeld k x (with_hypothesis b label e)) rest.2
+    (record { tables = refl; sound = hypothesis_sound k label s; block = now }))
 
-pieces_held : (ps : List Piece) (k : Known) (b : Block) (after : Known) (held : Block) → IsSound k → IsBlockSound k.tables b → HoldAll k b ps after held → IsHeld k after held
+pieces_held : (ps : List Piece) (k : Known) (b : Block) (after : Known) (held : Block) → IsSound k → IsBlockSound k.tables b
+    → HoldAll k b ps after held → IsHeld k after held
 pieces_held [] k b after held s h d =
     subst (λ (x : Known). IsHeld k x held) d.0 (record { tables = refl; sound = s; block = subst (IsBlockSound k.tables) d.1 h })
 pieces_held (p ∷ ps) k b after held s h d =
@@ -89,7 +95,8 @@ pieces_held (p ∷ ps) k b after held s h d =
 
 -- ---- $a and $p
 
-unit_fits : (t : Tables) (b : Block) (w : Word) (kind : Kind) (e : List Symbol) (steps : List Step) → IsBlockSound t b → IsExpression t e → (kind ≡ Axiom → steps ≡ []) → length steps ≤ 16384 → Fits t (assertion_of b w kind e steps)
+unit_fits : (t : Tables) (b : Block) (w : Word) (kind : Kind) (e : List Symbol) (steps : List Step) → IsBlockSound t b → IsExpression t e
+    → (kind ≡ Axiom → steps ≡ []) → length steps ≤ 16384 → Fits t (assertion_of b w kind e steps)
 unit_fits t b w kind e steps h x none few = record {
   statement = x;
   hyps = All-from_recursion (IsExpression t) (expressions b.hyps) h.hyps;
@@ -108,19 +115,23 @@ axiom_unit t b w e h x = record {
   steps = All-from_recursion (IsNameable t (length (expressions b.hyps))) [] tt;
 }
 
-theorem_unit : (t : Tables) (b : Block) (w : Word) (e : List Symbol) (steps : List Step) → IsBlockSound t b → IsExpression t e → AreSteps t (length b.hyps) steps → IsUnit t (theorem_of b w e steps)
+theorem_unit : (t : Tables) (b : Block) (w : Word) (e : List Symbol) (steps : List Step) → IsBlockSound t b → IsExpression t e
+    → AreSteps t (length b.hyps) steps → IsUnit t (theorem_of b w e steps)
 theorem_unit t b w e steps h x s = record {
   fits = unit_fits t b w Theorem e steps h x (λ c. absurd cc) s.few;
   some_steps = λ _. s.some;
-  steps = All-from_recursion (IsNameable t (length (expressions b.hyps))) steps (subst (λ (n : ℕ). AllByRecursion (IsNameable t n) steps) (sym (length-map b.hyps (λ (g : Hypothesis). g.expression))) s.nameable);
+  steps = All-from_recursion (IsNameable t (length (expressions b.hyps))) steps
+      (subst (λ (n : ℕ). AllByRecursion (IsNameable t n) steps) (sym (length-map b.hyps (λ (g : Hypothesis). g.expression))) s.nameable);
 }
 
-claim_label : (k : Known) (a : Assertion) → IsSound k → IsUnit k.tables a → IsWord a.label → IsTrue (is_label a.label) → Pass (assertion_label_tests k a.label) → IsSound (with_assertion k a)
+claim_label : (k : Known) (a : Assertion) → IsSound k → IsUnit k.tables a → IsWord a.label → IsTrue (is_label a.label)
+    → Pass (assertion_label_tests k a.label) → IsSound (with_assertion k a)
 claim_label k a s u word label pass =
     let p = label_passes k (length k.units.assertions) 4096 a.label pass in
     assertion_sound k a s u (label_five a.label _ word label p.plain p.new.not_named) p.new.not_label p.room
 
-claim_sound : (k : Known) (b : Block) (claim : Claim) (a : Assertion) → IsSound k → IsBlockSound k.tables b → AllByRecursion IsWord (claim_spelling claim) → Claims k b claim a → IsSound (with_assertion k a)
+claim_sound : (k : Known) (b : Block) (claim : Claim) (a : Assertion) → IsSound k → IsBlockSound k.tables b
+    → AllByRecursion IsWord (claim_spelling claim) → Claims k b claim a → IsSound (with_assertion k a)
 claim_sound k b (asserted label ws) a s h words d =
     let rest = d.3 in
     let u = axiom_unit k.tables b label rest.0 h (read_expression k.tables ws rest.0 d.2 rest.1) in
@@ -131,12 +142,14 @@ claim_sound k b (proved label ws steps) a s h words d =
     let ss = rest.1 in
     let behind = all_right IsWord ws (codes "$=" ∷ (steps ++ codes "$." ∷ [])) words.1.1 in
     let step_words = all_left IsWord steps (codes "$." ∷ []) behind.1 in
-    let u = theorem_unit k.tables b label e ss h (read_expression k.tables ws e d.2 rest.2) (read_steps k.tables b.hyps steps ss d.3 step_words rest.3) in
+    let u = theorem_unit k.tables b label e ss h (read_expression k.tables ws e d.2 rest.2)
+    (read_steps k.tables b.hyps steps ss d.3 step_words rest.3) in
     subst (λ (x : Assertion). IsSound (with_assertion k x)) rest.4 (claim_label k (theorem_of b label e ss) s u words.0 d.0 d.1)
 
 -- ---- statements
 
-pub statement_sound : (k : Known) (st : Statement) (after : Known) → IsSound k → AllByRecursion IsWord (spelling st) → Declares k st after → IsSound after
+pub statement_sound : (k : Known) (st : Statement) (after : Known) → IsSound k → AllByRecursion IsWord (spelling st) → Declares k st after
+    → IsSound after
 statement_sound k (constants ws) after s h d = constants_all k ws after d.0 s (all_left IsWord ws (codes "$." ∷ []) h.1) d.2
 statement_sound k (variables ws) after s h d = variables_all k ws after d.0 s (all_left IsWord ws (codes "$." ∷ []) h.1) d.2
 statement_sound k (float label c v) after s h d = let n = d.3 in float_sound k after label c v n.0 n.1 d.0 s h.0 d.1 d.2 n.2 n.3 n.4
@@ -144,21 +157,26 @@ statement_sound k (alone claim) after s h d = subst IsSound d.2 (claim_sound k n
 statement_sound k (block pieces claim) after s h d =
     let held = pieces_held pieces k no_block d.0 d.1 s (no_block_sound k.tables) d.3 in
     let end = all_right IsWord (flat_map piece_spelling pieces) (claim_spelling claim ++ codes "$}" ∷ []) h.1 in
-    subst IsSound d.5 (claim_sound d.0 d.1 claim d.2 held.sound held.block (all_left IsWord (claim_spelling claim) (codes "$}" ∷ []) end) d.4)
+    subst IsSound d.5 (claim_sound d.0 d.1 claim d.2 held.sound held.block
+    (all_left IsWord (claim_spelling claim) (codes "$}" ∷ []) end) d.4)
 
-pub all_sound : (ss : List Statement) (k after : Known) → IsSound k → AllByRecursion IsWord (flat_map spelling ss) → DeclareAll k ss after → IsSound after
+pub all_sound : (ss : List Statement) (k after : Known) → IsSound k → AllByRecursion IsWord (flat_map spelling ss) → DeclareAll k ss after
+    → IsSound after
 all_sound [] k after s h d = subst IsSound d s
 all_sound (st ∷ ss) k after s h d =
     let all = subst (AllByRecursion IsWord) (flat_map-cons spelling st ss) h in
-    all_sound ss d.0 after (statement_sound k st d.0 s (all_left IsWord (spelling st) (flat_map spelling ss) all) d.1) (all_right IsWord (spelling st) (flat_map spelling ss) all) d.2
+    all_sound ss d.0 after (statement_sound k st d.0 s (all_left IsWord (spelling st) (flat_map spelling ss) all) d.1)
+    (all_right IsWord (spelling st) (flat_map spelling ss) all) d.2
 
 no_prelude : (k : Known) → k.units.prelude_closed ≡ true → IsTrue (in_prelude k) → ⊥
 no_prelude k closed h = let e : not true ≡ true = subst (λ (b : Bool). not b ≡ true) closed h in absurd cc
 
 -- behind a closed prelude no statement changes it
-pub closed_tables : (k : Known) (st : Statement) (after : Known) → k.units.prelude_closed ≡ true → IsSound k → Declares k st after → k.tables ≡ after.tables
+pub closed_tables : (k : Known) (st : Statement) (after : Known) → k.units.prelude_closed ≡ true → IsSound k → Declares k st after
+    → k.tables ≡ after.tables
 closed_tables k (constants ws) after closed s d = absurd (no_prelude k closed d.0)
 closed_tables k (variables ws) after closed s d = absurd (no_prelude k closed d.0)
 closed_tables k (float label c v) after closed s d = absurd (no_prelude k closed d.0)
 closed_tables k (alone claim) after closed s d = ap (λ (x : Known). x.tables) d.2
-closed_tables k (block pieces claim) after closed s d = (pieces_held pieces k no_block d.0 d.1 s (no_block_sound k.tables) d.3).tables ∙ ap (λ (x : Known). x.tables) d.5
+closed_tables k (block pieces claim) after closed s d =
+    (pieces_held pieces k no_block d.0 d.1 s (no_block_sound k.tables) d.3).tables ∙ ap (λ (x : Known). x.tables) d.5

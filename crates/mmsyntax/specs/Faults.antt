@@ -1,4 +1,4 @@
--- Each token outside of comments in its place in the grammar: where it leads, or its fault. One function for each row of the table of tests.
+-- Each token outside of comments in its place in the grammar: where it leads, or its fault. Each row of the table of tests is a function.
 use Rattle.std.specs.Prelude.{ℕ, Bool, true, false, List, [], ◌∷◌, ◌++◌, length, Option, Some, None, Result, Ok, Err}
 use Rattle.std.specs.Prelude.{if◌then◌else◌, is_some}
 use Rattle.mmsyntax.specs.declared.statement.Symbol.{Symbol}

@@ -127,7 +127,15 @@ module _ (lib : Citable) (p : Tables) (a : Assertion) where
         (
           f,
           e,
-          (expressions_of (take n gs), expressions_of (drop n gs), x, expressions_parts n gs, given, expressions_of-append (take n gs) (g ∷ [])),
+          (
+            expressions_of (take n gs),
+            expressions_of (drop n gs),
+            x,
+            expressions_parts n gs,
+            given,
+            expressions_of-append (take n gs)
+                (g ∷ []),
+          ),
         ),
         one_more (take n gs) g (all_take n gs h) (f, expressions_of (drop n gs), e, args, given),
         listings_of (take n gs) (g ∷ [])

@@ -1,5 +1,6 @@
 -- The ranges of a store that words name.
-use Rattle.std.proofs.Common.{◌≡◌, ◌≢◌, ◌⊎◌, ⊎_elim, Bool, true, false, ℕ, zero, suc, ◌+◌, ◌/◌, ◌%◌, ◌^◌, ◌<◌, ◌≤◌, inl, inr, Some, List, [], ◌∷◌, ◌++◌, length, slice_get, sym, ap, ◌∙◌, subst, refl, arith, take, drop}
+use Rattle.std.proofs.Common.{◌≡◌, ◌≢◌, ◌⊎◌, ⊎_elim, Bool, true, false, ℕ, zero, suc, ◌+◌, ◌/◌, ◌%◌, ◌^◌, ◌<◌, ◌≤◌, inl, inr, Some, List}
+use Rattle.std.proofs.Common.{[], ◌∷◌, ◌++◌, length, slice_get, sym, ap, ◌∙◌, subst, refl, arith, take, drop}
 use Rattle.std.proofs.lemmas.Option.{slice_get-get_or, slice_get_within}
 use Rattle.ranges.specs.Ranges.{Range, Has, IsStored, AreOfOneStore, range_named, with_range, with_named, named_from, ranges_named, IsNamed}
 use Rattle.ranges.proofs.Stored.{stored_coherent}
@@ -19,7 +20,8 @@ taken (suc n) (suc i) w (x ∷ xs) e = taken n i w xs e
 pub part_get : (n s i w : ℕ) (xs : List ℕ) → slice_get (take n (drop s xs)) i ≡ Some w → slice_get xs (s + i) ≡ Some w
 part_get n zero i w xs e = ap (λ (k : ℕ). slice_get xs k) (let z : 0 + i ≡ i = omega arith in z) ∙ taken n i w xs e
 part_get n (suc s) i w [] e = let none : slice_get [] i ≡ Some w = taken n i w [] e in absurd (cc)
-part_get n (suc s) i w (x ∷ xs) e = ap (λ (k : ℕ). slice_get (x ∷ xs) k) (let k : suc s + i ≡ suc (s + i) = omega arith in k) ∙ part_get n s i w xs e
+part_get n (suc s) i w (x ∷ xs) e = ap (λ (k : ℕ). slice_get (x ∷ xs) k) (let k : suc s + i ≡ suc (s + i) = omega arith in k)
+    ∙ part_get n s i w xs e
 
 part_within : (n s i : ℕ) (xs : List ℕ) → i < length (take n (drop s xs)) → s + i < length xs
 part_within n s i xs l = slice_get_within xs (s + i) _ (part_get n s i _ xs (slice_get-get_or (take n (drop s xs)) i 0 l))
@@ -35,7 +37,8 @@ has_range r q (w ∷ ws) rs (inr has) = inr has
 
 has_named : (b : Bool) (r q : Range) (rs : List Range) → Has r (with_named b q rs) → ((b ≡ true) × (r ≡ q) × (q.words ≢ [])) ⊎ Has r rs
 has_named false r q rs has = inr has
-has_named true r q rs has = ⊎_elim (λ (p : (r ≡ q) × (q.words ≢ [])). inl (refl, p.0, p.1)) (λ (p : Has r rs). inr p) (has_range r q q.words rs has)
+has_named true r q rs has = ⊎_elim (λ (p : (r ≡ q) × (q.words ≢ [])). inl (refl, p.0, p.1)) (λ (p : Has r rs). inr p)
+    (has_range r q q.words rs has)
 
 named_in : (ranged : ℕ → Bool) (store : List ℕ) (c : ℕ) (values : List ℕ) (r : Range) → Has r (named_from ranged store c values)
     → (k : ℕ) × (v : ℕ) × (slice_get values k ≡ Some v) × (ranged (c + k) ≡ true) × (r ≡ range_named store v) × (r.words ≢ [])
@@ -54,7 +57,8 @@ named_in ranged store c (v ∷ vs) r has = ⊎_elim
     (suc q.0, q.1, q.2, ap ranged (let z : c + suc q.0 ≡ suc c + q.0 = omega arith in z) ∙ q.3, q.4, q.5))
     (has_named (ranged c) r (range_named store v) (named_from ranged store (suc c) vs) has)
 
-pub is_named : (ranged : ℕ → Bool) (store values : List ℕ) (r : Range) → Has r (ranges_named ranged store values) → IsNamed ranged store values r
+pub is_named : (ranged : ℕ → Bool) (store values : List ℕ) (r : Range) → Has r (ranges_named ranged store values)
+    → IsNamed ranged store values r
 is_named ranged store values r has =
     let q = named_in ranged store 0 values r has in
     (q.0, q.1, q.2, ap ranged (let z : q.0 ≡ 0 + q.0 = omega arith in z) ∙ q.3, q.4, q.5)
@@ -81,13 +85,15 @@ named_at ranged store c k v [] e is has_words = absurd (cc)
 named_at ranged store c zero v (u ∷ us) e is has_words =
     let q : u ≡ v = cc in
     subst (λ (x : ℕ). Has (range_named store v) (with_named (ranged c) (range_named store x) (named_from ranged store (suc c) us))) (sym q)
-    (here_named (ranged c) (range_named store v) (named_from ranged store (suc c) us) (ap ranged (let z : c ≡ c + 0 = omega arith in z) ∙ is) has_words)
+    (here_named (ranged c) (range_named store v) (named_from ranged store (suc c) us)
+    (ap ranged (let z : c ≡ c + 0 = omega arith in z) ∙ is) has_words)
 named_at ranged store c (suc k) v (u ∷ us) e is has_words =
     there_named (ranged c) (range_named store v) (range_named store u) (named_from ranged store (suc c) us)
     (named_at ranged store (suc c) k v us e (ap ranged (let z : suc c + k ≡ c + suc k = omega arith in z) ∙ is) has_words)
 
 -- the ranges of an opening are those that its range cells name and that have words
-pub has_its_ranges : (ranged : ℕ → Bool) (store values : List ℕ) (r : Range) → IsNamed ranged store values r → Has r (ranges_named ranged store values)
+pub has_its_ranges : (ranged : ℕ → Bool) (store values : List ℕ) (r : Range) → IsNamed ranged store values r
+    → Has r (ranges_named ranged store values)
 has_its_ranges ranged store values r p =
     subst (λ (q : Range). Has q (ranges_named ranged store values)) (sym p.4)
     (named_at ranged store 0 p.0 p.1 values p.2 (ap ranged (let z : 0 + p.0 ≡ p.0 = omega arith in z) ∙ p.3)
@@ -104,7 +110,8 @@ named_stored ranged store values more r has =
     let l = slice_get_within store (p.1 / 2 ^ 25 + i) w here in
     (get_append store more (p.1 / 2 ^ 25 + i) l ∙ here, l))
 
-lies_in : (ranged : ℕ → Bool) (store values : List ℕ) (room : ℕ) → length store ≤ room → (r : Range) → Has r (ranges_named ranged store values)
+lies_in : (ranged : ℕ → Bool) (store values : List ℕ) (room : ℕ) → length store ≤ room → (r : Range)
+    → Has r (ranges_named ranged store values)
     → (i : ℕ) → i < length r.words → r.start + i < room
 lies_in ranged store values room l r has =
     let p = is_named ranged store values r has in

@@ -4,7 +4,8 @@ use Rattle.std.proofs.lemmas.Option.{slice_get-get_or}
 use Rattle.ranges.specs.Ranges.{Range, Has, IsStored, AreCoherent}
 
 -- ranges that are stored in one store are coherent
-pub stored_coherent : (tail : ℕ) (store : List ℕ) (ranges : List Range) → ((r : Range) → Has r ranges → IsStored tail store r) → AreCoherent ranges
+pub stored_coherent : (tail : ℕ) (store : List ℕ) (ranges : List Range) → ((r : Range) → Has r ranges → IsStored tail store r)
+    → AreCoherent ranges
 stored_coherent tail store ranges stored r q i j w v in_r in_q at a b =
     let x = (stored r in_r i w a).0 in
     let y = (stored q in_q j v b).0 in

@@ -1,5 +1,6 @@
 -- Ranges of the store: runs of store words that are written once, and the words that name them.
-use Rattle.std.specs.Prelude.{◌≡◌, ◌≢◌, ℕ, suc, Bool, true, false, ◌+◌, ◌*◌, ◌/◌, ◌%◌, ◌^◌, ◌<◌, Some, List, [], ◌∷◌, length, take, drop, slice_get, ◌⊎◌}
+use Rattle.std.specs.Prelude.{◌≡◌, ◌≢◌, ℕ, suc, Bool, true, false, ◌+◌, ◌*◌, ◌/◌, ◌%◌, ◌^◌, ◌<◌, Some, List, [], ◌∷◌, length, take, drop}
+use Rattle.std.specs.Prelude.{slice_get, ◌⊎◌}
 
 -- a finished range of the store: where it starts, and its words, which never change again
 pub record Range : Type 0 where

@@ -34,12 +34,14 @@ number-did (Did a) (Did b) n v e = refl
 pub value-same : (d e : ℕ → Deed) (o k : ℕ) → ((i : ℕ) → i < k → did (e i) ≡ did (d i)) → value_after e o k ≡ value_after d o k
 value-same d e o zero h = refl
 value-same d e o (suc k) h =
-    ap (value_over (e k)) (value-same d e o k (λ i l. h i (omega arith))) ∙ value_over-did (e k) (d k) (value_after d o k) (h k (omega arith))
+    ap (value_over (e k)) (value-same d e o k (λ i l. h i (omega arith)))
+    ∙ value_over-did (e k) (d k) (value_after d o k) (h k (omega arith))
 
 pub version-same : (d e : ℕ → Deed) (k : ℕ) → ((i : ℕ) → i < k → did (e i) ≡ did (d i)) → version_after e k ≡ version_after d k
 version-same d e zero h = refl
 version-same d e (suc k) h =
-    ap (version_over (e k) (suc k)) (version-same d e k (λ i l. h i (omega arith))) ∙ number-did (e k) (d k) (suc k) (version_after d k) (h k (omega arith))
+    ap (version_over (e k) (suc k)) (version-same d e k (λ i l. h i (omega arith)))
+    ∙ number-did (e k) (d k) (suc k) (version_after d k) (h k (omega arith))
 
 number-bound : (x : Deed) (k v : ℕ) → v ≤ k → version_over x (suc k) v ≤ suc k
 number-bound Nothing k v h = omega arith

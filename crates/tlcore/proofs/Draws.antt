@@ -1,6 +1,8 @@
 -- The draw of a number keeps what the parts say of each other.
-use Rattle.std.proofs.Common.{List, None, Option, Some, [], ap, arith, inl, inr, length, nat_lt, refl, slice_get, slice_index, subst, suc, sym, true, ℕ, ◌*◌, ◌++◌, ◌<◌, ◌∙◌, ◌∷◌, ◌≡◌, ◌≤◌, ◌⊎◌}
-use Rattle.tlcore.specs.History.{Deed, Did, Done, Entry, Grows, IsOne, Nothing, One, Open, Will, deed, deed_in, deed_of, value, value_after, value_over, version, version_after, version_over, written}
+use Rattle.std.proofs.Common.{List, None, Option, Some, [], ap, arith, inl, inr, length, nat_lt, refl, slice_get, slice_index, subst, suc}
+use Rattle.std.proofs.Common.{sym, true, ℕ, ◌*◌, ◌++◌, ◌<◌, ◌∙◌, ◌∷◌, ◌≡◌, ◌≤◌, ◌⊎◌}
+use Rattle.tlcore.specs.History.{Deed, Did, Done, Entry, Grows, IsOne, Nothing, One, Open, Will, deed, deed_in, deed_of, value, value_after}
+use Rattle.tlcore.specs.History.{value_over, version, version_after, version_over, written}
 use Rattle.tlcore.specs.Seats.{Checking, Held, Place, Read, Seat, Taking, find_held, is_held, number_at, reads_of, writes_of}
 use Rattle.tlcore.specs.Machine.{Cell, World, drawn, placed}
 use Rattle.tlcore.specs.Invariant.{CellsOk, Consistent, HeldOk, HeldShows, HistoryOk, ReadsOk, SeatOk, SettledOk, done_at}
@@ -8,7 +10,8 @@ use Rattle.tlcore.proofs.AfterEvent.{Consistent-step, Others}
 use Rattle.tlcore.proofs.Deeds.{did, value-same, version-same}
 use Rattle.tlcore.proofs.Frame.{Frame, ReadsOk-kept}
 use Rattle.tlcore.proofs.Growth.{Grows-append, IsOne-kept, One-kept, WasWritten-kept}
-use Rattle.tlcore.proofs.Lists.{get-append_cases, get-append_left, get-append_seam, get_within, length-append_one, less_numbers, odd_even, one_of}
+use Rattle.tlcore.proofs.Lists.{get-append_cases, get-append_left, get-append_seam, get_within, length-append_one, less_numbers, odd_even}
+use Rattle.tlcore.proofs.Lists.{one_of}
 use Rattle.tlcore.proofs.SeatParts.{is_held-find, number_within, one_on, written-find}
 use Rattle.tlcore.proofs.Stays.{Stays}
 
@@ -51,11 +54,13 @@ module _ (o : List ℕ) (h : List Entry) (rs ws : List (ℕ × ℕ)) where
       record {
         of_version = λ c.
             ap (version_after (deed g c)) length_g
-            ∙ (number_none (deed g c (length h)) (suc (length h)) (version_after (deed g c) (length h)) (ap did (deed_at c) ∙ open_did (written c ws))
+            ∙ (number_none (deed g c (length h)) (suc (length h)) (version_after (deed g c) (length h))
+            (ap did (deed_at c) ∙ open_did (written c ws))
             ∙ version-same (deed h c) (deed g c) (length h) (λ i l. ap did (deed_before c i l)));
         of_value = λ c.
             ap (value_after (deed g c) (slice_index o c)) length_g
-            ∙ (over_none (deed g c (length h)) (value_after (deed g c) (slice_index o c) (length h)) (ap did (deed_at c) ∙ open_did (written c ws))
+            ∙ (over_none (deed g c (length h)) (value_after (deed g c) (slice_index o c) (length h))
+            (ap did (deed_at c) ∙ open_did (written c ws))
             ∙ value-same (deed h c) (deed g c) (slice_index o c) (length h) (λ i l. ap did (deed_before c i l)));
       }
 
@@ -91,7 +96,13 @@ module _ (o : List ℕ) (w : World) (s : ℕ) (t : Seat) (I : Consistent o w) (e
       record {
         grows = grows;
         same =
-            λ c f. record { cell = refl; same_version = stays.of_version c; same_value = stays.of_value c; will = λ i u d. will_before c i u f d };
+            λ c f. record {
+              cell = refl;
+              same_version = stays.of_version c;
+              same_value = stays.of_value c;
+              will =
+                  λ i u d. will_before c i u f d;
+            };
         evolves = λ c. record {
           up = omega (arith, stays.of_version c);
           same_value = λ a. stays.of_value c;
@@ -121,8 +132,12 @@ module _ (o : List ℕ) (w : World) (s : ℕ) (t : Seat) (I : Consistent o w) (e
   draw_cells : CellsOk o w.cells later
   draw_cells c v x g j =
       let b : (v ≡ version w.history c) × (x.value ≡ value o w.history c) × ((i u : ℕ) → deed w.history c i ≡ Will u → ⊥) =
-      I.cells c v x g j in
-      (b.0 ∙ sym (stays.of_version c), b.1 ∙ sym (stays.of_value c), λ i u d. b.2 i u (will_before c i u (λ k f. held_locked c k f v x g j) d))
+      I.cells c v x g j in (
+        b.0 ∙ sym (stays.of_version c),
+        b.1 ∙ sym (stays.of_value c),
+        λ i u d. b.2 i u
+            (will_before c i u (λ k f. held_locked c k f v x g j) d),
+      )
 
   draw_history : HistoryOk o later
   draw_history i d g st = go (get-append_cases w.history entry i)
@@ -151,7 +166,8 @@ module _ (o : List ℕ) (w : World) (s : ℕ) (t : Seat) (I : Consistent o w) (e
           subst (λ (y : Place). HeldShows o w.history (done_at y) r.cell k d.0) p d.2.shows in
           let l : t.rv ≤ length w.history = q.rv in
           let one : IsOne o w.history w.clock r.cell r.value =
-          one_on o w.history r.cell t.rv w.clock r.value a.0.1 (omega (arith, sh.0, d.2.old.1, d.2.old.2)) (omega (arith, I.clock)) (omega (arith, I.clock))
+          one_on o w.history r.cell t.rv w.clock r.value a.0.1 (omega (arith, sh.0, d.2.old.1, d.2.old.2)) (omega (arith, I.clock))
+          (omega (arith, I.clock))
           (λ i u m f. taking_none i (sym (ap number_at p) ∙ d.2.mine i u f))
           in IsOne-kept o w.history later w.clock r.cell r.value grows (omega (arith, I.clock)) one
         where
@@ -195,7 +211,8 @@ module _ (o : List ℕ) (w : World) (s : ℕ) (t : Seat) (I : Consistent o w) (e
       taking_none i y = cc
 
       own : (c : ℕ) (k : Held) (x : Cell) → HeldOk o w.history t.rv t.place c k x → (i u : ℕ) → deed later c i ≡ Will u
-          → (deed later c i ≡ deed w.history c i) ⊎ ((i ≡ length w.history) × (deed later c i ≡ deed_of Open (written c (writes_of t.held))))
+          → (deed later c i ≡ deed w.history c i) ⊎ ((i ≡ length w.history)
+          × (deed later c i ≡ deed_of Open (written c (writes_of t.held))))
           → Some w.clock ≡ Some i
       own c k x r i u b (inl a) = absurd (taking_none i (sym (ap number_at p) ∙ r.mine i u (sym a ∙ b)))
       own c k x r i u b (inr a) = ap (λ (y : ℕ). Some y) (I.clock ∙ sym a.0)

@@ -1,7 +1,8 @@
 -- Each lawful event keeps the invariant, and the history grows.
 use Rattle.std.proofs.Common.{List, None, Some, [], ap, arith, inl, inr, refl, slice_get, subst, suc, sym, true, ℕ, ◌||◌, ◌≡◌, ◌⊎◌}
 use Rattle.tlcore.specs.History.{Entry, Grows, One, Open}
-use Rattle.tlcore.specs.Seats.{Checking, Loaded, Place, Reading, Seat, Taking, all_below, all_settled, is_next, number_at, reads_of, writes_of}
+use Rattle.tlcore.specs.Seats.{Checking, Loaded, Place, Reading, Seat, Taking, all_below, all_settled, is_next, number_at, reads_of}
+use Rattle.tlcore.specs.Seats.{writes_of}
 use Rattle.tlcore.specs.Machine.{Action, World, begun, with_seat}
 use Rattle.tlcore.specs.Invariant.{CheckingOk, Consistent, PlaceOk, done_at}
 use Rattle.tlcore.specs.Laws.{EachEventKeeps}
@@ -11,7 +12,8 @@ use Rattle.tlcore.proofs.Lists.{equal_numbers, one_of}
 use Rattle.tlcore.proofs.Moves.{locked_step, row_moves}
 use Rattle.tlcore.proofs.Quiet.{begin_keeps, check_fails_keeps, checked_keeps, conflict_keeps, load_keeps, looked_keeps, relooked_keeps}
 use Rattle.tlcore.proofs.Releases.{release_done, release_failed, release_void, void_grows}
-use Rattle.tlcore.proofs.Rows.{Row, begins, check_conflicts, checks, draws, loads, look_conflicts, looks, releases_done, releases_failed, releases_void, relook_conflicts, relooks, row_of, stores, take_conflicts, takes}
+use Rattle.tlcore.proofs.Rows.{Row, begins, check_conflicts, checks, draws, loads, look_conflicts, looks, releases_done, releases_failed}
+use Rattle.tlcore.proofs.Rows.{releases_void, relook_conflicts, relooks, row_of, stores, take_conflicts, takes}
 use Rattle.tlcore.proofs.SeatParts.{ReadsOk-one, find_read-ok}
 use Rattle.tlcore.proofs.Stores.{all_one, first_grows, first_store_keeps}
 use Rattle.tlcore.proofs.StoresAgain.{again_same, store_keeps}
@@ -31,7 +33,9 @@ drawn_one o w s t i u I e p b = either (one_of (is_next t i) (all_settled t.held
 
     either : (is_next t i ≡ true) ⊎ (all_settled t.held u t.reads ≡ true) → One o w.history i (reads_of t.reads)
     either (inl b) =
-        subst (λ (y : ℕ). One o w.history y (reads_of t.reads)) (let e : suc t.rv ≡ suc i = equal_numbers (suc t.rv) (suc i) b in omega (arith, e)) (ReadsOk-one o w.history t.rv t.reads (I.seats s t e).reads)
+        subst (λ (y : ℕ). One o w.history y (reads_of t.reads))
+        (let e : suc t.rv ≡ suc i = equal_numbers (suc t.rv) (suc i) b in omega (arith, e))
+        (ReadsOk-one o w.history t.rv t.reads (I.seats s t e).reads)
     either (inr b) = all_one o w.history i u t.held t.reads r.settled b
 
 module _ (o : List ℕ) (w : World) (s : ℕ) (t : Seat) (I : Consistent o w) (e : slice_get w.seats s ≡ Some t) where
@@ -57,14 +61,18 @@ module _ (o : List ℕ) (w : World) (s : ℕ) (t : Seat) (I : Consistent o w) (e
   row_keeps a v (relook_conflicts {c} {word} {v = y} p f m) =
       same v refl (conflict_keeps o w s t I e (empty_at (Loaded c word y) p (λ q. q.0)))
   row_keeps a v (takes {c} {v = y} {r} {x} p f g m) =
-      same v refl (taken_keeps o w s t c y r.word x I e (free_of c p).0 (free_of c p).1 (find_read-ok o w.history t.rv c t.reads r (I.seats s t e).reads f).1 g (equal_numbers x.lock r.word m))
+      same v refl (taken_keeps o w s t c y r.word x I e (free_of c p).0 (free_of c p).1
+      (find_read-ok o w.history t.rv c t.reads r (I.seats s t e).reads f).1 g (equal_numbers x.lock r.word m))
   row_keeps a v (take_conflicts {c} p f g m) = same v refl (lost_keeps o w s t I e (free_of c p).0 (free_of c p).1)
   row_keeps a v (draws p) =
       (drawn_keeps o w s t I e p, Grows-append w.history (record { status = Open; reads = reads_of t.reads; writes = writes_of t.held }))
   row_keeps a v (checks {i} {u} {c} {x} p d f m) = same v refl (checked_keeps o w s t i u c x I e p d f m)
   row_keeps a v (check_conflicts {i} {u} p d f m) = same v refl (check_fails_keeps o w s t i u I e p)
-  row_keeps a v (stores {i} {c} {k} {x} (inl p) f g) =
-      (first_store_keeps o w s t i p.0 c k x I e p.1 (drawn_one o w s t i p.0 I e p.1 p.2) f g, first_grows o w s t i p.0 c k x I e p.1 (drawn_one o w s t i p.0 I e p.1 p.2) f g)
+  row_keeps a v (stores {i} {c} {k} {x} (inl p) f g) = (
+    first_store_keeps o w s t i p.0 c k x I e p.1 (drawn_one o w s t i p.0 I e p.1 p.2) f g,
+    first_grows o w s t i p.0 c k x I e p.1
+        (drawn_one o w s t i p.0 I e p.1 p.2) f g,
+  )
   row_keeps a v (stores {i} {c} {k} {x} (inr p) f g) = same v (again_same o w s t i c k x I e p f g) (store_keeps o w s t i c k x I e p f g)
   row_keeps a v (releases_done {i} {c} {k} {x} p f st g) = same v refl (release_done o w s t c k x I e f g i p st)
   row_keeps a v (releases_failed {c} {k} {x} p f g) = same v refl (release_failed o w s t c k x I e f g p)

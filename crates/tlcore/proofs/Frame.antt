@@ -1,7 +1,9 @@
 -- What an event of one seat leaves to the others, which keep what holds of them.
-use Rattle.std.proofs.Common.{List, None, Option, Some, [], ap, arith, inl, inr, length, refl, slice_get, slice_set, subst, sym, ℕ, ◌*◌, ◌<◌, ◌∙◌, ◌∷◌, ◌≡◌, ◌≢◌, ◌≤◌, ◌⊎◌}
+use Rattle.std.proofs.Common.{List, None, Option, Some, [], ap, arith, inl, inr, length, refl, slice_get, slice_set, subst, sym, ℕ, ◌*◌}
+use Rattle.std.proofs.Common.{◌<◌, ◌∙◌, ◌∷◌, ◌≡◌, ◌≢◌, ◌≤◌, ◌⊎◌}
 use Rattle.tlcore.specs.History.{Entry, Grows, Will, deed, value, version}
-use Rattle.tlcore.specs.Seats.{Checking, Failing, Held, Idle, Loaded, Looked, Place, Read, Reading, Seat, Storing, Taking, Voiding, find_held, number_at}
+use Rattle.tlcore.specs.Seats.{Checking, Failing, Held, Idle, Loaded, Looked, Place, Read, Reading, Seat, Storing, Taking, Voiding}
+use Rattle.tlcore.specs.Seats.{find_held, number_at}
 use Rattle.tlcore.specs.Machine.{Cell}
 use Rattle.tlcore.specs.Invariant.{HeldOk, HeldShows, PlaceOk, ReadsOk, SeatOk, SettledOk, done_at}
 use Rattle.tlcore.proofs.Growth.{IsOne-kept, WasWritten-kept}

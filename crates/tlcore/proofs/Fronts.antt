@@ -1,5 +1,6 @@
 -- Fronts of a schedule whose events are each lawful.
-use Rattle.std.proofs.Common.{List, None, Option, Some, [], add-one, ap, arith, get_or, length, refl, slice_get, suc, sym, take, zero, ℕ, ◌+◌, ◌<◌, ◌∙◌, ◌∷◌, ◌≡◌}
+use Rattle.std.proofs.Common.{List, None, Option, Some, [], add-one, ap, arith, get_or, length, refl, slice_get, suc, sym, take, zero, ℕ}
+use Rattle.std.proofs.Common.{◌+◌, ◌<◌, ◌∙◌, ◌∷◌, ◌≡◌}
 use Rattle.tlcore.specs.Machine.{World, given, next}
 use Rattle.tlcore.specs.Schedules.{Event, IsLongestFront, run}
 use Rattle.tlcore.proofs.Lists.{get_within}
@@ -16,7 +17,8 @@ front_more w now v es i e r f n = rw add-one (go w es i r f)
     go w (x ∷ es) zero r f =
         let q : x ≡ e = cc in
         let p : w ≡ now = cc in
-        ap (λ (y : Option World). given y (λ u. run [] u)) (ap (λ (y : Event). next w y.0 y.1) q ∙ (ap (λ (y : World). next y e.0 e.1) p ∙ n))
+        ap (λ (y : Option World). given y (λ u. run [] u))
+        (ap (λ (y : Event). next w y.0 y.1) q ∙ (ap (λ (y : World). next y e.0 e.1) p ∙ n))
     go w (x ∷ es) (suc i) r f =
         let m : (u : World) × (next w x.0 x.1 ≡ Some u) × (run (take i es) u ≡ Some now) =
         given_some (next w x.0 x.1) (λ u. run (take i es) u) now r in

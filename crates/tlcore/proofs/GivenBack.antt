@@ -1,5 +1,6 @@
 -- A held cell's lock word is set to a word that shows the history: what the parts say of each other is kept.
-use Rattle.std.proofs.Common.{Bool, List, None, Some, [], ap, arith, false, if◌then◌else◌, inl, inr, length, refl, slice_get, slice_set, subst, sym, true, ℕ, ◌*◌, ◌∙◌, ◌≡◌, ◌≢◌, ◌⊎◌}
+use Rattle.std.proofs.Common.{Bool, List, None, Some, [], ap, arith, false, if◌then◌else◌, inl, inr, length, refl, slice_get, slice_set}
+use Rattle.std.proofs.Common.{subst, sym, true, ℕ, ◌*◌, ◌∙◌, ◌≡◌, ◌≢◌, ◌⊎◌}
 use Rattle.tlcore.specs.History.{Entry, Grows, Will, deed, value, version}
 use Rattle.tlcore.specs.Seats.{Held, Idle, Place, Seat, find_held, is_nil, number_at, without}
 use Rattle.tlcore.specs.Machine.{Cell, World, release}
@@ -50,12 +51,24 @@ module _ (o : List ℕ) (w : World) (s : ℕ) (t : Seat) (c word : ℕ) (k : Hel
   held_after d l a =
       let b : (d ≢ c) × (find_held d t.held ≡ Some l) = without-find c d t.held l a in
       let z : (y : Cell) × (slice_get w.cells d ≡ Some y) × HeldOk o w.history t.rv t.place d l y = q.held d l b.1 in
-      let un : Untouched o w.cells xs w.history g d = record { cell = get-set_other w.cells c d (record x { lock = word }) b.0; same_version = stays.of_version d; same_value = stays.of_value d; will = will d } in
+      let un : Untouched o w.cells xs w.history g d = record {
+        cell = get-set_other w.cells c d (record x { lock = word }) b.0;
+        same_version = stays.of_version d;
+        same_value =
+            stays.of_value d;
+        will = will d;
+      } in
       (z.0, un.cell ∙ z.1, HeldOk-kept o w.cells xs w.history g t.rv t.place d l z.0 grows un z.2)
 
   pub release_to : (p : Place) → PlaceOk o xs g (record t { place = p; held = without c t.held }) p
       → (p ≡ t.place) ⊎ ((p ≡ Idle) × (without c t.held ≡ []))
-      → Consistent o (record { clock = w.clock; cells = xs; seats = slice_set w.seats s (record t { place = p; held = without c t.held }); history = g })
+      → Consistent o (record {
+        clock = w.clock;
+        cells = xs;
+        seats =
+            slice_set w.seats s (record t { place = p; held = without c t.held });
+        history = g;
+      })
   release_to p ok same =
       Consistent-step o w s t (record t { place = p; held = without c t.held }) xs g w.clock t.held (number_at t.place) I e
       release_frame (others-own o w s t I e) (I.clock ∙ sym len) release_cells history
@@ -70,7 +83,8 @@ module _ (o : List ℕ) (w : World) (s : ℕ) (t : Seat) (c word : ℕ) (k : Hel
     where
       held_as : (d : ℕ) (l : Held) → find_held d (without c t.held) ≡ Some l → (p ≡ t.place) ⊎ ((p ≡ Idle) × (without c t.held ≡ []))
           → (y : Cell) × (slice_get xs d ≡ Some y) × HeldOk o g t.rv p d l y
-      held_as d l a (inl b) = let z : (y : Cell) × (slice_get xs d ≡ Some y) × HeldOk o g t.rv t.place d l y = held_after d l a in (z.0, z.1, subst (λ (m : Place). HeldOk o g t.rv m d l z.0) (sym b) z.2)
+      held_as d l a (inl b) = let z : (y : Cell) × (slice_get xs d ≡ Some y) × HeldOk o g t.rv t.place d l y = held_after d l a in
+          (z.0, z.1, subst (λ (m : Place). HeldOk o g t.rv m d l z.0) (sym b) z.2)
       held_as d l a (inr b) = absurd (empty_held (without c t.held) b.1 d l a)
 
       number : (i : ℕ) → number_at p ≡ Some i → (p ≡ t.place) ⊎ ((p ≡ Idle) × (without c t.held ≡ [])) → number_at t.place ≡ Some i
@@ -84,8 +98,44 @@ module _ (o : List ℕ) (w : World) (s : ℕ) (t : Seat) (c word : ℕ) (k : Hel
       go : (is_nil (without c t.held) ≡ true) ⊎ (is_nil (without c t.held) ≡ false) → Consistent o (release w s t c word x g)
       go (inl m) =
           let n : without c t.held ≡ [] = is_nil-nil (without c t.held) m in
-          let b : Consistent o (record { clock = w.clock; cells = xs; seats = slice_set w.seats s (record t { place = Idle; held = without c t.held }); history = g }) = release_to Idle n (inr (refl, n)) in
-          subst (λ (v : Bool). Consistent o (record { clock = w.clock; cells = xs; seats = slice_set w.seats s (record t { place = (if v then Idle else t.place); held = without c t.held }); history = g })) (sym m) b
+          let b : Consistent o (record {
+            clock = w.clock;
+            cells = xs;
+            seats = slice_set w.seats s (record t {
+              place = Idle;
+              held =
+                  without c t.held;
+            });
+            history = g;
+          }) = release_to Idle n (inr (refl, n)) in
+          subst (λ (v : Bool). Consistent o (record {
+            clock = w.clock;
+            cells = xs;
+            seats = slice_set w.seats s (record t {
+              place =
+                  (if v then Idle else t.place);
+              held = without c t.held;
+            });
+            history = g;
+          })) (sym m) b
       go (inr m) =
-          let b : Consistent o (record { clock = w.clock; cells = xs; seats = slice_set w.seats s (record t { place = t.place; held = without c t.held }); history = g }) = release_to t.place ok (inl refl) in
-          subst (λ (v : Bool). Consistent o (record { clock = w.clock; cells = xs; seats = slice_set w.seats s (record t { place = (if v then Idle else t.place); held = without c t.held }); history = g })) (sym m) b
+          let b : Consistent o (record {
+            clock = w.clock;
+            cells = xs;
+            seats = slice_set w.seats s (record t {
+              place = t.place;
+              held =
+                  without c t.held;
+            });
+            history = g;
+          }) = release_to t.place ok (inl refl) in
+          subst (λ (v : Bool). Consistent o (record {
+            clock = w.clock;
+            cells = xs;
+            seats = slice_set w.seats s (record t {
+              place =
+                  (if v then Idle else t.place);
+              held = without c t.held;
+            });
+            history = g;
+          })) (sym m) b

@@ -1,6 +1,8 @@
 -- How histories grow, and that one version stays one.
-use Rattle.std.proofs.Common.{List, None, Option, Some, [], ap, arith, inl, inr, length, refl, slice_get, slice_index, suc, sym, zero, ℕ, ◌++◌, ◌<◌, ◌∙◌, ◌∷◌, ◌≡◌, ◌≢◌, ◌≤◌, ◌⊎◌}
-use Rattle.tlcore.specs.History.{Did, Done, Entry, EntryGrows, Grows, IsOne, Nothing, One, Open, Status, Void, WasWritten, Will, deed, deed_in, deed_of, settle, written}
+use Rattle.std.proofs.Common.{List, None, Option, Some, [], ap, arith, inl, inr, length, refl, slice_get, slice_index, suc, sym, zero, ℕ}
+use Rattle.std.proofs.Common.{◌++◌, ◌<◌, ◌∙◌, ◌∷◌, ◌≡◌, ◌≢◌, ◌≤◌, ◌⊎◌}
+use Rattle.tlcore.specs.History.{Did, Done, Entry, EntryGrows, Grows, IsOne, Nothing, One, Open, Status, Void, WasWritten, Will, deed}
+use Rattle.tlcore.specs.History.{deed_in, deed_of, settle, written}
 use Rattle.tlcore.proofs.Deeds.{did, value-same}
 use Rattle.tlcore.proofs.Lists.{get-append_left, get_within, length-append_one, same_or_not}
 use Rattle.tlcore.proofs.Settling.{get-settle_other, get-settle_same, length-settle}

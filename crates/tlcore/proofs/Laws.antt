@@ -1,10 +1,14 @@
 -- The laws of single events.
-use Rattle.std.proofs.Common.{Bool, List, Option, Some, [], ap, arith, eq-eqb, false, inl, inr, length, not, refl, slice_get, subst, sym, true, ℕ, ◌&&◌, ◌*◌, ◌++◌, ◌==◌, ◌||◌, ◌∙◌, ◌∷◌, ◌≡◌, ◌⊎◌}
+use Rattle.std.proofs.Common.{Bool, List, Option, Some, [], ap, arith, eq-eqb, false, inl, inr, length, not, refl, slice_get, subst, sym}
+use Rattle.std.proofs.Common.{true, ℕ, ◌&&◌, ◌*◌, ◌++◌, ◌==◌, ◌||◌, ◌∙◌, ◌∷◌, ◌≡◌, ◌⊎◌}
 use Rattle.tlcore.specs.History.{Void, settle, value, wv}
-use Rattle.tlcore.specs.Seats.{Checking, Failing, Held, Idle, Loaded, Looked, Place, Read, Reading, Seat, Storing, Taking, Voiding, all_below, all_settled, find_held, find_read, idle, is_due, is_next, number_at}
-use Rattle.tlcore.specs.Machine.{Action, Begin, Cell, Check, Draw, Load, Look, Release, Relook, Store, Take, World, act, begun, check, drawn, given, load, look, next, only_if, release, relook, store, take_cell, with_seat}
+use Rattle.tlcore.specs.Seats.{Checking, Failing, Held, Idle, Loaded, Looked, Place, Read, Reading, Seat, Storing, Taking, Voiding}
+use Rattle.tlcore.specs.Seats.{all_below, all_settled, find_held, find_read, idle, is_due, is_next, number_at}
+use Rattle.tlcore.specs.Machine.{Action, Begin, Cell, Check, Draw, Load, Look, Release, Relook, Store, Take, World, act, begun, check}
+use Rattle.tlcore.specs.Machine.{drawn, given, load, look, next, only_if, release, relook, store, take_cell, with_seat}
 use Rattle.tlcore.specs.Invariant.{HeldApart, Holds, Invariant, NumbersApart, SeatOk}
-use Rattle.tlcore.specs.Laws.{BeginLeads, CheckLeads, DrawLeads, IdleSeatKeeps, Leads, LoadLeads, LookLeads, OneStays, ReleaseFailedLeads, ReleaseLeads, ReleaseVoidLeads, RelookLeads, StoreLeads, TakeLeads}
+use Rattle.tlcore.specs.Laws.{BeginLeads, CheckLeads, DrawLeads, IdleSeatKeeps, Leads, LoadLeads, LookLeads, OneStays, ReleaseFailedLeads}
+use Rattle.tlcore.specs.Laws.{ReleaseLeads, ReleaseVoidLeads, RelookLeads, StoreLeads, TakeLeads}
 use Rattle.tlcore.proofs.Events.{event_keeps}
 use Rattle.tlcore.proofs.Growth.{One-kept}
 use Rattle.tlcore.proofs.Lists.{get-append_cases, get-append_left, get_within}
@@ -54,7 +58,8 @@ relook_leads o w s t c word value x I e p f =
 
 -- the try of a cell that was read
 tried : (w : World) (s : ℕ) (t : Seat) (c value : ℕ) (r : Read) (x : Cell) → find_read c t.reads ≡ Some r → slice_get w.cells c ≡ Some x
-    → given (find_read c t.reads) (λ (r : Read). given (slice_get w.cells c) (λ (x : Cell). Some (take_cell w s t c value r.word x))) ≡ Some (take_cell w s t c value r.word x)
+    → given (find_read c t.reads) (λ (r : Read). given (slice_get w.cells c) (λ (x : Cell). Some (take_cell w s t c value r.word x)))
+    ≡ Some (take_cell w s t c value r.word x)
 tried w s t c value r x g f =
     given_is (find_read c t.reads) (λ (r : Read). given (slice_get w.cells c) (λ (x : Cell). Some (take_cell w s t c value r.word x))) r g
     ∙ given_is (slice_get w.cells c) (λ (x : Cell). Some (take_cell w s t c value r.word x)) x f
@@ -64,7 +69,8 @@ take_leads o w s t c value r x I e (inl p) g f =
     leads o w (take_cell w s t c value r.word x) s t Reading (Take c value) I e p (tried w s t c value r x g f)
 take_leads o w s t c value r x I e (inr p) g f =
     leads o w (take_cell w s t c value r.word x) s t Taking (Take c value) I e p.0
-    (only_is (all_below c t.held) (given (find_read c t.reads) (λ (r : Read). given (slice_get w.cells c) (λ (x : Cell). Some (take_cell w s t c value r.word x)))) p.1
+    (only_is (all_below c t.held) (given (find_read c t.reads)
+    (λ (r : Read). given (slice_get w.cells c) (λ (x : Cell). Some (take_cell w s t c value r.word x)))) p.1
     ∙ tried w s t c value r x g f)
 
 pub draw_leads : DrawLeads
@@ -77,7 +83,8 @@ both_pass false b p q = q
 pub check_leads : CheckLeads
 check_leads o w s t i upto c r x I e p n d g f =
     leads o w (check w s t i c x) s t (Checking i upto) (Check c) I e p
-    (only_is (not (is_next t i) && is_due t upto c) (given (find_read c t.reads) (λ (r : Read). given (slice_get w.cells c) (λ (x : Cell). Some (check w s t i c x))))
+    (only_is (not (is_next t i) && is_due t upto c) (given (find_read c t.reads)
+    (λ (r : Read). given (slice_get w.cells c) (λ (x : Cell). Some (check w s t i c x))))
     (both_pass (is_next t i) (is_due t upto c) n d)
     ∙ (given_is (find_read c t.reads) (λ (r : Read). given (slice_get w.cells c) (λ (x : Cell). Some (check w s t i c x))) r g
     ∙ given_is (slice_get w.cells c) (λ (x : Cell). Some (check w s t i c x)) x f))
@@ -93,7 +100,8 @@ with_held w t c k x after g f =
 pub store_leads : StoreLeads
 store_leads o w s t i c k x I e (inl p) g f =
     leads o w (store w s t i c k x) s t (Checking i p.0) (Store c) I e p.1
-    (only_is (is_next t i || all_settled t.held p.0 t.reads) (given (find_held c t.held) (λ (k : Held). given (slice_get w.cells c) (λ (x : Cell). Some (store w s t i c k x)))) p.2
+    (only_is (is_next t i || all_settled t.held p.0 t.reads)
+    (given (find_held c t.held) (λ (k : Held). given (slice_get w.cells c) (λ (x : Cell). Some (store w s t i c k x)))) p.2
     ∙ with_held w t c k x (λ (k : Held) (x : Cell). store w s t i c k x) g f)
 store_leads o w s t i c k x I e (inr p) g f =
     leads o w (store w s t i c k x) s t (Storing i) (Store c) I e p (with_held w t c k x (λ (k : Held) (x : Cell). store w s t i c k x) g f)
@@ -101,7 +109,8 @@ store_leads o w s t i c k x I e (inr p) g f =
 pub release_leads : ReleaseLeads
 release_leads o w s t i c k x I e p g m f =
     leads o w (release w s t c (2 * wv i) x w.history) s t (Storing i) (Release c) I e p
-    (given_is (find_held c t.held) (λ (k : Held). only_if k.stored (given (slice_get w.cells c) (λ (x : Cell). Some (release w s t c (2 * wv i) x w.history)))) k g
+    (given_is (find_held c t.held) (λ (k : Held). only_if k.stored
+    (given (slice_get w.cells c) (λ (x : Cell). Some (release w s t c (2 * wv i) x w.history)))) k g
     ∙ (only_is k.stored (given (slice_get w.cells c) (λ (x : Cell). Some (release w s t c (2 * wv i) x w.history))) m
     ∙ given_is (slice_get w.cells c) (λ (x : Cell). Some (release w s t c (2 * wv i) x w.history)) x f))
 
@@ -123,7 +132,8 @@ module _ (o : List ℕ) (w : World) (I : Invariant o w) where
   seat_cases s t e = go (get-append_cases w.seats idle s)
     where
       go :
-          (slice_get (w.seats ++ idle ∷ []) s ≡ slice_get w.seats s) ⊎ ((s ≡ length w.seats) × (slice_get (w.seats ++ idle ∷ []) s ≡ Some idle))
+          (slice_get (w.seats ++ idle ∷ []) s ≡ slice_get w.seats s)
+          ⊎ ((s ≡ length w.seats) × (slice_get (w.seats ++ idle ∷ []) s ≡ Some idle))
           → (slice_get w.seats s ≡ Some t) ⊎ (t ≡ idle)
       go (inl p) = inl (sym p ∙ e)
       go (inr p) = let q : Some idle ≡ Some t = sym p.1 ∙ e in let r : idle ≡ t = cc in inr (sym r)

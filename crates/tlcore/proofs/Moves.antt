@@ -1,12 +1,15 @@
 -- What each row does to one cell: its lock word stays, or the seat takes it, or gives it back. So each locked cell is held.
-use Rattle.std.proofs.Common.{List, Some, [], ap, false, if◌then◌else◌, inl, inr, refl, slice_get, slice_set, subst, suc, sym, true, ℕ, ◌*◌, ◌==◌, ◌∙◌, ◌∷◌, ◌≡◌, ◌≢◌, ◌⊎◌}
+use Rattle.std.proofs.Common.{List, Some, [], ap, false, if◌then◌else◌, inl, inr, refl, slice_get, slice_set, subst, suc, sym, true, ℕ, ◌*◌}
+use Rattle.std.proofs.Common.{◌==◌, ◌∙◌, ◌∷◌, ◌≡◌, ◌≢◌, ◌⊎◌}
 use Rattle.tlcore.specs.History.{Entry, Void, settle}
-use Rattle.tlcore.specs.Seats.{Checking, Failing, Held, Idle, Loaded, Looked, Place, Reading, Seat, Storing, Taking, Voiding, find_held, is_nil, stored, without}
+use Rattle.tlcore.specs.Seats.{Checking, Failing, Held, Idle, Loaded, Looked, Place, Reading, Seat, Storing, Taking, Voiding, find_held}
+use Rattle.tlcore.specs.Seats.{is_nil, stored, without}
 use Rattle.tlcore.specs.Machine.{Action, Cell, World, begun, conflict, placed, with_seat}
 use Rattle.tlcore.specs.Invariant.{Consistent, HeldOk, Holds, LockedAreHeld, PlaceOk}
 use Rattle.tlcore.proofs.Lists.{equal_numbers, get-set_cases, get-set_other, get-set_same, known, odd_even, other_numbers, same_or_not}
 use Rattle.tlcore.proofs.Quiet.{empty_held}
-use Rattle.tlcore.proofs.Rows.{Row, begins, check_conflicts, checks, draws, loads, look_conflicts, looks, releases_done, releases_failed, releases_void, relook_conflicts, relooks, stores, take_conflicts, takes}
+use Rattle.tlcore.proofs.Rows.{Row, begins, check_conflicts, checks, draws, loads, look_conflicts, looks, releases_done, releases_failed}
+use Rattle.tlcore.proofs.Rows.{releases_void, relook_conflicts, relooks, stores, take_conflicts, takes}
 
 -- the cell y of the world after: its lock word stays, and the seat holds it on; or the seat took it; or it gave it back
 abbrev pub CellMoves : World → Seat → Seat → ℕ → Cell → Type 0
@@ -51,7 +54,13 @@ module _ (o : List ℕ) (w : World) (s : ℕ) (t : Seat) (I : Consistent o w) (e
 
   gives : (z : Seat) (d word : ℕ) (x : Cell) (g : List Entry) (u : ℕ) → z.held ≡ without d t.held → word ≡ 2 * u → (k : Held)
       → find_held d t.held ≡ Some k
-      → Moves w s t (record { clock = w.clock; cells = slice_set w.cells d (record x { lock = word }); seats = slice_set w.seats s z; history = g })
+      → Moves w s t (record {
+        clock = w.clock;
+        cells = slice_set w.cells d (record x { lock = word });
+        seats =
+            slice_set w.seats s z;
+        history = g;
+      })
   gives z d word x g u hz hu k f = (z, refl, λ c y h. go c y (get-set_cases w.cells d c (record x { lock = word }) y h))
     where
       go : (c : ℕ) (y : Cell) → ((c ≡ d) × (y ≡ record x { lock = word })) ⊎ ((c ≢ d) × (slice_get w.cells c ≡ Some y))
@@ -100,8 +109,12 @@ module _ (o : List ℕ) (w : World) (s : ℕ) (t : Seat) (I : Consistent o w) (e
   row_moves a v (draws p) = (placed t (Checking w.clock 0), refl, λ c y g. inl (y, g, refl, λ h. h))
   row_moves a v (checks {i} {u} {c} p d f m) = seat_moves (placed t (Checking i (suc c))) (λ d h. h)
   row_moves a v (check_conflicts {i} p d f m) = seat_moves (conflict t (Voiding i)) (λ d h. h)
-  row_moves a v (stores {i} {c} {k} {x} p g f) =
-      (record t { place = Storing i; held = stored c t.held }, refl, λ d y h. go d y (get-set_cases w.cells c d (record x { value = k.value }) y h))
+  row_moves a v (stores {i} {c} {k} {x} p g f) = (
+    record t { place = Storing i; held = stored c t.held },
+    refl,
+    λ d y h. go d y
+        (get-set_cases w.cells c d (record x { value = k.value }) y h),
+  )
     where
       on : (d : ℕ) → Holds t d → Holds (record t { place = Storing i; held = stored c t.held }) d
       on d h = stored-held c d t.held h.0 h.1
@@ -111,13 +124,16 @@ module _ (o : List ℕ) (w : World) (s : ℕ) (t : Seat) (I : Consistent o w) (e
       go d y (inl q) = inl (x, ap (slice_get w.cells) q.0 ∙ f, ap (λ (b : Cell). b.lock) q.1, on d)
       go d y (inr q) = inl (y, q.1, refl, on d)
   row_moves a v (releases_done {i} {c} {k} {x} p g st f) =
-      gives (record t { place = (if is_nil (without c t.held) then Idle else t.place); held = without c t.held }) c (2 * suc i) x w.history (suc i) refl refl k g
+      gives (record t { place = (if is_nil (without c t.held) then Idle else t.place); held = without c t.held }) c (2 * suc i) x w.history
+      (suc i) refl refl k g
   row_moves a v (releases_failed {c} {k} {x} p g f) =
       let b : (u : ℕ) × (k.word ≡ 2 * u) = old_word c k g in
-      gives (record t { place = (if is_nil (without c t.held) then Idle else t.place); held = without c t.held }) c k.word x w.history b.0 refl b.1 k g
+      gives (record t { place = (if is_nil (without c t.held) then Idle else t.place); held = without c t.held }) c k.word x w.history b.0
+      refl b.1 k g
   row_moves a v (releases_void {i} {c} {k} {x} p g f) =
       let b : (u : ℕ) × (k.word ≡ 2 * u) = old_word c k g in
-      gives (record t { place = (if is_nil (without c t.held) then Idle else t.place); held = without c t.held }) c k.word x (settle w.history i Void) b.0 refl b.1 k g
+      gives (record t { place = (if is_nil (without c t.held) then Idle else t.place); held = without c t.held }) c k.word x
+      (settle w.history i Void) b.0 refl b.1 k g
 
 -- ---- each locked cell is held
 

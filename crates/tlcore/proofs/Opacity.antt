@@ -1,5 +1,6 @@
 -- The theorem over all schedules.
-use Rattle.std.proofs.Common.{List, None, Option, Some, [], ap, arith, inl, inr, length, refl, slice_get, slice_index, slice_set, subst, suc, sym, zero, ℕ, ◌*◌, ◌<◌, ◌∙◌, ◌∷◌, ◌≡◌, ◌≢◌, ◌⊎◌}
+use Rattle.std.proofs.Common.{List, None, Option, Some, [], ap, arith, inl, inr, length, refl, slice_get, slice_index, slice_set, subst}
+use Rattle.std.proofs.Common.{suc, sym, zero, ℕ, ◌*◌, ◌<◌, ◌∙◌, ◌∷◌, ◌≡◌, ◌≢◌, ◌⊎◌}
 use Rattle.tlcore.specs.History.{Done, Entry, Grows, Open, Will, deed, value, version}
 use Rattle.tlcore.specs.Seats.{Held, Place, Seat, find_held, idle, number_at, reads_of}
 use Rattle.tlcore.specs.Machine.{Action, Cell, World, given, next, store}
@@ -10,7 +11,8 @@ use Rattle.tlcore.specs.Laws.{Keeps}
 use Rattle.tlcore.proofs.Events.{event_keeps}
 use Rattle.tlcore.proofs.Growth.{Grows-refl, Grows-trans, One-kept}
 use Rattle.tlcore.proofs.Lists.{get-set_cases, get_within}
-use Rattle.tlcore.proofs.Rows.{Row, begins, check_conflicts, checks, draws, loads, look_conflicts, looks, releases_done, releases_failed, releases_void, relook_conflicts, relooks, row_of, stores, take_conflicts, takes}
+use Rattle.tlcore.proofs.Rows.{Row, begins, check_conflicts, checks, draws, loads, look_conflicts, looks, releases_done, releases_failed}
+use Rattle.tlcore.proofs.Rows.{releases_void, relook_conflicts, relooks, row_of, stores, take_conflicts, takes}
 use Rattle.tlcore.proofs.SeatParts.{ReadsOk-one}
 use Rattle.tlcore.proofs.Settling.{get-settle_same}
 
@@ -32,7 +34,8 @@ run_keeps o (e ∷ es) w v I r = first (given_some (next w e.0 e.1) (λ u. run e
 
 pub opened_cell : (vs : List ℕ) (c : ℕ) (x : Cell) → slice_get (opened vs) c ≡ Some x → (x.lock ≡ 0) × (x.value ≡ slice_index vs c)
 opened_cell [] c x e = cc
-opened_cell (v ∷ vs) zero x e = let q : record { lock = 0; value = v } ≡ x = cc in (ap (λ (y : Cell). y.lock) (sym q), ap (λ (y : Cell). y.value) (sym q))
+opened_cell (v ∷ vs) zero x e = let q : record { lock = 0; value = v } ≡ x = cc in
+    (ap (λ (y : Cell). y.lock) (sym q), ap (λ (y : Cell). y.value) (sym q))
 opened_cell (v ∷ vs) (suc c) x e = opened_cell vs c x e
 
 seated_idle : (n s : ℕ) (t : Seat) → slice_get (seated n) s ≡ Some t → t ≡ idle
@@ -162,7 +165,8 @@ done_stays : (g h : List Entry) (i : ℕ) (e : Entry) → Grows g h → slice_ge
     → (f : Entry) × (slice_get h i ≡ Some f) × (f.status ≡ Done)
 done_stays g h i e r p d =
     let a : (f : Entry) × (slice_get h i ≡ Some f) × (f.reads ≡ e.reads) × (f.writes ≡ e.writes) × (e.status ≢ Open → f.status ≡ e.status) =
-    let b : (f : Entry) × (slice_get h i ≡ Some f) × ((f.reads ≡ e.reads) × (f.writes ≡ e.writes) × (e.status ≢ Open → f.status ≡ e.status)) = r.1 i e p in
+    let b : (f : Entry) × (slice_get h i ≡ Some f) × ((f.reads ≡ e.reads) × (f.writes ≡ e.writes)
+    × (e.status ≢ Open → f.status ≡ e.status)) = r.1 i e p in
     (b.0, b.1, b.2.0, b.2.1, b.2.2)
     in
     (a.0, a.1, a.4 (λ n. open_done (sym n ∙ d)) ∙ d)

@@ -1,7 +1,9 @@
 -- The events that change no word: begin, look, load, relook and check, and conflicts. Each keeps what the parts say of each other.
-use Rattle.std.proofs.Common.{Bool, List, None, Option, Some, [], ap, arith, false, inl, inr, length, nat_le, nat_lt, not, refl, slice_get, subst, suc, sym, true, ℕ, ◌*◌, ◌<◌, ◌==◌, ◌||◌, ◌∙◌, ◌∷◌, ◌≡◌, ◌≤◌, ◌⊎◌}
+use Rattle.std.proofs.Common.{Bool, List, None, Option, Some, [], ap, arith, false, inl, inr, length, nat_le, nat_lt, not, refl, slice_get}
+use Rattle.std.proofs.Common.{subst, suc, sym, true, ℕ, ◌*◌, ◌<◌, ◌==◌, ◌||◌, ◌∙◌, ◌∷◌, ◌≡◌, ◌≤◌, ◌⊎◌}
 use Rattle.tlcore.specs.History.{Done, Entry, IsOne, Open, Will, deed, value, version}
-use Rattle.tlcore.specs.Seats.{Checking, Held, Idle, Loaded, Looked, Place, Read, Reading, Seat, Voiding, find_held, is_due, is_held, is_settled, number_at, passes, settled_below}
+use Rattle.tlcore.specs.Seats.{Checking, Held, Idle, Loaded, Looked, Place, Read, Reading, Seat, Voiding, find_held, is_due, is_held}
+use Rattle.tlcore.specs.Seats.{is_settled, number_at, passes, settled_below}
 use Rattle.tlcore.specs.Machine.{Cell, World, begun, conflict, placed, with_seat}
 use Rattle.tlcore.specs.Invariant.{CheckingOk, Consistent, HeldOk, HeldShows, IsOld, PlaceOk, ReadsOk, SeatOk, SettledOk, done_at}
 use Rattle.tlcore.proofs.AfterEvent.{Consistent-seat}
@@ -82,7 +84,8 @@ relooked_keeps o w s t c word v x I e p f m =
     let one : IsOne o w.history t.rv c v =
     subst (λ (y : ℕ). IsOne o w.history t.rv c y) (sym d) (free_is_one o w.cells w.history c t.rv x I.cells f old q.rv) in
     Consistent-empty o w s t (record t { place = Reading; reads = record { cell = c; word = word; value = v } ∷ t.reads }) I e
-    (seat_empty o w.cells w.history (record t { place = Reading; reads = record { cell = c; word = word; value = v } ∷ t.reads }) r.0 q.rv ((r.1, one), q.reads) r.0)
+    (seat_empty o w.cells w.history (record t { place = Reading; reads = record { cell = c; word = word; value = v } ∷ t.reads }) r.0 q.rv
+    ((r.1, one), q.reads) r.0)
     r.0 refl
 
 -- ---- the check
@@ -121,8 +124,11 @@ settled_more : (o : List ℕ) (h : List Entry) (rv i c u : ℕ) (ks : List Held)
     → settled_below c ks u rs ≡ true
     → ((v : ℕ) → IsOne o h rv c v → IsOne o h i c v) → SettledOk o h i ks (suc c) rs
 settled_more o h rv i c u ks [] p q b f = tt
-settled_more o h rv i c u ks (r ∷ rs) p q b f =
-    (λ e. go (one_of (is_held r.cell ks) (nat_lt r.cell (suc c)) e), settled_more o h rv i c u ks rs p.1 q.1 (both_right (nat_le c r.cell || is_settled ks u r.cell) (settled_below c ks u rs) b) f)
+settled_more o h rv i c u ks (r ∷ rs) p q b f = (
+  λ e. go (one_of (is_held r.cell ks) (nat_lt r.cell (suc c)) e),
+  settled_more o h rv i c u ks rs p.1 q.1
+      (both_right (nat_le c r.cell || is_settled ks u r.cell) (settled_below c ks u rs) b) f,
+)
   where
     first : (nat_le c r.cell || is_settled ks u r.cell) ≡ true
     first = both_left (nat_le c r.cell || is_settled ks u r.cell) (settled_below c ks u rs) b
@@ -150,7 +156,8 @@ settled_more o h rv i c u ks (r ∷ rs) p q b f =
     go (inr n) = near (split r.cell c (less_numbers r.cell (suc c) n))
 
 -- the look of the check
-module _ (o : List ℕ) (w : World) (s : ℕ) (t : Seat) (i u : ℕ) (I : Consistent o w) (e : slice_get w.seats s ≡ Some t) (p : t.place ≡ Checking i u) where
+module _ (o : List ℕ) (w : World) (s : ℕ) (t : Seat) (i u : ℕ) (I : Consistent o w) (e : slice_get w.seats s ≡ Some t)
+    (p : t.place ≡ Checking i u) where
   q : SeatOk o w.cells w.history t
   q = I.seats s t e
 
@@ -176,12 +183,14 @@ module _ (o : List ℕ) (w : World) (s : ℕ) (t : Seat) (i u : ℕ) (I : Consis
         writes = r.writes;
         after = r.after;
         settled =
-            settled_more o w.history t.rv i c u t.held t.reads q.reads r.settled (both_right (not (is_settled t.held u c)) (settled_below c t.held u t.reads) due) one;
+            settled_more o w.history t.rv i c u t.held t.reads q.reads r.settled
+            (both_right (not (is_settled t.held u c)) (settled_below c t.held u t.reads) due) one;
       })
 
   pub check_fails_keeps : Consistent o (with_seat w s (conflict t (Voiding i)))
   check_fails_keeps =
-      Consistent-place o w s t (Voiding i) true I e (ap done_at (sym p)) (ap number_at (sym p)) (r.entry, r.here, λ d. open_done (sym r.status ∙ d))
+      Consistent-place o w s t (Voiding i) true I e (ap done_at (sym p)) (ap number_at (sym p))
+      (r.entry, r.here, λ d. open_done (sym r.status ∙ d))
     where
       open_done : Open ≡ Done → ⊥
       open_done d = cc

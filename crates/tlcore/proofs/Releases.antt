@@ -1,5 +1,6 @@
 -- The release of a cell keeps what the parts say of each other: after its store, and after a conflict.
-use Rattle.std.proofs.Common.{List, None, Option, Some, ap, arith, inl, inr, length, refl, slice_get, slice_set, subst, suc, sym, true, ℕ, ◌*◌, ◌<◌, ◌∙◌, ◌≡◌, ◌≢◌, ◌⊎◌}
+use Rattle.std.proofs.Common.{List, None, Option, Some, ap, arith, inl, inr, length, refl, slice_get, slice_set, subst, suc, sym, true, ℕ}
+use Rattle.std.proofs.Common.{◌*◌, ◌<◌, ◌∙◌, ◌≡◌, ◌≢◌, ◌⊎◌}
 use Rattle.tlcore.specs.History.{Done, Entry, Grows, One, Open, Status, Void, Will, deed, deed_of, settle, value, written}
 use Rattle.tlcore.specs.Seats.{Failing, Held, Place, Seat, Storing, Voiding, find_held, number_at, without}
 use Rattle.tlcore.specs.Machine.{Cell, World, release}
@@ -52,7 +53,8 @@ module _ (o : List ℕ) (w : World) (s : ℕ) (t : Seat) (c : ℕ) (k : Held) (x
   release_done i p st =
       release_goes o w s t c (2 * suc i) k x w.history I e f j (Grows-refl w.history) (Stays-refl o w.history) refl
       (λ d m u a. a) (λ m a n b. b) (λ v a. (omega (arith, a, b.shows.0), shown)) (λ a. shown) none I.history
-      (subst (λ (y : Place). PlaceOk o (slice_set w.cells c (record x { lock = 2 * suc i })) w.history (record t { place = t.place; held = without c t.held }) y) (sym p) r)
+      (subst (λ (y : Place). PlaceOk o (slice_set w.cells c (record x { lock = 2 * suc i })) w.history
+      (record t { place = t.place; held = without c t.held }) y) (sym p) r)
     where
       r : (d : Entry) × (slice_get w.history i ≡ Some d) × (d.status ≡ Done)
       r = subst (λ (y : Place). PlaceOk o w.cells w.history t y) p q.place
@@ -67,13 +69,15 @@ module _ (o : List ℕ) (w : World) (s : ℕ) (t : Seat) (c : ℕ) (k : Held) (x
       none m u a =
           let n : Some i ≡ Some m = b.mine m u a in
           let l : i ≡ m = cc in
-          done_will (written c (r.0).writes) u (ap (λ (z : Status). deed_of z (written c (r.0).writes)) (sym r.2) ∙ (sym (deed_now w.history i c r.0 r.1) ∙ (ap (deed w.history c) l ∙ a)))
+          done_will (written c (r.0).writes) u (ap (λ (z : Status). deed_of z (written c (r.0).writes)) (sym r.2)
+          ∙ (sym (deed_now w.history i c r.0 r.1) ∙ (ap (deed w.history c) l ∙ a)))
 
   pub release_failed : t.place ≡ Failing → Consistent o (release w s t c k.word x w.history)
   release_failed p =
       release_goes o w s t c k.word k x w.history I e f j (Grows-refl w.history) (Stays-refl o w.history) refl
       (λ d m u a. a) (λ m a n b. b) (λ v a. (omega (arith, a, b.shows.0), b.shows.1)) (λ a. b.shows.1) none I.history
-      (subst (λ (y : Place). PlaceOk o (slice_set w.cells c (record x { lock = k.word })) w.history (record t { place = t.place; held = without c t.held }) y) (sym p) tt)
+      (subst (λ (y : Place). PlaceOk o (slice_set w.cells c (record x { lock = k.word })) w.history
+      (record t { place = t.place; held = without c t.held }) y) (sym p) tt)
     where
       b : HeldOk o w.history t.rv Failing c k x
       b = found_cell o w.cells w.history t.rv Failing t.place c k x p j (q.held c k f)
@@ -124,7 +128,8 @@ module _ (o : List ℕ) (w : World) (s : ℕ) (t : Seat) (c : ℕ) (k : Held) (x
     void_history m d a st = go (get-settle_cases w.history i m Void d a)
       where
         go :
-            ((m ≡ i) × ((y : Entry) × (slice_get w.history i ≡ Some y) × (d ≡ record y { status = Void }))) ⊎ ((m ≢ i) × (slice_get w.history m ≡ Some d))
+            ((m ≡ i) × ((y : Entry) × (slice_get w.history i ≡ Some y) × (d ≡ record y { status = Void })))
+            ⊎ ((m ≢ i) × (slice_get w.history m ≡ Some d))
             → One o later m d.reads
         go (inl n) = let z : Void ≡ Done = sym (ap (λ (y : Entry). y.status) n.1.2) ∙ st in cc
         go (inr n) =
@@ -137,7 +142,8 @@ module _ (o : List ℕ) (w : World) (s : ℕ) (t : Seat) (c : ℕ) (k : Held) (x
         (alike_stays o w.history later (length-settle w.history i Void) void_deed) (length-settle w.history i Void)
         void_awaits (λ m a n d. get-settle_other w.history i m Void (λ y. n (ap number_at p ∙ ap (λ (v : ℕ). Some v) (sym y))) ∙ d)
         (λ v a. (omega (arith, a, b.shows.0), b.shows.1)) (λ a. b.shows.1) none void_history
-        (subst (λ (y : Place). PlaceOk o (slice_set w.cells c (record x { lock = k.word })) later (record t { place = t.place; held = without c t.held }) y) (sym p)
+        (subst (λ (y : Place). PlaceOk o (slice_set w.cells c (record x { lock = k.word })) later
+        (record t { place = t.place; held = without c t.held }) y) (sym p)
         (record (r.0) { status = Void }, get-settle_same w.history i Void r.0 r.1, λ z. void_done z))
       where
         void_done : Void ≡ Done → ⊥

@@ -1,9 +1,13 @@
 -- The rows of the table of steps as a relation, by cases of which the proofs go.
-use Rattle.std.proofs.Common.{Bool, None, Option, Some, ap, false, if◌then◌else◌, inl, inr, not, refl, slice_get, subst, suc, sym, true, ℕ, ◌&&◌, ◌*◌, ◌==◌, ◌||◌, ◌∙◌, ◌∷◌, ◌≡◌, ◌⊎◌}
+use Rattle.std.proofs.Common.{Bool, None, Option, Some, ap, false, if◌then◌else◌, inl, inr, not, refl, slice_get, subst, suc, sym, true, ℕ}
+use Rattle.std.proofs.Common.{◌&&◌, ◌*◌, ◌==◌, ◌||◌, ◌∙◌, ◌∷◌, ◌≡◌, ◌⊎◌}
 use Rattle.std.specs.Prelude.{IfSome}
 use Rattle.tlcore.specs.History.{Void, settle}
-use Rattle.tlcore.specs.Seats.{Checking, Failing, Held, Idle, Loaded, Looked, Place, Read, Reading, Seat, Storing, Taking, Voiding, all_below, all_settled, find_held, find_read, is_due, is_next, is_nil, passes}
-use Rattle.tlcore.specs.Machine.{Action, Begin, Cell, Check, Draw, Load, Look, Release, Relook, Store, Take, World, act, begun, check, conflict, drawn, given, load, look, next, only_if, placed, release, relook, store, take_cell, taken, with_seat}
+use Rattle.tlcore.specs.Seats.{Checking, Failing, Held, Idle, Loaded, Looked, Place, Read, Reading, Seat, Storing, Taking, Voiding}
+use Rattle.tlcore.specs.Seats.{all_below, all_settled, find_held, find_read, is_due, is_next, is_nil, passes}
+use Rattle.tlcore.specs.Machine.{Action, Begin, Cell, Check, Draw, Load, Look, Release, Relook, Store, Take, World, act, begun, check}
+use Rattle.tlcore.specs.Machine.{conflict, drawn, given, load, look, next, only_if, placed, release, relook, store, take_cell, taken}
+use Rattle.tlcore.specs.Machine.{with_seat}
 use Rattle.tlcore.proofs.Lists.{both_right, equal_numbers, known}
 
 pub given_keeps : {A B : Type 0} (P : B → Type 0) (x : Option A) (f : A → Option B) → ((a : A) → x ≡ Some a → IfSome (f a) P)
@@ -67,67 +71,90 @@ module _ (w : World) (s : ℕ) (t : Seat) where
   check_row : (i u c : ℕ) (x : Cell) → t.place ≡ Checking i u → is_due t u c ≡ true → slice_get w.cells c ≡ Some x
       → (passes x.lock t.rv ≡ true) ⊎ (passes x.lock t.rv ≡ false) → Row w s t (Check c) (check w s t i c x)
   check_row i u c x p d f (inl m) =
-      subst (λ (y : Bool). Row w s t (Check c) (with_seat w s (if y then placed t (Checking i (suc c)) else conflict t (Voiding i)))) (sym m) (checks p d f m)
+      subst (λ (y : Bool). Row w s t (Check c) (with_seat w s (if y then placed t (Checking i (suc c)) else conflict t (Voiding i))))
+      (sym m) (checks p d f m)
   check_row i u c x p d f (inr m) =
-      subst (λ (y : Bool). Row w s t (Check c) (with_seat w s (if y then placed t (Checking i (suc c)) else conflict t (Voiding i)))) (sym m) (check_conflicts p d f m)
+      subst (λ (y : Bool). Row w s t (Check c) (with_seat w s (if y then placed t (Checking i (suc c)) else conflict t (Voiding i))))
+      (sym m) (check_conflicts p d f m)
 
   take_row : (c v : ℕ) (r : Read) (x : Cell) → (t.place ≡ Reading) ⊎ ((t.place ≡ Taking) × (all_below c t.held ≡ true))
       → find_read c t.reads ≡ Some r → slice_get w.cells c ≡ Some x
       → ((x.lock == r.word) ≡ true) ⊎ ((x.lock == r.word) ≡ false) → Row w s t (Take c v) (take_cell w s t c v r.word x)
   take_row c v r x p g f (inl m) =
-      subst (λ (y : Bool). Row w s t (Take c v) (if y then taken w s t c v r.word x else with_seat w s (conflict t (if is_nil t.held then Idle else Failing)))) (sym m) (takes p g f m)
+      subst (λ (y : Bool). Row w s t (Take c v) (if y then taken w s t c v r.word x else with_seat w s
+      (conflict t (if is_nil t.held then Idle else Failing)))) (sym m) (takes p g f m)
   take_row c v r x p g f (inr m) =
-      subst (λ (y : Bool). Row w s t (Take c v) (if y then taken w s t c v r.word x else with_seat w s (conflict t (if is_nil t.held then Idle else Failing)))) (sym m) (take_conflicts p g f m)
+      subst (λ (y : Bool). Row w s t (Take c v) (if y then taken w s t c v r.word x else with_seat w s
+      (conflict t (if is_nil t.held then Idle else Failing)))) (sym m) (take_conflicts p g f m)
 
   take_rows : (c v : ℕ) → (t.place ≡ Reading) ⊎ ((t.place ≡ Taking) × (all_below c t.held ≡ true))
-      → IfSome (given (find_read c t.reads) (λ r. given (slice_get w.cells c) (λ x. Some (take_cell w s t c v r.word x)))) (Row w s t (Take c v))
+      → IfSome (given (find_read c t.reads) (λ r. given (slice_get w.cells c) (λ x. Some (take_cell w s t c v r.word x))))
+      (Row w s t (Take c v))
   take_rows c v p =
       given_keeps (Row w s t (Take c v)) (find_read c t.reads) (λ r. given (slice_get w.cells c) (λ x. Some (take_cell w s t c v r.word x)))
-      (λ r g. given_keeps (Row w s t (Take c v)) (slice_get w.cells c) (λ x. Some (take_cell w s t c v r.word x)) (λ x f. take_row c v r x p g f (known (x.lock == r.word))))
+      (λ r g. given_keeps (Row w s t (Take c v)) (slice_get w.cells c) (λ x. Some (take_cell w s t c v r.word x))
+      (λ x f. take_row c v r x p g f (known (x.lock == r.word))))
 
   act_rows : (p : Place) (a : Action) → t.place ≡ p → IfSome (act w s t p a) (Row w s t a)
   act_rows Idle Begin q = begins (inl q)
   act_rows Reading Begin q = begins (inr q)
   act_rows Reading (Look c) q =
-      given_keeps (Row w s t (Look c)) (slice_get w.cells c) (λ x. Some (look w s t c x)) (λ x f. look_row c x q f (known (passes x.lock t.rv)))
+      given_keeps (Row w s t (Look c)) (slice_get w.cells c) (λ x. Some (look w s t c x))
+      (λ x f. look_row c x q f (known (passes x.lock t.rv)))
   act_rows (Looked d word) (Load c) q =
       only_keeps (Row w s t (Load c)) (d == c) (given (slice_get w.cells c) (λ x. Some (load w s t c word x)))
-      (λ b. given_keeps (Row w s t (Load c)) (slice_get w.cells c) (λ x. Some (load w s t c word x)) (λ x f. loads (q ∙ ap (λ (y : ℕ). Looked y word) (equal_numbers d c b)) f))
+      (λ b. given_keeps (Row w s t (Load c)) (slice_get w.cells c) (λ x. Some (load w s t c word x))
+      (λ x f. loads (q ∙ ap (λ (y : ℕ). Looked y word) (equal_numbers d c b)) f))
   act_rows (Loaded d word v) (Relook c) q =
       only_keeps (Row w s t (Relook c)) (d == c) (given (slice_get w.cells c) (λ x. Some (relook w s t c word v x)))
       (λ b. given_keeps (Row w s t (Relook c)) (slice_get w.cells c) (λ x. Some (relook w s t c word v x))
       (λ x f. relook_row c word v x (q ∙ ap (λ (y : ℕ). Loaded y word v) (equal_numbers d c b)) f (known (x.lock == word))))
   act_rows Reading (Take c v) q = take_rows c v (inl q)
   act_rows Taking (Take c v) q =
-      only_keeps (Row w s t (Take c v)) (all_below c t.held) (given (find_read c t.reads) (λ r. given (slice_get w.cells c) (λ x. Some (take_cell w s t c v r.word x)))) (λ b. take_rows c v (inr (q, b)))
+      only_keeps (Row w s t (Take c v)) (all_below c t.held)
+      (given (find_read c t.reads) (λ r. given (slice_get w.cells c) (λ x. Some (take_cell w s t c v r.word x))))
+      (λ b. take_rows c v (inr (q, b)))
   act_rows Taking Draw q = draws q
   act_rows (Checking i u) (Check c) q =
-      only_keeps (Row w s t (Check c)) (not (is_next t i) && is_due t u c) (given (find_read c t.reads) (λ r. given (slice_get w.cells c) (λ x. Some (check w s t i c x))))
+      only_keeps (Row w s t (Check c)) (not (is_next t i) && is_due t u c)
+      (given (find_read c t.reads) (λ r. given (slice_get w.cells c) (λ x. Some (check w s t i c x))))
       (λ b. given_keeps (Row w s t (Check c)) (find_read c t.reads) (λ r. given (slice_get w.cells c) (λ x. Some (check w s t i c x)))
-      (λ r g. given_keeps (Row w s t (Check c)) (slice_get w.cells c) (λ x. Some (check w s t i c x)) (λ x f. check_row i u c x q (both_right (not (is_next t i)) (is_due t u c) b) f (known (passes x.lock t.rv)))))
+      (λ r g. given_keeps (Row w s t (Check c)) (slice_get w.cells c) (λ x. Some (check w s t i c x))
+      (λ x f. check_row i u c x q (both_right (not (is_next t i)) (is_due t u c) b) f (known (passes x.lock t.rv)))))
   act_rows (Checking i u) (Store c) q =
-      only_keeps (Row w s t (Store c)) (is_next t i || all_settled t.held u t.reads) (given (find_held c t.held) (λ k. given (slice_get w.cells c) (λ x. Some (store w s t i c k x))))
+      only_keeps (Row w s t (Store c)) (is_next t i || all_settled t.held u t.reads)
+      (given (find_held c t.held) (λ k. given (slice_get w.cells c) (λ x. Some (store w s t i c k x))))
       (λ b. given_keeps (Row w s t (Store c)) (find_held c t.held) (λ k. given (slice_get w.cells c) (λ x. Some (store w s t i c k x)))
-      (λ k g. given_keeps (Row w s t (Store c)) (slice_get w.cells c) (λ x. Some (store w s t i c k x)) (λ x f. stores (inl (u, q, b)) g f)))
+      (λ k g. given_keeps (Row w s t (Store c)) (slice_get w.cells c) (λ x. Some (store w s t i c k x))
+      (λ x f. stores (inl (u, q, b)) g f)))
   act_rows (Storing i) (Store c) q =
       given_keeps (Row w s t (Store c)) (find_held c t.held) (λ k. given (slice_get w.cells c) (λ x. Some (store w s t i c k x)))
       (λ k g. given_keeps (Row w s t (Store c)) (slice_get w.cells c) (λ x. Some (store w s t i c k x)) (λ x f. stores (inr q) g f))
   act_rows (Storing i) (Release c) q =
-      given_keeps (Row w s t (Release c)) (find_held c t.held) (λ k. only_if k.stored (given (slice_get w.cells c) (λ x. Some (release w s t c (2 * suc i) x w.history))))
-      (λ k g. only_keeps (Row w s t (Release c)) k.stored (given (slice_get w.cells c) (λ x. Some (release w s t c (2 * suc i) x w.history)))
-      (λ b. given_keeps (Row w s t (Release c)) (slice_get w.cells c) (λ x. Some (release w s t c (2 * suc i) x w.history)) (λ x f. releases_done q g b f)))
+      given_keeps (Row w s t (Release c)) (find_held c t.held)
+      (λ k. only_if k.stored (given (slice_get w.cells c) (λ x. Some (release w s t c (2 * suc i) x w.history))))
+      (λ k g. only_keeps (Row w s t (Release c)) k.stored
+      (given (slice_get w.cells c) (λ x. Some (release w s t c (2 * suc i) x w.history)))
+      (λ b. given_keeps (Row w s t (Release c)) (slice_get w.cells c) (λ x. Some (release w s t c (2 * suc i) x w.history))
+      (λ x f. releases_done q g b f)))
   act_rows Failing (Release c) q =
-      given_keeps (Row w s t (Release c)) (find_held c t.held) (λ k. given (slice_get w.cells c) (λ x. Some (release w s t c k.word x w.history)))
-      (λ k g. given_keeps (Row w s t (Release c)) (slice_get w.cells c) (λ x. Some (release w s t c k.word x w.history)) (λ x f. releases_failed q g f))
+      given_keeps (Row w s t (Release c)) (find_held c t.held)
+      (λ k. given (slice_get w.cells c) (λ x. Some (release w s t c k.word x w.history)))
+      (λ k g. given_keeps (Row w s t (Release c)) (slice_get w.cells c) (λ x. Some (release w s t c k.word x w.history))
+      (λ x f. releases_failed q g f))
   act_rows (Voiding i) (Release c) q =
-      given_keeps (Row w s t (Release c)) (find_held c t.held) (λ k. given (slice_get w.cells c) (λ x. Some (release w s t c k.word x (settle w.history i Void))))
-      (λ k g. given_keeps (Row w s t (Release c)) (slice_get w.cells c) (λ x. Some (release w s t c k.word x (settle w.history i Void))) (λ x f. releases_void q g f))
+      given_keeps (Row w s t (Release c)) (find_held c t.held)
+      (λ k. given (slice_get w.cells c) (λ x. Some (release w s t c k.word x (settle w.history i Void))))
+      (λ k g. given_keeps (Row w s t (Release c)) (slice_get w.cells c) (λ x. Some (release w s t c k.word x (settle w.history i Void)))
+      (λ x f. releases_void q g f))
   act_rows _ _ q = tt
 
 -- a lawful event is of a seat, by a row
 pub row_of : (w v : World) (s : ℕ) (a : Action) → next w s a ≡ Some v → (t : Seat) × (slice_get w.seats s ≡ Some t) × Row w s t a v
 row_of w v s a e =
-    some_keeps (λ (u : World). (t : Seat) × (slice_get w.seats s ≡ Some t) × Row w s t a u) (next w s a) v (given_keeps (λ (u : World). (t : Seat) × (slice_get w.seats s ≡ Some t) × Row w s t a u) (slice_get w.seats s) (λ t. act w s t t.place a) (λ t f. with_found t f (act w s t t.place a) (act_rows w s t t.place a refl))) e
+    some_keeps (λ (u : World). (t : Seat) × (slice_get w.seats s ≡ Some t) × Row w s t a u) (next w s a) v
+    (given_keeps (λ (u : World). (t : Seat) × (slice_get w.seats s ≡ Some t) × Row w s t a u) (slice_get w.seats s)
+    (λ t. act w s t t.place a) (λ t f. with_found t f (act w s t t.place a) (act_rows w s t t.place a refl))) e
   where
     with_found : (t : Seat) → slice_get w.seats s ≡ Some t → (x : Option World) → IfSome x (Row w s t a)
         → IfSome x (λ (u : World). (t : Seat) × (slice_get w.seats s ≡ Some t) × Row w s t a u)

@@ -1,7 +1,9 @@
 -- The parts of a seat: its reads and the cells that it holds.
-use Rattle.std.proofs.Common.{List, None, Some, [], ap, arith, false, inl, inr, length, nat_le, refl, slice_get, slice_index, subst, sym, true, ℕ, ◌%◌, ◌/◌, ◌<◌, ◌==◌, ◌∙◌, ◌∷◌, ◌≡◌, ◌≢◌, ◌≤◌, ◌⊎◌}
+use Rattle.std.proofs.Common.{List, None, Some, [], ap, arith, false, inl, inr, length, nat_le, refl, slice_get, slice_index, subst, sym}
+use Rattle.std.proofs.Common.{true, ℕ, ◌%◌, ◌/◌, ◌<◌, ◌==◌, ◌∙◌, ◌∷◌, ◌≡◌, ◌≢◌, ◌≤◌, ◌⊎◌}
 use Rattle.tlcore.specs.History.{Entry, IsOne, One, Will, deed, value, version, written}
-use Rattle.tlcore.specs.Seats.{Checking, Failing, Held, Idle, Loaded, Looked, Place, Read, Reading, Seat, Storing, Taking, Voiding, find_held, find_read, is_held, is_nil, number_at, passes, reads_of, stored, without, writes_of}
+use Rattle.tlcore.specs.Seats.{Checking, Failing, Held, Idle, Loaded, Looked, Place, Read, Reading, Seat, Storing, Taking, Voiding}
+use Rattle.tlcore.specs.Seats.{find_held, find_read, is_held, is_nil, number_at, passes, reads_of, stored, without, writes_of}
 use Rattle.tlcore.specs.Machine.{Cell}
 use Rattle.tlcore.specs.Invariant.{CellsOk, IsOld, PlaceOk, ReadsOk}
 use Rattle.tlcore.proofs.Deeds.{value-settled}
@@ -27,7 +29,8 @@ find_read-ok o h rv c (x ∷ rs) r p e = go (known (x.cell == c)) (find_read-ok 
         let q : Some x ≡ Some r = rw t at e in
         let s : x ≡ r = cc in
         let n : x.cell ≡ c = equal_numbers x.cell c t in
-        subst (λ (y : Read). (y.cell ≡ c) × IsOld y.word rv × IsOne o h rv c y.value) s (n, p.0.0, subst (λ (d : ℕ). IsOne o h rv d x.value) n p.0.1)
+        subst (λ (y : Read). (y.cell ≡ c) × IsOld y.word rv × IsOne o h rv c y.value) s
+        (n, p.0.0, subst (λ (d : ℕ). IsOne o h rv d x.value) n p.0.1)
     go (inr t) ih = let q : find_read c rs ≡ Some r = rw t at e in ih q
 
 pub ReadsOk-one : (o : List ℕ) (h : List Entry) (rv : ℕ) (rs : List Read) → ReadsOk o h rv rs → One o h rv (reads_of rs)
@@ -115,13 +118,20 @@ stored-find c d (x ∷ ks) k e = go (known (x.cell == c)) (known (x.cell == d)) 
     Res zs = (m : Held) × (find_held d zs ≡ Some m) × (k.word ≡ m.word) × (k.value ≡ m.value) × (d ≢ c → k ≡ m)
 
     go : ((x.cell == c) ≡ true) ⊎ ((x.cell == c) ≡ false) → ((x.cell == d) ≡ true) ⊎ ((x.cell == d) ≡ false)
-        → (find_held d (stored c ks) ≡ Some k → (m : Held) × (find_held d ks ≡ Some m) × (k.word ≡ m.word) × (k.value ≡ m.value) × (d ≢ c → k ≡ m))
+        → (find_held d (stored c ks) ≡ Some k → (m : Held) × (find_held d ks ≡ Some m) × (k.word ≡ m.word) × (k.value ≡ m.value)
+        × (d ≢ c → k ≡ m))
         → (m : Held) × (find_held d (x ∷ ks) ≡ Some m) × (k.word ≡ m.word) × (k.value ≡ m.value) × (d ≢ c → k ≡ m)
     go (inl t) (inl u) ih =
         let q : find_held d (record x { stored = true } ∷ stored c ks) ≡ Some k = rw t at e in
         let r : Some (record x { stored = true }) ≡ Some k = rw u at q in
-        let s : record x { stored = true } ≡ k = cc in
-        (x, rw u refl, ap (λ (y : Held). y.word) (sym s), ap (λ (y : Held). y.value) (sym s), λ n. absurd (n (sym (equal_numbers x.cell d u) ∙ equal_numbers x.cell c t)))
+        let s : record x { stored = true } ≡ k = cc in (
+          x,
+          rw u refl,
+          ap (λ (y : Held). y.word) (sym s),
+          ap (λ (y : Held). y.value) (sym s),
+          λ n. absurd
+              (n (sym (equal_numbers x.cell d u) ∙ equal_numbers x.cell c t)),
+        )
     go (inl t) (inr u) ih =
         let q : find_held d (record x { stored = true } ∷ stored c ks) ≡ Some k = rw t at e in
         let r : find_held d (stored c ks) ≡ Some k = rw u at q in

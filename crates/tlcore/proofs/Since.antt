@@ -1,12 +1,15 @@
 -- Since the beginning of a run the lock word of a cell stays as it is, or another seat holds the cell.
-use Rattle.std.proofs.Common.{Bool, List, None, Some, ap, false, if◌then◌else◌, inl, inr, refl, slice_get, slice_set, subst, suc, sym, true, ℕ, ◌*◌, ◌==◌, ◌∙◌, ◌∷◌, ◌≡◌, ◌≢◌, ◌⊎◌}
-use Rattle.tlcore.specs.Seats.{Checking, Failing, Held, Idle, Loaded, Looked, Place, Read, Reading, Seat, Storing, Taking, Voiding, all_below, find_held, find_read, is_nil, stored, without}
+use Rattle.std.proofs.Common.{Bool, List, None, Some, ap, false, if◌then◌else◌, inl, inr, refl, slice_get, slice_set, subst, suc, sym, true}
+use Rattle.std.proofs.Common.{ℕ, ◌*◌, ◌==◌, ◌∙◌, ◌∷◌, ◌≡◌, ◌≢◌, ◌⊎◌}
+use Rattle.tlcore.specs.Seats.{Checking, Failing, Held, Idle, Loaded, Looked, Place, Read, Reading, Seat, Storing, Taking, Voiding}
+use Rattle.tlcore.specs.Seats.{all_below, find_held, find_read, is_nil, stored, without}
 use Rattle.tlcore.specs.Machine.{Action, Begin, Cell, World, conflict, placed}
 use Rattle.tlcore.specs.Conflicts.{HeldByOther}
 use Rattle.tlcore.specs.Invariant.{Consistent, IsOld}
 use Rattle.tlcore.proofs.Lists.{equal_numbers, get-set_cases, get-set_same, known, option_known, other_numbers}
 use Rattle.tlcore.proofs.Moves.{CellMoves, Moves, none_held}
-use Rattle.tlcore.proofs.Rows.{Row, begins, check_conflicts, checks, draws, loads, look_conflicts, looks, releases_done, releases_failed, releases_void, relook_conflicts, relooks, stores, take_conflicts, takes}
+use Rattle.tlcore.proofs.Rows.{Row, begins, check_conflicts, checks, draws, loads, look_conflicts, looks, releases_done, releases_failed}
+use Rattle.tlcore.proofs.Rows.{releases_void, relook_conflicts, relooks, stores, take_conflicts, takes}
 
 -- the lock word of the cell is L but for the run's own lock, each read of it has found L, and L passes a look
 pub record Steady (L : ℕ) (xs : List Cell) (rv : ℕ) (ks : List Held) (rs : List Read) (c : ℕ) : Type 0 where
@@ -26,7 +29,8 @@ Active L xs t c (Storing i) = Unit {0}
 Active L xs t c Failing = Unit {0}
 Active L xs t c (Voiding i) = Unit {0}
 
-module _ (L : ℕ) (xs ys : List Cell) (t : Seat) (c : ℕ) (f : (y : Cell) → slice_get ys c ≡ Some y → (x : Cell) × (slice_get xs c ≡ Some x) × (y.lock ≡ x.lock)) where
+module _ (L : ℕ) (xs ys : List Cell) (t : Seat) (c : ℕ)
+    (f : (y : Cell) → slice_get ys c ≡ Some y → (x : Cell) × (slice_get xs c ≡ Some x) × (y.lock ≡ x.lock)) where
   steady_cells : Steady L xs t.rv t.held t.reads c → Steady L ys t.rv t.held t.reads c
   steady_cells b =
       record {
@@ -74,7 +78,8 @@ other_step L w v s z c t d n e m f a = go (option_known (slice_get v.cells c))
         none_cell q h = cc
 
 -- an event of the seat itself
-module _ (o : List ℕ) (L : ℕ) (w : World) (s c : ℕ) (t : Seat) (I : Consistent o w) (e : slice_get w.seats s ≡ Some t) (a : Active L w.cells t c t.place) where
+module _ (o : List ℕ) (L : ℕ) (w : World) (s c : ℕ) (t : Seat) (I : Consistent o w) (e : slice_get w.seats s ≡ Some t)
+    (a : Active L w.cells t c t.place) where
   at_place : (p : Place) → t.place ≡ p → Active L w.cells t c p
   at_place p q = subst (λ (y : Place). Active L w.cells t c y) q a
 
@@ -95,8 +100,11 @@ module _ (o : List ℕ) (L : ℕ) (w : World) (s c : ℕ) (t : Seat) (I : Consis
       → (z : Seat) × (slice_get v.seats s ≡ Some z) × Active L v.cells z c z.place
   own_step b v n (begins p) = absurd (n refl)
   own_step b v n (looks {c = d} {x} p f m) =
-      let st : Steady L w.cells t.rv t.held t.reads c = at_place Reading p in
-      (placed t (Looked d x.lock), after_seat (placed t (Looked d x.lock)), (st, λ q. st.lock x (ap (slice_get w.cells) (sym q) ∙ f) (λ k h. none_held o w s t I e Reading p (λ y. y) c (k, h))))
+      let st : Steady L w.cells t.rv t.held t.reads c = at_place Reading p in (
+        placed t (Looked d x.lock),
+        after_seat (placed t (Looked d x.lock)),
+        (st, λ q. st.lock x (ap (slice_get w.cells) (sym q) ∙ f) (λ k h. none_held o w s t I e Reading p (λ y. y) c (k, h))),
+      )
   own_step b v n (look_conflicts p f m) = (conflict t Idle, after_seat (conflict t Idle), tt)
   own_step b v n (loads {c = d} {word} {x} p f) =
       let st : Steady L w.cells t.rv t.held t.reads c × (d ≡ c → word ≡ L) = at_place (Looked d word) p in
@@ -128,7 +136,8 @@ module _ (o : List ℕ) (L : ℕ) (w : World) (s c : ℕ) (t : Seat) (I : Consis
       st = taking_steady d p
 
       found : d ≡ c → ((d == c) ≡ true) ⊎ ((d == c) ≡ false)
-          → find_held c (record { cell = d; word = r.word; value = u; stored = false } ∷ t.held) ≡ Some (record { cell = d; word = r.word; value = u; stored = false })
+          → find_held c (record { cell = d; word = r.word; value = u; stored = false } ∷ t.held)
+          ≡ Some (record { cell = d; word = r.word; value = u; stored = false })
       found q (inl h) = rw h refl
       found q (inr h) = absurd (other_numbers d c h q)
 
@@ -158,18 +167,24 @@ module _ (o : List ℕ) (L : ℕ) (w : World) (s c : ℕ) (t : Seat) (I : Consis
   own_step b v n (releases_done {i} {c = d} {k} {x} p g st f) = (
     record t { place = (if is_nil (without d t.held) then Idle else t.place); held = without d t.held },
     after_seat (record t { place = (if is_nil (without d t.held) then Idle else t.place); held = without d t.held }),
-    quiet_case (is_nil (without d t.held)) (slice_set w.cells d (record x { lock = 2 * suc i })) (record t { place = (if is_nil (without d t.held) then Idle else t.place); held = without d t.held }) Idle t.place tt
-        (subst (λ (y : Place). Active L (slice_set w.cells d (record x { lock = 2 * suc i })) (record t { place = (if is_nil (without d t.held) then Idle else t.place); held = without d t.held }) c y) (sym p) tt),
+    quiet_case (is_nil (without d t.held)) (slice_set w.cells d (record x { lock = 2 * suc i }))
+        (record t { place = (if is_nil (without d t.held) then Idle else t.place); held = without d t.held }) Idle t.place tt
+        (subst (λ (y : Place). Active L (slice_set w.cells d (record x { lock = 2 * suc i }))
+        (record t { place = (if is_nil (without d t.held) then Idle else t.place); held = without d t.held }) c y) (sym p) tt),
   )
   own_step b v n (releases_failed {c = d} {k} {x} p g f) = (
     record t { place = (if is_nil (without d t.held) then Idle else t.place); held = without d t.held },
     after_seat (record t { place = (if is_nil (without d t.held) then Idle else t.place); held = without d t.held }),
-    quiet_case (is_nil (without d t.held)) (slice_set w.cells d (record x { lock = k.word })) (record t { place = (if is_nil (without d t.held) then Idle else t.place); held = without d t.held }) Idle t.place tt
-        (subst (λ (y : Place). Active L (slice_set w.cells d (record x { lock = k.word })) (record t { place = (if is_nil (without d t.held) then Idle else t.place); held = without d t.held }) c y) (sym p) tt),
+    quiet_case (is_nil (without d t.held)) (slice_set w.cells d (record x { lock = k.word }))
+        (record t { place = (if is_nil (without d t.held) then Idle else t.place); held = without d t.held }) Idle t.place tt
+        (subst (λ (y : Place). Active L (slice_set w.cells d (record x { lock = k.word }))
+        (record t { place = (if is_nil (without d t.held) then Idle else t.place); held = without d t.held }) c y) (sym p) tt),
   )
   own_step b v n (releases_void {i} {c = d} {k} {x} p g f) = (
     record t { place = (if is_nil (without d t.held) then Idle else t.place); held = without d t.held },
     after_seat (record t { place = (if is_nil (without d t.held) then Idle else t.place); held = without d t.held }),
-    quiet_case (is_nil (without d t.held)) (slice_set w.cells d (record x { lock = k.word })) (record t { place = (if is_nil (without d t.held) then Idle else t.place); held = without d t.held }) Idle t.place tt
-        (subst (λ (y : Place). Active L (slice_set w.cells d (record x { lock = k.word })) (record t { place = (if is_nil (without d t.held) then Idle else t.place); held = without d t.held }) c y) (sym p) tt),
+    quiet_case (is_nil (without d t.held)) (slice_set w.cells d (record x { lock = k.word }))
+        (record t { place = (if is_nil (without d t.held) then Idle else t.place); held = without d t.held }) Idle t.place tt
+        (subst (λ (y : Place). Active L (slice_set w.cells d (record x { lock = k.word }))
+        (record t { place = (if is_nil (without d t.held) then Idle else t.place); held = without d t.held }) c y) (sym p) tt),
   )

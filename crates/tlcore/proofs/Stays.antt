@@ -17,5 +17,6 @@ alike_stays o h g l f =
     record {
       of_version = λ c. ap (version_after (deed g c)) l ∙ version-same (deed h c) (deed g c) (length h) (λ i m. f c i);
       of_value =
-          λ c. ap (value_after (deed g c) (slice_index o c)) l ∙ value-same (deed h c) (deed g c) (slice_index o c) (length h) (λ i m. f c i);
+          λ c. ap (value_after (deed g c) (slice_index o c)) l
+          ∙ value-same (deed h c) (deed g c) (slice_index o c) (length h) (λ i m. f c i);
     }

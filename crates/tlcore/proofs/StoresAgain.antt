@@ -80,18 +80,32 @@ module _ (o : List ℕ) (w : World) (s : ℕ) (t : Seat) (i c : ℕ) (k : Held) 
                 },
               )
           at_cell z (inr b) =
-              let ke : l ≡ a.0 = a.4 b in
-              (z.0, get-set_other w.cells c d (record x { value = k.value }) b ∙ z.1, subst (λ (v : Held). HeldOk o w.history t.rv (Storing i) d v z.0) (sym ke) z.2)
+              let ke : l ≡ a.0 = a.4 b in (
+                z.0,
+                get-set_other w.cells c d (record x { value = k.value }) b
+                    ∙ z.1,
+                subst (λ (v : Held). HeldOk o w.history t.rv (Storing i) d v z.0) (sym ke) z.2,
+              )
 
   pub again_same : settle w.history i Done ≡ w.history
   again_same = ap (settle w.history i) (sym r.2) ∙ settle_same w.history i r.0 r.1
 
   pub store_keeps : Consistent o (store w s t i c k x)
   store_keeps =
-      subst (λ (h : List Entry). Consistent o (record { clock = w.clock; cells = xs; seats = slice_set w.seats s (record t { place = Storing i; held = stored c t.held }); history = h })) (sym again_same)
+      subst (λ (h : List Entry). Consistent o (record {
+        clock = w.clock;
+        cells = xs;
+        seats = slice_set w.seats s (record t {
+          place =
+              Storing i;
+          held = stored c t.held;
+        });
+        history = h;
+      })) (sym again_same)
       (Consistent-step o w s t (record t { place = Storing i; held = stored c t.held }) xs w.history w.clock t.held (Some i) I e
       again_frame others I.clock again_cells I.history again_seat
-      (λ d l a. let b : (m : Held) × (find_held d t.held ≡ Some m) × (l.word ≡ m.word) × (l.value ≡ m.value) × (d ≢ c → l ≡ m) = stored-find c d t.held l a in (b.0, b.1))
+      (λ d l a. let b : (m : Held) × (find_held d t.held ≡ Some m) × (l.word ≡ m.word) × (l.value ≡ m.value) × (d ≢ c → l ≡ m) =
+      stored-find c d t.held l a in (b.0, b.1))
       (λ j a. a))
     where
       others : Others w.seats s t.held (Some i)

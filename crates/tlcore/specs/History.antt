@@ -2,7 +2,8 @@
 --
 -- TL2 is Dice, Shalev, Shavit, "Transactional Locking II" (DISC 2006). A number is its write version wv (section 2.2,
 -- write transactions, step 4). That a number is used up where its run fails after the draw is this project's own rule.
-use Rattle.std.specs.Prelude.{◌≡◌, ◌≢◌, ℕ, zero, suc, ◌<◌, ◌≤◌, Bool, true, false, ◌==◌, if◌then◌else◌, Option, Some, None, List, [], ◌∷◌, length, slice_get, slice_index, ◌⊎◌}
+use Rattle.std.specs.Prelude.{◌≡◌, ◌≢◌, ℕ, zero, suc, ◌<◌, ◌≤◌, Bool, true, false, ◌==◌, if◌then◌else◌, Option, Some, None, List, [], ◌∷◌}
+use Rattle.std.specs.Prelude.{length, slice_get, slice_index, ◌⊎◌}
 use Rattle.std.specs.Prelude.{option_and_then}
 pub use Rattle.tlcore.specs.declared.entries.Status.{Status}
 pub use Rattle.tlcore.specs.declared.entries.Status.TheVariants.{Open, Void, Done}

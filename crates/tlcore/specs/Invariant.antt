@@ -2,7 +2,8 @@
 -- o are the opening values, xs the cells, h the history, c a cell, t a seat.
 use Rattle.std.specs.Prelude.{◌≡◌, ◌≢◌, ℕ, suc, ◌*◌, ◌≤◌, true, false, Option, Some, None, List, [], ◌∷◌, length, slice_get}
 use Rattle.tlcore.specs.History.{Open, Done, Entry, wv, Will, deed, version, value, WasWritten, IsOne, One}
-use Rattle.tlcore.specs.Seats.{Read, Held, Place, Idle, Reading, Looked, Loaded, Taking, Checking, Storing, Failing, Voiding, Seat, number_at, reads_of, find_held, writes_of, is_settled}
+use Rattle.tlcore.specs.Seats.{Read, Held, Place, Idle, Reading, Looked, Loaded, Taking, Checking, Storing, Failing, Voiding, Seat}
+use Rattle.tlcore.specs.Seats.{number_at, reads_of, find_held, writes_of, is_settled}
 use Rattle.tlcore.specs.Machine.{Cell, World}
 
 -- ---- cells and history

@@ -2,8 +2,10 @@
 -- that follows. o are the opening values; t is the seat s of w, x the cell c.
 use Rattle.std.specs.Prelude.{◌≡◌, ℕ, ◌*◌, ◌||◌, true, false, Some, List, [], ◌∷◌, ◌++◌, length, ◌≤◌, slice_get, ◌⊎◌}
 use Rattle.tlcore.specs.History.{Void, Entry, wv, settle, One, Grows}
-use Rattle.tlcore.specs.Seats.{Read, Held, Idle, Reading, Looked, Loaded, Taking, Checking, Storing, Failing, Voiding, Seat, idle, find_read, find_held, all_below, all_settled, is_due, is_next}
-use Rattle.tlcore.specs.Machine.{Cell, World, Action, Begin, Look, Load, Relook, Take, Draw, Check, Store, Release, with_seat, begun, look, load, relook, take_cell, drawn, check, store, release, next}
+use Rattle.tlcore.specs.Seats.{Read, Held, Idle, Reading, Looked, Loaded, Taking, Checking, Storing, Failing, Voiding, Seat, idle}
+use Rattle.tlcore.specs.Seats.{find_read, find_held, all_below, all_settled, is_due, is_next}
+use Rattle.tlcore.specs.Machine.{Cell, World, Action, Begin, Look, Load, Relook, Take, Draw, Check, Store, Release, with_seat, begun, look}
+use Rattle.tlcore.specs.Machine.{load, relook, take_cell, drawn, check, store, release, next}
 use Rattle.tlcore.specs.Opacity.{HalvesWereWritten}
 use Rattle.tlcore.specs.Invariant.{Invariant}
 

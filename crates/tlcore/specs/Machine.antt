@@ -2,9 +2,11 @@
 --
 -- One event is one load, store, compare-exchange or fetch-and-add of one word, by one seat. The words are the global version
 -- clock and for each cell a versioned lock word and a value word (TL2, section 2). All words open at 0 but the value words.
-use Rattle.std.specs.Prelude.{ℕ, suc, ◌*◌, Bool, true, false, not, ◌&&◌, ◌||◌, if◌then◌else◌, ◌==◌, Option, Some, None, List, [], ◌∷◌, ◌++◌, slice_get, slice_set}
+use Rattle.std.specs.Prelude.{ℕ, suc, ◌*◌, Bool, true, false, not, ◌&&◌, ◌||◌, if◌then◌else◌, ◌==◌, Option, Some, None, List, [], ◌∷◌, ◌++◌}
+use Rattle.std.specs.Prelude.{slice_get, slice_set}
 use Rattle.tlcore.specs.History.{Open, Void, Done, Entry, wv, settle}
-use Rattle.tlcore.specs.Seats.{Held, Place, Idle, Reading, Looked, Loaded, Taking, Checking, Storing, Failing, Voiding, Seat, passes, find_read, reads_of, find_held, is_nil, all_below, without, stored, writes_of, all_settled, is_due, is_next}
+use Rattle.tlcore.specs.Seats.{Held, Place, Idle, Reading, Looked, Loaded, Taking, Checking, Storing, Failing, Voiding, Seat, passes}
+use Rattle.tlcore.specs.Seats.{find_read, reads_of, find_held, is_nil, all_below, without, stored, writes_of, all_settled, is_due, is_next}
 pub use Rattle.tlcore.specs.declared.cells.Cell.{Cell}
 pub use Rattle.tlcore.specs.declared.actions.Action.{Action}
 pub use Rattle.tlcore.specs.declared.actions.Action.TheVariants.{Begin, Look, Load, Relook, Take, Draw, Check, Store, Release}
@@ -56,7 +58,11 @@ taken w s t c value word x =
     record w {
       cells = slice_set w.cells c (record x { lock = suc word });
       seats =
-          slice_set w.seats s (record t { place = Taking; held = record { cell = c; word = word; value = value; stored = false } ∷ t.held });
+          slice_set w.seats s (record t {
+            place = Taking;
+            held =
+                record { cell = c; word = word; value = value; stored = false } ∷ t.held;
+          });
     }
 
 -- Take (step 3): one try to lock the cell, from the word that its read has seen; the value is kept aside

@@ -2,7 +2,8 @@
 --
 -- TL2, section 2.2: rv is the sample of the global version clock (step 1), the reads are the read set and the held cells
 -- are the write set (step 2), whose values are kept aside until the run commits (step 6).
-use Rattle.std.specs.Prelude.{ℕ, ◌/◌, ◌%◌, Bool, true, false, not, ◌&&◌, ◌||◌, if◌then◌else◌, ◌==◌, nat_lt, nat_le, suc, Option, Some, None, List, [], ◌∷◌, map}
+use Rattle.std.specs.Prelude.{ℕ, ◌/◌, ◌%◌, Bool, true, false, not, ◌&&◌, ◌||◌, if◌then◌else◌, ◌==◌, nat_lt, nat_le, suc, Option, Some, None}
+use Rattle.std.specs.Prelude.{List, [], ◌∷◌, map}
 use Rattle.std.specs.List.{find, filter, list_any, list_all}
 use Rattle.tlcore.specs.History.{wv}
 pub use Rattle.tlcore.specs.declared.seats.Read.{Read}

@@ -1,5 +1,7 @@
 -- A run that looks again at what it read.
-use Rattle.std.proofs.Common.{◌≡◌, ◌≢◌, ℕ, suc, ◌+◌, ◌/◌, ◌%◌, ◌<◌, ◌≤◌, ◌⊎◌, inl, inr, ⊎_elim, eq-eqb, ne_eqb, Bool, true, false, not, nat_lt, nat_le, ◌==◌, ◌&&◌, ◌||◌, is_some, if◌then◌else◌, Option, Some, None, List, [], ◌∷◌, length, slice_get, sym, refl, ap, ◌∙◌, arith}
+use Rattle.std.proofs.Common.{◌≡◌, ◌≢◌, ℕ, suc, ◌+◌, ◌/◌, ◌%◌, ◌<◌, ◌≤◌, ◌⊎◌, inl, inr, ⊎_elim, eq-eqb, ne_eqb, Bool, true, false, not}
+use Rattle.std.proofs.Common.{nat_lt, nat_le, ◌==◌, ◌&&◌, ◌||◌, is_some, if◌then◌else◌, Option, Some, None, List, [], ◌∷◌, length}
+use Rattle.std.proofs.Common.{slice_get, sym, refl, ap, ◌∙◌, arith}
 use Rattle.std.specs.List.{list_all}
 use Rattle.std.specs.Option.{option_map}
 use Rattle.tlcore.specs.Seats.{Seat, find_read, is_held, is_settled, settled_below, all_settled, is_due, is_next, passes}
@@ -46,7 +48,8 @@ read_within slots c e = go (option_known (slice_get slots c))
   where
     go : ((s : Slot) × (slice_get slots c ≡ Some s)) ⊎ (slice_get slots c ≡ None) → c < length slots
     go (inl s) = get_within slots c s.0 s.1
-    go (inr n) = let a : false ≡ true = sym (ap (λ (o : Option Slot). is_some (elim o as (λ _. Option ℕ) [ None ↦ None | Some s ↦ s.word ])) n) ∙ e in cc
+    go (inr n) = let a : false ≡ true = sym (ap (λ (o : Option Slot). is_some (elim o as (λ _. Option ℕ) [ None ↦ None | Some s ↦ s.word ]))
+        n) ∙ e in cc
 
 wanted_reads : (slots : List Slot) (c : ℕ) → is_wanted slots false c ≡ true → (was_read slots c ≡ true) × (value_kept slots c ≡ None)
 wanted_reads slots c e = go (was_read slots c) (value_kept slots c) e
@@ -56,7 +59,8 @@ wanted_reads slots c e = go (was_read slots c) (value_kept slots c) e
     go true (Some v) e = cc
     go false o e = cc
 
-unwanted_keeps : (slots : List Slot) (c : ℕ) → was_read slots c ≡ true → is_wanted slots false c ≡ false → (v : ℕ) × (value_kept slots c ≡ Some v)
+unwanted_keeps : (slots : List Slot) (c : ℕ) → was_read slots c ≡ true → is_wanted slots false c ≡ false
+    → (v : ℕ) × (value_kept slots c ≡ Some v)
 unwanted_keeps slots c r e = go (was_read slots c) (value_kept slots c) r e
   where
     go : (b : Bool) (o : Option ℕ) → b ≡ true → (b && not (is_some o)) ≡ false → (v : ℕ) × (o ≡ Some v)
@@ -71,7 +75,12 @@ module _ {S N : Type 0} (terms : Terms S N) (slots : List Slot) (i : ℕ) (m : M
 
   pub check_skips : m.0.seat.place ≡ Checking i 0 → i ≡ m.0.seat.rv → Passes terms i m m
   check_skips e n =
-      record { upto = 0; goes = check_starts e; may = or_left (is_next m.0.seat i) (all_settled m.0.seat.held 0 m.0.seat.reads) (eq-eqb (suc m.0.seat.rv) (suc i) (ap suc (sym n))) }
+      record {
+        upto = 0;
+        goes = check_starts e;
+        may = or_left (is_next m.0.seat i) (all_settled m.0.seat.held 0 m.0.seat.reads)
+            (eq-eqb (suc m.0.seat.rv) (suc i) (ap suc (sym n)));
+      }
 
   found_reads : (c : ℕ) → is_some (find_read c m.0.seat.reads) ≡ true → was_read slots c ≡ true
   found_reads c e = ap is_some (k.0 c) ∙ go (find_read c m.0.seat.reads) e
@@ -85,7 +94,8 @@ module _ {S N : Type 0} (terms : Terms S N) (slots : List Slot) (i : ℕ) (m : M
     settled_cell : (c x : ℕ) → NoneWanted slots false low c → x < c → was_read slots x ≡ true → is_settled m.0.seat.held low x ≡ true
     settled_cell c x front l r = ⊎_elim
         (λ (a : low ≤ x). let v : (v : ℕ) × (value_kept slots x ≡ Some v) = unwanted_keeps slots x r (front x a l) in
-        or_left (is_held x m.0.seat.held) (nat_lt x low) (ap (is_held x) held ∙ held_yes slots 0 0 (length slots) x v.0 (omega arith) (read_within slots x r) v.1))
+        or_left (is_held x m.0.seat.held) (nat_lt x low) (ap (is_held x) held
+        ∙ held_yes slots 0 0 (length slots) x v.0 (omega arith) (read_within slots x r) v.1))
         (λ (a : x < low). or_right (is_held x m.0.seat.held) (nat_lt x low) (lt_yes x low a)) (le_cases low x)
 
     module _ (r : Mine S N) (g : Goes terms m (placed m.0.seat (Checking i low)) r) where
@@ -109,7 +119,8 @@ module _ {S N : Type 0} (terms : Terms S N) (slots : List Slot) (i : ℕ) (m : M
           rest : settled_below c m.0.seat.held low m.0.seat.reads ≡ true
           rest = reads_all (λ x. nat_le c x || is_settled m.0.seat.held low x) m.0.seat.reads (λ x e. ⊎_elim
               (λ (a : c ≤ x). or_left (nat_le c x) (is_settled m.0.seat.held low x) (le_yes c x a))
-              (λ (a : x < c). or_right (nat_le c x) (is_settled m.0.seat.held low x) (settled_cell c x front a (found_reads x e))) (le_cases c x))
+              (λ (a : x < c). or_right (nat_le c x) (is_settled m.0.seat.held low x) (settled_cell c x front a (found_reads x e)))
+              (le_cases c x))
 
       pub check_ends : NoneWanted slots false low (length slots) → Passes terms i m r
       check_ends front =
@@ -129,7 +140,8 @@ module _ {S N : Type 0} (terms : Terms S N) (slots : List Slot) (i : ℕ) (m : M
         check_goes even l =
             goes_by terms (λ (t : Seat). after_check t i c n) (Some (c, n)) m r s (placed m.0.seat (Checking i low))
             (placed m.0.seat (Checking i (c + 1))) g t.sees looks
-            (if_true (passes n m.0.seat.rv) (placed m.0.seat (Checking i (suc c))) (conflict (placed m.0.seat (Checking i low)) (Voiding i)) (passes_true n m.0.seat.rv even l)
+            (if_true (passes n m.0.seat.rv) (placed m.0.seat (Checking i (suc c))) (conflict (placed m.0.seat (Checking i low)) (Voiding i))
+            (passes_true n m.0.seat.rv even l)
             ∙ ap (λ (x : ℕ). placed m.0.seat (Checking i x)) (let a : suc c ≡ c + 1 = omega arith in a))
 
         pub check_fails : (w : ℕ) (b : Option ℕ) → b ≡ Some w → word_seen slots c ≡ Some w → HasCause m.0.seat.rv n
@@ -138,7 +150,8 @@ module _ {S N : Type 0} (terms : Terms S N) (slots : List Slot) (i : ℕ) (m : M
             record {
               goes = goes_by terms (λ (t : Seat). after_check t i c n) (Some (c, n)) m r s (placed m.0.seat (Checking i low))
                   (conflict m.0.seat (Voiding i)) g t.sees looks
-                  (if_false (passes n m.0.seat.rv) (placed m.0.seat (Checking i (suc c))) (conflict (placed m.0.seat (Checking i low)) (Voiding i)) (passes_false n m.0.seat.rv cause));
+                  (if_false (passes n m.0.seat.rv) (placed m.0.seat (Checking i (suc c)))
+                  (conflict (placed m.0.seat (Checking i low)) (Voiding i)) (passes_false n m.0.seat.rv cause));
               finds = record { looked = ap (λ (v : View S N). v.looked) looks; written = t.written; before = f ∙ sym is };
               cause = cause;
             }

@@ -1,12 +1,15 @@
 -- What is kept of the cells, as entries are listed and set.
-use Rattle.std.proofs.Common.{◌≡◌, ◌≢◌, ℕ, zero, suc, ◌+◌, ◌-◌, ◌%◌, ◌<◌, ◌≤◌, replicate, subst, take, ◌⊎◌, inl, inr, ⊎_elim, true, false, is_some, Option, Some, None, List, [], ◌∷◌, ◌++◌, length, map, slice_get, slice_set, sym, refl, ap, ◌∙◌, arith}
+use Rattle.std.proofs.Common.{◌≡◌, ◌≢◌, ℕ, zero, suc, ◌+◌, ◌-◌, ◌%◌, ◌<◌, ◌≤◌, replicate, subst, take, ◌⊎◌, inl, inr, ⊎_elim, true, false}
+use Rattle.std.proofs.Common.{is_some, Option, Some, None, List, [], ◌∷◌, ◌++◌, length, map, slice_get, slice_set, sym, refl, ap, ◌∙◌}
+use Rattle.std.proofs.Common.{arith}
 use Rattle.std.specs.Option.{option_map}
 use Rattle.std.specs.Prelude.{option_and_then, slice_index_or}
 use Rattle.std.proofs.lemmas.Option.{slice_get-map, slice_get_past, get_or_from_slice_get}
 use Rattle.std.proofs.lemmas.Bool.{cases_lt}
 use mathlib.Core.Logic.{dite}
 use native.Mathlib.Decide.{ℕ_discrete}
-use Rattle.tlcore.proofs.Lists.{get-set_same, get-set_other, get_within, get-append_left, get-append_seam, get-append_cases, length-append_one, length-slice_set}
+use Rattle.tlcore.proofs.Lists.{get-set_same, get-set_other, get_within, get-append_left, get-append_seam, get-append_cases}
+use Rattle.tlcore.proofs.Lists.{length-append_one, length-slice_set}
 use Rattle.tlcore.proofs.Growth.{get_exists}
 use Rattle.tlwords.specs.declared.log.Slot.{Slot}
 use Rattle.tlwords.specs.declared.slots.Entry.{Entry}

@@ -1,5 +1,6 @@
 -- How far a range of the store is filled, and what a run knows after steps on the store.
-use Rattle.std.proofs.Common.{◌≡◌, ◌≢◌, ℕ, ◌+◌, ◌<◌, ◌≤◌, ◌⊎◌, inl, inr, Bool, true, false, is_some, Option, Some, None, List, [], ◌∷◌, length, slice_get, sym, refl, ap, ◌∙◌, subst, arith}
+use Rattle.std.proofs.Common.{◌≡◌, ◌≢◌, ℕ, ◌+◌, ◌<◌, ◌≤◌, ◌⊎◌, inl, inr, Bool, true, false, is_some, Option, Some, None, List, [], ◌∷◌}
+use Rattle.std.proofs.Common.{length, slice_get, sym, refl, ap, ◌∙◌, subst, arith}
 use Rattle.tlcore.proofs.Growth.{get_exists, Grows-trans}
 use Rattle.tlwords.specs.Terms.{Terms}
 use Rattle.tlwords.specs.Seen.{Seen, SeenGrows}
@@ -41,7 +42,8 @@ module _ {S N : Type 0} (terms : Terms S N) where
     filled_start m ne e =
         record {
           sees = inl refl;
-          goes_on = λ l. let keep : m.0 ≡ record m.0 { staging = m.0.staging } = refl in keep ∙ ap (λ s. let v : View S N = record m.0 { staging = s } in v) e;
+          goes_on = λ l. let keep : m.0 ≡ record m.0 { staging = m.0.staging } = refl in
+              keep ∙ ap (λ s. let v : View S N = record m.0 { staging = s } in v) e;
           ends = λ n. let l : 0 < length words = some_words words ne in absurd (omega (arith, l, n));
         }
 
@@ -52,10 +54,16 @@ module _ {S N : Type 0} (terms : Terms S N) where
         let all : Sees terms m.0 q.0 = seen f.sees in
         record {
           sees = inr all;
-          goes_on = λ more. s.next (with_done k) here more ∙ ap (λ (v : View S N). let w : View S N = record v { seen = q.0.seen; staging = Some (with_done (k + 1)) } in w) is;
+          goes_on = λ more. s.next (with_done k) here more ∙ ap
+              (λ (v : View S N). let w : View S N = record v { seen = q.0.seen; staging = Some (with_done (k + 1)) } in w) is;
           ends = λ e.
               let t = s.last (with_done k) here e in
-              record { sees = all; finished = t.0; is = t.1 ∙ ap (λ (v : View S N). let w : View S N = record v { seen = q.0.seen; staging = None } in w) is };
+              record {
+                sees = all;
+                finished = t.0;
+                is = t.1 ∙ ap
+                    (λ (v : View S N). let w : View S N = record v { seen = q.0.seen; staging = None } in w) is;
+              };
         }
       where
         seen : (r ≡ m) ⊎ Sees terms m.0 r.0 → Sees terms m.0 q.0
@@ -77,7 +85,8 @@ module _ {S N : Type 0} (terms : Terms S N) where
     pub fits_on : (count place : ℕ) (b : Bool) → IsRunOf m count place b → IsRunOf r count place b
     fits_on count place b f = subst (λ (v : View S N). IsRunOf {S = S} {N = N} (v, r.1) count place b) (sym is) f
 
-    pub knows_on : (b : Bool) → is_some m.0.setting ≡ true → m.0.staging ≡ None → m.0.gone ≡ [] → Sees terms m.0 r.0 → is_some o ≡ b → KnowsStore r.0 b
+    pub knows_on : (b : Bool) → is_some m.0.setting ≡ true → m.0.staging ≡ None → m.0.gone ≡ [] → Sees terms m.0 r.0 → is_some o ≡ b
+        → KnowsStore r.0 b
     knows_on b set rest alone s f =
         let y : (x : S) × (m.0.setting ≡ Some x) = some_setting m.0.setting set in
         record {

@@ -1,5 +1,6 @@
 -- The ends of a commit that wrote nothing, and what a run needs to go on to its draw.
-use Rattle.std.proofs.Common.{◌≡◌, ◌≢◌, ℕ, Bool, true, false, if◌then◌else◌, is_some, Some, List, [], ◌∷◌, ◌++◌, length, sym, refl, ap, ◌∙◌, subst}
+use Rattle.std.proofs.Common.{◌≡◌, ◌≢◌, ℕ, Bool, true, false, if◌then◌else◌, is_some, Some, List, [], ◌∷◌, ◌++◌, length, sym, refl, ap, ◌∙◌}
+use Rattle.std.proofs.Common.{subst}
 use Rattle.tlcore.specs.Seats.{Seat, reads_of}
 use Rattle.tlcore.specs.declared.seats.Place.TheVariants.{Reading, Taking}
 use Rattle.tlcore.specs.Seats.{is_resting}

@@ -1,8 +1,10 @@
 -- The values of the front's range cells: what a held cell is to get names a range, and a step that sets one cell keeps that each does.
-use Rattle.std.proofs.Common.{◌≡◌, ◌≢◌, ℕ, zero, suc, ◌⊎◌, inl, inr, ⊎_elim, true, false, ◌==◌, Some, None, List, [], ◌∷◌, Option, length, slice_get, slice_set, slice_index, sym, refl, ap, ◌∙◌, subst, arith}
+use Rattle.std.proofs.Common.{◌≡◌, ◌≢◌, ℕ, zero, suc, ◌⊎◌, inl, inr, ⊎_elim, true, false, ◌==◌, Some, None, List, [], ◌∷◌, Option, length}
+use Rattle.std.proofs.Common.{slice_get, slice_set, slice_index, sym, refl, ap, ◌∙◌, subst, arith}
 use mathlib.Core.Option.{some}
 use lib.ListN.{get_elem?}
-use Rattle.tlcore.specs.History.{Entry, Deed, Nothing, Will, Did, wv, written, value_over, version_over, value_after, version_after, deed, deed_of, version, value}
+use Rattle.tlcore.specs.History.{Entry, Deed, Nothing, Will, Did, wv, written, value_over, version_over, value_after, version_after, deed}
+use Rattle.tlcore.specs.History.{deed_of, version, value}
 use Rattle.tlcore.specs.Seats.{Seat, number_at, find_held}
 use Rattle.tlcore.specs.Invariant.{PlaceOk, HeldOk, HeldShows, CheckingOk, done_at}
 use Rattle.tlcore.proofs.Lists.{get-set_cases, equal_numbers, known}
@@ -96,7 +98,8 @@ module _ {S N : Type 0} (terms : Terms S N) (setting : S) (base : List ℕ) (roo
         let noted : (n : N) × (v.note ≡ Some n) × (slice_get r.notes i ≡ Some n) = f.noted i (ap number_at p.1) in
         let ok : CheckingOk base (r.world).history t i p.0 =
         subst (λ (z : Place). PlaceOk base (r.world).cells (r.world).history t z) p.1 ((r.invariant).consistent.seats id t e).place in
-        let wrote : written c (ok.entry).writes ≡ Some k.value = ap (λ (ps : Pairs). written c ps) ok.writes ∙ written-held c t.held k holds in
+        let wrote : written c (ok.entry).writes ≡ Some k.value =
+        ap (λ (ps : Pairs). written c ps) ok.writes ∙ written-held c t.held k holds in
         written_named i c k.value ok.entry noted.0 ok.here noted.2 wrote
     held_named id v at c i k (inr p) holds =
         let t : Seat = v.seat in

@@ -1,5 +1,6 @@
 -- The cells that a run holds while it commits, in ascending order.
-use Rattle.std.proofs.Common.{◌≡◌, ◌≢◌, ℕ, zero, suc, ◌+◌, ◌<◌, ◌≤◌, ◌⊎◌, inl, inr, ⊎_elim, eq-eqb, ne_eqb, Bool, true, false, nat_lt, nat_le, ◌||◌, ◌&&◌, not, if◌then◌else◌, Option, Some, None, List, [], ◌∷◌, sym, refl, ap, ◌∙◌, arith}
+use Rattle.std.proofs.Common.{◌≡◌, ◌≢◌, ℕ, zero, suc, ◌+◌, ◌<◌, ◌≤◌, ◌⊎◌, inl, inr, ⊎_elim, eq-eqb, ne_eqb, Bool, true, false, nat_lt}
+use Rattle.std.proofs.Common.{nat_le, ◌||◌, ◌&&◌, not, if◌then◌else◌, Option, Some, None, List, [], ◌∷◌, sym, refl, ap, ◌∙◌, arith}
 use Rattle.std.proofs.lemmas.Bool.Decides.{nat_tests}
 use mathlib.Core.Logic.{dite}
 use native.Mathlib.Decide.{ℕ_discrete}
@@ -47,14 +48,16 @@ module _ (slots : List Slot) where
       ap (λ (o : Option ℕ). with_held slots d low n o (held_in slots d low n)) e
       ∙ ap (λ (b : Bool). if b then held_cell d n v ∷ held_in slots d low n else held_in slots d low n) (le_no low n l)
 
-  step_some : (d low n v : ℕ) → value_kept slots n ≡ Some v → low ≤ n → held_in slots d low (suc n) ≡ held_cell d n v ∷ held_in slots d low n
+  step_some : (d low n v : ℕ) → value_kept slots n ≡ Some v → low ≤ n
+      → held_in slots d low (suc n) ≡ held_cell d n v ∷ held_in slots d low n
   step_some d low n v e l =
       ap (λ (o : Option ℕ). with_held slots d low n o (held_in slots d low n)) e
       ∙ ap (λ (b : Bool). if b then held_cell d n v ∷ held_in slots d low n else held_in slots d low n) (le_yes low n l)
 
   -- the cell n is held with a value, or isn't
   abbrev Steps : ℕ → ℕ → Type 0
-  Steps low n = ((v : ℕ) × (value_kept slots n ≡ Some v) × (low ≤ n)) ⊎ ((value_kept slots n ≡ None) ⊎ ((v : ℕ) × (value_kept slots n ≡ Some v) × (n < low)))
+  Steps low n = ((v : ℕ) × (value_kept slots n ≡ Some v) × (low ≤ n))
+      ⊎ ((value_kept slots n ≡ None) ⊎ ((v : ℕ) × (value_kept slots n ≡ Some v) × (n < low)))
 
   steps : (low n : ℕ) → Steps low n
   steps low n = go (option_known (value_kept slots n)) (le_cases low n)
@@ -90,18 +93,22 @@ module _ (slots : List Slot) where
       → held_in slots 0 0 (c + 1) ≡ record { cell = c; word = w; value = v; stored = false } ∷ held_in slots 0 0 k
   held_more k c v w l unkept e f =
       ap (held_in slots 0 0) (let a : c + 1 ≡ suc c = omega arith in a) ∙ (step_some 0 0 c v e (omega arith)
-      ∙ (λ j. (let h : Held = record { cell = c; word = word_or_zero (f j); value = v; stored = lt_no c 0 (omega arith) j } in h) ∷ held_on 0 0 k c l unkept j))
+      ∙ (λ j. (let h : Held = record { cell = c; word = word_or_zero (f j); value = v; stored = lt_no c 0 (omega arith) j } in h) ∷ held_on
+      0 0 k c l unkept j))
 
   -- ---- the cells
 
-  pub held_find : (d low n c v : ℕ) → low ≤ c → c < n → value_kept slots c ≡ Some v → find_held c (held_in slots d low n) ≡ Some (held_cell d c v)
+  pub held_find : (d low n c v : ℕ) → low ≤ c → c < n → value_kept slots c ≡ Some v
+      → find_held c (held_in slots d low n) ≡ Some (held_cell d c v)
   held_find d low zero c v l m e = absurd (omega arith)
   held_find d low (suc n) c v l m e = dite (ℕ_discrete n c)
       (λ (same : n ≡ c). ap (find_held c) (step_some d low n v (ap (value_kept slots) same ∙ e) (omega arith))
-      ∙ (ap (λ (b : Bool). if b then Some (held_cell d n v) else find_held c (held_in slots d low n)) (eq-eqb n c same) ∙ ap (λ (x : ℕ). Some (held_cell d x v)) same))
+      ∙ (ap (λ (b : Bool). if b then Some (held_cell d n v) else find_held c (held_in slots d low n)) (eq-eqb n c same)
+      ∙ ap (λ (x : ℕ). Some (held_cell d x v)) same))
       (λ (other : n ≢ c). go other (steps low n) (held_find d low n c v l (omega arith) e))
     where
-      go : n ≢ c → Steps low n → find_held c (held_in slots d low n) ≡ Some (held_cell d c v) → find_held c (held_in slots d low (suc n)) ≡ Some (held_cell d c v)
+      go : n ≢ c → Steps low n → find_held c (held_in slots d low n) ≡ Some (held_cell d c v)
+          → find_held c (held_in slots d low (suc n)) ≡ Some (held_cell d c v)
       go other (inl s) ih =
           ap (find_held c) (step_some d low n s.0 s.1 s.2)
           ∙ (ap (λ (b : Bool). if b then Some (held_cell d n s.0) else find_held c (held_in slots d low n)) (ne_eqb n c other) ∙ ih)
@@ -116,7 +123,8 @@ module _ (slots : List Slot) where
     where
       go : n ≢ c → Steps low n → is_held c (held_in slots d low n) ≡ true → is_held c (held_in slots d low (suc n)) ≡ true
       go other (inl s) ih =
-          ap (is_held c) (step_some d low n s.0 s.1 s.2) ∙ (ap (λ (b : Bool). b || is_held c (held_in slots d low n)) (ne_eqb n c other) ∙ ih)
+          ap (is_held c) (step_some d low n s.0 s.1 s.2) ∙ (ap (λ (b : Bool). b || is_held c (held_in slots d low n)) (ne_eqb n c other)
+          ∙ ih)
       go other (inr s) ih = ap (is_held c) (step_not d low n s) ∙ ih
 
   pub held_no : (d low n c : ℕ) → value_kept slots c ≡ None → is_held c (held_in slots d low n) ≡ false
@@ -135,14 +143,16 @@ module _ (slots : List Slot) where
     where
       go : Steps low n → all_below c (held_in slots d low n) ≡ true → all_below c (held_in slots d low (suc n)) ≡ true
       go (inl s) ih =
-          ap (all_below c) (step_some d low n s.0 s.1 s.2) ∙ (ap (λ (b : Bool). b && all_below c (held_in slots d low n)) (lt_yes n c (omega arith)) ∙ ih)
+          ap (all_below c) (step_some d low n s.0 s.1 s.2) ∙ (ap (λ (b : Bool). b && all_below c (held_in slots d low n))
+          (lt_yes n c (omega arith)) ∙ ih)
       go (inr s) ih = ap (all_below c) (step_not d low n s) ∙ ih
 
   pub held_writes : (d n : ℕ) → writes_of (held_in slots d 0 n) ≡ writes_below slots n
   held_writes d zero = refl
   held_writes d (suc n) = go (steps 0 n) (held_writes d n)
     where
-      go : Steps 0 n → writes_of (held_in slots d 0 n) ≡ writes_below slots n → writes_of (held_in slots d 0 (suc n)) ≡ writes_below slots (suc n)
+      go : Steps 0 n → writes_of (held_in slots d 0 n) ≡ writes_below slots n
+          → writes_of (held_in slots d 0 (suc n)) ≡ writes_below slots (suc n)
       go (inl s) ih =
           ap writes_of (step_some d 0 n s.0 s.1 s.2)
           ∙ (ap (λ (ps : Pairs). (n, s.0) ∷ ps) ih ∙ sym (ap (λ (o : Option ℕ). with_write n o (writes_below slots n)) s.1))
@@ -158,7 +168,8 @@ module _ (slots : List Slot) where
   -- ---- a store, and a release
 
   pub same_marks : (d e n v : ℕ) → nat_lt n d ≡ nat_lt n e → held_cell d n v ≡ held_cell e n v
-  same_marks d e n v q = ap (λ (b : Bool). let k : Held = record { cell = n; word = word_or_zero (word_seen slots n); value = v; stored = b } in k) q
+  same_marks d e n v q = ap (λ (b : Bool). let k : Held =
+      record { cell = n; word = word_or_zero (word_seen slots n); value = v; stored = b } in k) q
 
   -- the cell c is stored, and the kept ones below it were before
   pub held_stored : (d low n c : ℕ) → d ≤ c → NoneKept d c → stored c (held_in slots d low n) ≡ held_in slots (suc c) low n
@@ -173,12 +184,15 @@ module _ (slots : List Slot) where
       mark : (v : ℕ) → value_kept slots n ≡ Some v → marked c (held_cell d n v) ≡ held_cell (suc c) n v
       mark v e = dite (ℕ_discrete n c)
           (λ (same : n ≡ c). ap (λ (b : Bool). if b then record (held_cell d n v) { stored = true } else held_cell d n v) (eq-eqb n c same)
-          ∙ ap (λ (b : Bool). let k : Held = record { cell = n; word = word_or_zero (word_seen slots n); value = v; stored = b } in k) (sym (lt_yes n (suc c) (omega arith))))
-          (λ (other : n ≢ c). ap (λ (b : Bool). if b then record (held_cell d n v) { stored = true } else held_cell d n v) (ne_eqb n c other)
+          ∙ ap (λ (b : Bool). let k : Held = record { cell = n; word = word_or_zero (word_seen slots n); value = v; stored = b } in k)
+          (sym (lt_yes n (suc c) (omega arith))))
+          (λ (other : n ≢ c). ap (λ (b : Bool). if b then record (held_cell d n v) { stored = true } else held_cell d n v)
+          (ne_eqb n c other)
           ∙ same_marks d (suc c) n v (⊎_elim (λ (m : d ≤ n). lt_no n d m ∙ sym (lt_no n (suc c) (above v e other m)))
           (λ (m : n < d). lt_yes n d m ∙ sym (lt_yes n (suc c) (omega arith))) (le_cases d n)))
 
-      go : Steps low n → stored c (held_in slots d low n) ≡ held_in slots (suc c) low n → stored c (held_in slots d low (suc n)) ≡ held_in slots (suc c) low (suc n)
+      go : Steps low n → stored c (held_in slots d low n) ≡ held_in slots (suc c) low n
+          → stored c (held_in slots d low (suc n)) ≡ held_in slots (suc c) low (suc n)
       go (inl s) ih =
           ap (stored c) (step_some d low n s.0 s.1 s.2)
           ∙ ((λ j. mark s.0 s.1 j ∷ ih j) ∙ sym (step_some (suc c) low n s.0 s.1 s.2))
@@ -190,15 +204,18 @@ module _ (slots : List Slot) where
   held_without d low (suc n) c l unkept = go (option_known (value_kept slots n)) (le_cases (suc c) n) (held_without d low n c l unkept)
     where
       go : ((v : ℕ) × (value_kept slots n ≡ Some v)) ⊎ (value_kept slots n ≡ None) → (suc c ≤ n) ⊎ (n < suc c)
-          → without c (held_in slots d low n) ≡ held_in slots d (suc c) n → without c (held_in slots d low (suc n)) ≡ held_in slots d (suc c) (suc n)
+          → without c (held_in slots d low n) ≡ held_in slots d (suc c) n
+          → without c (held_in slots d low (suc n)) ≡ held_in slots d (suc c) (suc n)
       go (inr e) m ih = ap (without c) (step_none d low n e) ∙ (ih ∙ sym (step_none d (suc c) n e))
       go (inl e) (inl m) ih =
           ap (without c) (step_some d low n e.0 e.1 (omega arith))
-          ∙ (ap (λ (b : Bool). if not b then held_cell d n e.0 ∷ without c (held_in slots d low n) else without c (held_in slots d low n)) (ne_eqb n c (omega arith))
+          ∙ (ap (λ (b : Bool). if not b then held_cell d n e.0 ∷ without c (held_in slots d low n) else without c (held_in slots d low n))
+          (ne_eqb n c (omega arith))
           ∙ (ap (λ (ks : List Held). held_cell d n e.0 ∷ ks) ih ∙ sym (step_some d (suc c) n e.0 e.1 m)))
       go (inl e) (inr m) ih = dite (ℕ_discrete n c)
           (λ (same : n ≡ c). ap (without c) (step_some d low n e.0 e.1 (omega arith))
-          ∙ (ap (λ (b : Bool). if not b then held_cell d n e.0 ∷ without c (held_in slots d low n) else without c (held_in slots d low n)) (eq-eqb n c same)
+          ∙ (ap (λ (b : Bool). if not b then held_cell d n e.0 ∷ without c (held_in slots d low n) else without c (held_in slots d low n))
+          (eq-eqb n c same)
           ∙ (ih ∙ sym (step_low d (suc c) n e.0 e.1 m))))
           (λ (other : n ≢ c). ⊎_elim
           (λ (a : low ≤ n). let x : None ≡ Some e.0 = sym (unkept n a (omega (arith, m, other))) ∙ e.1 in cc)
@@ -212,6 +229,7 @@ module _ (slots : List Slot) where
       go : Steps low n → held_in slots d low n ≡ held_in slots e low n → held_in slots d low (suc n) ≡ held_in slots e low (suc n)
       go (inl s) ih = ⊎_elim
           (λ (a : d ≤ n). let x : None ≡ Some s.0 = sym (unkept n a (omega arith)) ∙ s.1 in cc)
-          (λ (a : n < d). step_some d low n s.0 s.1 s.2 ∙ ((λ j. same_marks d e n s.0 (lt_yes n d a ∙ sym (lt_yes n e l)) j ∷ ih j) ∙ sym (step_some e low n s.0 s.1 s.2)))
+          (λ (a : n < d). step_some d low n s.0 s.1 s.2 ∙ ((λ j. same_marks d e n s.0 (lt_yes n d a ∙ sym (lt_yes n e l)) j ∷ ih j)
+          ∙ sym (step_some e low n s.0 s.1 s.2)))
           (le_cases d n)
       go (inr s) ih = step_not d low n s ∙ (ih ∙ sym (step_not e low n s))

@@ -1,5 +1,6 @@
 -- A run that gives its locks back, one after another.
-use Rattle.std.proofs.Common.{◌≡◌, ℕ, suc, ◌+◌, ◌*◌, ◌<◌, ◌≤◌, ◌⊎◌, inl, inr, ⊎_elim, Bool, true, false, if◌then◌else◌, Option, Some, None, List, [], ◌∷◌, sym, refl, ap, ◌∙◌, subst, arith}
+use Rattle.std.proofs.Common.{◌≡◌, ℕ, suc, ◌+◌, ◌*◌, ◌<◌, ◌≤◌, ◌⊎◌, inl, inr, ⊎_elim, Bool, true, false, if◌then◌else◌, Option, Some, None}
+use Rattle.std.proofs.Common.{List, [], ◌∷◌, sym, refl, ap, ◌∙◌, subst, arith}
 use Rattle.std.specs.Option.{unwrap_or}
 use Rattle.tlcore.specs.History.{wv}
 use Rattle.tlcore.specs.Seats.{Seat, find_held, is_nil, without}
@@ -41,16 +42,25 @@ module _ {S N : Type 0} (terms : Terms S N) (slots : List Slot) (high : ℕ) (ne
         → (k : Held) × (find_held c r.0.seat.held ≡ Some k) × GivesBack r.0.seat k n
     release_held w n f is = (
       held_cell slots g.done c v,
-      ap (λ (t : Seat). find_held c t.held) (goes_seat terms m r (holding m.0.seat g.place Idle still) g.goes) ∙ held_find slots g.done low high c v l b e,
+      ap (λ (t : Seat). find_held c t.held) (goes_seat terms m r (holding m.0.seat g.place Idle still) g.goes)
+          ∙ held_find slots g.done low high c v l b e,
       go g.gives,
     )
       where
-        go : ((new ≡ None) × ((g.place ≡ Failing) ⊎ ((i : ℕ) × (g.place ≡ Voiding i)))) ⊎ ((g.done ≡ high) × ((i : ℕ) × (g.place ≡ Storing i) × (new ≡ Some (2 * wv i))))
+        go : ((new ≡ None) × ((g.place ≡ Failing) ⊎ ((i : ℕ) × (g.place ≡ Voiding i))))
+            ⊎ ((g.done ≡ high) × ((i : ℕ) × (g.place ≡ Storing i) × (new ≡ Some (2 * wv i))))
             → GivesBack r.0.seat (held_cell slots g.done c v) n
         go (inl p) =
             let back : n ≡ word_or_zero (word_seen slots c) = is ∙ (ap (λ (o : Option ℕ). unwrap_or o w) p.0 ∙ sym (ap word_or_zero f)) in
-            inr (⊎_elim (λ (q : g.place ≡ Failing). inl (still_at ∙ q, back)) (λ (q : (i : ℕ) × (g.place ≡ Voiding i)). inr (q.0, still_at ∙ q.1, back)) p.1)
-        go (inr p) = inl (p.1.0, still_at ∙ p.1.1, lt_yes c g.done (let a : g.done ≡ high = p.0 in omega (arith, a, b)), is ∙ ap (λ (o : Option ℕ). unwrap_or o w) p.1.2)
+            inr (⊎_elim (λ (q : g.place ≡ Failing). inl (still_at ∙ q, back))
+            (λ (q : (i : ℕ) × (g.place ≡ Voiding i)). inr (q.0, still_at ∙ q.1, back)) p.1)
+        go (inr p) = inl (
+          p.1.0,
+          still_at ∙ p.1.1,
+          lt_yes c g.done (let a : g.done ≡ high = p.0 in omega (arith, a, b)),
+          is
+              ∙ ap (λ (o : Option ℕ). unwrap_or o w) p.1.2,
+        )
 
     pub release_goes : (s : Mine S N) → NoneKept slots low c → Releases terms c r s → Releasing terms slots high new (c + 1) m s
     release_goes s unkept t =
@@ -61,13 +71,17 @@ module _ {S N : Type 0} (terms : Terms S N) (slots : List Slot) (high : ℕ) (ne
           start = g.start;
           goes = goes_by terms (λ (t : Seat). after_release t c) r.0.looked m r s (holding m.0.seat g.place Idle still)
               (holding m.0.seat g.place Idle (held_in slots g.done (c + 1) high)) g.goes t.sees t.is
-              (λ j. let z : Seat = record m.0.seat { place = (if is_nil (left j) then Idle else (if some_held j then Idle else g.place)); held = left j } in z);
+              (λ j. let z : Seat = record m.0.seat {
+                place = (if is_nil (left j) then Idle else (if some_held j then Idle else g.place));
+                held = left j;
+              } in z);
           looked = ap (λ (v : View S N). v.looked) t.is ∙ g.looked;
           void = λ i p. inr (t.void i (still_at ∙ p));
         }
       where
         left : without c still ≡ held_in slots g.done (c + 1) high
-        left = held_without slots g.done low high c l unkept ∙ ap (λ (x : ℕ). held_in slots g.done x high) (let a : suc c ≡ c + 1 = omega arith in a)
+        left = held_without slots g.done low high c l unkept
+            ∙ ap (λ (x : ℕ). held_in slots g.done x high) (let a : suc c ≡ c + 1 = omega arith in a)
 
   pub release_end : NoneKept slots low high → ReleasesAll terms m r
   release_end unkept =
@@ -89,7 +103,8 @@ module _ {S N : Type 0} (terms : Terms S N) (slots : List Slot) (high : ℕ) (ne
           ∙ (ap (λ (t : Seat). t.held) (goes_seat terms m r (holding m.0.seat g.place Idle still) g.goes) ∙ nothing)) in
           let b : true ≡ false = sym (ap is_nil a) ∙ p in cc
 
-      was : (i : ℕ) → m.0.seat.place ≡ Voiding i → (is_nil (held_in slots g.done 0 high) ≡ true) ⊎ (is_nil (held_in slots g.done 0 high) ≡ false) → IsVoid r.0.seen i
+      was : (i : ℕ) → m.0.seat.place ≡ Voiding i → (is_nil (held_in slots g.done 0 high) ≡ true)
+          ⊎ (is_nil (held_in slots g.done 0 high) ≡ false) → IsVoid r.0.seen i
       was i e (inl p) = absurd (idle_not_voiding i (sym (ap (λ (b : Bool). if b then Idle else g.place) p) ∙ (sym stood ∙ e)))
       was i e (inr p) =
           let at : g.place ≡ Voiding i = sym (ap (λ (b : Bool). if b then Idle else g.place) p) ∙ (sym stood ∙ e) in

@@ -1,5 +1,6 @@
 -- The three steps of a read.
-use Rattle.std.proofs.Common.{◌≡◌, ◌≢◌, ℕ, ◌+◌, ◌/◌, ◌%◌, ◌<◌, ◌≤◌, inl, inr, eq-eqb, ne_eqb, nat_le, Bool, true, false, if◌then◌else◌, ◌==◌, ◌&&◌, is_some, Option, Some, None, List, ◌∷◌, length, sym, refl, ap, ◌∙◌, subst, arith}
+use Rattle.std.proofs.Common.{◌≡◌, ◌≢◌, ℕ, ◌+◌, ◌/◌, ◌%◌, ◌<◌, ◌≤◌, inl, inr, eq-eqb, ne_eqb, nat_le, Bool, true, false, if◌then◌else◌}
+use Rattle.std.proofs.Common.{◌==◌, ◌&&◌, is_some, Option, Some, None, List, ◌∷◌, length, sym, refl, ap, ◌∙◌, subst, arith}
 use mathlib.Core.Logic.{dite}
 use native.Mathlib.Decide.{ℕ_discrete}
 use Rattle.std.proofs.lemmas.Bool.Decides.{nat_tests}
@@ -49,7 +50,12 @@ module _ {S N : Type 0} (terms : Terms S N) where
   pub sees_trans : (u v w : View S N) → SeenGrows v.told.seen v.told.seen → v.told.seen ≡ u.told.seen → Sees terms u v → Sees terms v w
       → Sees terms u w
   sees_trans u v w _ same p q =
-      record { own = seen_trans u.seen v.seen w.seen p.own q.own; told = seen_trans u.told.seen v.seen w.seen p.told q.own; sound = q.sound }
+      record {
+        own = seen_trans u.seen v.seen w.seen p.own q.own;
+        told = seen_trans u.told.seen v.seen w.seen p.told q.own;
+        sound =
+            q.sound;
+      }
 
   module _ (c : ℕ) (m0 m1 : Mine S N) (a : ℕ) (p : Looks terms c m0 a m1) where
     -- the first look doesn't pass
@@ -60,7 +66,8 @@ module _ {S N : Type 0} (terms : Terms S N) where
           written = p.written;
           cause = cause;
           is = p.is ∙ ap (λ (t : Seat). let v : View S N = record m0.0 { seen = m1.0.seen; seat = t; looked = Some (c, a) } in v)
-              (if_false (passes a m0.0.seat.rv) (placed m0.0.seat (Looked c a)) (conflict m0.0.seat Idle) (passes_false a m0.0.seat.rv cause));
+              (if_false (passes a m0.0.seat.rv) (placed m0.0.seat (Looked c a)) (conflict m0.0.seat Idle)
+              (passes_false a m0.0.seat.rv cause));
         }
 
     module _ (even : a % 2 ≡ 0) (low : a / 2 ≤ m0.0.seat.rv) where
@@ -82,16 +89,23 @@ module _ {S N : Type 0} (terms : Terms S N) where
         loaded_place = ap (λ (v : View S N). v.seat.place) loaded_is
 
         module _ (m3 : Mine S N) (d : ℕ) (r : Relooks terms m2 d m3) where
-          relooked_is : m3.0 ≡ record m0.0 { seen = m3.0.seen; seat = after_relook (placed m0.0.seat (Loaded c a b)) c a b d; looked = Some (c, d) }
+          relooked_is : m3.0 ≡ record m0.0 {
+            seen = m3.0.seen;
+            seat = after_relook (placed m0.0.seat (Loaded c a b)) c a b d;
+            looked =
+                Some (c, d);
+          }
           relooked_is =
               r.is c a b loaded_place
-              ∙ ap (λ (v : View S N). let u : View S N = record v { seen = m3.0.seen; seat = after_relook v.seat c a b d; looked = Some (c, d) } in u) loaded_is
+              ∙ ap (λ (v : View S N). let u : View S N = record v
+              { seen = m3.0.seen; seat = after_relook v.seat c a b d; looked = Some (c, d) } in u) loaded_is
 
           sees_all : Sees terms m0.0 m3.0
           sees_all =
               record {
                 own = seen_trans m0.0.seen m1.0.seen m3.0.seen p.sees.own (seen_trans m1.0.seen m2.0.seen m3.0.seen q.sees.own r.sees.own);
-                told = seen_trans m0.0.told.seen m1.0.seen m3.0.seen p.sees.told (seen_trans m1.0.seen m2.0.seen m3.0.seen q.sees.own r.sees.own);
+                told = seen_trans m0.0.told.seen m1.0.seen m3.0.seen p.sees.told
+                    (seen_trans m1.0.seen m2.0.seen m3.0.seen q.sees.own r.sees.own);
                 sound = r.sees.sound;
               }
 
@@ -102,8 +116,20 @@ module _ {S N : Type 0} (terms : Terms S N) where
                 free = even;
                 named = λ x set ranged. names_grow m2.0.seen.ranges m3.0.seen.ranges b r.sees.own.2
                     (q.named x c a (ap (λ (v : View S N). v.setting) looked_is ∙ set) looked_place ranged);
-                is = relooked_is ∙ ap (λ (z : Seat × ℕ). let v : View S N = record m0.0 { seen = m3.0.seen; seat = z.0; looked = Some (c, z.1) } in v)
-                    (λ j. (if_true (d == a) (record m0.0.seat { place = Reading; reads = record { cell = c; word = a; value = b } ∷ m0.0.seat.reads }) (conflict m0.0.seat Idle) (eq-eqb d a e) j, e j));
+                is = relooked_is ∙ ap (λ (z : Seat × ℕ). let v : View S N =
+                    record m0.0 { seen = m3.0.seen; seat = z.0; looked = Some (c, z.1) } in v)
+                    (λ j. (
+                      if_true (d == a) (record m0.0.seat {
+                        place = Reading;
+                        reads = record {
+                          cell = c;
+                          word = a;
+                          value =
+                              b;
+                        } ∷ m0.0.seat.reads;
+                      }) (conflict m0.0.seat Idle) (eq-eqb d a e) j,
+                      e j,
+                    ));
               }
 
           pub read_stops : d ≢ a → Stops terms c d m0 m3
@@ -112,10 +138,16 @@ module _ {S N : Type 0} (terms : Terms S N) where
                 sees = sees_all;
                 written = r.written c a b loaded_place;
                 cause = dite (ℕ_discrete (d % 2) 0)
-                    (λ e. inr (subst (λ (k : ℕ). k < d / 2) (ap (λ (v : View S N). v.seat.rv) loaded_is) (r.missed c a b loaded_place ne e)))
+                    (λ e. inr (subst (λ (k : ℕ). k < d / 2) (ap (λ (v : View S N). v.seat.rv) loaded_is)
+                    (r.missed c a b loaded_place ne e)))
                     (λ e. inl (omega (arith, e)));
-                is = relooked_is ∙ ap (λ (t : Seat). let v : View S N = record m0.0 { seen = m3.0.seen; seat = t; looked = Some (c, d) } in v)
-                    (if_false (d == a) (record m0.0.seat { place = Reading; reads = record { cell = c; word = a; value = b } ∷ m0.0.seat.reads }) (conflict m0.0.seat Idle) (ne_eqb d a ne));
+                is = relooked_is ∙ ap (λ (t : Seat). let v : View S N = record m0.0 { seen = m3.0.seen; seat = t; looked = Some (c, d) } in
+                    v)
+                    (if_false (d == a) (record m0.0.seat {
+                      place = Reading;
+                      reads =
+                          record { cell = c; word = a; value = b } ∷ m0.0.seat.reads;
+                    }) (conflict m0.0.seat Idle) (ne_eqb d a ne));
               }
 
 -- ---- a run begins
@@ -144,7 +176,8 @@ module _ {S N : Type 0} (terms : Terms S N) where
   reading_fits true = refl
   reading_fits false = refl
 
-  pub read_fits : (c word value : ℕ) (m r : Mine S N) (count place : ℕ) (o : Bool) → ReadsCell terms c word value m r → IsRunOf m count place o
+  pub read_fits : (c word value : ℕ) (m r : Mine S N) (count place : ℕ) (o : Bool) → ReadsCell terms c word value m r
+      → IsRunOf m count place o
       → IsRunOf r count place o
   read_fits c word value m r count place o t f = (
     ap (λ (v : View S N). is_some v.setting) t.is ∙ f.0,
@@ -205,12 +238,22 @@ module _ {S N : Type 0} (terms : Terms S N) where
         apart = subst (λ (v : View S N). m0.0.name ≢ v.name → (k : ℕ) → Has k m0.0.drawn → Has k v.drawn → ⊥) q.is
             (subst (λ (v : View S N). v.name ≢ v.told.name → (k : ℕ) → Has k v.drawn → Has k v.told.drawn → ⊥) e p.apart);
         same = subst (λ (v : View S N). (x y : S) → m0.0.setting ≡ Some x → v.setting ≡ Some y → (x ≡ y) × (m0.0.base ≡ v.base)) q.is same;
-        is = p.is ∙ (ap (λ (v : View S N). let w : View S N = record v { seen = m2.0.seen; seat = began n; told = untold; runs = v.runs + 1; looked = None } in w) e
-            ∙ ap (λ (k : ℕ). let w : View S N = record m0.0 { seen = m2.0.seen; seat = began k; told = untold; runs = m0.0.runs + 1; looked = None } in w) (sym p.clock));
-        other_is = f ∙ (q.is ∙ ap (λ (g : Seen N). let w : View S N = record u0.0 { seen = g } in w) (ap (λ (v : View S N). v.seen) (sym f)));
+        is = p.is ∙ (ap (λ (v : View S N). let w : View S N =
+            record v { seen = m2.0.seen; seat = began n; told = untold; runs = v.runs + 1; looked = None } in w) e
+            ∙ ap (λ (k : ℕ). let w : View S N = record m0.0 {
+              seen = m2.0.seen;
+              seat = began k;
+              told = untold;
+              runs =
+                  m0.0.runs + 1;
+              looked = None;
+            } in w) (sym p.clock));
+        other_is = f ∙ (q.is ∙ ap (λ (g : Seen N). let w : View S N = record u0.0 { seen = g } in w)
+            (ap (λ (v : View S N). v.seen) (sym f)));
       }
 
-  pub learned_fits : (m0 m1 m2 : Mine S N) (u : View S N) (n count : ℕ) → m1 ≡ (told_by m0.0 u, m0.1) → Sampled terms m1 n m2 → IsPassOf m0 count
+  pub learned_fits : (m0 m1 m2 : Mine S N) (u : View S N) (n count : ℕ) → m1 ≡ (told_by m0.0 u, m0.1) → Sampled terms m1 n m2
+      → IsPassOf m0 count
       → IsPassOf m2 count
   learned_fits m0 m1 m2 u n count a p f =
       let e : m1.0 ≡ told_by m0.0 u = ap (λ (m : Mine S N). m.0) a in (

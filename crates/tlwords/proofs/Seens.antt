@@ -1,5 +1,6 @@
 -- Histories that were seen, as they grow.
-use Rattle.std.proofs.Common.{◌≡◌, ◌≢◌, ℕ, zero, suc, ◌*◌, ◌<◌, ◌≤◌, ◌⊎◌, inl, inr, Some, List, [], ◌∷◌, ◌++◌, length, slice_get, sym, refl, ap, ◌∙◌, subst, arith}
+use Rattle.std.proofs.Common.{◌≡◌, ◌≢◌, ℕ, zero, suc, ◌*◌, ◌<◌, ◌≤◌, ◌⊎◌, inl, inr, Some, List, [], ◌∷◌, ◌++◌, length, slice_get, sym, refl}
+use Rattle.std.proofs.Common.{ap, ◌∙◌, subst, arith}
 use Rattle.tlcore.specs.History.{Entry, Deed, Nothing, Will, Did, EntryGrows, Grows, version_over, version_after, deed}
 use Rattle.tlcore.specs.Seats.{Seat}
 use Rattle.tlcore.proofs.Deeds.{did, version-same}

@@ -1,5 +1,6 @@
 -- A commit, from the draw on: its parts put together.
-use Rattle.std.proofs.Common.{◌≡◌, ◌≢◌, ℕ, suc, ◌+◌, ◌*◌, ◌/◌, ◌<◌, ◌≤◌, ◌⊎◌, inl, inr, ⊎_elim, Bool, true, false, ◌||◌, if◌then◌else◌, Option, Some, None, List, [], ◌∷◌, ◌++◌, length, sym, refl, ap, ◌∙◌, subst, arith}
+use Rattle.std.proofs.Common.{◌≡◌, ◌≢◌, ℕ, suc, ◌+◌, ◌*◌, ◌/◌, ◌<◌, ◌≤◌, ◌⊎◌, inl, inr, ⊎_elim, Bool, true, false, ◌||◌, if◌then◌else◌}
+use Rattle.std.proofs.Common.{Option, Some, None, List, [], ◌∷◌, ◌++◌, length, sym, refl, ap, ◌∙◌, subst, arith}
 use Rattle.tlcore.specs.Seats.{Seat, is_nil, is_next, all_settled, reads_of, writes_of}
 use Rattle.tlcore.specs.Machine.{placed, conflict}
 use Rattle.tlcore.proofs.Growth.{WasWritten-kept}
@@ -26,7 +27,8 @@ use Rattle.tlwords.proofs.Releases.{nil_not}
 module _ (slots : List Slot) where
   pub some_writes : (c v : ℕ) → c < length slots → value_kept slots c ≡ Some v → writes_kept slots ≢ []
   some_writes c v l e p =
-      let full : is_nil (held_in slots 0 0 (length slots)) ≡ false = nil_not c (held_in slots 0 0 (length slots)) (held_cell slots 0 c v) (held_find slots 0 0 (length slots) c v (omega arith) l e) in
+      let full : is_nil (held_in slots 0 0 (length slots)) ≡ false =
+      nil_not c (held_in slots 0 0 (length slots)) (held_cell slots 0 c v) (held_find slots 0 0 (length slots) c v (omega arith) l e) in
       empty (held_in slots 0 0 (length slots)) full (held_writes slots 0 (length slots) ∙ p)
     where
       empty : (ks : List Held) → is_nil ks ≡ false → writes_of ks ≡ [] → ⊥
@@ -35,7 +37,8 @@ module _ (slots : List Slot) where
 
   pub some_held : (d : ℕ) → writes_kept slots ≢ [] → is_nil (held_in slots d 0 (length slots)) ≡ false
   some_held d some = ⊎_elim
-      (λ (p : is_nil (held_in slots d 0 (length slots)) ≡ true). absurd (some (sym (held_writes slots d (length slots)) ∙ ap writes_of (is_nil-nil (held_in slots d 0 (length slots)) p))))
+      (λ (p : is_nil (held_in slots d 0 (length slots)) ≡ true). absurd
+      (some (sym (held_writes slots d (length slots)) ∙ ap writes_of (is_nil-nil (held_in slots d 0 (length slots)) p))))
       (λ (p : is_nil (held_in slots d 0 (length slots)) ≡ false). p) (known (is_nil (held_in slots d 0 (length slots))))
 
 holds : (t : Seat) (p : Place) (ks : List Held) → t.place ≡ p → t.held ≡ ks → is_nil ks ≡ false → t ≡ holding t p Idle ks
@@ -92,7 +95,8 @@ module _ {S N : Type 0} (terms : Terms S N) (slots : List Slot) where
           sees = sees_on terms m r s f.sees g.goes.moves;
           finds = finds_on k r s g f.finds;
           cause = inr f.differs;
-          entry = g.goes.is ∙ ap (λ (v : View S N). let w : View S N = record v { seen = s.0.seen; seat = record v.seat { place = Idle; held = [] }; looked = s.0.looked } in w) f.goes.is;
+          entry = g.goes.is ∙ ap (λ (v : View S N). let w : View S N =
+              record v { seen = s.0.seen; seat = record v.seat { place = Idle; held = [] }; looked = s.0.looked } in w) f.goes.is;
         }
 
   -- ---- a number was drawn
@@ -145,7 +149,8 @@ module _ {S N : Type 0} (terms : Terms S N) (slots : List Slot) where
             void = λ i e. inl refl;
           }
 
-      pub void_ends : (z : Mine S N) → ReleasesAll terms s z → (number : ℕ) → number ≡ suc n → HasConflicted terms slots x k (Some number) m z
+      pub void_ends : (z : Mine S N) → ReleasesAll terms s z → (number : ℕ) → number ≡ suc n
+          → HasConflicted terms slots x k (Some number) m z
       void_ends z g number is =
           record {
             sees = sees_on terms m s z (sees_on terms m r s d.sees f.goes.moves) g.goes.moves;
@@ -156,8 +161,10 @@ module _ {S N : Type 0} (terms : Terms S N) (slots : List Slot) where
               is,
               d.later,
               g.void n (ap (λ (t : Seat). t.place) failed_seat),
-              g.goes.is ∙ (ap (λ (v : View S N). let w : View S N = record v { seen = z.0.seen; seat = record v.seat { place = Idle; held = [] }; looked = z.0.looked } in w) f.goes.is
-                  ∙ ap (λ (v : View S N). let w : View S N = record v { seen = z.0.seen; seat = over_seat terms v.seat true; looked = z.0.looked } in w) drawn_is)
+              g.goes.is ∙ (ap (λ (v : View S N). let w : View S N =
+                  record v { seen = z.0.seen; seat = record v.seat { place = Idle; held = [] }; looked = z.0.looked } in w) f.goes.is
+                  ∙ ap (λ (v : View S N). let w : View S N = record v
+                  { seen = z.0.seen; seat = over_seat terms v.seat true; looked = z.0.looked } in w) drawn_is)
                   ∙ (λ j. let w : View S N = record m.0 {
                     seen = z.0.seen;
                     seat = over_seat terms m.0.seat true;
@@ -190,7 +197,8 @@ module _ {S N : Type 0} (terms : Terms S N) (slots : List Slot) where
       pub passed_base : length s.0.base ≡ length m.0.base
       passed_base = ap (λ (v : View S N). length v.base) p.goes.is ∙ drawn_base
 
-      pub passed_run : (upto : ℕ) × (s.0.seat.place ≡ Checking n upto) × ((is_next s.0.seat n || all_settled s.0.seat.held upto s.0.seat.reads) ≡ true)
+      pub passed_run : (upto : ℕ) × (s.0.seat.place ≡ Checking n upto)
+          × ((is_next s.0.seat n || all_settled s.0.seat.held upto s.0.seat.reads) ≡ true)
       passed_run = (
         p.upto,
         ap (λ (t : Seat). t.place) passed_seat,
@@ -215,8 +223,10 @@ module _ {S N : Type 0} (terms : Terms S N) (slots : List Slot) where
 
         pub done_releases : (high w : ℕ) → high ≡ length slots → w ≡ 2 * suc n → Releasing terms slots high (Some w) 0 z z
         done_releases high w same new =
-            let full : is_nil (held_in slots high 0 high) ≡ false = ap (λ (h : ℕ). is_nil (held_in slots h 0 h)) same ∙ some_held slots (length slots) some in
-            let h : z.0.seat.held ≡ held_in slots high 0 high = ap (λ (v : View S N). v.seat.held) a.is ∙ sym (ap (λ (h : ℕ). held_in slots h 0 h) same) in
+            let full : is_nil (held_in slots high 0 high) ≡ false =
+            ap (λ (h : ℕ). is_nil (held_in slots h 0 h)) same ∙ some_held slots (length slots) some in
+            let h : z.0.seat.held ≡ held_in slots high 0 high =
+            ap (λ (v : View S N). v.seat.held) a.is ∙ sym (ap (λ (h : ℕ). held_in slots h 0 h) same) in
             let start : z.0.seat ≡ holding z.0.seat (Storing n) Idle (held_in slots high 0 high) =
             holds z.0.seat (Storing n) (held_in slots high 0 high) (ap (λ (v : View S N). v.seat.place) a.is) h full in
             record {
@@ -239,7 +249,8 @@ module _ {S N : Type 0} (terms : Terms S N) (slots : List Slot) where
               later = d.later;
               done = subst (λ (w : Work N). IsDone u.0.seen n w) same_work
                   (done_grows z.0.seen u.0.seen n (work_kept s.0.seat slots x) (moves_grow terms z u g.goes.moves) a.done);
-              is = g.goes.is ∙ (ap (λ (v : View S N). let w : View S N = record v { seen = u.0.seen; seat = record v.seat { place = Idle; held = [] }; looked = u.0.looked } in w) a.is
+              is = g.goes.is ∙ (ap (λ (v : View S N). let w : View S N =
+                  record v { seen = u.0.seen; seat = record v.seat { place = Idle; held = [] }; looked = u.0.looked } in w) a.is
                   ∙ (ap (ended u n (work_kept s.0.seat slots x)) p.goes.is ∙ (ap (ended u n (work_kept s.0.seat slots x)) drawn_is
                   ∙ (λ j. let w : View S N = record m.0 {
                     seen = u.0.seen;
@@ -297,7 +308,8 @@ module _ {S N : Type 0} (terms : Terms S N) (slots : List Slot) where
 
     unentered : (x : N) (drawn : Option ℕ) (s : Mine S N) → HasNoEntry terms x drawn r s → HasNoEntry terms x drawn m s
     unentered x None s e =
-        e ∙ ap (λ (v : View S N). let w : View S N = record v { seen = s.0.seen; seat = over_seat terms v.seat true; looked = s.0.looked } in w) g.is
+        e ∙ ap (λ (v : View S N). let w : View S N = record v
+        { seen = s.0.seen; seat = over_seat terms v.seat true; looked = s.0.looked } in w) g.is
     unentered x (Some number) s e = (
       e.0,
       e.1,

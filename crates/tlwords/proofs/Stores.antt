@@ -1,5 +1,6 @@
 -- A run that stores its values, one after another.
-use Rattle.std.proofs.Common.{◌≡◌, ◌≢◌, ℕ, suc, ◌+◌, ◌<◌, ◌≤◌, ◌⊎◌, inl, inr, ⊎_elim, ◌||◌, true, Some, List, [], ◌∷◌, ◌++◌, length, sym, refl, ap, ◌∙◌, subst, arith}
+use Rattle.std.proofs.Common.{◌≡◌, ◌≢◌, ℕ, suc, ◌+◌, ◌<◌, ◌≤◌, ◌⊎◌, inl, inr, ⊎_elim, ◌||◌, true, Some, List, [], ◌∷◌, ◌++◌, length, sym}
+use Rattle.std.proofs.Common.{refl, ap, ◌∙◌, subst, arith}
 use Rattle.tlcore.specs.Seats.{find_held, is_next, all_settled, stored, reads_of, writes_of}
 use Rattle.tlcore.specs.declared.seats.Held.{Held}
 use Rattle.tlcore.specs.declared.seats.Place.TheVariants.{Checking, Storing}
@@ -26,7 +27,8 @@ module _ {S N : Type 0} (terms : Terms S N) (slots : List Slot) (i : ℕ) (x : N
   abbrev pub StoresSoFar : ℕ → Mine S N → Type 0
   StoresSoFar low r = ((r ≡ m) × NoneKept slots 0 low) ⊎ StoresTo terms slots i work low m r
 
-  module _ (upto : ℕ) (at : m.0.seat.place ≡ Checking i upto) (held : m.0.seat.held ≡ held_in slots 0 0 (length slots)) (low : ℕ) (r : Mine S N)
+  module _ (upto : ℕ) (at : m.0.seat.place ≡ Checking i upto) (held : m.0.seat.held ≡ held_in slots 0 0 (length slots)) (low : ℕ)
+      (r : Mine S N)
       (so : StoresSoFar low r) where
     pub store_setting : (y : S) → m.0.setting ≡ Some y → r.0.setting ≡ Some y
     store_setting y e = ⊎_elim (λ (p : (r ≡ m) × NoneKept slots 0 low). ap (λ (z : Mine S N). z.0.setting) p.0 ∙ e)
@@ -44,8 +46,18 @@ module _ {S N : Type 0} (terms : Terms S N) (slots : List Slot) (i : ℕ) (x : N
     module _ (c v : ℕ) (b : c < length slots) (e : value_kept slots c ≡ Some v) where
       pub store_held : (k : Held) × (find_held c r.0.seat.held ≡ Some k) × (k.value ≡ v)
       store_held = ⊎_elim
-          (λ (p : (r ≡ m) × NoneKept slots 0 low). (held_cell slots 0 c v, ap (λ (z : Mine S N). find_held c z.0.seat.held) p.0 ∙ (ap (find_held c) held ∙ held_find slots 0 0 (length slots) c v (omega arith) b e), refl))
-          (λ (p : StoresTo terms slots i work low m r). (held_cell slots low c v, ap (λ (w : View S N). find_held c w.seat.held) p.is ∙ held_find slots low 0 (length slots) c v (omega arith) b e, refl)) so
+          (λ (p : (r ≡ m) × NoneKept slots 0 low). (
+            held_cell slots 0 c v,
+            ap (λ (z : Mine S N). find_held c z.0.seat.held) p.0
+                ∙ (ap (find_held c) held ∙ held_find slots 0 0 (length slots) c v (omega arith) b e),
+            refl,
+          ))
+          (λ (p : StoresTo terms slots i work low m r). (
+            held_cell slots low c v,
+            ap (λ (w : View S N). find_held c w.seat.held) p.is
+                ∙ held_find slots low 0 (length slots) c v (omega arith) b e,
+            refl,
+          )) so
 
       pub store_goes : (s : Mine S N) → m.0.note ≡ Some x → low ≤ c → NoneKept slots low c → StoresOne terms c r s → StoresSoFar (c + 1) s
       store_goes s noted l unkept t = inr (subst (λ (n : ℕ). StoresTo terms slots i work n m s) (let a : suc c ≡ c + 1 = omega arith in a)
@@ -61,13 +73,23 @@ module _ {S N : Type 0} (terms : Terms S N) (slots : List Slot) (i : ℕ) (x : N
           first : NoneKept slots 0 low → StoresOne terms c m s → StoresTo terms slots i work (suc c) m s
           first before t =
               let f : IsDone s.0.seen i (work_of m.0.seat x)
-              × (s.0 ≡ record m.0 { seen = s.0.seen; seat = after_store m.0.seat i c; mine = m.0.mine ++ Committed (suc i) (work_of m.0.seat x) ∷ [] }) = t.first i upto x at noted in
+              × (s.0 ≡ record m.0 {
+                seen = s.0.seen;
+                seat = after_store m.0.seat i c;
+                mine =
+                    m.0.mine ++ Committed (suc i) (work_of m.0.seat x) ∷ [];
+              }) = t.first i upto x at noted in
               record {
                 sees = t.sees;
                 done = subst (λ (w : Work N). IsDone s.0.seen i w) same_work f.0;
                 is = f.1 ∙ (λ j. let w : View S N = record m.0 {
                   seen = s.0.seen;
-                  seat = record m.0.seat { place = Storing i; held = (ap (stored c) held ∙ held_stored slots 0 0 (length slots) c (omega arith) (unkept_both slots 0 low c before unkept)) j };
+                  seat = record m.0.seat {
+                    place = Storing i;
+                    held =
+                        (ap (stored c) held ∙ held_stored slots 0 0 (length slots) c (omega arith) (unkept_both slots 0 low c before unkept))
+                        j;
+                  };
                   looked = sym (ap (λ (v : View S N). v.looked) f.1) j;
                   mine = m.0.mine ++ Committed (suc i) (same_work j) ∷ [];
                 } in w);
@@ -75,7 +97,8 @@ module _ {S N : Type 0} (terms : Terms S N) (slots : List Slot) (i : ℕ) (x : N
 
           next : StoresTo terms slots i work low m r → StoresTo terms slots i work (suc c) m s
           next p =
-              let e : s.0 ≡ record r.0 { seen = s.0.seen; seat = after_store r.0.seat i c } = t.next i (ap (λ (v : View S N). v.seat.place) p.is) in
+              let e : s.0 ≡ record r.0 { seen = s.0.seen; seat = after_store r.0.seat i c } =
+              t.next i (ap (λ (v : View S N). v.seat.place) p.is) in
               record {
                 sees = record {
                   own = seen_trans m.0.seen r.0.seen s.0.seen p.sees.own t.sees.own;
@@ -94,7 +117,8 @@ module _ {S N : Type 0} (terms : Terms S N) (slots : List Slot) (i : ℕ) (x : N
 
     pub store_ends : writes_kept slots ≢ [] → NoneKept slots low (length slots) → StoresTo terms slots i work (length slots) m r
     store_ends some unkept = ⊎_elim
-        (λ (p : (r ≡ m) × NoneKept slots 0 low). absurd (some (no_writes slots (length slots) (unkept_both slots 0 low (length slots) p.1 unkept))))
+        (λ (p : (r ≡ m) × NoneKept slots 0 low). absurd (some
+        (no_writes slots (length slots) (unkept_both slots 0 low (length slots) p.1 unkept))))
         (λ (p : StoresTo terms slots i work low m r). record {
           sees = p.sees;
           done = p.done;

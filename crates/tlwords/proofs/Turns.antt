@@ -1,5 +1,6 @@
 -- A run that commits, step by step.
-use Rattle.std.proofs.Common.{◌≡◌, ◌≢◌, ℕ, ◌+◌, ◌<◌, ◌≤◌, ◌⊎◌, inl, inr, eq-eqb, ne_eqb, Bool, true, false, ◌==◌, ◌&&◌, is_some, if◌then◌else◌, Option, Some, None, List, ◌∷◌, length, sym, refl, ap, ◌∙◌, subst}
+use Rattle.std.proofs.Common.{◌≡◌, ◌≢◌, ℕ, ◌+◌, ◌<◌, ◌≤◌, ◌⊎◌, inl, inr, eq-eqb, ne_eqb, Bool, true, false, ◌==◌, ◌&&◌, is_some}
+use Rattle.std.proofs.Common.{if◌then◌else◌, Option, Some, None, List, ◌∷◌, length, sym, refl, ap, ◌∙◌, subst}
 use Rattle.std.specs.Option.{option_map}
 use Rattle.atomic_table.specs.declared.shared.Seat.{Seat as TableSeat}
 use Rattle.tlcore.specs.Seats.{Seat, find_read, is_nil, all_below}
@@ -81,7 +82,8 @@ module _ {S N : Type 0} (terms : Terms S N) where
       record {
         moves = inr (moves_then m r s g.moves p);
         is = e ∙ (ap (λ (v : View S N). let w : View S N = record v { seen = s.0.seen; seat = f v.seat; looked = o } in w) g.is
-            ∙ (λ j. let w : View S N = record m.0 { seen = s.0.seen; seat = q j; looked = sym (ap (λ (v : View S N). v.looked) e) j } in w));
+            ∙ (λ j. let w : View S N = record m.0 { seen = s.0.seen; seat = q j; looked = sym (ap (λ (v : View S N). v.looked) e) j } in
+            w));
       }
 
   pub goes_seat : (m r : Mine S N) (t : Seat) → Goes terms m t r → r.0.seat ≡ t
@@ -113,7 +115,12 @@ module _ {S N : Type 0} (terms : Terms S N) where
         go : (is_nil (held_in slots 0 0 low) ≡ true) ⊎ (is_nil (held_in slots 0 0 low) ≡ false)
             → (r.0.seat.place ≡ Reading) ⊎ ((r.0.seat.place ≡ Taking) × (all_below c r.0.seat.held ≡ true))
         go (inl e) = inl (ap (λ (v : View S N). v.seat.place) g.is ∙ ap (λ (b : Bool). if b then Reading else Taking) e)
-        go (inr e) = inr (ap (λ (v : View S N). v.seat.place) g.is ∙ ap (λ (b : Bool). if b then Reading else Taking) e, ap (λ (v : View S N). all_below c v.seat.held) g.is ∙ held_below slots 0 0 low c l)
+        go (inr e) = inr (
+          ap (λ (v : View S N). v.seat.place) g.is
+              ∙ ap (λ (b : Bool). if b then Reading else Taking) e,
+          ap (λ (v : View S N). all_below c v.seat.held) g.is
+              ∙ held_below slots 0 0 low c l,
+        )
 
     module _ (g : Before) (c v w n : ℕ) (s : Mine S N) (l : low ≤ c) (unkept : NoneKept slots low c) (t : Takes terms c v w r n s) where
       pub take_goes : value_kept slots c ≡ Some v → word_seen slots c ≡ Some w → n ≡ w
@@ -121,18 +128,29 @@ module _ {S N : Type 0} (terms : Terms S N) where
       take_goes e f same =
           goes_by (λ (t : Seat). after_take t c v w n) (Some (c, n)) m r s (holding m.0.seat Taking Reading (held_in slots 0 0 low))
           (holding m.0.seat Taking Reading (held_in slots 0 0 (c + 1))) g t.sees t.is
-          (if_true (n == w) (record m.0.seat { place = Taking; held = record { cell = c; word = w; value = v; stored = false } ∷ held_in slots 0 0 low })
-          (conflict (holding m.0.seat Taking Reading (held_in slots 0 0 low)) (if is_nil (held_in slots 0 0 low) then Idle else Failing)) (eq-eqb n w same)
+          (if_true (n == w) (record m.0.seat {
+            place = Taking;
+            held =
+                record { cell = c; word = w; value = v; stored = false } ∷ held_in slots 0 0 low;
+          })
+          (conflict (holding m.0.seat Taking Reading (held_in slots 0 0 low)) (if is_nil (held_in slots 0 0 low) then Idle else Failing))
+          (eq-eqb n w same)
           ∙ ap (holding m.0.seat Taking Reading) (sym (held_more slots low c v w l unkept e f)))
 
       pub take_fails : (b : Option ℕ) → b ≡ Some w → c < length slots → word_seen slots c ≡ Some w → n ≢ w
           → FailsToTake terms slots (record { cell = c; word = n; before = b }) m s
       take_fails b is within f ne =
           record {
-            goes = goes_by (λ (t : Seat). after_take t c v w n) (Some (c, n)) m r s (holding m.0.seat Taking Reading (held_in slots 0 0 low))
+            goes = goes_by (λ (t : Seat). after_take t c v w n) (Some (c, n)) m r s
+                (holding m.0.seat Taking Reading (held_in slots 0 0 low))
                 (holding (conflict m.0.seat Idle) Failing Idle (held_in slots 0 0 c)) g t.sees t.is
-                (if_false (n == w) (record m.0.seat { place = Taking; held = record { cell = c; word = w; value = v; stored = false } ∷ held_in slots 0 0 low })
-                (conflict (holding m.0.seat Taking Reading (held_in slots 0 0 low)) (if is_nil (held_in slots 0 0 low) then Idle else Failing)) (ne_eqb n w ne)
+                (if_false (n == w) (record m.0.seat {
+                  place = Taking;
+                  held =
+                      record { cell = c; word = w; value = v; stored = false } ∷ held_in slots 0 0 low;
+                })
+                (conflict (holding m.0.seat Taking Reading (held_in slots 0 0 low))
+                (if is_nil (held_in slots 0 0 low) then Idle else Failing)) (ne_eqb n w ne)
                 ∙ ap (holding (conflict m.0.seat Idle) Failing Idle) (sym (held_on slots 0 0 low c l unkept)));
             finds = record { looked = ap (λ (v : View S N). v.looked) t.is; written = t.written; before = f ∙ sym is };
             sees = moves_then m r s g.moves t.sees;

@@ -1,5 +1,6 @@
 -- How a run commits: what it writes, and what the end of the call tells.
-use Rattle.std.specs.Prelude.{◌≡◌, ◌≢◌, ℕ, zero, suc, ◌/◌, ◌^◌, ◌≤◌, Bool, true, Option, Some, None, List, [], ◌∷◌, ◌++◌, length, slice_get, ◌⊎◌}
+use Rattle.std.specs.Prelude.{◌≡◌, ◌≢◌, ℕ, zero, suc, ◌/◌, ◌^◌, ◌≤◌, Bool, true, Option, Some, None, List, [], ◌∷◌, ◌++◌, length, slice_get}
+use Rattle.std.specs.Prelude.{◌⊎◌}
 use Rattle.tlcore.specs.History.{Entry, WasWritten}
 use Rattle.tlcore.specs.Seats.{Seat, reads_of}
 use Rattle.tlcore.specs.declared.entries.Status.TheVariants.{Void}
@@ -7,7 +8,8 @@ use Rattle.tlcore.specs.declared.seats.Place.TheVariants.{Idle}
 use Rattle.tlwords.specs.declared.log.Slot.{Slot}
 use Rattle.tlwords.specs.declared.outcome.Conflict.{Conflict as ConflictValue}
 use Rattle.tlwords.specs.declared.outcome.Outcome.{Outcome}
-use Rattle.tlwords.specs.declared.outcome.Outcome.TheVariants.{Committed as EndsDone, Read as EndsRead, Conflict as EndsConflict, NumbersUsed}
+use Rattle.tlwords.specs.declared.outcome.Outcome.TheVariants.{Committed as EndsDone, Read as EndsRead, Conflict as EndsConflict}
+use Rattle.tlwords.specs.declared.outcome.Outcome.TheVariants.{NumbersUsed}
 use Rattle.ranges.specs.Pairs.{Pairs}
 use Rattle.tlwords.specs.Terms.{Terms, Permits}
 use Rattle.tlwords.specs.Seen.{Work, Seen, Committed, Answered, IsDone}
@@ -37,7 +39,8 @@ work_kept t slots n = record { reads = reads_of t.reads; writes = writes_kept sl
 
 -- the run's work with this note is lawful
 abbrev pub IsLawfulNow : {S N : Type 0} → Terms S N → View S N → List Slot → N → Type 0
-IsLawfulNow {S} {N} terms v slots n = (x : S) → v.setting ≡ Some x → Permits terms x v.seen.ranges (reads_of v.seat.reads) (writes_kept slots) n
+IsLawfulNow {S} {N} terms v slots n = (x : S) → v.setting ≡ Some x
+    → Permits terms x v.seen.ranges (reads_of v.seat.reads) (writes_kept slots) n
 
 -- ---- what was kept is thrown away
 

@@ -1,5 +1,6 @@
 -- Of the code's inside, apart from the rules: what the steps inside a commit tell, and the cells that it holds on the way.
-use Rattle.std.specs.Prelude.{◌≡◌, ◌≢◌, ℕ, zero, suc, ◌*◌, ◌<◌, nat_lt, nat_le, ◌||◌, true, if◌then◌else◌, Option, Some, None, List, [], ◌∷◌, ◌++◌, length, ◌⊎◌}
+use Rattle.std.specs.Prelude.{◌≡◌, ◌≢◌, ℕ, zero, suc, ◌*◌, ◌<◌, nat_lt, nat_le, ◌||◌, true, if◌then◌else◌, Option, Some, None, List, []}
+use Rattle.std.specs.Prelude.{◌∷◌, ◌++◌, length, ◌⊎◌}
 use Rattle.tlcore.specs.History.{wv}
 use Rattle.tlcore.specs.Seats.{Seat, is_nil, is_next, all_settled}
 use Rattle.tlcore.specs.Machine.{placed, conflict}

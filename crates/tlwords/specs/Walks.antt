@@ -1,5 +1,6 @@
 -- Of the code's inside, apart from the rules: the cells of a log that a step of a commit is for, as it goes over them.
-use Rattle.std.specs.Prelude.{◌≡◌, ℕ, zero, suc, ◌<◌, ◌≤◌, ◌&&◌, not, Bool, true, false, is_some, if◌then◌else◌, Option, Some, None, List, length, slice_get}
+use Rattle.std.specs.Prelude.{◌≡◌, ℕ, zero, suc, ◌<◌, ◌≤◌, ◌&&◌, not, Bool, true, false, is_some, if◌then◌else◌, Option, Some, None, List}
+use Rattle.std.specs.Prelude.{length, slice_get}
 use Rattle.tlwords.specs.declared.log.Slot.{Slot}
 use Rattle.tlwords.specs.declared.log.Touched.{Touched}
 use Rattle.tlwords.specs.Runs.{word_seen, value_kept, was_read}

@@ -1,4 +1,5 @@
-use Rattle.std.proofs.Common.{◌≡◌, ◌-◌, List, ℕ, zero, suc, true, Some, [], ◌∷◌, inl, inr, refl, slice_get, sym, ap, ◌∙◌, subst, arith, get_or}
+use Rattle.std.proofs.Common.{◌≡◌, ◌-◌, List, ℕ, zero, suc, true, Some, [], ◌∷◌, inl, inr, refl, slice_get, sym, ap, ◌∙◌, subst, arith}
+use Rattle.std.proofs.Common.{get_or}
 use Rattle.std.specs.Prelude.{vec_len}
 use Rattle.ranges.specs.Ranges.{Range, Has, Names, range_named, ranges_named}
 use Rattle.calls.proofs.store.load_opened.Goals as goal

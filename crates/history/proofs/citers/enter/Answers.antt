@@ -10,7 +10,8 @@ use Rattle.history.proofs.Reading.{item-past, item-read}
 use Rattle.history.proofs.citers.enter.Goals as goal
 
 -- the place that was read isn't there
-absent : (xs : List ℕ) (i q : ℕ) (r : Option (Bor ℕ)) (y : Bor ℕ) → y.now ≡ q → IsItemAt xs i r → option_eq (λ a b. eqb a.now b.now) r (Some y) ≡ false
+absent : (xs : List ℕ) (i q : ℕ) (r : Option (Bor ℕ)) (y : Bor ℕ) → y.now ≡ q → IsItemAt xs i r
+    → option_eq (λ a b. eqb a.now b.now) r (Some y) ≡ false
     → slice_get xs i ≡ Some q → ⊥
 absent xs i q None y own read other here =
     let both : None ≡ Some q = sym (item-past xs i read) ∙ here in
@@ -27,11 +28,13 @@ returns-clause-ascending c =
     let at = c.partition_point-at.result in
     let read = c.deref-2.ensures.value in
     let parted = lower-parted c.deref-2.result.now q (subst IsStrictlyIncreasing (sym read) c.requires) in
-    let point = IsPartitionPoint-from_clause (λ y. ltb y q) c.deref-2.result.now at c.partition_point-at.ensures.partitioned parted (λ a r f k. search rules) in
+    let point = IsPartitionPoint-from_clause (λ y. ltb y q) c.deref-2.result.now at c.partition_point-at.ensures.partitioned parted
+    (λ a r f k. search rules) in
     let none = absent c.deref-3.result.now at q c.get.result _ refl c.get.ensures.lookup (sym c.eq-2.ensures ∙ c.if-eq-2.false) in
     let within : at ≤ length xs = subst (λ l. at ≤ length l) read c.partition_point-at.ensures.bound in
     rw c.in_ok-insert.ensures.items
-    (entered-ascending xs at q c.requires within (rw read at point) (λ here. none (ap (λ l. slice_get l at) c.deref-3.ensures.value ∙ here)))
+    (entered-ascending xs at q c.requires within (rw read at point)
+    (λ here. none (ap (λ l. slice_get l at) c.deref-3.ensures.value ∙ here)))
 
 pub returns-clause-kept : goal.returns-clause-kept
 returns-clause-kept c =

@@ -20,12 +20,14 @@ loop-step-preserved c =
     let steps = c.args.steps.now in
     let s = c.step-item.result in
     let one = c.in_ok-enter_step.ensures in
-    let more = take_more steps x.step-index s c.loop-step-test.true ∙ ap (λ (t : Step). take x.step-index steps ++ t ∷ []) (sym c.step-item.is) in
+    let more = take_more steps x.step-index s c.loop-step-test.true
+    ∙ ap (λ (t : Step). take x.step-index steps ++ t ∷ []) (sym c.step-item.is) in
     record {
       long = c.enter_step.auto.citers ∙ x.invariant.long;
       ascending = one.ascending;
       kept = keeps-on c.args.citers.now cs new x.invariant.kept one.kept;
-      entered = subst (λ ts. AreEntered new es ts q) (sym more) (entered-push cs new es (take x.step-index steps) s q one.kept x.invariant.entered one.entered);
+      entered = subst (λ ts. AreEntered new es ts q) (sym more)
+          (entered-push cs new es (take x.step-index steps) s q one.kept x.invariant.entered one.entered);
     }
 
 pub returns-in_err-enter_step-clause-kept : goal.returns-in_err-enter_step-clause-kept

@@ -18,7 +18,8 @@ add_entry-requires-clause-free c =
     let lib = ranked_from 1 xs in
     let item = slice_get_read xs (length xs) i c.index-assertions-i.result refl c.loop-i-test.true c.index-assertions-i.is in
     let at : slice_get xs i ≡ Some a = item ∙ ap (λ x. Some x) (sym c.in_ok-copy.ensures) in
-    rw (c.loop-i.invariant.entries, living-standing) (front_free lib i (record { rank = 100 * (1 + i); assertion = a }) c.requires.distinct (ranked_from-at 1 xs i a at))
+    rw (c.loop-i.invariant.entries, living-standing) (front_free lib i (record { rank = 100 * (1 + i); assertion = a }) c.requires.distinct
+    (ranked_from-at 1 xs i a at))
 
 pub loop-i-preserved : goal.loop-i-preserved
 loop-i-preserved c =

@@ -1,5 +1,5 @@
 -- What is left to show of `read_in_entry`.
-use Rattle.std.proofs.Common.{ap, sym, subst}
+use Rattle.std.proofs.Common.{ap, sym, subst, ◌∙◌}
 use Rattle.std.proofs.lemmas.Result.{err_from_is_err_and}
 use Rattle.mmtext.specs.Views.{seen, Fails, Gives}
 use Rattle.commands.specs.ScriptFaults.{in_command}

@@ -8,19 +8,22 @@ use Rattle.historytext.proofs.reading.advance.Goals as goal
 
 pub returns-in-Skipped : goal.returns-in-Skipped
 returns-in-Skipped c =
-    skipped (history_language c.args.prelude.now) (seen_state c.args.prelude.now c.args.state) (seen c.args.token) _ _ _ c.mark_word-mark.ensures c.in_ok-in_comment.ensures
+    skipped (history_language c.args.prelude.now) (seen_state c.args.prelude.now c.args.state)
+    (seen c.args.token) _ _ _ c.mark_word-mark.ensures c.in_ok-in_comment.ensures
     c.in-Skipped.is
 
 pub returns-in_ok-next_progress-in-Read : goal.returns-in_ok-next_progress-in-Read
 returns-in_ok-next_progress-in-Read c =
-    read_on (history_language c.args.prelude.now) (seen_state c.args.prelude.now c.args.state) (seen c.args.token) _ _ _ c.mark_word-mark.ensures c.in_ok-in_comment.ensures
+    read_on (history_language c.args.prelude.now) (seen_state c.args.prelude.now c.args.state)
+    (seen c.args.token) _ _ _ c.mark_word-mark.ensures c.in_ok-in_comment.ensures
     c.in-Read.is c.in_ok-next_progress-in-Read.ensures
 
 pub returns-in_err-in_comment : goal.returns-in_err-in_comment
 returns-in_err-in_comment c =
     let p = err_from_is_err_and c.from_residual.result c.from_residual.ensures.1 in
     rw (p.1, p.2) (
-    turn_stops (history_language c.args.prelude.now) (seen_state c.args.prelude.now c.args.state) (seen c.args.token) _ c.in_err-in_comment.field-0.0 c.mark_word-mark.ensures
+    turn_stops (history_language c.args.prelude.now) (seen_state c.args.prelude.now c.args.state)
+    (seen c.args.token) _ c.in_err-in_comment.field-0.0 c.mark_word-mark.ensures
     c.in_err-in_comment.ensures)
 
 pub returns-in_err-next_progress-in-Read : goal.returns-in_err-next_progress-in-Read
@@ -29,5 +32,6 @@ returns-in_err-next_progress-in-Read c =
     let p = err_from_is_err_and r.result r.ensures.1 in
     let why = c.in_err-next_progress-in-Read.field-0.0 in
     rw (p.1, p.2) (
-    row_stops (history_language c.args.prelude.now) (seen_state c.args.prelude.now c.args.state) (seen c.args.token) _ _ why c.mark_word-mark.ensures c.in_ok-in_comment.ensures
+    row_stops (history_language c.args.prelude.now) (seen_state c.args.prelude.now c.args.state)
+    (seen c.args.token) _ _ why c.mark_word-mark.ensures c.in_ok-in_comment.ensures
     c.in-Read.is c.in_err-next_progress-in-Read.ensures)

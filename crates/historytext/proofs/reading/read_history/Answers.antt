@@ -7,7 +7,8 @@ use Rattle.historytext.proofs.HistoryLaws.{reading_found, same_history, no_fault
 use Rattle.historytext.proofs.reading.read_history.Goals as goal
 
 pub returns-in-Ok-clause-found : goal.returns-in-Ok-clause-found
-returns-in-Ok-clause-found c = rw c.from_vec.ensures (reading_found c.args.prelude.now c.args.text.now c.in-Ok.entries.items c.in-Ok.ensures)
+returns-in-Ok-clause-found c = rw c.from_vec.ensures
+    (reading_found c.args.prelude.now c.args.text.now c.in-Ok.entries.items c.in-Ok.ensures)
 
 pub returns-in-Ok-clause-fits : goal.returns-in-Ok-clause-fits
 returns-in-Ok-clause-fits c =

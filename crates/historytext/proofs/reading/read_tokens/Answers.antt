@@ -14,13 +14,15 @@ loop-token-preserved c =
     let first = c.in-Some.ensures.some in
     record {
       within = c.in-Some.ensures.within;
-      same = goes_on (history_language c.args.prelude.now) here next (seen c.in-Some.token) _ _ _ first c.in_ok-state.ensures c.loop-token.invariant.same;
+      same = goes_on (history_language c.args.prelude.now) here next
+          (seen c.in-Some.token) _ _ _ first c.in_ok-state.ensures c.loop-token.invariant.same;
     }
 
 pub returns : goal.returns
 returns c =
     let here = seen_state c.args.prelude.now c.loop-token.state in
-    let ended = ends_here (history_language c.args.prelude.now) c.args.text.now here _ c.in_default.ensures.none c.loop-token.invariant.same in
+    let ended = ends_here (history_language c.args.prelude.now) c.args.text.now here _ c.in_default.ensures.none
+    c.loop-token.invariant.same in
     same_reading _ c.finish.result _ _ (sym ended) (c.finish.ensures c.args.prelude.now)
 
 pub returns-in_err-state : goal.returns-in_err-state
@@ -29,4 +31,5 @@ returns-in_err-state c =
     let p = err_from_is_err_and c.from_residual.result c.from_residual.ensures.1 in
     let why = c.in_err-state.field-0.0 in
     rw (p.1, p.2) (
-    stopped (history_language c.args.prelude.now) why c.args.text.now here (seen c.in-Some.token) _ _ c.in-Some.ensures.some c.in_err-state.ensures c.loop-token.invariant.same)
+    stopped (history_language c.args.prelude.now) why c.args.text.now here
+    (seen c.in-Some.token) _ _ c.in-Some.ensures.some c.in_err-state.ensures c.loop-token.invariant.same)

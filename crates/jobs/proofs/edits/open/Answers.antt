@@ -8,5 +8,6 @@ pub unreachable-requires : goal.unreachable-requires
 unreachable-requires c =
     let db = c.args.db.now in
     let few : length db.assertions ≤ 4096 = (declarable db c.assertions-assertions.ensures.sound).few in
-    let many : 4096 < length db.assertions = subst (Opens db 4096) (c.in-Err-TooMany.is ∙ ap Err c.in-Err-TooMany.field-0-is) c.open.ensures in
+    let many : 4096 < length db.assertions = subst (Opens db 4096)
+    (c.in-Err-TooMany.is ∙ ap Err c.in-Err-TooMany.field-0-is) c.open.ensures in
     absurd (omega arith)

@@ -12,7 +12,9 @@ loop-script-init c =
     let from = standing c.args.editor.now c.args.history.now.items in
     record {
       setting = search rules;
-      turns = subst (λ (done : List (List Outcome)). Turns (script_outcomes s) (after_script s) (All (OutcomeFits s.prelude)) from from c.args.scripts.now 0 done) (sym c.new-rows.ensures.items) (begins (script_outcomes s) (after_script s) (All (OutcomeFits s.prelude)) from c.args.scripts.now);
+      turns = subst (λ (done : List (List Outcome)). Turns (script_outcomes s) (after_script s)
+          (All (OutcomeFits s.prelude)) from from c.args.scripts.now 0 done) (sym c.new-rows.ensures.items)
+          (begins (script_outcomes s) (after_script s) (All (OutcomeFits s.prelude)) from c.args.scripts.now);
     }
 
 pub returns-in_err-run_script-clause-setting : goal.returns-in_err-run_script-clause-setting
@@ -30,12 +32,19 @@ loop-script-preserved c =
     let after = standing c.run_script.new.editor c.run_script.new.history.items in
     let t = c.script-item.result in
     let o = c.in_ok-run_script.field-0 in
-    let is_o : o ≡ script_outcomes s now t = subst (λ (q : Setting). o ≡ script_outcomes q now t) same (c.in_ok-run_script.ensures.outcomes ∙ ap (script_outcomes c.loop-script.editor.setting now) c.as_slice.ensures) in
-    let is_after : after ≡ after_script s now t = subst (λ (q : Setting). after ≡ after_script q now t) same (c.in_ok-run_script.ensures.after ∙ ap (after_script c.loop-script.editor.setting now) c.as_slice.ensures) in
-    let fits : All (OutcomeFits s.prelude) o = subst (λ (q : Setting). All (OutcomeFits q.prelude) o) same c.in_ok-run_script.ensures.fits in
+    let is_o : o ≡ script_outcomes s now t = subst (λ (q : Setting). o ≡ script_outcomes q now t) same
+    (c.in_ok-run_script.ensures.outcomes ∙ ap (script_outcomes c.loop-script.editor.setting now) c.as_slice.ensures) in
+    let is_after : after ≡ after_script s now t = subst (λ (q : Setting). after ≡ after_script q now t) same
+    (c.in_ok-run_script.ensures.after ∙ ap (after_script c.loop-script.editor.setting now) c.as_slice.ensures) in
+    let fits : All (OutcomeFits s.prelude) o = subst (λ (q : Setting). All (OutcomeFits q.prelude) o) same
+    c.in_ok-run_script.ensures.fits in
     record {
       setting = c.run_script.ensures.setting ∙ same;
-      turns = subst (λ (done : List (List Outcome)). Turns (script_outcomes s) (after_script s) (All (OutcomeFits s.prelude)) from after c.args.scripts.now (c.loop-script.script-index + 1) done) (sym c.in_ok-push.ensures.items) (goes_on (script_outcomes s) (after_script s) (All (OutcomeFits s.prelude)) from c.args.scripts.now now after t o c.loop-script.script-index c.loop-script.rows.items (omega arith) c.script-item.is is_o is_after fits c.loop-script.invariant.turns);
+      turns = subst (λ (done : List (List Outcome)). Turns (script_outcomes s) (after_script s)
+          (All (OutcomeFits s.prelude)) from after c.args.scripts.now (c.loop-script.script-index + 1) done)
+          (sym c.in_ok-push.ensures.items) (goes_on (script_outcomes s) (after_script s)
+          (All (OutcomeFits s.prelude)) from c.args.scripts.now now after t o c.loop-script.script-index c.loop-script.rows.items
+          (omega arith) c.script-item.is is_o is_after fits c.loop-script.invariant.turns);
     }
 
 pub returns-clause-setting : goal.returns-clause-setting
@@ -48,4 +57,5 @@ pub returns-clause-after : goal.returns-clause-after
 returns-clause-after c = (ends _ _ _ _ _ _ _ _ (omega arith) c.loop-script.invariant.turns).1
 
 pub returns-clause-fits : goal.returns-clause-fits
-returns-clause-fits c = subst (λ (os : List (List Outcome)). OutcomesFit c.args.editor.now.setting.prelude os) (sym c.from_vec.ensures) c.loop-script.invariant.turns.meets
+returns-clause-fits c = subst (λ (os : List (List Outcome)). OutcomesFit c.args.editor.now.setting.prelude os)
+    (sym c.from_vec.ensures) c.loop-script.invariant.turns.meets

@@ -12,7 +12,9 @@ loop-transaction-init c =
     let from = standing c.args.editor.now c.args.history.now.items in
     record {
       setting = search rules;
-      turns = subst (λ (done : List Outcome). Turns (outcome_at s) (standing_after s) (OutcomeFits s.prelude) from from c.args.script.now 0 done) (sym c.new-outcomes.ensures.items) (begins (outcome_at s) (standing_after s) (OutcomeFits s.prelude) from c.args.script.now);
+      turns = subst (λ (done : List Outcome). Turns (outcome_at s) (standing_after s)
+          (OutcomeFits s.prelude) from from c.args.script.now 0 done) (sym c.new-outcomes.ensures.items)
+          (begins (outcome_at s) (standing_after s) (OutcomeFits s.prelude) from c.args.script.now);
     }
 
 pub returns-in_err-attempt-clause-setting : goal.returns-in_err-attempt-clause-setting
@@ -30,12 +32,18 @@ loop-transaction-preserved c =
     let after = standing c.attempt.new.editor c.attempt.new.history.items in
     let t = c.transaction-item.result in
     let o = c.in_ok-attempt.field-0 in
-    let is_o : o ≡ outcome_at s now t = subst (λ (q : Setting). o ≡ outcome_at q now t) same (c.in_ok-attempt.ensures.outcome ∙ ap (outcome_at c.loop-transaction.editor.setting now) c.as_slice.ensures) in
-    let is_after : after ≡ standing_after s now t = subst (λ (q : Setting). after ≡ standing_after q now t) same (c.in_ok-attempt.ensures.after ∙ ap (standing_after c.loop-transaction.editor.setting now) c.as_slice.ensures) in
+    let is_o : o ≡ outcome_at s now t = subst (λ (q : Setting). o ≡ outcome_at q now t) same
+    (c.in_ok-attempt.ensures.outcome ∙ ap (outcome_at c.loop-transaction.editor.setting now) c.as_slice.ensures) in
+    let is_after : after ≡ standing_after s now t = subst (λ (q : Setting). after ≡ standing_after q now t) same
+    (c.in_ok-attempt.ensures.after ∙ ap (standing_after c.loop-transaction.editor.setting now) c.as_slice.ensures) in
     let fits : OutcomeFits s.prelude o = subst (λ (q : Setting). OutcomeFits q.prelude o) same c.in_ok-attempt.ensures.fits in
     record {
       setting = c.attempt.ensures.setting ∙ same;
-      turns = subst (λ (done : List Outcome). Turns (outcome_at s) (standing_after s) (OutcomeFits s.prelude) from after c.args.script.now (c.loop-transaction.transaction-index + 1) done) (sym c.in_ok-push.ensures.items) (goes_on (outcome_at s) (standing_after s) (OutcomeFits s.prelude) from c.args.script.now now after t o c.loop-transaction.transaction-index c.loop-transaction.outcomes.items (omega arith) c.transaction-item.is is_o is_after fits c.loop-transaction.invariant.turns);
+      turns = subst (λ (done : List Outcome). Turns (outcome_at s) (standing_after s) (OutcomeFits s.prelude) from after c.args.script.now
+          (c.loop-transaction.transaction-index + 1) done) (sym c.in_ok-push.ensures.items)
+          (goes_on (outcome_at s) (standing_after s) (OutcomeFits s.prelude) from c.args.script.now now after t o
+          c.loop-transaction.transaction-index c.loop-transaction.outcomes.items
+          (omega arith) c.transaction-item.is is_o is_after fits c.loop-transaction.invariant.turns);
     }
 
 pub returns-clause-setting : goal.returns-clause-setting
@@ -48,4 +56,5 @@ pub returns-clause-after : goal.returns-clause-after
 returns-clause-after c = (ends _ _ _ _ _ _ _ _ (omega arith) c.loop-transaction.invariant.turns).1
 
 pub returns-clause-fits : goal.returns-clause-fits
-returns-clause-fits c = subst (λ (os : List Outcome). All (OutcomeFits c.args.editor.now.setting.prelude) os) (sym c.from_vec.ensures) c.loop-transaction.invariant.turns.meets
+returns-clause-fits c = subst (λ (os : List Outcome). All (OutcomeFits c.args.editor.now.setting.prelude) os)
+    (sym c.from_vec.ensures) c.loop-transaction.invariant.turns.meets

@@ -1,7 +1,8 @@
 use Rattle.std.proofs.Common.{subst, sym}
 use Rattle.std.proofs.lemmas.Result.{err_from_is_err_and}
 use Rattle.proofcheck.specs.Databases.{AllCheck}
-use Rattle.jobs.proofs.JobFaults.{short_text, text_faulted, text_memory, text_refused, proof_of_database, database_refused, database_faultless}
+use Rattle.jobs.proofs.JobFaults.{short_text, text_faulted, text_memory, text_refused, proof_of_database, database_refused}
+use Rattle.jobs.proofs.JobFaults.{database_faultless}
 use Rattle.jobs.proofs.performing.read_and_check.Goals as goal
 
 pub returns-in-Err-clause-only : goal.returns-in-Err-clause-only
@@ -10,7 +11,8 @@ returns-in-Err-clause-only g c contents checked =
     (c.in-Err.ensures.only contents (short_text _ checked.read.faultless) checked.read.spelled)
 
 pub returns-in-Err-clause-fault : goal.returns-in-Err-clause-fault
-returns-in-Err-clause-fault g c = text_faulted c.args.text.now c.in-Err.fault c.text_fault.result c.text_fault.ensures c.in-Err.ensures.fault
+returns-in-Err-clause-fault g c = text_faulted c.args.text.now c.in-Err.fault c.text_fault.result c.text_fault.ensures
+    c.in-Err.ensures.fault
 
 pub returns-in-Err-clause-refused : goal.returns-in-Err-clause-refused
 returns-in-Err-clause-refused g c f =

@@ -8,7 +8,8 @@ use Rattle.jobs.proofs.performing.replay.Goals as goal
 pub returns-in_err-db-clause-refused : goal.returns-in_err-db-clause-refused
 returns-in_err-db-clause-refused g c f h =
     let p = err_from_is_err_and c.from_residual.result c.from_residual.ensures.1 in
-    rw (p.1, p.2) (replay_refused_by_database c.args.db.now _ c.in_err-db.field-0.0 f c.in_err-db.ensures.refused c.in_err-db.ensures.only h)
+    rw (p.1, p.2) (replay_refused_by_database c.args.db.now _ c.in_err-db.field-0.0 f c.in_err-db.ensures.refused c.in_err-db.ensures.only
+    h)
 
 pub returns-in_err-entries-clause-fault : goal.returns-in_err-entries-clause-fault
 returns-in_err-entries-clause-fault g c =
@@ -19,7 +20,8 @@ returns-in_err-entries-clause-fault g c =
 pub returns-in_err-entries-clause-refused : goal.returns-in_err-entries-clause-refused
 returns-in_err-entries-clause-refused g c f h =
     let p = err_from_is_err_and c.from_residual-in_err-entries.result c.from_residual-in_err-entries.ensures.1 in
-    rw (p.1, p.2) (replay_refused_by_text c.args.db.now _ c.in_ok-db.db _ c.prelude.ensures c.in_ok-db.ensures.refused c.in_ok-db.ensures.only
+    rw (p.1, p.2) (replay_refused_by_text c.args.db.now _ c.in_ok-db.db _ c.prelude.ensures c.in_ok-db.ensures.refused
+    c.in_ok-db.ensures.only
     c.in_err-entries.field-0.0 f c.in_err-entries.ensures.refused c.in_err-entries.ensures.only h)
 
 pub returns-clause-done : goal.returns-clause-done

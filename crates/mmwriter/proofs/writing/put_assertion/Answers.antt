@@ -10,7 +10,11 @@ returns c =
     let t = c.args.prelude.now in
     let a = c.args.assertion.now in
     let some : (0 < length a.pairs) ⊎ (0 < length a.hyps) = elim c.else-is_empty.branch [
-      | else-is_empty-via-then-is_empty+else-is_empty-2 w ↦ inr (some_items a.hyps (ap (λ x. eqb (length x) 0) (sym w.as_slice-then-is_empty.ensures) ∙ sym w.is_empty-then-is_empty.ensures ∙ w.if-is_empty-2.false))
-      | else-is_empty-via-else-is_empty w ↦ inl (some_items a.pairs (ap (λ x. eqb (length x) 0) (sym c.as_slice.ensures) ∙ sym c.is_empty.ensures ∙ w.if-is_empty.false))
+      | else-is_empty-via-then-is_empty+else-is_empty-2 w ↦
+          inr (some_items a.hyps (ap (λ x. eqb (length x) 0) (sym w.as_slice-then-is_empty.ensures) ∙ sym w.is_empty-then-is_empty.ensures
+          ∙ w.if-is_empty-2.false))
+      | else-is_empty-via-else-is_empty w ↦ inl (some_items a.pairs
+          (ap (λ x. eqb (length x) 0) (sym c.as_slice.ensures) ∙ sym c.is_empty.ensures ∙ w.if-is_empty.false))
     ] in
-    subst (λ (x : List ℕ). OnOk c.put_block.result (c.put_block.new.out.items ≡ c.args.out.now.items ++ x)) (sym (block_text t a some)) c.put_block.ensures
+    subst (λ (x : List ℕ). OnOk c.put_block.result (c.put_block.new.out.items ≡ c.args.out.now.items ++ x))
+    (sym (block_text t a some)) c.put_block.ensures

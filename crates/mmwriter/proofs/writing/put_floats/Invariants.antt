@@ -5,4 +5,5 @@ use Rattle.mmsyntax.specs.Layout.{statement_text, float_statement}
 use Rattle.mmwriter.proofs.writing.put_floats.Given as goal
 
 abbrev pub invariant-loop-float : goal.invariant-loop-float
-invariant-loop-float l = l.out.items ≡ l.fn.out.items ++ flat_map statement_text (map (float_statement l.prelude) (take l.float-index l.floats))
+invariant-loop-float l = l.out.items ≡ l.fn.out.items
+    ++ flat_map statement_text (map (float_statement l.prelude) (take l.float-index l.floats))

@@ -12,5 +12,6 @@ loop-place-preserved c =
     let i = c.loop-place.place in
     let e = c.as_slice.result.now in
     let last = indented (piece_spelling (hypothesis (hypothesis_label label (i + 1)) (map (symbol_word t) e))) in
-    one_more t label c.args.hyps.now i (i + 1) e c.index-hyps-place.result c.args.out.now.items c.put_hypothesis.new.out.items c.loop-place-test.true
+    one_more t label c.args.hyps.now i (i + 1) e c.index-hyps-place.result c.args.out.now.items c.put_hypothesis.new.out.items
+    c.loop-place-test.true
     (c.as_slice.ensures ∙ c.index-hyps-place.is) refl (c.in_ok-put_hypothesis.ensures ∙ ap (λ x. x ++ last) c.loop-place.invariant)

@@ -7,5 +7,6 @@ use Rattle.mmwriter.proofs.writing.put_units.Goals as goal
 pub loop-assertion-preserved : goal.loop-assertion-preserved
 loop-assertion-preserved c =
     let f = assertion_text c.args.prelude.now in
-    lines_more f c.args.assertions.now c.loop-assertion.assertion-index c.assertion-item.result c.assertion-item.result c.args.out.now.items c.put_assertion.new.out.items c.loop-assertion-test.true
+    lines_more f c.args.assertions.now c.loop-assertion.assertion-index c.assertion-item.result c.assertion-item.result c.args.out.now.items
+    c.put_assertion.new.out.items c.loop-assertion-test.true
     c.assertion-item.is (c.in_ok-put_assertion.ensures ∙ ap (λ x. x ++ f c.assertion-item.result) c.loop-assertion.invariant)

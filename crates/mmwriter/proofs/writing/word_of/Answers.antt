@@ -23,7 +23,9 @@ returns-in-Var c =
     let at = λ (f : Float) (d : Word). get_or t.variables (get_or t.floats j f).variable d in
     let found : c.index-variables-variable.result ≡ at c.index-floats-j.result c.index-variables-variable.result =
     rw (c.floats.ensures.value, c.variables.ensures) at c.index-variables-variable.is in
-    let same : get_or t.floats j c.index-floats-j.result ≡ get_or t.floats j no_float = get_or_default t.floats j c.index-floats-j.result no_float lt in
+    let same : get_or t.floats j c.index-floats-j.result ≡ get_or t.floats j no_float =
+    get_or_default t.floats j c.index-floats-j.result no_float lt in
     let within = (floats_sound t c.floats.ensures.sound j c.index-floats-j.result lt).variable_within in
-    c.as_slice-in-Var.ensures ∙ found ∙ get_or_default t.variables (get_or t.floats j c.index-floats-j.result).variable c.index-variables-variable.result [] within
+    c.as_slice-in-Var.ensures ∙ found ∙ get_or_default t.variables
+    (get_or t.floats j c.index-floats-j.result).variable c.index-variables-variable.result [] within
     ∙ ap (λ (f : Float). get_or t.variables f.variable []) same ∙ ap (symbol_word t) (sym c.in-Var.is)

@@ -7,7 +7,8 @@ use Rattle.mmsyntax.proofs.Declarable.{declarable}
 use Rattle.mmwriter.proofs.writing.write_database.Goals as goal
 
 pub put_units-requires : goal.put_units-requires
-put_units-requires c = rw (c.assertions.ensures.value, c.prelude-2.ensures) (λ i d lt. ((declarable c.args.db.now c.assertions.ensures.sound).units i d lt).fits)
+put_units-requires c = rw (c.assertions.ensures.value, c.prelude-2.ensures)
+    (λ i d lt. ((declarable c.args.db.now c.assertions.ensures.sound).units i d lt).fits)
 
 pub returns-clause-spelled : goal.returns-clause-spelled
 returns-clause-spelled c =

@@ -14,6 +14,7 @@ returns-in_ok-copy-in-Some g c =
       k,
       a,
       (λ ne. subst (λ n. IsFirstFault c.args.db.now n c.in-Err.fault) (sym e) (c.in-Err.ensures.fault ne)),
-      subst (λ xs. slice_get xs k ≡ Some a) c.assertions-assertions.ensures.value (slice_get_read all (length all) k a refl found.0 (found.1 a)),
+      subst (λ xs. slice_get xs k ≡ Some a) c.assertions-assertions.ensures.value
+          (slice_get_read all (length all) k a refl found.0 (found.1 a)),
       c.in_ok-copy-in-Some.ensures,
     )

@@ -12,8 +12,10 @@ act-requires-clause-words c =
     subst (λ (h : List Entry). length h < 4611686018427387904) c.deref.ensures.value c.is_short-short.ensures in
     let count : c.len.result ≡ length c.args.seats.now.items = search rules in
     let here : slice_get c.args.seats.now.items c.args.seat ≡ Some c.index_mut.result.now =
-    slice_get_read c.args.seats.now.items c.len.result c.args.seat c.index_mut.result.now count c.if-seat-len.false c.index_mut.ensures.value in
-    words_fit (world_of c.args.cells.now.items c.args.seats.now.items c.args.history.now.items) c.args.seat c.index_mut.result.now c.requires here short
+    slice_get_read c.args.seats.now.items c.len.result c.args.seat c.index_mut.result.now count c.if-seat-len.false
+    c.index_mut.ensures.value in
+    words_fit (world_of c.args.cells.now.items c.args.seats.now.items c.args.history.now.items) c.args.seat c.index_mut.result.now
+    c.requires here short
 
 pub act-requires-clause-numbers : goal.act-requires-clause-numbers
 act-requires-clause-numbers c =
@@ -21,5 +23,7 @@ act-requires-clause-numbers c =
     subst (λ (h : List Entry). length h < 4611686018427387904) c.deref.ensures.value c.is_short-short.ensures in
     let count : c.len.result ≡ length c.args.seats.now.items = search rules in
     let here : slice_get c.args.seats.now.items c.args.seat ≡ Some c.index_mut.result.now =
-    slice_get_read c.args.seats.now.items c.len.result c.args.seat c.index_mut.result.now count c.if-seat-len.false c.index_mut.ensures.value in
-    numbers_fit (world_of c.args.cells.now.items c.args.seats.now.items c.args.history.now.items) c.args.seat c.index_mut.result.now c.requires here short
+    slice_get_read c.args.seats.now.items c.len.result c.args.seat c.index_mut.result.now count c.if-seat-len.false
+    c.index_mut.ensures.value in
+    numbers_fit (world_of c.args.cells.now.items c.args.seats.now.items c.args.history.now.items) c.args.seat c.index_mut.result.now
+    c.requires here short

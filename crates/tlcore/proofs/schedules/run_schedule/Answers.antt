@@ -14,10 +14,13 @@ loop-event-preserved c =
     record {
       counted = omega (arith, c.loop-event.invariant.counted);
       ran =
-          front_more c.args.world.now c.loop-event.now c.in-Some.next c.args.events.now c.loop-event.event-index _ c.loop-event.invariant.ran
-          (read_here c.args.events.now c.loop-event.event-index _ c.loop-event-test.true) (sym (c.in_ok-next.ensures {u = tt}) ∙ c.in-Some.is);
+          front_more c.args.world.now c.loop-event.now c.in-Some.next c.args.events.now c.loop-event.event-index _
+          c.loop-event.invariant.ran
+          (read_here c.args.events.now c.loop-event.event-index _ c.loop-event-test.true)
+          (sym (c.in_ok-next.ensures {u = tt}) ∙ c.in-Some.is);
     }
 
 pub returns : goal.returns
 returns c =
-    rw c.loop-event.invariant.counted (front_whole c.args.world.now c.loop-event.now c.args.events.now c.loop-event.event-index c.loop-event.invariant.ran (omega (arith, c.loop-event.auto.event-index-end, c.loop-event-test.false)))
+    rw c.loop-event.invariant.counted (front_whole c.args.world.now c.loop-event.now c.args.events.now c.loop-event.event-index
+    c.loop-event.invariant.ran (omega (arith, c.loop-event.auto.event-index-end, c.loop-event-test.false)))

@@ -1,6 +1,7 @@
 -- The clauses are the laws of single events.
 use Rattle.tlcore.proofs.Halves.{halves}
-use Rattle.tlcore.proofs.Laws.{begin_leads, check_leads, draw_leads, idle_seat_keeps, load_leads, look_leads, one_stays, release_failed_leads, release_leads, release_void_leads, relook_leads, store_leads, take_leads}
+use Rattle.tlcore.proofs.Laws.{begin_leads, check_leads, draw_leads, idle_seat_keeps, load_leads, look_leads, one_stays}
+use Rattle.tlcore.proofs.Laws.{release_failed_leads, release_leads, release_void_leads, relook_leads, store_leads, take_leads}
 use Rattle.tlcore.proofs.theorem.every_event.Goals as goal
 
 pub returns-clause-begin : goal.returns-clause-begin

@@ -4,4 +4,5 @@ use Rattle.tlwords.specs.Closing.{AreCellsOf}
 use Rattle.tlwords.proofs.closing.gather_cells.Given as goal
 
 abbrev pub invariant-loop-cell : goal.invariant-loop-cell
-invariant-loop-cell l = AreCellsOf (slots_items l.table.words) l.closed.items × (length l.closed.items ≡ l.cell) × (l.cells ≤ vec_capacity l.closed)
+invariant-loop-cell l = AreCellsOf (slots_items l.table.words) l.closed.items × (length l.closed.items ≡ l.cell)
+    × (l.cells ≤ vec_capacity l.closed)

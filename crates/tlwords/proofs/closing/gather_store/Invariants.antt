@@ -4,4 +4,5 @@ use Rattle.tlwords.specs.Closing.{IsStoreOf}
 use Rattle.tlwords.proofs.closing.gather_store.Given as goal
 
 abbrev pub invariant-loop-offset : goal.invariant-loop-offset
-invariant-loop-offset l = IsStoreOf (slots_items l.table.words) l.cells l.closed.items × (length l.closed.items ≡ l.offset) × (l.room ≤ vec_capacity l.closed)
+invariant-loop-offset l = IsStoreOf (slots_items l.table.words) l.cells l.closed.items × (length l.closed.items ≡ l.offset)
+    × (l.room ≤ vec_capacity l.closed)

@@ -110,6 +110,7 @@ returns-in-Err-settle-clause-ended g c =
     let most : length v.items ≢ 0 = λ z. other_numbers _ 0 (sym c.is_empty.ensures ∙ c.if-is_empty.false) (let a = v.ok.0 in a ∙ z) in
     let some : writes_kept slots ≢ [] = plan_some slots v.items c.plan_writes.ensures.plan most in (
       subst (λ x. writes_kept x ≢ []) e some,
-      subst (λ x. HasConflicted g.L.Law.terms x c.args.note.now c.in-Err-settle.conflict (Some c.in-Err-settle.number) c.args.seat.now.me c.settle.new.seat.me) e
+      subst (λ x. HasConflicted g.L.Law.terms x c.args.note.now c.in-Err-settle.conflict
+          (Some c.in-Err-settle.number) c.args.seat.now.me c.settle.new.seat.me) e
           (conflicted_from g.L.Law.terms slots _ _ _ c.in_default.ensures.ok c.args.note.now _ _ _ c.in-Err-settle.ensures.err.0),
     )

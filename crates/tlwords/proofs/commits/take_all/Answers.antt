@@ -6,7 +6,8 @@ use Rattle.tlwords.specs.Walks.{low_of}
 use Rattle.tlwords.specs.Committing.{held_in, holding, Goes}
 use Rattle.tlwords.proofs.Held.{held_on}
 use Rattle.tlwords.proofs.Plans.{plan_at, plan_next, plan_low, plan_end}
-use Rattle.tlwords.proofs.Turns.{unkept_of, read_found, goes_start, goes_setting, goes_base, goes_rights, goes_read, seat_trans, take_place, take_goes, take_fails}
+use Rattle.tlwords.proofs.Turns.{unkept_of, read_found, goes_start, goes_setting, goes_base, goes_rights, goes_read, seat_trans, take_place}
+use Rattle.tlwords.proofs.Turns.{take_goes, take_fails}
 use Rattle.tlwords.proofs.commits.take_all.Goals as goal
 
 pub loop-i-init : goal.loop-i-init

@@ -1,4 +1,5 @@
-use Rattle.tlwords.proofs.Events.{clock_loads, looks_are, loads_are, relooks_are, takes_are, draws_are, checks_are, stores_are, releases_are}
+use Rattle.tlwords.proofs.Events.{clock_loads, looks_are, loads_are, relooks_are, takes_are, draws_are, checks_are, stores_are}
+use Rattle.tlwords.proofs.Events.{releases_are}
 use Rattle.tlwords.proofs.laws.running_steps.Goals as goal
 
 pub returns-clause-clock_load : goal.returns-clause-clock_load

@@ -6,5 +6,6 @@ pub store-requires : goal.store-requires
 store-requires g c = (
   search rules,
   let s = c.args.words.now.sized in let i = c.requires.cell.0 in omega arith,
-  stores g.L.Law.terms _ _ _ _ _ _ _ _ _ _ _ _ c.requires.setting.1 c.requires.cell.1 c.requires.place.1 c.requires.held.1 c.requires.held.2,
+  stores g.L.Law.terms _ _ _ _ _ _ _ _ _ _ _ _ c.requires.setting.1 c.requires.cell.1 c.requires.place.1 c.requires.held.1
+      c.requires.held.2,
 )

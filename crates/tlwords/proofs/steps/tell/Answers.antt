@@ -12,6 +12,7 @@ join_seat-requires g c = let e = c.split_seat-token.ensures in (
   e.3 ∙ c.requires.table.1,
   ap (λ m. m.1) e.4,
   (let s = c.args.words.now.sized in omega arith),
-  joins g.L.Law.terms _ _ _ _ _ _ _ _ (ap (λ m. m.0.seat) e.4) (ap (λ m. m.0.rights) e.4) (ap (λ m. m.0.drawn) e.4) (ap (λ m. m.0.staging) e.4)
+  joins g.L.Law.terms _ _ _ _ _ _ _ _ (ap (λ m. m.0.seat) e.4) (ap (λ m. m.0.rights) e.4) (ap (λ m. m.0.drawn) e.4)
+      (ap (λ m. m.0.staging) e.4)
       (ap (λ m. moves_of m.0) e.4),
 )

@@ -1,5 +1,6 @@
 -- What is left to show of `count`.
-use Rattle.std.proofs.Common.{◌+◌, ◌∙◌, arith}
+use Rattle.std.proofs.Common.{◌≡◌, ◌<◌, ◌≤◌, ◌*◌, ◌+◌, ◌-◌, get_or, length, take, sym, ap, ◌∙◌, arith}
+use Rattle.std.specs.Str.Parse.{digits_value}
 use Rattle.commands.proofs.Numerals.{one_more_digit, digit_here, too_high, written}
 use Rattle.commands.proofs.script.numerals.count.Goals as goal
 

@@ -19,7 +19,8 @@ returns-in-Some-clause-taken c =
     let d = c.args.self.now in
     rw c.refused.ensures (
       refl,
-      tested_some (add_tests d.setting (now_in d) c.args.rank c.args.assertion.now) _ c.in-Some.reason (sym c.in_ok-reason.ensures ∙ c.in-Some.is),
+      tested_some (add_tests d.setting (now_in d) c.args.rank c.args.assertion.now) _ c.in-Some.reason
+          (sym c.in_ok-reason.ensures ∙ c.in-Some.is),
     )
 
 pub put-requires-clause-free : goal.put-requires-clause-free
@@ -40,12 +41,14 @@ put-requires-clause-framed c =
     let p = c.in_ok-place.place in
     let f = c.in_ok-frame.frame in
     let long : length d.frames ≡ length d.entries =
-    ap (λ (x : Drafted). length x.frames) (sym c.self.view_is) ∙ c.self.invariant.0.framed.long ∙ ap (λ (x : Drafted). length x.entries) c.self.view_is in
+    ap (λ (x : Drafted). length x.frames) (sym c.self.view_is) ∙ c.self.invariant.0.framed.long
+    ∙ ap (λ (x : Drafted). length x.entries) c.self.view_is in
     let setting = c.in_ok-cite.ensures.kept.setting ∙ opened.kept.setting in
     let made : f ≡ frame c.cite.new.self.setting.prelude c.in_ok-assertion.assertion =
     c.in_ok-frame.ensures ∙ ap (λ (x : Drafted). frame x.setting.prelude a) c.self.view_is
     ∙ ap (λ (s : Setting). frame s.prelude a) (sym setting) ∙ ap (frame c.cite.new.self.setting.prelude) (sym c.in_ok-assertion.ensures) in
-    ap (λ fs. slice_get fs p) (c.in_ok-cite.ensures.frames ∙ opened.frames) ∙ ap (slice_get (d.frames ++ f ∷ [])) (opened.place ∙ sym long) ∙ get-last d.frames f ∙ ap (λ x. Some x) made
+    ap (λ fs. slice_get fs p) (c.in_ok-cite.ensures.frames ∙ opened.frames) ∙ ap (slice_get (d.frames ++ f ∷ [])) (opened.place ∙ sym long)
+    ∙ get-last d.frames f ∙ ap (λ x. Some x) made
 
 pub put-requires-clause-covered : goal.put-requires-clause-covered
 put-requires-clause-covered c =
@@ -58,12 +61,14 @@ put-requires-clause-covered c =
     let cited = c.in_ok-cite.ensures in
     let new : Ranked = record { rank = c.args.rank; assertion = b } in
     let tests = sym c.in_ok-reason.ensures ∙ c.in_default.is in
-    let free : has lib b.label ≡ false = ap (λ (x : Assertion). has lib x.label) c.in_ok-assertion.ensures ∙ add_free d.setting lib c.args.rank a tests in
+    let free : has lib b.label ≡ false = ap (λ (x : Assertion). has lib x.label) c.in_ok-assertion.ensures
+    ∙ add_free d.setting lib c.args.rank a tests in
     let known : list_any (is_of_unknown lib) b.proof ≡ false =
     ap (λ (x : Assertion). list_any (is_of_unknown lib) x.proof) c.in_ok-assertion.ensures ∙ add_known d.setting lib c.args.rank a tests in
     let now : next.entries ≡ d.entries ++ None ∷ [] = cited.entries ∙ c.in_ok-place.ensures.entries in
     covers-fresh next.citers next.entries p new cited.covered
-    (λ q f at. verified-uncited d.setting d.entries b.label c.requires free q f (stands-opened d.entries q f (subst (λ es. StandsIn es q f) now at)))
+    (λ q f at. verified-uncited d.setting d.entries b.label c.requires free q f
+    (stands-opened d.entries q f (subst (λ es. StandsIn es q f) now at)))
     (known-uncited lib b.label b.proof free known)
     (λ r e at here. cited.entered.entered r e at (subst (λ steps. some_cites steps (label_of e) ≡ true) (sym c.as_slice.ensures) here))
 
@@ -76,7 +81,8 @@ returns-clause-taken c =
     let p = c.in_ok-place.place in
     let now =
     c.in_ok-put.ensures.done.entries
-    ∙ ap (λ (es : Entries). set es p (Some (record { rank = rank; assertion = c.in_ok-assertion.assertion }))) (c.in_ok-cite.ensures.entries ∙ opened.entries)
+    ∙ ap (λ (es : Entries). set es p (Some (record { rank = rank; assertion = c.in_ok-assertion.assertion })))
+    (c.in_ok-cite.ensures.entries ∙ opened.entries)
     ∙ ap (λ (x : Assertion). set (d.entries ++ None ∷ []) p (Some (record { rank = rank; assertion = x }))) c.in_ok-assertion.ensures in
     tested_none (add_tests d.setting (now_in d) rank a) _ (sym c.in_ok-reason.ensures ∙ c.in_default.is)
     ∙ ap (λ l. Ok (done l)) (sym (library-added d.entries rank a p opened.place) ∙ ap living (sym now))

@@ -17,7 +17,8 @@ pub invariant_of-self : goal.invariant_of-self
 invariant_of-self c =
     let i = c.self.inside in
     let all : i.citers.len ≡ length i.citers.items = search rules in
-    let whole = written_whole i.citers.items c.enter_citer.new.citers i.citers.len all (c.enter_citer.ensures.long ∙ ap length c.as_mut_slice.ensures.value) in
+    let whole = written_whole i.citers.items c.enter_citer.new.citers i.citers.len all
+    (c.enter_citer.ensures.long ∙ ap length c.as_mut_slice.ensures.value) in
     let v = c.self.invariant in
     (v.0, v.1, v.2, subst (λ l. AreCiters l i.notes.items i.entries.items) (sym whole) (listed c))
 
@@ -25,5 +26,6 @@ pub returns-clause-covered : goal.returns-clause-covered
 returns-clause-covered c =
     let i = c.self.inside in
     let all : i.citers.len ≡ length i.citers.items = search rules in
-    let whole = written_whole i.citers.items c.enter_citer.new.citers i.citers.len all (c.enter_citer.ensures.long ∙ ap length c.as_mut_slice.ensures.value) in
+    let whole = written_whole i.citers.items c.enter_citer.new.citers i.citers.len all
+    (c.enter_citer.ensures.long ∙ ap length c.as_mut_slice.ensures.value) in
     subst (λ l. Covers l i.entries.items) (sym whole) (listed c).covers_now

@@ -13,7 +13,8 @@ read c =
     let held = ap (λ (d : Drafted). d.entries) c.self.view_is in
     let within = slice_get_within c.args.self.now.entries c.args.place (Some c.requires.0) c.requires.1 in
     let long = c.self.invariant.3.long in
-    slice_get_read i.citers.items (length i.citers.items) c.args.place c.index.result.now refl (omega (arith, ap length held)) c.index.ensures
+    slice_get_read i.citers.items (length i.citers.items) c.args.place c.index.result.now refl
+    (omega (arith, ap length held)) c.index.ensures
 
 pub returns-clause-listed : goal.returns-clause-listed
 returns-clause-listed c =
@@ -28,6 +29,7 @@ pub returns-clause-all : goal.returns-clause-all
 returns-clause-all c =
     let d = c.args.self.now in
     let cs = ap (λ (x : Drafted). x.citers) c.self.view_is in
-    let covers : Covers d.citers d.entries = subst (λ (x : Drafted). Covers x.citers x.entries) c.self.view_is c.self.invariant.3.covers_now in
+    let covers : Covers d.citers d.entries = subst (λ (x : Drafted). Covers x.citers x.entries) c.self.view_is
+    c.self.invariant.3.covers_now in
     λ e at. rw c.as_slice.ensures.value
     (all-listed d.citers d.entries c.args.place e c.index.result.now covers at (ap (λ l. slice_get l c.args.place) (sym cs) ∙ read c))

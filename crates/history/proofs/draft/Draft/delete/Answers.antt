@@ -5,7 +5,8 @@ use Rattle.library.specs.declared.reason.Reason.TheVariants as reason
 use Rattle.library.specs.Edits.{done, still_cited, citers}
 use Rattle.history.specs.Entries.{living}
 use Rattle.history.specs.Drafts.{Drafted, now_in}
-use Rattle.history.proofs.Commands.{tested_some, tested_none, so, not_so, first-some, first-none, found_nowhere, known_label, HasLabel, has_label, free_in}
+use Rattle.history.proofs.Commands.{tested_some, tested_none, so, not_so, first-some, first-none, found_nowhere, known_label, HasLabel}
+use Rattle.history.proofs.Commands.{has_label, free_in}
 use Rattle.history.proofs.Commands.{library-without}
 use Rattle.history.proofs.draft.Draft.delete.Goals as goal
 
@@ -31,7 +32,8 @@ returns-then-citers-gt0-clause-taken c =
     let e = at.entry in
     let p = c.in-Some.place in
     let own : HasLabel i.places d.entries w p e =
-    has_label i.places i.entries.items d.entries c.as_slice-entries.result.now c.as_slice.result.now w p e c.self.invariant.0.indexed held slice at.at at.labelled c.as_slice.ensures in
+    has_label i.places i.entries.items d.entries c.as_slice-entries.result.now c.as_slice.result.now w p e c.self.invariant.0.indexed held
+    slice at.at at.labelled c.as_slice.ensures in
     let count : c.count_citers-citers.result ≡ citers lib w =
     c.count_citers-citers.ensures ∙ ap (citers lib) c.as_slice-2.ensures in
     let some = c.if-citers-gt0.true in
@@ -54,7 +56,8 @@ returns-clause-taken c =
     let e = at.entry in
     let p = c.in-Some.place in
     let own : HasLabel i.places d.entries w p e =
-    has_label i.places i.entries.items d.entries c.as_slice-entries.result.now c.as_slice.result.now w p e c.self.invariant.0.indexed held slice at.at at.labelled c.as_slice.ensures in
+    has_label i.places i.entries.items d.entries c.as_slice-entries.result.now c.as_slice.result.now w p e c.self.invariant.0.indexed held
+    slice at.at at.labelled c.as_slice.ensures in
     let count : c.count_citers-citers.result ≡ citers lib w =
     c.count_citers-citers.ensures ∙ ap (citers lib) c.as_slice-2.ensures in
     let none = c.if-citers-gt0.false in

@@ -13,7 +13,8 @@ use Rattle.history.specs.Places.{StandsAt}
 use Rattle.history.specs.Citers.{Covers, HasAllCiters}
 use Rattle.history.specs.Drafts.{Drafted, now_in}
 use Rattle.history.proofs.Covering.{all-listed, list-within, covers-replaced}
-use Rattle.history.proofs.Commands.{tested_some, tested_none, so, not_so, first-some, first-none, found_nowhere, known_label, HasLabel, has_label, free_in}
+use Rattle.history.proofs.Commands.{tested_some, tested_none, so, not_so, first-some, first-none, found_nowhere, known_label, HasLabel}
+use Rattle.history.proofs.Commands.{has_label, free_in}
 use Rattle.history.proofs.Commands.{library-changed}
 use Rattle.history.proofs.draft.Draft.move_to.Goals as goal
 
@@ -39,13 +40,15 @@ returns-then-rank-eq0-clause-taken c =
     let e = c.in-Some.entry.now in
     let p = c.in-Some.place in
     let own : HasLabel i.places d.entries w p e =
-    has_label i.places i.entries.items d.entries c.as_slice-entries.result.now c.as_slice.result.now w p e c.self.invariant.0.indexed held slice found.0 found.1 c.as_slice.ensures in
+    has_label i.places i.entries.items d.entries c.as_slice-entries.result.now c.as_slice.result.now w p e c.self.invariant.0.indexed held
+    slice found.0 found.1 c.as_slice.ensures in
     let steps = e.assertion.proof in
     let rank = c.args.rank in
     let bad = so (rank == 0) reason.BadRank (eq-eqb rank 0 c.if-rank-eq0.true) in
     rw c.refused-then-rank-eq0.ensures (
       refl,
-      known_label i.places d.entries w p e _ own ∙ tested_some (move_tests lib rank e) _ reason.BadRank (first-some (bad_rank rank) _ reason.BadRank bad),
+      known_label i.places d.entries w p e _ own ∙ tested_some (move_tests lib rank e) _ reason.BadRank
+          (first-some (bad_rank rank) _ reason.BadRank bad),
     )
 
 -- what the test of the cited assertions answers, over the library and the proof
@@ -74,13 +77,20 @@ returns-then-cites_not_below-clause-taken c =
     let e = c.in-Some.entry.now in
     let p = c.in-Some.place in
     let own : HasLabel i.places d.entries w p e =
-    has_label i.places i.entries.items d.entries c.as_slice-entries.result.now c.as_slice.result.now w p e c.self.invariant.0.indexed held slice found.0 found.1 c.as_slice.ensures in
+    has_label i.places i.entries.items d.entries c.as_slice-entries.result.now c.as_slice.result.now w p e c.self.invariant.0.indexed held
+    slice found.0 found.1 c.as_slice.ensures in
     let steps = e.assertion.proof in
     let rank = c.args.rank in
     let ranked = not_so (rank == 0) reason.BadRank (ne_eqb rank 0 c.if-rank-eq0.false) in
-    let not_below = below _ d.entries rank _ steps _ true (slice ∙ held) c.as_slice-2.ensures c.cites_not_below.ensures c.if-cites_not_below.true in
-    let first = first-none (bad_rank rank) _ ranked ∙ first-some (cited_not_lower lib rank steps) _ reason.CitedNotLower (so _ reason.CitedNotLower not_below) in
-    rw c.refused-then-cites_not_below.ensures (refl, known_label i.places d.entries w p e _ own ∙ tested_some (move_tests lib rank e) _ reason.CitedNotLower first)
+    let not_below = below _ d.entries rank _ steps _ true
+    (slice ∙ held) c.as_slice-2.ensures c.cites_not_below.ensures c.if-cites_not_below.true in
+    let first = first-none (bad_rank rank) _ ranked ∙ first-some (cited_not_lower lib rank steps) _ reason.CitedNotLower
+    (so _ reason.CitedNotLower not_below) in
+    rw c.refused-then-cites_not_below.ensures (
+      refl,
+      known_label i.places d.entries w p e _ own
+          ∙ tested_some (move_tests lib rank e) _ reason.CitedNotLower first,
+    )
 
 pub has_citer_below-requires : goal.has_citer_below-requires
 has_citer_below-requires c =
@@ -111,7 +121,8 @@ replace-requires-clause-covered c =
     let e = c.in-Some.entry.now in
     let p = c.in-Some.place in
     let at : StandsIn d.entries p e = subst (λ l. StandsIn l p e) (slice ∙ held) found.0 in
-    let covers : Covers d.citers d.entries = subst (λ (x : Drafted). Covers x.citers x.entries) c.self.view_is c.self.invariant.3.covers_now in
+    let covers : Covers d.citers d.entries = subst (λ (x : Drafted). Covers x.citers x.entries) c.self.view_is
+    c.self.invariant.3.covers_now in
     rw c.in_ok-moved.ensures
     (covers-replaced d.citers d.entries p (with_rank c.args.rank e) covers e at refl (λ r x at_r here. covers.listed r p x e at_r at here))
 
@@ -127,17 +138,24 @@ returns-then-has_citer_below-clause-taken c =
     let e = c.in-Some.entry.now in
     let p = c.in-Some.place in
     let own : HasLabel i.places d.entries w p e =
-    has_label i.places i.entries.items d.entries c.as_slice-entries.result.now c.as_slice.result.now w p e c.self.invariant.0.indexed held slice found.0 found.1 c.as_slice.ensures in
+    has_label i.places i.entries.items d.entries c.as_slice-entries.result.now c.as_slice.result.now w p e c.self.invariant.0.indexed held
+    slice found.0 found.1 c.as_slice.ensures in
     let steps = e.assertion.proof in
     let rank = c.args.rank in
     let ranked = not_so (rank == 0) reason.BadRank (ne_eqb rank 0 c.if-rank-eq0.false) in
-    let all_below = below _ d.entries rank _ steps _ false (slice ∙ held) c.as_slice-2.ensures c.cites_not_below.ensures c.if-cites_not_below.false in
+    let all_below = below _ d.entries rank _ steps _ false
+    (slice ∙ held) c.as_slice-2.ensures c.cites_not_below.ensures c.if-cites_not_below.false in
     let not_above =
-    above _ d.entries rank _ (label_of e) _ true (slice ∙ held) (c.as_slice-3.ensures ∙ sym own.labelled) c.has_citer_below.ensures c.if-has_citer_below.true in
+    above _ d.entries rank _ (label_of e) _ true (slice ∙ held)
+    (c.as_slice-3.ensures ∙ sym own.labelled) c.has_citer_below.ensures c.if-has_citer_below.true in
     let first =
     first-none (bad_rank rank) _ ranked ∙ first-none (cited_not_lower lib rank steps) _ (not_so _ reason.CitedNotLower all_below)
     ∙ first-some (citer_not_higher lib rank (label_of e)) _ reason.CiterNotHigher (so _ reason.CiterNotHigher not_above) in
-    rw c.refused-then-has_citer_below.ensures (refl, known_label i.places d.entries w p e _ own ∙ tested_some (move_tests lib rank e) _ reason.CiterNotHigher first)
+    rw c.refused-then-has_citer_below.ensures (
+      refl,
+      known_label i.places d.entries w p e _ own
+          ∙ tested_some (move_tests lib rank e) _ reason.CiterNotHigher first,
+    )
 
 pub returns-clause-taken : goal.returns-clause-taken
 returns-clause-taken c =
@@ -151,17 +169,21 @@ returns-clause-taken c =
     let e = c.in-Some.entry.now in
     let p = c.in-Some.place in
     let own : HasLabel i.places d.entries w p e =
-    has_label i.places i.entries.items d.entries c.as_slice-entries.result.now c.as_slice.result.now w p e c.self.invariant.0.indexed held slice found.0 found.1 c.as_slice.ensures in
+    has_label i.places i.entries.items d.entries c.as_slice-entries.result.now c.as_slice.result.now w p e c.self.invariant.0.indexed held
+    slice found.0 found.1 c.as_slice.ensures in
     let steps = e.assertion.proof in
     let rank = c.args.rank in
     let ranked = not_so (rank == 0) reason.BadRank (ne_eqb rank 0 c.if-rank-eq0.false) in
-    let all_below = below _ d.entries rank _ steps _ false (slice ∙ held) c.as_slice-2.ensures c.cites_not_below.ensures c.if-cites_not_below.false in
+    let all_below = below _ d.entries rank _ steps _ false
+    (slice ∙ held) c.as_slice-2.ensures c.cites_not_below.ensures c.if-cites_not_below.false in
     let all_above =
-    above _ d.entries rank _ (label_of e) _ false (slice ∙ held) (c.as_slice-3.ensures ∙ sym own.labelled) c.has_citer_below.ensures c.if-has_citer_below.false in
+    above _ d.entries rank _ (label_of e) _ false (slice ∙ held)
+    (c.as_slice-3.ensures ∙ sym own.labelled) c.has_citer_below.ensures c.if-has_citer_below.false in
     let first =
     first-none (bad_rank rank) _ ranked ∙ first-none (cited_not_lower lib rank steps) _ (not_so _ reason.CitedNotLower all_below)
     ∙ first-none (citer_not_higher lib rank (label_of e)) _ (not_so _ reason.CiterNotHigher all_above) in
-    let moved : record { rank = rank; assertion = c.in_ok-moved.moved.assertion } ≡ with_rank rank e = ap (with_rank rank) c.in_ok-moved.ensures in
+    let moved : record { rank = rank; assertion = c.in_ok-moved.moved.assertion } ≡ with_rank rank e =
+    ap (with_rank rank) c.in_ok-moved.ensures in
     let now = c.in_ok-replace.ensures.done.entries ∙ ap (λ (x : Ranked). set d.entries p (Some x)) moved in
     known_label i.places d.entries w p e _ own ∙ tested_none (move_tests lib rank e) _ first
     ∙ ap (λ l. Ok (done l)) (sym (library-changed i.places d.entries w p e (with_rank rank) own) ∙ ap living (sym now))

@@ -24,7 +24,8 @@ invariant_of-result-2 c =
     subst (λ l. AreFramed t l frames) (sym is) (subst (AreFramed t (standing lib)) (sym beside) (framed-opening t 1 xs)) in
     let count : length xs ≡ length (living es) =
     sym (ap (λ l. length (living l)) is ∙ ap length (living-standing lib) ∙ length-ranked_from 1 xs) in (
-      draft_settled t c.in_ok-entries.places frames c.new.result.items es c.new.ensures.items c.in_ok-entries.ensures.indexed c.in_ok-entries.ensures.only framed,
+      draft_settled t c.in_ok-entries.places frames c.new.result.items es c.new.ensures.items c.in_ok-entries.ensures.indexed
+          c.in_ok-entries.ensures.only framed,
       counted_settled (length xs) (length xs) c.new.result.items es c.new.ensures.items count count,
       record { empty = c.in_ok-with_capacity.ensures.len; room = c.in_ok-with_capacity.ensures.capacity },
       citers_settled c.in_ok-citers.citers.items c.new.result.items es c.new.ensures.items

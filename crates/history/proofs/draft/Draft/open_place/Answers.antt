@@ -24,8 +24,13 @@ opened c =
     let now = c.push_reserved-2.ensures.items ∙ ap (λ l. l ++ None ∷ []) c.reserve.ensures.items in
     let start = ap (λ l. living (undone ns l)) now ∙ both.1 in
     let k = c.self.invariant.1 in (
-      subst (λ l. IsDraft i.prelude i.places c.push_reserved.new.self.items ns l) (sym now) (subst (λ fs. IsDraft i.prelude i.places fs ns (es ++ None ∷ [])) (sym frames) both.0),
-      record { now_right = k.now_right ∙ sym (ap (λ l. length (living l)) now ∙ ap length (living-opened es)); start_right = k.start_right ∙ ap length (sym start) },
+      subst (λ l. IsDraft i.prelude i.places c.push_reserved.new.self.items ns l) (sym now)
+          (subst (λ fs. IsDraft i.prelude i.places fs ns (es ++ None ∷ [])) (sym frames) both.0),
+      record {
+        now_right = k.now_right ∙ sym (ap (λ l. length (living l)) now ∙ ap length (living-opened es));
+        start_right =
+            k.start_right ∙ ap length (sym start);
+      },
       start,
     )
 
@@ -34,7 +39,8 @@ listed c =
     let i = c.self.inside in
     let es = i.entries.items in
     let ns = i.notes.items in
-    let more = citers_opened i.places i.citers.items c.new.result ns es c.new.ensures.items c.self.invariant.0.can_undo c.self.invariant.3 in
+    let more = citers_opened i.places i.citers.items c.new.result ns es c.new.ensures.items c.self.invariant.0.can_undo
+    c.self.invariant.3 in
     let now = c.push_reserved-2.ensures.items ∙ ap (λ l. l ++ None ∷ []) c.reserve.ensures.items in
     let lists : c.push.new.self.items ≡ i.citers.items ++ c.new.result ∷ [] = search rules in
     subst (λ l. AreCiters c.push.new.self.items ns l) (sym now) (subst (λ l. AreCiters l ns (es ++ None ∷ [])) (sym lists) more)

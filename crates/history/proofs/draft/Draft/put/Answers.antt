@@ -1,4 +1,5 @@
-use Rattle.std.proofs.Common.{◌≡◌, ℕ, ◌+◌, List, ◌<◌, ◌∷◌, ◌++◌, [], Option, Some, false, get_or, length, set, refl, sym, ap, subst, ◌∙◌, rules, arith}
+use Rattle.std.proofs.Common.{◌≡◌, ℕ, ◌+◌, List, ◌<◌, ◌∷◌, ◌++◌, [], Option, Some, false, get_or, length, set, refl, sym, ap, subst, ◌∙◌}
+use Rattle.std.proofs.Common.{rules, arith}
 use Rattle.std.specs.List.{slice_get}
 use Rattle.std.proofs.lemmas.List.{length-set}
 use Rattle.std.proofs.lemmas.Option.{slice_get_within, slice_get_read}
@@ -20,7 +21,8 @@ use Rattle.history.proofs.Undoing.{draft_noted, draft_same}
 use Rattle.history.proofs.draft.Draft.put.Goals as goal
 
 -- the place, by its frame
-within : (es : Entries) (frames held : List Frame) (p : ℕ) (f : Frame) → length frames ≡ length es → frames ≡ held → slice_get held p ≡ Some f
+within : (es : Entries) (frames held : List Frame) (p : ℕ) (f : Frame) → length frames ≡ length es → frames ≡ held
+    → slice_get held p ≡ Some f
     → p < length es
 within es frames held p f long same at =
     let lt = slice_get_within held p f at in
@@ -30,14 +32,20 @@ within es frames held p f long same at =
 pub invariant_of-self-in_err-insert : goal.invariant_of-self-in_err-insert
 invariant_of-self-in_err-insert c =
     let i = c.self.inside in
-    rw c.reserve.ensures.items
-    (draft_same i.prelude i.places c.insert.new.self i.frames.items i.notes.items i.entries.items c.in_err-insert.ensures.err c.self.invariant.0, c.self.invariant.1, c.self.invariant.2, c.self.invariant.3)
+    rw c.reserve.ensures.items (
+      draft_same i.prelude i.places c.insert.new.self i.frames.items i.notes.items i.entries.items c.in_err-insert.ensures.err
+          c.self.invariant.0,
+      c.self.invariant.1,
+      c.self.invariant.2,
+      c.self.invariant.3,
+    )
 
 pub index_mut-requires : goal.index_mut-requires
 index_mut-requires c =
     let i = c.self.inside in
     let frames = ap (λ (d : Drafted). d.frames) c.self.view_is in
-    let lt = within i.entries.items i.frames.items c.args.self.now.frames c.args.place _ c.self.invariant.0.framed.long frames c.requires.framed in
+    let lt = within i.entries.items i.frames.items c.args.self.now.frames c.args.place _ c.self.invariant.0.framed.long frames
+    c.requires.framed in
     let all : i.entries.len ≡ length i.entries.items = search rules in
     omega arith
 
@@ -86,7 +94,8 @@ put c =
     let at = stood es p c.index_mut.result.now c.replace-former.result lt c.index_mut.ensures.value c.replace-former.ensures.value in
     let free : has (living es) w ≡ false = subst (λ l. has (living l) w ≡ false) (sym held) c.requires.free in
     let framed : slice_get i.frames.items p ≡ Some (frame t new.assertion) =
-    subst (λ fs. slice_get fs p ≡ Some (frame t new.assertion)) (sym frames) (subst (λ y. slice_get c.args.self.now.frames p ≡ Some (frame y new.assertion)) (sym table) c.requires.framed) in
+    subst (λ fs. slice_get fs p ≡ Some (frame t new.assertion)) (sym frames)
+    (subst (λ y. slice_get c.args.self.now.frames p ≡ Some (frame y new.assertion)) (sym table) c.requires.framed) in
     let own : (e : Ranked) → Some new ≡ Some e → slice_get i.frames.items p ≡ Some (frame t e.assertion) = λ e is.
     let same : new ≡ e = cc in
     framed ∙ ap (λ (x : Ranked). Some (frame t x.assertion)) same in
@@ -97,7 +106,8 @@ put c =
     let one = count-into es p c.replace-former.result new c.is_none.result at c.is_none.ensures in
     let count = c.self.invariant.1.now_right in
     let bit = c.from.ensures in
-    draft_noted t m n i.frames.items i.notes.items c.push_reserved.new.self.items es _ p c.replace-former.result (Some new) i.count (i.count + c.from.result) i.start_count c.self.invariant.0 c.self.invariant.1 at own (free-alone es w p free) puts noted
+    draft_noted t m n i.frames.items i.notes.items c.push_reserved.new.self.items es _ p c.replace-former.result (Some new) i.count
+    (i.count + c.from.result) i.start_count c.self.invariant.0 c.self.invariant.1 at own (free-alone es w p free) puts noted
     (ap (set es p) c.replace-former.ensures.after) (omega arith)
 
 pub invariant_of-self-2 : goal.invariant_of-self-2
@@ -114,7 +124,11 @@ invariant_of-self-2 c =
 pub returns-clause-kept : goal.returns-clause-kept
 returns-clause-kept c =
     let r = put c in
-    record { setting = ap (λ (d : Drafted). d.setting) c.self.view_is; start = ap living r.2 ∙ ap (λ (d : Drafted). d.start) c.self.view_is }
+    record {
+      setting = ap (λ (d : Drafted). d.setting) c.self.view_is;
+      start =
+          ap living r.2 ∙ ap (λ (d : Drafted). d.start) c.self.view_is;
+    }
 
 pub returns-clause-done : goal.returns-clause-done
 returns-clause-done c =

@@ -48,14 +48,17 @@ replace-requires-clause-covered c =
     let new = c.args.new.now in
     let held = c.as_slice.ensures.value ∙ ap (λ (x : Drafted). x.entries) c.self.view_is in
     let at : StandsIn d.entries p x = subst (λ l. StandsIn l p x) held c.in-Some.ensures.some in
-    let covers : Covers d.citers d.entries = subst (λ (y : Drafted). Covers y.citers y.entries) c.self.view_is c.self.invariant.3.covers_now in
-    let index : IsIndex c.self.inside.places d.entries = subst (λ (y : Drafted). IsIndex c.self.inside.places y.entries) c.self.view_is c.self.invariant.0.indexed in
+    let covers : Covers d.citers d.entries = subst (λ (y : Drafted). Covers y.citers y.entries) c.self.view_is
+    c.self.invariant.3.covers_now in
+    let index : IsIndex c.self.inside.places d.entries =
+    subst (λ (y : Drafted). IsIndex c.self.inside.places y.entries) c.self.view_is c.self.invariant.0.indexed in
     let there = c.requires.1 in
     let made = c.in_ok-recited.ensures ∙ ap (λ w. citing w new x) c.as_slice-3.ensures in
     rw made (covers-replaced d.citers d.entries p (citing old new x) covers x at refl (λ r e at_r here.
     elim (cites-renamed old new (label_of e) x here) [
       | inl own ↦
-          let place = one-place c.self.inside.places d.entries r c.requires.0 e there.entry index at_r there.at (own ∙ sym there.labelled) in
+          let place = one-place c.self.inside.places d.entries r c.requires.0 e there.entry index at_r there.at
+          (own ∙ sym there.labelled) in
           subst (λ k. IsCiter d.citers k p) (sym place) c.requires.2
       | inr before ↦ covers.listed r p e x at_r at before
     ]))

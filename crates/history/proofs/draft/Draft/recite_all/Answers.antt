@@ -35,10 +35,12 @@ loop-place-preserved c =
     let now = c.recite.new.self in
     let done : now.entries ≡ changed_at q f x.self.entries = c.in_ok-recite.ensures.done in
     record {
-      renamed = ap (changed_each (drop (x.place-index + 1) qs) f) done ∙ ap (λ l. changed_each l f x.self.entries) (sym left) ∙ x.invariant.renamed;
+      renamed = ap (changed_each (drop (x.place-index + 1) qs) f) done ∙ ap (λ l. changed_each l f x.self.entries) (sym left)
+          ∙ x.invariant.renamed;
       listed = (
         l.0,
-        subst (λ (es : Entries). StandsAt es c.args.new.now l.0) (sym done) (stands-changed f x.self.entries c.args.new.now l.0 q (λ e. refl) l.1),
+        subst (λ (es : Entries). StandsAt es c.args.new.now l.0) (sym done)
+            (stands-changed f x.self.entries c.args.new.now l.0 q (λ e. refl) l.1),
         λ r at. subst (λ k. IsCiter k l.0 r) (sym c.in_ok-recite.ensures.citers) (l.2 r at),
       );
       kept = kept_on c.args.self.now x.self now x.invariant.kept c.in_ok-recite.ensures.kept;

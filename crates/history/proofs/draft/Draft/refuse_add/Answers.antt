@@ -15,10 +15,12 @@ returns-then-is_some c =
     let a = c.args.assertion.now in
     let rank = c.args.rank in
     let held = c.as_slice.ensures.value ∙ ap (λ (x : Drafted). x.entries) c.self.view_is in
-    let here = known c.as_slice.result.now d.entries _ a.label _ _ held c.as_slice-label.ensures c.find_label.ensures c.is_some.ensures ∙ c.if-is_some.true in
+    let here = known c.as_slice.result.now d.entries _ a.label _ _ held c.as_slice-label.ensures c.find_label.ensures c.is_some.ensures
+    ∙ c.if-is_some.true in
     let lawful : is_lawful_label d.setting.prelude a.label ≡ true =
     ap (λ (x : Drafted). is_lawful_label x.setting.prelude a.label) (sym c.self.view_is)
-    ∙ ap (is_lawful_label c.self.inside.prelude) (sym c.as_slice-label.ensures) ∙ sym c.is_lawful_label.ensures ∙ c.if-not-is_lawful_label.false in
+    ∙ ap (is_lawful_label c.self.inside.prelude) (sym c.as_slice-label.ensures) ∙ sym c.is_lawful_label.ensures
+    ∙ c.if-not-is_lawful_label.false in
     sym (first-none (bad_rank rank) _ (not_so (rank == 0) reason.BadRank (ne_eqb rank 0 c.if-rank-eq0.false))
     ∙ first-none (bad_label d.setting a.label) _ (not_so (not (is_lawful_label d.setting.prelude a.label)) reason.BadLabel (ap not lawful))
     ∙ first-some (label_taken (now_in d) a.label) _ reason.LabelTaken (so (has (now_in d) a.label) reason.LabelTaken here))

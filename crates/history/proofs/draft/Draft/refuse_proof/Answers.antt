@@ -25,9 +25,11 @@ passed s slice held rank steps a u v o same own known no_unknown below no_above 
     let first : list_any (is_of_unknown lib) a.proof ≡ false =
     sym (known ∙ ap (λ l. list_any (is_of_unknown (living l)) steps) same ∙ ap (list_any (is_of_unknown lib)) own) ∙ no_unknown in
     let second : list_any (cites_not_below lib rank) a.proof ≡ false =
-    sym (below ∙ ap (λ l. list_any (cites_not_below (living l) rank) steps) same ∙ ap (list_any (cites_not_below lib rank)) own) ∙ no_above in
+    sym (below ∙ ap (λ l. list_any (cites_not_below (living l) rank) steps) same ∙ ap (list_any (cites_not_below lib rank)) own)
+    ∙ no_above in
     fault ∙ ap (λ l. proof_fails s (living l) rank a) same ∙ only (proof_fails s lib rank a)
-    ∙ sym (first-none (cites_unknown lib a.proof) _ (not_so _ reason.CitesUnknown first) ∙ first-none (cited_not_lower lib rank a.proof) _ (not_so _ reason.CitedNotLower second))
+    ∙ sym (first-none (cites_unknown lib a.proof) _ (not_so _ reason.CitesUnknown first)
+    ∙ first-none (cited_not_lower lib rank a.proof) _ (not_so _ reason.CitedNotLower second))
   where
     only : (t : Option Reason) → t ≡ first_reason (t ∷ [])
     only None = refl
@@ -39,9 +41,11 @@ returns-in-Some c =
     let i = c.self.inside in
     let a = c.args.assertion.now in
     let held = c.as_slice-entries.ensures.value ∙ ap (λ (x : Drafted). x.entries) c.self.view_is in
-    let fault = c.in_ok-fault.ensures i.slots ∙ ap (λ (x : Drafted). proof_fails x.setting (living c.as_slice-entries.result.now) c.args.rank a) c.self.view_is in
+    let fault = c.in_ok-fault.ensures i.slots ∙ ap (λ (x : Drafted). proof_fails x.setting
+    (living c.as_slice-entries.result.now) c.args.rank a) c.self.view_is in
     ap (option_map reason.ProofFails) (sym c.in-Some.is)
-    ∙ passed d.setting c.as_slice-entries.result.now d.entries c.args.rank c.as_slice-steps.result.now a _ _ c.in_ok-fault.fault held c.as_slice-steps.ensures c.cites_unknown.ensures c.if-cites_unknown.false c.cites_not_below.ensures c.if-cites_not_below.false fault
+    ∙ passed d.setting c.as_slice-entries.result.now d.entries c.args.rank c.as_slice-steps.result.now a _ _ c.in_ok-fault.fault held
+    c.as_slice-steps.ensures c.cites_unknown.ensures c.if-cites_unknown.false c.cites_not_below.ensures c.if-cites_not_below.false fault
 
 pub returns-in-None : goal.returns-in-None
 returns-in-None c =
@@ -49,6 +53,8 @@ returns-in-None c =
     let i = c.self.inside in
     let a = c.args.assertion.now in
     let held = c.as_slice-entries.ensures.value ∙ ap (λ (x : Drafted). x.entries) c.self.view_is in
-    let fault = c.in_ok-fault.ensures i.slots ∙ ap (λ (x : Drafted). proof_fails x.setting (living c.as_slice-entries.result.now) c.args.rank a) c.self.view_is in
+    let fault = c.in_ok-fault.ensures i.slots ∙ ap (λ (x : Drafted). proof_fails x.setting
+    (living c.as_slice-entries.result.now) c.args.rank a) c.self.view_is in
     ap (option_map reason.ProofFails) (sym c.in-None.is)
-    ∙ passed d.setting c.as_slice-entries.result.now d.entries c.args.rank c.as_slice-steps.result.now a _ _ c.in_ok-fault.fault held c.as_slice-steps.ensures c.cites_unknown.ensures c.if-cites_unknown.false c.cites_not_below.ensures c.if-cites_not_below.false fault
+    ∙ passed d.setting c.as_slice-entries.result.now d.entries c.args.rank c.as_slice-steps.result.now a _ _ c.in_ok-fault.fault held
+    c.as_slice-steps.ensures c.cites_unknown.ensures c.if-cites_unknown.false c.cites_not_below.ensures c.if-cites_not_below.false fault

@@ -37,7 +37,8 @@ removed c =
     let noted = c.push_reserved.ensures.items ∙ ap (λ ks. ks ++ note ∷ []) c.reserve.ensures.items in
     let one = count-removed es p was stands in
     let count = c.self.invariant.1.now_right in
-    draft_noted i.prelude m m i.frames.items i.notes.items c.push_reserved.new.self.items es _ p c.take-former.result None i.count (i.count - 1) i.start_count c.self.invariant.0 c.self.invariant.1 at (λ e is. absurd cc) tt (λ q. refl) noted
+    draft_noted i.prelude m m i.frames.items i.notes.items c.push_reserved.new.self.items es _ p c.take-former.result None i.count
+    (i.count - 1) i.start_count c.self.invariant.0 c.self.invariant.1 at (λ e is. absurd cc) tt (λ q. refl) noted
     (ap (set es p) c.take-former.ensures.after) (omega arith)
 
 pub overflow_sub-self : goal.overflow_sub-self
@@ -62,4 +63,8 @@ invariant_of-self-2 c =
 pub returns-clause-kept : goal.returns-clause-kept
 returns-clause-kept c =
     let r = removed c in
-    record { setting = ap (λ (d : Drafted). d.setting) c.self.view_is; start = ap living r.2 ∙ ap (λ (d : Drafted). d.start) c.self.view_is }
+    record {
+      setting = ap (λ (d : Drafted). d.setting) c.self.view_is;
+      start =
+          ap living r.2 ∙ ap (λ (d : Drafted). d.start) c.self.view_is;
+    }

@@ -13,7 +13,8 @@ use Rattle.history.specs.Drafts.{Drafted, now_in, with_label, citing, changed_al
 use Rattle.history.proofs.Covering.{covers-fresh, all-relabelled}
 use Rattle.history.proofs.Changing.{get-set_same}
 use Rattle.history.proofs.Known.{verified-uncited}
-use Rattle.history.proofs.Commands.{tested_some, tested_none, so, not_so, first-some, first-none, HasLabel, has_label, has_own, known, library-renamed}
+use Rattle.history.proofs.Commands.{tested_some, tested_none, so, not_so, first-some, first-none, HasLabel, has_label, has_own, known}
+use Rattle.history.proofs.Commands.{library-renamed}
 use Rattle.history.proofs.draft.Draft.rename.Goals as goal
 
 pub returns-then-not-is_lawful_label-clause-taken : goal.returns-then-not-is_lawful_label-clause-taken
@@ -28,7 +29,8 @@ returns-then-not-is_lawful_label-clause-taken c =
     let e = c.in-Some.entry.now in
     let p = c.in-Some.place in
     let own : HasLabel i.places d.entries w p e =
-    has_label i.places i.entries.items d.entries c.as_slice.result.now c.as_slice-2.result.now w p e c.self.invariant.0.indexed held slice at.0 at.1 c.as_slice-2.ensures in
+    has_label i.places i.entries.items d.entries c.as_slice.result.now c.as_slice-2.result.now w p e c.self.invariant.0.indexed held slice
+    at.0 at.1 c.as_slice-2.ensures in
     let new = c.args.new.now in
     let lawful : is_lawful_label d.setting.prelude new ≡ false =
     ap (λ (x : Drafted). is_lawful_label x.setting.prelude new) (sym c.self.view_is)
@@ -50,7 +52,8 @@ returns-then-is_some-clause-taken c =
     let e = c.in-Some.entry.now in
     let p = c.in-Some.place in
     let own : HasLabel i.places d.entries w p e =
-    has_label i.places i.entries.items d.entries c.as_slice.result.now c.as_slice-2.result.now w p e c.self.invariant.0.indexed held slice at.0 at.1 c.as_slice-2.ensures in
+    has_label i.places i.entries.items d.entries c.as_slice.result.now c.as_slice-2.result.now w p e c.self.invariant.0.indexed held slice
+    at.0 at.1 c.as_slice-2.ensures in
     let new = c.args.new.now in
     let lawful : is_lawful_label d.setting.prelude new ≡ true =
     ap (λ (x : Drafted). is_lawful_label x.setting.prelude new) (sym c.self.view_is)
@@ -58,7 +61,8 @@ returns-then-is_some-clause-taken c =
     let there = not_so (not (has lib w)) reason.UnknownLabel (ap not (has_own i.places d.entries w p e own)) in
     let good = not_so (not (is_lawful_label d.setting.prelude new)) reason.BadLabel (ap not lawful) in
     let here : has lib new ≡ true =
-    known c.as_slice-4.result.now d.entries c.as_slice-5.result.now new c.find_label.result c.is_some.result (c.as_slice-4.ensures.value ∙ held) c.as_slice-5.ensures c.find_label.ensures c.is_some.ensures
+    known c.as_slice-4.result.now d.entries c.as_slice-5.result.now new c.find_label.result c.is_some.result
+    (c.as_slice-4.ensures.value ∙ held) c.as_slice-5.ensures c.find_label.ensures c.is_some.ensures
     ∙ c.if-is_some.true in
     let first =
     first-none (unknown_label lib w) _ there ∙ first-none (bad_label d.setting new) _ good
@@ -77,7 +81,8 @@ put-requires-clause-framed c =
     let e = c.in-Some.entry.now in
     let p = c.in-Some.place in
     let own : HasLabel i.places d.entries w p e =
-    has_label i.places i.entries.items d.entries c.as_slice.result.now c.as_slice-2.result.now w p e c.self.invariant.0.indexed held slice at.0 at.1 c.as_slice-2.ensures in
+    has_label i.places i.entries.items d.entries c.as_slice.result.now c.as_slice-2.result.now w p e c.self.invariant.0.indexed held slice
+    at.0 at.1 c.as_slice-2.ensures in
     let stands : StandsIn i.entries.items p e = subst (λ l. StandsIn l p e) slice at.0 in
     let framed = c.self.invariant.0.framed.framed p e stands in
     ap (λ (x : Drafted). slice_get x.frames p) (sym c.self.view_is) ∙ framed
@@ -96,7 +101,8 @@ citers_of-requires c =
     let e = c.in-Some.entry.now in
     let p = c.in-Some.place in
     let own : HasLabel i.places d.entries w p e =
-    has_label i.places i.entries.items d.entries c.as_slice.result.now c.as_slice-2.result.now w p e c.self.invariant.0.indexed held slice at.0 at.1 c.as_slice-2.ensures in
+    has_label i.places i.entries.items d.entries c.as_slice.result.now c.as_slice-2.result.now w p e c.self.invariant.0.indexed held slice
+    at.0 at.1 c.as_slice-2.ensures in
     let new = c.args.new.now in
     (e, own.at)
 
@@ -112,12 +118,15 @@ put-requires-clause-covered c =
     let e = c.in-Some.entry.now in
     let p = c.in-Some.place in
     let own : HasLabel i.places d.entries w p e =
-    has_label i.places i.entries.items d.entries c.as_slice.result.now c.as_slice-2.result.now w p e c.self.invariant.0.indexed held slice at.0 at.1 c.as_slice-2.ensures in
+    has_label i.places i.entries.items d.entries c.as_slice.result.now c.as_slice-2.result.now w p e c.self.invariant.0.indexed held slice
+    at.0 at.1 c.as_slice-2.ensures in
     let new = c.args.new.now in
     let free : has lib new ≡ false =
-    known c.as_slice-4.result.now d.entries c.as_slice-5.result.now new c.find_label.result c.is_some.result (c.as_slice-4.ensures.value ∙ held) c.as_slice-5.ensures c.find_label.ensures c.is_some.ensures
+    known c.as_slice-4.result.now d.entries c.as_slice-5.result.now new c.find_label.result c.is_some.result
+    (c.as_slice-4.ensures.value ∙ held) c.as_slice-5.ensures c.find_label.ensures c.is_some.ensures
     ∙ c.if-is_some.false in
-    let covers : Covers d.citers d.entries = subst (λ (x : Drafted). Covers x.citers x.entries) c.self.view_is c.self.invariant.3.covers_now in
+    let covers : Covers d.citers d.entries = subst (λ (x : Drafted). Covers x.citers x.entries) c.self.view_is
+    c.self.invariant.3.covers_now in
     rw c.in_ok-renamed.ensures
     (covers-fresh d.citers d.entries p (with_label new e) covers (verified-uncited d.setting d.entries new c.requires free)
     (verified-uncited d.setting d.entries new c.requires free p e own.at)
@@ -135,7 +144,8 @@ recite_all-requires-clause-all c =
     let e = c.in-Some.entry.now in
     let p = c.in-Some.place in
     let own : HasLabel i.places d.entries w p e =
-    has_label i.places i.entries.items d.entries c.as_slice.result.now c.as_slice-2.result.now w p e c.self.invariant.0.indexed held slice at.0 at.1 c.as_slice-2.ensures in
+    has_label i.places i.entries.items d.entries c.as_slice.result.now c.as_slice-2.result.now w p e c.self.invariant.0.indexed held slice
+    at.0 at.1 c.as_slice-2.ensures in
     let new = c.args.new.now in
     let same : c.as_slice-6.result.now ≡ c.citers_of.result.now = c.as_slice-6.ensures.value ∙ c.in_ok-citers.ensures.items in
     let now = c.in_ok-put.ensures.done.entries ∙ ap (λ (x : Ranked). set d.entries p (Some x)) c.in_ok-renamed.ensures in
@@ -155,7 +165,8 @@ recite_all-requires-clause-listed c =
     let e = c.in-Some.entry.now in
     let p = c.in-Some.place in
     let own : HasLabel i.places d.entries w p e =
-    has_label i.places i.entries.items d.entries c.as_slice.result.now c.as_slice-2.result.now w p e c.self.invariant.0.indexed held slice at.0 at.1 c.as_slice-2.ensures in
+    has_label i.places i.entries.items d.entries c.as_slice.result.now c.as_slice-2.result.now w p e c.self.invariant.0.indexed held slice
+    at.0 at.1 c.as_slice-2.ensures in
     let new = c.args.new.now in
     let same : c.as_slice-6.result.now ≡ c.citers_of.result.now = c.as_slice-6.ensures.value ∙ c.in_ok-citers.ensures.items in
     let now = c.in_ok-put.ensures.done.entries ∙ ap (λ (x : Ranked). set d.entries p (Some x)) c.in_ok-renamed.ensures in
@@ -182,7 +193,8 @@ returns-clause-taken c =
     let e = c.in-Some.entry.now in
     let p = c.in-Some.place in
     let own : HasLabel i.places d.entries w p e =
-    has_label i.places i.entries.items d.entries c.as_slice.result.now c.as_slice-2.result.now w p e c.self.invariant.0.indexed held slice at.0 at.1 c.as_slice-2.ensures in
+    has_label i.places i.entries.items d.entries c.as_slice.result.now c.as_slice-2.result.now w p e c.self.invariant.0.indexed held slice
+    at.0 at.1 c.as_slice-2.ensures in
     let new = c.args.new.now in
     let lawful : is_lawful_label d.setting.prelude new ≡ true =
     ap (λ (x : Drafted). is_lawful_label x.setting.prelude new) (sym c.self.view_is)
@@ -190,7 +202,8 @@ returns-clause-taken c =
     let there = not_so (not (has lib w)) reason.UnknownLabel (ap not (has_own i.places d.entries w p e own)) in
     let good = not_so (not (is_lawful_label d.setting.prelude new)) reason.BadLabel (ap not lawful) in
     let here : has lib new ≡ false =
-    known c.as_slice-4.result.now d.entries c.as_slice-5.result.now new c.find_label.result c.is_some.result (c.as_slice-4.ensures.value ∙ held) c.as_slice-5.ensures c.find_label.ensures c.is_some.ensures
+    known c.as_slice-4.result.now d.entries c.as_slice-5.result.now new c.find_label.result c.is_some.result
+    (c.as_slice-4.ensures.value ∙ held) c.as_slice-5.ensures c.find_label.ensures c.is_some.ensures
     ∙ c.if-is_some.false in
     let first =
     first-none (unknown_label lib w) _ there ∙ first-none (bad_label d.setting new) _ good

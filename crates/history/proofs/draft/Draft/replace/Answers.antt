@@ -49,7 +49,8 @@ replaced c =
     ∙ ap (λ x. Some x) (sym c.replace-former.ensures.value) in
     let note : Note = record { place = p; former = c.replace-former.result } in
     let noted = c.push_reserved.ensures.items ∙ ap (λ ks. ks ++ note ∷ []) c.reserve.ensures.items in
-    draft_noted t m m i.frames.items i.notes.items c.push_reserved.new.self.items es _ p c.replace-former.result (Some new) i.count i.count i.start_count c.self.invariant.0 c.self.invariant.1 at own alone puts noted
+    draft_noted t m m i.frames.items i.notes.items c.push_reserved.new.self.items es _ p c.replace-former.result
+    (Some new) i.count i.count i.start_count c.self.invariant.0 c.self.invariant.1 at own alone puts noted
     (ap (set es p) c.replace-former.ensures.after) (c.self.invariant.1.now_right ∙ sym (count-changed es p was new stands))
 
 pub invariant_of-self-2 : goal.invariant_of-self-2
@@ -66,4 +67,8 @@ invariant_of-self-2 c =
 pub returns-clause-kept : goal.returns-clause-kept
 returns-clause-kept c =
     let r = replaced c in
-    record { setting = ap (λ (d : Drafted). d.setting) c.self.view_is; start = ap living r.2 ∙ ap (λ (d : Drafted). d.start) c.self.view_is }
+    record {
+      setting = ap (λ (d : Drafted). d.setting) c.self.view_is;
+      start =
+          ap living r.2 ∙ ap (λ (d : Drafted). d.start) c.self.view_is;
+    }

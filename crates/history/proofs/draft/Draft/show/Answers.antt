@@ -28,7 +28,8 @@ returns c =
     let e = c.in-Some.entry.now in
     let p = c.in-Some.place in
     let own : HasLabel i.places d.entries w p e =
-    has_label i.places i.entries.items d.entries c.as_slice-entries.result.now c.as_slice.result.now w p e c.self.invariant.0.indexed held slice found.0 found.1 c.as_slice.ensures in
+    has_label i.places i.entries.items d.entries c.as_slice-entries.result.now c.as_slice.result.now w p e c.self.invariant.0.indexed held
+    slice found.0 found.1 c.as_slice.ensures in
     let count : c.count_citers-citers.result ≡ citers lib w =
     c.count_citers-citers.ensures ∙ ap (citers lib) c.as_slice-2.ensures in
     known_label i.places d.entries w p e _ own

@@ -1,4 +1,5 @@
-use Rattle.std.proofs.Common.{◌≡◌, ℕ, suc, ◌+◌, ◌<◌, List, [], ◌∷◌, ◌++◌, Ok, length, get_or, drop, sym, ap, subst, ◌∙◌, rules, arith, drop-cons}
+use Rattle.std.proofs.Common.{◌≡◌, ℕ, suc, ◌+◌, ◌<◌, List, [], ◌∷◌, ◌++◌, Ok, length, get_or, drop, sym, ap, subst, ◌∙◌, rules, arith}
+use Rattle.std.proofs.Common.{drop-cons}
 use Rattle.std.proofs.Math.ListN.{drop_of_length-le}
 use Rattle.std.proofs.lemmas.Result.{err_from_is_err_and}
 use Rattle.library.specs.declared.command.Command.{Command}
@@ -27,7 +28,8 @@ returns-in_err-reply-clause-taken c =
     let so_far =
     x.invariant.so_far ∙ ap (λ ds. with_replies x.replies.items (apply_from x.self.setting (x.i + 1) (now_in x.self) ds)) left in
     let p = err_from_is_err_and c.from_residual.result c.from_residual.ensures.1 in
-    rw (p.1, p.2) (error_ends c.args.self.now x.self c.take.new.self c.take.new.self (x.i + 1) command (drop (x.i + 1) cs) cs x.replies.items c.in_err-reply.field-0.0 so_far c.in_err-reply.ensures.taken)
+    rw (p.1, p.2) (error_ends c.args.self.now x.self c.take.new.self c.take.new.self (x.i + 1) command
+    (drop (x.i + 1) cs) cs x.replies.items c.in_err-reply.field-0.0 so_far c.in_err-reply.ensures.taken)
 
 pub loop-i-preserved : goal.loop-i-preserved
 loop-i-preserved c =
@@ -61,6 +63,7 @@ pub returns-clause-taken : goal.returns-clause-taken
 returns-clause-taken c =
     let x = c.loop-i in
     let cs = c.args.commands.now in
-    x.invariant.so_far ∙ ap (λ ds. with_replies x.replies.items (apply_from x.self.setting (x.i + 1) (now_in x.self) ds)) (drop_of_length-le cs c.loop-i-test.false)
+    x.invariant.so_far ∙ ap (λ ds. with_replies x.replies.items (apply_from x.self.setting (x.i + 1) (now_in x.self) ds))
+    (drop_of_length-le cs c.loop-i-test.false)
     ∙ taken_all x.self.setting (x.i + 1) (now_in x.self) x.replies.items
     ∙ ap (λ (rs : List Reply). Ok (record { library = now_in x.self; replies = rs })) (sym c.from_vec.ensures)

@@ -11,5 +11,6 @@ invariant-loop-i l =
     record {
       verifies : Verifies l.self.setting (now_in l.self);
       kept : KeepsStart l.initial.self l.self;
-      so_far : apply l.initial.self.setting (now_in l.initial.self) l.commands ≡ with_replies l.replies.items (apply_from l.self.setting (l.i + 1) (now_in l.self) (drop l.i l.commands));
+      so_far : apply l.initial.self.setting (now_in l.initial.self) l.commands
+          ≡ with_replies l.replies.items (apply_from l.self.setting (l.i + 1) (now_in l.self) (drop l.i l.commands));
     }

@@ -26,9 +26,11 @@ invariant_of-self c =
     let left = c.drop_notes.new.notes.items in
     let none = c.drop_notes.ensures.empty in
     let same = count ∙ ap (λ l. length (living l)) (sym is) in (
-      draft_settled i.prelude m i.frames.items left _ none (subst (IsIndex m) read c.drop_notes.ensures.indexed) (subst (λ l. HasOnly m l []) read c.drop_notes.ensures.only) (subst (λ l. AreFramed i.prelude l i.frames.items) (sym is) framed),
+      draft_settled i.prelude m i.frames.items left _ none (subst (IsIndex m) read c.drop_notes.ensures.indexed)
+          (subst (λ l. HasOnly m l []) read c.drop_notes.ensures.only) (subst (λ l. AreFramed i.prelude l i.frames.items) (sym is) framed),
       counted_settled i.start_count i.start_count left _ none same same,
       c.self.invariant.2,
-      citers_settled i.citers.items left _ none (c.self.invariant.3.long ∙ sym (length-undone ns es) ∙ ap length (sym is)) c.self.invariant.3.ascending
+      citers_settled i.citers.items left _ none (c.self.invariant.3.long ∙ sym (length-undone ns es) ∙ ap length (sym is))
+          c.self.invariant.3.ascending
           (subst (Covers i.citers.items) (sym is) c.self.invariant.3.covers_start),
     )

@@ -15,4 +15,5 @@ invariant_of-self c =
     let fit = subst (λ (h : Held). All (CommandFits h.setting.prelude) cs) (sym c.self.view_is) c.requires in
     let old = c.self.inside.draft in
     let now = c.take_all.new.self in
-    done_settles old now c.settle.new.self cs c.in-Ok.replies c.self.invariant fit c.in-Ok.ensures.taken c.in-Ok.ensures.kept c.settle.ensures
+    done_settles old now c.settle.new.self cs c.in-Ok.replies c.self.invariant fit c.in-Ok.ensures.taken c.in-Ok.ensures.kept
+    c.settle.ensures
