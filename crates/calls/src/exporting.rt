@@ -2,7 +2,7 @@
 
 use crate::shared::{library, mini};
 use export::{ExportError, export};
-use std::alloc::{AllocGlobal, Global};
+use std::alloc::{AllocError, AllocGlobal, Global};
 use std::io;
 use std::io::{ErrorKind, Write};
 use std::random::RandomSource;
@@ -17,6 +17,7 @@ struct Slow {
     calls: usize,
     /// The number of the call that fails, counted from 1. 0: none fails.
     fails_at: usize,
+    flushes: usize,
 }
 
 impl Slow {
@@ -26,6 +27,7 @@ impl Slow {
             most,
             calls: 0,
             fails_at,
+            flushes: 0,
         }
     }
 }
@@ -42,45 +44,71 @@ impl Write for Slow {
     }
 
     fn flush(&mut self) -> io::Result<()> {
+        self.flushes = self.flushes.saturating_add(1);
         Ok(())
     }
 }
 
-/// What the export of `mini` answers, what the writer then holds, and how often it was called.
+/// What the export of a text's library answers, and the writer behind it.
 fn exported(
     rt: &(impl AllocGlobal + RandomSource + Threads + Sync),
+    text: &[u8],
     most: usize,
     fails_at: usize,
-) -> Result<(Result<(), ExportError>, Vec<u8>, usize), Fail> {
-    let library = library(rt, mini())?;
+) -> Result<(Result<(), ExportError>, Slow), Fail> {
+    let library = library(rt, text)?;
     let mut writer = Slow::new(rt.alloc(), most, fails_at);
     let answer = export(rt.alloc(), &library, &mut writer);
-    Ok((answer, writer.held, writer.calls))
+    Ok((answer, writer))
 }
 
 #[test]
-fn the_third_call_fails(rt: HostRuntime) -> Result<(), Fail> {
-    let (answer, held, calls) = exported(&rt, 7, 3)?;
+fn nothing_is_called_behind_an_error(rt: HostRuntime) -> Result<(), Fail> {
+    let (answer, writer) = exported(&rt, mini(), 7, 3)?;
     assert_eq!(rt; answer, Err(ExportError::Write { written: 14 }));
-    assert_eq!(rt; Some(held.as_slice()), mini().get(..14));
-    assert_eq!(rt; calls, 3);
+    assert_eq!(rt; Some(writer.held.as_slice()), mini().get(..14));
+    assert_eq!(rt; (writer.calls, writer.flushes), (3, 0));
     Ok(())
 }
 
 #[test]
 fn nothing_is_taken(rt: HostRuntime) -> Result<(), Fail> {
-    let (answer, held, calls) = exported(&rt, 0, 0)?;
+    let (answer, writer) = exported(&rt, mini(), 0, 0)?;
     assert_eq!(rt; answer, Err(ExportError::Write { written: 0 }));
-    assert!(rt; held.is_empty() && calls == 1);
+    assert!(rt; writer.held.is_empty());
+    assert_eq!(rt; (writer.calls, writer.flushes), (1, 0));
     Ok(())
 }
 
 #[test]
 fn one_byte_a_call_is_taken(rt: HostRuntime) -> Result<(), Fail> {
-    let (answer, held, calls) = exported(&rt, 1, 0)?;
+    let (answer, writer) = exported(&rt, mini(), 1, 0)?;
     assert_eq!(rt; answer, Ok(()));
-    assert_eq!(rt; held.as_slice(), mini());
-    assert_eq!(rt; calls, 23);
+    assert_eq!(rt; writer.held.as_slice(), mini());
+    assert_eq!(rt; (writer.calls, writer.flushes), (23, 0));
+    Ok(())
+}
+
+/// A constant of 16 bytes, and an axiom of 65,535 symbols, in the canonical layout: 27 bytes, and 13 beside 65,534 times 17.
+fn long(alloc: Global) -> Result<Vec<u8>, AllocError> {
+    let mut text = Vec::new(alloc);
+    text.extend_from_slice(b"$c wff 0123456789abcdef $.\nax $a wff")?;
+    for _ in 0..65_534 {
+        text.extend_from_slice(b" 0123456789abcdef")?;
+    }
+    text.extend_from_slice(b" $.\n")?;
+    Ok(text)
+}
+
+#[test]
+fn a_megabyte_is_taken(rt: HostRuntime) -> Result<(), Fail> {
+    let text = long(rt.alloc())?;
+    let (answer, writer) = exported(&rt, &text, 4_096, 0)?;
+    assert_eq!(rt; answer, Ok(()));
+    assert_eq!(rt; writer.held.len(), 1_114_118);
+    // 272 times 4,096 bytes, and 6.
+    assert_eq!(rt; (writer.calls, writer.flushes), (273, 0));
+    assert!(rt; writer.held.as_slice() == text.as_slice());
     Ok(())
 }
 

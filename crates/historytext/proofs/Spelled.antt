@@ -30,9 +30,8 @@ use Rattle.library.specs.declared.command.Reply.TheVariants as reply
 use Rattle.library.specs.declared.history.Entry.{Entry}
 use Rattle.library.specs.declared.history.Entry.TheVariants as entry
 use Rattle.library.specs.declared.library.Ranked.{Ranked}
-use Rattle.library.specs.Fitting.{highest_rank}
 use Rattle.library.specs.Histories.{told, EntriesFit, IsLegal}
-use Rattle.library.specs.Library.{Setting, Verifies}
+use Rattle.library.specs.Library.{highest_rank, Setting, Verifies}
 use Rattle.library.proofs.Naming.{IsLawful, IsSoundCommand, IsSoundLine, IsSoundReply, IsSoundTurn, legal_sound}
 use Rattle.commands.specs.Scripts.{IsPlain, IsRank, SpellsCommand, SpellsEach, SpellsTransaction}
 use Rattle.historytext.specs.Grammar.{highest_count, IsCount, kind_word, SpellsLine, SpellsReply, SpellsEntry, SpellsHistory}

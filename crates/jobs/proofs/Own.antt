@@ -1,6 +1,7 @@
 -- What the program answers to its own texts: `ok` to an export, and its library to the history of a run.
 use Rattle.std.proofs.Common.{◌≡◌, ◌≢◌, ◌∙◌, zero, suc, ◌≤◌, List, Result, Ok, Err, length, map, take, refl, sym, ap, subst, arith}
-use Rattle.std.specs.Prelude.{IfOk, IfErr}
+use Rattle.std.specs.Prelude.{IfOk, IfErr, String, string_bytes}
+use Rattle.std.specs.declared.alloc.Global.{Global}
 use Rattle.std.proofs.lemmas.List.{take_all}
 use Rattle.mmtext.specs.declared.fault.TextFault.{TextFault}
 use Rattle.mmtext.proofs.TextLaws.{spells_one, spells_without_fault}
@@ -15,11 +16,14 @@ use Rattle.historytext.proofs.HistoryLaws.{history_grammar}
 use Rattle.jobs.specs.declared.job.Job.{Job}
 use Rattle.jobs.specs.declared.job.Job.TheVariants.{Check, Run, Replay}
 use Rattle.jobs.specs.declared.job.Printed.{Printed}
+use Rattle.jobs.specs.declared.answering.Answered.TheVariants.{Refused}
 use Rattle.jobs.specs.declared.job.Fault.{Fault}
 use Rattle.jobs.specs.declared.job.Fault.TheVariants.{Text, Proof, Differs, NoMemory}
 use Rattle.jobs.specs.Outcomes.{setting_of}
 use Rattle.jobs.specs.Jobs.{Bytes, left_by, ok_line, replayed_lines, IsChecked, IsHistory, IsDifference, IsRun, PrintsReplay, IsReplay, DoneAsAsked}
-use Rattle.jobs.specs.Jobs.{IsReplayFault, IsFaultOf, AnswersItsOwn}
+use Rattle.jobs.specs.Jobs.{IsReplayFault, IsFaultOf, AnswersItsOwn, IsPrintedBy}
+use Rattle.jobs.specs.FaultLines.{line_of}
+use Rattle.jobs.specs.Tasks.{IsToldBy}
 use Rattle.jobs.specs.Laws.{RunsHaveNoFaultAgain}
 use Rattle.jobs.proofs.Accepted.{accepted_checks, accepted_faultless, one_database, checked_faultless}
 use Rattle.jobs.proofs.ReplayFaults.{no_difference}
@@ -88,10 +92,10 @@ module _ (db text out : Bytes) (texts : List Bytes) (run : IsRun db texts out te
 pub runs_faultless : RunsHaveNoFaultAgain
 runs_faultless db history texts out f run short h = replay_faultless db.items history.items out texts run short f h
 
--- ---- what is answered
+-- ---- what is answered, and told
 
 pub answers_its_own : (j : Job) (answer : Result Printed Fault) → IfOk answer (DoneAsAsked j)
-    → IfErr answer (λ f. f ≢ NoMemory → IsFaultOf j f) → AnswersItsOwn j answer
+    → IfErr answer (λ f. f ≢ NoMemory → IsFaultOf j f) → AnswersItsOwn j (IsPrintedBy answer)
 answers_its_own (Check db) (Ok printed) done fault =
     λ a short.
     let checked = accepted_checks db.items a short in
@@ -102,3 +106,10 @@ answers_its_own (Replay db history) (Ok printed) done fault =
     λ texts out run short. replay_printed db.items history.items out texts run printed.out.items done.0
 answers_its_own (Replay db history) (Err f) done fault =
     λ texts out run short. memory_alone f (λ ne. replay_faultless db.items history.items out texts run short f (fault ne))
+
+-- the line of a fault is that of want of memory
+pub tells_its_own : (j : Job) (f : Fault) (paths : List Bytes) (line : String Global) → string_bytes line ≡ line_of paths f
+    → AnswersItsOwn j (IsPrintedBy (Err f)) → AnswersItsOwn j (IsToldBy (Refused line))
+tells_its_own (Check db) f paths line told own = λ a short. told ∙ ap (line_of paths) (own a short)
+tells_its_own (Run db texts) f paths line told own = tt
+tells_its_own (Replay db history) f paths line told own = λ texts out run short. told ∙ ap (line_of paths) (own texts out run short)

@@ -140,6 +140,22 @@ DoneAsAsked (Check db) p = IsCheck db.items p.out.items × (p.history.items ≡ 
 DoneAsAsked (Run db texts) p = IsRun db.items (map (λ t. t.items) texts.items) p.out.items p.history.items
 DoneAsAsked (Replay db history) p = IsReplay db.items history.items p.out.items × (p.history.items ≡ [])
 
+-- ---- what the program answers to its own texts
+
+-- of at most 16,777,216 bytes each: to a check of a text that is accepted, as every export is, `ok` is answered; to a replay of the history
+-- that a run over the same database gave, the library of that run
+abbrev pub AnswersItsOwn : Job → (Bytes → Type 0) → Type 0
+AnswersItsOwn (Check db) is_answered = (a : Accepts db.items) → length db.items ≤ 16777216 → is_answered (ok_line a.database)
+AnswersItsOwn (Run db texts) is_answered = Unit {0}
+AnswersItsOwn (Replay db history) is_answered =
+    (texts : List Bytes) (out : Bytes) (run : IsRun db.items texts out history.items) → length history.items ≤ 16777216
+    → is_answered (replayed_lines (length (left_by run.contents run.scripts).entries) run.printed.library)
+
+-- this is printed, unless memory ran out
+abbrev pub IsPrintedBy : Result Printed Fault → Bytes → Type 0
+IsPrintedBy (Ok printed) out = printed.out.items ≡ out
+IsPrintedBy (Err f) out = f ≡ NoMemory
+
 -- ---- faults
 
 -- the fault of the script at a place, where each script before it is read
@@ -197,20 +213,3 @@ IsOrLacksMemory f g = (g ≡ f) ⊎ (g ≡ NoMemory)
 abbrev pub RefusesWith : {A : Type 0} → Fault → Result A Fault → Type 0
 RefusesWith f (Ok done) = ⊥
 RefusesWith f (Err g) = IsOrLacksMemory f g
-
--- ---- what the program answers to its own texts
-
--- this is printed, unless memory ran out
-abbrev pub PrintsOrLacksMemory : Bytes → Result Printed Fault → Type 0
-PrintsOrLacksMemory out (Ok printed) = printed.out.items ≡ out
-PrintsOrLacksMemory out (Err f) = f ≡ NoMemory
-
--- to a check of a text that is accepted, as each export is: `ok`; to a replay of the history that a run over the same database gave: the
--- library of that run. Each has at most 16,777,216 bytes
-abbrev pub AnswersItsOwn : Job → Result Printed Fault → Type 0
-AnswersItsOwn (Check db) answer =
-    (a : Accepts db.items) → length db.items ≤ 16777216 → PrintsOrLacksMemory (ok_line a.database) answer
-AnswersItsOwn (Run db texts) answer = Unit {0}
-AnswersItsOwn (Replay db history) answer =
-    (texts : List Bytes) (out : Bytes) (run : IsRun db.items texts out history.items) → length history.items ≤ 16777216
-    → PrintsOrLacksMemory (replayed_lines (length (left_by run.contents run.scripts).entries) run.printed.library) answer

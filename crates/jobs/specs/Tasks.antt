@@ -47,3 +47,8 @@ Answers paths j (Refused line) =
 abbrev pub IsLineOf : List Bytes → Fault → Answered → Type 0
 IsLineOf paths fault (Done printed) = ⊥
 IsLineOf paths fault (Refused line) = (string_bytes line ≡ line_of paths fault) ⊎ (string_bytes line ≡ fault_text NoMemory)
+
+-- this is printed, unless memory ran out, which is told
+abbrev pub IsToldBy : Answered → Bytes → Type 0
+IsToldBy (Done printed) out = printed.out.items ≡ out
+IsToldBy (Refused line) out = string_bytes line ≡ fault_text NoMemory

@@ -2,8 +2,8 @@
 
 ghost use Rattle.std.specs.Prelude.{◌≡◌, map, IfOk};
 ghost use Rattle.jobs.specs.declared.job.Fault.{Fault as FaultOfJob};
-ghost use Rattle.jobs.specs.Jobs.{IsFaultOf};
-ghost use Rattle.jobs.specs.Tasks.{Answers, IsLineOf};
+ghost use Rattle.jobs.specs.Jobs.{IsFaultOf, AnswersItsOwn};
+ghost use Rattle.jobs.specs.Tasks.{Answers, IsLineOf, IsToldBy};
 
 use crate::job::{Job, Printed};
 use crate::performing::perform;
@@ -36,6 +36,9 @@ pub fn answer(
     ensures answers { IfOk result (Answers (map (λ path. path.now) paths.now) job.now) }
     // The first fault that the job has is told, unless memory runs out.
     ensures refused { (f : FaultOfJob) → IsFaultOf job.now f → IfOk result (IsLineOf (map (λ path. path.now) paths.now) f) }
+    // To an accepted text of at most 16,777,216 bytes, as each such export is, a check answers `ok`, unless memory runs out; and to the
+    // history of a run over the same database a replay answers the library of that run.
+    ensures own { IfOk result (λ told. AnswersItsOwn job.now (IsToldBy told)) }
 {
     match perform(rt, alloc, keys, job) {
         Ok(printed) => Ok(Answered::Done(printed)),

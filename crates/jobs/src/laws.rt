@@ -1,6 +1,7 @@
 //! Laws of the definitions: each function does nothing, and its contract is the law.
 
-ghost use Rattle.jobs.specs.Laws.{SpelledScriptsFit, FaultLabelsAreShown, AcceptedTextsCheck, AcceptedTextsHaveNoFault, RunsHaveNoFaultAgain};
+ghost use Rattle.jobs.specs.Laws.{SpelledScriptsFit, FaultLabelsAreShown};
+ghost use Rattle.jobs.specs.Laws.{AcceptedTextsCheck, AcceptedTextsHaveNoFault, RunsHaveNoFaultAgain};
 
 /// Over a prelude that some text declares, each command of a script that is spelled is within the limits of that prelude.
 pub fn spelled_scripts_fit()

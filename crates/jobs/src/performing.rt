@@ -12,7 +12,7 @@ ghost use Rattle.jobs.specs.Outcomes.{OutcomesFit};
 ghost use Rattle.jobs.specs.Reports.{report_text};
 ghost use Rattle.jobs.specs.Jobs.{IsFirstFault, IsProofFault, IsDatabaseFault};
 ghost use Rattle.jobs.specs.Parts.{IsTextFaultOf, IsScriptFault};
-ghost use Rattle.jobs.specs.Jobs.{IsRunFault, IsReplayFault, IsFaultOf, AnswersItsOwn, RefusesWith};
+ghost use Rattle.jobs.specs.Jobs.{IsRunFault, IsReplayFault, IsFaultOf, AnswersItsOwn, IsPrintedBy, RefusesWith};
 ghost use Rattle.jobs.specs.Parts.{IsRefusedWith, IsProofFaultOf, GivesOrLacksMemory};
 ghost use Rattle.mmsyntax.specs.Tables.{Contents};
 ghost use Rattle.library.specs.Fitting.{CommandFits};
@@ -212,7 +212,7 @@ pub fn perform(
     ensures refused { (f : FaultOfJob) → IsFaultOf job.now f → RefusesWith f result }
     // To an accepted text of at most 16,777,216 bytes, as each such export is, a check answers `ok`, unless memory runs out; and to the
     // history of a run over the same database a replay answers the library of that run.
-    ensures own { AnswersItsOwn job.now result }
+    ensures own { AnswersItsOwn job.now (IsPrintedBy result) }
 {
     let out = match job {
         Job::Check { db } => check(rt, alloc, keys, db.as_slice())?,

@@ -27,10 +27,10 @@ use Rattle.library.specs.declared.command.Reply.TheVariants.{Done, Shown, Listed
 use Rattle.library.specs.declared.reason.Reason.{Reason}
 use Rattle.library.specs.declared.reason.Reason.TheVariants.{NotATheorem, UnknownLabel}
 use Rattle.library.specs.declared.reason.Refused.{Refused as Refusal}
-use Rattle.library.specs.Library.{Setting, Verifies, label_of, in_export_order}
+use Rattle.library.specs.Library.{highest_rank, Setting, Verifies, label_of, in_export_order}
 use Rattle.library.specs.Edits.{Edited, Tests, tested, of_found, done, has, found, cites, citers, is_axiom, is_labelled, added, changed, with_rank}
 use Rattle.library.specs.Edits.{with_proof, rename, without, still_cited, add_tests, reprove_tests, rename_tests, move_tests, shown, line, edit}
-use Rattle.library.specs.Fitting.{CommandFits, highest_rank}
+use Rattle.library.specs.Fitting.{CommandFits}
 use Rattle.library.specs.Transactions.{Applied, with_reply, then_apply, apply_from, apply}
 use Rattle.library.specs.Histories.{Entry, open_entry, done_entry, EntryFits, EntriesFit, after, IsLegal}
 use Rattle.library.proofs.Editing.{tests_passed, where_none, lawful_where, edit_verifies}

@@ -1,5 +1,7 @@
 -- Each conflict has its own cause.
 use Rattle.std.proofs.Common.{Bool, List, None, Option, Some, [], ap, arith, eq-eqb, false, if◌then◌else◌, inl, inr, le-leb, length, nat_le, nat_lt, not, refl, slice_get, slice_set, subst, suc, sym, true, ℕ, ◌%◌, ◌&&◌, ◌*◌, ◌/◌, ◌<◌, ◌==◌, ◌||◌, ◌∙◌, ◌∷◌, ◌≡◌, ◌≢◌, ◌≤◌, ◌⊎◌}
+use Rattle.std.proofs.lemmas.Bool.{both_ways}
+use Rattle.std.proofs.lemmas.Option.{none-some}
 use Rattle.tlcore.specs.History.{Will, deed, value, version}
 use Rattle.tlcore.specs.Seats.{Checking, Held, Idle, Loaded, Looked, Place, Reading, Seat, Storing, Taking, all_below, find_held, is_held, is_nil, is_settled, passes, settled_below, stored, without}
 use Rattle.tlcore.specs.Machine.{Action, Begin, Cell, World, begun, given, next, placed, with_seat}
@@ -26,9 +28,6 @@ old-passes word rv b =
     both_true : (a b : Bool) → a ≡ true → b ≡ true → (a && b) ≡ true
     both_true true b p q = q
     both_true false b p q = cc
-
-true_false : (b : Bool) → b ≡ true → b ≡ false → ⊥
-true_false b p q = cc
 
 below_free : (c : ℕ) (ks : List Held) (k : Held) → all_below c ks ≡ true → find_held c ks ≡ Some k → ⊥
 below_free c [] k a e = cc
@@ -68,7 +67,7 @@ module _ (o : List ℕ) (w : World) (s : ℕ) (t : Seat) (I : Consistent o w) (e
 
   no_conflict : (z u : Seat) (a : Action) → z.conflicted ≡ false → slice_get (slice_set w.seats s z) s ≡ Some u → u.conflicted ≡ true
       → Cause a
-  no_conflict z u a m f g = absurd (true_false z.conflicted (seat_now z u f g) m)
+  no_conflict z u a m f g = absurd (both_ways z.conflicted m (seat_now z u f g))
 
   active_at : (L c : ℕ) (p : Place) → t.place ≡ p → Active L w.cells t c t.place → Active L w.cells t c p
   active_at L c p q a = subst (λ (y : Place). Active L w.cells t c y) q a
@@ -76,7 +75,7 @@ module _ (o : List ℕ) (w : World) (s : ℕ) (t : Seat) (I : Consistent o w) (e
   stale : (L c : ℕ) (x : Cell) → Steady L w.cells t.rv t.held t.reads c → slice_get w.cells c ≡ Some x
       → ((k : Held) → find_held c t.held ≡ Some k → ⊥) → passes x.lock t.rv ≡ false → ⊥
   stale L c x st f n m =
-      true_false (passes x.lock t.rv) (old-passes x.lock t.rv (subst (λ (y : ℕ). IsOld y t.rv) (sym (st.lock x f n)) st.old)) m
+      both_ways (passes x.lock t.rv) m (old-passes x.lock t.rv (subst (λ (y : ℕ). IsOld y t.rv) (sym (st.lock x f n)) st.old))
 
   row_cause : (a : Action) (v : World) (u : Seat) → Row w s t a v → slice_get v.seats s ≡ Some u → u.conflicted ≡ true → Cause a
   row_cause a v u (begins p) f g = no_conflict (begun w t) u a refl f g
@@ -211,10 +210,7 @@ begin_since o w s t e I c = go (option_known (slice_get w.cells c))
     go : ((x : Cell) × (slice_get w.cells c ≡ Some x)) ⊎ (slice_get w.cells c ≡ None)
         → HeldByOther (with_seat w s (begun w t)) s c ⊎ ((L : ℕ) × Since L (with_seat w s (begun w t)) s c)
     go (inl x) = parity x.0 x.1 (odd_or_even (x.0).lock)
-    go (inr n) = inr (0, since 0 (0, refl, omega arith) (λ x g. absurd (none_some_cell x (sym n ∙ g))))
-      where
-        none_some_cell : (x : Cell) → None ≡ Some x → ⊥
-        none_some_cell x g = cc
+    go (inr n) = inr (0, since 0 (0, refl, omega arith) (λ x g. absurd (none-some x (sym n ∙ g))))
 
 pub schedule_causes : ConflictsHaveCause
 schedule_causes o n front es s a w w1 before after r0 b nb r1 st t u f g calm met =

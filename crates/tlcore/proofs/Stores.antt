@@ -1,5 +1,7 @@
 -- The first store of a value, which makes the entry Done, keeps what the parts say of each other.
-use Rattle.std.proofs.Common.{List, None, Option, Some, [], ap, arith, false, inl, inr, length, refl, slice_get, slice_index, slice_set, subst, suc, sym, true, ℕ, ◌*◌, ◌<◌, ◌∙◌, ◌∷◌, ◌≡◌, ◌≢◌, ◌≤◌, ◌⊎◌}
+use Rattle.std.proofs.Common.{List, None, Option, Some, [], ap, arith, inl, inr, length, refl, slice_get, slice_index, slice_set, subst, suc, sym, true, ℕ, ◌*◌, ◌<◌, ◌∙◌, ◌∷◌, ◌≡◌, ◌≢◌, ◌≤◌, ◌⊎◌}
+use Rattle.std.proofs.lemmas.Bool.{true≢false}
+use Rattle.std.proofs.lemmas.Option.{none-some}
 use Rattle.tlcore.specs.History.{Did, Done, Entry, Grows, Nothing, One, Status, Will, deed, deed_of, settle, value, value_after, version, version_after, written}
 use Rattle.tlcore.specs.Seats.{Checking, Held, Place, Read, Seat, Storing, all_settled, find_held, is_settled, number_at, reads_of, stored}
 use Rattle.tlcore.specs.Machine.{Cell, World, store}
@@ -100,10 +102,7 @@ module _ (o : List ℕ) (w : World) (s : ℕ) (t : Seat) (i u c : ℕ) (k : Held
             same_value = λ m. absurd (omega (arith, n.0));
             word = λ m before y z. absurd (omega (arith, n.0));
           }
-      go (inr a) = Untouched-evolves o w.cells xs w.history later d (untouched d (λ l b. none_some (find_held d t.held) l a b))
-        where
-          none_some : (n : Option Held) (l : Held) → n ≡ None → n ≡ Some l → ⊥
-          none_some n l a b = cc
+      go (inr a) = Untouched-evolves o w.cells xs w.history later d (untouched d (λ l b. none-some l (sym a ∙ b)))
 
   store_frame : Frame o w.cells xs w.history later t.held (Some i)
   store_frame =
@@ -203,14 +202,11 @@ module _ (o : List ℕ) (w : World) (s : ℕ) (t : Seat) (i u c : ℕ) (k : Held
                 record {
                   locked = z.2.locked ∙ ap suc (sym a.2);
                   old = subst (λ (v : ℕ). IsOld v t.rv) (sym a.2) z.2.old;
-                  shows = (n.0, n.1 ∙ sym a.3, λ m. absurd (true_false (sym m ∙ (ap (λ (v : Held). v.stored) ke ∙ z.2.shows.2))));
+                  shows = (n.0, n.1 ∙ sym a.3, λ m. absurd (true≢false (sym m ∙ (ap (λ (v : Held). v.stored) ke ∙ z.2.shows.2))));
                   was = λ v m. WasWritten-kept w.history later d v first_grows (z.2.was v (sym a.2 ∙ m));
                   mine = λ j v m. mine j v z.2.mine m;
                 },
               )
-            where
-              true_false : true ≡ false → ⊥
-              true_false m = cc
 
   pub first_store_keeps : Consistent o (store w s t i c k x)
   first_store_keeps =

@@ -1,5 +1,6 @@
 -- The take of a cell, and one that is lost, keep what the parts say of each other.
-use Rattle.std.proofs.Common.{List, None, Option, Some, ap, arith, false, if◌then◌else◌, inl, inr, length, refl, slice_get, slice_set, subst, suc, sym, true, ℕ, ◌*◌, ◌==◌, ◌∙◌, ◌∷◌, ◌≡◌, ◌≢◌, ◌⊎◌}
+use Rattle.std.proofs.Common.{List, None, Some, ap, arith, false, if◌then◌else◌, inl, inr, length, refl, slice_get, slice_set, subst, suc, sym, true, ℕ, ◌*◌, ◌==◌, ◌∙◌, ◌∷◌, ◌≡◌, ◌≢◌, ◌⊎◌}
+use Rattle.std.proofs.lemmas.Option.{none-some}
 use Rattle.tlcore.specs.History.{Did, WasWritten, Will, deed, value, version}
 use Rattle.tlcore.specs.Seats.{Failing, Held, Idle, Seat, Taking, find_held, is_nil, number_at}
 use Rattle.tlcore.specs.Machine.{Cell, World, conflict, taken, with_seat}
@@ -12,9 +13,6 @@ use Rattle.tlcore.proofs.Lists.{equal_numbers, get-set_cases, get-set_other, get
 use Rattle.tlcore.proofs.Quiet.{Consistent-place, conflict_keeps, held_place}
 use Rattle.tlcore.proofs.SeatParts.{is_nil-nil}
 use Rattle.tlcore.proofs.Stays.{Stays-refl}
-
-pub none_some : (n : Option ℕ) (i : ℕ) → n ≡ None → n ≡ Some i → ⊥
-none_some n i a b = cc
 
 module _ (o : List ℕ) (w : World) (s : ℕ) (t : Seat) (c v word : ℕ) (x : Cell)
     (I : Consistent o w) (e : slice_get w.seats s ≡ Some t) (nd : done_at t.place ≡ None) (nn : number_at t.place ≡ None)
@@ -109,7 +107,7 @@ module _ (o : List ℕ) (w : World) (s : ℕ) (t : Seat) (c v word : ℕ) (x : C
       (set_frame o w.cells w.history w.history (record { cell = c; word = word; value = v; stored = false } ∷ t.held) None c (record x { lock = suc word })
       (Grows-refl w.history) (Stays-refl o w.history) (λ d i u a. a) (λ i a b p. p) (record { cell = c; word = word; value = v; stored = false })
       (found (known (c == c))) (λ a. free_cell.1))
-      take_others I.clock take_cells I.history take_seat (λ d k g. (k, g)) (λ i g. absurd (none_some None i refl g))
+      take_others I.clock take_cells I.history take_seat (λ d k g. (k, g)) (λ i g. absurd (none-some i g))
     where
       found : ((c == c) ≡ true) ⊎ ((c == c) ≡ false)
           → find_held c (record { cell = c; word = word; value = v; stored = false } ∷ t.held) ≡ Some (record { cell = c; word = word; value = v; stored = false })

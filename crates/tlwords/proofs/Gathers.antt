@@ -3,6 +3,7 @@ use Rattle.std.proofs.Common.{◌≡◌, ◌≢◌, ℕ, suc, ◌+◌, ◌*◌, 
 use mathlib.Core.Option.{some}
 use lib.ListN.{get_elem?}
 use Rattle.std.proofs.lemmas.List.{length-append, get_or_append_left, map-append}
+use Rattle.std.proofs.lemmas.Option.{none-some}
 use Rattle.atomic_table.specs.Table.{Joins}
 use Rattle.atomic_table.proofs.Lists.{at_set, set_else}
 use Rattle.tlcore.specs.Seats.{Seat, idle, number_at, find_held}
@@ -10,7 +11,6 @@ use Rattle.tlcore.specs.Machine.{World, with_seat}
 use Rattle.tlcore.specs.Invariant.{Invariant, SeatOk, PlaceOk, Holds}
 use Rattle.tlcore.proofs.Lists.{get-set_cases, get-set_other, same_or_not}
 use Rattle.tlcore.specs.Seats.{is_resting}
-use Rattle.tlcore.specs.declared.seats.Held.{Held}
 use Rattle.tlcore.specs.declared.seats.Place.{Place}
 use Rattle.tlcore.specs.declared.seats.Place.TheVariants.{Idle, Reading}
 use Rattle.tlcore.proofs.Words.{resting_at}
@@ -29,13 +29,7 @@ use Rattle.tlwords.proofs.OpenSteps.{blank_suits}
 pub nothing_held : (t : Seat) (c : ℕ) → t.held ≡ [] → Holds t c → ⊥
 nothing_held t c e h =
     let p : find_held c [] ≡ Some h.0 = ap (find_held c) (sym e) ∙ h.1 in
-    none_found h.0 p
-  where
-    none_found : (k : Held) → None ≡ Some k → ⊥
-    none_found k q = cc
-
-no_none : (o : Option ℕ) (i : ℕ) → o ≡ None → o ≡ Some i → ⊥
-no_none o i p q = let b : None ≡ Some i = sym p ∙ q in cc
+    none-some h.0 p
 
 pub rested : (base : List ℕ) (w : World) (s : ℕ) (t : Seat) → Invariant base w → slice_get w.seats s ≡ Some t → t.held ≡ []
     → Invariant base (with_seat w s idle)
@@ -56,9 +50,9 @@ rested base w s t I at unheld = record {
         (get-set_cases w.seats s z idle v q))
         (get-set_cases w.seats s x idle u p);
     numbers_apart = λ x z u v i p q a b. ⊎_elim
-        (λ (f : (x ≡ s) × (u ≡ idle)). absurd (no_none (number_at u.place) i (ap (λ (u : Seat). number_at u.place) f.1) a))
+        (λ (f : (x ≡ s) × (u ≡ idle)). absurd (none-some i (sym (ap (λ (u : Seat). number_at u.place) f.1) ∙ a)))
         (λ (f : (x ≢ s) × (slice_get w.seats x ≡ Some u)). ⊎_elim
-        (λ (g : (z ≡ s) × (v ≡ idle)). absurd (no_none (number_at v.place) i (ap (λ (u : Seat). number_at u.place) g.1) b))
+        (λ (g : (z ≡ s) × (v ≡ idle)). absurd (none-some i (sym (ap (λ (u : Seat). number_at u.place) g.1) ∙ b)))
         (λ (g : (z ≢ s) × (slice_get w.seats z ≡ Some v)). I.consistent.numbers_apart x z u v i f.1 g.1 a b)
         (get-set_cases w.seats s z idle v q))
         (get-set_cases w.seats s x idle u p);

@@ -2,6 +2,7 @@
 use Rattle.std.proofs.Common.{◌≡◌, ◌≢◌, ℕ, zero, suc, ◌+◌, ◌%◌, ◌<◌, eq-eqb, ne_eqb, true, false, is_some, Option, Some, None, List, [], ◌∷◌, ◌++◌, length, take, slice_get, slice_set, sym, refl, ap, ◌∙◌, arith, length-set}
 use Rattle.std.specs.Option.{option_map}
 use Rattle.std.specs.Prelude.{option_and_then, slice_index_or}
+use Rattle.std.proofs.lemmas.Option.{none-some}
 use mathlib.Core.Logic.{dite}
 use native.Mathlib.Decide.{ℕ_discrete}
 use Rattle.tlcore.specs.Seats.{Seat, find_read}
@@ -114,14 +115,11 @@ none_known (Some w) f = absurd (f refl)
 some_none : (o : Option ℕ) → o ≡ None → is_some o ≡ true → ⊥
 some_none o e s = let a : true ≡ false = sym s ∙ ap is_some e in cc
 
-some_is : (o : Option ℕ) (w : ℕ) → o ≡ None → o ≡ Some w → ⊥
-some_is o w e s = let a : None ≡ Some w = sym e ∙ s in cc
-
 pub blank_kept : (t : Seat) (slots : List Slot) → t.reads ≡ [] → IsBlank slots → IsKeptOf t slots
 blank_kept t slots none_read b = (
   λ c. (b c).0 ∙ sym (ap (λ (rs : List Read). option_map (λ (r : Read). r.word) (find_read c rs)) none_read),
   λ c is. absurd (some_none (value_kept slots c) (b c).1 is),
-  λ c w is. absurd (some_is (word_seen slots c) w (b c).0 is),
+  λ c w is. absurd (none-some w (sym (b c).0 ∙ is)),
 )
 
 -- ---- a run goes on

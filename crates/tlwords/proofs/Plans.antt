@@ -25,9 +25,6 @@ use Rattle.tlwords.specs.Commits.{writes_kept}
 use Rattle.tlwords.proofs.Entries.{slot_found}
 use Rattle.tlwords.proofs.Settles.{some_writes}
 
-pub not_both : (b : Bool) → b ≡ true → b ≡ false → ⊥
-not_both b e f = let a : true ≡ false = sym e ∙ f in cc
-
 -- ---- a step of a plan, as the loops ask for it
 
 module _ (slots : List Slot) (kept : Bool) (ts : List Touched) (p : IsPlan slots kept ts) where

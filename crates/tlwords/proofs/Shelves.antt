@@ -4,7 +4,7 @@ use Rattle.std.proofs.Math.Nat.{mul-add, min-le_right}
 use mathlib.Core.Option.{some}
 use lib.ListN.{get_elem?}
 use Rattle.atomic_table.proofs.Lists.{at_set, at_snoc}
-use Rattle.std.proofs.lemmas.Option.{slice_get-get_or}
+use Rattle.std.proofs.lemmas.Option.{none-some, slice_get-get_or}
 use Rattle.tlcore.proofs.Lists.{get-set_same, get-set_other, get_within, length-slice_set, same_or_not}
 use Rattle.ranges.proofs.Stored.{stored_coherent, stored_on, below_tail}
 use Rattle.ranges.specs.Ranges.{Range, Has, IsStored, AreOfOneStore}
@@ -15,9 +15,6 @@ use Rattle.tlwords.proofs.Keeps.{total_set, moves_of}
 -- the two have no word in common
 abbrev pub AreApart : Staging → Staging → Type 0
 AreApart s t = (s.start + length s.words ≤ t.start) ⊎ (t.start + length t.words ≤ s.start)
-
-some_is_none : {A : Type 0} (o : Option A) (x : A) → o ≡ None → o ≡ Some x → ⊥
-some_is_none o x p q = let b : None ≡ Some x = sym p ∙ q in cc
 
 pub one_staging : (o : Option Staging) (s t : Staging) → o ≡ Some s → o ≡ Some t → s ≡ t
 one_staging o s t p q = let b : Some s ≡ Some t = sym p ∙ q in cc
@@ -248,7 +245,7 @@ module _ {S N : Type 0} where
               (λ (p : u ≡ v). subst (λ (x : View S N). Adds room tail x) p (record {
                 once = omega (arith, added);
                 unrefused = λ _. added;
-                found = λ n count e. absurd (none_is_some u.full (n, count) full e);
+                found = λ n count e. absurd (none-some (n, count) (sym full ∙ e));
                 untaken = λ _. taken;
                 gone = λ g has. absurd (subst (λ (gs : List (Gone S N)). Has g gs) (ap (λ m. m.3) unused.1) has);
               }))
@@ -260,12 +257,9 @@ module _ {S N : Type 0} where
     alone = λ j k v w s t other p q e f. h.alone j k v w s t other (old j v s p e) (old k w t q f) e f;
   }
     where
-      none_is_some : {A : Type 0} (o : Option A) (x : A) → o ≡ None → o ≡ Some x → ⊥
-      none_is_some o x p q = some_is_none o x p q
-
       old : (j : ℕ) (v : View S N) (s : Staging) → get_elem? (vs ++ u ∷ []) j ≡ some v → v.staging ≡ Some s → get_elem? vs j ≡ some v
       old j v s there e = ⊎_elim (λ (p : get_elem? vs j ≡ some v). p)
-          (λ (p : u ≡ v). absurd (some_is_none u.staging s unused.0 (ap (λ (x : View S N). x.staging) p ∙ e))) (at_snoc vs u v j there)
+          (λ (p : u ≡ v). absurd (none-some s (sym unused.0 ∙ ap (λ (x : View S N). x.staging) p ∙ e))) (at_snoc vs u v j there)
 
   pub shelf_shared : (room : ℕ) (opened : List ℕ) (tail : ℕ) (ranges : List Range) (store : List ℕ) (vs : List (View S N)) (id : ℕ) (v w u : View S N)
       → Shelf room opened ranges tail store vs → get_elem? vs id ≡ some v → w.staging ≡ v.staging → moves_of w ≡ moves_of v
@@ -355,7 +349,7 @@ module _ {S N : Type 0} where
           tail_set (length opened) room tail (tail + count) vs id v w h.tail_is at (omega arith) (omega (arith, moved, none)) (omega (arith, most, t, more, none))
           (record {
             once = omega (arith, added, is_count, least, product);
-            unrefused = λ e. absurd (some_is_none w.full (tail, many) e full);
+            unrefused = λ e. absurd (none-some (tail, many) (sym e ∙ full));
             found = found w.full full;
             untaken = λ e. absurd (omega (arith, e, rights, some_rights));
             gone = λ g has. (adds_on room tail (tail + count) v (omega arith) (h.tail_is.each id v at)).gone g
@@ -472,7 +466,7 @@ module _ {S N : Type 0} where
         shelf_set room opened tail tail ranges with_range store with_word vs id w h long left_stays
         (tail_same (length opened) room tail vs id v w h.tail_is at same rights) (all_finished last)
         (record { taken = others_taken; apart = others_apart })
-        (λ z e. absurd (some_is_none w.staging z after e))
+        (λ z e. absurd (none-some z (sym after ∙ e)))
       where
         new_apart : (j : ℕ) (u : View S N) (t : Staging) → j ≢ id → get_elem? vs j ≡ some u → u.staging ≡ Some t
             → IsApart t (record { start = s.start; words = s.words })

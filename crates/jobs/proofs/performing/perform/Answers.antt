@@ -1,4 +1,4 @@
-use Rattle.std.proofs.Common.{rules}
+use Rattle.std.proofs.Common.{Ok, rules}
 use Rattle.jobs.proofs.Own.{answers_its_own}
 use Rattle.jobs.proofs.performing.perform.Goals as goal
 
@@ -6,7 +6,8 @@ pub returns-in_err-out-in-Check-clause-own : goal.returns-in_err-out-in-Check-cl
 returns-in_err-out-in-Check-clause-own g c = answers_its_own c.args.job.now c.from_residual.result (search rules) (search rules)
 
 pub returns-clause-own : goal.returns-clause-own
-returns-clause-own g c = answers_its_own c.args.job.now _ (search rules) tt
+returns-clause-own g c =
+    answers_its_own c.args.job.now (Ok (record { out = c.match-job.out; history = c.new.result })) (search rules) tt
 
 pub returns-in_err-out-in-Replay-clause-own : goal.returns-in_err-out-in-Replay-clause-own
 returns-in_err-out-in-Replay-clause-own g c =
