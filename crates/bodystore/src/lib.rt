@@ -1,7 +1,6 @@
 //! Bodies: labels, statements and proofs as lists of words, both ways; and the ranges that a session has staged.
 #![tactic(auto)]
 
-mod cursor;
 mod decode;
 mod encode;
 mod statement;

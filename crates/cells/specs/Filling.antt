@@ -1,0 +1,46 @@
+-- What becomes of a state where an assertion is put into an empty slot.
+use Rattle.std.specs.Prelude.{◌≡◌, ◌≢◌, ◌<◌, ℕ, ◌+◌, ◌-◌, List, [], false, nat_eq}
+use Rattle.mmsyntax.specs.declared.statement.Assertion.{Assertion}
+use Rattle.mmsyntax.specs.declared.statement.Kind.TheVariants.{Theorem, Axiom}
+use Rattle.mmsyntax.specs.Assertions.{Distinct}
+use Rattle.library.specs.declared.library.Ranked.{Ranked}
+use Rattle.library.specs.Edits.{has, added}
+use Rattle.ranges.specs.Ranges.{Has}
+use Rattle.bodystore.specs.declared.stored.StoredStep.{StoredStep}
+use Rattle.bodystore.specs.declared.stored.StoredStep.TheVariants.{Slot}
+use Rattle.cells.specs.State.{State}
+use Rattle.cells.specs.Slots.{citers_cell}
+use Rattle.cells.specs.Shows.{IsEmpty, AreStoredAs, Shows}
+
+-- the slots that the steps cite, each once
+pub record AreCitedSlots (steps : List StoredStep) (slots : List ℕ) : Type 0 where
+  pub apart : Distinct nat_eq slots
+  pub cited : (i : ℕ) → Has i slots → Has (Slot i) steps
+  pub all : (i : ℕ) → Has (Slot i) steps → Has i slots
+
+-- each of these slots has one citer more, and nothing else changes
+pub record CountsIn (listed : List ℕ) (st next : State) : Type 0 where
+  pub counted : (i : ℕ) → Has i listed → next.value (citers_cell i) ≡ st.value (citers_cell i) + 1
+  pub others : (c : ℕ) → ((i : ℕ) → Has i listed → c ≢ citers_cell i) → next.value c ≡ st.value c
+
+-- each of these slots has one citer less, and nothing else changes
+pub record CountsOut (listed : List ℕ) (st next : State) : Type 0 where
+  pub counted : (i : ℕ) → Has i listed → next.value (citers_cell i) ≡ st.value (citers_cell i) - 1
+  pub others : (c : ℕ) → ((i : ℕ) → Has i listed → c ≢ citers_cell i) → next.value c ≡ st.value c
+
+-- an assertion that may be put into the slot of a library that is shown: the slot is empty, nobody has the label, and the steps are stored
+pub record MayFill (slots : ℕ) (st : State) (lib : List Ranked) (i : ℕ) (a : Assertion) (kept : List StoredStep) : Type 0 where
+  pub empty : IsEmpty slots st i
+  pub new : has lib a.label ≡ false
+  pub stored : AreStoredAs slots st a.proof kept
+
+-- with it the state shows the library with this assertion behind the others
+abbrev pub Fills : ℕ → State → List Ranked → ℕ → Assertion → Type 0
+Fills slots next lib rank a = Shows slots next (added lib rank a)
+
+-- an assertion that has a label, with steps that cite slots, at least one where it is a theorem, and none where it is an axiom
+pub record IsFillable (slots : ℕ) (a : Assertion) (kept : List StoredStep) : Type 0 where
+  pub labelled : a.label ≢ []
+  pub some : a.kind ≡ Theorem → kept ≢ []
+  pub none : a.kind ≡ Axiom → kept ≡ []
+  pub within : (i : ℕ) → Has (Slot i) kept → i < slots

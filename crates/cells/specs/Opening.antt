@@ -1,0 +1,23 @@
+-- What opening a database in plain cells gives, and when it is refused.
+use Rattle.std.specs.Prelude.{◌≡◌, ◌<◌, ◌≤◌, ℕ, [], length}
+use Rattle.mmsyntax.specs.Tables.{Contents}
+use Rattle.library.specs.Library.{opening}
+use Rattle.cells.specs.declared.opening.OpenError.{OpenError}
+use Rattle.cells.specs.declared.opening.OpenError.TheVariants.{TooMany, StoreFull, NoMemory}
+use Rattle.cells.specs.declared.plain.PlainCells.{PlainCells}
+use Rattle.cells.specs.Plain.{plain_state, bodies_length}
+use Rattle.cells.specs.Shows.{Shows}
+
+-- the cells show the opening library, and nothing was written since
+pub record Opens (db : Contents) (slots room : ℕ) (made : PlainCells) : Type 0 where
+  pub prelude : made.prelude ≡ db.prelude
+  pub slots_are : made.slots ≡ slots
+  pub room_is : made.room ≡ room
+  pub kept : made.log.items ≡ []
+  pub shows : Shows slots (plain_state made.values.items made.store.items made.ranges.items) (opening db)
+
+-- more assertions than slots; or bodies of more words than the room
+abbrev pub Refuses : Contents → ℕ → ℕ → OpenError → Type 0
+Refuses db slots room TooMany = slots < length db.assertions
+Refuses db slots room StoreFull = (length db.assertions ≤ slots) × (room < bodies_length db.assertions)
+Refuses db slots room NoMemory = (length db.assertions ≤ slots) × (bodies_length db.assertions ≤ room)
