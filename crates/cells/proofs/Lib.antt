@@ -1,1 +1,5 @@
 pub mod Sights
+pub mod Members
+pub mod Tallies
+pub mod Linking
+pub mod Unlinking
