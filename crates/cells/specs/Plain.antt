@@ -35,10 +35,11 @@ range_in store r = record { start = r.start; words = take r.len (drop r.start st
 abbrev pub ranges_in : List ℕ → List Place → List Range
 ranges_in store places = map (range_in store) places
 
--- what the run has seen: it knows all ranges; it has read the cells of its log; and it keeps aside all values as they are now
+-- what the run has seen: it knows all ranges; it has read the cells of its log; it keeps aside all values as they are now; and the words that
+-- were taken are those of the store
 abbrev pub plain_sight : Setting → List ℕ → Pairs → List ℕ → List Place → Sight
 plain_sight setting values log store places =
-    record { setting = setting; ranges = ranges_in store places; reads = read_at_first (undone values log) log; writes = numbered_from 0 values }
+    record { setting = setting; ranges = ranges_in store places; reads = read_at_first (undone values log) log; writes = numbered_from 0 values; taken = length store }
 
 -- the state of these values and ranges
 abbrev pub plain_state : List ℕ → List ℕ → List Place → State

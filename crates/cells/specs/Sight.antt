@@ -1,5 +1,5 @@
 -- What a run has seen of the cells and of the store, what it keeps aside, and the states that this leaves possible.
-use Rattle.std.specs.Prelude.{◌≡◌, ℕ, ◌==◌, if◌then◌else◌, List, true, Option, Some, length}
+use Rattle.std.specs.Prelude.{◌≡◌, ℕ, ◌+◌, ◌==◌, ◌⊎◌, if◌then◌else◌, List, true, Option, Some, length}
 use Rattle.library.specs.declared.library.Ranked.{Ranked}
 use Rattle.library.specs.Library.{Setting, Verifies}
 use Rattle.ranges.specs.Pairs.{Pairs, written}
@@ -9,16 +9,22 @@ use Rattle.cells.specs.State.{State, FitsReads, with_writes, most_words}
 use Rattle.cells.specs.Slots.{is_ranged}
 use Rattle.cells.specs.Shows.{Shows}
 
--- the setting of the library, the finished ranges that the run knows, what it has read from cells, and what it keeps aside for cells
+-- the setting of the library, the finished ranges that the run knows, what it has read from cells, what it keeps aside for cells, and how many
+-- words of the store were taken by it and by those before it
 pub record Sight : Type 0 where
   pub setting : Setting
   pub ranges : List Range
   pub reads : Pairs
   pub writes : Pairs
+  pub taken : ℕ
 
 -- the cell was read
 abbrev pub WasRead : Sight → ℕ → Type 0
 WasRead s c = (v : ℕ) × Has (c, v) s.reads
+
+-- a value is kept aside for the cell
+abbrev pub WasWritten : Sight → ℕ → Type 0
+WasWritten s c = (v : ℕ) × (written c s.writes ≡ Some v)
 
 -- the state may be the one under the run: it has the ranges, all of one store, and agrees with what was read
 pub record Matches (s : Sight) (st : State) : Type 0 where
@@ -44,17 +50,19 @@ pub record Views (s : Sight) (st : State) (lib : List Ranked) : Type 0 where
 
 -- ---- what the calls of a run do to its sight
 
--- nothing that was read or seen is lost
+-- nothing that was read, seen or written is lost
 pub record Onward (old new : Sight) : Type 0 where
   pub setting : new.setting ≡ old.setting
   pub ranges : Within old.ranges new.ranges
   pub reads : (st : State) → FitsReads st new.reads → FitsReads st old.reads
   pub read : (c : ℕ) → WasRead old c → WasRead new c
+  pub written : (c : ℕ) → WasWritten old c → WasWritten new c
 
--- and what is kept aside stays the same
+-- and what is kept aside stays the same, and no word of the store was taken
 pub record Looks (old new : Sight) : Type 0 where
   pub onward : Onward old new
   pub writes : new.writes ≡ old.writes
+  pub taken : new.taken ≡ old.taken
 
 -- the cell was read, with this value: that of every state that may be the one under the run, with what the run keeps aside
 pub record Reads (cell v : ℕ) (old new : Sight) : Type 0 where
@@ -68,11 +76,14 @@ pub record Writes (cell v : ℕ) (old new : Sight) : Type 0 where
   pub setting : new.setting ≡ old.setting
   pub ranges : new.ranges ≡ old.ranges
   pub reads : new.reads ≡ old.reads
+  pub taken : new.taken ≡ old.taken
   pub writes : (c : ℕ) → written c new.writes ≡ (if c == cell then Some v else written c old.writes)
 
--- the words are those of a finished range
+-- the words are those of a finished range: a new one, or one that was there
 pub record Stages (words : List ℕ) (range : Place) (old new : Sight) : Type 0 where
-  pub looks : Looks old new
+  pub onward : Onward old new
+  pub writes : new.writes ≡ old.writes
+  pub taken : (new.taken ≡ old.taken) ⊎ (new.taken ≡ old.taken + length words)
   pub finished : Has (record { start = range.start; words = words }) new.ranges
   pub len : range.len ≡ length words
 
