@@ -1,2 +1,3 @@
 pub mod Sights
 pub mod Settings
+pub mod Bodies
