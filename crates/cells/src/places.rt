@@ -15,6 +15,7 @@ pub(crate) fn slot_count<C: Cells>(cells: &C) -> usize
 }
 
 /// The bucket of a label, from 0: h, from 0, by `h = (31 h + byte) mod slots` over its bytes.
+#[tactic(auto, using(std::proofs::lemmas::List::Sums::fold_more))]
 pub fn bucket(label: &[u8], slots: usize) -> usize
     requires some { 1 ≤ slots }
     requires few { slots ≤ 4096 }

@@ -1,6 +1,6 @@
 //! The words of bodies that cells name.
 
-ghost use Rattle.std.specs.Prelude.{◌≡◌, ◌≢◌, ◌<◌, ◌↔◌, ℕ, List, [], true, IsTrue, IfOk, IfErr, length};
+ghost use Rattle.std.specs.Prelude.{◌≡◌, ◌≢◌, ◌<◌, ◌+◌, ◌*◌, ◌^◌, ◌↔◌, ℕ, List, [], true, IsTrue, IfOk, IfErr, length};
 ghost use Rattle.ranges.specs.Ranges.{Names};
 ghost use Rattle.cells.specs.State.{State, HasBody};
 ghost use Rattle.cells.specs.Slots.{cell_count, is_ranged};
@@ -10,13 +10,14 @@ ghost use Rattle.cells.specs.Lookups.{AreWordsOf};
 use crate::cells::Cells;
 use crate::halt::Halt;
 use ranges::Range;
-use std::alloc::Global;
+use std::alloc::{AllocError, Global};
 
 /// The range that a word names which was read from a range cell, if it is not 0.
 pub(crate) fn range_of<C: Cells>(cells: &C, word: u64) -> Range
     requires some { word ≢ 0 }
     requires named { Names (C.sight cells.now).ranges word }
-    ensures { (words : List ℕ) × Knows (C.sight cells.now) result words }
+    ensures known { (words : List ℕ) × Knows (C.sight cells.now) result words }
+    ensures word { word ≡ result.start * 2 ^ 25 + result.len }
 {
     Range::named(word)
 }
@@ -38,7 +39,30 @@ pub(crate) fn has_words<C: Cells>(cells: &mut C, range: Range, text: &[u8]) -> b
     true
 }
 
+/// The words of a range.
+///
+/// # Errors
+///
+/// Want of memory.
+#[tactic(auto, using(crate::proofs::Sights::looks_trans))]
+fn range_words<C: Cells>(
+    alloc: Global,
+    cells: &mut C,
+    range: Range,
+) -> Result<Vec<u64>, AllocError>
+    requires { (words : List ℕ) × Knows (C.sight cells.old) range words }
+    ensures looks { Looks (C.sight cells.old) (C.sight cells.new) }
+    ensures ok { IfOk result (λ made. (words : List ℕ) → Knows (C.sight cells.old) range words → made.items ≡ words) }
+{
+    let mut words = Vec::with_capacity(alloc, range.len)?;
+    for index in 0..range.len {
+        words.push(cells.load(range, index))?;
+    }
+    Ok(words)
+}
+
 /// The words of the body that a range cell names; none where it holds 0.
+#[tactic(auto, using(crate::proofs::Sights::looks_trans))]
 pub(crate) fn words_of<C: Cells>(
     alloc: Global,
     cells: &mut C,
@@ -54,9 +78,5 @@ pub(crate) fn words_of<C: Cells>(
         return Ok(Vec::new(alloc));
     }
     let range = range_of(cells, word);
-    let mut words = Vec::with_capacity(alloc, range.len)?;
-    for index in 0..range.len {
-        words.push(cells.load(range, index))?;
-    }
-    Ok(words)
+    Ok(range_words(alloc, cells, range)?)
 }

@@ -1,0 +1,15 @@
+-- What is so of a run's setting, since what it has read agrees with some state that shows a library that verifies.
+use Rattle.std.proofs.Common.{◌≤◌, List}
+use Rattle.std.proofs.Math.Bridge.{le_prop}
+use Rattle.std.proofs.Math.Logic.{∥∥₁_elim}
+use Rattle.library.specs.declared.library.Ranked.{Ranked}
+use Rattle.cells.specs.State.{State}
+use Rattle.cells.specs.Sight.{Sight, Suits}
+
+module _ (s : Sight) (grounded : ∥ ((st : State) × (lib : List Ranked) × Suits s st lib) ∥₁) where
+  -- a library has a slot, and at most 4096
+  pub some_slots : 1 ≤ s.setting.slots
+  some_slots = ∥∥₁_elim grounded le_prop (λ x. x.2.verifies.setting.some)
+
+  pub few_slots : s.setting.slots ≤ 4096
+  few_slots = ∥∥₁_elim grounded le_prop (λ x. x.2.verifies.setting.few)
