@@ -5,3 +5,5 @@ pub mod Members
 pub mod Tallies
 pub mod Linking
 pub mod Unlinking
+pub mod Values
+pub mod Walking

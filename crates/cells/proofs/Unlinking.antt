@@ -68,7 +68,7 @@ module _ (slots slot : ℕ) where
   leading cell (i ∷ is) = cond (i == slot) cell (leading (next_cell slots i) is)
 
   -- it is the first cell, or the next cell of another slot of the chain
-  leading_is : (cell : ℕ) (is : List ℕ)
+  pub leading_is : (cell : ℕ) (is : List ℕ)
       → (leading cell is ≡ cell) ⊎ ((j : ℕ) × Has j is × (j ≢ slot) × (leading cell is ≡ next_cell slots j))
   leading_is cell [] = inl refl
   leading_is cell (i ∷ is) =
