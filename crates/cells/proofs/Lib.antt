@@ -7,3 +7,5 @@ pub mod Linking
 pub mod Unlinking
 pub mod Values
 pub mod Walking
+pub mod Counting
+pub mod Citing

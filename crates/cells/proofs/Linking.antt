@@ -1,7 +1,7 @@
 -- Chains of slots: what becomes of them where other cells change, where a slot is put in front of one, and where a slot is taken out.
 use Rattle.std.proofs.Common.{◌≡◌, ◌≢◌, ℕ, zero, suc, ◌+◌, ◌*◌, ◌<◌, ◌≤◌, Bool, true, false, cond, List, [], ◌∷◌, ◌++◌, length, map, refl, sym, ap, subst, ◌∙◌}
 use Rattle.std.proofs.Common.{◌⊎◌, inl, inr, ⊎_elim, arith, nat_eq}
-use Rattle.std.specs.Prelude.{filter, IsPermutation, ◌==◌}
+use Rattle.std.specs.Prelude.{filter, fold, IsPermutation, ◌==◌, ◌%◌}
 use mathlib.Core.Bool.{not}
 use Rattle.std.proofs.lemmas.Bool.{cases_Bool, cases_eq, cond-true, cond-false, eqb-true, eq-eqb, ne_eqb, not_from_true, not_from_false}
 use Rattle.std.proofs.lemmas.List.Sorted.{IsPermutation-cons, IsPermutation-sym, IsPermutation-trans}
@@ -15,6 +15,14 @@ use Rattle.cells.specs.Shows.{Held, slots_of, of_bucket, IsChain, IsChained, Are
 use Rattle.cells.specs.Chains.{Rechains, without_slot}
 use Rattle.cells.proofs.Members.{has_mapped, mapped_has, has_filtered, filtered_has, has_permutation, absent}
 use Rattle.cells.proofs.Tallies.{filtered_permutation, filter_permutation, filter_all, distinct_permutation, distinct_filtered}
+
+-- a label's bucket is one of the buckets
+pub bucket_within : (slots : ℕ) (label : List ℕ) → 1 ≤ slots → bucket slots label < slots
+bucket_within slots label some = along label 0 some
+  where
+    along : (bytes : List ℕ) (h : ℕ) → h < slots → fold (λ h byte. (31 * h + byte) % slots) h bytes < slots
+    along [] h lt = lt
+    along (byte ∷ bytes) h lt = along bytes ((31 * h + byte) % slots) (omega arith)
 
 -- ---- who stands in a chain
 
