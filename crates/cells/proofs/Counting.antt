@@ -10,6 +10,8 @@ use Rattle.cells.specs.State.{State, with_value}
 use Rattle.cells.specs.Slots.{rank_cell, citers_cell, is_ranged}
 use Rattle.cells.specs.Filling.{CountsIn, CountsOut}
 use Rattle.cells.proofs.Members.{has_append_left, has_append_right, has_append_cases, absent}
+use Rattle.cells.specs.Sight.{Sight, Looks, Writes, after}
+use Rattle.cells.proofs.Sights.{after_looks, after_writes}
 use Rattle.cells.proofs.Values.{value_there, value_elsewhere}
 
 -- ---- cells that are no range cells
@@ -83,3 +85,13 @@ counts_in xs st next few ch =
 
 pub counts_out : (xs : List ℕ) (st next : State) → Changes one_less xs st next → CountsOut xs st next
 counts_out xs st next ch = record { counted = ch.counted; others = ch.others }
+
+-- what is written where a count was read
+pub count_made : (f : ℕ → ℕ) (r s t : Sight) (st : State) (cell there v w x : ℕ) → Looks r s → Writes there w s t → there ≡ citers_cell x → w ≡ f v
+    → v ≡ (after s st).value cell → cell ≡ citers_cell x
+    → after t st ≡ with_value (citers_cell x) (f ((after r st).value (citers_cell x))) (after r st)
+count_made f r s t st cell there v w x looks writes there_is w_is v_is cell_is =
+    let same = after_looks r s st looks in
+    let value : w ≡ f ((after r st).value (citers_cell x)) =
+        w_is ∙ ap f (v_is ∙ ap (after s st).value cell_is ∙ ap (λ (y : State). y.value (citers_cell x)) same) in
+    after_writes there w s t st writes ∙ (λ i. with_value (there_is i) (value i) (same i))
