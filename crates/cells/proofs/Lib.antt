@@ -9,3 +9,5 @@ pub mod Values
 pub mod Walking
 pub mod Counting
 pub mod Citing
+pub mod Holding
+pub mod Staging
