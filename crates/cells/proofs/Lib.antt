@@ -11,3 +11,5 @@ pub mod Counting
 pub mod Citing
 pub mod Holding
 pub mod Staging
+pub mod Laying
+pub mod Filled
