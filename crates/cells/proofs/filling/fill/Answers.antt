@@ -41,7 +41,7 @@ returns-clause-ok g c =
     let counting = ok_mapped _ _ _ _ _ c.in_ok-map_err.was c.map_err.ensures.cases c.count_in.ensures.ok in
     let setting = c.count_in.ensures.onward.setting ∙ c.lay_down.ensures.onward.setting in
     let cites_are = subst (AreCitedSlots c.args.steps.now) (sym c.as_slice.ensures.value) c.in_ok-cited.ensures in
-    if_mapped _ _ _ _ _ (λ x put st lib m views may.
+    if_mapped _ _ _ _ _ c.map_err-2.ensures.cases c.put_in.ensures.ok (λ x put st lib m views may.
     let m2 = matches_back s2 s3 st c.put_in.ensures.onward m in
     let m1 = matches_back s1 s2 st c.count_in.ensures.onward m2 in
     let lays = c.in_ok-lay_down.ensures.ok st m1 in
@@ -60,4 +60,3 @@ returns-clause-ok g c =
     filled slots (after old st) (after s1 st) lib shows store c.args.slot c.args.rank a steps cited c.requires.slot lays cites_are
     (after s2 st) counts c.requires.fillable (after s3 st) refl refl views.verifies.library.distinct may
     (subst (λ (s : Setting). Rechains s.slots (after s2 st) (after s3 st) shows.held _) setting chains))
-    c.map_err-2.ensures.cases c.put_in.ensures.ok

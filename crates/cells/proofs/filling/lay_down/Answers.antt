@@ -37,7 +37,7 @@ returns-clause-ok g c =
     let ranked = ok_mapped _ _ _ _ _ c.in_ok-map_err-3.was c.map_err-3.ensures.cases c.put.ensures.ok in
     let proven = c.in_ok-put_proof.ensures in
     let on3 = onward_trans _ _ _ c.put.ensures.onward c.put-2.ensures.onward in
-    if_mapped _ _ _ _ _ (λ x put st m.
+    if_mapped _ _ _ _ _ c.map_err-4.ensures.cases c.put-2.ensures.ok (λ x put st m.
     let m3 = matches_back s3 s5 st on3 m in
     let m2 = matches_back s2 s3 st c.put_proof.ensures.onward m3 in
     let m1 = matches_back s1 s2 st c.put_body-2.ensures.onward m2 in
@@ -51,4 +51,3 @@ returns-clause-ok g c =
     (λ cell ne. statement_others st cell (λ z. ne (z ∙ c.statement_cell.ensures)))
     (proven.ok st m3) (proven.others st)
     (put st ∙ (λ i. with_value (c.citers_cell.ensures i) 0 ((ranked st ∙ ap (λ (n : ℕ). with_value n c.args.rank (after s3 st)) c.rank_cell.ensures) i))))
-    c.map_err-4.ensures.cases c.put-2.ensures.ok
