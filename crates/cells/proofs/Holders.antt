@@ -20,7 +20,7 @@ use Rattle.cells.specs.Slots.{bucket, name_cell}
 use Rattle.cells.specs.Shows.{Held, IsNamed, Holds, IsEmpty, Shows, slots_of, entries_of, of_bucket}
 use Rattle.cells.specs.Lookups.{IsFoundAt}
 use Rattle.cells.proofs.Bodies.{one_body, no_body}
-use Rattle.cells.proofs.Members.{has_contained, unmapped, all_below}
+use Rattle.cells.proofs.Members.{has_from_contains, contains_from_has, mapped_has, all_below}
 
 module _ (slots : ℕ) (st : State) (lib : List Ranked) (shows : Shows slots st lib) where
   abbrev pub IsHeldAt : ℕ → Held → Type 0
@@ -36,7 +36,7 @@ module _ (slots : ℕ) (st : State) (lib : List Ranked) (shows : Shows slots st 
   -- a slot is held or empty
   pub held_or_empty : (i : ℕ) → i < slots → ((p : Held) × IsHeldAt i p) ⊎ IsEmpty slots st i
   held_or_empty i lt = elim (shows.others i lt) [
-    | inl h ↦ let u = unmapped (λ (q : Held). q.slot) shows.held i h in inl (u.0, (u.1, u.2))
+    | inl h ↦ let u = mapped_has (λ (q : Held). q.slot) shows.held i h in inl (u.0, (contains_from_has shows.held u.0 u.1, sym u.2))
     | inr e ↦ inr e
   ]
 
@@ -90,7 +90,7 @@ module _ (slots : ℕ) (st : State) (lib : List Ranked) (shows : Shows slots st 
         let passes = eq-eqb (bucket slots (label_of h.0.entry)) b (ap (bucket slots) h.3 ∙ is) in
         let at = contains_mapped (λ (q : Held). q.slot) (of_bucket slots b shows.held) h.0 (contains_filtered of shows.held h.0 h.1 passes) in
         let c = shows.chained b lt in
-        has_contained c.chain i (subst (Contains c.chain) h.2 (Contains-permutation _ c.chain h.0.slot c.has at))
+        has_from_contains c.chain i (subst (Contains c.chain) h.2 (Contains-permutation _ c.chain h.0.slot c.has at))
 
   -- a chain has no more slots than the library has assertions
   pub chain_short : (b : ℕ) (lt : b < slots) → length (shows.chained b lt).chain ≤ length lib
@@ -109,7 +109,7 @@ module _ (slots : ℕ) (st : State) (lib : List Ranked) (shows : Shows slots st 
       λ i lt.
         let h = full_slot i lt (full i lt) in
         subst (λ (k : ℕ). Has k (slots_of shows.held)) h.1.1
-        (has_contained (slots_of shows.held) h.0.slot (contains_mapped (λ (q : Held). q.slot) shows.held h.0 h.1.0)) in
+        (has_from_contains (slots_of shows.held) h.0.slot (contains_mapped (λ (q : Held). q.slot) shows.held h.0 h.1.0)) in
       let e : length (entries_of shows.held) ≡ length lib = ap (λ (xs : List Ranked). length xs) shows.library in
       omega (arith, e, all_below slots (slots_of shows.held) has, length-map shows.held (λ (q : Held). q.slot),
       length-map shows.held (λ (q : Held). q.entry))

@@ -4,3 +4,10 @@ pub mod Bodies
 pub mod Members
 pub mod Holders
 pub mod Walks
+pub mod Tallies
+pub mod Linking
+pub mod Unlinking
+pub mod Values
+pub mod Walking
+pub mod Counting
+pub mod Citing
