@@ -22,9 +22,9 @@ use Rattle.cells.proofs.Stores.{of_one_store, ranges_in-more, within_staged, has
 use Rattle.cells.proofs.Widened.{shows_widened}
 
 -- a state of these values may be the one under the run, where the run began with them
-pub plain_matches : (s : Setting) (values : List ℕ) (log : Pairs) (store : List ℕ) (places : List Place) → length store ≤ most_words
-    → Matches (plain_sight s values log store places) (plain_state (undone values log) store places)
-plain_matches s values log store places short =
+pub plain_matches : (s : Setting) (room : ℕ) (values : List ℕ) (log : Pairs) (store : List ℕ) (places : List Place) → length store ≤ most_words
+    → Matches (plain_sight s room values log store places) (plain_state (undone values log) store places)
+plain_matches s room values log store places short =
     record {
       store = of_one_store most_words store places short;
       has = within_refl (ranges_in store places);
@@ -32,24 +32,24 @@ plain_matches s values log store places short =
     }
 
 -- and it shows what they show
-pub plain_began : (s : Setting) (values : List ℕ) (log : Pairs) (store : List ℕ) (places : List Place) → length store ≤ most_words
-    → ShowsSome s (undone values log) store places → BeganWithSome s values log store places
-plain_began s values log store places short b =
-    (b.0, record { matches = plain_matches s values log store places short; shows = b.1; verifies = b.2 })
+pub plain_began : (s : Setting) (room : ℕ) (values : List ℕ) (log : Pairs) (store : List ℕ) (places : List Place) → length store ≤ most_words
+    → ShowsSome s (undone values log) store places → BeganWithSome s room values log store places
+plain_began s room values log store places short b =
+    (b.0, record { matches = plain_matches s room values log store places short; shows = b.1; verifies = b.2 })
 
 -- what the run began with stays as it was
-pub began_on : (s : Setting) (values values' : List ℕ) (log log' : Pairs) (store store' : List ℕ) (places places' : List Place)
+pub began_on : (s : Setting) (room : ℕ) (values values' : List ℕ) (log log' : Pairs) (store store' : List ℕ) (places places' : List Place)
     → length store' ≤ most_words
     → (ShowsSome s (undone values log) store places → ShowsSome s (undone values' log') store' places')
-    → ∥ BeganWithSome s values log store places ∥₁ → ∥ BeganWithSome s values' log' store' places' ∥₁
-began_on s values values' log log' store store' places places' short on began =
-    ∥∥₁_map began (λ b. plain_began s values' log' store' places' short (on (b.0, b.1.shows, b.1.verifies)))
+    → ∥ BeganWithSome s room values log store places ∥₁ → ∥ BeganWithSome s room values' log' store' places' ∥₁
+began_on s room values values' log log' store store' places places' short on began =
+    ∥∥₁_map began (λ b. plain_began s room values' log' store' places' short (on (b.0, b.1.shows, b.1.verifies)))
 
-pub began_same : (s : Setting) (values values' : List ℕ) (log log' : Pairs) (store : List ℕ) (places : List Place)
+pub began_same : (s : Setting) (room : ℕ) (values values' : List ℕ) (log log' : Pairs) (store : List ℕ) (places : List Place)
     → length store ≤ most_words → undone values' log' ≡ undone values log
-    → ∥ BeganWithSome s values log store places ∥₁ → ∥ BeganWithSome s values' log' store places ∥₁
-began_same s values values' log log' store places short same began =
-    began_on s values values' log log' store store places places short (λ b. subst (λ xs. ShowsSome s xs store places) (sym same) b) began
+    → ∥ BeganWithSome s room values log store places ∥₁ → ∥ BeganWithSome s room values' log' store places ∥₁
+began_same s room values values' log log' store places short same began =
+    began_on s room values values' log log' store store places places short (λ b. subst (λ xs. ShowsSome s xs store places) (sym same) b) began
 
 -- one of two, by a test
 pub either_way : {A : Type 0} (P : A → Type 0) (ok : Bool) (x y z : A) → z ≡ (if ok then x else y) → P x → P y → P z
@@ -73,14 +73,15 @@ pub logged_either : (count : ℕ) (log log' : Pairs) (cell v : ℕ) (ok : Bool) 
 logged_either count log log' cell v ok l lt made =
     either_way (IsLogOf count) ok (log ++ (cell, v) ∷ []) log log' made (logged_push count log (cell, v) l lt) l
 
-pub plain_reads : (s : Setting) (values : List ℕ) (log : Pairs) (store : List ℕ) (places : List Place) (cell v : ℕ)
+pub plain_reads : (s : Setting) (room : ℕ) (values : List ℕ) (log : Pairs) (store : List ℕ) (places : List Place) (cell v : ℕ)
     → cell < length values → v ≡ get_or values cell 0 → HoldNames s.slots values (ranges_in store places)
-    → Reads cell v (plain_sight s values log store places) (plain_sight s values (log ++ (cell, v) ∷ []) store places)
-plain_reads s values log store places cell v lt e hold =
+    → Reads cell v (plain_sight s room values log store places) (plain_sight s room values (log ++ (cell, v) ∷ []) store places)
+plain_reads s room values log store places cell v lt e hold =
     record {
       looks = record {
         onward = record {
           setting = refl;
+          room = refl;
           ranges = within_refl (ranges_in store places);
           reads = λ st h. fits_front st (read_at_first base log) _ (subst (FitsReads st) more h);
           read = λ c h. (h.0, subst (Has (c, h.0)) (sym more) (has_front (c, h.0) (read_at_first base log) _ h.1));
@@ -106,18 +107,19 @@ plain_reads s values log store places cell v lt e hold =
 -- ---- a cell is written
 
 -- a cell that was read is one of the log
-pub plain_undone : (s : Setting) (values : List ℕ) (log : Pairs) (store : List ℕ) (places : List Place) (cell v : ℕ)
-    → WasRead (plain_sight s values log store places) cell → undone (set values cell v) log ≡ undone values log
-plain_undone s values log store places cell v read = undone_write values (undone values log) log cell v read.0 read.1
+pub plain_undone : (s : Setting) (room : ℕ) (values : List ℕ) (log : Pairs) (store : List ℕ) (places : List Place) (cell v : ℕ)
+    → WasRead (plain_sight s room values log store places) cell → undone (set values cell v) log ≡ undone values log
+plain_undone s room values log store places cell v read = undone_write values (undone values log) log cell v read.0 read.1
 
-pub plain_writes : (s : Setting) (values : List ℕ) (log : Pairs) (store : List ℕ) (places : List Place) (cell v : ℕ) → cell < length values
-    → WasRead (plain_sight s values log store places) cell
-    → Writes cell v (plain_sight s values log store places) (plain_sight s (set values cell v) log store places)
-plain_writes s values log store places cell v lt read =
+pub plain_writes : (s : Setting) (room : ℕ) (values : List ℕ) (log : Pairs) (store : List ℕ) (places : List Place) (cell v : ℕ) → cell < length values
+    → WasRead (plain_sight s room values log store places) cell
+    → Writes cell v (plain_sight s room values log store places) (plain_sight s room (set values cell v) log store places)
+plain_writes s room values log store places cell v lt read =
     record {
       setting = refl;
+      room = refl;
       ranges = refl;
-      reads = ap (λ xs. read_at_first xs log) (plain_undone s values log store places cell v read);
+      reads = ap (λ xs. read_at_first xs log) (plain_undone s room values log store places cell v read);
       taken = refl;
       writes = λ c. written_set values cell v c lt;
     }
@@ -136,12 +138,12 @@ hold_set slots values ranges cell v lt hold named c w at ranged = go (cases_eq c
 
 -- ---- words are staged
 
-pub plain_stages : (s : Setting) (values : List ℕ) (log : Pairs) (store words : List ℕ) (places : List Place) → LieInStore store places
-    → Stages words (behind store words) (plain_sight s values log store places)
-    (plain_sight s values log (store ++ words) (places ++ behind store words ∷ []))
-plain_stages s values log store words places lie =
+pub plain_stages : (s : Setting) (room : ℕ) (values : List ℕ) (log : Pairs) (store words : List ℕ) (places : List Place) → LieInStore store places
+    → Stages words (behind store words) (plain_sight s room values log store places)
+    (plain_sight s room values log (store ++ words) (places ++ behind store words ∷ []))
+plain_stages s room values log store words places lie =
     record {
-      onward = record { setting = refl; ranges = within_staged store words places lie; reads = λ st h. h; read = λ c h. h; written = λ c h. h };
+      onward = record { setting = refl; room = refl; ranges = within_staged store words places lie; reads = λ st h. h; read = λ c h. h; written = λ c h. h };
       writes = refl;
       taken = inr (length-append store words);
       finished = has_staged store words places lie;
@@ -169,9 +171,9 @@ pub hold_staged : (slots : ℕ) (values store words : List ℕ) (places : List P
 hold_staged slots values store words places lie hold =
     hold_more slots values (ranges_in store places) _ (within_staged store words places lie) hold
 
-pub began_staged : (s : Setting) (values : List ℕ) (log : Pairs) (store words : List ℕ) (places : List Place) → LieInStore store places
-    → length (store ++ words) ≤ most_words → ∥ BeganWithSome s values log store places ∥₁
-    → ∥ BeganWithSome s values log (store ++ words) (places ++ behind store words ∷ []) ∥₁
-began_staged s values log store words places lie short began =
-    began_on s values values log log store (store ++ words) places (places ++ behind store words ∷ []) short
+pub began_staged : (s : Setting) (room : ℕ) (values : List ℕ) (log : Pairs) (store words : List ℕ) (places : List Place) → LieInStore store places
+    → length (store ++ words) ≤ most_words → ∥ BeganWithSome s room values log store places ∥₁
+    → ∥ BeganWithSome s room values log (store ++ words) (places ++ behind store words ∷ []) ∥₁
+began_staged s room values log store words places lie short began =
+    began_on s room values values log log store (store ++ words) places (places ++ behind store words ∷ []) short
     (shows_staged s (undone values log) store words places lie) began

@@ -41,9 +41,16 @@ behind store words = record { start = length store; len = length words }
 
 -- what the run has seen: it knows all ranges; it has read the cells of its log; it keeps aside all values as they are now; and the words that
 -- were taken are those of the store
-abbrev pub plain_sight : Setting → List ℕ → Pairs → List ℕ → List Place → Sight
-plain_sight setting values log store places =
-    record { setting = setting; ranges = ranges_in store places; reads = read_at_first (undone values log) log; writes = numbered_from 0 values; taken = length store }
+abbrev pub plain_sight : Setting → ℕ → List ℕ → Pairs → List ℕ → List Place → Sight
+plain_sight setting room values log store places =
+    record {
+      setting = setting;
+      ranges = ranges_in store places;
+      reads = read_at_first (undone values log) log;
+      writes = numbered_from 0 values;
+      taken = length store;
+      room = room;
+    }
 
 -- the state of these values and ranges
 abbrev pub plain_state : List ℕ → List ℕ → List Place → State
@@ -55,9 +62,9 @@ ShowsSome setting values store places =
     (lib : List Ranked) × Shows setting.slots (plain_state values store places) lib × Verifies setting lib
 
 -- the state with which the run began may be the one under the run, and shows a library that verifies
-abbrev pub BeganWithSome : Setting → List ℕ → Pairs → List ℕ → List Place → Type 0
-BeganWithSome setting values log store places =
-    (lib : List Ranked) × Suits (plain_sight setting values log store places) (plain_state (undone values log) store places) lib
+abbrev pub BeganWithSome : Setting → ℕ → List ℕ → Pairs → List ℕ → List Place → Type 0
+BeganWithSome setting room values log store places =
+    (lib : List Ranked) × Suits (plain_sight setting room values log store places) (plain_state (undone values log) store places) lib
 
 -- the word is 0 or names one of the ranges
 abbrev pub names : List Range → ℕ → Bool

@@ -40,7 +40,7 @@ pub struct PlainCells {
     ghost lie: { LieInStore store.items ranges.items },
     ghost names: { HoldNames slots values.items (ranges_in store.items ranges.items) },
     ghost began_with_names: { HoldNames slots (undone values.items log.items) (ranges_in store.items ranges.items) },
-    ghost began: { ∥ BeganWithSome (record { prelude = prelude; slots = slots }) values.items log.items store.items ranges.items ∥₁ },
+    ghost began: { ∥ BeganWithSome (record { prelude = prelude; slots = slots }) room values.items log.items store.items ranges.items ∥₁ },
 }
 
 impl PlainCells {
@@ -149,7 +149,7 @@ impl Cells for PlainCells {
 
     type Stop = PlainStop;
 
-    ghost sight = { λ c. plain_sight (record { prelude = c.prelude; slots = c.slots }) c.values.items c.log.items c.store.items c.ranges.items };
+    ghost sight = { λ c. plain_sight (record { prelude = c.prelude; slots = c.slots }) c.room c.values.items c.log.items c.store.items c.ranges.items };
 
     fn slots(&self) -> usize {
         self.slots

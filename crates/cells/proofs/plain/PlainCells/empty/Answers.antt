@@ -36,5 +36,5 @@ invariant_of-result c =
       names = subst (λ xs. HoldNames c.args.slots xs (ranges_in store places)) (sym zeros) (zeros_name c.args.slots n (ranges_in store places));
       began_with_names = subst (λ (l : Pairs). HoldNames c.args.slots (undone values l) (ranges_in store places)) (sym none)
           (subst (λ xs. HoldNames c.args.slots xs (ranges_in store places)) (sym zeros) (zeros_name c.args.slots n (ranges_in store places)));
-      began = ∣ plain_began s values log store places (subst (λ (xs : List ℕ). length xs ≤ 16777216) (sym c.new-2.ensures.items) (omega arith)) shown ∣₁;
+      began = ∣ plain_began s c.args.room values log store places (subst (λ (xs : List ℕ). length xs ≤ 16777216) (sym c.new-2.ensures.items) (omega arith)) shown ∣₁;
     }

@@ -30,6 +30,6 @@ invariant_of-self c =
       lie = p.lie;
       names = hold;
       began_with_names = subst now (sym c.give_back.ensures.log) hold;
-      began = began_same s p.values.items _ p.log.items log p.store.items p.ranges.items (omega (arith, p.stored, p.roomy))
+      began = began_same s p.room p.values.items _ p.log.items log p.store.items p.ranges.items (omega (arith, p.stored, p.roomy))
           (ap (λ (l : Pairs). undone (take p.values.len (made ++ drop (length made) p.values.items)) l) c.give_back.ensures.log ∙ begun) p.began;
     }

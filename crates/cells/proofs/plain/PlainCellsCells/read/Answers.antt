@@ -23,7 +23,7 @@ invariant_of-self c =
       lie = p.lie;
       names = p.names;
       began_with_names = subst (λ xs. HoldNames p.slots xs (ranges_in p.store.items p.ranges.items)) (sym same) p.began_with_names;
-      began = began_same _ p.values.items p.values.items p.log.items c.push.new.self.items p.store.items p.ranges.items
+      began = began_same _ p.room p.values.items p.values.items p.log.items c.push.new.self.items p.store.items p.ranges.items
           (omega (arith, p.stored, p.roomy)) same p.began;
     }
 
@@ -34,12 +34,12 @@ returns-in-Ok-clause-ok c =
     let s : Setting = record { prelude = p.prelude; slots = p.slots } in
     let lt : c.args.cell < length p.values.items = omega (arith, p.long, c.requires) in
     let at = read_at p.values.items c.args.cell v lt c.index-value.ensures in
-    subst (λ l. Reads c.args.cell v (plain_sight s p.values.items p.log.items p.store.items p.ranges.items) (plain_sight s p.values.items l p.store.items p.ranges.items))
-    (sym c.in-Ok.ensures.items) (plain_reads s p.values.items p.log.items p.store.items p.ranges.items c.args.cell v lt at p.names)
+    subst (λ l. Reads c.args.cell v (plain_sight s p.room p.values.items p.log.items p.store.items p.ranges.items) (plain_sight s p.room p.values.items l p.store.items p.ranges.items))
+    (sym c.in-Ok.ensures.items) (plain_reads s p.room p.values.items p.log.items p.store.items p.ranges.items c.args.cell v lt at p.names)
 
 pub returns-in-Err-clause-err : goal.returns-in-Err-clause-err
 returns-in-Err-clause-err c =
     let p = c.args.self.now in
     let s : Setting = record { prelude = p.prelude; slots = p.slots } in
-    let before = plain_sight s p.values.items p.log.items p.store.items p.ranges.items in
-    subst (λ l. Looks before (plain_sight s p.values.items l p.store.items p.ranges.items)) (sym c.in-Err.ensures.items) (looks_refl before)
+    let before = plain_sight s p.room p.values.items p.log.items p.store.items p.ranges.items in
+    subst (λ l. Looks before (plain_sight s p.room p.values.items l p.store.items p.ranges.items)) (sym c.in-Err.ensures.items) (looks_refl before)
