@@ -11,3 +11,9 @@ pub mod Values
 pub mod Walking
 pub mod Counting
 pub mod Citing
+pub mod Logs
+pub mod Numbered
+pub mod Stores
+pub mod Widened
+pub mod PlainSights
+pub mod Empty
