@@ -102,9 +102,11 @@ cases_has (y ∷ ys) x =
 -- one more behind numbers that differ
 pub distinct_push : (xs : List ℕ) (x : ℕ) → Distinct nat_eq xs → (Has x xs → ⊥) → Distinct nat_eq (xs ++ x ∷ [])
 distinct_push [] x d free = (refl, tt)
-distinct_push (y ∷ ys) x d free =
-    (none_absent (ys ++ x ∷ []) y (λ h. ⊎_elim (absent ys y d.0) (λ last. ⊎_elim (λ e. free (inl (sym e))) (λ z. z) last)
-    (has_append_cases ys (x ∷ []) y h)), distinct_push ys x d.1 (λ h. free (inr h)))
+distinct_push (y ∷ ys) x d free = (
+  none_absent (ys ++ x ∷ []) y (λ h. ⊎_elim (absent ys y d.0) (λ last. ⊎_elim (λ e. free (inl (sym e))) (λ z. z) last)
+      (has_append_cases ys (x ∷ []) y h)),
+  distinct_push ys x d.1 (λ h. free (inr h)),
+)
 
 -- a list without one that stands in it: one shorter, with the others
 taken_out : (x : ℕ) (xs : List ℕ) → Has x xs → (ys : List ℕ) × (length xs ≡ suc (length ys)) × ((i : ℕ) → Has i xs → i ≢ x → Has i ys)
