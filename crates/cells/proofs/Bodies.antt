@@ -1,5 +1,6 @@
 -- Ranges that a run knows, and the bodies that cells name: a word names one.
 use Rattle.std.proofs.Common.{◌≡◌, ◌≢◌, ℕ, zero, suc, ◌+◌, ◌*◌, ◌/◌, ◌%◌, ◌-◌, ◌^◌, ◌<◌, List, [], ◌∷◌, length, refl, sym, ap, subst, ◌∙◌, inl, inr, arith}
+use Rattle.std.specs.Prelude.{◌↔◌}
 use Rattle.std.specs.Coded.{Coded-set, coded_list, coded_ℕ}
 use Rattle.std.proofs.Math.Bridge.{le_prop}
 use Rattle.std.proofs.Math.Logic.{∥∥₁_elim}
@@ -108,3 +109,11 @@ are_words s st range cell word words m k read some is = record {
 -- a cell that holds 0 has none
 pub no_words : (st : State) (cell : ℕ) → st.value cell ≡ 0 → AreWordsOf st cell []
 no_words st cell e = record { body = λ words b. absurd (no_body st cell words b e); none = λ h. refl }
+
+-- a cell that names a known range has a body just where that has its words
+pub same_words : (s : Sight) (st : State) (range : Place) (cell word : ℕ) (words body : List ℕ) → Matches s st → Knows s range words
+    → word ≡ (after s st).value cell → word ≡ range.start * 2 ^ 25 + range.len → body ≢ [] → (words ≡ body) ↔ HasBody (after s st) cell body
+same_words s st range cell word words body m k read is some = (
+  λ e. subst (HasBody (after s st) cell) e (body_known s st m range cell words k (sym read ∙ is) (λ none. some (sym e ∙ none))),
+  λ b. words_known s st m range cell words body k (sym read ∙ is) b,
+)

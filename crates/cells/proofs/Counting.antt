@@ -55,6 +55,7 @@ changes_push f listed x st mid ch free =
   where
     cell : ℕ
     cell = 5 * x + 4
+
     new : ℕ
     new = f (mid.value (citers_cell x))
 
@@ -93,5 +94,5 @@ pub count_made : (f : ℕ → ℕ) (r s t : Sight) (st : State) (cell there v w 
 count_made f r s t st cell there v w x looks writes there_is w_is v_is cell_is =
     let same = after_looks r s st looks in
     let value : w ≡ f ((after r st).value (citers_cell x)) =
-        w_is ∙ ap f (v_is ∙ ap (after s st).value cell_is ∙ ap (λ (y : State). y.value (citers_cell x)) same) in
+    w_is ∙ ap f (v_is ∙ ap (after s st).value cell_is ∙ ap (λ (y : State). y.value (citers_cell x)) same) in
     after_writes there w s t st writes ∙ (λ i. with_value (there_is i) (value i) (same i))

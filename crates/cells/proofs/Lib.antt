@@ -2,6 +2,8 @@ pub mod Sights
 pub mod Settings
 pub mod Bodies
 pub mod Members
+pub mod Holders
+pub mod Walks
 pub mod Tallies
 pub mod Linking
 pub mod Unlinking
@@ -13,3 +15,9 @@ pub mod Holding
 pub mod Staging
 pub mod Laying
 pub mod Filled
+pub mod Logs
+pub mod Numbered
+pub mod Stores
+pub mod Widened
+pub mod PlainSights
+pub mod Empty

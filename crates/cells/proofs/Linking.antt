@@ -115,9 +115,9 @@ module _ (slots : ℕ) where
   chains_alike st held then m chained b lt =
       let c = chained b lt in
       let same : IsPermutation (slots_of (of_bucket slots b held)) (slots_of (of_bucket slots b then)) =
-          subst (λ l. IsPermutation l (slots_of (of_bucket slots b then))) (sym (seats held b))
-          (subst (IsPermutation (map (λ s. s.0) (filter (λ (s : ℕ × List ℕ). bucket slots s.1 == b) (map seat held)))) (sym (seats then b))
-          (filtered_permutation (λ (s : ℕ × List ℕ). bucket slots s.1 == b) (λ s. s.0) (map seat held) (map seat then) m)) in
+      subst (λ l. IsPermutation l (slots_of (of_bucket slots b then))) (sym (seats held b))
+      (subst (IsPermutation (map (λ s. s.0) (filter (λ (s : ℕ × List ℕ). bucket slots s.1 == b) (map seat held)))) (sym (seats then b))
+      (filtered_permutation (λ (s : ℕ × List ℕ). bucket slots s.1 == b) (λ s. s.0) (map seat held) (map seat then) m)) in
       record { chain = c.chain; starts = c.starts; has = IsPermutation-trans _ _ _ (IsPermutation-sym _ _ same) c.has }
 
   -- ---- in front
@@ -141,32 +141,38 @@ module _ (slots : ℕ) where
     where
       b0 : ℕ
       b0 = bucket slots (label_of e)
+
       kept : (b : ℕ) (lt : b < slots) (word : ℕ) → IsChain slots st (chained b lt).chain word → IsChain slots next (chained b lt).chain word
       kept b lt word h =
           chain_kept st next (chained b lt).chain word (λ i has within.
           puts.others (next_cell slots i) (omega (arith, in_buckets)) (λ z.
           let p = bucket_has held b i (has_permutation _ _ i (IsPermutation-sym _ _ (chained b lt).has) has) in
           free (subst (λ n. Has n (slots_of held)) (sym p.3 ∙ omega (arith, z)) (has_mapped (λ (q : Held). q.slot) held p.0 p.1)))) h
+
       here : (b : ℕ) (lt : b < slots) → bucket slots (label_of e) ≡ b → IsChained slots next (record { slot = slot; entry = e } ∷ held) b
       here b lt eq =
           let c = chained b lt in
           let rest = of_bucket slots b held in
           let more : of_bucket slots b (record { slot = slot; entry = e } ∷ held) ≡ record { slot = slot; entry = e } ∷ rest =
-              cond-true (bucket slots (label_of e) == b) _ _ (eq-eqb (bucket slots (label_of e)) b eq) in
+          cond-true (bucket slots (label_of e) == b) _ _ (eq-eqb (bucket slots (label_of e)) b eq) in
           record {
             chain = slot ∷ c.chain;
-            starts = (in_slots, ap (λ n. next.value (bucket_cell slots n)) (sym eq) ∙ puts.front,
-                subst (IsChain slots next c.chain) (sym (puts.link ∙ ap (λ n. st.value (bucket_cell slots n)) eq)) (kept b lt _ c.starts));
+            starts = (
+              in_slots,
+              ap (λ n. next.value (bucket_cell slots n)) (sym eq) ∙ puts.front,
+              subst (IsChain slots next c.chain) (sym (puts.link ∙ ap (λ n. st.value (bucket_cell slots n)) eq)) (kept b lt _ c.starts),
+            );
             has = subst (λ (l : List Held). IsPermutation (slots_of l) (slot ∷ c.chain)) (sym more) (IsPermutation-cons slot _ _ c.has);
           }
+
       there : (b : ℕ) (lt : b < slots) → (bucket slots (label_of e) ≡ b → ⊥) → IsChained slots next (record { slot = slot; entry = e } ∷ held) b
       there b lt ne =
           let c = chained b lt in
           let rest = of_bucket slots b held in
           let same : of_bucket slots b (record { slot = slot; entry = e } ∷ held) ≡ rest =
-              cond-false (bucket slots (label_of e) == b) _ _ (ne_eqb (bucket slots (label_of e)) b ne) in
+          cond-false (bucket slots (label_of e) == b) _ _ (ne_eqb (bucket slots (label_of e)) b ne) in
           let front : next.value (bucket_cell slots b) ≡ st.value (bucket_cell slots b) =
-              puts.others (bucket_cell slots b) (λ z. ne (omega (arith, z))) (omega (arith, lt)) in
+          puts.others (bucket_cell slots b) (λ z. ne (omega (arith, z))) (omega (arith, lt)) in
           record {
             chain = c.chain;
             starts = subst (IsChain slots next c.chain) (sym front) (kept b lt _ c.starts);

@@ -1,5 +1,5 @@
 -- What stands in a list: in both ways of saying it, and in appended, mapped, filtered and permuted lists.
-use Rattle.std.proofs.Common.{◌≡◌, ℕ, zero, suc, ◌<◌, Bool, true, false, cond, List, [], ◌∷◌, ◌++◌, length, map, refl, sym, ap, subst, ◌∙◌}
+use Rattle.std.proofs.Common.{◌≡◌, ◌≢◌, ℕ, zero, suc, ◌<◌, ◌≤◌, Bool, true, false, cond, List, [], ◌∷◌, ◌++◌, length, map, refl, sym, ap, subst, ◌∙◌}
 use Rattle.std.proofs.Common.{◌⊎◌, inl, inr, ⊎_elim, arith, nat_eq}
 use Rattle.std.specs.Prelude.{filter, All, IsPermutation}
 use Rattle.std.specs.List.{Contains, list_any}
@@ -102,6 +102,24 @@ cases_has (y ∷ ys) x =
 -- one more behind numbers that differ
 pub distinct_push : (xs : List ℕ) (x : ℕ) → Distinct nat_eq xs → (Has x xs → ⊥) → Distinct nat_eq (xs ++ x ∷ [])
 distinct_push [] x d free = (refl, tt)
-distinct_push (y ∷ ys) x d free =
-    (none_absent (ys ++ x ∷ []) y (λ h. ⊎_elim (absent ys y d.0) (λ last. ⊎_elim (λ e. free (inl (sym e))) (λ z. z) last)
-    (has_append_cases ys (x ∷ []) y h)), distinct_push ys x d.1 (λ h. free (inr h)))
+distinct_push (y ∷ ys) x d free = (
+  none_absent (ys ++ x ∷ []) y (λ h. ⊎_elim (absent ys y d.0) (λ last. ⊎_elim (λ e. free (inl (sym e))) (λ z. z) last)
+      (has_append_cases ys (x ∷ []) y h)),
+  distinct_push ys x d.1 (λ h. free (inr h)),
+)
+
+-- a list without one that stands in it: one shorter, with the others
+taken_out : (x : ℕ) (xs : List ℕ) → Has x xs → (ys : List ℕ) × (length xs ≡ suc (length ys)) × ((i : ℕ) → Has i xs → i ≢ x → Has i ys)
+taken_out x [] h = absurd h
+taken_out x (y ∷ ys) (inl e) = (ys, omega arith, λ i h ne. elim h [ inl d ↦ absurd (ne (d ∙ sym e)) | inr k ↦ k ])
+taken_out x (y ∷ ys) (inr h) =
+    let t = taken_out x ys h in
+    (y ∷ t.0, omega (arith, t.1), λ i k ne. elim k [ inl d ↦ inl d | inr l ↦ inr (t.2 i l ne) ])
+
+-- a list in which each number below n stands has at least n elements
+pub all_below : (n : ℕ) (xs : List ℕ) → ((i : ℕ) → i < n → Has i xs) → n ≤ length xs
+all_below zero xs h = omega arith
+all_below (suc n) xs h =
+    let t = taken_out n xs (h n (omega arith)) in
+    let shorter = all_below n t.0 (λ i lt. t.2 i (h i (omega arith)) (λ e. omega (arith, e, lt))) in
+    omega (arith, t.1, shorter)

@@ -15,12 +15,13 @@ use Rattle.cells.specs.Lookups.{ForEach}
 -- ---- nothing is lost
 
 pub onward_refl : (s : Sight) → Onward s s
-onward_refl s = record { setting = refl; ranges = within_refl s.ranges; reads = λ st h. h; read = λ c h. h; written = λ c h. h }
+onward_refl s = record { setting = refl; room = refl; ranges = within_refl s.ranges; reads = λ st h. h; read = λ c h. h; written = λ c h. h }
 
 pub onward_trans : (r s t : Sight) → Onward r s → Onward s t → Onward r t
 onward_trans r s t f g =
     record {
       setting = g.setting ∙ f.setting;
+      room = g.room ∙ f.room;
       ranges = within_trans r.ranges s.ranges t.ranges f.ranges g.ranges;
       reads = λ st h. f.reads st (g.reads st h);
       read = λ c h. g.read c (f.read c h);
@@ -37,6 +38,7 @@ pub writes_onward : (cell v : ℕ) (s t : Sight) → Writes cell v s t → Onwar
 writes_onward cell v s t w =
     record {
       setting = w.setting;
+      room = w.room;
       ranges = subst (Within s.ranges) (sym w.ranges) (within_refl s.ranges);
       reads = λ st h. subst (FitsReads st) w.reads h;
       read = λ c h. (h.0, subst (Has (c, h.0)) (sym w.reads) h.1);

@@ -32,9 +32,9 @@ permutation_from_counts (x ∷ xs) ys same =
     let own = cond-true {A = ℕ} (nat_eq x x) 1 0 (eq-eqb x x refl) in
     let at = counted_at ys x (omega (arith, same x, sum_by-cons (is_one x) x xs, own)) in
     let rest = permutation_from_counts xs (remove ys at.0) (λ w.
-        let r = sum_by-remove (is_one w) ys at.0 x at.1 in
-        let z : is_one w (get_or ys at.0 x) ≡ is_one w x = ap (is_one w) at.2 in
-        omega (arith, same w, sum_by-cons (is_one w) x xs, r, z)) in
+    let r = sum_by-remove (is_one w) ys at.0 x at.1 in
+    let z : is_one w (get_or ys at.0 x) ≡ is_one w x = ap (is_one w) at.2 in
+    omega (arith, same w, sum_by-cons (is_one w) x xs, r, z)) in
     IsPermutation-trans (x ∷ xs) (x ∷ remove ys at.0) ys (IsPermutation-cons x xs (remove ys at.0) rest)
     (IsPermutation-sym ys (x ∷ remove ys at.0) (IsPermutation-remove ys at.0 x at.1 (sym at.2)))
 
@@ -97,9 +97,10 @@ distinct_counts (x ∷ xs) d w =
 distinct_from_counts : (xs : List ℕ) → ((w : ℕ) → sum_by (is_one w) xs ≤ 1) → Distinct nat_eq xs
 distinct_from_counts [] most = tt
 distinct_from_counts (x ∷ xs) most =
-    let own = cond-true {A = ℕ} (nat_eq x x) 1 0 (eq-eqb x x refl) in
-    (none_from_count (nat_eq x) xs (omega (arith, sum_by-cons (is_one x) x xs, most x)),
-    distinct_from_counts xs (λ w. omega (arith, sum_by-cons (is_one w) x xs, most w)))
+    let own = cond-true {A = ℕ} (nat_eq x x) 1 0 (eq-eqb x x refl) in (
+      none_from_count (nat_eq x) xs (omega (arith, sum_by-cons (is_one x) x xs, most x)),
+      distinct_from_counts xs (λ w. omega (arith, sum_by-cons (is_one w) x xs, most w)),
+    )
 
 pub distinct_permutation : (xs ys : List ℕ) → IsPermutation xs ys → Distinct nat_eq xs → Distinct nat_eq ys
 distinct_permutation xs ys m d =

@@ -99,10 +99,10 @@ module _ (slots slot : ℕ) where
             let at : leading cell (i ∷ is) ≡ cell = cond-true (i == slot) cell (leading (next_cell slots i) is) so in
             let free : Has slot is → ⊥ = subst (λ n. Has n is → ⊥) e (absent is i d.0) in
             let kept : filter (is_other slot) (i ∷ is) ≡ is =
-                cond-false (is_other slot i) _ _ (not_from_true (i == slot) so)
-                ∙ filter_all (is_other slot) is (λ j hj. not_from_false (j == slot) (ne_eqb j slot (λ z. free (subst (λ n. Has n is) z hj)))) in
+            cond-false (is_other slot i) _ _ (not_from_true (i == slot) so)
+            ∙ filter_all (is_other slot) is (λ j hj. not_from_false (j == slot) (ne_eqb j slot (λ z. free (subst (λ n. Has n is) z hj)))) in
             let past : next.value cell ≡ st.value (next_cell slots i) =
-                ap next.value (sym at) ∙ takes.past ∙ ap (λ n. st.value (next_cell slots n)) (sym e) in
+            ap next.value (sym at) ∙ takes.past ∙ ap (λ n. st.value (next_cell slots n)) (sym e) in
             subst (λ l. IsChain slots next l (next.value cell)) (sym kept)
             (subst (IsChain slots next is) (sym past)
             (chain_kept slots st next is _ (λ j hj within.
@@ -113,15 +113,15 @@ module _ (slots slot : ℕ) where
             let takes' = subst (TakesOut st next) at takes in
             let has' : Has slot is = ⊎_elim (λ z. absurd (eqb-false i slot other (sym z))) (λ z. z) has in
             let rest = cut st next (next_cell slots i) is h.2 d.1 has'
-                (λ j hj z. absent is i d.0 (subst (λ n. Has n is) (omega (arith, z)) hj)) takes' in
+            (λ j hj z. absent is i d.0 (subst (λ n. Has n is) (omega (arith, z)) hj)) takes' in
             let apart_from : cell ≢ leading (next_cell slots i) is =
-                ⊎_elim
-                (λ first z. apart i (inl refl) (z ∙ first))
-                (λ (r : (j : ℕ) × Has j is × (j ≢ slot) × (leading (next_cell slots i) is ≡ next_cell slots j)) z. apart r.0 (inr r.1) (z ∙ r.3))
-                (leading_is (next_cell slots i) is) in
+            ⊎_elim
+            (λ first z. apart i (inl refl) (z ∙ first))
+            (λ (r : (j : ℕ) × Has j is × (j ≢ slot) × (leading (next_cell slots i) is ≡ next_cell slots j)) z. apart r.0 (inr r.1) (z ∙ r.3))
+            (leading_is (next_cell slots i) is) in
             let same : next.value cell ≡ st.value cell = takes'.others cell apart_from (apart slot has) in
             let kept : filter (is_other slot) (i ∷ is) ≡ i ∷ filter (is_other slot) is =
-                cond-true (is_other slot i) _ _ (not_from_false (i == slot) other) in
+            cond-true (is_other slot i) _ _ (not_from_false (i == slot) other) in
             subst (λ l. IsChain slots next l (next.value cell)) (sym kept) (h.0, same ∙ h.1, rest)
       ]
 
@@ -177,13 +177,13 @@ module _ (slots slot : ℕ) where
           let c = chained b within in
           let not_own : Has slot (slots_of (of_bucket slots b held)) → ⊥ = λ h. ne (one_bucket slots held b0 b slot distinct own h) in
           let same : next.value (bucket_cell slots b) ≡ st.value (bucket_cell slots b) =
-              takes.others (bucket_cell slots b)
-              (λ z. ⊎_elim (λ first. ne (omega (arith, first, z))) (λ (r : (j : ℕ) × Has j chain × (j ≢ slot) × (before ≡ next_cell slots j)).
-              let e = r.3 in omega (arith, within, z, e)) before_is)
-              (λ z. omega (arith, within, z)) in
+          takes.others (bucket_cell slots b)
+          (λ z. ⊎_elim (λ first. ne (omega (arith, first, z))) (λ (r : (j : ℕ) × Has j chain × (j ≢ slot) × (before ≡ next_cell slots j)).
+          let e = r.3 in omega (arith, within, z, e)) before_is)
+          (λ z. omega (arith, within, z)) in
           let all : slots_of (of_bucket slots b (without_slot slot held)) ≡ slots_of (of_bucket slots b held) =
-              bucket_without held b ∙ filter_all (is_other slot) (slots_of (of_bucket slots b held))
-              (λ i h. not_from_false (i == slot) (ne_eqb i slot (λ z. not_own (subst (λ n. Has n (slots_of (of_bucket slots b held))) z h)))) in
+          bucket_without held b ∙ filter_all (is_other slot) (slots_of (of_bucket slots b held))
+          (λ i h. not_from_false (i == slot) (ne_eqb i slot (λ z. not_own (subst (λ n. Has n (slots_of (of_bucket slots b held))) z h)))) in
           record {
             chain = c.chain;
             starts = subst (IsChain slots next c.chain) (sym same) (chain_kept slots st next c.chain _ (λ i has w.

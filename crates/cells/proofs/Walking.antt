@@ -36,8 +36,10 @@ in_front old mid new st front link first slot label held e s same links fronts f
   where
     slots : ℕ
     slots = old.setting.slots
+
     made : after new st ≡ with_value front (slot + 1) (with_value link first (after old st))
     made = after_writes front (slot + 1) mid new st fronts ∙ ap (with_value front (slot + 1)) (after_writes link first s mid st links ∙ ap (with_value link first) same)
+
     puts : PutsFront old.setting.slots (after old st) (after new st) slot (bucket old.setting.slots label)
     puts = subst (λ (x : State). PutsFront old.setting.slots (after old st) x slot (bucket old.setting.slots label)) (sym made) (record {
       front = ap (with_value front (slot + 1) (with_value link first (after old st))).value (sym front_is) ∙ value_there front (slot + 1) (with_value link first (after old st));
@@ -131,6 +133,7 @@ taken_out old mid new s st before link next slot held e b same passes ends link_
   where
     made : after new st ≡ with_value link 0 (with_value before next (after old st))
     made = after_writes link 0 mid new st ends ∙ ap (with_value link 0) (after_writes before next s mid st passes ∙ ap (with_value before next) same)
+
     apart : before ≢ link
     apart z =
         ⊎_elim
@@ -139,6 +142,7 @@ taken_out old mid new s st before link next slot held e b same passes ends link_
         × (leading old.setting.slots slot (bucket_cell old.setting.slots b) (chained b lt).chain ≡ next_cell old.setting.slots j)).
         let at = r.3 in r.2 (omega (arith, at, before_is, link_is, z)))
         (leading_is old.setting.slots slot (bucket_cell old.setting.slots b) (chained b lt).chain)
+
     takes : TakesOut old.setting.slots slot (after old st) (after new st) before
     takes = subst (λ (x : State). TakesOut old.setting.slots slot (after old st) x before) (sym made) (record {
       past = value_elsewhere link 0 (with_value before next (after old st)) before apart ∙ value_there before next (after old st) ∙ next_is

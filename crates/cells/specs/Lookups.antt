@@ -1,11 +1,13 @@
 -- What the calls that read a library's cells answer, for every state that may be under the run.
-use Rattle.std.specs.Prelude.{◌≡◌, ◌≢◌, ◌<◌, ◌≤◌, ℕ, ◌+◌, ◌%◌, List, Option, Some, None, true, length, All}
+use Rattle.std.specs.Prelude.{◌≡◌, ◌≢◌, ◌<◌, ◌≤◌, ℕ, ◌+◌, ◌%◌, List, Option, Some, None, Bool, true, false, length, All, Contains}
 use Rattle.std.specs.List.{list_any}
 use Rattle.mmsyntax.specs.declared.statement.Step.{Step}
 use Rattle.mmsyntax.specs.declared.statement.Step.TheVariants.{Float, Hyp, Cite}
 use Rattle.library.specs.declared.library.Ranked.{Ranked}
 use Rattle.library.specs.Edits.{found, is_of_unknown}
 use Rattle.bodystore.specs.declared.stored.StoredStep.{StoredStep}
+use Rattle.bodystore.specs.declared.stored.StoredStep.TheVariants.{Slot}
+use Rattle.ranges.specs.Ranges.{Has}
 use Rattle.cells.specs.State.{State, HasBody}
 use Rattle.cells.specs.Slots.{name_cell}
 use Rattle.cells.specs.Shows.{Holds, IsEmpty, AreStoredAs}
@@ -30,6 +32,11 @@ abbrev pub Finds : Sight → List ℕ → Option ℕ → Type 0
 Finds s label None = ForEach s (λ st lib. found lib label ≡ None)
 Finds s label (Some i) = (i < s.setting.slots) × ForEach s (λ st lib. IsFoundAt s.setting.slots st lib label i)
 
+-- whether the slot holds an assertion of the library: if not, it is empty
+abbrev pub IfFull : Sight → ℕ → Bool → Type 0
+IfFull s i true = ForEach s (λ st lib. (e : Ranked) × Holds s.setting.slots st lib i e × Contains lib e)
+IfFull s i false = ForEach s (λ st lib. IsEmpty s.setting.slots st i)
+
 -- the first empty slot from a slot on, going round
 pub record IsFirstEmpty (s : Sight) (from i : ℕ) : Type 0 where
   pub within : i < s.setting.slots
@@ -48,10 +55,15 @@ pub record AreWordsOf (st : State) (cell : ℕ) (made : List ℕ) : Type 0 where
   pub body : (words : List ℕ) → HasBody st cell words → made ≡ words
   pub none : st.value cell ≡ 0 → length made ≡ 0
 
+-- the slots that the steps cite are slots
+abbrev pub AreWithin : ℕ → List StoredStep → Type 0
+AreWithin slots kept = (i : ℕ) → Has (Slot i) kept → i < slots
+
 -- the steps with each cited label as a slot that has it; none where some step cites a label that no assertion has
 abbrev pub Resolves : Sight → List Step → Option (List StoredStep) → Type 0
 Resolves s steps None = ForEach s (λ st lib. list_any (is_of_unknown lib) steps ≡ true)
-Resolves s steps (Some kept) = ForEach s (λ st lib. AreStoredAs s.setting.slots st steps kept)
+Resolves s steps (Some kept) =
+    (length kept ≡ length steps) × AreWithin s.setting.slots kept × ForEach s (λ st lib. AreStoredAs s.setting.slots st steps kept)
 
 -- a cited label is one of bytes
 abbrev pub IsShortLabelled : Step → Type 0

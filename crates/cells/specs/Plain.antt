@@ -10,7 +10,7 @@ use Rattle.ranges.specs.declared.range.Range.{Range as Place}
 use Rattle.bodystore.specs.Bodies.{label_body, statement_of, statement_body}
 use Rattle.cells.specs.State.{State}
 use Rattle.cells.specs.Slots.{is_ranged}
-use Rattle.cells.specs.Sight.{Sight}
+use Rattle.cells.specs.Sight.{Sight, Suits}
 use Rattle.cells.specs.Shows.{Shows}
 
 -- each value with its cell, from the cell c on
@@ -35,11 +35,22 @@ range_in store r = record { start = r.start; words = take r.len (drop r.start st
 abbrev pub ranges_in : List ℕ → List Place → List Range
 ranges_in store places = map (range_in store) places
 
+-- the place behind the words of a store, for so many words more
+abbrev pub behind : List ℕ → List ℕ → Place
+behind store words = record { start = length store; len = length words }
+
 -- what the run has seen: it knows all ranges; it has read the cells of its log; it keeps aside all values as they are now; and the words that
 -- were taken are those of the store
-abbrev pub plain_sight : Setting → List ℕ → Pairs → List ℕ → List Place → Sight
-plain_sight setting values log store places =
-    record { setting = setting; ranges = ranges_in store places; reads = read_at_first (undone values log) log; writes = numbered_from 0 values; taken = length store }
+abbrev pub plain_sight : Setting → ℕ → List ℕ → Pairs → List ℕ → List Place → Sight
+plain_sight setting room values log store places =
+    record {
+      setting = setting;
+      ranges = ranges_in store places;
+      reads = read_at_first (undone values log) log;
+      writes = numbered_from 0 values;
+      taken = length store;
+      room = room;
+    }
 
 -- the state of these values and ranges
 abbrev pub plain_state : List ℕ → List ℕ → List Place → State
@@ -49,6 +60,11 @@ plain_state values store places = record { value = slice_index values; ranges = 
 abbrev pub ShowsSome : Setting → List ℕ → List ℕ → List Place → Type 0
 ShowsSome setting values store places =
     (lib : List Ranked) × Shows setting.slots (plain_state values store places) lib × Verifies setting lib
+
+-- the state with which the run began may be the one under the run, and shows a library that verifies
+abbrev pub BeganWithSome : Setting → ℕ → List ℕ → Pairs → List ℕ → List Place → Type 0
+BeganWithSome setting room values log store places =
+    (lib : List Ranked) × Suits (plain_sight setting room values log store places) (plain_state (undone values log) store places) lib
 
 -- the word is 0 or names one of the ranges
 abbrev pub names : List Range → ℕ → Bool

@@ -9,14 +9,15 @@ use Rattle.cells.specs.State.{State, FitsReads, with_writes, most_words}
 use Rattle.cells.specs.Slots.{is_ranged}
 use Rattle.cells.specs.Shows.{Shows}
 
--- the setting of the library, the finished ranges that the run knows, what it has read from cells, what it keeps aside for cells, and how many
--- words of the store were taken by it and by those before it
+-- the setting of the library, the finished ranges that the run knows, what it has read from cells, what it keeps aside for cells, how many
+-- words of the store were taken by it and by those before it, and how many words the store has room for
 pub record Sight : Type 0 where
   pub setting : Setting
   pub ranges : List Range
   pub reads : Pairs
   pub writes : Pairs
   pub taken : ℕ
+  pub room : ℕ
 
 -- the cell was read
 abbrev pub WasRead : Sight → ℕ → Type 0
@@ -53,6 +54,7 @@ pub record Views (s : Sight) (st : State) (lib : List Ranked) : Type 0 where
 -- nothing that was read, seen or written is lost
 pub record Onward (old new : Sight) : Type 0 where
   pub setting : new.setting ≡ old.setting
+  pub room : new.room ≡ old.room
   pub ranges : Within old.ranges new.ranges
   pub reads : (st : State) → FitsReads st new.reads → FitsReads st old.reads
   pub read : (c : ℕ) → WasRead old c → WasRead new c
@@ -74,6 +76,7 @@ pub record Reads (cell v : ℕ) (old new : Sight) : Type 0 where
 -- the value is kept aside for the cell
 pub record Writes (cell v : ℕ) (old new : Sight) : Type 0 where
   pub setting : new.setting ≡ old.setting
+  pub room : new.room ≡ old.room
   pub ranges : new.ranges ≡ old.ranges
   pub reads : new.reads ≡ old.reads
   pub taken : new.taken ≡ old.taken

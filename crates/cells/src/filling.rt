@@ -93,7 +93,7 @@ fn put_proof<C: Cells>(
 }
 
 /// Reads a cell and writes a value to it.
-pub(crate) fn put<C: Cells>(cells: &mut C, cell: usize, value: u64) -> Result<(), C::Stop>
+pub fn put<C: Cells>(cells: &mut C, cell: usize, value: u64) -> Result<(), C::Stop>
     requires cell { cell < cell_count (C.sight cells.old).setting.slots }
     requires plain { is_ranged (C.sight cells.old).setting.slots cell ≡ false }
     ensures onward { Onward (C.sight cells.old) (C.sight cells.new) }
@@ -105,7 +105,7 @@ pub(crate) fn put<C: Cells>(cells: &mut C, cell: usize, value: u64) -> Result<()
 }
 
 /// Stages words and has a cell name their range.
-pub(crate) fn put_body<C: Cells>(cells: &mut C, cell: usize, words: &[u64]) -> Result<(), C::Stop>
+pub fn put_body<C: Cells>(cells: &mut C, cell: usize, words: &[u64]) -> Result<(), C::Stop>
     requires cell { cell < cell_count (C.sight cells.old).setting.slots }
     requires some { words.now ≢ [] }
     ensures onward { Onward (C.sight cells.old) (C.sight cells.new) }

@@ -16,7 +16,7 @@ mod words;
 pub use cells::Cells;
 pub use chains::{put_in, take_out};
 pub use counts::{cited_slots, count_in, count_out};
-pub use filling::fill;
+pub use filling::{fill, put, put_body};
 pub use finding::{find, free_slot};
 pub use halt::Halt;
 pub use opening::OpenError;
@@ -25,5 +25,6 @@ pub use places::{
 };
 pub use plain::{PlainCells, PlainStop};
 pub use reading::{
-    assertion, citers, entry, frame, label, proof, rank, resolve, statement, stored_proof,
+    assertion, citers, entry, frame, is_full, kind, label, proof, rank, resolve, statement,
+    stored_proof,
 };

@@ -1,8 +1,8 @@
 //! Cells and a store on plain vectors, for one thread.
 
-ghost use Rattle.std.specs.Prelude.{◌≡◌, ◌≢◌, ◌≤◌, ◌<◌, ◌*◌, ◌++◌, [], length, slice_index, IfOk};
+ghost use Rattle.std.specs.Prelude.{◌≡◌, ◌≢◌, ◌≤◌, ◌<◌, ◌*◌, ◌++◌, [], ◌∷◌, length, slice_index, is_ok, if◌then◌else◌, IfOk};
 ghost use Rattle.cells.specs.Slots.{cell_count};
-ghost use Rattle.cells.specs.Plain.{plain_sight, undone, ranges_in, ShowsSome, HoldNames, LieInStore, IsLogOf};
+ghost use Rattle.cells.specs.Plain.{plain_sight, undone, ranges_in, ShowsSome, BeganWithSome, HoldNames, LieInStore, IsLogOf, behind};
 
 use crate::cells::Cells;
 use mmstatement::Prelude;
@@ -40,7 +40,7 @@ pub struct PlainCells {
     ghost lie: { LieInStore store.items ranges.items },
     ghost names: { HoldNames slots values.items (ranges_in store.items ranges.items) },
     ghost began_with_names: { HoldNames slots (undone values.items log.items) (ranges_in store.items ranges.items) },
-    ghost began: { ∥ ShowsSome (record { prelude = prelude; slots = slots }) (undone values.items log.items) store.items ranges.items ∥₁ },
+    ghost began: { ∥ BeganWithSome (record { prelude = prelude; slots = slots }) room values.items log.items store.items ranges.items ∥₁ },
 }
 
 impl PlainCells {
@@ -108,16 +108,48 @@ impl PlainCells {
         ensures values { self.new.values.items ≡ undone self.old.values.items self.old.log.items }
         ensures same { (self.new.store ≡ self.old.store) × (self.new.ranges ≡ self.old.ranges) × (self.new.prelude ≡ self.old.prelude) × (self.new.slots ≡ self.old.slots) × (self.new.room ≡ self.old.room) }
     {
-        while let Some((cell, value)) = self.log.pop() {
-            self.values[cell] = value;
-        }
+        give_back(self.values.as_mut_slice(), &mut self.log);
     }
 }
 
+/// Gives each cell of a log the value that it had before, the last first. The log is empty then.
+fn give_back(values: &mut [u64], log: &mut Vec<(usize, u64)>)
+    requires { IsLogOf (length values.old) log.old.items }
+    ensures log { log.new.items ≡ [] }
+    ensures values { values.new ≡ undone values.old log.old.items }
+{
+    while let Some((cell, value)) = log.pop() {
+        values[cell] = value;
+    }
+}
+
+/// Puts words behind those of a store, and their range behind the others. Both stay as they are where memory runs out.
+fn put_behind(
+    store: &mut Vec<u64>,
+    ranges: &mut Vec<Range>,
+    words: &[u64],
+) -> Result<Range, AllocError>
+    ensures range { IfOk result (λ range. range ≡ behind store.old.items words.now) }
+    ensures store { store.new.items ≡ (if is_ok result then store.old.items ++ words.now else store.old.items) }
+    ensures ranges { ranges.new.items ≡ (if is_ok result then ranges.old.items ++ behind store.old.items words.now ∷ [] else ranges.old.items) }
+{
+    let range = Range {
+        start: store.len(),
+        len: words.len(),
+    };
+    ranges.reserve(1)?;
+    store.extend_from_slice(words)?;
+    ranges.push_reserved(range);
+    Ok(range)
+}
+
 impl Cells for PlainCells {
+    ghost use mathlib.Core.Logic.{∥∥₁_map};
+    ghost use Rattle.cells.specs.Plain.{plain_state};
+
     type Stop = PlainStop;
 
-    ghost sight = { λ c. plain_sight (record { prelude = c.prelude; slots = c.slots }) c.values.items c.log.items c.store.items c.ranges.items };
+    ghost sight = { λ c. plain_sight (record { prelude = c.prelude; slots = c.slots }) c.room c.values.items c.log.items c.store.items c.ranges.items };
 
     fn slots(&self) -> usize {
         self.slots
@@ -140,21 +172,14 @@ impl Cells for PlainCells {
     }
 
     fn stage(&mut self, words: &[u64]) -> Result<Range, PlainStop> {
-        let range = Range {
-            start: self.store.len(),
-            len: words.len(),
-        };
-        if range.len > self.room - range.start {
+        if words.len() > self.room - self.store.len() {
             return Err(PlainStop::StoreFull);
         }
-        if self.ranges.reserve(1).is_err() || self.store.extend_from_slice(words).is_err() {
-            return Err(PlainStop::NoMemory);
-        }
-        match self.ranges.push(range) {
-            Ok(()) => Ok(range),
+        match put_behind(&mut self.store, &mut self.ranges, words) {
+            Ok(range) => Ok(range),
             Err(_) => Err(PlainStop::NoMemory),
         }
     }
 
-    ghost grounded = { λ c. ? };
+    ghost grounded = { λ c. ∥∥₁_map c.began (λ b. (plain_state (undone c.values.items c.log.items) c.store.items c.ranges.items, b.0, b.1)) };
 }

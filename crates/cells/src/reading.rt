@@ -9,16 +9,16 @@ ghost use Rattle.std.specs.Option.{option_map};
 ghost use Rattle.cells.specs.State.{State};
 ghost use Rattle.cells.specs.Shows.{AreStoredAs, IsStoredAs, IsNamed};
 ghost use Rattle.cells.specs.Sight.{Looks, Matches, after};
-ghost use Rattle.cells.specs.Lookups.{ForEachHeld, Resolves, IsShortLabelled};
+ghost use Rattle.cells.specs.Lookups.{ForEachHeld, IfFull, Resolves, IsShortLabelled};
 
 use crate::cells::Cells;
 use crate::finding::find;
 use crate::halt::Halt;
 use crate::places::{citers_cell, name_cell, proof_cell, rank_cell, slot_count, statement_cell};
-use crate::words::words_of;
+use crate::words::{range_of, words_of};
 use bodystore::{Statement, StoredStep, decode_label, decode_proof, decode_statement};
 use library::Ranked;
-use mmstatement::{Assertion, Frame, Label, Prelude, Sequence, Step, frame_of};
+use mmstatement::{Assertion, Frame, Kind, Label, Prelude, Sequence, Step, frame_of};
 use std::alloc::Global;
 
 /// How many assertions cite the one in the slot.
@@ -33,6 +33,42 @@ pub fn citers<C: Cells>(cells: &mut C, slot: usize) -> Result<u64, C::Stop>
 {
     let _slots = slot_count(cells);
     cells.read(citers_cell(slot))
+}
+
+/// Whether the slot holds an assertion.
+///
+/// # Errors
+///
+/// The run is stopped.
+pub fn is_full<C: Cells>(cells: &mut C, slot: usize) -> Result<bool, C::Stop>
+    requires { slot < (C.sight cells.old).setting.slots }
+    ensures looks { Looks (C.sight cells.old) (C.sight cells.new) }
+    ensures ok { IfOk result (λ b. IfFull (C.sight cells.new) slot b) }
+{
+    let _slots = slot_count(cells);
+    Ok(cells.read(name_cell(slot))? != 0)
+}
+
+/// The kind of the assertion in the slot. It reads one word of its statement.
+///
+/// # Errors
+///
+/// The run is stopped.
+pub fn kind<C: Cells>(cells: &mut C, slot: usize) -> Result<Kind, C::Stop>
+    requires { slot < (C.sight cells.old).setting.slots }
+    ensures looks { Looks (C.sight cells.old) (C.sight cells.new) }
+    ensures ok { IfOk result (λ made. ForEachHeld (C.sight cells.new) slot (λ st lib e. made ≡ e.assertion.kind)) }
+{
+    let _slots = slot_count(cells);
+    let word = cells.read(statement_cell(slot))?;
+    if word == 0 {
+        return Ok(Kind::Axiom);
+    }
+    let range = range_of(cells, word);
+    if range.len == 0 || cells.load(range, 0) == 0 {
+        return Ok(Kind::Axiom);
+    }
+    Ok(Kind::Theorem)
 }
 
 /// The rank of the assertion in the slot.

@@ -16,7 +16,7 @@ loop-init g c =
     let slots_are = c.slot_count-slots.ensures.value in
     let link : c.next_cell.result ≡ next_cell old.setting.slots c.args.slot = omega (arith, c.next_cell.ensures, slots_are) in
     let front : c.bucket_cell-before.result ≡ bucket_cell old.setting.slots (bucket old.setting.slots c.args.label.now) =
-        c.bucket_cell-before.ensures ∙ (omega (arith, slots_are, c.bucket.ensures.value, ap (λ (n : ℕ). bucket n c.args.label.now) slots_are)) in
+    c.bucket_cell-before.ensures ∙ (omega (arith, slots_are, c.bucket.ensures.value, ap (λ (n : ℕ). bucket n c.args.label.now) slots_are)) in
     record {
       looks = c.in_ok-next.ensures.ok.looks;
       low = omega (arith, c.bucket_cell-before.ensures, slots_are);
@@ -25,7 +25,7 @@ loop-init g c =
       next = λ st m. c.in_ok-next.ensures.ok.value st m ∙ ap (after (g.C.Cells.sight c.read.new.self) st).value link;
       walks = λ st held e m chained distinct has label_is lt few.
           let to = leading old.setting.slots c.args.slot (bucket_cell old.setting.slots (bucket old.setting.slots (label_of e)))
-              (chained (bucket old.setting.slots (label_of e)) lt).chain in
+          (chained (bucket old.setting.slots (label_of e)) lt).chain in
           subst (λ (n : ℕ). Walks old.setting.slots c.args.slot (after old st) to n 0)
           (sym (front ∙ ap (λ (l : List ℕ). bucket_cell old.setting.slots (bucket old.setting.slots l)) (sym label_is)))
           (walk_begins old.setting.slots c.args.slot (after old st) to held (bucket old.setting.slots (label_of e)) lt chained
@@ -55,7 +55,7 @@ pub write-requires-then-member-slot-clause-read : goal.write-requires-then-membe
 write-requires-then-member-slot-clause-read g c =
     let old = g.C.Cells.sight c.args.cells.now in
     let link : next_cell old.setting.slots c.args.slot ≡ c.next_cell-then-member-slot.result =
-        omega (arith, c.next_cell-then-member-slot.ensures, c.slot_count-slots.ensures.value) in
+    omega (arith, c.next_cell-then-member-slot.ensures, c.slot_count-slots.ensures.value) in
     (writes_onward _ _ _ _ c.write.ensures).read _
     (c.in_ok-word.ensures.ok.looks.onward.read _ (subst (WasRead (g.C.Cells.sight c.loop.cells)) link c.loop.invariant.read))
 
@@ -78,7 +78,7 @@ returns-then-member-slot-clause-ok g c st held e m chained distinct has label_is
     let found = c.in-Some.ensures.1 in
     let own = c.if-member-slot.true in
     let link : c.next_cell-then-member-slot.result ≡ next_cell old.setting.slots c.args.slot =
-        omega (arith, c.next_cell-then-member-slot.ensures, slots_are) in
+    omega (arith, c.next_cell-then-member-slot.ensures, slots_are) in
     taken_out old _ _ _ st c.loop.before c.next_cell-then-member-slot.result c.in_ok-next.next c.args.slot held e b (after_looks _ _ st both) c.write.ensures
     c.write-then-member-slot.ensures link
     (c.loop.invariant.next st m0 ∙ ap (λ (x : State). x.value (next_cell old.setting.slots c.args.slot)) (after_looks _ _ st c.loop.invariant.looks)
@@ -95,7 +95,7 @@ loop-preserved g c =
     let both = looks_trans _ _ _ c.loop.invariant.looks read.looks in
     let found = c.in-Some.ensures in
     let link : c.next_cell-before.result ≡ next_cell old.setting.slots c.in-Some.member =
-        omega (arith, c.next_cell-before.ensures, slots_are) in
+    omega (arith, c.next_cell-before.ensures, slots_are) in
     record {
       looks = both;
       low = omega (arith, link);
@@ -105,7 +105,7 @@ loop-preserved g c =
           ∙ ap (λ (x : State). x.value (next_cell old.setting.slots c.args.slot)) (sym (after_looks _ _ st read.looks));
       walks = λ st held e m chained distinct has label_is lt few.
           let to = leading old.setting.slots c.args.slot (bucket_cell old.setting.slots (bucket old.setting.slots (label_of e)))
-              (chained (bucket old.setting.slots (label_of e)) lt).chain in
+          (chained (bucket old.setting.slots (label_of e)) lt).chain in
           let word_is = sym (read.value st m ∙ ap (λ (x : State). x.value c.loop.before) (after_looks _ _ st both)) in
           subst (λ (n : ℕ). Walks old.setting.slots c.args.slot (after old st) to n (c.loop.counter + 1)) (sym link)
           (walk_on old.setting.slots c.args.slot (after old st) to c.loop.before c.loop.counter c.in-Some.member

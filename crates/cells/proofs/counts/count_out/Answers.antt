@@ -26,7 +26,7 @@ loop-slot-preserved g c =
           let m1 = matches_back _ _ st wrote m in
           let m0 = matches_back _ _ st read.looks.onward m1 in
           let made = count_made one_less now _ new st _ _ _ _ x read.looks c.write.ensures c.citers_cell-in-loop-slot.ensures c.saturating_sub.ensures
-              (read.value st m1) c.citers_cell.ensures in
+          (read.value st m1) c.citers_cell.ensures in
           subst (Changes one_less (take (i + 1) cited) (after old st)) (sym made)
           (changes_more one_less cited i x (after old st) (after now st) d (omega arith) refl (c.loop-slot.invariant.changes st m0 d));
     }
