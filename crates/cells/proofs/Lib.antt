@@ -4,3 +4,6 @@ pub mod Bodies
 pub mod Members
 pub mod Holders
 pub mod Walks
+pub mod Small
+pub mod ReadBack
+pub mod Resolving
