@@ -113,6 +113,7 @@ no_words st cell e = record { body = λ words b. absurd (no_body st cell words b
 -- a cell that names a known range has a body just where that has its words
 pub same_words : (s : Sight) (st : State) (range : Place) (cell word : ℕ) (words body : List ℕ) → Matches s st → Knows s range words
     → word ≡ (after s st).value cell → word ≡ range.start * 2 ^ 25 + range.len → body ≢ [] → (words ≡ body) ↔ HasBody (after s st) cell body
-same_words s st range cell word words body m k read is some =
-    (λ e. subst (HasBody (after s st) cell) e (body_known s st m range cell words k (sym read ∙ is) (λ none. some (sym e ∙ none))),
-     λ b. words_known s st m range cell words body k (sym read ∙ is) b)
+same_words s st range cell word words body m k read is some = (
+  λ e. subst (HasBody (after s st) cell) e (body_known s st m range cell words k (sym read ∙ is) (λ none. some (sym e ∙ none))),
+  λ b. words_known s st m range cell words body k (sym read ∙ is) b,
+)

@@ -99,17 +99,29 @@ module _ (slots : ℕ) (st : State) (lib : List Ranked) (shows : Shows slots st 
       let of = λ (q : Held). bucket slots (label_of q.entry) == b in
       let some = of_bucket slots b shows.held in
       let e : length (entries_of shows.held) ≡ length lib = ap (λ (xs : List Ranked). length xs) shows.library in
-      omega (arith, e, length_permutation (slots_of some) c.chain c.has, length-map some (λ (q : Held). q.slot), length-filter of shows.held,
-      count_by-le-length of shows.held, length-map shows.held (λ (q : Held). q.entry))
+      omega (
+        arith,
+        e,
+        length_permutation (slots_of some) c.chain c.has,
+        length-map some (λ (q : Held). q.slot),
+        length-filter of shows.held,
+        count_by-le-length of shows.held,
+        length-map shows.held (λ (q : Held). q.entry),
+      )
 
   -- there are as many assertions as slots where all slots are full
   pub all_full : ((i : ℕ) → i < slots → st.value (name_cell i) ≢ 0) → slots ≤ length lib
   all_full full =
       let has : (i : ℕ) → i < slots → Has i (slots_of shows.held) =
       λ i lt.
-        let h = full_slot i lt (full i lt) in
-        subst (λ (k : ℕ). Has k (slots_of shows.held)) h.1.1
-        (has_contained (slots_of shows.held) h.0.slot (contains_mapped (λ (q : Held). q.slot) shows.held h.0 h.1.0)) in
+      let h = full_slot i lt (full i lt) in
+      subst (λ (k : ℕ). Has k (slots_of shows.held)) h.1.1
+      (has_contained (slots_of shows.held) h.0.slot (contains_mapped (λ (q : Held). q.slot) shows.held h.0 h.1.0)) in
       let e : length (entries_of shows.held) ≡ length lib = ap (λ (xs : List Ranked). length xs) shows.library in
-      omega (arith, e, all_below slots (slots_of shows.held) has, length-map shows.held (λ (q : Held). q.slot),
-      length-map shows.held (λ (q : Held). q.entry))
+      omega (
+        arith,
+        e,
+        all_below slots (slots_of shows.held) has,
+        length-map shows.held (λ (q : Held). q.slot),
+        length-map shows.held (λ (q : Held). q.entry),
+      )

@@ -71,16 +71,16 @@ module _ (s : Sight) (slots : ℕ) (label : List ℕ) (is : slots ≡ s.setting.
   pub walk_begins : (r : Sight) (b word : ℕ) → b < slots → b ≡ bucket slots label → Reads (bucket_cell slots b) word r s
       → ForEach s (λ st lib. IsAhead slots label word 0 st)
   walk_begins r b word lt of read = λ st lib v.
-    let shows = shown st lib v in
-    let c = shows.chained b lt in
-    let short = chain_short slots (after s st) lib shows b lt in
-    let few = room st lib v in
-    record {
-      rest = c.chain;
-      chain = subst (IsChain slots (after s st) c.chain) (sym (read.value st v.matches)) c.starts;
-      few = omega (arith, short, few);
-      ahead = λ i named. in_chain slots (after s st) lib shows v.matches.store i b label lt (sym of) named;
-    }
+      let shows = shown st lib v in
+      let c = shows.chained b lt in
+      let short = chain_short slots (after s st) lib shows b lt in
+      let few = room st lib v in
+      record {
+        rest = c.chain;
+        chain = subst (IsChain slots (after s st) c.chain) (sym (read.value st v.matches)) c.starts;
+        few = omega (arith, short, few);
+        ahead = λ i named. in_chain slots (after s st) lib shows v.matches.store i b label lt (sym of) named;
+      }
 
   -- no slot has it
   pub walk_fails : ((st : State) (lib : List Ranked) → Views s st lib → (i : ℕ) → IsNamed slots (after s st) i label → ⊥) → Finds s label None
@@ -99,14 +99,14 @@ pub walk_on : (r s t : Sight) (slots : ℕ) (label : List ℕ) (word turns slot 
     → ((st : State) → Matches s st → IsNamed s.setting.slots (after s st) slot label → ⊥)
     → ForEach t (λ st lib. IsAhead slots label next (turns + 1) st)
 walk_on r s t slots label word turns slot next is looks read each at other = λ st lib v.
-  let before = views_back s t st lib read.looks v in
-  let same = after_looks s t st read.looks in
-  let is_ahead : State → List Ranked → Type 0 = λ x l. IsAhead slots label word turns x in
-  let ahead = for_each_later s t is_ahead read.looks (for_each_later r s is_ahead looks each) st lib v in
-  ahead_on slots label word turns (after t st) ahead slot next at
-  (λ named. other st before.matches (subst (λ (n : ℕ). IsNamed n (after s st) slot label) is
-  (subst (λ (x : State). IsNamed slots x slot label) same named)))
-  (read.value st v.matches)
+    let before = views_back s t st lib read.looks v in
+    let same = after_looks s t st read.looks in
+    let is_ahead : State → List Ranked → Type 0 = λ x l. IsAhead slots label word turns x in
+    let ahead = for_each_later s t is_ahead read.looks (for_each_later r s is_ahead looks each) st lib v in
+    ahead_on slots label word turns (after t st) ahead slot next at
+    (λ named. other st before.matches (subst (λ (n : ℕ). IsNamed n (after s st) slot label) is
+    (subst (λ (x : State). IsNamed slots x slot label) same named)))
+    (read.value st v.matches)
 
 -- ---- the look for an empty slot
 
@@ -143,7 +143,7 @@ full_later s t slots from steps looks full = λ k l. for_each_later s t (IsFullA
 pub full_on : (s t : Sight) (slots from steps i v : ℕ) → AreFull s slots from steps → Reads (name_cell i) v s t → v ≢ 0 → i ≡ (from + steps) % slots
     → AreFull t slots from (steps + 1)
 full_on s t slots from steps i v full read ne at = below_more (λ (k : ℕ). ForEach t (IsFullAt slots from k)) _ (full_later s t slots from steps read.looks full)
-  (λ st lib w e. ne (read.value st w.matches ∙ (ap (λ (n : ℕ). (after t st).value (name_cell n)) at ∙ e)))
+    (λ st lib w e. ne (read.value st w.matches ∙ (ap (λ (n : ℕ). (after t st).value (name_cell n)) at ∙ e)))
 
 module _ (s : Sight) (slots from : ℕ) (is : slots ≡ s.setting.slots) where
   -- the first that holds 0
@@ -160,6 +160,6 @@ module _ (s : Sight) (slots from : ℕ) (is : slots ≡ s.setting.slots) where
   -- none, after as many steps as slots
   pub none_free : (steps : ℕ) → from < slots → slots ≤ steps → AreFull s slots from steps → FindsFree s from None
   none_free steps lt le full = λ st lib v.
-    all_full s.setting.slots (after s st) lib v.shows (λ i i_in.
-    let c = comes_to slots from i lt (subst (λ (n : ℕ). i < n) (sym is) i_in) in
-    subst (λ (n : ℕ). (after s st).value (name_cell n) ≢ 0) c.2 (full c.0 (omega (arith, c.1, le)) st lib v))
+      all_full s.setting.slots (after s st) lib v.shows (λ i i_in.
+      let c = comes_to slots from i lt (subst (λ (n : ℕ). i < n) (sym is) i_in) in
+      subst (λ (n : ℕ). (after s st).value (name_cell n) ≢ 0) c.2 (full c.0 (omega (arith, c.1, le)) st lib v))

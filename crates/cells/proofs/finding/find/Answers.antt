@@ -57,11 +57,10 @@ loop-preserved g c =
     let looks = looks_trans _ _ _ c.loop.invariant.0 c.has_label.ensures.looks in
     let read : Reads (next_cell slots slot) c.in_ok-word-2.word between new = search rules in
     let link : (slot < slots) × (c.loop.word ≡ slot + 1) = c.in-Some.ensures in
-    let is : slots ≡ between.setting.slots = c.slot_count-slots.ensures.value ∙ sym (same_slots old between looks) in
-    (
+    let is : slots ≡ between.setting.slots = c.slot_count-slots.ensures.value ∙ sym (same_slots old between looks) in (
       looks_trans _ _ _ looks read.looks,
       walk_on _ between new slots label c.loop.word c.loop.counter slot c.in_ok-word-2.word is c.has_label.ensures.looks read c.loop.invariant.1 link.1
-      (λ st m named. let yes = (c.in_ok-has_label.ensures.ok st m).1 named in let no = c.if-branch.false in absurd cc),
+          (λ st m named. let yes = (c.in_ok-has_label.ensures.ok st m).1 named in let no = c.if-branch.false in absurd cc),
     )
 
 pub returns-clause-ok : goal.returns-clause-ok

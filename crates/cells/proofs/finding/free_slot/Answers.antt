@@ -32,8 +32,7 @@ loop-steps-preserved g c =
     let new = g.C.Cells.sight c.read.new.self in
     let slots = c.slot_count-slots.result in
     let i = (c.args.from + c.loop-steps.steps) % slots in
-    let read : Reads (name_cell i) c.in_ok-read.field-0 between new = search rules in
-    (
+    let read : Reads (name_cell i) c.in_ok-read.field-0 between new = search rules in (
       looks_trans _ _ _ c.loop-steps.invariant.0 read.looks,
       full_on between new slots c.args.from c.loop-steps.steps i c.in_ok-read.field-0 c.loop-steps.invariant.1 read c.if-branch-eq0.false refl,
     )

@@ -23,12 +23,11 @@ returns-then-load-byte-clause-same g c = λ words k.
 pub loop-index-preserved : goal.loop-index-preserved
 loop-index-preserved g c =
     let looks = c.loop-index.invariant.0 in
-    let i = c.loop-index.index in
-    (
+    let i = c.loop-index.index in (
       looks_trans _ _ _ looks c.load.ensures.looks,
       λ j words below k.
-        let word = get_or_from_slice_get words i c.load.result 0 (c.load.ensures.word words (knows_later _ _ _ _ looks.onward k)) in
-        below_more (λ (n : ℕ). get_or words n 0 ≡ get_or c.args.text.now n 0) _ (λ n l. c.loop-index.invariant.1 n words l k) (word ∙ c.if-load-byte.false) j below,
+          let word = get_or_from_slice_get words i c.load.result 0 (c.load.ensures.word words (knows_later _ _ _ _ looks.onward k)) in
+          below_more (λ (n : ℕ). get_or words n 0 ≡ get_or c.args.text.now n 0) _ (λ n l. c.loop-index.invariant.1 n words l k) (word ∙ c.if-load-byte.false) j below,
     )
 
 pub returns-clause-same : goal.returns-clause-same

@@ -16,13 +16,12 @@ returns-in_err-push-clause-looks g c = looks_trans _ _ _ c.loop-index.invariant.
 pub loop-index-preserved : goal.loop-index-preserved
 loop-index-preserved g c =
     let looks = c.loop-index.invariant.0 in
-    let i = c.loop-index.index in
-    (
+    let i = c.loop-index.index in (
       looks_trans _ _ _ looks c.load.ensures.looks,
       λ words k.
-        let word : get_or words i 0 ≡ c.load.result =
-        get_or_from_slice_get words i c.load.result 0 (c.load.ensures.word words (knows_later _ _ _ _ looks.onward k)) in
-        let before : c.loop-index.words.items ≡ take i words = c.loop-index.invariant.1 words k in
-        let len = k.len in
-        grind (arith, common_steps),
+          let word : get_or words i 0 ≡ c.load.result =
+          get_or_from_slice_get words i c.load.result 0 (c.load.ensures.word words (knows_later _ _ _ _ looks.onward k)) in
+          let before : c.loop-index.words.items ≡ take i words = c.loop-index.invariant.1 words k in
+          let len = k.len in
+          grind (arith, common_steps),
     )
