@@ -31,9 +31,9 @@ use Rattle.cells.proofs.Small.{label_small}
 -- what was so of each assertion that the slot holds stays so while nothing is written
 pub held_later : (s t : Sight) (i : ℕ) (told : State → List Ranked → Ranked → Type 0) → Looks s t → ForEachHeld s i told → ForEachHeld t i told
 held_later s t i told looks each = λ st lib v e at h.
-  let same = after_looks s t st looks in
-  let before = subst (λ (x : State). Holds s.setting.slots x lib i e) same (subst (λ (n : ℕ). Holds n (after t st) lib i e) (same_slots s t looks) h) in
-  subst (λ (x : State). told x lib e) (sym same) (each st lib (views_back s t st lib looks v) e at before)
+    let same = after_looks s t st looks in
+    let before = subst (λ (x : State). Holds s.setting.slots x lib i e) same (subst (λ (n : ℕ). Holds n (after t st) lib i e) (same_slots s t looks) h) in
+    subst (λ (x : State). told x lib e) (sym same) (each st lib (views_back s t st lib looks v) e at before)
 
 -- a name is the label of what the slot holds
 pub name_held : (s : Sight) (i : ℕ) (made : List ℕ) → IsNameAt s i made → ForEachHeld s i (λ st lib e. made ≡ label_of e)
@@ -91,12 +91,12 @@ pub read_back_on : (s t : Sight) (slots i : ℕ) (kept : List StoredStep) (steps
     → ((st : State) (x : Step) → Matches t st → IsShortLabelled x → IsStoredAs (IsNamed slots (after t st)) x (get_or kept i d) → made ≡ x)
     → AreReadBack t slots kept (i + 1) more
 read_back_on s t slots i kept steps more made d looks each lt push is = λ st xs m short z.
-  let before : steps ≡ take i xs =
-  each st xs (matches_back s t st looks.onward m) short
-  (subst (λ (y : State). AllZip (IsStoredAs (IsNamed slots y)) xs kept) (after_looks s t st looks) z) in
-  let at = zip_at (IsStoredAs (IsNamed slots (after t st))) xs kept i (Float 0) d z lt in
-  let same : made ≡ get_or xs i (Float 0) = is st (get_or xs i (Float 0)) m (All-get_or IsShortLabelled xs i (Float 0) at.1 short) at.0 in
-  push ∙ (ap (λ (ys : List Step). ys ++ made ∷ []) before ∙ (ap (λ (y : Step). take i xs ++ y ∷ []) same ∙ sym (take_more xs i (Float 0) at.1)))
+    let before : steps ≡ take i xs =
+    each st xs (matches_back s t st looks.onward m) short
+    (subst (λ (y : State). AllZip (IsStoredAs (IsNamed slots y)) xs kept) (after_looks s t st looks) z) in
+    let at = zip_at (IsStoredAs (IsNamed slots (after t st))) xs kept i (Float 0) d z lt in
+    let same : made ≡ get_or xs i (Float 0) = is st (get_or xs i (Float 0)) m (All-get_or IsShortLabelled xs i (Float 0) at.1 short) at.0 in
+    push ∙ (ap (λ (ys : List Step). ys ++ made ∷ []) before ∙ (ap (λ (y : Step). take i xs ++ y ∷ []) same ∙ sym (take_more xs i (Float 0) at.1)))
 
 pub read_back_all : (s : Sight) (slots i : ℕ) (kept : List StoredStep) (steps xs : List Step) (st : State) → AreReadBack s slots kept i steps
     → length kept ≡ i → Matches s st → All IsShortLabelled xs → AllZip (IsStoredAs (IsNamed slots (after s st))) xs kept → steps ≡ xs

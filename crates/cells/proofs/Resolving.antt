@@ -29,14 +29,14 @@ none_known (e ∷ lib) label h = elim (cases_Bool (is_labelled label e)) [
 
 pub found_stored : (s : Sight) (label : List ℕ) (i : ℕ) (step : Step) → step ≡ Cite label → Finds s label (Some i) → StoresStep s step (Some (Slot i))
 found_stored s label i step is finds = λ st lib v.
-  let f = finds.1 st lib v in
-  let at = found_in lib label f.entry f.found in
-  let named : IsNamed s.setting.slots (after s st) i label = subst (IsNamed s.setting.slots (after s st) i) (sym at.1) f.holds.name in
-  subst (λ (x : Step). IsStoredAs (IsNamed s.setting.slots (after s st)) x (Slot i)) (sym is) named
+    let f = finds.1 st lib v in
+    let at = found_in lib label f.entry f.found in
+    let named : IsNamed s.setting.slots (after s st) i label = subst (IsNamed s.setting.slots (after s st) i) (sym at.1) f.holds.name in
+    subst (λ (x : Step). IsStoredAs (IsNamed s.setting.slots (after s st)) x (Slot i)) (sym is) named
 
 pub none_stored : (s : Sight) (label : List ℕ) (step : Step) → step ≡ Cite label → Finds s label None → StoresStep s step None
 none_stored s label step is finds = λ st lib v.
-  subst (λ (x : Step). is_of_unknown lib x ≡ true) (sym is) (ap not (none_known lib label (finds st lib v)))
+    subst (λ (x : Step). is_of_unknown lib x ≡ true) (sym is) (ap not (none_known lib label (finds st lib v)))
 
 -- ---- one after another
 
@@ -55,19 +55,19 @@ pub resolve_on : (r s : Sight) (slots i : ℕ) (steps : List Step) (kept more : 
     → Looks r s → AreResolved r slots (take i steps) kept → StoresStep s x (Some y) → x ≡ get_or steps i x → i < length steps
     → more ≡ kept ++ y ∷ [] → AreResolved s slots (take (i + 1) steps) more
 resolve_on r s slots i steps kept more x y is looks each stores here lt push = λ st lib v.
-  let R = IsStoredAs (IsNamed slots (after s st)) in
-  let before = for_each_later r s (λ z l. AreStoredAs slots z (take i steps) kept) looks each st lib v in
-  let new : R x y = subst (λ (n : ℕ). IsStoredAs (IsNamed n (after s st)) x y) (sym is) (stores st lib v) in
-  let first : take i steps ++ x ∷ [] ≡ take (i + 1) steps = ap (λ (z : Step). take i steps ++ z ∷ []) here ∙ sym (take_more steps i x lt) in
-  subst (λ (zs : List Step). AllZip R zs more) first
-  (subst (AllZip R (take i steps ++ x ∷ [])) (sym push) (zip_push R (take i steps) kept x y before new))
+    let R = IsStoredAs (IsNamed slots (after s st)) in
+    let before = for_each_later r s (λ z l. AreStoredAs slots z (take i steps) kept) looks each st lib v in
+    let new : R x y = subst (λ (n : ℕ). IsStoredAs (IsNamed n (after s st)) x y) (sym is) (stores st lib v) in
+    let first : take i steps ++ x ∷ [] ≡ take (i + 1) steps = ap (λ (z : Step). take i steps ++ z ∷ []) here ∙ sym (take_more steps i x lt) in
+    subst (λ (zs : List Step). AllZip R zs more) first
+    (subst (AllZip R (take i steps ++ x ∷ [])) (sym push) (zip_push R (take i steps) kept x y before new))
 
 pub resolve_fails : (s : Sight) (i : ℕ) (steps : List Step) (x : Step) → StoresStep s x None → x ≡ get_or steps i x → i < length steps → Resolves s steps None
 resolve_fails s i steps x stores here lt = λ st lib v.
-  list_any_at (is_of_unknown lib) steps i x lt (subst (λ (z : Step). is_of_unknown lib z ≡ true) here (stores st lib v))
+    list_any_at (is_of_unknown lib) steps i x lt (subst (λ (z : Step). is_of_unknown lib z ≡ true) here (stores st lib v))
 
 pub resolve_all : (s : Sight) (slots i : ℕ) (steps : List Step) (kept : List StoredStep) → slots ≡ s.setting.slots → length steps ≡ i
     → AreResolved s slots (take i steps) kept → Resolves s steps (Some kept)
 resolve_all s slots i steps kept is n each = λ st lib v.
-  subst (λ (zs : List Step). AreStoredAs s.setting.slots (after s st) zs kept) (take_all i steps (omega (arith, n)))
-  (subst (λ (k : ℕ). AreStoredAs k (after s st) (take i steps) kept) is (each st lib v))
+    subst (λ (zs : List Step). AreStoredAs s.setting.slots (after s st) zs kept) (take_all i steps (omega (arith, n)))
+    (subst (λ (k : ℕ). AreStoredAs k (after s st) (take i steps) kept) is (each st lib v))

@@ -44,12 +44,7 @@ pub(crate) fn has_words<C: Cells>(cells: &mut C, range: Range, text: &[u8]) -> b
 /// # Errors
 ///
 /// Want of memory.
-#[tactic(auto, using(crate::proofs::Sights::looks_trans))]
-fn range_words<C: Cells>(
-    alloc: Global,
-    cells: &mut C,
-    range: Range,
-) -> Result<Vec<u64>, AllocError>
+fn range_words<C: Cells>(alloc: Global, cells: &mut C, range: Range) -> Result<Vec<u64>, AllocError>
     requires { (words : List ℕ) × Knows (C.sight cells.old) range words }
     ensures looks { Looks (C.sight cells.old) (C.sight cells.new) }
     ensures ok { IfOk result (λ made. (words : List ℕ) → Knows (C.sight cells.old) range words → made.items ≡ words) }

@@ -31,11 +31,10 @@ loop-step-preserved g c =
     let between = g.C.Cells.sight c.loop-step.cells in
     let s = g.C.Cells.sight c.named_step.new.cells in
     let kept = c.as_slice-step-items.result.now in
-    let push = c.in_ok-push.ensures.items in
-    (
+    let push = c.in_ok-push.ensures.items in (
       looks_trans _ _ _ c.loop-step.invariant.0 c.named_step.ensures.looks,
       read_back_on between s c.slot_count-slots.result c.loop-step.step-index kept c.loop-step.steps.items c.push.new.self.items
-      c.in_ok-named_step.field-0 (stored.Float 0) c.named_step.ensures.looks c.loop-step.invariant.1 (omega arith) push c.in_ok-named_step.ensures.ok,
+          c.in_ok-named_step.field-0 (stored.Float 0) c.named_step.ensures.looks c.loop-step.invariant.1 (omega arith) push c.in_ok-named_step.ensures.ok,
     )
 
 pub returns-clause-ok : goal.returns-clause-ok

@@ -33,12 +33,11 @@ loop-step-preserved g c =
     let looks = looks_trans _ _ _ c.loop-step.invariant.0 c.stored_step.ensures.looks in
     let ok : c.stored_step.result ≡ Ok c.in_ok-stored.field-0 = search rules in
     let stores = IfOk-at_ok (λ (o : Option StoredStep). StoresStep s x o) ok c.stored_step.ensures.ok in
-    let push : c.push.new.self.items ≡ c.loop-step.kept.items ++ c.in-Some.stored ∷ [] = c.in_ok-push.ensures.items in
-    (
+    let push : c.push.new.self.items ≡ c.loop-step.kept.items ++ c.in-Some.stored ∷ [] = c.in_ok-push.ensures.items in (
       looks,
       resolve_on between s old.setting.slots c.loop-step.step-index c.args.steps.now c.loop-step.kept.items c.push.new.self.items x c.in-Some.stored
-      (sym (same_slots old s looks)) c.stored_step.ensures.looks c.loop-step.invariant.1 (subst (StoresStep s x) c.in-Some.is stores) c.step-item.is
-      (omega arith) push,
+          (sym (same_slots old s looks)) c.stored_step.ensures.looks c.loop-step.invariant.1 (subst (StoresStep s x) c.in-Some.is stores) c.step-item.is
+          (omega arith) push,
     )
 
 pub returns-clause-ok : goal.returns-clause-ok
