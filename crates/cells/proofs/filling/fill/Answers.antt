@@ -49,10 +49,12 @@ returns-clause-ok g c =
     let store = views.matches.store in
     let few = views.verifies.setting.few in
     let room = views.verifies.library.room in
-    let small = cited_few slots (after old st) (after s1 st) lib shows store c.args.slot c.args.rank a steps cited c.requires.slot lays cites_are may 4096
+    let small = cited_few slots (after old st)
+        (after s1 st) lib shows store c.args.slot c.args.rank a steps cited c.requires.slot lays cites_are may 4096
         (λ label. omega (arith, few, room, count_by-le-length (cites label) lib)) in
     let counts = counting st m2 (λ i h. let n = small i h in omega (arith, n)) cites_are.apart in
-    let chained = still_chained slots (after old st) (after s1 st) lib shows store c.args.slot c.args.rank a steps cited c.requires.slot lays cites_are
+    let chained = still_chained slots (after old st)
+        (after s1 st) lib shows store c.args.slot c.args.rank a steps cited c.requires.slot lays cites_are
         (after s2 st) counts c.requires.fillable in
     let chains = put st shows.held (record { rank = c.args.rank; assertion = c.args.assertion.now }) m
         (subst (λ (s : Setting). AreChained s.slots (after s2 st) shows.held) (sym setting) chained) (sym c.as_slice-2.ensures)
