@@ -36,7 +36,8 @@ cited_one steps i d s lt is =
 pub cited_none : (steps : List StoredStep) (i : ℕ) (d : StoredStep) → i < length steps → ((s : ℕ) → get_or steps i d ≡ Slot s → ⊥)
     → filter_map cited_slot (take (i + 1) steps) ≡ filter_map cited_slot (take i steps)
 cited_none steps i d lt other =
-    cited_more steps i d lt ∙ ap (λ l. filter_map cited_slot (take i steps) ++ l) (nothing (get_or steps i d) other) ∙ append-nil (filter_map cited_slot (take i steps))
+    cited_more steps i d lt ∙ ap (λ l. filter_map cited_slot (take i steps) ++ l) (nothing (get_or steps i d) other)
+        ∙ append-nil (filter_map cited_slot (take i steps))
   where
     nothing : (x : StoredStep) → ((s : ℕ) → x ≡ Slot s → ⊥) → filter_map cited_slot (x ∷ []) ≡ []
     nothing (Float j) free = refl
@@ -64,10 +65,12 @@ distinct_pairs : (xs : List ℕ) → AllPairs (λ x y. x < y) xs → Distinct na
 distinct_pairs [] up = tt
 distinct_pairs (x ∷ xs) up =
     (none_absent xs x (λ h. let at = contains_from_has xs x h in let below = up 0 (suc at.0) x (omega arith) (omega (arith, at.1)) in
-    let same = at.2 in omega (arith, below, same)), distinct_pairs xs (λ i j d lt within. up (suc i) (suc j) d (omega (arith, lt)) (omega (arith, within))))
+    let same = at.2 in omega (arith, below, same)), distinct_pairs xs
+        (λ i j d lt within. up (suc i) (suc j) d (omega (arith, lt)) (omega (arith, within))))
 
 -- the slots that steps cite, in another order and each once
-pub are_cited : (steps : List StoredStep) (ordered : List ℕ) → IsPermutation (filter_map cited_slot steps) ordered → IsSorted nat_cmp ordered
+pub are_cited : (steps : List StoredStep) (ordered : List ℕ) → IsPermutation (filter_map cited_slot steps) ordered
+    → IsSorted nat_cmp ordered
     → AreCitedSlots steps (dedup eqb ordered)
 are_cited steps ordered m up =
     record {

@@ -31,11 +31,13 @@ use Rattle.cells.proofs.Linking.{seat, chains_alike, chains_kept}
 use Rattle.cells.proofs.Holding.{body_same, stored_same, holds_same, empty_same, named_held, held_name, full_slot, empty_free, stored_named, stored_cites, cites_stored, uncited, no_citers}
 
 -- the citers of a label, with one assertion more
-pub citers_added : (lib : List Ranked) (e : Ranked) (label : List ℕ) → citers (lib ++ e ∷ []) label ≡ citers lib label + one_if (cites label) e
+pub citers_added : (lib : List Ranked) (e : Ranked) (label : List ℕ)
+    → citers (lib ++ e ∷ []) label ≡ citers lib label + one_if (cites label) e
 citers_added lib e label = sum_by_push (one_if (cites label)) lib e
 
 -- steps that are stored as none are none
-none_stored : (slots : ℕ) (st : State) (steps : List Step) (kept : List StoredStep) → AreStoredAs slots st steps kept → kept ≡ [] → steps ≡ []
+none_stored : (slots : ℕ) (st : State) (steps : List Step) (kept : List StoredStep) → AreStoredAs slots st steps kept → kept ≡ []
+    → steps ≡ []
 none_stored slots st [] kept h e = refl
 none_stored slots st (x ∷ steps) [] h e = absurd h
 none_stored slots st (x ∷ steps) (k ∷ kept) h e = absurd cc
@@ -71,10 +73,12 @@ module _ (slots : ℕ) (st laid : State) (lib : List Ranked) (shows : Shows slot
       → laid.value (citers_cell j) ≤ n
   cited_few may n most j h =
       let p = cited_held may.stored j h in
-      let holds : Holds slots st lib p.0.slot p.0.entry = all_has (λ (q : Held). Holds slots st lib q.slot q.entry) shows.held p.0 shows.holds p.1 in
+      let holds : Holds slots st lib p.0.slot p.0.entry =
+          all_has (λ (q : Held). Holds slots st lib q.slot q.entry) shows.held p.0 shows.holds p.1 in
       let ne : j ≢ i = λ z. full_slot slots st lib shows store p.0 p.1 (subst (IsEmpty slots st) (sym (p.2 ∙ z)) may.empty) in
       let same = laid_other j (citers_cell j) ne (omega arith) (omega arith) in
-      let is : st.value (citers_cell j) ≡ citers lib (label_of p.0.entry) = subst (λ m. st.value (citers_cell m) ≡ citers lib (label_of p.0.entry)) p.2 holds.citers in
+      let is : st.value (citers_cell j) ≡ citers lib (label_of p.0.entry) =
+          subst (λ m. st.value (citers_cell m) ≡ citers lib (label_of p.0.entry)) p.2 holds.citers in
       subst (λ m. m ≤ n) (sym (same ∙ is)) (most (label_of p.0.entry))
 
   module _ (counted : State) (counts : CountsIn cited laid counted) (fillable : IsFillable slots a kept) where
@@ -95,7 +99,8 @@ module _ (slots : ℕ) (st laid : State) (lib : List Ranked) (shows : Shows slot
 
     -- ---- what is shown in the end
 
-    module _ (next : State) (laid_ranges : laid.ranges ≡ st.ranges) (next_ranges : next.ranges ≡ st.ranges) (apart : Distinct bytes_eq (map label_of lib))
+    module _ (next : State) (laid_ranges : laid.ranges ≡ st.ranges) (next_ranges : next.ranges ≡ st.ranges)
+        (apart : Distinct bytes_eq (map label_of lib))
         (may : MayFill slots st lib i a kept)
         (chains : Rechains slots counted next shows.held (record { slot = i; entry = entry } ∷ shows.held)) where
       abbrev here : Held
@@ -128,15 +133,19 @@ module _ (slots : ℕ) (st laid : State) (lib : List Ranked) (shows : Shows slot
           let ne : j ≢ i = λ z. full_slot slots st lib shows store p.0 p.1 (subst (IsEmpty slots st) (sym (p.2 ∙ z)) may.empty) in
           record {
             within = named.within;
-            body = body_same st next (name_cell j) label next_ranges (next_same (name_cell j) j 0 named.within ne (omega arith) (omega arith)) named.body;
+            body = body_same st next (name_cell j) label next_ranges
+                (next_same (name_cell j) j 0 named.within ne (omega arith) (omega arith)) named.body;
           }
 
       -- the one that is new
       new_holds : Holds slots next (added lib rank a) i entry
       new_holds =
           record {
-            name = record { within = in_slots; body = body_same laid next (name_cell i) a.label (next_ranges ∙ sym laid_ranges) (next_laid (name_cell i) i 0 in_slots (omega arith) (omega arith)) lays.name };
-            statement = body_same laid next (statement_cell i) _ (next_ranges ∙ sym laid_ranges) (next_laid (statement_cell i) i 1 in_slots refl (omega arith)) lays.statement;
+            name = record { within = in_slots;
+                body = body_same laid next (name_cell i) a.label (next_ranges ∙ sym laid_ranges)
+                (next_laid (name_cell i) i 0 in_slots (omega arith) (omega arith)) lays.name };
+            statement = body_same laid next (statement_cell i) _ (next_ranges ∙ sym laid_ranges)
+                (next_laid (statement_cell i) i 1 in_slots refl (omega arith)) lays.statement;
             proof = proven a.kind lays.proof (λ is. none_stored slots st a.proof kept may.stored (fillable.none is)) refl;
             rank = next_laid (rank_cell i) i 3 in_slots refl (omega arith) ∙ lays.ranked;
             citers = uncounted i in_slots (not_cited i may.empty) ∙ lays.citers ∙ sym none;
@@ -144,10 +153,12 @@ module _ (slots : ℕ) (st laid : State) (lib : List Ranked) (shows : Shows slot
         where
           same : next.value (5 * i + 2) ≡ laid.value (5 * i + 2)
           same = next_laid (proof_cell i) i 2 in_slots refl (omega arith)
-          proven : (kind : Kind) → LaysProof st laid i kind kept → (kind ≡ Axiom → a.proof ≡ []) → a.kind ≡ kind → HoldsProof slots next i kind a.proof
+          proven : (kind : Kind) → LaysProof st laid i kind kept → (kind ≡ Axiom → a.proof ≡ []) → a.kind ≡ kind
+              → HoldsProof slots next i kind a.proof
           proven Axiom h none is = (same ∙ h ∙ may.empty.proof, none refl)
           proven Theorem h none is =
-              (kept, body_same laid next (proof_cell i) _ (next_ranges ∙ sym laid_ranges) same h, stored_same slots st next names_stay a.proof kept may.stored)
+              (kept, body_same laid next (proof_cell i) _
+                  (next_ranges ∙ sym laid_ranges) same h, stored_same slots st next names_stay a.proof kept may.stored)
           none : citers (added lib rank a) a.label ≡ 0
           none =
               let c = uncited slots st lib shows store a.label may.new a.proof kept may.stored in
@@ -206,9 +217,11 @@ module _ (slots : ℕ) (st laid : State) (lib : List Ranked) (shows : Shows slot
             apart = subst (Distinct nat_eq) (sym (map-append (λ (p : Held). p.slot) shows.held (here ∷ [])))
                 (distinct_push (slots_of shows.held) i shows.apart free);
             others = λ j lt. elim (cases_eq j i) [
-              | inl e ↦ inl (subst (λ l. Has j l) (sym (map-append (λ (p : Held). p.slot) shows.held (here ∷ []))) (has_append_right (slots_of shows.held) (i ∷ []) j (inl e)))
+              | inl e ↦ inl (subst (λ l. Has j l) (sym (map-append (λ (p : Held). p.slot) shows.held (here ∷ [])))
+                  (has_append_right (slots_of shows.held) (i ∷ []) j (inl e)))
               | inr ne ↦ ⊎_elim
-                  (λ full. inl (subst (λ l. Has j l) (sym (map-append (λ (p : Held). p.slot) shows.held (here ∷ []))) (has_append_left (slots_of shows.held) (i ∷ []) j full)))
+                  (λ full. inl (subst (λ l. Has j l) (sym (map-append (λ (p : Held). p.slot) shows.held (here ∷ [])))
+                      (has_append_left (slots_of shows.held) (i ∷ []) j full)))
                   (λ empty. inr (still_empty j lt ne (empty_free slots st lib shows store j empty) empty))
                   (shows.others j lt)
             ];

@@ -47,7 +47,8 @@ module _ (slots : ℕ) where
       let f = filtered_has (λ (p : Held). bucket slots (label_of p.entry) == b) held m.0 m.1 in
       (m.0, f.0, eqb-true (bucket slots (label_of m.0.entry)) b f.1, m.2)
 
-  pub has_bucket : (held : List Held) (p : Held) → Has p held → Has p.slot (slots_of (of_bucket slots (bucket slots (label_of p.entry)) held))
+  pub has_bucket : (held : List Held) (p : Held) → Has p held
+      → Has p.slot (slots_of (of_bucket slots (bucket slots (label_of p.entry)) held))
   has_bucket held p h =
       let b = bucket slots (label_of p.entry) in
       has_mapped (λ (q : Held). q.slot) (of_bucket slots b held) p
@@ -104,7 +105,8 @@ module _ (slots : ℕ) where
   seats (p ∷ held) b =
       let rest = of_bucket slots b held in
       let mapped = filter (λ (s : ℕ × List ℕ). bucket slots s.1 == b) (map seat held) in
-      elim (bucket slots (label_of p.entry) == b) as (λ t. slots_of (cond t (p ∷ rest) rest) ≡ map (λ s. s.0) (cond t (seat p ∷ mapped) mapped)) [
+      elim (bucket slots (label_of p.entry) == b) as
+          (λ t. slots_of (cond t (p ∷ rest) rest) ≡ map (λ s. s.0) (cond t (seat p ∷ mapped) mapped)) [
         | true ↦ ap (λ l. p.slot ∷ l) (seats held b)
         | false ↦ seats held b
       ]
@@ -165,7 +167,8 @@ module _ (slots : ℕ) where
             has = subst (λ (l : List Held). IsPermutation (slots_of l) (slot ∷ c.chain)) (sym more) (IsPermutation-cons slot _ _ c.has);
           }
 
-      there : (b : ℕ) (lt : b < slots) → (bucket slots (label_of e) ≡ b → ⊥) → IsChained slots next (record { slot = slot; entry = e } ∷ held) b
+      there : (b : ℕ) (lt : b < slots) → (bucket slots (label_of e) ≡ b → ⊥)
+          → IsChained slots next (record { slot = slot; entry = e } ∷ held) b
       there b lt ne =
           let c = chained b lt in
           let rest = of_bucket slots b held in
