@@ -1,5 +1,5 @@
 -- What the calls that read a library's cells answer, for every state that may be under the run.
-use Rattle.std.specs.Prelude.{◌≡◌, ◌≢◌, ◌<◌, ◌≤◌, ℕ, ◌+◌, ◌%◌, List, Option, Some, None, Bool, true, false, length, All, Contains}
+use Rattle.std.specs.Prelude.{◌≡◌, ◌≢◌, ◌<◌, ◌≤◌, ℕ, ◌+◌, ◌%◌, List, [], ◌∷◌, Option, Some, None, Bool, true, false, length, All, Contains}
 use Rattle.std.specs.List.{list_any}
 use Rattle.mmsyntax.specs.declared.statement.Step.{Step}
 use Rattle.mmsyntax.specs.declared.statement.Step.TheVariants.{Float, Hyp, Cite}
@@ -67,7 +67,7 @@ AreWithin slots kept = (i : ℕ) → Has (Slot i) kept → i < slots
 -- the step with a cited label as a slot that has it; none where it cites a label that no assertion has
 abbrev pub StoresStep : Sight → Step → Option StoredStep → Type 0
 StoresStep s step None = ForEach s (λ st lib. is_of_unknown lib step ≡ true)
-StoresStep s step (Some kept) = ForEach s (λ st lib. IsStoredAs (IsNamed s.setting.slots st) step kept)
+StoresStep s step (Some kept) = AreWithin s.setting.slots (kept ∷ []) × ForEach s (λ st lib. IsStoredAs (IsNamed s.setting.slots st) step kept)
 
 -- the steps with each cited label as a slot that has it; none where some step cites a label that no assertion has
 abbrev pub Resolves : Sight → List Step → Option (List StoredStep) → Type 0

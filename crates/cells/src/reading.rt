@@ -245,6 +245,7 @@ pub fn resolve<C: Cells>(
 }
 
 /// The step with a cited label as the slot that has it; none where it cites a label that no assertion has.
+#[tactic(auto, using(crate::proofs::Resolving::float_stored, crate::proofs::Resolving::hyp_stored))]
 fn stored_step<C: Cells>(cells: &mut C, step: &Step) -> Result<Option<StoredStep>, C::Stop>
     ensures looks { Looks (C.sight cells.old) (C.sight cells.new) }
     ensures ok { IfOk result (λ kept. StoresStep (C.sight cells.new) step.now kept) }
