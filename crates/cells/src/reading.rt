@@ -4,7 +4,7 @@ ghost use Rattle.std.specs.Prelude.{◌≡◌, ◌<◌, IfOk};
 ghost use Rattle.mmstatement.specs.Frames.{frame};
 ghost use Rattle.library.specs.Library.{label_of};
 ghost use Rattle.library.specs.Edits.{citers};
-ghost use Rattle.bodystore.specs.Bodies.{statement_of};
+ghost use Rattle.bodystore.specs.Bodies.{kind_word, statement_of};
 ghost use Rattle.std.specs.Option.{option_map};
 ghost use Rattle.cells.specs.State.{State};
 ghost use Rattle.cells.specs.Shows.{AreStoredAs, IsStoredAs, IsNamed};
@@ -15,7 +15,7 @@ use crate::cells::Cells;
 use crate::finding::find;
 use crate::halt::Halt;
 use crate::places::{citers_cell, name_cell, proof_cell, rank_cell, slot_count, statement_cell};
-use crate::words::{range_of, words_of};
+use crate::words::{first_word, words_of};
 use bodystore::{Statement, StoredStep, decode_label, decode_proof, decode_statement};
 use library::Ranked;
 use mmstatement::{Assertion, Frame, Kind, Label, Prelude, Sequence, Step, frame_of};
@@ -60,15 +60,17 @@ pub fn kind<C: Cells>(cells: &mut C, slot: usize) -> Result<Kind, C::Stop>
     ensures ok { IfOk result (λ made. ForEachHeld (C.sight cells.new) slot (λ st lib e. made ≡ e.assertion.kind)) }
 {
     let _slots = slot_count(cells);
-    let word = cells.read(statement_cell(slot))?;
-    if word == 0 {
-        return Ok(Kind::Axiom);
+    Ok(kind_of(first_word(cells, statement_cell(slot))?))
+}
+
+/// The kind that a word stands for.
+fn kind_of(word: u64) -> Kind
+    ensures { (k : _) → kind_word k ≡ word → result ≡ k }
+{
+    match word {
+        0 => Kind::Axiom,
+        _ => Kind::Theorem,
     }
-    let range = range_of(cells, word);
-    if range.len == 0 || cells.load(range, 0) == 0 {
-        return Ok(Kind::Axiom);
-    }
-    Ok(Kind::Theorem)
 }
 
 /// The rank of the assertion in the slot.

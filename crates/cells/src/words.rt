@@ -1,6 +1,6 @@
 //! The words of bodies that cells name.
 
-ghost use Rattle.std.specs.Prelude.{◌≡◌, ◌≢◌, ◌<◌, ◌+◌, ◌*◌, ◌^◌, ◌↔◌, ℕ, List, [], true, IsTrue, IfOk, IfErr, length};
+ghost use Rattle.std.specs.Prelude.{◌≡◌, ◌≢◌, ◌<◌, ◌+◌, ◌*◌, ◌^◌, ◌↔◌, ℕ, List, [], ◌∷◌, true, IsTrue, IfOk, IfErr, length};
 ghost use Rattle.ranges.specs.Ranges.{Names};
 ghost use Rattle.cells.specs.State.{State, HasBody};
 ghost use Rattle.cells.specs.Slots.{cell_count, is_ranged};
@@ -73,4 +73,22 @@ pub(crate) fn words_of<C: Cells>(
     }
     let range = range_of(cells, word);
     Ok(range_words(alloc, cells, range)?)
+}
+
+/// The first word of the body that a range cell names; 0 where it holds 0.
+pub(crate) fn first_word<C: Cells>(cells: &mut C, cell: usize) -> Result<u64, C::Stop>
+    requires cell { cell < cell_count (C.sight cells.old).setting.slots }
+    requires ranged { is_ranged (C.sight cells.old).setting.slots cell ≡ true }
+    ensures looks { Looks (C.sight cells.old) (C.sight cells.new) }
+    ensures ok { IfOk result (λ first. (st : State) (w : ℕ) (more : List ℕ) → Matches (C.sight cells.new) st → HasBody (after (C.sight cells.new) st) cell (w ∷ more) → first ≡ w) }
+{
+    let word = cells.read(cell)?;
+    if word == 0 {
+        return Ok(0);
+    }
+    let range = range_of(cells, word);
+    if range.len == 0 {
+        return Ok(0);
+    }
+    Ok(cells.load(range, 0))
 }
