@@ -45,11 +45,11 @@ changes_push f listed x st mid ch free =
     record {
       counted = λ i has. ⊎_elim
           (λ before. value_elsewhere cell new mid (citers_cell i) (λ z. free (subst (λ n. Has n listed) (omega (arith, z)) before))
-              ∙ ch.counted i before)
+          ∙ ch.counted i before)
           (λ last. ⊎_elim
           (λ e. ap (λ n. (with_value cell new mid).value (citers_cell n)) e ∙ value_there cell new mid
           ∙ ap f (ch.others cell (λ j has z. free (subst (λ n. Has n listed) (omega (arith, z)) has)))
-              ∙ ap (λ n. f (st.value (citers_cell n))) (sym e))
+          ∙ ap (λ n. f (st.value (citers_cell n))) (sym e))
           (λ z. absurd z) last)
           (has_append_cases listed (x ∷ []) i has);
       others = λ c out. value_elsewhere cell new mid c (out x (has_append_right listed (x ∷ []) x (inl refl)))

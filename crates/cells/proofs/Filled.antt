@@ -74,11 +74,11 @@ module _ (slots : ℕ) (st laid : State) (lib : List Ranked) (shows : Shows slot
   cited_few may n most j h =
       let p = cited_held may.stored j h in
       let holds : Holds slots st lib p.0.slot p.0.entry =
-          all_has (λ (q : Held). Holds slots st lib q.slot q.entry) shows.held p.0 shows.holds p.1 in
+      all_has (λ (q : Held). Holds slots st lib q.slot q.entry) shows.held p.0 shows.holds p.1 in
       let ne : j ≢ i = λ z. full_slot slots st lib shows store p.0 p.1 (subst (IsEmpty slots st) (sym (p.2 ∙ z)) may.empty) in
       let same = laid_other j (citers_cell j) ne (omega arith) (omega arith) in
       let is : st.value (citers_cell j) ≡ citers lib (label_of p.0.entry) =
-          subst (λ m. st.value (citers_cell m) ≡ citers lib (label_of p.0.entry)) p.2 holds.citers in
+      subst (λ m. st.value (citers_cell m) ≡ citers lib (label_of p.0.entry)) p.2 holds.citers in
       subst (λ m. m ≤ n) (sym (same ∙ is)) (most (label_of p.0.entry))
 
   module _ (counted : State) (counts : CountsIn cited laid counted) (fillable : IsFillable slots a kept) where
@@ -141,9 +141,11 @@ module _ (slots : ℕ) (st laid : State) (lib : List Ranked) (shows : Shows slot
       new_holds : Holds slots next (added lib rank a) i entry
       new_holds =
           record {
-            name = record { within = in_slots;
-                body = body_same laid next (name_cell i) a.label (next_ranges ∙ sym laid_ranges)
-                (next_laid (name_cell i) i 0 in_slots (omega arith) (omega arith)) lays.name };
+            name = record {
+              within = in_slots;
+              body = body_same laid next (name_cell i) a.label (next_ranges ∙ sym laid_ranges)
+                  (next_laid (name_cell i) i 0 in_slots (omega arith) (omega arith)) lays.name;
+            };
             statement = body_same laid next (statement_cell i) _ (next_ranges ∙ sym laid_ranges)
                 (next_laid (statement_cell i) i 1 in_slots refl (omega arith)) lays.statement;
             proof = proven a.kind lays.proof (λ is. none_stored slots st a.proof kept may.stored (fillable.none is)) refl;
@@ -153,12 +155,17 @@ module _ (slots : ℕ) (st laid : State) (lib : List Ranked) (shows : Shows slot
         where
           same : next.value (5 * i + 2) ≡ laid.value (5 * i + 2)
           same = next_laid (proof_cell i) i 2 in_slots refl (omega arith)
+
           proven : (kind : Kind) → LaysProof st laid i kind kept → (kind ≡ Axiom → a.proof ≡ []) → a.kind ≡ kind
               → HoldsProof slots next i kind a.proof
           proven Axiom h none is = (same ∙ h ∙ may.empty.proof, none refl)
-          proven Theorem h none is =
-              (kept, body_same laid next (proof_cell i) _
-                  (next_ranges ∙ sym laid_ranges) same h, stored_same slots st next names_stay a.proof kept may.stored)
+          proven Theorem h none is = (
+            kept,
+            body_same laid next (proof_cell i) _
+                (next_ranges ∙ sym laid_ranges) same h,
+            stored_same slots st next names_stay a.proof kept may.stored,
+          )
+
           none : citers (added lib rank a) a.label ≡ 0
           none =
               let c = uncited slots st lib shows store a.label may.new a.proof kept may.stored in
@@ -180,20 +187,25 @@ module _ (slots : ℕ) (st laid : State) (lib : List Ranked) (shows : Shows slot
                 omega (arith, up, was, citers_added lib entry label, cond-true {A = ℕ} (cites label entry) 1 0 so)
             | inr other ↦
                 let kept_so = uncounted p.slot within (λ has. both_ways (cites label entry) other
-                    (stored_cites slots st lib shows store p h a.proof kept may.stored (cites_are.cited p.slot has))) in
+                (stored_cites slots st lib shows store p h a.proof kept may.stored (cites_are.cited p.slot has))) in
                 omega (arith, kept_so, was, citers_added lib entry label, cond-false {A = ℕ} (cites label entry) 1 0 other)
           ]) holds
         where
           label : List ℕ
           label = p.entry.assertion.label
+
           holds : Holds slots st lib p.slot p.entry
           holds = all_has (λ (q : Held). Holds slots st lib q.slot q.entry) shows.held p shows.holds h
+
           within : p.slot < slots
           within = (held_name slots st lib shows store p h).within
+
           ne : p.slot ≢ i
           ne z = full_slot slots st lib shows store p h (subst (IsEmpty slots st) (sym z) may.empty)
+
           was : laid.value (citers_cell p.slot) ≡ citers lib (label_of p.entry)
           was = laid_other p.slot (citers_cell p.slot) ne (omega arith) (omega arith) ∙ holds.citers
+
           cites_all : Has (Slot p.slot) kept → Has p.slot cited
           cites_all = cites_are.all p.slot
 
@@ -221,7 +233,7 @@ module _ (slots : ℕ) (st laid : State) (lib : List Ranked) (shows : Shows slot
                   (has_append_right (slots_of shows.held) (i ∷ []) j (inl e)))
               | inr ne ↦ ⊎_elim
                   (λ full. inl (subst (λ l. Has j l) (sym (map-append (λ (p : Held). p.slot) shows.held (here ∷ [])))
-                      (has_append_left (slots_of shows.held) (i ∷ []) j full)))
+                  (has_append_left (slots_of shows.held) (i ∷ []) j full)))
                   (λ empty. inr (still_empty j lt ne (empty_free slots st lib shows store j empty) empty))
                   (shows.others j lt)
             ];

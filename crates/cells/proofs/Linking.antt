@@ -106,7 +106,7 @@ module _ (slots : ℕ) where
       let rest = of_bucket slots b held in
       let mapped = filter (λ (s : ℕ × List ℕ). bucket slots s.1 == b) (map seat held) in
       elim (bucket slots (label_of p.entry) == b) as
-          (λ t. slots_of (cond t (p ∷ rest) rest) ≡ map (λ s. s.0) (cond t (seat p ∷ mapped) mapped)) [
+      (λ t. slots_of (cond t (p ∷ rest) rest) ≡ map (λ s. s.0) (cond t (seat p ∷ mapped) mapped)) [
         | true ↦ ap (λ l. p.slot ∷ l) (seats held b)
         | false ↦ seats held b
       ]

@@ -21,11 +21,11 @@ module _ (r s : Sight) (grounded : ∥ ((st : State) × (lib : List Ranked) × S
   pub staged_start : words ≢ [] → range.start < 2 ^ 25
   staged_start some =
       ∥∥₁_elim grounded le_prop (λ x. low x.0.ranges (record { start = range.start; words = words }) x.2.matches.store
-          (x.2.matches.has _ staged.finished) some)
+      (x.2.matches.has _ staged.finished) some)
 
   pub staged_len : range.len < 2 ^ 25
   staged_len =
       let few : length words < 2 ^ 25 =
-          ∥∥₁_elim grounded le_prop (λ x. short x.0.ranges (record { start = range.start; words = words }) x.2.matches.store
-              (x.2.matches.has _ staged.finished)) in
+      ∥∥₁_elim grounded le_prop (λ x. short x.0.ranges (record { start = range.start; words = words }) x.2.matches.store
+      (x.2.matches.has _ staged.finished)) in
       omega (arith, few, staged.len)

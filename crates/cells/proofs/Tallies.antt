@@ -74,7 +74,7 @@ pub filter_permutation : (p : ℕ → Bool) (xs ys : List ℕ) → IsPermutation
 filter_permutation p xs ys m =
     permutation_from_counts (filter p xs) (filter p ys) (λ w.
     sum_by-filter (is_one w) p xs ∙ sym (sum_by-IsPermutation (λ x. cond (p x) (is_one w x) 0) xs ys m)
-        ∙ sym (sum_by-filter (is_one w) p ys))
+    ∙ sym (sum_by-filter (is_one w) p ys))
 
 -- a filter that all pass
 pub filter_all : {A : Type 0} (p : A → Bool) (xs : List A) → ((x : A) → Has x xs → p x ≡ true) → filter p xs ≡ xs

@@ -28,5 +28,5 @@ invariant-loop g l =
           → (lt : bucket slots (label_of e) < slots) → length held ≤ slots
           → Walks slots l.slot (after old st)
           (leading slots l.slot (bucket_cell slots (bucket slots (label_of e)))
-              (chained (bucket slots (label_of e)) lt).chain) l.before l.counter;
+          (chained (bucket slots (label_of e)) lt).chain) l.before l.counter;
     }
