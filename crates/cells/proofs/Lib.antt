@@ -21,3 +21,6 @@ pub mod Stores
 pub mod Widened
 pub mod PlainSights
 pub mod Empty
+pub mod Small
+pub mod ReadBack
+pub mod Resolving

@@ -44,7 +44,6 @@ pub(crate) fn has_words<C: Cells>(cells: &mut C, range: Range, text: &[u8]) -> b
 /// # Errors
 ///
 /// Want of memory.
-#[tactic(auto, using(crate::proofs::Sights::looks_trans))]
 fn range_words<C: Cells>(alloc: Global, cells: &mut C, range: Range) -> Result<Vec<u64>, AllocError>
     requires { (words : List ℕ) × Knows (C.sight cells.old) range words }
     ensures looks { Looks (C.sight cells.old) (C.sight cells.new) }
@@ -58,7 +57,6 @@ fn range_words<C: Cells>(alloc: Global, cells: &mut C, range: Range) -> Result<V
 }
 
 /// The words of the body that a range cell names; none where it holds 0.
-#[tactic(auto, using(crate::proofs::Sights::looks_trans))]
 pub(crate) fn words_of<C: Cells>(
     alloc: Global,
     cells: &mut C,
