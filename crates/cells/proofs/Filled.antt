@@ -1,10 +1,8 @@
 -- A library that is shown, with an assertion in a slot that was empty.
-use Rattle.std.proofs.Common.{◌≡◌, ◌≢◌, ℕ, ◌+◌, ◌*◌, ◌<◌, ◌≤◌, Bool, true, false, cond, List, [], ◌∷◌, ◌++◌, length, map, refl, sym, ap, subst, ◌∙◌}
-use Rattle.std.proofs.Common.{◌⊎◌, inl, inr, ⊎_elim, arith, nat_eq}
-use Rattle.std.specs.Prelude.{All, IsPermutation}
-use Rattle.std.specs.List.{list_any, count_by, AllZip}
+use Rattle.std.proofs.Common.{◌≡◌, ◌≢◌, ℕ, ◌+◌, ◌*◌, ◌<◌, ◌≤◌, List, [], ◌∷◌, ◌++◌, map, refl, sym, ap, subst, ◌∙◌}
+use Rattle.std.proofs.Common.{inl, inr, ⊎_elim, arith, nat_eq}
 use Rattle.std.specs.Str.{bytes_eq}
-use Rattle.std.proofs.lemmas.Bool.{cases_Bool, cases_eq, cases_order, cond-true, cond-false, both_ways, false_from_ne_true}
+use Rattle.std.proofs.lemmas.Bool.{cases_Bool, cases_eq, cases_order, cond-true, cond-false, both_ways}
 use Rattle.std.proofs.lemmas.List.{map-append}
 use Rattle.std.proofs.lemmas.List.Elements.{All-push}
 use Rattle.std.proofs.lemmas.List.Sums.{sum_by_push}
@@ -16,17 +14,17 @@ use Rattle.mmsyntax.specs.declared.statement.Step.{Step}
 use Rattle.mmsyntax.specs.Assertions.{Distinct}
 use Rattle.library.specs.declared.library.Ranked.{Ranked}
 use Rattle.library.specs.Library.{label_of}
-use Rattle.library.specs.Edits.{has, cites, citers, added}
+use Rattle.library.specs.Edits.{cites, citers, added}
 use Rattle.library.proofs.Counts.{one_if}
 use Rattle.ranges.specs.Ranges.{Has, AreOfOneStore}
 use Rattle.bodystore.specs.declared.stored.StoredStep.{StoredStep}
 use Rattle.bodystore.specs.declared.stored.StoredStep.TheVariants.{Slot}
-use Rattle.cells.specs.State.{State, HasBody, most_words}
+use Rattle.cells.specs.State.{State, most_words}
 use Rattle.cells.specs.Slots.{name_cell, statement_cell, proof_cell, rank_cell, citers_cell, bucket_cell, next_cell}
-use Rattle.cells.specs.Shows.{Held, slots_of, entries_of, IsNamed, AreStoredAs, HoldsProof, Holds, IsEmpty, AreChained, Shows}
+use Rattle.cells.specs.Shows.{Held, slots_of, IsNamed, AreStoredAs, HoldsProof, Holds, IsEmpty, AreChained, Shows}
 use Rattle.cells.specs.Chains.{Rechains}
 use Rattle.cells.specs.Filling.{AreCitedSlots, CountsIn, MayFill, IsFillable, LaysProof, LaysDown}
-use Rattle.cells.proofs.Members.{all_has, all_from_has, has_mapped, has_append_left, has_append_right, distinct_push}
+use Rattle.cells.proofs.Members.{all_has, all_from_has, has_append_left, has_append_right, distinct_push}
 use Rattle.cells.proofs.Linking.{seat, chains_alike, chains_kept}
 use Rattle.cells.proofs.Holding.{body_same, stored_same, holds_same, empty_same, named_held, held_name, full_slot, empty_free, stored_named, stored_cites, cites_stored, uncited, no_citers}
 

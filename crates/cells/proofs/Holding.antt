@@ -1,8 +1,7 @@
 -- What a state that shows a library says of its slots: named slots hold assertions, and steps that cite slots cite labels.
-use Rattle.std.proofs.Common.{◌≡◌, ◌≢◌, ℕ, ◌+◌, ◌*◌, ◌<◌, Bool, true, false, List, [], ◌∷◌, ◌++◌, map, refl, sym, ap, subst, ◌∙◌}
-use Rattle.std.proofs.Common.{◌⊎◌, inl, inr, ⊎_elim, nat_eq, arith, ◌≤◌}
-use Rattle.std.specs.Prelude.{All}
-use Rattle.std.specs.List.{list_any, AllZip, count_by}
+use Rattle.std.proofs.Common.{◌≡◌, ℕ, ◌+◌, ◌*◌, ◌<◌, true, false, List, [], ◌∷◌, map, refl, sym, ap, subst, ◌∙◌}
+use Rattle.std.proofs.Common.{inl, inr, ⊎_elim, arith, ◌≤◌}
+use Rattle.std.specs.List.{list_any}
 use Rattle.std.specs.Str.{bytes_eq}
 use Rattle.std.proofs.lemmas.Bool.{both_ways, or_cases, or_left, or_right, or_from, false_from_ne_true}
 use Rattle.std.proofs.lemmas.List.Folds.{list_any_none}
@@ -17,7 +16,7 @@ use Rattle.library.specs.Library.{label_of}
 use Rattle.library.specs.Edits.{has, cites, citers, is_citation, is_labelled}
 use Rattle.library.proofs.Places.{is_labelled-own}
 use Rattle.library.proofs.Counts.{none_counted}
-use Rattle.ranges.specs.Ranges.{Range, Has, AreOfOneStore}
+use Rattle.ranges.specs.Ranges.{Has, AreOfOneStore}
 use Rattle.bodystore.specs.declared.stored.StoredStep.{StoredStep}
 use Rattle.bodystore.specs.declared.stored.StoredStep.TheVariants as stored
 use Rattle.cells.specs.State.{State, HasBody, most_words}

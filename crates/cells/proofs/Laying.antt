@@ -1,12 +1,12 @@
 -- What is written down of an assertion in the cells of its slot.
-use Rattle.std.proofs.Common.{◌≡◌, ◌≢◌, ℕ, ◌+◌, ◌*◌, ◌<◌, ◌≤◌, List, refl, sym, ap, subst, ◌∙◌, ◌⊎◌, ⊎_elim, arith, Result, Ok, Err}
+use Rattle.std.proofs.Common.{◌≡◌, ◌≢◌, ℕ, ◌+◌, ◌*◌, ◌<◌, ◌≤◌, List, refl, sym, subst, ◌∙◌, ◌⊎◌, ⊎_elim, arith, Result, Ok, Err}
 use Rattle.std.specs.Prelude.{MatchResult, IfOk}
 use Rattle.std.specs.Result.{IsErrAnd}
 use Rattle.mmsyntax.specs.declared.statement.Assertion.{Assertion}
 use Rattle.mmsyntax.specs.declared.statement.Kind.{Kind}
 use Rattle.mmsyntax.specs.declared.statement.Kind.TheVariants.{Axiom, Theorem}
 use Rattle.bodystore.specs.declared.stored.StoredStep.{StoredStep}
-use Rattle.bodystore.specs.Bodies.{label_body, statement_of, statement_body, proof_body}
+use Rattle.bodystore.specs.Bodies.{label_body, statement_of, statement_body}
 use Rattle.cells.specs.State.{State, HasBody, with_value}
 use Rattle.cells.specs.Slots.{name_cell, statement_cell, proof_cell, rank_cell, citers_cell}
 use Rattle.cells.specs.Filling.{LaysProof, LaysDown}

@@ -1,6 +1,6 @@
 -- A walk along a chain to a slot, and what is written where it ends.
-use Rattle.std.proofs.Common.{◌≡◌, ◌≢◌, ℕ, zero, suc, ◌+◌, ◌*◌, ◌<◌, ◌≤◌, Bool, true, false, cond, List, [], ◌∷◌, length, map, refl, sym, ap, subst, ◌∙◌}
-use Rattle.std.proofs.Common.{◌⊎◌, inl, inr, ⊎_elim, arith, nat_eq}
+use Rattle.std.proofs.Common.{◌≡◌, ◌≢◌, ℕ, ◌+◌, ◌<◌, ◌≤◌, List, [], ◌∷◌, length, sym, ap, subst, ◌∙◌}
+use Rattle.std.proofs.Common.{⊎_elim, arith, nat_eq}
 use Rattle.std.specs.Prelude.{◌==◌}
 use Rattle.std.proofs.lemmas.Bool.{cond-true, cond-false, eq-eqb, ne_eqb}
 use Rattle.std.proofs.lemmas.List.{length-map}
@@ -16,7 +16,7 @@ use Rattle.cells.specs.Shows.{Held, slots_of, of_bucket, IsChain, AreChained}
 use Rattle.cells.specs.Sight.{Sight, Writes, after}
 use Rattle.cells.specs.Chains.{Rechains, without_slot}
 use Rattle.cells.proofs.Members.{has_permutation}
-use Rattle.cells.proofs.Linking.{PutsFront, put_front, has_bucket}
+use Rattle.cells.proofs.Linking.{PutsFront, put_front}
 use Rattle.cells.proofs.Unlinking.{leading, leading_is, TakesOut, unlink}
 use Rattle.cells.proofs.Values.{value_there, value_elsewhere}
 use Rattle.cells.proofs.Sights.{after_writes}

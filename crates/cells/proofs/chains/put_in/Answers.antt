@@ -1,4 +1,4 @@
-use Rattle.std.proofs.Common.{◌≡◌, ◌<◌, ℕ, sym, ap, subst, ◌∙◌, arith}
+use Rattle.std.proofs.Common.{◌≡◌, ◌<◌, ℕ, ap, subst, ◌∙◌, arith}
 use Rattle.cells.specs.Slots.{bucket}
 use Rattle.cells.specs.State.{State}
 use Rattle.cells.proofs.Sights.{onward_trans, writes_onward, looks_trans, matches_back, after_looks}

@@ -1,6 +1,5 @@
-use Rattle.std.proofs.Common.{◌≡◌, ℕ, ap, sym, subst, ◌∙◌, refl}
+use Rattle.std.proofs.Common.{◌≡◌, ℕ, ap, subst, ◌∙◌, refl}
 use Rattle.cells.specs.State.{State, HasBody, with_value}
-use Rattle.cells.specs.Slots.{name_cell, statement_cell, proof_cell, rank_cell, citers_cell}
 use Rattle.cells.specs.Sight.{Matches, after}
 use Rattle.cells.specs.Filling.{LaysDown}
 use Rattle.cells.proofs.Sights.{onward_trans, matches_back}

@@ -1,4 +1,4 @@
-use Rattle.std.proofs.Common.{◌≡◌, ◌*◌, ◌+◌, ◌^◌, ap, sym, ◌∙◌, inr, length}
+use Rattle.std.proofs.Common.{◌*◌, ◌+◌, ◌^◌, ap, ◌∙◌, inr}
 use Rattle.cells.specs.State.{State}
 use Rattle.cells.specs.Sight.{after}
 use Rattle.cells.proofs.Sights.{onward_trans, writes_onward, after_writes}
