@@ -1,9 +1,9 @@
 -- Cells of counts that are changed one after another, and the slots that steps cite.
-use Rattle.std.proofs.Common.{◌≡◌, ◌≢◌, ℕ, zero, suc, ◌+◌, ◌-◌, ◌*◌, ◌^◌, ◌<◌, ◌≤◌, ◌%◌, true, false, List, [], ◌∷◌, ◌++◌, length, take, get_or, refl, sym, ap, subst, ◌∙◌}
-use Rattle.std.proofs.Common.{◌⊎◌, inl, inr, ⊎_elim, arith, nat_eq}
-use Rattle.std.specs.Prelude.{◌==◌, ◌&&◌, nat_lt, min, All, filter_map, Option, Some, None}
+use Rattle.std.proofs.Common.{◌≡◌, ◌≢◌, ℕ, zero, suc, ◌+◌, ◌-◌, ◌*◌, ◌^◌, ◌<◌, ◌%◌, false, List, [], ◌∷◌, ◌++◌, length, take, get_or, refl, sym, ap, subst, ◌∙◌}
+use Rattle.std.proofs.Common.{inl, inr, ⊎_elim, arith, nat_eq}
+use Rattle.std.specs.Prelude.{nat_lt, min}
 use Rattle.std.proofs.lemmas.Bool.{le-ltb, and_right}
-use Rattle.std.proofs.lemmas.List.{take_more, take_all}
+use Rattle.std.proofs.lemmas.List.{take_more}
 use Rattle.mmsyntax.specs.Assertions.{Distinct}
 use Rattle.ranges.specs.Ranges.{Has}
 use Rattle.cells.specs.State.{State, with_value}
@@ -45,11 +45,11 @@ changes_push f listed x st mid ch free =
     record {
       counted = λ i has. ⊎_elim
           (λ before. value_elsewhere cell new mid (citers_cell i) (λ z. free (subst (λ n. Has n listed) (omega (arith, z)) before))
-              ∙ ch.counted i before)
+          ∙ ch.counted i before)
           (λ last. ⊎_elim
           (λ e. ap (λ n. (with_value cell new mid).value (citers_cell n)) e ∙ value_there cell new mid
           ∙ ap f (ch.others cell (λ j has z. free (subst (λ n. Has n listed) (omega (arith, z)) has)))
-              ∙ ap (λ n. f (st.value (citers_cell n))) (sym e))
+          ∙ ap (λ n. f (st.value (citers_cell n))) (sym e))
           (λ z. absurd z) last)
           (has_append_cases listed (x ∷ []) i has);
       others = λ c out. value_elsewhere cell new mid c (out x (has_append_right listed (x ∷ []) x (inl refl)))

@@ -1,10 +1,8 @@
 -- A library that is shown, with an assertion in a slot that was empty.
-use Rattle.std.proofs.Common.{◌≡◌, ◌≢◌, ℕ, ◌+◌, ◌*◌, ◌<◌, ◌≤◌, Bool, true, false, cond, List, [], ◌∷◌, ◌++◌, length, map, refl, sym, ap, subst, ◌∙◌}
-use Rattle.std.proofs.Common.{◌⊎◌, inl, inr, ⊎_elim, arith, nat_eq}
-use Rattle.std.specs.Prelude.{All, IsPermutation}
-use Rattle.std.specs.List.{list_any, count_by, AllZip}
+use Rattle.std.proofs.Common.{◌≡◌, ◌≢◌, ℕ, ◌+◌, ◌*◌, ◌<◌, ◌≤◌, List, [], ◌∷◌, ◌++◌, map, refl, sym, ap, subst, ◌∙◌}
+use Rattle.std.proofs.Common.{inl, inr, ⊎_elim, arith, nat_eq}
 use Rattle.std.specs.Str.{bytes_eq}
-use Rattle.std.proofs.lemmas.Bool.{cases_Bool, cases_eq, cases_order, cond-true, cond-false, both_ways, false_from_ne_true}
+use Rattle.std.proofs.lemmas.Bool.{cases_Bool, cases_eq, cases_order, cond-true, cond-false, both_ways}
 use Rattle.std.proofs.lemmas.List.{map-append}
 use Rattle.std.proofs.lemmas.List.Elements.{All-push}
 use Rattle.std.proofs.lemmas.List.Sums.{sum_by_push}
@@ -16,17 +14,17 @@ use Rattle.mmsyntax.specs.declared.statement.Step.{Step}
 use Rattle.mmsyntax.specs.Assertions.{Distinct}
 use Rattle.library.specs.declared.library.Ranked.{Ranked}
 use Rattle.library.specs.Library.{label_of}
-use Rattle.library.specs.Edits.{has, cites, citers, added}
+use Rattle.library.specs.Edits.{cites, citers, added}
 use Rattle.library.proofs.Counts.{one_if}
 use Rattle.ranges.specs.Ranges.{Has, AreOfOneStore}
 use Rattle.bodystore.specs.declared.stored.StoredStep.{StoredStep}
 use Rattle.bodystore.specs.declared.stored.StoredStep.TheVariants.{Slot}
-use Rattle.cells.specs.State.{State, HasBody, most_words}
+use Rattle.cells.specs.State.{State, most_words}
 use Rattle.cells.specs.Slots.{name_cell, statement_cell, proof_cell, rank_cell, citers_cell, bucket_cell, next_cell}
-use Rattle.cells.specs.Shows.{Held, slots_of, entries_of, IsNamed, AreStoredAs, HoldsProof, Holds, IsEmpty, AreChained, Shows}
+use Rattle.cells.specs.Shows.{Held, slots_of, IsNamed, AreStoredAs, HoldsProof, Holds, IsEmpty, AreChained, Shows}
 use Rattle.cells.specs.Chains.{Rechains}
 use Rattle.cells.specs.Filling.{AreCitedSlots, CountsIn, MayFill, IsFillable, LaysProof, LaysDown}
-use Rattle.cells.proofs.Members.{all_has, all_from_has, has_mapped, has_append_left, has_append_right, distinct_push}
+use Rattle.cells.proofs.Members.{all_has, all_from_has, has_append_left, has_append_right, distinct_push}
 use Rattle.cells.proofs.Linking.{seat, chains_alike, chains_kept}
 use Rattle.cells.proofs.Holding.{body_same, stored_same, holds_same, empty_same, named_held, held_name, full_slot, empty_free, stored_named, stored_cites, cites_stored, uncited, no_citers}
 
@@ -74,11 +72,11 @@ module _ (slots : ℕ) (st laid : State) (lib : List Ranked) (shows : Shows slot
   cited_few may n most j h =
       let p = cited_held may.stored j h in
       let holds : Holds slots st lib p.0.slot p.0.entry =
-          all_has (λ (q : Held). Holds slots st lib q.slot q.entry) shows.held p.0 shows.holds p.1 in
+      all_has (λ (q : Held). Holds slots st lib q.slot q.entry) shows.held p.0 shows.holds p.1 in
       let ne : j ≢ i = λ z. full_slot slots st lib shows store p.0 p.1 (subst (IsEmpty slots st) (sym (p.2 ∙ z)) may.empty) in
       let same = laid_other j (citers_cell j) ne (omega arith) (omega arith) in
       let is : st.value (citers_cell j) ≡ citers lib (label_of p.0.entry) =
-          subst (λ m. st.value (citers_cell m) ≡ citers lib (label_of p.0.entry)) p.2 holds.citers in
+      subst (λ m. st.value (citers_cell m) ≡ citers lib (label_of p.0.entry)) p.2 holds.citers in
       subst (λ m. m ≤ n) (sym (same ∙ is)) (most (label_of p.0.entry))
 
   module _ (counted : State) (counts : CountsIn cited laid counted) (fillable : IsFillable slots a kept) where
@@ -141,9 +139,11 @@ module _ (slots : ℕ) (st laid : State) (lib : List Ranked) (shows : Shows slot
       new_holds : Holds slots next (added lib rank a) i entry
       new_holds =
           record {
-            name = record { within = in_slots;
-                body = body_same laid next (name_cell i) a.label (next_ranges ∙ sym laid_ranges)
-                (next_laid (name_cell i) i 0 in_slots (omega arith) (omega arith)) lays.name };
+            name = record {
+              within = in_slots;
+              body = body_same laid next (name_cell i) a.label (next_ranges ∙ sym laid_ranges)
+                  (next_laid (name_cell i) i 0 in_slots (omega arith) (omega arith)) lays.name;
+            };
             statement = body_same laid next (statement_cell i) _ (next_ranges ∙ sym laid_ranges)
                 (next_laid (statement_cell i) i 1 in_slots refl (omega arith)) lays.statement;
             proof = proven a.kind lays.proof (λ is. none_stored slots st a.proof kept may.stored (fillable.none is)) refl;
@@ -153,12 +153,17 @@ module _ (slots : ℕ) (st laid : State) (lib : List Ranked) (shows : Shows slot
         where
           same : next.value (5 * i + 2) ≡ laid.value (5 * i + 2)
           same = next_laid (proof_cell i) i 2 in_slots refl (omega arith)
+
           proven : (kind : Kind) → LaysProof st laid i kind kept → (kind ≡ Axiom → a.proof ≡ []) → a.kind ≡ kind
               → HoldsProof slots next i kind a.proof
           proven Axiom h none is = (same ∙ h ∙ may.empty.proof, none refl)
-          proven Theorem h none is =
-              (kept, body_same laid next (proof_cell i) _
-                  (next_ranges ∙ sym laid_ranges) same h, stored_same slots st next names_stay a.proof kept may.stored)
+          proven Theorem h none is = (
+            kept,
+            body_same laid next (proof_cell i) _
+                (next_ranges ∙ sym laid_ranges) same h,
+            stored_same slots st next names_stay a.proof kept may.stored,
+          )
+
           none : citers (added lib rank a) a.label ≡ 0
           none =
               let c = uncited slots st lib shows store a.label may.new a.proof kept may.stored in
@@ -180,20 +185,25 @@ module _ (slots : ℕ) (st laid : State) (lib : List Ranked) (shows : Shows slot
                 omega (arith, up, was, citers_added lib entry label, cond-true {A = ℕ} (cites label entry) 1 0 so)
             | inr other ↦
                 let kept_so = uncounted p.slot within (λ has. both_ways (cites label entry) other
-                    (stored_cites slots st lib shows store p h a.proof kept may.stored (cites_are.cited p.slot has))) in
+                (stored_cites slots st lib shows store p h a.proof kept may.stored (cites_are.cited p.slot has))) in
                 omega (arith, kept_so, was, citers_added lib entry label, cond-false {A = ℕ} (cites label entry) 1 0 other)
           ]) holds
         where
           label : List ℕ
           label = p.entry.assertion.label
+
           holds : Holds slots st lib p.slot p.entry
           holds = all_has (λ (q : Held). Holds slots st lib q.slot q.entry) shows.held p shows.holds h
+
           within : p.slot < slots
           within = (held_name slots st lib shows store p h).within
+
           ne : p.slot ≢ i
           ne z = full_slot slots st lib shows store p h (subst (IsEmpty slots st) (sym z) may.empty)
+
           was : laid.value (citers_cell p.slot) ≡ citers lib (label_of p.entry)
           was = laid_other p.slot (citers_cell p.slot) ne (omega arith) (omega arith) ∙ holds.citers
+
           cites_all : Has (Slot p.slot) kept → Has p.slot cited
           cites_all = cites_are.all p.slot
 
@@ -221,7 +231,7 @@ module _ (slots : ℕ) (st laid : State) (lib : List Ranked) (shows : Shows slot
                   (has_append_right (slots_of shows.held) (i ∷ []) j (inl e)))
               | inr ne ↦ ⊎_elim
                   (λ full. inl (subst (λ l. Has j l) (sym (map-append (λ (p : Held). p.slot) shows.held (here ∷ [])))
-                      (has_append_left (slots_of shows.held) (i ∷ []) j full)))
+                  (has_append_left (slots_of shows.held) (i ∷ []) j full)))
                   (λ empty. inr (still_empty j lt ne (empty_free slots st lib shows store j empty) empty))
                   (shows.others j lt)
             ];

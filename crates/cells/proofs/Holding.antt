@@ -1,8 +1,7 @@
 -- What a state that shows a library says of its slots: named slots hold assertions, and steps that cite slots cite labels.
-use Rattle.std.proofs.Common.{◌≡◌, ◌≢◌, ℕ, ◌+◌, ◌*◌, ◌<◌, Bool, true, false, List, [], ◌∷◌, ◌++◌, map, refl, sym, ap, subst, ◌∙◌}
-use Rattle.std.proofs.Common.{◌⊎◌, inl, inr, ⊎_elim, nat_eq, arith, ◌≤◌}
-use Rattle.std.specs.Prelude.{All}
-use Rattle.std.specs.List.{list_any, AllZip, count_by}
+use Rattle.std.proofs.Common.{◌≡◌, ℕ, ◌+◌, ◌*◌, ◌<◌, true, false, List, [], ◌∷◌, map, refl, sym, ap, subst, ◌∙◌}
+use Rattle.std.proofs.Common.{inl, inr, ⊎_elim, arith, ◌≤◌}
+use Rattle.std.specs.List.{list_any}
 use Rattle.std.specs.Str.{bytes_eq}
 use Rattle.std.proofs.lemmas.Bool.{both_ways, or_cases, or_left, or_right, or_from, false_from_ne_true}
 use Rattle.std.proofs.lemmas.List.Folds.{list_any_none}
@@ -17,7 +16,7 @@ use Rattle.library.specs.Library.{label_of}
 use Rattle.library.specs.Edits.{has, cites, citers, is_citation, is_labelled}
 use Rattle.library.proofs.Places.{is_labelled-own}
 use Rattle.library.proofs.Counts.{none_counted}
-use Rattle.ranges.specs.Ranges.{Range, Has, AreOfOneStore}
+use Rattle.ranges.specs.Ranges.{Has, AreOfOneStore}
 use Rattle.bodystore.specs.declared.stored.StoredStep.{StoredStep}
 use Rattle.bodystore.specs.declared.stored.StoredStep.TheVariants as stored
 use Rattle.cells.specs.State.{State, HasBody, most_words}
@@ -113,7 +112,7 @@ module _ (slots : ℕ) (st : State) (lib : List Ranked) (shows : Shows slots st 
   pub held_name : (p : Held) → Has p shows.held → IsNamed slots st p.slot (label_of p.entry)
   held_name p h =
       let holds : Holds slots st lib p.slot p.entry =
-          all_has (λ (q : Held). Holds slots st lib q.slot q.entry) shows.held p shows.holds h in holds.name
+      all_has (λ (q : Held). Holds slots st lib q.slot q.entry) shows.held p shows.holds h in holds.name
 
   -- so the library has this label
   pub named_has : (i : ℕ) (label : List ℕ) → IsNamed slots st i label → has lib label ≡ true
@@ -194,9 +193,9 @@ module _ (slots : ℕ) (st : State) (lib : List Ranked) (shows : Shows slots st 
       none_counted (cites label) lib (list_any_none (cites label) lib (all_from_has (λ e. cites label e ≡ false) lib (λ e h.
       let m = mapped_has (λ (p : Held). p.entry) shows.held e (subst (Has e) (sym shows.library) h) in
       let holds : Holds slots st lib m.0.slot m.0.entry =
-          all_has (λ (q : Held). Holds slots st lib q.slot q.entry) shows.held m.0 shows.holds m.1 in
+      all_has (λ (q : Held). Holds slots st lib q.slot q.entry) shows.held m.0 shows.holds m.1 in
       subst (λ (x : Ranked). cites label x ≡ false) (sym m.2)
-          (by_kind m.0.slot m.0.entry.assertion.kind m.0.entry.assertion.proof holds.proof))))
+      (by_kind m.0.slot m.0.entry.assertion.kind m.0.entry.assertion.proof holds.proof))))
     where
       by_kind : (i : ℕ) (kind : Kind) (steps : List Step) → HoldsProof slots st i kind steps → list_any (is_citation label) steps ≡ false
       by_kind i Axiom steps h = ap (list_any (is_citation label)) h.1
@@ -217,6 +216,7 @@ module _ (slots : ℕ) (st : State) (lib : List Ranked) (shows : Shows slots st 
             (any_has (bytes_eq (label_of r.entry)) (map label_of (entries_of held)) (label_of x.entry)
             (has_mapped label_of (entries_of held) x.entry (has_mapped (λ (y : Held). y.entry) held x h))
             (subst (λ l. bytes_eq (label_of r.entry) l ≡ true) (sym same) (bytes_eq-same (label_of r.entry))))
+
         among : (held : List Held) → Distinct bytes_eq (map label_of (entries_of held)) → Has p held → Has q held → p ≡ q
         among [] d hp hq = absurd hp
         among (r ∷ held) d (inl ep) (inl eq) = ep ∙ sym eq

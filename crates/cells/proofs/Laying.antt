@@ -1,12 +1,12 @@
 -- What is written down of an assertion in the cells of its slot.
-use Rattle.std.proofs.Common.{◌≡◌, ◌≢◌, ℕ, ◌+◌, ◌*◌, ◌<◌, ◌≤◌, List, refl, sym, ap, subst, ◌∙◌, ◌⊎◌, ⊎_elim, arith, Result, Ok, Err}
+use Rattle.std.proofs.Common.{◌≡◌, ◌≢◌, ℕ, ◌+◌, ◌*◌, ◌<◌, ◌≤◌, List, refl, sym, subst, ◌∙◌, ◌⊎◌, ⊎_elim, arith, Result, Ok, Err}
 use Rattle.std.specs.Prelude.{MatchResult, IfOk}
 use Rattle.std.specs.Result.{IsErrAnd}
 use Rattle.mmsyntax.specs.declared.statement.Assertion.{Assertion}
 use Rattle.mmsyntax.specs.declared.statement.Kind.{Kind}
 use Rattle.mmsyntax.specs.declared.statement.Kind.TheVariants.{Axiom, Theorem}
 use Rattle.bodystore.specs.declared.stored.StoredStep.{StoredStep}
-use Rattle.bodystore.specs.Bodies.{label_body, statement_of, statement_body, proof_body}
+use Rattle.bodystore.specs.Bodies.{label_body, statement_of, statement_body}
 use Rattle.cells.specs.State.{State, HasBody, with_value}
 use Rattle.cells.specs.Slots.{name_cell, statement_cell, proof_cell, rank_cell, citers_cell}
 use Rattle.cells.specs.Filling.{LaysProof, LaysDown}
@@ -43,7 +43,7 @@ pub laid_down : (s0 s1 s2 s3 s5 : State) (i rank : ℕ) (a : Assertion) (kept : 
     → s1.ranges ≡ s0.ranges → s2.ranges ≡ s0.ranges → s3.ranges ≡ s0.ranges
     → label ≡ label_body a.label → HasBody s1 (name_cell i) label → ((c : ℕ) → c ≢ name_cell i → s1.value c ≡ s0.value c)
     → statement ≡ statement_body (statement_of a) → HasBody s2 (statement_cell i) statement
-        → ((c : ℕ) → c ≢ statement_cell i → s2.value c ≡ s1.value c)
+    → ((c : ℕ) → c ≢ statement_cell i → s2.value c ≡ s1.value c)
     → LaysProof s2 s3 i a.kind kept → ((c : ℕ) → c ≢ proof_cell i → s3.value c ≡ s2.value c)
     → s5 ≡ with_value (citers_cell i) 0 (with_value (rank_cell i) rank s3) → LaysDown s0 s5 i rank a kept
 laid_down s0 s1 s2 s3 s5 i rank a kept label statement r1 r2 r3 label_is name name_others statement_is stated statement_others proof proof_others made =
@@ -53,7 +53,7 @@ laid_down s0 s1 s2 s3 s5 i rank a kept label statement r1 r2 r3 label_is name na
           ∙ statement_others (name_cell i) (λ z. omega (arith, z))) (subst (HasBody s1 (name_cell i)) label_is name);
       statement = body_same s2 s4 (statement_cell i) (statement_body (statement_of a)) (r3 ∙ sym r2)
           (after_proof (statement_cell i) (λ z. omega (arith, z)) (λ z. omega (arith, z))
-              ∙ proof_others (statement_cell i) (λ z. omega (arith, z)))
+          ∙ proof_others (statement_cell i) (λ z. omega (arith, z)))
           (subst (HasBody s2 (statement_cell i)) statement_is stated);
       proof = proof_since s0 s2 s4 i a.kind kept
           (statement_others (proof_cell i) (λ z. omega (arith, z)) ∙ name_others (proof_cell i) (λ z. omega (arith, z)))
@@ -68,9 +68,11 @@ laid_down s0 s1 s2 s3 s5 i rank a kept label statement r1 r2 r3 label_is name na
   where
     s4 : State
     s4 = with_value (5 * i + 4) 0 (with_value (5 * i + 3) rank s3)
+
     after_proof : (c : ℕ) → c ≢ citers_cell i → c ≢ rank_cell i
         → (with_value (citers_cell i) 0 (with_value (rank_cell i) rank s3)).value c ≡ s3.value c
     after_proof c no_citers no_rank = value_elsewhere (citers_cell i) 0 (with_value (rank_cell i) rank s3) c no_citers
         ∙ value_elsewhere (rank_cell i) rank s3 c no_rank
+
     apart : (c : ℕ) → (c < 5 * i) ⊎ (5 * i + 5 ≤ c) → (k : ℕ) → k < 5 → c ≡ 5 * i + k → ⊥
     apart c out k lt z = ⊎_elim (λ before. omega (arith, before, z)) (λ behind. omega (arith, behind, z)) out

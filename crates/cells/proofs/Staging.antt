@@ -1,5 +1,5 @@
 -- Ranges that were staged: they are short and lie low, so words name them.
-use Rattle.std.proofs.Common.{◌≡◌, ◌≢◌, ℕ, zero, suc, ◌+◌, ◌*◌, ◌^◌, ◌<◌, List, [], ◌∷◌, length, refl, arith}
+use Rattle.std.proofs.Common.{◌≢◌, ℕ, ◌+◌, ◌^◌, ◌<◌, List, [], ◌∷◌, length, refl, arith}
 use Rattle.std.proofs.Math.Bridge.{le_prop}
 use Rattle.std.proofs.Math.Logic.{∥∥₁_elim}
 use Rattle.library.specs.declared.library.Ranked.{Ranked}
@@ -21,11 +21,11 @@ module _ (r s : Sight) (grounded : ∥ ((st : State) × (lib : List Ranked) × S
   pub staged_start : words ≢ [] → range.start < 2 ^ 25
   staged_start some =
       ∥∥₁_elim grounded le_prop (λ x. low x.0.ranges (record { start = range.start; words = words }) x.2.matches.store
-          (x.2.matches.has _ staged.finished) some)
+      (x.2.matches.has _ staged.finished) some)
 
   pub staged_len : range.len < 2 ^ 25
   staged_len =
       let few : length words < 2 ^ 25 =
-          ∥∥₁_elim grounded le_prop (λ x. short x.0.ranges (record { start = range.start; words = words }) x.2.matches.store
-              (x.2.matches.has _ staged.finished)) in
+      ∥∥₁_elim grounded le_prop (λ x. short x.0.ranges (record { start = range.start; words = words }) x.2.matches.store
+      (x.2.matches.has _ staged.finished)) in
       omega (arith, few, staged.len)

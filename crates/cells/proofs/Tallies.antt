@@ -1,8 +1,8 @@
 -- Lists of numbers with the same counts are permutations of one another; so filters of permutations are.
-use Rattle.std.proofs.Common.{◌≡◌, ℕ, zero, suc, ◌+◌, ◌<◌, ◌≤◌, Bool, true, false, cond, List, [], ◌∷◌, length, map, refl, sym, ap, subst, ◌∙◌}
-use Rattle.std.proofs.Common.{◌⊎◌, inl, inr, arith, nat_eq, get_or}
+use Rattle.std.proofs.Common.{◌≡◌, ℕ, suc, ◌<◌, ◌≤◌, Bool, true, false, cond, List, [], ◌∷◌, length, map, refl, sym, ap, subst, ◌∙◌}
+use Rattle.std.proofs.Common.{inl, inr, arith, nat_eq, get_or}
 use Rattle.std.specs.Prelude.{filter, IsPermutation}
-use Rattle.std.specs.List.{Contains, count_by, sum_by, list_any, remove}
+use Rattle.std.specs.List.{sum_by, list_any, remove}
 use Rattle.std.proofs.lemmas.Bool.{cases_Bool, cond-true, cond-false, eqb-true, eq-eqb}
 use Rattle.std.proofs.lemmas.List.Sums.{sum_by-cons, sum_by-remove, sum_by-le-sum_by}
 use Rattle.std.proofs.lemmas.List.Sorted.{IsPermutation-refl, IsPermutation-cons, IsPermutation-sym, IsPermutation-trans, IsPermutation-remove, sum_by-IsPermutation}
@@ -74,7 +74,7 @@ pub filter_permutation : (p : ℕ → Bool) (xs ys : List ℕ) → IsPermutation
 filter_permutation p xs ys m =
     permutation_from_counts (filter p xs) (filter p ys) (λ w.
     sum_by-filter (is_one w) p xs ∙ sym (sum_by-IsPermutation (λ x. cond (p x) (is_one w x) 0) xs ys m)
-        ∙ sym (sum_by-filter (is_one w) p ys))
+    ∙ sym (sum_by-filter (is_one w) p ys))
 
 -- a filter that all pass
 pub filter_all : {A : Type 0} (p : A → Bool) (xs : List A) → ((x : A) → Has x xs → p x ≡ true) → filter p xs ≡ xs

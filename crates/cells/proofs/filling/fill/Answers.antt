@@ -1,8 +1,8 @@
-use Rattle.std.proofs.Common.{◌≡◌, ◌<◌, ◌≤◌, ◌^◌, ℕ, List, ◌∷◌, ap, sym, subst, ◌∙◌, refl, arith}
+use Rattle.std.proofs.Common.{◌≡◌, ◌<◌, List, ◌∷◌, sym, subst, ◌∙◌, refl, arith}
 use Rattle.std.proofs.lemmas.List.Sums.{count_by-le-length}
 use Rattle.library.specs.declared.library.Ranked.{Ranked}
 use Rattle.library.specs.Library.{Setting, label_of}
-use Rattle.library.specs.Edits.{cites, citers}
+use Rattle.library.specs.Edits.{cites}
 use Rattle.ranges.specs.Ranges.{Has}
 use Rattle.cells.specs.State.{State}
 use Rattle.cells.specs.Shows.{Held, slots_of, AreChained}
@@ -43,11 +43,11 @@ returns-clause-ok g c =
     let setting = c.count_in.ensures.onward.setting ∙ c.lay_down.ensures.onward.setting in
     let cites_are = subst (AreCitedSlots c.args.steps.now) (sym c.as_slice.ensures.value) c.in_ok-cited.ensures in
     let then : (x : Unit {0}) → ((st : State) (held : List Held) (e : Ranked) → Matches s3 st → AreChained s2.setting.slots (after s2 st) held
-        → label_of e ≡ c.as_slice-2.result.now → (Has c.args.slot (slots_of held) → ⊥)
-        → Rechains s2.setting.slots (after s2 st) (after s3 st) held (record { slot = c.args.slot; entry = e } ∷ held))
-        → (st : State) (lib : List Ranked) → Matches s3 st → Views old st lib
-        → MayFill old.setting.slots (after old st) lib c.args.slot c.args.assertion.now c.args.steps.now
-        → Fills old.setting.slots (after s3 st) lib c.args.rank c.args.assertion.now =
+    → label_of e ≡ c.as_slice-2.result.now → (Has c.args.slot (slots_of held) → ⊥)
+    → Rechains s2.setting.slots (after s2 st) (after s3 st) held (record { slot = c.args.slot; entry = e } ∷ held))
+    → (st : State) (lib : List Ranked) → Matches s3 st → Views old st lib
+    → MayFill old.setting.slots (after old st) lib c.args.slot c.args.assertion.now c.args.steps.now
+    → Fills old.setting.slots (after s3 st) lib c.args.rank c.args.assertion.now =
     λ x put st lib m views may.
     let m2 = matches_back s2 s3 st c.put_in.ensures.onward m in
     let m1 = matches_back s1 s2 st c.count_in.ensures.onward m2 in
@@ -57,15 +57,15 @@ returns-clause-ok g c =
     let few = views.verifies.setting.few in
     let room = views.verifies.library.room in
     let small = cited_few slots (after old st) (after s1 st) lib shows store c.args.slot c.args.rank a steps cited c.requires.slot lays
-        cites_are may 4096
-        (λ label. omega (arith, few, room, count_by-le-length (cites label) lib)) in
+    cites_are may 4096
+    (λ label. omega (arith, few, room, count_by-le-length (cites label) lib)) in
     let here : Held = record { slot = c.args.slot; entry = record { rank = c.args.rank; assertion = c.args.assertion.now } } in
     let counts = counting st m2 (λ i h. let n = small i h in omega (arith, n)) cites_are.apart in
     let chained = still_chained slots (after old st) (after s1 st) lib shows store c.args.slot c.args.rank a steps cited c.requires.slot lays
-        cites_are (after s2 st) counts c.requires.fillable in
+    cites_are (after s2 st) counts c.requires.fillable in
     let chains = put st shows.held (record { rank = c.args.rank; assertion = c.args.assertion.now }) m
-        (subst (λ (s : Setting). AreChained s.slots (after s2 st) shows.held) (sym setting) chained) (sym c.as_slice-2.ensures)
-        (empty_free slots (after old st) lib shows store c.args.slot may.empty) in
+    (subst (λ (s : Setting). AreChained s.slots (after s2 st) shows.held) (sym setting) chained) (sym c.as_slice-2.ensures)
+    (empty_free slots (after old st) lib shows store c.args.slot may.empty) in
     filled slots (after old st) (after s1 st) lib shows store c.args.slot c.args.rank a steps cited c.requires.slot lays cites_are
     (after s2 st) counts c.requires.fillable (after s3 st) refl refl views.verifies.library.distinct may
     (subst (λ (s : Setting). Rechains s.slots (after s2 st) (after s3 st) shows.held (here ∷ shows.held)) setting chains) in

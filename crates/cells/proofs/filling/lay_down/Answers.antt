@@ -1,6 +1,5 @@
-use Rattle.std.proofs.Common.{◌≡◌, ℕ, ap, sym, subst, ◌∙◌, refl}
+use Rattle.std.proofs.Common.{◌≡◌, ℕ, ap, subst, ◌∙◌, refl}
 use Rattle.cells.specs.State.{State, HasBody, with_value}
-use Rattle.cells.specs.Slots.{name_cell, statement_cell, proof_cell, rank_cell, citers_cell}
 use Rattle.cells.specs.Sight.{Matches, after}
 use Rattle.cells.specs.Filling.{LaysDown}
 use Rattle.cells.proofs.Sights.{onward_trans, matches_back}
@@ -40,13 +39,13 @@ returns-clause-ok g c =
     let proven = c.in_ok-put_proof.ensures in
     let on3 = onward_trans _ _ _ c.put.ensures.onward c.put-2.ensures.onward in
     let then : (x : Unit {0}) → ((st : State) → after s5 st ≡ with_value c.citers_cell.result 0 (after s4 st)) → (st : State) → Matches s5 st
-        → LaysDown (after old st) (after s5 st) c.args.slot c.args.rank c.args.assertion.now c.args.steps.now =
+    → LaysDown (after old st) (after s5 st) c.args.slot c.args.rank c.args.assertion.now c.args.steps.now =
     λ x put st m.
     let m3 = matches_back s3 s5 st on3 m in
     let m2 = matches_back s2 s3 st c.put_proof.ensures.onward m3 in
     let m1 = matches_back s1 s2 st c.put_body-2.ensures.onward m2 in
     laid_down (after old st) (after s1 st) (after s2 st) (after s3 st)
-        (after s5 st) c.args.slot c.args.rank c.args.assertion.now c.args.steps.now
+    (after s5 st) c.args.slot c.args.rank c.args.assertion.now c.args.steps.now
     c.as_slice-2.result.now c.as_slice-3.result.now refl refl refl
     (c.as_slice-2.ensures.value ∙ c.in_ok-label.ensures ∙ c.as_slice.ensures)
     (subst (λ (n : ℕ). HasBody (after s1 st) n c.as_slice-2.result.now) c.name_cell.ensures (named st m1))
@@ -56,5 +55,5 @@ returns-clause-ok g c =
     (λ cell ne. statement_others st cell (λ z. ne (z ∙ c.statement_cell.ensures)))
     (proven.ok st m3) (proven.others st)
     (put st ∙ (λ i. with_value (c.citers_cell.ensures i) 0
-        ((ranked st ∙ ap (λ (n : ℕ). with_value n c.args.rank (after s3 st)) c.rank_cell.ensures) i))) in
+    ((ranked st ∙ ap (λ (n : ℕ). with_value n c.args.rank (after s3 st)) c.rank_cell.ensures) i))) in
     if_mapped _ _ _ _ _ c.map_err-4.ensures.cases c.put-2.ensures.ok then
