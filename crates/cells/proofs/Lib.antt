@@ -5,3 +5,6 @@ pub mod Stores
 pub mod Widened
 pub mod PlainSights
 pub mod Empty
+pub mod Lengths
+pub mod Fronts
+pub mod Opened
