@@ -13,8 +13,12 @@ expressions_next [] i d lt = absurd (omega arith)
 expressions_next (e ∷ es) zero d lt = let n = length-expression e in omega (arith, length-append (expression_words e) [], n)
 expressions_next (e ∷ es) (suc i) d lt =
     let next = expressions_next es i d (omega arith) in
-    omega (arith, next, length-append (expression_words e) (expressions_words (take (suc i) es)),
-    length-append (expression_words e) (expressions_words (take i es)))
+    omega (
+      arith,
+      next,
+      length-append (expression_words e) (expressions_words (take (suc i) es)),
+      length-append (expression_words e) (expressions_words (take i es)),
+    )
 
 -- one expression more
 pub expressions_more : (es : List (List Symbol)) (i : ℕ) (e : List Symbol) → i < length es → e ≡ get_or es i e

@@ -27,6 +27,8 @@ use Rattle.cells.specs.Lookups.{Resolves}
 use Rattle.cells.specs.Filling.{MayFill, Fills, IsFillable}
 use Rattle.cells.specs.Plain.{undone, plain_sight, plain_state, ShowsSome}
 use Rattle.cells.specs.Opening.{Opens, front, held_from}
+use Rattle.std.proofs.Math.Seq.{take-length}
+use Rattle.cells.proofs.Empty.{shows_none}
 use Rattle.cells.proofs.Logs.{length-undone}
 use Rattle.cells.proofs.Numbered.{over_all}
 use Rattle.cells.proofs.Widened.{shows_widened}
@@ -74,11 +76,28 @@ pub later_views : (c d : PlainCells) (t : Sight) (lib : List Ranked) (held : Lis
     → (v : Views t (first_state d) lib) × (v.shows.held ≡ held)
 later_views c d t lib held slots setting writes within matches verifies h =
     let shown : ShowsHeld t.setting.slots (after t (first_state d)) lib held =
-    subst (λ (s : Setting). ShowsHeld s.slots (after t (first_state d)) lib held) (sym setting) (later_held c d t lib held slots writes within h) in
-    (
+    subst (λ (s : Setting). ShowsHeld s.slots (after t (first_state d)) lib held) (sym setting) (later_held c d t lib held slots writes within h) in (
       record { matches = matches; shows = shown.0; verifies = subst (λ (s : Setting). Verifies s lib) (sym setting) verifies },
       shown.1,
     )
+
+-- ---- openings
+
+pub opens_at : (db : Contents) (slots room n m : ℕ) (made : PlainCells) → slots ≡ n → room ≡ m → Opens db slots room made → Opens db n m made
+opens_at db slots room n m made e f o = subst (λ x. Opens db x m made) e (subst (λ x. Opens db slots x made) f o)
+
+-- empty cells open the front with no assertion
+pub opens_none : (db : Contents) (slots room : ℕ) (made : PlainCells) → made.prelude ≡ db.prelude → made.slots ≡ slots → made.room ≡ room
+    → made.log.items ≡ [] → ((c : ℕ) → get_or made.values.items c 0 ≡ 0) → Opens (front 0 db) slots room made
+opens_none db slots room made prelude slots_are room_is kept zeros =
+    record { prelude = prelude; slots_are = slots_are; room_is = room_is; kept = kept; shows = shows_none slots (now_state made) zeros }
+
+-- all assertions are the front of them all
+pub opens_all : (db : Contents) (slots room k : ℕ) (made : PlainCells) → length db.assertions ≡ k → Opens (front k db) slots room made
+    → Opens db slots room made
+opens_all db slots room k made whole o =
+    let xs : take k db.assertions ≡ db.assertions = ap (λ n. take n db.assertions) (sym whole) ∙ take-length db.assertions in
+    subst (λ (d : Contents). Opens d slots room made) (λ i. record { prelude = db.prelude; assertions = xs i }) o
 
 -- ---- stored steps
 
@@ -179,7 +198,7 @@ module _ (db : Contents) (k : ℕ) (a : Assertion) (lt : k < length db.assertion
       let slots : q.slots ≡ p.slots = ap (λ (s : Setting). s.slots) looks.onward.setting in
       let st = first_state r in
       let may = next_may_fill db k a lt is (declarable db spelled) q.slots (after (sight_of q) st) kept v.0.shows v.1 (omega (arith, slots, lt, room))
-          (resolved st (opening (front k db)) v.0) in
+      (resolved st (opening (front k db)) v.0) in
       let made = fills st (opening (front k db)) (first_matches r) v.0 may in
       let entry : Held = record { slot = k; entry = record { rank = 100 * (k + 1); assertion = a } } in
       let one : ShowsHeld q.slots (after (sight_of r) st) (added (opening (front k db)) (100 * (k + 1)) a) (first_held ++ entry ∷ []) =
