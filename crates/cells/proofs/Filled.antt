@@ -21,7 +21,7 @@ use Rattle.bodystore.specs.declared.stored.StoredStep.{StoredStep}
 use Rattle.bodystore.specs.declared.stored.StoredStep.TheVariants.{Slot}
 use Rattle.cells.specs.State.{State, most_words}
 use Rattle.cells.specs.Slots.{name_cell, statement_cell, proof_cell, rank_cell, citers_cell, bucket_cell, next_cell}
-use Rattle.cells.specs.Shows.{Held, slots_of, IsNamed, AreStoredAs, HoldsProof, Holds, IsEmpty, AreChained, Shows}
+use Rattle.cells.specs.Shows.{Held, slots_of, IsNamed, AreStoredAs, HoldsProof, Holds, IsEmpty, AreChained, Shows, ShowsHeld}
 use Rattle.cells.specs.Chains.{Rechains}
 use Rattle.cells.specs.Filling.{AreCitedSlots, CountsIn, MayFill, IsFillable, LaysProof, LaysDown}
 use Rattle.cells.proofs.Members.{all_has, all_from_has, has_append_left, has_append_right, distinct_push}
@@ -217,8 +217,8 @@ module _ (slots : ℕ) (st laid : State) (lib : List Ranked) (shows : Shows slot
           ∙ counted_high (next_cell slots j) (omega arith) ∙ laid_high (next_cell slots j) (omega arith))
           empty
 
-      pub filled : Shows slots next (added lib rank a)
-      filled =
+      pub filled : ShowsHeld slots next (added lib rank a) (shows.held ++ here ∷ [])
+      filled = (
           record {
             held = shows.held ++ here ∷ [];
             library = map-append (λ (p : Held). p.entry) shows.held (here ∷ []) ∙ ap (λ (l : List Ranked). l ++ entry ∷ []) shows.library;
@@ -239,4 +239,6 @@ module _ (slots : ℕ) (st laid : State) (lib : List Ranked) (shows : Shows slot
                 (IsPermutation-map (seat slots) (here ∷ shows.held) (shows.held ++ here ∷ [])
                 (IsPermutation-sym (shows.held ++ here ∷ []) (here ∷ shows.held) (IsPermutation-to_front shows.held here)))
                 chains.chained;
-          }
+          },
+          refl,
+      )

@@ -24,3 +24,6 @@ pub mod Empty
 pub mod Small
 pub mod ReadBack
 pub mod Resolving
+pub mod Lengths
+pub mod Fronts
+pub mod Opened

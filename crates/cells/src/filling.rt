@@ -35,7 +35,7 @@ pub fn fill<C: Cells>(
     requires slot { slot < (C.sight cells.old).setting.slots }
     requires fillable { IsFillable (C.sight cells.old).setting.slots assertion.now steps.now }
     ensures onward { Onward (C.sight cells.old) (C.sight cells.new) }
-    ensures ok { IfOk result (λ _. (st : State) (lib : List _) → Matches (C.sight cells.new) st → Views (C.sight cells.old) st lib → MayFill (C.sight cells.old).setting.slots (after (C.sight cells.old) st) lib slot assertion.now steps.now → Fills (C.sight cells.old).setting.slots (after (C.sight cells.new) st) lib rank assertion.now) }
+    ensures ok { IfOk result (λ _. (st : State) (lib : List _) → Matches (C.sight cells.new) st → (shown : Views (C.sight cells.old) st lib) → MayFill (C.sight cells.old).setting.slots (after (C.sight cells.old) st) lib slot assertion.now steps.now → Fills (C.sight cells.old).setting.slots (after (C.sight cells.new) st) lib shown.shows.held slot rank assertion.now) }
 {
     lay_down(alloc, cells, slot, rank, assertion, steps)?;
     let cited = cited_slots(alloc, steps)?;

@@ -45,9 +45,9 @@ returns-clause-ok g c =
     let then : (x : Unit {0}) → ((st : State) (held : List Held) (e : Ranked) → Matches s3 st → AreChained s2.setting.slots (after s2 st) held
     → label_of e ≡ c.as_slice-2.result.now → (Has c.args.slot (slots_of held) → ⊥)
     → Rechains s2.setting.slots (after s2 st) (after s3 st) held (record { slot = c.args.slot; entry = e } ∷ held))
-    → (st : State) (lib : List Ranked) → Matches s3 st → Views old st lib
+    → (st : State) (lib : List Ranked) → Matches s3 st → (shown : Views old st lib)
     → MayFill old.setting.slots (after old st) lib c.args.slot c.args.assertion.now c.args.steps.now
-    → Fills old.setting.slots (after s3 st) lib c.args.rank c.args.assertion.now =
+    → Fills old.setting.slots (after s3 st) lib shown.shows.held c.args.slot c.args.rank c.args.assertion.now =
     λ x put st lib m views may.
     let m2 = matches_back s2 s3 st c.put_in.ensures.onward m in
     let m1 = matches_back s1 s2 st c.count_in.ensures.onward m2 in
