@@ -184,7 +184,7 @@ module _ (db : Contents) (k : ℕ) (a : Assertion) (lt : k < length db.assertion
   resolved_fillable q kept looks resolved =
       let v = opened_views q (sight_of q) looks (onward_refl (sight_of q)) in
       next_fillable db k a lt is (declarable db spelled) q.slots (after (sight_of q) (first_state q)) kept
-      (resolved (first_state q) (opening (front k db)) v.0)
+      (resolved.2 (first_state q) (opening (front k db)) v.0)
 
   -- filled with the next assertion, they show one more
   pub filled_held : (q r : PlainCells) (kept : List StoredStep) → Looks (sight_of p) (sight_of q) → Onward (sight_of q) (sight_of r)
@@ -198,7 +198,7 @@ module _ (db : Contents) (k : ℕ) (a : Assertion) (lt : k < length db.assertion
       let slots : q.slots ≡ p.slots = ap (λ (s : Setting). s.slots) looks.onward.setting in
       let st = first_state r in
       let may = next_may_fill db k a lt is (declarable db spelled) q.slots (after (sight_of q) st) kept v.0.shows v.1 (omega (arith, slots, lt, room))
-      (resolved st (opening (front k db)) v.0) in
+      (resolved.2 st (opening (front k db)) v.0) in
       let made = fills st (opening (front k db)) (first_matches r) v.0 may in
       let entry : Held = record { slot = k; entry = record { rank = 100 * (k + 1); assertion = a } } in
       let one : ShowsHeld q.slots (after (sight_of r) st) (added (opening (front k db)) (100 * (k + 1)) a) (first_held ++ entry ∷ []) =
