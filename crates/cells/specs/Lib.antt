@@ -1,1 +1,9 @@
-
+pub mod State
+pub mod Slots
+pub mod Shows
+pub mod Sight
+pub mod Lookups
+pub mod Chains
+pub mod Filling
+pub mod Plain
+pub mod Opening

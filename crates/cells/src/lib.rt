@@ -1,2 +1,30 @@
-//! The library in cells.
+//! The library in cells: how a library lies in words, and what reads and writes of cells do to it.
 #![tactic(auto)]
+
+mod cells;
+mod chains;
+mod counts;
+mod filling;
+mod finding;
+mod halt;
+mod opening;
+mod places;
+mod plain;
+mod reading;
+mod words;
+
+pub use cells::Cells;
+pub use chains::{put_in, take_out};
+pub use counts::{cited_slots, count_in, count_out};
+pub use filling::{fill, put, put_body};
+pub use finding::{find, free_slot};
+pub use halt::Halt;
+pub use opening::OpenError;
+pub use places::{
+    bucket, bucket_cell, citers_cell, name_cell, next_cell, proof_cell, rank_cell, statement_cell,
+};
+pub use plain::{PlainCells, PlainStop};
+pub use reading::{
+    assertion, citers, entry, frame, is_full, kind, label, proof, rank, resolve, statement,
+    stored_proof,
+};

@@ -1,0 +1,100 @@
+-- What the sights of a run have in common, before and after its calls.
+use Rattle.std.proofs.Common.{◌≡◌, ℕ, List, [], ◌∷◌, Option, Some, None, refl, sym, ap, subst, ◌∙◌, true, false}
+use Rattle.std.specs.Prelude.{◌==◌, if◌then◌else◌}
+use Rattle.std.proofs.lemmas.Bool.Decides.{Decides-eqb}
+use Rattle.library.specs.declared.library.Ranked.{Ranked}
+use Rattle.ranges.specs.Pairs.{Pairs, written}
+use Rattle.ranges.specs.Ranges.{Range, Has, Within}
+use Rattle.ranges.proofs.Grown.{within_refl, within_trans}
+use Rattle.cells.specs.State.{State, FitsReads, with_writes, value_or, with_value}
+use Rattle.cells.specs.Sight.{Sight, WasRead, WasWritten, Matches, Views, Suits, Onward, Looks, Reads, Writes, Stages, after}
+use Rattle.library.specs.Library.{Setting, Verifies}
+use Rattle.cells.specs.Shows.{Shows}
+use Rattle.cells.specs.Lookups.{ForEach}
+
+-- ---- nothing is lost
+
+pub onward_refl : (s : Sight) → Onward s s
+onward_refl s = record { setting = refl; room = refl; ranges = within_refl s.ranges; reads = λ st h. h; read = λ c h. h; written = λ c h. h }
+
+pub onward_trans : (r s t : Sight) → Onward r s → Onward s t → Onward r t
+onward_trans r s t f g =
+    record {
+      setting = g.setting ∙ f.setting;
+      room = g.room ∙ f.room;
+      ranges = within_trans r.ranges s.ranges t.ranges f.ranges g.ranges;
+      reads = λ st h. f.reads st (g.reads st h);
+      read = λ c h. g.read c (f.read c h);
+      written = λ c h. g.written c (f.written c h);
+    }
+
+pub looks_refl : (s : Sight) → Looks s s
+looks_refl s = record { onward = onward_refl s; writes = refl; taken = refl }
+
+pub looks_trans : (r s t : Sight) → Looks r s → Looks s t → Looks r t
+looks_trans r s t f g = record { onward = onward_trans r s t f.onward g.onward; writes = g.writes ∙ f.writes; taken = g.taken ∙ f.taken }
+
+pub writes_onward : (cell v : ℕ) (s t : Sight) → Writes cell v s t → Onward s t
+writes_onward cell v s t w =
+    record {
+      setting = w.setting;
+      room = w.room;
+      ranges = subst (Within s.ranges) (sym w.ranges) (within_refl s.ranges);
+      reads = λ st h. subst (FitsReads st) w.reads h;
+      read = λ c h. (h.0, subst (Has (c, h.0)) (sym w.reads) h.1);
+      written = λ c h. written_on c h;
+    }
+  where
+    written_on : (c : ℕ) → WasWritten s c → WasWritten t c
+    written_on c h =
+        elim (c == cell) as (λ b. written c t.writes ≡ (if b then Some v else written c s.writes) → WasWritten t c) [
+          | true ↦ λ e. (v, e)
+          | false ↦ λ e. (h.0, e ∙ h.1)
+        ] (w.writes c)
+
+-- the cell is written then
+pub writes_cell : (cell v : ℕ) (s t : Sight) → Writes cell v s t → WasWritten t cell
+writes_cell cell v s t w =
+    elim (cell == cell) as (λ b. (cell == cell) ≡ b → written cell t.writes ≡ (if b then Some v else written cell s.writes) → WasWritten t cell) [
+      | true ↦ λ k e. (v, e)
+      | false ↦ λ k e. absurd (let one = same_is_same cell in cc)
+    ] refl (w.writes cell)
+  where
+    same_is_same : (n : ℕ) → (n == n) ≡ true
+    same_is_same n = (Decides-eqb n n).1 refl
+
+-- ---- the states that are left possible
+
+pub matches_back : (s t : Sight) (st : State) → Onward s t → Matches t st → Matches s st
+matches_back s t st f m =
+    record { store = m.store; has = λ r h. m.has r (f.ranges r h); reads = f.reads st m.reads }
+
+-- what is made of a state stays the same while nothing is written
+pub after_same : (s t : Sight) (st : State) → t.writes ≡ s.writes → after t st ≡ after s st
+after_same s t st e = ap (with_writes st) e
+
+pub after_looks : (s t : Sight) (st : State) → Looks s t → after t st ≡ after s st
+after_looks s t st f = after_same s t st f.writes
+
+pub views_back : (s t : Sight) (st : State) (lib : List Ranked) → Looks s t → Views t st lib → Views s st lib
+views_back s t st lib f v =
+    record {
+      matches = matches_back s t st f.onward v.matches;
+      shows = subst (λ (x : State). Shows s.setting.slots x lib) (after_looks s t st f)
+          (subst (λ (x : Setting). Shows x.slots (after t st) lib) f.onward.setting v.shows);
+      verifies = subst (λ (x : Setting). Verifies x lib) f.onward.setting v.verifies;
+    }
+
+-- what was so of each state stays so while nothing is written
+pub for_each_later : (s t : Sight) (told : State → List Ranked → Type 0) → Looks s t → ForEach s told → ForEach t told
+for_each_later s t told f each st lib v = subst (λ (x : State). told x lib) (sym (after_looks s t st f)) (each st lib (views_back s t st lib f v))
+
+-- a value that is kept aside is that of its cell
+pub after_writes : (cell v : ℕ) (s t : Sight) (st : State) → Writes cell v s t → after t st ≡ with_value cell v (after s st)
+after_writes cell v s t st w = λ i. record { value = λ c. value_at c i; ranges = st.ranges }
+  where
+    over : (c : ℕ) → value_or (if c == cell then Some v else written c s.writes) (st.value c) ≡ (if c == cell then v else value_or (written c s.writes) (st.value c))
+    over c = elim (c == cell) as (λ b. value_or (if b then Some v else written c s.writes) (st.value c) ≡ (if b then v else value_or (written c s.writes) (st.value c))) [ true ↦ refl | false ↦ refl ]
+
+    value_at : (c : ℕ) → value_or (written c t.writes) (st.value c) ≡ (if c == cell then v else value_or (written c s.writes) (st.value c))
+    value_at c = ap (λ (o : Option ℕ). value_or o (st.value c)) (w.writes c) ∙ over c

@@ -1,0 +1,16 @@
+-- Values of cells where one is written, and which cells are not range cells.
+use Rattle.std.proofs.Common.{◌≡◌, ◌≢◌, ℕ, ◌*◌, ◌≤◌, ◌%◌, false, refl}
+use Rattle.std.specs.Prelude.{◌==◌, nat_lt}
+use Rattle.std.proofs.lemmas.Bool.{cond-true, cond-false, eq-eqb, ne_eqb, le-ltb, and_left}
+use Rattle.cells.specs.State.{State, with_value}
+use Rattle.cells.specs.Slots.{is_ranged}
+
+pub value_there : (cell v : ℕ) (st : State) → (with_value cell v st).value cell ≡ v
+value_there cell v st = cond-true (cell == cell) v (st.value cell) (eq-eqb cell cell refl)
+
+pub value_elsewhere : (cell v : ℕ) (st : State) (c : ℕ) → c ≢ cell → (with_value cell v st).value c ≡ st.value c
+value_elsewhere cell v st c ne = cond-false (c == cell) v (st.value c) (ne_eqb c cell ne)
+
+-- no cell of a bucket or of a chain is a range cell
+pub not_ranged : (slots c : ℕ) → 5 * slots ≤ c → is_ranged slots c ≡ false
+not_ranged slots c high = and_left (nat_lt c (5 * slots)) (nat_lt (c % 5) 3) (le-ltb c (5 * slots) high)

@@ -1,0 +1,35 @@
+use Rattle.std.proofs.Common.{◌≡◌, ◌<◌, ℕ, ap, subst, ◌∙◌, arith}
+use Rattle.cells.specs.Slots.{bucket}
+use Rattle.cells.specs.State.{State}
+use Rattle.cells.proofs.Sights.{onward_trans, writes_onward, looks_trans, matches_back, after_looks}
+use Rattle.cells.proofs.Walking.{in_front}
+use Rattle.cells.proofs.chains.put_in.Goals as goal
+
+pub returns-in_err-read-clause-onward : goal.returns-in_err-read-clause-onward
+returns-in_err-read-clause-onward g c = onward_trans _ _ _ c.in_ok-first.ensures.ok.looks.onward c.in_err-read.ensures.err.onward
+
+pub write-requires-2-clause-read : goal.write-requires-2-clause-read
+write-requires-2-clause-read g c =
+    (writes_onward _ _ _ _ c.write.ensures).read _ (c.in_ok-read.ensures.ok.looks.onward.read _ c.in_ok-first.ensures.ok.read)
+
+pub returns-clause-onward : goal.returns-clause-onward
+returns-clause-onward g c =
+    onward_trans _ _ _ (looks_trans _ _ _ c.in_ok-first.ensures.ok.looks c.in_ok-read.ensures.ok.looks).onward
+    (onward_trans _ _ _ (writes_onward _ _ _ _ c.write.ensures) (writes_onward _ _ _ _ c.write-2.ensures))
+
+pub returns-clause-ok : goal.returns-clause-ok
+returns-clause-ok g c st held e m chained label_is free =
+    let first = c.in_ok-first.ensures.ok in
+    let second = c.in_ok-read.ensures.ok.looks in
+    let both = looks_trans _ _ _ first.looks second in
+    let wrote = onward_trans _ _ _ (writes_onward _ _ _ _ c.write.ensures) (writes_onward _ _ _ _ c.write-2.ensures) in
+    let old = g.C.Cells.sight c.args.cells.now in
+    let slots_are = c.slot_count-slots.ensures.value in
+    let bucket_is : c.bucket.result ≡ bucket old.setting.slots c.args.label.now =
+    c.bucket.ensures.value ∙ ap (λ (n : ℕ). bucket n c.args.label.now) slots_are in
+    in_front old _ _ st _ _ _ c.args.slot c.args.label.now held e _ (after_looks _ _ st both) c.write.ensures c.write-2.ensures
+    (omega (arith, c.bucket_cell-front.ensures, slots_are, bucket_is)) (omega (arith, c.next_cell-2.ensures, slots_are))
+    (first.value st (matches_back _ _ st (onward_trans _ _ _ second.onward wrote) m)
+    ∙ ap (λ (x : State). x.value c.bucket_cell-front.result) (after_looks _ _ st first.looks))
+    c.requires (subst (λ (n : ℕ). n < old.setting.slots) bucket_is (omega (arith, c.bucket.ensures.within, slots_are)))
+    chained label_is free

@@ -1,0 +1,38 @@
+use Rattle.std.proofs.Common.{◌+◌, ℕ, List, take, get_or, sym, subst, arith, refl}
+use Rattle.std.proofs.lemmas.List.{take_all}
+use Rattle.cells.specs.Sight.{after}
+use Rattle.cells.proofs.Sights.{onward_trans, writes_onward, matches_back}
+use Rattle.cells.proofs.Counting.{Changes, one_more, changes_more, count_made, counts_in}
+use Rattle.cells.proofs.counts.count_in.Goals as goal
+
+pub returns-in_err-count-clause-onward : goal.returns-in_err-count-clause-onward
+returns-in_err-count-clause-onward g c = onward_trans _ _ _ c.loop-slot.invariant.onward c.in_err-count.ensures.err.onward
+
+pub loop-slot-preserved : goal.loop-slot-preserved
+loop-slot-preserved g c =
+    let cited = c.args.cited.now in
+    let i = c.loop-slot.slot-index in
+    let x = get_or c.args.cited.now c.loop-slot.slot-index 0 in
+    let old = g.C.Cells.sight c.args.cells.now in
+    let now = g.C.Cells.sight c.loop-slot.cells in
+    let new = g.C.Cells.sight c.write.new.self in
+    let read = c.in_ok-count.ensures.ok in
+    let wrote = writes_onward _ _ _ _ c.write.ensures in
+    record {
+      onward = onward_trans _ _ _ c.loop-slot.invariant.onward (onward_trans _ _ _ read.looks.onward wrote);
+      changes = λ st m d.
+          let m1 = matches_back _ _ st wrote m in
+          let m0 = matches_back _ _ st read.looks.onward m1 in
+          let made = count_made one_more now _ new st _ _ _ _ x read.looks c.write.ensures c.citers_cell-in-loop-slot.ensures c.saturating_add.ensures
+          (read.value st m1) c.citers_cell.ensures in
+          subst (Changes one_more (take (i + 1) cited) (after old st)) (sym made)
+          (changes_more one_more cited i x (after old st) (after now st) d (omega arith) refl (c.loop-slot.invariant.changes st m0 d));
+    }
+
+pub returns-clause-ok : goal.returns-clause-ok
+returns-clause-ok g c st m few d =
+    let cited = c.args.cited.now in
+    let old = g.C.Cells.sight c.args.cells.now in
+    let new = g.C.Cells.sight c.loop-slot.cells in
+    counts_in cited (after old st) (after new st) few (subst (λ (l : List ℕ). Changes one_more l (after old st) (after new st))
+    (take_all c.loop-slot.slot-index cited (omega arith)) (c.loop-slot.invariant.changes st m d))

@@ -1,0 +1,63 @@
+-- What becomes of a state where an assertion is put into an empty slot.
+use Rattle.std.specs.Prelude.{◌≡◌, ◌≢◌, ◌<◌, ◌≤◌, ◌⊎◌, ℕ, ◌+◌, ◌-◌, ◌*◌, List, [], ◌∷◌, ◌++◌, false, nat_eq}
+use Rattle.mmsyntax.specs.declared.statement.Assertion.{Assertion}
+use Rattle.mmsyntax.specs.declared.statement.Kind.{Kind}
+use Rattle.mmsyntax.specs.declared.statement.Kind.TheVariants.{Theorem, Axiom}
+use Rattle.mmsyntax.specs.Assertions.{Distinct}
+use Rattle.library.specs.declared.library.Ranked.{Ranked}
+use Rattle.library.specs.Edits.{has, added}
+use Rattle.ranges.specs.Ranges.{Has}
+use Rattle.bodystore.specs.declared.stored.StoredStep.{StoredStep}
+use Rattle.bodystore.specs.declared.stored.StoredStep.TheVariants.{Slot}
+use Rattle.bodystore.specs.Bodies.{label_body, statement_of, statement_body, proof_body}
+use Rattle.cells.specs.State.{State, HasBody}
+use Rattle.cells.specs.Slots.{name_cell, statement_cell, proof_cell, rank_cell, citers_cell}
+use Rattle.cells.specs.Shows.{Held, IsEmpty, AreStoredAs, ShowsHeld}
+
+-- the slots that the steps cite, each once
+pub record AreCitedSlots (steps : List StoredStep) (slots : List ℕ) : Type 0 where
+  pub apart : Distinct nat_eq slots
+  pub cited : (i : ℕ) → Has i slots → Has (Slot i) steps
+  pub all : (i : ℕ) → Has (Slot i) steps → Has i slots
+
+-- each of these slots has one citer more, and nothing else changes
+pub record CountsIn (listed : List ℕ) (st next : State) : Type 0 where
+  pub counted : (i : ℕ) → Has i listed → next.value (citers_cell i) ≡ st.value (citers_cell i) + 1
+  pub others : (c : ℕ) → ((i : ℕ) → Has i listed → c ≢ citers_cell i) → next.value c ≡ st.value c
+
+-- each of these slots has one citer less, and nothing else changes
+pub record CountsOut (listed : List ℕ) (st next : State) : Type 0 where
+  pub counted : (i : ℕ) → Has i listed → next.value (citers_cell i) ≡ st.value (citers_cell i) - 1
+  pub others : (c : ℕ) → ((i : ℕ) → Has i listed → c ≢ citers_cell i) → next.value c ≡ st.value c
+
+-- an assertion that may be put into the slot of a library that is shown: the slot is empty, nobody has the label, and the steps are stored
+pub record MayFill (slots : ℕ) (st : State) (lib : List Ranked) (i : ℕ) (a : Assertion) (kept : List StoredStep) : Type 0 where
+  pub empty : IsEmpty slots st i
+  pub new : has lib a.label ≡ false
+  pub stored : AreStoredAs slots st a.proof kept
+
+-- with it the state shows the library with this assertion behind the others: the slot holds it, and the others are held where they were
+abbrev pub Fills : ℕ → State → List Ranked → List Held → ℕ → ℕ → Assertion → Type 0
+Fills slots next lib held i rank a =
+    ShowsHeld slots next (added lib rank a) (held ++ record { slot = i; entry = record { rank = rank; assertion = a } } ∷ [])
+
+-- an assertion that has a label, with steps that cite slots, at least one where it is a theorem, and none where it is an axiom
+pub record IsFillable (slots : ℕ) (a : Assertion) (kept : List StoredStep) : Type 0 where
+  pub labelled : a.label ≢ []
+  pub some : a.kind ≡ Theorem → kept ≢ []
+  pub none : a.kind ≡ Axiom → kept ≡ []
+  pub within : (i : ℕ) → Has (Slot i) kept → i < slots
+
+-- the proof cell of a theorem's slot names the body of its steps; that of an axiom's is as it was
+abbrev pub LaysProof : State → State → ℕ → Kind → List StoredStep → Type 0
+LaysProof st next i Axiom kept = next.value (proof_cell i) ≡ st.value (proof_cell i)
+LaysProof st next i Theorem kept = HasBody next (proof_cell i) (proof_body kept)
+
+-- the slot's five cells have the label, the statement, the steps and the rank of an assertion, and no citer, and nothing else changes
+pub record LaysDown (st next : State) (i rank : ℕ) (a : Assertion) (kept : List StoredStep) : Type 0 where
+  pub name : HasBody next (name_cell i) (label_body a.label)
+  pub statement : HasBody next (statement_cell i) (statement_body (statement_of a))
+  pub proof : LaysProof st next i a.kind kept
+  pub ranked : next.value (rank_cell i) ≡ rank
+  pub citers : next.value (citers_cell i) ≡ 0
+  pub others : (c : ℕ) → (c < 5 * i) ⊎ (5 * i + 5 ≤ c) → next.value c ≡ st.value c

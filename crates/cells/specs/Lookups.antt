@@ -1,0 +1,82 @@
+-- What the calls that read a library's cells answer, for every state that may be under the run.
+use Rattle.std.specs.Prelude.{◌≡◌, ◌≢◌, ◌<◌, ◌≤◌, ℕ, ◌+◌, ◌%◌, List, [], ◌∷◌, Option, Some, None, Bool, true, false, length, All, Contains}
+use Rattle.std.specs.List.{list_any}
+use Rattle.mmsyntax.specs.declared.statement.Step.{Step}
+use Rattle.mmsyntax.specs.declared.statement.Step.TheVariants.{Float, Hyp, Cite}
+use Rattle.library.specs.declared.library.Ranked.{Ranked}
+use Rattle.library.specs.Edits.{found, is_of_unknown}
+use Rattle.bodystore.specs.declared.stored.StoredStep.{StoredStep}
+use Rattle.bodystore.specs.declared.stored.StoredStep.TheVariants.{Slot}
+use Rattle.ranges.specs.Ranges.{Has}
+use Rattle.cells.specs.State.{State, HasBody}
+use Rattle.cells.specs.Slots.{name_cell}
+use Rattle.cells.specs.Shows.{IsNamed, Holds, IsEmpty, IsStoredAs, AreStoredAs}
+use Rattle.cells.specs.Sight.{Sight, Matches, Views, after}
+
+-- what is so of every state that may be under the run and of every library that verifies and that it shows with what the run keeps aside
+abbrev pub ForEach : Sight → (State → List Ranked → Type 0) → Type 0
+ForEach s told = (st : State) (lib : List Ranked) → Views s st lib → told (after s st) lib
+
+-- and of every assertion of the library that the slot holds there
+abbrev pub ForEachHeld : Sight → ℕ → (State → List Ranked → Ranked → Type 0) → Type 0
+ForEachHeld s i told = ForEach s (λ st lib. (e : Ranked) → Contains lib e → Holds s.setting.slots st lib i e → told st lib e)
+
+-- a label of bytes that the slot has in some state that may be the one under the run is this one
+abbrev pub IsNameAt : Sight → ℕ → List ℕ → Type 0
+IsNameAt s i made =
+    (st : State) (label : List ℕ) → Matches s st → All (λ byte. byte < 256) label → IsNamed s.setting.slots (after s st) i label → made ≡ label
+
+-- the slot holds the assertion of the library that has the label
+pub record IsFoundAt (slots : ℕ) (st : State) (lib : List Ranked) (label : List ℕ) (i : ℕ) : Type 0 where
+  pub entry : Ranked
+  pub found : found lib label ≡ Some entry
+  pub holds : Holds slots st lib i entry
+
+-- the slot with the assertion that has the label, or none where no assertion has it
+abbrev pub Finds : Sight → List ℕ → Option ℕ → Type 0
+Finds s label None = ForEach s (λ st lib. found lib label ≡ None)
+Finds s label (Some i) = (i < s.setting.slots) × ForEach s (λ st lib. IsFoundAt s.setting.slots st lib label i)
+
+-- whether the slot holds an assertion of the library: if not, it is empty
+abbrev pub IfFull : Sight → ℕ → Bool → Type 0
+IfFull s i true = ForEach s (λ st lib. (e : Ranked) × Holds s.setting.slots st lib i e × Contains lib e)
+IfFull s i false = ForEach s (λ st lib. IsEmpty s.setting.slots st i)
+
+-- the first empty slot from a slot on, going round
+pub record IsFirstEmpty (s : Sight) (from i : ℕ) : Type 0 where
+  pub within : i < s.setting.slots
+  pub steps : ℕ
+  pub at : i ≡ (from + steps) % s.setting.slots
+  pub empty : ForEach s (λ st lib. IsEmpty s.setting.slots st i)
+  pub full : (k : ℕ) → k < steps → ForEach s (λ st lib. st.value (name_cell ((from + k) % s.setting.slots)) ≢ 0)
+
+-- or none where the library has as many assertions as slots
+abbrev pub FindsFree : Sight → ℕ → Option ℕ → Type 0
+FindsFree s from None = ForEach s (λ st lib. s.setting.slots ≤ length lib)
+FindsFree s from (Some i) = IsFirstEmpty s from i
+
+-- the words of the body that the cell names, none where it holds 0
+pub record AreWordsOf (st : State) (cell : ℕ) (made : List ℕ) : Type 0 where
+  pub body : (words : List ℕ) → HasBody st cell words → made ≡ words
+  pub none : st.value cell ≡ 0 → length made ≡ 0
+
+-- the slots that the steps cite are slots
+abbrev pub AreWithin : ℕ → List StoredStep → Type 0
+AreWithin slots kept = (i : ℕ) → Has (Slot i) kept → i < slots
+
+-- the step with a cited label as a slot that has it; none where it cites a label that no assertion has
+abbrev pub StoresStep : Sight → Step → Option StoredStep → Type 0
+StoresStep s step None = ForEach s (λ st lib. is_of_unknown lib step ≡ true)
+StoresStep s step (Some kept) = AreWithin s.setting.slots (kept ∷ []) × ForEach s (λ st lib. IsStoredAs (IsNamed s.setting.slots st) step kept)
+
+-- the steps with each cited label as a slot that has it; none where some step cites a label that no assertion has
+abbrev pub Resolves : Sight → List Step → Option (List StoredStep) → Type 0
+Resolves s steps None = ForEach s (λ st lib. list_any (is_of_unknown lib) steps ≡ true)
+Resolves s steps (Some kept) =
+    (length kept ≡ length steps) × AreWithin s.setting.slots kept × ForEach s (λ st lib. AreStoredAs s.setting.slots st steps kept)
+
+-- a cited label is one of bytes
+abbrev pub IsShortLabelled : Step → Type 0
+IsShortLabelled (Float i) = Unit {0}
+IsShortLabelled (Hyp k) = Unit {0}
+IsShortLabelled (Cite label) = All (λ byte. byte < 256) label

@@ -1,0 +1,93 @@
+-- Cells on plain vectors: what their run has seen, and how much of a store a database takes.
+use Rattle.std.specs.Prelude.{◌≡◌, ◌<◌, ◌≤◌, ℕ, suc, ◌+◌, ◌||◌, ◌==◌, Bool, true, List, [], ◌∷◌, length, map, take, drop, slice_get, slice_set, slice_index, sum_by, Some}
+use Rattle.std.specs.List.{list_any}
+use Rattle.mmsyntax.specs.declared.statement.Assertion.{Assertion}
+use Rattle.library.specs.declared.library.Ranked.{Ranked}
+use Rattle.library.specs.Library.{Setting, Verifies}
+use Rattle.ranges.specs.Pairs.{Pairs}
+use Rattle.ranges.specs.Ranges.{Range, word_of}
+use Rattle.ranges.specs.declared.range.Range.{Range as Place}
+use Rattle.bodystore.specs.Bodies.{label_body, statement_of, statement_body}
+use Rattle.cells.specs.State.{State}
+use Rattle.cells.specs.Slots.{is_ranged}
+use Rattle.cells.specs.Sight.{Sight, Suits}
+use Rattle.cells.specs.Shows.{Shows}
+
+-- each value with its cell, from the cell c on
+abbrev pub numbered_from : ℕ → List ℕ → Pairs
+numbered_from c [] = []
+numbered_from c (v ∷ vs) = (c, v) ∷ numbered_from (suc c) vs
+
+-- the values as they were before the cells of a log had others: the last entry of the log is undone first
+abbrev pub undone : List ℕ → Pairs → List ℕ
+undone values [] = values
+undone values (p ∷ log) = slice_set (undone values log) p.0 p.1
+
+-- the cells of a log, each with the value that it had when the run began
+abbrev pub read_at_first : List ℕ → Pairs → Pairs
+read_at_first base [] = []
+read_at_first base (p ∷ log) = (p.0, slice_index base p.0) ∷ read_at_first base log
+
+-- the range of the store at a place
+abbrev pub range_in : List ℕ → Place → Range
+range_in store r = record { start = r.start; words = take r.len (drop r.start store) }
+
+abbrev pub ranges_in : List ℕ → List Place → List Range
+ranges_in store places = map (range_in store) places
+
+-- the place behind the words of a store, for so many words more
+abbrev pub behind : List ℕ → List ℕ → Place
+behind store words = record { start = length store; len = length words }
+
+-- what the run has seen: it knows all ranges; it has read the cells of its log; it keeps aside all values as they are now; and the words that
+-- were taken are those of the store
+abbrev pub plain_sight : Setting → ℕ → List ℕ → Pairs → List ℕ → List Place → Sight
+plain_sight setting room values log store places =
+    record {
+      setting = setting;
+      ranges = ranges_in store places;
+      reads = read_at_first (undone values log) log;
+      writes = numbered_from 0 values;
+      taken = length store;
+      room = room;
+    }
+
+-- the state of these values and ranges
+abbrev pub plain_state : List ℕ → List ℕ → List Place → State
+plain_state values store places = record { value = slice_index values; ranges = ranges_in store places }
+
+-- the values show a library that verifies
+abbrev pub ShowsSome : Setting → List ℕ → List ℕ → List Place → Type 0
+ShowsSome setting values store places =
+    (lib : List Ranked) × Shows setting.slots (plain_state values store places) lib × Verifies setting lib
+
+-- the state with which the run began may be the one under the run, and shows a library that verifies
+abbrev pub BeganWithSome : Setting → ℕ → List ℕ → Pairs → List ℕ → List Place → Type 0
+BeganWithSome setting room values log store places =
+    (lib : List Ranked) × Suits (plain_sight setting room values log store places) (plain_state (undone values log) store places) lib
+
+-- the word is 0 or names one of the ranges
+abbrev pub names : List Range → ℕ → Bool
+names ranges word = word == 0 || list_any (λ r. word_of r == word) ranges
+
+-- name, statement and proof cells hold 0 or words that name ranges
+abbrev pub HoldNames : ℕ → List ℕ → List Range → Type 0
+HoldNames slots values ranges = (c v : ℕ) → slice_get values c ≡ Some v → is_ranged slots c ≡ true → names ranges v ≡ true
+
+-- each range has words, all of them in the store
+abbrev pub LieInStore : List ℕ → List Place → Type 0
+LieInStore store places = (i : ℕ) (r : Place) → slice_get places i ≡ Some r → (0 < r.len) × (r.start + r.len ≤ length store)
+
+-- the log is of cells
+abbrev pub IsLogOf : ℕ → Pairs → Type 0
+IsLogOf count log = (i : ℕ) (p : ℕ × ℕ) → slice_get log i ≡ Some p → p.0 < count
+
+-- ---- how much of a store is taken
+
+-- the words of an assertion's bodies: its label, its statement, and a word for each step of its proof
+abbrev pub body_length : Assertion → ℕ
+body_length a = length (label_body a.label) + length (statement_body (statement_of a)) + length a.proof
+
+-- those of all assertions
+abbrev pub bodies_length : List Assertion → ℕ
+bodies_length xs = sum_by body_length xs

@@ -1,0 +1,63 @@
+//! What a run sees of a library's cells.
+
+ghost use Rattle.std.specs.Prelude.{◌≡◌, ◌≢◌, ◌<◌, ℕ, List, [], Some, true, IfOk, IfErr, slice_get};
+ghost use Rattle.library.specs.declared.library.Ranked.{Ranked};
+ghost use Rattle.ranges.specs.Ranges.{Names};
+ghost use Rattle.cells.specs.State.{State};
+ghost use Rattle.cells.specs.Slots.{cell_count, is_ranged};
+ghost use Rattle.cells.specs.Sight.{Sight, WasRead, Suits, Looks, Reads, Writes, Stages, Knows};
+
+use ranges::Range;
+
+/// The cells of a library and the store of its bodies, as one run sees them. What it writes is kept aside: it reads it back, and nobody else sees
+/// it yet.
+///
+/// Cells count from 0; a library of S slots has 7 S cells. Contracts speak of what the run has seen: the finished ranges that it knows, what it
+/// has read, and what it keeps aside.
+pub trait Cells {
+    /// Why a run is stopped.
+    type Stop: Drop;
+
+    // what the run has seen
+    ghost sight: { Self → Sight };
+
+    /// How many slots the library has.
+    fn slots(&self) -> usize
+        ensures { result ≡ (sight self.now).setting.slots };
+
+    /// The value of the cell: the one that the run keeps aside for it, or else that of the state under the run.
+    ///
+    /// # Errors
+    ///
+    /// The run is stopped. What was kept aside stays.
+    fn read(&mut self, cell: usize) -> Result<u64, Self::Stop>
+        requires { cell < cell_count (sight self.old).setting.slots }
+        ensures ok { IfOk result (λ v. Reads cell v (sight self.old) (sight self.new)) }
+        ensures err { IfErr result (λ _. Looks (sight self.old) (sight self.new)) };
+
+    /// Keeps a value aside for a cell that was read. It takes no memory.
+    fn write(&mut self, cell: usize, value: u64)
+        requires cell { cell < cell_count (sight self.old).setting.slots }
+        requires read { WasRead (sight self.old) cell }
+        requires named { is_ranged (sight self.old).setting.slots cell ≡ true → Names (sight self.old).ranges value }
+        ensures { Writes cell value (sight self.old) (sight self.new) };
+
+    /// A word of a finished range that the run knows, by its index from 0.
+    fn load(&mut self, range: Range, index: usize) -> u64
+        requires { (words : List ℕ) × Knows (sight self.old) range words × (index < range.len) }
+        ensures looks { Looks (sight self.old) (sight self.new) }
+        ensures word { (words : List ℕ) → Knows (sight self.old) range words → slice_get words index ≡ Some result };
+
+    /// A finished range with these words, of which there is at least one.
+    ///
+    /// # Errors
+    ///
+    /// The run is stopped. What was kept aside stays.
+    fn stage(&mut self, words: &[u64]) -> Result<Range, Self::Stop>
+        requires { words.now ≢ [] }
+        ensures ok { IfOk result (λ range. Stages words.now range (sight self.old) (sight self.new)) }
+        ensures err { IfErr result (λ _. Looks (sight self.old) (sight self.new)) };
+
+    // all that was read agrees with some state that shows a library that verifies
+    ghost grounded: { (x : Self) → ∥ ((st : State) × (lib : List Ranked) × Suits (sight x) st lib) ∥₁ };
+}

@@ -1,0 +1,61 @@
+//! Puts slots into the chains of label buckets, and takes them out.
+
+ghost use Rattle.std.specs.Prelude.{◌≡◌, ◌<◌, ◌≤◌, ◌∷◌, List, nat_eq, length, IfOk};
+ghost use Rattle.mmsyntax.specs.Assertions.{Distinct};
+ghost use Rattle.library.specs.Library.{label_of};
+ghost use Rattle.library.specs.declared.library.Ranked.{Ranked};
+ghost use Rattle.ranges.specs.Ranges.{Has};
+ghost use Rattle.cells.specs.State.{State};
+ghost use Rattle.cells.specs.Shows.{Held, slots_of, AreChained};
+ghost use Rattle.cells.specs.Sight.{Sight, Matches, Onward, after};
+ghost use Rattle.cells.specs.Chains.{Rechains, without_slot};
+
+use crate::cells::Cells;
+use crate::places::{bucket, bucket_cell, link, next_cell, slot_count};
+
+/// Puts a slot that is in no chain at the front of the chain of a label's bucket.
+///
+/// # Errors
+///
+/// The run is stopped.
+pub fn put_in<C: Cells>(cells: &mut C, slot: usize, label: &[u8]) -> Result<(), C::Stop>
+    requires { slot < (C.sight cells.old).setting.slots }
+    ensures onward { Onward (C.sight cells.old) (C.sight cells.new) }
+    ensures ok { IfOk result (λ _. (st : State) (held : List Held) (e : Ranked) → Matches (C.sight cells.new) st → AreChained (C.sight cells.old).setting.slots (after (C.sight cells.old) st) held → label_of e ≡ label.now → (Has slot (slots_of held) → ⊥) → Rechains (C.sight cells.old).setting.slots (after (C.sight cells.old) st) (after (C.sight cells.new) st) held (record { slot = slot; entry = e } ∷ held)) }
+{
+    let slots = slot_count(cells);
+    let front = bucket_cell(slots, bucket(label, slots));
+    let first = cells.read(front)?;
+    cells.read(next_cell(slots, slot))?;
+    cells.write(next_cell(slots, slot), first);
+    cells.write(front, slot as u64 + 1);
+    Ok(())
+}
+
+/// Takes a slot out of the chain of its label's bucket.
+///
+/// # Errors
+///
+/// The run is stopped.
+pub fn take_out<C: Cells>(cells: &mut C, slot: usize, label: &[u8]) -> Result<(), C::Stop>
+    requires { slot < (C.sight cells.old).setting.slots }
+    ensures onward { Onward (C.sight cells.old) (C.sight cells.new) }
+    ensures ok { IfOk result (λ _. (st : State) (held : List Held) (e : Ranked) → Matches (C.sight cells.new) st → AreChained (C.sight cells.old).setting.slots (after (C.sight cells.old) st) held → Distinct nat_eq (slots_of held) → Has (record { slot = slot; entry = e }) held → label_of e ≡ label.now → length held ≤ (C.sight cells.old).setting.slots → Rechains (C.sight cells.old).setting.slots (after (C.sight cells.old) st) (after (C.sight cells.new) st) held (without_slot slot held)) }
+{
+    let slots = slot_count(cells);
+    let next = cells.read(next_cell(slots, slot))?;
+    let mut before = bucket_cell(slots, bucket(label, slots));
+    for _ in 0..slots {
+        let word = cells.read(before)?;
+        let Some(member) = link(word, slots) else {
+            return Ok(());
+        };
+        if member == slot {
+            cells.write(before, next);
+            cells.write(next_cell(slots, slot), 0);
+            return Ok(());
+        }
+        before = next_cell(slots, member);
+    }
+    Ok(())
+}

@@ -1,0 +1,119 @@
+//! Puts an assertion into an empty slot.
+
+ghost use Rattle.std.specs.Prelude.{◌≡◌, ◌≢◌, ◌<◌, [], List, false, IfOk};
+ghost use Rattle.mmsyntax.specs.declared.statement.Kind.TheVariants.{Theorem};
+ghost use Rattle.cells.specs.State.{State, HasBody, with_value};
+ghost use Rattle.cells.specs.Slots.{cell_count, is_ranged, proof_cell};
+ghost use Rattle.cells.specs.Sight.{Sight, Matches, Views, Onward, after};
+ghost use Rattle.cells.specs.Filling.{MayFill, Fills, IsFillable, LaysDown, LaysProof};
+
+use crate::cells::Cells;
+use crate::chains::put_in;
+use crate::counts::{cited_slots, count_in};
+use crate::halt::Halt;
+use crate::places::{citers_cell, name_cell, proof_cell, rank_cell, slot_count, statement_cell};
+use bodystore::{StoredStep, encode_label, encode_proof, encode_statement};
+use mmstatement::{Assertion, Kind};
+use std::alloc::Global;
+
+/// Puts an assertion with its rank into an empty slot: stages its label, its statement and its proof, in this order, writes the slot's cells, counts
+/// its citations, and puts the slot into the chain of its label's bucket.
+///
+/// The steps of the proof are given as they are stored. An axiom has none.
+///
+/// # Errors
+///
+/// The run is stopped, or memory ran out.
+pub fn fill<C: Cells>(
+    alloc: Global,
+    cells: &mut C,
+    slot: usize,
+    rank: u32,
+    assertion: &Assertion,
+    steps: &[StoredStep],
+) -> Result<(), Halt<C::Stop>>
+    requires slot { slot < (C.sight cells.old).setting.slots }
+    requires fillable { IsFillable (C.sight cells.old).setting.slots assertion.now steps.now }
+    ensures onward { Onward (C.sight cells.old) (C.sight cells.new) }
+    ensures ok { IfOk result (λ _. (st : State) (lib : List _) → Matches (C.sight cells.new) st → (shown : Views (C.sight cells.old) st lib) → MayFill (C.sight cells.old).setting.slots (after (C.sight cells.old) st) lib slot assertion.now steps.now → Fills (C.sight cells.old).setting.slots (after (C.sight cells.new) st) lib shown.shows.held slot rank assertion.now) }
+{
+    lay_down(alloc, cells, slot, rank, assertion, steps)?;
+    let cited = cited_slots(alloc, steps)?;
+    count_in(cells, cited.as_slice()).map_err(Halt::Stopped)?;
+    put_in(cells, slot, assertion.label.as_slice()).map_err(Halt::Stopped)
+}
+
+/// Stages the label, the statement and the proof of an assertion, and writes the five cells of its slot, with no citer.
+fn lay_down<C: Cells>(
+    alloc: Global,
+    cells: &mut C,
+    slot: usize,
+    rank: u32,
+    assertion: &Assertion,
+    steps: &[StoredStep],
+) -> Result<(), Halt<C::Stop>>
+    requires slot { slot < (C.sight cells.old).setting.slots }
+    requires labelled { assertion.now.label ≢ [] }
+    requires some { assertion.now.kind ≡ Theorem → steps.now ≢ [] }
+    ensures onward { Onward (C.sight cells.old) (C.sight cells.new) }
+    ensures ok { IfOk result (λ _. (st : State) → Matches (C.sight cells.new) st → LaysDown (after (C.sight cells.old) st) (after (C.sight cells.new) st) slot rank assertion.now steps.now) }
+{
+    let _slots = slot_count(cells);
+    let label = encode_label(alloc, assertion.label.as_slice())?;
+    put_body(cells, name_cell(slot), label.as_slice()).map_err(Halt::Stopped)?;
+    let statement = encode_statement(alloc, assertion)?;
+    put_body(cells, statement_cell(slot), statement.as_slice()).map_err(Halt::Stopped)?;
+    put_proof(alloc, cells, slot, assertion.kind, steps)?;
+    put(cells, rank_cell(slot), rank as u64).map_err(Halt::Stopped)?;
+    put(cells, citers_cell(slot), 0).map_err(Halt::Stopped)
+}
+
+/// Stages the steps of a theorem and has the proof cell of its slot name them; nothing where the assertion is an axiom.
+fn put_proof<C: Cells>(
+    alloc: Global,
+    cells: &mut C,
+    slot: usize,
+    kind: Kind,
+    steps: &[StoredStep],
+) -> Result<(), Halt<C::Stop>>
+    requires slot { slot < (C.sight cells.old).setting.slots }
+    requires some { kind ≡ Theorem → steps.now ≢ [] }
+    ensures onward { Onward (C.sight cells.old) (C.sight cells.new) }
+    ensures ok { IfOk result (λ _. (st : State) → Matches (C.sight cells.new) st → LaysProof (after (C.sight cells.old) st) (after (C.sight cells.new) st) slot kind steps.now) }
+    ensures others { IfOk result (λ _. (st : State) (c : _) → c ≢ proof_cell slot → (after (C.sight cells.new) st).value c ≡ (after (C.sight cells.old) st).value c) }
+{
+    let _slots = slot_count(cells);
+    match kind {
+        Kind::Axiom => Ok(()),
+        Kind::Theorem => {
+            let proof = encode_proof(alloc, steps)?;
+            put_body(cells, proof_cell(slot), proof.as_slice()).map_err(Halt::Stopped)
+        }
+    }
+}
+
+/// Reads a cell and writes a value to it.
+pub fn put<C: Cells>(cells: &mut C, cell: usize, value: u64) -> Result<(), C::Stop>
+    requires cell { cell < cell_count (C.sight cells.old).setting.slots }
+    requires plain { is_ranged (C.sight cells.old).setting.slots cell ≡ false }
+    ensures onward { Onward (C.sight cells.old) (C.sight cells.new) }
+    ensures ok { IfOk result (λ _. (st : State) → after (C.sight cells.new) st ≡ with_value cell value (after (C.sight cells.old) st)) }
+{
+    cells.read(cell)?;
+    cells.write(cell, value);
+    Ok(())
+}
+
+/// Stages words and has a cell name their range.
+pub fn put_body<C: Cells>(cells: &mut C, cell: usize, words: &[u64]) -> Result<(), C::Stop>
+    requires cell { cell < cell_count (C.sight cells.old).setting.slots }
+    requires some { words.now ≢ [] }
+    ensures onward { Onward (C.sight cells.old) (C.sight cells.new) }
+    ensures ok { IfOk result (λ _. (st : State) → Matches (C.sight cells.new) st → HasBody (after (C.sight cells.new) st) cell words.now) }
+    ensures others { IfOk result (λ _. (st : State) (c : _) → c ≢ cell → (after (C.sight cells.new) st).value c ≡ (after (C.sight cells.old) st).value c) }
+{
+    let range = cells.stage(words)?;
+    cells.read(cell)?;
+    cells.write(cell, range.word());
+    Ok(())
+}

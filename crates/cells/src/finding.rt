@@ -1,0 +1,74 @@
+//! Looks for labels and for empty slots.
+
+ghost use Rattle.std.specs.Prelude.{◌≡◌, ◌<◌, ◌↔◌, IsTrue, IfOk, IfErr};
+ghost use Rattle.cells.specs.State.{State};
+ghost use Rattle.cells.specs.Shows.{IsNamed};
+ghost use Rattle.cells.specs.Sight.{Sight, Matches, Looks, after};
+ghost use Rattle.cells.specs.Lookups.{Finds, FindsFree};
+
+use crate::cells::Cells;
+use crate::places::{bucket, bucket_cell, link, name_cell, next_cell, slot_count};
+use crate::words::{has_words, range_of};
+
+/// Whether the slot has the label.
+pub(crate) fn has_label<C: Cells>(cells: &mut C, slot: usize, label: &[u8]) -> Result<bool, C::Stop>
+    requires { slot < (C.sight cells.old).setting.slots }
+    ensures looks { Looks (C.sight cells.old) (C.sight cells.new) }
+    ensures ok { IfOk result (λ b. (st : State) → Matches (C.sight cells.new) st → (IsTrue b ↔ IsNamed (C.sight cells.new).setting.slots (after (C.sight cells.new) st) slot label.now)) }
+{
+    let _slots = slot_count(cells);
+    let word = cells.read(name_cell(slot))?;
+    if word == 0 || label.is_empty() {
+        return Ok(false);
+    }
+    let range = range_of(cells, word);
+    Ok(has_words(cells, range, label))
+}
+
+/// The slot of the assertion that has the label, or none where no assertion has it.
+///
+/// It reads the cell of the label's bucket, and along its chain a name and a next cell for each member: of a member that has another length, no
+/// word of its label.
+///
+/// # Errors
+///
+/// The run is stopped. What was kept aside stays.
+pub fn find<C: Cells>(cells: &mut C, label: &[u8]) -> Result<Option<usize>, C::Stop>
+    ensures looks { Looks (C.sight cells.old) (C.sight cells.new) }
+    ensures ok { IfOk result (λ slot. Finds (C.sight cells.new) label.now slot) }
+{
+    let slots = slot_count(cells);
+    let mut word = cells.read(bucket_cell(slots, bucket(label, slots)))?;
+    for _ in 0..slots {
+        let Some(slot) = link(word, slots) else {
+            return Ok(None);
+        };
+        if has_label(cells, slot, label)? {
+            return Ok(Some(slot));
+        }
+        word = cells.read(next_cell(slots, slot))?;
+    }
+    Ok(None)
+}
+
+/// The first empty slot from a slot on, going round; or none where the library has as many assertions as slots.
+///
+/// It reads the name cells of the slots up to the empty one.
+///
+/// # Errors
+///
+/// The run is stopped. What was kept aside stays.
+pub fn free_slot<C: Cells>(cells: &mut C, from: usize) -> Result<Option<usize>, C::Stop>
+    requires { from < (C.sight cells.old).setting.slots }
+    ensures looks { Looks (C.sight cells.old) (C.sight cells.new) }
+    ensures ok { IfOk result (λ slot. FindsFree (C.sight cells.new) from slot) }
+{
+    let slots = slot_count(cells);
+    for steps in 0..slots {
+        let slot = (from + steps) % slots;
+        if cells.read(name_cell(slot))? == 0 {
+            return Ok(Some(slot));
+        }
+    }
+    Ok(None)
+}

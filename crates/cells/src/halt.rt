@@ -1,0 +1,34 @@
+//! Why a call over cells ends early.
+
+use std::alloc::{AllocError, AllocFailed};
+
+/// Why a call over cells ends early. What was kept aside by then is the caller's to throw away.
+#[derive(Debug, Drop)]
+pub enum Halt<S> {
+    /// The run was stopped.
+    Stopped(S),
+    /// Memory ran out.
+    NoMemory,
+}
+
+impl<S> From<AllocError> for Halt<S> {
+    ghost use Rattle.std.specs.Prelude.{◌≡◌};
+    ghost use Rattle.cells.specs.declared.halt.Halt.TheVariants.{NoMemory};
+
+    ghost from_gives = { λ _ e. e ≡ NoMemory };
+
+    fn from(_error: AllocError) -> Self {
+        Halt::NoMemory
+    }
+}
+
+impl<S, T: Drop> From<AllocFailed<T>> for Halt<S> {
+    ghost use Rattle.std.specs.Prelude.{◌≡◌};
+    ghost use Rattle.cells.specs.declared.halt.Halt.TheVariants.{NoMemory};
+
+    ghost from_gives = { λ _ e. e ≡ NoMemory };
+
+    fn from(_error: AllocFailed<T>) -> Self {
+        Halt::NoMemory
+    }
+}

@@ -1,0 +1,98 @@
+//! Where a library lies: the numbers of its cells.
+
+ghost use Rattle.std.specs.Prelude.{◌≡◌, ◌<◌, ◌≤◌, ◌+◌, Some, None, MatchOption};
+ghost use Rattle.cells.specs.Slots.{name_cell, statement_cell, proof_cell, rank_cell, citers_cell, bucket_cell, next_cell, bucket};
+
+use crate::cells::Cells;
+
+/// How many slots the library has: 1 to 4,096.
+pub(crate) fn slot_count<C: Cells>(cells: &C) -> usize
+    ensures value { result ≡ (C.sight cells.now).setting.slots }
+    ensures some { 1 ≤ result }
+    ensures few { result ≤ 4096 }
+{
+    cells.slots()
+}
+
+/// The bucket of a label, from 0: h, from 0, by `h = (31 h + byte) mod slots` over its bytes.
+#[tactic(auto, using(std::proofs::lemmas::List::Sums::fold_more))]
+pub fn bucket(label: &[u8], slots: usize) -> usize
+    requires some { 1 ≤ slots }
+    requires few { slots ≤ 4096 }
+    ensures value { result ≡ bucket slots label.now }
+    ensures within { result < slots }
+{
+    let mut hash = 0;
+    for byte in label {
+        hash = (31 * hash + *byte as usize) % slots;
+    }
+    hash
+}
+
+/// The slot that a word of a chain leads to; none at the end of the chain.
+pub(crate) fn link(word: u64, slots: usize) -> Option<usize>
+    ensures { MatchOption result ((i : _) → i < slots → word ≡ i + 1 → ⊥) (λ i. (i < slots) × (word ≡ i + 1)) }
+{
+    if word == 0 || word > slots as u64 {
+        return None;
+    }
+    Some((word - 1) as usize)
+}
+
+/// The cell of a slot's name.
+pub fn name_cell(slot: usize) -> usize
+    requires { slot < 4096 }
+    ensures { result ≡ name_cell slot }
+{
+    5 * slot
+}
+
+/// The cell of a slot's statement.
+pub fn statement_cell(slot: usize) -> usize
+    requires { slot < 4096 }
+    ensures { result ≡ statement_cell slot }
+{
+    5 * slot + 1
+}
+
+/// The cell of a slot's proof.
+pub fn proof_cell(slot: usize) -> usize
+    requires { slot < 4096 }
+    ensures { result ≡ proof_cell slot }
+{
+    5 * slot + 2
+}
+
+/// The cell of a slot's rank.
+pub fn rank_cell(slot: usize) -> usize
+    requires { slot < 4096 }
+    ensures { result ≡ rank_cell slot }
+{
+    5 * slot + 3
+}
+
+/// The cell of a slot's number of citers.
+pub fn citers_cell(slot: usize) -> usize
+    requires { slot < 4096 }
+    ensures { result ≡ citers_cell slot }
+{
+    5 * slot + 4
+}
+
+/// The cell of a bucket, which holds the first slot of its chain plus 1, or 0.
+pub fn bucket_cell(slots: usize, bucket: usize) -> usize
+    requires few { slots ≤ 4096 }
+    requires within { bucket < slots }
+    ensures { result ≡ bucket_cell slots bucket }
+{
+    5 * slots + bucket
+}
+
+/// The next cell of a slot, which holds the next slot of its chain plus 1, or 0.
+pub fn next_cell(slots: usize, slot: usize) -> usize
+    requires few { slots ≤ 4096 }
+    requires within { slot < slots }
+    ensures { result ≡ next_cell slots slot }
+{
+    6 * slots + slot
+}

@@ -1,0 +1,185 @@
+//! Cells and a store on plain vectors, for one thread.
+
+ghost use Rattle.std.specs.Prelude.{◌≡◌, ◌≢◌, ◌≤◌, ◌<◌, ◌*◌, ◌++◌, [], ◌∷◌, length, slice_index, is_ok, if◌then◌else◌, IfOk};
+ghost use Rattle.cells.specs.Slots.{cell_count};
+ghost use Rattle.cells.specs.Plain.{plain_sight, undone, ranges_in, ShowsSome, BeganWithSome, HoldNames, LieInStore, IsLogOf, behind};
+
+use crate::cells::Cells;
+use mmstatement::Prelude;
+use ranges::Range;
+use std::alloc::{AllocError, Global};
+
+/// Why a run over plain cells is stopped.
+#[derive(Clone, Copy, Debug, PartialEq, Eq)]
+pub enum PlainStop {
+    /// The store has no room for the words.
+    StoreFull,
+    /// Memory ran out.
+    NoMemory,
+}
+
+/// A library in cells, and the store of its bodies, on plain vectors.
+///
+/// What a run writes stands in the cells at once; `undo` gives back what they held when the run began, and `keep` begins another.
+#[derive(Drop)]
+pub struct PlainCells {
+    prelude: Prelude,
+    slots: usize,
+    room: usize,
+    values: Vec<u64>,
+    // each cell that this run read, with what it held then
+    log: Vec<(usize, u64)>,
+    store: Vec<u64>,
+    ranges: Vec<Range>,
+    ghost some: { 1 ≤ slots },
+    ghost few: { slots ≤ 4096 },
+    ghost long: { length values.items ≡ 7 * slots },
+    ghost roomy: { room ≤ 16777216 },
+    ghost stored: { length store.items ≤ room },
+    ghost logged: { IsLogOf (7 * slots) log.items },
+    ghost lie: { LieInStore store.items ranges.items },
+    ghost names: { HoldNames slots values.items (ranges_in store.items ranges.items) },
+    ghost began_with_names: { HoldNames slots (undone values.items log.items) (ranges_in store.items ranges.items) },
+    ghost began: { ∥ BeganWithSome (record { prelude = prelude; slots = slots }) room values.items log.items store.items ranges.items ∥₁ },
+}
+
+impl PlainCells {
+    /// The cells of a library without assertions, over a prelude, with a store that has room for so many words.
+    ///
+    /// # Errors
+    ///
+    /// Want of memory.
+    pub fn empty(
+        alloc: Global,
+        prelude: Prelude,
+        slots: usize,
+        room: usize,
+    ) -> Result<PlainCells, AllocError>
+        requires some { 1 ≤ slots }
+        requires few { slots ≤ 4096 }
+        requires roomy { room ≤ 16777216 }
+        ensures { IfOk result (λ made. (made.prelude ≡ prelude) × (made.slots ≡ slots) × (made.room ≡ room) × (made.log.items ≡ []) × (made.store.items ≡ []) × ((c : _) → slice_index made.values.items c ≡ 0)) }
+    {
+        Ok(PlainCells {
+            prelude,
+            slots,
+            room,
+            values: vec![in alloc; 0; 7 * slots]?,
+            log: Vec::new(alloc),
+            store: Vec::new(alloc),
+            ranges: Vec::new(alloc),
+        })
+    }
+
+    /// The prelude of the library's assertions.
+    pub fn prelude(&self) -> &Prelude
+        ensures { result.now ≡ self.now.prelude }
+    {
+        &self.prelude
+    }
+
+    /// How many words of the store are taken.
+    pub fn taken(&self) -> usize
+        ensures { result ≡ length self.now.store.items }
+    {
+        self.store.len()
+    }
+
+    /// The value of a cell as it stands now, whoever wrote it.
+    pub fn value(&self, cell: usize) -> u64
+        requires { cell < 7 * self.now.slots }
+        ensures { result ≡ slice_index self.now.values.items cell }
+    {
+        self.values[cell]
+    }
+
+    /// Keeps what this run wrote, and begins another.
+    pub fn keep(&mut self)
+        requires { ∥ ShowsSome (record { prelude = self.old.prelude; slots = self.old.slots }) self.old.values.items self.old.store.items self.old.ranges.items ∥₁ }
+        ensures log { self.new.log.items ≡ [] }
+        ensures same { (self.new.values ≡ self.old.values) × (self.new.store ≡ self.old.store) × (self.new.ranges ≡ self.old.ranges) × (self.new.prelude ≡ self.old.prelude) × (self.new.slots ≡ self.old.slots) × (self.new.room ≡ self.old.room) }
+    {
+        self.log.clear();
+    }
+
+    /// Gives each cell the value that it had when this run began, and begins another. What was staged stays in the store.
+    pub fn undo(&mut self)
+        ensures log { self.new.log.items ≡ [] }
+        ensures values { self.new.values.items ≡ undone self.old.values.items self.old.log.items }
+        ensures same { (self.new.store ≡ self.old.store) × (self.new.ranges ≡ self.old.ranges) × (self.new.prelude ≡ self.old.prelude) × (self.new.slots ≡ self.old.slots) × (self.new.room ≡ self.old.room) }
+    {
+        give_back(self.values.as_mut_slice(), &mut self.log);
+    }
+}
+
+/// Gives each cell of a log the value that it had before, the last first. The log is empty then.
+fn give_back(values: &mut [u64], log: &mut Vec<(usize, u64)>)
+    requires { IsLogOf (length values.old) log.old.items }
+    ensures log { log.new.items ≡ [] }
+    ensures values { values.new ≡ undone values.old log.old.items }
+{
+    while let Some((cell, value)) = log.pop() {
+        values[cell] = value;
+    }
+}
+
+/// Puts words behind those of a store, and their range behind the others. Both stay as they are where memory runs out.
+fn put_behind(
+    store: &mut Vec<u64>,
+    ranges: &mut Vec<Range>,
+    words: &[u64],
+) -> Result<Range, AllocError>
+    ensures range { IfOk result (λ range. range ≡ behind store.old.items words.now) }
+    ensures store { store.new.items ≡ (if is_ok result then store.old.items ++ words.now else store.old.items) }
+    ensures ranges { ranges.new.items ≡ (if is_ok result then ranges.old.items ++ behind store.old.items words.now ∷ [] else ranges.old.items) }
+{
+    let range = Range {
+        start: store.len(),
+        len: words.len(),
+    };
+    ranges.reserve(1)?;
+    store.extend_from_slice(words)?;
+    ranges.push_reserved(range);
+    Ok(range)
+}
+
+impl Cells for PlainCells {
+    ghost use mathlib.Core.Logic.{∥∥₁_map};
+    ghost use Rattle.cells.specs.Plain.{plain_state};
+
+    type Stop = PlainStop;
+
+    ghost sight = { λ c. plain_sight (record { prelude = c.prelude; slots = c.slots }) c.room c.values.items c.log.items c.store.items c.ranges.items };
+
+    fn slots(&self) -> usize {
+        self.slots
+    }
+
+    fn read(&mut self, cell: usize) -> Result<u64, PlainStop> {
+        let value = self.values[cell];
+        match self.log.push((cell, value)) {
+            Ok(()) => Ok(value),
+            Err(_) => Err(PlainStop::NoMemory),
+        }
+    }
+
+    fn write(&mut self, cell: usize, value: u64) {
+        self.values[cell] = value;
+    }
+
+    fn load(&mut self, range: Range, index: usize) -> u64 {
+        self.store[range.start + index]
+    }
+
+    fn stage(&mut self, words: &[u64]) -> Result<Range, PlainStop> {
+        if words.len() > self.room - self.store.len() {
+            return Err(PlainStop::StoreFull);
+        }
+        match put_behind(&mut self.store, &mut self.ranges, words) {
+            Ok(range) => Ok(range),
+            Err(_) => Err(PlainStop::NoMemory),
+        }
+    }
+
+    ghost grounded = { λ c. ∥∥₁_map c.began (λ b. (plain_state (undone c.values.items c.log.items) c.store.items c.ranges.items, b.0, b.1)) };
+}

@@ -1,0 +1,264 @@
+//! Reads an assertion back from its slot.
+
+ghost use Rattle.std.specs.Prelude.{◌≡◌, ◌<◌, IfOk};
+ghost use Rattle.mmstatement.specs.Frames.{frame};
+ghost use Rattle.library.specs.Library.{label_of};
+ghost use Rattle.library.specs.Edits.{citers};
+ghost use Rattle.bodystore.specs.Bodies.{kind_word, statement_of};
+ghost use Rattle.std.specs.Option.{option_map};
+ghost use Rattle.cells.specs.State.{State};
+ghost use Rattle.cells.specs.Shows.{AreStoredAs, IsStoredAs, IsNamed};
+ghost use Rattle.cells.specs.Sight.{Looks, Matches, after};
+ghost use Rattle.cells.specs.Lookups.{ForEachHeld, IfFull, IsNameAt, StoresStep, Resolves, IsShortLabelled};
+
+use crate::cells::Cells;
+use crate::finding::find;
+use crate::halt::Halt;
+use crate::places::{citers_cell, name_cell, proof_cell, rank_cell, slot_count, statement_cell};
+use crate::words::{first_word, words_of};
+use bodystore::{Statement, StoredStep, decode_label, decode_proof, decode_statement};
+use library::Ranked;
+use mmstatement::{Assertion, Frame, Kind, Label, Prelude, Sequence, Step, frame_of};
+use std::alloc::Global;
+
+/// How many assertions cite the one in the slot.
+///
+/// # Errors
+///
+/// The run is stopped. What was kept aside stays, here and below.
+pub fn citers<C: Cells>(cells: &mut C, slot: usize) -> Result<u64, C::Stop>
+    requires { slot < (C.sight cells.old).setting.slots }
+    ensures looks { Looks (C.sight cells.old) (C.sight cells.new) }
+    ensures ok { IfOk result (λ n. ForEachHeld (C.sight cells.new) slot (λ st lib e. n ≡ citers lib (label_of e))) }
+{
+    let _slots = slot_count(cells);
+    cells.read(citers_cell(slot))
+}
+
+/// Whether the slot holds an assertion.
+///
+/// # Errors
+///
+/// The run is stopped.
+pub fn is_full<C: Cells>(cells: &mut C, slot: usize) -> Result<bool, C::Stop>
+    requires { slot < (C.sight cells.old).setting.slots }
+    ensures looks { Looks (C.sight cells.old) (C.sight cells.new) }
+    ensures ok { IfOk result (λ b. IfFull (C.sight cells.new) slot b) }
+{
+    let _slots = slot_count(cells);
+    Ok(cells.read(name_cell(slot))? != 0)
+}
+
+/// The kind of the assertion in the slot. It reads one word of its statement.
+///
+/// # Errors
+///
+/// The run is stopped.
+pub fn kind<C: Cells>(cells: &mut C, slot: usize) -> Result<Kind, C::Stop>
+    requires { slot < (C.sight cells.old).setting.slots }
+    ensures looks { Looks (C.sight cells.old) (C.sight cells.new) }
+    ensures ok { IfOk result (λ made. ForEachHeld (C.sight cells.new) slot (λ st lib e. made ≡ e.assertion.kind)) }
+{
+    let _slots = slot_count(cells);
+    Ok(kind_of(first_word(cells, statement_cell(slot))?))
+}
+
+/// The kind that a word stands for.
+fn kind_of(word: u64) -> Kind
+    ensures { (k : _) → kind_word k ≡ word → result ≡ k }
+{
+    match word {
+        0 => Kind::Axiom,
+        _ => Kind::Theorem,
+    }
+}
+
+/// The rank of the assertion in the slot.
+///
+/// # Errors
+///
+/// The run is stopped.
+pub fn rank<C: Cells>(cells: &mut C, slot: usize) -> Result<u32, C::Stop>
+    requires { slot < (C.sight cells.old).setting.slots }
+    ensures looks { Looks (C.sight cells.old) (C.sight cells.new) }
+    ensures ok { IfOk result (λ n. ForEachHeld (C.sight cells.new) slot (λ st lib e. n ≡ e.rank)) }
+{
+    let _slots = slot_count(cells);
+    Ok((cells.read(rank_cell(slot))? & 0xffff_ffff) as u32)
+}
+
+/// The label of the assertion in the slot.
+///
+/// # Errors
+///
+/// The run is stopped, or memory ran out, here and below.
+pub fn label<C: Cells>(alloc: Global, cells: &mut C, slot: usize) -> Result<Label, Halt<C::Stop>>
+    requires { slot < (C.sight cells.old).setting.slots }
+    ensures looks { Looks (C.sight cells.old) (C.sight cells.new) }
+    ensures ok { IfOk result (λ made. ForEachHeld (C.sight cells.new) slot (λ st lib e. made ≡ label_of e)) }
+{
+    name_of(alloc, cells, slot)
+}
+
+/// The label that the slot's name cell names, if it names one.
+fn name_of<C: Cells>(alloc: Global, cells: &mut C, slot: usize) -> Result<Label, Halt<C::Stop>>
+    requires { slot < (C.sight cells.old).setting.slots }
+    ensures looks { Looks (C.sight cells.old) (C.sight cells.new) }
+    ensures ok { IfOk result (λ made. IsNameAt (C.sight cells.new) slot made) }
+{
+    let _slots = slot_count(cells);
+    let words = words_of(alloc, cells, name_cell(slot))?;
+    Ok(decode_label(alloc, words.as_slice())?)
+}
+
+/// The statement of the assertion in the slot: its kind, its pairs, its hypotheses and its symbols.
+pub fn statement<C: Cells>(
+    alloc: Global,
+    cells: &mut C,
+    slot: usize,
+) -> Result<Statement, Halt<C::Stop>>
+    requires { slot < (C.sight cells.old).setting.slots }
+    ensures looks { Looks (C.sight cells.old) (C.sight cells.new) }
+    ensures ok { IfOk result (λ made. ForEachHeld (C.sight cells.new) slot (λ st lib e. made ≡ statement_of e.assertion)) }
+{
+    let _slots = slot_count(cells);
+    let words = words_of(alloc, cells, statement_cell(slot))?;
+    Ok(decode_statement(alloc, words.as_slice())?)
+}
+
+/// The proof of the assertion in the slot, with each cited assertion as its slot; no steps of an axiom.
+pub fn stored_proof<C: Cells>(
+    alloc: Global,
+    cells: &mut C,
+    slot: usize,
+) -> Result<Vec<StoredStep>, Halt<C::Stop>>
+    requires { slot < (C.sight cells.old).setting.slots }
+    ensures looks { Looks (C.sight cells.old) (C.sight cells.new) }
+    ensures ok { IfOk result (λ made. ForEachHeld (C.sight cells.new) slot (λ st lib e. AreStoredAs (C.sight cells.new).setting.slots st e.assertion.proof made.items)) }
+{
+    let _slots = slot_count(cells);
+    let words = words_of(alloc, cells, proof_cell(slot))?;
+    Ok(decode_proof(alloc, words.as_slice())?)
+}
+
+/// The proof of the assertion in the slot, with each cited assertion by its label; no steps of an axiom.
+pub fn proof<C: Cells>(
+    alloc: Global,
+    cells: &mut C,
+    slot: usize,
+) -> Result<Sequence<Step>, Halt<C::Stop>>
+    requires { slot < (C.sight cells.old).setting.slots }
+    ensures looks { Looks (C.sight cells.old) (C.sight cells.new) }
+    ensures ok { IfOk result (λ made. ForEachHeld (C.sight cells.new) slot (λ st lib e. made ≡ e.assertion.proof)) }
+{
+    let kept = stored_proof(alloc, cells, slot)?;
+    let slots = slot_count(cells);
+    let mut steps = Vec::with_capacity(alloc, kept.len())?;
+    for step in kept.as_slice() {
+        steps.push(named_step(alloc, cells, slots, *step)?)?;
+    }
+    Ok(Sequence::from_vec(steps))
+}
+
+/// The step with the label of the slot that it cites.
+fn named_step<C: Cells>(
+    alloc: Global,
+    cells: &mut C,
+    slots: usize,
+    step: StoredStep,
+) -> Result<Step, Halt<C::Stop>>
+    requires { slots ≡ (C.sight cells.old).setting.slots }
+    ensures looks { Looks (C.sight cells.old) (C.sight cells.new) }
+    ensures ok { IfOk result (λ made. (st : State) (x : _) → Matches (C.sight cells.new) st → IsShortLabelled x → IsStoredAs (IsNamed slots (after (C.sight cells.new) st)) x step → made ≡ x) }
+{
+    match step {
+        StoredStep::Float(place) => Ok(Step::Float(place)),
+        StoredStep::Hyp(place) => Ok(Step::Hyp(place)),
+        StoredStep::Slot(slot) if (slot as usize) < slots => {
+            Ok(Step::Cite(name_of(alloc, cells, slot as usize)?))
+        }
+        StoredStep::Slot(_) => Ok(Step::Cite(Sequence::from_vec(Vec::new(alloc)))),
+    }
+}
+
+/// The assertion in the slot.
+pub fn assertion<C: Cells>(
+    alloc: Global,
+    cells: &mut C,
+    slot: usize,
+) -> Result<Assertion, Halt<C::Stop>>
+    requires { slot < (C.sight cells.old).setting.slots }
+    ensures looks { Looks (C.sight cells.old) (C.sight cells.new) }
+    ensures ok { IfOk result (λ made. ForEachHeld (C.sight cells.new) slot (λ st lib e. made ≡ e.assertion)) }
+{
+    let label = label(alloc, cells, slot)?;
+    let statement = statement(alloc, cells, slot)?;
+    let proof = proof(alloc, cells, slot)?;
+    Ok(statement.into_assertion(label, proof))
+}
+
+/// The assertion in the slot, with its rank.
+pub fn entry<C: Cells>(alloc: Global, cells: &mut C, slot: usize) -> Result<Ranked, Halt<C::Stop>>
+    requires { slot < (C.sight cells.old).setting.slots }
+    ensures looks { Looks (C.sight cells.old) (C.sight cells.new) }
+    ensures ok { IfOk result (λ made. ForEachHeld (C.sight cells.new) slot (λ st lib e. made ≡ e)) }
+{
+    let assertion = assertion(alloc, cells, slot)?;
+    let rank = rank(cells, slot).map_err(Halt::Stopped)?;
+    Ok(Ranked { rank, assertion })
+}
+
+/// The frame of the assertion in the slot. It reads neither the label nor the proof.
+pub fn frame<C: Cells>(
+    alloc: Global,
+    prelude: &Prelude,
+    cells: &mut C,
+    slot: usize,
+) -> Result<Frame, Halt<C::Stop>>
+    requires { slot < (C.sight cells.old).setting.slots }
+    ensures looks { Looks (C.sight cells.old) (C.sight cells.new) }
+    ensures ok { IfOk result (λ made. ForEachHeld (C.sight cells.new) slot (λ st lib e. made ≡ frame prelude.now e.assertion)) }
+{
+    let statement = statement(alloc, cells, slot)?;
+    let bare = statement.into_assertion(
+        Sequence::from_vec(Vec::new(alloc)),
+        Sequence::from_vec(Vec::new(alloc)),
+    );
+    Ok(frame_of(alloc, prelude, &bare)?)
+}
+
+/// The steps with each cited label as the slot that has it; none where some step cites a label that no assertion has.
+pub fn resolve<C: Cells>(
+    alloc: Global,
+    cells: &mut C,
+    steps: &[Step],
+) -> Result<Option<Vec<StoredStep>>, Halt<C::Stop>>
+    ensures looks { Looks (C.sight cells.old) (C.sight cells.new) }
+    ensures ok { IfOk result (λ kept. Resolves (C.sight cells.new) steps.now (option_map (λ v. v.items) kept)) }
+{
+    let mut kept = Vec::with_capacity(alloc, steps.len())?;
+    for step in steps {
+        let Some(stored) = stored_step(cells, step).map_err(Halt::Stopped)? else {
+            return Ok(None);
+        };
+        kept.push(stored)?;
+    }
+    Ok(Some(kept))
+}
+
+/// The step with a cited label as the slot that has it; none where it cites a label that no assertion has.
+#[tactic(auto, using(crate::proofs::Resolving::float_stored, crate::proofs::Resolving::hyp_stored))]
+fn stored_step<C: Cells>(cells: &mut C, step: &Step) -> Result<Option<StoredStep>, C::Stop>
+    ensures looks { Looks (C.sight cells.old) (C.sight cells.new) }
+    ensures ok { IfOk result (λ kept. StoresStep (C.sight cells.new) step.now kept) }
+{
+    let _slots = slot_count(cells);
+    match step {
+        Step::Float(place) => Ok(Some(StoredStep::Float(*place))),
+        Step::Hyp(place) => Ok(Some(StoredStep::Hyp(*place))),
+        Step::Cite(label) => match find(cells, label.as_slice())? {
+            Some(slot) => Ok(Some(StoredStep::Slot(slot as u32))),
+            None => Ok(None),
+        },
+    }
+}
