@@ -1,5 +1,5 @@
 -- What the calls tell their callers, from what they tell of the seat.
-use Rattle.std.proofs.Common.{◌≡◌, ◌≢◌, ℕ, ◌+◌, ◌<◌, ◌≤◌, Bool, min, ◌⊎◌, inl, inr, ⊎_elim, true, false, is_some, Option, Some, None, List, [], ◌∷◌, ◌++◌, length, sym, refl, ap, ◌∙◌, subst}
+use Rattle.std.proofs.Common.{◌≡◌, ◌≢◌, ℕ, ◌+◌, ◌<◌, ◌≤◌, Bool, min, ◌⊎◌, inl, inr, ⊎_elim, true, false, is_some, Option, Some, None, List, [], ◌∷◌, ◌++◌, length, sym, refl, ap, ◌∙◌, subst, ◌^◌, arith}
 use Rattle.atomic_table.specs.Seated.{TableId}
 use Rattle.atomic_table.specs.declared.shared.Seat.{Seat as TableSeat}
 use Rattle.tlcore.specs.History.{One}
@@ -32,15 +32,20 @@ not_drawing p i e (inr a) = a
 not_drawing p i e (inl q) =
     none_some i (sym (⊎_elim (λ r. ap number_at r) (λ r. ap number_at r) (resting_at p e)) ∙ q)
 
+few_by : (n count : ℕ) → n ≡ count → count ≤ 2 ^ 40 → n ≤ 2 ^ 40
+few_by n count e l = omega (arith, e, l)
+
 module _ {S N : Type 0} (terms : Terms S N) where
-  pub knows_of : (table : TableId) (v : View S N) → Sound terms v → is_resting v.seat.place ≡ true → Knows terms (known_of table v)
-  knows_of table v s e =
+  pub knows_of : (table : TableId) (v : View S N) → Sound terms v → is_resting v.seat.place ≡ true → length v.drawn ≤ 2 ^ 40
+      → Knows terms (known_of table v)
+  knows_of table v s e few =
       record {
         legal = s.legal;
         noted = s.noted;
         mine = s.mine;
         opening = s.opening;
         ranges = s.ranges;
+        few = few;
         settled = λ i has. not_drawing v.seat.place i e (s.settled i has);
       }
 
@@ -49,7 +54,7 @@ module _ {S N : Type 0} (terms : Terms S N) where
         → IsRunOf r count place (is_some over) → Stands terms (going_of table r.0 place mode over slots)
     stands_of table r over slots s f =
         record {
-          knows = knows_of table r.0 s (left_fits terms r count place (is_some over) f).1;
+          knows = knows_of table r.0 s (left_fits terms r count place (is_some over) f).1 (few_by (length r.0.drawn) count f.3 f.4);
           placed = subst (λ (n : ℕ). n ≤ length r.0.seen.history) f.5 s.placed;
           one = λ x e. subst (λ (n : ℕ). One r.0.base r.0.seen.history n (reads_of r.0.seat.reads)) f.5 (s.one x e);
         }
@@ -164,7 +169,7 @@ module _ {S N : Type 0} (terms : Terms S N) where
         h.0,
         record {
           grows = c.sees.own;
-          knows = knows_of later r.0 c.sees.sound f.1;
+          knows = knows_of later r.0 c.sees.sound f.1 (few_by (length r.0.drawn) count f.3 f.4);
           index = c.index;
           number_is = c.number_is;
           later = c.later;
@@ -180,7 +185,7 @@ module _ {S N : Type 0} (terms : Terms S N) where
         h.1 ∙ rv,
         record {
           grows = a.sees.own;
-          knows = knows_of later r.0 a.sees.sound f.1;
+          knows = knows_of later r.0 a.sees.sound f.1 (few_by (length r.0.drawn) count f.3 f.4);
           is = (λ j. known_of (e j) (a.is j))
               ∙ ap (λ (q : ℕ). let k : Known S N = record (known_of table m.0) { seen = r.0.seen; mine = m.0.mine ++ Answered q w ∷ [] } in k) same;
         },
@@ -190,7 +195,7 @@ module _ {S N : Type 0} (terms : Terms S N) where
         h.0,
         record {
           grows = c.sees.own;
-          knows = knows_of later r.0 c.sees.sound f.1;
+          knows = knows_of later r.0 c.sees.sound f.1 (few_by (length r.0.drawn) count f.3 f.4);
           finds = record { looked = c.finds.looked; written = c.finds.written; before = c.finds.before };
           cause = subst (λ (q : ℕ). HasCause q k.word ⊎ ((w : ℕ) × (k.before ≡ Some w) × (w ≢ k.word))) rv c.cause;
           entry = λ j. known_of (e j) (c.entry j);
@@ -201,7 +206,7 @@ module _ {S N : Type 0} (terms : Terms S N) where
         h.0,
         record {
           grows = c.sees.own;
-          knows = knows_of later r.0 c.sees.sound f.1;
+          knows = knows_of later r.0 c.sees.sound f.1 (few_by (length r.0.drawn) count f.3 f.4);
           finds = record { looked = c.finds.looked; written = c.finds.written; before = c.finds.before };
           cause = subst (λ (q : ℕ). HasCause q k.word ⊎ ((w : ℕ) × (k.before ≡ Some w) × (w ≢ k.word))) rv c.cause;
           entry = (c.entry.0, c.entry.1, c.entry.2, c.entry.3, λ j. known_of (e j) (c.entry.4 j));
@@ -220,16 +225,19 @@ module _ {S N : Type 0} (terms : Terms S N) where
   ends_home n g r NumbersUsed h = ap (λ (k : Known S N). k.home) h.2
 
   -- a pass has learnt of another one
-  pub learn_tells : (t u later_t later_u : TableId) (v w v2 w2 : View S N) → later_t ≡ t → later_u ≡ u → is_resting w.seat.place ≡ true → SeatLearns terms v w v2 w2
+  pub learn_tells : (t u later_t later_u : TableId) (v w v2 w2 : View S N) (n k : ℕ) → later_t ≡ t → later_u ≡ u → IsPassOf (v, []) n → IsPassOf (w, []) k
+      → SeatLearns terms v w v2 w2
       → calls.Learns terms (known_of t v) (known_of u w) (known_of later_t v2) (known_of later_u w2)
-  learn_tells t u later_t later_u v w v2 w2 e f rest l =
+  learn_tells t u later_t later_u v w v2 w2 n k e f fits rests l =
       record {
         own = l.own;
         told = l.told;
         other = l.other;
         calls = l.calls;
-        knows = knows_of later_t v2 l.sound (ap (λ (x : View S N). is_resting x.seat.place) l.is);
-        other_knows = knows_of later_u w2 l.other_sound (ap (λ (x : View S N). is_resting x.seat.place) l.other_is ∙ rest);
+        knows = knows_of later_t v2 l.sound (ap (λ (x : View S N). is_resting x.seat.place) l.is)
+            (few_by (length v2.drawn) n (ap (λ (x : View S N). length x.drawn) l.is ∙ fits.3) fits.4);
+        other_knows = knows_of later_u w2 l.other_sound (ap (λ (x : View S N). is_resting x.seat.place) l.other_is ∙ rests.1)
+            (few_by (length w2.drawn) k (ap (λ (x : View S N). length x.drawn) l.other_is ∙ rests.3) rests.4);
         apart = l.apart;
         same = l.same;
         is = λ j. known_of (e j) (l.is j);
@@ -242,4 +250,4 @@ module _ {S N : Type 0} (terms : Terms S N) where
       → Knows terms (calls.new_pass (record { table = table; setting = Some setting; base = base; room = room }) ranges name)
   new_pass_knows table setting base room ranges sessions name opens one =
       knows_of table (fresh (Some setting) base room ranges name 1)
-      (new_sound setting base room ranges sessions terms (fresh (Some setting) base room ranges name 1) refl opens one) refl
+      (new_sound setting base room ranges sessions terms (fresh (Some setting) base room ranges name 1) refl opens one) refl (omega arith)

@@ -1,5 +1,5 @@
 -- What callers see of a pass and of a run, and what is so of it by itself, whatever the other passes do.
-use Rattle.std.specs.Prelude.{◌≡◌, ℕ, suc, ◌≤◌, Option, Some, List, length}
+use Rattle.std.specs.Prelude.{◌≡◌, ℕ, suc, ◌^◌, ◌≤◌, Option, Some, List, length}
 use Rattle.atomic_table.specs.Seated.{TableId}
 use Rattle.tlcore.specs.History.{One}
 use Rattle.tlcore.specs.Seats.{reads_of}
@@ -90,6 +90,8 @@ module _ {S N : Type 0} where
     pub mine : (x : S) → k.home.setting ≡ Some x → Agree terms x k.home.base k.seen k.mine
     pub opening : (x : S) → k.home.setting ≡ Some x → Opened terms x k.seen.ranges k.home.base
     pub ranges : (x : S) → k.home.setting ≡ Some x → AreOfOneStore k.home.room k.seen.ranges
+    -- a pass draws at most 2^40 numbers
+    pub few : length k.drawn ≤ 2 ^ 40
     -- the entry of each number that was drawn is Done or Void
     pub settled : (i : ℕ) → Has (suc i) k.drawn → IsSettled k.seen.history i
 

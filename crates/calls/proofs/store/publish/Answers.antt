@@ -1,6 +1,5 @@
-use Rattle.std.proofs.Common.{◌≡◌, ◌∙◌, ℕ, None, List, arith, sym, ap, subst, length}
+use Rattle.std.proofs.Common.{◌≡◌, ◌∙◌, ℕ, None, arith, sym, ap, subst, length}
 use Rattle.ranges.specs.Ranges.{Range, Has}
-use Rattle.tlwords.specs.declared.log.Slot.{Slot}
 use Rattle.tlwords.specs.declared.mode.Mode.{Mode}
 use Rattle.tlwords.specs.Runs.{value_kept, HasNoted}
 use Rattle.tlwords.specs.Calls.{Notes}
