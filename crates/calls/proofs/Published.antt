@@ -1,5 +1,5 @@
 -- A word that names a range, kept for the cell 0 alone.
-use Rattle.std.proofs.Common.{◌≡◌, ℕ, zero, suc, ◌+◌, ◌/◌, ◌%◌, ◌^◌, ◌<◌, ◌≤◌, inl, inr, is_some, true, Option, Some, None, List, length, sym, ◌∙◌, refl, ap, subst, arith}
+use Rattle.std.proofs.Common.{◌≡◌, ℕ, zero, suc, ◌+◌, ◌/◌, ◌%◌, ◌^◌, ◌<◌, ◌≤◌, inl, inr, Option, Some, None, List, length, sym, ◌∙◌, refl, ap, subst, arith}
 use Rattle.ranges.specs.Ranges.{Range, Has, Names, word_of, AreOfOneStore}
 use Rattle.ranges.specs.Pairs.{Pairs}
 use Rattle.tlwords.specs.declared.log.Slot.{Slot}
@@ -34,10 +34,6 @@ published before after ranges r word none kept is has c v h =
 
 few_inside : (room start n : ℕ) → room ≤ 2 ^ 24 → ((i : ℕ) → i < n → start + i < room) → n ≤ 2 ^ 24
 few_inside room start n small inside = let at = inside (2 ^ 24) in grind (arith, at)
-
-pub some_of : {A : Type 0} (o : Option A) → is_some o ≡ true → (x : A) × (o ≡ Some x)
-some_of None e = absurd (cc)
-some_of (Some x) e = (x, refl)
 
 -- the range that such a word names
 pub range_there : (room name : ℕ) (ranges : List Range) → room ≤ 2 ^ 24 → AreOfOneStore room ranges → Names ranges name → 0 < name % 2 ^ 25

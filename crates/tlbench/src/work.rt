@@ -3,7 +3,6 @@
 
 ghost use Rattle.std.specs.Prelude.{false, ◌≡◌, ◌+◌, ◌*◌, ◌<◌, ◌≤◌, None, true, All, IfSome, IfOk, length};
 ghost use Rattle.tlwords.specs.Callers.{AreOfOneOpening};
-ghost use Rattle.tlwords.specs.Plays.{IsSameSeat};
 ghost use denote.Param.Send.{IsSync};
 ghost use Rattle.tlwords.specs.declared.mode.Mode.TheVariants.{Writing};
 ghost use Rattle.tlbench.specs.Sizes.{size};
@@ -86,8 +85,8 @@ impl<'w> Drop for Worker<'w> {
 fn touch(run: &mut Run<'_, Anything>, cell: usize, writes: bool) -> bool
     requires open { run.old.over ≡ None }
     requires mode { writes ≡ true → run.old.mode ≡ Writing }
-    requires cell { cell < run.old.words.now.cells }
-    ensures same { (run.new.words.now ≡ run.old.words.now) × IsSameSeat run.old.seat run.new.seat × (run.new.mode ≡ run.old.mode) }
+    requires cell { cell < length run.old.known.home.base }
+    ensures same { (run.new.known.home ≡ run.old.known.home) × (run.new.mode ≡ run.old.mode) }
     ensures open { result ≡ true → run.new.over ≡ None }
 {
     let Ok(value) = run.read(cell) else {

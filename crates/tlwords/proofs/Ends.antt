@@ -16,8 +16,10 @@ use Rattle.tlwords.specs.declared.closing.ClosedWords.{ClosedWords}
 use Rattle.ranges.specs.Ranges.{Range, Has, Names, IsStored, AreOfOneStore}
 use Rattle.tlwords.specs.Terms.{Terms}
 use Rattle.tlwords.specs.Seen.{Seen, Legal}
-use Rattle.tlwords.specs.Views.{Gone, View, gone_of}
+use Rattle.tlwords.specs.Views.{Gone, View}
 use Rattle.tlwords.specs.Layout.{clock_at, lock_at, value_at, front_size, tail_at, store_at, shelf_of}
+use Rattle.tlwords.specs.Known.{Known, known_of, gone_known}
+use Rattle.atomic_table.specs.Seated.{TableId}
 use Rattle.tlwords.specs.Rule.{total_of, Start, IsLeft, rights_of, numbers_of, moved_of, Adds, Kept, Ruled}
 use Rattle.tlwords.specs.Closing.{AreCellsOf, IsStoreOf, Shows, IsWorldOf, Closes, EndsIn, IsStill, ClosesAll}
 use Rattle.tlwords.proofs.Keeps.{now, seat_at, legal_of}
@@ -120,13 +122,13 @@ has_split u (x ∷ us) v (inl e) = inl (inl e)
 has_split u (x ∷ us) v (inr has) = ⊎_elim (λ (p : Has u us). inl (inr p)) (λ (p : u ≡ v). inr p) (has_split u us v has)
 
 -- a pass has moved the tail with those that were given up to it
-given_moved : {S N : Type 0} (v : View S N) (gs : List (Gone S N)) (us : List (View S N)) → gs ≡ map gone_of us
-    → moved_of (record v { gone = gs }) ≡ total_of (λ (x : View S N). x.taken + x.added) (us ++ v ∷ [])
-given_moved {S} {N} v gs us gone =
-    let a : total_of (λ (g : Gone S N). g.taken + g.added) gs ≡ total_of (λ (x : View S N). x.taken + x.added) us =
-    ap (total_of (λ (g : Gone S N). g.taken + g.added)) gone ∙ total_map (λ (g : Gone S N). g.taken + g.added) gone_of us in
-    let b : total_of (λ (x : View S N). x.taken + x.added) (us ++ v ∷ []) ≡ total_of (λ (x : View S N). x.taken + x.added) us + (v.taken + v.added) =
-    total_snoc (λ (x : View S N). x.taken + x.added) us v in
+given_moved : {S N : Type 0} (table : TableId) (v : View S N) (gs : List (Gone S N)) (us : List (Known S N)) → gs ≡ map gone_known us
+    → moved_of (record v { gone = gs }) ≡ total_of (λ (x : Known S N). x.taken + x.added) (us ++ known_of table v ∷ [])
+given_moved {S} {N} table v gs us gone =
+    let a : total_of (λ (g : Gone S N). g.taken + g.added) gs ≡ total_of (λ (x : Known S N). x.taken + x.added) us =
+    ap (total_of (λ (g : Gone S N). g.taken + g.added)) gone ∙ total_map (λ (g : Gone S N). g.taken + g.added) gone_known us in
+    let b : total_of (λ (x : Known S N). x.taken + x.added) (us ++ known_of table v ∷ []) ≡ total_of (λ (x : Known S N). x.taken + x.added) us + (v.taken + v.added) =
+    total_snoc (λ (x : Known S N). x.taken + x.added) us (known_of table v) in
     omega (arith, a, b)
 
 module _ {S N : Type 0} (terms : Terms S N) (setting : S) (base : List ℕ) (room : ℕ) (opened : Start) (s : State (Unit {0}) (View S N))
@@ -286,33 +288,35 @@ module _ {S N : Type 0} (terms : Terms S N) (setting : S) (base : List ℕ) (roo
       subst (λ (z : ℕ × ℕ). m + min count (z.0 + 1) ≤ z.1) (λ i. (sym store_count i, sym t i)) b
 
   -- a view's own pass
-  own_ends : (id : ℕ) (v : View S N) → get_elem? s.views id ≡ some v → EndsIn terms setting base opened.store closed closes v
+  own_ends : (table : TableId) (id : ℕ) (v : View S N) → get_elem? s.views id ≡ some v
+      → EndsIn terms setting base opened.store closed closes (known_of table v)
   unfolding closes
-  own_ends id v there =
+  own_ends table id v there =
       let f = k.suits id v there in
       let a : Adds room r.tail v = (r.shelf).tail_is.each id v there in
       record { same = f.own.setting_is; grows = f.own.grows; mine = f.mine; found = λ m count e. found_of m count (a.found m count e) }
 
   -- a pass that was given up to it
-  gone_ends : (id : ℕ) (v u : View S N) → get_elem? s.views id ≡ some v → Has (gone_of u) v.gone → EndsIn terms setting base opened.store closed closes u
+  gone_ends : (id : ℕ) (v : View S N) (u : Known S N) → get_elem? s.views id ≡ some v → Has (gone_known u) v.gone
+      → EndsIn terms setting base opened.store closed closes u
   unfolding closes
   gone_ends id v u there has =
-      let f = (k.suits id v there).gone (gone_of u) has in
+      let f = (k.suits id v there).gone (gone_known u) has in
       let a : Adds room r.tail v = (r.shelf).tail_is.each id v there in
-      record { same = f.told.setting_is; grows = f.told.grows; mine = f.mine; found = λ m count e. found_of m count ((a.gone (gone_of u) has).1 m count e) }
+      record { same = f.told.setting_is; grows = f.told.grows; mine = f.mine; found = λ m count e. found_of m count ((a.gone (gone_known u) has).1 m count e) }
 
   -- no other seat can have anything: it has no part of the right to draw
-  module _ (id : ℕ) (last_pass : View S N) (gs : List (Gone S N)) (there : get_elem? s.views id ≡ some (record last_pass { gone = gs }))
-      (unheld : last_pass.seat.held ≡ []) (us : List (View S N)) (one : last_pass.rights ≡ 1) (gone : gs ≡ map gone_of us)
-      (every : length (us ++ last_pass ∷ []) ≡ opened.sessions) where
+  module _ (table : TableId) (id : ℕ) (last_pass : View S N) (gs : List (Gone S N)) (there : get_elem? s.views id ≡ some (record last_pass { gone = gs }))
+      (unheld : last_pass.seat.held ≡ []) (us : List (Known S N)) (one : last_pass.rights ≡ 1) (gone : gs ≡ map gone_known us)
+      (every : length (us ++ known_of table last_pass ∷ []) ≡ opened.sessions) where
     abbrev v : View S N
     v = record last_pass { gone = gs }
 
     all_rights : total_of rights_of s.views ≡ rights_of v
     all_rights =
         let a : total_of rights_of s.views ≡ opened.sessions = r.dealt in
-        let b : length (us ++ last_pass ∷ []) ≡ length us + 1 = length-append us (last_pass ∷ []) in
-        let c : length gs ≡ length us = ap length gone ∙ length-map us gone_of in
+        let b : length (us ++ known_of table last_pass ∷ []) ≡ length us + 1 = length-append us (known_of table last_pass ∷ []) in
+        let c : length gs ≡ length us = ap length gone ∙ length-map us gone_known in
         omega (arith, a, b, c, one, every)
 
     poor : (j : ℕ) (u : View S N) → j ≢ id → get_elem? s.views j ≡ some u → (u.rights ≡ 0) × (u.gone ≡ [])
@@ -336,7 +340,7 @@ module _ {S N : Type 0} (terms : Terms S N) (setting : S) (base : List ℕ) (roo
         absurd (nothing_held b.1 c (ap (λ (t : Seat). t.held) (sym u.2) ∙ all_unheld b.0 u.0 u.1) b.3))
         (half_of x.lock)
 
-    pub still : IsStill opened.store closed (us ++ last_pass ∷ [])
+    pub still : IsStill opened.store closed (us ++ known_of table last_pass ∷ [])
     still = record {
       free = free;
       clock =
@@ -347,10 +351,10 @@ module _ {S N : Type 0} (terms : Terms S N) (setting : S) (base : List ℕ) (roo
           let z : total_of (λ (g : Gone S N). length g.told.drawn) u.gone ≡ 0 = ap (total_of (λ (g : Gone S N). length g.told.drawn)) p.1 in
           let q : u.rights ≡ 0 = p.0 in
           omega (arith, c, z, q)) in
-          let c : total_of (λ (x : View S N). length x.drawn) (us ++ last_pass ∷ []) ≡ total_of (λ (x : View S N). length x.drawn) us + length last_pass.drawn =
-          total_snoc (λ (x : View S N). length x.drawn) us last_pass in
-          let d : total_of (λ (g : Gone S N). length g.told.drawn) gs ≡ total_of (λ (x : View S N). length x.drawn) us =
-          ap (total_of (λ (g : Gone S N). length g.told.drawn)) gone ∙ total_map (λ (g : Gone S N). length g.told.drawn) gone_of us in
+          let c : total_of (λ (x : Known S N). length x.drawn) (us ++ known_of table last_pass ∷ []) ≡ total_of (λ (x : Known S N). length x.drawn) us + length last_pass.drawn =
+          total_snoc (λ (x : Known S N). length x.drawn) us (known_of table last_pass) in
+          let d : total_of (λ (g : Gone S N). length g.told.drawn) gs ≡ total_of (λ (x : Known S N). length x.drawn) us =
+          ap (total_of (λ (g : Gone S N). length g.told.drawn)) gone ∙ total_map (λ (g : Gone S N). length g.told.drawn) gone_known us in
           let e : length w.history ≡ closed.clock = shown.clock_is in
           omega (arith, a, b, c, d, e);
       tail =
@@ -362,34 +366,34 @@ module _ {S N : Type 0} (terms : Terms S N) (setting : S) (base : List ℕ) (roo
           let d : u.added ≤ (room + 1) * 0 = subst (λ (n : ℕ). u.added ≤ (room + 1) * n) p.0 h.once in
           let z : total_of (λ (g : Gone S N). g.taken + g.added) u.gone ≡ 0 = ap (total_of (λ (g : Gone S N). g.taken + g.added)) p.1 in
           omega (arith, c, d, z)) in
-          let c : moved_of v ≡ total_of (λ (x : View S N). x.taken + x.added) (us ++ last_pass ∷ []) = given_moved last_pass gs us gone in
+          let c : moved_of v ≡ total_of (λ (x : Known S N). x.taken + x.added) (us ++ known_of table last_pass ∷ []) = given_moved table last_pass gs us gone in
           let t : closed.tail ≡ r.tail = tail_same in
           omega (arith, a, b, c, t);
     }
 
-  pub closes_all : (id : ℕ) (x : View S N) (gs : List (Gone S N)) → get_elem? s.views id ≡ some (record x { gone = gs }) → is_resting x.seat.place ≡ true
+  pub closes_all : (table : TableId) (id : ℕ) (x : View S N) (gs : List (Gone S N)) → get_elem? s.views id ≡ some (record x { gone = gs }) → is_resting x.seat.place ≡ true
       → x.rights ≡ 1
-      → (us : List (View S N)) → gs ≡ map gone_of us → ClosesAll terms setting base opened.store opened.sessions (us ++ x ∷ []) closed
-  closes_all id x gs there rest one us gone =
+      → (us : List (Known S N)) → gs ≡ map gone_known us → ClosesAll terms setting base opened.store opened.sessions (us ++ known_of table x ∷ []) closed
+  closes_all table id x gs there rest one us gone =
       let v : View S N = record x { gone = gs } in
       let unheld : x.seat.held ≡ [] =
       rests_unheld base w id x.seat k.invariant (seat_at terms setting base room r.ranges r.front s.views r.kept id v there) rest in
-      let own : EndsIn terms setting base opened.store closed closes v = own_ends id v there in
-      let mine : EndsIn terms setting base opened.store closed closes x =
+      let own : EndsIn terms setting base opened.store closed closes (known_of table v) = own_ends table id v there in
+      let mine : EndsIn terms setting base opened.store closed closes (known_of table x) =
       record { same = own.same; grows = own.grows; mine = own.mine; found = own.found } in
       record {
         closes = closes;
         each = λ u has. ⊎_elim
-            (λ (p : Has u us). gone_ends id v u there (subst (λ (gs : List (Gone S N)). Has (gone_of u) gs) (sym gone) (has_map gone_of u us p)))
-            (λ (p : u ≡ x). subst (λ (z : View S N). EndsIn terms setting base opened.store closed closes z) (sym p) mine)
-            (has_split u us x has);
+            (λ (p : Has u us). gone_ends id v u there (subst (λ (gs : List (Gone S N)). Has (gone_known u) gs) (sym gone) (has_map gone_known u us p)))
+            (λ (p : u ≡ known_of table x). subst (λ (z : Known S N). EndsIn terms setting base opened.store closed closes z) (sym p) mine)
+            (has_split u us (known_of table x) has);
         moved =
             let t : closed.tail ≡ r.tail = tail_same in
             let a : r.tail ≡ length opened.store + total_of moved_of s.views = (r.shelf).tail_is.is in
             let b : moved_of v ≤ total_of moved_of s.views = total_has moved_of s.views id v there in
-            let c : moved_of v ≡ total_of (λ (x : View S N). x.taken + x.added) (us ++ x ∷ []) = given_moved x gs us gone in
+            let c : moved_of v ≡ total_of (λ (x : Known S N). x.taken + x.added) (us ++ known_of table x ∷ []) = given_moved table x gs us gone in
             omega (arith, t, a, b, c);
-        still = still id x gs there unheld us one gone;
+        still = still table id x gs there unheld us one gone;
       }
 
   pub closes_alone : 1 ≤ opened.sessions → ClosesAll {S = S} {N = N} terms setting base opened.store opened.sessions [] closed
@@ -401,6 +405,6 @@ module _ {S N : Type 0} (terms : Terms S N) (setting : S) (base : List ℕ) (roo
   }
 
 -- what a seat knows after all these passes were given up to it
-pub gone_all : {P S N : Type 0} (f : P → View S N) (ps : List P) (gs : List (Gone S N)) → gs ≡ [] → map (λ (p : P). gone_of (f p)) ps ++ gs ≡ map gone_of (map f ps)
-gone_all f [] gs e = e
-gone_all {P} {S} {N} f (p ∷ ps) gs e = ap (λ (l : List (Gone S N)). gone_of (f p) ∷ l) (gone_all f ps gs e)
+pub gone_all : {S N : Type 0} (ps : List (Known S N)) (gs : List (Gone S N)) → gs ≡ [] → map gone_known ps ++ gs ≡ map gone_known ps
+gone_all [] gs e = e
+gone_all {S} {N} (p ∷ ps) gs e = ap (λ (l : List (Gone S N)). gone_known p ∷ l) (gone_all ps gs e)

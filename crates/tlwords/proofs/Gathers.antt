@@ -284,18 +284,14 @@ move_one [] y zs = refl
 move_one {A} (x ∷ xs) y zs = ap (λ (l : List A). x ∷ l) (move_one xs y zs)
 
 module _ {S N : Type 0} where
-  pub given_of : (n a b : View S N) → n ≡ record a { gone = n.gone } → a ≡ b → n ≡ record b { gone = n.gone }
-  given_of n a b p e = p ∙ ap (λ (v : View S N). let x : View S N = record v { gone = n.gone } in x) e
-
   pub given_more : (a b n w : View S N) → b ≡ record a { gone = b.gone } → n ≡ given_up b w → n ≡ record a { gone = n.gone }
   given_more a b n w p q =
       q ∙ (ap (λ (v : View S N). let x : View S N = record v { gone = gone_of w ∷ b.gone } in x) p
       ∙ ap (λ (gs : List (Gone S N)). let x : View S N = record a { gone = gs } in x) (sym (ap (λ (v : View S N). v.gone) q)))
 
-  pub gone_more : {P : Type 0} (f : P → View S N) (before ps : List P) (p : P) (gs hs later : List (Gone S N)) → before ≡ ps ++ p ∷ []
-      → map (λ (p : P). gone_of (f p)) before ++ gs ≡ hs → later ≡ gone_of (f p) ∷ gs → map (λ (p : P). gone_of (f p)) ps ++ later ≡ hs
+  pub gone_more : {P : Type 0} (f : P → Gone S N) (before ps : List P) (p : P) (gs hs later : List (Gone S N)) → before ≡ ps ++ p ∷ []
+      → map f before ++ gs ≡ hs → later ≡ f p ∷ gs → map f ps ++ later ≡ hs
   gone_more {P} f before ps p gs hs later e i q =
-      let F : P → Gone S N = λ p. gone_of (f p) in
-      ap (λ (l : List (Gone S N)). map F ps ++ l) q
-      ∙ (move_one (map F ps) (gone_of (f p)) gs
-      ∙ (ap (λ (l : List (Gone S N)). l ++ gs) (sym (ap (λ (l : List P). map F l) e ∙ map-append F ps (p ∷ []))) ∙ i))
+      ap (λ (l : List (Gone S N)). map f ps ++ l) q
+      ∙ (move_one (map f ps) (f p) gs
+      ∙ (ap (λ (l : List (Gone S N)). l ++ gs) (sym (ap (λ (l : List P). map f l) e ∙ map-append f ps (p ∷ []))) ∙ i))

@@ -1,7 +1,5 @@
 -- What a pass knows of the store, as its calls go.
-use Rattle.std.proofs.Common.{◌≡◌, Bool, true, is_some, Option, ℕ, Some, None, List, length, sym, ap, ◌∙◌, subst}
-use Rattle.atomic_table.specs.Seated.{TableId}
-use Rattle.atomic_table.specs.declared.shared.Seat.{Seat as TableSeat}
+use Rattle.std.proofs.Common.{◌≡◌, Bool, true, is_some, Option, ℕ, Some, None, List, sym, ap, ◌∙◌, subst}
 use Rattle.tlwords.specs.declared.log.Slot.{Slot}
 use Rattle.tlwords.specs.declared.outcome.Outcome.{Outcome}
 use Rattle.tlwords.specs.declared.outcome.Outcome.TheVariants.{Committed as EndsDone, Read as EndsRead, Conflict as EndsConflict, NumbersUsed}
@@ -11,9 +9,6 @@ use Rattle.tlwords.specs.Plays.{Mine, Sampled, Refreshes, told_by}
 use Rattle.tlwords.specs.Runs.{KnowsStore, ReadsCell, Stops}
 use Rattle.tlwords.specs.Commits.{work_kept, HasEnded, HasCommitted, HasAnswered, HasConflicted}
 use Rattle.tlwords.proofs.RunSteps.{known_setting}
-
-pub seat_knows : {S N : Type 0} (p q : TableSeat (Unit {0}) (View S N)) (o : Bool) → q ≡ p → KnowsStore p.me.0 o → KnowsStore q.me.0 o
-seat_knows {S} {N} p q o e k = subst (λ (t : TableSeat (Unit {0}) (View S N)). KnowsStore t.me.0 o) (sym e) k
 
 -- the range that a pass is staging, and the passes that were given up to it
 abbrev pub rest_of : {S N : Type 0} → View S N → Option Staging × List (Gone S N)
@@ -98,16 +93,3 @@ module _ {S N : Type 0} (terms : Terms S N) where
       let c : HasConflicted terms slots n k (Some number) m r = h.1 in
       (ap (λ (v : View S N). v.base) c.entry.4, ap (λ (v : View S N). v.room) c.entry.4)
   ended_same slots n m r NumbersUsed h = (ap (λ (z : Mine S N). z.0.base) h.2, ap (λ (z : Mine S N). z.0.room) h.2)
-
--- a seat at this table, with so many cells and words of the store
-abbrev pub FitsTable : {S N : Type 0} → TableId → ℕ → ℕ → TableSeat (Unit {0}) (View S N) → Type 0
-FitsTable table cells room p = (p.table_id ≡ table) × (cells ≡ length p.me.0.base) × (room ≡ p.me.0.room)
-
-pub fits_same : {S N : Type 0} (table : TableId) (cells room : ℕ) (p q : TableSeat (Unit {0}) (View S N)) → q ≡ p → FitsTable table cells room p
-    → FitsTable table cells room q
-fits_same {S} {N} table cells room p q e f = subst (λ (t : TableSeat (Unit {0}) (View S N)). FitsTable table cells room t) (sym e) f
-
--- a step or more of the seat leave it at the table, with the opening values and the room as they are
-pub fits_goes : {S N : Type 0} (table : TableId) (cells room : ℕ) (p q : TableSeat (Unit {0}) (View S N)) → q.table_id ≡ p.table_id
-    → (q.me.0.base ≡ p.me.0.base) × (q.me.0.room ≡ p.me.0.room) → FitsTable table cells room p → FitsTable table cells room q
-fits_goes table cells room p q e same f = (e ∙ f.0, f.1 ∙ sym (ap length same.0), f.2 ∙ sym same.1)

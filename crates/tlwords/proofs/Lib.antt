@@ -26,3 +26,4 @@ pub mod Fillings
 pub mod Modes
 pub mod StoreSteps
 pub mod Events
+pub mod Tellings

@@ -5,9 +5,8 @@ use Rattle.tlcore.specs.declared.seats.Read.{Read}
 use Rattle.tlwords.specs.declared.mode.Mode.{Mode}
 use Rattle.tlwords.specs.declared.mode.Mode.TheVariants.{Reading, Writing}
 use Rattle.tlwords.specs.declared.log.Slot.{Slot}
-use Rattle.tlwords.specs.declared.log.Log.{Log}
 use Rattle.tlwords.specs.Runs.{value_kept, IsBlank, IsKeptOf, HasNoted, noted}
-use Rattle.tlwords.specs.Reads.{Notes}
+use Rattle.tlwords.specs.Calls.{Notes}
 use Rattle.tlwords.specs.Commits.{writes_kept}
 use Rattle.tlwords.proofs.Held.{no_writes}
 use Rattle.tlwords.proofs.Logs.{none_known, kept_same}
@@ -21,13 +20,12 @@ pub reading_blank : (t : Seat) (slots : List Slot) → IsKeptOf (noted Reading t
 reading_blank t slots k c =
     (k.0 c, none_known (value_kept slots c) (λ is. let a : true ≡ false = sym (k.1 c is) ∙ ap is_some (k.0 c) in cc))
 
--- after a read by a run in this mode, whose log was l and is k now
-pub read_kept : (mode : Mode) (t u : Seat) (l k : Log) (r : Read) → Notes mode l k r.cell r.word → u.reads ≡ r ∷ t.reads
-    → IsKeptOf (noted mode t) l.slots → IsKeptOf (noted mode u) k.slots
-read_kept Reading t u l k r n e h =
-    subst (λ (z : Log). IsKeptOf (noted Reading u) z.slots) (sym n)
-    (kept_same (noted Reading t) (noted Reading u) l.slots refl h)
-read_kept Writing t u l k r n e h = kept_same (record t { reads = r ∷ t.reads }) u k.slots e (n.0 t r h refl refl)
+-- after a read by a run in this mode
+pub read_kept : (mode : Mode) (t u : Seat) (slots after : List Slot) (r : Read) → Notes mode slots after r.cell r.word → u.reads ≡ r ∷ t.reads
+    → IsKeptOf (noted mode t) slots → IsKeptOf (noted mode u) after
+read_kept Reading t u slots after r n e h =
+    subst (λ (z : List Slot). IsKeptOf (noted Reading u) z) (sym n) (kept_same (noted Reading t) (noted Reading u) slots refl h)
+read_kept Writing t u slots after r n e h = kept_same (record t { reads = r ∷ t.reads }) u after e (n.0 t r h refl refl)
 
 -- where a run in this mode has the reads that it had, it keeps what it kept
 pub still_kept : (mode : Mode) (t u : Seat) (slots : List Slot) → u.reads ≡ t.reads → IsKeptOf (noted mode t) slots
@@ -35,14 +33,14 @@ pub still_kept : (mode : Mode) (t u : Seat) (slots : List Slot) → u.reads ≡ 
 still_kept Reading t u slots e h = kept_same (noted Reading t) (noted Reading u) slots refl h
 still_kept Writing t u slots e h = kept_same t u slots e h
 
-pub notes : (mode : Mode) (l k : Log) (cell word : ℕ) → (mode ≡ Reading → k ≡ l)
-    → (mode ≡ Writing → HasNoted l.slots k.slots cell word) → Notes mode l k cell word
-notes Reading l k cell word f g = f refl
-notes Writing l k cell word f g = g refl
+pub notes : (mode : Mode) (slots after : List Slot) (cell word : ℕ) → (mode ≡ Reading → after ≡ slots)
+    → (mode ≡ Writing → HasNoted slots after cell word) → Notes mode slots after cell word
+notes Reading slots after cell word f g = f refl
+notes Writing slots after cell word f g = g refl
 
-pub read_room : (mode : Mode) (l k : Log) (cell word : ℕ) → Notes mode l k cell word → length k.slots ≡ length l.slots
-read_room Reading l k cell word n = ap (λ (z : Log). length z.slots) n
-read_room Writing l k cell word n = n.4
+pub read_room : (mode : Mode) (slots after : List Slot) (cell word : ℕ) → Notes mode slots after cell word → length after ≡ length slots
+read_room Reading slots after cell word n = ap (λ (z : List Slot). length z) n
+read_room Writing slots after cell word n = n.4
 
 pub nothing_written : (mode : Mode) → mode ≡ Reading → (t : Seat) (slots : List Slot)
     → IsKeptOf (noted mode t) slots → writes_kept slots ≡ []

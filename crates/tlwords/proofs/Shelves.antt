@@ -29,6 +29,10 @@ taken_on low room tail later store s l f =
 left_on : (opened : List ℕ) (room tail later : ℕ) (store : List ℕ) → tail ≤ later → IsLeft opened room tail store → IsLeft opened room later store
 left_on opened room tail later store l f = record { opening = f.opening; blank = λ o m n. f.blank o (omega (arith, l, m)) n }
 
+pub total_snoc : {V : Type 0} (f : V → ℕ) (vs : List V) (u : V) → total_of f (vs ++ u ∷ []) ≡ total_of f vs + f u
+total_snoc f [] u = omega arith
+total_snoc f (v ∷ vs) u = let r : total_of f (vs ++ u ∷ []) ≡ total_of f vs + f u = total_snoc f vs u in omega (arith, r)
+
 module _ {S N : Type 0} where
   -- what the change of one seat leaves the others
   pub record Others (low room tail : ℕ) (ranges : List Range) (store : List ℕ) (vs : List (View S N)) (id : ℕ) : Type 0 where
@@ -211,10 +215,6 @@ module _ {S N : Type 0} where
   shelf_same room opened tail ranges store vs id v w h at same =
       shelf_kept room opened tail ranges store vs id v w h at same.0
       (tail_same (length opened) room tail vs id v w h.tail_is at same.1 same.2)
-
-  pub total_snoc : (f : View S N → ℕ) (vs : List (View S N)) (u : View S N) → total_of f (vs ++ u ∷ []) ≡ total_of f vs + f u
-  total_snoc f [] u = omega arith
-  total_snoc f (v ∷ vs) u = let r : total_of f (vs ++ u ∷ []) ≡ total_of f vs + f u = total_snoc f vs u in omega (arith, r)
 
   -- it has staged nothing, and wasn't refused
   abbrev pub IsUnused : View S N → Type 0

@@ -1,15 +1,23 @@
 -- What callers say of words and passes together.
-use Rattle.std.specs.Prelude.{◌≡◌, length}
-use Rattle.tlwords.specs.declared.law.Law as law
+use Rattle.std.specs.Prelude.{◌≡◌, Some}
 use Rattle.tlwords.specs.declared.words.Words.{Words}
-use Rattle.tlwords.specs.declared.passes.Pass.{Pass}
+use Rattle.tlwords.specs.Known.{Home, Known}
 
-module _ {L S N : Type 0} {asked : law.Ghosts L S N} where
+module _ {L S N : Type 0} where
+  -- the opening that the words are of
+  abbrev pub home_of : Words L S N → Home S
+  home_of words =
+      record {
+        table = words.table.shared.table_id;
+        setting = Some words.table.shared.key.setting.value;
+        base = words.table.shared.key.values.value.items;
+        room = words.room;
+      }
+
   -- the pass sits at the words' table
-  abbrev pub SitsAt : Words L S N → Pass L S N asked → Type 0
-  SitsAt words pass = pass.seat.table_id ≡ words.table.shared.table_id
+  abbrev pub SitsAt : Words L S N → Known S N → Type 0
+  SitsAt words pass = pass.home.table ≡ words.table.shared.table_id
 
   -- the words and the pass are of one opening
-  abbrev pub AreOfOneOpening : Words L S N → Pass L S N asked → Type 0
-  AreOfOneOpening words pass =
-      (pass.seat.table_id ≡ words.table.shared.table_id) × (words.cells ≡ length pass.seat.me.0.base) × (words.room ≡ pass.seat.me.0.room)
+  abbrev pub AreOfOneOpening : Words L S N → Known S N → Type 0
+  AreOfOneOpening words pass = pass.home ≡ home_of words

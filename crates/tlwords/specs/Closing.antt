@@ -8,7 +8,7 @@ use Rattle.tlwords.specs.declared.closing.ClosedWords.{ClosedWords}
 use Rattle.ranges.specs.Ranges.{Range, Has, Names, IsStored, AreOfOneStore}
 use Rattle.tlwords.specs.Terms.{Terms, Opened}
 use Rattle.tlwords.specs.Seen.{Seen, SeenGrows, Legal, Agree}
-use Rattle.tlwords.specs.Views.{View}
+use Rattle.tlwords.specs.Known.{Known}
 use Rattle.tlwords.specs.Layout.{lock_at, value_at, store_at}
 use Rattle.tlwords.specs.Rule.{total_of, IsLeft}
 use Rattle.tlcore.specs.Machine.{World}
@@ -68,22 +68,22 @@ pub record Closes {S N : Type 0} (terms : Terms S N) (setting : S) (base opened 
 
 -- what the pass had seen grows into it, its calls agree with it, and the tail is behind a staging of it that was refused
 pub record EndsIn {S N : Type 0} (terms : Terms S N) (setting : S) (base opened : List ℕ) (words : ClosedWords) (c : Closes terms setting base opened words)
-    (v : View S N) : Type 0 where
-  pub same : (y : S) → v.setting ≡ Some y → (y ≡ setting) × (v.base ≡ base)
+    (v : Known S N) : Type 0 where
+  pub same : (y : S) → v.home.setting ≡ Some y → (y ≡ setting) × (v.home.base ≡ base)
   pub grows : SeenGrows v.seen c.seen
   pub mine : Agree terms setting base c.seen v.mine
   pub found : (n count : ℕ) → v.full ≡ Some (n, count) → n + min count (length words.store.items + 1) ≤ words.tail
 
 -- no lock is held, the clock is how many numbers these passes drew, and the tail is where the opening and they moved it
-pub record IsStill {S N : Type 0} (opened : List ℕ) (words : ClosedWords) (given : List (View S N)) : Type 0 where
+pub record IsStill {S N : Type 0} (opened : List ℕ) (words : ClosedWords) (given : List (Known S N)) : Type 0 where
   pub free : (c : ℕ) (x : ClosedCell) → slice_get words.cells.items c ≡ Some x → x.lock % 2 ≡ 0
-  pub clock : words.clock ≡ total_of (λ (v : View S N). length v.drawn) given
-  pub tail : words.tail ≡ length opened + total_of (λ (v : View S N). v.taken + v.added) given
+  pub clock : words.clock ≡ total_of (λ (v : Known S N). length v.drawn) given
+  pub tail : words.tail ≡ length opened + total_of (λ (v : Known S N). v.taken + v.added) given
 
 -- the words close a memory of so many sessions; each of the passes given ended in it, and where these are all, the words are still
-pub record ClosesAll {S N : Type 0} (terms : Terms S N) (setting : S) (base opened : List ℕ) (sessions : ℕ) (given : List (View S N)) (words : ClosedWords) :
+pub record ClosesAll {S N : Type 0} (terms : Terms S N) (setting : S) (base opened : List ℕ) (sessions : ℕ) (given : List (Known S N)) (words : ClosedWords) :
     Type 0 where
   pub closes : Closes terms setting base opened words
-  pub each : (v : View S N) → Has v given → EndsIn terms setting base opened words closes v
-  pub moved : length opened + total_of (λ (v : View S N). v.taken + v.added) given ≤ words.tail
+  pub each : (v : Known S N) → Has v given → EndsIn terms setting base opened words closes v
+  pub moved : length opened + total_of (λ (v : Known S N). v.taken + v.added) given ≤ words.tail
   pub still : length given ≡ sessions → IsStill opened words given

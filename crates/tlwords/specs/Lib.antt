@@ -5,7 +5,6 @@ pub mod Layout
 pub mod Rule
 pub mod Plays
 pub mod Runs
-pub mod Reads
 pub mod Walks
 pub mod Entries
 pub mod Commits
@@ -13,4 +12,6 @@ pub mod Committing
 pub mod Closing
 pub mod Events
 pub mod Faults
+pub mod Known
+pub mod Calls
 pub mod Callers

@@ -1,6 +1,6 @@
 -- What a pass and a run keep, and what their calls tell.
 use Rattle.std.specs.Prelude.{◌≡◌, ◌≢◌, ℕ, zero, suc, ◌+◌, ◌-◌, ◌/◌, ◌%◌, ◌^◌, ◌<◌, ◌≤◌, Bool, true, is_some, if◌then◌else◌, Option}
-use Rattle.std.specs.Prelude.{Some, None, List, [], ◌∷◌, length, slice_get, ◌⊎◌, option_and_then, min}
+use Rattle.std.specs.Prelude.{Some, None, List, [], ◌∷◌, length, slice_get, ◌⊎◌, option_and_then}
 use Rattle.std.specs.Option.{option_map}
 use Rattle.tlcore.specs.History.{WasWritten}
 use Rattle.tlcore.specs.Seats.{Seat, find_read, is_nil}
@@ -87,10 +87,24 @@ module _ {S N : Type 0} where
   abbrev pub IsNew : S → List ℕ → ℕ → List Range → View S N → Type 0
   IsNew setting base room ranges v = v ≡ fresh (Some setting) base room ranges v.name 1
 
-  -- a pass of the opening sits at the table
-  pub record IsDealt (setting : S) (base : List ℕ) (room : ℕ) (ranges : List Range) (table : TableId) (seat : TableSeat (Unit {0}) (View S N)) : Type 0 where
-    pub at : seat.table_id ≡ table
-    pub new : IsNew setting base room ranges seat.me.0
+-- what holds of a pass with this seat: what it keeps of the cells, how many numbers it drew, and whether a staging of it was refused
+pub record Rests {S N : Type 0} (seat : TableSeat (Unit {0}) (View S N)) (slots : List Slot) (count : ℕ) (full : Bool) : Type 0 where
+  pub fits : IsPassOf seat.me count
+  pub knows : KnowsStore seat.me.0 full
+  pub bare : seat.me.1 ≡ []
+  pub blank : IsBlank slots
+  pub room : length slots ≡ length seat.me.0.base
+
+-- what holds of a run with this seat, over words at this table with so many cells and so much room
+pub record Runs {S N : Type 0} (table : TableId) (cells words : ℕ) (seat : TableSeat (Unit {0}) (View S N)) (slots : List Slot) (mode : Mode)
+    (count place : ℕ) (over full : Bool) : Type 0 where
+  pub table_is : (seat.table_id ≡ table) × (cells ≡ length seat.me.0.base)
+  pub room_is : words ≡ seat.me.0.room
+  pub fits : IsRunOf seat.me count place over
+  pub kept : IsKeptOf (noted mode seat.me.0.seat) slots
+  pub room : length slots ≡ length seat.me.0.base
+  pub knows : KnowsStore seat.me.0 full
+  pub bare : seat.me.1 ≡ []
 
 -- there are to be at most 2^32 - 1 cells, 1 to 64 sessions, and a room of at most 2^24 words
 abbrev pub IsBadShape : ℕ → ℕ → ℕ → Type 0
@@ -136,14 +150,6 @@ module _ {S N : Type 0} (terms : Terms S N) where
     pub sees : Sees terms m.0 r.0
     pub finished : Has (record { start = start; words = words }) r.0.seen.ranges
     pub is : r.0 ≡ record m.0 { seen = r.0.seen; staging = None }
-
-  -- a staging of so many words was refused: one was before, and no step was made; or the tail that was
-  -- found leaves too little room, and moved on by the smaller of their number and the room and one
-  abbrev pub Refuses : ℕ → Mine S N → Mine S N → Type 0
-  Refuses count m r =
-      ((p : ℕ × ℕ) × (m.0.full ≡ Some p) × (r ≡ m))
-      ⊎ ((tail : ℕ) × (m.0.full ≡ None) × (m.0.room < tail + count) × Sees terms m.0 r.0
-      × (r.0 ≡ record m.0 { seen = r.0.seen; full = Some (tail, count); added = min count (m.0.room + 1) }))
 
   -- a look found this word, and the run is over
   pub record Stops (c word : ℕ) (m r : Mine S N) : Type 0 where

@@ -8,7 +8,7 @@ ghost use Rattle.std.specs.Slots.{slots_items, slots_len, IsFull};
 ghost use Rattle.tlwords.specs.Callers.{SitsAt};
 ghost use Rattle.tlwords.specs.Closing.{AreCellsOf, IsStoreOf, IsBlankFor, ClosesAll};
 ghost use Rattle.tlwords.specs.Plays.{IsSameSeat};
-ghost use Rattle.tlwords.specs.Views.{gone_of};
+ghost use Rattle.tlwords.specs.Known.{gone_known};
 ghost use Rattle.tlwords.specs.Layout.{clock_at, front_size, tail_at, store_at};
 
 use crate::law::Law;
@@ -51,7 +51,7 @@ pub fn close<L: Law>(
     passes: Vec<Pass<L>>,
 ) -> Result<ClosedWords, AllocError>
     requires { All (λ p. SitsAt words p) passes.items }
-    ensures closes { IfOk result (λ c. ClosesAll L.terms words.table.shared.key.setting.value words.table.shared.key.values.value.items words.table.shared.key.store.value.items words.table.shared.key.sessions (map (λ p. p.seat.me.0) passes.items) c) }
+    ensures closes { IfOk result (λ c. ClosesAll L.terms words.table.shared.key.setting.value words.table.shared.key.values.value.items words.table.shared.key.store.value.items words.table.shared.key.sessions passes.items c) }
     ensures store { IfOk result (λ c. length c.store.items ≡ words.room) }
 {
     let cells = words.cells;
@@ -73,10 +73,10 @@ pub fn close<L: Law>(
 // Gives all these passes up to the one of this seat, the last of them first.
 fn give_up_all<L: Law>(table: &Board<L>, seat: &mut Place<L>, passes: &mut Vec<Pass<L>>)
     requires seat { (seat.old.table_id ≡ table.now.shared.table_id) × (0 < table.now.shared.table_id.words) }
-    requires passes { All (λ p. p.seat.table_id ≡ table.now.shared.table_id) passes.old.items }
+    requires passes { All (λ p. p.home.table ≡ table.now.shared.table_id) passes.old.items }
     ensures seat { IsSameSeat seat.old seat.new }
     ensures is { seat.new.me.0 ≡ record seat.old.me.0 { gone = seat.new.me.0.gone } }
-    ensures gone { seat.new.me.0.gone ≡ map (λ p. gone_of p.seat.me.0) passes.old.items ++ seat.old.me.0.gone }
+    ensures gone { seat.new.me.0.gone ≡ map gone_known passes.old.items ++ seat.old.me.0.gone }
 {
     while let Some(pass) = passes.pop() {
         let parts = pass.into_parts();
@@ -92,12 +92,12 @@ fn close_with<L: Law>(
     cells: usize,
     room: usize,
 ) -> ClosedWords
-    requires last { last.seat.table_id ≡ table.shared.table_id }
-    requires passes { All (λ p. p.seat.table_id ≡ table.shared.table_id) passes.items }
+    requires last { last.home.table ≡ table.shared.table_id }
+    requires passes { All (λ p. p.home.table ≡ table.shared.table_id) passes.items }
     requires words { (table.shared.table_id.words ≡ store_at cells room) × (table.shared.table_id.slots ≡ 0) × (cells < 2 ^ 32) × (room ≤ 2 ^ 24) }
     requires keyed { table.shared.key.room ≡ room }
     requires blank { IsBlankFor cells room closed }
-    ensures closes { ClosesAll L.terms table.shared.key.setting.value table.shared.key.values.value.items table.shared.key.store.value.items table.shared.key.sessions (map (λ p. p.seat.me.0) passes.items ++ last.seat.me.0 ∷ []) result }
+    ensures closes { ClosesAll L.terms table.shared.key.setting.value table.shared.key.values.value.items table.shared.key.store.value.items table.shared.key.sessions (passes.items ++ last ∷ []) result }
     ensures store { length result.store.items ≡ room }
 {
     let mut seat = last.into_parts().0;

@@ -32,8 +32,6 @@ pub use mode::Mode;
 pub use opening::{MOST_CELLS, MOST_ROOM, OpenFault, open};
 pub use outcome::{Conflict, Outcome};
 pub use passes::Pass;
-pub use rule::{Board, Ground, Opening, Place, Rule};
 pub use runs::{Run, begin, learn};
 pub use store::{Range, StoreFull};
-pub use view::View;
 pub use words::Words;

@@ -5,11 +5,12 @@ ghost use Rattle.std.specs.Prelude.{◌≡◌, ℕ, ◌+◌, ◌*◌, ◌<◌, �
 ghost use Rattle.ranges.specs.Ranges.{Range, ranges_named};
 ghost use Rattle.tlwords.specs.Layout.{opening_words, front_of, shelf_of};
 ghost use Rattle.tlwords.specs.Terms.{AreNamed};
-ghost use Rattle.tlwords.specs.Callers.{AreOfOneOpening};
-ghost use Rattle.tlwords.specs.Views.{Sound};
+ghost use Rattle.tlwords.specs.Callers.{home_of, AreOfOneOpening};
+ghost use Rattle.tlwords.specs.Known.{Knows};
+ghost use Rattle.tlwords.specs.Calls.{IsDealt, new_pass};
 ghost use Rattle.tlwords.specs.declared.opening.OpenFault.TheVariants.{BadShape, StoreFull};
 ghost use Rattle.ranges.specs.Ranges.{AreOfOneStore};
-ghost use Rattle.tlwords.specs.Runs.{IsDealt, IsBadShape, down, dealer};
+ghost use Rattle.tlwords.specs.Runs.{IsBadShape, down, dealer};
 
 use crate::law::Law;
 use crate::layout::{HEAD, UNUSED};
@@ -113,10 +114,10 @@ pub fn open<L: Law>(
     requires named { AreNamed L.terms setting.now (ranges_named (L.terms.ranged setting.now) store.now values.now) values.now }
     ensures sizes { IfOk result (λ r. (r.0.cells ≡ length values.now) × (r.0.room ≡ room)) }
     ensures key { IfOk result (λ r. (r.0.table.shared.key.setting.value ≡ setting.now) × (r.0.table.shared.key.values.value.items ≡ values.now) × (r.0.table.shared.key.store.value.items ≡ store.now) × (r.0.table.shared.key.sessions ≡ sessions)) }
-    ensures passes { IfOk result (λ r. All (λ p. IsDealt setting.now values.now room (ranges_named (L.terms.ranged setting.now) store.now values.now) r.0.table.shared.table_id p.seat) r.1.items) }
+    ensures passes { IfOk result (λ r. All (λ p. p ≡ new_pass (home_of r.0) (ranges_named (L.terms.ranged setting.now) store.now values.now) p.name) r.1.items) }
     ensures opening { IfOk result (λ r. All (λ p. AreOfOneOpening r.0 p) r.1.items) }
-    ensures sound { IfOk result (λ r. All (λ p. Sound L.terms p.seat.me.0) r.1.items) }
-    ensures names { IfOk result (λ r. map (λ p. p.seat.me.0.name) r.1.items ≡ down sessions sessions) }
+    ensures sound { IfOk result (λ r. All (λ p. Knows L.terms p) r.1.items) }
+    ensures names { IfOk result (λ r. map (λ p. p.name) r.1.items ≡ down sessions sessions) }
     ensures shape { (IsBadShape (length values.now) sessions room → result ≡ Err BadShape) × (result ≡ Err BadShape → IsBadShape (length values.now) sessions room) }
     ensures full { ((IsBadShape (length values.now) sessions room → ⊥) → room < length store.now → result ≡ Err StoreFull) × (result ≡ Err StoreFull → room < length store.now) }
 {
@@ -203,8 +204,8 @@ fn deal_all<L: Law>(
     requires table { (seat.old.table_id ≡ words.now.table.shared.table_id) × (words.now.cells ≡ length values.now) }
     requires store { AreOfOneStore words.now.room (ranges_named (L.terms.ranged setting.now) store.now values.now) }
     requires first { (sessions ≤ 64) × (seat.old.me.0 ≡ dealer setting.now values.now words.now.room (ranges_named (L.terms.ranged setting.now) store.now values.now) sessions 0) }
-    ensures passes { IfOk result (λ v. All (λ p. IsDealt setting.now values.now words.now.room (ranges_named (L.terms.ranged setting.now) store.now values.now) words.now.table.shared.table_id p.seat) v.items) }
-    ensures names { IfOk result (λ v. map (λ p. p.seat.me.0.name) v.items ≡ down sessions sessions) }
+    ensures passes { IfOk result (λ v. All (λ p. IsDealt setting.now values.now words.now.room (ranges_named (L.terms.ranged setting.now) store.now values.now) words.now.table.shared.table_id p) v.items) }
+    ensures names { IfOk result (λ v. map (λ p. p.name) v.items ≡ down sessions sessions) }
 {
     let mut passes = Vec::new(alloc);
     for _ in 0..sessions {

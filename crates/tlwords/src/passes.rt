@@ -1,24 +1,33 @@
 //! Passes: a seat at the table, and what it keeps of the cells.
 #![tactic(auto)]
 
-ghost use Rattle.std.specs.Prelude.{◌≡◌, [], length};
-ghost use Rattle.tlwords.specs.Runs.{IsPassOf, IsBlank, KnowsStore};
+ghost use Rattle.std.specs.Prelude.{◌≡◌};
+ghost use Rattle.tlwords.specs.Known.{known_of};
+ghost use Rattle.tlwords.specs.Runs.{Rests};
 
 use crate::law::Law;
 use crate::log::Log;
 use crate::rule::Place;
+use std::marker::Model;
 
-/// What a session runs its transactions with, one after another.
+/// What a session runs its transactions with, one after another. Contracts see what it knows: what it has seen, its calls, and the numbers
+/// that it drew.
 pub struct Pass<L: Law> {
     pub(crate) seat: Place<L>,
     pub(crate) log: Log,
     pub(crate) count: u64,
     pub(crate) full: bool,
-    pub ghost fits: { IsPassOf seat.me count },
-    pub ghost knows: { KnowsStore seat.me.0 full },
-    pub ghost bare: { seat.me.1 ≡ [] },
-    pub ghost blank: { IsBlank log.slots },
-    pub ghost room: { length log.slots ≡ length seat.me.0.base },
+}
+
+impl<L: Law> Model for Pass<L> {
+    ghost use Rattle.tlwords.specs.Known.{Known, known_of};
+    ghost use Rattle.tlwords.specs.Runs.{Rests};
+
+    ghost Value = { Known L.Setting L.Note };
+
+    ghost view = { λ a. known_of a.seat.table_id a.seat.me.0 };
+
+    ghost invariant = { λ a. Rests a.seat a.log.slots a.count a.full };
 }
 
 impl<L: Law> Drop for Pass<L> {
@@ -34,8 +43,8 @@ impl<L: Law> Drop for Pass<L> {
 
 impl<L: Law> Pass<L> {
     pub(crate) fn into_parts(self) -> (Place<L>, Log, u64, bool)
-        ensures parts { (result.0 ≡ self.seat) × (result.1 ≡ self.log) × (result.2 ≡ self.count) × (result.3 ≡ self.full) }
-        ensures fits { IsPassOf result.0.me result.2 × IsBlank result.1.slots × (length result.1.slots ≡ length result.0.me.0.base) × KnowsStore result.0.me.0 result.3 }
+        ensures known { known_of result.0.table_id result.0.me.0 ≡ self }
+        ensures rests { Rests result.0 result.1.slots result.2 result.3 }
     {
         let Pass {
             seat,

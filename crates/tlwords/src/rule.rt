@@ -10,7 +10,7 @@ use std::snapshot::Snapshot;
 
 /// What the table is told once: the setting, the opening values of the cells, the store's opening words, how many words it
 /// has room for, and how many sessions there are.
-pub struct Opening<S> {
+pub(crate) struct Opening<S> {
     pub(crate) setting: Snapshot<S>,
     pub(crate) values: Snapshot<Vec<u64>>,
     pub(crate) store: Snapshot<Vec<u64>>,
@@ -32,7 +32,7 @@ impl<S> Drop for Opening<S> {
 
 /// Names the rule: there is a world of the machine that meets its invariant, and a store whose finished ranges never change, and the words
 /// and the views are theirs.
-pub struct Rule<L> {
+pub(crate) struct Rule<L> {
     law: PhantomData<L>,
 }
 
@@ -46,7 +46,7 @@ impl<L: Law> TableRule<(), View<L::Setting, L::Note>, Opening<L::Setting>> for R
 }
 
 /// The words that all passes share.
-pub type Ground<L> = Shared<
+pub(crate) type Ground<L> = Shared<
     (),
     View<<L as Law>::Setting, <L as Law>::Note>,
     Opening<<L as Law>::Setting>,
@@ -54,7 +54,7 @@ pub type Ground<L> = Shared<
 >;
 
 /// The table that has them.
-pub type Board<L> = Table<
+pub(crate) type Board<L> = Table<
     (),
     View<<L as Law>::Setting, <L as Law>::Note>,
     Opening<<L as Law>::Setting>,
@@ -63,4 +63,4 @@ pub type Board<L> = Table<
 >;
 
 /// A seat at the table.
-pub type Place<L> = Seat<(), View<<L as Law>::Setting, <L as Law>::Note>>;
+pub(crate) type Place<L> = Seat<(), View<<L as Law>::Setting, <L as Law>::Note>>;

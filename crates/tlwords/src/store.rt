@@ -3,9 +3,10 @@
 
 ghost use Rattle.std.specs.Prelude.{◌≡◌, ◌≢◌, ℕ, ◌+◌, ◌<◌, ◌≤◌, List, Some, [], length, slice_get, IfOk, IfErr};
 ghost use Rattle.ranges.specs.Ranges.{Has};
-ghost use Rattle.tlwords.specs.Plays.{IsSameSeat, Sees};
+ghost use Rattle.tlwords.specs.Plays.{IsSameSeat};
 ghost use Rattle.tlwords.specs.Views.{Staging};
-ghost use Rattle.tlwords.specs.Runs.{Stages, Finishes, Refuses};
+ghost use Rattle.tlwords.specs.Runs.{Finishes};
+ghost use Rattle.tlwords.specs.Calls.{HasLoaded, HasStaged, IsRefused};
 
 use crate::law::Law;
 use crate::rule::Place;
@@ -65,11 +66,9 @@ impl Error for StoreFull {}
 impl<'w, L: Law> Run<'w, L> {
     /// The word `index`, from 0, of a finished range that this session has seen. It is one load.
     pub fn load(&mut self, range: Range, index: usize) -> u64
-        requires { (words : List ℕ) × Has (record { start = range.start; words = words }) self.old.seat.me.0.seen.ranges × (length words ≡ range.len) × (index < range.len) }
-        ensures value { (words : List ℕ) → Has (record { start = range.start; words = words }) self.old.seat.me.0.seen.ranges → length words ≡ range.len → slice_get words index ≡ Some result }
-        ensures sees { Sees L.terms self.old.seat.me.0 self.new.seat.me.0 }
-        ensures is { self.new.seat.me.0 ≡ record self.old.seat.me.0 { seen = self.new.seat.me.0.seen } }
-        ensures same { (self.new.words.now ≡ self.old.words.now) × IsSameSeat self.old.seat self.new.seat × (self.new.place ≡ self.old.place) × (self.new.count ≡ self.old.count) × (self.new.mode ≡ self.old.mode) × (self.new.over ≡ self.old.over) × (self.new.log ≡ self.old.log) × (self.new.full ≡ self.old.full) }
+        requires { (words : List ℕ) × Has (record { start = range.start; words = words }) self.old.known.seen.ranges × (length words ≡ range.len) × (index < range.len) }
+        ensures value { (words : List ℕ) → Has (record { start = range.start; words = words }) self.old.known.seen.ranges → length words ≡ range.len → slice_get words index ≡ Some result }
+        ensures loaded { HasLoaded L.terms self.old self.new }
     {
         fetch_word(self.words, &mut self.seat, range.start + index)
     }
@@ -81,9 +80,9 @@ impl<'w, L: Law> Run<'w, L> {
     /// `StoreFull` where the words that are left are too few, and from then on for each staging of this session, without a step.
     pub fn stage(&mut self, words: &[u64]) -> Result<Range, StoreFull>
         requires { words.now ≢ [] }
-        ensures ok { IfOk result (λ range. (range.len ≡ length words.now) × Stages L.terms words.now range.start self.old.seat.me self.new.seat.me) }
-        ensures err { IfErr result (λ _. Refuses L.terms (length words.now) self.old.seat.me self.new.seat.me) }
-        ensures same { (self.new.words.now ≡ self.old.words.now) × IsSameSeat self.old.seat self.new.seat × (self.new.place ≡ self.old.place) × (self.new.count ≡ self.old.count) × (self.new.mode ≡ self.old.mode) × (self.new.over ≡ self.old.over) × (self.new.log ≡ self.old.log) }
+        ensures same { (self.new.known.home ≡ self.old.known.home) × (self.new ≡ record self.old { known = self.new.known }) }
+        ensures ok { IfOk result (λ range. (range.len ≡ length words.now) × HasStaged L.terms words.now range.start self.old self.new) }
+        ensures err { IfErr result (λ _. IsRefused L.terms (length words.now) self.old self.new) }
     {
         if self.full {
             return Err(StoreFull);

@@ -4,7 +4,7 @@
 use std::marker::{Model, PhantomData};
 
 /// What a seat at the table knows, for contracts alone. No value of it is made.
-pub struct View<S, N> {
+pub(crate) struct View<S, N> {
     marker: PhantomData<(S, N)>,
 }
 

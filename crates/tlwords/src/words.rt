@@ -21,6 +21,7 @@ pub struct Words<L: Law> {
     pub ghost empty: { table.shared.table_id.slots ≡ 0 },
     pub ghost small: { (cells < 2 ^ 32) × (room ≤ 2 ^ 24) },
     pub ghost keyed: { table.shared.key.room ≡ room },
+    pub ghost counted: { cells ≡ length table.shared.key.values.value.items },
     pub ghost dealt: { 1 ≤ table.shared.key.sessions },
 }
 

@@ -26,8 +26,8 @@ load-first-requires c =
     let dealt = c.in-Ok.ensures.passes last pass (omega arith) in
     let same = c.in_ok-pass.ensures.value pass (omega arith) in
     let popped : pass ≡ get_or c.in-Ok.passes.items last pass = cc in
-    let has = there _ (ap (λ p. p.seat.me.0.seen.ranges) popped ∙ ap (λ v. v.seen.ranges) dealt.new) in
-    (8 ∷ 9 ∷ [], c.begin-run.ensures.begins.sees.own.2 last_two has, refl, omega arith)
+    let has = there _ (ap (λ p. p.seen.ranges) popped ∙ ap (λ p. p.seen.ranges) dealt) in
+    (8 ∷ 9 ∷ [], c.begin-run.ensures.begins.grows.2 last_two has, refl, omega arith)
 
 pub load-second-requires : goal.load-second-requires
 load-second-requires c =
@@ -37,5 +37,5 @@ load-second-requires c =
     let dealt = c.in-Ok.ensures.passes last pass (omega arith) in
     let same = c.in_ok-pass.ensures.value pass (omega arith) in
     let popped : pass ≡ get_or c.in-Ok.passes.items last pass = cc in
-    let has = there _ (ap (λ p. p.seat.me.0.seen.ranges) popped ∙ ap (λ v. v.seen.ranges) dealt.new) in
-    (8 ∷ 9 ∷ [], c.load-first.ensures.sees.own.2 last_two (c.begin-run.ensures.begins.sees.own.2 last_two has), refl, omega arith)
+    let has = there _ (ap (λ p. p.seen.ranges) popped ∙ ap (λ p. p.seen.ranges) dealt) in
+    (8 ∷ 9 ∷ [], c.load-first.ensures.loaded.grows.2 last_two (c.begin-run.ensures.begins.grows.2 last_two has), refl, omega arith)

@@ -8,10 +8,10 @@ load-first-requires c =
 pub load-second-requires : goal.load-second-requires
 load-second-requires c =
     let e = c.in-Ok.ensures.ok in let n : c.in-Ok.range.len ≡ 3 = e.0 in
-    (_, c.load-first.ensures.sees.own.2 _ e.1.finished, sym e.0, omega arith)
+    (_, c.load-first.ensures.loaded.grows.2 _ e.1.finished, sym e.0, omega arith)
 
 pub load-third-requires : goal.load-third-requires
 load-third-requires c =
     let e = c.in-Ok.ensures.ok in
     let n : c.in-Ok.range.len ≡ 3 = e.0 in
-    (_, c.load-second.ensures.sees.own.2 _ (c.load-first.ensures.sees.own.2 _ e.1.finished), sym e.0, omega arith)
+    (_, c.load-second.ensures.loaded.grows.2 _ (c.load-first.ensures.loaded.grows.2 _ e.1.finished), sym e.0, omega arith)

@@ -3,5 +3,5 @@ use Rattle.tlbench.proofs.work.attempt.Given as goal
 
 abbrev pub invariant-loop-i : goal.invariant-loop-i
 invariant-loop-i l =
-    (l.run.words.now ≡ l.initial.run.words.now) × (l.run.seat.table_id ≡ l.initial.run.seat.table_id) × (l.run.over ≡ None)
-    × (l.run.mode ≡ l.initial.run.mode) × (l.picks.first ≡ l.initial.picks.first) × (l.picks.span ≡ l.initial.picks.span)
+    (l.run.known.home ≡ l.initial.run.known.home) × (l.run.over ≡ None) × (l.run.mode ≡ l.initial.run.mode)
+    × (l.picks.first ≡ l.initial.picks.first) × (l.picks.span ≡ l.initial.picks.span)

@@ -1,15 +1,11 @@
-use Rattle.std.proofs.Common.{◌≡◌, ◌++◌, ◌∷◌, [], map, All, ap, subst, ◌∙◌}
-use Rattle.std.proofs.lemmas.List.{map-append}
+use Rattle.std.proofs.Common.{◌≡◌, ◌∷◌, [], All, subst}
 use Rattle.tlwords.proofs.Gathers.{all_front}
 use Rattle.tlwords.proofs.closing.close.Goals as goal
 
 pub close_with-requires-clause-passes : goal.close_with-requires-clause-passes
 close_with-requires-clause-passes g c =
-    rw (c.into_table-table.ensures) (all_front (λ p. p.seat.table_id ≡ c.args.words.table.shared.table_id) c.pop.new.self.items (c.in-Some.last ∷ [])
-    (subst (λ ps. All (λ p. p.seat.table_id ≡ c.args.words.table.shared.table_id) ps) c.in-Some.ensures.items c.requires))
+    rw (c.into_table-table.ensures) (all_front (λ p. p.home.table ≡ c.args.words.table.shared.table_id) c.pop.new.self.items (c.in-Some.last ∷ [])
+    (subst (λ ps. All (λ p. p.home.table ≡ c.args.words.table.shared.table_id) ps) c.in-Some.ensures.items c.requires))
 
 pub returns-in-Some-clause-closes : goal.returns-in-Some-clause-closes
-returns-in-Some-clause-closes g c =
-    let same : map (λ p. p.seat.me.0) c.args.passes.items ≡ map (λ p. p.seat.me.0) c.pop.new.self.items ++ c.in-Some.last.seat.me.0 ∷ [] =
-    ap (map (λ p. p.seat.me.0)) c.in-Some.ensures.items ∙ map-append (λ p. p.seat.me.0) c.pop.new.self.items (c.in-Some.last ∷ []) in
-    rw (same, ← c.into_table-table.ensures) c.close_with.ensures.closes
+returns-in-Some-clause-closes g c = rw (c.in-Some.ensures.items, ← c.into_table-table.ensures) c.close_with.ensures.closes

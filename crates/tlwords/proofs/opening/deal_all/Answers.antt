@@ -1,6 +1,8 @@
-use Rattle.std.proofs.Common.{arith, ◌∙◌, ap, ◌≡◌, ◌-◌}
+use Rattle.std.proofs.Common.{arith, ◌∙◌, ap, sym, is_some, length, ◌≡◌, ◌-◌}
+use Rattle.tlcore.specs.Seats.{is_resting}
 use Rattle.ranges.specs.Ranges.{ranges_named}
-use Rattle.tlwords.specs.Runs.{IsDealt}
+use Rattle.tlwords.specs.Known.{known_of}
+use Rattle.tlwords.specs.Calls.{IsDealt}
 use Rattle.tlwords.proofs.OpenSteps.{deals}
 use Rattle.tlwords.proofs.Openings.{dealt_all, new_of, dealer_more, new_knows}
 use Rattle.tlwords.proofs.opening.deal_all.Goals as goal
@@ -15,13 +17,26 @@ loop-preserved g c =
     let i = c.loop.invariant in let e = c.split_seat.ensures in
     let setting = c.args.setting.now in let base = c.args.values.now in let room = c.args.words.now.room in let ranges = ranges_named (g.L.Law.terms.ranged setting) c.args.store.now c.args.values.now in
     let new = new_of setting base room ranges c.args.sessions c.loop.seat.me c.split_seat.result.me c.loop.counter i.1 e.4 in
-    let m = dealt_all (λ p. IsDealt setting base room ranges c.args.words.now.table.shared.table_id p.seat) (λ p. p.seat.me.0.name) c.args.sessions
+    let m = dealt_all (λ p. IsDealt setting base room ranges c.args.words.now.table.shared.table_id p) (λ p. p.name) c.args.sessions
     c.loop.passes.items c.reserve.new.self.items c.push_reserved.new.self.items _ c.loop.counter c.in_ok-reserve.ensures.items c.push_reserved.ensures.items i.2 i.3 i.4
-    (record { at = e.3 ∙ i.0; new = new.0 }) new.1 in
+    (λ j. known_of ((e.3 ∙ i.0) j) (new.0 j)) new.1 in
     (e.0 ∙ i.0, dealer_more setting base room ranges c.args.sessions c.loop.seat.me c.split_seat.new.seat.me c.loop.counter i.1 e.2, m.0, m.1, m.2)
 
-pub invariant_of-pass-clause-knows : goal.invariant_of-pass-clause-knows
-invariant_of-pass-clause-knows g c =
+pub invariant_of-pass : goal.invariant_of-pass
+invariant_of-pass g c =
     let i = c.loop.invariant in
     let setting = c.args.setting.now in let base = c.args.values.now in let room = c.args.words.now.room in let ranges = ranges_named (g.L.Law.terms.ranged setting) c.args.store.now c.args.values.now in
-    new_knows setting base room ranges c.args.sessions c.split_seat.result.me (new_of setting base room ranges c.args.sessions c.loop.seat.me c.split_seat.result.me c.loop.counter i.1 c.split_seat.ensures.4).0 c.requires.store
+    let new = (new_of setting base room ranges c.args.sessions c.loop.seat.me c.split_seat.result.me c.loop.counter i.1 c.split_seat.ensures.4).0 in
+    record {
+      fits = (
+        ap (λ v. is_some v.setting) new,
+        ap (λ v. is_resting v.seat.place) new,
+        ap (λ v. v.rights) new,
+        ap (λ v. length v.drawn) new,
+        omega arith,
+      );
+      knows = new_knows setting base room ranges c.args.sessions c.split_seat.result.me new c.requires.store;
+      bare = ap (λ m. m.1) c.split_seat.ensures.4;
+      blank = c.in_ok-log.ensures.1;
+      room = c.in_ok-log.ensures.0 ∙ (c.requires.table.1 ∙ sym (ap (λ v. length v.base) new));
+    }

@@ -1,8 +1,10 @@
-use Rattle.std.proofs.Common.{arith, ap, sym, ◌∙◌, length, ◌≡◌}
+use Rattle.std.proofs.Common.{arith, subst, ap, sym, ◌∙◌, length, ◌≡◌}
 use Rattle.ranges.proofs.Named.{named_of_one}
 use Rattle.ranges.specs.Ranges.{ranges_named}
 use Rattle.tlwords.specs.Layout.{store_at}
-use Rattle.tlwords.proofs.Openings.{opens_so, words_length, new_sound}
+use Rattle.tlwords.specs.Known.{Knows}
+use Rattle.tlwords.proofs.Tellings.{new_pass_knows, same_home}
+use Rattle.tlwords.proofs.Openings.{opens_so, words_length}
 use Rattle.tlwords.proofs.opening.open.Goals as goal
 
 pub of_words-made-requires : goal.of_words-made-requires
@@ -24,20 +26,31 @@ invariant_of-words g c =
       empty = a.1;
       small = (let s = c.if-values-gt-MOST_CELLS.false in omega arith, omega arith);
       keyed = ap (λ k. k.room) a.5;
+      counted = sym (ap (λ k. length k.values.value.items) a.5 ∙ (ap (λ v. length v.items) c.of-2.ensures ∙ ap length c.in_ok-copied.ensures));
       dealt = let q : c.in-Ok.table.shared.key.sessions ≡ c.args.sessions = ap (λ k. k.sessions) a.5 in let z = c.if-sessions-eq0.false in omega arith;
     }
 
 pub deal_all-requires-clause-store : goal.deal_all-requires-clause-store
 deal_all-requires-clause-store g c = let l = c.if-store-room.false in named_of_one (g.L.Law.terms.ranged c.args.setting.now) c.args.store.now c.args.values.now c.args.room (omega arith)
 
+pub returns-clause-passes : goal.returns-clause-passes
+returns-clause-passes g c = λ k d l.
+    same_home g.L.Law.terms c.in-Ok.table.shared.table_id c.args.setting.now c.in-Ok.table.shared.key.setting.value c.args.values.now
+    c.in-Ok.table.shared.key.values.value.items c.args.room _ _ (c.in_ok-passes.ensures.passes k d l)
+    (ap (λ k. k.setting.value) c.in-Ok.ensures.5 ∙ c.of.ensures)
+    (ap (λ k. k.values.value.items) c.in-Ok.ensures.5 ∙ (ap (λ v. v.items) c.of-2.ensures ∙ c.in_ok-copied.ensures))
+
 pub returns-clause-sound : goal.returns-clause-sound
 returns-clause-sound g c = λ k d l.
     let small = c.if-store-room.false in
-    let p = c.in_ok-passes.ensures.passes k d l in
-    new_sound c.args.setting.now c.args.values.now c.args.room (ranges_named (g.L.Law.terms.ranged c.args.setting.now) c.args.store.now c.args.values.now) c.args.sessions g.L.Law.terms _ p.new c.requires.opens
-    (named_of_one (g.L.Law.terms.ranged c.args.setting.now) c.args.store.now c.args.values.now c.args.room (omega arith))
+    let ranges = ranges_named (g.L.Law.terms.ranged c.args.setting.now) c.args.store.now c.args.values.now in
+    subst (Knows g.L.Law.terms) (sym (c.in_ok-passes.ensures.passes k d l))
+    (new_pass_knows g.L.Law.terms c.in-Ok.table.shared.table_id c.args.setting.now c.args.values.now c.args.room ranges c.args.sessions _ c.requires.opens
+    (named_of_one (g.L.Law.terms.ranged c.args.setting.now) c.args.store.now c.args.values.now c.args.room (omega arith)))
 
 pub returns-clause-opening : goal.returns-clause-opening
-returns-clause-opening g c = λ k d l.
-    let p = c.in_ok-passes.ensures.passes k d l in
-    (p.at, ap (λ v. length v.base) (sym p.new), ap (λ v. v.room) (sym p.new))
+returns-clause-opening g c = λ k d l. ap (λ p. p.home)
+    (same_home g.L.Law.terms c.in-Ok.table.shared.table_id c.args.setting.now c.in-Ok.table.shared.key.setting.value c.args.values.now
+    c.in-Ok.table.shared.key.values.value.items c.args.room _ _ (c.in_ok-passes.ensures.passes k d l)
+    (ap (λ k. k.setting.value) c.in-Ok.ensures.5 ∙ c.of.ensures)
+    (ap (λ k. k.values.value.items) c.in-Ok.ensures.5 ∙ (ap (λ v. v.items) c.of-2.ensures ∙ c.in_ok-copied.ensures)))

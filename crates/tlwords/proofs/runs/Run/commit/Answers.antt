@@ -1,28 +1,61 @@
-use Rattle.tlwords.proofs.Knows.{seat_knows, ended_knows, ended_same, FitsTable, fits_same, fits_goes}
+use Rattle.std.proofs.Common.{◌≡◌, None, ap, sym, subst, length, ◌∙◌}
+use Rattle.tlwords.specs.Known.{known_of, going_of}
+use Rattle.tlwords.specs.Calls.{IsLawful, Ends}
+use Rattle.tlwords.proofs.RunSteps.{left_fits}
+use Rattle.tlwords.proofs.Knows.{ended_knows, ended_same}
+use Rattle.tlwords.proofs.Tellings.{rests_as, end_tells, ends_home}
 use Rattle.tlwords.proofs.runs.Run.commit.Goals as goal
 use Rattle.tlwords.proofs.runs.Run.commit.Goals.{in-Some, in-None}
 
-pub invariant_of-pass-clause-knows : goal.invariant_of-pass-clause-knows
-invariant_of-pass-clause-knows g c =
-    let s = c.args.self in
+pub conclude-outcome-requires-clause-lawful : goal.conclude-outcome-requires-clause-lawful
+conclude-outcome-requires-clause-lawful g c =
+    subst (λ x. x.over ≡ None → IsLawful g.L.Law.terms x c.args.note.now) (sym c.self.view_is) c.requires.lawful c.in-None.is
+
+pub invariant_of-pass : goal.invariant_of-pass
+invariant_of-pass g c =
+    let s = c.self.inside in
+    let i = c.self.invariant in
+    let size = c.clear.ensures.size in
     elim c.match-over.branch [
-      | in-Some w ↦ seat_knows s.seat c.match-over.seat s.full w.seat-is s.knows
+      | in-Some w ↦
+          rests_as g.L.Law.terms s.seat c.match-over.seat c.clear.new.self.slots s.count c.match-over.count s.full w.seat-is w.count-is
+          (left_fits g.L.Law.terms s.seat.me _ _ _ i.fits) i.knows i.bare c.clear.ensures.blank
+          (size ∙ (ap (λ l. length l.slots) w.log-is ∙ i.room))
       | in-None w ↦
           let e = w.conclude-outcome in
-          let k = ended_knows g.L.Law.terms s.log.slots c.args.note.now s.seat.me e.new.seat.me e.result s.full e.ensures.ended in
-          seat_knows e.new.seat c.match-over.seat s.full w.seat-is (k s.fits.0 s.knows)
+          let same = ended_same g.L.Law.terms s.log.slots c.args.note.now s.seat.me e.new.seat.me e.result e.ensures.ended in
+          rests_as g.L.Law.terms e.new.seat c.match-over.seat c.clear.new.self.slots e.new.count c.match-over.count s.full w.seat-is w.count-is e.ensures.pass
+          (ended_knows g.L.Law.terms s.log.slots c.args.note.now s.seat.me e.new.seat.me e.result s.full e.ensures.ended i.fits.0 i.knows)
+          (e.ensures.seat.2 ∙ i.bare) c.clear.ensures.blank
+          (size ∙ (ap (λ l. length l.slots) w.log-is ∙ (ap length e.ensures.log ∙ (i.room ∙ sym (ap length same.0)))))
     ]
 
-pub returns-clause-opening : goal.returns-clause-opening
-returns-clause-opening g c =
-    let s = c.args.self in
-    let w = s.words.now in
-    let fits : FitsTable w.table.shared.table_id w.cells w.room s.seat = (s.table_is.0, s.table_is.1, s.room_is) in
+pub returns-clause-ended : goal.returns-clause-ended
+returns-clause-ended g c = λ o.
+    let s = c.self.inside in
+    let open_now : s.over ≡ None = subst (λ x. x.over ≡ None) (sym c.self.view_is) o in
     elim c.match-over.branch [
-      | in-Some b ↦ fits_same w.table.shared.table_id w.cells w.room s.seat c.match-over.seat b.seat-is fits
-      | in-None b ↦
-          let e = b.conclude-outcome in
-          fits_same w.table.shared.table_id w.cells w.room e.new.seat c.match-over.seat b.seat-is
-          (fits_goes w.table.shared.table_id w.cells w.room s.seat e.new.seat e.ensures.seat.0
-          (ended_same g.L.Law.terms s.log.slots c.args.note.now s.seat.me e.new.seat.me e.result e.ensures.ended) fits)
+      | in-Some w ↦ let q = w.in-Some.is in absurd (cc)
+      | in-None w ↦
+          let e = w.conclude-outcome in
+          subst (λ t. Ends g.L.Law.terms c.args.note.now c.args.self (known_of t.table_id t.me.0) c.match-over.outcome) (sym w.seat-is)
+          (subst (λ x. Ends g.L.Law.terms c.args.note.now c.args.self (known_of e.new.seat.table_id e.new.seat.me.0) x) (sym w.outcome-is)
+          (subst (λ x. Ends g.L.Law.terms c.args.note.now x (known_of e.new.seat.table_id e.new.seat.me.0) e.result) c.self.view_is
+          (end_tells g.L.Law.terms s.seat.table_id e.new.seat.table_id s.place e.new.count s.mode s.over s.log.slots c.args.note.now s.seat.me e.new.seat.me
+          e.result e.ensures.seat.0 c.self.invariant.fits.5 e.ensures.pass e.ensures.ended)))
+    ]
+
+pub returns-clause-home : goal.returns-clause-home
+returns-clause-home g c =
+    let s = c.self.inside in
+    elim c.match-over.branch [
+      | in-Some w ↦ ap (λ t. (known_of t.table_id t.me.0).home) w.seat-is ∙ ap (λ x. x.known.home) c.self.view_is
+      | in-None w ↦
+          let e = w.conclude-outcome in
+          ap (λ t. (known_of t.table_id t.me.0).home) w.seat-is
+          ∙ (ends_home g.L.Law.terms c.args.note.now (going_of s.seat.table_id s.seat.me.0 s.place s.mode s.over s.log.slots)
+          (known_of e.new.seat.table_id e.new.seat.me.0) e.result
+          (end_tells g.L.Law.terms s.seat.table_id e.new.seat.table_id s.place e.new.count s.mode s.over s.log.slots c.args.note.now s.seat.me e.new.seat.me
+          e.result e.ensures.seat.0 c.self.invariant.fits.5 e.ensures.pass e.ensures.ended)
+          ∙ ap (λ x. x.known.home) c.self.view_is)
     ]
