@@ -17,3 +17,5 @@ pub mod Stores
 pub mod Widened
 pub mod PlainSights
 pub mod Empty
+pub mod Holding
+pub mod Staging

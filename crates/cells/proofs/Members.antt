@@ -3,7 +3,7 @@ use Rattle.std.proofs.Common.{◌≡◌, ◌≢◌, ℕ, zero, suc, ◌<◌, ◌
 use Rattle.std.proofs.Common.{◌⊎◌, inl, inr, ⊎_elim, arith, nat_eq}
 use Rattle.std.specs.Prelude.{filter, All, IsPermutation}
 use Rattle.std.specs.List.{Contains, list_any}
-use Rattle.std.proofs.lemmas.Bool.{cases_Bool, cases_eq, cond-true, cond-false, eqb-true, eqb-false, eq-eqb, ne_eqb, both_ways, or_parts, or_from}
+use Rattle.std.proofs.lemmas.Bool.{cases_Bool, cases_eq, cond-true, cond-false, eqb-true, eqb-false, eq-eqb, ne_eqb, both_ways, or_left, or_right, or_from}
 use Rattle.std.proofs.lemmas.List.Elements.{All-head, All-tail, Contains-append_right}
 use Rattle.std.proofs.lemmas.List.Sorted.{Contains-permutation}
 use Rattle.mmsyntax.specs.Assertions.{Distinct}
@@ -30,6 +30,11 @@ module _ {A : Type 0} where
 
   pub all_from_has : (P : A → Type 0) (xs : List A) → ((x : A) → Has x xs → P x) → All P xs
   all_from_has P xs each k d lt = each _ (has_at xs k d lt)
+
+  pub any_has : (p : A → Bool) (xs : List A) (x : A) → Has x xs → p x ≡ true → list_any p xs ≡ true
+  any_has p [] x h e = absurd h
+  any_has p (y ∷ ys) x (inl is) e = or_left (p y) (list_any p ys) (sym (ap p is) ∙ e)
+  any_has p (y ∷ ys) x (inr h) e = or_right (p y) (list_any p ys) (any_has p ys x h e)
 
   pub has_append_left : (xs ys : List A) (x : A) → Has x xs → Has x (xs ++ ys)
   has_append_left [] ys x h = absurd h
@@ -78,14 +83,9 @@ module _ {A B : Type 0} (f : A → B) where
 
 -- ---- numbers
 
-pub any_from_has : (xs : List ℕ) (x : ℕ) → Has x xs → list_any (nat_eq x) xs ≡ true
-any_from_has [] x h = absurd h
-any_from_has (y ∷ ys) x (inl is) = rw (eq-eqb x y is) refl
-any_from_has (y ∷ ys) x (inr h) = rw (any_from_has ys x h) (elim (nat_eq x y) as (λ b. Rattle.std.specs.Prelude.◌||◌ b true ≡ true) [ true ↦ refl | false ↦ refl ])
-
 -- what no test finds is not there
 pub absent : (xs : List ℕ) (x : ℕ) → list_any (nat_eq x) xs ≡ false → Has x xs → ⊥
-absent xs x none h = both_ways (list_any (nat_eq x) xs) none (any_from_has xs x h)
+absent xs x none h = both_ways (list_any (nat_eq x) xs) none (any_has (nat_eq x) xs x h (eq-eqb x x refl))
 
 pub none_absent : (xs : List ℕ) (x : ℕ) → (Has x xs → ⊥) → list_any (nat_eq x) xs ≡ false
 none_absent [] x free = refl

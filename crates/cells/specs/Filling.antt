@@ -1,6 +1,7 @@
 -- What becomes of a state where an assertion is put into an empty slot.
-use Rattle.std.specs.Prelude.{◌≡◌, ◌≢◌, ◌<◌, ℕ, ◌+◌, ◌-◌, List, [], false, nat_eq}
+use Rattle.std.specs.Prelude.{◌≡◌, ◌≢◌, ◌<◌, ◌≤◌, ◌⊎◌, ℕ, ◌+◌, ◌-◌, ◌*◌, List, [], false, nat_eq}
 use Rattle.mmsyntax.specs.declared.statement.Assertion.{Assertion}
+use Rattle.mmsyntax.specs.declared.statement.Kind.{Kind}
 use Rattle.mmsyntax.specs.declared.statement.Kind.TheVariants.{Theorem, Axiom}
 use Rattle.mmsyntax.specs.Assertions.{Distinct}
 use Rattle.library.specs.declared.library.Ranked.{Ranked}
@@ -8,8 +9,9 @@ use Rattle.library.specs.Edits.{has, added}
 use Rattle.ranges.specs.Ranges.{Has}
 use Rattle.bodystore.specs.declared.stored.StoredStep.{StoredStep}
 use Rattle.bodystore.specs.declared.stored.StoredStep.TheVariants.{Slot}
-use Rattle.cells.specs.State.{State}
-use Rattle.cells.specs.Slots.{citers_cell}
+use Rattle.bodystore.specs.Bodies.{label_body, statement_of, statement_body, proof_body}
+use Rattle.cells.specs.State.{State, HasBody}
+use Rattle.cells.specs.Slots.{name_cell, statement_cell, proof_cell, rank_cell, citers_cell}
 use Rattle.cells.specs.Shows.{IsEmpty, AreStoredAs, Shows}
 
 -- the slots that the steps cite, each once
@@ -44,3 +46,17 @@ pub record IsFillable (slots : ℕ) (a : Assertion) (kept : List StoredStep) : T
   pub some : a.kind ≡ Theorem → kept ≢ []
   pub none : a.kind ≡ Axiom → kept ≡ []
   pub within : (i : ℕ) → Has (Slot i) kept → i < slots
+
+-- the proof cell of a theorem's slot names the body of its steps; that of an axiom's is as it was
+abbrev pub LaysProof : State → State → ℕ → Kind → List StoredStep → Type 0
+LaysProof st next i Axiom kept = next.value (proof_cell i) ≡ st.value (proof_cell i)
+LaysProof st next i Theorem kept = HasBody next (proof_cell i) (proof_body kept)
+
+-- the slot's five cells have the label, the statement, the steps and the rank of an assertion, and no citer, and nothing else changes
+pub record LaysDown (st next : State) (i rank : ℕ) (a : Assertion) (kept : List StoredStep) : Type 0 where
+  pub name : HasBody next (name_cell i) (label_body a.label)
+  pub statement : HasBody next (statement_cell i) (statement_body (statement_of a))
+  pub proof : LaysProof st next i a.kind kept
+  pub ranked : next.value (rank_cell i) ≡ rank
+  pub citers : next.value (citers_cell i) ≡ 0
+  pub others : (c : ℕ) → (c < 5 * i) ⊎ (5 * i + 5 ≤ c) → next.value c ≡ st.value c

@@ -1,10 +1,11 @@
 //! Puts an assertion into an empty slot.
 
 ghost use Rattle.std.specs.Prelude.{◌≡◌, ◌≢◌, ◌<◌, [], List, false, IfOk};
+ghost use Rattle.mmsyntax.specs.declared.statement.Kind.TheVariants.{Theorem};
 ghost use Rattle.cells.specs.State.{State, HasBody, with_value};
 ghost use Rattle.cells.specs.Slots.{cell_count, is_ranged};
 ghost use Rattle.cells.specs.Sight.{Sight, Matches, Views, Onward, after};
-ghost use Rattle.cells.specs.Filling.{MayFill, Fills, IsFillable};
+ghost use Rattle.cells.specs.Filling.{MayFill, Fills, IsFillable, LaysDown};
 
 use crate::cells::Cells;
 use crate::chains::put_in;
@@ -36,6 +37,27 @@ pub fn fill<C: Cells>(
     ensures onward { Onward (C.sight cells.old) (C.sight cells.new) }
     ensures ok { IfOk result (λ _. (st : State) (lib : List _) → Matches (C.sight cells.new) st → Views (C.sight cells.old) st lib → MayFill (C.sight cells.old).setting.slots (after (C.sight cells.old) st) lib slot assertion.now steps.now → Fills (C.sight cells.old).setting.slots (after (C.sight cells.new) st) lib rank assertion.now) }
 {
+    lay_down(alloc, cells, slot, rank, assertion, steps)?;
+    let cited = cited_slots(alloc, steps)?;
+    count_in(cells, cited.as_slice()).map_err(Halt::Stopped)?;
+    put_in(cells, slot, assertion.label.as_slice()).map_err(Halt::Stopped)
+}
+
+/// Stages the label, the statement and the proof of an assertion, and writes the five cells of its slot, with no citer.
+fn lay_down<C: Cells>(
+    alloc: Global,
+    cells: &mut C,
+    slot: usize,
+    rank: u32,
+    assertion: &Assertion,
+    steps: &[StoredStep],
+) -> Result<(), Halt<C::Stop>>
+    requires slot { slot < (C.sight cells.old).setting.slots }
+    requires labelled { assertion.now.label ≢ [] }
+    requires some { assertion.now.kind ≡ Theorem → steps.now ≢ [] }
+    ensures onward { Onward (C.sight cells.old) (C.sight cells.new) }
+    ensures ok { IfOk result (λ _. (st : State) → Matches (C.sight cells.new) st → LaysDown (after (C.sight cells.old) st) (after (C.sight cells.new) st) slot rank assertion.now steps.now) }
+{
     let _slots = slot_count(cells);
     let label = encode_label(alloc, assertion.label.as_slice())?;
     put_body(cells, name_cell(slot), label.as_slice()).map_err(Halt::Stopped)?;
@@ -46,10 +68,7 @@ pub fn fill<C: Cells>(
         put_body(cells, proof_cell(slot), proof.as_slice()).map_err(Halt::Stopped)?;
     }
     put(cells, rank_cell(slot), rank as u64).map_err(Halt::Stopped)?;
-    put(cells, citers_cell(slot), 0).map_err(Halt::Stopped)?;
-    let cited = cited_slots(alloc, steps)?;
-    count_in(cells, cited.as_slice()).map_err(Halt::Stopped)?;
-    put_in(cells, slot, assertion.label.as_slice()).map_err(Halt::Stopped)
+    put(cells, citers_cell(slot), 0).map_err(Halt::Stopped)
 }
 
 /// Reads a cell and writes a value to it.

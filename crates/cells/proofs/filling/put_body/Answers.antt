@@ -1,0 +1,40 @@
+use Rattle.std.proofs.Common.{◌≡◌, ◌*◌, ◌+◌, ◌^◌, ap, sym, ◌∙◌, inr, length}
+use Rattle.cells.specs.State.{State}
+use Rattle.cells.specs.Sight.{after}
+use Rattle.cells.proofs.Sights.{onward_trans, writes_onward, after_writes}
+use Rattle.cells.proofs.Bodies.{body_known}
+use Rattle.cells.proofs.Staging.{staged_start, staged_len}
+use Rattle.cells.proofs.Values.{value_there}
+use Rattle.cells.proofs.filling.put_body.Goals as goal
+
+pub returns-in_err-read-clause-onward : goal.returns-in_err-read-clause-onward
+returns-in_err-read-clause-onward g c = onward_trans _ _ _ c.in_ok-range.ensures.ok.onward c.in_err-read.ensures.err.onward
+
+pub word-requires-clause-start : goal.word-requires-clause-start
+word-requires-clause-start g c =
+    staged_start _ (g.C.Cells.sight c.stage.new.self) (g.met.C.Cells.grounded c.stage.new.self) c.args.words.now c.in_ok-range.range c.in_ok-range.ensures.ok c.requires.some
+
+pub word-requires-clause-len : goal.word-requires-clause-len
+word-requires-clause-len g c =
+    staged_len _ (g.C.Cells.sight c.stage.new.self) (g.met.C.Cells.grounded c.stage.new.self) c.args.words.now c.in_ok-range.range c.in_ok-range.ensures.ok
+
+pub write-requires-clause-named : goal.write-requires-clause-named
+write-requires-clause-named g c _ =
+    let staged = c.in_ok-range.ensures.ok in
+    inr (record { start = c.in_ok-range.range.start; words = c.args.words.now }, c.in_ok-read.ensures.ok.looks.onward.ranges _ staged.finished,
+    c.word.ensures ∙ ap (λ n. c.in_ok-range.range.start * 2 ^ 25 + n) staged.len)
+
+pub returns-clause-onward : goal.returns-clause-onward
+returns-clause-onward g c =
+    onward_trans _ _ _ c.in_ok-range.ensures.ok.onward
+    (onward_trans _ _ _ c.in_ok-read.ensures.ok.looks.onward (writes_onward _ _ _ _ c.write.ensures))
+
+pub returns-clause-ok : goal.returns-clause-ok
+returns-clause-ok g c st m =
+    let staged = c.in_ok-range.ensures.ok in
+    let later = onward_trans _ _ _ c.in_ok-read.ensures.ok.looks.onward (writes_onward _ _ _ _ c.write.ensures) in
+    body_known (g.C.Cells.sight c.write.new.self) st m c.in_ok-range.range c.args.cell c.args.words.now
+    (record { finished = later.ranges _ staged.finished; len = staged.len })
+    (ap (λ (x : State). x.value c.args.cell) (after_writes _ _ _ _ st c.write.ensures)
+    ∙ value_there c.args.cell c.word.result (after (g.C.Cells.sight c.read.new.self) st) ∙ c.word.ensures)
+    c.requires.some
