@@ -61,7 +61,7 @@ module _ (slots : ℕ) (st next : State) where
       one (Cite l) (stored.Hyp j) h = absurd h
       one (Cite l) (stored.Slot j) h = stay j l h
 
-  proof_same : NamesStay → (i : ℕ) (kind : Kind) (steps : List Step) → next.ranges ≡ st.ranges
+  pub proof_same : NamesStay → (i : ℕ) (kind : Kind) (steps : List Step) → next.ranges ≡ st.ranges
       → next.value (proof_cell i) ≡ st.value (proof_cell i) → HoldsProof slots st i kind steps → HoldsProof slots next i kind steps
   proof_same stay i Axiom steps ranges same h = (same ∙ h.0, h.1)
   proof_same stay i Theorem steps ranges same h =
@@ -214,6 +214,7 @@ module _ (slots : ℕ) (st : State) (lib : List Ranked) (shows : Shows slots st 
             (any_has (bytes_eq (label_of r.entry)) (map label_of (entries_of held)) (label_of x.entry)
             (has_mapped label_of (entries_of held) x.entry (has_mapped (λ (y : Held). y.entry) held x h))
             (subst (λ l. bytes_eq (label_of r.entry) l ≡ true) (sym same) (bytes_eq-same (label_of r.entry))))
+
         among : (held : List Held) → Distinct bytes_eq (map label_of (entries_of held)) → Has p held → Has q held → p ≡ q
         among [] d hp hq = absurd hp
         among (r ∷ held) d (inl ep) (inl eq) = ep ∙ sym eq

@@ -19,3 +19,9 @@ pub mod PlainSights
 pub mod Empty
 pub mod Holding
 pub mod Staging
+pub mod Ones
+pub mod Recounting
+pub mod Storing
+pub mod Found
+pub mod Showing
+pub mod Counted
