@@ -25,3 +25,4 @@ pub mod Storing
 pub mod Found
 pub mod Showing
 pub mod Counted
+pub mod Moving
