@@ -26,3 +26,4 @@ pub mod Found
 pub mod Showing
 pub mod Counted
 pub mod Moving
+pub mod Reproving
