@@ -27,3 +27,4 @@ pub mod Showing
 pub mod Counted
 pub mod Moving
 pub mod Reproving
+pub mod Deleting
