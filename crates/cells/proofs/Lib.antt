@@ -28,3 +28,4 @@ pub mod Counted
 pub mod Moving
 pub mod Reproving
 pub mod Deleting
+pub mod Renaming
