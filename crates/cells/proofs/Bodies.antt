@@ -1,5 +1,6 @@
 -- Ranges that a run knows, and the bodies that cells name: a word names one.
-use Rattle.std.proofs.Common.{◌≡◌, ◌≢◌, ℕ, zero, suc, ◌+◌, ◌*◌, ◌/◌, ◌%◌, ◌-◌, ◌^◌, ◌<◌, List, [], ◌∷◌, length, refl, sym, ap, subst, ◌∙◌, inl, inr, arith}
+use Rattle.std.proofs.Common.{◌≡◌, ◌≢◌, ℕ, zero, suc, ◌+◌, ◌*◌, ◌/◌, ◌%◌, ◌^◌, ◌<◌, List, [], ◌∷◌, length, refl, sym, ap, subst, ◌∙◌, inl, inr, arith, Some}
+use Rattle.std.specs.Prelude.{slice_get}
 use Rattle.std.specs.Prelude.{◌↔◌}
 use Rattle.std.specs.Coded.{Coded-set, coded_list, coded_ℕ}
 use Rattle.std.proofs.Math.Bridge.{le_prop}
@@ -117,3 +118,23 @@ same_words s st range cell word words body m k read is some = (
   λ e. subst (HasBody (after s st) cell) e (body_known s st m range cell words k (sym read ∙ is) (λ none. some (sym e ∙ none))),
   λ b. words_known s st m range cell words body k (sym read ∙ is) b,
 )
+
+-- ---- the first word
+
+-- a cell that holds 0 has no body, and a range without words is none
+pub no_first : (s : Sight) (st : State) (range : Place) (cell word w : ℕ) (words more : List ℕ) → Matches s st → Knows s range words
+    → word ≡ (after s st).value cell → word ≡ range.start * 2 ^ 25 + range.len → HasBody (after s st) cell (w ∷ more) → range.len ≡ 0 → ⊥
+no_first s st range cell word w words more m k read is b none =
+    let same : words ≡ w ∷ more = words_known s st m range cell words (w ∷ more) k (sym read ∙ is) b in
+    let few : length words ≡ 0 = sym k.len ∙ none in
+    let long : length words ≡ length (w ∷ more) = ap length same in
+    omega (arith, few, long)
+
+-- the first word of a known range is that of the body
+pub first_known : (s : Sight) (st : State) (range : Place) (cell word w first : ℕ) (words more : List ℕ) → Matches s st → Knows s range words
+    → word ≡ (after s st).value cell → word ≡ range.start * 2 ^ 25 + range.len → HasBody (after s st) cell (w ∷ more)
+    → slice_get words 0 ≡ Some first → first ≡ w
+first_known s st range cell word w first words more m k read is b at =
+    let same : words ≡ w ∷ more = words_known s st m range cell words (w ∷ more) k (sym read ∙ is) b in
+    let here : slice_get (w ∷ more) 0 ≡ Some first = subst (λ (zs : List ℕ). slice_get zs 0 ≡ Some first) same at in
+    cc

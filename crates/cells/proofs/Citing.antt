@@ -1,6 +1,6 @@
 -- The slots that steps cite.
-use Rattle.std.proofs.Common.{◌≡◌, ℕ, ◌+◌, ◌<◌, zero, suc, List, [], ◌∷◌, ◌++◌, Option, Some, None, length, refl, sym, ap, subst, ◌∙◌, nat_eq, eqb, true, false, take, get_or}
-use Rattle.std.proofs.Common.{◌⊎◌, inl, inr, ⊎_elim, arith}
+use Rattle.std.proofs.Common.{◌≡◌, ℕ, ◌+◌, ◌<◌, suc, List, [], ◌∷◌, ◌++◌, Option, Some, None, length, refl, ap, ◌∙◌, nat_eq, eqb, take, get_or}
+use Rattle.std.proofs.Common.{inl, inr, arith}
 use Rattle.std.specs.List.{filter_map, dedup, AllPairs}
 use Rattle.std.specs.List.Sorted.{IsSorted}
 use Rattle.std.specs.Ordering.{nat_cmp}
@@ -36,7 +36,8 @@ cited_one steps i d s lt is =
 pub cited_none : (steps : List StoredStep) (i : ℕ) (d : StoredStep) → i < length steps → ((s : ℕ) → get_or steps i d ≡ Slot s → ⊥)
     → filter_map cited_slot (take (i + 1) steps) ≡ filter_map cited_slot (take i steps)
 cited_none steps i d lt other =
-    cited_more steps i d lt ∙ ap (λ l. filter_map cited_slot (take i steps) ++ l) (nothing (get_or steps i d) other) ∙ append-nil (filter_map cited_slot (take i steps))
+    cited_more steps i d lt ∙ ap (λ l. filter_map cited_slot (take i steps) ++ l) (nothing (get_or steps i d) other)
+    ∙ append-nil (filter_map cited_slot (take i steps))
   where
     nothing : (x : StoredStep) → ((s : ℕ) → x ≡ Slot s → ⊥) → filter_map cited_slot (x ∷ []) ≡ []
     nothing (Float j) free = refl
@@ -62,12 +63,16 @@ cited_listed (Slot s ∷ steps) i (inr h) = inr (cited_listed steps i h)
 -- numbers that ascend differ
 distinct_pairs : (xs : List ℕ) → AllPairs (λ x y. x < y) xs → Distinct nat_eq xs
 distinct_pairs [] up = tt
-distinct_pairs (x ∷ xs) up =
-    (none_absent xs x (λ h. let at = contains_from_has xs x h in let below = up 0 (suc at.0) x (omega arith) (omega (arith, at.1)) in
-    let same = at.2 in omega (arith, below, same)), distinct_pairs xs (λ i j d lt within. up (suc i) (suc j) d (omega (arith, lt)) (omega (arith, within))))
+distinct_pairs (x ∷ xs) up = (
+  none_absent xs x (λ h. let at = contains_from_has xs x h in let below = up 0 (suc at.0) x (omega arith) (omega (arith, at.1)) in
+      let same = at.2 in omega (arith, below, same)),
+  distinct_pairs xs
+      (λ i j d lt within. up (suc i) (suc j) d (omega (arith, lt)) (omega (arith, within))),
+)
 
 -- the slots that steps cite, in another order and each once
-pub are_cited : (steps : List StoredStep) (ordered : List ℕ) → IsPermutation (filter_map cited_slot steps) ordered → IsSorted nat_cmp ordered
+pub are_cited : (steps : List StoredStep) (ordered : List ℕ) → IsPermutation (filter_map cited_slot steps) ordered
+    → IsSorted nat_cmp ordered
     → AreCitedSlots steps (dedup eqb ordered)
 are_cited steps ordered m up =
     record {

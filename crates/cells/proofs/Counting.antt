@@ -1,9 +1,9 @@
 -- Cells of counts that are changed one after another, and the slots that steps cite.
-use Rattle.std.proofs.Common.{◌≡◌, ◌≢◌, ℕ, zero, suc, ◌+◌, ◌-◌, ◌*◌, ◌^◌, ◌<◌, ◌≤◌, ◌%◌, true, false, List, [], ◌∷◌, ◌++◌, length, take, get_or, refl, sym, ap, subst, ◌∙◌}
-use Rattle.std.proofs.Common.{◌⊎◌, inl, inr, ⊎_elim, arith, nat_eq}
-use Rattle.std.specs.Prelude.{◌==◌, ◌&&◌, nat_lt, min, All, filter_map, Option, Some, None}
+use Rattle.std.proofs.Common.{◌≡◌, ◌≢◌, ℕ, zero, suc, ◌+◌, ◌-◌, ◌*◌, ◌^◌, ◌<◌, ◌%◌, false, List, [], ◌∷◌, ◌++◌, length, take, get_or, refl, sym, ap, subst, ◌∙◌}
+use Rattle.std.proofs.Common.{inl, inr, ⊎_elim, arith, nat_eq}
+use Rattle.std.specs.Prelude.{nat_lt, min}
 use Rattle.std.proofs.lemmas.Bool.{le-ltb, and_right}
-use Rattle.std.proofs.lemmas.List.{take_more, take_all}
+use Rattle.std.proofs.lemmas.List.{take_more}
 use Rattle.mmsyntax.specs.Assertions.{Distinct}
 use Rattle.ranges.specs.Ranges.{Has}
 use Rattle.cells.specs.State.{State, with_value}
@@ -17,7 +17,8 @@ use Rattle.cells.proofs.Values.{value_there, value_elsewhere}
 -- ---- cells that are no range cells
 
 pub citers_plain : (slots i : ℕ) → is_ranged slots (citers_cell i) ≡ false
-citers_plain slots i = and_right (nat_lt (citers_cell i) (5 * slots)) (nat_lt (citers_cell i % 5) 3) (le-ltb (citers_cell i % 5) 3 (omega arith))
+citers_plain slots i = and_right (nat_lt (citers_cell i) (5 * slots)) (nat_lt (citers_cell i % 5) 3)
+    (le-ltb (citers_cell i % 5) 3 (omega arith))
 
 pub rank_plain : (slots i : ℕ) → is_ranged slots (rank_cell i) ≡ false
 rank_plain slots i = and_right (nat_lt (rank_cell i) (5 * slots)) (nat_lt (rank_cell i % 5) 3) (le-ltb (rank_cell i % 5) 3 (omega arith))
@@ -43,10 +44,12 @@ pub changes_push : (f : ℕ → ℕ) (listed : List ℕ) (x : ℕ) (st mid : Sta
 changes_push f listed x st mid ch free =
     record {
       counted = λ i has. ⊎_elim
-          (λ before. value_elsewhere cell new mid (citers_cell i) (λ z. free (subst (λ n. Has n listed) (omega (arith, z)) before)) ∙ ch.counted i before)
+          (λ before. value_elsewhere cell new mid (citers_cell i) (λ z. free (subst (λ n. Has n listed) (omega (arith, z)) before))
+          ∙ ch.counted i before)
           (λ last. ⊎_elim
           (λ e. ap (λ n. (with_value cell new mid).value (citers_cell n)) e ∙ value_there cell new mid
-          ∙ ap f (ch.others cell (λ j has z. free (subst (λ n. Has n listed) (omega (arith, z)) has))) ∙ ap (λ n. f (st.value (citers_cell n))) (sym e))
+          ∙ ap f (ch.others cell (λ j has z. free (subst (λ n. Has n listed) (omega (arith, z)) has)))
+          ∙ ap (λ n. f (st.value (citers_cell n))) (sym e))
           (λ z. absurd z) last)
           (has_append_cases listed (x ∷ []) i has);
       others = λ c out. value_elsewhere cell new mid c (out x (has_append_right listed (x ∷ []) x (inl refl)))
@@ -88,7 +91,8 @@ pub counts_out : (xs : List ℕ) (st next : State) → Changes one_less xs st ne
 counts_out xs st next ch = record { counted = ch.counted; others = ch.others }
 
 -- what is written where a count was read
-pub count_made : (f : ℕ → ℕ) (r s t : Sight) (st : State) (cell there v w x : ℕ) → Looks r s → Writes there w s t → there ≡ citers_cell x → w ≡ f v
+pub count_made : (f : ℕ → ℕ) (r s t : Sight) (st : State) (cell there v w x : ℕ) → Looks r s → Writes there w s t → there ≡ citers_cell x
+    → w ≡ f v
     → v ≡ (after s st).value cell → cell ≡ citers_cell x
     → after t st ≡ with_value (citers_cell x) (f ((after r st).value (citers_cell x))) (after r st)
 count_made f r s t st cell there v w x looks writes there_is w_is v_is cell_is =

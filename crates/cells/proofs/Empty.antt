@@ -16,7 +16,7 @@ use Rattle.ranges.specs.Ranges.{Range}
 use Rattle.ranges.specs.declared.range.Range.{Range as Place}
 use Rattle.cells.specs.State.{State}
 use Rattle.cells.specs.Slots.{is_ranged}
-use Rattle.cells.specs.Shows.{Held, Holds, Shows}
+use Rattle.cells.specs.Shows.{Held, Holds, ShowsHeld}
 use Rattle.cells.specs.Plain.{plain_state, ShowsSome, HoldNames, names}
 
 -- a list of zeros has 0 everywhere
@@ -26,16 +26,18 @@ zeros_at zero (suc c) = refl
 zeros_at (suc n) zero = refl
 zeros_at (suc n) (suc c) = zeros_at n c
 
-pub shows_none : (slots : ℕ) (st : State) → ((c : ℕ) → st.value c ≡ 0) → Shows slots st []
-shows_none slots st zeros =
-    record {
-      held = [];
-      library = refl;
-      holds = All-nil (λ (p : Held). Holds slots st [] p.slot p.entry);
-      apart = tt;
-      others = λ i lt. inr (record { name = zeros _; statement = zeros _; proof = zeros _; rank = zeros _; citers = zeros _; next = zeros _ });
-      chained = λ b lt. record { chain = []; starts = zeros _; has = IsPermutation-refl [] };
-    }
+pub shows_none : (slots : ℕ) (st : State) → ((c : ℕ) → st.value c ≡ 0) → ShowsHeld slots st [] []
+shows_none slots st zeros = (
+  record {
+    held = [];
+    library = refl;
+    holds = All-nil (λ (p : Held). Holds slots st [] p.slot p.entry);
+    apart = tt;
+    others = λ i lt. inr (record { name = zeros _; statement = zeros _; proof = zeros _; rank = zeros _; citers = zeros _; next = zeros _ });
+    chained = λ b lt. record { chain = []; starts = zeros _; has = IsPermutation-refl [] };
+  },
+  refl,
+)
 
 none_verifies : (s : Setting) → IsSetting s → Verifies s []
 none_verifies s h =
@@ -52,7 +54,7 @@ none_verifies s h =
     }
 
 pub zeros_show : (s : Setting) (n : ℕ) (places : List Place) → IsSetting s → ShowsSome s (replicate n 0) [] places
-zeros_show s n places h = ([], shows_none s.slots (plain_state (replicate n 0) [] places) (zeros_at n), none_verifies s h)
+zeros_show s n places h = ([], (shows_none s.slots (plain_state (replicate n 0) [] places) (zeros_at n)).0, none_verifies s h)
 
 pub zeros_name : (slots n : ℕ) (ranges : List Range) → HoldNames slots (replicate n 0) ranges
 zeros_name slots n ranges c v at ranged =

@@ -1,6 +1,6 @@
 -- Which slot has a label in a state that shows a library.
-use Rattle.std.proofs.Common.{◌≡◌, ◌≢◌, ℕ, ◌<◌, ◌≤◌, List, [], Option, Some, None, length, map, get_or, refl, sym, ap, subst, ◌∙◌, ◌⊎◌, inl, inr, arith}
-use Rattle.std.specs.Prelude.{◌==◌, filter}
+use Rattle.std.proofs.Common.{◌≡◌, ◌≢◌, ℕ, ◌<◌, ◌≤◌, List, Some, None, length, map, get_or, sym, ap, subst, ◌∙◌, ◌⊎◌, inl, inr, arith, nat_eq, true, false, refl}
+use Rattle.std.specs.Prelude.{◌==◌}
 use Rattle.std.specs.List.{All, Contains}
 use Rattle.std.specs.Str.{bytes_eq}
 use Rattle.std.proofs.Common.{eq-eqb}
@@ -18,7 +18,10 @@ use Rattle.ranges.specs.Ranges.{Has, AreOfOneStore}
 use Rattle.cells.specs.State.{State, HasBody, most_words}
 use Rattle.cells.specs.Slots.{bucket, name_cell}
 use Rattle.cells.specs.Shows.{Held, IsNamed, Holds, IsEmpty, Shows, slots_of, entries_of, of_bucket}
-use Rattle.cells.specs.Lookups.{IsFoundAt}
+use Rattle.cells.specs.Sight.{Sight, Matches, after}
+use Rattle.cells.specs.Lookups.{IsFoundAt, IfFull}
+use Rattle.std.proofs.lemmas.Bool.Decides.{Decides-eqb}
+use mathlib.Core.Bool.{not}
 use Rattle.cells.proofs.Bodies.{one_body, no_body}
 use Rattle.cells.proofs.Members.{has_from_contains, contains_from_has, mapped_has, all_below}
 
@@ -125,3 +128,17 @@ module _ (slots : ℕ) (st : State) (lib : List Ranked) (shows : Shows slots st 
         length-map shows.held (λ (q : Held). q.slot),
         length-map shows.held (λ (q : Held). q.entry),
       )
+
+-- a slot's name tells whether it holds an assertion
+pub tells_full : (s : Sight) (i v : ℕ) → i < s.setting.slots → ((st : State) → Matches s st → v ≡ (after s st).value (name_cell i))
+    → IfFull s i (not (nat_eq v 0))
+tells_full s i v lt is =
+    elim (nat_eq v 0) as (λ b. nat_eq v 0 ≡ b → IfFull s i (not b)) [
+      | true ↦ λ e st lib view.
+          empty_unnamed s.setting.slots (after s st) lib view.shows i lt (sym (is st view.matches) ∙ (Decides-eqb v 0).0 e)
+      | false ↦ λ e st lib view.
+          let h = full_slot s.setting.slots (after s st) lib view.shows i lt
+              (λ z. let none : v ≡ 0 = is st view.matches ∙ z in let both : nat_eq v 0 ≡ true = (Decides-eqb v 0).1 none in cc) in
+          (h.0.entry, subst (λ (k : ℕ). Holds s.setting.slots (after s st) lib k h.0.entry) h.1.1
+          (holds_it s.setting.slots (after s st) lib view.shows h.0 h.1.0), listed s.setting.slots (after s st) lib view.shows h.0 h.1.0)
+    ] refl

@@ -1,8 +1,7 @@
 -- What a state that shows a library says of its slots: named slots hold assertions, and steps that cite slots cite labels.
-use Rattle.std.proofs.Common.{◌≡◌, ◌≢◌, ℕ, ◌+◌, ◌*◌, ◌<◌, Bool, true, false, List, [], ◌∷◌, ◌++◌, map, refl, sym, ap, subst, ◌∙◌}
-use Rattle.std.proofs.Common.{◌⊎◌, inl, inr, ⊎_elim, nat_eq, arith, ◌≤◌}
-use Rattle.std.specs.Prelude.{All}
-use Rattle.std.specs.List.{list_any, AllZip, count_by}
+use Rattle.std.proofs.Common.{◌≡◌, ℕ, ◌+◌, ◌*◌, ◌<◌, true, false, List, [], ◌∷◌, map, refl, sym, ap, subst, ◌∙◌}
+use Rattle.std.proofs.Common.{inl, inr, ⊎_elim, arith, ◌≤◌}
+use Rattle.std.specs.List.{list_any}
 use Rattle.std.specs.Str.{bytes_eq}
 use Rattle.std.proofs.lemmas.Bool.{both_ways, or_cases, or_left, or_right, or_from, false_from_ne_true}
 use Rattle.std.proofs.lemmas.List.Folds.{list_any_none}
@@ -17,19 +16,21 @@ use Rattle.library.specs.Library.{label_of}
 use Rattle.library.specs.Edits.{has, cites, citers, is_citation, is_labelled}
 use Rattle.library.proofs.Places.{is_labelled-own}
 use Rattle.library.proofs.Counts.{none_counted}
-use Rattle.ranges.specs.Ranges.{Range, Has, AreOfOneStore}
+use Rattle.ranges.specs.Ranges.{Has, AreOfOneStore}
 use Rattle.bodystore.specs.declared.stored.StoredStep.{StoredStep}
 use Rattle.bodystore.specs.declared.stored.StoredStep.TheVariants as stored
 use Rattle.cells.specs.State.{State, HasBody, most_words}
 use Rattle.cells.specs.Slots.{name_cell, statement_cell, proof_cell, rank_cell, citers_cell, next_cell}
 use Rattle.cells.specs.Shows.{Held, slots_of, entries_of, IsNamed, AreStoredAs, IsStoredAs, HoldsProof, Holds, IsEmpty, Shows}
-use Rattle.cells.proofs.Members.{all_has, any_has, has_mapped, mapped_has, absent, all_from_has}
+use Rattle.cells.proofs.Members.{all_has, any_has, has_mapped, mapped_has, all_from_has, has_from_contains, contains_from_has}
+use Rattle.cells.proofs.Holders.{holder, listed}
 use Rattle.cells.proofs.Bodies.{one_body, no_body}
 
 -- ---- what stays
 
 -- a cell that stays goes on to name its body
-pub body_same : (st next : State) (cell : ℕ) (words : List ℕ) → next.ranges ≡ st.ranges → next.value cell ≡ st.value cell → HasBody st cell words
+pub body_same : (st next : State) (cell : ℕ) (words : List ℕ) → next.ranges ≡ st.ranges → next.value cell ≡ st.value cell
+    → HasBody st cell words
     → HasBody next cell words
 body_same st next cell words ranges same b =
     record {
@@ -44,7 +45,8 @@ module _ (slots : ℕ) (st next : State) where
   abbrev pub NamesStay : Type 0
   NamesStay = (i : ℕ) (label : List ℕ) → IsNamed slots st i label → IsNamed slots next i label
 
-  pub stored_same : NamesStay → (steps : List Step) (kept : List StoredStep) → AreStoredAs slots st steps kept → AreStoredAs slots next steps kept
+  pub stored_same : NamesStay → (steps : List Step) (kept : List StoredStep) → AreStoredAs slots st steps kept
+      → AreStoredAs slots next steps kept
   stored_same stay [] [] h = tt
   stored_same stay [] (k ∷ kept) h = absurd h
   stored_same stay (x ∷ steps) [] h = absurd h
@@ -98,23 +100,19 @@ module _ (slots : ℕ) (st next : State) where
 
 module _ (slots : ℕ) (st : State) (lib : List Ranked) (shows : Shows slots st lib) (store : AreOfOneStore most_words st.ranges) where
   -- a slot with a name holds an assertion with this label
-  pub named_held : (i : ℕ) (label : List ℕ) → IsNamed slots st i label → (p : Held) × Has p shows.held × (p.slot ≡ i) × (label_of p.entry ≡ label)
+  pub named_held : (i : ℕ) (label : List ℕ) → IsNamed slots st i label
+      → (p : Held) × Has p shows.held × (p.slot ≡ i) × (label_of p.entry ≡ label)
   named_held i label named =
-      ⊎_elim
-      (λ full.
-      let m = mapped_has (λ (p : Held). p.slot) shows.held i full in
-      let holds : Holds slots st lib m.0.slot m.0.entry = all_has (λ (p : Held). Holds slots st lib p.slot p.entry) shows.held m.0 shows.holds m.1 in
-      let body : HasBody st (name_cell i) (label_of m.0.entry) = subst (λ n. HasBody st (name_cell n) (label_of m.0.entry)) (sym m.2) holds.name.body in
-      (m.0, m.1, sym m.2, one_body st (name_cell i) (label_of m.0.entry) label store body named.body))
-      (λ empty. absurd (no_body st (name_cell i) label named.body empty.name))
-      (shows.others i named.within)
+      let h = holder slots st lib shows store i label named in
+      (h.0, has_from_contains shows.held h.0 h.1, h.2, h.3)
 
   pub held_in : (p : Held) → Has p shows.held → Has p.entry lib
-  held_in p h = subst (Has p.entry) shows.library (has_mapped (λ (q : Held). q.entry) shows.held p h)
+  held_in p h = has_from_contains lib p.entry (listed slots st lib shows p (contains_from_has shows.held p h))
 
   pub held_name : (p : Held) → Has p shows.held → IsNamed slots st p.slot (label_of p.entry)
   held_name p h =
-      let holds : Holds slots st lib p.slot p.entry = all_has (λ (q : Held). Holds slots st lib q.slot q.entry) shows.held p shows.holds h in holds.name
+      let holds : Holds slots st lib p.slot p.entry =
+      all_has (λ (q : Held). Holds slots st lib q.slot q.entry) shows.held p shows.holds h in holds.name
 
   -- so the library has this label
   pub named_has : (i : ℕ) (label : List ℕ) → IsNamed slots st i label → has lib label ≡ true
@@ -142,7 +140,8 @@ module _ (slots : ℕ) (st : State) (lib : List Ranked) (shows : Shows slots st 
   stored_named (x ∷ steps) (k ∷ kept) i h (inr has) = stored_named steps kept i h.1 has
   stored_named (x ∷ steps) (k ∷ kept) i h (inl is) = one x k h.0 is
     where
-      one : (x : Step) (k : StoredStep) → IsStoredAs (IsNamed slots st) x k → stored.Slot i ≡ k → (label : List ℕ) × IsNamed slots st i label
+      one : (x : Step) (k : StoredStep) → IsStoredAs (IsNamed slots st) x k → stored.Slot i ≡ k
+          → (label : List ℕ) × IsNamed slots st i label
       one x (stored.Float j) h is = absurd cc
       one x (stored.Hyp j) h is = absurd cc
       one (Float m) (stored.Slot j) h is = absurd h
@@ -159,7 +158,8 @@ module _ (slots : ℕ) (st : State) (lib : List Ranked) (shows : Shows slots st 
       or_right (is_citation (label_of p.entry) x) _ (stored_cites p held steps kept h.1 has)
   stored_cites p held (x ∷ steps) (k ∷ kept) h (inl is) = or_left (is_citation (label_of p.entry) x) _ (one x k h.0 is)
     where
-      one : (x : Step) (k : StoredStep) → IsStoredAs (IsNamed slots st) x k → stored.Slot p.slot ≡ k → is_citation (label_of p.entry) x ≡ true
+      one : (x : Step) (k : StoredStep) → IsStoredAs (IsNamed slots st) x k → stored.Slot p.slot ≡ k
+          → is_citation (label_of p.entry) x ≡ true
       one x (stored.Float j) h is = absurd cc
       one x (stored.Hyp j) h is = absurd cc
       one (Float m) (stored.Slot j) h is = absurd h
@@ -192,8 +192,10 @@ module _ (slots : ℕ) (st : State) (lib : List Ranked) (shows : Shows slots st 
   no_citers label new =
       none_counted (cites label) lib (list_any_none (cites label) lib (all_from_has (λ e. cites label e ≡ false) lib (λ e h.
       let m = mapped_has (λ (p : Held). p.entry) shows.held e (subst (Has e) (sym shows.library) h) in
-      let holds : Holds slots st lib m.0.slot m.0.entry = all_has (λ (q : Held). Holds slots st lib q.slot q.entry) shows.held m.0 shows.holds m.1 in
-      subst (λ (x : Ranked). cites label x ≡ false) (sym m.2) (by_kind m.0.slot m.0.entry.assertion.kind m.0.entry.assertion.proof holds.proof))))
+      let holds : Holds slots st lib m.0.slot m.0.entry =
+      all_has (λ (q : Held). Holds slots st lib q.slot q.entry) shows.held m.0 shows.holds m.1 in
+      subst (λ (x : Ranked). cites label x ≡ false) (sym m.2)
+      (by_kind m.0.slot m.0.entry.assertion.kind m.0.entry.assertion.proof holds.proof))))
     where
       by_kind : (i : ℕ) (kind : Kind) (steps : List Step) → HoldsProof slots st i kind steps → list_any (is_citation label) steps ≡ false
       by_kind i Axiom steps h = ap (list_any (is_citation label)) h.1
@@ -231,7 +233,8 @@ module _ (slots : ℕ) (st : State) (lib : List Ranked) (shows : Shows slots st 
         ⊎_elim (λ here. inl (one x k h.0 here)) (λ later. inr (cites_stored p held steps kept h.1 later))
         (or_cases (is_citation (label_of p.entry) x) (list_any (is_citation (label_of p.entry)) steps) cited)
       where
-        one : (x : Step) (k : StoredStep) → IsStoredAs (IsNamed slots st) x k → is_citation (label_of p.entry) x ≡ true → stored.Slot p.slot ≡ k
+        one : (x : Step) (k : StoredStep) → IsStoredAs (IsNamed slots st) x k → is_citation (label_of p.entry) x ≡ true
+            → stored.Slot p.slot ≡ k
         one (Float m) k h cited = absurd (both_ways false refl cited)
         one (Hyp m) k h cited = absurd (both_ways false refl cited)
         one (Cite l) (stored.Float j) h cited = absurd h

@@ -1,9 +1,8 @@
 -- Chains of slots: what becomes of them where other cells change, where a slot is put in front of one, and where a slot is taken out.
-use Rattle.std.proofs.Common.{◌≡◌, ◌≢◌, ℕ, zero, suc, ◌+◌, ◌*◌, ◌<◌, ◌≤◌, Bool, true, false, cond, List, [], ◌∷◌, ◌++◌, length, map, refl, sym, ap, subst, ◌∙◌}
-use Rattle.std.proofs.Common.{◌⊎◌, inl, inr, ⊎_elim, arith, nat_eq}
+use Rattle.std.proofs.Common.{◌≡◌, ◌≢◌, ℕ, ◌+◌, ◌*◌, ◌<◌, ◌≤◌, true, false, cond, List, [], ◌∷◌, map, refl, sym, ap, subst, ◌∙◌}
+use Rattle.std.proofs.Common.{inl, inr, arith, nat_eq}
 use Rattle.std.specs.Prelude.{filter, fold, IsPermutation, ◌==◌, ◌%◌}
-use mathlib.Core.Bool.{not}
-use Rattle.std.proofs.lemmas.Bool.{cases_Bool, cases_eq, cond-true, cond-false, eqb-true, eq-eqb, ne_eqb, not_from_true, not_from_false}
+use Rattle.std.proofs.lemmas.Bool.{cases_eq, cond-true, cond-false, eqb-true, eq-eqb, ne_eqb}
 use Rattle.std.proofs.lemmas.List.Sorted.{IsPermutation-cons, IsPermutation-sym, IsPermutation-trans}
 use Rattle.mmsyntax.specs.Assertions.{Distinct}
 use Rattle.library.specs.declared.library.Ranked.{Ranked}
@@ -12,9 +11,9 @@ use Rattle.ranges.specs.Ranges.{Has}
 use Rattle.cells.specs.State.{State}
 use Rattle.cells.specs.Slots.{bucket_cell, next_cell, bucket}
 use Rattle.cells.specs.Shows.{Held, slots_of, of_bucket, IsChain, IsChained, AreChained}
-use Rattle.cells.specs.Chains.{Rechains, without_slot}
+use Rattle.cells.specs.Chains.{Rechains}
 use Rattle.cells.proofs.Members.{has_mapped, mapped_has, has_filtered, filtered_has, has_permutation, absent}
-use Rattle.cells.proofs.Tallies.{filtered_permutation, filter_permutation, filter_all, distinct_permutation, distinct_filtered}
+use Rattle.cells.proofs.Tallies.{filtered_permutation}
 
 -- a label's bucket is one of the buckets
 pub bucket_within : (slots : ℕ) (label : List ℕ) → 1 ≤ slots → bucket slots label < slots
@@ -47,7 +46,8 @@ module _ (slots : ℕ) where
       let f = filtered_has (λ (p : Held). bucket slots (label_of p.entry) == b) held m.0 m.1 in
       (m.0, f.0, eqb-true (bucket slots (label_of m.0.entry)) b f.1, m.2)
 
-  pub has_bucket : (held : List Held) (p : Held) → Has p held → Has p.slot (slots_of (of_bucket slots (bucket slots (label_of p.entry)) held))
+  pub has_bucket : (held : List Held) (p : Held) → Has p held
+      → Has p.slot (slots_of (of_bucket slots (bucket slots (label_of p.entry)) held))
   has_bucket held p h =
       let b = bucket slots (label_of p.entry) in
       has_mapped (λ (q : Held). q.slot) (of_bucket slots b held) p
@@ -104,7 +104,8 @@ module _ (slots : ℕ) where
   seats (p ∷ held) b =
       let rest = of_bucket slots b held in
       let mapped = filter (λ (s : ℕ × List ℕ). bucket slots s.1 == b) (map seat held) in
-      elim (bucket slots (label_of p.entry) == b) as (λ t. slots_of (cond t (p ∷ rest) rest) ≡ map (λ s. s.0) (cond t (seat p ∷ mapped) mapped)) [
+      elim (bucket slots (label_of p.entry) == b) as
+      (λ t. slots_of (cond t (p ∷ rest) rest) ≡ map (λ s. s.0) (cond t (seat p ∷ mapped) mapped)) [
         | true ↦ ap (λ l. p.slot ∷ l) (seats held b)
         | false ↦ seats held b
       ]
@@ -165,7 +166,8 @@ module _ (slots : ℕ) where
             has = subst (λ (l : List Held). IsPermutation (slots_of l) (slot ∷ c.chain)) (sym more) (IsPermutation-cons slot _ _ c.has);
           }
 
-      there : (b : ℕ) (lt : b < slots) → (bucket slots (label_of e) ≡ b → ⊥) → IsChained slots next (record { slot = slot; entry = e } ∷ held) b
+      there : (b : ℕ) (lt : b < slots) → (bucket slots (label_of e) ≡ b → ⊥)
+          → IsChained slots next (record { slot = slot; entry = e } ∷ held) b
       there b lt ne =
           let c = chained b lt in
           let rest = of_bucket slots b held in

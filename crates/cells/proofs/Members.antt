@@ -3,7 +3,7 @@ use Rattle.std.proofs.Common.{◌≡◌, ◌≢◌, ℕ, zero, suc, ◌<◌, ◌
 use Rattle.std.proofs.Common.{◌⊎◌, inl, inr, ⊎_elim, arith, nat_eq}
 use Rattle.std.specs.Prelude.{filter, All, IsPermutation}
 use Rattle.std.specs.List.{Contains, list_any}
-use Rattle.std.proofs.lemmas.Bool.{cases_Bool, cases_eq, cond-true, cond-false, eqb-true, eqb-false, eq-eqb, ne_eqb, both_ways, or_left, or_right, or_from}
+use Rattle.std.proofs.lemmas.Bool.{cases_Bool, cases_eq, cond-true, cond-false, eq-eqb, ne_eqb, both_ways, or_left, or_right, or_from}
 use Rattle.std.proofs.lemmas.List.Elements.{All-head, All-tail, Contains-append_right}
 use Rattle.std.proofs.lemmas.List.Sorted.{Contains-permutation}
 use Rattle.mmsyntax.specs.Assertions.{Distinct}
@@ -57,7 +57,10 @@ module _ {A : Type 0} where
   has_filtered p [] x h e = absurd h
   has_filtered p (y ∷ ys) x (inl is) e = subst (Has x) (sym (cond-true (p y) (y ∷ filter p ys) (filter p ys) (sym (ap p is) ∙ e))) (inl is)
   has_filtered p (y ∷ ys) x (inr h) e =
-      elim (p y) as (λ b. Has x (cond b (y ∷ filter p ys) (filter p ys))) [ true ↦ inr (has_filtered p ys x h e) | false ↦ has_filtered p ys x h e ]
+      elim (p y) as (λ b. Has x (cond b (y ∷ filter p ys) (filter p ys))) [
+        | true ↦ inr (has_filtered p ys x h e)
+        | false ↦ has_filtered p ys x h e
+      ]
 
   -- what is filtered was there, and passes
   pub filtered_has : (p : A → Bool) (xs : List A) (x : A) → Has x (filter p xs) → Has x xs × (p x ≡ true)
@@ -66,7 +69,8 @@ module _ {A : Type 0} where
       elim (cases_Bool (p y)) [
         | inl so ↦ ⊎_elim (λ is. (inl is, ap p is ∙ so)) (λ later. let r = filtered_has p ys x later in (inr r.0, r.1))
             (subst (Has x) (cond-true (p y) (y ∷ filter p ys) (filter p ys) so) h)
-        | inr other ↦ let r = filtered_has p ys x (subst (Has x) (cond-false (p y) (y ∷ filter p ys) (filter p ys) other) h) in (inr r.0, r.1)
+        | inr other ↦ let r = filtered_has p ys x (subst (Has x) (cond-false (p y) (y ∷ filter p ys) (filter p ys) other) h) in
+            (inr r.0, r.1)
       ]
 
 module _ {A B : Type 0} (f : A → B) where
@@ -89,7 +93,8 @@ absent xs x none h = both_ways (list_any (nat_eq x) xs) none (any_has (nat_eq x)
 
 pub none_absent : (xs : List ℕ) (x : ℕ) → (Has x xs → ⊥) → list_any (nat_eq x) xs ≡ false
 none_absent [] x free = refl
-none_absent (y ∷ ys) x free = or_from (nat_eq x y) (list_any (nat_eq x) ys) (ne_eqb x y (λ e. free (inl e))) (none_absent ys x (λ h. free (inr h)))
+none_absent (y ∷ ys) x free = or_from (nat_eq x y) (list_any (nat_eq x) ys) (ne_eqb x y (λ e. free (inl e)))
+    (none_absent ys x (λ h. free (inr h)))
 
 pub cases_has : (xs : List ℕ) (x : ℕ) → Has x xs ⊎ (Has x xs → ⊥)
 cases_has [] x = inr (λ h. h)

@@ -155,7 +155,7 @@ pub shows_staged : (s : Setting) (values store words : List ℕ) (places : List 
     → ShowsSome s values store places → ShowsSome s values (store ++ words) (places ++ behind store words ∷ [])
 shows_staged s values store words places lie h = (
   h.0,
-  shows_widened s.slots (λ c. get_or values c 0) (ranges_in store places) _ (within_staged store words places lie) h.0 h.1,
+  (shows_widened s.slots (λ c. get_or values c 0) (ranges_in store places) _ (within_staged store words places lie) h.0 h.1.held (h.1, refl)).0,
   h.2,
 )
 

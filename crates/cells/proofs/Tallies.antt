@@ -1,8 +1,8 @@
 -- Lists of numbers with the same counts are permutations of one another; so filters of permutations are.
-use Rattle.std.proofs.Common.{◌≡◌, ℕ, zero, suc, ◌+◌, ◌<◌, ◌≤◌, Bool, true, false, cond, List, [], ◌∷◌, length, map, refl, sym, ap, subst, ◌∙◌}
-use Rattle.std.proofs.Common.{◌⊎◌, inl, inr, arith, nat_eq, get_or}
+use Rattle.std.proofs.Common.{◌≡◌, ℕ, suc, ◌<◌, ◌≤◌, Bool, true, false, cond, List, [], ◌∷◌, length, map, refl, sym, ap, subst, ◌∙◌}
+use Rattle.std.proofs.Common.{inl, inr, arith, nat_eq, get_or}
 use Rattle.std.specs.Prelude.{filter, IsPermutation}
-use Rattle.std.specs.List.{Contains, count_by, sum_by, list_any, remove}
+use Rattle.std.specs.List.{sum_by, list_any, remove}
 use Rattle.std.proofs.lemmas.Bool.{cases_Bool, cond-true, cond-false, eqb-true, eq-eqb}
 use Rattle.std.proofs.lemmas.List.Sums.{sum_by-cons, sum_by-remove, sum_by-le-sum_by}
 use Rattle.std.proofs.lemmas.List.Sorted.{IsPermutation-refl, IsPermutation-cons, IsPermutation-sym, IsPermutation-trans, IsPermutation-remove, sum_by-IsPermutation}
@@ -73,7 +73,8 @@ filtered_permutation {A = A} p g xs ys m =
 pub filter_permutation : (p : ℕ → Bool) (xs ys : List ℕ) → IsPermutation xs ys → IsPermutation (filter p xs) (filter p ys)
 filter_permutation p xs ys m =
     permutation_from_counts (filter p xs) (filter p ys) (λ w.
-    sum_by-filter (is_one w) p xs ∙ sym (sum_by-IsPermutation (λ x. cond (p x) (is_one w x) 0) xs ys m) ∙ sym (sum_by-filter (is_one w) p ys))
+    sum_by-filter (is_one w) p xs ∙ sym (sum_by-IsPermutation (λ x. cond (p x) (is_one w x) 0) xs ys m)
+    ∙ sym (sum_by-filter (is_one w) p ys))
 
 -- a filter that all pass
 pub filter_all : {A : Type 0} (p : A → Bool) (xs : List A) → ((x : A) → Has x xs → p x ≡ true) → filter p xs ≡ xs
@@ -107,7 +108,8 @@ distinct_permutation xs ys m d =
     distinct_from_counts ys (λ w. subst (λ n. n ≤ 1) (sym (sum_by-IsPermutation (is_one w) xs ys m)) (distinct_counts xs d w))
 
 -- the numbers of those that pass
-pub distinct_filtered : {A : Type 0} (p : A → Bool) (g : A → ℕ) (xs : List A) → Distinct nat_eq (map g xs) → Distinct nat_eq (map g (filter p xs))
+pub distinct_filtered : {A : Type 0} (p : A → Bool) (g : A → ℕ) (xs : List A) → Distinct nat_eq (map g xs)
+    → Distinct nat_eq (map g (filter p xs))
 distinct_filtered {A = A} p g xs d =
     distinct_from_counts (map g (filter p xs)) (λ w.
     let a = sum_by-map (is_one w) g (filter p xs) in

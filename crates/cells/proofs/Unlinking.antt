@@ -1,21 +1,20 @@
 -- Chains of slots: what becomes of them where a slot is taken out.
-use Rattle.std.proofs.Common.{◌≡◌, ◌≢◌, ℕ, zero, suc, ◌+◌, ◌*◌, ◌<◌, ◌≤◌, Bool, true, false, cond, List, [], ◌∷◌, length, map, refl, sym, ap, subst, ◌∙◌}
+use Rattle.std.proofs.Common.{◌≡◌, ◌≢◌, ℕ, ◌*◌, ◌<◌, ◌≤◌, Bool, true, false, cond, List, [], ◌∷◌, refl, sym, ap, subst, ◌∙◌}
 use Rattle.std.proofs.Common.{◌⊎◌, inl, inr, ⊎_elim, arith, nat_eq}
 use Rattle.std.specs.Prelude.{filter, IsPermutation, ◌==◌}
 use mathlib.Core.Bool.{not}
-use Rattle.std.proofs.lemmas.Bool.{cases_Bool, cases_eq, cond-true, cond-false, eqb-true, eqb-false, eq-eqb, ne_eqb, not_from_true, not_from_false, not-true}
+use Rattle.std.proofs.lemmas.Bool.{cases_Bool, cases_eq, cond-true, cond-false, eqb-true, eqb-false, ne_eqb, not_from_true, not_from_false, not-true}
 use Rattle.std.proofs.lemmas.List.Sorted.{IsPermutation-sym}
 use Rattle.mmsyntax.specs.Assertions.{Distinct}
-use Rattle.library.specs.declared.library.Ranked.{Ranked}
 use Rattle.library.specs.Library.{label_of}
 use Rattle.ranges.specs.Ranges.{Has}
 use Rattle.cells.specs.State.{State}
 use Rattle.cells.specs.Slots.{bucket_cell, next_cell, bucket}
 use Rattle.cells.specs.Shows.{Held, slots_of, of_bucket, IsChain, IsChained, AreChained}
 use Rattle.cells.specs.Chains.{Rechains, without_slot}
-use Rattle.cells.proofs.Members.{has_mapped, mapped_has, has_filtered, filtered_has, has_permutation, absent, cases_has}
+use Rattle.cells.proofs.Members.{has_mapped, mapped_has, has_filtered, filtered_has, has_permutation, absent}
 use Rattle.cells.proofs.Tallies.{filter_permutation, filter_all, distinct_permutation, distinct_filtered}
-use Rattle.cells.proofs.Linking.{bucket_has, has_bucket, one_bucket, chain_kept, chain_within}
+use Rattle.cells.proofs.Linking.{bucket_has, one_bucket, chain_kept, chain_within}
 
 -- ---- the assertions but the one in the slot
 
@@ -34,7 +33,8 @@ slot_stays held slot i h ne =
     let m = mapped_has (λ (p : Held). p.slot) held i h in
     subst (λ n. Has n (slots_of (without_slot slot held))) (sym m.2)
     (has_mapped (λ (p : Held). p.slot) (without_slot slot held) m.0
-    (has_filtered (λ (p : Held). is_other slot p.slot) held m.0 m.1 (not_from_false (m.0.slot == slot) (ne_eqb m.0.slot slot (λ e. ne (m.2 ∙ e))))))
+    (has_filtered (λ (p : Held). is_other slot p.slot) held m.0 m.1
+    (not_from_false (m.0.slot == slot) (ne_eqb m.0.slot slot (λ e. ne (m.2 ∙ e))))))
 
 pub slot_was : (held : List Held) (slot i : ℕ) → Has i (slots_of (without_slot slot held)) → Has i (slots_of held)
 slot_was held slot i h =
@@ -54,13 +54,15 @@ module _ (slots slot : ℕ) where
       elim (cases_Bool (is_other slot p.slot)) [
         | inl kept ↦
             ap (λ (l : List Held). slots_of (of_bucket slots b l)) (cond-true (is_other slot p.slot) (p ∷ others) others kept)
-            ∙ elim (bucket slots (label_of p.entry) == b) as (λ t. slots_of (cond t (p ∷ left) left) ≡ filter (is_other slot) (slots_of (cond t (p ∷ rest) rest))) [
+            ∙ elim (bucket slots (label_of p.entry) == b) as
+            (λ t. slots_of (cond t (p ∷ left) left) ≡ filter (is_other slot) (slots_of (cond t (p ∷ rest) rest))) [
               | true ↦ ap (λ l. p.slot ∷ l) ih ∙ sym (cond-true (is_other slot p.slot) _ _ kept)
               | false ↦ ih
             ]
         | inr gone ↦
             ap (λ (l : List Held). slots_of (of_bucket slots b l)) (cond-false (is_other slot p.slot) (p ∷ others) others gone)
-            ∙ elim (bucket slots (label_of p.entry) == b) as (λ t. slots_of left ≡ filter (is_other slot) (slots_of (cond t (p ∷ rest) rest))) [
+            ∙ elim (bucket slots (label_of p.entry) == b) as
+            (λ t. slots_of left ≡ filter (is_other slot) (slots_of (cond t (p ∷ rest) rest))) [
               | true ↦ ih ∙ sym (cond-false (is_other slot p.slot) _ _ gone)
               | false ↦ ih
             ]
@@ -84,7 +86,8 @@ module _ (slots slot : ℕ) where
             let e = cond-false (i == slot) cell (leading (next_cell slots i) is) other in
             ⊎_elim
             (λ here. inr (i, inl refl, eqb-false i slot other, e ∙ here))
-            (λ (r : (j : ℕ) × Has j is × (j ≢ slot) × (leading (next_cell slots i) is ≡ next_cell slots j)). inr (r.0, inr r.1, r.2, e ∙ r.3))
+            (λ (r : (j : ℕ) × Has j is × (j ≢ slot) × (leading (next_cell slots i) is ≡ next_cell slots j)). inr
+            (r.0, inr r.1, r.2, e ∙ r.3))
             (leading_is (next_cell slots i) is)
       ]
 
@@ -115,7 +118,8 @@ module _ (slots slot : ℕ) where
             takes.others (next_cell slots j) (λ z. apart j (inr hj) (sym (z ∙ at)))
             (λ z. free (subst (λ n. Has n is) (omega (arith, z)) hj))) h.2))
         | inr other ↦
-            let at : leading cell (i ∷ is) ≡ leading (next_cell slots i) is = cond-false (i == slot) cell (leading (next_cell slots i) is) other in
+            let at : leading cell (i ∷ is) ≡ leading (next_cell slots i) is =
+            cond-false (i == slot) cell (leading (next_cell slots i) is) other in
             let takes' = subst (TakesOut st next) at takes in
             let has' : Has slot is = ⊎_elim (λ z. absurd (eqb-false i slot other (sym z))) (λ z. z) has in
             let rest = cut st next (next_cell slots i) is h.2 d.1 has'
@@ -123,7 +127,8 @@ module _ (slots slot : ℕ) where
             let apart_from : cell ≢ leading (next_cell slots i) is =
             ⊎_elim
             (λ first z. apart i (inl refl) (z ∙ first))
-            (λ (r : (j : ℕ) × Has j is × (j ≢ slot) × (leading (next_cell slots i) is ≡ next_cell slots j)) z. apart r.0 (inr r.1) (z ∙ r.3))
+            (λ (r : (j : ℕ) × Has j is × (j ≢ slot) × (leading (next_cell slots i) is ≡ next_cell slots j)) z. apart r.0 (inr r.1)
+            (z ∙ r.3))
             (leading_is (next_cell slots i) is) in
             let same : next.value cell ≡ st.value cell = takes'.others cell apart_from (apart slot has) in
             let kept : filter (is_other slot) (i ∷ is) ≡ i ∷ filter (is_other slot) is =
@@ -156,7 +161,8 @@ module _ (slots slot : ℕ) where
     before_is = leading_is (bucket_cell slots b0) chain
 
     before_high : 5 * slots ≤ before
-    before_high = ⊎_elim (λ first. omega (arith, first)) (λ (r : (j : ℕ) × Has j chain × (j ≢ slot) × (before ≡ next_cell slots j)). omega (arith, r.3)) before_is
+    before_high = ⊎_elim (λ first. omega (arith, first))
+        (λ (r : (j : ℕ) × Has j chain × (j ≢ slot) × (before ≡ next_cell slots j)). omega (arith, r.3)) before_is
 
     -- a next cell that leads to the slot is that of a slot of its bucket
     before_next : (i : ℕ) → next_cell slots i ≡ before → Has i (slots_of (of_bucket slots b0 held))
@@ -173,9 +179,11 @@ module _ (slots slot : ℕ) where
           record {
             chain = filter (is_other slot) chain;
             starts = cut st next (bucket_cell slots b0) chain c.starts
-                (distinct_permutation _ _ c.has (distinct_filtered (λ (p : Held). bucket slots (label_of p.entry) == b0) (λ (p : Held). p.slot) held distinct))
+                (distinct_permutation _ _ c.has
+                (distinct_filtered (λ (p : Held). bucket slots (label_of p.entry) == b0) (λ (p : Held). p.slot) held distinct))
                 (has_permutation _ _ slot c.has own) (λ j has z. omega (arith, lt, z)) takes;
-            has = subst (λ l. IsPermutation l (filter (is_other slot) chain)) (sym (bucket_without held b0)) (filter_permutation (is_other slot) _ _ c.has);
+            has = subst (λ l. IsPermutation l (filter (is_other slot) chain)) (sym (bucket_without held b0))
+                (filter_permutation (is_other slot) _ _ c.has);
           }
 
       there : (b : ℕ) (within : b < slots) → b0 ≢ b → IsChained slots next (without_slot slot held) b
@@ -195,7 +203,8 @@ module _ (slots slot : ℕ) where
             starts = subst (IsChain slots next c.chain) (sym same) (chain_kept slots st next c.chain _ (λ i has w.
                 takes.others (next_cell slots i)
                 (λ z. ne (one_bucket slots held b0 b i distinct (before_next i z) (in_chain b within i has)))
-                (λ z. not_own (subst (λ n. Has n (slots_of (of_bucket slots b held))) (omega (arith, z)) (in_chain b within i has)))) c.starts);
+                (λ z. not_own (subst (λ n. Has n (slots_of (of_bucket slots b held))) (omega (arith, z))
+                (in_chain b within i has)))) c.starts);
             has = subst (λ l. IsPermutation l c.chain) (sym all) c.has;
           }
 
@@ -211,6 +220,7 @@ module _ (slots slot : ℕ) where
                 (λ z. out (was_held b0 i (before_next i z)))
                 (λ z. out (subst (λ n. Has n (slots_of held)) (omega (arith, z)) (was_held b0 slot own)));
             out = λ i had gone.
-                ⊎_elim (λ eq. ap (λ n. next.value (next_cell slots n)) eq ∙ takes.gone) (λ ne. absurd (gone (slot_stays held slot i had ne)))
+                ⊎_elim (λ eq. ap (λ n. next.value (next_cell slots n)) eq ∙ takes.gone)
+                (λ ne. absurd (gone (slot_stays held slot i had ne)))
                 (cases_eq i slot);
           }

@@ -1,6 +1,6 @@
 -- A walk along a chain to a slot, and what is written where it ends.
-use Rattle.std.proofs.Common.{◌≡◌, ◌≢◌, ℕ, zero, suc, ◌+◌, ◌*◌, ◌<◌, ◌≤◌, Bool, true, false, cond, List, [], ◌∷◌, length, map, refl, sym, ap, subst, ◌∙◌}
-use Rattle.std.proofs.Common.{◌⊎◌, inl, inr, ⊎_elim, arith, nat_eq}
+use Rattle.std.proofs.Common.{◌≡◌, ◌≢◌, ℕ, ◌+◌, ◌<◌, ◌≤◌, List, [], ◌∷◌, length, sym, ap, subst, ◌∙◌}
+use Rattle.std.proofs.Common.{⊎_elim, arith, nat_eq}
 use Rattle.std.specs.Prelude.{◌==◌}
 use Rattle.std.proofs.lemmas.Bool.{cond-true, cond-false, eq-eqb, ne_eqb}
 use Rattle.std.proofs.lemmas.List.{length-map}
@@ -16,7 +16,7 @@ use Rattle.cells.specs.Shows.{Held, slots_of, of_bucket, IsChain, AreChained}
 use Rattle.cells.specs.Sight.{Sight, Writes, after}
 use Rattle.cells.specs.Chains.{Rechains, without_slot}
 use Rattle.cells.proofs.Members.{has_permutation}
-use Rattle.cells.proofs.Linking.{PutsFront, put_front, has_bucket}
+use Rattle.cells.proofs.Linking.{PutsFront, put_front}
 use Rattle.cells.proofs.Unlinking.{leading, leading_is, TakesOut, unlink}
 use Rattle.cells.proofs.Values.{value_there, value_elsewhere}
 use Rattle.cells.proofs.Sights.{after_writes}
@@ -31,20 +31,24 @@ pub in_front : (old mid new : Sight) (st : State) (front link first slot : ℕ) 
     → AreChained old.setting.slots (after old st) held → label_of e ≡ label → (Has slot (slots_of held) → ⊥)
     → Rechains old.setting.slots (after old st) (after new st) held (record { slot = slot; entry = e } ∷ held)
 in_front old mid new st front link first slot label held e s same links fronts front_is link_is first_is in_slots in_buckets chained label_is free =
-    put_front slots (after old st) (after new st) held slot e in_slots (subst (λ (l : List ℕ). bucket slots l < slots) (sym label_is) in_buckets) chained free
+    put_front slots (after old st) (after new st) held slot e in_slots
+    (subst (λ (l : List ℕ). bucket slots l < slots) (sym label_is) in_buckets) chained free
     (subst (λ (l : List ℕ). PutsFront slots (after old st) (after new st) slot (bucket slots l)) (sym label_is) puts)
   where
     slots : ℕ
     slots = old.setting.slots
 
     made : after new st ≡ with_value front (slot + 1) (with_value link first (after old st))
-    made = after_writes front (slot + 1) mid new st fronts ∙ ap (with_value front (slot + 1)) (after_writes link first s mid st links ∙ ap (with_value link first) same)
+    made = after_writes front (slot + 1) mid new st fronts
+        ∙ ap (with_value front (slot + 1)) (after_writes link first s mid st links ∙ ap (with_value link first) same)
 
     puts : PutsFront old.setting.slots (after old st) (after new st) slot (bucket old.setting.slots label)
     puts = subst (λ (x : State). PutsFront old.setting.slots (after old st) x slot (bucket old.setting.slots label)) (sym made) (record {
-      front = ap (with_value front (slot + 1) (with_value link first (after old st))).value (sym front_is) ∙ value_there front (slot + 1) (with_value link first (after old st));
+      front = ap (with_value front (slot + 1) (with_value link first (after old st))).value (sym front_is)
+          ∙ value_there front (slot + 1) (with_value link first (after old st));
       link = ap (with_value front (slot + 1) (with_value link first (after old st))).value (sym link_is)
-          ∙ value_elsewhere front (slot + 1) (with_value link first (after old st)) link (λ z. omega (arith, front_is, link_is, in_buckets, z))
+          ∙ value_elsewhere front (slot + 1) (with_value link first (after old st)) link
+          (λ z. omega (arith, front_is, link_is, in_buckets, z))
           ∙ value_there link first (after old st) ∙ first_is ∙ ap (after old st).value front_is;
       others = λ c f l. value_elsewhere front (slot + 1) (with_value link first (after old st)) c (λ z. f (z ∙ front_is))
           ∙ value_elsewhere link first (after old st) c (λ z. l (z ∙ link_is));
@@ -62,7 +66,8 @@ pub record Walks (slots slot : ℕ) (st : State) (to before done : ℕ) : Type 0
 
 module _ (slots slot : ℕ) (st : State) (to : ℕ) where
   pub walk_begins : (held : List Held) (b : ℕ) (lt : b < slots) (chained : AreChained slots st held)
-      → Has slot (slots_of (of_bucket slots b held)) → length held ≤ slots → leading slots slot (bucket_cell slots b) (chained b lt).chain ≡ to
+      → Has slot (slots_of (of_bucket slots b held)) → length held ≤ slots
+      → leading slots slot (bucket_cell slots b) (chained b lt).chain ≡ to
       → Walks slots slot st to (bucket_cell slots b) 0
   walk_begins held b lt chained has few is =
       let c = chained b lt in
@@ -71,7 +76,13 @@ module _ (slots slot : ℕ) (st : State) (to : ℕ) where
       let d = length-map part (λ (p : Held). p.slot) in
       let f = length-filter (λ (p : Held). bucket slots (label_of p.entry) == b) held in
       let m = count_by-le-length (λ (p : Held). bucket slots (label_of p.entry) == b) held in
-      record { rest = c.chain; chain = c.starts; has = has_permutation _ _ slot c.has has; long = omega (arith, few, a, d, f, m); leads = is }
+      record {
+        rest = c.chain;
+        chain = c.starts;
+        has = has_permutation _ _ slot c.has has;
+        long = omega (arith, few, a, d, f, m);
+        leads = is;
+      }
 
   -- a word that leads nowhere is not met
   pub walk_goes : (before done : ℕ) → Walks slots slot st to before done → ((i : ℕ) → i < slots → st.value before ≡ i + 1 → ⊥) → ⊥
@@ -95,7 +106,8 @@ module _ (slots slot : ℕ) (st : State) (to : ℕ) where
       → Walks slots slot st to (next_cell slots member) (done + 1)
   walk_on before done member w is other = at w.rest w.chain w.has w.long w.leads
     where
-      at : (rest : List ℕ) → IsChain slots st rest (st.value before) → Has slot rest → length rest + done ≤ slots → leading slots slot before rest ≡ to
+      at : (rest : List ℕ) → IsChain slots st rest (st.value before) → Has slot rest → length rest + done ≤ slots
+          → leading slots slot before rest ≡ to
           → Walks slots slot st to (next_cell slots member) (done + 1)
       at [] h has long leads = absurd has
       at (i ∷ is') h has long leads =
@@ -132,7 +144,8 @@ taken_out old mid new s st before link next slot held e b same passes ends link_
     (subst (TakesOut old.setting.slots slot (after old st) (after new st)) before_is takes)
   where
     made : after new st ≡ with_value link 0 (with_value before next (after old st))
-    made = after_writes link 0 mid new st ends ∙ ap (with_value link 0) (after_writes before next s mid st passes ∙ ap (with_value before next) same)
+    made = after_writes link 0 mid new st ends
+        ∙ ap (with_value link 0) (after_writes before next s mid st passes ∙ ap (with_value before next) same)
 
     apart : before ≢ link
     apart z =
@@ -147,7 +160,8 @@ taken_out old mid new s st before link next slot held e b same passes ends link_
     takes = subst (λ (x : State). TakesOut old.setting.slots slot (after old st) x before) (sym made) (record {
       past = value_elsewhere link 0 (with_value before next (after old st)) before apart ∙ value_there before next (after old st) ∙ next_is
           ∙ ap (after old st).value link_is;
-      gone = ap (with_value link 0 (with_value before next (after old st))).value (sym link_is) ∙ value_there link 0 (with_value before next (after old st));
+      gone = ap (with_value link 0 (with_value before next (after old st))).value (sym link_is)
+          ∙ value_there link 0 (with_value before next (after old st));
       others = λ c f l. value_elsewhere link 0 (with_value before next (after old st)) c (λ z. l (z ∙ link_is))
           ∙ value_elsewhere before next (after old st) c f;
     })

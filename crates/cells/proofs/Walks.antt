@@ -1,17 +1,15 @@
 -- Looks for a label along the chain of its bucket, and for an empty slot from a slot on.
-use Rattle.std.proofs.Common.{◌≡◌, ◌≢◌, ℕ, zero, suc, ◌+◌, ◌-◌, ◌%◌, ◌<◌, ◌≤◌, Bool, true, false, List, [], ◌∷◌, Option, Some, None, length, refl, sym, ap, subst, ◌∙◌, ◌⊎◌, below_more, inl, inr, arith}
+use Rattle.std.proofs.Common.{◌≡◌, ◌≢◌, ℕ, ◌+◌, ◌-◌, ◌%◌, ◌<◌, ◌≤◌, List, [], ◌∷◌, Some, None, length, sym, ap, subst, ◌∙◌, ◌⊎◌, below_more, inl, inr, arith}
 use Rattle.std.proofs.Math.Nat.{mod-eq_of_lt, add-mod_left}
 use Rattle.std.proofs.lemmas.Bool.{cases_order}
 use Rattle.library.specs.declared.library.Ranked.{Ranked}
-use Rattle.library.specs.Edits.{found}
 use Rattle.ranges.specs.Ranges.{Has}
 use Rattle.cells.specs.State.{State}
 use Rattle.cells.specs.Slots.{bucket, name_cell, bucket_cell, next_cell}
-use Rattle.cells.specs.Shows.{IsNamed, IsChain, IsEmpty, Shows}
+use Rattle.cells.specs.Shows.{IsNamed, IsChain, Shows}
 use Rattle.cells.specs.Sight.{Sight, Matches, Views, Looks, Reads, after}
-use Rattle.cells.specs.Lookups.{ForEach, IsFoundAt, Finds, FindsFree, IsFirstEmpty}
+use Rattle.cells.specs.Lookups.{ForEach, Finds, FindsFree}
 use Rattle.cells.proofs.Sights.{for_each_later, views_back, after_looks}
-use Rattle.cells.proofs.Settings.{same_slots}
 use Rattle.cells.proofs.Holders.{found_at, found_nowhere, in_chain, chain_short, empty_unnamed, all_full}
 
 -- ---- along a chain

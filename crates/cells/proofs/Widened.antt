@@ -13,7 +13,7 @@ use Rattle.library.specs.declared.library.Ranked.{Ranked}
 use Rattle.ranges.specs.Ranges.{Range, Has, Within}
 use Rattle.cells.specs.State.{State, HasBody}
 use Rattle.cells.specs.Slots.{next_cell}
-use Rattle.cells.specs.Shows.{Held, slots_of, IsNamed, IsStoredAs, AreStoredAs, HoldsProof, Holds, IsEmpty, IsChain, IsChained, AreChained, Shows}
+use Rattle.cells.specs.Shows.{Held, slots_of, IsNamed, IsStoredAs, AreStoredAs, HoldsProof, Holds, IsEmpty, IsChain, IsChained, AreChained, Shows, ShowsHeld}
 
 module _ (slots : ℕ) (value : ℕ → ℕ) (ranges more : List Range) (within : Within ranges more) where
   abbrev few : State
@@ -67,18 +67,22 @@ module _ (slots : ℕ) (value : ℕ → ℕ) (ranges more : List Range) (within 
   chain_widened [] word h = h
   chain_widened (i ∷ is) word h = (h.0, h.1, chain_widened is (value (next_cell slots i)) h.2)
 
-  pub shows_widened : (lib : List Ranked) → Shows slots few lib → Shows slots many lib
-  shows_widened lib h =
-      record {
-        held = h.held;
-        library = h.library;
-        holds = All-weaker (λ p. Holds slots few lib p.slot p.entry) (λ p. Holds slots many lib p.slot p.entry)
-            (λ p f. holds_widened lib p.slot p.entry f) h.held h.holds;
-        apart = h.apart;
-        others = λ i lt. others_widened i (h.others i lt);
-        chained = λ b lt. let c = h.chained b lt in record { chain = c.chain; starts = chain_widened c.chain _ c.starts; has = c.has };
-      }
+  -- and the same assertions are held by the same slots
+  pub shows_widened : (lib : List Ranked) (held : List Held) → ShowsHeld slots few lib held → ShowsHeld slots many lib held
+  shows_widened lib held (h, is) = (
+    record {
+      held = h.held;
+      library = h.library;
+      holds = All-weaker (λ p. Holds slots few lib p.slot p.entry) (λ p. Holds slots many lib p.slot p.entry)
+          (λ p f. holds_widened lib p.slot p.entry f) h.held h.holds;
+      apart = h.apart;
+      others = λ i lt. others_widened h i (h.others i lt);
+      chained = λ b lt. let c = h.chained b lt in record { chain = c.chain; starts = chain_widened c.chain _ c.starts; has = c.has };
+    },
+    is,
+  )
     where
-      others_widened : (i : ℕ) → Has i (slots_of h.held) ⊎ IsEmpty slots few i → Has i (slots_of h.held) ⊎ IsEmpty slots many i
-      others_widened i (inl f) = inl f
-      others_widened i (inr f) = inr (empty_widened i f)
+      others_widened : (g : Shows slots few lib) (i : ℕ) → Has i (slots_of g.held) ⊎ IsEmpty slots few i
+          → Has i (slots_of g.held) ⊎ IsEmpty slots many i
+      others_widened g i (inl f) = inl f
+      others_widened g i (inr f) = inr (empty_widened i f)

@@ -1,5 +1,5 @@
 -- What becomes of a state where an assertion is put into an empty slot.
-use Rattle.std.specs.Prelude.{◌≡◌, ◌≢◌, ◌<◌, ◌≤◌, ◌⊎◌, ℕ, ◌+◌, ◌-◌, ◌*◌, List, [], false, nat_eq}
+use Rattle.std.specs.Prelude.{◌≡◌, ◌≢◌, ◌<◌, ◌≤◌, ◌⊎◌, ℕ, ◌+◌, ◌-◌, ◌*◌, List, [], ◌∷◌, ◌++◌, false, nat_eq}
 use Rattle.mmsyntax.specs.declared.statement.Assertion.{Assertion}
 use Rattle.mmsyntax.specs.declared.statement.Kind.{Kind}
 use Rattle.mmsyntax.specs.declared.statement.Kind.TheVariants.{Theorem, Axiom}
@@ -12,7 +12,7 @@ use Rattle.bodystore.specs.declared.stored.StoredStep.TheVariants.{Slot}
 use Rattle.bodystore.specs.Bodies.{label_body, statement_of, statement_body, proof_body}
 use Rattle.cells.specs.State.{State, HasBody}
 use Rattle.cells.specs.Slots.{name_cell, statement_cell, proof_cell, rank_cell, citers_cell}
-use Rattle.cells.specs.Shows.{IsEmpty, AreStoredAs, Shows}
+use Rattle.cells.specs.Shows.{Held, IsEmpty, AreStoredAs, ShowsHeld}
 
 -- the slots that the steps cite, each once
 pub record AreCitedSlots (steps : List StoredStep) (slots : List ℕ) : Type 0 where
@@ -36,9 +36,10 @@ pub record MayFill (slots : ℕ) (st : State) (lib : List Ranked) (i : ℕ) (a :
   pub new : has lib a.label ≡ false
   pub stored : AreStoredAs slots st a.proof kept
 
--- with it the state shows the library with this assertion behind the others
-abbrev pub Fills : ℕ → State → List Ranked → ℕ → Assertion → Type 0
-Fills slots next lib rank a = Shows slots next (added lib rank a)
+-- with it the state shows the library with this assertion behind the others: the slot holds it, and the others are held where they were
+abbrev pub Fills : ℕ → State → List Ranked → List Held → ℕ → ℕ → Assertion → Type 0
+Fills slots next lib held i rank a =
+    ShowsHeld slots next (added lib rank a) (held ++ record { slot = i; entry = record { rank = rank; assertion = a } } ∷ [])
 
 -- an assertion that has a label, with steps that cite slots, at least one where it is a theorem, and none where it is an axiom
 pub record IsFillable (slots : ℕ) (a : Assertion) (kept : List StoredStep) : Type 0 where

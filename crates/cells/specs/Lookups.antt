@@ -1,5 +1,5 @@
 -- What the calls that read a library's cells answer, for every state that may be under the run.
-use Rattle.std.specs.Prelude.{◌≡◌, ◌≢◌, ◌<◌, ◌≤◌, ℕ, ◌+◌, ◌%◌, List, Option, Some, None, Bool, true, false, length, All, Contains}
+use Rattle.std.specs.Prelude.{◌≡◌, ◌≢◌, ◌<◌, ◌≤◌, ℕ, ◌+◌, ◌%◌, List, [], ◌∷◌, Option, Some, None, Bool, true, false, length, All, Contains}
 use Rattle.std.specs.List.{list_any}
 use Rattle.mmsyntax.specs.declared.statement.Step.{Step}
 use Rattle.mmsyntax.specs.declared.statement.Step.TheVariants.{Float, Hyp, Cite}
@@ -10,16 +10,21 @@ use Rattle.bodystore.specs.declared.stored.StoredStep.TheVariants.{Slot}
 use Rattle.ranges.specs.Ranges.{Has}
 use Rattle.cells.specs.State.{State, HasBody}
 use Rattle.cells.specs.Slots.{name_cell}
-use Rattle.cells.specs.Shows.{Holds, IsEmpty, AreStoredAs}
-use Rattle.cells.specs.Sight.{Sight, Views, after}
+use Rattle.cells.specs.Shows.{IsNamed, Holds, IsEmpty, IsStoredAs, AreStoredAs}
+use Rattle.cells.specs.Sight.{Sight, Matches, Views, after}
 
 -- what is so of every state that may be under the run and of every library that verifies and that it shows with what the run keeps aside
 abbrev pub ForEach : Sight → (State → List Ranked → Type 0) → Type 0
 ForEach s told = (st : State) (lib : List Ranked) → Views s st lib → told (after s st) lib
 
--- and of every assertion that the slot holds there
+-- and of every assertion of the library that the slot holds there
 abbrev pub ForEachHeld : Sight → ℕ → (State → List Ranked → Ranked → Type 0) → Type 0
-ForEachHeld s i told = ForEach s (λ st lib. (e : Ranked) → Holds s.setting.slots st lib i e → told st lib e)
+ForEachHeld s i told = ForEach s (λ st lib. (e : Ranked) → Contains lib e → Holds s.setting.slots st lib i e → told st lib e)
+
+-- a label of bytes that the slot has in some state that may be the one under the run is this one
+abbrev pub IsNameAt : Sight → ℕ → List ℕ → Type 0
+IsNameAt s i made =
+    (st : State) (label : List ℕ) → Matches s st → All (λ byte. byte < 256) label → IsNamed s.setting.slots (after s st) i label → made ≡ label
 
 -- the slot holds the assertion of the library that has the label
 pub record IsFoundAt (slots : ℕ) (st : State) (lib : List Ranked) (label : List ℕ) (i : ℕ) : Type 0 where
@@ -58,6 +63,11 @@ pub record AreWordsOf (st : State) (cell : ℕ) (made : List ℕ) : Type 0 where
 -- the slots that the steps cite are slots
 abbrev pub AreWithin : ℕ → List StoredStep → Type 0
 AreWithin slots kept = (i : ℕ) → Has (Slot i) kept → i < slots
+
+-- the step with a cited label as a slot that has it; none where it cites a label that no assertion has
+abbrev pub StoresStep : Sight → Step → Option StoredStep → Type 0
+StoresStep s step None = ForEach s (λ st lib. is_of_unknown lib step ≡ true)
+StoresStep s step (Some kept) = AreWithin s.setting.slots (kept ∷ []) × ForEach s (λ st lib. IsStoredAs (IsNamed s.setting.slots st) step kept)
 
 -- the steps with each cited label as a slot that has it; none where some step cites a label that no assertion has
 abbrev pub Resolves : Sight → List Step → Option (List StoredStep) → Type 0

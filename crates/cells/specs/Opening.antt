@@ -1,20 +1,30 @@
 -- What opening a database in plain cells gives, and when it is refused.
-use Rattle.std.specs.Prelude.{◌≡◌, ◌<◌, ◌≤◌, ℕ, [], length}
+use Rattle.std.specs.Prelude.{◌≡◌, ◌<◌, ◌≤◌, ℕ, suc, List, [], ◌∷◌, length, take}
 use Rattle.mmsyntax.specs.Tables.{Contents}
+use Rattle.library.specs.declared.library.Ranked.{Ranked}
 use Rattle.library.specs.Library.{opening}
 use Rattle.cells.specs.declared.opening.OpenError.{OpenError}
 use Rattle.cells.specs.declared.opening.OpenError.TheVariants.{TooMany, StoreFull, NoMemory}
 use Rattle.cells.specs.declared.plain.PlainCells.{PlainCells}
 use Rattle.cells.specs.Plain.{plain_state, bodies_length}
-use Rattle.cells.specs.Shows.{Shows}
+use Rattle.cells.specs.Shows.{Held, ShowsHeld}
 
--- the cells show the opening library, and nothing was written since
+-- assertions, each with a slot: the slots from the slot i on, in order
+abbrev pub held_from : ℕ → List Ranked → List Held
+held_from i [] = []
+held_from i (e ∷ es) = record { slot = i; entry = e } ∷ held_from (suc i) es
+
+-- the cells show the opening library, the assertion k in the slot k, both counted from 0; and nothing was written since
 pub record Opens (db : Contents) (slots room : ℕ) (made : PlainCells) : Type 0 where
   pub prelude : made.prelude ≡ db.prelude
   pub slots_are : made.slots ≡ slots
   pub room_is : made.room ≡ room
   pub kept : made.log.items ≡ []
-  pub shows : Shows slots (plain_state made.values.items made.store.items made.ranges.items) (opening db)
+  pub shows : ShowsHeld slots (plain_state made.values.items made.store.items made.ranges.items) (opening db) (held_from 0 (opening db))
+
+-- the prelude, with the first so many assertions
+abbrev pub front : ℕ → Contents → Contents
+front k db = record db { assertions = take k db.assertions }
 
 -- more assertions than slots; or bodies of more words than the room
 abbrev pub Refuses : Contents → ℕ → ℕ → OpenError → Type 0

@@ -95,3 +95,7 @@ module _ (slots : ℕ) (st : State) where
     pub apart : Distinct nat_eq (slots_of held)
     pub others : (i : ℕ) → i < slots → Has i (slots_of held) ⊎ IsEmpty i
     pub chained : AreChained held
+
+-- the state shows the library, and these hold its assertions, in its order
+abbrev pub ShowsHeld : ℕ → State → List Ranked → List Held → Type 0
+ShowsHeld slots st lib held = (shown : Shows slots st lib) × (shown.held ≡ held)

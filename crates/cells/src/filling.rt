@@ -3,9 +3,9 @@
 ghost use Rattle.std.specs.Prelude.{◌≡◌, ◌≢◌, ◌<◌, [], List, false, IfOk};
 ghost use Rattle.mmsyntax.specs.declared.statement.Kind.TheVariants.{Theorem};
 ghost use Rattle.cells.specs.State.{State, HasBody, with_value};
-ghost use Rattle.cells.specs.Slots.{cell_count, is_ranged};
+ghost use Rattle.cells.specs.Slots.{cell_count, is_ranged, proof_cell};
 ghost use Rattle.cells.specs.Sight.{Sight, Matches, Views, Onward, after};
-ghost use Rattle.cells.specs.Filling.{MayFill, Fills, IsFillable, LaysDown};
+ghost use Rattle.cells.specs.Filling.{MayFill, Fills, IsFillable, LaysDown, LaysProof};
 
 use crate::cells::Cells;
 use crate::chains::put_in;
@@ -35,7 +35,7 @@ pub fn fill<C: Cells>(
     requires slot { slot < (C.sight cells.old).setting.slots }
     requires fillable { IsFillable (C.sight cells.old).setting.slots assertion.now steps.now }
     ensures onward { Onward (C.sight cells.old) (C.sight cells.new) }
-    ensures ok { IfOk result (λ _. (st : State) (lib : List _) → Matches (C.sight cells.new) st → Views (C.sight cells.old) st lib → MayFill (C.sight cells.old).setting.slots (after (C.sight cells.old) st) lib slot assertion.now steps.now → Fills (C.sight cells.old).setting.slots (after (C.sight cells.new) st) lib rank assertion.now) }
+    ensures ok { IfOk result (λ _. (st : State) (lib : List _) → Matches (C.sight cells.new) st → (shown : Views (C.sight cells.old) st lib) → MayFill (C.sight cells.old).setting.slots (after (C.sight cells.old) st) lib slot assertion.now steps.now → Fills (C.sight cells.old).setting.slots (after (C.sight cells.new) st) lib shown.shows.held slot rank assertion.now) }
 {
     lay_down(alloc, cells, slot, rank, assertion, steps)?;
     let cited = cited_slots(alloc, steps)?;
@@ -63,12 +63,33 @@ fn lay_down<C: Cells>(
     put_body(cells, name_cell(slot), label.as_slice()).map_err(Halt::Stopped)?;
     let statement = encode_statement(alloc, assertion)?;
     put_body(cells, statement_cell(slot), statement.as_slice()).map_err(Halt::Stopped)?;
-    if let Kind::Theorem = assertion.kind {
-        let proof = encode_proof(alloc, steps)?;
-        put_body(cells, proof_cell(slot), proof.as_slice()).map_err(Halt::Stopped)?;
-    }
+    put_proof(alloc, cells, slot, assertion.kind, steps)?;
     put(cells, rank_cell(slot), rank as u64).map_err(Halt::Stopped)?;
     put(cells, citers_cell(slot), 0).map_err(Halt::Stopped)
+}
+
+/// Stages the steps of a theorem and has the proof cell of its slot name them; nothing where the assertion is an axiom.
+fn put_proof<C: Cells>(
+    alloc: Global,
+    cells: &mut C,
+    slot: usize,
+    kind: Kind,
+    steps: &[StoredStep],
+) -> Result<(), Halt<C::Stop>>
+    requires slot { slot < (C.sight cells.old).setting.slots }
+    requires some { kind ≡ Theorem → steps.now ≢ [] }
+    ensures onward { Onward (C.sight cells.old) (C.sight cells.new) }
+    ensures ok { IfOk result (λ _. (st : State) → Matches (C.sight cells.new) st → LaysProof (after (C.sight cells.old) st) (after (C.sight cells.new) st) slot kind steps.now) }
+    ensures others { IfOk result (λ _. (st : State) (c : _) → c ≢ proof_cell slot → (after (C.sight cells.new) st).value c ≡ (after (C.sight cells.old) st).value c) }
+{
+    let _slots = slot_count(cells);
+    match kind {
+        Kind::Axiom => Ok(()),
+        Kind::Theorem => {
+            let proof = encode_proof(alloc, steps)?;
+            put_body(cells, proof_cell(slot), proof.as_slice()).map_err(Halt::Stopped)
+        }
+    }
 }
 
 /// Reads a cell and writes a value to it.

@@ -11,7 +11,6 @@ use crate::places::{bucket, bucket_cell, link, name_cell, next_cell, slot_count}
 use crate::words::{has_words, range_of};
 
 /// Whether the slot has the label.
-#[tactic(auto, using(crate::proofs::Sights::looks_trans))]
 pub(crate) fn has_label<C: Cells>(cells: &mut C, slot: usize, label: &[u8]) -> Result<bool, C::Stop>
     requires { slot < (C.sight cells.old).setting.slots }
     ensures looks { Looks (C.sight cells.old) (C.sight cells.new) }

@@ -3,15 +3,14 @@
 ghost use Rattle.std.specs.Prelude.{◌≡◌, ◌≢◌, ◌≤◌, ◌<◌, ◌*◌, ◌+◌, ◌↔◌, [], length, IfOk, IfErr, IsTrue, MatchOption};
 ghost use Rattle.proofcheck.specs.Databases.{AllCheck};
 ghost use Rattle.cells.specs.Plain.{body_length, bodies_length};
-ghost use Rattle.cells.specs.Opening.{Opens, Refuses};
+ghost use Rattle.bodystore.specs.Bodies.{expressions_words};
+ghost use Rattle.cells.specs.Opening.{Opens, front, Refuses};
 
-use crate::cells::Cells;
 use crate::filling::fill;
-use crate::halt::Halt;
-use crate::plain::{PlainCells, PlainStop};
+use crate::plain::PlainCells;
 use crate::reading::resolve;
-use mmstatement::{Assertion, Database};
-use std::alloc::{AllocError, AllocFailed, Global};
+use mmstatement::{Assertion, Database, Expr};
+use std::alloc::{AllocError, Global};
 
 /// Why a database is not opened as a library in cells.
 #[derive(Clone, Copy, Debug, PartialEq, Eq)]
@@ -64,27 +63,32 @@ impl PlainCells {
             return Err(OpenError::StoreFull);
         }
         let mut cells = PlainCells::empty(alloc, database.prelude().copy(alloc)?, slots, room)?;
-        for (slot, assertion) in assertions.iter().enumerate() {
-            put_next(alloc, &mut cells, slot, assertion)?;
+        for slot in 0..assertions.len() {
+            put_next(alloc, &mut cells, database, slot)?;
         }
         Ok(cells)
     }
 }
 
-/// Puts the next assertion of a database into its slot.
+/// Puts the next assertion of a database into its slot: that many stand in their slots.
 fn put_next(
     alloc: Global,
     cells: &mut PlainCells,
+    database: &Database,
     slot: usize,
-    assertion: &Assertion,
-) -> Result<(), OpenError>
-    requires { slot < cells.old.slots }
+) -> Result<(), AllocError>
+    requires next { slot < length database.now.assertions }
+    requires fits { length database.now.assertions ≤ cells.old.slots }
+    requires checks { AllCheck database.now }
+    requires opened { Opens (front slot database.now) cells.old.slots cells.old.room cells.old }
+    ensures { IfOk result (λ _. Opens (front (slot + 1) database.now) cells.old.slots cells.old.room cells.new) }
 {
+    let assertion = &database.assertions()[slot];
     let rank = 100 * (slot as u32 + 1);
     let steps = match resolve(alloc, cells, assertion.proof.as_slice()) {
         Ok(Some(steps)) => steps,
         Ok(None) => unreachable!(),
-        Err(_) => return Err(OpenError::NoMemory),
+        Err(_) => return Err(AllocError),
     };
     match fill(alloc, cells, slot, rank, assertion, steps.as_slice()) {
         Ok(()) => {
@@ -92,7 +96,7 @@ fn put_next(
             Ok(())
         }
         // the room was tested, so it is memory that ran out
-        Err(_) => Err(OpenError::NoMemory),
+        Err(_) => Err(AllocError),
     }
 }
 
@@ -114,17 +118,25 @@ fn fit_into(assertions: &[Assertion], room: usize) -> bool
 fn room_behind(assertion: &Assertion, room: usize) -> Option<usize>
     ensures { MatchOption result (room < body_length assertion.now) (λ left. left + body_length assertion.now ≡ room) }
 {
-    let label = assertion.label.as_slice().len();
-    let pairs = assertion.pairs.as_slice().len();
-    let steps = assertion.proof.as_slice().len();
-    let mut left = room
-        .checked_sub(label)?
-        .checked_sub(pairs)?
-        .checked_sub(steps)?
+    let left = room
+        .checked_sub(assertion.label.as_slice().len())?
+        .checked_sub(assertion.pairs.as_slice().len())?
+        .checked_sub(assertion.proof.as_slice().len())?
         .checked_sub(3)?;
-    for hyp in assertion.hyps.as_slice() {
-        left = left.checked_sub(1)?.checked_sub(hyp.as_slice().len())?;
-    }
-    left.checked_sub(1)?
+    room_behind_expressions(assertion.hyps.as_slice(), left)?
+        .checked_sub(1)?
         .checked_sub(assertion.statement.as_slice().len())
+}
+
+/// What is left of the room behind expressions, each with its length; none where they don't fit.
+fn room_behind_expressions(expressions: &[Expr], room: usize) -> Option<usize>
+    ensures { MatchOption result (room < length (expressions_words expressions.now)) (λ left. left + length (expressions_words expressions.now) ≡ room) }
+{
+    let mut left = room;
+    for expression in expressions {
+        left = left
+            .checked_sub(1)?
+            .checked_sub(expression.as_slice().len())?;
+    }
+    Some(left)
 }

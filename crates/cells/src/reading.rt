@@ -4,18 +4,18 @@ ghost use Rattle.std.specs.Prelude.{◌≡◌, ◌<◌, IfOk};
 ghost use Rattle.mmstatement.specs.Frames.{frame};
 ghost use Rattle.library.specs.Library.{label_of};
 ghost use Rattle.library.specs.Edits.{citers};
-ghost use Rattle.bodystore.specs.Bodies.{statement_of};
+ghost use Rattle.bodystore.specs.Bodies.{kind_word, statement_of};
 ghost use Rattle.std.specs.Option.{option_map};
 ghost use Rattle.cells.specs.State.{State};
 ghost use Rattle.cells.specs.Shows.{AreStoredAs, IsStoredAs, IsNamed};
 ghost use Rattle.cells.specs.Sight.{Looks, Matches, after};
-ghost use Rattle.cells.specs.Lookups.{ForEachHeld, IfFull, Resolves, IsShortLabelled};
+ghost use Rattle.cells.specs.Lookups.{ForEachHeld, IfFull, IsNameAt, StoresStep, Resolves, IsShortLabelled};
 
 use crate::cells::Cells;
 use crate::finding::find;
 use crate::halt::Halt;
 use crate::places::{citers_cell, name_cell, proof_cell, rank_cell, slot_count, statement_cell};
-use crate::words::{range_of, words_of};
+use crate::words::{first_word, words_of};
 use bodystore::{Statement, StoredStep, decode_label, decode_proof, decode_statement};
 use library::Ranked;
 use mmstatement::{Assertion, Frame, Kind, Label, Prelude, Sequence, Step, frame_of};
@@ -60,15 +60,17 @@ pub fn kind<C: Cells>(cells: &mut C, slot: usize) -> Result<Kind, C::Stop>
     ensures ok { IfOk result (λ made. ForEachHeld (C.sight cells.new) slot (λ st lib e. made ≡ e.assertion.kind)) }
 {
     let _slots = slot_count(cells);
-    let word = cells.read(statement_cell(slot))?;
-    if word == 0 {
-        return Ok(Kind::Axiom);
+    Ok(kind_of(first_word(cells, statement_cell(slot))?))
+}
+
+/// The kind that a word stands for.
+fn kind_of(word: u64) -> Kind
+    ensures { (k : _) → kind_word k ≡ word → result ≡ k }
+{
+    match word {
+        0 => Kind::Axiom,
+        _ => Kind::Theorem,
     }
-    let range = range_of(cells, word);
-    if range.len == 0 || cells.load(range, 0) == 0 {
-        return Ok(Kind::Axiom);
-    }
-    Ok(Kind::Theorem)
 }
 
 /// The rank of the assertion in the slot.
@@ -94,6 +96,15 @@ pub fn label<C: Cells>(alloc: Global, cells: &mut C, slot: usize) -> Result<Labe
     requires { slot < (C.sight cells.old).setting.slots }
     ensures looks { Looks (C.sight cells.old) (C.sight cells.new) }
     ensures ok { IfOk result (λ made. ForEachHeld (C.sight cells.new) slot (λ st lib e. made ≡ label_of e)) }
+{
+    name_of(alloc, cells, slot)
+}
+
+/// The label that the slot's name cell names, if it names one.
+fn name_of<C: Cells>(alloc: Global, cells: &mut C, slot: usize) -> Result<Label, Halt<C::Stop>>
+    requires { slot < (C.sight cells.old).setting.slots }
+    ensures looks { Looks (C.sight cells.old) (C.sight cells.new) }
+    ensures ok { IfOk result (λ made. IsNameAt (C.sight cells.new) slot made) }
 {
     let _slots = slot_count(cells);
     let words = words_of(alloc, cells, name_cell(slot))?;
@@ -160,14 +171,14 @@ fn named_step<C: Cells>(
     ensures looks { Looks (C.sight cells.old) (C.sight cells.new) }
     ensures ok { IfOk result (λ made. (st : State) (x : _) → Matches (C.sight cells.new) st → IsShortLabelled x → IsStoredAs (IsNamed slots (after (C.sight cells.new) st)) x step → made ≡ x) }
 {
-    Ok(match step {
-        StoredStep::Float(place) => Step::Float(place),
-        StoredStep::Hyp(place) => Step::Hyp(place),
+    match step {
+        StoredStep::Float(place) => Ok(Step::Float(place)),
+        StoredStep::Hyp(place) => Ok(Step::Hyp(place)),
         StoredStep::Slot(slot) if (slot as usize) < slots => {
-            Step::Cite(label(alloc, cells, slot as usize)?)
+            Ok(Step::Cite(name_of(alloc, cells, slot as usize)?))
         }
-        StoredStep::Slot(_) => Step::Cite(Sequence::from_vec(Vec::new(alloc))),
-    })
+        StoredStep::Slot(_) => Ok(Step::Cite(Sequence::from_vec(Vec::new(alloc)))),
+    }
 }
 
 /// The assertion in the slot.
@@ -227,15 +238,27 @@ pub fn resolve<C: Cells>(
 {
     let mut kept = Vec::with_capacity(alloc, steps.len())?;
     for step in steps {
-        let stored = match step {
-            Step::Float(place) => StoredStep::Float(*place),
-            Step::Hyp(place) => StoredStep::Hyp(*place),
-            Step::Cite(label) => match find(cells, label.as_slice()).map_err(Halt::Stopped)? {
-                Some(slot) => StoredStep::Slot(slot as u32),
-                None => return Ok(None),
-            },
+        let Some(stored) = stored_step(cells, step).map_err(Halt::Stopped)? else {
+            return Ok(None);
         };
         kept.push(stored)?;
     }
     Ok(Some(kept))
+}
+
+/// The step with a cited label as the slot that has it; none where it cites a label that no assertion has.
+#[tactic(auto, using(crate::proofs::Resolving::float_stored, crate::proofs::Resolving::hyp_stored))]
+fn stored_step<C: Cells>(cells: &mut C, step: &Step) -> Result<Option<StoredStep>, C::Stop>
+    ensures looks { Looks (C.sight cells.old) (C.sight cells.new) }
+    ensures ok { IfOk result (λ kept. StoresStep (C.sight cells.new) step.now kept) }
+{
+    let _slots = slot_count(cells);
+    match step {
+        Step::Float(place) => Ok(Some(StoredStep::Float(*place))),
+        Step::Hyp(place) => Ok(Some(StoredStep::Hyp(*place))),
+        Step::Cite(label) => match find(cells, label.as_slice())? {
+            Some(slot) => Ok(Some(StoredStep::Slot(slot as u32))),
+            None => Ok(None),
+        },
+    }
 }

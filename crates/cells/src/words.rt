@@ -1,6 +1,6 @@
 //! The words of bodies that cells name.
 
-ghost use Rattle.std.specs.Prelude.{◌≡◌, ◌≢◌, ◌<◌, ◌+◌, ◌*◌, ◌^◌, ◌↔◌, ℕ, List, [], true, IsTrue, IfOk, IfErr, length};
+ghost use Rattle.std.specs.Prelude.{◌≡◌, ◌≢◌, ◌<◌, ◌+◌, ◌*◌, ◌^◌, ◌↔◌, ℕ, List, [], ◌∷◌, true, IsTrue, IfOk, IfErr, length};
 ghost use Rattle.ranges.specs.Ranges.{Names};
 ghost use Rattle.cells.specs.State.{State, HasBody};
 ghost use Rattle.cells.specs.Slots.{cell_count, is_ranged};
@@ -44,7 +44,6 @@ pub(crate) fn has_words<C: Cells>(cells: &mut C, range: Range, text: &[u8]) -> b
 /// # Errors
 ///
 /// Want of memory.
-#[tactic(auto, using(crate::proofs::Sights::looks_trans))]
 fn range_words<C: Cells>(alloc: Global, cells: &mut C, range: Range) -> Result<Vec<u64>, AllocError>
     requires { (words : List ℕ) × Knows (C.sight cells.old) range words }
     ensures looks { Looks (C.sight cells.old) (C.sight cells.new) }
@@ -58,7 +57,6 @@ fn range_words<C: Cells>(alloc: Global, cells: &mut C, range: Range) -> Result<V
 }
 
 /// The words of the body that a range cell names; none where it holds 0.
-#[tactic(auto, using(crate::proofs::Sights::looks_trans))]
 pub(crate) fn words_of<C: Cells>(
     alloc: Global,
     cells: &mut C,
@@ -75,4 +73,22 @@ pub(crate) fn words_of<C: Cells>(
     }
     let range = range_of(cells, word);
     Ok(range_words(alloc, cells, range)?)
+}
+
+/// The first word of the body that a range cell names; 0 where it holds 0.
+pub(crate) fn first_word<C: Cells>(cells: &mut C, cell: usize) -> Result<u64, C::Stop>
+    requires cell { cell < cell_count (C.sight cells.old).setting.slots }
+    requires ranged { is_ranged (C.sight cells.old).setting.slots cell ≡ true }
+    ensures looks { Looks (C.sight cells.old) (C.sight cells.new) }
+    ensures ok { IfOk result (λ first. (st : State) (w : ℕ) (more : List ℕ) → Matches (C.sight cells.new) st → HasBody (after (C.sight cells.new) st) cell (w ∷ more) → first ≡ w) }
+{
+    let word = cells.read(cell)?;
+    if word == 0 {
+        return Ok(0);
+    }
+    let range = range_of(cells, word);
+    if range.len == 0 {
+        return Ok(0);
+    }
+    Ok(cells.load(range, 0))
 }

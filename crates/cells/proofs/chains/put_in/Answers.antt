@@ -1,4 +1,4 @@
-use Rattle.std.proofs.Common.{◌≡◌, ◌<◌, ℕ, sym, ap, subst, ◌∙◌, arith}
+use Rattle.std.proofs.Common.{◌≡◌, ◌<◌, ℕ, ap, subst, ◌∙◌, arith}
 use Rattle.cells.specs.Slots.{bucket}
 use Rattle.cells.specs.State.{State}
 use Rattle.cells.proofs.Sights.{onward_trans, writes_onward, looks_trans, matches_back, after_looks}
@@ -29,6 +29,7 @@ returns-clause-ok g c st held e m chained label_is free =
     c.bucket.ensures.value ∙ ap (λ (n : ℕ). bucket n c.args.label.now) slots_are in
     in_front old _ _ st _ _ _ c.args.slot c.args.label.now held e _ (after_looks _ _ st both) c.write.ensures c.write-2.ensures
     (omega (arith, c.bucket_cell-front.ensures, slots_are, bucket_is)) (omega (arith, c.next_cell-2.ensures, slots_are))
-    (first.value st (matches_back _ _ st (onward_trans _ _ _ second.onward wrote) m) ∙ ap (λ (x : State). x.value c.bucket_cell-front.result) (after_looks _ _ st first.looks))
+    (first.value st (matches_back _ _ st (onward_trans _ _ _ second.onward wrote) m)
+    ∙ ap (λ (x : State). x.value c.bucket_cell-front.result) (after_looks _ _ st first.looks))
     c.requires (subst (λ (n : ℕ). n < old.setting.slots) bucket_is (omega (arith, c.bucket.ensures.within, slots_are)))
     chained label_is free

@@ -16,7 +16,8 @@ loop-init g c =
     let slots_are = c.slot_count-slots.ensures.value in
     let link : c.next_cell.result ≡ next_cell old.setting.slots c.args.slot = omega (arith, c.next_cell.ensures, slots_are) in
     let front : c.bucket_cell-before.result ≡ bucket_cell old.setting.slots (bucket old.setting.slots c.args.label.now) =
-    c.bucket_cell-before.ensures ∙ (omega (arith, slots_are, c.bucket.ensures.value, ap (λ (n : ℕ). bucket n c.args.label.now) slots_are)) in
+    c.bucket_cell-before.ensures ∙ (omega
+    (arith, slots_are, c.bucket.ensures.value, ap (λ (n : ℕ). bucket n c.args.label.now) slots_are)) in
     record {
       looks = c.in_ok-next.ensures.ok.looks;
       low = omega (arith, c.bucket_cell-before.ensures, slots_are);
@@ -72,16 +73,19 @@ returns-then-member-slot-clause-ok g c st held e m chained distinct has label_is
     let lt = bucket_within old.setting.slots (label_of e) (omega (arith, slots_are, c.slot_count-slots.ensures.some)) in
     let read = c.in_ok-word.ensures.ok in
     let both = looks_trans _ _ _ c.loop.invariant.looks read.looks in
-    let m1 = matches_back _ _ st (onward_trans _ _ _ (writes_onward _ _ _ _ c.write.ensures) (writes_onward _ _ _ _ c.write-then-member-slot.ensures)) m in
+    let m1 = matches_back _ _ st (onward_trans _ _ _ (writes_onward _ _ _ _ c.write.ensures)
+    (writes_onward _ _ _ _ c.write-then-member-slot.ensures)) m in
     let m0 = matches_back _ _ st read.looks.onward m1 in
     let word_is = sym (read.value st m1 ∙ ap (λ (x : State). x.value c.loop.before) (after_looks _ _ st both)) in
     let found = c.in-Some.ensures.1 in
     let own = c.if-member-slot.true in
     let link : c.next_cell-then-member-slot.result ≡ next_cell old.setting.slots c.args.slot =
     omega (arith, c.next_cell-then-member-slot.ensures, slots_are) in
-    taken_out old _ _ _ st c.loop.before c.next_cell-then-member-slot.result c.in_ok-next.next c.args.slot held e b (after_looks _ _ st both) c.write.ensures
+    taken_out old _ _ _ st c.loop.before c.next_cell-then-member-slot.result c.in_ok-next.next c.args.slot held e b
+    (after_looks _ _ st both) c.write.ensures
     c.write-then-member-slot.ensures link
-    (c.loop.invariant.next st m0 ∙ ap (λ (x : State). x.value (next_cell old.setting.slots c.args.slot)) (after_looks _ _ st c.loop.invariant.looks)
+    (c.loop.invariant.next st m0 ∙ ap (λ (x : State). x.value (next_cell old.setting.slots c.args.slot))
+    (after_looks _ _ st c.loop.invariant.looks)
     ∙ ap (after old st).value (sym link))
     lt chained distinct (has_bucket old.setting.slots held (record { slot = c.args.slot; entry = e }) has)
     (walk_found old.setting.slots c.args.slot (after old st) _ c.loop.before c.loop.counter

@@ -1,4 +1,4 @@
-use Rattle.std.proofs.Common.{◌≡◌, ◌<◌, ◌≤◌, ◌*◌, ℕ, List, length, nat_eq}
+use Rattle.std.proofs.Common.{◌≡◌, ◌<◌, ◌≤◌, ◌*◌, List, length, nat_eq}
 use Rattle.mmsyntax.specs.Assertions.{Distinct}
 use Rattle.library.specs.declared.library.Ranked.{Ranked}
 use Rattle.library.specs.Library.{label_of}
@@ -27,5 +27,6 @@ invariant-loop g l =
           → Distinct nat_eq (slots_of held) → Has (record { slot = l.slot; entry = e }) held → label_of e ≡ l.label
           → (lt : bucket slots (label_of e) < slots) → length held ≤ slots
           → Walks slots l.slot (after old st)
-          (leading slots l.slot (bucket_cell slots (bucket slots (label_of e))) (chained (bucket slots (label_of e)) lt).chain) l.before l.counter;
+          (leading slots l.slot (bucket_cell slots (bucket slots (label_of e)))
+          (chained (bucket slots (label_of e)) lt).chain) l.before l.counter;
     }

@@ -1,4 +1,4 @@
-use Rattle.std.proofs.Common.{List, take, nat_eq}
+use Rattle.std.proofs.Common.{take, nat_eq}
 use Rattle.mmsyntax.specs.Assertions.{Distinct}
 use Rattle.cells.specs.State.{State}
 use Rattle.cells.specs.Sight.{Matches, Onward, after}

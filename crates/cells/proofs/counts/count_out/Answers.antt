@@ -1,7 +1,5 @@
-use Rattle.std.proofs.Common.{◌≡◌, ◌<◌, ◌+◌, ℕ, List, length, take, get_or, sym, subst, ◌∙◌, arith, refl}
+use Rattle.std.proofs.Common.{◌+◌, ℕ, List, take, get_or, sym, subst, arith, refl}
 use Rattle.std.proofs.lemmas.List.{take_all}
-use Rattle.cells.specs.State.{State}
-use Rattle.cells.specs.Slots.{citers_cell}
 use Rattle.cells.specs.Sight.{after}
 use Rattle.cells.proofs.Sights.{onward_trans, writes_onward, matches_back}
 use Rattle.cells.proofs.Counting.{Changes, one_less, changes_more, count_made, counts_out}

@@ -1,4 +1,4 @@
-use Rattle.std.proofs.Common.{◌≡◌, ◌*◌, ◌+◌, ◌^◌, ap, sym, ◌∙◌, inr, length}
+use Rattle.std.proofs.Common.{◌*◌, ◌+◌, ◌^◌, ap, ◌∙◌, inr}
 use Rattle.cells.specs.State.{State}
 use Rattle.cells.specs.Sight.{after}
 use Rattle.cells.proofs.Sights.{onward_trans, writes_onward, after_writes}
@@ -12,17 +12,25 @@ returns-in_err-read-clause-onward g c = onward_trans _ _ _ c.in_ok-range.ensures
 
 pub word-requires-clause-start : goal.word-requires-clause-start
 word-requires-clause-start g c =
-    staged_start _ (g.C.Cells.sight c.stage.new.self) (g.met.C.Cells.grounded c.stage.new.self) c.args.words.now c.in_ok-range.range c.in_ok-range.ensures.ok c.requires.some
+    staged_start _ (g.C.Cells.sight c.stage.new.self)
+    (g.met.C.Cells.grounded c.stage.new.self) c.args.words.now c.in_ok-range.range c.in_ok-range.ensures.ok c.requires.some
 
 pub word-requires-clause-len : goal.word-requires-clause-len
 word-requires-clause-len g c =
-    staged_len _ (g.C.Cells.sight c.stage.new.self) (g.met.C.Cells.grounded c.stage.new.self) c.args.words.now c.in_ok-range.range c.in_ok-range.ensures.ok
+    staged_len _ (g.C.Cells.sight c.stage.new.self)
+    (g.met.C.Cells.grounded c.stage.new.self) c.args.words.now c.in_ok-range.range c.in_ok-range.ensures.ok
 
 pub write-requires-clause-named : goal.write-requires-clause-named
 write-requires-clause-named g c _ =
     let staged = c.in_ok-range.ensures.ok in
-    inr (record { start = c.in_ok-range.range.start; words = c.args.words.now }, c.in_ok-read.ensures.ok.looks.onward.ranges _ staged.finished,
-    c.word.ensures ∙ ap (λ n. c.in_ok-range.range.start * 2 ^ 25 + n) staged.len)
+    inr (
+      record {
+        start = c.in_ok-range.range.start;
+        words = c.args.words.now;
+      },
+      c.in_ok-read.ensures.ok.looks.onward.ranges _ staged.finished,
+      c.word.ensures ∙ ap (λ n. c.in_ok-range.range.start * 2 ^ 25 + n) staged.len,
+    )
 
 pub returns-clause-onward : goal.returns-clause-onward
 returns-clause-onward g c =

@@ -1,4 +1,4 @@
-use Rattle.std.proofs.Common.{rules, ◌≡◌, ◌<◌, ◌+◌, ℕ, false, true, refl, sym, ◌∙◌}
+use Rattle.std.proofs.Common.{rules, ◌≡◌, ◌<◌, ◌+◌, ℕ, sym, ◌∙◌}
 use Rattle.cells.specs.Slots.{bucket_cell, next_cell}
 use Rattle.cells.specs.Sight.{Reads}
 use Rattle.cells.proofs.Sights.{looks_trans}

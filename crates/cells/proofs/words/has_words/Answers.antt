@@ -1,4 +1,4 @@
-use Rattle.std.proofs.Common.{◌≡◌, ℕ, ◌<◌, List, get_or, ap, sym, arith, ◌∙◌, refl, below_more}
+use Rattle.std.proofs.Common.{◌≡◌, ℕ, List, get_or, ap, sym, arith, ◌∙◌, refl, below_more}
 use Rattle.std.proofs.lemmas.Grind.{same_number_lists}
 use Rattle.std.proofs.lemmas.Option.{get_or_from_slice_get}
 use Rattle.cells.proofs.Sights.{looks_trans}

@@ -1,4 +1,4 @@
-use Rattle.std.proofs.Common.{◌≡◌, ℕ, ◌+◌, ◌∷◌, [], ◌++◌, ◌<◌, List, get_or, take, length, ap, sym, arith, ◌∙◌, refl}
+use Rattle.std.proofs.Common.{◌≡◌, get_or, take, arith}
 use Rattle.std.proofs.lemmas.Grind.{common_steps}
 use Rattle.std.proofs.lemmas.Option.{get_or_from_slice_get}
 use Rattle.cells.proofs.Sights.{looks_trans}

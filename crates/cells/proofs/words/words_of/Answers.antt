@@ -2,7 +2,7 @@ use Rattle.std.proofs.Common.{rules, subst, sym}
 use Rattle.cells.specs.Sight.{Reads, after}
 use Rattle.cells.specs.Lookups.{AreWordsOf}
 use Rattle.cells.proofs.Sights.{looks_trans}
-use Rattle.cells.proofs.Bodies.{knows_later, value_later, are_words, no_words}
+use Rattle.cells.proofs.Bodies.{knows_later, value_later, are_words}
 use Rattle.cells.proofs.words.words_of.Goals as goal
 
 pub returns-in_err-range_words-clause-looks : goal.returns-in_err-range_words-clause-looks

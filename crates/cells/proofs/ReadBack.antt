@@ -1,0 +1,124 @@
+-- What is read back from the bodies of a slot is what it holds.
+use Rattle.std.proofs.Common.{◌≡◌, ℕ, zero, suc, ◌+◌, ◌<◌, List, [], ◌∷◌, ◌++◌, length, get_or, take, refl, sym, ap, subst, ◌∙◌, arith}
+use Rattle.std.specs.List.{All, AllZip}
+use Rattle.std.proofs.lemmas.List.{take_more, take_all}
+use Rattle.std.proofs.lemmas.List.Elements.{All-get_or}
+use Rattle.std.proofs.lemmas.Slice.Zip.{AllZip-long}
+use Rattle.mmsyntax.specs.declared.statement.Kind.{Kind}
+use Rattle.mmsyntax.specs.declared.statement.Kind.TheVariants.{Axiom, Theorem}
+use Rattle.mmsyntax.specs.declared.statement.Step.{Step}
+use Rattle.mmsyntax.specs.declared.statement.Step.TheVariants.{Float, Hyp, Cite}
+use Rattle.mmsyntax.specs.declared.statement.Assertion.{Assertion}
+use Rattle.mmsyntax.specs.Tables.{Tables}
+use Rattle.mmstatement.specs.Frames.{frame}
+use Rattle.library.specs.declared.library.Ranked.{Ranked}
+use Rattle.library.specs.Library.{label_of}
+use Rattle.bodystore.specs.declared.statement.Statement.{Statement}
+use Rattle.bodystore.specs.declared.stored.StoredStep.{StoredStep}
+use Rattle.bodystore.specs.declared.stored.StoredStep.TheVariants as stored
+use Rattle.bodystore.specs.Bodies.{statement_of, proof_body}
+use Rattle.cells.specs.State.{State}
+use Rattle.cells.specs.Slots.{proof_cell}
+use Rattle.cells.specs.Shows.{IsNamed, IsStoredAs, AreStoredAs, HoldsProof, Holds}
+use Rattle.cells.specs.Sight.{Sight, Matches, Looks, after}
+use Rattle.cells.specs.Lookups.{ForEachHeld, AreWordsOf, IsNameAt, IsShortLabelled}
+use Rattle.cells.proofs.Sights.{matches_back, views_back, after_looks}
+use Rattle.cells.proofs.Settings.{same_slots}
+use Rattle.cells.proofs.Small.{label_small}
+
+-- ---- one call after another
+
+-- what was so of each assertion that the slot holds stays so while nothing is written
+pub held_later : (s t : Sight) (i : ℕ) (told : State → List Ranked → Ranked → Type 0) → Looks s t → ForEachHeld s i told → ForEachHeld t i told
+held_later s t i told looks each = λ st lib v e at h.
+    let same = after_looks s t st looks in
+    let before = subst (λ (x : State). Holds s.setting.slots x lib i e) same (subst (λ (n : ℕ). Holds n (after t st) lib i e) (same_slots s t looks) h) in
+    subst (λ (x : State). told x lib e) (sym same) (each st lib (views_back s t st lib looks v) e at before)
+
+-- a name is the label of what the slot holds
+pub name_held : (s : Sight) (i : ℕ) (made : List ℕ) → IsNameAt s i made → ForEachHeld s i (λ st lib e. made ≡ label_of e)
+name_held s i made named = λ st lib v e at h. named st (label_of e) v.matches (label_small s.setting lib v.verifies e at) h.name
+
+-- ---- proofs
+
+-- the words of a slot's proof body: those of steps that are stored as its proof
+pub stored_words : (slots i : ℕ) (st : State) (kind : Kind) (steps : List Step) (words : List ℕ) → HoldsProof slots st i kind steps
+    → AreWordsOf st (proof_cell i) words → (kept : List StoredStep) × (proof_body kept ≡ words) × AreStoredAs slots st steps kept
+stored_words slots i st Axiom steps words h of =
+    let none : [] ≡ words = sym (empty words (of.none h.0)) in
+    ([], none, subst (λ (xs : List Step). AreStoredAs slots st xs []) (sym h.1) tt)
+  where
+    empty : (ws : List ℕ) → length ws ≡ 0 → ws ≡ []
+    empty [] e = refl
+    empty (w ∷ ws) e = absurd (omega (arith, e))
+stored_words slots i st Theorem steps words h of = (h.0, sym (of.body (proof_body h.0) h.1), h.2)
+
+-- which step is stored as a place
+pub float_stored : (named : ℕ → List ℕ → Type 0) (x : Step) (j : ℕ) → IsStoredAs named x (stored.Float j) → Float j ≡ x
+float_stored named (Float i) j h = ap (λ (n : ℕ). Float n) (sym h)
+float_stored named (Hyp k) j h = absurd h
+float_stored named (Cite w) j h = absurd h
+
+pub hyp_stored : (named : ℕ → List ℕ → Type 0) (x : Step) (j : ℕ) → IsStoredAs named x (stored.Hyp j) → Hyp j ≡ x
+hyp_stored named (Float i) j h = absurd h
+hyp_stored named (Hyp k) j h = ap (λ (n : ℕ). Hyp n) (sym h)
+hyp_stored named (Cite w) j h = absurd h
+
+-- the citation that is stored as a slot, where the slot's name is known
+pub cite_stored : (named : ℕ → List ℕ → Type 0) (x : Step) (j : ℕ) (made : List ℕ) → IsShortLabelled x → IsStoredAs named x (stored.Slot j)
+    → ((label : List ℕ) → All (λ byte. byte < 256) label → named j label → made ≡ label) → Cite made ≡ x
+cite_stored named (Float i) j made short h is = absurd h
+cite_stored named (Hyp k) j made short h is = absurd h
+cite_stored named (Cite w) j made short h is = ap (λ (l : List ℕ). Cite l) (is w short h)
+
+-- ---- steps that are named one after another
+
+zip_at : {A B : Type 0} (R : A → B → Type 0) (xs : List A) (ys : List B) (i : ℕ) (d : A) (e : B) → AllZip R xs ys → i < length ys
+    → R (get_or xs i d) (get_or ys i e) × (i < length xs)
+zip_at R [] [] i d e z lt = absurd (omega (arith, lt))
+zip_at R [] (y ∷ ys) i d e z lt = absurd z
+zip_at R (x ∷ xs) [] i d e z lt = absurd z
+zip_at R (x ∷ xs) (y ∷ ys) zero d e z lt = (z.0, omega arith)
+zip_at R (x ∷ xs) (y ∷ ys) (suc i) d e z lt = let rest = zip_at R xs ys i d e z.1 (omega arith) in (rest.0, omega (arith, rest.1))
+
+-- the first steps are those that are stored as the first of the kept ones
+abbrev pub AreReadBack : Sight → ℕ → List StoredStep → ℕ → List Step → Type 0
+AreReadBack s slots kept i steps =
+    (st : State) (xs : List Step) → Matches s st → All IsShortLabelled xs → AllZip (IsStoredAs (IsNamed slots (after s st))) xs kept → steps ≡ take i xs
+
+pub read_back_on : (s t : Sight) (slots i : ℕ) (kept : List StoredStep) (steps more : List Step) (made : Step) (d : StoredStep) → Looks s t
+    → AreReadBack s slots kept i steps → i < length kept → more ≡ steps ++ made ∷ []
+    → ((st : State) (x : Step) → Matches t st → IsShortLabelled x → IsStoredAs (IsNamed slots (after t st)) x (get_or kept i d) → made ≡ x)
+    → AreReadBack t slots kept (i + 1) more
+read_back_on s t slots i kept steps more made d looks each lt push is = λ st xs m short z.
+    let before : steps ≡ take i xs =
+    each st xs (matches_back s t st looks.onward m) short
+    (subst (λ (y : State). AllZip (IsStoredAs (IsNamed slots y)) xs kept) (after_looks s t st looks) z) in
+    let at = zip_at (IsStoredAs (IsNamed slots (after t st))) xs kept i (Float 0) d z lt in
+    let same : made ≡ get_or xs i (Float 0) = is st (get_or xs i (Float 0)) m (All-get_or IsShortLabelled xs i (Float 0) at.1 short) at.0 in
+    push ∙ (ap (λ (ys : List Step). ys ++ made ∷ []) before ∙ (ap (λ (y : Step). take i xs ++ y ∷ []) same ∙ sym (take_more xs i (Float 0) at.1)))
+
+pub read_back_all : (s : Sight) (slots i : ℕ) (kept : List StoredStep) (steps xs : List Step) (st : State) → AreReadBack s slots kept i steps
+    → length kept ≡ i → Matches s st → All IsShortLabelled xs → AllZip (IsStoredAs (IsNamed slots (after s st))) xs kept → steps ≡ xs
+read_back_all s slots i kept steps xs st each n m short z =
+    let long = AllZip-long (IsStoredAs (IsNamed slots (after s st))) xs kept z in
+    each st xs m short z ∙ take_all i xs (omega (arith, long, n))
+
+-- ---- assertions
+
+pub assembled : (a : Assertion) (label : List ℕ) (s : Statement) (proof : List Step) → label ≡ a.label → s ≡ statement_of a → proof ≡ a.proof
+    → record { label = label; kind = s.kind; pairs = s.pairs; hyps = s.hyps; statement = s.statement; proof = proof } ≡ a
+assembled a label s proof l is p = λ i. record {
+  label = l i;
+  kind = (is i).kind;
+  pairs = (is i).pairs;
+  hyps = (is i).hyps;
+  statement = (is i).statement;
+  proof = p i;
+}
+
+-- the frame tells neither the label nor the proof
+pub framed : (t : Tables) (a : Assertion) (label : List ℕ) (s : Statement) (proof : List Step) → s ≡ statement_of a
+    → frame t (record { label = label; kind = s.kind; pairs = s.pairs; hyps = s.hyps; statement = s.statement; proof = proof }) ≡ frame t a
+framed t a label s proof is =
+    ap (λ (x : Statement). frame t (record { label = label; kind = x.kind; pairs = x.pairs; hyps = x.hyps; statement = x.statement; proof = proof })) is

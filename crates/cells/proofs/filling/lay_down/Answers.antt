@@ -1,0 +1,59 @@
+use Rattle.std.proofs.Common.{◌≡◌, ℕ, ap, subst, ◌∙◌, refl}
+use Rattle.cells.specs.State.{State, HasBody, with_value}
+use Rattle.cells.specs.Sight.{Matches, after}
+use Rattle.cells.specs.Filling.{LaysDown}
+use Rattle.cells.proofs.Sights.{onward_trans, matches_back}
+use Rattle.cells.proofs.Laying.{if_mapped, ok_mapped, laid_down}
+use Rattle.cells.proofs.filling.lay_down.Goals as goal
+
+pub returns-in_err-map_err-2-clause-onward : goal.returns-in_err-map_err-2-clause-onward
+returns-in_err-map_err-2-clause-onward g c = onward_trans _ _ _ c.put_body.ensures.onward c.put_body-2.ensures.onward
+
+pub returns-in_err-put_proof-clause-onward : goal.returns-in_err-put_proof-clause-onward
+returns-in_err-put_proof-clause-onward g c =
+    onward_trans _ _ _ c.put_body.ensures.onward (onward_trans _ _ _ c.put_body-2.ensures.onward c.put_proof.ensures.onward)
+
+pub returns-in_err-map_err-3-clause-onward : goal.returns-in_err-map_err-3-clause-onward
+returns-in_err-map_err-3-clause-onward g c =
+    onward_trans _ _ _ c.put_body.ensures.onward (onward_trans _ _ _ c.put_body-2.ensures.onward
+    (onward_trans _ _ _ c.put_proof.ensures.onward c.put.ensures.onward))
+
+pub returns-clause-onward : goal.returns-clause-onward
+returns-clause-onward g c =
+    onward_trans _ _ _ c.put_body.ensures.onward (onward_trans _ _ _ c.put_body-2.ensures.onward
+    (onward_trans _ _ _ c.put_proof.ensures.onward (onward_trans _ _ _ c.put.ensures.onward c.put-2.ensures.onward)))
+
+pub returns-clause-ok : goal.returns-clause-ok
+returns-clause-ok g c =
+    let old = g.C.Cells.sight c.args.cells.now in
+    let s1 = g.C.Cells.sight c.put_body.new.cells in
+    let s2 = g.C.Cells.sight c.put_body-2.new.cells in
+    let s3 = g.C.Cells.sight c.put_proof.new.cells in
+    let s4 = g.C.Cells.sight c.put.new.cells in
+    let s5 = g.C.Cells.sight c.put-2.new.cells in
+    let named = ok_mapped _ _ _ _ _ c.in_ok-map_err.was c.map_err.ensures.cases c.put_body.ensures.ok in
+    let name_others = ok_mapped _ _ _ _ _ c.in_ok-map_err.was c.map_err.ensures.cases c.put_body.ensures.others in
+    let stated = ok_mapped _ _ _ _ _ c.in_ok-map_err-2.was c.map_err-2.ensures.cases c.put_body-2.ensures.ok in
+    let statement_others = ok_mapped _ _ _ _ _ c.in_ok-map_err-2.was c.map_err-2.ensures.cases c.put_body-2.ensures.others in
+    let ranked = ok_mapped _ _ _ _ _ c.in_ok-map_err-3.was c.map_err-3.ensures.cases c.put.ensures.ok in
+    let proven = c.in_ok-put_proof.ensures in
+    let on3 = onward_trans _ _ _ c.put.ensures.onward c.put-2.ensures.onward in
+    let then : (x : Unit {0}) → ((st : State) → after s5 st ≡ with_value c.citers_cell.result 0 (after s4 st)) → (st : State) → Matches s5 st
+    → LaysDown (after old st) (after s5 st) c.args.slot c.args.rank c.args.assertion.now c.args.steps.now =
+    λ x put st m.
+    let m3 = matches_back s3 s5 st on3 m in
+    let m2 = matches_back s2 s3 st c.put_proof.ensures.onward m3 in
+    let m1 = matches_back s1 s2 st c.put_body-2.ensures.onward m2 in
+    laid_down (after old st) (after s1 st) (after s2 st) (after s3 st)
+    (after s5 st) c.args.slot c.args.rank c.args.assertion.now c.args.steps.now
+    c.as_slice-2.result.now c.as_slice-3.result.now refl refl refl
+    (c.as_slice-2.ensures.value ∙ c.in_ok-label.ensures ∙ c.as_slice.ensures)
+    (subst (λ (n : ℕ). HasBody (after s1 st) n c.as_slice-2.result.now) c.name_cell.ensures (named st m1))
+    (λ cell ne. name_others st cell (λ z. ne (z ∙ c.name_cell.ensures)))
+    (c.as_slice-3.ensures.value ∙ c.in_ok-statement.ensures)
+    (subst (λ (n : ℕ). HasBody (after s2 st) n c.as_slice-3.result.now) c.statement_cell.ensures (stated st m2))
+    (λ cell ne. statement_others st cell (λ z. ne (z ∙ c.statement_cell.ensures)))
+    (proven.ok st m3) (proven.others st)
+    (put st ∙ (λ i. with_value (c.citers_cell.ensures i) 0
+    ((ranked st ∙ ap (λ (n : ℕ). with_value n c.args.rank (after s3 st)) c.rank_cell.ensures) i))) in
+    if_mapped _ _ _ _ _ c.map_err-4.ensures.cases c.put-2.ensures.ok then

@@ -1,0 +1,32 @@
+use Rattle.std.proofs.Common.{◌≡◌, ◌∙◌}
+use Rattle.library.specs.Library.{label_of}
+use Rattle.bodystore.specs.Bodies.{statement_of}
+use Rattle.cells.proofs.Sights.{looks_trans}
+use Rattle.cells.proofs.ReadBack.{held_later, assembled}
+use Rattle.cells.proofs.reading.assertion.Goals as goal
+
+pub returns-in_err-statement-clause-looks : goal.returns-in_err-statement-clause-looks
+returns-in_err-statement-clause-looks g c = looks_trans _ _ _ c.label.ensures.looks c.statement.ensures.looks
+
+pub returns-in_err-proof-clause-looks : goal.returns-in_err-proof-clause-looks
+returns-in_err-proof-clause-looks g c =
+    looks_trans _ _ _ (looks_trans _ _ _ c.label.ensures.looks c.statement.ensures.looks) c.proof.ensures.looks
+
+pub returns-clause-looks : goal.returns-clause-looks
+returns-clause-looks g c =
+    looks_trans _ _ _ (looks_trans _ _ _ c.label.ensures.looks c.statement.ensures.looks) c.proof.ensures.looks
+
+pub returns-clause-ok : goal.returns-clause-ok
+returns-clause-ok g c = λ st lib v e at h.
+    let first = g.C.Cells.sight c.label.new.cells in
+    let second = g.C.Cells.sight c.statement.new.cells in
+    let s = g.C.Cells.sight c.proof.new.cells in
+    let i = c.args.slot in
+    let read = c.in_ok-statement.statement in
+    let named : c.in_ok-label.label ≡ label_of e =
+    held_later first s i (λ x l f. c.in_ok-label.label ≡ label_of f) (looks_trans _ _ _ c.statement.ensures.looks c.proof.ensures.looks)
+    c.in_ok-label.ensures.ok st lib v e at h in
+    let stated : read ≡ statement_of e.assertion =
+    held_later second s i (λ x l f. read ≡ statement_of f.assertion) c.proof.ensures.looks c.in_ok-statement.ensures.ok st lib v e at h in
+    let proved : c.in_ok-proof.proof ≡ e.assertion.proof = c.in_ok-proof.ensures.ok st lib v e at h in
+    c.into_assertion.ensures ∙ assembled e.assertion c.in_ok-label.label read c.in_ok-proof.proof named stated proved

@@ -1,0 +1,12 @@
+use Rattle.std.proofs.Common.{rules, ◌≡◌, ℕ, sym, subst}
+use Rattle.cells.specs.Slots.{statement_cell}
+use Rattle.cells.specs.State.{HasBody}
+use Rattle.cells.specs.Sight.{after}
+use Rattle.bodystore.specs.Bodies.{statement_body, statement_of}
+use Rattle.cells.proofs.reading.kind.Goals as goal
+
+pub returns-clause-ok : goal.returns-clause-ok
+returns-clause-ok g c = λ st lib v e at h.
+    let new = g.C.Cells.sight c.first_word.new.cells in
+    let body = subst (λ (n : ℕ). HasBody (after new st) n (statement_body (statement_of e.assertion))) (sym c.statement_cell.ensures) h.statement in
+    c.kind_of.ensures e.assertion.kind (sym (c.in_ok-first_word.ensures.ok st _ _ v.matches body))

@@ -1,0 +1,9 @@
+use Rattle.std.proofs.Common.{take}
+use Rattle.cells.specs.Sight.{Looks}
+use Rattle.cells.proofs.Resolving.{AreResolved}
+use Rattle.cells.proofs.reading.resolve.Given as goal
+
+abbrev pub invariant-loop-step : goal.invariant-loop-step
+invariant-loop-step g l =
+    Looks (g.C.Cells.sight l.fn.cells) (g.C.Cells.sight l.cells)
+    × AreResolved (g.C.Cells.sight l.cells) (g.C.Cells.sight l.fn.cells).setting.slots (take l.step-index l.steps) l.kept.items

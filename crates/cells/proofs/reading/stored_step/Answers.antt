@@ -1,0 +1,19 @@
+use Rattle.std.proofs.Common.{◌≡◌, ℕ, List, sym, subst, ◌∙◌, ap}
+use Rattle.mmsyntax.specs.declared.statement.Step.TheVariants.{Cite}
+use Rattle.cells.specs.Lookups.{Finds}
+use Rattle.cells.proofs.Resolving.{found_stored, none_stored}
+use Rattle.cells.proofs.reading.stored_step.Goals as goal
+
+pub returns-in-Some-clause-ok : goal.returns-in-Some-clause-ok
+returns-in-Some-clause-ok g c =
+    let s = g.C.Cells.sight c.find.new.cells in
+    let label = c.as_slice.result.now in
+    let is : c.args.step.now ≡ Cite label = c.in-Cite.is ∙ ap (λ (l : List ℕ). Cite l) (sym c.as_slice.ensures) in
+    found_stored s label c.in-Some.slot c.args.step.now is (subst (Finds s label) c.in-Some.is c.in_ok-slot-in-Cite.ensures.ok)
+
+pub returns-in-None-clause-ok : goal.returns-in-None-clause-ok
+returns-in-None-clause-ok g c =
+    let s = g.C.Cells.sight c.find.new.cells in
+    let label = c.as_slice.result.now in
+    let is : c.args.step.now ≡ Cite label = c.in-Cite.is ∙ ap (λ (l : List ℕ). Cite l) (sym c.as_slice.ensures) in
+    none_stored s label c.args.step.now is (subst (Finds s label) c.in-None.is c.in_ok-slot-in-Cite.ensures.ok)
