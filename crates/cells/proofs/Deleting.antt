@@ -1,6 +1,6 @@
 -- A state that shows a library, with one slot emptied, its citations counted out and the slot out of its chain, shows the library without the assertion.
-use Rattle.std.proofs.Common.{◌≡◌, ◌≢◌, ℕ, ◌+◌, ◌-◌, ◌*◌, ◌<◌, ◌≤◌, true, false, List, map, refl, sym, ap, subst, ◌∙◌, nat_eq, ◌⊎◌, ⊎_elim, inl, inr, arith}
-use Rattle.std.specs.Prelude.{◌==◌, filter}
+use Rattle.std.proofs.Common.{◌≡◌, ◌≢◌, ℕ, ◌+◌, ◌*◌, ◌<◌, ◌≤◌, true, false, List, map, refl, sym, ap, subst, ◌∙◌, ◌⊎◌, ⊎_elim, inl, inr, arith}
+use Rattle.std.specs.Prelude.{◌==◌}
 use mathlib.Core.Bool.{not}
 use Rattle.std.specs.List.{list_any}
 use Rattle.std.specs.Str.{bytes_eq}
@@ -18,15 +18,15 @@ use Rattle.ranges.specs.Ranges.{Has, AreOfOneStore}
 use Rattle.bodystore.specs.declared.stored.StoredStep.{StoredStep}
 use Rattle.cells.specs.State.{State, HasBody, most_words}
 use Rattle.cells.specs.Slots.{name_cell, statement_cell, proof_cell, rank_cell, citers_cell, next_cell}
-use Rattle.cells.specs.Shows.{Held, slots_of, entries_of, IsNamed, IsEmpty, HoldsProof, AreStoredAs, AreChained, Holds, Shows}
+use Rattle.cells.specs.Shows.{Held, slots_of, IsNamed, IsEmpty, HoldsProof, AreStoredAs, AreChained, Holds, Shows}
 use Rattle.cells.specs.Lookups.{IsFoundAt}
 use Rattle.cells.specs.Chains.{Rechains, without_slot}
 use Rattle.cells.specs.Filling.{AreCitedSlots, CountsOut}
 use Rattle.cells.proofs.Bodies.{one_body}
-use Rattle.cells.proofs.Counted.{one, listed_within, listed_full, counted_out, uncounted_out}
+use Rattle.cells.proofs.Counted.{listed_within, listed_full, counted_out, uncounted_out}
 use Rattle.cells.proofs.Found.{held_holds, found_held, found_label, found_has, slot_or_label}
 use Rattle.cells.proofs.Holding.{body_same, empty_same, empty_free, held_in}
-use Rattle.cells.proofs.Members.{any_has, all_from_has, contains_from_has, has_mapped, mapped_has, filtered_has}
+use Rattle.cells.proofs.Members.{any_has, all_from_has, contains_from_has, has_mapped, filtered_has}
 use Rattle.cells.proofs.Ones.{filter_mapped}
 use Rattle.cells.proofs.Recounting.{citers-without}
 use Rattle.cells.proofs.Showing.{chains_stay}

@@ -1,17 +1,17 @@
 -- A state that shows a library, with another rank in the rank cell of one slot, shows the library with the assertion moved.
-use Rattle.std.proofs.Common.{◌≡◌, ◌≢◌, ℕ, ◌+◌, ◌*◌, ◌<◌, ◌≤◌, List, map, refl, sym, ap, subst, ◌∙◌, arith}
+use Rattle.std.proofs.Common.{◌≡◌, ◌≢◌, ℕ, ◌+◌, ◌*◌, ◌<◌, List, map, refl, sym, subst, ◌∙◌, arith}
 use Rattle.std.specs.Str.{bytes_eq}
 use Rattle.mmsyntax.specs.Assertions.{Distinct}
 use Rattle.library.specs.declared.library.Ranked.{Ranked}
 use Rattle.library.specs.Library.{label_of}
 use Rattle.library.specs.Edits.{citers, changed, with_rank}
-use Rattle.ranges.specs.Ranges.{Has, AreOfOneStore}
+use Rattle.ranges.specs.Ranges.{AreOfOneStore}
 use Rattle.cells.specs.State.{State, most_words}
 use Rattle.cells.specs.Slots.{name_cell, statement_cell, proof_cell, rank_cell, citers_cell, next_cell}
-use Rattle.cells.specs.Shows.{Held, IsEmpty, Holds, Shows}
+use Rattle.cells.specs.Shows.{IsEmpty, Shows}
 use Rattle.cells.specs.Lookups.{IsFoundAt}
 use Rattle.cells.proofs.Holding.{body_same, proof_same, holds_same, empty_same, full_slot, NamesStay}
-use Rattle.cells.proofs.Found.{held_holds, found_held, found_label}
+use Rattle.cells.proofs.Found.{held_holds, found_held}
 use Rattle.cells.proofs.Recounting.{citers-moved}
 use Rattle.cells.proofs.Showing.{chains_stay, shows_changed}
 

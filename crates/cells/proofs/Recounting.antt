@@ -1,10 +1,10 @@
 -- How many citers the labels of a library have after an edit.
-use Rattle.std.proofs.Common.{◌≡◌, ℕ, ◌+◌, Bool, true, false, cond, List, [], ◌∷◌, map, refl, sym, ap, subst, ◌∙◌, inl, inr, arith}
+use Rattle.std.proofs.Common.{◌≡◌, ℕ, ◌+◌, true, false, cond, List, [], ◌∷◌, map, refl, sym, ap, subst, ◌∙◌, inl, inr, arith}
 use Rattle.std.specs.Prelude.{IsPermutation}
 use mathlib.Core.Bool.{not}
 use Rattle.std.specs.List.{list_any, sum_by}
 use Rattle.std.specs.Str.{bytes_eq}
-use Rattle.std.proofs.lemmas.Bool.{cases_Bool, both_ways, cond-true, cond-false, cond_both, or_from, or_parts, not-true}
+use Rattle.std.proofs.lemmas.Bool.{cases_Bool, cond-true, cond-false, cond_both, or_from, or_parts, not-true}
 use Rattle.std.proofs.lemmas.List.Sorted.{IsPermutation-map, sum_by_popped}
 use Rattle.std.proofs.lemmas.List.Sums.{sum_by-cons}
 use Rattle.mmsyntax.specs.declared.statement.Step.{Step}

@@ -1,6 +1,6 @@
 -- A state that shows a library, with another label in the name cell of one slot and the slot in that label's chain, shows the library with the
 -- assertion renamed.
-use Rattle.std.proofs.Common.{◌≡◌, ◌≢◌, ℕ, ◌+◌, ◌*◌, ◌<◌, ◌≤◌, true, false, List, [], ◌∷◌, map, refl, sym, ap, subst, ◌∙◌, ⊎_elim, inl, inr, arith}
+use Rattle.std.proofs.Common.{◌≡◌, ◌≢◌, ℕ, ◌*◌, ◌<◌, true, false, List, ◌∷◌, map, sym, subst, ◌∙◌, ⊎_elim, inl, inr, arith}
 use Rattle.std.specs.Prelude.{IsPermutation, ◌==◌}
 use mathlib.Core.Bool.{not}
 use Rattle.std.specs.Str.{bytes_eq}
@@ -12,7 +12,7 @@ use Rattle.mmsyntax.proofs.Names.{same_bytes, bytes_eq-same}
 use Rattle.proofcheck.specs.Laws.{replacing}
 use Rattle.library.specs.declared.library.Ranked.{Ranked}
 use Rattle.library.specs.Library.{label_of}
-use Rattle.library.specs.Edits.{has, is_labelled, cites, citers, rename}
+use Rattle.library.specs.Edits.{has, is_labelled, cites, rename}
 use Rattle.library.proofs.Citations.{none_contained}
 use Rattle.library.proofs.Counts.{none_from_count}
 use Rattle.library.proofs.Labels.{replacing-old, replacing-other}
@@ -28,12 +28,12 @@ use Rattle.cells.proofs.Bodies.{one_body}
 use Rattle.cells.proofs.Found.{held_holds, found_held, found_label, found_only, other_label}
 use Rattle.cells.proofs.Holding.{body_same, empty_same, empty_free, full_slot, held_in, named_held, no_citers}
 use Rattle.cells.proofs.Linking.{seat, chains_alike}
-use Rattle.cells.proofs.Members.{contains_from_has, has_mapped, mapped_has, filtered_has}
+use Rattle.cells.proofs.Members.{contains_from_has, filtered_has}
 use Rattle.cells.proofs.Ones.{map_agree, slot_and_others}
 use Rattle.cells.proofs.Recounting.{citers-renamed}
 use Rattle.cells.proofs.Showing.{chains_stay, with_entry, shows_mapped}
 use Rattle.cells.proofs.Storing.{proof_relabelled}
-use Rattle.cells.proofs.Unlinking.{slot_was, slot_gone}
+use Rattle.cells.proofs.Unlinking.{slot_was}
 
 -- the name cell of the slot names the body of the new label, in the state named
 module _ (slots : ℕ) (st named : State) (lib : List Ranked) (shows : Shows slots st lib) (store : AreOfOneStore most_words st.ranges)

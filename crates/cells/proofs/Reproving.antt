@@ -1,9 +1,9 @@
 -- A state that shows a library, with other steps in the proof body of one slot and their citers counted, shows the library with the theorem reproved.
-use Rattle.std.proofs.Common.{◌≡◌, ◌≢◌, ℕ, ◌+◌, ◌-◌, ◌*◌, ◌<◌, ◌≤◌, true, false, List, length, map, refl, sym, ap, subst, ◌∙◌, arith}
+use Rattle.std.proofs.Common.{◌≡◌, ◌≢◌, ℕ, ◌+◌, ◌-◌, ◌*◌, ◌<◌, ◌≤◌, List, length, map, refl, sym, ap, subst, ◌∙◌, arith}
 use Rattle.std.specs.List.{list_any}
 use Rattle.std.specs.Str.{bytes_eq}
 use Rattle.mmsyntax.specs.declared.statement.Kind.{Kind}
-use Rattle.mmsyntax.specs.declared.statement.Kind.TheVariants.{Axiom, Theorem}
+use Rattle.mmsyntax.specs.declared.statement.Kind.TheVariants.{Theorem}
 use Rattle.mmsyntax.specs.declared.statement.Step.{Step}
 use Rattle.mmsyntax.specs.Assertions.{Distinct}
 use Rattle.library.specs.declared.library.Ranked.{Ranked}
@@ -14,7 +14,7 @@ use Rattle.bodystore.specs.declared.stored.StoredStep.{StoredStep}
 use Rattle.bodystore.specs.Bodies.{proof_body}
 use Rattle.cells.specs.State.{State, HasBody, most_words}
 use Rattle.cells.specs.Slots.{name_cell, statement_cell, proof_cell, rank_cell, citers_cell, next_cell}
-use Rattle.cells.specs.Shows.{Held, IsEmpty, HoldsProof, AreStoredAs, Holds, Shows}
+use Rattle.cells.specs.Shows.{Held, IsEmpty, HoldsProof, AreStoredAs, Shows}
 use Rattle.cells.specs.Lookups.{IsFoundAt}
 use Rattle.cells.specs.Filling.{AreCitedSlots, CountsIn, CountsOut}
 use Rattle.cells.proofs.Counted.{one, listed_within, listed_full, counted_out, counted_in, uncounted_out, uncounted_in}

@@ -1,6 +1,6 @@
 -- States that show what a change makes of the assertions of a library, each in its slot.
-use Rattle.std.proofs.Common.{◌≡◌, ◌≢◌, ℕ, ◌+◌, ◌*◌, ◌<◌, ◌≤◌, Bool, true, false, List, [], ◌∷◌, map, refl, sym, ap, subst, ◌∙◌, nat_eq, ⊎_elim, inl, inr, arith}
-use Rattle.std.specs.Prelude.{IsPermutation, All}
+use Rattle.std.proofs.Common.{◌≡◌, ◌≢◌, ℕ, ◌*◌, ◌<◌, ◌≤◌, true, List, [], ◌∷◌, map, refl, sym, ap, subst, ◌∙◌, nat_eq, ⊎_elim, inl, inr, arith}
+use Rattle.std.specs.Prelude.{IsPermutation}
 use Rattle.std.specs.Str.{bytes_eq}
 use Rattle.std.proofs.lemmas.Bool.{cases_eq, cond-true, cond-false, cond_both}
 use Rattle.std.proofs.lemmas.List.Sorted.{IsPermutation-refl}
