@@ -63,7 +63,7 @@ module _ (slots : ℕ) (st next : State) where
       one (Cite l) (stored.Hyp j) h = absurd h
       one (Cite l) (stored.Slot j) h = stay j l h
 
-  proof_same : NamesStay → (i : ℕ) (kind : Kind) (steps : List Step) → next.ranges ≡ st.ranges
+  pub proof_same : NamesStay → (i : ℕ) (kind : Kind) (steps : List Step) → next.ranges ≡ st.ranges
       → next.value (proof_cell i) ≡ st.value (proof_cell i) → HoldsProof slots st i kind steps → HoldsProof slots next i kind steps
   proof_same stay i Axiom steps ranges same h = (same ∙ h.0, h.1)
   proof_same stay i Theorem steps ranges same h =

@@ -21,6 +21,16 @@ pub mod Stores
 pub mod Widened
 pub mod PlainSights
 pub mod Empty
+pub mod Ones
+pub mod Recounting
+pub mod Storing
+pub mod Found
+pub mod Showing
+pub mod Counted
+pub mod Moving
+pub mod Reproving
+pub mod Deleting
+pub mod Renaming
 pub mod Small
 pub mod ReadBack
 pub mod Resolving

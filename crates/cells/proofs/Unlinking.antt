@@ -36,6 +36,12 @@ slot_stays held slot i h ne =
     (has_filtered (λ (p : Held). is_other slot p.slot) held m.0 m.1
     (not_from_false (m.0.slot == slot) (ne_eqb m.0.slot slot (λ e. ne (m.2 ∙ e))))))
 
+pub slot_was : (held : List Held) (slot i : ℕ) → Has i (slots_of (without_slot slot held)) → Has i (slots_of held)
+slot_was held slot i h =
+    let m = mapped_has (λ (p : Held). p.slot) (without_slot slot held) i h in
+    let f = filtered_has (λ (p : Held). is_other slot p.slot) held m.0 m.1 in
+    subst (λ n. Has n (slots_of held)) (sym m.2) (has_mapped (λ (p : Held). p.slot) held m.0 f.0)
+
 module _ (slots slot : ℕ) where
   bucket_without : (held : List Held) (b : ℕ)
       → slots_of (of_bucket slots b (without_slot slot held)) ≡ filter (is_other slot) (slots_of (of_bucket slots b held))

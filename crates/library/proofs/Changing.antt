@@ -18,7 +18,7 @@ use Rattle.library.proofs.Places.{found_in, found_one}
 use Rattle.library.proofs.Showing.{InRange, ChecksIn}
 
 -- the entry, changed where it has the label
-abbrev change_at : List ℕ → (Ranked → Ranked) → Ranked → Ranked
+abbrev pub change_at : List ℕ → (Ranked → Ranked) → Ranked → Ranked
 change_at label change e = if is_labelled label e then change e else e
 
 -- the change keeps labels, and what a proof that cites an entry sees
