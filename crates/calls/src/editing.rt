@@ -1,7 +1,7 @@
 //! The editor's own calls: slots and counts, and the library that it leaves. What it answers to commands is in the rows.
 
 use crate::shared::{editor, library, mini, sequence};
-use commands::{Command, Reply};
+use scripts::{Command, Reply};
 use export::write_library;
 use history::OpenError;
 use std::alloc::Global;

@@ -1,7 +1,7 @@
 //! A history in canonical layout: read, copied and written.
 
 use crate::shared::{database, mini};
-use commands::{Command, Reply};
+use scripts::{Command, Reply};
 use historytext::{read_history, write_history};
 use library::Entry;
 use std::alloc::{AllocError, Global};

@@ -2,7 +2,7 @@
 
 ghost use Rattle.std.specs.Prelude.{false, ◌≤◌};
 
-use commands::PlainLibrary;
+use scripts::PlainLibrary;
 use history::{Editor, OpenError};
 use mmstatement::{Database, Sequence, read_database};
 use proofcheck::check_all;

@@ -17,8 +17,8 @@ use Rattle.mmreader.proofs.DatabaseLaws.{ended_ok}
 use Rattle.library.specs.declared.command.Reply.{Reply}
 use Rattle.library.specs.declared.command.Reply.TheVariants.{Done, Shown, Listed}
 use Rattle.library.specs.Fitting.{ReplyFits}
-use Rattle.commands.specs.Scripts.{SpellsEach}
-use Rattle.commands.proofs.ScriptLaws.{unit_fits, each_fits, transaction_fits}
+use Rattle.scripts.specs.Scripts.{SpellsEach}
+use Rattle.scripts.proofs.ScriptLaws.{unit_fits, each_fits, transaction_fits}
 use Rattle.library.specs.declared.history.Entry.{Entry}
 use Rattle.library.specs.declared.history.Entry.TheVariants as entry
 use Rattle.historytext.specs.Grammar.{SpellsReply, SpellsEntry, SpellsHistory}

@@ -19,10 +19,10 @@ use Rattle.library.specs.declared.command.Line.{Line}
 use Rattle.library.specs.declared.command.Reply.{Reply}
 use Rattle.library.specs.declared.command.Reply.TheVariants.{Done, Shown, Listed}
 use Rattle.library.specs.Fitting.{highest_rank}
-use Rattle.commands.specs.Scripts.{IsRank, SpellsEach}
-use Rattle.commands.specs.ScriptFaults.{unit_start}
-use Rattle.commands.proofs.InnerUnits.{ReadsUnit, reads_unit}
-use Rattle.commands.proofs.CommandParsed.{on, IsApart, ReadsCommands, reads_commands}
+use Rattle.scripts.specs.Scripts.{IsRank, SpellsEach}
+use Rattle.scripts.specs.ScriptFaults.{unit_start}
+use Rattle.scripts.proofs.InnerUnits.{ReadsUnit, reads_unit}
+use Rattle.scripts.proofs.CommandParsed.{on, IsApart, ReadsCommands, reads_commands}
 use Rattle.library.specs.declared.history.Entry.{Entry}
 use Rattle.library.specs.declared.history.Entry.TheVariants as entry
 use Rattle.historytext.specs.Grammar.{highest_count, IsCount, kind_word, SpellsLine, SpellsReply, SpellsEntry}

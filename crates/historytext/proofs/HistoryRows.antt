@@ -23,10 +23,10 @@ use Rattle.library.specs.declared.command.Command.{Command}
 use Rattle.library.specs.declared.command.Line.{Line}
 use Rattle.library.specs.declared.command.Reply.{Reply}
 use Rattle.library.specs.declared.command.Reply.TheVariants.{Done, Shown, Listed}
-use Rattle.commands.specs.ScriptFaults.{Led, inside, whole_command, bad, bad_text, is_numeral, in_command, command_word}
-use Rattle.commands.proofs.Numerals.{numeral_decimal, numeral_digits, decimal_numeral, decimal_value, digits_plain, not_above}
-use Rattle.commands.proofs.InnerUnits.{unit_end, unit_next, HasUnits}
-use Rattle.commands.proofs.CommandWords.{next_of, Asking, and_one, Asks}
+use Rattle.scripts.specs.ScriptFaults.{Led, inside, whole_command, bad, bad_text, is_numeral, in_command, command_word}
+use Rattle.scripts.proofs.Numerals.{numeral_decimal, numeral_digits, decimal_numeral, decimal_value, digits_plain, not_above}
+use Rattle.scripts.proofs.InnerUnits.{unit_end, unit_next, HasUnits}
+use Rattle.scripts.proofs.CommandWords.{next_of, Asking, and_one, Asks}
 use Rattle.library.specs.declared.history.Entry.{Entry}
 use Rattle.library.specs.declared.history.Entry.TheVariants as entry
 use Rattle.historytext.specs.Grammar.{highest_count, IsCount, kind_word}

@@ -19,10 +19,10 @@ use Rattle.library.specs.declared.command.Line.{Line}
 use Rattle.library.specs.declared.command.Reply.{Reply}
 use Rattle.library.specs.declared.command.Reply.TheVariants.{Done, Shown, Listed}
 use Rattle.library.specs.Fitting.{highest_rank}
-use Rattle.commands.specs.Scripts.{IsRank, SpellsEach}
-use Rattle.commands.specs.ScriptFaults.{unit_start}
-use Rattle.commands.proofs.InnerUnits.{unit_words_lead}
-use Rattle.commands.proofs.CommandWords.{plain_cons, each_ordinary, transaction_ordinary, takes, asked_words_lead}
+use Rattle.scripts.specs.Scripts.{IsRank, SpellsEach}
+use Rattle.scripts.specs.ScriptFaults.{unit_start}
+use Rattle.scripts.proofs.InnerUnits.{unit_words_lead}
+use Rattle.scripts.proofs.CommandWords.{plain_cons, each_ordinary, transaction_ordinary, takes, asked_words_lead}
 use Rattle.library.specs.declared.history.Entry.{Entry}
 use Rattle.library.specs.declared.history.Entry.TheVariants as entry
 use Rattle.historytext.specs.Grammar.{highest_count, IsCount, kind_word, SpellsLine, SpellsReply, SpellsEntry}

@@ -24,8 +24,8 @@ use Rattle.mmsyntax.proofs.Names.{same_bytes}
 use Rattle.mmsyntax.proofs.Numbered.{number_dot}
 use Rattle.mmsyntax.proofs.Found.{label_at, no_fault}
 use Rattle.mmsyntax.proofs.Sound.{if_ok}
-use Rattle.commands.specs.Scripts.{hypothesis_numbered, counted_from_0, other_step_of, OtherSteps}
-use Rattle.commands.proofs.HypothesisNumbers.{numbered_some, numbered_none}
+use Rattle.scripts.specs.Scripts.{hypothesis_numbered, counted_from_0, other_step_of, OtherSteps}
+use Rattle.scripts.proofs.HypothesisNumbers.{numbered_some, numbered_none}
 
 -- what is found passes the test
 found_passes : (test : ℕ → Bool) (ns : List ℕ) (k : ℕ) → find test ns ≡ Some k → test k ≡ true

@@ -21,7 +21,7 @@ use Rattle.library.specs.declared.command.Command.TheVariants as command
 use Rattle.library.specs.declared.command.Line.{Line}
 use Rattle.library.specs.declared.command.Reply.{Reply}
 use Rattle.library.specs.declared.command.Reply.TheVariants as reply
-use Rattle.commands.specs.Scripts.{DeclaresAlone, OtherSteps, SpellsCommand, SpellsEach, SpellsTransaction}
+use Rattle.scripts.specs.Scripts.{DeclaresAlone, OtherSteps, SpellsCommand, SpellsEach, SpellsTransaction}
 use Rattle.library.specs.declared.history.Entry.{Entry}
 use Rattle.library.specs.declared.history.Entry.TheVariants as entry
 use Rattle.historytext.specs.Grammar.{kind_word, SpellsLine, SpellsReply, SpellsEntry, SpellsHistory}

@@ -10,8 +10,8 @@ use Rattle.mmtext.specs.Languages.{fault}
 use Rattle.mmtext.specs.Views.{Fails}
 use Rattle.library.specs.declared.command.Command.{Command}
 use Rattle.library.specs.declared.command.Reply.{Reply}
-use Rattle.commands.specs.ScriptFaults.{Led, inside, whole_command, bad, bad_text, is_numeral}
-use Rattle.commands.specs.ScriptViews.{decided, number_at}
+use Rattle.scripts.specs.ScriptFaults.{Led, inside, whole_command, bad, bad_text, is_numeral}
+use Rattle.scripts.specs.ScriptViews.{decided, number_at}
 use Rattle.library.specs.declared.history.Entry.{Entry}
 use Rattle.historytext.specs.Places.{Answered, going, whole_reply, wrong, wrong_text, number_row, asked, answered}
 use Rattle.historytext.specs.Views.{answer}

@@ -33,7 +33,7 @@ use Rattle.library.specs.declared.library.Ranked.{Ranked}
 use Rattle.library.specs.Histories.{told, EntriesFit, IsLegal}
 use Rattle.library.specs.Library.{highest_rank, Setting, Verifies}
 use Rattle.library.proofs.Naming.{IsLawful, IsSoundCommand, IsSoundLine, IsSoundReply, IsSoundTurn, legal_sound}
-use Rattle.commands.specs.Scripts.{IsPlain, IsRank, SpellsCommand, SpellsEach, SpellsTransaction}
+use Rattle.scripts.specs.Scripts.{IsPlain, IsRank, SpellsCommand, SpellsEach, SpellsTransaction}
 use Rattle.historytext.specs.Grammar.{highest_count, IsCount, kind_word, SpellsLine, SpellsReply, SpellsEntry, SpellsHistory}
 use Rattle.historytext.specs.Layout.{history_text}
 use Rattle.historytext.specs.Laws.{LegalHistoriesAreSpelled}

@@ -11,7 +11,7 @@ use Rattle.mmsyntax.specs.Grammar.{Statement, spelling}
 use Rattle.library.specs.declared.command.Line.{Line}
 use Rattle.library.specs.declared.command.Reply.{Reply}
 use Rattle.library.specs.declared.command.Reply.TheVariants.{Done, Shown, Listed}
-use Rattle.commands.specs.Scripts.{IsPlain, IsRank, DeclaresAlone, SpellsEach, SpellsTransaction}
+use Rattle.scripts.specs.Scripts.{IsPlain, IsRank, DeclaresAlone, SpellsEach, SpellsTransaction}
 use Rattle.library.specs.declared.history.Entry.{Entry}
 use Rattle.library.specs.declared.history.Entry.TheVariants as entry
 

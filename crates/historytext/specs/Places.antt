@@ -18,7 +18,7 @@ use Rattle.library.specs.declared.command.Line.{Line}
 use Rattle.library.specs.declared.command.Reply.{Reply}
 use Rattle.library.specs.declared.command.Reply.TheVariants.{Done, Shown, Listed}
 use Rattle.library.specs.Fitting.{highest_rank}
-use Rattle.commands.specs.ScriptFaults.{CommandPlace, Led, inside, whole_command, bad, bad_text, is_numeral, unit_start, in_command, command_word}
+use Rattle.scripts.specs.ScriptFaults.{CommandPlace, Led, inside, whole_command, bad, bad_text, is_numeral, unit_start, in_command, command_word}
 use Rattle.library.specs.declared.history.Entry.{Entry}
 use Rattle.library.specs.declared.history.Entry.TheVariants as entry
 use Rattle.historytext.specs.Grammar.{highest_count}

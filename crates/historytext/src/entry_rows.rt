@@ -3,13 +3,13 @@
 ghost use Rattle.mmtext.specs.Text.{Token as SeenToken};
 ghost use Rattle.mmtext.specs.Views.{seen, Gives};
 ghost use Rattle.mmsyntax.specs.Tables.{Tables};
-ghost use Rattle.commands.specs.ScriptViews.{seen_led};
+ghost use Rattle.scripts.specs.ScriptViews.{seen_led};
 ghost use Rattle.historytext.specs.Places.{answered, asked, command_row, in_entry_row, replies_left};
 ghost use Rattle.historytext.specs.Views.{seen_answered, seen_entry_place, seen_progress};
 
 use crate::place::{Answered, EntryPlace, Place, Progress};
 use crate::reply_rows::{read_in_reply, read_reply_word};
-use commands::{Led, read_command_word, read_in_command};
+use scripts::{Led, read_command_word, read_in_command};
 use library::{Command, Entry, Reply};
 use mmstatement::{FaultKind, Prelude, Sequence};
 use mmtext::{Stop, Token, fault_at};

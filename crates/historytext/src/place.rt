@@ -1,6 +1,6 @@
 //! Places in a history.
 
-use commands::CommandPlace;
+use scripts::CommandPlace;
 use library::{Command, Entry, Line, Reply};
 use mmreader::UnitReader;
 use mmstatement::{Kind, Label};

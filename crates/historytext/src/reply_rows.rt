@@ -9,7 +9,7 @@ ghost use Rattle.historytext.specs.Places.{in_reply, lines_left, reply_word, sho
 ghost use Rattle.historytext.specs.Views.{answer, count_at, kind_at, seen_answered, seen_reply_place};
 
 use crate::place::{Answered, ReplyPlace};
-use commands::{count, is_numeral, read_label, read_rank};
+use scripts::{count, is_numeral, read_label, read_rank};
 use library::{Line, Ranked, Reply};
 use mmreader::{UnitProgress, UnitReader};
 use mmstatement::{FaultKind, Kind, Prelude, Sequence};

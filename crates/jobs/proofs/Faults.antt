@@ -5,8 +5,8 @@ use Rattle.std.proofs.lemmas.List.{take_more, take_all, take-append-drop, length
 use Rattle.std.proofs.Math.Seq.{drop-cons}
 use Rattle.mmtext.specs.declared.fault.TextFault.{TextFault}
 use Rattle.mmtext.specs.declared.fault.FaultKind.TheVariants.{NoMemory as OutOfMemory}
-use Rattle.commands.specs.Scripts.{SpellsScript}
-use Rattle.commands.specs.ScriptFaults.{FaultyScript}
+use Rattle.scripts.specs.Scripts.{SpellsScript}
+use Rattle.scripts.specs.ScriptFaults.{FaultyScript}
 use Rattle.jobs.specs.declared.job.Fault.{Fault}
 use Rattle.jobs.specs.declared.job.Fault.TheVariants.{Text, Proof, Differs, NoMemory}
 use Rattle.jobs.specs.Jobs.{Bytes, Orders, IsScript, AreScripts, IsFirstFault}

@@ -13,8 +13,8 @@ use Rattle.proofcheck.specs.declared.fault.ProofFaultKind.TheVariants.{NoMemory 
 use Rattle.proofcheck.specs.Databases.{AllCheck, IsFirstFault as IsFirstFaultOfProofs}
 use Rattle.library.specs.declared.command.Command.{Command}
 use Rattle.library.specs.Library.{Listed, ShowsInOrder, Verifies, opening}
-use Rattle.commands.specs.Scripts.{SpellsScript}
-use Rattle.commands.specs.ScriptFaults.{FaultyScript}
+use Rattle.scripts.specs.Scripts.{SpellsScript}
+use Rattle.scripts.specs.ScriptFaults.{FaultyScript}
 use Rattle.library.specs.declared.history.Entry.{Entry}
 use Rattle.library.specs.Histories.{told, after, after_all, IsLegal}
 use Rattle.history.specs.Replays.{IsFirstDiffering}

@@ -5,7 +5,7 @@ use Rattle.mmsyntax.specs.Tables.{Tables}
 use Rattle.mmsyntax.specs.Layout.{IsSoundPrelude}
 use Rattle.proofcheck.specs.declared.fault.ProofFault.{ProofFault}
 use Rattle.library.specs.Fitting.{CommandFits}
-use Rattle.commands.specs.Scripts.{SpellsScript}
+use Rattle.scripts.specs.Scripts.{SpellsScript}
 use Rattle.jobs.specs.declared.job.Job.{Job}
 use Rattle.jobs.specs.declared.job.Job.TheVariants.{Check, Replay}
 use Rattle.jobs.specs.declared.job.Fault.{Fault}

@@ -21,7 +21,7 @@ use crate::edits::{Edited, edit_all};
 use crate::job::{Fault, Job, Printed, text_fault};
 use crate::replaying::{print_replay, read_entries};
 use crate::report::report;
-use commands::read_script;
+use scripts::read_script;
 use export::write_library;
 use historytext::write_history;
 use library::Script;

@@ -5,11 +5,11 @@ use Rattle.std.specs.Str.{bytes_eq}
 use Rattle.std.proofs.lemmas.Bool.{cond-false}
 use Rattle.std.proofs.lemmas.Result.{err_from_is_err_and}
 use Rattle.mmtext.specs.Views.{seen, Fails, Gives}
-use Rattle.commands.specs.ScriptFaults.{command_word}
-use Rattle.commands.specs.ScriptViews.{seen_led}
+use Rattle.scripts.specs.ScriptFaults.{command_word}
+use Rattle.scripts.specs.ScriptViews.{seen_led}
 use Rattle.historytext.specs.Places.{asked, command_row, replies_left}
 use Rattle.historytext.specs.Views.{seen_progress}
-use Rattle.commands.proofs.ScriptRows.{decided_is}
+use Rattle.scripts.proofs.ScriptRows.{decided_is}
 use Rattle.historytext.proofs.Rows.{asked_fails}
 use Rattle.historytext.proofs.entry_rows.read_at_command.Goals as goal
 

@@ -2,12 +2,12 @@
 use Rattle.std.proofs.Common.{ap, sym, subst, ◌∙◌}
 use Rattle.std.proofs.lemmas.Result.{err_from_is_err_and}
 use Rattle.mmtext.specs.Views.{seen, Fails, Gives}
-use Rattle.commands.specs.ScriptFaults.{in_command}
-use Rattle.commands.specs.ScriptViews.{seen_led, seen_command_place}
+use Rattle.scripts.specs.ScriptFaults.{in_command}
+use Rattle.scripts.specs.ScriptViews.{seen_led, seen_command_place}
 use Rattle.historytext.specs.declared.place.EntryPlace.{EntryPlace}
 use Rattle.historytext.specs.Places.{asked, answered, in_entry_row, in_reply, reply_word}
 use Rattle.historytext.specs.Views.{seen_answered, seen_entry_place, seen_progress, seen_reply_place}
-use Rattle.commands.proofs.ScriptRows.{decided_is}
+use Rattle.scripts.proofs.ScriptRows.{decided_is}
 use Rattle.historytext.proofs.Rows.{answered_fails, answer_ok}
 use Rattle.historytext.proofs.entry_rows.read_in_entry.Goals as goal
 

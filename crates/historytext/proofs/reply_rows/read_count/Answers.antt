@@ -1,6 +1,6 @@
 -- What is left to show of `read_count`.
 use Rattle.std.proofs.Common.{sym, ◌∙◌}
-use Rattle.commands.proofs.Numerals.{numeral_digits}
+use Rattle.scripts.proofs.Numerals.{numeral_digits}
 use Rattle.historytext.proofs.reply_rows.read_count.Goals as goal
 
 pub count-requires : goal.count-requires

@@ -3,7 +3,7 @@ use Rattle.std.proofs.Common.{ℕ, [], ◌∷◌, ◌++◌, sym, subst}
 use Rattle.std.proofs.lemmas.Result.{err_from_is_err_and}
 use Rattle.mmtext.specs.Views.{seen, Fails}
 use Rattle.library.specs.Fitting.{highest_rank}
-use Rattle.commands.specs.ScriptFaults.{unit_start}
+use Rattle.scripts.specs.ScriptFaults.{unit_start}
 use Rattle.historytext.specs.declared.place.ReplyPlace.{ReplyPlace}
 use Rattle.historytext.specs.Grammar.{highest_count}
 use Rattle.historytext.specs.Places.{going, at_shown_citers, in_shown, at_label, lines_left, in_reply}

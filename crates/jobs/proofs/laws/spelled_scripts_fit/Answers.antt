@@ -1,4 +1,4 @@
-use Rattle.commands.proofs.ScriptLaws.{script_fits}
+use Rattle.scripts.proofs.ScriptLaws.{script_fits}
 use Rattle.jobs.proofs.laws.spelled_scripts_fit.Goals as goal
 
 pub returns : goal.returns

@@ -3,7 +3,7 @@ use Rattle.std.specs.Prelude.{All}
 use Rattle.std.proofs.lemmas.List.Elements.{All-nil, All-push, All-same}
 use Rattle.mmsyntax.specs.Tables.{Tables}
 use Rattle.library.specs.Fitting.{CommandFits}
-use Rattle.commands.specs.ScriptFaults.{FaultyScript}
+use Rattle.scripts.specs.ScriptFaults.{FaultyScript}
 use Rattle.jobs.specs.Jobs.{Bytes, Orders, AreScripts}
 use Rattle.jobs.proofs.Faults.{spelled_begins, spelled_next, script_fault, spelled_all, read_as, script_refused, no_first}
 use Rattle.jobs.proofs.performing.read_scripts.Goals as goal

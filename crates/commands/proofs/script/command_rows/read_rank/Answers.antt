@@ -1,7 +1,0 @@
--- What is left to show of `read_rank`.
-use Rattle.std.proofs.Common.{sym, ◌∙◌}
-use Rattle.commands.proofs.Numerals.{numeral_digits}
-use Rattle.commands.proofs.script.command_rows.read_rank.Goals as goal
-
-pub number-requires : goal.number-requires
-number-requires c = numeral_digits c.args.token.text.now (sym c.is_numeral.ensures ∙ c.if-not-is_numeral.false)

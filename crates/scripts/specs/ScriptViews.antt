@@ -1,0 +1,93 @@
+-- Of the code's inside, apart from the rules: how the values of the reader of scripts are seen.
+use Rattle.std.specs.Prelude.{ℕ, nat_lt, Option, Some, None, Result, Ok, Err, if◌then◌else◌}
+use Rattle.std.specs.Str.Parse.{digits_value}
+use Rattle.mmtext.specs.declared.fault.FaultKind.TheVariants.{BadToken, TooLong}
+use Rattle.mmtext.specs.declared.fault.TextFault.{TextFault}
+use Rattle.mmtext.specs.Text.{Token}
+use Rattle.mmtext.specs.Words.{Word, has_dollar}
+use Rattle.mmtext.specs.Languages.{State, fault}
+use Rattle.mmsyntax.specs.Tables.{Tables}
+use Rattle.mmreader.specs.UnitReadings.{position_of}
+use Rattle.scripts.specs.declared.script.place.CommandPlace.{CommandPlace as CodeCommandPlace}
+use Rattle.scripts.specs.declared.script.place.CommandPlace.TheVariants as code
+use Rattle.scripts.specs.declared.script.place.Place.{Place as CodePlace}
+use Rattle.scripts.specs.declared.script.place.Place.TheVariants as outer
+use Rattle.scripts.specs.declared.script.place.Led.{Led as CodeLed}
+use Rattle.scripts.specs.declared.script.place.Led.TheVariants as led
+use Rattle.scripts.specs.declared.script.place.Progress.{Progress as CodeProgress}
+use Rattle.scripts.specs.declared.script.place.State.{State as CodeState}
+use Rattle.library.specs.Fitting.{highest_rank}
+use Rattle.scripts.specs.Scripts.{hypothesis_numbered, counted_from_0}
+use Rattle.scripts.specs.ScriptFaults.{CommandPlace, at_rank, in_unit, at_reproved, at_proof, in_proof, at_old_label, at_new_label}
+use Rattle.scripts.specs.ScriptFaults.{at_moved, at_new_rank, at_deleted, at_shown, Place, outermost, at_command, within, Progress}
+use Rattle.scripts.specs.ScriptFaults.{Led, inside, whole_command, bad, bad_text, is_numeral}
+
+-- ---- words
+
+-- the number of digits, up to a highest
+abbrev pub written_within : ℕ → Word → Option ℕ
+written_within highest w = if nat_lt highest (digits_value 10 w) then None else Some (digits_value 10 w)
+
+-- a rank
+abbrev pub rank_written : Word → Option ℕ
+rank_written w = written_within highest_rank w
+
+-- the place of the hypothesis that a word names in another proof of L
+unfoldable pub place_numbered : Word → Word → Option ℕ
+place_numbered label w = counted_from_0 (hypothesis_numbered label w)
+
+-- a label, or the fault of a token that isn't one
+abbrev pub label_at : Token → Result Word TextFault
+label_at t = if has_dollar t.text then fault t BadToken else Ok t.text
+
+-- a number up to a highest, or the fault of a token that isn't one
+abbrev pub number_at : ℕ → Token → Result ℕ TextFault
+number_at highest t =
+    if is_numeral t.text then (if nat_lt highest (digits_value 10 t.text) then fault t TooLong else Ok (digits_value 10 t.text))
+    else fault t BadToken
+
+-- a rank, or the fault of a token that isn't one
+abbrev pub rank_at : Token → Result ℕ TextFault
+rank_at t = number_at highest_rank t
+
+-- ---- places
+
+-- a place of the code in a command
+abbrev pub seen_command_place : Tables → CodeCommandPlace → CommandPlace
+seen_command_place t code.AtRank = at_rank
+seen_command_place t (code.InUnit rank r) = in_unit rank (position_of t r)
+seen_command_place t code.AtReproved = at_reproved
+seen_command_place t (code.AtProof label) = at_proof label
+seen_command_place t (code.InProof label steps) = in_proof label steps.items
+seen_command_place t code.AtOldLabel = at_old_label
+seen_command_place t (code.AtNewLabel old) = at_new_label old
+seen_command_place t code.AtMoved = at_moved
+seen_command_place t (code.AtNewRank label) = at_new_rank label
+seen_command_place t code.AtDeleted = at_deleted
+seen_command_place t code.AtShown = at_shown
+
+-- a place of the code
+abbrev pub seen_place : Tables → CodePlace → Place
+seen_place t outer.Outermost = outermost
+seen_place t (outer.AtCommand commands) = at_command commands.items
+seen_place t (outer.Within commands p) = within commands.items (seen_command_place t p)
+
+-- where a token of a command led
+abbrev pub seen_led : Tables → CodeLed → Led
+seen_led t (led.Inside p) = inside (seen_command_place t p)
+seen_led t (led.Whole c) = whole_command c
+
+-- where a token of a command leads, or its fault
+abbrev pub decided : Token → Led → Result Led TextFault
+decided t (inside p) = Ok (inside p)
+decided t (whole_command c) = Ok (whole_command c)
+decided t (bad kind) = fault t kind
+decided t (bad_text f) = Err f
+
+-- how far a script was read, as the code keeps it
+abbrev pub seen_progress : Tables → CodeProgress → Progress
+seen_progress t p = record { script = p.script.items; place = seen_place t p.place }
+
+-- the state of the code
+abbrev pub seen_state : Tables → CodeState → State Progress
+seen_state t s = record { place = seen_progress t s.progress; in_comment = s.in_comment }

@@ -1,0 +1,194 @@
+//! Reading a command: one function for each kind of word in it.
+
+ghost use Rattle.std.specs.Prelude.{◌≡◌, IfOk};
+ghost use Rattle.mmtext.specs.Text.{mark_of};
+ghost use Rattle.mmtext.specs.Views.{seen, Gives};
+ghost use Rattle.mmsyntax.specs.Tables.{Tables};
+ghost use Rattle.mmsyntax.specs.Faults.{row};
+ghost use Rattle.mmreader.specs.UnitReadings.{position_of};
+ghost use Rattle.scripts.specs.Scripts.{other_step_of};
+ghost use Rattle.scripts.specs.ScriptFaults.{command_word, in_command, proof_start, step_row, unit_row};
+ghost use Rattle.scripts.specs.ScriptViews.{label_at, rank_at, decided, seen_command_place, seen_led};
+
+use super::numerals::{hypothesis_place, is_numeral, number};
+use super::place::{CommandPlace, Led};
+use library::Command;
+use mmreader::{UnitProgress, UnitReader, named_step};
+use mmstatement::{FaultKind, Label, Prelude, Sequence, Step};
+use mmtext::{Mark, Stop, Token, contains_dollar, fault_at, mark_word};
+use std::alloc::{AllocError, Global};
+
+/// A label: a word without `$`.
+///
+/// # Errors
+///
+/// `BadToken` at a token with `$`, or want of memory.
+pub fn read_label(alloc: Global, token: Token<'_>) -> Result<Label, Stop>
+    ensures { Gives (λ l. l) result (label_at (seen token.entry)) }
+{
+    if contains_dollar(token.text) {
+        return Err(fault_at(token, FaultKind::BadToken));
+    }
+    Ok(Sequence::from_vec(Vec::from_slice(alloc, token.text)?))
+}
+
+/// A rank: a numeral, up to 4,294,967,295.
+///
+/// # Errors
+///
+/// `BadToken` at a token that is no numeral, and `TooLong` at a higher number.
+pub fn read_rank(token: Token<'_>) -> Result<u32, Stop>
+    ensures { Gives (λ n. n) result (rank_at (seen token.entry)) }
+{
+    if !is_numeral(token.text) {
+        return Err(fault_at(token, FaultKind::BadToken));
+    }
+    match number(token.text) {
+        Some(rank) => Ok(rank),
+        None => Err(fault_at(token, FaultKind::TooLong)),
+    }
+}
+
+/// A token of the assertion of `add`.
+fn read_in_unit<'a>(
+    alloc: Global,
+    prelude: &Prelude,
+    rank: u32,
+    reader: UnitReader<'a>,
+    token: Token<'a>,
+) -> Result<Led<'a>, Stop>
+    ensures { Gives (seen_led prelude.now) result
+        (decided (seen token.entry) (unit_row rank (row (position_of prelude.now reader.entry) (seen token.entry)))) }
+{
+    match reader.read(alloc, prelude, token)? {
+        UnitProgress::Within(reader) => Ok(Led::Inside(CommandPlace::InUnit(rank, reader))),
+        UnitProgress::Whole(assertion) => Ok(Led::Whole(Command::Add { rank, assertion })),
+    }
+}
+
+/// Behind `reprove` and a label: `$=`.
+fn read_proof_start<'a>(alloc: Global, label: Label, token: Token<'a>) -> Result<Led<'a>, Stop>
+    ensures { (t : Tables) → Gives (seen_led t) result
+        (decided (seen token.entry) (proof_start label (mark_of token.entry.text.now))) }
+{
+    if mark_word(token.text) != Mark::Proof {
+        return Err(fault_at(token, FaultKind::BadToken));
+    }
+    Ok(Led::Inside(CommandPlace::InProof(label, Vec::new(alloc))))
+}
+
+/// The step that a word is behind `count` steps of another proof of an assertion with a label, or why it is none.
+fn other_step(
+    alloc: Global,
+    prelude: &Prelude,
+    label: &[u8],
+    count: usize,
+    word: &[u8],
+) -> Result<Result<Step, FaultKind>, AllocError>
+    ensures { IfOk result (λ r. r ≡ other_step_of prelude.now label.now count word.now) }
+{
+    let hypothesis = hypothesis_place(label, word);
+    named_step(alloc, prelude.symbols(), hypothesis, count, word)
+}
+
+/// A step of another proof, or the `$.` behind one.
+fn read_step<'a>(
+    alloc: Global,
+    prelude: &Prelude,
+    label: Label,
+    mut steps: Vec<Step>,
+    token: Token<'a>,
+) -> Result<Led<'a>, Stop>
+    ensures { Gives (seen_led prelude.now) result
+        (decided (seen token.entry) (step_row prelude.now label steps.items (seen token.entry) (mark_of token.entry.text.now))) }
+{
+    if mark_word(token.text) == Mark::End && !steps.is_empty() {
+        let steps = Sequence::from_vec(steps);
+        return Ok(Led::Whole(Command::Reprove { label, steps }));
+    }
+    match other_step(alloc, prelude, label.as_slice(), steps.len(), token.text)? {
+        Ok(step) => {
+            steps.push(step)?;
+            Ok(Led::Inside(CommandPlace::InProof(label, steps)))
+        }
+        Err(kind) => Err(fault_at(token, kind)),
+    }
+}
+
+/// Where the word of a command leads.
+///
+/// # Errors
+///
+/// `BadToken` at any other token.
+pub fn read_command_word<'a>(token: Token<'a>) -> Result<Led<'a>, Stop>
+    ensures { (t : Tables) → Gives (seen_led t) result (decided (seen token.entry) (command_word token.entry.text.now)) }
+{
+    let word = token.text;
+    let place = if word == b"add".as_slice() {
+        CommandPlace::AtRank
+    } else if word == b"reprove".as_slice() {
+        CommandPlace::AtReproved
+    } else if word == b"rename".as_slice() {
+        CommandPlace::AtOldLabel
+    } else if word == b"move".as_slice() {
+        CommandPlace::AtMoved
+    } else if word == b"delete".as_slice() {
+        CommandPlace::AtDeleted
+    } else if word == b"show".as_slice() {
+        CommandPlace::AtShown
+    } else if word == b"list".as_slice() {
+        return Ok(Led::Whole(Command::List));
+    } else {
+        return Err(fault_at(token, FaultKind::BadToken));
+    };
+    Ok(Led::Inside(place))
+}
+
+/// Where a token leads that stands in a command, outside of comments. All tokens of a command are read over one prelude.
+///
+/// # Errors
+///
+/// The fault that [`read_script`](super::read_script) has at the token, or want of memory.
+pub fn read_in_command<'a>(
+    alloc: Global,
+    prelude: &Prelude,
+    place: CommandPlace<'a>,
+    token: Token<'a>,
+) -> Result<Led<'a>, Stop>
+    ensures { Gives (seen_led prelude.now) result
+        (decided (seen token.entry) (in_command prelude.now (seen_command_place prelude.now place.entry) (seen token.entry))) }
+{
+    let next = match place {
+        CommandPlace::AtRank => {
+            let rank = read_rank(token)?;
+            CommandPlace::InUnit(rank, UnitReader::new(alloc, prelude.keys()))
+        }
+        CommandPlace::InUnit(rank, reader) => {
+            return read_in_unit(alloc, prelude, rank, reader, token);
+        }
+        CommandPlace::AtReproved => CommandPlace::AtProof(read_label(alloc, token)?),
+        CommandPlace::AtProof(label) => return read_proof_start(alloc, label, token),
+        CommandPlace::InProof(label, steps) => {
+            return read_step(alloc, prelude, label, steps, token);
+        }
+        CommandPlace::AtOldLabel => CommandPlace::AtNewLabel(read_label(alloc, token)?),
+        CommandPlace::AtNewLabel(old) => {
+            let new = read_label(alloc, token)?;
+            return Ok(Led::Whole(Command::Rename { old, new }));
+        }
+        CommandPlace::AtMoved => CommandPlace::AtNewRank(read_label(alloc, token)?),
+        CommandPlace::AtNewRank(label) => {
+            let rank = read_rank(token)?;
+            return Ok(Led::Whole(Command::Move { label, rank }));
+        }
+        CommandPlace::AtDeleted => {
+            let label = read_label(alloc, token)?;
+            return Ok(Led::Whole(Command::Delete { label }));
+        }
+        CommandPlace::AtShown => {
+            let label = read_label(alloc, token)?;
+            return Ok(Led::Whole(Command::Show { label }));
+        }
+    };
+    Ok(Led::Inside(next))
+}
