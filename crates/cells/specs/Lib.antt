@@ -7,3 +7,4 @@ pub mod Chains
 pub mod Filling
 pub mod Plain
 pub mod Opening
+pub mod Reasons

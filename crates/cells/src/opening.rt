@@ -23,6 +23,32 @@ pub enum OpenError {
     NoMemory,
 }
 
+impl OpenError {
+    ghost use Rattle.cells.specs.Reasons.{open_number_of, open_name_of};
+
+    /// The number of the reason, from 1 to 3.
+    pub fn number(self) -> u32
+        ensures { result ≡ open_number_of self }
+    {
+        match self {
+            OpenError::TooMany => 1,
+            OpenError::StoreFull => 2,
+            OpenError::NoMemory => 3,
+        }
+    }
+
+    /// The name of the reason.
+    pub fn name(self) -> &'static str
+        ensures { result.now ≡ open_name_of self }
+    {
+        match self {
+            OpenError::TooMany => "TooMany",
+            OpenError::StoreFull => "StoreFull",
+            OpenError::NoMemory => "NoMemory",
+        }
+    }
+}
+
 impl From<AllocError> for OpenError {
     ghost use Rattle.std.specs.Prelude.{◌≡◌};
     ghost use Rattle.cells.specs.declared.opening.OpenError.TheVariants.{NoMemory};

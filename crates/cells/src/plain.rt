@@ -18,6 +18,30 @@ pub enum PlainStop {
     NoMemory,
 }
 
+impl PlainStop {
+    ghost use Rattle.cells.specs.Reasons.{stop_number_of, stop_name_of};
+
+    /// The number of the reason, from 1 to 2.
+    pub fn number(self) -> u32
+        ensures { result ≡ stop_number_of self }
+    {
+        match self {
+            PlainStop::StoreFull => 1,
+            PlainStop::NoMemory => 2,
+        }
+    }
+
+    /// The name of the reason.
+    pub fn name(self) -> &'static str
+        ensures { result.now ≡ stop_name_of self }
+    {
+        match self {
+            PlainStop::StoreFull => "StoreFull",
+            PlainStop::NoMemory => "NoMemory",
+        }
+    }
+}
+
 /// A library in cells, and the store of its bodies, on plain vectors.
 ///
 /// What a run writes stands in the cells at once; `undo` gives back what they held when the run began, and `keep` begins another.
