@@ -78,6 +78,7 @@ impl PlainCells {
         requires some { 1 ≤ slots }
         requires few { slots ≤ 4096 }
         requires roomy { room ≤ 16777216 }
+        ensures within { IfOk result (λ _. (length database.now.assertions ≤ slots) × (bodies_length database.now.assertions ≤ room)) }
         ensures ok { IfOk result (λ made. Opens database.now slots room made) }
         ensures err { IfErr result (λ error. Refuses database.now slots room error) }
     {
