@@ -1,13 +1,9 @@
 -- Cells of zeros show the library without assertions, which verifies.
-use Rattle.std.proofs.Common.{◌≡◌, ℕ, zero, suc, ◌*◌, List, [], ◌∷◌, length, get_or, inl, inr, refl, sym, ap, ◌∙◌, arith, true}
-use Rattle.std.specs.Prelude.{◌<◌, ◌≤◌, All, Some, slice_get, replicate, IsTrue}
-use Rattle.std.specs.Str.{bytes_eq}
-use Rattle.std.proofs.lemmas.List.{get_or-replicate, length-replicate}
+use Rattle.std.proofs.Common.{◌≡◌, ℕ, zero, suc, List, [], get_or, inr, refl, sym, ap, ◌∙◌, arith}
+use Rattle.std.specs.Prelude.{◌≤◌, replicate, IsTrue}
 use Rattle.std.proofs.lemmas.List.Elements.{All-nil}
 use Rattle.std.proofs.lemmas.List.Sorted.{IsPermutation-refl}
-use Rattle.std.proofs.lemmas.Option.{slice_get_within, get_or_from_slice_get}
-use Rattle.mmsyntax.specs.Tables.{Tables}
-use Rattle.mmsyntax.specs.Layout.{IsSoundPrelude}
+use Rattle.std.proofs.lemmas.Option.{get_or_from_slice_get}
 use Rattle.mmsyntax.specs.Assertions.{Fits, is_lawful_label}
 use Rattle.proofcheck.specs.Derivation.{Checks}
 use Rattle.library.specs.declared.library.Ranked.{Ranked}
@@ -15,7 +11,6 @@ use Rattle.library.specs.Library.{Setting, IsSetting, Verifies, label_of, citabl
 use Rattle.ranges.specs.Ranges.{Range}
 use Rattle.ranges.specs.declared.range.Range.{Range as Place}
 use Rattle.cells.specs.State.{State}
-use Rattle.cells.specs.Slots.{is_ranged}
 use Rattle.cells.specs.Shows.{Held, Holds, ShowsHeld}
 use Rattle.cells.specs.Plain.{plain_state, ShowsSome, HoldNames, names}
 

@@ -1,13 +1,13 @@
 -- The fronts of a database: they verify, and what the next assertion adds.
 use Rattle.std.proofs.Common.{◌≡◌, ◌≢◌, ℕ, zero, suc, ◌+◌, ◌*◌, ◌<◌, ◌≤◌, List, [], ◌∷◌, ◌++◌, Some, length, get_or, take, drop, map, inl, inr, refl, sym, ap, subst, ◌∙◌, arith, true, false}
-use Rattle.std.specs.Prelude.{Bool, ◌||◌, IsTrue, All, Contains, slice_get, nat_eq}
+use Rattle.std.specs.Prelude.{◌||◌, IsTrue, All, Contains, slice_get}
 use mathlib.Core.Bool.{not}
 use Rattle.std.specs.List.{list_any}
 use Rattle.std.specs.Str.{bytes_eq}
 use Rattle.std.proofs.lemmas.List.{take_more, take-append-drop, length-take-le, map-append}
 use Rattle.std.proofs.lemmas.List.Elements.{All-take, All-head, All-tail}
 use Rattle.std.proofs.lemmas.List.Folds.{list_any_at}
-use Rattle.std.proofs.lemmas.Option.{slice_get-get_or, slice_get_within}
+use Rattle.std.proofs.lemmas.Option.{slice_get-get_or}
 use Rattle.std.proofs.lemmas.Grind.{common_steps}
 use Rattle.mmsyntax.specs.declared.statement.Assertion.{Assertion}
 use Rattle.mmsyntax.specs.declared.statement.Kind.{Kind}
@@ -23,13 +23,13 @@ use Rattle.mmsyntax.proofs.Declarable.{declarable, spelled_where_declarable}
 use Rattle.proofcheck.specs.Databases.{AllCheck, frame_in}
 use Rattle.proofcheck.specs.Derivation.{Checks}
 use Rattle.library.specs.declared.library.Ranked.{Ranked}
-use Rattle.library.specs.Library.{Setting, Verifies, ranked_from, opening}
+use Rattle.library.specs.Library.{Verifies, ranked_from, opening}
 use Rattle.library.specs.Edits.{has, added, is_of_unknown}
 use Rattle.library.proofs.Derivations.{NamesOne, steps_named}
 use Rattle.library.proofs.Frames.{frame_found}
 use Rattle.library.proofs.Opening.{length-ranked_from, opening_verifies}
 use Rattle.ranges.specs.Ranges.{Has}
-use Rattle.cells.specs.Shows.{Held, slots_of}
+use Rattle.cells.specs.Shows.{slots_of}
 use Rattle.cells.specs.Opening.{front, held_from}
 
 -- ---- they verify

@@ -1,14 +1,13 @@
 -- All values of the cells, each with its cell, as what is kept aside.
-use Rattle.std.proofs.Common.{◌≡◌, ◌≢◌, ℕ, zero, suc, ◌+◌, List, [], ◌∷◌, length, get_or, Option, Some, None, inl, inr, refl, sym, ap, subst, ◌∙◌, arith, true, false, cond, get_or-set_same}
-use Rattle.std.specs.Prelude.{◌⊎◌, ◌==◌, if◌then◌else◌, slice_get, nat_eq, ◌<◌, ◌≤◌}
-use Rattle.std.proofs.lemmas.Bool.{cases_eq}
+use Rattle.std.proofs.Common.{◌≡◌, ◌≢◌, ℕ, zero, suc, ◌+◌, List, [], ◌∷◌, length, get_or, Option, Some, inl, inr, refl, sym, ap, ◌∙◌, arith, true, false, get_or-set_same}
+use Rattle.std.specs.Prelude.{◌⊎◌, ◌==◌, if◌then◌else◌, slice_get, nat_eq, ◌<◌}
 use Rattle.std.proofs.lemmas.Bool.Decides.{eqb_tells}
 use Rattle.std.proofs.Math.ListN.{set}
 use Rattle.std.proofs.lemmas.List.{length-set}
 use Rattle.std.proofs.lemmas.Option.{slice_get-get_or}
-use Rattle.ranges.specs.Pairs.{Pairs, written}
+use Rattle.ranges.specs.Pairs.{written}
 use Rattle.ranges.specs.Ranges.{Range}
-use Rattle.cells.specs.State.{State, with_writes, value_or}
+use Rattle.cells.specs.State.{with_writes, value_or}
 use Rattle.cells.specs.Plain.{numbered_from}
 
 written_from : (vs : List ℕ) (n j c : ℕ) → j ≡ n + c → written j (numbered_from n vs) ≡ slice_get vs c

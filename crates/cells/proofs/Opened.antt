@@ -1,10 +1,7 @@
 -- Plain cells over the states that they leave possible, and what one more assertion makes of them.
-use Rattle.std.proofs.Common.{◌≡◌, ◌≢◌, ℕ, zero, suc, ◌+◌, ◌*◌, ◌<◌, ◌≤◌, List, [], ◌∷◌, ◌++◌, length, get_or, inl, inr, refl, sym, ap, subst, ◌∙◌, arith, false}
+use Rattle.std.proofs.Common.{◌≡◌, ◌≢◌, ℕ, ◌+◌, ◌*◌, ◌<◌, ◌≤◌, List, [], ◌∷◌, ◌++◌, length, get_or, inl, inr, refl, sym, ap, subst, ◌∙◌, arith}
 use Rattle.std.specs.Prelude.{◌⊎◌, Some, None, take}
-use Rattle.std.specs.List.{AllZip}
 use Rattle.mmsyntax.specs.declared.statement.Assertion.{Assertion}
-use Rattle.mmsyntax.specs.declared.statement.Kind.{Kind}
-use Rattle.mmsyntax.specs.declared.statement.Kind.TheVariants.{Axiom, Theorem}
 use Rattle.mmsyntax.specs.declared.statement.Step.{Step}
 use Rattle.mmsyntax.specs.declared.statement.Step.TheVariants.{Float, Hyp, Cite}
 use Rattle.mmsyntax.specs.Tables.{Contents}
@@ -17,10 +14,10 @@ use Rattle.bodystore.specs.declared.stored.StoredStep.TheVariants as stored
 use Rattle.library.specs.declared.library.Ranked.{Ranked}
 use Rattle.library.specs.Library.{Setting, Verifies, opening}
 use Rattle.library.specs.Edits.{has, added}
-use Rattle.ranges.specs.Ranges.{Range, Has, Within}
+use Rattle.ranges.specs.Ranges.{Has, Within}
 use Rattle.ranges.proofs.Grown.{within_trans}
 use Rattle.cells.specs.declared.plain.PlainCells.{PlainCells}
-use Rattle.cells.specs.State.{State, with_writes, most_words}
+use Rattle.cells.specs.State.{State, with_writes}
 use Rattle.cells.specs.Shows.{Held, slots_of, IsNamed, IsStoredAs, AreStoredAs, IsEmpty, Shows, ShowsHeld}
 use Rattle.cells.specs.Sight.{Sight, Matches, Views, Onward, Looks, after}
 use Rattle.cells.specs.Lookups.{Resolves}

@@ -1,24 +1,22 @@
 -- What plain cells have seen: their calls, and the state that they began with.
-use Rattle.std.proofs.Common.{◌≡◌, ℕ, ◌*◌, List, [], ◌∷◌, ◌++◌, length, get_or, set, inl, inr, refl, sym, ap, subst, ◌∙◌, arith, true, length-append}
+use Rattle.std.proofs.Common.{◌≡◌, ℕ, List, [], ◌∷◌, ◌++◌, length, get_or, set, inl, inr, refl, sym, ap, subst, ◌∙◌, arith, true, length-append}
 use Rattle.std.specs.Prelude.{◌<◌, ◌≤◌, ◌⊎◌, Bool, false, if◌then◌else◌, Some, slice_get}
 use mathlib.Core.Logic.{∥∥₁_map}
 use Rattle.std.proofs.lemmas.Bool.{cases_eq}
 use Rattle.std.proofs.lemmas.Grind.{common_steps}
 use Rattle.std.proofs.lemmas.Option.{slice_get-get_or}
-use Rattle.library.specs.declared.library.Ranked.{Ranked}
-use Rattle.library.specs.Library.{Setting, Verifies}
+use Rattle.library.specs.Library.{Setting}
 use Rattle.ranges.specs.Pairs.{Pairs}
-use Rattle.ranges.specs.Ranges.{Range, Has, Within, Names}
+use Rattle.ranges.specs.Ranges.{Range, Has, Names}
 use Rattle.ranges.specs.declared.range.Range.{Range as Place}
 use Rattle.ranges.proofs.Grown.{within_refl}
-use Rattle.cells.specs.State.{State, FitsReads, most_words}
+use Rattle.cells.specs.State.{FitsReads, most_words}
 use Rattle.cells.specs.Slots.{is_ranged}
-use Rattle.cells.specs.Sight.{Sight, WasRead, Matches, Suits, Onward, Looks, Reads, Writes, Stages, Knows, after}
-use Rattle.cells.specs.Shows.{Shows}
+use Rattle.cells.specs.Sight.{WasRead, Matches, Reads, Writes, Stages}
 use Rattle.cells.specs.Plain.{undone, read_at_first, ranges_in, plain_sight, plain_state, behind, ShowsSome, BeganWithSome, LieInStore, HoldNames, names, IsLogOf}
-use Rattle.cells.proofs.Logs.{logged_push, has_front, has_last, undone_read, undone_write, length-undone, read_at_first-push, fits_front, fits_first}
+use Rattle.cells.proofs.Logs.{logged_push, has_front, has_last, undone_read, undone_write, read_at_first-push, fits_front, fits_first}
 use Rattle.cells.proofs.Numbered.{value_kept, written_set, slice_get-set_same, slice_get-set_other}
-use Rattle.cells.proofs.Stores.{of_one_store, ranges_in-more, within_staged, has_staged, lie_staged, hold_more, names_true, true_names}
+use Rattle.cells.proofs.Stores.{of_one_store, within_staged, has_staged, hold_more, names_true, true_names}
 use Rattle.cells.proofs.Widened.{shows_widened}
 
 -- a state of these values may be the one under the run, where the run began with them

@@ -1,13 +1,13 @@
 -- What the sights of a run have in common, before and after its calls.
-use Rattle.std.proofs.Common.{◌≡◌, ℕ, List, [], ◌∷◌, Option, Some, None, refl, sym, ap, subst, ◌∙◌, true, false}
+use Rattle.std.proofs.Common.{◌≡◌, ℕ, List, Option, Some, refl, sym, ap, subst, ◌∙◌, true, false}
 use Rattle.std.specs.Prelude.{◌==◌, if◌then◌else◌}
 use Rattle.std.proofs.lemmas.Bool.Decides.{Decides-eqb}
 use Rattle.library.specs.declared.library.Ranked.{Ranked}
-use Rattle.ranges.specs.Pairs.{Pairs, written}
-use Rattle.ranges.specs.Ranges.{Range, Has, Within}
+use Rattle.ranges.specs.Pairs.{written}
+use Rattle.ranges.specs.Ranges.{Has, Within}
 use Rattle.ranges.proofs.Grown.{within_refl, within_trans}
 use Rattle.cells.specs.State.{State, FitsReads, with_writes, value_or, with_value}
-use Rattle.cells.specs.Sight.{Sight, WasRead, WasWritten, Matches, Views, Suits, Onward, Looks, Reads, Writes, Stages, after}
+use Rattle.cells.specs.Sight.{Sight, WasWritten, Matches, Views, Onward, Looks, Writes, after}
 use Rattle.library.specs.Library.{Setting, Verifies}
 use Rattle.cells.specs.Shows.{Shows}
 use Rattle.cells.specs.Lookups.{ForEach}

@@ -7,22 +7,19 @@ use Rattle.std.proofs.lemmas.Bool.Decides.{nat_tests}
 use Rattle.std.proofs.lemmas.List.Elements.{All-nil, All-cons, All-head, All-tail, All-weaker, All-contains}
 use Rattle.std.proofs.lemmas.List.Sums.{AllPass-from_list_all}
 use Rattle.mmtext.specs.Words.{is_label_byte, is_label, has_dot}
-use Rattle.mmsyntax.specs.declared.statement.Symbol.{Symbol}
-use Rattle.mmsyntax.specs.declared.statement.Symbol.TheVariants.{Const, Var}
 use Rattle.mmsyntax.specs.declared.statement.Step.{Step}
 use Rattle.mmsyntax.specs.declared.statement.Step.TheVariants.{Float, Hyp, Cite}
-use Rattle.mmsyntax.specs.declared.statement.Assertion.{Assertion}
 use Rattle.mmsyntax.specs.Tables.{Tables, meaning}
-use Rattle.mmsyntax.specs.Layout.{IsSoundPrelude}
 use Rattle.mmsyntax.specs.Preludes.{AreSound}
-use Rattle.mmsyntax.specs.Assertions.{IsSymbolOf, IsExpression, IsPairOf, Fits, IsUnit, IsNameable, is_lawful_label, is_float_label}
+use Rattle.mmsyntax.specs.Assertions.{IsUnit, IsNameable, is_lawful_label, is_float_label}
 use Rattle.mmsyntax.proofs.Declarable.{sound_where_apart}
 use Rattle.library.specs.declared.library.Ranked.{Ranked}
 use Rattle.library.specs.Library.{Setting, Verifies, label_of}
 use Rattle.library.proofs.Showing.{units_of}
 use Rattle.bodystore.specs.declared.stored.StoredStep.{StoredStep}
 use Rattle.bodystore.specs.declared.stored.StoredStep.TheVariants as stored
-use Rattle.bodystore.specs.Bodies.{statement_of, IsSmallSymbol, IsSmallPair, IsSmallStatement, IsSmallStep}
+use Rattle.bodystore.specs.Bodies.{statement_of, IsSmallStatement, IsSmallStep}
+use Rattle.bodystore.proofs.Small.{fitting_small}
 use Rattle.cells.specs.State.{State}
 use Rattle.cells.specs.Shows.{IsNamed, IsStoredAs}
 use Rattle.cells.specs.Lookups.{IsShortLabelled}
@@ -65,23 +62,9 @@ short_labelled t hyps (Float i) h = tt
 short_labelled t hyps (Hyp k) h = tt
 short_labelled t hyps (Cite w) h = label_bytes w (not (is_float_label t w)) h
 
--- ---- statements
+-- ---- steps
 
 module _ (t : Tables) (sound : AreSound t) where
-  small_symbol : (x : Symbol) → IsSymbolOf t x → IsSmallSymbol x
-  small_symbol (Const i) h = let few = sound.constants_fit in omega (arith, h, few)
-  small_symbol (Var j) h = let few = sound.floats_fit in omega (arith, h, few)
-
-  small_expression : (e : List Symbol) → IsExpression t e → All IsSmallSymbol e
-  small_expression e h = All-weaker (IsSymbolOf t) IsSmallSymbol small_symbol e h.symbols
-
-  small_pair : (p : ℕ × ℕ) → IsPairOf (length t.floats) p → IsSmallPair p
-  small_pair p h =
-      let few = sound.floats_fit in
-      let low = h.0 in
-      let high = h.1 in
-      (omega (arith, few, low, high), omega (arith, few, high))
-
   -- a step that is stored, where a text can name it
   small_step : (slots hyps : ℕ) (st : State) (x : Step) (y : StoredStep) → slots ≤ 4096 → hyps ≤ 1000 → IsNameable t hyps x
       → IsStoredAs (IsNamed slots st) x y → IsSmallStep y
@@ -103,16 +86,6 @@ module _ (t : Tables) (sound : AreSound t) where
   small_steps slots hyps st (x ∷ xs) (y ∷ ys) few short h z =
       All-cons IsSmallStep y ys (small_step slots hyps st x y few short (All-head (IsNameable t hyps) x xs h) z.0)
       (small_steps slots hyps st xs ys few short (All-tail (IsNameable t hyps) x xs h) z.1)
-
--- what fits a prelude that a text declares
-pub fitting_small : (t : Tables) (a : Assertion) → IsSoundPrelude t → Fits t a → IsSmallStatement (statement_of a)
-fitting_small t a prelude fits =
-    let sound = (sound_where_apart t).0 prelude in
-    record {
-      pairs = All-weaker (IsPairOf (length t.floats)) IsSmallPair (small_pair t sound) a.pairs fits.pairs_within;
-      hyps = All-weaker (IsExpression t) (All IsSmallSymbol) (small_expression t sound) a.hyps fits.hyps;
-      statement = small_expression t sound a.statement fits.statement;
-    }
 
 -- ---- an assertion of a library that verifies
 

@@ -1,17 +1,15 @@
 -- The ranges of a store at the places that are taken.
-use Rattle.std.proofs.Common.{◌≡◌, ℕ, zero, suc, ◌+◌, List, [], ◌∷◌, ◌++◌, length, get_or, take, drop, map, inl, inr, refl, sym, ap, subst, ◌∙◌, arith, true, false, length-append, length-drop}
-use Rattle.std.specs.Prelude.{◌⊎◌, ◌<◌, ◌≤◌, Bool, Some, None, slice_get, nat_eq, ◌==◌, ◌||◌}
+use Rattle.std.proofs.Common.{◌≡◌, ℕ, zero, suc, ◌+◌, List, [], ◌∷◌, ◌++◌, length, get_or, take, drop, inl, inr, refl, sym, ap, subst, ◌∙◌, arith, true, false, length-append, length-drop}
+use Rattle.std.specs.Prelude.{◌⊎◌, ◌<◌, ◌≤◌, Bool, Some, slice_get, ◌==◌, ◌||◌}
 use Rattle.std.specs.List.{list_any}
-use Rattle.std.proofs.lemmas.Bool.Decides.{eqb_tells}
 use Rattle.std.proofs.lemmas.Bool.{eqb-true, eq-eqb}
-use Rattle.std.proofs.lemmas.List.{map-append, take-append-le, drop-append-le, length-take}
+use Rattle.std.proofs.lemmas.List.{map-append, take-append-le, drop-append-le}
 use Rattle.std.proofs.Math.Seq.{drop-append_seam, take-length}
 use Rattle.std.proofs.lemmas.Option.{slice_get_within, slice_get-get_or, get_or_from_slice_get}
 use Rattle.ranges.specs.Ranges.{Range, Has, Within, Names, AreOfOneStore, IsStored, word_of}
 use Rattle.ranges.specs.declared.range.Range.{Range as Place}
 use Rattle.ranges.proofs.Grown.{names_grow}
 use Rattle.ranges.proofs.Stored.{stored_coherent, below_tail}
-use Rattle.cells.specs.Slots.{is_ranged}
 use Rattle.cells.specs.Plain.{range_in, ranges_in, behind, LieInStore, names, HoldNames}
 use Rattle.std.proofs.lemmas.Grind.{common_steps}
 use Rattle.cells.proofs.Logs.{has_front, has_last}

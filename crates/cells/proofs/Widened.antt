@@ -1,7 +1,6 @@
 -- A state that shows a library shows it where there are more ranges.
-use Rattle.std.proofs.Common.{◌≡◌, ℕ, List, [], ◌∷◌, inl, inr, refl}
-use Rattle.std.specs.Prelude.{◌⊎◌, ◌<◌, All}
-use Rattle.std.specs.List.{AllZip}
+use Rattle.std.proofs.Common.{ℕ, List, [], ◌∷◌, inl, inr}
+use Rattle.std.specs.Prelude.{◌⊎◌}
 use Rattle.std.proofs.lemmas.List.Elements.{All-weaker}
 use Rattle.mmsyntax.specs.declared.statement.Kind.{Kind}
 use Rattle.mmsyntax.specs.declared.statement.Kind.TheVariants.{Axiom, Theorem}
@@ -13,7 +12,7 @@ use Rattle.library.specs.declared.library.Ranked.{Ranked}
 use Rattle.ranges.specs.Ranges.{Range, Has, Within}
 use Rattle.cells.specs.State.{State, HasBody}
 use Rattle.cells.specs.Slots.{next_cell}
-use Rattle.cells.specs.Shows.{Held, slots_of, IsNamed, IsStoredAs, AreStoredAs, HoldsProof, Holds, IsEmpty, IsChain, IsChained, AreChained, Shows, ShowsHeld}
+use Rattle.cells.specs.Shows.{Held, slots_of, IsNamed, IsStoredAs, AreStoredAs, HoldsProof, Holds, IsEmpty, IsChain, Shows, ShowsHeld}
 
 module _ (slots : ℕ) (value : ℕ → ℕ) (ranges more : List Range) (within : Within ranges more) where
   abbrev few : State

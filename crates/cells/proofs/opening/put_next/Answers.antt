@@ -1,4 +1,4 @@
-use Rattle.std.proofs.Common.{◌≡◌, ◌+◌, ◌<◌, ℕ, List, length, get_or, Option, Some, None, Vec, Global, sym, ap, subst, ◌∙◌, arith}
+use Rattle.std.proofs.Common.{◌≡◌, ◌+◌, List, get_or, Option, Some, None, Vec, Global, sym, ap, subst, ◌∙◌}
 use Rattle.std.specs.Prelude.{option_map}
 use Rattle.mmsyntax.specs.declared.statement.Assertion.{Assertion}
 use Rattle.mmsyntax.specs.declared.statement.Step.{Step}
@@ -9,7 +9,6 @@ use Rattle.cells.specs.Shows.{ShowsHeld}
 use Rattle.cells.specs.Plain.{plain_state}
 use Rattle.cells.specs.Opening.{front, held_from}
 use Rattle.cells.specs.Lookups.{Resolves}
-use Rattle.cells.specs.Filling.{IsFillable}
 use Rattle.cells.proofs.Opened.{setting_of, sight_of, now_state, none_unknown, resolved_fillable, filled_held, shows_some}
 use Rattle.cells.proofs.opening.put_next.Goals as goal
 

@@ -1,4 +1,4 @@
-use Rattle.std.proofs.Common.{◌≡◌, ◌<◌, ◌≤◌, ◌+◌, ℕ, List, length, get_or, sym, ap, subst, arith, MatchOption}
+use Rattle.std.proofs.Common.{◌≡◌, ◌<◌, ◌≤◌, ◌+◌, List, length, sym, ap, subst, arith, MatchOption}
 use Rattle.mmsyntax.specs.declared.statement.Symbol.{Symbol}
 use Rattle.bodystore.specs.Bodies.{expressions_words}
 use Rattle.cells.proofs.Lengths.{too_little, enough}

@@ -1,4 +1,4 @@
-use Rattle.std.proofs.Common.{rules, ◌≡◌, ℕ, ◌<◌, subst, sym}
+use Rattle.std.proofs.Common.{rules, ℕ, ◌<◌, subst, sym}
 use Rattle.cells.specs.Slots.{name_cell}
 use Rattle.cells.specs.Sight.{Reads}
 use Rattle.cells.proofs.Holders.{tells_full}

@@ -1,5 +1,4 @@
-use Rattle.std.proofs.Common.{rules, ◌≡◌, ℕ, sym, subst}
-use Rattle.cells.specs.Slots.{statement_cell}
+use Rattle.std.proofs.Common.{ℕ, sym, subst}
 use Rattle.cells.specs.State.{HasBody}
 use Rattle.cells.specs.Sight.{after}
 use Rattle.bodystore.specs.Bodies.{statement_body, statement_of}

@@ -1,5 +1,4 @@
-use Rattle.std.proofs.Common.{rules, ◌≡◌, ap, sym, ◌∙◌}
-use Rattle.cells.specs.State.{State}
+use Rattle.std.proofs.Common.{rules, sym, ◌∙◌}
 use Rattle.cells.specs.Sight.{Reads, after}
 use Rattle.cells.proofs.Sights.{looks_trans}
 use Rattle.cells.proofs.Bodies.{no_body, no_first, first_known, knows_later, value_later}

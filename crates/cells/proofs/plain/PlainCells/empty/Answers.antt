@@ -1,11 +1,10 @@
-use Rattle.std.proofs.Common.{◌≡◌, ◌≤◌, ◌*◌, ℕ, List, [], ◌∷◌, length, replicate, sym, ap, subst, ◌∙◌, arith}
+use Rattle.std.proofs.Common.{◌≤◌, ◌*◌, ℕ, List, [], length, sym, ap, subst, ◌∙◌, arith}
 use Rattle.std.proofs.lemmas.List.{length-replicate}
 use Rattle.mmsyntax.specs.Layout.{IsSoundPrelude}
 use Rattle.ranges.specs.Pairs.{Pairs}
-use Rattle.ranges.specs.declared.range.Range.{Range as Place}
 use Rattle.library.specs.Library.{Setting, IsSetting}
 use Rattle.cells.specs.Plain.{HoldNames, ShowsSome, LieInStore, IsLogOf, ranges_in, undone}
-use Rattle.cells.proofs.Empty.{zeros_show, zeros_name, zeros_at}
+use Rattle.cells.proofs.Empty.{zeros_show, zeros_name}
 use Rattle.cells.proofs.PlainSights.{plain_began}
 use Rattle.cells.proofs.plain.PlainCells.empty.Goals as goal
 

@@ -1,4 +1,4 @@
-use Rattle.std.proofs.Common.{◌≡◌, ◌*◌, [], sym, ap, subst, arith}
+use Rattle.std.proofs.Common.{◌*◌, sym, subst, arith}
 use mathlib.Core.Logic.{∥∥₁_map}
 use Rattle.library.specs.Library.{Setting}
 use Rattle.cells.specs.Plain.{HoldNames, ShowsSome, IsLogOf, ranges_in, undone}

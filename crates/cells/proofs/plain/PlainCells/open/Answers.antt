@@ -1,4 +1,4 @@
-use Rattle.std.proofs.Common.{◌≡◌, ◌≤◌, ◌+◌, ℕ, List, length, sym, ap, subst, ◌∙◌, arith}
+use Rattle.std.proofs.Common.{◌≡◌, ◌≤◌, ◌+◌, List, length, sym, ap, ◌∙◌, arith}
 use Rattle.mmsyntax.specs.declared.statement.Assertion.{Assertion}
 use Rattle.cells.specs.Opening.{front}
 use Rattle.cells.proofs.Opened.{opens_at, opens_none, opens_all}

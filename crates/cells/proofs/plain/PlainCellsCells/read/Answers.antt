@@ -1,4 +1,4 @@
-use Rattle.std.proofs.Common.{◌≡◌, ◌<◌, length, get_or, is_ok, sym, subst, arith}
+use Rattle.std.proofs.Common.{◌<◌, length, is_ok, sym, subst, arith}
 use Rattle.cells.specs.Sight.{Looks, Reads}
 use Rattle.library.specs.Library.{Setting}
 use Rattle.cells.specs.Plain.{HoldNames, ranges_in, plain_sight}

@@ -1,7 +1,7 @@
-use Rattle.std.proofs.Common.{◌≡◌, ◌<◌, length, sym, subst, ◌∙◌, arith}
+use Rattle.std.proofs.Common.{◌<◌, length, sym, subst, ◌∙◌, arith}
 use Rattle.std.proofs.lemmas.List.{length-set}
 use Rattle.library.specs.Library.{Setting}
-use Rattle.cells.specs.Plain.{HoldNames, ranges_in, undone}
+use Rattle.cells.specs.Plain.{HoldNames, ranges_in}
 use Rattle.cells.proofs.PlainSights.{began_same, hold_set, plain_undone, plain_writes}
 use Rattle.cells.proofs.plain.PlainCellsCells.write.Goals as goal
 
