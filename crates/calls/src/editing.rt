@@ -1,9 +1,9 @@
 //! The editor's own calls: slots and counts, and the library that it leaves. What it answers to commands is in the rows.
 
 use crate::shared::{editor, library, mini, sequence};
-use scripts::{Command, Reply};
 use export::write_library;
 use history::OpenError;
+use scripts::{Command, Reply};
 use std::alloc::Global;
 use std::test::Fail;
 

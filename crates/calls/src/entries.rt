@@ -1,9 +1,9 @@
 //! A history in canonical layout: read, copied and written.
 
 use crate::shared::{database, mini};
-use scripts::{Command, Reply};
 use historytext::{read_history, write_history};
 use library::Entry;
+use scripts::{Command, Reply};
 use std::alloc::{AllocError, Global};
 use std::test::Fail;
 

@@ -29,6 +29,8 @@ mod openings;
 #[cfg(test)]
 mod shared;
 #[cfg(test)]
+mod slots;
+#[cfg(test)]
 mod store;
 #[cfg(test)]
 mod substitution;

@@ -2,10 +2,10 @@
 
 ghost use Rattle.std.specs.Prelude.{false, ◌≤◌};
 
-use scripts::PlainLibrary;
 use history::{Editor, OpenError};
 use mmstatement::{Database, Sequence, read_database};
 use proofcheck::check_all;
+use scripts::PlainLibrary;
 use std::alloc::{AllocError, AllocGlobal, Global};
 use std::hash::RandomState;
 use std::random::RandomSource;

@@ -219,26 +219,26 @@ module _ (slots : ℕ) (st laid : State) (lib : List Ranked) (shows : Shows slot
 
       pub filled : ShowsHeld slots next (added lib rank a) (shows.held ++ here ∷ [])
       filled = (
-          record {
-            held = shows.held ++ here ∷ [];
-            library = map-append (λ (p : Held). p.entry) shows.held (here ∷ []) ∙ ap (λ (l : List Ranked). l ++ entry ∷ []) shows.library;
-            holds = All-push (λ (p : Held). Holds slots next (added lib rank a) p.slot p.entry) shows.held here
-                (all_from_has (λ (p : Held). Holds slots next (added lib rank a) p.slot p.entry) shows.held old_holds) new_holds;
-            apart = subst (Distinct nat_eq) (sym (map-append (λ (p : Held). p.slot) shows.held (here ∷ [])))
-                (distinct_push (slots_of shows.held) i shows.apart free);
-            others = λ j lt. elim (cases_eq j i) [
-              | inl e ↦ inl (subst (λ l. Has j l) (sym (map-append (λ (p : Held). p.slot) shows.held (here ∷ [])))
-                  (has_append_right (slots_of shows.held) (i ∷ []) j (inl e)))
-              | inr ne ↦ ⊎_elim
-                  (λ full. inl (subst (λ l. Has j l) (sym (map-append (λ (p : Held). p.slot) shows.held (here ∷ [])))
-                  (has_append_left (slots_of shows.held) (i ∷ []) j full)))
-                  (λ empty. inr (still_empty j lt ne (empty_free slots st lib shows store j empty) empty))
-                  (shows.others j lt)
-            ];
-            chained = chains_alike slots next (here ∷ shows.held) (shows.held ++ here ∷ [])
-                (IsPermutation-map (seat slots) (here ∷ shows.held) (shows.held ++ here ∷ [])
-                (IsPermutation-sym (shows.held ++ here ∷ []) (here ∷ shows.held) (IsPermutation-to_front shows.held here)))
-                chains.chained;
-          },
-          refl,
+        record {
+          held = shows.held ++ here ∷ [];
+          library = map-append (λ (p : Held). p.entry) shows.held (here ∷ []) ∙ ap (λ (l : List Ranked). l ++ entry ∷ []) shows.library;
+          holds = All-push (λ (p : Held). Holds slots next (added lib rank a) p.slot p.entry) shows.held here
+              (all_from_has (λ (p : Held). Holds slots next (added lib rank a) p.slot p.entry) shows.held old_holds) new_holds;
+          apart = subst (Distinct nat_eq) (sym (map-append (λ (p : Held). p.slot) shows.held (here ∷ [])))
+              (distinct_push (slots_of shows.held) i shows.apart free);
+          others = λ j lt. elim (cases_eq j i) [
+            | inl e ↦ inl (subst (λ l. Has j l) (sym (map-append (λ (p : Held). p.slot) shows.held (here ∷ [])))
+                (has_append_right (slots_of shows.held) (i ∷ []) j (inl e)))
+            | inr ne ↦ ⊎_elim
+                (λ full. inl (subst (λ l. Has j l) (sym (map-append (λ (p : Held). p.slot) shows.held (here ∷ [])))
+                (has_append_left (slots_of shows.held) (i ∷ []) j full)))
+                (λ empty. inr (still_empty j lt ne (empty_free slots st lib shows store j empty) empty))
+                (shows.others j lt)
+          ];
+          chained = chains_alike slots next (here ∷ shows.held) (shows.held ++ here ∷ [])
+              (IsPermutation-map (seat slots) (here ∷ shows.held) (shows.held ++ here ∷ [])
+              (IsPermutation-sym (shows.held ++ here ∷ []) (here ∷ shows.held) (IsPermutation-to_front shows.held here)))
+              chains.chained;
+        },
+        refl,
       )

@@ -138,7 +138,10 @@ tells_full s i v lt is =
           empty_unnamed s.setting.slots (after s st) lib view.shows i lt (sym (is st view.matches) ∙ (Decides-eqb v 0).0 e)
       | false ↦ λ e st lib view.
           let h = full_slot s.setting.slots (after s st) lib view.shows i lt
-              (λ z. let none : v ≡ 0 = is st view.matches ∙ z in let both : nat_eq v 0 ≡ true = (Decides-eqb v 0).1 none in cc) in
-          (h.0.entry, subst (λ (k : ℕ). Holds s.setting.slots (after s st) lib k h.0.entry) h.1.1
-          (holds_it s.setting.slots (after s st) lib view.shows h.0 h.1.0), listed s.setting.slots (after s st) lib view.shows h.0 h.1.0)
+          (λ z. let none : v ≡ 0 = is st view.matches ∙ z in let both : nat_eq v 0 ≡ true = (Decides-eqb v 0).1 none in cc) in (
+            h.0.entry,
+            subst (λ (k : ℕ). Holds s.setting.slots (after s st) lib k h.0.entry) h.1.1
+                (holds_it s.setting.slots (after s st) lib view.shows h.0 h.1.0),
+            listed s.setting.slots (after s st) lib view.shows h.0 h.1.0,
+          )
     ] refl

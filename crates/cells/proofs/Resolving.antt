@@ -36,6 +36,7 @@ found_stored s label i step is finds = (within_one, told)
     within_one : (j : ℕ) → Has (Slot j) (Slot i ∷ []) → j < s.setting.slots
     within_one j (inl e) = subst (λ (k : ℕ). k < s.setting.slots) (let same : i ≡ j = cc in same) finds.0
     within_one j (inr h) = absurd h
+
     told : ForEach s (λ st lib. IsStoredAs (IsNamed s.setting.slots st) step (Slot i))
     told st lib v =
         let f = finds.1 st lib v in
@@ -49,14 +50,16 @@ no_slot n x other i (inl e) = absurd (other i e)
 no_slot n x other i (inr h) = absurd h
 
 pub float_stored : (s : Sight) (place : ℕ) (step : Step) → step ≡ FloatStep place → StoresStep s step (Some (Float place))
-float_stored s place step is =
-    (no_slot s.setting.slots (Float place) (λ i e. cc),
-    λ st lib v. subst (λ (x : Step). IsStoredAs (IsNamed s.setting.slots (after s st)) x (Float place)) (sym is) refl)
+float_stored s place step is = (
+  no_slot s.setting.slots (Float place) (λ i e. cc),
+  λ st lib v. subst (λ (x : Step). IsStoredAs (IsNamed s.setting.slots (after s st)) x (Float place)) (sym is) refl,
+)
 
 pub hyp_stored : (s : Sight) (place : ℕ) (step : Step) → step ≡ HypStep place → StoresStep s step (Some (Hyp place))
-hyp_stored s place step is =
-    (no_slot s.setting.slots (Hyp place) (λ i e. cc),
-    λ st lib v. subst (λ (x : Step). IsStoredAs (IsNamed s.setting.slots (after s st)) x (Hyp place)) (sym is) refl)
+hyp_stored s place step is = (
+  no_slot s.setting.slots (Hyp place) (λ i e. cc),
+  λ st lib v. subst (λ (x : Step). IsStoredAs (IsNamed s.setting.slots (after s st)) x (Hyp place)) (sym is) refl,
+)
 
 pub none_stored : (s : Sight) (label : List ℕ) (step : Step) → step ≡ Cite label → Finds s label None → StoresStep s step None
 none_stored s label step is finds = λ st lib v.
@@ -91,8 +94,10 @@ resolve_on r s slots i steps kept more x y is looks each stores here lt push = (
         let e : length more ≡ length kept + 1 = ap (λ (zs : List StoredStep). length zs) push ∙ length-append kept (y ∷ []) in
         let f = each.0 in
         omega (arith, f)
+
     within : AreWithin slots more
     within = subst (AreWithin slots) (sym push) (within_push slots kept y each.1 (subst (λ (n : ℕ). AreWithin n (y ∷ [])) (sym is) stores.0))
+
     told : ForEach s (λ st lib. AreStoredAs slots st (take (i + 1) steps) more)
     told st lib v =
         let R = IsStoredAs (IsNamed slots (after s st)) in
@@ -112,6 +117,7 @@ resolve_all s slots i steps kept is n each = (each.0 ∙ ap (λ (zs : List Step)
   where
     all : take i steps ≡ steps
     all = take_all i steps (omega (arith, n))
+
     told : ForEach s (λ st lib. AreStoredAs s.setting.slots st steps kept)
     told st lib v =
         subst (λ (zs : List Step). AreStoredAs s.setting.slots (after s st) zs kept) all

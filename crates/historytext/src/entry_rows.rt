@@ -9,10 +9,10 @@ ghost use Rattle.historytext.specs.Views.{seen_answered, seen_entry_place, seen_
 
 use crate::place::{Answered, EntryPlace, Place, Progress};
 use crate::reply_rows::{read_in_reply, read_reply_word};
-use scripts::{Led, read_command_word, read_in_command};
 use library::{Command, Entry, Reply};
 use mmstatement::{FaultKind, Prelude, Sequence};
 use mmtext::{Stop, Token, fault_at};
+use scripts::{Led, read_command_word, read_in_command};
 use std::alloc::Global;
 
 /// A place in a command, or one more command behind the others.

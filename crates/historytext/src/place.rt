@@ -1,9 +1,9 @@
 //! Places in a history.
 
-use scripts::CommandPlace;
 use library::{Command, Entry, Line, Reply};
 use mmreader::UnitReader;
 use mmstatement::{Kind, Label};
+use scripts::CommandPlace;
 
 /// What was read of the reply in which a token stands.
 #[derive(Drop)]

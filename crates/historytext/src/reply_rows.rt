@@ -9,11 +9,11 @@ ghost use Rattle.historytext.specs.Places.{in_reply, lines_left, reply_word, sho
 ghost use Rattle.historytext.specs.Views.{answer, count_at, kind_at, seen_answered, seen_reply_place};
 
 use crate::place::{Answered, ReplyPlace};
-use scripts::{count, is_numeral, read_label, read_rank};
 use library::{Line, Ranked, Reply};
 use mmreader::{UnitProgress, UnitReader};
 use mmstatement::{FaultKind, Kind, Prelude, Sequence};
 use mmtext::{Stop, Token, fault_at};
+use scripts::{count, is_numeral, read_label, read_rank};
 use std::alloc::Global;
 
 /// A number of entries, lines or citers: a numeral, up to 18,446,744,073,709,551,615.

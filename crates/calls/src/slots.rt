@@ -1,0 +1,329 @@
+//! Libraries in plain cells: where they lie, what is found and read back, and what is taken of the store.
+
+ghost use Rattle.std.specs.Prelude.{◌≤◌};
+
+use crate::shared::{database, mini};
+use cells::{
+    Cells, OpenError, PlainCells, citers, entry, find, free_slot, is_full, kind, put_in, rank,
+};
+use mmstatement::{Kind, Prelude, fits, write_assertion};
+use proofcheck::check_all;
+use ranges::Range;
+use std::alloc::{AllocGlobal, Global};
+use std::random::RandomSource;
+use std::test::Fail;
+use std::thread::Threads;
+
+/// Two axioms and a theorem that cites the first of them, in the canonical layout.
+fn three() -> &'static [u8] {
+    b"$c wff |- $.
+$v x y $.
+wx $f wff x $.
+wy $f wff y $.
+id $a |- x y x $.
+wc $a wff $.
+${
+  $d x y $.
+  th.1 $e |- x y $.
+  th $p |- x y x $= wx wy id $.
+$}
+"
+}
+
+/// The cells of a database whose proofs check, or why they aren't opened.
+fn opening(
+    rt: &(impl AllocGlobal + RandomSource + Threads + Sync),
+    text: &[u8],
+    slots: usize,
+    room: usize,
+) -> Result<Result<PlainCells, OpenError>, Fail>
+    requires slots { (1 ≤ slots) × (slots ≤ 4096) }
+    requires room { room ≤ 16777216 }
+{
+    let db = database(rt, text)?;
+    let Ok(()) = check_all(rt, rt.alloc(), &db) else {
+        return Err(Fail::from("the proofs of the database check"));
+    };
+    Ok(PlainCells::open(rt.alloc(), &db, slots, room))
+}
+
+/// The cells of a database whose proofs check and that has room.
+fn opened(
+    rt: &(impl AllocGlobal + RandomSource + Threads + Sync),
+    text: &[u8],
+    slots: usize,
+    room: usize,
+) -> Result<PlainCells, Fail>
+    requires slots { (1 ≤ slots) × (slots ≤ 4096) }
+    requires room { room ≤ 16777216 }
+{
+    match opening(rt, text, slots, room)? {
+        Ok(cells) => Ok(cells),
+        Err(_) => Err(Fail::from("the cells open")),
+    }
+}
+
+/// The value of a cell, if there is such a cell.
+fn value_of(cells: &PlainCells, cell: usize) -> Option<u64> {
+    let slots = cells.slots();
+    if slots <= 4096 && cell < 7 * slots {
+        return Some(cells.value(cell));
+    }
+    None
+}
+
+#[test]
+fn a_small_library_lies_where_its_label_says(rt: HostRuntime) -> Result<(), Fail> {
+    let cells = opened(&rt, mini(), 4096, 7)?;
+    // (31 * 119 + 101) mod 4096 is 3790: the bucket of `we` is the cell 20480 + 3790, and its next cell 6 * 4096
+    assert_eq!(rt; value_of(&cells, 24_270), Some(1));
+    assert_eq!(rt; value_of(&cells, 24_576), Some(0));
+    // the label, two words from 0 on; the statement, five from 2 on; no proof; the rank; no citer
+    let slot = [2, 2 * 33_554_432 + 5, 0, 100, 0];
+    for (cell, value) in slot.iter().enumerate() {
+        assert_eq!(rt; value_of(&cells, cell), Some(*value), "in the cell {cell}");
+    }
+    assert_eq!(rt; cells.taken(), 7);
+    assert!(rt; matches!(opening(&rt, mini(), 4096, 6)?, Err(OpenError::StoreFull)));
+    Ok(())
+}
+
+/// The text of the assertion in a slot, with its rank.
+fn entry_of<C: Cells>(
+    alloc: Global,
+    prelude: &Prelude,
+    cells: &mut C,
+    slot: usize,
+) -> Result<(Vec<u8>, u32), Fail> {
+    if slot >= cells.slots() {
+        return Err(Fail::from("a slot of the library"));
+    }
+    let Ok(held) = entry(alloc, cells, slot) else {
+        return Err(Fail::from("the slot is read"));
+    };
+    if !fits(prelude, &held.assertion) {
+        return Err(Fail::from("the assertion fits the prelude"));
+    }
+    Ok((write_assertion(alloc, prelude, &held.assertion)?, held.rank))
+}
+
+/// How many assertions cite the one in a slot.
+fn citers_of<C: Cells>(cells: &mut C, slot: usize) -> Option<u64> {
+    if slot < cells.slots() {
+        citers(cells, slot).ok()
+    } else {
+        None
+    }
+}
+
+/// The rank of the assertion in a slot.
+fn rank_of<C: Cells>(cells: &mut C, slot: usize) -> Option<u32> {
+    if slot < cells.slots() {
+        rank(cells, slot).ok()
+    } else {
+        None
+    }
+}
+
+/// The kind of the assertion in a slot.
+fn kind_of<C: Cells>(cells: &mut C, slot: usize) -> Option<Kind> {
+    if slot < cells.slots() {
+        kind(cells, slot).ok()
+    } else {
+        None
+    }
+}
+
+/// Whether a slot holds an assertion.
+fn fullness_of<C: Cells>(cells: &mut C, slot: usize) -> Option<bool> {
+    if slot < cells.slots() {
+        is_full(cells, slot).ok()
+    } else {
+        None
+    }
+}
+
+/// The first empty slot from a slot on, if there is one.
+fn free_from<C: Cells>(cells: &mut C, from: usize) -> Option<Option<usize>> {
+    if from < cells.slots() {
+        free_slot(cells, from).ok()
+    } else {
+        None
+    }
+}
+
+#[test]
+fn slots_are_read_back(rt: HostRuntime) -> Result<(), Fail> {
+    let alloc = rt.alloc();
+    let mut cells = opened(&rt, three(), 4, 35)?;
+    // 2 + 8, 2 + 5 and 2 + 13 + 3 words
+    assert_eq!(rt; cells.taken(), 35);
+    let prelude = cells.prelude().copy(alloc)?;
+    let texts = [
+        "id $a |- x y x $.\n",
+        "wc $a wff $.\n",
+        "${\n  $d x y $.\n  th.1 $e |- x y $.\n  th $p |- x y x $= wx wy id $.\n$}\n",
+    ];
+    for (slot, text) in texts.iter().enumerate() {
+        let (written, ranked) = entry_of(alloc, &prelude, &mut cells, slot)?;
+        assert_eq!(rt; written.as_slice(), text.as_bytes(), "in the slot {slot}");
+        assert!(rt;
+            slot < 3 && ranked == 100 * (slot as u32 + 1),
+            "in the slot {slot}"
+        );
+    }
+    assert_eq!(rt;
+        (citers_of(&mut cells, 0), citers_of(&mut cells, 2)),
+        (Some(1), Some(0))
+    );
+    assert_eq!(rt; rank_of(&mut cells, 1), Some(200));
+    assert_eq!(rt; kind_of(&mut cells, 1), Some(Kind::Axiom));
+    assert_eq!(rt; kind_of(&mut cells, 2), Some(Kind::Theorem));
+    assert_eq!(rt; fullness_of(&mut cells, 2), Some(true));
+    assert_eq!(rt; fullness_of(&mut cells, 3), Some(false));
+    Ok(())
+}
+
+#[test]
+fn labels_and_empty_slots_are_found(rt: HostRuntime) -> Result<(), Fail> {
+    let mut cells = opened(&rt, three(), 4, 35)?;
+    // `wc`, `th` and `xx` share the bucket 0, where `th` stands first
+    let places = [
+        ("id", Some(0)),
+        ("wc", Some(1)),
+        ("th", Some(2)),
+        ("xx", None),
+        ("", None),
+    ];
+    for (name, place) in places {
+        assert!(rt; find(&mut cells, name.as_bytes()) == Ok(place), "of {name}");
+    }
+    assert_eq!(rt; free_from(&mut cells, 0), Some(Some(3)));
+    let mut full = opened(&rt, three(), 3, 35)?;
+    assert_eq!(rt; free_from(&mut full, 1), Some(None));
+    assert!(rt; matches!(opening(&rt, three(), 2, 35)?, Err(OpenError::TooMany)));
+    Ok(())
+}
+
+/// The declarations of `examples/demo.mm`.
+fn demo_prelude() -> &'static [u8] {
+    b"$c 0 + = -> ( ) term wff |- $.
+$v t r s P Q $.
+tt $f term t $.
+tr $f term r $.
+ts $f term s $.
+wp $f wff P $.
+wq $f wff Q $.
+"
+}
+
+/// Its assertions.
+fn demo_assertions() -> &'static [u8] {
+    b"tze $a term 0 $.
+tpl $a term ( t + r ) $.
+weq $a wff t = r $.
+wim $a wff ( P -> Q ) $.
+a1 $a |- ( t = r -> ( t = s -> r = s ) ) $.
+a2 $a |- ( t + 0 ) = t $.
+${
+  mp.1 $e |- P $.
+  mp.2 $e |- ( P -> Q ) $.
+  mp $a |- Q $.
+$}
+th1 $p |- t = t $= tt tze tpl tt weq tt tt weq tt a2 tt tze tpl tt weq tt tze tpl tt weq tt tt weq wim tt a2 tt tze tpl tt tt a1 mp mp $.
+"
+}
+
+#[test]
+fn a_database_is_read_back(rt: HostRuntime) -> Result<(), Fail> {
+    let alloc = rt.alloc();
+    let mut text = Vec::from_slice(alloc, demo_prelude())?;
+    text.extend_from_slice(demo_assertions())?;
+    // 9 + 13 + 11 + 13 + 22 + 14 + 18 words of the axioms, and 3 + 3 + 5 + 34 of the theorem
+    let mut cells = opened(&rt, text.as_slice(), 8, 145)?;
+    assert_eq!(rt; cells.taken(), 145);
+    let prelude = cells.prelude().copy(alloc)?;
+    let mut back = Vec::new(alloc);
+    for slot in 0..8 {
+        let (written, _) = entry_of(alloc, &prelude, &mut cells, slot)?;
+        back.extend_from_slice(written.as_slice())?;
+    }
+    assert_eq!(rt; back.as_slice(), demo_assertions());
+    let refused = opening(&rt, text.as_slice(), 8, 144)?;
+    assert!(rt; matches!(refused, Err(OpenError::StoreFull)));
+    Ok(())
+}
+
+/// Puts the slot 1 before the others of the chain of `we`.
+fn chain_second<C: Cells>(cells: &mut C) -> bool {
+    1 < cells.slots() && put_in(cells, 1, b"we").is_ok()
+}
+
+#[test]
+fn what_is_undone_is_as_it_was(rt: HostRuntime) -> Result<(), Fail> {
+    let mut cells = opened(&rt, mini(), 4, 7)?;
+    // (31 * (119 mod 4) + 101) mod 4 is 2: the bucket of `we` is the cell 22, and the next cell of the slot 1 is 25
+    let chained = chain_second(&mut cells);
+    assert!(rt; chained);
+    assert_eq!(rt;
+        (value_of(&cells, 22), value_of(&cells, 25)),
+        (Some(2), Some(1))
+    );
+    cells.undo();
+    assert_eq!(rt;
+        (value_of(&cells, 22), value_of(&cells, 25)),
+        (Some(1), Some(0))
+    );
+    Ok(())
+}
+
+/// Cells of which each read is counted.
+#[derive(Drop)]
+struct Counted<C> {
+    inner: C,
+    reads: usize,
+}
+
+impl<C: Cells> Cells for Counted<C> {
+    type Stop = C::Stop;
+
+    ghost sight = { λ c. C.sight c.inner };
+
+    fn slots(&self) -> usize {
+        self.inner.slots()
+    }
+
+    fn read(&mut self, cell: usize) -> Result<u64, C::Stop> {
+        self.reads = self.reads.saturating_add(1);
+        self.inner.read(cell)
+    }
+
+    fn write(&mut self, cell: usize, value: u64) {
+        self.inner.write(cell, value);
+    }
+
+    fn load(&mut self, range: Range, index: usize) -> u64 {
+        self.inner.load(range, index)
+    }
+
+    fn stage(&mut self, words: &[u64]) -> Result<Range, C::Stop> {
+        self.inner.stage(words)
+    }
+
+    ghost grounded = { λ c. C.grounded c.inner };
+}
+
+#[test]
+fn a_search_reads_along_one_chain(rt: HostRuntime) -> Result<(), Fail> {
+    let mut cells = Counted {
+        inner: opened(&rt, three(), 4, 35)?,
+        reads: 0,
+    };
+    // its bucket, and a name for each member up to the label's, with a next cell between each two; behind the last that too
+    for (name, reads) in [("id", 2), ("th", 2), ("wc", 4), ("xx", 5)] {
+        cells.reads = 0;
+        let found = find(&mut cells, name.as_bytes());
+        assert!(rt; found.is_ok() && cells.reads == reads, "of {name}");
+    }
+    Ok(())
+}
