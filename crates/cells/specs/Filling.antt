@@ -61,3 +61,8 @@ pub record LaysDown (st next : State) (i rank : ℕ) (a : Assertion) (kept : Lis
   pub ranked : next.value (rank_cell i) ≡ rank
   pub citers : next.value (citers_cell i) ≡ 0
   pub others : (c : ℕ) → (c < 5 * i) ⊎ (5 * i + 5 ≤ c) → next.value c ≡ st.value c
+
+-- the slot's five cells hold 0, and nothing else changes
+pub record Empties (i : ℕ) (st next : State) : Type 0 where
+  pub zeros : (c : ℕ) → 5 * i ≤ c → c < 5 * i + 5 → next.value c ≡ 0
+  pub others : (c : ℕ) → (c < 5 * i) ⊎ (5 * i + 5 ≤ c) → next.value c ≡ st.value c

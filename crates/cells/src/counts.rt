@@ -50,20 +50,21 @@ pub fn count_in<C: Cells>(cells: &mut C, cited: &[usize]) -> Result<(), C::Stop>
     Ok(())
 }
 
-/// Counts one citer less for each of these slots.
+/// Counts one citer less for each of these slots. What is no slot is passed over.
 ///
 /// # Errors
 ///
 /// The run is stopped.
 pub fn count_out<C: Cells>(cells: &mut C, cited: &[usize]) -> Result<(), C::Stop>
-    requires { All (λ i. i < (C.sight cells.old).setting.slots) cited.now }
     ensures onward { Onward (C.sight cells.old) (C.sight cells.new) }
-    ensures ok { IfOk result (λ _. (st : State) → Matches (C.sight cells.new) st → Distinct nat_eq cited.now → CountsOut cited.now (after (C.sight cells.old) st) (after (C.sight cells.new) st)) }
+    ensures ok { IfOk result (λ _. (st : State) → Matches (C.sight cells.new) st → All (λ i. i < (C.sight cells.old).setting.slots) cited.now → Distinct nat_eq cited.now → CountsOut cited.now (after (C.sight cells.old) st) (after (C.sight cells.new) st)) }
 {
-    let _slots = slot_count(cells);
+    let slots = slot_count(cells);
     for slot in cited {
-        let count = cells.read(citers_cell(*slot))?;
-        cells.write(citers_cell(*slot), count.saturating_sub(1));
+        if *slot < slots {
+            let count = cells.read(citers_cell(*slot))?;
+            cells.write(citers_cell(*slot), count.saturating_sub(1));
+        }
     }
     Ok(())
 }

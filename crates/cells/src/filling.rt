@@ -3,9 +3,9 @@
 ghost use Rattle.std.specs.Prelude.{◌≡◌, ◌≢◌, ◌<◌, [], List, false, IfOk};
 ghost use Rattle.mmsyntax.specs.declared.statement.Kind.TheVariants.{Theorem};
 ghost use Rattle.cells.specs.State.{State, HasBody, with_value};
-ghost use Rattle.cells.specs.Slots.{cell_count, is_ranged, proof_cell};
-ghost use Rattle.cells.specs.Sight.{Sight, Matches, Views, Onward, after};
-ghost use Rattle.cells.specs.Filling.{MayFill, Fills, IsFillable, LaysDown, LaysProof};
+ghost use Rattle.cells.specs.Slots.{cell_count, is_ranged, name_cell, proof_cell};
+ghost use Rattle.cells.specs.Sight.{Sight, WasWritten, Matches, Views, Onward, after};
+ghost use Rattle.cells.specs.Filling.{MayFill, Fills, IsFillable, LaysDown, LaysProof, Empties};
 
 use crate::cells::Cells;
 use crate::chains::put_in;
@@ -36,6 +36,7 @@ pub fn fill<C: Cells>(
     requires fillable { IsFillable (C.sight cells.old).setting.slots assertion.now steps.now }
     ensures onward { Onward (C.sight cells.old) (C.sight cells.new) }
     ensures ok { IfOk result (λ _. (st : State) (lib : List _) → Matches (C.sight cells.new) st → (shown : Views (C.sight cells.old) st lib) → MayFill (C.sight cells.old).setting.slots (after (C.sight cells.old) st) lib slot assertion.now steps.now → Fills (C.sight cells.old).setting.slots (after (C.sight cells.new) st) lib shown.shows.held slot rank assertion.now) }
+    ensures written { IfOk result (λ _. WasWritten (C.sight cells.new) (name_cell slot)) }
 {
     lay_down(alloc, cells, slot, rank, assertion, steps)?;
     let cited = cited_slots(alloc, steps)?;
@@ -57,6 +58,7 @@ fn lay_down<C: Cells>(
     requires some { assertion.now.kind ≡ Theorem → steps.now ≢ [] }
     ensures onward { Onward (C.sight cells.old) (C.sight cells.new) }
     ensures ok { IfOk result (λ _. (st : State) → Matches (C.sight cells.new) st → LaysDown (after (C.sight cells.old) st) (after (C.sight cells.new) st) slot rank assertion.now steps.now) }
+    ensures written { IfOk result (λ _. WasWritten (C.sight cells.new) (name_cell slot)) }
 {
     let _slots = slot_count(cells);
     let label = encode_label(alloc, assertion.label.as_slice())?;
@@ -98,6 +100,7 @@ pub fn put<C: Cells>(cells: &mut C, cell: usize, value: u64) -> Result<(), C::St
     requires plain { is_ranged (C.sight cells.old).setting.slots cell ≡ false }
     ensures onward { Onward (C.sight cells.old) (C.sight cells.new) }
     ensures ok { IfOk result (λ _. (st : State) → after (C.sight cells.new) st ≡ with_value cell value (after (C.sight cells.old) st)) }
+    ensures written { IfOk result (λ _. WasWritten (C.sight cells.new) cell) }
 {
     cells.read(cell)?;
     cells.write(cell, value);
@@ -111,9 +114,29 @@ pub fn put_body<C: Cells>(cells: &mut C, cell: usize, words: &[u64]) -> Result<(
     ensures onward { Onward (C.sight cells.old) (C.sight cells.new) }
     ensures ok { IfOk result (λ _. (st : State) → Matches (C.sight cells.new) st → HasBody (after (C.sight cells.new) st) cell words.now) }
     ensures others { IfOk result (λ _. (st : State) (c : _) → c ≢ cell → (after (C.sight cells.new) st).value c ≡ (after (C.sight cells.old) st).value c) }
+    ensures written { IfOk result (λ _. WasWritten (C.sight cells.new) cell) }
 {
     let range = cells.stage(words)?;
     cells.read(cell)?;
     cells.write(cell, range.word());
+    Ok(())
+}
+
+/// Writes 0 to the five cells of a slot. It stages nothing.
+///
+/// # Errors
+///
+/// The run is stopped.
+pub fn vacate<C: Cells>(cells: &mut C, slot: usize) -> Result<(), C::Stop>
+    requires { slot < (C.sight cells.old).setting.slots }
+    ensures onward { Onward (C.sight cells.old) (C.sight cells.new) }
+    ensures ok { IfOk result (λ _. (st : State) → Empties slot (after (C.sight cells.old) st) (after (C.sight cells.new) st)) }
+    ensures written { IfOk result (λ _. WasWritten (C.sight cells.new) (name_cell slot)) }
+{
+    let _slots = slot_count(cells);
+    for cell in name_cell(slot)..=citers_cell(slot) {
+        cells.read(cell)?;
+        cells.write(cell, 0);
+    }
     Ok(())
 }

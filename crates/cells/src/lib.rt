@@ -16,12 +16,13 @@ mod words;
 pub use cells::Cells;
 pub use chains::{put_in, take_out};
 pub use counts::{cited_slots, count_in, count_out};
-pub use filling::{fill, put, put_body};
+pub use filling::{fill, put, put_body, vacate};
 pub use finding::{find, free_slot};
 pub use halt::Halt;
 pub use opening::OpenError;
 pub use places::{
-    bucket, bucket_cell, citers_cell, name_cell, next_cell, proof_cell, rank_cell, statement_cell,
+    bucket, bucket_cell, citers_cell, name_cell, next_cell, proof_cell, rank_cell, slot_count,
+    statement_cell,
 };
 pub use plain::{PlainCells, PlainStop};
 pub use reading::{

@@ -6,7 +6,7 @@ ghost use Rattle.cells.specs.Slots.{name_cell, statement_cell, proof_cell, rank_
 use crate::cells::Cells;
 
 /// How many slots the library has: 1 to 4,096.
-pub(crate) fn slot_count<C: Cells>(cells: &C) -> usize
+pub fn slot_count<C: Cells>(cells: &C) -> usize
     ensures value { result ≡ (C.sight cells.now).setting.slots }
     ensures some { 1 ≤ result }
     ensures few { result ≤ 4096 }

@@ -1,0 +1,80 @@
+-- Of the code's inside, apart from the rules: what the tests of a proof tell, for every state that may be under the run.
+use Rattle.std.specs.Prelude.{◌≡◌, ◌≢◌, ℕ, ◌&&◌, nat_le, List, [], ◌∷◌, Option, Some, None, Bool, Err, Contains}
+use Rattle.std.specs.Option.{option_map}
+use Rattle.std.specs.List.{list_any}
+use Rattle.std.specs.Ordering.{nat_cmp}
+use Rattle.std.specs.Cmp.Lexicographic.{slice_cmp}
+use Rattle.std.specs.BTreeMap.{get_by}
+use Rattle.mmsyntax.specs.declared.statement.Assertion.{Assertion}
+use Rattle.mmsyntax.specs.declared.statement.Frame.{Frame}
+use Rattle.mmsyntax.specs.declared.statement.Step.{Step}
+use Rattle.mmsyntax.specs.declared.statement.Step.TheVariants.{Cite}
+use Rattle.mmsyntax.specs.Tables.{Tables}
+use Rattle.mmstatement.specs.Frames.{frame}
+use Rattle.proofcheck.specs.declared.fault.ProofFault.{ProofFault}
+use Rattle.proofcheck.specs.Derivation.{Citable}
+use Rattle.proofcheck.specs.Outcomes.{outcome}
+use Rattle.library.specs.declared.library.Ranked.{Ranked}
+use Rattle.library.specs.declared.reason.Reason.{Reason}
+use Rattle.library.specs.declared.reason.Reason.TheVariants.{ProofFails}
+use Rattle.library.specs.Library.{label_of}
+use Rattle.library.specs.Edits.{Tests, Edited, found, cites, cites_not_below, fault_of, cites_unknown, cited_not_lower, proof_fails, tested}
+use Rattle.ranges.specs.Ranges.{Has}
+use Rattle.bodystore.specs.declared.stored.StoredStep.{StoredStep}
+use Rattle.cells.specs.State.{State}
+use Rattle.cells.specs.Shows.{AreStoredAs, Holds}
+use Rattle.cells.specs.Sight.{Sight}
+use Rattle.cells.specs.Lookups.{ForEach, ForEachHeld, AreWithin}
+use Rattle.commands.specs.declared.ending.CommandError.{CommandError}
+use Rattle.commands.specs.declared.ending.CommandError.TheVariants.{Refused}
+
+-- what is so of every library and of all steps that are stored as these
+abbrev pub ForEachStored : Sight → List StoredStep → (List Ranked → List Step → Type 0) → Type 0
+ForEachStored s kept told = ForEach s (λ st lib. (steps : List Step) → AreStoredAs s.setting.slots st steps kept → told lib steps)
+
+-- whether some step cites an assertion that isn't below the rank
+abbrev pub TellsNotBelow : Sight → ℕ → List StoredStep → Bool → Type 0
+TellsNotBelow s rank kept b = ForEachStored s kept (λ lib steps. b ≡ list_any (cites_not_below lib rank) steps)
+
+-- the frame of each assertion that a step cites, by its label
+abbrev pub AreFrames : Tables → List Ranked → List Step → Citable → Type 0
+AreFrames prelude lib steps frames =
+    (label : List ℕ) → Has (Cite label) steps → frames label ≡ option_map (λ e. frame prelude e.assertion) (found lib label)
+
+-- the fault of a theorem's proof over the frames, if it has one; a proof without a fault has a step
+pub record TellsFault (frames : Citable) (prelude : Tables) (a : Assertion) (fault : Option ProofFault) : Type 0 where
+  pub outcome : option_map ProofFails fault ≡ fault_of (outcome frames prelude a)
+  pub some : fault ≡ None → a.proof ≢ []
+
+-- the tests of a theorem's proof, with more behind them
+abbrev pub proof_tests : Sight → List Ranked → ℕ → Assertion → Tests → Tests
+proof_tests s lib rank a more = cites_unknown lib a.proof ∷ cited_not_lower lib rank a.proof ∷ proof_fails s.setting lib rank a ∷ more
+
+-- the proof of a theorem passes its tests, and its steps are stored as these, of which there is one
+pub record Passes (s : Sight) (rank : ℕ) (a : Assertion) (kept : List StoredStep) : Type 0 where
+  pub some : kept ≢ []
+  pub within : AreWithin s.setting.slots kept
+  pub stored : ForEach s (λ st lib. AreStoredAs s.setting.slots st a.proof kept)
+  pub passes : ForEach s (λ st lib. (more : Tests) (edited : Edited) → tested (proof_tests s lib rank a more) edited ≡ tested more edited)
+
+-- or one of them refuses it
+abbrev pub Fails : Sight → ℕ → Assertion → Reason → Type 0
+Fails s rank a reason = ForEach s (λ st lib. (more : Tests) (edited : Edited) → tested (proof_tests s lib rank a more) edited ≡ Err reason)
+
+-- why the test of a proof ends early: it was refused, or the run was stopped, or memory ran out
+abbrev pub TellsRefusal : {S : Type 0} → Sight → ℕ → Assertion → CommandError S → Type 0
+TellsRefusal s rank a (Refused reason) = Fails s rank a reason
+TellsRefusal s rank a _ = Unit {0}
+
+-- whether the proof of the assertion in the one slot cites that of the other
+abbrev pub TellsCites : Sight → ℕ → ℕ → Bool → Type 0
+TellsCites s citing cited b =
+    ForEachHeld s citing (λ st lib f. (e : Ranked) → Contains lib e → Holds s.setting.slots st lib cited e → b ≡ cites (label_of e) f)
+
+-- whether an assertion that cites the one in the slot isn't above the rank
+abbrev pub TellsCitedUpTo : Sight → ℕ → ℕ → Bool → Type 0
+TellsCitedUpTo s i rank b = ForEachHeld s i (λ st lib e. b ≡ list_any (λ f. cites (label_of e) f && nat_le f.rank rank) lib)
+
+-- the frame that a map has for a label
+abbrev pub frames_in : BTreeMap (Vec ℕ) Frame → Citable
+frames_in by_label label = get_by (λ k. slice_cmp nat_cmp label k.items) by_label

@@ -1,0 +1,4 @@
+pub mod Answers
+pub mod Citing
+pub mod Changes
+pub mod Listing

@@ -1,0 +1,50 @@
+//! Adds a theorem.
+
+ghost use Rattle.std.specs.Prelude.{◌≡◌};
+ghost use Rattle.library.specs.declared.command.Command.TheVariants as command;
+ghost use Rattle.library.specs.Fitting.{CommandFits};
+ghost use Rattle.cells.specs.Sight.{Onward};
+ghost use Rattle.commands.specs.Answers.{CommandAnswers};
+
+use crate::citing::test_proof;
+use crate::ending::CommandError;
+use cells::{Cells, Halt, bucket, fill, find, free_slot, slot_count};
+use library::{Reason, Reply};
+use mmstatement::{Assertion, Kind, Prelude, is_lawful_label};
+use std::alloc::Global;
+
+/// Adds a theorem with a rank, in the first empty slot from the number of its label's bucket on. It stages its label, its statement and its proof, in
+/// this order.
+pub(crate) fn add<C: Cells>(
+    alloc: Global,
+    prelude: &Prelude,
+    cells: &mut C,
+    rank: u32,
+    assertion: &Assertion,
+) -> Result<Reply, CommandError<C::Stop>>
+    requires prelude { prelude.now ≡ (C.sight cells.old).setting.prelude }
+    requires fits { CommandFits prelude.now (command.Add rank assertion.now) }
+    ensures onward { Onward (C.sight cells.old) (C.sight cells.new) }
+    ensures answers { CommandAnswers (C.sight cells.old) (C.sight cells.new) (command.Add rank assertion.now) result }
+{
+    let label = assertion.label.as_slice();
+    if rank == 0 {
+        return Err(Reason::BadRank.into());
+    }
+    if !is_lawful_label(prelude, label) {
+        return Err(Reason::BadLabel.into());
+    }
+    if find(cells, label).map_err(Halt::Stopped)?.is_some() {
+        return Err(Reason::LabelTaken.into());
+    }
+    if let Kind::Axiom = assertion.kind {
+        return Err(Reason::AxiomNotAllowed.into());
+    }
+    let kept = test_proof(alloc, prelude, cells, rank, assertion)?;
+    let from = bucket(label, slot_count(cells));
+    let Some(slot) = free_slot(cells, from).map_err(Halt::Stopped)? else {
+        return Err(Reason::LibraryFull.into());
+    };
+    fill(alloc, cells, slot, rank, assertion, kept.as_slice())?;
+    Ok(Reply::Done)
+}

@@ -1,0 +1,19 @@
+//! Transactions on a library in cells: each command as reads and writes of slots, for whatever else the cells may hold.
+#![tactic(auto)]
+
+mod adding;
+mod citing;
+mod deleting;
+mod ending;
+mod moving;
+mod renaming;
+mod reproving;
+mod run;
+mod showing;
+
+pub use ending::{CommandError, RunError};
+pub use run::{run, take};
+pub use scripts::{
+    Command, CommandPlace, Led, Line, PlainLibrary, Ranked, Reason, Refused, Reply, Script,
+    Transaction, read_script,
+};

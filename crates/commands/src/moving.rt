@@ -1,0 +1,86 @@
+//! Gives an assertion another rank.
+
+ghost use Rattle.std.specs.Prelude.{◌≡◌, ◌<◌, IfOk};
+ghost use Rattle.library.specs.declared.command.Command.TheVariants as command;
+ghost use Rattle.cells.specs.Sight.{Onward, Looks};
+ghost use Rattle.commands.specs.Answers.{CommandAnswers};
+ghost use Rattle.commands.specs.Citing.{TellsCites, TellsCitedUpTo};
+
+use crate::citing::cites_not_below;
+use crate::ending::CommandError;
+use bodystore::StoredStep;
+use cells::{Cells, Halt, citers, find, put, rank, rank_cell, slot_count, stored_proof};
+use library::{Reason, Reply};
+use mmstatement::Label;
+use std::alloc::Global;
+
+/// Gives the assertion with the label another rank. It stages nothing.
+pub(crate) fn move_to<C: Cells>(
+    alloc: Global,
+    cells: &mut C,
+    label: &Label,
+    rank: u32,
+) -> Result<Reply, CommandError<C::Stop>>
+    ensures onward { Onward (C.sight cells.old) (C.sight cells.new) }
+    ensures answers { CommandAnswers (C.sight cells.old) (C.sight cells.new) (command.Move label.now rank) result }
+{
+    let Some(slot) = find(cells, label.as_slice()).map_err(Halt::Stopped)? else {
+        return Err(Reason::UnknownLabel.into());
+    };
+    if rank == 0 {
+        return Err(Reason::BadRank.into());
+    }
+    let kept = stored_proof(alloc, cells, slot)?;
+    if cites_not_below(cells, rank, kept.as_slice()).map_err(Halt::Stopped)? {
+        return Err(Reason::CitedNotLower.into());
+    }
+    if is_cited_up_to(alloc, cells, slot, rank)? {
+        return Err(Reason::CiterNotHigher.into());
+    }
+    let _slots = slot_count(cells);
+    put(cells, rank_cell(slot), rank as u64).map_err(CommandError::Stopped)?;
+    Ok(Reply::Done)
+}
+
+/// Whether an assertion that cites the one in the slot isn't above a rank.
+///
+/// Its citers are above its own rank. So nothing is looked at where the new rank isn't, or where there is no citer; else the ranks of all slots,
+/// and the proofs of those between the two ranks.
+fn is_cited_up_to<C: Cells>(
+    alloc: Global,
+    cells: &mut C,
+    slot: usize,
+    limit: u32,
+) -> Result<bool, Halt<C::Stop>>
+    requires { slot < (C.sight cells.old).setting.slots }
+    ensures looks { Looks (C.sight cells.old) (C.sight cells.new) }
+    ensures ok { IfOk result (λ b. TellsCitedUpTo (C.sight cells.new) slot limit b) }
+{
+    let current = rank(cells, slot).map_err(Halt::Stopped)?;
+    if limit <= current || citers(cells, slot).map_err(Halt::Stopped)? == 0 {
+        return Ok(false);
+    }
+    for other in 0..slot_count(cells) {
+        let rank = rank(cells, other).map_err(Halt::Stopped)?;
+        if current < rank && rank <= limit && cites_slot(alloc, cells, other, slot)? {
+            return Ok(true);
+        }
+    }
+    Ok(false)
+}
+
+/// Whether the proof in the one slot cites the other.
+fn cites_slot<C: Cells>(
+    alloc: Global,
+    cells: &mut C,
+    citing: usize,
+    cited: usize,
+) -> Result<bool, Halt<C::Stop>>
+    requires citing { citing < (C.sight cells.old).setting.slots }
+    requires cited { cited < (C.sight cells.old).setting.slots }
+    ensures looks { Looks (C.sight cells.old) (C.sight cells.new) }
+    ensures ok { IfOk result (λ b. TellsCites (C.sight cells.new) citing cited b) }
+{
+    let kept = stored_proof(alloc, cells, citing)?;
+    Ok(kept.contains(&StoredStep::Slot(cited as u32)))
+}

@@ -1,0 +1,66 @@
+//! Gives an assertion another label.
+
+ghost use Rattle.std.specs.Prelude.{◌≡◌, ◌≢◌, ◌<◌, [], IfOk};
+ghost use Rattle.library.specs.declared.command.Command.TheVariants as command;
+ghost use Rattle.cells.specs.Sight.{Onward};
+ghost use Rattle.bodystore.specs.Bodies.{label_body};
+ghost use Rattle.commands.specs.Answers.{CommandAnswers, WritesSome};
+ghost use Rattle.commands.specs.Changes.{RenamesAt};
+
+use crate::ending::CommandError;
+use bodystore::encode_label;
+use cells::{Cells, Halt, find, name_cell, put_body, put_in, slot_count, take_out};
+use library::{Reason, Reply};
+use mmstatement::{Label, Prelude, is_lawful_label};
+use std::alloc::Global;
+
+/// Gives the assertion with the label `old` the label `new`. It reads the chains of the two labels, and writes the name of the slot and at most four
+/// cells of chains: no proof, since proofs cite slots.
+pub(crate) fn rename<C: Cells>(
+    alloc: Global,
+    prelude: &Prelude,
+    cells: &mut C,
+    old: &Label,
+    new: &Label,
+) -> Result<Reply, CommandError<C::Stop>>
+    requires { prelude.now ≡ (C.sight cells.old).setting.prelude }
+    ensures onward { Onward (C.sight cells.old) (C.sight cells.new) }
+    ensures answers { CommandAnswers (C.sight cells.old) (C.sight cells.new) (command.Rename old.now new.now) result }
+{
+    let Some(slot) = find(cells, old.as_slice()).map_err(Halt::Stopped)? else {
+        return Err(Reason::UnknownLabel.into());
+    };
+    if !is_lawful_label(prelude, new.as_slice()) {
+        return Err(Reason::BadLabel.into());
+    }
+    if find(cells, new.as_slice())
+        .map_err(Halt::Stopped)?
+        .is_some()
+    {
+        return Err(Reason::LabelTaken.into());
+    }
+    let body = encode_label(alloc, new.as_slice())?;
+    relabel(cells, slot, old, new, body.as_slice()).map_err(CommandError::Stopped)?;
+    Ok(Reply::Done)
+}
+
+/// Stages the body of another label of the slot, has the slot's name cell name it, and takes the slot from the one chain into the other.
+fn relabel<C: Cells>(
+    cells: &mut C,
+    slot: usize,
+    old: &Label,
+    new: &Label,
+    body: &[u64],
+) -> Result<(), C::Stop>
+    requires slot { slot < (C.sight cells.old).setting.slots }
+    requires body { body.now ≡ label_body new.now }
+    requires some { new.now ≢ [] }
+    ensures onward { Onward (C.sight cells.old) (C.sight cells.new) }
+    ensures written { IfOk result (λ _. WritesSome (C.sight cells.new)) }
+    ensures ok { IfOk result (λ _. RenamesAt (C.sight cells.old) (C.sight cells.new) slot old.now new.now) }
+{
+    let _slots = slot_count(cells);
+    put_body(cells, name_cell(slot), body)?;
+    take_out(cells, slot, old.as_slice())?;
+    put_in(cells, slot, new.as_slice())
+}

@@ -1,0 +1,70 @@
+//! Gives a theorem another proof.
+
+ghost use Rattle.std.specs.Prelude.{◌≡◌, ◌≢◌, ◌<◌, [], List, IfOk};
+ghost use Rattle.library.specs.declared.command.Command.TheVariants as command;
+ghost use Rattle.cells.specs.Sight.{Onward};
+ghost use Rattle.cells.specs.Lookups.{AreWithin};
+ghost use Rattle.commands.specs.Answers.{CommandAnswers, WritesSome};
+ghost use Rattle.commands.specs.Changes.{ReprovesAt};
+
+use crate::citing::test_proof;
+use crate::ending::CommandError;
+use bodystore::{StoredStep, encode_proof};
+use cells::{
+    Cells, Halt, cited_slots, count_in, count_out, find, proof_cell, put_body, rank, slot_count,
+    statement, stored_proof,
+};
+use library::{Reason, Reply};
+use mmstatement::{Kind, Label, Prelude, Sequence, Step, copy_steps};
+use std::alloc::Global;
+
+/// Gives the theorem with the label another proof, and stages it, even where it is equal to the former.
+pub(crate) fn reprove<C: Cells>(
+    alloc: Global,
+    prelude: &Prelude,
+    cells: &mut C,
+    label: &Label,
+    steps: &Sequence<Step>,
+) -> Result<Reply, CommandError<C::Stop>>
+    requires { prelude.now ≡ (C.sight cells.old).setting.prelude }
+    ensures onward { Onward (C.sight cells.old) (C.sight cells.new) }
+    ensures answers { CommandAnswers (C.sight cells.old) (C.sight cells.new) (command.Reprove label.now steps.now) result }
+{
+    let Some(slot) = find(cells, label.as_slice()).map_err(Halt::Stopped)? else {
+        return Err(Reason::UnknownLabel.into());
+    };
+    let statement = statement(alloc, cells, slot)?;
+    if let Kind::Axiom = statement.kind {
+        return Err(Reason::NotATheorem.into());
+    }
+    let rank = rank(cells, slot).map_err(Halt::Stopped)?;
+    let proof = copy_steps(alloc, steps.as_slice())?;
+    let theorem = statement.into_assertion(label.copy(alloc)?, proof);
+    let kept = test_proof(alloc, prelude, cells, rank, &theorem)?;
+    put_steps(alloc, cells, slot, kept.as_slice())?;
+    Ok(Reply::Done)
+}
+
+/// Stages steps, has the proof cell of a slot name them, counts out what the former proof cites, and counts in what these cite.
+fn put_steps<C: Cells>(
+    alloc: Global,
+    cells: &mut C,
+    slot: usize,
+    kept: &[StoredStep],
+) -> Result<(), Halt<C::Stop>>
+    requires slot { slot < (C.sight cells.old).setting.slots }
+    requires some { kept.now ≢ [] }
+    requires within { AreWithin (C.sight cells.old).setting.slots kept.now }
+    ensures onward { Onward (C.sight cells.old) (C.sight cells.new) }
+    ensures written { IfOk result (λ _. WritesSome (C.sight cells.new)) }
+    ensures ok { IfOk result (λ _. (label : List _) → ReprovesAt (C.sight cells.old) (C.sight cells.new) slot label kept.now) }
+{
+    let _slots = slot_count(cells);
+    let former = stored_proof(alloc, cells, slot)?;
+    let before = cited_slots(alloc, former.as_slice())?;
+    let now = cited_slots(alloc, kept)?;
+    let body = encode_proof(alloc, kept)?;
+    put_body(cells, proof_cell(slot), body.as_slice()).map_err(Halt::Stopped)?;
+    count_out(cells, before.as_slice()).map_err(Halt::Stopped)?;
+    count_in(cells, now.as_slice()).map_err(Halt::Stopped)
+}

@@ -1,0 +1,80 @@
+//! Runs transactions.
+
+ghost use Rattle.std.specs.Prelude.{◌≡◌, All};
+ghost use Rattle.library.specs.Fitting.{CommandFits};
+ghost use Rattle.cells.specs.Sight.{Onward};
+ghost use Rattle.commands.specs.Answers.{CommandAnswers, RunAnswers};
+
+use crate::adding::add;
+use crate::deleting::delete;
+use crate::ending::{CommandError, RunError};
+use crate::moving::move_to;
+use crate::renaming::rename;
+use crate::reproving::reprove;
+use crate::showing::{list, show};
+use cells::Cells;
+use library::{Command, Reply};
+use mmstatement::{Prelude, Sequence};
+use std::alloc::Global;
+
+/// Does the commands of a transaction, one after another, each over what those before it kept aside, and answers the reply to each. Each command is
+/// within the limits of the prelude, which is the library's.
+///
+/// The replies are those of the transaction's definition over the library, and the cells then show the library as it is after it: for every
+/// state of the cells that agrees with what was read, shows a library that verifies, and has the ranges that were seen. So whatever else
+/// becomes of cells that were not read, nothing changes in the answer.
+///
+/// # Errors
+///
+/// The first command that is refused, counted from 1, with its reason. The run is stopped, or memory ran out. What was kept aside by then is the
+/// caller's to throw away.
+pub fn run<C: Cells>(
+    alloc: Global,
+    prelude: &Prelude,
+    cells: &mut C,
+    commands: &[Command],
+) -> Result<Sequence<Reply>, RunError<C::Stop>>
+    requires prelude { prelude.now ≡ (C.sight cells.old).setting.prelude }
+    requires fits { All (CommandFits prelude.now) commands.now }
+    ensures onward { Onward (C.sight cells.old) (C.sight cells.new) }
+    ensures answers { RunAnswers (C.sight cells.old) (C.sight cells.new) commands.now result }
+{
+    let mut replies = Vec::new(alloc);
+    for (done, command) in commands.iter().enumerate() {
+        match take(alloc, prelude, cells, command) {
+            Ok(reply) => replies.push(reply)?,
+            Err(error) => return Err(error.at(done + 1)),
+        }
+    }
+    Ok(Sequence::from_vec(replies))
+}
+
+/// Does one command, over what is kept aside. It is within the limits of the prelude, which is the library's.
+///
+/// # Errors
+///
+/// It is refused: nothing was kept aside or staged. The run is stopped, or memory ran out.
+pub fn take<C: Cells>(
+    alloc: Global,
+    prelude: &Prelude,
+    cells: &mut C,
+    command: &Command,
+) -> Result<Reply, CommandError<C::Stop>>
+    requires prelude { prelude.now ≡ (C.sight cells.old).setting.prelude }
+    requires fits { CommandFits prelude.now command.now }
+    ensures onward { Onward (C.sight cells.old) (C.sight cells.new) }
+    ensures answers { CommandAnswers (C.sight cells.old) (C.sight cells.new) command.now result }
+{
+    match command {
+        Command::Add { rank, assertion } => add(alloc, prelude, cells, *rank, assertion),
+        Command::Reprove { label, steps } => reprove(alloc, prelude, cells, label, steps),
+        Command::Rename { old, new } => rename(alloc, prelude, cells, old, new),
+        Command::Move { label, rank } => move_to(alloc, cells, label, *rank),
+        Command::Delete { label } => delete(alloc, cells, label),
+        Command::Show { label } => show(alloc, cells, label),
+        Command::List => list(alloc, cells),
+    }
+}
+
+#[test]
+fn nothing(_rt: HostRuntime) {}
