@@ -1,0 +1,6 @@
+pub mod Seeing
+pub mod Refusing
+pub mod Chaining
+pub mod Relabelling
+pub mod Removing
+pub mod Restepping
