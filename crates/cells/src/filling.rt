@@ -134,7 +134,8 @@ pub fn vacate<C: Cells>(cells: &mut C, slot: usize) -> Result<(), C::Stop>
     ensures written { IfOk result (λ _. WasWritten (C.sight cells.new) (name_cell slot)) }
 {
     let _slots = slot_count(cells);
-    for cell in name_cell(slot)..=citers_cell(slot) {
+    for part in 0..5 {
+        let cell = name_cell(slot) + part;
         cells.read(cell)?;
         cells.write(cell, 0);
     }

@@ -1,38 +1,65 @@
-use Rattle.std.proofs.Common.{◌+◌, ℕ, List, take, get_or, sym, subst, arith, refl}
+use Rattle.std.proofs.Common.{◌<◌, ◌+◌, ℕ, List, All, nat_eq, take, get_or, sym, subst, arith, refl}
 use Rattle.std.proofs.lemmas.List.{take_all}
-use Rattle.cells.specs.Sight.{after}
+use Rattle.mmsyntax.specs.Assertions.{Distinct}
+use Rattle.cells.specs.State.{State}
+use Rattle.cells.specs.Sight.{Sight, Matches, Onward, after}
 use Rattle.cells.proofs.Sights.{onward_trans, writes_onward, matches_back}
 use Rattle.cells.proofs.Counting.{Changes, one_less, changes_more, count_made, counts_out}
 use Rattle.cells.proofs.counts.count_out.Goals as goal
+use Rattle.cells.proofs.counts.count_out.Goals.{then-slot-slots+in_ok-count, else-slot-slots}
 
 pub returns-in_err-count-clause-onward : goal.returns-in_err-count-clause-onward
 returns-in_err-count-clause-onward g c = onward_trans _ _ _ c.loop-slot.invariant.onward c.in_err-count.ensures.err.onward
 
 pub loop-slot-preserved : goal.loop-slot-preserved
-loop-slot-preserved g c =
-    let cited = c.args.cited.now in
-    let i = c.loop-slot.slot-index in
-    let x = get_or c.args.cited.now c.loop-slot.slot-index 0 in
-    let old = g.C.Cells.sight c.args.cells.now in
-    let now = g.C.Cells.sight c.loop-slot.cells in
-    let new = g.C.Cells.sight c.write.new.self in
-    let read = c.in_ok-count.ensures.ok in
-    let wrote = writes_onward _ _ _ _ c.write.ensures in
-    record {
-      onward = onward_trans _ _ _ c.loop-slot.invariant.onward (onward_trans _ _ _ read.looks.onward wrote);
-      changes = λ st m d.
-          let m1 = matches_back _ _ st wrote m in
-          let m0 = matches_back _ _ st read.looks.onward m1 in
-          let made = count_made one_less now _ new st _ _ _ _ x read.looks c.write.ensures c.citers_cell-in-loop-slot.ensures c.saturating_sub.ensures
-          (read.value st m1) c.citers_cell.ensures in
-          subst (Changes one_less (take (i + 1) cited) (after old st)) (sym made)
-          (changes_more one_less cited i x (after old st) (after now st) d (omega arith) refl (c.loop-slot.invariant.changes st m0 d));
-    }
+loop-slot-preserved g c = elim c.if-slot-slots.branch [
+  | then-slot-slots+in_ok-count w ↦
+      (let now = g.C.Cells.sight c.loop-slot.cells in
+      let new = g.C.Cells.sight w.write.new.self in
+      let read = w.in_ok-count.ensures.ok in
+      let wrote = writes_onward _ _ _ _ w.write.ensures in
+      record {
+        onward = subst (λ cells. Onward old (g.C.Cells.sight cells)) (sym w.cells-is)
+            (onward_trans _ _ _ c.loop-slot.invariant.onward (onward_trans _ _ _ read.looks.onward wrote));
+        changes = subst (Turned (i + 1)) (sym w.cells-is) (λ st m within d.
+            let m1 = matches_back _ _ st wrote m in
+            let m0 = matches_back _ _ st read.looks.onward m1 in
+            let made = count_made one_less now _ new st _ _ _ _ x read.looks w.write.ensures w.citers_cell-then-slot-slots.ensures
+            w.saturating_sub.ensures (read.value st m1) w.citers_cell.ensures in
+            subst (Changes one_less (take (i + 1) cited) (after old st)) (sym made)
+            (changes_more one_less cited i x (after old st) (after now st) d (omega arith) refl (c.loop-slot.invariant.changes st m0 within d)));
+      })
+  | else-slot-slots w ↦
+      record {
+        onward = subst (λ cells. Onward old (g.C.Cells.sight cells)) (sym w.cells-is) c.loop-slot.invariant.onward;
+        changes = λ st m within d.
+            let lt = within i 0 c.loop-slot-test.true in
+            let some = c.slot_count-slots.ensures.value in
+            let past = w.if-slot-slots.false in
+            absurd (omega (arith, lt, some, past));
+      }
+]
+  where
+    cited : List ℕ
+    cited = c.args.cited.now
+
+    i : ℕ
+    i = c.loop-slot.slot-index
+
+    x : ℕ
+    x = get_or c.args.cited.now c.loop-slot.slot-index 0
+
+    old : Sight
+    old = g.C.Cells.sight c.args.cells.now
+
+    Turned : ℕ → g.row.C.Denot → Type 0
+    Turned n cells = (st : State) → Matches (g.C.Cells.sight cells) st → All (λ k. k < old.setting.slots) cited → Distinct nat_eq cited
+        → Changes one_less (take n cited) (after old st) (after (g.C.Cells.sight cells) st)
 
 pub returns-clause-ok : goal.returns-clause-ok
-returns-clause-ok g c st m d =
+returns-clause-ok g c st m within d =
     let cited = c.args.cited.now in
     let old = g.C.Cells.sight c.args.cells.now in
     let new = g.C.Cells.sight c.loop-slot.cells in
     counts_out cited (after old st) (after new st) (subst (λ (l : List ℕ). Changes one_less l (after old st) (after new st))
-    (take_all c.loop-slot.slot-index cited (omega arith)) (c.loop-slot.invariant.changes st m d))
+    (take_all c.loop-slot.slot-index cited (omega arith)) (c.loop-slot.invariant.changes st m within d))

@@ -1,4 +1,4 @@
-use Rattle.std.proofs.Common.{take, nat_eq}
+use Rattle.std.proofs.Common.{◌<◌, take, nat_eq, All}
 use Rattle.mmsyntax.specs.Assertions.{Distinct}
 use Rattle.cells.specs.State.{State}
 use Rattle.cells.specs.Sight.{Matches, Onward, after}
@@ -11,6 +11,6 @@ invariant-loop-slot g l =
     let now = g.C.Cells.sight l.cells in
     record {
       onward : Onward old now;
-      changes : (st : State) → Matches now st → Distinct nat_eq l.cited
+      changes : (st : State) → Matches now st → All (λ i. i < old.setting.slots) l.cited → Distinct nat_eq l.cited
           → Changes one_less (take l.slot-index l.cited) (after old st) (after now st);
     }

@@ -8,6 +8,7 @@ use Rattle.cells.specs.State.{State}
 use Rattle.cells.specs.Shows.{Held, slots_of, AreChained}
 use Rattle.cells.specs.Chains.{Rechains}
 use Rattle.cells.specs.Filling.{AreCitedSlots, MayFill, Fills}
+use Rattle.cells.specs.Slots.{name_cell}
 use Rattle.cells.specs.Sight.{Matches, Views, after}
 use Rattle.cells.proofs.Sights.{onward_trans, matches_back}
 use Rattle.cells.proofs.Members.{all_from_has}
@@ -70,3 +71,11 @@ returns-clause-ok g c =
     (after s2 st) counts c.requires.fillable (after s3 st) refl refl views.verifies.library.distinct may
     (subst (λ (s : Setting). Rechains s.slots (after s2 st) (after s3 st) shows.held (here ∷ shows.held)) setting chains) in
     if_mapped _ _ _ _ _ c.map_err-2.ensures.cases c.put_in.ensures.ok then
+
+pub returns-clause-written : goal.returns-clause-written
+returns-clause-written g c =
+    let s2 = g.C.Cells.sight c.count_in.new.cells in
+    let s3 = g.C.Cells.sight c.put_in.new.cells in
+    let later = onward_trans _ _ _ c.count_in.ensures.onward c.put_in.ensures.onward in
+    let done = later.written (name_cell c.args.slot) c.in_ok-lay_down.ensures.written in
+    if_mapped _ _ _ _ _ c.map_err-2.ensures.cases c.put_in.ensures.ok (λ x put. done)

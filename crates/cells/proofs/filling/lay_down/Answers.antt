@@ -1,6 +1,7 @@
 use Rattle.std.proofs.Common.{◌≡◌, ℕ, ap, subst, ◌∙◌, refl}
+use Rattle.cells.specs.Slots.{name_cell}
 use Rattle.cells.specs.State.{State, HasBody, with_value}
-use Rattle.cells.specs.Sight.{Matches, after}
+use Rattle.cells.specs.Sight.{WasWritten, Matches, after}
 use Rattle.cells.specs.Filling.{LaysDown}
 use Rattle.cells.proofs.Sights.{onward_trans, matches_back}
 use Rattle.cells.proofs.Laying.{if_mapped, ok_mapped, laid_down}
@@ -57,3 +58,14 @@ returns-clause-ok g c =
     (put st ∙ (λ i. with_value (c.citers_cell.ensures i) 0
     ((ranked st ∙ ap (λ (n : ℕ). with_value n c.args.rank (after s3 st)) c.rank_cell.ensures) i))) in
     if_mapped _ _ _ _ _ c.map_err-4.ensures.cases c.put-2.ensures.ok then
+
+pub returns-clause-written : goal.returns-clause-written
+returns-clause-written g c =
+    let s1 = g.C.Cells.sight c.put_body.new.cells in
+    let s5 = g.C.Cells.sight c.put-2.new.cells in
+    let named = ok_mapped _ _ _ _ _ c.in_ok-map_err.was c.map_err.ensures.cases c.put_body.ensures.written in
+    let later = onward_trans _ _ _ c.put_body-2.ensures.onward (onward_trans _ _ _ c.put_proof.ensures.onward
+    (onward_trans _ _ _ c.put.ensures.onward c.put-2.ensures.onward)) in
+    let done = later.written (name_cell c.args.slot) (subst (WasWritten s1) c.name_cell.ensures named) in
+    let then : (x : Unit {0}) → WasWritten s5 c.citers_cell.result → WasWritten s5 (name_cell c.args.slot) = λ x w. done in
+    if_mapped _ _ _ _ _ c.map_err-4.ensures.cases c.put-2.ensures.written then

@@ -1,5 +1,8 @@
-use Rattle.cells.proofs.Sights.{onward_trans, writes_onward}
+use Rattle.cells.proofs.Sights.{onward_trans, writes_onward, writes_cell}
 use Rattle.cells.proofs.filling.put.Goals as goal
 
 pub returns-clause-onward : goal.returns-clause-onward
 returns-clause-onward g c = onward_trans _ _ _ c.in_ok-read.ensures.ok.looks.onward (writes_onward _ _ _ _ c.write.ensures)
+
+pub returns-clause-written : goal.returns-clause-written
+returns-clause-written g c = writes_cell _ _ _ _ c.write.ensures

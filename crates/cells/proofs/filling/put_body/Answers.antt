@@ -1,7 +1,7 @@
 use Rattle.std.proofs.Common.{◌*◌, ◌+◌, ◌^◌, ap, ◌∙◌, inr}
 use Rattle.cells.specs.State.{State}
 use Rattle.cells.specs.Sight.{after}
-use Rattle.cells.proofs.Sights.{onward_trans, writes_onward, after_writes}
+use Rattle.cells.proofs.Sights.{onward_trans, writes_onward, writes_cell, after_writes}
 use Rattle.cells.proofs.Bodies.{body_known}
 use Rattle.cells.proofs.Staging.{staged_start, staged_len}
 use Rattle.cells.proofs.Values.{value_there}
@@ -46,3 +46,6 @@ returns-clause-ok g c st m =
     (ap (λ (x : State). x.value c.args.cell) (after_writes _ _ _ _ st c.write.ensures)
     ∙ value_there c.args.cell c.word.result (after (g.C.Cells.sight c.read.new.self) st) ∙ c.word.ensures)
     c.requires.some
+
+pub returns-clause-written : goal.returns-clause-written
+returns-clause-written g c = writes_cell _ _ _ _ c.write.ensures
