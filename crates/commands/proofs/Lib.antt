@@ -1,3 +1,4 @@
+pub mod Results
 pub mod Seeing
 pub mod Refusing
 pub mod Chaining

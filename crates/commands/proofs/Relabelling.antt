@@ -6,6 +6,7 @@ use Rattle.mmsyntax.specs.Tables.{Tables}
 use Rattle.mmsyntax.specs.Assertions.{is_lawful_label}
 use Rattle.library.specs.declared.library.Ranked.{Ranked}
 use Rattle.library.specs.declared.command.Command.TheVariants as command
+use Rattle.library.specs.declared.command.Reply.TheVariants.{Done}
 use Rattle.library.specs.declared.reason.Reason.TheVariants as reason
 use Rattle.library.specs.Library.{Setting}
 use Rattle.library.specs.Edits.{has, found, rename, done, edit, bad_label, label_taken, tested}
@@ -13,15 +14,18 @@ use Rattle.bodystore.specs.Bodies.{label_body}
 use Rattle.cells.specs.State.{State, HasBody}
 use Rattle.cells.specs.Slots.{name_cell}
 use Rattle.cells.specs.Shows.{Shows}
-use Rattle.cells.specs.Sight.{Sight, Matches, Onward, after}
+use Rattle.cells.specs.Sight.{Sight, Matches, Onward, Looks, after}
+use Rattle.cells.specs.Lookups.{ForEach, Finds}
 use Rattle.cells.specs.Chains.{without_slot}
 use Rattle.cells.proofs.Sights.{onward_trans, matches_back}
 use Rattle.cells.proofs.Found.{unfound}
 use Rattle.cells.proofs.Renaming.{still_chained, renamed_shows}
 use Rattle.cells.proofs.Unlinking.{slot_gone}
+use Rattle.commands.specs.Answers.{WritesSome, Does}
 use Rattle.commands.specs.Changes.{RenamesAt}
 use Rattle.commands.proofs.Chaining.{TakesOut, PutsIn, taken_out, put_in_chain}
-use Rattle.commands.proofs.Refusing.{first_refuses, first_passes, has_found}
+use Rattle.commands.proofs.Refusing.{first_refuses, first_passes}
+use Rattle.commands.proofs.Seeing.{has_found, views_later, found_later}
 
 -- the name cell names the new label's body, and then the slot is taken out of the one chain and put into the other
 pub relabelled : (s0 s1 s2 s3 : Sight) (i : ℕ) (from to words : List ℕ) → Onward s0 s1 → Onward s1 s2 → Onward s2 s3 → words ≡ label_body to
@@ -67,10 +71,28 @@ module _ (s : Setting) (lib : List Ranked) (from to : List ℕ) where
         → edit s lib (command.Rename from to) ≡ tested (label_taken lib to ∷ []) (done (rename from to lib))
     lawful h = known ∙ first_passes (not (is_lawful_label s.prelude to)) reason.BadLabel _ _ (ap not h)
 
-    pub rename_taken : (f : Ranked) → is_lawful_label s.prelude to ≡ true → found lib to ≡ Some f
-        → edit s lib (command.Rename from to) ≡ Err reason.LabelTaken
-    rename_taken f h taken = lawful h ∙ first_refuses (has lib to) reason.LabelTaken _ _ (has_found lib to f taken)
+    pub rename_taken : is_lawful_label s.prelude to ≡ true → has lib to ≡ true → edit s lib (command.Rename from to) ≡ Err reason.LabelTaken
+    rename_taken h taken = lawful h ∙ first_refuses (has lib to) reason.LabelTaken _ _ taken
 
-    pub rename_done : is_lawful_label s.prelude to ≡ true → found lib to ≡ None
+    pub rename_done : is_lawful_label s.prelude to ≡ true → has lib to ≡ false
         → edit s lib (command.Rename from to) ≡ Ok (done (rename from to lib))
-    rename_done h free = lawful h ∙ first_passes (has lib to) reason.LabelTaken _ _ (unfound lib to free)
+    rename_done h free = lawful h ∙ first_passes (has lib to) reason.LabelTaken _ _ free
+
+-- the label of what was found is replaced
+pub renamed : (s0 s1 s2 s3 : Sight) (i : ℕ) (from to : List ℕ) → Looks s0 s1 → Looks s1 s2 → Onward s2 s3
+    → is_lawful_label s0.setting.prelude to ≡ true → Finds s1 from (Some i) → ForEach s2 (λ st lib. has lib to ≡ false)
+    → RenamesAt s2 s3 i from to → WritesSome s3 → Does s0 s3 (command.Rename from to) Done
+renamed s0 s1 s2 s3 i from to looks1 looks2 on3 lawful found free renames writes =
+    record {
+      edits = λ st lib m v.
+          let m2 = matches_back s2 s3 st on3 m in
+          let v1 = views_later s0 s1 st lib looks1 (matches_back s1 s2 st looks2.onward m2) v in
+          let v2 = views_later s1 s2 st lib looks2 m2 v1 in
+          let at = found.1 st lib v1 in
+          let new = free st lib v2 in (
+            rename from to lib,
+            rename_done s0.setting lib from to at.entry at.found lawful new,
+            renames st lib m v2 (found_later s1 s2 st lib from i looks2 at) new,
+          );
+      writes = writes;
+    }

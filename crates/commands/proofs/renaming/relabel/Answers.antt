@@ -7,6 +7,7 @@ use Rattle.cells.proofs.Sights.{onward_trans}
 use Rattle.commands.specs.Answers.{WritesSome}
 use Rattle.commands.specs.Changes.{RenamesAt}
 use Rattle.commands.proofs.Chaining.{TakesOut, PutsIn}
+use Rattle.commands.proofs.Results.{if_ok_always}
 use Rattle.commands.proofs.Relabelling.{relabelled}
 use Rattle.commands.proofs.renaming.relabel.Goals as goal
 
@@ -20,9 +21,8 @@ returns-clause-onward g c =
 pub returns-clause-written : goal.returns-clause-written
 returns-clause-written g c =
     let new = g.C.Cells.sight c.put_in.new.cells in
-    IfOk-weaker c.put_in.result _ (λ _. WritesSome new) (λ _ _.
+    if_ok_always c.put_in.result (λ _. WritesSome new) (λ _.
     (c.name_cell.result, c.put_in.ensures.onward.written _ (c.take_out.ensures.onward.written _ c.in_ok-put_body.ensures.written)))
-    c.put_in.ensures.ok
 
 pub returns-clause-ok : goal.returns-clause-ok
 returns-clause-ok g c =
