@@ -1,25 +1,29 @@
 -- The slot of an assertion that nothing cites, emptied, and the tests of removing it.
 use Rattle.std.proofs.Common.{◌≡◌, ℕ, ◌<◌, ◌≤◌, List, Some, Ok, Err, true, false, refl, sym, ap, subst, ◌∙◌, arith, nat_eq}
 use Rattle.std.specs.Prelude.{All, nat_le}
+use Rattle.std.proofs.lemmas.Bool.{le-leb}
 use Rattle.mmsyntax.specs.Assertions.{Distinct}
 use Rattle.library.specs.declared.library.Ranked.{Ranked}
 use Rattle.library.specs.declared.command.Command.TheVariants as command
+use Rattle.library.specs.declared.command.Reply.TheVariants.{Done}
 use Rattle.library.specs.declared.reason.Reason.TheVariants as reason
-use Rattle.library.specs.Library.{Setting}
+use Rattle.library.specs.Library.{Setting, label_of}
 use Rattle.library.specs.Edits.{found, citers, without, done, edit, still_cited, tested}
+use Rattle.library.proofs.Places.{found_in}
 use Rattle.bodystore.specs.declared.stored.StoredStep.{StoredStep}
 use Rattle.cells.specs.State.{State}
 use Rattle.cells.specs.Shows.{AreStoredAs, Shows}
 use Rattle.cells.specs.Sight.{Sight, Matches, Onward, Looks, after}
-use Rattle.cells.specs.Lookups.{ForEachHeld}
+use Rattle.cells.specs.Lookups.{ForEach, ForEachHeld, Finds}
 use Rattle.cells.specs.Filling.{AreCitedSlots, CountsOut, Empties}
-use Rattle.cells.proofs.Sights.{matches_back}
+use Rattle.cells.proofs.Sights.{matches_back, views_back}
 use Rattle.cells.proofs.Members.{all_from_has}
 use Rattle.cells.proofs.Counted.{listed_within}
 use Rattle.cells.proofs.Deleting.{still_chained, deleted_shows}
+use Rattle.commands.specs.Answers.{WritesSome, Does}
 use Rattle.commands.specs.Changes.{DeletesAt}
 use Rattle.commands.proofs.Chaining.{TakesOut, taken_out}
-use Rattle.commands.proofs.Seeing.{views_later, found_later, told_at}
+use Rattle.commands.proofs.Seeing.{views_later, found_later}
 use Rattle.commands.proofs.Refusing.{first_refuses, first_passes, of_some}
 
 -- what counting out ensures
@@ -42,7 +46,7 @@ removed s0 s1 s2 s3 s4 i label former listed looks on2 on3 on4 read cited counts
     let store = v.matches.store in
     let apart = v.verifies.library.distinct in
     let setting : s4.setting ≡ s1.setting = on4.setting ∙ (on3.setting ∙ on2.setting) in
-    let stored = told_at s1 i label _ read st lib v at in
+    let stored = read st lib v at.entry (found_in lib label at.entry at.found).0 at.holds in
     let within = all_from_has (λ j. j < slots) listed (listed_within slots (after s1 st) lib v.shows store at.entry.assertion.proof former listed stored cited) in
     let out = counts st m2 within cited.apart in
     let chained = still_chained slots (after s1 st) (after s2 st) lib v.shows store apart label i at former listed stored cited out in
@@ -58,8 +62,35 @@ module _ (s : Setting) (lib : List Ranked) (label : List ℕ) (e : Ranked) (at :
   pub delete_cited : (n : ℕ) → n ≡ citers lib label → 0 < n → edit s lib (command.Delete label) ≡ Err (reason.StillCited n)
   delete_cited n is some =
       of_some lib label _ e at
-      ∙ first_refuses (nat_le 1 (citers lib label)) (reason.StillCited (citers lib label)) _ _ (subst (λ k. nat_le 1 k ≡ true) is ?)
+      ∙ first_refuses (nat_le 1 (citers lib label)) (reason.StillCited (citers lib label)) _ _ (le-leb 1 (citers lib label) (subst (λ k. 1 ≤ k) is some))
       ∙ ap (λ k. Err (reason.StillCited k)) (sym is)
 
   pub delete_done : citers lib label ≡ 0 → edit s lib (command.Delete label) ≡ Ok (done (without label lib))
   delete_done none = of_some lib label _ e at ∙ first_passes (nat_le 1 (citers lib label)) (reason.StillCited (citers lib label)) _ _ (ap (nat_le 1) none)
+
+-- the number that was read is that of the proofs that cite what was found
+pub counted : (s t : Sight) (i : ℕ) (label : List ℕ) (n : ℕ) → Looks s t → Finds s label (Some i)
+    → ForEachHeld t i (λ st lib e. n ≡ citers lib (label_of e))
+    → ForEach t (λ st lib. (e : Ranked) × (found lib label ≡ Some e) × (n ≡ citers lib label))
+counted s t i label n looks finds read st lib v =
+    let at = found_later s t st lib label i looks (finds.1 st lib (views_back s t st lib looks v)) in
+    let own = found_in lib label at.entry at.found in
+    (at.entry, at.found, read st lib v at.entry own.0 at.holds ∙ ap (citers lib) (sym own.1))
+
+-- what was found, and nothing cites, is removed
+pub deleted : (s0 s1 s2 s3 : Sight) (i : ℕ) (label : List ℕ) → Looks s0 s1 → Looks s1 s2 → Onward s2 s3 → Finds s1 label (Some i)
+    → ForEach s2 (λ st lib. (e : Ranked) × (found lib label ≡ Some e) × (0 ≡ citers lib label)) → DeletesAt s2 s3 i label → WritesSome s3
+    → Does s0 s3 (command.Delete label) Done
+deleted s0 s1 s2 s3 i label looks1 looks2 on3 finds counts deletes writes =
+    record {
+      edits = λ st lib m v.
+          let m2 = matches_back s2 s3 st on3 m in
+          let v1 = views_later s0 s1 st lib looks1 (matches_back s1 s2 st looks2.onward m2) v in
+          let v2 = views_later s1 s2 st lib looks2 m2 v1 in
+          let none = counts st lib v2 in (
+            without label lib,
+            delete_done s0.setting lib label none.0 none.1 (sym none.2),
+            deletes st lib m v2 (found_later s1 s2 st lib label i looks2 (finds.1 st lib v1)) (sym none.2),
+          );
+      writes = writes;
+    }

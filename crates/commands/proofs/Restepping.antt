@@ -12,6 +12,7 @@ use Rattle.library.specs.declared.command.Command.TheVariants as command
 use Rattle.library.specs.declared.reason.Reason.TheVariants as reason
 use Rattle.library.specs.Library.{Setting}
 use Rattle.library.specs.Edits.{found, changed, with_proof, is_axiom, done, edit, tested, Edited}
+use Rattle.library.proofs.Places.{found_in}
 use Rattle.ranges.specs.Ranges.{Has}
 use Rattle.bodystore.specs.declared.stored.StoredStep.{StoredStep}
 use Rattle.bodystore.specs.declared.stored.StoredStep.TheVariants.{Slot}
@@ -28,7 +29,7 @@ use Rattle.cells.proofs.Holding.{stored_named, named_held}
 use Rattle.cells.proofs.Counted.{listed_within}
 use Rattle.cells.proofs.Reproving.{less_few, reproved_shows}
 use Rattle.commands.specs.Changes.{ReprovesAt}
-use Rattle.commands.proofs.Seeing.{views_later, found_later, told_at}
+use Rattle.commands.proofs.Seeing.{views_later, found_later}
 use Rattle.commands.proofs.Removing.{CountsOutOf}
 use Rattle.commands.proofs.Refusing.{first_refuses, first_passes, of_some}
 
@@ -57,7 +58,7 @@ restepped s0 s1 s2 s3 s4 i label former kept before now words looks on2 on3 on4 
     let apart = v.verifies.library.distinct in
     let setting : s4.setting ≡ s1.setting = on4.setting ∙ (on3.setting ∙ on2.setting) in
     let slots_are : s2.setting.slots ≡ s1.setting.slots = ap (λ (x : Setting). x.slots) on2.setting in
-    let stored = told_at s1 i label _ read st lib v at in
+    let stored = read st lib v at.entry (found_in lib label at.entry at.found).0 at.holds in
     let stored_now = subst (λ (x : State). AreStoredAs slots x steps kept) (sym (after_looks s0 s1 st looks))
     (subst (λ (x : Setting). AreStoredAs x.slots (after s0 st) steps kept) (sym looks.onward.setting) stored_as) in
     let within = all_from_has (λ j. j < s2.setting.slots) before (λ j h.

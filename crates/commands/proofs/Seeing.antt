@@ -2,15 +2,14 @@
 use Rattle.std.proofs.Common.{◌≡◌, ℕ, List, Option, Some, None, true, sym, subst, ◌∙◌, inl, inr}
 use Rattle.std.specs.Option.{is_some}
 use Rattle.std.proofs.lemmas.Bool.{cases_Bool}
-use Rattle.std.specs.Prelude.{Contains}
 use Rattle.library.specs.declared.library.Ranked.{Ranked}
 use Rattle.library.specs.Library.{Setting, Verifies}
 use Rattle.library.specs.Edits.{has, found}
 use Rattle.cells.specs.State.{State}
 use Rattle.cells.specs.Shows.{Shows, Holds}
 use Rattle.cells.specs.Sight.{Sight, Matches, Views, Onward, Looks, after}
-use Rattle.cells.specs.Lookups.{ForEach, ForEachHeld, IsFoundAt, Finds}
-use Rattle.library.proofs.Places.{found_in, find_nowhere}
+use Rattle.cells.specs.Lookups.{ForEach, IsFoundAt, Finds}
+use Rattle.library.proofs.Places.{find_nowhere}
 use Rattle.cells.proofs.Found.{unfound}
 use Rattle.cells.proofs.Sights.{after_looks, matches_back}
 use Rattle.commands.specs.Answers.{ForEachBefore}
@@ -49,11 +48,6 @@ found_later s t st lib label i looks at =
       holds = subst (λ (x : State). Holds t.setting.slots x lib i at.entry) (sym (after_looks s t st looks))
           (subst (λ (x : Setting). Holds x.slots (after s st) lib i at.entry) (sym looks.onward.setting) at.holds);
     }
-
--- what is told of every assertion that the slot holds is told of the one that was found there
-pub told_at : (s : Sight) (i : ℕ) (label : List ℕ) (told : State → List Ranked → Ranked → Type 0) → ForEachHeld s i told
-    → (st : State) (lib : List Ranked) → Views s st lib → (at : IsFoundAt s.setting.slots (after s st) lib label i) → told (after s st) lib at.entry
-told_at s i label told each st lib v at = each st lib v at.entry (found_in lib label at.entry at.found).0 at.holds
 
 -- whether a label was found is whether an assertion has it
 pub found_or_free : (s : Sight) (label : List ℕ) (o : Option ℕ) → Finds s label o → ForEach s (λ st lib. has lib label ≡ is_some o)
