@@ -36,13 +36,13 @@ pub removed : (s0 s1 s2 s3 s4 : Sight) (i : ℕ) (label : List ℕ) (former : Li
     → Onward s2 s3 → Onward s3 s4 → ForEachHeld s1 i (λ st lib e. AreStoredAs s1.setting.slots st e.assertion.proof former)
     → AreCitedSlots former listed → CountsOutOf s1 s2 listed → TakesOut s2 s3 i label
     → ((st : State) → Empties i (after s3 st) (after s4 st)) → DeletesAt s0 s4 i label
-removed s0 s1 s2 s3 s4 i label former listed looks on2 on3 on4 read cited counts takes empties st lib m before found uncited =
+removed s0 s1 s2 s3 s4 i label former listed looks on2 on3 on4 read cited counts takes empties st lib m before here uncited =
     let slots = s1.setting.slots in
     let m3 = matches_back s3 s4 st on4 m in
     let m2 = matches_back s2 s3 st on3 m3 in
     let m1 = matches_back s1 s2 st on2 m2 in
     let v = views_later s0 s1 st lib looks m1 before in
-    let at = found_later s0 s1 st lib label i looks found in
+    let at = found_later s0 s1 st lib label i looks here in
     let store = v.matches.store in
     let apart = v.verifies.library.distinct in
     let setting : s4.setting ≡ s1.setting = on4.setting ∙ (on3.setting ∙ on2.setting) in

@@ -47,13 +47,13 @@ pub restepped : (s0 s1 s2 s3 s4 : Sight) (i : ℕ) (label : List ℕ) (former ke
     → ((st : State) (c : ℕ) → c ≢ proof_cell i → (after s2 st).value c ≡ (after s1 st).value c)
     → CountsOutOf s2 s3 before → CountsInOf s3 s4 now → ReprovesAt s0 s4 i label kept
 restepped s0 s1 s2 s3 s4 i label former kept before now words looks on2 on3 on4 read cited_before cited_now words_are names others counts adds
-    st lib m seen found steps theorem stored_as =
+    st lib m seen here steps theorem stored_as =
     let slots = s1.setting.slots in
     let m3 = matches_back s3 s4 st on4 m in
     let m2 = matches_back s2 s3 st on3 m3 in
     let m1 = matches_back s1 s2 st on2 m2 in
     let v = views_later s0 s1 st lib looks m1 seen in
-    let at = found_later s0 s1 st lib label i looks found in
+    let at = found_later s0 s1 st lib label i looks here in
     let store = v.matches.store in
     let apart = v.verifies.library.distinct in
     let setting : s4.setting ≡ s1.setting = on4.setting ∙ (on3.setting ∙ on2.setting) in
@@ -65,7 +65,7 @@ restepped s0 s1 s2 s3 s4 i label former kept before now words looks on2 on3 on4 
     subst (λ (n : ℕ). j < n) (sym slots_are)
     (listed_within slots (after s1 st) lib v.shows store at.entry.assertion.proof former before stored cited_before j h)) in
     let body = subst (HasBody (after s2 st) (proof_cell i)) words_are (names st m2) in
-    let out = counts st m2 within cited_before.apart in
+    let out = counts st m3 within cited_before.apart in
     let small : (j : ℕ) → Has j now → (after s3 st).value (citers_cell j) < 2 ^ 32 = λ j h.
     let named = stored_named slots (after s1 st) lib v.shows store steps kept j stored_now (cited_now.cited j h) in
     let p = named_held slots (after s1 st) lib v.shows store j named.0 named.1 in

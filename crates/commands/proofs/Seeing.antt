@@ -38,8 +38,8 @@ pub for_each_before : (s t u : Sight) (told : State → List Ranked → Type 0) 
 for_each_before s t u told looks on each = λ st lib m v.
     subst (λ (x : State). told x lib) (after_looks s t st looks) (each st lib (views_later s t st lib looks (matches_back t u st on m) v))
 
--- an assertion that was found in a slot is found there still
-pub found_later : (s t : Sight) (st : State) (lib : List Ranked) (label : List ℕ) (i : ℕ) → Looks s t
+-- an assertion that was found in a slot is found there still: the same one
+abbrev pub found_later : (s t : Sight) (st : State) (lib : List Ranked) (label : List ℕ) (i : ℕ) → Looks s t
     → IsFoundAt s.setting.slots (after s st) lib label i → IsFoundAt t.setting.slots (after t st) lib label i
 found_later s t st lib label i looks at =
     record {
