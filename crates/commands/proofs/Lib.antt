@@ -5,3 +5,4 @@ pub mod Chaining
 pub mod Relabelling
 pub mod Removing
 pub mod Restepping
+pub mod Reproved

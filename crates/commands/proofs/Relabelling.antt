@@ -1,6 +1,5 @@
 -- The slot of an assertion that has another label, and the tests of giving it one.
-use Rattle.std.proofs.Common.{◌≡◌, ◌≢◌, ℕ, true, false, List, [], ◌∷◌, Some, None, Result, Ok, Err, refl, sym, ap, subst, ◌∙◌}
-use Rattle.std.specs.Prelude.{IsTrue}
+use Rattle.std.proofs.Common.{◌≡◌, ◌≢◌, ℕ, true, false, List, [], ◌∷◌, Some, None, Ok, Err, refl, sym, ap, subst, ◌∙◌}
 use mathlib.Core.Bool.{not}
 use Rattle.mmsyntax.specs.Tables.{Tables}
 use Rattle.mmsyntax.specs.Assertions.{is_lawful_label}
@@ -17,7 +16,7 @@ use Rattle.cells.specs.Shows.{Shows}
 use Rattle.cells.specs.Sight.{Sight, Matches, Onward, Looks, after}
 use Rattle.cells.specs.Lookups.{ForEach, Finds}
 use Rattle.cells.specs.Chains.{without_slot}
-use Rattle.cells.proofs.Sights.{onward_trans, matches_back}
+use Rattle.cells.proofs.Sights.{matches_back}
 use Rattle.cells.proofs.Found.{unfound}
 use Rattle.cells.proofs.Renaming.{still_chained, renamed_shows}
 use Rattle.cells.proofs.Unlinking.{slot_gone}

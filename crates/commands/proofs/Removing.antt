@@ -1,5 +1,5 @@
 -- The slot of an assertion that nothing cites, emptied, and the tests of removing it.
-use Rattle.std.proofs.Common.{◌≡◌, ℕ, ◌<◌, ◌≤◌, List, Some, Ok, Err, true, false, refl, sym, ap, subst, ◌∙◌, arith, nat_eq}
+use Rattle.std.proofs.Common.{◌≡◌, ℕ, ◌<◌, ◌≤◌, List, Some, Ok, Err, refl, sym, ap, subst, ◌∙◌, nat_eq}
 use Rattle.std.specs.Prelude.{All, nat_le}
 use Rattle.std.proofs.lemmas.Bool.{le-leb}
 use Rattle.mmsyntax.specs.Assertions.{Distinct}
@@ -8,7 +8,7 @@ use Rattle.library.specs.declared.command.Command.TheVariants as command
 use Rattle.library.specs.declared.command.Reply.TheVariants.{Done}
 use Rattle.library.specs.declared.reason.Reason.TheVariants as reason
 use Rattle.library.specs.Library.{Setting, label_of}
-use Rattle.library.specs.Edits.{found, citers, without, done, edit, still_cited, tested}
+use Rattle.library.specs.Edits.{found, citers, without, done, edit}
 use Rattle.library.proofs.Places.{found_in}
 use Rattle.bodystore.specs.declared.stored.StoredStep.{StoredStep}
 use Rattle.cells.specs.State.{State}

@@ -1,28 +1,18 @@
 -- The slot of a theorem that has another proof, and the tests of giving it one.
-use Rattle.std.proofs.Common.{◌≡◌, ◌≢◌, ℕ, ◌<◌, ◌^◌, ◌≤◌, List, [], ◌∷◌, Some, Ok, Err, true, false, refl, sym, ap, subst, ◌∙◌, arith, nat_eq}
-use Rattle.std.specs.Prelude.{All}
-use Rattle.mmsyntax.specs.declared.statement.Kind.{Kind}
-use Rattle.mmsyntax.specs.declared.statement.Kind.TheVariants.{Axiom, Theorem}
-use Rattle.mmsyntax.specs.declared.statement.Step.{Step}
-use Rattle.mmsyntax.specs.declared.statement.Assertion.{Assertion}
+use Rattle.std.proofs.Common.{◌≡◌, ◌≢◌, ℕ, ◌<◌, ◌^◌, List, refl, sym, ap, subst, ◌∙◌, arith, nat_eq}
 use Rattle.mmsyntax.specs.Assertions.{Distinct}
-use Rattle.library.specs.declared.library.Ranked.{Ranked}
-use Rattle.library.specs.declared.reason.Reason.{Reason}
-use Rattle.library.specs.declared.command.Command.TheVariants as command
-use Rattle.library.specs.declared.reason.Reason.TheVariants as reason
 use Rattle.library.specs.Library.{Setting}
-use Rattle.library.specs.Edits.{found, changed, with_proof, is_axiom, done, edit, tested, Edited}
+use Rattle.library.specs.Edits.{changed, with_proof}
 use Rattle.library.proofs.Places.{found_in}
 use Rattle.ranges.specs.Ranges.{Has}
 use Rattle.bodystore.specs.declared.stored.StoredStep.{StoredStep}
-use Rattle.bodystore.specs.declared.stored.StoredStep.TheVariants.{Slot}
-use Rattle.bodystore.specs.Bodies.{proof_body, statement_of}
+use Rattle.bodystore.specs.Bodies.{proof_body}
 use Rattle.cells.specs.State.{State, HasBody}
 use Rattle.cells.specs.Slots.{proof_cell, citers_cell}
 use Rattle.cells.specs.Shows.{AreStoredAs, Shows}
 use Rattle.cells.specs.Sight.{Sight, Matches, Onward, Looks, after}
 use Rattle.cells.specs.Lookups.{ForEachHeld}
-use Rattle.cells.specs.Filling.{AreCitedSlots, CountsIn, CountsOut}
+use Rattle.cells.specs.Filling.{AreCitedSlots, CountsIn}
 use Rattle.cells.proofs.Sights.{matches_back, after_looks}
 use Rattle.cells.proofs.Members.{all_from_has}
 use Rattle.cells.proofs.Holding.{stored_named, named_held}
@@ -31,7 +21,6 @@ use Rattle.cells.proofs.Reproving.{less_few, reproved_shows}
 use Rattle.commands.specs.Changes.{ReprovesAt}
 use Rattle.commands.proofs.Seeing.{views_later, found_later}
 use Rattle.commands.proofs.Removing.{CountsOutOf}
-use Rattle.commands.proofs.Refusing.{first_refuses, first_passes, of_some}
 
 -- what counting in ensures
 abbrev pub CountsInOf : Sight → Sight → List ℕ → Type 0

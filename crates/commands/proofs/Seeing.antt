@@ -7,12 +7,11 @@ use Rattle.library.specs.Library.{Setting, Verifies}
 use Rattle.library.specs.Edits.{has, found}
 use Rattle.cells.specs.State.{State}
 use Rattle.cells.specs.Shows.{Shows, Holds}
-use Rattle.cells.specs.Sight.{Sight, Matches, Views, Onward, Looks, after}
+use Rattle.cells.specs.Sight.{Sight, Matches, Views, Looks, after}
 use Rattle.cells.specs.Lookups.{ForEach, IsFoundAt, Finds}
 use Rattle.library.proofs.Places.{find_nowhere}
 use Rattle.cells.proofs.Found.{unfound}
-use Rattle.cells.proofs.Sights.{after_looks, matches_back}
-use Rattle.commands.specs.Answers.{ForEachBefore}
+use Rattle.cells.proofs.Sights.{after_looks, views_back}
 
 -- a library that was seen is seen still while nothing is written
 pub views_later : (s t : Sight) (st : State) (lib : List Ranked) → Looks s t → Matches t st → Views s st lib → Views t st lib
@@ -32,12 +31,6 @@ has_found lib label e h =
       | inr other ↦ let none : Some e ≡ None = sym h ∙ find_nowhere lib label other in absurd cc
     ]
 
--- what a look told, before more was done, is so of what was seen before it
-pub for_each_before : (s t u : Sight) (told : State → List Ranked → Type 0) → Looks s t → Onward t u → ForEach t told
-    → ForEachBefore s u (λ st lib. told (after s st) lib)
-for_each_before s t u told looks on each = λ st lib m v.
-    subst (λ (x : State). told x lib) (after_looks s t st looks) (each st lib (views_later s t st lib looks (matches_back t u st on m) v))
-
 -- an assertion that was found in a slot is found there still: the same one
 abbrev pub found_later : (s t : Sight) (st : State) (lib : List Ranked) (label : List ℕ) (i : ℕ) → Looks s t
     → IsFoundAt s.setting.slots (after s st) lib label i → IsFoundAt t.setting.slots (after t st) lib label i
@@ -48,6 +41,11 @@ found_later s t st lib label i looks at =
       holds = subst (λ (x : State). Holds t.setting.slots x lib i at.entry) (sym (after_looks s t st looks))
           (subst (λ (x : Setting). Holds x.slots (after s st) lib i at.entry) (sym looks.onward.setting) at.holds);
     }
+
+-- and so in every library that is seen
+pub found_still : (s t : Sight) (label : List ℕ) (i : ℕ) → Looks s t → ForEach s (λ st lib. IsFoundAt s.setting.slots st lib label i)
+    → ForEach t (λ st lib. IsFoundAt t.setting.slots st lib label i)
+found_still s t label i looks found st lib v = found_later s t st lib label i looks (found st lib (views_back s t st lib looks v))
 
 -- whether a label was found is whether an assertion has it
 pub found_or_free : (s : Sight) (label : List ℕ) (o : Option ℕ) → Finds s label o → ForEach s (λ st lib. has lib label ≡ is_some o)

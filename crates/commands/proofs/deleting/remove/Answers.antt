@@ -1,4 +1,4 @@
-use Rattle.std.proofs.Common.{List, ℕ, sym, subst}
+use Rattle.std.proofs.Common.{List, sym, subst}
 use Rattle.bodystore.specs.declared.stored.StoredStep.{StoredStep}
 use Rattle.cells.specs.Filling.{AreCitedSlots}
 use Rattle.cells.proofs.Sights.{onward_trans}

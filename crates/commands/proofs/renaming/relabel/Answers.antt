@@ -1,8 +1,8 @@
-use Rattle.std.proofs.Common.{◌≡◌, ◌≢◌, ℕ, ◌*◌, subst, sym}
+use Rattle.std.proofs.Common.{◌≡◌, ◌≢◌, ℕ, subst}
 use Rattle.std.proofs.lemmas.Result.{IfOk-weaker}
 use Rattle.cells.specs.State.{State, HasBody}
 use Rattle.cells.specs.Slots.{name_cell}
-use Rattle.cells.specs.Sight.{Sight, Matches, after}
+use Rattle.cells.specs.Sight.{Matches, after}
 use Rattle.cells.proofs.Sights.{onward_trans}
 use Rattle.commands.specs.Answers.{WritesSome}
 use Rattle.commands.specs.Changes.{RenamesAt}
