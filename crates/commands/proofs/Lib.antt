@@ -1,0 +1,3 @@
+pub mod ByteKeys
+pub mod Outcomes
+pub mod CitedRanks
