@@ -8,11 +8,11 @@ mod ending;
 mod moving;
 mod renaming;
 mod reproving;
-mod run;
+mod running;
 mod showing;
 
 pub use ending::{CommandError, RunError};
-pub use run::{run, take};
+pub use running::{run, take};
 pub use scripts::{
     Command, CommandPlace, Led, Line, PlainLibrary, Ranked, Reason, Refused, Reply, Script,
     Transaction, read_script,
