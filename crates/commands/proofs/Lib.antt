@@ -1,3 +1,5 @@
 pub mod ByteKeys
 pub mod Outcomes
 pub mod CitedRanks
+pub mod NotedFrames
+pub mod ProofTests
