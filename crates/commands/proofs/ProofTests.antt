@@ -145,10 +145,10 @@ fails_below r s rank a kept looks resolved told = λ st lib v more edited.
 
 -- what is known of a proof's steps behind the first two tests
 pub record IsSifted (s : Sight) (t : Tables) (rank : ℕ) (a : Assertion) (kept : List StoredStep) (frames : Citable) : Type 0 where
-  pub prelude : t ≡ s.setting.prelude
+  pub same_prelude : t ≡ s.setting.prelude
   pub stored : ForEach s (λ st lib. AreStoredAs s.setting.slots st a.proof kept)
   pub below : TellsNotBelow s rank kept false
-  pub frames : ForEach s (λ st lib. AreStoredAs s.setting.slots st a.proof kept → AreFrames t lib a.proof frames)
+  pub are_frames : ForEach s (λ st lib. AreStoredAs s.setting.slots st a.proof kept → AreFrames t lib a.proof frames)
 
 -- behind them the fault over the frames decides
 pub sifted_tests : (s : Sight) (t : Tables) (rank : ℕ) (a : Assertion) (kept : List StoredStep) (frames : Citable) (fault : Option ProofFault)
@@ -159,11 +159,11 @@ sifted_tests s t rank a kept frames fault sifted tells st lib v more edited =
     let apart = v.verifies.library.distinct in
     let below : list_any (cites_not_below lib rank) a.proof ≡ false = sym (sifted.below st lib v a.proof are) in
     let noted : AreFrames s.setting.prelude lib a.proof frames =
-    subst (λ (u : Tables). AreFrames u lib a.proof frames) sifted.prelude (sifted.frames st lib v are) in
+    subst (λ (u : Tables). AreFrames u lib a.proof frames) sifted.same_prelude (sifted.are_frames st lib v are) in
     let fails : proof_fails s.setting lib rank a ≡ option_map ProofFails fault =
     ap fault_of (sym (outcome_lower s.setting lib rank a frames apart below noted
     (cited_found s.setting.slots (after s st) lib v.shows v.matches.store apart a.proof kept are)))
-    ∙ sym (subst (λ (u : Tables). option_map ProofFails fault ≡ fault_of (outcome frames u a)) sifted.prelude tells.outcome) in
+    ∙ sym (subst (λ (u : Tables). option_map ProofFails fault ≡ fault_of (outcome frames u a)) sifted.same_prelude tells.outcome) in
     tested_past (cites_unknown lib a.proof) (cited_not_lower lib rank a.proof ∷ proof_fails s.setting lib rank a ∷ more) edited
     (past_unknown s a kept st lib v are)
     ∙ tested_past (cited_not_lower lib rank a.proof) (proof_fails s.setting lib rank a ∷ more) edited
@@ -191,14 +191,20 @@ passes r s t rank a kept frames looks resolved sifted tells =
       passes = λ st lib v more edited. sifted_tests s t rank a kept frames None sifted tells st lib v more edited;
     }
 
--- what was known of the steps goes on to be so
-pub sifted : (r m s : Sight) (t : Tables) (rank : ℕ) (a : Assertion) (kept : List StoredStep) (frames : Citable) → Looks r m → Looks m s
-    → t ≡ s.setting.prelude → Resolves r a.proof (Some kept) → TellsNotBelow m rank kept false
-    → ForEach s (λ st lib. AreStoredAs s.setting.slots st a.proof kept → AreFrames t lib a.proof frames) → IsSifted s t rank a kept frames
-sifted r m s t rank a kept frames earlier later prelude resolved below noted =
+-- what one call after another tells of the steps
+pub sifted : (s0 s1 s2 s3 : Sight) (t : Tables) (rank : ℕ) (a : Assertion) (steps : List Step) (kept first second : List StoredStep) (frames : Citable)
+    → t ≡ s0.setting.prelude → Looks s0 s1 → Looks s1 s2 → Looks s2 s3 → steps ≡ a.proof → first ≡ kept → second ≡ kept
+    → Resolves s1 a.proof (Some kept) → TellsNotBelow s2 rank first false
+    → ForEach s3 (λ st lib. AreStoredAs s3.setting.slots st steps second → AreFrames t lib steps frames) → IsSifted s3 t rank a kept frames
+sifted s0 s1 s2 s3 t rank a steps kept first second frames prelude looks1 looks2 looks3 own is_first is_second resolved below noted =
+    let later = looks_trans s1 s2 s3 looks2 looks3 in
+    let all = looks_trans s0 s1 s3 looks1 later in
     record {
-      prelude = prelude;
-      stored = stored_on r s a.proof kept (looks_trans r m s earlier later) resolved.2;
-      below = stored_later m s kept (λ lib steps. false ≡ list_any (cites_not_below lib rank) steps) later below;
-      frames = noted;
+      same_prelude = prelude ∙ ap (λ (x : Setting). x.prelude) (sym all.onward.setting);
+      stored = stored_on s1 s3 a.proof kept later resolved.2;
+      below = stored_later s2 s3 kept (λ lib xs. false ≡ list_any (cites_not_below lib rank) xs) looks3
+          (subst (λ (ks : List StoredStep). TellsNotBelow s2 rank ks false) is_first below);
+      are_frames = subst (λ (xs : List Step). ForEach s3 (λ st lib. AreStoredAs s3.setting.slots st xs kept → AreFrames t lib xs frames)) own
+          (subst (λ (ks : List StoredStep). ForEach s3 (λ st lib. AreStoredAs s3.setting.slots st steps ks → AreFrames t lib steps frames))
+          is_second noted);
     }
