@@ -6,3 +6,8 @@ pub mod Relabelling
 pub mod Removing
 pub mod Restepping
 pub mod Reproved
+pub mod ByteKeys
+pub mod Outcomes
+pub mod CitedRanks
+pub mod NotedFrames
+pub mod ProofTests
