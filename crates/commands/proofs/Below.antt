@@ -16,8 +16,13 @@ use Rattle.library.specs.Edits.{line}
 use Rattle.ranges.specs.Ranges.{Has, AreOfOneStore}
 use Rattle.cells.specs.State.{State, most_words}
 use Rattle.cells.specs.Shows.{Held, slots_of, entries_of, Holds, IsEmpty, Shows}
+use Rattle.cells.specs.Sight.{Sight, Looks, after}
+use Rattle.cells.specs.Lookups.{ForEach, IfFull}
+use Rattle.cells.proofs.Sights.{looks_trans, for_each_later}
+use Rattle.cells.proofs.Settings.{same_slots}
 use Rattle.cells.proofs.Members.{has_mapped, absent}
 use Rattle.cells.proofs.Holding.{empty_free}
+use Rattle.commands.specs.Listing.{TellsLine}
 use Rattle.commands.proofs.Holders.{held_here}
 
 -- those in slots below a number
@@ -121,3 +126,22 @@ module _ (slots : ℕ) where
         IsPermutation-trans (map (line lib) (entries_of (held_below (k + 1) shows.held))) (ls ++ l ∷ []) more
         (subst (IsPermutation (map (line lib) (entries_of (held_below (k + 1) shows.held)))) parts there)
         (subst (IsPermutation (ls ++ l ∷ [])) (sym push) (IsPermutation-append_left (l ∷ []) ls made (lines shows)))
+
+-- ---- slot by slot
+
+module _ (r s : Sight) (slots k : ℕ) (is : slots ≡ s.setting.slots) (looks : Looks r s) (made : List Line)
+    (lines : ForEach r (AreLinesBelow slots k made)) where
+  pub one_empty : IfFull s k false → ForEach s (AreLinesBelow slots (k + 1) made)
+  one_empty empty st lib v =
+      lines_empty slots k made (after s st) lib v.matches.store (subst (λ n. IsEmpty n (after s st) k) (sym is) (empty st lib v))
+      (for_each_later r s (AreLinesBelow slots k made) looks lines st lib v)
+
+  pub one_full : (t : Sight) → Looks s t → IfFull s k true → (l : Line) (more : List Line) → TellsLine t k l → more ≡ made ++ l ∷ []
+      → ForEach t (AreLinesBelow slots (k + 1) more)
+  one_full t on full l more told push st lib v =
+      let held = for_each_later s t (λ x es. (e : Ranked) × Holds s.setting.slots x es k e × Contains es e) on full st lib v in
+      let e = held.0 in
+      let there = subst (λ n. Holds n (after t st) lib k e) (sym (same_slots s t on)) held.1 in
+      let here = subst (λ n. Holds n (after t st) lib k e) (sym is) held.1 in
+      lines_full slots k made (after t st) lib v.matches.store v.verifies.library.distinct e l more held.2 here (told st lib v e held.2 there) push
+      (for_each_later r t (AreLinesBelow slots k made) (looks_trans r s t looks on) lines st lib v)

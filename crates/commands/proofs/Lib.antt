@@ -1,3 +1,4 @@
 pub mod Looking
 pub mod Holders
 pub mod Below
+pub mod Lines
