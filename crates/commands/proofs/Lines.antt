@@ -1,11 +1,11 @@
 -- The lines of a library, sorted, are those of its export order.
-use Rattle.std.proofs.Common.{◌≡◌, ◌<◌, ◌+◌, ℕ, List, length, get_or, map, refl, sym, ap, subst, ◌∙◌, arith}
+use Rattle.std.proofs.Common.{◌≡◌, ◌<◌, ◌+◌, ℕ, List, [], ◌∷◌, length, get_or, set, map, refl, sym, ap, subst, ◌∙◌, arith}
 use Rattle.std.specs.Cmp.{IsTotalOrder}
 use Rattle.std.specs.List.{swap}
 use Rattle.std.specs.List.Sorted.{IsPermutation, IsSorted}
 use Rattle.std.specs.Str.{bytes_eq}
 use Rattle.std.proofs.lemmas.Cmp.{on_total, then_total, nat_cmp_total, nat_list_cmp_total}
-use Rattle.std.proofs.lemmas.List.{get_or-map, length-map}
+use Rattle.std.proofs.lemmas.List.{get_or-map, map-set, length-map}
 use Rattle.std.proofs.lemmas.List.Sorted.{IsPermutation-refl, IsPermutation-trans, IsPermutation-swap, IsPermutation-keeps}
 use Rattle.mmsyntax.specs.Assertions.{Distinct}
 use Rattle.library.specs.declared.command.Line.{Line}
@@ -17,6 +17,15 @@ use Rattle.commands.specs.Listing.{line_cmp}
 
 pub line_cmp_total : IsTotalOrder line_cmp
 line_cmp_total = then_total (on_total (λ (l : Line). l.rank) nat_cmp_total) (on_total (λ (l : Line). l.label) nat_list_cmp_total)
+
+swap_map : {A B : Type 0} (f : A → B) (xs : List A) (i j : ℕ) → i < length xs → j < length xs → swap (map f xs) i j ≡ map f (swap xs i j)
+swap_map f [] i j i_in j_in = refl
+swap_map f (x ∷ xs) i j i_in j_in =
+    let zs = x ∷ xs in
+    ap (λ y. set (set (map f zs) i y) j (get_or (map f zs) i (f x))) (get_or-map f zs j x (f x) j_in)
+    ∙ ap (λ y. set (set (map f zs) i (f (get_or zs j x))) j y) (get_or-map f zs i x (f x) i_in)
+    ∙ ap (λ ys. set ys j (f (get_or zs i x))) (sym (map-set f zs i (get_or zs j x)))
+    ∙ sym (map-set f (set zs i (get_or zs j x)) j (get_or zs i x))
 
 -- a list of images in another order is the images of the list in another order
 module _ {A B : Type 0} (f : A → B) (xs : List A) where
@@ -31,7 +40,7 @@ module _ {A B : Type 0} (f : A → B) (xs : List A) where
       let j_under : j < length h.0 = omega (arith, n) in (
         swap h.0 i j,
         IsPermutation-trans xs h.0 (swap h.0 i j) h.1 (IsPermutation-swap h.0 (swap h.0 i j) i j i_under j_under refl),
-        ?,
+        ap (λ (b : List B). swap b i j) h.2 ∙ swap_map f h.0 i j i_under j_under,
       )) ys p
 
 -- entries whose lines are sorted are sorted
