@@ -5,6 +5,9 @@ pub mod Chaining
 pub mod Relabelling
 pub mod Removing
 pub mod Restepping
+pub mod ByteKeys
+pub mod Outcomes
+pub mod CitedRanks
 pub mod Looking
 pub mod Holders
 pub mod Below
