@@ -18,7 +18,7 @@ returns-clause-answers g c =
     let made = c.in_ok-lines.lines.items in
     let items = c.sort_unstable_by.new.self.items in
     let ordered : IsSorted line_cmp items = sorted_by line_cmp_total items c.sort_unstable_by.ensures.sorted (λ a r q k. search rules) in
-    does_reading _ s ListAll c.all_lines.ensures.looks (Listed c.from_vec.result) refl (λ st lib v.
+    does_reading _ s ListAll (Listed c.from_vec.result) c.all_lines.ensures.looks refl (λ st lib v.
     let all : IsPermutation (map (line lib) lib) made = c.in_ok-lines.ensures.ok st lib v in
     let perm = IsPermutation-trans (map (line lib) lib) made items all c.sort_unstable_by.ensures.permutation in
     ap (λ (ls : List Line). Ok (record { library = lib; reply = Listed ls }))

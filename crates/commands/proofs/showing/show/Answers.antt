@@ -10,7 +10,8 @@ use Rattle.cells.specs.Lookups.{ForEachHeld, Finds}
 use Rattle.cells.proofs.Laying.{ok_mapped}
 use Rattle.cells.proofs.ReadBack.{held_later}
 use Rattle.cells.proofs.Sights.{looks_trans}
-use Rattle.commands.proofs.Looking.{finds_later, does_reading, unknown_refused, refused_answers}
+use Rattle.commands.proofs.Looking.{finds_later, does_reading}
+use Rattle.commands.proofs.Refusing.{of_none, of_some, refused, answers_refused}
 use Rattle.commands.proofs.showing.show.Goals as goal
 
 pub returns-in_default-clause-answers : goal.returns-in_default-clause-answers
@@ -18,8 +19,10 @@ returns-in_default-clause-answers g c =
     let s = g.C.Cells.sight c.find.new.cells in
     let finds = ok_mapped _ _ _ _ _ c.in_ok-slot.was c.map_err.ensures.cases c.find.ensures.ok in
     let none = subst (Finds s c.args.label.now) c.in_default.is (subst (λ l. Finds s l c.in_ok-slot.field-0) c.as_slice.ensures finds) in
-    refused_answers _ s _ UnknownLabel c.into.result c.into.ensures
-    (unknown_refused _ s _ c.find.ensures.looks c.args.label.now (λ lib e. Ok (shown lib e)) (λ lib. refl) none)
+    let old = g.C.Cells.sight c.args.cells.now in
+    let command = Show c.args.label.now in
+    answers_refused old s command UnknownLabel c.into.result c.into.ensures
+    (refused old s command UnknownLabel c.find.ensures.looks (λ st lib v. of_none lib c.args.label.now (λ e. Ok (shown lib e)) (none st lib v)))
 
 pub returns-in_err-shown-clause-onward : goal.returns-in_err-shown-clause-onward
 returns-in_err-shown-clause-onward g c = let looks = looks_trans _ _ _ c.find.ensures.looks c.entry.ensures.looks in looks.onward
@@ -45,12 +48,12 @@ returns-clause-answers g c =
     let later = finds_later s1 s3 label i on some in
     let counted : ForEachHeld s3 i (λ x l e. c.in_ok-citers.citers ≡ citers l (label_of e)) =
     ok_mapped _ _ _ _ _ c.in_ok-citers.was c.map_err-2.ensures.cases c.citers.ensures.ok in
-    does_reading _ s3 (Show label) (looks_trans _ _ _ c.find.ensures.looks on) (Shown c.in_ok-citers.citers c.in_ok-shown.shown) refl (λ st lib v.
+    does_reading _ s3 (Show label) (Shown c.in_ok-citers.citers c.in_ok-shown.shown) (looks_trans _ _ _ c.find.ensures.looks on) refl (λ st lib v.
     let at = later.1 st lib v in
     let e = at.entry in
     let has = (found_in lib label e at.found).0 in
     let n : c.in_ok-citers.citers ≡ citers lib (label_of e) = counted st lib v e has at.holds in
     let r : c.in_ok-shown.shown ≡ e =
     held_later s2 s3 i (λ x l f. c.in_ok-shown.shown ≡ f) c.citers.ensures.looks c.in_ok-shown.ensures.ok st lib v e has at.holds in
-    ap (λ (o : Option Ranked). of_found o (λ f. Ok (shown lib f))) at.found
+    of_some lib label (λ f. Ok (shown lib f)) e at.found
     ∙ (λ j. Ok (record { library = lib; reply = Shown (sym n j) (sym r j) })))
