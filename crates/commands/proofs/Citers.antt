@@ -161,6 +161,11 @@ module _ (s : Sight) (i limit : ℕ) where
       sym (none_up_to lib (label_of e) limit (λ f f_in.
       not_up_to (label_of e) limit f (λ cited. absurd (both_ways (cites (label_of e) f) (none_contained (cites (label_of e)) lib f free f_in) cited))))
 
+  -- one whose proof doesn't cite it
+  pub one_other : (j : ℕ) → TellsCites s j i false → ForEach s (IsUncited s.setting.slots i limit j)
+  one_other j told st lib v e f e_in e_held f_in f_held =
+      not_up_to (label_of e) limit f (λ cited. absurd (both_ways (cites (label_of e) f) (sym (told st lib v f f_in f_held e e_in e_held)) cited))
+
   -- the value of the rank cell of a slot
   module _ (j rank : ℕ) (ranked : (st : State) → Matches s st → rank ≡ (after s st).value (rank_cell j)) where
     pub one_low : (current : ℕ) → ForEachHeld s i (λ st lib e. current ≡ e.rank) → rank ≤ current → ForEach s (IsUncited s.setting.slots i limit j)
@@ -174,10 +179,6 @@ module _ (s : Sight) (i limit : ℕ) where
     one_high high st lib v e f e_in e_held f_in f_held =
         let rank_is = ranked st v.matches ∙ f_held.rank in
         not_up_to (label_of e) limit f (λ cited. omega (arith, rank_is, high))
-
-    pub one_other : TellsCites s j i false → ForEach s (IsUncited s.setting.slots i limit j)
-    one_other told st lib v e f e_in e_held f_in f_held =
-        not_up_to (label_of e) limit f (λ cited. absurd (both_ways (cites (label_of e) f) (sym (told st lib v f f_in f_held e e_in e_held)) cited))
 
     -- one that cites it is a citer that isn't above the limit; its slot isn't empty, since its rank isn't 0
     pub one_cites : 0 < rank → rank ≤ limit → j < s.setting.slots → TellsCites s j i true → TellsCitedUpTo s i limit true

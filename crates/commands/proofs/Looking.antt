@@ -1,10 +1,11 @@
--- What is answered of a command that only looked, where its reply leaves the library as it is.
-use Rattle.std.proofs.Common.{◌≡◌, ◌<◌, ℕ, false, List, Some, Ok, sym, subst}
+-- What only looks: reads and look-ups, and commands whose reply leaves the library as it is.
+use Rattle.std.proofs.Common.{◌≡◌, ◌<◌, ℕ, false, List, Some, Result, Ok, Err, sym, subst}
+use Rattle.std.specs.Prelude.{IfOk, IfErr}
 use Rattle.library.specs.declared.library.Ranked.{Ranked}
 use Rattle.library.specs.declared.command.Command.{Command}
 use Rattle.library.specs.declared.command.Reply.{Reply}
 use Rattle.library.specs.Edits.{edit, is_edit}
-use Rattle.cells.specs.Sight.{Sight, Looks, after}
+use Rattle.cells.specs.Sight.{Sight, Looks, Reads, after}
 use Rattle.cells.specs.Lookups.{ForEach, IsFoundAt, Finds}
 use Rattle.cells.proofs.Settings.{same_slots}
 use Rattle.cells.proofs.Sights.{for_each_later}
@@ -20,6 +21,11 @@ finds_later s t label i f finds =
           subst (λ n. IsFoundAt n (after t st) lib label i) same
           (for_each_later s t (λ x l. IsFoundAt s.setting.slots x l label i) f finds.1 st lib v),
     )
+
+-- a read only looks, whether the run is stopped or not
+pub read_looks : {E : Type 0} (s t : Sight) (cell : ℕ) (r : Result ℕ E) → IfOk r (λ v. Reads cell v s t) → IfErr r (λ _. Looks s t) → Looks s t
+read_looks s t cell (Ok v) ok err = ok.looks
+read_looks s t cell (Err e) ok err = err
 
 -- the command is no edit, and leaves each library as it is
 pub does_reading : (s t : Sight) (c : Command) (reply : Reply) → Looks s t → is_edit c ≡ false
