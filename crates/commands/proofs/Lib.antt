@@ -11,3 +11,9 @@ pub mod Outcomes
 pub mod CitedRanks
 pub mod NotedFrames
 pub mod ProofTests
+pub mod Looking
+pub mod Holders
+pub mod Below
+pub mod Lines
+pub mod Transactions
+pub mod Citers
