@@ -73,7 +73,7 @@ cite_stored named (Cite w) j made short h is = ap (λ (l : List ℕ). Cite l) (i
 
 -- ---- steps that are named one after another
 
-zip_at : {A B : Type 0} (R : A → B → Type 0) (xs : List A) (ys : List B) (i : ℕ) (d : A) (e : B) → AllZip R xs ys → i < length ys
+pub zip_at : {A B : Type 0} (R : A → B → Type 0) (xs : List A) (ys : List B) (i : ℕ) (d : A) (e : B) → AllZip R xs ys → i < length ys
     → R (get_or xs i d) (get_or ys i e) × (i < length xs)
 zip_at R [] [] i d e z lt = absurd (omega (arith, lt))
 zip_at R [] (y ∷ ys) i d e z lt = absurd z

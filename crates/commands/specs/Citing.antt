@@ -1,10 +1,11 @@
 -- Of the code's inside, apart from the rules: what the tests of a proof tell, for every state that may be under the run.
-use Rattle.std.specs.Prelude.{◌≡◌, ◌≢◌, ℕ, ◌&&◌, nat_le, List, [], ◌∷◌, Option, Some, None, Bool, Err, Contains}
+use Rattle.std.specs.Prelude.{◌≡◌, ◌≢◌, ℕ, ◌&&◌, nat_le, List, [], ◌∷◌, Option, Some, None, Bool, Err, Contains, Vec}
 use Rattle.std.specs.Option.{option_map}
 use Rattle.std.specs.List.{list_any}
 use Rattle.std.specs.Ordering.{nat_cmp}
 use Rattle.std.specs.Cmp.Lexicographic.{slice_cmp}
-use Rattle.std.specs.BTreeMap.{get_by}
+use Rattle.std.specs.BTreeMap.{BTreeMap, get_by}
+use Rattle.std.specs.declared.alloc.Global.{Global}
 use Rattle.mmsyntax.specs.declared.statement.Assertion.{Assertion}
 use Rattle.mmsyntax.specs.declared.statement.Frame.{Frame}
 use Rattle.mmsyntax.specs.declared.statement.Step.{Step}
@@ -41,6 +42,12 @@ abbrev pub AreFrames : Tables → List Ranked → List Step → Citable → Type
 AreFrames prelude lib steps frames =
     (label : List ℕ) → Has (Cite label) steps → frames label ≡ option_map (λ e. frame prelude e.assertion) (found lib label)
 
+-- the frame of the assertion in the slot is noted by the label, unless the label has one
+pub record NotesFrame (s : Sight) (prelude : Tables) (i : ℕ) (label : List ℕ) (old new : Citable) : Type 0 where
+  pub kept : (f : Frame) → old label ≡ Some f → new label ≡ Some f
+  pub noted : old label ≡ None → (f : Frame) × (new label ≡ Some f) × ForEachHeld s i (λ st lib e. f ≡ frame prelude e.assertion)
+  pub others : (other : List ℕ) → other ≢ label → new other ≡ old other
+
 -- the fault of a theorem's proof over the frames, if it has one; a proof without a fault has a step
 pub record TellsFault (frames : Citable) (prelude : Tables) (a : Assertion) (fault : Option ProofFault) : Type 0 where
   pub outcome : option_map ProofFails fault ≡ fault_of (outcome frames prelude a)
@@ -76,5 +83,5 @@ abbrev pub TellsCitedUpTo : Sight → ℕ → ℕ → Bool → Type 0
 TellsCitedUpTo s i rank b = ForEachHeld s i (λ st lib e. b ≡ list_any (λ f. cites (label_of e) f && nat_le f.rank rank) lib)
 
 -- the frame that a map has for a label
-abbrev pub frames_in : BTreeMap (Vec ℕ) Frame → Citable
+abbrev pub frames_in : BTreeMap (Vec ℕ Global) Frame → Citable
 frames_in by_label label = get_by (λ k. slice_cmp nat_cmp label k.items) by_label

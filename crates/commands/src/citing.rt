@@ -1,11 +1,11 @@
 //! What a proof cites: whether that is below a rank, its frames, and what is wrong with the proof.
 
-ghost use Rattle.std.specs.Prelude.{◌≡◌, IfOk, IfErr};
+ghost use Rattle.std.specs.Prelude.{◌≡◌, ◌<◌, IfOk, IfErr, OnOk};
 ghost use Rattle.mmsyntax.specs.declared.statement.Kind.TheVariants.{Theorem};
 ghost use Rattle.cells.specs.Sight.{Looks};
 ghost use Rattle.cells.specs.Lookups.{ForEach, AreWithin};
 ghost use Rattle.cells.specs.Shows.{AreStoredAs};
-ghost use Rattle.commands.specs.Citing.{TellsNotBelow, AreFrames, TellsFault, Passes, TellsRefusal, frames_in};
+ghost use Rattle.commands.specs.Citing.{TellsNotBelow, AreFrames, NotesFrame, TellsFault, Passes, TellsRefusal, frames_in};
 
 use crate::ending::CommandError;
 use bodystore::StoredStep;
@@ -100,9 +100,13 @@ fn cited_frames<C: Cells>(
 {
     let mut by_label = BTreeMap::new(alloc);
     for (step, stored) in steps.iter().zip(kept) {
-        if let (Step::Cite(label), StoredStep::Slot(slot)) = (step, stored) {
-            note_frame(alloc, prelude, cells, &mut by_label, label, *slot as usize)?;
-        }
+        let Step::Cite(label) = step else {
+            continue;
+        };
+        let StoredStep::Slot(slot) = stored else {
+            continue;
+        };
+        note_frame(alloc, prelude, cells, &mut by_label, label, *slot as usize)?;
     }
     Ok(CitedFrames { by_label })
 }
@@ -118,6 +122,7 @@ fn note_frame<C: Cells>(
 ) -> Result<(), Halt<C::Stop>>
     requires { slot < (C.sight cells.old).setting.slots }
     ensures looks { Looks (C.sight cells.old) (C.sight cells.new) }
+    ensures ok { OnOk result (NotesFrame (C.sight cells.new) prelude.now slot label.now (frames_in by_label.old) (frames_in by_label.new)) }
 {
     if by_label.contains_key(label.as_slice()) {
         return Ok(());

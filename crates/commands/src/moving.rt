@@ -61,8 +61,9 @@ fn is_cited_up_to<C: Cells>(
         return Ok(false);
     }
     for other in 0..slot_count(cells) {
-        let rank = rank(cells, other).map_err(Halt::Stopped)?;
-        if current < rank && rank <= limit && cites_slot(alloc, cells, other, slot)? {
+        // That of an empty slot is 0.
+        let rank = cells.read(rank_cell(other)).map_err(Halt::Stopped)?;
+        if rank > current as u64 && rank <= limit as u64 && cites_slot(alloc, cells, other, slot)? {
             return Ok(true);
         }
     }

@@ -1,0 +1,147 @@
+-- The assertions that are held in slots below a number, and their lines: what one slot more adds.
+use Rattle.std.proofs.Common.{◌≡◌, ◌≢◌, ◌<◌, ◌+◌, ℕ, true, false, cond, List, [], ◌∷◌, ◌++◌, map, refl, sym, ap, subst, ◌∙◌, inl, inr, arith, nat_eq}
+use Rattle.std.specs.Prelude.{nat_lt, filter, All, Contains, IsPermutation}
+use Rattle.std.specs.Str.{bytes_eq}
+use Rattle.std.proofs.lemmas.Bool.{cases_eq, cases_lt, cond-true, cond-false, le-ltb}
+use Rattle.std.proofs.lemmas.Bool.Decides.{Decides-ltb}
+use Rattle.std.proofs.lemmas.List.{map-append}
+use Rattle.std.proofs.lemmas.List.Elements.{All-head, All-tail, All-weaker}
+use Rattle.std.proofs.lemmas.List.Sorted.{IsPermutation-refl, IsPermutation-sym, IsPermutation-trans, IsPermutation-cons, IsPermutation-to_front}
+use Rattle.std.proofs.lemmas.List.Sorted.{IsPermutation-map, IsPermutation-append_left}
+use Rattle.mmsyntax.specs.Assertions.{Distinct}
+use Rattle.library.specs.declared.command.Line.{Line}
+use Rattle.library.specs.declared.library.Ranked.{Ranked}
+use Rattle.library.specs.Library.{label_of}
+use Rattle.library.specs.Edits.{line}
+use Rattle.ranges.specs.Ranges.{Has, AreOfOneStore}
+use Rattle.cells.specs.State.{State, most_words}
+use Rattle.cells.specs.Shows.{Held, slots_of, entries_of, Holds, IsEmpty, Shows}
+use Rattle.cells.specs.Sight.{Sight, Looks, after}
+use Rattle.cells.specs.Lookups.{ForEach, IfFull}
+use Rattle.cells.proofs.Sights.{looks_trans, for_each_later}
+use Rattle.cells.proofs.Settings.{same_slots}
+use Rattle.cells.proofs.Members.{has_mapped, absent}
+use Rattle.cells.proofs.Holding.{empty_free}
+use Rattle.commands.specs.Listing.{TellsLine}
+use Rattle.commands.proofs.Holders.{held_here}
+
+-- those in slots below a number
+abbrev pub held_below : ℕ → List Held → List Held
+held_below k held = filter (λ p. nat_lt p.slot k) held
+
+below_other : (x k : ℕ) → x ≢ k → nat_lt x (k + 1) ≡ nat_lt x k
+below_other x k ne =
+    elim (cases_lt x k) [
+      | inl lt ↦ (Decides-ltb x (k + 1)).1 (omega arith) ∙ sym ((Decides-ltb x k).1 lt)
+      | inr le ↦ le-ltb x (k + 1) (omega arith) ∙ sym (le-ltb x k le)
+    ]
+
+below_none : (held : List Held) → held_below 0 held ≡ []
+below_none [] = refl
+below_none (p ∷ held) = cond-false (nat_lt p.slot 0) (p ∷ held_below 0 held) (held_below 0 held) (le-ltb p.slot 0 (omega arith)) ∙ below_none held
+
+-- all of them, where each slot is below the number
+below_all : (n : ℕ) (held : List Held) → All (λ (p : Held). p.slot < n) held → held_below n held ≡ held
+below_all n [] h = refl
+below_all n (p ∷ held) h =
+    cond-true (nat_lt p.slot n) (p ∷ held_below n held) (held_below n held) ((Decides-ltb p.slot n).1 (All-head (λ (q : Held). q.slot < n) p held h))
+    ∙ ap (λ (ps : List Held). p ∷ ps) (below_all n held (All-tail (λ (q : Held). q.slot < n) p held h))
+
+-- a slot that none is held in adds none
+below_same : (k : ℕ) (held : List Held) → (Has k (slots_of held) → ⊥) → held_below (k + 1) held ≡ held_below k held
+below_same k [] free = refl
+below_same k (p ∷ held) free =
+    let rest = below_same k held (λ h. free (inr h)) in
+    let same = below_other p.slot k (λ e. free (inl (sym e))) in
+    λ i. cond (same i) (p ∷ rest i) (rest i)
+
+-- any other adds the one that is held in it
+below_more : (k : ℕ) (held : List Held) (p : Held) → Distinct nat_eq (slots_of held) → Has p held → p.slot ≡ k
+    → IsPermutation (held_below (k + 1) held) (held_below k held ++ p ∷ [])
+below_more k [] p apart h is = absurd h
+below_more k (q ∷ held) p apart (inl e) is =
+    let here : q.slot ≡ k = ap (λ (x : Held). x.slot) (sym e) ∙ is in
+    let rest = below_same k held (λ h. absent (slots_of held) q.slot apart.0 (subst (λ n. Has n (slots_of held)) (sym here) h)) in
+    let more : held_below (k + 1) (q ∷ held) ≡ q ∷ held_below k held =
+    cond-true (nat_lt q.slot (k + 1)) (q ∷ held_below (k + 1) held) (held_below (k + 1) held) ((Decides-ltb q.slot (k + 1)).1 (omega arith))
+    ∙ ap (λ (ps : List Held). q ∷ ps) rest in
+    let now : held_below k (q ∷ held) ≡ held_below k held =
+    cond-false (nat_lt q.slot k) (q ∷ held_below k held) (held_below k held) (le-ltb q.slot k (omega arith)) in
+    let xs = held_below k held in
+    subst (λ (ys : List Held). IsPermutation ys (held_below k (q ∷ held) ++ p ∷ [])) (sym more)
+    (subst (λ (ys : List Held). IsPermutation (q ∷ xs) (ys ++ p ∷ [])) (sym now)
+    (subst (λ (x : Held). IsPermutation (q ∷ xs) (xs ++ x ∷ [])) (sym e) (IsPermutation-sym (xs ++ q ∷ []) (q ∷ xs) (IsPermutation-to_front xs q))))
+below_more k (q ∷ held) p apart (inr h) is =
+    let ne : q.slot ≢ k =
+    λ e. absent (slots_of held) q.slot apart.0 (subst (λ n. Has n (slots_of held)) (is ∙ sym e) (has_mapped (λ (x : Held). x.slot) held p h)) in
+    let rest = below_more k held p apart.1 h is in
+    let xs = held_below (k + 1) held in
+    let ys = held_below k held in
+    subst (λ b. IsPermutation (cond b (q ∷ xs) xs) (cond (nat_lt q.slot k) (q ∷ ys) ys ++ p ∷ [])) (sym (below_other q.slot k ne))
+    (elim (nat_lt q.slot k) as (λ b. IsPermutation (cond b (q ∷ xs) xs) (cond b (q ∷ ys) ys ++ p ∷ [])) [
+      | true ↦ IsPermutation-cons q xs (ys ++ p ∷ []) rest
+      | false ↦ rest
+    ])
+
+-- ---- lines
+
+module _ (slots : ℕ) where
+  -- the lines of those in slots below a number, in whatever order
+  abbrev pub AreLinesBelow : ℕ → List Line → State → List Ranked → Type 0
+  AreLinesBelow k made st lib = (shows : Shows slots st lib) → IsPermutation (map (line lib) (entries_of (held_below k shows.held))) made
+
+  pub lines_begin : (made : List Line) (st : State) (lib : List Ranked) → made ≡ [] → AreLinesBelow 0 made st lib
+  lines_begin made st lib none shows =
+      subst (IsPermutation (map (line lib) (entries_of (held_below 0 shows.held)))) (sym none)
+      (subst (λ (ps : List Held). IsPermutation (map (line lib) (entries_of ps)) []) (sym (below_none shows.held)) (IsPermutation-refl []))
+
+  pub lines_all : (made : List Line) (st : State) (lib : List Ranked) → Shows slots st lib → AreLinesBelow slots made st lib
+      → IsPermutation (map (line lib) lib) made
+  lines_all made st lib shows lines =
+      let within = All-weaker (λ (p : Held). Holds slots st lib p.slot p.entry) (λ (p : Held). p.slot < slots) (λ p h. h.name.within) shows.held shows.holds in
+      let all : entries_of (held_below slots shows.held) ≡ lib = ap entries_of (below_all slots shows.held within) ∙ shows.library in
+      subst (λ (es : List Ranked). IsPermutation (map (line lib) es) made) all (lines shows)
+
+  module _ (k : ℕ) (made : List Line) (st : State) (lib : List Ranked) (store : AreOfOneStore most_words st.ranges) where
+    -- an empty slot has no line
+    pub lines_empty : IsEmpty slots st k → AreLinesBelow k made st lib → AreLinesBelow (k + 1) made st lib
+    lines_empty empty lines shows =
+        subst (λ (ps : List Held). IsPermutation (map (line lib) (entries_of ps)) made)
+        (sym (below_same k shows.held (empty_free slots st lib shows store k empty))) (lines shows)
+
+    -- a full one has the line of what it holds
+    pub lines_full : Distinct bytes_eq (map label_of lib) → (e : Ranked) (l : Line) (more : List Line) → Contains lib e → Holds slots st lib k e
+        → l ≡ line lib e → more ≡ made ++ l ∷ [] → AreLinesBelow k made st lib → AreLinesBelow (k + 1) more st lib
+    lines_full apart e l more at holds own push lines shows =
+        let p = held_here slots st lib shows store apart k e at holds in
+        let below = held_below k shows.held in
+        let entry = λ (q : Held). q.entry in
+        let ls = map (line lib) (entries_of below) in
+        let there = IsPermutation-map (line lib) (entries_of (held_below (k + 1) shows.held)) (entries_of (below ++ p.0 ∷ []))
+        (IsPermutation-map entry (held_below (k + 1) shows.held) (below ++ p.0 ∷ []) (below_more k shows.held p.0 shows.apart p.1 p.2)) in
+        let last : line lib p.0.entry ≡ l = ap (line lib) p.3 ∙ sym own in
+        let parts : map (line lib) (entries_of (below ++ p.0 ∷ [])) ≡ ls ++ l ∷ [] =
+        ap (map (line lib)) (map-append entry below (p.0 ∷ [])) ∙ map-append (line lib) (entries_of below) (p.0.entry ∷ [])
+        ∙ ap (λ (x : Line). ls ++ x ∷ []) last in
+        IsPermutation-trans (map (line lib) (entries_of (held_below (k + 1) shows.held))) (ls ++ l ∷ []) more
+        (subst (IsPermutation (map (line lib) (entries_of (held_below (k + 1) shows.held)))) parts there)
+        (subst (IsPermutation (ls ++ l ∷ [])) (sym push) (IsPermutation-append_left (l ∷ []) ls made (lines shows)))
+
+-- ---- slot by slot
+
+module _ (r s : Sight) (slots k : ℕ) (is : slots ≡ s.setting.slots) (looks : Looks r s) (made : List Line)
+    (lines : ForEach r (AreLinesBelow slots k made)) where
+  pub one_empty : IfFull s k false → ForEach s (AreLinesBelow slots (k + 1) made)
+  one_empty empty st lib v =
+      lines_empty slots k made (after s st) lib v.matches.store (subst (λ n. IsEmpty n (after s st) k) (sym is) (empty st lib v))
+      (for_each_later r s (AreLinesBelow slots k made) looks lines st lib v)
+
+  pub one_full : (t : Sight) → Looks s t → IfFull s k true → (l : Line) (more : List Line) → TellsLine t k l → more ≡ made ++ l ∷ []
+      → ForEach t (AreLinesBelow slots (k + 1) more)
+  one_full t on full l more told push st lib v =
+      let held = for_each_later s t (λ x es. (e : Ranked) × Holds s.setting.slots x es k e × Contains es e) on full st lib v in
+      let e = held.0 in
+      let there = subst (λ n. Holds n (after t st) lib k e) (sym (same_slots s t on)) held.1 in
+      let here = subst (λ n. Holds n (after t st) lib k e) (sym is) held.1 in
+      lines_full slots k made (after t st) lib v.matches.store v.verifies.library.distinct e l more held.2 here (told st lib v e held.2 there) push
+      (for_each_later r t (AreLinesBelow slots k made) (looks_trans r s t looks on) lines st lib v)

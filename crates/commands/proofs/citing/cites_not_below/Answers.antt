@@ -1,0 +1,72 @@
+use Rattle.std.proofs.Common.{◌≡◌, ◌∙◌, ◌+◌, ◌<◌, ◌≤◌, true, false, length, get_or, sym, ap, subst, arith}
+use Rattle.std.specs.Prelude.{nat_le}
+use Rattle.std.proofs.lemmas.Bool.{le-leb, lt-leb}
+use Rattle.bodystore.specs.declared.stored.StoredStep.{StoredStep}
+use Rattle.bodystore.specs.declared.stored.StoredStep.TheVariants.{Float, Slot}
+use Rattle.cells.specs.Sight.{Sight, Looks}
+use Rattle.cells.proofs.Sights.{looks_refl, looks_trans}
+use Rattle.cells.proofs.Settings.{same_slots}
+use Rattle.commands.proofs.CitedRanks.{AreBelow, IsNotBelow, uncited_below, past_below, ranked_below, below_more, tells_below, tells_not_below}
+use Rattle.commands.proofs.citing.cites_not_below.Goals.{in-Slot+else-slot-slots, else-slot-slots-via-then-slot-slots+in_ok-rank+else-branch, else-slot-slots-via-else-slot-slots, in_default}
+use Rattle.commands.proofs.citing.cites_not_below.Goals as goal
+
+pub returns-in_err-rank-clause-looks : goal.returns-in_err-rank-clause-looks
+returns-in_err-rank-clause-looks g c = looks_trans _ _ _ c.loop-step.invariant.0 c.rank.ensures.looks
+
+pub returns-then-branch-clause-looks : goal.returns-then-branch-clause-looks
+returns-then-branch-clause-looks g c = looks_trans _ _ _ c.loop-step.invariant.0 c.rank.ensures.looks
+
+pub returns-then-branch-clause-ok : goal.returns-then-branch-clause-ok
+returns-then-branch-clause-ok g c =
+    let s = g.C.Cells.sight c.rank.new.cells in
+    let limit = c.args.limit in
+    tells_not_below s limit c.loop-step.step-index c.args.steps.now (Float 0) (omega arith)
+    (subst (λ (x : StoredStep). IsNotBelow s limit x true) (sym c.in-Slot.is)
+    (ranked_below s limit c.in-Slot.slot c.in_ok-rank.field-0 true c.in_ok-rank.ensures.ok
+    (le-leb limit c.in_ok-rank.field-0 c.if-branch.true)))
+
+pub loop-step-preserved : goal.loop-step-preserved
+loop-step-preserved g c =
+    let sight = g.C.Cells.sight in
+    let old = g.C.Cells.sight c.args.cells.now in
+    let now = g.C.Cells.sight c.loop-step.cells in
+    let limit = c.args.limit in
+    let i = c.loop-step.step-index in
+    let kept = c.args.steps.now in
+    let Q : Sight → Type 0 = λ s. Looks (g.C.Cells.sight c.args.cells.now) s × AreBelow s c.args.limit (c.loop-step.step-index + 1) c.args.steps.now in
+    let lt : c.loop-step.step-index < length c.args.steps.now = c.loop-step-test.true in
+    let looks = c.loop-step.invariant.0 in
+    let below = c.loop-step.invariant.1 in
+    elim c.match-step.branch [
+      | in-Slot+else-slot-slots w ↦
+          let slot = w.in-Slot.slot in
+          elim w.else-slot-slots.branch [
+            | else-slot-slots-via-then-slot-slots+in_ok-rank+else-branch w' ↦
+                let s = g.C.Cells.sight w'.rank.new.cells in
+                let one = ranked_below s limit slot w'.in_ok-rank.field-0 false w'.in_ok-rank.ensures.ok
+                (lt-leb limit w'.in_ok-rank.field-0 w'.if-branch.false) in
+                subst Q (sym (ap (λ x. g.C.Cells.sight x) (w.cells-is ∙ w'.cells-is))) (
+                  looks_trans _ _ _ looks w'.rank.ensures.looks,
+                  below_more now s limit i kept (Float 0) w'.rank.ensures.looks below lt
+                      (subst (λ (x : StoredStep). IsNotBelow s limit x false) (sym w.in-Slot.is) one),
+                )
+            | else-slot-slots-via-else-slot-slots w' ↦
+                let one = past_below now limit slot false (λ z. let n = c.slot_count-slots.ensures.value in let m = same_slots old now looks in
+                let k = w'.if-slot-slots.false in omega (arith, n, m, k, z)) in
+                subst Q (sym (ap (λ x. g.C.Cells.sight x) (w.cells-is ∙ w'.cells-is))) (
+                  looks,
+                  below_more now now limit i kept (Float 0) (looks_refl now) below lt
+                      (subst (λ (x : StoredStep). IsNotBelow now limit x false) (sym w.in-Slot.is) one),
+                )
+          ]
+      | in_default w ↦
+          subst Q (sym (ap (λ x. g.C.Cells.sight x) w.cells-is)) (
+            looks,
+            below_more now now limit i kept (Float 0) (looks_refl now) below lt
+                (uncited_below now limit (get_or kept i (Float 0)) w.in_default.not-Slot),
+          )
+    ]
+
+pub returns-clause-ok : goal.returns-clause-ok
+returns-clause-ok g c =
+    tells_below (g.C.Cells.sight c.loop-step.cells) c.args.limit c.loop-step.step-index c.args.steps.now (omega arith) c.loop-step.invariant.1

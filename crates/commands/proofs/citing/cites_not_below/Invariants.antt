@@ -1,0 +1,7 @@
+use Rattle.cells.specs.Sight.{Looks}
+use Rattle.commands.proofs.CitedRanks.{AreBelow}
+use Rattle.commands.proofs.citing.cites_not_below.Given as goal
+
+abbrev pub invariant-loop-step : goal.invariant-loop-step
+invariant-loop-step g l =
+    Looks (g.C.Cells.sight l.fn.cells) (g.C.Cells.sight l.cells) × AreBelow (g.C.Cells.sight l.cells) l.limit l.step-index l.steps

@@ -1,0 +1,11 @@
+use Rattle.cells.specs.Sight.{Looks}
+use Rattle.cells.specs.Lookups.{ForEach}
+use Rattle.commands.proofs.Citers.{AreUncited}
+use Rattle.commands.proofs.moving.is_cited_up_to.Given as goal
+
+abbrev pub invariant-loop-other : goal.invariant-loop-other
+invariant-loop-other g l =
+    record {
+      looks : Looks (g.C.Cells.sight l.initial.cells) (g.C.Cells.sight l.cells);
+      uncited : ForEach (g.C.Cells.sight l.cells) (AreUncited (g.C.Cells.sight l.fn.cells).setting.slots l.slot l.limit l.other);
+    }

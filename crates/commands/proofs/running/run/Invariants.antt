@@ -1,0 +1,11 @@
+use Rattle.std.proofs.Common.{take}
+use Rattle.cells.specs.Sight.{Onward}
+use Rattle.commands.specs.Answers.{DoesAll}
+use Rattle.commands.proofs.running.run.Given as goal
+
+abbrev pub invariant-loop-done : goal.invariant-loop-done
+invariant-loop-done g l =
+    record {
+      onward : Onward (g.C.Cells.sight l.fn.cells) (g.C.Cells.sight l.cells);
+      does : DoesAll (g.C.Cells.sight l.fn.cells) (g.C.Cells.sight l.cells) (take l.done l.commands) l.replies.items;
+    }

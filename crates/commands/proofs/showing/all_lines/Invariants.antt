@@ -1,0 +1,11 @@
+use Rattle.cells.specs.Sight.{Looks}
+use Rattle.cells.specs.Lookups.{ForEach}
+use Rattle.commands.proofs.Below.{AreLinesBelow}
+use Rattle.commands.proofs.showing.all_lines.Given as goal
+
+abbrev pub invariant-loop-slot : goal.invariant-loop-slot
+invariant-loop-slot g l =
+    record {
+      looks : Looks (g.C.Cells.sight l.fn.cells) (g.C.Cells.sight l.cells);
+      lines : ForEach (g.C.Cells.sight l.cells) (AreLinesBelow (g.C.Cells.sight l.fn.cells).setting.slots l.slot l.lines.items);
+    }
