@@ -1,5 +1,13 @@
+pub mod Results
+pub mod Seeing
+pub mod Refusing
+pub mod Chaining
+pub mod Relabelling
+pub mod Removing
+pub mod Restepping
 pub mod ByteKeys
 pub mod Outcomes
 pub mod CitedRanks
 pub mod NotedFrames
 pub mod ProofTests
+pub mod Added

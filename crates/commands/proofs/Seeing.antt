@@ -1,0 +1,55 @@
+-- What a run sees of a library before it writes, and what of that it still knows once it has written.
+use Rattle.std.proofs.Common.{◌≡◌, ℕ, List, Option, Some, None, true, sym, subst, ◌∙◌, inl, inr}
+use Rattle.std.specs.Option.{is_some}
+use Rattle.std.proofs.lemmas.Bool.{cases_Bool}
+use Rattle.library.specs.declared.library.Ranked.{Ranked}
+use Rattle.library.specs.Library.{Setting, Verifies}
+use Rattle.library.specs.Edits.{has, found}
+use Rattle.cells.specs.State.{State}
+use Rattle.cells.specs.Shows.{Shows, Holds}
+use Rattle.cells.specs.Sight.{Sight, Matches, Views, Onward, Looks, after}
+use Rattle.cells.specs.Lookups.{ForEach, IsFoundAt, Finds}
+use Rattle.library.proofs.Places.{find_nowhere}
+use Rattle.cells.proofs.Found.{unfound}
+use Rattle.cells.proofs.Sights.{after_looks, matches_back}
+use Rattle.commands.specs.Answers.{ForEachBefore}
+
+-- a library that was seen is seen still while nothing is written
+pub views_later : (s t : Sight) (st : State) (lib : List Ranked) → Looks s t → Matches t st → Views s st lib → Views t st lib
+views_later s t st lib looks m v =
+    record {
+      matches = m;
+      shows = subst (λ (x : State). Shows t.setting.slots x lib) (sym (after_looks s t st looks))
+          (subst (λ (x : Setting). Shows x.slots (after s st) lib) (sym looks.onward.setting) v.shows);
+      verifies = subst (λ (x : Setting). Verifies x lib) (sym looks.onward.setting) v.verifies;
+    }
+
+-- a label that is found is an assertion's
+pub has_found : (lib : List Ranked) (label : List ℕ) (e : Ranked) → found lib label ≡ Some e → has lib label ≡ true
+has_found lib label e h =
+    elim (cases_Bool (has lib label)) [
+      | inl so ↦ so
+      | inr other ↦ let none : Some e ≡ None = sym h ∙ find_nowhere lib label other in absurd cc
+    ]
+
+-- what a look told, before more was done, is so of what was seen before it
+pub for_each_before : (s t u : Sight) (told : State → List Ranked → Type 0) → Looks s t → Onward t u → ForEach t told
+    → ForEachBefore s u (λ st lib. told (after s st) lib)
+for_each_before s t u told looks on each = λ st lib m v.
+    subst (λ (x : State). told x lib) (after_looks s t st looks) (each st lib (views_later s t st lib looks (matches_back t u st on m) v))
+
+-- an assertion that was found in a slot is found there still: the same one
+abbrev pub found_later : (s t : Sight) (st : State) (lib : List Ranked) (label : List ℕ) (i : ℕ) → Looks s t
+    → IsFoundAt s.setting.slots (after s st) lib label i → IsFoundAt t.setting.slots (after t st) lib label i
+found_later s t st lib label i looks at =
+    record {
+      entry = at.entry;
+      found = at.found;
+      holds = subst (λ (x : State). Holds t.setting.slots x lib i at.entry) (sym (after_looks s t st looks))
+          (subst (λ (x : Setting). Holds x.slots (after s st) lib i at.entry) (sym looks.onward.setting) at.holds);
+    }
+
+-- whether a label was found is whether an assertion has it
+pub found_or_free : (s : Sight) (label : List ℕ) (o : Option ℕ) → Finds s label o → ForEach s (λ st lib. has lib label ≡ is_some o)
+found_or_free s label None none st lib v = unfound lib label (none st lib v)
+found_or_free s label (Some i) found st lib v = let at = found.1 st lib v in has_found lib label at.entry at.found

@@ -1,0 +1,73 @@
+use Rattle.std.proofs.Common.{◌≡◌, ℕ, List, Some, None, sym, subst, ◌∙◌, arith}
+use Rattle.library.specs.declared.library.Ranked.{Ranked}
+use Rattle.library.specs.declared.command.Command.TheVariants as command
+use Rattle.library.specs.declared.reason.Reason.TheVariants as reason
+use Rattle.library.specs.Edits.{found, citers}
+use Rattle.cells.specs.Lookups.{Finds, ForEach}
+use Rattle.cells.proofs.Sights.{onward_trans, looks_trans}
+use Rattle.cells.proofs.Laying.{ok_mapped}
+use Rattle.commands.proofs.Refusing.{of_none, refused, answers_refused}
+use Rattle.commands.proofs.Removing.{delete_cited, counted, deleted}
+use Rattle.commands.proofs.deleting.delete.Goals as goal
+
+pub returns-in_default-clause-answers : goal.returns-in_default-clause-answers
+returns-in_default-clause-answers g c =
+    let s0 = g.C.Cells.sight c.args.cells.now in
+    let s1 = g.C.Cells.sight c.find.new.cells in
+    let label = c.args.label.now in
+    let finds : Finds s1 c.args.label.now None =
+    subst (Finds s1 c.args.label.now) c.in_default.is
+    (subst (λ (l : List ℕ). Finds s1 l c.in_ok-slot.field-0) c.as_slice.ensures
+    (ok_mapped _ _ _ _ _ c.in_ok-slot.was c.map_err.ensures.cases c.find.ensures.ok)) in
+    answers_refused s0 s1 (command.Delete label) reason.UnknownLabel c.into.result c.into.ensures
+    (refused s0 s1 (command.Delete label) reason.UnknownLabel c.find.ensures.looks (λ st lib v. of_none lib label _ (finds st lib v)))
+
+pub returns-in_err-citers-clause-onward : goal.returns-in_err-citers-clause-onward
+returns-in_err-citers-clause-onward g c = onward_trans _ _ _ c.find.ensures.looks.onward c.citers.ensures.looks.onward
+
+pub returns-then-citers-gt0-clause-onward : goal.returns-then-citers-gt0-clause-onward
+returns-then-citers-gt0-clause-onward g c = onward_trans _ _ _ c.find.ensures.looks.onward c.citers.ensures.looks.onward
+
+pub returns-then-citers-gt0-clause-answers : goal.returns-then-citers-gt0-clause-answers
+returns-then-citers-gt0-clause-answers g c =
+    let s0 = g.C.Cells.sight c.args.cells.now in
+    let s1 = g.C.Cells.sight c.find.new.cells in
+    let s2 = g.C.Cells.sight c.citers.new.cells in
+    let label = c.args.label.now in
+    let finds : Finds s1 c.args.label.now (Some c.in-Some.slot) =
+    subst (Finds s1 c.args.label.now) c.in-Some.is
+    (subst (λ (l : List ℕ). Finds s1 l c.in_ok-slot.field-0) c.as_slice.ensures
+    (ok_mapped _ _ _ _ _ c.in_ok-slot.was c.map_err.ensures.cases c.find.ensures.ok)) in
+    let counts : ForEach s2 (λ st lib. (e : Ranked) × (found lib c.args.label.now ≡ Some e) × (c.in_ok-citers.citers ≡ citers lib c.args.label.now)) =
+    counted s1 s2 c.in-Some.slot label c.in_ok-citers.citers c.citers.ensures.looks finds
+    (ok_mapped _ _ _ _ _ c.in_ok-citers.was c.map_err-2.ensures.cases c.citers.ensures.ok) in
+    answers_refused s0 s2 (command.Delete label) (reason.StillCited c.in_ok-citers.citers) c.into-then-citers-gt0.result
+    c.into-then-citers-gt0.ensures
+    (refused s0 s2 (command.Delete label) (reason.StillCited c.in_ok-citers.citers) (looks_trans _ _ _ c.find.ensures.looks c.citers.ensures.looks)
+    (λ st lib v. let e = counts st lib v in delete_cited s0.setting lib label e.0 e.1 c.in_ok-citers.citers e.2 c.if-citers-gt0.true))
+
+pub returns-in_err-remove-clause-onward : goal.returns-in_err-remove-clause-onward
+returns-in_err-remove-clause-onward g c =
+    onward_trans _ _ _ c.find.ensures.looks.onward (onward_trans _ _ _ c.citers.ensures.looks.onward c.remove.ensures.onward)
+
+pub returns-clause-onward : goal.returns-clause-onward
+returns-clause-onward g c =
+    onward_trans _ _ _ c.find.ensures.looks.onward (onward_trans _ _ _ c.citers.ensures.looks.onward c.remove.ensures.onward)
+
+pub returns-clause-answers : goal.returns-clause-answers
+returns-clause-answers g c =
+    let s0 = g.C.Cells.sight c.args.cells.now in
+    let s1 = g.C.Cells.sight c.find.new.cells in
+    let s2 = g.C.Cells.sight c.citers.new.cells in
+    let label = c.args.label.now in
+    let finds : Finds s1 c.args.label.now (Some c.in-Some.slot) =
+    subst (Finds s1 c.args.label.now) c.in-Some.is
+    (subst (λ (l : List ℕ). Finds s1 l c.in_ok-slot.field-0) c.as_slice.ensures
+    (ok_mapped _ _ _ _ _ c.in_ok-slot.was c.map_err.ensures.cases c.find.ensures.ok)) in
+    let counts : ForEach s2 (λ st lib. (e : Ranked) × (found lib c.args.label.now ≡ Some e) × (c.in_ok-citers.citers ≡ citers lib c.args.label.now)) =
+    counted s1 s2 c.in-Some.slot label c.in_ok-citers.citers c.citers.ensures.looks finds
+    (ok_mapped _ _ _ _ _ c.in_ok-citers.was c.map_err-2.ensures.cases c.citers.ensures.ok) in
+    let s3 = g.C.Cells.sight c.remove.new.cells in
+    let none : c.in_ok-citers.citers ≡ 0 = omega (arith, c.if-citers-gt0.false) in
+    deleted s0 s1 s2 s3 c.in-Some.slot label c.find.ensures.looks c.citers.ensures.looks c.remove.ensures.onward finds
+    (λ st lib v. let e = counts st lib v in (e.0, e.1, sym none ∙ e.2)) c.in_ok-remove.ensures.ok c.in_ok-remove.ensures.written

@@ -1,0 +1,39 @@
+use Rattle.std.proofs.Common.{List, ℕ, sym, subst}
+use Rattle.bodystore.specs.declared.stored.StoredStep.{StoredStep}
+use Rattle.cells.specs.Filling.{AreCitedSlots}
+use Rattle.cells.proofs.Sights.{onward_trans}
+use Rattle.cells.proofs.Laying.{if_mapped, ok_mapped}
+use Rattle.commands.specs.Changes.{DeletesAt}
+use Rattle.commands.proofs.Chaining.{TakesOut}
+use Rattle.commands.proofs.Removing.{removed}
+use Rattle.commands.proofs.deleting.remove.Goals as goal
+
+pub returns-in_err-map_err-clause-onward : goal.returns-in_err-map_err-clause-onward
+returns-in_err-map_err-clause-onward g c = onward_trans _ _ _ c.stored_proof.ensures.looks.onward c.count_out.ensures.onward
+
+pub returns-in_err-map_err-2-clause-onward : goal.returns-in_err-map_err-2-clause-onward
+returns-in_err-map_err-2-clause-onward g c =
+    onward_trans _ _ _ c.stored_proof.ensures.looks.onward (onward_trans _ _ _ c.count_out.ensures.onward c.take_out.ensures.onward)
+
+pub returns-clause-onward : goal.returns-clause-onward
+returns-clause-onward g c =
+    onward_trans _ _ _ c.stored_proof.ensures.looks.onward (onward_trans _ _ _ c.count_out.ensures.onward
+    (onward_trans _ _ _ c.take_out.ensures.onward c.vacate.ensures.onward))
+
+pub returns-clause-ok : goal.returns-clause-ok
+returns-clause-ok g c =
+    let s0 = g.C.Cells.sight c.args.cells.now in
+    let s1 = g.C.Cells.sight c.stored_proof.new.cells in
+    let s2 = g.C.Cells.sight c.count_out.new.cells in
+    let s3 = g.C.Cells.sight c.take_out.new.cells in
+    let s4 = g.C.Cells.sight c.vacate.new.cells in
+    let former = c.in_ok-former.former.items in
+    let listed = c.as_slice-2.result.now in
+    let former_cited = subst (λ (kept : List StoredStep). AreCitedSlots kept c.in_ok-cited.cited.items) c.as_slice.ensures.value c.in_ok-cited.ensures in
+    let cited = subst (AreCitedSlots c.in_ok-former.former.items) (sym c.as_slice-2.ensures.value) former_cited in
+    let counts = ok_mapped _ _ _ _ _ c.in_ok-map_err.was c.map_err.ensures.cases c.count_out.ensures.ok in
+    let takes = subst (TakesOut s2 s3 c.args.slot) c.as_slice-3.ensures
+    (ok_mapped _ _ _ _ _ c.in_ok-map_err-2.was c.map_err-2.ensures.cases c.take_out.ensures.ok) in
+    if_mapped _ _ (λ _. DeletesAt s0 s4 c.args.slot c.args.label.now) _ _ c.map_err-3.ensures.cases c.vacate.ensures.ok (λ _ empties.
+    removed s0 s1 s2 s3 s4 c.args.slot c.args.label.now former listed c.stored_proof.ensures.looks c.count_out.ensures.onward
+    c.take_out.ensures.onward c.vacate.ensures.onward c.in_ok-former.ensures.ok cited counts takes empties)
