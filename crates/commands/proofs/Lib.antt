@@ -17,3 +17,4 @@ pub mod Below
 pub mod Lines
 pub mod Transactions
 pub mod Citers
+pub mod Added

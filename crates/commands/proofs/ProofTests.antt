@@ -40,6 +40,7 @@ use Rattle.cells.proofs.Holders.{found_at}
 use Rattle.cells.proofs.Holding.{named_has}
 use Rattle.commands.specs.Citing.{TellsNotBelow, AreFrames, TellsFault, Passes, Fails, proof_tests}
 use Rattle.commands.proofs.CitedRanks.{stored_later}
+use Rattle.commands.proofs.Refusing.{first_refuses, first_passes}
 
 -- ---- what stored steps cite
 
@@ -101,30 +102,19 @@ outcome_lower s lib rank a frames apart below are known =
 
 -- ---- tests
 
-pub tested_past : (o : Option Reason) (more : Tests) (edited : Edited) → o ≡ None → tested (o ∷ more) edited ≡ tested more edited
-tested_past o more edited is = ap (λ (z : Option Reason). tested (z ∷ more) edited) is
-
-pub tested_refused : (o : Option Reason) (more : Tests) (edited : Edited) (r : Reason) → o ≡ Some r → tested (o ∷ more) edited ≡ Err r
-tested_refused o more edited r is = ap (λ (z : Option Reason). tested (z ∷ more) edited) is
-
-pub so_not : (b : Bool) (r : Reason) → b ≡ false → where_so b r ≡ None
-so_not b r is = ap (λ (z : Bool). where_so z r) is
-
-pub so_is : (b : Bool) (r : Reason) → b ≡ true → where_so b r ≡ Some r
-so_is b r is = ap (λ (z : Bool). where_so z r) is
-
 -- a label that no assertion has is cited
 pub fails_unknown : (s : Sight) (rank : ℕ) (a : Assertion) → Resolves s a.proof None → Fails s rank a CitesUnknown
 fails_unknown s rank a unknown = λ st lib v more edited.
-    tested_refused (cites_unknown lib a.proof) (cited_not_lower lib rank a.proof ∷ proof_fails s.setting lib rank a ∷ more) edited CitesUnknown
-    (so_is (list_any (is_of_unknown lib) a.proof) CitesUnknown (unknown st lib v))
+    first_refuses (list_any (is_of_unknown lib) a.proof) CitesUnknown (cited_not_lower lib rank a.proof ∷ proof_fails s.setting lib rank a ∷ more)
+    edited (unknown st lib v)
 
 -- each cited label is an assertion's
-pub past_unknown : (s : Sight) (a : Assertion) (kept : List StoredStep) (st : State) (lib : List Ranked) → Views s st lib
-    → AreStoredAs s.setting.slots (after s st) a.proof kept → cites_unknown lib a.proof ≡ None
-past_unknown s a kept st lib v are =
-    so_not (list_any (is_of_unknown lib) a.proof) CitesUnknown
-    (none_unknown s.setting.slots (after s st) lib v.shows v.matches.store a.proof kept are)
+pub past_unknown : (s : Sight) (rank : ℕ) (a : Assertion) (kept : List StoredStep) (st : State) (lib : List Ranked) → Views s st lib
+    → AreStoredAs s.setting.slots (after s st) a.proof kept → (more : Tests) (edited : Edited)
+    → tested (proof_tests s lib rank a more) edited ≡ tested (cited_not_lower lib rank a.proof ∷ proof_fails s.setting lib rank a ∷ more) edited
+past_unknown s rank a kept st lib v are more edited =
+    first_passes (list_any (is_of_unknown lib) a.proof) CitesUnknown (cited_not_lower lib rank a.proof ∷ proof_fails s.setting lib rank a ∷ more)
+    edited (none_unknown s.setting.slots (after s st) lib v.shows v.matches.store a.proof kept are)
 
 -- the steps that are resolved go on to be stored so
 pub stored_on : (s t : Sight) (steps : List Step) (kept : List StoredStep) → Looks s t
@@ -138,10 +128,9 @@ pub fails_below : (r s : Sight) (rank : ℕ) (a : Assertion) (kept : List Stored
     → TellsNotBelow s rank kept true → Fails s rank a CitedNotLower
 fails_below r s rank a kept looks resolved told = λ st lib v more edited.
     let are = stored_on r s a.proof kept looks resolved.2 st lib v in
-    tested_past (cites_unknown lib a.proof) (cited_not_lower lib rank a.proof ∷ proof_fails s.setting lib rank a ∷ more) edited
-    (past_unknown s a kept st lib v are)
-    ∙ tested_refused (cited_not_lower lib rank a.proof) (proof_fails s.setting lib rank a ∷ more) edited CitedNotLower
-    (so_is (list_any (cites_not_below lib rank) a.proof) CitedNotLower (sym (told st lib v a.proof are)))
+    past_unknown s rank a kept st lib v are more edited
+    ∙ first_refuses (list_any (cites_not_below lib rank) a.proof) CitedNotLower (proof_fails s.setting lib rank a ∷ more) edited
+    (sym (told st lib v a.proof are))
 
 -- what is known of a proof's steps behind the first two tests
 pub record IsSifted (s : Sight) (t : Tables) (rank : ℕ) (a : Assertion) (kept : List StoredStep) (frames : Citable) : Type 0 where
@@ -164,10 +153,8 @@ sifted_tests s t rank a kept frames fault sifted tells st lib v more edited =
     ap fault_of (sym (outcome_lower s.setting lib rank a frames apart below noted
     (cited_found s.setting.slots (after s st) lib v.shows v.matches.store apart a.proof kept are)))
     ∙ sym (subst (λ (u : Tables). option_map ProofFails fault ≡ fault_of (outcome frames u a)) sifted.same_prelude tells.outcome) in
-    tested_past (cites_unknown lib a.proof) (cited_not_lower lib rank a.proof ∷ proof_fails s.setting lib rank a ∷ more) edited
-    (past_unknown s a kept st lib v are)
-    ∙ tested_past (cited_not_lower lib rank a.proof) (proof_fails s.setting lib rank a ∷ more) edited
-    (so_not (list_any (cites_not_below lib rank) a.proof) CitedNotLower below)
+    past_unknown s rank a kept st lib v are more edited
+    ∙ first_passes (list_any (cites_not_below lib rank) a.proof) CitedNotLower (proof_fails s.setting lib rank a ∷ more) edited below
     ∙ ap (λ (o : Option Reason). tested (o ∷ more) edited) fails
 
 pub fails_fault : (s : Sight) (t : Tables) (rank : ℕ) (a : Assertion) (kept : List StoredStep) (frames : Citable) (fault : ProofFault)
