@@ -25,7 +25,8 @@ pub first_refuses : (b : Bool) (r : Reason) (more : Tests) (edited : Edited) →
 first_refuses b r more edited h = ap (λ t. tested (t ∷ more) edited) (cond-true b (Some r) None h)
 
 -- the first test passes
-pub first_passes : (b : Bool) (r : Reason) (more : Tests) (edited : Edited) → b ≡ false → tested (where_so b r ∷ more) edited ≡ tested more edited
+pub first_passes : (b : Bool) (r : Reason) (more : Tests) (edited : Edited) → b ≡ false
+    → tested (where_so b r ∷ more) edited ≡ tested more edited
 first_passes b r more edited h = ap (λ t. tested (t ∷ more) edited) (cond-false b (Some r) None h)
 
 -- ---- labels
@@ -45,20 +46,23 @@ pub refused : (s t : Sight) (c : Command) (r : Reason) → Looks s t → ForEach
 refused s t c r looks each = record { refuses = λ st lib m v. each st lib (views_later s t st lib looks m v); looks = looks }
 
 -- what is refused of every library by the setting of the later sight
-pub refused_later : (s t : Sight) (c : Command) (r : Reason) → Looks s t → ForEach t (λ st lib. edit t.setting lib c ≡ Err r) → IsRefused s t c r
+pub refused_later : (s t : Sight) (c : Command) (r : Reason) → Looks s t → ForEach t (λ st lib. edit t.setting lib c ≡ Err r)
+    → IsRefused s t c r
 refused_later s t c r looks each =
     refused s t c r looks (λ st lib v. subst (λ (x : Setting). edit x lib c ≡ Err r) looks.onward.setting (each st lib v))
 
 -- so the answer is this reason
-pub answers_refused : {S : Type 0} (s t : Sight) (c : Command) (r : Reason) (error : CommandError S) → error ≡ command.Refused r → IsRefused s t c r
-    → CommandAnswers s t c (Err error)
+pub answers_refused : {S : Type 0} (s t : Sight) (c : Command) (r : Reason) (error : CommandError S) → error ≡ command.Refused r
+    → IsRefused s t c r → CommandAnswers s t c (Err error)
 answers_refused s t c r error is h = subst (λ e. CommandAnswers s t c (Err e)) (sym is) h
 
 -- the test of a proof that ended early ends the command: refused where a test refuses it
-pub answers_tested : {S : Type 0} (s t : Sight) (c : Command) (rank : ℕ) (a : Assertion) (result : Result Reply (CommandError S)) (error : CommandError S)
-    → IsErrAnd result (λ e. e ≡ error) → TellsRefusal t rank a error → ((r : Reason) → Fails t rank a r → IsRefused s t c r) → CommandAnswers s t c result
+pub answers_tested : {S : Type 0} (s t : Sight) (c : Command) (rank : ℕ) (a : Assertion) (result : Result Reply (CommandError S))
+    (error : CommandError S) → IsErrAnd result (λ e. e ≡ error) → TellsRefusal t rank a error
+    → ((r : Reason) → Fails t rank a r → IsRefused s t c r) → CommandAnswers s t c result
 answers_tested s t c rank a (Ok reply) error is tells refuses = absurd is
-answers_tested {S} s t c rank a (Err e) error is tells refuses = subst (λ x. CommandAnswers s t c (Err x)) (sym is) (of_error error tells)
+answers_tested {S} s t c rank a (Err e) error is tells refuses =
+    subst (λ x. CommandAnswers s t c (Err x)) (sym is) (of_error error tells)
   where
     of_error : (error : CommandError S) → TellsRefusal t rank a error → CommandAnswers s t c (Err error)
     of_error (command.Refused r) fails = refuses r fails

@@ -53,7 +53,8 @@ module _ (s : Sight) (i : ℕ) (label : List ℕ) (made : Statement) (stated : F
   module _ (theorem : made.kind ≡ Theorem) (rank : ℕ) (ranked : ForEachHeld s i (λ st lib e. rank ≡ e.rank)) (a : Assertion)
       (is : a ≡ titled label made steps) where
     reprove_tested : (st : State) (lib : List Ranked) → Views s st lib
-        → edit s.setting lib (command.Reprove label steps) ≡ tested (proof_tests s lib rank a []) (done (changed label (with_proof steps) lib))
+        → edit s.setting lib (command.Reprove label steps)
+        ≡ tested (proof_tests s lib rank a []) (done (changed label (with_proof steps) lib))
     reprove_tested st lib v =
         let at = here st lib v in
         let next = done (changed label (with_proof steps) lib) in
@@ -71,18 +72,20 @@ module _ (s : Sight) (i : ℕ) (label : List ℕ) (made : Statement) (stated : F
     reprove_refused r fails st lib v = reprove_tested st lib v ∙ fails st lib v [] (done (changed label (with_proof steps) lib))
 
     -- the steps that pass are put into the slot
-    pub reproved : (old new : Sight) (kept : List StoredStep) → Looks old s → Onward s new → Passes s rank a kept → ReprovesAt s new i label kept
-        → WritesSome new → Does old new (command.Reprove label steps) Done
+    pub reproved : (old new : Sight) (kept : List StoredStep) → Looks old s → Onward s new → Passes s rank a kept
+        → ReprovesAt s new i label kept → WritesSome new → Does old new (command.Reprove label steps) Done
     reproved old new kept looks on passes reproves writes =
         record {
           edits = λ st lib m v.
               let now = views_later old s st lib looks (matches_back s new st on m) v in
-              let at = here st lib now in (
-                changed label (with_proof steps) lib,
-                subst (λ (x : Setting). edit x lib (command.Reprove label steps) ≡ Ok (done (changed label (with_proof steps) lib))) looks.onward.setting
-                    (reprove_tested st lib now ∙ passes.passes st lib now [] (done (changed label (with_proof steps) lib))),
+              let at = here st lib now in
+              let next = changed label (with_proof steps) lib in (
+                next,
+                subst (λ (x : Setting). edit x lib (command.Reprove label steps) ≡ Ok (done next)) looks.onward.setting
+                    (reprove_tested st lib now ∙ passes.passes st lib now [] (done next)),
                 reproves st lib m now at steps (sym (same_kind st lib now at) ∙ theorem)
-                    (subst (λ (x : List Step). AreStoredAs s.setting.slots (after s st) x kept) (ap (λ (x : Assertion). x.proof) is) (passes.stored st lib now)),
+                    (subst (λ (x : List Step). AreStoredAs s.setting.slots (after s st) x kept) (ap (λ (x : Assertion). x.proof) is)
+                    (passes.stored st lib now)),
               );
           writes = writes;
         }

@@ -1,4 +1,4 @@
--- What a run sees of a library before it writes, and what of that it still knows once it has written.
+-- What a run saw of a library, and an assertion that it found there: the same while nothing is written.
 use Rattle.std.proofs.Common.{◌≡◌, ℕ, List, Option, Some, None, true, sym, subst, ◌∙◌, inl, inr}
 use Rattle.std.specs.Option.{is_some}
 use Rattle.std.proofs.lemmas.Bool.{cases_Bool}
@@ -11,7 +11,7 @@ use Rattle.cells.specs.Sight.{Sight, Matches, Views, Looks, after}
 use Rattle.cells.specs.Lookups.{ForEach, IsFoundAt, Finds}
 use Rattle.library.proofs.Places.{find_nowhere}
 use Rattle.cells.proofs.Found.{unfound}
-use Rattle.cells.proofs.Sights.{after_looks, views_back}
+use Rattle.cells.proofs.Sights.{after_looks}
 
 -- a library that was seen is seen still while nothing is written
 pub views_later : (s t : Sight) (st : State) (lib : List Ranked) → Looks s t → Matches t st → Views s st lib → Views t st lib
@@ -41,11 +41,6 @@ found_later s t st lib label i looks at =
       holds = subst (λ (x : State). Holds t.setting.slots x lib i at.entry) (sym (after_looks s t st looks))
           (subst (λ (x : Setting). Holds x.slots (after s st) lib i at.entry) (sym looks.onward.setting) at.holds);
     }
-
--- and so in every library that is seen
-pub found_still : (s t : Sight) (label : List ℕ) (i : ℕ) → Looks s t → ForEach s (λ st lib. IsFoundAt s.setting.slots st lib label i)
-    → ForEach t (λ st lib. IsFoundAt t.setting.slots st lib label i)
-found_still s t label i looks found st lib v = found_later s t st lib label i looks (found st lib (views_back s t st lib looks v))
 
 -- whether a label was found is whether an assertion has it
 pub found_or_free : (s : Sight) (label : List ℕ) (o : Option ℕ) → Finds s label o → ForEach s (λ st lib. has lib label ≡ is_some o)

@@ -7,7 +7,7 @@ use Rattle.cells.proofs.Sights.{onward_trans, looks_trans}
 use Rattle.cells.proofs.Laying.{ok_mapped}
 use Rattle.cells.proofs.ReadBack.{held_later}
 use Rattle.commands.specs.Changes.{ReprovesAt}
-use Rattle.commands.proofs.Seeing.{found_still}
+use Rattle.commands.proofs.Looking.{finds_later}
 use Rattle.commands.proofs.Refusing.{of_none, refused, refused_later, answers_refused, answers_tested}
 use Rattle.commands.proofs.Reproved.{retitled, axiom_refused, reprove_refused, reproved}
 use Rattle.commands.proofs.reproving.reprove.Goals as goal
@@ -23,7 +23,8 @@ returns-in_default-clause-answers g c =
     (subst (λ (l : List ℕ). Finds s1 l c.in_ok-slot.field-0) c.as_slice.ensures
     (ok_mapped _ _ _ _ _ c.in_ok-slot.was c.map_err.ensures.cases c.find.ensures.ok)) in
     answers_refused s0 s1 (command.Reprove label steps) reason.UnknownLabel c.into.result c.into.ensures
-    (refused s0 s1 (command.Reprove label steps) reason.UnknownLabel c.find.ensures.looks (λ st lib v. of_none lib label _ (finds st lib v)))
+    (refused s0 s1 (command.Reprove label steps) reason.UnknownLabel c.find.ensures.looks (λ st lib v.
+    of_none lib label _ (finds st lib v)))
 
 pub returns-in_err-statement-clause-onward : goal.returns-in_err-statement-clause-onward
 returns-in_err-statement-clause-onward g c = onward_trans _ _ _ c.find.ensures.looks.onward c.statement.ensures.looks.onward
@@ -45,7 +46,7 @@ returns-in-Axiom-clause-answers g c =
     answers_refused s0 s2 (command.Reprove label steps) reason.NotATheorem c.into-in-Axiom.result c.into-in-Axiom.ensures
     (refused_later s0 s2 (command.Reprove label steps) reason.NotATheorem (looks_trans _ _ _ c.find.ensures.looks c.statement.ensures.looks)
     (axiom_refused s2 c.in-Some.slot label c.in_ok-statement.statement c.in_ok-statement.ensures.ok
-    (found_still s1 s2 label c.in-Some.slot c.statement.ensures.looks finds.1) steps c.in-Axiom.is))
+    (finds_later s1 s2 label c.in-Some.slot c.statement.ensures.looks finds).1 steps c.in-Axiom.is))
 
 pub returns-in_err-rank-clause-onward : goal.returns-in_err-rank-clause-onward
 returns-in_err-rank-clause-onward g c =
@@ -83,7 +84,7 @@ returns-in_err-kept-clause-answers g c =
     subst (Finds s1 c.args.label.now) c.in-Some.is
     (subst (λ (l : List ℕ). Finds s1 l c.in_ok-slot.field-0) c.as_slice.ensures
     (ok_mapped _ _ _ _ _ c.in_ok-slot.was c.map_err.ensures.cases c.find.ensures.ok)) in
-    let here = found_still s1 s4 label i (looks_trans _ _ _ c.statement.ensures.looks later) finds.1 in
+    let here = (finds_later s1 s4 label i (looks_trans _ _ _ c.statement.ensures.looks later) finds).1 in
     let stated = held_later s2 s4 i (λ st lib e. made ≡ statement_of e.assertion) later c.in_ok-statement.ensures.ok in
     let ranked = held_later s3 s4 i (λ st lib e. rank ≡ e.rank) c.test_proof.ensures.looks
     (ok_mapped _ _ _ _ _ c.in_ok-rank.was c.map_err-2.ensures.cases c.rank.ensures.ok) in
@@ -93,7 +94,8 @@ returns-in_err-kept-clause-answers g c =
     (c.in_ok-proof.ensures ∙ c.as_slice-2.ensures) in
     answers_tested s0 s4 (command.Reprove label steps) rank a c.from_residual-in_err-kept.result c.in_err-kept.field-0.0
     c.from_residual-in_err-kept.ensures.1 c.in_err-kept.ensures.err (λ r fails.
-    refused_later s0 s4 (command.Reprove label steps) r looks (reprove_refused s4 i label made stated here steps theorem rank ranked a is r fails))
+    refused_later s0 s4 (command.Reprove label steps) r looks
+    (reprove_refused s4 i label made stated here steps theorem rank ranked a is r fails))
 
 pub put_steps-requires-clause-within : goal.put_steps-requires-clause-within
 put_steps-requires-clause-within g c =
@@ -128,7 +130,7 @@ returns-clause-answers g c =
     subst (Finds s1 c.args.label.now) c.in-Some.is
     (subst (λ (l : List ℕ). Finds s1 l c.in_ok-slot.field-0) c.as_slice.ensures
     (ok_mapped _ _ _ _ _ c.in_ok-slot.was c.map_err.ensures.cases c.find.ensures.ok)) in
-    let here = found_still s1 s4 label i (looks_trans _ _ _ c.statement.ensures.looks later) finds.1 in
+    let here = (finds_later s1 s4 label i (looks_trans _ _ _ c.statement.ensures.looks later) finds).1 in
     let stated = held_later s2 s4 i (λ st lib e. made ≡ statement_of e.assertion) later c.in_ok-statement.ensures.ok in
     let ranked = held_later s3 s4 i (λ st lib e. rank ≡ e.rank) c.test_proof.ensures.looks
     (ok_mapped _ _ _ _ _ c.in_ok-rank.was c.map_err-2.ensures.cases c.rank.ensures.ok) in
