@@ -1,5 +1,5 @@
 -- What adding a theorem answers: why it is refused, or the library that is shown with it.
-use Rattle.std.proofs.Common.{◌≡◌, ℕ, ◌+◌, ◌<◌, ◌≤◌, Bool, true, false, List, [], ◌∷◌, None, Err, length, map, refl, sym, ap, subst, ◌∙◌, inl, inr, arith, eqb, nat_eq}
+use Rattle.std.proofs.Common.{◌≡◌, ℕ, ◌<◌, true, false, List, [], ◌∷◌, None, Err, length, sym, ap, subst, ◌∙◌, inl, inr, arith, eqb, nat_eq}
 use mathlib.Core.Bool.{not}
 use Rattle.std.specs.Prelude.{◌==◌, nat_le}
 use Rattle.std.specs.List.{list_any, IsDistinct, AllByRecursion}
@@ -13,7 +13,6 @@ use Rattle.mmsyntax.proofs.Distinct.{or_false}
 use Rattle.library.specs.declared.library.Ranked.{Ranked}
 use Rattle.library.specs.declared.command.Command.TheVariants as command
 use Rattle.library.specs.declared.command.Reply.TheVariants.{Done}
-use Rattle.library.specs.declared.reason.Reason.{Reason}
 use Rattle.library.specs.declared.reason.Reason.TheVariants as reason
 use Rattle.library.specs.Library.{Setting}
 use Rattle.library.specs.Edits.{Tests, has, added, done, where_so, is_axiom, bad_label, label_taken, cites_unknown, cited_not_lower, proof_fails, tested, edit}
@@ -28,7 +27,7 @@ use Rattle.cells.specs.Filling.{MayFill, Fills}
 use Rattle.cells.proofs.Members.{mapped_has, cases_has, none_absent}
 use Rattle.cells.proofs.Holding.{held_name, empty_free}
 use Rattle.cells.proofs.Found.{length_held}
-use Rattle.cells.proofs.Sights.{for_each_later, views_back, matches_back, looks_trans}
+use Rattle.cells.proofs.Sights.{views_back, matches_back, looks_trans}
 use Rattle.commands.specs.Answers.{Does, IsRefused, CommandAnswers}
 use Rattle.commands.specs.declared.ending.CommandError.{CommandError}
 use Rattle.commands.specs.declared.ending.CommandError.TheVariants.{Stopped, Refused, NoMemory}

@@ -1,13 +1,12 @@
 -- The tests of a theorem's proof, by the steps as they are stored and the frames that they cite.
-use Rattle.std.proofs.Common.{◌≡◌, ◌≢◌, ℕ, ◌<◌, Bool, true, false, List, [], ◌∷◌, Option, Some, None, Ok, Err, length, map, refl, sym, ap, subst, ◌∙◌, inl, inr, arith}
+use Rattle.std.proofs.Common.{◌≡◌, ◌≢◌, ℕ, ◌<◌, true, false, List, [], ◌∷◌, Option, Some, None, length, map, refl, sym, ap, subst, ◌∙◌, inl, inr, arith}
 use mathlib.Core.Bool.{not}
-use Rattle.std.specs.Prelude.{nat_le, Contains}
+use Rattle.std.specs.Prelude.{nat_le}
 use Rattle.std.specs.Option.{option_map}
 use Rattle.std.specs.List.{list_any}
 use Rattle.std.specs.Str.{bytes_eq}
 use Rattle.std.proofs.lemmas.Bool.{both_ways, or_from, leb-false, false_from_ne_true}
 use Rattle.mmsyntax.specs.declared.statement.Assertion.{Assertion}
-use Rattle.mmsyntax.specs.declared.statement.Frame.{Frame}
 use Rattle.mmsyntax.specs.declared.statement.Step.{Step}
 use Rattle.mmsyntax.specs.declared.statement.Step.TheVariants.{Float, Hyp, Cite}
 use Rattle.mmsyntax.specs.Assertions.{Distinct}
@@ -22,7 +21,7 @@ use Rattle.library.specs.declared.library.Ranked.{Ranked}
 use Rattle.library.specs.declared.reason.Reason.{Reason}
 use Rattle.library.specs.declared.reason.Reason.TheVariants.{CitesUnknown, CitedNotLower, ProofFails}
 use Rattle.library.specs.Library.{Setting, label_of, lower, citable}
-use Rattle.library.specs.Edits.{Tests, Edited, has, found, where_so, is_of_unknown, is_not_below, cites_not_below, fault_of, cites_unknown, cited_not_lower, proof_fails, tested}
+use Rattle.library.specs.Edits.{Tests, Edited, found, is_of_unknown, is_not_below, cites_not_below, fault_of, cited_not_lower, proof_fails, tested}
 use Rattle.library.proofs.Frames.{frame_given}
 use Rattle.library.proofs.Lower.{lower_has, lower_distinct}
 use Rattle.library.proofs.Places.{found_in}
@@ -32,9 +31,9 @@ use Rattle.bodystore.specs.declared.stored.StoredStep.TheVariants as stored
 use Rattle.cells.specs.State.{State, most_words}
 use Rattle.cells.specs.Shows.{IsNamed, IsStoredAs, AreStoredAs, Shows}
 use Rattle.cells.specs.Sight.{Sight, Views, Looks, after}
-use Rattle.cells.specs.Lookups.{ForEach, AreWithin, IsFoundAt, Resolves}
+use Rattle.cells.specs.Lookups.{ForEach, AreWithin, Resolves}
 use Rattle.cells.proofs.Members.{any_has, has_from_contains}
-use Rattle.cells.proofs.Sights.{for_each_later, views_back, after_looks, looks_trans}
+use Rattle.cells.proofs.Sights.{for_each_later, looks_trans}
 use Rattle.cells.proofs.Settings.{same_slots}
 use Rattle.cells.proofs.Holders.{found_at}
 use Rattle.cells.proofs.Holding.{named_has}

@@ -1,16 +1,13 @@
-use Rattle.std.proofs.Common.{◌≡◌, ◌∙◌, ◌<◌, ℕ, List, Option, Some, None, Err, true, false, [], refl, sym, ap, subst}
+use Rattle.std.proofs.Common.{◌≡◌, ◌∙◌, ◌<◌, ℕ, List, Some, None, Err, true, refl, sym, ap, subst}
 use Rattle.std.proofs.lemmas.Bool.{ne_eqb}
 use Rattle.std.proofs.lemmas.Result.{err_from_is_err_and}
 use Rattle.mmsyntax.specs.Tables.{Tables}
 use Rattle.mmsyntax.specs.Assertions.{is_lawful_label}
-use Rattle.mmsyntax.specs.declared.statement.Kind.TheVariants.{Axiom, Theorem}
-use Rattle.library.specs.declared.library.Ranked.{Ranked}
 use Rattle.library.specs.declared.command.Command.TheVariants as command
 use Rattle.library.specs.declared.reason.Reason.TheVariants as reason
-use Rattle.library.specs.Edits.{has}
-use Rattle.cells.specs.Lookups.{Finds, FindsFree, ForEach, IsFirstEmpty}
+use Rattle.cells.specs.Lookups.{Finds, FindsFree}
 use Rattle.cells.specs.Filling.{IsFillable}
-use Rattle.cells.proofs.Sights.{onward_trans, looks_trans}
+use Rattle.cells.proofs.Sights.{onward_trans}
 use Rattle.cells.proofs.Settings.{same_slots}
 use Rattle.cells.proofs.Laying.{ok_mapped}
 use Rattle.commands.specs.Answers.{CommandAnswers}

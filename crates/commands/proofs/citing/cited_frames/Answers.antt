@@ -1,16 +1,16 @@
-use Rattle.std.proofs.Common.{rules, ◌≡◌, ◌∙◌, ◌<◌, ◌+◌, ℕ, List, ◌∷◌, [], None, length, get_or, sym, ap, subst, arith}
+use Rattle.std.proofs.Common.{rules, ◌≡◌, ◌∙◌, ◌<◌, ℕ, ◌∷◌, [], length, sym, subst}
 use Rattle.std.specs.Slice.Iter.{iter_rest}
 use Rattle.std.specs.Iterator.Adapters.{zip_first, zip_second}
 use Rattle.std.proofs.lemmas.Slice.Zip.{zip_turn, zip_end}
 use Rattle.std.proofs.Common.{length-append}
-use Rattle.mmsyntax.specs.declared.statement.Step.TheVariants.{Float, Cite}
+use Rattle.mmsyntax.specs.declared.statement.Step.TheVariants.{Float}
 use Rattle.bodystore.specs.declared.stored.StoredStep.TheVariants as stored
 use Rattle.ranges.specs.Ranges.{Has}
 use Rattle.cells.proofs.Members.{has_from_contains}
-use Rattle.cells.proofs.Sights.{looks_refl, looks_trans}
+use Rattle.cells.proofs.Sights.{looks_trans}
 use Rattle.cells.proofs.Settings.{same_slots}
 use Rattle.commands.specs.Citing.{frames_in}
-use Rattle.commands.proofs.NotedFrames.{FirstAreNoted, none_noted, noted_more, noted_past, all_noted}
+use Rattle.commands.proofs.NotedFrames.{FirstAreNoted, noted_more, noted_past, all_noted}
 use Rattle.commands.proofs.citing.cited_frames.Goals as goal
 
 pub note_frame-requires : goal.note_frame-requires

@@ -1,8 +1,7 @@
-use Rattle.std.proofs.Common.{◌≡◌, ◌∙◌, ◌+◌, ◌<◌, ◌≤◌, true, false, length, get_or, sym, ap, subst, arith}
-use Rattle.std.specs.Prelude.{nat_le}
+use Rattle.std.proofs.Common.{◌∙◌, ◌+◌, ◌<◌, true, false, length, get_or, sym, ap, subst, arith}
 use Rattle.std.proofs.lemmas.Bool.{le-leb, lt-leb}
 use Rattle.bodystore.specs.declared.stored.StoredStep.{StoredStep}
-use Rattle.bodystore.specs.declared.stored.StoredStep.TheVariants.{Float, Slot}
+use Rattle.bodystore.specs.declared.stored.StoredStep.TheVariants.{Float}
 use Rattle.cells.specs.Sight.{Sight, Looks}
 use Rattle.cells.proofs.Sights.{looks_refl, looks_trans}
 use Rattle.cells.proofs.Settings.{same_slots}
