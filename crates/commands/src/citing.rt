@@ -20,8 +20,8 @@ use std::collections::BTreeMap;
 ///
 /// # Errors
 ///
-/// In this order: a step cites a label that no assertion has, or one that isn't below the rank; the first fault of the proof. The run is stopped, or
-/// memory ran out.
+/// In this order: a step cites a label that no assertion has, or one that isn't below the rank; the first fault of the proof. The run is
+/// stopped, or memory ran out.
 pub(crate) fn test_proof<C: Cells>(
     alloc: Global,
     prelude: &Prelude,
