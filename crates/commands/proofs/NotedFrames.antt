@@ -1,5 +1,5 @@
 -- The frames that are noted along the steps of a proof, by the labels that the steps cite.
-use Rattle.std.proofs.Common.{◌≡◌, ◌≢◌, ◌⊎◌, ℕ, ◌+◌, ◌<◌, true, false, List, [], ◌∷◌, ◌++◌, Option, Some, None, length, get_or, take}
+use Rattle.std.proofs.Common.{◌≡◌, ◌≢◌, ◌⊎◌, ℕ, ◌+◌, ◌<◌, true, false, List, [], ◌∷◌, Option, Some, None, length, get_or, take}
 use Rattle.std.proofs.Common.{refl, sym, ap, subst, ◌∙◌, inl, inr, arith}
 use Rattle.std.specs.Prelude.{min}
 use Rattle.std.specs.Option.{option_map, is_some}
@@ -20,13 +20,13 @@ use Rattle.library.proofs.Places.{found_in}
 use Rattle.ranges.specs.Ranges.{Has}
 use Rattle.bodystore.specs.declared.stored.StoredStep.{StoredStep}
 use Rattle.bodystore.specs.declared.stored.StoredStep.TheVariants as stored
-use Rattle.cells.specs.Shows.{IsNamed, IsStoredAs, AreStoredAs}
+use Rattle.cells.specs.Shows.{IsNamed, IsStoredAs}
 use Rattle.cells.specs.Sight.{Sight, Looks, after}
-use Rattle.cells.specs.Lookups.{ForEach, ForEachHeld}
+use Rattle.cells.specs.Lookups.{ForEachHeld}
 use Rattle.cells.proofs.Members.{has_append_cases}
 use Rattle.cells.proofs.Holders.{found_at}
 use Rattle.cells.proofs.ReadBack.{zip_at}
-use Rattle.commands.specs.Citing.{ForEachStored, AreFrames, NotesFrame}
+use Rattle.commands.specs.Citing.{ForEachStored, NotesFrame, TellsFrames}
 use Rattle.commands.proofs.CitedRanks.{stored_later}
 
 -- ---- one frame
@@ -165,7 +165,7 @@ noted_past s t steps kept i frames d e each lt other = λ st lib v xs are_stored
 -- at the end
 pub all_noted : (s : Sight) (t : Tables) (steps : List Step) (kept : List StoredStep) (i : ℕ) (frames : Citable)
     → i ≡ min (length steps) (length kept) → FirstAreNoted s t steps kept i frames
-    → ForEach s (λ st lib. AreStoredAs s.setting.slots st steps kept → AreFrames t lib steps frames)
+    → TellsFrames s t steps kept frames
 all_noted s t steps kept i frames n each = λ st lib v are_stored label h.
     let long = AllZip-long (IsStoredAs (IsNamed s.setting.slots (after s st))) steps kept are_stored in
     let all : take i steps ≡ steps = take_all i steps (omega (arith, long, n)) in

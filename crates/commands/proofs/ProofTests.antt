@@ -39,7 +39,7 @@ use Rattle.cells.proofs.Sights.{for_each_later, looks_trans}
 use Rattle.cells.proofs.Settings.{same_slots}
 use Rattle.cells.proofs.Holders.{found_at}
 use Rattle.cells.proofs.Holding.{named_has}
-use Rattle.commands.specs.Citing.{TellsNotBelow, AreFrames, TellsFault, Passes, Fails, proof_tests}
+use Rattle.commands.specs.Citing.{TellsNotBelow, AreFrames, TellsFrames, TellsFault, Passes, Fails, proof_tests}
 use Rattle.commands.proofs.CitedRanks.{stored_later}
 use Rattle.commands.proofs.Refusing.{first_refuses, first_passes}
 
@@ -118,7 +118,8 @@ pub past_unknown : (s : Sight) (rank : ℕ) (a : Assertion) (kept : List StoredS
     ≡ tested (cited_not_lower lib rank a.proof ∷ proof_fails s.setting lib rank a ∷ more) edited
 past_unknown s rank a kept st lib v are more edited =
     first_passes (list_any (is_of_unknown lib) a.proof) CitesUnknown
-    (cited_not_lower lib rank a.proof ∷ proof_fails s.setting lib rank a ∷ more) edited (none_unknown s.setting.slots (after s st) lib v.shows v.matches.store a.proof kept are)
+    (cited_not_lower lib rank a.proof ∷ proof_fails s.setting lib rank a ∷ more) edited
+    (none_unknown s.setting.slots (after s st) lib v.shows v.matches.store a.proof kept are)
 
 -- the steps that are resolved go on to be stored so
 pub stored_on : (s t : Sight) (steps : List Step) (kept : List StoredStep) → Looks s t
@@ -141,7 +142,7 @@ pub record IsSifted (s : Sight) (t : Tables) (rank : ℕ) (a : Assertion) (kept 
   pub same_prelude : t ≡ s.setting.prelude
   pub stored : ForEach s (λ st lib. AreStoredAs s.setting.slots st a.proof kept)
   pub below : TellsNotBelow s rank kept false
-  pub are_frames : ForEach s (λ st lib. AreStoredAs s.setting.slots st a.proof kept → AreFrames t lib a.proof frames)
+  pub are_frames : TellsFrames s t a.proof kept frames
 
 -- behind them the fault over the frames decides
 pub sifted_tests : (s : Sight) (t : Tables) (rank : ℕ) (a : Assertion) (kept : List StoredStep) (frames : Citable)
@@ -188,7 +189,7 @@ pub sifted : (s0 s1 s2 s3 : Sight) (t : Tables) (rank : ℕ) (a : Assertion) (st
     (frames : Citable)
     → t ≡ s0.setting.prelude → Looks s0 s1 → Looks s1 s2 → Looks s2 s3 → steps ≡ a.proof → first ≡ kept → second ≡ kept
     → Resolves s1 a.proof (Some kept) → TellsNotBelow s2 rank first false
-    → ForEach s3 (λ st lib. AreStoredAs s3.setting.slots st steps second → AreFrames t lib steps frames) → IsSifted s3 t rank a kept frames
+    → TellsFrames s3 t steps second frames → IsSifted s3 t rank a kept frames
 sifted s0 s1 s2 s3 t rank a steps kept first second frames prelude looks1 looks2 looks3 own is_first is_second resolved below noted =
     let later = looks_trans s1 s2 s3 looks2 looks3 in
     let all = looks_trans s0 s1 s3 looks1 later in
@@ -197,8 +198,6 @@ sifted s0 s1 s2 s3 t rank a steps kept first second frames prelude looks1 looks2
       stored = stored_on s1 s3 a.proof kept later resolved.2;
       below = stored_later s2 s3 kept (λ lib xs. false ≡ list_any (cites_not_below lib rank) xs) looks3
           (subst (λ (ks : List StoredStep). TellsNotBelow s2 rank ks false) is_first below);
-      are_frames =
-          subst (λ (xs : List Step). ForEach s3 (λ st lib. AreStoredAs s3.setting.slots st xs kept → AreFrames t lib xs frames)) own
-          (subst (λ (ks : List StoredStep). ForEach s3 (λ st lib. AreStoredAs s3.setting.slots st steps ks → AreFrames t lib steps frames))
-          is_second noted);
+      are_frames = subst (λ (xs : List Step). TellsFrames s3 t xs kept frames) own
+          (subst (λ (ks : List StoredStep). TellsFrames s3 t steps ks frames) is_second noted);
     }
