@@ -2,7 +2,7 @@
 
 ghost use Rattle.std.specs.Prelude.{◌≡◌, ◌≢◌, ◌≤◌, ◌<◌, ◌*◌, ◌+◌, ◌↔◌, [], length, IfOk, IfErr, IsTrue, MatchOption};
 ghost use Rattle.proofcheck.specs.Databases.{AllCheck};
-ghost use Rattle.cells.specs.Plain.{body_length, bodies_length};
+ghost use Rattle.cells.specs.Measures.{body_length, bodies_length};
 ghost use Rattle.bodystore.specs.Bodies.{expressions_words};
 ghost use Rattle.cells.specs.Opening.{Opens, front, Refuses};
 
@@ -11,15 +11,19 @@ use crate::plain::PlainCells;
 use crate::reading::resolve;
 use mmstatement::{Assertion, Database, Expr};
 use std::alloc::{AllocError, Global};
+use thiserror::Error;
 
 /// Why a database is not opened as a library in cells.
-#[derive(Clone, Copy, Debug, PartialEq, Eq)]
+#[derive(Clone, Copy, Debug, PartialEq, Eq, Error)]
 pub enum OpenError {
     /// It has more assertions than slots.
+    #[error("more assertions than slots")]
     TooMany,
     /// The bodies of its assertions have more words than the store.
+    #[error("the bodies of the assertions have more words than the store")]
     StoreFull,
     /// Memory ran out.
+    #[error("out of memory")]
     NoMemory,
 }
 
