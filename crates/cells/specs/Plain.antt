@@ -1,5 +1,5 @@
 -- Of the code's inside, apart from the rules: cells on plain vectors: what they hold at all times, and what their run has seen.
-use Rattle.std.specs.Prelude.{◌≡◌, ◌<◌, ◌≤◌, ℕ, suc, ◌+◌, ◌||◌, ◌==◌, Bool, true, List, [], ◌∷◌, length, map, take, drop, slice_get, slice_set, slice_index, Some}
+use Rattle.std.specs.Prelude.{◌≡◌, ◌<◌, ◌≤◌, ℕ, suc, ◌+◌, ◌||◌, ◌==◌, Bool, true, if◌then◌else◌, List, [], ◌∷◌, ◌++◌, length, map, take, drop, slice_get, slice_set, slice_index, Some}
 use Rattle.std.specs.List.{list_any}
 use Rattle.library.specs.declared.library.Ranked.{Ranked}
 use Rattle.library.specs.Library.{Setting, Verifies}
@@ -37,8 +37,12 @@ ranges_in store places = map (range_in store) places
 abbrev pub behind : List ℕ → List ℕ → Place
 behind store words = record { start = length store; len = length words }
 
--- what the run has seen: it knows all ranges; it has read the cells of its log; it keeps aside all values as they are now; and the words that
--- were taken are those of the store
+-- a place behind others, where it was put there
+abbrev pub with_place : Bool → List Place → Place → List Place
+with_place put places place = if put then places ++ place ∷ [] else places
+
+-- what the run has seen: it knows all ranges; it has read the cells of its log; it keeps aside all values as they are now; and the words
+-- that were taken are those of the store
 abbrev pub plain_sight : Setting → ℕ → List ℕ → Pairs → List ℕ → List Place → Sight
 plain_sight setting room values log store places =
     record {

@@ -3,7 +3,7 @@
 ghost use Rattle.std.specs.Prelude.{◌≡◌, ◌≢◌, ◌≤◌, ◌<◌, ◌*◌, ◌+◌, ◌++◌, ◌↔◌, [], ◌∷◌, length, slice_index, is_ok, if◌then◌else◌, IfOk, IfErr, IsErrOf};
 ghost use Rattle.cells.specs.Sight.{Looks, Stages};
 ghost use Rattle.cells.specs.Slots.{cell_count};
-ghost use Rattle.cells.specs.Plain.{undone, ranges_in, ShowsSome, BeganWithSome, HoldNames, LieInStore, IsLogOf, behind};
+ghost use Rattle.cells.specs.Plain.{undone, ranges_in, ShowsSome, BeganWithSome, HoldNames, LieInStore, IsLogOf, behind, with_place};
 
 use crate::cells::Cells;
 use mmstatement::Prelude;
@@ -161,7 +161,7 @@ fn put_behind(
 ) -> Result<Range, AllocError>
     ensures range { IfOk result (λ range. range ≡ behind store.old.items words.now) }
     ensures store { store.new.items ≡ (if is_ok result then store.old.items ++ words.now else store.old.items) }
-    ensures ranges { ranges.new.items ≡ (if is_ok result then ranges.old.items ++ behind store.old.items words.now ∷ [] else ranges.old.items) }
+    ensures ranges { ranges.new.items ≡ with_place (is_ok result) ranges.old.items (behind store.old.items words.now) }
 {
     let range = Range {
         start: store.len(),
