@@ -1,5 +1,5 @@
 -- What a run over plain cells does to the library that they show.
-use Rattle.std.proofs.Common.{◌≡◌, List, Result, Ok, Err, All, refl, sym, ap, subst}
+use Rattle.std.proofs.Common.{◌≡◌, List, [], Result, Ok, Err, All, refl, sym, ap, subst}
 use mathlib.Core.Logic.{∥_∥₁, ∣_∣₁, ∥∥₁_map}
 use Rattle.library.specs.declared.library.Ranked.{Ranked}
 use Rattle.library.specs.declared.command.Command.{Command}
@@ -13,11 +13,13 @@ use Rattle.cells.specs.declared.plain.PlainCells.{PlainCells}
 use Rattle.cells.specs.State.{State}
 use Rattle.cells.specs.Shows.{Shows}
 use Rattle.cells.specs.Sight.{Views, Onward}
-use Rattle.cells.specs.Plain.{plain_state}
+use Rattle.cells.specs.Plain.{plain_state, undone}
+use Rattle.cells.specs.PlainViews.{setting_of, sight_of, first_state}
+use Rattle.ranges.specs.Pairs.{Pairs}
 use Rattle.cells.proofs.Sights.{matches_back}
-use Rattle.cells.proofs.Opened.{sight_of, first_state, first_matches, after_first, later_views}
+use Rattle.cells.proofs.Opened.{first_matches, after_first, later_views}
 use Rattle.commands.specs.Answers.{DoesAll, RefusesAll}
-use Rattle.pairs.specs.InCells.{setting_of, ShowsNow, ShowsSomeNow}
+use Rattle.pairs.specs.InCells.{ShowsNow, ShowsSomeNow}
 
 -- a library that is shown is one that is
 pub shows_some : (c : PlainCells) (lib : List Ranked) → ShowsNow c lib → ShowsSomeNow c
@@ -53,3 +55,12 @@ pub done_shows_some : (c d : PlainCells) (cs : List Command) (replies : List Rep
 done_shows_some c d cs replies onward fits does shown =
     ∥∥₁_map shown (λ s.
     let r = done_shows c d cs replies onward fits does s.0 (record { shows = s.1; verifies = s.2 }) in (r.0, r.2.shows, r.2.verifies))
+
+-- cells that begin a run show some library
+pub begun_shows : (c : PlainCells) → c.log.items ≡ [] → ShowsSomeNow c
+begun_shows c none =
+    ∥∥₁_map c.began (λ b. (
+      b.0,
+      subst (λ (log : Pairs). Shows c.slots (plain_state (undone c.values.items log) c.store.items c.ranges.items) b.0) none b.1.shows,
+      b.1.verifies,
+    ))
