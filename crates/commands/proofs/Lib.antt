@@ -12,5 +12,5 @@ pub mod Looking
 pub mod Holders
 pub mod Below
 pub mod Lines
-pub mod Transactions
 pub mod Citers
+pub mod Ranking
