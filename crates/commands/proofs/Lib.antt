@@ -8,6 +8,9 @@ pub mod Restepping
 pub mod ByteKeys
 pub mod Outcomes
 pub mod CitedRanks
+pub mod NotedFrames
+pub mod ProofTests
+pub mod Added
 pub mod Looking
 pub mod Holders
 pub mod Below

@@ -22,7 +22,6 @@ use Rattle.library.specs.Library.{label_of}
 use Rattle.library.specs.Edits.{Tests, Edited, found, cites, cites_not_below, fault_of, cites_unknown, cited_not_lower, proof_fails, tested}
 use Rattle.ranges.specs.Ranges.{Has}
 use Rattle.bodystore.specs.declared.stored.StoredStep.{StoredStep}
-use Rattle.cells.specs.State.{State}
 use Rattle.cells.specs.Shows.{AreStoredAs, Holds}
 use Rattle.cells.specs.Sight.{Sight}
 use Rattle.cells.specs.Lookups.{ForEach, ForEachHeld, AreWithin}

@@ -100,9 +100,13 @@ fn cited_frames<C: Cells>(
 {
     let mut by_label = BTreeMap::new(alloc);
     for (step, stored) in steps.iter().zip(kept) {
-        if let (Step::Cite(label), StoredStep::Slot(slot)) = (step, stored) {
-            note_frame(alloc, prelude, cells, &mut by_label, label, *slot as usize)?;
-        }
+        let Step::Cite(label) = step else {
+            continue;
+        };
+        let StoredStep::Slot(slot) = stored else {
+            continue;
+        };
+        note_frame(alloc, prelude, cells, &mut by_label, label, *slot as usize)?;
     }
     Ok(CitedFrames { by_label })
 }

@@ -1,8 +1,7 @@
-use Rattle.std.proofs.Common.{◌≡◌, ◌∙◌, ◌+◌, ◌<◌, ◌≤◌, true, false, length, get_or, sym, ap, subst, arith}
-use Rattle.std.specs.Prelude.{nat_le}
+use Rattle.std.proofs.Common.{◌∙◌, ◌+◌, ◌<◌, true, false, length, get_or, sym, ap, subst, arith}
 use Rattle.std.proofs.lemmas.Bool.{le-leb, lt-leb}
 use Rattle.bodystore.specs.declared.stored.StoredStep.{StoredStep}
-use Rattle.bodystore.specs.declared.stored.StoredStep.TheVariants.{Float, Slot}
+use Rattle.bodystore.specs.declared.stored.StoredStep.TheVariants.{Float}
 use Rattle.cells.specs.Sight.{Sight, Looks}
 use Rattle.cells.proofs.Sights.{looks_refl, looks_trans}
 use Rattle.cells.proofs.Settings.{same_slots}
@@ -45,20 +44,26 @@ loop-step-preserved g c =
                 let s = g.C.Cells.sight w'.rank.new.cells in
                 let one = ranked_below s limit slot w'.in_ok-rank.field-0 false w'.in_ok-rank.ensures.ok
                 (lt-leb limit w'.in_ok-rank.field-0 w'.if-branch.false) in
-                subst Q (sym (ap (λ x. g.C.Cells.sight x) (w.cells-is ∙ w'.cells-is)))
-                (looks_trans _ _ _ looks w'.rank.ensures.looks, below_more now s limit i kept (Float 0) w'.rank.ensures.looks below lt
-                (subst (λ (x : StoredStep). IsNotBelow s limit x false) (sym w.in-Slot.is) one))
+                subst Q (sym (ap (λ x. g.C.Cells.sight x) (w.cells-is ∙ w'.cells-is))) (
+                  looks_trans _ _ _ looks w'.rank.ensures.looks,
+                  below_more now s limit i kept (Float 0) w'.rank.ensures.looks below lt
+                      (subst (λ (x : StoredStep). IsNotBelow s limit x false) (sym w.in-Slot.is) one),
+                )
             | else-slot-slots-via-else-slot-slots w' ↦
                 let one = past_below now limit slot false (λ z. let n = c.slot_count-slots.ensures.value in let m = same_slots old now looks in
-                    let k = w'.if-slot-slots.false in omega (arith, n, m, k, z)) in
-                subst Q (sym (ap (λ x. g.C.Cells.sight x) (w.cells-is ∙ w'.cells-is)))
-                (looks, below_more now now limit i kept (Float 0) (looks_refl now) below lt
-                (subst (λ (x : StoredStep). IsNotBelow now limit x false) (sym w.in-Slot.is) one))
+                let k = w'.if-slot-slots.false in omega (arith, n, m, k, z)) in
+                subst Q (sym (ap (λ x. g.C.Cells.sight x) (w.cells-is ∙ w'.cells-is))) (
+                  looks,
+                  below_more now now limit i kept (Float 0) (looks_refl now) below lt
+                      (subst (λ (x : StoredStep). IsNotBelow now limit x false) (sym w.in-Slot.is) one),
+                )
           ]
       | in_default w ↦
-          subst Q (sym (ap (λ x. g.C.Cells.sight x) w.cells-is))
-          (looks, below_more now now limit i kept (Float 0) (looks_refl now) below lt
-          (uncited_below now limit (get_or kept i (Float 0)) w.in_default.not-Slot))
+          subst Q (sym (ap (λ x. g.C.Cells.sight x) w.cells-is)) (
+            looks,
+            below_more now now limit i kept (Float 0) (looks_refl now) below lt
+                (uncited_below now limit (get_or kept i (Float 0)) w.in_default.not-Slot),
+          )
     ]
 
 pub returns-clause-ok : goal.returns-clause-ok

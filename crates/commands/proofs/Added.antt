@@ -1,0 +1,182 @@
+-- What adding a theorem answers: why it is refused, or the library that is shown with it.
+use Rattle.std.proofs.Common.{◌≡◌, ℕ, ◌<◌, true, false, List, [], ◌∷◌, None, Err, length, sym, ap, subst, ◌∙◌, inl, inr, arith, eqb, nat_eq}
+use mathlib.Core.Bool.{not}
+use Rattle.std.specs.Prelude.{◌==◌, nat_le}
+use Rattle.std.specs.List.{list_any, IsDistinct, AllByRecursion}
+use Rattle.std.proofs.lemmas.Bool.{both_ways, le-leb, lt-leb}
+use Rattle.std.proofs.lemmas.List.{length-map}
+use Rattle.std.proofs.lemmas.Map.Steps.{length-le_from_distinct_below}
+use Rattle.mmsyntax.specs.declared.statement.Assertion.{Assertion}
+use Rattle.mmsyntax.specs.declared.statement.Kind.TheVariants.{Axiom, Theorem}
+use Rattle.mmsyntax.specs.Assertions.{Distinct, is_lawful_label}
+use Rattle.mmsyntax.proofs.Distinct.{or_false}
+use Rattle.library.specs.declared.library.Ranked.{Ranked}
+use Rattle.library.specs.declared.command.Command.TheVariants as command
+use Rattle.library.specs.declared.command.Reply.TheVariants.{Done}
+use Rattle.library.specs.declared.reason.Reason.TheVariants as reason
+use Rattle.library.specs.Library.{Setting}
+use Rattle.library.specs.Edits.{Tests, has, added, done, where_so, is_axiom, bad_label, label_taken, cites_unknown, cited_not_lower, proof_fails, tested, edit}
+use Rattle.ranges.specs.Ranges.{Has, AreOfOneStore}
+use Rattle.bodystore.specs.declared.stored.StoredStep.{StoredStep}
+use Rattle.cells.specs.State.{State, most_words}
+use Rattle.cells.specs.Slots.{name_cell}
+use Rattle.cells.specs.Shows.{Held, slots_of, IsEmpty, AreStoredAs, Shows}
+use Rattle.cells.specs.Sight.{Sight, WasWritten, Matches, Views, Looks, Onward, after}
+use Rattle.cells.specs.Lookups.{ForEach, FindsFree, IsFirstEmpty}
+use Rattle.cells.specs.Filling.{MayFill, Fills}
+use Rattle.cells.proofs.Members.{mapped_has, cases_has, none_absent}
+use Rattle.cells.proofs.Holding.{held_name, empty_free}
+use Rattle.cells.proofs.Found.{length_held}
+use Rattle.cells.proofs.Sights.{views_back, matches_back, looks_trans}
+use Rattle.commands.specs.Answers.{Does, IsRefused, CommandAnswers}
+use Rattle.commands.specs.declared.ending.CommandError.{CommandError}
+use Rattle.commands.specs.declared.ending.CommandError.TheVariants.{Stopped, Refused, NoMemory}
+use Rattle.commands.specs.Citing.{Passes, TellsRefusal}
+use Rattle.commands.proofs.Seeing.{views_later}
+use Rattle.commands.proofs.Refusing.{first_refuses, first_passes, refused}
+use Rattle.commands.proofs.ProofTests.{stored_on}
+
+-- ---- room
+
+none_each : (x : ℕ) (xs : List ℕ) → list_any (nat_eq x) xs ≡ false → AllByRecursion (λ y. eqb x y ≡ false) xs
+none_each x [] h = tt
+none_each x (y ∷ ys) h = let both = or_false (nat_eq x y) (list_any (nat_eq x) ys) h in (both.0, none_each x ys both.1)
+
+distinct_is : (xs : List ℕ) → Distinct nat_eq xs → IsDistinct eqb xs
+unfolding IsDistinct
+distinct_is [] h = tt
+distinct_is (x ∷ xs) h = (none_each x xs h.0, distinct_is xs h.1)
+
+-- where a slot is empty, there are fewer assertions than slots
+pub room_left : (slots : ℕ) (st : State) (lib : List Ranked) (shows : Shows slots st lib) → AreOfOneStore most_words st.ranges → (i : ℕ) → i < slots
+    → IsEmpty slots st i → length lib < slots
+room_left slots st lib shows store i lt empty =
+    let apart : Distinct nat_eq (i ∷ slots_of shows.held) =
+    (none_absent (slots_of shows.held) i (empty_free slots st lib shows store i empty), shows.apart) in
+    let n = length-le_from_distinct_below (i ∷ slots_of shows.held) slots (distinct_is (i ∷ slots_of shows.held) apart) below in
+    omega (arith, n, length-map shows.held (λ (p : Held). p.slot), length_held slots st lib shows)
+  where
+    within : (q : ℕ) → Has q (i ∷ slots_of shows.held) → q < slots
+    within q (inl is) = subst (λ n. n < slots) (sym is) lt
+    within q (inr h) =
+        let m = mapped_has (λ (p : Held). p.slot) shows.held q h in
+        let name = held_name slots st lib shows store m.0 m.1 in
+        subst (λ n. n < slots) (sym m.2) name.within
+
+    below : (q : ℕ) → list_any (eqb q) (i ∷ slots_of shows.held) ≡ true → q < slots
+    below q found =
+        elim (cases_has (i ∷ slots_of shows.held) q) [
+          | inl h ↦ within q h
+          | inr free ↦ absurd (both_ways (list_any (nat_eq q) (i ∷ slots_of shows.held)) (none_absent (i ∷ slots_of shows.held) q free) found)
+        ]
+
+-- ---- the tests
+
+module _ (s : Setting) (lib : List Ranked) (rank : ℕ) (a : Assertion) (ranked : (rank == 0) ≡ false) (lawful : is_lawful_label s.prelude a.label ≡ true) where
+  abbrev of_room : Tests
+  of_room = where_so (nat_le s.slots (length lib)) reason.LibraryFull ∷ []
+
+  abbrev of_proof : Tests
+  of_proof = cites_unknown lib a.proof ∷ cited_not_lower lib rank a.proof ∷ proof_fails s lib rank a ∷ of_room
+
+  abbrev of_kind : Tests
+  of_kind = where_so (is_axiom a.kind) reason.AxiomNotAllowed ∷ of_proof
+
+  to_taken : edit s lib (command.Add rank a) ≡ tested (label_taken lib a.label ∷ of_kind) (done (added lib rank a))
+  to_taken =
+      first_passes (rank == 0) reason.BadRank (bad_label s a.label ∷ label_taken lib a.label ∷ of_kind) (done (added lib rank a)) ranked
+      ∙ first_passes (not (is_lawful_label s.prelude a.label)) reason.BadLabel (label_taken lib a.label ∷ of_kind) (done (added lib rank a)) (ap not lawful)
+
+  pub add_taken : has lib a.label ≡ true → edit s lib (command.Add rank a) ≡ Err reason.LabelTaken
+  add_taken taken = to_taken ∙ first_refuses (has lib a.label) reason.LabelTaken of_kind (done (added lib rank a)) taken
+
+  to_kind : has lib a.label ≡ false → edit s lib (command.Add rank a) ≡ tested of_kind (done (added lib rank a))
+  to_kind new = to_taken ∙ first_passes (has lib a.label) reason.LabelTaken of_kind (done (added lib rank a)) new
+
+  pub add_axiom : has lib a.label ≡ false → a.kind ≡ Axiom → edit s lib (command.Add rank a) ≡ Err reason.AxiomNotAllowed
+  add_axiom new is = to_kind new ∙ first_refuses (is_axiom a.kind) reason.AxiomNotAllowed of_proof (done (added lib rank a)) (ap is_axiom is)
+
+  pub add_theorem : has lib a.label ≡ false → a.kind ≡ Theorem → edit s lib (command.Add rank a) ≡ tested of_proof (done (added lib rank a))
+  add_theorem new is = to_kind new ∙ first_passes (is_axiom a.kind) reason.AxiomNotAllowed of_proof (done (added lib rank a)) (ap is_axiom is)
+
+-- ---- behind the tests of the label and the kind
+
+-- what is known once these have passed: by the look-up of the label
+pub record MayTest (s t : Sight) (rank : ℕ) (a : Assertion) : Type 0 where
+  pub ranked : (rank == 0) ≡ false
+  pub lawful : is_lawful_label s.setting.prelude a.label ≡ true
+  pub theorem : a.kind ≡ Theorem
+  pub looks : Looks s t
+  pub new : ForEach t (λ st lib. has lib a.label ≡ false)
+
+-- the tests of the proof are those of the setting at the start
+module _ (s t u : Sight) (rank : ℕ) (a : Assertion) (may : MayTest s t rank a) (later : Looks t u) where
+  abbrev all_looks : Looks s u
+  all_looks = looks_trans s t u may.looks later
+
+  to_proof : (st : State) (lib : List Ranked) → Views u st lib
+      → edit s.setting lib (command.Add rank a) ≡ tested (of_proof u.setting lib rank a may.ranked
+      (subst (λ (x : Setting). is_lawful_label x.prelude a.label ≡ true) (sym all_looks.onward.setting) may.lawful)) (done (added lib rank a))
+  to_proof st lib v =
+      subst (λ (x : Setting). edit x lib (command.Add rank a) ≡ tested (cites_unknown lib a.proof ∷ cited_not_lower lib rank a.proof
+      ∷ proof_fails u.setting lib rank a ∷ where_so (nat_le u.setting.slots (length lib)) reason.LibraryFull ∷ []) (done (added lib rank a)))
+      all_looks.onward.setting
+      (add_theorem u.setting lib rank a may.ranked
+      (subst (λ (x : Setting). is_lawful_label x.prelude a.label ≡ true) (sym all_looks.onward.setting) may.lawful)
+      (may.new st lib (views_back t u st lib later v)) may.theorem)
+
+  -- a proof that is refused is why it is not added
+  pub add_refused : {S : Type 0} (error : CommandError S) → TellsRefusal u rank a error → CommandAnswers s u (command.Add rank a) (Err error)
+  add_refused (Stopped stop) tells = tt
+  add_refused NoMemory tells = tt
+  add_refused (Refused r) tells =
+      refused s u (command.Add rank a) r all_looks (λ st lib v.
+      to_proof st lib v
+      ∙ tells st lib v (where_so (nat_le u.setting.slots (length lib)) reason.LibraryFull ∷ []) (done (added lib rank a)))
+
+  module _ (kept : List StoredStep) (passes : Passes u rank a kept) (w : Sight) (on : Looks u w) where
+    -- behind a proof that passes only room is left to be tested
+    to_room : (st : State) (lib : List Ranked) → Views w st lib → edit s.setting lib (command.Add rank a)
+        ≡ tested (where_so (nat_le w.setting.slots (length lib)) reason.LibraryFull ∷ []) (done (added lib rank a))
+    to_room st lib v =
+        let before = views_back u w st lib on v in
+        to_proof st lib before
+        ∙ passes.passes st lib before (where_so (nat_le u.setting.slots (length lib)) reason.LibraryFull ∷ []) (done (added lib rank a))
+        ∙ ap (λ (x : Setting). tested (where_so (nat_le x.slots (length lib)) reason.LibraryFull ∷ []) (done (added lib rank a)))
+        (sym on.onward.setting)
+
+    pub add_full : (from : ℕ) → FindsFree w from None → IsRefused s w (command.Add rank a) reason.LibraryFull
+    add_full from full =
+        refused s w (command.Add rank a) reason.LibraryFull (looks_trans s u w all_looks on) (λ st lib v.
+        to_room st lib v
+        ∙ first_refuses (nat_le w.setting.slots (length lib)) reason.LibraryFull [] (done (added lib rank a))
+        (le-leb w.setting.slots (length lib) (full st lib v)))
+
+    -- in an empty slot it is added
+    pub add_done : (x : Sight) (from slot : ℕ) (steps : List StoredStep) → IsFirstEmpty w from slot → Onward w x → steps ≡ kept
+        → ((st : State) (lib : List Ranked) → Matches x st → (shown : Views w st lib) → MayFill w.setting.slots (after w st) lib slot a steps
+        → Fills w.setting.slots (after x st) lib shown.shows.held slot rank a)
+        → WasWritten x (name_cell slot) → Does s x (command.Add rank a) Done
+    add_done x from slot steps first onward same fills written =
+        record {
+          edits = λ st lib m v0.
+              let looks = looks_trans s u w all_looks on in
+              let v = views_later s w st lib looks (matches_back w x st onward m) v0 in
+              let slots = w.setting.slots in
+              let lt = room_left slots (after w st) lib v.shows v.matches.store slot first.within (first.empty st lib v) in
+              let before = views_back t u st lib later (views_back u w st lib on v) in
+              let stored = stored_on u w a.proof kept on passes.stored st lib v in
+              let may_fill : MayFill w.setting.slots (after w st) lib slot a steps =
+              record {
+                empty = first.empty st lib v;
+                new = may.new st lib before;
+                stored = subst (λ (ks : List StoredStep). AreStoredAs w.setting.slots (after w st) a.proof ks) (sym same) stored;
+              } in (
+                added lib rank a,
+                to_room st lib v ∙ first_passes (nat_le w.setting.slots (length lib)) reason.LibraryFull [] (done (added lib rank a))
+                    (lt-leb w.setting.slots (length lib) lt),
+                subst (λ (z : Setting). Shows z.slots (after x st) (added lib rank a)) (sym onward.setting)
+                    (fills st lib m v may_fill).0,
+              );
+          writes = (name_cell slot, written);
+        }
