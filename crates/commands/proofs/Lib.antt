@@ -17,3 +17,4 @@ pub mod Below
 pub mod Lines
 pub mod Citers
 pub mod Ranking
+pub mod Transactions
