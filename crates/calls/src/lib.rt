@@ -27,6 +27,8 @@ mod machine;
 #[cfg(test)]
 mod openings;
 #[cfg(test)]
+mod running;
+#[cfg(test)]
 mod shared;
 #[cfg(test)]
 mod slots;

@@ -4,12 +4,13 @@ ghost use Rattle.std.specs.Prelude.{◌≤◌};
 
 use crate::shared::{database, mini};
 use cells::{
-    Cells, OpenError, PlainCells, citers, entry, find, free_slot, is_full, kind, put_in, rank,
+    Cells, OpenError, PlainCells, bucket, citers, entry, find, free_slot, is_full, kind, put_in,
+    rank,
 };
 use mmstatement::{Kind, Prelude, fits, write_assertion};
 use proofcheck::check_all;
 use ranges::Range;
-use std::alloc::{AllocGlobal, Global};
+use std::alloc::{AllocError, AllocGlobal, Global};
 use std::random::RandomSource;
 use std::test::Fail;
 use std::thread::Threads;
@@ -48,7 +49,7 @@ fn opening(
 }
 
 /// The cells of a database whose proofs check and that has room.
-fn opened(
+pub(crate) fn opened(
     rt: &(impl AllocGlobal + RandomSource + Threads + Sync),
     text: &[u8],
     slots: usize,
@@ -64,7 +65,7 @@ fn opened(
 }
 
 /// The value of a cell, if there is such a cell.
-fn value_of(cells: &PlainCells, cell: usize) -> Option<u64> {
+pub(crate) fn value_of(cells: &PlainCells, cell: usize) -> Option<u64> {
     let slots = cells.slots();
     if slots <= 4096 && cell < 7 * slots {
         return Some(cells.value(cell));
@@ -144,7 +145,7 @@ fn fullness_of<C: Cells>(cells: &mut C, slot: usize) -> Option<bool> {
 }
 
 /// The first empty slot from a slot on, if there is one.
-fn free_from<C: Cells>(cells: &mut C, from: usize) -> Option<Option<usize>> {
+pub(crate) fn free_from<C: Cells>(cells: &mut C, from: usize) -> Option<Option<usize>> {
     if from < cells.slots() {
         free_slot(cells, from).ok()
     } else {
@@ -234,11 +235,17 @@ th1 $p |- t = t $= tt tze tpl tt weq tt tt weq tt a2 tt tze tpl tt weq tt tze tp
 "
 }
 
+/// The text of `examples/demo.mm`, in the canonical layout.
+pub(crate) fn demo(alloc: Global) -> Result<Vec<u8>, AllocError> {
+    let mut text = Vec::from_slice(alloc, demo_prelude())?;
+    text.extend_from_slice(demo_assertions())?;
+    Ok(text)
+}
+
 #[test]
 fn a_database_is_read_back(rt: HostRuntime) -> Result<(), Fail> {
     let alloc = rt.alloc();
-    let mut text = Vec::from_slice(alloc, demo_prelude())?;
-    text.extend_from_slice(demo_assertions())?;
+    let text = demo(alloc)?;
     // 9 + 13 + 11 + 13 + 22 + 14 + 18 words of the axioms, and 3 + 3 + 5 + 34 of the theorem
     let mut cells = opened(&rt, text.as_slice(), 8, 145)?;
     assert_eq!(rt; cells.taken(), 145);
@@ -277,11 +284,12 @@ fn what_is_undone_is_as_it_was(rt: HostRuntime) -> Result<(), Fail> {
     Ok(())
 }
 
-/// Cells of which each read is counted.
+/// Cells of which each read is counted, and each word that is loaded.
 #[derive(Drop)]
 struct Counted<C> {
     inner: C,
     reads: usize,
+    loads: usize,
 }
 
 impl<C: Cells> Cells for Counted<C> {
@@ -303,6 +311,7 @@ impl<C: Cells> Cells for Counted<C> {
     }
 
     fn load(&mut self, range: Range, index: usize) -> u64 {
+        self.loads = self.loads.saturating_add(1);
         self.inner.load(range, index)
     }
 
@@ -318,12 +327,61 @@ fn a_search_reads_along_one_chain(rt: HostRuntime) -> Result<(), Fail> {
     let mut cells = Counted {
         inner: opened(&rt, three(), 4, 35)?,
         reads: 0,
+        loads: 0,
     };
     // its bucket, and a name for each member up to the label's, with a next cell between each two; behind the last that too
     for (name, reads) in [("id", 2), ("th", 2), ("wc", 4), ("xx", 5)] {
         cells.reads = 0;
         let found = find(&mut cells, name.as_bytes());
         assert!(rt; found.is_ok() && cells.reads == reads, "of {name}");
+    }
+    Ok(())
+}
+
+/// So many axioms, with the labels `l0`, `l1` and so on.
+fn axioms(alloc: Global, count: usize) -> Result<Vec<u8>, AllocError> {
+    let mut text = Vec::from_slice(alloc, b"$c wff $.\n")?;
+    for number in 0..count {
+        text.extend_from_slice(format!(in alloc; "l{number} $a wff $.\n")?.as_bytes())?;
+    }
+    Ok(text)
+}
+
+/// How many labels each bucket has.
+fn bucket_lengths(alloc: Global, count: usize) -> Result<Vec<usize>, AllocError> {
+    let mut lengths = vec![in alloc; 0_usize; 4096]?;
+    for number in 0..count {
+        let label = format!(in alloc; "l{number}")?;
+        if let Some(length) = lengths.get_mut(bucket(label.as_bytes(), 4096)) {
+            *length = length.saturating_add(1);
+        }
+    }
+    Ok(lengths)
+}
+
+#[test]
+fn a_search_of_many_reads_one_chain(rt: HostRuntime) -> Result<(), Fail> {
+    let alloc = rt.alloc();
+    let lengths = bucket_lengths(alloc, 4000)?;
+    let mut cells = Counted {
+        inner: opened(&rt, axioms(alloc, 4000)?.as_slice(), 4096, 40_000)?,
+        reads: 0,
+        loads: 0,
+    };
+    for number in 0..4000_usize {
+        let label = format!(in alloc; "l{number}")?;
+        let length = *lengths
+            .get(bucket(label.as_bytes(), 4096))
+            .ok_or("a bucket")?;
+        cells.reads = 0;
+        cells.loads = 0;
+        let found = find(&mut cells, label.as_bytes());
+        assert!(rt; found == Ok(Some(number)), "of {label}");
+        // the bucket, then a name and a next cell for each member, and at most the five bytes of its label
+        assert!(rt;
+            length <= 4000 && cells.reads <= 1 + 2 * length && cells.loads <= 5 * length,
+            "of {label}"
+        );
     }
     Ok(())
 }

@@ -1,5 +1,5 @@
 -- A slot that is taken out of its chain, and one that is put into one, by the calls that do so, for a library that was seen before.
-use Rattle.std.proofs.Common.{◌≡◌, ℕ, ◌≤◌, List, ◌∷◌, length, sym, ap, subst, ◌∙◌, arith, nat_eq}
+use Rattle.std.proofs.Common.{◌≡◌, ℕ, ◌≤◌, List, ◌∷◌, length, sym, ap, subst, arith, nat_eq}
 use Rattle.mmsyntax.specs.Assertions.{Distinct}
 use Rattle.library.specs.declared.library.Ranked.{Ranked}
 use Rattle.library.specs.Library.{Setting, label_of}
@@ -14,8 +14,8 @@ use Rattle.cells.proofs.Found.{length_held, found_held, found_label}
 -- what the one call ensures
 abbrev pub TakesOut : Sight → Sight → ℕ → List ℕ → Type 0
 TakesOut s t i label =
-    (st : State) (held : List Held) (e : Ranked) → Matches t st → AreChained s.setting.slots (after s st) held → Distinct nat_eq (slots_of held)
-    → Has (record { slot = i; entry = e }) held → label_of e ≡ label → length held ≤ s.setting.slots
+    (st : State) (held : List Held) (e : Ranked) → Matches t st → AreChained s.setting.slots (after s st) held
+    → Distinct nat_eq (slots_of held) → Has (record { slot = i; entry = e }) held → label_of e ≡ label → length held ≤ s.setting.slots
     → Rechains s.setting.slots (after s st) (after t st) held (without_slot i held)
 
 -- and the other

@@ -5,6 +5,7 @@ pub mod Chaining
 pub mod Relabelling
 pub mod Removing
 pub mod Restepping
+pub mod Reproved
 pub mod ByteKeys
 pub mod Outcomes
 pub mod CitedRanks

@@ -1,14 +1,19 @@
 -- What an edit answers where its tests pass or one of them refuses it, and how a command over cells is refused.
-use Rattle.std.proofs.Common.{◌≡◌, ℕ, Bool, true, false, List, ◌∷◌, Option, Some, None, Result, Ok, Err, sym, ap, subst}
+use Rattle.std.proofs.Common.{◌≡◌, ℕ, Bool, true, false, List, ◌∷◌, Some, None, Result, Ok, Err, sym, ap, subst}
+use Rattle.std.specs.Result.{IsErrAnd}
 use Rattle.std.proofs.lemmas.Bool.{cond-true, cond-false}
+use Rattle.mmsyntax.specs.declared.statement.Assertion.{Assertion}
 use Rattle.library.specs.declared.library.Ranked.{Ranked}
 use Rattle.library.specs.declared.command.Command.{Command}
+use Rattle.library.specs.declared.command.Reply.{Reply}
 use Rattle.library.specs.declared.reason.Reason.{Reason}
 use Rattle.library.specs.declared.reason.Reason.TheVariants as reason
+use Rattle.library.specs.Library.{Setting}
 use Rattle.library.specs.Edits.{Edited, Tests, tested, where_so, of_found, found, edit}
 use Rattle.cells.specs.Sight.{Sight, Looks}
 use Rattle.cells.specs.Lookups.{ForEach}
 use Rattle.commands.specs.Answers.{IsRefused, CommandAnswers}
+use Rattle.commands.specs.Citing.{TellsRefusal, Fails}
 use Rattle.commands.specs.declared.ending.CommandError.{CommandError}
 use Rattle.commands.specs.declared.ending.CommandError.TheVariants as command
 use Rattle.commands.proofs.Seeing.{views_later}
@@ -20,7 +25,8 @@ pub first_refuses : (b : Bool) (r : Reason) (more : Tests) (edited : Edited) →
 first_refuses b r more edited h = ap (λ t. tested (t ∷ more) edited) (cond-true b (Some r) None h)
 
 -- the first test passes
-pub first_passes : (b : Bool) (r : Reason) (more : Tests) (edited : Edited) → b ≡ false → tested (where_so b r ∷ more) edited ≡ tested more edited
+pub first_passes : (b : Bool) (r : Reason) (more : Tests) (edited : Edited) → b ≡ false
+    → tested (where_so b r ∷ more) edited ≡ tested more edited
 first_passes b r more edited h = ap (λ t. tested (t ∷ more) edited) (cond-false b (Some r) None h)
 
 -- ---- labels
@@ -39,7 +45,26 @@ of_some lib label act e h = ap (λ o. of_found o act) h
 pub refused : (s t : Sight) (c : Command) (r : Reason) → Looks s t → ForEach t (λ st lib. edit s.setting lib c ≡ Err r) → IsRefused s t c r
 refused s t c r looks each = record { refuses = λ st lib m v. each st lib (views_later s t st lib looks m v); looks = looks }
 
+-- what is refused of every library by the setting of the later sight
+pub refused_later : (s t : Sight) (c : Command) (r : Reason) → Looks s t → ForEach t (λ st lib. edit t.setting lib c ≡ Err r)
+    → IsRefused s t c r
+refused_later s t c r looks each =
+    refused s t c r looks (λ st lib v. subst (λ (x : Setting). edit x lib c ≡ Err r) looks.onward.setting (each st lib v))
+
 -- so the answer is this reason
-pub answers_refused : {S : Type 0} (s t : Sight) (c : Command) (r : Reason) (error : CommandError S) → error ≡ command.Refused r → IsRefused s t c r
-    → CommandAnswers s t c (Err error)
+pub answers_refused : {S : Type 0} (s t : Sight) (c : Command) (r : Reason) (error : CommandError S) → error ≡ command.Refused r
+    → IsRefused s t c r → CommandAnswers s t c (Err error)
 answers_refused s t c r error is h = subst (λ e. CommandAnswers s t c (Err e)) (sym is) h
+
+-- the test of a proof that ended early ends the command: refused where a test refuses it
+pub answers_tested : {S : Type 0} (s t : Sight) (c : Command) (rank : ℕ) (a : Assertion) (result : Result Reply (CommandError S))
+    (error : CommandError S) → IsErrAnd result (λ e. e ≡ error) → TellsRefusal t rank a error
+    → ((r : Reason) → Fails t rank a r → IsRefused s t c r) → CommandAnswers s t c result
+answers_tested s t c rank a (Ok reply) error is tells refuses = absurd is
+answers_tested {S} s t c rank a (Err e) error is tells refuses =
+    subst (λ x. CommandAnswers s t c (Err x)) (sym is) (of_error error tells)
+  where
+    of_error : (error : CommandError S) → TellsRefusal t rank a error → CommandAnswers s t c (Err error)
+    of_error (command.Refused r) fails = refuses r fails
+    of_error (command.Stopped stop) fails = tt
+    of_error command.NoMemory fails = tt

@@ -1,8 +1,6 @@
 -- The slot of an assertion that has another label, and the tests of giving it one.
-use Rattle.std.proofs.Common.{◌≡◌, ◌≢◌, ℕ, true, false, List, [], ◌∷◌, Some, None, Result, Ok, Err, refl, sym, ap, subst, ◌∙◌}
-use Rattle.std.specs.Prelude.{IsTrue}
+use Rattle.std.proofs.Common.{◌≡◌, ◌≢◌, ℕ, true, false, List, [], ◌∷◌, Some, None, Ok, Err, refl, sym, ap, subst, ◌∙◌}
 use mathlib.Core.Bool.{not}
-use Rattle.mmsyntax.specs.Tables.{Tables}
 use Rattle.mmsyntax.specs.Assertions.{is_lawful_label}
 use Rattle.library.specs.declared.library.Ranked.{Ranked}
 use Rattle.library.specs.declared.command.Command.TheVariants as command
@@ -17,7 +15,7 @@ use Rattle.cells.specs.Shows.{Shows}
 use Rattle.cells.specs.Sight.{Sight, Matches, Onward, Looks, after}
 use Rattle.cells.specs.Lookups.{ForEach, Finds}
 use Rattle.cells.specs.Chains.{without_slot}
-use Rattle.cells.proofs.Sights.{onward_trans, matches_back}
+use Rattle.cells.proofs.Sights.{matches_back}
 use Rattle.cells.proofs.Found.{unfound}
 use Rattle.cells.proofs.Renaming.{still_chained, renamed_shows}
 use Rattle.cells.proofs.Unlinking.{slot_gone}
@@ -42,17 +40,11 @@ relabelled s0 s1 s2 s3 i from to words on1 on2 on3 words_are named others takes 
     let f : Ranked = record { rank = at.entry.rank; assertion = record at.entry.assertion { label = to } } in
     let chained = still_chained slots (after s0 st) (after s1 st) lib v.shows store apart from to i at (others st) in
     let leaves = taken_out s0 s1 s2 i from st lib on1.setting takes m2 v at chained in
-    let enters = put_in_chain s0 s2 s3 i to st (without_slot i v.shows.held) f (on2.setting ∙ on1.setting) puts m refl (slot_gone v.shows.held i)
-    leaves.chained in
+    let enters = put_in_chain s0 s2 s3 i to st (without_slot i v.shows.held) f (on2.setting ∙ on1.setting) puts m refl
+    (slot_gone v.shows.held i) leaves.chained in
     subst (λ (x : Setting). Shows x.slots (after s3 st) (rename from to lib)) (sym setting)
-    (renamed_shows slots (after s0 st) (after s1 st) lib v.shows store apart from to i at (others st) (after s2 st) (after s3 st) f refl free refl refl
-    (subst (HasBody (after s1 st) (name_cell i)) words_are (named st m1)) leaves enters)
-
--- a lawful label has a byte
-pub lawful_some : (t : Tables) (label : List ℕ) → is_lawful_label t label ≡ true → label ≢ []
-lawful_some t label lawful none =
-    let empty : is_lawful_label t [] ≡ true = subst (λ l. is_lawful_label t l ≡ true) none lawful in
-    absurd cc
+    (renamed_shows slots (after s0 st) (after s1 st) lib v.shows store apart from to i at (others st) (after s2 st) (after s3 st) f refl
+    free refl refl (subst (HasBody (after s1 st) (name_cell i)) words_are (named st m1)) leaves enters)
 
 -- ---- the tests
 

@@ -1,5 +1,5 @@
 -- The slot of an assertion that nothing cites, emptied, and the tests of removing it.
-use Rattle.std.proofs.Common.{◌≡◌, ℕ, ◌<◌, ◌≤◌, List, Some, Ok, Err, true, false, refl, sym, ap, subst, ◌∙◌, arith, nat_eq}
+use Rattle.std.proofs.Common.{◌≡◌, ℕ, ◌<◌, ◌≤◌, List, Some, Ok, Err, refl, sym, ap, subst, ◌∙◌, nat_eq}
 use Rattle.std.specs.Prelude.{All, nat_le}
 use Rattle.std.proofs.lemmas.Bool.{le-leb}
 use Rattle.mmsyntax.specs.Assertions.{Distinct}
@@ -8,7 +8,7 @@ use Rattle.library.specs.declared.command.Command.TheVariants as command
 use Rattle.library.specs.declared.command.Reply.TheVariants.{Done}
 use Rattle.library.specs.declared.reason.Reason.TheVariants as reason
 use Rattle.library.specs.Library.{Setting, label_of}
-use Rattle.library.specs.Edits.{found, citers, without, done, edit, still_cited, tested}
+use Rattle.library.specs.Edits.{found, citers, without, done, edit}
 use Rattle.library.proofs.Places.{found_in}
 use Rattle.bodystore.specs.declared.stored.StoredStep.{StoredStep}
 use Rattle.cells.specs.State.{State}
@@ -29,7 +29,8 @@ use Rattle.commands.proofs.Refusing.{first_refuses, first_passes, of_some}
 -- what counting out ensures
 abbrev pub CountsOutOf : Sight → Sight → List ℕ → Type 0
 CountsOutOf s t listed =
-    (st : State) → Matches t st → All (λ i. i < s.setting.slots) listed → Distinct nat_eq listed → CountsOut listed (after s st) (after t st)
+    (st : State) → Matches t st → All (λ i. i < s.setting.slots) listed → Distinct nat_eq listed
+    → CountsOut listed (after s st) (after t st)
 
 -- what a proof that was read cites is counted out, its slot is taken out of its chain, and its five cells are emptied
 pub removed : (s0 s1 s2 s3 s4 : Sight) (i : ℕ) (label : List ℕ) (former : List StoredStep) (listed : List ℕ) → Looks s0 s1 → Onward s1 s2
@@ -47,14 +48,15 @@ removed s0 s1 s2 s3 s4 i label former listed looks on2 on3 on4 read cited counts
     let apart = v.verifies.library.distinct in
     let setting : s4.setting ≡ s1.setting = on4.setting ∙ (on3.setting ∙ on2.setting) in
     let stored = read st lib v at.entry (found_in lib label at.entry at.found).0 at.holds in
-    let within = all_from_has (λ j. j < slots) listed (listed_within slots (after s1 st) lib v.shows store at.entry.assertion.proof former listed stored cited) in
+    let within = all_from_has (λ j. j < slots) listed
+    (listed_within slots (after s1 st) lib v.shows store at.entry.assertion.proof former listed stored cited) in
     let out = counts st m2 within cited.apart in
     let chained = still_chained slots (after s1 st) (after s2 st) lib v.shows store apart label i at former listed stored cited out in
     let chains = taken_out s1 s2 s3 i label st lib on2.setting takes m3 v at chained in
     let none = empties st in
     subst (λ (x : Setting). Shows x.slots (after s4 st) (without label lib)) (sym setting)
-    (deleted_shows slots (after s1 st) (after s2 st) lib v.shows store apart label i at former listed stored cited out (after s3 st) (after s4 st)
-    uncited refl chains none.zeros none.others)
+    (deleted_shows slots (after s1 st) (after s2 st) lib v.shows store apart label i at former listed stored cited out (after s3 st)
+    (after s4 st) uncited refl chains none.zeros none.others)
 
 -- ---- the tests
 
@@ -62,16 +64,22 @@ module _ (s : Setting) (lib : List Ranked) (label : List ℕ) (e : Ranked) (at :
   pub delete_cited : (n : ℕ) → n ≡ citers lib label → 0 < n → edit s lib (command.Delete label) ≡ Err (reason.StillCited n)
   delete_cited n is some =
       of_some lib label _ e at
-      ∙ first_refuses (nat_le 1 (citers lib label)) (reason.StillCited (citers lib label)) _ _ (le-leb 1 (citers lib label) (subst (λ k. 1 ≤ k) is some))
+      ∙ first_refuses (nat_le 1 (citers lib label)) (reason.StillCited (citers lib label)) _ _
+      (le-leb 1 (citers lib label) (subst (λ k. 1 ≤ k) is some))
       ∙ ap (λ k. Err (reason.StillCited k)) (sym is)
 
   pub delete_done : citers lib label ≡ 0 → edit s lib (command.Delete label) ≡ Ok (done (without label lib))
-  delete_done none = of_some lib label _ e at ∙ first_passes (nat_le 1 (citers lib label)) (reason.StillCited (citers lib label)) _ _ (ap (nat_le 1) none)
+  delete_done none =
+      of_some lib label _ e at
+      ∙ first_passes (nat_le 1 (citers lib label)) (reason.StillCited (citers lib label)) _ _ (ap (nat_le 1) none)
+
+-- an assertion has the label, and so many proofs cite it
+abbrev pub CountsCiters : Sight → List ℕ → ℕ → Type 0
+CountsCiters s label n = ForEach s (λ st lib. (e : Ranked) × (found lib label ≡ Some e) × (n ≡ citers lib label))
 
 -- the number that was read is that of the proofs that cite what was found
 pub counted : (s t : Sight) (i : ℕ) (label : List ℕ) (n : ℕ) → Looks s t → Finds s label (Some i)
-    → ForEachHeld t i (λ st lib e. n ≡ citers lib (label_of e))
-    → ForEach t (λ st lib. (e : Ranked) × (found lib label ≡ Some e) × (n ≡ citers lib label))
+    → ForEachHeld t i (λ st lib e. n ≡ citers lib (label_of e)) → CountsCiters t label n
 counted s t i label n looks finds read st lib v =
     let at = found_later s t st lib label i looks (finds.1 st lib (views_back s t st lib looks v)) in
     let own = found_in lib label at.entry at.found in
@@ -79,7 +87,7 @@ counted s t i label n looks finds read st lib v =
 
 -- what was found, and nothing cites, is removed
 pub deleted : (s0 s1 s2 s3 : Sight) (i : ℕ) (label : List ℕ) → Looks s0 s1 → Looks s1 s2 → Onward s2 s3 → Finds s1 label (Some i)
-    → ForEach s2 (λ st lib. (e : Ranked) × (found lib label ≡ Some e) × (0 ≡ citers lib label)) → DeletesAt s2 s3 i label → WritesSome s3
+    → CountsCiters s2 label 0 → DeletesAt s2 s3 i label → WritesSome s3
     → Does s0 s3 (command.Delete label) Done
 deleted s0 s1 s2 s3 i label looks1 looks2 on3 finds counts deletes writes =
     record {

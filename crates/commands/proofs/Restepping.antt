@@ -1,28 +1,18 @@
--- The slot of a theorem that has another proof, and the tests of giving it one.
-use Rattle.std.proofs.Common.{◌≡◌, ◌≢◌, ℕ, ◌<◌, ◌^◌, ◌≤◌, List, [], ◌∷◌, Some, Ok, Err, true, false, refl, sym, ap, subst, ◌∙◌, arith, nat_eq}
-use Rattle.std.specs.Prelude.{All}
-use Rattle.mmsyntax.specs.declared.statement.Kind.{Kind}
-use Rattle.mmsyntax.specs.declared.statement.Kind.TheVariants.{Axiom, Theorem}
-use Rattle.mmsyntax.specs.declared.statement.Step.{Step}
-use Rattle.mmsyntax.specs.declared.statement.Assertion.{Assertion}
+-- The slot of a theorem that is given another proof.
+use Rattle.std.proofs.Common.{◌≡◌, ◌≢◌, ℕ, ◌<◌, ◌^◌, List, refl, sym, ap, subst, ◌∙◌, arith, nat_eq}
 use Rattle.mmsyntax.specs.Assertions.{Distinct}
-use Rattle.library.specs.declared.library.Ranked.{Ranked}
-use Rattle.library.specs.declared.reason.Reason.{Reason}
-use Rattle.library.specs.declared.command.Command.TheVariants as command
-use Rattle.library.specs.declared.reason.Reason.TheVariants as reason
 use Rattle.library.specs.Library.{Setting}
-use Rattle.library.specs.Edits.{found, changed, with_proof, is_axiom, done, edit, tested, Edited}
+use Rattle.library.specs.Edits.{changed, with_proof}
 use Rattle.library.proofs.Places.{found_in}
 use Rattle.ranges.specs.Ranges.{Has}
 use Rattle.bodystore.specs.declared.stored.StoredStep.{StoredStep}
-use Rattle.bodystore.specs.declared.stored.StoredStep.TheVariants.{Slot}
-use Rattle.bodystore.specs.Bodies.{proof_body, statement_of}
+use Rattle.bodystore.specs.Bodies.{proof_body}
 use Rattle.cells.specs.State.{State, HasBody}
 use Rattle.cells.specs.Slots.{proof_cell, citers_cell}
 use Rattle.cells.specs.Shows.{AreStoredAs, Shows}
 use Rattle.cells.specs.Sight.{Sight, Matches, Onward, Looks, after}
 use Rattle.cells.specs.Lookups.{ForEachHeld}
-use Rattle.cells.specs.Filling.{AreCitedSlots, CountsIn, CountsOut}
+use Rattle.cells.specs.Filling.{AreCitedSlots, CountsIn}
 use Rattle.cells.proofs.Sights.{matches_back, after_looks}
 use Rattle.cells.proofs.Members.{all_from_has}
 use Rattle.cells.proofs.Holding.{stored_named, named_held}
@@ -31,7 +21,6 @@ use Rattle.cells.proofs.Reproving.{less_few, reproved_shows}
 use Rattle.commands.specs.Changes.{ReprovesAt}
 use Rattle.commands.proofs.Seeing.{views_later, found_later}
 use Rattle.commands.proofs.Removing.{CountsOutOf}
-use Rattle.commands.proofs.Refusing.{first_refuses, first_passes, of_some}
 
 -- what counting in ensures
 abbrev pub CountsInOf : Sight → Sight → List ℕ → Type 0
@@ -42,12 +31,13 @@ CountsInOf s t listed =
 -- the proof cell names the body of other steps, what the former proof cites is counted out, and what these cite is counted in
 pub restepped : (s0 s1 s2 s3 s4 : Sight) (i : ℕ) (label : List ℕ) (former kept : List StoredStep) (before now words : List ℕ) → Looks s0 s1
     → Onward s1 s2 → Onward s2 s3 → Onward s3 s4
-    → ForEachHeld s1 i (λ st lib e. AreStoredAs s1.setting.slots st e.assertion.proof former) → AreCitedSlots former before → AreCitedSlots kept now
-    → words ≡ proof_body kept → ((st : State) → Matches s2 st → HasBody (after s2 st) (proof_cell i) words)
+    → ForEachHeld s1 i (λ st lib e. AreStoredAs s1.setting.slots st e.assertion.proof former)
+    → AreCitedSlots former before → AreCitedSlots kept now → words ≡ proof_body kept
+    → ((st : State) → Matches s2 st → HasBody (after s2 st) (proof_cell i) words)
     → ((st : State) (c : ℕ) → c ≢ proof_cell i → (after s2 st).value c ≡ (after s1 st).value c)
     → CountsOutOf s2 s3 before → CountsInOf s3 s4 now → ReprovesAt s0 s4 i label kept
-restepped s0 s1 s2 s3 s4 i label former kept before now words looks on2 on3 on4 read cited_before cited_now words_are names others counts adds
-    st lib m seen here steps theorem stored_as =
+restepped s0 s1 s2 s3 s4 i label former kept before now words looks on2 on3 on4 read cited_before cited_now words_are names others counts
+    adds st lib m seen here steps theorem stored_as =
     let slots = s1.setting.slots in
     let m3 = matches_back s3 s4 st on4 m in
     let m2 = matches_back s2 s3 st on3 m3 in
@@ -69,12 +59,12 @@ restepped s0 s1 s2 s3 s4 i label former kept before now words looks on2 on3 on4 
     let small : (j : ℕ) → Has j now → (after s3 st).value (citers_cell j) < 2 ^ 32 = λ j h.
     let named = stored_named slots (after s1 st) lib v.shows store steps kept j stored_now (cited_now.cited j h) in
     let p = named_held slots (after s1 st) lib v.shows store j named.0 named.1 in
-    let few = less_few slots (after s1 st) (after s2 st) (after s3 st) (after s4 st) lib v.shows store apart label i at theorem steps former kept
-    before now stored stored_now cited_before cited_now refl refl body (others st) out p.0 p.1 in
+    let few = less_few slots (after s1 st) (after s2 st) (after s3 st) (after s4 st) lib v.shows store apart label i at theorem steps
+    former kept before now stored stored_now cited_before cited_now refl refl body (others st) out p.0 p.1 in
     let room = v.verifies.library.room in
     let most = v.verifies.setting.few in
     subst (λ (n : ℕ). (after s3 st).value (citers_cell n) < 2 ^ 32) p.2 (omega (arith, few, room, most)) in
     let more = adds st m small cited_now.apart in
     subst (λ (x : Setting). Shows x.slots (after s4 st) (changed label (with_proof steps) lib)) (sym setting)
-    (reproved_shows slots (after s1 st) (after s2 st) (after s3 st) (after s4 st) lib v.shows store apart label i at theorem steps former kept
-    before now stored stored_now cited_before cited_now refl refl body (others st) out more)
+    (reproved_shows slots (after s1 st) (after s2 st) (after s3 st) (after s4 st) lib v.shows store apart label i at theorem steps
+    former kept before now stored stored_now cited_before cited_now refl refl body (others st) out more)

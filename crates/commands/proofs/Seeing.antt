@@ -1,4 +1,4 @@
--- What a run sees of a library before it writes, and what of that it still knows once it has written.
+-- What a run saw of a library, and an assertion that it found there: the same while nothing is written.
 use Rattle.std.proofs.Common.{◌≡◌, ℕ, List, Option, Some, None, true, sym, subst, ◌∙◌, inl, inr}
 use Rattle.std.specs.Option.{is_some}
 use Rattle.std.proofs.lemmas.Bool.{cases_Bool}
@@ -7,12 +7,11 @@ use Rattle.library.specs.Library.{Setting, Verifies}
 use Rattle.library.specs.Edits.{has, found}
 use Rattle.cells.specs.State.{State}
 use Rattle.cells.specs.Shows.{Shows, Holds}
-use Rattle.cells.specs.Sight.{Sight, Matches, Views, Onward, Looks, after}
+use Rattle.cells.specs.Sight.{Sight, Matches, Views, Looks, after}
 use Rattle.cells.specs.Lookups.{ForEach, IsFoundAt, Finds}
 use Rattle.library.proofs.Places.{find_nowhere}
 use Rattle.cells.proofs.Found.{unfound}
-use Rattle.cells.proofs.Sights.{after_looks, matches_back}
-use Rattle.commands.specs.Answers.{ForEachBefore}
+use Rattle.cells.proofs.Sights.{after_looks}
 
 -- a library that was seen is seen still while nothing is written
 pub views_later : (s t : Sight) (st : State) (lib : List Ranked) → Looks s t → Matches t st → Views s st lib → Views t st lib
@@ -31,12 +30,6 @@ has_found lib label e h =
       | inl so ↦ so
       | inr other ↦ let none : Some e ≡ None = sym h ∙ find_nowhere lib label other in absurd cc
     ]
-
--- what a look told, before more was done, is so of what was seen before it
-pub for_each_before : (s t u : Sight) (told : State → List Ranked → Type 0) → Looks s t → Onward t u → ForEach t told
-    → ForEachBefore s u (λ st lib. told (after s st) lib)
-for_each_before s t u told looks on each = λ st lib m v.
-    subst (λ (x : State). told x lib) (after_looks s t st looks) (each st lib (views_later s t st lib looks (matches_back t u st on m) v))
 
 -- an assertion that was found in a slot is found there still: the same one
 abbrev pub found_later : (s t : Sight) (st : State) (lib : List Ranked) (label : List ℕ) (i : ℕ) → Looks s t

@@ -3,6 +3,7 @@
 ghost use Rattle.std.specs.Prelude.{◌≡◌, IfOk};
 ghost use Rattle.rows.specs.Answers.{IsReading, IsRewriting, IsUnitRewriting, IsVerdict, IsCheck, Keeps};
 
+use crate::beside::end_alike;
 use crate::row::{Command, Row, command_of, text_of};
 use crate::runs::Runs;
 use jobs::Fault;
@@ -36,6 +37,8 @@ pub enum Answer {
     FaultyProof { label: Label, fault: ProofFault },
     /// The fault of a run.
     Failed(Fault),
+    /// A run ends otherwise over cells than in the editor.
+    Differs,
     /// An assertion without a prelude before it.
     NoPrelude,
     /// The header has no command.
@@ -170,6 +173,7 @@ pub fn answer_row(
         Command::Check => check(rt, alloc, keys, text.as_slice()),
         Command::Library => Ok(runs.keep_library(text)),
         Command::Script => runs.keep_script(text),
+        Command::Run if !end_alike(rt, alloc, keys, runs)? => Ok(Answer::Differs),
         Command::Run => runs.run(rt, alloc, keys),
         Command::Replay => runs.replay(rt, alloc, keys, text),
     }

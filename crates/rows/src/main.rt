@@ -6,6 +6,7 @@
 #![tactic(auto)]
 
 mod answer;
+mod beside;
 mod print;
 mod row;
 mod runs;

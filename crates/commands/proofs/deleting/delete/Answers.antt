@@ -1,13 +1,11 @@
 use Rattle.std.proofs.Common.{◌≡◌, ℕ, List, Some, None, sym, subst, ◌∙◌, arith}
-use Rattle.library.specs.declared.library.Ranked.{Ranked}
 use Rattle.library.specs.declared.command.Command.TheVariants as command
 use Rattle.library.specs.declared.reason.Reason.TheVariants as reason
-use Rattle.library.specs.Edits.{found, citers}
-use Rattle.cells.specs.Lookups.{Finds, ForEach}
+use Rattle.cells.specs.Lookups.{Finds}
 use Rattle.cells.proofs.Sights.{onward_trans, looks_trans}
 use Rattle.cells.proofs.Laying.{ok_mapped}
 use Rattle.commands.proofs.Refusing.{of_none, refused, answers_refused}
-use Rattle.commands.proofs.Removing.{delete_cited, counted, deleted}
+use Rattle.commands.proofs.Removing.{CountsCiters, delete_cited, counted, deleted}
 use Rattle.commands.proofs.deleting.delete.Goals as goal
 
 pub returns-in_default-clause-answers : goal.returns-in_default-clause-answers
@@ -38,13 +36,13 @@ returns-then-citers-gt0-clause-answers g c =
     subst (Finds s1 c.args.label.now) c.in-Some.is
     (subst (λ (l : List ℕ). Finds s1 l c.in_ok-slot.field-0) c.as_slice.ensures
     (ok_mapped _ _ _ _ _ c.in_ok-slot.was c.map_err.ensures.cases c.find.ensures.ok)) in
-    let counts : ForEach s2 (λ st lib. (e : Ranked) × (found lib c.args.label.now ≡ Some e) × (c.in_ok-citers.citers ≡ citers lib c.args.label.now)) =
+    let counts : CountsCiters s2 c.args.label.now c.in_ok-citers.citers =
     counted s1 s2 c.in-Some.slot label c.in_ok-citers.citers c.citers.ensures.looks finds
     (ok_mapped _ _ _ _ _ c.in_ok-citers.was c.map_err-2.ensures.cases c.citers.ensures.ok) in
-    answers_refused s0 s2 (command.Delete label) (reason.StillCited c.in_ok-citers.citers) c.into-then-citers-gt0.result
-    c.into-then-citers-gt0.ensures
-    (refused s0 s2 (command.Delete label) (reason.StillCited c.in_ok-citers.citers) (looks_trans _ _ _ c.find.ensures.looks c.citers.ensures.looks)
-    (λ st lib v. let e = counts st lib v in delete_cited s0.setting lib label e.0 e.1 c.in_ok-citers.citers e.2 c.if-citers-gt0.true))
+    let n = c.in_ok-citers.citers in
+    answers_refused s0 s2 (command.Delete label) (reason.StillCited n) c.into-then-citers-gt0.result c.into-then-citers-gt0.ensures
+    (refused s0 s2 (command.Delete label) (reason.StillCited n) (looks_trans _ _ _ c.find.ensures.looks c.citers.ensures.looks) (λ st lib v.
+    let e = counts st lib v in delete_cited s0.setting lib label e.0 e.1 n e.2 c.if-citers-gt0.true))
 
 pub returns-in_err-remove-clause-onward : goal.returns-in_err-remove-clause-onward
 returns-in_err-remove-clause-onward g c =
@@ -64,7 +62,7 @@ returns-clause-answers g c =
     subst (Finds s1 c.args.label.now) c.in-Some.is
     (subst (λ (l : List ℕ). Finds s1 l c.in_ok-slot.field-0) c.as_slice.ensures
     (ok_mapped _ _ _ _ _ c.in_ok-slot.was c.map_err.ensures.cases c.find.ensures.ok)) in
-    let counts : ForEach s2 (λ st lib. (e : Ranked) × (found lib c.args.label.now ≡ Some e) × (c.in_ok-citers.citers ≡ citers lib c.args.label.now)) =
+    let counts : CountsCiters s2 c.args.label.now c.in_ok-citers.citers =
     counted s1 s2 c.in-Some.slot label c.in_ok-citers.citers c.citers.ensures.looks finds
     (ok_mapped _ _ _ _ _ c.in_ok-citers.was c.map_err-2.ensures.cases c.citers.ensures.ok) in
     let s3 = g.C.Cells.sight c.remove.new.cells in

@@ -1,4 +1,4 @@
-use Rattle.std.proofs.Common.{List, ℕ, sym, subst}
+use Rattle.std.proofs.Common.{List, sym, subst}
 use Rattle.bodystore.specs.declared.stored.StoredStep.{StoredStep}
 use Rattle.cells.specs.Filling.{AreCitedSlots}
 use Rattle.cells.proofs.Sights.{onward_trans}
@@ -29,7 +29,8 @@ returns-clause-ok g c =
     let s4 = g.C.Cells.sight c.vacate.new.cells in
     let former = c.in_ok-former.former.items in
     let listed = c.as_slice-2.result.now in
-    let former_cited = subst (λ (kept : List StoredStep). AreCitedSlots kept c.in_ok-cited.cited.items) c.as_slice.ensures.value c.in_ok-cited.ensures in
+    let former_cited = subst (λ (kept : List StoredStep). AreCitedSlots kept c.in_ok-cited.cited.items) c.as_slice.ensures.value
+    c.in_ok-cited.ensures in
     let cited = subst (AreCitedSlots c.in_ok-former.former.items) (sym c.as_slice-2.ensures.value) former_cited in
     let counts = ok_mapped _ _ _ _ _ c.in_ok-map_err.was c.map_err.ensures.cases c.count_out.ensures.ok in
     let takes = subst (TakesOut s2 s3 c.args.slot) c.as_slice-3.ensures

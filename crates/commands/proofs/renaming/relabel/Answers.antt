@@ -1,8 +1,8 @@
-use Rattle.std.proofs.Common.{◌≡◌, ◌≢◌, ℕ, ◌*◌, subst, sym}
+use Rattle.std.proofs.Common.{◌≡◌, ◌≢◌, ℕ, subst}
 use Rattle.std.proofs.lemmas.Result.{IfOk-weaker}
 use Rattle.cells.specs.State.{State, HasBody}
 use Rattle.cells.specs.Slots.{name_cell}
-use Rattle.cells.specs.Sight.{Sight, Matches, after}
+use Rattle.cells.specs.Sight.{Matches, after}
 use Rattle.cells.proofs.Sights.{onward_trans}
 use Rattle.commands.specs.Answers.{WritesSome}
 use Rattle.commands.specs.Changes.{RenamesAt}
@@ -31,10 +31,12 @@ returns-clause-ok g c =
     let s2 = g.C.Cells.sight c.take_out.new.cells in
     let s3 = g.C.Cells.sight c.put_in.new.cells in
     let cell : c.name_cell.result ≡ name_cell c.args.slot = c.name_cell.ensures in
-    let named = subst (λ (n : ℕ). (st : State) → Matches s1 st → HasBody (after s1 st) n c.args.body.now) cell c.in_ok-put_body.ensures.ok in
+    let named = subst (λ (n : ℕ). (st : State) → Matches s1 st → HasBody (after s1 st) n c.args.body.now) cell
+    c.in_ok-put_body.ensures.ok in
     let others = subst (λ (n : ℕ). (st : State) (k : ℕ) → k ≢ n → (after s1 st).value k ≡ (after s0 st).value k) cell
     c.in_ok-put_body.ensures.others in
     let takes = subst (TakesOut s1 s2 c.args.slot) c.as_slice.ensures c.in_ok-take_out.ensures.ok in
     IfOk-weaker c.put_in.result _ (λ _. RenamesAt s0 s3 c.args.slot c.args.old.now c.args.new.now) (λ _ puts.
     relabelled s0 s1 s2 s3 c.args.slot c.args.old.now c.args.new.now c.args.body.now c.put_body.ensures.onward c.take_out.ensures.onward
-    c.put_in.ensures.onward c.requires.body named others takes (subst (PutsIn s2 s3 c.args.slot) c.as_slice-2.ensures puts)) c.put_in.ensures.ok
+    c.put_in.ensures.onward c.requires.body named others takes (subst (PutsIn s2 s3 c.args.slot) c.as_slice-2.ensures puts))
+    c.put_in.ensures.ok

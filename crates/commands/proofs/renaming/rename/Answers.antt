@@ -1,4 +1,4 @@
-use Rattle.std.proofs.Common.{◌≡◌, List, ℕ, Option, Some, None, true, false, sym, ap, subst, ◌∙◌}
+use Rattle.std.proofs.Common.{◌≡◌, List, ℕ, Some, None, true, sym, ap, subst, ◌∙◌}
 use Rattle.std.specs.Option.{is_some}
 use Rattle.mmsyntax.specs.Tables.{Tables}
 use Rattle.mmsyntax.specs.Assertions.{is_lawful_label}
@@ -24,7 +24,8 @@ returns-in_default-clause-answers g c =
     (subst (λ (l : List ℕ). Finds s1 l c.in_ok-slot.field-0) c.as_slice.ensures
     (ok_mapped _ _ _ _ _ c.in_ok-slot.was c.map_err.ensures.cases c.find.ensures.ok)) in
     answers_refused s0 s1 (command.Rename from to) reason.UnknownLabel c.into.result c.into.ensures
-    (refused s0 s1 (command.Rename from to) reason.UnknownLabel c.find.ensures.looks (λ st lib v. rename_unknown s0.setting lib from to (finds st lib v)))
+    (refused s0 s1 (command.Rename from to) reason.UnknownLabel c.find.ensures.looks (λ st lib v.
+    rename_unknown s0.setting lib from to (finds st lib v)))
 
 pub returns-then-not-is_lawful_label-clause-answers : goal.returns-then-not-is_lawful_label-clause-answers
 returns-then-not-is_lawful_label-clause-answers g c =
@@ -39,8 +40,8 @@ returns-then-not-is_lawful_label-clause-answers g c =
     let lawful : is_lawful_label s0.setting.prelude c.args.new.now ≡ c.is_lawful_label.result =
     sym (c.is_lawful_label.ensures ∙ ap (λ (t : Tables). is_lawful_label t c.as_slice-2.result.now) c.requires
     ∙ ap (is_lawful_label s0.setting.prelude) c.as_slice-2.ensures) in
-    answers_refused s0 s1 (command.Rename from to) reason.BadLabel c.into-then-not-is_lawful_label.result c.into-then-not-is_lawful_label.ensures
-    (refused s0 s1 (command.Rename from to) reason.BadLabel c.find.ensures.looks (λ st lib v.
+    answers_refused s0 s1 (command.Rename from to) reason.BadLabel c.into-then-not-is_lawful_label.result
+    c.into-then-not-is_lawful_label.ensures (refused s0 s1 (command.Rename from to) reason.BadLabel c.find.ensures.looks (λ st lib v.
     let at = finds.1 st lib v in rename_bad s0.setting lib from to at.entry at.found (lawful ∙ c.if-not-is_lawful_label.true)))
 
 pub returns-in_err-map_err-clause-onward : goal.returns-in_err-map_err-clause-onward

@@ -1,8 +1,7 @@
-use Rattle.std.proofs.Common.{◌≡◌, ◌≢◌, ◌<◌, ◌*◌, ◌+◌, List, ℕ, sym, subst, ◌∙◌}
+use Rattle.std.proofs.Common.{◌≡◌, ◌≢◌, ◌<◌, List, ℕ, sym, subst, ◌∙◌}
 use Rattle.library.specs.Library.{Setting}
 use Rattle.ranges.specs.Ranges.{Has}
 use Rattle.bodystore.specs.declared.stored.StoredStep.{StoredStep}
-use Rattle.bodystore.specs.Bodies.{proof_body}
 use Rattle.cells.specs.State.{State, HasBody}
 use Rattle.cells.specs.Slots.{proof_cell}
 use Rattle.cells.specs.Sight.{Matches, after}
@@ -37,7 +36,6 @@ returns-clause-onward g c =
 
 pub returns-clause-written : goal.returns-clause-written
 returns-clause-written g c =
-    let new = g.C.Cells.sight c.count_in.new.cells in
     let written = ok_mapped _ _ _ _ _ c.in_ok-map_err.was c.map_err.ensures.cases c.put_body.ensures.written in
     if_mapped _ _ (λ _. WritesSome (g.C.Cells.sight c.count_in.new.cells)) _ _ c.map_err-3.ensures.cases c.count_in.ensures.ok (λ _ _.
     (c.proof_cell.result, c.count_in.ensures.onward.written _ (c.count_out.ensures.onward.written _ written)))
@@ -65,7 +63,7 @@ returns-clause-ok g c =
     (ok_mapped _ _ _ _ _ c.in_ok-map_err.was c.map_err.ensures.cases c.put_body.ensures.others) in
     let counts = subst (CountsOutOf s2 s3) c.as_slice-3.ensures.value
     (ok_mapped _ _ _ _ _ c.in_ok-map_err-2.was c.map_err-2.ensures.cases c.count_out.ensures.ok) in
-    if_mapped _ _ (λ _. (label : List ℕ) → ReprovesAt s0 s4 i label kept) _ _ c.map_err-3.ensures.cases c.count_in.ensures.ok (λ _ adds label.
-    restepped s0 s1 s2 s3 s4 i label former kept before now words c.stored_proof.ensures.looks c.put_body.ensures.onward
-    c.count_out.ensures.onward c.count_in.ensures.onward c.in_ok-former.ensures.ok cited_before c.in_ok-now.ensures c.in_ok-body.ensures named others
-    counts (subst (CountsInOf s3 s4) c.as_slice-4.ensures.value adds))
+    if_mapped _ _ (λ _. (label : List ℕ) → ReprovesAt s0 s4 i label kept) _ _ c.map_err-3.ensures.cases c.count_in.ensures.ok
+    (λ _ adds label. restepped s0 s1 s2 s3 s4 i label former kept before now words c.stored_proof.ensures.looks c.put_body.ensures.onward
+    c.count_out.ensures.onward c.count_in.ensures.onward c.in_ok-former.ensures.ok cited_before c.in_ok-now.ensures c.in_ok-body.ensures
+    named others counts (subst (CountsInOf s3 s4) c.as_slice-4.ensures.value adds))

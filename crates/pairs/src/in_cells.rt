@@ -1,0 +1,82 @@
+//! A library in plain cells, and the transactions on it, one after another on one thread.
+
+ghost use Rattle.std.specs.Prelude.{◌≡◌};
+ghost use Rattle.pairs.specs.InCells.{ShowsSomeNow};
+
+use cells::{OpenError, PlainCells, PlainStop};
+use commands::{RunError, run};
+use library::{Command, Reply};
+use mmstatement::{Database, Prelude, Sequence};
+use std::alloc::Global;
+
+/// A library in plain cells that verifies.
+#[derive(Drop)]
+pub struct InCells {
+    cells: PlainCells,
+    prelude: Prelude,
+    ghost same: { cells.prelude ≡ prelude },
+    ghost shown: { ShowsSomeNow cells },
+}
+
+impl InCells {
+    ghost use Rattle.std.specs.Prelude.{◌≡◌, ◌≤◌, All, IfOk};
+    ghost use Rattle.proofcheck.specs.Databases.{AllCheck};
+    ghost use Rattle.library.specs.Library.{opening};
+    ghost use Rattle.library.specs.Fitting.{CommandFits};
+    ghost use Rattle.pairs.specs.InCells.{ShowsNow, Applies};
+
+    /// The opening library of a database whose proofs check, in so many slots, with a store that has room for so many words.
+    ///
+    /// # Errors
+    ///
+    /// Those of `PlainCells::open`.
+    pub fn open(
+        alloc: Global,
+        db: &Database,
+        slots: usize,
+        room: usize,
+    ) -> Result<InCells, OpenError>
+        requires checks { AllCheck db.now }
+        requires slots { (1 ≤ slots) × (slots ≤ 4096) }
+        requires room { room ≤ 16777216 }
+        ensures prelude { IfOk result (λ made. made.prelude ≡ db.now.prelude) }
+        ensures opening { IfOk result (λ made. ShowsNow made.cells (opening db.now)) }
+    {
+        let cells = PlainCells::open(alloc, db, slots, room)?;
+        let prelude = db.prelude().copy(alloc)?;
+        Ok(InCells { cells, prelude })
+    }
+
+    /// Does all commands of a transaction in order, and answers the reply to each. Each command is within the limits of the prelude.
+    ///
+    /// # Errors
+    ///
+    /// Those of `run`. What the transaction wrote is undone.
+    pub fn apply(
+        &mut self,
+        alloc: Global,
+        commands: &[Command],
+    ) -> Result<Sequence<Reply>, RunError<PlainStop>>
+        requires { All (CommandFits self.old.prelude) commands.now }
+        ensures prelude { self.new.prelude ≡ self.old.prelude }
+        ensures answers { Applies self.old.cells self.new.cells commands.now result }
+    {
+        match run(alloc, &self.prelude, &mut self.cells, commands) {
+            Ok(replies) => {
+                self.cells.keep();
+                Ok(replies)
+            }
+            Err(error) => {
+                self.cells.undo();
+                Err(error)
+            }
+        }
+    }
+
+    /// The prelude of the library's assertions.
+    pub fn prelude(&self) -> &Prelude
+        ensures { result.now ≡ self.now.prelude }
+    {
+        &self.prelude
+    }
+}
