@@ -59,7 +59,10 @@ begins_more s n lib c cs more e is =
     apply_first s n lib c (cs ++ more) ∙ ap (λ (r : Result Edited Reason). then_apply n r (λ next. apply_from s (n + 1) next (cs ++ more))) is
 
 none_applied : (s : Setting) (n : ℕ) (lib : List Ranked) (a : Applied) → apply_from s n lib [] ≡ Ok a → record { library = lib; replies = [] } ≡ a
-none_applied s n lib a h = let same : Ok {E = Refused} (record { library = lib; replies = [] }) ≡ Ok a = sym (apply_none s n lib) ∙ h in cc
+none_applied s n lib a h =
+    let empty : Applied = record { library = lib; replies = [] } in
+    let there : Result Applied Refused = Ok empty in
+    let here : there ≡ Ok a = sym (apply_none s n lib) ∙ h in cc
 
 -- one more is done
 apply_more : (s : Setting) (n : ℕ) (lib : List Ranked) (cs : List Command) (c : Command) (a : Applied) (e : Edited)
@@ -105,8 +108,9 @@ writes_on false true s t u on w x = x
 writes_on false false s t u on w x = looks_trans s t u w x
 
 has_edit_more : (cs : List Command) (c : Command) → (has_edit cs || is_edit c) ≡ has_edit (cs ++ c ∷ [])
-has_edit_more [] c = ?
-has_edit_more (d ∷ cs) c = ?
+has_edit_more [] c = elim (is_edit c) as (λ b. b ≡ (b || false)) [ true ↦ refl | false ↦ refl ]
+has_edit_more (d ∷ cs) c =
+    elim (is_edit d) as (λ b. ((b || has_edit cs) || is_edit c) ≡ (b || has_edit (cs ++ c ∷ []))) [ true ↦ refl | false ↦ has_edit_more cs c ]
 
 module _ (s t u : Sight) (cs : List Command) (replies : List Reply) (does : DoesAll s t cs replies) (since : Onward s t) (on : Onward t u)
     (fit : All (CommandFits s.setting.prelude) cs) where
