@@ -16,7 +16,7 @@ use std::test::Fail;
 use std::thread::Threads;
 
 /// Two axioms and a theorem that cites the first of them, in the canonical layout.
-fn three() -> &'static [u8] {
+pub(crate) fn three() -> &'static [u8] {
     b"$c wff |- $.
 $v x y $.
 wx $f wff x $.

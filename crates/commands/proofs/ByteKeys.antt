@@ -29,4 +29,5 @@ pub found_elsewhere : {X : Type 0} (bs : List ℕ) (m n : BTreeMap (Vec ℕ Glob
     → UpdatesBy (λ x y. slice_cmp nat_cmp x.items y.items) (λ x. slice_cmp nat_cmp bs x.items) m n w
     → (cs : List ℕ) → cs ≢ bs → get_by (λ q. slice_cmp nat_cmp cs q.items) n ≡ get_by (λ q. slice_cmp nat_cmp cs q.items) m
 found_elsewhere bs m n w h cs ne =
-    other_entries _ _ _ _ h.3 _ (λ x y. (eq_by_cmp_equiv nat_list_cmp_total).congr cs x.items y.items) (λ q. apart_in_order bs cs q.items ne)
+    other_entries _ _ _ _ h.3 _ (λ x y. (eq_by_cmp_equiv nat_list_cmp_total).congr cs x.items y.items)
+    (λ q. apart_in_order bs cs q.items ne)

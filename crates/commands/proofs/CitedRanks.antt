@@ -94,7 +94,8 @@ below_more s t rank i kept d looks below lt one = λ st lib v steps stored.
     ∙ or_from (list_any (cites_not_below lib rank) (take i steps)) (cites_not_below lib rank (get_or steps i (Float 0))) before
     (one st lib v (get_or steps i (Float 0)) at.0)
 
-pub tells_below : (s : Sight) (rank i : ℕ) (kept : List StoredStep) → length kept ≡ i → AreBelow s rank i kept → TellsNotBelow s rank kept false
+pub tells_below : (s : Sight) (rank i : ℕ) (kept : List StoredStep) → length kept ≡ i → AreBelow s rank i kept
+    → TellsNotBelow s rank kept false
 tells_below s rank i kept n below = λ st lib v steps stored.
     let long = AllZip-long (IsStoredAs (IsNamed s.setting.slots (after s st))) steps kept stored in
     sym (ap (list_any (cites_not_below lib rank)) (sym (take_all i steps (omega (arith, long, n)))) ∙ below st lib v steps stored)

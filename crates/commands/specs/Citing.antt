@@ -41,6 +41,11 @@ abbrev pub AreFrames : Tables → List Ranked → List Step → Citable → Type
 AreFrames prelude lib steps frames =
     (label : List ℕ) → Has (Cite label) steps → frames label ≡ option_map (λ e. frame prelude e.assertion) (found lib label)
 
+-- so where the steps are stored as these
+abbrev pub TellsFrames : Sight → Tables → List Step → List StoredStep → Citable → Type 0
+TellsFrames s prelude steps kept frames =
+    ForEach s (λ st lib. AreStoredAs s.setting.slots st steps kept → AreFrames prelude lib steps frames)
+
 -- the frame of the assertion in the slot is noted by the label, unless the label has one
 pub record NotesFrame (s : Sight) (prelude : Tables) (i : ℕ) (label : List ℕ) (old new : Citable) : Type 0 where
   pub kept : (f : Frame) → old label ≡ Some f → new label ≡ Some f

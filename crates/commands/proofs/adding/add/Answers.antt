@@ -127,8 +127,8 @@ pub fill-requires-clause-fillable : goal.fill-requires-clause-fillable
 fill-requires-clause-fillable g c =
     let s2 = g.C.Cells.sight c.test_proof.new.cells in
     let s3 = g.C.Cells.sight c.free_slot.new.cells in
-    let lawful = lawful_at c.args.prelude.now c.args.prelude.now c.as_slice-label.result.now c.args.assertion.now.label refl c.as_slice-label.ensures
-    (sym c.is_lawful_label.ensures ∙ c.if-not-is_lawful_label.false) in
+    let lawful = lawful_at c.args.prelude.now c.args.prelude.now c.as_slice-label.result.now c.args.assertion.now.label refl
+    c.as_slice-label.ensures (sym c.is_lawful_label.ensures ∙ c.if-not-is_lawful_label.false) in
     let passes = c.in_ok-kept.ensures.ok in
     subst (IsFillable (g.C.Cells.sight c.free_slot.new.cells).setting.slots c.args.assertion.now) (sym c.as_slice.ensures.value) (record {
       labelled = lawful_some c.args.prelude.now c.args.assertion.now.label lawful;
