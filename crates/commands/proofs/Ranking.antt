@@ -8,7 +8,8 @@ use Rattle.library.specs.declared.command.Command.TheVariants.{Move}
 use Rattle.library.specs.declared.command.Reply.TheVariants.{Done}
 use Rattle.library.specs.declared.reason.Reason.TheVariants.{BadRank, CitedNotLower, CiterNotHigher}
 use Rattle.library.specs.Library.{Setting, label_of}
-use Rattle.library.specs.Edits.{Edited, done, found, edit, tested, changed, with_rank, move_tests, cites, cites_not_below, cited_not_lower, citer_not_higher}
+use Rattle.library.specs.Edits.{Edited, done, found, edit, tested, changed, with_rank, move_tests, cites}
+use Rattle.library.specs.Edits.{Tests, cites_not_below, cited_not_lower, citer_not_higher}
 use Rattle.library.proofs.Places.{found_in}
 use Rattle.bodystore.specs.declared.stored.StoredStep.{StoredStep}
 use Rattle.cells.specs.State.{State, with_value}
@@ -40,19 +41,21 @@ module _ (s : Setting) (lib : List Ranked) (label : List ℕ) (rank : ℕ) (e : 
   abbrev moved : Edited
   moved = done (changed label (with_rank rank) lib)
 
+  -- the tests behind that of the rank
+  abbrev tests_behind : Tests
+  tests_behind = cited_not_lower lib rank e.assertion.proof ∷ citer_not_higher lib rank (label_of e) ∷ []
+
   tested_found : edit s lib (Move label rank) ≡ tested (move_tests lib rank e) moved
   tested_found = of_some lib label (λ f. tested (move_tests lib rank f) moved) e is
 
   move_unranked : rank ≡ 0 → edit s lib (Move label rank) ≡ Err BadRank
   move_unranked none =
-      tested_found
-      ∙ first_refuses (rank == 0) BadRank (cited_not_lower lib rank e.assertion.proof ∷ citer_not_higher lib rank (label_of e) ∷ []) moved (eq-eqb rank 0 none)
+      tested_found ∙ first_refuses (rank == 0) BadRank tests_behind moved (eq-eqb rank 0 none)
 
   module _ (some : rank ≢ 0) where
-    tested_ranked : edit s lib (Move label rank) ≡ tested (cited_not_lower lib rank e.assertion.proof ∷ citer_not_higher lib rank (label_of e) ∷ []) moved
+    tested_ranked : edit s lib (Move label rank) ≡ tested tests_behind moved
     tested_ranked =
-        tested_found
-        ∙ first_passes (rank == 0) BadRank (cited_not_lower lib rank e.assertion.proof ∷ citer_not_higher lib rank (label_of e) ∷ []) moved (ne_eqb rank 0 some)
+        tested_found ∙ first_passes (rank == 0) BadRank tests_behind moved (ne_eqb rank 0 some)
 
     move_not_above : cites_high ≡ true → edit s lib (Move label rank) ≡ Err CitedNotLower
     move_not_above high = tested_ranked ∙ first_refuses cites_high CitedNotLower (citer_not_higher lib rank (label_of e) ∷ []) moved high
@@ -115,7 +118,8 @@ module _ (s t : Sight) (looks : Looks s t) (i : ℕ) (label : List ℕ) (rank : 
 
       -- its rank cell has the rank then, and nothing else was written
       pub does_move : (u : Sight) → Onward t u → TellsCitedUpTo t i rank false
-          → ((st : State) → after u st ≡ with_value (rank_cell i) rank (after t st)) → WasWritten u (rank_cell i) → Does s u (Move label rank) Done
+          → ((st : State) → after u st ≡ with_value (rank_cell i) rank (after t st)) → WasWritten u (rank_cell i)
+          → Does s u (Move label rank) Done
       does_move u onward low put written =
           record {
             edits = λ st lib m v.
@@ -129,7 +133,8 @@ module _ (s t : Sight) (looks : Looks s t) (i : ℕ) (label : List ℕ) (rank : 
                 moved_shows slots before next lib now.shows now.matches.store now.verifies.library.distinct label i at rank refl
                 (value_there (rank_cell i) rank before) (value_elsewhere (rank_cell i) rank before) in (
                   more,
-                  move_done s.setting lib label rank at.entry at.found some (cited_there false st lib now high) (citing_there false st lib now low),
+                  move_done s.setting lib label rank at.entry at.found some (cited_there false st lib now high)
+                      (citing_there false st lib now low),
                   subst (λ (x : Setting). Shows x.slots (after u st) more) (sym onward.setting)
                       (subst (λ (x : State). Shows t.setting.slots x more) (sym (put st)) shows),
                 );

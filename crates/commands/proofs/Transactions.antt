@@ -1,7 +1,7 @@
 -- The commands of a transaction, one after another: what one more of them does to what was done.
-use Rattle.std.proofs.Common.{◌≡◌, ◌+◌, ℕ, Bool, true, false, List, [], ◌∷◌, ◌++◌, Result, Ok, Err, length, refl, sym, ap, subst, ◌∙◌, arith}
+use Rattle.std.proofs.Common.{◌≡◌, ◌+◌, ℕ, Bool, true, false, List, [], ◌∷◌, ◌++◌, Result, Ok, Err, length, refl, sym}
+use Rattle.std.proofs.Common.{ap, subst, ◌∙◌, arith}
 use Rattle.std.specs.Prelude.{◌||◌, All}
-use Rattle.std.specs.List.{list_any}
 use Rattle.library.specs.declared.library.Ranked.{Ranked}
 use Rattle.library.specs.declared.command.Command.{Command}
 use Rattle.library.specs.declared.command.Reply.{Reply}
@@ -13,12 +13,11 @@ use Rattle.library.specs.Edits.{Edited, edit, is_edit}
 use Rattle.library.specs.Transactions.{Applied, with_reply, then_apply, apply_from, has_edit}
 use Rattle.library.proofs.Editing.{apply_verifies}
 use Rattle.cells.specs.State.{State}
-use Rattle.cells.specs.Sight.{Sight, Matches, Views, Looks, Onward}
+use Rattle.cells.specs.Sight.{Sight, Matches, Views, Onward}
 use Rattle.cells.proofs.Sights.{looks_refl, looks_trans, matches_back}
-use Rattle.commands.specs.Answers.{ShowsAfter, WritesIfEdit, error_at, Does, IsRefused, CommandAnswers, DoesAll, RefusesAll, RunAnswers}
+use Rattle.commands.specs.Answers.{WritesIfEdit, error_at, Does, IsRefused, CommandAnswers, DoesAll, RefusesAll, RunAnswers}
 use Rattle.commands.specs.declared.ending.CommandError.{CommandError}
 use Rattle.commands.specs.declared.ending.CommandError.TheVariants as command
-use Rattle.commands.specs.declared.ending.RunError.{RunError}
 
 -- ---- over a library
 
@@ -43,12 +42,14 @@ begins : (s : Setting) (n : ℕ) (lib : List Ranked) (c : Command) (cs : List Co
     → Begins s n lib c cs a
 begins s n lib c cs a h = split (edit s lib c) refl (sym (apply_first s n lib c cs) ∙ h)
   where
-    rest : (e : Edited) (r : Result Applied Refused) → edit s lib c ≡ Ok e → apply_from s (n + 1) e.library cs ≡ r → with_reply e.reply r ≡ Ok a
+    rest : (e : Edited) (r : Result Applied Refused) → edit s lib c ≡ Ok e → apply_from s (n + 1) e.library cs ≡ r
+        → with_reply e.reply r ≡ Ok a
         → Begins s n lib c cs a
     rest e (Ok b) is made k = record { first = e; edited = is; rest = b; applied = made; whole = cc }
     rest e (Err r) is made k = absurd cc
 
-    split : (r : Result Edited Reason) → edit s lib c ≡ r → then_apply n r (λ next. apply_from s (n + 1) next cs) ≡ Ok a → Begins s n lib c cs a
+    split : (r : Result Edited Reason) → edit s lib c ≡ r → then_apply n r (λ next. apply_from s (n + 1) next cs) ≡ Ok a
+        → Begins s n lib c cs a
     split (Ok e) is k = rest e (apply_from s (n + 1) e.library cs) is refl k
     split (Err reason) is k = absurd cc
 
@@ -56,9 +57,11 @@ begins s n lib c cs a h = split (edit s lib c) refl (sym (apply_first s n lib c 
 begins_more : (s : Setting) (n : ℕ) (lib : List Ranked) (c : Command) (cs more : List Command) (e : Edited) → edit s lib c ≡ Ok e
     → apply_from s n lib (c ∷ (cs ++ more)) ≡ with_reply e.reply (apply_from s (n + 1) e.library (cs ++ more))
 begins_more s n lib c cs more e is =
-    apply_first s n lib c (cs ++ more) ∙ ap (λ (r : Result Edited Reason). then_apply n r (λ next. apply_from s (n + 1) next (cs ++ more))) is
+    apply_first s n lib c (cs ++ more)
+    ∙ ap (λ (r : Result Edited Reason). then_apply n r (λ next. apply_from s (n + 1) next (cs ++ more))) is
 
-none_applied : (s : Setting) (n : ℕ) (lib : List Ranked) (a : Applied) → apply_from s n lib [] ≡ Ok a → record { library = lib; replies = [] } ≡ a
+none_applied : (s : Setting) (n : ℕ) (lib : List Ranked) (a : Applied) → apply_from s n lib [] ≡ Ok a
+    → record { library = lib; replies = [] } ≡ a
 none_applied s n lib a h =
     let empty : Applied = record { library = lib; replies = [] } in
     let there : Result Applied Refused = Ok empty in
@@ -76,11 +79,13 @@ apply_more s n lib [] c a e h is =
 apply_more s n lib (d ∷ cs) c a e h is =
     let b = begins s n lib d cs a h in
     begins_more s n lib d cs (c ∷ []) b.first b.edited
-    ∙ ap (with_reply b.first.reply) (apply_more s (n + 1) b.first.library cs c b.rest e b.applied (subst (λ (x : Applied). edit s x.library c ≡ Ok e) b.whole is))
+    ∙ ap (with_reply b.first.reply) (apply_more s (n + 1) b.first.library cs c b.rest e b.applied
+    (subst (λ (x : Applied). edit s x.library c ≡ Ok e) b.whole is))
     ∙ ap (λ (x : Applied). Ok (record { library = e.library; replies = x.replies ++ e.reply ∷ [] })) (sym b.whole)
 
 -- one more is refused
-apply_refused : (s : Setting) (n : ℕ) (lib : List Ranked) (cs : List Command) (c : Command) (more : List Command) (a : Applied) (reason : Reason)
+apply_refused : (s : Setting) (n : ℕ) (lib : List Ranked) (cs : List Command) (c : Command) (more : List Command) (a : Applied)
+    (reason : Reason)
     → apply_from s n lib cs ≡ Ok a → edit s a.library c ≡ Err reason
     → apply_from s n lib (cs ++ c ∷ more) ≡ Err (record { index = n + length cs; reason = reason })
 apply_refused s n lib [] c more a reason h is =
@@ -110,7 +115,10 @@ writes_on false false s t u on w x = looks_trans s t u w x
 has_edit_more : (cs : List Command) (c : Command) → (has_edit cs || is_edit c) ≡ has_edit (cs ++ c ∷ [])
 has_edit_more [] c = elim (is_edit c) as (λ b. b ≡ (b || false)) [ true ↦ refl | false ↦ refl ]
 has_edit_more (d ∷ cs) c =
-    elim (is_edit d) as (λ b. ((b || has_edit cs) || is_edit c) ≡ (b || has_edit (cs ++ c ∷ []))) [ true ↦ refl | false ↦ has_edit_more cs c ]
+    elim (is_edit d) as (λ b. ((b || has_edit cs) || is_edit c) ≡ (b || has_edit (cs ++ c ∷ []))) [
+      | true ↦ refl
+      | false ↦ has_edit_more cs c
+    ]
 
 module _ (s t u : Sight) (cs : List Command) (replies : List Reply) (does : DoesAll s t cs replies) (since : Onward s t) (on : Onward t u)
     (fit : All (CommandFits s.setting.prelude) cs) where

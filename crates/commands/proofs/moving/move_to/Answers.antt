@@ -1,17 +1,12 @@
-use Rattle.std.proofs.Common.{rules, ◌≡◌, ◌≢◌, ℕ, Bool, List, Some, None, true, false, sym, subst, ap, ◌∙◌, arith}
+use Rattle.std.proofs.Common.{◌≡◌, ℕ, Some, None, true, false, subst, ap, ◌∙◌}
 use Rattle.library.specs.declared.command.Command.TheVariants.{Move}
 use Rattle.std.specs.List.{list_any}
 use Rattle.library.specs.Edits.{cites_not_below}
 use Rattle.library.specs.declared.reason.Reason.TheVariants.{UnknownLabel, BadRank, CitedNotLower, CiterNotHigher}
-use Rattle.bodystore.specs.declared.stored.StoredStep.{StoredStep}
 use Rattle.cells.specs.State.{State, with_value}
-use Rattle.cells.specs.Shows.{AreStoredAs}
-use Rattle.cells.specs.Slots.{rank_cell}
 use Rattle.cells.specs.Sight.{WasWritten, after}
-use Rattle.cells.specs.Lookups.{ForEachHeld, Finds}
+use Rattle.cells.specs.Lookups.{Finds}
 use Rattle.cells.proofs.Laying.{ok_mapped}
-use Rattle.cells.proofs.ReadBack.{held_later}
-use Rattle.cells.proofs.Settings.{same_slots}
 use Rattle.cells.proofs.Sights.{onward_trans, looks_trans}
 use Rattle.commands.specs.Citing.{TellsNotBelow, TellsCitedUpTo}
 use Rattle.commands.proofs.CitedRanks.{stored_later}
@@ -48,11 +43,13 @@ returns-in_err-kept-clause-onward g c = let looks = looks_trans _ _ _ c.find.ens
 
 pub returns-in_err-map_err-clause-onward : goal.returns-in_err-map_err-clause-onward
 returns-in_err-map_err-clause-onward g c =
-    let looks = looks_trans _ _ _ c.find.ensures.looks (looks_trans _ _ _ c.stored_proof.ensures.looks c.cites_not_below.ensures.looks) in looks.onward
+    let looks = looks_trans _ _ _ c.find.ensures.looks
+    (looks_trans _ _ _ c.stored_proof.ensures.looks c.cites_not_below.ensures.looks) in looks.onward
 
 pub returns-then-branch-clause-onward : goal.returns-then-branch-clause-onward
 returns-then-branch-clause-onward g c =
-    let looks = looks_trans _ _ _ c.find.ensures.looks (looks_trans _ _ _ c.stored_proof.ensures.looks c.cites_not_below.ensures.looks) in looks.onward
+    let looks = looks_trans _ _ _ c.find.ensures.looks
+    (looks_trans _ _ _ c.stored_proof.ensures.looks c.cites_not_below.ensures.looks) in looks.onward
 
 pub returns-then-branch-clause-answers : goal.returns-then-branch-clause-answers
 returns-then-branch-clause-answers g c =
@@ -72,7 +69,8 @@ returns-then-branch-clause-answers g c =
     let on = c.cites_not_below.ensures.looks in
     let since = looks_trans _ _ _ c.stored_proof.ensures.looks on in
     answers_refused old third (Move label c.args.rank) CitedNotLower c.into-then-branch.result c.into-then-branch.ensures
-    (refused_not_above old third (looks_trans _ _ _ c.find.ensures.looks since) i label c.args.rank (finds_later first third label i since some)
+    (refused_not_above old third (looks_trans _ _ _ c.find.ensures.looks since) i label c.args.rank
+    (finds_later first third label i since some)
     c.if-rank-eq0.false kept (stored_since second third i kept on c.in_ok-kept.ensures.ok)
     (subst (TellsNotBelow third c.args.rank kept) c.if-branch.true told))
 
@@ -108,7 +106,8 @@ returns-then-branch-2-clause-answers g c =
     let high : TellsNotBelow t c.args.rank c.in_ok-kept.kept.items false =
     stored_later third t kept (λ lib steps. false ≡ list_any (cites_not_below lib c.args.rank) steps) last
     (subst (TellsNotBelow third c.args.rank kept) c.if-branch.false told) in
-    let low : TellsCitedUpTo t i c.args.rank true = subst (TellsCitedUpTo t i c.args.rank) c.if-branch-2.true c.in_ok-is_cited_up_to.ensures.ok in
+    let low : TellsCitedUpTo t i c.args.rank true =
+    subst (TellsCitedUpTo t i c.args.rank) c.if-branch-2.true c.in_ok-is_cited_up_to.ensures.ok in
     answers_refused old t (Move label c.args.rank) CiterNotHigher c.into-then-branch-2.result c.into-then-branch-2.ensures
     (refused_not_below old t (looks_trans _ _ _ c.find.ensures.looks since) i label c.args.rank (finds_later first t label i since some)
     c.if-rank-eq0.false kept (stored_since second t i kept on c.in_ok-kept.ensures.ok) high low)
@@ -148,10 +147,13 @@ returns-clause-answers g c =
     stored_later third t kept (λ lib steps. false ≡ list_any (cites_not_below lib c.args.rank) steps) last
     (subst (TellsNotBelow third c.args.rank kept) c.if-branch.false told) in
     let u = g.C.Cells.sight c.put.new.cells in
-    let low : TellsCitedUpTo t i c.args.rank false = subst (TellsCitedUpTo t i c.args.rank) c.if-branch-2.false c.in_ok-is_cited_up_to.ensures.ok in
+    let low : TellsCitedUpTo t i c.args.rank false =
+    subst (TellsCitedUpTo t i c.args.rank) c.if-branch-2.false c.in_ok-is_cited_up_to.ensures.ok in
     let put : (st : State) → after u st ≡ with_value c.rank_cell.result c.args.rank (after t st) =
     ok_mapped _ _ _ _ _ c.in_ok-map_err-2.was c.map_err-3.ensures.cases c.put.ensures.ok in
-    let written : WasWritten u c.rank_cell.result = ok_mapped _ _ _ _ _ c.in_ok-map_err-2.was c.map_err-3.ensures.cases c.put.ensures.written in
+    let written : WasWritten u c.rank_cell.result =
+    ok_mapped _ _ _ _ _ c.in_ok-map_err-2.was c.map_err-3.ensures.cases c.put.ensures.written in
     does_move old t (looks_trans _ _ _ c.find.ensures.looks since) i label c.args.rank (finds_later first t label i since some)
     c.if-rank-eq0.false kept (stored_since second t i kept on c.in_ok-kept.ensures.ok) high u c.put.ensures.onward low
-    (λ st. put st ∙ ap (λ (n : ℕ). with_value n c.args.rank (after t st)) c.rank_cell.ensures) (subst (WasWritten u) c.rank_cell.ensures written)
+    (λ st. put st ∙ ap (λ (n : ℕ). with_value n c.args.rank (after t st)) c.rank_cell.ensures)
+    (subst (WasWritten u) c.rank_cell.ensures written)

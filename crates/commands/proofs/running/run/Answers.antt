@@ -1,10 +1,10 @@
-use Rattle.std.proofs.Common.{rules, ◌≡◌, ◌<◌, ◌≤◌, ◌+◌, ℕ, suc, List, [], ◌∷◌, ◌++◌, Err, length, get_or, take, drop, sym, ap, subst, ◌∙◌, arith, drop-cons}
+use Rattle.std.proofs.Common.{◌≡◌, ◌<◌, ◌≤◌, ◌+◌, ℕ, suc, List, [], ◌∷◌, ◌++◌, Err, length, get_or, take, drop, sym, ap}
+use Rattle.std.proofs.Common.{subst, ◌∙◌, arith, drop-cons}
 use Rattle.std.specs.Prelude.{All}
 use Rattle.std.proofs.lemmas.List.{take_more, take-append-drop, length-take-le}
 use Rattle.std.proofs.lemmas.List.Elements.{All-take}
 use Rattle.mmsyntax.specs.Tables.{Tables}
 use Rattle.library.specs.declared.command.Command.{Command}
-use Rattle.library.specs.declared.command.Reply.{Reply}
 use Rattle.library.specs.Fitting.{CommandFits}
 use Rattle.cells.proofs.Sights.{onward_refl, onward_trans}
 use Rattle.commands.specs.Answers.{DoesAll, RunAnswers, error_at}
@@ -44,7 +44,8 @@ returns-in-Err-clause-answers g c =
     let within : k ≤ length cs = omega (arith, c.loop-done-test.true) in
     let number : 1 + length (take k cs) ≡ k + 1 = omega (arith, length-take-le k cs within) in
     subst (λ e. RunAnswers s u cs (Err e)) (ap (λ n. error_at n error) number ∙ sym c.at.ensures)
-    (subst (λ l. RunAnswers s u l (Err (error_at (1 + length (take k cs)) error))) (parted cs k x c.loop-done-test.true c.index-commands-done.is)
+    (subst (λ l. RunAnswers s u l (Err (error_at (1 + length (take k cs)) error)))
+    (parted cs k x c.loop-done-test.true c.index-commands-done.is)
     (ends s t u (take k cs) c.loop-done.replies.items c.loop-done.invariant.does c.loop-done.invariant.onward c.take.ensures.onward fit x
     (drop (k + 1) cs) error c.in-Err.ensures.answers))
 
