@@ -1,25 +1,35 @@
 -- What a run over plain cells does to the library that they show.
-use Rattle.std.proofs.Common.{◌≡◌, List, [], Result, Ok, Err, All, refl, sym, ap, subst}
-use mathlib.Core.Logic.{∥_∥₁, ∣_∣₁, ∥∥₁_map}
+use Rattle.std.proofs.Common.{◌≡◌, ◌≤◌, ℕ, length, List, [], Ok, Err, All, refl, sym, ap, subst}
+use mathlib.Core.Logic.{∥∥₁_map}
 use Rattle.library.specs.declared.library.Ranked.{Ranked}
 use Rattle.library.specs.declared.command.Command.{Command}
 use Rattle.library.specs.declared.command.Reply.{Reply}
-use Rattle.library.specs.declared.reason.Refused.{Refused}
+use Rattle.library.specs.declared.reason.Refused.{Refused as Refusal}
 use Rattle.library.specs.Library.{Setting, Verifies}
 use Rattle.library.specs.Fitting.{CommandFits}
 use Rattle.library.specs.Transactions.{apply}
 use Rattle.library.proofs.Editing.{apply_verifies}
+use Rattle.library.proofs.Opening.{opening_verifies}
+use Rattle.library.specs.Library.{opening}
+use Rattle.proofcheck.specs.Databases.{AllCheck}
+use Rattle.mmsyntax.specs.Layout.{HasSpelling}
+use Rattle.mmsyntax.specs.Tables.{Contents}
+use Rattle.cells.specs.Opening.{Opens}
 use Rattle.cells.specs.declared.plain.PlainCells.{PlainCells}
 use Rattle.cells.specs.State.{State}
 use Rattle.cells.specs.Shows.{Shows}
 use Rattle.cells.specs.Sight.{Views, Onward}
 use Rattle.cells.specs.Plain.{plain_state, undone}
-use Rattle.cells.specs.PlainViews.{setting_of, sight_of, first_state}
+use Rattle.cells.specs.declared.plain.PlainStop.{PlainStop}
+use Rattle.cells.specs.PlainViews.{setting_of, sight_of, first_state, now_state, AreSameButLog}
+use Rattle.mmsyntax.specs.Tables.{Tables}
 use Rattle.ranges.specs.Pairs.{Pairs}
 use Rattle.cells.proofs.Sights.{matches_back}
 use Rattle.cells.proofs.Opened.{first_matches, after_first, later_views}
-use Rattle.commands.specs.Answers.{DoesAll, RefusesAll}
-use Rattle.pairs.specs.InCells.{ShowsNow, ShowsSomeNow}
+use Rattle.commands.specs.declared.ending.RunError.{RunError}
+use Rattle.commands.specs.declared.ending.RunError.TheVariants.{Stopped, Refused, NoMemory}
+use Rattle.commands.specs.Answers.{DoesAll, RefusesAll, RunAnswers}
+use Rattle.pairs.specs.InCells.{ShowsNow, ShowsSomeNow, Applies}
 
 -- a library that is shown is one that is
 pub shows_some : (c : PlainCells) (lib : List Ranked) → ShowsNow c lib → ShowsSomeNow c
@@ -45,7 +55,7 @@ done_shows c d cs replies onward fits does lib h =
       },
     )
 
-pub refused_tells : (c d : PlainCells) (cs : List Command) (refused : Refused) → Onward (sight_of c) (sight_of d)
+pub refused_tells : (c d : PlainCells) (cs : List Command) (refused : Refusal) → Onward (sight_of c) (sight_of d)
     → RefusesAll (sight_of c) (sight_of d) cs refused → (lib : List Ranked) → ShowsNow c lib → apply (setting_of c) lib cs ≡ Err refused
 refused_tells c d cs refused onward told lib h = told (first_state d) lib (first_matches d) (views_before c d lib onward h)
 
@@ -64,3 +74,31 @@ begun_shows c none =
       subst (λ (log : Pairs). Shows c.slots (plain_state (undone c.values.items log) c.store.items c.ranges.items) b.0) none b.1.shows,
       b.1.verifies,
     ))
+
+-- what is shown stays shown where a run is kept
+pub kept_shows : (c d : PlainCells) (lib : List Ranked) → AreSameButLog c d → ShowsNow c lib → ShowsNow d lib
+kept_shows c d lib same h =
+    let e : now_state d ≡ now_state c = λ i. plain_state (same.0 i).items (same.1 i).items (same.2 i).items in
+    record {
+      shows = subst (λ n. Shows n (now_state d) lib) (sym same.4) (subst (λ (st : State). Shows c.slots st lib) (sym e) h.shows);
+      verifies = subst (λ (t : Tables). Verifies (record { prelude = t; slots = d.slots }) lib) (sym same.3)
+          (subst (λ n. Verifies (record { prelude = c.prelude; slots = n }) lib) (sym same.4) h.verifies);
+    }
+
+-- a run that ends early tells of a refusal alone
+pub ended_tells : (c d e : PlainCells) (cs : List Command) (error : RunError PlainStop) → Onward (sight_of c) (sight_of d)
+    → RunAnswers (sight_of c) (sight_of d) cs (Err error) → Applies c e cs (Err error)
+ended_tells c d e cs (Refused refused) onward told = refused_tells c d cs refused onward told
+ended_tells c d e cs (Stopped stop) onward told = tt
+ended_tells c d e cs NoMemory onward told = tt
+
+-- a database that opened in cells is shown as its opening library
+pub opened_shows : (db : Contents) (slots room : ℕ) (made : PlainCells) → HasSpelling db → AllCheck db → 1 ≤ slots → slots ≤ 4096
+    → length db.assertions ≤ slots → Opens db slots room made → ShowsNow made (opening db)
+opened_shows db slots room made spelled checks some few within o =
+    record {
+      shows = subst (λ n. Shows n (now_state made) (opening db)) (sym o.slots_are) o.shows.0;
+      verifies = subst (λ (t : Tables). Verifies (record { prelude = t; slots = made.slots }) (opening db)) (sym o.prelude)
+          (subst (λ n. Verifies (record { prelude = db.prelude; slots = n }) (opening db)) (sym o.slots_are)
+          (opening_verifies db slots spelled checks some few within));
+    }

@@ -1,6 +1,5 @@
 -- What a transaction over a library in plain cells answers, and which library they show then.
 use Rattle.std.specs.Prelude.{◌≡◌, List, Result, Ok, Err}
-use mathlib.Core.Logic.{∥_∥₁}
 use Rattle.library.specs.declared.library.Ranked.{Ranked}
 use Rattle.library.specs.declared.command.Command.{Command}
 use Rattle.library.specs.declared.command.Reply.{Reply}

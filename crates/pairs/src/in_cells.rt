@@ -42,6 +42,8 @@ impl InCells {
         ensures prelude { IfOk result (λ made. made.prelude ≡ db.now.prelude) }
         ensures opening { IfOk result (λ made. ShowsNow made.cells (opening db.now)) }
     {
+        // For the proof: some text declares the database.
+        let _assertions = db.assertions();
         let cells = PlainCells::open(alloc, db, slots, room)?;
         let prelude = db.prelude().copy(alloc)?;
         Ok(InCells { cells, prelude })

@@ -1,0 +1,38 @@
+use Rattle.std.proofs.Common.{All, sym, ap, subst, ◌∙◌}
+use Rattle.mmsyntax.specs.Tables.{Tables}
+use Rattle.library.specs.Fitting.{CommandFits}
+use Rattle.library.specs.Library.{Setting}
+use Rattle.pairs.proofs.Plain.{done_shows, done_shows_some, begun_shows, kept_shows, ended_tells}
+use Rattle.pairs.proofs.in_cells.InCells.apply.Goals as goal
+
+pub keep-requires : goal.keep-requires
+keep-requires c =
+    let p = c.args.self.now in
+    done_shows_some p.cells c.run.new.cells c.args.commands.now c.in-Ok.replies c.run.ensures.onward
+    (subst (λ (t : Tables). All (CommandFits t) c.args.commands.now) (sym p.same) c.requires) c.in-Ok.ensures.answers p.shown
+
+pub invariant_of-self : goal.invariant_of-self
+invariant_of-self c =
+    record {
+      same = c.keep.ensures.same.3 ∙ ap (λ (s : Setting). s.prelude) c.run.ensures.onward.setting ∙ c.args.self.now.same;
+      shown = begun_shows c.keep.new.self c.keep.ensures.log;
+    }
+
+pub invariant_of-self-in-Err : goal.invariant_of-self-in-Err
+invariant_of-self-in-Err c =
+    record {
+      same = c.undo.ensures.same.2 ∙ ap (λ (s : Setting). s.prelude) c.run.ensures.onward.setting ∙ c.args.self.now.same;
+      shown = begun_shows c.undo.new.self c.undo.ensures.log;
+    }
+
+pub returns-in-Ok-clause-answers : goal.returns-in-Ok-clause-answers
+returns-in-Ok-clause-answers c lib h =
+    let p = c.args.self.now in
+    let r = done_shows p.cells c.run.new.cells c.args.commands.now c.in-Ok.replies c.run.ensures.onward
+    (subst (λ (t : Tables). All (CommandFits t) c.args.commands.now) (sym p.same) c.requires) c.in-Ok.ensures.answers lib h in
+    (r.0, r.1, kept_shows c.run.new.cells c.keep.new.self r.0 c.keep.ensures.same r.2)
+
+pub returns-in-Err-clause-answers : goal.returns-in-Err-clause-answers
+returns-in-Err-clause-answers c =
+    ended_tells c.args.self.now.cells c.run.new.cells c.undo.new.self c.args.commands.now c.in-Err.error c.run.ensures.onward
+    c.in-Err.ensures.answers
