@@ -1,7 +1,7 @@
 //! Cells and a store on plain vectors, for one thread.
 
-ghost use Rattle.std.specs.Prelude.{◌≡◌, ◌≢◌, ◌≤◌, ◌<◌, ◌*◌, ◌+◌, ◌++◌, ◌↔◌, [], ◌∷◌, length, slice_index, is_ok, if◌then◌else◌, IfOk, IfErr, IsErrOf};
-ghost use Rattle.cells.specs.Sight.{Looks, Stages};
+ghost use Rattle.std.specs.Prelude.{◌≡◌, ◌≢◌, ◌≤◌, ◌<◌, ◌*◌, ◌+◌, ◌++◌, ◌↔◌, [], ◌∷◌, length, slice_index, is_ok, if◌then◌else◌, IfOk, IfErr, IsErrOf, IsOkUnless};
+ghost use Rattle.cells.specs.Sight.{Looks, Reads, Stages};
 ghost use Rattle.cells.specs.Slots.{cell_count};
 ghost use Rattle.cells.specs.Plain.{undone, ranges_in, ShowsSome, BeganWithSome, HoldNames, LieInStore, IsLogOf, behind, with_place};
 
@@ -185,7 +185,13 @@ impl Cells for PlainCells {
         self.slots
     }
 
-    fn read(&mut self, cell: usize) -> Result<u64, PlainStop> {
+    // the trait's clauses, and why it is stopped
+    fn read(&mut self, cell: usize) -> Result<u64, PlainStop>
+        requires { cell < cell_count (sight_of self.old).setting.slots }
+        ensures ok { IfOk result (λ v. Reads cell v (sight_of self.old) (sight_of self.new)) }
+        ensures err { IfErr result (λ _. Looks (sight_of self.old) (sight_of self.new)) }
+        ensures memory { IsOkUnless result PlainStop.NoMemory }
+    {
         let value = self.values[cell];
         match self.log.push((cell, value)) {
             Ok(()) => Ok(value),
