@@ -1,5 +1,7 @@
 //! The names and the texts of faults that no row prints.
 
+use cells::{Halt, PlainStop};
+use commands::RunError;
 use history::{ApplyError, OpenError, ReplayError};
 use library::{Reason, Refused};
 use mmstatement::{FaultKind, SubstituteError};
@@ -51,6 +53,36 @@ fn errors_of_replays_and_readers_are_told(rt: HostRuntime) -> Result<(), Fail> {
     assert_eq!(rt;
         format!(in rt.alloc(); "{memory}")?.as_str(),
         "out of memory"
+    );
+    Ok(())
+}
+
+#[test]
+fn errors_of_libraries_in_cells_are_told(rt: HostRuntime) -> Result<(), Fail> {
+    let stopped: RunError<PlainStop> = RunError::Stopped(PlainStop::StoreFull);
+    let refused: RunError<PlainStop> = RunError::Refused(Refused {
+        index: 1,
+        reason: Reason::LabelTaken,
+    });
+    let (halted, full) = (
+        Halt::Stopped(PlainStop::NoMemory),
+        cells::OpenError::StoreFull,
+    );
+    assert_eq!(rt;
+        format!(in rt.alloc(); "{stopped}")?.as_str(),
+        "the run was stopped: the store has no room for the words"
+    );
+    assert_eq!(rt;
+        format!(in rt.alloc(); "{refused}")?.as_str(),
+        "command 1 is refused: 2 LabelTaken"
+    );
+    assert_eq!(rt;
+        format!(in rt.alloc(); "{halted}")?.as_str(),
+        "the run was stopped: out of memory"
+    );
+    assert_eq!(rt;
+        format!(in rt.alloc(); "{full}")?.as_str(),
+        "the bodies of the assertions have more words than the store"
     );
     Ok(())
 }

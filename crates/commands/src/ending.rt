@@ -3,27 +3,36 @@
 use cells::Halt;
 use library::{Reason, Refused};
 use std::alloc::{AllocError, AllocFailed};
+use std::fmt;
 use thiserror::Error;
 
 /// Why a command over cells has no reply. What was kept aside by then is the caller's to throw away.
-#[derive(Debug, Drop)]
+#[derive(Debug, Drop, Error)]
+#[error_bound(S: fmt::Display)]
 pub enum CommandError<S> {
     /// The run was stopped.
+    #[error("the run was stopped: {0}")]
     Stopped(S),
     /// The command is refused. It kept nothing aside, and staged nothing.
+    #[error("{0}")]
     Refused(Reason),
     /// Memory ran out.
+    #[error("out of memory")]
     NoMemory,
 }
 
 /// Why a transaction over cells has no replies. What was kept aside by then is the caller's to throw away.
-#[derive(Debug, Drop)]
+#[derive(Debug, Drop, Error)]
+#[error_bound(S: fmt::Display)]
 pub enum RunError<S> {
     /// The run was stopped.
+    #[error("the run was stopped: {0}")]
     Stopped(S),
     /// A command was refused, and with it the transaction.
+    #[error("{0}")]
     Refused(Refused),
     /// Memory ran out.
+    #[error("out of memory")]
     NoMemory,
 }
 
