@@ -1,0 +1,3 @@
+pub mod Keeping
+mod Unread
+mod Small

@@ -1,0 +1,12 @@
+//! Libraries in running words: which transactions on the cells of a library are lawful, and what a history of lawful ones says.
+//!
+//! It joins two layers. `tlwords` runs words that transactions share, keeps a law of its caller's choice for each of them, and tells each session
+//! a history of them; `cells` says when such words show a library. Here stand the law of a library's transactions, and what follows
+//! from it for each history that a session is told: it is one of the library's own definitions. Nothing runs here.
+#![tactic(auto)]
+
+mod laws;
+mod notes;
+
+pub use laws::{lawful_is_kept, one_assertion_is_shown, shown_is_kept, unread_is_unlawful};
+pub use notes::{Given, Note};
