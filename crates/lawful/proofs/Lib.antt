@@ -1,3 +1,6 @@
 pub mod Keeping
+pub mod Entries
+pub mod Standing
+mod Closed
 mod Unread
 mod Small

@@ -9,6 +9,7 @@ use Rattle.library.specs.Fitting.{CommandFits}
 use Rattle.library.specs.Transactions.{apply, has_edit}
 use Rattle.ranges.specs.Pairs.{Pairs}
 use Rattle.ranges.specs.Ranges.{Range}
+use Rattle.tlwords.specs.Terms.{Terms}
 use Rattle.cells.specs.State.{State, most_words}
 use Rattle.cells.specs.Slots.{cell_count, is_ranged}
 use Rattle.cells.specs.Shows.{Shows}
@@ -71,3 +72,7 @@ sight_of g ranges reads writes =
 -- the transaction with these reads, writes and note is lawful for these ranges
 abbrev pub Lawful : Given → List Range → Pairs → Pairs → Note → Type 0
 Lawful g ranges reads writes note = DoesAsSaid (sight_of g ranges reads writes) note
+
+-- the terms of words that hold a library
+abbrev pub library_terms : Terms Given Note
+library_terms = record { lawful = Lawful; opens = OpensWell; ranged = λ g c. is_ranged g.slots c }

@@ -1,5 +1,5 @@
 -- What is true of lawful transactions and of their histories.
-use Rattle.std.specs.Prelude.{◌≡◌, ℕ, ◌<◌, List, [], ◌∷◌}
+use Rattle.std.specs.Prelude.{◌≡◌, ℕ, ◌%◌, ◌<◌, ◌≤◌, List, [], ◌∷◌, Some, length, map, slice_get}
 use Rattle.std.specs.declared.snapshot.Snapshot.{Snapshot}
 use Rattle.mmsyntax.specs.declared.statement.Symbol.TheVariants.{Const}
 use Rattle.mmsyntax.specs.declared.statement.Kind.TheVariants.{Axiom}
@@ -9,15 +9,23 @@ use Rattle.library.specs.declared.command.Command.{Command}
 use Rattle.library.specs.declared.command.Command.TheVariants.{Show}
 use Rattle.library.specs.declared.command.Reply.{Reply}
 use Rattle.library.specs.Library.{IsSetting, ranked_from}
+use Rattle.library.specs.Histories.{Grows, after_all}
+use Rattle.tlwords.specs.declared.closing.ClosedCell.{ClosedCell}
+use Rattle.tlwords.specs.declared.closing.ClosedWords.{ClosedWords}
+use Rattle.tlwords.specs.Seen.{Seen, SeenGrows, Call, Agree}
+use Rattle.tlwords.specs.Known.{Known, Knows, Going, Stands}
+use Rattle.tlwords.specs.Closing.{Closes}
 use Rattle.ranges.specs.Pairs.{Pairs}
 use Rattle.ranges.specs.Ranges.{Range, Within, AreOfOneStore, ranges_named}
 use Rattle.cells.specs.State.{State, most_words}
 use Rattle.cells.specs.Slots.{cell_count, is_ranged}
 use Rattle.cells.specs.Shows.{Shows}
+use Rattle.cells.specs.Sight.{Suits}
 use Rattle.lawful.specs.declared.notes.Given.{Given}
 use Rattle.lawful.specs.declared.notes.Note.{Note}
 use Rattle.lawful.specs.declared.notes.Note.TheVariants.{Done}
-use Rattle.lawful.specs.Lawful.{setting_of, state_of, Lawful}
+use Rattle.lawful.specs.Lawful.{setting_of, first_library, state_of, sight_of, Lawful, library_terms}
+use Rattle.lawful.specs.History.{history_of, library_after, state_after, IsHistoryOf, AllAgree}
 
 -- a library stays shown where further ranges are finished, whatever the cells behind its own hold
 abbrev pub ShownIsKept : Type 0
@@ -37,6 +45,46 @@ UnreadIsUnlawful =
     (g : Given) (ranges : List Range) (writes : Pairs) (commands : Snapshot (List Command)) (replies : Snapshot (List Reply)) (label : List ℕ)
     → IsSetting (setting_of g) → AreOfOneStore most_words ranges → commands.value ≡ Show label ∷ []
     → Lawful g ranges [] writes (Done commands replies) → ⊥
+
+-- ---- histories
+
+-- where more is seen, the history of commands and replies is a later one
+abbrev pub HistoriesGrow : Type 0
+HistoriesGrow = (f h : Seen Note) → SeenGrows f h → Grows (history_of f) (history_of h)
+
+-- a pass on words that hold a library, whose store has at most 2^24 words
+abbrev pub IsPassOn : Given → Known Given Note → Type 0
+IsPassOn g k = (k.home.setting ≡ Some g) × (k.home.room ≤ most_words)
+
+-- what a pass has seen is a history of the library, which its calls agree with
+abbrev pub SessionsStand : Type 0
+SessionsStand =
+    (g : Given) (k : Known Given Note) → IsPassOn g k → Knows library_terms k
+    → IsHistoryOf g k.home.base k.seen × AllAgree g (history_of k.seen) k.mine
+
+-- and so do the calls of others that it was told
+abbrev pub OtherCallsAgree : Type 0
+OtherCallsAgree =
+    (g : Given) (k : Known Given Note) (calls : List (Call Note)) → IsPassOn g k → Knows library_terms k
+    → Agree library_terms g k.home.base k.seen calls → AllAgree g (history_of k.seen) calls
+
+-- what a run has read agrees with the cells after the entries before its place, which show a library that verifies
+abbrev pub RunsSuit : Type 0
+RunsSuit =
+    (g : Given) (r : Going Given Note) (writes : Pairs) → IsPassOn g r.known → Stands library_terms r
+    → Suits (sight_of g r.known.seen.ranges r.reads writes) (state_after r.known.home.base r.known.seen r.place)
+    (library_after g r.known.seen r.place)
+
+-- at the end, what was done to the words is a history of the library, which all calls agree with that agree with the words; and where no lock
+-- is held, the words show the library after it
+abbrev pub ClosedWordsShow : Type 0
+ClosedWordsShow =
+    (g : Given) (base opened : List ℕ) (words : ClosedWords) (c : Closes library_terms g base opened words) → length words.store.items ≤ most_words
+    → IsHistoryOf g base c.seen
+    × ((calls : List (Call Note)) → Agree library_terms g base c.seen calls → AllAgree g (history_of c.seen) calls)
+    × (((i : ℕ) (x : ClosedCell) → slice_get words.cells.items i ≡ Some x → x.lock % 2 ≡ 0)
+    → Shows g.slots (state_of (map (λ x. x.value) words.cells.items) c.seen.ranges)
+    (after_all (setting_of g) (first_library g) (history_of c.seen)))
 
 -- ---- one assertion in two slots
 

@@ -1,6 +1,7 @@
 //! Laws of the definitions: each function does nothing, and its contract is the law.
 
 ghost use Rattle.lawful.specs.Laws.{ShownIsKept, LawfulIsKept, UnreadIsUnlawful, OneAssertionIsShown};
+ghost use Rattle.lawful.specs.Laws.{HistoriesGrow, SessionsStand, OtherCallsAgree, RunsSuit, ClosedWordsShow};
 
 /// Cells that show a library show it too where further ranges of the store are finished, whatever stands in cells behind the library's own.
 pub fn shown_is_kept()
@@ -15,6 +16,30 @@ pub fn lawful_is_kept()
 /// A transaction that read nothing can't have shown an assertion: it isn't lawful, whatever it replied.
 pub fn unread_is_unlawful()
     ensures { UnreadIsUnlawful }
+{}
+
+/// Where more is seen of the words, the history of commands and replies is a later one: what was settled stays.
+pub fn histories_grow()
+    ensures { HistoriesGrow }
+{}
+
+/// What a pass has seen of words that hold a library is a history of that library: each transaction's replies are those of the definition, from
+/// the library at the opening, and the library after each front verifies and is what the cells show there. The calls of the pass agree
+/// with it, and so do those of others that it has learnt of.
+pub fn sessions_stand()
+    ensures stand { SessionsStand }
+    ensures others { OtherCallsAgree }
+{}
+
+/// What a run has read is what the cells hold at its place, where they show a library that verifies: whatever other runs do meanwhile.
+pub fn runs_suit()
+    ensures { RunsSuit }
+{}
+
+/// The words at the end have one history of the library, which the calls of all sessions agree with; and where no lock is held they show the
+/// library after it.
+pub fn closed_words_show()
+    ensures { ClosedWordsShow }
 {}
 
 /// The words of a library of one assertion, in two slots, show it.

@@ -5,8 +5,13 @@
 //! from it for each history that a session is told: it is one of the library's own definitions. Nothing runs here.
 #![tactic(auto)]
 
+mod law;
 mod laws;
 mod notes;
 
-pub use laws::{lawful_is_kept, one_assertion_is_shown, shown_is_kept, unread_is_unlawful};
+pub use law::LibraryLaw;
+pub use laws::{
+    closed_words_show, histories_grow, lawful_is_kept, one_assertion_is_shown, runs_suit,
+    sessions_stand, shown_is_kept, unread_is_unlawful,
+};
 pub use notes::{Given, Note};
