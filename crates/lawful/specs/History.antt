@@ -23,9 +23,9 @@ entry_noted (Some (Done commands replies)) = done_entry commands.value replies.v
 entry_noted _ = open_entry
 
 abbrev pub entry_of : Status → Option Note → Entry
-entry_of status.Open note = open_entry
-entry_of status.Void note = void_entry
-entry_of status.Done note = entry_noted note
+entry_of status.Open _ = open_entry
+entry_of status.Void _ = void_entry
+entry_of status.Done told = entry_noted told
 
 -- each entry with the note of the same number
 abbrev pub entries_of : List WordsEntry → List Note → List Entry
