@@ -3,7 +3,7 @@
 ghost use Rattle.std.specs.Prelude.{◌≡◌};
 
 use crate::shared::mini;
-use crate::slots::{demo, free_from, opened, value_of};
+use crate::slots::{demo, free_from, opened, three, value_of};
 use cells::{Cells, PlainStop};
 use commands::{RunError, read_script, run};
 use library::{Reason, Refused};
@@ -62,9 +62,12 @@ fn an_added_theorem_lies_from_its_bucket_on(rt: HostRuntime) -> Result<(), Fail>
     let script = b"begin add 200 t $p wff $= we $. commit";
     let answer = done_in(alloc, &prelude, &mut cells, script)?;
     assert!(rt; matches!(answer, Ok(1)));
-    // `t` is the byte 116: the slot 116, whose cells begin with 580; its bucket's cell, its next cell, and the citers of `we` in the slot 0
+    // `t` is the byte 116: the slot 116, whose cells begin with 580; its bucket's cell, its next cell, and the citers of `we` in the slot 0.
+    // Behind the 7 words that were there stand the label, the statement and the proof, in this order: 7, 8 and 13 times 2^25, and the lengths
     let cells_then = [
         (580, 234_881_025),
+        (581, 268_435_461),
+        (582, 436_207_617),
         (583, 200),
         (584, 0),
         (20_596, 117),
@@ -90,6 +93,22 @@ fn an_empty_slot_is_looked_for_going_round(rt: HostRuntime) -> Result<(), Fail> 
     let answer = done_in(alloc, &prelude, &mut cells, script)?;
     assert!(rt; matches!(answer, Ok(1)));
     assert_eq!(rt; free_from(&mut cells, 3), Some(Some(1)));
+    Ok(())
+}
+
+#[test]
+fn an_equal_proof_is_staged_again(rt: HostRuntime) -> Result<(), Fail> {
+    let alloc = rt.alloc();
+    let mut cells = opened(&rt, three(), 4, 100)?;
+    let prelude = cells.prelude().copy(alloc)?;
+    let script = b"begin reprove th $= wx wy id $. commit";
+    let answer = done_in(alloc, &prelude, &mut cells, script)?;
+    assert!(rt; matches!(answer, Ok(1)));
+    // the proof of the slot 2 behind the 35 words that were there, and still one citer of the slot 0
+    assert_eq!(rt;
+        (value_of(&cells, 12), value_of(&cells, 4), cells.taken()),
+        (Some(35 * 33_554_432 + 3), Some(1), 38)
+    );
     Ok(())
 }
 

@@ -14,12 +14,12 @@ use std::thread::Threads;
 use tlwords::Law;
 
 /// 23 bytes: one constant, and an axiom.
-pub fn mini() -> &'static [u8] {
+pub(crate) fn mini() -> &'static [u8] {
     b"$c wff $.\nwe $a wff $.\n"
 }
 
 /// Two constants, two variables with their `$f`, two axioms, and a theorem with everything in it, in the canonical layout.
-pub fn small() -> &'static [u8] {
+pub(crate) fn small() -> &'static [u8] {
     b"$c wff |- $.
 $v x y $.
 wx $f wff x $.
@@ -35,12 +35,15 @@ $}
 }
 
 /// The database of a text.
-pub fn database(rt: &(impl AllocGlobal + RandomSource), text: &[u8]) -> Result<Database, Fail> {
+pub(crate) fn database(
+    rt: &(impl AllocGlobal + RandomSource),
+    text: &[u8],
+) -> Result<Database, Fail> {
     Ok(read_database(rt.alloc(), RandomState::new(rt)?, text)?)
 }
 
 /// The editor of a database whose proofs check, with room for so many assertions, or why it isn't opened.
-pub fn editor(
+pub(crate) fn editor(
     rt: &(impl AllocGlobal + RandomSource + Threads + Sync),
     text: &[u8],
     slots: usize,
@@ -55,7 +58,7 @@ pub fn editor(
 }
 
 /// The opening library of a database of at most four assertions whose proofs check.
-pub fn library(
+pub(crate) fn library(
     rt: &(impl AllocGlobal + RandomSource + Threads + Sync),
     text: &[u8],
 ) -> Result<PlainLibrary, Fail> {
@@ -66,7 +69,7 @@ pub fn library(
 }
 
 /// The list of these items.
-pub fn sequence<T: Copy>(alloc: Global, items: &[T]) -> Result<Sequence<T>, AllocError> {
+pub(crate) fn sequence<T: Copy>(alloc: Global, items: &[T]) -> Result<Sequence<T>, AllocError> {
     Ok(Sequence::from_vec(Vec::from_slice(alloc, items)?))
 }
 

@@ -4,10 +4,10 @@ ghost use Rattle.std.specs.Prelude.{◌≤◌};
 
 use crate::shared::{database, mini};
 use cells::{
-    Cells, OpenError, PlainCells, bucket, citers, entry, find, free_slot, is_full, kind, put_in,
-    rank,
+    Cells, OpenError, PlainCells, bucket, citers, entry, find, free_slot, is_full, kind, label,
+    put_in, rank,
 };
-use mmstatement::{Kind, Prelude, fits, write_assertion};
+use mmstatement::{Kind, Label, Prelude, fits, write_assertion};
 use proofcheck::check_all;
 use ranges::Range;
 use std::alloc::{AllocError, AllocGlobal, Global};
@@ -16,7 +16,7 @@ use std::test::Fail;
 use std::thread::Threads;
 
 /// Two axioms and a theorem that cites the first of them, in the canonical layout.
-fn three() -> &'static [u8] {
+pub(crate) fn three() -> &'static [u8] {
     b"$c wff |- $.
 $v x y $.
 wx $f wff x $.
@@ -126,6 +126,15 @@ fn rank_of<C: Cells>(cells: &mut C, slot: usize) -> Option<u32> {
     }
 }
 
+/// The label of the assertion in a slot.
+fn label_of<C: Cells>(alloc: Global, cells: &mut C, slot: usize) -> Option<Label> {
+    if slot < cells.slots() {
+        label(alloc, cells, slot).ok()
+    } else {
+        None
+    }
+}
+
 /// The kind of the assertion in a slot.
 fn kind_of<C: Cells>(cells: &mut C, slot: usize) -> Option<Kind> {
     if slot < cells.slots() {
@@ -178,6 +187,8 @@ fn slots_are_read_back(rt: HostRuntime) -> Result<(), Fail> {
         (Some(1), Some(0))
     );
     assert_eq!(rt; rank_of(&mut cells, 1), Some(200));
+    let label = label_of(alloc, &mut cells, 2).ok_or("a label")?;
+    assert_eq!(rt; label.as_slice(), b"th".as_slice());
     assert_eq!(rt; kind_of(&mut cells, 1), Some(Kind::Axiom));
     assert_eq!(rt; kind_of(&mut cells, 2), Some(Kind::Theorem));
     assert_eq!(rt; fullness_of(&mut cells, 2), Some(true));

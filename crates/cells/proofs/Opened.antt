@@ -22,7 +22,8 @@ use Rattle.cells.specs.Shows.{Held, slots_of, IsNamed, IsStoredAs, AreStoredAs, 
 use Rattle.cells.specs.Sight.{Sight, Matches, Views, Onward, Looks, after}
 use Rattle.cells.specs.Lookups.{Resolves}
 use Rattle.cells.specs.Filling.{MayFill, Fills, IsFillable}
-use Rattle.cells.specs.Plain.{undone, plain_sight, plain_state, ShowsSome}
+use Rattle.cells.specs.Plain.{undone, ShowsSome}
+pub use Rattle.cells.specs.PlainViews.{setting_of, sight_of, now_state, first_state}
 use Rattle.cells.specs.Opening.{Opens, front, held_from}
 use Rattle.std.proofs.Math.Seq.{take-length}
 use Rattle.cells.proofs.Empty.{shows_none}
@@ -34,19 +35,6 @@ use Rattle.cells.proofs.Fronts.{front_verifies, slots_from, opening_next, length
 use Rattle.cells.proofs.Sights.{onward_refl, matches_back}
 
 -- ---- plain cells
-
-abbrev pub setting_of : PlainCells → Setting
-setting_of c = record { prelude = c.prelude; slots = c.slots }
-
-abbrev pub sight_of : PlainCells → Sight
-sight_of c = plain_sight (setting_of c) c.room c.values.items c.log.items c.store.items c.ranges.items
-
--- the state that the values show, and that with which the run began
-abbrev pub now_state : PlainCells → State
-now_state c = plain_state c.values.items c.store.items c.ranges.items
-
-abbrev pub first_state : PlainCells → State
-first_state c = plain_state (undone c.values.items c.log.items) c.store.items c.ranges.items
 
 pub first_matches : (c : PlainCells) → Matches (sight_of c) (first_state c)
 first_matches c = plain_matches (setting_of c) c.room c.values.items c.log.items c.store.items c.ranges.items (omega (arith, c.stored, c.roomy))

@@ -1,5 +1,5 @@
 -- What becomes of a state where an assertion is put into an empty slot.
-use Rattle.std.specs.Prelude.{◌≡◌, ◌≢◌, ◌<◌, ◌≤◌, ◌⊎◌, ℕ, ◌+◌, ◌-◌, ◌*◌, List, [], ◌∷◌, ◌++◌, false, nat_eq}
+use Rattle.std.specs.Prelude.{◌≡◌, ◌≢◌, ◌<◌, ◌≤◌, ◌⊎◌, ℕ, ◌+◌, ◌-◌, ◌*◌, ◌^◌, List, All, [], ◌∷◌, ◌++◌, false, nat_eq}
 use Rattle.mmsyntax.specs.declared.statement.Assertion.{Assertion}
 use Rattle.mmsyntax.specs.declared.statement.Kind.{Kind}
 use Rattle.mmsyntax.specs.declared.statement.Kind.TheVariants.{Theorem, Axiom}
@@ -13,6 +13,7 @@ use Rattle.bodystore.specs.Bodies.{label_body, statement_of, statement_body, pro
 use Rattle.cells.specs.State.{State, HasBody}
 use Rattle.cells.specs.Slots.{name_cell, statement_cell, proof_cell, rank_cell, citers_cell}
 use Rattle.cells.specs.Shows.{Held, IsEmpty, AreStoredAs, ShowsHeld}
+use Rattle.cells.specs.Sight.{Sight, Matches, Views, after, Turns}
 
 -- the slots that the steps cite, each once
 pub record AreCitedSlots (steps : List StoredStep) (slots : List ℕ) : Type 0 where
@@ -25,10 +26,21 @@ pub record CountsIn (listed : List ℕ) (st next : State) : Type 0 where
   pub counted : (i : ℕ) → Has i listed → next.value (citers_cell i) ≡ st.value (citers_cell i) + 1
   pub others : (c : ℕ) → ((i : ℕ) → Has i listed → c ≢ citers_cell i) → next.value c ≡ st.value c
 
+-- so in each state that may be under the run, where no slot is listed twice, and none has 2^32 citers or more
+abbrev pub CountsAnyIn : List ℕ → Sight → Sight → Type 0
+CountsAnyIn listed old new =
+    Turns old new (λ st next.
+    ((i : ℕ) → Has i listed → st.value (citers_cell i) < 2 ^ 32) → Distinct nat_eq listed → CountsIn listed st next)
+
 -- each of these slots has one citer less, and nothing else changes
 pub record CountsOut (listed : List ℕ) (st next : State) : Type 0 where
   pub counted : (i : ℕ) → Has i listed → next.value (citers_cell i) ≡ st.value (citers_cell i) - 1
   pub others : (c : ℕ) → ((i : ℕ) → Has i listed → c ≢ citers_cell i) → next.value c ≡ st.value c
+
+-- so in each state that may be under the run, where all that is listed is a slot, and none is listed twice
+abbrev pub CountsAnyOut : List ℕ → Sight → Sight → Type 0
+CountsAnyOut listed old new =
+    Turns old new (λ st next. All (λ i. i < old.setting.slots) listed → Distinct nat_eq listed → CountsOut listed st next)
 
 -- an assertion that may be put into the slot of a library that is shown: the slot is empty, nobody has the label, and the steps are stored
 pub record MayFill (slots : ℕ) (st : State) (lib : List Ranked) (i : ℕ) (a : Assertion) (kept : List StoredStep) : Type 0 where
@@ -40,6 +52,12 @@ pub record MayFill (slots : ℕ) (st : State) (lib : List Ranked) (i : ℕ) (a :
 abbrev pub Fills : ℕ → State → List Ranked → List Held → ℕ → ℕ → Assertion → Type 0
 Fills slots next lib held i rank a =
     ShowsHeld slots next (added lib rank a) (held ++ record { slot = i; entry = record { rank = rank; assertion = a } } ∷ [])
+
+-- so in each state that may be under the run, and for each library that it showed with what the run kept aside before
+abbrev pub FillsAny : ℕ → ℕ → Assertion → List StoredStep → Sight → Sight → Type 0
+FillsAny i rank a kept old new =
+    (st : State) (lib : List Ranked) → Matches new st → (shown : Views old st lib) → MayFill old.setting.slots (after old st) lib i a kept
+    → Fills old.setting.slots (after new st) lib shown.shows.held i rank a
 
 -- an assertion that has a label, with steps that cite slots, at least one where it is a theorem, and none where it is an axiom
 pub record IsFillable (slots : ℕ) (a : Assertion) (kept : List StoredStep) : Type 0 where
@@ -61,6 +79,10 @@ pub record LaysDown (st next : State) (i rank : ℕ) (a : Assertion) (kept : Lis
   pub ranked : next.value (rank_cell i) ≡ rank
   pub citers : next.value (citers_cell i) ≡ 0
   pub others : (c : ℕ) → (c < 5 * i) ⊎ (5 * i + 5 ≤ c) → next.value c ≡ st.value c
+
+-- so in each state that may be under the run
+abbrev pub LaysAnyDown : ℕ → ℕ → Assertion → List StoredStep → Sight → Sight → Type 0
+LaysAnyDown i rank a kept old new = Turns old new (λ st next. LaysDown st next i rank a kept)
 
 -- the slot's five cells hold 0, and nothing else changes
 pub record Empties (i : ℕ) (st next : State) : Type 0 where

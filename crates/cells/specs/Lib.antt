@@ -6,5 +6,7 @@ pub mod Lookups
 pub mod Chains
 pub mod Filling
 pub mod Plain
+pub mod PlainViews
+pub mod Measures
 pub mod Opening
 pub mod Reasons

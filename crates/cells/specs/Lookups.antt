@@ -1,5 +1,5 @@
 -- What the calls that read a library's cells answer, for every state that may be under the run.
-use Rattle.std.specs.Prelude.{◌≡◌, ◌≢◌, ◌<◌, ◌≤◌, ℕ, ◌+◌, ◌%◌, List, [], ◌∷◌, Option, Some, None, Bool, true, false, length, All, Contains}
+use Rattle.std.specs.Prelude.{◌≡◌, ◌≢◌, ◌<◌, ◌≤◌, ℕ, ◌+◌, ◌%◌, ◌↔◌, IsTrue, List, [], ◌∷◌, Option, Some, None, Bool, true, false, length, All, Contains}
 use Rattle.std.specs.List.{list_any}
 use Rattle.mmsyntax.specs.declared.statement.Step.{Step}
 use Rattle.mmsyntax.specs.declared.statement.Step.TheVariants.{Float, Hyp, Cite}
@@ -11,7 +11,7 @@ use Rattle.ranges.specs.Ranges.{Has}
 use Rattle.cells.specs.State.{State, HasBody}
 use Rattle.cells.specs.Slots.{name_cell}
 use Rattle.cells.specs.Shows.{IsNamed, Holds, IsEmpty, IsStoredAs, AreStoredAs}
-use Rattle.cells.specs.Sight.{Sight, Matches, Views, after}
+use Rattle.cells.specs.Sight.{Sight, Matches, Views, after, ForEachState}
 
 -- what is so of every state that may be under the run and of every library that verifies and that it shows with what the run keeps aside
 abbrev pub ForEach : Sight → (State → List Ranked → Type 0) → Type 0
@@ -24,7 +24,12 @@ ForEachHeld s i told = ForEach s (λ st lib. (e : Ranked) → Contains lib e →
 -- a label of bytes that the slot has in some state that may be the one under the run is this one
 abbrev pub IsNameAt : Sight → ℕ → List ℕ → Type 0
 IsNameAt s i made =
-    (st : State) (label : List ℕ) → Matches s st → All (λ byte. byte < 256) label → IsNamed s.setting.slots (after s st) i label → made ≡ label
+    (st : State) (label : List ℕ) → Matches s st → All (λ byte. byte < 256) label → IsNamed s.setting.slots (after s st) i label
+    → made ≡ label
+
+-- whether the slot has the label
+abbrev pub TellsLabel : Sight → ℕ → List ℕ → Bool → Type 0
+TellsLabel s i label b = ForEachState s (λ st. IsTrue b ↔ IsNamed s.setting.slots st i label)
 
 -- the slot holds the assertion of the library that has the label
 pub record IsFoundAt (slots : ℕ) (st : State) (lib : List Ranked) (label : List ℕ) (i : ℕ) : Type 0 where
@@ -60,6 +65,15 @@ pub record AreWordsOf (st : State) (cell : ℕ) (made : List ℕ) : Type 0 where
   pub body : (words : List ℕ) → HasBody st cell words → made ≡ words
   pub none : st.value cell ≡ 0 → length made ≡ 0
 
+-- the first word of the body that the cell names
+abbrev pub IsFirstWordOf : Sight → ℕ → ℕ → Type 0
+IsFirstWordOf s cell first =
+    (st : State) (w : ℕ) (more : List ℕ) → Matches s st → HasBody (after s st) cell (w ∷ more) → first ≡ w
+
+-- the steps of the proof of the assertion in the slot, as they are stored
+abbrev pub AreStepsAt : Sight → ℕ → List StoredStep → Type 0
+AreStepsAt s i made = ForEachHeld s i (λ st lib e. AreStoredAs s.setting.slots st e.assertion.proof made)
+
 -- the slots that the steps cite are slots
 abbrev pub AreWithin : ℕ → List StoredStep → Type 0
 AreWithin slots kept = (i : ℕ) → Has (Slot i) kept → i < slots
@@ -67,7 +81,8 @@ AreWithin slots kept = (i : ℕ) → Has (Slot i) kept → i < slots
 -- the step with a cited label as a slot that has it; none where it cites a label that no assertion has
 abbrev pub StoresStep : Sight → Step → Option StoredStep → Type 0
 StoresStep s step None = ForEach s (λ st lib. is_of_unknown lib step ≡ true)
-StoresStep s step (Some kept) = AreWithin s.setting.slots (kept ∷ []) × ForEach s (λ st lib. IsStoredAs (IsNamed s.setting.slots st) step kept)
+StoresStep s step (Some kept) =
+    AreWithin s.setting.slots (kept ∷ []) × ForEach s (λ st lib. IsStoredAs (IsNamed s.setting.slots st) step kept)
 
 -- the steps with each cited label as a slot that has it; none where some step cites a label that no assertion has
 abbrev pub Resolves : Sight → List Step → Option (List StoredStep) → Type 0
@@ -80,3 +95,8 @@ abbrev pub IsShortLabelled : Step → Type 0
 IsShortLabelled (Float i) = Unit {0}
 IsShortLabelled (Hyp k) = Unit {0}
 IsShortLabelled (Cite label) = All (λ byte. byte < 256) label
+
+-- the step that is stored as this one
+abbrev pub IsStepOf : ℕ → Sight → StoredStep → Step → Type 0
+IsStepOf slots s kept made =
+    (st : State) (x : Step) → Matches s st → IsShortLabelled x → IsStoredAs (IsNamed slots (after s st)) x kept → made ≡ x

@@ -6,7 +6,8 @@ use Rattle.library.specs.Library.{opening}
 use Rattle.cells.specs.declared.opening.OpenError.{OpenError}
 use Rattle.cells.specs.declared.opening.OpenError.TheVariants.{TooMany, StoreFull, NoMemory}
 use Rattle.cells.specs.declared.plain.PlainCells.{PlainCells}
-use Rattle.cells.specs.Plain.{plain_state, bodies_length}
+use Rattle.cells.specs.PlainViews.{now_state}
+use Rattle.cells.specs.Measures.{bodies_length}
 use Rattle.cells.specs.Shows.{Held, ShowsHeld}
 
 -- assertions, each with a slot: the slots from the slot i on, in order
@@ -20,7 +21,7 @@ pub record Opens (db : Contents) (slots room : ℕ) (made : PlainCells) : Type 0
   pub slots_are : made.slots ≡ slots
   pub room_is : made.room ≡ room
   pub kept : made.log.items ≡ []
-  pub shows : ShowsHeld slots (plain_state made.values.items made.store.items made.ranges.items) (opening db) (held_from 0 (opening db))
+  pub shows : ShowsHeld slots (now_state made) (opening db) (held_from 0 (opening db))
 
 -- the prelude, with the first so many assertions
 abbrev pub front : ℕ → Contents → Contents

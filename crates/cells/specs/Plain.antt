@@ -1,13 +1,11 @@
--- Cells on plain vectors: what their run has seen, and how much of a store a database takes.
-use Rattle.std.specs.Prelude.{◌≡◌, ◌<◌, ◌≤◌, ℕ, suc, ◌+◌, ◌||◌, ◌==◌, Bool, true, List, [], ◌∷◌, length, map, take, drop, slice_get, slice_set, slice_index, sum_by, Some}
+-- Of the code's inside, apart from the rules: cells on plain vectors: what they hold at all times, and what their run has seen.
+use Rattle.std.specs.Prelude.{◌≡◌, ◌<◌, ◌≤◌, ℕ, suc, ◌+◌, ◌||◌, ◌==◌, Bool, true, if◌then◌else◌, List, [], ◌∷◌, ◌++◌, length, map, take, drop, slice_get, slice_set, slice_index, Some}
 use Rattle.std.specs.List.{list_any}
-use Rattle.mmsyntax.specs.declared.statement.Assertion.{Assertion}
 use Rattle.library.specs.declared.library.Ranked.{Ranked}
 use Rattle.library.specs.Library.{Setting, Verifies}
 use Rattle.ranges.specs.Pairs.{Pairs}
 use Rattle.ranges.specs.Ranges.{Range, word_of}
 use Rattle.ranges.specs.declared.range.Range.{Range as Place}
-use Rattle.bodystore.specs.Bodies.{label_body, statement_of, statement_body}
 use Rattle.cells.specs.State.{State}
 use Rattle.cells.specs.Slots.{is_ranged}
 use Rattle.cells.specs.Sight.{Sight, Suits}
@@ -39,8 +37,12 @@ ranges_in store places = map (range_in store) places
 abbrev pub behind : List ℕ → List ℕ → Place
 behind store words = record { start = length store; len = length words }
 
--- what the run has seen: it knows all ranges; it has read the cells of its log; it keeps aside all values as they are now; and the words that
--- were taken are those of the store
+-- a place behind others, where it was put there
+abbrev pub with_place : Bool → List Place → Place → List Place
+with_place put places place = if put then places ++ place ∷ [] else places
+
+-- what the run has seen: it knows all ranges; it has read the cells of its log; it keeps aside all values as they are now; and the words
+-- that were taken are those of the store
 abbrev pub plain_sight : Setting → ℕ → List ℕ → Pairs → List ℕ → List Place → Sight
 plain_sight setting room values log store places =
     record {
@@ -81,13 +83,3 @@ LieInStore store places = (i : ℕ) (r : Place) → slice_get places i ≡ Some 
 -- the log is of cells
 abbrev pub IsLogOf : ℕ → Pairs → Type 0
 IsLogOf count log = (i : ℕ) (p : ℕ × ℕ) → slice_get log i ≡ Some p → p.0 < count
-
--- ---- how much of a store is taken
-
--- the words of an assertion's bodies: its label, its statement, and a word for each step of its proof
-abbrev pub body_length : Assertion → ℕ
-body_length a = length (label_body a.label) + length (statement_body (statement_of a)) + length a.proof
-
--- those of all assertions
-abbrev pub bodies_length : List Assertion → ℕ
-bodies_length xs = sum_by body_length xs

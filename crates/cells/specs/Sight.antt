@@ -1,5 +1,5 @@
 -- What a run has seen of the cells and of the store, what it keeps aside, and the states that this leaves possible.
-use Rattle.std.specs.Prelude.{◌≡◌, ℕ, ◌+◌, ◌==◌, ◌⊎◌, if◌then◌else◌, List, true, Some, length}
+use Rattle.std.specs.Prelude.{◌≡◌, ◌≢◌, ℕ, ◌+◌, ◌==◌, ◌⊎◌, if◌then◌else◌, List, true, Some, length}
 use Rattle.library.specs.declared.library.Ranked.{Ranked}
 use Rattle.library.specs.Library.{Setting, Verifies}
 use Rattle.ranges.specs.Pairs.{Pairs, written}
@@ -48,6 +48,20 @@ pub record Views (s : Sight) (st : State) (lib : List Ranked) : Type 0 where
   pub matches : Matches s st
   pub shows : Shows s.setting.slots (after s st) lib
   pub verifies : Verifies s.setting lib
+
+-- ---- what is so of all states that may be under the run
+
+-- of each of them, with what the run keeps aside
+abbrev pub ForEachState : Sight → (State → Type 0) → Type 0
+ForEachState s told = (st : State) → Matches s st → told (after s st)
+
+-- and of what calls made of it: with what the run kept aside before, and with what it keeps aside now
+abbrev pub Turns : Sight → Sight → (State → State → Type 0) → Type 0
+Turns old new told = (st : State) → Matches new st → told (after old st) (after new st)
+
+-- all cells but this one are as they were
+abbrev pub KeepsOthers : ℕ → Sight → Sight → Type 0
+KeepsOthers cell old new = (st : State) (c : ℕ) → c ≢ cell → (after new st).value c ≡ (after old st).value c
 
 -- ---- what the calls of a run do to its sight
 

@@ -9,11 +9,11 @@ ghost use Rattle.cells.specs.Sight.{Sight, WasRead, Suits, Looks, Reads, Writes,
 
 use ranges::Range;
 
-/// The cells of a library and the store of its bodies, as one run sees them. What it writes is kept aside: it reads it back, and nobody else sees
-/// it yet.
+/// The cells of a library and the store of its bodies, as one run sees them. What it writes is kept aside: it reads it back, and nobody
+/// else sees it yet.
 ///
-/// Cells count from 0; a library of S slots has 7 S cells. Contracts speak of what the run has seen: the finished ranges that it knows, what it
-/// has read, and what it keeps aside.
+/// Cells count from 0; a library of S slots has 7 S cells. Contracts speak of what the run has seen: the finished ranges that it knows,
+/// what it has read, and what it keeps aside.
 pub trait Cells {
     /// Why a run is stopped.
     type Stop: Drop;

@@ -1,14 +1,8 @@
 //! Puts slots into the chains of label buckets, and takes them out.
 
-ghost use Rattle.std.specs.Prelude.{◌≡◌, ◌<◌, ◌≤◌, ◌∷◌, List, nat_eq, length, IfOk};
-ghost use Rattle.mmsyntax.specs.Assertions.{Distinct};
-ghost use Rattle.library.specs.Library.{label_of};
-ghost use Rattle.library.specs.declared.library.Ranked.{Ranked};
-ghost use Rattle.ranges.specs.Ranges.{Has};
-ghost use Rattle.cells.specs.State.{State};
-ghost use Rattle.cells.specs.Shows.{Held, slots_of, AreChained};
-ghost use Rattle.cells.specs.Sight.{Sight, Matches, Onward, after};
-ghost use Rattle.cells.specs.Chains.{Rechains, without_slot};
+ghost use Rattle.std.specs.Prelude.{◌<◌, IfOk};
+ghost use Rattle.cells.specs.Sight.{Sight, Onward};
+ghost use Rattle.cells.specs.Chains.{PutsIn, TakesOut};
 
 use crate::cells::Cells;
 use crate::places::{bucket, bucket_cell, link, next_cell, slot_count};
@@ -21,7 +15,7 @@ use crate::places::{bucket, bucket_cell, link, next_cell, slot_count};
 pub fn put_in<C: Cells>(cells: &mut C, slot: usize, label: &[u8]) -> Result<(), C::Stop>
     requires { slot < (C.sight cells.old).setting.slots }
     ensures onward { Onward (C.sight cells.old) (C.sight cells.new) }
-    ensures ok { IfOk result (λ _. (st : State) (held : List Held) (e : Ranked) → Matches (C.sight cells.new) st → AreChained (C.sight cells.old).setting.slots (after (C.sight cells.old) st) held → label_of e ≡ label.now → (Has slot (slots_of held) → ⊥) → Rechains (C.sight cells.old).setting.slots (after (C.sight cells.old) st) (after (C.sight cells.new) st) held (record { slot = slot; entry = e } ∷ held)) }
+    ensures ok { IfOk result (λ _. PutsIn slot label.now (C.sight cells.old) (C.sight cells.new)) }
 {
     let slots = slot_count(cells);
     let front = bucket_cell(slots, bucket(label, slots));
@@ -40,7 +34,7 @@ pub fn put_in<C: Cells>(cells: &mut C, slot: usize, label: &[u8]) -> Result<(), 
 pub fn take_out<C: Cells>(cells: &mut C, slot: usize, label: &[u8]) -> Result<(), C::Stop>
     requires { slot < (C.sight cells.old).setting.slots }
     ensures onward { Onward (C.sight cells.old) (C.sight cells.new) }
-    ensures ok { IfOk result (λ _. (st : State) (held : List Held) (e : Ranked) → Matches (C.sight cells.new) st → AreChained (C.sight cells.old).setting.slots (after (C.sight cells.old) st) held → Distinct nat_eq (slots_of held) → Has (record { slot = slot; entry = e }) held → label_of e ≡ label.now → length held ≤ (C.sight cells.old).setting.slots → Rechains (C.sight cells.old).setting.slots (after (C.sight cells.old) st) (after (C.sight cells.new) st) held (without_slot slot held)) }
+    ensures ok { IfOk result (λ _. TakesOut slot label.now (C.sight cells.old) (C.sight cells.new)) }
 {
     let slots = slot_count(cells);
     let next = cells.read(next_cell(slots, slot))?;

@@ -1,12 +1,8 @@
 //! Counts the citers of the assertions that a proof cites.
 
-ghost use Rattle.std.specs.Prelude.{◌≡◌, ◌<◌, ◌^◌, ℕ, List, All, nat_eq, IfOk};
-ghost use Rattle.mmsyntax.specs.Assertions.{Distinct};
-ghost use Rattle.ranges.specs.Ranges.{Has};
-ghost use Rattle.cells.specs.State.{State};
-ghost use Rattle.cells.specs.Slots.{citers_cell};
-ghost use Rattle.cells.specs.Sight.{Sight, Matches, Onward, after};
-ghost use Rattle.cells.specs.Filling.{AreCitedSlots, CountsIn, CountsOut};
+ghost use Rattle.std.specs.Prelude.{◌<◌, All, IfOk};
+ghost use Rattle.cells.specs.Sight.{Sight, Onward};
+ghost use Rattle.cells.specs.Filling.{AreCitedSlots, CountsAnyIn, CountsAnyOut};
 
 use crate::cells::Cells;
 use crate::places::{citers_cell, slot_count};
@@ -40,7 +36,7 @@ pub fn cited_slots(alloc: Global, steps: &[StoredStep]) -> Result<Vec<usize>, Al
 pub fn count_in<C: Cells>(cells: &mut C, cited: &[usize]) -> Result<(), C::Stop>
     requires { All (λ i. i < (C.sight cells.old).setting.slots) cited.now }
     ensures onward { Onward (C.sight cells.old) (C.sight cells.new) }
-    ensures ok { IfOk result (λ _. (st : State) → Matches (C.sight cells.new) st → ((i : ℕ) → Has i cited.now → (after (C.sight cells.old) st).value (citers_cell i) < 2 ^ 32) → Distinct nat_eq cited.now → CountsIn cited.now (after (C.sight cells.old) st) (after (C.sight cells.new) st)) }
+    ensures ok { IfOk result (λ _. CountsAnyIn cited.now (C.sight cells.old) (C.sight cells.new)) }
 {
     let _slots = slot_count(cells);
     for slot in cited {
@@ -57,7 +53,7 @@ pub fn count_in<C: Cells>(cells: &mut C, cited: &[usize]) -> Result<(), C::Stop>
 /// The run is stopped.
 pub fn count_out<C: Cells>(cells: &mut C, cited: &[usize]) -> Result<(), C::Stop>
     ensures onward { Onward (C.sight cells.old) (C.sight cells.new) }
-    ensures ok { IfOk result (λ _. (st : State) → Matches (C.sight cells.new) st → All (λ i. i < (C.sight cells.old).setting.slots) cited.now → Distinct nat_eq cited.now → CountsOut cited.now (after (C.sight cells.old) st) (after (C.sight cells.new) st)) }
+    ensures ok { IfOk result (λ _. CountsAnyOut cited.now (C.sight cells.old) (C.sight cells.new)) }
 {
     let slots = slot_count(cells);
     for slot in cited {

@@ -1,11 +1,11 @@
 //! Puts an assertion into an empty slot.
 
-ghost use Rattle.std.specs.Prelude.{◌≡◌, ◌≢◌, ◌<◌, [], List, false, IfOk};
+ghost use Rattle.std.specs.Prelude.{◌≡◌, ◌≢◌, ◌<◌, [], false, IfOk};
 ghost use Rattle.mmsyntax.specs.declared.statement.Kind.TheVariants.{Theorem};
 ghost use Rattle.cells.specs.State.{State, HasBody, with_value};
 ghost use Rattle.cells.specs.Slots.{cell_count, is_ranged, name_cell, proof_cell};
-ghost use Rattle.cells.specs.Sight.{Sight, WasWritten, Matches, Views, Onward, after};
-ghost use Rattle.cells.specs.Filling.{MayFill, Fills, IsFillable, LaysDown, LaysProof, Empties};
+ghost use Rattle.cells.specs.Sight.{Sight, WasWritten, ForEachState, Turns, KeepsOthers, Onward, after};
+ghost use Rattle.cells.specs.Filling.{FillsAny, IsFillable, LaysAnyDown, LaysProof, Empties};
 
 use crate::cells::Cells;
 use crate::chains::put_in;
@@ -16,8 +16,8 @@ use bodystore::{StoredStep, encode_label, encode_proof, encode_statement};
 use mmstatement::{Assertion, Kind};
 use std::alloc::Global;
 
-/// Puts an assertion with its rank into an empty slot: stages its label, its statement and its proof, in this order, writes the slot's cells, counts
-/// its citations, and puts the slot into the chain of its label's bucket.
+/// Puts an assertion with its rank into an empty slot: stages its label, its statement and its proof, in this order, writes the slot's
+/// cells, counts its citations, and puts the slot into the chain of its label's bucket.
 ///
 /// The steps of the proof are given as they are stored. An axiom has none.
 ///
@@ -35,7 +35,7 @@ pub fn fill<C: Cells>(
     requires slot { slot < (C.sight cells.old).setting.slots }
     requires fillable { IsFillable (C.sight cells.old).setting.slots assertion.now steps.now }
     ensures onward { Onward (C.sight cells.old) (C.sight cells.new) }
-    ensures ok { IfOk result (λ _. (st : State) (lib : List _) → Matches (C.sight cells.new) st → (shown : Views (C.sight cells.old) st lib) → MayFill (C.sight cells.old).setting.slots (after (C.sight cells.old) st) lib slot assertion.now steps.now → Fills (C.sight cells.old).setting.slots (after (C.sight cells.new) st) lib shown.shows.held slot rank assertion.now) }
+    ensures ok { IfOk result (λ _. FillsAny slot rank assertion.now steps.now (C.sight cells.old) (C.sight cells.new)) }
     ensures written { IfOk result (λ _. WasWritten (C.sight cells.new) (name_cell slot)) }
 {
     lay_down(alloc, cells, slot, rank, assertion, steps)?;
@@ -57,7 +57,7 @@ fn lay_down<C: Cells>(
     requires labelled { assertion.now.label ≢ [] }
     requires some { assertion.now.kind ≡ Theorem → steps.now ≢ [] }
     ensures onward { Onward (C.sight cells.old) (C.sight cells.new) }
-    ensures ok { IfOk result (λ _. (st : State) → Matches (C.sight cells.new) st → LaysDown (after (C.sight cells.old) st) (after (C.sight cells.new) st) slot rank assertion.now steps.now) }
+    ensures ok { IfOk result (λ _. LaysAnyDown slot rank assertion.now steps.now (C.sight cells.old) (C.sight cells.new)) }
     ensures written { IfOk result (λ _. WasWritten (C.sight cells.new) (name_cell slot)) }
 {
     let _slots = slot_count(cells);
@@ -81,8 +81,8 @@ fn put_proof<C: Cells>(
     requires slot { slot < (C.sight cells.old).setting.slots }
     requires some { kind ≡ Theorem → steps.now ≢ [] }
     ensures onward { Onward (C.sight cells.old) (C.sight cells.new) }
-    ensures ok { IfOk result (λ _. (st : State) → Matches (C.sight cells.new) st → LaysProof (after (C.sight cells.old) st) (after (C.sight cells.new) st) slot kind steps.now) }
-    ensures others { IfOk result (λ _. (st : State) (c : _) → c ≢ proof_cell slot → (after (C.sight cells.new) st).value c ≡ (after (C.sight cells.old) st).value c) }
+    ensures ok { IfOk result (λ _. Turns (C.sight cells.old) (C.sight cells.new) (λ st next. LaysProof st next slot kind steps.now)) }
+    ensures others { IfOk result (λ _. KeepsOthers (proof_cell slot) (C.sight cells.old) (C.sight cells.new)) }
 {
     let _slots = slot_count(cells);
     match kind {
@@ -112,8 +112,8 @@ pub fn put_body<C: Cells>(cells: &mut C, cell: usize, words: &[u64]) -> Result<(
     requires cell { cell < cell_count (C.sight cells.old).setting.slots }
     requires some { words.now ≢ [] }
     ensures onward { Onward (C.sight cells.old) (C.sight cells.new) }
-    ensures ok { IfOk result (λ _. (st : State) → Matches (C.sight cells.new) st → HasBody (after (C.sight cells.new) st) cell words.now) }
-    ensures others { IfOk result (λ _. (st : State) (c : _) → c ≢ cell → (after (C.sight cells.new) st).value c ≡ (after (C.sight cells.old) st).value c) }
+    ensures ok { IfOk result (λ _. ForEachState (C.sight cells.new) (λ st. HasBody st cell words.now)) }
+    ensures others { IfOk result (λ _. KeepsOthers cell (C.sight cells.old) (C.sight cells.new)) }
     ensures written { IfOk result (λ _. WasWritten (C.sight cells.new) cell) }
 {
     let range = cells.stage(words)?;

@@ -1,10 +1,8 @@
 //! Looks for labels and for empty slots.
 
-ghost use Rattle.std.specs.Prelude.{◌≡◌, ◌<◌, ◌↔◌, IsTrue, IfOk, IfErr};
-ghost use Rattle.cells.specs.State.{State};
-ghost use Rattle.cells.specs.Shows.{IsNamed};
-ghost use Rattle.cells.specs.Sight.{Sight, Matches, Looks, after};
-ghost use Rattle.cells.specs.Lookups.{Finds, FindsFree};
+ghost use Rattle.std.specs.Prelude.{◌<◌, IfOk};
+ghost use Rattle.cells.specs.Sight.{Sight, Looks};
+ghost use Rattle.cells.specs.Lookups.{Finds, FindsFree, TellsLabel};
 
 use crate::cells::Cells;
 use crate::places::{bucket, bucket_cell, link, name_cell, next_cell, slot_count};
@@ -14,7 +12,7 @@ use crate::words::{has_words, range_of};
 pub(crate) fn has_label<C: Cells>(cells: &mut C, slot: usize, label: &[u8]) -> Result<bool, C::Stop>
     requires { slot < (C.sight cells.old).setting.slots }
     ensures looks { Looks (C.sight cells.old) (C.sight cells.new) }
-    ensures ok { IfOk result (λ b. (st : State) → Matches (C.sight cells.new) st → (IsTrue b ↔ IsNamed (C.sight cells.new).setting.slots (after (C.sight cells.new) st) slot label.now)) }
+    ensures ok { IfOk result (λ b. TellsLabel (C.sight cells.new) slot label.now b) }
 {
     let _slots = slot_count(cells);
     let word = cells.read(name_cell(slot))?;
@@ -27,8 +25,8 @@ pub(crate) fn has_label<C: Cells>(cells: &mut C, slot: usize, label: &[u8]) -> R
 
 /// The slot of the assertion that has the label, or none where no assertion has it.
 ///
-/// It reads the cell of the label's bucket, and along its chain a name and a next cell for each member: of a member that has another length, no
-/// word of its label.
+/// It reads the cell of the label's bucket, and along its chain a name and a next cell for each member: of a member that has another
+/// length, no word of its label.
 ///
 /// # Errors
 ///

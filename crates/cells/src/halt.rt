@@ -1,13 +1,18 @@
 //! Why a call over cells ends early.
 
 use std::alloc::{AllocError, AllocFailed};
+use std::fmt;
+use thiserror::Error;
 
 /// Why a call over cells ends early. What was kept aside by then is the caller's to throw away.
-#[derive(Debug, Drop)]
+#[derive(Debug, Drop, Error)]
+#[error_bound(S: fmt::Display)]
 pub enum Halt<S> {
     /// The run was stopped.
+    #[error("the run was stopped: {0}")]
     Stopped(S),
     /// Memory ran out.
+    #[error("out of memory")]
     NoMemory,
 }
 

@@ -2,7 +2,7 @@
 
 ghost use Rattle.std.specs.Prelude.{◌≡◌, ◌≢◌, ◌≤◌, ◌<◌, ◌*◌, ◌+◌, ◌↔◌, [], length, IfOk, IfErr, IsTrue, MatchOption};
 ghost use Rattle.proofcheck.specs.Databases.{AllCheck};
-ghost use Rattle.cells.specs.Plain.{body_length, bodies_length};
+ghost use Rattle.cells.specs.Measures.{body_length, bodies_length, IsLeft};
 ghost use Rattle.bodystore.specs.Bodies.{expressions_words};
 ghost use Rattle.cells.specs.Opening.{Opens, front, Refuses};
 
@@ -11,15 +11,19 @@ use crate::plain::PlainCells;
 use crate::reading::resolve;
 use mmstatement::{Assertion, Database, Expr};
 use std::alloc::{AllocError, Global};
+use thiserror::Error;
 
 /// Why a database is not opened as a library in cells.
-#[derive(Clone, Copy, Debug, PartialEq, Eq)]
+#[derive(Clone, Copy, Debug, PartialEq, Eq, Error)]
 pub enum OpenError {
     /// It has more assertions than slots.
+    #[error("more assertions than slots")]
     TooMany,
     /// The bodies of its assertions have more words than the store.
+    #[error("the bodies of the assertions have more words than the store")]
     StoreFull,
     /// Memory ran out.
+    #[error("out of memory")]
     NoMemory,
 }
 
@@ -61,13 +65,13 @@ impl From<AllocError> for OpenError {
 }
 
 impl PlainCells {
-    /// The opening library of a database whose proofs check, in so many slots, with a store that has room for so many words. The assertion k
-    /// stands in the slot k, both counted from 0; they are put in in their order.
+    /// The opening library of a database whose proofs check, in so many slots, with a store that has room for so many words. The assertion
+    /// k stands in the slot k, both counted from 0; they are put in in their order.
     ///
     /// # Errors
     ///
-    /// In this order: `TooMany`, exactly where there are more assertions than slots; `StoreFull`, exactly where their bodies have more words than
-    /// the room; want of memory.
+    /// In this order: `TooMany`, exactly where there are more assertions than slots; `StoreFull`, exactly where their bodies have more
+    /// words than the room; want of memory.
     pub fn open(
         alloc: Global,
         database: &Database,
@@ -143,7 +147,7 @@ fn fit_into(assertions: &[Assertion], room: usize) -> bool
 
 /// What is left of the room behind the bodies of an assertion; none where they don't fit.
 fn room_behind(assertion: &Assertion, room: usize) -> Option<usize>
-    ensures { MatchOption result (room < body_length assertion.now) (λ left. left + body_length assertion.now ≡ room) }
+    ensures { IsLeft room (body_length assertion.now) result }
 {
     let left = room
         .checked_sub(assertion.label.as_slice().len())?
@@ -157,7 +161,7 @@ fn room_behind(assertion: &Assertion, room: usize) -> Option<usize>
 
 /// What is left of the room behind expressions, each with its length; none where they don't fit.
 fn room_behind_expressions(expressions: &[Expr], room: usize) -> Option<usize>
-    ensures { MatchOption result (room < length (expressions_words expressions.now)) (λ left. left + length (expressions_words expressions.now) ≡ room) }
+    ensures { IsLeft room (length (expressions_words expressions.now)) result }
 {
     let mut left = room;
     for expression in expressions {

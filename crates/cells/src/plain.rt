@@ -1,20 +1,24 @@
 //! Cells and a store on plain vectors, for one thread.
 
-ghost use Rattle.std.specs.Prelude.{◌≡◌, ◌≢◌, ◌≤◌, ◌<◌, ◌*◌, ◌++◌, [], ◌∷◌, length, slice_index, is_ok, if◌then◌else◌, IfOk};
+ghost use Rattle.std.specs.Prelude.{◌≡◌, ◌≢◌, ◌≤◌, ◌<◌, ◌*◌, ◌+◌, ◌++◌, ◌↔◌, [], ◌∷◌, length, slice_index, is_ok, if◌then◌else◌, IfOk, IfErr, IsErrOf};
+ghost use Rattle.cells.specs.Sight.{Looks, Stages};
 ghost use Rattle.cells.specs.Slots.{cell_count};
-ghost use Rattle.cells.specs.Plain.{plain_sight, undone, ranges_in, ShowsSome, BeganWithSome, HoldNames, LieInStore, IsLogOf, behind};
+ghost use Rattle.cells.specs.Plain.{undone, ranges_in, ShowsSome, BeganWithSome, HoldNames, LieInStore, IsLogOf, behind, with_place};
 
 use crate::cells::Cells;
 use mmstatement::Prelude;
 use ranges::Range;
 use std::alloc::{AllocError, Global};
+use thiserror::Error;
 
 /// Why a run over plain cells is stopped.
-#[derive(Clone, Copy, Debug, PartialEq, Eq)]
+#[derive(Clone, Copy, Debug, PartialEq, Eq, Error)]
 pub enum PlainStop {
     /// The store has no room for the words.
+    #[error("the store has no room for the words")]
     StoreFull,
     /// Memory ran out.
+    #[error("out of memory")]
     NoMemory,
 }
 
@@ -68,6 +72,8 @@ pub struct PlainCells {
 }
 
 impl PlainCells {
+    ghost use Rattle.cells.specs.PlainViews.{setting_of, AreBlank, AreSameButLog, AreSameButValues};
+
     /// The cells of a library without assertions, over a prelude, with a store that has room for so many words.
     ///
     /// # Errors
@@ -82,7 +88,7 @@ impl PlainCells {
         requires some { 1 ≤ slots }
         requires few { slots ≤ 4096 }
         requires roomy { room ≤ 16777216 }
-        ensures { IfOk result (λ made. (made.prelude ≡ prelude) × (made.slots ≡ slots) × (made.room ≡ room) × (made.log.items ≡ []) × (made.store.items ≡ []) × ((c : _) → slice_index made.values.items c ≡ 0)) }
+        ensures { IfOk result (λ made. AreBlank prelude slots room made) }
     {
         Ok(PlainCells {
             prelude,
@@ -119,9 +125,9 @@ impl PlainCells {
 
     /// Keeps what this run wrote, and begins another.
     pub fn keep(&mut self)
-        requires { ∥ ShowsSome (record { prelude = self.old.prelude; slots = self.old.slots }) self.old.values.items self.old.store.items self.old.ranges.items ∥₁ }
+        requires { ∥ ShowsSome (setting_of self.old) self.old.values.items self.old.store.items self.old.ranges.items ∥₁ }
         ensures log { self.new.log.items ≡ [] }
-        ensures same { (self.new.values ≡ self.old.values) × (self.new.store ≡ self.old.store) × (self.new.ranges ≡ self.old.ranges) × (self.new.prelude ≡ self.old.prelude) × (self.new.slots ≡ self.old.slots) × (self.new.room ≡ self.old.room) }
+        ensures same { AreSameButLog self.old self.new }
     {
         self.log.clear();
     }
@@ -130,7 +136,7 @@ impl PlainCells {
     pub fn undo(&mut self)
         ensures log { self.new.log.items ≡ [] }
         ensures values { self.new.values.items ≡ undone self.old.values.items self.old.log.items }
-        ensures same { (self.new.store ≡ self.old.store) × (self.new.ranges ≡ self.old.ranges) × (self.new.prelude ≡ self.old.prelude) × (self.new.slots ≡ self.old.slots) × (self.new.room ≡ self.old.room) }
+        ensures same { AreSameButValues self.old self.new }
     {
         give_back(self.values.as_mut_slice(), &mut self.log);
     }
@@ -155,7 +161,7 @@ fn put_behind(
 ) -> Result<Range, AllocError>
     ensures range { IfOk result (λ range. range ≡ behind store.old.items words.now) }
     ensures store { store.new.items ≡ (if is_ok result then store.old.items ++ words.now else store.old.items) }
-    ensures ranges { ranges.new.items ≡ (if is_ok result then ranges.old.items ++ behind store.old.items words.now ∷ [] else ranges.old.items) }
+    ensures ranges { ranges.new.items ≡ with_place (is_ok result) ranges.old.items (behind store.old.items words.now) }
 {
     let range = Range {
         start: store.len(),
@@ -169,11 +175,11 @@ fn put_behind(
 
 impl Cells for PlainCells {
     ghost use mathlib.Core.Logic.{∥∥₁_map};
-    ghost use Rattle.cells.specs.Plain.{plain_state};
+    ghost use Rattle.cells.specs.PlainViews.{sight_of, first_state};
 
     type Stop = PlainStop;
 
-    ghost sight = { λ c. plain_sight (record { prelude = c.prelude; slots = c.slots }) c.room c.values.items c.log.items c.store.items c.ranges.items };
+    ghost sight = { sight_of };
 
     fn slots(&self) -> usize {
         self.slots
@@ -195,7 +201,13 @@ impl Cells for PlainCells {
         self.store[range.start + index]
     }
 
-    fn stage(&mut self, words: &[u64]) -> Result<Range, PlainStop> {
+    // the trait's clauses, and when the store is full
+    fn stage(&mut self, words: &[u64]) -> Result<Range, PlainStop>
+        requires { words.now ≢ [] }
+        ensures ok { IfOk result (λ range. Stages words.now range (sight_of self.old) (sight_of self.new)) }
+        ensures err { IfErr result (λ _. Looks (sight_of self.old) (sight_of self.new)) }
+        ensures full { IsErrOf result PlainStop.StoreFull ↔ (self.old.room < length self.old.store.items + length words.now) }
+    {
         if words.len() > self.room - self.store.len() {
             return Err(PlainStop::StoreFull);
         }
@@ -205,5 +217,5 @@ impl Cells for PlainCells {
         }
     }
 
-    ghost grounded = { λ c. ∥∥₁_map c.began (λ b. (plain_state (undone c.values.items c.log.items) c.store.items c.ranges.items, b.0, b.1)) };
+    ghost grounded = { λ c. ∥∥₁_map c.began (λ b. (first_state c, b.0, b.1)) };
 }

@@ -6,10 +6,8 @@ ghost use Rattle.library.specs.Library.{label_of};
 ghost use Rattle.library.specs.Edits.{citers};
 ghost use Rattle.bodystore.specs.Bodies.{kind_word, statement_of};
 ghost use Rattle.std.specs.Option.{option_map};
-ghost use Rattle.cells.specs.State.{State};
-ghost use Rattle.cells.specs.Shows.{AreStoredAs, IsStoredAs, IsNamed};
-ghost use Rattle.cells.specs.Sight.{Looks, Matches, after};
-ghost use Rattle.cells.specs.Lookups.{ForEachHeld, IfFull, IsNameAt, StoresStep, Resolves, IsShortLabelled};
+ghost use Rattle.cells.specs.Sight.{Looks};
+ghost use Rattle.cells.specs.Lookups.{ForEachHeld, IfFull, IsNameAt, AreStepsAt, IsStepOf, StoresStep, Resolves};
 
 use crate::cells::Cells;
 use crate::finding::find;
@@ -134,7 +132,7 @@ pub fn stored_proof<C: Cells>(
 ) -> Result<Vec<StoredStep>, Halt<C::Stop>>
     requires { slot < (C.sight cells.old).setting.slots }
     ensures looks { Looks (C.sight cells.old) (C.sight cells.new) }
-    ensures ok { IfOk result (λ made. ForEachHeld (C.sight cells.new) slot (λ st lib e. AreStoredAs (C.sight cells.new).setting.slots st e.assertion.proof made.items)) }
+    ensures ok { IfOk result (λ made. AreStepsAt (C.sight cells.new) slot made.items) }
 {
     let _slots = slot_count(cells);
     let words = words_of(alloc, cells, proof_cell(slot))?;
@@ -169,7 +167,7 @@ fn named_step<C: Cells>(
 ) -> Result<Step, Halt<C::Stop>>
     requires { slots ≡ (C.sight cells.old).setting.slots }
     ensures looks { Looks (C.sight cells.old) (C.sight cells.new) }
-    ensures ok { IfOk result (λ made. (st : State) (x : _) → Matches (C.sight cells.new) st → IsShortLabelled x → IsStoredAs (IsNamed slots (after (C.sight cells.new) st)) x step → made ≡ x) }
+    ensures ok { IfOk result (λ made. IsStepOf slots (C.sight cells.new) step made) }
 {
     match step {
         StoredStep::Float(place) => Ok(Step::Float(place)),

@@ -1,11 +1,10 @@
 //! The words of bodies that cells name.
 
-ghost use Rattle.std.specs.Prelude.{◌≡◌, ◌≢◌, ◌<◌, ◌+◌, ◌*◌, ◌^◌, ◌↔◌, ℕ, List, [], ◌∷◌, true, IsTrue, IfOk, IfErr, length};
+ghost use Rattle.std.specs.Prelude.{◌≡◌, ◌≢◌, ◌<◌, ◌+◌, ◌*◌, ◌^◌, ◌↔◌, ℕ, List, true, IsTrue, IfOk};
 ghost use Rattle.ranges.specs.Ranges.{Names};
-ghost use Rattle.cells.specs.State.{State, HasBody};
 ghost use Rattle.cells.specs.Slots.{cell_count, is_ranged};
-ghost use Rattle.cells.specs.Sight.{Sight, Matches, Looks, Knows, after};
-ghost use Rattle.cells.specs.Lookups.{AreWordsOf};
+ghost use Rattle.cells.specs.Sight.{Sight, Looks, Knows, ForEachState};
+ghost use Rattle.cells.specs.Lookups.{AreWordsOf, IsFirstWordOf};
 
 use crate::cells::Cells;
 use crate::halt::Halt;
@@ -65,7 +64,7 @@ pub(crate) fn words_of<C: Cells>(
     requires cell { cell < cell_count (C.sight cells.old).setting.slots }
     requires ranged { is_ranged (C.sight cells.old).setting.slots cell ≡ true }
     ensures looks { Looks (C.sight cells.old) (C.sight cells.new) }
-    ensures ok { IfOk result (λ made. (st : State) → Matches (C.sight cells.new) st → AreWordsOf (after (C.sight cells.new) st) cell made.items) }
+    ensures ok { IfOk result (λ made. ForEachState (C.sight cells.new) (λ st. AreWordsOf st cell made.items)) }
 {
     let word = cells.read(cell).map_err(Halt::Stopped)?;
     if word == 0 {
@@ -80,7 +79,7 @@ pub(crate) fn first_word<C: Cells>(cells: &mut C, cell: usize) -> Result<u64, C:
     requires cell { cell < cell_count (C.sight cells.old).setting.slots }
     requires ranged { is_ranged (C.sight cells.old).setting.slots cell ≡ true }
     ensures looks { Looks (C.sight cells.old) (C.sight cells.new) }
-    ensures ok { IfOk result (λ first. (st : State) (w : ℕ) (more : List ℕ) → Matches (C.sight cells.new) st → HasBody (after (C.sight cells.new) st) cell (w ∷ more) → first ≡ w) }
+    ensures ok { IfOk result (λ first. IsFirstWordOf (C.sight cells.new) cell first) }
 {
     let word = cells.read(cell)?;
     if word == 0 {

@@ -1,5 +1,5 @@
 -- What adding a theorem answers: why it is refused, or the library that is shown with it.
-use Rattle.std.proofs.Common.{◌≡◌, ℕ, ◌+◌, ◌<◌, ◌≤◌, Bool, true, false, List, [], ◌∷◌, None, Err, length, map, refl, sym, ap, subst, ◌∙◌, inl, inr, arith, eqb, nat_eq}
+use Rattle.std.proofs.Common.{◌≡◌, ℕ, ◌<◌, true, false, List, [], ◌∷◌, None, Err, length, sym, ap, subst, ◌∙◌, inl, inr, arith, eqb, nat_eq}
 use mathlib.Core.Bool.{not}
 use Rattle.std.specs.Prelude.{◌==◌, nat_le}
 use Rattle.std.specs.List.{list_any, IsDistinct, AllByRecursion}
@@ -13,10 +13,10 @@ use Rattle.mmsyntax.proofs.Distinct.{or_false}
 use Rattle.library.specs.declared.library.Ranked.{Ranked}
 use Rattle.library.specs.declared.command.Command.TheVariants as command
 use Rattle.library.specs.declared.command.Reply.TheVariants.{Done}
-use Rattle.library.specs.declared.reason.Reason.{Reason}
 use Rattle.library.specs.declared.reason.Reason.TheVariants as reason
 use Rattle.library.specs.Library.{Setting}
-use Rattle.library.specs.Edits.{Tests, has, added, done, where_so, is_axiom, bad_label, label_taken, cites_unknown, cited_not_lower, proof_fails, tested, edit}
+use Rattle.library.specs.Edits.{Tests, Edited, has, added, done, where_so, is_axiom, bad_label, label_taken}
+use Rattle.library.specs.Edits.{cites_unknown, cited_not_lower, proof_fails, tested, edit}
 use Rattle.ranges.specs.Ranges.{Has, AreOfOneStore}
 use Rattle.bodystore.specs.declared.stored.StoredStep.{StoredStep}
 use Rattle.cells.specs.State.{State, most_words}
@@ -28,7 +28,7 @@ use Rattle.cells.specs.Filling.{MayFill, Fills}
 use Rattle.cells.proofs.Members.{mapped_has, cases_has, none_absent}
 use Rattle.cells.proofs.Holding.{held_name, empty_free}
 use Rattle.cells.proofs.Found.{length_held}
-use Rattle.cells.proofs.Sights.{for_each_later, views_back, matches_back, looks_trans}
+use Rattle.cells.proofs.Sights.{views_back, matches_back, looks_trans}
 use Rattle.commands.specs.Answers.{Does, IsRefused, CommandAnswers}
 use Rattle.commands.specs.declared.ending.CommandError.{CommandError}
 use Rattle.commands.specs.declared.ending.CommandError.TheVariants.{Stopped, Refused, NoMemory}
@@ -49,8 +49,8 @@ distinct_is [] h = tt
 distinct_is (x ∷ xs) h = (none_each x xs h.0, distinct_is xs h.1)
 
 -- where a slot is empty, there are fewer assertions than slots
-pub room_left : (slots : ℕ) (st : State) (lib : List Ranked) (shows : Shows slots st lib) → AreOfOneStore most_words st.ranges → (i : ℕ) → i < slots
-    → IsEmpty slots st i → length lib < slots
+pub room_left : (slots : ℕ) (st : State) (lib : List Ranked) (shows : Shows slots st lib) → AreOfOneStore most_words st.ranges
+    → (i : ℕ) → i < slots → IsEmpty slots st i → length lib < slots
 room_left slots st lib shows store i lt empty =
     let apart : Distinct nat_eq (i ∷ slots_of shows.held) =
     (none_absent (slots_of shows.held) i (empty_free slots st lib shows store i empty), shows.apart) in
@@ -68,37 +68,48 @@ room_left slots st lib shows store i lt empty =
     below q found =
         elim (cases_has (i ∷ slots_of shows.held) q) [
           | inl h ↦ within q h
-          | inr free ↦ absurd (both_ways (list_any (nat_eq q) (i ∷ slots_of shows.held)) (none_absent (i ∷ slots_of shows.held) q free) found)
+          | inr free ↦
+              absurd (both_ways (list_any (nat_eq q) (i ∷ slots_of shows.held)) (none_absent (i ∷ slots_of shows.held) q free) found)
         ]
 
 -- ---- the tests
 
-module _ (s : Setting) (lib : List Ranked) (rank : ℕ) (a : Assertion) (ranked : (rank == 0) ≡ false) (lawful : is_lawful_label s.prelude a.label ≡ true) where
-  abbrev of_room : Tests
-  of_room = where_so (nat_le s.slots (length lib)) reason.LibraryFull ∷ []
+-- whether there is room
+abbrev pub of_room : Setting → List Ranked → Tests
+of_room s lib = where_so (nat_le s.slots (length lib)) reason.LibraryFull ∷ []
 
-  abbrev of_proof : Tests
-  of_proof = cites_unknown lib a.proof ∷ cited_not_lower lib rank a.proof ∷ proof_fails s lib rank a ∷ of_room
+-- those from that of the proof on
+abbrev pub of_proof : Setting → List Ranked → ℕ → Assertion → Tests
+of_proof s lib rank a = cites_unknown lib a.proof ∷ cited_not_lower lib rank a.proof ∷ proof_fails s lib rank a ∷ of_room s lib
 
-  abbrev of_kind : Tests
-  of_kind = where_so (is_axiom a.kind) reason.AxiomNotAllowed ∷ of_proof
+-- those from that of the kind on
+abbrev pub of_kind : Setting → List Ranked → ℕ → Assertion → Tests
+of_kind s lib rank a = where_so (is_axiom a.kind) reason.AxiomNotAllowed ∷ of_proof s lib rank a
 
-  to_taken : edit s lib (command.Add rank a) ≡ tested (label_taken lib a.label ∷ of_kind) (done (added lib rank a))
+module _ (s : Setting) (lib : List Ranked) (rank : ℕ) (a : Assertion) (ranked : (rank == 0) ≡ false)
+    (lawful : is_lawful_label s.prelude a.label ≡ true) where
+  abbrev then : Edited
+  then = done (added lib rank a)
+
+  to_taken : edit s lib (command.Add rank a) ≡ tested (label_taken lib a.label ∷ of_kind s lib rank a) then
   to_taken =
-      first_passes (rank == 0) reason.BadRank (bad_label s a.label ∷ label_taken lib a.label ∷ of_kind) (done (added lib rank a)) ranked
-      ∙ first_passes (not (is_lawful_label s.prelude a.label)) reason.BadLabel (label_taken lib a.label ∷ of_kind) (done (added lib rank a)) (ap not lawful)
+      first_passes (rank == 0) reason.BadRank (bad_label s a.label ∷ label_taken lib a.label ∷ of_kind s lib rank a) then ranked
+      ∙ first_passes (not (is_lawful_label s.prelude a.label)) reason.BadLabel (label_taken lib a.label ∷ of_kind s lib rank a) then
+      (ap not lawful)
 
   pub add_taken : has lib a.label ≡ true → edit s lib (command.Add rank a) ≡ Err reason.LabelTaken
-  add_taken taken = to_taken ∙ first_refuses (has lib a.label) reason.LabelTaken of_kind (done (added lib rank a)) taken
+  add_taken taken = to_taken ∙ first_refuses (has lib a.label) reason.LabelTaken (of_kind s lib rank a) then taken
 
-  to_kind : has lib a.label ≡ false → edit s lib (command.Add rank a) ≡ tested of_kind (done (added lib rank a))
-  to_kind new = to_taken ∙ first_passes (has lib a.label) reason.LabelTaken of_kind (done (added lib rank a)) new
+  to_kind : has lib a.label ≡ false → edit s lib (command.Add rank a) ≡ tested (of_kind s lib rank a) then
+  to_kind new = to_taken ∙ first_passes (has lib a.label) reason.LabelTaken (of_kind s lib rank a) then new
 
   pub add_axiom : has lib a.label ≡ false → a.kind ≡ Axiom → edit s lib (command.Add rank a) ≡ Err reason.AxiomNotAllowed
-  add_axiom new is = to_kind new ∙ first_refuses (is_axiom a.kind) reason.AxiomNotAllowed of_proof (done (added lib rank a)) (ap is_axiom is)
+  add_axiom new is =
+      to_kind new ∙ first_refuses (is_axiom a.kind) reason.AxiomNotAllowed (of_proof s lib rank a) then (ap is_axiom is)
 
-  pub add_theorem : has lib a.label ≡ false → a.kind ≡ Theorem → edit s lib (command.Add rank a) ≡ tested of_proof (done (added lib rank a))
-  add_theorem new is = to_kind new ∙ first_passes (is_axiom a.kind) reason.AxiomNotAllowed of_proof (done (added lib rank a)) (ap is_axiom is)
+  pub add_theorem : has lib a.label ≡ false → a.kind ≡ Theorem → edit s lib (command.Add rank a) ≡ tested (of_proof s lib rank a) then
+  add_theorem new is =
+      to_kind new ∙ first_passes (is_axiom a.kind) reason.AxiomNotAllowed (of_proof s lib rank a) then (ap is_axiom is)
 
 -- ---- behind the tests of the label and the kind
 
@@ -116,35 +127,31 @@ module _ (s t u : Sight) (rank : ℕ) (a : Assertion) (may : MayTest s t rank a)
   all_looks = looks_trans s t u may.looks later
 
   to_proof : (st : State) (lib : List Ranked) → Views u st lib
-      → edit s.setting lib (command.Add rank a) ≡ tested (of_proof u.setting lib rank a may.ranked
-      (subst (λ (x : Setting). is_lawful_label x.prelude a.label ≡ true) (sym all_looks.onward.setting) may.lawful)) (done (added lib rank a))
+      → edit s.setting lib (command.Add rank a) ≡ tested (of_proof u.setting lib rank a) (done (added lib rank a))
   to_proof st lib v =
-      subst (λ (x : Setting). edit x lib (command.Add rank a) ≡ tested (cites_unknown lib a.proof ∷ cited_not_lower lib rank a.proof
-      ∷ proof_fails u.setting lib rank a ∷ where_so (nat_le u.setting.slots (length lib)) reason.LibraryFull ∷ []) (done (added lib rank a)))
-      all_looks.onward.setting
+      let same = all_looks.onward.setting in
+      subst (λ (x : Setting). edit x lib (command.Add rank a) ≡ tested (of_proof u.setting lib rank a) (done (added lib rank a))) same
       (add_theorem u.setting lib rank a may.ranked
-      (subst (λ (x : Setting). is_lawful_label x.prelude a.label ≡ true) (sym all_looks.onward.setting) may.lawful)
+      (subst (λ (x : Setting). is_lawful_label x.prelude a.label ≡ true) (sym same) may.lawful)
       (may.new st lib (views_back t u st lib later v)) may.theorem)
 
   -- a proof that is refused is why it is not added
-  pub add_refused : {S : Type 0} (error : CommandError S) → TellsRefusal u rank a error → CommandAnswers s u (command.Add rank a) (Err error)
+  pub add_refused : {S : Type 0} (error : CommandError S) → TellsRefusal u rank a error
+      → CommandAnswers s u (command.Add rank a) (Err error)
   add_refused (Stopped stop) tells = tt
   add_refused NoMemory tells = tt
   add_refused (Refused r) tells =
       refused s u (command.Add rank a) r all_looks (λ st lib v.
-      to_proof st lib v
-      ∙ tells st lib v (where_so (nat_le u.setting.slots (length lib)) reason.LibraryFull ∷ []) (done (added lib rank a)))
+      to_proof st lib v ∙ tells st lib v (of_room u.setting lib) (done (added lib rank a)))
 
   module _ (kept : List StoredStep) (passes : Passes u rank a kept) (w : Sight) (on : Looks u w) where
     -- behind a proof that passes only room is left to be tested
-    to_room : (st : State) (lib : List Ranked) → Views w st lib → edit s.setting lib (command.Add rank a)
-        ≡ tested (where_so (nat_le w.setting.slots (length lib)) reason.LibraryFull ∷ []) (done (added lib rank a))
+    to_room : (st : State) (lib : List Ranked) → Views w st lib
+        → edit s.setting lib (command.Add rank a) ≡ tested (of_room w.setting lib) (done (added lib rank a))
     to_room st lib v =
         let before = views_back u w st lib on v in
-        to_proof st lib before
-        ∙ passes.passes st lib before (where_so (nat_le u.setting.slots (length lib)) reason.LibraryFull ∷ []) (done (added lib rank a))
-        ∙ ap (λ (x : Setting). tested (where_so (nat_le x.slots (length lib)) reason.LibraryFull ∷ []) (done (added lib rank a)))
-        (sym on.onward.setting)
+        to_proof st lib before ∙ passes.passes st lib before (of_room u.setting lib) (done (added lib rank a))
+        ∙ ap (λ (x : Setting). tested (of_room x lib) (done (added lib rank a))) (sym on.onward.setting)
 
     pub add_full : (from : ℕ) → FindsFree w from None → IsRefused s w (command.Add rank a) reason.LibraryFull
     add_full from full =
@@ -155,7 +162,8 @@ module _ (s t u : Sight) (rank : ℕ) (a : Assertion) (may : MayTest s t rank a)
 
     -- in an empty slot it is added
     pub add_done : (x : Sight) (from slot : ℕ) (steps : List StoredStep) → IsFirstEmpty w from slot → Onward w x → steps ≡ kept
-        → ((st : State) (lib : List Ranked) → Matches x st → (shown : Views w st lib) → MayFill w.setting.slots (after w st) lib slot a steps
+        → ((st : State) (lib : List Ranked) → Matches x st → (shown : Views w st lib)
+        → MayFill w.setting.slots (after w st) lib slot a steps
         → Fills w.setting.slots (after x st) lib shown.shows.held slot rank a)
         → WasWritten x (name_cell slot) → Does s x (command.Add rank a) Done
     add_done x from slot steps first onward same fills written =

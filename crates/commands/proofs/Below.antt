@@ -1,13 +1,14 @@
 -- The assertions that are held in slots below a number, and their lines: what one slot more adds.
-use Rattle.std.proofs.Common.{◌≡◌, ◌≢◌, ◌<◌, ◌+◌, ℕ, true, false, cond, List, [], ◌∷◌, ◌++◌, map, refl, sym, ap, subst, ◌∙◌, inl, inr, arith, nat_eq}
+use Rattle.std.proofs.Common.{◌≡◌, ◌≢◌, ◌<◌, ◌+◌, ℕ, true, false, cond, nat_eq, List, [], ◌∷◌, ◌++◌, map, refl, sym}
+use Rattle.std.proofs.Common.{ap, subst, ◌∙◌, inl, inr, arith}
 use Rattle.std.specs.Prelude.{nat_lt, filter, All, Contains, IsPermutation}
 use Rattle.std.specs.Str.{bytes_eq}
-use Rattle.std.proofs.lemmas.Bool.{cases_eq, cases_lt, cond-true, cond-false, le-ltb}
+use Rattle.std.proofs.lemmas.Bool.{cases_lt, cond-true, cond-false, le-ltb}
 use Rattle.std.proofs.lemmas.Bool.Decides.{Decides-ltb}
 use Rattle.std.proofs.lemmas.List.{map-append}
 use Rattle.std.proofs.lemmas.List.Elements.{All-head, All-tail, All-weaker}
-use Rattle.std.proofs.lemmas.List.Sorted.{IsPermutation-refl, IsPermutation-sym, IsPermutation-trans, IsPermutation-cons, IsPermutation-to_front}
-use Rattle.std.proofs.lemmas.List.Sorted.{IsPermutation-map, IsPermutation-append_left}
+use Rattle.std.proofs.lemmas.List.Sorted.{IsPermutation-refl, IsPermutation-sym, IsPermutation-trans, IsPermutation-cons}
+use Rattle.std.proofs.lemmas.List.Sorted.{IsPermutation-to_front, IsPermutation-map, IsPermutation-append_left}
 use Rattle.mmsyntax.specs.Assertions.{Distinct}
 use Rattle.library.specs.declared.command.Line.{Line}
 use Rattle.library.specs.declared.library.Ranked.{Ranked}
@@ -38,13 +39,15 @@ below_other x k ne =
 
 below_none : (held : List Held) → held_below 0 held ≡ []
 below_none [] = refl
-below_none (p ∷ held) = cond-false (nat_lt p.slot 0) (p ∷ held_below 0 held) (held_below 0 held) (le-ltb p.slot 0 (omega arith)) ∙ below_none held
+below_none (p ∷ held) =
+    cond-false (nat_lt p.slot 0) (p ∷ held_below 0 held) (held_below 0 held) (le-ltb p.slot 0 (omega arith)) ∙ below_none held
 
 -- all of them, where each slot is below the number
 below_all : (n : ℕ) (held : List Held) → All (λ (p : Held). p.slot < n) held → held_below n held ≡ held
 below_all n [] h = refl
 below_all n (p ∷ held) h =
-    cond-true (nat_lt p.slot n) (p ∷ held_below n held) (held_below n held) ((Decides-ltb p.slot n).1 (All-head (λ (q : Held). q.slot < n) p held h))
+    cond-true (nat_lt p.slot n) (p ∷ held_below n held) (held_below n held)
+    ((Decides-ltb p.slot n).1 (All-head (λ (q : Held). q.slot < n) p held h))
     ∙ ap (λ (ps : List Held). p ∷ ps) (below_all n held (All-tail (λ (q : Held). q.slot < n) p held h))
 
 -- a slot that none is held in adds none
@@ -70,10 +73,12 @@ below_more k (q ∷ held) p apart (inl e) is =
     let xs = held_below k held in
     subst (λ (ys : List Held). IsPermutation ys (held_below k (q ∷ held) ++ p ∷ [])) (sym more)
     (subst (λ (ys : List Held). IsPermutation (q ∷ xs) (ys ++ p ∷ [])) (sym now)
-    (subst (λ (x : Held). IsPermutation (q ∷ xs) (xs ++ x ∷ [])) (sym e) (IsPermutation-sym (xs ++ q ∷ []) (q ∷ xs) (IsPermutation-to_front xs q))))
+    (subst (λ (x : Held). IsPermutation (q ∷ xs) (xs ++ x ∷ [])) (sym e)
+    (IsPermutation-sym (xs ++ q ∷ []) (q ∷ xs) (IsPermutation-to_front xs q))))
 below_more k (q ∷ held) p apart (inr h) is =
     let ne : q.slot ≢ k =
-    λ e. absent (slots_of held) q.slot apart.0 (subst (λ n. Has n (slots_of held)) (is ∙ sym e) (has_mapped (λ (x : Held). x.slot) held p h)) in
+    λ e. absent (slots_of held) q.slot apart.0
+    (subst (λ n. Has n (slots_of held)) (is ∙ sym e) (has_mapped (λ (x : Held). x.slot) held p h)) in
     let rest = below_more k held p apart.1 h is in
     let xs = held_below (k + 1) held in
     let ys = held_below k held in
@@ -98,7 +103,9 @@ module _ (slots : ℕ) where
   pub lines_all : (made : List Line) (st : State) (lib : List Ranked) → Shows slots st lib → AreLinesBelow slots made st lib
       → IsPermutation (map (line lib) lib) made
   lines_all made st lib shows lines =
-      let within = All-weaker (λ (p : Held). Holds slots st lib p.slot p.entry) (λ (p : Held). p.slot < slots) (λ p h. h.name.within) shows.held shows.holds in
+      let within =
+      All-weaker (λ (p : Held). Holds slots st lib p.slot p.entry) (λ (p : Held). p.slot < slots) (λ p h. h.name.within) shows.held
+      shows.holds in
       let all : entries_of (held_below slots shows.held) ≡ lib = ap entries_of (below_all slots shows.held within) ∙ shows.library in
       subst (λ (es : List Ranked). IsPermutation (map (line lib) es) made) all (lines shows)
 
@@ -110,7 +117,8 @@ module _ (slots : ℕ) where
         (sym (below_same k shows.held (empty_free slots st lib shows store k empty))) (lines shows)
 
     -- a full one has the line of what it holds
-    pub lines_full : Distinct bytes_eq (map label_of lib) → (e : Ranked) (l : Line) (more : List Line) → Contains lib e → Holds slots st lib k e
+    pub lines_full : Distinct bytes_eq (map label_of lib) → (e : Ranked) (l : Line) (more : List Line) → Contains lib e
+        → Holds slots st lib k e
         → l ≡ line lib e → more ≡ made ++ l ∷ [] → AreLinesBelow k made st lib → AreLinesBelow (k + 1) more st lib
     lines_full apart e l more at holds own push lines shows =
         let p = held_here slots st lib shows store apart k e at holds in
@@ -143,5 +151,6 @@ module _ (r s : Sight) (slots k : ℕ) (is : slots ≡ s.setting.slots) (looks :
       let e = held.0 in
       let there = subst (λ n. Holds n (after t st) lib k e) (sym (same_slots s t on)) held.1 in
       let here = subst (λ n. Holds n (after t st) lib k e) (sym is) held.1 in
-      lines_full slots k made (after t st) lib v.matches.store v.verifies.library.distinct e l more held.2 here (told st lib v e held.2 there) push
+      lines_full slots k made (after t st) lib v.matches.store v.verifies.library.distinct e l more held.2 here
+      (told st lib v e held.2 there) push
       (for_each_later r t (AreLinesBelow slots k made) (looks_trans r s t looks on) lines st lib v)

@@ -1,5 +1,5 @@
 -- Whether steps cite an assertion that isn't below a rank, by the slots that they are stored as.
-use Rattle.std.proofs.Common.{◌≡◌, ℕ, ◌+◌, ◌<◌, Bool, true, false, List, [], ◌∷◌, Some, length, get_or, take, refl, sym, ap, subst, ◌∙◌, arith}
+use Rattle.std.proofs.Common.{◌≡◌, ℕ, ◌+◌, ◌<◌, Bool, true, false, List, length, get_or, take, refl, sym, ap, subst, ◌∙◌, arith}
 use Rattle.std.specs.Prelude.{nat_le}
 use Rattle.std.specs.List.{list_any}
 use Rattle.std.proofs.lemmas.Bool.{or_from}
@@ -94,7 +94,8 @@ below_more s t rank i kept d looks below lt one = λ st lib v steps stored.
     ∙ or_from (list_any (cites_not_below lib rank) (take i steps)) (cites_not_below lib rank (get_or steps i (Float 0))) before
     (one st lib v (get_or steps i (Float 0)) at.0)
 
-pub tells_below : (s : Sight) (rank i : ℕ) (kept : List StoredStep) → length kept ≡ i → AreBelow s rank i kept → TellsNotBelow s rank kept false
+pub tells_below : (s : Sight) (rank i : ℕ) (kept : List StoredStep) → length kept ≡ i → AreBelow s rank i kept
+    → TellsNotBelow s rank kept false
 tells_below s rank i kept n below = λ st lib v steps stored.
     let long = AllZip-long (IsStoredAs (IsNamed s.setting.slots (after s st))) steps kept stored in
     sym (ap (list_any (cites_not_below lib rank)) (sym (take_all i steps (omega (arith, long, n)))) ∙ below st lib v steps stored)

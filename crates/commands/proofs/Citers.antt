@@ -1,8 +1,8 @@
 -- Which assertions cite the one in a slot: their ranks are higher, stored steps tell them, and they are looked for slot by slot.
-use Rattle.std.proofs.Common.{◌≡◌, ◌<◌, ◌≤◌, ◌+◌, ℕ, Bool, true, false, List, [], ◌∷◌, Some, map, refl, sym, ap, subst, ◌∙◌, inl, inr, arith, below_more}
+use Rattle.std.proofs.Common.{◌≡◌, ◌<◌, ◌≤◌, ◌+◌, ℕ, Bool, true, false, List, [], ◌∷◌, Some, refl, sym, ap}
+use Rattle.std.proofs.Common.{subst, ◌∙◌, inl, inr, arith, below_more}
 use Rattle.std.specs.Prelude.{◌↔◌, ◌&&◌, IsTrue, nat_le, All, Contains}
 use Rattle.std.specs.List.{list_any}
-use Rattle.std.specs.Str.{bytes_eq}
 use Rattle.std.proofs.lemmas.Bool.{cases_Bool, both_ways, and_from, or_cases, false_from_ne_true, le-leb, lt-leb}
 use Rattle.std.proofs.lemmas.List.Elements.{All-head, All-tail, All-contains}
 use Rattle.std.proofs.lemmas.List.Folds.{list_any_none}
@@ -29,7 +29,7 @@ use Rattle.library.proofs.Showing.{ChecksIn}
 use Rattle.bodystore.specs.declared.stored.StoredStep.{StoredStep}
 use Rattle.bodystore.specs.declared.stored.StoredStep.TheVariants as stored
 use Rattle.ranges.specs.Ranges.{Has}
-use Rattle.cells.specs.Shows.{AreStoredAs, Holds, Shows}
+use Rattle.cells.specs.Shows.{AreStoredAs, Holds}
 use Rattle.cells.specs.Slots.{rank_cell}
 use Rattle.cells.specs.State.{State}
 use Rattle.cells.specs.Sight.{Sight, Matches, Looks, after}
@@ -60,7 +60,8 @@ frame_cited lib p a label (x ∷ steps) named cited =
     one (Cite l) names here = (names.0, ap lib (same_bytes label l here) ∙ names.1)
 
 -- an assertion that cites another is above it
-pub citer_above : (s : Setting) (lib : List Ranked) (e f : Ranked) → Verifies s lib → Contains lib e → Contains lib f → cites (label_of e) f ≡ true
+pub citer_above : (s : Setting) (lib : List Ranked) (e f : Ranked) → Verifies s lib → Contains lib e → Contains lib f
+    → cites (label_of e) f ≡ true
     → e.rank < f.rank
 citer_above s lib e f v e_in f_in cited = by_kind f.assertion.kind refl
   where
@@ -71,7 +72,9 @@ citer_above s lib e f v e_in f_in cited = by_kind f.assertion.kind refl
         let found = frame_found s.prelude (lower lib f.rank) (label_of e) framed.0 framed.1 in
         let Below = λ (a : Assertion). a.label ≡ label_of e → e.rank < f.rank in
         let all = lower_all Below lib f.rank (λ g g_in lt own.
-        let same = found_one lib (label_of e) e g v.library.distinct (found_own lib e v.library.distinct e_in) g_in (is_labelled-own (label_of e) g own) in
+        let same =
+        found_one lib (label_of e) e g v.library.distinct (found_own lib e v.library.distinct e_in) g_in
+        (is_labelled-own (label_of e) g own) in
         subst (λ (x : Ranked). x.rank < f.rank) same lt) in
         All-contains Below (lower lib f.rank) found.0 all found.1 found.2
 
@@ -131,18 +134,21 @@ module _ (slots i limit : ℕ) where
   -- what the slot j holds doesn't cite what the slot i holds, or is above the limit
   abbrev pub IsUncited : ℕ → State → List Ranked → Type 0
   IsUncited j st lib =
-      (e f : Ranked) → Contains lib e → Holds slots st lib i e → Contains lib f → Holds slots st lib j f → cites_up_to (label_of e) limit f ≡ false
+      (e f : Ranked) → Contains lib e → Holds slots st lib i e → Contains lib f → Holds slots st lib j f
+      → cites_up_to (label_of e) limit f ≡ false
 
   -- so of the slots below k
   abbrev pub AreUncited : ℕ → State → List Ranked → Type 0
   AreUncited k st lib = (j : ℕ) → j < k → IsUncited j st lib
 
 module _ (s : Sight) (i limit : ℕ) where
-  pub all_uncited : (slots k : ℕ) → slots ≡ s.setting.slots → slots ≤ k → ForEach s (AreUncited slots i limit k) → TellsCitedUpTo s i limit false
+  pub all_uncited : (slots k : ℕ) → slots ≡ s.setting.slots → slots ≤ k → ForEach s (AreUncited slots i limit k)
+      → TellsCitedUpTo s i limit false
   all_uncited slots k is past each st lib v e e_in e_held =
       sym (none_up_to lib (label_of e) limit (λ f f_in.
       let p = entry_slot s.setting.slots (after s st) lib v.shows f (has_from_contains lib f f_in) in
-      let holds = subst (Holds s.setting.slots (after s st) lib p.0.slot) p.2 (held_holds s.setting.slots (after s st) lib v.shows p.0 p.1) in
+      let held = held_holds s.setting.slots (after s st) lib v.shows p.0 p.1 in
+      let holds = subst (Holds s.setting.slots (after s st) lib p.0.slot) p.2 held in
       let within = holds.name.within in
       let uncited = subst (λ n. AreUncited n i limit k (after s st) lib) is (each st lib v) in
       uncited p.0.slot (omega (arith, within, past, is)) e f e_in e_held f_in holds))
@@ -152,23 +158,27 @@ module _ (s : Sight) (i limit : ℕ) where
   low_uncited current ranked low st lib v e e_in e_held =
       let own = ranked st lib v e e_in e_held in
       sym (none_up_to lib (label_of e) limit (λ f f_in.
-      not_up_to (label_of e) limit f (λ cited. let above = citer_above s.setting lib e f v.verifies e_in f_in cited in omega (arith, above, own, low))))
+      not_up_to (label_of e) limit f (λ cited.
+      let above = citer_above s.setting lib e f v.verifies e_in f_in cited in omega (arith, above, own, low))))
 
   -- nor anything at all, where it has no citer
   pub count_uncited : (n : ℕ) → n ≡ 0 → ForEachHeld s i (λ st lib e. n ≡ citers lib (label_of e)) → TellsCitedUpTo s i limit false
   count_uncited n none counted st lib v e e_in e_held =
       let free = none_from_count (cites (label_of e)) lib (sym (counted st lib v e e_in e_held) ∙ none) in
       sym (none_up_to lib (label_of e) limit (λ f f_in.
-      not_up_to (label_of e) limit f (λ cited. absurd (both_ways (cites (label_of e) f) (none_contained (cites (label_of e)) lib f free f_in) cited))))
+      not_up_to (label_of e) limit f (λ cited.
+      absurd (both_ways (cites (label_of e) f) (none_contained (cites (label_of e)) lib f free f_in) cited))))
 
   -- one whose proof doesn't cite it
   pub one_other : (j : ℕ) → TellsCites s j i false → ForEach s (IsUncited s.setting.slots i limit j)
   one_other j told st lib v e f e_in e_held f_in f_held =
-      not_up_to (label_of e) limit f (λ cited. absurd (both_ways (cites (label_of e) f) (sym (told st lib v f f_in f_held e e_in e_held)) cited))
+      not_up_to (label_of e) limit f (λ cited.
+      absurd (both_ways (cites (label_of e) f) (sym (told st lib v f f_in f_held e e_in e_held)) cited))
 
   -- the value of the rank cell of a slot
   module _ (j rank : ℕ) (ranked : (st : State) → Matches s st → rank ≡ (after s st).value (rank_cell j)) where
-    pub one_low : (current : ℕ) → ForEachHeld s i (λ st lib e. current ≡ e.rank) → rank ≤ current → ForEach s (IsUncited s.setting.slots i limit j)
+    pub one_low : (current : ℕ) → ForEachHeld s i (λ st lib e. current ≡ e.rank) → rank ≤ current
+        → ForEach s (IsUncited s.setting.slots i limit j)
     one_low current own low st lib v e f e_in e_held f_in f_held =
         let current_is = own st lib v e e_in e_held in
         let rank_is = ranked st v.matches ∙ f_held.rank in
@@ -189,10 +199,12 @@ module _ (s : Sight) (i limit : ℕ) where
           | inl h ↦
               let f = h.0.entry in
               let f_in = listed s.setting.slots (after s st) lib v.shows h.0 h.1.0 in
-              let f_held = subst (λ n. Holds s.setting.slots (after s st) lib n h.0.entry) h.1.1 (holds_it s.setting.slots (after s st) lib v.shows h.0 h.1.0) in
+              let there = holds_it s.setting.slots (after s st) lib v.shows h.0 h.1.0 in
+              let f_held = subst (λ n. Holds s.setting.slots (after s st) lib n h.0.entry) h.1.1 there in
               let cited = told st lib v f f_in f_held e e_in e_held in
               let up = le-leb f.rank limit (let is = f_held.rank in omega (arith, is, value, low)) in
-              sym (any_has (cites_up_to (label_of e) limit) lib f (has_from_contains lib f f_in) (and_from (cites (label_of e) f) (nat_le f.rank limit) (sym cited) up))
+              sym (any_has (cites_up_to (label_of e) limit) lib f (has_from_contains lib f f_in)
+              (and_from (cites (label_of e) f) (nat_le f.rank limit) (sym cited) up))
           | inr h ↦ let none = h.rank in absurd (omega (arith, none, value, some))
         ]
 

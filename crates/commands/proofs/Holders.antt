@@ -1,5 +1,5 @@
 -- The assertion that a slot holds is the one with this slot in a state that shows a library.
-use Rattle.std.proofs.Common.{◌≡◌, ℕ, List, map, ap, sym, subst, ◌∙◌}
+use Rattle.std.proofs.Common.{◌≡◌, ℕ, List, map}
 use Rattle.std.specs.Prelude.{Contains}
 use Rattle.std.specs.Str.{bytes_eq}
 use Rattle.mmsyntax.specs.Assertions.{Distinct}

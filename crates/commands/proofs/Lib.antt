@@ -11,10 +11,11 @@ pub mod Outcomes
 pub mod CitedRanks
 pub mod NotedFrames
 pub mod ProofTests
+pub mod Added
 pub mod Looking
 pub mod Holders
 pub mod Below
 pub mod Lines
-pub mod Transactions
 pub mod Citers
-pub mod Added
+pub mod Ranking
+pub mod Transactions

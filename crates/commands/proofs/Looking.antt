@@ -1,7 +1,6 @@
 -- What only looks: reads and look-ups, and commands whose reply leaves the library as it is.
 use Rattle.std.proofs.Common.{◌≡◌, ◌<◌, ℕ, false, List, Some, Result, Ok, Err, sym, subst}
 use Rattle.std.specs.Prelude.{IfOk, IfErr}
-use Rattle.library.specs.declared.library.Ranked.{Ranked}
 use Rattle.library.specs.declared.command.Command.{Command}
 use Rattle.library.specs.declared.command.Reply.{Reply}
 use Rattle.library.specs.Edits.{edit, is_edit}
@@ -23,7 +22,8 @@ finds_later s t label i f finds =
     )
 
 -- a read only looks, whether the run is stopped or not
-pub read_looks : {E : Type 0} (s t : Sight) (cell : ℕ) (r : Result ℕ E) → IfOk r (λ v. Reads cell v s t) → IfErr r (λ _. Looks s t) → Looks s t
+pub read_looks : {E : Type 0} (s t : Sight) (cell : ℕ) (r : Result ℕ E) → IfOk r (λ v. Reads cell v s t)
+    → IfErr r (λ _. Looks s t) → Looks s t
 read_looks s t cell (Ok v) ok err = ok.looks
 read_looks s t cell (Err e) ok err = err
 

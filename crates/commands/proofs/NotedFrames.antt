@@ -1,5 +1,6 @@
 -- The frames that are noted along the steps of a proof, by the labels that the steps cite.
-use Rattle.std.proofs.Common.{◌≡◌, ◌≢◌, ℕ, ◌+◌, ◌<◌, true, false, List, [], ◌∷◌, ◌++◌, Option, Some, None, length, get_or, take, refl, sym, ap, subst, ◌∙◌, inl, inr, arith, ◌⊎◌}
+use Rattle.std.proofs.Common.{◌≡◌, ◌≢◌, ◌⊎◌, ℕ, ◌+◌, ◌<◌, true, false, List, [], ◌∷◌, Option, Some, None, length, get_or, take}
+use Rattle.std.proofs.Common.{refl, sym, ap, subst, ◌∙◌, inl, inr, arith}
 use Rattle.std.specs.Prelude.{min}
 use Rattle.std.specs.Option.{option_map, is_some}
 use Rattle.std.specs.Str.{bytes_eq}
@@ -19,13 +20,13 @@ use Rattle.library.proofs.Places.{found_in}
 use Rattle.ranges.specs.Ranges.{Has}
 use Rattle.bodystore.specs.declared.stored.StoredStep.{StoredStep}
 use Rattle.bodystore.specs.declared.stored.StoredStep.TheVariants as stored
-use Rattle.cells.specs.Shows.{IsNamed, IsStoredAs, AreStoredAs}
+use Rattle.cells.specs.Shows.{IsNamed, IsStoredAs}
 use Rattle.cells.specs.Sight.{Sight, Looks, after}
-use Rattle.cells.specs.Lookups.{ForEach, ForEachHeld}
+use Rattle.cells.specs.Lookups.{ForEachHeld}
 use Rattle.cells.proofs.Members.{has_append_cases}
 use Rattle.cells.proofs.Holders.{found_at}
 use Rattle.cells.proofs.ReadBack.{zip_at}
-use Rattle.commands.specs.Citing.{ForEachStored, AreFrames, NotesFrame}
+use Rattle.commands.specs.Citing.{ForEachStored, NotesFrame, TellsFrames}
 use Rattle.commands.proofs.CitedRanks.{stored_later}
 
 -- ---- one frame
@@ -66,7 +67,8 @@ pub record AreNoted (t : Tables) (lib : List Ranked) (steps : List Step) (frames
 abbrev pub FirstAreNoted : Sight → Tables → List Step → List StoredStep → ℕ → Citable → Type 0
 FirstAreNoted s t steps kept i frames = ForEachStored s kept (λ lib xs. xs ≡ steps → AreNoted t lib (take i xs) frames)
 
-pub none_noted : (s : Sight) (t : Tables) (steps : List Step) (kept : List StoredStep) (frames : Citable) → ((label : List ℕ) → frames label ≡ None)
+pub none_noted : (s : Sight) (t : Tables) (steps : List Step) (kept : List StoredStep) (frames : Citable)
+    → ((label : List ℕ) → frames label ≡ None)
     → FirstAreNoted s t steps kept 0 frames
 none_noted s t steps kept frames empty = λ st lib v xs stored is.
     record {
@@ -85,7 +87,8 @@ cases_label a b = elim (cases_Bool (bytes_eq a b)) [
 ]
 
 -- a citation further, with the frame noted of the slot that it is stored as
-pub noted_more : (s s' : Sight) (t : Tables) (steps : List Step) (kept : List StoredStep) (i : ℕ) (label : List ℕ) (slot : ℕ) (old new : Citable)
+pub noted_more : (s s' : Sight) (t : Tables) (steps : List Step) (kept : List StoredStep) (i : ℕ) (label : List ℕ) (slot : ℕ)
+    (old new : Citable)
     (d : Step) (e : StoredStep) → Looks s s' → FirstAreNoted s t steps kept i old → i < length kept → get_or steps i d ≡ Cite label
     → get_or kept i e ≡ stored.Slot slot → NotesFrame s' t slot label old new → FirstAreNoted s' t steps kept (i + 1) new
 noted_more s s' t steps kept i label slot old new d e looks each lt cite slot_is notes = λ st lib v xs are_stored is.
@@ -97,7 +100,8 @@ noted_more s s' t steps kept i label slot old new d e looks each lt cite slot_is
     let at = zip_at (IsStoredAs named) xs kept i d e are_stored lt in
     let cited : get_or xs i d ≡ Cite label = ap (λ (ys : List Step). get_or ys i d) is ∙ cite in
     let name : IsNamed slots now slot label =
-    subst (λ (y : StoredStep). IsStoredAs named (Cite label) y) slot_is (subst (λ (x : Step). IsStoredAs named x (get_or kept i e)) cited at.0) in
+    subst (λ (y : StoredStep). IsStoredAs named (Cite label) y) slot_is
+    (subst (λ (x : Step). IsStoredAs named x (get_or kept i e)) cited at.0) in
     let here = found_at slots now lib v.shows v.matches.store slot label v.verifies.library.distinct name in
     let listed = (found_in lib label here.entry here.found).0 in
     let own : HasFrame new label =
@@ -152,7 +156,8 @@ noted_past s t steps kept i frames d e each lt other = λ st lib v xs are_stored
       ];
     }
   where
-    uncited : (named : ℕ → List ℕ → Type 0) (l : List ℕ) (x : StoredStep) → IsStoredAs named (Cite l) x → ((slot : ℕ) → x ≡ stored.Slot slot → ⊥) → ⊥
+    uncited : (named : ℕ → List ℕ → Type 0) (l : List ℕ) (x : StoredStep) → IsStoredAs named (Cite l) x
+        → ((slot : ℕ) → x ≡ stored.Slot slot → ⊥) → ⊥
     uncited named l (stored.Float j) h free = h
     uncited named l (stored.Hyp j) h free = h
     uncited named l (stored.Slot j) h free = free j refl
@@ -160,7 +165,7 @@ noted_past s t steps kept i frames d e each lt other = λ st lib v xs are_stored
 -- at the end
 pub all_noted : (s : Sight) (t : Tables) (steps : List Step) (kept : List StoredStep) (i : ℕ) (frames : Citable)
     → i ≡ min (length steps) (length kept) → FirstAreNoted s t steps kept i frames
-    → ForEach s (λ st lib. AreStoredAs s.setting.slots st steps kept → AreFrames t lib steps frames)
+    → TellsFrames s t steps kept frames
 all_noted s t steps kept i frames n each = λ st lib v are_stored label h.
     let long = AllZip-long (IsStoredAs (IsNamed s.setting.slots (after s st))) steps kept are_stored in
     let all : take i steps ≡ steps = take_all i steps (omega (arith, long, n)) in

@@ -1,13 +1,13 @@
 -- The tests of a theorem's proof, by the steps as they are stored and the frames that they cite.
-use Rattle.std.proofs.Common.{◌≡◌, ◌≢◌, ℕ, ◌<◌, Bool, true, false, List, [], ◌∷◌, Option, Some, None, Ok, Err, length, map, refl, sym, ap, subst, ◌∙◌, inl, inr, arith}
+use Rattle.std.proofs.Common.{◌≡◌, ◌≢◌, ℕ, ◌<◌, true, false, List, [], ◌∷◌, Option, Some, None, length, map}
+use Rattle.std.proofs.Common.{refl, sym, ap, subst, ◌∙◌, inl, inr, arith}
 use mathlib.Core.Bool.{not}
-use Rattle.std.specs.Prelude.{nat_le, Contains}
+use Rattle.std.specs.Prelude.{nat_le}
 use Rattle.std.specs.Option.{option_map}
 use Rattle.std.specs.List.{list_any}
 use Rattle.std.specs.Str.{bytes_eq}
 use Rattle.std.proofs.lemmas.Bool.{both_ways, or_from, leb-false, false_from_ne_true}
 use Rattle.mmsyntax.specs.declared.statement.Assertion.{Assertion}
-use Rattle.mmsyntax.specs.declared.statement.Frame.{Frame}
 use Rattle.mmsyntax.specs.declared.statement.Step.{Step}
 use Rattle.mmsyntax.specs.declared.statement.Step.TheVariants.{Float, Hyp, Cite}
 use Rattle.mmsyntax.specs.Assertions.{Distinct}
@@ -22,7 +22,8 @@ use Rattle.library.specs.declared.library.Ranked.{Ranked}
 use Rattle.library.specs.declared.reason.Reason.{Reason}
 use Rattle.library.specs.declared.reason.Reason.TheVariants.{CitesUnknown, CitedNotLower, ProofFails}
 use Rattle.library.specs.Library.{Setting, label_of, lower, citable}
-use Rattle.library.specs.Edits.{Tests, Edited, has, found, where_so, is_of_unknown, is_not_below, cites_not_below, fault_of, cites_unknown, cited_not_lower, proof_fails, tested}
+use Rattle.library.specs.Edits.{Tests, Edited, found, is_of_unknown, is_not_below, cites_not_below, fault_of}
+use Rattle.library.specs.Edits.{cited_not_lower, proof_fails, tested}
 use Rattle.library.proofs.Frames.{frame_given}
 use Rattle.library.proofs.Lower.{lower_has, lower_distinct}
 use Rattle.library.proofs.Places.{found_in}
@@ -32,13 +33,13 @@ use Rattle.bodystore.specs.declared.stored.StoredStep.TheVariants as stored
 use Rattle.cells.specs.State.{State, most_words}
 use Rattle.cells.specs.Shows.{IsNamed, IsStoredAs, AreStoredAs, Shows}
 use Rattle.cells.specs.Sight.{Sight, Views, Looks, after}
-use Rattle.cells.specs.Lookups.{ForEach, AreWithin, IsFoundAt, Resolves}
+use Rattle.cells.specs.Lookups.{ForEach, AreWithin, Resolves}
 use Rattle.cells.proofs.Members.{any_has, has_from_contains}
-use Rattle.cells.proofs.Sights.{for_each_later, views_back, after_looks, looks_trans}
+use Rattle.cells.proofs.Sights.{for_each_later, looks_trans}
 use Rattle.cells.proofs.Settings.{same_slots}
 use Rattle.cells.proofs.Holders.{found_at}
 use Rattle.cells.proofs.Holding.{named_has}
-use Rattle.commands.specs.Citing.{TellsNotBelow, AreFrames, TellsFault, Passes, Fails, proof_tests}
+use Rattle.commands.specs.Citing.{TellsNotBelow, AreFrames, TellsFrames, TellsFault, Passes, Fails, proof_tests}
 use Rattle.commands.proofs.CitedRanks.{stored_later}
 use Rattle.commands.proofs.Refusing.{first_refuses, first_passes}
 
@@ -46,7 +47,8 @@ use Rattle.commands.proofs.Refusing.{first_refuses, first_passes}
 
 module _ (slots : ℕ) (st : State) (lib : List Ranked) (shows : Shows slots st lib) (store : AreOfOneStore most_words st.ranges) where
   -- the label of an assertion each
-  pub none_unknown : (steps : List Step) (kept : List StoredStep) → AreStoredAs slots st steps kept → list_any (is_of_unknown lib) steps ≡ false
+  pub none_unknown : (steps : List Step) (kept : List StoredStep) → AreStoredAs slots st steps kept
+      → list_any (is_of_unknown lib) steps ≡ false
   none_unknown [] kept h = refl
   none_unknown (x ∷ steps) [] h = absurd h
   none_unknown (x ∷ steps) (k ∷ kept) h =
@@ -75,7 +77,8 @@ module _ (slots : ℕ) (st : State) (lib : List Ranked) (shows : Shows slots st 
 -- ---- the frames of what they cite
 
 -- frames of all that the steps cite are those of what is below the rank, where they cite nothing else
-pub frames_lower : (s : Setting) (lib : List Ranked) (rank : ℕ) (steps : List Step) (frames : Citable) → Distinct bytes_eq (map label_of lib)
+pub frames_lower : (s : Setting) (lib : List Ranked) (rank : ℕ) (steps : List Step) (frames : Citable)
+    → Distinct bytes_eq (map label_of lib)
     → list_any (cites_not_below lib rank) steps ≡ false → AreFrames s.prelude lib steps frames
     → (label : List ℕ) (e : Ranked) → Has (Cite label) steps → found lib label ≡ Some e → frames label ≡ citable s lib rank label
 frames_lower s lib rank steps frames apart below are label e at is =
@@ -105,16 +108,18 @@ outcome_lower s lib rank a frames apart below are known =
 -- a label that no assertion has is cited
 pub fails_unknown : (s : Sight) (rank : ℕ) (a : Assertion) → Resolves s a.proof None → Fails s rank a CitesUnknown
 fails_unknown s rank a unknown = λ st lib v more edited.
-    first_refuses (list_any (is_of_unknown lib) a.proof) CitesUnknown (cited_not_lower lib rank a.proof ∷ proof_fails s.setting lib rank a ∷ more)
-    edited (unknown st lib v)
+    first_refuses (list_any (is_of_unknown lib) a.proof) CitesUnknown
+    (cited_not_lower lib rank a.proof ∷ proof_fails s.setting lib rank a ∷ more) edited (unknown st lib v)
 
 -- each cited label is an assertion's
 pub past_unknown : (s : Sight) (rank : ℕ) (a : Assertion) (kept : List StoredStep) (st : State) (lib : List Ranked) → Views s st lib
     → AreStoredAs s.setting.slots (after s st) a.proof kept → (more : Tests) (edited : Edited)
-    → tested (proof_tests s lib rank a more) edited ≡ tested (cited_not_lower lib rank a.proof ∷ proof_fails s.setting lib rank a ∷ more) edited
+    → tested (proof_tests s lib rank a more) edited
+    ≡ tested (cited_not_lower lib rank a.proof ∷ proof_fails s.setting lib rank a ∷ more) edited
 past_unknown s rank a kept st lib v are more edited =
-    first_passes (list_any (is_of_unknown lib) a.proof) CitesUnknown (cited_not_lower lib rank a.proof ∷ proof_fails s.setting lib rank a ∷ more)
-    edited (none_unknown s.setting.slots (after s st) lib v.shows v.matches.store a.proof kept are)
+    first_passes (list_any (is_of_unknown lib) a.proof) CitesUnknown
+    (cited_not_lower lib rank a.proof ∷ proof_fails s.setting lib rank a ∷ more) edited
+    (none_unknown s.setting.slots (after s st) lib v.shows v.matches.store a.proof kept are)
 
 -- the steps that are resolved go on to be stored so
 pub stored_on : (s t : Sight) (steps : List Step) (kept : List StoredStep) → Looks s t
@@ -137,11 +142,12 @@ pub record IsSifted (s : Sight) (t : Tables) (rank : ℕ) (a : Assertion) (kept 
   pub same_prelude : t ≡ s.setting.prelude
   pub stored : ForEach s (λ st lib. AreStoredAs s.setting.slots st a.proof kept)
   pub below : TellsNotBelow s rank kept false
-  pub are_frames : ForEach s (λ st lib. AreStoredAs s.setting.slots st a.proof kept → AreFrames t lib a.proof frames)
+  pub are_frames : TellsFrames s t a.proof kept frames
 
 -- behind them the fault over the frames decides
-pub sifted_tests : (s : Sight) (t : Tables) (rank : ℕ) (a : Assertion) (kept : List StoredStep) (frames : Citable) (fault : Option ProofFault)
-    → IsSifted s t rank a kept frames → TellsFault frames t a fault → (st : State) (lib : List Ranked) → Views s st lib → (more : Tests) (edited : Edited)
+pub sifted_tests : (s : Sight) (t : Tables) (rank : ℕ) (a : Assertion) (kept : List StoredStep) (frames : Citable)
+    (fault : Option ProofFault) → IsSifted s t rank a kept frames → TellsFault frames t a fault → (st : State) (lib : List Ranked)
+    → Views s st lib → (more : Tests) (edited : Edited)
     → tested (proof_tests s lib rank a more) edited ≡ tested (option_map ProofFails fault ∷ more) edited
 sifted_tests s t rank a kept frames fault sifted tells st lib v more edited =
     let are = sifted.stored st lib v in
@@ -179,10 +185,11 @@ passes r s t rank a kept frames looks resolved sifted tells =
     }
 
 -- what one call after another tells of the steps
-pub sifted : (s0 s1 s2 s3 : Sight) (t : Tables) (rank : ℕ) (a : Assertion) (steps : List Step) (kept first second : List StoredStep) (frames : Citable)
+pub sifted : (s0 s1 s2 s3 : Sight) (t : Tables) (rank : ℕ) (a : Assertion) (steps : List Step) (kept first second : List StoredStep)
+    (frames : Citable)
     → t ≡ s0.setting.prelude → Looks s0 s1 → Looks s1 s2 → Looks s2 s3 → steps ≡ a.proof → first ≡ kept → second ≡ kept
     → Resolves s1 a.proof (Some kept) → TellsNotBelow s2 rank first false
-    → ForEach s3 (λ st lib. AreStoredAs s3.setting.slots st steps second → AreFrames t lib steps frames) → IsSifted s3 t rank a kept frames
+    → TellsFrames s3 t steps second frames → IsSifted s3 t rank a kept frames
 sifted s0 s1 s2 s3 t rank a steps kept first second frames prelude looks1 looks2 looks3 own is_first is_second resolved below noted =
     let later = looks_trans s1 s2 s3 looks2 looks3 in
     let all = looks_trans s0 s1 s3 looks1 later in
@@ -191,7 +198,6 @@ sifted s0 s1 s2 s3 t rank a steps kept first second frames prelude looks1 looks2
       stored = stored_on s1 s3 a.proof kept later resolved.2;
       below = stored_later s2 s3 kept (λ lib xs. false ≡ list_any (cites_not_below lib rank) xs) looks3
           (subst (λ (ks : List StoredStep). TellsNotBelow s2 rank ks false) is_first below);
-      are_frames = subst (λ (xs : List Step). ForEach s3 (λ st lib. AreStoredAs s3.setting.slots st xs kept → AreFrames t lib xs frames)) own
-          (subst (λ (ks : List StoredStep). ForEach s3 (λ st lib. AreStoredAs s3.setting.slots st steps ks → AreFrames t lib steps frames))
-          is_second noted);
+      are_frames = subst (λ (xs : List Step). TellsFrames s3 t xs kept frames) own
+          (subst (λ (ks : List StoredStep). TellsFrames s3 t steps ks frames) is_second noted);
     }

@@ -1,59 +1,166 @@
 -- The commands of a transaction, one after another: what one more of them does to what was done.
-use Rattle.std.proofs.Common.{◌≡◌, ◌+◌, ℕ, List, [], ◌∷◌, ◌++◌, Result, Ok, Err, length, refl, ap, ◌∙◌, arith}
+use Rattle.std.proofs.Common.{◌≡◌, ◌+◌, ℕ, Bool, true, false, List, [], ◌∷◌, ◌++◌, Result, Ok, Err, length, refl, sym}
+use Rattle.std.proofs.Common.{ap, subst, ◌∙◌, arith}
+use Rattle.std.specs.Prelude.{◌||◌, All}
 use Rattle.library.specs.declared.library.Ranked.{Ranked}
 use Rattle.library.specs.declared.command.Command.{Command}
 use Rattle.library.specs.declared.command.Reply.{Reply}
 use Rattle.library.specs.declared.reason.Reason.{Reason}
 use Rattle.library.specs.declared.reason.Refused.{Refused}
-use Rattle.library.specs.Library.{Setting}
-use Rattle.library.specs.Edits.{Edited, edit}
-use Rattle.library.specs.Transactions.{Applied, with_reply, then_apply, apply_from}
+use Rattle.library.specs.Library.{Setting, Verifies}
+use Rattle.library.specs.Fitting.{CommandFits}
+use Rattle.library.specs.Edits.{Edited, edit, is_edit}
+use Rattle.library.specs.Transactions.{Applied, with_reply, then_apply, apply_from, has_edit}
+use Rattle.library.proofs.Editing.{apply_verifies}
+use Rattle.cells.specs.State.{State}
+use Rattle.cells.specs.Sight.{Sight, Matches, Views, Onward}
+use Rattle.cells.proofs.Sights.{looks_refl, looks_trans, matches_back}
+use Rattle.commands.specs.Answers.{WritesIfEdit, error_at, Does, IsRefused, CommandAnswers, DoesAll, RefusesAll, RunAnswers}
+use Rattle.commands.specs.declared.ending.CommandError.{CommandError}
+use Rattle.commands.specs.declared.ending.CommandError.TheVariants as command
 
-pub apply_none : (s : Setting) (lib : List Ranked) → apply_from s 1 lib [] ≡ Ok (record { library = lib; replies = [] })
+-- ---- over a library
+
+apply_none : (s : Setting) (n : ℕ) (lib : List Ranked) → apply_from s n lib [] ≡ Ok (record { library = lib; replies = [] })
 unfolding apply_from
-apply_none s lib = refl
+apply_none s n lib = refl
 
--- what a command and those behind it did
-pub record Began (s : Setting) (n : ℕ) (lib : List Ranked) (c : Command) (cs : List Command) (a : Applied) : Type 0 where
-  pub first : Edited
-  pub edited : edit s lib c ≡ Ok first
-  pub rest : Applied
-  pub applied : apply_from s (n + 1) first.library cs ≡ Ok rest
-  pub whole : a ≡ record { library = rest.library; replies = first.reply ∷ rest.replies }
-
-began : (s : Setting) (n : ℕ) (lib : List Ranked) (c : Command) (cs : List Command) (a : Applied) → apply_from s n lib (c ∷ cs) ≡ Ok a
-    → Began s n lib c cs a
+apply_first : (s : Setting) (n : ℕ) (lib : List Ranked) (c : Command) (cs : List Command)
+    → apply_from s n lib (c ∷ cs) ≡ then_apply n (edit s lib c) (λ next. apply_from s (n + 1) next cs)
 unfolding apply_from
-began s n lib c cs a h = first (edit s lib c) refl h
+apply_first s n lib c cs = refl
+
+-- what a command does, and those behind it
+record Begins (s : Setting) (n : ℕ) (lib : List Ranked) (c : Command) (cs : List Command) (a : Applied) : Type 0 where
+  first : Edited
+  edited : edit s lib c ≡ Ok first
+  rest : Applied
+  applied : apply_from s (n + 1) first.library cs ≡ Ok rest
+  whole : a ≡ record { library = rest.library; replies = first.reply ∷ rest.replies }
+
+begins : (s : Setting) (n : ℕ) (lib : List Ranked) (c : Command) (cs : List Command) (a : Applied) → apply_from s n lib (c ∷ cs) ≡ Ok a
+    → Begins s n lib c cs a
+begins s n lib c cs a h = split (edit s lib c) refl (sym (apply_first s n lib c cs) ∙ h)
   where
-    then : (e : Edited) (r : Result Applied Refused) → edit s lib c ≡ Ok e → apply_from s (n + 1) e.library cs ≡ r → with_reply e.reply r ≡ Ok a
-        → Began s n lib c cs a
-    then e (Ok b) is made k = record { first = e; edited = is; rest = b; applied = made; whole = cc }
-    then e (Err r) is made k = absurd cc
+    rest : (e : Edited) (r : Result Applied Refused) → edit s lib c ≡ Ok e → apply_from s (n + 1) e.library cs ≡ r
+        → with_reply e.reply r ≡ Ok a
+        → Begins s n lib c cs a
+    rest e (Ok b) is made k = record { first = e; edited = is; rest = b; applied = made; whole = cc }
+    rest e (Err r) is made k = absurd cc
 
-    first : (r : Result Edited Reason) → edit s lib c ≡ r → then_apply n r (λ next. apply_from s (n + 1) next cs) ≡ Ok a → Began s n lib c cs a
-    first (Ok e) is k = then e (apply_from s (n + 1) e.library cs) is refl k
-    first (Err reason) is k = absurd cc
+    split : (r : Result Edited Reason) → edit s lib c ≡ r → then_apply n r (λ next. apply_from s (n + 1) next cs) ≡ Ok a
+        → Begins s n lib c cs a
+    split (Ok e) is k = rest e (apply_from s (n + 1) e.library cs) is refl k
+    split (Err reason) is k = absurd cc
 
-apply_first : (s : Setting) (n : ℕ) (lib : List Ranked) (c : Command) (cs : List Command) (e : Edited) → edit s lib c ≡ Ok e
-    → apply_from s n lib (c ∷ cs) ≡ with_reply e.reply (apply_from s (n + 1) e.library cs)
-unfolding apply_from
-apply_first s n lib c cs e is = ap (λ (r : Result Edited Reason). then_apply n r (λ next. apply_from s (n + 1) next cs)) is
+-- the same with more behind them
+begins_more : (s : Setting) (n : ℕ) (lib : List Ranked) (c : Command) (cs more : List Command) (e : Edited) → edit s lib c ≡ Ok e
+    → apply_from s n lib (c ∷ (cs ++ more)) ≡ with_reply e.reply (apply_from s (n + 1) e.library (cs ++ more))
+begins_more s n lib c cs more e is =
+    apply_first s n lib c (cs ++ more)
+    ∙ ap (λ (r : Result Edited Reason). then_apply n r (λ next. apply_from s (n + 1) next (cs ++ more))) is
+
+none_applied : (s : Setting) (n : ℕ) (lib : List Ranked) (a : Applied) → apply_from s n lib [] ≡ Ok a
+    → record { library = lib; replies = [] } ≡ a
+none_applied s n lib a h =
+    let empty : Applied = record { library = lib; replies = [] } in
+    let there : Result Applied Refused = Ok empty in
+    let here : there ≡ Ok a = sym (apply_none s n lib) ∙ h in cc
 
 -- one more is done
-pub apply_more : (s : Setting) (n : ℕ) (lib : List Ranked) (cs : List Command) (c : Command) (a : Applied) (e : Edited)
+apply_more : (s : Setting) (n : ℕ) (lib : List Ranked) (cs : List Command) (c : Command) (a : Applied) (e : Edited)
     → apply_from s n lib cs ≡ Ok a → edit s a.library c ≡ Ok e
     → apply_from s n lib (cs ++ c ∷ []) ≡ Ok (record { library = e.library; replies = a.replies ++ e.reply ∷ [] })
-unfolding apply_from
 apply_more s n lib [] c a e h is =
-    let same : a ≡ record { library = lib; replies = [] } = cc in
-    rw same at is
-apply_more s n lib (d ∷ cs) c a e h is = ?
+    let same = none_applied s n lib a h in
+    let here = subst (λ (x : Applied). edit s x.library c ≡ Ok e) (sym same) is in
+    begins_more s n lib c [] [] e here ∙ ap (with_reply e.reply) (apply_none s (n + 1) e.library)
+    ∙ ap (λ (x : Applied). Ok (record { library = e.library; replies = x.replies ++ e.reply ∷ [] })) same
+apply_more s n lib (d ∷ cs) c a e h is =
+    let b = begins s n lib d cs a h in
+    begins_more s n lib d cs (c ∷ []) b.first b.edited
+    ∙ ap (with_reply b.first.reply) (apply_more s (n + 1) b.first.library cs c b.rest e b.applied
+    (subst (λ (x : Applied). edit s x.library c ≡ Ok e) b.whole is))
+    ∙ ap (λ (x : Applied). Ok (record { library = e.library; replies = x.replies ++ e.reply ∷ [] })) (sym b.whole)
 
 -- one more is refused
-pub apply_refused : (s : Setting) (n : ℕ) (lib : List Ranked) (cs : List Command) (c : Command) (more : List Command) (a : Applied) (reason : Reason)
+apply_refused : (s : Setting) (n : ℕ) (lib : List Ranked) (cs : List Command) (c : Command) (more : List Command) (a : Applied)
+    (reason : Reason)
     → apply_from s n lib cs ≡ Ok a → edit s a.library c ≡ Err reason
     → apply_from s n lib (cs ++ c ∷ more) ≡ Err (record { index = n + length cs; reason = reason })
-unfolding apply_from
-apply_refused s n lib [] c more a reason h is = ?
-apply_refused s n lib (d ∷ cs) c more a reason h is = ?
+apply_refused s n lib [] c more a reason h is =
+    let same = none_applied s n lib a h in
+    let here = subst (λ (x : Applied). edit s x.library c ≡ Err reason) (sym same) is in
+    let number : n ≡ n + length {A = Command} [] = omega arith in
+    apply_first s n lib c more ∙ ap (λ (r : Result Edited Reason). then_apply n r (λ next. apply_from s (n + 1) next more)) here
+    ∙ ap (λ k. Err (record { index = k; reason = reason })) number
+apply_refused s n lib (d ∷ cs) c more a reason h is =
+    let b = begins s n lib d cs a h in
+    let there = subst (λ (x : Applied). edit s x.library c ≡ Err reason) b.whole is in
+    let number : n + 1 + length cs ≡ n + length (d ∷ cs) = omega arith in
+    begins_more s n lib d cs (c ∷ more) b.first b.edited
+    ∙ ap (with_reply b.first.reply) (apply_refused s (n + 1) b.first.library cs c more b.rest reason b.applied there)
+    ∙ ap (λ k. Err (record { index = k; reason = reason })) number
+
+-- ---- over cells
+
+pub does_none : (s : Sight) → DoesAll s s [] []
+does_none s = record { applies = λ st lib m v. (lib, apply_none s.setting 1 lib, v.shows); writes = looks_refl s }
+
+writes_on : (a b : Bool) (s t u : Sight) → Onward t u → WritesIfEdit a s t → WritesIfEdit b t u → WritesIfEdit (a || b) s u
+writes_on true b s t u on w x = (w.0, on.written w.0 w.1)
+writes_on false true s t u on w x = x
+writes_on false false s t u on w x = looks_trans s t u w x
+
+has_edit_more : (cs : List Command) (c : Command) → (has_edit cs || is_edit c) ≡ has_edit (cs ++ c ∷ [])
+has_edit_more [] c = elim (is_edit c) as (λ b. b ≡ (b || false)) [ true ↦ refl | false ↦ refl ]
+has_edit_more (d ∷ cs) c =
+    elim (is_edit d) as (λ b. ((b || has_edit cs) || is_edit c) ≡ (b || has_edit (cs ++ c ∷ []))) [
+      | true ↦ refl
+      | false ↦ has_edit_more cs c
+    ]
+
+module _ (s t u : Sight) (cs : List Command) (replies : List Reply) (does : DoesAll s t cs replies) (since : Onward s t) (on : Onward t u)
+    (fit : All (CommandFits s.setting.prelude) cs) where
+  -- the library that the commands so far made, and that the run views then
+  record Made (st : State) (lib : List Ranked) : Type 0 where
+    next : List Ranked
+    applied : apply_from s.setting 1 lib cs ≡ Ok (record { library = next; replies = replies })
+    views : Views t st next
+
+  made : (st : State) (lib : List Ranked) → Matches u st → Views s st lib → Made st lib
+  made st lib m v =
+      let before = matches_back t u st on m in
+      let d = does.applies st lib before v in
+      let verifies = apply_verifies s.setting lib cs (record { library = d.0; replies = replies }) v.verifies fit d.1 in
+      record {
+        next = d.0;
+        applied = d.1;
+        views = record { matches = before; shows = d.2; verifies = subst (λ (x : Setting). Verifies x d.0) (sym since.setting) verifies };
+      }
+
+  pub does_more : (c : Command) (reply : Reply) → Does t u c reply → DoesAll s u (cs ++ c ∷ []) (replies ++ reply ∷ [])
+  does_more c reply one =
+      record {
+        applies = λ st lib m v.
+            let now = made st lib m v in
+            let e = one.edits st now.next m now.views in
+            let edited : Edited = record { library = e.0; reply = reply } in
+            let is = subst (λ (x : Setting). edit x now.next c ≡ Ok edited) since.setting e.1 in
+            (e.0, apply_more s.setting 1 lib cs c (record { library = now.next; replies = replies }) edited now.applied is, e.2);
+        writes = subst (λ b. WritesIfEdit b s u) (has_edit_more cs c) (writes_on (has_edit cs) (is_edit c) s t u on does.writes one.writes);
+      }
+
+  pub refuses_more : (c : Command) (more : List Command) (reason : Reason) → IsRefused t u c reason
+      → RefusesAll s u (cs ++ c ∷ more) (record { index = 1 + length cs; reason = reason })
+  refuses_more c more reason one st lib m v =
+      let now = made st lib m v in
+      let is = subst (λ (x : Setting). edit x now.next c ≡ Err reason) since.setting (one.refuses st now.next m now.views) in
+      apply_refused s.setting 1 lib cs c more (record { library = now.next; replies = replies }) reason now.applied is
+
+  -- a command that has no reply ends the transaction
+  pub ends : {S : Type 0} (c : Command) (more : List Command) (error : CommandError S) → CommandAnswers t u c (Err error)
+      → RunAnswers s u (cs ++ c ∷ more) (Err (error_at (1 + length cs) error))
+  ends c more (command.Stopped stop) h = tt
+  ends c more (command.Refused reason) h = refuses_more c more reason h
+  ends c more command.NoMemory h = tt

@@ -22,7 +22,6 @@ use Rattle.library.specs.Library.{label_of}
 use Rattle.library.specs.Edits.{Tests, Edited, found, cites, cites_not_below, fault_of, cites_unknown, cited_not_lower, proof_fails, tested}
 use Rattle.ranges.specs.Ranges.{Has}
 use Rattle.bodystore.specs.declared.stored.StoredStep.{StoredStep}
-use Rattle.cells.specs.State.{State}
 use Rattle.cells.specs.Shows.{AreStoredAs, Holds}
 use Rattle.cells.specs.Sight.{Sight}
 use Rattle.cells.specs.Lookups.{ForEach, ForEachHeld, AreWithin}
@@ -41,6 +40,11 @@ TellsNotBelow s rank kept b = ForEachStored s kept (λ lib steps. b ≡ list_any
 abbrev pub AreFrames : Tables → List Ranked → List Step → Citable → Type 0
 AreFrames prelude lib steps frames =
     (label : List ℕ) → Has (Cite label) steps → frames label ≡ option_map (λ e. frame prelude e.assertion) (found lib label)
+
+-- so where the steps are stored as these
+abbrev pub TellsFrames : Sight → Tables → List Step → List StoredStep → Citable → Type 0
+TellsFrames s prelude steps kept frames =
+    ForEach s (λ st lib. AreStoredAs s.setting.slots st steps kept → AreFrames prelude lib steps frames)
 
 -- the frame of the assertion in the slot is noted by the label, unless the label has one
 pub record NotesFrame (s : Sight) (prelude : Tables) (i : ℕ) (label : List ℕ) (old new : Citable) : Type 0 where

@@ -13,8 +13,8 @@ use library::{Reason, Reply};
 use mmstatement::{Assertion, Kind, Prelude, is_lawful_label};
 use std::alloc::Global;
 
-/// Adds a theorem with a rank, in the first empty slot from the number of its label's bucket on. It stages its label, its statement and its proof, in
-/// this order.
+/// Adds a theorem with a rank, in the first empty slot from the number of its label's bucket on. It stages its label, its statement and its
+/// proof, in this order.
 pub(crate) fn add<C: Cells>(
     alloc: Global,
     prelude: &Prelude,

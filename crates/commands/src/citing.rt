@@ -3,9 +3,8 @@
 ghost use Rattle.std.specs.Prelude.{◌≡◌, ◌<◌, IfOk, IfErr, OnOk};
 ghost use Rattle.mmsyntax.specs.declared.statement.Kind.TheVariants.{Theorem};
 ghost use Rattle.cells.specs.Sight.{Looks};
-ghost use Rattle.cells.specs.Lookups.{ForEach, AreWithin};
-ghost use Rattle.cells.specs.Shows.{AreStoredAs};
-ghost use Rattle.commands.specs.Citing.{TellsNotBelow, AreFrames, NotesFrame, TellsFault, Passes, TellsRefusal, frames_in};
+ghost use Rattle.cells.specs.Lookups.{AreWithin};
+ghost use Rattle.commands.specs.Citing.{TellsNotBelow, TellsFrames, NotesFrame, TellsFault, Passes, TellsRefusal, frames_in};
 
 use crate::ending::CommandError;
 use bodystore::StoredStep;
@@ -20,8 +19,8 @@ use std::collections::BTreeMap;
 ///
 /// # Errors
 ///
-/// In this order: a step cites a label that no assertion has, or one that isn't below the rank; the first fault of the proof. The run is stopped, or
-/// memory ran out.
+/// In this order: a step cites a label that no assertion has, or one that isn't below the rank; the first fault of the proof. The run is
+/// stopped, or memory ran out.
 pub(crate) fn test_proof<C: Cells>(
     alloc: Global,
     prelude: &Prelude,
@@ -96,7 +95,7 @@ fn cited_frames<C: Cells>(
 ) -> Result<CitedFrames, Halt<C::Stop>>
     requires { AreWithin (C.sight cells.old).setting.slots kept.now }
     ensures looks { Looks (C.sight cells.old) (C.sight cells.new) }
-    ensures ok { IfOk result (λ made. ForEach (C.sight cells.new) (λ st lib. AreStoredAs (C.sight cells.new).setting.slots st steps.now kept.now → AreFrames prelude.now lib steps.now (frames_in made.by_label))) }
+    ensures ok { IfOk result (λ made. TellsFrames (C.sight cells.new) prelude.now steps.now kept.now (frames_in made.by_label)) }
 {
     let mut by_label = BTreeMap::new(alloc);
     for (step, stored) in steps.iter().zip(kept) {

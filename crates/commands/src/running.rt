@@ -75,6 +75,3 @@ pub fn take<C: Cells>(
         Command::List => list(alloc, cells),
     }
 }
-
-#[test]
-fn nothing(_rt: HostRuntime) {}

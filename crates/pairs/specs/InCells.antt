@@ -1,24 +1,22 @@
 -- What a transaction over a library in plain cells answers, and which library they show then.
-use Rattle.std.specs.Prelude.{◌≡◌, ◌≤◌, List, Result, Ok, Err}
+use Rattle.std.specs.Prelude.{◌≡◌, List, Result, Ok, Err}
 use mathlib.Core.Logic.{∥_∥₁}
 use Rattle.library.specs.declared.library.Ranked.{Ranked}
 use Rattle.library.specs.declared.command.Command.{Command}
 use Rattle.library.specs.declared.command.Reply.{Reply}
-use Rattle.library.specs.Library.{Setting, Verifies}
+use Rattle.library.specs.Library.{Verifies}
 use Rattle.library.specs.Transactions.{apply}
 use Rattle.cells.specs.declared.plain.PlainCells.{PlainCells}
 use Rattle.cells.specs.declared.plain.PlainStop.{PlainStop}
 use Rattle.cells.specs.Shows.{Shows}
-use Rattle.cells.specs.Plain.{plain_state, ShowsSome}
+use Rattle.cells.specs.Plain.{ShowsSome}
+use Rattle.cells.specs.PlainViews.{setting_of, now_state}
 use Rattle.commands.specs.declared.ending.RunError.{RunError}
 use Rattle.commands.specs.declared.ending.RunError.TheVariants.{Refused}
 
-abbrev pub setting_of : PlainCells → Setting
-setting_of c = record { prelude = c.prelude; slots = c.slots }
-
 -- the cells show the library, which verifies
 pub record ShowsNow (c : PlainCells) (lib : List Ranked) : Type 0 where
-  pub shows : Shows c.slots (plain_state c.values.items c.store.items c.ranges.items) lib
+  pub shows : Shows c.slots (now_state c) lib
   pub verifies : Verifies (setting_of c) lib
 
 -- they show some library that verifies

@@ -1,5 +1,5 @@
 use Rattle.std.proofs.Common.{◌≡◌, ◌+◌, take}
-use Rattle.cells.specs.Plain.{bodies_length}
+use Rattle.cells.specs.Measures.{bodies_length}
 use Rattle.cells.proofs.opening.fit_into.Given as goal
 
 abbrev pub invariant-loop-assertion : goal.invariant-loop-assertion

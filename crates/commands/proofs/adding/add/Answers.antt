@@ -1,16 +1,13 @@
-use Rattle.std.proofs.Common.{◌≡◌, ◌∙◌, ◌<◌, ℕ, List, Option, Some, None, Err, true, false, [], refl, sym, ap, subst}
+use Rattle.std.proofs.Common.{◌≡◌, ◌∙◌, ◌<◌, ℕ, List, Some, None, Err, true, refl, sym, ap, subst}
 use Rattle.std.proofs.lemmas.Bool.{ne_eqb}
 use Rattle.std.proofs.lemmas.Result.{err_from_is_err_and}
 use Rattle.mmsyntax.specs.Tables.{Tables}
 use Rattle.mmsyntax.specs.Assertions.{is_lawful_label}
-use Rattle.mmsyntax.specs.declared.statement.Kind.TheVariants.{Axiom, Theorem}
-use Rattle.library.specs.declared.library.Ranked.{Ranked}
 use Rattle.library.specs.declared.command.Command.TheVariants as command
 use Rattle.library.specs.declared.reason.Reason.TheVariants as reason
-use Rattle.library.specs.Edits.{has}
-use Rattle.cells.specs.Lookups.{Finds, FindsFree, ForEach, IsFirstEmpty}
+use Rattle.cells.specs.Lookups.{Finds, FindsFree}
 use Rattle.cells.specs.Filling.{IsFillable}
-use Rattle.cells.proofs.Sights.{onward_trans, looks_trans}
+use Rattle.cells.proofs.Sights.{onward_trans}
 use Rattle.cells.proofs.Settings.{same_slots}
 use Rattle.cells.proofs.Laying.{ok_mapped}
 use Rattle.commands.specs.Answers.{CommandAnswers}
@@ -130,8 +127,8 @@ pub fill-requires-clause-fillable : goal.fill-requires-clause-fillable
 fill-requires-clause-fillable g c =
     let s2 = g.C.Cells.sight c.test_proof.new.cells in
     let s3 = g.C.Cells.sight c.free_slot.new.cells in
-    let lawful = lawful_at c.args.prelude.now c.args.prelude.now c.as_slice-label.result.now c.args.assertion.now.label refl c.as_slice-label.ensures
-    (sym c.is_lawful_label.ensures ∙ c.if-not-is_lawful_label.false) in
+    let lawful = lawful_at c.args.prelude.now c.args.prelude.now c.as_slice-label.result.now c.args.assertion.now.label refl
+    c.as_slice-label.ensures (sym c.is_lawful_label.ensures ∙ c.if-not-is_lawful_label.false) in
     let passes = c.in_ok-kept.ensures.ok in
     subst (IsFillable (g.C.Cells.sight c.free_slot.new.cells).setting.slots c.args.assertion.now) (sym c.as_slice.ensures.value) (record {
       labelled = lawful_some c.args.prelude.now c.args.assertion.now.label lawful;

@@ -1,12 +1,12 @@
-use Rattle.std.proofs.Common.{◌≡◌, ◌∙◌, ◌+◌, ◌<◌, ◌≤◌, true, false, length, get_or, sym, ap, subst, arith}
-use Rattle.std.specs.Prelude.{nat_le}
+use Rattle.std.proofs.Common.{◌∙◌, ◌+◌, ◌<◌, true, false, length, get_or, sym, ap, subst, arith}
 use Rattle.std.proofs.lemmas.Bool.{le-leb, lt-leb}
 use Rattle.bodystore.specs.declared.stored.StoredStep.{StoredStep}
-use Rattle.bodystore.specs.declared.stored.StoredStep.TheVariants.{Float, Slot}
+use Rattle.bodystore.specs.declared.stored.StoredStep.TheVariants.{Float}
 use Rattle.cells.specs.Sight.{Sight, Looks}
 use Rattle.cells.proofs.Sights.{looks_refl, looks_trans}
 use Rattle.cells.proofs.Settings.{same_slots}
-use Rattle.commands.proofs.CitedRanks.{AreBelow, IsNotBelow, uncited_below, past_below, ranked_below, below_more, tells_below, tells_not_below}
+use Rattle.commands.proofs.CitedRanks.{AreBelow, IsNotBelow, uncited_below, past_below, ranked_below}
+use Rattle.commands.proofs.CitedRanks.{below_more, tells_below, tells_not_below}
 use Rattle.commands.proofs.citing.cites_not_below.Goals.{in-Slot+else-slot-slots, else-slot-slots-via-then-slot-slots+in_ok-rank+else-branch, else-slot-slots-via-else-slot-slots, in_default}
 use Rattle.commands.proofs.citing.cites_not_below.Goals as goal
 
@@ -27,13 +27,13 @@ returns-then-branch-clause-ok g c =
 
 pub loop-step-preserved : goal.loop-step-preserved
 loop-step-preserved g c =
-    let sight = g.C.Cells.sight in
     let old = g.C.Cells.sight c.args.cells.now in
     let now = g.C.Cells.sight c.loop-step.cells in
     let limit = c.args.limit in
     let i = c.loop-step.step-index in
     let kept = c.args.steps.now in
-    let Q : Sight → Type 0 = λ s. Looks (g.C.Cells.sight c.args.cells.now) s × AreBelow s c.args.limit (c.loop-step.step-index + 1) c.args.steps.now in
+    let Q : Sight → Type 0 =
+    λ s. Looks (g.C.Cells.sight c.args.cells.now) s × AreBelow s c.args.limit (c.loop-step.step-index + 1) c.args.steps.now in
     let lt : c.loop-step.step-index < length c.args.steps.now = c.loop-step-test.true in
     let looks = c.loop-step.invariant.0 in
     let below = c.loop-step.invariant.1 in
@@ -51,8 +51,11 @@ loop-step-preserved g c =
                       (subst (λ (x : StoredStep). IsNotBelow s limit x false) (sym w.in-Slot.is) one),
                 )
             | else-slot-slots-via-else-slot-slots w' ↦
-                let one = past_below now limit slot false (λ z. let n = c.slot_count-slots.ensures.value in let m = same_slots old now looks in
-                let k = w'.if-slot-slots.false in omega (arith, n, m, k, z)) in
+                let one = past_below now limit slot false (λ z.
+                let n = c.slot_count-slots.ensures.value in
+                let m = same_slots old now looks in
+                let k = w'.if-slot-slots.false in
+                omega (arith, n, m, k, z)) in
                 subst Q (sym (ap (λ x. g.C.Cells.sight x) (w.cells-is ∙ w'.cells-is))) (
                   looks,
                   below_more now now limit i kept (Float 0) (looks_refl now) below lt
@@ -69,4 +72,5 @@ loop-step-preserved g c =
 
 pub returns-clause-ok : goal.returns-clause-ok
 returns-clause-ok g c =
-    tells_below (g.C.Cells.sight c.loop-step.cells) c.args.limit c.loop-step.step-index c.args.steps.now (omega arith) c.loop-step.invariant.1
+    tells_below (g.C.Cells.sight c.loop-step.cells) c.args.limit c.loop-step.step-index c.args.steps.now (omega arith)
+    c.loop-step.invariant.1

@@ -1,4 +1,4 @@
-use Rattle.std.proofs.Common.{◌≡◌, ◌∙◌, ◌<◌, ℕ, List, Option, Some, None, Vec, true, false, sym, ap, subst}
+use Rattle.std.proofs.Common.{◌≡◌, ◌<◌, ℕ, List, Option, Some, None, Vec, true, sym, subst}
 use Rattle.std.specs.declared.alloc.Global.{Global}
 use Rattle.std.specs.Option.{option_map}
 use Rattle.mmsyntax.specs.declared.statement.Step.{Step}
@@ -28,7 +28,8 @@ returns-in_default-clause-err g c =
     let rank = c.args.rank in
     let a = c.args.theorem.now in
     subst (TellsRefusal s rank a) (sym c.into.ensures)
-    (fails_unknown s rank a (of_proof s c.as_slice-steps.result.now c.args.theorem.now.proof c.in_ok-kept.field-0 None c.as_slice-steps.ensures
+    (fails_unknown s rank a
+    (of_proof s c.as_slice-steps.result.now c.args.theorem.now.proof c.in_ok-kept.field-0 None c.as_slice-steps.ensures
     c.in_default.is c.in_ok-kept.ensures.ok))
 
 pub returns-in_err-map_err-clause-looks : goal.returns-in_err-map_err-clause-looks
@@ -44,11 +45,11 @@ returns-then-branch-clause-err g c =
     let rank = c.args.rank in
     let a = c.args.theorem.now in
     let kept = c.in-Some.kept.items in
-    let resolved = of_proof s1 c.as_slice-steps.result.now c.args.theorem.now.proof c.in_ok-kept.field-0 (Some c.in-Some.kept) c.as_slice-steps.ensures
-    c.in-Some.is c.in_ok-kept.ensures.ok in
+    let resolved = of_proof s1 c.as_slice-steps.result.now c.args.theorem.now.proof c.in_ok-kept.field-0 (Some c.in-Some.kept)
+    c.as_slice-steps.ensures c.in-Some.is c.in_ok-kept.ensures.ok in
     let told : TellsNotBelow (g.C.Cells.sight c.cites_not_below.new.cells) c.args.rank c.as_slice.result.now c.in_ok-map_err.field-0 =
-    ok_mapped _ (λ b. TellsNotBelow (g.C.Cells.sight c.cites_not_below.new.cells) c.args.rank c.as_slice.result.now b) _ _ _ c.in_ok-map_err.was
-    c.map_err.ensures.cases c.cites_not_below.ensures.ok in
+    ok_mapped _ (λ b. TellsNotBelow (g.C.Cells.sight c.cites_not_below.new.cells) c.args.rank c.as_slice.result.now b) _ _ _
+    c.in_ok-map_err.was c.map_err.ensures.cases c.cites_not_below.ensures.ok in
     subst (TellsRefusal s2 rank a) (sym c.into-then-branch.ensures)
     (fails_below s1 s2 rank a kept c.cites_not_below.ensures.looks resolved
     (subst (λ (ks : List StoredStep). TellsNotBelow s2 rank ks true) c.as_slice.ensures.value
@@ -57,8 +58,8 @@ returns-then-branch-clause-err g c =
 pub cited_frames-requires : goal.cited_frames-requires
 cited_frames-requires g c = λ i h.
     let s1 = g.C.Cells.sight c.resolve.new.cells in
-    let resolved = of_proof s1 c.as_slice-steps.result.now c.args.theorem.now.proof c.in_ok-kept.field-0 (Some c.in-Some.kept) c.as_slice-steps.ensures
-    c.in-Some.is c.in_ok-kept.ensures.ok in
+    let resolved = of_proof s1 c.as_slice-steps.result.now c.args.theorem.now.proof c.in_ok-kept.field-0 (Some c.in-Some.kept)
+    c.as_slice-steps.ensures c.in-Some.is c.in_ok-kept.ensures.ok in
     subst (λ (n : ℕ). i < n) (sym (same_slots _ _ c.cites_not_below.ensures.looks))
     (resolved.1 i (subst (λ (ks : List StoredStep). Has (Slot i) ks) c.as_slice-2.ensures.value h))
 
@@ -85,14 +86,15 @@ returns-in-Some-2-clause-err g c =
     let t = c.args.prelude.now in
     let kept = c.in-Some.kept.items in
     let frames = frames_in c.in_ok-frames.frames.by_label in
-    let resolved = of_proof s1 c.as_slice-steps.result.now c.args.theorem.now.proof c.in_ok-kept.field-0 (Some c.in-Some.kept) c.as_slice-steps.ensures
-    c.in-Some.is c.in_ok-kept.ensures.ok in
+    let resolved = of_proof s1 c.as_slice-steps.result.now c.args.theorem.now.proof c.in_ok-kept.field-0 (Some c.in-Some.kept)
+    c.as_slice-steps.ensures c.in-Some.is c.in_ok-kept.ensures.ok in
     let told : TellsNotBelow (g.C.Cells.sight c.cites_not_below.new.cells) c.args.rank c.as_slice.result.now c.in_ok-map_err.field-0 =
-    ok_mapped _ (λ b. TellsNotBelow (g.C.Cells.sight c.cites_not_below.new.cells) c.args.rank c.as_slice.result.now b) _ _ _ c.in_ok-map_err.was
-    c.map_err.ensures.cases c.cites_not_below.ensures.ok in
-    let known = sifted s0 s1 s2 s3 t rank a c.as_slice-steps.result.now kept c.as_slice.result.now c.as_slice-2.result.now frames c.requires.prelude
-    c.resolve.ensures.looks c.cites_not_below.ensures.looks c.cited_frames.ensures.looks c.as_slice-steps.ensures c.as_slice.ensures.value
-    c.as_slice-2.ensures.value resolved (subst (λ b. TellsNotBelow s2 rank c.as_slice.result.now b) c.if-branch.false told) c.in_ok-frames.ensures.ok in
+    ok_mapped _ (λ b. TellsNotBelow (g.C.Cells.sight c.cites_not_below.new.cells) c.args.rank c.as_slice.result.now b) _ _ _
+    c.in_ok-map_err.was c.map_err.ensures.cases c.cites_not_below.ensures.ok in
+    let known = sifted s0 s1 s2 s3 t rank a c.as_slice-steps.result.now kept c.as_slice.result.now c.as_slice-2.result.now frames
+    c.requires.prelude c.resolve.ensures.looks c.cites_not_below.ensures.looks c.cited_frames.ensures.looks c.as_slice-steps.ensures
+    c.as_slice.ensures.value c.as_slice-2.ensures.value resolved
+    (subst (λ b. TellsNotBelow s2 rank c.as_slice.result.now b) c.if-branch.false told) c.in_ok-frames.ensures.ok in
     subst (TellsRefusal s3 rank a) (sym c.into-in-Some-2.ensures)
     (fails_fault s3 t rank a kept frames c.in-Some-2.fault known
     (subst (λ (o : Option ProofFault). TellsFault frames t a o) c.in-Some-2.is c.in_ok-fault.ensures))
@@ -112,13 +114,14 @@ returns-in-None-clause-ok g c =
     let t = c.args.prelude.now in
     let kept = c.in-Some.kept.items in
     let frames = frames_in c.in_ok-frames.frames.by_label in
-    let resolved = of_proof s1 c.as_slice-steps.result.now c.args.theorem.now.proof c.in_ok-kept.field-0 (Some c.in-Some.kept) c.as_slice-steps.ensures
-    c.in-Some.is c.in_ok-kept.ensures.ok in
+    let resolved = of_proof s1 c.as_slice-steps.result.now c.args.theorem.now.proof c.in_ok-kept.field-0 (Some c.in-Some.kept)
+    c.as_slice-steps.ensures c.in-Some.is c.in_ok-kept.ensures.ok in
     let told : TellsNotBelow (g.C.Cells.sight c.cites_not_below.new.cells) c.args.rank c.as_slice.result.now c.in_ok-map_err.field-0 =
-    ok_mapped _ (λ b. TellsNotBelow (g.C.Cells.sight c.cites_not_below.new.cells) c.args.rank c.as_slice.result.now b) _ _ _ c.in_ok-map_err.was
-    c.map_err.ensures.cases c.cites_not_below.ensures.ok in
-    let known = sifted s0 s1 s2 s3 t rank a c.as_slice-steps.result.now kept c.as_slice.result.now c.as_slice-2.result.now frames c.requires.prelude
-    c.resolve.ensures.looks c.cites_not_below.ensures.looks c.cited_frames.ensures.looks c.as_slice-steps.ensures c.as_slice.ensures.value
-    c.as_slice-2.ensures.value resolved (subst (λ b. TellsNotBelow s2 rank c.as_slice.result.now b) c.if-branch.false told) c.in_ok-frames.ensures.ok in
+    ok_mapped _ (λ b. TellsNotBelow (g.C.Cells.sight c.cites_not_below.new.cells) c.args.rank c.as_slice.result.now b) _ _ _
+    c.in_ok-map_err.was c.map_err.ensures.cases c.cites_not_below.ensures.ok in
+    let known = sifted s0 s1 s2 s3 t rank a c.as_slice-steps.result.now kept c.as_slice.result.now c.as_slice-2.result.now frames
+    c.requires.prelude c.resolve.ensures.looks c.cites_not_below.ensures.looks c.cited_frames.ensures.looks c.as_slice-steps.ensures
+    c.as_slice.ensures.value c.as_slice-2.ensures.value resolved
+    (subst (λ b. TellsNotBelow s2 rank c.as_slice.result.now b) c.if-branch.false told) c.in_ok-frames.ensures.ok in
     passes s1 s3 t rank a kept frames (looks_trans _ _ _ c.cites_not_below.ensures.looks c.cited_frames.ensures.looks) resolved known
     (subst (λ (o : Option ProofFault). TellsFault frames t a o) c.in-None.is c.in_ok-fault.ensures)

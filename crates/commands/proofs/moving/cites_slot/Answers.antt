@@ -1,8 +1,8 @@
-use Rattle.std.proofs.Common.{rules, ◌≡◌, ◌<◌, ◌≤◌, ◌^◌, List, sym, subst, arith}
+use Rattle.std.proofs.Common.{rules, List, subst, arith}
 use Rattle.std.specs.Prelude.{◌↔◌, IsTrue, Contains}
 use Rattle.bodystore.specs.declared.stored.StoredStep.{StoredStep}
 use Rattle.bodystore.specs.declared.stored.StoredStep.TheVariants.{Slot}
-use Rattle.cells.proofs.Settings.{few_slots, same_slots}
+use Rattle.cells.proofs.Settings.{few_slots}
 use Rattle.commands.proofs.Citers.{cites_told}
 use Rattle.commands.proofs.moving.cites_slot.Goals as goal
 
@@ -15,5 +15,6 @@ overflow_cast-cited g c =
 pub returns-clause-ok : goal.returns-clause-ok
 returns-clause-ok g c =
     let iff : IsTrue c.contains.result ↔ Contains c.deref.result.now (Slot c.args.cited) = search rules in
-    cites_told (g.C.Cells.sight c.stored_proof.new.cells) c.args.citing c.args.cited c.in_ok-kept.kept.items c.contains.result c.in_ok-kept.ensures.ok
+    let s = g.C.Cells.sight c.stored_proof.new.cells in
+    cites_told s c.args.citing c.args.cited c.in_ok-kept.kept.items c.contains.result c.in_ok-kept.ensures.ok
     (subst (λ (ks : List StoredStep). IsTrue c.contains.result ↔ Contains ks (Slot c.args.cited)) c.deref.ensures.value iff)

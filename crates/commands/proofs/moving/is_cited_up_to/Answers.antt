@@ -1,9 +1,9 @@
-use Rattle.std.proofs.Common.{rules, ◌≡◌, ◌<◌, ◌≤◌, ℕ, Bool, true, false, sym, subst, ap, ◌∙◌, arith}
+use Rattle.std.proofs.Common.{◌≡◌, ◌≤◌, ℕ, true, false, sym, subst, ap, ◌∙◌, arith}
 use Rattle.library.specs.Library.{label_of}
 use Rattle.library.specs.Edits.{citers}
 use Rattle.cells.specs.State.{State}
 use Rattle.cells.specs.Slots.{rank_cell}
-use Rattle.cells.specs.Sight.{Matches, Looks, Reads, after}
+use Rattle.cells.specs.Sight.{Matches, Reads, after}
 use Rattle.cells.specs.Lookups.{ForEachHeld}
 use Rattle.cells.proofs.Bodies.{value_later}
 use Rattle.cells.proofs.Laying.{ok_mapped}
@@ -14,8 +14,6 @@ use Rattle.commands.specs.Citing.{TellsCites}
 use Rattle.commands.proofs.Citers.{all_uncited, low_uncited, count_uncited, one_low, one_high, one_other, one_cites, more_uncited}
 use Rattle.commands.proofs.Looking.{read_looks}
 use Rattle.commands.proofs.moving.is_cited_up_to.Goals as goal
-use Rattle.commands.proofs.moving.is_cited_up_to.Goals.{then-limit-current-via-then-limit-current, then-limit-current-via-else-limit-current+in_ok-map_err+then-branch-eq0}
-use Rattle.commands.proofs.moving.is_cited_up_to.Goals.{else-rank-current-via-then-rank-current+then-rank-limit+in_ok-cites_slot+else-branch, else-rank-current-via-then-rank-current+else-rank-limit, else-rank-current-via-else-rank-current}
 
 pub returns-in_err-map_err-clause-looks : goal.returns-in_err-map_err-clause-looks
 returns-in_err-map_err-clause-looks g c = looks_trans _ _ _ c.rank.ensures.looks c.citers.ensures.looks
@@ -23,8 +21,8 @@ returns-in_err-map_err-clause-looks g c = looks_trans _ _ _ c.rank.ensures.looks
 pub returns-then-limit-current-clause-looks : goal.returns-then-limit-current-clause-looks
 returns-then-limit-current-clause-looks g c =
     elim c.then-limit-current.branch [
-      | then-limit-current-via-then-limit-current w ↦ rw w.cells-is c.rank.ensures.looks
-      | then-limit-current-via-else-limit-current+in_ok-map_err+then-branch-eq0 w ↦
+      | goal.then-limit-current-via-then-limit-current w ↦ rw w.cells-is c.rank.ensures.looks
+      | goal.then-limit-current-via-else-limit-current+in_ok-map_err+then-branch-eq0 w ↦
           rw w.cells-is (looks_trans _ _ _ c.rank.ensures.looks w.citers.ensures.looks)
     ]
 
@@ -35,9 +33,9 @@ returns-then-limit-current-clause-ok g c =
     let own : ForEachHeld s i (λ st lib e. c.in_ok-current.current ≡ e.rank) =
     ok_mapped _ _ _ _ _ c.in_ok-current.was c.map_err.ensures.cases c.rank.ensures.ok in
     elim c.then-limit-current.branch [
-      | then-limit-current-via-then-limit-current w ↦
+      | goal.then-limit-current-via-then-limit-current w ↦
           rw w.cells-is (low_uncited s i c.args.limit c.in_ok-current.current own w.if-limit-current.true)
-      | then-limit-current-via-else-limit-current+in_ok-map_err+then-branch-eq0 w ↦
+      | goal.then-limit-current-via-else-limit-current+in_ok-map_err+then-branch-eq0 w ↦
           let t = g.C.Cells.sight w.citers.new.cells in
           let n = w.in_ok-map_err.field-0 in
           let counted : ForEachHeld t i (λ st lib e. n ≡ citers lib (label_of e)) =
@@ -53,12 +51,14 @@ returns-in_err-rank-clause-looks g c =
 pub returns-in_err-cites_slot-clause-looks : goal.returns-in_err-cites_slot-clause-looks
 returns-in_err-cites_slot-clause-looks g c =
     looks_trans _ _ _ c.rank.ensures.looks (looks_trans _ _ _ c.citers.ensures.looks
-    (looks_trans _ _ _ c.loop-other.invariant.looks (looks_trans _ _ _ (read_looks _ _ _ _ c.read.ensures.ok c.read.ensures.err) c.cites_slot.ensures.looks)))
+    (looks_trans _ _ _ c.loop-other.invariant.looks
+    (looks_trans _ _ _ (read_looks _ _ _ _ c.read.ensures.ok c.read.ensures.err) c.cites_slot.ensures.looks)))
 
 pub returns-then-branch-clause-looks : goal.returns-then-branch-clause-looks
 returns-then-branch-clause-looks g c =
     looks_trans _ _ _ c.rank.ensures.looks (looks_trans _ _ _ c.citers.ensures.looks
-    (looks_trans _ _ _ c.loop-other.invariant.looks (looks_trans _ _ _ (read_looks _ _ _ _ c.read.ensures.ok c.read.ensures.err) c.cites_slot.ensures.looks)))
+    (looks_trans _ _ _ c.loop-other.invariant.looks
+    (looks_trans _ _ _ (read_looks _ _ _ _ c.read.ensures.ok c.read.ensures.err) c.cites_slot.ensures.looks)))
 
 pub returns-then-branch-clause-ok : goal.returns-then-branch-clause-ok
 returns-then-branch-clause-ok g c =
@@ -70,8 +70,10 @@ returns-then-branch-clause-ok g c =
     let read : Reads c.rank_cell.result c.in_ok-rank.rank r s =
     ok_mapped _ _ _ _ _ c.in_ok-rank.was c.map_err-in-loop-other.ensures.cases c.read.ensures.ok in
     let value : (st : State) → Matches t st → rank ≡ (after t st).value (rank_cell other) = λ st m.
-    value_later r s t c.rank_cell.result rank st read c.cites_slot.ensures.looks m ∙ ap (λ (n : ℕ). (after t st).value n) c.rank_cell.ensures in
-    let told : TellsCites t other c.args.slot true = subst (TellsCites t other c.args.slot) c.if-branch.true c.in_ok-cites_slot.ensures.ok in
+    value_later r s t c.rank_cell.result rank st read c.cites_slot.ensures.looks m
+    ∙ ap (λ (n : ℕ). (after t st).value n) c.rank_cell.ensures in
+    let told : TellsCites t other c.args.slot true =
+    subst (TellsCites t other c.args.slot) c.if-branch.true c.in_ok-cites_slot.ensures.ok in
     let onward = looks_trans _ _ _ c.loop-other.invariant.looks (looks_trans _ _ _ read.looks c.cites_slot.ensures.looks) in
     let slots = same_slots _ t onward in
     let end = c.slot_count-other-end.ensures.value in
@@ -101,21 +103,22 @@ loop-other-preserved g c =
     let is = sym (same_slots old s (looks_trans _ _ _ c.rank.ensures.looks since)) in
     let before = c.loop-other.invariant.uncited in
     elim c.else-rank-current.branch [
-      | else-rank-current-via-then-rank-current+then-rank-limit+in_ok-cites_slot+else-branch w ↦
+      | goal.else-rank-current-via-then-rank-current+then-rank-limit+in_ok-cites_slot+else-branch w ↦
           let t = g.C.Cells.sight w.cites_slot.new.cells in
           let on = looks_trans _ _ _ read.looks w.cites_slot.ensures.looks in
-          let told : TellsCites t other c.args.slot false = subst (TellsCites t other c.args.slot) w.if-branch.false w.in_ok-cites_slot.ensures.ok in
+          let told : TellsCites t other c.args.slot false =
+          subst (TellsCites t other c.args.slot) w.if-branch.false w.in_ok-cites_slot.ensures.ok in
           let now = is ∙ sym (same_slots s t w.cites_slot.ensures.looks) in
           rw w.cells-is (record {
             looks = looks_trans _ _ _ c.loop-other.invariant.looks on;
             uncited = more_uncited t i limit r slots other now on before (one_other t i limit other told);
           })
-      | else-rank-current-via-then-rank-current+else-rank-limit w ↦
+      | goal.else-rank-current-via-then-rank-current+else-rank-limit w ↦
           rw w.cells-is (record {
             looks = looks_trans _ _ _ c.loop-other.invariant.looks read.looks;
             uncited = more_uncited s i limit r slots other is read.looks before (one_high s i limit other rank value w.if-rank-limit.false);
           })
-      | else-rank-current-via-else-rank-current w ↦
+      | goal.else-rank-current-via-else-rank-current w ↦
           rw w.cells-is (record {
             looks = looks_trans _ _ _ c.loop-other.invariant.looks read.looks;
             uncited = more_uncited s i limit r slots other is read.looks before
@@ -135,4 +138,5 @@ returns-clause-ok g c =
     let end = c.slot_count-other-end.ensures.value in
     let slots = same_slots old _ (looks_trans _ _ _ c.rank.ensures.looks c.citers.ensures.looks) in
     let past : old.setting.slots ≤ c.loop-other.other = omega (arith, end, slots, c.loop-other-test.false) in
-    all_uncited s c.args.slot c.args.limit old.setting.slots c.loop-other.other (sym (same_slots old s looks)) past c.loop-other.invariant.uncited
+    all_uncited s c.args.slot c.args.limit old.setting.slots c.loop-other.other (sym (same_slots old s looks)) past
+    c.loop-other.invariant.uncited

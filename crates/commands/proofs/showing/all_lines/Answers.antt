@@ -1,4 +1,4 @@
-use Rattle.std.proofs.Common.{rules, ◌≡◌, ◌++◌, [], ◌∷◌, Bool, true, false, sym, subst, ◌∙◌, arith}
+use Rattle.std.proofs.Common.{◌≡◌, ◌++◌, [], ◌∷◌, true, false, sym, subst, arith}
 use Rattle.cells.specs.Sight.{after}
 use Rattle.cells.specs.Lookups.{IfFull}
 use Rattle.cells.proofs.Laying.{ok_mapped}
@@ -58,7 +58,9 @@ returns-clause-ok g c = λ st lib v.
     let s = g.C.Cells.sight c.loop-slot.cells in
     let made = c.loop-slot.lines.items in
     let looks = c.loop-slot.invariant.looks in
-    let last : c.loop-slot.slot ≡ s.setting.slots =
-    (let e = c.slot_count-slot-end.ensures.value in let z = c.loop-slot.auto.slot-end in let n = same_slots old s looks in omega (arith, e, z, n)) in
-    let lines = subst (λ n. AreLinesBelow n c.loop-slot.slot made (after s st) lib) (sym (same_slots old s looks)) (c.loop-slot.invariant.lines st lib v) in
+    let end = c.slot_count-slot-end.ensures.value in
+    let upto = c.loop-slot.auto.slot-end in
+    let slots = same_slots old s looks in
+    let last : c.loop-slot.slot ≡ s.setting.slots = omega (arith, end, upto, slots) in
+    let lines = subst (λ n. AreLinesBelow n c.loop-slot.slot made (after s st) lib) (sym slots) (c.loop-slot.invariant.lines st lib v) in
     lines_all s.setting.slots made (after s st) lib v.shows (subst (λ n. AreLinesBelow s.setting.slots n made (after s st) lib) last lines)

@@ -1,10 +1,9 @@
-use Rattle.std.proofs.Common.{◌≡◌, ℕ, Option, Some, Ok, refl, sym, ap, subst, ◌∙◌}
-use Rattle.library.specs.declared.library.Ranked.{Ranked}
+use Rattle.std.proofs.Common.{◌≡◌, Some, Ok, refl, sym, subst, ◌∙◌}
 use Rattle.library.specs.declared.command.Command.TheVariants.{Show}
 use Rattle.library.specs.declared.command.Reply.TheVariants.{Shown}
 use Rattle.library.specs.declared.reason.Reason.TheVariants.{UnknownLabel}
 use Rattle.library.specs.Library.{label_of}
-use Rattle.library.specs.Edits.{citers, of_found, shown}
+use Rattle.library.specs.Edits.{citers, shown}
 use Rattle.library.proofs.Places.{found_in}
 use Rattle.cells.specs.Lookups.{ForEachHeld, Finds}
 use Rattle.cells.proofs.Laying.{ok_mapped}
@@ -22,7 +21,8 @@ returns-in_default-clause-answers g c =
     let old = g.C.Cells.sight c.args.cells.now in
     let command = Show c.args.label.now in
     answers_refused old s command UnknownLabel c.into.result c.into.ensures
-    (refused old s command UnknownLabel c.find.ensures.looks (λ st lib v. of_none lib c.args.label.now (λ e. Ok (shown lib e)) (none st lib v)))
+    (refused old s command UnknownLabel c.find.ensures.looks (λ st lib v.
+    of_none lib c.args.label.now (λ e. Ok (shown lib e)) (none st lib v)))
 
 pub returns-in_err-shown-clause-onward : goal.returns-in_err-shown-clause-onward
 returns-in_err-shown-clause-onward g c = let looks = looks_trans _ _ _ c.find.ensures.looks c.entry.ensures.looks in looks.onward
@@ -44,11 +44,13 @@ returns-clause-answers g c =
     let i = c.in-Some.slot in
     let on = looks_trans _ _ _ c.entry.ensures.looks c.citers.ensures.looks in
     let finds = ok_mapped _ _ _ _ _ c.in_ok-slot.was c.map_err.ensures.cases c.find.ensures.ok in
-    let some : Finds s1 label (Some i) = subst (Finds s1 label) c.in-Some.is (subst (λ l. Finds s1 l c.in_ok-slot.field-0) c.as_slice.ensures finds) in
+    let some : Finds s1 label (Some i) =
+    subst (Finds s1 label) c.in-Some.is (subst (λ l. Finds s1 l c.in_ok-slot.field-0) c.as_slice.ensures finds) in
     let later = finds_later s1 s3 label i on some in
     let counted : ForEachHeld s3 i (λ x l e. c.in_ok-citers.citers ≡ citers l (label_of e)) =
     ok_mapped _ _ _ _ _ c.in_ok-citers.was c.map_err-2.ensures.cases c.citers.ensures.ok in
-    does_reading _ s3 (Show label) (Shown c.in_ok-citers.citers c.in_ok-shown.shown) (looks_trans _ _ _ c.find.ensures.looks on) refl (λ st lib v.
+    let looks = looks_trans _ _ _ c.find.ensures.looks on in
+    does_reading _ s3 (Show label) (Shown c.in_ok-citers.citers c.in_ok-shown.shown) looks refl (λ st lib v.
     let at = later.1 st lib v in
     let e = at.entry in
     let has = (found_in lib label e at.found).0 in

@@ -1,0 +1,73 @@
+use Rattle.std.proofs.Common.{◌≡◌, ◌<◌, ◌≤◌, ◌+◌, ℕ, suc, List, [], ◌∷◌, ◌++◌, Err, length, get_or, take, drop, sym, ap}
+use Rattle.std.proofs.Common.{subst, ◌∙◌, arith, drop-cons}
+use Rattle.std.specs.Prelude.{All}
+use Rattle.std.proofs.lemmas.List.{take_more, take-append-drop, length-take-le}
+use Rattle.std.proofs.lemmas.List.Elements.{All-take}
+use Rattle.mmsyntax.specs.Tables.{Tables}
+use Rattle.library.specs.declared.command.Command.{Command}
+use Rattle.library.specs.Fitting.{CommandFits}
+use Rattle.cells.proofs.Sights.{onward_refl, onward_trans}
+use Rattle.commands.specs.Answers.{DoesAll, RunAnswers, error_at}
+use Rattle.commands.proofs.Transactions.{does_none, does_more, ends}
+use Rattle.commands.proofs.running.run.Goals as goal
+
+pub loop-done-init : goal.loop-done-init
+loop-done-init g c =
+    let s = g.C.Cells.sight c.args.cells.now in
+    record { onward = onward_refl _; does = subst (DoesAll s s []) (sym c.new-replies.ensures.items) (does_none s) }
+
+pub returns-in_err-push-in-Ok-clause-onward : goal.returns-in_err-push-in-Ok-clause-onward
+returns-in_err-push-in-Ok-clause-onward g c = onward_trans _ _ _ c.loop-done.invariant.onward c.take.ensures.onward
+
+pub returns-in-Err-clause-onward : goal.returns-in-Err-clause-onward
+returns-in-Err-clause-onward g c = onward_trans _ _ _ c.loop-done.invariant.onward c.take.ensures.onward
+
+-- the commands, with one of them apart
+parted : (cs : List Command) (k : ℕ) (x : Command) → k < length cs → x ≡ get_or cs k x → take k cs ++ x ∷ drop (k + 1) cs ≡ cs
+parted cs k x within is =
+    let next : k + 1 ≡ suc k = omega arith in
+    let rest : x ∷ drop (k + 1) cs ≡ drop k cs = (λ j. is j ∷ drop (next j) cs) ∙ sym (drop-cons cs k x within) in
+    ap (λ l. take k cs ++ l) rest ∙ take-append-drop k cs
+
+pub returns-in-Err-clause-answers : goal.returns-in-Err-clause-answers
+returns-in-Err-clause-answers g c =
+    let s = g.C.Cells.sight c.args.cells.now in
+    let t = g.C.Cells.sight c.loop-done.cells in
+    let u = g.C.Cells.sight c.take.new.cells in
+    let cs = c.args.commands.now in
+    let k = c.loop-done.done in
+    let x = c.index-commands-done.result in
+    let error = c.in-Err.error in
+    let fit : All (CommandFits s.setting.prelude) (take k cs) =
+    subst (λ (p : Tables). All (CommandFits p) (take k cs)) c.requires.prelude
+    (All-take (CommandFits c.args.prelude.now) k cs c.requires.fits) in
+    let within : k ≤ length cs = omega (arith, c.loop-done-test.true) in
+    let number : 1 + length (take k cs) ≡ k + 1 = omega (arith, length-take-le k cs within) in
+    subst (λ e. RunAnswers s u cs (Err e)) (ap (λ n. error_at n error) number ∙ sym c.at.ensures)
+    (subst (λ l. RunAnswers s u l (Err (error_at (1 + length (take k cs)) error)))
+    (parted cs k x c.loop-done-test.true c.index-commands-done.is)
+    (ends s t u (take k cs) c.loop-done.replies.items c.loop-done.invariant.does c.loop-done.invariant.onward c.take.ensures.onward fit x
+    (drop (k + 1) cs) error c.in-Err.ensures.answers))
+
+pub loop-done-preserved : goal.loop-done-preserved
+loop-done-preserved g c =
+    let s = g.C.Cells.sight c.args.cells.now in
+    let t = g.C.Cells.sight c.loop-done.cells in
+    let u = g.C.Cells.sight c.take.new.cells in
+    let cs = c.args.commands.now in
+    let k = c.loop-done.done in
+    let x = c.index-commands-done.result in
+    let replies = c.loop-done.replies.items in
+    let reply = c.in-Ok.reply in
+    let fit : All (CommandFits s.setting.prelude) (take k cs) =
+    subst (λ (p : Tables). All (CommandFits p) (take k cs)) c.requires.prelude
+    (All-take (CommandFits c.args.prelude.now) k cs c.requires.fits) in
+    let push : c.push.new.self.items ≡ c.loop-done.replies.items ++ c.in-Ok.reply ∷ [] = c.in_ok-push-in-Ok.ensures.items in
+    let front : take k cs ++ x ∷ [] ≡ take (k + 1) cs =
+    ap (λ y. take k cs ++ y ∷ []) c.index-commands-done.is ∙ sym (take_more cs k x c.loop-done-test.true) in
+    let does = does_more s t u (take k cs) replies c.loop-done.invariant.does c.loop-done.invariant.onward c.take.ensures.onward fit x reply
+    c.in-Ok.ensures.answers in
+    record {
+      onward = onward_trans _ _ _ c.loop-done.invariant.onward c.take.ensures.onward;
+      does = subst (λ l. DoesAll s u l c.push.new.self.items) front (subst (DoesAll s u (take k cs ++ x ∷ [])) (sym push) does);
+    }
