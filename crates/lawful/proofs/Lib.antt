@@ -3,4 +3,5 @@ pub mod Entries
 pub mod Standing
 mod Closed
 mod Unread
+mod Running
 mod Small

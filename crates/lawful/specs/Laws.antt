@@ -1,5 +1,5 @@
 -- What is true of lawful transactions and of their histories.
-use Rattle.std.specs.Prelude.{◌≡◌, ℕ, ◌%◌, ◌<◌, ◌≤◌, List, [], ◌∷◌, Some, length, map, slice_get}
+use Rattle.std.specs.Prelude.{◌≡◌, ℕ, ◌%◌, ◌<◌, ◌≤◌, List, [], ◌∷◌, Some, All, length, map, slice_get}
 use Rattle.std.specs.declared.snapshot.Snapshot.{Snapshot}
 use Rattle.mmsyntax.specs.declared.statement.Symbol.TheVariants.{Const}
 use Rattle.mmsyntax.specs.declared.statement.Kind.TheVariants.{Axiom}
@@ -8,7 +8,9 @@ use Rattle.library.specs.declared.library.Ranked.{Ranked}
 use Rattle.library.specs.declared.command.Command.{Command}
 use Rattle.library.specs.declared.command.Command.TheVariants.{Show}
 use Rattle.library.specs.declared.command.Reply.{Reply}
+use Rattle.library.specs.declared.reason.Refused.{Refused as Refusal}
 use Rattle.library.specs.Library.{IsSetting, ranked_from}
+use Rattle.library.specs.Fitting.{CommandFits}
 use Rattle.library.specs.Histories.{Grows, after_all}
 use Rattle.tlwords.specs.declared.closing.ClosedCell.{ClosedCell}
 use Rattle.tlwords.specs.declared.closing.ClosedWords.{ClosedWords}
@@ -20,10 +22,11 @@ use Rattle.ranges.specs.Ranges.{Range, Within, AreOfOneStore, ranges_named}
 use Rattle.cells.specs.State.{State, most_words}
 use Rattle.cells.specs.Slots.{cell_count, is_ranged}
 use Rattle.cells.specs.Shows.{Shows}
-use Rattle.cells.specs.Sight.{Suits}
+use Rattle.cells.specs.Sight.{Sight, Suits, Onward}
+use Rattle.commands.specs.Answers.{DoesAll, RefusesAll}
 use Rattle.lawful.specs.declared.notes.Given.{Given}
 use Rattle.lawful.specs.declared.notes.Note.{Note}
-use Rattle.lawful.specs.declared.notes.Note.TheVariants.{Done}
+use Rattle.lawful.specs.declared.notes.Note.TheVariants.{Done, Refused}
 use Rattle.lawful.specs.Lawful.{setting_of, first_library, state_of, sight_of, Lawful, library_terms}
 use Rattle.lawful.specs.History.{history_of, library_after, state_after, IsHistoryOf, AllAgree}
 
@@ -45,6 +48,18 @@ UnreadIsUnlawful =
     (g : Given) (ranges : List Range) (writes : Pairs) (commands : Snapshot (List Command)) (replies : Snapshot (List Reply)) (label : List ℕ)
     → IsSetting (setting_of g) → AreOfOneStore most_words ranges → commands.value ≡ Show label ∷ []
     → Lawful g ranges [] writes (Done commands replies) → ⊥
+
+-- ---- runs of commands
+
+-- what a run of commands on the cells gives is lawful: from a sight of words that hold a library, with nothing kept aside, to one with what the
+-- run has seen and what it keeps aside. Where it is refused, what it keeps aside is thrown away
+abbrev pub RunsAreLawful : Type 0
+RunsAreLawful =
+    (g : Given) (old new : Sight) (commands : Snapshot (List Command)) → old.setting ≡ setting_of g → old.writes ≡ [] → Onward old new
+    → All (CommandFits (setting_of g).prelude) commands.value
+    → ((replies : Snapshot (List Reply)) → DoesAll old new commands.value replies.value
+    → Lawful g new.ranges new.reads new.writes (Done commands replies))
+    × ((refused : Snapshot Refusal) → RefusesAll old new commands.value refused.value → Lawful g new.ranges new.reads [] (Refused commands refused))
 
 -- ---- histories
 

@@ -1,6 +1,6 @@
 //! Laws of the definitions: each function does nothing, and its contract is the law.
 
-ghost use Rattle.lawful.specs.Laws.{ShownIsKept, LawfulIsKept, UnreadIsUnlawful, OneAssertionIsShown};
+ghost use Rattle.lawful.specs.Laws.{ShownIsKept, LawfulIsKept, UnreadIsUnlawful, RunsAreLawful, OneAssertionIsShown};
 ghost use Rattle.lawful.specs.Laws.{HistoriesGrow, SessionsStand, OtherCallsAgree, RunsSuit, ClosedWordsShow};
 
 /// Cells that show a library show it too where further ranges of the store are finished, whatever stands in cells behind the library's own.
@@ -16,6 +16,11 @@ pub fn lawful_is_kept()
 /// A transaction that read nothing can't have shown an assertion: it isn't lawful, whatever it replied.
 pub fn unread_is_unlawful()
     ensures { UnreadIsUnlawful }
+{}
+
+/// A run of commands on cells that ends with their replies, or is refused, is lawful: so a session may commit it.
+pub fn runs_are_lawful()
+    ensures { RunsAreLawful }
 {}
 
 /// Where more is seen of the words, the history of commands and replies is a later one: what was settled stays.
