@@ -45,6 +45,18 @@ no_body st cell words b e = none words b.some (sym b.named ∙ e)
     none [] some is = some refl
     none (w ∷ ws) some is = omega (arith, is)
 
+-- a cell that stays goes on to name its body
+pub body_same : (st next : State) (cell : ℕ) (words : List ℕ) → next.ranges ≡ st.ranges → next.value cell ≡ st.value cell
+    → HasBody st cell words
+    → HasBody next cell words
+body_same st next cell words ranges same b =
+    record {
+      start = b.start;
+      finished = subst (Has (record { start = b.start; words = words })) (sym ranges) b.finished;
+      named = same ∙ b.named;
+      some = b.some;
+    }
+
 -- ---- ranges that a run knows
 
 pub knows_later : (s t : Sight) (range : Place) (words : List ℕ) → Onward s t → Knows s range words → Knows t range words

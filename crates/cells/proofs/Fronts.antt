@@ -23,7 +23,7 @@ use Rattle.mmsyntax.proofs.Declarable.{declarable, spelled_where_declarable}
 use Rattle.proofcheck.specs.Databases.{AllCheck, frame_in}
 use Rattle.proofcheck.specs.Derivation.{Checks}
 use Rattle.library.specs.declared.library.Ranked.{Ranked}
-use Rattle.library.specs.Library.{Verifies, ranked_from, opening}
+use Rattle.library.specs.Library.{Verifies, setting_over, ranked_from, opening}
 use Rattle.library.specs.Edits.{has, added, is_of_unknown}
 use Rattle.library.proofs.Derivations.{NamesOne, steps_named}
 use Rattle.library.proofs.Frames.{frame_found}
@@ -66,7 +66,7 @@ front_checks db k all j a at =
 
 -- what a front of a database opens verifies
 pub front_verifies : (db : Contents) (k slots : ℕ) → HasSpelling db → AllCheck db → 1 ≤ slots → slots ≤ 4096 → length db.assertions ≤ slots
-    → Verifies (record { prelude = db.prelude; slots = slots }) (opening (front k db))
+    → Verifies (setting_over db slots) (opening (front k db))
 front_verifies db k slots h all some few room =
     opening_verifies (front k db) slots
     (spelled_where_declarable (front k db) (front_declarable db.prelude k db.assertions (declarable db h)))

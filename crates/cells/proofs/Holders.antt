@@ -6,8 +6,7 @@ use Rattle.std.specs.Str.{bytes_eq}
 use Rattle.std.proofs.Common.{eq-eqb}
 use Rattle.std.proofs.lemmas.List.Elements.{All-map, All-contains}
 use Rattle.std.proofs.lemmas.List.{length-map}
-use Rattle.std.proofs.lemmas.List.Sorted.{Contains-permutation, length_permutation}
-use Rattle.std.proofs.lemmas.List.Sums.{length-filter, count_by-le-length}
+use Rattle.std.proofs.lemmas.List.Sorted.{Contains-permutation}
 use Rattle.mmsyntax.specs.Assertions.{Distinct}
 use Rattle.library.specs.declared.library.Ranked.{Ranked}
 use Rattle.library.specs.Library.{label_of}
@@ -23,6 +22,7 @@ use Rattle.cells.specs.Lookups.{IsFoundAt, IfFull}
 use Rattle.std.proofs.lemmas.Bool.Decides.{Decides-eqb}
 use mathlib.Core.Bool.{not}
 use Rattle.cells.proofs.Bodies.{one_body, no_body}
+use Rattle.cells.proofs.Linking.{chain_few}
 use Rattle.cells.proofs.Members.{has_from_contains, contains_from_has, mapped_has, all_below}
 
 module _ (slots : ℕ) (st : State) (lib : List Ranked) (shows : Shows slots st lib) where
@@ -98,19 +98,8 @@ module _ (slots : ℕ) (st : State) (lib : List Ranked) (shows : Shows slots st 
   -- a chain has no more slots than the library has assertions
   pub chain_short : (b : ℕ) (lt : b < slots) → length (shows.chained b lt).chain ≤ length lib
   chain_short b lt =
-      let c = shows.chained b lt in
-      let of = λ (q : Held). bucket slots (label_of q.entry) == b in
-      let some = of_bucket slots b shows.held in
       let e : length (entries_of shows.held) ≡ length lib = ap (λ (xs : List Ranked). length xs) shows.library in
-      omega (
-        arith,
-        e,
-        length_permutation (slots_of some) c.chain c.has,
-        length-map some (λ (q : Held). q.slot),
-        length-filter of shows.held,
-        count_by-le-length of shows.held,
-        length-map shows.held (λ (q : Held). q.entry),
-      )
+      omega (arith, e, chain_few slots st shows.held b (shows.chained b lt), length-map shows.held (λ (q : Held). q.entry))
 
   -- there are as many assertions as slots where all slots are full
   pub all_full : ((i : ℕ) → i < slots → st.value (name_cell i) ≢ 0) → slots ≤ length lib

@@ -19,55 +19,34 @@ use Rattle.library.proofs.Counts.{none_counted}
 use Rattle.ranges.specs.Ranges.{Has, AreOfOneStore}
 use Rattle.bodystore.specs.declared.stored.StoredStep.{StoredStep}
 use Rattle.bodystore.specs.declared.stored.StoredStep.TheVariants as stored
-use Rattle.cells.specs.State.{State, HasBody, most_words}
+use Rattle.cells.specs.State.{State, most_words}
 use Rattle.cells.specs.Slots.{name_cell, statement_cell, proof_cell, rank_cell, citers_cell, next_cell}
 use Rattle.cells.specs.Shows.{Held, slots_of, entries_of, IsNamed, AreStoredAs, IsStoredAs, HoldsProof, Holds, IsEmpty, Shows}
+pub use Rattle.cells.proofs.Bodies.{body_same}
+use Rattle.cells.proofs.Storing.{stored_relabelled, proof_relabelled, relabelled_none}
 use Rattle.cells.proofs.Members.{all_has, any_has, has_mapped, mapped_has, all_from_has, has_from_contains, contains_from_has}
 use Rattle.cells.proofs.Holders.{holder, listed}
 use Rattle.cells.proofs.Bodies.{one_body, no_body}
 
 -- ---- what stays
 
--- a cell that stays goes on to name its body
-pub body_same : (st next : State) (cell : ℕ) (words : List ℕ) → next.ranges ≡ st.ranges → next.value cell ≡ st.value cell
-    → HasBody st cell words
-    → HasBody next cell words
-body_same st next cell words ranges same b =
-    record {
-      start = b.start;
-      finished = subst (Has (record { start = b.start; words = words })) (sym ranges) b.finished;
-      named = same ∙ b.named;
-      some = b.some;
-    }
-
 module _ (slots : ℕ) (st next : State) where
   -- each named slot keeps its name
   abbrev pub NamesStay : Type 0
   NamesStay = (i : ℕ) (label : List ℕ) → IsNamed slots st i label → IsNamed slots next i label
 
+  -- so what is stored stays stored
   pub stored_same : NamesStay → (steps : List Step) (kept : List StoredStep) → AreStoredAs slots st steps kept
       → AreStoredAs slots next steps kept
-  stored_same stay [] [] h = tt
-  stored_same stay [] (k ∷ kept) h = absurd h
-  stored_same stay (x ∷ steps) [] h = absurd h
-  stored_same stay (x ∷ steps) (k ∷ kept) h = (one x k h.0, stored_same stay steps kept h.1)
-    where
-      one : (x : Step) (k : StoredStep) → IsStoredAs (IsNamed slots st) x k → IsStoredAs (IsNamed slots next) x k
-      one (Float i) (stored.Float j) h = h
-      one (Float i) (stored.Hyp j) h = absurd h
-      one (Float i) (stored.Slot j) h = absurd h
-      one (Hyp i) (stored.Float j) h = absurd h
-      one (Hyp i) (stored.Hyp j) h = h
-      one (Hyp i) (stored.Slot j) h = absurd h
-      one (Cite l) (stored.Float j) h = absurd h
-      one (Cite l) (stored.Hyp j) h = absurd h
-      one (Cite l) (stored.Slot j) h = stay j l h
+  stored_same stay steps kept h =
+      subst (λ xs. AreStoredAs slots next xs kept) (relabelled_none steps)
+      (stored_relabelled slots st next (λ label. label) steps kept (λ i label cited. stay i label) h)
 
   pub proof_same : NamesStay → (i : ℕ) (kind : Kind) (steps : List Step) → next.ranges ≡ st.ranges
       → next.value (proof_cell i) ≡ st.value (proof_cell i) → HoldsProof slots st i kind steps → HoldsProof slots next i kind steps
-  proof_same stay i Axiom steps ranges same h = (same ∙ h.0, h.1)
-  proof_same stay i Theorem steps ranges same h =
-      (h.0, body_same st next (proof_cell i) _ ranges same h.1, stored_same stay steps h.0 h.2)
+  proof_same stay i kind steps ranges same h =
+      subst (HoldsProof slots next i kind) (relabelled_none steps)
+      (proof_relabelled slots st next (λ label. label) i kind steps ranges same (λ j label cited. stay j label) h)
 
   -- the assertion is held again where its cells are the same, the names are, and its citers are counted
   pub holds_same : NamesStay → (lib more : List Ranked) (i : ℕ) (e : Ranked) → next.ranges ≡ st.ranges

@@ -1,9 +1,11 @@
--- Chains of slots: what becomes of them where other cells change, where a slot is put in front of one, and where a slot is taken out.
-use Rattle.std.proofs.Common.{◌≡◌, ◌≢◌, ℕ, ◌+◌, ◌*◌, ◌<◌, ◌≤◌, true, false, cond, List, [], ◌∷◌, map, refl, sym, ap, subst, ◌∙◌}
+-- Chains of slots: who stands in them, and what becomes of them where other cells change, and where a slot is put in front of one.
+use Rattle.std.proofs.Common.{◌≡◌, ◌≢◌, ℕ, ◌+◌, ◌*◌, ◌<◌, ◌≤◌, true, false, cond, List, [], ◌∷◌, length, map, refl, sym, ap, subst, ◌∙◌}
 use Rattle.std.proofs.Common.{inl, inr, arith, nat_eq}
 use Rattle.std.specs.Prelude.{filter, fold, IsPermutation, ◌==◌, ◌%◌}
 use Rattle.std.proofs.lemmas.Bool.{cases_eq, cond-true, cond-false, eqb-true, eq-eqb, ne_eqb}
-use Rattle.std.proofs.lemmas.List.Sorted.{IsPermutation-cons, IsPermutation-sym, IsPermutation-trans}
+use Rattle.std.proofs.lemmas.List.{length-map}
+use Rattle.std.proofs.lemmas.List.Sums.{length-filter, count_by-le-length}
+use Rattle.std.proofs.lemmas.List.Sorted.{IsPermutation-cons, IsPermutation-sym, IsPermutation-trans, length_permutation}
 use Rattle.mmsyntax.specs.Assertions.{Distinct}
 use Rattle.library.specs.declared.library.Ranked.{Ranked}
 use Rattle.library.specs.Library.{label_of}
@@ -52,6 +54,19 @@ module _ (slots : ℕ) where
       let b = bucket slots (label_of p.entry) in
       has_mapped (λ (q : Held). q.slot) (of_bucket slots b held) p
       (has_filtered (λ (q : Held). bucket slots (label_of q.entry) == b) held p h (eq-eqb b b refl))
+
+  -- a chain has no more slots than there are assertions held
+  pub chain_few : (st : State) (held : List Held) (b : ℕ) (c : IsChained slots st held b) → length c.chain ≤ length held
+  chain_few st held b c =
+      let of = λ (p : Held). bucket slots (label_of p.entry) == b in
+      let some = of_bucket slots b held in
+      omega (
+        arith,
+        length_permutation (slots_of some) c.chain c.has,
+        length-map some (λ (p : Held). p.slot),
+        length-filter of held,
+        count_by-le-length of held,
+      )
 
   -- a slot is of one bucket
   pub one_bucket : (held : List Held) (b c i : ℕ) → Distinct nat_eq (slots_of held) → Has i (slots_of (of_bucket slots b held))

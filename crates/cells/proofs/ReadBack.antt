@@ -53,17 +53,6 @@ stored_words slots i st Axiom steps words h of =
     empty (w ∷ ws) e = absurd (omega (arith, e))
 stored_words slots i st Theorem steps words h of = (h.0, sym (of.body (proof_body h.0) h.1), h.2)
 
--- which step is stored as a place
-pub float_stored : (named : ℕ → List ℕ → Type 0) (x : Step) (j : ℕ) → IsStoredAs named x (stored.Float j) → Float j ≡ x
-float_stored named (Float i) j h = ap (λ (n : ℕ). Float n) (sym h)
-float_stored named (Hyp k) j h = absurd h
-float_stored named (Cite w) j h = absurd h
-
-pub hyp_stored : (named : ℕ → List ℕ → Type 0) (x : Step) (j : ℕ) → IsStoredAs named x (stored.Hyp j) → Hyp j ≡ x
-hyp_stored named (Float i) j h = absurd h
-hyp_stored named (Hyp k) j h = ap (λ (n : ℕ). Hyp n) (sym h)
-hyp_stored named (Cite w) j h = absurd h
-
 -- the citation that is stored as a slot, where the slot's name is known
 pub cite_stored : (named : ℕ → List ℕ → Type 0) (x : Step) (j : ℕ) (made : List ℕ) → IsShortLabelled x → IsStoredAs named x (stored.Slot j)
     → ((label : List ℕ) → All (λ byte. byte < 256) label → named j label → made ≡ label) → Cite made ≡ x

@@ -1,8 +1,8 @@
 -- The ranges of a store at the places that are taken.
-use Rattle.std.proofs.Common.{◌≡◌, ℕ, zero, suc, ◌+◌, List, [], ◌∷◌, ◌++◌, length, get_or, take, drop, inl, inr, refl, sym, ap, subst, ◌∙◌, arith, true, false, length-append, length-drop}
-use Rattle.std.specs.Prelude.{◌⊎◌, ◌<◌, ◌≤◌, Bool, Some, slice_get, ◌==◌, ◌||◌}
+use Rattle.std.proofs.Common.{◌≡◌, ℕ, zero, suc, ◌+◌, List, [], ◌∷◌, ◌++◌, length, get_or, take, drop, inl, inr, refl, sym, ap, subst, ◌∙◌, arith, true, length-append, length-drop}
+use Rattle.std.specs.Prelude.{◌⊎◌, ◌<◌, ◌≤◌, Some, slice_get, ◌==◌, ◌||◌}
 use Rattle.std.specs.List.{list_any}
-use Rattle.std.proofs.lemmas.Bool.{eqb-true, eq-eqb}
+use Rattle.std.proofs.lemmas.Bool.{eqb-true, eq-eqb, or_cases, or_right}
 use Rattle.std.proofs.lemmas.List.{map-append, take-append-le, drop-append-le}
 use Rattle.std.proofs.Math.Seq.{drop-append_seam, take-length}
 use Rattle.std.proofs.lemmas.Option.{slice_get_within, slice_get-get_or, get_or_from_slice_get}
@@ -139,18 +139,10 @@ known_words store places start len words lie h long =
 
 -- ---- words that name ranges
 
-test_parts : (a b : Bool) → (a || b) ≡ true → (a ≡ true) ⊎ (b ≡ true)
-test_parts true b h = inl refl
-test_parts false b h = inr h
-
-right_true : (a b : Bool) → b ≡ true → (a || b) ≡ true
-right_true true b h = refl
-right_true false b h = h
-
 some_named : (ranges : List Range) (w : ℕ) → list_any (λ r. word_of r == w) ranges ≡ true → (r : Range) × Has r ranges × (w ≡ word_of r)
 some_named [] w h = absurd cc
 some_named (r ∷ ranges) w h =
-    elim (test_parts (word_of r == w) (list_any (λ q. word_of q == w) ranges) h)
+    elim (or_cases (word_of r == w) (list_any (λ q. word_of q == w) ranges) h)
     as (λ _. (q : Range) × Has q (r ∷ ranges) × (w ≡ word_of q)) [
       | inl e ↦ (r, inl refl, sym (eqb-true (word_of r) w e))
       | inr l ↦ let f = some_named ranges w l in (f.0, inr f.1, f.2)
@@ -158,7 +150,7 @@ some_named (r ∷ ranges) w h =
 
 -- the test says that the word names one of the ranges
 pub names_true : (ranges : List Range) (w : ℕ) → names ranges w ≡ true → Names ranges w
-names_true ranges w h = go (test_parts (w == 0) (list_any (λ r. word_of r == w) ranges) h)
+names_true ranges w h = go (or_cases (w == 0) (list_any (λ r. word_of r == w) ranges) h)
   where
     go : ((w == 0) ≡ true) ⊎ (list_any (λ q. word_of q == w) ranges ≡ true) → Names ranges w
     go (inl e) = inl (eqb-true w 0 e)
@@ -168,11 +160,11 @@ any_named : (ranges : List Range) (w : ℕ) (r : Range) → Has r ranges → w �
 any_named [] w r h e = absurd h
 any_named (q ∷ ranges) w r (inl same) e =
     ap (λ b. b || list_any (λ p. word_of p == w) ranges) (eq-eqb (word_of q) w (sym (e ∙ ap (λ (x : Range). word_of x) same)))
-any_named (q ∷ ranges) w r (inr h) e = right_true (word_of q == w) (list_any (λ p. word_of p == w) ranges) (any_named ranges w r h e)
+any_named (q ∷ ranges) w r (inr h) e = or_right (word_of q == w) (list_any (λ p. word_of p == w) ranges) (any_named ranges w r h e)
 
 pub true_names : (ranges : List Range) (w : ℕ) → Names ranges w → names ranges w ≡ true
 true_names ranges w (inl e) = ap (λ b. b || list_any (λ p. word_of p == w) ranges) (eq-eqb w 0 e)
-true_names ranges w (inr f) = right_true (w == 0) (list_any (λ p. word_of p == w) ranges) (any_named ranges w f.0 f.1 f.2)
+true_names ranges w (inr f) = or_right (w == 0) (list_any (λ p. word_of p == w) ranges) (any_named ranges w f.0 f.1 f.2)
 
 -- what names a range names one of more ranges
 pub hold_more : (slots : ℕ) (values : List ℕ) (ranges more : List Range) → Within ranges more → HoldNames slots values ranges

@@ -11,7 +11,7 @@ use Rattle.bodystore.specs.declared.stored.StoredStep.TheVariants as stored
 use Rattle.cells.specs.State.{State}
 use Rattle.cells.specs.Slots.{proof_cell}
 use Rattle.cells.specs.Shows.{IsNamed, IsStoredAs, AreStoredAs, HoldsProof}
-use Rattle.cells.proofs.Holding.{body_same}
+use Rattle.cells.proofs.Bodies.{body_same}
 
 -- where the slot of each cited label has the label that it becomes, the same stored steps are those of the relabelled proof
 pub stored_relabelled : (slots : ℕ) (st next : State) (change : List ℕ → List ℕ) (steps : List Step) (kept : List StoredStep)

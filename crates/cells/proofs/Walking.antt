@@ -3,9 +3,6 @@ use Rattle.std.proofs.Common.{◌≡◌, ◌≢◌, ℕ, ◌+◌, ◌<◌, ◌�
 use Rattle.std.proofs.Common.{⊎_elim, arith, nat_eq}
 use Rattle.std.specs.Prelude.{◌==◌}
 use Rattle.std.proofs.lemmas.Bool.{cond-true, cond-false, eq-eqb, ne_eqb}
-use Rattle.std.proofs.lemmas.List.{length-map}
-use Rattle.std.proofs.lemmas.List.Sums.{length-filter, count_by-le-length}
-use Rattle.std.proofs.lemmas.List.Sorted.{length_permutation}
 use Rattle.mmsyntax.specs.Assertions.{Distinct}
 use Rattle.library.specs.declared.library.Ranked.{Ranked}
 use Rattle.library.specs.Library.{label_of}
@@ -16,7 +13,7 @@ use Rattle.cells.specs.Shows.{Held, slots_of, of_bucket, IsChain, AreChained}
 use Rattle.cells.specs.Sight.{Sight, Writes, after}
 use Rattle.cells.specs.Chains.{Rechains, without_slot}
 use Rattle.cells.proofs.Members.{has_permutation}
-use Rattle.cells.proofs.Linking.{PutsFront, put_front}
+use Rattle.cells.proofs.Linking.{PutsFront, put_front, chain_few}
 use Rattle.cells.proofs.Unlinking.{leading, leading_is, TakesOut, unlink}
 use Rattle.cells.proofs.Values.{value_there, value_elsewhere}
 use Rattle.cells.proofs.Sights.{after_writes}
@@ -71,16 +68,12 @@ module _ (slots slot : ℕ) (st : State) (to : ℕ) where
       → Walks slots slot st to (bucket_cell slots b) 0
   walk_begins held b lt chained has few is =
       let c = chained b lt in
-      let part = of_bucket slots b held in
-      let a = length_permutation (slots_of part) c.chain c.has in
-      let d = length-map part (λ (p : Held). p.slot) in
-      let f = length-filter (λ (p : Held). bucket slots (label_of p.entry) == b) held in
-      let m = count_by-le-length (λ (p : Held). bucket slots (label_of p.entry) == b) held in
+      let short = chain_few slots st held b c in
       record {
         rest = c.chain;
         chain = c.starts;
         has = has_permutation _ _ slot c.has has;
-        long = omega (arith, few, a, d, f, m);
+        long = omega (arith, few, short);
         leads = is;
       }
 

@@ -1,5 +1,5 @@
 -- What adding a theorem answers: why it is refused, or the library that is shown with it.
-use Rattle.std.proofs.Common.{◌≡◌, ℕ, ◌<◌, true, false, List, [], ◌∷◌, None, Err, length, sym, ap, subst, ◌∙◌, inl, inr, arith, eqb, nat_eq}
+use Rattle.std.proofs.Common.{◌≡◌, ◌≢◌, ℕ, ◌<◌, true, false, List, [], ◌∷◌, None, Err, length, sym, ap, subst, ◌∙◌, inl, inr, arith, eqb, nat_eq}
 use mathlib.Core.Bool.{not}
 use Rattle.std.specs.Prelude.{◌==◌, nat_le}
 use Rattle.std.specs.List.{list_any, IsDistinct, AllByRecursion}
@@ -9,6 +9,7 @@ use Rattle.std.proofs.lemmas.Map.Steps.{length-le_from_distinct_below}
 use Rattle.mmsyntax.specs.declared.statement.Assertion.{Assertion}
 use Rattle.mmsyntax.specs.declared.statement.Kind.TheVariants.{Axiom, Theorem}
 use Rattle.mmsyntax.specs.Assertions.{Distinct, is_lawful_label}
+use Rattle.mmsyntax.specs.Tables.{Tables}
 use Rattle.mmsyntax.proofs.Distinct.{or_false}
 use Rattle.library.specs.declared.library.Ranked.{Ranked}
 use Rattle.library.specs.declared.command.Command.TheVariants as command
@@ -36,6 +37,12 @@ use Rattle.commands.specs.Citing.{Passes, TellsRefusal}
 use Rattle.commands.proofs.Seeing.{views_later}
 use Rattle.commands.proofs.Refusing.{first_refuses, first_passes, refused}
 use Rattle.commands.proofs.ProofTests.{stored_on}
+
+-- a lawful label has a byte
+pub lawful_some : (t : Tables) (label : List ℕ) → is_lawful_label t label ≡ true → label ≢ []
+lawful_some t label lawful none =
+    let empty : is_lawful_label t [] ≡ true = subst (λ l. is_lawful_label t l ≡ true) none lawful in
+    absurd cc
 
 -- ---- room
 

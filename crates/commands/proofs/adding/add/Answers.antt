@@ -13,8 +13,7 @@ use Rattle.cells.proofs.Laying.{ok_mapped}
 use Rattle.commands.specs.Answers.{CommandAnswers}
 use Rattle.commands.proofs.Seeing.{found_or_free}
 use Rattle.commands.proofs.Refusing.{refused, answers_refused}
-use Rattle.commands.proofs.Relabelling.{lawful_some}
-use Rattle.commands.proofs.Added.{add_taken, add_axiom, add_refused, add_full, add_done, MayTest}
+use Rattle.commands.proofs.Added.{lawful_some, add_taken, add_axiom, add_refused, add_full, add_done, MayTest}
 use Rattle.commands.proofs.adding.add.Goals as goal
 
 lawful_at : (t u : Tables) (l m : List ℕ) → t ≡ u → l ≡ m → is_lawful_label t l ≡ true → is_lawful_label u m ≡ true

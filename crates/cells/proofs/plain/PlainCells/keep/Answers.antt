@@ -2,13 +2,14 @@ use Rattle.std.proofs.Common.{◌*◌, sym, subst, arith}
 use mathlib.Core.Logic.{∥∥₁_map}
 use Rattle.library.specs.Library.{Setting}
 use Rattle.cells.specs.Plain.{HoldNames, ShowsSome, IsLogOf, ranges_in, undone}
+use Rattle.cells.specs.PlainViews.{setting_of}
 use Rattle.cells.proofs.PlainSights.{plain_began}
 use Rattle.cells.proofs.plain.PlainCells.keep.Goals as goal
 
 pub invariant_of-self : goal.invariant_of-self
 invariant_of-self c =
     let p = c.args.self.now in
-    let s : Setting = record { prelude = p.prelude; slots = p.slots } in
+    let s : Setting = setting_of p in
     let none = c.clear.ensures.items in
     let log = c.clear.new.self.items in
     record {

@@ -3,6 +3,7 @@ use Rattle.std.proofs.lemmas.Grind.{common_steps}
 use Rattle.library.specs.Library.{Setting}
 use Rattle.ranges.specs.Pairs.{Pairs}
 use Rattle.cells.specs.Plain.{HoldNames, IsLogOf, ranges_in, undone}
+use Rattle.cells.specs.PlainViews.{setting_of}
 use Rattle.cells.proofs.Logs.{length-undone}
 use Rattle.cells.proofs.PlainSights.{began_same}
 use Rattle.cells.proofs.plain.PlainCells.undo.Goals as goal
@@ -10,7 +11,7 @@ use Rattle.cells.proofs.plain.PlainCells.undo.Goals as goal
 pub invariant_of-self : goal.invariant_of-self
 invariant_of-self c =
     let p = c.args.self.now in
-    let s : Setting = record { prelude = p.prelude; slots = p.slots } in
+    let s : Setting = setting_of p in
     let made = c.give_back.new.values in
     let log = c.give_back.new.log.items in
     let base : made ≡ undone p.values.items p.log.items = c.give_back.ensures.values ∙ ap (λ xs. undone xs p.log.items) c.as_mut_slice.ensures.value in

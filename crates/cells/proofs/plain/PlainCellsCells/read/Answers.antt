@@ -2,6 +2,7 @@ use Rattle.std.proofs.Common.{◌<◌, length, is_ok, sym, subst, arith}
 use Rattle.cells.specs.Sight.{Looks, Reads}
 use Rattle.library.specs.Library.{Setting}
 use Rattle.cells.specs.Plain.{HoldNames, ranges_in, plain_sight}
+use Rattle.cells.specs.PlainViews.{setting_of, sight_of}
 use Rattle.cells.proofs.Sights.{looks_refl}
 use Rattle.cells.proofs.PlainSights.{read_at, undone_logged, logged_either, began_same, plain_reads}
 use Rattle.cells.proofs.plain.PlainCellsCells.read.Goals as goal
@@ -31,15 +32,15 @@ pub returns-in-Ok-clause-ok : goal.returns-in-Ok-clause-ok
 returns-in-Ok-clause-ok c =
     let p = c.args.self.now in
     let v = c.index-value.result.now in
-    let s : Setting = record { prelude = p.prelude; slots = p.slots } in
+    let s : Setting = setting_of p in
     let lt : c.args.cell < length p.values.items = omega (arith, p.long, c.requires) in
     let at = read_at p.values.items c.args.cell v lt c.index-value.ensures in
-    subst (λ l. Reads c.args.cell v (plain_sight s p.room p.values.items p.log.items p.store.items p.ranges.items) (plain_sight s p.room p.values.items l p.store.items p.ranges.items))
+    subst (λ l. Reads c.args.cell v (sight_of p) (plain_sight s p.room p.values.items l p.store.items p.ranges.items))
     (sym c.in-Ok.ensures.items) (plain_reads s p.room p.values.items p.log.items p.store.items p.ranges.items c.args.cell v lt at p.names)
 
 pub returns-in-Err-clause-err : goal.returns-in-Err-clause-err
 returns-in-Err-clause-err c =
     let p = c.args.self.now in
-    let s : Setting = record { prelude = p.prelude; slots = p.slots } in
-    let before = plain_sight s p.room p.values.items p.log.items p.store.items p.ranges.items in
+    let s : Setting = setting_of p in
+    let before = sight_of p in
     subst (λ l. Looks before (plain_sight s p.room p.values.items l p.store.items p.ranges.items)) (sym c.in-Err.ensures.items) (looks_refl before)

@@ -4,6 +4,7 @@ use Rattle.ranges.specs.declared.range.Range.{Range as Place}
 use Rattle.cells.specs.Sight.{Stages}
 use Rattle.library.specs.Library.{Setting}
 use Rattle.cells.specs.Plain.{HoldNames, LieInStore, BeganWithSome, ranges_in, undone, behind, plain_sight}
+use Rattle.cells.specs.PlainViews.{setting_of}
 use Rattle.cells.proofs.Stores.{lie_staged}
 use Rattle.cells.proofs.PlainSights.{staged_or_not, hold_staged, began_staged, plain_stages}
 use Rattle.cells.proofs.plain.PlainCellsCells.stage.Goals as goal
@@ -15,7 +16,7 @@ has_some (w ∷ words) ne = omega arith
 pub invariant_of-self : goal.invariant_of-self
 invariant_of-self c =
     let p = c.args.self.now in
-    let s : Setting = record { prelude = p.prelude; slots = p.slots } in
+    let s : Setting = setting_of p in
     let old = p.store.items in
     let places = p.ranges.items in
     let words = c.args.words.now in
@@ -42,7 +43,7 @@ invariant_of-self c =
 pub returns-in-Ok-clause-ok : goal.returns-in-Ok-clause-ok
 returns-in-Ok-clause-ok c =
     let p = c.args.self.now in
-    let s : Setting = record { prelude = p.prelude; slots = p.slots } in
+    let s : Setting = setting_of p in
     let old = p.store.items in
     let places = p.ranges.items in
     let words = c.args.words.now in

@@ -2,13 +2,14 @@ use Rattle.std.proofs.Common.{◌<◌, length, sym, subst, ◌∙◌, arith}
 use Rattle.std.proofs.lemmas.List.{length-set}
 use Rattle.library.specs.Library.{Setting}
 use Rattle.cells.specs.Plain.{HoldNames, ranges_in}
+use Rattle.cells.specs.PlainViews.{setting_of}
 use Rattle.cells.proofs.PlainSights.{began_same, hold_set, plain_undone, plain_writes}
 use Rattle.cells.proofs.plain.PlainCellsCells.write.Goals as goal
 
 pub invariant_of-self : goal.invariant_of-self
 invariant_of-self c =
     let p = c.args.self.now in
-    let s : Setting = record { prelude = p.prelude; slots = p.slots } in
+    let s : Setting = setting_of p in
     let lt : c.args.cell < length p.values.items = omega (arith, p.long, c.requires.cell) in
     let same = plain_undone s p.room p.values.items p.log.items p.store.items p.ranges.items c.args.cell c.args.value c.requires.read in
     record {
@@ -27,5 +28,5 @@ invariant_of-self c =
 pub returns : goal.returns
 returns c =
     let p = c.args.self.now in
-    let s : Setting = record { prelude = p.prelude; slots = p.slots } in
+    let s : Setting = setting_of p in
     plain_writes s p.room p.values.items p.log.items p.store.items p.ranges.items c.args.cell c.args.value (omega (arith, p.long, c.requires.cell)) c.requires.read
