@@ -1,10 +1,9 @@
 -- What the words say and show at the end.
-use Rattle.std.proofs.Common.{◌≡◌, ℕ, ◌/◌, List, length, map, Some, refl, sym, ap, subst, ◌∙◌, arith}
+use Rattle.std.proofs.Common.{◌≡◌, ℕ, ◌/◌, List, length, map, Some, sym, ap, subst, ◌∙◌, arith}
 use Rattle.std.specs.Prelude.{slice_get, slice_index}
 use Rattle.std.proofs.lemmas.List.{get_or-map, take_all}
 use Rattle.std.proofs.lemmas.Option.{slice_get_within, get_or_from_slice_get}
-use Rattle.library.specs.declared.library.Ranked.{Ranked}
-use Rattle.library.specs.Histories.{Entry, after_all}
+use Rattle.library.specs.Histories.{after_all}
 use Rattle.tlwords.specs.declared.closing.ClosedCell.{ClosedCell}
 use Rattle.cells.specs.Shows.{Shows}
 use Rattle.lawful.specs.Lawful.{setting_of, first_library, state_of}

@@ -1,10 +1,10 @@
 -- The entries of the history of commands and replies, and how it grows with what was seen.
-use Rattle.std.proofs.Common.{◌≡◌, ◌≢◌, ℕ, zero, suc, ◌<◌, ◌≤◌, List, [], ◌∷◌, length, get_or, Option, Some, None, refl, sym, ap, ◌∙◌, arith}
+use Rattle.std.proofs.Common.{◌≡◌, ◌≢◌, ℕ, zero, suc, ◌<◌, List, [], ◌∷◌, length, get_or, Option, Some, None, refl, sym, ap, ◌∙◌, arith}
 use Rattle.std.specs.Prelude.{slice_get}
 use Rattle.std.proofs.lemmas.Option.{slice_get-get_or, slice_get_within}
 use Rattle.library.specs.declared.command.Command.{Command}
 use Rattle.library.specs.declared.command.Reply.{Reply}
-use Rattle.library.specs.Histories.{Entry, open_entry, void_entry, done_entry}
+use Rattle.library.specs.Histories.{open_entry, done_entry}
 use Rattle.tlcore.specs.History.{Entry as WordsEntry}
 use Rattle.tlcore.specs.declared.entries.Status.{Status}
 use Rattle.tlcore.specs.declared.entries.Status.TheVariants as status

@@ -14,10 +14,10 @@ use Rattle.ranges.specs.Pairs.{Pairs}
 use Rattle.cells.specs.State.{State, HasBody}
 use Rattle.cells.specs.Slots.{cell_count, next_cell}
 use Rattle.cells.specs.Shows.{Held, slots_of, IsNamed, IsStoredAs, AreStoredAs, HoldsProof, Holds, IsEmpty, IsChain, IsChained, Shows}
-use Rattle.cells.specs.Sight.{Sight, Suits}
+use Rattle.cells.specs.Sight.{Suits}
 use Rattle.lawful.specs.declared.notes.Given.{Given}
 use Rattle.lawful.specs.declared.notes.Note.TheVariants.{Done, Refused, Looked}
-use Rattle.lawful.specs.Lawful.{sight_of, IsDone}
+use Rattle.lawful.specs.Lawful.{sight_of}
 use Rattle.lawful.specs.Laws.{ShownIsKept, LawfulIsKept}
 
 -- ---- what is shown

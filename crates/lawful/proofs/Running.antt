@@ -1,5 +1,5 @@
 -- A run of commands on cells is lawful.
-use Rattle.std.proofs.Common.{◌≡◌, ℕ, Bool, true, false, List, [], Some, None, Ok, Err, refl, sym, ap, subst, ◌∙◌}
+use Rattle.std.proofs.Common.{◌≡◌, Bool, true, false, List, [], Ok, Err, refl, sym, ap, subst, ◌∙◌}
 use Rattle.library.specs.declared.library.Ranked.{Ranked}
 use Rattle.library.specs.Library.{Setting, Verifies}
 use Rattle.library.specs.Transactions.{apply, has_edit}
@@ -38,25 +38,23 @@ module _ (g : Given) (old new : Sight) (setting : old.setting ≡ setting_of g) 
 
 pub runs_are_lawful : RunsAreLawful
 runs_are_lawful g old new commands setting blank onward fit = (
-  λ replies does.
-  (
+  λ replies does. (
     fit,
     no_edit (has_edit commands.value) old new does.writes,
     λ st lib s.
-    let d = does.applies st lib (matches_new g old new setting blank onward new.writes st lib s)
-    (views_old g old new setting blank onward new.writes st lib s) in
-    record {
-      next = d.0;
-      applied = subst (λ (x : Setting). apply x lib commands.value ≡ Ok (record { library = d.0; replies = replies.value })) setting d.1;
-      shows = subst (λ (x : Setting). Shows x.slots (after new st) d.0) (onward.setting ∙ setting) d.2;
-    },
+        let d = does.applies st lib (matches_new g old new setting blank onward new.writes st lib s)
+        (views_old g old new setting blank onward new.writes st lib s) in
+        record {
+          next = d.0;
+          applied = subst (λ (x : Setting). apply x lib commands.value ≡ Ok (record { library = d.0; replies = replies.value })) setting d.1;
+          shows = subst (λ (x : Setting). Shows x.slots (after new st) d.0) (onward.setting ∙ setting) d.2;
+        },
   ),
-  λ refused refuses.
-  (
+  λ refused refuses. (
     fit,
     refl,
     λ st lib s.
-    subst (λ (x : Setting). apply x lib commands.value ≡ Err refused.value) setting
-    (refuses st lib (matches_new g old new setting blank onward [] st lib s) (views_old g old new setting blank onward [] st lib s)),
+        subst (λ (x : Setting). apply x lib commands.value ≡ Err refused.value) setting
+        (refuses st lib (matches_new g old new setting blank onward [] st lib s) (views_old g old new setting blank onward [] st lib s)),
   ),
 )

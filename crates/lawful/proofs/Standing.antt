@@ -1,16 +1,15 @@
 -- What was seen of words that hold a library is a history of it, which the calls agree with.
-use Rattle.std.proofs.Common.{◌≡◌, ℕ, zero, suc, ◌+◌, ◌≤◌, List, [], ◌∷◌, length, get_or, Option, Some, None, Ok, Err, refl, sym, ap, subst, ◌∙◌, arith}
-use Rattle.std.specs.Prelude.{slice_get, slice_index, All, false}
+use Rattle.std.proofs.Common.{◌≡◌, ℕ, zero, suc, ◌+◌, ◌≤◌, List, [], ◌∷◌, length, get_or, Option, Some, None, Ok, refl, sym, ap, subst, ◌∙◌, arith}
+use Rattle.std.specs.Prelude.{slice_get, slice_index, All}
 use Rattle.std.proofs.lemmas.Option.{slice_get-get_or, slice_get_within, get_or_from_slice_get}
-use Rattle.std.proofs.lemmas.List.Elements.{All-nil, All-cons, All-from_get_or}
+use Rattle.std.proofs.lemmas.List.Elements.{All-nil, All-cons}
 use Rattle.library.specs.declared.library.Ranked.{Ranked}
 use Rattle.library.specs.declared.command.Command.{Command}
 use Rattle.library.specs.declared.command.Reply.{Reply}
 use Rattle.library.specs.Library.{Setting, Verifies}
-use Rattle.library.specs.Transactions.{apply, library_of, has_edit, HasReplies}
+use Rattle.library.specs.Transactions.{apply, library_of, HasReplies}
 use Rattle.library.specs.Fitting.{CommandFits}
 use Rattle.library.specs.Histories.{Entry, open_entry, void_entry, done_entry, EntryFits, EntriesFit, after, after_entry, IsLegal}
-use Rattle.library.specs.Agrees.{ReadsOver}
 use Rattle.library.proofs.Fronts.{fronts_verify}
 use Rattle.library.proofs.Leaving.{apply_leaves}
 use Rattle.library.proofs.Legal.{after-more}
@@ -29,7 +28,7 @@ use Rattle.lawful.specs.declared.notes.Note.{Note}
 use Rattle.lawful.specs.declared.notes.Note.TheVariants.{Done, Refused, Looked}
 use Rattle.lawful.specs.Lawful.{setting_of, first_library, state_of, sight_of, library_terms}
 use Rattle.lawful.specs.History.{entry_of, history_of, library_after, state_after, IsHistoryOf, CommitAgrees, AnswerAgrees, CallAgrees, AllAgree}
-use Rattle.lawful.specs.Laws.{SessionsStand, OtherCallsAgree, RunsSuit, IsPassOn}
+use Rattle.lawful.specs.Laws.{SessionsStand, OtherCallsAgree, RunsSuit}
 use Rattle.lawful.proofs.Entries.{at_index, length-entries_of, entry_at, HasDone, of_done}
 use Rattle.lawful.proofs.Keeping.{shown_is_kept}
 

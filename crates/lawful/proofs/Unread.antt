@@ -1,6 +1,6 @@
 -- To show an assertion without a read isn't lawful: a library without assertions may lie there as well.
-use Rattle.std.proofs.Common.{◌≡◌, ℕ, List, [], ◌∷◌, refl, sym, ap, ◌∙◌}
-use Rattle.std.specs.Prelude.{Ok, Err}
+use Rattle.std.proofs.Common.{◌≡◌, ℕ, List, [], ◌∷◌, refl, ap}
+use Rattle.std.specs.Prelude.{Err}
 use Rattle.library.specs.declared.reason.Reason.TheVariants.{UnknownLabel}
 use Rattle.library.specs.declared.command.Command.TheVariants.{Show}
 use Rattle.library.specs.Library.{Setting}

@@ -3,8 +3,7 @@ use Rattle.std.specs.Prelude.{◌≡◌, ℕ, List, [], Ok, Err, All, length, sl
 use Rattle.library.specs.declared.library.Ranked.{Ranked}
 use Rattle.library.specs.declared.command.Command.{Command}
 use Rattle.library.specs.declared.command.Reply.{Reply}
-use Rattle.library.specs.declared.reason.Refused.{Refused as Refusal}
-use Rattle.library.specs.Library.{Setting, Verifies, Listed, opening, setting_over, ShowsInOrder}
+use Rattle.library.specs.Library.{Setting, Verifies, opening, setting_over, ShowsInOrder}
 use Rattle.library.specs.Fitting.{CommandFits}
 use Rattle.library.specs.Transactions.{apply, has_edit}
 use Rattle.ranges.specs.Pairs.{Pairs}
