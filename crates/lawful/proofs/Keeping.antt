@@ -1,6 +1,7 @@
--- What is shown and what is lawful stays so where further ranges are finished.
-use Rattle.std.proofs.Common.{◌≡◌, ◌∙◌, ℕ, ◌<◌, List, [], ◌∷◌, inl, inr, arith}
-use Rattle.std.specs.Prelude.{◌⊎◌}
+-- What is shown and what is lawful stays so where other ranges are finished, among them those that are needed.
+use Rattle.std.proofs.Common.{◌≡◌, ◌∙◌, ap, ℕ, ◌*◌, ◌%◌, ◌<◌, true, List, [], ◌∷◌, inl, inr, arith}
+use Rattle.std.specs.Prelude.{◌⊎◌, ◌&&◌, nat_lt}
+use Rattle.std.proofs.lemmas.Bool.{lt-ltb}
 use Rattle.std.proofs.lemmas.List.Elements.{All-weaker}
 use Rattle.mmsyntax.specs.declared.statement.Kind.{Kind}
 use Rattle.mmsyntax.specs.declared.statement.Kind.TheVariants.{Axiom, Theorem}
@@ -12,7 +13,7 @@ use Rattle.library.specs.declared.library.Ranked.{Ranked}
 use Rattle.ranges.specs.Ranges.{Range, Has, Within}
 use Rattle.ranges.specs.Pairs.{Pairs}
 use Rattle.cells.specs.State.{State, HasBody}
-use Rattle.cells.specs.Slots.{cell_count, next_cell}
+use Rattle.cells.specs.Slots.{cell_count, name_cell, statement_cell, proof_cell, next_cell, is_ranged}
 use Rattle.cells.specs.Shows.{Held, slots_of, IsNamed, IsStoredAs, AreStoredAs, HoldsProof, Holds, IsEmpty, IsChain, IsChained, Shows}
 use Rattle.cells.specs.Sight.{Suits}
 use Rattle.lawful.specs.declared.notes.Given.{Given}
@@ -22,12 +23,13 @@ use Rattle.lawful.specs.Laws.{ShownIsKept, LawfulIsKept}
 
 -- ---- what is shown
 
-module _ (slots : ℕ) (st next : State) (same : (c : ℕ) → c < cell_count slots → next.value c ≡ st.value c) (more : Within st.ranges next.ranges) where
-  body_kept : (cell : ℕ) (words : List ℕ) → cell < cell_count slots → HasBody st cell words → HasBody next cell words
-  body_kept cell words lt h = record { start = h.start; finished = more _ h.finished; named = same cell lt ∙ h.named; some = h.some }
+is_range_cell : (slots c : ℕ) → c < 5 * slots → c % 5 < 3 → is_ranged slots c ≡ true
+is_range_cell slots c below first = ap (λ b. b && nat_lt (c % 5) 3) (lt-ltb c (5 * slots) below) ∙ lt-ltb (c % 5) 3 first
 
+module _ (slots : ℕ) (st next : State) (same : (c : ℕ) → c < cell_count slots → next.value c ≡ st.value c)
+    (bodies : (c : ℕ) (words : List ℕ) → c < cell_count slots → is_ranged slots c ≡ true → HasBody st c words → HasBody next c words) where
   name_kept : (i : ℕ) (label : List ℕ) → IsNamed slots st i label → IsNamed slots next i label
-  name_kept i label h = let lt = h.within in record { within = lt; body = body_kept _ _ (omega (arith, lt)) h.body }
+  name_kept i label h = let lt = h.within in record { within = lt; body = bodies (name_cell i) _ (omega (arith, lt)) (is_range_cell slots (name_cell i) (omega (arith, lt)) (omega arith)) h.body }
 
   step_kept : (x : Step) (y : StoredStep) → IsStoredAs (IsNamed slots st) x y → IsStoredAs (IsNamed slots next) x y
   step_kept (Float i) (stored.Float j) h = h
@@ -48,14 +50,14 @@ module _ (slots : ℕ) (st next : State) (same : (c : ℕ) → c < cell_count sl
 
   proof_kept : (i : ℕ) (kind : Kind) (steps : List Step) → i < slots → HoldsProof slots st i kind steps → HoldsProof slots next i kind steps
   proof_kept i Axiom steps lt h = (same _ (omega (arith, lt)) ∙ h.0, h.1)
-  proof_kept i Theorem steps lt h = (h.0, body_kept _ _ (omega (arith, lt)) h.1, steps_kept steps h.0 h.2)
+  proof_kept i Theorem steps lt h = (h.0, bodies (proof_cell i) _ (omega (arith, lt)) (is_range_cell slots (proof_cell i) (omega (arith, lt)) (omega arith)) h.1, steps_kept steps h.0 h.2)
 
   holds_kept : (lib : List Ranked) (i : ℕ) (e : Ranked) → Holds slots st lib i e → Holds slots next lib i e
   holds_kept lib i e h =
       let lt = h.name.within in
       record {
         name = name_kept _ _ h.name;
-        statement = body_kept _ _ (omega (arith, lt)) h.statement;
+        statement = bodies (statement_cell i) _ (omega (arith, lt)) (is_range_cell slots (statement_cell i) (omega (arith, lt)) (omega arith)) h.statement;
         proof = proof_kept _ e.assertion.kind e.assertion.proof lt h.proof;
         rank = same _ (omega (arith, lt)) ∙ h.rank;
         citers = same _ (omega (arith, lt)) ∙ h.citers;
@@ -85,7 +87,7 @@ module _ (slots : ℕ) (st next : State) (same : (c : ℕ) → c < cell_count sl
   others_kept held i lt (inl h) = inl h
   others_kept held i lt (inr h) = inr (empty_kept i lt h)
 
-  shows_kept : (lib : List Ranked) → Shows slots st lib → Shows slots next lib
+  pub shows_kept : (lib : List Ranked) → Shows slots st lib → Shows slots next lib
   shows_kept lib h =
       record {
         held = h.held;
@@ -98,7 +100,9 @@ module _ (slots : ℕ) (st next : State) (same : (c : ℕ) → c < cell_count sl
       }
 
 pub shown_is_kept : ShownIsKept
-shown_is_kept slots st next lib same more h = shows_kept slots st next same more lib h
+shown_is_kept slots st next lib same more h =
+    shows_kept slots st next same
+    (λ c words lt ranged b. record { start = b.start; finished = more _ b.finished; named = same c lt ∙ b.named; some = b.some }) lib h
 
 -- ---- what is lawful
 

@@ -4,4 +4,5 @@ pub mod Standing
 mod Closed
 mod Unread
 mod Running
+mod Openings
 mod Small

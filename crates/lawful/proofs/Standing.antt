@@ -1,5 +1,5 @@
 -- What was seen of words that hold a library is a history of it, which the calls agree with.
-use Rattle.std.proofs.Common.{◌≡◌, ℕ, zero, suc, ◌+◌, ◌≤◌, List, [], ◌∷◌, length, get_or, Option, Some, None, Ok, refl, sym, ap, subst, ◌∙◌, arith}
+use Rattle.std.proofs.Common.{◌≡◌, ◌≢◌, ℕ, zero, suc, ◌+◌, ◌≤◌, List, [], ◌∷◌, length, get_or, Option, Some, None, Ok, refl, sym, ap, subst, ◌∙◌, arith}
 use Rattle.std.specs.Prelude.{slice_get, slice_index, All}
 use Rattle.std.proofs.lemmas.Option.{slice_get-get_or, slice_get_within, get_or_from_slice_get}
 use Rattle.std.proofs.lemmas.List.Elements.{All-nil, All-cons}
@@ -192,9 +192,6 @@ module _ (g : Given) (base : List ℕ) (seen : Seen Note) (legal : Legal library
       let d = of_done seen i cs replies at in
       said i d.0.writes d.0.note cs replies d.2 (done_does i d.0 d.1 (show i (below i _ at)))
 
-  pub is_history : IsHistoryOf g base seen
-  is_history = record { legal = legal_history; fit = fit; verify = verify; show = show }
-
   -- ---- the calls agree
 
   commit_agrees : (n i : ℕ) (writes : Pairs) (note : Note) → n ≡ suc i → slice_get h i ≡ Some (entry_of status.Done (Some note)) → Does i writes note
@@ -209,6 +206,41 @@ module _ (g : Given) (base : List ℕ) (seen : Seen Note) (legal : Legal library
       entry_at seen.history seen.notes i d.entry d.here
       ∙ ap (λ z. Some (entry_of z (slice_get seen.notes i))) d.done ∙ ap (λ z. Some (entry_of status.Done z)) d.note in
       commit_agrees n i w.writes w.note is at (done_does i w d (show i (below i _ at)))
+
+  pub is_history : IsHistoryOf g base seen
+  is_history =
+      record {
+        legal = legal_history;
+        fit = fit;
+        verify = verify;
+        show = show;
+        done = λ i w is. committed_agrees (suc i) i w refl is;
+        void = λ i is. entry_at seen.history seen.notes i is.0 is.1 ∙ ap (λ z. Some (entry_of z (slice_get seen.notes i))) is.2;
+        settled = λ i is at. stays_settled i is.0 is.1 is.2 is.0.status refl at;
+      }
+    where
+      noted_open : (note : Note) (i : ℕ) (writes : Pairs) → Does i writes note → entry_of status.Done (Some note) ≡ open_entry → ⊥
+      noted_open (Done commands replies) i writes d is = cc
+      noted_open (Refused commands refused) i writes d is = d
+      noted_open (Looked library) i writes d is = d
+
+      stays_settled : (i : ℕ) (e : WordsEntry) → slice_get seen.history i ≡ Some e → e.status ≢ status.Open → (t : Status) → e.status ≡ t
+          → slice_get h i ≡ Some open_entry → ⊥
+      stays_settled i e here shut status.Open is opened_at = shut is
+      stays_settled i e here shut status.Void is opened_at =
+          let at = entry_at seen.history seen.notes i e here in
+          let void = ap (λ z. entry_of z (slice_get seen.notes i)) is in
+          cc
+      stays_settled i e here shut status.Done is opened_at =
+          let within = slice_get_within seen.history i e here in
+          let size = noted in
+          let note = at_index seen.notes i (omega (arith, size, within)) in
+          let at = entry_at seen.history seen.notes i e here in
+          let done = ap (λ z. entry_of z (slice_get seen.notes i)) is in
+          let told = ap (entry_of status.Done) note.1 in
+          let w : Work Note = record { reads = e.reads; writes = e.writes; note = note.0 } in
+          let is_done : IsDone seen i w = record { entry = e; here = here; done = is; reads = refl; writes = refl; note = note.1 } in
+          noted_open note.0 i e.writes (done_does i w is_done (show i (omega (arith, within)))) cc
 
   answer_agrees : (k : ℕ) (reads : Pairs) (note : Note) → k ≤ length h → Permits library_terms g seen.ranges reads [] note → One base seen.history k reads
       → IsShown k → AnswerAgrees g h k note

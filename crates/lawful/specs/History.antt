@@ -1,5 +1,5 @@
 -- The history of commands and replies in what was seen of the words; when a call agrees with it, and what is promised of it.
-use Rattle.std.specs.Prelude.{◌≡◌, ℕ, ◌≤◌, List, [], ◌∷◌, Option, Some, None, All, length, slice_index}
+use Rattle.std.specs.Prelude.{◌≡◌, ◌≢◌, ℕ, suc, ◌≤◌, List, [], ◌∷◌, Option, Some, None, All, length, slice_get, slice_index}
 use Rattle.library.specs.declared.library.Ranked.{Ranked}
 use Rattle.library.specs.Library.{Verifies}
 use Rattle.library.specs.Histories.{Entry, open_entry, void_entry, done_entry, EntriesFit, after, IsLegal}
@@ -7,7 +7,8 @@ use Rattle.library.specs.Agrees.{Agrees, committed, read, refused, snapshot}
 use Rattle.tlcore.specs.History.{Entry as WordsEntry, deed, value_after}
 use Rattle.tlcore.specs.declared.entries.Status.{Status}
 use Rattle.tlcore.specs.declared.entries.Status.TheVariants as status
-use Rattle.tlwords.specs.Seen.{Seen, Call, Committed, Answered}
+use Rattle.tlwords.specs.Seen.{Seen, Work, Call, Committed, Answered, IsDone, IsSettled}
+use Rattle.tlwords.specs.Commits.{IsVoid}
 use Rattle.cells.specs.State.{State}
 use Rattle.cells.specs.Shows.{Shows}
 use Rattle.lawful.specs.declared.notes.Given.{Given}
@@ -47,14 +48,6 @@ library_after g seen k = after (setting_of g) (first_library g) (history_of seen
 abbrev pub state_after : List ℕ → Seen Note → ℕ → State
 state_after base seen k = record { value = λ c. value_after (deed seen.history c) (slice_index base c) k; ranges = seen.ranges }
 
--- each done entry has the replies of the definition of transactions, from the library at the opening, and commands within the limits; the
--- library after each front verifies, and the cells after it show it
-pub record IsHistoryOf (g : Given) (base : List ℕ) (seen : Seen Note) : Type 0 where
-  pub legal : IsLegal (setting_of g) (first_library g) (history_of seen)
-  pub fit : EntriesFit (setting_of g).prelude (history_of seen)
-  pub verify : (k : ℕ) → Verifies (setting_of g) (library_after g seen k)
-  pub show : (k : ℕ) → k ≤ length seen.history → Shows g.slots (state_after base seen k) (library_after g seen k)
-
 -- ---- calls
 
 -- the transaction with this note committed with this number
@@ -76,3 +69,18 @@ CallAgrees g h (Answered k work) = AnswerAgrees g h k work.note
 
 abbrev pub AllAgree : Given → List Entry → List (Call Note) → Type 0
 AllAgree g h calls = All (CallAgrees g h) calls
+
+-- ---- what was seen of words that hold a library
+
+-- the history is one of the library, and tells of each entry of the words
+pub record IsHistoryOf (g : Given) (base : List ℕ) (seen : Seen Note) : Type 0 where
+  -- each done entry has the replies of the definition of transactions, from the library at the opening, and commands within the limits
+  pub legal : IsLegal (setting_of g) (first_library g) (history_of seen)
+  pub fit : EntriesFit (setting_of g).prelude (history_of seen)
+  -- the library after each front verifies, and the cells after it show it
+  pub verify : (k : ℕ) → Verifies (setting_of g) (library_after g seen k)
+  pub show : (k : ℕ) → k ≤ length seen.history → Shows g.slots (state_after base seen k) (library_after g seen k)
+  -- a Done entry is done with what its note tells, a Void one is void, and what is settled is so here
+  pub done : (i : ℕ) (work : Work Note) → IsDone seen i work → CommitAgrees g (history_of seen) (suc i) work.note
+  pub void : (i : ℕ) → IsVoid seen i → slice_get (history_of seen) i ≡ Some void_entry
+  pub settled : (i : ℕ) → IsSettled seen.history i → slice_get (history_of seen) i ≢ Some open_entry

@@ -9,12 +9,13 @@ use Rattle.library.specs.declared.command.Command.{Command}
 use Rattle.library.specs.declared.command.Command.TheVariants.{Show}
 use Rattle.library.specs.declared.command.Reply.{Reply}
 use Rattle.library.specs.declared.reason.Refused.{Refused as Refusal}
-use Rattle.library.specs.Library.{IsSetting, ranked_from}
+use Rattle.library.specs.Library.{IsSetting, Verifies, ranked_from}
 use Rattle.library.specs.Fitting.{CommandFits}
 use Rattle.library.specs.Histories.{Grows, after_all}
 use Rattle.tlwords.specs.declared.closing.ClosedCell.{ClosedCell}
 use Rattle.tlwords.specs.declared.closing.ClosedWords.{ClosedWords}
 use Rattle.tlwords.specs.Seen.{Seen, SeenGrows, Call, Agree}
+use Rattle.tlwords.specs.Terms.{AreNamed}
 use Rattle.tlwords.specs.Known.{Known, Knows, Going, Stands}
 use Rattle.tlwords.specs.Closing.{Closes}
 use Rattle.ranges.specs.Pairs.{Pairs}
@@ -23,11 +24,13 @@ use Rattle.cells.specs.State.{State, most_words}
 use Rattle.cells.specs.Slots.{cell_count, is_ranged}
 use Rattle.cells.specs.Shows.{Shows}
 use Rattle.cells.specs.Sight.{Sight, Suits, Onward}
+use Rattle.cells.specs.declared.plain.PlainCells.{PlainCells}
+use Rattle.cells.specs.Opening.{Opens}
 use Rattle.commands.specs.Answers.{DoesAll, RefusesAll}
 use Rattle.lawful.specs.declared.notes.Given.{Given}
 use Rattle.lawful.specs.declared.notes.Note.{Note}
 use Rattle.lawful.specs.declared.notes.Note.TheVariants.{Done, Refused}
-use Rattle.lawful.specs.Lawful.{setting_of, first_library, state_of, sight_of, Lawful, library_terms}
+use Rattle.lawful.specs.Lawful.{setting_of, first_library, state_of, sight_of, OpensWell, Lawful, library_terms}
 use Rattle.lawful.specs.History.{history_of, library_after, state_after, IsHistoryOf, AllAgree}
 
 -- a library stays shown where further ranges are finished, whatever the cells behind its own hold
@@ -61,6 +64,16 @@ RunsAreLawful =
     → Lawful g new.ranges new.reads new.writes (Done commands replies))
     × ((refused : Snapshot Refusal) → RefusesAll old new commands.value refused.value → Lawful g new.ranges new.reads [] (Refused commands refused))
 
+-- ---- openings
+
+-- plain cells that a database opened, whose library verifies, open words well: with the values of their cells, and the ranges of their store
+-- that these name
+abbrev pub OpenedCellsOpenWell : Type 0
+OpenedCellsOpenWell =
+    (g : Given) (room : ℕ) (made : PlainCells) → Verifies (setting_of g) (first_library g) → Opens g.database.value g.slots room made
+    → OpensWell g (ranges_named (library_terms.ranged g) made.store.items made.values.items) made.values.items
+    × AreNamed library_terms g (ranges_named (library_terms.ranged g) made.store.items made.values.items) made.values.items
+
 -- ---- histories
 
 -- where more is seen, the history of commands and replies is a later one
@@ -90,16 +103,23 @@ RunsSuit =
     → Suits (sight_of g r.known.seen.ranges r.reads writes) (state_after r.known.home.base r.known.seen r.place)
     (library_after g r.known.seen r.place)
 
--- at the end, what was done to the words is a history of the library, which all calls agree with that agree with the words; and where no lock
--- is held, the words show the library after it
+-- at the end the words have one history, which is one of the library, and which the calls agree with that agree with the words
+abbrev pub ClosedHistoriesStand : Type 0
+ClosedHistoriesStand =
+    (g : Given) (base opened : List ℕ) (words : ClosedWords) (c : Closes library_terms g base opened words) → length words.store.items ≤ most_words
+    → IsHistoryOf g base c.seen × ((calls : List (Call Note)) → Agree library_terms g base c.seen calls → AllAgree g (history_of c.seen) calls)
+
+-- no lock of a cell is held
+abbrev pub AreFree : List ClosedCell → Type 0
+AreFree cells = (i : ℕ) (x : ClosedCell) → slice_get cells i ≡ Some x → x.lock % 2 ≡ 0
+
+-- and where no lock is held, the cells show the library after that history
 abbrev pub ClosedWordsShow : Type 0
 ClosedWordsShow =
     (g : Given) (base opened : List ℕ) (words : ClosedWords) (c : Closes library_terms g base opened words) → length words.store.items ≤ most_words
-    → IsHistoryOf g base c.seen
-    × ((calls : List (Call Note)) → Agree library_terms g base c.seen calls → AllAgree g (history_of c.seen) calls)
-    × (((i : ℕ) (x : ClosedCell) → slice_get words.cells.items i ≡ Some x → x.lock % 2 ≡ 0)
+    → AreFree words.cells.items
     → Shows g.slots (state_of (map (λ x. x.value) words.cells.items) c.seen.ranges)
-    (after_all (setting_of g) (first_library g) (history_of c.seen)))
+    (after_all (setting_of g) (first_library g) (history_of c.seen))
 
 -- ---- one assertion in two slots
 

@@ -1,7 +1,7 @@
 //! Laws of the definitions: each function does nothing, and its contract is the law.
 
-ghost use Rattle.lawful.specs.Laws.{ShownIsKept, LawfulIsKept, UnreadIsUnlawful, RunsAreLawful, OneAssertionIsShown};
-ghost use Rattle.lawful.specs.Laws.{HistoriesGrow, SessionsStand, OtherCallsAgree, RunsSuit, ClosedWordsShow};
+ghost use Rattle.lawful.specs.Laws.{ShownIsKept, LawfulIsKept, UnreadIsUnlawful, RunsAreLawful, OpenedCellsOpenWell, OneAssertionIsShown};
+ghost use Rattle.lawful.specs.Laws.{HistoriesGrow, SessionsStand, OtherCallsAgree, RunsSuit, ClosedHistoriesStand, ClosedWordsShow};
 
 /// Cells that show a library show it too where further ranges of the store are finished, whatever stands in cells behind the library's own.
 pub fn shown_is_kept()
@@ -23,6 +23,12 @@ pub fn runs_are_lawful()
     ensures { RunsAreLawful }
 {}
 
+/// Words may be opened with what a database's plain cells hold: their values show its library, and in range cells they name ranges of the
+/// store.
+pub fn opened_cells_open_well()
+    ensures { OpenedCellsOpenWell }
+{}
+
 /// Where more is seen of the words, the history of commands and replies is a later one: what was settled stays.
 pub fn histories_grow()
     ensures { HistoriesGrow }
@@ -41,10 +47,11 @@ pub fn runs_suit()
     ensures { RunsSuit }
 {}
 
-/// The words at the end have one history of the library, which the calls of all sessions agree with; and where no lock is held they show the
+/// The words at the end have one history of the library, which the calls of all sessions agree with; and where no lock is held, the cells show the
 /// library after it.
 pub fn closed_words_show()
-    ensures { ClosedWordsShow }
+    ensures stand { ClosedHistoriesStand }
+    ensures show { ClosedWordsShow }
 {}
 
 /// The words of a library of one assertion, in two slots, show it.
