@@ -13,8 +13,10 @@ use Rattle.lawful.proofs.Entries.{at_index, length-entries_of}
 use Rattle.lawful.proofs.Keeping.{shown_is_kept}
 use Rattle.lawful.proofs.Standing.{is_history, all_agree, small_store}
 
--- the value of a cell of a list of cells
-value_in : (cells : List ClosedCell) (i : ℕ) (x : ClosedCell) → slice_get cells i ≡ Some x → slice_index (map (λ (y : ClosedCell). y.value) cells) i ≡ x.value
+abbrev values_of : List ClosedCell → List ℕ
+values_of cells = map (λ x. x.value) cells
+
+value_in : (cells : List ClosedCell) (i : ℕ) (x : ClosedCell) → slice_get cells i ≡ Some x → slice_index (values_of cells) i ≡ x.value
 value_in cells i x at =
     get_or-map (λ (y : ClosedCell). y.value) cells i x 0 (slice_get_within cells i x at)
     ∙ ap (λ (y : ClosedCell). y.value) (get_or_from_slice_get cells i x x at)
@@ -33,7 +35,7 @@ closed_words_show g base opened words c small free =
     ap (library_after g seen) (sym size) ∙ ap (after_all (setting_of g) (first_library g)) (take_all _ (history_of seen) (omega arith)) in
     let count = c.shows.count in
     let wide = c.opening.opens.count in
-    shown_is_kept g.slots (state_after base seen (length seen.history)) (state_of (map (λ (y : ClosedCell). y.value) words.cells.items) seen.ranges) _
+    shown_is_kept g.slots (state_after base seen (length seen.history)) (state_of (values_of words.cells.items) seen.ranges) _
     (λ i lt.
     let x = at_index words.cells.items i (omega (arith, lt, count, wide)) in
     let even = free i x.0 x.1 in

@@ -49,8 +49,8 @@ done_parts status.Done (Some (Refused commands refused)) cs replies is = cc
 done_parts status.Done (Some (Looked library)) cs replies is = cc
 
 -- a done entry is that of a Done entry of the words, whose note has its commands and replies
-pub of_done : (seen : Seen Note) (i : ℕ) (cs : List Command) (replies : List Reply) → slice_get (history_of seen) i ≡ Some (done_entry cs replies)
-    → (w : Work Note) × IsDone seen i w × HasDone w.note cs replies
+pub of_done : (seen : Seen Note) (i : ℕ) (cs : List Command) (replies : List Reply)
+    → slice_get (history_of seen) i ≡ Some (done_entry cs replies) → (w : Work Note) × IsDone seen i w × HasDone w.note cs replies
 of_done seen i cs replies at =
     let size = length-entries_of seen.history seen.notes in
     let within = slice_get_within (history_of seen) i _ at in

@@ -28,8 +28,13 @@ is_range_cell slots c below first = ap (λ b. b && nat_lt (c % 5) 3) (lt-ltb c (
 
 module _ (slots : ℕ) (st next : State) (same : (c : ℕ) → c < cell_count slots → next.value c ≡ st.value c)
     (bodies : (c : ℕ) (words : List ℕ) → c < cell_count slots → is_ranged slots c ≡ true → HasBody st c words → HasBody next c words) where
+  kept_in : (c : ℕ) (words : List ℕ) → c < 5 * slots → c % 5 < 3 → HasBody st c words → HasBody next c words
+  kept_in c words below first h = bodies c words (omega (arith, below)) (is_range_cell slots c below first) h
+
   name_kept : (i : ℕ) (label : List ℕ) → IsNamed slots st i label → IsNamed slots next i label
-  name_kept i label h = let lt = h.within in record { within = lt; body = bodies (name_cell i) _ (omega (arith, lt)) (is_range_cell slots (name_cell i) (omega (arith, lt)) (omega arith)) h.body }
+  name_kept i label h =
+      let lt = h.within in
+      record { within = lt; body = kept_in (name_cell i) _ (omega (arith, lt)) (omega arith) h.body }
 
   step_kept : (x : Step) (y : StoredStep) → IsStoredAs (IsNamed slots st) x y → IsStoredAs (IsNamed slots next) x y
   step_kept (Float i) (stored.Float j) h = h
@@ -50,14 +55,15 @@ module _ (slots : ℕ) (st next : State) (same : (c : ℕ) → c < cell_count sl
 
   proof_kept : (i : ℕ) (kind : Kind) (steps : List Step) → i < slots → HoldsProof slots st i kind steps → HoldsProof slots next i kind steps
   proof_kept i Axiom steps lt h = (same _ (omega (arith, lt)) ∙ h.0, h.1)
-  proof_kept i Theorem steps lt h = (h.0, bodies (proof_cell i) _ (omega (arith, lt)) (is_range_cell slots (proof_cell i) (omega (arith, lt)) (omega arith)) h.1, steps_kept steps h.0 h.2)
+  proof_kept i Theorem steps lt h =
+      (h.0, kept_in (proof_cell i) _ (omega (arith, lt)) (omega arith) h.1, steps_kept steps h.0 h.2)
 
   holds_kept : (lib : List Ranked) (i : ℕ) (e : Ranked) → Holds slots st lib i e → Holds slots next lib i e
   holds_kept lib i e h =
       let lt = h.name.within in
       record {
         name = name_kept _ _ h.name;
-        statement = bodies (statement_cell i) _ (omega (arith, lt)) (is_range_cell slots (statement_cell i) (omega (arith, lt)) (omega arith)) h.statement;
+        statement = kept_in (statement_cell i) _ (omega (arith, lt)) (omega arith) h.statement;
         proof = proof_kept _ e.assertion.kind e.assertion.proof lt h.proof;
         rank = same _ (omega (arith, lt)) ∙ h.rank;
         citers = same _ (omega (arith, lt)) ∙ h.citers;
@@ -75,7 +81,8 @@ module _ (slots : ℕ) (st next : State) (same : (c : ℕ) → c < cell_count sl
       }
 
   -- the slots of a chain that goes on with the word of a cell
-  chain_kept : (is : List ℕ) (cell : ℕ) → cell < cell_count slots → IsChain slots st is (st.value cell) → IsChain slots next is (next.value cell)
+  chain_kept : (is : List ℕ) (cell : ℕ) → cell < cell_count slots → IsChain slots st is (st.value cell)
+      → IsChain slots next is (next.value cell)
   chain_kept [] cell lt h = same cell lt ∙ h
   chain_kept (i ∷ is) cell lt h =
       let slot = h.0 in (h.0, same cell lt ∙ h.1, chain_kept is (next_cell slots i) (omega (arith, slot)) h.2)
@@ -83,7 +90,8 @@ module _ (slots : ℕ) (st next : State) (same : (c : ℕ) → c < cell_count sl
   chained_kept : (held : List Held) (b : ℕ) → b < slots → IsChained slots st held b → IsChained slots next held b
   chained_kept held b lt h = record { chain = h.chain; starts = chain_kept h.chain _ (omega (arith, lt)) h.starts; has = h.has }
 
-  others_kept : (held : List Held) (i : ℕ) → i < slots → Has i (slots_of held) ⊎ IsEmpty slots st i → Has i (slots_of held) ⊎ IsEmpty slots next i
+  others_kept : (held : List Held) (i : ℕ) → i < slots → Has i (slots_of held) ⊎ IsEmpty slots st i
+      → Has i (slots_of held) ⊎ IsEmpty slots next i
   others_kept held i lt (inl h) = inl h
   others_kept held i lt (inr h) = inr (empty_kept i lt h)
 

@@ -1,5 +1,6 @@
 -- What plain cells hold that a database opened opens words well.
-use Rattle.std.proofs.Common.{◌≡◌, ℕ, true, ◌/◌, ◌%◌, ◌^◌, ◌≤◌, List, [], length, take, drop, Some, inl, inr, refl, sym, ap, subst, ◌∙◌, arith}
+use Rattle.std.proofs.Common.{◌≡◌, ℕ, true, ◌/◌, ◌%◌, ◌^◌, ◌≤◌, List, [], length, take, drop, Some, inl, inr, refl, sym, ap, subst, ◌∙◌}
+use Rattle.std.proofs.Common.{arith}
 use Rattle.std.specs.Prelude.{slice_get, slice_index}
 use Rattle.std.proofs.lemmas.Option.{slice_get-get_or}
 use Rattle.library.specs.declared.library.Ranked.{Ranked}
@@ -21,7 +22,8 @@ module _ (slots : ℕ) (values store : List ℕ) (places : List Place) (lie : Li
   named = ranges_named (is_ranged slots) store values
 
   -- a range of the store that the value of a range cell names is one that is named
-  named_at : (c v : ℕ) (r : Range) → slice_get values c ≡ Some v → is_ranged slots c ≡ true → Has r (ranges_in store places) → v ≡ word_of r → Has r named
+  named_at : (c v : ℕ) (r : Range) → slice_get values c ≡ Some v → is_ranged slots c ≡ true → Has r (ranges_in store places)
+      → v ≡ word_of r → Has r named
   named_at c v r at ranged has is =
       let f = place_of store places r has in
       let inside = lie f.0 f.1 f.2 in
@@ -31,7 +33,8 @@ module _ (slots : ℕ) (values store : List ℕ) (places : List Place) (lie : Li
       let start : r.start ≡ f.1.start = ap (λ (q : Range). q.start) f.3 in
       let first : v / 2 ^ 25 ≡ f.1.start = omega (arith, is, size, start, within, short) in
       let count : v % 2 ^ 25 ≡ f.1.len = omega (arith, is, size, start, within, short) in
-      let same : range_named store v ≡ range_in store f.1 = λ i. record { start = first i; words = take (count i) (drop (first i) store) } in
+      let same : range_named store v ≡ range_in store f.1 =
+      λ i. record { start = first i; words = take (count i) (drop (first i) store) } in
       let none_long : r.words ≡ [] → length r.words ≡ 0 = λ none. ap length none in
       has_its_ranges (is_ranged slots) store values r (
         c,
@@ -56,7 +59,8 @@ module _ (slots : ℕ) (values store : List ℕ) (places : List Place) (lie : Li
       })
       lib shown
 
-  named_names : HoldNames slots values (ranges_in store places) → (c v : ℕ) → slice_get values c ≡ Some v → is_ranged slots c ≡ true → Names named v
+  named_names : HoldNames slots values (ranges_in store places) → (c v : ℕ) → slice_get values c ≡ Some v → is_ranged slots c ≡ true
+      → Names named v
   named_names hold c v at ranged = go (names_true (ranges_in store places) v (hold c v at ranged))
     where
       go : Names (ranges_in store places) v → Names named v
@@ -73,7 +77,8 @@ opened_cells_open_well g room made verifies opens =
     subst (λ (n : ℕ). HoldNames n made.values.items (ranges_in made.store.items made.ranges.items)) opens.slots_are made.names in (
       record {
         count = long;
-        shows = named_shows g.slots made.values.items made.store.items made.ranges.items made.lie short long (opening g.database.value) opens.shows.0;
+        shows = named_shows g.slots made.values.items made.store.items made.ranges.items made.lie short long
+            (opening g.database.value) opens.shows.0;
         verifies = verifies;
       },
       named_names g.slots made.values.items made.store.items made.ranges.items made.lie short hold,

@@ -21,7 +21,8 @@ no_edit true old new some none =
     cc
 no_edit false old new looks none = refl
 
-module _ (g : Given) (old new : Sight) (setting : old.setting ≡ setting_of g) (blank : old.writes ≡ []) (onward : Onward old new) (writes : Pairs) where
+module _ (g : Given) (old new : Sight) (setting : old.setting ≡ setting_of g) (blank : old.writes ≡ []) (onward : Onward old new)
+    (writes : Pairs) where
   -- what suits the run at its end matches it
   matches_new : (st : State) (lib : List Ranked) → Suits (sight_of g new.ranges new.reads writes) st lib → Matches new st
   matches_new st lib s = record { store = s.matches.store; has = s.matches.has; reads = s.matches.reads }
@@ -46,7 +47,8 @@ runs_are_lawful g old new commands setting blank onward fit = (
         (views_old g old new setting blank onward new.writes st lib s) in
         record {
           next = d.0;
-          applied = subst (λ (x : Setting). apply x lib commands.value ≡ Ok (record { library = d.0; replies = replies.value })) setting d.1;
+          applied =
+              subst (λ (x : Setting). apply x lib commands.value ≡ Ok (record { library = d.0; replies = replies.value })) setting d.1;
           shows = subst (λ (x : Setting). Shows x.slots (after new st) d.0) (onward.setting ∙ setting) d.2;
         },
   ),

@@ -1,5 +1,6 @@
 -- What was seen of words that hold a library is a history of it, which the calls agree with.
-use Rattle.std.proofs.Common.{◌≡◌, ◌≢◌, ℕ, zero, suc, ◌+◌, ◌≤◌, List, [], ◌∷◌, length, get_or, Option, Some, None, Ok, refl, sym, ap, subst, ◌∙◌, arith}
+use Rattle.std.proofs.Common.{◌≡◌, ◌≢◌, ℕ, zero, suc, ◌+◌, ◌≤◌, List, [], ◌∷◌, length, get_or, Option, Some, None, Ok, refl, sym, ap}
+use Rattle.std.proofs.Common.{subst, ◌∙◌, arith}
 use Rattle.std.specs.Prelude.{slice_get, slice_index, All}
 use Rattle.std.proofs.lemmas.Option.{slice_get-get_or, slice_get_within, get_or_from_slice_get}
 use Rattle.std.proofs.lemmas.List.Elements.{All-nil, All-cons}
@@ -27,7 +28,8 @@ use Rattle.lawful.specs.declared.notes.Given.{Given}
 use Rattle.lawful.specs.declared.notes.Note.{Note}
 use Rattle.lawful.specs.declared.notes.Note.TheVariants.{Done, Refused, Looked}
 use Rattle.lawful.specs.Lawful.{setting_of, first_library, state_of, sight_of, library_terms}
-use Rattle.lawful.specs.History.{entry_of, history_of, library_after, state_after, IsHistoryOf, CommitAgrees, AnswerAgrees, CallAgrees, AllAgree}
+use Rattle.lawful.specs.History.{entry_of, history_of, library_after, state_after, IsHistoryOf, CommitAgrees, AnswerAgrees, CallAgrees}
+use Rattle.lawful.specs.History.{AllAgree}
 use Rattle.lawful.specs.Laws.{SessionsStand, OtherCallsAgree, RunsSuit}
 use Rattle.lawful.proofs.Entries.{at_index, length-entries_of, entry_at, HasDone, of_done}
 use Rattle.lawful.proofs.Keeping.{shown_is_kept}
@@ -48,7 +50,8 @@ done_over : (w : Option ℕ) (v : ℕ) → value_over (deed_of status.Done w) v 
 done_over None v = refl
 done_over (Some x) v = refl
 
-one_fits : (base : List ℕ) (seen : Seen Note) (k : ℕ) (reads : Pairs) → One base seen.history k reads → FitsReads (state_after base seen k) reads
+one_fits : (base : List ℕ) (seen : Seen Note) (k : ℕ) (reads : Pairs) → One base seen.history k reads
+    → FitsReads (state_after base seen k) reads
 one_fits base seen k [] one = tt
 one_fits base seen k (r ∷ reads) one = (one.0.0, one_fits base seen k reads one.1)
 
@@ -60,7 +63,8 @@ after_next s lib h k e at =
     ap (λ n. after s lib h n) more ∙ after-more s lib h k e (slice_get_within h k e at) (sym (get_or_from_slice_get h k e e at))
 
 module _ (g : Given) (base : List ℕ) (seen : Seen Note) (legal : Legal library_terms g base seen)
-    (noted : length seen.notes ≡ length seen.history) (opened : Opened library_terms g seen.ranges base) (store : AreOfOneStore most_words seen.ranges) where
+    (noted : length seen.notes ≡ length seen.history) (opened : Opened library_terms g seen.ranges base)
+    (store : AreOfOneStore most_words seen.ranges) where
   abbrev h : List Entry
   h = history_of seen
 
@@ -75,8 +79,8 @@ module _ (g : Given) (base : List ℕ) (seen : Seen Note) (legal : Legal library
 
   -- ---- commands are within the limits, so each front verifies
 
-  note_fits : (reads writes : Pairs) (note : Note) (cs : List Command) (replies : List Reply) → Permits library_terms g seen.ranges reads writes note
-      → HasDone note cs replies → All (CommandFits s.prelude) cs
+  note_fits : (reads writes : Pairs) (note : Note) (cs : List Command) (replies : List Reply)
+      → Permits library_terms g seen.ranges reads writes note → HasDone note cs replies → All (CommandFits s.prelude) cs
   note_fits reads writes (Done commands said) cs replies p has = subst (All (CommandFits s.prelude)) has.0 p.lawful.0
   note_fits reads writes (Refused commands refused) cs replies p has = absurd has
   note_fits reads writes (Looked library) cs replies p has = absurd has
@@ -100,7 +104,8 @@ module _ (g : Given) (base : List ℕ) (seen : Seen Note) (legal : Legal library
   IsShown k = Shows g.slots (st_at k) (lib_at k)
 
   -- what was one version after k entries suits the cells there
-  suits : (k : ℕ) (reads writes : Pairs) (note : Note) (p : Permits library_terms g seen.ranges reads writes note) → One base seen.history k reads → IsShown k
+  suits : (k : ℕ) (reads writes : Pairs) (note : Note) (p : Permits library_terms g seen.ranges reads writes note)
+      → One base seen.history k reads → IsShown k
       → Suits (sight_of g p.some reads writes) (st_at k) (lib_at k)
   suits k reads writes note p one shown =
       record {
@@ -129,7 +134,8 @@ module _ (g : Given) (base : List ℕ) (seen : Seen Note) (legal : Legal library
   done_does : (k : ℕ) (w : Work Note) → IsDone seen k w → IsShown k → Does k w.writes w.note
   done_does k w is shown = let l = legal k w is in does k w.reads w.writes w.note l.0 l.1 l.2 shown
 
-  module _ (k : ℕ) (e : WordsEntry) (note : Note) (here : slice_get seen.history k ≡ Some e) (named : slice_get seen.notes k ≡ Some note) where
+  module _ (k : ℕ) (e : WordsEntry) (note : Note) (here : slice_get seen.history k ≡ Some e)
+      (named : slice_get seen.notes k ≡ Some note) where
     value_next : (t : Status) → e.status ≡ t → (c : ℕ)
         → value_after (deed seen.history c) (slice_index base c) (suc k) ≡ value_over (deed_of t (written c e.writes)) ((st_at k).value c)
     value_next t is c =
@@ -145,7 +151,8 @@ module _ (g : Given) (base : List ℕ) (seen : Seen Note) (legal : Legal library
     same_shown : (new : ℕ → ℕ) (lib : List Ranked) → ((c : ℕ) → (st_at (suc k)).value c ≡ new c) → lib_at (suc k) ≡ lib
         → Shows g.slots (record { value = new; ranges = seen.ranges }) lib → IsShown (suc k)
     same_shown new lib values library shown =
-        let state : st_at (suc k) ≡ record { value = new; ranges = seen.ranges } = λ i. record { value = λ c. values c i; ranges = seen.ranges } in
+        let state : st_at (suc k) ≡ record { value = new; ranges = seen.ranges } =
+        λ i. record { value = λ c. values c i; ranges = seen.ranges } in
         subst (λ z. Shows g.slots (st_at (suc k)) z) (sym library) (subst (λ z. Shows g.slots z lib) (sym state) shown)
 
     done_next : (n : Note) → note ≡ n → e.status ≡ status.Done → Does k e.writes n → IsShown (suc k)
@@ -185,7 +192,9 @@ module _ (g : Given) (base : List ℕ) (seen : Seen Note) (legal : Legal library
   said k writes (Looked library) cs replies has d = absurd has
 
   below : (i : ℕ) (e : Entry) → slice_get h i ≡ Some e → i ≤ length seen.history
-  below i e at = let size = length-entries_of seen.history seen.notes in let within = slice_get_within h i e at in omega (arith, size, within)
+  below i e at =
+      let size = length-entries_of seen.history seen.notes in
+      let within = slice_get_within h i e at in omega (arith, size, within)
 
   legal_history : IsLegal s (first_library g) h
   legal_history i cs replies at =
@@ -194,7 +203,8 @@ module _ (g : Given) (base : List ℕ) (seen : Seen Note) (legal : Legal library
 
   -- ---- the calls agree
 
-  commit_agrees : (n i : ℕ) (writes : Pairs) (note : Note) → n ≡ suc i → slice_get h i ≡ Some (entry_of status.Done (Some note)) → Does i writes note
+  commit_agrees : (n i : ℕ) (writes : Pairs) (note : Note) → n ≡ suc i → slice_get h i ≡ Some (entry_of status.Done (Some note))
+      → Does i writes note
       → CommitAgrees g h n note
   commit_agrees n i writes (Done commands replies) is at d = (i, omega (arith, is), at)
   commit_agrees n i writes (Refused commands refused) is at d = d
@@ -242,13 +252,15 @@ module _ (g : Given) (base : List ℕ) (seen : Seen Note) (legal : Legal library
           let is_done : IsDone seen i w = record { entry = e; here = here; done = is; reads = refl; writes = refl; note = note.1 } in
           noted_open note.0 i e.writes (done_does i w is_done (show i (omega (arith, within)))) cc
 
-  answer_agrees : (k : ℕ) (reads : Pairs) (note : Note) → k ≤ length h → Permits library_terms g seen.ranges reads [] note → One base seen.history k reads
+  answer_agrees : (k : ℕ) (reads : Pairs) (note : Note) → k ≤ length h → Permits library_terms g seen.ranges reads [] note
+      → One base seen.history k reads
       → IsShown k → AnswerAgrees g h k note
   answer_agrees k reads (Done commands replies) le p one shown =
       let d = p.lawful.2 _ _ (suits k reads [] (Done commands replies) p one shown) in
       let same : d.next ≡ lib_at k = apply_leaves s (lib_at k) commands.value _ (p.lawful.1 refl) d.applied in
       (le, subst (λ z. apply s (lib_at k) commands.value ≡ Ok (record { library = z; replies = replies.value })) same d.applied)
-  answer_agrees k reads (Refused commands refused) le p one shown = (le, p.lawful.2 _ _ (suits k reads [] (Refused commands refused) p one shown))
+  answer_agrees k reads (Refused commands refused) le p one shown =
+      (le, p.lawful.2 _ _ (suits k reads [] (Refused commands refused) p one shown))
   answer_agrees k reads (Looked library) le p one shown = (p.lawful.0, (le, p.lawful.2 _ _ (suits k reads [] (Looked library) p one shown)))
 
   call_agrees : (call : Call Note) → WordsAgree library_terms g base seen call → CallAgrees g h call
@@ -268,11 +280,13 @@ small_store ranges small one = ((λ r has i lt. let inside = one.0 r has i lt in
 
 pub other_calls_agree : OtherCallsAgree
 other_calls_agree g k calls is knows agree =
-    all_agree g k.home.base k.seen (knows.legal g is.0) knows.noted (knows.opening g is.0) (small_store k.seen.ranges is.1 (knows.ranges g is.0)) calls agree
+    all_agree g k.home.base k.seen (knows.legal g is.0) knows.noted (knows.opening g is.0)
+    (small_store k.seen.ranges is.1 (knows.ranges g is.0)) calls agree
 
 pub sessions_stand : SessionsStand
 sessions_stand g k is knows = (
-  is_history g k.home.base k.seen (knows.legal g is.0) knows.noted (knows.opening g is.0) (small_store k.seen.ranges is.1 (knows.ranges g is.0)),
+  is_history g k.home.base k.seen (knows.legal g is.0) knows.noted (knows.opening g is.0)
+      (small_store k.seen.ranges is.1 (knows.ranges g is.0)),
   other_calls_agree g k k.mine is knows (knows.mine g is.0),
 )
 

@@ -48,26 +48,27 @@ LawfulIsKept =
 -- a transaction that shows an assertion and read nothing isn't lawful: a library without assertions may lie there as well
 abbrev pub UnreadIsUnlawful : Type 0
 UnreadIsUnlawful =
-    (g : Given) (ranges : List Range) (writes : Pairs) (commands : Snapshot (List Command)) (replies : Snapshot (List Reply)) (label : List ℕ)
-    → IsSetting (setting_of g) → AreOfOneStore most_words ranges → commands.value ≡ Show label ∷ []
+    (g : Given) (ranges : List Range) (writes : Pairs) (commands : Snapshot (List Command)) (replies : Snapshot (List Reply))
+    → (label : List ℕ) → IsSetting (setting_of g) → AreOfOneStore most_words ranges → commands.value ≡ Show label ∷ []
     → Lawful g ranges [] writes (Done commands replies) → ⊥
 
 -- ---- runs of commands
 
--- what a run of commands on the cells gives is lawful: from a sight of words that hold a library, with nothing kept aside, to one with what the
--- run has seen and what it keeps aside. Where it is refused, what it keeps aside is thrown away
+-- a run of commands that begins with nothing kept aside is lawful where it is done, with what it has seen and keeps aside at its end; and
+-- where it is refused, once what it keeps aside is thrown away
 abbrev pub RunsAreLawful : Type 0
 RunsAreLawful =
     (g : Given) (old new : Sight) (commands : Snapshot (List Command)) → old.setting ≡ setting_of g → old.writes ≡ [] → Onward old new
     → All (CommandFits (setting_of g).prelude) commands.value
     → ((replies : Snapshot (List Reply)) → DoesAll old new commands.value replies.value
     → Lawful g new.ranges new.reads new.writes (Done commands replies))
-    × ((refused : Snapshot Refusal) → RefusesAll old new commands.value refused.value → Lawful g new.ranges new.reads [] (Refused commands refused))
+    × ((refused : Snapshot Refusal) → RefusesAll old new commands.value refused.value
+    → Lawful g new.ranges new.reads [] (Refused commands refused))
 
 -- ---- openings
 
--- plain cells that a database opened, whose library verifies, open words well: with the values of their cells, and the ranges of their store
--- that these name
+-- where a database opened plain cells and its library verifies, these open words well: with the values of the cells, and the ranges of the
+-- store that these name
 abbrev pub OpenedCellsOpenWell : Type 0
 OpenedCellsOpenWell =
     (g : Given) (room : ℕ) (made : PlainCells) → Verifies (setting_of g) (first_library g) → Opens g.database.value g.slots room made
@@ -106,8 +107,10 @@ RunsSuit =
 -- at the end the words have one history, which is one of the library, and which the calls agree with that agree with the words
 abbrev pub ClosedHistoriesStand : Type 0
 ClosedHistoriesStand =
-    (g : Given) (base opened : List ℕ) (words : ClosedWords) (c : Closes library_terms g base opened words) → length words.store.items ≤ most_words
-    → IsHistoryOf g base c.seen × ((calls : List (Call Note)) → Agree library_terms g base c.seen calls → AllAgree g (history_of c.seen) calls)
+    (g : Given) (base opened : List ℕ) (words : ClosedWords) (c : Closes library_terms g base opened words)
+    → length words.store.items ≤ most_words
+    → IsHistoryOf g base c.seen
+    × ((calls : List (Call Note)) → Agree library_terms g base c.seen calls → AllAgree g (history_of c.seen) calls)
 
 -- no lock of a cell is held
 abbrev pub AreFree : List ClosedCell → Type 0
@@ -116,7 +119,8 @@ AreFree cells = (i : ℕ) (x : ClosedCell) → slice_get cells i ≡ Some x → 
 -- and where no lock is held, the cells show the library after that history
 abbrev pub ClosedWordsShow : Type 0
 ClosedWordsShow =
-    (g : Given) (base opened : List ℕ) (words : ClosedWords) (c : Closes library_terms g base opened words) → length words.store.items ≤ most_words
+    (g : Given) (base opened : List ℕ) (words : ClosedWords) (c : Closes library_terms g base opened words)
+    → length words.store.items ≤ most_words
     → AreFree words.cells.items
     → Shows g.slots (state_of (map (λ x. x.value) words.cells.items) c.seen.ranges)
     (after_all (setting_of g) (first_library g) (history_of c.seen))

@@ -34,9 +34,9 @@ pub fn histories_grow()
     ensures { HistoriesGrow }
 {}
 
-/// What a pass has seen of words that hold a library is a history of that library: each transaction's replies are those of the definition, from
-/// the library at the opening, and the library after each front verifies and is what the cells show there. The calls of the pass agree
-/// with it, and so do those of others that it has learnt of.
+/// What a pass has seen of words that hold a library is a history of that library: each transaction's replies are those of the definition,
+/// from the library at the opening; the library after each front verifies, and the cells show it there. The calls of the pass agree with
+/// it, and so do those of others that it has learnt of.
 pub fn sessions_stand()
     ensures stand { SessionsStand }
     ensures others { OtherCallsAgree }
@@ -47,8 +47,8 @@ pub fn runs_suit()
     ensures { RunsSuit }
 {}
 
-/// The words at the end have one history of the library, which the calls of all sessions agree with; and where no lock is held, the cells show the
-/// library after it.
+/// The words at the end have one history of the library, which the calls of all sessions agree with; and where no lock is held, the cells
+/// show the library after it.
 pub fn closed_words_show()
     ensures stand { ClosedHistoriesStand }
     ensures show { ClosedWordsShow }

@@ -1,8 +1,8 @@
 //! Libraries in running words: which transactions on the cells of a library are lawful, and what a history of lawful ones says.
 //!
-//! It joins two layers. `tlwords` runs words that transactions share, keeps a law of its caller's choice for each of them, and tells each session
-//! a history of them; `cells` says when such words show a library. Here stand the law of a library's transactions, and what follows
-//! from it for each history that a session is told: it is one of the library's own definitions. Nothing runs here.
+//! It joins two layers. `tlwords` runs words that transactions share, keeps a law of its caller's choice for each transaction, and tells
+//! each session a history of them; `cells` says when such words show a library. Here stands the law of a library's transactions, and what
+//! follows from it of each history that a session is told: it is a history of the library, by the definitions. Nothing runs here.
 #![tactic(auto)]
 
 mod law;
