@@ -43,7 +43,7 @@ abbrev pub ForEachUnder : Sight → (State → List Ranked → Type 0) → Type 
 ForEachUnder s told = (st : State) (lib : List Ranked) → Suits s st lib → told st lib
 
 -- the commands give these replies, and with what the run keeps aside the state shows the library after them
-pub record IsDone (s : Sight) (st : State) (lib : List Ranked) (commands : List Command) (replies : List Reply) : Type 0 where
+pub record IsApplied (s : Sight) (st : State) (lib : List Ranked) (commands : List Command) (replies : List Reply) : Type 0 where
   pub next : List Ranked
   pub applied : apply s.setting lib commands ≡ Ok (record { library = next; replies = replies })
   pub shows : Shows s.setting.slots (after s st) next
@@ -57,7 +57,7 @@ Fit s commands = All (CommandFits s.setting.prelude) commands
 abbrev pub DoesAsSaid : Sight → Note → Type 0
 DoesAsSaid s (Done commands replies) =
     Fit s commands.value × (s.writes ≡ [] → has_edit commands.value ≡ false)
-    × ForEachUnder s (λ st lib. IsDone s st lib commands.value replies.value)
+    × ForEachUnder s (λ st lib. IsApplied s st lib commands.value replies.value)
 DoesAsSaid s (Refused commands refused) =
     Fit s commands.value × (s.writes ≡ []) × ForEachUnder s (λ st lib. apply s.setting lib commands.value ≡ Err refused.value)
 DoesAsSaid s (Looked library) =
