@@ -34,7 +34,7 @@ shows_none slots st zeros = (
   refl,
 )
 
-none_verifies : (s : Setting) → IsSetting s → Verifies s []
+pub none_verifies : (s : Setting) → IsSetting s → Verifies s []
 none_verifies s h =
     record {
       setting = h;

@@ -1,0 +1,8 @@
+pub mod Keeping
+pub mod Entries
+pub mod Standing
+mod Closed
+mod Unread
+mod Running
+mod Openings
+mod Small
