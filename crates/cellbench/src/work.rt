@@ -1,15 +1,13 @@
 //! The tasks.
 
-ghost use Rattle.std.specs.Prelude.{◌≡◌, All};
 ghost use Rattle.proofcheck.specs.Databases.{AllCheck};
-ghost use Rattle.library.specs.Fitting.{CommandFits};
 
 use crate::task::Task;
 use cells::{Cells, PlainCells, entry};
 use commands::RunError;
 use history::{ApplyError, Editor};
 use mmstatement::{Database, read_database};
-use pairs::InCells;
+use pairs::{InCells, all_fit};
 use proofcheck::check_all;
 use scripts::read_script;
 use std::alloc::{AllocError, Global};
@@ -117,6 +115,9 @@ fn edit(
     };
     let (mut done, mut refused) = (0_usize, 0_usize);
     for transaction in script.as_slice() {
+        if !all_fit(editor.prelude(), transaction.as_slice()) {
+            return Ok(None);
+        }
         match editor.apply(alloc, transaction.as_slice()) {
             Ok(_) => done = done.saturating_add(1),
             Err(ApplyError::Refused(_)) => refused = refused.saturating_add(1),
@@ -138,6 +139,9 @@ fn write(alloc: Global, db: &Database, script: &[u8]) -> Result<Option<Done>, Al
     };
     let (mut done, mut refused) = (0_usize, 0_usize);
     for transaction in script.as_slice() {
+        if !all_fit(cells.prelude(), transaction.as_slice()) {
+            return Ok(None);
+        }
         match cells.apply(alloc, transaction.as_slice()) {
             Ok(_) => done = done.saturating_add(1),
             Err(RunError::Refused(_)) => refused = refused.saturating_add(1),

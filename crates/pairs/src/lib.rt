@@ -5,4 +5,4 @@ mod in_cells;
 mod pair;
 
 pub use in_cells::InCells;
-pub use pair::{Outcome, Pair};
+pub use pair::{Outcome, Pair, all_fit};

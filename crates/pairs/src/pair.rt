@@ -115,7 +115,7 @@ impl Pair {
 }
 
 /// Whether all commands are within the limits of a prelude.
-fn all_fit(prelude: &Prelude, commands: &[Command]) -> bool
+pub fn all_fit(prelude: &Prelude, commands: &[Command]) -> bool
     ensures { IsTrue result → All (CommandFits prelude.now) commands.now }
 {
     commands.iter().all(|command| command.fits(prelude))
