@@ -86,8 +86,8 @@ fn an_added_theorem_lies_from_its_bucket_on(rt: HostRuntime) -> Result<(), Fail>
 fn an_empty_slot_is_looked_for_going_round(rt: HostRuntime) -> Result<(), Fail> {
     let alloc = rt.alloc();
     let mut cells = opened(&rt, mini(), 4, 100)?;
-    let prelude = cells.prelude().copy(alloc)?;
     assert_eq!(rt; free_from(&mut cells, 3), Some(Some(3)));
+    let prelude = cells.prelude().copy(alloc)?;
     // `c` is the byte 99, and 99 mod 4 is 3
     let script = b"begin add 200 c $p wff $= we $. commit";
     let answer = done_in(alloc, &prelude, &mut cells, script)?;
@@ -136,6 +136,7 @@ fn a_full_store_stops_a_transaction(rt: HostRuntime) -> Result<(), Fail> {
     let renamed = done_in(alloc, &prelude, &mut cells, b"begin rename we wz commit")?;
     assert!(rt; matches!(renamed, Err(RunError::Stopped(PlainStop::StoreFull))));
     cells.undo();
+    let prelude = cells.prelude().copy(alloc)?;
     let deleted = done_in(alloc, &prelude, &mut cells, b"begin delete we commit")?;
     assert!(rt; matches!(deleted, Ok(1)));
     Ok(())
