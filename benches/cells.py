@@ -1,11 +1,12 @@
 #!/usr/bin/env python3
 """A library in cells beside the one-thread editor: opening, reading back, and transactions of one kind.
 
-    cells.py DB.. [--program crates/cellbench/out/cellbench] [--transactions 2000] [--rounds 3] [--seed 1] [--out DIR]
+    cells.py DB.. [--program crates/cellbench/out/cellbench] [--beside CMD] [--transactions 2000] [--lists 20] [--rounds 3] [--seed 1] [--out DIR]
 
 For each DB it takes the time of reading and checking, of opening in plain cells (less the former) and of reading all back (less that); and
 for scripts of renames, shows, small additions, moves, deletions and lists the time of the transactions by the editor and over cells, each less that of
-an empty script. Medians over the rounds, taken in turns; in milliseconds. What both count as done and refused has to be the same.
+an empty script; and by another program of mmrefactor's command line, if one is named. Medians over the rounds, taken in turns; in milliseconds.
+What the two count as done and refused has to be the same.
 """
 
 import argparse
@@ -55,6 +56,7 @@ def main():
     parser = argparse.ArgumentParser(description=__doc__.splitlines()[0])
     parser.add_argument("databases", nargs="+", type=pathlib.Path)
     parser.add_argument("--program", default=TOP / "crates/cellbench/out/cellbench", type=pathlib.Path)
+    parser.add_argument("--beside", help="an editor of mmrefactor's command line, as a yardstick", type=str)
     parser.add_argument("--transactions", type=int, default=2000)
     parser.add_argument("--lists", type=int, default=20)
     parser.add_argument("--rounds", type=int, default=3)
@@ -92,7 +94,11 @@ def main():
             if len(printed) != 1:
                 raise SystemExit(f"{database.name} {kind}: the two differ: {printed}")
             editor, cells = median(spent["editor"]), median(spent["cells"])
-            print(f"{database.name} {kind} x{count}: editor {editor:.1f}, cells {cells:.1f}, ratio {cells / max(editor, 0.001):.2f} ({printed.pop().strip()})")
+            beside = ""
+            if asked.beside:
+                times = [run(asked.beside, "run", database, script)[0] - run(asked.beside, "run", database, empty)[0] for _ in range(asked.rounds)]
+                beside = f", beside {median(times):.1f}"
+            print(f"{database.name} {kind} x{count}: editor {editor:.1f}, cells {cells:.1f}, ratio {cells / max(editor, 0.001):.2f}{beside} ({printed.pop().strip()})")
 
 
 if __name__ == "__main__":
