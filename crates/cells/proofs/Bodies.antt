@@ -59,11 +59,11 @@ body_same st next cell words ranges same b =
 
 -- ---- ranges that a run knows
 
-pub knows_later : (s t : Sight) (range : Place) (words : List ℕ) → Onward s t → Knows s range words → Knows t range words
+pub knows_later : {O : Type 0} → (s t : Sight O) (range : Place) (words : List ℕ) → Onward s t → Knows s range words → Knows t range words
 knows_later s t range words on k =
     record { finished = on.ranges (record { start = range.start; words = words }) k.finished; len = k.len }
 
-module _ (s : Sight) (st : State) (matches : Matches s st) where
+module _ {O : Type 0} (s : Sight O) (st : State) (matches : Matches s st) where
   -- a known range has one list of words
   pub knows_one : (range : Place) (words others : List ℕ) → Knows s range words → Knows s range others → words ≡ others
   knows_one range words others a b =
@@ -89,7 +89,7 @@ module _ (s : Sight) (st : State) (matches : Matches s st) where
 
 -- ---- with no state at hand
 
-module _ (s : Sight) (grounded : ∥ ((st : State) × (lib : List Ranked) × Suits s st lib) ∥₁) where
+module _ {O : Type 0} (s : Sight O) (grounded : ∥ ((st : State) × (lib : List Ranked) × Suits s st lib) ∥₁) where
   pub one_known : (range : Place) (words others : List ℕ) → Knows s range words → Knows s range others → words ≡ others
   one_known range words others a b =
       ∥∥₁_elim grounded (Coded-set (coded_list coded_ℕ) _ _) (λ x. knows_one s x.0 x.2.matches range words others a b)
@@ -107,12 +107,12 @@ module _ (s : Sight) (grounded : ∥ ((st : State) × (lib : List Ranked) × Sui
 -- ---- what was read
 
 -- a value that was read is that of its cell later, too
-pub value_later : (r s t : Sight) (cell v : ℕ) (st : State) → Reads cell v r s → Looks s t → Matches t st → v ≡ (after t st).value cell
+pub value_later : {O : Type 0} → (r s t : Sight O) (cell v : ℕ) (st : State) → Reads cell v r s → Looks s t → Matches t st → v ≡ (after t st).value cell
 value_later r s t cell v st reads looks m =
     reads.value st (matches_back s t st looks.onward m) ∙ ap (λ (x : State). x.value cell) (sym (after_looks s t st looks))
 
 -- the words of the range that a cell names
-pub are_words : (s : Sight) (st : State) (range : Place) (cell word : ℕ) (words : List ℕ) → Matches s st → Knows s range words
+pub are_words : {O : Type 0} → (s : Sight O) (st : State) (range : Place) (cell word : ℕ) (words : List ℕ) → Matches s st → Knows s range words
     → word ≡ (after s st).value cell → word ≢ 0 → word ≡ range.start * 2 ^ 25 + range.len → AreWordsOf (after s st) cell words
 are_words s st range cell word words m k read some is = record {
   body = λ body b. words_known s st m range cell words body k (sym read ∙ is) b;
@@ -124,7 +124,7 @@ pub no_words : (st : State) (cell : ℕ) → st.value cell ≡ 0 → AreWordsOf 
 no_words st cell e = record { body = λ words b. absurd (no_body st cell words b e); none = λ h. refl }
 
 -- a cell that names a known range has a body just where that has its words
-pub same_words : (s : Sight) (st : State) (range : Place) (cell word : ℕ) (words body : List ℕ) → Matches s st → Knows s range words
+pub same_words : {O : Type 0} → (s : Sight O) (st : State) (range : Place) (cell word : ℕ) (words body : List ℕ) → Matches s st → Knows s range words
     → word ≡ (after s st).value cell → word ≡ range.start * 2 ^ 25 + range.len → body ≢ [] → (words ≡ body) ↔ HasBody (after s st) cell body
 same_words s st range cell word words body m k read is some = (
   λ e. subst (HasBody (after s st) cell) e (body_known s st m range cell words k (sym read ∙ is) (λ none. some (sym e ∙ none))),
@@ -134,7 +134,7 @@ same_words s st range cell word words body m k read is some = (
 -- ---- the first word
 
 -- a cell that holds 0 has no body, and a range without words is none
-pub no_first : (s : Sight) (st : State) (range : Place) (cell word w : ℕ) (words more : List ℕ) → Matches s st → Knows s range words
+pub no_first : {O : Type 0} → (s : Sight O) (st : State) (range : Place) (cell word w : ℕ) (words more : List ℕ) → Matches s st → Knows s range words
     → word ≡ (after s st).value cell → word ≡ range.start * 2 ^ 25 + range.len → HasBody (after s st) cell (w ∷ more) → range.len ≡ 0 → ⊥
 no_first s st range cell word w words more m k read is b none =
     let same : words ≡ w ∷ more = words_known s st m range cell words (w ∷ more) k (sym read ∙ is) b in
@@ -143,7 +143,7 @@ no_first s st range cell word w words more m k read is b none =
     omega (arith, few, long)
 
 -- the first word of a known range is that of the body
-pub first_known : (s : Sight) (st : State) (range : Place) (cell word w first : ℕ) (words more : List ℕ) → Matches s st → Knows s range words
+pub first_known : {O : Type 0} → (s : Sight O) (st : State) (range : Place) (cell word w first : ℕ) (words more : List ℕ) → Matches s st → Knows s range words
     → word ≡ (after s st).value cell → word ≡ range.start * 2 ^ 25 + range.len → HasBody (after s st) cell (w ∷ more)
     → slice_get words 0 ≡ Some first → first ≡ w
 first_known s st range cell word w first words more m k read is b at =

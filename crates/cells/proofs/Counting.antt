@@ -91,7 +91,7 @@ pub counts_out : (xs : List ℕ) (st next : State) → Changes one_less xs st ne
 counts_out xs st next ch = record { counted = ch.counted; others = ch.others }
 
 -- what is written where a count was read
-pub count_made : (f : ℕ → ℕ) (r s t : Sight) (st : State) (cell there v w x : ℕ) → Looks r s → Writes there w s t → there ≡ citers_cell x
+pub count_made : {O : Type 0} → (f : ℕ → ℕ) (r s t : Sight O) (st : State) (cell there v w x : ℕ) → Looks r s → Writes there w s t → there ≡ citers_cell x
     → w ≡ f v
     → v ≡ (after s st).value cell → cell ≡ citers_cell x
     → after t st ≡ with_value (citers_cell x) (f ((after r st).value (citers_cell x))) (after r st)

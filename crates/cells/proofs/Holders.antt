@@ -119,7 +119,7 @@ module _ (slots : ℕ) (st : State) (lib : List Ranked) (shows : Shows slots st 
       )
 
 -- a slot's name tells whether it holds an assertion
-pub tells_full : (s : Sight) (i v : ℕ) → i < s.setting.slots → ((st : State) → Matches s st → v ≡ (after s st).value (name_cell i))
+pub tells_full : {O : Type 0} → (s : Sight O) (i v : ℕ) → i < s.setting.slots → ((st : State) → Matches s st → v ≡ (after s st).value (name_cell i))
     → IfFull s i (not (nat_eq v 0))
 tells_full s i v lt is =
     elim (nat_eq v 0) as (λ b. nat_eq v 0 ≡ b → IfFull s i (not b)) [

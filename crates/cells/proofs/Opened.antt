@@ -44,7 +44,7 @@ pub after_first : (c : PlainCells) → after (sight_of c) (first_state c) ≡ no
 after_first c = over_all c.values.items (undone c.values.items c.log.items) _ (length-undone c.values.items c.log.items)
 
 -- what cells showed, a later sight of them shows over a state with as many values, where nothing was written since
-pub later_held : (c d : PlainCells) (t : Sight) (lib : List Ranked) (held : List Held) → d.slots ≡ c.slots
+pub later_held : (c d : PlainCells) (t : Sight (Unit {0})) (lib : List Ranked) (held : List Held) → d.slots ≡ c.slots
     → t.writes ≡ (sight_of c).writes → Within (sight_of c).ranges (sight_of d).ranges
     → ShowsHeld c.slots (now_state c) lib held → ShowsHeld c.slots (after t (first_state d)) lib held
 later_held c d t lib held slots writes within h =
@@ -55,7 +55,7 @@ later_held c d t lib held slots writes within h =
     (shows_widened c.slots (λ n. get_or c.values.items n 0) (sight_of c).ranges (sight_of d).ranges within lib held h)
 
 -- so the state views the library
-pub later_views : (c d : PlainCells) (t : Sight) (lib : List Ranked) (held : List Held) → d.slots ≡ c.slots
+pub later_views : (c d : PlainCells) (t : Sight (Unit {0})) (lib : List Ranked) (held : List Held) → d.slots ≡ c.slots
     → t.setting ≡ setting_of c → t.writes ≡ (sight_of c).writes → Within (sight_of c).ranges (sight_of d).ranges → Matches t (first_state d)
     → Verifies (setting_of c) lib → ShowsHeld c.slots (now_state c) lib held
     → (v : Views t (first_state d) lib) × (v.shows.held ≡ held)
@@ -149,7 +149,7 @@ module _ (db : Contents) (k : ℕ) (a : Assertion) (lt : k < length db.assertion
       (sym (same ∙ (λ i. record { prelude = opened.prelude i; slots = p.slots }))) (front_verifies db n p.slots spelled all p.some p.few room)
 
   -- over each state that a later run leaves possible it views the front, in its slots
-  opened_views : (q : PlainCells) (t : Sight) → Looks (sight_of p) t → Onward t (sight_of q)
+  opened_views : (q : PlainCells) (t : Sight (Unit {0})) → Looks (sight_of p) t → Onward t (sight_of q)
       → (v : Views t (first_state q) (opening (front k db))) × (v.shows.held ≡ first_held)
   opened_views q t looks onward =
       let setting : setting_of q ≡ setting_of p = onward.setting ∙ looks.onward.setting in

@@ -78,7 +78,10 @@ plain_reads s room values log store places cell v lt e hold =
     record {
       looks = record {
         onward = record {
+          origin = refl;
           setting = refl;
+          may_write = refl;
+          may_stage = refl;
           room = refl;
           ranges = within_refl (ranges_in store places);
           reads = λ st h. fits_front st (read_at_first base log) _ (subst (FitsReads st) more h);
@@ -114,7 +117,10 @@ pub plain_writes : (s : Setting) (room : ℕ) (values : List ℕ) (log : Pairs) 
     → Writes cell v (plain_sight s room values log store places) (plain_sight s room (set values cell v) log store places)
 plain_writes s room values log store places cell v lt read =
     record {
+      origin = refl;
       setting = refl;
+      may_write = refl;
+      may_stage = refl;
       room = refl;
       ranges = refl;
       reads = ap (λ xs. read_at_first xs log) (plain_undone s room values log store places cell v read);
@@ -141,7 +147,7 @@ pub plain_stages : (s : Setting) (room : ℕ) (values : List ℕ) (log : Pairs) 
     (plain_sight s room values log (store ++ words) (places ++ behind store words ∷ []))
 plain_stages s room values log store words places lie =
     record {
-      onward = record { setting = refl; room = refl; ranges = within_staged store words places lie; reads = λ st h. h; read = λ c h. h; written = λ c h. h };
+      onward = record { origin = refl; setting = refl; may_write = refl; may_stage = refl; room = refl; ranges = within_staged store words places lie; reads = λ st h. h; read = λ c h. h; written = λ c h. h };
       writes = refl;
       taken = inr (length-append store words);
       finished = has_staged store words places lie;

@@ -29,14 +29,14 @@ use Rattle.cells.proofs.Small.{label_small}
 -- ---- one call after another
 
 -- what was so of each assertion that the slot holds stays so while nothing is written
-pub held_later : (s t : Sight) (i : ℕ) (told : State → List Ranked → Ranked → Type 0) → Looks s t → ForEachHeld s i told → ForEachHeld t i told
+pub held_later : {O : Type 0} → (s t : Sight O) (i : ℕ) (told : State → List Ranked → Ranked → Type 0) → Looks s t → ForEachHeld s i told → ForEachHeld t i told
 held_later s t i told looks each = λ st lib v e at h.
     let same = after_looks s t st looks in
     let before = subst (λ (x : State). Holds s.setting.slots x lib i e) same (subst (λ (n : ℕ). Holds n (after t st) lib i e) (same_slots s t looks) h) in
     subst (λ (x : State). told x lib e) (sym same) (each st lib (views_back s t st lib looks v) e at before)
 
 -- a name is the label of what the slot holds
-pub name_held : (s : Sight) (i : ℕ) (made : List ℕ) → IsNameAt s i made → ForEachHeld s i (λ st lib e. made ≡ label_of e)
+pub name_held : {O : Type 0} → (s : Sight O) (i : ℕ) (made : List ℕ) → IsNameAt s i made → ForEachHeld s i (λ st lib e. made ≡ label_of e)
 name_held s i made named = λ st lib v e at h. named st (label_of e) v.matches (label_small s.setting lib v.verifies e at) h.name
 
 -- ---- proofs
@@ -71,11 +71,11 @@ zip_at R (x ∷ xs) (y ∷ ys) zero d e z lt = (z.0, omega arith)
 zip_at R (x ∷ xs) (y ∷ ys) (suc i) d e z lt = let rest = zip_at R xs ys i d e z.1 (omega arith) in (rest.0, omega (arith, rest.1))
 
 -- the first steps are those that are stored as the first of the kept ones
-abbrev pub AreReadBack : Sight → ℕ → List StoredStep → ℕ → List Step → Type 0
+abbrev pub AreReadBack : {O : Type 0} → Sight O → ℕ → List StoredStep → ℕ → List Step → Type 0
 AreReadBack s slots kept i steps =
     (st : State) (xs : List Step) → Matches s st → All IsShortLabelled xs → AllZip (IsStoredAs (IsNamed slots (after s st))) xs kept → steps ≡ take i xs
 
-pub read_back_on : (s t : Sight) (slots i : ℕ) (kept : List StoredStep) (steps more : List Step) (made : Step) (d : StoredStep) → Looks s t
+pub read_back_on : {O : Type 0} → (s t : Sight O) (slots i : ℕ) (kept : List StoredStep) (steps more : List Step) (made : Step) (d : StoredStep) → Looks s t
     → AreReadBack s slots kept i steps → i < length kept → more ≡ steps ++ made ∷ []
     → ((st : State) (x : Step) → Matches t st → IsShortLabelled x → IsStoredAs (IsNamed slots (after t st)) x (get_or kept i d) → made ≡ x)
     → AreReadBack t slots kept (i + 1) more
@@ -87,7 +87,7 @@ read_back_on s t slots i kept steps more made d looks each lt push is = λ st xs
     let same : made ≡ get_or xs i (Float 0) = is st (get_or xs i (Float 0)) m (All-get_or IsShortLabelled xs i (Float 0) at.1 short) at.0 in
     push ∙ (ap (λ (ys : List Step). ys ++ made ∷ []) before ∙ (ap (λ (y : Step). take i xs ++ y ∷ []) same ∙ sym (take_more xs i (Float 0) at.1)))
 
-pub read_back_all : (s : Sight) (slots i : ℕ) (kept : List StoredStep) (steps xs : List Step) (st : State) → AreReadBack s slots kept i steps
+pub read_back_all : {O : Type 0} → (s : Sight O) (slots i : ℕ) (kept : List StoredStep) (steps xs : List Step) (st : State) → AreReadBack s slots kept i steps
     → length kept ≡ i → Matches s st → All IsShortLabelled xs → AllZip (IsStoredAs (IsNamed slots (after s st))) xs kept → steps ≡ xs
 read_back_all s slots i kept steps xs st each n m short z =
     let long = AllZip-long (IsStoredAs (IsNamed slots (after s st))) xs kept z in

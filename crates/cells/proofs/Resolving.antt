@@ -30,7 +30,7 @@ none_known (e ∷ lib) label h = elim (cases_Bool (is_labelled label e)) [
   | inr n ↦ rw n (none_known lib label (sym (cond-false (is_labelled label e) (Some e) (found lib label) n) ∙ h))
 ]
 
-pub found_stored : (s : Sight) (label : List ℕ) (i : ℕ) (step : Step) → step ≡ Cite label → Finds s label (Some i) → StoresStep s step (Some (Slot i))
+pub found_stored : {O : Type 0} → (s : Sight O) (label : List ℕ) (i : ℕ) (step : Step) → step ≡ Cite label → Finds s label (Some i) → StoresStep s step (Some (Slot i))
 found_stored s label i step is finds = (within_one, told)
   where
     within_one : (j : ℕ) → Has (Slot j) (Slot i ∷ []) → j < s.setting.slots
@@ -49,19 +49,19 @@ no_slot : (n : ℕ) (x : StoredStep) → ((i : ℕ) → Slot i ≡ x → ⊥) �
 no_slot n x other i (inl e) = absurd (other i e)
 no_slot n x other i (inr h) = absurd h
 
-pub float_stored : (s : Sight) (place : ℕ) (step : Step) → step ≡ FloatStep place → StoresStep s step (Some (Float place))
+pub float_stored : {O : Type 0} → (s : Sight O) (place : ℕ) (step : Step) → step ≡ FloatStep place → StoresStep s step (Some (Float place))
 float_stored s place step is = (
   no_slot s.setting.slots (Float place) (λ i e. cc),
   λ st lib v. subst (λ (x : Step). IsStoredAs (IsNamed s.setting.slots (after s st)) x (Float place)) (sym is) refl,
 )
 
-pub hyp_stored : (s : Sight) (place : ℕ) (step : Step) → step ≡ HypStep place → StoresStep s step (Some (Hyp place))
+pub hyp_stored : {O : Type 0} → (s : Sight O) (place : ℕ) (step : Step) → step ≡ HypStep place → StoresStep s step (Some (Hyp place))
 hyp_stored s place step is = (
   no_slot s.setting.slots (Hyp place) (λ i e. cc),
   λ st lib v. subst (λ (x : Step). IsStoredAs (IsNamed s.setting.slots (after s st)) x (Hyp place)) (sym is) refl,
 )
 
-pub none_stored : (s : Sight) (label : List ℕ) (step : Step) → step ≡ Cite label → Finds s label None → StoresStep s step None
+pub none_stored : {O : Type 0} → (s : Sight O) (label : List ℕ) (step : Step) → step ≡ Cite label → Finds s label None → StoresStep s step None
 none_stored s label step is finds = λ st lib v.
     subst (λ (x : Step). is_of_unknown lib x ≡ true) (sym is) (ap not (none_known lib label (finds st lib v)))
 
@@ -78,11 +78,11 @@ within_push : (slots : ℕ) (kept : List StoredStep) (y : StoredStep) → AreWit
 within_push slots kept y a b i h = elim (has_append_cases kept (y ∷ []) (Slot i) h) [ inl l ↦ a i l | inr r ↦ b i r ]
 
 -- the first steps are stored as these
-abbrev pub AreResolved : Sight → ℕ → List Step → List StoredStep → Type 0
+abbrev pub AreResolved : {O : Type 0} → Sight O → ℕ → List Step → List StoredStep → Type 0
 AreResolved s slots steps kept =
     (length kept ≡ length steps) × AreWithin slots kept × ForEach s (λ st lib. AreStoredAs slots st steps kept)
 
-pub resolve_on : (r s : Sight) (slots i : ℕ) (steps : List Step) (kept more : List StoredStep) (x : Step) (y : StoredStep) → slots ≡ s.setting.slots
+pub resolve_on : {O : Type 0} → (r s : Sight O) (slots i : ℕ) (steps : List Step) (kept more : List StoredStep) (x : Step) (y : StoredStep) → slots ≡ s.setting.slots
     → Looks r s → AreResolved r slots (take i steps) kept → StoresStep s x (Some y) → x ≡ get_or steps i x → i < length steps
     → more ≡ kept ++ y ∷ [] → AreResolved s slots (take (i + 1) steps) more
 resolve_on r s slots i steps kept more x y is looks each stores here lt push = (counted, within, told)
@@ -107,11 +107,11 @@ resolve_on r s slots i steps kept more x y is looks each stores here lt push = (
         subst (λ (zs : List Step). AllZip R zs more) first
         (subst (AllZip R (take i steps ++ x ∷ [])) (sym push) (zip_push R (take i steps) kept x y before new))
 
-pub resolve_fails : (s : Sight) (i : ℕ) (steps : List Step) (x : Step) → StoresStep s x None → x ≡ get_or steps i x → i < length steps → Resolves s steps None
+pub resolve_fails : {O : Type 0} → (s : Sight O) (i : ℕ) (steps : List Step) (x : Step) → StoresStep s x None → x ≡ get_or steps i x → i < length steps → Resolves s steps None
 resolve_fails s i steps x stores here lt = λ st lib v.
     list_any_at (is_of_unknown lib) steps i x lt (subst (λ (z : Step). is_of_unknown lib z ≡ true) here (stores st lib v))
 
-pub resolve_all : (s : Sight) (slots i : ℕ) (steps : List Step) (kept : List StoredStep) → slots ≡ s.setting.slots → length steps ≡ i
+pub resolve_all : {O : Type 0} → (s : Sight O) (slots i : ℕ) (steps : List Step) (kept : List StoredStep) → slots ≡ s.setting.slots → length steps ≡ i
     → AreResolved s slots (take i steps) kept → Resolves s steps (Some kept)
 resolve_all s slots i steps kept is n each = (each.0 ∙ ap (λ (zs : List Step). length zs) all, subst (λ (k : ℕ). AreWithin k kept) is each.1, told)
   where

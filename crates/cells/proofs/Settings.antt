@@ -7,7 +7,7 @@ use Rattle.library.specs.declared.library.Ranked.{Ranked}
 use Rattle.cells.specs.State.{State}
 use Rattle.cells.specs.Sight.{Sight, Suits, Looks}
 
-module _ (s : Sight) (grounded : ∥ ((st : State) × (lib : List Ranked) × Suits s st lib) ∥₁) where
+module _ {O : Type 0} (s : Sight O) (grounded : ∥ ((st : State) × (lib : List Ranked) × Suits s st lib) ∥₁) where
   -- a library has a slot, and at most 4096
   pub some_slots : 1 ≤ s.setting.slots
   some_slots = ∥∥₁_elim grounded le_prop (λ x. x.2.verifies.setting.some)
@@ -15,5 +15,5 @@ module _ (s : Sight) (grounded : ∥ ((st : State) × (lib : List Ranked) × Sui
   pub few_slots : s.setting.slots ≤ 4096
   few_slots = ∥∥₁_elim grounded le_prop (λ x. x.2.verifies.setting.few)
 
-pub same_slots : (s t : Sight) → Looks s t → t.setting.slots ≡ s.setting.slots
+pub same_slots : {O : Type 0} → (s t : Sight O) → Looks s t → t.setting.slots ≡ s.setting.slots
 same_slots s t looks = ap (λ (x : Setting). x.slots) looks.onward.setting

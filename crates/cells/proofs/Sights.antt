@@ -14,13 +14,27 @@ use Rattle.cells.specs.Lookups.{ForEach}
 
 -- ---- nothing is lost
 
-pub onward_refl : (s : Sight) → Onward s s
-onward_refl s = record { setting = refl; room = refl; ranges = within_refl s.ranges; reads = λ st h. h; read = λ c h. h; written = λ c h. h }
+pub onward_refl : {O : Type 0} → (s : Sight O) → Onward s s
+onward_refl s =
+    record {
+      origin = refl;
+      setting = refl;
+      may_write = refl;
+      may_stage = refl;
+      room = refl;
+      ranges = within_refl s.ranges;
+      reads = λ st h. h;
+      read = λ c h. h;
+      written = λ c h. h;
+    }
 
-pub onward_trans : (r s t : Sight) → Onward r s → Onward s t → Onward r t
+pub onward_trans : {O : Type 0} → (r s t : Sight O) → Onward r s → Onward s t → Onward r t
 onward_trans r s t f g =
     record {
+      origin = g.origin ∙ f.origin;
       setting = g.setting ∙ f.setting;
+      may_write = g.may_write ∙ f.may_write;
+      may_stage = g.may_stage ∙ f.may_stage;
       room = g.room ∙ f.room;
       ranges = within_trans r.ranges s.ranges t.ranges f.ranges g.ranges;
       reads = λ st h. f.reads st (g.reads st h);
@@ -28,16 +42,19 @@ onward_trans r s t f g =
       written = λ c h. g.written c (f.written c h);
     }
 
-pub looks_refl : (s : Sight) → Looks s s
+pub looks_refl : {O : Type 0} → (s : Sight O) → Looks s s
 looks_refl s = record { onward = onward_refl s; writes = refl; taken = refl }
 
-pub looks_trans : (r s t : Sight) → Looks r s → Looks s t → Looks r t
+pub looks_trans : {O : Type 0} → (r s t : Sight O) → Looks r s → Looks s t → Looks r t
 looks_trans r s t f g = record { onward = onward_trans r s t f.onward g.onward; writes = g.writes ∙ f.writes; taken = g.taken ∙ f.taken }
 
-pub writes_onward : (cell v : ℕ) (s t : Sight) → Writes cell v s t → Onward s t
+pub writes_onward : {O : Type 0} → (cell v : ℕ) (s t : Sight O) → Writes cell v s t → Onward s t
 writes_onward cell v s t w =
     record {
+      origin = w.origin;
       setting = w.setting;
+      may_write = w.may_write;
+      may_stage = w.may_stage;
       room = w.room;
       ranges = subst (Within s.ranges) (sym w.ranges) (within_refl s.ranges);
       reads = λ st h. subst (FitsReads st) w.reads h;
@@ -53,7 +70,7 @@ writes_onward cell v s t w =
         ] (w.writes c)
 
 -- the cell is written then
-pub writes_cell : (cell v : ℕ) (s t : Sight) → Writes cell v s t → WasWritten t cell
+pub writes_cell : {O : Type 0} → (cell v : ℕ) (s t : Sight O) → Writes cell v s t → WasWritten t cell
 writes_cell cell v s t w =
     elim (cell == cell) as (λ b. (cell == cell) ≡ b → written cell t.writes ≡ (if b then Some v else written cell s.writes) → WasWritten t cell) [
       | true ↦ λ k e. (v, e)
@@ -65,18 +82,18 @@ writes_cell cell v s t w =
 
 -- ---- the states that are left possible
 
-pub matches_back : (s t : Sight) (st : State) → Onward s t → Matches t st → Matches s st
+pub matches_back : {O : Type 0} → (s t : Sight O) (st : State) → Onward s t → Matches t st → Matches s st
 matches_back s t st f m =
     record { store = m.store; has = λ r h. m.has r (f.ranges r h); reads = f.reads st m.reads }
 
 -- what is made of a state stays the same while nothing is written
-pub after_same : (s t : Sight) (st : State) → t.writes ≡ s.writes → after t st ≡ after s st
+pub after_same : {O : Type 0} → (s t : Sight O) (st : State) → t.writes ≡ s.writes → after t st ≡ after s st
 after_same s t st e = ap (with_writes st) e
 
-pub after_looks : (s t : Sight) (st : State) → Looks s t → after t st ≡ after s st
+pub after_looks : {O : Type 0} → (s t : Sight O) (st : State) → Looks s t → after t st ≡ after s st
 after_looks s t st f = after_same s t st f.writes
 
-pub views_back : (s t : Sight) (st : State) (lib : List Ranked) → Looks s t → Views t st lib → Views s st lib
+pub views_back : {O : Type 0} → (s t : Sight O) (st : State) (lib : List Ranked) → Looks s t → Views t st lib → Views s st lib
 views_back s t st lib f v =
     record {
       matches = matches_back s t st f.onward v.matches;
@@ -86,11 +103,11 @@ views_back s t st lib f v =
     }
 
 -- what was so of each state stays so while nothing is written
-pub for_each_later : (s t : Sight) (told : State → List Ranked → Type 0) → Looks s t → ForEach s told → ForEach t told
+pub for_each_later : {O : Type 0} → (s t : Sight O) (told : State → List Ranked → Type 0) → Looks s t → ForEach s told → ForEach t told
 for_each_later s t told f each st lib v = subst (λ (x : State). told x lib) (sym (after_looks s t st f)) (each st lib (views_back s t st lib f v))
 
 -- a value that is kept aside is that of its cell
-pub after_writes : (cell v : ℕ) (s t : Sight) (st : State) → Writes cell v s t → after t st ≡ with_value cell v (after s st)
+pub after_writes : {O : Type 0} → (cell v : ℕ) (s t : Sight O) (st : State) → Writes cell v s t → after t st ≡ with_value cell v (after s st)
 after_writes cell v s t st w = λ i. record { value = λ c. value_at c i; ranges = st.ranges }
   where
     over : (c : ℕ) → value_or (if c == cell then Some v else written c s.writes) (st.value c) ≡ (if c == cell then v else value_or (written c s.writes) (st.value c))

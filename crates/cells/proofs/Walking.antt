@@ -21,7 +21,7 @@ use Rattle.cells.proofs.Sights.{after_writes}
 -- ---- into a chain
 
 -- what is written to put a slot in front of the chain of a label's bucket, with what was written before
-pub in_front : (old mid new : Sight) (st : State) (front link first slot : ℕ) (label : List ℕ) (held : List Held) (e : Ranked) (s : Sight)
+pub in_front : {O : Type 0} → (old mid new : Sight O) (st : State) (front link first slot : ℕ) (label : List ℕ) (held : List Held) (e : Ranked) (s : Sight O)
     → after s st ≡ after old st → Writes link first s mid → Writes front (slot + 1) mid new
     → front ≡ bucket_cell old.setting.slots (bucket old.setting.slots label) → link ≡ next_cell old.setting.slots slot
     → first ≡ (after old st).value front → slot < old.setting.slots → bucket old.setting.slots label < old.setting.slots
@@ -126,7 +126,7 @@ module _ (slots slot : ℕ) (st : State) (to : ℕ) where
 -- ---- out of a chain
 
 -- what is written to take a slot out of its chain, with what was written before
-pub taken_out : (old mid new s : Sight) (st : State) (before link next slot : ℕ) (held : List Held) (e : Ranked) (b : ℕ)
+pub taken_out : {O : Type 0} → (old mid new s : Sight O) (st : State) (before link next slot : ℕ) (held : List Held) (e : Ranked) (b : ℕ)
     → after s st ≡ after old st → Writes before next s mid → Writes link 0 mid new → link ≡ next_cell old.setting.slots slot
     → next ≡ (after old st).value link → (lt : b < old.setting.slots) → (chained : AreChained old.setting.slots (after old st) held)
     → Distinct nat_eq (slots_of held) → Has slot (slots_of (of_bucket old.setting.slots b held))

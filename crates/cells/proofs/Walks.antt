@@ -60,7 +60,7 @@ module _ (slots : ℕ) (label : List ℕ) (word turns : ℕ) (st : State) (a : I
 
 -- ---- the look-up of a label
 
-module _ (s : Sight) (slots : ℕ) (label : List ℕ) (is : slots ≡ s.setting.slots) where
+module _ {O : Type 0} (s : Sight O) (slots : ℕ) (label : List ℕ) (is : slots ≡ s.setting.slots) where
   shown : (st : State) (lib : List Ranked) → Views s st lib → Shows slots (after s st) lib
   shown st lib v = subst (λ (n : ℕ). Shows n (after s st) lib) (sym is) v.shows
 
@@ -68,7 +68,7 @@ module _ (s : Sight) (slots : ℕ) (label : List ℕ) (is : slots ≡ s.setting.
   room st lib v = subst (λ (n : ℕ). length lib ≤ n) (sym is) v.verifies.library.room
 
   -- all that has the label is ahead at the word of its bucket
-  pub walk_begins : (r : Sight) (b word : ℕ) → b < slots → b ≡ bucket slots label → Reads (bucket_cell slots b) word r s
+  pub walk_begins : (r : Sight O) (b word : ℕ) → b < slots → b ≡ bucket slots label → Reads (bucket_cell slots b) word r s
       → ForEach s (λ st lib. IsAhead slots label word 0 st)
   walk_begins r b word lt of read = λ st lib v.
       let shows = shown st lib v in
@@ -94,7 +94,7 @@ module _ (s : Sight) (slots : ℕ) (label : List ℕ) (is : slots ≡ s.setting.
   )
 
 -- from a slot that has not the label to its next cell
-pub walk_on : (r s t : Sight) (slots : ℕ) (label : List ℕ) (word turns slot next : ℕ) → slots ≡ s.setting.slots → Looks r s
+pub walk_on : {O : Type 0} → (r s t : Sight O) (slots : ℕ) (label : List ℕ) (word turns slot next : ℕ) → slots ≡ s.setting.slots → Looks r s
     → Reads (next_cell slots slot) next s t → ForEach r (λ st lib. IsAhead slots label word turns st) → word ≡ slot + 1
     → ((st : State) → Matches s st → IsNamed s.setting.slots (after s st) slot label → ⊥)
     → ForEach t (λ st lib. IsAhead slots label next (turns + 1) st)
@@ -132,22 +132,22 @@ abbrev pub IsFullAt : ℕ → ℕ → ℕ → State → List Ranked → Type 0
 IsFullAt slots from k st lib = st.value (name_cell ((from + k) % slots)) ≢ 0
 
 -- no name cell holds 0, of those of so many slots from a slot on
-abbrev pub AreFull : Sight → ℕ → ℕ → ℕ → Type 0
+abbrev pub AreFull : {O : Type 0} → Sight O → ℕ → ℕ → ℕ → Type 0
 AreFull s slots from steps = (k : ℕ) → k < steps → ForEach s (IsFullAt slots from k)
 
 -- and they go on to be
-pub full_later : (s t : Sight) (slots from steps : ℕ) → Looks s t → AreFull s slots from steps → AreFull t slots from steps
+pub full_later : {O : Type 0} → (s t : Sight O) (slots from steps : ℕ) → Looks s t → AreFull s slots from steps → AreFull t slots from steps
 full_later s t slots from steps looks full = λ k l. for_each_later s t (IsFullAt slots from k) looks (full k l)
 
 -- one more
-pub full_on : (s t : Sight) (slots from steps i v : ℕ) → AreFull s slots from steps → Reads (name_cell i) v s t → v ≢ 0 → i ≡ (from + steps) % slots
+pub full_on : {O : Type 0} → (s t : Sight O) (slots from steps i v : ℕ) → AreFull s slots from steps → Reads (name_cell i) v s t → v ≢ 0 → i ≡ (from + steps) % slots
     → AreFull t slots from (steps + 1)
 full_on s t slots from steps i v full read ne at = below_more (λ (k : ℕ). ForEach t (IsFullAt slots from k)) _ (full_later s t slots from steps read.looks full)
     (λ st lib w e. ne (read.value st w.matches ∙ (ap (λ (n : ℕ). (after t st).value (name_cell n)) at ∙ e)))
 
-module _ (s : Sight) (slots from : ℕ) (is : slots ≡ s.setting.slots) where
+module _ {O : Type 0} (s : Sight O) (slots from : ℕ) (is : slots ≡ s.setting.slots) where
   -- the first that holds 0
-  pub free_found : (r : Sight) (steps i : ℕ) → Looks r s → i < slots → i ≡ (from + steps) % slots → AreFull r slots from steps
+  pub free_found : (r : Sight O) (steps i : ℕ) → Looks r s → i < slots → i ≡ (from + steps) % slots → AreFull r slots from steps
       → Reads (name_cell i) 0 r s → FindsFree s from (Some i)
   free_found r steps i looks lt at full read = record {
     within = subst (λ (n : ℕ). i < n) is lt;

@@ -25,7 +25,7 @@ pub record Rechains (slots : ℕ) (st next : State) (held then : List Held) : Ty
 
 -- in each state that may be under the run, whatever is chained there: a slot that is not among it comes to it, with an assertion that has
 -- the label
-abbrev pub PutsIn : ℕ → List ℕ → Sight → Sight → Type 0
+abbrev pub PutsIn : {O : Type 0} → ℕ → List ℕ → Sight O → Sight O → Type 0
 PutsIn slot label old new =
     (st : State) (held : List Held) (e : Ranked) → Matches new st → AreChained old.setting.slots (after old st) held → label_of e ≡ label
     → (Has slot (slots_of held) → ⊥)
@@ -33,7 +33,7 @@ PutsIn slot label old new =
 
 -- in each state that may be under the run, whatever is chained there, each in a slot of its own: the slot goes out of it, where it is there
 -- with an assertion that has the label
-abbrev pub TakesOut : ℕ → List ℕ → Sight → Sight → Type 0
+abbrev pub TakesOut : {O : Type 0} → ℕ → List ℕ → Sight O → Sight O → Type 0
 TakesOut slot label old new =
     (st : State) (held : List Held) (e : Ranked) → Matches new st → AreChained old.setting.slots (after old st) held
     → Distinct nat_eq (slots_of held) → Has (record { slot = slot; entry = e }) held → label_of e ≡ label → length held ≤ old.setting.slots

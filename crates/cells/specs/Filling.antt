@@ -27,7 +27,7 @@ pub record CountsIn (listed : List ℕ) (st next : State) : Type 0 where
   pub others : (c : ℕ) → ((i : ℕ) → Has i listed → c ≢ citers_cell i) → next.value c ≡ st.value c
 
 -- so in each state that may be under the run, where no slot is listed twice, and none has 2^32 citers or more
-abbrev pub CountsAnyIn : List ℕ → Sight → Sight → Type 0
+abbrev pub CountsAnyIn : {O : Type 0} → List ℕ → Sight O → Sight O → Type 0
 CountsAnyIn listed old new =
     Turns old new (λ st next.
     ((i : ℕ) → Has i listed → st.value (citers_cell i) < 2 ^ 32) → Distinct nat_eq listed → CountsIn listed st next)
@@ -38,7 +38,7 @@ pub record CountsOut (listed : List ℕ) (st next : State) : Type 0 where
   pub others : (c : ℕ) → ((i : ℕ) → Has i listed → c ≢ citers_cell i) → next.value c ≡ st.value c
 
 -- so in each state that may be under the run, where all that is listed is a slot, and none is listed twice
-abbrev pub CountsAnyOut : List ℕ → Sight → Sight → Type 0
+abbrev pub CountsAnyOut : {O : Type 0} → List ℕ → Sight O → Sight O → Type 0
 CountsAnyOut listed old new =
     Turns old new (λ st next. All (λ i. i < old.setting.slots) listed → Distinct nat_eq listed → CountsOut listed st next)
 
@@ -54,7 +54,7 @@ Fills slots next lib held i rank a =
     ShowsHeld slots next (added lib rank a) (held ++ record { slot = i; entry = record { rank = rank; assertion = a } } ∷ [])
 
 -- so in each state that may be under the run, and for each library that it showed with what the run kept aside before
-abbrev pub FillsAny : ℕ → ℕ → Assertion → List StoredStep → Sight → Sight → Type 0
+abbrev pub FillsAny : {O : Type 0} → ℕ → ℕ → Assertion → List StoredStep → Sight O → Sight O → Type 0
 FillsAny i rank a kept old new =
     (st : State) (lib : List Ranked) → Matches new st → (shown : Views old st lib) → MayFill old.setting.slots (after old st) lib i a kept
     → Fills old.setting.slots (after new st) lib shown.shows.held i rank a
@@ -81,7 +81,7 @@ pub record LaysDown (st next : State) (i rank : ℕ) (a : Assertion) (kept : Lis
   pub others : (c : ℕ) → (c < 5 * i) ⊎ (5 * i + 5 ≤ c) → next.value c ≡ st.value c
 
 -- so in each state that may be under the run
-abbrev pub LaysAnyDown : ℕ → ℕ → Assertion → List StoredStep → Sight → Sight → Type 0
+abbrev pub LaysAnyDown : {O : Type 0} → ℕ → ℕ → Assertion → List StoredStep → Sight O → Sight O → Type 0
 LaysAnyDown i rank a kept old new = Turns old new (λ st next. LaysDown st next i rank a kept)
 
 -- the slot's five cells hold 0, and nothing else changes

@@ -14,21 +14,21 @@ use Rattle.cells.specs.Shows.{IsNamed, Holds, IsEmpty, IsStoredAs, AreStoredAs}
 use Rattle.cells.specs.Sight.{Sight, Matches, Views, after, ForEachState}
 
 -- what is so of every state that may be under the run and of every library that verifies and that it shows with what the run keeps aside
-abbrev pub ForEach : Sight → (State → List Ranked → Type 0) → Type 0
+abbrev pub ForEach : {O : Type 0} → Sight O → (State → List Ranked → Type 0) → Type 0
 ForEach s told = (st : State) (lib : List Ranked) → Views s st lib → told (after s st) lib
 
 -- and of every assertion of the library that the slot holds there
-abbrev pub ForEachHeld : Sight → ℕ → (State → List Ranked → Ranked → Type 0) → Type 0
+abbrev pub ForEachHeld : {O : Type 0} → Sight O → ℕ → (State → List Ranked → Ranked → Type 0) → Type 0
 ForEachHeld s i told = ForEach s (λ st lib. (e : Ranked) → Contains lib e → Holds s.setting.slots st lib i e → told st lib e)
 
 -- a label of bytes that the slot has in some state that may be the one under the run is this one
-abbrev pub IsNameAt : Sight → ℕ → List ℕ → Type 0
+abbrev pub IsNameAt : {O : Type 0} → Sight O → ℕ → List ℕ → Type 0
 IsNameAt s i made =
     (st : State) (label : List ℕ) → Matches s st → All (λ byte. byte < 256) label → IsNamed s.setting.slots (after s st) i label
     → made ≡ label
 
 -- whether the slot has the label
-abbrev pub TellsLabel : Sight → ℕ → List ℕ → Bool → Type 0
+abbrev pub TellsLabel : {O : Type 0} → Sight O → ℕ → List ℕ → Bool → Type 0
 TellsLabel s i label b = ForEachState s (λ st. IsTrue b ↔ IsNamed s.setting.slots st i label)
 
 -- the slot holds the assertion of the library that has the label
@@ -38,17 +38,17 @@ pub record IsFoundAt (slots : ℕ) (st : State) (lib : List Ranked) (label : Lis
   pub holds : Holds slots st lib i entry
 
 -- the slot with the assertion that has the label, or none where no assertion has it
-abbrev pub Finds : Sight → List ℕ → Option ℕ → Type 0
+abbrev pub Finds : {O : Type 0} → Sight O → List ℕ → Option ℕ → Type 0
 Finds s label None = ForEach s (λ st lib. found lib label ≡ None)
 Finds s label (Some i) = (i < s.setting.slots) × ForEach s (λ st lib. IsFoundAt s.setting.slots st lib label i)
 
 -- whether the slot holds an assertion of the library: if not, it is empty
-abbrev pub IfFull : Sight → ℕ → Bool → Type 0
+abbrev pub IfFull : {O : Type 0} → Sight O → ℕ → Bool → Type 0
 IfFull s i true = ForEach s (λ st lib. (e : Ranked) × Holds s.setting.slots st lib i e × Contains lib e)
 IfFull s i false = ForEach s (λ st lib. IsEmpty s.setting.slots st i)
 
 -- the first empty slot from a slot on, going round
-pub record IsFirstEmpty (s : Sight) (from i : ℕ) : Type 0 where
+pub record IsFirstEmpty {O : Type 0} (s : Sight O) (from i : ℕ) : Type 0 where
   pub within : i < s.setting.slots
   pub steps : ℕ
   pub at : i ≡ (from + steps) % s.setting.slots
@@ -56,7 +56,7 @@ pub record IsFirstEmpty (s : Sight) (from i : ℕ) : Type 0 where
   pub full : (k : ℕ) → k < steps → ForEach s (λ st lib. st.value (name_cell ((from + k) % s.setting.slots)) ≢ 0)
 
 -- or none where the library has as many assertions as slots
-abbrev pub FindsFree : Sight → ℕ → Option ℕ → Type 0
+abbrev pub FindsFree : {O : Type 0} → Sight O → ℕ → Option ℕ → Type 0
 FindsFree s from None = ForEach s (λ st lib. s.setting.slots ≤ length lib)
 FindsFree s from (Some i) = IsFirstEmpty s from i
 
@@ -66,12 +66,12 @@ pub record AreWordsOf (st : State) (cell : ℕ) (made : List ℕ) : Type 0 where
   pub none : st.value cell ≡ 0 → length made ≡ 0
 
 -- the first word of the body that the cell names
-abbrev pub IsFirstWordOf : Sight → ℕ → ℕ → Type 0
+abbrev pub IsFirstWordOf : {O : Type 0} → Sight O → ℕ → ℕ → Type 0
 IsFirstWordOf s cell first =
     (st : State) (w : ℕ) (more : List ℕ) → Matches s st → HasBody (after s st) cell (w ∷ more) → first ≡ w
 
 -- the steps of the proof of the assertion in the slot, as they are stored
-abbrev pub AreStepsAt : Sight → ℕ → List StoredStep → Type 0
+abbrev pub AreStepsAt : {O : Type 0} → Sight O → ℕ → List StoredStep → Type 0
 AreStepsAt s i made = ForEachHeld s i (λ st lib e. AreStoredAs s.setting.slots st e.assertion.proof made)
 
 -- the slots that the steps cite are slots
@@ -79,13 +79,13 @@ abbrev pub AreWithin : ℕ → List StoredStep → Type 0
 AreWithin slots kept = (i : ℕ) → Has (Slot i) kept → i < slots
 
 -- the step with a cited label as a slot that has it; none where it cites a label that no assertion has
-abbrev pub StoresStep : Sight → Step → Option StoredStep → Type 0
+abbrev pub StoresStep : {O : Type 0} → Sight O → Step → Option StoredStep → Type 0
 StoresStep s step None = ForEach s (λ st lib. is_of_unknown lib step ≡ true)
 StoresStep s step (Some kept) =
     AreWithin s.setting.slots (kept ∷ []) × ForEach s (λ st lib. IsStoredAs (IsNamed s.setting.slots st) step kept)
 
 -- the steps with each cited label as a slot that has it; none where some step cites a label that no assertion has
-abbrev pub Resolves : Sight → List Step → Option (List StoredStep) → Type 0
+abbrev pub Resolves : {O : Type 0} → Sight O → List Step → Option (List StoredStep) → Type 0
 Resolves s steps None = ForEach s (λ st lib. list_any (is_of_unknown lib) steps ≡ true)
 Resolves s steps (Some kept) =
     (length kept ≡ length steps) × AreWithin s.setting.slots kept × ForEach s (λ st lib. AreStoredAs s.setting.slots st steps kept)
@@ -97,6 +97,6 @@ IsShortLabelled (Hyp k) = Unit {0}
 IsShortLabelled (Cite label) = All (λ byte. byte < 256) label
 
 -- the step that is stored as this one
-abbrev pub IsStepOf : ℕ → Sight → StoredStep → Step → Type 0
+abbrev pub IsStepOf : {O : Type 0} → ℕ → Sight O → StoredStep → Step → Type 0
 IsStepOf slots s kept made =
     (st : State) (x : Step) → Matches s st → IsShortLabelled x → IsStoredAs (IsNamed slots (after s st)) x kept → made ≡ x

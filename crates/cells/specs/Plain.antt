@@ -41,12 +41,15 @@ behind store words = record { start = length store; len = length words }
 abbrev pub with_place : Bool → List Place → Place → List Place
 with_place put places place = if put then places ++ place ∷ [] else places
 
--- what the run has seen: it knows all ranges; it has read the cells of its log; it keeps aside all values as they are now; and the words
+-- what the run has seen: it may do all; it knows all ranges; it has read the cells of its log; it keeps aside all values as they are now; and the words
 -- that were taken are those of the store
-abbrev pub plain_sight : Setting → ℕ → List ℕ → Pairs → List ℕ → List Place → Sight
+abbrev pub plain_sight : Setting → ℕ → List ℕ → Pairs → List ℕ → List Place → Sight (Unit {0})
 plain_sight setting room values log store places =
     record {
+      origin = tt;
       setting = setting;
+      may_write = true;
+      may_stage = true;
       ranges = ranges_in store places;
       reads = read_at_first (undone values log) log;
       writes = numbered_from 0 values;

@@ -11,7 +11,7 @@ abbrev pub setting_of : PlainCells → Setting
 setting_of c = record { prelude = c.prelude; slots = c.slots }
 
 -- what the run has seen: all ranges, and the cells of its log; all values as they are now are kept aside
-abbrev pub sight_of : PlainCells → Sight
+abbrev pub sight_of : PlainCells → Sight (Unit {0})
 sight_of c = plain_sight (setting_of c) c.room c.values.items c.log.items c.store.items c.ranges.items
 
 -- the state that the values show

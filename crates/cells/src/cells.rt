@@ -13,13 +13,17 @@ use ranges::Range;
 /// else sees it yet.
 ///
 /// Cells count from 0; a library of S slots has 7 S cells. Contracts speak of what the run has seen: the finished ranges that it knows,
-/// what it has read, and what it keeps aside.
+/// what it has read, and what it keeps aside; of what it may do; and of what it began with, which no call changes: so whoever lends a run
+/// gets the same one back.
 pub trait Cells {
     /// Why a run is stopped.
     type Stop: Drop;
 
-    // what the run has seen
-    ghost sight: { Self → Sight };
+    /// What a run began with, for contracts alone.
+    type Origin;
+
+    // what the run has seen, and what it may do
+    ghost sight: { Self → Sight Self.Origin };
 
     /// How many slots the library has.
     fn slots(&self) -> usize
@@ -35,8 +39,9 @@ pub trait Cells {
         ensures ok { IfOk result (λ v. Reads cell v (sight self.old) (sight self.new)) }
         ensures err { IfErr result (λ _. Looks (sight self.old) (sight self.new)) };
 
-    /// Keeps a value aside for a cell that was read. It takes no memory.
+    /// Keeps a value aside for a cell that was read, in a run that may. It takes no memory.
     fn write(&mut self, cell: usize, value: u64)
+        requires may { (sight self.old).may_write ≡ true }
         requires cell { cell < cell_count (sight self.old).setting.slots }
         requires read { WasRead (sight self.old) cell }
         requires named { is_ranged (sight self.old).setting.slots cell ≡ true → Names (sight self.old).ranges value }
@@ -48,13 +53,14 @@ pub trait Cells {
         ensures looks { Looks (sight self.old) (sight self.new) }
         ensures word { (words : List ℕ) → Knows (sight self.old) range words → slice_get words index ≡ Some result };
 
-    /// A finished range with these words, of which there is at least one.
+    /// A finished range with these words, of which there is at least one, in a run that may stage.
     ///
     /// # Errors
     ///
     /// The run is stopped. What was kept aside stays.
     fn stage(&mut self, words: &[u64]) -> Result<Range, Self::Stop>
-        requires { words.now ≢ [] }
+        requires may { (sight self.old).may_stage ≡ true }
+        requires some { words.now ≢ [] }
         ensures ok { IfOk result (λ range. Stages words.now range (sight self.old) (sight self.new)) }
         ensures err { IfErr result (λ _. Looks (sight self.old) (sight self.new)) };
 

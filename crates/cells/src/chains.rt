@@ -1,6 +1,6 @@
 //! Puts slots into the chains of label buckets, and takes them out.
 
-ghost use Rattle.std.specs.Prelude.{◌<◌, IfOk};
+ghost use Rattle.std.specs.Prelude.{◌≡◌, ◌<◌, true, IfOk};
 ghost use Rattle.cells.specs.Sight.{Sight, Onward};
 ghost use Rattle.cells.specs.Chains.{PutsIn, TakesOut};
 
@@ -13,7 +13,8 @@ use crate::places::{bucket, bucket_cell, link, next_cell, slot_count};
 ///
 /// The run is stopped.
 pub fn put_in<C: Cells>(cells: &mut C, slot: usize, label: &[u8]) -> Result<(), C::Stop>
-    requires { slot < (C.sight cells.old).setting.slots }
+    requires may { (C.sight cells.old).may_write ≡ true }
+    requires slot { slot < (C.sight cells.old).setting.slots }
     ensures onward { Onward (C.sight cells.old) (C.sight cells.new) }
     ensures ok { IfOk result (λ _. PutsIn slot label.now (C.sight cells.old) (C.sight cells.new)) }
 {
@@ -32,7 +33,8 @@ pub fn put_in<C: Cells>(cells: &mut C, slot: usize, label: &[u8]) -> Result<(), 
 ///
 /// The run is stopped.
 pub fn take_out<C: Cells>(cells: &mut C, slot: usize, label: &[u8]) -> Result<(), C::Stop>
-    requires { slot < (C.sight cells.old).setting.slots }
+    requires may { (C.sight cells.old).may_write ≡ true }
+    requires slot { slot < (C.sight cells.old).setting.slots }
     ensures onward { Onward (C.sight cells.old) (C.sight cells.new) }
     ensures ok { IfOk result (λ _. TakesOut slot label.now (C.sight cells.old) (C.sight cells.new)) }
 {

@@ -1,6 +1,6 @@
 //! Counts the citers of the assertions that a proof cites.
 
-ghost use Rattle.std.specs.Prelude.{◌<◌, All, IfOk};
+ghost use Rattle.std.specs.Prelude.{◌≡◌, ◌<◌, true, All, IfOk};
 ghost use Rattle.cells.specs.Sight.{Sight, Onward};
 ghost use Rattle.cells.specs.Filling.{AreCitedSlots, CountsAnyIn, CountsAnyOut};
 
@@ -34,7 +34,8 @@ pub fn cited_slots(alloc: Global, steps: &[StoredStep]) -> Result<Vec<usize>, Al
 ///
 /// The run is stopped.
 pub fn count_in<C: Cells>(cells: &mut C, cited: &[usize]) -> Result<(), C::Stop>
-    requires { All (λ i. i < (C.sight cells.old).setting.slots) cited.now }
+    requires may { (C.sight cells.old).may_write ≡ true }
+    requires slots { All (λ i. i < (C.sight cells.old).setting.slots) cited.now }
     ensures onward { Onward (C.sight cells.old) (C.sight cells.new) }
     ensures ok { IfOk result (λ _. CountsAnyIn cited.now (C.sight cells.old) (C.sight cells.new)) }
 {
@@ -52,6 +53,7 @@ pub fn count_in<C: Cells>(cells: &mut C, cited: &[usize]) -> Result<(), C::Stop>
 ///
 /// The run is stopped.
 pub fn count_out<C: Cells>(cells: &mut C, cited: &[usize]) -> Result<(), C::Stop>
+    requires { (C.sight cells.old).may_write ≡ true }
     ensures onward { Onward (C.sight cells.old) (C.sight cells.new) }
     ensures ok { IfOk result (λ _. CountsAnyOut cited.now (C.sight cells.old) (C.sight cells.new)) }
 {

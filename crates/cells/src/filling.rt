@@ -1,6 +1,6 @@
 //! Puts an assertion into an empty slot.
 
-ghost use Rattle.std.specs.Prelude.{◌≡◌, ◌≢◌, ◌<◌, [], false, IfOk};
+ghost use Rattle.std.specs.Prelude.{◌≡◌, ◌≢◌, ◌<◌, [], true, false, IfOk};
 ghost use Rattle.mmsyntax.specs.declared.statement.Kind.TheVariants.{Theorem};
 ghost use Rattle.cells.specs.State.{State, HasBody, with_value};
 ghost use Rattle.cells.specs.Slots.{cell_count, is_ranged, name_cell, proof_cell};
@@ -32,6 +32,7 @@ pub fn fill<C: Cells>(
     assertion: &Assertion,
     steps: &[StoredStep],
 ) -> Result<(), Halt<C::Stop>>
+    requires may { ((C.sight cells.old).may_write ≡ true) × ((C.sight cells.old).may_stage ≡ true) }
     requires slot { slot < (C.sight cells.old).setting.slots }
     requires fillable { IsFillable (C.sight cells.old).setting.slots assertion.now steps.now }
     ensures onward { Onward (C.sight cells.old) (C.sight cells.new) }
@@ -53,6 +54,7 @@ fn lay_down<C: Cells>(
     assertion: &Assertion,
     steps: &[StoredStep],
 ) -> Result<(), Halt<C::Stop>>
+    requires may { ((C.sight cells.old).may_write ≡ true) × ((C.sight cells.old).may_stage ≡ true) }
     requires slot { slot < (C.sight cells.old).setting.slots }
     requires labelled { assertion.now.label ≢ [] }
     requires some { assertion.now.kind ≡ Theorem → steps.now ≢ [] }
@@ -78,6 +80,7 @@ fn put_proof<C: Cells>(
     kind: Kind,
     steps: &[StoredStep],
 ) -> Result<(), Halt<C::Stop>>
+    requires may { ((C.sight cells.old).may_write ≡ true) × ((C.sight cells.old).may_stage ≡ true) }
     requires slot { slot < (C.sight cells.old).setting.slots }
     requires some { kind ≡ Theorem → steps.now ≢ [] }
     ensures onward { Onward (C.sight cells.old) (C.sight cells.new) }
@@ -96,6 +99,7 @@ fn put_proof<C: Cells>(
 
 /// Reads a cell and writes a value to it.
 pub fn put<C: Cells>(cells: &mut C, cell: usize, value: u64) -> Result<(), C::Stop>
+    requires may { (C.sight cells.old).may_write ≡ true }
     requires cell { cell < cell_count (C.sight cells.old).setting.slots }
     requires plain { is_ranged (C.sight cells.old).setting.slots cell ≡ false }
     ensures onward { Onward (C.sight cells.old) (C.sight cells.new) }
@@ -109,6 +113,7 @@ pub fn put<C: Cells>(cells: &mut C, cell: usize, value: u64) -> Result<(), C::St
 
 /// Stages words and has a cell name their range.
 pub fn put_body<C: Cells>(cells: &mut C, cell: usize, words: &[u64]) -> Result<(), C::Stop>
+    requires may { ((C.sight cells.old).may_write ≡ true) × ((C.sight cells.old).may_stage ≡ true) }
     requires cell { cell < cell_count (C.sight cells.old).setting.slots }
     requires some { words.now ≢ [] }
     ensures onward { Onward (C.sight cells.old) (C.sight cells.new) }
@@ -128,7 +133,8 @@ pub fn put_body<C: Cells>(cells: &mut C, cell: usize, words: &[u64]) -> Result<(
 ///
 /// The run is stopped.
 pub fn vacate<C: Cells>(cells: &mut C, slot: usize) -> Result<(), C::Stop>
-    requires { slot < (C.sight cells.old).setting.slots }
+    requires may { (C.sight cells.old).may_write ≡ true }
+    requires slot { slot < (C.sight cells.old).setting.slots }
     ensures onward { Onward (C.sight cells.old) (C.sight cells.new) }
     ensures ok { IfOk result (λ _. (st : State) → Empties slot (after (C.sight cells.old) st) (after (C.sight cells.new) st)) }
     ensures written { IfOk result (λ _. WasWritten (C.sight cells.new) (name_cell slot)) }

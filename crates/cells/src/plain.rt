@@ -1,6 +1,6 @@
 //! Cells and a store on plain vectors, for one thread.
 
-ghost use Rattle.std.specs.Prelude.{◌≡◌, ◌≢◌, ◌≤◌, ◌<◌, ◌*◌, ◌+◌, ◌++◌, ◌↔◌, [], ◌∷◌, length, slice_index, is_ok, if◌then◌else◌, IfOk, IfErr, IsErrOf, IsOkUnless};
+ghost use Rattle.std.specs.Prelude.{◌≡◌, ◌≢◌, ◌≤◌, ◌<◌, ◌*◌, ◌+◌, ◌++◌, ◌↔◌, [], ◌∷◌, length, slice_index, is_ok, true, if◌then◌else◌, IfOk, IfErr, IsErrOf, IsOkUnless};
 ghost use Rattle.cells.specs.Sight.{Looks, Reads, Stages};
 ghost use Rattle.cells.specs.Slots.{cell_count};
 ghost use Rattle.cells.specs.Plain.{undone, ranges_in, ShowsSome, BeganWithSome, HoldNames, LieInStore, IsLogOf, behind, with_place};
@@ -123,6 +123,20 @@ impl PlainCells {
         self.values[cell]
     }
 
+    /// The values of all cells as they stand now, whoever wrote them.
+    pub fn values(&self) -> &[u64]
+        ensures { result.now ≡ self.now.values.items }
+    {
+        self.values.as_slice()
+    }
+
+    /// The words of the store that are taken.
+    pub fn store(&self) -> &[u64]
+        ensures { result.now ≡ self.now.store.items }
+    {
+        self.store.as_slice()
+    }
+
     /// Keeps what this run wrote, and begins another.
     pub fn keep(&mut self)
         requires { ∥ ShowsSome (setting_of self.old) self.old.values.items self.old.store.items self.old.ranges.items ∥₁ }
@@ -179,6 +193,8 @@ impl Cells for PlainCells {
 
     type Stop = PlainStop;
 
+    type Origin = ();
+
     ghost sight = { sight_of };
 
     fn slots(&self) -> usize {
@@ -209,7 +225,8 @@ impl Cells for PlainCells {
 
     // the trait's clauses, and when the store is full
     fn stage(&mut self, words: &[u64]) -> Result<Range, PlainStop>
-        requires { words.now ≢ [] }
+        requires may { (sight_of self.old).may_stage ≡ true }
+        requires some { words.now ≢ [] }
         ensures ok { IfOk result (λ range. Stages words.now range (sight_of self.old) (sight_of self.new)) }
         ensures err { IfErr result (λ _. Looks (sight_of self.old) (sight_of self.new)) }
         ensures full { IsErrOf result PlainStop.StoreFull ↔ (self.old.room < length self.old.store.items + length words.now) }

@@ -121,7 +121,7 @@ module _ (s : Setting) (lib : List Ranked) (rank : ℕ) (a : Assertion) (ranked 
 -- ---- behind the tests of the label and the kind
 
 -- what is known once these have passed: by the look-up of the label
-pub record MayTest (s t : Sight) (rank : ℕ) (a : Assertion) : Type 0 where
+pub record MayTest {O : Type 0} (s t : Sight O) (rank : ℕ) (a : Assertion) : Type 0 where
   pub ranked : (rank == 0) ≡ false
   pub lawful : is_lawful_label s.setting.prelude a.label ≡ true
   pub theorem : a.kind ≡ Theorem
@@ -129,7 +129,7 @@ pub record MayTest (s t : Sight) (rank : ℕ) (a : Assertion) : Type 0 where
   pub new : ForEach t (λ st lib. has lib a.label ≡ false)
 
 -- the tests of the proof are those of the setting at the start
-module _ (s t u : Sight) (rank : ℕ) (a : Assertion) (may : MayTest s t rank a) (later : Looks t u) where
+module _ {O : Type 0} (s t u : Sight O) (rank : ℕ) (a : Assertion) (may : MayTest s t rank a) (later : Looks t u) where
   abbrev all_looks : Looks s u
   all_looks = looks_trans s t u may.looks later
 
@@ -151,7 +151,7 @@ module _ (s t u : Sight) (rank : ℕ) (a : Assertion) (may : MayTest s t rank a)
       refused s u (command.Add rank a) r all_looks (λ st lib v.
       to_proof st lib v ∙ tells st lib v (of_room u.setting lib) (done (added lib rank a)))
 
-  module _ (kept : List StoredStep) (passes : Passes u rank a kept) (w : Sight) (on : Looks u w) where
+  module _ (kept : List StoredStep) (passes : Passes u rank a kept) (w : Sight O) (on : Looks u w) where
     -- behind a proof that passes only room is left to be tested
     to_room : (st : State) (lib : List Ranked) → Views w st lib
         → edit s.setting lib (command.Add rank a) ≡ tested (of_room w.setting lib) (done (added lib rank a))
@@ -168,7 +168,7 @@ module _ (s t u : Sight) (rank : ℕ) (a : Assertion) (may : MayTest s t rank a)
         (le-leb w.setting.slots (length lib) (full st lib v)))
 
     -- in an empty slot it is added
-    pub add_done : (x : Sight) (from slot : ℕ) (steps : List StoredStep) → IsFirstEmpty w from slot → Onward w x → steps ≡ kept
+    pub add_done : (x : Sight O) (from slot : ℕ) (steps : List StoredStep) → IsFirstEmpty w from slot → Onward w x → steps ≡ kept
         → ((st : State) (lib : List Ranked) → Matches x st → (shown : Views w st lib)
         → MayFill w.setting.slots (after w st) lib slot a steps
         → Fills w.setting.slots (after x st) lib shown.shows.held slot rank a)

@@ -137,14 +137,14 @@ module _ (slots : ℕ) where
 
 -- ---- slot by slot
 
-module _ (r s : Sight) (slots k : ℕ) (is : slots ≡ s.setting.slots) (looks : Looks r s) (made : List Line)
+module _ {O : Type 0} (r s : Sight O) (slots k : ℕ) (is : slots ≡ s.setting.slots) (looks : Looks r s) (made : List Line)
     (lines : ForEach r (AreLinesBelow slots k made)) where
   pub one_empty : IfFull s k false → ForEach s (AreLinesBelow slots (k + 1) made)
   one_empty empty st lib v =
       lines_empty slots k made (after s st) lib v.matches.store (subst (λ n. IsEmpty n (after s st) k) (sym is) (empty st lib v))
       (for_each_later r s (AreLinesBelow slots k made) looks lines st lib v)
 
-  pub one_full : (t : Sight) → Looks s t → IfFull s k true → (l : Line) (more : List Line) → TellsLine t k l → more ≡ made ++ l ∷ []
+  pub one_full : (t : Sight O) → Looks s t → IfFull s k true → (l : Line) (more : List Line) → TellsLine t k l → more ≡ made ++ l ∷ []
       → ForEach t (AreLinesBelow slots (k + 1) more)
   one_full t on full l more told push st lib v =
       let held = for_each_later s t (λ x es. (e : Ranked) × Holds s.setting.slots x es k e × Contains es e) on full st lib v in

@@ -12,21 +12,21 @@ use Rattle.cells.specs.Chains.{Rechains, without_slot}
 use Rattle.cells.proofs.Found.{length_held, found_held, found_label}
 
 -- what the one call ensures
-abbrev pub TakesOut : Sight → Sight → ℕ → List ℕ → Type 0
+abbrev pub TakesOut : {O : Type 0} → Sight O → Sight O → ℕ → List ℕ → Type 0
 TakesOut s t i label =
     (st : State) (held : List Held) (e : Ranked) → Matches t st → AreChained s.setting.slots (after s st) held
     → Distinct nat_eq (slots_of held) → Has (record { slot = i; entry = e }) held → label_of e ≡ label → length held ≤ s.setting.slots
     → Rechains s.setting.slots (after s st) (after t st) held (without_slot i held)
 
 -- and the other
-abbrev pub PutsIn : Sight → Sight → ℕ → List ℕ → Type 0
+abbrev pub PutsIn : {O : Type 0} → Sight O → Sight O → ℕ → List ℕ → Type 0
 PutsIn s t i label =
     (st : State) (held : List Held) (e : Ranked) → Matches t st → AreChained s.setting.slots (after s st) held → label_of e ≡ label
     → (Has i (slots_of held) → ⊥)
     → Rechains s.setting.slots (after s st) (after t st) held (record { slot = i; entry = e } ∷ held)
 
 -- the slot of an assertion that was found is taken out, where the chains are still as they were seen
-pub taken_out : (old s t : Sight) (i : ℕ) (label : List ℕ) (st : State) (lib : List Ranked) → s.setting ≡ old.setting → TakesOut s t i label
+pub taken_out : {O : Type 0} → (old s t : Sight O) (i : ℕ) (label : List ℕ) (st : State) (lib : List Ranked) → s.setting ≡ old.setting → TakesOut s t i label
     → Matches t st → (v : Views old st lib) → IsFoundAt old.setting.slots (after old st) lib label i
     → AreChained old.setting.slots (after s st) v.shows.held
     → Rechains old.setting.slots (after s st) (after t st) v.shows.held (without_slot i v.shows.held)
@@ -44,7 +44,7 @@ taken_out old s t i label st lib setting takes m v at chained =
     (omega (arith, as_many, room, slots_are)))
 
 -- a slot that is in no chain is put in
-pub put_in_chain : (old s t : Sight) (i : ℕ) (label : List ℕ) (st : State) (held : List Held) (e : Ranked) → s.setting ≡ old.setting
+pub put_in_chain : {O : Type 0} → (old s t : Sight O) (i : ℕ) (label : List ℕ) (st : State) (held : List Held) (e : Ranked) → s.setting ≡ old.setting
     → PutsIn s t i label → Matches t st → label_of e ≡ label → (Has i (slots_of held) → ⊥) → AreChained old.setting.slots (after s st) held
     → Rechains old.setting.slots (after s st) (after t st) held (record { slot = i; entry = e } ∷ held)
 put_in_chain old s t i label st held e setting puts m own free chained =

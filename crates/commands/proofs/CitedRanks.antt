@@ -24,7 +24,7 @@ use Rattle.cells.proofs.ReadBack.{zip_at}
 use Rattle.commands.specs.Citing.{ForEachStored, TellsNotBelow}
 
 -- what was so of all steps that are stored as these stays so while nothing is written
-pub stored_later : (s t : Sight) (kept : List StoredStep) (told : List Ranked → List Step → Type 0) → Looks s t → ForEachStored s kept told
+pub stored_later : {O : Type 0} → (s t : Sight O) (kept : List StoredStep) (told : List Ranked → List Step → Type 0) → Looks s t → ForEachStored s kept told
     → ForEachStored t kept told
 stored_later s t kept told looks each = λ st lib v steps stored.
     let same = subst (λ (x : State). AreStoredAs t.setting.slots x steps kept) (after_looks s t st looks) stored in
@@ -33,12 +33,12 @@ stored_later s t kept told looks each = λ st lib v steps stored.
 -- ---- one step
 
 -- whether a step that is stored as this one cites an assertion that isn't below the rank
-abbrev pub IsNotBelow : Sight → ℕ → StoredStep → Bool → Type 0
+abbrev pub IsNotBelow : {O : Type 0} → Sight O → ℕ → StoredStep → Bool → Type 0
 IsNotBelow s rank x b =
     ForEach s (λ st lib. (step : Step) → IsStoredAs (IsNamed s.setting.slots st) step x → cites_not_below lib rank step ≡ b)
 
 -- one that names no slot cites nothing
-pub uncited_below : (s : Sight) (rank : ℕ) (x : StoredStep) → ((i : ℕ) → x ≡ stored.Slot i → ⊥) → IsNotBelow s rank x false
+pub uncited_below : {O : Type 0} → (s : Sight O) (rank : ℕ) (x : StoredStep) → ((i : ℕ) → x ≡ stored.Slot i → ⊥) → IsNotBelow s rank x false
 uncited_below s rank x other = λ st lib v step is. by_step st lib step x other is
   where
     by_step : (st : State) (lib : List Ranked) (step : Step) (x : StoredStep) → ((i : ℕ) → x ≡ stored.Slot i → ⊥)
@@ -50,7 +50,7 @@ uncited_below s rank x other = λ st lib v step is. by_step st lib step x other 
     by_step st lib (Cite label) (stored.Slot j) other is = absurd (other j refl)
 
 -- nothing is stored as what names no slot of the library
-pub past_below : (s : Sight) (rank i : ℕ) (b : Bool) → (i < s.setting.slots → ⊥) → IsNotBelow s rank (stored.Slot i) b
+pub past_below : {O : Type 0} → (s : Sight O) (rank i : ℕ) (b : Bool) → (i < s.setting.slots → ⊥) → IsNotBelow s rank (stored.Slot i) b
 past_below s rank i b past = λ st lib v step is. by_step st lib step is
   where
     by_step : (st : State) (lib : List Ranked) (step : Step) → IsStoredAs (IsNamed s.setting.slots (after s st)) step (stored.Slot i)
@@ -60,7 +60,7 @@ past_below s rank i b past = λ st lib v step is. by_step st lib step is
     by_step st lib (Cite label) is = absurd (past is.within)
 
 -- the rank of what a slot holds tells it of one that names the slot
-pub ranked_below : (s : Sight) (rank i n : ℕ) (b : Bool) → ForEachHeld s i (λ st lib e. n ≡ e.rank) → nat_le rank n ≡ b
+pub ranked_below : {O : Type 0} → (s : Sight O) (rank i n : ℕ) (b : Bool) → ForEachHeld s i (λ st lib e. n ≡ e.rank) → nat_le rank n ≡ b
     → IsNotBelow s rank (stored.Slot i) b
 ranked_below s rank i n b ranked is_so = λ st lib v step is.
     by_step st lib step (λ label named.
@@ -78,13 +78,13 @@ ranked_below s rank i n b ranked is_so = λ st lib v step is.
 -- ---- all steps
 
 -- the first steps cite only what is below the rank
-abbrev pub AreBelow : Sight → ℕ → ℕ → List StoredStep → Type 0
+abbrev pub AreBelow : {O : Type 0} → Sight O → ℕ → ℕ → List StoredStep → Type 0
 AreBelow s rank i kept = ForEachStored s kept (λ lib steps. list_any (cites_not_below lib rank) (take i steps) ≡ false)
 
-pub below_none : (s : Sight) (rank : ℕ) (kept : List StoredStep) → AreBelow s rank 0 kept
+pub below_none : {O : Type 0} → (s : Sight O) (rank : ℕ) (kept : List StoredStep) → AreBelow s rank 0 kept
 below_none s rank kept = λ st lib v steps stored. refl
 
-pub below_more : (s t : Sight) (rank i : ℕ) (kept : List StoredStep) (d : StoredStep) → Looks s t → AreBelow s rank i kept → i < length kept
+pub below_more : {O : Type 0} → (s t : Sight O) (rank i : ℕ) (kept : List StoredStep) (d : StoredStep) → Looks s t → AreBelow s rank i kept → i < length kept
     → IsNotBelow t rank (get_or kept i d) false → AreBelow t rank (i + 1) kept
 below_more s t rank i kept d looks below lt one = λ st lib v steps stored.
     let p = cites_not_below lib rank in
@@ -94,13 +94,13 @@ below_more s t rank i kept d looks below lt one = λ st lib v steps stored.
     ∙ or_from (list_any (cites_not_below lib rank) (take i steps)) (cites_not_below lib rank (get_or steps i (Float 0))) before
     (one st lib v (get_or steps i (Float 0)) at.0)
 
-pub tells_below : (s : Sight) (rank i : ℕ) (kept : List StoredStep) → length kept ≡ i → AreBelow s rank i kept
+pub tells_below : {O : Type 0} → (s : Sight O) (rank i : ℕ) (kept : List StoredStep) → length kept ≡ i → AreBelow s rank i kept
     → TellsNotBelow s rank kept false
 tells_below s rank i kept n below = λ st lib v steps stored.
     let long = AllZip-long (IsStoredAs (IsNamed s.setting.slots (after s st))) steps kept stored in
     sym (ap (list_any (cites_not_below lib rank)) (sym (take_all i steps (omega (arith, long, n)))) ∙ below st lib v steps stored)
 
-pub tells_not_below : (s : Sight) (rank i : ℕ) (kept : List StoredStep) (d : StoredStep) → i < length kept
+pub tells_not_below : {O : Type 0} → (s : Sight O) (rank i : ℕ) (kept : List StoredStep) (d : StoredStep) → i < length kept
     → IsNotBelow s rank (get_or kept i d) true → TellsNotBelow s rank kept true
 tells_not_below s rank i kept d lt one = λ st lib v steps stored.
     let at = zip_at (IsStoredAs (IsNamed s.setting.slots (after s st))) steps kept i (Float 0) d stored lt in

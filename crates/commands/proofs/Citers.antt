@@ -106,7 +106,7 @@ none_up_to lib label rank each =
 -- ---- stored steps
 
 -- steps that are stored cite the assertion in a slot exactly where the stored ones have the slot
-pub cites_told : (s : Sight) (citing cited : ℕ) (kept : List StoredStep) (b : Bool)
+pub cites_told : {O : Type 0} → (s : Sight O) (citing cited : ℕ) (kept : List StoredStep) (b : Bool)
     → ForEachHeld s citing (λ st lib f. AreStoredAs s.setting.slots st f.assertion.proof kept)
     → (IsTrue b ↔ Contains kept (stored.Slot cited)) → TellsCites s citing cited b
 cites_told s citing cited kept b each iff st lib v f f_in f_held e e_in e_held =
@@ -141,7 +141,7 @@ module _ (slots i limit : ℕ) where
   abbrev pub AreUncited : ℕ → State → List Ranked → Type 0
   AreUncited k st lib = (j : ℕ) → j < k → IsUncited j st lib
 
-module _ (s : Sight) (i limit : ℕ) where
+module _ {O : Type 0} (s : Sight O) (i limit : ℕ) where
   pub all_uncited : (slots k : ℕ) → slots ≡ s.setting.slots → slots ≤ k → ForEach s (AreUncited slots i limit k)
       → TellsCitedUpTo s i limit false
   all_uncited slots k is past each st lib v e e_in e_held =
@@ -209,7 +209,7 @@ module _ (s : Sight) (i limit : ℕ) where
         ]
 
   -- one slot more
-  pub more_uncited : (r : Sight) (slots k : ℕ) → slots ≡ s.setting.slots → Looks r s → ForEach r (AreUncited slots i limit k)
+  pub more_uncited : (r : Sight O) (slots k : ℕ) → slots ≡ s.setting.slots → Looks r s → ForEach r (AreUncited slots i limit k)
       → ForEach s (IsUncited s.setting.slots i limit k) → ForEach s (AreUncited slots i limit (k + 1))
   more_uncited r slots k is looks each one st lib v =
       below_more (λ j. IsUncited slots i limit j (after s st) lib) k (for_each_later r s (AreUncited slots i limit k) looks each st lib v)

@@ -12,7 +12,7 @@ use Rattle.commands.specs.Answers.{WritesIfEdit, Does}
 use Rattle.commands.proofs.Seeing.{views_later}
 
 -- a label that was found is found there while nothing is written
-pub finds_later : (s t : Sight) (label : List ℕ) (i : ℕ) → Looks s t → Finds s label (Some i) → Finds t label (Some i)
+pub finds_later : {O : Type 0} → (s t : Sight O) (label : List ℕ) (i : ℕ) → Looks s t → Finds s label (Some i) → Finds t label (Some i)
 finds_later s t label i f finds =
     let same = sym (same_slots s t f) in (
       subst (λ n. i < n) same finds.0,
@@ -22,13 +22,13 @@ finds_later s t label i f finds =
     )
 
 -- a read only looks, whether the run is stopped or not
-pub read_looks : {E : Type 0} (s t : Sight) (cell : ℕ) (r : Result ℕ E) → IfOk r (λ v. Reads cell v s t)
+pub read_looks : {O : Type 0} → {E : Type 0} (s t : Sight O) (cell : ℕ) (r : Result ℕ E) → IfOk r (λ v. Reads cell v s t)
     → IfErr r (λ _. Looks s t) → Looks s t
 read_looks s t cell (Ok v) ok err = ok.looks
 read_looks s t cell (Err e) ok err = err
 
 -- the command is no edit, and leaves each library as it is
-pub does_reading : (s t : Sight) (c : Command) (reply : Reply) → Looks s t → is_edit c ≡ false
+pub does_reading : {O : Type 0} → (s t : Sight O) (c : Command) (reply : Reply) → Looks s t → is_edit c ≡ false
     → ForEach t (λ st lib. edit s.setting lib c ≡ Ok (record { library = lib; reply = reply })) → Does s t c reply
 does_reading s t c reply looks reads each =
     record {

@@ -32,7 +32,7 @@ use Rattle.commands.proofs.CitedRanks.{stored_later}
 -- ---- one frame
 
 -- a label that has a frame keeps it
-pub notes_none : (s : Sight) (t : Tables) (i : ℕ) (label : List ℕ) (frames : Citable) → is_some (frames label) ≡ true
+pub notes_none : {O : Type 0} → (s : Sight O) (t : Tables) (i : ℕ) (label : List ℕ) (frames : Citable) → is_some (frames label) ≡ true
     → NotesFrame s t i label frames frames
 notes_none s t i label frames there =
     record {
@@ -42,7 +42,7 @@ notes_none s t i label frames there =
     }
 
 -- a label that has none gets one
-pub notes_one : (s : Sight) (t : Tables) (i : ℕ) (label : List ℕ) (old new : Citable) (f : Frame) → is_some (old label) ≡ false
+pub notes_one : {O : Type 0} → (s : Sight O) (t : Tables) (i : ℕ) (label : List ℕ) (old new : Citable) (f : Frame) → is_some (old label) ≡ false
     → new label ≡ Some f → ((other : List ℕ) → other ≢ label → new other ≡ old other)
     → ForEachHeld s i (λ st lib e. f ≡ frame t e.assertion) → NotesFrame s t i label old new
 notes_one s t i label old new f free is others held =
@@ -64,10 +64,10 @@ pub record AreNoted (t : Tables) (lib : List Ranked) (steps : List Step) (frames
   pub all : (label : List ℕ) → Has (Cite label) steps → HasFrame frames label
 
 -- so of the first of the steps, where they are stored as these
-abbrev pub FirstAreNoted : Sight → Tables → List Step → List StoredStep → ℕ → Citable → Type 0
+abbrev pub FirstAreNoted : {O : Type 0} → Sight O → Tables → List Step → List StoredStep → ℕ → Citable → Type 0
 FirstAreNoted s t steps kept i frames = ForEachStored s kept (λ lib xs. xs ≡ steps → AreNoted t lib (take i xs) frames)
 
-pub none_noted : (s : Sight) (t : Tables) (steps : List Step) (kept : List StoredStep) (frames : Citable)
+pub none_noted : {O : Type 0} → (s : Sight O) (t : Tables) (steps : List Step) (kept : List StoredStep) (frames : Citable)
     → ((label : List ℕ) → frames label ≡ None)
     → FirstAreNoted s t steps kept 0 frames
 none_noted s t steps kept frames empty = λ st lib v xs stored is.
@@ -87,7 +87,7 @@ cases_label a b = elim (cases_Bool (bytes_eq a b)) [
 ]
 
 -- a citation further, with the frame noted of the slot that it is stored as
-pub noted_more : (s s' : Sight) (t : Tables) (steps : List Step) (kept : List StoredStep) (i : ℕ) (label : List ℕ) (slot : ℕ)
+pub noted_more : {O : Type 0} → (s s' : Sight O) (t : Tables) (steps : List Step) (kept : List StoredStep) (i : ℕ) (label : List ℕ) (slot : ℕ)
     (old new : Citable)
     (d : Step) (e : StoredStep) → Looks s s' → FirstAreNoted s t steps kept i old → i < length kept → get_or steps i d ≡ Cite label
     → get_or kept i e ≡ stored.Slot slot → NotesFrame s' t slot label old new → FirstAreNoted s' t steps kept (i + 1) new
@@ -137,7 +137,7 @@ noted_more s s' t steps kept i label slot old new d e looks each lt cite slot_is
     }
 
 -- a step further that is no citation which is stored as a slot
-pub noted_past : (s : Sight) (t : Tables) (steps : List Step) (kept : List StoredStep) (i : ℕ) (frames : Citable)
+pub noted_past : {O : Type 0} → (s : Sight O) (t : Tables) (steps : List Step) (kept : List StoredStep) (i : ℕ) (frames : Citable)
     (d : Step) (e : StoredStep) → FirstAreNoted s t steps kept i frames → i < length kept
     → ((label : List ℕ) (slot : ℕ) → get_or steps i d ≡ Cite label → get_or kept i e ≡ stored.Slot slot → ⊥)
     → FirstAreNoted s t steps kept (i + 1) frames
@@ -163,7 +163,7 @@ noted_past s t steps kept i frames d e each lt other = λ st lib v xs are_stored
     uncited named l (stored.Slot j) h free = free j refl
 
 -- at the end
-pub all_noted : (s : Sight) (t : Tables) (steps : List Step) (kept : List StoredStep) (i : ℕ) (frames : Citable)
+pub all_noted : {O : Type 0} → (s : Sight O) (t : Tables) (steps : List Step) (kept : List StoredStep) (i : ℕ) (frames : Citable)
     → i ≡ min (length steps) (length kept) → FirstAreNoted s t steps kept i frames
     → TellsFrames s t steps kept frames
 all_noted s t steps kept i frames n each = λ st lib v are_stored label h.

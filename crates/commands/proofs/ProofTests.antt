@@ -106,13 +106,13 @@ outcome_lower s lib rank a frames apart below are known =
 -- ---- tests
 
 -- a label that no assertion has is cited
-pub fails_unknown : (s : Sight) (rank : ℕ) (a : Assertion) → Resolves s a.proof None → Fails s rank a CitesUnknown
+pub fails_unknown : {O : Type 0} → (s : Sight O) (rank : ℕ) (a : Assertion) → Resolves s a.proof None → Fails s rank a CitesUnknown
 fails_unknown s rank a unknown = λ st lib v more edited.
     first_refuses (list_any (is_of_unknown lib) a.proof) CitesUnknown
     (cited_not_lower lib rank a.proof ∷ proof_fails s.setting lib rank a ∷ more) edited (unknown st lib v)
 
 -- each cited label is an assertion's
-pub past_unknown : (s : Sight) (rank : ℕ) (a : Assertion) (kept : List StoredStep) (st : State) (lib : List Ranked) → Views s st lib
+pub past_unknown : {O : Type 0} → (s : Sight O) (rank : ℕ) (a : Assertion) (kept : List StoredStep) (st : State) (lib : List Ranked) → Views s st lib
     → AreStoredAs s.setting.slots (after s st) a.proof kept → (more : Tests) (edited : Edited)
     → tested (proof_tests s lib rank a more) edited
     ≡ tested (cited_not_lower lib rank a.proof ∷ proof_fails s.setting lib rank a ∷ more) edited
@@ -122,14 +122,14 @@ past_unknown s rank a kept st lib v are more edited =
     (none_unknown s.setting.slots (after s st) lib v.shows v.matches.store a.proof kept are)
 
 -- the steps that are resolved go on to be stored so
-pub stored_on : (s t : Sight) (steps : List Step) (kept : List StoredStep) → Looks s t
+pub stored_on : {O : Type 0} → (s t : Sight O) (steps : List Step) (kept : List StoredStep) → Looks s t
     → ForEach s (λ st lib. AreStoredAs s.setting.slots st steps kept) → ForEach t (λ st lib. AreStoredAs t.setting.slots st steps kept)
 stored_on s t steps kept looks each = λ st lib v.
     subst (λ (n : ℕ). AreStoredAs n (after t st) steps kept) (sym (same_slots s t looks))
     (for_each_later s t (λ x l. AreStoredAs s.setting.slots x steps kept) looks each st lib v)
 
 -- an assertion that isn't below is cited
-pub fails_below : (r s : Sight) (rank : ℕ) (a : Assertion) (kept : List StoredStep) → Looks r s → Resolves r a.proof (Some kept)
+pub fails_below : {O : Type 0} → (r s : Sight O) (rank : ℕ) (a : Assertion) (kept : List StoredStep) → Looks r s → Resolves r a.proof (Some kept)
     → TellsNotBelow s rank kept true → Fails s rank a CitedNotLower
 fails_below r s rank a kept looks resolved told = λ st lib v more edited.
     let are = stored_on r s a.proof kept looks resolved.2 st lib v in
@@ -138,14 +138,14 @@ fails_below r s rank a kept looks resolved told = λ st lib v more edited.
     (sym (told st lib v a.proof are))
 
 -- what is known of a proof's steps behind the first two tests
-pub record IsSifted (s : Sight) (t : Tables) (rank : ℕ) (a : Assertion) (kept : List StoredStep) (frames : Citable) : Type 0 where
+pub record IsSifted {O : Type 0} (s : Sight O) (t : Tables) (rank : ℕ) (a : Assertion) (kept : List StoredStep) (frames : Citable) : Type 0 where
   pub same_prelude : t ≡ s.setting.prelude
   pub stored : ForEach s (λ st lib. AreStoredAs s.setting.slots st a.proof kept)
   pub below : TellsNotBelow s rank kept false
   pub are_frames : TellsFrames s t a.proof kept frames
 
 -- behind them the fault over the frames decides
-pub sifted_tests : (s : Sight) (t : Tables) (rank : ℕ) (a : Assertion) (kept : List StoredStep) (frames : Citable)
+pub sifted_tests : {O : Type 0} → (s : Sight O) (t : Tables) (rank : ℕ) (a : Assertion) (kept : List StoredStep) (frames : Citable)
     (fault : Option ProofFault) → IsSifted s t rank a kept frames → TellsFault frames t a fault → (st : State) (lib : List Ranked)
     → Views s st lib → (more : Tests) (edited : Edited)
     → tested (proof_tests s lib rank a more) edited ≡ tested (option_map ProofFails fault ∷ more) edited
@@ -163,7 +163,7 @@ sifted_tests s t rank a kept frames fault sifted tells st lib v more edited =
     ∙ first_passes (list_any (cites_not_below lib rank) a.proof) CitedNotLower (proof_fails s.setting lib rank a ∷ more) edited below
     ∙ ap (λ (o : Option Reason). tested (o ∷ more) edited) fails
 
-pub fails_fault : (s : Sight) (t : Tables) (rank : ℕ) (a : Assertion) (kept : List StoredStep) (frames : Citable) (fault : ProofFault)
+pub fails_fault : {O : Type 0} → (s : Sight O) (t : Tables) (rank : ℕ) (a : Assertion) (kept : List StoredStep) (frames : Citable) (fault : ProofFault)
     → IsSifted s t rank a kept frames → TellsFault frames t a (Some fault) → Fails s rank a (ProofFails fault)
 fails_fault s t rank a kept frames fault sifted tells = λ st lib v more edited.
     sifted_tests s t rank a kept frames (Some fault) sifted tells st lib v more edited
@@ -174,7 +174,7 @@ some_kept [] kept n some e = some refl
 some_kept (x ∷ steps) [] n some e = omega (arith, n)
 some_kept (x ∷ steps) (k ∷ kept) n some e = absurd cc
 
-pub passes : (r s : Sight) (t : Tables) (rank : ℕ) (a : Assertion) (kept : List StoredStep) (frames : Citable) → Looks r s
+pub passes : {O : Type 0} → (r s : Sight O) (t : Tables) (rank : ℕ) (a : Assertion) (kept : List StoredStep) (frames : Citable) → Looks r s
     → Resolves r a.proof (Some kept) → IsSifted s t rank a kept frames → TellsFault frames t a None → Passes s rank a kept
 passes r s t rank a kept frames looks resolved sifted tells =
     record {
@@ -185,7 +185,7 @@ passes r s t rank a kept frames looks resolved sifted tells =
     }
 
 -- what one call after another tells of the steps
-pub sifted : (s0 s1 s2 s3 : Sight) (t : Tables) (rank : ℕ) (a : Assertion) (steps : List Step) (kept first second : List StoredStep)
+pub sifted : {O : Type 0} → (s0 s1 s2 s3 : Sight O) (t : Tables) (rank : ℕ) (a : Assertion) (steps : List Step) (kept first second : List StoredStep)
     (frames : Citable)
     → t ≡ s0.setting.prelude → Looks s0 s1 → Looks s1 s2 → Looks s2 s3 → steps ≡ a.proof → first ≡ kept → second ≡ kept
     → Resolves s1 a.proof (Some kept) → TellsNotBelow s2 rank first false

@@ -73,14 +73,14 @@ module _ (s : Setting) (lib : List Ranked) (label : List ℕ) (rank : ℕ) (e : 
 -- ---- the assertion in a slot
 
 -- a slot's proof is stored as it was, while nothing is written
-pub stored_since : (s t : Sight) (i : ℕ) (kept : List StoredStep) → Looks s t
+pub stored_since : {O : Type 0} → (s t : Sight O) (i : ℕ) (kept : List StoredStep) → Looks s t
     → ForEachHeld s i (λ st lib e. AreStoredAs s.setting.slots st e.assertion.proof kept)
     → ForEachHeld t i (λ st lib e. AreStoredAs t.setting.slots st e.assertion.proof kept)
 stored_since s t i kept looks each st lib v e at h =
     subst (λ n. AreStoredAs n (after t st) e.assertion.proof kept) (sym (same_slots s t looks))
     (held_later s t i (λ x l f. AreStoredAs s.setting.slots x f.assertion.proof kept) looks each st lib v e at h)
 
-module _ (s t : Sight) (looks : Looks s t) (i : ℕ) (label : List ℕ) (rank : ℕ) (finds : Finds t label (Some i)) where
+module _ {O : Type 0} (s t : Sight O) (looks : Looks s t) (i : ℕ) (label : List ℕ) (rank : ℕ) (finds : Finds t label (Some i)) where
   pub refused_unranked : rank ≡ 0 → IsRefused s t (Move label rank) BadRank
   refused_unranked none =
       refused s t (Move label rank) BadRank looks
@@ -117,7 +117,7 @@ module _ (s t : Sight) (looks : Looks s t) (i : ℕ) (label : List ℕ) (rank : 
           move_not_below s.setting lib label rank at.entry at.found some (cited_there false st lib v high) (citing_there true st lib v low))
 
       -- its rank cell has the rank then, and nothing else was written
-      pub does_move : (u : Sight) → Onward t u → TellsCitedUpTo t i rank false
+      pub does_move : (u : Sight O) → Onward t u → TellsCitedUpTo t i rank false
           → ((st : State) → after u st ≡ with_value (rank_cell i) rank (after t st)) → WasWritten u (rank_cell i)
           → Does s u (Move label rank) Done
       does_move u onward low put written =

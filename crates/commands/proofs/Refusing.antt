@@ -42,22 +42,22 @@ of_some lib label act e h = ap (λ o. of_found o act) h
 -- ---- answers
 
 -- what is refused of every library that is seen in the end, while nothing was kept aside
-pub refused : (s t : Sight) (c : Command) (r : Reason) → Looks s t → ForEach t (λ st lib. edit s.setting lib c ≡ Err r) → IsRefused s t c r
+pub refused : {O : Type 0} → (s t : Sight O) (c : Command) (r : Reason) → Looks s t → ForEach t (λ st lib. edit s.setting lib c ≡ Err r) → IsRefused s t c r
 refused s t c r looks each = record { refuses = λ st lib m v. each st lib (views_later s t st lib looks m v); looks = looks }
 
 -- what is refused of every library by the setting of the later sight
-pub refused_later : (s t : Sight) (c : Command) (r : Reason) → Looks s t → ForEach t (λ st lib. edit t.setting lib c ≡ Err r)
+pub refused_later : {O : Type 0} → (s t : Sight O) (c : Command) (r : Reason) → Looks s t → ForEach t (λ st lib. edit t.setting lib c ≡ Err r)
     → IsRefused s t c r
 refused_later s t c r looks each =
     refused s t c r looks (λ st lib v. subst (λ (x : Setting). edit x lib c ≡ Err r) looks.onward.setting (each st lib v))
 
 -- so the answer is this reason
-pub answers_refused : {S : Type 0} (s t : Sight) (c : Command) (r : Reason) (error : CommandError S) → error ≡ command.Refused r
+pub answers_refused : {O : Type 0} → {S : Type 0} (s t : Sight O) (c : Command) (r : Reason) (error : CommandError S) → error ≡ command.Refused r
     → IsRefused s t c r → CommandAnswers s t c (Err error)
 answers_refused s t c r error is h = subst (λ e. CommandAnswers s t c (Err e)) (sym is) h
 
 -- the test of a proof that ended early ends the command: refused where a test refuses it
-pub answers_tested : {S : Type 0} (s t : Sight) (c : Command) (rank : ℕ) (a : Assertion) (result : Result Reply (CommandError S))
+pub answers_tested : {O : Type 0} → {S : Type 0} (s t : Sight O) (c : Command) (rank : ℕ) (a : Assertion) (result : Result Reply (CommandError S))
     (error : CommandError S) → IsErrAnd result (λ e. e ≡ error) → TellsRefusal t rank a error
     → ((r : Reason) → Fails t rank a r → IsRefused s t c r) → CommandAnswers s t c result
 answers_tested s t c rank a (Ok reply) error is tells refuses = absurd is

@@ -26,7 +26,7 @@ use Rattle.commands.proofs.Refusing.{first_refuses, first_passes}
 use Rattle.commands.proofs.Seeing.{has_found, views_later, found_later}
 
 -- the name cell names the new label's body, and then the slot is taken out of the one chain and put into the other
-pub relabelled : (s0 s1 s2 s3 : Sight) (i : ℕ) (from to words : List ℕ) → Onward s0 s1 → Onward s1 s2 → Onward s2 s3 → words ≡ label_body to
+pub relabelled : {O : Type 0} → (s0 s1 s2 s3 : Sight O) (i : ℕ) (from to words : List ℕ) → Onward s0 s1 → Onward s1 s2 → Onward s2 s3 → words ≡ label_body to
     → ((st : State) → Matches s1 st → HasBody (after s1 st) (name_cell i) words)
     → ((st : State) (c : ℕ) → c ≢ name_cell i → (after s1 st).value c ≡ (after s0 st).value c)
     → TakesOut s1 s2 i from → PutsIn s2 s3 i to → RenamesAt s0 s3 i from to
@@ -71,7 +71,7 @@ module _ (s : Setting) (lib : List Ranked) (from to : List ℕ) where
     rename_done h free = lawful h ∙ first_passes (has lib to) reason.LabelTaken _ _ free
 
 -- the label of what was found is replaced
-pub renamed : (s0 s1 s2 s3 : Sight) (i : ℕ) (from to : List ℕ) → Looks s0 s1 → Looks s1 s2 → Onward s2 s3
+pub renamed : {O : Type 0} → (s0 s1 s2 s3 : Sight O) (i : ℕ) (from to : List ℕ) → Looks s0 s1 → Looks s1 s2 → Onward s2 s3
     → is_lawful_label s0.setting.prelude to ≡ true → Finds s1 from (Some i) → ForEach s2 (λ st lib. has lib to ≡ false)
     → RenamesAt s2 s3 i from to → WritesSome s3 → Does s0 s3 (command.Rename from to) Done
 renamed s0 s1 s2 s3 i from to looks1 looks2 on3 lawful found free renames writes =

@@ -27,13 +27,13 @@ use Rattle.commands.proofs.Seeing.{views_later, found_later}
 use Rattle.commands.proofs.Refusing.{first_refuses, first_passes, of_some}
 
 -- what counting out ensures
-abbrev pub CountsOutOf : Sight → Sight → List ℕ → Type 0
+abbrev pub CountsOutOf : {O : Type 0} → Sight O → Sight O → List ℕ → Type 0
 CountsOutOf s t listed =
     (st : State) → Matches t st → All (λ i. i < s.setting.slots) listed → Distinct nat_eq listed
     → CountsOut listed (after s st) (after t st)
 
 -- what a proof that was read cites is counted out, its slot is taken out of its chain, and its five cells are emptied
-pub removed : (s0 s1 s2 s3 s4 : Sight) (i : ℕ) (label : List ℕ) (former : List StoredStep) (listed : List ℕ) → Looks s0 s1 → Onward s1 s2
+pub removed : {O : Type 0} → (s0 s1 s2 s3 s4 : Sight O) (i : ℕ) (label : List ℕ) (former : List StoredStep) (listed : List ℕ) → Looks s0 s1 → Onward s1 s2
     → Onward s2 s3 → Onward s3 s4 → ForEachHeld s1 i (λ st lib e. AreStoredAs s1.setting.slots st e.assertion.proof former)
     → AreCitedSlots former listed → CountsOutOf s1 s2 listed → TakesOut s2 s3 i label
     → ((st : State) → Empties i (after s3 st) (after s4 st)) → DeletesAt s0 s4 i label
@@ -74,11 +74,11 @@ module _ (s : Setting) (lib : List Ranked) (label : List ℕ) (e : Ranked) (at :
       ∙ first_passes (nat_le 1 (citers lib label)) (reason.StillCited (citers lib label)) _ _ (ap (nat_le 1) none)
 
 -- an assertion has the label, and so many proofs cite it
-abbrev pub CountsCiters : Sight → List ℕ → ℕ → Type 0
+abbrev pub CountsCiters : {O : Type 0} → Sight O → List ℕ → ℕ → Type 0
 CountsCiters s label n = ForEach s (λ st lib. (e : Ranked) × (found lib label ≡ Some e) × (n ≡ citers lib label))
 
 -- the number that was read is that of the proofs that cite what was found
-pub counted : (s t : Sight) (i : ℕ) (label : List ℕ) (n : ℕ) → Looks s t → Finds s label (Some i)
+pub counted : {O : Type 0} → (s t : Sight O) (i : ℕ) (label : List ℕ) (n : ℕ) → Looks s t → Finds s label (Some i)
     → ForEachHeld t i (λ st lib e. n ≡ citers lib (label_of e)) → CountsCiters t label n
 counted s t i label n looks finds read st lib v =
     let at = found_later s t st lib label i looks (finds.1 st lib (views_back s t st lib looks v)) in
@@ -86,7 +86,7 @@ counted s t i label n looks finds read st lib v =
     (at.entry, at.found, read st lib v at.entry own.0 at.holds ∙ ap (citers lib) (sym own.1))
 
 -- what was found, and nothing cites, is removed
-pub deleted : (s0 s1 s2 s3 : Sight) (i : ℕ) (label : List ℕ) → Looks s0 s1 → Looks s1 s2 → Onward s2 s3 → Finds s1 label (Some i)
+pub deleted : {O : Type 0} → (s0 s1 s2 s3 : Sight O) (i : ℕ) (label : List ℕ) → Looks s0 s1 → Looks s1 s2 → Onward s2 s3 → Finds s1 label (Some i)
     → CountsCiters s2 label 0 → DeletesAt s2 s3 i label → WritesSome s3
     → Does s0 s3 (command.Delete label) Done
 deleted s0 s1 s2 s3 i label looks1 looks2 on3 finds counts deletes writes =

@@ -23,13 +23,13 @@ use Rattle.commands.proofs.Seeing.{views_later, found_later}
 use Rattle.commands.proofs.Removing.{CountsOutOf}
 
 -- what counting in ensures
-abbrev pub CountsInOf : Sight → Sight → List ℕ → Type 0
+abbrev pub CountsInOf : {O : Type 0} → Sight O → Sight O → List ℕ → Type 0
 CountsInOf s t listed =
     (st : State) → Matches t st → ((i : ℕ) → Has i listed → (after s st).value (citers_cell i) < 2 ^ 32) → Distinct nat_eq listed
     → CountsIn listed (after s st) (after t st)
 
 -- the proof cell names the body of other steps, what the former proof cites is counted out, and what these cite is counted in
-pub restepped : (s0 s1 s2 s3 s4 : Sight) (i : ℕ) (label : List ℕ) (former kept : List StoredStep) (before now words : List ℕ) → Looks s0 s1
+pub restepped : {O : Type 0} → (s0 s1 s2 s3 s4 : Sight O) (i : ℕ) (label : List ℕ) (former kept : List StoredStep) (before now words : List ℕ) → Looks s0 s1
     → Onward s1 s2 → Onward s2 s3 → Onward s3 s4
     → ForEachHeld s1 i (λ st lib e. AreStoredAs s1.setting.slots st e.assertion.proof former)
     → AreCitedSlots former before → AreCitedSlots kept now → words ≡ proof_body kept

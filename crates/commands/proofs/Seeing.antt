@@ -14,7 +14,7 @@ use Rattle.cells.proofs.Found.{unfound}
 use Rattle.cells.proofs.Sights.{after_looks}
 
 -- a library that was seen is seen still while nothing is written
-pub views_later : (s t : Sight) (st : State) (lib : List Ranked) → Looks s t → Matches t st → Views s st lib → Views t st lib
+pub views_later : {O : Type 0} → (s t : Sight O) (st : State) (lib : List Ranked) → Looks s t → Matches t st → Views s st lib → Views t st lib
 views_later s t st lib looks m v =
     record {
       matches = m;
@@ -32,7 +32,7 @@ has_found lib label e h =
     ]
 
 -- an assertion that was found in a slot is found there still: the same one
-abbrev pub found_later : (s t : Sight) (st : State) (lib : List Ranked) (label : List ℕ) (i : ℕ) → Looks s t
+abbrev pub found_later : {O : Type 0} → (s t : Sight O) (st : State) (lib : List Ranked) (label : List ℕ) (i : ℕ) → Looks s t
     → IsFoundAt s.setting.slots (after s st) lib label i → IsFoundAt t.setting.slots (after t st) lib label i
 found_later s t st lib label i looks at =
     record {
@@ -43,6 +43,6 @@ found_later s t st lib label i looks at =
     }
 
 -- whether a label was found is whether an assertion has it
-pub found_or_free : (s : Sight) (label : List ℕ) (o : Option ℕ) → Finds s label o → ForEach s (λ st lib. has lib label ≡ is_some o)
+pub found_or_free : {O : Type 0} → (s : Sight O) (label : List ℕ) (o : Option ℕ) → Finds s label o → ForEach s (λ st lib. has lib label ≡ is_some o)
 found_or_free s label None none st lib v = unfound lib label (none st lib v)
 found_or_free s label (Some i) found st lib v = let at = found.1 st lib v in has_found lib label at.entry at.found

@@ -104,10 +104,10 @@ apply_refused s n lib (d ∷ cs) c more a reason h is =
 
 -- ---- over cells
 
-pub does_none : (s : Sight) → DoesAll s s [] []
+pub does_none : {O : Type 0} → (s : Sight O) → DoesAll s s [] []
 does_none s = record { applies = λ st lib m v. (lib, apply_none s.setting 1 lib, v.shows); writes = looks_refl s }
 
-writes_on : (a b : Bool) (s t u : Sight) → Onward t u → WritesIfEdit a s t → WritesIfEdit b t u → WritesIfEdit (a || b) s u
+writes_on : {O : Type 0} → (a b : Bool) (s t u : Sight O) → Onward t u → WritesIfEdit a s t → WritesIfEdit b t u → WritesIfEdit (a || b) s u
 writes_on true b s t u on w x = (w.0, on.written w.0 w.1)
 writes_on false true s t u on w x = x
 writes_on false false s t u on w x = looks_trans s t u w x
@@ -120,7 +120,7 @@ has_edit_more (d ∷ cs) c =
       | false ↦ has_edit_more cs c
     ]
 
-module _ (s t u : Sight) (cs : List Command) (replies : List Reply) (does : DoesAll s t cs replies) (since : Onward s t) (on : Onward t u)
+module _ {O : Type 0} (s t u : Sight O) (cs : List Command) (replies : List Reply) (does : DoesAll s t cs replies) (since : Onward s t) (on : Onward t u)
     (fit : All (CommandFits s.setting.prelude) cs) where
   -- the library that the commands so far made, and that the run views then
   record Made (st : State) (lib : List Ranked) : Type 0 where

@@ -2,6 +2,7 @@
 use Rattle.std.specs.Prelude.{◌≡◌, ℕ, List, Bool, true, false, Result, Ok, Err}
 use Rattle.library.specs.declared.library.Ranked.{Ranked}
 use Rattle.library.specs.declared.command.Command.{Command}
+use Rattle.library.specs.declared.command.Command.TheVariants.{Add, Reprove, Rename}
 use Rattle.library.specs.declared.command.Reply.{Reply}
 use Rattle.library.specs.declared.reason.Reason.{Reason}
 use Rattle.library.specs.declared.reason.Refused.{Refused}
@@ -19,19 +20,31 @@ use Rattle.commands.specs.declared.ending.RunError.TheVariants as run
 
 -- what is so of every state that may be under the run at the end, and of every library that verifies and that the state showed before, with
 -- what the run kept aside then
-abbrev pub ForEachBefore : Sight → Sight → (State → List Ranked → Type 0) → Type 0
+abbrev pub ForEachBefore : {O : Type 0} → Sight O → Sight O → (State → List Ranked → Type 0) → Type 0
 ForEachBefore old new told = (st : State) (lib : List Ranked) → Matches new st → Views old st lib → told st lib
 
 -- with what the run keeps aside now, the state shows the library
-abbrev pub ShowsAfter : Sight → State → List Ranked → Type 0
+abbrev pub ShowsAfter : {O : Type 0} → Sight O → State → List Ranked → Type 0
 ShowsAfter s st lib = Shows s.setting.slots (after s st) lib
 
+-- a command that stages a body: that of a label, of a statement or of a proof
+abbrev pub stages : Command → Bool
+stages (Add rank a) = true
+stages (Reprove label steps) = true
+stages (Rename from to) = true
+stages _ = false
+
+-- the run may do the command: an edit keeps values aside
+pub record MayDo {O : Type 0} (s : Sight O) (c : Command) : Type 0 where
+  pub write : is_edit c ≡ true → s.may_write ≡ true
+  pub stage : stages c ≡ true → s.may_stage ≡ true
+
 -- some cell is kept aside
-abbrev pub WritesSome : Sight → Type 0
+abbrev pub WritesSome : {O : Type 0} → Sight O → Type 0
 WritesSome s = (cell : ℕ) × WasWritten s cell
 
 -- an edit keeps some cell aside, also where its value stays the same; what only reads keeps none aside, and stages nothing
-abbrev pub WritesIfEdit : Bool → Sight → Sight → Type 0
+abbrev pub WritesIfEdit : {O : Type 0} → Bool → Sight O → Sight O → Type 0
 WritesIfEdit true old new = WritesSome new
 WritesIfEdit false old new = Looks old new
 
@@ -51,18 +64,18 @@ halted halt.NoMemory = command.NoMemory
 -- ---- one command
 
 -- the command is done, with this reply, and the cells show the library as it is then
-pub record Does (old new : Sight) (c : Command) (reply : Reply) : Type 0 where
+pub record Does {O : Type 0} (old new : Sight O) (c : Command) (reply : Reply) : Type 0 where
   pub edits : ForEachBefore old new (λ st lib. (next : List Ranked)
       × (edit old.setting lib c ≡ Ok (record { library = next; reply = reply })) × ShowsAfter new st next)
   pub writes : WritesIfEdit (is_edit c) old new
 
 -- the command is refused, for this reason; nothing was kept aside, and nothing staged
-pub record IsRefused (old new : Sight) (c : Command) (reason : Reason) : Type 0 where
+pub record IsRefused {O : Type 0} (old new : Sight O) (c : Command) (reason : Reason) : Type 0 where
   pub refuses : ForEachBefore old new (λ st lib. edit old.setting lib c ≡ Err reason)
   pub looks : Looks old new
 
 -- that memory ran out or that the run was stopped may be answered of every command
-abbrev pub CommandAnswers : {S : Type 0} → Sight → Sight → Command → Result Reply (CommandError S) → Type 0
+abbrev pub CommandAnswers : {O : Type 0} → {S : Type 0} → Sight O → Sight O → Command → Result Reply (CommandError S) → Type 0
 CommandAnswers old new c (Ok reply) = Does old new c reply
 CommandAnswers old new c (Err (command.Refused reason)) = IsRefused old new c reason
 CommandAnswers old new c (Err _) = Unit {0}
@@ -70,16 +83,16 @@ CommandAnswers old new c (Err _) = Unit {0}
 -- ---- a transaction
 
 -- all commands are done, one after another, with these replies, and the cells show the library as it is then
-pub record DoesAll (old new : Sight) (cs : List Command) (replies : List Reply) : Type 0 where
+pub record DoesAll {O : Type 0} (old new : Sight O) (cs : List Command) (replies : List Reply) : Type 0 where
   pub applies : ForEachBefore old new (λ st lib. (next : List Ranked)
       × (apply old.setting lib cs ≡ Ok (record { library = next; replies = replies })) × ShowsAfter new st next)
   pub writes : WritesIfEdit (has_edit cs) old new
 
 -- the transaction is refused: by the command that is named, for its reason
-abbrev pub RefusesAll : Sight → Sight → List Command → Refused → Type 0
+abbrev pub RefusesAll : {O : Type 0} → Sight O → Sight O → List Command → Refused → Type 0
 RefusesAll old new cs refused = ForEachBefore old new (λ st lib. apply old.setting lib cs ≡ Err refused)
 
-abbrev pub RunAnswers : {S : Type 0} → Sight → Sight → List Command → Result (List Reply) (RunError S) → Type 0
+abbrev pub RunAnswers : {O : Type 0} → {S : Type 0} → Sight O → Sight O → List Command → Result (List Reply) (RunError S) → Type 0
 RunAnswers old new cs (Ok replies) = DoesAll old new cs replies
 RunAnswers old new cs (Err (run.Refused refused)) = RefusesAll old new cs refused
 RunAnswers old new cs (Err _) = Unit {0}

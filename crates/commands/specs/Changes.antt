@@ -13,19 +13,19 @@ use Rattle.cells.specs.Lookups.{IsFoundAt}
 use Rattle.commands.specs.Answers.{ForEachBefore, ShowsAfter}
 
 -- what is so of every library in which the slot holds the assertion with the label
-abbrev pub ForEachFound : Sight → Sight → ℕ → List ℕ → (State → List Ranked → Ranked → Type 0) → Type 0
+abbrev pub ForEachFound : {O : Type 0} → Sight O → Sight O → ℕ → List ℕ → (State → List Ranked → Ranked → Type 0) → Type 0
 ForEachFound old new i label told =
     ForEachBefore old new (λ st lib. (at : IsFoundAt old.setting.slots (after old st) lib label i) → told st lib at.entry)
 
 -- the assertion with the label `from`, in the slot, has the label `to` where no assertion had it
-abbrev pub RenamesAt : Sight → Sight → ℕ → List ℕ → List ℕ → Type 0
+abbrev pub RenamesAt : {O : Type 0} → Sight O → Sight O → ℕ → List ℕ → List ℕ → Type 0
 RenamesAt old new i from to = ForEachFound old new i from (λ st lib e. has lib to ≡ false → ShowsAfter new st (rename from to lib))
 
 -- the assertion in the slot is gone where no proof cites it
-abbrev pub DeletesAt : Sight → Sight → ℕ → List ℕ → Type 0
+abbrev pub DeletesAt : {O : Type 0} → Sight O → Sight O → ℕ → List ℕ → Type 0
 DeletesAt old new i label = ForEachFound old new i label (λ st lib e. citers lib label ≡ 0 → ShowsAfter new st (without label lib))
 
 -- the theorem in the slot has other steps, which are stored as these
-abbrev pub ReprovesAt : Sight → Sight → ℕ → List ℕ → List StoredStep → Type 0
+abbrev pub ReprovesAt : {O : Type 0} → Sight O → Sight O → ℕ → List ℕ → List StoredStep → Type 0
 ReprovesAt old new i label kept = ForEachFound old new i label (λ st lib e. (steps : List Step) → e.assertion.kind ≡ Theorem
     → AreStoredAs old.setting.slots (after old st) steps kept → ShowsAfter new st (changed label (with_proof steps) lib))

@@ -29,11 +29,11 @@ use Rattle.commands.specs.declared.ending.CommandError.{CommandError}
 use Rattle.commands.specs.declared.ending.CommandError.TheVariants.{Refused}
 
 -- what is so of every library and of all steps that are stored as these
-abbrev pub ForEachStored : Sight → List StoredStep → (List Ranked → List Step → Type 0) → Type 0
+abbrev pub ForEachStored : {O : Type 0} → Sight O → List StoredStep → (List Ranked → List Step → Type 0) → Type 0
 ForEachStored s kept told = ForEach s (λ st lib. (steps : List Step) → AreStoredAs s.setting.slots st steps kept → told lib steps)
 
 -- whether some step cites an assertion that isn't below the rank
-abbrev pub TellsNotBelow : Sight → ℕ → List StoredStep → Bool → Type 0
+abbrev pub TellsNotBelow : {O : Type 0} → Sight O → ℕ → List StoredStep → Bool → Type 0
 TellsNotBelow s rank kept b = ForEachStored s kept (λ lib steps. b ≡ list_any (cites_not_below lib rank) steps)
 
 -- the frame of each assertion that a step cites, by its label
@@ -42,12 +42,12 @@ AreFrames prelude lib steps frames =
     (label : List ℕ) → Has (Cite label) steps → frames label ≡ option_map (λ e. frame prelude e.assertion) (found lib label)
 
 -- so where the steps are stored as these
-abbrev pub TellsFrames : Sight → Tables → List Step → List StoredStep → Citable → Type 0
+abbrev pub TellsFrames : {O : Type 0} → Sight O → Tables → List Step → List StoredStep → Citable → Type 0
 TellsFrames s prelude steps kept frames =
     ForEach s (λ st lib. AreStoredAs s.setting.slots st steps kept → AreFrames prelude lib steps frames)
 
 -- the frame of the assertion in the slot is noted by the label, unless the label has one
-pub record NotesFrame (s : Sight) (prelude : Tables) (i : ℕ) (label : List ℕ) (old new : Citable) : Type 0 where
+pub record NotesFrame {O : Type 0} (s : Sight O) (prelude : Tables) (i : ℕ) (label : List ℕ) (old new : Citable) : Type 0 where
   pub kept : (f : Frame) → old label ≡ Some f → new label ≡ Some f
   pub noted : old label ≡ None → (f : Frame) × (new label ≡ Some f) × ForEachHeld s i (λ st lib e. f ≡ frame prelude e.assertion)
   pub others : (other : List ℕ) → other ≢ label → new other ≡ old other
@@ -58,32 +58,32 @@ pub record TellsFault (frames : Citable) (prelude : Tables) (a : Assertion) (fau
   pub some : fault ≡ None → a.proof ≢ []
 
 -- the tests of a theorem's proof, with more behind them
-abbrev pub proof_tests : Sight → List Ranked → ℕ → Assertion → Tests → Tests
+abbrev pub proof_tests : {O : Type 0} → Sight O → List Ranked → ℕ → Assertion → Tests → Tests
 proof_tests s lib rank a more = cites_unknown lib a.proof ∷ cited_not_lower lib rank a.proof ∷ proof_fails s.setting lib rank a ∷ more
 
 -- the proof of a theorem passes its tests, and its steps are stored as these, of which there is one
-pub record Passes (s : Sight) (rank : ℕ) (a : Assertion) (kept : List StoredStep) : Type 0 where
+pub record Passes {O : Type 0} (s : Sight O) (rank : ℕ) (a : Assertion) (kept : List StoredStep) : Type 0 where
   pub some : kept ≢ []
   pub within : AreWithin s.setting.slots kept
   pub stored : ForEach s (λ st lib. AreStoredAs s.setting.slots st a.proof kept)
   pub passes : ForEach s (λ st lib. (more : Tests) (edited : Edited) → tested (proof_tests s lib rank a more) edited ≡ tested more edited)
 
 -- or one of them refuses it
-abbrev pub Fails : Sight → ℕ → Assertion → Reason → Type 0
+abbrev pub Fails : {O : Type 0} → Sight O → ℕ → Assertion → Reason → Type 0
 Fails s rank a reason = ForEach s (λ st lib. (more : Tests) (edited : Edited) → tested (proof_tests s lib rank a more) edited ≡ Err reason)
 
 -- why the test of a proof ends early: it was refused, or the run was stopped, or memory ran out
-abbrev pub TellsRefusal : {S : Type 0} → Sight → ℕ → Assertion → CommandError S → Type 0
+abbrev pub TellsRefusal : {O : Type 0} → {S : Type 0} → Sight O → ℕ → Assertion → CommandError S → Type 0
 TellsRefusal s rank a (Refused reason) = Fails s rank a reason
 TellsRefusal s rank a _ = Unit {0}
 
 -- whether the proof of the assertion in the one slot cites that of the other
-abbrev pub TellsCites : Sight → ℕ → ℕ → Bool → Type 0
+abbrev pub TellsCites : {O : Type 0} → Sight O → ℕ → ℕ → Bool → Type 0
 TellsCites s citing cited b =
     ForEachHeld s citing (λ st lib f. (e : Ranked) → Contains lib e → Holds s.setting.slots st lib cited e → b ≡ cites (label_of e) f)
 
 -- whether an assertion that cites the one in the slot isn't above the rank
-abbrev pub TellsCitedUpTo : Sight → ℕ → ℕ → Bool → Type 0
+abbrev pub TellsCitedUpTo : {O : Type 0} → Sight O → ℕ → ℕ → Bool → Type 0
 TellsCitedUpTo s i rank b = ForEachHeld s i (λ st lib e. b ≡ list_any (λ f. cites (label_of e) f && nat_le f.rank rank) lib)
 
 -- the frame that a map has for a label

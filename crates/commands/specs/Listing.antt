@@ -12,9 +12,9 @@ abbrev pub line_cmp : Line → Line → Ordering
 line_cmp a b = by_rank_then_label (λ l. l.rank) (λ l. l.label) a b
 
 -- what is listed of the assertion in the slot
-abbrev pub TellsLine : Sight → ℕ → Line → Type 0
+abbrev pub TellsLine : {O : Type 0} → Sight O → ℕ → Line → Type 0
 TellsLine s i made = ForEachHeld s i (λ st lib e. made ≡ line lib e)
 
 -- the lines of all assertions, in whatever order
-abbrev pub AreAllLines : Sight → List Line → Type 0
+abbrev pub AreAllLines : {O : Type 0} → Sight O → List Line → Type 0
 AreAllLines s made = ForEach s (λ st lib. IsPermutation (map (line lib) lib) made)

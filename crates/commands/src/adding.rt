@@ -1,6 +1,6 @@
 //! Adds a theorem.
 
-ghost use Rattle.std.specs.Prelude.{◌≡◌};
+ghost use Rattle.std.specs.Prelude.{◌≡◌, true};
 ghost use Rattle.library.specs.declared.command.Command.TheVariants as command;
 ghost use Rattle.library.specs.Fitting.{CommandFits};
 ghost use Rattle.cells.specs.Sight.{Onward};
@@ -22,6 +22,7 @@ pub(crate) fn add<C: Cells>(
     rank: u32,
     assertion: &Assertion,
 ) -> Result<Reply, CommandError<C::Stop>>
+    requires may { ((C.sight cells.old).may_write ≡ true) × ((C.sight cells.old).may_stage ≡ true) }
     requires prelude { prelude.now ≡ (C.sight cells.old).setting.prelude }
     requires fits { CommandFits prelude.now (command.Add rank assertion.now) }
     ensures onward { Onward (C.sight cells.old) (C.sight cells.new) }

@@ -1,6 +1,6 @@
 //! Removes an assertion.
 
-ghost use Rattle.std.specs.Prelude.{◌≡◌, ◌<◌, IfOk};
+ghost use Rattle.std.specs.Prelude.{◌≡◌, ◌<◌, true, IfOk};
 ghost use Rattle.library.specs.declared.command.Command.TheVariants as command;
 ghost use Rattle.cells.specs.Sight.{Onward};
 ghost use Rattle.commands.specs.Answers.{CommandAnswers, WritesSome};
@@ -18,6 +18,7 @@ pub(crate) fn delete<C: Cells>(
     cells: &mut C,
     label: &Label,
 ) -> Result<Reply, CommandError<C::Stop>>
+    requires { (C.sight cells.old).may_write ≡ true }
     ensures onward { Onward (C.sight cells.old) (C.sight cells.new) }
     ensures answers { CommandAnswers (C.sight cells.old) (C.sight cells.new) (command.Delete label.now) result }
 {
@@ -39,7 +40,8 @@ fn remove<C: Cells>(
     slot: usize,
     label: &Label,
 ) -> Result<(), Halt<C::Stop>>
-    requires { slot < (C.sight cells.old).setting.slots }
+    requires may { (C.sight cells.old).may_write ≡ true }
+    requires slot { slot < (C.sight cells.old).setting.slots }
     ensures onward { Onward (C.sight cells.old) (C.sight cells.new) }
     ensures written { IfOk result (λ _. WritesSome (C.sight cells.new)) }
     ensures ok { IfOk result (λ _. DeletesAt (C.sight cells.old) (C.sight cells.new) slot label.now) }

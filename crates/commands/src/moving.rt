@@ -1,6 +1,6 @@
 //! Gives an assertion another rank.
 
-ghost use Rattle.std.specs.Prelude.{◌≡◌, ◌<◌, IfOk};
+ghost use Rattle.std.specs.Prelude.{◌≡◌, ◌<◌, true, IfOk};
 ghost use Rattle.library.specs.declared.command.Command.TheVariants as command;
 ghost use Rattle.cells.specs.Sight.{Onward, Looks};
 ghost use Rattle.commands.specs.Answers.{CommandAnswers};
@@ -21,6 +21,7 @@ pub(crate) fn move_to<C: Cells>(
     label: &Label,
     rank: u32,
 ) -> Result<Reply, CommandError<C::Stop>>
+    requires { (C.sight cells.old).may_write ≡ true }
     ensures onward { Onward (C.sight cells.old) (C.sight cells.new) }
     ensures answers { CommandAnswers (C.sight cells.old) (C.sight cells.new) (command.Move label.now rank) result }
 {

@@ -1,6 +1,6 @@
 //! Gives an assertion another label.
 
-ghost use Rattle.std.specs.Prelude.{◌≡◌, ◌≢◌, ◌<◌, [], IfOk};
+ghost use Rattle.std.specs.Prelude.{◌≡◌, ◌≢◌, ◌<◌, [], true, IfOk};
 ghost use Rattle.library.specs.declared.command.Command.TheVariants as command;
 ghost use Rattle.cells.specs.Sight.{Onward};
 ghost use Rattle.bodystore.specs.Bodies.{label_body};
@@ -23,7 +23,8 @@ pub(crate) fn rename<C: Cells>(
     old: &Label,
     new: &Label,
 ) -> Result<Reply, CommandError<C::Stop>>
-    requires { prelude.now ≡ (C.sight cells.old).setting.prelude }
+    requires may { ((C.sight cells.old).may_write ≡ true) × ((C.sight cells.old).may_stage ≡ true) }
+    requires prelude { prelude.now ≡ (C.sight cells.old).setting.prelude }
     ensures onward { Onward (C.sight cells.old) (C.sight cells.new) }
     ensures answers { CommandAnswers (C.sight cells.old) (C.sight cells.new) (command.Rename old.now new.now) result }
 {
@@ -52,6 +53,7 @@ fn relabel<C: Cells>(
     new: &Label,
     body: &[u64],
 ) -> Result<(), C::Stop>
+    requires may { ((C.sight cells.old).may_write ≡ true) × ((C.sight cells.old).may_stage ≡ true) }
     requires slot { slot < (C.sight cells.old).setting.slots }
     requires body { body.now ≡ label_body new.now }
     requires some { new.now ≢ [] }

@@ -1,6 +1,6 @@
 //! Gives a theorem another proof.
 
-ghost use Rattle.std.specs.Prelude.{◌≡◌, ◌≢◌, ◌<◌, [], List, IfOk};
+ghost use Rattle.std.specs.Prelude.{◌≡◌, ◌≢◌, ◌<◌, [], true, List, IfOk};
 ghost use Rattle.library.specs.declared.command.Command.TheVariants as command;
 ghost use Rattle.cells.specs.Sight.{Onward};
 ghost use Rattle.cells.specs.Lookups.{AreWithin};
@@ -26,7 +26,8 @@ pub(crate) fn reprove<C: Cells>(
     label: &Label,
     steps: &Sequence<Step>,
 ) -> Result<Reply, CommandError<C::Stop>>
-    requires { prelude.now ≡ (C.sight cells.old).setting.prelude }
+    requires may { ((C.sight cells.old).may_write ≡ true) × ((C.sight cells.old).may_stage ≡ true) }
+    requires prelude { prelude.now ≡ (C.sight cells.old).setting.prelude }
     ensures onward { Onward (C.sight cells.old) (C.sight cells.new) }
     ensures answers { CommandAnswers (C.sight cells.old) (C.sight cells.new) (command.Reprove label.now steps.now) result }
 {
@@ -52,6 +53,7 @@ fn put_steps<C: Cells>(
     slot: usize,
     kept: &[StoredStep],
 ) -> Result<(), Halt<C::Stop>>
+    requires may { ((C.sight cells.old).may_write ≡ true) × ((C.sight cells.old).may_stage ≡ true) }
     requires slot { slot < (C.sight cells.old).setting.slots }
     requires some { kept.now ≢ [] }
     requires within { AreWithin (C.sight cells.old).setting.slots kept.now }

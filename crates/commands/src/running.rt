@@ -3,7 +3,7 @@
 ghost use Rattle.std.specs.Prelude.{◌≡◌, All};
 ghost use Rattle.library.specs.Fitting.{CommandFits};
 ghost use Rattle.cells.specs.Sight.{Onward};
-ghost use Rattle.commands.specs.Answers.{CommandAnswers, RunAnswers};
+ghost use Rattle.commands.specs.Answers.{MayDo, CommandAnswers, RunAnswers};
 
 use crate::adding::add;
 use crate::deleting::delete;
@@ -18,7 +18,7 @@ use mmstatement::{Prelude, Sequence};
 use std::alloc::Global;
 
 /// Does the commands of a transaction, one after another, each over what those before it kept aside, and answers the reply to each. Each command is
-/// within the limits of the prelude, which is the library's.
+/// within the limits of the prelude, which is the library's; and the run may keep values aside where it is an edit, and stage words where it stages.
 ///
 /// The replies are those of the transaction's definition over the library, and the cells then show the library as it is after it: for every
 /// state of the cells that agrees with what was read, shows a library that verifies, and has the ranges that were seen. So whatever else
@@ -34,6 +34,7 @@ pub fn run<C: Cells>(
     cells: &mut C,
     commands: &[Command],
 ) -> Result<Sequence<Reply>, RunError<C::Stop>>
+    requires may { All (MayDo (C.sight cells.old)) commands.now }
     requires prelude { prelude.now ≡ (C.sight cells.old).setting.prelude }
     requires fits { All (CommandFits prelude.now) commands.now }
     ensures onward { Onward (C.sight cells.old) (C.sight cells.new) }
@@ -49,7 +50,7 @@ pub fn run<C: Cells>(
     Ok(Sequence::from_vec(replies))
 }
 
-/// Does one command, over what is kept aside. It is within the limits of the prelude, which is the library's.
+/// Does one command, over what is kept aside. It is within the limits of the prelude, which is the library's, and the run may do it.
 ///
 /// # Errors
 ///
@@ -60,6 +61,7 @@ pub fn take<C: Cells>(
     cells: &mut C,
     command: &Command,
 ) -> Result<Reply, CommandError<C::Stop>>
+    requires may { MayDo (C.sight cells.old) command.now }
     requires prelude { prelude.now ≡ (C.sight cells.old).setting.prelude }
     requires fits { CommandFits prelude.now command.now }
     ensures onward { Onward (C.sight cells.old) (C.sight cells.new) }

@@ -14,14 +14,14 @@ use Rattle.lawful.specs.Lawful.{setting_of, sight_of}
 use Rattle.lawful.specs.Laws.{RunsAreLawful}
 
 -- where nothing is kept aside at the end, no command was an edit
-no_edit : (edits : Bool) (old new : Sight) → WritesIfEdit edits old new → new.writes ≡ [] → edits ≡ false
+no_edit : {O : Type 0} → (edits : Bool) (old new : Sight O) → WritesIfEdit edits old new → new.writes ≡ [] → edits ≡ false
 no_edit true old new some none =
     let at = some.1.1 in
     let nothing = ap (written some.0) none in
     cc
 no_edit false old new looks none = refl
 
-module _ (g : Given) (old new : Sight) (setting : old.setting ≡ setting_of g) (blank : old.writes ≡ []) (onward : Onward old new)
+module _ {O : Type 0} (g : Given) (old new : Sight O) (setting : old.setting ≡ setting_of g) (blank : old.writes ≡ []) (onward : Onward old new)
     (writes : Pairs) where
   -- what suits the run at its end matches it
   matches_new : (st : State) (lib : List Ranked) → Suits (sight_of g new.ranges new.reads writes) st lib → Matches new st

@@ -39,22 +39,22 @@ pub record OpensWell (g : Given) (ranges : List Range) (values : List ℕ) : Typ
 -- ---- transactions
 
 -- what is so of every state that may be the one under a run, and of every library that verifies and that it shows
-abbrev pub ForEachUnder : Sight → (State → List Ranked → Type 0) → Type 0
+abbrev pub ForEachUnder : {O : Type 0} → Sight O → (State → List Ranked → Type 0) → Type 0
 ForEachUnder s told = (st : State) (lib : List Ranked) → Suits s st lib → told st lib
 
 -- the commands give these replies, and with what the run keeps aside the state shows the library after them
-pub record IsApplied (s : Sight) (st : State) (lib : List Ranked) (commands : List Command) (replies : List Reply) : Type 0 where
+pub record IsApplied {O : Type 0} (s : Sight O) (st : State) (lib : List Ranked) (commands : List Command) (replies : List Reply) : Type 0 where
   pub next : List Ranked
   pub applied : apply s.setting lib commands ≡ Ok (record { library = next; replies = replies })
   pub shows : Shows s.setting.slots (after s st) next
 
 -- the commands are within the limits of the prelude
-abbrev pub Fit : Sight → List Command → Type 0
+abbrev pub Fit : {O : Type 0} → Sight O → List Command → Type 0
 Fit s commands = All (CommandFits s.setting.prelude) commands
 
 -- a run that has seen this does what its note says. Its commands are done, and an edit writes; or they are refused, and nothing is
 -- written; or the library is the one that was looked at, in order, and nothing is written
-abbrev pub DoesAsSaid : Sight → Note → Type 0
+abbrev pub DoesAsSaid : {O : Type 0} → Sight O → Note → Type 0
 DoesAsSaid s (Done commands replies) =
     Fit s commands.value × (s.writes ≡ [] → has_edit commands.value ≡ false)
     × ForEachUnder s (λ st lib. IsApplied s st lib commands.value replies.value)
@@ -64,9 +64,19 @@ DoesAsSaid s (Looked library) =
     (library.value.setting ≡ s.setting) × (s.writes ≡ []) × ForEachUnder s (λ st lib. ShowsInOrder lib library.value.entries)
 
 -- what a run has seen that knows these ranges, with its reads and writes. How many words of the store it took is no matter here
-abbrev pub sight_of : Given → List Range → Pairs → Pairs → Sight
+abbrev pub sight_of : Given → List Range → Pairs → Pairs → Sight (Unit {0})
 sight_of g ranges reads writes =
-    record { setting = setting_of g; ranges = ranges; reads = reads; writes = writes; taken = 0; room = most_words }
+    record {
+      origin = tt;
+      setting = setting_of g;
+      may_write = true;
+      may_stage = true;
+      ranges = ranges;
+      reads = reads;
+      writes = writes;
+      taken = 0;
+      room = most_words;
+    }
 
 -- the transaction with these reads, writes and note is lawful for these ranges
 abbrev pub Lawful : Given → List Range → Pairs → Pairs → Note → Type 0

@@ -58,7 +58,7 @@ UnreadIsUnlawful =
 -- where it is refused, once what it keeps aside is thrown away
 abbrev pub RunsAreLawful : Type 0
 RunsAreLawful =
-    (g : Given) (old new : Sight) (commands : Snapshot (List Command)) → old.setting ≡ setting_of g → old.writes ≡ [] → Onward old new
+    {O : Type 0} (g : Given) (old new : Sight O) (commands : Snapshot (List Command)) → old.setting ≡ setting_of g → old.writes ≡ [] → Onward old new
     → All (CommandFits (setting_of g).prelude) commands.value
     → ((replies : Snapshot (List Reply)) → DoesAll old new commands.value replies.value
     → Lawful g new.ranges new.reads new.writes (Done commands replies))

@@ -31,5 +31,5 @@ returns-clause-ok g c st held e m chained label_is free =
     (omega (arith, c.bucket_cell-front.ensures, slots_are, bucket_is)) (omega (arith, c.next_cell-2.ensures, slots_are))
     (first.value st (matches_back _ _ st (onward_trans _ _ _ second.onward wrote) m)
     ∙ ap (λ (x : State). x.value c.bucket_cell-front.result) (after_looks _ _ st first.looks))
-    c.requires (subst (λ (n : ℕ). n < old.setting.slots) bucket_is (omega (arith, c.bucket.ensures.within, slots_are)))
+    c.requires.slot (subst (λ (n : ℕ). n < old.setting.slots) bucket_is (omega (arith, c.bucket.ensures.within, slots_are)))
     chained label_is free

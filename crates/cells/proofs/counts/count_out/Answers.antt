@@ -49,7 +49,7 @@ loop-slot-preserved g c = elim c.if-slot-slots.branch [
     x : ℕ
     x = get_or c.args.cited.now c.loop-slot.slot-index 0
 
-    old : Sight
+    old : Sight g.row.C-Origin.Denot
     old = g.C.Cells.sight c.args.cells.now
 
     Turned : ℕ → g.row.C.Denot → Type 0

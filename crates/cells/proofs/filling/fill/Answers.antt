@@ -17,8 +17,8 @@ use Rattle.cells.proofs.Laying.{if_mapped, ok_mapped}
 use Rattle.cells.proofs.Filled.{cited_few, still_chained, filled}
 use Rattle.cells.proofs.filling.fill.Goals as goal
 
-pub count_in-requires : goal.count_in-requires
-count_in-requires g c =
+pub count_in-requires-clause-slots : goal.count_in-requires-clause-slots
+count_in-requires-clause-slots g c =
     all_from_has (λ i. i < (g.C.Cells.sight c.lay_down.new.cells).setting.slots) c.as_slice.result.now (λ i h.
     subst (λ (s : Setting). i < s.slots) (sym c.lay_down.ensures.onward.setting)
     (c.requires.fillable.within i (c.in_ok-cited.ensures.cited i (subst (Has i) c.as_slice.ensures.value h))))

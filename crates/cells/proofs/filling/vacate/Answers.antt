@@ -21,7 +21,7 @@ pub read-requires : goal.read-requires
 read-requires g c =
     let at = c.name_cell.ensures in
     let few = c.loop-part-test.true in
-    let within = c.requires in
+    let within = c.requires.slot in
     subst (λ (s : Setting). c.name_cell.result + c.loop-part.part < cell_count s.slots) (sym c.loop-part.invariant.onward.setting)
     (omega (arith, at, few, within))
 
@@ -32,7 +32,7 @@ pub write-requires-clause-cell : goal.write-requires-clause-cell
 write-requires-clause-cell g c =
     let at = c.name_cell.ensures in
     let few = c.loop-part-test.true in
-    let within = c.requires in
+    let within = c.requires.slot in
     subst (λ (s : Setting). c.name_cell.result + c.loop-part.part < cell_count s.slots)
     (sym (c.in_ok-read.ensures.ok.looks.onward.setting ∙ c.loop-part.invariant.onward.setting)) (omega (arith, at, few, within))
 
@@ -53,10 +53,10 @@ loop-part-preserved g c =
       ];
     }
   where
-    now : Sight
+    now : Sight g.row.C-Origin.Denot
     now = g.C.Cells.sight c.loop-part.cells
 
-    new : Sight
+    new : Sight g.row.C-Origin.Denot
     new = g.C.Cells.sight c.write.new.self
 
     cell : ℕ

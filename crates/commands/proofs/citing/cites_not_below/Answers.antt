@@ -32,7 +32,7 @@ loop-step-preserved g c =
     let limit = c.args.limit in
     let i = c.loop-step.step-index in
     let kept = c.args.steps.now in
-    let Q : Sight → Type 0 =
+    let Q : Sight g.row.C-Origin.Denot → Type 0 =
     λ s. Looks (g.C.Cells.sight c.args.cells.now) s × AreBelow s c.args.limit (c.loop-step.step-index + 1) c.args.steps.now in
     let lt : c.loop-step.step-index < length c.args.steps.now = c.loop-step-test.true in
     let looks = c.loop-step.invariant.0 in

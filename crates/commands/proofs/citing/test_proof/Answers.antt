@@ -16,7 +16,7 @@ use Rattle.commands.proofs.ProofTests.{fails_unknown, fails_below, fails_fault, 
 use Rattle.commands.proofs.citing.test_proof.Goals as goal
 
 -- what is resolved of the slice is of the proof
-of_proof : (s : Sight) (steps proof : List Step) (found other : Option (Vec StoredStep Global)) → steps ≡ proof → found ≡ other
+of_proof : {O : Type 0} → (s : Sight O) (steps proof : List Step) (found other : Option (Vec StoredStep Global)) → steps ≡ proof → found ≡ other
     → Resolves s steps (option_map (λ v. v.items) found) → Resolves s proof (option_map (λ v. v.items) other)
 of_proof s steps proof found other own is h =
     subst (λ (xs : List Step). Resolves s xs (option_map (λ v. v.items) other)) own

@@ -38,7 +38,7 @@ returns-then-not-is_lawful_label-clause-answers g c =
     (subst (λ (l : List ℕ). Finds s1 l c.in_ok-slot.field-0) c.as_slice.ensures
     (ok_mapped _ _ _ _ _ c.in_ok-slot.was c.map_err.ensures.cases c.find.ensures.ok)) in
     let lawful : is_lawful_label s0.setting.prelude c.args.new.now ≡ c.is_lawful_label.result =
-    sym (c.is_lawful_label.ensures ∙ ap (λ (t : Tables). is_lawful_label t c.as_slice-2.result.now) c.requires
+    sym (c.is_lawful_label.ensures ∙ ap (λ (t : Tables). is_lawful_label t c.as_slice-2.result.now) c.requires.prelude
     ∙ ap (is_lawful_label s0.setting.prelude) c.as_slice-2.ensures) in
     answers_refused s0 s1 (command.Rename from to) reason.BadLabel c.into-then-not-is_lawful_label.result
     c.into-then-not-is_lawful_label.ensures (refused s0 s1 (command.Rename from to) reason.BadLabel c.find.ensures.looks (λ st lib v.
@@ -62,7 +62,7 @@ returns-then-is_some-clause-answers g c =
     (subst (λ (l : List ℕ). Finds s1 l c.in_ok-slot.field-0) c.as_slice.ensures
     (ok_mapped _ _ _ _ _ c.in_ok-slot.was c.map_err.ensures.cases c.find.ensures.ok)) in
     let lawful : is_lawful_label s0.setting.prelude c.args.new.now ≡ true =
-    sym (c.is_lawful_label.ensures ∙ ap (λ (t : Tables). is_lawful_label t c.as_slice-2.result.now) c.requires
+    sym (c.is_lawful_label.ensures ∙ ap (λ (t : Tables). is_lawful_label t c.as_slice-2.result.now) c.requires.prelude
     ∙ ap (is_lawful_label s0.setting.prelude) c.as_slice-2.ensures) ∙ c.if-not-is_lawful_label.false in
     let other : ForEach s2 (λ st lib. has lib c.args.new.now ≡ is_some c.in_ok-map_err.field-0) =
     found_or_free s2 to c.in_ok-map_err.field-0 (subst (λ (l : List ℕ). Finds s2 l c.in_ok-map_err.field-0) c.as_slice-3.ensures
@@ -95,7 +95,7 @@ returns-clause-answers g c =
     (subst (λ (l : List ℕ). Finds s1 l c.in_ok-slot.field-0) c.as_slice.ensures
     (ok_mapped _ _ _ _ _ c.in_ok-slot.was c.map_err.ensures.cases c.find.ensures.ok)) in
     let lawful : is_lawful_label s0.setting.prelude c.args.new.now ≡ true =
-    sym (c.is_lawful_label.ensures ∙ ap (λ (t : Tables). is_lawful_label t c.as_slice-2.result.now) c.requires
+    sym (c.is_lawful_label.ensures ∙ ap (λ (t : Tables). is_lawful_label t c.as_slice-2.result.now) c.requires.prelude
     ∙ ap (is_lawful_label s0.setting.prelude) c.as_slice-2.ensures) ∙ c.if-not-is_lawful_label.false in
     let other : ForEach s2 (λ st lib. has lib c.args.new.now ≡ is_some c.in_ok-map_err.field-0) =
     found_or_free s2 to c.in_ok-map_err.field-0 (subst (λ (l : List ℕ). Finds s2 l c.in_ok-map_err.field-0) c.as_slice-3.ensures

@@ -22,8 +22,8 @@ pub returns-in_err-map_err-2-clause-onward : goal.returns-in_err-map_err-2-claus
 returns-in_err-map_err-2-clause-onward g c =
     onward_trans _ _ _ c.stored_proof.ensures.looks.onward (onward_trans _ _ _ c.put_body.ensures.onward c.count_out.ensures.onward)
 
-pub count_in-requires : goal.count_in-requires
-count_in-requires g c =
+pub count_in-requires-clause-slots : goal.count_in-requires-clause-slots
+count_in-requires-clause-slots g c =
     let setting = c.count_out.ensures.onward.setting ∙ (c.put_body.ensures.onward.setting ∙ c.stored_proof.ensures.looks.onward.setting) in
     all_from_has (λ i. i < (g.C.Cells.sight c.count_out.new.cells).setting.slots) c.as_slice-4.result.now (λ i h.
     subst (λ (s : Setting). i < s.slots) (sym setting)

@@ -32,7 +32,7 @@ invariant_of-self c =
       roomy = p.roomy;
       stored = either (λ st pl. length st ≤ p.room) fits p.stored;
       logged = p.logged;
-      lie = either LieInStore (lie_staged old words places (has_some words c.requires) p.lie) p.lie;
+      lie = either LieInStore (lie_staged old words places (has_some words c.requires.some) p.lie) p.lie;
       names = either (λ st pl. HoldNames p.slots p.values.items (ranges_in st pl)) (hold_staged p.slots p.values.items old words places p.lie p.names) p.names;
       began_with_names = either (λ st pl. HoldNames p.slots (undone p.values.items p.log.items) (ranges_in st pl))
           (hold_staged p.slots (undone p.values.items p.log.items) old words places p.lie p.began_with_names) p.began_with_names;
