@@ -37,7 +37,7 @@ module _ {O : Type 0} (g : Given) (old new : Sight O) (setting : old.setting ≡
         verifies = subst (λ (x : Setting). Verifies x lib) (sym setting) s.verifies;
       }
 
-pub runs_are_lawful : RunsAreLawful
+pub runs_are_lawful : {O : Type 0} → RunsAreLawful O
 runs_are_lawful g old new commands setting blank onward fit = (
   λ replies does. (
     fit,

@@ -56,9 +56,10 @@ UnreadIsUnlawful =
 
 -- a run of commands that begins with nothing kept aside is lawful where it is done, with what it has seen and keeps aside at its end; and
 -- where it is refused, once what it keeps aside is thrown away
-abbrev pub RunsAreLawful : Type 0
-RunsAreLawful =
-    {O : Type 0} (g : Given) (old new : Sight O) (commands : Snapshot (List Command)) → old.setting ≡ setting_of g → old.writes ≡ [] → Onward old new
+abbrev pub RunsAreLawful : Type 0 → Type 0
+RunsAreLawful O =
+    (g : Given) (old new : Sight O) (commands : Snapshot (List Command)) → old.setting ≡ setting_of g → old.writes ≡ []
+    → Onward old new
     → All (CommandFits (setting_of g).prelude) commands.value
     → ((replies : Snapshot (List Reply)) → DoesAll old new commands.value replies.value
     → Lawful g new.ranges new.reads new.writes (Done commands replies))

@@ -18,9 +18,10 @@ pub fn unread_is_unlawful()
     ensures { UnreadIsUnlawful }
 {}
 
-/// A run of commands on cells that ends with their replies, or is refused, is lawful: so a session may commit it.
-pub fn runs_are_lawful()
-    ensures { RunsAreLawful }
+/// A run of commands on cells that ends with their replies, or is refused, is lawful: so a session may commit it. `Origin` is what such runs
+/// begin with.
+pub fn runs_are_lawful<Origin>()
+    ensures { RunsAreLawful Origin }
 {}
 
 /// Words may be opened with what a database's plain cells hold: their values show its library, and in range cells they name ranges of the

@@ -2,4 +2,4 @@ use Rattle.lawful.proofs.Running.{runs_are_lawful}
 use Rattle.lawful.proofs.laws.runs_are_lawful.Goals as goal
 
 pub returns : goal.returns
-returns c = runs_are_lawful
+returns g c = runs_are_lawful
