@@ -1,4 +1,4 @@
--- The assertions that are held in slots below a number, and their lines: what one slot more adds.
+-- The assertions that are held in slots below a number, and what is told of each of them: what one slot more adds.
 use Rattle.std.proofs.Common.{◌≡◌, ◌≢◌, ◌<◌, ◌+◌, ℕ, true, false, cond, nat_eq, List, [], ◌∷◌, ◌++◌, map, refl, sym}
 use Rattle.std.proofs.Common.{ap, subst, ◌∙◌, inl, inr, arith}
 use Rattle.std.specs.Prelude.{nat_lt, filter, All, Contains, IsPermutation}
@@ -10,20 +10,17 @@ use Rattle.std.proofs.lemmas.List.Elements.{All-head, All-tail, All-weaker}
 use Rattle.std.proofs.lemmas.List.Sorted.{IsPermutation-refl, IsPermutation-sym, IsPermutation-trans, IsPermutation-cons}
 use Rattle.std.proofs.lemmas.List.Sorted.{IsPermutation-to_front, IsPermutation-map, IsPermutation-append_left}
 use Rattle.mmsyntax.specs.Assertions.{Distinct}
-use Rattle.library.specs.declared.command.Line.{Line}
 use Rattle.library.specs.declared.library.Ranked.{Ranked}
 use Rattle.library.specs.Library.{label_of}
-use Rattle.library.specs.Edits.{line}
 use Rattle.ranges.specs.Ranges.{Has, AreOfOneStore}
 use Rattle.cells.specs.State.{State, most_words}
 use Rattle.cells.specs.Shows.{Held, slots_of, entries_of, Holds, IsEmpty, Shows}
 use Rattle.cells.specs.Sight.{Sight, Looks, after}
-use Rattle.cells.specs.Lookups.{ForEach, IfFull}
+use Rattle.cells.specs.Lookups.{ForEach, ForEachHeld, IfFull}
 use Rattle.cells.proofs.Sights.{looks_trans, for_each_later}
 use Rattle.cells.proofs.Settings.{same_slots}
 use Rattle.cells.proofs.Members.{has_mapped, absent}
 use Rattle.cells.proofs.Holding.{empty_free}
-use Rattle.commands.specs.Listing.{TellsLine}
 use Rattle.commands.proofs.Holders.{held_here}
 
 -- those in slots below a number
@@ -88,69 +85,82 @@ below_more k (q ∷ held) p apart (inr h) is =
       | false ↦ rest
     ])
 
--- ---- lines
+-- ---- what is told of each
 
-module _ (slots : ℕ) where
-  -- the lines of those in slots below a number, in whatever order
-  abbrev pub AreLinesBelow : ℕ → List Line → State → List Ranked → Type 0
-  AreLinesBelow k made st lib = (shows : Shows slots st lib) → IsPermutation (map (line lib) (entries_of (held_below k shows.held))) made
+-- an assertion may be told of itself
+abbrev pub itself : List Ranked → Ranked → Ranked
+itself lib e = e
 
-  pub lines_begin : (made : List Line) (st : State) (lib : List Ranked) → made ≡ [] → AreLinesBelow 0 made st lib
-  lines_begin made st lib none shows =
-      subst (IsPermutation (map (line lib) (entries_of (held_below 0 shows.held)))) (sym none)
-      (subst (λ (ps : List Held). IsPermutation (map (line lib) (entries_of ps)) []) (sym (below_none shows.held)) (IsPermutation-refl []))
+module _ {A : Type 0} (tell : List Ranked → Ranked → A) (slots : ℕ) where
+  -- it is told of those in slots below a number, in whatever order
+  abbrev pub AreToldBelow : ℕ → List A → State → List Ranked → Type 0
+  AreToldBelow k made st lib = (shows : Shows slots st lib) → IsPermutation (map (tell lib) (entries_of (held_below k shows.held))) made
 
-  pub lines_all : (made : List Line) (st : State) (lib : List Ranked) → Shows slots st lib → AreLinesBelow slots made st lib
-      → IsPermutation (map (line lib) lib) made
-  lines_all made st lib shows lines =
+  pub told_none : (made : List A) (st : State) (lib : List Ranked) → made ≡ [] → AreToldBelow 0 made st lib
+  told_none made st lib none shows =
+      subst (IsPermutation (map (tell lib) (entries_of (held_below 0 shows.held)))) (sym none)
+      (subst (λ (ps : List Held). IsPermutation (map (tell lib) (entries_of ps)) []) (sym (below_none shows.held)) (IsPermutation-refl []))
+
+  told_all : (made : List A) (st : State) (lib : List Ranked) → Shows slots st lib → AreToldBelow slots made st lib
+      → IsPermutation (map (tell lib) lib) made
+  told_all made st lib shows told =
       let within =
       All-weaker (λ (p : Held). Holds slots st lib p.slot p.entry) (λ (p : Held). p.slot < slots) (λ p h. h.name.within) shows.held
       shows.holds in
       let all : entries_of (held_below slots shows.held) ≡ lib = ap entries_of (below_all slots shows.held within) ∙ shows.library in
-      subst (λ (es : List Ranked). IsPermutation (map (line lib) es) made) all (lines shows)
+      subst (λ (es : List Ranked). IsPermutation (map (tell lib) es) made) all (told shows)
 
-  module _ (k : ℕ) (made : List Line) (st : State) (lib : List Ranked) (store : AreOfOneStore most_words st.ranges) where
-    -- an empty slot has no line
-    pub lines_empty : IsEmpty slots st k → AreLinesBelow k made st lib → AreLinesBelow (k + 1) made st lib
-    lines_empty empty lines shows =
-        subst (λ (ps : List Held). IsPermutation (map (line lib) (entries_of ps)) made)
-        (sym (below_same k shows.held (empty_free slots st lib shows store k empty))) (lines shows)
+  module _ (k : ℕ) (made : List A) (st : State) (lib : List Ranked) (store : AreOfOneStore most_words st.ranges) where
+    -- of an empty slot nothing is told
+    told_empty : IsEmpty slots st k → AreToldBelow k made st lib → AreToldBelow (k + 1) made st lib
+    told_empty empty told shows =
+        subst (λ (ps : List Held). IsPermutation (map (tell lib) (entries_of ps)) made)
+        (sym (below_same k shows.held (empty_free slots st lib shows store k empty))) (told shows)
 
-    -- a full one has the line of what it holds
-    pub lines_full : Distinct bytes_eq (map label_of lib) → (e : Ranked) (l : Line) (more : List Line) → Contains lib e
-        → Holds slots st lib k e
-        → l ≡ line lib e → more ≡ made ++ l ∷ [] → AreLinesBelow k made st lib → AreLinesBelow (k + 1) more st lib
-    lines_full apart e l more at holds own push lines shows =
+    -- of a full one, of what it holds
+    told_full : Distinct bytes_eq (map label_of lib) → (e : Ranked) (x : A) (more : List A) → Contains lib e → Holds slots st lib k e
+        → x ≡ tell lib e → more ≡ made ++ x ∷ [] → AreToldBelow k made st lib → AreToldBelow (k + 1) more st lib
+    told_full apart e x more at holds own push told shows =
         let p = held_here slots st lib shows store apart k e at holds in
         let below = held_below k shows.held in
         let entry = λ (q : Held). q.entry in
-        let ls = map (line lib) (entries_of below) in
-        let there = IsPermutation-map (line lib) (entries_of (held_below (k + 1) shows.held)) (entries_of (below ++ p.0 ∷ []))
+        let xs = map (tell lib) (entries_of below) in
+        let there = IsPermutation-map (tell lib) (entries_of (held_below (k + 1) shows.held)) (entries_of (below ++ p.0 ∷ []))
         (IsPermutation-map entry (held_below (k + 1) shows.held) (below ++ p.0 ∷ []) (below_more k shows.held p.0 shows.apart p.1 p.2)) in
-        let last : line lib p.0.entry ≡ l = ap (line lib) p.3 ∙ sym own in
-        let parts : map (line lib) (entries_of (below ++ p.0 ∷ [])) ≡ ls ++ l ∷ [] =
-        ap (map (line lib)) (map-append entry below (p.0 ∷ [])) ∙ map-append (line lib) (entries_of below) (p.0.entry ∷ [])
-        ∙ ap (λ (x : Line). ls ++ x ∷ []) last in
-        IsPermutation-trans (map (line lib) (entries_of (held_below (k + 1) shows.held))) (ls ++ l ∷ []) more
-        (subst (IsPermutation (map (line lib) (entries_of (held_below (k + 1) shows.held)))) parts there)
-        (subst (IsPermutation (ls ++ l ∷ [])) (sym push) (IsPermutation-append_left (l ∷ []) ls made (lines shows)))
+        let last : tell lib p.0.entry ≡ x = ap (tell lib) p.3 ∙ sym own in
+        let parts : map (tell lib) (entries_of (below ++ p.0 ∷ [])) ≡ xs ++ x ∷ [] =
+        ap (map (tell lib)) (map-append entry below (p.0 ∷ [])) ∙ map-append (tell lib) (entries_of below) (p.0.entry ∷ [])
+        ∙ ap (λ (y : A). xs ++ y ∷ []) last in
+        IsPermutation-trans (map (tell lib) (entries_of (held_below (k + 1) shows.held))) (xs ++ x ∷ []) more
+        (subst (IsPermutation (map (tell lib) (entries_of (held_below (k + 1) shows.held)))) parts there)
+        (subst (IsPermutation (xs ++ x ∷ [])) (sym push) (IsPermutation-append_left (x ∷ []) xs made (told shows)))
 
 -- ---- slot by slot
 
-module _ {O : Type 0} (r s : Sight O) (slots k : ℕ) (is : slots ≡ s.setting.slots) (looks : Looks r s) (made : List Line)
-    (lines : ForEach r (AreLinesBelow slots k made)) where
-  pub one_empty : IfFull s k false → ForEach s (AreLinesBelow slots (k + 1) made)
+module _ {A : Type 0} (tell : List Ranked → Ranked → A) {O : Type 0} (r s : Sight O) (slots k : ℕ) (is : slots ≡ s.setting.slots)
+    (looks : Looks r s) (made : List A) (told : ForEach r (AreToldBelow tell slots k made)) where
+  pub one_empty : IfFull s k false → ForEach s (AreToldBelow tell slots (k + 1) made)
   one_empty empty st lib v =
-      lines_empty slots k made (after s st) lib v.matches.store (subst (λ n. IsEmpty n (after s st) k) (sym is) (empty st lib v))
-      (for_each_later r s (AreLinesBelow slots k made) looks lines st lib v)
+      told_empty tell slots k made (after s st) lib v.matches.store (subst (λ n. IsEmpty n (after s st) k) (sym is) (empty st lib v))
+      (for_each_later r s (AreToldBelow tell slots k made) looks told st lib v)
 
-  pub one_full : (t : Sight O) → Looks s t → IfFull s k true → (l : Line) (more : List Line) → TellsLine t k l → more ≡ made ++ l ∷ []
-      → ForEach t (AreLinesBelow slots (k + 1) more)
-  one_full t on full l more told push st lib v =
-      let held = for_each_later s t (λ x es. (e : Ranked) × Holds s.setting.slots x es k e × Contains es e) on full st lib v in
+  pub one_full : (t : Sight O) → Looks s t → IfFull s k true → (x : A) (more : List A) → ForEachHeld t k (λ st lib e. x ≡ tell lib e)
+      → more ≡ made ++ x ∷ [] → ForEach t (AreToldBelow tell slots (k + 1) more)
+  one_full t on full x more own push st lib v =
+      let held = for_each_later s t (λ y es. (e : Ranked) × Holds s.setting.slots y es k e × Contains es e) on full st lib v in
       let e = held.0 in
       let there = subst (λ n. Holds n (after t st) lib k e) (sym (same_slots s t on)) held.1 in
       let here = subst (λ n. Holds n (after t st) lib k e) (sym is) held.1 in
-      lines_full slots k made (after t st) lib v.matches.store v.verifies.library.distinct e l more held.2 here
-      (told st lib v e held.2 there) push
-      (for_each_later r t (AreLinesBelow slots k made) (looks_trans r s t looks on) lines st lib v)
+      told_full tell slots k made (after t st) lib v.matches.store v.verifies.library.distinct e x more held.2 here
+      (own st lib v e held.2 there) push
+      (for_each_later r t (AreToldBelow tell slots k made) (looks_trans r s t looks on) told st lib v)
+
+-- behind the last slot it is told of the whole library
+pub whole_told : {A : Type 0} → (tell : List Ranked → Ranked → A) {O : Type 0} (r s : Sight O) (k : ℕ) (made : List A) → Looks r s
+    → k ≡ r.setting.slots → ForEach s (AreToldBelow tell r.setting.slots k made)
+    → ForEach s (λ st lib. IsPermutation (map (tell lib) lib) made)
+whole_told tell r s k made looks last told st lib v =
+    let same = sym (same_slots r s looks) in
+    told_all tell s.setting.slots made (after s st) lib v.shows
+    (subst (λ n. AreToldBelow tell n n made (after s st) lib) same
+    (subst (λ n. AreToldBelow tell r.setting.slots n made (after s st) lib) last (told st lib v)))

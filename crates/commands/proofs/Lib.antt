@@ -12,10 +12,11 @@ pub mod CitedRanks
 pub mod NotedFrames
 pub mod ProofTests
 pub mod Added
-pub mod Looking
+pub mod OnlyLooks
 pub mod Holders
 pub mod Below
 pub mod Lines
 pub mod Citers
 pub mod Ranking
 pub mod Transactions
+pub mod Allowed

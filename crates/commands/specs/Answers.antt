@@ -1,5 +1,6 @@
 -- What a command answers over cells, and what a transaction does, for every state that may be under the run: what an editor answers.
 use Rattle.std.specs.Prelude.{◌≡◌, ℕ, List, Bool, true, false, Result, Ok, Err}
+use Rattle.std.specs.List.{list_any}
 use Rattle.library.specs.declared.library.Ranked.{Ranked}
 use Rattle.library.specs.declared.command.Command.{Command}
 use Rattle.library.specs.declared.command.Command.TheVariants.{Add, Reprove, Rename}
@@ -33,6 +34,10 @@ stages (Add rank a) = true
 stages (Reprove label steps) = true
 stages (Rename from to) = true
 stages _ = false
+
+-- a transaction that does: some command stages a body
+abbrev pub has_staging : List Command → Bool
+has_staging cs = list_any stages cs
 
 -- the run may do the command: an edit keeps values aside
 pub record MayDo {O : Type 0} (s : Sight O) (c : Command) : Type 0 where

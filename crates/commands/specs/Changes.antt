@@ -1,10 +1,9 @@
 -- Of the code's inside, apart from the rules: what becomes of a library that is shown where the cells of one slot are changed.
-use Rattle.std.specs.Prelude.{◌≡◌, ℕ, List, Some, false}
-use Rattle.mmsyntax.specs.declared.statement.Assertion.{Assertion}
+use Rattle.std.specs.Prelude.{◌≡◌, ℕ, List, false}
 use Rattle.mmsyntax.specs.declared.statement.Kind.TheVariants.{Theorem}
 use Rattle.mmsyntax.specs.declared.statement.Step.{Step}
 use Rattle.library.specs.declared.library.Ranked.{Ranked}
-use Rattle.library.specs.Edits.{has, found, citers, rename, without, changed, with_proof}
+use Rattle.library.specs.Edits.{has, citers, rename, without, changed, with_proof}
 use Rattle.bodystore.specs.declared.stored.StoredStep.{StoredStep}
 use Rattle.cells.specs.State.{State}
 use Rattle.cells.specs.Shows.{AreStoredAs}

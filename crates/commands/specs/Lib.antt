@@ -2,3 +2,4 @@ pub mod Answers
 pub mod Citing
 pub mod Changes
 pub mod Listing
+pub mod Looking

@@ -5,13 +5,17 @@ mod adding;
 mod citing;
 mod deleting;
 mod ending;
+mod looking;
 mod moving;
 mod renaming;
 mod reproving;
+mod rights;
 mod running;
 mod showing;
 
 pub use ending::{CommandError, RunError};
+pub use looking::entries;
+pub use rights::{has_staging, stages};
 pub use running::{run, take};
 pub use scripts::{
     Command, CommandPlace, Led, Line, PlainLibrary, Ranked, Reason, Refused, Reply, Script,

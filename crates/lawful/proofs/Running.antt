@@ -21,8 +21,8 @@ no_edit true old new some none =
     cc
 no_edit false old new looks none = refl
 
-module _ {O : Type 0} (g : Given) (old new : Sight O) (setting : old.setting ≡ setting_of g) (blank : old.writes ≡ []) (onward : Onward old new)
-    (writes : Pairs) where
+module _ {O : Type 0} (g : Given) (old new : Sight O) (setting : old.setting ≡ setting_of g) (blank : old.writes ≡ [])
+    (onward : Onward old new) (writes : Pairs) where
   -- what suits the run at its end matches it
   matches_new : (st : State) (lib : List Ranked) → Suits (sight_of g new.ranges new.reads writes) st lib → Matches new st
   matches_new st lib s = record { store = s.matches.store; has = s.matches.has; reads = s.matches.reads }

@@ -43,7 +43,8 @@ abbrev pub ForEachUnder : {O : Type 0} → Sight O → (State → List Ranked �
 ForEachUnder s told = (st : State) (lib : List Ranked) → Suits s st lib → told st lib
 
 -- the commands give these replies, and with what the run keeps aside the state shows the library after them
-pub record IsApplied {O : Type 0} (s : Sight O) (st : State) (lib : List Ranked) (commands : List Command) (replies : List Reply) : Type 0 where
+pub record IsApplied {O : Type 0} (s : Sight O) (st : State) (lib : List Ranked) (commands : List Command) (replies : List Reply)
+    : Type 0 where
   pub next : List Ranked
   pub applied : apply s.setting lib commands ≡ Ok (record { library = next; replies = replies })
   pub shows : Shows s.setting.slots (after s st) next

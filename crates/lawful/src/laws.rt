@@ -18,8 +18,8 @@ pub fn unread_is_unlawful()
     ensures { UnreadIsUnlawful }
 {}
 
-/// A run of commands on cells that ends with their replies, or is refused, is lawful: so a session may commit it. `Origin` is what such runs
-/// begin with.
+/// A run of commands on cells that ends with their replies, or is refused, is lawful: so a session may commit it. `Origin` is what such
+/// runs begin with.
 pub fn runs_are_lawful<Origin>()
     ensures { RunsAreLawful Origin }
 {}

@@ -12,7 +12,7 @@ use Rattle.cells.proofs.Settings.{same_slots}
 use Rattle.cells.proofs.Sights.{looks_trans}
 use Rattle.commands.specs.Citing.{TellsCites}
 use Rattle.commands.proofs.Citers.{all_uncited, low_uncited, count_uncited, one_low, one_high, one_other, one_cites, more_uncited}
-use Rattle.commands.proofs.Looking.{read_looks}
+use Rattle.commands.proofs.OnlyLooks.{read_looks}
 use Rattle.commands.proofs.moving.is_cited_up_to.Goals as goal
 
 pub returns-in_err-map_err-clause-looks : goal.returns-in_err-map_err-clause-looks

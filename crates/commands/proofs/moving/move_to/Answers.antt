@@ -10,7 +10,7 @@ use Rattle.cells.proofs.Laying.{ok_mapped}
 use Rattle.cells.proofs.Sights.{onward_trans, looks_trans}
 use Rattle.commands.specs.Citing.{TellsNotBelow, TellsCitedUpTo}
 use Rattle.commands.proofs.CitedRanks.{stored_later}
-use Rattle.commands.proofs.Looking.{finds_later}
+use Rattle.commands.proofs.OnlyLooks.{finds_later}
 use Rattle.commands.proofs.Ranking.{stored_since, refused_unranked, refused_not_above, refused_not_below, does_move}
 use Rattle.commands.proofs.Refusing.{of_none, refused, answers_refused}
 use Rattle.commands.proofs.moving.move_to.Goals as goal

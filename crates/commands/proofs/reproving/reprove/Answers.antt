@@ -7,7 +7,7 @@ use Rattle.cells.proofs.Sights.{onward_trans, looks_trans}
 use Rattle.cells.proofs.Laying.{ok_mapped}
 use Rattle.cells.proofs.ReadBack.{held_later}
 use Rattle.commands.specs.Changes.{ReprovesAt}
-use Rattle.commands.proofs.Looking.{finds_later}
+use Rattle.commands.proofs.OnlyLooks.{finds_later}
 use Rattle.commands.proofs.Refusing.{of_none, refused, refused_later, answers_refused, answers_tested}
 use Rattle.commands.proofs.Reproved.{retitled, axiom_refused, reprove_refused, reproved}
 use Rattle.commands.proofs.reproving.reprove.Goals as goal

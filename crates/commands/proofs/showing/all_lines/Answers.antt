@@ -1,17 +1,17 @@
 use Rattle.std.proofs.Common.{◌≡◌, ◌++◌, [], ◌∷◌, true, false, sym, subst, arith}
-use Rattle.cells.specs.Sight.{after}
+use Rattle.library.specs.Edits.{line}
 use Rattle.cells.specs.Lookups.{IfFull}
 use Rattle.cells.proofs.Laying.{ok_mapped}
 use Rattle.cells.proofs.Settings.{same_slots}
 use Rattle.cells.proofs.Sights.{looks_refl, looks_trans}
-use Rattle.commands.proofs.Below.{AreLinesBelow, lines_begin, lines_all, one_empty, one_full}
+use Rattle.commands.proofs.Below.{told_none, one_empty, one_full, whole_told}
 use Rattle.commands.proofs.showing.all_lines.Goals as goal
 use Rattle.commands.proofs.showing.all_lines.Goals.{then-branch+in_ok-line+in_ok-push, else-branch}
 
 pub loop-slot-init : goal.loop-slot-init
 loop-slot-init g c =
     let old = g.C.Cells.sight c.args.cells.now in
-    record { looks = looks_refl _; lines = λ st lib v. lines_begin old.setting.slots _ _ lib c.new-lines.ensures.items }
+    record { looks = looks_refl _; lines = λ st lib v. told_none line old.setting.slots _ _ lib c.new-lines.ensures.items }
 
 pub returns-in_err-map_err-clause-looks : goal.returns-in_err-map_err-clause-looks
 returns-in_err-map_err-clause-looks g c = looks_trans _ _ _ c.loop-slot.invariant.looks c.is_full.ensures.looks
@@ -44,23 +44,17 @@ loop-slot-preserved g c =
           let yes : IfFull s k true = subst (IfFull s k) w.if-branch.true full in
           rw (w.cells-is, w.lines-is) (record {
             looks = looks_trans _ _ _ onto on;
-            lines = one_full r s slots k is c.is_full.ensures.looks made lines t on yes w.in_ok-line.field-0 w.push.new.self.items
+            lines = one_full line r s slots k is c.is_full.ensures.looks made lines t on yes w.in_ok-line.field-0 w.push.new.self.items
                 w.in_ok-line.ensures.ok push;
           })
       | else-branch w ↦
           let no : IfFull s k false = subst (IfFull s k) w.if-branch.false full in
-          rw (w.cells-is, w.lines-is) (record { looks = onto; lines = one_empty r s slots k is c.is_full.ensures.looks made lines no })
+          rw (w.cells-is, w.lines-is) (record { looks = onto; lines = one_empty line r s slots k is c.is_full.ensures.looks made lines no })
     ]
 
 pub returns-clause-ok : goal.returns-clause-ok
-returns-clause-ok g c = λ st lib v.
-    let old = g.C.Cells.sight c.args.cells.now in
-    let s = g.C.Cells.sight c.loop-slot.cells in
-    let made = c.loop-slot.lines.items in
-    let looks = c.loop-slot.invariant.looks in
+returns-clause-ok g c =
     let end = c.slot_count-slot-end.ensures.value in
     let upto = c.loop-slot.auto.slot-end in
-    let slots = same_slots old s looks in
-    let last : c.loop-slot.slot ≡ s.setting.slots = omega (arith, end, upto, slots) in
-    let lines = subst (λ n. AreLinesBelow n c.loop-slot.slot made (after s st) lib) (sym slots) (c.loop-slot.invariant.lines st lib v) in
-    lines_all s.setting.slots made (after s st) lib v.shows (subst (λ n. AreLinesBelow s.setting.slots n made (after s st) lib) last lines)
+    let lines = c.loop-slot.invariant.lines in
+    whole_told line _ _ c.loop-slot.slot c.loop-slot.lines.items c.loop-slot.invariant.looks (omega (arith, end, upto)) lines

@@ -1,11 +1,12 @@
+use Rattle.library.specs.Edits.{line}
 use Rattle.cells.specs.Sight.{Looks}
 use Rattle.cells.specs.Lookups.{ForEach}
-use Rattle.commands.proofs.Below.{AreLinesBelow}
+use Rattle.commands.proofs.Below.{AreToldBelow}
 use Rattle.commands.proofs.showing.all_lines.Given as goal
 
 abbrev pub invariant-loop-slot : goal.invariant-loop-slot
 invariant-loop-slot g l =
     record {
       looks : Looks (g.C.Cells.sight l.fn.cells) (g.C.Cells.sight l.cells);
-      lines : ForEach (g.C.Cells.sight l.cells) (AreLinesBelow (g.C.Cells.sight l.fn.cells).setting.slots l.slot l.lines.items);
+      lines : ForEach (g.C.Cells.sight l.cells) (AreToldBelow line (g.C.Cells.sight l.fn.cells).setting.slots l.slot l.lines.items);
     }

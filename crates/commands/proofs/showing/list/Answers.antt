@@ -9,7 +9,7 @@ use Rattle.library.specs.Edits.{line}
 use Rattle.library.proofs.Orders.{sorted_by}
 use Rattle.commands.specs.Listing.{line_cmp}
 use Rattle.commands.proofs.Lines.{line_cmp_total, lines_in_order}
-use Rattle.commands.proofs.Looking.{does_reading}
+use Rattle.commands.proofs.OnlyLooks.{does_reading}
 use Rattle.commands.proofs.showing.list.Goals as goal
 
 pub returns-clause-answers : goal.returns-clause-answers

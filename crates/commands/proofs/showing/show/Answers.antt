@@ -9,7 +9,7 @@ use Rattle.cells.specs.Lookups.{ForEachHeld, Finds}
 use Rattle.cells.proofs.Laying.{ok_mapped}
 use Rattle.cells.proofs.ReadBack.{held_later}
 use Rattle.cells.proofs.Sights.{looks_trans}
-use Rattle.commands.proofs.Looking.{finds_later, does_reading}
+use Rattle.commands.proofs.OnlyLooks.{finds_later, does_reading}
 use Rattle.commands.proofs.Refusing.{of_none, of_some, refused, answers_refused}
 use Rattle.commands.proofs.showing.show.Goals as goal
 
