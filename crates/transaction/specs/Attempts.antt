@@ -1,0 +1,110 @@
+-- What becomes of a transaction that a session runs, and what the session's pass knows then.
+use Rattle.std.specs.Prelude.{◌≡◌, ◌≢◌, ◌<◌, ◌≤◌, ℕ, suc, ◌+◌, ◌/◌, ◌^◌, ◌⊎◌, true, false, is_some, Some, List, [], ◌∷◌, ◌++◌}
+use Rattle.std.specs.Prelude.{length, slice_get, All}
+use Rattle.library.specs.declared.command.Command.{Command}
+use Rattle.library.specs.declared.command.Reply.{Reply}
+use Rattle.library.specs.declared.reason.Refused.{Refused as Refusal}
+use Rattle.library.specs.Histories.{void_entry}
+use Rattle.library.specs.Transactions.{has_edit, has_too_many}
+use Rattle.commands.specs.Answers.{has_staging}
+use Rattle.tlcore.specs.History.{WasWritten}
+use Rattle.tlwords.specs.Seen.{Work, Call, Committed as CommittedCall, Answered}
+use Rattle.tlwords.specs.Known.{Known}
+use Rattle.tlwords.specs.Runs.{HasCause}
+use Rattle.lawful.specs.declared.notes.Given.{Given}
+use Rattle.lawful.specs.declared.notes.Note.{Note}
+use Rattle.lawful.specs.declared.notes.Note.TheVariants as note
+use Rattle.lawful.specs.History.{history_of}
+use Rattle.transaction.specs.declared.outcome.Conflict.{Conflict as Met}
+use Rattle.transaction.specs.declared.outcome.Outcome.{Outcome}
+use Rattle.transaction.specs.declared.outcome.Outcome.TheVariants as outcome
+use Rattle.transaction.specs.Members.{Member, IsLater}
+
+-- what a pass of a library knows
+abbrev pub Pass : Type 0
+Pass = Known Given Note
+
+-- ---- the notes of calls
+
+-- the note says that the commands are done, with these replies
+abbrev pub SaysDone : List Command → List Reply → Note → Type 0
+SaysDone cs replies (note.Done c r) = (c.value ≡ cs) × (r.value ≡ replies)
+SaysDone cs replies _ = ⊥
+
+-- the note says that they are refused
+abbrev pub SaysRefused : List Command → Refusal → Note → Type 0
+SaysRefused cs refused (note.Refused c r) = (c.value ≡ cs) × (r.value ≡ refused)
+SaysRefused cs refused _ = ⊥
+
+-- there is one call more, with a note of which this is so
+abbrev pub GainsCall : Pass → Pass → (Work Note → Call Note) → (Note → Type 0) → Type 0
+GainsCall old new call Says = (work : Work Note) × Says work.note × (new.mine ≡ old.mine ++ call work ∷ [])
+
+-- ---- what a call adds
+
+-- the place is behind all that was seen before
+abbrev pub IsNotBefore : Pass → ℕ → Type 0
+IsNotBefore old place = length old.seen.history ≤ place
+
+-- no number was drawn
+abbrev pub DrawsNone : Pass → Pass → Type 0
+DrawsNone old new = new.drawn ≡ old.drawn
+
+-- the entry with the number is void
+abbrev pub IsVoidNumber : Pass → ℕ → Type 0
+IsVoidNumber new number = (i : ℕ) × (number ≡ suc i) × (slice_get (history_of new.seen) i ≡ Some void_entry)
+
+-- no number was drawn, or one, whose entry is void
+abbrev pub DrawsVoid : Pass → Pass → Type 0
+DrawsVoid old new = DrawsNone old new ⊎ ((number : ℕ) × (new.drawn ≡ old.drawn ++ number ∷ []) × IsVoidNumber new number)
+
+-- there is no call more, and no number was drawn: the attempt stands nowhere in the history
+pub record AddsNothing (old new : Pass) : Type 0 where
+  pub mine : new.mine ≡ old.mine
+  pub drawn : DrawsNone old new
+
+-- what was found of the conflict's cell: the last look of the one run of this call found the word, which shows the lock held, a version above
+-- the place, or another word than the read before. The half of the word is 0 or the number of a Done entry that writes this very cell
+pub record Meets (old new : Pass) (met : Met) : Type 0 where
+  pub placed : IsNotBefore old met.place
+  pub looked : new.looked ≡ Some (met.cell, met.word)
+  pub runs : new.runs ≡ old.runs + 1
+  pub cause : HasCause met.place met.word ⊎ ((w : ℕ) × (met.before ≡ Some w) × (w ≢ met.word))
+  pub written : WasWritten new.seen.history met.cell (met.word / 2)
+
+-- ---- a transaction
+
+-- what the pass has then, by the outcome
+abbrev pub Gains : List Command → Pass → Pass → Outcome → Type 0
+Gains cs old new (outcome.Committed number replies) =
+    (has_edit cs ≡ true) × (length old.seen.history < number) × (new.drawn ≡ old.drawn ++ number ∷ [])
+    × GainsCall old new (CommittedCall number) (SaysDone cs replies)
+Gains cs old new (outcome.Read place replies) =
+    (has_edit cs ≡ false) × IsNotBefore old place × DrawsNone old new × GainsCall old new (Answered place) (SaysDone cs replies)
+Gains cs old new (outcome.Refused place refused) =
+    IsNotBefore old place × DrawsNone old new × GainsCall old new (Answered place) (SaysRefused cs refused)
+Gains cs old new (outcome.Conflict met) = (new.mine ≡ old.mine) × DrawsVoid old new × Meets old new met
+Gains cs old new outcome.StoreFull = AddsNothing old new × (is_some new.full ≡ true) × (has_staging cs ≡ true)
+Gains cs old new outcome.NumbersUsed = AddsNothing old new × (length old.drawn ≡ 2 ^ 40)
+Gains cs old new outcome.TooManyCommands = (new ≡ old) × (has_too_many cs ≡ true)
+Gains cs old new outcome.NoMemory = AddsNothing old new
+
+-- what one try does
+pub record Attempts (cs : List Command) (old new : Member) (o : Outcome) : Type 0 where
+  pub later : IsLater old new
+  pub gains : Gains cs old.known new.known o
+  pub counted : has_too_many cs ≡ true → o ≡ outcome.TooManyCommands
+
+-- what the pass knew, with further numbers, and after further runs
+abbrev pub tried : Pass → List ℕ → ℕ → Pass
+tried k numbers runs = record k { drawn = k.drawn ++ numbers; runs = k.runs + runs }
+
+-- what tries until there is no conflict do: as one, after others that drew further numbers, which are void
+pub record Submits (cs : List Command) (old new : Member) (o : Outcome) : Type 0 where
+  pub later : IsLater old new
+  pub numbers : List ℕ
+  pub void : All (IsVoidNumber new.known) numbers
+  pub runs : ℕ
+  pub gains : Gains cs (tried old.known numbers runs) new.known o
+  pub settled : (met : Met) → o ≢ outcome.Conflict met
+  pub counted : has_too_many cs ≡ true → o ≡ outcome.TooManyCommands

@@ -1,0 +1,36 @@
+-- What a library in running words leaves at its end.
+use Rattle.std.specs.Prelude.{◌≡◌, ◌≤◌, ◌^◌, ℕ, List, length, map, All, Vec}
+use Rattle.std.specs.declared.alloc.Global.{Global}
+use Rattle.tlwords.specs.Closing.{ClosesAll}
+use Rattle.lawful.specs.Lawful.{setting_of, library_terms}
+use Rattle.transaction.specs.declared.closing.ClosedLibrary.{ClosedLibrary}
+use Rattle.transaction.specs.declared.outcome.Record.{Record}
+use Rattle.transaction.specs.Members.{Home, Member, IsMember}
+use Rattle.transaction.specs.Attempts.{Pass}
+
+-- what the passes of sessions know
+abbrev pub passes_of : List Member → List Pass
+passes_of members = map (λ m. m.known) members
+
+-- the records of each
+abbrev pub lists_of : List (Vec Record Global) → List (List Record)
+lists_of records = map (λ own. own.items) records
+
+-- the words are those of the library at its end, into whose history grows what each of these sessions had seen; and these are their records
+pub record IsClosed (home : Home) (members : List Member) (closed : ClosedLibrary) : Type 0 where
+  pub given : closed.given ≡ home.given
+  pub prelude : closed.prelude ≡ (setting_of home.given).prelude
+  pub words : ClosesAll library_terms home.given home.words.base home.store home.sessions (passes_of members) closed.words
+  pub room : length closed.words.store.items ≡ home.words.room
+  pub small : home.words.room ≤ 2 ^ 24
+  -- what is so of each session: each number that it drew has its record
+  pub members_are : All IsMember members
+  pub records : lists_of closed.records.items ≡ map (λ m. m.records) members
+
+-- ---- of the code's inside
+
+-- the passes and the records of sessions
+pub record AreTaken (members : List Member) (passes : List Pass) (records : List (Vec Record Global)) : Type 0 where
+  pub members_are : All IsMember members
+  pub passes_are : passes ≡ passes_of members
+  pub records_are : lists_of records ≡ map (λ m. m.records) members

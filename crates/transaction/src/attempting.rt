@@ -1,0 +1,205 @@
+//! Tries transactions.
+
+ghost use Rattle.std.specs.Prelude.{◌≡◌, ◌≢◌, [], true, false, All, IfOk};
+ghost use Rattle.library.specs.Fitting.{CommandFits};
+ghost use Rattle.library.specs.Transactions.{has_edit};
+ghost use Rattle.commands.specs.Answers.{has_staging};
+ghost use Rattle.tlwords.specs.Commits.{writes_kept};
+ghost use Rattle.tlwords.specs.declared.mode.Mode.TheVariants.{Reading};
+ghost use Rattle.lawful.specs.Laws.{IsPassOn};
+ghost use Rattle.lawful.specs.Lawful.{setting_of};
+ghost use Rattle.transaction.specs.Members.{IsOf};
+ghost use Rattle.transaction.specs.Attempts.{Attempts};
+ghost use Rattle.transaction.specs.Tries.{Tries, MayBeDone, MayBeRefused};
+
+use crate::library::Library;
+use crate::live::{Live, met};
+use crate::outcome::{Outcome, Record};
+use crate::session::{Kit, Session};
+use commands::{RunError, has_staging, run};
+use lawful::Note;
+use library::{Refused, Reply, Transaction, copy_commands, copy_replies, has_edit, has_too_many};
+use mmstatement::Sequence;
+use std::alloc::{AllocError, Global};
+use std::snapshot::Snapshot;
+use tlwords::Mode;
+
+/// What one run of a session gives back.
+pub(crate) struct Tried {
+    pub(crate) kit: Kit,
+    pub(crate) outcome: Outcome,
+    /// Of the number that the run drew, if it drew one.
+    pub(crate) record: Option<Record>,
+}
+
+impl Session {
+    /// Tries a transaction once, whose commands are within the limits of the prelude. It waits for nobody.
+    ///
+    /// A transaction with an edit that is not refused is `Committed`; one without is `Read`, and keeps no read set. What it reads is the library
+    /// after one front of the history, which is no older than what this session had seen or been told.
+    ///
+    /// Every other outcome changes nothing, and the session can be used again; only words of the store that were staged stay used. All memory
+    /// is taken before the first lock.
+    pub fn attempt(&mut self, alloc: Global, library: &Library, commands: &Transaction) -> Outcome
+        requires own { IsOf library.now self.old }
+        requires fit { All (CommandFits (setting_of library.now.given).prelude) commands.now }
+        ensures { Attempts commands.now self.old self.new result }
+    {
+        if has_too_many(commands.as_slice()) {
+            return Outcome::TooManyCommands;
+        }
+        if self.records.reserve(1).is_err() {
+            return Outcome::NoMemory;
+        }
+        let Some(kit) = self.kit.take() else {
+            unreachable!()
+        };
+        let Tried {
+            kit,
+            outcome,
+            record,
+        } = transact(alloc, library, kit, commands);
+        self.kit = Some(kit);
+        if let Some(record) = record {
+            self.records.push_reserved(record);
+        }
+        outcome
+    }
+}
+
+/// Runs a transaction once, to its end.
+fn transact(alloc: Global, library: &Library, kit: Kit, commands: &Transaction) -> Tried
+    requires own { kit.home ≡ library.now.words }
+    requires on { IsPassOn library.now.given kit }
+    requires fit { All (CommandFits (setting_of library.now.given).prelude) commands.now }
+    ensures { Tries commands.now kit result.kit result.outcome result.record }
+{
+    let edits = has_edit(commands.as_slice());
+    let mode = if edits { Mode::Writing } else { Mode::Reading };
+    let may_stage = has_staging(commands.as_slice());
+    let mut live = Live::begin(alloc, library, kit, mode, may_stage);
+    match run(alloc, &library.prelude, &mut live, commands.as_slice()) {
+        Ok(replies) if edits => commit(alloc, live, commands, replies),
+        Ok(replies) => answer(live, commands, replies),
+        Err(RunError::Refused(refused)) => refuse(live, commands, refused),
+        Err(_) => stop(live, commands),
+    }
+}
+
+/// Copies of the commands and replies of a transaction, for its record.
+fn copy_done(
+    alloc: Global,
+    commands: &Transaction,
+    replies: &Sequence<Reply>,
+) -> Result<(Transaction, Sequence<Reply>), AllocError>
+    ensures { IfOk result (λ made. made ≡ (commands.now, replies.now)) }
+{
+    let commands = copy_commands(alloc, commands.as_slice())?;
+    let replies = copy_replies(alloc, replies.as_slice())?;
+    Ok((commands, replies))
+}
+
+/// Commits a run whose commands are done, of which one is an edit.
+fn commit(alloc: Global, live: Live<'_>, commands: &Transaction, replies: Sequence<Reply>) -> Tried
+    requires stages { live.run.may_stage ≡ has_staging commands.now }
+    requires edit { has_edit commands.now ≡ true }
+    requires some { writes_kept live.run.going.slots ≢ [] }
+    requires lawful { MayBeDone live.run commands.now replies }
+    ensures { Tries commands.now live.entry.run.began result.kit result.outcome result.record }
+{
+    let Ok(done) = copy_done(alloc, commands, &replies) else {
+        return stop(live, commands);
+    };
+    let place = live.place();
+    let note = Note::Done {
+        commands: Snapshot::of(commands),
+        replies: Snapshot::of(&replies),
+    };
+    let (kit, ended) = live.end(&note);
+    let (outcome, record) = match ended {
+        tlwords::Outcome::Committed(number) => (
+            Outcome::Committed { number, replies },
+            Some(Record {
+                number,
+                done: Some(done),
+            }),
+        ),
+        tlwords::Outcome::Conflict { conflict, drawn } => (
+            Outcome::Conflict(met(place, conflict)),
+            drawn.map(|number| Record { number, done: None }),
+        ),
+        tlwords::Outcome::NumbersUsed => (Outcome::NumbersUsed, None),
+        tlwords::Outcome::Read(_) => unreachable!(),
+    };
+    Tried {
+        kit,
+        outcome,
+        record,
+    }
+}
+
+/// Ends a run that only read, and whose commands are done.
+fn answer(live: Live<'_>, commands: &Transaction, replies: Sequence<Reply>) -> Tried
+    requires edit { has_edit commands.now ≡ false }
+    requires reading { live.run.going.mode ≡ Reading }
+    requires lawful { MayBeDone live.run commands.now replies }
+    ensures { Tries commands.now live.entry.run.began result.kit result.outcome result.record }
+{
+    let place = live.place();
+    let note = Note::Done {
+        commands: Snapshot::of(commands),
+        replies: Snapshot::of(&replies),
+    };
+    let (kit, ended) = live.end(&note);
+    let outcome = match ended {
+        tlwords::Outcome::Read(place) => Outcome::Read { place, replies },
+        tlwords::Outcome::Conflict { conflict, drawn: _ } => {
+            Outcome::Conflict(met(place, conflict))
+        }
+        tlwords::Outcome::Committed(_) | tlwords::Outcome::NumbersUsed => unreachable!(),
+    };
+    Tried {
+        kit,
+        outcome,
+        record: None,
+    }
+}
+
+/// Ends a run of which a command is refused: what it kept aside is thrown away.
+fn refuse(mut live: Live<'_>, commands: &Transaction, refused: Refused) -> Tried
+    requires { MayBeRefused live.run commands.now refused }
+    ensures { Tries commands.now live.entry.run.began result.kit result.outcome result.record }
+{
+    live.forget();
+    let place = live.place();
+    let note = Note::Refused {
+        commands: Snapshot::of(commands),
+        refused: Snapshot::of(&refused),
+    };
+    let (kit, ended) = live.end(&note);
+    let outcome = match ended {
+        tlwords::Outcome::Read(place) => Outcome::Refused { place, refused },
+        tlwords::Outcome::Conflict { conflict, drawn: _ } => {
+            Outcome::Conflict(met(place, conflict))
+        }
+        tlwords::Outcome::Committed(_) | tlwords::Outcome::NumbersUsed => unreachable!(),
+    };
+    Tried {
+        kit,
+        outcome,
+        record: None,
+    }
+}
+
+/// Ends a run that was stopped, or for which memory ran out.
+fn stop(live: Live<'_>, commands: &Transaction) -> Tried
+    requires { live.run.may_stage ≡ has_staging commands.now }
+    ensures { Tries commands.now live.entry.run.began result.kit result.outcome result.record }
+{
+    let (kit, outcome) = live.give_up();
+    Tried {
+        kit,
+        outcome,
+        record: None,
+    }
+}

@@ -1,0 +1,74 @@
+//! Ends libraries.
+
+ghost use Rattle.std.specs.Prelude.{All, IfOk};
+ghost use Rattle.transaction.specs.Members.{IsOf};
+ghost use Rattle.transaction.specs.Closings.{IsClosed, AreTaken};
+
+use crate::library::Library;
+use crate::outcome::Record;
+use crate::session::Session;
+use lawful::{Given, LibraryLaw};
+use mmstatement::Prelude;
+use std::alloc::{AllocError, Global};
+use tlwords::{ClosedWords, Pass, close};
+
+/// A library at its end: no session can change it any more.
+#[derive(Drop)]
+pub struct ClosedLibrary {
+    /// The prelude of its assertions.
+    pub prelude: Prelude,
+    /// How many slots it has; and, for contracts alone, the database that it was opened from.
+    pub given: Given,
+    /// Its words.
+    pub words: ClosedWords,
+    /// The records of each session that was handed in, in order.
+    pub records: Vec<Vec<Record>>,
+}
+
+impl Library {
+    /// Ends the library, and the sessions of it that are handed in, none too. What each of them has seen grows into the one history that the
+    /// words show. Where all sessions are handed in, no lock is held, and the clock is how many numbers they drew.
+    ///
+    /// # Errors
+    ///
+    /// Want of memory. The library and the sessions are gone then.
+    pub fn close(self, alloc: Global, sessions: Vec<Session>) -> Result<ClosedLibrary, AllocError>
+        requires { All (IsOf self) sessions.items }
+        ensures { IfOk result (λ made. IsClosed self sessions.items made) }
+    {
+        let (passes, records) = take_all(alloc, sessions)?;
+        let Library {
+            prelude,
+            given,
+            words,
+        } = self;
+        Ok(ClosedLibrary {
+            prelude,
+            given,
+            words: close(alloc, words, passes)?,
+            records,
+        })
+    }
+}
+
+/// The passes of sessions, and their records, in order.
+fn take_all(
+    alloc: Global,
+    sessions: Vec<Session>,
+) -> Result<(Vec<Pass<LibraryLaw>>, Vec<Vec<Record>>), AllocError>
+    ensures { IfOk result (λ made. AreTaken sessions.items made.0.items made.1.items) }
+{
+    let mut passes = Vec::with_capacity(alloc, sessions.len())?;
+    let mut records = Vec::with_capacity(alloc, sessions.len())?;
+    for session in sessions {
+        let Session {
+            kit,
+            records: own,
+            given: _,
+        } = session;
+        let Some(kit) = kit else { unreachable!() };
+        passes.push_reserved(kit.into_pass());
+        records.push_reserved(own);
+    }
+    Ok((passes, records))
+}

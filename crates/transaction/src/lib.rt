@@ -1,0 +1,23 @@
+//! Sessions on a library in running words: each runs transactions of commands, one after another, beside all the others.
+//!
+//! A library is opened from a database, with a session for each worker. A session tries a transaction, or tries it until it meets no
+//! conflict, or looks at the whole library; and it learns what another session has seen. Whatever the others do meanwhile, each transaction
+//! that committed is an entry of one history, whose replies are those of a one-thread editor, and every other one changes nothing.
+#![tactic(auto)]
+
+mod attempting;
+mod closing;
+mod library;
+mod live;
+mod looking;
+mod opening;
+mod outcome;
+mod session;
+mod shape;
+mod submitting;
+
+pub use closing::ClosedLibrary;
+pub use library::Library;
+pub use outcome::{Conflict, Look, Outcome, Record};
+pub use session::Session;
+pub use shape::{OpenError, Shape};

@@ -1,0 +1,55 @@
+//! A library in running words.
+
+use lawful::{Given, LibraryLaw};
+use mmstatement::Prelude;
+use std::marker::Model;
+use tlwords::Words;
+
+/// A library in words that sessions share. Contracts see the opening that it is of.
+pub struct Library {
+    pub(crate) prelude: Prelude,
+    pub(crate) given: Given,
+    pub(crate) words: Words<LibraryLaw>,
+}
+
+impl Model for Library {
+    ghost use Rattle.std.specs.Prelude.{◌≡◌};
+    ghost use Rattle.tlwords.specs.Callers.{home_of};
+    ghost use Rattle.transaction.specs.Members.{Home};
+    ghost use Rattle.transaction.specs.Openings.{IsLibraryOf};
+
+    ghost Value = { Home };
+
+    ghost view = { λ l. record { given = l.given; words = home_of l.words; store = l.words.table.shared.key.store.value.items; sessions = l.words.table.shared.key.sessions } };
+
+    ghost invariant = { λ l. IsLibraryOf l.prelude (record { given = l.given; words = home_of l.words; store = l.words.table.shared.key.store.value.items; sessions = l.words.table.shared.key.sessions }) };
+}
+
+impl Drop for Library {
+    fn drop(self) {
+        let Library {
+            prelude: _,
+            given: _,
+            words: _,
+        } = self;
+    }
+}
+
+impl Library {
+    ghost use Rattle.std.specs.Prelude.{◌≡◌};
+    ghost use Rattle.lawful.specs.Lawful.{setting_of};
+
+    /// The prelude of the library's assertions.
+    pub fn prelude(&self) -> &Prelude
+        ensures { result.now ≡ (setting_of self.now.given).prelude }
+    {
+        &self.prelude
+    }
+
+    /// How many assertions it may hold.
+    pub fn slots(&self) -> usize
+        ensures { result ≡ self.now.given.slots }
+    {
+        self.given.slots
+    }
+}

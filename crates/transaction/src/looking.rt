@@ -1,0 +1,105 @@
+//! Looks at the whole library.
+
+ghost use Rattle.std.specs.Prelude.{◌≡◌, IfOk};
+ghost use Rattle.library.specs.Library.{ShowsInOrder};
+ghost use Rattle.cells.specs.Sight.{Looks as LooksOn};
+ghost use Rattle.cells.specs.Lookups.{ForEach};
+ghost use Rattle.tlwords.specs.declared.mode.Mode.TheVariants.{Reading};
+ghost use Rattle.lawful.specs.Laws.{IsPassOn};
+ghost use Rattle.lawful.specs.Lawful.{setting_of};
+ghost use Rattle.transaction.specs.Members.{IsOf};
+ghost use Rattle.transaction.specs.Looks.{Looks, Sees};
+ghost use Rattle.transaction.specs.Lent.{sight_of};
+ghost use Rattle.transaction.specs.Tries.{IsLaterPass, MayBeLooked};
+
+use crate::library::Library;
+use crate::live::{Live, Stopped, met};
+use crate::outcome::{Look, Outcome};
+use crate::session::{Kit, Session};
+use cells::Halt;
+use commands::entries;
+use lawful::Note;
+use library::PlainLibrary;
+use std::alloc::Global;
+use std::snapshot::Snapshot;
+use tlwords::Mode;
+
+impl Session {
+    /// Looks once at the whole library: its assertions after the first `place` entries of the history, which are no fewer than this session had
+    /// seen or been told. It waits for nobody, keeps no read set, and draws no number.
+    pub fn snapshot(&mut self, alloc: Global, library: &Library) -> Look
+        requires { IsOf library.now self.old }
+        ensures { Looks self.old self.new result }
+    {
+        let Some(kit) = self.kit.take() else {
+            unreachable!()
+        };
+        let (kit, seen) = look(alloc, library, kit);
+        self.kit = Some(kit);
+        seen
+    }
+}
+
+/// Runs a look once, to its end.
+fn look(alloc: Global, library: &Library, kit: Kit) -> (Kit, Look)
+    requires own { kit.home ≡ library.now.words }
+    requires on { IsPassOn library.now.given kit }
+    ensures later { IsLaterPass kit result.0 }
+    ensures sees { Sees kit result.0 result.1 }
+{
+    let mut live = Live::begin(alloc, library, kit, Mode::Reading, false);
+    match read_all(alloc, library, &mut live) {
+        Ok(seen) => show(live, seen),
+        Err(_) => stop(live),
+    }
+}
+
+/// The library as the run reads it.
+fn read_all(
+    alloc: Global,
+    library: &Library,
+    live: &mut Live<'_>,
+) -> Result<PlainLibrary, Halt<Stopped>>
+    requires { live.old.run.given ≡ library.now.given }
+    ensures looks { LooksOn (sight_of live.old.run) (sight_of live.new.run) }
+    ensures setting { IfOk result (λ seen. seen.setting ≡ setting_of library.now.given) }
+    ensures ok { IfOk result (λ seen. ForEach (sight_of live.new.run) (λ st lib. ShowsInOrder lib seen.entries)) }
+{
+    let entries = entries(alloc, live)?;
+    let prelude = library.prelude.copy(alloc)?;
+    Ok(PlainLibrary::sorted(prelude, library.given.slots, entries))
+}
+
+/// Ends a run that has read the library.
+fn show(live: Live<'_>, library: PlainLibrary) -> (Kit, Look)
+    requires reading { live.run.going.mode ≡ Reading }
+    requires lawful { MayBeLooked live.run library }
+    ensures later { IsLaterPass live.entry.run.began result.0 }
+    ensures sees { Sees live.entry.run.began result.0 result.1 }
+{
+    let place = live.place();
+    let note = Note::Looked {
+        library: Snapshot::of(&library),
+    };
+    let (kit, ended) = live.end(&note);
+    let seen = match ended {
+        tlwords::Outcome::Read(place) => Look::Read { place, library },
+        tlwords::Outcome::Conflict { conflict, drawn: _ } => Look::Conflict(met(place, conflict)),
+        tlwords::Outcome::Committed(_) | tlwords::Outcome::NumbersUsed => unreachable!(),
+    };
+    (kit, seen)
+}
+
+/// Ends a run that was stopped, or for which memory ran out.
+fn stop(live: Live<'_>) -> (Kit, Look)
+    ensures later { IsLaterPass live.entry.run.began result.0 }
+    ensures sees { Sees live.entry.run.began result.0 result.1 }
+{
+    let (kit, outcome) = live.give_up();
+    let seen = match outcome {
+        Outcome::Conflict(met) => Look::Conflict(met),
+        // It stages nothing, so it is memory that ran out.
+        _ => Look::NoMemory,
+    };
+    (kit, seen)
+}

@@ -1,0 +1,68 @@
+//! What becomes of a transaction, and of a number that it drew.
+
+use library::{PlainLibrary, Refused, Reply, Transaction};
+use mmstatement::Sequence;
+
+/// Where a try met another session.
+#[derive(Clone, Copy, Debug, PartialEq, Eq)]
+pub struct Conflict {
+    /// How many numbers were drawn before the try.
+    pub place: u64,
+    /// The cell, from 0.
+    pub cell: usize,
+    /// The lock word that was found there: it is odd where the cell was locked, and half of it is the number of the last transaction that
+    /// wrote the cell, or 0.
+    pub word: u64,
+    /// The lock word that this try's last read of the cell had found, if one had ended and the try keeps its reads.
+    pub before: Option<u64>,
+}
+
+/// What becomes of a transaction.
+#[derive(Debug, Drop)]
+pub enum Outcome {
+    /// It is the entry of the history with this number, from 1; a command of it is an edit.
+    Committed {
+        number: u64,
+        replies: Sequence<Reply>,
+    },
+    /// It only read: the library after the first `place` entries.
+    Read {
+        place: u64,
+        replies: Sequence<Reply>,
+    },
+    /// A command is refused over the library after the first `place` entries, and with it the transaction: it changed nothing.
+    Refused {
+        place: u64,
+        refused: Refused,
+    },
+    /// It met another session, and changed nothing.
+    Conflict(Conflict),
+    /// The store has no room for a body, or had none for one that this session staged before. It changed nothing.
+    StoreFull,
+    /// The session has drawn 2^40 numbers. It changed nothing.
+    NumbersUsed,
+    /// It has more than 16 commands. Nothing was done.
+    TooManyCommands,
+    /// Memory ran out. It changed nothing.
+    NoMemory,
+}
+
+/// What a look at the whole library gives.
+#[derive(Drop)]
+pub enum Look {
+    /// The library after the first `place` entries.
+    Read { place: u64, library: PlainLibrary },
+    /// It met another session.
+    Conflict(Conflict),
+    /// Memory ran out.
+    NoMemory,
+}
+
+/// What became of a number that a session drew.
+#[derive(Debug, Drop)]
+pub struct Record {
+    /// From 1.
+    pub number: u64,
+    /// The transaction that committed with the number, with its replies; none where it met a conflict then.
+    pub done: Option<(Transaction, Sequence<Reply>)>,
+}

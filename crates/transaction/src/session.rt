@@ -1,0 +1,88 @@
+//! A session of a library.
+
+ghost use Rattle.std.specs.Prelude.{◌≡◌};
+ghost use Rattle.transaction.specs.Members.{IsOf};
+ghost use Rattle.transaction.specs.Looks.{Learns};
+
+use crate::library::Library;
+use crate::outcome::Record;
+use bodystore::Stage;
+use lawful::{Given, LibraryLaw};
+use std::marker::Model;
+use std::snapshot::Snapshot;
+use tlwords::{Pass, learn};
+
+/// What a run takes along: the session's pass, and the ranges that the session has staged since its last commit. Contracts see what the pass
+/// knows.
+#[derive(Drop)]
+pub(crate) struct Kit {
+    pub(crate) pass: Pass<LibraryLaw>,
+    pub(crate) stage: Stage,
+}
+
+impl Model for Kit {
+    ghost use Rattle.bodystore.specs.Stages.{AreStaged};
+    ghost use Rattle.transaction.specs.Attempts.{Pass as Knowing};
+
+    ghost Value = { Knowing };
+
+    ghost view = { λ k. k.pass };
+
+    ghost invariant = { λ k. AreStaged k.pass.seen.ranges k.stage };
+}
+
+impl Kit {
+    /// Its pass. What was staged is forgotten.
+    pub(crate) fn into_pass(self) -> Pass<LibraryLaw>
+        ensures { result ≡ self }
+    {
+        let Kit { pass, stage: _ } = self;
+        pass
+    }
+}
+
+/// A session of a library: one transaction after another, on one thread at a time. Contracts see what it knows: what it has seen of the
+/// history, its calls, the numbers that it drew, and their records.
+#[derive(Drop)]
+pub struct Session {
+    // none only while a run has it
+    pub(crate) kit: Option<Kit>,
+    pub(crate) records: Vec<Record>,
+    pub(crate) given: Snapshot<Given>,
+}
+
+impl Model for Session {
+    ghost use Rattle.std.specs.Prelude.{◌≡◌, true, is_some};
+    ghost use Rattle.transaction.specs.Members.{Member, IsMember};
+    ghost use Rattle.transaction.specs.Kits.{known_in};
+
+    ghost Value = { Member };
+
+    ghost view = { λ s. record { given = s.given.value; known = known_in s.kit; records = s.records.items } };
+
+    ghost invariant = { λ s. (is_some s.kit ≡ true) × IsMember (record { given = s.given.value; known = known_in s.kit; records = s.records.items }) };
+}
+
+impl Session {
+    ghost use Rattle.transaction.specs.Members.{Stands};
+
+    /// The records of the numbers that the session drew, in order: what became of each.
+    pub fn records(&self) -> &[Record]
+        ensures value { result.now ≡ self.now.records }
+        ensures stands { Stands self.now }
+    {
+        self.records.as_slice()
+    }
+
+    /// Tells this session what another one has seen by now: it will not read what is older. It waits for nobody, and takes no memory.
+    pub fn learn(&mut self, library: &Library, other: &mut Session)
+        requires own { IsOf library.now self.old }
+        requires other { IsOf library.now other.old }
+        ensures { Learns self.old other.old self.new other.new }
+    {
+        let (Some(kit), Some(others)) = (&mut self.kit, &mut other.kit) else {
+            unreachable!()
+        };
+        learn(&library.words, &mut kit.pass, &mut others.pass);
+    }
+}
