@@ -1,0 +1,61 @@
+//! Finishes libraries.
+
+ghost use Rattle.std.specs.Prelude.{All, List};
+ghost use Rattle.transaction.specs.Members.{Home, Member, IsOf};
+ghost use Rattle.transaction.specs.Closings.{IsClosed};
+ghost use Rattle.finishing.specs.Finishes.{Finishes};
+
+use crate::closed_cells::ClosedCells;
+use crate::error::FinishError;
+use crate::ordering::{first_held, first_missing, in_order, whole};
+use commands::entries;
+use library::{History, PlainLibrary};
+use std::alloc::{AllocError, Global};
+use transaction::{ClosedLibrary, Library, Session};
+
+/// Ends a library: its whole history, into which grows what each of these sessions had seen, and the library after it. The sessions, none too, are
+/// of this library.
+///
+/// # Errors
+///
+/// In this order: `Missing`, exactly where a number up to the clock was drawn by none of these sessions; `Held`, exactly where no number is missing
+/// and the lock of a cell is held; want of memory. Where all the library's sessions are handed in, neither of the first two is answered. The
+/// library and the sessions are gone then.
+pub fn finish(
+    alloc: Global,
+    library: Library,
+    sessions: Vec<Session>,
+) -> Result<(History, PlainLibrary), FinishError>
+    requires { All (IsOf library) sessions.items }
+    ensures { Finishes library sessions.items result }
+{
+    let closed = library.close(alloc, sessions)?;
+    conclude(alloc, closed)
+}
+
+/// The history and the library that a closed library leaves.
+fn conclude(alloc: Global, closed: ClosedLibrary) -> Result<(History, PlainLibrary), FinishError>
+    requires { (home : Home) × (members : List Member) × IsClosed home members closed }
+    ensures { (home : Home) (members : List Member) → IsClosed home members closed → Finishes home members result }
+{
+    let ClosedLibrary {
+        prelude,
+        given,
+        words,
+        records,
+    } = closed;
+    let ordered = in_order(alloc, words.clock, records)?;
+    if let Some(index) = first_missing(ordered.as_slice()) {
+        return Err(FinishError::Missing(index as u64 + 1));
+    }
+    if let Some(cell) = first_held(words.cells.as_slice()) {
+        return Err(FinishError::Held(cell));
+    }
+    let history = whole(alloc, ordered)?;
+    let mut cells = ClosedCells::new(&prelude, given.slots, &words);
+    let Ok(found) = entries(alloc, &mut cells) else {
+        return Err(FinishError::NoMemory);
+    };
+    let library = PlainLibrary::sorted(prelude, given.slots, found);
+    Ok((history, library))
+}
