@@ -11,6 +11,7 @@ use std::marker::Model;
 use tlwords::ClosedWords;
 
 /// The cells of closed words that hold a library. They can only be read. Contracts see their values and the words of the store.
+#[derive(Drop)]
 pub(crate) struct ClosedCells<'c> {
     prelude: &'c Prelude,
     slots: usize,

@@ -13,10 +13,10 @@ use tlwords::ClosedCell;
 use transaction::Record;
 
 /// What a record says that the entry of its number is.
-fn entry_of(record: Record) -> Entry
-    ensures { told result ≡ entry_recorded record.done }
+fn entry_of(kept: Record) -> Entry
+    ensures { told result ≡ entry_recorded kept.done }
 {
-    match record.done {
+    match kept.done {
         None => Entry::Void,
         Some((commands, replies)) => Entry::Done { commands, replies },
     }
