@@ -12,7 +12,7 @@ ghost use Rattle.transaction.specs.Members.{IsOf};
 ghost use Rattle.transaction.specs.Attempts.{Attempts};
 ghost use Rattle.transaction.specs.Tries.{Tries, MayBeDone, MayBeRefused};
 
-use crate::library::Library;
+use crate::running::Library;
 use crate::live::{Live, met};
 use crate::outcome::{Outcome, Record};
 use crate::session::{Kit, Session};

@@ -4,7 +4,7 @@ ghost use Rattle.std.specs.Prelude.{All, IfOk};
 ghost use Rattle.transaction.specs.Members.{IsOf};
 ghost use Rattle.transaction.specs.Closings.{IsClosed, AreTaken};
 
-use crate::library::Library;
+use crate::running::Library;
 use crate::outcome::Record;
 use crate::session::Session;
 use lawful::{Given, LibraryLaw};

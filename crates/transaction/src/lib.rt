@@ -7,7 +7,7 @@
 
 mod attempting;
 mod closing;
-mod library;
+mod running;
 mod live;
 mod looking;
 mod opening;
@@ -17,7 +17,7 @@ mod shape;
 mod submitting;
 
 pub use closing::ClosedLibrary;
-pub use library::Library;
+pub use running::Library;
 pub use outcome::{Conflict, Look, Outcome, Record};
 pub use session::Session;
 pub use shape::{OpenError, Shape};

@@ -3,7 +3,7 @@
 ghost use Rattle.std.specs.Prelude.{◌≡◌, ◌≢◌, ◌<◌, ℕ, List, [], Some, None, true, IfOk, IfErr, slice_get};
 ghost use Rattle.transaction.specs.Lent.{Agrees};
 
-use crate::library::Library;
+use crate::running::Library;
 use crate::outcome::{Conflict, Outcome};
 use crate::session::Kit;
 use bodystore::Stage;

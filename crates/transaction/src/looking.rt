@@ -12,7 +12,7 @@ ghost use Rattle.transaction.specs.Looks.{Looks, Sees};
 ghost use Rattle.transaction.specs.Lent.{sight_of};
 ghost use Rattle.transaction.specs.Tries.{IsLaterPass, MayBeLooked};
 
-use crate::library::Library;
+use crate::running::Library;
 use crate::live::{Live, Stopped, met};
 use crate::outcome::{Look, Outcome};
 use crate::session::{Kit, Session};

@@ -7,7 +7,7 @@ ghost use Rattle.lawful.specs.Lawful.{library_terms};
 ghost use Rattle.lawful.specs.Laws.{IsPassOn};
 ghost use Rattle.transaction.specs.Openings.{IsShape, Opens, Faults, AreSeated};
 
-use crate::library::Library;
+use crate::running::Library;
 use crate::session::{Kit, Session};
 use crate::shape::{OpenError, Shape};
 use bodystore::Stage;

@@ -4,7 +4,7 @@ ghost use Rattle.std.specs.Prelude.{◌≡◌};
 ghost use Rattle.transaction.specs.Members.{IsOf};
 ghost use Rattle.transaction.specs.Looks.{Learns};
 
-use crate::library::Library;
+use crate::running::Library;
 use crate::outcome::Record;
 use bodystore::Stage;
 use lawful::{Given, LibraryLaw};
