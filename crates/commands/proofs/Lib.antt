@@ -19,3 +19,4 @@ pub mod Lines
 pub mod Citers
 pub mod Ranking
 pub mod Transactions
+pub mod Allowed
