@@ -7,8 +7,8 @@ use Rattle.commands.proofs.Allowed.{may_do_all}
 use Rattle.pairs.proofs.Plain.{done_shows, done_shows_some, begun_shows, kept_shows, ended_tells}
 use Rattle.pairs.proofs.in_cells.InCells.apply.Goals as goal
 
-pub run-requires-may : goal.run-requires-may
-run-requires-may c = may_do_all (sight_of c.args.self.now.cells) refl refl c.args.commands.now
+pub run-requires-clause-may : goal.run-requires-clause-may
+run-requires-clause-may c = may_do_all (sight_of c.args.self.now.cells) refl refl c.args.commands.now
 
 pub keep-requires : goal.keep-requires
 keep-requires c =
