@@ -29,6 +29,8 @@ mod openings;
 #[cfg(test)]
 mod running;
 #[cfg(test)]
+mod sessions;
+#[cfg(test)]
 mod shared;
 #[cfg(test)]
 mod slots;

@@ -1,6 +1,6 @@
 //! Transactions on libraries in plain cells: which cells they write, and which they leave to others.
 
-ghost use Rattle.std.specs.Prelude.{◌≡◌};
+ghost use Rattle.std.specs.Prelude.{◌≡◌, true};
 
 use crate::shared::mini;
 use crate::slots::{demo, free_from, opened, three, value_of};
@@ -22,7 +22,8 @@ fn done_in<C: Cells>(
     cells: &mut C,
     script: &[u8],
 ) -> Result<Result<usize, RunError<C::Stop>>, Fail>
-    requires { prelude.now ≡ (C.sight cells.old).setting.prelude }
+    requires may { ((C.sight cells.old).may_write ≡ true) × ((C.sight cells.old).may_stage ≡ true) }
+    requires prelude { prelude.now ≡ (C.sight cells.old).setting.prelude }
 {
     let script = read_script(alloc, prelude, script)?;
     let [transaction] = script.as_slice() else {
@@ -158,6 +159,8 @@ enum NotedStop<S> {
 
 impl<C: Cells> Cells for Noted<C> {
     type Stop = NotedStop<C::Stop>;
+
+    type Origin = C::Origin;
 
     ghost sight = { λ c. C.sight c.inner };
 

@@ -1,6 +1,6 @@
 //! Libraries in plain cells: where they lie, what is found and read back, and what is taken of the store.
 
-ghost use Rattle.std.specs.Prelude.{◌≤◌};
+ghost use Rattle.std.specs.Prelude.{◌≡◌, ◌≤◌, true};
 
 use crate::shared::{database, mini};
 use cells::{
@@ -273,7 +273,9 @@ fn a_database_is_read_back(rt: HostRuntime) -> Result<(), Fail> {
 }
 
 /// Puts the slot 1 before the others of the chain of `we`.
-fn chain_second<C: Cells>(cells: &mut C) -> bool {
+fn chain_second<C: Cells>(cells: &mut C) -> bool
+    requires { (C.sight cells.old).may_write ≡ true }
+{
     1 < cells.slots() && put_in(cells, 1, b"we").is_ok()
 }
 
@@ -305,6 +307,8 @@ struct Counted<C> {
 
 impl<C: Cells> Cells for Counted<C> {
     type Stop = C::Stop;
+
+    type Origin = C::Origin;
 
     ghost sight = { λ c. C.sight c.inner };
 

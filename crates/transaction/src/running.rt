@@ -6,6 +6,7 @@ use std::marker::Model;
 use tlwords::Words;
 
 /// A library in words that sessions share. Contracts see the opening that it is of.
+#[derive(Drop)]
 pub struct Library {
     pub(crate) prelude: Prelude,
     pub(crate) given: Given,
@@ -23,16 +24,6 @@ impl Model for Library {
     ghost view = { λ l. record { given = l.given; words = home_of l.words; store = l.words.table.shared.key.store.value.items; sessions = l.words.table.shared.key.sessions } };
 
     ghost invariant = { λ l. IsLibraryOf l.prelude (record { given = l.given; words = home_of l.words; store = l.words.table.shared.key.store.value.items; sessions = l.words.table.shared.key.sessions }) };
-}
-
-impl Drop for Library {
-    fn drop(self) {
-        let Library {
-            prelude: _,
-            given: _,
-            words: _,
-        } = self;
-    }
 }
 
 impl Library {
