@@ -1,14 +1,14 @@
 //! Sessions on a library in running words: what becomes of their transactions, and what is left at the end.
 
-ghost use Rattle.std.specs.Prelude.{All, IfOk};
+ghost use Rattle.std.specs.Prelude.{All, IfOk, IfSome};
 ghost use Rattle.transaction.specs.Members.{IsOf};
 
 use crate::shared::{database, mini};
 use crate::slots::demo;
 use finishing::{FinishError, finish};
+use history::replay;
 use historytext::write_history;
-use library::{History, PlainLibrary, Reason, Refused};
-use mmstatement::write_database;
+use library::{PlainLibrary, Reason, Refused};
 use proofcheck::check_all;
 use scripts::read_script;
 use std::alloc::{AllocGlobal, Global};
@@ -144,10 +144,10 @@ fn who_has_learnt_reads_no_older_library(rt: HostRuntime) -> Result<(), Fail> {
     let Ok((history, after)) = finish(alloc, library, sessions) else {
         return Err(Fail::from("it is finished"));
     };
-    assert_eq!(rt; text_of(alloc, &after)?.as_slice(), b"$c wff $.\nwz $a wff $.\n");
+    assert_eq!(rt; text_of(alloc, &after)?.as_slice(), b"$c wff $.\nwz $a wff $.\n".as_slice());
     assert_eq!(rt;
         write_history(alloc, after.prelude(), history.as_slice())?.as_slice(),
-        b"history 1\nbegin rename we wz commit replies 1 done\n"
+        b"history 1\ndone\nbegin\nrename we wz\ncommit\n  done\n".as_slice()
     );
     Ok(())
 }
@@ -173,5 +173,209 @@ fn a_session_that_drew_no_number_is_not_missed(rt: HostRuntime) -> Result<(), Fa
         return Err(Fail::from("it is finished"));
     };
     assert_eq!(rt; history.as_slice().len(), 0);
+    Ok(())
+}
+
+#[test]
+fn the_least_number_of_the_missing_is_answered(rt: HostRuntime) -> Result<(), Fail> {
+    let alloc = rt.alloc();
+    for all in [true, false] {
+        let (library, mut sessions) = opened(&rt, demo(alloc)?.as_slice(), 1000, 3)?;
+        let mut a = last(&library, &mut sessions)?;
+        let mut b = last(&library, &mut sessions)?;
+        let mut c = last(&library, &mut sessions)?;
+        let first = tried(alloc, &library, &mut a, b"begin rename th1 u commit")?;
+        let second = tried(alloc, &library, &mut b, b"begin rename u v commit")?;
+        let third = tried(alloc, &library, &mut c, b"begin rename v w commit")?;
+        assert!(rt; matches!(first, Outcome::Committed { number: 1, .. }));
+        assert!(rt; matches!(second, Outcome::Committed { number: 2, .. }));
+        assert!(rt; matches!(third, Outcome::Committed { number: 3, .. }));
+        let mut missing = 1;
+        if all {
+            with(&library, &mut sessions, a)?;
+            with(&library, &mut sessions, c)?;
+            missing = 2;
+        }
+        match finish(alloc, library, sessions) {
+            Err(FinishError::Missing(number)) => assert_eq!(rt; number, missing),
+            _ => return Err(Fail::from("a number is missing")),
+        }
+    }
+    Ok(())
+}
+
+#[test]
+fn a_full_store_stops_stagings_alone(rt: HostRuntime) -> Result<(), Fail> {
+    let alloc = rt.alloc();
+    let (library, mut sessions) = opened(&rt, mini(), 13, 2)?;
+    let mut a = last(&library, &mut sessions)?;
+    let mut b = last(&library, &mut sessions)?;
+    // 7 of the 13 words are taken. The label takes one and the statement five; there is none for the proof
+    let outcome = tried(alloc, &library, &mut a, b"begin add 200 t $p wff $= we $. commit")?;
+    assert!(rt; matches!(outcome, Outcome::StoreFull));
+    let outcome = tried(alloc, &library, &mut b, b"begin rename we wf commit")?;
+    assert!(rt; matches!(outcome, Outcome::StoreFull));
+    let outcome = tried(alloc, &library, &mut b, b"begin delete we commit")?;
+    assert!(rt; matches!(outcome, Outcome::Committed { number: 1, .. }));
+    let outcome = tried(alloc, &library, &mut a, b"begin show we commit")?;
+    assert!(rt; is_refused(&outcome, 1, Reason::UnknownLabel));
+    Ok(())
+}
+
+#[test]
+fn a_look_sees_the_whole_library(rt: HostRuntime) -> Result<(), Fail> {
+    let alloc = rt.alloc();
+    let text = demo(alloc)?;
+    let (library, mut sessions) = opened(&rt, text.as_slice(), 1000, 1)?;
+    let mut session = last(&library, &mut sessions)?;
+    let (place, seen) = looked(alloc, &library, &mut session)?;
+    assert_eq!(rt; (place, seen.as_slice() == text.as_slice()), (0, true));
+    let script = b"begin add 900 th2 $p |- 0 = 0 $= tze th1 $. commit";
+    let outcome = tried(alloc, &library, &mut session, script)?;
+    assert!(rt; matches!(outcome, Outcome::Committed { number: 1, .. }));
+    let (place, seen) = looked(alloc, &library, &mut session)?;
+    let mut longer = demo(alloc)?;
+    longer.extend_from_slice(b"th2 $p |- 0 = 0 $= tze th1 $.\n")?;
+    assert_eq!(rt; (place, seen.as_slice() == longer.as_slice()), (1, true));
+    Ok(())
+}
+
+#[test]
+fn a_refused_command_takes_the_others_back(rt: HostRuntime) -> Result<(), Fail> {
+    let alloc = rt.alloc();
+    let (library, mut sessions) = opened(&rt, demo(alloc)?.as_slice(), 1000, 1)?;
+    let mut session = last(&library, &mut sessions)?;
+    let script = b"begin add 900 th2 $p |- 0 = 0 $= tze th1 $. commit";
+    tried(alloc, &library, &mut session, script)?;
+    let outcome = tried(alloc, &library, &mut session, b"begin delete th2 delete tze commit")?;
+    let cited = Refused {
+        index: 2,
+        reason: Reason::StillCited(1),
+    };
+    match outcome {
+        Outcome::Refused { place, refused } => assert_eq!(rt; (place, refused), (1, cited)),
+        _ => return Err(Fail::from("it is refused")),
+    }
+    let outcome = tried(alloc, &library, &mut session, b"begin show th2 commit")?;
+    assert!(rt; matches!(outcome, Outcome::Read { place: 1, .. }));
+    let outcome = tried(alloc, &library, &mut session, b"begin delete th2 delete th1 commit")?;
+    assert!(rt; matches!(outcome, Outcome::Committed { number: 2, .. }));
+    Ok(())
+}
+
+#[test]
+fn a_transaction_has_16_commands_at_most(rt: HostRuntime) -> Result<(), Fail> {
+    let alloc = rt.alloc();
+    let (library, mut sessions) = opened(&rt, mini(), 100, 1)?;
+    let mut session = last(&library, &mut sessions)?;
+    let script = b"begin list list list list list list list list list list list list list list list list list commit";
+    let outcome = tried(alloc, &library, &mut session, script)?;
+    assert!(rt; matches!(outcome, Outcome::TooManyCommands));
+    let outcome = tried(alloc, &library, &mut session, b"begin commit")?;
+    assert!(rt; matches!(outcome, Outcome::Read { place: 0, .. }));
+    Ok(())
+}
+
+#[test]
+fn sixty_four_sessions_add_a_theorem_each(rt: HostRuntime) -> Result<(), Fail> {
+    let alloc = rt.alloc();
+    // 7 words of `we`, and 9 of each theorem
+    let (library, mut sessions) = opened(&rt, mini(), 583, 64)?;
+    let mut done = Vec::new(alloc);
+    for k in 1..=64u64 {
+        let mut session = last(&library, &mut sessions)?;
+        let script = format!(in alloc; "begin add 200 t{k:02} $p wff $= we $. commit")?;
+        match tried(alloc, &library, &mut session, script.as_bytes())? {
+            Outcome::Committed { number, .. } => assert_eq!(rt; number, k),
+            _ => return Err(Fail::from("it is committed")),
+        }
+        with(&library, &mut done, session)?;
+    }
+    let Ok((history, after)) = finish(alloc, library, done) else {
+        return Err(Fail::from("it is finished"));
+    };
+    assert_eq!(rt; (history.as_slice().len(), after.entries().len()), (64, 65));
+    Ok(())
+}
+
+/// What becomes of the one transaction of a script, by as many tries as it takes.
+fn submitted(
+    rt: &impl Wait,
+    alloc: Global,
+    library: &Library,
+    mut session: Session,
+    script: &[u8],
+) -> Option<(Session, Outcome)>
+    requires { IsOf library.now session }
+    ensures { IfSome result (λ made. IsOf library.now made.0) }
+{
+    let Ok(script) = read_script(alloc, library.prelude(), script) else {
+        return None;
+    };
+    let [transaction] = script.as_slice() else {
+        return None;
+    };
+    let outcome = session.submit(rt, alloc, library, transaction);
+    Some((session, outcome))
+}
+
+#[test]
+fn one_of_two_renames_on_threads_is_done(rt: HostRuntime) -> Result<(), Fail> {
+    let alloc = rt.alloc();
+    let (library, mut sessions) = opened(&rt, demo(alloc)?.as_slice(), 1000, 2)?;
+    let a = last(&library, &mut sessions)?;
+    let b = last(&library, &mut sessions)?;
+    let (first, second) = join(
+        &rt,
+        || submitted(&rt, alloc, &library, a, b"begin rename th1 u commit"),
+        || submitted(&rt, alloc, &library, b, b"begin rename th1 v commit"),
+    );
+    let (Some((a, first)), Some((b, second))) = (first, second) else {
+        return Err(Fail::from("the scripts are read"));
+    };
+    let label = match (&first, &second) {
+        (Outcome::Committed { number: 1, .. }, refused)
+            if is_refused(refused, 1, Reason::UnknownLabel) => { "u" }
+        (refused, Outcome::Committed { number: 1, .. })
+            if is_refused(refused, 1, Reason::UnknownLabel) => { "v" }
+        _ => return Err(Fail::from("one is done, and the other refused")),
+    };
+    with(&library, &mut sessions, a)?;
+    with(&library, &mut sessions, b)?;
+    let Ok((history, after)) = finish(alloc, library, sessions) else {
+        return Err(Fail::from("it is finished"));
+    };
+    let db = database(&rt, demo(alloc)?.as_slice())?;
+    let Ok(()) = check_all(&rt, alloc, &db) else {
+        return Err(Fail::from("the proofs check"));
+    };
+    let keys = RandomState::new(&rt)?;
+    let Ok(again) = replay(alloc, keys, &db, 4096, history.as_slice()) else {
+        return Err(Fail::from("the history is replayed"));
+    };
+    let shown = text_of(alloc, &after)?;
+    assert_eq!(rt; shown.as_slice(), text_of(alloc, &again)?.as_slice());
+    let named = after
+        .entries()
+        .iter()
+        .any(|entry| entry.assertion.label.as_slice() == label.as_bytes());
+    assert!(rt; named);
+    Ok(())
+}
+
+#[test]
+fn a_shape_is_tested_first(rt: HostRuntime) -> Result<(), Fail> {
+    let shapes = [(0, 100, 1), (4097, 100, 1), (1, 16_777_217, 1), (1, 100, 0), (1, 100, 65)];
+    for (slots, room, sessions) in shapes {
+        let answer = opening(&rt, mini(), slots, room, sessions)?;
+        assert!(rt; matches!(answer, Err(OpenError::BadShape)));
+    }
+    let answer = opening(&rt, demo(rt.alloc())?.as_slice(), 7, 0, 1)?;
+    assert!(rt; matches!(answer, Err(OpenError::TooMany)));
+    let answer = opening(&rt, mini(), 1, 6, 1)?;
+    assert!(rt; matches!(answer, Err(OpenError::StoreFull)));
+    let faulty = b"$c wff $. a $p wff $= b $.";
+    let answer = opening(&rt, faulty, 1, 0, 1)?;
+    assert!(rt; matches!(answer, Err(OpenError::ProofFails(1, _))));
     Ok(())
 }
