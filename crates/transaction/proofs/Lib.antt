@@ -1,0 +1,5 @@
+pub mod Kept
+pub mod Lending
+pub mod Sighted
+mod Reading
+pub mod Ended
