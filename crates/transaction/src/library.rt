@@ -38,6 +38,20 @@ impl Drop for Library {
 impl Library {
     ghost use Rattle.std.specs.Prelude.{◌≡◌};
     ghost use Rattle.lawful.specs.Lawful.{setting_of};
+    ghost use Rattle.tlwords.specs.Callers.{home_of};
+
+    /// Its prelude, what was given at its opening, and its words.
+    pub(crate) fn into_parts(self) -> (Prelude, Given, Words<LibraryLaw>)
+        ensures given { result.1 ≡ self.given }
+        ensures words { home_of result.2 ≡ self.words }
+    {
+        let Library {
+            prelude,
+            given,
+            words,
+        } = self;
+        (prelude, given, words)
+    }
 
     /// The prelude of the library's assertions.
     pub fn prelude(&self) -> &Prelude

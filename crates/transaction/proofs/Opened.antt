@@ -1,0 +1,84 @@
+-- A library that is opened, and its new sessions.
+use Rattle.std.proofs.Common.{◌≡◌, ℕ, ◌≤◌, List, [], length, map, All, Some, refl, sym, ap, subst, ◌∙◌}
+use Rattle.std.proofs.lemmas.List.Elements.{All-nil, All-map}
+use Rattle.std.proofs.lemmas.Simd.{map-map}
+use Rattle.mmsyntax.specs.Tables.{Contents}
+use Rattle.mmsyntax.specs.Layout.{HasSpelling}
+use Rattle.proofcheck.specs.Databases.{AllCheck}
+use Rattle.library.specs.Library.{Verifies, opening, setting_over}
+use Rattle.library.proofs.Opening.{opening_verifies}
+use Rattle.ranges.specs.Ranges.{ranges_named}
+use Rattle.cells.specs.Slots.{is_ranged}
+use Rattle.cells.specs.State.{most_words}
+use Rattle.cells.specs.Measures.{bodies_length}
+use Rattle.cells.specs.declared.plain.PlainCells.{PlainCells}
+use Rattle.cells.specs.Opening.{Opens as CellsOpen}
+use Rattle.tlwords.specs.Terms.{AreNamed}
+use Rattle.tlwords.specs.Known.{Known, Knows}
+use Rattle.tlwords.specs.Calls.{new_pass}
+use Rattle.tlwords.specs.Runs.{down}
+use Rattle.lawful.specs.declared.notes.Given.{Given}
+use Rattle.lawful.specs.declared.notes.Note.{Note}
+use Rattle.lawful.specs.Lawful.{setting_of, first_library, OpensWell, library_terms}
+use Rattle.lawful.specs.History.{history_of}
+use Rattle.lawful.specs.Laws.{IsPassOn}
+use Rattle.lawful.proofs.Openings.{opened_cells_open_well}
+use Rattle.transaction.specs.declared.shape.Shape.{Shape}
+use Rattle.transaction.specs.Members.{Home, Member, IsMember, IsRecordIn}
+use Rattle.transaction.specs.Openings.{IsShape, IsNew, IsOpened, seated, AreSeated}
+use Rattle.transaction.proofs.Standing.{stands}
+
+-- what plain cells hold that a database opened, whose proofs check, opens words well
+pub words_open : (db : Contents) (g : Given) (room : ℕ) (made : PlainCells) (values store : List ℕ) → g.database.value ≡ db
+    → HasSpelling db → AllCheck db → 1 ≤ g.slots → g.slots ≤ 4096 → length db.assertions ≤ g.slots → CellsOpen db g.slots room made
+    → values ≡ made.values.items → store ≡ made.store.items
+    → OpensWell g (ranges_named (library_terms.ranged g) store values) values
+    × AreNamed library_terms g (ranges_named (library_terms.ranged g) store values) values
+words_open db g room made values store is spelled checks some few many opens values_are store_is =
+    let verifies : Verifies (setting_of g) (first_library g) =
+    subst (λ (d : Contents). Verifies (setting_over d g.slots) (opening d)) (sym is) (opening_verifies db g.slots spelled checks some few many) in
+    let own : CellsOpen g.database.value g.slots room made = subst (λ (d : Contents). CellsOpen d g.slots room made) (sym is) opens in
+    let IsWell : List ℕ → List ℕ → Type 0 =
+    λ vs ws. OpensWell g (ranges_named (library_terms.ranged g) ws vs) vs
+        × AreNamed library_terms g (ranges_named (library_terms.ranged g) ws vs) vs in
+    subst (λ (vs : List ℕ). IsWell vs store) (sym values_are)
+        (subst (λ (ws : List ℕ). IsWell made.values.items ws) (sym store_is) (opened_cells_open_well g room made verifies own))
+
+-- the session of a pass that drew nothing keeps what it is to keep
+pub member_of : (g : Given) (k : Known Given Note) → IsPassOn g k → Knows library_terms k → k.drawn ≡ [] → IsMember (seated g k)
+member_of g k on knows new = record { on = on; knows = knows; recorded = record { numbers = sym new; entries = All-nil (IsRecordIn (history_of k.seen)) } }
+
+-- the passes of an opening
+pub record ArePasses (home : Home) (sessions : ℕ) (passes : List (Known Given Note)) : Type 0 where
+  pub new : All (λ k. k ≡ new_pass home.words (ranges_named (is_ranged home.given.slots) home.store home.words.base) k.name) passes
+  pub knows : All (Knows library_terms) passes
+  pub names : map (λ k. k.name) passes ≡ down sessions sessions
+
+module _ (home : Home) (sessions : ℕ) (passes : List (Known Given Note)) (setting : home.words.setting ≡ Some home.given)
+    (few : home.words.room ≤ most_words) (are : ArePasses home sessions passes) where
+  -- they are on the words of the library
+  pub on_words : All (IsPassOn home.given) passes
+  on_words i d lt =
+      let words = ap (λ (k : Known Given Note). k.home) (are.new i d lt) in
+      (ap (λ h. h.setting) words ∙ setting, subst (λ (n : ℕ). n ≤ most_words) (sym (ap (λ h. h.room) words)) few)
+
+  pub undrawn : All (λ k. k.drawn ≡ []) passes
+  undrawn i d lt = ap (λ (k : Known Given Note). k.drawn) (are.new i d lt)
+
+  -- the sessions of the passes are new ones, with the passes' names
+  pub new_sessions : (members : List Member) → AreSeated home.given passes members → All (IsNew home) members
+  new_sessions members seats =
+      subst (All (IsNew home)) (sym seats)
+          (All-map (IsNew home) (seated home.given) passes
+          (λ i d lt.
+          record {
+            given = refl;
+            known = are.new i d lt;
+            records = refl;
+            stands = stands _ (member_of home.given _ (on_words i d lt) (are.knows i d lt) (undrawn i d lt));
+          }))
+
+  pub named_sessions : (members : List Member) → AreSeated home.given passes members
+      → map (λ (m : Member). m.known.name) members ≡ down sessions sessions
+  named_sessions members seats =
+      ap (map (λ (m : Member). m.known.name)) seats ∙ map-map (λ (m : Member). m.known.name) (seated home.given) passes ∙ are.names
