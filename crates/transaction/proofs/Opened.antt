@@ -46,15 +46,15 @@ words_open db g room made values store is spelled checks some few many opens val
     let own : CellsOpen g.database.value g.slots room made = subst (λ (d : Contents). CellsOpen d g.slots room made) (sym is) opens in
     let IsWell : List ℕ → List ℕ → Type 0 =
     λ vs ws. OpensWell g (ranges_named (library_terms.ranged g) ws vs) vs
-        × AreNamed library_terms g (ranges_named (library_terms.ranged g) ws vs) vs in
+    × AreNamed library_terms g (ranges_named (library_terms.ranged g) ws vs) vs in
     subst (λ (vs : List ℕ). IsWell vs store) (sym values_are)
-        (subst (λ (ws : List ℕ). IsWell made.values.items ws) (sym store_is) (opened_cells_open_well g room made verifies own))
+    (subst (λ (ws : List ℕ). IsWell made.values.items ws) (sym store_is) (opened_cells_open_well g room made verifies own))
 
 -- no range is staged at first
 pub none_staged : (ranges : List Range) (stage : Staged) → stage ≡ empty → AreStaged ranges stage
 none_staged ranges stage is =
     subst (AreStaged ranges) (sym is)
-        (record { among = λ words start at. let none = sym (get-empty (slice_cmp nat_cmp) words) ∙ at in cc none })
+    (record { among = λ words start at. let none = sym (get-empty (slice_cmp nat_cmp) words) ∙ at in cc none })
 
 -- one more session is made, of the next pass
 pub seat_next : (g s : Given) (k : Known Given Note) (records : List Record) (made new : List Member) (rest left all : List (Known Given Note))
@@ -66,10 +66,10 @@ pub seat_next : (g s : Given) (k : Known Given Note) (records : List Record) (ma
 seat_next g s k records made new rest left all new_is given none next so_far =
     let one : record { given = s; known = k; records = records } ≡ seated g k =
     ap (λ (x : Given). record { given = x; known = k; records = records }) given
-        ∙ ap (λ (rs : List Record). record { given = g; known = k; records = rs }) none in
+    ∙ ap (λ (rs : List Record). record { given = g; known = k; records = rs }) none in
     ap (λ (ms : List Member). ms ++ map (seated g) left) (new_is ∙ ap (λ (m : Member). made ++ m ∷ []) one)
-        ∙ append_assoc made (seated g k ∷ []) (map (seated g) left)
-        ∙ (ap (λ ks. made ++ map (seated g) ks) (sym next) ∙ so_far)
+    ∙ append_assoc made (seated g k ∷ []) (map (seated g) left)
+    ∙ (ap (λ ks. made ++ map (seated g) ks) (sym next) ∙ so_far)
 
 -- the session of a pass that drew nothing keeps what it is to keep
 pub member_of : (g : Given) (k : Known Given Note) → IsPassOn g k → Knows library_terms k → k.drawn ≡ [] → IsMember (seated g k)
@@ -123,14 +123,14 @@ module _ (home : Home) (sessions : ℕ) (passes : List (Known Given Note)) (sett
   pub new_sessions : (members : List Member) → AreSeated home.given passes members → All (IsNew home) members
   new_sessions members seats =
       subst (All (IsNew home)) (sym seats)
-          (All-map (IsNew home) (seated home.given) passes
-          (λ i d lt.
-          record {
-            given = refl;
-            known = are.new i d lt;
-            records = refl;
-            stands = stands _ (member_of home.given _ (on_words i d lt) (are.knows i d lt) (undrawn i d lt));
-          }))
+      (All-map (IsNew home) (seated home.given) passes
+      (λ i d lt.
+      record {
+        given = refl;
+        known = are.new i d lt;
+        records = refl;
+        stands = stands _ (member_of home.given _ (on_words i d lt) (are.knows i d lt) (undrawn i d lt));
+      }))
 
   pub named_sessions : (members : List Member) → AreSeated home.given passes members
       → map (λ (m : Member). m.known.name) members ≡ down sessions sessions

@@ -1,4 +1,4 @@
-use Rattle.std.proofs.Common.{◌≡◌, ◌+◌, ◌≤◌, [], length, ap, arith}
+use Rattle.std.proofs.Common.{◌≡◌, [], length, ap, arith}
 use Rattle.std.proofs.lemmas.List.Elements.{All-rest}
 use Rattle.tlwords.specs.Known.{Known, Knows}
 use Rattle.lawful.specs.declared.notes.Given.{Given}

@@ -28,7 +28,7 @@ seat_all-requires-clause-on g c =
     let key = c.in-Ok.ensures.key in
     let passes : ArePasses home c.args.shape.sessions c.in-Ok.passes.items =
     passes_of home c.args.shape.sessions c.in-Ok.passes.items c.values.result.now c.store.result.now key.1 key.2 c.in-Ok.ensures.passes
-        c.in-Ok.ensures.sound c.in-Ok.ensures.names in
+    c.in-Ok.ensures.sound c.in-Ok.ensures.names in
     on_words home c.args.shape.sessions c.in-Ok.passes.items (ap Some key.0) c.in-Ok.words.small.1 passes
 
 pub returns : goal.returns
@@ -39,7 +39,7 @@ returns g c =
     let sessions = c.args.shape.sessions in
     let passes : ArePasses home sessions c.in-Ok.passes.items =
     passes_of home sessions c.in-Ok.passes.items c.values.result.now c.store.result.now key.1 key.2 c.in-Ok.ensures.passes
-        c.in-Ok.ensures.sound c.in-Ok.ensures.names in
+    c.in-Ok.ensures.sound c.in-Ok.ensures.names in
     let shape : IsShape c.args.shape = c.is_lawful.ensures.0 c.if-not-is_lawful.false in
     let within = c.in_ok-cells.ensures.within in
     let seats = c.in_ok-sessions.ensures in
