@@ -4,5 +4,5 @@ pub mod Standing
 mod Closed
 mod Unread
 mod Running
-mod Openings
+pub mod Openings
 mod Small

@@ -3,3 +3,5 @@ pub mod Lending
 pub mod Sighted
 mod Reading
 pub mod Ended
+pub mod Standing
+pub mod Opened

@@ -1,5 +1,6 @@
 pub mod Members
 pub mod Openings
+pub mod ReasonNames
 pub mod Attempts
 pub mod Looks
 pub mod Closings

@@ -1,5 +1,5 @@
 -- What opening a library in running words gives, and when it is refused.
-use Rattle.std.specs.Prelude.{◌≡◌, ◌≢◌, ◌<◌, ◌≤◌, ℕ, ◌^◌, Some, List, [], length, All, Result, Ok, Err, ◌⊎◌, map, Vec}
+use Rattle.std.specs.Prelude.{◌≡◌, ◌≢◌, ◌<◌, ◌≤◌, ◌^◌, Some, List, [], length, All, Result, Ok, Err, map, Vec}
 use Rattle.std.specs.declared.alloc.Global.{Global}
 use Rattle.mmsyntax.specs.Tables.{Tables, Contents}
 use Rattle.proofcheck.specs.declared.fault.ProofFaultKind.TheVariants as fault

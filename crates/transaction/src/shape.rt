@@ -2,6 +2,7 @@
 
 use proofcheck::ProofFault;
 use std::alloc::AllocError;
+use thiserror::Error;
 
 /// How a library is laid out in words, and for how many sessions.
 #[derive(Clone, Copy, Debug, PartialEq, Eq)]
@@ -14,19 +15,55 @@ pub struct Shape {
     pub sessions: usize,
 }
 
-/// Why a library is not opened.
-#[derive(Clone, Copy, Debug)]
+/// Why a library is not opened, in the order of the numbers from 1.
+#[derive(Clone, Copy, Debug, PartialEq, Eq, Error)]
 pub enum OpenError {
     /// The shape is outside the limits.
+    #[error("not 1 to 4096 slots, a room of at most 16777216 words, and 1 to 64 sessions")]
     BadShape,
     /// The database has more assertions than slots.
+    #[error("more assertions than slots")]
     TooMany,
     /// The proof of the assertion with this number, counted from 1, is the first that has a fault.
+    #[error("the proof of the assertion {0} has a fault: {1}")]
     ProofFails(usize, ProofFault),
     /// The bodies of the assertions have more words than the room.
+    #[error("the bodies of the assertions have more words than the room")]
     StoreFull,
     /// Memory ran out.
+    #[error("out of memory")]
     NoMemory,
+}
+
+impl OpenError {
+    ghost use Rattle.std.specs.Prelude.{◌≡◌};
+    ghost use Rattle.transaction.specs.ReasonNames.{open_number_of, open_name_of};
+
+    /// The number of the reason, from 1 to 5.
+    pub fn number(self) -> u32
+        ensures { result ≡ open_number_of self }
+    {
+        match self {
+            OpenError::BadShape => 1,
+            OpenError::TooMany => 2,
+            OpenError::ProofFails(..) => 3,
+            OpenError::StoreFull => 4,
+            OpenError::NoMemory => 5,
+        }
+    }
+
+    /// The name of the reason.
+    pub fn name(self) -> &'static str
+        ensures { result.now ≡ open_name_of self }
+    {
+        match self {
+            OpenError::BadShape => "BadShape",
+            OpenError::TooMany => "TooMany",
+            OpenError::ProofFails(..) => "ProofFails",
+            OpenError::StoreFull => "StoreFull",
+            OpenError::NoMemory => "NoMemory",
+        }
+    }
 }
 
 impl From<AllocError> for OpenError {
