@@ -1,5 +1,5 @@
 -- What the end of a run of a session gives its pass.
-use Rattle.std.proofs.Common.{◌≡◌, ◌+◌, ◌⊎◌, inl, inr, true, is_some, Option, Some, None, sym, ap, refl, ◌∙◌, subst}
+use Rattle.std.proofs.Common.{◌≡◌, inl, Option, Some, None, sym, ap, refl, ◌∙◌, subst}
 use Rattle.tlwords.specs.declared.outcome.Conflict.{Conflict}
 use Rattle.tlwords.specs.declared.outcome.Outcome.{Outcome as Answer}
 use Rattle.tlwords.specs.declared.outcome.Outcome.TheVariants.{Committed as EndsDone, Read as EndsRead, Conflict as EndsConflict, NumbersUsed}
@@ -12,7 +12,6 @@ use Rattle.ranges.proofs.Grown.{within_refl}
 use Rattle.bodystore.specs.Stages.{Staged}
 use Rattle.lawful.specs.declared.notes.Note.{Note}
 use Rattle.lawful.specs.Lawful.{library_terms}
-use Rattle.transaction.specs.declared.outcome.Conflict.{Conflict as Met}
 use Rattle.transaction.specs.declared.outcome.Outcome.{Outcome}
 use Rattle.transaction.specs.Attempts.{Pass, AddsNothing, Meets}
 use Rattle.transaction.specs.Lent.{Lending, IsLent}

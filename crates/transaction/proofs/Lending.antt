@@ -1,12 +1,12 @@
 -- A run of a session goes on: what is so of it at all times stays so, and it agrees with some state of its library.
-use Rattle.std.proofs.Common.{◌≡◌, ◌≢◌, ℕ, ◌+◌, ◌/◌, ◌≤◌, ◌⊎◌, inl, inr, Bool, true, false, is_some, Option, Some, None, List, [], ◌∷◌, length}
+use Rattle.std.proofs.Common.{◌≡◌, ℕ, ◌+◌, ◌/◌, ◌≤◌, inl, inr, Bool, true, false, is_some, Option, Some, None, List, ◌∷◌, length}
 use Rattle.std.proofs.Common.{refl, sym, ap, ◌∙◌, subst, min}
 use Rattle.std.specs.Prelude.{Result, Ok, Err, OnOk, OnErr}
 use Rattle.std.specs.FinMap.{insert}
 use mathlib.Core.Logic.{dite}
 use native.Mathlib.Decide.{ℕ_discrete}
 use Rattle.tlcore.proofs.Growth.{WasWritten-kept}
-use Rattle.ranges.specs.Ranges.{Range, Has, Within, Names}
+use Rattle.ranges.specs.Ranges.{Has, Names}
 use Rattle.ranges.proofs.Grown.{names_grow}
 use Rattle.tlwords.specs.declared.log.Slot.{Slot}
 use Rattle.tlwords.specs.declared.mode.Mode.{Mode}
@@ -16,7 +16,7 @@ use Rattle.tlwords.specs.Seen.{Seen, SeenGrows}
 use Rattle.tlwords.specs.Known.{Home, Going, Stands}
 use Rattle.tlwords.specs.Runs.{value_kept, was_read, HasKept}
 use Rattle.tlwords.specs.Commits.{writes_kept, HasForgotten}
-use Rattle.tlwords.specs.Calls.{Begins, HasRead, HasStopped, HasLoaded, HasStaged, FindsFull, IsRefused, Notes}
+use Rattle.tlwords.specs.Calls.{Begins, HasRead, HasStopped, HasLoaded, HasStaged, IsRefused, Notes}
 use Rattle.tlwords.proofs.Modes.{read_room}
 use Rattle.tlwords.proofs.Seens.{seen_trans}
 use Rattle.bodystore.specs.Stages.{Staged, AreStaged}

@@ -1,5 +1,5 @@
 -- What the steps of a run of a session do to what commands see of it.
-use Rattle.std.proofs.Common.{◌≡◌, ◌≢◌, ℕ, ◌+◌, ◌==◌, if◌then◌else◌, ◌⊎◌, inl, inr, Bool, true, false, is_some, Option, Some, None, List, [], ◌∷◌, length}
+use Rattle.std.proofs.Common.{◌≡◌, ℕ, ◌+◌, ◌==◌, if◌then◌else◌, inl, inr, Bool, true, is_some, Option, Some, None, List, length}
 use Rattle.std.proofs.Common.{eq-eqb, ne_eqb, refl, sym, ap, ◌∙◌, subst, min}
 use Rattle.std.specs.Option.{option_map}
 use Rattle.std.specs.FinMap.{get}
@@ -7,24 +7,21 @@ use mathlib.Core.Logic.{dite}
 use native.Mathlib.Decide.{ℕ_discrete}
 use Rattle.ranges.specs.declared.range.Range.{Range as Place}
 use Rattle.ranges.specs.Pairs.{written}
-use Rattle.ranges.specs.Ranges.{Range, Has, Within, Names}
 use Rattle.tlwords.specs.declared.log.Slot.{Slot}
 use Rattle.tlwords.specs.declared.outcome.Conflict.{Conflict}
 use Rattle.tlwords.specs.Seen.{Seen, SeenGrows}
 use Rattle.tlwords.specs.Known.{Going}
 use Rattle.tlwords.specs.Runs.{value_kept, HasKept}
 use Rattle.tlwords.specs.Commits.{writes_kept}
-use Rattle.tlwords.specs.Calls.{HasRead, HasStopped, HasLoaded, HasStaged, FindsFull, IsRefused}
-use Rattle.bodystore.specs.Stages.{Staged, range_at, AreStaged}
+use Rattle.tlwords.specs.Calls.{HasRead, HasStopped, HasLoaded, HasStaged, IsRefused}
+use Rattle.bodystore.specs.Stages.{Staged, range_at}
 use Rattle.bodystore.proofs.Staging.{found_is_staged}
-use Rattle.cells.specs.State.{State, value_or, FitsReads}
-use Rattle.cells.specs.Slots.{is_ranged}
-use Rattle.cells.specs.Sight.{WasRead, Matches, Onward, Looks, Reads, Writes, Stages, Knows}
+use Rattle.cells.specs.State.{value_or}
+use Rattle.cells.specs.Sight.{Onward, Looks, Reads, Writes, Stages}
 use Rattle.cells.proofs.Sights.{onward_refl, looks_refl}
 use Rattle.lawful.specs.declared.notes.Given.{Given}
 use Rattle.lawful.specs.declared.notes.Note.{Note}
 use Rattle.lawful.specs.Lawful.{library_terms}
-use Rattle.transaction.specs.Attempts.{Pass}
 use Rattle.transaction.specs.Lent.{Lending, sight_of, IsLent}
 use Rattle.transaction.proofs.Kept.{written_kept, kept_has}
 use Rattle.transaction.proofs.Lending.{pass_on, noted_values, noted_writes, later, read_on, slots_on}
@@ -143,7 +140,7 @@ module _ (l : Lending) (stage : Staged) (over : Option Conflict) (i : IsLent l s
         record {
           looks = looks_now;
           value = λ st m. sym m.reads.0 ∙ sym (ap (λ (o : Option ℕ). value_or o (st.value cell)) (written_kept r.slots cell
-          ∙ (noted_values l.going.mode l.going.slots r.slots cell h.word h.notes cell ∙ unkept)));
+              ∙ (noted_values l.going.mode l.going.slots r.slots cell h.word h.notes cell ∙ unkept)));
           read = (value, inl refl);
           named = h.named l.given (pass_on l stage over i).0;
         }

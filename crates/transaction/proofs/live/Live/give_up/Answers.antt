@@ -1,6 +1,4 @@
-use Rattle.std.proofs.Common.{sym, ap, subst, ◌∙◌}
-use Rattle.transaction.specs.declared.outcome.Outcome.{Outcome}
-use Rattle.transaction.specs.declared.outcome.Outcome.TheVariants as outcome
+use Rattle.std.proofs.Common.{sym, subst}
 use Rattle.transaction.specs.Attempts.{Meets}
 use Rattle.transaction.specs.Tries.{IsStopped, GivesUp}
 use Rattle.transaction.proofs.Lending.{lending_in}

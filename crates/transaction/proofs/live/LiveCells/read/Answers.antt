@@ -1,4 +1,4 @@
-use Rattle.std.proofs.Common.{◌<◌, ◌≡◌, ℕ, Some, sym, subst}
+use Rattle.std.proofs.Common.{◌<◌, ℕ, Some, sym, subst}
 use Rattle.cells.specs.Slots.{cell_count}
 use Rattle.cells.specs.Sight.{Looks, Reads}
 use Rattle.transaction.specs.Lent.{sight_of}

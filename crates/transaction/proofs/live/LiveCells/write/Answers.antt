@@ -29,9 +29,9 @@ invariant_of-self-inside c =
     let s = c.self.inside in
     let e = c.write.ensures in
     let lent = writes_lent (lending_in s) s.stage s.over c.self.invariant.1 c.args.cell c.args.value c.write.new.self e.kept e.same
-        (subst (λ x. WasRead (sight_of x.run) c.args.cell) (sym c.self.view_is) c.requires.read)
-        (subst (λ x. is_ranged (sight_of x.run).setting.slots c.args.cell ≡ true → Names (sight_of x.run).ranges c.args.value)
-        (sym c.self.view_is) c.requires.named) in
+    (subst (λ x. WasRead (sight_of x.run) c.args.cell) (sym c.self.view_is) c.requires.read)
+    (subst (λ x. is_ranged (sight_of x.run).setting.slots c.args.cell ≡ true → Names (sight_of x.run).ranges c.args.value)
+    (sym c.self.view_is) c.requires.named) in
     (∣ agrees_of _ s.stage s.over lent ∣₁, tt)
 
 pub returns : goal.returns
