@@ -1,5 +1,5 @@
 -- What the end of a run of a session gives its pass.
-use Rattle.std.proofs.Common.{◌≡◌, inl, Option, Some, None, sym, ap, refl, ◌∙◌, subst}
+use Rattle.std.proofs.Common.{◌≡◌, ℕ, inl, Option, Some, None, sym, ap, refl, ◌∙◌, subst}
 use Rattle.tlwords.specs.declared.outcome.Conflict.{Conflict}
 use Rattle.tlwords.specs.declared.outcome.Outcome.{Outcome as Answer}
 use Rattle.tlwords.specs.declared.outcome.Outcome.TheVariants.{Committed as EndsDone, Read as EndsRead, Conflict as EndsConflict, NumbersUsed}
@@ -12,14 +12,18 @@ use Rattle.ranges.proofs.Grown.{within_refl}
 use Rattle.bodystore.specs.Stages.{Staged}
 use Rattle.lawful.specs.declared.notes.Note.{Note}
 use Rattle.lawful.specs.Lawful.{library_terms}
+use Rattle.transaction.specs.declared.outcome.Conflict.{Conflict as Met}
 use Rattle.transaction.specs.declared.outcome.Outcome.{Outcome}
 use Rattle.transaction.specs.Attempts.{Pass, AddsNothing, Meets}
 use Rattle.transaction.specs.Lent.{Lending, IsLent}
 use Rattle.transaction.specs.Tries.{IsLaterPass, IsLawfulWith, IsStopped, GivesUp}
 
+-- the conflict of a run at a place
+abbrev pub met_at : ℕ → Conflict → Met
+met_at place c = record { place = place; cell = c.cell; word = c.word; before = c.before }
+
 module _ (l : Lending) (stage : Staged) (over : Option Conflict) (i : IsLent l stage over) where
-  -- the pass is a later one
-  pub is_later : IsLaterPass l.began l.going.known
+  is_later : IsLaterPass l.began l.going.known
   is_later =
       record { home = ap (λ (k : Pass). k.home) i.since; name = ap (λ (k : Pass). k.name) i.since; grows = i.grows; knows = i.stands.knows }
 
@@ -27,8 +31,7 @@ module _ (l : Lending) (stage : Staged) (over : Option Conflict) (i : IsLent l s
   adds_nothing = record { mine = ap (λ (k : Pass). k.mine) i.since; drawn = ap (λ (k : Pass). k.drawn) i.since }
 
   -- where the run met a conflict, so did the call
-  pub meets : (c : Conflict) → over ≡ Some c
-      → Meets l.began l.going.known (record { place = l.going.place; cell = c.cell; word = c.word; before = c.before })
+  pub meets : (c : Conflict) → over ≡ Some c → Meets l.began l.going.known (met_at l.going.place c)
   meets c e =
       let m = i.met c e in
       record { placed = i.placed; looked = m.looked; runs = ap (λ (k : Pass). k.runs) i.since; cause = inl m.cause; written = m.written }

@@ -32,7 +32,8 @@ module _ (slots : List Slot) where
   written_past : (n c : ℕ) → n ≤ c → written c (writes_below slots n) ≡ None
   written_past zero c l = refl
   written_past (suc n) c l =
-      written_else c n (value_kept slots n) (writes_below slots n) (λ e. let f : n ≡ c = e in omega (arith, f, l)) ∙ written_past n c (omega arith)
+      written_else c n (value_kept slots n) (writes_below slots n) (λ e. let f : n ≡ c = e in omega (arith, f, l))
+      ∙ written_past n c (omega arith)
 
   written_below : (n c : ℕ) → c < n → written c (writes_below slots n) ≡ value_kept slots c
   written_below zero c l = absurd (omega arith)

@@ -50,7 +50,11 @@ agrees_of l stage over i =
     let s = runs_suit l.given r (writes_kept r.slots) (pass_on l stage over i) i.stands in (
       state_after r.known.home.base r.known.seen r.place,
       library_after l.given r.known.seen r.place,
-      record { matches = record { store = s.matches.store; has = s.matches.has; reads = s.matches.reads }; shows = s.shows; verifies = s.verifies },
+      record {
+        matches = record { store = s.matches.store; has = s.matches.has; reads = s.matches.reads };
+        shows = s.shows;
+        verifies = s.verifies;
+      },
     )
 
 -- each cell of the library has an opening value
@@ -109,7 +113,8 @@ pub began_lent : (g : Given) (k : Pass) (stage : Staged) (mode : Mode) (may : Bo
 began_lent g k stage mode may given told pass known r e f m n b on placed staged =
     subst (λ (x : Given). IsLent (record { given = x; began = known; going = r; may_stage = may; full = false }) stage None) (sym m)
     (subst (λ (x : Pass). IsLent (record { given = given; began = x; going = r; may_stage = may; full = false }) stage None) (sym n)
-    (begins_lent given pass stage mode may r b (subst (λ (x : Given). IsPassOn x pass) (sym e) (subst (IsPassOn g) (sym f) on)) placed staged))
+    (begins_lent given pass stage mode may r b (subst (λ (x : Given). IsPassOn x pass) (sym e) (subst (IsPassOn g) (sym f) on)) placed
+    staged))
 
 -- ---- a read is noted
 

@@ -1,8 +1,6 @@
 -- What the steps of a run of a session do to what commands see of it.
 use Rattle.std.proofs.Common.{◌≡◌, ℕ, ◌+◌, ◌==◌, if◌then◌else◌, inl, inr, Bool, true, is_some, Option, Some, None, List, length}
 use Rattle.std.proofs.Common.{eq-eqb, ne_eqb, refl, sym, ap, ◌∙◌, subst, min}
-use Rattle.std.specs.Option.{option_map}
-use Rattle.std.specs.FinMap.{get}
 use mathlib.Core.Logic.{dite}
 use native.Mathlib.Decide.{ℕ_discrete}
 use Rattle.ranges.specs.declared.range.Range.{Range as Place}
@@ -14,11 +12,10 @@ use Rattle.tlwords.specs.Known.{Going}
 use Rattle.tlwords.specs.Runs.{value_kept, HasKept}
 use Rattle.tlwords.specs.Commits.{writes_kept}
 use Rattle.tlwords.specs.Calls.{HasRead, HasStopped, HasLoaded, HasStaged, IsRefused}
-use Rattle.bodystore.specs.Stages.{Staged, range_at}
-use Rattle.bodystore.proofs.Staging.{found_is_staged}
+use Rattle.bodystore.specs.Stages.{Staged}
 use Rattle.cells.specs.State.{value_or}
 use Rattle.cells.specs.Sight.{Onward, Looks, Reads, Writes, Stages}
-use Rattle.cells.proofs.Sights.{onward_refl, looks_refl}
+use Rattle.cells.proofs.Sights.{looks_refl}
 use Rattle.lawful.specs.declared.notes.Given.{Given}
 use Rattle.lawful.specs.declared.notes.Note.{Note}
 use Rattle.lawful.specs.Lawful.{library_terms}
@@ -50,7 +47,8 @@ later_looks l seen looked full added over no_room grows =
     record { onward = later_onward l seen looked full l.going.known.taken added over no_room grows; writes = refl; taken = refl }
 
 -- a word was loaded
-pub loads_look : (l : Lending) (r : Going Given Note) → HasLoaded library_terms l.going r → Looks (sight_of l) (sight_of (record l { going = r }))
+pub loads_look : (l : Lending) (r : Going Given Note) → HasLoaded library_terms l.going r
+    → Looks (sight_of l) (sight_of (record l { going = r }))
 loads_look l r h =
     let k = l.going.known in
     subst (λ (x : Going Given Note). Looks (sight_of l) (sight_of (record l { going = x }))) (sym h.is)
@@ -76,7 +74,8 @@ refused_look l count r (inr (tail, h)) =
 
 -- ---- words are staged
 
-pub stages_sight : (l : Lending) (words : List ℕ) (range : Place) (r : Going Given Note) → HasStaged library_terms words range.start l.going r
+pub stages_sight : (l : Lending) (words : List ℕ) (range : Place) (r : Going Given Note)
+    → HasStaged library_terms words range.start l.going r
     → range.len ≡ length words → Stages words range (sight_of l) (sight_of (record l { going = r }))
 stages_sight l words range r h len =
     let k = l.going.known in
@@ -89,13 +88,6 @@ stages_sight l words range r h len =
       finished = h.finished;
       len = len;
     })
-
--- they were staged before
-pub found_sight : (l : Lending) (stage : Staged) (over : Option Conflict) (words : List ℕ) (range : Place) → IsLent l stage over
-    → option_map (range_at words) (get stage words) ≡ Some range → Stages words range (sight_of l) (sight_of l)
-found_sight l stage over words range i is =
-    let f = found_is_staged l.going.known.seen.ranges stage words range i.staged is in
-    record { onward = onward_refl (sight_of l); writes = refl; taken = inl refl; finished = f.0; len = f.1 }
 
 -- ---- a cell is read
 

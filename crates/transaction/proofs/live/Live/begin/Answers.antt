@@ -5,18 +5,25 @@ use Rattle.transaction.proofs.live.Live.begin.Goals as goal
 
 pub invariant_of-result : goal.invariant_of-result
 invariant_of-result c =
-    let lent = began_lent c.args.library.now.given c.args.kit c.kit.inside.stage c.args.mode c.args.may_stage c.library.inside.given c.of-given.result.value
-    c.kit.inside.pass c.of-began.result.value c.begin.result (ap (λ m. m.given) c.library.view_is) c.kit.view_is c.of-given.ensures
-    c.of-began.ensures c.begin.ensures.begins c.requires.on c.begin.ensures.place c.kit.invariant in
+    let a = c.args in
+    let given = c.library.inside.given in
+    let k = c.kit.inside in
+    let b = c.begin in
+    let lent = began_lent a.library.now.given a.kit k.stage a.mode a.may_stage given c.of-given.result.value k.pass c.of-began.result.value b.result
+    (ap (λ m. m.given) c.library.view_is) c.kit.view_is c.of-given.ensures c.of-began.ensures b.ensures.begins c.requires.on b.ensures.place
+    c.kit.invariant in
     (∣ agrees_of _ _ _ lent ∣₁, tt)
 
 pub invariant_of-result-2 : goal.invariant_of-result-2
-invariant_of-result-2 c = (
-  sym (ap (λ g. g.slots) c.of-given.ensures),
-  began_lent c.args.library.now.given c.args.kit c.kit.inside.stage c.args.mode c.args.may_stage c.library.inside.given c.of-given.result.value
-      c.kit.inside.pass c.of-began.result.value c.begin.result (ap (λ m. m.given) c.library.view_is) c.kit.view_is c.of-given.ensures
-      c.of-began.ensures c.begin.ensures.begins c.requires.on c.begin.ensures.place c.kit.invariant,
-)
+invariant_of-result-2 c =
+    let a = c.args in
+    let given = c.library.inside.given in
+    let k = c.kit.inside in
+    let b = c.begin in
+    let lent = began_lent a.library.now.given a.kit k.stage a.mode a.may_stage given c.of-given.result.value k.pass c.of-began.result.value b.result
+    (ap (λ m. m.given) c.library.view_is) c.kit.view_is c.of-given.ensures c.of-began.ensures b.ensures.begins c.requires.on b.ensures.place
+    c.kit.invariant in
+    (sym (ap (λ g. g.slots) c.of-given.ensures), lent)
 
 pub returns : goal.returns
 returns c =

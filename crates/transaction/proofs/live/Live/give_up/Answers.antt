@@ -2,7 +2,7 @@ use Rattle.std.proofs.Common.{sym, subst}
 use Rattle.transaction.specs.Attempts.{Meets}
 use Rattle.transaction.specs.Tries.{IsStopped, GivesUp}
 use Rattle.transaction.proofs.Lending.{lending_in}
-use Rattle.transaction.proofs.Ended.{meets, gives_up}
+use Rattle.transaction.proofs.Ended.{met_at, meets, gives_up}
 use Rattle.transaction.proofs.live.Live.give_up.Goals.{in-Some, in-None, in-None-2}
 use Rattle.transaction.proofs.live.Live.give_up.Goals as goal
 
@@ -15,8 +15,7 @@ returns c =
     let why : IsStopped l k c.match-over.outcome =
     elim c.match-over.branch [
       | in-Some w ↦ subst (IsStopped l k) (sym (w.outcome-is)) (subst (Meets l.began k) (sym w.met.ensures)
-          (subst (λ p. Meets l.began k (record { place = p; cell = w.in-Some.found.cell; word = w.in-Some.found.word; before = w.in-Some.found.before }))
-          (sym c.place-place.ensures) (meets l s.stage s.over i w.in-Some.found w.in-Some.is)))
+          (subst (λ p. Meets l.began k (met_at p w.in-Some.found)) (sym c.place-place.ensures) (meets l s.stage s.over i w.in-Some.found w.in-Some.is)))
       | in-None w ↦ subst (IsStopped l k) (sym w.outcome-is) (i.full w.if-full.true)
       | in-None-2 w ↦ subst (IsStopped l k) (sym w.outcome-is) tt
     ] in

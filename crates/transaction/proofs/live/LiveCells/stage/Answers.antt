@@ -9,10 +9,10 @@ use Rattle.transaction.proofs.live.LiveCells.stage.Goals as goal
 pub invariant_of-self : goal.invariant_of-self
 invariant_of-self c =
     let s = c.self.inside in
-    let may : s.may_stage ≡ true = subst (λ x. (sight_of x.run).may_stage ≡ true) (sym c.self.view_is) c.requires.may in (
-      c.self.invariant.0,
-      refused_lent (lending_in s) s.stage s.over c.self.invariant.1 (length c.args.words.now) c.stage.new.self may c.in_default-stage.ensures.err,
-    )
+    let may : s.may_stage ≡ true = subst (λ x. (sight_of x.run).may_stage ≡ true) (sym c.self.view_is) c.requires.may in
+    let lent = refused_lent (lending_in s) s.stage s.over c.self.invariant.1 (length c.args.words.now) c.stage.new.self may
+    c.in_default-stage.ensures.err in
+    (c.self.invariant.0, lent)
 
 pub invariant_of-self-inside : goal.invariant_of-self-inside
 invariant_of-self-inside c =
@@ -31,15 +31,15 @@ returns-in_default-stage-clause-err c =
 pub invariant_of-self-2 : goal.invariant_of-self-2
 invariant_of-self-2 c =
     let s = c.self.inside in
-    let lent = staged_lent (lending_in s) s.stage s.over c.self.invariant.1 c.args.words.now c.in-Ok.staged.start c.stage.new.self c.note.new.self
-    c.note.result c.in-Ok.ensures.ok.1 c.note.ensures.ok c.note.ensures.err in
+    let lent = staged_lent (lending_in s) s.stage s.over c.self.invariant.1 c.args.words.now c.in-Ok.staged.start c.stage.new.self
+    c.note.new.self c.note.result c.in-Ok.ensures.ok.1 c.note.ensures.ok c.note.ensures.err in
     (c.self.invariant.0, lent)
 
 pub invariant_of-self-inside-2 : goal.invariant_of-self-inside-2
 invariant_of-self-inside-2 c =
     let s = c.self.inside in
-    let lent = staged_lent (lending_in s) s.stage s.over c.self.invariant.1 c.args.words.now c.in-Ok.staged.start c.stage.new.self c.note.new.self
-    c.note.result c.in-Ok.ensures.ok.1 c.note.ensures.ok c.note.ensures.err in
+    let lent = staged_lent (lending_in s) s.stage s.over c.self.invariant.1 c.args.words.now c.in-Ok.staged.start c.stage.new.self
+    c.note.new.self c.note.result c.in-Ok.ensures.ok.1 c.note.ensures.ok c.note.ensures.err in
     (∣ agrees_of _ c.note.new.self s.over lent ∣₁, tt)
 
 pub returns-clause-ok : goal.returns-clause-ok
