@@ -379,3 +379,41 @@ fn a_shape_is_tested_first(rt: HostRuntime) -> Result<(), Fail> {
     assert!(rt; matches!(answer, Err(OpenError::ProofFails(1, _))));
     Ok(())
 }
+
+/// Tries the one transaction of a script; where memory runs out, once more, which then has to end as the first would have.
+fn tried_again(
+    alloc: Global,
+    library: &Library,
+    session: &mut Session,
+    script: &[u8],
+) -> Result<Outcome, Fail>
+    requires { IsOf library.now session.old }
+    ensures { IsOf library.now session.new }
+{
+    match tried(alloc, library, session, script)? {
+        Outcome::NoMemory => tried(alloc, library, session, script),
+        outcome => Ok(outcome),
+    }
+}
+
+/// A transaction of each command, over a library of its own: where an allocation is refused on the way, the next try with memory is the first entry.
+#[test]
+fn want_of_memory_changes_nothing(rt: HostRuntime) -> Result<(), Fail> {
+    let alloc = rt.alloc();
+    let edits: [&[u8]; 5] = [
+        b"begin add 900 th2 $p |- 0 = 0 $= tze th1 $. commit",
+        b"begin add 900 th2 $p |- 0 = 0 $= tze th1 $. reprove th2 $= tze th1 $. commit",
+        b"begin rename th1 refl commit",
+        b"begin move th1 801 commit",
+        b"begin delete th1 commit",
+    ];
+    for script in edits {
+        let (library, mut sessions) = opened(&rt, demo(alloc)?.as_slice(), 1000, 1)?;
+        let mut session = last(&library, &mut sessions)?;
+        let outcome = tried_again(alloc, &library, &mut session, script)?;
+        assert!(rt; matches!(outcome, Outcome::Committed { number: 1, .. }));
+        let outcome = tried_again(alloc, &library, &mut session, b"begin show tze list commit")?;
+        assert!(rt; matches!(outcome, Outcome::Read { place: 1, .. }));
+    }
+    Ok(())
+}
