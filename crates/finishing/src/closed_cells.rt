@@ -1,6 +1,5 @@
 //! The closed words of a library as its cells.
 
-ghost use Rattle.std.specs.Prelude.{map};
 ghost use Rattle.finishing.specs.ClosedCells.{Agrees};
 
 use cells::Cells;
@@ -10,34 +9,33 @@ use std::convert::Infallible;
 use std::marker::Model;
 use tlwords::ClosedWords;
 
-/// The cells of closed words that hold a library. They can only be read. Contracts see their values and the words of the store.
+/// The cells of closed words that hold a library. They can only be read. Contracts see the library's setting and the words.
 #[derive(Drop)]
 pub(crate) struct ClosedCells<'c> {
     prelude: &'c Prelude,
     slots: usize,
     words: &'c ClosedWords,
-    ghost agrees: { ∥ Agrees (record { setting = record { prelude = prelude.now; slots = slots }; values = map (λ x. x.value) words.now.cells.items; store = words.now.store.items }) ∥₁ },
+    ghost agrees: { ∥ Agrees (record { setting = record { prelude = prelude.now; slots = slots }; words = words.now }) ∥₁ },
 }
 
 impl<'c> Model for ClosedCells<'c> {
-    ghost use Rattle.std.specs.Prelude.{map};
     ghost use Rattle.finishing.specs.ClosedCells.{Readable, AreReadable};
 
     ghost Value = { Readable };
 
-    ghost view = { λ a. record { cells = record { setting = record { prelude = a.prelude.now; slots = a.slots }; values = map (λ x. x.value) a.words.now.cells.items; store = a.words.now.store.items }; agrees = a.agrees } };
+    ghost view = { λ a. record { cells = record { setting = record { prelude = a.prelude.now; slots = a.slots }; words = a.words.now }; agrees = a.agrees } };
 
-    ghost invariant = { λ a. AreReadable (record { setting = record { prelude = a.prelude.now; slots = a.slots }; values = map (λ x. x.value) a.words.now.cells.items; store = a.words.now.store.items }) };
+    ghost invariant = { λ a. AreReadable (record { setting = record { prelude = a.prelude.now; slots = a.slots }; words = a.words.now }) };
 }
 
 impl<'c> ClosedCells<'c> {
-    ghost use Rattle.std.specs.Prelude.{◌≡◌, map};
+    ghost use Rattle.std.specs.Prelude.{◌≡◌};
     ghost use Rattle.finishing.specs.ClosedCells.{AreReadable};
 
     /// The cells of these words.
     pub(crate) fn new(prelude: &'c Prelude, slots: usize, words: &'c ClosedWords) -> ClosedCells<'c>
-        requires { AreReadable (record { setting = record { prelude = prelude.now; slots = slots }; values = map (λ x. x.value) words.now.cells.items; store = words.now.store.items }) }
-        ensures { result.cells ≡ record { setting = record { prelude = prelude.now; slots = slots }; values = map (λ x. x.value) words.now.cells.items; store = words.now.store.items } }
+        requires { AreReadable (record { setting = record { prelude = prelude.now; slots = slots }; words = words.now }) }
+        ensures { result.cells ≡ record { setting = record { prelude = prelude.now; slots = slots }; words = words.now } }
     {
         ClosedCells {
             prelude,
@@ -52,7 +50,7 @@ impl<'c> Cells for ClosedCells<'c> {
 
     type Stop = Infallible;
 
-    type Origin = ();
+    type Origin = ClosedWords;
 
     ghost sight = { λ a. sight_of a.cells };
 

@@ -1,8 +1,9 @@
 pub mod Keeping
 pub mod Entries
 pub mod Standing
-mod Closed
+pub mod Closed
 mod Unread
 mod Running
-pub mod Openings
+pub mod Naming
+mod Openings
 mod Small
