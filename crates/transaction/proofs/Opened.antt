@@ -42,7 +42,8 @@ pub words_open : (db : Contents) (g : Given) (room : ℕ) (made : PlainCells) (v
     × AreNamed library_terms g (ranges_named (library_terms.ranged g) store values) values
 words_open db g room made values store is spelled checks some few many opens values_are store_is =
     let verifies : Verifies (setting_of g) (first_library g) =
-    subst (λ (d : Contents). Verifies (setting_over d g.slots) (opening d)) (sym is) (opening_verifies db g.slots spelled checks some few many) in
+    subst (λ (d : Contents). Verifies (setting_over d g.slots) (opening d)) (sym is)
+    (opening_verifies db g.slots spelled checks some few many) in
     let own : CellsOpen g.database.value g.slots room made = subst (λ (d : Contents). CellsOpen d g.slots room made) (sym is) opens in
     let IsWell : List ℕ → List ℕ → Type 0 =
     λ vs ws. OpensWell g (ranges_named (library_terms.ranged g) ws vs) vs
@@ -57,7 +58,8 @@ none_staged ranges stage is =
     (record { among = λ words start at. let none = sym (get-empty (slice_cmp nat_cmp) words) ∙ at in cc none })
 
 -- one more session is made, of the next pass
-pub seat_next : (g s : Given) (k : Known Given Note) (records : List Record) (made new : List Member) (rest left all : List (Known Given Note))
+pub seat_next : (g s : Given) (k : Known Given Note) (records : List Record) (made new : List Member)
+    → (rest left all : List (Known Given Note))
     → new ≡ made ++ record { given = s; known = k; records = records } ∷ []
     → s ≡ g → records ≡ []
     → rest ≡ k ∷ left
@@ -73,7 +75,9 @@ seat_next g s k records made new rest left all new_is given none next so_far =
 
 -- the session of a pass that drew nothing keeps what it is to keep
 pub member_of : (g : Given) (k : Known Given Note) → IsPassOn g k → Knows library_terms k → k.drawn ≡ [] → IsMember (seated g k)
-member_of g k on knows new = record { on = on; knows = knows; recorded = record { numbers = sym new; entries = All-nil (IsRecordIn (history_of k.seen)) } }
+member_of g k on knows new =
+    let none = All-nil (IsRecordIn (history_of k.seen)) in
+    record { on = on; knows = knows; recorded = record { numbers = sym new; entries = none } }
 
 -- the library of these words
 abbrev pub home_at : {L : Type 0} → Given → Words L Given Note → Home

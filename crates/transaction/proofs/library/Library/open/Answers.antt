@@ -42,6 +42,7 @@ returns g c =
     c.in-Ok.ensures.sound c.in-Ok.ensures.names in
     let shape : IsShape c.args.shape = c.is_lawful.ensures.0 c.if-not-is_lawful.false in
     let within = c.in_ok-cells.ensures.within in
+    let members = c.in_ok-sessions.sessions.items in
     let seats = c.in_ok-sessions.ensures in
     record {
       shape_is = shape;
@@ -55,6 +56,6 @@ returns g c =
       opens = (words_open c.args.database.now given c.args.shape.room c.in_ok-cells.cells home.words.base home.store c.of.ensures
           c.assertions.ensures.sound c.in_ok-check.ensures.yes shape.some_slots shape.few_slots within.0 c.in_ok-cells.ensures.ok
           (key.1 ∙ c.values.ensures) (key.2 ∙ c.store.ensures)).0;
-      new = new_sessions home sessions c.in-Ok.passes.items (ap Some key.0) c.in-Ok.words.small.1 passes c.in_ok-sessions.sessions.items seats;
-      names = named_sessions home sessions c.in-Ok.passes.items (ap Some key.0) c.in-Ok.words.small.1 passes c.in_ok-sessions.sessions.items seats;
+      new = new_sessions home sessions c.in-Ok.passes.items (ap Some key.0) c.in-Ok.words.small.1 passes members seats;
+      names = named_sessions home sessions c.in-Ok.passes.items (ap Some key.0) c.in-Ok.words.small.1 passes members seats;
     }
