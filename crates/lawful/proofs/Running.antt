@@ -1,4 +1,4 @@
--- A run of commands on cells is lawful.
+-- A run on cells is lawful: one of commands, and one that looks at the library.
 use Rattle.std.proofs.Common.{◌≡◌, Bool, true, false, List, [], Ok, Err, refl, sym, ap, subst, ◌∙◌}
 use Rattle.library.specs.declared.library.Ranked.{Ranked}
 use Rattle.library.specs.Library.{Setting, Verifies}
@@ -7,11 +7,11 @@ use Rattle.ranges.specs.Pairs.{Pairs, written}
 use Rattle.cells.specs.State.{State, with_writes}
 use Rattle.cells.specs.Shows.{Shows}
 use Rattle.cells.specs.Sight.{Sight, Suits, Matches, Views, Onward, after}
-use Rattle.cells.proofs.Sights.{matches_back}
+use Rattle.cells.proofs.Sights.{onward_refl, matches_back}
 use Rattle.commands.specs.Answers.{WritesIfEdit}
 use Rattle.lawful.specs.declared.notes.Given.{Given}
 use Rattle.lawful.specs.Lawful.{setting_of, sight_of}
-use Rattle.lawful.specs.Laws.{RunsAreLawful}
+use Rattle.lawful.specs.Laws.{RunsAreLawful, LooksAreLawful}
 
 -- where nothing is kept aside at the end, no command was an edit
 no_edit : {O : Type 0} → (edits : Bool) (old new : Sight O) → WritesIfEdit edits old new → new.writes ≡ [] → edits ≡ false
@@ -60,3 +60,7 @@ runs_are_lawful g old new commands setting blank onward fit = (
         (refuses st lib (matches_new g old new setting blank onward [] st lib s) (views_old g old new setting blank onward [] st lib s)),
   ),
 )
+
+pub looks_are_lawful : {O : Type 0} → LooksAreLawful O
+looks_are_lawful g s library setting blank listed told =
+    (listed, refl, λ st lib suits. told st lib (views_old g s s setting blank (onward_refl s) [] st lib suits))

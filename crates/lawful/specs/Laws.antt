@@ -9,7 +9,7 @@ use Rattle.library.specs.declared.command.Command.{Command}
 use Rattle.library.specs.declared.command.Command.TheVariants.{Show}
 use Rattle.library.specs.declared.command.Reply.{Reply}
 use Rattle.library.specs.declared.reason.Refused.{Refused as Refusal}
-use Rattle.library.specs.Library.{IsSetting, Verifies, ranked_from}
+use Rattle.library.specs.Library.{IsSetting, Verifies, Listed, ShowsInOrder, ranked_from}
 use Rattle.library.specs.Fitting.{CommandFits}
 use Rattle.library.specs.Histories.{Grows, after_all}
 use Rattle.tlwords.specs.declared.closing.ClosedCell.{ClosedCell}
@@ -24,12 +24,13 @@ use Rattle.cells.specs.State.{State, most_words}
 use Rattle.cells.specs.Slots.{cell_count, is_ranged}
 use Rattle.cells.specs.Shows.{Shows}
 use Rattle.cells.specs.Sight.{Sight, Suits, Onward}
+use Rattle.cells.specs.Lookups.{ForEach}
 use Rattle.cells.specs.declared.plain.PlainCells.{PlainCells}
 use Rattle.cells.specs.Opening.{Opens}
 use Rattle.commands.specs.Answers.{DoesAll, RefusesAll}
 use Rattle.lawful.specs.declared.notes.Given.{Given}
 use Rattle.lawful.specs.declared.notes.Note.{Note}
-use Rattle.lawful.specs.declared.notes.Note.TheVariants.{Done, Refused}
+use Rattle.lawful.specs.declared.notes.Note.TheVariants.{Done, Refused, Looked}
 use Rattle.lawful.specs.Lawful.{setting_of, first_library, state_of, sight_of, OpensWell, Lawful, library_terms}
 use Rattle.lawful.specs.History.{history_of, library_after, state_after, IsHistoryOf, AllAgree}
 
@@ -52,7 +53,7 @@ UnreadIsUnlawful =
     → (label : List ℕ) → IsSetting (setting_of g) → AreOfOneStore most_words ranges → commands.value ≡ Show label ∷ []
     → Lawful g ranges [] writes (Done commands replies) → ⊥
 
--- ---- runs of commands
+-- ---- runs
 
 -- a run of commands that begins with nothing kept aside is lawful where it is done, with what it has seen and keeps aside at its end; and
 -- where it is refused, once what it keeps aside is thrown away
@@ -65,6 +66,12 @@ RunsAreLawful O =
     → Lawful g new.ranges new.reads new.writes (Done commands replies))
     × ((refused : Snapshot Refusal) → RefusesAll old new commands.value refused.value
     → Lawful g new.ranges new.reads [] (Refused commands refused))
+
+-- a run that keeps nothing aside is lawful where it looked at the library, which is in order the one that its note has
+abbrev pub LooksAreLawful : Type 0 → Type 0
+LooksAreLawful O =
+    (g : Given) (s : Sight O) (library : Snapshot Listed) → s.setting ≡ setting_of g → s.writes ≡ [] → library.value.setting ≡ setting_of g
+    → ForEach s (λ st lib. ShowsInOrder lib library.value.entries) → Lawful g s.ranges s.reads [] (Looked library)
 
 -- ---- openings
 

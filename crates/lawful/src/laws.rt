@@ -1,7 +1,8 @@
 //! Laws of the definitions: each function does nothing, and its contract is the law.
 
-ghost use Rattle.lawful.specs.Laws.{ShownIsKept, LawfulIsKept, UnreadIsUnlawful, RunsAreLawful, OpenedCellsOpenWell, OneAssertionIsShown};
-ghost use Rattle.lawful.specs.Laws.{HistoriesGrow, SessionsStand, OtherCallsAgree, RunsSuit, ClosedHistoriesStand, ClosedWordsShow};
+ghost use Rattle.lawful.specs.Laws.{ShownIsKept, LawfulIsKept, UnreadIsUnlawful, RunsAreLawful, LooksAreLawful};
+ghost use Rattle.lawful.specs.Laws.{OpenedCellsOpenWell, HistoriesGrow, SessionsStand, OtherCallsAgree, RunsSuit};
+ghost use Rattle.lawful.specs.Laws.{ClosedHistoriesStand, ClosedWordsShow, OneAssertionIsShown};
 
 /// Cells that show a library show it too where further ranges of the store are finished, whatever stands in cells behind the library's own.
 pub fn shown_is_kept()
@@ -22,6 +23,12 @@ pub fn unread_is_unlawful()
 /// runs begin with.
 pub fn runs_are_lawful<Origin>()
     ensures { RunsAreLawful Origin }
+{}
+
+/// A run that keeps nothing aside and looked at the whole library, as its note has it in export order, is lawful: so a session may tell what
+/// it saw. `Origin` is what such runs begin with.
+pub fn looks_are_lawful<Origin>()
+    ensures { LooksAreLawful Origin }
 {}
 
 /// Words may be opened with what a database's plain cells hold: their values show its library, and in range cells they name ranges of the
