@@ -37,11 +37,7 @@ impl Library {
         ensures { IfOk result (λ made. IsClosed self sessions.items made) }
     {
         let (passes, records) = take_all(alloc, sessions)?;
-        let Library {
-            prelude,
-            given,
-            words,
-        } = self;
+        let (prelude, given, words) = self.into_parts();
         Ok(ClosedLibrary {
             prelude,
             given,
