@@ -4,3 +4,8 @@ pub mod Staying
 pub mod Learning
 pub mod Looked
 pub mod Taken
+pub mod Kept
+pub mod Lending
+pub mod Sighted
+mod Reading
+pub mod Ended
