@@ -3,7 +3,7 @@ pub mod Entries
 pub mod Standing
 pub mod Closed
 mod Unread
-mod Running
 pub mod Naming
-mod Openings
+pub mod Running
+pub mod Openings
 mod Small

@@ -1,10 +1,11 @@
 //! Looks at the whole library.
 
-ghost use Rattle.std.specs.Prelude.{◌≡◌, IfOk};
+ghost use Rattle.std.specs.Prelude.{◌≡◌, [], IfOk};
 ghost use Rattle.library.specs.Library.{ShowsInOrder};
 ghost use Rattle.cells.specs.Sight.{Looks as LooksOn};
 ghost use Rattle.cells.specs.Lookups.{ForEach};
 ghost use Rattle.tlwords.specs.declared.mode.Mode.TheVariants.{Reading};
+ghost use Rattle.tlwords.specs.Commits.{writes_kept};
 ghost use Rattle.lawful.specs.Laws.{IsPassOn};
 ghost use Rattle.lawful.specs.Lawful.{setting_of};
 ghost use Rattle.transaction.specs.Members.{IsOf};
@@ -31,6 +32,8 @@ impl Session {
         requires { IsOf library.now self.old }
         ensures { Looks self.old self.new result }
     {
+        // For the proof: the library's words are opened for what was given.
+        let _ = &library.words;
         let Some(kit) = self.kit.take() else {
             unreachable!()
         };
@@ -60,12 +63,15 @@ fn read_all(
     library: &Library,
     live: &mut Live<'_>,
 ) -> Result<PlainLibrary, Halt<Stopped>>
-    requires { live.old.run.given ≡ library.now.given }
+    requires given { live.old.run.given ≡ library.now.given }
+    requires blank { writes_kept live.old.run.going.slots ≡ [] }
     ensures looks { LooksOn (sight_of live.old.run) (sight_of live.new.run) }
     ensures setting { IfOk result (λ seen. seen.setting ≡ setting_of library.now.given) }
     ensures ok { IfOk result (λ seen. ForEach (sight_of live.new.run) (λ st lib. ShowsInOrder lib seen.entries)) }
 {
     let entries = entries(alloc, live)?;
+    // For the proof: what the run has read is of a library that verifies.
+    let _ = &live.slots;
     let prelude = library.prelude.copy(alloc)?;
     Ok(PlainLibrary::sorted(prelude, library.given.slots, entries))
 }
@@ -73,10 +79,13 @@ fn read_all(
 /// Ends a run that has read the library.
 fn show(live: Live<'_>, library: PlainLibrary) -> (Kit, Look)
     requires reading { live.run.going.mode ≡ Reading }
+    requires blank { writes_kept live.run.going.slots ≡ [] }
     requires lawful { MayBeLooked live.run library }
     ensures later { IsLaterPass live.entry.run.began result.0 }
     ensures sees { Sees live.entry.run.began result.0 result.1 }
 {
+    // For the proof: how the run stands to its pass.
+    let _ = &live.slots;
     let place = live.place();
     let note = Note::Looked {
         library: Snapshot::of(&library),

@@ -28,13 +28,14 @@ impl Model for Library {
 
 impl Library {
     ghost use Rattle.std.specs.Prelude.{◌≡◌};
-    ghost use Rattle.lawful.specs.Lawful.{setting_of};
     ghost use Rattle.tlwords.specs.Callers.{home_of};
+    ghost use Rattle.lawful.specs.Lawful.{setting_of};
+    ghost use Rattle.transaction.specs.Openings.{IsLibraryOf};
 
     /// Its prelude, what was given at its opening, and its words.
     pub(crate) fn into_parts(self) -> (Prelude, Given, Words<LibraryLaw>)
-        ensures given { result.1 ≡ self.given }
-        ensures words { home_of result.2 ≡ self.words }
+        ensures is { record { given = result.1; words = home_of result.2; store = result.2.table.shared.key.store.value.items; sessions = result.2.table.shared.key.sessions } ≡ self }
+        ensures stands { IsLibraryOf result.0 self }
     {
         let Library {
             prelude,

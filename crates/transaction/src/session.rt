@@ -80,9 +80,14 @@ impl Session {
         requires other { IsOf library.now other.old }
         ensures { Learns self.old other.old self.new other.new }
     {
-        let (Some(kit), Some(others)) = (&mut self.kit, &mut other.kit) else {
+        let Some(mut kit) = self.kit.take() else {
+            unreachable!()
+        };
+        let Some(mut others) = other.kit.take() else {
             unreachable!()
         };
         learn(&library.words, &mut kit.pass, &mut others.pass);
+        self.kit = Some(kit);
+        other.kit = Some(others);
     }
 }

@@ -3,7 +3,7 @@ use Rattle.lawful.specs.declared.notes.Given.{Given}
 use Rattle.transaction.specs.Openings.{IsShape}
 use Rattle.transaction.specs.Members.{Home}
 use Rattle.transaction.proofs.Opened.{words_open, home_at, ArePasses, passes_of, on_words, new_sessions, named_sessions}
-use Rattle.transaction.proofs.library.Library.open.Goals as goal
+use Rattle.transaction.proofs.running.Library.open.Goals as goal
 
 pub open-opened-requires-clause-opens : goal.open-opened-requires-clause-opens
 open-opened-requires-clause-opens g c =

@@ -1,0 +1,55 @@
+-- What one session learns of another.
+use Rattle.std.proofs.Common.{◌≡◌, ℕ, List, sym, ap, subst}
+use Rattle.tlwords.specs.Seen.{Agree}
+use Rattle.tlwords.specs.Calls.{Learns as WordsLearn}
+use Rattle.lawful.specs.Lawful.{library_terms}
+use Rattle.lawful.proofs.Standing.{other_calls_agree}
+use Rattle.transaction.specs.Members.{Member, IsMember}
+use Rattle.transaction.specs.Attempts.{Pass}
+use Rattle.transaction.specs.Looks.{Learns}
+use Rattle.transaction.specs.Tries.{IsLaterPass}
+use Rattle.transaction.proofs.Staying.{pass_on, still_member, goes_on}
+
+module _ (m o : Member) (k j : Pass) (is : IsMember m) (other : IsMember o) (learnt : WordsLearn library_terms m.known o.known k j) where
+  own_later : IsLaterPass m.known k
+  own_later = record {
+    home = ap (λ (z : Pass). z.home) learnt.is;
+    name = ap (λ (z : Pass). z.name) learnt.is;
+    grows = learnt.own;
+    knows = learnt.knows;
+  }
+
+  other_later : IsLaterPass o.known j
+  other_later = record {
+    home = ap (λ (z : Pass). z.home) learnt.other_is;
+    name = ap (λ (z : Pass). z.name) learnt.other_is;
+    grows = learnt.other;
+    knows = learnt.other_knows;
+  }
+
+  own_none : k.drawn ≡ m.known.drawn
+  own_none = ap (λ (z : Pass). z.drawn) learnt.is
+
+  other_none : j.drawn ≡ o.known.drawn
+  other_none = ap (λ (z : Pass). z.drawn) learnt.other_is
+
+  base : k.home.base ≡ m.known.home.base
+  base = ap (λ (z : Pass). z.home.base) learnt.is
+
+  pub own_stays : IsMember (record m { known = k })
+  own_stays = still_member m k is own_later own_none
+
+  pub other_stays : IsMember (record o { known = j })
+  other_stays = still_member o j other other_later other_none
+
+  pub session_learns : Learns m o (record m { known = k }) (record o { known = j })
+  session_learns = record {
+    own = goes_on m k is own_later own_none;
+    other_own = goes_on o j other other_later other_none;
+    told = learnt.told;
+    kept = record { mine = ap (λ (z : Pass). z.mine) learnt.is; drawn = own_none };
+    other_kept = record { mine = ap (λ (z : Pass). z.mine) learnt.other_is; drawn = other_none };
+    agree = other_calls_agree m.given k o.known.mine (pass_on m.given m.known k own_later.home is.on) learnt.knows
+        (subst (λ (b : List ℕ). Agree library_terms m.given b k.seen o.known.mine) (sym base) (learnt.calls m.given is.on.0));
+    apart = learnt.apart;
+  }

@@ -1,0 +1,170 @@
+-- A look at the whole library: what may be noted of it, and how it ends.
+use Rattle.std.proofs.Common.{◌≡◌, ℕ, List, [], ◌∷◌, ◌++◌, Bool, false, Option, Some, None, inl, refl, sym, ap, subst, ◌∙◌}
+use Rattle.std.specs.Prelude.{IsPermutation}
+use Rattle.std.specs.declared.snapshot.Snapshot.{Snapshot}
+use Rattle.std.proofs.lemmas.List.Sorted.{IsPermutation-trans}
+use Rattle.bodystore.specs.Stages.{Staged}
+use Rattle.library.specs.declared.library.Ranked.{Ranked}
+use Rattle.library.specs.Library.{Verifies, Listed, ShowsInOrder}
+use Rattle.library.proofs.Showing.{verifies_permutation}
+use Rattle.ranges.specs.Pairs.{Pairs}
+use Rattle.cells.specs.State.{State, with_writes}
+use Rattle.cells.specs.Shows.{Shows}
+use Rattle.cells.specs.Sight.{Looks as LooksOn, Suits, Views}
+use Rattle.cells.specs.Lookups.{ForEach}
+use Rattle.commands.specs.Looking.{AreEntries}
+use Rattle.tlwords.specs.declared.mode.Mode.{Mode}
+use Rattle.tlwords.specs.declared.mode.Mode.TheVariants.{Reading, Writing}
+use Rattle.tlwords.specs.declared.outcome.Conflict.{Conflict}
+use Rattle.tlwords.specs.declared.outcome.Outcome.{Outcome}
+use Rattle.tlwords.specs.declared.outcome.Outcome.TheVariants as ends
+use Rattle.tlwords.specs.Seen.{Answered, SeenGrows}
+use Rattle.tlwords.specs.Calls.{work_done, IsAnswered, Ends}
+use Rattle.tlwords.specs.Commits.{writes_kept}
+use Rattle.tlwords.proofs.Seens.{seen_trans}
+use Rattle.lawful.specs.declared.notes.Given.{Given}
+use Rattle.lawful.specs.declared.notes.Note.{Note}
+use Rattle.lawful.specs.Lawful.{setting_of, library_terms}
+use Rattle.lawful.specs.Lawful as lawful
+use Rattle.lawful.specs.History.{library_after, state_after}
+use Rattle.lawful.proofs.Standing.{runs_suit}
+use Rattle.lawful.proofs.Running.{looks_are_lawful}
+use Rattle.transaction.specs.declared.outcome.Look.{Look}
+use Rattle.transaction.specs.declared.outcome.Look.TheVariants as look
+use Rattle.transaction.specs.declared.outcome.Conflict.{Conflict as Met}
+use Rattle.transaction.specs.Members.{Member, IsMember}
+use Rattle.transaction.specs.Attempts.{Pass, AddsNothing, Meets}
+use Rattle.transaction.specs.Looks.{Looks, Sees, SaysLooked}
+use Rattle.transaction.specs.Lent.{Lending, IsLent, is_writing, sight_of}
+use Rattle.transaction.specs.Tries.{IsLaterPass, MayBeLooked}
+use Rattle.transaction.proofs.Staying.{pass_on, still_member, goes_on}
+
+-- ---- the library that was read
+
+-- the assertions that were read verify in whatever order: some library does that the cells may show
+pub entries_verify : (l : Lending) (stage : Staged) (over : Option Conflict) (made : List Ranked) → IsLent l stage over
+    → writes_kept l.going.slots ≡ [] → AreEntries (sight_of l) made → Verifies (setting_of l.given) made
+entries_verify l stage over made lent blank are =
+    let on = pass_on l.given l.began l.going.known (ap (λ (z : Pass). z.home) lent.since) lent.on in
+    let suits = runs_suit l.given l.going [] on lent.stands in
+    let st = state_after l.going.known.home.base l.going.known.seen l.going.place in
+    let lib = library_after l.given l.going.known.seen l.going.place in
+    let views : Views (sight_of l) st lib = record {
+      matches = record { store = suits.matches.store; has = suits.matches.has; reads = suits.matches.reads };
+      shows = subst (λ (ps : Pairs). Shows l.given.slots (with_writes st ps) lib) (sym blank) suits.shows;
+      verifies = suits.verifies;
+    } in
+    verifies_permutation (setting_of l.given) lib made suits.verifies (are st lib views)
+
+pub entries_shown : (l : Lending) (made listed : List Ranked) → AreEntries (sight_of l) made → ShowsInOrder made listed
+    → ForEach (sight_of l) (λ st lib. ShowsInOrder lib listed)
+entries_shown l made listed are shown st lib views =
+    record { same = IsPermutation-trans lib made listed (are st lib views) shown.same; ordered = shown.ordered }
+
+-- ---- what may be noted of it
+
+pub reading : (mode : Mode) → is_writing mode ≡ false → mode ≡ Reading
+reading Reading is = refl
+reading Writing is = cc
+
+pub still_reading : (old new : Lending) → LooksOn (sight_of old) (sight_of new) → old.going.mode ≡ Reading → new.going.mode ≡ Reading
+still_reading old new looks mode = reading new.going.mode (looks.onward.may_write ∙ ap is_writing mode)
+
+pub may_be_looked : (old new : Lending) (library : Listed) → LooksOn (sight_of old) (sight_of new) → writes_kept old.going.slots ≡ []
+    → library.setting ≡ setting_of old.given → ForEach (sight_of new) (λ st lib. ShowsInOrder lib library.entries)
+    → MayBeLooked new library
+may_be_looked old new library looks blank setting told s is =
+    looks_are_lawful new.given (sight_of new) s refl (looks.writes ∙ blank)
+    (ap (λ (z : Listed). z.setting) is ∙ setting ∙ sym looks.onward.setting)
+    (subst (λ (z : Listed). ForEach (sight_of new) (λ st lib. ShowsInOrder lib z.entries)) (sym is) told)
+
+-- ---- its end
+
+-- the conflict of a run at a place
+abbrev pub met_at : ℕ → Conflict → Met
+met_at place found = record { place = place; cell = found.cell; word = found.word; before = found.before }
+
+module _ (l : Lending) (stage : Staged) (over : Option Conflict) (lent : IsLent l stage over) (n : Note) (new : Pass) (o : Outcome)
+    (stopped : (k : Conflict) → l.going.over ≡ Some k → (o ≡ ends.Conflict k None) × (new ≡ l.going.known))
+    (read : l.going.over ≡ None → o ≡ ends.Read l.going.place)
+    (ended : l.going.over ≡ None → Ends library_terms n l.going new o) where
+  answered : l.going.over ≡ None → IsAnswered library_terms l.going.place (work_done l.going n) l.going.known new
+  answered none = (subst (Ends library_terms n l.going new) (read none) (ended none)).2
+
+  later_by : (v : Option Conflict) → l.going.over ≡ v → IsLaterPass l.began new
+  later_by None none =
+      let a = answered none in
+      record {
+        home = ap (λ (z : Pass). z.home) a.is ∙ ap (λ (z : Pass). z.home) lent.since;
+        name = ap (λ (z : Pass). z.name) a.is ∙ ap (λ (z : Pass). z.name) lent.since;
+        grows = seen_trans l.began.seen l.going.known.seen new.seen lent.grows a.grows;
+        knows = a.knows;
+      }
+  later_by (Some k) met =
+      subst (IsLaterPass l.began) (sym (stopped k met).1) (record {
+        home = ap (λ (z : Pass). z.home) lent.since;
+        name = ap (λ (z : Pass). z.name) lent.since;
+        grows = lent.grows;
+        knows = lent.stands.knows;
+      })
+
+  pub look_later : IsLaterPass l.began new
+  look_later = later_by l.going.over refl
+
+  sees_read_by : (place : ℕ) (library : Listed) → SaysLooked library n → o ≡ ends.Read place → (v : Option Conflict) → l.going.over ≡ v
+      → Sees l.began new (look.Read place library)
+  sees_read_by place library says is None none =
+      let a = answered none in
+      let at : l.going.place ≡ place = let own = read none in cc in
+      subst (λ (p : ℕ). Sees l.began new (look.Read p library)) at (
+        lent.placed,
+        ap (λ (z : Pass). z.drawn) a.is ∙ ap (λ (z : Pass). z.drawn) lent.since,
+        (
+          work_done l.going n,
+          says,
+          ap (λ (z : Pass). z.mine) a.is
+              ∙ ap (λ (z : Pass). z.mine ++ Answered l.going.place (work_done l.going n) ∷ []) lent.since,
+        ),
+      )
+  sees_read_by place library says is (Some k) met = let other = (stopped k met).0 in absurd cc
+
+  pub sees_read : (place : ℕ) (library : Listed) → SaysLooked library n → o ≡ ends.Read place → Sees l.began new (look.Read place library)
+  sees_read place library says is = sees_read_by place library says is l.going.over refl
+
+  sees_conflict_by : (found : Conflict) (drawn : Option ℕ) → o ≡ ends.Conflict found drawn → (v : Option Conflict) → l.going.over ≡ v
+      → Sees l.began new (look.Conflict (met_at l.going.place found))
+  sees_conflict_by found drawn is None none = let other = read none in absurd cc
+  sees_conflict_by found drawn is (Some k) met =
+      let own = (stopped k met).0 in
+      let same : k ≡ found = cc in
+      let has = lent.met k (sym lent.over_is ∙ met) in
+      subst (λ (c : Conflict). Sees l.began new (look.Conflict (met_at l.going.place c)))
+      same (subst (λ (z : Pass). Sees l.began z (look.Conflict (met_at l.going.place k)))
+      (sym (stopped k met).1) (
+        record { mine = ap (λ (z : Pass). z.mine) lent.since; drawn = ap (λ (z : Pass). z.drawn) lent.since },
+        record {
+          placed = lent.placed;
+          looked = has.looked;
+          runs = ap (λ (z : Pass). z.runs) lent.since;
+          cause = inl has.cause;
+          written = has.written;
+        },
+      ))
+
+  pub sees_conflict : (found : Conflict) (drawn : Option ℕ) → o ≡ ends.Conflict found drawn
+      → Sees l.began new (look.Conflict (met_at l.going.place found))
+  sees_conflict found drawn is = sees_conflict_by found drawn is l.going.over refl
+
+-- ---- the session
+
+pub draws_none : (old new : Pass) (l : Look) → Sees old new l → new.drawn ≡ old.drawn
+draws_none old new (look.Read place library) sees = sees.1
+draws_none old new (look.Conflict met) sees = sees.0.drawn
+draws_none old new look.NoMemory sees = sees.drawn
+
+module _ (m : Member) (k : Pass) (l : Look) (is : IsMember m) (later : IsLaterPass m.known k) (sees : Sees m.known k l) where
+  pub looker_stays : IsMember (record m { known = k })
+  looker_stays = still_member m k is later (draws_none m.known k l sees)
+
+  pub session_looks : Looks m (record m { known = k }) l
+  session_looks = record { later = goes_on m k is later (draws_none m.known k l sees); sees = sees }

@@ -1,0 +1,45 @@
+use Rattle.std.proofs.Common.{◌≡◌, ℕ, sym, ap, subst, ◌∙◌}
+use Rattle.ranges.specs.Pairs.{Pairs}
+use Rattle.tlwords.specs.declared.outcome.Outcome.TheVariants as ends
+use Rattle.lawful.specs.declared.notes.Note.TheVariants.{Looked}
+use Rattle.transaction.specs.declared.outcome.Conflict.{Conflict as Met}
+use Rattle.transaction.specs.declared.outcome.Look.TheVariants as look
+use Rattle.transaction.specs.Looks.{Sees}
+use Rattle.transaction.specs.Lent.{Lent, IsLent}
+use Rattle.transaction.specs.Tries.{IsLawfulWith}
+use Rattle.transaction.proofs.Looked.{met_at, look_later, sees_read, sees_conflict}
+use Rattle.transaction.proofs.looking.show.Goals as goal
+use Rattle.transaction.proofs.looking.show.Goals.{in-Read+in-Done-1, in-Read+in-Refused-1, in-Read+in-Looked-1, in-Conflict}
+
+pub end-kit-requires : goal.end-kit-requires
+end-kit-requires c none =
+    subst (λ (writes : Pairs). IsLawfulWith c.args.live.run writes (Looked c.of.result)) (sym c.requires.blank)
+    (c.requires.lawful c.of.result c.of.ensures)
+
+pub returns-clause-later : goal.returns-clause-later
+returns-clause-later c =
+    let lent = subst (λ (v : Lent). IsLent v.run c.live.inside.stage c.live.inside.over) c.live.view_is c.live.invariant.1 in
+    look_later c.args.live.run c.live.inside.stage c.live.inside.over lent (Looked c.of.result) c.end-kit.result.0 c.end-kit.result.1
+    c.end-kit.ensures.over (λ none. c.end-kit.ensures.reading none c.requires.reading) c.end-kit.ensures.ended
+
+pub returns-clause-sees : goal.returns-clause-sees
+returns-clause-sees c =
+    let run = c.args.live.run in
+    let new = c.end-kit.result.0 in
+    let lent = subst (λ (v : Lent). IsLent v.run c.live.inside.stage c.live.inside.over) c.live.view_is c.live.invariant.1 in
+    let is_read = λ (place : ℕ) (is : c.end-kit.result.1 ≡ ends.Read place).
+        sees_read run c.live.inside.stage c.live.inside.over lent (Looked c.of.result) new c.end-kit.result.1
+        c.end-kit.ensures.over (λ none. c.end-kit.ensures.reading none c.requires.reading) c.end-kit.ensures.ended
+        place c.args.library c.of.ensures is in
+    elim c.match-ended.branch [
+    | in-Read+in-Done-1 w ↦ subst (Sees run.began new) (sym w.seen-is) (is_read w.in-Read.place w.in-Read.is)
+    | in-Read+in-Refused-1 w ↦ subst (Sees run.began new) (sym w.seen-is) (is_read w.in-Read.place w.in-Read.is)
+    | in-Read+in-Looked-1 w ↦ subst (Sees run.began new) (sym w.seen-is) (is_read w.in-Read.place w.in-Read.is)
+    | in-Conflict w ↦
+        let found = w.in-Conflict.conflict in
+        let met = w.met.ensures ∙ ap (λ (p : ℕ). met_at p found) c.place-place.ensures in
+        subst (Sees run.began new) (sym (w.seen-is ∙ ap (λ (m : Met). look.Conflict m) met))
+        (sees_conflict run c.live.inside.stage c.live.inside.over lent (Looked c.of.result) new c.end-kit.result.1
+        c.end-kit.ensures.over (λ none. c.end-kit.ensures.reading none c.requires.reading) c.end-kit.ensures.ended
+        found _ w.in-Conflict.is)
+    ]
