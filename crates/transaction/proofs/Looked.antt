@@ -1,16 +1,14 @@
 -- A look at the whole library: what may be noted of it, and how it ends.
-use Rattle.std.proofs.Common.{◌≡◌, ℕ, List, [], ◌∷◌, ◌++◌, Bool, false, Option, Some, None, inl, refl, sym, ap, subst, ◌∙◌}
-use Rattle.std.specs.Prelude.{IsPermutation}
-use Rattle.std.specs.declared.snapshot.Snapshot.{Snapshot}
+use Rattle.std.proofs.Common.{◌≡◌, ℕ, List, [], ◌∷◌, ◌++◌, false, Option, Some, None, inl, refl, sym, ap, subst, ◌∙◌}
 use Rattle.std.proofs.lemmas.List.Sorted.{IsPermutation-trans}
 use Rattle.bodystore.specs.Stages.{Staged}
 use Rattle.library.specs.declared.library.Ranked.{Ranked}
 use Rattle.library.specs.Library.{Verifies, Listed, ShowsInOrder}
 use Rattle.library.proofs.Showing.{verifies_permutation}
 use Rattle.ranges.specs.Pairs.{Pairs}
-use Rattle.cells.specs.State.{State, with_writes}
+use Rattle.cells.specs.State.{with_writes}
 use Rattle.cells.specs.Shows.{Shows}
-use Rattle.cells.specs.Sight.{Looks as LooksOn, Suits, Views}
+use Rattle.cells.specs.Sight.{Looks as LooksOn, Views}
 use Rattle.cells.specs.Lookups.{ForEach}
 use Rattle.commands.specs.Looking.{AreEntries}
 use Rattle.tlwords.specs.declared.mode.Mode.{Mode}
@@ -18,14 +16,12 @@ use Rattle.tlwords.specs.declared.mode.Mode.TheVariants.{Reading, Writing}
 use Rattle.tlwords.specs.declared.outcome.Conflict.{Conflict}
 use Rattle.tlwords.specs.declared.outcome.Outcome.{Outcome}
 use Rattle.tlwords.specs.declared.outcome.Outcome.TheVariants as ends
-use Rattle.tlwords.specs.Seen.{Answered, SeenGrows}
+use Rattle.tlwords.specs.Seen.{Answered}
 use Rattle.tlwords.specs.Calls.{work_done, IsAnswered, Ends}
 use Rattle.tlwords.specs.Commits.{writes_kept}
 use Rattle.tlwords.proofs.Seens.{seen_trans}
-use Rattle.lawful.specs.declared.notes.Given.{Given}
 use Rattle.lawful.specs.declared.notes.Note.{Note}
 use Rattle.lawful.specs.Lawful.{setting_of, library_terms}
-use Rattle.lawful.specs.Lawful as lawful
 use Rattle.lawful.specs.History.{library_after, state_after}
 use Rattle.lawful.proofs.Standing.{runs_suit}
 use Rattle.lawful.proofs.Running.{looks_are_lawful}
@@ -33,7 +29,7 @@ use Rattle.transaction.specs.declared.outcome.Look.{Look}
 use Rattle.transaction.specs.declared.outcome.Look.TheVariants as look
 use Rattle.transaction.specs.declared.outcome.Conflict.{Conflict as Met}
 use Rattle.transaction.specs.Members.{Member, IsMember}
-use Rattle.transaction.specs.Attempts.{Pass, AddsNothing, Meets}
+use Rattle.transaction.specs.Attempts.{Pass}
 use Rattle.transaction.specs.Looks.{Looks, Sees, SaysLooked}
 use Rattle.transaction.specs.Lent.{Lending, IsLent, is_writing, sight_of}
 use Rattle.transaction.specs.Tries.{IsLaterPass, MayBeLooked}

@@ -1,5 +1,5 @@
 -- Records stay true of a history as it grows.
-use Rattle.std.proofs.Common.{◌≡◌, ◌≢◌, List, Option, Some, None}
+use Rattle.std.proofs.Common.{◌≢◌, List, Option, Some, None}
 use Rattle.std.specs.Prelude.{All}
 use Rattle.std.proofs.lemmas.List.Elements.{All-weaker}
 use Rattle.library.specs.declared.command.Command.{Command}

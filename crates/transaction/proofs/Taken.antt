@@ -1,6 +1,6 @@
 -- The passes and the records that are taken out of sessions at the end.
-use Rattle.std.proofs.Common.{◌≡◌, ℕ, List, [], ◌∷◌, ◌++◌, Vec, refl, sym, ap, subst, ◌∙◌}
-use Rattle.std.specs.Prelude.{All, map}
+use Rattle.std.proofs.Common.{◌≡◌, List, [], ◌∷◌, ◌++◌, Vec, refl, sym, ap, ◌∙◌}
+use Rattle.std.specs.Prelude.{All}
 use Rattle.std.specs.declared.alloc.Global.{Global}
 use Rattle.std.proofs.lemmas.List.{map-append}
 use Rattle.std.proofs.lemmas.List.Elements.{All-append, All-cons, All-head, All-nil, All-tail}
@@ -10,7 +10,7 @@ use Rattle.lawful.specs.declared.notes.Given.{Given}
 use Rattle.transaction.specs.declared.outcome.Record.{Record}
 use Rattle.transaction.specs.Members.{Home, Member, IsOf, IsMember}
 use Rattle.transaction.specs.Attempts.{Pass}
-use Rattle.transaction.specs.Closings.{AreTaken, passes_of, lists_of}
+use Rattle.transaction.specs.Closings.{AreTaken, passes_of}
 
 pub none_taken : AreTaken [] [] []
 none_taken = record { members_are = All-nil IsMember; passes_are = refl; records_are = refl }

@@ -1,5 +1,4 @@
 use Rattle.std.proofs.Common.{◌≡◌, sym, ap, subst, ◌∙◌}
-use Rattle.mmsyntax.specs.Tables.{Tables}
 use Rattle.library.specs.Library.{Setting, Verifies}
 use Rattle.lawful.specs.Lawful.{setting_of}
 use Rattle.transaction.specs.Members.{Home}

@@ -28,18 +28,18 @@ returns-clause-sees c =
     let new = c.end-kit.result.0 in
     let lent = subst (λ (v : Lent). IsLent v.run c.live.inside.stage c.live.inside.over) c.live.view_is c.live.invariant.1 in
     let is_read = λ (place : ℕ) (is : c.end-kit.result.1 ≡ ends.Read place).
-        sees_read run c.live.inside.stage c.live.inside.over lent (Looked c.of.result) new c.end-kit.result.1
-        c.end-kit.ensures.over (λ none. c.end-kit.ensures.reading none c.requires.reading) c.end-kit.ensures.ended
-        place c.args.library c.of.ensures is in
+    sees_read run c.live.inside.stage c.live.inside.over lent (Looked c.of.result) new c.end-kit.result.1
+    c.end-kit.ensures.over (λ none. c.end-kit.ensures.reading none c.requires.reading) c.end-kit.ensures.ended
+    place c.args.library c.of.ensures is in
     elim c.match-ended.branch [
-    | in-Read+in-Done-1 w ↦ subst (Sees run.began new) (sym w.seen-is) (is_read w.in-Read.place w.in-Read.is)
-    | in-Read+in-Refused-1 w ↦ subst (Sees run.began new) (sym w.seen-is) (is_read w.in-Read.place w.in-Read.is)
-    | in-Read+in-Looked-1 w ↦ subst (Sees run.began new) (sym w.seen-is) (is_read w.in-Read.place w.in-Read.is)
-    | in-Conflict w ↦
-        let found = w.in-Conflict.conflict in
-        let met = w.met.ensures ∙ ap (λ (p : ℕ). met_at p found) c.place-place.ensures in
-        subst (Sees run.began new) (sym (w.seen-is ∙ ap (λ (m : Met). look.Conflict m) met))
-        (sees_conflict run c.live.inside.stage c.live.inside.over lent (Looked c.of.result) new c.end-kit.result.1
-        c.end-kit.ensures.over (λ none. c.end-kit.ensures.reading none c.requires.reading) c.end-kit.ensures.ended
-        found _ w.in-Conflict.is)
+      | in-Read+in-Done-1 w ↦ subst (Sees run.began new) (sym w.seen-is) (is_read w.in-Read.place w.in-Read.is)
+      | in-Read+in-Refused-1 w ↦ subst (Sees run.began new) (sym w.seen-is) (is_read w.in-Read.place w.in-Read.is)
+      | in-Read+in-Looked-1 w ↦ subst (Sees run.began new) (sym w.seen-is) (is_read w.in-Read.place w.in-Read.is)
+      | in-Conflict w ↦
+          let found = w.in-Conflict.conflict in
+          let met = w.met.ensures ∙ ap (λ (p : ℕ). met_at p found) c.place-place.ensures in
+          subst (Sees run.began new) (sym (w.seen-is ∙ ap (λ (m : Met). look.Conflict m) met))
+          (sees_conflict run c.live.inside.stage c.live.inside.over lent (Looked c.of.result) new c.end-kit.result.1
+          c.end-kit.ensures.over (λ none. c.end-kit.ensures.reading none c.requires.reading) c.end-kit.ensures.ended
+          found _ w.in-Conflict.is)
     ]
