@@ -1,5 +1,5 @@
 -- What a library leaves at its end: the records of its sessions are its history, and its cells show the library after it.
-use Rattle.std.proofs.Common.{◌≡◌, ◌≢◌, ◌∙◌, ap, sym, subst, refl, ℕ, zero, suc, ◌+◌, ◌*◌, ◌<◌, ◌≤◌, ◌%◌, List, [], ◌∷◌, length, map, Option, Some, None, arith}
+use Rattle.std.proofs.Common.{◌≡◌, ◌≢◌, ◌∙◌, ap, sym, subst, refl, ℕ, zero, suc, ◌+◌, ◌*◌, ◌≤◌, List, [], ◌∷◌, length, map, Option, Some, None, arith}
 use Rattle.std.specs.Prelude.{slice_get, option_map, All, IsPermutation, Err}
 use Rattle.std.proofs.lemmas.List.{length-map, take_all}
 use Rattle.std.proofs.lemmas.Option.{slice_get-map, slice_get_within, get_or_from_slice_get}
@@ -17,7 +17,7 @@ use Rattle.tlwords.specs.declared.closing.ClosedWords.{ClosedWords}
 use Rattle.tlwords.specs.Seen.{Seen}
 use Rattle.cells.specs.State.{State, most_words}
 use Rattle.cells.specs.Shows.{Shows}
-use Rattle.cells.specs.Sight.{Suits, Views, Looks}
+use Rattle.cells.specs.Sight.{Suits, Looks}
 use Rattle.cells.proofs.Members.{has_mapped, mapped_has, all_has, all_from_has}
 use Rattle.commands.specs.Looking.{AreEntries}
 use Rattle.lawful.specs.declared.notes.Note.{Note}
@@ -144,7 +144,8 @@ module _ (home : Home) (members : List Member) (closed : ClosedLibrary) (is : Is
     module _ (history : List CodeEntry) (all : map Some history ≡ entries) where
       recorded_by : AreRecordedBy members history
       recorded_by i e at =
-          let t = ordered.told_by i e (subst (λ (xs : List (Option CodeEntry)). slice_get xs i ≡ Some (Some e)) all (mapped_at history i e at)) in
+          let there = subst (λ (xs : List (Option CodeEntry)). slice_get xs i ≡ Some (Some e)) all (mapped_at history i e at) in
+          let t = ordered.told_by i e there in
           let o = owner t.0 t.2 in
           (o.0, t.1, o.1, subst (Has t.1) o.2 t.3, t.4.0, t.4.1)
 
@@ -163,7 +164,8 @@ module _ (home : Home) (members : List Member) (closed : ClosedLibrary) (is : Is
 
       is_history : history_of seen ≡ map told history
       is_history =
-          same_told (history_of seen) history (length-entries_of seen.history seen.notes ∙ is.words.closes.shows.clock_is ∙ sym long) entry_is
+          same_told (history_of seen) history
+          (length-entries_of seen.history seen.notes ∙ is.words.closes.shows.clock_is ∙ sym long) entry_is
 
       grows : All (λ (m : Member). Grows (history_of m.known.seen) (map told history)) members
       grows =

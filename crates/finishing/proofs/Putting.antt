@@ -1,5 +1,5 @@
 -- Records put at their places: each entry is one that a record tells, and a place stays empty only where no record has its number.
-use Rattle.std.proofs.Common.{◌≡◌, ◌∙◌, ap, sym, subst, refl, ℕ, zero, suc, ◌+◌, ◌<◌, ◌≤◌, List, [], ◌∷◌, ◌++◌, length, map, Option, Some, None, inl, inr, ⊎_elim, arith, append_assoc}
+use Rattle.std.proofs.Common.{◌≡◌, ◌∙◌, ap, sym, subst, refl, ℕ, zero, suc, ◌+◌, ◌<◌, List, [], ◌∷◌, ◌++◌, length, Option, Some, None, inl, inr, ⊎_elim, arith, append_assoc}
 use Rattle.std.specs.Prelude.{◌⊎◌, slice_get, replicate, Vec}
 use Rattle.std.specs.declared.alloc.Global.{Global}
 use Rattle.std.proofs.Math.ListN.{set}
@@ -63,8 +63,8 @@ module _ (front : List Record) (r : Record) (first old : List (Option Entry)) (p
         long = p.long;
         put = λ i e at. earlier i e (p.put i e at);
         none = λ i at. unnumbered i at (λ is.
-        let lt = slice_get_within old i None at in
-        elim outside [ inl none ↦ omega (arith, is, none) | inr past ↦ omega (arith, is, past, lt) ]);
+            let lt = slice_get_within old i None at in
+            elim outside [ inl none ↦ omega (arith, is, none) | inr past ↦ omega (arith, is, past, lt) ]);
       }
 
   pub one_put : (k : ℕ) (e : Entry) → r.number ≡ suc k → k < length old → told e ≡ entry_recorded r.done

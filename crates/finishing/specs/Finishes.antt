@@ -1,5 +1,5 @@
 -- What finishing a library in running words gives, and when it is refused.
-use Rattle.std.specs.Prelude.{◌≡◌, ◌<◌, ◌≤◌, ℕ, suc, ◌%◌, Some, List, [], length, map, slice_get, All, Result, Ok, Err}
+use Rattle.std.specs.Prelude.{◌≡◌, ◌<◌, ◌≤◌, ℕ, suc, ◌%◌, Some, List, length, map, slice_get, All, Result, Ok, Err}
 use Rattle.library.specs.Library.{Listed, ShowsInOrder}
 use Rattle.library.specs.Histories.{Grows, IsLegal, EntriesFit, after_all, told}
 use Rattle.library.specs.declared.history.Entry.{Entry as CodeEntry}
@@ -16,8 +16,8 @@ use Rattle.transaction.specs.declared.outcome.Record.{Record}
 use Rattle.finishing.specs.declared.error.FinishError.{FinishError}
 use Rattle.finishing.specs.declared.error.FinishError.TheVariants.{Missing, Held, NoMemory}
 
--- the words are those of the library at its end: into the one history that they show grows what each of these sessions had seen; and where all
--- sessions of the library are handed in, no lock is held, and the clock is how many numbers they drew
+-- the words are those of the library at its end: into the one history that they show grows what each of these sessions had seen; and where
+-- all sessions of the library are handed in, no lock is held, and the clock is how many numbers they drew
 abbrev pub AreItsWords : Home → List Member → ClosedWords → Type 0
 AreItsWords home members words =
     ClosesAll library_terms home.given home.words.base home.store home.sessions (passes_of members) words
@@ -42,9 +42,9 @@ AreRecordedBy members history =
     (i : ℕ) (e : CodeEntry) → slice_get history i ≡ Some e
     → (m : Member) × (r : Record) × Has m members × Has r m.records × (r.number ≡ suc i) × (entry_recorded r.done ≡ told e)
 
--- the history has one entry for each number up to the clock, and is the one that the words show; what each session had seen grows into it; each
--- entry is the record of a session; it is legal from the library at the opening, with commands within the limits; and the library is the one
--- after all of it, and the one that the closed words show
+-- the history has one entry for each number up to the clock, and is the one that the words show; what each session had seen grows into it;
+-- each entry is the record of a session; it is legal from the library at the opening, with commands within the limits; and the library is
+-- the one after all of it, and the one that the closed words show
 pub record IsFinished (home : Home) (members : List Member) (history : List CodeEntry) (library : Listed) : Type 0 where
   pub words : ClosedWords
   pub its : AreItsWords home members words

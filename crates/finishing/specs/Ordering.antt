@@ -1,5 +1,5 @@
 -- Of the code's inside, apart from the rules: records put in the order of their numbers.
-use Rattle.std.specs.Prelude.{◌≡◌, ◌<◌, ◌≤◌, ℕ, suc, ◌%◌, ◌⊎◌, Option, Some, None, List, length, slice_get}
+use Rattle.std.specs.Prelude.{◌≡◌, ◌<◌, ℕ, suc, ◌%◌, ◌⊎◌, Option, Some, None, List, length, slice_get}
 use Rattle.library.specs.declared.history.Entry.{Entry}
 use Rattle.library.specs.Histories.{told}
 use Rattle.ranges.specs.Ranges.{Has}

@@ -13,14 +13,14 @@ use library::{History, PlainLibrary};
 use std::alloc::{AllocError, Global};
 use transaction::{ClosedLibrary, Library, Session};
 
-/// Ends a library: its whole history, into which grows what each of these sessions had seen, and the library after it. The sessions, none too, are
-/// of this library.
+/// Ends a library: its whole history, into which grows what each of these sessions had seen, and the library after it. The sessions, none
+/// too, are of this library.
 ///
 /// # Errors
 ///
-/// In this order: `Missing`, exactly where a number up to the clock was drawn by none of these sessions; `Held`, exactly where no number is missing
-/// and the lock of a cell is held; want of memory. Where all the library's sessions are handed in, neither of the first two is answered. The
-/// library and the sessions are gone then.
+/// In this order: `Missing`, exactly where a number up to the clock was drawn by none of these sessions; `Held`, exactly where no number is
+/// missing and the lock of a cell is held; want of memory. Where all the library's sessions are handed in, neither of the first two is
+/// answered. The library and the sessions are gone then.
 pub fn finish(
     alloc: Global,
     library: Library,

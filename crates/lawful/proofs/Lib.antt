@@ -3,7 +3,7 @@ pub mod Entries
 pub mod Standing
 pub mod Closed
 mod Unread
-pub mod Naming
 pub mod Running
+pub mod Naming
 pub mod Openings
 mod Small

@@ -1,6 +1,6 @@
 -- The ranges of a store that the range cells of a shown library name are enough to show it.
 use Rattle.std.proofs.Common.{◌≡◌, ◌≢◌, ◌∙◌, ap, sym, subst, refl, ℕ, zero, suc, ◌+◌, ◌*◌, ◌/◌, ◌%◌, ◌^◌, ◌<◌, ◌≤◌, true, List, [], ◌∷◌, length, take, drop, Some, inl, inr, arith}
-use Rattle.std.specs.Prelude.{◌⊎◌, nat_lt, slice_get, slice_index, All}
+use Rattle.std.specs.Prelude.{◌⊎◌, nat_lt, slice_get, slice_index}
 use Rattle.std.proofs.lemmas.Bool.{and_parts, ltb-true}
 use Rattle.std.proofs.lemmas.Option.{slice_get-get_or, slice_get_within, get_or_from_slice_get}
 use Rattle.mmsyntax.specs.declared.statement.Kind.{Kind}
@@ -34,7 +34,8 @@ part_is (suc s) words [] at = front_is words [] (λ i w h. let none = at i w h i
 part_is (suc s) words (x ∷ store) at =
     part_is s words store (λ i w h. ap (slice_get (x ∷ store)) (let e : suc (s + i) ≡ suc s + i = omega arith in e) ∙ at i w h)
 
-part_within : (start : ℕ) (words store : List ℕ) → words ≢ [] → ((i w : ℕ) → slice_get words i ≡ Some w → slice_get store (start + i) ≡ Some w)
+part_within : (start : ℕ) (words store : List ℕ) → words ≢ []
+    → ((i w : ℕ) → slice_get words i ≡ Some w → slice_get store (start + i) ≡ Some w)
     → start + length words ≤ length store
 part_within start [] store some at = absurd (some refl)
 part_within start (w ∷ words) store some at =

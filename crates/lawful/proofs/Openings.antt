@@ -8,7 +8,7 @@ use Rattle.ranges.specs.declared.range.Range.{Range as Place}
 use Rattle.ranges.proofs.Named.{part_get}
 use Rattle.cells.specs.State.{most_words}
 use Rattle.cells.specs.Slots.{cell_count}
-use Rattle.cells.specs.Plain.{range_in, ranges_in}
+use Rattle.cells.specs.Plain.{ranges_in}
 use Rattle.cells.proofs.Stores.{place_of}
 use Rattle.lawful.specs.Laws.{OpenedCellsOpenWell}
 use Rattle.lawful.proofs.Naming.{named_shows, shown_names}
@@ -19,7 +19,8 @@ stored_at store places r has i w at =
     let f = place_of store places r has in
     let start : r.start ≡ f.1.start = ap (λ (q : Range). q.start) f.3 in
     let here = part_get f.1.len f.1.start i w store (subst (λ (q : Range). slice_get q.words i ≡ Some w) f.3 at) in
-    subst (λ (n : ℕ). (slice_get store (n + i) ≡ Some w) × (n + i < length store)) (sym start) (here, slice_get_within store (f.1.start + i) w here)
+    subst (λ (n : ℕ). (slice_get store (n + i) ≡ Some w) × (n + i < length store)) (sym start)
+    (here, slice_get_within store (f.1.start + i) w here)
 
 pub opened_cells_open_well : OpenedCellsOpenWell
 opened_cells_open_well g room made verifies opens =
@@ -31,5 +32,6 @@ opened_cells_open_well g room made verifies opens =
     let store = made.store.items in
     let places = made.ranges.items in
     let lib = opening g.database.value in
-    let shows = named_shows g.slots (length store) values store (ranges_in store places) short (stored_at store places) long lib opens.shows.0 in
+    let shows =
+    named_shows g.slots (length store) values store (ranges_in store places) short (stored_at store places) long lib opens.shows.0 in
     (record { count = long; shows = shows; verifies = verifies }, shown_names g.slots values _ lib shows)

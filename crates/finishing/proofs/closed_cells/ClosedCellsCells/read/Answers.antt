@@ -20,7 +20,8 @@ returns-clause-ok c =
     let count = readable.count in
     let many = length-map cells (λ (x : ClosedCell). x.value) in
     let lt : c.args.cell < length cells = omega (arith, below, count, many) in
-    let at : slice_get cells c.args.cell ≡ Some c.index.result.now = slice_get_read cells (length cells) c.args.cell c.index.result.now refl lt c.index.ensures in
+    let at : slice_get cells c.args.cell ≡ Some c.index.result.now =
+    slice_get_read cells (length cells) c.args.cell c.index.result.now refl lt c.index.ensures in
     let value : slice_get (values_of a) c.args.cell ≡ Some c.index.result.now.value =
     slice_get-map (λ (x : ClosedCell). x.value) cells c.args.cell ∙ ap (option_map (λ (x : ClosedCell). x.value)) at in
     subst (λ (x : CellsRead). Reads c.args.cell c.index.result.now.value (sight_of x) (sight_of x)) same
