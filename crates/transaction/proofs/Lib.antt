@@ -1,0 +1,5 @@
+pub mod Standing
+pub mod Recorded
+pub mod Committing
+pub mod Trying
+pub mod Applying
