@@ -3,6 +3,6 @@ pub mod Entries
 pub mod Standing
 mod Closed
 mod Unread
-mod Running
+pub mod Running
 mod Openings
 mod Small

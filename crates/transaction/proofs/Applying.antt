@@ -54,13 +54,13 @@ module _ (g : Given) (k : Pass) (mode : Mode) (cs : List Command) (old : Lending
       may_be_done replies does c r is replied =
           (runs_are_lawful new.given (sight_of old) (sight_of new) c (sym onward.setting) lends.blank onward (fit_for c.value is)).0 r
           (subst (λ (x : List Command). DoesAll (sight_of old) (sight_of new) x r.value) (sym is)
-              (subst (λ (x : List Reply). DoesAll (sight_of old) (sight_of new) cs x) (sym replied) does))
+          (subst (λ (x : List Reply). DoesAll (sight_of old) (sight_of new) cs x) (sym replied) does))
 
       pub may_be_refused : (refused : Refusal) → RefusesAll (sight_of old) (sight_of new) cs refused → MayBeRefused new cs refused
       may_be_refused refused refuses c r is why =
           (runs_are_lawful new.given (sight_of old) (sight_of new) c (sym onward.setting) lends.blank onward (fit_for c.value is)).1 r
           (subst (λ (x : List Command). RefusesAll (sight_of old) (sight_of new) x r.value) (sym is)
-              (subst (λ (x : Refusal). RefusesAll (sight_of old) (sight_of new) cs x) (sym why) refuses))
+          (subst (λ (x : Refusal). RefusesAll (sight_of old) (sight_of new) cs x) (sym why) refuses))
 
     -- where an edit is done, something is kept aside
     writes_by : (edits : Bool) → WritesIfEdit edits (sight_of old) (sight_of new) → edits ≡ true → writes_kept new.going.slots ≢ []

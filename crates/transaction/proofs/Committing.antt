@@ -69,68 +69,68 @@ module _ (l : Lending) (stage : Staged) (over : Option Conflict) (lent : IsLent 
   history : (k : Pass) → k.home ≡ l.going.known.home → Knows library_terms k → IsHistoryOf l.given k.home.base k.seen
   history k home knows =
       let on : IsPassOn l.given k = subst (λ (h : Home Given). (h.setting ≡ Some l.given) × (h.room ≤ most_words))
-          (sym (home ∙ ap (λ (z : Pass). z.home) lent.since)) lent.on in
+      (sym (home ∙ ap (λ (z : Pass). z.home) lent.since)) lent.on in
       (sessions_stand l.given k on knows).0
 
   -- ---- commands that are done
 
   module _ (c : Snapshot (List Command)) (r : Snapshot (List Reply)) (replies : List Reply) (is : c.value ≡ cs) (replied : r.value ≡ replies)
-      where
-    commit_recorded : (number : ℕ) (k : Pass) → IsCommitted library_terms number (work_done l.going (Done c r)) l.going.known k
-        → IsRecordIn (history_of k.seen) (record { number = number; done = Some (cs, replies) })
-    commit_recorded number k w =
-        let work = work_done l.going (Done c r) in
-        let at = (history k (ap (λ (z : Pass). z.home) w.is) w.knows).done w.index work w.done in
-        let here : number ≡ suc at.0 = (let a : suc w.index ≡ at.0 + 1 = at.1 in let b : number ≡ suc w.index = w.number_is in omega arith) in
-        (at.0, here, at.2 ∙ (λ j. Some (done_entry (is j) (replied j))))
+    where
+      commit_recorded : (number : ℕ) (k : Pass) → IsCommitted library_terms number (work_done l.going (Done c r)) l.going.known k
+          → IsRecordIn (history_of k.seen) (record { number = number; done = Some (cs, replies) })
+      commit_recorded number k w =
+          let work = work_done l.going (Done c r) in
+          let at = (history k (ap (λ (z : Pass). z.home) w.is) w.knows).done w.index work w.done in
+          let here : number ≡ suc at.0 = (let a : suc w.index ≡ at.0 + 1 = at.1 in let b : number ≡ suc w.index = w.number_is in omega arith) in
+          (at.0, here, at.2 ∙ (λ j. Some (done_entry (is j) (replied j))))
 
-    pub commits : (number : ℕ) (k : Pass) → has_edit cs ≡ true
-        → IsCommitted library_terms number (work_done l.going (Done c r)) l.going.known k
-        → Tries cs l.began k (outcome.Committed number replies) (Some (record { number = number; done = Some (cs, replies) }))
-    commits number k edits w =
-        let work = work_done l.going (Done c r) in
-        let drawn : k.drawn ≡ l.began.drawn ++ number ∷ [] =
-            ap (λ (z : Pass). z.drawn) w.is ∙ ap (λ (z : Pass). z.drawn ++ number ∷ []) lent.since in
-        let behind : length l.began.seen.history < number = (
+      pub commits : (number : ℕ) (k : Pass) → has_edit cs ≡ true
+          → IsCommitted library_terms number (work_done l.going (Done c r)) l.going.known k
+          → Tries cs l.began k (outcome.Committed number replies) (Some (record { number = number; done = Some (cs, replies) }))
+      commits number k edits w =
+          let work = work_done l.going (Done c r) in
+          let drawn : k.drawn ≡ l.began.drawn ++ number ∷ [] =
+          ap (λ (z : Pass). z.drawn) w.is ∙ ap (λ (z : Pass). z.drawn ++ number ∷ []) lent.since in
+          let behind : length l.began.seen.history < number = (
           let a : length l.began.seen.history ≤ length l.going.known.seen.history = lent.grows.0.0 in
           let b : length l.going.known.seen.history ≤ w.index = w.later in
           let e : number ≡ suc w.index = w.number_is in
           omega arith
-        ) in
-        record {
-          later = later_by k (ap (λ (z : Pass). z.home) w.is) (ap (λ (z : Pass). z.name) w.is) w.grows w.knows;
-          gains = (
-            edits,
-            behind,
-            drawn,
-            (
-              work,
-              (is, replied),
-              ap (λ (z : Pass). z.mine) w.is ∙ ap (λ (z : Pass). z.mine ++ Committed number work ∷ []) lent.since,
-            ),
-          );
-          recorded = (drawn, commit_recorded number k w);
-        }
+          ) in
+          record {
+            later = later_by k (ap (λ (z : Pass). z.home) w.is) (ap (λ (z : Pass). z.name) w.is) w.grows w.knows;
+            gains = (
+              edits,
+              behind,
+              drawn,
+              (
+                work,
+                (is, replied),
+                ap (λ (z : Pass). z.mine) w.is ∙ ap (λ (z : Pass). z.mine ++ Committed number work ∷ []) lent.since,
+              ),
+            );
+            recorded = (drawn, commit_recorded number k w);
+          }
 
-    pub reads : (k : Pass) → has_edit cs ≡ false → IsAnswered library_terms l.going.place (work_done l.going (Done c r)) l.going.known k
-        → Tries cs l.began k (outcome.Read l.going.place replies) None
-    reads k edits w =
-        let work = work_done l.going (Done c r) in
-        let drawn : k.drawn ≡ l.began.drawn = ap (λ (z : Pass). z.drawn) w.is ∙ ap (λ (z : Pass). z.drawn) lent.since in
-        record {
-          later = later_by k (ap (λ (z : Pass). z.home) w.is) (ap (λ (z : Pass). z.name) w.is) w.grows w.knows;
-          gains = (
-            edits,
-            lent.placed,
-            drawn,
-            (
-              work,
-              (is, replied),
-              ap (λ (z : Pass). z.mine) w.is ∙ ap (λ (z : Pass). z.mine ++ Answered l.going.place work ∷ []) lent.since,
-            ),
-          );
-          recorded = drawn;
-        }
+      pub reads : (k : Pass) → has_edit cs ≡ false → IsAnswered library_terms l.going.place (work_done l.going (Done c r)) l.going.known k
+          → Tries cs l.began k (outcome.Read l.going.place replies) None
+      reads k edits w =
+          let work = work_done l.going (Done c r) in
+          let drawn : k.drawn ≡ l.began.drawn = ap (λ (z : Pass). z.drawn) w.is ∙ ap (λ (z : Pass). z.drawn) lent.since in
+          record {
+            later = later_by k (ap (λ (z : Pass). z.home) w.is) (ap (λ (z : Pass). z.name) w.is) w.grows w.knows;
+            gains = (
+              edits,
+              lent.placed,
+              drawn,
+              (
+                work,
+                (is, replied),
+                ap (λ (z : Pass). z.mine) w.is ∙ ap (λ (z : Pass). z.mine ++ Answered l.going.place work ∷ []) lent.since,
+              ),
+            );
+            recorded = drawn;
+          }
 
   -- ---- commands that are refused
 
@@ -158,6 +158,11 @@ module _ (l : Lending) (stage : Staged) (over : Option Conflict) (lent : IsLent 
 
   abbrev pub met_of : Conflict → Met
   met_of c = record { place = l.going.place; cell = c.cell; word = c.word; before = c.before }
+
+  pub met_is : (c : Conflict) (place : ℕ) (met : Met) → met ≡ record { place = place; cell = c.cell; word = c.word; before = c.before }
+      → place ≡ l.going.place → met ≡ met_of c
+  met_is c place met is at =
+      is ∙ ap (λ (p : ℕ). let z : Met = record { place = p; cell = c.cell; word = c.word; before = c.before } in z) at
 
   rejected_meets : (c : Conflict) (drawn : Option ℕ) (k : Pass) → k.runs ≡ l.going.known.runs → IsRejected library_terms c drawn l.going k
       → Meets l.began k (met_of c)
@@ -190,7 +195,7 @@ module _ (l : Lending) (stage : Staged) (over : Option Conflict) (lent : IsLent 
       let e = w.entry in
       let same = e.4 in
       let drawn : k.drawn ≡ l.began.drawn ++ number ∷ [] =
-          ap (λ (z : Pass). z.drawn) same ∙ ap (λ (z : Pass). z.drawn ++ number ∷ []) lent.since in
+      ap (λ (z : Pass). z.drawn) same ∙ ap (λ (z : Pass). z.drawn ++ number ∷ []) lent.since in
       let void = (history k (ap (λ (z : Pass). z.home) same) w.knows).void e.0 e.3 in
       record {
         later = later_by k (ap (λ (z : Pass). z.home) same) (ap (λ (z : Pass). z.name) same) w.grows w.knows;

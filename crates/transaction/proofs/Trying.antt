@@ -63,6 +63,24 @@ module _ (m : Member) (is : IsMember m) where
         counted = λ many. let no : true ≡ false = sym many ∙ few in absurd cc;
       }
 
+-- the session whose records are these then
+module _ (m : Member) (is : IsMember m) (cs : List Command) (kit k : Pass) (o : Outcome) (r : Option Record) (records : List Record)
+    (same : kit ≡ m.known) (tries : Tries cs kit k o r) (are : records ≡ with_record m.records r) where
+  tries_here : Tries cs m.known k o r
+  tries_here = subst (λ (z : Pass). Tries cs z k o r) same tries
+
+  pub run_member : IsMember (record m { known = k; records = records })
+  run_member = subst (λ (rs : List Record). IsMember (record m { known = k; records = rs })) (sym are)
+      (member_after m is k r tries_here.later tries_here.recorded)
+
+  pub run_attempts : has_too_many cs ≡ false → Attempts cs m (record m { known = k; records = records }) o
+  run_attempts few = subst (λ (rs : List Record). Attempts cs m (record m { known = k; records = rs }) o) (sym are)
+      (attempts_run m is cs k o r few tries_here)
+
+pub no_record : (r : Option Record) → ((x : Record) → r ≢ Some x) → r ≡ None
+no_record None none = refl
+no_record (Some x) none = absurd (none x refl)
+
 -- ---- tries until there is no conflict
 
 later_trans : (a b c : Member) → IsLater a b → IsLater b c → IsLater a c
@@ -214,7 +232,7 @@ module _ (cs : List Command) (old now next : Member) (o : Outcome) (so_far : Tri
   submits_none (inl same) is =
       let g = subst (Gains cs now.known next.known) is a.gains in
       let all : next.known ≡ tried old.known [] 0 = g.0 ∙ (ap (λ (m : Member). m.known) same
-          ∙ tried_nothing old.known) in
+      ∙ tried_nothing old.known) in
       record {
         later = later_by so_far.since;
         numbers = [];

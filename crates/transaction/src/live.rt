@@ -24,7 +24,7 @@ pub(crate) struct Stopped;
 /// A run of a session, which commands may be given. Contracts see what its pass knew at the beginning, and the run as it goes.
 pub(crate) struct Live<'w> {
     alloc: Global,
-    slots: usize,
+    pub(crate) slots: usize,
     run: Run<'w, LibraryLaw>,
     stage: Stage,
     // the conflict that ended the run
