@@ -1,5 +1,5 @@
 -- What a run of commands gives that a session's run was lent to.
-use Rattle.std.proofs.Common.{◌≡◌, ◌≢◌, Bool, true, false, List, [], Some, None, refl, sym, ap, subst, ◌∙◌}
+use Rattle.std.proofs.Common.{◌≡◌, List, sym, ap, subst, ◌∙◌}
 use Rattle.std.specs.Prelude.{All}
 use Rattle.std.specs.declared.snapshot.Snapshot.{Snapshot}
 use Rattle.library.specs.declared.command.Command.{Command}
@@ -7,41 +7,18 @@ use Rattle.library.specs.declared.command.Reply.{Reply}
 use Rattle.library.specs.declared.reason.Refused.{Refused as Refusal}
 use Rattle.library.specs.Library.{Setting}
 use Rattle.library.specs.Fitting.{CommandFits}
-use Rattle.library.specs.Transactions.{has_edit}
-use Rattle.ranges.specs.Pairs.{Pairs, written}
 use Rattle.cells.specs.Sight.{Onward}
-use Rattle.commands.specs.Answers.{has_staging, MayDo, WritesIfEdit, DoesAll, RefusesAll}
-use Rattle.commands.proofs.Allowed.{may_do_all}
+use Rattle.commands.specs.Answers.{has_staging, DoesAll, RefusesAll}
 use Rattle.tlwords.specs.declared.mode.Mode.{Mode}
-use Rattle.tlwords.specs.declared.mode.Mode.TheVariants.{Reading, Writing}
-use Rattle.tlwords.specs.Commits.{writes_kept}
 use Rattle.lawful.specs.declared.notes.Given.{Given}
 use Rattle.lawful.specs.Lawful.{setting_of}
 use Rattle.lawful.proofs.Running.{runs_are_lawful}
 use Rattle.transaction.specs.Attempts.{Pass}
-use Rattle.transaction.specs.Lent.{Lending, Lends, sight_of, is_writing}
+use Rattle.transaction.specs.Lent.{Lending, Lends, sight_of}
 use Rattle.transaction.specs.Tries.{MayBeDone, MayBeRefused}
 
-reads_only : (mode : Mode) → is_writing mode ≡ false → mode ≡ Reading
-reads_only Reading is = refl
-reads_only Writing is = cc
-
 module _ (g : Given) (k : Pass) (mode : Mode) (cs : List Command) (old : Lending) (lends : Lends g k mode (has_staging cs) old) where
-  -- it may do the commands
-  pub may_do : (has_edit cs ≡ true → mode ≡ Writing) → All (MayDo (sight_of old)) cs
-  may_do writes =
-      may_do_all (sight_of old) cs (λ edits. ap is_writing (lends.mode_is ∙ writes edits)) (λ staging. lends.may ∙ staging)
-
   module _ (new : Lending) (onward : Onward (sight_of old) (sight_of new)) where
-    pub began_is : new.began ≡ k
-    began_is = onward.origin ∙ lends.began
-
-    pub may_stage : new.may_stage ≡ has_staging cs
-    may_stage = onward.may_stage ∙ lends.may
-
-    pub still_reading : mode ≡ Reading → new.going.mode ≡ Reading
-    still_reading is = reads_only new.going.mode (onward.may_write ∙ ap is_writing (lends.mode_is ∙ is))
-
     setting_is : setting_of g ≡ setting_of new.given
     setting_is = sym (onward.setting ∙ ap setting_of lends.given)
 
@@ -61,15 +38,3 @@ module _ (g : Given) (k : Pass) (mode : Mode) (cs : List Command) (old : Lending
           (runs_are_lawful new.given (sight_of old) (sight_of new) c (sym onward.setting) lends.blank onward (fit_for c.value is)).1 r
           (subst (λ (x : List Command). RefusesAll (sight_of old) (sight_of new) x r.value) (sym is)
           (subst (λ (x : Refusal). RefusesAll (sight_of old) (sight_of new) cs x) (sym why) refuses))
-
-    -- where an edit is done, something is kept aside
-    writes_by : (edits : Bool) → WritesIfEdit edits (sight_of old) (sight_of new) → edits ≡ true → writes_kept new.going.slots ≢ []
-    writes_by true some is none =
-        let at = some.1.1 in
-        let nothing = ap (written some.0) none in
-        cc
-    writes_by false looks is none = cc
-
-    pub writes_some : (replies : List Reply) → DoesAll (sight_of old) (sight_of new) cs replies → has_edit cs ≡ true
-        → writes_kept new.going.slots ≢ []
-    writes_some replies does = writes_by (has_edit cs) does.writes

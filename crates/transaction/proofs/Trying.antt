@@ -104,14 +104,6 @@ pub record Tried (cs : List Command) (old now : Member) : Type 0 where
   pub counted : now.known.runs ≡ old.known.runs + runs
   pub mine : now.known.mine ≡ old.known.mine
 
-home_by : {P : Type 0} {old now : Member} → (now ≡ old) ⊎ (IsLater old now × P) → now.known.home ≡ old.known.home
-home_by (inl same) = ap (λ (m : Member). m.known.home) same
-home_by (inr (later, more)) = later.home
-
--- the session is of the same library
-pub tried_home : (cs : List Command) (old now : Member) → Tried cs old now → now.known.home ≡ old.known.home
-tried_home cs old now t = home_by t.since
-
 pub tried_none : (cs : List Command) (m : Member) → Tried cs m m
 tried_none cs m =
     record {
