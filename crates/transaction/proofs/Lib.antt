@@ -1,5 +1,4 @@
 pub mod Standing
-pub mod RecordedDraft
 pub mod Staying
 pub mod Learning
 pub mod Looked
@@ -10,3 +9,7 @@ pub mod Sighted
 mod Reading
 pub mod Ended
 pub mod Opened
+pub mod Recorded
+pub mod Committing
+pub mod Trying
+pub mod Applying

@@ -10,7 +10,7 @@ use Rattle.transaction.specs.Attempts.{Pass}
 use Rattle.transaction.specs.Kits.{known_in}
 use Rattle.transaction.specs.Tries.{IsLaterPass}
 use Rattle.transaction.proofs.Standing.{stands}
-use Rattle.transaction.proofs.RecordedDraft.{records_grow}
+use Rattle.transaction.proofs.Recorded.{records_grow}
 
 -- a session as its code holds it
 abbrev pub session_with : Given → List Record → Option Pass → Member

@@ -45,6 +45,9 @@ impl Session {
         requires fit { All (CommandFits (setting_of library.now.given).prelude) commands.now }
         ensures { Attempts commands.now self.old self.new result }
     {
+        // For the proof: what is so of the session and of the library's words at all times.
+        let _ = &self.records;
+        let _ = &library.words;
         if has_too_many(commands.as_slice()) {
             return Outcome::TooManyCommands;
         }
@@ -110,6 +113,8 @@ fn commit(alloc: Global, live: Live<'_>, commands: &Transaction, replies: Sequen
     let Ok(done) = copy_done(alloc, commands, &replies) else {
         return stop(live, commands);
     };
+    // For the proof: how the run stands to its pass.
+    let _ = &live.slots;
     let place = live.place();
     let note = Note::Done {
         commands: Snapshot::of(commands),
@@ -145,6 +150,8 @@ fn answer(live: Live<'_>, commands: &Transaction, replies: Sequence<Reply>) -> T
     requires lawful { MayBeDone live.run commands.now replies }
     ensures { Tries commands.now live.entry.run.began result.kit result.outcome result.record }
 {
+    // For the proof: how the run stands to its pass.
+    let _ = &live.slots;
     let place = live.place();
     let note = Note::Done {
         commands: Snapshot::of(commands),
@@ -171,6 +178,8 @@ fn refuse(mut live: Live<'_>, commands: &Transaction, refused: Refused) -> Tried
     ensures { Tries commands.now live.entry.run.began result.kit result.outcome result.record }
 {
     live.forget();
+    // For the proof: how the run stands to its pass.
+    let _ = &live.slots;
     let place = live.place();
     let note = Note::Refused {
         commands: Snapshot::of(commands),

@@ -1,0 +1,247 @@
+-- What one run of a session makes of the session, and what runs until there is no conflict do.
+use Rattle.std.proofs.Common.{◌≡◌, ◌≢◌, ℕ, ◌+◌, ◌<◌, ◌≤◌, ◌⊎◌, inl, inr, Bool, true, false, List, [], ◌∷◌, ◌++◌, length, Option, Some, None}
+use Rattle.std.proofs.Common.{refl, sym, ap, subst, ◌∙◌, arith, append_assoc}
+use Rattle.std.specs.Prelude.{All}
+use Rattle.std.proofs.lemmas.List.{append-nil}
+use Rattle.std.proofs.lemmas.List.Elements.{All-nil, All-append, All-push}
+use Rattle.library.specs.declared.command.Command.{Command}
+use Rattle.library.specs.Transactions.{has_edit, has_too_many}
+use Rattle.cells.specs.State.{most_words}
+use Rattle.tlwords.specs.Seen.{SeenGrows, Work, Call, Committed, Answered}
+use Rattle.tlwords.specs.Known.{Home}
+use Rattle.tlwords.proofs.Seens.{seen_refl, seen_trans}
+use Rattle.lawful.specs.declared.notes.Given.{Given}
+use Rattle.lawful.specs.declared.notes.Note.{Note}
+use Rattle.lawful.specs.Laws.{IsPassOn}
+use Rattle.transaction.specs.declared.outcome.Conflict.{Conflict as Met}
+use Rattle.transaction.specs.declared.outcome.Outcome.{Outcome}
+use Rattle.transaction.specs.declared.outcome.Outcome.TheVariants as outcome
+use Rattle.transaction.specs.declared.outcome.Record.{Record}
+use Rattle.transaction.specs.Members.{Member, IsLater, IsMember}
+use Rattle.transaction.specs.Attempts.{Pass, Gains, Attempts, Submits, IsVoidNumber, DrawsVoid, AddsNothing, GainsCall, SaysDone, SaysRefused}
+use Rattle.transaction.specs.Attempts.{tried}
+use Rattle.transaction.specs.Tries.{IsLaterPass, IsRecorded, Tries}
+use Rattle.transaction.proofs.Standing.{stands}
+use Rattle.transaction.proofs.Recorded.{with_record, still_recorded, voids_grow}
+
+-- ---- one try
+
+-- the session after a run
+abbrev pub after_run : Member → Pass → Option Record → Member
+after_run m k r = record m { known = k; records = with_record m.records r }
+
+module _ (m : Member) (is : IsMember m) where
+  same_later : IsLater m m
+  same_later =
+      record { given = refl; home = refl; name = refl; grows = seen_refl m.known.seen; stands = stands m is }
+
+  -- nothing was done
+  pub attempts_none : (cs : List Command) (o : Outcome) → Gains cs m.known m.known o → (has_too_many cs ≡ true → o ≡ outcome.TooManyCommands)
+      → Attempts cs m m o
+  attempts_none cs o gains counted = record { later = same_later; gains = gains; counted = counted }
+
+  pub member_after : (k : Pass) (r : Option Record) → IsLaterPass m.known k → IsRecorded m.known k r → IsMember (after_run m k r)
+  member_after k r later recorded =
+      record {
+        on = subst (λ (h : Home Given). (h.setting ≡ Some m.given) × (h.room ≤ most_words)) (sym later.home) is.on;
+        knows = later.knows;
+        recorded = still_recorded m k r later.grows recorded is.recorded;
+      }
+
+  pub attempts_run : (cs : List Command) (k : Pass) (o : Outcome) (r : Option Record) → has_too_many cs ≡ false → Tries cs m.known k o r
+      → Attempts cs m (after_run m k r) o
+  attempts_run cs k o r few t =
+      record {
+        later = record {
+          given = refl;
+          home = t.later.home;
+          name = t.later.name;
+          grows = t.later.grows;
+          stands = stands (after_run m k r) (member_after k r t.later t.recorded);
+        };
+        gains = t.gains;
+        counted = λ many. let no : true ≡ false = sym many ∙ few in absurd cc;
+      }
+
+-- the session whose records are these then
+module _ (m : Member) (is : IsMember m) (cs : List Command) (kit k : Pass) (o : Outcome) (r : Option Record) (records : List Record)
+    (same : kit ≡ m.known) (tries : Tries cs kit k o r) (are : records ≡ with_record m.records r) where
+  tries_here : Tries cs m.known k o r
+  tries_here = subst (λ (z : Pass). Tries cs z k o r) same tries
+
+  pub run_member : IsMember (record m { known = k; records = records })
+  run_member = subst (λ (rs : List Record). IsMember (record m { known = k; records = rs })) (sym are)
+      (member_after m is k r tries_here.later tries_here.recorded)
+
+  pub run_attempts : has_too_many cs ≡ false → Attempts cs m (record m { known = k; records = records }) o
+  run_attempts few = subst (λ (rs : List Record). Attempts cs m (record m { known = k; records = rs }) o) (sym are)
+      (attempts_run m is cs k o r few tries_here)
+
+pub no_record : (r : Option Record) → ((x : Record) → r ≢ Some x) → r ≡ None
+no_record None none = refl
+no_record (Some x) none = absurd (none x refl)
+
+-- ---- tries until there is no conflict
+
+later_trans : (a b c : Member) → IsLater a b → IsLater b c → IsLater a c
+later_trans a b c p q =
+    record {
+      given = q.given ∙ p.given;
+      home = q.home ∙ p.home;
+      name = q.name ∙ p.name;
+      grows = seen_trans a.known.seen b.known.seen c.known.seen p.grows q.grows;
+      stands = q.stands;
+    }
+
+-- what was tried so far, without an outcome that settles: nothing, or tries that met conflicts
+pub record Tried (cs : List Command) (old now : Member) : Type 0 where
+  -- a transaction with too many commands meets none
+  pub since : (now ≡ old) ⊎ (IsLater old now × (has_too_many cs ≡ false))
+  pub numbers : List ℕ
+  pub void : All (IsVoidNumber now.known) numbers
+  pub drawn : now.known.drawn ≡ old.known.drawn ++ numbers
+  pub runs : ℕ
+  pub counted : now.known.runs ≡ old.known.runs + runs
+  pub mine : now.known.mine ≡ old.known.mine
+
+pub tried_none : (cs : List Command) (m : Member) → Tried cs m m
+tried_none cs m =
+    record {
+      since = inl refl;
+      numbers = [];
+      void = All-nil (IsVoidNumber m.known);
+      drawn = sym (append-nil m.known.drawn);
+      runs = 0;
+      counted = omega arith;
+      mine = refl;
+    }
+
+-- a number drawn behind these, and void
+drawn_void : (old : List ℕ) (now next : Pass) (numbers : List ℕ) → now.drawn ≡ old ++ numbers → All (IsVoidNumber next) numbers
+    → DrawsVoid now next → (all : List ℕ) × All (IsVoidNumber next) all × (next.drawn ≡ old ++ all)
+drawn_void old now next numbers drawn void (inl none) = (numbers, void, none ∙ drawn)
+drawn_void old now next numbers drawn void (inr (number, one, is)) = (
+  numbers ++ number ∷ [],
+  All-push (IsVoidNumber next) numbers number void is,
+  one ∙ (ap (λ (ns : List ℕ). ns ++ number ∷ []) drawn ∙ append_assoc old numbers (number ∷ [])),
+)
+
+few_commands : (cs : List Command) (many : Bool) (o : Outcome) (met : Met) → o ≡ outcome.Conflict met
+    → (many ≡ true → o ≡ outcome.TooManyCommands) → many ≡ false
+few_commands cs true o met is counted = let no = sym is ∙ counted refl in absurd cc
+few_commands cs false o met is counted = refl
+
+tried_nothing : (k : Pass) → k ≡ tried k [] 0
+tried_nothing k =
+    let drawn : k.drawn ≡ k.drawn ++ [] = sym (append-nil k.drawn) in
+    let runs : k.runs ≡ k.runs + 0 = omega arith in
+    λ j. record k { drawn = drawn j; runs = runs j }
+
+-- whether a transaction has too many commands
+is_too_many : (o : Outcome) → (o ≡ outcome.TooManyCommands) ⊎ (o ≢ outcome.TooManyCommands)
+is_too_many (outcome.Committed number replies) = inr (λ e. cc)
+is_too_many (outcome.Read place replies) = inr (λ e. cc)
+is_too_many (outcome.Refused place refused) = inr (λ e. cc)
+is_too_many (outcome.Conflict met) = inr (λ e. cc)
+is_too_many outcome.StoreFull = inr (λ e. cc)
+is_too_many outcome.NumbersUsed = inr (λ e. cc)
+is_too_many outcome.TooManyCommands = inl refl
+is_too_many outcome.NoMemory = inr (λ e. cc)
+
+module _ (cs : List Command) (old now next : Member) (o : Outcome) (so_far : Tried cs old now) (a : Attempts cs now next o) where
+  later_by : (now ≡ old) ⊎ (IsLater old now × (has_too_many cs ≡ false)) → IsLater old next
+  later_by (inl same) = subst (λ (m : Member). IsLater m next) same a.later
+  later_by (inr (later, few)) = later_trans old now next later a.later
+
+  longer_by : (now ≡ old) ⊎ (IsLater old now × (has_too_many cs ≡ false)) → length old.known.seen.history ≤ length now.known.seen.history
+  longer_by (inl same) = let e = ap (λ (m : Member). length m.known.seen.history) same in omega arith
+  longer_by (inr (later, few)) = later.grows.0.0
+
+  void_then : All (IsVoidNumber next.known) so_far.numbers
+  void_then = voids_grow now.known next.known so_far.numbers a.later.grows so_far.void
+
+  -- one more conflict
+  pub tried_more : (met : Met) → o ≡ outcome.Conflict met → Tried cs old next
+  tried_more met is =
+      let g = subst (Gains cs now.known next.known) is a.gains in
+      let all = drawn_void old.known.drawn now.known next.known so_far.numbers so_far.drawn void_then g.1 in
+      record {
+        since = inr (later_by so_far.since, few_commands cs (has_too_many cs) o met is a.counted);
+        numbers = all.0;
+        void = all.1;
+        drawn = all.2;
+        runs = so_far.runs + 1;
+        counted = (let e = g.2.runs in let f = so_far.counted in omega arith);
+        mine = g.0 ∙ so_far.mine;
+      }
+
+  -- ---- the last try
+
+  abbrev pub before : Pass
+  before = tried old.known so_far.numbers so_far.runs
+
+  not_before : (place : ℕ) → length now.known.seen.history ≤ place → length old.known.seen.history ≤ place
+  not_before place is = let l = longer_by so_far.since in omega arith
+
+  adds : AddsNothing now.known next.known → AddsNothing before next.known
+  adds is = record { mine = is.mine ∙ so_far.mine; drawn = is.drawn ∙ so_far.drawn }
+
+  calls : (call : Work Note → Call Note) (Says : Note → Type 0) → GainsCall now.known next.known call Says → GainsCall before next.known call Says
+  calls call Says g = (g.0, g.1, g.2 ∙ ap (λ (z : List (Call Note)). z ++ call g.0 ∷ []) so_far.mine)
+
+  gains_since : (v : Outcome) → Gains cs now.known next.known v → ((met : Met) → v ≢ outcome.Conflict met) → v ≢ outcome.TooManyCommands
+      → Gains cs before next.known v
+  gains_since (outcome.Committed number replies) g settles some = (
+    g.0,
+    (let l = longer_by so_far.since in let m = g.1 in omega arith),
+    g.2 ∙ ap (λ (ns : List ℕ). ns ++ number ∷ []) so_far.drawn,
+    calls (Committed number) (SaysDone cs replies) g.3,
+  )
+  gains_since (outcome.Read place replies) g settles some =
+      (g.0, not_before place g.1, g.2 ∙ so_far.drawn, calls (Answered place) (SaysDone cs replies) g.3)
+  gains_since (outcome.Refused place refused) g settles some =
+      (not_before place g.0, g.1 ∙ so_far.drawn, calls (Answered place) (SaysRefused cs refused) g.2)
+  gains_since (outcome.Conflict met) g settles some = absurd (settles met refl)
+  gains_since outcome.StoreFull g settles some = (adds g.0, g.1, g.2)
+  gains_since outcome.NumbersUsed g settles some = (adds g.0, ap length (sym so_far.drawn) ∙ g.1)
+  gains_since outcome.TooManyCommands g settles some = absurd (some refl)
+  gains_since outcome.NoMemory g settles some = adds g
+
+  submits_some : ((met : Met) → o ≢ outcome.Conflict met) → o ≢ outcome.TooManyCommands → Submits cs old next o
+  submits_some settled some =
+      record {
+        later = later_by so_far.since;
+        numbers = so_far.numbers;
+        void = void_then;
+        runs = so_far.runs;
+        gains = gains_since o a.gains settled some;
+        settled = settled;
+        counted = a.counted;
+      }
+
+  -- with too many commands nothing was tried before
+  submits_none : (now ≡ old) ⊎ (IsLater old now × (has_too_many cs ≡ false)) → o ≡ outcome.TooManyCommands → Submits cs old next o
+  submits_none (inl same) is =
+      let g = subst (Gains cs now.known next.known) is a.gains in
+      let all : next.known ≡ tried old.known [] 0 = g.0 ∙ (ap (λ (m : Member). m.known) same
+      ∙ tried_nothing old.known) in
+      record {
+        later = later_by so_far.since;
+        numbers = [];
+        void = All-nil (IsVoidNumber next.known);
+        runs = 0;
+        gains = subst (Gains cs (tried old.known [] 0) next.known) (sym is) (all, g.1);
+        settled = λ met e. let no = sym is ∙ e in cc;
+        counted = a.counted;
+      }
+  submits_none (inr (later, few)) is =
+      let g = subst (Gains cs now.known next.known) is a.gains in
+      let no : true ≡ false = sym g.1 ∙ few in absurd cc
+
+  submits_by : ((met : Met) → o ≢ outcome.Conflict met) → (o ≡ outcome.TooManyCommands) ⊎ (o ≢ outcome.TooManyCommands) → Submits cs old next o
+  submits_by settled (inl is) = submits_none so_far.since is
+  submits_by settled (inr some) = submits_some settled some
+
+  -- what tries until there is no conflict do
+  pub submits : ((met : Met) → o ≢ outcome.Conflict met) → Submits cs old next o
+  submits settled = submits_by settled (is_too_many o)

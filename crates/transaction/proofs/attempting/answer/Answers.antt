@@ -1,0 +1,42 @@
+use Rattle.std.proofs.Common.{◌≡◌, ℕ, Option, Some, None, refl, sym, ap, subst, ◌∙◌}
+use Rattle.tlwords.specs.declared.outcome.Conflict.{Conflict}
+use Rattle.tlwords.specs.declared.outcome.Outcome.TheVariants.{Committed as EndsDone, Conflict as EndsConflict, Read as EndsRead}
+use Rattle.transaction.specs.declared.outcome.Conflict.{Conflict as Met}
+use Rattle.transaction.specs.declared.outcome.Outcome.{Outcome}
+use Rattle.transaction.specs.declared.outcome.Outcome.TheVariants as outcome
+use Rattle.transaction.specs.declared.outcome.Record.{Record}
+use Rattle.transaction.specs.Attempts.{Pass}
+use Rattle.transaction.specs.Lent.{Lent, Lending, IsLent}
+use Rattle.transaction.specs.Tries.{Tries}
+use Rattle.transaction.proofs.Committing.{met_is, met_of, reads, answered, met_only}
+use Rattle.transaction.proofs.attempting.answer.Goals as goal
+use Rattle.transaction.proofs.attempting.answer.Goals.{in-Read+in-Done-1, in-Read+in-Refused-1, in-Read+in-Looked-1, in-Conflict}
+
+pub end-kit-requires : goal.end-kit-requires
+end-kit-requires c = λ none. c.requires.lawful _ _ c.of.ensures c.of-2.ensures
+
+pub returns : goal.returns
+returns c =
+    let l = c.args.live.run in
+    let stage = c.live.inside.stage in
+    let over = c.live.inside.over in
+    let cs = c.args.commands.now in
+    let k = c.end-kit.result.0 in
+    let o = c.end-kit.result.1 in
+    let ends = c.end-kit.ensures in
+    let lent = subst (λ (v : Lent). IsLent v.run stage over) c.live.view_is c.live.invariant.1 in
+    let outcomes = λ (x : Outcome). Tries cs l.began k x None in
+    let done = λ (place : ℕ) (is : o ≡ EndsRead place).
+    let a = answered l stage over lent cs _ k o ends.over ends.ended place is in
+    subst (λ (p : ℕ). Tries cs l.began k (outcome.Read p c.args.replies) None) (sym a.0)
+    (reads l stage over lent cs c.of.result c.of-2.result c.args.replies c.of.ensures c.of-2.ensures k c.requires.edit a.1) in
+    elim c.match-ended.branch [
+      | in-Read+in-Done-1 w ↦ subst outcomes (sym w.outcome-is) (done w.in-Read.place w.in-Read.is)
+      | in-Read+in-Refused-1 w ↦ subst outcomes (sym w.outcome-is) (done w.in-Read.place w.in-Read.is)
+      | in-Read+in-Looked-1 w ↦ subst outcomes (sym w.outcome-is) (done w.in-Read.place w.in-Read.is)
+      | in-Conflict w ↦
+          let met = met_is l stage over lent cs w.in-Conflict.conflict c.place-place.result w.met.result w.met.ensures c.place-place.ensures in
+          let never : l.going.over ≡ None → ⊥ = λ none. let a = ends.reading none c.requires.reading in let b = w.in-Conflict.is in cc in
+          subst outcomes (sym (w.outcome-is ∙ ap outcome.Conflict met))
+          (met_only l stage over lent cs _ k o ends.over ends.ended w.in-Conflict.conflict _ w.in-Conflict.is never)
+    ]

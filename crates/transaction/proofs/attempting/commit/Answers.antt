@@ -1,0 +1,47 @@
+use Rattle.std.proofs.Common.{◌≡◌, ℕ, Option, Some, None, refl, sym, ap, subst, ◌∙◌}
+use Rattle.std.proofs.Common.{List, rules}
+use Rattle.library.specs.declared.command.Command.{Command}
+use Rattle.library.specs.declared.command.Reply.{Reply}
+use Rattle.tlwords.specs.declared.outcome.Conflict.{Conflict}
+use Rattle.tlwords.specs.declared.outcome.Outcome.TheVariants.{Committed as EndsDone, Conflict as EndsConflict, Read as EndsRead}
+use Rattle.transaction.specs.declared.outcome.Conflict.{Conflict as Met}
+use Rattle.transaction.specs.declared.outcome.Outcome.{Outcome}
+use Rattle.transaction.specs.declared.outcome.Outcome.TheVariants as outcome
+use Rattle.transaction.specs.declared.outcome.Record.{Record}
+use Rattle.transaction.specs.Attempts.{Pass}
+use Rattle.transaction.specs.Lent.{Lent, Lending, IsLent}
+use Rattle.transaction.specs.Tries.{Tries}
+use Rattle.transaction.proofs.Committing.{met_is, met_of, commits, committed, conflicts, used, void_mapped, void_records}
+use Rattle.transaction.proofs.attempting.commit.Goals as goal
+use Rattle.transaction.proofs.attempting.commit.Goals.{in-Committed+in-Done-1, in-Committed+in-Refused-1, in-Committed+in-Looked-1, in-Conflict, in-NumbersUsed}
+
+pub end-kit-requires : goal.end-kit-requires
+end-kit-requires c = λ none. c.requires.lawful _ _ c.of.ensures c.of-2.ensures
+
+pub returns : goal.returns
+returns c =
+    let l = c.args.live.run in
+    let stage = c.live.inside.stage in
+    let over = c.live.inside.over in
+    let cs = c.args.commands.now in
+    let k = c.end-kit.result.0 in
+    let o = c.end-kit.result.1 in
+    let ends = c.end-kit.ensures in
+    let lent = subst (λ (v : Lent). IsLent v.run stage over) c.live.view_is c.live.invariant.1 in
+    let outcomes = λ (x : Outcome × Option Record). Tries cs l.began k x.0 x.1 in
+    let done = λ (number : ℕ) (is : o ≡ EndsDone number). subst (λ (d : List Command × List Reply). Tries cs l.began k (outcome.Committed number c.args.replies) (Some (record { number = number; done = Some d })))
+    (sym c.in-Ok.ensures)
+    (commits l stage over lent cs c.of.result c.of-2.result c.args.replies c.of.ensures c.of-2.ensures number k c.requires.edit
+    (committed l stage over lent cs _ k o ends.over ends.ended number is)) in
+    elim c.match-ended.branch [
+      | in-Committed+in-Done-1 w ↦ subst outcomes (sym w.outcome-is) (done w.in-Committed.number w.in-Committed.is)
+      | in-Committed+in-Refused-1 w ↦ subst outcomes (sym w.outcome-is) (done w.in-Committed.number w.in-Committed.is)
+      | in-Committed+in-Looked-1 w ↦ subst outcomes (sym w.outcome-is) (done w.in-Committed.number w.in-Committed.is)
+      | in-Conflict w ↦
+          let met = met_is l stage over lent cs w.in-Conflict.conflict c.place-place.result w.met.result w.met.ensures c.place-place.ensures in
+          let mapped : w.map.result ≡ void_records w.in-Conflict.drawn =
+          void_mapped w.in-Conflict.drawn w.map.result _ w.map.ensures.cases (λ x y p. search rules) in
+          subst outcomes (sym (w.outcome-is ∙ (λ j. (outcome.Conflict (met j), mapped j))))
+          (conflicts l stage over lent cs _ k o ends.over ends.ended w.in-Conflict.conflict w.in-Conflict.drawn w.in-Conflict.is)
+      | in-NumbersUsed w ↦ subst outcomes (sym w.outcome-is) (used l stage over lent cs _ k o ends.over ends.ended w.in-NumbersUsed.is)
+    ]

@@ -1,0 +1,45 @@
+use Rattle.std.proofs.Common.{◌≡◌, ℕ, Option, Some, None, refl, sym, ap, subst, ◌∙◌}
+use Rattle.tlwords.specs.declared.outcome.Conflict.{Conflict}
+use Rattle.tlwords.specs.declared.outcome.Outcome.TheVariants.{Committed as EndsDone, Conflict as EndsConflict, Read as EndsRead}
+use Rattle.lawful.specs.declared.notes.Note.TheVariants.{Refused}
+use Rattle.transaction.specs.declared.outcome.Conflict.{Conflict as Met}
+use Rattle.transaction.specs.declared.outcome.Outcome.{Outcome}
+use Rattle.transaction.specs.declared.outcome.Outcome.TheVariants as outcome
+use Rattle.transaction.specs.declared.outcome.Record.{Record}
+use Rattle.transaction.specs.Attempts.{Pass}
+use Rattle.transaction.specs.Lent.{Lent, Lending, IsLent}
+use Rattle.transaction.specs.Tries.{Tries}
+use Rattle.transaction.proofs.Committing.{met_is, met_of, refuses, answered, met_only, never_rejects, forgotten_lawful}
+use Rattle.transaction.proofs.attempting.refuse.Goals as goal
+use Rattle.transaction.proofs.attempting.refuse.Goals.{in-Read, in-Conflict}
+
+pub end-kit-requires : goal.end-kit-requires
+end-kit-requires c =
+    λ none. forgotten_lawful c.args.live.run c.forget.new.self.run c.forget.ensures (Refused c.of.result c.of-2.result) (c.requires _ _ c.of.ensures c.of-2.ensures)
+
+pub returns : goal.returns
+returns c =
+    let l = c.forget.new.self.run in
+    let stage = c.live.inside.stage in
+    let over = c.live.inside.over in
+    let cs = c.args.commands.now in
+    let k = c.end-kit.result.0 in
+    let o = c.end-kit.result.1 in
+    let ends = c.end-kit.ensures in
+    let lent = subst (λ (v : Lent). IsLent v.run stage over) c.live.view_is c.live.invariant.1 in
+    let began = ap (λ (x : Lending). x.began) c.forget.ensures.is in
+    let outcomes = λ (x : Outcome). Tries cs c.args.live.run.began k x None in
+    elim c.match-ended.branch [
+      | in-Read w ↦
+          let a = answered l stage over lent cs _ k o ends.over ends.ended w.in-Read.place w.in-Read.is in
+          subst outcomes (sym w.outcome-is)
+          (subst (λ (p : ℕ). Tries cs c.args.live.run.began k (outcome.Refused p c.args.refused) None) (sym a.0)
+          (subst (λ (z : Pass). Tries cs z k (outcome.Refused l.going.place c.args.refused) None) began
+          (refuses l stage over lent cs c.of.result c.of-2.result c.args.refused k c.of.ensures c.of-2.ensures a.1)))
+      | in-Conflict w ↦
+          let met = met_is l stage over lent cs w.in-Conflict.conflict c.place-place.result w.met.result w.met.ensures c.place-place.ensures in
+          subst outcomes (sym (w.outcome-is ∙ ap outcome.Conflict met))
+          (subst (λ (z : Pass). Tries cs z k (outcome.Conflict (met_of l stage over lent cs w.in-Conflict.conflict)) None) began
+          (met_only l stage over lent cs _ k o ends.over ends.ended w.in-Conflict.conflict _ w.in-Conflict.is
+          (never_rejects l stage over lent cs _ k o ends.over ends.ended c.forget.ensures.none w.in-Conflict.conflict _ w.in-Conflict.is)))
+    ]

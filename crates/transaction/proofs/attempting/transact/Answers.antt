@@ -1,0 +1,44 @@
+use Rattle.std.proofs.Common.{Bool, List, Err, ap, subst, sym, ◌∙◌, ◌≡◌}
+use Rattle.library.specs.declared.command.Command.{Command}
+use Rattle.commands.specs.declared.ending.RunError.{RunError}
+use Rattle.commands.specs.Answers.{has_staging, DoesAll, RunAnswers}
+use Rattle.transaction.specs.declared.live.Stopped.{Stopped}
+use Rattle.transaction.specs.Lent.{Lends, sight_of}
+use Rattle.transaction.proofs.Applying.{may_be_done, may_be_refused}
+use Rattle.transaction.proofs.attempting.transact.Goals as goal
+
+pub commit-requires-clause-lawful : goal.commit-requires-clause-lawful
+commit-requires-clause-lawful c =
+    let g = c.args.library.now.given in
+    let old = c.begin-live.result.run in
+    let new = c.run.new.cells.run in
+    let cs = c.args.commands.now in
+    let lends = subst (λ (b : Bool). Lends g c.args.kit c.if-edits.mode b old) (c.has_staging-may_stage.ensures ∙ ap has_staging c.as_slice-2.ensures)
+    c.begin-live.ensures in
+    may_be_done g c.args.kit c.if-edits.mode cs old lends new c.run.ensures.onward c.requires.fit c.in-Ok.replies
+    (subst (λ (x : List Command). DoesAll (sight_of old) (sight_of new) x c.in-Ok.replies) c.as_slice-3.ensures c.in-Ok.ensures.answers)
+
+pub answer-requires-clause-lawful : goal.answer-requires-clause-lawful
+answer-requires-clause-lawful c =
+    let g = c.args.library.now.given in
+    let old = c.begin-live.result.run in
+    let new = c.run.new.cells.run in
+    let cs = c.args.commands.now in
+    let lends = subst (λ (b : Bool). Lends g c.args.kit c.if-edits.mode b old) (c.has_staging-may_stage.ensures ∙ ap has_staging c.as_slice-2.ensures)
+    c.begin-live.ensures in
+    may_be_done g c.args.kit c.if-edits.mode cs old lends new c.run.ensures.onward c.requires.fit c.in-Ok.replies
+    (subst (λ (x : List Command). DoesAll (sight_of old) (sight_of new) x c.in-Ok.replies) c.as_slice-3.ensures c.in-Ok.ensures.answers)
+
+pub refuse-requires : goal.refuse-requires
+refuse-requires c = λ commands reason is why.
+    let g = c.args.library.now.given in
+    let old = c.begin-live.result.run in
+    let new = c.run.new.cells.run in
+    let cs = c.args.commands.now in
+    let lends = subst (λ (b : Bool). Lends g c.args.kit c.if-edits.mode b old) (c.has_staging-may_stage.ensures ∙ ap has_staging c.as_slice-2.ensures)
+    c.begin-live.ensures in
+    let answers = subst (λ (x : List Command). RunAnswers {S = Stopped} (sight_of old) (sight_of new) x (Err c.in-Err-Refused.field-0))
+    c.as_slice-3.ensures c.in-Err-Refused.ensures.answers in
+    may_be_refused g c.args.kit c.if-edits.mode cs old lends new c.run.ensures.onward c.requires.fit c.in-Err-Refused.refused
+    (subst (λ (e : RunError Stopped). RunAnswers {S = Stopped} (sight_of old) (sight_of new) cs (Err e)) c.in-Err-Refused.field-0-is answers)
+    commands reason is (why ∙ c.in-Err-Refused.refused-is)
