@@ -29,7 +29,7 @@ pub(crate) struct Tried {
     pub(crate) kit: Kit,
     pub(crate) outcome: Outcome,
     /// Of the number that the run drew, if it drew one.
-    pub(crate) record: Option<Record>,
+    pub(crate) drawn: Option<Record>,
 }
 
 impl Session {
@@ -60,11 +60,11 @@ impl Session {
         let Tried {
             kit,
             outcome,
-            record,
+            drawn,
         } = transact(alloc, library, kit, commands);
         self.kit = Some(kit);
-        if let Some(record) = record {
-            self.records.push_reserved(record);
+        if let Some(own) = drawn {
+            self.records.push_reserved(own);
         }
         outcome
     }
@@ -75,7 +75,7 @@ fn transact(alloc: Global, library: &Library, kit: Kit, commands: &Transaction) 
     requires own { kit.home ≡ library.now.words }
     requires on { IsPassOn library.now.given kit }
     requires fit { All (CommandFits (setting_of library.now.given).prelude) commands.now }
-    ensures { Tries commands.now kit result.kit result.outcome result.record }
+    ensures { Tries commands.now kit result.kit result.outcome result.drawn }
 {
     let edits = has_edit(commands.as_slice());
     let mode = if edits { Mode::Writing } else { Mode::Reading };
@@ -108,7 +108,7 @@ fn commit(alloc: Global, live: Live<'_>, commands: &Transaction, replies: Sequen
     requires edit { has_edit commands.now ≡ true }
     requires some { writes_kept live.run.going.slots ≢ [] }
     requires lawful { MayBeDone live.run commands.now replies }
-    ensures { Tries commands.now live.entry.run.began result.kit result.outcome result.record }
+    ensures { Tries commands.now live.entry.run.began result.kit result.outcome result.drawn }
 {
     let Ok(done) = copy_done(alloc, commands, &replies) else {
         return stop(live, commands);
@@ -121,7 +121,7 @@ fn commit(alloc: Global, live: Live<'_>, commands: &Transaction, replies: Sequen
         replies: Snapshot::of(&replies),
     };
     let (kit, ended) = live.end(&note);
-    let (outcome, record) = match ended {
+    let (outcome, drawn) = match ended {
         tlwords::Outcome::Committed(number) => (
             Outcome::Committed { number, replies },
             Some(Record {
@@ -139,7 +139,7 @@ fn commit(alloc: Global, live: Live<'_>, commands: &Transaction, replies: Sequen
     Tried {
         kit,
         outcome,
-        record,
+        drawn,
     }
 }
 
@@ -148,7 +148,7 @@ fn answer(live: Live<'_>, commands: &Transaction, replies: Sequence<Reply>) -> T
     requires edit { has_edit commands.now ≡ false }
     requires reading { live.run.going.mode ≡ Reading }
     requires lawful { MayBeDone live.run commands.now replies }
-    ensures { Tries commands.now live.entry.run.began result.kit result.outcome result.record }
+    ensures { Tries commands.now live.entry.run.began result.kit result.outcome result.drawn }
 {
     // For the proof: how the run stands to its pass.
     let _ = &live.slots;
@@ -168,14 +168,14 @@ fn answer(live: Live<'_>, commands: &Transaction, replies: Sequence<Reply>) -> T
     Tried {
         kit,
         outcome,
-        record: None,
+        drawn: None,
     }
 }
 
 /// Ends a run of which a command is refused: what it kept aside is thrown away.
 fn refuse(mut live: Live<'_>, commands: &Transaction, refused: Refused) -> Tried
     requires { MayBeRefused live.run commands.now refused }
-    ensures { Tries commands.now live.entry.run.began result.kit result.outcome result.record }
+    ensures { Tries commands.now live.entry.run.began result.kit result.outcome result.drawn }
 {
     live.forget();
     // For the proof: how the run stands to its pass.
@@ -196,19 +196,19 @@ fn refuse(mut live: Live<'_>, commands: &Transaction, refused: Refused) -> Tried
     Tried {
         kit,
         outcome,
-        record: None,
+        drawn: None,
     }
 }
 
 /// Ends a run that was stopped, or for which memory ran out.
 fn stop(live: Live<'_>, commands: &Transaction) -> Tried
     requires { live.run.may_stage ≡ has_staging commands.now }
-    ensures { Tries commands.now live.entry.run.began result.kit result.outcome result.record }
+    ensures { Tries commands.now live.entry.run.began result.kit result.outcome result.drawn }
 {
     let (kit, outcome) = live.give_up();
     Tried {
         kit,
         outcome,
-        record: None,
+        drawn: None,
     }
 }
