@@ -50,13 +50,7 @@ fn opening(
         room,
         sessions,
     };
-    Ok(Library::open(
-        rt,
-        rt.alloc(),
-        RandomState::new(rt)?,
-        &db,
-        shape,
-    ))
+    Ok(Library::open(rt, rt.alloc(), RandomState::new(rt)?, &db, shape))
 }
 
 /// The last of the sessions.
@@ -144,7 +138,10 @@ fn who_has_learnt_reads_no_older_library(rt: HostRuntime) -> Result<(), Fail> {
     let Ok((history, after)) = finish(alloc, library, sessions) else {
         return Err(Fail::from("it is finished"));
     };
-    assert_eq!(rt; text_of(alloc, &after)?.as_slice(), b"$c wff $.\nwz $a wff $.\n".as_slice());
+    assert_eq!(rt;
+        text_of(alloc, &after)?.as_slice(),
+        b"$c wff $.\nwz $a wff $.\n".as_slice()
+    );
     assert_eq!(rt;
         write_history(alloc, after.prelude(), history.as_slice())?.as_slice(),
         b"history 1\ndone\nbegin\nrename we wz\ncommit\n  done\n".as_slice()
@@ -158,7 +155,12 @@ fn a_number_of_a_session_that_is_left_out_is_missing(rt: HostRuntime) -> Result<
     let (library, mut sessions) = opened(&rt, mini(), 100, 2)?;
     let mut a = last(&library, &mut sessions)?;
     tried(alloc, &library, &mut a, b"begin rename we wz commit")?;
-    assert!(rt; matches!(finish(alloc, library, sessions), Err(FinishError::Missing(1))));
+    assert!(rt;
+        matches!(
+            finish(alloc, library, sessions),
+            Err(FinishError::Missing(1))
+        )
+    );
     Ok(())
 }
 
@@ -211,7 +213,12 @@ fn a_full_store_stops_stagings_alone(rt: HostRuntime) -> Result<(), Fail> {
     let mut a = last(&library, &mut sessions)?;
     let mut b = last(&library, &mut sessions)?;
     // 7 of the 13 words are taken. The label takes one and the statement five; there is none for the proof
-    let outcome = tried(alloc, &library, &mut a, b"begin add 200 t $p wff $= we $. commit")?;
+    let outcome = tried(
+        alloc,
+        &library,
+        &mut a,
+        b"begin add 200 t $p wff $= we $. commit",
+    )?;
     assert!(rt; matches!(outcome, Outcome::StoreFull));
     let outcome = tried(alloc, &library, &mut b, b"begin rename we wf commit")?;
     assert!(rt; matches!(outcome, Outcome::StoreFull));
@@ -247,7 +254,12 @@ fn a_refused_command_takes_the_others_back(rt: HostRuntime) -> Result<(), Fail> 
     let mut session = last(&library, &mut sessions)?;
     let script = b"begin add 900 th2 $p |- 0 = 0 $= tze th1 $. commit";
     tried(alloc, &library, &mut session, script)?;
-    let outcome = tried(alloc, &library, &mut session, b"begin delete th2 delete tze commit")?;
+    let outcome = tried(
+        alloc,
+        &library,
+        &mut session,
+        b"begin delete th2 delete tze commit",
+    )?;
     let cited = Refused {
         index: 2,
         reason: Reason::StillCited(1),
@@ -258,7 +270,12 @@ fn a_refused_command_takes_the_others_back(rt: HostRuntime) -> Result<(), Fail> 
     }
     let outcome = tried(alloc, &library, &mut session, b"begin show th2 commit")?;
     assert!(rt; matches!(outcome, Outcome::Read { place: 1, .. }));
-    let outcome = tried(alloc, &library, &mut session, b"begin delete th2 delete th1 commit")?;
+    let outcome = tried(
+        alloc,
+        &library,
+        &mut session,
+        b"begin delete th2 delete th1 commit",
+    )?;
     assert!(rt; matches!(outcome, Outcome::Committed { number: 2, .. }));
     Ok(())
 }
@@ -268,7 +285,8 @@ fn a_transaction_has_16_commands_at_most(rt: HostRuntime) -> Result<(), Fail> {
     let alloc = rt.alloc();
     let (library, mut sessions) = opened(&rt, mini(), 100, 1)?;
     let mut session = last(&library, &mut sessions)?;
-    let script = b"begin list list list list list list list list list list list list list list list list list commit";
+    let script =
+        b"begin list list list list list list list list list list list list list list list list list commit";
     let outcome = tried(alloc, &library, &mut session, script)?;
     assert!(rt; matches!(outcome, Outcome::TooManyCommands));
     let outcome = tried(alloc, &library, &mut session, b"begin commit")?;
@@ -355,17 +373,21 @@ fn one_of_two_renames_on_threads_is_done(rt: HostRuntime) -> Result<(), Fail> {
     };
     let shown = text_of(alloc, &after)?;
     assert_eq!(rt; shown.as_slice(), text_of(alloc, &again)?.as_slice());
-    let named = after
-        .entries()
-        .iter()
-        .any(|entry| entry.assertion.label.as_slice() == label.as_bytes());
+    let named = after.entries().iter().any(|entry| entry.assertion.label.as_slice()
+        == label.as_bytes());
     assert!(rt; named);
     Ok(())
 }
 
 #[test]
 fn a_shape_is_tested_first(rt: HostRuntime) -> Result<(), Fail> {
-    let shapes = [(0, 100, 1), (4097, 100, 1), (1, 16_777_217, 1), (1, 100, 0), (1, 100, 65)];
+    let shapes = [
+        (0, 100, 1),
+        (4097, 100, 1),
+        (1, 16_777_217, 1),
+        (1, 100, 0),
+        (1, 100, 65),
+    ];
     for (slots, room, sessions) in shapes {
         let answer = opening(&rt, mini(), slots, room, sessions)?;
         assert!(rt; matches!(answer, Err(OpenError::BadShape)));

@@ -12,9 +12,9 @@ ghost use Rattle.transaction.specs.Members.{IsOf};
 ghost use Rattle.transaction.specs.Attempts.{Attempts};
 ghost use Rattle.transaction.specs.Tries.{Tries, MayBeDone, MayBeRefused};
 
-use crate::running::Library;
 use crate::live::{Live, met};
 use crate::outcome::{Outcome, Record};
+use crate::running::Library;
 use crate::session::{Kit, Session};
 use commands::{RunError, has_staging, run};
 use lawful::Note;

@@ -4,8 +4,8 @@ ghost use Rattle.std.specs.Prelude.{All, IfOk};
 ghost use Rattle.transaction.specs.Members.{IsOf};
 ghost use Rattle.transaction.specs.Closings.{IsClosed, AreTaken};
 
-use crate::running::Library;
 use crate::outcome::Record;
+use crate::running::Library;
 use crate::session::Session;
 use lawful::{Given, LibraryLaw};
 use mmstatement::Prelude;

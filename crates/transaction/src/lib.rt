@@ -7,17 +7,17 @@
 
 mod attempting;
 mod closing;
-mod running;
 mod live;
 mod looking;
 mod opening;
 mod outcome;
+mod running;
 mod session;
 mod shape;
 mod submitting;
 
 pub use closing::ClosedLibrary;
-pub use running::Library;
 pub use outcome::{Conflict, Look, Outcome, Record};
+pub use running::Library;
 pub use session::Session;
 pub use shape::{OpenError, Shape};

@@ -3,8 +3,8 @@
 ghost use Rattle.std.specs.Prelude.{◌≡◌, ◌≢◌, ◌<◌, ℕ, List, [], Some, None, true, IfOk, IfErr, slice_get};
 ghost use Rattle.transaction.specs.Lent.{Agrees};
 
-use crate::running::Library;
 use crate::outcome::{Conflict, Outcome};
+use crate::running::Library;
 use crate::session::Kit;
 use bodystore::Stage;
 use cells::Cells;

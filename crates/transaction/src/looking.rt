@@ -13,9 +13,9 @@ ghost use Rattle.transaction.specs.Looks.{Looks, Sees};
 ghost use Rattle.transaction.specs.Lent.{sight_of};
 ghost use Rattle.transaction.specs.Tries.{IsLaterPass, MayBeLooked};
 
-use crate::running::Library;
 use crate::live::{Live, Stopped, met};
 use crate::outcome::{Look, Outcome};
+use crate::running::Library;
 use crate::session::{Kit, Session};
 use cells::Halt;
 use commands::entries;

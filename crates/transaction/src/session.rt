@@ -4,8 +4,8 @@ ghost use Rattle.std.specs.Prelude.{◌≡◌};
 ghost use Rattle.transaction.specs.Members.{IsOf};
 ghost use Rattle.transaction.specs.Looks.{Learns};
 
-use crate::running::Library;
 use crate::outcome::Record;
+use crate::running::Library;
 use bodystore::Stage;
 use lawful::{Given, LibraryLaw};
 use std::marker::Model;

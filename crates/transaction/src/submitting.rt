@@ -6,8 +6,8 @@ ghost use Rattle.lawful.specs.Lawful.{setting_of};
 ghost use Rattle.transaction.specs.Members.{IsOf};
 ghost use Rattle.transaction.specs.Attempts.{Submits};
 
-use crate::running::Library;
 use crate::outcome::Outcome;
+use crate::running::Library;
 use crate::session::Session;
 use crossbeam_utils::Backoff;
 use library::Transaction;

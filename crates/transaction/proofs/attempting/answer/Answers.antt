@@ -1,14 +1,10 @@
-use Rattle.std.proofs.Common.{◌≡◌, ℕ, Option, Some, None, refl, sym, ap, subst, ◌∙◌}
-use Rattle.tlwords.specs.declared.outcome.Conflict.{Conflict}
-use Rattle.tlwords.specs.declared.outcome.Outcome.TheVariants.{Committed as EndsDone, Conflict as EndsConflict, Read as EndsRead}
-use Rattle.transaction.specs.declared.outcome.Conflict.{Conflict as Met}
+use Rattle.std.proofs.Common.{◌≡◌, ℕ, None, sym, ap, subst, ◌∙◌}
+use Rattle.tlwords.specs.declared.outcome.Outcome.TheVariants.{Read as EndsRead}
 use Rattle.transaction.specs.declared.outcome.Outcome.{Outcome}
 use Rattle.transaction.specs.declared.outcome.Outcome.TheVariants as outcome
-use Rattle.transaction.specs.declared.outcome.Record.{Record}
-use Rattle.transaction.specs.Attempts.{Pass}
-use Rattle.transaction.specs.Lent.{Lent, Lending, IsLent}
+use Rattle.transaction.specs.Lent.{Lent, IsLent}
 use Rattle.transaction.specs.Tries.{Tries}
-use Rattle.transaction.proofs.Committing.{met_is, met_of, reads, answered, met_only}
+use Rattle.transaction.proofs.Committing.{met_is, reads, answered, met_only}
 use Rattle.transaction.proofs.attempting.answer.Goals as goal
 use Rattle.transaction.proofs.attempting.answer.Goals.{in-Read+in-Done-1, in-Read+in-Refused-1, in-Read+in-Looked-1, in-Conflict}
 

@@ -1,17 +1,14 @@
-use Rattle.std.proofs.Common.{◌≡◌, ℕ, Option, Some, None, refl, sym, ap, subst, ◌∙◌}
+use Rattle.std.proofs.Common.{◌≡◌, ℕ, Option, Some, sym, subst, ◌∙◌}
 use Rattle.std.proofs.Common.{List, rules}
 use Rattle.library.specs.declared.command.Command.{Command}
 use Rattle.library.specs.declared.command.Reply.{Reply}
-use Rattle.tlwords.specs.declared.outcome.Conflict.{Conflict}
-use Rattle.tlwords.specs.declared.outcome.Outcome.TheVariants.{Committed as EndsDone, Conflict as EndsConflict, Read as EndsRead}
-use Rattle.transaction.specs.declared.outcome.Conflict.{Conflict as Met}
+use Rattle.tlwords.specs.declared.outcome.Outcome.TheVariants.{Committed as EndsDone}
 use Rattle.transaction.specs.declared.outcome.Outcome.{Outcome}
 use Rattle.transaction.specs.declared.outcome.Outcome.TheVariants as outcome
 use Rattle.transaction.specs.declared.outcome.Record.{Record}
-use Rattle.transaction.specs.Attempts.{Pass}
-use Rattle.transaction.specs.Lent.{Lent, Lending, IsLent}
+use Rattle.transaction.specs.Lent.{Lent, IsLent}
 use Rattle.transaction.specs.Tries.{Tries}
-use Rattle.transaction.proofs.Committing.{met_is, met_of, commits, committed, conflicts, used, void_mapped, void_records}
+use Rattle.transaction.proofs.Committing.{met_is, commits, committed, conflicts, used, void_mapped, void_records}
 use Rattle.transaction.proofs.attempting.commit.Goals as goal
 use Rattle.transaction.proofs.attempting.commit.Goals.{in-Committed+in-Done-1, in-Committed+in-Refused-1, in-Committed+in-Looked-1, in-Conflict, in-NumbersUsed}
 

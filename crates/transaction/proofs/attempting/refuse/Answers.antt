@@ -1,11 +1,7 @@
-use Rattle.std.proofs.Common.{◌≡◌, ℕ, Option, Some, None, refl, sym, ap, subst, ◌∙◌}
-use Rattle.tlwords.specs.declared.outcome.Conflict.{Conflict}
-use Rattle.tlwords.specs.declared.outcome.Outcome.TheVariants.{Committed as EndsDone, Conflict as EndsConflict, Read as EndsRead}
+use Rattle.std.proofs.Common.{ℕ, None, sym, ap, subst, ◌∙◌}
 use Rattle.lawful.specs.declared.notes.Note.TheVariants.{Refused}
-use Rattle.transaction.specs.declared.outcome.Conflict.{Conflict as Met}
 use Rattle.transaction.specs.declared.outcome.Outcome.{Outcome}
 use Rattle.transaction.specs.declared.outcome.Outcome.TheVariants as outcome
-use Rattle.transaction.specs.declared.outcome.Record.{Record}
 use Rattle.transaction.specs.Attempts.{Pass}
 use Rattle.transaction.specs.Lent.{Lent, Lending, IsLent}
 use Rattle.transaction.specs.Tries.{Tries}

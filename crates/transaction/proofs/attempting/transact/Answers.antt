@@ -1,4 +1,4 @@
-use Rattle.std.proofs.Common.{Bool, List, Err, ap, subst, sym, ◌∙◌, ◌≡◌}
+use Rattle.std.proofs.Common.{Bool, List, Err, ap, subst, ◌∙◌}
 use Rattle.library.specs.declared.command.Command.{Command}
 use Rattle.commands.specs.declared.ending.RunError.{RunError}
 use Rattle.commands.specs.Answers.{has_staging, DoesAll, RunAnswers}

@@ -27,53 +27,53 @@ returns-then-is_err c =
     (attempts_none m c.self.invariant.1 cs outcome.NoMemory (record { mine = refl; drawn = refl })
     (λ many. let a : true ≡ false = sym many ∙ few in absurd cc)))
 
-pub invariant_of-self-in-Some-own : goal.invariant_of-self-in-Some-own
-invariant_of-self-in-Some-own c =
+pub invariant_of-self-in-Some-drawn : goal.invariant_of-self-in-Some-drawn
+invariant_of-self-in-Some-drawn c =
     let cs = c.args.commands.now in
     let m : Member = record { given = c.self.inside.given.value; known = known_in c.self.inside.kit; records = c.self.inside.records.items } in
     let r = c.transact-kit.result.drawn in
     let records : c.push_reserved.new.self.items ≡ with_record m.records r =
-    c.push_reserved.ensures.items ∙ (ap (λ (rs : List Record). rs ++ c.in-Some-own.own ∷ []) c.reserve.ensures.items
-    ∙ ap (with_record m.records) (sym c.in-Some-own.is)) in (
+    c.push_reserved.ensures.items ∙ (ap (λ (rs : List Record). rs ++ c.in-Some-drawn.own ∷ []) c.reserve.ensures.items
+    ∙ ap (with_record m.records) (sym c.in-Some-drawn.is)) in (
       refl,
       run_member m c.self.invariant.1 cs c.in-Some.kit c.transact-kit.result.kit c.transact-kit.result.outcome r _ (ap known_in c.in-Some.ensures.value)
           c.transact-kit.ensures records,
     )
 
-pub invariant_of-self-in_default-own : goal.invariant_of-self-in_default-own
-invariant_of-self-in_default-own c =
+pub invariant_of-self-in_default-drawn : goal.invariant_of-self-in_default-drawn
+invariant_of-self-in_default-drawn c =
     let cs = c.args.commands.now in
     let m : Member = record { given = c.self.inside.given.value; known = known_in c.self.inside.kit; records = c.self.inside.records.items } in
     let r = c.transact-kit.result.drawn in
     let records : c.reserve.new.self.items ≡ with_record m.records r =
-    c.reserve.ensures.items ∙ ap (with_record m.records) (sym (no_record r c.in_default-own.not-Some)) in (
+    c.reserve.ensures.items ∙ ap (with_record m.records) (sym (no_record r c.in_default-drawn.not-Some)) in (
       refl,
       run_member m c.self.invariant.1 cs c.in-Some.kit c.transact-kit.result.kit c.transact-kit.result.outcome r _ (ap known_in c.in-Some.ensures.value)
           c.transact-kit.ensures records,
     )
 
-pub returns-in-Some-own : goal.returns-in-Some-own
-returns-in-Some-own c =
+pub returns-in-Some-drawn : goal.returns-in-Some-drawn
+returns-in-Some-drawn c =
     let cs = c.args.commands.now in
     let m : Member = record { given = c.self.inside.given.value; known = known_in c.self.inside.kit; records = c.self.inside.records.items } in
     let few = sym (c.has_too_many.ensures ∙ ap has_too_many c.as_slice.ensures) ∙ c.if-has_too_many.false in
     let r = c.transact-kit.result.drawn in
     let records : c.push_reserved.new.self.items ≡ with_record m.records r =
-    c.push_reserved.ensures.items ∙ (ap (λ (rs : List Record). rs ++ c.in-Some-own.own ∷ []) c.reserve.ensures.items
-    ∙ ap (with_record m.records) (sym c.in-Some-own.is)) in
+    c.push_reserved.ensures.items ∙ (ap (λ (rs : List Record). rs ++ c.in-Some-drawn.own ∷ []) c.reserve.ensures.items
+    ∙ ap (with_record m.records) (sym c.in-Some-drawn.is)) in
     let next : Member = record { given = m.given; known = c.transact-kit.result.kit; records = c.push_reserved.new.self.items } in
     subst (λ (x : Member). Attempts cs x next c.transact-kit.result.outcome) c.self.view_is
     (run_attempts m c.self.invariant.1 cs c.in-Some.kit c.transact-kit.result.kit c.transact-kit.result.outcome r _ (ap known_in c.in-Some.ensures.value)
     c.transact-kit.ensures records few)
 
-pub returns-in_default-own : goal.returns-in_default-own
-returns-in_default-own c =
+pub returns-in_default-drawn : goal.returns-in_default-drawn
+returns-in_default-drawn c =
     let cs = c.args.commands.now in
     let m : Member = record { given = c.self.inside.given.value; known = known_in c.self.inside.kit; records = c.self.inside.records.items } in
     let few = sym (c.has_too_many.ensures ∙ ap has_too_many c.as_slice.ensures) ∙ c.if-has_too_many.false in
     let r = c.transact-kit.result.drawn in
     let records : c.reserve.new.self.items ≡ with_record m.records r =
-    c.reserve.ensures.items ∙ ap (with_record m.records) (sym (no_record r c.in_default-own.not-Some)) in
+    c.reserve.ensures.items ∙ ap (with_record m.records) (sym (no_record r c.in_default-drawn.not-Some)) in
     let next : Member = record { given = m.given; known = c.transact-kit.result.kit; records = c.reserve.new.self.items } in
     subst (λ (x : Member). Attempts cs x next c.transact-kit.result.outcome) c.self.view_is
     (run_attempts m c.self.invariant.1 cs c.in-Some.kit c.transact-kit.result.kit c.transact-kit.result.outcome r _ (ap known_in c.in-Some.ensures.value)
