@@ -418,24 +418,23 @@ fn tried_again(
     }
 }
 
-/// A transaction of each command, over a library of its own: where an allocation is refused on the way, the next try with memory is the first entry.
+/// Whether the one transaction of a script, over a library of its own, is the first entry of the history, by the first try for which memory is there.
+fn is_first(
+    rt: &(impl AllocGlobal + RandomSource + Threads + Sync),
+    script: &[u8],
+) -> Result<bool, Fail> {
+    let alloc = rt.alloc();
+    let (library, mut sessions) = opened(rt, demo(alloc)?.as_slice(), 1000, 1)?;
+    let mut session = last(&library, &mut sessions)?;
+    let outcome = tried_again(alloc, &library, &mut session, script)?;
+    Ok(matches!(outcome, Outcome::Committed { number: 1, .. }))
+}
+
 #[test]
 fn want_of_memory_changes_nothing(rt: HostRuntime) -> Result<(), Fail> {
-    let alloc = rt.alloc();
-    let edits: [&[u8]; 5] = [
-        b"begin add 900 th2 $p |- 0 = 0 $= tze th1 $. commit",
-        b"begin add 900 th2 $p |- 0 = 0 $= tze th1 $. reprove th2 $= tze th1 $. commit",
-        b"begin rename th1 refl commit",
-        b"begin move th1 801 commit",
-        b"begin delete th1 commit",
-    ];
-    for script in edits {
-        let (library, mut sessions) = opened(&rt, demo(alloc)?.as_slice(), 1000, 1)?;
-        let mut session = last(&library, &mut sessions)?;
-        let outcome = tried_again(alloc, &library, &mut session, script)?;
-        assert!(rt; matches!(outcome, Outcome::Committed { number: 1, .. }));
-        let outcome = tried_again(alloc, &library, &mut session, b"begin show tze list commit")?;
-        assert!(rt; matches!(outcome, Outcome::Read { place: 1, .. }));
-    }
+    assert!(rt; is_first(&rt, b"begin add 900 th2 $p |- 0 = 0 $= tze th1 $. commit")?);
+    assert!(rt; is_first(&rt, b"begin rename th1 refl commit")?);
+    assert!(rt; is_first(&rt, b"begin move th1 801 commit")?);
+    assert!(rt; is_first(&rt, b"begin delete th1 commit")?);
     Ok(())
 }
