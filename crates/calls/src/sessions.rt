@@ -1,6 +1,6 @@
 //! Sessions on a library in running words: what becomes of their transactions, and what is left at the end.
 
-ghost use Rattle.std.specs.Prelude.{All, IfOk, IfSome};
+ghost use Rattle.std.specs.Prelude.{All, IfOk};
 ghost use Rattle.transaction.specs.Members.{IsOf};
 
 use crate::shared::{database, mini};
@@ -16,7 +16,7 @@ use std::hash::RandomState;
 use std::random::RandomSource;
 use std::sync::Wait;
 use std::test::Fail;
-use std::thread::{Threads, join};
+use std::thread::Threads;
 use transaction::{Library, Look, OpenError, Outcome, Session, Shape};
 
 /// The library of a text, with its sessions.
@@ -318,46 +318,31 @@ fn sixty_four_sessions_add_a_theorem_each(rt: HostRuntime) -> Result<(), Fail> {
 
 /// What becomes of the one transaction of a script, by as many tries as it takes.
 fn submitted(
-    rt: &impl Wait,
-    alloc: Global,
+    rt: &(impl AllocGlobal + Wait),
     library: &Library,
-    mut session: Session,
+    session: &mut Session,
     script: &[u8],
-) -> Option<(Session, Outcome)>
-    requires { IsOf library.now session }
-    ensures { IfSome result (λ made. IsOf library.now made.0) }
+) -> Result<Outcome, Fail>
+    requires { IsOf library.now session.old }
+    ensures { IsOf library.now session.new }
 {
-    let Ok(script) = read_script(alloc, library.prelude(), script) else {
-        return None;
-    };
+    let script = read_script(rt.alloc(), library.prelude(), script)?;
     let [transaction] = script.as_slice() else {
-        return None;
+        return Err(Fail::from("one transaction"));
     };
-    let outcome = session.submit(rt, alloc, library, transaction);
-    Some((session, outcome))
+    Ok(session.submit(rt, rt.alloc(), library, transaction))
 }
 
 #[test]
-fn one_of_two_renames_on_threads_is_done(rt: HostRuntime) -> Result<(), Fail> {
+fn one_of_two_renames_is_done(rt: HostRuntime) -> Result<(), Fail> {
     let alloc = rt.alloc();
     let (library, mut sessions) = opened(&rt, demo(alloc)?.as_slice(), 1000, 2)?;
-    let a = last(&library, &mut sessions)?;
-    let b = last(&library, &mut sessions)?;
-    let (first, second) = join(
-        &rt,
-        || submitted(&rt, alloc, &library, a, b"begin rename th1 u commit"),
-        || submitted(&rt, alloc, &library, b, b"begin rename th1 v commit"),
-    );
-    let (Some((a, first)), Some((b, second))) = (first, second) else {
-        return Err(Fail::from("the scripts are read"));
-    };
-    let label = match (&first, &second) {
-        (Outcome::Committed { number: 1, .. }, refused)
-            if is_refused(refused, 1, Reason::UnknownLabel) => { "u" }
-        (refused, Outcome::Committed { number: 1, .. })
-            if is_refused(refused, 1, Reason::UnknownLabel) => { "v" }
-        _ => return Err(Fail::from("one is done, and the other refused")),
-    };
+    let mut a = last(&library, &mut sessions)?;
+    let mut b = last(&library, &mut sessions)?;
+    let first = submitted(&rt, &library, &mut a, b"begin rename th1 u commit")?;
+    let second = submitted(&rt, &library, &mut b, b"begin rename th1 v commit")?;
+    assert!(rt; matches!(first, Outcome::Committed { number: 1, .. }));
+    assert!(rt; is_refused(&second, 1, Reason::UnknownLabel));
     with(&library, &mut sessions, a)?;
     with(&library, &mut sessions, b)?;
     let Ok((history, after)) = finish(alloc, library, sessions) else {
@@ -373,9 +358,6 @@ fn one_of_two_renames_on_threads_is_done(rt: HostRuntime) -> Result<(), Fail> {
     };
     let shown = text_of(alloc, &after)?;
     assert_eq!(rt; shown.as_slice(), text_of(alloc, &again)?.as_slice());
-    let named = after.entries().iter().any(|entry| entry.assertion.label.as_slice()
-        == label.as_bytes());
-    assert!(rt; named);
     Ok(())
 }
 
