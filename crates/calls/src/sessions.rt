@@ -6,15 +6,11 @@ ghost use Rattle.transaction.specs.Members.{IsOf};
 use crate::shared::{database, mini};
 use crate::slots::demo;
 use finishing::{FinishError, finish};
-use history::replay;
-use historytext::write_history;
 use library::{PlainLibrary, Reason, Refused};
-use proofcheck::check_all;
 use scripts::read_script;
 use std::alloc::{AllocGlobal, Global};
 use std::hash::RandomState;
 use std::random::RandomSource;
-use std::sync::Wait;
 use std::test::Fail;
 use std::thread::Threads;
 use transaction::{Library, Look, OpenError, Outcome, Session, Shape};
@@ -113,42 +109,6 @@ fn text_of(alloc: Global, library: &PlainLibrary) -> Result<Vec<u8>, Fail> {
     }
 }
 
-fn is_refused(outcome: &Outcome, at: u64, reason: Reason) -> bool {
-    match outcome {
-        Outcome::Refused { place, refused } => {
-            *place == at && *refused == Refused { index: 1, reason }
-        }
-        _ => false,
-    }
-}
-
-#[test]
-fn who_has_learnt_reads_no_older_library(rt: HostRuntime) -> Result<(), Fail> {
-    let alloc = rt.alloc();
-    let (library, mut sessions) = opened(&rt, mini(), 100, 2)?;
-    let mut a = last(&library, &mut sessions)?;
-    let mut b = last(&library, &mut sessions)?;
-    let outcome = tried(alloc, &library, &mut a, b"begin rename we wz commit")?;
-    assert!(rt; matches!(outcome, Outcome::Committed { number: 1, .. }));
-    b.learn(&library, &mut a);
-    let outcome = tried(alloc, &library, &mut b, b"begin show wz commit")?;
-    assert!(rt; matches!(outcome, Outcome::Read { place: 1, .. }));
-    with(&library, &mut sessions, a)?;
-    with(&library, &mut sessions, b)?;
-    let Ok((history, after)) = finish(alloc, library, sessions) else {
-        return Err(Fail::from("it is finished"));
-    };
-    assert_eq!(rt;
-        text_of(alloc, &after)?.as_slice(),
-        b"$c wff $.\nwz $a wff $.\n".as_slice()
-    );
-    assert_eq!(rt;
-        write_history(alloc, after.prelude(), history.as_slice())?.as_slice(),
-        b"history 1\ndone\nbegin\nrename we wz\ncommit\n  done\n".as_slice()
-    );
-    Ok(())
-}
-
 #[test]
 fn a_number_of_a_session_that_is_left_out_is_missing(rt: HostRuntime) -> Result<(), Fail> {
     let alloc = rt.alloc();
@@ -203,29 +163,6 @@ fn the_least_number_of_the_missing_is_answered(rt: HostRuntime) -> Result<(), Fa
             _ => return Err(Fail::from("a number is missing")),
         }
     }
-    Ok(())
-}
-
-#[test]
-fn a_full_store_stops_stagings_alone(rt: HostRuntime) -> Result<(), Fail> {
-    let alloc = rt.alloc();
-    let (library, mut sessions) = opened(&rt, mini(), 13, 2)?;
-    let mut a = last(&library, &mut sessions)?;
-    let mut b = last(&library, &mut sessions)?;
-    // 7 of the 13 words are taken. The label takes one and the statement five; there is none for the proof
-    let outcome = tried(
-        alloc,
-        &library,
-        &mut a,
-        b"begin add 200 t $p wff $= we $. commit",
-    )?;
-    assert!(rt; matches!(outcome, Outcome::StoreFull));
-    let outcome = tried(alloc, &library, &mut b, b"begin rename we wf commit")?;
-    assert!(rt; matches!(outcome, Outcome::StoreFull));
-    let outcome = tried(alloc, &library, &mut b, b"begin delete we commit")?;
-    assert!(rt; matches!(outcome, Outcome::Committed { number: 1, .. }));
-    let outcome = tried(alloc, &library, &mut a, b"begin show we commit")?;
-    assert!(rt; is_refused(&outcome, 1, Reason::UnknownLabel));
     Ok(())
 }
 
@@ -313,74 +250,6 @@ fn sixty_four_sessions_add_a_theorem_each(rt: HostRuntime) -> Result<(), Fail> {
         return Err(Fail::from("it is finished"));
     };
     assert_eq!(rt; (history.as_slice().len(), after.entries().len()), (64, 65));
-    Ok(())
-}
-
-/// What becomes of the one transaction of a script, by as many tries as it takes.
-fn submitted(
-    rt: &(impl AllocGlobal + Wait),
-    library: &Library,
-    session: &mut Session,
-    script: &[u8],
-) -> Result<Outcome, Fail>
-    requires { IsOf library.now session.old }
-    ensures { IsOf library.now session.new }
-{
-    let script = read_script(rt.alloc(), library.prelude(), script)?;
-    let [transaction] = script.as_slice() else {
-        return Err(Fail::from("one transaction"));
-    };
-    Ok(session.submit(rt, rt.alloc(), library, transaction))
-}
-
-#[test]
-fn one_of_two_renames_is_done(rt: HostRuntime) -> Result<(), Fail> {
-    let alloc = rt.alloc();
-    let (library, mut sessions) = opened(&rt, demo(alloc)?.as_slice(), 1000, 2)?;
-    let mut a = last(&library, &mut sessions)?;
-    let mut b = last(&library, &mut sessions)?;
-    let first = submitted(&rt, &library, &mut a, b"begin rename th1 u commit")?;
-    let second = submitted(&rt, &library, &mut b, b"begin rename th1 v commit")?;
-    assert!(rt; matches!(first, Outcome::Committed { number: 1, .. }));
-    assert!(rt; is_refused(&second, 1, Reason::UnknownLabel));
-    with(&library, &mut sessions, a)?;
-    with(&library, &mut sessions, b)?;
-    let Ok((history, after)) = finish(alloc, library, sessions) else {
-        return Err(Fail::from("it is finished"));
-    };
-    let db = database(&rt, demo(alloc)?.as_slice())?;
-    let Ok(()) = check_all(&rt, alloc, &db) else {
-        return Err(Fail::from("the proofs check"));
-    };
-    let keys = RandomState::new(&rt)?;
-    let Ok(again) = replay(alloc, keys, &db, 4096, history.as_slice()) else {
-        return Err(Fail::from("the history is replayed"));
-    };
-    let shown = text_of(alloc, &after)?;
-    assert_eq!(rt; shown.as_slice(), text_of(alloc, &again)?.as_slice());
-    Ok(())
-}
-
-#[test]
-fn a_shape_is_tested_first(rt: HostRuntime) -> Result<(), Fail> {
-    let shapes = [
-        (0, 100, 1),
-        (4097, 100, 1),
-        (1, 16_777_217, 1),
-        (1, 100, 0),
-        (1, 100, 65),
-    ];
-    for (slots, room, sessions) in shapes {
-        let answer = opening(&rt, mini(), slots, room, sessions)?;
-        assert!(rt; matches!(answer, Err(OpenError::BadShape)));
-    }
-    let answer = opening(&rt, demo(rt.alloc())?.as_slice(), 7, 0, 1)?;
-    assert!(rt; matches!(answer, Err(OpenError::TooMany)));
-    let answer = opening(&rt, mini(), 1, 6, 1)?;
-    assert!(rt; matches!(answer, Err(OpenError::StoreFull)));
-    let faulty = b"$c wff $. a $p wff $= b $.";
-    let answer = opening(&rt, faulty, 1, 0, 1)?;
-    assert!(rt; matches!(answer, Err(OpenError::ProofFails(1, _))));
     Ok(())
 }
 
