@@ -231,28 +231,6 @@ fn a_transaction_has_16_commands_at_most(rt: HostRuntime) -> Result<(), Fail> {
     Ok(())
 }
 
-#[test]
-fn sixty_four_sessions_add_a_theorem_each(rt: HostRuntime) -> Result<(), Fail> {
-    let alloc = rt.alloc();
-    // 7 words of `we`, and 9 of each theorem
-    let (library, mut sessions) = opened(&rt, mini(), 583, 64)?;
-    let mut done = Vec::new(alloc);
-    for k in 1..=64u64 {
-        let mut session = last(&library, &mut sessions)?;
-        let script = format!(in alloc; "begin add 200 t{k:02} $p wff $= we $. commit")?;
-        match tried(alloc, &library, &mut session, script.as_bytes())? {
-            Outcome::Committed { number, .. } => assert_eq!(rt; number, k),
-            _ => return Err(Fail::from("it is committed")),
-        }
-        with(&library, &mut done, session)?;
-    }
-    let Ok((history, after)) = finish(alloc, library, done) else {
-        return Err(Fail::from("it is finished"));
-    };
-    assert_eq!(rt; (history.as_slice().len(), after.entries().len()), (64, 65));
-    Ok(())
-}
-
 /// Tries the one transaction of a script; where memory runs out, once more, which then has to end as the first would have.
 fn tried_again(
     alloc: Global,
