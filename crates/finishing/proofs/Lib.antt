@@ -1,3 +1,0 @@
-mod Putting
-mod ReadCells
-mod Ended

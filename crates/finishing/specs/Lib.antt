@@ -1,3 +1,0 @@
-pub mod Finishes
-pub mod Ordering
-pub mod ClosedCells
