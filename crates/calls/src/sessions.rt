@@ -5,6 +5,7 @@ ghost use Rattle.transaction.specs.Members.{IsOf};
 
 use crate::shared::{database, mini};
 use crate::slots::demo;
+use finishing::{FinishError, finish};
 use library::{PlainLibrary, Reason, Refused};
 use scripts::read_script;
 use std::alloc::{AllocGlobal, Global};
@@ -60,6 +61,17 @@ fn last(library: &Library, sessions: &mut Vec<Session>) -> Result<Session, Fail>
     }
 }
 
+/// The sessions with one more.
+fn with(library: &Library, sessions: &mut Vec<Session>, session: Session) -> Result<(), Fail>
+    requires own { IsOf library.now session }
+    requires others { All (IsOf library.now) sessions.old.items }
+    ensures { All (IsOf library.now) sessions.new.items }
+{
+    let _ = library;
+    sessions.push(session)?;
+    Ok(())
+}
+
 /// What becomes of the one transaction of a script, by one try.
 fn tried(
     alloc: Global,
@@ -95,6 +107,63 @@ fn text_of(alloc: Global, library: &PlainLibrary) -> Result<Vec<u8>, Fail> {
         Ok(()) => Ok(text),
         Err(_) => Err(Fail::from("the library is exported")),
     }
+}
+
+#[test]
+fn a_number_of_a_session_that_is_left_out_is_missing(rt: HostRuntime) -> Result<(), Fail> {
+    let alloc = rt.alloc();
+    let (library, mut sessions) = opened(&rt, mini(), 100, 2)?;
+    let mut a = last(&library, &mut sessions)?;
+    tried(alloc, &library, &mut a, b"begin rename we wz commit")?;
+    assert!(rt;
+        matches!(
+            finish(alloc, library, sessions),
+            Err(FinishError::Missing(1))
+        )
+    );
+    Ok(())
+}
+
+#[test]
+fn a_session_that_drew_no_number_is_not_missed(rt: HostRuntime) -> Result<(), Fail> {
+    let alloc = rt.alloc();
+    let (library, mut sessions) = opened(&rt, mini(), 100, 2)?;
+    let mut a = last(&library, &mut sessions)?;
+    let outcome = tried(alloc, &library, &mut a, b"begin show we commit")?;
+    assert!(rt; matches!(outcome, Outcome::Read { place: 0, .. }));
+    let Ok((history, _)) = finish(alloc, library, Vec::new(alloc)) else {
+        return Err(Fail::from("it is finished"));
+    };
+    assert_eq!(rt; history.as_slice().len(), 0);
+    Ok(())
+}
+
+#[test]
+fn the_least_number_of_the_missing_is_answered(rt: HostRuntime) -> Result<(), Fail> {
+    let alloc = rt.alloc();
+    for all in [true, false] {
+        let (library, mut sessions) = opened(&rt, demo(alloc)?.as_slice(), 1000, 3)?;
+        let mut a = last(&library, &mut sessions)?;
+        let mut b = last(&library, &mut sessions)?;
+        let mut c = last(&library, &mut sessions)?;
+        let first = tried(alloc, &library, &mut a, b"begin rename th1 u commit")?;
+        let second = tried(alloc, &library, &mut b, b"begin rename u v commit")?;
+        let third = tried(alloc, &library, &mut c, b"begin rename v w commit")?;
+        assert!(rt; matches!(first, Outcome::Committed { number: 1, .. }));
+        assert!(rt; matches!(second, Outcome::Committed { number: 2, .. }));
+        assert!(rt; matches!(third, Outcome::Committed { number: 3, .. }));
+        let mut missing = 1;
+        if all {
+            with(&library, &mut sessions, a)?;
+            with(&library, &mut sessions, c)?;
+            missing = 2;
+        }
+        match finish(alloc, library, sessions) {
+            Err(FinishError::Missing(number)) => assert_eq!(rt; number, missing),
+            _ => return Err(Fail::from("a number is missing")),
+        }
+    }
+    Ok(())
 }
 
 #[test]
