@@ -91,7 +91,9 @@ IsLogOf count log = (i : ℕ) (p : ℕ × ℕ) → slice_get log i ≡ Some p �
 abbrev pub IsPlaceOf : ℕ → Place → Type 0
 IsPlaceOf word r = (r.start ≡ word / 2 ^ 25) × (r.len ≡ word % 2 ^ 25)
 
--- the places that range cells with these values name, once for each cell that names one
-pub record AreNamedBy (slots : ℕ) (values : List ℕ) (places : List Place) : Type 0 where
-  pub named : (r : Place) → Has r places → (c : ℕ) × (v : ℕ) × (slice_get values c ≡ Some v) × (is_ranged slots c ≡ true) × (v ≢ 0) × IsPlaceOf v r
-  pub all : (c v : ℕ) → slice_get values c ≡ Some v → is_ranged slots c ≡ true → v ≢ 0 → (r : Place) × Has r places × IsPlaceOf v r
+-- each of the places is named by a range cell with one of these values, and those that the first so many range cells name are among them
+pub record AreNamedBy (slots : ℕ) (values : List ℕ) (count : ℕ) (places : List Place) : Type 0 where
+  pub named : (r : Place) → Has r places
+      → (c : ℕ) × (v : ℕ) × (slice_get values c ≡ Some v) × (is_ranged slots c ≡ true) × (v ≢ 0) × IsPlaceOf v r
+  pub all : (c v : ℕ) → c < count → slice_get values c ≡ Some v → is_ranged slots c ≡ true → v ≢ 0
+      → (r : Place) × Has r places × IsPlaceOf v r

@@ -207,7 +207,7 @@ impl PlainCells {
 /// The ranges that the range cells name which have these values, once for each cell that names one.
 fn named_ranges(alloc: Global, slots: usize, values: &[u64]) -> Result<Vec<Range>, AllocError>
     requires { slots ≤ 4096 }
-    ensures { IfOk result (λ ranges. AreNamedBy slots values.now ranges.items) }
+    ensures { IfOk result (λ ranges. AreNamedBy slots values.now (length values.now) ranges.items) }
 {
     let mut ranges = Vec::new(alloc);
     for (cell, &value) in values.iter().enumerate() {
