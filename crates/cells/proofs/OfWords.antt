@@ -71,7 +71,6 @@ module _ (slots : ℕ) (values store : List ℕ) (short : length store ≤ most_
       let v = q.1 in
       let p = by.all q.0 v (slice_get_within values q.0 v q.2) q.2 q.3 (λ e. q.5 (ap (λ (r : Range). r.words) q.4 ∙ none e)) in
       subst (λ y. Has y (ranges_in store places)) (place_is store v p.0 p.2 ∙ sym q.4) (has_mapped (range_in store) places p.0 p.1)
-
     where
       none : {w : ℕ} → w ≡ 0 → (range_named store w).words ≡ []
       none e = ap (λ (w : ℕ). (range_named store w).words) e
