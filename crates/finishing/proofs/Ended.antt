@@ -10,23 +10,20 @@ use Rattle.library.specs.declared.history.Entry.{Entry as CodeEntry}
 use Rattle.library.specs.declared.library.Ranked.{Ranked}
 use Rattle.library.specs.Histories.{Entry, open_entry, EntriesFit, Grows, IsLegal, after_all, told}
 use Rattle.library.specs.Library.{Verifies, Listed, ShowsInOrder, Setting}
-use Rattle.library.proofs.Showing.{verifies_permutation}
 use Rattle.ranges.specs.Ranges.{Has}
-use Rattle.ranges.proofs.Named.{named_of_one}
 use Rattle.tlwords.specs.declared.closing.ClosedWords.{ClosedWords}
 use Rattle.tlwords.specs.Seen.{Seen}
-use Rattle.cells.specs.State.{State, most_words}
+use Rattle.cells.specs.State.{most_words}
 use Rattle.cells.specs.Shows.{Shows}
-use Rattle.cells.specs.Sight.{Suits, Looks}
+use Rattle.cells.specs.PlainViews.{named_state}
 use Rattle.cells.proofs.Members.{has_mapped, mapped_has, all_has, all_from_has}
-use Rattle.commands.specs.Looking.{AreEntries}
 use Rattle.lawful.specs.declared.notes.Note.{Note}
 use Rattle.lawful.specs.Lawful.{setting_of, first_library, state_of}
 use Rattle.lawful.specs.History.{history_of, IsHistoryOf}
 use Rattle.lawful.specs.Laws.{AreFree}
 use Rattle.lawful.proofs.Entries.{at_index, length-entries_of, histories_grow}
 use Rattle.lawful.proofs.Closed.{closed_histories_stand, closed_words_show}
-use Rattle.lawful.proofs.Naming.{named_shows, shown_names}
+use Rattle.lawful.proofs.Naming.{named_shows}
 use Rattle.transaction.specs.declared.closing.ClosedLibrary.{ClosedLibrary}
 use Rattle.transaction.specs.declared.outcome.Record.{Record}
 use Rattle.transaction.specs.Members.{Home, Member, IsMember, IsRecordIn, entry_recorded}
@@ -34,8 +31,7 @@ use Rattle.transaction.specs.Closings.{IsClosed, lists_of}
 use Rattle.finishing.specs.declared.error.FinishError.TheVariants.{Missing, Held}
 use Rattle.finishing.specs.Finishes.{IsDrawn, IsMissing, AreRecordedBy, IsFinished, Finishes}
 use Rattle.finishing.specs.Ordering.{IsToldIn, AreOrdered, IsFirstMissing, IsFirstHeld}
-use Rattle.finishing.specs.ClosedCells.{CellsRead, AreReadable, values_of, ranges_of, sight_of}
-use Rattle.finishing.proofs.ReadCells.{fits_all}
+use Rattle.finishing.specs.Shown.{values_of, ShowsAtEnd, IsShownBy}
 
 -- ---- lists
 
@@ -194,80 +190,44 @@ module _ (home : Home) (members : List Member) (closed : ClosedLibrary) (is : Is
             (after_all (setting_of g) (first_library g) h)) is_history
             (closed_words_show g home.words.base home.store words is.words.closes small free)
 
-        -- the words as cells
-        abbrev cells : CellsRead
-        cells = record { setting = setting_of home.given; words = words }
+        abbrev values : List ℕ
+        values = values_of words
 
-        abbrev state : State
-        state = state_of (values_of cells) (ranges_of cells)
-
-        count : length (values_of cells) ≡ 7 * home.given.slots
+        count : length values ≡ 7 * home.given.slots
         count = length-map words.cells.items (λ x. x.value) ∙ is.words.closes.shows.count ∙ is.words.closes.opening.opens.count
 
-        shows_named : Shows home.given.slots state last_library
+        shows_named : Shows home.given.slots (named_state home.given.slots values words.store.items) last_library
         shows_named =
-            named_shows home.given.slots words.tail (values_of cells) words.store.items seen.ranges small is.words.closes.stored count
+            named_shows home.given.slots words.tail values words.store.items seen.ranges small is.words.closes.stored count
             last_library shows
-
-        suits : Suits (sight_of cells) state last_library
-        suits =
-            record {
-              matches =
-                  record {
-                    store = named_of_one _ words.store.items (values_of cells) most_words small;
-                    has = λ r has. has;
-                    reads = fits_all state (values_of cells) 0 (λ c v at.
-                        let place : 0 + c ≡ c = omega arith in
-                        ap state.value place ∙ get_or_from_slice_get (values_of cells) c v 0 at);
-                  };
-              shows = shows_named;
-              verifies = verifies;
-            }
 
         setting_is : record { prelude = closed.prelude; slots = closed.given.slots } ≡ setting_of home.given
         setting_is = λ i. record { prelude = is.prelude i; slots = (is.given i).slots }
 
-        pub readable : AreReadable (record { setting = record { prelude = closed.prelude; slots = closed.given.slots }; words = words })
-        readable =
-            subst (λ (s : Setting). AreReadable (record { setting = s; words = words })) (sym setting_is)
+        pub at_end : ShowsAtEnd (record { prelude = closed.prelude; slots = closed.given.slots }) words
+        at_end =
+            subst (λ (s : Setting). ShowsAtEnd s words) (sym setting_is)
             (record {
+              some = verifies.setting.some;
+              few = verifies.setting.few;
               count = count;
               small = small;
-              named = shown_names home.given.slots (values_of cells) (ranges_of cells) last_library shows_named;
-              agrees = (state, last_library, suits);
+              shows = (last_library, shows_named, verifies);
             })
 
-        module _ (old new : CellsRead)
-            (began : old ≡ record { setting = record { prelude = closed.prelude; slots = closed.given.slots }; words = words })
-            (looks : Looks (sight_of old) (sight_of new)) (found : List Ranked) (are : AreEntries (sight_of new) found) where
-          new_is : new ≡ cells
-          new_is =
-              let stays : new ≡ old = λ i. record { setting = looks.onward.setting i; words = looks.onward.origin i } in
-              stays ∙ began ∙ (λ i. record { setting = setting_is i; words = words })
-
-          same : IsPermutation last_library found
-          same =
-              subst (λ x. AreEntries (sight_of x) found) new_is are state last_library
-              (record { matches = suits.matches; shows = shows_named; verifies = verifies })
-
-          pub found_verifies : Verifies (record { prelude = closed.prelude; slots = closed.given.slots }) found
-          found_verifies =
-              subst (λ s. Verifies s found) (sym setting_is)
-              (verifies_permutation (setting_of home.given) last_library found verifies same)
-
-          pub finished : (library : Listed) → library.setting ≡ record { prelude = closed.prelude; slots = closed.given.slots }
-              → ShowsInOrder found library.entries → IsFinished home members history library
-          finished library setting shown =
-              record {
-                words = words;
-                its = is.words;
-                long = long;
-                is = is_history;
-                grow = grows;
-                recorded = recorded_by;
-                legal = subst (λ h. IsLegal (setting_of home.given) (first_library home.given) h) is_history stands.legal;
-                fit = subst (λ h. EntriesFit (setting_of home.given).prelude h) is_history stands.fit;
-                setting = setting ∙ setting_is;
-                after = record { same = IsPermutation-trans last_library found library.entries same shown.same; ordered = shown.ordered };
-                shows = shows;
-              }
+        pub finished : (library : Listed) → IsShownBy (record { prelude = closed.prelude; slots = closed.given.slots }) words library
+            → IsFinished home members history library
+        finished library by =
+            record {
+              words = words;
+              its = is.words;
+              long = long;
+              is = is_history;
+              grow = grows;
+              recorded = recorded_by;
+              legal = subst (λ h. IsLegal (setting_of home.given) (first_library home.given) h) is_history stands.legal;
+              fit = subst (λ h. EntriesFit (setting_of home.given).prelude h) is_history stands.fit;
+              setting = by.setting_is ∙ setting_is;
+              after = (subst (λ (s : Setting). IsShownBy s words library) setting_is by).shown last_library shows_named verifies;
+              shows = shows;
+            }

@@ -1,3 +1,3 @@
 mod Putting
-mod ReadCells
+mod Looked
 mod Ended

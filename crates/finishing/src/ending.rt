@@ -66,8 +66,8 @@ fn shown(
     slots: usize,
     words: ClosedWords,
 ) -> Result<PlainLibrary, FinishError>
-    requires cells { ShowsAtEnd prelude slots words }
-    ensures { IfOk result (λ library. IsShownBy prelude slots words library) }
+    requires cells { ShowsAtEnd (record { prelude = prelude; slots = slots }) words }
+    ensures { IfOk result (λ library. IsShownBy (record { prelude = prelude; slots = slots }) words library) }
 {
     let values = values_of(alloc, words.cells.as_slice())?;
     let mut cells = PlainCells::of_words(alloc, prelude, slots, values, words.store)?;

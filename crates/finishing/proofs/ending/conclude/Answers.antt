@@ -1,6 +1,6 @@
 use Rattle.std.proofs.Common.{◌+◌, refl, subst, Some, None}
 use Rattle.finishing.specs.Ordering.{IsFirstMissing, IsFirstHeld}
-use Rattle.finishing.proofs.Ended.{finish_missing, finish_held, readable, found_verifies, finished}
+use Rattle.finishing.proofs.Ended.{finish_missing, finish_held, at_end, finished}
 use Rattle.finishing.proofs.ending.conclude.Goals as goal
 
 pub returns-in-Some : goal.returns-in-Some
@@ -18,22 +18,14 @@ returns-in-Some-first_held c home members is =
     (subst (λ xs. IsFirstMissing xs None) c.as_slice.ensures.value c.in_default.ensures) k
     (subst (λ xs. IsFirstHeld xs (Some k)) c.as_slice-2.ensures.value c.in-Some-first_held.ensures)
 
-pub new-cells-requires : goal.new-cells-requires
-new-cells-requires c =
+pub shown-requires : goal.shown-requires
+shown-requires c =
     let r = c.requires in
-    readable r.0 r.1 c.args.closed r.2 c.in_ok-ordered.ordered.items c.in_ok-ordered.ensures c.in_ok-history.history c.in_ok-history.ensures
+    at_end r.0 r.1 c.args.closed r.2 c.in_ok-ordered.ordered.items c.in_ok-ordered.ensures c.in_ok-history.history c.in_ok-history.ensures
     (subst (λ xs. IsFirstHeld xs None) c.as_slice-2.ensures.value c.in_default-first_held.ensures)
-
-pub sorted-library-requires : goal.sorted-library-requires
-sorted-library-requires c =
-    let r = c.requires in
-    found_verifies r.0 r.1 c.args.closed r.2 c.in_ok-ordered.ordered.items c.in_ok-ordered.ensures c.in_ok-history.history
-    c.in_ok-history.ensures (subst (λ xs. IsFirstHeld xs None) c.as_slice-2.ensures.value c.in_default-first_held.ensures)
-    c.new-cells.result.cells c.entries.new.cells.cells c.new-cells.ensures c.in-Ok.ensures.looks c.in-Ok.found.items c.in-Ok.ensures.ok
 
 pub returns : goal.returns
 returns c home members is =
     finished home members c.args.closed is c.in_ok-ordered.ordered.items c.in_ok-ordered.ensures c.in_ok-history.history
     c.in_ok-history.ensures (subst (λ xs. IsFirstHeld xs None) c.as_slice-2.ensures.value c.in_default-first_held.ensures)
-    c.new-cells.result.cells c.entries.new.cells.cells c.new-cells.ensures c.in-Ok.ensures.looks c.in-Ok.found.items c.in-Ok.ensures.ok
-    c.sorted-library.result c.sorted-library.ensures.setting c.sorted-library.ensures.shown
+    c.in_ok-library.library c.in_ok-library.ensures
