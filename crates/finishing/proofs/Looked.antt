@@ -2,7 +2,6 @@
 use Rattle.std.proofs.Common.{◌≡◌, ◌∙◌, ap, sym, subst, refl, ℕ, zero, suc, ◌≤◌, List, [], ◌∷◌, length, map, arith}
 use Rattle.std.specs.Prelude.{IsPermutation, slice_index}
 use Rattle.std.proofs.lemmas.List.Sorted.{IsPermutation-trans}
-use Rattle.mmsyntax.specs.Tables.{Tables}
 use Rattle.library.specs.declared.library.Ranked.{Ranked}
 use Rattle.library.specs.Library.{Setting, Listed, Verifies, ShowsInOrder}
 use Rattle.library.proofs.Showing.{verifies_permutation}
@@ -27,18 +26,15 @@ numbered_values : (c : ℕ) (values : List ℕ) → map (λ p. p.1) (numbered_fr
 numbered_values c [] = refl
 numbered_values c (v ∷ values) = let rest = numbered_values (suc c) values in λ i. v ∷ rest i
 
-module _ (prelude : Tables) (slots : ℕ) (values store : List ℕ) (old new : PlainCells) (are : AreOfWords prelude slots values store old)
-    (looks : Looks (sight_of old) (sight_of new)) where
-  abbrev setting : Setting
-  setting = record { prelude = prelude; slots = slots }
-
+module _ (setting : Setting) (values store : List ℕ) (old new : PlainCells)
+    (are : AreOfWords setting.prelude setting.slots values store old) (looks : Looks (sight_of old) (sight_of new)) where
   abbrev named : List Range
-  named = ranges_named (is_ranged slots) store values
+  named = ranges_named (is_ranged setting.slots) store values
 
   setting_is : setting_of new ≡ setting
   setting_is = looks.onward.setting ∙ (λ i. record { prelude = are.prelude_is i; slots = are.slots_are i })
 
-  pub prelude_is : new.prelude ≡ prelude
+  pub prelude_is : new.prelude ≡ setting.prelude
   prelude_is = ap (λ (s : Setting). s.prelude) setting_is
 
   values_are : new.values.items ≡ values
@@ -57,11 +53,11 @@ module _ (prelude : Tables) (slots : ℕ) (values store : List ℕ) (old new : P
       over_all new.values.items (undone new.values.items new.log.items) (ranges_in new.store.items new.ranges.items)
       (length-undone new.values.items new.log.items)
 
-  module _ (lib : List Ranked) (shown : Shows slots (named_state slots values store) lib) (verifies : Verifies setting lib) where
-    now_shows : Shows slots (now_state new) lib
+  module _ (lib : List Ranked) (shown : Shows setting.slots (named_state setting.slots values store) lib) (verifies : Verifies setting lib) where
+    now_shows : Shows setting.slots (now_state new) lib
     now_shows =
-        subst (λ vs. Shows slots (record { value = slice_index vs; ranges = ranges_in new.store.items new.ranges.items }) lib) (sym values_are)
-        (shows_widened slots (slice_index values) named (ranges_in new.store.items new.ranges.items) known lib shown.held (shown, refl)).0
+        subst (λ vs. Shows setting.slots (record { value = slice_index vs; ranges = ranges_in new.store.items new.ranges.items }) lib) (sym values_are)
+        (shows_widened setting.slots (slice_index values) named (ranges_in new.store.items new.ranges.items) known lib shown.held (shown, refl)).0
 
     views : Views (sight_of new) (first_state new) lib
     views =

@@ -65,14 +65,14 @@ fn shown(
     prelude: Prelude,
     slots: usize,
     words: ClosedWords,
-) -> Result<PlainLibrary, FinishError>
-    requires cells { ShowsAtEnd (record { prelude = prelude; slots = slots }) words }
+) -> Result<PlainLibrary, AllocError>
+    requires { ShowsAtEnd (record { prelude = prelude; slots = slots }) words }
     ensures { IfOk result (λ library. IsShownBy (record { prelude = prelude; slots = slots }) words library) }
 {
     let values = values_of(alloc, words.cells.as_slice())?;
     let mut cells = PlainCells::of_words(alloc, prelude, slots, values, words.store)?;
     let Ok(found) = entries(alloc, &mut cells) else {
-        return Err(FinishError::NoMemory);
+        return Err(AllocError);
     };
     Ok(PlainLibrary::sorted(cells.into_prelude(), slots, found))
 }
