@@ -1,15 +1,14 @@
 -- What a library leaves at its end: the records of its sessions are its history, and its cells show the library after it.
 use Rattle.std.proofs.Common.{◌≡◌, ◌≢◌, ◌∙◌, ap, sym, subst, refl, ℕ, zero, suc, ◌+◌, ◌*◌, ◌≤◌, List, [], ◌∷◌, length, map, Option, Some, None, arith}
-use Rattle.std.specs.Prelude.{slice_get, option_map, All, IsPermutation, Err}
+use Rattle.std.specs.Prelude.{slice_get, option_map, All, Err}
 use Rattle.std.proofs.lemmas.List.{length-map, take_all}
-use Rattle.std.proofs.lemmas.Option.{slice_get-map, slice_get_within, get_or_from_slice_get}
-use Rattle.std.proofs.lemmas.List.Sorted.{IsPermutation-trans}
+use Rattle.std.proofs.lemmas.Option.{slice_get-map, slice_get_within}
 use Rattle.library.specs.declared.command.Command.{Command}
 use Rattle.library.specs.declared.command.Reply.{Reply}
 use Rattle.library.specs.declared.history.Entry.{Entry as CodeEntry}
 use Rattle.library.specs.declared.library.Ranked.{Ranked}
 use Rattle.library.specs.Histories.{Entry, open_entry, EntriesFit, Grows, IsLegal, after_all, told}
-use Rattle.library.specs.Library.{Verifies, Listed, ShowsInOrder, Setting}
+use Rattle.library.specs.Library.{Verifies, Listed, Setting}
 use Rattle.ranges.specs.Ranges.{Has}
 use Rattle.tlwords.specs.declared.closing.ClosedWords.{ClosedWords}
 use Rattle.tlwords.specs.Seen.{Seen}

@@ -1,9 +1,9 @@
 -- What is looked at in plain cells that were made of values and a store is every library that these show.
-use Rattle.std.proofs.Common.{◌≡◌, ◌∙◌, ap, sym, subst, refl, ℕ, zero, suc, ◌≤◌, List, [], ◌∷◌, length, map, arith}
+use Rattle.std.proofs.Common.{◌≡◌, ◌∙◌, ap, sym, subst, refl, ℕ, suc, ◌≤◌, List, [], ◌∷◌, length, map, arith}
 use Rattle.std.specs.Prelude.{IsPermutation, slice_index}
 use Rattle.std.proofs.lemmas.List.Sorted.{IsPermutation-trans}
 use Rattle.library.specs.declared.library.Ranked.{Ranked}
-use Rattle.library.specs.Library.{Setting, Listed, Verifies, ShowsInOrder}
+use Rattle.library.specs.Library.{Setting, Verifies, ShowsInOrder}
 use Rattle.library.proofs.Showing.{verifies_permutation}
 use Rattle.ranges.specs.Pairs.{Pairs}
 use Rattle.ranges.specs.Ranges.{Range, Within, ranges_named}
@@ -13,7 +13,7 @@ use Rattle.cells.specs.Slots.{is_ranged}
 use Rattle.cells.specs.Shows.{Shows}
 use Rattle.cells.specs.Sight.{Views, Looks, after}
 use Rattle.cells.specs.Plain.{numbered_from, undone, ranges_in}
-use Rattle.cells.specs.PlainViews.{setting_of, sight_of, now_state, first_state, named_state, ShowNamed, AreOfWords}
+use Rattle.cells.specs.PlainViews.{setting_of, sight_of, now_state, first_state, named_state, AreOfWords}
 use Rattle.cells.specs.declared.plain.PlainCells.{PlainCells}
 use Rattle.cells.proofs.Logs.{length-undone}
 use Rattle.cells.proofs.Numbered.{over_all}

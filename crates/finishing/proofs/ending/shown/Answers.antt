@@ -49,5 +49,5 @@ returns c =
     record {
       setting_is = c.sorted.ensures.setting ∙ (λ i. record { prelude = prelude i; slots = s.slots });
       shown = λ lib shown verifies. looked_in_order s values store old new are c.in-Ok.ensures.looks lib shown verifies c.in-Ok.found.items
-      c.sorted.result.entries c.in-Ok.ensures.ok c.sorted.ensures.shown;
+          c.sorted.result.entries c.in-Ok.ensures.ok c.sorted.ensures.shown;
     }
