@@ -41,7 +41,8 @@ part_within start (w ∷ words) store some at =
     let lt = slice_get_within store (start + length words) _ (at (length words) _ last) in
     omega (arith, lt)
 
--- a word that names a stored range with words
+-- ---- a word that names a stored range with words
+
 module _ (tail : ℕ) (store : List ℕ) (short : length store ≤ most_words) (r : Range) (stored : IsStored tail store r) (some : r.words ≢ [])
     (v : ℕ) (is : v ≡ word_of r) where
   here : (i w : ℕ) → slice_get r.words i ≡ Some w → slice_get store (r.start + i) ≡ Some w
@@ -56,7 +57,7 @@ module _ (tail : ℕ) (store : List ℕ) (short : length store ≤ most_words) (
   count_of : v % 2 ^ 25 ≡ length r.words
   count_of = let lies = within in omega (arith, is, lies, short)
 
-  -- names no other
+  -- it names no other
   pub stored_named : range_named store v ≡ r
   stored_named =
       let words : take (v % 2 ^ 25) (drop (v / 2 ^ 25) store) ≡ r.words =
