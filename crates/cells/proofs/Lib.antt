@@ -37,3 +37,5 @@ pub mod Resolving
 pub mod Lengths
 pub mod Fronts
 pub mod Opened
+pub mod Naming
+pub mod OfWords

@@ -1,5 +1,5 @@
 -- The ranges of a store at the places that are taken.
-use Rattle.std.proofs.Common.{◌≡◌, ℕ, zero, suc, ◌+◌, List, [], ◌∷◌, ◌++◌, length, get_or, take, drop, inl, inr, refl, sym, ap, subst, ◌∙◌, arith, true, length-append, length-drop}
+use Rattle.std.proofs.Common.{◌≡◌, ◌≢◌, ℕ, zero, suc, ◌+◌, List, [], ◌∷◌, ◌++◌, length, get_or, take, drop, inl, inr, refl, sym, ap, subst, ◌∙◌, arith, true, length-append, length-drop}
 use Rattle.std.specs.Prelude.{◌⊎◌, ◌<◌, ◌≤◌, Some, slice_get, ◌==◌, ◌||◌}
 use Rattle.std.specs.List.{list_any}
 use Rattle.std.proofs.lemmas.Bool.{eqb-true, eq-eqb, or_cases, or_right}
@@ -15,6 +15,10 @@ use Rattle.std.proofs.lemmas.Grind.{common_steps}
 use Rattle.cells.proofs.Logs.{has_front, has_last}
 
 -- ---- the words of a place
+
+pub has_some : (words : List ℕ) → words ≢ [] → 0 < length words
+has_some [] ne = absurd (ne refl)
+has_some (w ∷ words) ne = omega arith
 
 -- a word at a place is a word of the store
 slice_get-part : (store : List ℕ) (start len i w : ℕ) → slice_get (take len (drop start store)) i ≡ Some w

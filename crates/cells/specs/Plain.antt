@@ -1,10 +1,10 @@
 -- Of the code's inside, apart from the rules: cells on plain vectors: what they hold at all times, and what their run has seen.
-use Rattle.std.specs.Prelude.{◌≡◌, ◌<◌, ◌≤◌, ℕ, suc, ◌+◌, ◌||◌, ◌==◌, Bool, true, if◌then◌else◌, List, [], ◌∷◌, ◌++◌, length, map, take, drop, slice_get, slice_set, slice_index, Some}
+use Rattle.std.specs.Prelude.{◌≡◌, ◌≢◌, ◌<◌, ◌≤◌, ℕ, suc, ◌+◌, ◌/◌, ◌%◌, ◌^◌, ◌||◌, ◌==◌, Bool, true, if◌then◌else◌, List, [], ◌∷◌, ◌++◌, length, map, take, drop, slice_get, slice_set, slice_index, Some}
 use Rattle.std.specs.List.{list_any}
 use Rattle.library.specs.declared.library.Ranked.{Ranked}
 use Rattle.library.specs.Library.{Setting, Verifies}
 use Rattle.ranges.specs.Pairs.{Pairs}
-use Rattle.ranges.specs.Ranges.{Range, word_of}
+use Rattle.ranges.specs.Ranges.{Range, Has, word_of}
 use Rattle.ranges.specs.declared.range.Range.{Range as Place}
 use Rattle.cells.specs.State.{State}
 use Rattle.cells.specs.Slots.{is_ranged}
@@ -86,3 +86,14 @@ LieInStore store places = (i : ℕ) (r : Place) → slice_get places i ≡ Some 
 -- the log is of cells
 abbrev pub IsLogOf : ℕ → Pairs → Type 0
 IsLogOf count log = (i : ℕ) (p : ℕ × ℕ) → slice_get log i ≡ Some p → p.0 < count
+
+-- the place that a word names
+abbrev pub IsPlaceOf : ℕ → Place → Type 0
+IsPlaceOf word r = (r.start ≡ word / 2 ^ 25) × (r.len ≡ word % 2 ^ 25)
+
+-- each of the places is named by a range cell with one of these values, and those that the first so many range cells name are among them
+pub record AreNamedBy (slots : ℕ) (values : List ℕ) (count : ℕ) (places : List Place) : Type 0 where
+  pub named : (r : Place) → Has r places
+      → (c : ℕ) × (v : ℕ) × (slice_get values c ≡ Some v) × (is_ranged slots c ≡ true) × (v ≢ 0) × IsPlaceOf v r
+  pub all : (c v : ℕ) → c < count → slice_get values c ≡ Some v → is_ranged slots c ≡ true → v ≢ 0
+      → (r : Place) × Has r places × IsPlaceOf v r

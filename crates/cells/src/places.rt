@@ -1,7 +1,7 @@
 //! Where a library lies: the numbers of its cells.
 
 ghost use Rattle.std.specs.Prelude.{◌≡◌, ◌<◌, ◌≤◌, ◌+◌, Some, None, MatchOption};
-ghost use Rattle.cells.specs.Slots.{name_cell, statement_cell, proof_cell, rank_cell, citers_cell, bucket_cell, next_cell, bucket};
+ghost use Rattle.cells.specs.Slots.{name_cell, statement_cell, proof_cell, rank_cell, citers_cell, bucket_cell, next_cell, bucket, is_ranged};
 
 use crate::cells::Cells;
 
@@ -37,6 +37,14 @@ pub(crate) fn link(word: u64, slots: usize) -> Option<usize>
         return None;
     }
     Some((word - 1) as usize)
+}
+
+/// Whether the cell is a range cell: a name, statement or proof cell, which holds 0 or a word that names a range.
+pub(crate) fn is_range_cell(slots: usize, cell: usize) -> bool
+    requires { slots ≤ 4096 }
+    ensures { result ≡ is_ranged slots cell }
+{
+    cell < 5 * slots && cell % 5 < 3
 }
 
 /// The cell of a slot's name.

@@ -3,9 +3,10 @@
 ghost use Rattle.std.specs.Prelude.{◌≡◌, ◌≢◌, ◌≤◌, ◌<◌, ◌*◌, ◌+◌, ◌++◌, ◌↔◌, [], ◌∷◌, length, slice_index, is_ok, true, if◌then◌else◌, IfOk, IfErr, IsErrOf, IsOkUnless};
 ghost use Rattle.cells.specs.Sight.{Looks, Reads, Stages};
 ghost use Rattle.cells.specs.Slots.{cell_count};
-ghost use Rattle.cells.specs.Plain.{undone, ranges_in, ShowsSome, BeganWithSome, HoldNames, LieInStore, IsLogOf, behind, with_place};
+ghost use Rattle.cells.specs.Plain.{undone, ranges_in, ShowsSome, BeganWithSome, HoldNames, LieInStore, IsLogOf, AreNamedBy, behind, with_place};
 
 use crate::cells::Cells;
+use crate::places::is_range_cell;
 use mmstatement::Prelude;
 use ranges::Range;
 use std::alloc::{AllocError, Global};
@@ -72,7 +73,7 @@ pub struct PlainCells {
 }
 
 impl PlainCells {
-    ghost use Rattle.cells.specs.PlainViews.{setting_of, AreBlank, AreSameButLog, AreSameButValues};
+    ghost use Rattle.cells.specs.PlainViews.{setting_of, AreBlank, AreOfWords, ShowNamed, AreSameButLog, AreSameButValues};
 
     /// The cells of a library without assertions, over a prelude, with a store that has room for so many words.
     ///
@@ -101,11 +102,58 @@ impl PlainCells {
         })
     }
 
+    /// The cells of a library that these values show, with a store of just these words, which has room for no more.
+    ///
+    /// # Errors
+    ///
+    /// Want of memory.
+    pub fn of_words(
+        alloc: Global,
+        prelude: Prelude,
+        slots: usize,
+        values: Vec<u64>,
+        store: Vec<u64>,
+    ) -> Result<PlainCells, AllocError>
+        requires some { 1 ≤ slots }
+        requires few { slots ≤ 4096 }
+        requires long { length values.items ≡ 7 * slots }
+        requires roomy { length store.items ≤ 16777216 }
+        requires shows { ShowNamed (record { prelude = prelude; slots = slots }) values.items store.items }
+        ensures { IfOk result (λ made. AreOfWords prelude slots values.items store.items made) }
+    {
+        let ranges = named_ranges(alloc, slots, values.as_slice())?;
+        Ok(PlainCells {
+            prelude,
+            slots,
+            room: store.len(),
+            values,
+            log: Vec::new(alloc),
+            store,
+            ranges,
+        })
+    }
+
     /// The prelude of the library's assertions.
     pub fn prelude(&self) -> &Prelude
         ensures { result.now ≡ self.now.prelude }
     {
         &self.prelude
+    }
+
+    /// The prelude of the library's assertions. The cells are gone then.
+    pub fn into_prelude(self) -> Prelude
+        ensures { result ≡ self.prelude }
+    {
+        let PlainCells {
+            prelude,
+            slots: _,
+            room: _,
+            values: _,
+            log: _,
+            store: _,
+            ranges: _,
+        } = self;
+        prelude
     }
 
     /// How many words of the store are taken.
@@ -154,6 +202,20 @@ impl PlainCells {
     {
         give_back(self.values.as_mut_slice(), &mut self.log);
     }
+}
+
+/// The ranges that the range cells name which have these values, once for each cell that names one.
+fn named_ranges(alloc: Global, slots: usize, values: &[u64]) -> Result<Vec<Range>, AllocError>
+    requires { slots ≤ 4096 }
+    ensures { IfOk result (λ ranges. AreNamedBy slots values.now (length values.now) ranges.items) }
+{
+    let mut ranges = Vec::new(alloc);
+    for (cell, &value) in values.iter().enumerate() {
+        if is_range_cell(slots, cell) && value != 0 {
+            ranges.push(Range::named(value))?;
+        }
+    }
+    Ok(ranges)
 }
 
 /// Gives each cell of a log the value that it had before, the last first. The log is empty then.

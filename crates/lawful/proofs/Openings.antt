@@ -9,9 +9,10 @@ use Rattle.ranges.proofs.Named.{part_get}
 use Rattle.cells.specs.State.{most_words}
 use Rattle.cells.specs.Slots.{cell_count}
 use Rattle.cells.specs.Plain.{ranges_in}
+use Rattle.cells.proofs.Naming.{shown_names}
 use Rattle.cells.proofs.Stores.{place_of}
 use Rattle.lawful.specs.Laws.{OpenedCellsOpenWell}
-use Rattle.lawful.proofs.Naming.{named_shows, shown_names}
+use Rattle.lawful.proofs.Naming.{named_shows}
 
 -- the ranges at places are stored
 stored_at : (store : List ℕ) (places : List Place) (r : Range) → Has r (ranges_in store places) → IsStored (length store) store r

@@ -1,17 +1,13 @@
-use Rattle.std.proofs.Common.{◌≡◌, ◌≢◌, ◌<◌, ◌≤◌, ℕ, List, [], ◌∷◌, ◌++◌, length, is_ok, sym, subst, arith, length-append}
+use Rattle.std.proofs.Common.{◌≡◌, ◌≤◌, ℕ, List, [], ◌∷◌, ◌++◌, length, is_ok, sym, subst, arith, length-append}
 use Rattle.std.proofs.lemmas.Grind.{common_steps}
 use Rattle.ranges.specs.declared.range.Range.{Range as Place}
 use Rattle.cells.specs.Sight.{Stages}
 use Rattle.library.specs.Library.{Setting}
 use Rattle.cells.specs.Plain.{HoldNames, LieInStore, BeganWithSome, ranges_in, undone, behind, plain_sight}
 use Rattle.cells.specs.PlainViews.{setting_of}
-use Rattle.cells.proofs.Stores.{lie_staged}
+use Rattle.cells.proofs.Stores.{has_some, lie_staged}
 use Rattle.cells.proofs.PlainSights.{staged_or_not, hold_staged, began_staged, plain_stages}
 use Rattle.cells.proofs.plain.PlainCellsCells.stage.Goals as goal
-
-has_some : (words : List ℕ) → words ≢ [] → 0 < length words
-has_some [] ne = absurd (ne (λ i. []))
-has_some (w ∷ words) ne = omega arith
 
 pub invariant_of-self : goal.invariant_of-self
 invariant_of-self c =

@@ -1,0 +1,3 @@
+mod Putting
+mod Looked
+mod Ended

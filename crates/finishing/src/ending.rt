@@ -1,0 +1,89 @@
+//! Finishes libraries.
+
+ghost use Rattle.std.specs.Prelude.{◌≡◌, All, List, map, IfOk};
+ghost use Rattle.transaction.specs.Members.{Home, Member, IsOf};
+ghost use Rattle.transaction.specs.Closings.{IsClosed};
+ghost use Rattle.finishing.specs.Finishes.{Finishes};
+ghost use Rattle.finishing.specs.Shown.{ShowsAtEnd, IsShownBy};
+
+use crate::error::FinishError;
+use crate::ordering::{first_held, first_missing, in_order, whole};
+use cells::PlainCells;
+use commands::entries;
+use library::{History, PlainLibrary};
+use mmstatement::Prelude;
+use std::alloc::{AllocError, Global};
+use tlwords::{ClosedCell, ClosedWords};
+use transaction::{ClosedLibrary, Library, Session};
+
+/// Ends a library: its whole history, into which grows what each of these sessions had seen, and the library after it. The sessions, none
+/// too, are of this library.
+///
+/// # Errors
+///
+/// Want of memory aside: `Missing` with the least such number, exactly where a number up to the clock was drawn by none of these sessions; else
+/// `Held` with the least such cell, exactly where the lock of a cell is held. Where all the library's sessions are handed in, no lock is held, and
+/// the clock is how many numbers they drew. The library and the sessions are gone then.
+pub fn finish(
+    alloc: Global,
+    library: Library,
+    sessions: Vec<Session>,
+) -> Result<(History, PlainLibrary), FinishError>
+    requires { All (IsOf library) sessions.items }
+    ensures { Finishes library sessions.items result }
+{
+    let closed = library.close(alloc, sessions)?;
+    conclude(alloc, closed)
+}
+
+/// The history and the library that a closed library leaves.
+fn conclude(alloc: Global, closed: ClosedLibrary) -> Result<(History, PlainLibrary), FinishError>
+    requires { (home : Home) × (members : List Member) × IsClosed home members closed }
+    ensures { (home : Home) (members : List Member) → IsClosed home members closed → Finishes home members result }
+{
+    let ClosedLibrary {
+        prelude,
+        given,
+        words,
+        records,
+    } = closed;
+    let ordered = in_order(alloc, words.clock, records)?;
+    if let Some(index) = first_missing(ordered.as_slice()) {
+        return Err(FinishError::Missing(index as u64 + 1));
+    }
+    if let Some(cell) = first_held(words.cells.as_slice()) {
+        return Err(FinishError::Held(cell));
+    }
+    let history = whole(alloc, ordered)?;
+    let library = shown(alloc, prelude, given.slots, words)?;
+    Ok((history, library))
+}
+
+/// The library that closed words show, of which no lock is held.
+fn shown(
+    alloc: Global,
+    prelude: Prelude,
+    slots: usize,
+    words: ClosedWords,
+) -> Result<PlainLibrary, AllocError>
+    requires { ShowsAtEnd (record { prelude = prelude; slots = slots }) words }
+    ensures { IfOk result (λ library. IsShownBy (record { prelude = prelude; slots = slots }) words library) }
+{
+    let values = values_of(alloc, words.cells.as_slice())?;
+    let mut cells = PlainCells::of_words(alloc, prelude, slots, values, words.store)?;
+    let Ok(found) = entries(alloc, &mut cells) else {
+        return Err(AllocError);
+    };
+    Ok(PlainLibrary::sorted(cells.into_prelude(), slots, found))
+}
+
+/// The values of these cells.
+fn values_of(alloc: Global, cells: &[ClosedCell]) -> Result<Vec<u64>, AllocError>
+    ensures { IfOk result (λ values. values.items ≡ map (λ x. x.value) cells.now) }
+{
+    let mut values = Vec::with_capacity(alloc, cells.len())?;
+    for cell in cells {
+        values.push_reserved(cell.value);
+    }
+    Ok(values)
+}

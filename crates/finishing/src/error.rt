@@ -1,0 +1,29 @@
+//! Why a library has no whole history.
+
+use std::alloc::AllocError;
+use thiserror::Error;
+
+/// Why a library has no whole history.
+#[derive(Clone, Copy, Debug, PartialEq, Eq, Error)]
+pub enum FinishError {
+    /// This number, from 1, was drawn by no session that was handed in; it is the least.
+    #[error("missing {0}")]
+    Missing(u64),
+    /// The lock of this cell, from 0, is held; it is the least.
+    #[error("held {0}")]
+    Held(usize),
+    /// Memory ran out.
+    #[error("out of memory")]
+    NoMemory,
+}
+
+impl From<AllocError> for FinishError {
+    ghost use Rattle.std.specs.Prelude.{◌≡◌};
+    ghost use Rattle.finishing.specs.declared.error.FinishError.TheVariants.{NoMemory};
+
+    ghost from_gives = { λ _ e. e ≡ NoMemory };
+
+    fn from(_error: AllocError) -> Self {
+        FinishError::NoMemory
+    }
+}
