@@ -6,13 +6,17 @@ ghost use Rattle.transaction.specs.Members.{IsOf};
 use crate::shared::{database, mini};
 use crate::slots::demo;
 use finishing::{FinishError, finish};
-use library::{PlainLibrary, Reason, Refused};
+use history::replay;
+use historytext::write_history;
+use library::{History, PlainLibrary, Reason, Refused};
+use proofcheck::check_all;
 use scripts::read_script;
 use std::alloc::{AllocGlobal, Global};
 use std::hash::RandomState;
 use std::random::RandomSource;
+use std::sync::Wait;
 use std::test::Fail;
-use std::thread::Threads;
+use std::thread::{Threads, join};
 use transaction::{Library, Look, OpenError, Outcome, Session, Shape};
 
 /// The library of a text, with its sessions.
@@ -109,6 +113,42 @@ fn text_of(alloc: Global, library: &PlainLibrary) -> Result<Vec<u8>, Fail> {
     }
 }
 
+fn is_refused(outcome: &Outcome, at: u64, reason: Reason) -> bool {
+    match outcome {
+        Outcome::Refused { place, refused } => {
+            *place == at && *refused == Refused { index: 1, reason }
+        }
+        _ => false,
+    }
+}
+
+#[test]
+fn who_has_learnt_reads_no_older_library(rt: HostRuntime) -> Result<(), Fail> {
+    let alloc = rt.alloc();
+    let (library, mut sessions) = opened(&rt, mini(), 100, 2)?;
+    let mut a = last(&library, &mut sessions)?;
+    let mut b = last(&library, &mut sessions)?;
+    let outcome = tried(alloc, &library, &mut a, b"begin rename we wz commit")?;
+    assert!(rt; matches!(outcome, Outcome::Committed { number: 1, .. }));
+    b.learn(&library, &mut a);
+    let outcome = tried(alloc, &library, &mut b, b"begin show wz commit")?;
+    assert!(rt; matches!(outcome, Outcome::Read { place: 1, .. }));
+    with(&library, &mut sessions, a)?;
+    with(&library, &mut sessions, b)?;
+    let Ok((history, after)) = finish(alloc, library, sessions) else {
+        return Err(Fail::from("it is finished"));
+    };
+    assert_eq!(rt;
+        text_of(alloc, &after)?.as_slice(),
+        b"$c wff $.\nwz $a wff $.\n".as_slice()
+    );
+    assert_eq!(rt;
+        write_history(alloc, after.prelude(), history.as_slice())?.as_slice(),
+        b"history 1\ndone\nbegin\nrename we wz\ncommit\n  done\n".as_slice()
+    );
+    Ok(())
+}
+
 #[test]
 fn a_number_of_a_session_that_is_left_out_is_missing(rt: HostRuntime) -> Result<(), Fail> {
     let alloc = rt.alloc();
@@ -163,6 +203,29 @@ fn the_least_number_of_the_missing_is_answered(rt: HostRuntime) -> Result<(), Fa
             _ => return Err(Fail::from("a number is missing")),
         }
     }
+    Ok(())
+}
+
+#[test]
+fn a_full_store_stops_stagings_alone(rt: HostRuntime) -> Result<(), Fail> {
+    let alloc = rt.alloc();
+    let (library, mut sessions) = opened(&rt, mini(), 13, 2)?;
+    let mut a = last(&library, &mut sessions)?;
+    let mut b = last(&library, &mut sessions)?;
+    // 7 of the 13 words are taken. The label takes one and the statement five; there is none for the proof
+    let outcome = tried(
+        alloc,
+        &library,
+        &mut a,
+        b"begin add 200 t $p wff $= we $. commit",
+    )?;
+    assert!(rt; matches!(outcome, Outcome::StoreFull));
+    let outcome = tried(alloc, &library, &mut b, b"begin rename we wf commit")?;
+    assert!(rt; matches!(outcome, Outcome::StoreFull));
+    let outcome = tried(alloc, &library, &mut b, b"begin delete we commit")?;
+    assert!(rt; matches!(outcome, Outcome::Committed { number: 1, .. }));
+    let outcome = tried(alloc, &library, &mut a, b"begin show we commit")?;
+    assert!(rt; is_refused(&outcome, 1, Reason::UnknownLabel));
     Ok(())
 }
 
@@ -228,6 +291,149 @@ fn a_transaction_has_16_commands_at_most(rt: HostRuntime) -> Result<(), Fail> {
     assert!(rt; matches!(outcome, Outcome::TooManyCommands));
     let outcome = tried(alloc, &library, &mut session, b"begin commit")?;
     assert!(rt; matches!(outcome, Outcome::Read { place: 0, .. }));
+    Ok(())
+}
+
+/// Adds a theorem with each session, one after another, as the entries 1 to 64; the sessions go to those that are done.
+fn all_add(
+    alloc: Global,
+    library: &Library,
+    sessions: &mut Vec<Session>,
+    done: &mut Vec<Session>,
+) -> Result<(), Fail>
+    requires sessions { All (IsOf library.now) sessions.old.items }
+    requires done { All (IsOf library.now) done.old.items }
+    ensures { All (IsOf library.now) done.new.items }
+{
+    for k in 1..=64u64 {
+        let mut session = last(library, sessions)?;
+        let script = format!(in alloc; "begin add 200 t{k:02} $p wff $= we $. commit")?;
+        match tried(alloc, library, &mut session, script.as_bytes())? {
+            Outcome::Committed { number, .. } if number == k => {}
+            _ => return Err(Fail::from("it is committed")),
+        }
+        with(library, done, session)?;
+    }
+    Ok(())
+}
+
+#[test]
+fn sixty_four_sessions_add_a_theorem_each(rt: HostRuntime) -> Result<(), Fail> {
+    let alloc = rt.alloc();
+    // 7 words of `we`, and 9 of each theorem
+    let (library, mut sessions) = opened(&rt, mini(), 583, 64)?;
+    let mut done = Vec::new(alloc);
+    all_add(alloc, &library, &mut sessions, &mut done)?;
+    let Ok((history, after)) = finish(alloc, library, done) else {
+        return Err(Fail::from("it is finished"));
+    };
+    assert_eq!(rt; (history.as_slice().len(), after.entries().len()), (64, 65));
+    Ok(())
+}
+
+/// What becomes of the one transaction of a script, by as many tries as it takes, and the session.
+fn submitted(
+    rt: &impl Wait,
+    alloc: Global,
+    library: &Library,
+    mut session: Session,
+    script: &[u8],
+) -> Result<(Session, Outcome), Fail>
+    requires { IsOf library.now session }
+    ensures { IfOk result (λ made. IsOf library.now made.0) }
+{
+    let script = read_script(alloc, library.prelude(), script)?;
+    let [transaction] = script.as_slice() else {
+        return Err(Fail::from("one transaction"));
+    };
+    let outcome = session.submit(rt, alloc, library, transaction);
+    Ok((session, outcome))
+}
+
+/// What two sessions submit on two threads: their outcomes, and the sessions.
+fn both_submitted<R: Threads + Wait + Sync>(
+    rt: &R,
+    alloc: Global,
+    library: &Library,
+    one: Session,
+    other: Session,
+) -> Result<(Vec<Session>, Outcome, Outcome), Fail>
+    requires one { IsOf library.now one }
+    requires other { IsOf library.now other }
+    ensures { IfOk result (λ made. All (IsOf library.now) made.0.items) }
+{
+    let (one, other) = join(
+        rt,
+        move || submitted(rt, alloc, library, one, b"begin rename th1 u commit"),
+        move || submitted(rt, alloc, library, other, b"begin rename th1 v commit"),
+    );
+    let (one, first) = one?;
+    let (other, second) = other?;
+    let mut sessions = Vec::new(alloc);
+    with(library, &mut sessions, one)?;
+    with(library, &mut sessions, other)?;
+    Ok((sessions, first, second))
+}
+
+/// The text of the library after a history of DEMO.
+fn replayed(
+    rt: &(impl AllocGlobal + RandomSource + Threads + Sync),
+    history: &History,
+) -> Result<Vec<u8>, Fail> {
+    let alloc = rt.alloc();
+    let db = database(rt, demo(alloc)?.as_slice())?;
+    let Ok(()) = check_all(rt, alloc, &db) else {
+        return Err(Fail::from("the proofs check"));
+    };
+    let keys = RandomState::new(rt)?;
+    let Ok(again) = replay(alloc, keys, &db, 4096, history.as_slice()) else {
+        return Err(Fail::from("the history is replayed"));
+    };
+    text_of(alloc, &again)
+}
+
+#[test]
+fn one_of_two_renames_on_threads_is_done(rt: HostRuntime) -> Result<(), Fail> {
+    let alloc = rt.alloc();
+    let (library, mut sessions) = opened(&rt, demo(alloc)?.as_slice(), 1000, 2)?;
+    let one = last(&library, &mut sessions)?;
+    let other = last(&library, &mut sessions)?;
+    let (sessions, first, second) = both_submitted(&rt, alloc, &library, one, other)?;
+    match (&first, &second) {
+        (Outcome::Committed { number, .. }, refused)
+        | (refused, Outcome::Committed { number, .. }) => {
+            assert!(rt; *number == 1 && is_refused(refused, 1, Reason::UnknownLabel));
+        }
+        _ => return Err(Fail::from("one is done")),
+    }
+    let Ok((history, after)) = finish(alloc, library, sessions) else {
+        return Err(Fail::from("it is finished"));
+    };
+    let shown = text_of(alloc, &after)?;
+    assert_eq!(rt; shown.as_slice(), replayed(&rt, &history)?.as_slice());
+    Ok(())
+}
+
+#[test]
+fn a_shape_is_tested_first(rt: HostRuntime) -> Result<(), Fail> {
+    let shapes = [
+        (0, 100, 1),
+        (4097, 100, 1),
+        (1, 16_777_217, 1),
+        (1, 100, 0),
+        (1, 100, 65),
+    ];
+    for (slots, room, sessions) in shapes {
+        let answer = opening(&rt, mini(), slots, room, sessions)?;
+        assert!(rt; matches!(answer, Err(OpenError::BadShape)));
+    }
+    let answer = opening(&rt, demo(rt.alloc())?.as_slice(), 7, 0, 1)?;
+    assert!(rt; matches!(answer, Err(OpenError::TooMany)));
+    let answer = opening(&rt, mini(), 1, 6, 1)?;
+    assert!(rt; matches!(answer, Err(OpenError::StoreFull)));
+    let faulty = b"$c wff $. a $p wff $= b $.";
+    let answer = opening(&rt, faulty, 1, 0, 1)?;
+    assert!(rt; matches!(answer, Err(OpenError::ProofFails(1, _))));
     Ok(())
 }
 
