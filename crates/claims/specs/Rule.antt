@@ -72,12 +72,18 @@ pub record Claimed (old : Me (Unit {0}) View) (n : ℕ) (new : Me (Unit {0}) Vie
 abbrev pub claimed : Step (Unit {0}) → Me (Unit {0}) View → ℕ → Me (Unit {0}) View → Type 0
 claimed _ old n new = Claimed old n new
 
+-- The table as contracts name it: the count stands where the number of its slots would, of which it has none. A table was told one count, but
+-- nothing that a seat is told says so: so the name does, and a claimant of the numbers that are named alike has their count
+abbrev pub named : TableId → ℕ → TableId
+named table count = record table { slots = count }
+
 -- the claimant at a seat
 abbrev pub shown : TableId → View → Bool → Claimant
-shown table v ended = record { table = table; count = v.count; claimed = v.claimed; ended = ended }
+shown table v ended = record { table = named table v.count; count = v.count; claimed = v.claimed; ended = ended }
 
--- the seat stands for one claimant, and holds no slot
-pub record SitsWith (me : Me (Unit {0}) View) (ended : Bool) : Type 0 where
+-- the seat stands for one claimant, and holds no slot of its table, which has none
+pub record SitsWith (table : TableId) (me : Me (Unit {0}) View) (ended : Bool) : Type 0 where
+  pub slots : table.slots ≡ 0
   pub one : me.0.parts ≡ 1
   pub ended_is : me.0.ended ≡ (if ended then 1 else 0)
   pub free : me.1 ≡ []

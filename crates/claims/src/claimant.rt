@@ -23,7 +23,7 @@ impl Model for Claimant {
 
     ghost view = { λ c. shown c.seat.table_id c.seat.me.0 c.ended };
 
-    ghost invariant = { λ c. SitsWith c.seat.me c.ended };
+    ghost invariant = { λ c. SitsWith c.seat.table_id c.seat.me c.ended };
 }
 
 impl Claimant {

@@ -15,11 +15,11 @@ pub struct Numbers {
 
 impl Model for Numbers {
     ghost use Rattle.claims.specs.Claims.{Home};
-    ghost use Rattle.claims.specs.Rule.{AreLaid};
+    ghost use Rattle.claims.specs.Rule.{AreLaid, named};
 
     ghost Value = { Home };
 
-    ghost view = { λ n. record { table = n.table.shared.table_id; count = n.table.shared.key.count; claimants = n.table.shared.key.claimants } };
+    ghost view = { λ n. record { table = named n.table.shared.table_id n.table.shared.key.count; count = n.table.shared.key.count; claimants = n.table.shared.key.claimants } };
 
     ghost invariant = { λ n. AreLaid n.count n.table.shared.table_id n.table.shared.key };
 }
