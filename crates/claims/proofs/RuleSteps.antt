@@ -14,16 +14,16 @@ use Rattle.claims.specs.Rule.{View, nobody, first_view, dealt_left, newcomer, jo
 use Rattle.claims.proofs.Alike.{Alike, back, at_front, at_two, pushed}
 use Rattle.claims.proofs.UpTo.{each_below}
 
-abbrev of_view : View → List ℕ
+abbrev pub of_view : View → List ℕ
 of_view v = v.claimed
 
 abbrev table : List ℕ → List (Option (Unit {0})) → List View → State (Unit {0}) View
 table ws hs vs = record { words = ws; homes = hs; views = vs }
 
-parts_of : (v : View) (vs : List View) → all_parts (v ∷ vs) ≡ v.parts + all_parts vs
+pub parts_of : (v : View) (vs : List View) → all_parts (v ∷ vs) ≡ v.parts + all_parts vs
 parts_of = sum_by-cons (λ v. v.parts)
 
-ended_of : (v : View) (vs : List View) → all_ended (v ∷ vs) ≡ v.ended + all_ended vs
+pub ended_of : (v : View) (vs : List View) → all_ended (v ∷ vs) ≡ v.ended + all_ended vs
 ended_of = sum_by-cons (λ v. v.ended)
 
 last_between : (ls ms : List ℕ) (x : ℕ) → IsPermutation ((ls ++ ms) ++ x ∷ []) ((ls ++ x ∷ []) ++ ms)

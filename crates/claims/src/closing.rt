@@ -2,12 +2,12 @@
 
 ghost use Rattle.std.specs.Prelude.{◌≡◌, All, length};
 ghost use Rattle.claims.specs.Claims.{IsOf, AreClaimed};
-ghost use Rattle.claims.specs.Rule.{gathered};
+ghost use Rattle.claims.specs.Rule.{gathered, named};
 
 use crate::claimant::Claimant;
 use crate::numbers::Numbers;
 use crate::plays::Gather;
-use crate::rule::{Board, Place};
+use crate::rule::Place;
 
 impl Numbers {
     /// Takes the numbers back from all claimants: each was claimed once, and all were where a claimant was told so. Contracts alone see it.
@@ -21,21 +21,21 @@ impl Numbers {
             return;
         };
         let Claimant { mut seat, ended: _ } = last;
-        gather_all(&self.table, &mut seat, &mut claimants);
+        gather_all(&self, &mut seat, &mut claimants);
         let Numbers { table, count: _ } = self;
         table.close_with(seat).free();
     }
 }
 
 /// Gives what all these claimants have to the one of this seat, the last of them first.
-fn gather_all(table: &Board, seat: &mut Place, claimants: &mut Vec<Claimant>)
-    requires seat { seat.old.table_id ≡ table.now.shared.table_id }
-    requires own { All (λ c. c.table ≡ table.now.shared.table_id) claimants.old.items }
+fn gather_all(numbers: &Numbers, seat: &mut Place, claimants: &mut Vec<Claimant>)
+    requires table { (seat.old.table_id.slots ≡ 0) × (named seat.old.table_id seat.old.me.0.count ≡ numbers.now.table) }
+    requires own { All (IsOf numbers.now) claimants.old.items }
     ensures same { (seat.new.table_id ≡ seat.old.table_id) × (seat.new.id ≡ seat.old.id) }
     ensures me { seat.new.me ≡ gathered seat.old.me claimants.old.items }
 {
     while let Some(claimant) = claimants.pop() {
         let Claimant { seat: other, ended: _ } = claimant;
-        table.shared.join_seat::<Gather>(seat, other);
+        numbers.table.shared.join_seat::<Gather>(seat, other);
     }
 }
