@@ -1,4 +1,4 @@
-use Rattle.std.proofs.Common.{◌≡◌, ◌∷◌, [], ◌++◌, length, ◌∙◌, sym, ap, subst}
+use Rattle.std.proofs.Common.{◌≡◌, if◌then◌else◌, ◌∷◌, [], ◌++◌, length, ◌∙◌, sym, ap, subst}
 use mathlib.Core.Option.{some}
 use Rattle.claims.specs.Claims.{AreClaimed}
 use Rattle.claims.proofs.Gathered.{all_gathered}
