@@ -1,5 +1,5 @@
 -- What claimants claimed, once all of it is gathered in one seat.
-use Rattle.std.proofs.Common.{◌≡◌, ◌<◌, ◌≤◌, ◌+◌, ℕ, suc, List, [], ◌∷◌, ◌++◌, Bool, true, false, if◌then◌else◌, All, IsPermutation, length, flat_map, ◌⊎◌, inl, inr, ⊎_elim, sym, refl, ap, ◌∙◌, subst, arith}
+use Rattle.std.proofs.Common.{◌≡◌, ◌≤◌, ◌+◌, ℕ, List, [], ◌∷◌, ◌++◌, Bool, true, if◌then◌else◌, All, IsPermutation, length, ◌⊎◌, inl, inr, ⊎_elim, sym, refl, ap, ◌∙◌, subst, arith}
 use Rattle.std.proofs.lemmas.List.{append_assoc, append-nil, length-append}
 use Rattle.std.proofs.lemmas.List.Elements.{All-head, All-tail}
 use Rattle.std.proofs.lemmas.List.Sorted.{IsPermutation-refl, IsPermutation-trans, IsPermutation-sym, IsPermutation-append_left, IsPermutation-append_comm}
@@ -9,7 +9,7 @@ use lib.ListN.{get_elem?}
 use Rattle.atomic_table.specs.Table.{State, Me}
 use Rattle.atomic_table.specs.Seated.{TableId}
 use Rattle.ranges.specs.Ranges.{Has}
-use Rattle.claims.specs.Claims.{Home, Claimant, up_to, claims_of, AreClaimed}
+use Rattle.claims.specs.Claims.{Home, Claimant, claims_of, AreClaimed}
 use Rattle.claims.specs.Rule.{View, joined, shown, SitsWith, with_claimant, gathered, all_claimed, all_parts, all_ended, IsFair, Ruled}
 use Rattle.claims.proofs.Alike.{at_front}
 use Rattle.claims.proofs.RuleSteps.{of_view, reordered, parts_of, ended_of}
@@ -100,7 +100,7 @@ all_gathered home cs c me s id r at one claimed ended long =
       within = whole.within;
       all = λ d has told.
           let some_ended : 1 ≤ v.ended = ⊎_elim (λ (h : Has d cs). gathered_ended me cs d h told)
-              (λ (e : d ≡ c). let first = first_ended me cs in let one_ended : me.0.ended ≡ 1 = ended ∙ is_one c.ended (sym (ap (λ (x : Claimant). x.ended) e) ∙ told) in
-              omega (arith, first, one_ended)) (has_last d c cs has) in
+          (λ (e : d ≡ c). let first = first_ended me cs in let one_ended : me.0.ended ≡ 1 = ended ∙ is_one c.ended (sym (ap (λ (x : Claimant). x.ended) e) ∙ told) in
+          omega (arith, first, one_ended)) (has_last d c cs has) in
           ⊎_elim (λ (e : all_ended (v ∷ rest) ≡ 0). absurd (omega (arith, ended_of v rest, e, some_ended))) (λ e. e) whole.last;
     }

@@ -1,5 +1,5 @@
 -- Of the code's inside, apart from the rules: the rule of the table in which numbers lie, and what each step tells.
-use Rattle.std.specs.Prelude.{◌≡◌, ◌<◌, ◌≤◌, ◌+◌, ◌-◌, ◌*◌, ◌^◌, ℕ, suc, List, [], ◌∷◌, ◌++◌, Bool, true, false, if◌then◌else◌, nat_lt, All, IsPermutation, length, flat_map, sum_by, slice_index, ◌⊎◌}
+use Rattle.std.specs.Prelude.{◌≡◌, ◌<◌, ◌≤◌, ◌+◌, ◌-◌, ◌^◌, ℕ, suc, List, [], ◌∷◌, ◌++◌, Bool, if◌then◌else◌, nat_lt, All, IsPermutation, length, flat_map, sum_by, ◌⊎◌}
 use Rattle.atomic_table.specs.Seated.{TableId}
 use Rattle.atomic_table.specs.Table.{State, Me, Step}
 use Rattle.claims.specs.declared.rule.Sizes.{Sizes}

@@ -36,7 +36,10 @@ impl Claimant {
         if self.ended {
             return None;
         }
-        let number = numbers.table.shared.fetch_add::<Claim>(&mut self.seat, 0, 1) as usize;
+        let number = numbers
+            .table
+            .shared
+            .fetch_add::<Claim>(&mut self.seat, 0, 1) as usize;
         self.ended = number >= numbers.count;
         if self.ended { None } else { Some(number) }
     }

@@ -35,7 +35,10 @@ fn gather_all(numbers: &Numbers, seat: &mut Place, claimants: &mut Vec<Claimant>
     ensures me { seat.new.me ≡ gathered seat.old.me claimants.old.items }
 {
     while let Some(claimant) = claimants.pop() {
-        let Claimant { seat: other, ended: _ } = claimant;
+        let Claimant {
+            seat: other,
+            ended: _,
+        } = claimant;
         numbers.table.shared.join_seat::<Gather>(seat, other);
     }
 }

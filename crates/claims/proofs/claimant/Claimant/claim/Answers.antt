@@ -1,4 +1,4 @@
-use Rattle.std.proofs.Common.{◌≡◌, arith, ◌∙◌, sym, ap, false, if◌then◌else◌}
+use Rattle.std.proofs.Common.{◌≡◌, arith, ◌∙◌, sym, ap, if◌then◌else◌}
 use Rattle.claims.specs.Rule.{named}
 use Rattle.claims.proofs.Names.{same_table, same_count}
 use Rattle.claims.proofs.RuleSteps.{claims}

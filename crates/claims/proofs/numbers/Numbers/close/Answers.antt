@@ -1,6 +1,5 @@
-use Rattle.std.proofs.Common.{◌≡◌, if◌then◌else◌, ◌∷◌, [], ◌++◌, length, ◌∙◌, sym, ap, subst}
+use Rattle.std.proofs.Common.{if◌then◌else◌, length, ◌∙◌, sym, ap}
 use mathlib.Core.Option.{some}
-use Rattle.claims.specs.Claims.{AreClaimed}
 use Rattle.claims.proofs.Gathered.{all_gathered}
 use Rattle.claims.proofs.numbers.Numbers.close.Goals as goal
 
