@@ -3,10 +3,10 @@ use Rattle.std.specs.Prelude.{◌≡◌, ◌<◌, ◌≤◌, ◌+◌, ◌-◌, �
 use Rattle.atomic_table.specs.Seated.{TableId}
 use Rattle.atomic_table.specs.Table.{State, Me, Step}
 use Rattle.claims.specs.declared.rule.Sizes.{Sizes}
-use Rattle.claims.specs.Claims.{Claimant, up_to}
+use Rattle.claims.specs.Claims.{Home, Claimant, up_to}
 
--- a seat: how many claimants it stands for, up to which count there are numbers, those claimed by it, and how many of its claimants were told
--- that there are no more
+-- a seat: how many claimants it stands for, up to which count there are numbers, those claimed by it, and how many of its claimants were
+-- told that there are no more
 pub record View : Type 0 where
   pub parts : ℕ
   pub count : ℕ
@@ -50,8 +50,8 @@ pub record IsFair (v : View) : Type 0 where
   pub ended : v.ended ≤ v.parts
   pub idle : v.parts ≡ 0 → v.claimed ≡ []
 
--- the seats stand for all claimants. They claimed the numbers from 0 up to some number within the count, each once, and up to the count where
--- one of them was told that there are no more. The word counts the claims and those that were told so
+-- the seats stand for all claimants. They claimed the numbers from 0 up to some number within the count, each once, and up to the count
+-- where one of them was told that there are no more. The word counts the claims and those that were told so
 pub record Ruled (count claimants : ℕ) (s : State (Unit {0}) View) : Type 0 where
   pub parts : all_parts s.views ≡ claimants
   pub fair : All IsFair s.views
@@ -72,10 +72,15 @@ pub record Claimed (old : Me (Unit {0}) View) (n : ℕ) (new : Me (Unit {0}) Vie
 abbrev pub claimed : Step (Unit {0}) → Me (Unit {0}) View → ℕ → Me (Unit {0}) View → Type 0
 claimed _ old n new = Claimed old n new
 
--- The table as contracts name it: the count stands where the number of its slots would, of which it has none. A table was told one count, but
--- nothing that a seat is told says so: so the name does, and a claimant of the numbers that are named alike has their count
+-- The table as contracts name it, with the count of the numbers for that of its slots, of which it has none. A table is told one count, but
+-- no step tells a seat that its count is that one (what a step tells can't read what the table was told). Its name does: where numbers and
+-- a claimant name one table, they have one count
 abbrev pub named : TableId → ℕ → TableId
 named table count = record table { slots = count }
+
+-- the numbers in a table
+abbrev pub home_of : TableId → Sizes → Home
+home_of table sizes = record { table = named table sizes.count; count = sizes.count; claimants = sizes.claimants }
 
 -- the claimant at a seat
 abbrev pub shown : TableId → View → Bool → Claimant

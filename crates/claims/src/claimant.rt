@@ -8,7 +8,8 @@ use crate::plays::Claim;
 use crate::rule::Place;
 use std::marker::Model;
 
-/// One of those who claim numbers. Contracts see the table, the numbers that it claimed, and whether it was told that there are no more.
+/// One of those who claim numbers. Contracts see the table (by the name that tells the count too), the numbers that it claimed, and whether
+/// it was told that there are no more.
 #[derive(Drop)]
 pub struct Claimant {
     pub(crate) seat: Place,

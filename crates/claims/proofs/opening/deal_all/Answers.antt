@@ -15,5 +15,6 @@ split_seat-requires c =
     let left = c.loop-test.true in (
       i.table ∙ same_table _ _ _ _ e c.requires.table.0 laid.slots,
       omega (arith, laid.words),
-      deals key.count key.claimants _ c.loop.seat.me.0 (omega (arith, parts, left)) (ap (λ m. m.0.claimed) i.left) (ap (λ m. m.0.ended) i.left),
+      deals key.count key.claimants _ c.loop.seat.me.0 (omega (arith, parts, left))
+          (ap (λ m. m.0.claimed) i.left) (ap (λ m. m.0.ended) i.left),
     )

@@ -14,5 +14,6 @@ fetch_add-number-requires c =
     ap (λ v. v.table) c.self.view_is ∙ (c.requires ∙ sym (ap (λ v. v.table) c.numbers.view_is)) in (
       same_table _ _ _ _ e sits.slots laid.slots,
       omega (arith, laid.words),
-      claims key.count key.claimants _ _ seat.me sits.one (sits.ended_is ∙ ap (λ b. if b then 1 else 0) c.if-self.false) (same_count seat.table_id c.numbers.inside.table.shared.table_id _ _ e),
+      claims key.count key.claimants _ _ seat.me sits.one (sits.ended_is ∙ ap (λ b. if b then 1 else 0) c.if-self.false)
+          (same_count seat.table_id c.numbers.inside.table.shared.table_id _ _ e),
     )
