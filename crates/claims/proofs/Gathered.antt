@@ -22,7 +22,7 @@ gathered_last me [] c = refl
 gathered_last me (d ∷ ds) c = ap (λ (m : Mine). with_claimant m d) (gathered_last me ds c)
 
 -- the seat of a claimant is joined as the claimant is gathered
-pub gathered_seat : (me other : Mine) (table : TableId) (ended : Bool) → SitsWith table other ended
+pub gathered_seat : (me other : Mine) (table : TableId) (ended : Bool) → SitsWith other ended
     → (joined me.0 other.0, me.1) ≡ with_claimant me (shown table other.0 ended)
 gathered_seat me other table ended sits = λ i. (
   record {

@@ -72,23 +72,16 @@ pub record Claimed (old : Me (Unit {0}) View) (n : ℕ) (new : Me (Unit {0}) Vie
 abbrev pub claimed : Step (Unit {0}) → Me (Unit {0}) View → ℕ → Me (Unit {0}) View → Type 0
 claimed _ old n new = Claimed old n new
 
--- The table as contracts name it, with the count of the numbers for that of its slots, of which it has none. A table is told one count, but
--- no step tells a seat that its count is that one (what a step tells can't read what the table was told). Its name does: where numbers and
--- a claimant name one table, they have one count
-abbrev pub named : TableId → ℕ → TableId
-named table count = record table { slots = count }
-
 -- the numbers in a table
 abbrev pub home_of : TableId → Sizes → Home
-home_of table sizes = record { table = named table sizes.count; count = sizes.count; claimants = sizes.claimants }
+home_of table sizes = record { table = table; count = sizes.count; claimants = sizes.claimants }
 
 -- the claimant at a seat
 abbrev pub shown : TableId → View → Bool → Claimant
-shown table v ended = record { table = named table v.count; count = v.count; claimed = v.claimed; ended = ended }
+shown table v ended = record { table = table; count = v.count; claimed = v.claimed; ended = ended }
 
--- the seat stands for one claimant, and holds no slot of its table, which has none
-pub record SitsWith (table : TableId) (me : Me (Unit {0}) View) (ended : Bool) : Type 0 where
-  pub slots : table.slots ≡ 0
+-- the seat stands for one claimant, and holds no slot
+pub record SitsWith (me : Me (Unit {0}) View) (ended : Bool) : Type 0 where
   pub one : me.0.parts ≡ 1
   pub ended_is : me.0.ended ≡ (if ended then 1 else 0)
   pub free : me.1 ≡ []

@@ -5,8 +5,8 @@ ghost use Rattle.std.specs.Prelude.{◌≡◌, ◌+◌, ◌<◌, ◌^◌};
 use crate::rule::Board;
 use std::marker::Model;
 
-/// The numbers from 0 up to a count, which claimants share. Contracts see the table that they lie in (by a name that tells the count too),
-/// the count, and how many claimants there are.
+/// The numbers from 0 up to a count, which claimants share. Contracts see the table that they lie in, the count, and how many claimants
+/// there are.
 #[derive(Drop)]
 pub struct Numbers {
     pub(crate) table: Board,
