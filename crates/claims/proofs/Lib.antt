@@ -1,0 +1,4 @@
+pub mod Alike
+pub mod UpTo
+pub mod RuleSteps
+pub mod Gathered
