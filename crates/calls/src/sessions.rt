@@ -1,14 +1,14 @@
 //! Sessions on a library in running words: what becomes of their transactions, and what is left at the end.
 
-ghost use Rattle.std.specs.Prelude.{All, IfOk};
+ghost use Rattle.std.specs.Prelude.{All, IfOk, IfSome};
 ghost use Rattle.transaction.specs.Members.{IsOf};
 
 use crate::shared::{database, mini};
 use crate::slots::demo;
 use finishing::{FinishError, finish};
 use history::replay;
-use historytext::write_history;
-use library::{History, PlainLibrary, Reason, Refused};
+use historytext::{read_history, write_history};
+use library::{PlainLibrary, Reason, Refused};
 use proofcheck::check_all;
 use scripts::read_script;
 use std::alloc::{AllocGlobal, Global};
@@ -152,9 +152,15 @@ fn who_has_learnt_reads_no_older_library(rt: HostRuntime) -> Result<(), Fail> {
 #[test]
 fn a_number_of_a_session_that_is_left_out_is_missing(rt: HostRuntime) -> Result<(), Fail> {
     let alloc = rt.alloc();
-    let (library, mut sessions) = opened(&rt, mini(), 100, 2)?;
+    let (library, mut sessions) = opened(&rt, demo(alloc)?.as_slice(), 1000, 2)?;
     let mut a = last(&library, &mut sessions)?;
-    tried(alloc, &library, &mut a, b"begin rename we wz commit")?;
+    let mut b = last(&library, &mut sessions)?;
+    let outcome = tried(alloc, &library, &mut a, b"begin rename th1 refl commit")?;
+    assert!(rt; matches!(outcome, Outcome::Committed { number: 1, .. }));
+    b.learn(&library, &mut a);
+    let outcome = tried(alloc, &library, &mut b, b"begin show refl commit")?;
+    assert!(rt; matches!(outcome, Outcome::Read { place: 1, .. }));
+    with(&library, &mut sessions, b)?;
     assert!(rt;
         matches!(
             finish(alloc, library, sessions),
@@ -331,6 +337,9 @@ fn sixty_four_sessions_add_a_theorem_each(rt: HostRuntime) -> Result<(), Fail> {
     Ok(())
 }
 
+/// What becomes of a session and its transaction.
+type Submitted = Option<(Session, Outcome)>;
+
 /// What becomes of the one transaction of a script, by as many tries as it takes, and the session.
 fn submitted(
     rt: &impl Wait,
@@ -338,19 +347,39 @@ fn submitted(
     library: &Library,
     mut session: Session,
     script: &[u8],
-) -> Result<(Session, Outcome), Fail>
+) -> Submitted
     requires { IsOf library.now session }
-    ensures { IfOk result (λ made. IsOf library.now made.0) }
+    ensures { IfSome result (λ made. IsOf library.now made.0) }
 {
-    let script = read_script(alloc, library.prelude(), script)?;
+    let script = read_script(alloc, library.prelude(), script).ok()?;
     let [transaction] = script.as_slice() else {
-        return Err(Fail::from("one transaction"));
+        return None;
     };
     let outcome = session.submit(rt, alloc, library, transaction);
-    Ok((session, outcome))
+    Some((session, outcome))
 }
 
-/// What two sessions submit on two threads: their outcomes, and the sessions.
+/// What two sessions submit on two threads.
+fn on_two_threads<R: Threads + Wait + Sync>(
+    rt: &R,
+    alloc: Global,
+    library: &Library,
+    one: Session,
+    other: Session,
+) -> (Submitted, Submitted)
+    requires one { IsOf library.now one }
+    requires other { IsOf library.now other }
+    ensures one { IfSome result.0 (λ made. IsOf library.now made.0) }
+    ensures other { IfSome result.1 (λ made. IsOf library.now made.0) }
+{
+    join(
+        rt,
+        move || submitted(rt, alloc, library, one, b"begin rename th1 u commit"),
+        move || submitted(rt, alloc, library, other, b"begin rename th1 v commit"),
+    )
+}
+
+/// The same: the sessions, and their outcomes.
 fn both_submitted<R: Threads + Wait + Sync>(
     rt: &R,
     alloc: Global,
@@ -362,34 +391,38 @@ fn both_submitted<R: Threads + Wait + Sync>(
     requires other { IsOf library.now other }
     ensures { IfOk result (λ made. All (IsOf library.now) made.0.items) }
 {
-    let (one, other) = join(
-        rt,
-        move || submitted(rt, alloc, library, one, b"begin rename th1 u commit"),
-        move || submitted(rt, alloc, library, other, b"begin rename th1 v commit"),
-    );
-    let (one, first) = one?;
-    let (other, second) = other?;
+    let (Some((one, first)), Some((other, second))) = on_two_threads(rt, alloc, library, one, other)
+    else {
+        return Err(Fail::from("the scripts are read"));
+    };
     let mut sessions = Vec::new(alloc);
     with(library, &mut sessions, one)?;
     with(library, &mut sessions, other)?;
     Ok((sessions, first, second))
 }
 
-/// The text of the library after a history of DEMO.
+/// The text of the library after a history of DEMO, which is read from a text.
 fn replayed(
     rt: &(impl AllocGlobal + RandomSource + Threads + Sync),
-    history: &History,
+    history: &[u8],
 ) -> Result<Vec<u8>, Fail> {
     let alloc = rt.alloc();
     let db = database(rt, demo(alloc)?.as_slice())?;
     let Ok(()) = check_all(rt, alloc, &db) else {
         return Err(Fail::from("the proofs check"));
     };
+    let history = read_history(alloc, db.prelude(), history)?;
     let keys = RandomState::new(rt)?;
     let Ok(again) = replay(alloc, keys, &db, 4096, history.as_slice()) else {
         return Err(Fail::from("the history is replayed"));
     };
     text_of(alloc, &again)
+}
+
+/// Whether one is entry 1, and the other is refused behind it, since its label is unknown there.
+fn is_first_of_two(one: &Outcome, other: &Outcome) -> bool {
+    matches!(one, Outcome::Committed { number: 1, .. })
+        && is_refused(other, 1, Reason::UnknownLabel)
 }
 
 #[test]
@@ -399,40 +432,47 @@ fn one_of_two_renames_on_threads_is_done(rt: HostRuntime) -> Result<(), Fail> {
     let one = last(&library, &mut sessions)?;
     let other = last(&library, &mut sessions)?;
     let (sessions, first, second) = both_submitted(&rt, alloc, &library, one, other)?;
-    match (&first, &second) {
-        (Outcome::Committed { number, .. }, refused)
-        | (refused, Outcome::Committed { number, .. }) => {
-            assert!(rt; *number == 1 && is_refused(refused, 1, Reason::UnknownLabel));
-        }
-        _ => return Err(Fail::from("one is done")),
-    }
+    assert!(rt; is_first_of_two(&first, &second) || is_first_of_two(&second, &first));
     let Ok((history, after)) = finish(alloc, library, sessions) else {
         return Err(Fail::from("it is finished"));
     };
     let shown = text_of(alloc, &after)?;
-    assert_eq!(rt; shown.as_slice(), replayed(&rt, &history)?.as_slice());
+    let text = write_history(alloc, after.prelude(), history.as_slice())?;
+    assert_eq!(rt;
+        shown.as_slice(),
+        replayed(&rt, text.as_slice())?.as_slice()
+    );
     Ok(())
+}
+
+/// Whether a library of MINI isn't opened, since the shape is outside the limits.
+fn is_bad_shape(
+    rt: &(impl AllocGlobal + RandomSource + Threads + Sync),
+    slots: usize,
+    room: usize,
+    sessions: usize,
+) -> Result<bool, Fail> {
+    let answer = opening(rt, mini(), slots, room, sessions)?;
+    Ok(matches!(answer, Err(OpenError::BadShape)))
 }
 
 #[test]
 fn a_shape_is_tested_first(rt: HostRuntime) -> Result<(), Fail> {
-    let shapes = [
-        (0, 100, 1),
-        (4097, 100, 1),
-        (1, 16_777_217, 1),
-        (1, 100, 0),
-        (1, 100, 65),
-    ];
-    for (slots, room, sessions) in shapes {
-        let answer = opening(&rt, mini(), slots, room, sessions)?;
-        assert!(rt; matches!(answer, Err(OpenError::BadShape)));
-    }
+    assert!(rt; is_bad_shape(&rt, 0, 100, 1)?);
+    assert!(rt; is_bad_shape(&rt, 4097, 100, 1)?);
+    assert!(rt; is_bad_shape(&rt, 1, 16_777_217, 1)?);
+    assert!(rt; is_bad_shape(&rt, 1, 100, 0)?);
+    assert!(rt; is_bad_shape(&rt, 1, 100, 65)?);
+    Ok(())
+}
+
+#[test]
+fn why_a_library_is_not_opened(rt: HostRuntime) -> Result<(), Fail> {
     let answer = opening(&rt, demo(rt.alloc())?.as_slice(), 7, 0, 1)?;
     assert!(rt; matches!(answer, Err(OpenError::TooMany)));
     let answer = opening(&rt, mini(), 1, 6, 1)?;
     assert!(rt; matches!(answer, Err(OpenError::StoreFull)));
-    let faulty = b"$c wff $. a $p wff $= b $.";
-    let answer = opening(&rt, faulty, 1, 0, 1)?;
+    let answer = opening(&rt, b"$c wff $. a $p wff $= b $.", 1, 0, 1)?;
     assert!(rt; matches!(answer, Err(OpenError::ProofFails(1, _))));
     Ok(())
 }

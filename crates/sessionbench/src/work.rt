@@ -114,13 +114,26 @@ fn run_two<R: Threads + Wait + Sync>(
     alloc: Global,
     one: Worker<'_>,
     two: Worker<'_>,
-) -> Tally {
-    let (first, second) = join(
+) -> (Tally, Tally) {
+    join(
         rt,
         move || run_one(rt, alloc, one),
         move || run_one(rt, alloc, two),
-    );
-    first.with(second)
+    )
+}
+
+/// The scripts of four workers, on four threads.
+fn run_four<R: Threads + Wait + Sync>(
+    rt: &R,
+    alloc: Global,
+    front: (Worker<'_>, Worker<'_>),
+    back: (Worker<'_>, Worker<'_>),
+) -> ((Tally, Tally), (Tally, Tally)) {
+    join(
+        rt,
+        move || run_two(rt, alloc, front.0, front.1),
+        move || run_two(rt, alloc, back.0, back.1),
+    )
 }
 
 /// The scripts by sessions on running words.
@@ -144,19 +157,16 @@ fn by_sessions<R: Threads + Wait + Sync>(
         [one, two] => {
             let one = hired(&library, &mut sessions, one)?;
             let two = hired(&library, &mut sessions, two)?;
-            Some(run_two(rt, alloc, one, two))
+            let (first, second) = run_two(rt, alloc, one, two);
+            Some(first.with(second))
         }
         [one, two, three, four] => {
             let one = hired(&library, &mut sessions, one)?;
             let two = hired(&library, &mut sessions, two)?;
             let three = hired(&library, &mut sessions, three)?;
             let four = hired(&library, &mut sessions, four)?;
-            let (front, back) = join(
-                rt,
-                move || run_two(rt, alloc, one, two),
-                move || run_two(rt, alloc, three, four),
-            );
-            Some(front.with(back))
+            let (front, back) = run_four(rt, alloc, (one, two), (three, four));
+            Some(front.0.with(front.1).with(back.0.with(back.1)))
         }
         _ => None,
     }
