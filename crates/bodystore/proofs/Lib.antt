@@ -2,3 +2,4 @@ pub mod Reading
 pub mod One
 pub mod Small
 pub mod Staging
+pub mod Sent

@@ -27,3 +27,4 @@ pub mod Modes
 pub mod StoreSteps
 pub mod Events
 pub mod Tellings
+pub mod Sent

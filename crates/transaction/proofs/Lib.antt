@@ -13,3 +13,4 @@ pub mod Recorded
 pub mod Committing
 pub mod Trying
 pub mod Applying
+pub mod Sent

@@ -1,0 +1,5 @@
+pub mod Alike
+pub mod UpTo
+pub mod Names
+pub mod RuleSteps
+pub mod Gathered

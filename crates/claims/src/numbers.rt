@@ -1,0 +1,34 @@
+//! Numbers that are claimed.
+
+ghost use Rattle.std.specs.Prelude.{◌≡◌, ◌+◌, ◌<◌, ◌^◌};
+
+use crate::rule::Board;
+use std::marker::Model;
+
+/// The numbers from 0 up to a count, which claimants share. Contracts see the table that they lie in, the count, and how many claimants there
+/// are.
+#[derive(Drop)]
+pub struct Numbers {
+    pub(crate) table: Board,
+    pub(crate) count: usize,
+}
+
+impl Model for Numbers {
+    ghost use Rattle.claims.specs.Claims.{Home};
+    ghost use Rattle.claims.specs.Rule.{AreLaid, named};
+
+    ghost Value = { Home };
+
+    ghost view = { λ n. record { table = named n.table.shared.table_id n.table.shared.key.count; count = n.table.shared.key.count; claimants = n.table.shared.key.claimants } };
+
+    ghost invariant = { λ n. AreLaid n.count n.table.shared.table_id n.table.shared.key };
+}
+
+impl Numbers {
+    /// Up to which count there are numbers: the greatest is one less.
+    pub fn count(&self) -> usize
+        ensures { result ≡ self.now.count }
+    {
+        self.count
+    }
+}

@@ -1,0 +1,37 @@
+-- Sessions may go to other threads, and a library may be shared by threads.
+use denote.Param.Send.{IsSend, IsSync, sendable}
+use Rattle.std.proofs.Crossing.{crosses}
+use Rattle.std.proofs.MapsCrossing as maps
+use Rattle.bodystore.proofs.Sent.{stage_send}
+use Rattle.tlwords.proofs.Sent.{pass_send, words_sync}
+use Rattle.mmsyntax.specs.contracts.prelude.Prelude as Prelude
+use Rattle.lawful.specs.contracts.notes.Given as Given
+use Rattle.transaction.specs.contracts.outcome.Record as Record
+use Rattle.transaction.specs.contracts.outcome.Outcome as Outcome
+use Rattle.transaction.specs.contracts.session.Kit as Kit
+use Rattle.transaction.specs.contracts.session.Session as Session
+use Rattle.transaction.specs.contracts.running.Library as Library
+
+pub record_send : IsSend Record.the_field.row
+record_send = search (crosses, sendable) depth 60 fits 100000
+
+pub outcome_send : IsSend Outcome.the_field.row
+outcome_send = search (crosses, sendable) depth 60 fits 100000
+
+kit_send : IsSend Kit.the_field.row
+kit_send = let stage = stage_send in search (pass_send, crosses, sendable) depth 60 fits 100000
+
+pub session_send : IsSend Session.the_field.row
+session_send = let own = record_send in let kit = kit_send in search (crosses, sendable) depth 60 fits 100000
+
+prelude_sync : IsSync Prelude.the_field.row
+prelude_sync = search (crosses, maps.crosses, sendable) depth 60 fits 100000
+
+given_sync : IsSync Given.the_field.row
+given_sync = search (crosses, sendable) depth 60 fits 100000
+
+pub library_sync : IsSync Library.the_field.row
+library_sync = let prelude = prelude_sync in let given = given_sync in search (words_sync, crosses, sendable) depth 60 fits 100000
+
+-- for a `search` that asks for these
+pub ruleset crosses_transaction = (record_send, outcome_send, session_send, library_sync)
