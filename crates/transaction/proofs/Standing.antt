@@ -5,4 +5,4 @@ use Rattle.transaction.specs.Members.{Member, Stands, IsMember}
 pub stands : (m : Member) → IsMember m → Stands m
 stands m is =
     let seen = sessions_stand m.given m.known is.on is.knows in
-    record { history = seen.0; agree = seen.1; recorded = is.recorded }
+    record { setting = is.on.0; history = seen.0; agree = seen.1; recorded = is.recorded }

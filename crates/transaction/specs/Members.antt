@@ -51,9 +51,10 @@ pub record AreRecorded (m : Member) : Type 0 where
 
 -- ---- what is promised of a session
 
--- the history that it has seen is one of the library, with which its calls agree: each transaction's replies are the definition's, from the
+-- its words were opened with what it was given; the history that it has seen is one of the library, with which its calls agree: each transaction's replies are the definition's, from the
 -- library at the opening, the library after each front verifies, and the cells show it there; and each number that it drew has its record
 pub record Stands (m : Member) : Type 0 where
+  pub setting : m.known.home.setting ≡ Some m.given
   pub history : IsHistoryOf m.given m.known.home.base m.known.seen
   pub agree : AllAgree m.given (history_of m.known.seen) m.known.mine
   pub recorded : AreRecorded m

@@ -27,7 +27,7 @@ impl Model for Library {
 }
 
 impl Library {
-    ghost use Rattle.std.specs.Prelude.{◌≡◌};
+    ghost use Rattle.std.specs.Prelude.{◌≡◌, Some};
     ghost use Rattle.tlwords.specs.Callers.{home_of};
     ghost use Rattle.lawful.specs.Lawful.{setting_of};
     ghost use Rattle.transaction.specs.Openings.{IsLibraryOf};
@@ -47,7 +47,9 @@ impl Library {
 
     /// The prelude of the library's assertions.
     pub fn prelude(&self) -> &Prelude
-        ensures { result.now ≡ (setting_of self.now.given).prelude }
+        ensures value { result.now ≡ (setting_of self.now.given).prelude }
+        // the words were opened with what the library was given
+        ensures setting { self.now.words.setting ≡ Some self.now.given }
     {
         &self.prelude
     }

@@ -1,12 +1,13 @@
 -- Of the code's inside, apart from the rules: what one worker does with its session.
-use Rattle.std.specs.Prelude.{◌≡◌, ◌<◌, ℕ, List, [], ◌∷◌, Bool, true, Some, map, slice_get}
+use Rattle.std.specs.Prelude.{◌≡◌, ◌≢◌, ℕ, List, [], ◌∷◌, true, Some, All, IsPermutation, flat_map, length, map, slice_get}
 use Rattle.library.specs.declared.command.Command.{Command}
-use Rattle.claims.specs.Claims.{Claimant}
+use Rattle.claims.specs.Claims.{Home as Numbers, Claimant, IsOf, up_to}
 use Rattle.transaction.specs.declared.outcome.Outcome.{Outcome}
 use Rattle.transaction.specs.Members.{Member, Stands}
 use Rattle.transaction.specs.Attempts.{Submits}
 use Rattle.workers.specs.declared.shift.Row.{Row}
 use Rattle.workers.specs.declared.shift.Shift.{Shift}
+use Rattle.workers.specs.declared.team.ShiftOf.{ShiftOf}
 
 -- the session submits the transactions, one after another, with these outcomes
 abbrev pub SubmitsAll : List (List Command) → Member → Member → List Outcome → Type 0
@@ -36,3 +37,34 @@ abbrev pub AreShifts : List (List (List Command)) → List Member → List Claim
 AreShifts scripts [] [] [] = Unit {0}
 AreShifts scripts (m ∷ ms) (c ∷ cs) (s ∷ ss) = IsShift scripts m c s.session s.claimant s.rows.items × AreShifts scripts ms cs ss
 AreShifts scripts _ _ _ = ⊥
+
+-- ---- threads
+
+-- each promises a shift of its session and its claimant
+abbrev pub ArePromised : List (List (List Command)) → List Member → List Claimant → List ShiftOf → Type 0
+ArePromised scripts [] [] [] = Unit {0}
+ArePromised scripts (m ∷ ms) (c ∷ cs) (p ∷ ps) =
+    (p.scripts.now ≡ scripts) × (p.session.value ≡ m) × (p.claimant.value ≡ c) × ArePromised scripts ms cs ps
+ArePromised scripts _ _ _ = ⊥
+
+-- the shift is the one that is promised
+abbrev pub IsKept : ShiftOf → Shift → Type 0
+IsKept p s = IsShift p.scripts.now p.session.value p.claimant.value s.session s.claimant s.rows.items
+
+-- ---- all shifts together
+
+-- so many claimants, all of these numbers, claimed the scripts that were run, until they were told that there are no more
+pub record AreWhole (numbers : Numbers) (shifts : List Shift) : Type 0 where
+  pub some : shifts ≢ []
+  pub all : length shifts ≡ numbers.claimants
+  pub own : All (λ s. IsOf numbers s.claimant) shifts
+  pub ended : All (λ s. s.claimant.ended ≡ true) shifts
+  pub claimed : All (λ s. s.claimant.claimed ≡ map (λ row. row.script) s.rows.items) shifts
+
+-- the sessions, in order; and the outcomes of the rows, in the order of the scripts, each of which was run once
+pub record AreCollected (count : ℕ) (shifts : List Shift) (outcomes : List (List Outcome)) (sessions : List Member) : Type 0 where
+  pub sessions_are : sessions ≡ map (λ s. s.session) shifts
+  pub rows : List Row
+  pub same : IsPermutation (flat_map (λ s. s.rows.items) shifts) rows
+  pub each : map (λ row. row.script) rows ≡ up_to count
+  pub outcomes_are : outcomes ≡ map (λ row. row.outcomes.items) rows

@@ -1,5 +1,6 @@
 -- What becomes of scripts that workers run on the sessions of one library.
-use Rattle.std.specs.Prelude.{◌≡◌, ◌<◌, ◌≤◌, ℕ, suc, List, [], ◌∷◌, ◌++◌, Bool, true, false, Some, AllZip, IsPermutation, length, drop, filter, flat_map, map, slice_get, Vec}
+use Rattle.std.specs.Prelude.{◌≡◌, ◌<◌, ◌≤◌, ℕ, zero, suc, List, [], ◌∷◌, ◌++◌, Bool, true, false, Some, IsPermutation, length, drop, filter, flat_map, map, slice_get, Vec}
+use Rattle.std.specs.List.{AllZip}
 use Rattle.std.specs.declared.alloc.Global.{Global}
 use Rattle.library.specs.declared.command.Command.{Command}
 use Rattle.library.specs.Agrees.{Agrees, committed, read, refused}
@@ -78,8 +79,8 @@ is_done_entry _ = false
 -- the entry with the number, from 1, is done
 abbrev pub is_done : List Entry → ℕ → Bool
 is_done [] n = false
-is_done (e ∷ h) 0 = false
-is_done (e ∷ h) 1 = is_done_entry e
+is_done (e ∷ h) zero = false
+is_done (e ∷ h) (suc zero) = is_done_entry e
 is_done (e ∷ h) (suc (suc n)) = is_done h (suc n)
 
 -- those that a session has drawn since, and that are done

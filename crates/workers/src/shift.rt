@@ -15,7 +15,6 @@ use std::sync::Wait;
 use transaction::{Library, Outcome, Session};
 
 /// What the workers share.
-#[derive(Clone, Copy)]
 pub(crate) struct Shop<'w, G> {
     pub(crate) library: &'w Library,
     pub(crate) scripts: &'w [Script],
@@ -23,6 +22,20 @@ pub(crate) struct Shop<'w, G> {
     pub(crate) numbers: &'w Numbers,
     pub(crate) gate: &'w G,
 }
+
+impl<'w, G> Clone for Shop<'w, G> {
+    ghost use Rattle.std.specs.Prelude.{◌≡◌, ⊤};
+
+    ghost is_clone = { λ s r. r ≡ s };
+
+    ghost is_infallible = { λ _. ⊤ };
+
+    fn clone(&self) -> Result<Self, AllocError> {
+        Ok(*self)
+    }
+}
+
+impl<'w, G> Copy for Shop<'w, G> {}
 
 /// A script that was run.
 #[derive(Drop)]
@@ -53,7 +66,7 @@ pub(crate) fn work<R: Wait, G: Gate>(
     requires claims { Claims shop.numbers.now claimant }
     requires indexes { shop.numbers.now.count ≡ length shop.scripts.now }
     requires fit { All (All (All (CommandFits (setting_of shop.library.now.given).prelude))) shop.scripts.now }
-    ensures { IfOk result (λ shift. IsShift shop.scripts.now session claimant shift.session shift.claimant shift.rows.items) }
+    ensures { IfOk result (λ shift. IsShift shop.entry.scripts.now session claimant shift.session shift.claimant shift.rows.items) }
 {
     let mut session = session;
     let mut claimant = claimant;

@@ -1,11 +1,12 @@
 //! Workers on threads.
 
-ghost use Rattle.std.specs.Prelude.{◌≡◌, All, IfOk, length};
+ghost use Rattle.std.specs.Prelude.{◌≡◌, All, IfOk, length, map};
+ghost use Rattle.std.specs.List.{AllZip};
 ghost use Rattle.library.specs.Fitting.{CommandFits};
 ghost use Rattle.claims.specs.Claims.{IsOf as Claims};
 ghost use Rattle.lawful.specs.Lawful.{setting_of};
 ghost use Rattle.transaction.specs.Members.{IsOf};
-ghost use Rattle.workers.specs.Shifts.{AreShifts, ArePromised};
+ghost use Rattle.workers.specs.Shifts.{AreShifts, ArePromised, IsKept};
 
 use crate::error::WorkError;
 use crate::gate::Gate;
@@ -32,9 +33,9 @@ struct ShiftOf<'w> {
 
 impl<'w> Promise<Handed> for ShiftOf<'w> {
     ghost use Rattle.std.specs.Prelude.{IfOk};
-    ghost use Rattle.workers.specs.Shifts.{IsShift};
+    ghost use Rattle.workers.specs.Shifts.{IsKept};
 
-    ghost kept_by = { λ p r. IfOk r (λ shift. IsShift p.scripts.now p.session.value p.claimant.value shift.session shift.claimant shift.rows.items) };
+    ghost kept_by = { λ p r. IfOk r (IsKept p) };
 }
 
 /// Runs the scripts with a worker for each session, each on a thread, and waits for all of them.
@@ -54,13 +55,18 @@ pub(crate) fn employ<R: Threads + Wait + Sync, G: Gate + Sync>(
     requires pairs { length claimants.items ≡ length sessions.items }
     requires indexes { shop.numbers.now.count ≡ length shop.scripts.now }
     requires fit { All (All (All (CommandFits (setting_of shop.library.now.given).prelude))) shop.scripts.now }
-    ensures { IfOk result (λ shifts. AreShifts shop.scripts.now sessions.items claimants.items shifts.items) }
+    ensures { IfOk result (λ shifts. AreShifts shop.entry.scripts.now sessions.items claimants.items shifts.items) }
 {
     thread::scope(
         thread::scope_env(),
         rt,
         |scope| -> Result<Vec<Shift>, WorkError>
-            ensures { IfOk result (λ shifts. AreShifts shop.scripts.now sessions.items claimants.items shifts.items) }
+            requires own { All (IsOf shop.library.now) sessions.items }
+            requires claims { All (Claims shop.numbers.now) claimants.items }
+            requires pairs { length claimants.items ≡ length sessions.items }
+            requires indexes { shop.numbers.now.count ≡ length shop.scripts.now }
+            requires fit { All (All (All (CommandFits (setting_of shop.library.now.given).prelude))) shop.scripts.now }
+            ensures { IfOk result (λ shifts. AreShifts shop.entry.scripts.now sessions.items claimants.items shifts.items) }
         {
             let handles = start_all(scope, rt, alloc, shop, sessions, claimants)?;
             wait_for_all(rt, alloc, handles)
@@ -69,8 +75,8 @@ pub(crate) fn employ<R: Threads + Wait + Sync, G: Gate + Sync>(
 }
 
 /// Starts a thread for each session.
-fn start_all<'s, 'w, E, R: Threads + Wait + Sync, G: Gate + Sync>(
-    scope: &'s Scope<'s, E>,
+fn start_all<'s, 'w: 's, R: Threads + Wait + Sync, G: Gate + Sync>(
+    scope: &'s Scope<'s, &'w ()>,
     rt: &'w R,
     alloc: Global,
     shop: Shop<'w, G>,
@@ -82,7 +88,7 @@ fn start_all<'s, 'w, E, R: Threads + Wait + Sync, G: Gate + Sync>(
     requires pairs { length claimants.items ≡ length sessions.items }
     requires indexes { shop.numbers.now.count ≡ length shop.scripts.now }
     requires fit { All (All (All (CommandFits (setting_of shop.library.now.given).prelude))) shop.scripts.now }
-    ensures { IfOk result (λ handles. ArePromised shop.scripts.now sessions.items claimants.items handles.items) }
+    ensures { IfOk result (λ handles. ArePromised shop.entry.scripts.now sessions.items claimants.items (map (λ h. h.promise) handles.items)) }
 {
     let mut handles = Vec::with_capacity(alloc, sessions.len())?;
     for (session, claimant) in sessions.into_iter().zip(claimants) {
@@ -106,6 +112,7 @@ fn wait_for_all<R: Threads + Wait>(
     alloc: Global,
     handles: Vec<PromisedHandle<Handed, ShiftOf<'_>>>,
 ) -> Result<Vec<Shift>, WorkError>
+    ensures { IfOk result (λ shifts. AllZip IsKept (map (λ h. h.promise) handles.entry.items) shifts.items) }
 {
     let mut shifts = Vec::with_capacity(alloc, handles.len())?;
     for handle in handles {

@@ -5,6 +5,7 @@ ghost use Rattle.library.specs.Fitting.{CommandFits};
 ghost use Rattle.lawful.specs.Lawful.{setting_of};
 ghost use Rattle.transaction.specs.Members.{IsOf};
 ghost use Rattle.workers.specs.Works.{Works, lists_of};
+ghost use Rattle.workers.specs.Shifts.{AreWhole, AreCollected};
 
 use crate::error::WorkError;
 use crate::gate::Gate;
@@ -48,6 +49,8 @@ pub fn run_scripts<R: Threads + Wait + Sync, G: Gate + Sync>(
     requires fit { All (All (All (CommandFits (setting_of library.now.given).prelude))) scripts.now }
     ensures { IfOk result (λ worked. Works library.now.given sessions.items scripts.now (lists_of worked.outcomes.items) worked.sessions.items) }
 {
+    // For the proof: the words were opened with what the library was given.
+    let _ = library.prelude();
     let rows = Vec::with_capacity(alloc, scripts.len())?;
     let (numbers, claimants) = Numbers::open(alloc, scripts.len(), sessions.len())?;
     let shop = Shop {
@@ -67,6 +70,9 @@ fn collect(
     mut rows: Vec<Row>,
     shifts: Vec<Shift>,
 ) -> Result<Worked, WorkError>
+    requires none { rows.items ≡ [] }
+    requires whole { AreWhole numbers shifts.items }
+    ensures { IfOk result (λ worked. AreCollected numbers.count shifts.items (lists_of worked.outcomes.items) worked.sessions.items) }
 {
     let mut sessions = Vec::with_capacity(alloc, shifts.len())?;
     let mut claimants = Vec::with_capacity(alloc, shifts.len())?;
