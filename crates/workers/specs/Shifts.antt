@@ -1,5 +1,5 @@
 -- Of the code's inside, apart from the rules: what one worker does with its session.
-use Rattle.std.specs.Prelude.{◌≡◌, ◌≢◌, ℕ, List, [], ◌∷◌, true, Some, All, IsPermutation, flat_map, length, map, slice_get}
+use Rattle.std.specs.Prelude.{◌≡◌, ◌≢◌, ℕ, List, [], ◌∷◌, ◌++◌, true, Some, All, IsPermutation, flat_map, length, map, slice_get}
 use Rattle.library.specs.declared.command.Command.{Command}
 use Rattle.claims.specs.Claims.{Home as Numbers, Claimant, IsOf, up_to}
 use Rattle.transaction.specs.declared.outcome.Outcome.{Outcome}
@@ -29,7 +29,8 @@ pub record IsShift (scripts : List (List (List Command))) (session : Member) (cl
   pub runs : RunsAll scripts session after rows
   pub stands : Stands after
   pub table : last.table ≡ claimant.table
-  pub claimed : last.claimed ≡ map (λ row. row.script) rows
+  pub count : last.count ≡ claimant.count
+  pub claimed : last.claimed ≡ claimant.claimed ++ map (λ row. row.script) rows
   pub ended : last.ended ≡ true
 
 -- each worker does, with these sessions and claimants
