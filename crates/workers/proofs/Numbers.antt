@@ -3,6 +3,7 @@ use Rattle.std.proofs.Common.{◌≡◌, ℕ, zero, suc, Bool, true, false, List
 use Rattle.std.specs.Prelude.{All, Some, drop, filter, slice_get}
 use Rattle.std.proofs.Math.Seq.{drop-append_seam}
 use Rattle.std.proofs.lemmas.Bool.{cond-true}
+use Rattle.std.proofs.lemmas.List.{append-nil}
 use Rattle.std.proofs.lemmas.List.Elements.{filter-append}
 use Rattle.ranges.specs.Ranges.{Has}
 use Rattle.cells.proofs.Members.{all_has}
@@ -17,7 +18,7 @@ use Rattle.transaction.specs.Members.{Member, Stands}
 use Rattle.transaction.specs.Attempts.{Submits, IsVoidNumber}
 use Rattle.transaction.proofs.Recorded.{voids_grow}
 use Rattle.workers.specs.Works.{OutcomeAgrees, is_done, is_done_entry, newly_done, numbers_of}
-use Rattle.workers.proofs.Submitting.{Goes, submitted_agrees}
+use Rattle.workers.proofs.Submitting.{Goes, appended, submitted_agrees, submitted_drawn}
 
 -- ---- done numbers
 
@@ -51,14 +52,6 @@ module _ (last : Member) where
   outcome_filtered g cs outcome.TooManyCommands told = refl
   outcome_filtered g cs outcome.NoMemory told = refl
 
-  -- of what a transaction drew
-  pub submitted_numbers : (cs : List Command) (old new : Member) (o : Outcome) (submits : Submits cs old new o) → Goes new last → Stands last
-      → filter is_done_last (submits.numbers ++ numbers_of (o ∷ [])) ≡ numbers_of (o ∷ [])
-  submitted_numbers cs old new o submits goes stands =
-      let own = outcome_filtered last.given cs o (submitted_agrees cs old new o submits last goes stands) in
-      let none = void_filtered submits.numbers (voids_grow new.known last.known submits.numbers goes.grows submits.void) in
-      filter-append is_done_last submits.numbers (numbers_of (o ∷ [])) ∙ λ j. none j ++ own j
-
 pub numbers_first : (o : Outcome) (os : List Outcome) → numbers_of (o ∷ os) ≡ numbers_of (o ∷ []) ++ numbers_of os
 numbers_first (outcome.Committed number replies) os = refl
 numbers_first (outcome.Read place replies) os = refl
@@ -71,12 +64,40 @@ numbers_first outcome.NoMemory os = refl
 
 -- ---- further numbers
 
--- it goes on, and its further numbers that are done in a later history are these
+-- the session drew further numbers, and those that are done in a later history are these
 pub record Draws (last old new : Member) (done : List ℕ) : Type 0 where
-  pub goes : Goes old new
-  pub are : filter (is_done (history_of last.known.seen)) goes.numbers ≡ done
+  pub numbers : List ℕ
+  pub drawn : new.known.drawn ≡ old.known.drawn ++ numbers
+  pub are : filter (is_done (history_of last.known.seen)) numbers ≡ done
+
+module _ (last : Member) where
+  pub draws_none : (old new : Member) → new ≡ old → Draws last old new []
+  draws_none old new same = record {
+    numbers = [];
+    drawn = ap (λ (m : Member). m.known.drawn) same ∙ sym (append-nil old.known.drawn);
+    are = refl;
+  }
+
+  pub draws_more : (old mid new : Member) (here further : List ℕ) → Draws last old mid here → Draws last mid new further
+      → Draws last old new (here ++ further)
+  draws_more old mid new here further p q = record {
+    numbers = p.numbers ++ q.numbers;
+    drawn = appended old.known.drawn mid.known.drawn new.known.drawn p.numbers q.numbers p.drawn q.drawn;
+    are = filter-append (is_done (history_of last.known.seen)) p.numbers q.numbers ∙ λ j. p.are j ++ q.are j;
+  }
+
+  pub submitted_draws : (cs : List Command) (old new : Member) (o : Outcome) → Submits cs old new o → Goes new last → Stands last
+      → Draws last old new (numbers_of (o ∷ []))
+  submitted_draws cs old new o submits goes stands =
+      let own = outcome_filtered last last.given cs o (submitted_agrees cs old new o submits last goes stands) in
+      let none = void_filtered last submits.numbers (voids_grow new.known last.known submits.numbers goes.grows submits.void) in
+      record {
+        numbers = submits.numbers ++ numbers_of (o ∷ []);
+        drawn = submitted_drawn cs old new o submits;
+        are = filter-append (is_done (history_of last.known.seen)) submits.numbers (numbers_of (o ∷ [])) ∙ λ j. none j ++ own j;
+      }
 
 pub drawn_newly : (old new : Member) (done : List ℕ) → Draws new old new done → newly_done old new ≡ done
 drawn_newly old new done draws =
-    ap (λ (ns : List ℕ). filter (is_done (history_of new.known.seen)) (drop (length old.known.drawn) ns)) draws.goes.drawn
-    ∙ (ap (filter (is_done (history_of new.known.seen))) (drop-append_seam old.known.drawn draws.goes.numbers) ∙ draws.are)
+    ap (λ (ns : List ℕ). filter (is_done (history_of new.known.seen)) (drop (length old.known.drawn) ns)) draws.drawn
+    ∙ (ap (filter (is_done (history_of new.known.seen))) (drop-append_seam old.known.drawn draws.numbers) ∙ draws.are)

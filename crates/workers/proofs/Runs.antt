@@ -1,7 +1,6 @@
 -- What a session's transactions, one after another, make of it: it is later, its outcomes agree with its history, and its new numbers are theirs.
 use Rattle.std.proofs.Common.{◌≡◌, ℕ, ◌≤◌, inl, inr, List, [], ◌∷◌, ◌++◌, length, Some, refl, sym, ap, subst, ◌∙◌, arith}
-use Rattle.std.specs.Prelude.{slice_get, filter, flat_map}
-use Rattle.std.proofs.lemmas.List.Elements.{filter-append}
+use Rattle.std.specs.Prelude.{slice_get, flat_map}
 use Rattle.library.specs.declared.command.Command.{Command}
 use Rattle.ranges.specs.Ranges.{Has}
 use Rattle.lawful.specs.declared.notes.Given.{Given}
@@ -13,7 +12,7 @@ use Rattle.workers.specs.Works.{ScriptAgrees, IsHandedBack, is_done, newly_done,
 use Rattle.workers.specs.Shifts.{SubmitsAll, RunsAll}
 use Rattle.workers.proofs.Submitting.{Goes, goes_nowhere, goes_on, goes_further, submitted_goes, submitted_agrees, submitted_fits}
 use Rattle.workers.proofs.Submitting.{submitted_stands, submitted_within}
-use Rattle.workers.proofs.Numbers.{Draws, drawn_newly, submitted_numbers, numbers_first}
+use Rattle.workers.proofs.Numbers.{Draws, drawn_newly, draws_none, draws_more, submitted_draws, numbers_first}
 
 -- ---- it goes on
 
@@ -71,34 +70,23 @@ module _ (last : Member) (stands : Stands last) where
 
   -- ---- its numbers
 
-  draws_none : (old new : Member) → new ≡ old → Draws last old new []
-  draws_none old new same = subst (λ (m : Member). Draws last old m []) (sym same) (record { goes = goes_nowhere old; are = refl })
-
-  draws_more : (old mid new : Member) (here further : List ℕ) → Draws last old mid here → Draws last mid new further
-      → Draws last old new (here ++ further)
-  draws_more old mid new here further p q = record {
-    goes = goes_on old mid new p.goes q.goes;
-    are = filter-append (is_done (history_of last.known.seen)) p.goes.numbers q.goes.numbers ∙ λ j. p.are j ++ q.are j;
-  }
-
   script_draws : (script : List (List Command)) (old new : Member) (os : List Outcome) → SubmitsAll script old new os → Goes new last
       → Draws last old new (numbers_of os)
-  script_draws [] old new [] same goes = draws_none old new same
+  script_draws [] old new [] same goes = draws_none last old new same
   script_draws [] old new (o ∷ os) none goes = absurd none
   script_draws (cs ∷ rest) old new [] none goes = absurd none
   script_draws (cs ∷ rest) old new (o ∷ os) (mid, first, others) goes =
       let later = goes_on mid new last (script_goes rest mid new os others) goes in
       subst (Draws last old new) (sym (numbers_first o os))
-      (draws_more old mid new (numbers_of (o ∷ [])) (numbers_of os)
-      (record { goes = submitted_goes cs old mid o first; are = submitted_numbers last cs old mid o first later stands })
-      (script_draws rest mid new os others goes))
+      (draws_more last old mid new (numbers_of (o ∷ [])) (numbers_of os)
+      (submitted_draws last cs old mid o first later stands) (script_draws rest mid new os others goes))
 
   run_draws : (scripts : List (List (List Command))) (old new : Member) (rows : List Row) → RunsAll scripts old new rows → Goes new last
       → Draws last old new (flat_map (λ row. numbers_of row.outcomes.items) rows)
-  run_draws scripts old new [] same goes = draws_none old new same
+  run_draws scripts old new [] same goes = draws_none last old new same
   run_draws scripts old new (row ∷ rows) (mid, script, is, first, others) goes =
       let later = goes_on mid new last (run_goes scripts mid new rows others) goes in
-      draws_more old mid new (numbers_of row.outcomes.items) (flat_map (λ row. numbers_of row.outcomes.items) rows)
+      draws_more last old mid new (numbers_of row.outcomes.items) (flat_map (λ row. numbers_of row.outcomes.items) rows)
       (script_draws script old mid row.outcomes.items first later) (run_draws scripts mid new rows others goes)
 
 pub runs_agree : (g : Given) (scripts : List (List (List Command))) (old new : Member) (rows : List Row) → RunsAll scripts old new rows

@@ -51,7 +51,7 @@ goes_nowhere m = record {
   drawn = sym (append-nil m.known.drawn);
 }
 
-appended : {A : Type 0} (a b c p q : List A) → b ≡ a ++ p → c ≡ b ++ q → c ≡ a ++ (p ++ q)
+pub appended : {A : Type 0} (a b c p q : List A) → b ≡ a ++ p → c ≡ b ++ q → c ≡ a ++ (p ++ q)
 appended a b c p q e f = f ∙ (ap (λ z. z ++ q) e ∙ append_assoc a p q)
 
 pub goes_on : (a b c : Member) → Goes a b → Goes b c → Goes a c
@@ -188,10 +188,14 @@ module _ (cs : List Command) (old new : Member) (o : Outcome) (submits : Submits
   abbrev before : Pass
   before = tried old.known submits.numbers submits.runs
 
+  pub submitted_drawn : new.known.drawn ≡ old.known.drawn ++ (submits.numbers ++ numbers_of (o ∷ []))
+  submitted_drawn =
+      gained_numbers cs before new.known o submits.gains submits.settled
+      ∙ append_assoc old.known.drawn submits.numbers (numbers_of (o ∷ []))
+
   pub submitted_goes : Goes old new
   submitted_goes =
       let calls = gained_calls cs before new.known o submits.gains in
-      let drawn = gained_numbers cs before new.known o submits.gains submits.settled in
       record {
         given = submits.later.given;
         home = submits.later.home;
@@ -200,7 +204,7 @@ module _ (cs : List Command) (old new : Member) (o : Outcome) (submits : Submits
         calls = calls.0;
         mine = calls.1;
         numbers = submits.numbers ++ numbers_of (o ∷ []);
-        drawn = drawn ∙ append_assoc old.known.drawn submits.numbers (numbers_of (o ∷ []));
+        drawn = submitted_drawn;
       }
 
   pub submitted_agrees : (last : Member) → Goes new last → Stands last → OutcomeAgrees last.given (history_of last.known.seen) cs o
