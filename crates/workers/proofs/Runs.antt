@@ -1,5 +1,5 @@
 -- What a session's transactions, one after another, make of it: it is later, its outcomes agree with its history, and its new numbers are theirs.
-use Rattle.std.proofs.Common.{◌≡◌, ℕ, ◌≤◌, inl, inr, List, [], ◌∷◌, ◌++◌, length, Some, refl, sym, ap, subst, ◌∙◌, arith}
+use Rattle.std.proofs.Common.{◌≡◌, ℕ, ◌≤◌, inl, inr, List, [], ◌∷◌, length, Some, sym, subst, arith}
 use Rattle.std.specs.Prelude.{slice_get, flat_map}
 use Rattle.library.specs.declared.command.Command.{Command}
 use Rattle.ranges.specs.Ranges.{Has}
@@ -8,7 +8,7 @@ use Rattle.lawful.specs.History.{history_of}
 use Rattle.transaction.specs.declared.outcome.Outcome.{Outcome}
 use Rattle.transaction.specs.Members.{Member, Stands}
 use Rattle.workers.specs.declared.shift.Row.{Row}
-use Rattle.workers.specs.Works.{ScriptAgrees, IsHandedBack, is_done, newly_done, numbers_of, place_behind}
+use Rattle.workers.specs.Works.{ScriptAgrees, IsHandedBack, newly_done, numbers_of, place_behind}
 use Rattle.workers.specs.Shifts.{SubmitsAll, RunsAll}
 use Rattle.workers.proofs.Submitting.{Goes, goes_nowhere, goes_on, goes_further, submitted_goes, submitted_agrees, submitted_fits}
 use Rattle.workers.proofs.Submitting.{submitted_stands, submitted_within}

@@ -1,7 +1,7 @@
 -- What one transaction makes of a session: it has further calls and numbers, and its outcome agrees with each history with which its calls do.
-use Rattle.std.proofs.Common.{◌≡◌, ◌≢◌, ℕ, ◌+◌, ◌<◌, ◌≤◌, true, false, List, [], ◌∷◌, ◌++◌, length, refl, sym, ap, subst, ◌∙◌, arith}
+use Rattle.std.proofs.Common.{◌≡◌, ◌≢◌, ℕ, ◌≤◌, List, [], ◌∷◌, ◌++◌, length, refl, sym, ap, subst, ◌∙◌, arith}
 use Rattle.std.proofs.Common.{append_assoc}
-use Rattle.std.specs.Prelude.{All, drop, slice_get, Some}
+use Rattle.std.specs.Prelude.{All, Some}
 use Rattle.std.proofs.Math.Seq.{drop-append_seam}
 use Rattle.std.proofs.lemmas.List.{append-nil}
 use Rattle.std.proofs.lemmas.List.Elements.{All-head, All-drop}
@@ -22,7 +22,7 @@ use Rattle.lawful.proofs.Entries.{length-entries_of}
 use Rattle.transaction.specs.declared.outcome.Conflict.{Conflict as Met}
 use Rattle.transaction.specs.declared.outcome.Outcome.{Outcome}
 use Rattle.transaction.specs.declared.outcome.Outcome.TheVariants as outcome
-use Rattle.transaction.specs.Members.{Member, IsLater, Stands}
+use Rattle.transaction.specs.Members.{Member, Stands}
 use Rattle.transaction.specs.Attempts.{Pass, Gains, GainsCall, Submits, SaysDone, SaysRefused, tried}
 use Rattle.workers.specs.Works.{OutcomeAgrees, OutcomeFits, StandsFrom, place_behind, numbers_of}
 

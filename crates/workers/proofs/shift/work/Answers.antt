@@ -1,12 +1,7 @@
-use Rattle.std.proofs.Common.{◌≡◌, ◌<◌, List, [], ◌∷◌, ◌++◌, map, length, Some, refl, sym, ap, subst, ◌∙◌, arith}
-use Rattle.std.specs.Prelude.{slice_get}
-use Rattle.std.proofs.lemmas.Option.{slice_get-get_or}
-use Rattle.library.specs.declared.command.Command.{Command}
+use Rattle.std.proofs.Common.{◌<◌, length, ap, ◌∙◌, arith}
 use Rattle.claims.specs.Claims.{Claimant}
-use Rattle.workers.specs.declared.shift.Row.{Row}
-use Rattle.workers.specs.Shifts.{RunsAll}
 use Rattle.workers.proofs.Claiming.{claim_nears}
-use Rattle.workers.proofs.Steps.{runs_more, claims_on, claimed_more}
+use Rattle.workers.proofs.Steps.{runs_next, claims_on, claimed_next}
 use Rattle.workers.proofs.shift.work.Goals as goal
 
 pub loop-script-smaller : goal.loop-script-smaller
@@ -20,25 +15,21 @@ loop-script-preserved g c =
     let home = c.args.shop.numbers.now in
     let scripts = c.args.shop.scripts.now in
     let n = c.in-Some.script in
-    let old : List Row = c.loop-script.rows.items in
-    let row : Row = record { script = n; outcomes = c.in_ok-outcomes.field-0 } in
-    let items : c.push.new.self.items ≡ old ++ row ∷ [] = c.in_ok-push.ensures.items in
-    let script : List (List Command) = c.as_slice-transactions.result.now in
+    let old = c.loop-script.claimant in
+    let new = c.claim.new.self in
+    let outcomes = c.in_ok-outcomes.field-0 in
     let below = claims.below in
     let within : n < length scripts = omega (arith, c.requires.indexes) in
-    let there : slice_get scripts n ≡ Some script =
-        slice_get-get_or scripts n c.index-shop-script.result within
-        ∙ ap (λ (z : List (List Command)). Some z) (sym c.as_slice-transactions.ensures) in
-    let after = c.submit_all-outcomes.new.session in
-    let runs : RunsAll scripts c.args.session after (old ++ row ∷ []) =
-        runs_more scripts c.args.session c.loop-script.session after old row script i.runs there c.in_ok-outcomes.ensures.ok in
     record {
       own = c.submit_all-outcomes.ensures.own;
-      claims = claims_on home n c.loop-script.claimant c.claim.new.self claims i.claims;
-      runs = subst (RunsAll scripts c.args.session after) (sym items) runs;
+      claims = claims_on home n old new claims i.claims;
+      runs =
+          runs_next scripts n c.args.session c.loop-script.session c.submit_all-outcomes.new.session c.loop-script.rows.items
+          c.push.new.self.items outcomes c.index-shop-script.result c.as_slice-transactions.result.now within c.as_slice-transactions.ensures
+          c.in_ok-push.ensures.items i.runs c.in_ok-outcomes.ensures.ok;
       table = ap (λ (z : Claimant). z.table) claims.is ∙ i.table;
       count = ap (λ (z : Claimant). z.count) claims.is ∙ i.count;
       claimed =
-          claimed_more home n c.loop-script.claimant c.claim.new.self claims c.args.claimant.claimed old row refl i.claimed
-          ∙ ap (λ (rows : List Row). c.args.claimant.claimed ++ map (λ r. r.script) rows) (sym items);
+          claimed_next home n old new claims c.args.claimant.claimed c.loop-script.rows.items c.push.new.self.items outcomes
+          c.in_ok-push.ensures.items i.claimed;
     }

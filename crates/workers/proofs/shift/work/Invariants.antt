@@ -1,4 +1,4 @@
-use Rattle.std.proofs.Common.{◌≡◌, ◌-◌, ◌++◌, map, length}
+use Rattle.std.proofs.Common.{◌≡◌, ◌-◌, ◌++◌, map}
 use Rattle.claims.specs.Claims.{IsOf as Claims}
 use Rattle.transaction.specs.Members.{IsOf}
 use Rattle.workers.specs.Shifts.{RunsAll}
