@@ -1,5 +1,5 @@
 -- Lists that are alike: one has the other's elements in an order of its own, and so has the list that a function makes of each.
-use Rattle.std.proofs.Common.{◌≡◌, ◌≢◌, ℕ, zero, suc, List, [], ◌∷◌, ◌++◌, IsPermutation, flat_map, slice_set, sym, refl, ap, ◌∙◌, subst}
+use Rattle.std.proofs.Common.{◌≡◌, ◌≢◌, ℕ, zero, suc, List, [], ◌∷◌, ◌++◌, IsPermutation, flat_map, slice_set, sym, refl, ap, subst}
 use Rattle.std.proofs.lemmas.List.{append_assoc}
 use Rattle.std.proofs.lemmas.List.Sorted.{IsPermutation-refl, IsPermutation-sym, IsPermutation-trans, IsPermutation-cons, IsPermutation-middle, IsPermutation-append_left, IsPermutation-append_right, IsPermutation-append_comm}
 use mathlib.Core.Option.{some, some-injective, some-ne-none}
@@ -38,7 +38,8 @@ module _ {V A : Type 0} (f : V → List A) where
   pub second : (x y z : V) (xs ys : List V) → Alike f xs (y ∷ z ∷ ys) → Alike f (x ∷ xs) (y ∷ z ∷ x ∷ ys)
   second x y z xs ys a =
       through (x ∷ xs) (x ∷ y ∷ z ∷ ys) (y ∷ z ∷ x ∷ ys) (behind x xs (y ∷ z ∷ ys) a)
-      (through (x ∷ y ∷ z ∷ ys) (y ∷ x ∷ z ∷ ys) (y ∷ z ∷ x ∷ ys) (flipped x y (z ∷ ys)) (behind y (x ∷ z ∷ ys) (z ∷ x ∷ ys) (flipped x z ys)))
+      (through (x ∷ y ∷ z ∷ ys) (y ∷ x ∷ z ∷ ys) (y ∷ z ∷ x ∷ ys) (flipped x y (z ∷ ys))
+      (behind y (x ∷ z ∷ ys) (z ∷ x ∷ ys) (flipped x z ys)))
 
   -- an element at an index comes to the front, and so does what is set in its place
   pub at_front : (xs : List V) (i : ℕ) (x : V) → get_elem? xs i ≡ some x
@@ -67,7 +68,8 @@ module _ {V A : Type 0} (f : V → List A) where
       let r = at_front us i x e in (
         r.0,
         through (u ∷ us) (u ∷ x ∷ r.0) (x ∷ y ∷ r.0) (behind u us (x ∷ r.0) r.1)
-        (through (u ∷ x ∷ r.0) (x ∷ u ∷ r.0) (x ∷ y ∷ r.0) (flipped u x r.0) (behind x (u ∷ r.0) (y ∷ r.0) (same_at u y r.0 (some-injective u y d)))),
+            (through (u ∷ x ∷ r.0) (x ∷ u ∷ r.0) (x ∷ y ∷ r.0) (flipped u x r.0)
+            (behind x (u ∷ r.0) (y ∷ r.0) (same_at u y r.0 (some-injective u y d)))),
         λ z. through (z ∷ slice_set us i w) (z ∷ w ∷ r.0) (w ∷ z ∷ r.0) (behind z (slice_set us i w) (w ∷ r.0) (r.2 w)) (flipped z w r.0),
       )
   at_two (u ∷ us) (suc i) (suc j) x y w e n d =
@@ -83,4 +85,5 @@ module _ {V A : Type 0} (f : V → List A) where
     where
       last_first : (us : List V) → Alike f (us ++ y ∷ []) (y ∷ us)
       last_first [] = same (y ∷ [])
-      last_first (u ∷ us) = through (u ∷ (us ++ y ∷ [])) (u ∷ y ∷ us) (y ∷ u ∷ us) (behind u (us ++ y ∷ []) (y ∷ us) (last_first us)) (flipped u y us)
+      last_first (u ∷ us) =
+          through (u ∷ (us ++ y ∷ [])) (u ∷ y ∷ us) (y ∷ u ∷ us) (behind u (us ++ y ∷ []) (y ∷ us) (last_first us)) (flipped u y us)

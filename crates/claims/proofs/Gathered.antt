@@ -1,5 +1,5 @@
 -- What claimants claimed, once all of it is gathered in one seat.
-use Rattle.std.proofs.Common.{◌≡◌, ◌<◌, ◌≤◌, ◌+◌, ℕ, suc, List, [], ◌∷◌, ◌++◌, Bool, true, false, if◌then◌else◌, All, IsPermutation, length, flat_map, ◌⊎◌, inl, inr, ⊎_elim, sym, refl, ap, ◌∙◌, subst, arith}
+use Rattle.std.proofs.Common.{◌≡◌, ◌≤◌, ◌+◌, ℕ, List, [], ◌∷◌, ◌++◌, Bool, true, if◌then◌else◌, All, IsPermutation, length, ◌⊎◌, inl, inr, ⊎_elim, sym, refl, ap, ◌∙◌, subst, arith}
 use Rattle.std.proofs.lemmas.List.{append_assoc, append-nil, length-append}
 use Rattle.std.proofs.lemmas.List.Elements.{All-head, All-tail}
 use Rattle.std.proofs.lemmas.List.Sorted.{IsPermutation-refl, IsPermutation-trans, IsPermutation-sym, IsPermutation-append_left, IsPermutation-append_comm}
@@ -9,20 +9,20 @@ use lib.ListN.{get_elem?}
 use Rattle.atomic_table.specs.Table.{State, Me}
 use Rattle.atomic_table.specs.Seated.{TableId}
 use Rattle.ranges.specs.Ranges.{Has}
-use Rattle.claims.specs.Claims.{Home, Claimant, up_to, claims_of, AreClaimed}
+use Rattle.claims.specs.Claims.{Home, Claimant, claims_of, AreClaimed}
 use Rattle.claims.specs.Rule.{View, joined, shown, SitsWith, with_claimant, gathered, all_claimed, all_parts, all_ended, IsFair, Ruled}
 use Rattle.claims.proofs.Alike.{at_front}
 use Rattle.claims.proofs.RuleSteps.{of_view, reordered, parts_of, ended_of}
 
-abbrev Seat : Type 0
-Seat = Me (Unit {0}) View
+abbrev Mine : Type 0
+Mine = Me (Unit {0}) View
 
-pub gathered_last : (me : Seat) (cs : List Claimant) (c : Claimant) → gathered me (cs ++ c ∷ []) ≡ gathered (with_claimant me c) cs
+pub gathered_last : (me : Mine) (cs : List Claimant) (c : Claimant) → gathered me (cs ++ c ∷ []) ≡ gathered (with_claimant me c) cs
 gathered_last me [] c = refl
-gathered_last me (d ∷ ds) c = ap (λ (m : Seat). with_claimant m d) (gathered_last me ds c)
+gathered_last me (d ∷ ds) c = ap (λ (m : Mine). with_claimant m d) (gathered_last me ds c)
 
 -- the seat of a claimant is joined as the claimant is gathered
-pub gathered_seat : (me other : Seat) (table : TableId) (ended : Bool) → SitsWith table other ended
+pub gathered_seat : (me other : Mine) (table : TableId) (ended : Bool) → SitsWith other ended
     → (joined me.0 other.0, me.1) ≡ with_claimant me (shown table other.0 ended)
 gathered_seat me other table ended sits = λ i. (
   record {
@@ -34,19 +34,21 @@ gathered_seat me other table ended sits = λ i. (
   me.1,
 )
 
-gathered_parts : (me : Seat) (cs : List Claimant) → (gathered me cs).0.parts ≡ me.0.parts + length cs
+gathered_parts : (me : Mine) (cs : List Claimant) → (gathered me cs).0.parts ≡ me.0.parts + length cs
 gathered_parts me [] = omega arith
 gathered_parts me (c ∷ cs) = let h = gathered_parts me cs in omega (arith, h)
 
-gathered_claims : (me : Seat) (cs : List Claimant) → IsPermutation (claims_of cs ++ me.0.claimed) (gathered me cs).0.claimed
+gathered_claims : (me : Mine) (cs : List Claimant) → IsPermutation (claims_of cs ++ me.0.claimed) (gathered me cs).0.claimed
 gathered_claims me [] = IsPermutation-refl me.0.claimed
 gathered_claims me (c ∷ cs) =
     let others : List ℕ = claims_of cs ++ me.0.claimed in
-    subst (λ (l : List ℕ). IsPermutation l ((gathered me cs).0.claimed ++ c.claimed)) (sym (append_assoc c.claimed (claims_of cs) me.0.claimed))
+    subst (λ (l : List ℕ). IsPermutation l ((gathered me cs).0.claimed ++ c.claimed))
+    (sym (append_assoc c.claimed (claims_of cs) me.0.claimed))
     (IsPermutation-trans (c.claimed ++ others) (others ++ c.claimed) ((gathered me cs).0.claimed ++ c.claimed)
-    (IsPermutation-append_comm c.claimed others) (IsPermutation-append_left c.claimed others (gathered me cs).0.claimed (gathered_claims me cs)))
+    (IsPermutation-append_comm c.claimed others)
+    (IsPermutation-append_left c.claimed others (gathered me cs).0.claimed (gathered_claims me cs)))
 
-first_ended : (me : Seat) (cs : List Claimant) → me.0.ended ≤ (gathered me cs).0.ended
+first_ended : (me : Mine) (cs : List Claimant) → me.0.ended ≤ (gathered me cs).0.ended
 first_ended me [] = omega arith
 first_ended me (c ∷ cs) = let h = first_ended me cs in omega (arith, h)
 
@@ -56,7 +58,7 @@ one_if b = if b then 1 else 0
 is_one : (b : Bool) → b ≡ true → one_if b ≡ 1
 is_one b e = ap one_if e
 
-gathered_ended : (me : Seat) (cs : List Claimant) (c : Claimant) → Has c cs → c.ended ≡ true → 1 ≤ (gathered me cs).0.ended
+gathered_ended : (me : Mine) (cs : List Claimant) (c : Claimant) → Has c cs → c.ended ≡ true → 1 ≤ (gathered me cs).0.ended
 gathered_ended me [] c has told = absurd has
 gathered_ended me (d ∷ ds) c has told = ⊎_elim
     (λ (e : c ≡ d). let one : one_if d.ended ≡ 1 = is_one d.ended (sym (ap (λ (x : Claimant). x.ended) e) ∙ told) in omega (arith, one))
@@ -76,8 +78,9 @@ idle_claims (v ∷ vs) fair none =
     ap (λ (l : List ℕ). l ++ all_claimed vs) (f.idle (omega (arith, sum))) ∙ idle_claims vs (All-tail IsFair v vs fair) (omega (arith, sum))
 
 -- the last claimant's seat, to which the others gave what they have, has all there is
-pub all_gathered : (home : Home) (cs : List Claimant) (c : Claimant) (me : Seat) (s : State (Unit {0}) View) (id : ℕ) → Ruled home.count home.claimants s
-    → get_elem? s.views id ≡ some (gathered me cs).0 → me.0.parts ≡ 1 → me.0.claimed ≡ c.claimed → me.0.ended ≡ one_if c.ended
+pub all_gathered : (home : Home) (cs : List Claimant) (c : Claimant) (me : Mine) (s : State (Unit {0}) View) (id : ℕ)
+    → Ruled home.count home.claimants s → get_elem? s.views id ≡ some (gathered me cs).0
+    → me.0.parts ≡ 1 → me.0.claimed ≡ c.claimed → me.0.ended ≡ one_if c.ended
     → length (cs ++ c ∷ []) ≡ home.claimants → AreClaimed home (cs ++ c ∷ [])
 all_gathered home cs c me s id r at one claimed ended long =
     let v : View = (gathered me cs).0 in
@@ -91,7 +94,8 @@ all_gathered home cs c me s id r at one claimed ended long =
     let is : all_claimed (v ∷ rest) ≡ v.claimed =
     ap (λ (l : List ℕ). v.claimed ++ l) (idle_claims rest (All-tail IsFair v rest whole.fair) idle) ∙ append-nil v.claimed in
     let claims : claims_of cs ++ me.0.claimed ≡ claims_of (cs ++ c ∷ []) =
-    ap (λ (l : List ℕ). claims_of cs ++ l) (claimed ∙ sym (append-nil c.claimed)) ∙ sym (flat_map-append (λ (x : Claimant). x.claimed) cs (c ∷ [])) in
+    ap (λ (l : List ℕ). claims_of cs ++ l) (claimed ∙ sym (append-nil c.claimed))
+    ∙ sym (flat_map-append (λ (x : Claimant). x.claimed) cs (c ∷ [])) in
     record {
       many = length (all_claimed (v ∷ rest));
       each = IsPermutation-trans _ (all_claimed (v ∷ rest)) _ whole.each
@@ -100,7 +104,8 @@ all_gathered home cs c me s id r at one claimed ended long =
       within = whole.within;
       all = λ d has told.
           let some_ended : 1 ≤ v.ended = ⊎_elim (λ (h : Has d cs). gathered_ended me cs d h told)
-              (λ (e : d ≡ c). let first = first_ended me cs in let one_ended : me.0.ended ≡ 1 = ended ∙ is_one c.ended (sym (ap (λ (x : Claimant). x.ended) e) ∙ told) in
-              omega (arith, first, one_ended)) (has_last d c cs has) in
+          (λ (e : d ≡ c). let first = first_ended me cs in
+          let one_ended : me.0.ended ≡ 1 = ended ∙ is_one c.ended (sym (ap (λ (x : Claimant). x.ended) e) ∙ told) in
+          omega (arith, first, one_ended)) (has_last d c cs has) in
           ⊎_elim (λ (e : all_ended (v ∷ rest) ≡ 0). absurd (omega (arith, ended_of v rest, e, some_ended))) (λ e. e) whole.last;
     }

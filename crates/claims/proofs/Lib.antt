@@ -1,5 +1,5 @@
 pub mod Alike
 pub mod UpTo
-pub mod Names
 pub mod RuleSteps
 pub mod Gathered
+pub mod Sent

@@ -1,13 +1,12 @@
 -- The table's rule, from its start and over each step.
-use Rattle.std.proofs.Common.{◌≡◌, ◌≢◌, ◌<◌, ◌≤◌, ◌+◌, ◌-◌, ◌*◌, ◌%◌, ◌^◌, ℕ, suc, List, [], ◌∷◌, ◌++◌, Bool, true, false, if◌then◌else◌, nat_lt, All, IsPermutation, length, flat_map, sum_by, slice_index, slice_set, ◌⊎◌, inl, inr, ⊎_elim, sym, refl, ap, ◌∙◌, subst, arith, lt-ltb, le-ltb}
-use Rattle.std.proofs.lemmas.List.{append_assoc, append-nil, length-append, get_or_append_left}
+use Rattle.std.proofs.Common.{◌≡◌, ◌<◌, ◌≤◌, ◌+◌, ◌%◌, ◌^◌, ℕ, suc, List, [], ◌∷◌, ◌++◌, Bool, if◌then◌else◌, nat_lt, All, IsPermutation, length, slice_index, slice_set, inl, inr, ⊎_elim, sym, refl, ap, ◌∙◌, subst, arith, lt-ltb, le-ltb}
+use Rattle.std.proofs.lemmas.List.{append_assoc, length-append, get_or_append_left}
 use Rattle.std.proofs.lemmas.List.Sums.{sum_by-cons}
 use Rattle.std.proofs.lemmas.List.Elements.{All-nil, All-cons, All-head, All-tail}
-use Rattle.std.proofs.lemmas.List.Sorted.{IsPermutation-refl, IsPermutation-trans, IsPermutation-sym, IsPermutation-append_left, IsPermutation-append_right, IsPermutation-append_comm, All-permutation, sum_by-IsPermutation, length_permutation}
+use Rattle.std.proofs.lemmas.List.Sorted.{IsPermutation-refl, IsPermutation-trans, IsPermutation-append_left, IsPermutation-append_right, IsPermutation-append_comm, All-permutation, sum_by-IsPermutation, length_permutation}
 use Rattle.std.proofs.Math.Nat.{mod-eq_of_lt}
-use mathlib.Core.Option.{Option, some}
+use mathlib.Core.Option.{Option}
 use native.Mathlib.Decide.{dec_lt}
-use lib.ListN.{get_elem?}
 use Rattle.atomic_table.specs.Table.{State, Me, Allows, Splits, Joins, opening, keeps}
 use Rattle.claims.specs.Claims.{up_to}
 use Rattle.claims.specs.Rule.{View, nobody, first_view, dealt_left, newcomer, joined, all_claimed, all_parts, all_ended, IsFair, Ruled, after_claim, Claimed}
@@ -33,12 +32,12 @@ last_between ls ms x =
     (IsPermutation-append_right ls (ms ++ x ∷ []) (x ∷ ms) (IsPermutation-append_comm ms (x ∷ []))))
 
 module _ (count claimants : ℕ) where
-  abbrev R : State (Unit {0}) View → Type 0
-  R s = Ruled count claimants s
+  abbrev Holds : State (Unit {0}) View → Type 0
+  Holds s = Ruled count claimants s
 
   -- to the rule it is nothing which view has what, nor in which order
   pub regrouped : (ws : List ℕ) (hs gs : List (Option (Unit {0}))) (vs us : List View) → IsPermutation (all_claimed vs) (all_claimed us)
-      → all_ended us ≡ all_ended vs → all_parts us ≡ all_parts vs → All IsFair us → R (table ws hs vs) → R (table ws gs us)
+      → all_ended us ≡ all_ended vs → all_parts us ≡ all_parts vs → All IsFair us → Holds (table ws hs vs) → Holds (table ws gs us)
   regrouped ws hs gs vs us claimed ends parts fair r =
       let long : length (all_claimed us) ≡ length (all_claimed vs) = length_permutation (all_claimed vs) (all_claimed us) claimed in
       record {
@@ -51,12 +50,13 @@ module _ (count claimants : ℕ) where
         small = r.small;
       }
 
-  pub reordered : (ws : List ℕ) (hs gs : List (Option (Unit {0}))) (vs us : List View) → Alike of_view vs us → R (table ws hs vs) → R (table ws gs us)
+  pub reordered : (ws : List ℕ) (hs gs : List (Option (Unit {0}))) (vs us : List View) → Alike of_view vs us → Holds (table ws hs vs)
+      → Holds (table ws gs us)
   reordered ws hs gs vs us a r = regrouped ws hs gs vs us a.flat
       (sum_by-IsPermutation (λ (v : View). v.ended) vs us a.order) (sum_by-IsPermutation (λ (v : View). v.parts) vs us a.order)
       (All-permutation IsFair vs us a.order r.fair) r
 
-  pub opens : count + claimants < 2 ^ 64 → R (opening (0 ∷ []) [] (first_view count claimants))
+  pub opens : count + claimants < 2 ^ 64 → Holds (opening (0 ∷ []) [] (first_view count claimants))
   opens small = record {
     parts = omega arith;
     fair = All-cons IsFair (first_view count claimants) [] (record { ended = omega arith; idle = λ _. refl }) (All-nil IsFair);
@@ -67,13 +67,13 @@ module _ (count claimants : ℕ) where
     small = small;
   }
 
-  pub deals : (id : ℕ) (v : View) → 1 ≤ v.parts → v.claimed ≡ [] → v.ended ≡ 0 → Splits R id v (dealt_left v) (newcomer v)
+  pub deals : (id : ℕ) (v : View) → 1 ≤ v.parts → v.claimed ≡ [] → v.ended ≡ 0 → Splits Holds id v (dealt_left v) (newcomer v)
   deals id v dealable unclaimed unended s r at =
       let front = at_front of_view s.views id v at in
       let rest : List View = front.0 in
       let left : View = dealt_left v in
       let new : View = newcomer v in
-      let before : R (table s.words s.homes (v ∷ rest)) = reordered s.words s.homes s.homes s.views (v ∷ rest) front.1 r in
+      let before : Holds (table s.words s.homes (v ∷ rest)) = reordered s.words s.homes s.homes s.views (v ∷ rest) front.1 r in
       let fair : All IsFair (new ∷ left ∷ rest) =
       All-cons IsFair new (left ∷ rest) (record { ended = omega arith; idle = λ _. refl })
       (All-cons IsFair left rest (record { ended = omega (arith, unended); idle = λ _. unclaimed }) (All-tail IsFair v rest before.fair)) in
@@ -83,12 +83,12 @@ module _ (count claimants : ℕ) where
       (omega (arith, ended_of new (left ∷ rest), ended_of left rest, ended_of v rest))
       (omega (arith, parts_of new (left ∷ rest), parts_of left rest, parts_of v rest)) fair before)
 
-  pub joins : (id other : ℕ) (v w : View) → Joins R id v other w (joined v w) nobody
+  pub joins : (id other : ℕ) (v w : View) → Joins Holds id v other w (joined v w) nobody
   joins id other v w s r at apart there =
       let front = at_two of_view s.views id other v w (joined v w) at apart there in
       let rest : List View = front.0 in
       let both : View = joined v w in
-      let before : R (table s.words s.homes (v ∷ w ∷ rest)) = reordered s.words s.homes s.homes s.views (v ∷ w ∷ rest) front.1 r in
+      let before : Holds (table s.words s.homes (v ∷ w ∷ rest)) = reordered s.words s.homes s.homes s.views (v ∷ w ∷ rest) front.1 r in
       let others : All IsFair (w ∷ rest) = All-tail IsFair v (w ∷ rest) before.fair in
       let f : IsFair v = All-head IsFair v (w ∷ rest) before.fair in
       let g : IsFair w = All-head IsFair w rest others in
@@ -119,7 +119,7 @@ module _ (count claimants : ℕ) where
       let b = ended_within vs (All-tail IsFair v vs fair) in
       omega (arith, ended_of v vs, parts_of v vs, a, b)
 
-  module _ (n : ℕ) (hs : List (Option (Unit {0}))) (v : View) (rest : List View) (r : R (table (n ∷ []) hs (v ∷ rest))) where
+  module _ (n : ℕ) (hs : List (Option (Unit {0}))) (v : View) (rest : List View) (r : Holds (table (n ∷ []) hs (v ∷ rest))) where
     abbrev many : ℕ
     many = length (all_claimed (v ∷ rest))
 
@@ -138,21 +138,23 @@ module _ (count claimants : ℕ) where
         omega (arith, e, b, w)
 
     -- a number is found: nobody was told that there are no more, and n is the number of the claims
-    next_claimed : n < count → v.parts ≡ 1 → R (table (suc n ∷ []) hs (record v { claimed = v.claimed ++ n ∷ [] } ∷ rest))
+    next_claimed : n < count → v.parts ≡ 1 → Holds (table (suc n ∷ []) hs (record v { claimed = v.claimed ++ n ∷ [] } ∷ rest))
     next_claimed below one =
         let new : View = record v { claimed = v.claimed ++ n ∷ [] } in
         let word : n ≡ many + all_ended (v ∷ rest) = is_word in
         let nobody_ended : all_ended (v ∷ rest) ≡ 0 =
         ⊎_elim (λ (e : all_ended (v ∷ rest) ≡ 0). e) (λ (e : many ≡ count). absurd (omega arith)) r.last in
         let is : n ≡ many = omega arith in
-        let moved : IsPermutation (all_claimed (v ∷ rest) ++ n ∷ []) (all_claimed (new ∷ rest)) = last_between v.claimed (all_claimed rest) n in
+        let moved : IsPermutation (all_claimed (v ∷ rest) ++ n ∷ []) (all_claimed (new ∷ rest)) =
+        last_between v.claimed (all_claimed rest) n in
         let long : length (all_claimed (new ∷ rest)) ≡ suc many =
         length_permutation _ _ moved ∙ (length-append (all_claimed (v ∷ rest)) (n ∷ []) ∙ omega arith) in
         let ends : all_ended (new ∷ rest) ≡ all_ended (v ∷ rest) = omega (arith, ended_of new rest, ended_of v rest) in
         let fair : IsFair v = All-head IsFair v rest r.fair in
         record {
           parts = omega (arith, parts_of new rest, parts_of v rest, r.parts);
-          fair = All-cons IsFair new rest (record { ended = fair.ended; idle = λ e. absurd (omega (arith, one, e)) }) (All-tail IsFair v rest r.fair);
+          fair = All-cons IsFair new rest (record { ended = fair.ended; idle = λ e. absurd (omega (arith, one, e)) })
+              (All-tail IsFair v rest r.fair);
           each = subst (λ (k : ℕ). IsPermutation (up_to k) (all_claimed (new ∷ rest))) (sym long)
               (IsPermutation-trans (up_to many ++ many ∷ []) (all_claimed (v ∷ rest) ++ n ∷ []) (all_claimed (new ∷ rest))
               (subst (λ (k : ℕ). IsPermutation (up_to many ++ k ∷ []) (all_claimed (v ∷ rest) ++ n ∷ [])) is
@@ -164,7 +166,7 @@ module _ (count claimants : ℕ) where
         }
 
     -- no number is found: all are claimed
-    told_of_end : count ≤ n → v.parts ≡ 1 → v.ended ≡ 0 → R (table (suc n ∷ []) hs (record v { ended = suc v.ended } ∷ rest))
+    told_of_end : count ≤ n → v.parts ≡ 1 → v.ended ≡ 0 → Holds (table (suc n ∷ []) hs (record v { ended = suc v.ended } ∷ rest))
     told_of_end past one unended =
         let new : View = record v { ended = suc v.ended } in
         let word : n ≡ many + all_ended (v ∷ rest) = is_word in
@@ -190,16 +192,16 @@ module _ (count claimants : ℕ) where
         let others : all_ended rest ≤ all_parts rest = ended_within rest (All-tail IsFair v rest r.fair) in
         omega (arith, ended_of v rest, parts_of v rest, r.parts)
 
-  module _ (ws : List ℕ) (hs : List (Option (Unit {0}))) (v : View) (rest : List View) (r : R (table ws hs (v ∷ rest))) (one : v.parts ≡ 1)
-      (unended : v.ended ≡ 0) (known : v.count ≡ count) where
+  module _ (ws : List ℕ) (hs : List (Option (Unit {0}))) (v : View) (rest : List View) (r : Holds (table ws hs (v ∷ rest)))
+      (one : v.parts ≡ 1) (unended : v.ended ≡ 0) (known : v.count ≡ count) where
     abbrev found : ℕ
     found = slice_index ws 0
 
     is_found : ws ≡ found ∷ []
     is_found = r.word ∙ (λ i. sym (ap (λ (l : List ℕ). slice_index l 0) r.word) i ∷ [])
 
-    with_found : R (table (found ∷ []) hs (v ∷ rest))
-    with_found = subst (λ (l : List ℕ). R (table l hs (v ∷ rest))) is_found r
+    with_found : Holds (table (found ∷ []) hs (v ∷ rest))
+    with_found = subst (λ (l : List ℕ). Holds (table l hs (v ∷ rest))) is_found r
 
     is_set : slice_set ws 0 ((found + 1) % 2 ^ 64) ≡ suc found ∷ []
     is_set =
@@ -207,29 +209,36 @@ module _ (count claimants : ℕ) where
         let e : (found + 1) % 2 ^ 64 ≡ suc found = ap (λ (k : ℕ). k % 2 ^ 64) (omega arith) ∙ mod-eq_of_lt less in
         ap (λ (l : List ℕ). slice_set l 0 ((found + 1) % 2 ^ 64)) is_found ∙ (λ i. e i ∷ [])
 
-    stepped_at : Dec (found < count) → R (table (suc found ∷ []) hs (after_claim v found ∷ rest))
+    abbrev after_test : Bool → View
+    after_test b = if b then record v { claimed = v.claimed ++ found ∷ [] } else record v { ended = suc v.ended }
+
+    stepped_at : Dec (found < count) → Holds (table (suc found ∷ []) hs (after_claim v found ∷ rest))
     stepped_at (yes d) =
-        subst (λ (b : Bool). R (table (suc found ∷ []) hs ((if b then record v { claimed = v.claimed ++ found ∷ [] } else record v { ended = suc v.ended }) ∷ rest)))
+        subst (λ (b : Bool). Holds (table (suc found ∷ []) hs (after_test b ∷ rest)))
         (sym (ap (λ (k : ℕ). nat_lt found k) known ∙ lt-ltb found count d)) (next_claimed found hs v rest with_found d one)
     stepped_at (no d) =
         let past : count ≤ found = omega (arith, d) in
-        subst (λ (b : Bool). R (table (suc found ∷ []) hs ((if b then record v { claimed = v.claimed ++ found ∷ [] } else record v { ended = suc v.ended }) ∷ rest)))
+        subst (λ (b : Bool). Holds (table (suc found ∷ []) hs (after_test b ∷ rest)))
         (sym (ap (λ (k : ℕ). nat_lt found k) known ∙ le-ltb found count past)) (told_of_end found hs v rest with_found past one unended)
 
-    claimed_front : R (table (slice_set ws 0 ((found + 1) % 2 ^ 64)) hs (after_claim v found ∷ rest)) × All (λ m. m < found) v.claimed
-    claimed_front = (subst (λ (l : List ℕ). R (table l hs (after_claim v found ∷ rest))) (sym is_set) (stepped_at (dec_lt found count)), all_later found hs v rest with_found)
+    claimed_front : Holds (table (slice_set ws 0 ((found + 1) % 2 ^ 64)) hs (after_claim v found ∷ rest)) × All (λ m. m < found) v.claimed
+    claimed_front = (
+      subst (λ (l : List ℕ). Holds (table l hs (after_claim v found ∷ rest))) (sym is_set) (stepped_at (dec_lt found count)),
+      all_later found hs v rest with_found,
+    )
 
   pub claims : (slots id : ℕ) (me : Me (Unit {0}) View) → me.0.parts ≡ 1 → me.0.ended ≡ 0 → me.0.count ≡ count
-      → Allows R slots id me 0 (λ n. (n + 1) % 2 ^ 64) (Claimed me)
+      → Allows Holds slots id me 0 (λ n. (n + 1) % 2 ^ 64) (Claimed me)
   claims slots id me one unended known s r _ at _ =
       let n : ℕ = slice_index s.words 0 in
       let front = at_front of_view s.views id me.0 at in
       let new : View = after_claim me.0 n in
-      let before : R (table s.words s.homes (me.0 ∷ front.0)) = reordered s.words s.homes s.homes s.views (me.0 ∷ front.0) front.1 r in
+      let before : Holds (table s.words s.homes (me.0 ∷ front.0)) = reordered s.words s.homes s.homes s.views (me.0 ∷ front.0) front.1 r in
       let stepped = claimed_front s.words s.homes me.0 front.0 before one unended known in (
         new,
         keeps,
         tt,
-        reordered (slice_set s.words 0 ((n + 1) % 2 ^ 64)) s.homes s.homes (new ∷ front.0) (slice_set s.views id new) (back of_view _ _ (front.2 new)) stepped.0,
+        reordered (slice_set s.words 0 ((n + 1) % 2 ^ 64)) s.homes s.homes (new ∷ front.0) (slice_set s.views id new)
+            (back of_view _ _ (front.2 new)) stepped.0,
         record { is = refl; later = stepped.1 },
       )

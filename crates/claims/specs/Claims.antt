@@ -1,5 +1,5 @@
 -- Numbers from 0 up to a count, each of which is claimed once.
-use Rattle.std.specs.Prelude.{◌≡◌, ◌<◌, ◌≤◌, ℕ, zero, suc, List, [], ◌∷◌, ◌++◌, Bool, true, false, All, IsPermutation, length, flat_map}
+use Rattle.std.specs.Prelude.{◌≡◌, ◌<◌, ◌≤◌, ℕ, zero, suc, List, [], ◌∷◌, ◌++◌, Bool, true, false, All, IsPermutation, flat_map}
 use Rattle.atomic_table.specs.Seated.{TableId}
 use Rattle.ranges.specs.Ranges.{Has}
 
@@ -9,16 +9,17 @@ pub record Home : Type 0 where
   pub count : ℕ
   pub claimants : ℕ
 
--- a claimant: the table, up to which count there are numbers, those that it claimed, in order, and whether it was told that there are no more
+-- a claimant: the table, up to which count there are numbers, those that it claimed, in order, and whether it was told that there are
+-- no more
 pub record Claimant : Type 0 where
   pub table : TableId
   pub count : ℕ
   pub claimed : List ℕ
   pub ended : Bool
 
--- the claimant is one of these numbers'
+-- the claimant is one of these numbers': of their table, and with their count
 abbrev pub IsOf : Home → Claimant → Type 0
-IsOf home c = c.table ≡ home.table
+IsOf home c = (c.table ≡ home.table) × (c.count ≡ home.count)
 
 -- and has claimed none so far
 abbrev pub IsNewOf : Home → Claimant → Type 0
@@ -43,7 +44,8 @@ up_to (suc n) = up_to n ++ n ∷ []
 abbrev pub claims_of : List Claimant → List ℕ
 claims_of claimants = flat_map (λ c. c.claimed) claimants
 
--- what they claimed are the numbers from 0 up to some number, each once; and up to the count where one of them was told that there are no more
+-- what they claimed are the numbers from 0 up to some number, each once; and up to the count where one of them was told that there are
+-- no more
 pub record AreClaimed (home : Home) (claimants : List Claimant) : Type 0 where
   pub many : ℕ
   pub each : IsPermutation (up_to many) (claims_of claimants)

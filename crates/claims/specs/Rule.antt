@@ -1,12 +1,12 @@
 -- Of the code's inside, apart from the rules: the rule of the table in which numbers lie, and what each step tells.
-use Rattle.std.specs.Prelude.{◌≡◌, ◌<◌, ◌≤◌, ◌+◌, ◌-◌, ◌*◌, ◌^◌, ℕ, suc, List, [], ◌∷◌, ◌++◌, Bool, true, false, if◌then◌else◌, nat_lt, All, IsPermutation, length, flat_map, sum_by, slice_index, ◌⊎◌}
+use Rattle.std.specs.Prelude.{◌≡◌, ◌<◌, ◌≤◌, ◌+◌, ◌-◌, ◌^◌, ℕ, suc, List, [], ◌∷◌, ◌++◌, Bool, if◌then◌else◌, nat_lt, All, IsPermutation, length, flat_map, sum_by, ◌⊎◌}
 use Rattle.atomic_table.specs.Seated.{TableId}
 use Rattle.atomic_table.specs.Table.{State, Me, Step}
 use Rattle.claims.specs.declared.rule.Sizes.{Sizes}
-use Rattle.claims.specs.Claims.{Claimant, up_to}
+use Rattle.claims.specs.Claims.{Home, Claimant, up_to}
 
--- a seat: how many claimants it stands for, up to which count there are numbers, those claimed by it, and how many of its claimants were told
--- that there are no more
+-- a seat: how many claimants it stands for, up to which count there are numbers, those claimed by it, and how many of its claimants were
+-- told that there are no more
 pub record View : Type 0 where
   pub parts : ℕ
   pub count : ℕ
@@ -50,8 +50,8 @@ pub record IsFair (v : View) : Type 0 where
   pub ended : v.ended ≤ v.parts
   pub idle : v.parts ≡ 0 → v.claimed ≡ []
 
--- the seats stand for all claimants. They claimed the numbers from 0 up to some number within the count, each once, and up to the count where
--- one of them was told that there are no more. The word counts the claims and those that were told so
+-- the seats stand for all claimants. They claimed the numbers from 0 up to some number within the count, each once, and up to the count
+-- where one of them was told that there are no more. The word counts the claims and those that were told so
 pub record Ruled (count claimants : ℕ) (s : State (Unit {0}) View) : Type 0 where
   pub parts : all_parts s.views ≡ claimants
   pub fair : All IsFair s.views
@@ -72,18 +72,16 @@ pub record Claimed (old : Me (Unit {0}) View) (n : ℕ) (new : Me (Unit {0}) Vie
 abbrev pub claimed : Step (Unit {0}) → Me (Unit {0}) View → ℕ → Me (Unit {0}) View → Type 0
 claimed _ old n new = Claimed old n new
 
--- The table as contracts name it: the count stands where the number of its slots would, of which it has none. A table was told one count, but
--- nothing that a seat is told says so: so the name does, and a claimant of the numbers that are named alike has their count
-abbrev pub named : TableId → ℕ → TableId
-named table count = record table { slots = count }
+-- the numbers in a table
+abbrev pub home_of : TableId → Sizes → Home
+home_of table sizes = record { table = table; count = sizes.count; claimants = sizes.claimants }
 
 -- the claimant at a seat
 abbrev pub shown : TableId → View → Bool → Claimant
-shown table v ended = record { table = named table v.count; count = v.count; claimed = v.claimed; ended = ended }
+shown table v ended = record { table = table; count = v.count; claimed = v.claimed; ended = ended }
 
--- the seat stands for one claimant, and holds no slot of its table, which has none
-pub record SitsWith (table : TableId) (me : Me (Unit {0}) View) (ended : Bool) : Type 0 where
-  pub slots : table.slots ≡ 0
+-- the seat stands for one claimant, and holds no slot
+pub record SitsWith (me : Me (Unit {0}) View) (ended : Bool) : Type 0 where
   pub one : me.0.parts ≡ 1
   pub ended_is : me.0.ended ≡ (if ended then 1 else 0)
   pub free : me.1 ≡ []

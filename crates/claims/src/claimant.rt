@@ -8,7 +8,8 @@ use crate::plays::Claim;
 use crate::rule::Place;
 use std::marker::Model;
 
-/// One of those who claim numbers. Contracts see the table, the numbers that it claimed, and whether it was told that there are no more.
+/// One of those who claim numbers. Contracts see the table, the count, the numbers that it claimed, and whether it was told that there are
+/// no more.
 #[derive(Drop)]
 pub struct Claimant {
     pub(crate) seat: Place,
@@ -23,7 +24,7 @@ impl Model for Claimant {
 
     ghost view = { λ c. shown c.seat.table_id c.seat.me.0 c.ended };
 
-    ghost invariant = { λ c. SitsWith c.seat.table_id c.seat.me c.ended };
+    ghost invariant = { λ c. SitsWith c.seat.me c.ended };
 }
 
 impl Claimant {
@@ -36,7 +37,10 @@ impl Claimant {
         if self.ended {
             return None;
         }
-        let number = numbers.table.shared.fetch_add::<Claim>(&mut self.seat, 0, 1) as usize;
+        let number = numbers
+            .table
+            .shared
+            .fetch_add::<Claim>(&mut self.seat, 0, 1) as usize;
         self.ended = number >= numbers.count;
         if self.ended { None } else { Some(number) }
     }

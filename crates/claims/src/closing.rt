@@ -2,7 +2,7 @@
 
 ghost use Rattle.std.specs.Prelude.{◌≡◌, All, length};
 ghost use Rattle.claims.specs.Claims.{IsOf, AreClaimed};
-ghost use Rattle.claims.specs.Rule.{gathered, named};
+ghost use Rattle.claims.specs.Rule.{gathered};
 
 use crate::claimant::Claimant;
 use crate::numbers::Numbers;
@@ -29,13 +29,16 @@ impl Numbers {
 
 /// Gives what all these claimants have to the one of this seat, the last of them first.
 fn gather_all(numbers: &Numbers, seat: &mut Place, claimants: &mut Vec<Claimant>)
-    requires table { (seat.old.table_id.slots ≡ 0) × (named seat.old.table_id seat.old.me.0.count ≡ numbers.now.table) }
+    requires table { seat.old.table_id ≡ numbers.now.table }
     requires own { All (IsOf numbers.now) claimants.old.items }
     ensures same { (seat.new.table_id ≡ seat.old.table_id) × (seat.new.id ≡ seat.old.id) }
     ensures me { seat.new.me ≡ gathered seat.old.me claimants.old.items }
 {
     while let Some(claimant) = claimants.pop() {
-        let Claimant { seat: other, ended: _ } = claimant;
+        let Claimant {
+            seat: other,
+            ended: _,
+        } = claimant;
         numbers.table.shared.join_seat::<Gather>(seat, other);
     }
 }

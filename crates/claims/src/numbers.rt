@@ -5,8 +5,8 @@ ghost use Rattle.std.specs.Prelude.{◌≡◌, ◌+◌, ◌<◌, ◌^◌};
 use crate::rule::Board;
 use std::marker::Model;
 
-/// The numbers from 0 up to a count, which claimants share. Contracts see the table that they lie in, the count, and how many claimants there
-/// are.
+/// The numbers from 0 up to a count, which claimants share. Contracts see the table that they lie in, the count, and how many claimants
+/// there are.
 #[derive(Drop)]
 pub struct Numbers {
     pub(crate) table: Board,
@@ -15,11 +15,11 @@ pub struct Numbers {
 
 impl Model for Numbers {
     ghost use Rattle.claims.specs.Claims.{Home};
-    ghost use Rattle.claims.specs.Rule.{AreLaid, named};
+    ghost use Rattle.claims.specs.Rule.{AreLaid, home_of};
 
     ghost Value = { Home };
 
-    ghost view = { λ n. record { table = named n.table.shared.table_id n.table.shared.key.count; count = n.table.shared.key.count; claimants = n.table.shared.key.claimants } };
+    ghost view = { λ n. home_of n.table.shared.table_id n.table.shared.key };
 
     ghost invariant = { λ n. AreLaid n.count n.table.shared.table_id n.table.shared.key };
 }

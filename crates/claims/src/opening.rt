@@ -2,7 +2,7 @@
 
 ghost use Rattle.std.specs.Prelude.{◌≡◌, ◌+◌, ◌<◌, ◌^◌, All, IfOk, length};
 ghost use Rattle.claims.specs.Claims.{IsNewOf};
-ghost use Rattle.claims.specs.Rule.{dealer, named};
+ghost use Rattle.claims.specs.Rule.{dealer};
 
 use crate::claimant::Claimant;
 use crate::numbers::Numbers;
@@ -41,7 +41,7 @@ fn deal_all(
     seat: &mut Place,
     claimants: usize,
 ) -> Result<Vec<Claimant>, AllocError>
-    requires table { (seat.old.table_id.slots ≡ 0) × (named seat.old.table_id numbers.now.count ≡ numbers.now.table) }
+    requires table { seat.old.table_id ≡ numbers.now.table }
     requires first { seat.old.me ≡ dealer numbers.now.count claimants }
     ensures long { IfOk result (λ dealt. length dealt.items ≡ claimants) }
     ensures new { IfOk result (λ dealt. All (IsNewOf numbers.now) dealt.items) }
