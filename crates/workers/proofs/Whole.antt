@@ -189,7 +189,9 @@ module _ (numbers : Numbers) (scripts : List Script) where
       record {
         some = λ none. some (nil_from_length ms (sym many.0 ∙ ap length none));
         all = many.1 ∙ long;
-        own = each (λ s. IsClaimantOf numbers s.claimant) (λ m c s is shift. shift.table ∙ ap (λ (x : Claimant). x.table) is);
+        own = each (λ s. IsClaimantOf numbers s.claimant) (λ m c s is shift.
+            (shift.table ∙ ap (λ (x : Claimant). x.table) is, shift.count ∙ ap (λ (x : Claimant). x.count) is));
         ended = each (λ s. s.claimant.ended ≡ true) (λ m c s is shift. shift.ended);
-        claimed = each (λ s. s.claimant.claimed ≡ map (λ row. row.script) s.rows.items) (λ m c s is shift. shift.claimed);
+        claimed = each (λ s. s.claimant.claimed ≡ map (λ row. row.script) s.rows.items) (λ m c s is shift.
+            shift.claimed ∙ ap (λ (x : Claimant). x.claimed ++ map (λ row. row.script) s.rows.items) is);
       }
