@@ -1,4 +1,4 @@
--- What a session's transactions, one after another, make of it: it is later, its outcomes agree with its history, and its new numbers are theirs.
+-- What a session's transactions make of it: it is later, its outcomes agree with its history, and its new numbers are theirs.
 use Rattle.std.proofs.Common.{◌≡◌, ℕ, ◌≤◌, inl, inr, List, [], ◌∷◌, length, Some, sym, subst, arith}
 use Rattle.std.specs.Prelude.{slice_get, flat_map}
 use Rattle.library.specs.declared.command.Command.{Command}
@@ -31,8 +31,7 @@ run_goes scripts old new (row ∷ rows) (mid, script, is, first, others) =
 pub runs_later : (scripts : List (List (List Command))) (old new : Member) (rows : List Row) → RunsAll scripts old new rows → Stands new
     → IsHandedBack old new
 runs_later scripts old new rows runs stands =
-    let goes = run_goes scripts old new rows runs in
-    (
+    let goes = run_goes scripts old new rows runs in (
       record { given = goes.given; home = goes.home; name = goes.name; grows = goes.grows; stands = stands },
       goes.numbers,
       goes.drawn,
@@ -101,4 +100,5 @@ runs_agree g scripts old new rows runs stands same row has =
 pub runs_numbers : (scripts : List (List (List Command))) (old new : Member) (rows : List Row) → RunsAll scripts old new rows → Stands new
     → newly_done old new ≡ flat_map (λ row. numbers_of row.outcomes.items) rows
 runs_numbers scripts old new rows runs stands =
-    drawn_newly old new (flat_map (λ row. numbers_of row.outcomes.items) rows) (run_draws new stands scripts old new rows runs (goes_nowhere new))
+    drawn_newly old new (flat_map (λ row. numbers_of row.outcomes.items) rows)
+    (run_draws new stands scripts old new rows runs (goes_nowhere new))

@@ -26,7 +26,7 @@ pub submits_next : (all : List (List Command)) (n : ℕ) (old mid new : Member) 
     → SubmitsAll (take (n + 1) all) old new after
 submits_next all n old mid new os after cs o within is pushed so_far submits =
     let fronts : take (n + 1) all ≡ take n all ++ cs ∷ [] =
-        take_more all n cs within ∙ ap (λ (z : List Command). take n all ++ z ∷ []) (sym is) in
+    take_more all n cs within ∙ ap (λ (z : List Command). take n all ++ z ∷ []) (sym is) in
     subst (λ (z : List (List Command)). SubmitsAll z old new after) (sym fronts)
     (subst (SubmitsAll (take n all ++ cs ∷ []) old new) (sym pushed) (submits_more (take n all) old mid new os cs o so_far submits))
 
@@ -38,13 +38,13 @@ runs_more scripts old mid new [] row script same is submits =
 runs_more scripts old mid new (r ∷ rows) row script (next, own, there, first, others) is submits =
     (next, own, there, first, runs_more scripts next mid new rows row script others is submits)
 
-pub runs_next : (scripts : List (List (List Command))) (n : ℕ) (old mid new : Member) (rows after : List Row) (outcomes : Vec Outcome Global)
-    (given script : List (List Command)) → n < length scripts → script ≡ get_or scripts n given
+pub runs_next : (scripts : List (List (List Command))) (n : ℕ) (old mid new : Member) (rows after : List Row)
+    (outcomes : Vec Outcome Global) (given script : List (List Command)) → n < length scripts → script ≡ get_or scripts n given
     → after ≡ rows ++ record { script = n; outcomes = outcomes } ∷ [] → RunsAll scripts old mid rows
     → SubmitsAll script mid new outcomes.items → RunsAll scripts old new after
 runs_next scripts n old mid new rows after outcomes given script within is pushed so_far submits =
     let there : slice_get scripts n ≡ Some script =
-        slice_get-get_or scripts n given within ∙ ap (λ (z : List (List Command)). Some z) (sym is) in
+    slice_get-get_or scripts n given within ∙ ap (λ (z : List (List Command)). Some z) (sym is) in
     subst (RunsAll scripts old new) (sym pushed)
     (runs_more scripts old mid new rows (record { script = n; outcomes = outcomes }) script so_far there submits)
 
@@ -53,6 +53,12 @@ runs_next scripts n old mid new rows after outcomes given script within is pushe
 module _ (home : Home) (n : ℕ) (old new : Claimant) (claims : Claims home n old new) where
   pub claims_on : IsOf home old → IsOf home new
   claims_on is = subst (IsOf home) (sym claims.is) is
+
+  pub same_table : new.table ≡ old.table
+  same_table = ap (λ (c : Claimant). c.table) claims.is
+
+  pub same_count : new.count ≡ old.count
+  same_count = ap (λ (c : Claimant). c.count) claims.is
 
   -- what was claimed since are the scripts of the rows
   pub claimed_next : (first : List ℕ) (rows after : List Row) (outcomes : Vec Outcome Global)

@@ -1,4 +1,4 @@
--- What one transaction makes of a session: it has further calls and numbers, and its outcome agrees with each history with which its calls do.
+-- What one transaction makes of a session: further calls and numbers, and an outcome that agrees where its calls do.
 use Rattle.std.proofs.Common.{◌≡◌, ◌≢◌, ℕ, ◌≤◌, List, [], ◌∷◌, ◌++◌, length, refl, sym, ap, subst, ◌∙◌, arith}
 use Rattle.std.proofs.Common.{append_assoc}
 use Rattle.std.specs.Prelude.{All, Some}
@@ -71,7 +71,8 @@ goes_further old new goes = goes.grows.0.0
 
 -- ---- what a transaction gains
 
-gained_calls : (cs : List Command) (old new : Pass) (o : Outcome) → Gains cs old new o → (calls : List (Call Note)) × (new.mine ≡ old.mine ++ calls)
+gained_calls : (cs : List Command) (old new : Pass) (o : Outcome) → Gains cs old new o
+    → (calls : List (Call Note)) × (new.mine ≡ old.mine ++ calls)
 gained_calls cs old new (outcome.Committed number replies) g = (Committed number g.3.0 ∷ [], g.3.2)
 gained_calls cs old new (outcome.Read place replies) g = (Answered place g.3.0 ∷ [], g.3.2)
 gained_calls cs old new (outcome.Refused place reason) g = (Answered place g.2.0 ∷ [], g.2.2)
@@ -148,7 +149,8 @@ module _ (g : Given) (h : List Entry) where
   outcome_told cs old new outcome.NoMemory gains settled rest all = tt
 
   -- what comes behind it stands within the history
-  behind_within : (cs : List Command) (o : Outcome) (place : ℕ) → OutcomeAgrees g h cs o → place ≤ length h → place_behind place o ≤ length h
+  behind_within : (cs : List Command) (o : Outcome) (place : ℕ) → OutcomeAgrees g h cs o → place ≤ length h
+      → place_behind place o ≤ length h
   behind_within cs (outcome.Committed number replies) place told within =
       let last = slice_get_within h told.0 (done_entry cs replies) told.2 in let is = told.1 in omega arith
   behind_within cs (outcome.Read at replies) place told within = told.0
@@ -224,6 +226,6 @@ module _ (cs : List Command) (old new : Member) (o : Outcome) (submits : Submits
       let size = length-entries_of new.known.seen.history new.known.seen.notes in
       let longer = submits.later.grows.0.0 in
       let within : place_behind place o ≤ length (history_of new.known.seen) =
-          behind_within new.given (history_of new.known.seen) cs o place
-          (submitted_agrees new (goes_nowhere new) submits.later.stands) (omega arith) in
+      behind_within new.given (history_of new.known.seen) cs o place
+      (submitted_agrees new (goes_nowhere new) submits.later.stands) (omega arith) in
       omega arith

@@ -1,7 +1,6 @@
-use Rattle.std.proofs.Common.{◌<◌, length, ap, ◌∙◌, arith}
-use Rattle.claims.specs.Claims.{Claimant}
+use Rattle.std.proofs.Common.{◌<◌, length, ◌∙◌, arith}
 use Rattle.workers.proofs.Claiming.{claim_nears}
-use Rattle.workers.proofs.Steps.{runs_next, claims_on, claimed_next}
+use Rattle.workers.proofs.Steps.{runs_next, claims_on, claimed_next, same_table, same_count}
 use Rattle.workers.proofs.shift.work.Goals as goal
 
 pub loop-script-smaller : goal.loop-script-smaller
@@ -25,10 +24,10 @@ loop-script-preserved g c =
       claims = claims_on home n old new claims i.claims;
       runs =
           runs_next scripts n c.args.session c.loop-script.session c.submit_all-outcomes.new.session c.loop-script.rows.items
-          c.push.new.self.items outcomes c.index-shop-script.result c.as_slice-transactions.result.now within c.as_slice-transactions.ensures
-          c.in_ok-push.ensures.items i.runs c.in_ok-outcomes.ensures.ok;
-      table = ap (λ (z : Claimant). z.table) claims.is ∙ i.table;
-      count = ap (λ (z : Claimant). z.count) claims.is ∙ i.count;
+          c.push.new.self.items outcomes c.index-shop-script.result c.as_slice-transactions.result.now within
+          c.as_slice-transactions.ensures c.in_ok-push.ensures.items i.runs c.in_ok-outcomes.ensures.ok;
+      table = same_table home n old new claims ∙ i.table;
+      count = same_count home n old new claims ∙ i.count;
       claimed =
           claimed_next home n old new claims c.args.claimant.claimed c.loop-script.rows.items c.push.new.self.items outcomes
           c.in_ok-push.ensures.items i.claimed;
