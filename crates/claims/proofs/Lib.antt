@@ -3,3 +3,4 @@ pub mod UpTo
 pub mod Names
 pub mod RuleSteps
 pub mod Gathered
+pub mod Sent
