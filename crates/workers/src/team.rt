@@ -6,7 +6,7 @@ ghost use Rattle.library.specs.Fitting.{CommandFits};
 ghost use Rattle.claims.specs.Claims.{IsOf as Claims};
 ghost use Rattle.lawful.specs.Lawful.{setting_of};
 ghost use Rattle.transaction.specs.Members.{IsOf};
-ghost use Rattle.workers.specs.Shifts.{AreShifts, ArePromised, IsKept};
+ghost use Rattle.workers.specs.Shifts.{AreShifts, ArePromised, IsKept, IsShift};
 
 use crate::error::WorkError;
 use crate::gate::Gate;
@@ -57,17 +57,30 @@ pub(crate) fn employ<R: Threads + Wait + Sync, G: Gate + Sync>(
     requires fit { All (All (All (CommandFits (setting_of shop.library.now.given).prelude))) shop.scripts.now }
     ensures { IfOk result (λ shifts. AreShifts shop.entry.scripts.now sessions.items claimants.items shifts.items) }
 {
+    // The closures of this file capture the parts of a shop: of one that captures a `Shop`, its caller learns nothing that it ensures.
+    let Shop {
+        library,
+        scripts,
+        numbers,
+        gate,
+    } = shop;
     thread::scope(
         thread::scope_env(),
         rt,
         |scope| -> Result<Vec<Shift>, WorkError>
-            requires own { All (IsOf shop.library.now) sessions.items }
-            requires claims { All (Claims shop.numbers.now) claimants.items }
+            requires own { All (IsOf library.now) sessions.items }
+            requires claims { All (Claims numbers.now) claimants.items }
             requires pairs { length claimants.items ≡ length sessions.items }
-            requires indexes { shop.numbers.now.count ≡ length shop.scripts.now }
-            requires fit { All (All (All (CommandFits (setting_of shop.library.now.given).prelude))) shop.scripts.now }
-            ensures { IfOk result (λ shifts. AreShifts shop.entry.scripts.now sessions.items claimants.items shifts.items) }
+            requires indexes { numbers.now.count ≡ length scripts.now }
+            requires fit { All (All (All (CommandFits (setting_of library.now.given).prelude))) scripts.now }
+            ensures { IfOk result (λ shifts. AreShifts scripts.entry.now sessions.items claimants.items shifts.items) }
         {
+            let shop = Shop {
+                library,
+                scripts,
+                numbers,
+                gate,
+            };
             let handles = start_all(scope, rt, alloc, shop, sessions, claimants)?;
             wait_for_all(rt, alloc, handles)
         },
@@ -92,18 +105,58 @@ fn start_all<'s, 'w: 's, R: Threads + Wait + Sync, G: Gate + Sync>(
 {
     let mut handles = Vec::with_capacity(alloc, sessions.len())?;
     for (session, claimant) in sessions.into_iter().zip(claimants) {
-        let promise = ShiftOf {
-            scripts: shop.scripts,
-            session: Snapshot::of(&session),
-            claimant: Snapshot::of(&claimant),
-        };
-        let Ok(handle) = scope.spawn_with(promise, move || work(rt, alloc, shop, session, claimant))
-        else {
-            return Err(WorkError::NoThread);
-        };
-        handles.push_reserved(handle);
+        handles.push_reserved(start(scope, rt, alloc, shop, session, claimant)?);
     }
     Ok(handles)
+}
+
+/// Starts a thread for one session.
+fn start<'s, 'w: 's, R: Threads + Wait + Sync, G: Gate + Sync>(
+    scope: &'s Scope<'s, &'w ()>,
+    rt: &'w R,
+    alloc: Global,
+    shop: Shop<'w, G>,
+    session: Session,
+    claimant: Claimant,
+) -> Result<PromisedHandle<Handed, ShiftOf<'w>>, WorkError>
+    requires own { IsOf shop.library.now session }
+    requires claims { Claims shop.numbers.now claimant }
+    requires indexes { shop.numbers.now.count ≡ length shop.scripts.now }
+    requires fit { All (All (All (CommandFits (setting_of shop.library.now.given).prelude))) shop.scripts.now }
+    ensures scripts { IfOk result (λ handle. handle.promise.scripts.now ≡ shop.entry.scripts.now) }
+    ensures session { IfOk result (λ handle. handle.promise.session.value ≡ session) }
+    ensures claimant { IfOk result (λ handle. handle.promise.claimant.value ≡ claimant) }
+{
+    let Shop {
+        library,
+        scripts,
+        numbers,
+        gate,
+    } = shop;
+    let promise = ShiftOf {
+        scripts,
+        session: Snapshot::of(&session),
+        claimant: Snapshot::of(&claimant),
+    };
+    let worker = move || -> Handed
+        requires own { IsOf library.now session }
+        requires claims { Claims numbers.now claimant }
+        requires indexes { numbers.now.count ≡ length scripts.now }
+        requires fit { All (All (All (CommandFits (setting_of library.now.given).prelude))) scripts.now }
+        ensures { IfOk result (λ shift. IsShift scripts.entry.now session claimant shift.session shift.claimant shift.rows.items) }
+    {
+        let shop = Shop {
+            library,
+            scripts,
+            numbers,
+            gate,
+        };
+        work(rt, alloc, shop, session, claimant)
+    };
+    match scope.spawn_with(promise, worker) {
+        Ok(handle) => Ok(handle),
+        Err(_) => Err(WorkError::NoThread),
+    }
 }
 
 /// What each thread hands back, in order.
