@@ -2,3 +2,4 @@ pub mod Alike
 pub mod UpTo
 pub mod RuleSteps
 pub mod Gathered
+pub mod Sent

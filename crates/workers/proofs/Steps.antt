@@ -1,0 +1,72 @@
+-- One transaction more of a script, and one script more of a worker.
+use Rattle.std.proofs.Common.{◌≡◌, ℕ, ◌+◌, ◌<◌, List, [], ◌∷◌, ◌++◌, length, take, get_or, Some, refl, sym, ap, subst, ◌∙◌, append_assoc}
+use Rattle.std.specs.Prelude.{map, slice_get, Vec}
+use Rattle.std.specs.declared.alloc.Global.{Global}
+use Rattle.std.proofs.lemmas.Option.{slice_get-get_or}
+use Rattle.std.proofs.lemmas.List.{map-append, take_more}
+use Rattle.library.specs.declared.command.Command.{Command}
+use Rattle.transaction.specs.declared.outcome.Outcome.{Outcome}
+use Rattle.transaction.specs.Members.{Member}
+use Rattle.transaction.specs.Attempts.{Submits}
+use Rattle.claims.specs.Claims.{Home, Claimant, IsOf, Claims}
+use Rattle.workers.specs.declared.shift.Row.{Row}
+use Rattle.workers.specs.Shifts.{SubmitsAll, RunsAll}
+
+submits_more : (script : List (List Command)) (old mid new : Member) (os : List Outcome) (cs : List Command) (o : Outcome)
+    → SubmitsAll script old mid os → Submits cs mid new o → SubmitsAll (script ++ cs ∷ []) old new (os ++ o ∷ [])
+submits_more [] old mid new [] cs o same submits = (new, subst (λ (m : Member). Submits cs m new o) same submits, refl)
+submits_more [] old mid new (p ∷ os) cs o none submits = absurd none
+submits_more (ds ∷ rest) old mid new [] cs o none submits = absurd none
+submits_more (ds ∷ rest) old mid new (p ∷ os) cs o (next, first, others) submits =
+    (next, first, submits_more rest next mid new os cs o others submits)
+
+-- as the code goes on
+pub submits_next : (all : List (List Command)) (n : ℕ) (old mid new : Member) (os after : List Outcome) (cs : List Command) (o : Outcome)
+    → n < length all → cs ≡ get_or all n cs → after ≡ os ++ o ∷ [] → SubmitsAll (take n all) old mid os → Submits cs mid new o
+    → SubmitsAll (take (n + 1) all) old new after
+submits_next all n old mid new os after cs o within is pushed so_far submits =
+    let fronts : take (n + 1) all ≡ take n all ++ cs ∷ [] =
+    take_more all n cs within ∙ ap (λ (z : List Command). take n all ++ z ∷ []) (sym is) in
+    subst (λ (z : List (List Command)). SubmitsAll z old new after) (sym fronts)
+    (subst (SubmitsAll (take n all ++ cs ∷ []) old new) (sym pushed) (submits_more (take n all) old mid new os cs o so_far submits))
+
+runs_more : (scripts : List (List (List Command))) (old mid new : Member) (rows : List Row) (row : Row) (script : List (List Command))
+    → RunsAll scripts old mid rows → slice_get scripts row.script ≡ Some script → SubmitsAll script mid new row.outcomes.items
+    → RunsAll scripts old new (rows ++ row ∷ [])
+runs_more scripts old mid new [] row script same is submits =
+    (new, script, is, subst (λ (m : Member). SubmitsAll script m new row.outcomes.items) same submits, refl)
+runs_more scripts old mid new (r ∷ rows) row script (next, own, there, first, others) is submits =
+    (next, own, there, first, runs_more scripts next mid new rows row script others is submits)
+
+pub runs_next : (scripts : List (List (List Command))) (n : ℕ) (old mid new : Member) (rows after : List Row)
+    (outcomes : Vec Outcome Global) (given script : List (List Command)) → n < length scripts → script ≡ get_or scripts n given
+    → after ≡ rows ++ record { script = n; outcomes = outcomes } ∷ [] → RunsAll scripts old mid rows
+    → SubmitsAll script mid new outcomes.items → RunsAll scripts old new after
+runs_next scripts n old mid new rows after outcomes given script within is pushed so_far submits =
+    let there : slice_get scripts n ≡ Some script =
+    slice_get-get_or scripts n given within ∙ ap (λ (z : List (List Command)). Some z) (sym is) in
+    subst (RunsAll scripts old new) (sym pushed)
+    (runs_more scripts old mid new rows (record { script = n; outcomes = outcomes }) script so_far there submits)
+
+-- ---- claims
+
+module _ (home : Home) (n : ℕ) (old new : Claimant) (claims : Claims home n old new) where
+  pub claims_on : IsOf home old → IsOf home new
+  claims_on is = subst (IsOf home) (sym claims.is) is
+
+  pub same_table : new.table ≡ old.table
+  same_table = ap (λ (c : Claimant). c.table) claims.is
+
+  pub same_count : new.count ≡ old.count
+  same_count = ap (λ (c : Claimant). c.count) claims.is
+
+  -- what was claimed since are the scripts of the rows
+  pub claimed_next : (first : List ℕ) (rows after : List Row) (outcomes : Vec Outcome Global)
+      → after ≡ rows ++ record { script = n; outcomes = outcomes } ∷ [] → old.claimed ≡ first ++ map (λ r. r.script) rows
+      → new.claimed ≡ first ++ map (λ r. r.script) after
+  claimed_next first rows after outcomes pushed so_far =
+      let mapped = ap (map (λ (r : Row). r.script)) pushed
+      ∙ map-append (λ (r : Row). r.script) rows (record { script = n; outcomes = outcomes } ∷ []) in
+      ap (λ (c : Claimant). c.claimed) claims.is
+      ∙ (ap (λ (ns : List ℕ). ns ++ n ∷ []) so_far
+      ∙ (append_assoc first (map (λ r. r.script) rows) (n ∷ []) ∙ ap (λ (ns : List ℕ). first ++ ns) (sym mapped)))

@@ -1,0 +1,231 @@
+-- What one transaction makes of a session: further calls and numbers, and an outcome that agrees where its calls do.
+use Rattle.std.proofs.Common.{◌≡◌, ◌≢◌, ℕ, ◌≤◌, List, [], ◌∷◌, ◌++◌, length, refl, sym, ap, subst, ◌∙◌, arith}
+use Rattle.std.proofs.Common.{append_assoc}
+use Rattle.std.specs.Prelude.{All, Some}
+use Rattle.std.proofs.Math.Seq.{drop-append_seam}
+use Rattle.std.proofs.lemmas.List.{append-nil}
+use Rattle.std.proofs.lemmas.List.Elements.{All-head, All-drop}
+use Rattle.std.proofs.lemmas.Option.{slice_get_within}
+use Rattle.library.specs.declared.command.Command.{Command}
+use Rattle.library.specs.declared.command.Reply.{Reply}
+use Rattle.library.specs.declared.reason.Refused.{Refused as Refusal}
+use Rattle.library.specs.Agrees.{Agrees, committed, read, refused}
+use Rattle.library.specs.Histories.{Entry, done_entry}
+use Rattle.tlwords.specs.Seen.{Work, Call, Committed, Answered, SeenGrows}
+use Rattle.tlwords.proofs.Seens.{seen_refl, seen_trans}
+use Rattle.lawful.specs.declared.notes.Given.{Given}
+use Rattle.lawful.specs.declared.notes.Note.{Note}
+use Rattle.lawful.specs.declared.notes.Note.TheVariants as note
+use Rattle.lawful.specs.Lawful.{setting_of, first_library}
+use Rattle.lawful.specs.History.{history_of, CommitAgrees, AnswerAgrees, CallAgrees, AllAgree}
+use Rattle.lawful.proofs.Entries.{length-entries_of}
+use Rattle.transaction.specs.declared.outcome.Conflict.{Conflict as Met}
+use Rattle.transaction.specs.declared.outcome.Outcome.{Outcome}
+use Rattle.transaction.specs.declared.outcome.Outcome.TheVariants as outcome
+use Rattle.transaction.specs.Members.{Member, Stands}
+use Rattle.transaction.specs.Attempts.{Pass, Gains, GainsCall, Submits, SaysDone, SaysRefused, tried}
+use Rattle.workers.specs.Works.{OutcomeAgrees, OutcomeFits, StandsFrom, place_behind, numbers_of}
+
+-- ---- a session later
+
+-- of the same library, with the same name, having seen more, and with further calls and numbers
+pub record Goes (old new : Member) : Type 0 where
+  pub given : new.given ≡ old.given
+  pub home : new.known.home ≡ old.known.home
+  pub name : new.known.name ≡ old.known.name
+  pub grows : SeenGrows old.known.seen new.known.seen
+  pub calls : List (Call Note)
+  pub mine : new.known.mine ≡ old.known.mine ++ calls
+  pub numbers : List ℕ
+  pub drawn : new.known.drawn ≡ old.known.drawn ++ numbers
+
+pub goes_nowhere : (m : Member) → Goes m m
+goes_nowhere m = record {
+  given = refl;
+  home = refl;
+  name = refl;
+  grows = seen_refl m.known.seen;
+  calls = [];
+  mine = sym (append-nil m.known.mine);
+  numbers = [];
+  drawn = sym (append-nil m.known.drawn);
+}
+
+pub appended : {A : Type 0} (a b c p q : List A) → b ≡ a ++ p → c ≡ b ++ q → c ≡ a ++ (p ++ q)
+appended a b c p q e f = f ∙ (ap (λ z. z ++ q) e ∙ append_assoc a p q)
+
+pub goes_on : (a b c : Member) → Goes a b → Goes b c → Goes a c
+goes_on a b c p q = record {
+  given = q.given ∙ p.given;
+  home = q.home ∙ p.home;
+  name = q.name ∙ p.name;
+  grows = seen_trans a.known.seen b.known.seen c.known.seen p.grows q.grows;
+  calls = p.calls ++ q.calls;
+  mine = appended a.known.mine b.known.mine c.known.mine p.calls q.calls p.mine q.mine;
+  numbers = p.numbers ++ q.numbers;
+  drawn = appended a.known.drawn b.known.drawn c.known.drawn p.numbers q.numbers p.drawn q.drawn;
+}
+
+pub goes_further : (old new : Member) → Goes old new → length old.known.seen.history ≤ length new.known.seen.history
+goes_further old new goes = goes.grows.0.0
+
+-- ---- what a transaction gains
+
+gained_calls : (cs : List Command) (old new : Pass) (o : Outcome) → Gains cs old new o
+    → (calls : List (Call Note)) × (new.mine ≡ old.mine ++ calls)
+gained_calls cs old new (outcome.Committed number replies) g = (Committed number g.3.0 ∷ [], g.3.2)
+gained_calls cs old new (outcome.Read place replies) g = (Answered place g.3.0 ∷ [], g.3.2)
+gained_calls cs old new (outcome.Refused place reason) g = (Answered place g.2.0 ∷ [], g.2.2)
+gained_calls cs old new (outcome.Conflict met) g = ([], g.0 ∙ sym (append-nil old.mine))
+gained_calls cs old new outcome.StoreFull g = ([], g.0.mine ∙ sym (append-nil old.mine))
+gained_calls cs old new outcome.NumbersUsed g = ([], g.0.mine ∙ sym (append-nil old.mine))
+gained_calls cs old new outcome.TooManyCommands g = ([], ap (λ (p : Pass). p.mine) g.0 ∙ sym (append-nil old.mine))
+gained_calls cs old new outcome.NoMemory g = ([], g.mine ∙ sym (append-nil old.mine))
+
+-- one number, or none
+gained_numbers : (cs : List Command) (old new : Pass) (o : Outcome) → Gains cs old new o → ((met : Met) → o ≢ outcome.Conflict met)
+    → new.drawn ≡ old.drawn ++ numbers_of (o ∷ [])
+gained_numbers cs old new (outcome.Committed number replies) g settled = g.2
+gained_numbers cs old new (outcome.Read place replies) g settled = g.2 ∙ sym (append-nil old.drawn)
+gained_numbers cs old new (outcome.Refused place reason) g settled = g.1 ∙ sym (append-nil old.drawn)
+gained_numbers cs old new (outcome.Conflict met) g settled = absurd (settled met refl)
+gained_numbers cs old new outcome.StoreFull g settled = g.0.drawn ∙ sym (append-nil old.drawn)
+gained_numbers cs old new outcome.NumbersUsed g settled = g.0.drawn ∙ sym (append-nil old.drawn)
+gained_numbers cs old new outcome.TooManyCommands g settled = ap (λ (p : Pass). p.drawn) g.0 ∙ sym (append-nil old.drawn)
+gained_numbers cs old new outcome.NoMemory g settled = g.drawn ∙ sym (append-nil old.drawn)
+
+-- ---- it agrees
+
+pub agrees_within : {A : Type 0} (P : A → Type 0) (xs ys : List A) (x : A) → All P ((xs ++ x ∷ []) ++ ys) → P x
+agrees_within P xs ys x all =
+    let moved : All P (xs ++ (x ∷ ys)) = subst (All P) (append_assoc xs (x ∷ []) ys) all in
+    All-head P x ys (subst (All P) (drop-append_seam xs (x ∷ ys)) (All-drop P (length xs) (xs ++ (x ∷ ys)) moved))
+
+module _ (g : Given) (h : List Entry) where
+  -- the call that was gained is one of those that agree
+  gained_agrees : (old new : Pass) (call : Work Note → Call Note) (Says : Note → Type 0) (gains : GainsCall old new call Says)
+      → (rest : List (Call Note)) → AllAgree g h (new.mine ++ rest) → CallAgrees g h (call gains.0)
+  gained_agrees old new call Says gains rest all =
+      agrees_within (CallAgrees g h) old.mine rest (call gains.0)
+      (subst (λ (calls : List (Call Note)). AllAgree g h (calls ++ rest)) gains.2 all)
+
+  commit_told : (cs : List Command) (replies : List Reply) (number : ℕ) (n : Note) → SaysDone cs replies n → CommitAgrees g h number n
+      → Agrees (setting_of g) (first_library g) h cs (committed number replies)
+  commit_told cs replies number (note.Done c r) says agrees =
+      (agrees.0, agrees.1, agrees.2 ∙ λ j. Some (done_entry (says.0 j) (says.1 j)))
+  commit_told cs replies number (note.Refused c r) says agrees = absurd says
+  commit_told cs replies number (note.Looked library) says agrees = absurd says
+
+  read_told : (cs : List Command) (replies : List Reply) (place : ℕ) (n : Note) → SaysDone cs replies n → AnswerAgrees g h place n
+      → Agrees (setting_of g) (first_library g) h cs (read place replies)
+  read_told cs replies place (note.Done c r) says agrees =
+      subst (λ (z : List Command). Agrees (setting_of g) (first_library g) h z (read place replies)) says.0
+      (subst (λ (z : List Reply). Agrees (setting_of g) (first_library g) h c.value (read place z)) says.1 agrees)
+  read_told cs replies place (note.Refused c r) says agrees = absurd says
+  read_told cs replies place (note.Looked library) says agrees = absurd says
+
+  refusal_told : (cs : List Command) (reason : Refusal) (place : ℕ) (n : Note) → SaysRefused cs reason n → AnswerAgrees g h place n
+      → Agrees (setting_of g) (first_library g) h cs (refused place reason)
+  refusal_told cs reason place (note.Refused c r) says agrees =
+      subst (λ (z : List Command). Agrees (setting_of g) (first_library g) h z (refused place reason)) says.0
+      (subst (λ (z : Refusal). Agrees (setting_of g) (first_library g) h c.value (refused place z)) says.1 agrees)
+  refusal_told cs reason place (note.Done c r) says agrees = absurd says
+  refusal_told cs reason place (note.Looked library) says agrees = absurd says
+
+  outcome_told : (cs : List Command) (old new : Pass) (o : Outcome) → Gains cs old new o → ((met : Met) → o ≢ outcome.Conflict met)
+      → (rest : List (Call Note)) → AllAgree g h (new.mine ++ rest) → OutcomeAgrees g h cs o
+  outcome_told cs old new (outcome.Committed number replies) gains settled rest all =
+      commit_told cs replies number gains.3.0.note gains.3.1
+      (gained_agrees old new (Committed number) (SaysDone cs replies) gains.3 rest all)
+  outcome_told cs old new (outcome.Read place replies) gains settled rest all =
+      read_told cs replies place gains.3.0.note gains.3.1 (gained_agrees old new (Answered place) (SaysDone cs replies) gains.3 rest all)
+  outcome_told cs old new (outcome.Refused place reason) gains settled rest all =
+      refusal_told cs reason place gains.2.0.note gains.2.1
+      (gained_agrees old new (Answered place) (SaysRefused cs reason) gains.2 rest all)
+  outcome_told cs old new (outcome.Conflict met) gains settled rest all = absurd (settled met refl)
+  outcome_told cs old new outcome.StoreFull gains settled rest all = tt
+  outcome_told cs old new outcome.NumbersUsed gains settled rest all = tt
+  outcome_told cs old new outcome.TooManyCommands gains settled rest all = tt
+  outcome_told cs old new outcome.NoMemory gains settled rest all = tt
+
+  -- what comes behind it stands within the history
+  behind_within : (cs : List Command) (o : Outcome) (place : ℕ) → OutcomeAgrees g h cs o → place ≤ length h
+      → place_behind place o ≤ length h
+  behind_within cs (outcome.Committed number replies) place told within =
+      let last = slice_get_within h told.0 (done_entry cs replies) told.2 in let is = told.1 in omega arith
+  behind_within cs (outcome.Read at replies) place told within = told.0
+  behind_within cs (outcome.Refused at reason) place told within = told.0
+  behind_within cs (outcome.Conflict met) place told within = within
+  behind_within cs outcome.StoreFull place told within = within
+  behind_within cs outcome.NumbersUsed place told within = within
+  behind_within cs outcome.TooManyCommands place told within = within
+  behind_within cs outcome.NoMemory place told within = within
+
+-- ---- it fits, and stands behind what was seen before
+
+gained_fits : (cs : List Command) (old new : Pass) (o : Outcome) → Gains cs old new o → OutcomeFits cs o
+gained_fits cs old new (outcome.Committed number replies) g = g.0
+gained_fits cs old new (outcome.Read place replies) g = g.0
+gained_fits cs old new (outcome.Refused place reason) g = tt
+gained_fits cs old new (outcome.Conflict met) g = tt
+gained_fits cs old new outcome.StoreFull g = g.2
+gained_fits cs old new outcome.NumbersUsed g = tt
+gained_fits cs old new outcome.TooManyCommands g = g.1
+gained_fits cs old new outcome.NoMemory g = tt
+
+gained_behind : (cs : List Command) (old new : Pass) (o : Outcome) (place : ℕ) → Gains cs old new o → place ≤ length old.seen.history
+    → StandsFrom place o
+gained_behind cs old new (outcome.Committed number replies) place g seen = let further = g.1 in omega arith
+gained_behind cs old new (outcome.Read at replies) place g seen = let further = g.1 in omega arith
+gained_behind cs old new (outcome.Refused at reason) place g seen = let further = g.0 in omega arith
+gained_behind cs old new (outcome.Conflict met) place g seen = tt
+gained_behind cs old new outcome.StoreFull place g seen = tt
+gained_behind cs old new outcome.NumbersUsed place g seen = tt
+gained_behind cs old new outcome.TooManyCommands place g seen = tt
+gained_behind cs old new outcome.NoMemory place g seen = tt
+
+-- ---- one transaction
+
+module _ (cs : List Command) (old new : Member) (o : Outcome) (submits : Submits cs old new o) where
+  abbrev before : Pass
+  before = tried old.known submits.numbers submits.runs
+
+  pub submitted_drawn : new.known.drawn ≡ old.known.drawn ++ (submits.numbers ++ numbers_of (o ∷ []))
+  submitted_drawn =
+      gained_numbers cs before new.known o submits.gains submits.settled
+      ∙ append_assoc old.known.drawn submits.numbers (numbers_of (o ∷ []))
+
+  pub submitted_goes : Goes old new
+  submitted_goes =
+      let calls = gained_calls cs before new.known o submits.gains in
+      record {
+        given = submits.later.given;
+        home = submits.later.home;
+        name = submits.later.name;
+        grows = submits.later.grows;
+        calls = calls.0;
+        mine = calls.1;
+        numbers = submits.numbers ++ numbers_of (o ∷ []);
+        drawn = submitted_drawn;
+      }
+
+  pub submitted_agrees : (last : Member) → Goes new last → Stands last → OutcomeAgrees last.given (history_of last.known.seen) cs o
+  submitted_agrees last goes stands =
+      outcome_told last.given (history_of last.known.seen) cs before new.known o submits.gains submits.settled goes.calls
+      (subst (AllAgree last.given (history_of last.known.seen)) goes.mine stands.agree)
+
+  pub submitted_fits : OutcomeFits cs o
+  submitted_fits = gained_fits cs before new.known o submits.gains
+
+  pub submitted_stands : (place : ℕ) → place ≤ length old.known.seen.history → StandsFrom place o
+  submitted_stands place seen = gained_behind cs before new.known o place submits.gains seen
+
+  -- what comes behind it stands within what was seen by then
+  pub submitted_within : (place : ℕ) → place ≤ length old.known.seen.history → place_behind place o ≤ length new.known.seen.history
+  submitted_within place seen =
+      let size = length-entries_of new.known.seen.history new.known.seen.notes in
+      let longer = submits.later.grows.0.0 in
+      let within : place_behind place o ≤ length (history_of new.known.seen) =
+      behind_within new.given (history_of new.known.seen) cs o place
+      (submitted_agrees new (goes_nowhere new) submits.later.stands) (omega arith) in
+      omega arith

@@ -1,0 +1,197 @@
+-- All workers together: from what each did follows what became of all scripts.
+use Rattle.std.proofs.Common.{◌≡◌, ◌≢◌, ℕ, zero, suc, ◌+◌, ◌<◌, List, [], ◌∷◌, ◌++◌, length, map, flat_map, get_or, Some, true}
+use Rattle.std.proofs.Common.{All, IsPermutation, refl, sym, ap, subst, ◌∙◌, arith}
+use Rattle.std.specs.Prelude.{slice_get}
+use Rattle.std.specs.List.{AllZip, sum_by}
+use Rattle.std.proofs.lemmas.Grind.{flat_map-append}
+use Rattle.std.proofs.lemmas.List.{length-map, nil_from_length}
+use Rattle.std.proofs.lemmas.List.Elements.{All-nil, All-cons, All-head, All-tail, All-append, All-weaker}
+use Rattle.std.proofs.lemmas.List.Folds.{flat_map-map}
+use Rattle.std.proofs.lemmas.List.Sorted.{IsPermutation-sym, All-permutation, sum_by-IsPermutation}
+use Rattle.std.proofs.lemmas.List.Sums.{sum_by-append, sum_by-cons}
+use Rattle.library.specs.declared.command.Command.{Command}
+use Rattle.cells.proofs.Members.{all_from_has}
+use Rattle.cells.proofs.Tallies.{is_one, permutation_from_counts}
+use Rattle.claims.specs.Claims.{Home as Numbers, Claimant, IsOf as IsClaimantOf, IsNewOf, up_to}
+use Rattle.lawful.specs.declared.notes.Given.{Given}
+use Rattle.transaction.specs.declared.outcome.Outcome.{Outcome}
+use Rattle.transaction.specs.Members.{Home, Member, IsOf, IsLater}
+use Rattle.workers.specs.declared.shift.Row.{Row}
+use Rattle.workers.specs.declared.shift.Shift.{Shift}
+use Rattle.workers.specs.Works.{Works, IsRunByOne, IsHandedBack, all_newly_done, numbers_of}
+use Rattle.workers.specs.Shifts.{IsShift, AreShifts, AreWhole, AreCollected}
+use Rattle.workers.proofs.Collected.{length-up_to, at_up_to, rows_of}
+use Rattle.workers.proofs.Runs.{runs_later, runs_agree, runs_numbers}
+
+abbrev Script : Type 0
+Script = List (List Command)
+
+-- ---- lists
+
+sum_by-flat_map : {A B : Type 0} (h : B → ℕ) (f : A → List B) (xs : List A) → sum_by h (flat_map f xs) ≡ sum_by (λ x. sum_by h (f x)) xs
+sum_by-flat_map h f [] = refl
+sum_by-flat_map {A = A} h f (x ∷ xs) =
+    sum_by-append h (f x) (flat_map f xs)
+    ∙ (ap (λ n. sum_by h (f x) + n) (sum_by-flat_map h f xs) ∙ sym (sum_by-cons (λ (y : A). sum_by h (f y)) x xs))
+
+-- the numbers of a list in another order are those of the list
+flat_permutation : {A : Type 0} (f : A → List ℕ) (xs ys : List A) → IsPermutation xs ys → IsPermutation (flat_map f xs) (flat_map f ys)
+flat_permutation f xs ys same =
+    permutation_from_counts (flat_map f xs) (flat_map f ys) (λ w.
+    sum_by-flat_map (is_one w) f xs ∙ sym (sum_by-IsPermutation (λ x. sum_by (is_one w) (f x)) xs ys same)
+    ∙ sym (sum_by-flat_map (is_one w) f ys))
+
+-- ---- the rows in the order of the scripts
+
+-- the rows from the k-th on, each of its script, are those of the scripts from the k-th on
+rows_from : {X : Type 0} (R : X → List Outcome → Type 0) (all : List X) (k : ℕ) (xs : List X) (rows : List Row)
+    → ((i : ℕ) → slice_get xs i ≡ slice_get all (k + i))
+    → ((i : ℕ) → i < length rows → get_or (map (λ row. row.script) rows) i 0 ≡ k + i)
+    → length rows ≡ length xs
+    → All (λ row. (x : X) × (slice_get all row.script ≡ Some x) × R x row.outcomes.items) rows
+    → AllZip R xs (map (λ row. row.outcomes.items) rows)
+rows_from R all k [] [] here at long each = tt
+rows_from R all k [] (row ∷ rows) here at long each = absurd (omega (arith, long))
+rows_from R all k (x ∷ xs) [] here at long each = absurd (omega (arith, long))
+rows_from {X} R all k (x ∷ xs) (row ∷ rows) here at long each =
+    let own = λ (r : Row). (y : X) × (slice_get all r.script ≡ Some y) × R y r.outcomes.items in
+    let first = All-head own row rows each in
+    let script : row.script ≡ k + 0 = at 0 (omega arith) in
+    let found : Some first.0 ≡ Some x = sym first.1 ∙ (ap (slice_get all) script ∙ sym (here 0)) in
+    let is : first.0 ≡ x = cc in
+    let next : (n : ℕ) → k + suc n ≡ suc k + n = λ n. omega arith in (
+      subst (λ (y : X). R y row.outcomes.items) is first.2,
+      rows_from R all (suc k) xs rows (λ i. here (suc i) ∙ ap (slice_get all) (next i))
+          (λ i within. at (suc i) (omega (arith, within)) ∙ next i) (omega (arith, long)) (All-tail own row rows each),
+    )
+
+in_turn : {X : Type 0} (R : X → List Outcome → Type 0) (all : List X) (rows : List Row) → map (λ row. row.script) rows ≡ up_to (length all)
+    → All (λ row. (x : X) × (slice_get all row.script ≡ Some x) × R x row.outcomes.items) rows
+    → AllZip R all (map (λ row. row.outcomes.items) rows)
+in_turn R all rows scripts each =
+    let long : length rows ≡ length all =
+    sym (length-map rows (λ (row : Row). row.script)) ∙ (ap length scripts ∙ length-up_to (length all)) in
+    let from : (i : ℕ) → i ≡ 0 + i = λ i. omega arith in
+    rows_from R all 0 all rows (λ i. ap (slice_get all) (from i))
+    (λ i within. ap (λ (ns : List ℕ). get_or ns i 0) scripts ∙ (at_up_to (length all) i 0 (omega (arith, within, long)) ∙ from i)) long each
+
+-- ---- the sessions
+
+-- the row is of a script that one of the sessions ran
+abbrev IsRun : Given → List Script → List Member → List Member → Row → Type 0
+IsRun g scripts before after row =
+    (script : Script) × (slice_get scripts row.script ≡ Some script) × IsRunByOne g before after script row.outcomes.items
+
+-- whatever session stands before these
+one_before : (g : Given) (scripts : List Script) (before after : List Member) (m n : Member) (row : Row) → IsRun g scripts before after row
+    → IsRun g scripts (m ∷ before) (n ∷ after) row
+one_before g scripts before after m n row run =
+    let one = run.2 in
+    (run.0, run.1, (suc one.0, one.1, one.2, one.3, one.4, one.5))
+
+abbrev sessions_of : List Shift → List Member
+sessions_of shifts = map (λ s. s.session) shifts
+
+abbrev numbers_in : Row → List ℕ
+numbers_in row = numbers_of row.outcomes.items
+
+module _ (home : Home) (opened : home.words.setting ≡ Some home.given) (scripts : List Script) where
+  -- what a session was given is what the library was given
+  given_is : (old new : Member) → IsOf home old → IsLater old new → new.given ≡ home.given
+  given_is old new own later =
+      let told : Some new.given ≡ Some home.given = sym later.stands.setting ∙ (ap (λ h. h.setting) (later.home ∙ own) ∙ opened) in
+      cc
+
+  handed_back : (ms : List Member) (cs : List Claimant) (ss : List Shift) → AreShifts scripts ms cs ss
+      → AllZip IsHandedBack ms (sessions_of ss)
+  handed_back [] [] [] shifts = tt
+  handed_back (m ∷ ms) (c ∷ cs) (s ∷ ss) shifts =
+      (runs_later scripts m s.session s.rows.items shifts.0.runs shifts.0.stands, handed_back ms cs ss shifts.1)
+  handed_back _ _ _ shifts = absurd shifts
+
+  new_numbers : (ms : List Member) (cs : List Claimant) (ss : List Shift) → AreShifts scripts ms cs ss
+      → all_newly_done ms (sessions_of ss) ≡ flat_map numbers_in (rows_of ss)
+  new_numbers [] [] [] shifts = refl
+  new_numbers (m ∷ ms) (c ∷ cs) (s ∷ ss) shifts =
+      let here = runs_numbers scripts m s.session s.rows.items shifts.0.runs shifts.0.stands in
+      let rest = new_numbers ms cs ss shifts.1 in
+      ap (λ ns. ns ++ all_newly_done ms (sessions_of ss)) here
+      ∙ (ap (λ ns. flat_map numbers_in s.rows.items ++ ns) rest ∙ sym (flat_map-append numbers_in s.rows.items (rows_of ss)))
+  new_numbers _ _ _ shifts = absurd shifts
+
+  all_run : (ms : List Member) (cs : List Claimant) (ss : List Shift) → All (IsOf home) ms → AreShifts scripts ms cs ss
+      → All (IsRun home.given scripts ms (sessions_of ss)) (rows_of ss)
+  all_run [] [] [] own shifts = All-nil (IsRun home.given scripts [] [])
+  all_run (m ∷ ms) (c ∷ cs) (s ∷ ss) own shifts =
+      let shift = shifts.0 in
+      let now = IsRun home.given scripts (m ∷ ms) (sessions_of (s ∷ ss)) in
+      let later = (runs_later scripts m s.session s.rows.items shift.runs shift.stands).0 in
+      let same = given_is m s.session (All-head (IsOf home) m ms own) later in
+      let here : All now s.rows.items = all_from_has now s.rows.items (λ row has.
+      let r = runs_agree home.given scripts m s.session s.rows.items shift.runs shift.stands same row has in
+      (r.0, r.1, (0, m, s.session, refl, refl, r.2))) in
+      let rest = all_run ms cs ss (All-tail (IsOf home) m ms own) shifts.1 in
+      let others : All now (rows_of ss) = All-weaker (IsRun home.given scripts ms (sessions_of ss)) now
+      (one_before home.given scripts ms (sessions_of ss) m s.session) (rows_of ss) rest in
+      All-append now s.rows.items (rows_of ss) here others
+  all_run _ _ _ own shifts = absurd shifts
+
+  -- what became of all scripts
+  pub works : (before : List Member) (cs : List Claimant) (ss : List Shift) (outcomes : List (List Outcome)) (after : List Member)
+      → All (IsOf home) before → AreShifts scripts before cs ss → AreCollected (length scripts) ss outcomes after
+      → Works home.given before scripts outcomes after
+  works before cs ss outcomes after own shifts made =
+      let outcomes_of = λ (row : Row). row.outcomes.items in
+      let all : List (List Outcome) = map outcomes_of made.rows in
+      let run = all_run before cs ss own shifts in
+      let ran = All-permutation (IsRun home.given scripts before (sessions_of ss)) (rows_of ss) made.rows made.same run in
+      let back = flat_permutation numbers_in made.rows (rows_of ss) (IsPermutation-sym (rows_of ss) made.rows made.same) in
+      let numbers : IsPermutation (flat_map numbers_of all) (all_newly_done before (sessions_of ss)) =
+      subst (λ ns. IsPermutation ns (all_newly_done before (sessions_of ss))) (sym (flat_map-map numbers_of outcomes_of made.rows))
+      (subst (λ ns. IsPermutation (flat_map numbers_in made.rows) ns) (sym (new_numbers before cs ss shifts)) back) in
+      let whole : Works home.given before scripts all (sessions_of ss) =
+      record {
+        run = in_turn (IsRunByOne home.given before (sessions_of ss)) scripts made.rows made.each ran;
+        back = handed_back before cs ss shifts;
+        numbers = numbers;
+      } in
+      subst (λ (os : List (List Outcome)). Works home.given before scripts os after) (sym made.outcomes_are)
+      (subst (λ (ms : List Member). Works home.given before scripts all ms) (sym made.sessions_are) whole)
+
+-- ---- the claimants
+
+module _ (numbers : Numbers) (scripts : List Script) where
+  -- what is so of each shift of a new claimant
+  each_shift : (P : Shift → Type 0)
+      → ((m : Member) (c : Claimant) (s : Shift) → IsNewOf numbers c → IsShift scripts m c s.session s.claimant s.rows.items → P s)
+      → (ms : List Member) (cs : List Claimant) (ss : List Shift) → All (IsNewOf numbers) cs → AreShifts scripts ms cs ss → All P ss
+  each_shift P so [] [] [] new shifts = All-nil P
+  each_shift P so (m ∷ ms) (c ∷ cs) (s ∷ ss) new shifts =
+      All-cons P s ss (so m c s (All-head (IsNewOf numbers) c cs new) shifts.0)
+      (each_shift P so ms cs ss (All-tail (IsNewOf numbers) c cs new) shifts.1)
+  each_shift P so _ _ _ new shifts = absurd shifts
+
+  as_many : (ms : List Member) (cs : List Claimant) (ss : List Shift) → AreShifts scripts ms cs ss
+      → (length ss ≡ length ms) × (length ss ≡ length cs)
+  as_many [] [] [] shifts = (refl, refl)
+  as_many (m ∷ ms) (c ∷ cs) (s ∷ ss) shifts =
+      let rest = as_many ms cs ss shifts.1 in
+      (omega (arith, rest.0), omega (arith, rest.1))
+  as_many _ _ _ shifts = absurd shifts
+
+  -- so the claimants can be closed
+  pub are_whole : (ms : List Member) (cs : List Claimant) (ss : List Shift) → ms ≢ [] → All (IsNewOf numbers) cs
+      → length cs ≡ numbers.claimants → AreShifts scripts ms cs ss → AreWhole numbers ss
+  are_whole ms cs ss some new long shifts =
+      let many = as_many ms cs ss shifts in
+      let each = λ (P : Shift → Type 0) (so : (m : Member) (c : Claimant) (s : Shift) → IsNewOf numbers c
+      → IsShift scripts m c s.session s.claimant s.rows.items → P s). each_shift P so ms cs ss new shifts in
+      record {
+        some = λ none. some (nil_from_length ms (sym many.0 ∙ ap length none));
+        all = many.1 ∙ long;
+        own = each (λ s. IsClaimantOf numbers s.claimant) (λ m c s is shift.
+            (shift.table ∙ ap (λ (x : Claimant). x.table) is, shift.count ∙ ap (λ (x : Claimant). x.count) is));
+        ended = each (λ s. s.claimant.ended ≡ true) (λ m c s is shift. shift.ended);
+        claimed = each (λ s. s.claimant.claimed ≡ map (λ row. row.script) s.rows.items) (λ m c s is shift.
+            shift.claimed ∙ ap (λ (x : Claimant). x.claimed ++ map (λ row. row.script) s.rows.items) is);
+      }

@@ -1,0 +1,30 @@
+use Rattle.std.proofs.Common.{◌≡◌, List, [], ◌∷◌, ◌++◌, length-append, map, sym, subst, arith}
+use Rattle.std.specs.List.{AllZip}
+use Rattle.std.proofs.lemmas.List.{map-append}
+use Rattle.std.proofs.lemmas.Slice.Zip.{all_zipped_more}
+use Rattle.workers.specs.declared.shift.Shift.{Shift}
+use Rattle.workers.specs.declared.team.ShiftOf.{ShiftOf}
+use Rattle.workers.specs.Shifts.{IsKept}
+use Rattle.workers.proofs.team.wait_for_all.Goals as goal
+
+pub loop-handle-preserved : goal.loop-handle-preserved
+loop-handle-preserved g c =
+    let done = c.loop-handle.yielded in
+    let handle = c.in-Some.handle in
+    let shift : Shift = c.in_ok-join.field-0 in
+    let shifts : List Shift = c.loop-handle.shifts.items in
+    let promises : List ShiftOf = map (λ h. h.promise) done in
+    let promised : map (λ h. h.promise) (done ++ handle ∷ []) ≡ promises ++ handle.promise ∷ [] = map-append (λ h. h.promise) done (handle ∷ []) in
+    let pushed : c.push_reserved.new.self.items ≡ shifts ++ shift ∷ [] = c.push_reserved.ensures.items in
+    let was = c.loop-handle.invariant in
+    let long = was.1 in
+    let room = was.2 in
+    let more = length-append done (handle ∷ []) in
+    let many = c.push_reserved.ensures.len in
+    let wide = c.push_reserved.ensures.capacity in (
+      subst (λ (ss : List Shift). AllZip IsKept (map (λ h. h.promise) (done ++ handle ∷ [])) ss) (sym {A = List Shift} pushed)
+          (subst (λ (ps : List ShiftOf). AllZip IsKept ps (shifts ++ shift ∷ [])) (sym {A = List ShiftOf} promised)
+          (all_zipped_more IsKept promises shifts handle.promise shift was.0 c.in_ok-join.ensures)),
+      omega (arith, more, many, long),
+      omega (arith, room, wide),
+    )

@@ -1,0 +1,19 @@
+//! What is told of each script as it is run.
+
+/// Is told of each script before its first transaction and after its last, on the thread of its worker.
+pub trait Gate {
+    /// The script with this index, from 0, is claimed, and none of its transactions was submitted. It may keep the worker waiting.
+    fn enter(&self, script: usize);
+
+    /// The last transaction of the script with this index, from 0, has its outcome.
+    fn leave(&self, script: usize);
+}
+
+/// Lets every script pass.
+pub struct Open;
+
+impl Gate for Open {
+    fn enter(&self, _script: usize) {}
+
+    fn leave(&self, _script: usize) {}
+}
