@@ -402,6 +402,7 @@ fn both_submitted<R: Threads + Wait + Sync>(
 }
 
 /// The text of the library after a history of DEMO, which is read from a text.
+#[tactic(auto, using(historytext::proofs::LegalFits::entries_fit))]
 fn replayed(
     rt: &(impl AllocGlobal + RandomSource + Threads + Sync),
     history: &[u8],
