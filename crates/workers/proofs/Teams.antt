@@ -33,7 +33,8 @@ shifts_kept scripts (m ∷ ms) (c ∷ cs) (p ∷ ps) [] promised kept = absurd k
 shifts_kept scripts (m ∷ ms) (c ∷ cs) (p ∷ ps) (s ∷ ss) promised kept = (
   subst (λ (x : Claimant). IsShift scripts m x s.session s.claimant s.rows.items) promised.2
       (subst (λ (x : Member). IsShift scripts x p.claimant.value s.session s.claimant s.rows.items) promised.1
-      (subst (λ (x : List (List (List Command))). IsShift x p.session.value p.claimant.value s.session s.claimant s.rows.items) promised.0 kept.0)),
+      (subst (λ (x : List (List (List Command))). IsShift x p.session.value p.claimant.value s.session s.claimant s.rows.items) promised.0
+      kept.0)),
   shifts_kept scripts ms cs ps ss promised.3 kept.1,
 )
 
@@ -46,7 +47,8 @@ walked_more f xs x rest more all is step =
     ap (λ l. l ++ more) (map-append f xs (x ∷ [])) ∙ append_assoc (map f xs) (f x ∷ []) more ∙ ap (λ l. map f xs ++ l) (sym step) ∙ is
 
 -- none is left where there were as many
-pub walked_all : {A B : Type 0} (f : A → B) (xs : List A) (rest all : List B) → map f xs ++ rest ≡ all → length xs ≡ length all → map f xs ≡ all
+pub walked_all : {A B : Type 0} (f : A → B) (xs : List A) (rest all : List B) → map f xs ++ rest ≡ all → length xs ≡ length all
+    → map f xs ≡ all
 walked_all f xs rest all is long =
     let sum = length-append (map f xs) rest in
     let same = length-map xs f in

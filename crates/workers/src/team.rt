@@ -6,7 +6,7 @@ ghost use Rattle.library.specs.Fitting.{CommandFits};
 ghost use Rattle.claims.specs.Claims.{IsOf as Claims};
 ghost use Rattle.lawful.specs.Lawful.{setting_of};
 ghost use Rattle.transaction.specs.Members.{IsOf};
-ghost use Rattle.workers.specs.Shifts.{AreShifts, ArePromised, IsKept, IsShift};
+ghost use Rattle.workers.specs.Shifts.{AreShifts, ArePromised, IsKept};
 
 use crate::error::WorkError;
 use crate::gate::Gate;
@@ -57,7 +57,7 @@ pub(crate) fn employ<R: Threads + Wait + Sync, G: Gate + Sync>(
     requires fit { All (All (All (CommandFits (setting_of shop.library.now.given).prelude))) shop.scripts.now }
     ensures { IfOk result (λ shifts. AreShifts shop.entry.scripts.now sessions.items claimants.items shifts.items) }
 {
-    // The closures of this file capture the parts of a shop: of one that captures a `Shop`, its caller learns nothing that it ensures.
+    // The closures of this file capture the parts of the shop: of one that captures a `Shop`, its caller learns nothing that it ensures.
     let Shop {
         library,
         scripts,
@@ -101,7 +101,7 @@ fn start_all<'s, 'w: 's, R: Threads + Wait + Sync, G: Gate + Sync>(
     requires pairs { length claimants.items ≡ length sessions.items }
     requires indexes { shop.numbers.now.count ≡ length shop.scripts.now }
     requires fit { All (All (All (CommandFits (setting_of shop.library.now.given).prelude))) shop.scripts.now }
-    ensures { IfOk result (λ handles. ArePromised shop.entry.scripts.now sessions.items claimants.items (map (λ h. h.promise) handles.items)) }
+    ensures { IfOk result (λ made. ArePromised shop.entry.scripts.now sessions.items claimants.items (map (λ h. h.promise) made.items)) }
 {
     let mut handles = Vec::with_capacity(alloc, sessions.len())?;
     for (session, claimant) in sessions.into_iter().zip(claimants) {
@@ -138,13 +138,7 @@ fn start<'s, 'w: 's, R: Threads + Wait + Sync, G: Gate + Sync>(
         session: Snapshot::of(&session),
         claimant: Snapshot::of(&claimant),
     };
-    let worker = move || -> Handed
-        requires own { IsOf library.now session }
-        requires claims { Claims numbers.now claimant }
-        requires indexes { numbers.now.count ≡ length scripts.now }
-        requires fit { All (All (All (CommandFits (setting_of library.now.given).prelude))) scripts.now }
-        ensures { IfOk result (λ shift. IsShift scripts.entry.now session claimant shift.session shift.claimant shift.rows.items) }
-    {
+    let worker = move || {
         let shop = Shop {
             library,
             scripts,

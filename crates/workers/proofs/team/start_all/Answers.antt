@@ -22,15 +22,15 @@ loop-session-preserved g c =
     let more = length-append done (pair ∷ []) in
     let many = c.push_reserved.ensures.len in
     let wide = c.push_reserved.ensures.capacity in
+    let sessions : List Member = map (λ p. p.0) (done ++ pair ∷ []) in
+    let claimants : List Claimant = map (λ p. p.1) (done ++ pair ∷ []) in
     let first = was.3 in
     let second = was.4 in
     let long = was.5 in
     let room = was.6 in
     let fewer = steps.0.1 in
     let fewer' = steps.1.1 in (
-      subst
-          (λ (ps : List ShiftOf). ArePromised c.args.shop.scripts.now (map (λ d. d.0) (done ++ pair ∷ [])) (map (λ d. d.1) (done ++ pair ∷ [])) ps)
-          (sym pushed)
+      subst (λ (ps : List ShiftOf). ArePromised c.args.shop.scripts.now sessions claimants ps) (sym pushed)
           (promised_more c.args.shop.scripts.now done (map (λ h. h.promise) handles) session claimant handle.promise was.0
           c.in_ok-start.ensures.scripts c.in_ok-start.ensures.session c.in_ok-start.ensures.claimant),
       walked_more (λ (p : Member × Claimant). p.0) done pair _ _ _ was.1 steps.0.0,

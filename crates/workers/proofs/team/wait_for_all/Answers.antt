@@ -14,7 +14,8 @@ loop-handle-preserved g c =
     let shift : Shift = c.in_ok-join.field-0 in
     let shifts : List Shift = c.loop-handle.shifts.items in
     let promises : List ShiftOf = map (λ h. h.promise) done in
-    let promised : map (λ h. h.promise) (done ++ handle ∷ []) ≡ promises ++ handle.promise ∷ [] = map-append (λ h. h.promise) done (handle ∷ []) in
+    let promised : map (λ h. h.promise) (done ++ handle ∷ []) ≡ promises ++ handle.promise ∷ [] =
+    map-append (λ h. h.promise) done (handle ∷ []) in
     let pushed : c.push_reserved.new.self.items ≡ shifts ++ shift ∷ [] = c.push_reserved.ensures.items in
     let was = c.loop-handle.invariant in
     let long = was.1 in
