@@ -18,7 +18,7 @@ use Rattle.cells.specs.PlainViews.{named_state}
 use Rattle.cells.proofs.Members.{has_mapped, mapped_has, all_has, all_from_has}
 use Rattle.lawful.specs.declared.notes.Note.{Note}
 use Rattle.lawful.specs.Lawful.{setting_of, first_library, state_of}
-use Rattle.lawful.specs.History.{history_of, IsHistoryOf}
+use Rattle.lawful.specs.History.{history_of, IsHistoryOf, AllAgree}
 use Rattle.lawful.specs.Laws.{AreFree}
 use Rattle.lawful.proofs.Entries.{at_index, length-entries_of, histories_grow}
 use Rattle.lawful.proofs.Closed.{closed_histories_stand, closed_words_show}
@@ -49,7 +49,7 @@ mapped_at : {A : Type 0} (xs : List A) (i : ℕ) (x : A) → slice_get xs i ≡ 
 mapped_at xs i x at = slice_get-map (λ (y : _). Some y) xs i ∙ ap (option_map (λ (y : _). Some y)) at
 
 -- what a record says isn't open
-settled : (done : Option (List Command × List Reply)) → entry_recorded done ≢ open_entry
+pub settled : (done : Option (List Command × List Reply)) → entry_recorded done ≢ open_entry
 settled None e = cc
 settled (Some done) e = cc
 
@@ -167,6 +167,14 @@ module _ (home : Home) (members : List Member) (closed : ClosedLibrary) (is : Is
           all_from_has (λ (m : Member). Grows (history_of m.known.seen) (map told history)) members
           (λ m has. subst (Grows (history_of m.known.seen)) is_history (grown m has))
 
+      agree : All (λ (m : Member). AllAgree home.given (map told history) m.known.mine) members
+      agree =
+          let g = home.given in
+          let all = (closed_histories_stand g home.words.base home.store words is.words.closes small).1 in
+          all_from_has (λ (m : Member). AllAgree g (map told history) m.known.mine) members
+          (λ m has. subst (λ h. AllAgree g h m.known.mine) is_history
+          (all m.known.mine (is.words.each m.known (has_mapped (λ (x : Member). x.known) members m has)).mine))
+
       -- ---- the library
 
       abbrev pub last_library : List Ranked
@@ -223,6 +231,7 @@ module _ (home : Home) (members : List Member) (closed : ClosedLibrary) (is : Is
               long = long;
               is = is_history;
               grow = grows;
+              agree = agree;
               recorded = recorded_by;
               legal = subst (λ h. IsLegal (setting_of home.given) (first_library home.given) h) is_history stands.legal;
               fit = subst (λ h. EntriesFit (setting_of home.given).prelude h) is_history stands.fit;

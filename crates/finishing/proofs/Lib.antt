@@ -1,3 +1,3 @@
 mod Putting
 mod Looked
-mod Ended
+pub mod Ended

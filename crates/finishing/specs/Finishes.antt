@@ -9,7 +9,7 @@ use Rattle.tlwords.specs.declared.closing.ClosedWords.{ClosedWords}
 use Rattle.tlwords.specs.Closing.{ClosesAll}
 use Rattle.cells.specs.Shows.{Shows}
 use Rattle.lawful.specs.Lawful.{setting_of, first_library, state_of, library_terms}
-use Rattle.lawful.specs.History.{history_of}
+use Rattle.lawful.specs.History.{history_of, AllAgree}
 use Rattle.transaction.specs.Members.{Home, Member, entry_recorded}
 use Rattle.transaction.specs.Closings.{passes_of}
 use Rattle.transaction.specs.declared.outcome.Record.{Record}
@@ -42,8 +42,8 @@ AreRecordedBy members history =
     (i : ℕ) (e : CodeEntry) → slice_get history i ≡ Some e
     → (m : Member) × (r : Record) × Has m members × Has r m.records × (r.number ≡ suc i) × (entry_recorded r.done ≡ told e)
 
--- the history has one entry for each number up to the clock, and is the one that the words show; what each session had seen grows into it;
--- each entry is the record of a session; it is legal from the library at the opening, with commands within the limits; and the library is
+-- the history has one entry for each number up to the clock, and is the one that the words show; what each session had seen grows into it,
+-- and its calls agree with it; each entry is the record of a session; it is legal from the library at the opening, with commands within the limits; and the library is
 -- the one after all of it, and the one that the closed words show
 pub record IsFinished (home : Home) (members : List Member) (history : List CodeEntry) (library : Listed) : Type 0 where
   pub words : ClosedWords
@@ -51,6 +51,7 @@ pub record IsFinished (home : Home) (members : List Member) (history : List Code
   pub long : length history ≡ words.clock
   pub is : history_of its.closes.seen ≡ map told history
   pub grow : All (λ m. Grows (history_of m.known.seen) (map told history)) members
+  pub agree : All (λ m. AllAgree home.given (map told history) m.known.mine) members
   pub recorded : AreRecordedBy members history
   pub legal : IsLegal (setting_of home.given) (first_library home.given) (map told history)
   pub fit : EntriesFit (setting_of home.given).prelude (map told history)

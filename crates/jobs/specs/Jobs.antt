@@ -1,5 +1,5 @@
 -- What a job prints, and which fault it has.
-use Rattle.std.specs.Prelude.{◌≡◌, ◌≢◌, ◌≤◌, ◌+◌, ◌⊎◌, ℕ, zero, suc, List, [], ◌∷◌, ◌++◌, Some, codes, length, map, slice_get}
+use Rattle.std.specs.Prelude.{◌≡◌, ◌≢◌, ◌<◌, ◌≤◌, ◌+◌, ◌⊎◌, ◌^◌, ℕ, zero, suc, List, [], ◌∷◌, ◌++◌, Some, codes, length, map, slice_get}
 use Rattle.std.specs.Prelude.{Result, Ok, Err}
 use Rattle.std.specs.Fmt.{decimal}
 use Rattle.mmsyntax.specs.declared.statement.Assertion.{Assertion}
@@ -16,7 +16,10 @@ use Rattle.library.specs.Library.{Listed, ShowsInOrder, Verifies, opening}
 use Rattle.scripts.specs.Scripts.{SpellsScript}
 use Rattle.scripts.specs.ScriptFaults.{FaultyScript}
 use Rattle.library.specs.declared.history.Entry.{Entry}
-use Rattle.library.specs.Histories.{told, after, after_all, IsLegal}
+use Rattle.library.specs.Histories.{told, after, after_all, EntriesFit, IsLegal}
+use Rattle.cells.specs.Measures.{bodies_length}
+use Rattle.transaction.specs.declared.outcome.Outcome.{Outcome}
+use Rattle.editing.specs.Edits.{AreToldBy}
 use Rattle.history.specs.Replays.{IsFirstDiffering}
 use Rattle.historytext.specs.Grammar.{SpellsHistory}
 use Rattle.historytext.specs.Places.{FaultyHistory}
@@ -26,10 +29,9 @@ use Rattle.jobs.specs.declared.job.Job.{Job}
 use Rattle.jobs.specs.declared.job.Job.TheVariants.{Check, Run, Replay}
 use Rattle.jobs.specs.declared.job.Printed.{Printed}
 use Rattle.jobs.specs.declared.job.Fault.{Fault}
-use Rattle.jobs.specs.declared.job.Fault.TheVariants.{Text, Proof, Differs, NoMemory}
-use Rattle.jobs.specs.Outcomes.{Standing, setting_of, at_opening, all_outcomes, after_scripts}
+use Rattle.jobs.specs.declared.job.Fault.TheVariants.{Text, Proof, Differs, StoreFull, Missing, NoThread, NoMemory}
+use Rattle.jobs.specs.Outcomes.{setting_of}
 use Rattle.jobs.specs.Reports.{report_text}
-use Rattle.jobs.specs.declared.outcome.Outcome.{Outcome}
 
 abbrev pub Bytes : Type 0
 Bytes = List ℕ
@@ -44,28 +46,29 @@ Orders = List (List Command)
 abbrev pub library_lines : Listed → Bytes
 library_lines library = codes "library" ++ 10 ∷ exported_text library
 
--- what becomes of the transactions of scripts, script after script
-abbrev pub outcomes_of : Contents → List Orders → List (List Outcome)
-outcomes_of contents scripts = all_outcomes (setting_of contents) (at_opening contents) scripts
-
--- where the transactions of scripts leave
-abbrev pub left_by : Contents → List Orders → Standing
-left_by contents scripts = after_scripts (setting_of contents) (at_opening contents) scripts
-
--- the report of what becomes of all transactions, and the library after them, whose text is accepted; and the text of the history, which
--- is of exactly those that were committed, and spells it. Its replies are the editor's, and the library is the one after it; after each
--- front of it, too, the library verifies
-pub record PrintsRun (contents : Contents) (scripts : List Orders) (out history : Bytes) : Type 0 where
-  pub library : Listed
+-- the scripts were run over the library of a database, whose bodies the store has room for: these are their outcomes in this history, which is
+-- legal from the opening library and within the limits; and the library is the one after it
+pub record IsWorked (contents : Contents) (room : ℕ) (scripts : List Orders) (rows : List (List Outcome)) (history : List Entry) (library : Listed) :
+    Type 0 where
+  pub fits : bodies_length contents.assertions ≤ room
+  pub told_by : AreToldBy (setting_of contents) (opening contents) (map told history) scripts rows
+  pub legal : IsLegal (setting_of contents) (opening contents) (map told history)
+  pub within : EntriesFit contents.prelude (map told history)
   pub setting : library.setting ≡ setting_of contents
-  pub shows : ShowsInOrder (left_by contents scripts).library library.entries
-  pub prints : out ≡ report_text contents.prelude (outcomes_of contents scripts) ++ library_lines library
+  pub follows : ShowsInOrder (after_all (setting_of contents) (opening contents) (map told history)) library.entries
+
+-- the report of what became of all transactions, and the library after them, whose text is accepted; and the text of the history, which spells
+-- it. After each front of it, too, the library verifies
+pub record PrintsRun (contents : Contents) (room : ℕ) (scripts : List Orders) (out history : Bytes) : Type 0 where
+  pub rows : List (List Outcome)
+  pub entries : List Entry
+  pub library : Listed
+  pub worked : IsWorked contents room scripts rows entries library
+  pub fronts : (k : ℕ) → Verifies (setting_of contents) (after (setting_of contents) (opening contents) (map told entries) k)
+  pub prints : out ≡ report_text contents.prelude rows ++ library_lines library
   pub accepted : Accepts (exported_text library)
-  pub kept : history ≡ history_text contents.prelude (left_by contents scripts).entries
-  pub spelled : SpellsHistory contents.prelude history (left_by contents scripts).entries
-  pub legal : IsLegal (setting_of contents) (opening contents) (map told (left_by contents scripts).entries)
-  pub follows : ShowsInOrder (after_all (setting_of contents) (opening contents) (map told (left_by contents scripts).entries)) library.entries
-  pub fronts : (k : ℕ) → Verifies (setting_of contents) (after (setting_of contents) (opening contents) (map told (left_by contents scripts).entries) k)
+  pub kept : history ≡ history_text contents.prelude entries
+  pub spelled : SpellsHistory contents.prelude history entries
 
 -- `replayed`, a number of entries, and a library
 abbrev pub replayed_lines : ℕ → Listed → Bytes
@@ -119,12 +122,12 @@ pub record IsCheck (db : Bytes) (out : Bytes) : Type 0 where
 
 -- the database is read as it is spelled, and its proofs check; the scripts are read as they are spelled; and what is printed is that of
 -- their run
-pub record IsRun (db : Bytes) (texts : List Bytes) (out history : Bytes) : Type 0 where
+pub record IsRun (db : Bytes) (texts : List Bytes) (room : ℕ) (out history : Bytes) : Type 0 where
   pub contents : Contents
   pub checked : IsChecked db contents
   pub scripts : List Orders
   pub ordered : AreScripts contents.prelude texts scripts
-  pub printed : PrintsRun contents scripts out history
+  pub printed : PrintsRun contents room scripts out history
 
 -- the database is read as it is spelled, and its proofs check; the history is read as it is spelled; and what is printed is that of its
 -- replay
@@ -135,9 +138,18 @@ pub record IsReplay (db text : Bytes) (out : Bytes) : Type 0 where
   pub read : IsHistory contents.prelude text history
   pub printed : PrintsReplay contents history out
 
+-- 1 to 64 workers, and a room of at most 2^24 words
+abbrev pub IsWithin : ℕ → ℕ → Type 0
+IsWithin workers room = (1 ≤ workers) × (workers ≤ 64) × (room ≤ 2 ^ 24)
+
+-- so those of a run are
+abbrev pub AreWithin : Job → Type 0
+AreWithin (Run db texts workers room) = IsWithin workers room
+AreWithin _ = Unit {0}
+
 abbrev pub DoneAsAsked : Job → Printed → Type 0
 DoneAsAsked (Check db) p = IsCheck db.items p.out.items × (p.history.items ≡ [])
-DoneAsAsked (Run db texts) p = IsRun db.items (map (λ t. t.items) texts.items) p.out.items p.history.items
+DoneAsAsked (Run db texts workers room) p = IsRun db.items (map (λ t. t.items) texts.items) room p.out.items p.history.items
 DoneAsAsked (Replay db history) p = IsReplay db.items history.items p.out.items × (p.history.items ≡ [])
 
 -- ---- what the program answers to its own texts
@@ -146,10 +158,10 @@ DoneAsAsked (Replay db history) p = IsReplay db.items history.items p.out.items 
 -- that a run over the same database gave, the library of that run
 abbrev pub AnswersItsOwn : Job → (Bytes → Type 0) → Type 0
 AnswersItsOwn (Check db) is_answered = (a : Accepts db.items) → length db.items ≤ 16777216 → is_answered (ok_line a.database)
-AnswersItsOwn (Run db texts) is_answered = Unit {0}
+AnswersItsOwn (Run db texts workers room) is_answered = Unit {0}
 AnswersItsOwn (Replay db history) is_answered =
-    (texts : List Bytes) (out : Bytes) (run : IsRun db.items texts out history.items) → length history.items ≤ 16777216
-    → is_answered (replayed_lines (length (left_by run.contents run.scripts).entries) run.printed.library)
+    (texts : List Bytes) (room : ℕ) (out : Bytes) (run : IsRun db.items texts room out history.items) → length history.items ≤ 16777216
+    → is_answered (replayed_lines (length run.printed.entries) run.printed.library)
 
 -- this is printed, unless memory ran out
 abbrev pub IsPrintedBy : Result Printed Fault → Bytes → Type 0
@@ -180,11 +192,21 @@ IsDatabaseFault text (Text zero f) = FaultyDatabase text f × (f.kind ≢ OutOfM
 IsDatabaseFault text (Proof label fault) = (contents : Contents) × IsDatabase text contents × IsProofFault contents (Proof label fault)
 IsDatabaseFault text _ = ⊥
 
--- the fault of a run: that of its database, or the fault of the first script that has one, the k-th at the place k
-abbrev pub IsRunFault : Bytes → List Bytes → Fault → Type 0
-IsRunFault db texts (Text (suc k) f) =
+-- the fault of a run: that of its database, or the fault of the first script that has one, the k-th at the place k; or, where all are read, that
+-- the bodies of the database's assertions have more words than the room
+abbrev pub IsRunFault : Bytes → List Bytes → ℕ → Fault → Type 0
+IsRunFault db texts room (Text (suc k) f) =
     ((contents : Contents) × IsChecked db contents × IsFirstFault contents.prelude texts k f) × (f.kind ≢ OutOfMemory)
-IsRunFault db texts f = IsDatabaseFault db f
+IsRunFault db texts room StoreFull =
+    (contents : Contents) × (scripts : List Orders) × IsChecked db contents × AreScripts contents.prelude texts scripts
+    × (room < bodies_length contents.assertions)
+IsRunFault db texts room f = IsDatabaseFault db f
+
+-- why a run that has no fault may come to no end: a thread can't be had, or a number is missing in its history. No lock is held at its end
+abbrev pub IsRunLack : Fault → Type 0
+IsRunLack NoThread = Unit {0}
+IsRunLack (Missing n) = 1 ≤ n
+IsRunLack _ = ⊥
 
 -- an entry is the first of the history that differs
 abbrev pub IsDifference : Contents → List Entry → Fault → Type 0
@@ -203,8 +225,13 @@ IsReplayFault db text f = IsDatabaseFault db f
 -- the first fault that a job has
 abbrev pub IsFaultOf : Job → Fault → Type 0
 IsFaultOf (Check db) f = IsDatabaseFault db.items f
-IsFaultOf (Run db texts) f = IsRunFault db.items (map (λ t. t.items) texts.items) f
+IsFaultOf (Run db texts workers room) f = IsRunFault db.items (map (λ t. t.items) texts.items) room f
 IsFaultOf (Replay db history) f = IsReplayFault db.items history.items f
+
+-- why a job that has none may come to no end
+abbrev pub IsLackOf : Job → Fault → Type 0
+IsLackOf (Run db texts workers room) f = IsRunLack f
+IsLackOf _ f = ⊥
 
 -- the answer where there is a fault: that fault, unless memory ran out
 abbrev pub IsOrLacksMemory : Fault → Fault → Type 0

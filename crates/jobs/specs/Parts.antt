@@ -1,5 +1,5 @@
 -- Of the code's inside, apart from the rules: what its single functions answer, as parts of what a job prints and of its faults.
-use Rattle.std.specs.Prelude.{◌≡◌, ◌≢◌, ◌+◌, ℕ, zero, suc, List, map, Result, Ok, Err}
+use Rattle.std.specs.Prelude.{◌≡◌, ◌≢◌, ◌<◌, ◌+◌, ℕ, zero, suc, List, map, Result, Ok, Err}
 use Rattle.mmtext.specs.declared.fault.TextFault.{TextFault}
 use Rattle.mmtext.specs.declared.fault.FaultKind.TheVariants.{NoMemory as OutOfMemory}
 use Rattle.mmsyntax.specs.Tables.{Tables, Contents}
@@ -10,9 +10,13 @@ use Rattle.library.specs.declared.history.Entry.{Entry}
 use Rattle.library.specs.Histories.{told, after_all, IsLegal}
 use Rattle.historytext.specs.Places.{FaultyHistory}
 use Rattle.jobs.specs.declared.job.Fault.{Fault}
-use Rattle.jobs.specs.declared.job.Fault.TheVariants.{Text, Proof, NoMemory}
+use Rattle.jobs.specs.declared.job.Fault.TheVariants.{Text, Proof, StoreFull, Missing, Held, NoThread, NoMemory}
 use Rattle.jobs.specs.Outcomes.{setting_of}
-use Rattle.jobs.specs.Jobs.{Bytes, IsFirstFault, IsLabelAt}
+use Rattle.jobs.specs.Jobs.{Bytes, IsFirstFault, IsLabelAt, IsRunLack}
+use Rattle.cells.specs.Measures.{bodies_length}
+use Rattle.transaction.specs.declared.shape.Shape.{Shape}
+use Rattle.editing.specs.declared.error.EditError.{EditError}
+use Rattle.editing.specs.declared.error.EditError.TheVariants as edit
 
 -- the scripts' part of a fault
 abbrev pub IsScriptFault : Tables → List Bytes → Fault → Type 0
@@ -59,3 +63,26 @@ pub record IsReplayed (contents : Contents) (history : List Entry) (library : Li
   pub setting : library.setting ≡ setting_of contents
   pub legal : IsLegal (setting_of contents) (opening contents) (map told history)
   pub shows : ShowsInOrder (after_all (setting_of contents) (opening contents) (map told history)) library.entries
+
+-- how the library of a run lies in words
+abbrev pub shape_with : ℕ → ℕ → Shape
+shape_with workers room = record { slots = 4096; room = room; sessions = workers }
+
+-- why the library of a database whose proofs check isn't opened
+abbrev pub IsOpenFault : Contents → ℕ → Fault → Type 0
+IsOpenFault contents room StoreFull = room < bodies_length contents.assertions
+IsOpenFault contents room NoMemory = Unit {0}
+IsOpenFault contents room _ = ⊥
+
+-- nor its scripts run to their end
+abbrev pub IsWorkFault : Contents → ℕ → Fault → Type 0
+IsWorkFault contents room StoreFull = room < bodies_length contents.assertions
+IsWorkFault contents room NoMemory = Unit {0}
+IsWorkFault contents room f = IsRunLack f
+
+-- the fault of a run that came to no end
+abbrev pub from_edit : EditError → Fault
+from_edit edit.NoThread = NoThread
+from_edit (edit.Missing n) = Missing n
+from_edit (edit.Held c) = Held c
+from_edit edit.NoMemory = NoMemory

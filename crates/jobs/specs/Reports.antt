@@ -6,18 +6,24 @@ use Rattle.mmsyntax.specs.Tables.{Tables}
 use Rattle.mmsyntax.specs.Layout.{line}
 use Rattle.library.specs.Reasons.{printed_reason}
 use Rattle.historytext.specs.Layout.{reply_text}
-use Rattle.jobs.specs.declared.outcome.Outcome.{Outcome}
-use Rattle.jobs.specs.declared.outcome.Outcome.TheVariants.{Committed, Read, Refused, TooManyCommands}
+use Rattle.transaction.specs.declared.outcome.Outcome.{Outcome}
+use Rattle.transaction.specs.declared.outcome.Outcome.TheVariants.{Committed, Read, Refused, Conflict, StoreFull, NumbersUsed, TooManyCommands, NoMemory}
 
 -- ---- outcomes
 
--- `committed N` or `read PLACE`, then the lines of the replies in order; `refused PLACE at INDEX: ` and the reason; `too many commands`
+-- `committed N` or `read PLACE`, then the lines of the replies in order; `refused PLACE at INDEX: ` and the reason; `store full`, `numbers used`,
+-- `too many commands`, `no memory`. No outcome of a run is a conflict
 abbrev pub outcome_text : Tables → Outcome → List ℕ
 outcome_text t (Committed number replies) = line (codes "committed" ∷ decimal number ∷ []) ++ flat_map (reply_text t) replies
 outcome_text t (Read place replies) = line (codes "read" ∷ decimal place ∷ []) ++ flat_map (reply_text t) replies
-outcome_text t (Refused place index reason) =
-    codes "refused " ++ (decimal place ++ (codes " at " ++ (decimal index ++ (codes ": " ++ (printed_reason reason ++ 10 ∷ [])))))
+outcome_text t (Refused place refused) =
+    codes "refused "
+    ++ (decimal place ++ (codes " at " ++ (decimal refused.index ++ (codes ": " ++ (printed_reason refused.reason ++ 10 ∷ [])))))
+outcome_text t (Conflict met) = []
+outcome_text t StoreFull = codes "store full" ++ 10 ∷ []
+outcome_text t NumbersUsed = codes "numbers used" ++ 10 ∷ []
 outcome_text t TooManyCommands = codes "too many commands" ++ 10 ∷ []
+outcome_text t NoMemory = codes "no memory" ++ 10 ∷ []
 
 -- ---- reports
 

@@ -9,25 +9,25 @@ use Rattle.jobs.specs.declared.task.Task.TheVariants.{Check, Run, Replay}
 use Rattle.jobs.specs.declared.answering.Answered.{Answered}
 use Rattle.jobs.specs.declared.answering.Answered.TheVariants.{Done, Refused}
 use Rattle.jobs.specs.FaultLines.{line_of, fault_text}
-use Rattle.jobs.specs.Jobs.{Bytes, DoneAsAsked, IsFaultOf}
+use Rattle.jobs.specs.Jobs.{Bytes, DoneAsAsked, IsFaultOf, IsLackOf}
 
 -- ---- jobs of texts
 
 -- the texts of a job: its database, then all its scripts in order, or its history
 abbrev pub texts_of : Job → List Bytes
 texts_of (job.Check db) = db.items ∷ []
-texts_of (job.Run db scripts) = db.items ∷ map (λ t. t.items) scripts.items
+texts_of (job.Run db scripts workers room) = db.items ∷ map (λ t. t.items) scripts.items
 texts_of (job.Replay db history) = db.items ∷ history.items ∷ []
 
 abbrev pub task_of : Job → Task
 task_of (job.Check db) = Check
-task_of (job.Run db scripts) = Run
+task_of (job.Run db scripts workers room) = Run workers room
 task_of (job.Replay db history) = Replay
 
 -- so many texts are a job: a database alone; one before any number of scripts; one before a history
 abbrev pub TakesTexts : Task → ℕ → Type 0
 TakesTexts Check count = count ≡ 1
-TakesTexts Run count = 1 ≤ count
+TakesTexts (Run workers room) count = 1 ≤ count
 TakesTexts Replay count = count ≡ 2
 
 -- the job of a task on exactly these texts
@@ -37,11 +37,11 @@ pub record IsJobOf (asked : Task) (given : List Bytes) (j : Job) : Type 0 where
 
 -- ---- what is answered
 
--- what the job prints; or the line of its fault, behind the path of the text that has it; or that there is no memory
+-- what the job prints; or the line of its fault, behind the path of the text that has it; or why it came to no end; or that there is no memory
 abbrev pub Answers : List Bytes → Job → Answered → Type 0
 Answers paths j (Done printed) = DoneAsAsked j printed
 Answers paths j (Refused line) =
-    (fault : Fault) × (fault ≢ NoMemory → IsFaultOf j fault) × (string_bytes line ≡ line_of paths fault)
+    (fault : Fault) × (fault ≢ NoMemory → IsFaultOf j fault ⊎ IsLackOf j fault) × (string_bytes line ≡ line_of paths fault)
 
 -- the line of a fault that the job has, unless memory ran out
 abbrev pub IsLineOf : List Bytes → Fault → Answered → Type 0

@@ -2,13 +2,14 @@
 
 ghost use Rattle.std.specs.Prelude.{◌≡◌, map, IfOk};
 ghost use Rattle.jobs.specs.declared.job.Fault.{Fault as FaultOfJob};
-ghost use Rattle.jobs.specs.Jobs.{IsFaultOf, AnswersItsOwn};
+ghost use Rattle.jobs.specs.Jobs.{AreWithin, IsFaultOf, AnswersItsOwn};
 ghost use Rattle.jobs.specs.Tasks.{Answers, IsLineOf, IsToldBy};
 
 use crate::job::{Job, Printed};
 use crate::performing::perform;
 use std::alloc::{AllocError, Global};
 use std::hash::RandomState;
+use std::sync::Wait;
 use std::thread::Threads;
 
 /// What the program answers to a job.
@@ -20,18 +21,20 @@ pub enum Answered {
     Refused(String),
 }
 
-/// Does a job on the texts of files, of which `paths` are the paths: the database's, then each script's, or the history's.
+/// Does a job on the texts of files, of which `paths` are the paths: the database's, then each script's, or the history's. The workers and the
+/// room of a run are within their limits. It may wait.
 ///
 /// # Errors
 ///
 /// Want of memory for the line of a fault.
 pub fn answer(
-    rt: &(impl Threads + Sync),
+    rt: &(impl Threads + Wait + Sync),
     alloc: Global,
     keys: RandomState,
     job: &Job,
     paths: &[&str],
 ) -> Result<Answered, AllocError>
+    requires { AreWithin job.now }
     // What is printed is the job's. The line is that of a fault of the job, and names the file that has it.
     ensures answers { IfOk result (Answers (map (λ path. path.now) paths.now) job.now) }
     // The first fault that the job has is told, unless memory runs out.

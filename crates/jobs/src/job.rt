@@ -2,6 +2,7 @@
 
 ghost use Rattle.jobs.specs.Parts.{IsTextFaultOf};
 
+use editing::EditError;
 use mmstatement::{FaultKind, Label, TextFault};
 use proofcheck::ProofFault;
 use std::alloc::{AllocError, AllocFailed};
@@ -11,8 +12,14 @@ use std::alloc::{AllocError, AllocFailed};
 pub enum Job {
     /// Checks the proofs of a database.
     Check { db: Vec<u8> },
-    /// Runs the scripts, one after another, over the library of a database.
-    Run { db: Vec<u8>, scripts: Vec<Vec<u8>> },
+    /// Runs the scripts over the library of a database, with so many workers, 1 to 64, each of which claims the next script. The store of the
+    /// library has room for so many words, at most 16,777,216.
+    Run {
+        db: Vec<u8>,
+        scripts: Vec<Vec<u8>>,
+        workers: usize,
+        room: usize,
+    },
     /// Does the transactions of a history again, over the library of a database, and compares their replies.
     Replay { db: Vec<u8>, history: Vec<u8> },
 }
@@ -22,7 +29,8 @@ pub enum Job {
 pub struct Printed {
     /// The text for the standard output.
     pub out: Vec<u8>,
-    /// The text of a run's history: the transactions that were committed, with their replies. Empty for other jobs.
+    /// The text of a run's history: for each number, from 1, the transaction that was committed with it, with its replies, or nothing. Empty for
+    /// other jobs.
     pub history: Vec<u8>,
 }
 
@@ -35,6 +43,14 @@ pub enum Fault {
     Proof { label: Label, fault: ProofFault },
     /// An entry of the history, counted from 1, is the first whose replies aren't the library's.
     Differs(usize),
+    /// The store has no room for the labels, statements and proofs of the database.
+    StoreFull,
+    /// No worker drew this number of the history, counted from 1.
+    Missing(u64),
+    /// The lock of this cell, from 0, is held at the end.
+    Held(usize),
+    /// A thread for a worker can't be had.
+    NoThread,
     /// Memory ran out.
     NoMemory,
 }
@@ -58,6 +74,22 @@ impl<T: Drop> From<AllocFailed<T>> for Fault {
 
     fn from(_error: AllocFailed<T>) -> Fault {
         Fault::NoMemory
+    }
+}
+
+impl From<EditError> for Fault {
+    ghost use Rattle.std.specs.Prelude.{◌≡◌};
+    ghost use Rattle.jobs.specs.Parts.{from_edit};
+
+    ghost from_gives = { λ error f. f ≡ from_edit error };
+
+    fn from(error: EditError) -> Fault {
+        match error {
+            EditError::NoThread => Fault::NoThread,
+            EditError::Missing(number) => Fault::Missing(number),
+            EditError::Held(cell) => Fault::Held(cell),
+            EditError::NoMemory => Fault::NoMemory,
+        }
     }
 }
 

@@ -1,34 +1,30 @@
 //! A job from bytes to bytes.
 
-ghost use Rattle.std.specs.Prelude.{◌≡◌, ◌≢◌, ◌<◌, ◌+◌, ◌++◌, ◌∷◌, [], ℕ, None, All, IfOk, OnOk, IfErr, map, length, codes};
+ghost use Rattle.std.specs.Prelude.{◌≡◌, ◌≢◌, ◌<◌, ◌+◌, ◌++◌, ◌∷◌, ◌⊎◌, [], ℕ, None, All, IfOk, OnOk, IfErr, map, length, codes};
 ghost use Rattle.std.specs.Fmt.{decimal};
 ghost use Rattle.mmtext.specs.declared.fault.FaultKind.TheVariants.{NoMemory as OutOfMemory};
 ghost use Rattle.mmtext.specs.declared.fault.TextFault.{TextFault as FaultOfText};
 ghost use Rattle.proofcheck.specs.Databases.{AllCheck, IsFirstFault as IsFirstFaultOfProofs};
 ghost use Rattle.jobs.specs.declared.job.Fault.{Fault as FaultOfJob};
 ghost use Rattle.jobs.specs.declared.job.Fault.TheVariants.{NoMemory};
-ghost use Rattle.jobs.specs.Jobs.{AreScripts, IsChecked, library_lines, PrintsRun, IsCheck, IsRun, IsReplay, DoneAsAsked, IsLabelAt};
-ghost use Rattle.jobs.specs.Outcomes.{OutcomesFit};
-ghost use Rattle.jobs.specs.Reports.{report_text};
+ghost use Rattle.jobs.specs.Jobs.{AreScripts, IsChecked, IsWithin, AreWithin, IsCheck, IsRun, IsReplay, DoneAsAsked, IsLabelAt};
 ghost use Rattle.jobs.specs.Jobs.{IsFirstFault, IsProofFault, IsDatabaseFault};
 ghost use Rattle.jobs.specs.Parts.{IsTextFaultOf, IsScriptFault};
-ghost use Rattle.jobs.specs.Jobs.{IsRunFault, IsReplayFault, IsFaultOf, AnswersItsOwn, IsPrintedBy, RefusesWith};
+ghost use Rattle.jobs.specs.Jobs.{IsRunFault, IsRunLack, IsReplayFault, IsFaultOf, IsLackOf, AnswersItsOwn, IsPrintedBy, RefusesWith};
 ghost use Rattle.jobs.specs.Parts.{IsRefusedWith, IsProofFaultOf, GivesOrLacksMemory};
 ghost use Rattle.mmsyntax.specs.Tables.{Contents};
 ghost use Rattle.library.specs.Fitting.{CommandFits};
 
-use crate::edits::{Edited, edit_all};
 use crate::job::{Fault, Job, Printed, text_fault};
 use crate::replaying::{print_replay, read_entries};
-use crate::report::report;
-use export::write_library;
-use historytext::write_history;
+use crate::running::print_run;
 use library::Script;
 use mmstatement::{Database, Label, Prelude, read_database};
 use proofcheck::{ProofFault, ProofFaultKind, check_all};
 use scripts::read_script;
 use std::alloc::{AllocError, Global};
 use std::hash::RandomState;
+use std::sync::Wait;
 use std::thread::Threads;
 
 /// Reads the scripts in order. The first fault is that of the first text that has one.
@@ -103,38 +99,6 @@ fn read_and_check(
     Ok(db)
 }
 
-/// The report of a run, and its library's text.
-fn report_run(alloc: Global, prelude: &Prelude, edited: &Edited) -> Result<Vec<u8>, AllocError>
-    requires { OutcomesFit prelude.now edited.now.outcomes }
-    ensures { IfOk result (λ v. v.items ≡ report_text prelude.now edited.now.outcomes ++ library_lines edited.now.library) }
-{
-    let mut out = report(alloc, prelude, edited.outcomes.as_slice())?;
-    out.extend_from_slice(b"library\n")?;
-    let text = write_library(alloc, &edited.library)?;
-    out.extend_from_slice(text.as_slice())?;
-    Ok(out)
-}
-
-/// What the run of scripts over a database prints, and its history's text.
-fn print_run(
-    alloc: Global,
-    keys: RandomState,
-    db: &Database,
-    scripts: &[Script],
-) -> Result<Printed, AllocError>
-    requires checks { AllCheck db.now }
-    requires fit { All (All (All (CommandFits db.now.prelude))) scripts.now }
-    ensures { IfOk result (λ p. PrintsRun db.now scripts.now p.out.items p.history.items) }
-{
-    // For the proof: some text declares the database.
-    let _assertions = db.assertions();
-    let edited = edit_all(alloc, keys, db, scripts)?;
-    Ok(Printed {
-        out: report_run(alloc, db.prelude(), &edited)?,
-        history: write_history(alloc, db.prelude(), edited.history.as_slice())?,
-    })
-}
-
 /// `ok`, and the number of assertions.
 fn print_count(alloc: Global, count: usize) -> Result<Vec<u8>, AllocError>
     ensures { IfOk result (λ out. out.items ≡ codes "ok " ++ (decimal count ++ 10 ∷ [])) }
@@ -158,21 +122,24 @@ fn check(
     Ok(print_count(alloc, db.assertions().len())?)
 }
 
-/// Runs scripts over a database, as texts, and gives what is printed.
+/// Runs scripts over a database by workers, as texts, and gives what is printed.
 fn run(
-    rt: &(impl Threads + Sync),
+    rt: &(impl Threads + Wait + Sync),
     alloc: Global,
     keys: RandomState,
     db: &[u8],
     scripts: &[Vec<u8>],
+    workers: usize,
+    room: usize,
 ) -> Result<Printed, Fault>
-    ensures done { IfOk result (λ p. IsRun db.now (map (λ t. t.items) scripts.now) p.out.items p.history.items) }
-    ensures fault { IfErr result (λ f. f ≢ NoMemory → IsRunFault db.now (map (λ t. t.items) scripts.now) f) }
-    ensures refused { (f : FaultOfJob) → IsRunFault db.now (map (λ t. t.items) scripts.now) f → RefusesWith f result }
+    requires within { IsWithin workers room }
+    ensures done { IfOk result (λ p. IsRun db.now (map (λ t. t.items) scripts.now) room p.out.items p.history.items) }
+    ensures fault { IfErr result (λ f. f ≢ NoMemory → IsRunFault db.now (map (λ t. t.items) scripts.now) room f ⊎ IsRunLack f) }
+    ensures refused { (f : FaultOfJob) → IsRunFault db.now (map (λ t. t.items) scripts.now) room f → RefusesWith f result }
 {
     let db = read_and_check(rt, alloc, keys, db)?;
     let scripts = read_scripts(alloc, db.prelude(), scripts)?;
-    Ok(print_run(alloc, keys, &db, scripts.as_slice())?)
+    print_run(rt, alloc, keys, &db, scripts.as_slice(), workers, room)
 }
 
 /// Does the transactions of a history again, over a database, as texts, and gives what is printed.
@@ -192,22 +159,22 @@ fn replay(
     print_replay(alloc, keys, &db, entries.as_slice())
 }
 
-/// Does a job on texts, without files.
+/// Does a job on texts, without files. The workers and the room of a run are within their limits. It may wait.
 ///
 /// The faults are found in this order: the database's text, its proofs, then each script's text, or the history's text and the first of
-/// its entries that differs. A job that has one prints nothing.
+/// its entries that differs; then the opening of a run's library, the run, and its end. A job that has one prints nothing.
 pub fn perform(
-    rt: &(impl Threads + Sync),
+    rt: &(impl Threads + Wait + Sync),
     alloc: Global,
     keys: RandomState,
     job: &Job,
 ) -> Result<Printed, Fault>
+    requires { AreWithin job.now }
     // The texts are read as they are spelled. A run prints the report of what becomes of all its transactions, and then, as a replay does,
-    // the exported text of the library after them. Its history holds exactly those that were committed, and is legal; a replayed history is
-    // legal too.
+    // the exported text of the library after its history. The history tells of these outcomes, and is legal; a replayed history is legal too.
     ensures done { IfOk result (λ p. DoneAsAsked job.now p) }
-    // The fault is the first that the job has, or memory ran out.
-    ensures fault { IfErr result (λ f. f ≢ NoMemory → IsFaultOf job.now f) }
+    // The fault is the first that the job has; or a run came to no end; or memory ran out.
+    ensures fault { IfErr result (λ f. f ≢ NoMemory → IsFaultOf job.now f ⊎ IsLackOf job.now f) }
     // The first fault that the job has is answered, unless memory runs out.
     ensures refused { (f : FaultOfJob) → IsFaultOf job.now f → RefusesWith f result }
     // To an accepted text of at most 16,777,216 bytes, as each such export is, a check answers `ok`, unless memory runs out; and to the
@@ -216,8 +183,14 @@ pub fn perform(
 {
     let out = match job {
         Job::Check { db } => check(rt, alloc, keys, db.as_slice())?,
-        Job::Run { db, scripts } => {
-            return run(rt, alloc, keys, db.as_slice(), scripts.as_slice());
+        Job::Run {
+            db,
+            scripts,
+            workers,
+            room,
+        } => {
+            let (db, scripts) = (db.as_slice(), scripts.as_slice());
+            return run(rt, alloc, keys, db, scripts, *workers, *room);
         }
         Job::Replay { db, history } => {
             replay(rt, alloc, keys, db.as_slice(), history.as_slice())?

@@ -14,7 +14,6 @@ ghost use Rattle.jobs.specs.Parts.{IsReplayed, IsHistoryFault};
 ghost use Rattle.jobs.specs.Jobs.{RefusesWith};
 ghost use Rattle.jobs.specs.Parts.{GivesOrLacksMemory, IsRefusedWith};
 
-use crate::edits::SLOTS;
 use crate::job::{Fault, text_fault};
 use export::write_library;
 use history::ReplayError;
@@ -23,6 +22,9 @@ use library::{Entry, History, PlainLibrary};
 use mmstatement::{Database, Prelude};
 use std::alloc::{AllocError, Global};
 use std::hash::RandomState;
+
+/// The slots of a library of the program.
+pub(crate) const SLOTS: usize = 4096;
 
 /// Reads the history of a replay, which is the text behind the database's.
 pub(crate) fn read_entries(alloc: Global, prelude: &Prelude, text: &[u8]) -> Result<History, Fault>

@@ -4,14 +4,16 @@ ghost use Rattle.std.specs.Prelude.{◌≡◌, ◌++◌, All, IfOk, OnOk};
 ghost use Rattle.std.specs.List.{flat_map};
 ghost use Rattle.library.specs.Fitting.{ReplyFits};
 ghost use Rattle.historytext.specs.Layout.{reply_text};
+ghost use Rattle.transaction.specs.declared.outcome.Outcome.TheVariants as outcome;
+ghost use Rattle.workers.specs.Works.{lists_of};
 ghost use Rattle.jobs.specs.Outcomes.{OutcomeFits, OutcomesFit};
 ghost use Rattle.jobs.specs.Reports.{outcome_text, script_text_from, report_text};
 
-use crate::outcome::Outcome;
 use historytext::put_reply;
-use library::{Reason, Reply};
-use mmstatement::{Prelude, Sequence};
+use library::{Refused, Reply};
+use mmstatement::Prelude;
 use std::alloc::{AllocError, Global};
+use transaction::Outcome;
 
 /// The lines of replies, in order.
 fn put_replies(
@@ -35,16 +37,16 @@ fn put_refusal(
     out: &mut Vec<u8>,
     prelude: &Prelude,
     place: u64,
-    index: usize,
-    reason: Reason,
+    refused: Refused,
 ) -> Result<(), AllocError>
-    ensures { OnOk result (out.new.items ≡ out.old.items ++ outcome_text prelude.now (Outcome.Refused place index reason)) }
+    ensures { OnOk result (out.new.items ≡ out.old.items ++ outcome_text prelude.now (outcome.Refused place refused)) }
 {
+    let Refused { index, reason } = refused;
     let line = format!(in alloc; "refused {place} at {index}: {reason}\n")?;
     out.extend_from_slice(line.as_bytes())
 }
 
-/// The lines of one transaction behind `S.T `.
+/// The lines of one transaction behind `S.T `. Its outcome is no conflict.
 fn put_outcome(
     alloc: Global,
     out: &mut Vec<u8>,
@@ -65,12 +67,12 @@ fn put_outcome(
             out.extend_from_slice(line.as_bytes())?;
             put_replies(alloc, out, prelude, replies.as_slice())
         }
-        Outcome::Refused {
-            place,
-            index,
-            reason,
-        } => put_refusal(alloc, out, prelude, *place, *index, *reason),
+        Outcome::Refused { place, refused } => put_refusal(alloc, out, prelude, *place, *refused),
+        Outcome::Conflict(_) => unreachable!(),
+        Outcome::StoreFull => out.extend_from_slice(b"store full\n"),
+        Outcome::NumbersUsed => out.extend_from_slice(b"numbers used\n"),
         Outcome::TooManyCommands => out.extend_from_slice(b"too many commands\n"),
+        Outcome::NoMemory => out.extend_from_slice(b"no memory\n"),
     }
 }
 
@@ -98,10 +100,10 @@ fn put_script(
 pub(crate) fn report(
     alloc: Global,
     prelude: &Prelude,
-    rows: &[Sequence<Outcome>],
+    rows: &[Vec<Outcome>],
 ) -> Result<Vec<u8>, AllocError>
-    requires { OutcomesFit prelude.now rows.now }
-    ensures { IfOk result (λ out. out.items ≡ report_text prelude.now rows.now) }
+    requires { OutcomesFit prelude.now (lists_of rows.now) }
+    ensures { IfOk result (λ out. out.items ≡ report_text prelude.now (lists_of rows.now)) }
 {
     let mut out = Vec::new(alloc);
     for (i, row) in rows.iter().enumerate() {

@@ -10,8 +10,8 @@ use crate::job::Job;
 pub enum Task {
     /// Checks the proofs of a database.
     Check,
-    /// Runs scripts over a database.
-    Run,
+    /// Runs scripts over a database, with so many workers, in a store with room for so many words.
+    Run { workers: usize, room: usize },
     /// Does a history again over a database.
     Replay,
 }
@@ -28,7 +28,12 @@ pub fn job_of(task: Task, mut texts: Vec<Vec<u8>>) -> Option<Job>
     let db = texts.remove(0);
     match task {
         Task::Check if texts.is_empty() => Some(Job::Check { db }),
-        Task::Run => Some(Job::Run { db, scripts: texts }),
+        Task::Run { workers, room } => Some(Job::Run {
+            db,
+            scripts: texts,
+            workers,
+            room,
+        }),
         Task::Replay if texts.len() == 1 => {
             let history = texts.pop()?;
             Some(Job::Replay { db, history })

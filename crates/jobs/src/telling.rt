@@ -34,6 +34,10 @@ impl fmt::Display for Fault {
                 write!(f, "proof of {label}: {fault}")
             }
             Fault::Differs(entry) => write!(f, "entry {entry} differs"),
+            Fault::StoreFull => write!(f, "store full"),
+            Fault::Missing(number) => write!(f, "missing {number}"),
+            Fault::Held(cell) => write!(f, "held {cell}"),
+            Fault::NoThread => write!(f, "no thread"),
             Fault::NoMemory => write!(f, "no memory"),
         }
     }
@@ -42,7 +46,7 @@ impl fmt::Display for Fault {
 impl Error for Fault {}
 
 impl Fault {
-    /// Which text has the fault: the database is 0, then each script from 1 on, or the history, which is 1. None for want of memory.
+    /// Which text has the fault: the database is 0, then each script from 1 on, or the history, which is 1. None for what is no text's fault.
     pub fn file(&self) -> Option<usize>
         ensures { result ≡ file_of self.now }
     {
@@ -50,7 +54,11 @@ impl Fault {
             Fault::Text { file, .. } => Some(*file),
             Fault::Proof { .. } => Some(0),
             Fault::Differs(_) => Some(1),
-            Fault::NoMemory => None,
+            Fault::StoreFull
+            | Fault::Missing(_)
+            | Fault::Held(_)
+            | Fault::NoThread
+            | Fault::NoMemory => None,
         }
     }
 

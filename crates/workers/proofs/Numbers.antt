@@ -10,6 +10,7 @@ use Rattle.cells.proofs.Ones.{filter_none}
 use Rattle.library.specs.declared.command.Command.{Command}
 use Rattle.library.specs.Histories.{Entry, void_entry, done_entry}
 use Rattle.lawful.specs.declared.notes.Given.{Given}
+use Rattle.lawful.specs.Lawful.{setting_of, first_library}
 use Rattle.lawful.specs.History.{history_of}
 use Rattle.transaction.specs.declared.outcome.Outcome.{Outcome}
 use Rattle.transaction.specs.declared.outcome.Outcome.TheVariants as outcome
@@ -21,7 +22,7 @@ use Rattle.workers.proofs.Submitting.{Goes, appended, submitted_agrees, submitte
 
 -- ---- done numbers
 
-done_at : (h : List Entry) (i : ℕ) (e : Entry) → slice_get h i ≡ Some e → is_done h (suc i) ≡ is_done_entry e
+pub done_at : (h : List Entry) (i : ℕ) (e : Entry) → slice_get h i ≡ Some e → is_done h (suc i) ≡ is_done_entry e
 done_at [] i e at = cc
 done_at (x ∷ h) zero e at = let same : x ≡ e = cc in ap is_done_entry same
 done_at (x ∷ h) (suc i) e at = done_at h i e at
@@ -37,7 +38,8 @@ module _ (last : Member) where
   void_filtered numbers void =
       filter_none is_done_last numbers (λ n has. void_not_done n (all_has (IsVoidNumber last.known) numbers n void has))
 
-  outcome_filtered : (g : Given) (cs : List Command) (o : Outcome) → OutcomeAgrees g (history_of last.known.seen) cs o
+  outcome_filtered : (g : Given) (cs : List Command) (o : Outcome)
+      → OutcomeAgrees (setting_of g) (first_library g) (history_of last.known.seen) cs o
       → filter is_done_last (numbers_of (o ∷ [])) ≡ numbers_of (o ∷ [])
   outcome_filtered g cs (outcome.Committed number replies) told =
       let is : number ≡ suc told.0 = omega (arith, told.1) in
@@ -88,7 +90,7 @@ module _ (last : Member) where
   pub submitted_draws : (cs : List Command) (old new : Member) (o : Outcome) → Submits cs old new o → Goes new last → Stands last
       → Draws last old new (numbers_of (o ∷ []))
   submitted_draws cs old new o submits goes stands =
-      let own = outcome_filtered last last.given cs o (submitted_agrees cs old new o submits last goes stands) in
+      let own = outcome_filtered last last.given cs o (submitted_agrees cs old new o submits last goes last.given (history_of last.known.seen) stands.agree) in
       let none = void_filtered last submits.numbers (voids_grow new.known last.known submits.numbers goes.grows submits.void) in
       record {
         numbers = submits.numbers ++ numbers_of (o ∷ []);

@@ -1,14 +1,16 @@
 -- What a session's transactions make of it: it is later, its outcomes agree with its history, and its new numbers are theirs.
-use Rattle.std.proofs.Common.{◌≡◌, ℕ, ◌≤◌, inl, inr, List, [], ◌∷◌, length, Some, sym, subst, arith}
+use Rattle.std.proofs.Common.{◌≡◌, ℕ, ◌≤◌, inl, inr, List, [], ◌∷◌, length, Some, sym, ap, subst, ◌∙◌, arith}
 use Rattle.std.specs.Prelude.{slice_get, flat_map}
 use Rattle.library.specs.declared.command.Command.{Command}
+use Rattle.library.specs.Histories.{Entry}
 use Rattle.ranges.specs.Ranges.{Has}
 use Rattle.lawful.specs.declared.notes.Given.{Given}
-use Rattle.lawful.specs.History.{history_of}
+use Rattle.lawful.specs.Lawful.{setting_of, first_library}
+use Rattle.lawful.specs.History.{AllAgree}
 use Rattle.transaction.specs.declared.outcome.Outcome.{Outcome}
 use Rattle.transaction.specs.Members.{Member, Stands}
 use Rattle.workers.specs.declared.shift.Row.{Row}
-use Rattle.workers.specs.Works.{ScriptAgrees, IsHandedBack, newly_done, numbers_of, place_behind}
+use Rattle.workers.specs.Works.{ScriptAgrees, IsRunBy, IsHandedBack, newly_done, numbers_of, place_behind}
 use Rattle.workers.specs.Shifts.{SubmitsAll, RunsAll}
 use Rattle.workers.proofs.Submitting.{Goes, goes_nowhere, goes_on, goes_further, submitted_goes, submitted_agrees, submitted_fits}
 use Rattle.workers.proofs.Submitting.{submitted_stands, submitted_within}
@@ -37,16 +39,17 @@ runs_later scripts old new rows runs stands =
       goes.drawn,
     )
 
-module _ (last : Member) (stands : Stands last) where
+module _ (last : Member) (g : Given) (h : List Entry) (agree : AllAgree g h last.known.mine) where
   -- ---- it agrees
 
   script_agrees : (place : ℕ) (script : List (List Command)) (old new : Member) (os : List Outcome) → SubmitsAll script old new os
-      → Goes new last → place ≤ length old.known.seen.history → ScriptAgrees last.given (history_of last.known.seen) place script os
+      → Goes new last → place ≤ length old.known.seen.history
+      → ScriptAgrees (setting_of g) (first_library g) h place script os
   script_agrees place [] old new [] same goes seen = tt
   script_agrees place [] old new (o ∷ os) none goes seen = absurd none
   script_agrees place (cs ∷ rest) old new [] none goes seen = absurd none
   script_agrees place (cs ∷ rest) old new (o ∷ os) (mid, first, others) goes seen = (
-    submitted_agrees cs old mid o first last (goes_on mid new last (script_goes rest mid new os others) goes) stands,
+    submitted_agrees cs old mid o first last (goes_on mid new last (script_goes rest mid new os others) goes) g h agree,
     submitted_fits cs old mid o first,
     first.counted,
     submitted_stands cs old mid o first place seen,
@@ -54,19 +57,30 @@ module _ (last : Member) (stands : Stands last) where
   )
 
   run_agrees : (scripts : List (List (List Command))) (place : ℕ) (old new : Member) (rows : List Row) → RunsAll scripts old new rows
-      → Goes new last → place ≤ length old.known.seen.history → (row : Row) → Has row rows
-      → (script : List (List Command)) × (slice_get scripts row.script ≡ Some script)
-      × ScriptAgrees last.given (history_of last.known.seen) place script row.outcomes.items
-  run_agrees scripts place old new [] same goes seen row has = absurd has
-  run_agrees scripts place old new (r ∷ rows) (mid, script, is, first, others) goes seen row (inl same) =
+      → Goes new last → place ≤ length old.known.seen.history → (row : Row) → Has row rows → (script : List (List Command))
+      → slice_get scripts row.script ≡ Some script
+      → ScriptAgrees (setting_of g) (first_library g) h place script row.outcomes.items
+  run_agrees scripts place old new [] same goes seen row has script is = absurd has
+  run_agrees scripts place old new (r ∷ rows) (mid, own, there, first, others) goes seen row (inl same) script is =
       let later = goes_on mid new last (run_goes scripts mid new rows others) goes in
-      subst (λ (z : Row). (script : List (List Command)) × (slice_get scripts z.script ≡ Some script)
-      × ScriptAgrees last.given (history_of last.known.seen) place script z.outcomes.items) (sym same)
-      (script, is, script_agrees place script old mid r.outcomes.items first later seen)
-  run_agrees scripts place old new (r ∷ rows) (mid, script, is, first, others) goes seen row (inr has) =
-      let further = goes_further old mid (script_goes script old mid r.outcomes.items first) in
-      run_agrees scripts place mid new rows others goes (omega arith) row has
+      let found : Some own ≡ Some script = sym there ∙ (ap (λ (z : Row). slice_get scripts z.script) (sym same) ∙ is) in
+      let which : own ≡ script = cc in
+      subst (λ (z : Row). ScriptAgrees (setting_of g) (first_library g) h place script z.outcomes.items) (sym same)
+      (subst (λ (z : List (List Command)). ScriptAgrees (setting_of g) (first_library g) h place z r.outcomes.items) which
+      (script_agrees place own old mid r.outcomes.items first later seen))
+  run_agrees scripts place old new (r ∷ rows) (mid, own, there, first, others) goes seen row (inr has) script is =
+      let further = goes_further old mid (script_goes own old mid r.outcomes.items first) in
+      run_agrees scripts place mid new rows others goes (omega arith) row has script is
 
+-- each row is of a script
+row_script : (scripts : List (List (List Command))) (old new : Member) (rows : List Row) → RunsAll scripts old new rows
+    → (row : Row) → Has row rows → (script : List (List Command)) × (slice_get scripts row.script ≡ Some script)
+row_script scripts old new [] same row has = absurd has
+row_script scripts old new (r ∷ rows) (mid, script, is, first, others) row (inl same) =
+    (script, ap (λ (z : Row). slice_get scripts z.script) same ∙ is)
+row_script scripts old new (r ∷ rows) (mid, script, is, first, others) row (inr has) = row_script scripts mid new rows others row has
+
+module _ (last : Member) (stands : Stands last) where
   -- ---- its numbers
 
   script_draws : (script : List (List Command)) (old new : Member) (os : List Outcome) → SubmitsAll script old new os → Goes new last
@@ -89,13 +103,16 @@ module _ (last : Member) (stands : Stands last) where
       (script_draws script old mid row.outcomes.items first later) (run_draws scripts mid new rows others goes)
 
 pub runs_agree : (g : Given) (scripts : List (List (List Command))) (old new : Member) (rows : List Row) → RunsAll scripts old new rows
-    → Stands new → new.given ≡ g → (row : Row) → Has row rows
-    → (script : List (List Command)) × (slice_get scripts row.script ≡ Some script)
-    × ScriptAgrees g (history_of new.known.seen) (length old.known.seen.history) script row.outcomes.items
-runs_agree g scripts old new rows runs stands same row has =
-    subst (λ (z : Given). (script : List (List Command)) × (slice_get scripts row.script ≡ Some script)
-    × ScriptAgrees z (history_of new.known.seen) (length old.known.seen.history) script row.outcomes.items) same
-    (run_agrees new stands scripts (length old.known.seen.history) old new rows runs (goes_nowhere new) (omega arith) row has)
+    → new.given ≡ g → (row : Row) → Has row rows
+    → (script : List (List Command)) × (slice_get scripts row.script ≡ Some script) × IsRunBy g old new script row.outcomes.items
+runs_agree g scripts old new rows runs same row has =
+    let own = row_script scripts old new rows runs row has in (
+      own.0,
+      own.1,
+      same,
+      λ h agree. run_agrees new g h agree scripts (length old.known.seen.history) old new rows runs (goes_nowhere new) (omega arith) row has
+          own.0 own.1,
+    )
 
 pub runs_numbers : (scripts : List (List (List Command))) (old new : Member) (rows : List Row) → RunsAll scripts old new rows → Stands new
     → newly_done old new ≡ flat_map (λ row. numbers_of row.outcomes.items) rows

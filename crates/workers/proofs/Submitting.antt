@@ -133,7 +133,7 @@ module _ (g : Given) (h : List Entry) where
   refusal_told cs reason place (note.Looked library) says agrees = absurd says
 
   outcome_told : (cs : List Command) (old new : Pass) (o : Outcome) → Gains cs old new o → ((met : Met) → o ≢ outcome.Conflict met)
-      → (rest : List (Call Note)) → AllAgree g h (new.mine ++ rest) → OutcomeAgrees g h cs o
+      → (rest : List (Call Note)) → AllAgree g h (new.mine ++ rest) → OutcomeAgrees (setting_of g) (first_library g) h cs o
   outcome_told cs old new (outcome.Committed number replies) gains settled rest all =
       commit_told cs replies number gains.3.0.note gains.3.1
       (gained_agrees old new (Committed number) (SaysDone cs replies) gains.3 rest all)
@@ -149,7 +149,7 @@ module _ (g : Given) (h : List Entry) where
   outcome_told cs old new outcome.NoMemory gains settled rest all = tt
 
   -- what comes behind it stands within the history
-  behind_within : (cs : List Command) (o : Outcome) (place : ℕ) → OutcomeAgrees g h cs o → place ≤ length h
+  behind_within : (cs : List Command) (o : Outcome) (place : ℕ) → OutcomeAgrees (setting_of g) (first_library g) h cs o → place ≤ length h
       → place_behind place o ≤ length h
   behind_within cs (outcome.Committed number replies) place told within =
       let last = slice_get_within h told.0 (done_entry cs replies) told.2 in let is = told.1 in omega arith
@@ -209,10 +209,10 @@ module _ (cs : List Command) (old new : Member) (o : Outcome) (submits : Submits
         drawn = submitted_drawn;
       }
 
-  pub submitted_agrees : (last : Member) → Goes new last → Stands last → OutcomeAgrees last.given (history_of last.known.seen) cs o
-  submitted_agrees last goes stands =
-      outcome_told last.given (history_of last.known.seen) cs before new.known o submits.gains submits.settled goes.calls
-      (subst (AllAgree last.given (history_of last.known.seen)) goes.mine stands.agree)
+  pub submitted_agrees : (last : Member) → Goes new last → (g : Given) (h : List Entry) → AllAgree g h last.known.mine
+      → OutcomeAgrees (setting_of g) (first_library g) h cs o
+  submitted_agrees last goes g h agree =
+      outcome_told g h cs before new.known o submits.gains submits.settled goes.calls (subst (AllAgree g h) goes.mine agree)
 
   pub submitted_fits : OutcomeFits cs o
   submitted_fits = gained_fits cs before new.known o submits.gains
@@ -227,5 +227,5 @@ module _ (cs : List Command) (old new : Member) (o : Outcome) (submits : Submits
       let longer = submits.later.grows.0.0 in
       let within : place_behind place o ≤ length (history_of new.known.seen) =
       behind_within new.given (history_of new.known.seen) cs o place
-      (submitted_agrees new (goes_nowhere new) submits.later.stands) (omega arith) in
+      (submitted_agrees new (goes_nowhere new) new.given (history_of new.known.seen) submits.later.stands.agree) (omega arith) in
       omega arith

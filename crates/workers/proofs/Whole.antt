@@ -128,7 +128,7 @@ module _ (home : Home) (opened : home.words.setting ≡ Some home.given) (script
       let later = (runs_later scripts m s.session s.rows.items shift.runs shift.stands).0 in
       let same = given_is m s.session (All-head (IsOf home) m ms own) later in
       let here : All now s.rows.items = all_from_has now s.rows.items (λ row has.
-      let r = runs_agree home.given scripts m s.session s.rows.items shift.runs shift.stands same row has in
+      let r = runs_agree home.given scripts m s.session s.rows.items shift.runs same row has in
       (r.0, r.1, (0, m, s.session, refl, refl, r.2))) in
       let rest = all_run ms cs ss (All-tail (IsOf home) m ms own) shifts.1 in
       let others : All now (rows_of ss) = All-weaker (IsRun home.given scripts ms (sessions_of ss)) now

@@ -3,27 +3,29 @@ use Rattle.std.specs.Prelude.{◌≡◌, ◌<◌, ◌≤◌, ℕ, zero, suc, Lis
 use Rattle.std.specs.List.{AllZip}
 use Rattle.std.specs.declared.alloc.Global.{Global}
 use Rattle.library.specs.declared.command.Command.{Command}
+use Rattle.library.specs.declared.library.Ranked.{Ranked}
+use Rattle.library.specs.Library.{Setting}
 use Rattle.library.specs.Agrees.{Agrees, committed, read, refused}
 use Rattle.library.specs.Histories.{Entry, done_entry}
 use Rattle.library.specs.Transactions.{has_edit, has_too_many}
 use Rattle.commands.specs.Answers.{has_staging}
 use Rattle.lawful.specs.declared.notes.Given.{Given}
 use Rattle.lawful.specs.Lawful.{setting_of, first_library}
-use Rattle.lawful.specs.History.{history_of}
+use Rattle.lawful.specs.History.{history_of, AllAgree}
 use Rattle.transaction.specs.declared.outcome.Outcome.{Outcome}
 use Rattle.transaction.specs.declared.outcome.Outcome.TheVariants as outcome
 use Rattle.transaction.specs.Members.{Member, IsLater}
 
 -- ---- an outcome
 
--- what it says is so of a history: the transaction is the entry with its number, or it read, or was refused, over the library at its place. None
--- is a conflict
-abbrev pub OutcomeAgrees : Given → List Entry → List Command → Outcome → Type 0
-OutcomeAgrees g h cs (outcome.Committed number replies) = Agrees (setting_of g) (first_library g) h cs (committed number replies)
-OutcomeAgrees g h cs (outcome.Read place replies) = Agrees (setting_of g) (first_library g) h cs (read place replies)
-OutcomeAgrees g h cs (outcome.Refused place reason) = Agrees (setting_of g) (first_library g) h cs (refused place reason)
-OutcomeAgrees g h cs (outcome.Conflict met) = ⊥
-OutcomeAgrees g h cs _ = Unit {0}
+-- what it says is so of a history from an opening library: the transaction is the entry with its number, or it read, or was refused, over the
+-- library at its place. None is a conflict
+abbrev pub OutcomeAgrees : Setting → List Ranked → List Entry → List Command → Outcome → Type 0
+OutcomeAgrees s lib0 h cs (outcome.Committed number replies) = Agrees s lib0 h cs (committed number replies)
+OutcomeAgrees s lib0 h cs (outcome.Read place replies) = Agrees s lib0 h cs (read place replies)
+OutcomeAgrees s lib0 h cs (outcome.Refused place reason) = Agrees s lib0 h cs (refused place reason)
+OutcomeAgrees s lib0 h cs (outcome.Conflict met) = ⊥
+OutcomeAgrees s lib0 h cs _ = Unit {0}
 
 -- it is one that the commands may have
 abbrev pub OutcomeFits : List Command → Outcome → Type 0
@@ -50,19 +52,27 @@ place_behind place _ = place
 -- ---- a script
 
 -- one outcome for each transaction, in order: each agrees with the history, and stands no earlier than those before it, nor than the place
-abbrev pub ScriptAgrees : Given → List Entry → ℕ → List (List Command) → List Outcome → Type 0
-ScriptAgrees g h place [] [] = Unit {0}
-ScriptAgrees g h place [] (o ∷ os) = ⊥
-ScriptAgrees g h place (cs ∷ rest) [] = ⊥
-ScriptAgrees g h place (cs ∷ rest) (o ∷ os) =
-    OutcomeAgrees g h cs o × OutcomeFits cs o × (has_too_many cs ≡ true → o ≡ outcome.TooManyCommands) × StandsFrom place o
-    × ScriptAgrees g h (place_behind place o) rest os
+abbrev pub ScriptAgrees : Setting → List Ranked → List Entry → ℕ → List (List Command) → List Outcome → Type 0
+ScriptAgrees s lib0 h place [] [] = Unit {0}
+ScriptAgrees s lib0 h place [] (o ∷ os) = ⊥
+ScriptAgrees s lib0 h place (cs ∷ rest) [] = ⊥
+ScriptAgrees s lib0 h place (cs ∷ rest) (o ∷ os) =
+    OutcomeAgrees s lib0 h cs o × OutcomeFits cs o × (has_too_many cs ≡ true → o ≡ outcome.TooManyCommands) × StandsFrom place o
+    × ScriptAgrees s lib0 h (place_behind place o) rest os
 
--- one of the sessions ran it: behind all that this session had seen, and as it has seen the history now
+-- the session ran it, behind all that it had seen: as each history has it with which the session's calls agree. They agree with the one that it
+-- has seen by now, and with the whole one at the library's end
+abbrev pub IsRunBy : Given → Member → Member → List (List Command) → List Outcome → Type 0
+IsRunBy g old new script outcomes =
+    (new.given ≡ g)
+    × ((h : List Entry) → AllAgree g h new.known.mine
+    → ScriptAgrees (setting_of g) (first_library g) h (length old.known.seen.history) script outcomes)
+
+-- one of the sessions ran it
 abbrev pub IsRunByOne : Given → List Member → List Member → List (List Command) → List Outcome → Type 0
 IsRunByOne g before after script outcomes =
     (j : ℕ) × (old : Member) × (new : Member) × (slice_get before j ≡ Some old) × (slice_get after j ≡ Some new)
-    × ScriptAgrees g (history_of new.known.seen) (length old.known.seen.history) script outcomes
+    × IsRunBy g old new script outcomes
 
 -- ---- numbers
 

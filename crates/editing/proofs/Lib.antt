@@ -1,0 +1,3 @@
+mod Covers
+mod DoneNumbers
+mod Told

@@ -1,0 +1,151 @@
+//! Scripts run over the library of a database by workers, and what is printed of it.
+
+ghost use Rattle.std.specs.Prelude.{◌≡◌, ◌<◌, ◌^◌, ◌++◌, All, IfOk, IfErr, length};
+ghost use Rattle.proofcheck.specs.Databases.{AllCheck};
+ghost use Rattle.library.specs.Fitting.{CommandFits};
+ghost use Rattle.cells.specs.Measures.{bodies_length};
+ghost use Rattle.transaction.specs.Openings.{IsOpened};
+ghost use Rattle.workers.specs.Works.{lists_of};
+ghost use Rattle.jobs.specs.declared.job.Fault.TheVariants.{StoreFull};
+ghost use Rattle.jobs.specs.Jobs.{IsWithin, IsWorked, PrintsRun, RefusesWith, library_lines};
+ghost use Rattle.jobs.specs.Parts.{IsOpenFault, IsWorkFault, shape_with};
+ghost use Rattle.jobs.specs.Outcomes.{OutcomesFit};
+ghost use Rattle.jobs.specs.Reports.{report_text};
+
+use crate::job::{Fault, Printed};
+use crate::replaying::SLOTS;
+use crate::report::report;
+use editing::{Edited, edit_all};
+use export::write_library;
+use historytext::write_history;
+use library::{Entry, Script};
+use mmstatement::{Database, Prelude};
+use std::alloc::{AllocError, Global};
+use std::hash::RandomState;
+use std::sync::Wait;
+use std::thread::Threads;
+use transaction::{Library, OpenError, Session, Shape};
+use workers::Open;
+
+/// How the library of a run lies in words.
+fn shape(workers: usize, room: usize) -> Shape
+    ensures { result ≡ shape_with workers room }
+{
+    Shape {
+        slots: SLOTS,
+        room,
+        sessions: workers,
+    }
+}
+
+/// Opens the library of a database, with a session for each worker.
+fn open(
+    rt: &(impl Threads + Sync),
+    alloc: Global,
+    keys: RandomState,
+    db: &Database,
+    workers: usize,
+    room: usize,
+) -> Result<(Library, Vec<Session>), Fault>
+    requires checks { AllCheck db.now }
+    requires within { IsWithin workers room }
+    ensures done { IfOk result (λ made. IsOpened db.now (shape_with workers room) made.0 made.1.items) }
+    ensures fault { IfErr result (IsOpenFault db.now room) }
+{
+    // For the proof: a database has at most as many assertions as there are slots.
+    let _assertions = db.assertions();
+    match Library::open(rt, alloc, keys, db, shape(workers, room)) {
+        Ok(opened) => Ok(opened),
+        Err(OpenError::StoreFull) => Err(Fault::StoreFull),
+        Err(OpenError::NoMemory) => Err(Fault::NoMemory),
+        Err(OpenError::BadShape | OpenError::TooMany | OpenError::ProofFails(..)) => {
+            unreachable!()
+        }
+    }
+}
+
+/// Runs the scripts over the library of a database by workers, to its end.
+fn edit(
+    rt: &(impl Threads + Wait + Sync),
+    alloc: Global,
+    keys: RandomState,
+    db: &Database,
+    scripts: &[Script],
+    workers: usize,
+    room: usize,
+) -> Result<Edited, Fault>
+    requires checks { AllCheck db.now }
+    requires within { IsWithin workers room }
+    requires fit { All (All (All (CommandFits db.now.prelude))) scripts.now }
+    ensures done { IfOk result (λ e. IsWorked db.now room scripts.now (lists_of e.outcomes.items) e.history e.library) }
+    ensures fault { IfErr result (IsWorkFault db.now room) }
+    ensures full { room < bodies_length db.now.assertions → RefusesWith StoreFull result }
+{
+    let (library, sessions) = open(rt, alloc, keys, db, workers, room)?;
+    Ok(edit_all(rt, alloc, library, sessions, scripts, &Open)?)
+}
+
+/// The report of a run, and its library's text.
+fn report_run(alloc: Global, prelude: &Prelude, edited: &Edited) -> Result<Vec<u8>, AllocError>
+    requires { OutcomesFit prelude.now (lists_of edited.now.outcomes.items) }
+    ensures { IfOk result (λ v. v.items ≡ report_text prelude.now (lists_of edited.now.outcomes.items) ++ library_lines edited.now.library) }
+{
+    let mut out = report(alloc, prelude, edited.outcomes.as_slice())?;
+    out.extend_from_slice(b"library\n")?;
+    let text = write_library(alloc, &edited.library)?;
+    out.extend_from_slice(text.as_slice())?;
+    Ok(out)
+}
+
+/// The number of entries of a history.
+fn count_of(history: &[Entry]) -> u64
+    ensures value { result ≡ length history.now }
+    ensures small { result < 2 ^ 62 }
+{
+    history.len() as u64
+}
+
+/// What is printed of scripts that were run over a database, and its history's text.
+fn print_edited(
+    alloc: Global,
+    db: &Database,
+    scripts: &[Script],
+    room: usize,
+    edited: &Edited,
+) -> Result<Printed, AllocError>
+    requires checks { AllCheck db.now }
+    requires fit { All (All (All (CommandFits db.now.prelude))) scripts.now }
+    requires worked { IsWorked db.now room scripts.now (lists_of edited.now.outcomes.items) edited.now.history edited.now.library }
+    ensures { IfOk result (λ p. PrintsRun db.now room scripts.now p.out.items p.history.items) }
+{
+    // For the proof: some text declares the database; the library verifies, and is in export order; and there are no more entries than a text
+    // can count.
+    let _assertions = db.assertions();
+    let _entries = edited.library.entries();
+    let _count = count_of(edited.history.as_slice());
+    Ok(Printed {
+        out: report_run(alloc, db.prelude(), edited)?,
+        history: write_history(alloc, db.prelude(), edited.history.as_slice())?,
+    })
+}
+
+/// What the run of scripts over a database by workers prints, and its history's text.
+pub(crate) fn print_run(
+    rt: &(impl Threads + Wait + Sync),
+    alloc: Global,
+    keys: RandomState,
+    db: &Database,
+    scripts: &[Script],
+    workers: usize,
+    room: usize,
+) -> Result<Printed, Fault>
+    requires checks { AllCheck db.now }
+    requires within { IsWithin workers room }
+    requires fit { All (All (All (CommandFits db.now.prelude))) scripts.now }
+    ensures done { IfOk result (λ p. PrintsRun db.now room scripts.now p.out.items p.history.items) }
+    ensures fault { IfErr result (IsWorkFault db.now room) }
+    ensures full { room < bodies_length db.now.assertions → RefusesWith StoreFull result }
+{
+    let edited = edit(rt, alloc, keys, db, scripts, workers, room)?;
+    Ok(print_edited(alloc, db, scripts, room, &edited)?)
+}
