@@ -23,6 +23,8 @@ mod faults;
 #[cfg(test)]
 mod frames;
 #[cfg(test)]
+mod gates;
+#[cfg(test)]
 mod machine;
 #[cfg(test)]
 mod openings;

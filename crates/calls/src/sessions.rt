@@ -17,7 +17,7 @@ use std::thread::{Threads, join};
 use transaction::{Library, Look, OpenError, Outcome, Session, Shape};
 
 /// The library of a text, with its sessions.
-fn opened(
+pub(crate) fn opened(
     rt: &(impl AllocGlobal + RandomSource + Threads + Sync),
     text: &[u8],
     room: usize,

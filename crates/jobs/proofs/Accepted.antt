@@ -8,7 +8,7 @@ use Rattle.mmreader.proofs.DatabaseLaws.{database_grammar}
 use Rattle.proofcheck.specs.Databases.{AllCheck}
 use Rattle.proofcheck.proofs.Exact.{first-excludes}
 use Rattle.jobs.specs.declared.job.Fault.{Fault}
-use Rattle.jobs.specs.declared.job.Fault.TheVariants.{Text, Proof, Differs, NoMemory}
+use Rattle.jobs.specs.declared.job.Fault.TheVariants.{Proof}
 use Rattle.jobs.specs.Jobs.{Bytes, IsDatabase, IsChecked, IsProofFault, IsDatabaseFault}
 use Rattle.jobs.specs.Laws.{AcceptedTextsCheck, AcceptedTextsHaveNoFault}
 use Rattle.jobs.proofs.JobFaults.{database_faultless}
@@ -29,9 +29,7 @@ one_database text db contents h is = spells_one database_language Spells databas
 
 proofs_faultless : (db : Contents) → AllCheck db → (f : Fault) → IsProofFault db f → ⊥
 proofs_faultless db checks (Proof label fault) h = first-excludes db (h.0 + 1) fault h.1 checks
-proofs_faultless db checks (Text k g) h = h
-proofs_faultless db checks NoMemory h = h
-proofs_faultless db checks (Differs n) h = h
+proofs_faultless db checks _ h = h
 
 pub checked_faultless : (text : Bytes) (db : Contents) → IsChecked text db → (f : Fault) → IsDatabaseFault text f → ⊥
 checked_faultless text db checked f h =

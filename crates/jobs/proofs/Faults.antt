@@ -8,7 +8,7 @@ use Rattle.mmtext.specs.declared.fault.FaultKind.TheVariants.{NoMemory as OutOfM
 use Rattle.scripts.specs.Scripts.{SpellsScript}
 use Rattle.scripts.specs.ScriptFaults.{FaultyScript}
 use Rattle.jobs.specs.declared.job.Fault.{Fault}
-use Rattle.jobs.specs.declared.job.Fault.TheVariants.{Text, Proof, Differs, NoMemory}
+use Rattle.jobs.specs.declared.job.Fault.TheVariants.{Text, NoMemory}
 use Rattle.jobs.specs.Jobs.{Bytes, Orders, IsScript, AreScripts, IsFirstFault}
 use Rattle.jobs.specs.Parts.{IsScriptFault, IsTextFaultOf, IsRefusedBy, IsRefusedWith}
 use Rattle.mmsyntax.specs.Tables.{Tables}
@@ -72,14 +72,13 @@ module _ (p : Tables) where
   pub script_fault : (ts : Texts) (xs : List Orders) (t : Vec ℕ Global) (i : ℕ) (f : TextFault) (fault : Fault) → i < length ts → t ≡ get_or ts i t → AreScripts p (bytes (take i ts)) xs
       → (f.kind ≢ OutOfMemory → FaultyScript p t.items f) → IsTextFaultOf (i + 1) f fault → IsScriptFault p (bytes ts) fault
   script_fault ts xs t i f NoMemory within is_t h faulty is = tt
-  script_fault ts xs t i f (Differs n) within is_t h faulty is = elim is [ ]
-  script_fault ts xs t i f (Proof label g) within is_t h faulty is = elim is [ ]
   script_fault ts xs t i f (Text zero g) within is_t h faulty is = absurd (let z : 0 ≡ i + 1 = is.0 in omega arith)
   script_fault ts xs t i f (Text (suc k) g) within is_t h faulty is =
       let at : k ≡ i = (let e : suc k ≡ i + 1 = is.0 in omega arith) in
       let same : g ≡ f = is.1 in
       subst (λ (n : ℕ). IsScriptFault p (bytes ts) (Text (suc n) g)) (sym at)
       (subst (λ (q : TextFault). IsScriptFault p (bytes ts) (Text (suc i) q)) (sym same) (first_at ts xs t i f within is_t h (faulty is.2), is.2))
+  script_fault ts xs t i f _ within is_t h faulty is = absurd is
 
   -- ---- refusals
 
@@ -89,17 +88,15 @@ module _ (p : Tables) where
 
   pub refused_with : (n : ℕ) (g f : TextFault) (fault : Fault) → IsTextFaultOf n g fault → (g ≡ f) ⊎ (g.kind ≡ OutOfMemory) → IsRefusedBy n f fault
   refused_with n g f NoMemory is h = tt
-  refused_with n g f (Differs j) is h = elim is [ ]
   refused_with n g f (Text m q) is (inl same) = (is.0, is.1 ∙ same)
   refused_with n g f (Text m q) is (inr out) = absurd (is.2 out)
-  refused_with n g f (Proof label q) is h = elim is [ ]
+  refused_with n g f _ is h = absurd is
 
   -- where the text has no fault, memory ran out
   out_of_memory : (n k : ℕ) (g f : TextFault) (fault : Fault) → IsTextFaultOf n g fault → (g.kind ≢ OutOfMemory → ⊥) → IsRefusedBy k f fault
   out_of_memory n k g f NoMemory is h = tt
-  out_of_memory n k g f (Differs j) is h = elim is [ ]
   out_of_memory n k g f (Text m q) is h = absurd (h is.2)
-  out_of_memory n k g f (Proof label q) is h = elim is [ ]
+  out_of_memory n k g f _ is h = absurd is
 
   -- behind texts that are read the first fault is that of the next text, or it has none
   first_or_none : (ts : List Bytes) (xs : List Orders) (t : Bytes) (rest : List Bytes) (k : ℕ) (f : TextFault) → AreScripts p ts xs

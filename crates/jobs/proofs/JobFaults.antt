@@ -1,21 +1,20 @@
--- The faults of a job, in their order: that of its database, of a proof, that of a script; and which is answered.
+-- The faults that a database has: that of its text, or of a proof; and which is answered.
 use Rattle.std.proofs.Common.{◌≡◌, ◌≢◌, ◌∙◌, ◌+◌, ◌≤◌, ◌⊎◌, inl, inr, Some, ℕ, zero, suc, List, length, subst, sym, ap, refl, arith, ltb}
 use Rattle.std.specs.Prelude.{slice_get}
 use Rattle.std.proofs.lemmas.Bool.{cases_Bool, ltb-true, ltb-false}
 use Rattle.mmsyntax.specs.declared.statement.Assertion.{Assertion}
 use Rattle.mmtext.specs.declared.fault.TextFault.{TextFault}
 use Rattle.mmtext.specs.declared.fault.FaultKind.TheVariants.{NoMemory as OutOfMemory}
-use Rattle.mmsyntax.specs.Tables.{Tables, Contents}
+use Rattle.mmsyntax.specs.Tables.{Contents}
 use Rattle.mmtext.specs.Languages.{too_long}
 use Rattle.mmsyntax.specs.Faults.{FaultyDatabase}
 use Rattle.proofcheck.specs.declared.fault.ProofFault.{ProofFault}
 use Rattle.proofcheck.specs.declared.fault.ProofFaultKind.TheVariants.{NoMemory as NoMemoryOfProof}
 use Rattle.proofcheck.specs.Databases.{IsFirstFault as IsFirstFaultOfProofs}
 use Rattle.jobs.specs.declared.job.Fault.{Fault}
-use Rattle.jobs.specs.declared.job.Fault.TheVariants.{Text, Proof, Differs, NoMemory}
-use Rattle.jobs.specs.Jobs.{Bytes, IsDatabase, IsChecked, IsLabelAt, IsFirstFault, IsProofFault, IsDatabaseFault}
-use Rattle.jobs.specs.Jobs.{IsRunFault, IsOrLacksMemory}
-use Rattle.jobs.specs.Parts.{IsTextFaultOf, IsProofFaultOf, IsRefusedBy}
+use Rattle.jobs.specs.declared.job.Fault.TheVariants.{Text, Proof, NoMemory}
+use Rattle.jobs.specs.Jobs.{Bytes, IsDatabase, IsChecked, IsLabelAt, IsProofFault, IsDatabaseFault, IsOrLacksMemory}
+use Rattle.jobs.specs.Parts.{IsTextFaultOf, IsProofFaultOf}
 
 -- ---- proofs
 
@@ -23,8 +22,6 @@ use Rattle.jobs.specs.Parts.{IsTextFaultOf, IsProofFaultOf, IsRefusedBy}
 pub proof_faulted : (db : Contents) (n : ℕ) (fault : ProofFault) (f : Fault)
     → (fault.kind ≢ NoMemoryOfProof → IsFirstFaultOfProofs db n fault) → IsProofFaultOf db n fault f → f ≢ NoMemory → IsProofFault db f
 proof_faulted db n fault NoMemory first is ne = absurd (ne refl)
-proof_faulted db n fault (Differs j) first is ne = elim is [ ]
-proof_faulted db n fault (Text k g) first is ne = elim is [ ]
 proof_faulted db n fault (Proof label g) first is ne = (
   is.0,
   subst (λ (q : ProofFault). IsFirstFaultOfProofs db (is.0 + 1) q) (sym is.3)
@@ -32,6 +29,7 @@ proof_faulted db n fault (Proof label g) first is ne = (
   is.2,
   subst (λ (q : ProofFault). q.kind ≢ NoMemoryOfProof) (sym is.3) is.4,
 )
+proof_faulted db n fault _ first is ne = absurd is
 
 one_label : (db : Contents) (p q : ℕ) (l m : List ℕ) → p ≡ q → IsLabelAt db p l → IsLabelAt db q m → l ≡ m
 one_label db p q l m same at_p at_q =
@@ -44,11 +42,6 @@ pub proof_refused : (db : Contents) (n : ℕ) (fault : ProofFault) (answer f : F
     → ((i : ℕ) (g : ProofFault) → IsFirstFaultOfProofs db i g → fault.kind ≢ NoMemoryOfProof → (n ≡ i) × (fault ≡ g))
     → IsOrLacksMemory f answer
 proof_refused db n fault NoMemory f is h refused = inr refl
-proof_refused db n fault (Differs j) f is h refused = elim is [ ]
-proof_refused db n fault (Text k g) f is h refused = elim is [ ]
-proof_refused db n fault (Proof label g) (Text k q) is h refused = elim h [ ]
-proof_refused db n fault (Proof label g) NoMemory is h refused = elim h [ ]
-proof_refused db n fault (Proof label g) (Differs j) is h refused = elim h [ ]
 proof_refused db n fault (Proof label g) (Proof m q) is h refused =
     let both = refused (h.0 + 1) q h.1 is.4 in
     let number : n ≡ is.0 + 1 = is.1 in
@@ -57,14 +50,15 @@ proof_refused db n fault (Proof label g) (Proof m q) is h refused =
     let labels = one_label db is.0 h.0 label m place is.2 h.2 in
     let faults : g ≡ q = is.3 ∙ both.1 in
     inl (ap (λ (l : List ℕ). Proof l g) labels ∙ ap (λ (x : ProofFault). Proof m x) faults)
+proof_refused db n fault (Proof label g) _ is h refused = absurd h
+proof_refused db n fault _ f is h refused = absurd is
 
 -- where each proof checks, memory ran out
 pub proof_memory : (db : Contents) (n : ℕ) (fault : ProofFault) (answer : Fault) → IsProofFaultOf db n fault answer
     → fault.kind ≡ NoMemoryOfProof → answer ≡ NoMemory
 proof_memory db n fault NoMemory is out = refl
-proof_memory db n fault (Differs j) is out = elim is [ ]
-proof_memory db n fault (Text k g) is out = elim is [ ]
 proof_memory db n fault (Proof label g) is out = absurd (is.4 out)
+proof_memory db n fault _ is out = absurd is
 
 -- ---- the text of the database
 
@@ -78,43 +72,36 @@ short_text text none = elim (cases_Bool (ltb 16777216 (length text))) [
 pub text_faulted : (text : Bytes) (g : TextFault) (f : Fault) → IsTextFaultOf 0 g f → (g.kind ≢ OutOfMemory → FaultyDatabase text g)
     → f ≢ NoMemory → IsDatabaseFault text f
 text_faulted text g NoMemory is faulty ne = absurd (ne refl)
-text_faulted text g (Differs n) is faulty ne = elim is [ ]
-text_faulted text g (Proof label q) is faulty ne = elim is [ ]
 text_faulted text g (Text (suc k) q) is faulty ne = absurd (let z : suc k ≡ 0 = is.0 in omega arith)
 text_faulted text g (Text zero q) is faulty ne = (
   subst (λ (x : TextFault). FaultyDatabase text x) (sym is.1) (faulty is.2),
   subst (λ (x : TextFault). x.kind ≢ OutOfMemory) (sym is.1) is.2,
 )
+text_faulted text g _ is faulty ne = absurd is
 
 pub text_memory : (file : ℕ) (g : TextFault) (f : Fault) → IsTextFaultOf file g f → g.kind ≡ OutOfMemory → f ≡ NoMemory
 text_memory file g NoMemory is out = refl
-text_memory file g (Differs n) is out = elim is [ ]
-text_memory file g (Proof label q) is out = elim is [ ]
 text_memory file g (Text k q) is out = absurd (is.2 out)
+text_memory file g _ is out = absurd is
 
 -- a text that isn't read is refused with its fault
 pub text_refused : (text : Bytes) (g : TextFault) (answer f : Fault) → IsTextFaultOf 0 g answer
     → ((h : TextFault) → FaultyDatabase text h → (g ≡ h) ⊎ (g.kind ≡ OutOfMemory))
     → ((contents : Contents) → IsDatabase text contents → g.kind ≡ OutOfMemory) → IsDatabaseFault text f → IsOrLacksMemory f answer
 text_refused text g NoMemory f is refuses only h = inr refl
-text_refused text g (Differs n) f is refuses only h = elim is [ ]
-text_refused text g (Proof label q) f is refuses only h = elim is [ ]
-text_refused text g (Text n q) (Text (suc k) x) is refuses only h = elim h [ ]
-text_refused text g (Text n q) NoMemory is refuses only h = elim h [ ]
-text_refused text g (Text n q) (Differs j) is refuses only h = elim h [ ]
 text_refused text g (Text n q) (Proof label x) is refuses only h = absurd (is.2 (only h.0 h.1))
 text_refused text g (Text n q) (Text zero x) is refuses only h = elim (refuses x h.0) [
   | inl same ↦ inl (ap (λ (k : ℕ). Text k q) is.0 ∙ ap (λ (y : TextFault). Text 0 y) (is.1 ∙ same))
   | inr out ↦ absurd (is.2 out)
 ]
+text_refused text g (Text n q) _ is refuses only h = absurd h
+text_refused text g _ f is refuses only h = absurd is
 
 -- ---- the database
 
 pub proof_of_database : (text : Bytes) (db : Contents) (f : Fault) → IsDatabase text db → IsProofFault db f → IsDatabaseFault text f
 proof_of_database text db (Proof label g) is h = (db, is, h)
-proof_of_database text db (Text k g) is h = elim h [ ]
-proof_of_database text db NoMemory is h = elim h [ ]
-proof_of_database text db (Differs n) is h = elim h [ ]
+proof_of_database text db _ is h = absurd h
 
 module _ (text : Bytes) (db : Contents) (none : (g : TextFault) → FaultyDatabase text g → ⊥)
     (same : (contents : Contents) → IsDatabase text contents → db ≡ contents) where
@@ -122,63 +109,13 @@ module _ (text : Bytes) (db : Contents) (none : (g : TextFault) → FaultyDataba
   pub database_refused : (answer f : Fault) → ((g : Fault) → IsProofFault db g → IsOrLacksMemory g answer) → IsDatabaseFault text f
       → IsOrLacksMemory f answer
   database_refused answer (Text zero g) proofs h = absurd (none g h.0)
-  database_refused answer (Text (suc k) g) proofs h = elim h [ ]
-  database_refused answer NoMemory proofs h = elim h [ ]
-  database_refused answer (Differs n) proofs h = elim h [ ]
   database_refused answer (Proof label g) proofs h =
       proofs (Proof label g) (subst (λ (c : Contents). IsProofFault c (Proof label g)) (sym (same h.0 h.1)) h.2)
+  database_refused answer _ proofs h = absurd h
 
   -- one whose proofs have no fault has none
   pub database_faultless : (f : Fault) → ((g : Fault) → IsProofFault db g → ⊥) → IsDatabaseFault text f → ⊥
   database_faultless (Text zero g) proofs h = none g h.0
-  database_faultless (Text (suc k) g) proofs h = h
-  database_faultless NoMemory proofs h = h
-  database_faultless (Differs n) proofs h = h
   database_faultless (Proof label g) proofs h =
       proofs (Proof label g) (subst (λ (c : Contents). IsProofFault c (Proof label g)) (sym (same h.0 h.1)) h.2)
-
--- ---- runs
-
--- a run whose database is refused is refused with it
-pub run_refused_by_database : (text : Bytes) (texts : List Bytes) (answer f : Fault)
-    → ((g : Fault) → IsDatabaseFault text g → IsOrLacksMemory g answer)
-    → ((contents : Contents) → IsChecked text contents → answer ≡ NoMemory) → IsRunFault text texts f → IsOrLacksMemory f answer
-run_refused_by_database text texts answer (Text zero g) database only h = database (Text zero g) h
-run_refused_by_database text texts answer (Text (suc k) g) database only h = inr (only h.0.0 h.0.1)
-run_refused_by_database text texts answer (Proof label g) database only h = database (Proof label g) h
-run_refused_by_database text texts answer NoMemory database only h = elim h [ ]
-run_refused_by_database text texts answer (Differs n) database only h = elim h [ ]
-
-module _ (text : Bytes) (texts : List Bytes) (db : Contents) (p : Tables) (over : p ≡ db.prelude)
-    (none : (g : Fault) → IsDatabaseFault text g → ⊥)
-    (same : (contents : Contents) → IsChecked text contents → db ≡ contents) where
-  -- the first fault of the scripts over the one database that is read
-  over_it : (k : ℕ) (g : TextFault) (contents : Contents) → IsChecked text contents → IsFirstFault contents.prelude texts k g
-      → IsFirstFault p texts k g
-  over_it k g contents checked =
-      subst (λ (t : Tables). IsFirstFault t texts k g) (sym (over ∙ ap (λ (c : Contents). c.prelude) (same contents checked)))
-
-  refused_by_text : (k : ℕ) (g : TextFault) (answer : Fault) → IsRefusedBy (k + 1) g answer → IsOrLacksMemory (Text (suc k) g) answer
-  refused_by_text k g NoMemory h = inr refl
-  refused_by_text k g (Differs n) h = elim h [ ]
-  refused_by_text k g (Proof label q) h = elim h [ ]
-  refused_by_text k g (Text n q) h =
-      let next : n ≡ suc k = h.0 ∙ (omega arith) in
-      inl (ap (λ (m : ℕ). Text m q) next ∙ ap (λ (x : TextFault). Text (suc k) x) h.1)
-
-  -- a run is refused with the fault of a script
-  pub run_refused_by_script : (answer f : Fault) → ((k : ℕ) (g : TextFault) → IsFirstFault p texts k g → IsRefusedBy (k + 1) g answer)
-      → IsRunFault text texts f → IsOrLacksMemory f answer
-  run_refused_by_script answer (Text zero g) scripts h = absurd (none (Text zero g) h)
-  run_refused_by_script answer (Proof label g) scripts h = absurd (none (Proof label g) h)
-  run_refused_by_script answer NoMemory scripts h = elim h [ ]
-  run_refused_by_script answer (Differs n) scripts h = elim h [ ]
-  run_refused_by_script answer (Text (suc k) g) scripts h = refused_by_text k g answer (scripts k g (over_it k g h.0.0 h.0.1 h.0.2))
-
-  -- a run of scripts without a fault has none
-  pub run_faultless : (f : Fault) → ((k : ℕ) (g : TextFault) → IsFirstFault p texts k g → ⊥) → IsRunFault text texts f → ⊥
-  run_faultless (Text zero g) scripts h = none (Text zero g) h
-  run_faultless (Proof label g) scripts h = none (Proof label g) h
-  run_faultless NoMemory scripts h = h
-  run_faultless (Differs n) scripts h = h
-  run_faultless (Text (suc k) g) scripts h = scripts k g (over_it k g h.0.0 h.0.1 h.0.2)
+  database_faultless _ proofs h = h

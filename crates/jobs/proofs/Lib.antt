@@ -1,12 +1,12 @@
 pub mod Faults
 pub mod JobFaults
-pub mod Turns
-pub mod Kept
-pub mod Agreeing
+pub mod RunFaults
 pub mod ReplayFaults
 pub mod Shown
 pub mod ReportLines
 pub mod Fronts
+pub mod Worked
+pub mod Printable
 pub mod LabelText
 pub mod Accepted
 pub mod Own

@@ -1,5 +1,5 @@
 -- What the program answers to its own texts: `ok` to an export, and its library to the history of a run.
-use Rattle.std.proofs.Common.{◌≡◌, ◌≢◌, ◌∙◌, zero, suc, ◌≤◌, List, Result, Ok, Err, length, map, take, refl, sym, ap, subst, arith}
+use Rattle.std.proofs.Common.{◌≡◌, ◌≢◌, ◌∙◌, ℕ, zero, suc, ◌≤◌, List, Result, Ok, Err, length, map, take, refl, sym, ap, subst, arith}
 use Rattle.std.specs.Prelude.{IfOk, IfErr, String, string_bytes}
 use Rattle.std.specs.declared.alloc.Global.{Global}
 use Rattle.std.proofs.lemmas.List.{take_all}
@@ -20,7 +20,7 @@ use Rattle.jobs.specs.declared.answering.Answered.TheVariants.{Refused}
 use Rattle.jobs.specs.declared.job.Fault.{Fault}
 use Rattle.jobs.specs.declared.job.Fault.TheVariants.{Text, Proof, Differs, NoMemory}
 use Rattle.jobs.specs.Outcomes.{setting_of}
-use Rattle.jobs.specs.Jobs.{Bytes, left_by, ok_line, replayed_lines, IsChecked, IsHistory, IsDifference, IsRun, PrintsReplay, IsReplay, DoneAsAsked}
+use Rattle.jobs.specs.Jobs.{Bytes, ok_line, replayed_lines, IsChecked, IsHistory, IsDifference, IsRun, PrintsReplay, IsReplay, DoneAsAsked}
 use Rattle.jobs.specs.Jobs.{IsReplayFault, IsFaultOf, AnswersItsOwn, IsPrintedBy}
 use Rattle.jobs.specs.FaultLines.{line_of}
 use Rattle.jobs.specs.Tasks.{IsToldBy}
@@ -30,17 +30,15 @@ use Rattle.jobs.proofs.ReplayFaults.{no_difference}
 
 -- without a fault, memory ran out
 memory_alone : (f : Fault) → (f ≢ NoMemory → ⊥) → f ≡ NoMemory
-memory_alone (Text k g) h = absurd (h (λ e. cc))
-memory_alone (Proof label fault) h = absurd (h (λ e. cc))
-memory_alone (Differs n) h = absurd (h (λ e. cc))
 memory_alone NoMemory h = refl
+memory_alone _ h = absurd (h (λ e. cc))
 
 -- ---- the history of a run
 
-module _ (db text out : Bytes) (texts : List Bytes) (run : IsRun db texts out text) where
+module _ (db text out : Bytes) (texts : List Bytes) (room : ℕ) (run : IsRun db texts room out text) where
   -- the entries that the run kept
   abbrev kept : List Entry
-  kept = (left_by run.contents run.scripts).entries
+  kept = run.printed.entries
 
   -- the text of the database has one content, and that of the history one
   one_content : (contents : Contents) → IsChecked db contents → contents ≡ run.contents
@@ -62,13 +60,12 @@ module _ (db text out : Bytes) (texts : List Bytes) (run : IsRun db texts out te
   replay_faultless short (Text zero g) h = checked_faultless db run.contents run.checked (Text zero g) h
   replay_faultless short (Text (suc zero) g) h =
       text_faultless short g (subst (λ (d : Contents). FaultyHistory d.prelude text g) (one_content h.0.0 h.0.1) h.0.2)
-  replay_faultless short (Text (suc (suc k)) g) h = h
   replay_faultless short (Proof label fault) h = checked_faultless db run.contents run.checked (Proof label fault) h
-  replay_faultless short NoMemory h = h
   replay_faultless short (Differs n) h =
-      no_difference run.contents kept (Differs n) run.printed.legal
+      no_difference run.contents kept (Differs n) run.printed.worked.legal
       (subst (λ es. IsDifference run.contents es (Differs n)) (one_history h.0 h.1 h.2 h.3)
       (subst (λ (d : Contents). IsDifference d h.1 (Differs n)) (one_content h.0 h.2) h.4))
+  replay_faultless short _ h = h
 
   -- what its replay prints is the library of the run
   pub replay_printed : (again : Bytes) → IsReplay db text again → again ≡ replayed_lines (length kept) run.printed.library
@@ -83,14 +80,14 @@ module _ (db text out : Bytes) (texts : List Bytes) (run : IsRun db texts out te
       subst (λ es. Verifies s (after_all s first es)) whole (run.printed.fronts (length entries)) in
       let same =
       one_export_order (after_all s first entries) p.library.entries run.printed.library.entries verifies.library.distinct p.shows
-      run.printed.follows in
+      run.printed.worked.follows in
       let library : p.library ≡ run.printed.library =
-      ap (λ x. record { setting = x; entries = p.library.entries }) (p.setting ∙ sym run.printed.setting)
+      ap (λ x. record { setting = x; entries = p.library.entries }) (p.setting ∙ sym run.printed.worked.setting)
       ∙ ap (λ es. record { setting = run.printed.library.setting; entries = es }) same in
       p.prints ∙ ap (replayed_lines (length kept)) library
 
 pub runs_faultless : RunsHaveNoFaultAgain
-runs_faultless db history texts out f run short h = replay_faultless db.items history.items out texts run short f h
+runs_faultless db history texts room out f run short h = replay_faultless db.items history.items out texts room run short f h
 
 -- ---- what is answered, and told
 
@@ -101,15 +98,15 @@ answers_its_own (Check db) (Ok printed) done fault =
     let checked = accepted_checks db.items a short in
     done.0.prints ∙ ap ok_line (one_database db.items done.0.contents a.database done.0.checked.read checked.read)
 answers_its_own (Check db) (Err f) done fault = λ a short. memory_alone f (λ ne. accepted_faultless db f a short (fault ne))
-answers_its_own (Run db texts) answer done fault = tt
+answers_its_own (Run db texts workers room) answer done fault = tt
 answers_its_own (Replay db history) (Ok printed) done fault =
-    λ texts out run short. replay_printed db.items history.items out texts run printed.out.items done.0
+    λ texts room out run short. replay_printed db.items history.items out texts room run printed.out.items done.0
 answers_its_own (Replay db history) (Err f) done fault =
-    λ texts out run short. memory_alone f (λ ne. replay_faultless db.items history.items out texts run short f (fault ne))
+    λ texts room out run short. memory_alone f (λ ne. replay_faultless db.items history.items out texts room run short f (fault ne))
 
 -- the line of a fault is that of want of memory
 pub tells_its_own : (j : Job) (f : Fault) (paths : List Bytes) (line : String Global) → string_bytes line ≡ line_of paths f
     → AnswersItsOwn j (IsPrintedBy (Err f)) → AnswersItsOwn j (IsToldBy (Refused line))
 tells_its_own (Check db) f paths line told own = λ a short. told ∙ ap (line_of paths) (own a short)
-tells_its_own (Run db texts) f paths line told own = tt
-tells_its_own (Replay db history) f paths line told own = λ texts out run short. told ∙ ap (line_of paths) (own texts out run short)
+tells_its_own (Run db texts workers room) f paths line told own = tt
+tells_its_own (Replay db history) f paths line told own = λ texts room out run short. told ∙ ap (line_of paths) (own texts room out run short)

@@ -32,14 +32,13 @@ short_history p text none = elim (cases_Bool (ltb 16777216 (length text))) [
 pub history_faulted : (p : Tables) (text : Bytes) (g : TextFault) (f : Fault) → IsTextFaultOf 1 g f
     → (g.kind ≢ OutOfMemory → FaultyHistory p text g) → f ≢ NoMemory → IsHistoryFault p text f
 history_faulted p text g NoMemory is faulty ne = absurd (ne refl)
-history_faulted p text g (Proof label q) is faulty ne = elim is [ ]
-history_faulted p text g (Differs n) is faulty ne = elim is [ ]
 history_faulted p text g (Text zero q) is faulty ne = absurd (let z : 0 ≡ 1 = is.0 in omega arith)
 history_faulted p text g (Text (suc (suc k)) q) is faulty ne = absurd (let z : suc (suc k) ≡ 1 = is.0 in omega arith)
 history_faulted p text g (Text (suc zero) q) is faulty ne = (
   subst (λ (x : TextFault). FaultyHistory p text x) (sym is.1) (faulty is.2),
   subst (λ (x : TextFault). x.kind ≢ OutOfMemory) (sym is.1) is.2,
 )
+history_faulted p text g _ is faulty ne = absurd is
 
 -- ---- its entries
 
@@ -48,18 +47,14 @@ pub one_difference : (contents : Contents) (history : List Entry) (n : ℕ) (f :
     → IsDifference contents history f → f ≡ Differs n
 one_difference contents history n (Differs m) first h =
     ap (λ k. Differs k) (one_first_differing (setting_of contents) (opening contents) (map told history) m n h first)
-one_difference contents history n (Text k g) first h = elim h [ ]
-one_difference contents history n (Proof label g) first h = elim h [ ]
-one_difference contents history n NoMemory first h = elim h [ ]
+one_difference contents history n _ first h = absurd h
 
 -- a legal history has none
 pub no_difference : (contents : Contents) (history : List Entry) (f : Fault)
     → IsLegal (setting_of contents) (opening contents) (map told history) → IsDifference contents history f → ⊥
 no_difference contents history (Differs n) legal h =
     no_first_differing (setting_of contents) (opening contents) (map told history) n legal h
-no_difference contents history (Text k g) legal h = h
-no_difference contents history (Proof label g) legal h = h
-no_difference contents history NoMemory legal h = h
+no_difference contents history _ legal h = h
 
 -- ---- replays
 
@@ -67,20 +62,15 @@ no_difference contents history NoMemory legal h = h
 pub replay_faulted_by_text : (db text : Bytes) (contents : Contents) (p : Tables) (f : Fault) → p ≡ contents.prelude → IsChecked db contents
     → IsHistoryFault p text f → f ≢ NoMemory → IsReplayFault db text f
 replay_faulted_by_text db text contents p NoMemory over checked h ne = absurd (ne refl)
-replay_faulted_by_text db text contents p (Proof label g) over checked h ne = elim h [ ]
-replay_faulted_by_text db text contents p (Differs n) over checked h ne = elim h [ ]
-replay_faulted_by_text db text contents p (Text zero g) over checked h ne = elim h [ ]
-replay_faulted_by_text db text contents p (Text (suc (suc k)) g) over checked h ne = elim h [ ]
 replay_faulted_by_text db text contents p (Text (suc zero) g) over checked h ne =
     ((contents, checked, subst (λ t. FaultyHistory t text g) over h.0), h.1)
+replay_faulted_by_text db text contents p _ over checked h ne = absurd h
 
 -- so is the first entry that differs
 replay_faulted_by_entry : (db text : Bytes) (contents : Contents) (history : List Entry) (f : Fault) → IsChecked db contents
     → IsHistory contents.prelude text history → IsDifference contents history f → IsReplayFault db text f
 replay_faulted_by_entry db text contents history (Differs n) checked read h = (contents, history, checked, read, h)
-replay_faulted_by_entry db text contents history (Text k g) checked read h = elim h [ ]
-replay_faulted_by_entry db text contents history (Proof label g) checked read h = elim h [ ]
-replay_faulted_by_entry db text contents history NoMemory checked read h = elim h [ ]
+replay_faulted_by_entry db text contents history _ checked read h = absurd h
 
 -- what is answered of a history that is read
 pub replay_faulted : {A : Type 0} (db text : Bytes) (contents : Contents) (history : List Entry) (r : Result A Fault) → IsChecked db contents
@@ -101,10 +91,9 @@ pub replay_refused_by_database : (db text : Bytes) (answer f : Fault) → ((g : 
     → ((contents : Contents) → IsChecked db contents → answer ≡ NoMemory) → IsReplayFault db text f → IsOrLacksMemory f answer
 replay_refused_by_database db text answer (Text zero g) database only h = database (Text zero g) h
 replay_refused_by_database db text answer (Text (suc zero) g) database only h = inr (only h.0.0 h.0.1)
-replay_refused_by_database db text answer (Text (suc (suc k)) g) database only h = elim h [ ]
 replay_refused_by_database db text answer (Proof label g) database only h = database (Proof label g) h
 replay_refused_by_database db text answer (Differs n) database only h = inr (only h.0 h.2)
-replay_refused_by_database db text answer NoMemory database only h = elim h [ ]
+replay_refused_by_database db text answer _ database only h = absurd h
 
 module _ (text : Bytes) (bytes : Bytes) (db : Contents) (p : Tables) (over : p ≡ db.prelude)
     (none : (g : Fault) → IsDatabaseFault text g → ⊥) (same : (contents : Contents) → IsChecked text contents → db ≡ contents) where
@@ -114,9 +103,8 @@ module _ (text : Bytes) (bytes : Bytes) (db : Contents) (p : Tables) (over : p �
 
   refused_by_text : (g : TextFault) (answer : Fault) → IsRefusedBy 1 g answer → IsOrLacksMemory (Text 1 g) answer
   refused_by_text g NoMemory h = inr refl
-  refused_by_text g (Proof label q) h = elim h [ ]
-  refused_by_text g (Differs n) h = elim h [ ]
   refused_by_text g (Text n q) h = inl (ap (λ (m : ℕ). Text m q) h.0 ∙ ap (λ (x : TextFault). Text 1 x) h.1)
+  refused_by_text g _ h = absurd h
 
   -- a replay is refused with the fault of its history's text
   pub replay_refused_by_text : (answer f : Fault) → ((g : TextFault) → FaultyHistory p bytes g → IsRefusedBy 1 g answer)
@@ -125,11 +113,10 @@ module _ (text : Bytes) (bytes : Bytes) (db : Contents) (p : Tables) (over : p �
   replay_refused_by_text answer (Text (suc zero) g) refuses only h =
       refused_by_text g answer
       (refuses g (subst (λ t. FaultyHistory t bytes g) (sym (same_prelude h.0.0 h.0.1)) h.0.2))
-  replay_refused_by_text answer (Text (suc (suc k)) g) refuses only h = elim h [ ]
   replay_refused_by_text answer (Proof label g) refuses only h = absurd (none (Proof label g) h)
   replay_refused_by_text answer (Differs n) refuses only h =
       inr (only h.1 (subst (λ t. IsHistory t bytes h.1) (sym (same_prelude h.0 h.2)) h.3))
-  replay_refused_by_text answer NoMemory refuses only h = elim h [ ]
+  replay_refused_by_text answer _ refuses only h = absurd h
 
   -- ---- a history that is read
 
@@ -148,7 +135,6 @@ module _ (text : Bytes) (bytes : Bytes) (db : Contents) (p : Tables) (over : p �
     replay_refused_by_entry r (Text zero g) differs h = absurd (none (Text zero g) h)
     replay_refused_by_entry r (Text (suc zero) g) differs h =
         absurd (faultless g (subst (λ t. FaultyHistory t bytes g) (sym (same_prelude h.0.0 h.0.1)) h.0.2))
-    replay_refused_by_entry r (Text (suc (suc k)) g) differs h = elim h [ ]
     replay_refused_by_entry r (Proof label g) differs h = absurd (none (Proof label g) h)
     replay_refused_by_entry r (Differs n) differs h = differs (Differs n) (difference_of n h)
-    replay_refused_by_entry r NoMemory differs h = elim h [ ]
+    replay_refused_by_entry r _ differs h = absurd h

@@ -1,10 +1,15 @@
--- The lines of a report, one transaction after another.
-use Rattle.std.proofs.Common.{◌≡◌, ℕ, suc, ◌+◌, ◌<◌, List, [], ◌∷◌, ◌++◌, length, get_or, drop, sym, ap, ◌∙◌, append_assoc, add-one}
+-- The lines of a report, one transaction after another, and one script after another.
+use Rattle.std.proofs.Common.{◌≡◌, ℕ, suc, ◌+◌, ◌<◌, ◌≤◌, List, Vec, [], ◌∷◌, ◌++◌, length, get_or, drop, sym, ap, subst, ◌∙◌, append_assoc, append-nil, add-one, arith}
+use Rattle.std.specs.Prelude.{All}
+use Rattle.std.specs.declared.alloc.Global.{Global}
+use Rattle.std.proofs.lemmas.List.{drop_all, length-map, get_or-map}
 use Rattle.std.proofs.Math.Seq.{drop-cons}
 use Rattle.std.specs.Fmt.{decimal}
 use Rattle.mmsyntax.specs.Tables.{Tables}
-use Rattle.jobs.specs.declared.outcome.Outcome.{Outcome}
-use Rattle.jobs.specs.Reports.{outcome_text, numbered_text, script_text_from}
+use Rattle.transaction.specs.declared.outcome.Outcome.{Outcome}
+use Rattle.workers.specs.Works.{lists_of}
+use Rattle.jobs.specs.Outcomes.{OutcomeFits, OutcomesFit}
+use Rattle.jobs.specs.Reports.{outcome_text, numbered_text, script_text_from, scripts_text_from}
 
 -- from the place of an item on, a list has the item and then what stands behind it
 pub here : {A : Type 0} (xs : List A) (i : ℕ) (x : A) → i < length xs → x ≡ get_or xs i x → drop i xs ≡ x ∷ drop (i + 1) xs
@@ -23,3 +28,31 @@ told_on t s i out number mid end all os o within is numbered is_mid is_end befor
     ≡ out ++ (numbered_text t s (i + 1) o ++ rest) =
     simp append_assoc in
     ap (λ e. e ++ rest) ends ∙ joined ∙ ap (λ xs. out ++ script_text_from t s (i + 1) xs) (sym (here os i o within is)) ∙ before
+
+-- one more script
+pub row_on : (t : Tables) (i : ℕ) (out end all : List ℕ) (os : List Outcome) (rows : List (Vec Outcome Global)) (row : Vec Outcome Global)
+    → i < length rows → row ≡ get_or rows i row → os ≡ row.items → end ≡ out ++ script_text_from t (i + 1) 1 os
+    → out ++ scripts_text_from t (i + 1) (lists_of (drop i rows)) ≡ all
+    → end ++ scripts_text_from t (i + 1 + 1) (lists_of (drop (i + 1) rows)) ≡ all
+row_on t i out end all os rows row within is same is_end before =
+    let rest = scripts_text_from t (i + 1 + 1) (lists_of (drop (i + 1) rows)) in
+    let ends : end ≡ out ++ script_text_from t (i + 1) 1 row.items =
+    is_end ∙ ap (λ (xs : List Outcome). out ++ script_text_from t (i + 1) 1 xs) same in
+    ap (λ (e : List ℕ). e ++ rest) ends ∙ append_assoc out (script_text_from t (i + 1) 1 row.items) rest
+    ∙ ap (λ (xs : List (Vec Outcome Global)). out ++ scripts_text_from t (i + 1) (lists_of xs)) (sym (here rows i row within is)) ∙ before
+
+-- none is left
+pub rows_told : (t : Tables) (i : ℕ) (out all : List ℕ) (rows : List (Vec Outcome Global)) → length rows ≤ i
+    → out ++ scripts_text_from t (i + 1) (lists_of (drop i rows)) ≡ all → out ≡ all
+rows_told t i out all rows done before =
+    sym (append-nil out)
+    ∙ ap (λ (xs : List (Vec Outcome Global)). out ++ scripts_text_from t (i + 1) (lists_of xs)) (sym (drop_all i rows done)) ∙ before
+
+-- the outcomes of a script can be printed where those of all can
+pub row_fits : (t : Tables) (rows : List (Vec Outcome Global)) (i : ℕ) (row : Vec Outcome Global) → i < length rows → row ≡ get_or rows i row
+    → OutcomesFit t (lists_of rows) → All (OutcomeFits t) row.items
+row_fits t rows i row within is fit =
+    let items : Vec Outcome Global → List Outcome = λ own. own.items in
+    let same : get_or (lists_of rows) i row.items ≡ row.items =
+    get_or-map items rows i row row.items within ∙ ap items (sym is) in
+    subst (All (OutcomeFits t)) same (fit i row.items (omega (arith, length-map rows items)))

@@ -1,5 +1,10 @@
 //! The command line.
 
+ghost use Rattle.std.specs.Prelude.{IfOk, IfSome};
+ghost use Rattle.jobs.specs.Jobs.{IsWithin};
+ghost use Rattle.mmrefactor.specs.Limits.{AsksWithin};
+
+use clap::builder::ValueParser;
 use clap::{Arg, ArgAction, ArgMatches, Command};
 use jobs::Task;
 use std::alloc::{AllocError, Global};
@@ -12,7 +17,39 @@ fn database<'a>(alloc: Global) -> Arg<'a> {
         .action(ArgAction::Set)
 }
 
-/// `mmrefactor run [--history FILE] DB SCRIPT..`.
+/// The most workers that a run has.
+const WORKERS: usize = 64;
+
+/// The most words that the store of a run has room for.
+const ROOM: usize = 16_777_216;
+
+/// `--workers N`.
+fn workers<'a>(alloc: Global) -> Arg<'a> {
+    Arg::new(alloc, "workers")
+        .long("workers")
+        .value_name("N")
+        .help("How many workers run the scripts, 1 to 64: each takes the next one")
+        .value_parser(ValueParser::unsigned(1, WORKERS as u64))
+        .default_value("1")
+        .action(ArgAction::Set)
+}
+
+/// `--room W`.
+fn room<'a>(alloc: Global) -> Arg<'a> {
+    Arg::new(alloc, "room")
+        .long("room")
+        .value_name("W")
+        .help("How many words the store of labels, statements and proofs has, up to 16777216")
+        .long_help(
+            "How many words the store of labels, statements and proofs has, up to 16777216. \
+             What a transaction stages stays used. Raise it where a run answers `store full`",
+        )
+        .value_parser(ValueParser::unsigned(0, ROOM as u64))
+        .default_value("1048576")
+        .action(ArgAction::Set)
+}
+
+/// `mmrefactor run [--workers N] [--room W] [--history FILE] DB SCRIPT..`.
 fn run_line<'a>(alloc: Global) -> Result<Command<'a>, AllocError> {
     let history = Arg::new(alloc, "history")
         .long("history")
@@ -26,6 +63,8 @@ fn run_line<'a>(alloc: Global) -> Result<Command<'a>, AllocError> {
         .action(ArgAction::Append);
     Command::new(alloc, "run")
         .about("Runs edit scripts over a database; prints their replies and the resulting database")
+        .arg(workers(alloc))?
+        .arg(room(alloc))?
         .arg(history)?
         .arg(database(alloc))?
         .arg(scripts)
@@ -43,7 +82,7 @@ fn replay_line<'a>(alloc: Global) -> Result<Command<'a>, AllocError> {
         .arg(history)
 }
 
-/// The command lines that the program takes: `mmrefactor check DB`, `mmrefactor run [--history FILE] DB SCRIPT..` and
+/// The command lines that the program takes: `mmrefactor check DB`, `mmrefactor run [--workers N] [--room W] [--history FILE] DB SCRIPT..` and
 /// `mmrefactor replay DB HISTORY`.
 pub(crate) fn command_line<'a>(alloc: Global) -> Result<Command<'a>, AllocError> {
     let check = Command::new(alloc, "check")
@@ -69,34 +108,60 @@ pub(crate) struct Order<'a> {
     pub history: Option<&'a str>,
 }
 
-/// The order that a command line gives.
+/// How many workers a run has, and for how many words its store has room. None beyond their limits, which the parser of the command line has
+/// asked already.
+fn limits(of: &ArgMatches<'_>) -> Option<(usize, usize)>
+    ensures { IfSome result (λ r. IsWithin r.0 r.1) }
+{
+    let workers = of.get_one::<usize>("workers")?;
+    let room = of.get_one::<usize>("room")?;
+    if workers < 1 || workers > WORKERS || room > ROOM {
+        return None;
+    }
+    Some((workers, room))
+}
+
+/// The task of a subcommand. None where the numbers of a run are beyond their limits.
+fn task_of(name: &str, of: &ArgMatches<'_>) -> Option<Task>
+    ensures { IfSome result AsksWithin }
+{
+    if name == "run" {
+        let (workers, room) = limits(of)?;
+        return Some(Task::Run { workers, room });
+    }
+    if name == "replay" {
+        return Some(Task::Replay);
+    }
+    Some(Task::Check)
+}
+
+/// The order that a command line gives: its database first, then its scripts or its history. None without a subcommand, or where the numbers
+/// of a run are beyond their limits.
 pub(crate) fn order_of<'a>(
     alloc: Global,
     matches: &ArgMatches<'a>,
-) -> Result<Order<'a>, AllocError> {
-    let mut order = Order {
-        task: Task::Check,
-        paths: Vec::new(alloc),
-        history: None,
-    };
+) -> Result<Option<Order<'a>>, AllocError>
+    ensures { IfOk result (λ given. IfSome given (λ order. AsksWithin order.task)) }
+{
     let Some((name, of)) = matches.subcommand() else {
-        return Ok(order);
+        return Ok(None);
     };
+    let Some(task) = task_of(name, of) else {
+        return Ok(None);
+    };
+    let mut paths = Vec::new(alloc);
     if let Some(db) = of.get_str("DB") {
-        order.paths.push(db)?;
+        paths.push(db)?;
     }
-    if name == "run" {
-        order.task = Task::Run;
-        order.history = of.get_str("history");
-        for script in of.get_strs("SCRIPT").unwrap_or(&[]) {
-            order.paths.push(*script)?;
-        }
+    for script in of.get_strs("SCRIPT").unwrap_or(&[]) {
+        paths.push(*script)?;
     }
-    if name == "replay" {
-        order.task = Task::Replay;
-        if let Some(history) = of.get_str("HISTORY") {
-            order.paths.push(history)?;
-        }
+    if let Some(history) = of.get_str("HISTORY") {
+        paths.push(history)?;
     }
-    Ok(order)
+    Ok(Some(Order {
+        task,
+        paths,
+        history: of.get_str("history"),
+    }))
 }

@@ -3,6 +3,8 @@
 
 mod arguments;
 
+ghost use Rattle.mmrefactor.specs.Limits.{AsksWithin};
+
 use crate::arguments::{Order, command_line, order_of};
 use jobs::{Answered, Printed, answer, job_of};
 use std::alloc::{AllocError, Global};
@@ -12,6 +14,7 @@ use std::io::Write;
 use std::process::ExitCode;
 use std::random::RandomSource;
 use std::rt::{Env, Files};
+use std::sync::Wait;
 use std::thread::Threads;
 use std::{env, fs, io};
 
@@ -85,11 +88,13 @@ fn print_job(
     Ok(print_out(rt, printed.out.as_slice()))
 }
 
-/// Does on files what a command line asks for.
+/// Does on files what a command line asks for. It may wait.
 fn run_files(
-    rt: &(impl Files + AllocGlobal + Print + Eprint + RandomSource + Threads + Sync),
+    rt: &(impl Files + AllocGlobal + Print + Eprint + RandomSource + Threads + Wait + Sync),
     order: &Order<'_>,
-) -> Result<ExitCode, AllocError> {
+) -> Result<ExitCode, AllocError>
+    requires { AsksWithin order.now.task }
+{
     let paths = order.paths.as_slice();
     let texts = match read_files(rt, paths) {
         Ok(texts) => texts,
@@ -111,9 +116,9 @@ fn run_files(
     }
 }
 
-/// What the command line asks for.
+/// What the command line asks for. It may wait.
 fn obey(
-    rt: &(impl Files + AllocGlobal + Print + Eprint + RandomSource + Env + Threads + Sync),
+    rt: &(impl Files + AllocGlobal + Print + Eprint + RandomSource + Env + Threads + Wait + Sync),
 ) -> Result<ExitCode, AllocError> {
     let alloc = rt.alloc();
     let Ok(args) = env::args(rt) else {
@@ -122,10 +127,10 @@ fn obey(
     let words: Vec<String> = args.collect(alloc)?;
     match command_line(alloc)?.try_get_matches_from(words.as_slice()) {
         Err(error) => Ok(print_usage(rt, &error)),
-        Ok(matches) => {
-            let order = order_of(alloc, &matches)?;
-            run_files(rt, &order)
-        }
+        Ok(matches) => match order_of(alloc, &matches)? {
+            Some(order) => run_files(rt, &order),
+            None => Ok(ExitCode::from(2)),
+        },
     }
 }
 

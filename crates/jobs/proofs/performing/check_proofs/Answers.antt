@@ -1,13 +1,11 @@
 use Rattle.std.proofs.Common.{◌+◌}
-use Rattle.jobs.specs.declared.job.Fault.TheVariants.{Text, Proof, Differs, NoMemory}
+use Rattle.jobs.specs.declared.job.Fault.TheVariants.{Proof}
 use Rattle.jobs.proofs.JobFaults.{proof_faulted, proof_refused, proof_memory}
 use Rattle.jobs.proofs.performing.check_proofs.Goals as goal
 
 pub returns-in-Ok-clause-refused : goal.returns-in-Ok-clause-refused
 returns-in-Ok-clause-refused g c (Proof label fault) h = c.in-Ok.ensures.refused (h.0 + 1) fault h.1
-returns-in-Ok-clause-refused g c (Text k fault) h = h
-returns-in-Ok-clause-refused g c (Differs n) h = h
-returns-in-Ok-clause-refused g c NoMemory h = h
+returns-in-Ok-clause-refused g c _ h = h
 
 pub returns-in-Err-clause-only : goal.returns-in-Err-clause-only
 returns-in-Err-clause-only g c checks =

@@ -1,0 +1,7 @@
+-- What the loop of `shows` keeps.
+use Rattle.std.proofs.Common.{All}
+use Rattle.library.specs.Fitting.{CommandFits}
+use Rattle.calls.proofs.gates.shows.Given as goal
+
+abbrev pub invariant-loop-_ : goal.invariant-loop-_
+invariant-loop-_ l = All (All (All (CommandFits l.prelude))) l.scripts.items

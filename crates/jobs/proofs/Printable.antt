@@ -1,0 +1,62 @@
+-- The outcomes of a run can be printed: their replies fit, and none is a conflict.
+use Rattle.std.proofs.Common.{◌≡◌, ℕ, List, [], ◌∷◌, map}
+use Rattle.std.specs.Prelude.{All}
+use Rattle.std.specs.List.{AllZip}
+use Rattle.std.proofs.lemmas.List.Elements.{All-nil, All-cons, All-head, All-tail}
+use Rattle.mmsyntax.specs.Tables.{Contents}
+use Rattle.mmsyntax.specs.Layout.{HasSpelling}
+use Rattle.proofcheck.specs.Databases.{AllCheck}
+use Rattle.library.specs.declared.command.Command.{Command}
+use Rattle.library.specs.declared.history.Entry.{Entry as CodeEntry}
+use Rattle.library.specs.declared.library.Ranked.{Ranked}
+use Rattle.library.specs.Library.{Setting, Listed, Verifies, opening}
+use Rattle.library.specs.Fitting.{CommandFits}
+use Rattle.library.specs.Histories.{Entry, told, after, EntriesFit, IsLegal}
+use Rattle.library.proofs.Agreeing.{legal_replies_fit}
+use Rattle.library.proofs.Fitting.{replies_fit}
+use Rattle.library.proofs.Fronts.{fronts_verify}
+use Rattle.transaction.specs.declared.outcome.Outcome.{Outcome}
+use Rattle.transaction.specs.declared.outcome.Outcome.TheVariants.{Committed, Read, Conflict}
+use Rattle.workers.specs.Works.{OutcomeAgrees, ScriptAgrees, place_behind}
+use Rattle.jobs.specs.Outcomes.{setting_of, OutcomeFits, OutcomesFit}
+use Rattle.jobs.specs.Jobs.{IsWorked}
+use Rattle.jobs.proofs.Fronts.{opening_stands}
+
+-- ---- of a legal history from an opening library that verifies
+
+module _ (s : Setting) (lib0 : List Ranked) (h : List Entry) (v : Verifies s lib0) (within : EntriesFit s.prelude h) (legal : IsLegal s lib0 h) where
+  outcome_fits : (cs : List Command) (o : Outcome) → All (CommandFits s.prelude) cs → OutcomeAgrees s lib0 h cs o → OutcomeFits s.prelude o
+  outcome_fits cs (Committed n replies) fit a = legal_replies_fit s lib0 h a.0 cs replies v within legal a.2
+  outcome_fits cs (Read k replies) fit a =
+      let lib = after s lib0 h k in
+      replies_fit s lib cs (record { library = lib; replies = replies }) (fronts_verify s lib0 h k v within) fit a.1
+  outcome_fits cs (Conflict met) fit a = a
+  outcome_fits cs _ fit a = tt
+
+  script_fits : (place : ℕ) (script : List (List Command)) (os : List Outcome) → All (All (CommandFits s.prelude)) script
+      → ScriptAgrees s lib0 h place script os → All (OutcomeFits s.prelude) os
+  script_fits place [] [] fit a = All-nil (OutcomeFits s.prelude)
+  script_fits place [] (o ∷ os) fit a = absurd a
+  script_fits place (cs ∷ rest) [] fit a = absurd a
+  script_fits place (cs ∷ rest) (o ∷ os) fit a =
+      let P = All (CommandFits s.prelude) in
+      All-cons (OutcomeFits s.prelude) o os (outcome_fits cs o (All-head P cs rest fit) a.0)
+      (script_fits (place_behind place o) rest os (All-tail P cs rest fit) a.4)
+
+  rows_fit : (scripts : List (List (List Command))) (rows : List (List Outcome)) → All (All (All (CommandFits s.prelude))) scripts
+      → AllZip (ScriptAgrees s lib0 h 0) scripts rows → OutcomesFit s.prelude rows
+  rows_fit [] [] fit a = All-nil (All (OutcomeFits s.prelude))
+  rows_fit [] (row ∷ rows) fit a = absurd a
+  rows_fit (script ∷ scripts) [] fit a = absurd a
+  rows_fit (script ∷ scripts) (row ∷ rows) fit a =
+      let P = All (All (CommandFits s.prelude)) in
+      All-cons (All (OutcomeFits s.prelude)) row rows (script_fits 0 script row (All-head P script scripts fit) a.0)
+      (rows_fit scripts rows (All-tail P script scripts fit) a.1)
+
+-- ---- of a run
+
+pub printable : (db : Contents) (room : ℕ) (scripts : List (List (List Command))) (rows : List (List Outcome)) (history : List CodeEntry)
+    (library : Listed) → HasSpelling db → AllCheck db → All (All (All (CommandFits db.prelude))) scripts
+    → IsWorked db room scripts rows history library → OutcomesFit db.prelude rows
+printable db room scripts rows history library spelled checks fit w =
+    rows_fit (setting_of db) (opening db) (map told history) (opening_stands db spelled checks) w.within w.legal scripts rows fit w.told_by.each

@@ -1,0 +1,10 @@
+-- What a command line may ask for.
+use Rattle.std.specs.Prelude.{Unit}
+use Rattle.jobs.specs.declared.task.Task.{Task}
+use Rattle.jobs.specs.declared.task.Task.TheVariants.{Run}
+use Rattle.jobs.specs.Jobs.{IsWithin}
+
+-- the workers and the room of a run are within their limits
+abbrev pub AsksWithin : Task → Type 0
+AsksWithin (Run workers room) = IsWithin workers room
+AsksWithin _ = Unit {0}
