@@ -42,9 +42,9 @@ AreRecordedBy members history =
     (i : ℕ) (e : CodeEntry) → slice_get history i ≡ Some e
     → (m : Member) × (r : Record) × Has m members × Has r m.records × (r.number ≡ suc i) × (entry_recorded r.done ≡ told e)
 
--- the history has one entry for each number up to the clock, and is the one that the words show; what each session had seen grows into it,
--- and its calls agree with it; each entry is the record of a session; it is legal from the library at the opening, with commands within the limits; and the library is
--- the one after all of it, and the one that the closed words show
+-- the history has one entry for each number up to the clock, and is the one that the words show; what each session had seen grows into it, and
+-- its calls agree with it; each entry is the record of a session; it is legal from the library at the opening, with commands within the limits;
+-- and the library is the one after all of it, and the one that the closed words show
 pub record IsFinished (home : Home) (members : List Member) (history : List CodeEntry) (library : Listed) : Type 0 where
   pub words : ClosedWords
   pub its : AreItsWords home members words
