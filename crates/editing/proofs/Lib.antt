@@ -1,3 +1,4 @@
 mod Covers
 mod DoneNumbers
 mod Told
+mod Leaving

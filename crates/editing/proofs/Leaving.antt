@@ -1,0 +1,61 @@
+-- What scripts leave that all sessions of a new library ran to their end; or why they leave nothing.
+use Rattle.std.proofs.Common.{◌≡◌, ◌∙◌, ℕ, List, [], length, map, sym, ap, arith}
+use Rattle.std.specs.Prelude.{All, Err}
+use Rattle.std.proofs.lemmas.List.{length-map}
+use Rattle.std.proofs.lemmas.List.Elements.{All-weaker}
+use Rattle.std.proofs.lemmas.Slice.Zip.{AllZip-long}
+use Rattle.library.specs.declared.command.Command.{Command}
+use Rattle.library.specs.declared.history.Entry.{Entry as CodeEntry}
+use Rattle.library.specs.Library.{Listed}
+use Rattle.library.specs.Histories.{told}
+use Rattle.transaction.specs.declared.outcome.Outcome.{Outcome}
+use Rattle.transaction.specs.Members.{Home, Member, IsOf}
+use Rattle.transaction.specs.Openings.{IsNew}
+use Rattle.transaction.specs.Attempts.{Pass}
+use Rattle.workers.specs.Works.{Works, IsHandedBack}
+use Rattle.finishing.specs.declared.error.FinishError.{FinishError}
+use Rattle.finishing.specs.declared.error.FinishError.TheVariants.{Missing, Held, NoMemory}
+use Rattle.finishing.specs.Finishes.{IsFinished, Finishes}
+use Rattle.editing.specs.Edits.{IsEdited, IsLack, from_finish}
+use Rattle.editing.proofs.DoneNumbers.{done_are}
+use Rattle.editing.proofs.Told.{scripts_told, still_of}
+
+module _ (home : Home) (before : List Member) (new : All (IsNew home) before) where
+  pub new_own : All (IsOf home) before
+  new_own = All-weaker (IsNew home) (IsOf home) (λ m n. ap (λ (k : Pass). k.home) n.known) before new
+
+  none_drawn : All (λ (m : Member). m.known.drawn ≡ []) before
+  none_drawn =
+      All-weaker (IsNew home) (λ (m : Member). m.known.drawn ≡ []) (λ m n. ap (λ (k : Pass). k.drawn) n.known) before new
+
+  none_seen : All (λ (m : Member). m.known.seen.history ≡ []) before
+  none_seen =
+      All-weaker (IsNew home) (λ (m : Member). m.known.seen.history ≡ []) (λ m n. ap (λ (k : Pass). k.seen.history) n.known) before new
+
+  module _ (scripts : List (List (List Command))) (rows : List (List Outcome)) (after : List Member)
+      (works : Works home.given before scripts rows after) (many : length before ≡ home.sessions) where
+    pub handed_on : All (IsOf home) after
+    handed_on = still_of home before after new_own works.back
+
+    pub leaves : (history : List CodeEntry) (library : Listed) → IsFinished home after history library
+        → IsEdited home scripts rows history library
+    leaves history library finished = record {
+      told_by = record {
+        each = scripts_told home.given (map told history) before after none_seen finished.agree scripts rows works.run;
+        numbers = done_are home before after history library finished many none_drawn works.back _ works.numbers;
+      };
+      legal = finished.legal;
+      fit = finished.fit;
+      setting = finished.setting;
+      after = finished.after;
+    }
+
+    pub lacks : (error : FinishError) → Finishes home after (Err error) → IsLack (from_finish error)
+    lacks (Missing n) f = f.2.some
+    lacks (Held c) f =
+        let all = length-map after (λ (m : Member). m.known) ∙ AllZip-long IsHandedBack before after works.back ∙ many in
+        let held = f.3 in
+        let free = (f.1.still all).free c held.0 held.1 in
+        let odd = held.2 in
+        absurd (omega (arith, free, odd))
+    lacks NoMemory f = tt
