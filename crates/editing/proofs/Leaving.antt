@@ -12,13 +12,13 @@ use Rattle.transaction.specs.declared.outcome.Outcome.{Outcome}
 use Rattle.transaction.specs.Members.{Home, Member, IsOf}
 use Rattle.transaction.specs.Openings.{IsNew}
 use Rattle.transaction.specs.Attempts.{Pass}
-use Rattle.workers.specs.Works.{Works, IsHandedBack}
+use Rattle.workers.specs.Works.{Works, IsHandedBack, IsShare}
 use Rattle.finishing.specs.declared.error.FinishError.{FinishError}
 use Rattle.finishing.specs.declared.error.FinishError.TheVariants.{Missing, Held, NoMemory}
 use Rattle.finishing.specs.Finishes.{IsFinished, Finishes}
 use Rattle.editing.specs.Edits.{IsEdited, IsLack, from_finish}
 use Rattle.editing.proofs.DoneNumbers.{done_are}
-use Rattle.editing.proofs.Told.{scripts_told, still_of}
+use Rattle.editing.proofs.Told.{scripts_told, shares_from_first, still_of}
 
 module _ (home : Home) (before : List Member) (new : All (IsNew home) before) where
   pub new_own : All (IsOf home) before
@@ -42,6 +42,10 @@ module _ (home : Home) (before : List Member) (new : All (IsNew home) before) wh
     leaves history library finished = record {
       told_by = record {
         each = scripts_told home.given (map told history) before after none_seen finished.agree scripts rows works.run;
+        shares = works.shares;
+        many = AllZip-long (λ (old : Member) share. IsShare rows (length old.known.seen.history) share) before works.shares works.order ∙ many;
+        parts = works.parts;
+        order = shares_from_first rows before works.shares none_seen works.order;
         numbers = done_are home before after history library finished many none_drawn works.back _ works.numbers;
       };
       legal = finished.legal;

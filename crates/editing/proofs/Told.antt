@@ -2,7 +2,7 @@
 use Rattle.std.proofs.Common.{◌≡◌, ℕ, zero, suc, List, [], ◌∷◌, length, map, Some, ap, subst, ◌∙◌}
 use Rattle.std.specs.Prelude.{All, slice_get}
 use Rattle.std.specs.List.{AllZip}
-use Rattle.std.proofs.lemmas.List.Elements.{All-cons, All-head, All-tail}
+use Rattle.std.proofs.lemmas.List.Elements.{All-nil, All-cons, All-head, All-tail}
 use Rattle.library.specs.declared.command.Command.{Command}
 use Rattle.library.specs.Histories.{Entry}
 use Rattle.lawful.specs.declared.notes.Given.{Given}
@@ -11,7 +11,7 @@ use Rattle.lawful.specs.History.{AllAgree}
 use Rattle.transaction.specs.declared.outcome.Outcome.{Outcome}
 use Rattle.transaction.specs.Members.{Home, Member, IsOf}
 use Rattle.transaction.specs.Openings.{IsNew}
-use Rattle.workers.specs.Works.{ScriptAgrees, IsRunByOne, IsHandedBack}
+use Rattle.workers.specs.Works.{ScriptAgrees, IsRunByOne, IsHandedBack, IsShare}
 
 -- what is so of all stands at each place
 at_place : {A : Type 0} (P : A → Type 0) (xs : List A) (i : ℕ) (x : A) → All P xs → slice_get xs i ≡ Some x → P x
@@ -37,6 +37,18 @@ module _ (g : Given) (h : List Entry) (before after : List Member) (new : All (�
   scripts_told [] (row ∷ rows) run = absurd run
   scripts_told (script ∷ scripts) [] run = absurd run
   scripts_told (script ∷ scripts) (row ∷ rows) run = (script_told script row run.0, scripts_told scripts rows run.1)
+
+-- the shares of sessions that had seen nothing begin with the first place
+pub shares_from_first : (rows : List (List Outcome)) (before : List Member) (shares : List (List ℕ))
+    → All (λ (m : Member). m.known.seen.history ≡ []) before
+    → AllZip (λ old share. IsShare rows (length old.known.seen.history) share) before shares → All (IsShare rows 0) shares
+shares_from_first rows [] [] none order = All-nil (IsShare rows 0)
+shares_from_first rows [] (x ∷ xs) none order = absurd order
+shares_from_first rows (m ∷ ms) [] none order = absurd order
+shares_from_first rows (m ∷ ms) (x ∷ xs) none order =
+    let unseen = λ (m : Member). m.known.seen.history ≡ [] in
+    All-cons (IsShare rows 0) x xs (subst (λ n. IsShare rows n x) (ap length (All-head unseen m ms none)) order.0)
+    (shares_from_first rows ms xs (All-tail unseen m ms none) order.1)
 
 -- the sessions that are handed back are of the library
 pub still_of : (home : Home) (before after : List Member) → All (IsOf home) before → AllZip IsHandedBack before after → All (IsOf home) after

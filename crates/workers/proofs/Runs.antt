@@ -1,5 +1,5 @@
 -- What a session's transactions make of it: it is later, its outcomes agree with its history, and its new numbers are theirs.
-use Rattle.std.proofs.Common.{◌≡◌, ℕ, ◌≤◌, inl, inr, List, [], ◌∷◌, length, Some, sym, ap, subst, ◌∙◌, arith}
+use Rattle.std.proofs.Common.{◌≡◌, ℕ, ◌≤◌, inl, inr, List, [], ◌∷◌, ◌++◌, length, Some, sym, ap, subst, ◌∙◌, arith}
 use Rattle.std.specs.Prelude.{slice_get, flat_map}
 use Rattle.library.specs.declared.command.Command.{Command}
 use Rattle.library.specs.Histories.{Entry}
@@ -10,7 +10,7 @@ use Rattle.lawful.specs.History.{AllAgree}
 use Rattle.transaction.specs.declared.outcome.Outcome.{Outcome}
 use Rattle.transaction.specs.Members.{Member, Stands}
 use Rattle.workers.specs.declared.shift.Row.{Row}
-use Rattle.workers.specs.Works.{ScriptAgrees, IsRunBy, IsHandedBack, newly_done, numbers_of, place_behind}
+use Rattle.workers.specs.Works.{ScriptAgrees, IsRunBy, AreBehind, IsHandedBack, newly_done, numbers_of, place_behind}
 use Rattle.workers.specs.Shifts.{SubmitsAll, RunsAll}
 use Rattle.workers.proofs.Submitting.{Goes, goes_nowhere, goes_on, goes_further, submitted_goes, submitted_agrees, submitted_fits}
 use Rattle.workers.proofs.Submitting.{submitted_stands, submitted_within}
@@ -38,6 +38,26 @@ runs_later scripts old new rows runs stands =
       goes.numbers,
       goes.drawn,
     )
+
+-- ---- it never goes back
+
+script_behind : (place : ℕ) (script : List (List Command)) (old mid : Member) (os rest : List Outcome) → SubmitsAll script old mid os
+    → place ≤ length old.known.seen.history → ((p : ℕ) → p ≤ length mid.known.seen.history → AreBehind p rest) → AreBehind place (os ++ rest)
+script_behind place [] old mid [] rest same seen next =
+    next place (subst (λ (m : Member). place ≤ length m.known.seen.history) (sym same) seen)
+script_behind place [] old mid (o ∷ os) rest none seen next = absurd none
+script_behind place (cs ∷ more) old mid [] rest none seen next = absurd none
+script_behind place (cs ∷ more) old mid (o ∷ os) rest (step, first, others) seen next = (
+  submitted_stands cs old step o first place seen,
+  script_behind (place_behind place o) more step mid os rest others (submitted_within cs old step o first place seen) next,
+)
+
+pub run_behind : (scripts : List (List (List Command))) (place : ℕ) (old new : Member) (rows : List Row) → RunsAll scripts old new rows
+    → place ≤ length old.known.seen.history → AreBehind place (flat_map (λ row. row.outcomes.items) rows)
+run_behind scripts place old new [] same seen = tt
+run_behind scripts place old new (row ∷ rows) (mid, script, is, first, others) seen =
+    script_behind place script old mid row.outcomes.items (flat_map (λ r. r.outcomes.items) rows) first seen
+    (λ p within. run_behind scripts p mid new rows others within)
 
 module _ (last : Member) (g : Given) (h : List Entry) (agree : AllAgree g h last.known.mine) where
   -- ---- it agrees

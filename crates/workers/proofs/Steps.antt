@@ -1,6 +1,11 @@
 -- One transaction more of a script, and one script more of a worker.
-use Rattle.std.proofs.Common.{◌≡◌, ℕ, ◌+◌, ◌<◌, List, [], ◌∷◌, ◌++◌, length, take, get_or, Some, refl, sym, ap, subst, ◌∙◌, append_assoc}
-use Rattle.std.specs.Prelude.{map, slice_get, Vec}
+use Rattle.std.proofs.Common.{◌≡◌, ℕ, ◌+◌, ◌-◌, ◌<◌, List, [], ◌∷◌, ◌++◌, length, take, get_or, Some, inl, inr, refl, sym, ap, subst, ◌∙◌, append_assoc, arith}
+use Rattle.std.specs.Prelude.{All, map, slice_get, Vec}
+use Rattle.std.specs.List.Sorted.{IsStrictlyIncreasing}
+use Rattle.std.proofs.lemmas.Bool.{cases_lt}
+use Rattle.std.proofs.lemmas.List.{length-append, get_or_append_left, get_or-append_right}
+use Rattle.std.proofs.Math.Seq.{drop-append_seam}
+use Rattle.std.proofs.lemmas.List.Elements.{All-drop}
 use Rattle.std.specs.declared.alloc.Global.{Global}
 use Rattle.std.proofs.lemmas.Option.{slice_get-get_or}
 use Rattle.std.proofs.lemmas.List.{map-append, take_more}
@@ -50,6 +55,23 @@ runs_next scripts n old mid new rows after outcomes given script within is pushe
 
 -- ---- claims
 
+-- one more number behind all of them
+rises_more : (xs : List ℕ) (n : ℕ) → IsStrictlyIncreasing xs → All (λ m. m < n) xs → IsStrictlyIncreasing (xs ++ n ∷ [])
+rises_more xs n rises below k within =
+    let size = length-append xs (n ∷ []) in
+    let first = get_or_append_left xs (n ∷ []) 0 k (omega (arith, size, within)) in
+    elim (cases_lt (k + 1) (length xs)) [
+      | inl inside ↦
+          let second = get_or_append_left xs (n ∷ []) 0 (k + 1) inside in
+          let up = rises k inside in
+          omega (arith, first, second, up)
+      | inr behind ↦
+          let at : k + 1 - length xs ≡ 0 = omega (arith, size, within, behind) in
+          let second = get_or-append_right xs (n ∷ []) (length xs) (k + 1) 0 refl behind ∙ ap (λ i. get_or (n ∷ []) i 0) at in
+          let up = below k 0 (omega (arith, size, within)) in
+          omega (arith, first, second, up)
+    ]
+
 module _ (home : Home) (n : ℕ) (old new : Claimant) (claims : Claims home n old new) where
   pub claims_on : IsOf home old → IsOf home new
   claims_on is = subst (IsOf home) (sym claims.is) is
@@ -70,3 +92,15 @@ module _ (home : Home) (n : ℕ) (old new : Claimant) (claims : Claims home n ol
       ap (λ (c : Claimant). c.claimed) claims.is
       ∙ (ap (λ (ns : List ℕ). ns ++ n ∷ []) so_far
       ∙ (append_assoc first (map (λ r. r.script) rows) (n ∷ []) ∙ ap (λ (ns : List ℕ). first ++ ns) (sym mapped)))
+
+  -- they rise, as each claim is behind those before it
+  pub rising_next : (first : List ℕ) (rows after : List Row) (outcomes : Vec Outcome Global)
+      → after ≡ rows ++ record { script = n; outcomes = outcomes } ∷ [] → old.claimed ≡ first ++ map (λ r. r.script) rows
+      → IsStrictlyIncreasing (map (λ r. r.script) rows) → IsStrictlyIncreasing (map (λ r. r.script) after)
+  rising_next first rows after outcomes pushed so_far rises =
+      let mapped = ap (map (λ (r : Row). r.script)) pushed
+      ∙ map-append (λ (r : Row). r.script) rows (record { script = n; outcomes = outcomes } ∷ []) in
+      let own = map (λ (r : Row). r.script) rows in
+      let behind = All-drop (λ m. m < n) (length first) (first ++ own) (subst (All (λ m. m < n)) so_far claims.later) in
+      let below = subst (All (λ m. m < n)) (drop-append_seam first own) behind in
+      subst IsStrictlyIncreasing (sym mapped) (rises_more own n rises below)

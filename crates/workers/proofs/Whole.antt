@@ -1,16 +1,17 @@
 -- All workers together: from what each did follows what became of all scripts.
 use Rattle.std.proofs.Common.{◌≡◌, ◌≢◌, ℕ, zero, suc, ◌+◌, ◌<◌, List, [], ◌∷◌, ◌++◌, length, map, flat_map, get_or, Some, true}
-use Rattle.std.proofs.Common.{All, IsPermutation, refl, sym, ap, subst, ◌∙◌, arith}
+use Rattle.std.proofs.Common.{All, IsPermutation, inl, inr, refl, sym, ap, subst, ◌∙◌, arith}
 use Rattle.std.specs.Prelude.{slice_get}
 use Rattle.std.specs.List.{AllZip, sum_by}
 use Rattle.std.proofs.lemmas.Grind.{flat_map-append}
-use Rattle.std.proofs.lemmas.List.{length-map, nil_from_length}
+use Rattle.std.proofs.lemmas.List.{length-map, map-append, get_or-map, nil_from_length}
 use Rattle.std.proofs.lemmas.List.Elements.{All-nil, All-cons, All-head, All-tail, All-append, All-weaker}
 use Rattle.std.proofs.lemmas.List.Folds.{flat_map-map}
-use Rattle.std.proofs.lemmas.List.Sorted.{IsPermutation-sym, All-permutation, sum_by-IsPermutation}
+use Rattle.std.proofs.lemmas.List.Sorted.{IsPermutation-sym, IsPermutation-map, All-permutation, sum_by-IsPermutation}
 use Rattle.std.proofs.lemmas.List.Sums.{sum_by-append, sum_by-cons}
 use Rattle.library.specs.declared.command.Command.{Command}
-use Rattle.cells.proofs.Members.{all_from_has}
+use Rattle.ranges.specs.Ranges.{Has}
+use Rattle.cells.proofs.Members.{all_from_has, contains_from_has, has_append_left, has_append_right, has_permutation}
 use Rattle.cells.proofs.Tallies.{is_one, permutation_from_counts}
 use Rattle.claims.specs.Claims.{Home as Numbers, Claimant, IsOf as IsClaimantOf, IsNewOf, up_to}
 use Rattle.lawful.specs.declared.notes.Given.{Given}
@@ -18,10 +19,10 @@ use Rattle.transaction.specs.declared.outcome.Outcome.{Outcome}
 use Rattle.transaction.specs.Members.{Home, Member, IsOf, IsLater}
 use Rattle.workers.specs.declared.shift.Row.{Row}
 use Rattle.workers.specs.declared.shift.Shift.{Shift}
-use Rattle.workers.specs.Works.{Works, IsRunByOne, IsHandedBack, all_newly_done, numbers_of}
+use Rattle.workers.specs.Works.{Works, IsRunByOne, IsHandedBack, AreBehind, IsShare, outcomes_at, all_newly_done, numbers_of}
 use Rattle.workers.specs.Shifts.{IsShift, AreShifts, AreWhole, AreCollected}
 use Rattle.workers.proofs.Collected.{length-up_to, at_up_to, rows_of}
-use Rattle.workers.proofs.Runs.{runs_later, runs_agree, runs_numbers}
+use Rattle.workers.proofs.Runs.{run_behind, runs_later, runs_agree, runs_numbers}
 
 abbrev Script : Type 0
 Script = List (List Command)
@@ -92,6 +93,39 @@ one_before g scripts before after m n row run =
 abbrev sessions_of : List Shift → List Member
 sessions_of shifts = map (λ s. s.session) shifts
 
+-- the indexes of the scripts that a worker ran
+abbrev share_of : Shift → List ℕ
+share_of s = map (λ row. row.script) s.rows.items
+
+-- of all workers together
+shares_are : (ss : List Shift) → flat_map (λ share. share) (map share_of ss) ≡ map (λ row. row.script) (rows_of ss)
+shares_are [] = refl
+shares_are (s ∷ ss) =
+    ap (λ ns. share_of s ++ ns) (shares_are ss) ∙ sym (map-append (λ (row : Row). row.script) s.rows.items (rows_of ss))
+
+-- in rows that are in the order of their scripts each stands at its script
+at_script : (n : ℕ) (rows : List Row) → map (λ row. row.script) rows ≡ up_to n → (row : Row) → Has row rows
+    → outcomes_at (map (λ r. r.outcomes.items) rows) row.script ≡ row.outcomes.items
+at_script n rows scripts row has =
+    let script = λ (r : Row). r.script in
+    let outcomes = λ (r : Row). r.outcomes.items in
+    let at = contains_from_has rows row has in
+    let size = length-map rows script in
+    let long = ap length scripts ∙ length-up_to n in
+    let here : row.script ≡ at.0 =
+    sym (get_or-map script rows at.0 row 0 at.1 ∙ ap script at.2) ∙ (ap (λ (ns : List ℕ). get_or ns at.0 0) scripts
+    ∙ at_up_to n at.0 0 (omega (arith, size, long, at.1))) in
+    ap (λ i. get_or (map outcomes rows) i []) here ∙ (get_or-map outcomes rows at.0 row [] at.1 ∙ ap outcomes at.2)
+
+-- what is told of a worker's scripts, one after another
+share_told : (outcomes : List (List Outcome)) (rows : List Row) → ((row : Row) → Has row rows → outcomes_at outcomes row.script ≡ row.outcomes.items)
+    → flat_map (outcomes_at outcomes) (map (λ row. row.script) rows) ≡ flat_map (λ row. row.outcomes.items) rows
+share_told outcomes [] each = refl
+share_told outcomes (row ∷ rows) each =
+    let first = each row (inl refl) in
+    let rest = share_told outcomes rows (λ r has. each r (inr has)) in
+    λ i. first i ++ rest i
+
 abbrev numbers_in : Row → List ℕ
 numbers_in row = numbers_of row.outcomes.items
 
@@ -136,12 +170,26 @@ module _ (home : Home) (opened : home.words.setting ≡ Some home.given) (script
       All-append now s.rows.items (rows_of ss) here others
   all_run _ _ _ own shifts = absurd shifts
 
+  all_shares : (outcomes : List (List Outcome)) (ms : List Member) (cs : List Claimant) (ss : List Shift) → AreShifts scripts ms cs ss
+      → ((row : Row) → Has row (rows_of ss) → outcomes_at outcomes row.script ≡ row.outcomes.items)
+      → AllZip (λ old share. IsShare outcomes (length old.known.seen.history) share) ms (map share_of ss)
+  all_shares outcomes [] [] [] shifts each = tt
+  all_shares outcomes (m ∷ ms) (c ∷ cs) (s ∷ ss) shifts each =
+      let shift = shifts.0 in
+      let place = length m.known.seen.history in
+      let told = share_told outcomes s.rows.items (λ row has. each row (has_append_left s.rows.items (rows_of ss) row has)) in
+      let behind = run_behind scripts place m s.session s.rows.items shift.runs (omega arith) in
+      let own : IsShare outcomes place (share_of s) = record { rising = shift.rises; behind = subst (AreBehind place) (sym told) behind } in
+      (own, all_shares outcomes ms cs ss shifts.1 (λ row has. each row (has_append_right s.rows.items (rows_of ss) row has)))
+  all_shares outcomes _ _ _ shifts each = absurd shifts
+
   -- what became of all scripts
   pub works : (before : List Member) (cs : List Claimant) (ss : List Shift) (outcomes : List (List Outcome)) (after : List Member)
       → All (IsOf home) before → AreShifts scripts before cs ss → AreCollected (length scripts) ss outcomes after
       → Works home.given before scripts outcomes after
   works before cs ss outcomes after own shifts made =
       let outcomes_of = λ (row : Row). row.outcomes.items in
+      let script_of = λ (row : Row). row.script in
       let all : List (List Outcome) = map outcomes_of made.rows in
       let run = all_run before cs ss own shifts in
       let ran = All-permutation (IsRun home.given scripts before (sessions_of ss)) (rows_of ss) made.rows made.same run in
@@ -153,6 +201,15 @@ module _ (home : Home) (opened : home.words.setting ≡ Some home.given) (script
       record {
         run = in_turn (IsRunByOne home.given before (sessions_of ss)) scripts made.rows made.each ran;
         back = handed_back before cs ss shifts;
+        shares = map share_of ss;
+        parts =
+            subst (IsPermutation (up_to (length scripts))) (sym (shares_are ss))
+            (subst (λ ns. IsPermutation ns (map script_of (rows_of ss))) made.each
+            (IsPermutation-sym (map script_of (rows_of ss)) (map script_of made.rows)
+            (IsPermutation-map script_of (rows_of ss) made.rows made.same)));
+        order =
+            all_shares all before cs ss shifts (λ row has.
+            at_script (length scripts) made.rows made.each row (has_permutation (rows_of ss) made.rows row made.same has));
         numbers = numbers;
       } in
       subst (λ (os : List (List Outcome)). Works home.given before scripts os after) (sym made.outcomes_are)

@@ -1,5 +1,6 @@
 -- Of the code's inside, apart from the rules: what one worker does with its session.
 use Rattle.std.specs.Prelude.{◌≡◌, ◌≢◌, ℕ, List, [], ◌∷◌, ◌++◌, true, Some, All, IsPermutation, flat_map, length, map, slice_get}
+use Rattle.std.specs.List.Sorted.{IsStrictlyIncreasing}
 use Rattle.library.specs.declared.command.Command.{Command}
 use Rattle.claims.specs.Claims.{Home as Numbers, Claimant, IsOf, up_to}
 use Rattle.transaction.specs.declared.outcome.Outcome.{Outcome}
@@ -31,6 +32,7 @@ pub record IsShift (scripts : List (List (List Command))) (session : Member) (cl
   pub table : last.table ≡ claimant.table
   pub count : last.count ≡ claimant.count
   pub claimed : last.claimed ≡ claimant.claimed ++ map (λ row. row.script) rows
+  pub rises : IsStrictlyIncreasing (map (λ row. row.script) rows)
   pub ended : last.ended ≡ true
 
 -- each worker does, with these sessions and claimants

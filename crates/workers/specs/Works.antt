@@ -1,6 +1,7 @@
 -- What becomes of scripts that workers run on the sessions of one library.
-use Rattle.std.specs.Prelude.{◌≡◌, ◌<◌, ◌≤◌, ℕ, zero, suc, List, [], ◌∷◌, ◌++◌, Bool, true, false, Some, IsPermutation, length, drop, filter, flat_map, map, slice_get, Vec}
+use Rattle.std.specs.Prelude.{◌≡◌, ◌<◌, ◌≤◌, ℕ, zero, suc, List, [], ◌∷◌, ◌++◌, Bool, true, false, Some, IsPermutation, length, drop, filter, flat_map, map, slice_get, slice_index_or, Vec}
 use Rattle.std.specs.List.{AllZip}
+use Rattle.std.specs.List.Sorted.{IsStrictlyIncreasing}
 use Rattle.std.specs.declared.alloc.Global.{Global}
 use Rattle.library.specs.declared.command.Command.{Command}
 use Rattle.library.specs.declared.library.Ranked.{Ranked}
@@ -9,6 +10,7 @@ use Rattle.library.specs.Agrees.{Agrees, committed, read, refused}
 use Rattle.library.specs.Histories.{Entry, done_entry}
 use Rattle.library.specs.Transactions.{has_edit, has_too_many}
 use Rattle.commands.specs.Answers.{has_staging}
+use Rattle.claims.specs.Claims.{up_to}
 use Rattle.lawful.specs.declared.notes.Given.{Given}
 use Rattle.lawful.specs.Lawful.{setting_of, first_library}
 use Rattle.lawful.specs.History.{history_of, AllAgree}
@@ -74,6 +76,22 @@ IsRunByOne g before after script outcomes =
     (j : ℕ) × (old : Member) × (new : Member) × (slice_get before j ≡ Some old) × (slice_get after j ≡ Some new)
     × IsRunBy g old new script outcomes
 
+-- ---- the scripts of one session
+
+-- outcomes, one after another, none of which goes back behind a place, nor behind those before it
+abbrev pub AreBehind : ℕ → List Outcome → Type 0
+AreBehind place [] = Unit {0}
+AreBehind place (o ∷ os) = StandsFrom place o × AreBehind (place_behind place o) os
+
+-- those of the script with an index, from 0
+abbrev pub outcomes_at : List (List Outcome) → ℕ → List Outcome
+outcomes_at rows n = slice_index_or rows n []
+
+-- a session that had seen so much runs the scripts with these indexes, in this order: what is told of one after another of them never goes back
+pub record IsShare (rows : List (List Outcome)) (place : ℕ) (share : List ℕ) : Type 0 where
+  pub rising : IsStrictlyIncreasing share
+  pub behind : AreBehind place (flat_map (outcomes_at rows) share)
+
 -- ---- numbers
 
 -- those of committed transactions
@@ -108,12 +126,15 @@ all_newly_done (old ∷ before) (new ∷ after) = newly_done old new ++ all_newl
 abbrev pub IsHandedBack : Member → Member → Type 0
 IsHandedBack old new = IsLater old new × (numbers : List ℕ) × (new.known.drawn ≡ old.known.drawn ++ numbers)
 
--- each script has its outcomes; the sessions are those handed in, in this order; and the numbers newly drawn by them that are done are
--- those of the committed transactions, each of one
+-- each script has its outcomes; the sessions are those handed in, in this order, and each ran its share of the scripts, in their order, each script by
+-- one; and the numbers newly drawn by them that are done are those of the committed transactions, each of one
 pub record Works (g : Given) (before : List Member) (scripts : List (List (List Command))) (outcomes : List (List Outcome)) (after : List Member)
     : Type 0 where
   pub run : AllZip (IsRunByOne g before after) scripts outcomes
   pub back : AllZip IsHandedBack before after
+  pub shares : List (List ℕ)
+  pub parts : IsPermutation (up_to (length scripts)) (flat_map (λ share. share) shares)
+  pub order : AllZip (λ old share. IsShare outcomes (length old.known.seen.history) share) before shares
   pub numbers : IsPermutation (flat_map numbers_of outcomes) (all_newly_done before after)
 
 abbrev pub lists_of : List (Vec Outcome Global) → List (List Outcome)

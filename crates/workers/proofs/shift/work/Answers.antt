@@ -1,6 +1,6 @@
 use Rattle.std.proofs.Common.{◌<◌, length, ◌∙◌, arith}
 use Rattle.workers.proofs.Claiming.{claim_nears}
-use Rattle.workers.proofs.Steps.{runs_next, claims_on, claimed_next, same_table, same_count}
+use Rattle.workers.proofs.Steps.{runs_next, claims_on, claimed_next, rising_next, same_table, same_count}
 use Rattle.workers.proofs.shift.work.Goals as goal
 
 pub loop-script-smaller : goal.loop-script-smaller
@@ -31,4 +31,7 @@ loop-script-preserved g c =
       claimed =
           claimed_next home n old new claims c.args.claimant.claimed c.loop-script.rows.items c.push.new.self.items outcomes
           c.in_ok-push.ensures.items i.claimed;
+      rises =
+          rising_next home n old new claims c.args.claimant.claimed c.loop-script.rows.items c.push.new.self.items outcomes
+          c.in_ok-push.ensures.items i.claimed i.rises;
     }

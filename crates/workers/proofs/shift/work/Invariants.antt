@@ -1,4 +1,5 @@
 use Rattle.std.proofs.Common.{◌≡◌, ◌-◌, ◌++◌, map}
+use Rattle.std.specs.List.Sorted.{IsStrictlyIncreasing}
 use Rattle.claims.specs.Claims.{IsOf as Claims}
 use Rattle.transaction.specs.Members.{IsOf}
 use Rattle.workers.specs.Shifts.{RunsAll}
@@ -14,6 +15,7 @@ invariant-loop-script g l =
       table : l.claimant.table ≡ l.fn.claimant.table;
       count : l.claimant.count ≡ l.fn.claimant.count;
       claimed : l.claimant.claimed ≡ l.fn.claimant.claimed ++ map (λ row. row.script) l.rows.items;
+      rises : IsStrictlyIncreasing (map (λ row. row.script) l.rows.items);
     }
 
 abbrev pub decreases-loop-script : goal.decreases-loop-script
