@@ -10,6 +10,7 @@ use Rattle.library.specs.Histories.{done_entry}
 use Rattle.library.specs.Transactions.{has_edit}
 use Rattle.bodystore.specs.Stages.{Staged}
 use Rattle.cells.specs.State.{most_words}
+use Rattle.tlwords.specs.declared.mode.Mode.TheVariants.{Reading}
 use Rattle.tlwords.specs.declared.outcome.Conflict.{Conflict}
 use Rattle.tlwords.specs.Seen.{SeenGrows, Committed, Answered}
 use Rattle.tlwords.specs.Known.{Home, Knows}
@@ -156,6 +157,13 @@ module _ (l : Lending) (stage : Staged) (over : Option Conflict) (lent : IsLent 
 
   -- ---- conflicts
 
+  -- a transaction without an edit only reads
+  abbrev pub OnlyReads : Type 0
+  OnlyReads = has_edit cs ≡ false → l.going.mode ≡ Reading
+
+  edits_not : has_edit cs ≡ true → has_edit cs ≡ false → ⊥
+  edits_not edits none = let a : true ≡ false = sym edits ∙ none in cc
+
   abbrev pub met_of : Conflict → Met
   met_of c = record { place = l.going.place; cell = c.cell; word = c.word; before = c.before }
 
@@ -175,9 +183,9 @@ module _ (l : Lending) (stage : Staged) (over : Option Conflict) (lent : IsLent 
         written = w.finds.written;
       }
 
-  pub rejects_undrawn : (c : Conflict) (k : Pass) → IsRejected library_terms c None l.going k
+  pub rejects_undrawn : (c : Conflict) (k : Pass) → has_edit cs ≡ true → IsRejected library_terms c None l.going k
       → Tries cs l.began k (outcome.Conflict (met_of c)) None
-  rejects_undrawn c k w =
+  rejects_undrawn c k edits w =
       let drawn : k.drawn ≡ l.began.drawn = ap (λ (z : Pass). z.drawn) w.entry ∙ ap (λ (z : Pass). z.drawn) lent.since in
       record {
         later = later_by k (ap (λ (z : Pass). z.home) w.entry) (ap (λ (z : Pass). z.name) w.entry) w.grows w.knows;
@@ -185,13 +193,14 @@ module _ (l : Lending) (stage : Staged) (over : Option Conflict) (lent : IsLent 
           ap (λ (z : Pass). z.mine) w.entry ∙ ap (λ (z : Pass). z.mine) lent.since,
           inl drawn,
           rejected_meets c None k (ap (λ (z : Pass). z.runs) w.entry) w,
+          λ none. absurd (edits_not edits none),
         );
         recorded = drawn;
       }
 
-  pub rejects_drawn : (c : Conflict) (number : ℕ) (k : Pass) → IsRejected library_terms c (Some number) l.going k
+  pub rejects_drawn : (c : Conflict) (number : ℕ) (k : Pass) → has_edit cs ≡ true → IsRejected library_terms c (Some number) l.going k
       → Tries cs l.began k (outcome.Conflict (met_of c)) (Some (void_record number))
-  rejects_drawn c number k w =
+  rejects_drawn c number k edits w =
       let e = w.entry in
       let same = e.4 in
       let drawn : k.drawn ≡ l.began.drawn ++ number ∷ [] =
@@ -203,13 +212,15 @@ module _ (l : Lending) (stage : Staged) (over : Option Conflict) (lent : IsLent 
           ap (λ (z : Pass). z.mine) same ∙ ap (λ (z : Pass). z.mine) lent.since,
           inr (number, drawn, (e.0, e.1, void)),
           rejected_meets c (Some number) k (ap (λ (z : Pass). z.runs) same) w,
+          λ none. absurd (edits_not edits none),
         );
         recorded = (drawn, (e.0, e.1, void));
       }
 
   -- the run had met it by a read
-  pub met_before : (c : Conflict) → l.going.over ≡ Some c → Tries cs l.began l.going.known (outcome.Conflict (met_of c)) None
-  met_before c is =
+  pub met_before : (c : Conflict) → OnlyReads → l.going.over ≡ Some c
+      → Tries cs l.began l.going.known (outcome.Conflict (met_of c)) None
+  met_before c reading is =
       let has = lent.met c (sym lent.over_is ∙ is) in
       record {
         later = later_same;
@@ -223,6 +234,7 @@ module _ (l : Lending) (stage : Staged) (over : Option Conflict) (lent : IsLent 
             cause = inl has.cause;
             written = has.written;
           },
+          λ none. (has.untold (reading none), adds_nothing.drawn),
         );
         recorded = adds_nothing.drawn;
       }
@@ -239,10 +251,10 @@ module _ (l : Lending) (stage : Staged) (over : Option Conflict) (lent : IsLent 
 
   -- ---- what a commit answers
 
-  rejects : (c : Conflict) (drawn : Option ℕ) (k : Pass) → IsRejected library_terms c drawn l.going k
+  rejects : (c : Conflict) (drawn : Option ℕ) (k : Pass) → has_edit cs ≡ true → IsRejected library_terms c drawn l.going k
       → Tries cs l.began k (outcome.Conflict (met_of c)) (void_records drawn)
-  rejects c None k w = rejects_undrawn c k w
-  rejects c (Some number) k w = rejects_drawn c number k w
+  rejects c None k edits w = rejects_undrawn c k edits w
+  rejects c (Some number) k edits w = rejects_drawn c number k edits w
 
   module _ (n : Note) (k : Pass) (o : Answer)
       (stopped : (c : Conflict) → l.going.over ≡ Some c → (o ≡ EndsConflict c None) × (k ≡ l.going.known))
@@ -266,36 +278,38 @@ module _ (l : Lending) (stage : Staged) (over : Option Conflict) (lent : IsLent 
         → (place ≡ l.going.place) × IsAnswered library_terms l.going.place (work_done l.going n) l.going.known k
     answered place is = answered_by place is l.going.over refl
 
-    met_by : (c own : Conflict) → l.going.over ≡ Some own → own ≡ c → Tries cs l.began k (outcome.Conflict (met_of c)) None
-    met_by c own met same =
+    met_by : (c own : Conflict) → OnlyReads → l.going.over ≡ Some own → own ≡ c
+        → Tries cs l.began k (outcome.Conflict (met_of c)) None
+    met_by c own reading met same =
         subst (λ (x : Conflict). Tries cs l.began k (outcome.Conflict (met_of x)) None) same
-        (subst (λ (z : Pass). Tries cs l.began z (outcome.Conflict (met_of own)) None) (sym (stopped own met).1) (met_before own met))
+        (subst (λ (z : Pass). Tries cs l.began z (outcome.Conflict (met_of own)) None) (sym (stopped own met).1) (met_before own reading met))
 
-    conflicts_by : (c : Conflict) (drawn : Option ℕ) → o ≡ EndsConflict c drawn → (v : Option Conflict) → l.going.over ≡ v
-        → Tries cs l.began k (outcome.Conflict (met_of c)) (void_records drawn)
-    conflicts_by c drawn is None none = rejects c drawn k (subst (Ends library_terms n l.going k) is (ended none)).1
-    conflicts_by c drawn is (Some own) met =
+    conflicts_by : (c : Conflict) (drawn : Option ℕ) → has_edit cs ≡ true → o ≡ EndsConflict c drawn → (v : Option Conflict)
+        → l.going.over ≡ v → Tries cs l.began k (outcome.Conflict (met_of c)) (void_records drawn)
+    conflicts_by c drawn edits is None none = rejects c drawn k edits (subst (Ends library_terms n l.going k) is (ended none)).1
+    conflicts_by c drawn edits is (Some own) met =
         let e = (stopped own met).0 in
         let same : own ≡ c = cc in
         let nothing : drawn ≡ None = cc in
-        subst (λ (d : Option ℕ). Tries cs l.began k (outcome.Conflict (met_of c)) (void_records d)) (sym nothing) (met_by c own met same)
+        subst (λ (d : Option ℕ). Tries cs l.began k (outcome.Conflict (met_of c)) (void_records d)) (sym nothing)
+        (met_by c own (λ none. absurd (edits_not edits none)) met same)
 
-    pub conflicts : (c : Conflict) (drawn : Option ℕ) → o ≡ EndsConflict c drawn
+    pub conflicts : (c : Conflict) (drawn : Option ℕ) → has_edit cs ≡ true → o ≡ EndsConflict c drawn
         → Tries cs l.began k (outcome.Conflict (met_of c)) (void_records drawn)
-    conflicts c drawn is = conflicts_by c drawn is l.going.over refl
+    conflicts c drawn edits is = conflicts_by c drawn edits is l.going.over refl
 
     -- where a commit could not meet one, the run had met it before
-    met_only_by : (c : Conflict) (drawn : Option ℕ) → o ≡ EndsConflict c drawn → (l.going.over ≡ None → ⊥) → (v : Option Conflict)
-        → l.going.over ≡ v → Tries cs l.began k (outcome.Conflict (met_of c)) None
-    met_only_by c drawn is some None none = absurd (some none)
-    met_only_by c drawn is some (Some own) met =
+    met_only_by : (c : Conflict) (drawn : Option ℕ) → OnlyReads → o ≡ EndsConflict c drawn → (l.going.over ≡ None → ⊥)
+        → (v : Option Conflict) → l.going.over ≡ v → Tries cs l.began k (outcome.Conflict (met_of c)) None
+    met_only_by c drawn reading is some None none = absurd (some none)
+    met_only_by c drawn reading is some (Some own) met =
         let e = (stopped own met).0 in
         let same : own ≡ c = cc in
-        met_by c own met same
+        met_by c own reading met same
 
-    pub met_only : (c : Conflict) (drawn : Option ℕ) → o ≡ EndsConflict c drawn → (l.going.over ≡ None → ⊥)
+    pub met_only : (c : Conflict) (drawn : Option ℕ) → OnlyReads → o ≡ EndsConflict c drawn → (l.going.over ≡ None → ⊥)
         → Tries cs l.began k (outcome.Conflict (met_of c)) None
-    met_only c drawn is some = met_only_by c drawn is some l.going.over refl
+    met_only c drawn reading is some = met_only_by c drawn reading is some l.going.over refl
 
     -- as where nothing is kept aside
     pub never_rejects : writes_kept l.going.slots ≡ [] → (c : Conflict) (drawn : Option ℕ) → o ≡ EndsConflict c drawn

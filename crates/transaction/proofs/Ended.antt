@@ -14,7 +14,8 @@ use Rattle.lawful.specs.declared.notes.Note.{Note}
 use Rattle.lawful.specs.Lawful.{library_terms}
 use Rattle.transaction.specs.declared.outcome.Conflict.{Conflict as Met}
 use Rattle.transaction.specs.declared.outcome.Outcome.{Outcome}
-use Rattle.transaction.specs.Attempts.{Pass, AddsNothing, Meets}
+use Rattle.transaction.specs.declared.outcome.Outcome.TheVariants as outcome
+use Rattle.transaction.specs.Attempts.{Pass, AddsNothing}
 use Rattle.transaction.specs.Lent.{Lending, IsLent}
 use Rattle.transaction.specs.Tries.{IsLaterPass, IsLawfulWith, IsStopped, GivesUp}
 
@@ -31,10 +32,12 @@ module _ (l : Lending) (stage : Staged) (over : Option Conflict) (i : IsLent l s
   adds_nothing = record { mine = ap (λ (k : Pass). k.mine) i.since; drawn = ap (λ (k : Pass). k.drawn) i.since }
 
   -- where the run met a conflict, so did the call
-  pub meets : (c : Conflict) → over ≡ Some c → Meets l.began l.going.known (met_at l.going.place c)
+  pub meets : (c : Conflict) → over ≡ Some c → IsStopped l l.going.known (outcome.Conflict (met_at l.going.place c))
   meets c e =
-      let m = i.met c e in
-      record { placed = i.placed; looked = m.looked; runs = ap (λ (k : Pass). k.runs) i.since; cause = inl m.cause; written = m.written }
+      let m = i.met c e in (
+        record { placed = i.placed; looked = m.looked; runs = ap (λ (k : Pass). k.runs) i.since; cause = inl m.cause; written = m.written },
+        m.untold,
+      )
 
   -- it ends with nothing written
   pub gives_up : (o : Outcome) → IsStopped l l.going.known o → GivesUp l l.going.known o

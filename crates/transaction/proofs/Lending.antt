@@ -14,7 +14,7 @@ use Rattle.tlwords.specs.declared.mode.Mode.TheVariants.{Reading, Writing}
 use Rattle.tlwords.specs.declared.outcome.Conflict.{Conflict}
 use Rattle.tlwords.specs.Seen.{Seen, SeenGrows}
 use Rattle.tlwords.specs.Known.{Home, Going, Stands}
-use Rattle.tlwords.specs.Runs.{value_kept, was_read, HasKept}
+use Rattle.tlwords.specs.Runs.{word_seen, value_kept, was_read, HasKept}
 use Rattle.tlwords.specs.Commits.{writes_kept, HasForgotten}
 use Rattle.tlwords.specs.Calls.{Begins, HasRead, HasStopped, HasLoaded, HasStaged, IsRefused, Notes}
 use Rattle.tlwords.proofs.Modes.{read_room}
@@ -95,6 +95,7 @@ module _ (g : Given) (k : Pass) (stage : Staged) (mode : Mode) (may : Bool) (r :
         grows = b.grows;
         placed = placed;
         stands = b.stands;
+        unnoted = λ m c. (b.blank c).0;
         read = λ m c w. absurd (unread c w);
         kept = λ c is. absurd (unkept c is);
         named = λ c v h ranged. absurd (subst (Has (c, v)) (blank_writes r.slots b.blank) h);
@@ -127,6 +128,12 @@ noted_still : (mode : Mode) (slots after : List Slot) (cell word : ℕ) → Note
     → (c : ℕ) → was_read slots c ≡ true → was_read after c ≡ true
 noted_still Reading slots after cell word n c was = ap (λ (z : List Slot). was_read z c) n ∙ was
 noted_still Writing slots after cell word n c was = n.3 c was
+
+-- a run that only reads notes nothing
+noted_unnoted : (mode : Mode) (slots after : List Slot) (cell word : ℕ) → Notes mode slots after cell word
+    → (mode ≡ Reading → (c : ℕ) → word_seen slots c ≡ None) → mode ≡ Reading → (c : ℕ) → word_seen after c ≡ None
+noted_unnoted Reading slots after cell word n unnoted is c = ap (λ (z : List Slot). word_seen z c) n ∙ unnoted is c
+noted_unnoted Writing slots after cell word n unnoted is c = absurd cc
 
 pub noted_writes : (mode : Mode) (slots after : List Slot) (cell word : ℕ) → Notes mode slots after cell word
     → writes_kept after ≡ writes_kept slots
@@ -177,6 +184,7 @@ module _ (l : Lending) (stage : Staged) (over : Option Conflict) (i : IsLent l s
         grows = seen_trans l.began.seen l.going.known.seen seen i.grows grows;
         placed = i.placed;
         stands = stands;
+        unnoted = i.unnoted;
         read = i.read;
         kept = i.kept;
         named = λ c v h ranged. names_grow l.going.known.seen.ranges seen.ranges v grows.2 (i.named c v h ranged);
@@ -195,6 +203,7 @@ module _ (l : Lending) (stage : Staged) (over : Option Conflict) (i : IsLent l s
         looked = m.looked;
         written = WasWritten-kept l.going.known.seen.history seen.history c.cell (c.word / 2) grows.0 m.written;
         cause = m.cause;
+        untold = m.untold;
       }
 
   -- the stage goes on
@@ -250,6 +259,7 @@ module _ (l : Lending) (stage : Staged) (over : Option Conflict) (i : IsLent l s
         grows = i.grows;
         placed = i.placed;
         stands = i.stands;
+        unnoted = i.unnoted;
         read = i.read;
         kept = i.kept;
         named = i.named;
@@ -278,6 +288,7 @@ module _ (l : Lending) (stage : Staged) (over : Option Conflict) (i : IsLent l s
         looked = λ j. Some (sym h.cell_is j, met.word);
         written = h.finds.written;
         cause = h.cause;
+        untold = λ m. sym h.finds.before ∙ i.unnoted m met.cell;
       } in
       subst (λ (x : Going Given Note). IsLent (record l { going = x }) stage (Some met)) (sym h.is)
       (later_lent seen looked k.full k.taken k.added (Some met) l.full stage (Some met) h.grows
@@ -303,6 +314,7 @@ module _ (l : Lending) (stage : Staged) (over : Option Conflict) (i : IsLent l s
           grows = seen_trans l.began.seen l.going.known.seen r.known.seen i.grows h.grows;
           placed = i.placed;
           stands = subst (Stands library_terms) h.is h.stands;
+          unnoted = noted_unnoted l.going.mode l.going.slots r.slots cell h.word h.notes i.unnoted;
           read = was_on noted;
           kept = λ c is.
               let w = i.kept c (ap is_some (sym (noted_values l.going.mode l.going.slots r.slots cell h.word h.notes c)) ∙ is) in
@@ -330,6 +342,7 @@ module _ (l : Lending) (stage : Staged) (over : Option Conflict) (i : IsLent l s
         grows = i.grows;
         placed = i.placed;
         stands = record { knows = i.stands.knows; placed = i.stands.placed; one = i.stands.one };
+        unnoted = λ m c. k.3 c ∙ i.unnoted m c;
         read = λ m c w. ap is_some (k.3 c) ∙ i.read m c w;
         kept = λ c is. dite (ℕ_discrete c cell) (λ e. subst (WasRead (sight_of l)) (sym e) read)
             (λ n. i.kept c (ap is_some (sym (k.2 c n)) ∙ is));
@@ -340,7 +353,7 @@ module _ (l : Lending) (stage : Staged) (over : Option Conflict) (i : IsLent l s
             (λ n. i.named c v (kept_has l.going.slots c v (sym (k.2 c n) ∙ has_kept slots c v has)) ranged);
         staged = i.staged;
         over_is = i.over_is;
-        met = λ c e. let m = i.met c e in record { looked = m.looked; written = m.written; cause = m.cause };
+        met = λ c e. let m = i.met c e in record { looked = m.looked; written = m.written; cause = m.cause; untold = m.untold };
         full = i.full;
       }
 
@@ -359,12 +372,13 @@ module _ (l : Lending) (stage : Staged) (over : Option Conflict) (i : IsLent l s
         grows = i.grows;
         placed = i.placed;
         stands = record { knows = i.stands.knows; placed = i.stands.placed; one = i.stands.one };
+        unnoted = λ m c. k.2 c ∙ i.unnoted m c;
         read = λ m c w. ap is_some (k.2 c) ∙ i.read m c w;
         kept = λ c is. let a : true ≡ false = sym is ∙ ap is_some (k.1 c) in absurd cc;
         named = λ c v has ranged. absurd (subst (Has (c, v)) k.3 has);
         staged = i.staged;
         over_is = i.over_is;
-        met = λ c e. let m = i.met c e in record { looked = m.looked; written = m.written; cause = m.cause };
+        met = λ c e. let m = i.met c e in record { looked = m.looked; written = m.written; cause = m.cause; untold = m.untold };
         full = i.full;
       }
 

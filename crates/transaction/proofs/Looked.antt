@@ -127,10 +127,10 @@ module _ (l : Lending) (stage : Staged) (over : Option Conflict) (lent : IsLent 
   pub sees_read : (place : ℕ) (library : Listed) → SaysLooked library n → o ≡ ends.Read place → Sees l.began new (look.Read place library)
   sees_read place library says is = sees_read_by place library says is l.going.over refl
 
-  sees_conflict_by : (found : Conflict) (drawn : Option ℕ) → o ≡ ends.Conflict found drawn → (v : Option Conflict) → l.going.over ≡ v
-      → Sees l.began new (look.Conflict (met_at l.going.place found))
-  sees_conflict_by found drawn is None none = let other = read none in absurd cc
-  sees_conflict_by found drawn is (Some k) met =
+  sees_conflict_by : (found : Conflict) (drawn : Option ℕ) → l.going.mode ≡ Reading → o ≡ ends.Conflict found drawn
+      → (v : Option Conflict) → l.going.over ≡ v → Sees l.began new (look.Conflict (met_at l.going.place found))
+  sees_conflict_by found drawn mode is None none = let other = read none in absurd cc
+  sees_conflict_by found drawn mode is (Some k) met =
       let own = (stopped k met).0 in
       let same : k ≡ found = cc in
       let has = lent.met k (sym lent.over_is ∙ met) in
@@ -145,11 +145,12 @@ module _ (l : Lending) (stage : Staged) (over : Option Conflict) (lent : IsLent 
           cause = inl has.cause;
           written = has.written;
         },
+        has.untold mode,
       ))
 
-  pub sees_conflict : (found : Conflict) (drawn : Option ℕ) → o ≡ ends.Conflict found drawn
+  pub sees_conflict : (found : Conflict) (drawn : Option ℕ) → l.going.mode ≡ Reading → o ≡ ends.Conflict found drawn
       → Sees l.began new (look.Conflict (met_at l.going.place found))
-  sees_conflict found drawn is = sees_conflict_by found drawn is l.going.over refl
+  sees_conflict found drawn mode is = sees_conflict_by found drawn mode is l.going.over refl
 
 -- ---- the session
 

@@ -1,5 +1,5 @@
 -- What becomes of a transaction that a session runs, and what the session's pass knows then.
-use Rattle.std.specs.Prelude.{◌≡◌, ◌≢◌, ◌<◌, ◌≤◌, ℕ, suc, ◌+◌, ◌/◌, ◌^◌, ◌⊎◌, true, false, is_some, Some, List, [], ◌∷◌, ◌++◌}
+use Rattle.std.specs.Prelude.{◌≡◌, ◌≢◌, ◌<◌, ◌≤◌, ℕ, suc, ◌+◌, ◌/◌, ◌^◌, ◌⊎◌, true, false, is_some, Some, None, List, [], ◌∷◌, ◌++◌}
 use Rattle.std.specs.Prelude.{length, slice_get, All}
 use Rattle.library.specs.declared.command.Command.{Command}
 use Rattle.library.specs.declared.command.Reply.{Reply}
@@ -72,6 +72,10 @@ pub record Meets (old new : Pass) (met : Met) : Type 0 where
   pub cause : HasCause met.place met.word ⊎ ((w : ℕ) × (met.before ≡ Some w) × (w ≢ met.word))
   pub written : WasWritten new.seen.history met.cell (met.word / 2)
 
+-- the try kept no read set: nothing of what it had read before is told, and it drew no number
+abbrev pub KeptNoReads : Pass → Pass → Met → Type 0
+KeptNoReads old new met = (met.before ≡ None) × DrawsNone old new
+
 -- ---- a transaction
 
 -- what the pass has then, by the outcome
@@ -83,7 +87,8 @@ Gains cs old new (outcome.Read place replies) =
     (has_edit cs ≡ false) × IsNotBefore old place × DrawsNone old new × GainsCall old new (Answered place) (SaysDone cs replies)
 Gains cs old new (outcome.Refused place refused) =
     IsNotBefore old place × DrawsNone old new × GainsCall old new (Answered place) (SaysRefused cs refused)
-Gains cs old new (outcome.Conflict met) = (new.mine ≡ old.mine) × DrawsVoid old new × Meets old new met
+Gains cs old new (outcome.Conflict met) =
+    (new.mine ≡ old.mine) × DrawsVoid old new × Meets old new met × (has_edit cs ≡ false → KeptNoReads old new met)
 Gains cs old new outcome.StoreFull = AddsNothing old new × (is_some new.full ≡ true) × (has_staging cs ≡ true)
 Gains cs old new outcome.NumbersUsed = AddsNothing old new × (length old.drawn ≡ 2 ^ 40)
 Gains cs old new outcome.TooManyCommands = (new ≡ old) × (has_too_many cs ≡ true)

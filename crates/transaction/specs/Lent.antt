@@ -1,5 +1,5 @@
 -- Of the code's inside, apart from the rules: a run of a session as commands see it, and what is so of it at all times.
-use Rattle.std.specs.Prelude.{◌≡◌, ℕ, ◌+◌, ◌/◌, ◌≤◌, Bool, true, false, is_some, Option, Some, List, [], length}
+use Rattle.std.specs.Prelude.{◌≡◌, ℕ, ◌+◌, ◌/◌, ◌≤◌, Bool, true, false, is_some, Option, Some, None, List, [], length}
 use Rattle.tlcore.specs.History.{WasWritten}
 use Rattle.ranges.specs.Ranges.{Has, Names}
 use Rattle.tlwords.specs.declared.mode.Mode.{Mode}
@@ -7,7 +7,7 @@ use Rattle.tlwords.specs.declared.mode.Mode.TheVariants.{Reading, Writing}
 use Rattle.tlwords.specs.declared.outcome.Conflict.{Conflict}
 use Rattle.tlwords.specs.Seen.{SeenGrows}
 use Rattle.tlwords.specs.Known.{Known, Going, Stands}
-use Rattle.tlwords.specs.Runs.{value_kept, was_read, HasCause}
+use Rattle.tlwords.specs.Runs.{word_seen, value_kept, was_read, HasCause}
 use Rattle.tlwords.specs.Commits.{writes_kept}
 use Rattle.bodystore.specs.Stages.{Staged, AreStaged}
 use Rattle.library.specs.declared.library.Ranked.{Ranked}
@@ -56,11 +56,12 @@ pub record Lent : Type 0 where
   pub run : Lending
   pub agrees : ∥ Agrees run ∥₁
 
--- the run has met this conflict by a read
+-- the run has met this conflict by a read. A run that only reads tells no word that it had seen before
 pub record HasMet (met : Conflict) (g : Going Given Note) : Type 0 where
   pub looked : g.known.looked ≡ Some (met.cell, met.word)
   pub written : WasWritten g.known.seen.history met.cell (met.word / 2)
   pub cause : HasCause g.place met.word
+  pub untold : g.mode ≡ Reading → met.before ≡ None
 
 -- what is so of the run at all times: of its pass nothing is lost or added since it began but what it has seen, its loads of the clock and its
 -- stagings
@@ -77,6 +78,8 @@ pub record IsLent (l : Lending) (stage : Staged) (over : Option Conflict) : Type
   pub grows : SeenGrows l.began.seen l.going.known.seen
   pub placed : length l.began.seen.history ≤ l.going.place
   pub stands : Stands library_terms l.going
+  -- a run that only reads notes nothing of what it read
+  pub unnoted : l.going.mode ≡ Reading → (c : ℕ) → word_seen l.going.slots c ≡ None
   -- what is kept aside is of cells that were read, and in range cells it names finished ranges
   pub read : l.going.mode ≡ Writing → (c : ℕ) → WasRead (sight_of l) c → was_read l.going.slots c ≡ true
   pub kept : (c : ℕ) → is_some (value_kept l.going.slots c) ≡ true → WasRead (sight_of l) c

@@ -5,6 +5,7 @@ use Rattle.library.specs.declared.command.Command.{Command}
 use Rattle.library.specs.declared.command.Reply.{Reply}
 use Rattle.library.specs.declared.reason.Refused.{Refused as Refusal}
 use Rattle.library.specs.Library.{Listed}
+use Rattle.tlwords.specs.declared.mode.Mode.TheVariants.{Reading}
 use Rattle.tlwords.specs.Seen.{SeenGrows}
 use Rattle.tlwords.specs.Known.{Knows}
 use Rattle.tlwords.specs.Commits.{writes_kept}
@@ -62,9 +63,10 @@ pub record IsForgotten (old new : Lending) : Type 0 where
   pub is : new ≡ record old { going = record old.going { slots = new.going.slots } }
   pub none : writes_kept new.going.slots ≡ []
 
--- why a run ended early: it met the conflict, or the store had no room, or it was given up for want of memory
+-- why a run ended early: it met the conflict, and tells no word that it had seen before where it only reads; or the store had no room; or it was
+-- given up for want of memory
 abbrev pub IsStopped : Lending → Pass → Outcome → Type 0
-IsStopped l new (outcome.Conflict met) = Meets l.began new met
+IsStopped l new (outcome.Conflict met) = Meets l.began new met × (l.going.mode ≡ Reading → met.before ≡ None)
 IsStopped l new outcome.StoreFull = (is_some new.full ≡ true) × (l.may_stage ≡ true)
 IsStopped l new outcome.NoMemory = Unit {0}
 IsStopped l new _ = ⊥

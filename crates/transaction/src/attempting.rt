@@ -174,7 +174,8 @@ fn answer(live: Live<'_>, commands: &Transaction, replies: Sequence<Reply>) -> T
 
 /// Ends a run of which a command is refused: what it kept aside is thrown away.
 fn refuse(mut live: Live<'_>, commands: &Transaction, refused: Refused) -> Tried
-    requires { MayBeRefused live.run commands.now refused }
+    requires reading { has_edit commands.now ≡ false → live.run.going.mode ≡ Reading }
+    requires lawful { MayBeRefused live.run commands.now refused }
     ensures { Tries commands.now live.entry.run.began result.kit result.outcome result.drawn }
 {
     live.forget();
@@ -202,7 +203,8 @@ fn refuse(mut live: Live<'_>, commands: &Transaction, refused: Refused) -> Tried
 
 /// Ends a run that was stopped, or for which memory ran out.
 fn stop(live: Live<'_>, commands: &Transaction) -> Tried
-    requires { live.run.may_stage ≡ has_staging commands.now }
+    requires stages { live.run.may_stage ≡ has_staging commands.now }
+    requires reading { has_edit commands.now ≡ false → live.run.going.mode ≡ Reading }
     ensures { Tries commands.now live.entry.run.began result.kit result.outcome result.drawn }
 {
     let (kit, outcome) = live.give_up();

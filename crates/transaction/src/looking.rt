@@ -101,6 +101,7 @@ fn show(live: Live<'_>, library: PlainLibrary) -> (Kit, Look)
 
 /// Ends a run that was stopped, or for which memory ran out.
 fn stop(live: Live<'_>) -> (Kit, Look)
+    requires reading { live.run.going.mode ≡ Reading }
     ensures later { IsLaterPass live.entry.run.began result.0 }
     ensures sees { Sees live.entry.run.began result.0 result.1 }
 {

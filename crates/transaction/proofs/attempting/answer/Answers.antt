@@ -34,5 +34,6 @@ returns c =
           let met = met_is l stage over lent cs w.in-Conflict.conflict c.place-place.result w.met.result w.met.ensures c.place-place.ensures in
           let never : l.going.over ≡ None → ⊥ = λ none. let a = ends.reading none c.requires.reading in let b = w.in-Conflict.is in cc in
           subst outcomes (sym (w.outcome-is ∙ ap outcome.Conflict met))
-          (met_only l stage over lent cs _ k o ends.over ends.ended w.in-Conflict.conflict _ w.in-Conflict.is never)
+          (met_only l stage over lent cs _ k o ends.over ends.ended w.in-Conflict.conflict _ (λ none. c.requires.reading)
+          w.in-Conflict.is never)
     ]

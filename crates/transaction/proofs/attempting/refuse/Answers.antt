@@ -1,4 +1,5 @@
-use Rattle.std.proofs.Common.{ℕ, None, sym, ap, subst, ◌∙◌}
+use Rattle.std.proofs.Common.{◌≡◌, ℕ, false, None, sym, ap, subst, ◌∙◌}
+use Rattle.library.specs.Transactions.{has_edit}
 use Rattle.lawful.specs.declared.notes.Note.TheVariants.{Refused}
 use Rattle.transaction.specs.declared.outcome.Outcome.{Outcome}
 use Rattle.transaction.specs.declared.outcome.Outcome.TheVariants as outcome
@@ -11,7 +12,8 @@ use Rattle.transaction.proofs.attempting.refuse.Goals.{in-Read, in-Conflict}
 
 pub end-kit-requires : goal.end-kit-requires
 end-kit-requires c =
-    λ none. forgotten_lawful c.args.live.run c.forget.new.self.run c.forget.ensures (Refused c.of.result c.of-2.result) (c.requires _ _ c.of.ensures c.of-2.ensures)
+    λ none. forgotten_lawful c.args.live.run c.forget.new.self.run c.forget.ensures (Refused c.of.result c.of-2.result)
+    (c.requires.lawful _ _ c.of.ensures c.of-2.ensures)
 
 pub returns : goal.returns
 returns c =
@@ -24,6 +26,7 @@ returns c =
     let ends = c.end-kit.ensures in
     let lent = subst (λ (v : Lent). IsLent v.run stage over) c.live.view_is c.live.invariant.1 in
     let began = ap (λ (x : Lending). x.began) c.forget.ensures.is in
+    let reading = λ (none : has_edit cs ≡ false). ap (λ (x : Lending). x.going.mode) c.forget.ensures.is ∙ c.requires.reading none in
     let outcomes = λ (x : Outcome). Tries cs c.args.live.run.began k x None in
     elim c.match-ended.branch [
       | in-Read w ↦
@@ -36,6 +39,6 @@ returns c =
           let met = met_is l stage over lent cs w.in-Conflict.conflict c.place-place.result w.met.result w.met.ensures c.place-place.ensures in
           subst outcomes (sym (w.outcome-is ∙ ap outcome.Conflict met))
           (subst (λ (z : Pass). Tries cs z k (outcome.Conflict (met_of l stage over lent cs w.in-Conflict.conflict)) None) began
-          (met_only l stage over lent cs _ k o ends.over ends.ended w.in-Conflict.conflict _ w.in-Conflict.is
+          (met_only l stage over lent cs _ k o ends.over ends.ended w.in-Conflict.conflict _ reading w.in-Conflict.is
           (never_rejects l stage over lent cs _ k o ends.over ends.ended c.forget.ensures.none w.in-Conflict.conflict _ w.in-Conflict.is)))
     ]

@@ -29,8 +29,8 @@ answer-requires-clause-lawful c =
     may_be_done g c.args.kit c.if-edits.mode cs old lends new c.run.ensures.onward c.requires.fit c.in-Ok.replies
     (subst (λ (x : List Command). DoesAll (sight_of old) (sight_of new) x c.in-Ok.replies) c.as_slice-3.ensures c.in-Ok.ensures.answers)
 
-pub refuse-requires : goal.refuse-requires
-refuse-requires c = λ commands reason is why.
+pub refuse-requires-clause-lawful : goal.refuse-requires-clause-lawful
+refuse-requires-clause-lawful c = λ commands reason is why.
     let g = c.args.library.now.given in
     let old = c.begin-live.result.run in
     let new = c.run.new.cells.run in

@@ -41,5 +41,5 @@ returns-clause-sees c =
           subst (Sees run.began new) (sym (w.seen-is ∙ ap (λ (m : Met). look.Conflict m) met))
           (sees_conflict run c.live.inside.stage c.live.inside.over lent (Looked c.of.result) new c.end-kit.result.1
           c.end-kit.ensures.over (λ none. c.end-kit.ensures.reading none c.requires.reading) c.end-kit.ensures.ended
-          found _ w.in-Conflict.is)
+          found _ c.requires.reading w.in-Conflict.is)
     ]

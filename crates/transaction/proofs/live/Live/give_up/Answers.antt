@@ -1,5 +1,6 @@
 use Rattle.std.proofs.Common.{sym, subst}
-use Rattle.transaction.specs.Attempts.{Meets}
+use Rattle.transaction.specs.declared.outcome.Conflict.{Conflict as Met}
+use Rattle.transaction.specs.declared.outcome.Outcome.TheVariants as outcome
 use Rattle.transaction.specs.Tries.{IsStopped, GivesUp}
 use Rattle.transaction.proofs.Lending.{lending_in}
 use Rattle.transaction.proofs.Ended.{met_at, meets, gives_up}
@@ -14,8 +15,11 @@ returns c =
     let i = c.self.invariant.1 in
     let why : IsStopped l k c.match-over.outcome =
     elim c.match-over.branch [
-      | in-Some w ↦ subst (IsStopped l k) (sym (w.outcome-is)) (subst (Meets l.began k) (sym w.met.ensures)
-          (subst (λ p. Meets l.began k (met_at p w.in-Some.found)) (sym c.place-place.ensures) (meets l s.stage s.over i w.in-Some.found w.in-Some.is)))
+      | in-Some w ↦
+          let found = w.in-Some.found in
+          subst (IsStopped l k) (sym w.outcome-is) (subst (λ (m : Met). IsStopped l k (outcome.Conflict m)) (sym w.met.ensures)
+          (subst (λ p. IsStopped l k (outcome.Conflict (met_at p found))) (sym c.place-place.ensures)
+          (meets l s.stage s.over i found w.in-Some.is)))
       | in-None w ↦ subst (IsStopped l k) (sym w.outcome-is) (i.full w.if-full.true)
       | in-None-2 w ↦ subst (IsStopped l k) (sym w.outcome-is) tt
     ] in
