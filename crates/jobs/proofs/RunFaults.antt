@@ -6,25 +6,12 @@ use Rattle.mmsyntax.specs.Tables.{Tables, Contents}
 use Rattle.cells.specs.Measures.{bodies_length}
 use Rattle.jobs.specs.declared.job.Fault.{Fault}
 use Rattle.jobs.specs.declared.job.Fault.TheVariants.{Text, Proof, StoreFull, NoMemory}
+use Rattle.jobs.specs.declared.job.Job.{Job}
 use Rattle.jobs.specs.declared.job.Printed.{Printed}
 use Rattle.jobs.specs.Jobs.{Bytes, Orders, IsChecked, AreScripts, IsFirstFault, IsDatabaseFault, PrintsRun, IsRun}
-use Rattle.jobs.specs.Jobs.{IsRunFault, IsRunLack, IsOrLacksMemory, RefusesWith}
-use Rattle.jobs.specs.Parts.{IsScriptFault, IsRefusedBy, IsOpenFault, IsWorkFault}
+use Rattle.jobs.specs.Jobs.{IsRunFault, IsRunLack, IsFaultOf, IsLackOf, IsOrLacksMemory, RefusesWith}
+use Rattle.jobs.specs.Parts.{IsScriptFault, IsRefusedBy, IsWorkFault}
 use Rattle.jobs.proofs.Faults.{no_first}
-
--- ---- why a run comes to no end
-
--- a library that isn't opened
-pub open_fails : (contents : Contents) (room : ℕ) (f : Fault) → IsOpenFault contents room f → IsWorkFault contents room f
-open_fails contents room StoreFull h = h
-open_fails contents room NoMemory h = tt
-open_fails contents room _ h = absurd h
-
--- is answered where the room is too small
-pub open_full : (contents : Contents) (room : ℕ) (f : Fault) → IsOpenFault contents room f → IsOrLacksMemory StoreFull f
-open_full contents room StoreFull h = inl refl
-open_full contents room NoMemory h = inr refl
-open_full contents room _ h = absurd h
 
 -- ---- what is answered
 
@@ -116,3 +103,11 @@ module _ (text : Bytes) (texts : List Bytes) (room : ℕ) (db : Contents) (p : T
   run_refused_by_room r StoreFull first full h =
       full (subst (λ (c : Contents). room < bodies_length c.assertions) (sym (same h.0 h.2)) h.4)
   run_refused_by_room r _ first full h = absurd h
+
+-- ---- jobs that come to an end
+
+-- a fault is one of the job's, or why it came to no end
+pub has_fault : {A : Type 0} (j : Job) (r : Result A Fault) → IfErr r (λ f. f ≢ NoMemory → IsFaultOf j f)
+    → IfErr r (λ f. f ≢ NoMemory → IsFaultOf j f ⊎ IsLackOf j f)
+has_fault j (Ok a) h = h
+has_fault j (Err f) h = λ ne. inl (h ne)

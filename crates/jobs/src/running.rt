@@ -58,9 +58,9 @@ fn open(
         Ok(opened) => Ok(opened),
         Err(OpenError::StoreFull) => Err(Fault::StoreFull),
         Err(OpenError::NoMemory) => Err(Fault::NoMemory),
-        Err(OpenError::BadShape | OpenError::TooMany | OpenError::ProofFails(..)) => {
-            unreachable!()
-        }
+        Err(OpenError::BadShape) => unreachable!(),
+        Err(OpenError::TooMany) => unreachable!(),
+        Err(OpenError::ProofFails(..)) => unreachable!(),
     }
 }
 

@@ -1,0 +1,58 @@
+use Rattle.std.proofs.Common.{◌≡◌, ◌∙◌, ◌≤◌, ◌++◌, length, sym, ap, subst, arith}
+use Rattle.std.specs.Prelude.{All}
+use Rattle.library.specs.Library.{opening}
+use Rattle.historytext.specs.Grammar.{highest_count, SpellsHistory}
+use Rattle.historytext.specs.Layout.{EntryFits, history_text}
+use Rattle.historytext.proofs.LegalFits.{legal_histories_fit}
+use Rattle.historytext.proofs.Spelled.{legal_histories_are_spelled}
+use Rattle.export.proofs.Accepted.{exported_accepted}
+use Rattle.workers.specs.Works.{lists_of}
+use Rattle.jobs.specs.Outcomes.{setting_of, OutcomesFit}
+use Rattle.jobs.specs.Reports.{report_text}
+use Rattle.jobs.specs.Jobs.{library_lines}
+use Rattle.jobs.proofs.Fronts.{opening_stands, fronts_of}
+use Rattle.jobs.proofs.Printable.{printable}
+use Rattle.jobs.proofs.running.print_edited.Goals as goal
+
+pub report_run-requires : goal.report_run-requires
+report_run-requires c =
+    let e = c.args.edited.now in
+    let rows = lists_of e.outcomes.items in
+    subst (λ p. OutcomesFit p rows) (sym c.prelude.ensures)
+    (printable c.args.db.now c.args.room c.args.scripts.now rows e.history e.library c.assertions-assertions.ensures.sound c.requires.checks
+    c.requires.fit c.requires.worked)
+
+pub write_history-requires : goal.write_history-requires
+write_history-requires c =
+    let db = c.args.db.now in
+    let w = c.requires.worked in
+    let stands = opening_stands db c.assertions-assertions.ensures.sound c.requires.checks in
+    let fit = legal_histories_fit (setting_of db) (opening db) c.args.edited.now.history stands w.within w.legal in
+    subst (λ p. All (EntryFits p) c.as_slice-2.result.now) (sym c.prelude-2.ensures)
+    (subst (All (EntryFits db.prelude)) (sym c.as_slice-2.ensures) fit)
+
+pub returns : goal.returns
+returns c =
+    let db = c.args.db.now in
+    let e = c.args.edited.now in
+    let w = c.requires.worked in
+    let sound = c.assertions-assertions.ensures.sound in
+    let rows = lists_of e.outcomes.items in
+    let kept : c.in_ok-write_history.field-0.items ≡ history_text db.prelude e.history =
+    c.in_ok-write_history.ensures ∙ ap (λ p. history_text p c.as_slice-2.result.now) c.prelude-2.ensures
+    ∙ ap (history_text db.prelude) c.as_slice-2.ensures in
+    let counted = c.count_of-count.ensures in
+    let few : length e.history ≤ highest_count = omega (arith, counted.value, counted.small, ap length c.as_slice.ensures) in
+    let spelled =
+    legal_histories_are_spelled (setting_of db) (opening db) e.history (opening_stands db sound c.requires.checks) w.within w.legal few in
+    record {
+      rows = rows;
+      entries = e.history;
+      library = e.library;
+      worked = w;
+      fronts = fronts_of db e.history sound c.requires.checks w.within;
+      prints = c.in_ok-report_run.ensures ∙ ap (λ p. report_text p rows ++ library_lines e.library) c.prelude.ensures;
+      accepted = exported_accepted e.library c.entries-entries.ensures.verifies c.entries-entries.ensures.ordered;
+      kept = kept;
+      spelled = subst (λ text. SpellsHistory db.prelude text e.history) (sym kept) spelled;
+    }
