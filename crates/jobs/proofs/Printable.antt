@@ -55,8 +55,8 @@ module _ (s : Setting) (lib0 : List Ranked) (h : List Entry) (v : Verifies s lib
 
 -- ---- of a run
 
-pub printable : (db : Contents) (room : ℕ) (scripts : List (List (List Command))) (rows : List (List Outcome)) (history : List CodeEntry)
+pub printable : (db : Contents) (workers room : ℕ) (scripts : List (List (List Command))) (rows : List (List Outcome)) (history : List CodeEntry)
     (library : Listed) → HasSpelling db → AllCheck db → All (All (All (CommandFits db.prelude))) scripts
-    → IsWorked db room scripts rows history library → OutcomesFit db.prelude rows
-printable db room scripts rows history library spelled checks fit w =
+    → IsWorked db workers room scripts rows history library → OutcomesFit db.prelude rows
+printable db workers room scripts rows history library spelled checks fit w =
     rows_fit (setting_of db) (opening db) (map told history) (opening_stands db spelled checks) w.within w.legal scripts rows fit w.told_by.each

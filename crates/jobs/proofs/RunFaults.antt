@@ -42,10 +42,10 @@ module _ (db : Bytes) (texts : List Bytes) (room : ℕ) (contents : Contents) (s
   run_faulted (Ok printed) h = h
   run_faulted (Err f) h = λ ne. work_of_run f h ne
 
-  pub run_done : (r : Result Printed Fault) → IfOk r (λ p. PrintsRun contents room scripts p.out.items p.history.items)
-      → IfOk r (λ p. IsRun db texts room p.out.items p.history.items)
-  run_done (Ok printed) h = record { contents = contents; checked = checked; scripts = scripts; ordered = ordered; printed = h }
-  run_done (Err f) h = h
+  pub run_done : (workers : ℕ) (r : Result Printed Fault) → IfOk r (λ p. PrintsRun contents workers room scripts p.out.items p.history.items)
+      → IfOk r (λ p. IsRun db texts workers room p.out.items p.history.items)
+  run_done workers (Ok printed) h = record { contents = contents; checked = checked; scripts = scripts; ordered = ordered; printed = h }
+  run_done workers (Err f) h = h
 
 -- ---- which is answered
 

@@ -59,10 +59,10 @@ module _ (db : Contents) (workers room : ℕ) (home : Home) (members : List Memb
 
   -- and what is left of scripts that were run on it is of a run over the database
   pub worked : (scripts : List (List (List Command))) (rows : List (List Outcome)) (history : List Entry) (library : Listed)
-      → IsEdited home scripts rows history library → IsWorked db room scripts rows history library
+      → IsEdited home scripts rows history library → IsWorked db workers room scripts rows history library
   worked scripts rows history library e = record {
     fits = o.fit;
-    told_by = over (λ s lib. AreToldBy s lib (map told history) scripts rows) e.told_by;
+    told_by = over (λ s lib. AreToldBy s lib (map told history) workers scripts rows) (subst (λ n. AreToldBy (setting_given home.given) (first_library home.given) (map told history) n scripts rows) o.sessions e.told_by);
     legal = over (λ s lib. IsLegal s lib (map told history)) e.legal;
     within = over (λ s lib. EntriesFit s.prelude (map told history)) e.fit;
     setting = e.setting ∙ same_setting;

@@ -46,12 +46,12 @@ Orders = List (List Command)
 abbrev pub library_lines : Listed → Bytes
 library_lines library = codes "library" ++ 10 ∷ exported_text library
 
--- the scripts were run over the library of a database, whose bodies the store has room for: these are their outcomes in this history, which is
+-- the scripts were run by so many workers over the library of a database, whose bodies the store has room for: these are their outcomes in this history, which is
 -- legal from the opening library and within the limits; and the library is the one after it
-pub record IsWorked (contents : Contents) (room : ℕ) (scripts : List Orders) (rows : List (List Outcome)) (history : List Entry) (library : Listed) :
-    Type 0 where
+pub record IsWorked (contents : Contents) (workers room : ℕ) (scripts : List Orders) (rows : List (List Outcome)) (history : List Entry)
+    (library : Listed) : Type 0 where
   pub fits : bodies_length contents.assertions ≤ room
-  pub told_by : AreToldBy (setting_of contents) (opening contents) (map told history) scripts rows
+  pub told_by : AreToldBy (setting_of contents) (opening contents) (map told history) workers scripts rows
   pub legal : IsLegal (setting_of contents) (opening contents) (map told history)
   pub within : EntriesFit contents.prelude (map told history)
   pub setting : library.setting ≡ setting_of contents
@@ -59,11 +59,11 @@ pub record IsWorked (contents : Contents) (room : ℕ) (scripts : List Orders) (
 
 -- the report of what became of all transactions, and the library after them, whose text is accepted; and the text of the history, which spells
 -- it. After each front of it, too, the library verifies
-pub record PrintsRun (contents : Contents) (room : ℕ) (scripts : List Orders) (out history : Bytes) : Type 0 where
+pub record PrintsRun (contents : Contents) (workers room : ℕ) (scripts : List Orders) (out history : Bytes) : Type 0 where
   pub rows : List (List Outcome)
   pub entries : List Entry
   pub library : Listed
-  pub worked : IsWorked contents room scripts rows entries library
+  pub worked : IsWorked contents workers room scripts rows entries library
   pub fronts : (k : ℕ) → Verifies (setting_of contents) (after (setting_of contents) (opening contents) (map told entries) k)
   pub prints : out ≡ report_text contents.prelude rows ++ library_lines library
   pub accepted : Accepts (exported_text library)
@@ -122,12 +122,12 @@ pub record IsCheck (db : Bytes) (out : Bytes) : Type 0 where
 
 -- the database is read as it is spelled, and its proofs check; the scripts are read as they are spelled; and what is printed is that of
 -- their run
-pub record IsRun (db : Bytes) (texts : List Bytes) (room : ℕ) (out history : Bytes) : Type 0 where
+pub record IsRun (db : Bytes) (texts : List Bytes) (workers room : ℕ) (out history : Bytes) : Type 0 where
   pub contents : Contents
   pub checked : IsChecked db contents
   pub scripts : List Orders
   pub ordered : AreScripts contents.prelude texts scripts
-  pub printed : PrintsRun contents room scripts out history
+  pub printed : PrintsRun contents workers room scripts out history
 
 -- the database is read as it is spelled, and its proofs check; the history is read as it is spelled; and what is printed is that of its
 -- replay
@@ -149,7 +149,7 @@ AreWithin _ = Unit {0}
 
 abbrev pub DoneAsAsked : Job → Printed → Type 0
 DoneAsAsked (Check db) p = IsCheck db.items p.out.items × (p.history.items ≡ [])
-DoneAsAsked (Run db texts workers room) p = IsRun db.items (map (λ t. t.items) texts.items) room p.out.items p.history.items
+DoneAsAsked (Run db texts workers room) p = IsRun db.items (map (λ t. t.items) texts.items) workers room p.out.items p.history.items
 DoneAsAsked (Replay db history) p = IsReplay db.items history.items p.out.items × (p.history.items ≡ [])
 
 -- ---- what the program answers to its own texts
@@ -160,7 +160,7 @@ abbrev pub AnswersItsOwn : Job → (Bytes → Type 0) → Type 0
 AnswersItsOwn (Check db) is_answered = (a : Accepts db.items) → length db.items ≤ 16777216 → is_answered (ok_line a.database)
 AnswersItsOwn (Run db texts workers room) is_answered = Unit {0}
 AnswersItsOwn (Replay db history) is_answered =
-    (texts : List Bytes) (room : ℕ) (out : Bytes) (run : IsRun db.items texts room out history.items) → length history.items ≤ 16777216
+    (texts : List Bytes) (workers room : ℕ) (out : Bytes) (run : IsRun db.items texts workers room out history.items) → length history.items ≤ 16777216
     → is_answered (replayed_lines (length run.printed.entries) run.printed.library)
 
 -- this is printed, unless memory ran out

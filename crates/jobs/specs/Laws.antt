@@ -35,5 +35,5 @@ AcceptedTextsHaveNoFault =
 -- nor has a replay of the history that a run gave, over the same database, where its text has at most 16,777,216 bytes
 abbrev pub RunsHaveNoFaultAgain : Type 0
 RunsHaveNoFaultAgain =
-    (db history : Vec ℕ Global) (texts : List Bytes) (room : ℕ) (out : Bytes) (f : Fault) → IsRun db.items texts room out history.items
+    (db history : Vec ℕ Global) (texts : List Bytes) (workers room : ℕ) (out : Bytes) (f : Fault) → IsRun db.items texts workers room out history.items
     → length history.items ≤ 16777216 → IsFaultOf (Replay db history) f → ⊥

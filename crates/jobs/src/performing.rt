@@ -133,7 +133,7 @@ fn run(
     room: usize,
 ) -> Result<Printed, Fault>
     requires within { IsWithin workers room }
-    ensures done { IfOk result (λ p. IsRun db.now (map (λ t. t.items) scripts.now) room p.out.items p.history.items) }
+    ensures done { IfOk result (λ p. IsRun db.now (map (λ t. t.items) scripts.now) workers room p.out.items p.history.items) }
     ensures fault { IfErr result (λ f. f ≢ NoMemory → IsRunFault db.now (map (λ t. t.items) scripts.now) room f ⊎ IsRunLack f) }
     ensures refused { (f : FaultOfJob) → IsRunFault db.now (map (λ t. t.items) scripts.now) room f → RefusesWith f result }
 {

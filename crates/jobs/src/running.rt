@@ -1,6 +1,6 @@
 //! Scripts run over the library of a database by workers, and what is printed of it.
 
-ghost use Rattle.std.specs.Prelude.{◌≡◌, ◌<◌, ◌^◌, ◌++◌, All, IfOk, IfErr, length};
+ghost use Rattle.std.specs.Prelude.{◌≡◌, ℕ, ◌<◌, ◌^◌, ◌++◌, All, IfOk, IfErr, length};
 ghost use Rattle.proofcheck.specs.Databases.{AllCheck};
 ghost use Rattle.library.specs.Fitting.{CommandFits};
 ghost use Rattle.cells.specs.Measures.{bodies_length};
@@ -77,7 +77,7 @@ fn edit(
     requires checks { AllCheck db.now }
     requires within { IsWithin workers room }
     requires fit { All (All (All (CommandFits db.now.prelude))) scripts.now }
-    ensures done { IfOk result (λ e. IsWorked db.now room scripts.now (lists_of e.outcomes.items) e.history e.library) }
+    ensures done { IfOk result (λ e. IsWorked db.now workers room scripts.now (lists_of e.outcomes.items) e.history e.library) }
     ensures fault { IfErr result (IsWorkFault db.now room) }
     ensures full { room < bodies_length db.now.assertions → RefusesWith StoreFull result }
 {
@@ -110,13 +110,12 @@ fn print_edited(
     alloc: Global,
     db: &Database,
     scripts: &[Script],
-    room: usize,
     edited: &Edited,
 ) -> Result<Printed, AllocError>
     requires checks { AllCheck db.now }
     requires fit { All (All (All (CommandFits db.now.prelude))) scripts.now }
-    requires worked { IsWorked db.now room scripts.now (lists_of edited.now.outcomes.items) edited.now.history edited.now.library }
-    ensures { IfOk result (λ p. PrintsRun db.now room scripts.now p.out.items p.history.items) }
+    requires worked { (workers : ℕ) × (room : ℕ) × IsWorked db.now workers room scripts.now (lists_of edited.now.outcomes.items) edited.now.history edited.now.library }
+    ensures { (workers room : ℕ) → IsWorked db.now workers room scripts.now (lists_of edited.now.outcomes.items) edited.now.history edited.now.library → IfOk result (λ p. PrintsRun db.now workers room scripts.now p.out.items p.history.items) }
 {
     // For the proof: some text declares the database; the library verifies, and is in export order; and there are no more entries than a text
     // can count.
@@ -142,10 +141,10 @@ pub(crate) fn print_run(
     requires checks { AllCheck db.now }
     requires within { IsWithin workers room }
     requires fit { All (All (All (CommandFits db.now.prelude))) scripts.now }
-    ensures done { IfOk result (λ p. PrintsRun db.now room scripts.now p.out.items p.history.items) }
+    ensures done { IfOk result (λ p. PrintsRun db.now workers room scripts.now p.out.items p.history.items) }
     ensures fault { IfErr result (IsWorkFault db.now room) }
     ensures full { room < bodies_length db.now.assertions → RefusesWith StoreFull result }
 {
     let edited = edit(rt, alloc, keys, db, scripts, workers, room)?;
-    Ok(print_edited(alloc, db, scripts, room, &edited)?)
+    Ok(print_edited(alloc, db, scripts, &edited)?)
 }

@@ -19,23 +19,22 @@ report_run-requires c =
     let e = c.args.edited.now in
     let rows = lists_of e.outcomes.items in
     subst (λ p. OutcomesFit p rows) (sym c.prelude.ensures)
-    (printable c.args.db.now c.args.room c.args.scripts.now rows e.history e.library c.assertions-assertions.ensures.sound c.requires.checks
-    c.requires.fit c.requires.worked)
+    (printable c.args.db.now c.requires.worked.0 c.requires.worked.1 c.args.scripts.now rows e.history e.library
+    c.assertions-assertions.ensures.sound c.requires.checks c.requires.fit c.requires.worked.2)
 
 pub write_history-requires : goal.write_history-requires
 write_history-requires c =
     let db = c.args.db.now in
-    let w = c.requires.worked in
+    let w = c.requires.worked.2 in
     let stands = opening_stands db c.assertions-assertions.ensures.sound c.requires.checks in
     let fit = legal_histories_fit (setting_of db) (opening db) c.args.edited.now.history stands w.within w.legal in
     subst (λ p. All (EntryFits p) c.as_slice-2.result.now) (sym c.prelude-2.ensures)
     (subst (All (EntryFits db.prelude)) (sym c.as_slice-2.ensures) fit)
 
 pub returns : goal.returns
-returns c =
+returns c = λ workers room w.
     let db = c.args.db.now in
     let e = c.args.edited.now in
-    let w = c.requires.worked in
     let sound = c.assertions-assertions.ensures.sound in
     let rows = lists_of e.outcomes.items in
     let kept : c.in_ok-write_history.field-0.items ≡ history_text db.prelude e.history =
