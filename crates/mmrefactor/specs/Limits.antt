@@ -1,5 +1,4 @@
 -- What a command line may ask for.
-use Rattle.std.specs.Prelude.{Unit}
 use Rattle.jobs.specs.declared.task.Task.{Task}
 use Rattle.jobs.specs.declared.task.Task.TheVariants.{Run}
 use Rattle.jobs.specs.Jobs.{IsWithin}

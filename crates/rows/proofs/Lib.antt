@@ -1,1 +1,3 @@
+pub mod Digits
 pub mod Joined
+pub mod Replayed

@@ -1,5 +1,5 @@
 -- What may be answered of a text: what it declares, or its fault, want of memory aside.
-use Rattle.std.specs.Prelude.{◌≡◌, ◌≢◌, ◌+◌, ℕ, List, [], Option, Some, None, length, map, slice_get}
+use Rattle.std.specs.Prelude.{◌≡◌, ◌≢◌, ◌<◌, ◌+◌, ◌⊎◌, ℕ, List, Option, Some, None, length, slice_get}
 use Rattle.mmtext.specs.declared.fault.FaultKind.TheVariants.{NoMemory as OutOfMemory}
 use Rattle.mmsyntax.specs.declared.statement.Assertion.{Assertion}
 use Rattle.mmsyntax.specs.Tables.{Tables, Contents}
@@ -10,10 +10,9 @@ use Rattle.mmsyntax.specs.Assertions.{Fits}
 use Rattle.proofcheck.specs.declared.fault.ProofFaultKind.TheVariants.{NoMemory as NoMemoryOfProof}
 use Rattle.proofcheck.specs.Databases.{AllCheck, IsFirstFault}
 use Rattle.jobs.specs.declared.job.Fault.TheVariants.{NoMemory as NoMemoryOfJob}
-use Rattle.jobs.specs.Jobs.{IsRun, IsRunFault, IsReplay, IsReplayFault}
+use Rattle.jobs.specs.Jobs.{IsRun, IsRunFault, IsRunLack, IsReplay, IsReplayFault, library_lines}
 use Rattle.rows.specs.declared.answer.Answer.{Answer}
-use Rattle.rows.specs.declared.answer.Answer.TheVariants.{Kept, Read, Faulty, Text, Unfit, Checked, Unread, FaultyProof, Failed}
-use Rattle.rows.specs.declared.runs.Runs.{Runs}
+use Rattle.rows.specs.declared.answer.Answer.TheVariants.{Kept, Read, Faulty, Text, Unfit, Checked, Unread, FaultyProof, Failed, Differs}
 
 -- a database is read, or has the fault
 abbrev pub IsReading : List ℕ → Answer → Type 0
@@ -53,16 +52,20 @@ Keeps text (Some db) Kept = Spells text db
 Keeps text None (Faulty f) = f.kind ≢ OutOfMemory → FaultyDatabase text f
 Keeps text _ _ = ⊥
 
--- what the run of scripts over a database prints, or its fault
-abbrev pub IsRunOf : List ℕ → List (List ℕ) → Answer → Type 0
-IsRunOf db scripts (Text out) = (history : List ℕ) × IsRun db scripts out.items history
-IsRunOf db scripts (Failed fault) = fault ≢ NoMemoryOfJob → IsRunFault db scripts fault
-IsRunOf db scripts _ = ⊥
+-- what the run of scripts over a database by so many workers prints, in a store with so much room; or its fault, or why it came to no end
+abbrev pub IsRunOf : List ℕ → List (List ℕ) → ℕ → ℕ → Answer → Type 0
+IsRunOf db scripts workers room (Text out) = (history : List ℕ) × IsRun db scripts workers room out.items history
+IsRunOf db scripts workers room (Failed fault) = fault ≢ NoMemoryOfJob → IsRunFault db scripts room fault ⊎ IsRunLack fault
+IsRunOf db scripts workers room _ = ⊥
 
--- the run of the scripts that were kept, none of which is kept any more
-abbrev pub AnswersRun : Runs → Runs → Answer → Type 0
-AnswersRun old new answer =
-    IsRunOf old.library.items (map (λ s. s.items) old.scripts.items) answer × (new.library ≡ old.library) × (new.scripts.items ≡ [])
+-- the lines of the library after a run of the scripts; that the replay of its history gave another, which is so only where it is longer than a
+-- text may be; or the fault of the run, or why it came to no end
+abbrev pub IsSharedOf : List ℕ → List (List ℕ) → ℕ → ℕ → Answer → Type 0
+IsSharedOf db scripts workers room (Text lines) =
+    (out history : List ℕ) × (run : IsRun db scripts workers room out history) × (lines.items ≡ library_lines run.printed.library)
+IsSharedOf db scripts workers room Differs = (out history : List ℕ) × IsRun db scripts workers room out history × (16777216 < length history)
+IsSharedOf db scripts workers room (Failed fault) = fault ≢ NoMemoryOfJob → IsRunFault db scripts room fault ⊎ IsRunLack fault
+IsSharedOf db scripts workers room _ = ⊥
 
 -- what the replay of a history over a database prints, or its fault
 abbrev pub IsReplayOf : List ℕ → List ℕ → Answer → Type 0

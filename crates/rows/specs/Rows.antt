@@ -3,7 +3,8 @@ use Rattle.std.specs.Prelude.{◌≡◌, ℕ, Bool, true, false, nat_eq, List, [
 use Rattle.std.specs.List.{starts_with}
 use Rattle.std.specs.Str.{bytes_eq}
 use Rattle.rows.specs.declared.row.Command.{Command}
-use Rattle.rows.specs.declared.row.Command.TheVariants.{Prelude, Database, Rewrite, Assertion, Check, Library, Script, Run, Replay}
+use Rattle.rows.specs.declared.row.Command.TheVariants.{Prelude, Database, Rewrite, Assertion, Check, Library, Script, Run}
+use Rattle.rows.specs.declared.row.Command.TheVariants.{Shared, Workers, Room, Replay}
 
 -- a line that begins a row
 abbrev pub is_header : List ℕ → Bool
@@ -29,4 +30,7 @@ command_named line =
     if bytes_eq line (codes "== library") then Some Library else (
     if bytes_eq line (codes "== script") then Some Script else (
     if bytes_eq line (codes "== run") then Some Run else (
-    if bytes_eq line (codes "== replay") then Some Replay else None))))))))
+    if bytes_eq line (codes "== shared") then Some Shared else (
+    if bytes_eq line (codes "== workers") then Some Workers else (
+    if bytes_eq line (codes "== room") then Some Room else (
+    if bytes_eq line (codes "== replay") then Some Replay else None)))))))))))

@@ -1,6 +1,7 @@
 //! What each command answers of a text.
 
 ghost use Rattle.std.specs.Prelude.{◌≡◌, IfOk};
+ghost use Rattle.rows.specs.Runs.{HasLimits};
 ghost use Rattle.rows.specs.Answers.{IsReading, IsRewriting, IsUnitRewriting, IsVerdict, IsCheck, Keeps};
 
 use crate::beside::end_alike;
@@ -14,6 +15,7 @@ use mmstatement::{
 use proofcheck::{ProofFault, check_all};
 use std::alloc::{AllocError, Global};
 use std::hash::RandomState;
+use std::sync::Wait;
 use std::thread::Threads;
 
 /// What is said of a row.
@@ -38,6 +40,8 @@ pub enum Answer {
     /// The fault of a run.
     Failed(Fault),
     /// A run ends otherwise over cells than in the editor.
+    DiffersOverCells,
+    /// The replay of a run's history gives another library than the run.
     Differs,
     /// An assertion without a prelude before it.
     NoPrelude,
@@ -145,19 +149,23 @@ fn keep_prelude(
     }
 }
 
-/// What is said of a row. Only a row of a prelude changes `prelude`, and one of a library, of a script or of a run `runs`.
+/// What is said of a row. Only a row of a prelude changes `prelude`, and one of a library, of a script, of workers, of a room or of a run `runs`.
+/// It may wait.
 ///
 /// # Errors
 ///
 /// Want of memory.
 pub fn answer_row(
-    rt: &(impl Threads + Sync),
+    rt: &(impl Threads + Wait + Sync),
     alloc: Global,
     keys: RandomState,
     prelude: &mut Option<Database>,
     runs: &mut Runs,
     row: &Row<'_>,
-) -> Result<Answer, AllocError> {
+) -> Result<Answer, AllocError>
+    requires { HasLimits runs.old }
+    ensures { HasLimits runs.new }
+{
     let Some(command) = command_of(row.header) else {
         return Ok(Answer::NoCommand);
     };
@@ -173,8 +181,11 @@ pub fn answer_row(
         Command::Check => check(rt, alloc, keys, text.as_slice()),
         Command::Library => Ok(runs.keep_library(text)),
         Command::Script => runs.keep_script(text),
-        Command::Run if !end_alike(rt, alloc, keys, runs)? => Ok(Answer::Differs),
+        Command::Run if !end_alike(rt, alloc, keys, runs)? => Ok(Answer::DiffersOverCells),
         Command::Run => runs.run(rt, alloc, keys),
+        Command::Shared => runs.share(rt, alloc, keys),
+        Command::Workers => Ok(runs.keep_workers(text.as_slice())),
+        Command::Room => Ok(runs.keep_room(text.as_slice())),
         Command::Replay => runs.replay(rt, alloc, keys, text),
     }
 }

@@ -16,8 +16,8 @@ const SLOTS: usize = 4096;
 /// The most words that a store has room for.
 const ROOM: usize = 16_777_216;
 
-/// Whether the transactions of the next run end alike in the editor and over cells, and the two show the same then. Where the run is not begun,
-/// since a text of it has a fault, nothing differs.
+/// Whether the transactions of the next run end alike in the editor and over cells, and the two show the same then: one script after another, in
+/// a store with the most room, whatever workers and room the run has. Where the run is not begun, since a text of it has a fault, nothing differs.
 ///
 /// # Errors
 ///

@@ -7,6 +7,8 @@
 
 mod answer;
 mod beside;
+mod lines;
+mod numbers;
 mod print;
 mod row;
 mod runs;
@@ -20,6 +22,7 @@ use std::alloc::{AllocError, Global};
 use std::hash::RandomState;
 use std::io;
 use std::io::{BufRead, BufReader, Write};
+use std::sync::Wait;
 use std::thread::Threads;
 
 /// The lines of the standard input, without their line feeds.
@@ -31,9 +34,9 @@ fn read_lines(rt: &impl Input, alloc: Global) -> io::Result<Vec<Vec<u8>>> {
     Ok(lines)
 }
 
-/// What the rows of a table are answered, each behind its number from 1.
+/// What the rows of a table are answered, each behind its number from 1. It may wait.
 fn answer_table(
-    rt: &(impl Threads + Sync),
+    rt: &(impl Threads + Wait + Sync),
     alloc: Global,
     keys: RandomState,
     lines: &[Vec<u8>],

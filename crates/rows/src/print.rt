@@ -45,7 +45,8 @@ pub fn put_answer(out: &mut Vec<u8>, number: usize, answer: &Answer) -> Result<(
             writeln!(out, "{number} proof of {label}: {fault}")
         }
         Answer::Failed(fault) => writeln!(out, "{number} fault {fault}"),
-        Answer::Differs => writeln!(out, "{number} differs over cells"),
+        Answer::DiffersOverCells => writeln!(out, "{number} differs over cells"),
+        Answer::Differs => writeln!(out, "{number} differs"),
         Answer::NoPrelude => writeln!(out, "{number} no prelude"),
         Answer::NoCommand => writeln!(out, "{number} no command"),
     };

@@ -25,6 +25,12 @@ pub enum Command {
     Script,
     /// What the scripts since the last run print over the last library.
     Run,
+    /// The same scripts, whose order is free: the library after them, where the replay of the run's history gives it too.
+    Shared,
+    /// The text is the number of workers of the next run.
+    Workers,
+    /// The text is the number of words that the store of the next run has room for.
+    Room,
     /// What the replay of the text, a history, prints over the last library.
     Replay,
 }
@@ -104,6 +110,15 @@ pub fn command_of(header: &[u8]) -> Option<Command>
     }
     if header == b"== run".as_slice() {
         return Some(Command::Run);
+    }
+    if header == b"== shared".as_slice() {
+        return Some(Command::Shared);
+    }
+    if header == b"== workers".as_slice() {
+        return Some(Command::Workers);
+    }
+    if header == b"== room".as_slice() {
+        return Some(Command::Room);
     }
     if header == b"== replay".as_slice() {
         return Some(Command::Replay);
