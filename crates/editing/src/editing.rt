@@ -52,8 +52,7 @@ pub fn edit_all<R: Threads + Wait + Sync, G: Gate + Sync>(
     ensures done { IfOk result (λ e. IsEdited library scripts.now (lists_of e.outcomes.items) e.history e.library) }
     ensures lack { IfErr result IsLack }
 {
-    let Worked { outcomes, sessions } =
-        run_scripts(rt, alloc, &library, sessions, scripts, gate)?;
+    let Worked { outcomes, sessions } = run_scripts(rt, alloc, &library, sessions, scripts, gate)?;
     let (history, library) = finish(alloc, library, sessions)?;
     Ok(Edited {
         outcomes,

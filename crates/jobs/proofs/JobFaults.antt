@@ -13,7 +13,7 @@ use Rattle.proofcheck.specs.declared.fault.ProofFaultKind.TheVariants.{NoMemory 
 use Rattle.proofcheck.specs.Databases.{IsFirstFault as IsFirstFaultOfProofs}
 use Rattle.jobs.specs.declared.job.Fault.{Fault}
 use Rattle.jobs.specs.declared.job.Fault.TheVariants.{Text, Proof, NoMemory}
-use Rattle.jobs.specs.Jobs.{Bytes, IsDatabase, IsChecked, IsLabelAt, IsProofFault, IsDatabaseFault, IsOrLacksMemory}
+use Rattle.jobs.specs.Jobs.{Bytes, IsDatabase, IsLabelAt, IsProofFault, IsDatabaseFault, IsOrLacksMemory}
 use Rattle.jobs.specs.Parts.{IsTextFaultOf, IsProofFaultOf}
 
 -- ---- proofs

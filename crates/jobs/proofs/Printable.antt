@@ -1,5 +1,5 @@
 -- The outcomes of a run can be printed: their replies fit, and none is a conflict.
-use Rattle.std.proofs.Common.{◌≡◌, ℕ, List, [], ◌∷◌, map}
+use Rattle.std.proofs.Common.{ℕ, List, [], ◌∷◌, map}
 use Rattle.std.specs.Prelude.{All}
 use Rattle.std.specs.List.{AllZip}
 use Rattle.std.proofs.lemmas.List.Elements.{All-nil, All-cons, All-head, All-tail}

@@ -1,5 +1,5 @@
 -- The faults of a run: that of its database, that of a script, and bodies that its room has no place for; and which is answered.
-use Rattle.std.proofs.Common.{◌≡◌, ◌≢◌, ◌∙◌, ◌+◌, ◌<◌, ◌≤◌, ◌⊎◌, inl, inr, ℕ, zero, suc, List, Result, Ok, Err, subst, sym, ap, refl, arith}
+use Rattle.std.proofs.Common.{◌≡◌, ◌≢◌, ◌∙◌, ◌+◌, ◌<◌, ◌⊎◌, inl, inr, ℕ, zero, suc, List, Result, Ok, Err, subst, sym, ap, refl, arith}
 use Rattle.std.specs.Prelude.{IfOk, IfErr}
 use Rattle.mmtext.specs.declared.fault.TextFault.{TextFault}
 use Rattle.mmsyntax.specs.Tables.{Tables, Contents}

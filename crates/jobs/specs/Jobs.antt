@@ -8,7 +8,6 @@ use Rattle.mmtext.specs.declared.fault.FaultKind.TheVariants.{NoMemory as OutOfM
 use Rattle.mmsyntax.specs.Tables.{Tables, Contents}
 use Rattle.mmsyntax.specs.Grammar.{Spells}
 use Rattle.mmsyntax.specs.Faults.{FaultyDatabase}
-use Rattle.proofcheck.specs.declared.fault.ProofFault.{ProofFault}
 use Rattle.proofcheck.specs.declared.fault.ProofFaultKind.TheVariants.{NoMemory as NoMemoryOfProof}
 use Rattle.proofcheck.specs.Databases.{AllCheck, IsFirstFault as IsFirstFaultOfProofs}
 use Rattle.library.specs.declared.command.Command.{Command}

@@ -11,7 +11,9 @@ use std::alloc::{AllocError, AllocFailed};
 #[derive(Debug, Drop)]
 pub enum Job {
     /// Checks the proofs of a database.
-    Check { db: Vec<u8> },
+    Check {
+        db: Vec<u8>,
+    },
     /// Runs the scripts over the library of a database, with so many workers, 1 to 64, each of which claims the next script. The store of the
     /// library has room for so many words, at most 16,777,216.
     Run {
@@ -21,7 +23,10 @@ pub enum Job {
         room: usize,
     },
     /// Does the transactions of a history again, over the library of a database, and compares their replies.
-    Replay { db: Vec<u8>, history: Vec<u8> },
+    Replay {
+        db: Vec<u8>,
+        history: Vec<u8>,
+    },
 }
 
 /// What a job prints.

@@ -54,7 +54,7 @@ put_last front lines out e = (ends_is Decides-eqb out lines (ends_with eqb out l
 -- the replay of the history of a run over the same database, which answers the library of that run
 module _ (db library history again : List ℕ) (same : db ≡ library)
     (own : (texts : List (List ℕ)) (workers room : ℕ) (out : List ℕ) (run : IsRun db texts workers room out history) → length history ≤ 16777216
-      → again ≡ replayed_lines (length run.printed.entries) run.printed.library)
+    → again ≡ replayed_lines (length run.printed.entries) run.printed.library)
     (texts : List (List ℕ)) (workers room : ℕ) (out : List ℕ) (run : IsRun library texts workers room out history) (short : length history ≤ 16777216) where
   answered : again ≡ replayed_lines (length run.printed.entries) run.printed.library
   answered =

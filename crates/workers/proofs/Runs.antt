@@ -127,9 +127,11 @@ pub runs_agree : (g : Given) (scripts : List (List (List Command))) (old new : M
     → (script : List (List Command)) × (slice_get scripts row.script ≡ Some script) × IsRunBy g old new script row.outcomes.items
 runs_agree g scripts old new rows runs same row has =
     let own = row_script scripts old new rows runs row has in
-    let agrees : IsRunBy g old new own.0 row.outcomes.items =
-    (same, λ h agree. run_agrees new g h agree scripts (length old.known.seen.history) old new rows runs (goes_nowhere new) (omega arith) row
-    has own.0 own.1) in
+    let agrees : IsRunBy g old new own.0 row.outcomes.items = (
+      same,
+      λ h agree. run_agrees new g h agree scripts (length old.known.seen.history) old new rows runs (goes_nowhere new) (omega arith) row
+          has own.0 own.1,
+    ) in
     (own.0, own.1, agrees)
 
 pub runs_numbers : (scripts : List (List (List Command))) (old new : Member) (rows : List Row) → RunsAll scripts old new rows → Stands new
