@@ -57,7 +57,7 @@ fn run_line<'a>(alloc: Global) -> Result<Command<'a>, AllocError> {
         .help("Writes the history of the run to this file")
         .action(ArgAction::Set);
     let scripts = Arg::new(alloc, "SCRIPT")
-        .help("Edit scripts, run one after another")
+        .help("Edit scripts: each worker runs one after another")
         .required(true)
         .num_args(1..)
         .action(ArgAction::Append);

@@ -1,4 +1,4 @@
-use Rattle.std.proofs.Common.{◌≡◌, ◌∙◌, sym, arith}
+use Rattle.std.proofs.Common.{◌∙◌, sym, arith}
 use Rattle.scripts.proofs.Numerals.{numeral_digits}
 use Rattle.rows.proofs.Digits.{read_digits, digits_read, no_digits}
 use Rattle.rows.proofs.numbers.number_of.Goals as goal

@@ -1,4 +1,4 @@
-use Rattle.std.proofs.Common.{◌≡◌, ◌∙◌, sym, subst, arith}
+use Rattle.std.proofs.Common.{◌∙◌, sym, subst, arith}
 use Rattle.jobs.specs.Jobs.{IsRun}
 use Rattle.rows.proofs.Replayed.{library_again, ends_again}
 use Rattle.rows.proofs.runs.Runs.library_after.Goals as goal

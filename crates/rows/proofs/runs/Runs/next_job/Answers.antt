@@ -1,4 +1,4 @@
-use Rattle.std.proofs.Common.{◌≡◌, ◌∙◌}
+use Rattle.std.proofs.Common.{◌∙◌}
 use Rattle.rows.proofs.runs.Runs.next_job.Goals as goal
 
 pub returns-clause-job : goal.returns-clause-job
