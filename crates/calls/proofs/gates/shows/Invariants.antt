@@ -3,5 +3,5 @@ use Rattle.std.proofs.Common.{All}
 use Rattle.library.specs.Fitting.{CommandFits}
 use Rattle.calls.proofs.gates.shows.Given as goal
 
-abbrev pub invariant-loop-_ : goal.invariant-loop-_
-invariant-loop-_ l = All (All (All (CommandFits l.prelude))) l.scripts.items
+abbrev pub invariant-loop : goal.invariant-loop
+invariant-loop l = All (All (All (CommandFits l.prelude))) l.scripts.items
