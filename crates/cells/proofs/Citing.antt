@@ -15,7 +15,7 @@ use Rattle.ranges.specs.Ranges.{Has}
 use Rattle.bodystore.specs.declared.stored.StoredStep.{StoredStep}
 use Rattle.bodystore.specs.declared.stored.StoredStep.TheVariants.{Float, Hyp, Slot}
 use Rattle.cells.specs.Filling.{AreCitedSlots}
-use Rattle.cells.proofs.Members.{has_permutation, has_from_contains, contains_from_has, none_absent}
+use Rattle.ranges.proofs.Members.{has_permutation, has_from_contains, contains_from_has, none_absent}
 
 abbrev pub cited_slot : StoredStep → Option ℕ
 cited_slot (Float i) = None

@@ -14,7 +14,7 @@ use Rattle.cells.specs.State.{State, most_words}
 use Rattle.cells.specs.Slots.{citers_cell}
 use Rattle.cells.specs.Shows.{Held, IsEmpty, AreStoredAs, Shows}
 use Rattle.cells.specs.Filling.{AreCitedSlots, CountsIn, CountsOut}
-use Rattle.cells.proofs.Members.{cases_has}
+use Rattle.ranges.proofs.Members.{cases_has}
 use Rattle.cells.proofs.Bodies.{no_body}
 use Rattle.cells.proofs.Holding.{stored_named, stored_cites, cites_stored}
 

@@ -26,7 +26,7 @@ use Rattle.cells.proofs.Bodies.{one_body}
 use Rattle.cells.proofs.Counted.{listed_within, listed_full, counted_out, uncounted_out}
 use Rattle.cells.proofs.Found.{held_holds, found_held, found_label, found_has, slot_or_label}
 use Rattle.cells.proofs.Holding.{body_same, empty_same, empty_free, held_in}
-use Rattle.cells.proofs.Members.{any_has, all_from_has, contains_from_has, has_mapped, filtered_has}
+use Rattle.ranges.proofs.Members.{any_has, all_from_has, contains_from_has, has_mapped, filtered_has}
 use Rattle.cells.proofs.Ones.{filter_mapped}
 use Rattle.cells.proofs.Recounting.{citers-without}
 use Rattle.cells.proofs.Showing.{chains_stay}

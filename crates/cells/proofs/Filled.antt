@@ -24,9 +24,18 @@ use Rattle.cells.specs.Slots.{name_cell, statement_cell, proof_cell, rank_cell, 
 use Rattle.cells.specs.Shows.{Held, slots_of, IsNamed, AreStoredAs, HoldsProof, Holds, IsEmpty, AreChained, Shows, ShowsHeld}
 use Rattle.cells.specs.Chains.{Rechains}
 use Rattle.cells.specs.Filling.{AreCitedSlots, CountsIn, MayFill, IsFillable, LaysProof, LaysDown}
-use Rattle.cells.proofs.Members.{all_has, all_from_has, has_append_left, has_append_right, distinct_push}
+use Rattle.ranges.proofs.Members.{all_has, all_from_has, has_append_left, has_append_right, has_append_cases, absent, none_absent}
 use Rattle.cells.proofs.Linking.{seat, chains_alike, chains_kept}
 use Rattle.cells.proofs.Holding.{body_same, stored_same, holds_same, empty_same, named_held, held_name, full_slot, empty_free, stored_named, stored_cites, cites_stored, uncited, no_citers}
+
+-- one more behind numbers that differ
+distinct_push : (xs : List ℕ) (x : ℕ) → Distinct nat_eq xs → (Has x xs → ⊥) → Distinct nat_eq (xs ++ x ∷ [])
+distinct_push [] x d free = (refl, tt)
+distinct_push (y ∷ ys) x d free = (
+  none_absent (ys ++ x ∷ []) y (λ h. ⊎_elim (absent ys y d.0) (λ last. ⊎_elim (λ e. free (inl (sym e))) (λ z. z) last)
+      (has_append_cases ys (x ∷ []) y h)),
+  distinct_push ys x d.1 (λ h. free (inr h)),
+)
 
 -- the citers of a label, with one assertion more
 pub citers_added : (lib : List Ranked) (e : Ranked) (label : List ℕ)

@@ -16,7 +16,7 @@ use Rattle.cells.specs.State.{State, most_words}
 use Rattle.cells.specs.Slots.{citers_cell}
 use Rattle.cells.specs.Shows.{Held, IsNamed, Holds, Shows}
 use Rattle.cells.specs.Lookups.{IsFoundAt}
-use Rattle.cells.proofs.Members.{contains_from_has, all_has, has_from_contains, mapped_has}
+use Rattle.ranges.proofs.Members.{contains_from_has, all_has, has_from_contains, mapped_has}
 use Rattle.cells.proofs.Holders.{found_at}
 use Rattle.cells.proofs.Linking.{one_held}
 use Rattle.cells.proofs.Holding.{named_held, held_in, one_label}

@@ -23,7 +23,7 @@ use Rattle.std.proofs.lemmas.Bool.Decides.{Decides-eqb}
 use mathlib.Core.Bool.{not}
 use Rattle.cells.proofs.Bodies.{one_body, no_body}
 use Rattle.cells.proofs.Linking.{chain_few}
-use Rattle.cells.proofs.Members.{has_from_contains, contains_from_has, mapped_has, all_below}
+use Rattle.ranges.proofs.Members.{has_from_contains, contains_from_has, mapped_has, all_below}
 
 module _ (slots : ℕ) (st : State) (lib : List Ranked) (shows : Shows slots st lib) where
   abbrev pub IsHeldAt : ℕ → Held → Type 0

@@ -24,7 +24,7 @@ use Rattle.cells.specs.Slots.{name_cell, statement_cell, proof_cell, rank_cell, 
 use Rattle.cells.specs.Shows.{Held, slots_of, entries_of, IsNamed, AreStoredAs, IsStoredAs, HoldsProof, Holds, IsEmpty, Shows}
 pub use Rattle.cells.proofs.Bodies.{body_same}
 use Rattle.cells.proofs.Storing.{stored_relabelled, proof_relabelled, relabelled_none}
-use Rattle.cells.proofs.Members.{all_has, any_has, has_mapped, mapped_has, all_from_has, has_from_contains, contains_from_has}
+use Rattle.ranges.proofs.Members.{all_has, any_has, has_mapped, mapped_has, all_from_has, has_from_contains, contains_from_has}
 use Rattle.cells.proofs.Holders.{holder, listed}
 use Rattle.cells.proofs.Bodies.{one_body, no_body}
 

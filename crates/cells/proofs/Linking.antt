@@ -14,7 +14,7 @@ use Rattle.cells.specs.State.{State}
 use Rattle.cells.specs.Slots.{bucket_cell, next_cell, bucket}
 use Rattle.cells.specs.Shows.{Held, slots_of, of_bucket, IsChain, IsChained, AreChained}
 use Rattle.cells.specs.Chains.{Rechains}
-use Rattle.cells.proofs.Members.{has_mapped, mapped_has, has_filtered, filtered_has, has_permutation, absent}
+use Rattle.ranges.proofs.Members.{has_mapped, mapped_has, has_filtered, filtered_has, has_permutation, absent}
 use Rattle.cells.proofs.Tallies.{filtered_permutation}
 
 -- a label's bucket is one of the buckets

@@ -11,7 +11,7 @@ use Rattle.ranges.specs.Ranges.{Range, Has, Names, IsStored, word_of, range_name
 use Rattle.cells.specs.State.{State, HasBody, most_words}
 use Rattle.cells.specs.Slots.{name_cell, statement_cell, proof_cell, is_ranged}
 use Rattle.cells.specs.Shows.{Held, slots_of, HoldsProof, Holds, IsEmpty, Shows}
-use Rattle.cells.proofs.Members.{all_has, mapped_has}
+use Rattle.ranges.proofs.Members.{all_has, mapped_has}
 use Rattle.cells.proofs.Stores.{has_some}
 
 -- ---- the words of a range that is stored

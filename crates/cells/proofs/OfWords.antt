@@ -14,7 +14,7 @@ use Rattle.cells.specs.Slots.{is_ranged}
 use Rattle.cells.specs.Shows.{Shows}
 use Rattle.cells.specs.Plain.{IsPlaceOf, AreNamedBy, LieInStore, HoldNames, range_in, ranges_in, plain_state}
 use Rattle.cells.specs.PlainViews.{named_state}
-use Rattle.cells.proofs.Members.{has_from_contains, has_mapped, has_append_left, has_append_right, has_append_cases}
+use Rattle.ranges.proofs.Members.{has_from_contains, has_mapped, has_append_left, has_append_right, has_append_cases}
 use Rattle.cells.proofs.Naming.{shown_names, stored_lies}
 use Rattle.cells.proofs.Stores.{true_names}
 use Rattle.cells.proofs.Widened.{shows_widened}

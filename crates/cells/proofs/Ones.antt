@@ -15,7 +15,7 @@ use Rattle.library.specs.Edits.{is_labelled, without}
 use Rattle.ranges.specs.Ranges.{Has}
 use Rattle.cells.specs.Shows.{Held, slots_of}
 use Rattle.cells.specs.Chains.{without_slot}
-use Rattle.cells.proofs.Members.{any_has, has_mapped}
+use Rattle.ranges.proofs.Members.{any_has, has_mapped}
 
 -- ---- maps and filters of what stands in a list
 

@@ -21,7 +21,7 @@ use Rattle.library.proofs.Labels.{distinct_replaced}
 use Rattle.library.proofs.Places.{is_labelled-own}
 use Rattle.library.proofs.Renaming.{renamed_entry}
 use Rattle.ranges.specs.Ranges.{Has}
-use Rattle.cells.proofs.Members.{filtered_has}
+use Rattle.ranges.proofs.Members.{filtered_has}
 use Rattle.cells.proofs.Ones.{map_same, label_and_others}
 use Rattle.cells.proofs.Tallies.{sum_by-map}
 

@@ -28,7 +28,7 @@ use Rattle.cells.proofs.Bodies.{one_body}
 use Rattle.cells.proofs.Found.{held_holds, found_held, found_label, found_only, other_label}
 use Rattle.cells.proofs.Holding.{body_same, empty_same, empty_free, full_slot, held_in, named_held, no_citers}
 use Rattle.cells.proofs.Linking.{seat, chains_alike}
-use Rattle.cells.proofs.Members.{contains_from_has, filtered_has}
+use Rattle.ranges.proofs.Members.{contains_from_has, filtered_has}
 use Rattle.cells.proofs.Ones.{map_agree, slot_and_others}
 use Rattle.cells.proofs.Recounting.{citers-renamed}
 use Rattle.cells.proofs.Showing.{chains_stay, with_entry, shows_mapped}

@@ -17,7 +17,7 @@ use Rattle.cells.specs.Shows.{IsNamed, IsStoredAs, AreStoredAs}
 use Rattle.cells.specs.Sight.{Sight, Looks, after}
 use Rattle.ranges.specs.Ranges.{Has}
 use Rattle.cells.specs.Lookups.{ForEach, Finds, AreWithin, StoresStep, Resolves}
-use Rattle.cells.proofs.Members.{has_append_cases}
+use Rattle.ranges.proofs.Members.{has_append_cases}
 use Rattle.cells.proofs.Sights.{for_each_later}
 
 -- ---- one step

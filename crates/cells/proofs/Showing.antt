@@ -15,7 +15,7 @@ use Rattle.cells.specs.State.{State, most_words}
 use Rattle.cells.specs.Slots.{bucket_cell, next_cell}
 use Rattle.cells.specs.Shows.{Held, slots_of, entries_of, Holds, IsEmpty, AreChained, Shows}
 use Rattle.cells.specs.Lookups.{IsFoundAt}
-use Rattle.cells.proofs.Members.{all_from_has, mapped_has}
+use Rattle.ranges.proofs.Members.{all_from_has, mapped_has}
 use Rattle.cells.proofs.Linking.{seat, chains_alike, chains_kept}
 use Rattle.cells.proofs.Found.{found_label, found_here, other_label}
 

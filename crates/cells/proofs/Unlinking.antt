@@ -12,7 +12,7 @@ use Rattle.cells.specs.State.{State}
 use Rattle.cells.specs.Slots.{bucket_cell, next_cell, bucket}
 use Rattle.cells.specs.Shows.{Held, slots_of, of_bucket, IsChain, IsChained, AreChained}
 use Rattle.cells.specs.Chains.{Rechains, without_slot}
-use Rattle.cells.proofs.Members.{has_mapped, mapped_has, has_filtered, filtered_has, has_permutation, absent}
+use Rattle.ranges.proofs.Members.{has_mapped, mapped_has, has_filtered, filtered_has, has_permutation, absent}
 use Rattle.cells.proofs.Tallies.{filter_permutation, filter_all, distinct_permutation, distinct_filtered}
 use Rattle.cells.proofs.Linking.{bucket_has, one_bucket, chain_kept, chain_within}
 

@@ -12,7 +12,7 @@ use Rattle.cells.specs.Slots.{bucket_cell, next_cell, bucket}
 use Rattle.cells.specs.Shows.{Held, slots_of, of_bucket, IsChain, AreChained}
 use Rattle.cells.specs.Sight.{Sight, Writes, after}
 use Rattle.cells.specs.Chains.{Rechains, without_slot}
-use Rattle.cells.proofs.Members.{has_permutation}
+use Rattle.ranges.proofs.Members.{has_permutation}
 use Rattle.cells.proofs.Linking.{PutsFront, put_front, chain_few}
 use Rattle.cells.proofs.Unlinking.{leading, leading_is, TakesOut, unlink}
 use Rattle.cells.proofs.Values.{value_there, value_elsewhere}

@@ -26,7 +26,7 @@ use Rattle.cells.specs.Shows.{Held, slots_of, IsEmpty, AreStoredAs, Shows}
 use Rattle.cells.specs.Sight.{Sight, WasWritten, Matches, Views, Looks, Onward, after}
 use Rattle.cells.specs.Lookups.{ForEach, FindsFree, IsFirstEmpty}
 use Rattle.cells.specs.Filling.{MayFill, Fills}
-use Rattle.cells.proofs.Members.{mapped_has, cases_has, none_absent}
+use Rattle.ranges.proofs.Members.{mapped_has, cases_has, none_absent}
 use Rattle.cells.proofs.Holding.{held_name, empty_free}
 use Rattle.cells.proofs.Found.{length_held}
 use Rattle.cells.proofs.Sights.{views_back, matches_back, looks_trans}

@@ -19,7 +19,7 @@ use Rattle.cells.specs.Sight.{Sight, Looks, after}
 use Rattle.cells.specs.Lookups.{ForEach, ForEachHeld, IfFull}
 use Rattle.cells.proofs.Sights.{looks_trans, for_each_later}
 use Rattle.cells.proofs.Settings.{same_slots}
-use Rattle.cells.proofs.Members.{has_mapped, absent}
+use Rattle.ranges.proofs.Members.{has_mapped, absent}
 use Rattle.cells.proofs.Holding.{empty_free}
 use Rattle.commands.proofs.Holders.{held_here}
 

@@ -36,7 +36,7 @@ use Rattle.cells.specs.Sight.{Sight, Matches, Looks, after}
 use Rattle.cells.specs.Lookups.{ForEach, ForEachHeld}
 use Rattle.cells.proofs.Found.{held_holds, entry_slot}
 use Rattle.cells.proofs.Holders.{held_or_empty, holds_it, listed}
-use Rattle.cells.proofs.Members.{has_from_contains, contains_from_has, all_from_has, any_has}
+use Rattle.ranges.proofs.Members.{has_from_contains, contains_from_has, all_from_has, any_has}
 use Rattle.cells.proofs.Sights.{for_each_later}
 use Rattle.cells.proofs.Holding.{stored_cites, cites_stored}
 use Rattle.commands.specs.Citing.{TellsCites, TellsCitedUpTo}

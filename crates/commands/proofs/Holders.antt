@@ -9,7 +9,7 @@ use Rattle.library.proofs.Places.{is_labelled-own, found_own, found_one}
 use Rattle.ranges.specs.Ranges.{Has, AreOfOneStore}
 use Rattle.cells.specs.State.{State, most_words}
 use Rattle.cells.specs.Shows.{Held, Holds, Shows}
-use Rattle.cells.proofs.Members.{contains_from_has}
+use Rattle.ranges.proofs.Members.{contains_from_has}
 use Rattle.cells.proofs.Holding.{named_held, held_in}
 
 module _ (slots : ℕ) (st : State) (lib : List Ranked) (shows : Shows slots st lib) (store : AreOfOneStore most_words st.ranges)

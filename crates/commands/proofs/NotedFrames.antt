@@ -23,7 +23,7 @@ use Rattle.bodystore.specs.declared.stored.StoredStep.TheVariants as stored
 use Rattle.cells.specs.Shows.{IsNamed, IsStoredAs}
 use Rattle.cells.specs.Sight.{Sight, Looks, after}
 use Rattle.cells.specs.Lookups.{ForEachHeld}
-use Rattle.cells.proofs.Members.{has_append_cases}
+use Rattle.ranges.proofs.Members.{has_append_cases}
 use Rattle.cells.proofs.Holders.{found_at}
 use Rattle.cells.proofs.ReadBack.{zip_at}
 use Rattle.commands.specs.Citing.{ForEachStored, NotesFrame, TellsFrames}

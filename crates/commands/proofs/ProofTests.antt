@@ -34,7 +34,7 @@ use Rattle.cells.specs.State.{State, most_words}
 use Rattle.cells.specs.Shows.{IsNamed, IsStoredAs, AreStoredAs, Shows}
 use Rattle.cells.specs.Sight.{Sight, Views, Looks, after}
 use Rattle.cells.specs.Lookups.{ForEach, AreWithin, Resolves}
-use Rattle.cells.proofs.Members.{any_has, has_from_contains}
+use Rattle.ranges.proofs.Members.{any_has, has_from_contains}
 use Rattle.cells.proofs.Sights.{for_each_later, looks_trans}
 use Rattle.cells.proofs.Settings.{same_slots}
 use Rattle.cells.proofs.Holders.{found_at}

@@ -17,7 +17,7 @@ use Rattle.cells.specs.Sight.{Sight, Matches, Onward, Looks, after}
 use Rattle.cells.specs.Lookups.{ForEach, ForEachHeld, Finds}
 use Rattle.cells.specs.Filling.{AreCitedSlots, CountsOut, Empties}
 use Rattle.cells.proofs.Sights.{matches_back, views_back}
-use Rattle.cells.proofs.Members.{all_from_has}
+use Rattle.ranges.proofs.Members.{all_from_has}
 use Rattle.cells.proofs.Counted.{listed_within}
 use Rattle.cells.proofs.Deleting.{still_chained, deleted_shows}
 use Rattle.commands.specs.Answers.{WritesSome, Does}

@@ -14,7 +14,7 @@ use Rattle.cells.specs.Sight.{Sight, Matches, Onward, Looks, after}
 use Rattle.cells.specs.Lookups.{ForEachHeld}
 use Rattle.cells.specs.Filling.{AreCitedSlots, CountsIn}
 use Rattle.cells.proofs.Sights.{matches_back, after_looks}
-use Rattle.cells.proofs.Members.{all_from_has}
+use Rattle.ranges.proofs.Members.{all_from_has}
 use Rattle.cells.proofs.Holding.{stored_named, named_held}
 use Rattle.cells.proofs.Counted.{listed_within}
 use Rattle.cells.proofs.Reproving.{less_few, reproved_shows}

@@ -5,7 +5,7 @@ use Rattle.std.specs.List.{remove}
 use Rattle.std.proofs.lemmas.List.{map-append, nil_from_length}
 use Rattle.std.proofs.lemmas.List.Sorted.{IsPermutation-refl, IsPermutation-cons, IsPermutation-sym, IsPermutation-trans}
 use Rattle.std.proofs.lemmas.List.Sorted.{IsPermutation-remove, IsPermutation-to_front, length_permutation}
-use Rattle.cells.proofs.Members.{contains_from_has, has_permutation}
+use Rattle.ranges.proofs.Members.{contains_from_has, has_permutation}
 use Rattle.claims.specs.Claims.{up_to}
 use Rattle.ranges.specs.Ranges.{Has}
 

@@ -11,7 +11,7 @@ use Rattle.library.specs.Library.{Listed}
 use Rattle.library.specs.Histories.{Entry, Grows, told}
 use Rattle.ranges.specs.Ranges.{Has}
 use Rattle.tlwords.specs.Rule.{total_of}
-use Rattle.cells.proofs.Members.{all_has, has_append_left, has_append_right, has_mapped, mapped_has}
+use Rattle.ranges.proofs.Members.{all_has, has_flat, has_mapped, mapped_has}
 use Rattle.cells.proofs.Tallies.{filter_permutation}
 use Rattle.lawful.specs.History.{history_of}
 use Rattle.lawful.proofs.Entries.{at_index}
@@ -33,11 +33,6 @@ filter_same p q [] alike = refl
 filter_same p q (x ∷ xs) alike =
     ap (λ b. cond b (x ∷ filter p xs) (filter p xs)) (alike x (inl refl))
     ∙ ap (λ ys. cond (q x) (x ∷ ys) ys) (filter_same p q xs (λ y has. alike y (inr has)))
-
-has_flat : {A : Type 0} (f : A → List ℕ) (xs : List A) (x : A) (n : ℕ) → Has x xs → Has n (f x) → Has n (flat_map f xs)
-has_flat f [] x n has own = absurd has
-has_flat f (y ∷ ys) x n (inl same) own = has_append_left (f y) (flat_map f ys) n (subst (λ z. Has n (f z)) same own)
-has_flat f (y ∷ ys) x n (inr has) own = has_append_right (f y) (flat_map f ys) n (has_flat f ys x n has own)
 
 abbrev drawn_by : Member → List ℕ
 drawn_by m = m.known.drawn

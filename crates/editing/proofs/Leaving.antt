@@ -1,5 +1,6 @@
 -- What scripts leave that all sessions of a new library ran to their end; or why they leave nothing.
-use Rattle.std.proofs.Common.{◌≡◌, ◌∙◌, ℕ, List, [], length, map, sym, ap, arith}
+use Rattle.std.proofs.Common.{◌≡◌, ◌∙◌, ℕ, List, [], ◌∷◌, eqb, length, map, refl, sym, ap, subst, arith}
+use Rattle.std.specs.List.{IsDistinct}
 use Rattle.std.specs.Prelude.{All, Err}
 use Rattle.std.proofs.lemmas.List.{length-map}
 use Rattle.std.proofs.lemmas.List.Elements.{All-weaker}
@@ -12,6 +13,9 @@ use Rattle.transaction.specs.declared.outcome.Outcome.{Outcome}
 use Rattle.transaction.specs.Members.{Home, Member, IsOf}
 use Rattle.transaction.specs.Openings.{IsNew}
 use Rattle.transaction.specs.Attempts.{Pass}
+use Rattle.transaction.specs.Closings.{passes_of}
+use Rattle.ranges.specs.Ranges.{Has}
+use Rattle.ranges.proofs.Members.{mapped_has}
 use Rattle.workers.specs.Works.{Works, IsHandedBack, IsShare}
 use Rattle.finishing.specs.declared.error.FinishError.{FinishError}
 use Rattle.finishing.specs.declared.error.FinishError.TheVariants.{Missing, Held, NoMemory}
@@ -19,6 +23,14 @@ use Rattle.finishing.specs.Finishes.{IsFinished, Finishes}
 use Rattle.editing.specs.Edits.{IsEdited, IsLack, from_finish}
 use Rattle.editing.proofs.DoneNumbers.{done_are}
 use Rattle.editing.proofs.Told.{scripts_told, shares_from_first, still_of}
+
+-- sessions that are handed back have the names that they had
+names_kept : (before after : List Member) → AllZip IsHandedBack before after
+    → map (λ (v : Pass). v.name) (passes_of after) ≡ map (λ (m : Member). m.known.name) before
+names_kept [] [] back = refl
+names_kept [] (n ∷ ns) back = absurd back
+names_kept (m ∷ ms) [] back = absurd back
+names_kept (m ∷ ms) (n ∷ ns) back = λ i. back.0.0.name i ∷ names_kept ms ns back.1 i
 
 module _ (home : Home) (before : List Member) (new : All (IsNew home) before) where
   pub new_own : All (IsOf home) before
@@ -54,10 +66,19 @@ module _ (home : Home) (before : List Member) (new : All (IsNew home) before) wh
       after = finished.after;
     }
 
-    pub lacks : (error : FinishError) → Finishes home after (Err error) → IsLack (from_finish error)
-    lacks (Missing n) f = f.2.some
+    all : length (passes_of after) ≡ home.sessions
+    all = length-map after (λ (m : Member). m.known) ∙ AllZip-long IsHandedBack before after works.back ∙ many
+
+    pub lacks : (error : FinishError) → Finishes home after (Err error) → IsLack before (from_finish error)
+    lacks (Missing n) f = (
+      f.2.some,
+      λ names.
+          let own = subst (IsDistinct eqb) (sym (names_kept before after works.back)) names in
+          let by = (f.1.still all).every own n f.2.some f.2.within in
+          let m = mapped_has (λ (m : Member). m.known) after by.0 by.1 in
+          f.2.undrawn (m.0, m.1, subst (λ (v : Pass). Has n v.drawn) m.2 by.2),
+    )
     lacks (Held c) f =
-        let all = length-map after (λ (m : Member). m.known) ∙ AllZip-long IsHandedBack before after works.back ∙ many in
         let held = f.3 in
         let free = (f.1.still all).free c held.0 held.1 in
         let odd = held.2 in

@@ -1,6 +1,6 @@
 -- What becomes of scripts that all the sessions of a library run to its end, told by the library's whole history.
-use Rattle.std.specs.Prelude.{◌≡◌, ◌≤◌, ℕ, suc, List, All, IsPermutation, filter, flat_map, length, map}
-use Rattle.std.specs.List.{AllZip}
+use Rattle.std.specs.Prelude.{◌≡◌, ◌≤◌, ℕ, suc, eqb, List, All, IsPermutation, filter, flat_map, length, map}
+use Rattle.std.specs.List.{AllZip, IsDistinct}
 use Rattle.library.specs.declared.command.Command.{Command}
 use Rattle.library.specs.declared.history.Entry.{Entry as CodeEntry}
 use Rattle.library.specs.declared.library.Ranked.{Ranked}
@@ -9,7 +9,7 @@ use Rattle.library.specs.Histories.{Entry, EntriesFit, IsLegal, after_all, told}
 use Rattle.lawful.specs.Lawful.{setting_of, first_library}
 use Rattle.claims.specs.Claims.{up_to}
 use Rattle.transaction.specs.declared.outcome.Outcome.{Outcome}
-use Rattle.transaction.specs.Members.{Home}
+use Rattle.transaction.specs.Members.{Home, Member}
 use Rattle.workers.specs.declared.error.WorkError.{WorkError}
 use Rattle.workers.specs.declared.error.WorkError.TheVariants as work
 use Rattle.workers.specs.Works.{ScriptAgrees, IsShare, is_done, numbers_of}
@@ -45,11 +45,11 @@ pub record IsEdited (home : Home) (scripts : List (List (List Command))) (rows :
   pub setting : library.setting ≡ setting_of home.given
   pub after : ShowsInOrder (after_all (setting_of home.given) (first_library home.given) (map told history)) library.entries
 
--- why there is no history. No lock is held where all workers have ended
-abbrev pub IsLack : EditError → Type 0
-IsLack (Missing n) = 1 ≤ n
-IsLack (Held c) = ⊥
-IsLack _ = Unit {0}
+-- why there is no history. No number is missing where each session has a name of its own, and no lock is held where all workers have ended
+abbrev pub IsLack : List Member → EditError → Type 0
+IsLack sessions (Missing n) = (1 ≤ n) × (IsDistinct eqb (map (λ (m : Member). m.known.name) sessions) → ⊥)
+IsLack sessions (Held c) = ⊥
+IsLack sessions _ = Unit {0}
 
 -- the reason of one who runs the scripts, and of one who ends the library
 abbrev pub from_work : WorkError → EditError

@@ -35,8 +35,8 @@ pub struct Edited {
 ///
 /// # Errors
 ///
-/// `NoThread` where a thread can't be had, and want of memory. The library is gone then. `Missing` and `Held` are told of a history that has
-/// no record of a number, or a lock that nobody gave back.
+/// `NoThread` where a thread can't be had, and want of memory. The library is gone then. `Missing` is never told of sessions that each have a
+/// name of their own, as `Library::open` gives them, and `Held` of none.
 pub fn edit_all<R: Threads + Wait + Sync, G: Gate + Sync>(
     rt: &R,
     alloc: Global,
@@ -50,7 +50,7 @@ pub fn edit_all<R: Threads + Wait + Sync, G: Gate + Sync>(
     requires new { All (IsNew library) sessions.items }
     requires fit { All (All (All (CommandFits (setting_of library.given).prelude))) scripts.now }
     ensures done { IfOk result (λ e. IsEdited library scripts.now (lists_of e.outcomes.items) e.history e.library) }
-    ensures lack { IfErr result IsLack }
+    ensures lack { IfErr result (IsLack sessions.items) }
 {
     let Worked { outcomes, sessions } = run_scripts(rt, alloc, &library, sessions, scripts, gate)?;
     let (history, library) = finish(alloc, library, sessions)?;

@@ -8,7 +8,7 @@ use Rattle.std.proofs.lemmas.Option.{slice_get_within}
 use Rattle.library.specs.declared.history.Entry.{Entry}
 use Rattle.library.specs.Histories.{told}
 use Rattle.ranges.specs.Ranges.{Has}
-use Rattle.cells.proofs.Members.{has_append_left, has_append_right, has_append_cases}
+use Rattle.ranges.proofs.Members.{has_append_left, has_append_right, has_append_cases}
 use Rattle.transaction.specs.declared.outcome.Record.{Record}
 use Rattle.transaction.specs.Members.{entry_recorded}
 use Rattle.transaction.specs.Closings.{lists_of}

@@ -36,6 +36,7 @@ use Rattle.tlwords.proofs.Lifts.{lifted}
 use Rattle.tlwords.proofs.Keeps.{Rule, gone_grows, now, seat_at, moved, sound_of, goes, told_grows}
 use Rattle.tlwords.proofs.Fronts.{named_after, named_locked, held_named}
 use Rattle.tlwords.proofs.ReadSteps.{if_known, lock_back, value_back, no_number, cell_in, half_written, quiet}
+use Rattle.tlwords.proofs.Once.{number_drawn, drawn_below}
 
 if_true : {A : Type 0} (b : Bool) (x y : A) → b ≡ true → (if b then x else y) ≡ x
 if_true b x y e = ap (λ (b : Bool). if b then x else y) e
@@ -228,6 +229,7 @@ module _ {S N : Type 0} (terms : Terms S N) (setting : S) (base : List ℕ) (roo
           owned = λ i has. ⊎_elim (λ (a : Has i v.drawn). own.owned i a)
               (λ (a : i ≡ suc n). (omega (arith, a, len, is, clock), ap (λ (b : Bool). std.cond b v.name (r.owner i)) (eq-eqb i (suc n) a)))
               (has_snoc i (suc n) v.drawn has);
+          once = number_drawn (0 ∷ v.drawn) (suc n) (drawn_below n v.drawn (λ i a. let b = (f.own.owned i a).0 in omega (arith, b, is, clock))) f.own.once;
         };
         room_is = f.room_is;
         told = told_grows setting base g h r.owner owner v.told grow old f.told;

@@ -26,6 +26,8 @@ use Rattle.tlwords.proofs.Keeps.{now, seat_at, legal_of}
 use Rattle.tlwords.proofs.Gathers.{nothing_held, rests_unheld}
 use Rattle.tlwords.proofs.ReadSteps.{half_of, half_written}
 use Rattle.tlwords.proofs.Shelves.{tail_least, total_snoc}
+use Rattle.ranges.proofs.Members.{has_mapped}
+use Rattle.tlwords.proofs.Once.{OwnsWhatItDrew, none_left_out}
 use Rattle.tlwords.proofs.Paired.{word_count, clock_word, lock_word, lock_within, value_word, value_within}
 
 pub index_same : (xs : List ℕ) (i x : ℕ) → get_elem? xs i ≡ some x → slice_index xs i ≡ x
@@ -109,11 +111,6 @@ seat_view f (v ∷ vs) (suc i) x e = seat_view f vs i x e
 total_map : {U V : Type 0} (f : V → ℕ) (g : U → V) (us : List U) → total_of f (map g us) ≡ total_of (λ (u : U). f (g u)) us
 total_map f g [] = refl
 total_map f g (u ∷ us) = ap (λ (n : ℕ). f (g u) + n) (total_map f g us)
-
-has_map : {U V : Type 0} (g : U → V) (u : U) (us : List U) → Has u us → Has (g u) (map g us)
-has_map g u [] has = absurd has
-has_map g u (x ∷ us) (inl e) = inl (ap g e)
-has_map g u (x ∷ us) (inr has) = inr (has_map g u us has)
 
 has_split : {U : Type 0} (u : U) (us : List U) (v : U) → Has u (us ++ v ∷ []) → Has u us ⊎ (u ≡ v)
 has_split u [] v (inl e) = inr e
@@ -340,23 +337,48 @@ module _ {S N : Type 0} (terms : Terms S N) (setting : S) (base : List ℕ) (roo
         absurd (nothing_held b.1 c (ap (λ (t : Seat). t.held) (sym u.2) ∙ all_unheld b.0 u.0 u.1) b.3))
         (half_of x.lock)
 
-    pub still : IsStill opened.store closed (us ++ known_of table last_pass ∷ [])
+    abbrev given : List (Known S N)
+    given = us ++ known_of table last_pass ∷ []
+
+    abbrev Owns : Known S N → Type 0
+    Owns = OwnsWhatItDrew (λ (u : Known S N). u.drawn) (λ u. u.name) k.owner (length w.history)
+
+    owns : (u : Known S N) → Has u given → Owns u
+    owns u has =
+        let f = k.suits id v there in
+        ⊎_elim
+        (λ (p : Has u us).
+        let told = (f.gone (gone_known u) (subst (λ (gs : List (Gone S N)). Has (gone_known u) gs) (sym gone) (has_mapped gone_known us u p))).told in
+        (told.owned, told.once))
+        (λ (p : u ≡ known_of table last_pass). subst Owns (sym p) (f.own.owned, f.own.once))
+        (has_split u us (known_of table last_pass) has)
+
+    drawn_all : total_of (λ (x : Known S N). length x.drawn) given ≡ length w.history
+    drawn_all =
+        let a : total_of numbers_of s.views ≡ length w.history = k.numbers in
+        let b : total_of numbers_of s.views ≡ numbers_of v = only_one numbers_of s.views id v there (λ j u other at.
+        let p = poor j u other at in
+        let c : length u.drawn ≤ 2 ^ 40 * u.rights = (k.suits j u at).few in
+        let z : total_of (λ (g : Gone S N). length g.told.drawn) u.gone ≡ 0 = ap (total_of (λ (g : Gone S N). length g.told.drawn)) p.1 in
+        let q : u.rights ≡ 0 = p.0 in
+        omega (arith, c, z, q)) in
+        let c : total_of (λ (x : Known S N). length x.drawn) given ≡ total_of (λ (x : Known S N). length x.drawn) us + length last_pass.drawn =
+        total_snoc (λ (x : Known S N). length x.drawn) us (known_of table last_pass) in
+        let d : total_of (λ (g : Gone S N). length g.told.drawn) gs ≡ total_of (λ (x : Known S N). length x.drawn) us =
+        ap (total_of (λ (g : Gone S N). length g.told.drawn)) gone ∙ total_map (λ (g : Gone S N). length g.told.drawn) gone_known us in
+        omega (arith, a, b, c, d)
+
+    pub still : IsStill opened.store closed given
     still = record {
       free = free;
       clock =
-          let a : total_of numbers_of s.views ≡ length w.history = k.numbers in
-          let b : total_of numbers_of s.views ≡ numbers_of v = only_one numbers_of s.views id v there (λ j u other at.
-          let p = poor j u other at in
-          let c : length u.drawn ≤ 2 ^ 40 * u.rights = (k.suits j u at).few in
-          let z : total_of (λ (g : Gone S N). length g.told.drawn) u.gone ≡ 0 = ap (total_of (λ (g : Gone S N). length g.told.drawn)) p.1 in
-          let q : u.rights ≡ 0 = p.0 in
-          omega (arith, c, z, q)) in
-          let c : total_of (λ (x : Known S N). length x.drawn) (us ++ known_of table last_pass ∷ []) ≡ total_of (λ (x : Known S N). length x.drawn) us + length last_pass.drawn =
-          total_snoc (λ (x : Known S N). length x.drawn) us (known_of table last_pass) in
-          let d : total_of (λ (g : Gone S N). length g.told.drawn) gs ≡ total_of (λ (x : Known S N). length x.drawn) us =
-          ap (total_of (λ (g : Gone S N). length g.told.drawn)) gone ∙ total_map (λ (g : Gone S N). length g.told.drawn) gone_known us in
+          let a : total_of (λ (x : Known S N). length x.drawn) given ≡ length w.history = drawn_all in
           let e : length w.history ≡ closed.clock = shown.clock_is in
-          omega (arith, a, b, c, d, e);
+          omega (arith, a, e);
+      every = λ names n some within.
+          let e : length w.history ≡ closed.clock = shown.clock_is in
+          none_left_out (λ (u : Known S N). u.drawn) (λ u. u.name) k.owner (length w.history) given owns names drawn_all n some
+          (omega (arith, e, within));
       tail =
           let a : r.tail ≡ length opened.store + total_of moved_of s.views = (r.shelf).tail_is.is in
           let b : total_of moved_of s.views ≡ moved_of v = only_one moved_of s.views id v there (λ j u other at.
@@ -384,7 +406,7 @@ module _ {S N : Type 0} (terms : Terms S N) (setting : S) (base : List ℕ) (roo
       record {
         closes = closes;
         each = λ u has. ⊎_elim
-            (λ (p : Has u us). gone_ends id v u there (subst (λ (gs : List (Gone S N)). Has (gone_known u) gs) (sym gone) (has_map gone_known u us p)))
+            (λ (p : Has u us). gone_ends id v u there (subst (λ (gs : List (Gone S N)). Has (gone_known u) gs) (sym gone) (has_mapped gone_known us u p)))
             (λ (p : u ≡ known_of table x). subst (λ (z : Known S N). EndsIn terms setting base opened.store closed closes z) (sym p) mine)
             (has_split u us (known_of table x) has);
         moved =

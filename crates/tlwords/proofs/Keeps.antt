@@ -20,6 +20,7 @@ use Rattle.tlwords.specs.Rule.{total_of, LookIsFresh, EntriesAre, IsTold, IsGone
 use Rattle.tlwords.specs.Plays.{Mine, Sees}
 use Rattle.tlwords.proofs.Seens.{settled_grows, look_grows, seen_refl, seen_trans, agree_grows, entries_grow}
 use Rattle.tlwords.proofs.Paired.{get_same, get_map, map_set}
+use Rattle.tlwords.proofs.Once.{nothing_drawn}
 
 pub total_set : {V : Type 0} (f : V → ℕ) (vs : List V) (id : ℕ) (v w : V) → get_elem? vs id ≡ some v
     → total_of f (slice_set vs id w) + f v ≡ total_of f vs + f w
@@ -46,11 +47,12 @@ module _ {S N : Type 0} (setting : S) (base : List ℕ) where
             let b : (n ≤ length g.history) × (owner n ≡ t.name) = f.owned n has in
             let m : n ≤ length g.history = b.0 in
             (omega (arith, l, m), same n m ∙ b.1);
+        once = f.once;
       }
 
   pub untold_is : (g : Seen N) (owner : ℕ → ℕ) → IsTold {S = S} setting base g owner untold
   untold_is g owner =
-      record { setting_is = λ x e. absurd (cc); grows = ((omega arith, λ i e p. absurd (cc)), λ i n p. absurd (cc), λ r has. absurd has); owned = λ n has. absurd has }
+      record { setting_is = λ x e. absurd (cc); grows = ((omega arith, λ i e p. absurd (cc)), λ i n p. absurd (cc), λ r has. absurd has); owned = λ n has. absurd has; once = nothing_drawn }
 
 -- how far a pass has moved the tail, its refusal, and the passes that were given up to it
 abbrev pub moves_of : {S N : Type 0} → View S N → Option (ℕ × ℕ) × ℕ × ℕ × List (Gone S N)
@@ -220,7 +222,7 @@ module _ {S N : Type 0} (terms : Terms S N) (setting : S) (base : List ℕ) (roo
         let grow : SeenGrows now later = (keeps.grows, λ i n e. e, λ x has. has) in
         let own : IsTold setting base later r.owner (tells v) = told_grows setting base now later r.owner r.owner (tells v) grow (λ n l. refl) f.own in
         let suit : Suits terms setting base room later r.owner w = record {
-          own = record { setting_is = own.setting_is; grows = seen_refl later; owned = own.owned };
+          own = record { setting_is = own.setting_is; grows = seen_refl later; owned = own.owned; once = own.once };
           room_is = f.room_is;
           told = is_told;
           mine = calls (agree_grows terms setting base now later v.mine grow f.mine);

@@ -1,3 +1,4 @@
+pub mod Once
 pub mod Seens
 pub mod Paired
 pub mod Keeps

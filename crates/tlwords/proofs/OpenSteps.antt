@@ -27,6 +27,7 @@ use Rattle.tlwords.proofs.Shelves.{dealt_same, shelf_same, shelf_shared}
 use Rattle.tlwords.proofs.Lifts.{lifted}
 use Rattle.tlwords.proofs.Keeps.{moves_of, Rule, now, seat_at, seat_ok, moved, goes, untold_is, total_set}
 use Rattle.tlwords.proofs.ReadSteps.{no_number}
+use Rattle.tlwords.proofs.Once.{nothing_drawn}
 
 module _ {S N : Type 0} (terms : Terms S N) (setting : S) (base : List ℕ) (room : ℕ) where
   -- ---- loads of the spare word
@@ -236,6 +237,7 @@ module _ {S N : Type 0} (terms : Terms S N) (setting : S) (base : List ℕ) (roo
         setting_is = f.own.setting_is;
         grows = (plain.grows.0, plain.grows.1, f.own.grows.2);
         owned = λ n has. absurd has;
+        once = nothing_drawn;
       } in
       record {
         front = ws;

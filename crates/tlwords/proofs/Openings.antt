@@ -23,6 +23,7 @@ use Rattle.tlwords.proofs.Logs.{take_next}
 use Rattle.tlwords.proofs.Seens.{seen_refl}
 use Rattle.tlwords.proofs.Keeps.{untold_is}
 use Rattle.tlwords.proofs.OpenSteps.{blank_suits}
+use Rattle.tlwords.proofs.Once.{nothing_drawn}
 
 -- ---- the opening
 
@@ -103,7 +104,7 @@ module _ {S N : Type 0} (terms : Terms S N) (setting : S) (values store : List �
       let plain : IsTold {S = S} setting values g (λ _. 0) untold = untold_is setting values g (λ _. 0) in
       let suit : Suits terms setting values room g (λ _. 0) first =
       blank_suits terms setting values room g (λ _. 0) first refl refl refl refl (λ x e. refl)
-      (record { setting_is = λ x e. (some_one setting x e, refl); grows = seen_refl g; owned = λ n has. absurd has }) plain in
+      (record { setting_is = λ x e. (some_one setting x e, refl); grows = seen_refl g; owned = λ n has. absurd has; once = nothing_drawn }) plain in
       record {
         world = start values 1;
         notes = [];

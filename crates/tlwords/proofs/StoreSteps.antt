@@ -54,7 +54,7 @@ module _ {S N : Type 0} (terms : Terms S N) (setting : S) (base : List ℕ) (roo
         let entries : EntriesAre terms setting h =
         λ i x n p q. (permits_grow terms setting ranges qs wider (r.entries i x n p q).0, (r.entries i x n p q).1) in
         let suit : Suits terms setting base room h r.owner w = record {
-          own = record { setting_is = own.setting_is; grows = seen_refl h; owned = own.owned };
+          own = record { setting_is = own.setting_is; grows = seen_refl h; owned = own.owned; once = own.once };
           room_is = f.room_is;
           told = told_grows setting base g h r.owner r.owner v.told grow (λ n l. refl) f.told;
           mine = agree_grows terms setting base g h v.mine grow f.mine;

@@ -1,5 +1,6 @@
 -- What the words show at the end.
-use Rattle.std.specs.Prelude.{◌%◌, ◌≡◌, ℕ, ◌+◌, ◌*◌, ◌/◌, ◌≤◌, Some, List, [], length, slice_get, vec_capacity, min, true}
+use Rattle.std.specs.Prelude.{◌%◌, ◌≡◌, ℕ, ◌+◌, ◌*◌, ◌/◌, ◌≤◌, Some, List, [], eqb, length, map, slice_get, vec_capacity, min, true}
+use Rattle.std.specs.List.{IsDistinct}
 use mathlib.Core.Option.{some}
 use lib.ListN.{get_elem?}
 use Rattle.tlcore.specs.History.{Entry, WasWritten, Will, version, value, deed}
@@ -74,10 +75,12 @@ pub record EndsIn {S N : Type 0} (terms : Terms S N) (setting : S) (base opened 
   pub mine : Agree terms setting base c.seen v.mine
   pub found : (n count : ℕ) → v.full ≡ Some (n, count) → n + min count (length words.store.items + 1) ≤ words.tail
 
--- no lock is held, the clock is how many numbers these passes drew, and the tail is where the opening and they moved it
+-- no lock is held, the clock is how many numbers these passes drew, of which, where each has a name of its own, none is left out; and the tail is
+-- where the opening and they moved it
 pub record IsStill {S N : Type 0} (opened : List ℕ) (words : ClosedWords) (given : List (Known S N)) : Type 0 where
   pub free : (c : ℕ) (x : ClosedCell) → slice_get words.cells.items c ≡ Some x → x.lock % 2 ≡ 0
   pub clock : words.clock ≡ total_of (λ (v : Known S N). length v.drawn) given
+  pub every : IsDistinct eqb (map (λ (v : Known S N). v.name) given) → (n : ℕ) → 1 ≤ n → n ≤ words.clock → (v : Known S N) × Has v given × Has n v.drawn
   pub tail : words.tail ≡ length opened + total_of (λ (v : Known S N). v.taken + v.added) given
 
 -- the words close a memory of so many sessions; each of the passes given ended in it, and where these are all, the words are still

@@ -4,7 +4,8 @@ use Rattle.std.specs.Prelude.{◌≡◌, ◌≢◌, ℕ, ◌+◌, ◌*◌, ◌^�
 use mathlib.Core.Option.{some}
 use lib.ListN.{get_elem?}
 use Rattle.atomic_table.specs.Table.{State}
-use Rattle.std.specs.Prelude.{suc, ◌⊎◌}
+use Rattle.std.specs.Prelude.{suc, ◌⊎◌, eqb}
+use Rattle.std.specs.List.{IsDistinct}
 use Rattle.tlcore.specs.History.{Entry, version_after, deed, NoneWill}
 use Rattle.tlcore.specs.Seats.{Seat, number_at}
 use Rattle.tlcore.specs.Machine.{World}
@@ -64,11 +65,12 @@ pub record IsLeft (opened : List ℕ) (room tail : ℕ) (store : List ℕ) : Typ
   pub blank : (o : ℕ) → tail ≤ o → o < room → slice_get store o ≡ Some 0
 
 module _ {S N : Type 0} where
-  -- what a pass tells is of this history, and each of its numbers is its own
+  -- what a pass tells is of this history, and its numbers, from 1 on, are its own, each drawn once
   pub record IsTold (setting : S) (base : List ℕ) (now : Seen N) (owner : ℕ → ℕ) (t : Told S N) : Type 0 where
     pub setting_is : (x : S) → t.setting ≡ Some x → (x ≡ setting) × (t.base ≡ base)
     pub grows : SeenGrows t.seen now
     pub owned : (n : ℕ) → Has n t.drawn → (n ≤ length now.history) × (owner n ≡ t.name)
+    pub once : IsDistinct eqb (0 ∷ t.drawn)
 
   -- what holds of a pass that was given up
   pub record IsGone (terms : Terms S N) (setting : S) (base : List ℕ) (now : Seen N) (owner : ℕ → ℕ) (g : Gone S N) : Type 0 where

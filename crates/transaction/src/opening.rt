@@ -1,11 +1,11 @@
 //! Opens libraries in running words.
 
-ghost use Rattle.std.specs.Prelude.{◌≡◌, ◌≢◌, ◌↔◌, [], IsTrue, IfOk, IfErr, OnOk, All};
+ghost use Rattle.std.specs.Prelude.{◌≡◌, ◌≢◌, ◌↔◌, ◌≤◌, [], length, IsTrue, IfOk, IfErr, OnOk, All};
 ghost use Rattle.proofcheck.specs.Databases.{AllCheck};
 ghost use Rattle.tlwords.specs.Known.{Knows};
 ghost use Rattle.lawful.specs.Lawful.{library_terms};
 ghost use Rattle.lawful.specs.Laws.{IsPassOn};
-ghost use Rattle.transaction.specs.Openings.{IsShape, Opens, Faults, AreSeated};
+ghost use Rattle.transaction.specs.Openings.{IsShape, Opens, Refuses, Faults, AreSeated};
 
 use crate::running::Library;
 use crate::session::{Kit, Session};
@@ -50,13 +50,28 @@ impl Library {
     ) -> Result<(Library, Vec<Session>), OpenError>
         ensures { Opens database.now shape result }
     {
-        if !shape.is_lawful() {
-            return Err(OpenError::BadShape);
-        }
-        if database.assertions().len() > shape.slots {
-            return Err(OpenError::TooMany);
-        }
+        fits(shape, database)?;
         check(rt, alloc, database)?;
+        Library::open_checked(alloc, keys, database, shape)
+    }
+
+    /// Opens the library of a database each of whose proofs checks, as [`Library::open`] does, and doesn't check them again.
+    ///
+    /// # Errors
+    ///
+    /// Those of [`Library::open`] but `ProofFails`, in its order.
+    pub fn open_checked(
+        alloc: Global,
+        keys: RandomState,
+        database: &Database,
+        shape: Shape,
+    ) -> Result<(Library, Vec<Session>), OpenError>
+        requires checks { AllCheck database.now }
+        ensures { Opens database.now shape result }
+    {
+        fits(shape, database)?;
+        // For the proof: some text declares the database.
+        let _assertions = database.assertions();
         let cells = PlainCells::open(alloc, database, shape.slots, shape.room)?;
         let given = Given {
             database: Snapshot::of(database),
@@ -83,6 +98,20 @@ impl Library {
         };
         Ok((library, sessions))
     }
+}
+
+/// Whether a shape is within the limits, and has a slot for each assertion of a database.
+fn fits(shape: Shape, database: &Database) -> Result<(), OpenError>
+    ensures yes { OnOk result (IsShape shape × (length database.now.assertions ≤ shape.slots)) }
+    ensures no { IfErr result (Refuses database.now shape) }
+{
+    if !shape.is_lawful() {
+        return Err(OpenError::BadShape);
+    }
+    if database.assertions().len() > shape.slots {
+        return Err(OpenError::TooMany);
+    }
+    Ok(())
 }
 
 /// Checks all proofs of a database.

@@ -11,7 +11,7 @@ use Rattle.cells.specs.Filling.{AreCitedSlots, MayFill, Fills}
 use Rattle.cells.specs.Slots.{name_cell}
 use Rattle.cells.specs.Sight.{Matches, Views, after}
 use Rattle.cells.proofs.Sights.{onward_trans, matches_back}
-use Rattle.cells.proofs.Members.{all_from_has}
+use Rattle.ranges.proofs.Members.{all_from_has}
 use Rattle.cells.proofs.Holding.{empty_free}
 use Rattle.cells.proofs.Laying.{if_mapped, ok_mapped}
 use Rattle.cells.proofs.Filled.{cited_few, still_chained, filled}

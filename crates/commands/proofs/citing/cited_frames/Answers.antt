@@ -6,7 +6,7 @@ use Rattle.std.proofs.Common.{length-append}
 use Rattle.mmsyntax.specs.declared.statement.Step.TheVariants.{Float}
 use Rattle.bodystore.specs.declared.stored.StoredStep.TheVariants as stored
 use Rattle.ranges.specs.Ranges.{Has}
-use Rattle.cells.proofs.Members.{has_from_contains}
+use Rattle.ranges.proofs.Members.{has_from_contains}
 use Rattle.cells.proofs.Sights.{looks_trans}
 use Rattle.cells.proofs.Settings.{same_slots}
 use Rattle.commands.specs.Citing.{frames_in}

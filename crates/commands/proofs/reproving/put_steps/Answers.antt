@@ -8,7 +8,7 @@ use Rattle.cells.specs.Sight.{Matches, after}
 use Rattle.cells.specs.Filling.{AreCitedSlots}
 use Rattle.cells.proofs.Sights.{onward_trans}
 use Rattle.cells.proofs.Laying.{if_mapped, ok_mapped}
-use Rattle.cells.proofs.Members.{all_from_has}
+use Rattle.ranges.proofs.Members.{all_from_has}
 use Rattle.commands.specs.Answers.{WritesSome}
 use Rattle.commands.specs.Changes.{ReprovesAt}
 use Rattle.commands.proofs.Removing.{CountsOutOf}

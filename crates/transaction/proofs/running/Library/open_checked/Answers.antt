@@ -3,26 +3,26 @@ use Rattle.lawful.specs.declared.notes.Given.{Given}
 use Rattle.transaction.specs.Openings.{IsShape}
 use Rattle.transaction.specs.Members.{Home}
 use Rattle.transaction.proofs.Opened.{words_open, home_at, ArePasses, passes_of, on_words, new_sessions, named_sessions}
-use Rattle.transaction.proofs.running.Library.open.Goals as goal
+use Rattle.transaction.proofs.running.Library.open_checked.Goals as goal
 
 pub open-opened-requires-clause-opens : goal.open-opened-requires-clause-opens
-open-opened-requires-clause-opens g c =
+open-opened-requires-clause-opens c =
     let given : Given = record { database = c.of.result; slots = c.args.shape.slots } in
-    let shape : IsShape c.args.shape = c.is_lawful.ensures.0 c.if-not-is_lawful.false in
+    let shape : IsShape c.args.shape = c.in_ok-fits.ensures.yes.0 in
     (words_open c.args.database.now given c.args.shape.room c.in_ok-cells.cells c.values.result.now c.store.result.now c.of.ensures
-    c.assertions.ensures.sound c.in_ok-check.ensures.yes shape.some_slots shape.few_slots c.in_ok-cells.ensures.within.0
+    c.assertions-assertions.ensures.sound c.requires.checks shape.some_slots shape.few_slots c.in_ok-cells.ensures.within.0
     c.in_ok-cells.ensures.ok c.values.ensures c.store.ensures).0
 
 pub open-opened-requires-clause-named : goal.open-opened-requires-clause-named
-open-opened-requires-clause-named g c =
+open-opened-requires-clause-named c =
     let given : Given = record { database = c.of.result; slots = c.args.shape.slots } in
-    let shape : IsShape c.args.shape = c.is_lawful.ensures.0 c.if-not-is_lawful.false in
+    let shape : IsShape c.args.shape = c.in_ok-fits.ensures.yes.0 in
     (words_open c.args.database.now given c.args.shape.room c.in_ok-cells.cells c.values.result.now c.store.result.now c.of.ensures
-    c.assertions.ensures.sound c.in_ok-check.ensures.yes shape.some_slots shape.few_slots c.in_ok-cells.ensures.within.0
+    c.assertions-assertions.ensures.sound c.requires.checks shape.some_slots shape.few_slots c.in_ok-cells.ensures.within.0
     c.in_ok-cells.ensures.ok c.values.ensures c.store.ensures).1
 
 pub seat_all-requires-clause-on : goal.seat_all-requires-clause-on
-seat_all-requires-clause-on g c =
+seat_all-requires-clause-on c =
     let given : Given = record { database = c.of.result; slots = c.args.shape.slots } in
     let home : Home = home_at given c.in-Ok.words in
     let key = c.in-Ok.ensures.key in
@@ -32,7 +32,7 @@ seat_all-requires-clause-on g c =
     on_words home c.args.shape.sessions c.in-Ok.passes.items (ap Some key.0) c.in-Ok.words.small.1 passes
 
 pub returns : goal.returns
-returns g c =
+returns c =
     let given : Given = record { database = c.of.result; slots = c.args.shape.slots } in
     let home : Home = home_at given c.in-Ok.words in
     let key = c.in-Ok.ensures.key in
@@ -40,21 +40,21 @@ returns g c =
     let passes : ArePasses home sessions c.in-Ok.passes.items =
     passes_of home sessions c.in-Ok.passes.items c.values.result.now c.store.result.now key.1 key.2 c.in-Ok.ensures.passes
     c.in-Ok.ensures.sound c.in-Ok.ensures.names in
-    let shape : IsShape c.args.shape = c.is_lawful.ensures.0 c.if-not-is_lawful.false in
+    let shape : IsShape c.args.shape = c.in_ok-fits.ensures.yes.0 in
     let within = c.in_ok-cells.ensures.within in
     let members = c.in_ok-sessions.sessions.items in
     let seats = c.in_ok-sessions.ensures in
     record {
       shape_is = shape;
       many = within.0;
-      checks = c.in_ok-check.ensures.yes;
+      checks = c.requires.checks;
       fit = within.1;
       database = c.of.ensures;
       slots = refl;
       room = c.in-Ok.ensures.sizes.1;
       sessions = key.3;
       opens = (words_open c.args.database.now given c.args.shape.room c.in_ok-cells.cells home.words.base home.store c.of.ensures
-          c.assertions.ensures.sound c.in_ok-check.ensures.yes shape.some_slots shape.few_slots within.0 c.in_ok-cells.ensures.ok
+          c.assertions-assertions.ensures.sound c.requires.checks shape.some_slots shape.few_slots within.0 c.in_ok-cells.ensures.ok
           (key.1 ∙ c.values.ensures) (key.2 ∙ c.store.ensures)).0;
       new = new_sessions home sessions c.in-Ok.passes.items (ap Some key.0) c.in-Ok.words.small.1 passes members seats;
       names = named_sessions home sessions c.in-Ok.passes.items (ap Some key.0) c.in-Ok.words.small.1 passes members seats;

@@ -1,12 +1,11 @@
 -- What stands in a list: in both ways of saying it, and in appended, mapped, filtered and permuted lists.
-use Rattle.std.proofs.Common.{◌≡◌, ◌≢◌, ℕ, zero, suc, ◌<◌, ◌≤◌, Bool, true, false, cond, List, [], ◌∷◌, ◌++◌, length, map, refl, sym, ap, subst, ◌∙◌}
+use Rattle.std.proofs.Common.{◌≡◌, ◌≢◌, ℕ, zero, suc, ◌<◌, ◌≤◌, Bool, true, false, cond, List, [], ◌∷◌, ◌++◌, length, map, flat_map, refl, sym, ap, subst, ◌∙◌}
 use Rattle.std.proofs.Common.{◌⊎◌, inl, inr, ⊎_elim, arith, nat_eq}
 use Rattle.std.specs.Prelude.{filter, All, IsPermutation}
 use Rattle.std.specs.List.{Contains, list_any}
 use Rattle.std.proofs.lemmas.Bool.{cases_Bool, cases_eq, cond-true, cond-false, eq-eqb, ne_eqb, both_ways, or_left, or_right, or_from}
 use Rattle.std.proofs.lemmas.List.Elements.{All-head, All-tail, Contains-append_right}
 use Rattle.std.proofs.lemmas.List.Sorted.{Contains-permutation}
-use Rattle.mmsyntax.specs.Assertions.{Distinct}
 use Rattle.ranges.specs.Ranges.{Has}
 
 module _ {A : Type 0} where
@@ -85,6 +84,19 @@ module _ {A B : Type 0} (f : A → B) where
   mapped_has (x ∷ xs) y (inl is) = (x, inl refl, is)
   mapped_has (x ∷ xs) y (inr h) = let r = mapped_has xs y h in (r.0, inr r.1, r.2)
 
+module _ {A B : Type 0} (f : A → List B) where
+  pub has_flat : (xs : List A) (x : A) (y : B) → Has x xs → Has y (f x) → Has y (flat_map f xs)
+  has_flat [] x y has own = absurd has
+  has_flat (z ∷ zs) x y (inl same) own = has_append_left (f z) (flat_map f zs) y (subst (λ z. Has y (f z)) same own)
+  has_flat (z ∷ zs) x y (inr has) own = has_append_right (f z) (flat_map f zs) y (has_flat zs x y has own)
+
+  -- what stands in a list of them stands in one of them
+  pub flat_has : (xs : List A) (y : B) → Has y (flat_map f xs) → (x : A) × Has x xs × Has y (f x)
+  flat_has [] y has = absurd has
+  flat_has (z ∷ zs) y has = ⊎_elim (λ own. (z, inl refl, own))
+      (λ other. let r = flat_has zs y other in (r.0, inr r.1, r.2))
+      (has_append_cases (f z) (flat_map f zs) y has)
+
 -- ---- numbers
 
 -- what no test finds is not there
@@ -103,15 +115,6 @@ cases_has (y ∷ ys) x =
       | inl e ↦ inl (inl e)
       | inr ne ↦ ⊎_elim (λ h. inl (inr h)) (λ free. inr (λ h. ⊎_elim ne free h)) (cases_has ys x)
     ]
-
--- one more behind numbers that differ
-pub distinct_push : (xs : List ℕ) (x : ℕ) → Distinct nat_eq xs → (Has x xs → ⊥) → Distinct nat_eq (xs ++ x ∷ [])
-distinct_push [] x d free = (refl, tt)
-distinct_push (y ∷ ys) x d free = (
-  none_absent (ys ++ x ∷ []) y (λ h. ⊎_elim (absent ys y d.0) (λ last. ⊎_elim (λ e. free (inl (sym e))) (λ z. z) last)
-      (has_append_cases ys (x ∷ []) y h)),
-  distinct_push ys x d.1 (λ h. free (inr h)),
-)
 
 -- a list without one that stands in it: one shorter, with the others
 taken_out : (x : ℕ) (xs : List ℕ) → Has x xs → (ys : List ℕ) × (length xs ≡ suc (length ys)) × ((i : ℕ) → Has i xs → i ≢ x → Has i ys)
