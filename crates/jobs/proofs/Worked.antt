@@ -1,5 +1,6 @@
 -- Sessions that an opened library deals, and what is left of scripts that were run to their end on them.
-use Rattle.std.proofs.Common.{◌≡◌, ◌≢◌, ◌∙◌, ◌≤◌, ◌-◌, ℕ, zero, suc, List, [], ◌∷◌, length, map, refl, sym, ap, subst, arith}
+use Rattle.std.proofs.Common.{◌≡◌, ◌≢◌, ◌∙◌, ◌≤◌, ◌-◌, ℕ, zero, suc, eqb, List, [], ◌∷◌, length, map, refl, sym, ap, subst, arith}
+use Rattle.std.specs.List.{IsDistinct}
 use Rattle.std.proofs.lemmas.List.{length-map}
 use Rattle.mmsyntax.specs.Tables.{Contents}
 use Rattle.library.specs.declared.command.Command.{Command}
@@ -8,14 +9,17 @@ use Rattle.library.specs.declared.library.Ranked.{Ranked}
 use Rattle.library.specs.Library.{Setting, Listed, ShowsInOrder, opening, setting_over}
 use Rattle.library.specs.Histories.{told, EntriesFit, IsLegal, after_all}
 use Rattle.tlwords.specs.Runs.{down}
+use Rattle.tlwords.proofs.Once.{down_distinct}
 use Rattle.lawful.specs.Lawful.{first_library, setting_of as setting_given}
 use Rattle.transaction.specs.declared.outcome.Outcome.{Outcome}
 use Rattle.transaction.specs.Members.{Home, Member}
 use Rattle.transaction.specs.Openings.{IsOpened}
-use Rattle.editing.specs.Edits.{AreToldBy, IsEdited}
+use Rattle.editing.specs.Edits.{AreToldBy, IsEdited, IsLack}
+use Rattle.editing.specs.declared.error.EditError.{EditError}
+use Rattle.editing.specs.declared.error.EditError.TheVariants as edit
 use Rattle.jobs.specs.Outcomes.{setting_of}
 use Rattle.jobs.specs.Jobs.{IsWorked}
-use Rattle.jobs.specs.Parts.{shape_with}
+use Rattle.jobs.specs.Parts.{shape_with, IsWorkFault, from_edit}
 
 -- ---- lists
 
@@ -56,6 +60,13 @@ module _ (db : Contents) (workers room : ℕ) (home : Home) (members : List Memb
   over P h = subst (λ s. P s (opening db)) same_setting (subst (P (setting_given home.given)) same_library h)
 
   -- ---- its end
+
+  -- why scripts that were run on all its sessions came to none
+  pub unworked : (e : EditError) → IsLack members e → IsWorkFault db room (from_edit e)
+  unworked edit.NoThread h = tt
+  unworked (edit.Missing n) h = absurd (h.1 (subst (IsDistinct eqb) (sym o.names) (down_distinct workers workers (omega arith))))
+  unworked (edit.Held c) h = absurd h
+  unworked edit.NoMemory h = tt
 
   -- and what is left of scripts that were run on it is of a run over the database
   pub worked : (scripts : List (List (List Command))) (rows : List (List Outcome)) (history : List Entry) (library : Listed)

@@ -201,10 +201,9 @@ IsRunFault db texts room StoreFull =
     × (room < bodies_length contents.assertions)
 IsRunFault db texts room f = IsDatabaseFault db f
 
--- why a run that has no fault may come to no end: a thread can't be had, or a number is missing in its history. No lock is held at its end
+-- why a run that has no fault may come to no end: a thread can't be had. No number is missing in its history, and no lock is held at its end
 abbrev pub IsRunLack : Fault → Type 0
 IsRunLack NoThread = Unit {0}
-IsRunLack (Missing n) = 1 ≤ n
 IsRunLack _ = ⊥
 
 -- an entry is the first of the history that differs

@@ -7,6 +7,7 @@ ghost use Rattle.jobs.specs.Tasks.{Answers, IsLineOf, IsToldBy};
 
 use crate::job::{Job, Printed};
 use crate::performing::perform;
+use crate::watching::Watch;
 use std::alloc::{AllocError, Global};
 use std::hash::RandomState;
 use std::sync::Wait;
@@ -22,7 +23,7 @@ pub enum Answered {
 }
 
 /// Does a job on the texts of files, of which `paths` are the paths: the database's, then each script's, or the history's. The workers and the
-/// room of a run are within their limits. It may wait.
+/// room of a run are within their limits. Who watches is told of a run while its scripts are run. It may wait.
 ///
 /// # Errors
 ///
@@ -33,6 +34,7 @@ pub fn answer(
     keys: RandomState,
     job: &Job,
     paths: &[&str],
+    watch: &(impl Watch + Sync),
 ) -> Result<Answered, AllocError>
     requires { AreWithin job.now }
     // What is printed is the job's. The line is that of a fault of the job, and names the file that has it.
@@ -43,7 +45,7 @@ pub fn answer(
     // history of a run over the same database a replay answers the library of that run.
     ensures own { IfOk result (λ told. AnswersItsOwn job.now (IsToldBy told)) }
 {
-    match perform(rt, alloc, keys, job) {
+    match perform(rt, alloc, keys, job, watch) {
         Ok(printed) => Ok(Answered::Done(printed)),
         Err(fault) => Ok(Answered::Refused(fault.line(alloc, paths)?)),
     }

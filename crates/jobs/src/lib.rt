@@ -10,6 +10,7 @@ mod report;
 mod running;
 mod task;
 mod telling;
+mod watching;
 
 pub use answering::{Answered, answer};
 pub use job::{Fault, Job, Printed};
@@ -18,3 +19,5 @@ pub use laws::{
 };
 pub use performing::perform;
 pub use task::{Task, job_of};
+pub use watching::Watch;
+pub use workers::{Gate, Open};

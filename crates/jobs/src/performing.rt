@@ -17,7 +17,8 @@ ghost use Rattle.library.specs.Fitting.{CommandFits};
 
 use crate::job::{Fault, Job, Printed, text_fault};
 use crate::replaying::{print_replay, read_entries};
-use crate::running::print_run;
+use crate::running::{Size, print_run};
+use crate::watching::Watch;
 use library::Script;
 use mmstatement::{Database, Label, Prelude, read_database};
 use proofcheck::{ProofFault, ProofFaultKind, check_all};
@@ -129,17 +130,17 @@ fn run(
     keys: RandomState,
     db: &[u8],
     scripts: &[Vec<u8>],
-    workers: usize,
-    room: usize,
+    size: Size,
+    watch: &(impl Watch + Sync),
 ) -> Result<Printed, Fault>
-    requires within { IsWithin workers room }
-    ensures done { IfOk result (λ p. IsRun db.now (map (λ t. t.items) scripts.now) workers room p.out.items p.history.items) }
-    ensures fault { IfErr result (λ f. f ≢ NoMemory → IsRunFault db.now (map (λ t. t.items) scripts.now) room f ⊎ IsRunLack f) }
-    ensures refused { (f : FaultOfJob) → IsRunFault db.now (map (λ t. t.items) scripts.now) room f → RefusesWith f result }
+    requires within { IsWithin size.workers size.room }
+    ensures done { IfOk result (λ p. IsRun db.now (map (λ t. t.items) scripts.now) size.workers size.room p.out.items p.history.items) }
+    ensures fault { IfErr result (λ f. f ≢ NoMemory → IsRunFault db.now (map (λ t. t.items) scripts.now) size.room f ⊎ IsRunLack f) }
+    ensures refused { (f : FaultOfJob) → IsRunFault db.now (map (λ t. t.items) scripts.now) size.room f → RefusesWith f result }
 {
     let db = read_and_check(rt, alloc, keys, db)?;
     let scripts = read_scripts(alloc, db.prelude(), scripts)?;
-    print_run(rt, alloc, keys, &db, scripts.as_slice(), workers, room)
+    print_run(rt, alloc, keys, &db, scripts.as_slice(), size, watch)
 }
 
 /// Does the transactions of a history again, over a database, as texts, and gives what is printed.
@@ -159,7 +160,8 @@ fn replay(
     print_replay(alloc, keys, &db, entries.as_slice())
 }
 
-/// Does a job on texts, without files. The workers and the room of a run are within their limits. It may wait.
+/// Does a job on texts, without files. The workers and the room of a run are within their limits. Who watches is told of a run while its
+/// scripts are run. It may wait.
 ///
 /// The faults are found in this order: the database's text, its proofs, then each script's text, or the history's text and the first of
 /// its entries that differs; then the opening of a run's library, the run, and its end. A job that has one prints nothing.
@@ -168,6 +170,7 @@ pub fn perform(
     alloc: Global,
     keys: RandomState,
     job: &Job,
+    watch: &(impl Watch + Sync),
 ) -> Result<Printed, Fault>
     requires { AreWithin job.now }
     // The texts are read as they are spelled. A run prints the report of what becomes of all its transactions, and then, as a replay does,
@@ -190,7 +193,8 @@ pub fn perform(
             room,
         } => {
             let (db, scripts) = (db.as_slice(), scripts.as_slice());
-            return run(rt, alloc, keys, db, scripts, *workers, *room);
+            let (workers, room) = (*workers, *room);
+            return run(rt, alloc, keys, db, scripts, Size { workers, room }, watch);
         }
         Job::Replay { db, history } => {
             replay(rt, alloc, keys, db.as_slice(), history.as_slice())?

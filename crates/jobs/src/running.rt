@@ -15,6 +15,7 @@ ghost use Rattle.jobs.specs.Reports.{report_text};
 use crate::job::{Fault, Printed};
 use crate::replaying::SLOTS;
 use crate::report::report;
+use crate::watching::Watch;
 use editing::{Edited, edit_all};
 use export::write_library;
 use historytext::write_history;
@@ -25,36 +26,42 @@ use std::hash::RandomState;
 use std::sync::Wait;
 use std::thread::Threads;
 use transaction::{Library, OpenError, Session, Shape};
-use workers::Open;
+
+/// How large a run is.
+#[derive(Clone, Copy)]
+pub(crate) struct Size {
+    /// How many workers it has, 1 to 64.
+    pub(crate) workers: usize,
+    /// For how many words its store has room, at most 16,777,216.
+    pub(crate) room: usize,
+}
 
 /// How the library of a run lies in words.
-fn shape(workers: usize, room: usize) -> Shape
-    ensures { result ≡ shape_with workers room }
+fn shape(size: Size) -> Shape
+    ensures { result ≡ shape_with size.workers size.room }
 {
     Shape {
         slots: SLOTS,
-        room,
-        sessions: workers,
+        room: size.room,
+        sessions: size.workers,
     }
 }
 
-/// Opens the library of a database, with a session for each worker.
+/// Opens the library of a database whose proofs check, with a session for each worker.
 fn open(
-    rt: &(impl Threads + Sync),
     alloc: Global,
     keys: RandomState,
     db: &Database,
-    workers: usize,
-    room: usize,
+    size: Size,
 ) -> Result<(Library, Vec<Session>), Fault>
     requires checks { AllCheck db.now }
-    requires within { IsWithin workers room }
-    ensures done { IfOk result (λ made. IsOpened db.now (shape_with workers room) made.0 made.1.items) }
-    ensures fault { IfErr result (IsOpenFault db.now room) }
+    requires within { IsWithin size.workers size.room }
+    ensures done { IfOk result (λ made. IsOpened db.now (shape_with size.workers size.room) made.0 made.1.items) }
+    ensures fault { IfErr result (IsOpenFault db.now size.room) }
 {
     // For the proof: a database has at most as many assertions as there are slots.
     let _assertions = db.assertions();
-    match Library::open(rt, alloc, keys, db, shape(workers, room)) {
+    match Library::open_checked(alloc, keys, db, shape(size)) {
         Ok(opened) => Ok(opened),
         Err(OpenError::StoreFull) => Err(Fault::StoreFull),
         Err(OpenError::NoMemory) => Err(Fault::NoMemory),
@@ -64,6 +71,15 @@ fn open(
     }
 }
 
+/// How many transactions the scripts have, but no more than the largest number.
+fn transactions_of(scripts: &[Script]) -> usize {
+    let mut count: usize = 0;
+    for script in scripts {
+        count = count.saturating_add(script.as_slice().len());
+    }
+    count
+}
+
 /// Runs the scripts over the library of a database by workers, to its end.
 fn edit(
     rt: &(impl Threads + Wait + Sync),
@@ -71,18 +87,21 @@ fn edit(
     keys: RandomState,
     db: &Database,
     scripts: &[Script],
-    workers: usize,
-    room: usize,
+    size: Size,
+    watch: &(impl Watch + Sync),
 ) -> Result<Edited, Fault>
     requires checks { AllCheck db.now }
-    requires within { IsWithin workers room }
+    requires within { IsWithin size.workers size.room }
     requires fit { All (All (All (CommandFits db.now.prelude))) scripts.now }
-    ensures done { IfOk result (λ e. IsWorked db.now workers room scripts.now (lists_of e.outcomes.items) e.history e.library) }
-    ensures fault { IfErr result (IsWorkFault db.now room) }
-    ensures full { room < bodies_length db.now.assertions → RefusesWith StoreFull result }
+    ensures done { IfOk result (λ e. IsWorked db.now size.workers size.room scripts.now (lists_of e.outcomes.items) e.history e.library) }
+    ensures fault { IfErr result (IsWorkFault db.now size.room) }
+    ensures full { size.room < bodies_length db.now.assertions → RefusesWith StoreFull result }
 {
-    let (library, sessions) = open(rt, alloc, keys, db, workers, room)?;
-    Ok(edit_all(rt, alloc, library, sessions, scripts, &Open)?)
+    let (library, sessions) = open(alloc, keys, db, size)?;
+    watch.begin(scripts.len(), transactions_of(scripts));
+    let edited = edit_all(rt, alloc, library, sessions, scripts, watch);
+    watch.end();
+    Ok(edited?)
 }
 
 /// The report of a run, and its library's text.
@@ -135,16 +154,16 @@ pub(crate) fn print_run(
     keys: RandomState,
     db: &Database,
     scripts: &[Script],
-    workers: usize,
-    room: usize,
+    size: Size,
+    watch: &(impl Watch + Sync),
 ) -> Result<Printed, Fault>
     requires checks { AllCheck db.now }
-    requires within { IsWithin workers room }
+    requires within { IsWithin size.workers size.room }
     requires fit { All (All (All (CommandFits db.now.prelude))) scripts.now }
-    ensures done { IfOk result (λ p. PrintsRun db.now workers room scripts.now p.out.items p.history.items) }
-    ensures fault { IfErr result (IsWorkFault db.now room) }
-    ensures full { room < bodies_length db.now.assertions → RefusesWith StoreFull result }
+    ensures done { IfOk result (λ p. PrintsRun db.now size.workers size.room scripts.now p.out.items p.history.items) }
+    ensures fault { IfErr result (IsWorkFault db.now size.room) }
+    ensures full { size.room < bodies_length db.now.assertions → RefusesWith StoreFull result }
 {
-    let edited = edit(rt, alloc, keys, db, scripts, workers, room)?;
+    let edited = edit(rt, alloc, keys, db, scripts, size, watch)?;
     Ok(print_edited(alloc, db, scripts, &edited)?)
 }

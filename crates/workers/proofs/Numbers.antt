@@ -5,7 +5,7 @@ use Rattle.std.proofs.Math.Seq.{drop-append_seam}
 use Rattle.std.proofs.lemmas.Bool.{cond-true}
 use Rattle.std.proofs.lemmas.List.{append-nil}
 use Rattle.std.proofs.lemmas.List.Elements.{filter-append}
-use Rattle.cells.proofs.Members.{all_has}
+use Rattle.ranges.proofs.Members.{all_has}
 use Rattle.cells.proofs.Ones.{filter_none}
 use Rattle.library.specs.declared.command.Command.{Command}
 use Rattle.library.specs.Histories.{Entry, void_entry, done_entry}

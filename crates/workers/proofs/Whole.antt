@@ -11,7 +11,7 @@ use Rattle.std.proofs.lemmas.List.Sorted.{IsPermutation-sym, IsPermutation-map, 
 use Rattle.std.proofs.lemmas.List.Sums.{sum_by-append, sum_by-cons}
 use Rattle.library.specs.declared.command.Command.{Command}
 use Rattle.ranges.specs.Ranges.{Has}
-use Rattle.cells.proofs.Members.{all_from_has, contains_from_has, has_append_left, has_append_right, has_permutation}
+use Rattle.ranges.proofs.Members.{all_from_has, contains_from_has, has_append_left, has_append_right, has_permutation}
 use Rattle.cells.proofs.Tallies.{is_one, permutation_from_counts}
 use Rattle.claims.specs.Claims.{Home as Numbers, Claimant, IsOf as IsClaimantOf, IsNewOf, up_to}
 use Rattle.lawful.specs.declared.notes.Given.{Given}

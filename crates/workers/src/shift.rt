@@ -74,7 +74,7 @@ pub(crate) fn work<R: Wait, G: Gate>(
     while let Some(script) = claimant.claim(shop.numbers) {
         shop.gate.enter(script);
         let transactions = shop.scripts[script].as_slice();
-        let outcomes = submit_all(rt, alloc, shop.library, &mut session, transactions);
+        let outcomes = submit_all(rt, alloc, shop, script, &mut session, transactions);
         shop.gate.leave(script);
         rows.push(Row {
             script,
@@ -90,22 +90,24 @@ pub(crate) fn work<R: Wait, G: Gate>(
     })
 }
 
-/// Submits transactions, one after another, whatever becomes of them.
-fn submit_all<R: Wait>(
+/// Submits the transactions of the script with this index, from 0, one after another, whatever becomes of them.
+fn submit_all<R: Wait, G: Gate>(
     rt: &R,
     alloc: Global,
-    library: &Library,
+    shop: Shop<'_, G>,
+    script: usize,
     session: &mut Session,
     transactions: &[Transaction],
 ) -> Result<Vec<Outcome>, AllocError>
-    requires own { IsOf library.now session.old }
-    requires fit { All (All (CommandFits (setting_of library.now.given).prelude)) transactions.now }
-    ensures own { IsOf library.now session.new }
+    requires own { IsOf shop.library.now session.old }
+    requires fit { All (All (CommandFits (setting_of shop.library.now.given).prelude)) transactions.now }
+    ensures own { IsOf shop.entry.library.now session.new }
     ensures ok { IfOk result (λ outcomes. SubmitsAll transactions.now session.old session.new outcomes.items) }
 {
     let mut outcomes = Vec::with_capacity(alloc, transactions.len())?;
     for transaction in transactions {
-        outcomes.push_reserved(session.submit(rt, alloc, library, transaction));
+        outcomes.push_reserved(session.submit(rt, alloc, shop.library, transaction));
+        shop.gate.pass(script);
     }
     Ok(outcomes)
 }

@@ -31,7 +31,8 @@ pub struct Worked {
 /// within the limits of its prelude.
 ///
 /// A worker claims the next script that nobody has claimed, tells the gate, submits the script's transactions in order, whatever becomes of
-/// them, tells the gate again, and goes on until all scripts are claimed. The call returns when every worker has ended. It may wait.
+/// them, tells the gate of each, and at the end again, and goes on until all scripts are claimed. The call returns when every worker has
+/// ended. It may wait.
 ///
 /// # Errors
 ///

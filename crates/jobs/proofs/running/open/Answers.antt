@@ -8,17 +8,17 @@ use Rattle.jobs.proofs.running.open.Goals as goal
 
 -- a database has at most 4,096 assertions
 pub unreachable-requires-in-Err-TooMany : goal.unreachable-requires-in-Err-TooMany
-unreachable-requires-in-Err-TooMany g c =
+unreachable-requires-in-Err-TooMany c =
     let db = c.args.db.now in
     let few : length db.assertions ≤ 4096 = (declarable db c.assertions-assertions.ensures.sound).few in
-    let refused : Refuses db (shape_with c.args.workers c.args.room) TooMany = subst (λ s. Refuses db s TooMany) c.shape.ensures
+    let refused : Refuses db (shape_with c.args.size.workers c.args.size.room) TooMany = subst (λ s. Refuses db s TooMany) c.shape.ensures
     (subst (Refuses db c.shape.result) c.in-Err-TooMany.field-0-is c.in-Err-TooMany.ensures) in
     let many : 4096 < length db.assertions = refused.1 in
     omega arith
 
 -- all its proofs check
 pub unreachable-requires-in-Err-ProofFails : goal.unreachable-requires-in-Err-ProofFails
-unreachable-requires-in-Err-ProofFails g c =
+unreachable-requires-in-Err-ProofFails c =
     let db = c.args.db.now in
     let index = c.in-Err-ProofFails.field-0-0 in
     let found = c.in-Err-ProofFails.field-0-1 in

@@ -6,7 +6,7 @@ use Rattle.workers.proofs.shift.submit_all.Given as goal
 abbrev pub invariant-loop-transaction : goal.invariant-loop-transaction
 invariant-loop-transaction g l =
     record {
-      own : IsOf l.library l.session;
+      own : IsOf l.shop.library.now l.session;
       so_far : SubmitsAll (take l.transaction-index l.transactions) l.fn.session l.session l.outcomes.items;
       long : vec_len l.outcomes ≡ l.transaction-index;
     }
