@@ -12,3 +12,4 @@ pub mod Decisions
 pub mod Growing
 pub mod Exact
 pub mod Outcome
+pub mod Lookups

@@ -7,35 +7,34 @@ ghost use Rattle.proofcheck.specs.Derivation.{AreApart, IsApart, substitution};
 
 use crate::entry::Entry;
 use crate::substitutes::substitute_of;
+use crate::thesis::Thesis;
 use mmstatement::Symbol;
 use std::alloc::{AllocError, Global};
 
 /// Whether the two variables, in ascending order, are one of the pairs.
-fn is_pair(pairs: &[(u32, u32)], u: u32, v: u32) -> bool
-    ensures { IsTrue result ↔ Contains pairs.now (in_order u v) }
+fn is_pair(thesis: &Thesis, u: u32, v: u32) -> bool
+    ensures { IsTrue result ↔ Contains thesis.now.pairs (in_order u v) }
 {
-    let (low, high) = if u < v { (u, v) } else { (v, u) };
-    for pair in pairs {
-        if pair.0 == low && pair.1 == high {
-            return true;
-        }
+    if u < v {
+        thesis.restricts((u, v))
+    } else {
+        thesis.restricts((v, u))
     }
-    false
 }
 
 /// Whether the variables differ and are one of the pairs.
-fn is_apart(pairs: &[(u32, u32)], u: u32, v: u32) -> bool
-    ensures { IsTrue result ↔ IsApart pairs.now u v }
+fn is_apart(thesis: &Thesis, u: u32, v: u32) -> bool
+    ensures { IsTrue result ↔ IsApart thesis.now.pairs u v }
 {
-    u != v && is_pair(pairs, u, v)
+    u != v && is_pair(thesis, u, v)
 }
 
 /// Whether the variable is apart from each of the others.
-fn is_apart_from(pairs: &[(u32, u32)], u: u32, others: &[u32]) -> bool
-    ensures { IsTrue result ↔ All (λ v. IsApart pairs.now u v) others.now }
+fn is_apart_from(thesis: &Thesis, u: u32, others: &[u32]) -> bool
+    ensures { IsTrue result ↔ All (λ v. IsApart thesis.now.pairs u v) others.now }
 {
     for v in others {
-        if !is_apart(pairs, u, *v) {
+        if !is_apart(thesis, u, *v) {
             return false;
         }
     }
@@ -43,11 +42,11 @@ fn is_apart_from(pairs: &[(u32, u32)], u: u32, others: &[u32]) -> bool
 }
 
 /// Whether each two variables, one of each list, are apart.
-fn are_apart(pairs: &[(u32, u32)], us: &[u32], vs: &[u32]) -> bool
-    ensures { IsTrue result ↔ All (λ u. All (λ v. IsApart pairs.now u v) vs.now) us.now }
+fn are_apart(thesis: &Thesis, us: &[u32], vs: &[u32]) -> bool
+    ensures { IsTrue result ↔ All (λ u. All (λ v. IsApart thesis.now.pairs u v) vs.now) us.now }
 {
     for u in us {
-        if !is_apart_from(pairs, *u, vs) {
+        if !is_apart_from(thesis, *u, vs) {
             return false;
         }
     }
@@ -116,36 +115,36 @@ fn variables_for(
 /// Whether the substitutes of the two variables are apart.
 fn pair_fits(
     alloc: Global,
-    pairs: &[(u32, u32)],
+    thesis: &Thesis,
     floats: &[u32],
     entries: &[Entry],
     pair: (u32, u32),
 ) -> Result<bool, AllocError>
     requires { length floats.now ≤ length entries.now }
-    ensures { IfOk result (λ fits. IsTrue fits ↔ AreApart pairs.now
+    ensures { IfOk result (λ fits. IsTrue fits ↔ AreApart thesis.now.pairs
         (replacement (substitution floats.now entries.now) pair.0)
         (replacement (substitution floats.now entries.now) pair.1)) }
 {
     let us = variables_for(alloc, floats, entries, pair.0)?;
     let vs = variables_for(alloc, floats, entries, pair.1)?;
-    Ok(are_apart(pairs, us.as_slice(), vs.as_slice()))
+    Ok(are_apart(thesis, us.as_slice(), vs.as_slice()))
 }
 
 /// Whether the substitutes of each pair are apart.
 pub(crate) fn pairs_fit(
     alloc: Global,
-    pairs: &[(u32, u32)],
+    thesis: &Thesis,
     floats: &[u32],
     entries: &[Entry],
     asked: &[(u32, u32)],
 ) -> Result<bool, AllocError>
     requires { length floats.now ≤ length entries.now }
-    ensures { IfOk result (λ fits. IsTrue fits ↔ All (λ q. AreApart pairs.now
+    ensures { IfOk result (λ fits. IsTrue fits ↔ All (λ q. AreApart thesis.now.pairs
         (replacement (substitution floats.now entries.now) q.0)
         (replacement (substitution floats.now entries.now) q.1)) asked.now) }
 {
     for pair in asked {
-        if !pair_fits(alloc, pairs, floats, entries, *pair)? {
+        if !pair_fits(alloc, thesis, floats, entries, *pair)? {
             return Ok(false);
         }
     }

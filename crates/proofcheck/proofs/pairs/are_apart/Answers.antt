@@ -10,5 +10,5 @@ returns-then-not-is_apart_from c =
 
 pub loop-u-preserved : goal.loop-u-preserved
 loop-u-preserved c =
-    within_one_more (λ u. All (λ v. IsApart c.args.pairs.now u v) c.args.vs.now) c.args.us.now c.loop-u.u-index 0 c.loop-u-test.true
+    within_one_more (λ u. All (λ v. IsApart c.args.thesis.now.pairs u v) c.args.vs.now) c.args.us.now c.loop-u.u-index 0 c.loop-u-test.true
     c.loop-u.invariant (c.is_apart_from.ensures.0 c.if-not-is_apart_from.false)

@@ -5,5 +5,5 @@ use Rattle.proofcheck.proofs.pairs.pairs_fit.Given as goal
 
 abbrev pub invariant-loop-pair : goal.invariant-loop-pair
 invariant-loop-pair l = AllWithin
-    (λ q. AreApart l.pairs (replacement (substitution l.floats l.entries) q.0) (replacement (substitution l.floats l.entries) q.1))
+    (λ q. AreApart l.thesis.pairs (replacement (substitution l.floats l.entries) q.0) (replacement (substitution l.floats l.entries) q.1))
     l.asked 0 l.pair-index

@@ -1,0 +1,13 @@
+-- Of the code's inside, apart from the rules: what is looked up, and what a look-up finds.
+use Rattle.std.specs.Prelude.{ℕ, List}
+use Rattle.std.specs.declared.cmp.Ordering.{Ordering}
+use Rattle.std.specs.Ordering.{nat_cmp, ordering_then}
+use Rattle.std.specs.List.Sorted.{IsSorted}
+
+-- by the first place, then by the second
+abbrev pub compared : ℕ × ℕ → ℕ × ℕ → Ordering
+compared p q = ordering_then (nat_cmp p.0 q.0) (nat_cmp p.1 q.1)
+
+-- no pair comes before the one before it
+abbrev pub ArePairsSorted : List (ℕ × ℕ) → Type 0
+ArePairsSorted ps = IsSorted compared ps
