@@ -13,3 +13,4 @@ pub mod Growing
 pub mod Exact
 pub mod Outcome
 pub mod Lookups
+pub mod Replaced

@@ -7,7 +7,7 @@ ghost use Rattle.proofcheck.specs.Faults.{FailsTest};
 use crate::entry::Entry;
 use crate::fault::ProofFaultKind;
 use crate::pairs::pairs_fit;
-use crate::substitutes::{are_substituted, conclude};
+use crate::substitutes::{Substitution, are_substituted, conclude};
 use crate::thesis::Thesis;
 use mmstatement::{Frame, Prelude, Symbol};
 use std::alloc::Global;
@@ -60,12 +60,13 @@ pub(crate) fn node<'a>(
     if !have_types(prelude, floats, args) {
         return Err(ProofFaultKind::WrongType);
     }
+    let substitution = Substitution::new(floats, args);
     let (_, logical) = args.split_at(floats.len());
-    if !are_substituted(floats, args, frame.hyps.as_slice(), logical) {
+    if !are_substituted(&substitution, frame.hyps.as_slice(), logical) {
         return Err(ProofFaultKind::HypothesisDiffers);
     }
-    if !pairs_fit(alloc, thesis, floats, args, frame.pairs.as_slice())? {
+    if !pairs_fit(alloc, thesis, &substitution, frame.pairs.as_slice())? {
         return Err(ProofFaultKind::NotDisjoint);
     }
-    conclude(alloc, floats, args, frame.statement.as_slice())
+    conclude(alloc, &substitution, frame.statement.as_slice())
 }

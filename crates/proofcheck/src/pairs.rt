@@ -1,15 +1,17 @@
 //! Disjoint variables: whether substitutes stay apart, by the restricted pairs of the assertion being proved.
 
-ghost use Rattle.std.specs.Prelude.{◌≡◌, ◌↔◌, ◌≤◌, ◌⊎◌, ℕ, IsTrue, IfOk, OnOk, All, Contains, length};
+ghost use Rattle.std.specs.Prelude.{◌≡◌, ◌↔◌, ◌⊎◌, ℕ, IsTrue, IfOk, OnOk, All, Contains};
+ghost use Rattle.std.specs.List.{AllZip};
 ghost use Rattle.mmstatement.specs.Substitution.{replacement};
 ghost use Rattle.mmsyntax.specs.Blocks.{in_order};
-ghost use Rattle.proofcheck.specs.Derivation.{AreApart, IsApart, substitution};
+ghost use Rattle.proofcheck.specs.Derivation.{AreApart, IsApart};
+ghost use Rattle.proofcheck.specs.Lookups.{AreVariablesOf};
 
-use crate::entry::Entry;
-use crate::substitutes::substitute_of;
+use crate::substitutes::Substitution;
 use crate::thesis::Thesis;
 use mmstatement::Symbol;
 use std::alloc::{AllocError, Global};
+use std::slice;
 
 /// Whether the two variables, in ascending order, are one of the pairs.
 fn is_pair(thesis: &Thesis, u: u32, v: u32) -> bool
@@ -53,37 +55,22 @@ fn are_apart(thesis: &Thesis, us: &[u32], vs: &[u32]) -> bool
     true
 }
 
-/// Adds the symbol, if it is a variable that isn't there yet.
+/// Adds the symbol, if it is a variable.
 fn note(found: &mut Vec<u32>, symbol: Symbol) -> Result<(), AllocError>
     ensures { OnOk result ((u : ℕ) → Contains found.new.items u ↔ Contains found.old.items u ⊎ (symbol ≡ Symbol.Var u)) }
 {
     match symbol {
         Symbol::Const(_) => Ok(()),
         Symbol::Var(v) => {
-            if has(found.as_slice(), v) {
-                return Ok(());
-            }
             found.push(v)?;
             Ok(())
         }
     }
 }
 
-/// Whether the number is among them.
-fn has(all: &[u32], n: u32) -> bool
-    ensures { IsTrue result ↔ Contains all.now n }
-{
-    for m in all {
-        if *m == n {
-            return true;
-        }
-    }
-    false
-}
-
-/// The variables of an expression, each once.
-fn variables_of(alloc: Global, symbols: &[Symbol]) -> Result<Vec<u32>, AllocError>
-    ensures { IfOk result (λ found. (u : ℕ) → Contains found.items u ↔ Contains symbols.now (Symbol.Var u)) }
+/// The variables of an expression, in the order of their symbols.
+fn listed_variables(alloc: Global, symbols: &[Symbol]) -> Result<Vec<u32>, AllocError>
+    ensures { IfOk result (λ found. AreVariablesOf found.items symbols.now) }
 {
     let mut found = Vec::new(alloc);
     for symbol in symbols {
@@ -92,59 +79,79 @@ fn variables_of(alloc: Global, symbols: &[Symbol]) -> Result<Vec<u32>, AllocErro
     Ok(found)
 }
 
-/// The variables of what stands for a variable, each once.
-fn variables_for(
-    alloc: Global,
-    floats: &[u32],
-    entries: &[Entry],
-    variable: u32,
-) -> Result<Vec<u32>, AllocError>
-    requires { length floats.now ≤ length entries.now }
-    ensures { IfOk result (λ found. (u : ℕ) → Contains found.items u
-        ↔ Contains (replacement (substitution floats.now entries.now) variable) (Symbol.Var u)) }
+/// The variables of an expression, ascending, each once.
+fn variables_of(alloc: Global, symbols: &[Symbol]) -> Result<Vec<u32>, AllocError>
+    ensures { IfOk result (λ found. AreVariablesOf found.items symbols.now) }
 {
-    match substitute_of(floats, entries, variable) {
-        Some(found) => variables_of(alloc, found),
-        None => {
-            let whole = [Symbol::Var(variable)];
-            variables_of(alloc, &whole)
-        }
+    let mut found = listed_variables(alloc, symbols)?;
+    found.sort_unstable();
+    found.dedup();
+    Ok(found)
+}
+
+/// The variables of each substitute, in the order of the substitution.
+fn variables_of_each(
+    alloc: Global,
+    substitution: &Substitution,
+) -> Result<Vec<Vec<u32>>, AllocError>
+    ensures { IfOk result (λ found. AllZip (λ s vs. AreVariablesOf vs.items s.1) substitution.now found.items) }
+{
+    let mut found = Vec::new(alloc);
+    for place in 0..substitution.len() {
+        found.push(variables_of(alloc, substitution.at(place))?)?;
+    }
+    Ok(found)
+}
+
+/// The variables of what stands for a variable: of its substitute, or itself.
+fn variables_for<'a>(
+    substitution: &Substitution,
+    found: &'a [Vec<u32>],
+    variable: &'a u32,
+) -> &'a [u32]
+    requires { AllZip (λ s vs. AreVariablesOf vs.items s.1) substitution.now found.now }
+    ensures { AreVariablesOf result.now (replacement substitution.now variable.now) }
+{
+    match substitution.place_of(*variable) {
+        Some(place) => found[place].as_slice(),
+        None => slice::from_ref(variable),
     }
 }
 
 /// Whether the substitutes of the two variables are apart.
 fn pair_fits(
-    alloc: Global,
     thesis: &Thesis,
-    floats: &[u32],
-    entries: &[Entry],
-    pair: (u32, u32),
-) -> Result<bool, AllocError>
-    requires { length floats.now ≤ length entries.now }
-    ensures { IfOk result (λ fits. IsTrue fits ↔ AreApart thesis.now.pairs
-        (replacement (substitution floats.now entries.now) pair.0)
-        (replacement (substitution floats.now entries.now) pair.1)) }
+    substitution: &Substitution,
+    found: &[Vec<u32>],
+    pair: &(u32, u32),
+) -> bool
+    requires { AllZip (λ s vs. AreVariablesOf vs.items s.1) substitution.now found.now }
+    ensures { IsTrue result ↔ AreApart thesis.now.pairs
+        (replacement substitution.now pair.now.0)
+        (replacement substitution.now pair.now.1) }
 {
-    let us = variables_for(alloc, floats, entries, pair.0)?;
-    let vs = variables_for(alloc, floats, entries, pair.1)?;
-    Ok(are_apart(thesis, us.as_slice(), vs.as_slice()))
+    let us = variables_for(substitution, found, &pair.0);
+    let vs = variables_for(substitution, found, &pair.1);
+    are_apart(thesis, us, vs)
 }
 
-/// Whether the substitutes of each pair are apart.
+/// Whether the substitutes of each pair are apart. The variables of each substitute are collected once, where any pair is asked.
 pub(crate) fn pairs_fit(
     alloc: Global,
     thesis: &Thesis,
-    floats: &[u32],
-    entries: &[Entry],
+    substitution: &Substitution,
     asked: &[(u32, u32)],
 ) -> Result<bool, AllocError>
-    requires { length floats.now ≤ length entries.now }
     ensures { IfOk result (λ fits. IsTrue fits ↔ All (λ q. AreApart thesis.now.pairs
-        (replacement (substitution floats.now entries.now) q.0)
-        (replacement (substitution floats.now entries.now) q.1)) asked.now) }
+        (replacement substitution.now q.0)
+        (replacement substitution.now q.1)) asked.now) }
 {
+    if asked.is_empty() {
+        return Ok(true);
+    }
+    let found = variables_of_each(alloc, substitution)?;
     for pair in asked {
-        if !pair_fits(alloc, thesis, floats, entries, *pair)? {
+        if !pair_fits(thesis, substitution, found.as_slice(), pair) {
             return Ok(false);
         }
     }
