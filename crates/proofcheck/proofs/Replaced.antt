@@ -1,17 +1,19 @@
 -- Where a substitute stands, and which variables it has.
 use Rattle.std.proofs.Common.{◌≡◌, ◌≢◌, ℕ, zero, suc, ◌<◌, ◌≤◌, List, [], ◌∷◌, Option, None, Some, length, drop, get_or}
-use Rattle.std.proofs.Common.{true, false, refl, sym, ap, ◌∙◌, ⊎_elim, append-nil, eqb, ltb, arith}
+use Rattle.std.proofs.Common.{map, true, false, refl, sym, ap, ◌∙◌, ⊎_elim, append-nil, eqb, ltb, arith}
 use Rattle.std.specs.List.{AllZip, dedup}
 use Rattle.std.specs.List.Sorted.{IsPermutation, IsNonDecreasing, IsPartitionPoint}
 use Rattle.std.proofs.lemmas.Bool.Decides.{leb_tells}
-use Rattle.std.proofs.lemmas.Bool.{eq-eqb, ne_eqb, ltb-true, ltb-false}
+use Rattle.std.proofs.lemmas.Bool.{ltb-true, ltb-false}
 use Rattle.std.proofs.lemmas.List.Kept.{Contains-dedup_nat, Contains-from_dedup}
 use Rattle.std.proofs.lemmas.List.Sorted.{Contains-permutation, IsPermutation-sym}
 use Rattle.mmsyntax.specs.declared.statement.Symbol.{Symbol}
 use Rattle.mmsyntax.specs.declared.statement.Symbol.TheVariants.{Var}
 use Rattle.mmstatement.specs.Substitution.{replacement, subst}
 use Rattle.proofcheck.specs.Derivation.{Expression, substitution}
-use Rattle.proofcheck.specs.Lookups.{IsFirstPlace, IsPlaceOf, AreVariablesOf}
+use Rattle.mmstatement.specs.Places.{IsFirstPlace, IsPlaceOf}
+use Rattle.mmstatement.proofs.Places.{place-of as first-place-of}
+use Rattle.proofcheck.specs.Lookups.{AreVariablesOf}
 
 -- where the numbers ascend, the first that isn't below n is where n would be
 pub halved-found : (xs : List ℕ) (n i : ℕ) → IsPartitionPoint (λ y. ltb y n ≡ true) (λ y. ltb y n ≡ false) xs i → i < length xs
@@ -42,29 +44,17 @@ substitute-at (f ∷ fs) [] i e d lt le = absurd (omega arith)
 substitute-at (f ∷ fs) (x ∷ xs) zero e d lt le = refl
 substitute-at (f ∷ fs) (x ∷ xs) (suc i) e d lt le = substitute-at fs xs i e d (omega arith) (omega arith)
 
-none-here : (floats : List ℕ) (es : List Expression) (v : ℕ) → ((k : ℕ) → k < length floats → get_or floats k 0 ≢ v)
-    → replacement (substitution floats es) v ≡ Var v ∷ []
-none-here [] es v h = refl
-none-here (f ∷ fs) [] v h = refl
-none-here (f ∷ fs) (e ∷ es) v h =
-    rw (ne_eqb f v (h 0 (omega arith))) (none-here fs es v (λ k lt. h (suc k) (omega arith)))
-
-first-here : (floats : List ℕ) (es : List Expression) (v i : ℕ) (d : ℕ × Expression) → length floats ≤ length es → i < length floats
-    → get_or floats i 0 ≡ v → ((k : ℕ) → k < i → get_or floats k 0 ≢ v)
-    → replacement (substitution floats es) v ≡ (get_or (substitution floats es) i d).1
-first-here [] es v i d le lt at before = absurd (omega arith)
-first-here (f ∷ fs) [] v i d le lt at before = absurd (omega arith)
-first-here (f ∷ fs) (e ∷ es) v zero d le lt at before = rw (eq-eqb f v at) refl
-first-here (f ∷ fs) (e ∷ es) v (suc i) d le lt at before =
-    rw (ne_eqb f v (before 0 (omega arith)))
-    (first-here fs es v i d (omega arith) (omega arith) at (λ k lower. before (suc k) (omega arith)))
+-- the variables of a substitution are its $f
+substitution-variables : (floats : List ℕ) (es : List Expression) → length floats ≤ length es
+    → map (λ (p : ℕ × Expression). p.0) (substitution floats es) ≡ floats
+substitution-variables [] es le = refl
+substitution-variables (f ∷ fs) [] le = absurd (omega arith)
+substitution-variables (f ∷ fs) (e ∷ es) le = ap (λ xs. f ∷ xs) (substitution-variables fs es (omega arith))
 
 -- the first place among the $f is that of the substitute
 pub place-of : (floats : List ℕ) (es : List Expression) (v : ℕ) (r : Option ℕ) → length floats ≤ length es → IsFirstPlace floats v r
     → IsPlaceOf (substitution floats es) v r
-place-of floats es v None le h = none-here floats es v h
-place-of floats es v (Some i) le h =
-    (rw (substitution-length floats es le) h.0, λ d. first-here floats es v i d le h.0 h.1 h.2)
+place-of floats es v r le h = first-place-of (substitution floats es) v r (rw (substitution-variables floats es le) h)
 
 -- the same numbers in order, each once
 pub same-variables : (listed sorted left : List ℕ) (e : Expression) → AreVariablesOf listed e → IsPermutation listed sorted

@@ -3,7 +3,7 @@
 ghost use Rattle.std.specs.Prelude.{◌≡◌, ◌↔◌, ◌∷◌, [], ◌≤◌, ◌<◌, ℕ, All, IsTrue, IfOk, IfErr, MatchOption, length, map, drop, true};
 ghost use Rattle.std.specs.List.Sorted.{IsNonDecreasing};
 ghost use Rattle.mmstatement.specs.Substitution.{subst};
-ghost use Rattle.proofcheck.specs.Lookups.{IsFirstPlace};
+ghost use Rattle.mmstatement.specs.Places.{IsFirstPlace};
 ghost use Rattle.proofcheck.specs.Moves.{IsConstant, IsTooLongOrNoMemory};
 
 use crate::entry::Entry;
@@ -67,7 +67,7 @@ impl<'a> Substitution<'a> {
     ghost use Rattle.std.specs.Prelude.{◌≡◌, ◌≤◌, ◌<◌, ℕ, List, length, slice_index_or};
     ghost use Rattle.mmsyntax.specs.declared.statement.Symbol.{Symbol};
     ghost use Rattle.proofcheck.specs.Derivation.{substitution};
-    ghost use Rattle.proofcheck.specs.Lookups.{IsPlaceOf};
+    ghost use Rattle.mmstatement.specs.Places.{IsPlaceOf};
 
     /// The substitution of an expression for each `$f`. The `$f` are gone through once.
     pub(crate) fn new(floats: &'a [u32], entries: &'a [Entry<'a>]) -> Substitution<'a>
