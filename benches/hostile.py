@@ -50,9 +50,21 @@ def halves(count, citations):
     half = count // 2
     # a $e of the axiom makes both variables mandatory; its expression is the two substitutes, one behind the other
     rule = words(["${", "$d", vs[0], vs[1], "$.", "re", "$e", "wff", vs[0], vs[1], "$.", *RULE])
-    scope = words(["${", "$d", *vs, "$.", "l", "$e", "wff", *vs[:half], "$.", "r", "$e", "wff", *vs[half:], "$.", "b", "$e", "wff", *vs, "$."])
+    scope = words(["${", "$d", *vs, "$."]) + words(["l", "$e", "wff", *vs[:half], "$."], ["r", "$e", "wff", *vs[half:], "$."])
+    scope += words(["b", "$e", "wff", *vs, "$."])
     proof = words(["th", "$p", "|-", "T", "$="], ["l", "r", "b"] * citations, ["true"], ["rule"] * citations, ["$.", "$}"])
     return prelude(vs) + rule + scope + proof
+
+
+def odd_and_even(count, citations):
+    """The same over every other variable, so that the pairs that are compared don't stand side by side."""
+    vs = [f"v{i}" for i in range(count)]
+    text = halves(count, citations)
+    half = count // 2
+    mixed = words(["l", "$e", "wff", *vs[1::2], "$."], ["r", "$e", "wff", *vs[::2], "$."])
+    mixed += words(["b", "$e", "wff", *vs[1::2], *vs[::2], "$."])
+    plain = words(["l", "$e", "wff", *vs[:half], "$."], ["r", "$e", "wff", *vs[half:], "$."]) + words(["b", "$e", "wff", *vs, "$."])
+    return text.replace(plain, mixed)
 
 
 def mandatory(count, citations):
@@ -75,7 +87,8 @@ def hypotheses(count, citations):
     """An axiom of one variable with `count` hypotheses."""
     hyps = "".join(f"e{i} $e |- p $.\n" for i in range(count))
     text = "$c wff |- T $.\n$v p $.\nfp $f wff p $.\nwt $a wff T $.\ntrue $a |- T $.\n${\n" + hyps + "rule $a |- p $.\n$}\n"
-    return text + words(["th", "$p", "|-", "T", "$="], (["wt"] + ["true"] * (count - 1)) * citations, ["true"], ["rule"] * citations, ["$."])
+    arguments = ["wt"] + ["true"] * (count - 1)
+    return text + words(["th", "$p", "|-", "T", "$="], arguments * citations, ["true"], ["rule"] * citations, ["$."])
 
 
 def own_variables(count, citations):
@@ -151,6 +164,7 @@ def rows():
         ("halves of one $d cited: 114 variables, 362", lambda: halves(114, 1), lambda: halves(362, 1)),
         ("halves of one $d of 362 cited 10, 100 times", lambda: halves(362, 10), lambda: halves(362, 100)),
         ("halves of one $d of 362 cited 409, 4,095 times", lambda: halves(362, 409), lambda: halves(362, 4095)),
+        ("odd and even of one $d of 362 cited 10, 100 times", lambda: odd_and_even(362, 10), lambda: odd_and_even(362, 100)),
         ("6,441, 65,341 mandatory pairs cited 10 times", lambda: mandatory(114, 10), lambda: mandatory(362, 10)),
         ("65,341 mandatory pairs cited 10, 100 times", lambda: mandatory(362, 10), lambda: mandatory(362, 100)),
         ("100, 1,000 hypotheses cited 16 times", lambda: hypotheses(100, 16), lambda: hypotheses(1000, 16)),
@@ -188,8 +202,7 @@ def main():
     path = options.out / "hostile.mm"
     path.write_text("$c T $.\n")
     nothing, _ = best(command, path, options.rounds)
-    print(f"nproc {os.cpu_count()}, load {os.getloadavg()[0]:.1f}, best of {options.rounds} rounds in ms, less {nothing:.1f} of an empty text")
-    print()
+    print(f"nproc {os.cpu_count()}, load {os.getloadavg()[0]:.1f}; best of {options.rounds} rounds in ms, less {nothing:.1f} of nothing\n")
     print("| row | a tenth | whole | whole / (10 tenths) | even | answer |")
     print("|---" * 6 + "|")
     for name, small, large in rows():

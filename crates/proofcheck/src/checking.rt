@@ -138,10 +138,11 @@ fn check_steps<F: Frames>(
 /// the tests come in this order: `UnknownStep`, `StackShort`, `WrongType` of each `$f`, `HypothesisDiffers` of each `$e`,
 /// `NotDisjoint`, `TooLong`; at the end `NotOneLeft`, then `StatementDiffers`. The assertion need not fit the prelude.
 ///
-/// The time is about that of the symbols that citations take and write down, and of the pairs of variables that they compare: each pair
-/// is found by halving among those of the assertion, and so is the expression of a variable among those of a frame. Pairs or `$f` that
-/// don't ascend are gone through instead: no assertion that fits a prelude and no frame of `frame_of` has such. A step that names a
-/// `$f`, a `$e` or an assertion whose statement has no variables copies nothing.
+/// The time is about that of the symbols that citations take and write down, and of the pairs of variables that they compare: a pair is
+/// found by halving among those of the assertion, or at once where it stands close behind the one before, and the expression of a
+/// variable by halving among those of a frame. Pairs or `$f` that don't ascend are gone through instead: no assertion that fits a
+/// prelude and no frame of `frame_of` has such. A step that names a `$f`, a `$e` or an assertion whose statement has no variables copies
+/// nothing.
 pub fn check<F: Frames>(
     alloc: Global,
     prelude: &Prelude,

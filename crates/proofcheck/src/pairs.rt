@@ -1,11 +1,10 @@
 //! Disjoint variables: whether substitutes stay apart, by the restricted pairs of the assertion being proved.
 
-ghost use Rattle.std.specs.Prelude.{◌≡◌, ◌↔◌, ◌⊎◌, ℕ, IsTrue, IfOk, OnOk, All, Contains};
+ghost use Rattle.std.specs.Prelude.{◌≡◌, ◌↔◌, ◌⊎◌, ℕ, IsTrue, IfOk, OnOk, MatchOption, All, Contains};
 ghost use Rattle.std.specs.List.{AllZip};
 ghost use Rattle.mmstatement.specs.Substitution.{replacement};
-ghost use Rattle.mmsyntax.specs.Blocks.{in_order};
 ghost use Rattle.proofcheck.specs.Derivation.{AreApart, IsApart};
-ghost use Rattle.proofcheck.specs.Lookups.{AreVariablesOf};
+ghost use Rattle.proofcheck.specs.Lookups.{AreVariablesOf, PassesAbove};
 
 use crate::substitutes::Substitution;
 use crate::thesis::Thesis;
@@ -13,46 +12,52 @@ use mmstatement::Symbol;
 use std::alloc::{AllocError, Global};
 use std::slice;
 
-/// Whether the two variables, in ascending order, are one of the pairs.
-fn is_pair(thesis: &Thesis, u: u32, v: u32) -> bool
-    ensures { IsTrue result ↔ Contains thesis.now.pairs (in_order u v) }
+/// The place from which the next pair of `low` is to be looked for, if `low` differs from the other variable and, where it is the
+/// lower one, is restricted with it. A pair near that place is found sooner.
+fn pass(thesis: &Thesis, low: u32, other: u32, near: usize) -> Option<usize>
+    ensures { MatchOption result (¬ PassesAbove thesis.now.pairs low other) (λ _. PassesAbove thesis.now.pairs low other) }
 {
-    if u < v {
-        thesis.restricts((u, v))
-    } else {
-        thesis.restricts((v, u))
+    if other < low {
+        return Some(near);
     }
+    if other == low {
+        return None;
+    }
+    thesis.place_of((low, other), near)
 }
 
-/// Whether the variables differ and are one of the pairs.
-fn is_apart(thesis: &Thesis, u: u32, v: u32) -> bool
-    ensures { IsTrue result ↔ IsApart thesis.now.pairs u v }
+/// Whether a variable differs from each of the others, and is restricted with each higher one. Pairs of others that ascend stand close
+/// together.
+fn passes_each(thesis: &Thesis, low: u32, others: &[u32]) -> bool
+    ensures { IsTrue result ↔ All (λ v. PassesAbove thesis.now.pairs low v) others.now }
 {
-    u != v && is_pair(thesis, u, v)
-}
-
-/// Whether the variable is apart from each of the others.
-fn is_apart_from(thesis: &Thesis, u: u32, others: &[u32]) -> bool
-    ensures { IsTrue result ↔ All (λ v. IsApart thesis.now.pairs u v) others.now }
-{
+    let mut near = 0;
     for v in others {
-        if !is_apart(thesis, u, *v) {
+        match pass(thesis, low, *v, near) {
+            None => return false,
+            Some(next) => near = next,
+        }
+    }
+    true
+}
+
+/// Whether each of the first variables passes each of the others.
+fn all_pass(thesis: &Thesis, us: &[u32], vs: &[u32]) -> bool
+    ensures { IsTrue result ↔ All (λ u. All (λ v. PassesAbove thesis.now.pairs u v) vs.now) us.now }
+{
+    for u in us {
+        if !passes_each(thesis, *u, vs) {
             return false;
         }
     }
     true
 }
 
-/// Whether each two variables, one of each list, are apart.
+/// Whether each two variables, one of each list, are apart: the pairs are looked for row by row of their lower variable.
 fn are_apart(thesis: &Thesis, us: &[u32], vs: &[u32]) -> bool
     ensures { IsTrue result ↔ All (λ u. All (λ v. IsApart thesis.now.pairs u v) vs.now) us.now }
 {
-    for u in us {
-        if !is_apart_from(thesis, *u, vs) {
-            return false;
-        }
-    }
-    true
+    all_pass(thesis, us, vs) && all_pass(thesis, vs, us)
 }
 
 /// Adds the symbol, if it is a variable.

@@ -1,9 +1,13 @@
 //! The assertion being proved, made ready for look-ups of its restricted pairs.
 
-ghost use Rattle.std.specs.Prelude.{◌≡◌, ◌↔◌, IsTrue, Contains};
+ghost use Rattle.std.specs.Prelude.{◌≡◌, ◌<◌, IfSome, length, slice_index_or};
+ghost use Rattle.proofcheck.specs.Lookups.{IsPlaceOfPair};
 
 use mmstatement::Assertion;
 use std::marker::Model;
+
+/// How many pairs are looked at before all are.
+const FEW: usize = 16;
 
 /// The assertion being proved. It is told once whether its pairs ascend, as those of each assertion that fits a prelude do. Contracts
 /// see the assertion.
@@ -25,6 +29,21 @@ impl<'a> Model for Thesis<'a> {
     ghost invariant = { λ t. t.ascends ≡ true → ArePairsSorted t.assertion.now.pairs };
 }
 
+/// The place of a pair among the few from a place on, if it is found there.
+fn place_near(pairs: &[(u32, u32)], pair: (u32, u32), near: usize) -> Option<usize>
+    ensures { IfSome result (λ i. (i < length pairs.now) × (slice_index_or pairs.now i pair ≡ pair)) }
+{
+    let end = near.saturating_add(FEW).min(pairs.len());
+    if near > end {
+        return None;
+    }
+    let few = &pairs[near..end];
+    match few.binary_search(&pair) {
+        Ok(i) => Some(near + i),
+        Err(_) => None,
+    }
+}
+
 impl<'a> Thesis<'a> {
     /// The assertion, whose pairs are gone through once.
     pub(crate) fn new(assertion: &'a Assertion) -> Thesis<'a>
@@ -42,15 +61,19 @@ impl<'a> Thesis<'a> {
         self.assertion
     }
 
-    /// Whether it restricts the pair: by halving where its pairs ascend.
-    pub(crate) fn restricts(&self, pair: (u32, u32)) -> bool
-        ensures { IsTrue result ↔ Contains self.now.pairs pair }
+    /// The place of a pair, if the assertion restricts it: among the few that stand next from a place on, else by halving where the
+    /// pairs ascend.
+    pub(crate) fn place_of(&self, pair: (u32, u32), near: usize) -> Option<usize>
+        ensures { IsPlaceOfPair self.now.pairs pair result }
     {
         let pairs = self.assertion.pairs.as_slice();
+        if let Some(place) = place_near(pairs, pair, near) {
+            return Some(place);
+        }
         if self.ascends {
-            pairs.binary_search(&pair).is_ok()
+            pairs.binary_search(&pair).ok()
         } else {
-            pairs.contains(&pair)
+            pairs.iter().position(|other| *other == pair)
         }
     }
 }

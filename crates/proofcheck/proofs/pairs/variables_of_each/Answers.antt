@@ -13,4 +13,5 @@ loop-place-preserved c =
     let lt : i < length s = omega arith in
     let one = rw (c.at.ensures (0, [])) at c.in_ok-variables_of.ensures in
     rw (take_more s i (0, []) lt, c.in_ok-push.ensures.items)
-    (all_zipped_more (λ q us. AreVariablesOf us.items q.1) (take i s) c.loop-place.found.items (get_or s i (0, [])) vs c.loop-place.invariant one)
+    (all_zipped_more (λ q us. AreVariablesOf us.items q.1) (take i s) c.loop-place.found.items (get_or s i (0, [])) vs
+    c.loop-place.invariant one)
