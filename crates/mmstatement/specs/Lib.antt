@@ -1,4 +1,5 @@
 pub mod Frames
+pub mod Places
 pub mod Substitution
 pub mod SubstituteErrors
 pub use Rattle.mmtext.specs.Words

@@ -1,10 +1,16 @@
 //! Substitution: each variable of an expression replaced at once.
 
-ghost use Rattle.std.specs.Prelude.{◌≡◌, ◌<◌, ◌≤◌, ◌∷◌, [], MatchOption, IfOk, IfErr, length};
+ghost use Rattle.std.specs.Prelude.{◌≡◌, ◌<◌, ◌≤◌, ◌∷◌, [], ◌==◌, if◌then◌else◌, ℕ, None, Some, MatchOption, IfOk};
+ghost use Rattle.std.specs.Prelude.{IfErr, OnOk, length, map};
+ghost use Rattle.std.specs.Option.{option_or};
+ghost use Rattle.std.specs.Ordering.{nat_cmp};
+ghost use Rattle.std.specs.BTreeMap.{get};
+ghost use Rattle.mmstatement.specs.Places.{IsFirstPlace};
 ghost use Rattle.mmstatement.specs.Substitution.{replacement, subst};
 
 use mmsyntax::{Expr, Sequence, Symbol};
 use std::alloc::{AllocError, Global};
+use std::collections::BTreeMap;
 use std::error::Error;
 use std::{fmt, slice};
 
@@ -71,27 +77,62 @@ impl From<AllocError> for SubstituteError {
     }
 }
 
+/// Notes the place of a variable, if it has none yet.
+fn note_place(
+    places: &mut BTreeMap<u32, usize>,
+    variable: u32,
+    place: usize,
+) -> Result<(), AllocError>
+    ensures { OnOk result ((v : ℕ) → get nat_cmp places.new v
+        ≡ option_or (get nat_cmp places.old v) (if variable == v then Some place else None)) }
+{
+    if places.contains_key(&variable) {
+        return Ok(());
+    }
+    places.insert(variable, place)?;
+    Ok(())
+}
+
+/// The place of the first pair of each variable.
+fn places_of(alloc: Global, pairs: &[(u32, Expr)]) -> Result<BTreeMap<u32, usize>, AllocError>
+    ensures { IfOk result (λ places. (v : ℕ) → IsFirstPlace (map (λ p. p.0) pairs.now) v (get nat_cmp places v)) }
+{
+    let mut places = BTreeMap::new(alloc);
+    for (i, pair) in pairs.iter().enumerate() {
+        note_place(&mut places, pair.0, i)?;
+    }
+    Ok(places)
+}
+
 /// The expression of the variable's first pair, if it has one.
-fn substitute_of(pairs: &[(u32, Expr)], variable: u32) -> Option<&[Symbol]>
+fn substitute_of<'a>(
+    pairs: &'a [(u32, Expr)],
+    places: &BTreeMap<u32, usize>,
+    variable: u32,
+) -> Option<&'a [Symbol]>
+    requires { (v : ℕ) → IsFirstPlace (map (λ p. p.0) pairs.now) v (get nat_cmp places.now v) }
     ensures { MatchOption result
         (replacement pairs.now variable ≡ Symbol.Var variable ∷ [])
         (λ found. replacement pairs.now variable ≡ found.now) }
 {
-    for pair in pairs {
-        if pair.0 == variable {
-            return Some(pair.1.as_slice());
-        }
+    match places.get(&variable) {
+        Some(place) => Some(pairs[*place].1.as_slice()),
+        None => None,
     }
-    None
 }
 
 /// What stands for one symbol.
-fn piece<'a>(pairs: &'a [(u32, Expr)], symbol: &'a Symbol) -> &'a [Symbol]
+fn piece<'a>(
+    pairs: &'a [(u32, Expr)],
+    places: &BTreeMap<u32, usize>,
+    symbol: &'a Symbol,
+) -> &'a [Symbol]
+    requires { (v : ℕ) → IsFirstPlace (map (λ p. p.0) pairs.now) v (get nat_cmp places.now v) }
     ensures { result.now ≡ subst pairs.now (symbol.now ∷ []) }
 {
     match symbol {
         Symbol::Const(_) => slice::from_ref(symbol),
-        Symbol::Var(j) => match substitute_of(pairs, *j) {
+        Symbol::Var(j) => match substitute_of(pairs, places, *j) {
             Some(found) => found,
             None => slice::from_ref(symbol),
         },
@@ -100,7 +141,8 @@ fn piece<'a>(pairs: &'a [(u32, Expr)], symbol: &'a Symbol) -> &'a [Symbol]
 
 /// The expression in which each variable is replaced at once by the expression of its first pair. A variable without a pair stays.
 ///
-/// `TooLong` where it would have more than 65,535 symbols; nothing is kept then.
+/// `TooLong` where it would have more than 65,535 symbols; nothing is kept then. The pairs are gone through once, and then the time is
+/// that of writing the symbols down, with one look-up in a map for each variable.
 pub fn substitute(
     alloc: Global,
     pairs: &[(u32, Expr)],
@@ -110,9 +152,10 @@ pub fn substitute(
     ensures short { IfOk result (λ made. length made ≤ 65535) }
     ensures too_long { IfErr result (λ error. error ≡ SubstituteError.TooLong → 65535 < length (subst pairs.now symbols.now)) }
 {
+    let places = places_of(alloc, pairs)?;
     let mut made = Vec::new(alloc);
     for symbol in symbols {
-        let next = piece(pairs, symbol);
+        let next = piece(pairs, &places, symbol);
         if next.len() > MOST_SYMBOLS - made.len() {
             return Err(SubstituteError::TooLong);
         }

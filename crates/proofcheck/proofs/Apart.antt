@@ -1,14 +1,18 @@
 -- Disjoint variables, from the variables found in the expressions.
-use Rattle.std.proofs.Common.{◌≡◌, ◌↔◌, ◌⊎◌, inl, inr, ℕ, ◌+◌, ◌<◌, ◌≤◌, List, All, Contains, length, take, get_or, subst, ap, ◌∙◌}
+use Rattle.std.proofs.Common.{◌≡◌, ◌↔◌, ◌⊎◌, inl, inr, ℕ, ◌+◌, ◌<◌, ◌≤◌, List, All, Contains, length, take, get_or, subst}
+use Rattle.std.proofs.Common.{refl, sym, ap, ◌∙◌, Bool, true, false, cond, ltb}
 use Rattle.std.proofs.Common.{⊎_elim, arith}
 use Rattle.std.proofs.Math.Seq.{take-length}
 use Rattle.std.specs.List.{AllWithin}
+use Rattle.std.proofs.lemmas.Bool.{ltb-true, ltb-false}
 use Rattle.std.proofs.lemmas.List.{get_or_default, take_more}
 use Rattle.std.proofs.lemmas.List.Elements.{AllWithin-more, All-contains, Contains-push, Contains-push_cases, Contains-append_left}
 use Rattle.std.proofs.lemmas.List.Elements.{Contains-get_or}
 use Rattle.mmsyntax.specs.declared.statement.Symbol.{Symbol}
 use Rattle.mmsyntax.specs.declared.statement.Symbol.TheVariants.{Var}
+use Rattle.mmsyntax.specs.Blocks.{in_order}
 use Rattle.proofcheck.specs.Derivation.{Expression, IsApart, AreApart}
+use Rattle.proofcheck.specs.Lookups.{PassesAbove}
 
 -- what holds of the elements so far and of the next
 pub within_one_more : {X : Type 0} (P : X → Type 0) (xs : List X) (i : ℕ) (e : X) → i < length xs → AllWithin P xs 0 i → P (get_or xs i e)
@@ -45,3 +49,30 @@ found_all found e i low high h u =
     let end : i ≡ length e = omega arith in
     let whole : take i e ≡ e = ap (λ k. take k e) end ∙ take-length e in
     rw whole at (h u)
+
+-- the lower of two variables that differ is restricted with the higher, whichever list it is of
+pub apart-both : (ps : List (ℕ × ℕ)) (us vs : List ℕ) → All (λ u. All (λ v. PassesAbove ps u v) vs) us
+    → All (λ v. All (λ u. PassesAbove ps v u) us) vs ↔ All (λ u. All (λ v. IsApart ps u v) vs) us
+apart-both ps us vs low = (
+  λ high. λ k d lt. λ m e lt'.
+      let u = get_or us k d in
+      let v = get_or vs m e in
+      apart u v (low k d lt m e lt') (high m e lt' k d lt),
+  λ all. λ m e lt'. λ k d lt.
+      let h = all k d lt m e lt' in
+      (λ same. h.differ (sym same), λ below. swapped _ _ below h.paired),
+)
+  where
+    apart : (u v : ℕ) → PassesAbove ps u v → PassesAbove ps v u → IsApart ps u v
+    apart u v here there = record { differ = here.0; paired = pick (ltb u v) refl }
+      where
+        pick : (b : Bool) → ltb u v ≡ b → Contains ps (cond b (u, v) (v, u))
+        pick true e = here.1 (ltb-true u v e)
+        pick false e = there.1 (let above = ltb-false u v e in let differ = here.0 in omega arith)
+
+    swapped : (u v : ℕ) → v < u → Contains ps (in_order u v) → Contains ps (v, u)
+    swapped u v below h = pick (ltb u v) refl h
+      where
+        pick : (b : Bool) → ltb u v ≡ b → Contains ps (cond b (u, v) (v, u)) → Contains ps (v, u)
+        pick true e there = absurd (let above = ltb-true u v e in omega arith)
+        pick false e there = there

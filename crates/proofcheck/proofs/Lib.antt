@@ -12,3 +12,5 @@ pub mod Decisions
 pub mod Growing
 pub mod Exact
 pub mod Outcome
+pub mod Lookups
+pub mod Replaced

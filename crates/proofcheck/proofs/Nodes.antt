@@ -1,6 +1,6 @@
 -- Substitution symbol by symbol, and the tests of a citation.
-use Rattle.std.proofs.Common.{◌≡◌, ◌≢◌, ◌↔◌, ℕ, suc, ◌+◌, ◌<◌, ◌≤◌, List, [], ◌∷◌, ◌++◌, true, false, length, drop, get_or, map, refl}
-use Rattle.std.proofs.Common.{sym, ap, append-nil, add-one, eqb, All, arith}
+use Rattle.std.proofs.Common.{◌≡◌, ◌≢◌, ◌↔◌, ℕ, suc, ◌+◌, ◌<◌, ◌≤◌, List, [], ◌∷◌, ◌++◌, length, drop, get_or, refl}
+use Rattle.std.proofs.Common.{ap, append-nil, add-one, All, arith}
 use Rattle.std.proofs.Math.Seq.{drop-cons}
 use Rattle.std.proofs.lemmas.List.{append_cancel_left}
 use Rattle.std.specs.Bool.{Decides}
@@ -10,7 +10,7 @@ use Rattle.mmsyntax.specs.declared.statement.Symbol.{Symbol}
 use Rattle.mmsyntax.specs.declared.statement.Symbol.TheVariants.{Const, Var}
 use Rattle.mmsyntax.specs.Tables.{Tables}
 use Rattle.mmstatement.specs.Substitution.{subst, replacement}
-use Rattle.proofcheck.specs.Derivation.{Expression, substitution, TypesFit, HypothesesFit, PairsFit, conclusion, arity}
+use Rattle.proofcheck.specs.Derivation.{Expression, TypesFit, HypothesesFit, PairsFit, conclusion, arity}
 use Rattle.proofcheck.specs.Faults.{FailsTest, last}
 use Rattle.proofcheck.specs.Moves.{IsConstant, IsTooLongOrNoMemory, FailsOnLast}
 use Rattle.proofcheck.specs.declared.fault.ProofFaultKind.{ProofFaultKind}
@@ -34,26 +34,6 @@ subst-constants s (Var j ∷ e) h = absurd (h 0 (Var j) (omega arith))
 pub subst-drop : (s : List (ℕ × Expression)) (e : Expression) (i : ℕ) (d : Symbol) → i < length e
     → subst s (drop i e) ≡ subst s (get_or e i d ∷ []) ++ subst s (drop (i + 1) e)
 subst-drop s e i d lt = rw (drop-cons e i d, add-one) (subst-cons s (get_or e i d) (drop (suc i) e))
-
-pub map-drop : {A B : Type 0} (f : A → B) (xs : List A) (i : ℕ) (d : A) → i < length xs
-    → map f (drop i xs) ≡ f (get_or xs i d) ∷ map f (drop (i + 1) xs)
-map-drop f xs i d lt = rw (drop-cons xs i d, add-one) refl
-
-eqb-false : (x y : ℕ) → x ≢ y → eqb x y ≡ false
-eqb-false x y ne = elim (eqb x y) as (λ b. eqb x y ≡ b → b ≡ false)
-    [ true ↦ λ e. absurd (ne ((Decides-eqb x y).0 e)) | false ↦ λ e. refl ] refl
-
--- the substitute of a variable that isn't at this place is among the later ones
-pub replacement-later : (floats : List ℕ) (es : List Expression) (i v : ℕ) → i < length floats → i < length es → get_or floats i 0 ≢ v
-    → replacement (substitution (drop i floats) (drop i es)) v ≡ replacement (substitution (drop (i + 1) floats) (drop (i + 1) es)) v
-replacement-later floats es i v lt lt' ne =
-    let no = eqb-false (get_or floats i 0) v ne in
-    rw (drop-cons floats i 0, drop-cons es i [], add-one) (rw no refl)
-
-pub replacement-here : (floats : List ℕ) (es : List Expression) (i v : ℕ) (e : Expression) → i < length floats → i < length es
-    → get_or floats i 0 ≡ v → e ≡ get_or es i e → replacement (substitution (drop i floats) (drop i es)) v ≡ drop 1 e
-replacement-here floats es i v e lt lt' at is =
-    rw (drop-cons floats i 0, drop-cons es i e) (rw ((Decides-eqb _ _).1 at) (ap (drop 1) (sym is)))
 
 -- `==` at symbols
 pub symbol_decides : (a b : Symbol) → Decides (eq-value.it a b) (a ≡ b)

@@ -7,3 +7,4 @@ pub mod Outcomes
 pub mod Moves
 pub mod Held
 pub mod Reports
+pub mod Lookups

@@ -11,6 +11,7 @@ use crate::entry::Entry;
 use crate::fault::{ProofFault, ProofFaultKind};
 use crate::frames::Frames;
 use crate::node::node;
+use crate::thesis::Thesis;
 use mmstatement::{Assertion, Expr, Frame, Kind, Prelude, Step, Symbol};
 use std::alloc::{AllocError, Global};
 
@@ -18,13 +19,13 @@ use std::alloc::{AllocError, Global};
 fn cite<'a>(
     alloc: Global,
     prelude: &Prelude,
-    assertion: &Assertion,
+    thesis: &Thesis,
     frame: &'a Frame,
     stack: &mut Vec<Entry<'a>>,
 ) -> Result<(), ProofFaultKind>
-    ensures ok { OnOk result (GivesOnLast prelude.now assertion.now frame.now stack.old.items stack.new.items) }
+    ensures ok { OnOk result (GivesOnLast prelude.now thesis.now frame.now stack.old.items stack.new.items) }
     ensures err { IfErr result (λ kind. kind ≢ ProofFaultKind.NoMemory →
-        FailsOnLast prelude.now assertion.now frame.now stack.old.items kind) }
+        FailsOnLast prelude.now thesis.now frame.now stack.old.items kind) }
 {
     let count = frame.floats.as_slice().len() + frame.hyps.as_slice().len();
     if stack.len() < count {
@@ -32,7 +33,7 @@ fn cite<'a>(
     }
     let base = stack.len() - count;
     let (_, args) = stack.as_slice().split_at(base);
-    let made = node(alloc, prelude, assertion, frame, args)?;
+    let made = node(alloc, prelude, thesis, frame, args)?;
     stack.truncate(base);
     stack.push(made).map_err(AllocError::from)?;
     Ok(())
@@ -43,13 +44,13 @@ fn take_step<'a, F: Frames>(
     alloc: Global,
     prelude: &Prelude,
     frames: &'a F,
-    assertion: &'a Assertion,
+    thesis: &Thesis<'a>,
     stack: &mut Vec<Entry<'a>>,
     step: &Step,
 ) -> Result<(), ProofFaultKind>
-    ensures ok { OnOk result (Moves (F.frames frames.now) prelude.now assertion.now stack.old.items step.now stack.new.items) }
+    ensures ok { OnOk result (Moves (F.frames frames.now) prelude.now thesis.now stack.old.items step.now stack.new.items) }
     ensures err { IfErr result (λ kind. kind ≢ ProofFaultKind.NoMemory →
-        StepFails (F.frames frames.now) prelude.now assertion.now stack.old.items step.now kind) }
+        StepFails (F.frames frames.now) prelude.now thesis.now stack.old.items step.now kind) }
 {
     match step {
         Step::Float(i) => match prelude.floats().get(*i as usize) {
@@ -60,7 +61,7 @@ fn take_step<'a, F: Frames>(
                 Ok(())
             }
         },
-        Step::Hyp(k) => match assertion.hyps.as_slice().get(*k as usize) {
+        Step::Hyp(k) => match thesis.assertion().hyps.as_slice().get(*k as usize) {
             None => Err(ProofFaultKind::UnknownStep),
             Some(hyp) => {
                 let lent = Entry::lent(hyp.as_slice());
@@ -70,7 +71,7 @@ fn take_step<'a, F: Frames>(
         },
         Step::Cite(label) => match frames.frame(label) {
             None => Err(ProofFaultKind::UnknownStep),
-            Some(frame) => cite(alloc, prelude, assertion, frame, stack),
+            Some(frame) => cite(alloc, prelude, thesis, frame, stack),
         },
     }
 }
@@ -110,10 +111,11 @@ fn check_steps<F: Frames>(
     ensures fault { IfErr result (λ fault. fault.kind ≢ ProofFaultKind.NoMemory →
         HasFault (F.frames frames.now) prelude.now assertion.now fault) }
 {
+    let thesis = Thesis::new(assertion);
     let mut stack = Vec::new(alloc);
     let steps = assertion.proof.as_slice();
     for (done, step) in steps.iter().enumerate() {
-        match take_step(alloc, prelude, frames, assertion, &mut stack, step) {
+        match take_step(alloc, prelude, frames, &thesis, &mut stack, step) {
             Ok(()) => {}
             Err(kind) => return Err(ProofFault {
                 step: done + 1,
@@ -136,8 +138,11 @@ fn check_steps<F: Frames>(
 /// the tests come in this order: `UnknownStep`, `StackShort`, `WrongType` of each `$f`, `HypothesisDiffers` of each `$e`,
 /// `NotDisjoint`, `TooLong`; at the end `NotOneLeft`, then `StatementDiffers`. The assertion need not fit the prelude.
 ///
-/// The time is about that of writing down the expression of each citation. A step that names a `$f`, a `$e` or an assertion
-/// whose statement has no variables copies nothing.
+/// The time is about that of the symbols that citations take and write down, and of the pairs of variables that they compare: a pair is
+/// found by halving among those of the assertion, or at once where it stands close behind the one before, and the expression of a
+/// variable by halving among those of a frame. Pairs or `$f` that don't ascend are gone through instead: no assertion that fits a
+/// prelude and no frame of `frame_of` has such. A step that names a `$f`, a `$e` or an assertion whose statement has no variables copies
+/// nothing.
 pub fn check<F: Frames>(
     alloc: Global,
     prelude: &Prelude,

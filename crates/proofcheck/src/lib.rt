@@ -15,6 +15,7 @@ pub mod laws;
 mod node;
 mod pairs;
 mod substitutes;
+mod thesis;
 
 pub use checking::check;
 pub use databases::check_all;

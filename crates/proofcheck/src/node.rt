@@ -7,8 +7,9 @@ ghost use Rattle.proofcheck.specs.Faults.{FailsTest};
 use crate::entry::Entry;
 use crate::fault::ProofFaultKind;
 use crate::pairs::pairs_fit;
-use crate::substitutes::{are_substituted, conclude};
-use mmstatement::{Assertion, Frame, Prelude, Symbol};
+use crate::substitutes::{Substitution, are_substituted, conclude};
+use crate::thesis::Thesis;
+use mmstatement::{Frame, Prelude, Symbol};
 use std::alloc::Global;
 
 /// Whether an expression begins with the type of the `$f` at a place.
@@ -47,30 +48,25 @@ fn have_types(prelude: &Prelude, floats: &[u32], entries: &[Entry]) -> bool
 pub(crate) fn node<'a>(
     alloc: Global,
     prelude: &Prelude,
-    assertion: &Assertion,
+    thesis: &Thesis,
     frame: &'a Frame,
     args: &[Entry],
 ) -> Result<Entry<'a>, ProofFaultKind>
     requires { length args.now ≡ arity frame.now }
-    ensures ok { IfOk result (λ made. Gives prelude.now assertion.now frame.now args.now made) }
-    ensures err { IfErr result (λ kind. kind ≢ ProofFaultKind.NoMemory → FailsTest prelude.now assertion.now frame.now args.now kind) }
+    ensures ok { IfOk result (λ made. Gives prelude.now thesis.now frame.now args.now made) }
+    ensures err { IfErr result (λ kind. kind ≢ ProofFaultKind.NoMemory → FailsTest prelude.now thesis.now frame.now args.now kind) }
 {
     let floats = frame.floats.as_slice();
     if !have_types(prelude, floats, args) {
         return Err(ProofFaultKind::WrongType);
     }
+    let substitution = Substitution::new(floats, args);
     let (_, logical) = args.split_at(floats.len());
-    if !are_substituted(floats, args, frame.hyps.as_slice(), logical) {
+    if !are_substituted(&substitution, frame.hyps.as_slice(), logical) {
         return Err(ProofFaultKind::HypothesisDiffers);
     }
-    if !pairs_fit(
-        alloc,
-        assertion.pairs.as_slice(),
-        floats,
-        args,
-        frame.pairs.as_slice(),
-    )? {
+    if !pairs_fit(alloc, thesis, &substitution, frame.pairs.as_slice())? {
         return Err(ProofFaultKind::NotDisjoint);
     }
-    conclude(alloc, floats, args, frame.statement.as_slice())
+    conclude(alloc, &substitution, frame.statement.as_slice())
 }

@@ -1,90 +1,81 @@
 //! Disjoint variables: whether substitutes stay apart, by the restricted pairs of the assertion being proved.
 
-ghost use Rattle.std.specs.Prelude.{◌≡◌, ◌↔◌, ◌≤◌, ◌⊎◌, ℕ, IsTrue, IfOk, OnOk, All, Contains, length};
+ghost use Rattle.std.specs.Prelude.{◌≡◌, ◌↔◌, ◌⊎◌, ℕ, IsTrue, IfOk, OnOk, MatchOption, All, Contains};
+ghost use Rattle.std.specs.List.{AllZip};
 ghost use Rattle.mmstatement.specs.Substitution.{replacement};
-ghost use Rattle.mmsyntax.specs.Blocks.{in_order};
-ghost use Rattle.proofcheck.specs.Derivation.{AreApart, IsApart, substitution};
+ghost use Rattle.proofcheck.specs.Derivation.{AreApart, IsApart};
+ghost use Rattle.proofcheck.specs.Lookups.{AreVariablesOf, PassesAbove};
 
-use crate::entry::Entry;
-use crate::substitutes::substitute_of;
+use crate::substitutes::Substitution;
+use crate::thesis::Thesis;
 use mmstatement::Symbol;
 use std::alloc::{AllocError, Global};
+use std::slice;
 
-/// Whether the two variables, in ascending order, are one of the pairs.
-fn is_pair(pairs: &[(u32, u32)], u: u32, v: u32) -> bool
-    ensures { IsTrue result ↔ Contains pairs.now (in_order u v) }
+/// The place from which the next pair of `low` is to be looked for, if `low` differs from the other variable and, where it is the
+/// lower one, is restricted with it. A pair near that place is found sooner.
+fn pass(thesis: &Thesis, low: u32, other: u32, near: usize) -> Option<usize>
+    ensures { MatchOption result (¬ PassesAbove thesis.now.pairs low other) (λ _. PassesAbove thesis.now.pairs low other) }
 {
-    let (low, high) = if u < v { (u, v) } else { (v, u) };
-    for pair in pairs {
-        if pair.0 == low && pair.1 == high {
-            return true;
-        }
+    if other < low {
+        return Some(near);
     }
-    false
+    if other == low {
+        return None;
+    }
+    thesis.place_of((low, other), near)
 }
 
-/// Whether the variables differ and are one of the pairs.
-fn is_apart(pairs: &[(u32, u32)], u: u32, v: u32) -> bool
-    ensures { IsTrue result ↔ IsApart pairs.now u v }
+/// Whether a variable differs from each of the others, and is restricted with each higher one. Pairs of others that ascend stand close
+/// together.
+fn passes_each(thesis: &Thesis, low: u32, others: &[u32]) -> bool
+    ensures { IsTrue result ↔ All (λ v. PassesAbove thesis.now.pairs low v) others.now }
 {
-    u != v && is_pair(pairs, u, v)
-}
-
-/// Whether the variable is apart from each of the others.
-fn is_apart_from(pairs: &[(u32, u32)], u: u32, others: &[u32]) -> bool
-    ensures { IsTrue result ↔ All (λ v. IsApart pairs.now u v) others.now }
-{
+    let mut near = 0;
     for v in others {
-        if !is_apart(pairs, u, *v) {
-            return false;
+        match pass(thesis, low, *v, near) {
+            None => return false,
+            Some(next) => near = next,
         }
     }
     true
 }
 
-/// Whether each two variables, one of each list, are apart.
-fn are_apart(pairs: &[(u32, u32)], us: &[u32], vs: &[u32]) -> bool
-    ensures { IsTrue result ↔ All (λ u. All (λ v. IsApart pairs.now u v) vs.now) us.now }
+/// Whether each of the first variables passes each of the others.
+fn all_pass(thesis: &Thesis, us: &[u32], vs: &[u32]) -> bool
+    ensures { IsTrue result ↔ All (λ u. All (λ v. PassesAbove thesis.now.pairs u v) vs.now) us.now }
 {
     for u in us {
-        if !is_apart_from(pairs, *u, vs) {
+        if !passes_each(thesis, *u, vs) {
             return false;
         }
     }
     true
 }
 
-/// Adds the symbol, if it is a variable that isn't there yet.
+/// Whether each two variables, one of each list, are apart: the pairs are looked for row by row of their lower variable.
+fn are_apart(thesis: &Thesis, us: &[u32], vs: &[u32]) -> bool
+    ensures { IsTrue result ↔ All (λ u. All (λ v. IsApart thesis.now.pairs u v) vs.now) us.now }
+{
+    all_pass(thesis, us, vs) && all_pass(thesis, vs, us)
+}
+
+/// Adds the symbol, if it is a variable.
 fn note(found: &mut Vec<u32>, symbol: Symbol) -> Result<(), AllocError>
     ensures { OnOk result ((u : ℕ) → Contains found.new.items u ↔ Contains found.old.items u ⊎ (symbol ≡ Symbol.Var u)) }
 {
     match symbol {
         Symbol::Const(_) => Ok(()),
         Symbol::Var(v) => {
-            if has(found.as_slice(), v) {
-                return Ok(());
-            }
             found.push(v)?;
             Ok(())
         }
     }
 }
 
-/// Whether the number is among them.
-fn has(all: &[u32], n: u32) -> bool
-    ensures { IsTrue result ↔ Contains all.now n }
-{
-    for m in all {
-        if *m == n {
-            return true;
-        }
-    }
-    false
-}
-
-/// The variables of an expression, each once.
-fn variables_of(alloc: Global, symbols: &[Symbol]) -> Result<Vec<u32>, AllocError>
-    ensures { IfOk result (λ found. (u : ℕ) → Contains found.items u ↔ Contains symbols.now (Symbol.Var u)) }
+/// The variables of an expression, in the order of their symbols.
+fn listed_variables(alloc: Global, symbols: &[Symbol]) -> Result<Vec<u32>, AllocError>
+    ensures { IfOk result (λ found. AreVariablesOf found.items symbols.now) }
 {
     let mut found = Vec::new(alloc);
     for symbol in symbols {
@@ -93,59 +84,79 @@ fn variables_of(alloc: Global, symbols: &[Symbol]) -> Result<Vec<u32>, AllocErro
     Ok(found)
 }
 
-/// The variables of what stands for a variable, each once.
-fn variables_for(
-    alloc: Global,
-    floats: &[u32],
-    entries: &[Entry],
-    variable: u32,
-) -> Result<Vec<u32>, AllocError>
-    requires { length floats.now ≤ length entries.now }
-    ensures { IfOk result (λ found. (u : ℕ) → Contains found.items u
-        ↔ Contains (replacement (substitution floats.now entries.now) variable) (Symbol.Var u)) }
+/// The variables of an expression, ascending, each once.
+fn variables_of(alloc: Global, symbols: &[Symbol]) -> Result<Vec<u32>, AllocError>
+    ensures { IfOk result (λ found. AreVariablesOf found.items symbols.now) }
 {
-    match substitute_of(floats, entries, variable) {
-        Some(found) => variables_of(alloc, found),
-        None => {
-            let whole = [Symbol::Var(variable)];
-            variables_of(alloc, &whole)
-        }
+    let mut found = listed_variables(alloc, symbols)?;
+    found.sort_unstable();
+    found.dedup();
+    Ok(found)
+}
+
+/// The variables of each substitute, in the order of the substitution.
+fn variables_of_each(
+    alloc: Global,
+    substitution: &Substitution,
+) -> Result<Vec<Vec<u32>>, AllocError>
+    ensures { IfOk result (λ found. AllZip (λ s vs. AreVariablesOf vs.items s.1) substitution.now found.items) }
+{
+    let mut found = Vec::new(alloc);
+    for place in 0..substitution.len() {
+        found.push(variables_of(alloc, substitution.at(place))?)?;
+    }
+    Ok(found)
+}
+
+/// The variables of what stands for a variable: of its substitute, or itself.
+fn variables_for<'a>(
+    substitution: &Substitution,
+    found: &'a [Vec<u32>],
+    variable: &'a u32,
+) -> &'a [u32]
+    requires { AllZip (λ s vs. AreVariablesOf vs.items s.1) substitution.now found.now }
+    ensures { AreVariablesOf result.now (replacement substitution.now variable.now) }
+{
+    match substitution.place_of(*variable) {
+        Some(place) => found[place].as_slice(),
+        None => slice::from_ref(variable),
     }
 }
 
 /// Whether the substitutes of the two variables are apart.
 fn pair_fits(
-    alloc: Global,
-    pairs: &[(u32, u32)],
-    floats: &[u32],
-    entries: &[Entry],
-    pair: (u32, u32),
-) -> Result<bool, AllocError>
-    requires { length floats.now ≤ length entries.now }
-    ensures { IfOk result (λ fits. IsTrue fits ↔ AreApart pairs.now
-        (replacement (substitution floats.now entries.now) pair.0)
-        (replacement (substitution floats.now entries.now) pair.1)) }
+    thesis: &Thesis,
+    substitution: &Substitution,
+    found: &[Vec<u32>],
+    pair: &(u32, u32),
+) -> bool
+    requires { AllZip (λ s vs. AreVariablesOf vs.items s.1) substitution.now found.now }
+    ensures { IsTrue result ↔ AreApart thesis.now.pairs
+        (replacement substitution.now pair.now.0)
+        (replacement substitution.now pair.now.1) }
 {
-    let us = variables_for(alloc, floats, entries, pair.0)?;
-    let vs = variables_for(alloc, floats, entries, pair.1)?;
-    Ok(are_apart(pairs, us.as_slice(), vs.as_slice()))
+    let us = variables_for(substitution, found, &pair.0);
+    let vs = variables_for(substitution, found, &pair.1);
+    are_apart(thesis, us, vs)
 }
 
-/// Whether the substitutes of each pair are apart.
+/// Whether the substitutes of each pair are apart. The variables of each substitute are collected once, where any pair is asked.
 pub(crate) fn pairs_fit(
     alloc: Global,
-    pairs: &[(u32, u32)],
-    floats: &[u32],
-    entries: &[Entry],
+    thesis: &Thesis,
+    substitution: &Substitution,
     asked: &[(u32, u32)],
 ) -> Result<bool, AllocError>
-    requires { length floats.now ≤ length entries.now }
-    ensures { IfOk result (λ fits. IsTrue fits ↔ All (λ q. AreApart pairs.now
-        (replacement (substitution floats.now entries.now) q.0)
-        (replacement (substitution floats.now entries.now) q.1)) asked.now) }
+    ensures { IfOk result (λ fits. IsTrue fits ↔ All (λ q. AreApart thesis.now.pairs
+        (replacement substitution.now q.0)
+        (replacement substitution.now q.1)) asked.now) }
 {
+    if asked.is_empty() {
+        return Ok(true);
+    }
+    let found = variables_of_each(alloc, substitution)?;
     for pair in asked {
-        if !pair_fits(alloc, pairs, floats, entries, *pair)? {
+        if !pair_fits(thesis, substitution, found.as_slice(), pair) {
             return Ok(false);
         }
     }

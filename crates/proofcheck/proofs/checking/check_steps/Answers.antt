@@ -13,7 +13,7 @@ returns-in-Err-clause-fault g c = λ n.
     c.index-steps-done.is in
     step-fault lib c.args.prelude.now c.args.assertion.now c.loop-done.done c.loop-done.stack.items c.index-steps-done.result
     (record { step = c.loop-done.done + 1; kind = c.in-Err.kind })
-    (rw steps at c.loop-done.invariant) (rw steps at at) refl (c.in-Err.ensures.err n)
+    (rw steps at c.loop-done.invariant) (rw steps at at) refl (rw c.new-thesis.ensures at (c.in-Err.ensures.err n))
 
 pub loop-done-preserved : goal.loop-done-preserved
 loop-done-preserved g c =
@@ -24,7 +24,7 @@ loop-done-preserved g c =
     more ∙ ap (λ x. take c.loop-done.done xs ++ x ∷ []) (sym c.index-steps-done.is) in
     rw front (Runs-more lib c.args.prelude.now c.args.assertion.now _ (c.index-steps-done.result ∷ []) [] c.loop-done.stack.items
     c.take_step.new.stack.items
-    c.loop-done.invariant (c.take_step.new.stack.items, c.in-Ok.ensures.ok, refl))
+    c.loop-done.invariant (c.take_step.new.stack.items, rw c.new-thesis.ensures at c.in-Ok.ensures.ok, refl))
 
 pub returns-in-Ok-check_end-clause-yes : goal.returns-in-Ok-check_end-clause-yes
 returns-in-Ok-check_end-clause-yes g c =

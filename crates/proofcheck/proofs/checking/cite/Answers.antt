@@ -19,4 +19,4 @@ returns-in_err-made-clause-err c =
     let enough : arity f ≤ length es = omega (arith, floats, hyps, whole.len, full, c.len.ensures, c.if-len-count.false) in
     let args : c.split_at.result.1.now ≡ last (arity f) es =
     c.split_at.ensures.back ∙ ap (drop base) whole.value ∙ ap (λ k. drop k es) at in
-    rw (p.1, p.2) (λ n. FailsOnLast-test c.args.prelude.now c.args.assertion.now f es _ enough (rw args at (c.in_err-made.ensures.err n)))
+    rw (p.1, p.2) (λ n. FailsOnLast-test c.args.prelude.now c.args.thesis.now f es _ enough (rw args at (c.in_err-made.ensures.err n)))

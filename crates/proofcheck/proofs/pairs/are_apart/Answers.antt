@@ -1,14 +1,7 @@
-use Rattle.std.proofs.Common.{sym, ◌∙◌}
-use Rattle.std.specs.List.{All}
-use Rattle.proofcheck.specs.Derivation.{IsApart}
-use Rattle.proofcheck.proofs.Apart.{within_one_more}
+use Rattle.proofcheck.proofs.Apart.{apart-both}
 use Rattle.proofcheck.proofs.pairs.are_apart.Goals as goal
 
-pub returns-then-not-is_apart_from : goal.returns-then-not-is_apart_from
-returns-then-not-is_apart_from c =
-    (λ t. cc, λ all. sym c.if-not-is_apart_from.true ∙ c.is_apart_from.ensures.1 (all c.loop-u.u-index 0 c.loop-u-test.true))
-
-pub loop-u-preserved : goal.loop-u-preserved
-loop-u-preserved c =
-    within_one_more (λ u. All (λ v. IsApart c.args.pairs.now u v) c.args.vs.now) c.args.us.now c.loop-u.u-index 0 c.loop-u-test.true
-    c.loop-u.invariant (c.is_apart_from.ensures.0 c.if-not-is_apart_from.false)
+pub returns-then-all_pass : goal.returns-then-all_pass
+returns-then-all_pass c =
+    let both = apart-both c.args.thesis.now.pairs c.args.us.now c.args.vs.now (c.all_pass.ensures.0 c.if-all_pass.true) in
+    (λ t. both.0 (c.all_pass-then-all_pass.ensures.0 t), λ all. c.all_pass-then-all_pass.ensures.1 (both.1 all))

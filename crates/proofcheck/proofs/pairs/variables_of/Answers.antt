@@ -1,11 +1,9 @@
-use Rattle.mmsyntax.specs.declared.statement.Symbol.TheVariants.{Const}
-use Rattle.proofcheck.proofs.Apart.{found_more, found_all}
+use Rattle.std.proofs.Common.{eqb}
+use Rattle.std.proofs.lemmas.List.Filters.{dedup_is}
+use Rattle.proofcheck.proofs.Replaced.{same-variables}
 use Rattle.proofcheck.proofs.pairs.variables_of.Goals as goal
 
-pub loop-symbol-preserved : goal.loop-symbol-preserved
-loop-symbol-preserved c = found_more _ _ c.args.symbols.now c.loop-symbol.symbol-index (Const 0) c.loop-symbol-test.true
-    c.loop-symbol.invariant c.in_ok-note.ensures
-
 pub returns : goal.returns
-returns c = found_all _ c.args.symbols.now c.loop-symbol.symbol-index c.loop-symbol-test.false c.loop-symbol.auto.symbol-index-end
-    c.loop-symbol.invariant
+returns c =
+    same-variables c.in_ok-found.found.items c.sort_unstable.new.self.items c.dedup.new.self.items c.args.symbols.now c.in_ok-found.ensures
+    c.sort_unstable.ensures.permutation (dedup_is eqb _ _ c.dedup.ensures.filtered)

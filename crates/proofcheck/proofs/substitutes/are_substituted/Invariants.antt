@@ -1,9 +1,8 @@
 use Rattle.std.proofs.Common.{◌≡◌, ◌↔◌, drop, map}
 use Rattle.mmstatement.specs.Substitution.{subst}
-use Rattle.proofcheck.specs.Derivation.{substitution}
 use Rattle.proofcheck.proofs.substitutes.are_substituted.Given as goal
 
 abbrev pub invariant-loop-i : goal.invariant-loop-i
 invariant-loop-i l =
-    (map (subst (substitution l.floats l.entries)) (drop l.i l.hyps) ≡ drop l.i l.targets)
-    ↔ (map (subst (substitution l.floats l.entries)) l.hyps ≡ l.targets)
+    (map (subst l.substitution) (drop l.i l.hyps) ≡ drop l.i l.targets)
+    ↔ (map (subst l.substitution) l.hyps ≡ l.targets)
