@@ -2,15 +2,17 @@
 #![tactic(auto)]
 
 mod arguments;
+mod progress;
 
 ghost use Rattle.mmrefactor.specs.Limits.{AsksWithin};
 
 use crate::arguments::{Order, command_line, order_of};
-use jobs::{Answered, Printed, answer, job_of};
+use crate::progress::Progress;
+use jobs::{Answered, Printed, Watch, answer, job_of};
 use std::alloc::{AllocError, Global};
 use std::fmt::Display;
 use std::hash::RandomState;
-use std::io::Write;
+use std::io::{IsTerminal, Write};
 use std::process::ExitCode;
 use std::random::RandomSource;
 use std::rt::{Env, Files};
@@ -88,10 +90,11 @@ fn print_job(
     Ok(print_out(rt, printed.out.as_slice()))
 }
 
-/// Does on files what a command line asks for. It may wait.
+/// Does on files what a command line asks for. Who watches is told of a run. It may wait.
 fn run_files(
     rt: &(impl Files + AllocGlobal + Print + Eprint + RandomSource + Threads + Wait + Sync),
     order: &Order<'_>,
+    watch: &(impl Watch + Sync),
 ) -> Result<ExitCode, AllocError>
     requires { AsksWithin order.now.task }
 {
@@ -110,15 +113,16 @@ fn run_files(
     let Ok(keys) = RandomState::new(rt) else {
         return Ok(complain(rt, "no random numbers"));
     };
-    match answer(rt, rt.alloc(), keys, &job, paths)? {
+    match answer(rt, rt.alloc(), keys, &job, paths, watch)? {
         Answered::Done(printed) => print_job(rt, order.history, &printed),
         Answered::Refused(line) => Ok(complain(rt, line.as_str())),
     }
 }
 
-/// What the command line asks for. It may wait.
+/// Does what the command line asks for. Who watches is told of a run. It may wait.
 fn obey(
     rt: &(impl Files + AllocGlobal + Print + Eprint + RandomSource + Env + Threads + Wait + Sync),
+    watch: &(impl Watch + Sync),
 ) -> Result<ExitCode, AllocError> {
     let alloc = rt.alloc();
     let Ok(args) = env::args(rt) else {
@@ -128,14 +132,15 @@ fn obey(
     match command_line(alloc)?.try_get_matches_from(words.as_slice()) {
         Err(error) => Ok(print_usage(rt, &error)),
         Ok(matches) => match order_of(alloc, &matches)? {
-            Some(order) => run_files(rt, &order),
+            Some(order) => run_files(rt, &order, watch),
             None => Ok(ExitCode::from(2)),
         },
     }
 }
 
 fn main(rt: HostRuntime) -> ExitCode {
-    match obey(&rt) {
+    let progress = Progress::new(&rt, rt.stderr().is_terminal());
+    match obey(&rt, &progress) {
         Ok(status) => status,
         Err(_) => complain(&rt, "no memory"),
     }
