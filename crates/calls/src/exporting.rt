@@ -1,7 +1,9 @@
 //! Exports to writers that take few bytes at a call, fail, or take none.
 
-use crate::shared::{library, mini};
+use crate::shared::{editor, library, mini};
+use crate::slots::demo;
 use export::{ExportError, export};
+use library::PlainLibrary;
 use std::alloc::{AllocError, AllocGlobal, Global};
 use std::io;
 use std::io::{ErrorKind, Write};
@@ -86,6 +88,33 @@ fn one_byte_a_call_is_taken(rt: HostRuntime) -> Result<(), Fail> {
     assert_eq!(rt; answer, Ok(()));
     assert_eq!(rt; writer.held.as_slice(), mini());
     assert_eq!(rt; (writer.calls, writer.flushes), (23, 0));
+    Ok(())
+}
+
+/// How many writers fail that each take one byte at a call, and of which the k-th fails at its call k: each has taken the k - 1 bytes before, and
+/// the export says so.
+fn failures(alloc: Global, library: &PlainLibrary) -> Result<usize, Fail> {
+    for written in 0..65_536usize {
+        let mut writer = Slow::new(alloc, 1, written + 1);
+        match export(alloc, library, &mut writer) {
+            Ok(()) => return Ok(written),
+            Err(ExportError::Write { written: told }) if told == written => {}
+            Err(_) => return Err(Fail::from("the bytes before the failing call are written")),
+        }
+        if writer.held.len() != written {
+            return Err(Fail::from("the writer holds what was written"));
+        }
+    }
+    Err(Fail::from("some writer takes all"))
+}
+
+#[test]
+fn each_call_may_fail(rt: HostRuntime) -> Result<(), Fail> {
+    let text = demo(rt.alloc())?;
+    let Ok(editor) = editor(&rt, text.as_slice(), 8)? else {
+        return Err(Fail::from("the editor opens"));
+    };
+    assert_eq!(rt; failures(rt.alloc(), &editor.into_library())?, text.len());
     Ok(())
 }
 

@@ -1,7 +1,8 @@
 //! Tests of calls that no text asks: the crate has nothing else.
 //!
 //! What a contract says holds of every call, so few tests are left: values from outside, for what the clauses say and for what is
-//! printed; and each call whose only error is want of memory, once with ample memory, since no clause says that memory is there.
+//! printed; and each call whose only error is want of memory, once with ample memory, since no clause says that memory is there. What calls
+//! on a library in running words answer where memory is refused is tested in `memory`, by `tools/refuse-memory`.
 //! Texts, runs of scripts and replays are rows of the crate `rows`, which cost no proof. A crate with tests is proved twice, so
 //! those of all crates stand here, a module for each subject, and call public items only.
 #![tactic(auto)]
@@ -26,6 +27,8 @@ mod frames;
 mod gates;
 #[cfg(test)]
 mod machine;
+#[cfg(test)]
+mod memory;
 #[cfg(test)]
 mod openings;
 #[cfg(test)]

@@ -1,12 +1,16 @@
 //! Sessions on a library in running words: what becomes of their transactions, and what is left at the end.
 
-ghost use Rattle.std.specs.Prelude.{All, IfOk, IfSome};
+ghost use Rattle.std.specs.Prelude.{◌≡◌, All, IfOk, IfSome};
+ghost use Rattle.proofcheck.specs.Databases.{AllCheck};
 ghost use Rattle.transaction.specs.Members.{IsOf};
 
 use crate::shared::{database, mini};
 use crate::slots::demo;
+use export::write_library;
 use finishing::{FinishError, finish};
+use history::replay;
 use library::{PlainLibrary, Reason, Refused};
+use mmstatement::Database;
 use scripts::read_script;
 use std::alloc::{AllocGlobal, Global};
 use std::hash::RandomState;
@@ -25,14 +29,11 @@ pub(crate) fn opened(
 ) -> Result<(Library, Vec<Session>), Fail>
     ensures { IfOk result (λ made. All (IsOf made.0) made.1.items) }
 {
-    match opening(rt, text, 4096, room, sessions)? {
-        Ok(made) => Ok(made),
-        Err(_) => Err(Fail::from("the library is opened")),
-    }
+    Ok(opening(rt, text, 4096, room, sessions)??)
 }
 
 /// The same, or why it isn't opened.
-fn opening(
+pub(crate) fn opening(
     rt: &(impl AllocGlobal + RandomSource + Threads + Sync),
     text: &[u8],
     slots: usize,
@@ -51,7 +52,7 @@ fn opening(
 }
 
 /// The last of the sessions.
-fn last(library: &Library, sessions: &mut Vec<Session>) -> Result<Session, Fail>
+pub(crate) fn last(library: &Library, sessions: &mut Vec<Session>) -> Result<Session, Fail>
     requires { All (IsOf library.now) sessions.old.items }
     ensures others { All (IsOf library.now) sessions.new.items }
     ensures last { IfOk result (IsOf library.now) }
@@ -63,7 +64,11 @@ fn last(library: &Library, sessions: &mut Vec<Session>) -> Result<Session, Fail>
 }
 
 /// The sessions with one more.
-fn with(library: &Library, sessions: &mut Vec<Session>, session: Session) -> Result<(), Fail>
+pub(crate) fn with(
+    library: &Library,
+    sessions: &mut Vec<Session>,
+    session: Session,
+) -> Result<(), Fail>
     requires own { IsOf library.now session }
     requires others { All (IsOf library.now) sessions.old.items }
     ensures { All (IsOf library.now) sessions.new.items }
@@ -74,7 +79,7 @@ fn with(library: &Library, sessions: &mut Vec<Session>, session: Session) -> Res
 }
 
 /// What becomes of the one transaction of a script, by one try.
-fn tried(
+pub(crate) fn tried(
     alloc: Global,
     library: &Library,
     session: &mut Session,
@@ -451,39 +456,93 @@ fn why_a_library_is_not_opened(rt: HostRuntime) -> Result<(), Fail> {
     Ok(())
 }
 
-/// Tries the one transaction of a script; where memory runs out, once more, which then has to end as the first would have.
-fn tried_again(
+/// Whether two sessions in turn commit the entries 1 to 4, and the second one's deletion of what is cited is refused between them.
+fn both_edit(
     alloc: Global,
     library: &Library,
-    session: &mut Session,
-    script: &[u8],
-) -> Result<Outcome, Fail>
-    requires { IsOf library.now session.old }
-    ensures { IsOf library.now session.new }
+    a: &mut Session,
+    b: &mut Session,
+) -> Result<bool, Fail>
+    requires a { IsOf library.now a.old }
+    requires b { IsOf library.now b.old }
+    ensures a { IsOf library.now a.new }
+    ensures b { IsOf library.now b.new }
 {
-    match tried(alloc, library, session, script)? {
-        Outcome::NoMemory => tried(alloc, library, session, script),
-        outcome => Ok(outcome),
-    }
+    let added = b"begin add 900 th2 $p |- 0 = 0 $= tze th1 $. show th2 commit";
+    let proved =
+        b"begin reprove th2 $= tze tze tpl tze weq tze tze weq tze a2 tze tze tpl tze weq tze tze tpl tze weq tze tze weq
+wim tze a2 tze tze tpl tze tze a1 mp mp $. rename th1 refl commit";
+    let first = tried(alloc, library, a, added)?;
+    let second = tried(alloc, library, b, proved)?;
+    let refused = tried(alloc, library, b, b"begin delete refl delete a1 commit")?;
+    let third = tried(alloc, library, a, b"begin move a2 450 list commit")?;
+    let fourth = tried(alloc, library, b, b"begin delete refl commit")?;
+    Ok(
+        matches!(first, Outcome::Committed { number: 1, .. })
+            && matches!(second, Outcome::Committed { number: 2, .. })
+            && matches!(refused, Outcome::Refused { place: 2, .. })
+            && matches!(third, Outcome::Committed { number: 3, .. })
+            && matches!(fourth, Outcome::Committed { number: 4, .. }),
+    )
 }
 
-/// Whether the one transaction of a script, over a library of its own, is the first entry of the history, by the first try for which memory is there.
-fn is_first(
-    rt: &(impl AllocGlobal + RandomSource + Threads + Sync),
-    script: &[u8],
-) -> Result<bool, Fail> {
-    let alloc = rt.alloc();
-    let (library, mut sessions) = opened(rt, demo(alloc)?.as_slice(), 1000, 1)?;
-    let mut session = last(&library, &mut sessions)?;
-    let outcome = tried_again(alloc, &library, &mut session, script)?;
-    Ok(matches!(outcome, Outcome::Committed { number: 1, .. }))
+/// The sessions, the last two of which have edited in turn.
+fn edited(
+    alloc: Global,
+    library: &Library,
+    mut sessions: Vec<Session>,
+) -> Result<Vec<Session>, Fail>
+    requires { All (IsOf library.now) sessions.items }
+    ensures { IfOk result (λ left. All (IsOf library.now) left.items) }
+{
+    let mut a = last(library, &mut sessions)?;
+    let mut b = last(library, &mut sessions)?;
+    if !both_edit(alloc, library, &mut a, &mut b)? {
+        return Err(Fail::from("the edits are the entries 1 to 4"));
+    }
+    with(library, &mut sessions, a)?;
+    with(library, &mut sessions, b)?;
+    Ok(sessions)
+}
+
+/// Whether two libraries have equal assertions with equal ranks, and equal texts.
+fn are_equal(alloc: Global, one: &PlainLibrary, other: &PlainLibrary) -> Result<bool, Fail> {
+    let entries = format!(in alloc; "{:?}", one.entries())?;
+    let others = format!(in alloc; "{:?}", other.entries())?;
+    let text = write_library(alloc, one)?;
+    Ok(entries == others && text.as_slice() == write_library(alloc, other)?.as_slice())
+}
+
+/// Whether a library has a history of 4 entries at its end and 8 assertions, and the replay over the same database gives just that library.
+fn is_replayed(
+    alloc: Global,
+    keys: RandomState,
+    db: &Database,
+    library: Library,
+    sessions: Vec<Session>,
+) -> Result<bool, Fail>
+    requires own { All (IsOf library) sessions.items }
+    requires database { library.given.database.value ≡ db.now }
+    requires checks { AllCheck db.now }
+{
+    let (history, after) = finish(alloc, library, sessions)?;
+    let again = replay(alloc, keys, db, 4096, history.as_slice())?;
+    let counts = (history.as_slice().len(), after.entries().len());
+    Ok(counts == (4, 8) && are_equal(alloc, &again, &after)?)
 }
 
 #[test]
-fn want_of_memory_changes_nothing(rt: HostRuntime) -> Result<(), Fail> {
-    assert!(rt; is_first(&rt, b"begin add 900 th2 $p |- 0 = 0 $= tze th1 $. commit")?);
-    assert!(rt; is_first(&rt, b"begin rename th1 refl commit")?);
-    assert!(rt; is_first(&rt, b"begin move th1 801 commit")?);
-    assert!(rt; is_first(&rt, b"begin delete th1 commit")?);
+fn the_replay_of_a_history_gives_its_library(rt: HostRuntime) -> Result<(), Fail> {
+    let alloc = rt.alloc();
+    let keys = RandomState::new(&rt)?;
+    let db = database(&rt, demo(alloc)?.as_slice())?;
+    let shape = Shape {
+        slots: 4096,
+        room: 1000,
+        sessions: 2,
+    };
+    let (library, sessions) = Library::open(&rt, alloc, keys, &db, shape)?;
+    let sessions = edited(alloc, &library, sessions)?;
+    assert!(rt; is_replayed(alloc, keys, &db, library, sessions)?);
     Ok(())
 }

@@ -8,7 +8,7 @@ ghost use Rattle.rows.specs.Runs.{HasLimits, IsAfterRun, IsNextJob, AnswersRun, 
 use crate::answer::Answer;
 use crate::lines::behind_line;
 use crate::numbers::number_within;
-use jobs::{Job, Printed, perform};
+use jobs::{Job, Open, Printed, perform};
 use std::alloc::{AllocError, Global};
 use std::hash::RandomState;
 use std::mem;
@@ -140,7 +140,7 @@ impl Runs {
         ensures limits { HasLimits self.new }
     {
         let job = self.next_job(alloc)?;
-        match perform(rt, alloc, keys, &job) {
+        match perform(rt, alloc, keys, &job, &Open) {
             Ok(printed) => Ok(Answer::Text(printed.out)),
             Err(fault) => Ok(Answer::Failed(fault)),
         }
@@ -163,7 +163,7 @@ impl Runs {
         ensures limits { HasLimits self.new }
     {
         let job = self.next_job(alloc)?;
-        match perform(rt, alloc, keys, &job) {
+        match perform(rt, alloc, keys, &job, &Open) {
             Ok(printed) => self.library_after(rt, alloc, keys, printed),
             Err(fault) => Ok(Answer::Failed(fault)),
         }
@@ -185,7 +185,7 @@ impl Runs {
             return Ok(Answer::Differs);
         }
         let db = Vec::from_slice(alloc, self.library.as_slice())?;
-        match perform(rt, alloc, keys, &Job::Replay { db, history }) {
+        match perform(rt, alloc, keys, &Job::Replay { db, history }, &Open) {
             Ok(replayed) => {
                 let lines = behind_line(replayed.out.as_slice());
                 if out.as_slice().ends_with(lines) {
@@ -213,7 +213,7 @@ impl Runs {
         ensures { IfOk result (IsReplayOf self.now.library.items history.items) }
     {
         let db = Vec::from_slice(alloc, self.library.as_slice())?;
-        match perform(rt, alloc, keys, &Job::Replay { db, history }) {
+        match perform(rt, alloc, keys, &Job::Replay { db, history }, &Open) {
             Ok(replayed) => Ok(Answer::Text(replayed.out)),
             Err(fault) => Ok(Answer::Failed(fault)),
         }
