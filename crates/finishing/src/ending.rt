@@ -22,8 +22,9 @@ use transaction::{ClosedLibrary, Library, Session};
 /// # Errors
 ///
 /// Want of memory aside: `Missing` with the least such number, exactly where a number up to the clock was drawn by none of these sessions; else
-/// `Held` with the least such cell, exactly where the lock of a cell is held. Where all the library's sessions are handed in, no lock is held, and
-/// the clock is how many numbers they drew. The library and the sessions are gone then.
+/// `Held` with the least such cell, exactly where the lock of a cell is held. Where all the library's sessions are handed in, each with the name
+/// that it got at the opening, no number is missing, no lock is held, and the clock is how many numbers they drew. The library and the sessions are
+/// gone then.
 pub fn finish(
     alloc: Global,
     library: Library,
