@@ -1,20 +1,23 @@
 #!/usr/bin/env python3
 """Sessions on running words, side by side with the one-thread editor behind a lock: 1, 2 and 4 threads over 4,096 assertions.
 
-    sessions.py [--program CMD] [--beside CMD] [--cells CMD] [--citations 3] [--transactions 2500] [--rounds 5] [--seed 1] [--out DIR] [WORKLOAD..]
+    sessions.py [--program CMD] [--beside CMD] [--cells CMD] [--citations 3] [--transactions 2500] [--rounds 5] [--seed 1] [--out DIR]
+                [WORKLOAD..]
 
 The workloads are `renames` (scripts rename labels of their own), `hot` (all scripts rename the same eight labels there and back, in one
-transaction), `shows`, and `mixed` (nine shows to one rename, of a script's own labels). Each has 16 scripts of so many transactions, and each
-thread takes the next script that nobody has taken. The database is made by the seed: four axioms, and theorems, each of which cites the first
-and so many others (`--citations`; with 0 of them nothing cites what the scripts rename, so that the editor copies no proof).
+transaction), `shows`, and `mixed` (nine shows to one rename, of a script's own labels). Each has 16 scripts of so many transactions, and
+each thread takes the next script that nobody has taken. The database is made by the seed: four axioms, and theorems, each of which cites
+the first and so many others (`--citations`; with 0 nothing cites what the scripts rename, so that the editor copies no proof).
 
 `--program` is the built crate sessionbench, which does them by `sessions` and by `mutex`. `--beside` names an editor of the command line
-`run --workers N --lock tl2|mutex --times DB SCRIPT..`, and `--cells` a program that runs transactions of so many cells read and written, of the
-command line `tl2|mutex disjoint|uniform THREADS TRANSACTIONS READS WRITES CELLS`; the first prints `run_us N`, the second `tps N`.
+`run --workers N --room W --lock tl2|mutex --times DB SCRIPT..`, which says `run_us N` on the standard error, and `--cells` a program that
+runs transactions on so many bare cells, of the command line `tl2|mutex disjoint|uniform THREADS TRANSACTIONS READS WRITES CELLS`, which
+prints `tps N`.
 
-All sides run in turn, once each round, so that a change of the machine's load meets them alike. Times are of the transactions alone, without
-reading, opening and writing, in nanoseconds a transaction of all threads together: medians over the rounds, in brackets the best. A ratio is the median
-of those within a round. What `sessions` and `mutex` count has to be the same. It is a measurement and no test: it passes whatever times it finds.
+All sides run in turn, once each round, so that a change of the machine's load meets them alike. Times are of the transactions alone,
+without reading, opening and writing, in nanoseconds a transaction of all threads together: medians over the rounds, in brackets the best.
+A ratio is the median of those within a round. `cpu` is what all threads used of the processors, which other work on the machine changes
+least. What `sessions` and `mutex` count has to be the same. It is a measurement and no test: it passes whatever times it finds.
 """
 
 import argparse
@@ -125,12 +128,12 @@ def number_of(name, text):
 
 
 class Sides:
-    """The programs of one workload: each answers nanoseconds a transaction, by how many threads."""
+    """The programs of one workload: each answers nanoseconds a transaction, by how many threads, and ours those of the processors too."""
 
     def __init__(self, workload, base, scripts, options):
         self.workload, self.base, self.scripts, self.options = workload, base, scripts, options
         self.count = SCRIPTS * options.transactions
-        self.printed, self.voids = set(), {}
+        self.printed, self.voids, self.used = set(), 0, {}
 
     def names(self):
         beside = ("beside tl2", "beside mutex") if self.options.beside else ()
@@ -147,8 +150,8 @@ class Sides:
             return number_of("run_us", run(self.options.beside, *line)[1]) * 1e3 / self.count
         said, noted = run(self.options.program, engine, threads, self.base, *self.scripts)
         self.printed.add(said.strip())
-        if engine == "sessions":
-            self.voids.setdefault(threads, []).append(number_of("voids", noted))
+        self.voids = max(self.voids, int(number_of("voids", noted)))
+        self.used.setdefault((engine, threads), []).append(number_of("cpu_us", noted) * 1e3 / self.count)
         return number_of("run_us", noted) * 1e3 / self.count
 
 
@@ -167,12 +170,21 @@ def ratio(tops, bottoms):
     return median(top / bottom for top, bottom in zip(tops, bottoms))
 
 
+def shown(values):
+    """The median, and in brackets the best."""
+    return f"{median(values):.0f} ({min(values):.0f})"
+
+
+HEAD = ("sessions / mutex", "1 thread / these", "cpu sessions", "cpu mutex")
+
+
 def rows(sides, times):
     """The lines of one workload's table: one for each number of threads."""
     for threads in THREADS:
-        cells = [f"{median(times[name, threads]):.0f} ({min(times[name, threads]):.0f})" for name in sides.names()]
         own, mutex = times["sessions", threads], times["mutex", threads]
-        yield [sides.workload, threads, *cells, f"{ratio(own, mutex):.2f}", f"{ratio(times['sessions', 1], own):.2f}", f"{median(sides.voids[threads]):.0f}"]
+        ratios = [f"{ratio(own, mutex):.2f}", f"{ratio(times['sessions', 1], own):.2f}"]
+        used = [shown(sides.used[engine, threads]) for engine in ("sessions", "mutex")]
+        yield [sides.workload, threads, *(shown(times[name, threads]) for name in sides.names()), *ratios, *used]
 
 
 def stolen():
@@ -211,13 +223,14 @@ def main():
         sides = Sides(workload, base, scripts[workload], options)
         times = measured(sides, options.rounds)
         if place == 0:
-            head = ["workload", "threads", *sides.names(), "sessions / mutex", "gain by threads", "voids"]
+            head = ["workload", "threads", *sides.names(), *HEAD]
             print("\n".join([line(head), "|---" * len(head) + "|"]))
         for cells in rows(sides, times):
             print(line(cells), flush=True)
-        print(f"<!-- {workload}: {sides.count} transactions: {sides.printed.pop()} -->", flush=True)
+        print(f"<!-- {sides.count} transactions: {sides.printed.pop()}; at most {sides.voids} numbers met a conflict -->", flush=True)
     taken, ticks = (after - was for after, was in zip(stolen(), before))
-    print(f"{options.rounds} rounds; load {os.getloadavg()[1]:.1f}, {os.cpu_count()} processors, of which the host took {100 * taken / max(1, ticks):.0f} %")
+    share = 100 * taken / max(1, ticks)
+    print(f"{options.rounds} rounds; load {os.getloadavg()[1]:.1f}, {os.cpu_count()} processors, of which the host took {share:.0f} %")
 
 
 if __name__ == "__main__":

@@ -7,15 +7,29 @@
 ghost use Rattle.transaction.specs.Members.{IsOf};
 
 use crate::sessions::{last, opened, opening, tried, with};
-use crate::slots::demo;
+use crate::slots::{demo, three};
 use export::write_library;
 use finishing::{FinishError, finish};
 use scripts::Reply;
-use std::alloc::{AllocGlobal, Global};
+use std::alloc::{AllocError, AllocGlobal, Global};
 use std::random::RandomSource;
 use std::test::Fail;
 use std::thread::Threads;
 use transaction::{Library, Look, OpenError, Outcome, Session};
+
+/// A database with `$d` and `$e`, whose second theorem cites the first: both are of the same rule.
+fn rules(alloc: Global) -> Result<Vec<u8>, AllocError> {
+    let mut text = Vec::from_slice(alloc, three())?;
+    text.extend_from_slice(
+        b"${
+  $d x y $.
+  th2.1 $e |- x y $.
+  th2 $p |- x y x $= wx wy th2.1 th $.
+$}
+",
+    )?;
+    Ok(text)
+}
 
 /// What becomes of the one transaction of a script by one try, or where memory was refused to that, by the next.
 fn tried_again(
@@ -33,15 +47,23 @@ fn tried_again(
     }
 }
 
-/// The same over a library of its own, that of `examples/demo.mm`.
+/// The same over a library of its own, that of a text.
+fn tried_on(
+    rt: &(impl AllocGlobal + RandomSource + Threads + Sync),
+    text: &[u8],
+    script: &[u8],
+) -> Result<Outcome, Fail> {
+    let (library, mut sessions) = opened(rt, text, 1000, 1)?;
+    let mut session = last(&library, &mut sessions)?;
+    tried_again(rt.alloc(), &library, &mut session, script)
+}
+
+/// The same over the library of `examples/demo.mm`.
 fn tried_on_demo(
     rt: &(impl AllocGlobal + RandomSource + Threads + Sync),
     script: &[u8],
 ) -> Result<Outcome, Fail> {
-    let alloc = rt.alloc();
-    let (library, mut sessions) = opened(rt, demo(alloc)?.as_slice(), 1000, 1)?;
-    let mut session = last(&library, &mut sessions)?;
-    tried_again(alloc, &library, &mut session, script)
+    tried_on(rt, demo(rt.alloc())?.as_slice(), script)
 }
 
 /// Whether the one transaction of a script, which is one edit, is the first entry of the history.
@@ -135,16 +157,44 @@ rename th2 zero move zero 901 show zero list delete zero commit";
 }
 
 #[test]
-fn a_library_is_opened_again(rt: HostRuntime) -> Result<(), Fail> {
-    let text = demo(rt.alloc())?;
-    let made = match opening(&rt, text.as_slice(), 4096, 1000, 2)? {
-        Err(OpenError::NoMemory) => opening(&rt, text.as_slice(), 4096, 1000, 2)?,
+fn all_commands_on_rules_are_tried_again(rt: HostRuntime) -> Result<(), Fail> {
+    let script =
+        b"begin add 500 ${ $d x y $. th3.1 $e |- x y $. th3 $p |- x y x $= wx wy th3.1 th2 $. $}
+reprove th3 $= wx wy th3.1 th $.
+rename th3 rule move rule 501 show rule list delete rule commit";
+    match tried_on(&rt, rules(rt.alloc())?.as_slice(), script)? {
+        Outcome::Committed { number: 1, replies } => assert_eq!(rt; replies.as_slice().len(), 7),
+        _ => return Err(Fail::from("it is the first entry")),
+    }
+    Ok(())
+}
+
+/// How many sessions the library of a text has, or why it isn't opened: by one try, or where memory was refused to that, by the next.
+fn opened_again(
+    rt: &(impl AllocGlobal + RandomSource + Threads + Sync),
+    text: &[u8],
+) -> Result<Result<usize, OpenError>, Fail> {
+    let made = match opening(rt, text, 4096, 1000, 2)? {
+        Err(OpenError::NoMemory) => opening(rt, text, 4096, 1000, 2)?,
         made => made,
     };
     match made {
-        Ok((_, sessions)) => assert_eq!(rt; sessions.len(), 2),
-        Err(_) => return Err(Fail::from("the library is opened")),
+        Ok((_, sessions)) => Ok(Ok(sessions.len())),
+        Err(error) => Ok(Err(error)),
     }
+}
+
+#[test]
+fn a_library_is_opened_again(rt: HostRuntime) -> Result<(), Fail> {
+    let made = opened_again(&rt, demo(rt.alloc())?.as_slice())?;
+    assert_eq!(rt; made, Ok(2));
+    Ok(())
+}
+
+#[test]
+fn a_library_of_rules_is_opened_again(rt: HostRuntime) -> Result<(), Fail> {
+    let made = opened_again(&rt, rules(rt.alloc())?.as_slice())?;
+    assert_eq!(rt; made, Ok(2));
     Ok(())
 }
 
@@ -159,36 +209,64 @@ fn looked_again(alloc: Global, library: &Library, session: &mut Session) -> Look
     }
 }
 
-#[test]
-fn a_look_is_tried_again(rt: HostRuntime) -> Result<(), Fail> {
+/// Whether a look at the library of a text sees at the place 0 just what the text says.
+fn is_seen(
+    rt: &(impl AllocGlobal + RandomSource + Threads + Sync),
+    text: &[u8],
+) -> Result<bool, Fail> {
     let alloc = rt.alloc();
-    let text = demo(alloc)?;
-    let (library, mut sessions) = opened(&rt, text.as_slice(), 1000, 1)?;
+    let (library, mut sessions) = opened(rt, text, 1000, 1)?;
     let mut session = last(&library, &mut sessions)?;
     match looked_again(alloc, &library, &mut session) {
         Look::Read {
             place: 0,
             library: seen,
-        } => assert_eq!(rt; write_library(alloc, &seen)?.as_slice(), text.as_slice()),
-        _ => return Err(Fail::from("the library is read at the place 0")),
+        } => Ok(write_library(alloc, &seen)?.as_slice() == text),
+        _ => Ok(false),
     }
+}
+
+#[test]
+fn a_look_is_tried_again(rt: HostRuntime) -> Result<(), Fail> {
+    assert!(rt; is_seen(&rt, demo(rt.alloc())?.as_slice())?);
     Ok(())
 }
 
 #[test]
-fn an_end_is_whole_or_lacks_memory(rt: HostRuntime) -> Result<(), Fail> {
+fn a_look_at_rules_is_tried_again(rt: HostRuntime) -> Result<(), Fail> {
+    assert!(rt; is_seen(&rt, rules(rt.alloc())?.as_slice())?);
+    Ok(())
+}
+
+/// How many entries and assertions the library of a text has at its end, behind the one transaction of a script; or why it has no end.
+fn ended(
+    rt: &(impl AllocGlobal + RandomSource + Threads + Sync),
+    text: &[u8],
+    script: &[u8],
+) -> Result<Result<(usize, usize), FinishError>, Fail> {
     let alloc = rt.alloc();
-    let (library, mut sessions) = opened(&rt, demo(alloc)?.as_slice(), 1000, 1)?;
+    let (library, mut sessions) = opened(rt, text, 1000, 1)?;
     let mut session = last(&library, &mut sessions)?;
-    let script = b"begin rename th1 refl commit";
-    let outcome = tried_again(alloc, &library, &mut session, script)?;
-    assert!(rt; matches!(outcome, Outcome::Committed { number: 1, .. }));
+    tried_again(alloc, &library, &mut session, script)?;
     with(&library, &mut sessions, session)?;
     match finish(alloc, library, sessions) {
-        Ok((history, after)) => {
-            assert_eq!(rt; (history.as_slice().len(), after.entries().len()), (1, 8));
-        }
-        Err(error) => assert_eq!(rt; error, FinishError::NoMemory),
+        Ok((history, after)) => Ok(Ok((history.as_slice().len(), after.entries().len()))),
+        Err(error) => Ok(Err(error)),
     }
+}
+
+#[test]
+fn an_end_is_whole_or_lacks_memory(rt: HostRuntime) -> Result<(), Fail> {
+    let text = demo(rt.alloc())?;
+    let end = ended(&rt, text.as_slice(), b"begin rename th1 refl commit")?;
+    assert!(rt; end == Ok((1, 8)) || end == Err(FinishError::NoMemory));
+    Ok(())
+}
+
+#[test]
+fn an_end_of_rules_is_whole_or_lacks_memory(rt: HostRuntime) -> Result<(), Fail> {
+    let text = rules(rt.alloc())?;
+    let end = ended(&rt, text.as_slice(), b"begin rename th2 rule commit")?;
+    assert!(rt; end == Ok((1, 4)) || end == Err(FinishError::NoMemory));
     Ok(())
 }
