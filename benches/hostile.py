@@ -1,10 +1,11 @@
 #!/usr/bin/env python3
-"""Times `check` on small texts that were made to be slow, each beside one of a tenth of its size.
+"""Times `check`, `add` and `reprove` on small texts that were made to be slow, each beside one of a tenth of its size.
 
-    hostile.py [--program CMD] [--out DIR] [--rounds 5] [--only WORD]
+    hostile.py [--program CMD] [--out DIR] [--rounds 5] [--only WORD] [--by check|add|reprove]
 
---program is the program under test (default ../crates/mmrefactor/out/mmrefactor check), called with one database. The time
-of an empty database is taken off. A row is even where its time is at most twice ten times that of its neighbour, a tenth of its size: best
+--program is the program under test (default ../crates/mmrefactor/out/mmrefactor), called as `CMD check DB` or `CMD run DB SCRIPT`. By `add` the
+last theorem of a text is added to the library of what stands before it; by `reprove` it is given its own proof again. The time of
+an empty database, or of an empty script over the same one, is taken off. A row is even where its time is at most twice ten times that of its neighbour, a tenth of its size: best
 times of the rounds, and at least 5 ms is said of the neighbour, since less can't be told from noise. A measurement and no test: it passes
 whatever it finds.
 """
@@ -13,6 +14,7 @@ import argparse
 import itertools
 import os
 import pathlib
+import re
 import shlex
 import subprocess
 import time
@@ -157,6 +159,33 @@ def many_floats(count):
     return prelude(vs) + "".join(f"a{i} $a wff {vs[i % count]} $.\n" for i in range(4000))
 
 
+def repeated(count, times):
+    """One long $d, said again and again in one block."""
+    vs = [f"v{i}" for i in range(count)]
+    return prelude(vs) + "${\n" + words(["$d", *vs, "$."] * times) + "x $a |- T $.\n$}\n"
+
+
+def split(text):
+    """What stands before the last theorem, and the theorem with its block."""
+    at = text.rindex("${") if text.rstrip().endswith("$}") else text.rindex("th $p")
+    return text[:at], text[at:]
+
+
+def added(text):
+    """A database, and the script that adds the last theorem of a text to it."""
+    before, unit = split(text)
+    return before, f"begin add 4000000 {unit} commit\n"
+
+
+def reproved(text):
+    """The text, and the script that gives its last theorem its proof again."""
+    _, unit = split(text)
+    label = re.search(r"(\S+)\s+\$p", unit)[1]
+    names = {name: f"{label}.{k}" for k, name in enumerate(re.findall(r"(\S+)\s+\$e", unit), 1)}
+    steps = unit.split("$=")[1].split("$.")[0].split()
+    return text, f"begin reprove {label} $= " + words(names.get(step, step) for step in steps) + "$. commit\n"
+
+
 def rows():
     """(name, the text of a tenth, the text) of each row, as thunks."""
     return [
@@ -176,46 +205,71 @@ def rows():
         ("409, 4,094 rules cited, of the same letters", lambda: known_labels(409, anagrams()), lambda: known_labels(4094, anagrams())),
         ("a substitute of 3,000, 30,000 variables", lambda: many_variables(3000), lambda: many_variables(30000)),
         ("4,000 axioms behind 6,553, 65,535 $f", lambda: many_floats(6553), lambda: many_floats(65535)),
+        ("a $d of 362 said 200, 2,000 times", lambda: repeated(362, 200), lambda: repeated(362, 2000)),
     ]
 
 
-def best(command, path, rounds):
+def best(command, rounds):
     """The least time of so many calls in milliseconds, and what the last one printed."""
     least = float("inf")
     for _ in range(rounds):
         start = time.perf_counter()
-        done = subprocess.run([*command, path], capture_output=True, check=False)
+        done = subprocess.run(command, capture_output=True, check=False)
         least = min(least, (time.perf_counter() - start) * 1e3)
-    said = (done.stdout + done.stderr).decode().strip().rsplit("/", 1)[-1]
-    return least, said[:80]
+    said = (done.stdout + done.stderr).decode().strip().split("\n")[0].rsplit("/", 1)[-1]
+    return least, said[:60]
+
+
+class Bench:
+    """The program, called in one of three ways."""
+
+    def __init__(self, options):
+        self.program = shlex.split(options.program)
+        self.rounds = options.rounds
+        self.by = options.by
+        self.db, self.script = (options.out / name for name in ("hostile.mm", "hostile.edits"))
+
+    def checked(self, text):
+        self.db.write_text(text)
+        return best([*self.program, "check", self.db], self.rounds)
+
+    def run(self, script):
+        self.script.write_text(script)
+        return best([*self.program, "run", "--room", "16777216", self.db, self.script], self.rounds)
+
+    def took(self, text):
+        """The time that a text takes beyond an empty one, and what is answered."""
+        if self.by == "check":
+            nothing, _ = self.checked("$c T $.\n")
+            spent, said = self.checked(text)
+            return max(spent - nothing, 0.0), said
+        db, script = (added if self.by == "add" else reproved)(text)
+        self.db.write_text(db)
+        nothing, _ = self.run("")
+        spent, said = self.run(script)
+        return max(spent - nothing, 0.0), said
 
 
 def main():
     parser = argparse.ArgumentParser(description=__doc__, formatter_class=argparse.RawDescriptionHelpFormatter)
-    parser.add_argument("--program", default=f"{HERE.parent / 'crates/mmrefactor/out/mmrefactor'} check")
+    parser.add_argument("--program", default=str(HERE.parent / "crates/mmrefactor/out/mmrefactor"))
     parser.add_argument("--out", type=pathlib.Path, default=pathlib.Path("/tmp/mmrefactor-benches"))
     parser.add_argument("--rounds", type=int, default=5)
     parser.add_argument("--only", default="", help="the rows whose name has this")
+    parser.add_argument("--by", choices=["check", "add", "reprove"], default="check")
     options = parser.parse_args()
     options.out.mkdir(parents=True, exist_ok=True)
-    command = shlex.split(options.program)
-    path = options.out / "hostile.mm"
-    path.write_text("$c T $.\n")
-    nothing, _ = best(command, path, options.rounds)
-    print(f"nproc {os.cpu_count()}, load {os.getloadavg()[0]:.1f}; best of {options.rounds} rounds in ms, less {nothing:.1f} of nothing\n")
+    bench = Bench(options)
+    print(f"by {options.by}; nproc {os.cpu_count()}, load {os.getloadavg()[0]:.1f}; best of {options.rounds} rounds in ms, less those of nothing\n")
     print("| row | a tenth | whole | whole / (10 tenths) | even | answer |")
     print("|---" * 6 + "|")
     for name, small, large in rows():
-        if options.only not in name:
+        if options.only not in name or (options.by != "check" and "$p" not in small()):
             continue
-        took = []
-        for make in (small, large):
-            path.write_text(make())
-            spent, said = best(command, path, options.rounds)
-            took.append(max(spent - nothing, 0.0))
-        ratio = took[1] / (10 * max(took[0], LEAST))
-        even = took[1] <= 20 * max(took[0], LEAST)
-        print(f"| {name} | {took[0]:.2f} | {took[1]:.2f} | {ratio:.2f} | {'yes' if even else 'NO'} | {said} |", flush=True)
+        took = [bench.took(make()) for make in (small, large)]
+        ratio = took[1][0] / (10 * max(took[0][0], LEAST))
+        even = took[1][0] <= 20 * max(took[0][0], LEAST)
+        print(f"| {name} | {took[0][0]:.2f} | {took[1][0]:.2f} | {ratio:.2f} | {'yes' if even else 'NO'} | {took[1][1]} |", flush=True)
 
 
 if __name__ == "__main__":

@@ -3,8 +3,8 @@
 
     mixed.py DB.. [--program CMD] [--beside CMD] [--transactions 400] [--rounds 1] [--seed 1] [--out DIR]
 
-For each DB it asks the program for its canonical text (a run of an empty script), makes a script of random transactions of all seven
-commands, runs it, checks the export with the program's `check`, and, where another program of the same command line is named, compares what
+For each DB it asks the program for its canonical text (a run of an empty script), makes a script of random transactions of all commands
+but `replace`, runs it, checks the export with the program's `check`, and, where another program of the same command line is named, compares what
 both print, byte by byte, and how long each takes: the run of the script less that of the empty one, medians over the rounds. It stops at
 the first difference or refusal of an export.
 """

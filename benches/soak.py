@@ -3,7 +3,7 @@
 
     soak.py DB.. [--program CMD] [--workers 1 2 8 64] [--runs 40] [--scripts 64] [--transactions 6] [--seed 1] [--out DIR]
 
-For each DB and each number of workers it makes, with one seed a run, so many scripts of random transactions of all seven commands over the
+For each DB and each number of workers it makes, with one seed a run, so many scripts of random transactions of all commands but `replace` over the
 same labels, so that workers meet, and runs them with a history. A run is as it should be where
 
 - each script has one outcome for each of its transactions, in order, and its numbers and places don't go back;

@@ -21,11 +21,11 @@ use std::alloc::{AllocError, Global};
 pub fn decode_label(alloc: Global, words: &[u64]) -> Result<Label, AllocError>
     ensures { (label : List ℕ) → All (λ byte. byte < 2 ^ 8) label → label_body label ≡ words.now → IfOk result (λ made. made ≡ label) }
 {
-    let mut bytes = Vec::with_capacity(alloc, words.len())?;
+    let mut label = Label::new(alloc);
     for word in words {
-        bytes.push((*word & 0xff) as u8)?;
+        label.push((*word & 0xff) as u8)?;
     }
-    Ok(Sequence::from_vec(bytes))
+    Ok(label)
 }
 
 /// The statement whose body has these words.

@@ -5,7 +5,7 @@ use bodystore::{
     Stage, StoredStep, decode_label, decode_proof, decode_statement, encode_label, encode_proof,
     encode_statement,
 };
-use mmsyntax::{Assertion, Expr, Kind, Sequence, Symbol};
+use mmsyntax::{Assertion, Expr, Kind, Label, Sequence, Symbol};
 use ranges::Range;
 use std::alloc::{AllocError, Global};
 use std::hash::RandomState;
@@ -14,7 +14,7 @@ use std::test::Fail;
 /// The axiom `we $a wff $.` of the database that has the one constant `wff`.
 fn axiom(alloc: Global) -> Result<Assertion, AllocError> {
     Ok(Assertion {
-        label: sequence(alloc, b"we")?,
+        label: Label::from_slice(alloc, b"we")?,
         kind: Kind::Axiom,
         pairs: sequence(alloc, &[])?,
         hyps: Sequence::from_vec(Vec::new(alloc)),
@@ -29,7 +29,7 @@ fn theorem(alloc: Global) -> Result<Assertion, AllocError> {
     hyps.push(sequence(alloc, &[Symbol::Const(1), Symbol::Var(0)])?)?;
     hyps.push(sequence(alloc, &[Symbol::Const(1), Symbol::Var(2)])?)?;
     Ok(Assertion {
-        label: sequence(alloc, b"th")?,
+        label: Label::from_slice(alloc, b"th")?,
         kind: Kind::Theorem,
         pairs: sequence(alloc, &[(0, 1), (1, 2)])?,
         hyps: Sequence::from_vec(hyps),
@@ -60,7 +60,7 @@ fn a_theorem_is_decoded_from_its_words(rt: HostRuntime) -> Result<(), Fail> {
     assert_eq!(rt; body.as_slice(), words.as_slice());
     let statement = decode_statement(alloc, body.as_slice())?;
     let decoded = statement.into_assertion(
-        sequence(alloc, b"th")?,
+        Label::from_slice(alloc, b"th")?,
         Sequence::from_vec(Vec::new(alloc)),
     );
     assert_eq!(rt;

@@ -1,8 +1,9 @@
 //! The editor's own calls: slots and counts, and the library that it leaves. What it answers to commands is in the rows.
 
-use crate::shared::{editor, library, mini, sequence};
+use crate::shared::{editor, library, mini};
 use export::write_library;
 use history::OpenError;
+use mmstatement::Label;
 use scripts::{Command, Reply};
 use std::alloc::Global;
 use std::test::Fail;
@@ -23,8 +24,8 @@ fn slots_are_counted(rt: HostRuntime) -> Result<(), Fail> {
 /// The renaming of one label.
 fn renaming(alloc: Global, old: &[u8], new: &[u8]) -> Result<Command, Fail> {
     Ok(Command::Rename {
-        old: sequence(alloc, old)?,
-        new: sequence(alloc, new)?,
+        old: Label::from_slice(alloc, old)?,
+        new: Label::from_slice(alloc, new)?,
     })
 }
 

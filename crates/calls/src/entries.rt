@@ -16,12 +16,14 @@ begin
 add 200
 t $p wff $= we $.
 reprove t $= we $.
+replace t we u
 rename t u
 move u 300
 delete v
 show u
 list
 commit
+  done
   done
   done
   done
@@ -74,7 +76,7 @@ fn copied_commands_and_replies_are_equal(rt: HostRuntime) -> Result<(), Fail> {
     };
     assert_eq!(rt;
         (commands.as_slice().len(), replies.as_slice().len()),
-        (7, 7)
+        (8, 8)
     );
     assert!(rt; copies_commands(rt.alloc(), commands.as_slice())?);
     assert!(rt; copies_replies(rt.alloc(), replies.as_slice())?);

@@ -1,7 +1,7 @@
 //! Frames of assertions made by hand, and their copies.
 
 use crate::shared::{database, sequence};
-use mmstatement::{Assertion, Expr, Frame, Kind, Sequence, Symbol, frame_of};
+use mmstatement::{Assertion, Expr, Frame, Kind, Label, Sequence, Symbol, frame_of};
 use std::alloc::{AllocError, Global};
 use std::test::Fail;
 
@@ -28,7 +28,7 @@ fn axiom(alloc: Global, hyp: &[Symbol], statement: &[Symbol]) -> Result<Assertio
     let mut hyps: Vec<Expr> = Vec::new(alloc);
     hyps.push(sequence(alloc, hyp)?)?;
     Ok(Assertion {
-        label: sequence(alloc, b"ax".as_slice())?,
+        label: Label::from_slice(alloc, b"ax")?,
         kind: Kind::Axiom,
         pairs: sequence(alloc, &[(0, 1), (0, 2), (1, 2)])?,
         hyps: Sequence::from_vec(hyps),

@@ -95,6 +95,12 @@ tt a2 tt tze tpl tt tt a1 mp mp $. commit";
 }
 
 #[test]
+fn a_replacement_is_tried_again(rt: HostRuntime) -> Result<(), Fail> {
+    assert!(rt; is_first(&rt, b"begin replace th1 a2 a2 commit")?);
+    Ok(())
+}
+
+#[test]
 fn a_renaming_is_tried_again(rt: HostRuntime) -> Result<(), Fail> {
     assert!(rt; is_first(&rt, b"begin rename th1 refl commit")?);
     Ok(())
@@ -148,9 +154,9 @@ fn all_commands_are_tried_again(rt: HostRuntime) -> Result<(), Fail> {
     let script = b"begin add 900 th2 $p |- 0 = 0 $= tze th1 $.
 reprove th2 $= tze tze tpl tze weq tze tze weq tze a2 tze tze tpl tze weq tze tze tpl tze weq tze tze weq wim
 tze a2 tze tze tpl tze tze a1 mp mp $.
-rename th2 zero move zero 901 show zero list delete zero commit";
+replace th2 a2 a2 rename th2 zero move zero 901 show zero list delete zero commit";
     match tried_on_demo(&rt, script)? {
-        Outcome::Committed { number: 1, replies } => assert_eq!(rt; replies.as_slice().len(), 7),
+        Outcome::Committed { number: 1, replies } => assert_eq!(rt; replies.as_slice().len(), 8),
         _ => return Err(Fail::from("it is the first entry")),
     }
     Ok(())
@@ -161,9 +167,9 @@ fn all_commands_on_rules_are_tried_again(rt: HostRuntime) -> Result<(), Fail> {
     let script =
         b"begin add 500 ${ $d x y $. th3.1 $e |- x y $. th3 $p |- x y x $= wx wy th3.1 th2 $. $}
 reprove th3 $= wx wy th3.1 th $.
-rename th3 rule move rule 501 show rule list delete rule commit";
+replace th3 th th rename th3 rule move rule 501 show rule list delete rule commit";
     match tried_on(&rt, rules(rt.alloc())?.as_slice(), script)? {
-        Outcome::Committed { number: 1, replies } => assert_eq!(rt; replies.as_slice().len(), 7),
+        Outcome::Committed { number: 1, replies } => assert_eq!(rt; replies.as_slice().len(), 8),
         _ => return Err(Fail::from("it is the first entry")),
     }
     Ok(())

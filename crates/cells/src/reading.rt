@@ -175,7 +175,7 @@ fn named_step<C: Cells>(
         StoredStep::Slot(slot) if (slot as usize) < slots => {
             Ok(Step::Cite(name_of(alloc, cells, slot as usize)?))
         }
-        StoredStep::Slot(_) => Ok(Step::Cite(Sequence::from_vec(Vec::new(alloc)))),
+        StoredStep::Slot(_) => Ok(Step::Cite(Label::new(alloc))),
     }
 }
 
@@ -218,10 +218,7 @@ pub fn frame<C: Cells>(
     ensures ok { IfOk result (λ made. ForEachHeld (C.sight cells.new) slot (λ st lib e. made ≡ frame prelude.now e.assertion)) }
 {
     let statement = statement(alloc, cells, slot)?;
-    let bare = statement.into_assertion(
-        Sequence::from_vec(Vec::new(alloc)),
-        Sequence::from_vec(Vec::new(alloc)),
-    );
+    let bare = statement.into_assertion(Label::new(alloc), Sequence::from_vec(Vec::new(alloc)));
     Ok(frame_of(alloc, prelude, &bare)?)
 }
 

@@ -20,3 +20,5 @@ pub mod Citers
 pub mod Ranking
 pub mod Transactions
 pub mod Allowed
+pub mod Recited
+pub mod Replaced

@@ -3,7 +3,7 @@ use Rattle.std.specs.Prelude.{◌≡◌, ℕ, List, Bool, true, false, Result, O
 use Rattle.std.specs.List.{list_any}
 use Rattle.library.specs.declared.library.Ranked.{Ranked}
 use Rattle.library.specs.declared.command.Command.{Command}
-use Rattle.library.specs.declared.command.Command.TheVariants.{Add, Reprove, Rename}
+use Rattle.library.specs.declared.command.Command.TheVariants.{Add, Reprove, Replace, Rename}
 use Rattle.library.specs.declared.command.Reply.{Reply}
 use Rattle.library.specs.declared.reason.Reason.{Reason}
 use Rattle.library.specs.declared.reason.Refused.{Refused}
@@ -32,6 +32,7 @@ ShowsAfter s st lib = Shows s.setting.slots (after s st) lib
 abbrev pub stages : Command → Bool
 stages (Add rank a) = true
 stages (Reprove label steps) = true
+stages (Replace label old new) = true
 stages (Rename from to) = true
 stages _ = false
 

@@ -3,3 +3,4 @@ pub mod Citing
 pub mod Changes
 pub mod Listing
 pub mod Looking
+pub mod Replacing

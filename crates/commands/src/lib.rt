@@ -8,6 +8,7 @@ mod ending;
 mod looking;
 mod moving;
 mod renaming;
+mod replacing;
 mod reproving;
 mod rights;
 mod running;

@@ -47,7 +47,7 @@ pub(crate) fn reprove<C: Cells>(
 }
 
 /// Stages steps, has the proof cell of a slot name them, counts out what the former proof cites, and counts in what these cite.
-fn put_steps<C: Cells>(
+pub(crate) fn put_steps<C: Cells>(
     alloc: Global,
     cells: &mut C,
     slot: usize,

@@ -10,7 +10,10 @@ pub fn stages(command: &Command) -> bool
     ensures { result ≡ stages command.now }
 {
     match command {
-        Command::Add { .. } | Command::Reprove { .. } | Command::Rename { .. } => true,
+        Command::Add { .. }
+        | Command::Reprove { .. }
+        | Command::Replace { .. }
+        | Command::Rename { .. } => true,
         Command::Move { .. } | Command::Delete { .. } | Command::Show { .. } | Command::List =>
             false,
     }

@@ -10,6 +10,7 @@ use crate::deleting::delete;
 use crate::ending::{CommandError, RunError};
 use crate::moving::move_to;
 use crate::renaming::rename;
+use crate::replacing::replace;
 use crate::reproving::reprove;
 use crate::showing::{list, show};
 use cells::Cells;
@@ -70,6 +71,7 @@ pub fn take<C: Cells>(
     match command {
         Command::Add { rank, assertion } => add(alloc, prelude, cells, *rank, assertion),
         Command::Reprove { label, steps } => reprove(alloc, prelude, cells, label, steps),
+        Command::Replace { label, old, new } => { replace(alloc, prelude, cells, label, old, new) }
         Command::Rename { old, new } => rename(alloc, prelude, cells, old, new),
         Command::Move { label, rank } => move_to(alloc, cells, label, *rank),
         Command::Delete { label } => delete(alloc, cells, label),

@@ -1,4 +1,5 @@
-//! Random transactions: all seven commands, over few labels, ranks and steps, so that each test of each command passes often and fails often.
+//! Random transactions: all eight commands, over few labels, ranks and steps, so that each test of each command passes often and
+//! fails often.
 
 ghost use Rattle.std.specs.Prelude.{◌<◌, ◌≤◌};
 
@@ -70,7 +71,7 @@ impl Maker {
     }
 
     fn command(&mut self, alloc: Global) -> Result<Command, AllocError> {
-        Ok(match self.below(16) {
+        Ok(match self.below(19) {
             0 => Command::List,
             1 => Command::Show {
                 label: self.label(alloc, 16)?,
@@ -89,6 +90,11 @@ impl Maker {
             7..=9 => Command::Reprove {
                 label: self.label(alloc, 11)?,
                 steps: self.steps(alloc)?,
+            },
+            10..=12 => Command::Replace {
+                label: self.label(alloc, 11)?,
+                old: self.cited(alloc)?,
+                new: self.cited(alloc)?,
             },
             _ => Command::Add {
                 rank: self.rank(),
@@ -165,8 +171,16 @@ impl Maker {
             _ => label_of(alloc, "we"),
         }
     }
+
+    /// A label that a proof may cite: mostly that of an assertion without hypotheses.
+    fn cited(&mut self, alloc: Global) -> Result<Label, AllocError> {
+        match self.below(3) {
+            0 => self.label(alloc, 14),
+            _ => self.nullary(alloc),
+        }
+    }
 }
 
 fn label_of(alloc: Global, name: &str) -> Result<Label, AllocError> {
-    Ok(Sequence::from_vec(Vec::from_slice(alloc, name.as_bytes())?))
+    Label::from_slice(alloc, name.as_bytes())
 }

@@ -6,11 +6,14 @@ use library::Reason;
 use pairs::Outcome;
 use std::fmt;
 
+/// How many reasons there are.
+const REASONS: usize = 13;
+
 /// How many transactions were done, and how many were refused for each reason, by its number from 1.
 #[derive(Clone, Copy, Debug, Default)]
 pub struct Tally {
     done: u32,
-    refused: [u32; 12],
+    refused: [u32; REASONS],
 }
 
 impl Tally {
@@ -28,9 +31,9 @@ impl Tally {
 
 /// The place of a reason's count: its number less 1.
 fn place_of(reason: Reason) -> usize
-    ensures { result < 12 }
+    ensures { result < REASONS }
 {
-    ((reason.number() - 1) % 12) as usize
+    (reason.number() as usize - 1) % REASONS
 }
 
 impl fmt::Display for Tally {

@@ -9,5 +9,5 @@ mod text;
 mod writing;
 
 pub use error::ExportError;
-pub use text::write_library;
+pub use text::{put_library, write_library};
 pub use writing::export;

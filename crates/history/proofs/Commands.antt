@@ -1,19 +1,21 @@
 -- What each command does to the library of some entries, by the places of its labels.
 use Rattle.std.proofs.Common.{◌≡◌, ℕ, Bool, true, false, List, [], ◌∷◌, ◌++◌, Option, None, Some, Result, Ok, Err, length, set, refl, sym}
 use Rattle.std.proofs.Common.{ap, subst, ◌∙◌}
-use Rattle.std.specs.Prelude.{nat_le, ◌==◌}
+use Rattle.std.specs.Prelude.{nat_le, ◌==◌, ◌||◌}
 use Rattle.std.specs.List.{list_any}
 use Rattle.std.specs.Option.{is_some}
 use mathlib.Core.Bool.{not}
 use Rattle.std.proofs.lemmas.Bool.{cond-true, cond-false}
 use Rattle.mmsyntax.specs.declared.statement.Assertion.{Assertion}
 use Rattle.mmsyntax.specs.Assertions.{is_lawful_label}
+use Rattle.mmstatement.specs.Frames.{frame}
 use Rattle.library.specs.declared.library.Ranked.{Ranked}
 use Rattle.library.specs.declared.reason.Reason.{Reason}
 use Rattle.library.specs.declared.reason.Reason.TheVariants as reason
 use Rattle.library.specs.Library.{Setting, label_of}
 use Rattle.library.specs.Edits.{Edited, Tests, tested, of_found, where_so, has, found, changed, without}
 use Rattle.library.specs.Edits.{is_axiom, bad_rank, bad_label, label_taken, cites_unknown, is_of_unknown, added, rename, add_tests}
+use Rattle.library.specs.Edits.{unknown_label, is_alike, are_alike, is_not_below, replace_tests}
 use Rattle.library.proofs.Editing.{where_none}
 use Rattle.library.proofs.Places.{find_nowhere, is_labelled-own}
 use Rattle.history.specs.Entries.{Entries, living, StandsIn}
@@ -95,6 +97,22 @@ add_known s lib rank a h =
     let theorem = (first-parts (label_taken lib a.label) _ labelled).1 in
     let proof = (first-parts (where_so (is_axiom a.kind) reason.AxiomNotAllowed) _ theorem).1 in
     where_none (list_any (is_of_unknown lib) a.proof) reason.CitesUnknown (first-parts (cites_unknown lib a.proof) _ proof).0
+
+-- the tests of a citation that is replaced, behind those of the two labels, which assertions have
+pub replace_front : (s : Setting) (lib : List Ranked) (old new : List ℕ) (e x y : Ranked) → has lib old ≡ true → has lib new ≡ true
+    → found lib old ≡ Some x → found lib new ≡ Some y
+    → first_reason (replace_tests s lib old new e) ≡ first_reason
+    (where_so (is_axiom e.assertion.kind) reason.NotATheorem
+    ∷ where_so (not (is_alike (frame s.prelude x.assertion) (frame s.prelude y.assertion))) reason.NotAlike
+    ∷ where_so (nat_le e.rank y.rank || false) reason.CitedNotLower
+    ∷ [])
+replace_front s lib old new e x y known_old known_new former other =
+    let theorem = where_so (is_axiom e.assertion.kind) reason.NotATheorem in
+    let lower = λ (o : Option Ranked). where_so (is_not_below e.rank o || false) reason.CitedNotLower in
+    first-none (unknown_label lib old) _ (not_so (not (has lib old)) reason.UnknownLabel (ap not known_old))
+    ∙ first-none (unknown_label lib new) _ (not_so (not (has lib new)) reason.UnknownLabel (ap not known_new))
+    ∙ ap (λ o. first_reason (theorem ∷ where_so (not (are_alike s o (found lib new))) reason.NotAlike ∷ lower (found lib new) ∷ [])) former
+    ∙ ap (λ o. first_reason (theorem ∷ where_so (not (are_alike s (Some x) o)) reason.NotAlike ∷ lower o ∷ [])) other
 
 -- ---- labels
 

@@ -16,7 +16,7 @@ use std::alloc::{AllocError, Global};
 pub(crate) type Citers = Vec<Vec<usize>>;
 
 /// Puts a place into an ascending list, unless it stands there.
-fn enter(list: &mut Vec<usize>, place: usize) -> Result<(), AllocError>
+pub(crate) fn enter(list: &mut Vec<usize>, place: usize) -> Result<(), AllocError>
     requires { IsStrictlyIncreasing list.old.items }
     ensures ascending { IsStrictlyIncreasing list.new.items }
     ensures kept { (q : ℕ) → Contains list.old.items q → Contains list.new.items q }

@@ -140,6 +140,9 @@ module _ (t : Tables) (sound : IsSoundPrelude t) where
         spelled = (named, s.1, subst (λ (vs : List Word). vs ≢ []) same s.2, subst (λ vs. OtherSteps t label [] vs steps) same s.3, refl);
         told = told_line words (subst (AllByRecursion IsWritten) e h);
       }
+  command_retold (command.Replace label old new) ws h s =
+      let words = codes "replace" ∷ label ∷ old ∷ new ∷ [] in
+      record { words = words; spelled = (s.0, s.1, s.2, refl); told = told_line words (subst (AllByRecursion IsWritten) s.3 h) }
   command_retold (command.Rename old new) ws h s =
       let words = codes "rename" ∷ old ∷ new ∷ [] in
       record { words = words; spelled = (s.0, s.1, refl); told = told_line words (subst (AllByRecursion IsWritten) s.2 h) }

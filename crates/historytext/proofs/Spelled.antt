@@ -152,6 +152,14 @@ module _ (t : Tables) (sound : IsSoundPrelude t) where
         written = (name_written (codes "add") (λ e. absurd cc) refl, (rank_written rank h.small, unit.told.written));
       }
   command_spelled (command.Reprove label steps) h = reprove_spelled label steps h
+  command_spelled (command.Replace label old new) h = record {
+    words = codes "replace" ∷ label ∷ old ∷ new ∷ [];
+    spelled = (is_plain label h.0, is_plain old h.1, is_plain new h.2, refl);
+    written = (
+      name_written (codes "replace") (λ e. absurd cc) refl,
+      (lawful_written label h.0, (lawful_written old h.1, (lawful_written new h.2, tt))),
+    );
+  }
   command_spelled (command.Rename old new) h = record {
     words = codes "rename" ∷ old ∷ new ∷ [];
     spelled = (is_plain old h.0, is_plain new h.1, refl);

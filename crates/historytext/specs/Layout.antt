@@ -22,6 +22,7 @@ abbrev pub command_text : Tables → Command → List ℕ
 command_text t (command.Add rank a) = line (codes "add" ∷ decimal rank ∷ []) ++ assertion_text t a
 command_text t (command.Reprove label steps) =
     line (codes "reprove" ∷ label ∷ codes "$=" ∷ (map (step_word t label) steps ++ codes "$." ∷ []))
+command_text t (command.Replace label old new) = line (codes "replace" ∷ label ∷ old ∷ new ∷ [])
 command_text t (command.Rename old new) = line (codes "rename" ∷ old ∷ new ∷ [])
 command_text t (command.Move label rank) = line (codes "move" ∷ label ∷ decimal rank ∷ [])
 command_text t (command.Delete label) = line (codes "delete" ∷ label ∷ [])

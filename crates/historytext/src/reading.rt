@@ -1,6 +1,6 @@
 //! Reading a history, token by token.
 
-ghost use Rattle.std.specs.Prelude.{◌≡◌, ◌≢◌, ◌≤◌, ◌⊎◌, List, length, All, IfOk, IfErr};
+ghost use Rattle.std.specs.Prelude.{◌≡◌, ◌≢◌, ◌≤◌, ◌⊎◌, List, length, Some, None, All, IfOk, IfErr, if◌then◌else◌};
 ghost use Rattle.mmtext.specs.declared.fault.FaultKind.TheVariants.{NoMemory};
 ghost use Rattle.mmtext.specs.declared.fault.TextFault.{TextFault};
 ghost use Rattle.mmtext.specs.Views.{seen, Gives};
@@ -9,7 +9,7 @@ ghost use Rattle.mmsyntax.specs.Tables.{Tables};
 ghost use Rattle.library.specs.declared.history.Entry.{Entry};
 ghost use Rattle.historytext.specs.Grammar.{SpellsHistory};
 ghost use Rattle.historytext.specs.Layout.{EntryFits};
-ghost use Rattle.historytext.specs.Places.{entry_row, in_place, history_language, FaultyHistory};
+ghost use Rattle.historytext.specs.Places.{entry_row, in_place, whole, history_language, FaultyHistory};
 ghost use Rattle.historytext.specs.Views.{seen_place, seen_progress, seen_state};
 
 use crate::entry_rows::read_in_entry;
@@ -102,6 +102,13 @@ fn advance<'a>(
     }
 }
 
+/// Whether a history may end at a place: no entry is left.
+fn may_end(place: &Place<'_>) -> bool
+    ensures { (t : Tables) (entries : List Entry) → whole entries (seen_place t place.now) ≡ (if result then Some entries else None) }
+{
+    matches!(place, Place::AtEntry(0))
+}
+
 /// The history of a text that ends in a state. `length` is that of the text.
 fn finish(state: State<'_>, length: usize) -> Result<Vec<Entry>, Stop>
     ensures { (t : Tables) → Gives (λ v. v.items) result
@@ -111,15 +118,10 @@ fn finish(state: State<'_>, length: usize) -> Result<Vec<Entry>, Stop>
         progress: Progress { entries, place },
         in_comment,
     } = state;
-    if in_comment {
+    if in_comment || !may_end(&place) {
         return Err(unfinished_at(length));
     }
-    match place {
-        Place::AtEntry(left) if left == 0 => Ok(entries),
-        Place::AtHistory | Place::AtCount | Place::AtEntry(_) | Place::InEntry(_, _) => {
-            Err(unfinished_at(length))
-        }
-    }
+    Ok(entries)
 }
 
 /// What the tokens of a text say.

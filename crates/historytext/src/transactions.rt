@@ -54,6 +54,16 @@ fn put_labelled(out: &mut Vec<u8>, name: &[u8], label: &Label) -> Result<(), All
     out.extend_from_slice(b"\n")
 }
 
+fn put_replace(out: &mut Vec<u8>, label: &Label, old: &Label, new: &Label) -> Result<(), AllocError>
+    ensures { OnOk result (out.new.items ≡ out.old.items ++ line (codes "replace" ∷ label.now ∷ old.now ∷ new.now ∷ [])) }
+{
+    out.extend_from_slice(b"replace")?;
+    put_word(out, label.as_slice())?;
+    put_word(out, old.as_slice())?;
+    put_word(out, new.as_slice())?;
+    out.extend_from_slice(b"\n")
+}
+
 fn put_rename(out: &mut Vec<u8>, old: &Label, new: &Label) -> Result<(), AllocError>
     ensures { OnOk result (out.new.items ≡ out.old.items ++ line (codes "rename" ∷ old.now ∷ new.now ∷ [])) }
 {
@@ -80,6 +90,7 @@ fn put_command(out: &mut Vec<u8>, prelude: &Prelude, command: &Command) -> Resul
     match command {
         Command::Add { rank, assertion } => put_add(out, prelude, *rank, assertion),
         Command::Reprove { label, steps } => put_reprove(out, prelude, label, steps.as_slice()),
+        Command::Replace { label, old, new } => put_replace(out, label, old, new),
         Command::Rename { old, new } => put_rename(out, old, new),
         Command::Move { label, rank } => put_move(out, label, *rank),
         Command::Delete { label } => put_labelled(out, b"delete", label),

@@ -52,5 +52,5 @@ database_shown text label fault h =
 
 pub fault_labels_shown : FaultLabelsAreShown
 fault_labels_shown (Check db) label fault h = database_shown db.items label fault h
-fault_labels_shown (Run db scripts workers room) label fault h = database_shown db.items label fault h
+fault_labels_shown (Run db scripts workers room asked) label fault h = database_shown db.items label fault h
 fault_labels_shown (Replay db history) label fault h = database_shown db.items label fault h

@@ -1,5 +1,5 @@
 -- What the program answers to its own texts: `ok` to an export, and its library to the history of a run.
-use Rattle.std.proofs.Common.{◌≡◌, ◌≢◌, ◌∙◌, ℕ, zero, suc, ◌≤◌, List, Result, Ok, Err, length, map, take, refl, sym, ap, subst, arith}
+use Rattle.std.proofs.Common.{◌≡◌, ◌≢◌, ◌∙◌, ℕ, zero, suc, ◌≤◌, true, List, Result, Ok, Err, length, map, take, refl, sym, ap, subst, arith}
 use Rattle.std.specs.Prelude.{IfOk, IfErr, String, string_bytes}
 use Rattle.std.specs.declared.alloc.Global.{Global}
 use Rattle.std.proofs.lemmas.List.{take_all}
@@ -35,7 +35,7 @@ memory_alone _ h = absurd (h (λ e. cc))
 
 -- ---- the history of a run
 
-module _ (db text out : Bytes) (texts : List Bytes) (workers room : ℕ) (run : IsRun db texts workers room out text) where
+module _ (db text out : Bytes) (texts : List Bytes) (workers room : ℕ) (run : IsRun db texts workers room true out text) where
   -- the entries that the run kept
   abbrev kept : List Entry
   kept = run.printed.entries
@@ -49,12 +49,12 @@ module _ (db text out : Bytes) (texts : List Bytes) (workers room : ℕ) (run : 
   one_history contents history checked read =
       let t = run.contents.prelude in
       let there = subst (λ (d : Contents). IsHistory d.prelude text history) (one_content contents checked) read in
-      spells_one (history_language t) (SpellsHistory t) (history_grammar t) text history kept there.spelled run.printed.spelled
+      spells_one (history_language t) (SpellsHistory t) (history_grammar t) text history kept there.spelled (run.printed.spelled refl)
 
   text_faultless : length text ≤ 16777216 → (f : TextFault) → FaultyHistory run.contents.prelude text f → ⊥
   text_faultless short f faulty =
       let t = run.contents.prelude in
-      spells_without_fault (history_language t) (SpellsHistory t) (history_grammar t) text kept f short run.printed.spelled faulty
+      spells_without_fault (history_language t) (SpellsHistory t) (history_grammar t) text kept f short (run.printed.spelled refl) faulty
 
   pub replay_faultless : length text ≤ 16777216 → (f : Fault) → IsReplayFault db text f → ⊥
   replay_faultless short (Text zero g) h = checked_faultless db run.contents run.checked (Text zero g) h
@@ -98,7 +98,7 @@ answers_its_own (Check db) (Ok printed) done fault =
     let checked = accepted_checks db.items a short in
     done.0.prints ∙ ap ok_line (one_database db.items done.0.contents a.database done.0.checked.read checked.read)
 answers_its_own (Check db) (Err f) done fault = λ a short. memory_alone f (λ ne. accepted_faultless db f a short (fault ne))
-answers_its_own (Run db texts workers room) answer done fault = tt
+answers_its_own (Run db texts workers room asked) answer done fault = tt
 answers_its_own (Replay db history) (Ok printed) done fault =
     λ texts workers room out run short. replay_printed db.items history.items out texts workers room run printed.out.items done.0
 answers_its_own (Replay db history) (Err f) done fault =
@@ -108,5 +108,5 @@ answers_its_own (Replay db history) (Err f) done fault =
 pub tells_its_own : (j : Job) (f : Fault) (paths : List Bytes) (line : String Global) → string_bytes line ≡ line_of paths f
     → AnswersItsOwn j (IsPrintedBy (Err f)) → AnswersItsOwn j (IsToldBy (Refused line))
 tells_its_own (Check db) f paths line told own = λ a short. told ∙ ap (line_of paths) (own a short)
-tells_its_own (Run db texts workers room) f paths line told own = tt
+tells_its_own (Run db texts workers room asked) f paths line told own = tt
 tells_its_own (Replay db history) f paths line told own = λ texts workers room out run short. told ∙ ap (line_of paths) (own texts workers room out run short)

@@ -1,5 +1,5 @@
 -- The faults of a run: that of its database, that of a script, and bodies that its room has no place for; and which is answered.
-use Rattle.std.proofs.Common.{◌≡◌, ◌≢◌, ◌∙◌, ◌+◌, ◌<◌, ◌⊎◌, inl, inr, ℕ, zero, suc, List, Result, Ok, Err, subst, sym, ap, refl, arith}
+use Rattle.std.proofs.Common.{◌≡◌, ◌≢◌, ◌∙◌, ◌+◌, ◌<◌, ◌⊎◌, inl, inr, Bool, ℕ, zero, suc, List, Result, Ok, Err, subst, sym, ap, refl, arith}
 use Rattle.std.specs.Prelude.{IfOk, IfErr}
 use Rattle.mmtext.specs.declared.fault.TextFault.{TextFault}
 use Rattle.mmsyntax.specs.Tables.{Tables, Contents}
@@ -42,10 +42,11 @@ module _ (db : Bytes) (texts : List Bytes) (room : ℕ) (contents : Contents) (s
   run_faulted (Ok printed) h = h
   run_faulted (Err f) h = λ ne. work_of_run f h ne
 
-  pub run_done : (workers : ℕ) (r : Result Printed Fault) → IfOk r (λ p. PrintsRun contents workers room scripts p.out.items p.history.items)
-      → IfOk r (λ p. IsRun db texts workers room p.out.items p.history.items)
-  run_done workers (Ok printed) h = record { contents = contents; checked = checked; scripts = scripts; ordered = ordered; printed = h }
-  run_done workers (Err f) h = h
+  pub run_done : (workers : ℕ) (asked : Bool) (r : Result Printed Fault)
+      → IfOk r (λ p. PrintsRun contents workers room asked scripts p.out.items p.history.items)
+      → IfOk r (λ p. IsRun db texts workers room asked p.out.items p.history.items)
+  run_done workers asked (Ok printed) h = record { contents = contents; checked = checked; scripts = scripts; ordered = ordered; printed = h }
+  run_done workers asked (Err f) h = h
 
 -- ---- which is answered
 

@@ -1,5 +1,6 @@
 -- What a job prints, and which fault it has.
 use Rattle.std.specs.Prelude.{◌≡◌, ◌≢◌, ◌<◌, ◌≤◌, ◌+◌, ◌⊎◌, ◌^◌, ℕ, zero, suc, List, [], ◌∷◌, ◌++◌, Some, codes, length, map, slice_get}
+use Rattle.std.specs.Prelude.{Bool, true, IsTrue, if◌then◌else◌}
 use Rattle.std.specs.Prelude.{Result, Ok, Err}
 use Rattle.std.specs.Fmt.{decimal}
 use Rattle.mmsyntax.specs.declared.statement.Assertion.{Assertion}
@@ -56,9 +57,9 @@ pub record IsWorked (contents : Contents) (workers room : ℕ) (scripts : List O
   pub setting : library.setting ≡ setting_of contents
   pub follows : ShowsInOrder (after_all (setting_of contents) (opening contents) (map told history)) library.entries
 
--- the report of what became of all transactions, and the library after them, whose text is accepted; and the text of the history, which spells
--- it. After each front of it, too, the library verifies
-pub record PrintsRun (contents : Contents) (workers room : ℕ) (scripts : List Orders) (out history : Bytes) : Type 0 where
+-- the report of what became of all transactions, and the library after them, whose text is accepted; and, where it is asked for, the text of the
+-- history, which spells it. After each front of it, too, the library verifies
+pub record PrintsRun (contents : Contents) (workers room : ℕ) (asked : Bool) (scripts : List Orders) (out history : Bytes) : Type 0 where
   pub rows : List (List Outcome)
   pub entries : List Entry
   pub library : Listed
@@ -66,8 +67,8 @@ pub record PrintsRun (contents : Contents) (workers room : ℕ) (scripts : List 
   pub fronts : (k : ℕ) → Verifies (setting_of contents) (after (setting_of contents) (opening contents) (map told entries) k)
   pub prints : out ≡ report_text contents.prelude rows ++ library_lines library
   pub accepted : Accepts (exported_text library)
-  pub kept : history ≡ history_text contents.prelude entries
-  pub spelled : SpellsHistory contents.prelude history entries
+  pub kept : history ≡ (if asked then history_text contents.prelude entries else [])
+  pub spelled : IsTrue asked → SpellsHistory contents.prelude history entries
 
 -- `replayed`, a number of entries, and a library
 abbrev pub replayed_lines : ℕ → Listed → Bytes
@@ -120,13 +121,13 @@ pub record IsCheck (db : Bytes) (out : Bytes) : Type 0 where
   pub prints : out ≡ ok_line contents
 
 -- the database is read as it is spelled, and its proofs check; the scripts are read as they are spelled; and what is printed is that of
--- their run
-pub record IsRun (db : Bytes) (texts : List Bytes) (workers room : ℕ) (out history : Bytes) : Type 0 where
+-- their run, whose history's text is asked for or not
+pub record IsRun (db : Bytes) (texts : List Bytes) (workers room : ℕ) (asked : Bool) (out history : Bytes) : Type 0 where
   pub contents : Contents
   pub checked : IsChecked db contents
   pub scripts : List Orders
   pub ordered : AreScripts contents.prelude texts scripts
-  pub printed : PrintsRun contents workers room scripts out history
+  pub printed : PrintsRun contents workers room asked scripts out history
 
 -- the database is read as it is spelled, and its proofs check; the history is read as it is spelled; and what is printed is that of its
 -- replay
@@ -143,23 +144,23 @@ IsWithin workers room = (1 ≤ workers) × (workers ≤ 64) × (room ≤ 2 ^ 24)
 
 -- so those of a run are
 abbrev pub AreWithin : Job → Type 0
-AreWithin (Run db texts workers room) = IsWithin workers room
+AreWithin (Run db texts workers room asked) = IsWithin workers room
 AreWithin _ = Unit {0}
 
 abbrev pub DoneAsAsked : Job → Printed → Type 0
 DoneAsAsked (Check db) p = IsCheck db.items p.out.items × (p.history.items ≡ [])
-DoneAsAsked (Run db texts workers room) p = IsRun db.items (map (λ t. t.items) texts.items) workers room p.out.items p.history.items
+DoneAsAsked (Run db texts workers room asked) p = IsRun db.items (map (λ t. t.items) texts.items) workers room asked p.out.items p.history.items
 DoneAsAsked (Replay db history) p = IsReplay db.items history.items p.out.items × (p.history.items ≡ [])
 
 -- ---- what the program answers to its own texts
 
 -- of at most 16,777,216 bytes each: to a check of a text that is accepted, as every export is, `ok` is answered; to a replay of the history
--- that a run over the same database gave, the library of that run
+-- that a run over the same database gave where it was asked for, the library of that run
 abbrev pub AnswersItsOwn : Job → (Bytes → Type 0) → Type 0
 AnswersItsOwn (Check db) is_answered = (a : Accepts db.items) → length db.items ≤ 16777216 → is_answered (ok_line a.database)
-AnswersItsOwn (Run db texts workers room) is_answered = Unit {0}
+AnswersItsOwn (Run db texts workers room asked) is_answered = Unit {0}
 AnswersItsOwn (Replay db history) is_answered =
-    (texts : List Bytes) (workers room : ℕ) (out : Bytes) (run : IsRun db.items texts workers room out history.items) → length history.items ≤ 16777216
+    (texts : List Bytes) (workers room : ℕ) (out : Bytes) (run : IsRun db.items texts workers room true out history.items) → length history.items ≤ 16777216
     → is_answered (replayed_lines (length run.printed.entries) run.printed.library)
 
 -- this is printed, unless memory ran out
@@ -223,12 +224,12 @@ IsReplayFault db text f = IsDatabaseFault db f
 -- the first fault that a job has
 abbrev pub IsFaultOf : Job → Fault → Type 0
 IsFaultOf (Check db) f = IsDatabaseFault db.items f
-IsFaultOf (Run db texts workers room) f = IsRunFault db.items (map (λ t. t.items) texts.items) room f
+IsFaultOf (Run db texts workers room asked) f = IsRunFault db.items (map (λ t. t.items) texts.items) room f
 IsFaultOf (Replay db history) f = IsReplayFault db.items history.items f
 
 -- why a job that has none may come to no end
 abbrev pub IsLackOf : Job → Fault → Type 0
-IsLackOf (Run db texts workers room) f = IsRunLack f
+IsLackOf (Run db texts workers room asked) f = IsRunLack f
 IsLackOf _ f = ⊥
 
 -- the answer where there is a fault: that fault, unless memory ran out

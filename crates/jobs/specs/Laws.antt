@@ -1,5 +1,5 @@
 -- What is true of every script that is spelled, of every fault of a job, and of every text that is accepted.
-use Rattle.std.specs.Prelude.{◌≡◌, ◌≤◌, ℕ, List, All, Vec, length}
+use Rattle.std.specs.Prelude.{◌≡◌, ◌≤◌, ℕ, true, List, All, Vec, length}
 use Rattle.std.specs.declared.alloc.Global.{Global}
 use Rattle.mmsyntax.specs.Tables.{Tables}
 use Rattle.mmsyntax.specs.Layout.{IsSoundPrelude}
@@ -32,8 +32,8 @@ abbrev pub AcceptedTextsHaveNoFault : Type 0
 AcceptedTextsHaveNoFault =
     (text : Vec ℕ Global) (f : Fault) → Accepts text.items → length text.items ≤ 16777216 → IsFaultOf (Check text) f → ⊥
 
--- nor has a replay of the history that a run gave, over the same database, where its text has at most 16,777,216 bytes
+-- nor has a replay of the history that a run gave where it was asked for, over the same database, where its text has at most 16,777,216 bytes
 abbrev pub RunsHaveNoFaultAgain : Type 0
 RunsHaveNoFaultAgain =
-    (db history : Vec ℕ Global) (texts : List Bytes) (workers room : ℕ) (out : Bytes) (f : Fault) → IsRun db.items texts workers room out history.items
+    (db history : Vec ℕ Global) (texts : List Bytes) (workers room : ℕ) (out : Bytes) (f : Fault) → IsRun db.items texts workers room true out history.items
     → length history.items ≤ 16777216 → IsFaultOf (Replay db history) f → ⊥

@@ -16,18 +16,18 @@ use Rattle.jobs.specs.Jobs.{Bytes, DoneAsAsked, IsFaultOf, IsLackOf}
 -- the texts of a job: its database, then all its scripts in order, or its history
 abbrev pub texts_of : Job → List Bytes
 texts_of (job.Check db) = db.items ∷ []
-texts_of (job.Run db scripts workers room) = db.items ∷ map (λ t. t.items) scripts.items
+texts_of (job.Run db scripts workers room asked) = db.items ∷ map (λ t. t.items) scripts.items
 texts_of (job.Replay db history) = db.items ∷ history.items ∷ []
 
 abbrev pub task_of : Job → Task
 task_of (job.Check db) = Check
-task_of (job.Run db scripts workers room) = Run workers room
+task_of (job.Run db scripts workers room asked) = Run workers room asked
 task_of (job.Replay db history) = Replay
 
 -- so many texts are a job: a database alone; one before any number of scripts; one before a history
 abbrev pub TakesTexts : Task → ℕ → Type 0
 TakesTexts Check count = count ≡ 1
-TakesTexts (Run workers room) count = 1 ≤ count
+TakesTexts (Run workers room asked) count = 1 ≤ count
 TakesTexts Replay count = count ≡ 2
 
 -- the job of a task on exactly these texts

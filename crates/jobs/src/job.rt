@@ -15,12 +15,13 @@ pub enum Job {
         db: Vec<u8>,
     },
     /// Runs the scripts over the library of a database, with so many workers, 1 to 64, each of which claims the next script. The store of the
-    /// library has room for so many words, at most 16,777,216.
+    /// library has room for so many words, at most 16,777,216. The history's text is written where it is asked for.
     Run {
         db: Vec<u8>,
         scripts: Vec<Vec<u8>>,
         workers: usize,
         room: usize,
+        history: bool,
     },
     /// Does the transactions of a history again, over the library of a database, and compares their replies.
     Replay {
@@ -34,8 +35,8 @@ pub enum Job {
 pub struct Printed {
     /// The text for the standard output.
     pub out: Vec<u8>,
-    /// The text of a run's history: for each number, from 1, the transaction that was committed with it, with its replies, or nothing. Empty for
-    /// other jobs.
+    /// The text of a run's history, where it is asked for: for each number, from 1, the transaction that was committed with it, with its replies,
+    /// or nothing. Else empty, as for other jobs.
     pub history: Vec<u8>,
 }
 

@@ -17,7 +17,7 @@ ghost use Rattle.library.specs.Fitting.{CommandFits};
 
 use crate::job::{Fault, Job, Printed, text_fault};
 use crate::replaying::{print_replay, read_entries};
-use crate::running::{Size, print_run};
+use crate::running::{Plan, print_run};
 use crate::watching::Watch;
 use library::Script;
 use mmstatement::{Database, Label, Prelude, read_database};
@@ -130,17 +130,17 @@ fn run(
     keys: RandomState,
     db: &[u8],
     scripts: &[Vec<u8>],
-    size: Size,
+    plan: Plan,
     watch: &(impl Watch + Sync),
 ) -> Result<Printed, Fault>
-    requires within { IsWithin size.workers size.room }
-    ensures done { IfOk result (λ p. IsRun db.now (map (λ t. t.items) scripts.now) size.workers size.room p.out.items p.history.items) }
-    ensures fault { IfErr result (λ f. f ≢ NoMemory → IsRunFault db.now (map (λ t. t.items) scripts.now) size.room f ⊎ IsRunLack f) }
-    ensures refused { (f : FaultOfJob) → IsRunFault db.now (map (λ t. t.items) scripts.now) size.room f → RefusesWith f result }
+    requires within { IsWithin plan.workers plan.room }
+    ensures done { IfOk result (λ p. IsRun db.now (map (λ t. t.items) scripts.now) plan.workers plan.room plan.history p.out.items p.history.items) }
+    ensures fault { IfErr result (λ f. f ≢ NoMemory → IsRunFault db.now (map (λ t. t.items) scripts.now) plan.room f ⊎ IsRunLack f) }
+    ensures refused { (f : FaultOfJob) → IsRunFault db.now (map (λ t. t.items) scripts.now) plan.room f → RefusesWith f result }
 {
     let db = read_and_check(rt, alloc, keys, db)?;
     let scripts = read_scripts(alloc, db.prelude(), scripts)?;
-    print_run(rt, alloc, keys, &db, scripts.as_slice(), size, watch)
+    print_run(rt, alloc, keys, &db, scripts.as_slice(), plan, watch)
 }
 
 /// Does the transactions of a history again, over a database, as texts, and gives what is printed.
@@ -191,10 +191,22 @@ pub fn perform(
             scripts,
             workers,
             room,
+            history,
         } => {
-            let (db, scripts) = (db.as_slice(), scripts.as_slice());
-            let (workers, room) = (*workers, *room);
-            return run(rt, alloc, keys, db, scripts, Size { workers, room }, watch);
+            let plan = Plan {
+                workers: *workers,
+                room: *room,
+                history: *history,
+            };
+            return run(
+                rt,
+                alloc,
+                keys,
+                db.as_slice(),
+                scripts.as_slice(),
+                plan,
+                watch,
+            );
         }
         Job::Replay { db, history } => {
             replay(rt, alloc, keys, db.as_slice(), history.as_slice())?

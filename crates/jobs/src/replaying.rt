@@ -15,7 +15,7 @@ ghost use Rattle.jobs.specs.Jobs.{RefusesWith};
 ghost use Rattle.jobs.specs.Parts.{GivesOrLacksMemory, IsRefusedWith};
 
 use crate::job::{Fault, text_fault};
-use export::write_library;
+use export::put_library;
 use history::ReplayError;
 use historytext::read_history;
 use library::{Entry, History, PlainLibrary};
@@ -70,8 +70,7 @@ fn replayed_text(alloc: Global, count: usize, library: &PlainLibrary) -> Result<
     let line = format!(in alloc; "replayed {count}\n")?;
     let mut out = line.into_bytes();
     out.extend_from_slice(b"library\n")?;
-    let text = write_library(alloc, library)?;
-    out.extend_from_slice(text.as_slice())?;
+    put_library(&mut out, library)?;
     Ok(out)
 }
 

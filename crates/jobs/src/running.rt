@@ -1,10 +1,11 @@
 //! Scripts run over the library of a database by workers, and what is printed of it.
 
-ghost use Rattle.std.specs.Prelude.{◌≡◌, ℕ, ◌<◌, ◌^◌, ◌++◌, All, IfOk, IfErr, length};
+ghost use Rattle.std.specs.Prelude.{◌≡◌, ℕ, ◌<◌, ◌^◌, ◌++◌, [], if◌then◌else◌, All, IfOk, IfErr, length};
 ghost use Rattle.proofcheck.specs.Databases.{AllCheck};
 ghost use Rattle.library.specs.Fitting.{CommandFits};
 ghost use Rattle.cells.specs.Measures.{bodies_length};
 ghost use Rattle.transaction.specs.Openings.{IsOpened};
+ghost use Rattle.historytext.specs.Layout.{EntryFits, history_text};
 ghost use Rattle.workers.specs.Works.{lists_of};
 ghost use Rattle.jobs.specs.declared.job.Fault.TheVariants.{StoreFull};
 ghost use Rattle.jobs.specs.Jobs.{IsWithin, IsWorked, PrintsRun, RefusesWith, library_lines};
@@ -17,7 +18,7 @@ use crate::replaying::SLOTS;
 use crate::report::report;
 use crate::watching::Watch;
 use editing::{Edited, edit_all};
-use export::write_library;
+use export::put_library;
 use historytext::write_history;
 use library::{Entry, Script};
 use mmstatement::{Database, Prelude};
@@ -27,23 +28,25 @@ use std::sync::Wait;
 use std::thread::Threads;
 use transaction::{Library, OpenError, Session, Shape};
 
-/// How large a run is.
+/// How a run is to be done.
 #[derive(Clone, Copy)]
-pub(crate) struct Size {
+pub(crate) struct Plan {
     /// How many workers it has, 1 to 64.
     pub(crate) workers: usize,
     /// For how many words its store has room, at most 16,777,216.
     pub(crate) room: usize,
+    /// Whether the text of its history is asked for.
+    pub(crate) history: bool,
 }
 
 /// How the library of a run lies in words.
-fn shape(size: Size) -> Shape
-    ensures { result ≡ shape_with size.workers size.room }
+fn shape(plan: Plan) -> Shape
+    ensures { result ≡ shape_with plan.workers plan.room }
 {
     Shape {
         slots: SLOTS,
-        room: size.room,
-        sessions: size.workers,
+        room: plan.room,
+        sessions: plan.workers,
     }
 }
 
@@ -52,16 +55,16 @@ fn open(
     alloc: Global,
     keys: RandomState,
     db: &Database,
-    size: Size,
+    plan: Plan,
 ) -> Result<(Library, Vec<Session>), Fault>
     requires checks { AllCheck db.now }
-    requires within { IsWithin size.workers size.room }
-    ensures done { IfOk result (λ made. IsOpened db.now (shape_with size.workers size.room) made.0 made.1.items) }
-    ensures fault { IfErr result (IsOpenFault db.now size.room) }
+    requires within { IsWithin plan.workers plan.room }
+    ensures done { IfOk result (λ made. IsOpened db.now (shape_with plan.workers plan.room) made.0 made.1.items) }
+    ensures fault { IfErr result (IsOpenFault db.now plan.room) }
 {
     // For the proof: a database has at most as many assertions as there are slots.
     let _assertions = db.assertions();
-    match Library::open_checked(alloc, keys, db, shape(size)) {
+    match Library::open_checked(alloc, keys, db, shape(plan)) {
         Ok(opened) => Ok(opened),
         Err(OpenError::StoreFull) => Err(Fault::StoreFull),
         Err(OpenError::NoMemory) => Err(Fault::NoMemory),
@@ -87,17 +90,17 @@ fn edit(
     keys: RandomState,
     db: &Database,
     scripts: &[Script],
-    size: Size,
+    plan: Plan,
     watch: &(impl Watch + Sync),
 ) -> Result<Edited, Fault>
     requires checks { AllCheck db.now }
-    requires within { IsWithin size.workers size.room }
+    requires within { IsWithin plan.workers plan.room }
     requires fit { All (All (All (CommandFits db.now.prelude))) scripts.now }
-    ensures done { IfOk result (λ e. IsWorked db.now size.workers size.room scripts.now (lists_of e.outcomes.items) e.history e.library) }
-    ensures fault { IfErr result (IsWorkFault db.now size.room) }
-    ensures full { size.room < bodies_length db.now.assertions → RefusesWith StoreFull result }
+    ensures done { IfOk result (λ e. IsWorked db.now plan.workers plan.room scripts.now (lists_of e.outcomes.items) e.history e.library) }
+    ensures fault { IfErr result (IsWorkFault db.now plan.room) }
+    ensures full { plan.room < bodies_length db.now.assertions → RefusesWith StoreFull result }
 {
-    let (library, sessions) = open(alloc, keys, db, size)?;
+    let (library, sessions) = open(alloc, keys, db, plan)?;
     watch.begin(scripts.len(), transactions_of(scripts));
     let edited = edit_all(rt, alloc, library, sessions, scripts, watch);
     watch.end();
@@ -111,8 +114,7 @@ fn report_run(alloc: Global, prelude: &Prelude, edited: &Edited) -> Result<Vec<u
 {
     let mut out = report(alloc, prelude, edited.outcomes.as_slice())?;
     out.extend_from_slice(b"library\n")?;
-    let text = write_library(alloc, &edited.library)?;
-    out.extend_from_slice(text.as_slice())?;
+    put_library(&mut out, &edited.library)?;
     Ok(out)
 }
 
@@ -124,17 +126,35 @@ fn count_of(history: &[Entry]) -> u64
     history.len() as u64
 }
 
-/// What is printed of scripts that were run over a database, and its history's text.
+/// The text of a history where it is asked for, and else nothing.
+fn history_where(
+    alloc: Global,
+    asked: bool,
+    prelude: &Prelude,
+    history: &[Entry],
+) -> Result<Vec<u8>, AllocError>
+    requires { All (EntryFits prelude.now) history.now }
+    ensures { IfOk result (λ v. v.items ≡ (if asked then history_text prelude.now history.now else [])) }
+{
+    if asked {
+        write_history(alloc, prelude, history)
+    } else {
+        Ok(Vec::new(alloc))
+    }
+}
+
+/// What is printed of scripts that were run over a database, and its history's text where it is asked for.
 fn print_edited(
     alloc: Global,
     db: &Database,
     scripts: &[Script],
     edited: &Edited,
+    asked: bool,
 ) -> Result<Printed, AllocError>
     requires checks { AllCheck db.now }
     requires fit { All (All (All (CommandFits db.now.prelude))) scripts.now }
     requires worked { (workers : ℕ) × (room : ℕ) × IsWorked db.now workers room scripts.now (lists_of edited.now.outcomes.items) edited.now.history edited.now.library }
-    ensures { (workers room : ℕ) → IsWorked db.now workers room scripts.now (lists_of edited.now.outcomes.items) edited.now.history edited.now.library → IfOk result (λ p. PrintsRun db.now workers room scripts.now p.out.items p.history.items) }
+    ensures { (workers room : ℕ) → IsWorked db.now workers room scripts.now (lists_of edited.now.outcomes.items) edited.now.history edited.now.library → IfOk result (λ p. PrintsRun db.now workers room asked scripts.now p.out.items p.history.items) }
 {
     // For the proof: some text declares the database; the library verifies, and is in export order; and there are no more entries than a text
     // can count.
@@ -143,27 +163,27 @@ fn print_edited(
     let _count = count_of(edited.history.as_slice());
     Ok(Printed {
         out: report_run(alloc, db.prelude(), edited)?,
-        history: write_history(alloc, db.prelude(), edited.history.as_slice())?,
+        history: history_where(alloc, asked, db.prelude(), edited.history.as_slice())?,
     })
 }
 
-/// What the run of scripts over a database by workers prints, and its history's text.
+/// What the run of scripts over a database by workers prints, and its history's text where it is asked for.
 pub(crate) fn print_run(
     rt: &(impl Threads + Wait + Sync),
     alloc: Global,
     keys: RandomState,
     db: &Database,
     scripts: &[Script],
-    size: Size,
+    plan: Plan,
     watch: &(impl Watch + Sync),
 ) -> Result<Printed, Fault>
     requires checks { AllCheck db.now }
-    requires within { IsWithin size.workers size.room }
+    requires within { IsWithin plan.workers plan.room }
     requires fit { All (All (All (CommandFits db.now.prelude))) scripts.now }
-    ensures done { IfOk result (λ p. PrintsRun db.now size.workers size.room scripts.now p.out.items p.history.items) }
-    ensures fault { IfErr result (IsWorkFault db.now size.room) }
-    ensures full { size.room < bodies_length db.now.assertions → RefusesWith StoreFull result }
+    ensures done { IfOk result (λ p. PrintsRun db.now plan.workers plan.room plan.history scripts.now p.out.items p.history.items) }
+    ensures fault { IfErr result (IsWorkFault db.now plan.room) }
+    ensures full { plan.room < bodies_length db.now.assertions → RefusesWith StoreFull result }
 {
-    let edited = edit(rt, alloc, keys, db, scripts, size, watch)?;
-    Ok(print_edited(alloc, db, scripts, &edited)?)
+    let edited = edit(rt, alloc, keys, db, scripts, plan, watch)?;
+    Ok(print_edited(alloc, db, scripts, &edited, plan.history)?)
 }

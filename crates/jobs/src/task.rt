@@ -10,8 +10,12 @@ use crate::job::Job;
 pub enum Task {
     /// Checks the proofs of a database.
     Check,
-    /// Runs scripts over a database, with so many workers, in a store with room for so many words.
-    Run { workers: usize, room: usize },
+    /// Runs scripts over a database, with so many workers, in a store with room for so many words. The text of the history may be asked for.
+    Run {
+        workers: usize,
+        room: usize,
+        history: bool,
+    },
     /// Does a history again over a database.
     Replay,
 }
@@ -28,11 +32,16 @@ pub fn job_of(task: Task, mut texts: Vec<Vec<u8>>) -> Option<Job>
     let db = texts.remove(0);
     match task {
         Task::Check if texts.is_empty() => Some(Job::Check { db }),
-        Task::Run { workers, room } => Some(Job::Run {
+        Task::Run {
+            workers,
+            room,
+            history,
+        } => Some(Job::Run {
             db,
             scripts: texts,
             workers,
             room,
+            history,
         }),
         Task::Replay if texts.len() == 1 => {
             let history = texts.pop()?;

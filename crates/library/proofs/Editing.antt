@@ -8,6 +8,7 @@ use Rattle.std.proofs.lemmas.Bool.{not-false, leb-false, eqb-false}
 use Rattle.std.proofs.lemmas.List.Elements.{All-head, All-tail}
 use Rattle.mmsyntax.specs.declared.statement.Assertion.{Assertion}
 use Rattle.mmsyntax.specs.declared.statement.Step.{Step}
+use Rattle.mmsyntax.specs.declared.statement.Step.TheVariants.{Cite}
 use Rattle.mmsyntax.specs.Assertions.{is_lawful_label}
 use Rattle.proofcheck.specs.declared.fault.ProofFault.{ProofFault}
 use Rattle.proofcheck.specs.Derivation.{Tree, Proves}
@@ -15,17 +16,17 @@ use Rattle.proofcheck.specs.Outcomes.{outcome, IsOutcome}
 use Rattle.proofcheck.proofs.Outcome.{outcome-is}
 use Rattle.library.specs.declared.library.Ranked.{Ranked}
 use Rattle.library.specs.declared.command.Command.{Command}
-use Rattle.library.specs.declared.command.Command.TheVariants.{Add, Reprove, Rename, Move, Delete, Show, List as ListAll}
+use Rattle.library.specs.declared.command.Command.TheVariants.{Add, Reprove, Replace, Rename, Move, Delete, Show, List as ListAll}
 use Rattle.library.specs.declared.command.Reply.{Reply}
 use Rattle.library.specs.declared.command.Reply.TheVariants.{Shown, Listed}
 use Rattle.library.specs.declared.reason.Reason.{Reason}
 use Rattle.library.specs.declared.reason.Reason.TheVariants.{BadLabel, BadRank, LabelTaken, CitedNotLower, CiterNotHigher, StillCited}
-use Rattle.library.specs.declared.reason.Reason.TheVariants.{NotATheorem, LibraryFull}
+use Rattle.library.specs.declared.reason.Reason.TheVariants.{NotATheorem, NotAlike, LibraryFull}
 use Rattle.library.specs.declared.reason.Refused.{Refused}
 use Rattle.library.specs.Library.{Setting, Verifies, label_of, citable, in_export_order}
 use Rattle.library.specs.Edits.{Edited, Tests, tested, of_found, done, has, found, cites, citers, added, changed, with_rank, with_proof}
 use Rattle.library.specs.Edits.{rename, without, where_so, is_axiom, bad_rank, bad_label, cites_not_below, still_cited, fault_of, proof_fails}
-use Rattle.library.specs.Edits.{add_tests, reprove_tests, rename_tests, move_tests, shown, line, edit}
+use Rattle.library.specs.Edits.{add_tests, reprove_tests, replace_tests, rename_tests, move_tests, recited, are_alike, shown, line, edit}
 use Rattle.library.specs.Fitting.{CommandFits, highest_rank}
 use Rattle.library.specs.Transactions.{Applied, with_reply, then_apply, apply_from, apply, library_of}
 use Rattle.library.specs.Laws.{EditsVerify, TransactionsVerify}
@@ -34,6 +35,7 @@ use Rattle.library.proofs.Counts.{none_from_count}
 use Rattle.library.proofs.Deleting.{delete_verifies}
 use Rattle.library.proofs.Moving.{move_verifies}
 use Rattle.library.proofs.Renaming.{rename_verifies}
+use Rattle.library.proofs.Replacing.{replace_verifies}
 use Rattle.library.proofs.Reproving.{reprove_verifies}
 use Rattle.library.proofs.Showing.{ChecksIn}
 
@@ -108,6 +110,13 @@ reprove_kept s lib label steps e v here few t =
     let theorem = where_none (is_axiom e.assertion.kind) NotATheorem t.0 in
     reprove_verifies s lib label steps e v here theorem few (proof_checks s lib (with_proof steps e) t.1.1.1.0)
 
+replace_kept : (s : Setting) (lib : List Ranked) (label old new : List ℕ) (e : Ranked) → Verifies s lib → found lib label ≡ Some e
+    → NoneRefuses (replace_tests s lib old new e) → Verifies s (changed label (with_proof (recited old new e.assertion.proof)) lib)
+replace_kept s lib label old new e v here t =
+    replace_verifies s lib label old new e v here (where_none (is_axiom e.assertion.kind) NotATheorem t.1.1.0)
+    (not-false _ (where_none (not (are_alike s (found lib old) (found lib new))) NotAlike t.1.1.1.0))
+    (where_none (list_any (cites_not_below lib e.rank) (Cite new ∷ [])) CitedNotLower t.1.1.1.1.0)
+
 rename_kept : (s : Setting) (lib : List Ranked) (old new : List ℕ) → Verifies s lib → NoneRefuses (rename_tests s lib old new)
     → Verifies s (rename old new lib)
 rename_kept s lib old new v t =
@@ -138,6 +147,10 @@ edit_verifies s lib (Reprove label steps) e v fits h =
     let next = done (changed label (with_proof steps) lib) in
     found_kept s (found lib label) (λ f. tested (reprove_tests s lib steps f) next) e
     (λ f here. edit_kept s (reprove_tests s lib steps f) next e (reprove_kept s lib label steps f v here fits)) h
+edit_verifies s lib (Replace label old new) e v fits h =
+    let next = λ (f : Ranked). done (changed label (with_proof (recited old new f.assertion.proof)) lib) in
+    found_kept s (found lib label) (λ f. tested (replace_tests s lib old new f) (next f)) e
+    (λ f here. edit_kept s (replace_tests s lib old new f) (next f) e (replace_kept s lib label old new f v here)) h
 edit_verifies s lib (Rename old new) e v fits h =
     edit_kept s (rename_tests s lib old new) (done (rename old new lib)) e (rename_kept s lib old new v) h
 edit_verifies s lib (Move label rank) e v fits h =

@@ -12,7 +12,7 @@ use Rattle.library.specs.declared.command.Reply.{Reply}
 use Rattle.library.specs.declared.reason.Reason.{Reason}
 use Rattle.library.specs.declared.reason.Refused.{Refused as Refusal}
 use Rattle.library.specs.Library.{Setting, Verifies}
-use Rattle.library.specs.Edits.{Edited, Tests, tested, of_found, found, add_tests, reprove_tests, rename_tests, move_tests, still_cited}
+use Rattle.library.specs.Edits.{Edited, Tests, tested, of_found, found, add_tests, reprove_tests, replace_tests, rename_tests, move_tests, still_cited}
 use Rattle.library.specs.Edits.{is_labelled, edit}
 use Rattle.library.specs.Fitting.{CommandFits, ReplyFits}
 use Rattle.library.specs.Transactions.{Applied, with_reply, then_apply, apply_from}
@@ -53,6 +53,8 @@ edit_fits : (s : Setting) (lib : List Ranked) (c : Command) → Verifies s lib �
 edit_fits s lib (command.Add rank a) v = tested_fits s (add_tests s lib rank a) _ tt
 edit_fits s lib (command.Reprove label steps) v =
     of_found_fits s (found lib label) _ (λ e at. tested_fits s (reprove_tests s lib steps e) _ tt)
+edit_fits s lib (command.Replace label old new) v =
+    of_found_fits s (found lib label) _ (λ e at. tested_fits s (replace_tests s lib old new e) _ tt)
 edit_fits s lib (command.Rename old new) v = tested_fits s (rename_tests s lib old new) _ tt
 edit_fits s lib (command.Move label rank) v = of_found_fits s (found lib label) _ (λ e at. tested_fits s (move_tests lib rank e) _ tt)
 edit_fits s lib (command.Delete label) v = of_found_fits s (found lib label) _ (λ e at. tested_fits s (still_cited lib label ∷ []) _ tt)

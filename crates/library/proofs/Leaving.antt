@@ -23,6 +23,7 @@ shown_leaves lib (Some e) = refl
 edit_leaves : (s : Setting) (lib : List Ranked) (c : Command) → is_edit c ≡ false → Leaves lib (edit s lib c)
 edit_leaves s lib (command.Add rank a) reads = absurd cc
 edit_leaves s lib (command.Reprove label steps) reads = absurd cc
+edit_leaves s lib (command.Replace label old new) reads = absurd cc
 edit_leaves s lib (command.Rename old new) reads = absurd cc
 edit_leaves s lib (command.Move label rank) reads = absurd cc
 edit_leaves s lib (command.Delete label) reads = absurd cc

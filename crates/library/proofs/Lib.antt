@@ -14,6 +14,8 @@ pub mod Adding
 pub mod Changing
 pub mod Moving
 pub mod Reproving
+pub mod LikeFrames
+pub mod Replacing
 pub mod Deleting
 pub mod Editing
 pub mod Orders

@@ -28,8 +28,8 @@ use Rattle.library.specs.declared.reason.Reason.{Reason}
 use Rattle.library.specs.declared.reason.Reason.TheVariants.{NotATheorem, UnknownLabel}
 use Rattle.library.specs.declared.reason.Refused.{Refused as Refusal}
 use Rattle.library.specs.Library.{highest_rank, Setting, Verifies, label_of, in_export_order}
-use Rattle.library.specs.Edits.{Edited, Tests, tested, of_found, done, has, found, cites, citers, is_axiom, is_labelled, added, changed, with_rank}
-use Rattle.library.specs.Edits.{with_proof, rename, without, still_cited, add_tests, reprove_tests, rename_tests, move_tests, shown, line, edit}
+use Rattle.library.specs.Edits.{Edited, Tests, tested, of_found, done, has, found, cites, citers, is_axiom, is_labelled, added, changed, with_rank, recited, where_so}
+use Rattle.library.specs.Edits.{with_proof, rename, without, still_cited, add_tests, reprove_tests, replace_tests, rename_tests, move_tests, shown, line, edit}
 use Rattle.library.specs.Fitting.{CommandFits}
 use Rattle.library.specs.Transactions.{Applied, with_reply, then_apply, apply_from, apply}
 use Rattle.library.specs.Histories.{Entry, open_entry, done_entry, EntryFits, EntriesFit, after, IsLegal}
@@ -56,6 +56,7 @@ abbrev pub IsSoundCommand : Tables → Command → Type 0
 IsSoundCommand t (command.Add rank a) = IsSound t (record { rank = rank; assertion = a })
 IsSoundCommand t (command.Reprove label steps) =
     IsLawful t label × (steps ≢ []) × (length steps ≤ 16384) × All (IsNameable t 1000) steps
+IsSoundCommand t (command.Replace label old new) = IsLawful t label × IsLawful t old × IsLawful t new
 IsSoundCommand t (command.Rename old new) = IsLawful t old × IsLawful t new
 IsSoundCommand t (command.Move label rank) = IsLawful t label × (rank ≤ highest_rank)
 IsSoundCommand t (command.Delete label) = IsLawful t label
@@ -171,6 +172,17 @@ module _ (s : Setting) (lib : List Ranked) (v : Verifies s lib) (e : Edited) whe
         done_reply (reprove_tests s lib steps f) next here.2,
       )
 
+  replace_sound : (label old new : List ℕ) → edit s lib (command.Replace label old new) ≡ Ok e
+      → IsSoundTurn s.prelude (command.Replace label old new) e.reply
+  replace_sound label old new h =
+      let next = λ (f : Ranked). changed label (with_proof (recited old new f.assertion.proof)) lib in
+      let here = found_then (found lib label) (λ f. tested (replace_tests s lib old new f) (done (next f))) e h in
+      let ts = replace_tests s lib old new here.0 in
+      let passed = (tests_passed ts (done (next here.0)) e here.2).0 in
+      let known : (l : List ℕ) → where_so (not (has lib l)) UnknownLabel ≡ None → IsLawful s.prelude l =
+      λ l none. labelled_lawful s lib v l (not-false (has lib l) (where_none (not (has lib l)) UnknownLabel none)) in
+      ((found_lawful s lib v label here.0 here.1, known old passed.0, known new passed.1.0), done_reply ts (next here.0) here.2)
+
   rename_sound : (old new : List ℕ) → edit s lib (command.Rename old new) ≡ Ok e → IsSoundTurn s.prelude (command.Rename old new) e.reply
   rename_sound old new h =
       let ts = rename_tests s lib old new in
@@ -205,6 +217,7 @@ module _ (s : Setting) (lib : List Ranked) (v : Verifies s lib) (e : Edited) whe
   pub edit_sound : (c : Command) → CommandFits s.prelude c → edit s lib c ≡ Ok e → IsSoundTurn s.prelude c e.reply
   edit_sound (command.Add rank a) fits h = add_sound rank a fits h
   edit_sound (command.Reprove label steps) fits h = reprove_sound label steps fits h
+  edit_sound (command.Replace label old new) fits h = replace_sound label old new h
   edit_sound (command.Rename old new) fits h = rename_sound old new h
   edit_sound (command.Move label rank) fits h = move_sound label rank fits h
   edit_sound (command.Delete label) fits h = delete_sound label h

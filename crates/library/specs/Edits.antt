@@ -3,18 +3,22 @@ use Rattle.std.specs.Prelude.{ℕ, Bool, true, false, ◌==◌, ◌&&◌, nat_le
 use Rattle.std.specs.Prelude.{filter}
 use Rattle.std.specs.Prelude.{length, count_by, find, if◌then◌else◌}
 use mathlib.Core.Bool.{not}
-use Rattle.std.specs.List.{list_any}
+use Rattle.std.specs.List.{list_any, list_all}
+use Rattle.std.specs.Cmp.Lexicographic.{pointwise}
 use Rattle.std.specs.Str.{bytes_eq}
 use Rattle.mmsyntax.specs.declared.statement.Assertion.{Assertion}
+use Rattle.mmsyntax.specs.declared.statement.Frame.{Frame}
 use Rattle.mmsyntax.specs.declared.statement.Kind.{Kind}
 use Rattle.mmsyntax.specs.declared.statement.Kind.TheVariants.{Axiom, Theorem}
 use Rattle.mmsyntax.specs.declared.statement.Step.{Step}
 use Rattle.mmsyntax.specs.declared.statement.Step.TheVariants.{Float, Hyp, Cite}
 use Rattle.mmsyntax.specs.Assertions.{is_lawful_label}
+use Rattle.mmsyntax.specs.Blocks.{is_same_pair}
+use Rattle.mmstatement.specs.Frames.{frame}
 use Rattle.proofcheck.specs.declared.fault.ProofFault.{ProofFault}
 use Rattle.proofcheck.specs.Derivation.{Tree}
-use Rattle.proofcheck.specs.Laws.{renamed}
-use Rattle.proofcheck.specs.Outcomes.{outcome}
+use Rattle.proofcheck.specs.Laws.{renamed, replacing, step_relabelled}
+use Rattle.proofcheck.specs.Outcomes.{outcome, same_expression}
 use Rattle.library.specs.declared.library.Ranked.{Ranked}
 use Rattle.library.specs.declared.command.Command.{Command}
 use Rattle.library.specs.declared.command.Command.TheVariants as command
@@ -57,6 +61,7 @@ citers lib label = count_by (cites label) lib
 abbrev pub is_edit : Command → Bool
 is_edit (command.Add rank a) = true
 is_edit (command.Reprove label steps) = true
+is_edit (command.Replace label old new) = true
 is_edit (command.Rename old new) = true
 is_edit (command.Move label rank) = true
 is_edit (command.Delete label) = true
@@ -74,6 +79,10 @@ with_rank rank e = record e { rank = rank }
 
 abbrev pub with_proof : List Step → Ranked → Ranked
 with_proof steps e = record e { assertion = record e.assertion { proof = steps } }
+
+-- each citation of the one label becomes one of the other
+abbrev pub recited : List ℕ → List ℕ → List Step → List Step
+recited old new steps = map (step_relabelled (replacing old new)) steps
 
 -- the assertion with the label is changed
 abbrev pub changed : List ℕ → (Ranked → Ranked) → List Ranked → List Ranked
@@ -150,6 +159,21 @@ citer_not_higher lib rank label = where_so (list_any (λ e. cites label e && nat
 abbrev pub still_cited : List Ranked → List ℕ → Option Reason
 still_cited lib label = where_so (nat_le 1 (citers lib label)) (reason.StillCited (citers lib label))
 
+-- what is seen of the assertion `new` may stand where `old` is cited: it says the same of the same hypotheses, and each pair that it restricts is one
+-- that `old` restricts (Metamath book, section 4.2.7, on what a citation has to meet)
+abbrev pub is_alike : Frame → Frame → Bool
+is_alike old new =
+    pointwise same_expression new.hyps old.hyps && same_expression new.statement old.statement
+    && list_all (λ q. list_any (λ r. is_same_pair r q) old.pairs) new.pairs
+
+abbrev pub are_alike : Setting → Option Ranked → Option Ranked → Bool
+are_alike s (Some old) (Some new) = is_alike (frame s.prelude old.assertion) (frame s.prelude new.assertion)
+are_alike s _ _ = false
+
+-- the assertion with the label `new` may not stand where the one with the label `old` is cited
+abbrev pub not_alike : Setting → List Ranked → List ℕ → List ℕ → Option Reason
+not_alike s lib old new = where_so (not (are_alike s (found lib old) (found lib new))) reason.NotAlike
+
 abbrev pub fault_of : Result Tree ProofFault → Option Reason
 fault_of (Ok tree) = None
 fault_of (Err fault) = Some (reason.ProofFails fault)
@@ -179,6 +203,16 @@ reprove_tests s lib steps e =
     ∷ cites_unknown lib steps
     ∷ cited_not_lower lib e.rank steps
     ∷ proof_fails s lib e.rank (with_proof steps e).assertion
+    ∷ []
+
+-- of the assertion that is found: in its proof the one label is to become the other
+abbrev pub replace_tests : Setting → List Ranked → List ℕ → List ℕ → Ranked → Tests
+replace_tests s lib old new e =
+    unknown_label lib old
+    ∷ unknown_label lib new
+    ∷ where_so (is_axiom e.assertion.kind) reason.NotATheorem
+    ∷ not_alike s lib old new
+    ∷ cited_not_lower lib e.rank (Cite new ∷ [])
     ∷ []
 
 abbrev pub rename_tests : Setting → List Ranked → List ℕ → List ℕ → Tests
@@ -226,6 +260,9 @@ abbrev pub edit : Setting → List Ranked → Command → Result Edited Reason
 edit s lib (command.Add rank a) = tested (add_tests s lib rank a) (done (added lib rank a))
 edit s lib (command.Reprove label steps) =
     of_found (found lib label) (λ e. tested (reprove_tests s lib steps e) (done (changed label (with_proof steps) lib)))
+edit s lib (command.Replace label old new) =
+    of_found (found lib label) (λ e.
+    tested (replace_tests s lib old new e) (done (changed label (with_proof (recited old new e.assertion.proof)) lib)))
 edit s lib (command.Rename old new) = tested (rename_tests s lib old new) (done (rename old new lib))
 edit s lib (command.Move label rank) =
     of_found (found lib label) (λ e. tested (move_tests lib rank e) (done (changed label (with_rank rank) lib)))

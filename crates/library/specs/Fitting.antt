@@ -4,7 +4,7 @@ use Rattle.mmsyntax.specs.Tables.{Tables}
 use Rattle.mmsyntax.specs.Assertions.{Fits}
 pub use Rattle.library.specs.Library.{highest_rank}
 use Rattle.library.specs.declared.command.Command.{Command}
-use Rattle.library.specs.declared.command.Command.TheVariants.{Add, Reprove, Rename, Move, Delete, Show, List}
+use Rattle.library.specs.declared.command.Command.TheVariants.{Add, Reprove, Replace, Rename, Move, Delete, Show, List}
 use Rattle.library.specs.declared.command.Reply.{Reply}
 use Rattle.library.specs.declared.command.Reply.TheVariants.{Done, Shown, Listed}
 
@@ -12,6 +12,7 @@ use Rattle.library.specs.declared.command.Reply.TheVariants.{Done, Shown, Listed
 abbrev pub CommandFits : Tables → Command → Type 0
 CommandFits t (Add rank a) = (rank ≤ highest_rank) × Fits t a
 CommandFits t (Reprove label steps) = length steps ≤ 16384
+CommandFits t (Replace label old new) = Unit {0}
 CommandFits t (Rename old new) = Unit {0}
 CommandFits t (Move label rank) = rank ≤ highest_rank
 CommandFits t (Delete label) = Unit {0}

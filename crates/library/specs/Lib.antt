@@ -1,6 +1,7 @@
 pub mod Reasons
 pub mod Library
 pub mod Edits
+pub mod LikeFrames
 pub mod Fitting
 pub mod Transactions
 pub mod Histories

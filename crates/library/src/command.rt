@@ -19,17 +19,39 @@ const MOST_STEPS: usize = 16_384;
 #[derive(Debug, Drop)]
 pub enum Command {
     /// Adds a theorem with a rank.
-    Add { rank: u32, assertion: Assertion },
+    Add {
+        rank: u32,
+        assertion: Assertion,
+    },
     /// Gives a theorem another proof.
-    Reprove { label: Label, steps: Sequence<Step> },
+    Reprove {
+        label: Label,
+        steps: Sequence<Step>,
+    },
+    /// In the proof of a theorem, has each citation of the assertion `old` cite the assertion `new` instead, which says the same.
+    Replace {
+        label: Label,
+        old: Label,
+        new: Label,
+    },
     /// Gives an assertion another label, in the assertion and in every proof that cites it.
-    Rename { old: Label, new: Label },
+    Rename {
+        old: Label,
+        new: Label,
+    },
     /// Gives an assertion another rank.
-    Move { label: Label, rank: u32 },
+    Move {
+        label: Label,
+        rank: u32,
+    },
     /// Removes an assertion that no proof cites.
-    Delete { label: Label },
+    Delete {
+        label: Label,
+    },
     /// Asks for an assertion.
-    Show { label: Label },
+    Show {
+        label: Label,
+    },
     /// Asks for all assertions, in export order.
     List,
 }
@@ -44,7 +66,8 @@ impl Command {
             Command::Add { rank, assertion } => *rank <= HIGHEST_RANK && fits(prelude, assertion),
             Command::Reprove { steps, .. } => steps.as_slice().len() <= MOST_STEPS,
             Command::Move { rank, .. } => *rank <= HIGHEST_RANK,
-            Command::Rename { .. }
+            Command::Replace { .. }
+            | Command::Rename { .. }
             | Command::Delete { .. }
             | Command::Show { .. }
             | Command::List => { true }
@@ -58,6 +81,7 @@ impl Command {
         match self {
             Command::Add { .. }
             | Command::Reprove { .. }
+            | Command::Replace { .. }
             | Command::Rename { .. }
             | Command::Move { .. }
             | Command::Delete { .. } => true,
@@ -77,6 +101,11 @@ impl Command {
             Command::Reprove { label, steps } => Command::Reprove {
                 label: label.copy(alloc)?,
                 steps: copy_steps(alloc, steps.as_slice())?,
+            },
+            Command::Replace { label, old, new } => Command::Replace {
+                label: label.copy(alloc)?,
+                old: old.copy(alloc)?,
+                new: new.copy(alloc)?,
             },
             Command::Rename { old, new } => Command::Rename {
                 old: old.copy(alloc)?,

@@ -1,12 +1,14 @@
 //! A library of assertions with ranks: the commands on it and their replies, what each does, as a definition; and histories of transactions.
 #![tactic(auto)]
 
+mod alike;
 mod command;
 mod history;
 mod laws;
 mod library;
 mod reason;
 
+pub use alike::is_alike;
 pub use command::{
     Command, Line, MOST_COMMANDS, Reply, Script, Transaction, copy_commands, copy_replies,
     has_edit, has_too_many,

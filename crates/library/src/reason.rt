@@ -33,12 +33,14 @@ pub enum Reason {
     ProofFails(ProofFault),
     /// The library has as many assertions as slots.
     LibraryFull,
+    /// The hypotheses or the statements of two assertions differ, or the one that is to be cited restricts a pair that the other doesn't.
+    NotAlike,
 }
 
 impl Reason {
     ghost use Rattle.library.specs.Reasons.{number_of, name_of};
 
-    /// The number of the reason, from 1 to 12.
+    /// The number of the reason, from 1 to 13.
     pub fn number(self) -> u32
         ensures { result ≡ number_of self }
     {
@@ -55,6 +57,7 @@ impl Reason {
             Reason::AxiomNotAllowed => 10,
             Reason::ProofFails(_) => 11,
             Reason::LibraryFull => 12,
+            Reason::NotAlike => 13,
         }
     }
 
@@ -75,6 +78,7 @@ impl Reason {
             Reason::AxiomNotAllowed => "AxiomNotAllowed",
             Reason::ProofFails(_) => "ProofFails",
             Reason::LibraryFull => "LibraryFull",
+            Reason::NotAlike => "NotAlike",
         }
     }
 }

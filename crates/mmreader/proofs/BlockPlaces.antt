@@ -1,8 +1,9 @@
 -- Pairs in order, and what the map of a block's hypotheses finds after one more.
-use Rattle.std.proofs.Common.{◌≡◌, ℕ, ◌<◌, Bool, true, false, cond, List, [], ◌∷◌, ◌++◌, length, Option, Some, None, Vec}
+use Rattle.std.proofs.Common.{◌≡◌, ℕ, zero, suc, ◌+◌, ◌<◌, Bool, true, false, cond, List, [], ◌∷◌, ◌++◌, length, get_or, drop}
+use Rattle.std.proofs.Common.{Option, Some, None, Vec}
 use Rattle.std.proofs.Common.{refl, sym, ap, subst, ◌∙◌, eqb, ltb, arith}
 use Rattle.std.specs.Prelude.{◌||◌, ◌&&◌}
-use Rattle.std.specs.Option.{option_or, is_some}
+use Rattle.std.specs.Option.{option_map, option_or, is_some}
 use Rattle.std.specs.Str.{bytes_eq}
 use Rattle.std.specs.HashMap as hash
 use Rattle.std.specs.HashMap.{HashMap}
@@ -13,6 +14,7 @@ use Rattle.std.specs.declared.cmp.Ordering.TheVariants.{Less, Equal, Greater}
 use Rattle.std.specs.declared.alloc.Global.{Global}
 use Rattle.std.specs.declared.random_state.RandomState.{RandomState}
 use Rattle.std.proofs.lemmas.Bool.{ltb-true}
+use Rattle.mmsyntax.specs.Tables.{place_of}
 use Rattle.mmsyntax.specs.Blocks.{Hypothesis, with_pair}
 use Rattle.mmsyntax.specs.Steps.{hypothesis_named}
 use Rattle.mmreader.specs.HypothesisPlaces.{FindsHypotheses}
@@ -46,6 +48,37 @@ pair_put p (q ∷ qs) =
     (q ∷ insert_key pair_cmp qs p) (q ∷ with_pair p qs) (ap (λ rest. q ∷ rest) (pair_put p qs))
 
 -- ---- hypotheses
+
+-- a place among those behind the first n
+abbrev pub behind : ℕ → Option ℕ → Option ℕ
+behind n o = option_map (λ m. n + m) o
+
+behind_suc : (n : ℕ) (o : Option ℕ) → behind (suc n) o ≡ option_map (λ m. suc m) (behind n o)
+behind_suc n None = refl
+behind_suc n (Some m) = ap (λ k. Some k) (let e : suc n + m ≡ suc (n + m) = omega arith in e)
+
+suc_behind : (n : ℕ) (o : Option ℕ) → behind n (option_map (λ m. suc m) o) ≡ behind (suc n) o
+suc_behind n None = refl
+suc_behind n (Some m) = ap (λ k. Some k) (let e : n + suc m ≡ suc n + m = omega arith in e)
+
+-- the item at a place passes, and is the first of what is left
+pub first_here : {A : Type 0} (test : A → Bool) (xs : List A) (i : ℕ) (d : A) → i < length xs → test (get_or xs i d) ≡ true
+    → behind i (place_of test (drop i xs)) ≡ Some i
+first_here test [] i d lt h = absurd (omega arith)
+first_here test (x ∷ xs) zero d lt h = ap (λ b. behind 0 (cond b (Some 0) (option_map (λ n. suc n) (place_of test xs)))) h
+first_here test (x ∷ xs) (suc i) d lt h =
+    behind_suc i (place_of test (drop i xs)) ∙ ap (λ o. option_map (λ m. suc m) o) (first_here test xs i d (omega arith) h)
+
+-- it doesn't, and the first is behind it
+pub first_later : {A : Type 0} (test : A → Bool) (xs : List A) (i : ℕ) (d : A) → i < length xs → test (get_or xs i d) ≡ false
+    → behind i (place_of test (drop i xs)) ≡ behind (suc i) (place_of test (drop (suc i) xs))
+first_later test [] i d lt h = absurd (omega arith)
+first_later test (x ∷ xs) zero d lt h =
+    ap (λ b. behind 0 (cond b (Some 0) (option_map (λ n. suc n) (place_of test xs)))) h ∙ suc_behind 0 (place_of test xs)
+first_later test (x ∷ xs) (suc i) d lt h =
+    behind_suc i (place_of test (drop i xs))
+    ∙ ap (λ o. option_map (λ m. suc m) o) (first_later test xs i d (omega arith) h)
+    ∙ sym (behind_suc (suc i) (place_of test (drop (suc i) xs)))
 
 or_new : (b : Bool) (n : ℕ) (o : Option ℕ) → (b ≡ true → is_some o ≡ false) → cond b (Some n) o ≡ option_or o (cond b (Some n) None)
 or_new true n None h = refl

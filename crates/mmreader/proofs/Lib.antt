@@ -11,3 +11,4 @@ pub mod DatabaseLaws
 pub mod SamePreludes
 pub mod Runs
 pub mod UnitRows
+pub mod Words

@@ -50,7 +50,7 @@ in_unit_place (unit.InDistinct b vs) = tt
 in_unit_place (unit.InHypothesis b label e) = tt
 in_unit_place (unit.InAxiom s label e) = tt
 in_unit_place (unit.InTheorem s label e) = tt
-in_unit_place (unit.InProof s label e steps) = tt
+in_unit_place (unit.InProof p) = tt
 
 -- outside of $c, $v and $f, what stands doesn't speak of the prelude
 stands_over : (k l : Known) (p : Place) → InUnit p → Stands k p → Stands l p

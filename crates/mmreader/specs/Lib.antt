@@ -1,6 +1,8 @@
 pub mod Labels
 pub mod HypothesisPlaces
 pub mod Views
+pub mod Recalls
+pub mod Takings
 pub mod Standing
 pub mod UnitReadings
 pub mod UnitViews

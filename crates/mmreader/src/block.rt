@@ -10,6 +10,9 @@ use std::collections::{BTreeSet, HashMap};
 use std::hash::RandomState;
 use std::marker::Model;
 
+/// How many hypotheses are looked through one by one: sooner done than a look-up in the map.
+const FEW: usize = 8;
+
 /// A `$e`, with its label in the text.
 #[derive(Drop)]
 pub(crate) struct Hypothesis<'a> {
@@ -70,6 +73,9 @@ impl<'a> Content<'a> {
     fn hypothesis_place(&self, word: &[u8]) -> Option<u32>
         ensures { result ≡ hypothesis_named self.now.hyps word.now }
     {
+        if self.hyps.len() <= FEW {
+            return first_labelled(&self.hyps, word);
+        }
         self.places.get(word).copied()
     }
 
@@ -149,7 +155,7 @@ impl<'a> Block<'a> {
         self.content.hypotheses()
     }
 
-    /// The place of the hypothesis with a label: one look-up in a map.
+    /// The place of the hypothesis with a label: a few comparisons, or one look-up in a map.
     pub fn hypothesis_place(&self, word: &[u8]) -> Option<u32>
         ensures { result ≡ hypothesis_named self.now.hyps word.now }
     {
@@ -182,6 +188,21 @@ impl<'a> Block<'a> {
     {
         Box::into_inner(self.content).into_parts(alloc)
     }
+}
+
+/// The place of the first hypothesis with a label, of at most [`FEW`].
+fn first_labelled(hyps: &[Hypothesis<'_>], word: &[u8]) -> Option<u32>
+    requires { length hyps.now < 9 }
+    ensures { result ≡ hypothesis_named hyps.now word.now }
+{
+    let mut place = 0;
+    for hypothesis in hyps {
+        if hypothesis.label == word {
+            return Some(place);
+        }
+        place += 1;
+    }
+    None
 }
 
 /// Puts a pair in its place, if it isn't there.

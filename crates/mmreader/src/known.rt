@@ -5,7 +5,7 @@ ghost use Rattle.mmsyntax.specs.Rows.{no_units, is_unit_label, is_used};
 ghost use Rattle.mmsyntax.specs.Faults.{first_of};
 ghost use Rattle.mmreader.specs.Views.{known_of};
 
-use mmsyntax::{Assertion, Label, Sequence, SymbolTable};
+use mmsyntax::{Assertion, Label, SymbolTable};
 use std::alloc::{AllocError, Global};
 use std::collections::HashMap;
 use std::hash::RandomState;
@@ -81,7 +81,7 @@ impl Units {
         ensures { OnOk result (self.new ≡ record self.old { hypothesis_labels = self.old.hypothesis_labels ++ label.now ∷ [] }) }
     {
         let key = Vec::from_slice(alloc, label)?;
-        let label = Sequence::from_vec(Vec::from_slice(alloc, label)?);
+        let label = Label::from_slice(alloc, label)?;
         self.hypothesis_labels.push(label)?;
         match self.labels.insert(key, ()) {
             Ok(_) => Ok(()),

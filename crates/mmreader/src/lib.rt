@@ -6,5 +6,6 @@ mod known;
 pub mod laws;
 mod place;
 mod reading;
+mod recent;
 
 pub use reading::{UnitProgress, UnitReader, named_step, read_assertion, read_database};

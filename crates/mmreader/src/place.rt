@@ -47,7 +47,16 @@ pub(crate) enum UnitPlace<'a> {
     /// Behind a label, `$p` and symbols.
     InTheorem(Scope<'a>, &'a [u8], Vec<Symbol>),
     /// Behind `$=` and steps.
-    InProof(Scope<'a>, &'a [u8], Vec<Symbol>, Vec<Step>),
+    InProof(Theorem<'a>),
+}
+
+/// A `$p` up to a step of its proof.
+#[derive(Drop)]
+pub(crate) struct Theorem<'a> {
+    pub scope: Scope<'a>,
+    pub label: &'a [u8],
+    pub expression: Vec<Symbol>,
+    pub steps: Vec<Step>,
 }
 
 /// What was read of the statement that a token stands in.

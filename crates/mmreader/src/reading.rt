@@ -1,6 +1,6 @@
 //! Reading a database, token by token.
 
-ghost use Rattle.std.specs.Prelude.{◌≡◌, ◌≢◌, ◌≤◌, ◌⊎◌, length, IfOk, IfErr};
+ghost use Rattle.std.specs.Prelude.{◌≡◌, ◌≢◌, ◌≤◌, ◌⊎◌, length, IfOk, IfErr, OnOk};
 ghost use Rattle.mmtext.specs.declared.fault.TextFault.{TextFault};
 ghost use Rattle.mmtext.specs.declared.fault.FaultKind.TheVariants.{NoMemory};
 ghost use Rattle.mmsyntax.specs.Tables.{Contents};
@@ -10,7 +10,10 @@ ghost use Rattle.mmsyntax.specs.Grammar.{Spells};
 ghost use Rattle.mmsyntax.specs.Layout.{HasSpelling};
 ghost use Rattle.mmtext.specs.Views.{seen, Gives};
 ghost use Rattle.mmreader.specs.Standing.{Stands};
-ghost use Rattle.mmreader.specs.Views.{seen_place, seen_state, known_of, contents_of, Leads};
+ghost use Rattle.mmreader.specs.Recalls.{Knows};
+ghost use Rattle.mmreader.specs.Views.{seen_place, seen_state, known_of, contents_of, IsUnitPlace, Leads};
+ghost use Rattle.mmreader.specs.Takings.{TakesToken};
+ghost use Rattle.mmsyntax.specs.Rows.{Units};
 
 mod labels;
 mod prelude_rows;
@@ -18,9 +21,11 @@ mod steps;
 mod unit_reader;
 mod unit_rows;
 mod units;
+mod words;
 
 use crate::known::Units;
 use crate::place::{Place, Scope, State, UnitPlace, is_outermost};
+use crate::recent::Recent;
 use mmsyntax::{Assertion, Database, Prelude, Sequence, SymbolTable};
 use mmtext::{
     Mark, Stop, TextFault, Token, Turn, comment_turn, mark_word, next_token, no_memory, text_fault,
@@ -29,10 +34,12 @@ use mmtext::{
 use prelude_rows::next_prelude_place;
 use std::alloc::Global;
 use std::hash::RandomState;
+use std::mem;
 pub use steps::named_step;
 pub use unit_reader::{UnitProgress, UnitReader};
 use unit_rows::next_unit_place;
 pub use units::read_assertion;
+use words::take_word;
 
 /// Where a token leads that stands outside of comments.
 fn next_place<'a>(
@@ -44,8 +51,9 @@ fn next_place<'a>(
     mark: Mark,
 ) -> Result<Place<'a>, Stop>
     requires { Stands (known_of symbols.old units.old) (seen_place place) }
-    ensures { Leads symbols.new units.new result
+    ensures leads { Leads symbols.new units.new result
         (in_place (known_of symbols.old units.old) (seen_place place.entry) (seen token.entry) mark) }
+    ensures kept { IsUnitPlace place.entry → symbols.new ≡ symbols.old }
 {
     match place {
         Place::Prelude(place) => next_prelude_place(alloc, symbols, units, place, token, mark),
@@ -62,8 +70,9 @@ fn advance<'a>(
     token: Token<'a>,
 ) -> Result<State<'a>, Stop>
     requires { Stands (known_of symbols.old units.old) (seen_place state.place) }
-    ensures { Gives (λ s. seen_state symbols.new units.new s) result
+    ensures leads { Gives (λ s. seen_state symbols.new units.new s) result
         (step database_language (seen_state symbols.old units.old state.entry) (seen token.entry)) }
+    ensures kept { IsUnitPlace state.entry.place → symbols.new ≡ symbols.old }
 {
     let State { place, in_comment } = state;
     let mark = mark_word(token.text);
@@ -74,6 +83,71 @@ fn advance<'a>(
             in_comment: false,
         }),
     }
+}
+
+/// Takes a word without `$` outside of comments where it stands. Whether it was one, at a place that takes them.
+fn take_plain<'a>(
+    alloc: Global,
+    symbols: &SymbolTable,
+    recent: &mut Recent<'a>,
+    state: &mut State<'a>,
+    token: Token<'a>,
+) -> Result<bool, Stop>
+    requires { Knows symbols.now recent.old }
+    ensures knows { Knows symbols.now recent.new }
+    ensures taken { (u : Units) →
+        TakesToken (seen_state symbols.now u state.old) (seen token.entry) (seen_state symbols.now u state.new) result }
+{
+    if state.in_comment {
+        return Ok(false);
+    }
+    take_word(alloc, symbols, recent, &mut state.place, token)
+}
+
+/// Takes any token: the state is moved on.
+fn move_on<'a>(
+    alloc: Global,
+    symbols: &mut SymbolTable,
+    units: &mut Units,
+    recent: &mut Recent<'a>,
+    state: &mut State<'a>,
+    token: Token<'a>,
+) -> Result<(), Stop>
+    requires stands { Stands (known_of symbols.old units.old) (seen_place state.old.place) }
+    requires knows { Knows symbols.old recent.old }
+    ensures knows { OnOk result (Knows symbols.new recent.new) }
+    ensures leads { Gives (λ _. seen_state symbols.new units.new state.new) result
+        (step database_language (seen_state symbols.old units.old state.old) (seen token.entry)) }
+{
+    recent.keep_at(&state.place);
+    let nowhere = State {
+        place: Place::Unit(UnitPlace::AtClose),
+        in_comment: false,
+    };
+    let here = mem::replace(state, nowhere);
+    *state = advance(alloc, symbols, units, here, token)?;
+    Ok(())
+}
+
+/// Reads a token of a database. Most are words that go on where they stand, and leave the state where it lies.
+fn read_token<'a>(
+    alloc: Global,
+    symbols: &mut SymbolTable,
+    units: &mut Units,
+    recent: &mut Recent<'a>,
+    state: &mut State<'a>,
+    token: Token<'a>,
+) -> Result<(), Stop>
+    requires stands { Stands (known_of symbols.old units.old) (seen_place state.old.place) }
+    requires knows { Knows symbols.old recent.old }
+    ensures knows { OnOk result (Knows symbols.new recent.new) }
+    ensures leads { Gives (λ _. seen_state symbols.new units.new state.new) result
+        (step database_language (seen_state symbols.old units.old state.old) (seen token.entry)) }
+{
+    if take_plain(alloc, symbols, recent, state, token)? {
+        return Ok(());
+    }
+    move_on(alloc, symbols, units, recent, state, token)
 }
 
 /// What a text declares that ends in a state. `length` is that of the text.
@@ -106,10 +180,18 @@ fn read_tokens(
         place: Place::Unit(UnitPlace::AtStart(Scope::Outside)),
         in_comment: false,
     };
+    let mut recent = Recent::new(alloc);
     let mut at = 0;
     while let Some(token) = next_token(text, at) {
         at = token.place + token.text.len();
-        state = advance(alloc, &mut symbols, &mut units, state, token)?;
+        read_token(
+            alloc,
+            &mut symbols,
+            &mut units,
+            &mut recent,
+            &mut state,
+            token,
+        )?;
     }
     finish(symbols, units, &state, text.len())
 }

@@ -5,5 +5,5 @@ use Rattle.jobs.specs.Jobs.{IsWithin}
 
 -- the workers and the room of a run are within their limits
 abbrev pub AsksWithin : Task → Type 0
-AsksWithin (Run workers room) = IsWithin workers room
+AsksWithin (Run workers room asked) = IsWithin workers room
 AsksWithin _ = Unit {0}

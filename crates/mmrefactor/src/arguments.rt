@@ -127,7 +127,11 @@ fn task_of(name: &str, of: &ArgMatches<'_>) -> Option<Task>
 {
     if name == "run" {
         let (workers, room) = limits(of)?;
-        return Some(Task::Run { workers, room });
+        return Some(Task::Run {
+            workers,
+            room,
+            history: of.get_str("history").is_some(),
+        });
     }
     if name == "replay" {
         return Some(Task::Replay);

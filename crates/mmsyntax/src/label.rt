@@ -1,6 +1,6 @@
 //! Labels, in the order of their bytes.
 
-ghost use Rattle.std.specs.Prelude.{◌≡◌};
+ghost use Rattle.std.specs.Prelude.{◌≡◌, ◌++◌, ◌∷◌, [], IfOk, OnOk};
 ghost use Rattle.std.proofs.Common.{rules};
 ghost use Rattle.std.specs.Cmp.{partial_order_from_own_ties};
 ghost use Rattle.std.specs.Cmp.Rules.{comparing};
@@ -8,34 +8,94 @@ ghost use Rattle.std.specs.Cmp.Lexicographic.{slice_cmp};
 ghost use Rattle.std.specs.Ordering.{nat_cmp, as_partial_cmp};
 ghost use Rattle.std.specs.Str.{bytes_eq};
 
-use crate::sequence::Sequence;
+use smallvec::SmallVec;
+use std::alloc::{AllocError, Global};
 use std::cmp::Ordering;
+use std::marker::Model;
 
-impl PartialEq for Sequence<u8> {
+/// How many bytes a label has at most that asks for no memory. Most have fewer.
+const SHORT: usize = 16;
+
+/// The bytes of a label. Contracts see the list of them.
+#[derive(Debug, Drop)]
+pub struct Label {
+    bytes: SmallVec<u8, SHORT>,
+}
+
+impl Model for Label {
+    ghost use Rattle.std.specs.Prelude.{List, ℕ};
+
+    ghost Value = { List ℕ };
+
+    ghost view = { λ l. l.bytes.items };
+}
+
+impl Label {
+    /// No byte yet.
+    pub fn new(alloc: Global) -> Label
+        ensures { result ≡ [] }
+    {
+        Label {
+            bytes: SmallVec::new(alloc),
+        }
+    }
+
+    /// The label of these bytes.
+    pub fn from_slice(alloc: Global, bytes: &[u8]) -> Result<Label, AllocError>
+        ensures { IfOk result (λ made. made ≡ bytes.now) }
+    {
+        Ok(Label {
+            bytes: SmallVec::from_slice(alloc, bytes)?,
+        })
+    }
+
+    /// One more byte.
+    pub fn push(&mut self, byte: u8) -> Result<(), AllocError>
+        ensures { OnOk result (self.new ≡ self.old ++ byte ∷ []) }
+    {
+        self.bytes.push(byte).map_err(AllocError::from)?;
+        Ok(())
+    }
+
+    pub fn as_slice(&self) -> &[u8]
+        ensures { result.now ≡ self.now }
+    {
+        self.bytes.as_slice()
+    }
+
+    /// An equal label.
+    pub fn copy(&self, alloc: Global) -> Result<Label, AllocError>
+        ensures { IfOk result (λ made. made ≡ self.now) }
+    {
+        Label::from_slice(alloc, self.as_slice())
+    }
+}
+
+impl PartialEq for Label {
     ghost eq = { bytes_eq };
 
     ghost laws = { Prim.search (comparing, rules) };
 
-    fn eq(&self, other: &Sequence<u8>) -> bool {
+    fn eq(&self, other: &Label) -> bool {
         self.as_slice() == other.as_slice()
     }
 }
 
-impl Eq for Sequence<u8> {
+impl Eq for Label {
     ghost laws = { Prim.search (comparing, rules) };
 }
 
-impl PartialOrd for Sequence<u8> {
+impl PartialOrd for Label {
     ghost partial_cmp = { as_partial_cmp (slice_cmp nat_cmp) };
 
     ghost laws = { partial_order_from_own_ties (Prim.search (comparing, rules)) (Prim.search (comparing, rules)) };
 
-    fn partial_cmp(&self, other: &Sequence<u8>) -> Option<Ordering> {
+    fn partial_cmp(&self, other: &Label) -> Option<Ordering> {
         Some(self.cmp(other))
     }
 }
 
-impl Ord for Sequence<u8> {
+impl Ord for Label {
     ghost cmp = { slice_cmp nat_cmp };
 
     ghost total = { Prim.search (comparing, rules) };
@@ -44,7 +104,7 @@ impl Ord for Sequence<u8> {
 
     ghost matches_eq = { Prim.search (comparing, rules) };
 
-    fn cmp(&self, other: &Sequence<u8>) -> Ordering {
+    fn cmp(&self, other: &Label) -> Ordering {
         self.as_slice().cmp(other.as_slice())
     }
 }

@@ -12,7 +12,8 @@ mod symbols;
 
 pub use database::Database;
 pub use fitting::{fits, is_lawful_label};
+pub use label::Label;
 pub use prelude::Prelude;
 pub use sequence::Sequence;
-pub use statement::{Assertion, Expr, Float, Frame, Kind, Label, Step, Symbol, copy_steps};
+pub use statement::{Assertion, Expr, Float, Frame, Kind, Step, Symbol, copy_steps};
 pub use symbols::{Name, SymbolTable};

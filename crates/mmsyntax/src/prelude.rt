@@ -4,7 +4,8 @@ ghost use Rattle.std.specs.Prelude.{◌≡◌, [], IfOk};
 ghost use Rattle.mmsyntax.specs.Tables.{meaning};
 ghost use Rattle.mmsyntax.specs.Layout.{IsSoundPrelude};
 
-use crate::statement::{Float, Label};
+use crate::label::Label;
+use crate::statement::Float;
 use crate::symbols::{Name, SymbolTable};
 use std::alloc::{AllocError, Global};
 use std::hash::RandomState;

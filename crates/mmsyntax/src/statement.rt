@@ -2,6 +2,7 @@
 
 ghost use Rattle.std.specs.Prelude.{◌≡◌, IfOk};
 
+use crate::label::Label;
 use crate::sequence::Sequence;
 use std::alloc::{AllocError, Global};
 
@@ -13,9 +14,6 @@ pub enum Symbol {
     /// The variable of the `$f` at this place.
     Var(u32),
 }
-
-/// The bytes of a label.
-pub type Label = Sequence<u8>;
 
 /// The symbols of a statement or of a hypothesis.
 pub type Expr = Sequence<Symbol>;

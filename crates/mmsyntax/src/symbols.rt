@@ -7,8 +7,8 @@ ghost use Rattle.mmsyntax.specs.Tables.{meaning};
 ghost use Rattle.mmsyntax.specs.Layout.{IsSoundPrelude};
 ghost use Rattle.mmsyntax.specs.declared.symbols.Name.TheVariants.{Variable};
 
-use crate::sequence::Sequence;
-use crate::statement::{Float, Label};
+use crate::label::Label;
+use crate::statement::Float;
 use std::alloc::{AllocError, Global};
 use std::collections::HashMap;
 use std::hash::RandomState;
@@ -95,7 +95,7 @@ impl SymbolTable {
         ensures { OnOk result (self.new ≡ record self.old { constants = self.old.constants ++ word.now ∷ [] }) }
     {
         let key = Vec::from_slice(alloc, word)?;
-        let name = Sequence::from_vec(Vec::from_slice(alloc, word)?);
+        let name = Label::from_slice(alloc, word)?;
         let place = self.constants.len() as u32;
         self.constants.push(name)?;
         match self.names.insert(key, Name::Constant(place)) {
@@ -114,7 +114,7 @@ impl SymbolTable {
         ensures { OnOk result (self.new ≡ record self.old { variables = self.old.variables ++ word.now ∷ [] }) }
     {
         let key = Vec::from_slice(alloc, word)?;
-        let name = Sequence::from_vec(Vec::from_slice(alloc, word)?);
+        let name = Label::from_slice(alloc, word)?;
         let place = self.variables.len() as u32;
         self.variables.push(name)?;
         match self.names.insert(key, Name::Variable(place, None)) {
@@ -144,7 +144,7 @@ impl SymbolTable {
             }) }
     {
         let key = Vec::from_slice(alloc, label)?;
-        let label = Sequence::from_vec(Vec::from_slice(alloc, label)?);
+        let label = Label::from_slice(alloc, label)?;
         let place = self.floats.len() as u32;
         self.floats.push(Float {
             label,

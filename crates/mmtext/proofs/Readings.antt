@@ -139,7 +139,7 @@ clean_from_none bytes h = λ k lt.
     ] in
     not-false (is_lawful (get_or bytes k 0)) (none_after p bytes past k lt)
 
-none_from_clean : (bytes : List ℕ) → IsClean bytes → bad_byte bytes ≡ None
+pub none_from_clean : (bytes : List ℕ) → IsClean bytes → bad_byte bytes ≡ None
 none_from_clean bytes clean =
     go (bad_byte bytes) refl
   where

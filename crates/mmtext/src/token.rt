@@ -1,6 +1,7 @@
 //! The tokens of a text.
 
 ghost use Rattle.std.specs.Prelude.{◌≡◌, ◌<◌, ◌≤◌, ◌+◌, ◌∷◌, [], length, drop, IfSome, IfNone};
+ghost use Rattle.std.specs.List.{list_all};
 ghost use Rattle.mmtext.specs.Text.{is_white, is_lawful, bad_byte, tokens_from};
 ghost use Rattle.mmtext.specs.Views.{seen};
 
@@ -22,13 +23,27 @@ fn is_white_byte(b: u8) -> bool
 fn is_lawful_byte(b: u8) -> bool
     ensures { result ≡ is_lawful b }
 {
-    is_white_byte(b) || (b > 32 && b < 127)
+    (b >= 32 && b <= 126) || (b >= 9 && b <= 13 && b != 11)
+}
+
+/// Whether every byte may stand in a text. It looks at all of them, since it needn't branch then, and a processor takes many at once.
+fn are_lawful(text: &[u8]) -> bool
+    ensures { result ≡ list_all is_lawful text.now }
+{
+    let mut lawful = true;
+    for b in text {
+        lawful &= is_lawful_byte(*b);
+    }
+    lawful
 }
 
 /// The place of the first byte that is neither printable ASCII nor white space, counted from 0.
 pub fn first_bad_byte(text: &[u8]) -> Option<usize>
     ensures { result ≡ bad_byte text.now }
 {
+    if are_lawful(text) {
+        return None;
+    }
     text.iter().position(|b| !is_lawful_byte(*b))
 }
 

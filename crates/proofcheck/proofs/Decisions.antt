@@ -62,12 +62,12 @@ hypotheses-decide f es = slice_eq-Decides expressions-decide _ _ _ refl
 
 -- ---- pairs
 
-pairs-decide : (q r : ℕ × ℕ) → Decides (is_same_pair q r) (q ≡ r)
+pub pairs-decide : (q r : ℕ × ℕ) → Decides (is_same_pair q r) (q ≡ r)
 pairs-decide q r =
     Decides-like (is_same_pair q r) (λ h. λ i. (h.0 i, h.1 i)) (λ e. (ap (λ x. x.0) e, ap (λ x. x.1) e))
     (Decides-and (eqb q.0 r.0) (eqb q.1 r.1) (Decides-eqb q.0 r.0) (Decides-eqb q.1 r.1))
 
-contains-decides : {X : Type 0} (test : X → X → Bool) → ((x y : X) → Decides (test x y) (x ≡ y)) → (xs : List X) (y : X)
+pub contains-decides : {X : Type 0} (test : X → X → Bool) → ((x y : X) → Decides (test x y) (x ≡ y)) → (xs : List X) (y : X)
     → Decides (list_any (λ x. test x y) xs) (Contains xs y)
 contains-decides test each [] y = (λ h. absurd cc, λ h. let lt = h.1 in absurd (omega arith))
 contains-decides test each (x ∷ xs) y =

@@ -14,3 +14,4 @@ pub mod Exact
 pub mod Outcome
 pub mod Lookups
 pub mod Replaced
+pub mod Spans

@@ -1,6 +1,6 @@
 -- Substitution symbol by symbol, and the tests of a citation.
 use Rattle.std.proofs.Common.{◌≡◌, ◌≢◌, ◌↔◌, ℕ, suc, ◌+◌, ◌<◌, ◌≤◌, List, [], ◌∷◌, ◌++◌, length, drop, get_or, refl}
-use Rattle.std.proofs.Common.{ap, append-nil, add-one, All, arith}
+use Rattle.std.proofs.Common.{ap, append-nil, add-one}
 use Rattle.std.proofs.Math.Seq.{drop-cons}
 use Rattle.std.proofs.lemmas.List.{append_cancel_left}
 use Rattle.std.specs.Bool.{Decides}
@@ -12,7 +12,7 @@ use Rattle.mmsyntax.specs.Tables.{Tables}
 use Rattle.mmstatement.specs.Substitution.{subst, replacement}
 use Rattle.proofcheck.specs.Derivation.{Expression, TypesFit, HypothesesFit, PairsFit, conclusion, arity}
 use Rattle.proofcheck.specs.Faults.{FailsTest, last}
-use Rattle.proofcheck.specs.Moves.{IsConstant, IsTooLongOrNoMemory, FailsOnLast}
+use Rattle.proofcheck.specs.Moves.{IsTooLongOrNoMemory, FailsOnLast}
 use Rattle.proofcheck.specs.declared.fault.ProofFaultKind.{ProofFaultKind}
 use Rattle.proofcheck.specs.declared.fault.ProofFaultKind.TheVariants.{UnknownStep, StackShort, WrongType, HypothesisDiffers, NotDisjoint}
 use Rattle.proofcheck.specs.declared.fault.ProofFaultKind.TheVariants.{NotOneLeft, StatementDiffers, TooLong, NoMemory}
@@ -23,12 +23,6 @@ use Rattle.mmsyntax.specs.declared.statement.Frame.{Frame}
 pub subst-cons : (s : List (ℕ × Expression)) (x : Symbol) (e : Expression) → subst s (x ∷ e) ≡ subst s (x ∷ []) ++ subst s e
 subst-cons s (Const c) e = refl
 subst-cons s (Var j) e = rw (append-nil (replacement s j)) refl
-
--- an expression of constants alone is its own substitution
-pub subst-constants : (s : List (ℕ × Expression)) (e : Expression) → All IsConstant e → subst s e ≡ e
-subst-constants s [] h = refl
-subst-constants s (Const c ∷ e) h = ap (λ d. Const c ∷ d) (subst-constants s e (λ k d lt. h (suc k) d (omega arith)))
-subst-constants s (Var j ∷ e) h = absurd (h 0 (Var j) (omega arith))
 
 -- what is left of an expression from a place on
 pub subst-drop : (s : List (ℕ × Expression)) (e : Expression) (i : ℕ) (d : Symbol) → i < length e

@@ -5,6 +5,6 @@ pub mod Databases
 pub mod Laws
 pub mod Outcomes
 pub mod Moves
-pub mod Held
+pub mod Spans
 pub mod Reports
 pub mod Lookups

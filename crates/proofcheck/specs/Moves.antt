@@ -1,8 +1,6 @@
 -- Of the code's inside, apart from the rules: what the steps of a proof do to the expressions of the trees so far.
 use Rattle.std.specs.Prelude.{◌≡◌, List, [], ◌∷◌, ◌++◌, Some, slice_get, length, ◌<◌, ◌≤◌}
 use Rattle.mmsyntax.specs.Tables.{Tables}
-use Rattle.mmsyntax.specs.declared.statement.Symbol.{Symbol}
-use Rattle.mmsyntax.specs.declared.statement.Symbol.TheVariants.{Const, Var}
 use Rattle.mmsyntax.specs.declared.statement.Frame.{Frame}
 use Rattle.mmsyntax.specs.declared.statement.Assertion.{Assertion}
 use Rattle.mmsyntax.specs.declared.statement.Step.{Step}
@@ -27,11 +25,6 @@ Moves lib p a st (Cite label) st' = (f : Frame) × (lib label ≡ Some f) × Giv
 abbrev pub FailsOnLast : Tables → Assertion → Frame → List Expression → ProofFaultKind → Type 0
 FailsOnLast p a f es StackShort = length es < arity f
 FailsOnLast p a f es kind = (arity f ≤ length es) × FailsTest p a f (last (arity f) es) kind
-
--- a symbol is a constant
-abbrev pub IsConstant : Symbol → Type 0
-IsConstant (Const c) = Unit {0}
-IsConstant (Var j) = ⊥
 
 -- want of memory, or the other kind where the fact holds
 abbrev pub IsTooLongOrNoMemory : ProofFaultKind → Type 0 → Type 0

@@ -7,71 +7,70 @@ ghost use Rattle.proofcheck.specs.Derivation.{Proves, Checks};
 ghost use Rattle.proofcheck.specs.Faults.{StepFails, EndFails, HasFault, HasProofFault};
 ghost use Rattle.proofcheck.specs.Moves.{Moves, GivesOnLast, FailsOnLast};
 
-use crate::entry::Entry;
 use crate::fault::{ProofFault, ProofFaultKind};
 use crate::frames::Frames;
 use crate::node::node;
+use crate::stack::Stack;
 use crate::thesis::Thesis;
 use mmstatement::{Assertion, Expr, Frame, Kind, Prelude, Step, Symbol};
-use std::alloc::{AllocError, Global};
+use std::alloc::Global;
 
 /// Puts what a citation of the frame gives in the place of the last expressions, which it takes.
-fn cite<'a>(
+fn cite(
     alloc: Global,
     prelude: &Prelude,
     thesis: &Thesis,
-    frame: &'a Frame,
-    stack: &mut Vec<Entry<'a>>,
+    frame: &Frame,
+    stack: &mut Stack,
+    made: &mut Vec<Symbol>,
 ) -> Result<(), ProofFaultKind>
-    ensures ok { OnOk result (GivesOnLast prelude.now thesis.now frame.now stack.old.items stack.new.items) }
+    ensures ok { OnOk result (GivesOnLast prelude.now thesis.now frame.now stack.old stack.new) }
     ensures err { IfErr result (λ kind. kind ≢ ProofFaultKind.NoMemory →
-        FailsOnLast prelude.now thesis.now frame.now stack.old.items kind) }
+        FailsOnLast prelude.now thesis.now frame.now stack.old kind) }
 {
     let count = frame.floats.as_slice().len() + frame.hyps.as_slice().len();
     if stack.len() < count {
         return Err(ProofFaultKind::StackShort);
     }
     let base = stack.len() - count;
-    let (_, args) = stack.as_slice().split_at(base);
-    let made = node(alloc, prelude, thesis, frame, args)?;
+    node(alloc, prelude, thesis, frame, &stack.last(count), made)?;
     stack.truncate(base);
-    stack.push(made).map_err(AllocError::from)?;
+    stack.push(made.as_slice())?;
     Ok(())
 }
 
-/// Takes one step.
-fn take_step<'a, F: Frames>(
+/// Takes one step. What a citation makes is put together in `made`.
+fn take_step<F: Frames>(
     alloc: Global,
     prelude: &Prelude,
-    frames: &'a F,
-    thesis: &Thesis<'a>,
-    stack: &mut Vec<Entry<'a>>,
+    frames: &F,
+    thesis: &Thesis,
+    stack: &mut Stack,
+    made: &mut Vec<Symbol>,
     step: &Step,
 ) -> Result<(), ProofFaultKind>
-    ensures ok { OnOk result (Moves (F.frames frames.now) prelude.now thesis.now stack.old.items step.now stack.new.items) }
+    ensures ok { OnOk result (Moves (F.frames frames.now) prelude.now thesis.now stack.old step.now stack.new) }
     ensures err { IfErr result (λ kind. kind ≢ ProofFaultKind.NoMemory →
-        StepFails (F.frames frames.now) prelude.now thesis.now stack.old.items step.now kind) }
+        StepFails (F.frames frames.now) prelude.now thesis.now stack.old step.now kind) }
 {
     match step {
         Step::Float(i) => match prelude.floats().get(*i as usize) {
             None => Err(ProofFaultKind::UnknownStep),
             Some(float) => {
-                let typed = Entry::typed(Symbol::Const(float.type_code), Symbol::Var(*i));
-                stack.push(typed).map_err(AllocError::from)?;
+                stack.push(&[Symbol::Const(float.type_code), Symbol::Var(*i)])?;
                 Ok(())
             }
         },
         Step::Hyp(k) => match thesis.assertion().hyps.as_slice().get(*k as usize) {
             None => Err(ProofFaultKind::UnknownStep),
             Some(hyp) => {
-                let lent = Entry::lent(hyp.as_slice());
-                stack.push(lent).map_err(AllocError::from)?;
+                stack.push(hyp.as_slice())?;
                 Ok(())
             }
         },
         Step::Cite(label) => match frames.frame(label) {
             None => Err(ProofFaultKind::UnknownStep),
-            Some(frame) => cite(alloc, prelude, thesis, frame, stack),
+            Some(frame) => cite(alloc, prelude, thesis, frame, stack, made),
         },
     }
 }
@@ -84,19 +83,17 @@ fn are_same(one: &[Symbol], other: &[Symbol]) -> bool
 }
 
 /// Whether what is left is just the statement.
-fn check_end(statement: &Expr, left: &[Entry]) -> Result<(), ProofFaultKind>
+fn check_end(statement: &Expr, left: &Stack) -> Result<(), ProofFaultKind>
     ensures yes { OnOk result (left.now ≡ statement.now ∷ []) }
     ensures fault { IfErr result (λ kind. EndFails statement.now left.now kind) }
 {
-    match left {
-        [only] => {
-            if are_same(only.as_slice(), statement.as_slice()) {
-                Ok(())
-            } else {
-                Err(ProofFaultKind::StatementDiffers)
-            }
-        }
-        _ => Err(ProofFaultKind::NotOneLeft),
+    if left.len() != 1 {
+        return Err(ProofFaultKind::NotOneLeft);
+    }
+    if are_same(left.last(1).at(0), statement.as_slice()) {
+        Ok(())
+    } else {
+        Err(ProofFaultKind::StatementDiffers)
     }
 }
 
@@ -112,10 +109,11 @@ fn check_steps<F: Frames>(
         HasFault (F.frames frames.now) prelude.now assertion.now fault) }
 {
     let thesis = Thesis::new(assertion);
-    let mut stack = Vec::new(alloc);
+    let mut stack = Stack::new(alloc);
+    let mut made = Vec::new(alloc);
     let steps = assertion.proof.as_slice();
     for (done, step) in steps.iter().enumerate() {
-        match take_step(alloc, prelude, frames, &thesis, &mut stack, step) {
+        match take_step(alloc, prelude, frames, &thesis, &mut stack, &mut made, step) {
             Ok(()) => {}
             Err(kind) => return Err(ProofFault {
                 step: done + 1,
@@ -123,7 +121,7 @@ fn check_steps<F: Frames>(
             }),
         }
     }
-    match check_end(&assertion.statement, stack.as_slice()) {
+    match check_end(&assertion.statement, &stack) {
         Ok(()) => Ok(()),
         Err(kind) => Err(ProofFault {
             step: steps.len(),
@@ -138,11 +136,11 @@ fn check_steps<F: Frames>(
 /// the tests come in this order: `UnknownStep`, `StackShort`, `WrongType` of each `$f`, `HypothesisDiffers` of each `$e`,
 /// `NotDisjoint`, `TooLong`; at the end `NotOneLeft`, then `StatementDiffers`. The assertion need not fit the prelude.
 ///
-/// The time is about that of the symbols that citations take and write down, and of the pairs of variables that they compare: a pair is
-/// found by halving among those of the assertion, or at once where it stands close behind the one before, and the expression of a
-/// variable by halving among those of a frame. Pairs or `$f` that don't ascend are gone through instead: no assertion that fits a
-/// prelude and no frame of `frame_of` has such. A step that names a `$f`, a `$e` or an assertion whose statement has no variables copies
-/// nothing.
+/// The time is about linear in the symbols that the steps write down and compare, plus the pairs of variables that are compared: a pair is
+/// found by halving among those of the assertion, or at once where it stands close behind the one before, and the expression of a variable
+/// among the `$f` of a frame, by halving where they are many. Pairs or `$f` that don't ascend are gone through instead: no assertion that
+/// fits a prelude and no frame of `frame_of` has such. Each step writes its expression down once, behind those that are left, and a
+/// citation once more: no step allocates, but where the room for all of them grows.
 pub fn check<F: Frames>(
     alloc: Global,
     prelude: &Prelude,

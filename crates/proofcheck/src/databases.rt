@@ -1,21 +1,23 @@
 //! Checks each proof of a database, by many threads.
 
-ghost use Rattle.std.specs.Prelude.{◌≡◌, ◌≢◌, ◌<◌, List, ℕ, is_some, map, IfOk, OnOk, IfErr, MatchResult, length};
-ghost use Rattle.std.specs.HashMap.{get_by};
-ghost use Rattle.std.specs.Str.{bytes_eq};
+ghost use Rattle.std.specs.Prelude.{◌≡◌, ◌≢◌, ◌<◌, ℕ, None, map, IfOk, OnOk, IfErr, MatchResult, length};
+ghost use Rattle.std.specs.List.{AllZip, range_with_len};
 ghost use Rattle.mmstatement.specs.Frames.{frame};
 ghost use Rattle.proofcheck.specs.Databases.{AllCheck, ChecksAt, HasFaultAt, IsFirstFault};
-ghost use Rattle.proofcheck.specs.Reports.{IsFirstReport, ReportsAt, place_from};
+ghost use Rattle.proofcheck.specs.Reports.{FoundInLane, earlier, earliest};
 
 use crate::checking::check;
-use crate::earlier::{Earlier, places_of};
+use crate::earlier::Earlier;
 use crate::fault::{ProofFault, ProofFaultKind};
+use crate::labels::Places;
 use mmstatement::{Assertion, Database, Frame, Prelude, frame_of};
 use rayon::prelude::*;
 use std::alloc::{AllocError, Global};
-use std::collections::HashMap;
-use std::hash::RandomState;
 use std::thread::Threads;
+
+/// How many lanes the assertions are checked in: the proofs of one are together about as long as those of another, where later assertions
+/// may have longer proofs than earlier ones.
+const LANES: usize = 16;
 
 /// The fewest assertions for which a thread is started. A proof takes long beside that, so few serve.
 const LEAST_PIECE: usize = 16;
@@ -40,12 +42,12 @@ fn check_at(
     alloc: Global,
     db: &Database,
     frames: &[Frame],
-    places: &HashMap<Vec<u8>, usize, RandomState>,
+    places: &Places,
     i: usize,
 ) -> Result<(), ProofFault>
     requires place { i < length db.now.assertions }
     requires frames { frames.now ≡ map (frame db.now.prelude) db.now.assertions }
-    requires places { (label : List ℕ) → get_by (λ k. bytes_eq label k.items) places.now ≡ place_from 0 label db.now.assertions }
+    requires places { places.now ≡ db.now.assertions }
     ensures yes { OnOk result (ChecksAt db.now i) }
     ensures fault { IfErr result (λ fault. fault.kind ≢ ProofFaultKind.NoMemory → HasFaultAt db.now i fault) }
 {
@@ -57,56 +59,93 @@ fn check_at(
     check(alloc, db.prelude(), &earlier, &db.assertions()[i])
 }
 
-/// What the check of the assertion at a place finds.
-fn report_at(
+/// What the checks of one lane find: of every sixteenth assertion from a place on.
+fn check_lane(
     alloc: Global,
     db: &Database,
     frames: &[Frame],
-    places: &HashMap<Vec<u8>, usize, RandomState>,
-    i: usize,
+    places: &Places,
+    lane: usize,
 ) -> Option<(usize, ProofFault)>
-    requires place { i < length db.now.assertions }
+    requires lane { lane < 16 }
     requires frames { frames.now ≡ map (frame db.now.prelude) db.now.assertions }
-    requires places { (label : List ℕ) → get_by (λ k. bytes_eq label k.items) places.now ≡ place_from 0 label db.now.assertions }
-    ensures { ReportsAt db.now i result }
+    requires places { places.now ≡ db.now.assertions }
+    ensures { FoundInLane db.now lane result }
 {
-    // For the proof: the assertions have a length, so the number behind this place is none too high.
-    let _count = db.assertions().len();
-    match check_at(alloc, db, frames, places, i) {
-        Ok(()) => None,
-        Err(fault) => Some((i + 1, fault)),
+    let count = db.assertions().len();
+    let mut place = lane;
+    while place < count {
+        if let Err(fault) = check_at(alloc, db, frames, places, place) {
+            return Some((place + 1, fault));
+        }
+        match place.checked_add(LANES) {
+            None => return None,
+            Some(next) => place = next,
+        }
     }
+    None
 }
 
-/// The first report of a fault among those of all places, checked by many threads.
-fn first_report(
+/// What the checks of each lane find, by many threads.
+fn check_lanes(
     rt: &(impl Threads + Sync),
     alloc: Global,
     db: &Database,
     frames: &[Frame],
-    places: &HashMap<Vec<u8>, usize, RandomState>,
-) -> Option<Option<(usize, ProofFault)>>
+    places: &Places,
+) -> Result<Vec<Option<(usize, ProofFault)>>, AllocError>
     requires frames { frames.now ≡ map (frame db.now.prelude) db.now.assertions }
-    requires places { (label : List ℕ) → get_by (λ k. bytes_eq label k.items) places.now ≡ place_from 0 label db.now.assertions }
-    ensures { IsFirstReport db.now result }
+    requires places { places.now ≡ db.now.assertions }
+    ensures { IfOk result (λ found. AllZip (FoundInLane db.now) (range_with_len 0 16) found.items) }
 {
-    (0..db.assertions().len())
+    (0..LANES)
         .into_par_iter()
-        .with_min_len(LEAST_PIECE)
+        .with_min_len(least_lanes(db.assertions().len()))
         .map(
-            |i: usize| -> Option<(usize, ProofFault)>
-                requires { (i < length db.now.assertions)
+            |lane: usize| -> Option<(usize, ProofFault)>
+                requires { (lane < 16)
                     × (frames.now ≡ map (frame db.now.prelude) db.now.assertions)
-                    × ((label : List ℕ) → get_by (λ k. bytes_eq label k.items) places.now ≡ place_from 0 label db.now.assertions) }
-                ensures { ReportsAt db.entry.now i result }
-            { report_at(alloc, db, frames, places, i) },
+                    × (places.now ≡ db.now.assertions) }
+                ensures { FoundInLane db.entry.now lane result }
+            { check_lane(alloc, db, frames, places, lane) },
         )
-        .find_first(
-            rt,
-            |report: &Option<(usize, ProofFault)>| -> bool
-                ensures { result ≡ is_some report.now }
-            { report.is_some() },
-        )
+        .collect(rt, alloc)
+}
+
+/// The fewest lanes for which a thread is started, among so many assertions.
+fn least_lanes(assertions: usize) -> usize {
+    (LEAST_PIECE * LANES) / assertions.max(1)
+}
+
+/// What was found at the lower place.
+fn earlier_of(
+    found: Option<(usize, ProofFault)>,
+    other: Option<(usize, ProofFault)>,
+) -> Option<(usize, ProofFault)>
+    ensures { result ≡ earlier found other }
+{
+    match (found, other) {
+        (None, other) => other,
+        (Some(found), None) => Some(found),
+        (Some(found), Some(other)) => {
+            if other.0 < found.0 {
+                Some(other)
+            } else {
+                Some(found)
+            }
+        }
+    }
+}
+
+/// What was found at the lowest place.
+fn earliest_of(all: &[Option<(usize, ProofFault)>]) -> Option<(usize, ProofFault)>
+    ensures { result ≡ earliest None all.now }
+{
+    let mut first = None;
+    for found in all {
+        first = earlier_of(first, *found);
+    }
+    first
 }
 
 /// Want of memory before any proof is checked.
@@ -127,7 +166,7 @@ fn no_memory() -> (usize, ProofFault)
 /// Ok only where the steps of each are the listing of a tree that derives its statement. Else the first assertion whose proof has a
 /// fault, counted from 1, and that fault: the answer of one thread. With the kind `NoMemory` the number says nothing.
 ///
-/// Each frame is made once, and labels are found by one map that is made once. A first fault doesn't stop the other checks.
+/// Each frame is made once, and so is what finds the places of labels. A first fault stops only the checks of its lane.
 pub fn check_all(
     rt: &(impl Threads + Sync),
     alloc: Global,
@@ -142,12 +181,14 @@ pub fn check_all(
     let Ok(frames) = frames_of(alloc, db.prelude(), db.assertions()) else {
         return Err(no_memory());
     };
-    let Ok(places) = places_of(alloc, db.prelude().keys(), db.assertions()) else {
+    let Ok(places) = Places::new(alloc, db.prelude().keys(), db.assertions()) else {
         return Err(no_memory());
     };
-    match first_report(rt, alloc, db, frames.as_slice(), &places) {
+    let Ok(found) = check_lanes(rt, alloc, db, frames.as_slice(), &places) else {
+        return Err(no_memory());
+    };
+    match earliest_of(found.as_slice()) {
         None => Ok(()),
-        Some(None) => Ok(()),
-        Some(Some(found)) => Err(found),
+        Some(first) => Err(first),
     }
 }

@@ -8,12 +8,13 @@
 mod checking;
 mod databases;
 mod earlier;
-mod entry;
 mod fault;
 mod frames;
+mod labels;
 pub mod laws;
 mod node;
 mod pairs;
+mod stack;
 mod substitutes;
 mod thesis;
 

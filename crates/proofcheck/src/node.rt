@@ -1,12 +1,12 @@
 //! The tests of a citation: what a frame asks of the expressions of its mandatory hypotheses.
 
-ghost use Rattle.std.specs.Prelude.{◌≡◌, ◌≢◌, ◌↔◌, ◌≤◌, IsTrue, IfOk, IfErr, length};
+ghost use Rattle.std.specs.Prelude.{◌≡◌, ◌≢◌, ◌↔◌, ◌≤◌, IsTrue, OnOk, IfErr, length};
 ghost use Rattle.proofcheck.specs.Derivation.{Gives, HasType, HaveTypes, arity};
 ghost use Rattle.proofcheck.specs.Faults.{FailsTest};
 
-use crate::entry::Entry;
 use crate::fault::ProofFaultKind;
 use crate::pairs::pairs_fit;
+use crate::stack::Args;
 use crate::substitutes::{Substitution, are_substituted, conclude};
 use crate::thesis::Thesis;
 use mmstatement::{Frame, Prelude, Symbol};
@@ -32,28 +32,29 @@ fn has_type(prelude: &Prelude, float: u32, symbols: &[Symbol]) -> bool
 }
 
 /// Whether each `$f` has an expression of its type, in order.
-fn have_types(prelude: &Prelude, floats: &[u32], entries: &[Entry]) -> bool
-    requires { length floats.now ≤ length entries.now }
-    ensures { IsTrue result ↔ HaveTypes prelude.now floats.now entries.now }
+fn have_types(prelude: &Prelude, floats: &[u32], args: &Args) -> bool
+    requires { length floats.now ≤ length args.now }
+    ensures { IsTrue result ↔ HaveTypes prelude.now floats.now args.now }
 {
     for (i, float) in floats.iter().enumerate() {
-        if !has_type(prelude, *float, entries[i].as_slice()) {
+        if !has_type(prelude, *float, args.at(i)) {
             return false;
         }
     }
     true
 }
 
-/// What a citation of the frame gives over these expressions, one for each mandatory hypothesis; or the first test that fails.
-pub(crate) fn node<'a>(
+/// Makes what a citation of the frame gives over these expressions, one for each mandatory hypothesis; or tells the first test that fails.
+pub(crate) fn node(
     alloc: Global,
     prelude: &Prelude,
     thesis: &Thesis,
-    frame: &'a Frame,
-    args: &[Entry],
-) -> Result<Entry<'a>, ProofFaultKind>
+    frame: &Frame,
+    args: &Args,
+    made: &mut Vec<Symbol>,
+) -> Result<(), ProofFaultKind>
     requires { length args.now ≡ arity frame.now }
-    ensures ok { IfOk result (λ made. Gives prelude.now thesis.now frame.now args.now made) }
+    ensures ok { OnOk result (Gives prelude.now thesis.now frame.now args.now made.new.items) }
     ensures err { IfErr result (λ kind. kind ≢ ProofFaultKind.NoMemory → FailsTest prelude.now thesis.now frame.now args.now kind) }
 {
     let floats = frame.floats.as_slice();
@@ -61,12 +62,12 @@ pub(crate) fn node<'a>(
         return Err(ProofFaultKind::WrongType);
     }
     let substitution = Substitution::new(floats, args);
-    let (_, logical) = args.split_at(floats.len());
-    if !are_substituted(&substitution, frame.hyps.as_slice(), logical) {
+    let logical = args.behind(floats.len());
+    if !are_substituted(&substitution, frame.hyps.as_slice(), &logical) {
         return Err(ProofFaultKind::HypothesisDiffers);
     }
     if !pairs_fit(alloc, thesis, &substitution, frame.pairs.as_slice())? {
         return Err(ProofFaultKind::NotDisjoint);
     }
-    conclude(alloc, &substitution, frame.statement.as_slice())
+    conclude(&substitution, frame.statement.as_slice(), made)
 }

@@ -1,19 +1,29 @@
 //! The substitution of a citation: each mandatory `$f` with its expression, less its type. No list of them is built.
 
-ghost use Rattle.std.specs.Prelude.{◌≡◌, ◌↔◌, ◌∷◌, [], ◌≤◌, ◌<◌, ℕ, All, IsTrue, IfOk, IfErr, MatchOption, length, map, drop, true};
+ghost use Rattle.std.specs.Prelude.{◌≡◌, ◌↔◌, ◌∷◌, ◌++◌, ◌+◌, [], ◌≤◌, ◌<◌, ℕ, IsTrue, OnOk, IfErr, length, map, drop, true};
 ghost use Rattle.std.specs.List.Sorted.{IsNonDecreasing};
 ghost use Rattle.mmstatement.specs.Substitution.{subst};
 ghost use Rattle.mmstatement.specs.Places.{IsFirstPlace};
-ghost use Rattle.proofcheck.specs.Moves.{IsConstant, IsTooLongOrNoMemory};
+ghost use Rattle.proofcheck.specs.Moves.{IsTooLongOrNoMemory};
 
-use crate::entry::Entry;
 use crate::fault::ProofFaultKind;
-use mmstatement::{Expr, Sequence, Symbol};
-use std::alloc::Global;
+use crate::stack::Args;
+use mmstatement::{Expr, Symbol};
+use std::alloc::AllocError;
 use std::marker::Model;
 use std::slice;
 
 const MOST_SYMBOLS: usize = 65535;
+
+/// How many numbers are gone through rather than halved.
+const FEW: usize = 8;
+
+/// Whether there are more than a few numbers, and they ascend.
+fn can_be_halved(numbers: &[u32]) -> bool
+    ensures { result ≡ true → IsNonDecreasing numbers.now }
+{
+    numbers.len() > FEW && numbers.is_sorted()
+}
 
 /// The place of the first of the numbers that is n: by halving where they ascend.
 fn first_place(numbers: &[u32], ascend: bool, n: u32) -> Option<usize>
@@ -41,12 +51,12 @@ fn without_type(typed: &[Symbol]) -> &[Symbol]
     &typed[1..]
 }
 
-/// The substitution of a citation. It is told once whether the `$f` ascend, as those of each frame of `frame_of` do. Contracts see the
-/// variables with their substitutes.
+/// The substitution of a citation. It is told once whether there are many `$f` that ascend, as those of each frame of `frame_of` do.
+/// Contracts see the variables with their substitutes.
 #[derive(Drop)]
 pub(crate) struct Substitution<'a> {
     floats: &'a [u32],
-    entries: &'a [Entry<'a>],
+    args: &'a Args<'a>,
     ascends: bool,
 }
 
@@ -58,9 +68,9 @@ impl<'a> Model for Substitution<'a> {
 
     ghost Value = { List (ℕ × List Symbol) };
 
-    ghost view = { λ s. substitution s.floats.now s.entries.now };
+    ghost view = { λ s. substitution s.floats.now s.args.now };
 
-    ghost invariant = { λ s. (length s.floats.now ≤ length s.entries.now) × (s.ascends ≡ true → IsNonDecreasing s.floats.now) };
+    ghost invariant = { λ s. (length s.floats.now ≤ length s.args.now) × (s.ascends ≡ true → IsNonDecreasing s.floats.now) };
 }
 
 impl<'a> Substitution<'a> {
@@ -70,14 +80,14 @@ impl<'a> Substitution<'a> {
     ghost use Rattle.mmstatement.specs.Places.{IsPlaceOf};
 
     /// The substitution of an expression for each `$f`. The `$f` are gone through once.
-    pub(crate) fn new(floats: &'a [u32], entries: &'a [Entry<'a>]) -> Substitution<'a>
-        requires { length floats.now ≤ length entries.now }
-        ensures { result ≡ substitution floats.now entries.now }
+    pub(crate) fn new(floats: &'a [u32], args: &'a Args<'a>) -> Substitution<'a>
+        requires { length floats.now ≤ length args.now }
+        ensures { result ≡ substitution floats.now args.now }
     {
         Substitution {
             floats,
-            entries,
-            ascends: floats.is_sorted(),
+            args,
+            ascends: can_be_halved(floats),
         }
     }
 
@@ -100,8 +110,8 @@ impl<'a> Substitution<'a> {
         requires { place < length self.now }
         ensures { (d : ℕ × List Symbol) → result.now ≡ (slice_index_or self.now place d).1 }
     {
-        let entries = self.entries;
-        without_type(entries[place].as_slice())
+        let args = self.args;
+        without_type(args.at(place))
     }
 }
 
@@ -133,80 +143,74 @@ fn is_substituted(substitution: &Substitution, symbols: &[Symbol], target: &[Sym
 }
 
 /// Whether each hypothesis after substitution is its target.
-pub(crate) fn are_substituted(substitution: &Substitution, hyps: &[Expr], targets: &[Entry]) -> bool
+pub(crate) fn are_substituted(substitution: &Substitution, hyps: &[Expr], targets: &Args) -> bool
     requires { length hyps.now ≡ length targets.now }
     ensures { IsTrue result ↔ (map (subst substitution.now) hyps.now ≡ targets.now) }
 {
     for (i, hyp) in hyps.iter().enumerate() {
-        if !is_substituted(substitution, hyp.as_slice(), targets[i].as_slice()) {
+        if !is_substituted(substitution, hyp.as_slice(), targets.at(i)) {
             return false;
         }
     }
     true
 }
 
-/// How many symbols the expression has after substitution, if that is at most 65,535.
-fn length_after(substitution: &Substitution, symbols: &[Symbol]) -> Option<usize>
-    ensures { let made = subst substitution.now symbols.now in
-        MatchOption result (65535 < length made) (λ n. (n ≡ length made) × (n ≤ 65535)) }
+/// Adds a symbol, if the expression keeps to 65,535 symbols.
+fn add_one(made: &mut Vec<Symbol>, symbol: Symbol) -> Result<(), ProofFaultKind>
+    requires { length made.old.items ≤ 65535 }
+    ensures value { OnOk result ((made.new.items ≡ made.old.items ++ symbol ∷ []) × (length made.new.items ≤ 65535)) }
+    ensures kinds { IfErr result (λ kind. IsTooLongOrNoMemory kind (65535 < length made.old.items + 1)) }
 {
-    let mut total = 0;
-    for symbol in symbols {
-        let next = piece(&*substitution, symbol).len();
-        if next > MOST_SYMBOLS - total {
-            return None;
-        }
-        total += next;
+    if made.len() == MOST_SYMBOLS {
+        return Err(ProofFaultKind::TooLong);
     }
-    Some(total)
+    made.push(symbol).map_err(AllocError::from)?;
+    Ok(())
 }
 
-/// The expression after substitution, of at most 65,535 symbols: memory for it is asked for once.
-fn substitute(
-    alloc: Global,
+/// Adds symbols, if the expression keeps to 65,535 symbols.
+fn add_all(made: &mut Vec<Symbol>, symbols: &[Symbol]) -> Result<(), ProofFaultKind>
+    requires { length made.old.items ≤ 65535 }
+    ensures value { OnOk result ((made.new.items ≡ made.old.items ++ symbols.now) × (length made.new.items ≤ 65535)) }
+    ensures kinds { IfErr result (λ kind. IsTooLongOrNoMemory kind (65535 < length made.old.items + length symbols.now)) }
+{
+    if symbols.len() > MOST_SYMBOLS - made.len() {
+        return Err(ProofFaultKind::TooLong);
+    }
+    made.extend_from_slice(symbols)?;
+    Ok(())
+}
+
+/// Adds what the substitution makes of one symbol, if the expression keeps to 65,535 symbols.
+fn add_piece(
+    substitution: &Substitution,
+    symbol: &Symbol,
+    made: &mut Vec<Symbol>,
+) -> Result<(), ProofFaultKind>
+    requires { length made.old.items ≤ 65535 }
+    ensures value { OnOk result ((made.new.items ≡ made.old.items ++ subst substitution.now (symbol.now ∷ []))
+        × (length made.new.items ≤ 65535)) }
+    ensures kinds { IfErr result (λ kind. IsTooLongOrNoMemory kind
+        (65535 < length made.old.items + length (subst substitution.now (symbol.now ∷ [])))) }
+{
+    match symbol {
+        Symbol::Const(_) => add_one(made, *symbol),
+        Symbol::Var(_) => add_all(made, piece(substitution, symbol)),
+    }
+}
+
+/// Makes the expression after substitution, of at most 65,535 symbols.
+pub(crate) fn conclude(
     substitution: &Substitution,
     symbols: &[Symbol],
-) -> Result<Expr, ProofFaultKind>
-    ensures value { IfOk result (λ made. (made ≡ subst substitution.now symbols.now) × (length made ≤ 65535)) }
+    made: &mut Vec<Symbol>,
+) -> Result<(), ProofFaultKind>
+    ensures value { OnOk result ((made.new.items ≡ subst substitution.now symbols.now) × (length made.new.items ≤ 65535)) }
     ensures kinds { IfErr result (λ kind. IsTooLongOrNoMemory kind (65535 < length (subst substitution.now symbols.now))) }
 {
-    let Some(total) = length_after(substitution, symbols) else {
-        return Err(ProofFaultKind::TooLong);
-    };
-    let mut made = Vec::with_capacity(alloc, total)?;
+    made.clear();
     for symbol in symbols {
-        made.extend_from_slice(piece(&*substitution, symbol))?;
+        add_piece(substitution, symbol, made)?;
     }
-    Ok(Sequence::from_vec(made))
-}
-
-/// Whether each symbol is a constant.
-fn are_constants(symbols: &[Symbol]) -> bool
-    ensures { IsTrue result ↔ All IsConstant symbols.now }
-{
-    for symbol in symbols {
-        match symbol {
-            Symbol::Const(_) => {}
-            Symbol::Var(_) => return false,
-        }
-    }
-    true
-}
-
-/// The expression after substitution, of at most 65,535 symbols. One without variables is lent as it stands.
-pub(crate) fn conclude<'a>(
-    alloc: Global,
-    substitution: &Substitution,
-    symbols: &'a [Symbol],
-) -> Result<Entry<'a>, ProofFaultKind>
-    ensures value { IfOk result (λ made. (made ≡ subst substitution.now symbols.now) × (length made ≤ 65535)) }
-    ensures kinds { IfErr result (λ kind. IsTooLongOrNoMemory kind (65535 < length (subst substitution.now symbols.now))) }
-{
-    if !are_constants(symbols) {
-        return Ok(Entry::made(substitute(alloc, substitution, symbols)?));
-    }
-    if symbols.len() > MOST_SYMBOLS {
-        return Err(ProofFaultKind::TooLong);
-    }
-    Ok(Entry::lent(symbols))
+    Ok(())
 }

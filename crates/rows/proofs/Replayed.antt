@@ -53,12 +53,12 @@ put_last front lines out e = (ends_is Decides-eqb out lines (ends_with eqb out l
 
 -- the replay of the history of a run over the same database, which answers the library of that run
 module _ (db library history again : List ℕ) (same : db ≡ library)
-    (own : (texts : List (List ℕ)) (workers room : ℕ) (out : List ℕ) (run : IsRun db texts workers room out history) → length history ≤ 16777216
+    (own : (texts : List (List ℕ)) (workers room : ℕ) (out : List ℕ) (run : IsRun db texts workers room true out history) → length history ≤ 16777216
     → again ≡ replayed_lines (length run.printed.entries) run.printed.library)
-    (texts : List (List ℕ)) (workers room : ℕ) (out : List ℕ) (run : IsRun library texts workers room out history) (short : length history ≤ 16777216) where
+    (texts : List (List ℕ)) (workers room : ℕ) (out : List ℕ) (run : IsRun library texts workers room true out history) (short : length history ≤ 16777216) where
   answered : again ≡ replayed_lines (length run.printed.entries) run.printed.library
   answered =
-      subst (λ (d : List ℕ). (r : IsRun d texts workers room out history) → again ≡ replayed_lines (length r.printed.entries) r.printed.library) same
+      subst (λ (d : List ℕ). (r : IsRun d texts workers room true out history) → again ≡ replayed_lines (length r.printed.entries) r.printed.library) same
       (λ r. own texts workers room out r short) run
 
   -- behind its first line stand the library's lines
@@ -66,7 +66,7 @@ module _ (db library history again : List ℕ) (same : db ≡ library)
   library_again given lines is e =
       is ∙ ap (after_first is_feed) (e ∙ answered)
       ∙ behind_replayed (length run.printed.entries) (library_lines run.printed.library)
-      (let small = run.printed.spelled.counted.small in omega (arith, small))
+      (let small = (run.printed.spelled refl).counted.small in omega (arith, small))
 
   -- with which what the run prints ends
   pub ends_again : (shown given lines : List ℕ) → shown ≡ out → lines ≡ after_first is_feed given → given ≡ again

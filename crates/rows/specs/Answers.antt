@@ -1,5 +1,5 @@
 -- What may be answered of a text: what it declares, or its fault, want of memory aside.
-use Rattle.std.specs.Prelude.{◌≡◌, ◌≢◌, ◌<◌, ◌+◌, ◌⊎◌, ℕ, List, Option, Some, None, length, slice_get}
+use Rattle.std.specs.Prelude.{◌≡◌, ◌≢◌, ◌<◌, ◌+◌, ◌⊎◌, ℕ, true, false, List, Option, Some, None, length, slice_get}
 use Rattle.mmtext.specs.declared.fault.FaultKind.TheVariants.{NoMemory as OutOfMemory}
 use Rattle.mmsyntax.specs.declared.statement.Assertion.{Assertion}
 use Rattle.mmsyntax.specs.Tables.{Tables, Contents}
@@ -54,7 +54,7 @@ Keeps text _ _ = ⊥
 
 -- what the run of scripts over a database by so many workers prints, in a store with so much room; or its fault, or why it came to no end
 abbrev pub IsRunOf : List ℕ → List (List ℕ) → ℕ → ℕ → Answer → Type 0
-IsRunOf db scripts workers room (Text out) = (history : List ℕ) × IsRun db scripts workers room out.items history
+IsRunOf db scripts workers room (Text out) = (history : List ℕ) × IsRun db scripts workers room false out.items history
 IsRunOf db scripts workers room (Failed fault) = fault ≢ NoMemoryOfJob → IsRunFault db scripts room fault ⊎ IsRunLack fault
 IsRunOf db scripts workers room _ = ⊥
 
@@ -62,8 +62,8 @@ IsRunOf db scripts workers room _ = ⊥
 -- text may be; or the fault of the run, or why it came to no end
 abbrev pub IsSharedOf : List ℕ → List (List ℕ) → ℕ → ℕ → Answer → Type 0
 IsSharedOf db scripts workers room (Text lines) =
-    (out history : List ℕ) × (run : IsRun db scripts workers room out history) × (lines.items ≡ library_lines run.printed.library)
-IsSharedOf db scripts workers room Differs = (out history : List ℕ) × IsRun db scripts workers room out history × (16777216 < length history)
+    (out history : List ℕ) × (run : IsRun db scripts workers room true out history) × (lines.items ≡ library_lines run.printed.library)
+IsSharedOf db scripts workers room Differs = (out history : List ℕ) × IsRun db scripts workers room true out history × (16777216 < length history)
 IsSharedOf db scripts workers room (Failed fault) = fault ≢ NoMemoryOfJob → IsRunFault db scripts room fault ⊎ IsRunLack fault
 IsSharedOf db scripts workers room _ = ⊥
 

@@ -1,5 +1,5 @@
 -- What is kept for the next run, and what a run leaves of it.
-use Rattle.std.specs.Prelude.{◌≡◌, ◌≤◌, ◌^◌, ℕ, List, [], map}
+use Rattle.std.specs.Prelude.{◌≡◌, ◌≤◌, ◌^◌, ℕ, Bool, List, [], map}
 use Rattle.std.specs.Fmt.{decimal}
 use Rattle.std.specs.declared.alloc.Global.{Global}
 use Rattle.std.specs.declared.vec.Vec.{Vec}
@@ -31,10 +31,10 @@ KeepsRoom text old new _ = ⊥
 
 -- ---- a run
 
--- the job of the next run
-abbrev pub IsNextJob : Runs → Job → Type 0
-IsNextJob runs job =
-    (db : Vec ℕ Global) × (db.items ≡ runs.library.items) × (job ≡ Run db runs.scripts runs.workers runs.room)
+-- the job of the next run, whose history's text is asked for or not
+abbrev pub IsNextJob : Runs → Bool → Job → Type 0
+IsNextJob runs asked job =
+    (db : Vec ℕ Global) × (db.items ≡ runs.library.items) × (job ≡ Run db runs.scripts runs.workers runs.room asked)
 
 -- behind a run the database stays, and no script is kept any more; the next run has one worker, and room for 2^20 words
 abbrev pub IsAfterRun : Runs → Runs → Type 0

@@ -1,6 +1,6 @@
 //! Runs of scripts over a library.
 
-ghost use Rattle.std.specs.Prelude.{◌≡◌, ◌++◌, ◌∷◌, [], ℕ, List, IfOk, OnOk};
+ghost use Rattle.std.specs.Prelude.{◌≡◌, ◌++◌, ◌∷◌, [], ℕ, true, List, IfOk, OnOk};
 ghost use Rattle.jobs.specs.Jobs.{IsRun};
 ghost use Rattle.rows.specs.Answers.{IsReplayOf, IsSharedOf};
 ghost use Rattle.rows.specs.Runs.{HasLimits, IsAfterRun, IsNextJob, AnswersRun, AnswersShared, KeepsRoom, KeepsWorkers};
@@ -105,10 +105,10 @@ impl Runs {
         }
     }
 
-    /// The job of the next run. Its scripts, its workers and its room are kept no more.
-    fn next_job(&mut self, alloc: Global) -> Result<Job, AllocError>
+    /// The job of the next run, whose history's text is asked for or not. Its scripts, its workers and its room are kept no more.
+    fn next_job(&mut self, alloc: Global, history: bool) -> Result<Job, AllocError>
         requires { HasLimits self.old }
-        ensures job { IfOk result (IsNextJob self.old) }
+        ensures job { IfOk result (IsNextJob self.old history) }
         ensures after { OnOk result (IsAfterRun self.old self.new) }
         ensures limits { HasLimits self.new }
     {
@@ -121,6 +121,7 @@ impl Runs {
             scripts,
             workers,
             room,
+            history,
         })
     }
 
@@ -139,7 +140,7 @@ impl Runs {
         ensures run { IfOk result (AnswersRun self.old self.new) }
         ensures limits { HasLimits self.new }
     {
-        let job = self.next_job(alloc)?;
+        let job = self.next_job(alloc, false)?;
         match perform(rt, alloc, keys, &job, &Open) {
             Ok(printed) => Ok(Answer::Text(printed.out)),
             Err(fault) => Ok(Answer::Failed(fault)),
@@ -162,7 +163,7 @@ impl Runs {
         ensures run { IfOk result (AnswersShared self.old self.new) }
         ensures limits { HasLimits self.new }
     {
-        let job = self.next_job(alloc)?;
+        let job = self.next_job(alloc, true)?;
         match perform(rt, alloc, keys, &job, &Open) {
             Ok(printed) => self.library_after(rt, alloc, keys, printed),
             Err(fault) => Ok(Answer::Failed(fault)),
@@ -177,7 +178,7 @@ impl Runs {
         keys: RandomState,
         printed: Printed,
     ) -> Result<Answer, AllocError>
-        ensures { (scripts : List (List ℕ)) (workers room : ℕ) → IsRun self.now.library.items scripts workers room printed.out.items printed.history.items
+        ensures { (scripts : List (List ℕ)) (workers room : ℕ) → IsRun self.now.library.items scripts workers room true printed.out.items printed.history.items
             → IfOk result (IsSharedOf self.now.library.items scripts workers room) }
     {
         let Printed { out, history } = printed;

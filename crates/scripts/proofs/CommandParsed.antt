@@ -19,6 +19,7 @@ use Rattle.library.specs.declared.command.Command.{Command}
 use Rattle.library.specs.declared.command.Command.TheVariants as command
 use Rattle.scripts.specs.Scripts.{IsRank, OtherSteps, SpellsCommand, SpellsEach, other_step_of}
 use Rattle.scripts.specs.ScriptFaults.{CommandPlace, at_rank, in_unit, at_reproved, at_proof, in_proof, at_old_label, at_new_label}
+use Rattle.scripts.specs.ScriptFaults.{at_recited, at_old_citation, at_new_citation}
 use Rattle.scripts.specs.ScriptFaults.{at_moved, at_new_rank, at_deleted, at_shown, Led, inside, whole_command, bad, label_row, rank_row}
 use Rattle.scripts.specs.ScriptFaults.{unit_start, step_led, in_command, command_word}
 use Rattle.scripts.proofs.ScriptRows.{label_case, rank_case, word_case, proof_case, step_case}
@@ -173,6 +174,32 @@ module _ {P A : Type 0} (l : Language P A) (t : Tables) (places : Asking P) (ask
         shorter = let lt : length a.rest < length ts = a.shorter in omega arith;
       }
 
+  reads_replace : (cs : List Command) (u : Token) (ts : List Token) → u.text ≡ codes "replace" → Walks (places.inner cs at_recited) ts
+      → ReadsCommand cs (u ∷ ts)
+  reads_replace cs u ts e h =
+      let a = reads_label cs at_recited (λ x. inside (at_old_citation x)) ts (λ v. refl) h in
+      let label = a.token.text in
+      let b = reads_label cs (at_old_citation label) (λ x. inside (at_new_citation label x)) a.rest (λ v. refl)
+      (moved (places.inner cs (at_old_citation label)) a.leads.0 a.rest a.leads.1 a.leads.2) in
+      let old = b.token.text in
+      let d = reads_label cs (at_new_citation label old) (λ x. whole_command (command.Replace label old x)) b.rest (λ v. refl)
+      (moved (places.inner cs (at_new_citation label old)) b.leads.0 b.rest b.leads.1 b.leads.2) in
+      let new = d.token.text in
+      record {
+        command = command.Replace label old new;
+        words = codes "replace" ∷ label ∷ old ∷ new ∷ [];
+        rest = d.rest;
+        parts =
+            first_word u ts (codes "replace") _ e (a.parts ∙ ap (λ ws. label ∷ ws) (b.parts ∙ ap (λ ws. old ∷ ws) d.parts));
+        spells = (a.plain, b.plain, d.plain, refl);
+        walks = moved (and_one places cs (command.Replace label old new)) d.leads.0 d.rest d.leads.1 d.leads.2;
+        shorter =
+            let x : length a.rest < length ts = a.shorter in
+            let y : length b.rest < length a.rest = b.shorter in
+            let z : length d.rest < length b.rest = d.shorter in
+            omega arith;
+      }
+
   reads_rename : (cs : List Command) (u : Token) (ts : List Token) → u.text ≡ codes "rename" → Walks (places.inner cs at_old_label) ts
       → ReadsCommand cs (u ∷ ts)
   reads_rename cs u ts e h =
@@ -291,6 +318,7 @@ module _ {P A : Type 0} (l : Language P A) (t : Tables) (places : Asking P) (ask
       word_case (λ x. Leads cs u ts x → ReadsCommand cs (u ∷ ts)) u.text
       (λ e l. reads_add cs u ts e (moved (places.inner cs at_rank) l.0 ts l.1 l.2))
       (λ e l. reads_reprove cs u ts e (moved (places.inner cs at_reproved) l.0 ts l.1 l.2))
+      (λ e l. reads_replace cs u ts e (moved (places.inner cs at_recited) l.0 ts l.1 l.2))
       (λ e l. reads_rename cs u ts e (moved (places.inner cs at_old_label) l.0 ts l.1 l.2))
       (λ e l. reads_move cs u ts e (moved (places.inner cs at_moved) l.0 ts l.1 l.2))
       (λ e l. reads_labelled cs at_deleted (λ x. command.Delete x) (codes "delete") u ts (λ x p. (p, refl)) (λ v. refl) e

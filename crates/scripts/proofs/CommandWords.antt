@@ -21,7 +21,7 @@ use Rattle.mmreader.proofs.Ordinary.{statement_ordinary}
 use Rattle.library.specs.declared.command.Command.{Command}
 use Rattle.library.specs.declared.command.Command.TheVariants as command
 use Rattle.scripts.specs.Scripts.{IsRank, OtherSteps, SpellsCommand, SpellsEach, SpellsTransaction, other_step_of}
-use Rattle.scripts.specs.ScriptFaults.{CommandPlace, at_rank, in_unit, at_reproved, at_proof, in_proof, at_old_label, at_new_label, at_moved, at_new_rank, at_deleted, at_shown, Led, inside, whole_command, bad, bad_text, label_row, rank_row, unit_start, unit_led, unit_row, proof_start, step_led, step_row, in_command, command_word}
+use Rattle.scripts.specs.ScriptFaults.{CommandPlace, at_rank, in_unit, at_reproved, at_proof, in_proof, at_recited, at_old_citation, at_new_citation, at_old_label, at_new_label, at_moved, at_new_rank, at_deleted, at_shown, Led, inside, whole_command, bad, bad_text, label_row, rank_row, unit_start, unit_led, unit_row, proof_start, step_led, step_row, in_command, command_word}
 use Rattle.scripts.proofs.ScriptRows.{rank_plain, StepPasses, step_passes, label_led, rank_led, step_end, step_plain}
 use Rattle.scripts.proofs.InnerUnits.{unit_end, unit_next, HasUnits, unit_words_lead}
 
@@ -51,6 +51,10 @@ command_ordinary t (command.Reprove label steps) ws d =
     (plain_cons (codes "reprove") (label ∷ codes "$=" ∷ (d.0 ++ codes "$." ∷ [])) refl
     (plain_cons label (codes "$=" ∷ (d.0 ++ codes "$." ∷ [])) d.1
     (All-cons IsOrdinary (codes "$=") (d.0 ++ codes "$." ∷ []) keywords.0 (steps_ordinary t label [] d.0 steps d.3))))
+command_ordinary t (command.Replace label old new) ws d =
+    subst (All IsOrdinary) (sym d.3)
+    (plain_cons (codes "replace") (label ∷ old ∷ new ∷ []) refl
+    (plain_cons label (old ∷ new ∷ []) d.0 (plain_cons old (new ∷ []) d.1 (plain_cons new [] d.2 (All-nil IsOrdinary)))))
 command_ordinary t (command.Rename old new) ws d =
     subst (All IsOrdinary) (sym d.2)
     (plain_cons (codes "rename") (old ∷ new ∷ []) refl (plain_cons old (new ∷ []) d.0 (plain_cons new [] d.1 (All-nil IsOrdinary))))
@@ -197,6 +201,17 @@ module _ {P A : Type 0} (l : Language P A) (t : Tables) (a : Asking P) (asks : A
       takes l (a.inner cs (at_proof label)) (a.inner cs (in_proof label [])) (codes "$=") _ ts2 final h2
       (λ u e. within cs (at_proof label) (inside (in_proof label [])) u (ap (proof_start label) (ap mark_of e ∙ proof_mark))) (λ ts3 h3.
       steps_lead cs label [] d.0 steps ts3 ws final d.3 (inr d.2) h3 next)))
+  command_leads cs (command.Replace label old new) us ws ts final d h next =
+      takes l (a.between cs) (a.inner cs at_recited) (codes "replace") (label ∷ old ∷ new ∷ ws) ts final (h ∙ ap (λ x. x ++ ws) d.3)
+      (λ u e. words cs (codes "replace") (inside at_recited) u refl refl e) (λ ts1 h1.
+      takes l (a.inner cs at_recited) (a.inner cs (at_old_citation label)) label (old ∷ new ∷ ws) ts1 final h1
+      (λ u e. within cs at_recited (inside (at_old_citation label)) u (label_led u label (λ x. inside (at_old_citation x)) d.0 e)) (λ ts2 h2.
+      takes l (a.inner cs (at_old_citation label)) (a.inner cs (at_new_citation label old)) old (new ∷ ws) ts2 final h2
+      (λ u e. within cs (at_old_citation label) (inside (at_new_citation label old)) u
+      (label_led u old (λ x. inside (at_new_citation label x)) d.1 e)) (λ ts3 h3.
+      takes l (a.inner cs (at_new_citation label old)) (and_one a cs (command.Replace label old new)) new ws ts3 final h3
+      (λ u e. within cs (at_new_citation label old) (whole_command (command.Replace label old new)) u
+      (label_led u new (λ x. whole_command (command.Replace label old x)) d.2 e)) next)))
   command_leads cs (command.Rename old new) us ws ts final d h next =
       takes l (a.between cs) (a.inner cs at_old_label) (codes "rename") (old ∷ new ∷ ws) ts final (h ∙ ap (λ x. x ++ ws) d.2)
       (λ u e. words cs (codes "rename") (inside at_old_label) u refl refl e) (λ ts1 h1.

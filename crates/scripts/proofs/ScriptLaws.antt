@@ -110,6 +110,7 @@ command_fits : (t : Tables) → IsSoundPrelude t → (c : Command) (ws : List Wo
 command_fits t sound (command.Add rank a) ws words d =
     let all = subst (AllByRecursion IsWord) d.4 words in (d.2.small, unit_fits t d.1 a sound all.1.1 d.3)
 command_fits t sound (command.Reprove label steps) ws words d = few_steps t label [] d.0 steps (omega arith) d.3
+command_fits t sound (command.Replace label old new) ws words d = tt
 command_fits t sound (command.Rename old new) ws words d = tt
 command_fits t sound (command.Move label rank) ws words d = d.2.small
 command_fits t sound (command.Delete label) ws words d = tt

@@ -27,6 +27,7 @@ use Rattle.library.specs.declared.command.Command.TheVariants as command
 use Rattle.library.specs.Fitting.{highest_rank}
 use Rattle.scripts.specs.Scripts.{IsRank, other_step_of}
 use Rattle.scripts.specs.ScriptFaults.{CommandPlace, at_rank, in_unit, at_reproved, at_proof, in_proof, at_old_label, at_new_label}
+use Rattle.scripts.specs.ScriptFaults.{at_recited}
 use Rattle.scripts.specs.ScriptFaults.{at_moved, at_new_rank, at_deleted, at_shown, Place, outermost, at_command, within, Progress, Led}
 use Rattle.scripts.specs.ScriptFaults.{inside, whole_command, bad, bad_text, label_row, is_numeral, rank_row, proof_start, step_led}
 use Rattle.scripts.specs.ScriptFaults.{step_row, command_word, at, led, command_row}
@@ -98,18 +99,19 @@ rank_case Q u behind p q =
     (λ _. q BadToken)
 
 pub word_case : (Q : Led → Type 0) (w : Word) → (w ≡ codes "add" → Q (inside at_rank)) → (w ≡ codes "reprove" → Q (inside at_reproved))
-    → (w ≡ codes "rename" → Q (inside at_old_label)) → (w ≡ codes "move" → Q (inside at_moved))
-    → (w ≡ codes "delete" → Q (inside at_deleted)) → (w ≡ codes "show" → Q (inside at_shown))
+    → (w ≡ codes "replace" → Q (inside at_recited)) → (w ≡ codes "rename" → Q (inside at_old_label))
+    → (w ≡ codes "move" → Q (inside at_moved)) → (w ≡ codes "delete" → Q (inside at_deleted)) → (w ≡ codes "show" → Q (inside at_shown))
     → (w ≡ codes "list" → Q (whole_command command.List)) → Q (bad BadToken) → Q (command_word w)
-word_case Q w a b c d e f g h =
+word_case Q w a b r c d e f g h =
     cond_case Q (bytes_eq w (codes "add")) (inside at_rank) _ (λ y. a (same_word w (codes "add") y)) (λ _.
     cond_case Q (bytes_eq w (codes "reprove")) (inside at_reproved) _ (λ y. b (same_word w (codes "reprove") y)) (λ _.
+    cond_case Q (bytes_eq w (codes "replace")) (inside at_recited) _ (λ y. r (same_word w (codes "replace") y)) (λ _.
     cond_case Q (bytes_eq w (codes "rename")) (inside at_old_label) _ (λ y. c (same_word w (codes "rename") y)) (λ _.
     cond_case Q (bytes_eq w (codes "move")) (inside at_moved) _ (λ y. d (same_word w (codes "move") y)) (λ _.
     cond_case Q (bytes_eq w (codes "delete")) (inside at_deleted) _ (λ y. e (same_word w (codes "delete") y)) (λ _.
     cond_case Q (bytes_eq w (codes "show")) (inside at_shown) _ (λ y. f (same_word w (codes "show") y)) (λ _.
     cond_case Q (bytes_eq w (codes "list")) (whole_command command.List) (bad BadToken) (λ y. g (same_word w (codes "list") y)) (λ _.
-    h)))))))
+    h))))))))
 
 pub proof_case : (Q : Led → Type 0) (label w : Word) → (w ≡ codes "$=" → Q (inside (in_proof label []))) → Q (bad BadToken)
     → Q (proof_start label (mark_of w))

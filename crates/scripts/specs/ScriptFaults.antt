@@ -32,6 +32,10 @@ pub data CommandPlace : Type 0 where
   at_reproved : CommandPlace
   at_proof : Word → CommandPlace
   in_proof : Word → List Step → CommandPlace
+  -- behind replace, its label, and the label whose citations it is to replace
+  at_recited : CommandPlace
+  at_old_citation : Word → CommandPlace
+  at_new_citation : Word → Word → CommandPlace
   -- behind rename, and the old label
   at_old_label : CommandPlace
   at_new_label : Word → CommandPlace
@@ -112,6 +116,9 @@ in_command t (in_unit rank p) token = unit_row rank (row p token)
 in_command t at_reproved token = label_row token (λ label. inside (at_proof label))
 in_command t (at_proof label) token = proof_start label (mark_of token.text)
 in_command t (in_proof label steps) token = step_row t label steps token (mark_of token.text)
+in_command t at_recited token = label_row token (λ label. inside (at_old_citation label))
+in_command t (at_old_citation label) token = label_row token (λ old. inside (at_new_citation label old))
+in_command t (at_new_citation label old) token = label_row token (λ new. whole_command (command.Replace label old new))
 in_command t at_old_label token = label_row token (λ old. inside (at_new_label old))
 in_command t (at_new_label old) token = label_row token (λ new. whole_command (command.Rename old new))
 in_command t at_moved token = label_row token (λ label. inside (at_new_rank label))
@@ -124,11 +131,12 @@ abbrev pub command_word : Word → Led
 command_word w =
     if bytes_eq w (codes "add") then inside at_rank else (
     if bytes_eq w (codes "reprove") then inside at_reproved else (
+    if bytes_eq w (codes "replace") then inside at_recited else (
     if bytes_eq w (codes "rename") then inside at_old_label else (
     if bytes_eq w (codes "move") then inside at_moved else (
     if bytes_eq w (codes "delete") then inside at_deleted else (
     if bytes_eq w (codes "show") then inside at_shown else (
-    if bytes_eq w (codes "list") then whole_command command.List else bad BadToken))))))
+    if bytes_eq w (codes "list") then whole_command command.List else bad BadToken)))))))
 
 -- ---- in a script
 

@@ -19,6 +19,7 @@ use Rattle.scripts.specs.declared.script.place.State.{State as CodeState}
 use Rattle.library.specs.Fitting.{highest_rank}
 use Rattle.scripts.specs.Scripts.{hypothesis_numbered, counted_from_0}
 use Rattle.scripts.specs.ScriptFaults.{CommandPlace, at_rank, in_unit, at_reproved, at_proof, in_proof, at_old_label, at_new_label}
+use Rattle.scripts.specs.ScriptFaults.{at_recited, at_old_citation, at_new_citation}
 use Rattle.scripts.specs.ScriptFaults.{at_moved, at_new_rank, at_deleted, at_shown, Place, outermost, at_command, within, Progress}
 use Rattle.scripts.specs.ScriptFaults.{Led, inside, whole_command, bad, bad_text, is_numeral}
 
@@ -59,6 +60,9 @@ seen_command_place t (code.InUnit rank r) = in_unit rank (position_of t r)
 seen_command_place t code.AtReproved = at_reproved
 seen_command_place t (code.AtProof label) = at_proof label
 seen_command_place t (code.InProof label steps) = in_proof label steps.items
+seen_command_place t code.AtRecited = at_recited
+seen_command_place t (code.AtOldCitation label) = at_old_citation label
+seen_command_place t (code.AtNewCitation label old) = at_new_citation label old
 seen_command_place t code.AtOldLabel = at_old_label
 seen_command_place t (code.AtNewLabel old) = at_new_label old
 seen_command_place t code.AtMoved = at_moved

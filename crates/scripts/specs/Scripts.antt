@@ -59,13 +59,16 @@ OtherSteps t label front (w ∷ ws) steps =
 abbrev pub DeclaresAlone : Tables → Statement → Assertion → Type 0
 DeclaresAlone t statement a = (known : Known) × Declares (prelude_alone t) statement known × (known.units.assertions ≡ a ∷ [])
 
--- command = add RANK unit | reprove LABEL $= step+ $. | rename LABEL LABEL | move LABEL RANK | delete LABEL | show LABEL | list
+-- command = add RANK unit | reprove LABEL $= step+ $. | replace LABEL LABEL LABEL | rename LABEL LABEL | move LABEL RANK | delete LABEL
+--     | show LABEL | list
 abbrev pub SpellsCommand : Tables → Command → List Word → Type 0
 SpellsCommand t (command.Add rank a) ws =
     (number : Word) × (unit : Statement) × IsRank number rank × DeclaresAlone t unit a × (ws ≡ codes "add" ∷ number ∷ spelling unit)
 SpellsCommand t (command.Reprove label steps) ws =
     (words : List Word) × IsPlain label × (words ≢ []) × OtherSteps t label [] words steps
     × (ws ≡ codes "reprove" ∷ label ∷ codes "$=" ∷ (words ++ codes "$." ∷ []))
+SpellsCommand t (command.Replace label old new) ws =
+    IsPlain label × IsPlain old × IsPlain new × (ws ≡ codes "replace" ∷ label ∷ old ∷ new ∷ [])
 SpellsCommand t (command.Rename old new) ws = IsPlain old × IsPlain new × (ws ≡ codes "rename" ∷ old ∷ new ∷ [])
 SpellsCommand t (command.Move label rank) ws =
     (number : Word) × IsPlain label × IsRank number rank × (ws ≡ codes "move" ∷ label ∷ number ∷ [])

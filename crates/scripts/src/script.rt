@@ -169,10 +169,10 @@ fn read_text(alloc: Global, prelude: &Prelude, text: &[u8]) -> Result<Vec<Transa
 /// The script that a text spells over a prelude: transactions, each of them `begin`, commands and `commit`. Comments may stand between any
 /// two words.
 ///
-/// A command is `add` with a rank and one `$a` or `$p`, alone or in its block; `reprove` with a label, `$=`, steps and `$.`; `rename` with
-/// the old label and the new one; `move` with a label and a rank; `delete` or `show` with a label; or `list`. A label is any word without
-/// `$`. A rank is a number up to 4,294,967,295 in decimal digits without leading zero. In another proof of L the step `L.k` is the k-th
-/// hypothesis, for k from 1 to 1,000, whether L has it or not. No library is looked at.
+/// A command is `add` with a rank and one `$a` or `$p`, alone or in its block; `reprove` with a label, `$=`, steps and `$.`; `replace` with
+/// a label, the old label and the new one; `rename` with the old label and the new one; `move` with a label and a rank; `delete` or `show`
+/// with a label; or `list`. A label is any word without `$`. A rank is a number up to 4,294,967,295 in decimal digits without leading zero.
+/// In another proof of L the step `L.k` is the k-th hypothesis, for k from 1 to 1,000, whether L has it or not. No library is looked at.
 ///
 /// # Errors
 ///

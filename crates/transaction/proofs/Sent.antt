@@ -1,10 +1,14 @@
--- Sessions may go to other threads, and a library may be shared by threads.
+-- Sessions may go to other threads, and a library and scripts may be shared by threads.
 use denote.Param.Send.{IsSend, IsSync, sendable}
 use Rattle.std.proofs.Crossing.{crosses}
 use Rattle.std.proofs.MapsCrossing as maps
 use Rattle.bodystore.proofs.Sent.{stage_send}
 use Rattle.tlwords.proofs.Sent.{pass_send, words_sync}
+use Rattle.mmsyntax.specs.contracts.label.Label as Label
+use Rattle.mmsyntax.specs.contracts.statement.Assertion as Assertion
 use Rattle.mmsyntax.specs.contracts.prelude.Prelude as Prelude
+use Rattle.library.specs.contracts.command.Command as Command
+use Rattle.library.specs.contracts.command.Reply as Reply
 use Rattle.lawful.specs.contracts.notes.Given as Given
 use Rattle.transaction.specs.contracts.outcome.Record as Record
 use Rattle.transaction.specs.contracts.outcome.Outcome as Outcome
@@ -12,8 +16,20 @@ use Rattle.transaction.specs.contracts.session.Kit as Kit
 use Rattle.transaction.specs.contracts.session.Session as Session
 use Rattle.transaction.specs.contracts.running.Library as Library
 
+label_send : IsSend Label.the_field.row
+label_send = search (crosses, sendable) depth 60 fits 100000
+
+assertion_send : IsSend Assertion.the_field.row
+assertion_send = let label = label_send in search (crosses, sendable) depth 60 fits 100000
+
+command_send : IsSend Command.the_field.row
+command_send = let label = label_send in let assertion = assertion_send in search (crosses, sendable) depth 60 fits 100000
+
+reply_send : IsSend Reply.the_field.row
+reply_send = let label = label_send in let assertion = assertion_send in search (crosses, sendable) depth 60 fits 100000
+
 pub record_send : IsSend Record.the_field.row
-record_send = search (crosses, sendable) depth 60 fits 100000
+record_send = let command = command_send in let reply = reply_send in search (crosses, sendable) depth 60 fits 100000
 
 pub outcome_send : IsSend Outcome.the_field.row
 outcome_send = search (crosses, sendable) depth 60 fits 100000
@@ -33,5 +49,14 @@ given_sync = search (crosses, sendable) depth 60 fits 100000
 pub library_sync : IsSync Library.the_field.row
 library_sync = let prelude = prelude_sync in let given = given_sync in search (words_sync, crosses, sendable) depth 60 fits 100000
 
+label_sync : IsSync Label.the_field.row
+label_sync = search (crosses, sendable) depth 60 fits 100000
+
+assertion_sync : IsSync Assertion.the_field.row
+assertion_sync = let label = label_sync in search (crosses, sendable) depth 60 fits 100000
+
+pub command_sync : IsSync Command.the_field.row
+command_sync = let label = label_sync in let assertion = assertion_sync in search (crosses, sendable) depth 60 fits 100000
+
 -- for a `search` that asks for these
-pub ruleset crosses_transaction = (record_send, outcome_send, session_send, library_sync)
+pub ruleset crosses_transaction = (record_send, outcome_send, session_send, library_sync, command_sync)

@@ -6,11 +6,11 @@ ghost use Rattle.library.specs.declared.library.Ranked.{Ranked};
 ghost use Rattle.library.specs.Library.{label_of};
 ghost use Rattle.library.specs.Edits.{has};
 ghost use Rattle.history.specs.Entries.{StandsIn};
-ghost use Rattle.history.specs.Citers.{AreEntered, Covers};
+ghost use Rattle.history.specs.Citers.{AreEntered, Covers, IsCiter};
 ghost use Rattle.history.specs.Drafts.{now_in, Succeeds, Exchanges, KeepsStart};
 
 use super::Draft;
-use crate::citers::enter_citer;
+use crate::citers::{enter, enter_citer};
 use crate::notes::Note;
 use library::Ranked;
 use mmstatement::{Frame, Step};
@@ -92,5 +92,15 @@ impl Draft {
             steps,
             place,
         )
+    }
+    /// Puts a place into the list of the assertion at another. The library stays.
+    pub(super) fn list_citer(&mut self, cited: usize, place: usize) -> Result<(), AllocError>
+        requires { (e : Ranked) × StandsIn self.old.entries cited e }
+        ensures listed { OnOk result (IsCiter self.new.citers cited place) }
+        ensures entries { self.new.entries ≡ self.old.entries }
+        ensures frames { self.new.frames ≡ self.old.frames }
+        ensures kept { KeepsStart self.old self.new }
+    {
+        enter(&mut self.citers[cited], place)
     }
 }

@@ -1,10 +1,10 @@
 //! Commands, one by one: each is done, or refused by the first test that fails.
 
-ghost use Rattle.std.specs.Prelude.{◌≡◌, ℕ, All, Contains, IfOk, OnOk};
+ghost use Rattle.std.specs.Prelude.{◌≡◌, ℕ, All, Contains, None, Some, IfErr, IfOk, OnOk};
 ghost use Rattle.std.specs.List.Sorted.{IsStrictlyIncreasing};
 ghost use Rattle.mmsyntax.specs.declared.statement.Kind.TheVariants.{Theorem};
 ghost use Rattle.library.specs.declared.command.Command.TheVariants as command;
-ghost use Rattle.library.specs.Edits.{add_tests, citers};
+ghost use Rattle.library.specs.Edits.{add_tests, replace_tests, citers};
 ghost use Rattle.library.specs.Fitting.{CommandFits};
 ghost use Rattle.library.specs.Library.{Verifies, label_of};
 ghost use Rattle.library.specs.declared.library.Ranked.{Ranked};
@@ -23,7 +23,7 @@ use crate::places::{entry_at, find_entry, find_label};
 use crate::testing::{
     cites, cites_not_below, cites_unknown, count_citers, has_citer_below, proof_fault,
 };
-use library::{Command, Ranked, Reason, Refused, Reply};
+use library::{Command, Ranked, Reason, Refused, Reply, is_alike};
 use mmstatement::{Assertion, Kind, Label, Sequence, Step, copy_steps, frame_of, is_lawful_label};
 use std::alloc::{AllocError, Global};
 
@@ -237,6 +237,57 @@ impl Draft {
         Ok(Reply::Done)
     }
 
+    /// The place of the assertion that is to be cited in the place of another, in the proof of one; or the reason for which it isn't.
+    fn find_replacement(&self, entry: &Ranked, old: &Label, new: &Label) -> Result<usize, Reason>
+        ensures refused { IfErr result (λ reason.
+            first_reason (replace_tests self.now.setting (now_in self.now) old.now new.now entry.now) ≡ Some reason) }
+        ensures passed { OnOk result (first_reason (replace_tests self.now.setting (now_in self.now) old.now new.now entry.now) ≡ None) }
+        ensures place { IfOk result (StandsAt self.now.entries new.now) }
+    {
+        let entries = self.entries.as_slice();
+        let Some(cited) = find_label(entries, &self.places, old.as_slice()) else {
+            return Err(Reason::UnknownLabel);
+        };
+        let Some((place, other)) = find_entry(entries, &self.places, new.as_slice()) else {
+            return Err(Reason::UnknownLabel);
+        };
+        if let Kind::Axiom = entry.assertion.kind {
+            return Err(Reason::NotATheorem);
+        }
+        if !is_alike(&self.frames[cited], &self.frames[place]) {
+            return Err(Reason::NotAlike);
+        }
+        if entry.rank <= other.rank {
+            return Err(Reason::CitedNotLower);
+        }
+        Ok(place)
+    }
+
+    fn replace_citation(
+        &mut self,
+        alloc: Global,
+        index: usize,
+        label: &Label,
+        old: &Label,
+        new: &Label,
+    ) -> Result<Reply, ApplyError>
+        ensures taken { Takes index self.old (command.Replace label.now old.now new.now) result self.new }
+        ensures kept { KeepsStart self.old self.new }
+    {
+        let draft = &*self;
+        let entries = draft.entries.as_slice();
+        let Some((place, entry)) = find_entry(entries, &draft.places, label.as_slice()) else {
+            return Err(refused(index, Reason::UnknownLabel));
+        };
+        let cited = match draft.find_replacement(entry, old, new) {
+            Ok(cited) => cited,
+            Err(reason) => return Err(refused(index, reason)),
+        };
+        self.list_citer(cited, place)?;
+        self.recite(alloc, place, old, new)?;
+        Ok(Reply::Done)
+    }
+
     fn move_to(
         &mut self,
         alloc: Global,
@@ -318,6 +369,9 @@ impl Draft {
         match command {
             Command::Add { rank, assertion } => self.add(alloc, index, *rank, assertion),
             Command::Reprove { label, steps } => self.reprove(alloc, index, label, steps),
+            Command::Replace { label, old, new } => {
+                self.replace_citation(alloc, index, label, old, new)
+            }
             Command::Rename { old, new } => self.rename(alloc, index, old, new),
             Command::Move { label, rank } => self.move_to(alloc, index, label, *rank),
             Command::Delete { label } => self.delete(index, label),

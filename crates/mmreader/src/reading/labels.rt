@@ -1,7 +1,7 @@
 //! The tests of labels and symbols, in order.
 
-ghost use Rattle.std.specs.Prelude.{◌≡◌};
-ghost use Rattle.mmsyntax.specs.Rows.{first_fault, symbol_tests, label_tests, symbol_of};
+ghost use Rattle.std.specs.Prelude.{◌≡◌, ◌==◌};
+ghost use Rattle.mmsyntax.specs.Rows.{first_fault, symbol_tests, label_tests, symbol_named, unless_full, symbol_of};
 ghost use Rattle.mmsyntax.specs.Blocks.{hypothesis_label_tests};
 ghost use Rattle.mmreader.specs.Views.{known_of};
 
@@ -89,6 +89,22 @@ pub(crate) fn hypothesis_label_fault(
     None
 }
 
+/// The symbol that a word without `$` is by what it names, behind `count` symbols of an expression, or why it is none.
+pub(crate) fn symbol_named(name: Option<Name>, count: usize) -> Result<Symbol, FaultKind>
+    ensures { result ≡ unless_full count (symbol_named (count == 0) name) }
+{
+    let symbol = match name {
+        Some(Name::Constant(i)) => Symbol::Const(i),
+        Some(Name::Variable(_, Some(j))) if count > 0 => Symbol::Var(j),
+        Some(Name::Variable(_, None)) if count > 0 => return Err(FaultKind::NoTypeFor),
+        _ => return Err(FaultKind::UnknownSymbol),
+    };
+    if count >= MOST_SYMBOLS {
+        return Err(FaultKind::TooLong);
+    }
+    Ok(symbol)
+}
+
 /// The symbol that a word is behind `count` symbols of an expression, or why it is none.
 #[tactic(auto, unfolding(mmsyntax::specs::Rows::symbol_of))]
 pub(crate) fn symbol_at(
@@ -101,14 +117,5 @@ pub(crate) fn symbol_at(
     if contains_dollar(word) {
         return Err(FaultKind::BadToken);
     }
-    let symbol = match symbols.look_up(word) {
-        Some(Name::Constant(i)) => Symbol::Const(i),
-        Some(Name::Variable(_, Some(j))) if count > 0 => Symbol::Var(j),
-        Some(Name::Variable(_, None)) if count > 0 => return Err(FaultKind::NoTypeFor),
-        _ => return Err(FaultKind::UnknownSymbol),
-    };
-    if count >= MOST_SYMBOLS {
-        return Err(FaultKind::TooLong);
-    }
-    Ok(symbol)
+    symbol_named(symbols.look_up(word), count)
 }

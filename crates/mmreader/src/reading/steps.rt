@@ -1,6 +1,7 @@
 //! The words of `$d` and the steps of proofs.
 
-ghost use Rattle.std.specs.Prelude.{◌≡◌, ◌==◌, IfOk};
+ghost use Rattle.std.specs.Prelude.{◌≡◌, ◌==◌, None, IfOk};
+ghost use Rattle.mmtext.specs.Words.{has_dot};
 ghost use Rattle.std.specs.List.{list_any};
 ghost use Rattle.mmsyntax.specs.Tables.{meaning};
 ghost use Rattle.mmsyntax.specs.Rows.{first_fault};
@@ -12,12 +13,13 @@ ghost use Rattle.mmreader.specs.Views.{seen_scope};
 use super::labels::{MOST_LABEL_BYTES, MOST_SYMBOLS};
 use crate::block::Block;
 use crate::place::Scope;
-use mmsyntax::{Name, Sequence, Step, SymbolTable};
+use crate::recent::Recalled;
+use mmsyntax::{Label, Name, Step, SymbolTable};
 use mmtext::{FaultKind, contains_dollar, contains_dot, is_label_token};
 use std::alloc::{AllocError, Global};
 
 /// The most steps of a proof.
-const MOST_STEPS: usize = 16384;
+pub(crate) const MOST_STEPS: usize = 16384;
 
 /// The variable that a word of a `$d` names, by its `$f`.
 fn restricted(symbols: &SymbolTable, word: &[u8]) -> Result<u32, FaultKind>
@@ -94,14 +96,33 @@ fn hypothesis_in(scope: &Scope<'_>, word: &[u8]) -> Option<u32>
     }
 }
 
-/// The `$f` that a word is the label of.
-fn float_labelled(symbols: &SymbolTable, word: &[u8]) -> Option<u32>
-    ensures { result ≡ float_named (meaning symbols.now word.now) }
+/// The `$f` of which a name is the label.
+fn float_named(name: Option<Name>) -> Option<u32>
+    ensures { result ≡ float_named name }
 {
-    match symbols.look_up(word) {
+    match name {
         Some(Name::Label(j)) => Some(j),
         _ => None,
     }
+}
+
+/// The step that a word is which is the label of no `$f`, where it names, if any, the hypothesis at a place; or why it is none.
+fn labelled_step(
+    alloc: Global,
+    hypothesis: Option<u32>,
+    word: &[u8],
+    is_dotted: bool,
+) -> Result<Result<Step, FaultKind>, AllocError>
+    requires { is_dotted ≡ has_dot word.now }
+    ensures { IfOk result (λ r. r ≡ step_named word.now None hypothesis) }
+{
+    if let Some(n) = hypothesis {
+        return Ok(Ok(Step::Hyp(n)));
+    }
+    if is_dotted || word.len() > MOST_LABEL_BYTES {
+        return Ok(Err(FaultKind::BadLabel));
+    }
+    Ok(Ok(Step::Cite(Label::from_slice(alloc, word)?)))
 }
 
 /// The step that a word is behind `count` steps of a proof where it names, if any, the hypothesis at a place; or why it is none. No
@@ -119,17 +140,10 @@ pub fn named_step(
     if let Some(kind) = step_fault(count, word) {
         return Ok(Err(kind));
     }
-    if let Some(j) = float_labelled(symbols, word) {
+    if let Some(j) = float_named(symbols.look_up(word)) {
         return Ok(Ok(Step::Float(j)));
     }
-    if let Some(n) = hypothesis {
-        return Ok(Ok(Step::Hyp(n)));
-    }
-    if contains_dot(word) || word.len() > MOST_LABEL_BYTES {
-        return Ok(Err(FaultKind::BadLabel));
-    }
-    let label = Vec::from_slice(alloc, word)?;
-    Ok(Ok(Step::Cite(Sequence::from_vec(label))))
+    labelled_step(alloc, hypothesis, word, contains_dot(word))
 }
 
 /// The step that a word is behind `count` steps of a proof, or why it is none.
@@ -144,4 +158,21 @@ pub(crate) fn step_at(
     ensures { IfOk result (λ r. r ≡ step_of symbols.now (block_of (seen_scope scope.now)).hyps count word.now) }
 {
     named_step(alloc, symbols, hypothesis_in(scope, word), count, word)
+}
+
+/// The step that a word is by what is known of it, or why it is none. Of a `$f` the block isn't asked.
+pub(crate) fn recalled_step(
+    alloc: Global,
+    scope: &Scope<'_>,
+    known: Recalled<'_>,
+) -> Result<Result<Step, FaultKind>, AllocError>
+    requires { known.is_dotted ≡ has_dot known.word.now }
+    ensures { IfOk result (λ r. r ≡ step_named known.entry.word.now (float_named known.entry.name)
+        (hypothesis_named (block_of (seen_scope scope.now)).hyps known.entry.word.now)) }
+{
+    if let Some(j) = float_named(known.name) {
+        return Ok(Ok(Step::Float(j)));
+    }
+    let hypothesis = hypothesis_in(scope, known.word);
+    labelled_step(alloc, hypothesis, known.word, known.is_dotted)
 }

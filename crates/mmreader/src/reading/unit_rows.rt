@@ -13,8 +13,8 @@ use super::labels::{MOST_SYMBOLS, hypothesis_label_fault, label_fault, symbol_at
 use super::steps::{restrict, step_at};
 use crate::block::Block;
 use crate::known::Units;
-use crate::place::{Behind, Place, PreludePlace, Scope, UnitPlace};
-use mmsyntax::{Assertion, Kind, Sequence, Step, Symbol, SymbolTable};
+use crate::place::{Behind, Place, PreludePlace, Scope, Theorem, UnitPlace};
+use mmsyntax::{Assertion, Kind, Label, Sequence, Step, Symbol, SymbolTable};
 use mmtext::{FaultKind, Mark, Stop, Token, fault_at, is_label_token};
 use std::alloc::{AllocError, Global};
 
@@ -259,7 +259,7 @@ fn assertion_in(
         Scope::Inside(block) => block.into_parts(alloc)?,
     };
     Ok(Assertion {
-        label: Sequence::from_vec(Vec::from_slice(alloc, label)?),
+        label: Label::from_slice(alloc, label)?,
         kind,
         pairs: Sequence::from_vec(pairs),
         hyps: Sequence::from_vec(hyps),
@@ -313,8 +313,13 @@ fn theorem_symbol<'a>(
         (theorem_row (known_of symbols.now units.now) (seen_scope scope.entry) label.entry.now expression.items (seen token.entry) mark) }
 {
     if mark == Mark::Proof && !expression.is_empty() {
-        let place = UnitPlace::InProof(scope, label, expression, Vec::new(alloc));
-        return Ok(Place::Unit(place));
+        let theorem = Theorem {
+            scope,
+            label,
+            expression,
+            steps: Vec::new(alloc),
+        };
+        return Ok(Place::Unit(UnitPlace::InProof(theorem)));
     }
     match symbol_at(symbols, expression.len(), token.text) {
         Ok(s) => {
@@ -330,17 +335,20 @@ fn proof_step<'a>(
     alloc: Global,
     symbols: &SymbolTable,
     units: &mut Units,
-    scope: Scope<'a>,
-    label: &'a [u8],
-    expression: Vec<Symbol>,
-    mut steps: Vec<Step>,
+    theorem: Theorem<'a>,
     token: Token<'a>,
     mark: Mark,
 ) -> Result<Place<'a>, Stop>
     ensures { Leads symbols.now units.new result
-        (proof_row (known_of symbols.now units.old) (seen_scope scope.entry) label.entry.now expression.items steps.items (seen token.entry)
-        mark) }
+        (proof_row (known_of symbols.now units.old) (seen_scope theorem.entry.scope) theorem.entry.label.now theorem.entry.expression.items
+        theorem.entry.steps.items (seen token.entry) mark) }
 {
+    let Theorem {
+        scope,
+        label,
+        expression,
+        mut steps,
+    } = theorem;
     if mark == Mark::End && !steps.is_empty() {
         let next = behind(&scope);
         let assertion = assertion_in(alloc, scope, label, Kind::Theorem, expression, steps)?;
@@ -350,7 +358,13 @@ fn proof_step<'a>(
     match step_at(alloc, symbols, &scope, steps.len(), token.text)? {
         Ok(step) => {
             steps.push(step)?;
-            Ok(Place::Unit(UnitPlace::InProof(scope, label, expression, steps)))
+            let theorem = Theorem {
+                scope,
+                label,
+                expression,
+                steps,
+            };
+            Ok(Place::Unit(UnitPlace::InProof(theorem)))
         }
         Err(kind) => Err(fault_at(token, kind)),
     }
@@ -390,10 +404,6 @@ pub(crate) fn next_unit_place<'a>(
         UnitPlace::InTheorem(scope, label, expression) => {
             theorem_symbol(alloc, symbols, units, scope, label, expression, token, mark)
         }
-        UnitPlace::InProof(scope, label, expression, steps) => {
-            proof_step(
-                alloc, symbols, units, scope, label, expression, steps, token, mark,
-            )
-        }
+        UnitPlace::InProof(theorem) => proof_step(alloc, symbols, units, theorem, token, mark),
     }
 }

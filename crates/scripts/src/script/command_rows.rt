@@ -29,7 +29,7 @@ pub fn read_label(alloc: Global, token: Token<'_>) -> Result<Label, Stop>
     if contains_dollar(token.text) {
         return Err(fault_at(token, FaultKind::BadToken));
     }
-    Ok(Sequence::from_vec(Vec::from_slice(alloc, token.text)?))
+    Ok(Label::from_slice(alloc, token.text)?)
 }
 
 /// A rank: a numeral, up to 4,294,967,295.
@@ -128,6 +128,8 @@ pub fn read_command_word<'a>(token: Token<'a>) -> Result<Led<'a>, Stop>
         CommandPlace::AtRank
     } else if word == b"reprove".as_slice() {
         CommandPlace::AtReproved
+    } else if word == b"replace".as_slice() {
+        CommandPlace::AtRecited
     } else if word == b"rename".as_slice() {
         CommandPlace::AtOldLabel
     } else if word == b"move".as_slice() {
@@ -170,6 +172,15 @@ pub fn read_in_command<'a>(
         CommandPlace::AtProof(label) => return read_proof_start(alloc, label, token),
         CommandPlace::InProof(label, steps) => {
             return read_step(alloc, prelude, label, steps, token);
+        }
+        CommandPlace::AtRecited => CommandPlace::AtOldCitation(read_label(alloc, token)?),
+        CommandPlace::AtOldCitation(label) => {
+            let old = read_label(alloc, token)?;
+            CommandPlace::AtNewCitation { label, old }
+        }
+        CommandPlace::AtNewCitation { label, old } => {
+            let new = read_label(alloc, token)?;
+            return Ok(Led::Whole(Command::Replace { label, old, new }));
         }
         CommandPlace::AtOldLabel => CommandPlace::AtNewLabel(read_label(alloc, token)?),
         CommandPlace::AtNewLabel(old) => {

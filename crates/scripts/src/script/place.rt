@@ -17,6 +17,12 @@ pub enum CommandPlace<'a> {
     AtProof(Label),
     /// Behind `$=` and steps.
     InProof(Label, Vec<Step>),
+    /// Behind `replace`.
+    AtRecited,
+    /// Behind `replace` and a label.
+    AtOldCitation(Label),
+    /// Behind `replace`, a label and the old label.
+    AtNewCitation { label: Label, old: Label },
     /// Behind `rename`.
     AtOldLabel,
     /// Behind `rename` and the old label.

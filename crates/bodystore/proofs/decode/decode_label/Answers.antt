@@ -9,5 +9,5 @@ pub returns : goal.returns
 returns c label all is =
     let i = c.loop-word.word-index in
     let ws = c.args.words.now in
-    c.from_vec.ensures ∙ c.loop-word.invariant ∙ ap (λ xs. map (λ w. bit_and w 255) xs) (take_all i ws c.loop-word-test.false ∙ sym is)
+    c.loop-word.invariant ∙ ap (λ xs. map (λ w. bit_and w 255) xs) (take_all i ws c.loop-word-test.false ∙ sym is)
     ∙ low_bytes label all

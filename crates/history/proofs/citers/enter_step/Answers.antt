@@ -1,4 +1,5 @@
-use Rattle.std.proofs.Common.{◌<◌, length, set, rules, ◌∙◌, Result, Ok, Err, OnOk}
+use Rattle.std.proofs.Common.{◌<◌, length, set, rules, ◌∙◌}
+use Rattle.std.proofs.lemmas.Result.{on_ok_weaker}
 use Rattle.std.proofs.lemmas.Option.{slice_get-get_or}
 use Rattle.mmsyntax.specs.declared.statement.Step.TheVariants.{Cite}
 use Rattle.mmsyntax.proofs.Names.{bytes_eq-sym}
@@ -7,10 +8,6 @@ use Rattle.history.proofs.Changing.{get-set_same}
 use Rattle.history.proofs.Covering.{entered-cited, entered-unknown, keeps-set, list-within}
 use Rattle.history.proofs.Living.{has-not-at}
 use Rattle.history.proofs.citers.enter_step.Goals as goal
-
-on_ok : {A B : Type 0} {P Q : Type 0} (r : Result A B) → (P → Q) → OnOk r P → OnOk r Q
-on_ok (Ok x) f h = f h
-on_ok (Err e) f h = tt
 
 pub returns-in_default-find_label-clause-entered : goal.returns-in_default-find_label-clause-entered
 returns-in_default-find_label-clause-entered c =
@@ -48,6 +45,6 @@ returns-clause-entered c =
     let list = c.enter.new.list in
     let w = c.as_slice.result.now in
     let within : p < length cs = list-within cs c.args.entries.now _ p c.in-Some.ensures c.requires.long in
-    rw (c.in-Cite.is, ← c.as_slice.ensures) (on_ok c.enter.result (λ member.
+    rw (c.in-Cite.is, ← c.as_slice.ensures) (on_ok_weaker c.enter.result (λ member.
     entered-cited (set cs p list) c.args.places.now c.args.entries.now w p c.args.place c.requires.indexed c.in-Some.ensures
     (record { list = list; at = get-set_same cs p list within; member = member })) c.enter.ensures.entered)

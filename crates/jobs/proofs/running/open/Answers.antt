@@ -11,7 +11,7 @@ pub unreachable-requires-in-Err-TooMany : goal.unreachable-requires-in-Err-TooMa
 unreachable-requires-in-Err-TooMany c =
     let db = c.args.db.now in
     let few : length db.assertions ≤ 4096 = (declarable db c.assertions-assertions.ensures.sound).few in
-    let refused : Refuses db (shape_with c.args.size.workers c.args.size.room) TooMany = subst (λ s. Refuses db s TooMany) c.shape.ensures
+    let refused : Refuses db (shape_with c.args.plan.workers c.args.plan.room) TooMany = subst (λ s. Refuses db s TooMany) c.shape.ensures
     (subst (Refuses db c.shape.result) c.in-Err-TooMany.field-0-is c.in-Err-TooMany.ensures) in
     let many : 4096 < length db.assertions = refused.1 in
     omega arith

@@ -1,5 +1,7 @@
-use Rattle.std.proofs.Common.{◌≡◌, ◌∙◌, ◌≤◌, ◌++◌, length, sym, ap, subst, arith}
-use Rattle.std.specs.Prelude.{All}
+use Rattle.std.proofs.Common.{◌≡◌, ◌∙◌, ◌≤◌, ◌++◌, ℕ, List, [], length, sym, ap, subst, arith}
+use Rattle.std.specs.Prelude.{All, if◌then◌else◌}
+use Rattle.mmsyntax.specs.Tables.{Tables}
+use Rattle.library.specs.declared.history.Entry.{Entry}
 use Rattle.library.specs.Library.{opening}
 use Rattle.historytext.specs.Grammar.{highest_count, SpellsHistory}
 use Rattle.historytext.specs.Layout.{EntryFits, history_text}
@@ -22,8 +24,8 @@ report_run-requires c =
     (printable c.args.db.now c.requires.worked.0 c.requires.worked.1 c.args.scripts.now rows e.history e.library
     c.assertions-assertions.ensures.sound c.requires.checks c.requires.fit c.requires.worked.2)
 
-pub write_history-requires : goal.write_history-requires
-write_history-requires c =
+pub history_where-requires : goal.history_where-requires
+history_where-requires c =
     let db = c.args.db.now in
     let w = c.requires.worked.2 in
     let stands = opening_stands db c.assertions-assertions.ensures.sound c.requires.checks in
@@ -37,9 +39,10 @@ returns c = λ workers room w.
     let e = c.args.edited.now in
     let sound = c.assertions-assertions.ensures.sound in
     let rows = lists_of e.outcomes.items in
-    let kept : c.in_ok-write_history.field-0.items ≡ history_text db.prelude e.history =
-    c.in_ok-write_history.ensures ∙ ap (λ p. history_text p c.as_slice-2.result.now) c.prelude-2.ensures
-    ∙ ap (history_text db.prelude) c.as_slice-2.ensures in
+    let text : Tables → List Entry → List ℕ = λ p es. if c.args.asked then history_text p es else [] in
+    let kept : c.in_ok-history_where.field-0.items ≡ text db.prelude e.history =
+    c.in_ok-history_where.ensures ∙ ap (λ p. text p c.as_slice-2.result.now) c.prelude-2.ensures
+    ∙ ap (text db.prelude) c.as_slice-2.ensures in
     let counted = c.count_of-count.ensures in
     let few : length e.history ≤ highest_count = omega (arith, counted.value, counted.small, ap length c.as_slice.ensures) in
     let spelled =
@@ -53,5 +56,5 @@ returns c = λ workers room w.
       prints = c.in_ok-report_run.ensures ∙ ap (λ p. report_text p rows ++ library_lines e.library) c.prelude.ensures;
       accepted = exported_accepted e.library c.entries-entries.ensures.verifies c.entries-entries.ensures.ordered;
       kept = kept;
-      spelled = subst (λ text. SpellsHistory db.prelude text e.history) (sym kept) spelled;
+      spelled = λ yes. subst (λ bytes. SpellsHistory db.prelude bytes e.history) (sym (kept ∙ ap (λ b. if b then history_text db.prelude e.history else []) yes)) spelled;
     }

@@ -8,29 +8,29 @@ use Rattle.mmtext.proofs.Turns.{skipped, read_on, turn_stops, row_stops}
 use Rattle.mmreader.proofs.Runs.{row_at}
 use Rattle.mmreader.proofs.reading.advance.Goals as goal
 
-pub returns-in-Skipped : goal.returns-in-Skipped
-returns-in-Skipped c =
+pub returns-in-Skipped-clause-leads : goal.returns-in-Skipped-clause-leads
+returns-in-Skipped-clause-leads c =
     skipped database_language (seen_state c.args.symbols.now c.args.units.now c.args.state) (seen c.args.token) _ _ _
     c.mark_word-mark.ensures
     c.in_ok-in_comment.ensures c.in-Skipped.is
 
-pub returns-in_ok-next_place-in-Read : goal.returns-in_ok-next_place-in-Read
-returns-in_ok-next_place-in-Read c =
+pub returns-in_ok-next_place-in-Read-clause-leads : goal.returns-in_ok-next_place-in-Read-clause-leads
+returns-in_ok-next_place-in-Read-clause-leads c =
     let here = seen_position c.args.symbols.now c.args.units.now c.args.state.place in
     read_on database_language (seen_state c.args.symbols.now c.args.units.now c.args.state) (seen c.args.token) _ _ _
     c.mark_word-mark.ensures
     c.in_ok-in_comment.ensures c.in-Read.is
-    (row_at here (seen c.args.token) _ c.mark_word-mark.ensures ∙ c.in_ok-next_place-in-Read.ensures)
+    (row_at here (seen c.args.token) _ c.mark_word-mark.ensures ∙ c.in_ok-next_place-in-Read.ensures.leads)
 
-pub returns-in_err-in_comment : goal.returns-in_err-in_comment
-returns-in_err-in_comment c =
+pub returns-in_err-in_comment-clause-leads : goal.returns-in_err-in_comment-clause-leads
+returns-in_err-in_comment-clause-leads c =
     let p = err_from_is_err_and c.from_residual.result c.from_residual.ensures.1 in
     rw (p.1, p.2) (
     turn_stops database_language (seen_state c.args.symbols.now c.args.units.now c.args.state) (seen c.args.token) _
     c.in_err-in_comment.field-0.0 c.mark_word-mark.ensures c.in_err-in_comment.ensures)
 
-pub returns-in_err-next_place-in-Read : goal.returns-in_err-next_place-in-Read
-returns-in_err-next_place-in-Read c =
+pub returns-in_err-next_place-in-Read-clause-leads : goal.returns-in_err-next_place-in-Read-clause-leads
+returns-in_err-next_place-in-Read-clause-leads c =
     let here = seen_position c.args.symbols.now c.args.units.now c.args.state.place in
     let r = c.from_residual-in_err-next_place-in-Read in
     let p = err_from_is_err_and r.result r.ensures.1 in
@@ -38,4 +38,4 @@ returns-in_err-next_place-in-Read c =
     rw (p.1, p.2) (
     row_stops database_language (seen_state c.args.symbols.now c.args.units.now c.args.state) (seen c.args.token) _ _ why
     c.mark_word-mark.ensures c.in_ok-in_comment.ensures c.in-Read.is
-    (subst (Fails why) (sym (row_at here (seen c.args.token) _ c.mark_word-mark.ensures)) c.in_err-next_place-in-Read.ensures))
+    (subst (Fails why) (sym (row_at here (seen c.args.token) _ c.mark_word-mark.ensures)) c.in_err-next_place-in-Read.ensures.leads))

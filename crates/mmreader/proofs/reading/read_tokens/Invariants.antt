@@ -4,6 +4,7 @@ use Rattle.mmtext.specs.Text.{tokens, tokens_from}
 use Rattle.mmtext.specs.Languages.{run, start_of}
 use Rattle.mmsyntax.specs.Faults.{database_language}
 use Rattle.mmreader.specs.Standing.{Stands}
+use Rattle.mmreader.specs.Recalls.{Knows}
 use Rattle.mmreader.specs.Views.{seen_place, seen_state, known_of}
 use Rattle.mmreader.proofs.reading.read_tokens.Given as goal
 
@@ -12,6 +13,7 @@ abbrev pub invariant-loop-token : goal.invariant-loop-token
 invariant-loop-token l = record {
   within : l.at ≤ length l.text;
   stands : Stands (known_of l.symbols l.units) (seen_place l.state.place);
+  knows : Knows l.symbols l.recent;
   same : run database_language (seen_state l.symbols l.units l.state) (tokens_from l.at (drop l.at l.text))
       ≡ run database_language (start_of database_language) (tokens l.text);
 }

@@ -11,7 +11,7 @@ returns-in-Err-clause-fault g c = λ n.
     let steps = c.as_slice-steps.ensures in
     let at = slice_get_read c.as_slice-steps.result.now _ c.loop-done.done c.index-steps-done.result refl c.loop-done-test.true
     c.index-steps-done.is in
-    step-fault lib c.args.prelude.now c.args.assertion.now c.loop-done.done c.loop-done.stack.items c.index-steps-done.result
+    step-fault lib c.args.prelude.now c.args.assertion.now c.loop-done.done c.loop-done.stack c.index-steps-done.result
     (record { step = c.loop-done.done + 1; kind = c.in-Err.kind })
     (rw steps at c.loop-done.invariant) (rw steps at at) refl (rw c.new-thesis.ensures at (c.in-Err.ensures.err n))
 
@@ -22,21 +22,21 @@ loop-done-preserved g c =
     let more = take_more xs c.loop-done.done c.index-steps-done.result c.loop-done-test.true in
     let front : take (c.loop-done.done + 1) xs ≡ take c.loop-done.done xs ++ c.index-steps-done.result ∷ [] =
     more ∙ ap (λ x. take c.loop-done.done xs ++ x ∷ []) (sym c.index-steps-done.is) in
-    rw front (Runs-more lib c.args.prelude.now c.args.assertion.now _ (c.index-steps-done.result ∷ []) [] c.loop-done.stack.items
-    c.take_step.new.stack.items
-    c.loop-done.invariant (c.take_step.new.stack.items, rw c.new-thesis.ensures at c.in-Ok.ensures.ok, refl))
+    rw front (Runs-more lib c.args.prelude.now c.args.assertion.now _ (c.index-steps-done.result ∷ []) [] c.loop-done.stack
+    c.take_step.new.stack
+    c.loop-done.invariant (c.take_step.new.stack, rw c.new-thesis.ensures at c.in-Ok.ensures.ok, refl))
 
 pub returns-in-Ok-check_end-clause-yes : goal.returns-in-Ok-check_end-clause-yes
 returns-in-Ok-check_end-clause-yes g c =
     let whole = take_all c.loop-done.done c.as_slice-steps.result.now c.loop-done-test.false in
-    let left = sym c.as_slice.ensures.value ∙ c.in-Ok-check_end.ensures.yes in
+    let left = c.in-Ok-check_end.ensures.yes in
     proved (g.F.Frames.frames c.args.frames.now) c.args.prelude.now c.args.assertion.now c.args.assertion.now.statement
     (rw (whole, c.as_slice-steps.ensures, left) at c.loop-done.invariant)
 
 pub returns-clause-fault : goal.returns-clause-fault
 returns-clause-fault g c = λ n.
     let whole = take_all c.loop-done.done c.as_slice-steps.result.now c.loop-done-test.false in
-    end-fault (g.F.Frames.frames c.args.frames.now) c.args.prelude.now c.args.assertion.now c.loop-done.stack.items
+    end-fault (g.F.Frames.frames c.args.frames.now) c.args.prelude.now c.args.assertion.now c.loop-done.stack
     (record { step = length c.as_slice-steps.result.now; kind = c.in-Err-check_end.kind })
     (rw (whole, c.as_slice-steps.ensures) at c.loop-done.invariant) (ap length c.as_slice-steps.ensures)
-    (rw c.as_slice.ensures.value at c.in-Err-check_end.ensures.fault)
+    c.in-Err-check_end.ensures.fault

@@ -1,20 +1,18 @@
 use Rattle.std.proofs.Common.{◌≡◌, List, ℕ, refl}
 use Rattle.std.proofs.lemmas.Option.{slice_get_read}
 use Rattle.std.proofs.lemmas.Result.{on_ok_weaker, IfErr-weaker}
-use Rattle.std.specs.HashMap.{get_by}
-use Rattle.std.specs.Str.{bytes_eq}
 use Rattle.proofcheck.specs.Derivation.{Citable}
 use Rattle.proofcheck.specs.Databases.{citable_at}
-use Rattle.proofcheck.specs.Reports.{frame_below}
+use Rattle.proofcheck.specs.Reports.{frame_below, place_from}
 use Rattle.proofcheck.proofs.Places.{below-cited, checks-at, fault-at}
 use Rattle.proofcheck.proofs.databases.check_at.Goals as goal
 
 pub returns-clause-yes : goal.returns-clause-yes
 returns-clause-yes c =
     let db = c.args.db.now in
-    let lib : Citable = λ label. frame_below c.args.frames.now c.args.i (get_by (λ k. bytes_eq label k.items) c.args.places.now) in
+    let lib : Citable = λ label. frame_below c.args.frames.now c.args.i (place_from 0 label c.args.places.now) in
     let each : (label : List ℕ) → lib label ≡ citable_at db c.args.i label =
-    λ label. rw (c.requires.frames, c.requires.places label) (below-cited db.prelude db.assertions c.args.i label) in
+    λ label. rw (c.requires.frames, c.requires.places) (below-cited db.prelude db.assertions c.args.i label) in
     let same : lib ≡ citable_at db c.args.i = λ t. λ label. each label t in
     let at = rw c.assertions.ensures.value at
     (slice_get_read c.assertions.result.now _ c.args.i c.index-assertions-i.result refl
@@ -25,9 +23,9 @@ returns-clause-yes c =
 pub returns-clause-fault : goal.returns-clause-fault
 returns-clause-fault c =
     let db = c.args.db.now in
-    let lib : Citable = λ label. frame_below c.args.frames.now c.args.i (get_by (λ k. bytes_eq label k.items) c.args.places.now) in
+    let lib : Citable = λ label. frame_below c.args.frames.now c.args.i (place_from 0 label c.args.places.now) in
     let each : (label : List ℕ) → lib label ≡ citable_at db c.args.i label =
-    λ label. rw (c.requires.frames, c.requires.places label) (below-cited db.prelude db.assertions c.args.i label) in
+    λ label. rw (c.requires.frames, c.requires.places) (below-cited db.prelude db.assertions c.args.i label) in
     let same : lib ≡ citable_at db c.args.i = λ t. λ label. each label t in
     let at = rw c.assertions.ensures.value at
     (slice_get_read c.assertions.result.now _ c.args.i c.index-assertions-i.result refl

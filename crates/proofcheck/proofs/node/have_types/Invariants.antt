@@ -3,4 +3,4 @@ use Rattle.proofcheck.specs.Derivation.{HaveTypes}
 use Rattle.proofcheck.proofs.node.have_types.Given as goal
 
 abbrev pub invariant-loop-i : goal.invariant-loop-i
-invariant-loop-i l = HaveTypes l.prelude (drop l.i l.floats) (drop l.i l.entries) ↔ HaveTypes l.prelude l.floats l.entries
+invariant-loop-i l = HaveTypes l.prelude (drop l.i l.floats) (drop l.i l.args) ↔ HaveTypes l.prelude l.floats l.args

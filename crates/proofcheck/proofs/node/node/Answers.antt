@@ -6,7 +6,7 @@ use Rattle.proofcheck.proofs.node.node.Goals as goal
 pub returns-then-not-branch-clause-err : goal.returns-then-not-branch-clause-err
 returns-then-not-branch-clause-err c = λ _.
     let types = rw c.as_slice-floats.ensures at (c.have_types.ensures.0 c.if-not-have_types.false) in
-    let hyps = rw (c.new-substitution.ensures, c.as_slice.ensures, c.split_at.ensures.back, c.as_slice-floats.ensures) at
+    let hyps = rw (c.new-substitution.ensures, c.as_slice.ensures, c.behind-logical.ensures, c.as_slice-floats.ensures) at
     (c.are_substituted.ensures.0 c.if-not-are_substituted.false) in
     let pairs = rw (c.new-substitution.ensures, c.as_slice-floats.ensures, c.as_slice-2.ensures) at c.in_ok-pairs_fit.ensures in
     (types, hyps, λ h. let both = sym c.if-not-branch.true ∙ pairs.1 h in cc)
@@ -14,7 +14,7 @@ returns-then-not-branch-clause-err c = λ _.
 pub returns-clause-ok : goal.returns-clause-ok
 returns-clause-ok c =
     let types = rw c.as_slice-floats.ensures at (c.have_types.ensures.0 c.if-not-have_types.false) in
-    let hyps = rw (c.new-substitution.ensures, c.as_slice.ensures, c.split_at.ensures.back, c.as_slice-floats.ensures) at
+    let hyps = rw (c.new-substitution.ensures, c.as_slice.ensures, c.behind-logical.ensures, c.as_slice-floats.ensures) at
     (c.are_substituted.ensures.0 c.if-not-are_substituted.false) in
     let pairs = rw (c.new-substitution.ensures, c.as_slice-floats.ensures, c.as_slice-2.ensures) at
     (c.in_ok-pairs_fit.ensures.0 c.if-not-branch.false) in
@@ -30,7 +30,7 @@ returns-clause-ok c =
 pub returns-clause-err : goal.returns-clause-err
 returns-clause-err c =
     let types = rw c.as_slice-floats.ensures at (c.have_types.ensures.0 c.if-not-have_types.false) in
-    let hyps = rw (c.new-substitution.ensures, c.as_slice.ensures, c.split_at.ensures.back, c.as_slice-floats.ensures) at
+    let hyps = rw (c.new-substitution.ensures, c.as_slice.ensures, c.behind-logical.ensures, c.as_slice-floats.ensures) at
     (c.are_substituted.ensures.0 c.if-not-are_substituted.false) in
     let pairs = rw (c.new-substitution.ensures, c.as_slice-floats.ensures, c.as_slice-2.ensures) at
     (c.in_ok-pairs_fit.ensures.0 c.if-not-branch.false) in

@@ -1,4 +1,4 @@
-use Rattle.std.proofs.Common.{◌∙◌, sym, subst, arith}
+use Rattle.std.proofs.Common.{◌∙◌, true, sym, subst, arith}
 use Rattle.jobs.specs.Jobs.{IsRun}
 use Rattle.rows.proofs.Replayed.{library_again, ends_again}
 use Rattle.rows.proofs.runs.Runs.library_after.Goals as goal
@@ -29,6 +29,6 @@ returns g c = λ scripts workers room run present.
     absurd
     (present
     (c.in-Err.ensures.own scripts workers room c.args.printed.out.items
-    (subst (λ d. IsRun d scripts workers room c.args.printed.out.items c.args.printed.history.items)
+    (subst (λ d. IsRun d scripts workers room true c.args.printed.out.items c.args.printed.history.items)
     (sym (c.in_ok-db.ensures.items ∙ c.as_slice.ensures.value)) run)
     (omega (arith, c.if-len-gt-LONGEST.false, c.len.ensures))))

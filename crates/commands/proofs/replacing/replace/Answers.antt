@@ -1,0 +1,243 @@
+use Rattle.std.proofs.Common.{◌≡◌, ◌≢◌, true, false, [], length, map, rules, arith, sym, ap, subst, ◌∙◌}
+use Rattle.std.specs.Vec.{vec_len}
+use Rattle.std.proofs.lemmas.Bool.Decides.{Decides-eqb}
+use Rattle.std.proofs.lemmas.List.{nil_from_length, with_items_is}
+use Rattle.library.specs.declared.command.Command.TheVariants.{Replace}
+use Rattle.library.specs.declared.reason.Reason.TheVariants.{UnknownLabel, NotATheorem, NotAlike, CitedNotLower}
+use Rattle.cells.specs.Lookups.{AreWithin}
+use Rattle.cells.proofs.Laying.{ok_mapped}
+use Rattle.cells.proofs.Sights.{looks_trans, onward_trans}
+use Rattle.commands.specs.Changes.{ReprovesAt}
+use Rattle.commands.specs.Replacing.{TellsAlike, TellsNotLower, recited_step}
+use Rattle.commands.proofs.OnlyLooks.{finds_later}
+use Rattle.commands.proofs.Recited.{recited_within}
+use Rattle.commands.proofs.Refusing.{of_none, refused_later, answers_refused}
+use Rattle.commands.proofs.Replaced.{answers_unknown, refuses_old, refuses_new, sought, sought_later, alike_later}
+use Rattle.commands.proofs.Replaced.{refuses_axiom, refuses_unlike, refuses_not_lower, replaced}
+use Rattle.commands.proofs.replacing.replace.Goals as goal
+
+pub returns-in_err-slot-clause-answers : goal.returns-in_err-slot-clause-answers
+returns-in_err-slot-clause-answers g c =
+    let s0 = g.C.Cells.sight c.args.cells.now in
+    let s1 = g.C.Cells.sight c.slot_of.new.cells in
+    let label = c.args.label.now in
+    let command = Replace c.args.label.now c.args.old.now c.args.new.now in
+    answers_unknown s0 s1 command label c.from_residual.result c.in_err-slot.field-0.0 c.from_residual.ensures.1 c.in_err-slot.ensures.err
+    (λ none. refused_later s0 s1 command UnknownLabel c.slot_of.ensures.looks (λ st lib v. of_none lib label _ (none st lib v)))
+
+pub returns-in_err-former-clause-onward : goal.returns-in_err-former-clause-onward
+returns-in_err-former-clause-onward g c = onward_trans _ _ _ c.slot_of.ensures.looks.onward c.slot_of-2.ensures.looks.onward
+
+pub returns-in_err-former-clause-answers : goal.returns-in_err-former-clause-answers
+returns-in_err-former-clause-answers g c =
+    let s0 = g.C.Cells.sight c.args.cells.now in
+    let s1 = g.C.Cells.sight c.slot_of.new.cells in
+    let s2 = g.C.Cells.sight c.slot_of-2.new.cells in
+    let label = c.args.label.now in
+    let old = c.args.old.now in
+    let new = c.args.new.now in
+    let command = Replace c.args.label.now c.args.old.now c.args.new.now in
+    let finds = finds_later s1 s2 label c.in_ok-slot.slot c.slot_of-2.ensures.looks c.in_ok-slot.ensures.ok in
+    answers_unknown s0 s2 command old c.from_residual-in_err-former.result c.in_err-former.field-0.0 c.from_residual-in_err-former.ensures.1
+    c.in_err-former.ensures.err (λ none.
+    refused_later s0 s2 command UnknownLabel (looks_trans s0 s1 s2 c.slot_of.ensures.looks c.slot_of-2.ensures.looks)
+    (refuses_old s2 c.in_ok-slot.slot label old new finds none))
+
+pub returns-in_err-next-clause-onward : goal.returns-in_err-next-clause-onward
+returns-in_err-next-clause-onward g c =
+    onward_trans _ _ _ c.slot_of.ensures.looks.onward (onward_trans _ _ _ c.slot_of-2.ensures.looks.onward c.slot_of-3.ensures.looks.onward)
+
+pub returns-in_err-next-clause-answers : goal.returns-in_err-next-clause-answers
+returns-in_err-next-clause-answers g c =
+    let s0 = g.C.Cells.sight c.args.cells.now in
+    let s1 = g.C.Cells.sight c.slot_of.new.cells in
+    let s2 = g.C.Cells.sight c.slot_of-2.new.cells in
+    let s3 = g.C.Cells.sight c.slot_of-3.new.cells in
+    let label = c.args.label.now in
+    let old = c.args.old.now in
+    let new = c.args.new.now in
+    let command = Replace c.args.label.now c.args.old.now c.args.new.now in
+    let since = looks_trans s1 s2 s3 c.slot_of-2.ensures.looks c.slot_of-3.ensures.looks in
+    let finds = finds_later s1 s3 label c.in_ok-slot.slot since c.in_ok-slot.ensures.ok in
+    let finds_old = finds_later s2 s3 old c.in_ok-former.former c.slot_of-3.ensures.looks c.in_ok-former.ensures.ok in
+    answers_unknown s0 s3 command new c.from_residual-in_err-next.result c.in_err-next.field-0.0 c.from_residual-in_err-next.ensures.1
+    c.in_err-next.ensures.err (λ none.
+    refused_later s0 s3 command UnknownLabel (looks_trans s0 s1 s3 c.slot_of.ensures.looks since)
+    (refuses_new s3 c.in_ok-slot.slot label old new finds c.in_ok-former.former finds_old none))
+
+pub returns-in_err-kept-clause-onward : goal.returns-in_err-kept-clause-onward
+returns-in_err-kept-clause-onward g c =
+    onward_trans _ _ _ c.slot_of.ensures.looks.onward (onward_trans _ _ _ c.slot_of-2.ensures.looks.onward
+    (onward_trans _ _ _ c.slot_of-3.ensures.looks.onward c.stored_proof.ensures.looks.onward))
+
+pub returns-then-is_empty-clause-onward : goal.returns-then-is_empty-clause-onward
+returns-then-is_empty-clause-onward g c =
+    onward_trans _ _ _ c.slot_of.ensures.looks.onward (onward_trans _ _ _ c.slot_of-2.ensures.looks.onward
+    (onward_trans _ _ _ c.slot_of-3.ensures.looks.onward c.stored_proof.ensures.looks.onward))
+
+pub returns-then-is_empty-clause-answers : goal.returns-then-is_empty-clause-answers
+returns-then-is_empty-clause-answers g c =
+    let s0 = g.C.Cells.sight c.args.cells.now in
+    let s1 = g.C.Cells.sight c.slot_of.new.cells in
+    let s2 = g.C.Cells.sight c.slot_of-2.new.cells in
+    let s3 = g.C.Cells.sight c.slot_of-3.new.cells in
+    let s4 = g.C.Cells.sight c.stored_proof.new.cells in
+    let i = c.in_ok-slot.slot in
+    let j = c.in_ok-former.former in
+    let k = c.in_ok-next.next in
+    let label = c.args.label.now in
+    let old = c.args.old.now in
+    let new = c.args.new.now in
+    let kept = c.in_ok-kept.kept.items in
+    let known = sought i j k label old new kept s0 s1 s2 s3 s4 c.slot_of.ensures.looks c.slot_of-2.ensures.looks c.slot_of-3.ensures.looks
+    c.stored_proof.ensures.looks c.in_ok-slot.ensures.ok c.in_ok-former.ensures.ok c.in_ok-next.ensures.ok c.in_ok-kept.ensures.ok in
+    let zero = (Decides-eqb (vec_len c.in_ok-kept.kept) 0).0 (sym c.is_empty.ensures ∙ c.if-is_empty.true) in
+    let short : length c.in_ok-kept.kept.items ≡ 0 = omega (arith, zero) in
+    let none = nil_from_length c.in_ok-kept.kept.items short in
+    answers_refused s0 s4 (Replace label old new) NotATheorem c.into.result c.into.ensures
+    (refuses_axiom s0 s4 i j k label old new kept known none)
+
+pub returns-in_err-are_alike-clause-onward : goal.returns-in_err-are_alike-clause-onward
+returns-in_err-are_alike-clause-onward g c =
+    onward_trans _ _ _ c.slot_of.ensures.looks.onward (onward_trans _ _ _ c.slot_of-2.ensures.looks.onward
+    (onward_trans _ _ _ c.slot_of-3.ensures.looks.onward
+    (onward_trans _ _ _ c.stored_proof.ensures.looks.onward c.are_alike.ensures.looks.onward)))
+
+pub returns-then-not-branch-clause-onward : goal.returns-then-not-branch-clause-onward
+returns-then-not-branch-clause-onward g c =
+    onward_trans _ _ _ c.slot_of.ensures.looks.onward (onward_trans _ _ _ c.slot_of-2.ensures.looks.onward
+    (onward_trans _ _ _ c.slot_of-3.ensures.looks.onward
+    (onward_trans _ _ _ c.stored_proof.ensures.looks.onward c.are_alike.ensures.looks.onward)))
+
+pub returns-then-not-branch-clause-answers : goal.returns-then-not-branch-clause-answers
+returns-then-not-branch-clause-answers g c =
+    let s0 = g.C.Cells.sight c.args.cells.now in
+    let s1 = g.C.Cells.sight c.slot_of.new.cells in
+    let s2 = g.C.Cells.sight c.slot_of-2.new.cells in
+    let s3 = g.C.Cells.sight c.slot_of-3.new.cells in
+    let s4 = g.C.Cells.sight c.stored_proof.new.cells in
+    let s5 = g.C.Cells.sight c.are_alike.new.cells in
+    let i = c.in_ok-slot.slot in
+    let j = c.in_ok-former.former in
+    let k = c.in_ok-next.next in
+    let label = c.args.label.now in
+    let old = c.args.old.now in
+    let new = c.args.new.now in
+    let p = c.args.prelude.now in
+    let kept = c.in_ok-kept.kept.items in
+    let known = sought i j k label old new kept s0 s1 s2 s3 s4 c.slot_of.ensures.looks c.slot_of-2.ensures.looks c.slot_of-3.ensures.looks
+    c.stored_proof.ensures.looks c.in_ok-slot.ensures.ok c.in_ok-former.ensures.ok c.in_ok-next.ensures.ok c.in_ok-kept.ensures.ok in
+    let there = sought_later i j k label old new kept s0 s4 s5 c.are_alike.ensures.looks known in
+    let some : c.in_ok-kept.kept.items ≢ [] = search rules in
+    let unlike : TellsAlike s5 p j k false = subst (TellsAlike s5 p j k) c.if-not-branch.true c.in_ok-are_alike.ensures.ok in
+    answers_refused s0 s5 (Replace label old new) NotAlike c.into-then-not-branch.result c.into-then-not-branch.ensures
+    (refuses_unlike s0 s5 i j k label old new kept there some p c.requires.prelude unlike)
+
+pub returns-in_err-map_err-clause-onward : goal.returns-in_err-map_err-clause-onward
+returns-in_err-map_err-clause-onward g c =
+    onward_trans _ _ _ c.slot_of.ensures.looks.onward (onward_trans _ _ _ c.slot_of-2.ensures.looks.onward
+    (onward_trans _ _ _ c.slot_of-3.ensures.looks.onward (onward_trans _ _ _ c.stored_proof.ensures.looks.onward
+    (onward_trans _ _ _ c.are_alike.ensures.looks.onward c.is_not_lower.ensures.looks.onward))))
+
+pub returns-then-branch-clause-onward : goal.returns-then-branch-clause-onward
+returns-then-branch-clause-onward g c =
+    onward_trans _ _ _ c.slot_of.ensures.looks.onward (onward_trans _ _ _ c.slot_of-2.ensures.looks.onward
+    (onward_trans _ _ _ c.slot_of-3.ensures.looks.onward (onward_trans _ _ _ c.stored_proof.ensures.looks.onward
+    (onward_trans _ _ _ c.are_alike.ensures.looks.onward c.is_not_lower.ensures.looks.onward))))
+
+pub returns-then-branch-clause-answers : goal.returns-then-branch-clause-answers
+returns-then-branch-clause-answers g c =
+    let s0 = g.C.Cells.sight c.args.cells.now in
+    let s1 = g.C.Cells.sight c.slot_of.new.cells in
+    let s2 = g.C.Cells.sight c.slot_of-2.new.cells in
+    let s3 = g.C.Cells.sight c.slot_of-3.new.cells in
+    let s4 = g.C.Cells.sight c.stored_proof.new.cells in
+    let s5 = g.C.Cells.sight c.are_alike.new.cells in
+    let s6 = g.C.Cells.sight c.is_not_lower.new.cells in
+    let i = c.in_ok-slot.slot in
+    let j = c.in_ok-former.former in
+    let k = c.in_ok-next.next in
+    let label = c.args.label.now in
+    let old = c.args.old.now in
+    let new = c.args.new.now in
+    let p = c.args.prelude.now in
+    let kept = c.in_ok-kept.kept.items in
+    let known = sought i j k label old new kept s0 s1 s2 s3 s4 c.slot_of.ensures.looks c.slot_of-2.ensures.looks c.slot_of-3.ensures.looks
+    c.stored_proof.ensures.looks c.in_ok-slot.ensures.ok c.in_ok-former.ensures.ok c.in_ok-next.ensures.ok c.in_ok-kept.ensures.ok in
+    let since = looks_trans s4 s5 s6 c.are_alike.ensures.looks c.is_not_lower.ensures.looks in
+    let there = sought_later i j k label old new kept s0 s4 s6 since known in
+    let some : c.in_ok-kept.kept.items ≢ [] = search rules in
+    let like = alike_later s5 s6 p j k true c.is_not_lower.ensures.looks
+    (subst (TellsAlike s5 p j k) c.if-not-branch.false c.in_ok-are_alike.ensures.ok) in
+    let told : TellsNotLower s6 c.in_ok-slot.slot c.in_ok-next.next c.in_ok-map_err.field-0 =
+    ok_mapped _ _ _ _ _ c.in_ok-map_err.was c.map_err.ensures.cases c.is_not_lower.ensures.ok in
+    answers_refused s0 s6 (Replace label old new) CitedNotLower c.into-then-branch.result c.into-then-branch.ensures
+    (refuses_not_lower s0 s6 i j k label old new kept there some p c.requires.prelude like
+    (subst (TellsNotLower s6 i k) c.if-branch.true told))
+
+pub put_steps-requires-clause-within : goal.put_steps-requires-clause-within
+put_steps-requires-clause-within g c =
+    let s3 = g.C.Cells.sight c.slot_of-3.new.cells in
+    let s4 = g.C.Cells.sight c.stored_proof.new.cells in
+    let s5 = g.C.Cells.sight c.are_alike.new.cells in
+    let s6 = g.C.Cells.sight c.is_not_lower.new.cells in
+    let j = c.in_ok-former.former in
+    let k = c.in_ok-next.next in
+    let kept = c.in_ok-kept.kept.items in
+    let slots = s6.setting.slots in
+    let written = c.as_slice.ensures.value
+    ∙ with_items_is c.in_ok-kept.kept c.recite.new.steps (c.recite.auto.steps ∙ c.as_mut_slice.ensures.len) in
+    let is = written ∙ c.recite.ensures ∙ ap (map (recited_step c.slot_count.result j k)) c.as_mut_slice.ensures.value
+    ∙ ap (λ n. map (recited_step n j k) c.in_ok-kept.kept.items) c.slot_count.ensures.value in
+    let since = looks_trans s3 s4 s6 c.stored_proof.ensures.looks
+    (looks_trans s4 s5 s6 c.are_alike.ensures.looks c.is_not_lower.ensures.looks) in
+    let finds = finds_later s3 s6 c.args.new.now k since c.in_ok-next.ensures.ok in
+    subst (AreWithin s6.setting.slots) (sym is) (recited_within slots j k kept finds.0)
+
+pub returns-in_err-put_steps-clause-onward : goal.returns-in_err-put_steps-clause-onward
+returns-in_err-put_steps-clause-onward g c =
+    onward_trans _ _ _ c.slot_of.ensures.looks.onward (onward_trans _ _ _ c.slot_of-2.ensures.looks.onward
+    (onward_trans _ _ _ c.slot_of-3.ensures.looks.onward (onward_trans _ _ _ c.stored_proof.ensures.looks.onward
+    (onward_trans _ _ _ c.are_alike.ensures.looks.onward
+    (onward_trans _ _ _ c.is_not_lower.ensures.looks.onward c.put_steps.ensures.onward)))))
+
+pub returns-clause-onward : goal.returns-clause-onward
+returns-clause-onward g c =
+    onward_trans _ _ _ c.slot_of.ensures.looks.onward (onward_trans _ _ _ c.slot_of-2.ensures.looks.onward
+    (onward_trans _ _ _ c.slot_of-3.ensures.looks.onward (onward_trans _ _ _ c.stored_proof.ensures.looks.onward
+    (onward_trans _ _ _ c.are_alike.ensures.looks.onward
+    (onward_trans _ _ _ c.is_not_lower.ensures.looks.onward c.put_steps.ensures.onward)))))
+
+pub returns-clause-answers : goal.returns-clause-answers
+returns-clause-answers g c =
+    let s0 = g.C.Cells.sight c.args.cells.now in
+    let s1 = g.C.Cells.sight c.slot_of.new.cells in
+    let s2 = g.C.Cells.sight c.slot_of-2.new.cells in
+    let s3 = g.C.Cells.sight c.slot_of-3.new.cells in
+    let s4 = g.C.Cells.sight c.stored_proof.new.cells in
+    let s5 = g.C.Cells.sight c.are_alike.new.cells in
+    let s6 = g.C.Cells.sight c.is_not_lower.new.cells in
+    let s7 = g.C.Cells.sight c.put_steps.new.cells in
+    let i = c.in_ok-slot.slot in
+    let j = c.in_ok-former.former in
+    let k = c.in_ok-next.next in
+    let label = c.args.label.now in
+    let old = c.args.old.now in
+    let new = c.args.new.now in
+    let p = c.args.prelude.now in
+    let kept = c.in_ok-kept.kept.items in
+    let known = sought i j k label old new kept s0 s1 s2 s3 s4 c.slot_of.ensures.looks c.slot_of-2.ensures.looks c.slot_of-3.ensures.looks
+    c.stored_proof.ensures.looks c.in_ok-slot.ensures.ok c.in_ok-former.ensures.ok c.in_ok-next.ensures.ok c.in_ok-kept.ensures.ok in
+    let since = looks_trans s4 s5 s6 c.are_alike.ensures.looks c.is_not_lower.ensures.looks in
+    let there = sought_later i j k label old new kept s0 s4 s6 since known in
+    let some : c.in_ok-kept.kept.items ≢ [] = search rules in
+    let like = alike_later s5 s6 p j k true c.is_not_lower.ensures.looks
+    (subst (TellsAlike s5 p j k) c.if-not-branch.false c.in_ok-are_alike.ensures.ok) in
+    let told : TellsNotLower s6 c.in_ok-slot.slot c.in_ok-next.next c.in_ok-map_err.field-0 =
+    ok_mapped _ _ _ _ _ c.in_ok-map_err.was c.map_err.ensures.cases c.is_not_lower.ensures.ok in
+    let written = c.as_slice.ensures.value
+    ∙ with_items_is c.in_ok-kept.kept c.recite.new.steps (c.recite.auto.steps ∙ c.as_mut_slice.ensures.len) in
+    let is = written ∙ c.recite.ensures ∙ ap (map (recited_step c.slot_count.result j k)) c.as_mut_slice.ensures.value
+    ∙ ap (λ n. map (recited_step n j k) c.in_ok-kept.kept.items) c.slot_count.ensures.value in
+    replaced s0 s6 i j k label old new kept there some p c.requires.prelude like (subst (TellsNotLower s6 i k) c.if-branch.false told) s7
+    c.put_steps.ensures.onward (subst (ReprovesAt s6 s7 i label) is (c.in_ok-put_steps.ensures.ok label)) c.in_ok-put_steps.ensures.written

@@ -1,0 +1,15 @@
+use Rattle.std.proofs.Common.{ℕ, List, None, refl, sym, subst}
+use Rattle.cells.specs.Lookups.{Finds}
+use Rattle.cells.proofs.Laying.{ok_mapped}
+use Rattle.commands.specs.Replacing.{TellsUnknown}
+use Rattle.commands.proofs.replacing.slot_of.Goals as goal
+
+pub returns-in_default-clause-err : goal.returns-in_default-clause-err
+returns-in_default-clause-err g c =
+    let s = g.C.Cells.sight c.find.new.cells in
+    let label = c.args.label.now in
+    let finds : Finds s c.args.label.now None =
+    subst (Finds s c.args.label.now) c.in_default.is
+    (subst (λ (l : List ℕ). Finds s l c.in_ok-slot.field-0) c.as_slice.ensures
+    (ok_mapped _ _ _ _ _ c.in_ok-slot.was c.map_err.ensures.cases c.find.ensures.ok)) in
+    subst (TellsUnknown s label) (sym c.into.ensures) (refl, finds)

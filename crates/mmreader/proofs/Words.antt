@@ -1,0 +1,88 @@
+-- Words without a $: the steps that they are by what is kept of them, and where they lead in an expression or a proof.
+use Rattle.std.proofs.Common.{◌≡◌, ℕ, ◌<◌, Bool, true, false, cond, List, length, None, Some, Result, Ok, Err}
+use Rattle.std.proofs.Common.{refl, sym, ap, subst, ◌∙◌, inl, inr, arith}
+use Rattle.std.specs.Prelude.{◌||◌, nat_le, codes}
+use Rattle.std.specs.Str.{bytes_eq}
+use mathlib.Core.Bool.{not}
+use Rattle.std.proofs.lemmas.Bool.{cases_Bool, cond-false, lt-leb}
+use Rattle.mmtext.specs.declared.fault.Stop.{Stop}
+use Rattle.mmtext.specs.declared.fault.Stop.TheVariants as stop
+use Rattle.mmtext.specs.declared.fault.FaultKind.TheVariants.{BadToken, OutOfProfile, TooLong}
+use Rattle.mmtext.specs.declared.mark.Mark.TheVariants as mark
+use Rattle.mmtext.specs.Words.{Word, has_dollar, is_label}
+use Rattle.mmtext.specs.Text.{Token}
+use Rattle.mmtext.specs.Languages.{State, step, marked, led, inside_comment}
+use Rattle.mmtext.proofs.Marks.{same_word, label_plain, mark_plain}
+use Rattle.mmsyntax.specs.Tables.{Tables, meaning}
+use Rattle.mmsyntax.specs.Rows.{first_fault}
+use Rattle.mmsyntax.specs.Blocks.{Hypothesis}
+use Rattle.mmsyntax.specs.Steps.{step_tests, float_named, hypothesis_named, step_named, unless_faulty, step_of}
+use Rattle.mmsyntax.specs.Faults.{Place, Position, in_place, row, database_language}
+use Rattle.mmreader.specs.declared.recent.Recalled.{Recalled}
+use Rattle.mmreader.specs.declared.recent.Recent.{Recent}
+use Rattle.mmreader.specs.declared.place.Place.{Place as CodePlace}
+use Rattle.mmreader.specs.declared.place.Place.TheVariants as code
+use Rattle.mmreader.specs.Recalls.{IsTrueOf, Knows, IsKept}
+use Rattle.mmreader.specs.Takings.{TakesWord, TakesToken}
+use Rattle.mmreader.specs.Views.{IsUnitPlace}
+use Rattle.mmreader.proofs.Runs.{row_at}
+
+-- ---- steps
+
+no_label : (w v : Word) → is_label v ≡ false → is_label w ≡ true → bytes_eq w v ≡ false
+no_label w v n l = elim (cases_Bool (bytes_eq w v)) [
+  | inl y ↦ absurd (let e : is_label w ≡ false = subst (λ x. is_label x ≡ false) (sym (same_word w v y)) n in cc)
+  | inr e ↦ e
+]
+
+-- a label passes the tests of steps where there is room
+step_passes : (count : ℕ) (w : Word) → is_label w ≡ true → count < 16384 → first_fault (step_tests count w) ≡ None
+step_passes count w l lt =
+    let full = cond (nat_le 16384 count) (Some TooLong) None in
+    let bad = cond (not (is_label w)) (Some BadToken) full in
+    let dollar = cond (has_dollar w) (Some BadToken) bad in
+    cond-false (bytes_eq w (codes "?") || bytes_eq w (codes "(")) (Some OutOfProfile) dollar
+    (ap (λ b. b || bytes_eq w (codes "(")) (no_label w (codes "?") refl l) ∙ no_label w (codes "(") refl l)
+    ∙ cond-false (has_dollar w) (Some BadToken) bad (label_plain w l)
+    ∙ cond-false (not (is_label w)) (Some BadToken) full (ap not l)
+    ∙ cond-false (nat_le 16384 count) (Some TooLong) None (lt-leb 16384 count lt)
+
+-- the step of a label by what is kept of it
+pub recalled : (t : Tables) (hyps : List Hypothesis) (count : ℕ) (r : Recalled) → IsTrueOf t r → r.is_label ≡ true → count < 16384
+    → step_named r.word.now (float_named r.name) (hypothesis_named hyps r.word.now) ≡ step_of t hyps count r.word.now
+unfolding step_of
+recalled t hyps count r kept label lt =
+    let w = r.word.now in
+    ap (λ n. step_named w (float_named n) (hypothesis_named hyps w)) kept.names
+    ∙ sym (ap (λ o. unless_faulty o (step_named w (float_named (meaning t w)) (hypothesis_named hyps w)))
+    (step_passes count w (sym kept.label ∙ label) lt))
+
+-- ---- places
+
+-- a word without a $ outside of comments
+step_plain : (s : State Position) (t : Token) → s.in_comment ≡ false → has_dollar t.text ≡ false
+    → step database_language s t ≡ led (in_place s.place.known s.place.place t mark.Plain)
+unfolding step
+step_plain s t out h =
+    let plain = mark_plain t.text h in
+    ap (marked database_language s t) plain
+    ∙ cond-false s.in_comment (inside_comment s.place t mark.Plain) (led (row s.place t)) out
+    ∙ ap led (row_at s.place t mark.Plain (sym plain))
+
+-- what is taken in a place is what the step of the language leads to
+pub taken : (s : State Position) (q : Place) (t : Token) (r : Result Bool Stop) → s.in_comment ≡ false
+    → TakesWord s.place.known s.place.place t q r
+    → TakesToken s t (record { place = record { known = s.place.known; place = q }; in_comment = s.in_comment }) r
+taken s q t (Ok true) out r =
+    step_plain s t out r.0 ∙ ap led r.1
+    ∙ ap (λ b. Ok (record { place = record { known = s.place.known; place = q }; in_comment = b })) (sym out)
+taken s q t (Ok false) out r = ap (λ x. record { place = record { known = s.place.known; place = x }; in_comment = s.in_comment }) r
+taken s q t (Err stop.Memory) out r = tt
+taken s q t (Err (stop.Fault f)) out r = step_plain s t out r.0 ∙ ap led r.1
+
+-- what is kept of words stays true where the symbols don't change, or nothing is kept
+pub still_known : (p : CodePlace) (t u : Tables) (old new : Recent) → Knows t old → IsKept p old new → (IsUnitPlace p → u ≡ t) → Knows u new
+still_known (code.Prelude p) t u old new knows kept same = λ k d lt.
+    absurd (let none : length new.entries.items ≡ 0 = ap (λ xs. length xs) kept in omega arith)
+still_known (code.Unit p) t u old new knows kept same =
+    subst (λ r. Knows u r) (sym kept) (subst (λ x. Knows x old) (sym (same tt)) knows)

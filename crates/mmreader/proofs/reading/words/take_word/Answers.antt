@@ -1,0 +1,12 @@
+-- What is left to show of `take_word`.
+use Rattle.std.proofs.Common.{sym, subst}
+use Rattle.mmtext.specs.Views.{seen}
+use Rattle.mmreader.specs.Takings.{TakesWord}
+use Rattle.mmreader.specs.Views.{seen_place, seen_unit_place, known_of}
+use Rattle.mmreader.proofs.reading.words.take_word.Goals as goal
+
+pub returns-in-Unit-clause-taken : goal.returns-in-Unit-clause-taken
+returns-in-Unit-clause-taken c = λ u.
+    let r = c.take_unit_word in
+    subst (λ p. TakesWord (known_of c.args.symbols.now u) (seen_place p) (seen c.args.token) (seen_unit_place r.new.place) r.result)
+    (sym c.in-Unit.is) (r.ensures.taken u)

@@ -1,0 +1,139 @@
+//! Words that go on what a token stands in: the symbols of an expression and the steps of a proof. Most tokens of a text are one of these.
+
+ghost use Rattle.std.specs.Prelude.{◌≡◌, length, IfOk, OnOk};
+ghost use Rattle.mmsyntax.specs.Rows.{Units, symbol_of};
+ghost use Rattle.mmsyntax.specs.Steps.{step_of};
+ghost use Rattle.mmsyntax.specs.Faults.{block_of};
+ghost use Rattle.mmtext.specs.Views.{seen};
+ghost use Rattle.mmreader.specs.Recalls.{IsTrueOf, Knows};
+ghost use Rattle.mmreader.specs.Takings.{TakesItem, TakesWord};
+ghost use Rattle.mmreader.specs.Views.{seen_scope, seen_unit_place, seen_place, known_of};
+
+use super::labels::symbol_named;
+use super::steps::{MOST_STEPS, recalled_step, step_at};
+use crate::place::{Place, Scope, Theorem, UnitPlace};
+use crate::recent::{Recalled, Recent};
+use mmsyntax::{Step, Symbol, SymbolTable};
+use mmtext::{FaultKind, Stop, Token, fault_at};
+use std::alloc::{AllocError, Global};
+
+/// The step that a word is of which all is known, behind `count` steps of a proof, or why it is none.
+#[tactic(auto, unfolding(mmsyntax::specs::Steps::step_of))]
+fn known_step(
+    alloc: Global,
+    symbols: &SymbolTable,
+    scope: &Scope<'_>,
+    count: usize,
+    known: Recalled<'_>,
+) -> Result<Result<Step, FaultKind>, AllocError>
+    requires { IsTrueOf symbols.now known }
+    ensures { IfOk result (λ r. r ≡ step_of symbols.now (block_of (seen_scope scope.now)).hyps count known.entry.word.now) }
+{
+    if !known.is_label || count >= MOST_STEPS {
+        return step_at(alloc, symbols, scope, count, known.word);
+    }
+    recalled_step(alloc, scope, known)
+}
+
+/// Puts the symbol that a word is behind others. A word with a `$` is left: whether it had none.
+#[tactic(auto, unfolding(mmsyntax::specs::Rows::symbol_of))]
+fn take_symbol<'a>(
+    alloc: Global,
+    symbols: &SymbolTable,
+    recent: &mut Recent<'a>,
+    expression: &mut Vec<Symbol>,
+    token: Token<'a>,
+) -> Result<bool, Stop>
+    requires { Knows symbols.now recent.old }
+    ensures knows { Knows symbols.now recent.new }
+    ensures taken { TakesItem (seen token.entry) expression.old.items expression.new.items
+        (symbol_of symbols.now (length expression.old.items) token.entry.text.now) result }
+{
+    let known = recent.look_up(alloc, symbols, token.text)?;
+    if known.with_dollar {
+        return Ok(false);
+    }
+    match symbol_named(known.name, expression.len()) {
+        Ok(symbol) => {
+            expression.push(symbol)?;
+            Ok(true)
+        }
+        Err(kind) => Err(fault_at(token, kind)),
+    }
+}
+
+/// Puts the step that a word is behind those of a proof. A word with a `$` is left: whether it had none.
+fn take_step<'a>(
+    alloc: Global,
+    symbols: &SymbolTable,
+    recent: &mut Recent<'a>,
+    theorem: &mut Theorem<'a>,
+    token: Token<'a>,
+) -> Result<bool, Stop>
+    requires { Knows symbols.now recent.old }
+    ensures knows { Knows symbols.now recent.new }
+    ensures kept { OnOk result (theorem.new ≡ record theorem.old { steps = theorem.new.steps }) }
+    ensures taken { TakesItem (seen token.entry) theorem.old.steps.items theorem.new.steps.items
+        (step_of symbols.now (block_of (seen_scope theorem.old.scope)).hyps (length theorem.old.steps.items) token.entry.text.now) result }
+{
+    let known = recent.look_up(alloc, symbols, token.text)?;
+    if known.with_dollar {
+        return Ok(false);
+    }
+    let count = theorem.steps.len();
+    match known_step(alloc, symbols, &theorem.scope, count, known)? {
+        Ok(step) => {
+            theorem.steps.push(step)?;
+            Ok(true)
+        }
+        Err(kind) => Err(fault_at(token, kind)),
+    }
+}
+
+/// Takes a word without `$` where it stands, if that is an expression or a proof, whose symbols or steps grow where they lie. Whether it
+/// did.
+fn take_unit_word<'a>(
+    alloc: Global,
+    symbols: &SymbolTable,
+    recent: &mut Recent<'a>,
+    place: &mut UnitPlace<'a>,
+    token: Token<'a>,
+) -> Result<bool, Stop>
+    requires { Knows symbols.now recent.old }
+    ensures knows { Knows symbols.now recent.new }
+    ensures taken { (u : Units) →
+        TakesWord (known_of symbols.now u) (seen_unit_place place.old) (seen token.entry) (seen_unit_place place.new) result }
+{
+    match place {
+        UnitPlace::InHypothesis(_, _, expression) => {
+            take_symbol(alloc, symbols, recent, expression, token)
+        }
+        UnitPlace::InAxiom(_, _, expression) => {
+            take_symbol(alloc, symbols, recent, expression, token)
+        }
+        UnitPlace::InTheorem(_, _, expression) => {
+            take_symbol(alloc, symbols, recent, expression, token)
+        }
+        UnitPlace::InProof(theorem) => { take_step(alloc, symbols, recent, theorem, token) }
+        _ => Ok(false),
+    }
+}
+
+/// The same at any place.
+pub(crate) fn take_word<'a>(
+    alloc: Global,
+    symbols: &SymbolTable,
+    recent: &mut Recent<'a>,
+    place: &mut Place<'a>,
+    token: Token<'a>,
+) -> Result<bool, Stop>
+    requires { Knows symbols.now recent.old }
+    ensures knows { Knows symbols.now recent.new }
+    ensures taken { (u : Units) →
+        TakesWord (known_of symbols.now u) (seen_place place.old) (seen token.entry) (seen_place place.new) result }
+{
+    match place {
+        Place::Unit(place) => take_unit_word(alloc, symbols, recent, place, token),
+        Place::Prelude(_) => Ok(false),
+    }
+}

@@ -1,0 +1,122 @@
+//! Words that were looked up lately. Most words of a text stand in it again and again.
+
+ghost use Rattle.std.specs.Prelude.{◌≡◌, [], IfOk};
+ghost use Rattle.mmreader.specs.Recalls.{IsTrueOf, IsKept, Knows};
+
+use crate::place::Place;
+use mmsyntax::{Name, SymbolTable};
+use mmtext::{contains_dollar, contains_dot, is_label_token};
+use std::alloc::{AllocError, Global};
+use std::hash::{FoldHasher, Hasher};
+
+/// How many words are kept where a prelude has few symbols.
+const FEW: usize = 4096;
+/// How many are kept where it has many.
+const MANY: usize = 65536;
+/// The most symbols that are few.
+const FEW_SYMBOLS: usize = 2048;
+
+/// What is known of a word: what it names, whether a `$` or a dot stands in it, and whether it has only bytes of a label.
+#[derive(Clone, Copy)]
+pub(crate) struct Recalled<'a> {
+    pub word: &'a [u8],
+    pub name: Option<Name>,
+    pub with_dollar: bool,
+    pub is_label: bool,
+    pub is_dotted: bool,
+}
+
+/// One word for each place, or none at all. A new word takes the place of an earlier one, so words that were chosen to meet at one place
+/// cost what they would cost without this.
+#[derive(Drop)]
+pub(crate) struct Recent<'a> {
+    entries: Vec<Recalled<'a>>,
+}
+
+/// What is known of a word by looking at it.
+fn looked_up<'a>(symbols: &SymbolTable, word: &'a [u8]) -> Recalled<'a>
+    ensures word { result.word.now ≡ word.now }
+    ensures known { IsTrueOf symbols.now result }
+{
+    Recalled {
+        word,
+        name: symbols.look_up(word),
+        with_dollar: contains_dollar(word),
+        is_label: is_label_token(word),
+        is_dotted: contains_dot(word),
+    }
+}
+
+impl<'a> Recent<'a> {
+    /// No word.
+    pub fn new(alloc: Global) -> Self
+        ensures { result.entries.items ≡ [] }
+    {
+        Recent {
+            entries: Vec::new(alloc),
+        }
+    }
+
+    /// Keeps no word at a place where the symbols may change.
+    pub fn keep_at(&mut self, place: &Place<'_>)
+        ensures { IsKept place.now self.old self.new }
+    {
+        match place {
+            Place::Prelude(_) => self.entries.clear(),
+            Place::Unit(_) => {}
+        }
+    }
+
+    /// Makes room for words.
+    fn open(&mut self, alloc: Global, symbols: &SymbolTable) -> Result<(), AllocError>
+        requires { self.old.entries.items ≡ [] }
+        ensures { Knows symbols.now self.new }
+    {
+        let count = symbols
+            .constants()
+            .len()
+            .saturating_add(symbols.variables().len());
+        let size = if count > FEW_SYMBOLS { MANY } else { FEW };
+        let nothing = looked_up(symbols, b"".as_slice());
+        let mut entries = Vec::with_capacity(alloc, size)?;
+        for _ in 0..size {
+            entries.push(nothing)?;
+        }
+        self.entries = entries;
+        Ok(())
+    }
+
+    /// What is known of a word, which is kept.
+    pub fn look_up(
+        &mut self,
+        alloc: Global,
+        symbols: &SymbolTable,
+        word: &'a [u8],
+    ) -> Result<Recalled<'a>, AllocError>
+        requires { Knows symbols.now self.old }
+        ensures knows { Knows symbols.now self.new }
+        ensures found { IfOk result (λ r. (r.word.now ≡ word.now) × IsTrueOf symbols.now r) }
+    {
+        if self.entries.is_empty() {
+            self.open(alloc, symbols)?;
+        }
+        let place = place_of(word, self.entries.len());
+        if place >= self.entries.len() {
+            return Ok(looked_up(symbols, word));
+        }
+        let kept = self.entries[place];
+        if kept.word == word {
+            return Ok(kept);
+        }
+        let found = looked_up(symbols, word);
+        self.entries[place] = found;
+        Ok(found)
+    }
+}
+
+/// The place of a word among `size`, a power of two.
+fn place_of(word: &[u8], size: usize) -> usize {
+    let mut hasher = FoldHasher::default();
+    hasher.write(word);
+    (hasher.finish() as usize) & size.wrapping_sub(1)
+}
