@@ -10,5 +10,5 @@ pub use library::{
 };
 pub use script::{
     CommandPlace, Led, count, is_numeral, number, read_command_word, read_in_command, read_label,
-    read_rank, read_script,
+    read_rank, read_script, take_in_command,
 };
