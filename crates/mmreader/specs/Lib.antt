@@ -1,5 +1,6 @@
 pub mod Labels
 pub mod HypothesisPlaces
+pub mod StandingPairs
 pub mod Views
 pub mod Recalls
 pub mod Takings
