@@ -44,6 +44,15 @@ longer l rest same = omega (arith, ap length same ∙ length-append l (46 ∷ re
 pub not_dotted_itself : (w : Word) → is_dotted w w ≡ false
 not_dotted_itself w = never_dotted w w (λ k same. longer w _ same)
 
+pub clash-sym : (l w : Word) → clash l w ≡ clash w l
+clash-sym l w = swapped (is_dotted l w) (is_dotted w l)
+  where
+    swapped : (a b : Bool) → (a || b) ≡ (b || a)
+    swapped true true = refl
+    swapped true false = refl
+    swapped false true = refl
+    swapped false false = refl
+
 -- ---- lists
 
 pub apart_nil : AreApart []
