@@ -1,4 +1,5 @@
 pub mod Tables
+pub mod Dotted
 pub mod Rows
 pub mod Blocks
 pub mod Steps
