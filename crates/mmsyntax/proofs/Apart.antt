@@ -1,11 +1,11 @@
 -- Labels of which none is L.k of another: what keeps them so, and that labels without a dot are.
-use Rattle.std.proofs.Common.{◌≡◌, ℕ, suc, ◌+◌, Bool, true, false, cond, List, [], ◌∷◌, ◌++◌, length, Option, Some, None, refl, sym, ap, ◌∙◌}
+use Rattle.std.proofs.Common.{◌≡◌, ℕ, Bool, true, false, List, [], ◌∷◌, ◌++◌, length, Some, None, refl, sym, ap, ◌∙◌}
 use Rattle.std.proofs.Common.{subst, inl, inr, arith, length-append}
 use Rattle.std.specs.Prelude.{IsTrue, ◌⊎◌, ◌||◌, ◌&&◌, ◌==◌, nat_le, is_some}
 use mathlib.Core.Bool.{not}
 use Rattle.std.specs.List.{All, Contains, list_any, find, range_with_len}
 use Rattle.std.specs.Str.{bytes_eq}
-use Rattle.std.proofs.lemmas.Bool.{and_right, and_parts, both_ways, cond-false, false_from_ne_true, not-true, or_parts, or_from}
+use Rattle.std.proofs.lemmas.Bool.{and_right, and_parts, both_ways, cond-false, false_from_ne_true, not-true, or_parts}
 use Rattle.std.proofs.lemmas.List.Elements.{All-cons, All-contains, Contains-get_or}
 use Rattle.std.proofs.lemmas.List.Folds.{list_any-append}
 use Rattle.mmtext.specs.Words.{Word, has_dot, is_label}

@@ -23,7 +23,7 @@ pub use command_rows::{
 use library::{Command, Script, Transaction};
 use mmstatement::{FaultKind, Prelude, Sequence, TextFault};
 use mmtext::{Mark, Reader, Stop, Token, fault_at, no_memory, read_text};
-pub use numerals::{count, is_numeral, number};
+pub use numerals::is_numeral;
 use place::{Place, ScriptReader};
 pub use place::{CommandPlace, Led};
 use std::alloc::Global;
