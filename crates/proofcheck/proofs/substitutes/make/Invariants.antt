@@ -1,6 +1,6 @@
 use Rattle.std.proofs.Common.{◌≡◌, ◌++◌, ◌≤◌, drop, length}
 use Rattle.mmstatement.specs.Substitution.{subst}
-use Rattle.proofcheck.proofs.substitutes.conclude.Given as goal
+use Rattle.proofcheck.proofs.substitutes.make.Given as goal
 
 abbrev pub invariant-loop-symbol : goal.invariant-loop-symbol
 invariant-loop-symbol l = record {
