@@ -99,7 +99,7 @@ impl PairSet {
         requires { with_pair pair self.old ≡ self.old }
         ensures { self.new ≡ self.old }
     {
-        let count = self.pairs.len();
+        let count = self.len();
         if count > FEW && self.cells.len() / 2 < count {
             return self.widen(pair);
         }
