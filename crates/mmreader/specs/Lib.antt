@@ -7,4 +7,5 @@ pub mod Takings
 pub mod Standing
 pub mod UnitReadings
 pub mod UnitViews
+pub mod Readers
 pub mod Laws
