@@ -1,5 +1,6 @@
 pub mod Names
 pub mod Distinct
+pub mod Apart
 pub mod Lines
 pub mod Sound
 pub mod Ascending
