@@ -1,6 +1,6 @@
 -- Which labels clash with those of a library, and libraries whose labels are apart.
 use Rattle.std.proofs.Common.{◌≡◌, ℕ, Bool, true, false, cond, List, [], ◌∷◌, get_or, map, refl, sym, ap, subst, ◌∙◌, inl, inr}
-use Rattle.std.specs.Prelude.{filter, ◌⊎◌, ◌&&◌, ◌||◌}
+use Rattle.std.specs.Prelude.{filter, ◌&&◌, ◌||◌}
 use mathlib.Core.Bool.{not}
 use Rattle.std.specs.List.{list_any, Contains}
 use Rattle.std.specs.List.Sorted.{IsPermutation}
