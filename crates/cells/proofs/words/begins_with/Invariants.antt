@@ -1,6 +1,6 @@
 use Rattle.std.proofs.Common.{◌≡◌, ℕ, ◌<◌, List, get_or}
 use Rattle.cells.specs.Sight.{Looks, Knows}
-use Rattle.cells.proofs.words.has_words.Given as goal
+use Rattle.cells.proofs.words.begins_with.Given as goal
 
 abbrev pub invariant-loop-index : goal.invariant-loop-index
 invariant-loop-index g l =
