@@ -1,5 +1,6 @@
 -- To put a pair that stands changes nothing, also once another is put.
-use Rattle.std.proofs.Common.{◌≡◌, ℕ, suc, ◌<◌, Bool, true, false, cond, List, [], ◌∷◌, length, get_or, Result, Ok, Err, OnOk, refl, sym, ap, ◌∙◌, subst, eqb, arith}
+use Rattle.std.proofs.Common.{◌≡◌, ℕ, suc, ◌<◌, Bool, true, false, cond, List, [], ◌∷◌, length, get_or, Result, Ok, Err, OnOk}
+use Rattle.std.proofs.Common.{refl, sym, ap, subst, eqb, arith}
 use Rattle.std.specs.Prelude.{◌&&◌}
 use Rattle.std.proofs.lemmas.Bool.Decides.{nat_tests}
 use Rattle.std.proofs.lemmas.List.Elements.{All-weaker}
@@ -20,15 +21,15 @@ below_below p q r h k = grind (arith, nat_tests)
 -- ---- one pair
 
 -- what holds of each of three lists, where it is come to, holds of the one that is picked
-picked : (P : List (ℕ × ℕ) → Type 0) (b c : Bool) (x y z : List (ℕ × ℕ)) → (b ≡ true → P x) → (c ≡ true → P y) → (b ≡ false → c ≡ false → P z)
-    → P (cond b x (cond c y z))
+picked : (P : List (ℕ × ℕ) → Type 0) (b c : Bool) (x y z : List (ℕ × ℕ)) → (b ≡ true → P x) → (c ≡ true → P y)
+    → (b ≡ false → c ≡ false → P z) → P (cond b x (cond c y z))
 picked P true c x y z f g h = f refl
 picked P false true x y z f g h = g refl
 picked P false false x y z f g h = h refl refl
 
 -- a pair that stands doesn't come before the first
-not_first : (b c : Bool) (p x : ℕ × ℕ) (xs w : List (ℕ × ℕ)) → (b ≡ true → c ≡ false) → cond b (x ∷ xs) (cond c (p ∷ x ∷ xs) (x ∷ w)) ≡ x ∷ xs
-    → c ≡ false
+not_first : (b c : Bool) (p x : ℕ × ℕ) (xs w : List (ℕ × ℕ)) → (b ≡ true → c ≡ false)
+    → cond b (x ∷ xs) (cond c (p ∷ x ∷ xs) (x ∷ w)) ≡ x ∷ xs → c ≡ false
 not_first b false p x xs w f h = refl
 not_first true true p x xs w f h = f refl
 not_first false true p x xs w f h = let e : suc (suc (length xs)) ≡ suc (length xs) = ap length h in absurd (omega arith)
@@ -57,13 +58,15 @@ put_stands p (x ∷ xs) =
     picked (λ r. with_pair p r ≡ r) (is_same_pair p x) (is_pair_below p x) (x ∷ xs) (p ∷ x ∷ xs) (x ∷ with_pair p xs)
     (λ same. ap (λ b. cond b (x ∷ xs) (cond (is_pair_below p x) (p ∷ x ∷ xs) (x ∷ with_pair p xs))) same)
     (λ below. ap (λ b. cond b (p ∷ x ∷ xs) (cond (is_pair_below p p) (p ∷ p ∷ x ∷ xs) (p ∷ with_pair p (x ∷ xs)))) (same_itself p))
-    (λ other above. before (is_same_pair p x) (is_pair_below p x) p x (with_pair p xs) (with_pair p (with_pair p xs)) above (put_stands p xs))
+    (λ other above.
+    before (is_same_pair p x) (is_pair_below p x) p x (with_pair p xs) (with_pair p (with_pair p xs)) above (put_stands p xs))
 
 -- a pair that stands still stands when another is put
 pub still_stands : (p q : ℕ × ℕ) (ps : List (ℕ × ℕ)) → with_pair p ps ≡ ps → with_pair p (with_pair q ps) ≡ with_pair q ps
 still_stands p q [] h = absurd (let e : suc 0 ≡ 0 = ap length h in omega arith)
 still_stands p q (x ∷ xs) h =
-    let above : is_pair_below p x ≡ false = not_first (is_same_pair p x) (is_pair_below p x) p x xs (with_pair p xs) (same_not_below p x) h in
+    let above : is_pair_below p x ≡ false =
+    not_first (is_same_pair p x) (is_pair_below p x) p x xs (with_pair p xs) (same_not_below p x) h in
     picked (λ r. with_pair p r ≡ r) (is_same_pair q x) (is_pair_below q x) (x ∷ xs) (q ∷ x ∷ xs) (x ∷ with_pair q xs)
     (λ same. h)
     (λ below. before (is_same_pair p q) (is_pair_below p q) p q (x ∷ xs) (with_pair p (x ∷ xs))
@@ -75,7 +78,8 @@ still_stands p q (x ∷ xs) h =
 
 -- pairs that stand among others still do when one is put
 pub still_stand : (q : ℕ × ℕ) (ps cells : List (ℕ × ℕ)) → StandAmong ps cells → StandAmong (with_pair q ps) cells
-still_stand q ps cells h = All-weaker (λ p. with_pair p ps ≡ ps) (λ p. with_pair p (with_pair q ps) ≡ with_pair q ps) (λ p. still_stands p q ps) cells h
+still_stand q ps cells h =
+    All-weaker (λ p. with_pair p ps ≡ ps) (λ p. with_pair p (with_pair q ps) ≡ with_pair q ps) (λ p. still_stands p q ps) cells h
 
 -- what holds whatever a call returned
 pub at_any_result : {T E P : Type 0} (r : Result T E) → P → OnOk r P

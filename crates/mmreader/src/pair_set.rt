@@ -15,8 +15,8 @@ const FIRST_CELLS: usize = 256;
 /// How many cells a pair may stand in: its own and those behind.
 const REACH: usize = 8;
 
-/// Pairs, each once. Each cell has a pair that stands, and most pairs that stand have a cell. A pair's own cell depends on a factor drawn
-/// by chance, so no text can choose pairs that meet in one.
+/// Pairs, each once, in a tree. Each cell has a pair that stands, and most pairs that stand have a cell, which is sooner found. A pair's
+/// own cell depends on a factor drawn by chance, so no text can choose pairs that meet in one.
 #[derive(Drop)]
 pub(crate) struct PairSet {
     pairs: BTreeSet<(u32, u32)>,
@@ -133,7 +133,7 @@ impl PairSet {
     }
 }
 
-/// A number for a pair, of which the lowest bits that a count of cells wants are its own cell.
+/// A number drawn from a pair and the factor. Its lowest bits, as many as the count of cells needs, are the pair's own cell.
 fn own_cell(pair: (u32, u32), factor: u64) -> usize {
     let first = (pair.0 as u64).wrapping_mul(factor);
     let both = first.wrapping_add(pair.1 as u64).wrapping_mul(factor);
