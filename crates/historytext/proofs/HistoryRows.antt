@@ -24,7 +24,8 @@ use Rattle.library.specs.declared.command.Line.{Line}
 use Rattle.library.specs.declared.command.Reply.{Reply}
 use Rattle.library.specs.declared.command.Reply.TheVariants.{Done, Shown, Listed}
 use Rattle.scripts.specs.ScriptFaults.{Led, inside, whole_command, bad, bad_text, is_numeral, in_command, command_word}
-use Rattle.scripts.proofs.Numerals.{numeral_decimal, numeral_digits, decimal_numeral, decimal_value, digits_plain, not_above}
+use Rattle.mmsyntax.proofs.Numerals.{decimal_value, digits_lack, not_above}
+use Rattle.scripts.proofs.Numerals.{numeral_decimal, numeral_digits, decimal_numeral}
 use Rattle.scripts.proofs.InnerUnits.{unit_end, unit_next, HasUnits}
 use Rattle.scripts.proofs.CommandWords.{next_of, Asking, and_one, Asks}
 use Rattle.library.specs.declared.history.Entry.{Entry}

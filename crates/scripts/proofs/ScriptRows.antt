@@ -36,7 +36,8 @@ use Rattle.mmtext.specs.Views.{Fails}
 use Rattle.scripts.specs.ScriptViews.{label_at, rank_at, decided, place_numbered, TakesInCommand}
 use Rattle.mmreader.specs.Takings.{TakesItem, pushed}
 use Rattle.mmtext.proofs.Marks.{mark_plain}
-use Rattle.scripts.proofs.Numerals.{numeral_decimal, decimal_numeral, decimal_value, digits_plain, numeral_digits}
+use Rattle.mmsyntax.proofs.Numerals.{decimal_value, digits_lack}
+use Rattle.scripts.proofs.Numerals.{numeral_decimal, decimal_numeral, numeral_digits}
 
 abbrev pub Script : Type 0
 Script = List (List Command)
@@ -56,7 +57,7 @@ pub rank_value : (w : Word) (rank : ℕ) → IsRank w rank → digits_value 10 w
 rank_value w rank r = ap (digits_value 10) r.digits ∙ decimal_value rank (below_64 rank r.small)
 
 pub rank_plain : (w : Word) (rank : ℕ) → IsRank w rank → has_dollar w ≡ false
-rank_plain w rank r = digits_plain w (numeral_digits w (rank_numeral w rank r))
+rank_plain w rank r = digits_lack 36 w (omega arith) (numeral_digits w (rank_numeral w rank r))
 
 unless_ok : (o : Option FaultKind) (r : Result Step FaultKind) (s : Step) → unless_faulty o r ≡ Ok s → o ≡ None
 unless_ok None r s h = refl
