@@ -153,7 +153,7 @@ number_numeral highest w n low i =
     ap is_numeral i.digits ∙ decimal_numeral n (let le : n ≤ highest = i.small in omega arith)
 
 pub number_plain : (highest : ℕ) (w : Word) (n : ℕ) → highest < 2 ^ 64 → IsNumber highest w n → has_dollar w ≡ false
-number_plain highest w n low i = digits_plain w (numeral_digits w (number_numeral highest w n low i))
+number_plain highest w n low i = digits_lack 36 w (omega arith) (numeral_digits w (number_numeral highest w n low i))
 
 is_low : (highest n : ℕ) → ltb highest n ≡ false → n ≤ highest
 is_low highest n h = grind (arith, nat_tests)
