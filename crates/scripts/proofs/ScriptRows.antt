@@ -1,19 +1,17 @@
 -- The rows of a script at its words, in both directions.
-use Rattle.std.proofs.Common.{◌≡◌, ◌≢◌, ℕ, ◌+◌, ◌^◌, ◌<◌, ◌≤◌, Bool, true, false, cond, ltb, leb, List, [], ◌∷◌, ◌++◌, length, Option, Some}
+use Rattle.std.proofs.Common.{◌≡◌, ◌≢◌, ℕ, ◌^◌, ◌<◌, ◌≤◌, Bool, true, false, cond, ltb, leb, List, [], ◌∷◌, ◌++◌, length, Option, Some}
 use Rattle.std.proofs.Common.{None, Result, Ok, Err, refl, sym, ap, subst, ◌∙◌, arith}
-use Rattle.std.specs.Prelude.{codes, is_some}
-use Rattle.std.specs.Fmt.{decimal}
+use Rattle.std.specs.Prelude.{codes}
 use Rattle.std.specs.Str.{bytes_eq}
 use Rattle.std.specs.Str.Parse.{digits_value}
 use Rattle.std.proofs.lemmas.Bool.{cond-true, cond-false}
 use Rattle.std.proofs.lemmas.Bool.Decides.{nat_tests}
 use Rattle.mmtext.specs.declared.fault.FaultKind.{FaultKind}
 use Rattle.mmtext.specs.declared.fault.FaultKind.TheVariants.{BadToken, TooLong, OutOfProfile}
-use Rattle.mmtext.specs.declared.fault.TextFault.{TextFault}
 use Rattle.mmtext.specs.declared.mark.Mark.{Mark}
 use Rattle.mmtext.specs.declared.mark.Mark.TheVariants as mark
 use Rattle.mmtext.specs.Text.{Token, mark_of}
-use Rattle.mmtext.specs.Words.{Word, has_dollar, is_label}
+use Rattle.mmtext.specs.Words.{Word, has_dollar}
 use Rattle.mmtext.specs.Languages.{fault}
 use Rattle.mmtext.proofs.CommentLaws.{same_word}
 use Rattle.mmsyntax.specs.declared.statement.Step.{Step}
@@ -26,16 +24,17 @@ use Rattle.library.specs.declared.command.Command.{Command}
 use Rattle.library.specs.declared.command.Command.TheVariants as command
 use Rattle.library.specs.Fitting.{highest_rank}
 use Rattle.scripts.specs.Scripts.{IsRank, other_step_of}
-use Rattle.scripts.specs.ScriptFaults.{CommandPlace, at_rank, in_unit, at_reproved, at_proof, in_proof, at_old_label, at_new_label}
+use Rattle.scripts.specs.ScriptFaults.{at_rank, at_reproved, in_proof, at_old_label}
 use Rattle.scripts.specs.ScriptFaults.{at_recited}
-use Rattle.scripts.specs.ScriptFaults.{at_moved, at_new_rank, at_deleted, at_shown, Place, outermost, at_command, within, Progress, Led}
+use Rattle.scripts.specs.ScriptFaults.{at_moved, at_deleted, at_shown, Place, outermost, Progress, Led}
 use Rattle.scripts.specs.ScriptFaults.{inside, whole_command, bad, bad_text, label_row, is_numeral, rank_row, proof_start, step_led}
 use Rattle.scripts.specs.ScriptFaults.{step_row, command_word, at, led, command_row}
 use Rattle.mmtext.specs.declared.fault.Stop.{Stop}
 use Rattle.mmtext.specs.declared.fault.Stop.TheVariants as stop
 use Rattle.mmtext.specs.Views.{Fails}
 use Rattle.scripts.specs.ScriptViews.{label_at, rank_at, decided, place_numbered}
-use Rattle.scripts.proofs.Numerals.{numeral_decimal, decimal_numeral, decimal_value, digits_plain, numeral_digits}
+use Rattle.mmsyntax.proofs.Numerals.{decimal_value, digits_lack}
+use Rattle.scripts.proofs.Numerals.{numeral_decimal, decimal_numeral, numeral_digits}
 
 abbrev pub Script : Type 0
 Script = List (List Command)
@@ -55,7 +54,7 @@ pub rank_value : (w : Word) (rank : ℕ) → IsRank w rank → digits_value 10 w
 rank_value w rank r = ap (digits_value 10) r.digits ∙ decimal_value rank (below_64 rank r.small)
 
 pub rank_plain : (w : Word) (rank : ℕ) → IsRank w rank → has_dollar w ≡ false
-rank_plain w rank r = digits_plain w (numeral_digits w (rank_numeral w rank r))
+rank_plain w rank r = digits_lack 36 w (omega arith) (numeral_digits w (rank_numeral w rank r))
 
 unless_ok : (o : Option FaultKind) (r : Result Step FaultKind) (s : Step) → unless_faulty o r ≡ Ok s → o ≡ None
 unless_ok None r s h = refl

@@ -1,11 +1,12 @@
 -- Of the code's inside, apart from the rules: how the values of the reader of scripts are seen.
-use Rattle.std.specs.Prelude.{ℕ, nat_lt, Option, Some, None, Result, Ok, Err, if◌then◌else◌}
+use Rattle.std.specs.Prelude.{ℕ, nat_lt, Option, Result, Ok, Err, if◌then◌else◌}
 use Rattle.std.specs.Str.Parse.{digits_value}
 use Rattle.mmtext.specs.declared.fault.FaultKind.TheVariants.{BadToken, TooLong}
 use Rattle.mmtext.specs.declared.fault.TextFault.{TextFault}
 use Rattle.mmtext.specs.Text.{Token}
 use Rattle.mmtext.specs.Words.{Word, has_dollar}
 use Rattle.mmtext.specs.Languages.{State, fault}
+use Rattle.mmsyntax.specs.Dotted.{hypothesis_numbered}
 use Rattle.mmsyntax.specs.Tables.{Tables}
 use Rattle.mmreader.specs.UnitReadings.{position_of}
 use Rattle.scripts.specs.declared.script.place.CommandPlace.{CommandPlace as CodeCommandPlace}

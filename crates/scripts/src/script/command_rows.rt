@@ -10,11 +10,12 @@ ghost use Rattle.scripts.specs.Scripts.{other_step_of};
 ghost use Rattle.scripts.specs.ScriptFaults.{command_word, in_command, proof_start, step_row, unit_row};
 ghost use Rattle.scripts.specs.ScriptViews.{label_at, rank_at, decided, seen_command_place, seen_led};
 
-use super::numerals::{hypothesis_place, is_numeral, number};
+use super::numerals::{hypothesis_place, is_numeral};
 use super::place::{CommandPlace, Led};
 use library::Command;
 use mmreader::{UnitProgress, UnitReader, named_step};
 use mmstatement::{FaultKind, Label, Prelude, Sequence, Step};
+use mmsyntax::numeral::number;
 use mmtext::{Mark, Stop, Token, contains_dollar, fault_at, mark_word};
 use std::alloc::{AllocError, Global};
 
