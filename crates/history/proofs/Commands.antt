@@ -14,8 +14,8 @@ use Rattle.library.specs.declared.reason.Reason.{Reason}
 use Rattle.library.specs.declared.reason.Reason.TheVariants as reason
 use Rattle.library.specs.Library.{Setting, label_of}
 use Rattle.library.specs.Edits.{Edited, Tests, tested, of_found, where_so, has, found, changed, without}
-use Rattle.library.specs.Edits.{is_axiom, bad_rank, bad_label, label_taken, cites_unknown, is_of_unknown, added, rename, add_tests}
-use Rattle.library.specs.Edits.{unknown_label, is_alike, are_alike, is_not_below, replace_tests}
+use Rattle.library.specs.Edits.{is_axiom, bad_rank, bad_label, label_taken, label_clashes, clashes, cites_unknown, is_of_unknown, added, rename, add_tests}
+use Rattle.library.specs.Edits.{unknown_label, is_alike, are_alike, is_not_below, replace_tests, rename_tests}
 use Rattle.library.proofs.Editing.{where_none}
 use Rattle.library.proofs.Places.{find_nowhere, is_labelled-own}
 use Rattle.history.specs.Entries.{Entries, living, StandsIn}
@@ -73,14 +73,15 @@ first-none_more (Some q ∷ ts) us h = absurd cc
 
 -- the tests of adding a theorem, behind those of the rank and the label
 pub add_front : (s : Setting) (lib : List Ranked) (rank : ℕ) (a : Assertion) → rank == 0 ≡ false → is_lawful_label s.prelude a.label ≡ true
-    → has lib a.label ≡ false
+    → has lib a.label ≡ false → clashes lib a.label ≡ false
     → first_reason (add_tests s lib rank a) ≡ first_reason
     (where_so (is_axiom a.kind) reason.AxiomNotAllowed ∷ (proof_tests s lib rank a
     ++ where_so (nat_le s.slots (length lib)) reason.LibraryFull ∷ []))
-add_front s lib rank a ranked lawful free =
+add_front s lib rank a ranked lawful free clear =
     first-none (bad_rank rank) _ (not_so (rank == 0) reason.BadRank ranked)
     ∙ first-none (bad_label s a.label) _ (not_so (not (is_lawful_label s.prelude a.label)) reason.BadLabel (ap not lawful))
     ∙ first-none (label_taken lib a.label) _ (not_so (has lib a.label) reason.LabelTaken free)
+    ∙ first-none (label_clashes lib a.label) _ (not_so (clashes lib a.label) reason.LabelClashes clear)
 
 -- what may be added has a label that is free
 pub add_free : (s : Setting) (lib : List Ranked) (rank : ℕ) (a : Assertion) → first_reason (add_tests s lib rank a) ≡ None
@@ -94,9 +95,17 @@ pub add_known : (s : Setting) (lib : List Ranked) (rank : ℕ) (a : Assertion) �
     → list_any (is_of_unknown lib) a.proof ≡ false
 add_known s lib rank a h =
     let labelled = (first-parts (bad_label s a.label) _ (first-parts (bad_rank rank) _ h).1).1 in
-    let theorem = (first-parts (label_taken lib a.label) _ labelled).1 in
+    let apart = (first-parts (label_taken lib a.label) _ labelled).1 in
+    let theorem = (first-parts (label_clashes lib a.label) _ apart).1 in
     let proof = (first-parts (where_so (is_axiom a.kind) reason.AxiomNotAllowed) _ theorem).1 in
     where_none (list_any (is_of_unknown lib) a.proof) reason.CitesUnknown (first-parts (cites_unknown lib a.proof) _ proof).0
+
+-- what an assertion may be renamed to is free
+pub rename_free : (s : Setting) (lib : List Ranked) (old new : List ℕ) → first_reason (rename_tests s lib old new) ≡ None
+    → has lib new ≡ false
+rename_free s lib old new h =
+    where_none (has lib new) reason.LabelTaken (first-parts (label_taken lib new) _
+    (first-parts (bad_label s new) _ (first-parts (unknown_label lib old) _ h).1).1).0
 
 -- the tests of a citation that is replaced, behind those of the two labels, which assertions have
 pub replace_front : (s : Setting) (lib : List Ranked) (old new : List ℕ) (e x y : Ranked) → has lib old ≡ true → has lib new ≡ true
@@ -148,6 +157,14 @@ has_label m inside held slice w v p e x same read at own as_label = record {
   at = subst (λ l. StandsIn l p e) (read ∙ same) at;
   labelled = own ∙ as_label;
 }
+
+-- whether a label clashes, by what was tested with one left out
+pub clashing : (slice held : Entries) (own label v w : List ℕ) (b : Bool) → slice ≡ held → own ≡ v → label ≡ w
+    → b ≡ clashes (without own (living slice)) label
+    → clashes (without v (living held)) w ≡ b
+clashing slice held own label v w b same as_own as_label is =
+    sym (is ∙ ap (λ l. clashes (without own (living l)) label) same ∙ ap (λ l. clashes (without l (living held)) label) as_own
+    ∙ ap (clashes (without v (living held))) as_label)
 
 pub free_in : (slice held : Entries) (w v : List ℕ) → slice ≡ held → w ≡ v → has (living slice) w ≡ false → has (living held) v ≡ false
 free_in slice held w v same as_label h = subst (λ l. has (living l) v ≡ false) same (subst (λ l. has (living slice) l ≡ false) as_label h)

@@ -1,10 +1,10 @@
 //! Commands, one by one: each is done, or refused by the first test that fails.
 
-ghost use Rattle.std.specs.Prelude.{◌≡◌, ℕ, All, Contains, None, Some, IfErr, IfOk, OnOk};
+ghost use Rattle.std.specs.Prelude.{◌≡◌, ℕ, true, All, Contains, None, Some, IfErr, IfOk, OnOk};
 ghost use Rattle.std.specs.List.Sorted.{IsStrictlyIncreasing};
 ghost use Rattle.mmsyntax.specs.declared.statement.Kind.TheVariants.{Theorem};
 ghost use Rattle.library.specs.declared.command.Command.TheVariants as command;
-ghost use Rattle.library.specs.Edits.{add_tests, replace_tests, citers};
+ghost use Rattle.library.specs.Edits.{add_tests, replace_tests, rename_tests, citers, has};
 ghost use Rattle.library.specs.Fitting.{CommandFits};
 ghost use Rattle.library.specs.Library.{Verifies, label_of};
 ghost use Rattle.library.specs.declared.library.Ranked.{Ranked};
@@ -17,6 +17,7 @@ ghost use Rattle.history.specs.declared.editor.ApplyError.TheVariants as error;
 
 use super::Draft;
 use crate::citing::{recited, relabelled, reproved};
+use crate::clashing::has_clash;
 use crate::editor::ApplyError;
 use crate::listing::list_lines;
 use crate::places::{entry_at, find_entry, find_label};
@@ -89,6 +90,7 @@ impl Draft {
     ) -> Result<Option<Reason>, AllocError>
         ensures { IfOk result (λ found. found ≡ first_reason (add_tests self.now.setting (now_in self.now) rank assertion.now)) }
     {
+        let entries = self.entries.as_slice();
         let label = assertion.label.as_slice();
         if rank == 0 {
             return Ok(Some(Reason::BadRank));
@@ -96,8 +98,12 @@ impl Draft {
         if !is_lawful_label(&self.prelude, label) {
             return Ok(Some(Reason::BadLabel));
         }
-        if find_label(self.entries.as_slice(), &self.places, label).is_some() {
+        if find_label(entries, &self.places, label).is_some() {
             return Ok(Some(Reason::LabelTaken));
+        }
+        // No assertion has the label, so this leaves none out.
+        if has_clash(entries, label, label) {
+            return Ok(Some(Reason::LabelClashes));
         }
         if let Kind::Axiom = assertion.kind {
             return Ok(Some(Reason::AxiomNotAllowed));
@@ -209,6 +215,25 @@ impl Draft {
         Ok(())
     }
 
+    /// The reason for which another label is refused for the assertion with a label.
+    fn refuse_rename(&self, old: &Label, new: &Label) -> Option<Reason>
+        requires { has (now_in self.now) old.now ≡ true }
+        ensures { result ≡ first_reason (rename_tests self.now.setting (now_in self.now) old.now new.now) }
+    {
+        let entries = self.entries.as_slice();
+        let label = new.as_slice();
+        if !is_lawful_label(&self.prelude, label) {
+            return Some(Reason::BadLabel);
+        }
+        if find_label(entries, &self.places, label).is_some() {
+            return Some(Reason::LabelTaken);
+        }
+        if has_clash(entries, old.as_slice(), label) {
+            return Some(Reason::LabelClashes);
+        }
+        None
+    }
+
     fn rename(
         &mut self,
         alloc: Global,
@@ -224,11 +249,8 @@ impl Draft {
         else {
             return Err(refused(index, Reason::UnknownLabel));
         };
-        if !is_lawful_label(&self.prelude, new.as_slice()) {
-            return Err(refused(index, Reason::BadLabel));
-        }
-        if find_label(self.entries.as_slice(), &self.places, new.as_slice()).is_some() {
-            return Err(refused(index, Reason::LabelTaken));
+        if let Some(reason) = self.refuse_rename(old, new) {
+            return Err(refused(index, reason));
         }
         let renamed = relabelled(alloc, entry, new)?;
         let citers = Vec::from_slice(alloc, self.citers_of(place))?;

@@ -1,0 +1,30 @@
+use Rattle.std.proofs.Common.{◌≡◌, ℕ, ◌≤◌, Bool, true, false, length, refl, sym, ap, ◌∙◌, inl, inr, arith}
+use Rattle.std.specs.Prelude.{◌||◌}
+use Rattle.std.proofs.lemmas.Bool.{cases_Bool}
+use Rattle.mmtext.specs.Words.{Word}
+use Rattle.mmsyntax.specs.Dotted.{is_dotted, clash}
+use Rattle.mmsyntax.proofs.DottedWords.{dotted_longer}
+use Rattle.history.proofs.clashing.clash.Goals as goal
+
+-- a word is L.k only of a shorter one
+not_longer : (l w : Word) → length w ≤ length l → is_dotted l w ≡ false
+not_longer l w le = elim (cases_Bool (is_dotted l w)) [
+  | inl y ↦ absurd (let lt = dotted_longer l w y in omega arith)
+  | inr n ↦ n
+]
+
+or_neither : (b : Bool) → b ≡ (b || false)
+or_neither true = refl
+or_neither false = refl
+
+pub returns-then-label-other : goal.returns-then-label-other
+returns-then-label-other c =
+    let l = c.args.label.now in
+    let w = c.args.other.now in
+    c.is_dotted.ensures ∙ or_neither (is_dotted l w) ∙ ap (λ b. is_dotted l w || b) (sym (not_longer w l (omega arith)))
+
+pub returns-else-label-other : goal.returns-else-label-other
+returns-else-label-other c =
+    let l = c.args.label.now in
+    let w = c.args.other.now in
+    c.is_dotted-else-label-other.ensures ∙ ap (λ b. b || is_dotted w l) (sym (not_longer l w (omega arith)))
