@@ -15,3 +15,5 @@ pub mod Written
 pub mod Canonical
 pub mod Declarable
 pub mod Copies
+pub mod Numerals
+pub mod DottedWords

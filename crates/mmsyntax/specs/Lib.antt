@@ -9,4 +9,5 @@ pub mod Layout
 pub mod Assertions
 pub mod Preludes
 pub mod Laws
+pub mod Numbers
 pub mod Indexes

@@ -17,21 +17,13 @@ use Rattle.scripts.specs.declared.script.place.Led.TheVariants as led
 use Rattle.scripts.specs.declared.script.place.Progress.{Progress as CodeProgress}
 use Rattle.scripts.specs.declared.script.place.State.{State as CodeState}
 use Rattle.library.specs.Fitting.{highest_rank}
-use Rattle.scripts.specs.Scripts.{hypothesis_numbered, counted_from_0}
+use Rattle.scripts.specs.Scripts.{counted_from_0}
 use Rattle.scripts.specs.ScriptFaults.{CommandPlace, at_rank, in_unit, at_reproved, at_proof, in_proof, at_old_label, at_new_label}
 use Rattle.scripts.specs.ScriptFaults.{at_recited, at_old_citation, at_new_citation}
 use Rattle.scripts.specs.ScriptFaults.{at_moved, at_new_rank, at_deleted, at_shown, Place, outermost, at_command, within, Progress}
 use Rattle.scripts.specs.ScriptFaults.{Led, inside, whole_command, bad, bad_text, is_numeral}
 
 -- ---- words
-
--- the number of digits, up to a highest
-abbrev pub written_within : ℕ → Word → Option ℕ
-written_within highest w = if nat_lt highest (digits_value 10 w) then None else Some (digits_value 10 w)
-
--- a rank
-abbrev pub rank_written : Word → Option ℕ
-rank_written w = written_within highest_rank w
 
 -- the place of the hypothesis that a word names in another proof of L
 unfoldable pub place_numbered : Word → Word → Option ℕ

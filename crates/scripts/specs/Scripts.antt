@@ -32,10 +32,6 @@ pub record IsRank (w : Word) (rank : ℕ) : Type 0 where
 
 -- ---- the steps of another proof
 
--- the number k from 1 to 1,000 for which a word is the label L.k of the k-th hypothesis of L
-abbrev pub hypothesis_numbered : Word → Word → Option ℕ
-hypothesis_numbered label w = find (λ k. bytes_eq w (hypothesis_label label k)) (range_with_len 1 1000)
-
 -- steps count hypotheses from 0
 abbrev pub counted_from_0 : Option ℕ → Option ℕ
 counted_from_0 None = None

@@ -24,7 +24,7 @@ use mmtext::{
     Stop, Token, Turn, comment_turn, fault_at, mark_word, next_token, no_memory, text_fault,
     unfinished_at,
 };
-pub use numerals::{count, is_numeral, number};
+pub use numerals::is_numeral;
 use place::{Place, Progress, State};
 pub use place::{CommandPlace, Led};
 use std::alloc::Global;

@@ -1,7 +1,7 @@
 -- What the loop of `count` keeps.
 use Rattle.std.proofs.Common.{◌≡◌, ◌<◌, take}
 use Rattle.std.specs.Str.Parse.{digits_value}
-use Rattle.scripts.proofs.script.numerals.count.Given as goal
+use Rattle.mmsyntax.proofs.numeral.count.Given as goal
 
 -- it is the value of the digits so far, and a u64
 abbrev pub invariant-loop-digit : goal.invariant-loop-digit

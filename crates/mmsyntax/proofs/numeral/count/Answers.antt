@@ -1,8 +1,7 @@
 -- What is left to show of `count`.
-use Rattle.std.proofs.Common.{◌≡◌, ◌<◌, ◌≤◌, ◌*◌, ◌+◌, ◌-◌, get_or, length, take, sym, ap, ◌∙◌, arith}
-use Rattle.std.specs.Str.Parse.{digits_value}
-use Rattle.scripts.proofs.Numerals.{one_more_digit, digit_here, too_high, written}
-use Rattle.scripts.proofs.script.numerals.count.Goals as goal
+use Rattle.std.proofs.Common.{◌+◌, ◌∙◌, arith}
+use Rattle.mmsyntax.proofs.Numerals.{one_more_digit, digit_here, too_high, written}
+use Rattle.mmsyntax.proofs.numeral.count.Goals as goal
 
 pub returns-in_err-checked_mul : goal.returns-in_err-checked_mul
 returns-in_err-checked_mul c =
