@@ -1,15 +1,17 @@
-use Rattle.std.proofs.Common.{◌≡◌, ℕ, ◌≤◌, Bool, true, false, length, refl, sym, ap, ◌∙◌, inl, inr, arith}
+use Rattle.std.proofs.Common.{◌≡◌, ℕ, ◌≤◌, Bool, true, false, List, ◌∷◌, length, refl, sym, ap, ◌∙◌, inl, inr, arith, length-append}
 use Rattle.std.specs.Prelude.{◌||◌}
+use Rattle.std.specs.Fmt.{decimal}
 use Rattle.std.proofs.lemmas.Bool.{cases_Bool}
-use Rattle.mmtext.specs.Words.{Word}
-use Rattle.mmsyntax.specs.Dotted.{is_dotted, clash}
-use Rattle.mmsyntax.proofs.DottedWords.{dotted_longer}
+use Rattle.mmsyntax.specs.Dotted.{is_dotted}
+use Rattle.mmsyntax.proofs.DottedWords.{dotted_parts}
 use Rattle.history.proofs.clashing.clash.Goals as goal
 
--- a word is L.k only of a shorter one
-not_longer : (l w : Word) → length w ≤ length l → is_dotted l w ≡ false
+-- a word is L.k of a shorter one alone
+not_longer : (l w : List ℕ) → length w ≤ length l → is_dotted l w ≡ false
 not_longer l w le = elim (cases_Bool (is_dotted l w)) [
-  | inl y ↦ absurd (let lt = dotted_longer l w y in omega arith)
+  | inl y ↦
+      let p = dotted_parts l w y in
+      absurd (omega (arith, ap length p.is ∙ length-append l (46 ∷ decimal p.k)))
   | inr n ↦ n
 ]
 

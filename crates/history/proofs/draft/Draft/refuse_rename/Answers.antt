@@ -1,11 +1,10 @@
 use Rattle.std.proofs.Common.{◌≡◌, ℕ, List, [], ◌∷◌, true, false, sym, ap, ◌∙◌}
 use mathlib.Core.Bool.{not}
 use Rattle.mmsyntax.specs.Assertions.{is_lawful_label}
-use Rattle.library.specs.declared.reason.Reason.{Reason}
 use Rattle.library.specs.declared.library.Ranked.{Ranked}
 use Rattle.library.specs.declared.reason.Reason.TheVariants as reason
 use Rattle.library.specs.Library.{Setting}
-use Rattle.library.specs.Edits.{Tests, has, clashes, without, unknown_label, bad_label, label_taken, label_clashes, rename_tests}
+use Rattle.library.specs.Edits.{has, clashes, without, unknown_label, bad_label, label_taken, label_clashes, rename_tests}
 use Rattle.history.specs.Drafts.{Drafted, now_in}
 use Rattle.history.specs.Refusals.{first_reason}
 use Rattle.history.proofs.Commands.{so, not_so, first-some, first-none, known, clashing}

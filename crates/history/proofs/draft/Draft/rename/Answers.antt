@@ -1,73 +1,39 @@
-use Rattle.std.proofs.Common.{◌≡◌, Some, false, true, Ok, set, refl, sym, ap, subst, ◌∙◌}
+use Rattle.std.proofs.Common.{◌≡◌, Some, false, Ok, set, refl, sym, ap, subst, ◌∙◌}
 use Rattle.std.specs.List.{slice_get, Contains}
 use Rattle.std.proofs.lemmas.Option.{slice_get_within}
-use mathlib.Core.Bool.{not}
-use Rattle.mmsyntax.specs.Assertions.{is_lawful_label}
 use Rattle.mmstatement.specs.Frames.{frame}
 use Rattle.library.specs.declared.library.Ranked.{Ranked}
-use Rattle.library.specs.declared.reason.Reason.TheVariants as reason
-use Rattle.library.specs.Edits.{has, done, unknown_label, bad_label, label_taken, rename_tests}
+use Rattle.library.specs.Edits.{has, done, rename_tests}
 use Rattle.history.specs.Entries.{living, StandsIn}
 use Rattle.history.specs.Citers.{Covers, HasAllCiters, IsCiter}
 use Rattle.history.specs.Drafts.{Drafted, now_in, with_label, citing, changed_all}
 use Rattle.history.proofs.Covering.{covers-fresh, all-relabelled}
 use Rattle.history.proofs.Changing.{get-set_same}
 use Rattle.history.proofs.Known.{verified-uncited}
-use Rattle.history.proofs.Commands.{tested_some, tested_none, so, not_so, first-some, first-none, HasLabel, has_label, has_own, known}
-use Rattle.history.proofs.Commands.{library-renamed}
+use Rattle.history.proofs.Commands.{tested_some, tested_none, HasLabel, has_label, has_own, rename_free, library-renamed}
 use Rattle.history.proofs.draft.Draft.rename.Goals as goal
 
-pub returns-then-not-is_lawful_label-clause-taken : goal.returns-then-not-is_lawful_label-clause-taken
-returns-then-not-is_lawful_label-clause-taken c =
+pub refuse_rename-requires : goal.refuse_rename-requires
+refuse_rename-requires c =
     let d = c.args.self.now in
-    let lib = now_in d in
     let i = c.self.inside in
     let held : i.entries.items ≡ d.entries = ap (λ (x : Drafted). x.entries) c.self.view_is in
-    let slice : c.as_slice.result.now ≡ i.entries.items = c.as_slice.ensures.value in
     let w = c.args.old.now in
     let at = c.in-Some.ensures.some in
     let e = c.in-Some.entry.now in
     let p = c.in-Some.place in
-    let own : HasLabel i.places d.entries w p e =
-    has_label i.places i.entries.items d.entries c.as_slice.result.now c.as_slice-2.result.now w p e c.self.invariant.0.indexed held slice
-    at.0 at.1 c.as_slice-2.ensures in
-    let new = c.args.new.now in
-    let lawful : is_lawful_label d.setting.prelude new ≡ false =
-    ap (λ (x : Drafted). is_lawful_label x.setting.prelude new) (sym c.self.view_is)
-    ∙ ap (is_lawful_label i.prelude) (sym c.as_slice-3.ensures) ∙ sym c.is_lawful_label.ensures ∙ c.if-not-is_lawful_label.true in
-    let there = not_so (not (has lib w)) reason.UnknownLabel (ap not (has_own i.places d.entries w p e own)) in
-    let bad = so (not (is_lawful_label d.setting.prelude new)) reason.BadLabel (ap not lawful) in
-    let first = first-none (unknown_label lib w) _ there ∙ first-some (bad_label d.setting new) _ reason.BadLabel bad in
-    rw c.refused-then-not-is_lawful_label.ensures (refl, tested_some (rename_tests d.setting lib w new) _ reason.BadLabel first)
+    has_own i.places d.entries w p e
+    (has_label i.places i.entries.items d.entries c.as_slice.result.now c.as_slice-2.result.now w p e c.self.invariant.0.indexed held
+    c.as_slice.ensures.value at.0 at.1 c.as_slice-2.ensures)
 
-pub returns-then-is_some-clause-taken : goal.returns-then-is_some-clause-taken
-returns-then-is_some-clause-taken c =
+pub returns-in-Some-clause-taken : goal.returns-in-Some-clause-taken
+returns-in-Some-clause-taken c =
     let d = c.args.self.now in
-    let lib = now_in d in
-    let i = c.self.inside in
-    let held : i.entries.items ≡ d.entries = ap (λ (x : Drafted). x.entries) c.self.view_is in
-    let slice : c.as_slice.result.now ≡ i.entries.items = c.as_slice.ensures.value in
-    let w = c.args.old.now in
-    let at = c.in-Some.ensures.some in
-    let e = c.in-Some.entry.now in
-    let p = c.in-Some.place in
-    let own : HasLabel i.places d.entries w p e =
-    has_label i.places i.entries.items d.entries c.as_slice.result.now c.as_slice-2.result.now w p e c.self.invariant.0.indexed held slice
-    at.0 at.1 c.as_slice-2.ensures in
-    let new = c.args.new.now in
-    let lawful : is_lawful_label d.setting.prelude new ≡ true =
-    ap (λ (x : Drafted). is_lawful_label x.setting.prelude new) (sym c.self.view_is)
-    ∙ ap (is_lawful_label i.prelude) (sym c.as_slice-3.ensures) ∙ sym c.is_lawful_label.ensures ∙ c.if-not-is_lawful_label.false in
-    let there = not_so (not (has lib w)) reason.UnknownLabel (ap not (has_own i.places d.entries w p e own)) in
-    let good = not_so (not (is_lawful_label d.setting.prelude new)) reason.BadLabel (ap not lawful) in
-    let here : has lib new ≡ true =
-    known c.as_slice-4.result.now d.entries c.as_slice-5.result.now new c.find_label.result c.is_some.result
-    (c.as_slice-4.ensures.value ∙ held) c.as_slice-5.ensures c.find_label.ensures c.is_some.ensures
-    ∙ c.if-is_some.true in
-    let first =
-    first-none (unknown_label lib w) _ there ∙ first-none (bad_label d.setting new) _ good
-    ∙ first-some (label_taken lib new) _ reason.LabelTaken (so (has lib new) reason.LabelTaken here) in
-    rw c.refused-then-is_some.ensures (refl, tested_some (rename_tests d.setting lib w new) _ reason.LabelTaken first)
+    rw c.refused-in-Some.ensures (
+      refl,
+      tested_some (rename_tests d.setting (now_in d) c.args.old.now c.args.new.now) _ c.in-Some-refuse_rename.reason
+          (sym c.refuse_rename.ensures ∙ c.in-Some-refuse_rename.is),
+    )
 
 pub put-requires-clause-framed : goal.put-requires-clause-framed
 put-requires-clause-framed c =
@@ -121,10 +87,7 @@ put-requires-clause-covered c =
     has_label i.places i.entries.items d.entries c.as_slice.result.now c.as_slice-2.result.now w p e c.self.invariant.0.indexed held slice
     at.0 at.1 c.as_slice-2.ensures in
     let new = c.args.new.now in
-    let free : has lib new ≡ false =
-    known c.as_slice-4.result.now d.entries c.as_slice-5.result.now new c.find_label.result c.is_some.result
-    (c.as_slice-4.ensures.value ∙ held) c.as_slice-5.ensures c.find_label.ensures c.is_some.ensures
-    ∙ c.if-is_some.false in
+    let free : has lib new ≡ false = rename_free d.setting lib w new (sym c.refuse_rename.ensures ∙ c.in_default.is) in
     let covers : Covers d.citers d.entries = subst (λ (x : Drafted). Covers x.citers x.entries) c.self.view_is
     c.self.invariant.3.covers_now in
     rw c.in_ok-renamed.ensures
@@ -147,7 +110,7 @@ recite_all-requires-clause-all c =
     has_label i.places i.entries.items d.entries c.as_slice.result.now c.as_slice-2.result.now w p e c.self.invariant.0.indexed held slice
     at.0 at.1 c.as_slice-2.ensures in
     let new = c.args.new.now in
-    let same : c.as_slice-6.result.now ≡ c.citers_of.result.now = c.as_slice-6.ensures.value ∙ c.in_ok-citers.ensures.items in
+    let same : c.as_slice-3.result.now ≡ c.citers_of.result.now = c.as_slice-3.ensures.value ∙ c.in_ok-citers.ensures.items in
     let now = c.in_ok-put.ensures.done.entries ∙ ap (λ (x : Ranked). set d.entries p (Some x)) c.in_ok-renamed.ensures in
     let all : HasAllCiters d.entries w c.citers_of.result.now =
     subst (λ l. HasAllCiters d.entries l c.citers_of.result.now) own.labelled (c.citers_of.ensures.all e own.at) in
@@ -168,7 +131,7 @@ recite_all-requires-clause-listed c =
     has_label i.places i.entries.items d.entries c.as_slice.result.now c.as_slice-2.result.now w p e c.self.invariant.0.indexed held slice
     at.0 at.1 c.as_slice-2.ensures in
     let new = c.args.new.now in
-    let same : c.as_slice-6.result.now ≡ c.citers_of.result.now = c.as_slice-6.ensures.value ∙ c.in_ok-citers.ensures.items in
+    let same : c.as_slice-3.result.now ≡ c.citers_of.result.now = c.as_slice-3.ensures.value ∙ c.in_ok-citers.ensures.items in
     let now = c.in_ok-put.ensures.done.entries ∙ ap (λ (x : Ranked). set d.entries p (Some x)) c.in_ok-renamed.ensures in
     let within = slice_get_within d.entries p (Some e) own.at in (
       p,
@@ -196,20 +159,8 @@ returns-clause-taken c =
     has_label i.places i.entries.items d.entries c.as_slice.result.now c.as_slice-2.result.now w p e c.self.invariant.0.indexed held slice
     at.0 at.1 c.as_slice-2.ensures in
     let new = c.args.new.now in
-    let lawful : is_lawful_label d.setting.prelude new ≡ true =
-    ap (λ (x : Drafted). is_lawful_label x.setting.prelude new) (sym c.self.view_is)
-    ∙ ap (is_lawful_label i.prelude) (sym c.as_slice-3.ensures) ∙ sym c.is_lawful_label.ensures ∙ c.if-not-is_lawful_label.false in
-    let there = not_so (not (has lib w)) reason.UnknownLabel (ap not (has_own i.places d.entries w p e own)) in
-    let good = not_so (not (is_lawful_label d.setting.prelude new)) reason.BadLabel (ap not lawful) in
-    let here : has lib new ≡ false =
-    known c.as_slice-4.result.now d.entries c.as_slice-5.result.now new c.find_label.result c.is_some.result
-    (c.as_slice-4.ensures.value ∙ held) c.as_slice-5.ensures c.find_label.ensures c.is_some.ensures
-    ∙ c.if-is_some.false in
-    let first =
-    first-none (unknown_label lib w) _ there ∙ first-none (bad_label d.setting new) _ good
-    ∙ first-none (label_taken lib new) _ (not_so (has lib new) reason.LabelTaken here) in
     let now =
     c.in_ok-recite_all.ensures.done ∙ ap (changed_all (citing w new)) c.in_ok-put.ensures.done.entries
     ∙ ap (λ (x : Ranked). changed_all (citing w new) (set d.entries p (Some x))) c.in_ok-renamed.ensures in
-    tested_none (rename_tests d.setting lib w new) _ first
+    tested_none (rename_tests d.setting lib w new) _ (sym c.refuse_rename.ensures ∙ c.in_default.is)
     ∙ ap (λ l. Ok (done l)) (sym (library-renamed i.places d.entries w new p e own) ∙ ap living (sym now))
