@@ -1,12 +1,12 @@
 -- Which labels clash with those of a library, and libraries whose labels are apart.
 use Rattle.std.proofs.Common.{◌≡◌, ℕ, Bool, true, false, cond, List, [], ◌∷◌, get_or, map, refl, sym, ap, subst, ◌∙◌, inl, inr}
-use Rattle.std.specs.Prelude.{filter, ◌⊎◌, ◌&&◌, ◌||◌}
+use Rattle.std.specs.Prelude.{filter, ◌&&◌, ◌||◌}
 use mathlib.Core.Bool.{not}
 use Rattle.std.specs.List.{list_any, Contains}
 use Rattle.std.specs.List.Sorted.{IsPermutation}
 use Rattle.std.specs.Str.{bytes_eq}
-use Rattle.std.proofs.lemmas.Bool.{cases_Bool, cond-true, not_from_false, or_parts}
-use Rattle.std.proofs.lemmas.List.Elements.{Contains-get_or}
+use Rattle.std.proofs.lemmas.Bool.{cases_Bool, cond-true, not-true, not_from_false, or_parts}
+use Rattle.std.proofs.lemmas.List.Elements.{All-contains, Contains-get_or, filter_passes}
 use Rattle.std.proofs.lemmas.List.Folds.{list_any_at, list_any_none, Any-from_list_any}
 use Rattle.std.proofs.lemmas.List.Sorted.{list_any-IsPermutation}
 use Rattle.mmsyntax.specs.Dotted.{clash, AreApart}
@@ -17,7 +17,7 @@ use Rattle.library.specs.declared.library.Ranked.{Ranked}
 use Rattle.library.specs.Library.{label_of}
 use Rattle.library.specs.Edits.{is_labelled, has, clashes, without}
 use Rattle.library.proofs.Citations.{none_contained}
-use Rattle.library.proofs.Filtered.{contains_mapped, contains_unmapped, contains_filtered}
+use Rattle.library.proofs.Filtered.{contained_filter, contains_filtered, contains_mapped, contains_unmapped}
 use Rattle.library.proofs.Labels.{replacing-old, replacing-other}
 
 -- ---- what clashes
@@ -72,6 +72,21 @@ clashes_without-permutation lib other own label p =
     clashes-without lib own label
     ∙ list_any-IsPermutation (λ e. not (is_labelled own e) && clash (label_of e) label) lib other p
     ∙ sym (clashes-without other own label)
+
+pub clashes_without_at : (lib : List Ranked) (own label : List ℕ) (e : Ranked) → Contains lib e → is_labelled own e ≡ false
+    → clash (label_of e) label ≡ true → clashes (without own lib) label ≡ true
+clashes_without_at lib own label e at other h =
+    let left = contains_filtered (λ f. not (is_labelled own f)) lib e at (not_from_false (is_labelled own e) other) in
+    clashes_at (without own lib) label e left h
+
+pub clashes_without_somewhere : (lib : List Ranked) (own label : List ℕ) → clashes (without own lib) label ≡ true
+    → (e : Ranked) × Contains lib e × (is_labelled own e ≡ false) × (clash (label_of e) label ≡ true)
+clashes_without_somewhere lib own label h =
+    let kept = λ (f : Ranked). not (is_labelled own f) in
+    let some = clashes_somewhere (without own lib) label h in
+    let e = some.0 in
+    let passes : kept e ≡ true = All-contains (λ f. kept f ≡ true) (without own lib) e (filter_passes kept lib) some.1 in
+    (e, contained_filter kept lib e some.1, not-true (is_labelled own e) passes, some.2)
 
 -- nothing is left out where no assertion has the label
 pub without-absent : (lib : List Ranked) (label : List ℕ) → has lib label ≡ false → without label lib ≡ lib

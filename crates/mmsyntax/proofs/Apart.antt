@@ -1,48 +1,28 @@
 -- Labels of which none is L.k of another: what keeps them so, and that labels without a dot are.
-use Rattle.std.proofs.Common.{◌≡◌, ℕ, suc, ◌+◌, Bool, true, false, cond, List, [], ◌∷◌, ◌++◌, length, Option, Some, None, refl, sym, ap, ◌∙◌}
-use Rattle.std.proofs.Common.{subst, inl, inr, arith, length-append}
-use Rattle.std.specs.Prelude.{IsTrue, ◌⊎◌, ◌||◌, ◌&&◌, ◌==◌, nat_le, is_some}
+use Rattle.std.proofs.Common.{◌≡◌, Bool, true, false, List, [], ◌∷◌, length, refl, sym, ◌∙◌}
+use Rattle.std.proofs.Common.{subst, inl, inr, arith}
+use Rattle.std.specs.Prelude.{IsTrue, ◌⊎◌, ◌||◌, ◌&&◌, nat_le, is_some}
 use mathlib.Core.Bool.{not}
-use Rattle.std.specs.List.{All, Contains, list_any, find, range_with_len}
-use Rattle.std.specs.Str.{bytes_eq}
-use Rattle.std.proofs.lemmas.Bool.{and_right, and_parts, both_ways, cond-false, false_from_ne_true, not-true, or_parts, or_from}
+use Rattle.std.specs.List.{All, Contains, list_any}
+use Rattle.std.proofs.lemmas.Bool.{and_parts, not-true, or_parts}
 use Rattle.std.proofs.lemmas.List.Elements.{All-cons, All-contains, Contains-get_or}
-use Rattle.std.proofs.lemmas.List.Folds.{list_any-append}
 use Rattle.mmtext.specs.Words.{Word, has_dot, is_label}
 use Rattle.mmsyntax.specs.Tables.{Tables, meaning}
 use Rattle.mmsyntax.specs.Assertions.{is_lawful_label}
-use Rattle.mmsyntax.specs.Dotted.{hypothesis_label, hypothesis_numbered, is_dotted, clash, AreApart}
-use Rattle.mmsyntax.proofs.Names.{same_bytes}
+use Rattle.mmsyntax.specs.Dotted.{is_dotted, clash, AreApart}
+use Rattle.mmsyntax.proofs.DottedWords.{not_dotted_itself, plain_not_dotted}
 use Rattle.mmsyntax.proofs.Distinct.{any_at}
 
--- ---- words
+-- ---- two labels
 
-find_none : {A : Type 0} (p : A → Bool) (xs : List A) → ((x : A) → p x ≡ false) → find p xs ≡ None
-find_none p [] h = refl
-find_none p (x ∷ xs) h = cond-false (p x) (Some x) (find p xs) (h x) ∙ find_none p xs h
-
-never_dotted : (l w : Word) → ((k : ℕ) → w ≡ hypothesis_label l k → ⊥) → is_dotted l w ≡ false
-unfolding is_dotted hypothesis_numbered
-never_dotted l w never =
-    and_right (not (bytes_eq l [])) _
-    (ap is_some (find_none (λ k. bytes_eq w (hypothesis_label l k)) (range_with_len 1 1000)
-    (λ k. false_from_ne_true (bytes_eq w (hypothesis_label l k)) (λ y. never k (same_bytes w (hypothesis_label l k) y)))))
-
-dot_within : (l rest : Word) → has_dot (l ++ 46 ∷ rest) ≡ false → ⊥
-dot_within l rest h =
-    let both = or_parts (has_dot l) true (sym (list_any-append (λ b. b == 46) l (46 ∷ rest)) ∙ h) in
-    both_ways true both.1 refl
-
--- a word without a dot is no L.k
-pub plain_not_dotted : (l w : Word) → has_dot w ≡ false → is_dotted l w ≡ false
-plain_not_dotted l w plain = never_dotted l w (λ k same. dot_within l _ (sym (ap has_dot same) ∙ plain))
-
-longer : (l rest : Word) → l ≡ l ++ 46 ∷ rest → ⊥
-longer l rest same = omega (arith, ap length same ∙ length-append l (46 ∷ rest))
-
--- a word is not L.k of itself
-pub not_dotted_itself : (w : Word) → is_dotted w w ≡ false
-not_dotted_itself w = never_dotted w w (λ k same. longer w _ same)
+pub clash-sym : (l w : Word) → clash l w ≡ clash w l
+clash-sym l w = swapped (is_dotted l w) (is_dotted w l)
+  where
+    swapped : (a b : Bool) → (a || b) ≡ (b || a)
+    swapped true true = refl
+    swapped true false = refl
+    swapped false true = refl
+    swapped false false = refl
 
 -- ---- lists
 

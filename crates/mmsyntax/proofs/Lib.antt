@@ -1,6 +1,5 @@
 pub mod Names
 pub mod Distinct
-pub mod Apart
 pub mod Lines
 pub mod Sound
 pub mod Ascending
@@ -17,3 +16,4 @@ pub mod Declarable
 pub mod Copies
 pub mod Numerals
 pub mod DottedWords
+pub mod Apart

@@ -1,20 +1,18 @@
 -- The grammar of scripts: which words spell transactions, and which bytes spell a script.
 use Rattle.std.specs.Prelude.{◌≡◌, ◌≢◌, ◌≤◌, ℕ, zero, suc, false, List, [], ◌∷◌, ◌++◌, length, Option, Some, None, Result, Ok}
-use Rattle.std.specs.Prelude.{codes, find}
-use Rattle.std.specs.List.{range_with_len}
+use Rattle.std.specs.Prelude.{codes}
 use Rattle.std.specs.Fmt.{decimal}
-use Rattle.std.specs.Str.{bytes_eq}
 use Rattle.mmtext.specs.declared.fault.FaultKind.{FaultKind}
 use Rattle.mmtext.specs.Text.{tokens, IsClean}
 use Rattle.mmtext.specs.Words.{Word, has_dollar}
 use Rattle.mmtext.specs.Comments.{words_of, without_comments}
 use Rattle.mmsyntax.specs.declared.statement.Step.{Step}
 use Rattle.mmsyntax.specs.declared.statement.Assertion.{Assertion}
+use Rattle.mmsyntax.specs.Dotted.{hypothesis_numbered}
 use Rattle.mmsyntax.specs.Tables.{Tables, meaning}
 use Rattle.mmsyntax.specs.Rows.{Known, prelude_alone, first_fault}
 use Rattle.mmsyntax.specs.Steps.{step_tests, float_named, step_named, unless_faulty}
 use Rattle.mmsyntax.specs.Grammar.{Statement, spelling, Declares}
-use Rattle.mmsyntax.specs.Layout.{hypothesis_label}
 use Rattle.library.specs.declared.command.Command.{Command}
 use Rattle.library.specs.declared.command.Command.TheVariants as command
 use Rattle.library.specs.Fitting.{highest_rank}

@@ -11,5 +11,5 @@ pub use library::{
 pub use mmsyntax::numeral::{count, number};
 pub use script::{
     CommandPlace, Led, is_numeral, read_command_word, read_in_command, read_label, read_rank,
-    read_script,
+    read_script, take_in_command,
 };
