@@ -1,6 +1,7 @@
 //! Labels that may not stand beside one another in a library.
 
 ghost use Rattle.std.specs.Prelude.{◌≡◌};
+ghost use Rattle.std.specs.List.{list_any};
 ghost use Rattle.mmsyntax.specs.Dotted.{clash};
 ghost use Rattle.library.specs.Edits.{clashes, without};
 ghost use Rattle.history.specs.Entries.{living};
@@ -33,11 +34,16 @@ fn clashes_there(place: &Option<Ranked>, own: &[u8], label: &[u8]) -> bool
     }
 }
 
+/// Whether some place has such an assertion.
+fn some_clashes(entries: &[Option<Ranked>], own: &[u8], label: &[u8]) -> bool
+    ensures { result ≡ list_any (passes_there (clashes_beside own.now label.now)) entries.now }
+{
+    entries.iter().any(|place| clashes_there(place, own, label))
+}
+
 /// Whether the label of an assertion clashes with one. The assertion with the label `own`, if there is one, is left out.
 pub(crate) fn has_clash(entries: &[Option<Ranked>], own: &[u8], label: &[u8]) -> bool
     ensures { result ≡ clashes (without own.now (living entries.now)) label.now }
 {
-    entries
-        .iter()
-        .any(|place| clashes_there(place, own, label))
+    some_clashes(entries, own, label)
 }

@@ -1,10 +1,10 @@
 //! Commands, one by one: each is done, or refused by the first test that fails.
 
-ghost use Rattle.std.specs.Prelude.{◌≡◌, ℕ, true, All, Contains, None, Some, IfErr, IfOk, OnOk};
+ghost use Rattle.std.specs.Prelude.{◌≡◌, ℕ, All, Contains, None, Some, IfErr, IfOk, OnOk};
 ghost use Rattle.std.specs.List.Sorted.{IsStrictlyIncreasing};
 ghost use Rattle.mmsyntax.specs.declared.statement.Kind.TheVariants.{Theorem};
 ghost use Rattle.library.specs.declared.command.Command.TheVariants as command;
-ghost use Rattle.library.specs.Edits.{add_tests, replace_tests, rename_tests, citers, has};
+ghost use Rattle.library.specs.Edits.{add_tests, replace_tests, citers};
 ghost use Rattle.library.specs.Fitting.{CommandFits};
 ghost use Rattle.library.specs.Library.{Verifies, label_of};
 ghost use Rattle.library.specs.declared.library.Ranked.{Ranked};
@@ -12,7 +12,7 @@ ghost use Rattle.history.specs.Entries.{StandsIn};
 ghost use Rattle.history.specs.Citers.{HasAllCiters, IsCiter};
 ghost use Rattle.history.specs.Places.{StandsAt};
 ghost use Rattle.history.specs.Drafts.{now_in, citing, changed_at, changed_all, KeepsStart, Takes, TakesAll};
-ghost use Rattle.history.specs.Refusals.{first_reason, proof_tests};
+ghost use Rattle.history.specs.Refusals.{first_reason, proof_tests, label_tests};
 ghost use Rattle.history.specs.declared.editor.ApplyError.TheVariants as error;
 
 use super::Draft;
@@ -81,6 +81,23 @@ impl Draft {
         }
     }
 
+    /// The reason for which an assertion may not have a label. The one with the label `own`, if there is one, may clash with it.
+    fn refuse_label(&self, own: &[u8], label: &[u8]) -> Option<Reason>
+        ensures { result ≡ first_reason (label_tests self.now.setting (now_in self.now) own.now label.now) }
+    {
+        let entries = self.entries.as_slice();
+        if !is_lawful_label(&self.prelude, label) {
+            return Some(Reason::BadLabel);
+        }
+        if find_label(entries, &self.places, label).is_some() {
+            return Some(Reason::LabelTaken);
+        }
+        if has_clash(entries, own, label) {
+            return Some(Reason::LabelClashes);
+        }
+        None
+    }
+
     /// The reason for which adding an assertion with this rank is refused.
     fn refuse_add(
         &self,
@@ -90,20 +107,13 @@ impl Draft {
     ) -> Result<Option<Reason>, AllocError>
         ensures { IfOk result (λ found. found ≡ first_reason (add_tests self.now.setting (now_in self.now) rank assertion.now)) }
     {
-        let entries = self.entries.as_slice();
         let label = assertion.label.as_slice();
         if rank == 0 {
             return Ok(Some(Reason::BadRank));
         }
-        if !is_lawful_label(&self.prelude, label) {
-            return Ok(Some(Reason::BadLabel));
-        }
-        if find_label(entries, &self.places, label).is_some() {
-            return Ok(Some(Reason::LabelTaken));
-        }
-        // No assertion has the label, so this leaves none out.
-        if has_clash(entries, label, label) {
-            return Ok(Some(Reason::LabelClashes));
+        // No assertion has the label where it is tested what it clashes with, so this leaves none out.
+        if let Some(reason) = self.refuse_label(label, label) {
+            return Ok(Some(reason));
         }
         if let Kind::Axiom = assertion.kind {
             return Ok(Some(Reason::AxiomNotAllowed));
@@ -215,25 +225,6 @@ impl Draft {
         Ok(())
     }
 
-    /// The reason for which another label is refused for the assertion with a label.
-    fn refuse_rename(&self, old: &Label, new: &Label) -> Option<Reason>
-        requires { has (now_in self.now) old.now ≡ true }
-        ensures { result ≡ first_reason (rename_tests self.now.setting (now_in self.now) old.now new.now) }
-    {
-        let entries = self.entries.as_slice();
-        let label = new.as_slice();
-        if !is_lawful_label(&self.prelude, label) {
-            return Some(Reason::BadLabel);
-        }
-        if find_label(entries, &self.places, label).is_some() {
-            return Some(Reason::LabelTaken);
-        }
-        if has_clash(entries, old.as_slice(), label) {
-            return Some(Reason::LabelClashes);
-        }
-        None
-    }
-
     fn rename(
         &mut self,
         alloc: Global,
@@ -245,11 +236,12 @@ impl Draft {
         ensures taken { Takes index self.old (command.Rename old.now new.now) result self.new }
         ensures kept { KeepsStart self.old self.new }
     {
-        let Some((place, entry)) = find_entry(self.entries.as_slice(), &self.places, old.as_slice())
-        else {
+        let own = old.as_slice();
+        let refusal = self.refuse_label(own, new.as_slice());
+        let Some((place, entry)) = find_entry(self.entries.as_slice(), &self.places, own) else {
             return Err(refused(index, Reason::UnknownLabel));
         };
-        if let Some(reason) = self.refuse_rename(old, new) {
+        if let Some(reason) = refusal {
             return Err(refused(index, reason));
         }
         let renamed = relabelled(alloc, entry, new)?;

@@ -1,8 +1,7 @@
-use Rattle.std.proofs.Common.{rules, ◌≡◌, sym, ◌∙◌}
-use Rattle.std.specs.List.{list_any}
+use Rattle.std.proofs.Common.{◌≡◌, sym, ◌∙◌}
 use Rattle.library.proofs.Clashing.{clashes-without}
 use Rattle.history.specs.Entries.{living}
-use Rattle.history.specs.Testing.{passes_there, clashes_beside}
+use Rattle.history.specs.Testing.{clashes_beside}
 use Rattle.history.proofs.Living.{any-living}
 use Rattle.history.proofs.clashing.has_clash.Goals as goal
 
@@ -11,5 +10,4 @@ returns c =
     let es = c.args.entries.now in
     let own = c.args.own.now in
     let label = c.args.label.now in
-    let each : c.any.result ≡ list_any (passes_there (clashes_beside own label)) es = search rules in
-    each ∙ sym (any-living (clashes_beside own label) es) ∙ sym (clashes-without (living es) own label)
+    c.some_clashes.ensures ∙ sym (any-living (clashes_beside own label) es) ∙ sym (clashes-without (living es) own label)

@@ -1,4 +1,4 @@
-use Rattle.std.proofs.Common.{◌≡◌, Some, false, Ok, set, refl, sym, ap, subst, ◌∙◌}
+use Rattle.std.proofs.Common.{◌≡◌, ℕ, List, Some, false, Ok, set, refl, sym, ap, subst, ◌∙◌}
 use Rattle.std.specs.List.{slice_get, Contains}
 use Rattle.std.proofs.lemmas.Option.{slice_get_within}
 use Rattle.mmstatement.specs.Frames.{frame}
@@ -6,34 +6,40 @@ use Rattle.library.specs.declared.library.Ranked.{Ranked}
 use Rattle.library.specs.Edits.{has, done, rename_tests}
 use Rattle.history.specs.Entries.{living, StandsIn}
 use Rattle.history.specs.Citers.{Covers, HasAllCiters, IsCiter}
+use Rattle.library.specs.Library.{Setting}
+use Rattle.history.specs.Refusals.{first_reason, label_tests}
 use Rattle.history.specs.Drafts.{Drafted, now_in, with_label, citing, changed_all}
 use Rattle.history.proofs.Covering.{covers-fresh, all-relabelled}
 use Rattle.history.proofs.Changing.{get-set_same}
 use Rattle.history.proofs.Known.{verified-uncited}
-use Rattle.history.proofs.Commands.{tested_some, tested_none, HasLabel, has_label, has_own, rename_free, library-renamed}
+use Rattle.history.proofs.Commands.{tested_some, tested_none, HasLabel, has_label, has_own, label_free, rename_front, library-renamed}
 use Rattle.history.proofs.draft.Draft.rename.Goals as goal
 
-pub refuse_rename-requires : goal.refuse_rename-requires
-refuse_rename-requires c =
+-- the tests of the new label, of labels that are equal
+as_labels : (s : Setting) (lib : List Ranked) (v v' w w' : List ℕ) → v ≡ w → v' ≡ w'
+    → first_reason (label_tests s lib w w') ≡ first_reason (label_tests s lib v v')
+as_labels s lib v v' w w' e f =
+    ap (λ x. first_reason (label_tests s lib x w')) (sym e) ∙ ap (λ x. first_reason (label_tests s lib v x)) (sym f)
+
+pub returns-in-Some-refusal-clause-taken : goal.returns-in-Some-refusal-clause-taken
+returns-in-Some-refusal-clause-taken c =
     let d = c.args.self.now in
+    let lib = now_in d in
     let i = c.self.inside in
     let held : i.entries.items ≡ d.entries = ap (λ (x : Drafted). x.entries) c.self.view_is in
     let w = c.args.old.now in
+    let new = c.args.new.now in
     let at = c.in-Some.ensures.some in
     let e = c.in-Some.entry.now in
     let p = c.in-Some.place in
-    has_own i.places d.entries w p e
-    (has_label i.places i.entries.items d.entries c.as_slice.result.now c.as_slice-2.result.now w p e c.self.invariant.0.indexed held
-    c.as_slice.ensures.value at.0 at.1 c.as_slice-2.ensures)
-
-pub returns-in-Some-clause-taken : goal.returns-in-Some-clause-taken
-returns-in-Some-clause-taken c =
-    let d = c.args.self.now in
-    rw c.refused-in-Some.ensures (
-      refl,
-      tested_some (rename_tests d.setting (now_in d) c.args.old.now c.args.new.now) _ c.in-Some-refuse_rename.reason
-          (sym c.refuse_rename.ensures ∙ c.in-Some-refuse_rename.is),
-    )
+    let own : HasLabel i.places d.entries w p e =
+    has_label i.places i.entries.items d.entries c.as_slice-2.result.now c.as_slice-own.result.now w p e c.self.invariant.0.indexed held
+    c.as_slice-2.ensures.value at.0 at.1 c.as_slice-own.ensures in
+    let told =
+    as_labels d.setting lib c.as_slice-own.result.now c.as_slice.result.now w new c.as_slice-own.ensures c.as_slice.ensures
+    ∙ sym c.refuse_label-refusal.ensures in
+    let first = rename_front d.setting lib w new (has_own i.places d.entries w p e own) ∙ told ∙ c.in-Some-refusal.is in
+    rw c.refused-in-Some-refusal.ensures (refl, tested_some (rename_tests d.setting lib w new) _ c.in-Some-refusal.reason first)
 
 pub put-requires-clause-framed : goal.put-requires-clause-framed
 put-requires-clause-framed c =
@@ -41,14 +47,14 @@ put-requires-clause-framed c =
     let lib = now_in d in
     let i = c.self.inside in
     let held : i.entries.items ≡ d.entries = ap (λ (x : Drafted). x.entries) c.self.view_is in
-    let slice : c.as_slice.result.now ≡ i.entries.items = c.as_slice.ensures.value in
+    let slice : c.as_slice-2.result.now ≡ i.entries.items = c.as_slice-2.ensures.value in
     let w = c.args.old.now in
     let at = c.in-Some.ensures.some in
     let e = c.in-Some.entry.now in
     let p = c.in-Some.place in
     let own : HasLabel i.places d.entries w p e =
-    has_label i.places i.entries.items d.entries c.as_slice.result.now c.as_slice-2.result.now w p e c.self.invariant.0.indexed held slice
-    at.0 at.1 c.as_slice-2.ensures in
+    has_label i.places i.entries.items d.entries c.as_slice-2.result.now c.as_slice-own.result.now w p e c.self.invariant.0.indexed held slice
+    at.0 at.1 c.as_slice-own.ensures in
     let stands : StandsIn i.entries.items p e = subst (λ l. StandsIn l p e) slice at.0 in
     let framed = c.self.invariant.0.framed.framed p e stands in
     ap (λ (x : Drafted). slice_get x.frames p) (sym c.self.view_is) ∙ framed
@@ -61,14 +67,14 @@ citers_of-requires c =
     let lib = now_in d in
     let i = c.self.inside in
     let held : i.entries.items ≡ d.entries = ap (λ (x : Drafted). x.entries) c.self.view_is in
-    let slice : c.as_slice.result.now ≡ i.entries.items = c.as_slice.ensures.value in
+    let slice : c.as_slice-2.result.now ≡ i.entries.items = c.as_slice-2.ensures.value in
     let w = c.args.old.now in
     let at = c.in-Some.ensures.some in
     let e = c.in-Some.entry.now in
     let p = c.in-Some.place in
     let own : HasLabel i.places d.entries w p e =
-    has_label i.places i.entries.items d.entries c.as_slice.result.now c.as_slice-2.result.now w p e c.self.invariant.0.indexed held slice
-    at.0 at.1 c.as_slice-2.ensures in
+    has_label i.places i.entries.items d.entries c.as_slice-2.result.now c.as_slice-own.result.now w p e c.self.invariant.0.indexed held slice
+    at.0 at.1 c.as_slice-own.ensures in
     let new = c.args.new.now in
     (e, own.at)
 
@@ -78,16 +84,19 @@ put-requires-clause-covered c =
     let lib = now_in d in
     let i = c.self.inside in
     let held : i.entries.items ≡ d.entries = ap (λ (x : Drafted). x.entries) c.self.view_is in
-    let slice : c.as_slice.result.now ≡ i.entries.items = c.as_slice.ensures.value in
+    let slice : c.as_slice-2.result.now ≡ i.entries.items = c.as_slice-2.ensures.value in
     let w = c.args.old.now in
     let at = c.in-Some.ensures.some in
     let e = c.in-Some.entry.now in
     let p = c.in-Some.place in
     let own : HasLabel i.places d.entries w p e =
-    has_label i.places i.entries.items d.entries c.as_slice.result.now c.as_slice-2.result.now w p e c.self.invariant.0.indexed held slice
-    at.0 at.1 c.as_slice-2.ensures in
+    has_label i.places i.entries.items d.entries c.as_slice-2.result.now c.as_slice-own.result.now w p e c.self.invariant.0.indexed held slice
+    at.0 at.1 c.as_slice-own.ensures in
     let new = c.args.new.now in
-    let free : has lib new ≡ false = rename_free d.setting lib w new (sym c.refuse_rename.ensures ∙ c.in_default.is) in
+    let told =
+    as_labels d.setting lib c.as_slice-own.result.now c.as_slice.result.now w new c.as_slice-own.ensures c.as_slice.ensures
+    ∙ sym c.refuse_label-refusal.ensures in
+    let free : has lib new ≡ false = label_free d.setting lib w new (told ∙ c.in_default-refusal.is) in
     let covers : Covers d.citers d.entries = subst (λ (x : Drafted). Covers x.citers x.entries) c.self.view_is
     c.self.invariant.3.covers_now in
     rw c.in_ok-renamed.ensures
@@ -101,14 +110,14 @@ recite_all-requires-clause-all c =
     let lib = now_in d in
     let i = c.self.inside in
     let held : i.entries.items ≡ d.entries = ap (λ (x : Drafted). x.entries) c.self.view_is in
-    let slice : c.as_slice.result.now ≡ i.entries.items = c.as_slice.ensures.value in
+    let slice : c.as_slice-2.result.now ≡ i.entries.items = c.as_slice-2.ensures.value in
     let w = c.args.old.now in
     let at = c.in-Some.ensures.some in
     let e = c.in-Some.entry.now in
     let p = c.in-Some.place in
     let own : HasLabel i.places d.entries w p e =
-    has_label i.places i.entries.items d.entries c.as_slice.result.now c.as_slice-2.result.now w p e c.self.invariant.0.indexed held slice
-    at.0 at.1 c.as_slice-2.ensures in
+    has_label i.places i.entries.items d.entries c.as_slice-2.result.now c.as_slice-own.result.now w p e c.self.invariant.0.indexed held slice
+    at.0 at.1 c.as_slice-own.ensures in
     let new = c.args.new.now in
     let same : c.as_slice-3.result.now ≡ c.citers_of.result.now = c.as_slice-3.ensures.value ∙ c.in_ok-citers.ensures.items in
     let now = c.in_ok-put.ensures.done.entries ∙ ap (λ (x : Ranked). set d.entries p (Some x)) c.in_ok-renamed.ensures in
@@ -122,14 +131,14 @@ recite_all-requires-clause-listed c =
     let lib = now_in d in
     let i = c.self.inside in
     let held : i.entries.items ≡ d.entries = ap (λ (x : Drafted). x.entries) c.self.view_is in
-    let slice : c.as_slice.result.now ≡ i.entries.items = c.as_slice.ensures.value in
+    let slice : c.as_slice-2.result.now ≡ i.entries.items = c.as_slice-2.ensures.value in
     let w = c.args.old.now in
     let at = c.in-Some.ensures.some in
     let e = c.in-Some.entry.now in
     let p = c.in-Some.place in
     let own : HasLabel i.places d.entries w p e =
-    has_label i.places i.entries.items d.entries c.as_slice.result.now c.as_slice-2.result.now w p e c.self.invariant.0.indexed held slice
-    at.0 at.1 c.as_slice-2.ensures in
+    has_label i.places i.entries.items d.entries c.as_slice-2.result.now c.as_slice-own.result.now w p e c.self.invariant.0.indexed held slice
+    at.0 at.1 c.as_slice-own.ensures in
     let new = c.args.new.now in
     let same : c.as_slice-3.result.now ≡ c.citers_of.result.now = c.as_slice-3.ensures.value ∙ c.in_ok-citers.ensures.items in
     let now = c.in_ok-put.ensures.done.entries ∙ ap (λ (x : Ranked). set d.entries p (Some x)) c.in_ok-renamed.ensures in
@@ -150,17 +159,21 @@ returns-clause-taken c =
     let lib = now_in d in
     let i = c.self.inside in
     let held : i.entries.items ≡ d.entries = ap (λ (x : Drafted). x.entries) c.self.view_is in
-    let slice : c.as_slice.result.now ≡ i.entries.items = c.as_slice.ensures.value in
+    let slice : c.as_slice-2.result.now ≡ i.entries.items = c.as_slice-2.ensures.value in
     let w = c.args.old.now in
     let at = c.in-Some.ensures.some in
     let e = c.in-Some.entry.now in
     let p = c.in-Some.place in
     let own : HasLabel i.places d.entries w p e =
-    has_label i.places i.entries.items d.entries c.as_slice.result.now c.as_slice-2.result.now w p e c.self.invariant.0.indexed held slice
-    at.0 at.1 c.as_slice-2.ensures in
+    has_label i.places i.entries.items d.entries c.as_slice-2.result.now c.as_slice-own.result.now w p e c.self.invariant.0.indexed held slice
+    at.0 at.1 c.as_slice-own.ensures in
     let new = c.args.new.now in
+    let told =
+    as_labels d.setting lib c.as_slice-own.result.now c.as_slice.result.now w new c.as_slice-own.ensures c.as_slice.ensures
+    ∙ sym c.refuse_label-refusal.ensures in
     let now =
     c.in_ok-recite_all.ensures.done ∙ ap (changed_all (citing w new)) c.in_ok-put.ensures.done.entries
     ∙ ap (λ (x : Ranked). changed_all (citing w new) (set d.entries p (Some x))) c.in_ok-renamed.ensures in
-    tested_none (rename_tests d.setting lib w new) _ (sym c.refuse_rename.ensures ∙ c.in_default.is)
+    tested_none (rename_tests d.setting lib w new) _
+    (rename_front d.setting lib w new (has_own i.places d.entries w p e own) ∙ told ∙ c.in_default-refusal.is)
     ∙ ap (λ l. Ok (done l)) (sym (library-renamed i.places d.entries w new p e own) ∙ ap living (sym now))
