@@ -165,6 +165,13 @@ def repeated(count, times):
     return prelude(vs) + "${\n" + words(["$d", *vs, "$."] * times) + "x $a |- T $.\n$}\n"
 
 
+def repeated_by_turns(count, times):
+    """Two long $d, said by turns in one block, each time from the front or from the back."""
+    vs = [f"v{i}" for i in range(2 * count)]
+    turns = [vs[:count], vs[count:], vs[count - 1 :: -1], vs[: count - 1 : -1]]
+    return prelude(vs) + "${\n" + words(*(["$d", *turns[turn % 4], "$."] for turn in range(times))) + "x $a |- T $.\n$}\n"
+
+
 def split(text):
     """What stands before the last theorem, and the theorem with its block."""
     at = text.rindex("${") if text.rstrip().endswith("$}") else text.rindex("th $p")
@@ -205,7 +212,9 @@ def rows():
         ("409, 4,094 rules cited, of the same letters", lambda: known_labels(409, anagrams()), lambda: known_labels(4094, anagrams())),
         ("a substitute of 3,000, 30,000 variables", lambda: many_variables(3000), lambda: many_variables(30000)),
         ("4,000 axioms behind 6,553, 65,535 $f", lambda: many_floats(6553), lambda: many_floats(65535)),
+        ("a $d of 362 said 5, 50 times", lambda: repeated(362, 5), lambda: repeated(362, 50)),
         ("a $d of 362 said 200, 2,000 times", lambda: repeated(362, 200), lambda: repeated(362, 2000)),
+        ("two $d of 255 said 200, 2,000 times by turns", lambda: repeated_by_turns(255, 200), lambda: repeated_by_turns(255, 2000)),
     ]
 
 

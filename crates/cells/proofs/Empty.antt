@@ -5,6 +5,7 @@ use Rattle.std.proofs.lemmas.List.Elements.{All-nil}
 use Rattle.std.proofs.lemmas.List.Sorted.{IsPermutation-refl}
 use Rattle.std.proofs.lemmas.Option.{get_or_from_slice_get}
 use Rattle.mmsyntax.specs.Assertions.{Fits, is_lawful_label}
+use Rattle.mmsyntax.proofs.Apart.{apart_nil}
 use Rattle.proofcheck.specs.Derivation.{Checks}
 use Rattle.library.specs.declared.library.Ranked.{Ranked}
 use Rattle.library.specs.Library.{Setting, IsSetting, Verifies, label_of, citable}
@@ -42,6 +43,7 @@ none_verifies s h =
         ranks = All-nil (λ (e : Ranked). (1 ≤ e.rank) × (e.rank ≤ 4294967295));
         lawful = All-nil (λ (e : Ranked). IsTrue (is_lawful_label s.prelude (label_of e)));
         distinct = tt;
+        apart = apart_nil;
         room = omega arith;
       };
       fit = All-nil (λ (e : Ranked). Fits s.prelude e.assertion);

@@ -3,6 +3,8 @@ pub mod Settings
 pub mod Bodies
 pub mod Holders
 pub mod Walks
+pub mod DottedTails
+pub mod Clashing
 pub mod Tallies
 pub mod Linking
 pub mod Unlinking

@@ -7,6 +7,7 @@ use Rattle.std.proofs.lemmas.List.{length-map}
 use Rattle.std.proofs.lemmas.List.Sums.{length-filter, count_by-le-length}
 use Rattle.std.proofs.lemmas.List.Sorted.{IsPermutation-cons, IsPermutation-sym, IsPermutation-trans, length_permutation}
 use Rattle.mmsyntax.specs.Assertions.{Distinct}
+use Rattle.mmsyntax.specs.Dotted.{trunk}
 use Rattle.library.specs.declared.library.Ranked.{Ranked}
 use Rattle.library.specs.Library.{label_of}
 use Rattle.ranges.specs.Ranges.{Has}
@@ -19,7 +20,7 @@ use Rattle.cells.proofs.Tallies.{filtered_permutation}
 
 -- a label's bucket is one of the buckets
 pub bucket_within : (slots : ℕ) (label : List ℕ) → 1 ≤ slots → bucket slots label < slots
-bucket_within slots label some = along label 0 some
+bucket_within slots label some = along (trunk label) 0 some
   where
     along : (bytes : List ℕ) (h : ℕ) → h < slots → fold (λ h byte. (31 * h + byte) % slots) h bytes < slots
     along [] h lt = lt

@@ -1,4 +1,4 @@
--- Looks for a label along the chain of its bucket, and for an empty slot from a slot on.
+-- Walks along the chain of a bucket, as to a label; and looks for an empty slot from a slot on.
 use Rattle.std.proofs.Common.{◌≡◌, ◌≢◌, ℕ, ◌+◌, ◌-◌, ◌%◌, ◌<◌, ◌≤◌, List, [], ◌∷◌, Some, None, length, sym, ap, subst, ◌∙◌, ◌⊎◌, below_more, inl, inr, arith}
 use Rattle.std.proofs.Math.Nat.{mod-eq_of_lt, add-mod_left}
 use Rattle.std.proofs.lemmas.Bool.{cases_order}
@@ -14,37 +14,37 @@ use Rattle.cells.proofs.Holders.{found_at, found_nowhere, in_chain, chain_short,
 
 -- ---- along a chain
 
--- what is ahead at a word of a chain, after so many turns: the rest of the chain, with each slot that has the label
-pub record IsAhead (slots : ℕ) (label : List ℕ) (word turns : ℕ) (st : State) : Type 0 where
+-- what is ahead at a word of a chain, after so many turns: the rest of the chain, with each slot that is sought
+pub record IsAhead (slots : ℕ) (sought : ℕ → State → ℕ → Type 0) (word turns : ℕ) (st : State) : Type 0 where
   pub rest : List ℕ
   pub chain : IsChain slots st rest word
   pub few : length rest + turns ≤ slots
-  pub ahead : (i : ℕ) → IsNamed slots st i label → Has i rest
+  pub ahead : (i : ℕ) → sought slots st i → Has i rest
 
-module _ (slots : ℕ) (label : List ℕ) (word turns : ℕ) (st : State) (a : IsAhead slots label word turns st) where
+module _ (slots : ℕ) (sought : ℕ → State → ℕ → Type 0) (word turns : ℕ) (st : State) (a : IsAhead slots sought word turns st) where
   -- nothing is ahead at the end of a chain
-  pub ahead_at_end : ((i : ℕ) → i < slots → word ≡ i + 1 → ⊥) → (i : ℕ) → IsNamed slots st i label → ⊥
-  ahead_at_end none i named = over a.rest a.chain (a.ahead i named)
+  pub ahead_at_end : ((i : ℕ) → i < slots → word ≡ i + 1 → ⊥) → (i : ℕ) → sought slots st i → ⊥
+  ahead_at_end none i is = over a.rest a.chain (a.ahead i is)
     where
       over : (rest : List ℕ) → IsChain slots st rest word → Has i rest → ⊥
       over [] c h = h
       over (j ∷ js) c h = none j c.0 c.1
 
   -- nor after as many turns as slots
-  pub ahead_at_last : turns ≡ slots → (i : ℕ) → IsNamed slots st i label → ⊥
-  ahead_at_last e i named = over a.rest a.few (a.ahead i named)
+  pub ahead_at_last : turns ≡ slots → (i : ℕ) → sought slots st i → ⊥
+  ahead_at_last e i is = over a.rest a.few (a.ahead i is)
     where
       over : (rest : List ℕ) → length rest + turns ≤ slots → Has i rest → ⊥
       over [] few h = h
       over (j ∷ js) few h = omega (arith, few, e)
 
-  -- the next slot has not the label: what is ahead at its next cell
-  pub ahead_on : (slot next : ℕ) → word ≡ slot + 1 → (IsNamed slots st slot label → ⊥) → next ≡ st.value (next_cell slots slot)
-      → IsAhead slots label next (turns + 1) st
+  -- the next slot is not sought: what is ahead at its next cell
+  pub ahead_on : (slot next : ℕ) → word ≡ slot + 1 → (sought slots st slot → ⊥) → next ≡ st.value (next_cell slots slot)
+      → IsAhead slots sought next (turns + 1) st
   ahead_on slot next is other read = over a.rest a.chain a.few a.ahead
     where
-      over : (rest : List ℕ) → IsChain slots st rest word → length rest + turns ≤ slots → ((i : ℕ) → IsNamed slots st i label → Has i rest)
-          → IsAhead slots label next (turns + 1) st
+      over : (rest : List ℕ) → IsChain slots st rest word → length rest + turns ≤ slots → ((i : ℕ) → sought slots st i → Has i rest)
+          → IsAhead slots sought next (turns + 1) st
       over [] c few h = absurd (omega (arith, c, is))
       over (j ∷ js) c few h =
           let same : j ≡ slot = omega (arith, c.1, is) in
@@ -52,25 +52,27 @@ module _ (slots : ℕ) (label : List ℕ) (word turns : ℕ) (st : State) (a : I
             rest = js;
             chain = subst (IsChain slots st js) (ap (λ (k : ℕ). st.value (next_cell slots k)) same ∙ sym read) c.2;
             few = omega (arith, few);
-            ahead = λ i named. elim (h i named) [
-              | inl e ↦ absurd (other (subst (λ (k : ℕ). IsNamed slots st k label) (e ∙ same) named))
+            ahead = λ i here. elim (h i here) [
+              | inl e ↦ absurd (other (subst (λ (k : ℕ). sought slots st k) (e ∙ same) here))
               | inr k ↦ k
             ];
           }
 
--- ---- the look-up of a label
+-- ---- the walk along the chain of a bucket
 
-module _ {O : Type 0} (s : Sight O) (slots : ℕ) (label : List ℕ) (is : slots ≡ s.setting.slots) where
+module _ {O : Type 0} (s : Sight O) (slots : ℕ) (is : slots ≡ s.setting.slots) where
   shown : (st : State) (lib : List Ranked) → Views s st lib → Shows slots (after s st) lib
   shown st lib v = subst (λ (n : ℕ). Shows n (after s st) lib) (sym is) v.shows
 
   room : (st : State) (lib : List Ranked) → Views s st lib → length lib ≤ slots
   room st lib v = subst (λ (n : ℕ). length lib ≤ n) (sym is) v.verifies.library.room
 
-  -- all that has the label is ahead at the word of its bucket
-  pub walk_begins : (r : Sight O) (b word : ℕ) → b < slots → b ≡ bucket slots label → Reads (bucket_cell slots b) word r s
-      → ForEach s (λ st lib. IsAhead slots label word 0 st)
-  walk_begins r b word lt of read = λ st lib v.
+  -- all that is sought is ahead at the word of the bucket, where its labels are of the bucket
+  pub walk_begins : (sought : ℕ → State → ℕ → Type 0) (r : Sight O) (b word : ℕ) → b < slots
+      → ((st : State) (i : ℕ) → sought slots st i → (label : List ℕ) × IsNamed slots st i label × (bucket slots label ≡ b))
+      → Reads (bucket_cell slots b) word r s
+      → ForEach s (λ st lib. IsAhead slots sought word 0 st)
+  walk_begins sought r b word lt lies read = λ st lib v.
       let shows = shown st lib v in
       let c = shows.chained b lt in
       let short = chain_short slots (after s st) lib shows b lt in
@@ -79,34 +81,41 @@ module _ {O : Type 0} (s : Sight O) (slots : ℕ) (label : List ℕ) (is : slots
         rest = c.chain;
         chain = subst (IsChain slots (after s st) c.chain) (sym (read.value st v.matches)) c.starts;
         few = omega (arith, short, few);
-        ahead = λ i named. in_chain slots (after s st) lib shows v.matches.store i b label lt (sym of) named;
+        ahead = λ i here. let l = lies (after s st) i here in in_chain slots (after s st) lib shows v.matches.store i b l.0 lt l.2 l.1;
       }
 
-  -- no slot has it
-  pub walk_fails : ((st : State) (lib : List Ranked) → Views s st lib → (i : ℕ) → IsNamed slots (after s st) i label → ⊥) → Finds s label None
-  walk_fails none = λ st lib v. found_nowhere slots (after s st) lib (shown st lib v) v.matches.store label (none st lib v)
+  -- no slot has the label
+  pub walk_fails : (label : List ℕ) → ((st : State) (lib : List Ranked) → Views s st lib → (i : ℕ) → IsNamed slots (after s st) i label → ⊥)
+      → Finds s label None
+  walk_fails label none = λ st lib v. found_nowhere slots (after s st) lib (shown st lib v) v.matches.store label (none st lib v)
 
   -- a slot has it
-  pub walk_finds : (i : ℕ) → i < slots → ((st : State) → Matches s st → IsNamed s.setting.slots (after s st) i label) → Finds s label (Some i)
-  walk_finds i lt named = (
+  pub walk_finds : (label : List ℕ) (i : ℕ) → i < slots → ((st : State) → Matches s st → IsNamed s.setting.slots (after s st) i label)
+      → Finds s label (Some i)
+  walk_finds label i lt named = (
     subst (λ (n : ℕ). i < n) is lt,
     λ st lib v. found_at s.setting.slots (after s st) lib v.shows v.matches.store i label v.verifies.library.distinct (named st v.matches),
   )
 
--- from a slot that has not the label to its next cell
-pub walk_on : {O : Type 0} → (r s t : Sight O) (slots : ℕ) (label : List ℕ) (word turns slot next : ℕ) → slots ≡ s.setting.slots → Looks r s
-    → Reads (next_cell slots slot) next s t → ForEach r (λ st lib. IsAhead slots label word turns st) → word ≡ slot + 1
-    → ((st : State) → Matches s st → IsNamed s.setting.slots (after s st) slot label → ⊥)
-    → ForEach t (λ st lib. IsAhead slots label next (turns + 1) st)
-walk_on r s t slots label word turns slot next is looks read each at other = λ st lib v.
+-- from a slot that is not sought to its next cell
+pub walk_on : {O : Type 0} → (r s t : Sight O) (slots : ℕ) (sought : ℕ → State → ℕ → Type 0) (word turns slot next : ℕ) → slots ≡ s.setting.slots
+    → Looks r s
+    → Reads (next_cell slots slot) next s t → ForEach r (λ st lib. IsAhead slots sought word turns st) → word ≡ slot + 1
+    → ((st : State) → Matches s st → sought s.setting.slots (after s st) slot → ⊥)
+    → ForEach t (λ st lib. IsAhead slots sought next (turns + 1) st)
+walk_on r s t slots sought word turns slot next is looks read each at other = λ st lib v.
     let before = views_back s t st lib read.looks v in
     let same = after_looks s t st read.looks in
-    let is_ahead : State → List Ranked → Type 0 = λ x l. IsAhead slots label word turns x in
+    let is_ahead : State → List Ranked → Type 0 = λ x l. IsAhead slots sought word turns x in
     let ahead = for_each_later s t is_ahead read.looks (for_each_later r s is_ahead looks each) st lib v in
-    ahead_on slots label word turns (after t st) ahead slot next at
-    (λ named. other st before.matches (subst (λ (n : ℕ). IsNamed n (after s st) slot label) is
-    (subst (λ (x : State). IsNamed slots x slot label) same named)))
+    ahead_on slots sought word turns (after t st) ahead slot next at
+    (λ here. other st before.matches (subst (λ (n : ℕ). sought n (after s st) slot) is
+    (subst (λ (x : State). sought slots x slot) same here)))
     (read.value st v.matches)
+
+-- a slot with the label
+abbrev pub IsLabelled : List ℕ → ℕ → State → ℕ → Type 0
+IsLabelled label slots st i = IsNamed slots st i label
 
 -- ---- the look for an empty slot
 

@@ -3,6 +3,7 @@ pub mod Slots
 pub mod Shows
 pub mod Sight
 pub mod Lookups
+pub mod Clashing
 pub mod Chains
 pub mod Filling
 pub mod Plain

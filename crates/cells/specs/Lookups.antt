@@ -4,7 +4,7 @@ use Rattle.std.specs.List.{list_any}
 use Rattle.mmsyntax.specs.declared.statement.Step.{Step}
 use Rattle.mmsyntax.specs.declared.statement.Step.TheVariants.{Float, Hyp, Cite}
 use Rattle.library.specs.declared.library.Ranked.{Ranked}
-use Rattle.library.specs.Edits.{found, is_of_unknown}
+use Rattle.library.specs.Edits.{found, clashes, without, is_of_unknown}
 use Rattle.bodystore.specs.declared.stored.StoredStep.{StoredStep}
 use Rattle.bodystore.specs.declared.stored.StoredStep.TheVariants.{Slot}
 use Rattle.ranges.specs.Ranges.{Has}
@@ -41,6 +41,10 @@ pub record IsFoundAt (slots : ℕ) (st : State) (lib : List Ranked) (label : Lis
 abbrev pub Finds : {O : Type 0} → Sight O → List ℕ → Option ℕ → Type 0
 Finds s label None = ForEach s (λ st lib. found lib label ≡ None)
 Finds s label (Some i) = (i < s.setting.slots) × ForEach s (λ st lib. IsFoundAt s.setting.slots st lib label i)
+
+-- whether the label clashes with that of an assertion, one with the label `own` left out
+abbrev pub TellsClash : {O : Type 0} → Sight O → List ℕ → List ℕ → Bool → Type 0
+TellsClash s own label b = ForEach s (λ st lib. clashes (without own lib) label ≡ b)
 
 -- whether the slot holds an assertion of the library: if not, it is empty
 abbrev pub IfFull : {O : Type 0} → Sight O → ℕ → Bool → Type 0

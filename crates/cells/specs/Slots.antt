@@ -2,6 +2,7 @@
 --
 -- Slots, buckets and cells count from 0. With S slots there are S buckets, and 7 S cells.
 use Rattle.std.specs.Prelude.{ℕ, Bool, ◌+◌, ◌*◌, ◌%◌, ◌&&◌, nat_lt, List, fold}
+use Rattle.mmsyntax.specs.Dotted.{trunk}
 
 -- the five cells of a slot
 abbrev pub name_cell : ℕ → ℕ
@@ -35,6 +36,10 @@ cell_count slots = 7 * slots
 abbrev pub is_ranged : ℕ → ℕ → Bool
 is_ranged slots c = nat_lt c (5 * slots) && nat_lt (c % 5) 3
 
--- the bucket of a label: h, from 0, by h = (31 h + byte) mod S over its bytes
+-- h, from 0, by h = (31 h + byte) mod S over the bytes of a word
+abbrev pub hash : ℕ → List ℕ → ℕ
+hash slots w = fold (λ h byte. (31 * h + byte) % slots) 0 w
+
+-- the bucket of a label: that of L for a label L.k, so that all labels that clash with one stand in at most three buckets
 abbrev pub bucket : ℕ → List ℕ → ℕ
-bucket slots label = fold (λ h byte. (31 * h + byte) % slots) 0 label
+bucket slots label = hash slots (trunk label)

@@ -17,7 +17,7 @@ pub use cells::Cells;
 pub use chains::{put_in, take_out};
 pub use counts::{cited_slots, count_in, count_out};
 pub use filling::{fill, put, put_body, vacate};
-pub use finding::{find, free_slot};
+pub use finding::{find, free_slot, has_clash};
 pub use halt::Halt;
 pub use opening::OpenError;
 pub use places::{

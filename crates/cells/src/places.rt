@@ -1,9 +1,10 @@
 //! Where a library lies: the numbers of its cells.
 
 ghost use Rattle.std.specs.Prelude.{◌≡◌, ◌<◌, ◌≤◌, ◌+◌, Some, None, MatchOption};
-ghost use Rattle.cells.specs.Slots.{name_cell, statement_cell, proof_cell, rank_cell, citers_cell, bucket_cell, next_cell, bucket, is_ranged};
+ghost use Rattle.cells.specs.Slots.{name_cell, statement_cell, proof_cell, rank_cell, citers_cell, bucket_cell, next_cell, hash, bucket, is_ranged};
 
 use crate::cells::Cells;
+use mmstatement::trunk;
 
 /// How many slots the library has: 1 to 4,096.
 pub fn slot_count<C: Cells>(cells: &C) -> usize
@@ -14,16 +15,27 @@ pub fn slot_count<C: Cells>(cells: &C) -> usize
     cells.slots()
 }
 
-/// The bucket of a label, from 0: h, from 0, by `h = (31 h + byte) mod slots` over its bytes.
-#[tactic(auto, using(std::proofs::lemmas::List::Sums::fold_more))]
+/// The bucket of a label, from 0: the hash of L for a label `L.k`, with k from 1 to 1,000, and of the whole label for any other. So the
+/// labels `L.k` all lie in the bucket of the hash of L.
 pub fn bucket(label: &[u8], slots: usize) -> usize
     requires some { 1 ≤ slots }
     requires few { slots ≤ 4096 }
     ensures value { result ≡ bucket slots label.now }
     ensures within { result < slots }
 {
+    hash(trunk(label), slots)
+}
+
+/// The hash of a word, from 0: h, from 0, by `h = (31 h + byte) mod slots` over its bytes.
+#[tactic(auto, using(std::proofs::lemmas::List::Sums::fold_more))]
+pub(crate) fn hash(word: &[u8], slots: usize) -> usize
+    requires some { 1 ≤ slots }
+    requires few { slots ≤ 4096 }
+    ensures value { result ≡ hash slots word.now }
+    ensures within { result < slots }
+{
     let mut hash = 0;
-    for byte in label {
+    for byte in word {
         hash = (31 * hash + *byte as usize) % slots;
     }
     hash

@@ -1,6 +1,5 @@
 -- What adding a theorem answers: why it is refused, or the library that is shown with it.
-use Rattle.std.proofs.Common.{◌≡◌, ◌≢◌, ℕ, ◌<◌, true, false, List, [], ◌∷◌, None, Err, length, sym, ap, subst, ◌∙◌, inl, inr, arith, eqb, nat_eq}
-use mathlib.Core.Bool.{not}
+use Rattle.std.proofs.Common.{◌≡◌, ℕ, ◌<◌, true, false, List, [], ◌∷◌, None, Err, length, sym, ap, subst, ◌∙◌, inl, inr, arith, eqb, nat_eq}
 use Rattle.std.specs.Prelude.{◌==◌, nat_le}
 use Rattle.std.specs.List.{list_any, IsDistinct, AllByRecursion}
 use Rattle.std.proofs.lemmas.Bool.{both_ways, le-leb, lt-leb}
@@ -8,15 +7,14 @@ use Rattle.std.proofs.lemmas.List.{length-map}
 use Rattle.std.proofs.lemmas.Map.Steps.{length-le_from_distinct_below}
 use Rattle.mmsyntax.specs.declared.statement.Assertion.{Assertion}
 use Rattle.mmsyntax.specs.declared.statement.Kind.TheVariants.{Axiom, Theorem}
-use Rattle.mmsyntax.specs.Assertions.{Distinct, is_lawful_label}
-use Rattle.mmsyntax.specs.Tables.{Tables}
+use Rattle.mmsyntax.specs.Assertions.{Distinct}
 use Rattle.mmsyntax.proofs.Distinct.{or_false}
 use Rattle.library.specs.declared.library.Ranked.{Ranked}
 use Rattle.library.specs.declared.command.Command.TheVariants as command
 use Rattle.library.specs.declared.command.Reply.TheVariants.{Done}
 use Rattle.library.specs.declared.reason.Reason.TheVariants as reason
 use Rattle.library.specs.Library.{Setting}
-use Rattle.library.specs.Edits.{Tests, Edited, has, added, done, where_so, is_axiom, bad_label, label_taken}
+use Rattle.library.specs.Edits.{Tests, added, done, where_so, is_axiom, bad_label, label_taken, label_clashes}
 use Rattle.library.specs.Edits.{cites_unknown, cited_not_lower, proof_fails, tested, edit}
 use Rattle.ranges.specs.Ranges.{Has, AreOfOneStore}
 use Rattle.bodystore.specs.declared.stored.StoredStep.{StoredStep}
@@ -24,7 +22,7 @@ use Rattle.cells.specs.State.{State, most_words}
 use Rattle.cells.specs.Slots.{name_cell}
 use Rattle.cells.specs.Shows.{Held, slots_of, IsEmpty, AreStoredAs, Shows}
 use Rattle.cells.specs.Sight.{Sight, WasWritten, Matches, Views, Looks, Onward, after}
-use Rattle.cells.specs.Lookups.{ForEach, FindsFree, IsFirstEmpty}
+use Rattle.cells.specs.Lookups.{FindsFree, IsFirstEmpty}
 use Rattle.cells.specs.Filling.{MayFill, Fills}
 use Rattle.ranges.proofs.Members.{mapped_has, cases_has, none_absent}
 use Rattle.cells.proofs.Holding.{held_name, empty_free}
@@ -34,15 +32,11 @@ use Rattle.commands.specs.Answers.{Does, IsRefused, CommandAnswers}
 use Rattle.commands.specs.declared.ending.CommandError.{CommandError}
 use Rattle.commands.specs.declared.ending.CommandError.TheVariants.{Stopped, Refused, NoMemory}
 use Rattle.commands.specs.Citing.{Passes, TellsRefusal}
+use Rattle.commands.specs.Naming.{PassesAsNew, TellsNotNew, label_tests}
 use Rattle.commands.proofs.Seeing.{views_later}
 use Rattle.commands.proofs.Refusing.{first_refuses, first_passes, refused}
 use Rattle.commands.proofs.ProofTests.{stored_on}
-
--- a lawful label has a byte
-pub lawful_some : (t : Tables) (label : List ℕ) → is_lawful_label t label ≡ true → label ≢ []
-lawful_some t label lawful none =
-    let empty : is_lawful_label t [] ≡ true = subst (λ l. is_lawful_label t l ≡ true) none lawful in
-    absurd cc
+use Rattle.commands.proofs.NewLabels.{tests_of_new}
 
 -- ---- room
 
@@ -93,40 +87,58 @@ of_proof s lib rank a = cites_unknown lib a.proof ∷ cited_not_lower lib rank a
 abbrev pub of_kind : Setting → List Ranked → ℕ → Assertion → Tests
 of_kind s lib rank a = where_so (is_axiom a.kind) reason.AxiomNotAllowed ∷ of_proof s lib rank a
 
-module _ (s : Setting) (lib : List Ranked) (rank : ℕ) (a : Assertion) (ranked : (rank == 0) ≡ false)
-    (lawful : is_lawful_label s.prelude a.label ≡ true) where
-  abbrev then : Edited
-  then = done (added lib rank a)
+-- behind that of the rank stand those of the label
+to_label : (s : Setting) (lib : List Ranked) (rank : ℕ) (a : Assertion) → (rank == 0) ≡ false
+    → edit s lib (command.Add rank a)
+    ≡ tested (label_tests s lib a.label a.label (of_kind s lib rank a)) (done (added lib rank a))
+to_label s lib rank a ranked =
+    let then = done (added lib rank a) in
+    first_passes (rank == 0) reason.BadRank
+    (bad_label s a.label ∷ label_taken lib a.label ∷ label_clashes lib a.label ∷ of_kind s lib rank a) then ranked
+    ∙ sym (tests_of_new s lib a.label (of_kind s lib rank a) then)
 
-  to_taken : edit s lib (command.Add rank a) ≡ tested (label_taken lib a.label ∷ of_kind s lib rank a) then
-  to_taken =
-      first_passes (rank == 0) reason.BadRank (bad_label s a.label ∷ label_taken lib a.label ∷ of_kind s lib rank a) then ranked
-      ∙ first_passes (not (is_lawful_label s.prelude a.label)) reason.BadLabel (label_taken lib a.label ∷ of_kind s lib rank a) then
-      (ap not lawful)
+module _ {O : Type 0} (s t : Sight O) (rank : ℕ) (a : Assertion) (ranked : (rank == 0) ≡ false) (looks : Looks s t) where
+  by_label : (lib : List Ranked) → edit s.setting lib (command.Add rank a)
+      ≡ tested (label_tests t.setting lib a.label a.label (of_kind t.setting lib rank a)) (done (added lib rank a))
+  by_label lib =
+      subst (λ (x : Setting). edit x lib (command.Add rank a)
+      ≡ tested (label_tests t.setting lib a.label a.label (of_kind t.setting lib rank a)) (done (added lib rank a))) looks.onward.setting
+      (to_label t.setting lib rank a ranked)
 
-  pub add_taken : has lib a.label ≡ true → edit s lib (command.Add rank a) ≡ Err reason.LabelTaken
-  add_taken taken = to_taken ∙ first_refuses (has lib a.label) reason.LabelTaken (of_kind s lib rank a) then taken
+  -- a label that is refused is why it is not added
+  pub add_unlabelled : {S : Type 0} (error : CommandError S) → TellsNotNew t a.label a.label error
+      → CommandAnswers s t (command.Add rank a) (Err error)
+  add_unlabelled (Stopped stop) tells = tt
+  add_unlabelled NoMemory tells = tt
+  add_unlabelled (Refused r) fails =
+      refused s t (command.Add rank a) r looks (λ st lib v.
+      by_label lib ∙ fails st lib v (of_kind t.setting lib rank a) (done (added lib rank a)))
 
-  to_kind : has lib a.label ≡ false → edit s lib (command.Add rank a) ≡ tested (of_kind s lib rank a) then
-  to_kind new = to_taken ∙ first_passes (has lib a.label) reason.LabelTaken (of_kind s lib rank a) then new
+  module _ (new : PassesAsNew t a.label a.label) where
+    to_kind : (st : State) (lib : List Ranked) → Views t st lib
+        → edit s.setting lib (command.Add rank a) ≡ tested (of_kind t.setting lib rank a) (done (added lib rank a))
+    to_kind st lib v = by_label lib ∙ new.passes st lib v (of_kind t.setting lib rank a) (done (added lib rank a))
 
-  pub add_axiom : has lib a.label ≡ false → a.kind ≡ Axiom → edit s lib (command.Add rank a) ≡ Err reason.AxiomNotAllowed
-  add_axiom new is =
-      to_kind new ∙ first_refuses (is_axiom a.kind) reason.AxiomNotAllowed (of_proof s lib rank a) then (ap is_axiom is)
+    pub add_axiom : a.kind ≡ Axiom → IsRefused s t (command.Add rank a) reason.AxiomNotAllowed
+    add_axiom is =
+        refused s t (command.Add rank a) reason.AxiomNotAllowed looks (λ st lib v.
+        to_kind st lib v
+        ∙ first_refuses (is_axiom a.kind) reason.AxiomNotAllowed (of_proof t.setting lib rank a) (done (added lib rank a)) (ap is_axiom is))
 
-  pub add_theorem : has lib a.label ≡ false → a.kind ≡ Theorem → edit s lib (command.Add rank a) ≡ tested (of_proof s lib rank a) then
-  add_theorem new is =
-      to_kind new ∙ first_passes (is_axiom a.kind) reason.AxiomNotAllowed (of_proof s lib rank a) then (ap is_axiom is)
+    add_theorem : a.kind ≡ Theorem → (st : State) (lib : List Ranked) → Views t st lib
+        → edit s.setting lib (command.Add rank a) ≡ tested (of_proof t.setting lib rank a) (done (added lib rank a))
+    add_theorem is st lib v =
+        to_kind st lib v
+        ∙ first_passes (is_axiom a.kind) reason.AxiomNotAllowed (of_proof t.setting lib rank a) (done (added lib rank a)) (ap is_axiom is)
 
 -- ---- behind the tests of the label and the kind
 
--- what is known once these have passed: by the look-up of the label
+-- what is known once these have passed
 pub record MayTest {O : Type 0} (s t : Sight O) (rank : ℕ) (a : Assertion) : Type 0 where
   pub ranked : (rank == 0) ≡ false
-  pub lawful : is_lawful_label s.setting.prelude a.label ≡ true
+  pub new : PassesAsNew t a.label a.label
   pub theorem : a.kind ≡ Theorem
   pub looks : Looks s t
-  pub new : ForEach t (λ st lib. has lib a.label ≡ false)
 
 -- the tests of the proof are those of the setting at the start
 module _ {O : Type 0} (s t u : Sight O) (rank : ℕ) (a : Assertion) (may : MayTest s t rank a) (later : Looks t u) where
@@ -136,11 +148,8 @@ module _ {O : Type 0} (s t u : Sight O) (rank : ℕ) (a : Assertion) (may : MayT
   to_proof : (st : State) (lib : List Ranked) → Views u st lib
       → edit s.setting lib (command.Add rank a) ≡ tested (of_proof u.setting lib rank a) (done (added lib rank a))
   to_proof st lib v =
-      let same = all_looks.onward.setting in
-      subst (λ (x : Setting). edit x lib (command.Add rank a) ≡ tested (of_proof u.setting lib rank a) (done (added lib rank a))) same
-      (add_theorem u.setting lib rank a may.ranked
-      (subst (λ (x : Setting). is_lawful_label x.prelude a.label ≡ true) (sym same) may.lawful)
-      (may.new st lib (views_back t u st lib later v)) may.theorem)
+      add_theorem s t rank a may.ranked may.looks may.new may.theorem st lib (views_back t u st lib later v)
+      ∙ ap (λ (x : Setting). tested (of_proof x lib rank a) (done (added lib rank a))) (sym later.onward.setting)
 
   -- a proof that is refused is why it is not added
   pub add_refused : {S : Type 0} (error : CommandError S) → TellsRefusal u rank a error
@@ -185,7 +194,7 @@ module _ {O : Type 0} (s t u : Sight O) (rank : ℕ) (a : Assertion) (may : MayT
               let may_fill : MayFill w.setting.slots (after w st) lib slot a steps =
               record {
                 empty = first.empty st lib v;
-                new = may.new st lib before;
+                new = may.new.free st lib before;
                 stored = subst (λ (ks : List StoredStep). AreStoredAs w.setting.slots (after w st) a.proof ks) (sym same) stored;
               } in (
                 added lib rank a,

@@ -1,6 +1,7 @@
 pub mod Results
 pub mod Seeing
 pub mod Refusing
+pub mod NewLabels
 pub mod Chaining
 pub mod Relabelling
 pub mod Removing

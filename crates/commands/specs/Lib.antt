@@ -1,6 +1,7 @@
 pub mod Answers
 pub mod Citing
 pub mod Changes
+pub mod Naming
 pub mod Listing
 pub mod Looking
 pub mod Replacing

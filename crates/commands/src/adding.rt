@@ -8,13 +8,15 @@ ghost use Rattle.commands.specs.Answers.{CommandAnswers};
 
 use crate::citing::test_proof;
 use crate::ending::CommandError;
-use cells::{Cells, Halt, bucket, fill, find, free_slot, slot_count};
+use crate::naming::test_new_label;
+use cells::{Cells, Halt, bucket, fill, free_slot, slot_count};
 use library::{Reason, Reply};
-use mmstatement::{Assertion, Kind, Prelude, is_lawful_label};
+use mmstatement::{Assertion, Kind, Prelude};
 use std::alloc::Global;
 
-/// Adds a theorem with a rank, in the first empty slot from the number of its label's bucket on. It stages its label, its statement and its
-/// proof, in this order.
+/// Adds a theorem with a rank, in the first empty slot from the number of its label's bucket on. It reads at most three chains for its
+/// label, what its proof cites, and the names of the slots up to the empty one. It stages its label, its statement and its proof, in this
+/// order.
 pub(crate) fn add<C: Cells>(
     alloc: Global,
     prelude: &Prelude,
@@ -32,12 +34,7 @@ pub(crate) fn add<C: Cells>(
     if rank == 0 {
         return Err(Reason::BadRank.into());
     }
-    if !is_lawful_label(prelude, label) {
-        return Err(Reason::BadLabel.into());
-    }
-    if find(cells, label).map_err(Halt::Stopped)?.is_some() {
-        return Err(Reason::LabelTaken.into());
-    }
+    test_new_label(prelude, cells, label, label)?;
     if let Kind::Axiom = assertion.kind {
         return Err(Reason::AxiomNotAllowed.into());
     }

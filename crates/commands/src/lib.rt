@@ -7,6 +7,7 @@ mod deleting;
 mod ending;
 mod looking;
 mod moving;
+mod naming;
 mod renaming;
 mod replacing;
 mod reproving;

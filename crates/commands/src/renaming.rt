@@ -8,14 +8,15 @@ ghost use Rattle.commands.specs.Answers.{CommandAnswers, WritesSome};
 ghost use Rattle.commands.specs.Changes.{RenamesAt};
 
 use crate::ending::CommandError;
+use crate::naming::test_new_label;
 use bodystore::encode_label;
 use cells::{Cells, Halt, find, name_cell, put_body, put_in, slot_count, take_out};
 use library::{Reason, Reply};
-use mmstatement::{Label, Prelude, is_lawful_label};
+use mmstatement::{Label, Prelude};
 use std::alloc::Global;
 
-/// Gives the assertion with the label `old` the label `new`. It reads the chains of the two labels, and writes the name of the slot and at most four
-/// cells of chains: no proof, since proofs cite slots.
+/// Gives the assertion with the label `old` the label `new`. It reads the chain of the one and at most three for the other, and writes the
+/// name of the slot and at most four cells of chains: no proof, since proofs cite slots.
 pub(crate) fn rename<C: Cells>(
     alloc: Global,
     prelude: &Prelude,
@@ -31,15 +32,7 @@ pub(crate) fn rename<C: Cells>(
     let Some(slot) = find(cells, old.as_slice()).map_err(Halt::Stopped)? else {
         return Err(Reason::UnknownLabel.into());
     };
-    if !is_lawful_label(prelude, new.as_slice()) {
-        return Err(Reason::BadLabel.into());
-    }
-    if find(cells, new.as_slice())
-        .map_err(Halt::Stopped)?
-        .is_some()
-    {
-        return Err(Reason::LabelTaken.into());
-    }
+    test_new_label(prelude, cells, old.as_slice(), new.as_slice())?;
     let body = encode_label(alloc, new.as_slice())?;
     relabel(cells, slot, old, new, body.as_slice()).map_err(CommandError::Stopped)?;
     Ok(Reply::Done)

@@ -7,7 +7,7 @@ use pairs::Outcome;
 use std::fmt;
 
 /// How many reasons there are.
-const REASONS: usize = 13;
+const REASONS: usize = 14;
 
 /// How many transactions were done, and how many were refused for each reason, by its number from 1.
 #[derive(Clone, Copy, Debug, Default)]

@@ -14,14 +14,15 @@ use Rattle.library.specs.declared.reason.Reason.{Reason}
 use Rattle.library.specs.declared.reason.Reason.TheVariants as reason
 use Rattle.library.specs.Library.{Setting, label_of}
 use Rattle.library.specs.Edits.{Edited, Tests, tested, of_found, where_so, has, found, changed, without}
-use Rattle.library.specs.Edits.{is_axiom, bad_rank, bad_label, label_taken, cites_unknown, is_of_unknown, added, rename, add_tests}
-use Rattle.library.specs.Edits.{unknown_label, is_alike, are_alike, is_not_below, replace_tests}
+use Rattle.library.specs.Edits.{is_axiom, bad_rank, bad_label, label_taken, label_clashes, clashes, cites_unknown, is_of_unknown, added, rename, add_tests}
+use Rattle.library.specs.Edits.{unknown_label, is_alike, are_alike, is_not_below, replace_tests, rename_tests}
+use Rattle.library.proofs.Clashing.{without-absent}
 use Rattle.library.proofs.Editing.{where_none}
 use Rattle.library.proofs.Places.{find_nowhere, is_labelled-own}
 use Rattle.history.specs.Entries.{Entries, living, StandsIn}
 use Rattle.history.specs.Places.{Places, IsIndex, FoundAt}
 use Rattle.history.specs.Drafts.{IsAlone, with_label, citing, changed_all}
-use Rattle.history.specs.Refusals.{first_reason, proof_tests}
+use Rattle.history.specs.Refusals.{first_reason, proof_tests, label_tests}
 use Rattle.history.proofs.Living.{found-at, stands-has, some-known}
 use Rattle.history.proofs.Changing.{living-changed, living-removed, living-pushed, set-last}
 use Rattle.history.proofs.Indexes.{stands-alone}
@@ -71,16 +72,46 @@ first-none_more [] us h = refl
 first-none_more (None ∷ ts) us h = first-none_more ts us h
 first-none_more (Some q ∷ ts) us h = absurd cc
 
+-- the first three of tests, of which the third matters only where the second passes
+front_refuses : (b t c c' : Option Reason) (us : Tests) (r : Reason) → (t ≡ None → c' ≡ c) → first_reason (b ∷ t ∷ c' ∷ []) ≡ Some r
+    → first_reason (b ∷ t ∷ c ∷ us) ≡ Some r
+front_refuses (Some q) t c c' us r same h = h
+front_refuses None (Some q) c c' us r same h = h
+front_refuses None None c c' us r same h =
+    subst (λ x. first_reason (x ∷ us) ≡ Some r) (same refl) (first-some_more (c' ∷ []) us r h)
+
+front_passes : (b t c c' : Option Reason) (us : Tests) → (t ≡ None → c' ≡ c) → first_reason (b ∷ t ∷ c' ∷ []) ≡ None
+    → first_reason (b ∷ t ∷ c ∷ us) ≡ first_reason us
+front_passes (Some q) t c c' us same h = absurd cc
+front_passes None (Some q) c c' us same h = absurd cc
+front_passes None None c c' us same h =
+    subst (λ x. first_reason (x ∷ us) ≡ first_reason us) (same refl) (first-none_more (c' ∷ []) us h)
+
+-- where no assertion has a label, none is left out by it
+clashes_alike : (lib : List Ranked) (w : List ℕ) → label_taken lib w ≡ None → label_clashes (without w lib) w ≡ label_clashes lib w
+clashes_alike lib w h = ap (λ l. label_clashes l w) (without-absent lib w (where_none (has lib w) reason.LabelTaken h))
+
+-- adding a theorem is refused for its label
+pub add_labelled : (s : Setting) (lib : List Ranked) (rank : ℕ) (a : Assertion) (r : Reason) → rank == 0 ≡ false
+    → first_reason (label_tests s lib a.label a.label) ≡ Some r → first_reason (add_tests s lib rank a) ≡ Some r
+add_labelled s lib rank a r ranked h =
+    first-none (bad_rank rank) _ (not_so (rank == 0) reason.BadRank ranked)
+    ∙ front_refuses (bad_label s a.label) (label_taken lib a.label) (label_clashes lib a.label) _ _ r (clashes_alike lib a.label) h
+
 -- the tests of adding a theorem, behind those of the rank and the label
-pub add_front : (s : Setting) (lib : List Ranked) (rank : ℕ) (a : Assertion) → rank == 0 ≡ false → is_lawful_label s.prelude a.label ≡ true
-    → has lib a.label ≡ false
+pub add_front : (s : Setting) (lib : List Ranked) (rank : ℕ) (a : Assertion) → rank == 0 ≡ false
+    → first_reason (label_tests s lib a.label a.label) ≡ None
     → first_reason (add_tests s lib rank a) ≡ first_reason
     (where_so (is_axiom a.kind) reason.AxiomNotAllowed ∷ (proof_tests s lib rank a
     ++ where_so (nat_le s.slots (length lib)) reason.LibraryFull ∷ []))
-add_front s lib rank a ranked lawful free =
+add_front s lib rank a ranked h =
     first-none (bad_rank rank) _ (not_so (rank == 0) reason.BadRank ranked)
-    ∙ first-none (bad_label s a.label) _ (not_so (not (is_lawful_label s.prelude a.label)) reason.BadLabel (ap not lawful))
-    ∙ first-none (label_taken lib a.label) _ (not_so (has lib a.label) reason.LabelTaken free)
+    ∙ front_passes (bad_label s a.label) (label_taken lib a.label) (label_clashes lib a.label) _ _ (clashes_alike lib a.label) h
+
+-- the tests of a renaming, behind that of the old label, which an assertion has
+pub rename_front : (s : Setting) (lib : List Ranked) (old new : List ℕ) → has lib old ≡ true
+    → first_reason (rename_tests s lib old new) ≡ first_reason (label_tests s lib old new)
+rename_front s lib old new there = first-none (unknown_label lib old) _ (not_so (not (has lib old)) reason.UnknownLabel (ap not there))
 
 -- what may be added has a label that is free
 pub add_free : (s : Setting) (lib : List Ranked) (rank : ℕ) (a : Assertion) → first_reason (add_tests s lib rank a) ≡ None
@@ -94,9 +125,16 @@ pub add_known : (s : Setting) (lib : List Ranked) (rank : ℕ) (a : Assertion) �
     → list_any (is_of_unknown lib) a.proof ≡ false
 add_known s lib rank a h =
     let labelled = (first-parts (bad_label s a.label) _ (first-parts (bad_rank rank) _ h).1).1 in
-    let theorem = (first-parts (label_taken lib a.label) _ labelled).1 in
+    let apart = (first-parts (label_taken lib a.label) _ labelled).1 in
+    let theorem = (first-parts (label_clashes lib a.label) _ apart).1 in
     let proof = (first-parts (where_so (is_axiom a.kind) reason.AxiomNotAllowed) _ theorem).1 in
     where_none (list_any (is_of_unknown lib) a.proof) reason.CitesUnknown (first-parts (cites_unknown lib a.proof) _ proof).0
+
+-- what an assertion may be renamed to is free
+pub label_free : (s : Setting) (lib : List Ranked) (own label : List ℕ) → first_reason (label_tests s lib own label) ≡ None
+    → has lib label ≡ false
+label_free s lib own label h =
+    where_none (has lib label) reason.LabelTaken (first-parts (label_taken lib label) _ (first-parts (bad_label s label) _ h).1).0
 
 -- the tests of a citation that is replaced, behind those of the two labels, which assertions have
 pub replace_front : (s : Setting) (lib : List Ranked) (old new : List ℕ) (e x y : Ranked) → has lib old ≡ true → has lib new ≡ true
@@ -148,6 +186,14 @@ has_label m inside held slice w v p e x same read at own as_label = record {
   at = subst (λ l. StandsIn l p e) (read ∙ same) at;
   labelled = own ∙ as_label;
 }
+
+-- whether a label clashes, by what was tested with one left out
+pub clashing : (slice held : Entries) (own label v w : List ℕ) (b : Bool) → slice ≡ held → own ≡ v → label ≡ w
+    → b ≡ clashes (without own (living slice)) label
+    → clashes (without v (living held)) w ≡ b
+clashing slice held own label v w b same as_own as_label is =
+    sym (is ∙ ap (λ l. clashes (without own (living l)) label) same ∙ ap (λ l. clashes (without l (living held)) label) as_own
+    ∙ ap (clashes (without v (living held))) as_label)
 
 pub free_in : (slice held : Entries) (w v : List ℕ) → slice ≡ held → w ≡ v → has (living slice) w ≡ false → has (living held) v ≡ false
 free_in slice held w v same as_label h = subst (λ l. has (living l) v ≡ false) same (subst (λ l. has (living slice) l ≡ false) as_label h)

@@ -3,6 +3,7 @@
 
 mod citers;
 mod citing;
+mod clashing;
 mod draft;
 mod editor;
 mod listing;

@@ -24,7 +24,8 @@ use Rattle.library.specs.declared.command.Line.{Line}
 use Rattle.library.specs.declared.command.Reply.{Reply}
 use Rattle.library.specs.declared.command.Reply.TheVariants.{Done, Shown, Listed}
 use Rattle.scripts.specs.ScriptFaults.{Led, inside, whole_command, bad, bad_text, is_numeral, in_command, command_word}
-use Rattle.scripts.proofs.Numerals.{numeral_decimal, numeral_digits, decimal_numeral, decimal_value, digits_plain, not_above}
+use Rattle.mmsyntax.proofs.Numerals.{decimal_value, digits_lack, not_above}
+use Rattle.scripts.proofs.Numerals.{numeral_decimal, numeral_digits, decimal_numeral}
 use Rattle.scripts.proofs.InnerUnits.{unit_end, unit_next, HasUnits}
 use Rattle.scripts.proofs.CommandWords.{next_of, Asking, and_one, Asks}
 use Rattle.library.specs.declared.history.Entry.{Entry}
@@ -152,7 +153,7 @@ number_numeral highest w n low i =
     ap is_numeral i.digits ∙ decimal_numeral n (let le : n ≤ highest = i.small in omega arith)
 
 pub number_plain : (highest : ℕ) (w : Word) (n : ℕ) → highest < 2 ^ 64 → IsNumber highest w n → has_dollar w ≡ false
-number_plain highest w n low i = digits_plain w (numeral_digits w (number_numeral highest w n low i))
+number_plain highest w n low i = digits_lack 36 w (omega arith) (numeral_digits w (number_numeral highest w n low i))
 
 is_low : (highest n : ℕ) → ltb highest n ≡ false → n ≤ highest
 is_low highest n h = grind (arith, nat_tests)

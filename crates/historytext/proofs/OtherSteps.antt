@@ -24,19 +24,9 @@ use Rattle.mmsyntax.proofs.Names.{same_bytes}
 use Rattle.mmsyntax.proofs.Numbered.{number_dot}
 use Rattle.mmsyntax.proofs.Found.{label_at, no_fault}
 use Rattle.mmsyntax.proofs.Sound.{if_ok}
-use Rattle.scripts.specs.Scripts.{hypothesis_numbered, counted_from_0, other_step_of, OtherSteps}
-use Rattle.scripts.proofs.HypothesisNumbers.{numbered_some, numbered_none}
-
--- what is found passes the test
-found_passes : (test : ℕ → Bool) (ns : List ℕ) (k : ℕ) → find test ns ≡ Some k → test k ≡ true
-found_passes test [] k h = absurd cc
-found_passes test (n ∷ ns) k h = elim (cases_Bool (test n)) [
-  | inl y ↦
-      let e : Some n ≡ Some k = sym (cond-true (test n) (Some n) (find test ns) y) ∙ h in
-      let same : n ≡ k = cc in
-      subst (λ (m : ℕ). test m ≡ true) same y
-  | inr f ↦ found_passes test ns k (sym (cond-false (test n) (Some n) (find test ns) f) ∙ h)
-]
+use Rattle.mmsyntax.specs.Dotted.{hypothesis_numbered}
+use Rattle.mmsyntax.proofs.DottedWords.{numbered_some, numbered_none, numbered_is}
+use Rattle.scripts.specs.Scripts.{counted_from_0, other_step_of, OtherSteps}
 
 module _ (t : Tables) (label : Word) where
   float_word : (w : Word) (o : Option Name) (j : ℕ) → meaning t w ≡ o → float_named o ≡ Some j → w ≡ (float_at t.floats j).label
@@ -53,8 +43,7 @@ module _ (t : Tables) (label : Word) where
   numbered_word w (Some zero) n e h = absurd cc
   numbered_word w (Some (suc k)) n e h =
       let same : k ≡ n = cc in
-      let passes = found_passes (λ m. bytes_eq w (hypothesis_label label m)) (range_with_len 1 1000) (suc k) e in
-      subst (λ (m : ℕ). w ≡ hypothesis_label label (suc m)) same (same_bytes w (hypothesis_label label (suc k)) passes)
+      subst (λ (m : ℕ). w ≡ hypothesis_label label (suc m)) same (numbered_is label w (suc k) e).2
 
   named_word : (w : Word) (s : Step) (f h : Option ℕ) → float_named (meaning t w) ≡ f → counted_from_0 (hypothesis_numbered label w) ≡ h
       → step_named w f h ≡ Ok s → w ≡ step_word t label s

@@ -1,10 +1,10 @@
 -- Of the code's inside, apart from the rules: how the values of the reader of histories are seen.
-use Rattle.std.specs.Prelude.{ℕ, Result, Ok, Err, if◌then◌else◌, codes}
+use Rattle.std.specs.Prelude.{ℕ, List, Result, Ok, Err, if◌then◌else◌, codes}
 use Rattle.std.specs.Str.{bytes_eq}
 use Rattle.mmtext.specs.declared.fault.FaultKind.TheVariants.{BadToken}
 use Rattle.mmtext.specs.declared.fault.TextFault.{TextFault}
 use Rattle.mmtext.specs.Text.{Token}
-use Rattle.mmtext.specs.Languages.{State, fault}
+use Rattle.mmtext.specs.Languages.{fault}
 use Rattle.mmsyntax.specs.declared.statement.Kind.{Kind}
 use Rattle.mmsyntax.specs.declared.statement.Kind.TheVariants.{Axiom, Theorem}
 use Rattle.mmsyntax.specs.Tables.{Tables}
@@ -18,8 +18,8 @@ use Rattle.historytext.specs.declared.place.EntryPlace.{EntryPlace as CodeEntryP
 use Rattle.historytext.specs.declared.place.EntryPlace.TheVariants as entry
 use Rattle.historytext.specs.declared.place.Place.{Place as CodePlace}
 use Rattle.historytext.specs.declared.place.Place.TheVariants as outer
-use Rattle.historytext.specs.declared.place.Progress.{Progress as CodeProgress}
-use Rattle.historytext.specs.declared.place.State.{State as CodeState}
+use Rattle.historytext.specs.declared.place.HistoryReader.{HistoryReader}
+use Rattle.library.specs.declared.history.Entry.{Entry}
 use Rattle.historytext.specs.Grammar.{highest_count}
 use Rattle.historytext.specs.Places.{ReplyPlace, at_shown_rank, at_shown_citers, in_shown, at_lines, at_line, at_label, at_kind, at_citers}
 use Rattle.historytext.specs.Places.{EntryPlace, at_begin, at_command, within, at_reply, answering}
@@ -77,10 +77,10 @@ answer t (whole_reply r) = Ok (whole_reply r)
 answer t (wrong kind) = fault t kind
 answer t (wrong_text f) = Err f
 
--- how far a history was read, as the code keeps it
-abbrev pub seen_progress : Tables → CodeProgress → Progress
-seen_progress t p = record { entries = p.entries.items; place = seen_place t p.place }
+-- a place of the code behind whole entries
+abbrev pub seen_at : Tables → List Entry → CodePlace → Progress
+seen_at t entries p = record { entries = entries; place = seen_place t p }
 
--- the state of the code
-abbrev pub seen_state : Tables → CodeState → State Progress
-seen_state t s = record { place = seen_progress t s.progress; in_comment = s.in_comment }
+-- how far a history was read, as the code keeps it
+abbrev pub seen_progress : HistoryReader → Progress
+seen_progress r = seen_at r.prelude.now r.entries.items r.place

@@ -1,13 +1,15 @@
 //! Reading an entry of a history.
 
+ghost use Rattle.std.specs.Prelude.{List};
 ghost use Rattle.mmtext.specs.Text.{Token as SeenToken};
 ghost use Rattle.mmtext.specs.Views.{seen, Gives};
 ghost use Rattle.mmsyntax.specs.Tables.{Tables};
 ghost use Rattle.scripts.specs.ScriptViews.{seen_led};
+ghost use Rattle.library.specs.declared.history.Entry.{Entry};
 ghost use Rattle.historytext.specs.Places.{answered, asked, command_row, in_entry_row, replies_left};
-ghost use Rattle.historytext.specs.Views.{seen_answered, seen_entry_place, seen_progress};
+ghost use Rattle.historytext.specs.Views.{seen_answered, seen_entry_place, seen_at};
 
-use crate::place::{Answered, EntryPlace, Place, Progress};
+use crate::place::{Answered, EntryPlace, Place};
 use crate::reply_rows::{read_in_reply, read_reply_word};
 use library::{Command, Entry, Reply};
 use mmstatement::{FaultKind, Prelude, Sequence};
@@ -16,14 +18,9 @@ use scripts::{Led, read_command_word, read_in_command};
 use std::alloc::Global;
 
 /// A place in a command, or one more command behind the others.
-fn go_on_asking<'a>(
-    entries: Vec<Entry>,
-    left: u64,
-    mut commands: Vec<Command>,
-    next: Led<'a>,
-) -> Result<Progress<'a>, Stop>
-    ensures { (t : Tables) (token : SeenToken) → Gives (seen_progress t) result
-        (asked entries.items left commands.items token (seen_led t next.entry)) }
+fn go_on_asking<'a>(left: u64, mut commands: Vec<Command>, next: Led<'a>) -> Result<Place<'a>, Stop>
+    ensures { (t : Tables) (entries : List Entry) (token : SeenToken) → Gives (seen_at t entries) result
+        (asked entries left commands.items token (seen_led t next.entry)) }
 {
     let place = match next {
         Led::Inside(place) => EntryPlace::Within(commands, place),
@@ -32,57 +29,45 @@ fn go_on_asking<'a>(
             EntryPlace::AtCommand(commands)
         }
     };
-    Ok(Progress {
-        entries,
-        place: Place::InEntry(left, place),
-    })
+    Ok(Place::InEntry(left, place))
 }
 
 /// Behind whole replies: the entry is whole when each command has one.
 fn go_on_replying<'a>(
-    mut entries: Vec<Entry>,
+    entries: &mut Vec<Entry>,
     left: u64,
     commands: Vec<Command>,
     replies: Vec<Reply>,
-) -> Result<Progress<'a>, Stop>
-    ensures { (t : Tables) → Gives (seen_progress t) result
-        (replies_left entries.items left commands.items replies.items) }
+) -> Result<Place<'a>, Stop>
+    ensures { (t : Tables) → Gives (seen_at t entries.new.items) result
+        (replies_left entries.old.items left commands.items replies.items) }
 {
     if replies.len() != commands.len() {
         let place = EntryPlace::AtReply(commands, replies);
-        return Ok(Progress {
-            entries,
-            place: Place::InEntry(left, place),
-        });
+        return Ok(Place::InEntry(left, place));
     }
     entries.push(Entry::Done {
         commands: Sequence::from_vec(commands),
         replies: Sequence::from_vec(replies),
     })?;
-    Ok(Progress {
-        entries,
-        place: Place::AtEntry(left),
-    })
+    Ok(Place::AtEntry(left))
 }
 
 /// A place in a reply, or one more reply behind the others.
 fn go_on_answering<'a>(
-    entries: Vec<Entry>,
+    entries: &mut Vec<Entry>,
     left: u64,
     commands: Vec<Command>,
     mut replies: Vec<Reply>,
     next: Answered<'a>,
-) -> Result<Progress<'a>, Stop>
-    ensures { (t : Tables) (token : SeenToken) → Gives (seen_progress t) result
-        (answered entries.items left commands.items replies.items token (seen_answered t next.entry)) }
+) -> Result<Place<'a>, Stop>
+    ensures { (t : Tables) (token : SeenToken) → Gives (seen_at t entries.new.items) result
+        (answered entries.old.items left commands.items replies.items token (seen_answered t next.entry)) }
 {
     match next {
         Answered::Going(place) => {
             let place = EntryPlace::Answering(commands, replies, place);
-            Ok(Progress {
-                entries,
-                place: Place::InEntry(left, place),
-            })
+            Ok(Place::InEntry(left, place))
         }
         Answered::Whole(reply) => {
             replies.push(reply)?;
@@ -94,39 +79,36 @@ fn go_on_answering<'a>(
 /// Behind `begin` and whole commands: `commit`, or the word of a command.
 fn read_at_command<'a>(
     alloc: Global,
-    entries: Vec<Entry>,
+    entries: &mut Vec<Entry>,
     left: u64,
     commands: Vec<Command>,
     token: Token<'a>,
-) -> Result<Progress<'a>, Stop>
-    ensures { (t : Tables) → Gives (seen_progress t) result
-        (command_row entries.items left commands.items (seen token.entry)) }
+) -> Result<Place<'a>, Stop>
+    ensures { (t : Tables) → Gives (seen_at t entries.new.items) result
+        (command_row entries.old.items left commands.items (seen token.entry)) }
 {
     if token.text == b"commit".as_slice() {
         return go_on_replying(entries, left, commands, Vec::new(alloc));
     }
-    go_on_asking(entries, left, commands, read_command_word(token)?)
+    go_on_asking(left, commands, read_command_word(token)?)
 }
 
 /// Where a token leads that stands in an entry, with so many others left.
 pub(crate) fn read_in_entry<'a>(
     alloc: Global,
     prelude: &Prelude,
-    entries: Vec<Entry>,
+    entries: &mut Vec<Entry>,
     left: u64,
     place: EntryPlace<'a>,
     token: Token<'a>,
-) -> Result<Progress<'a>, Stop>
-    ensures { Gives (seen_progress prelude.now) result
-        (in_entry_row prelude.now entries.items left (seen_entry_place prelude.now place.entry) (seen token.entry)) }
+) -> Result<Place<'a>, Stop>
+    ensures { Gives (seen_at prelude.now entries.new.items) result
+        (in_entry_row prelude.now entries.old.items left (seen_entry_place prelude.now place.entry) (seen token.entry)) }
 {
     match place {
         EntryPlace::AtBegin if token.text == b"begin".as_slice() => {
             let place = EntryPlace::AtCommand(Vec::new(alloc));
-            Ok(Progress {
-                entries,
-                place: Place::InEntry(left, place),
-            })
+            Ok(Place::InEntry(left, place))
         }
         EntryPlace::AtBegin => Err(fault_at(token, FaultKind::BadToken)),
         EntryPlace::AtCommand(commands) => {
@@ -134,7 +116,7 @@ pub(crate) fn read_in_entry<'a>(
         }
         EntryPlace::Within(commands, place) => {
             let next = read_in_command(alloc, prelude, place, token)?;
-            go_on_asking(entries, left, commands, next)
+            go_on_asking(left, commands, next)
         }
         EntryPlace::AtReply(commands, replies) => {
             let next = read_reply_word(token)?;

@@ -2,7 +2,7 @@
 
 use library::{Command, Entry, Line, Reply};
 use mmreader::UnitReader;
-use mmstatement::{Kind, Label};
+use mmstatement::{Kind, Label, Prelude};
 use scripts::CommandPlace;
 
 /// What was read of the reply in which a token stands.
@@ -63,18 +63,12 @@ pub(crate) enum Place<'a> {
     InEntry(u64, EntryPlace<'a>),
 }
 
-/// How far a history was read.
+/// How far a history was read, outside of comments.
 #[derive(Drop)]
-pub(crate) struct Progress<'a> {
+pub(crate) struct HistoryReader<'a> {
+    pub prelude: &'a Prelude,
     /// The entries that are whole, in order.
     pub entries: Vec<Entry>,
     /// The place behind them.
     pub place: Place<'a>,
-}
-
-/// How far a history was read, and whether a comment is open there.
-#[derive(Drop)]
-pub(crate) struct State<'a> {
-    pub progress: Progress<'a>,
-    pub in_comment: bool,
 }

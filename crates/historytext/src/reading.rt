@@ -4,101 +4,64 @@ ghost use Rattle.std.specs.Prelude.{◌≡◌, ◌≢◌, ◌≤◌, ◌⊎◌, 
 ghost use Rattle.mmtext.specs.declared.fault.FaultKind.TheVariants.{NoMemory};
 ghost use Rattle.mmtext.specs.declared.fault.TextFault.{TextFault};
 ghost use Rattle.mmtext.specs.Views.{seen, Gives};
-ghost use Rattle.mmtext.specs.Languages.{step, said_at, finished, token_reading, reading, Reads, Refuses};
+ghost use Rattle.mmtext.specs.Languages.{Reads, Refuses};
 ghost use Rattle.mmsyntax.specs.Tables.{Tables};
 ghost use Rattle.library.specs.declared.history.Entry.{Entry};
 ghost use Rattle.historytext.specs.Grammar.{SpellsHistory};
 ghost use Rattle.historytext.specs.Layout.{EntryFits};
-ghost use Rattle.historytext.specs.Places.{entry_row, in_place, whole, history_language, FaultyHistory};
-ghost use Rattle.historytext.specs.Views.{seen_place, seen_progress, seen_state};
+ghost use Rattle.historytext.specs.Places.{entry_row, in_place, whole, FaultyHistory};
+ghost use Rattle.historytext.specs.Views.{seen_place, seen_at};
 
 use crate::entry_rows::read_in_entry;
-use crate::place::{EntryPlace, Place, Progress, State};
+use crate::place::{EntryPlace, HistoryReader, Place};
 use crate::reply_rows::read_count;
 use library::{Entry, History};
 use mmstatement::{FaultKind, Prelude, Sequence, TextFault};
-use mmtext::{
-    Stop, Token, Turn, comment_turn, fault_at, mark_word, next_token, no_memory, text_fault,
-    unfinished_at,
-};
+use mmtext::{Mark, Reader, Stop, Token, fault_at, no_memory, read_text};
+use scripts::take_in_command;
 use std::alloc::Global;
+use std::mem;
 
 /// With so many entries left: `void` or `done`.
 fn read_at_entry<'a>(
-    mut entries: Vec<Entry>,
+    entries: &mut Vec<Entry>,
     left: u64,
     token: Token<'a>,
-) -> Result<Progress<'a>, Stop>
-    ensures { (t : Tables) → Gives (seen_progress t) result (entry_row entries.items left (seen token.entry)) }
+) -> Result<Place<'a>, Stop>
+    ensures { (t : Tables) → Gives (seen_at t entries.new.items) result (entry_row entries.old.items left (seen token.entry)) }
 {
     if left == 0 {
         return Err(fault_at(token, FaultKind::BadToken));
     }
     if token.text == b"void".as_slice() {
         entries.push(Entry::Void)?;
-        let place = Place::AtEntry(left - 1);
-        return Ok(Progress { entries, place });
+        return Ok(Place::AtEntry(left - 1));
     }
     if token.text == b"done".as_slice() {
-        let place = Place::InEntry(left - 1, EntryPlace::AtBegin);
-        return Ok(Progress { entries, place });
+        return Ok(Place::InEntry(left - 1, EntryPlace::AtBegin));
     }
     Err(fault_at(token, FaultKind::BadToken))
 }
 
-/// Where a token leads that stands in no comment and opens none.
-fn next_progress<'a>(
+/// Where a token leads that stands in no comment and opens none. An entry that it ends is put behind the others.
+fn next_place<'a>(
     alloc: Global,
     prelude: &Prelude,
-    progress: Progress<'a>,
+    entries: &mut Vec<Entry>,
+    place: Place<'a>,
     token: Token<'a>,
-) -> Result<Progress<'a>, Stop>
-    ensures { Gives (seen_progress prelude.now) result
-        (in_place prelude.now progress.entry.entries.items (seen_place prelude.now progress.entry.place) (seen token.entry)) }
+) -> Result<Place<'a>, Stop>
+    ensures { Gives (seen_at prelude.now entries.new.items) result
+        (in_place prelude.now entries.old.items (seen_place prelude.now place.entry) (seen token.entry)) }
 {
-    let Progress { entries, place } = progress;
     match place {
-        Place::AtHistory if token.text == b"history".as_slice() => Ok(Progress {
-            entries,
-            place: Place::AtCount,
-        }),
+        Place::AtHistory if token.text == b"history".as_slice() => Ok(Place::AtCount),
         Place::AtHistory => Err(fault_at(token, FaultKind::BadToken)),
-        Place::AtCount => {
-            let left = read_count(token)?;
-            let place = Place::AtEntry(left);
-            Ok(Progress { entries, place })
-        }
+        Place::AtCount => Ok(Place::AtEntry(read_count(token)?)),
         Place::AtEntry(left) => read_at_entry(entries, left, token),
         Place::InEntry(left, place) => {
             read_in_entry(alloc, prelude, entries, left, place, token)
         }
-    }
-}
-
-/// Where a token leads.
-fn advance<'a>(
-    alloc: Global,
-    prelude: &Prelude,
-    state: State<'a>,
-    token: Token<'a>,
-) -> Result<State<'a>, Stop>
-    ensures { Gives (seen_state prelude.now) result
-        (step (history_language prelude.now) (seen_state prelude.now state.entry) (seen token.entry)) }
-{
-    let State {
-        progress,
-        in_comment,
-    } = state;
-    let mark = mark_word(token.text);
-    match comment_turn(in_comment, token, mark)? {
-        Turn::Skipped(in_comment) => Ok(State {
-            progress,
-            in_comment,
-        }),
-        Turn::Read => Ok(State {
-            progress: next_progress(alloc, prelude, progress, token)?,
-            in_comment: false,
-        }),
     }
 }
 
@@ -109,48 +72,47 @@ fn may_end(place: &Place<'_>) -> bool
     matches!(place, Place::AtEntry(0))
 }
 
-/// The history of a text that ends in a state. `length` is that of the text.
-fn finish(state: State<'_>, length: usize) -> Result<Vec<Entry>, Stop>
-    ensures { (t : Tables) → Gives (λ v. v.items) result
-        (finished length (said_at (history_language t) (seen_state t state.entry))) }
-{
-    let State {
-        progress: Progress { entries, place },
-        in_comment,
-    } = state;
-    if in_comment || !may_end(&place) {
-        return Err(unfinished_at(length));
-    }
-    Ok(entries)
-}
+impl<'a> Reader<'a> for HistoryReader<'a> {
+    ghost use Rattle.std.specs.Prelude.{List};
+    ghost use Rattle.library.specs.declared.history.Entry.{Entry};
+    ghost use Rattle.historytext.specs.Places.{Progress, history_language};
+    ghost use Rattle.historytext.specs.Views.{seen_progress};
 
-/// What the tokens of a text say.
-fn read_tokens(alloc: Global, prelude: &Prelude, text: &[u8]) -> Result<Vec<Entry>, Stop>
-    ensures { Gives (λ v. v.items) result (token_reading (history_language prelude.now) text.now) }
-{
-    let mut state = State {
-        progress: Progress {
-            entries: Vec::new(alloc),
-            place: Place::AtHistory,
-        },
-        in_comment: false,
-    };
-    let mut at = 0;
-    while let Some(token) = next_token(text, at) {
-        at = token.place + token.text.len();
-        state = advance(alloc, prelude, state, token)?;
-    }
-    finish(state, text.len())
-}
+    type Said = History;
 
-/// What a text says: its length is tested first, then its bytes, then its tokens.
-fn read_text(alloc: Global, prelude: &Prelude, text: &[u8]) -> Result<Vec<Entry>, Stop>
-    ensures { Gives (λ v. v.items) result (reading (history_language prelude.now) text.now) }
-{
-    if let Some(fault) = text_fault(text) {
-        return Err(Stop::Fault(fault));
+    ghost Place = { Progress };
+
+    ghost Meaning = { List Entry };
+
+    ghost language = { λ r. history_language r.prelude.now };
+
+    ghost place = { seen_progress };
+
+    ghost IsReady = { λ _. Unit {0} };
+
+    ghost meaning = { λ history. history };
+
+    fn take_word(&mut self, alloc: Global, token: Token<'a>) -> Result<bool, Stop> {
+        match &mut self.place {
+            Place::InEntry(_, EntryPlace::Within(_, place)) => {
+                take_in_command(alloc, self.prelude, place, token)
+            }
+            _ => Ok(false),
+        }
     }
-    read_tokens(alloc, prelude, text)
+
+    fn take(&mut self, alloc: Global, token: Token<'a>, _mark: Mark) -> Result<(), Stop> {
+        let here = mem::replace(&mut self.place, Place::AtHistory);
+        self.place = next_place(alloc, self.prelude, &mut self.entries, here, token)?;
+        Ok(())
+    }
+
+    fn finish(self) -> Option<History> {
+        if !may_end(&self.place) {
+            return None;
+        }
+        Some(Sequence::from_vec(self.entries))
+    }
 }
 
 /// The history that a text spells over a prelude: `history`, the number of entries, and so many entries. Comments may stand between any two
@@ -189,8 +151,13 @@ pub fn read_history(alloc: Global, prelude: &Prelude, text: &[u8]) -> Result<His
     // Some text declares a prelude, so what is read over it fits.
     // For the proof: some text declares the prelude.
     let _floats = prelude.floats();
-    match read_text(alloc, prelude, text) {
-        Ok(entries) => Ok(Sequence::from_vec(entries)),
+    let reader = HistoryReader {
+        prelude,
+        entries: Vec::new(alloc),
+        place: Place::AtHistory,
+    };
+    match read_text(alloc, reader, text) {
+        Ok(history) => Ok(history),
         Err(Stop::Fault(fault)) => Err(fault),
         Err(Stop::Memory) => Err(no_memory()),
     }

@@ -73,7 +73,9 @@ module _ (db : Contents) (workers room : ℕ) (home : Home) (members : List Memb
       → IsEdited home scripts rows history library → IsWorked db workers room scripts rows history library
   worked scripts rows history library e = record {
     fits = o.fit;
-    told_by = over (λ s lib. AreToldBy s lib (map told history) workers scripts rows) (subst (λ n. AreToldBy (setting_given home.given) (first_library home.given) (map told history) n scripts rows) o.sessions e.told_by);
+    told_by =
+        over (λ s lib. AreToldBy s lib (map told history) workers scripts rows)
+        (subst (λ n. AreToldBy (setting_given home.given) (first_library home.given) (map told history) n scripts rows) o.sessions e.told_by);
     legal = over (λ s lib. IsLegal s lib (map told history)) e.legal;
     within = over (λ s lib. EntriesFit s.prelude (map told history)) e.fit;
     setting = e.setting ∙ same_setting;

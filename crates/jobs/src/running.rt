@@ -153,8 +153,11 @@ fn print_edited(
 ) -> Result<Printed, AllocError>
     requires checks { AllCheck db.now }
     requires fit { All (All (All (CommandFits db.now.prelude))) scripts.now }
-    requires worked { (workers : ℕ) × (room : ℕ) × IsWorked db.now workers room scripts.now (lists_of edited.now.outcomes.items) edited.now.history edited.now.library }
-    ensures { (workers room : ℕ) → IsWorked db.now workers room scripts.now (lists_of edited.now.outcomes.items) edited.now.history edited.now.library → IfOk result (λ p. PrintsRun db.now workers room asked scripts.now p.out.items p.history.items) }
+    requires worked { (workers : ℕ) × (room : ℕ)
+        × IsWorked db.now workers room scripts.now (lists_of edited.now.outcomes.items) edited.now.history edited.now.library }
+    ensures { (workers room : ℕ) →
+        IsWorked db.now workers room scripts.now (lists_of edited.now.outcomes.items) edited.now.history edited.now.library →
+        IfOk result (λ p. PrintsRun db.now workers room asked scripts.now p.out.items p.history.items) }
 {
     // For the proof: some text declares the database; the library verifies, and is in export order; and there are no more entries than a text
     // can count.

@@ -3,6 +3,7 @@ use Rattle.std.proofs.Common.{ℕ, zero, suc, ◌<◌, [], ◌∷◌, refl, inl,
 use Rattle.std.specs.Prelude.{◌⊎◌}
 use Rattle.std.proofs.lemmas.List.Elements.{All-nil, All-cons}
 use Rattle.std.proofs.lemmas.List.Sorted.{IsPermutation-refl}
+use Rattle.mmsyntax.specs.Dotted.{hypothesis_numbered, is_dotted, trunk}
 use Rattle.library.specs.Library.{ranked_from}
 use Rattle.ranges.specs.Ranges.{Has, ranges_named}
 use Rattle.cells.specs.State.{State}
@@ -30,6 +31,7 @@ empty : IsEmpty 2 state 1
 empty = record { name = refl; statement = refl; proof = refl; rank = refl; citers = refl; next = refl }
 
 chained : (b : ℕ) → b < 2 → IsChained 2 state (here ∷ []) b
+unfolding trunk is_dotted hypothesis_numbered
 chained zero lt = record { chain = 0 ∷ []; starts = (omega arith, refl, refl); has = IsPermutation-refl (0 ∷ []) }
 chained (suc zero) lt = record { chain = []; starts = refl; has = IsPermutation-refl [] }
 chained (suc (suc b)) lt = absurd (omega arith)

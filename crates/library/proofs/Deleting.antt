@@ -14,7 +14,8 @@ use Rattle.library.specs.Library.{Setting, Verifies, label_of}
 use Rattle.library.specs.Edits.{is_labelled, cites, without}
 use Rattle.library.proofs.Carrying.{checks_carried}
 use Rattle.library.proofs.Citations.{none_contained, cites_from}
-use Rattle.library.proofs.Filtered.{contains_filtered, distinct_filtered}
+use Rattle.library.proofs.Clashing.{apart_among}
+use Rattle.library.proofs.Filtered.{contained_filter, contains_filtered, distinct_filtered}
 use Rattle.library.proofs.Showing.{InRange, ChecksIn}
 
 -- what an entry cites is kept, where no entry cites the label
@@ -34,19 +35,20 @@ delete_verifies s lib label v none =
     let kept = λ (e : Ranked). not (is_labelled label e) in
     let Lawful = λ (e : Ranked). IsTrue (is_lawful_label s.prelude (label_of e)) in
     let Still = ChecksIn s (without label lib) in
-    let apart = distinct_filtered label_of kept lib v.library.distinct in
+    let differ = distinct_filtered label_of kept lib v.library.distinct in
     record {
       setting = v.setting;
       library = record {
         ranks = All-filter kept InRange lib v.library.ranks;
         lawful = All-filter kept Lawful lib v.library.lawful;
-        distinct = apart;
+        distinct = differ;
+        apart = apart_among lib (without label lib) (contained_filter kept lib) v.library.apart;
         room = omega (arith, length-filter_both kept (λ e. not (kept e)) (λ e. refl) lib, v.library.room);
       };
       fit = All-filter kept (λ e. Fits s.prelude e.assertion) lib v.fit;
       checks = All-filter kept Still lib (λ i d lt.
           let e = get_or lib i d in
-          checks_carried s lib (without label lib) e.rank e.rank e.assertion apart
+          checks_carried s lib (without label lib) e.rank e.rank e.assertion differ
           (λ f at below cited. (
             f,
             cited_kept lib label e f none (Contains-get_or lib i d lt) at cited,

@@ -20,11 +20,11 @@ use Rattle.library.specs.declared.command.Command.TheVariants.{Add, Reprove, Rep
 use Rattle.library.specs.declared.command.Reply.{Reply}
 use Rattle.library.specs.declared.command.Reply.TheVariants.{Shown, Listed}
 use Rattle.library.specs.declared.reason.Reason.{Reason}
-use Rattle.library.specs.declared.reason.Reason.TheVariants.{BadLabel, BadRank, LabelTaken, CitedNotLower, CiterNotHigher, StillCited}
+use Rattle.library.specs.declared.reason.Reason.TheVariants.{BadLabel, BadRank, LabelTaken, LabelClashes, CitedNotLower, CiterNotHigher, StillCited}
 use Rattle.library.specs.declared.reason.Reason.TheVariants.{NotATheorem, NotAlike, LibraryFull}
 use Rattle.library.specs.declared.reason.Refused.{Refused}
 use Rattle.library.specs.Library.{Setting, Verifies, label_of, citable, in_export_order}
-use Rattle.library.specs.Edits.{Edited, Tests, tested, of_found, done, has, found, cites, citers, added, changed, with_rank, with_proof}
+use Rattle.library.specs.Edits.{Edited, Tests, tested, of_found, done, has, clashes, found, cites, citers, added, changed, with_rank, with_proof}
 use Rattle.library.specs.Edits.{rename, without, where_so, is_axiom, bad_rank, bad_label, cites_not_below, still_cited, fault_of, proof_fails}
 use Rattle.library.specs.Edits.{add_tests, reprove_tests, replace_tests, rename_tests, move_tests, recited, are_alike, shown, line, edit}
 use Rattle.library.specs.Fitting.{CommandFits, highest_rank}
@@ -97,11 +97,13 @@ add_kept : (s : Setting) (lib : List Ranked) (rank : ℕ) (a : Assertion) → Ve
     → NoneRefuses (add_tests s lib rank a) → Verifies s (added lib rank a)
 add_kept s lib rank a v fits t =
     -- the tests that the proof checks, and that there is room
-    let behind = t.1.1.1.1.1.1 in
+    let behind = t.1.1.1.1.1.1.1 in
     let e : Ranked = record { rank = rank; assertion = a } in
     let free = where_none (has lib a.label) LabelTaken t.1.1.0 in
+    let clear = where_none (clashes lib a.label) LabelClashes t.1.1.1.0 in
     let room = leb-false s.slots (length lib) (where_none (nat_le s.slots (length lib)) LibraryFull behind.1.0) in
-    add_verifies s lib e v (ranked_where rank t.0, fits.0) (lawful_where s a.label t.1.0) free room fits.1 (proof_checks s lib e behind.0)
+    add_verifies s lib e v (ranked_where rank t.0, fits.0) (lawful_where s a.label t.1.0) free clear room fits.1
+    (proof_checks s lib e behind.0)
 
 reprove_kept : (s : Setting) (lib : List Ranked) (label : List ℕ) (steps : List Step) (e : Ranked) → Verifies s lib
     → found lib label ≡ Some e → length steps ≤ 16384 → NoneRefuses (reprove_tests s lib steps e)
@@ -121,6 +123,7 @@ rename_kept : (s : Setting) (lib : List Ranked) (old new : List ℕ) → Verifie
     → Verifies s (rename old new lib)
 rename_kept s lib old new v t =
     rename_verifies s lib old new v (lawful_where s new t.1.0) (where_none (has lib new) LabelTaken t.1.1.0)
+    (where_none (clashes (without old lib) new) LabelClashes t.1.1.1.0)
 
 move_kept : (s : Setting) (lib : List Ranked) (label : List ℕ) (rank : ℕ) (e : Ranked) → Verifies s lib → found lib label ≡ Some e
     → rank ≤ highest_rank → NoneRefuses (move_tests lib rank e) → Verifies s (changed label (with_rank rank) lib)

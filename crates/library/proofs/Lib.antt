@@ -4,6 +4,7 @@ pub mod Places
 pub mod Derivations
 pub mod Frames
 pub mod Filtered
+pub mod Clashing
 pub mod Lower
 pub mod Showing
 pub mod Carrying

@@ -9,13 +9,15 @@ use Rattle.std.proofs.lemmas.List.Elements.{All-map, All-weaker}
 use Rattle.mmsyntax.specs.declared.statement.Assertion.{Assertion}
 use Rattle.mmsyntax.specs.Tables.{Tables}
 use Rattle.mmsyntax.specs.Assertions.{is_lawful_label, Distinct, Fits}
+use Rattle.mmsyntax.specs.Dotted.{AreApart}
 use Rattle.proofcheck.specs.Laws.{replacing, step_relabelled, renamed}
 use Rattle.proofcheck.specs.Derivation.{Proves}
 use Rattle.proofcheck.specs.Databases.{frame_in}
 use Rattle.proofcheck.proofs.Relabelling.{renamed-proves}
 use Rattle.library.specs.declared.library.Ranked.{Ranked}
 use Rattle.library.specs.Library.{Setting, IsLibrary, Verifies, label_of, lower}
-use Rattle.library.specs.Edits.{rename, has}
+use Rattle.library.specs.Edits.{rename, has, clashes, without}
+use Rattle.library.proofs.Clashing.{apart_replaced}
 use Rattle.library.proofs.Labels.{distinct_replaced}
 use Rattle.library.proofs.Lower.{lower_all}
 use Rattle.library.proofs.Places.{has-labels, has_at}
@@ -44,8 +46,8 @@ labels-rename old new [] = refl
 labels-rename old new (e ∷ lib) = ap (λ ls. replacing old new (label_of e) ∷ ls) (labels-rename old new lib)
 
 library_renamed : (s : Setting) (lib : List Ranked) (old new : List ℕ) → IsLibrary s lib → IsTrue (is_lawful_label s.prelude new)
-    → has lib new ≡ false → IsLibrary s (rename old new lib)
-library_renamed s lib old new l lawful free =
+    → has lib new ≡ false → clashes (without old lib) new ≡ false → IsLibrary s (rename old new lib)
+library_renamed s lib old new l lawful free clear =
     let f = renamed_entry old new in
     let Good = λ (w : List ℕ). IsTrue (is_lawful_label s.prelude w) in
     record {
@@ -55,6 +57,7 @@ library_renamed s lib old new l lawful free =
           (λ e own. cond_both (bytes_eq old (label_of e)) new (label_of e) Good (λ _. lawful) (λ _. own)) lib l.lawful);
       distinct = subst (Distinct bytes_eq) (sym (labels-rename old new lib))
           (distinct_replaced old new (map label_of lib) l.distinct (has-labels lib new ∙ free));
+      apart = subst AreApart (sym (labels-rename old new lib)) (apart_replaced lib old new clear l.apart);
       room = subst (λ n. n ≤ s.slots) (sym (length-map lib f)) l.room;
     }
 
@@ -89,17 +92,17 @@ checks_renamed s lib old new e free h = λ theorem.
     subst (λ xs. Proves (frame_in t xs) t b b.proof b.statement) (sym (lower-rename old new lib e.rank))
     (renamed-proves t (lower lib e.rank) old new a (none_new lib new e.rank free) (h theorem))
 
--- a lawful label that no assertion has may be given
+-- a lawful label that no assertion has, and that clashes with none of the others, may be given
 pub rename_verifies : (s : Setting) (lib : List Ranked) (old new : List ℕ) → Verifies s lib → IsTrue (is_lawful_label s.prelude new)
-    → has lib new ≡ false → Verifies s (rename old new lib)
-rename_verifies s lib old new v lawful free =
+    → has lib new ≡ false → clashes (without old lib) new ≡ false → Verifies s (rename old new lib)
+rename_verifies s lib old new v lawful free clear =
     let t = s.prelude in
     let Good = λ (e : Ranked). Fits t e.assertion in
     let f = renamed_entry old new in
     let After = ChecksIn s (rename old new lib) in
     record {
       setting = v.setting;
-      library = library_renamed s lib old new v.library lawful free;
+      library = library_renamed s lib old new v.library lawful free clear;
       fit = All-map Good f lib (All-weaker Good (λ e. Good (f e)) (λ e. fits_renamed t old new e.assertion) lib v.fit);
       checks = All-map After f lib
           (All-weaker (ChecksIn s lib) (λ e. After (f e)) (λ e. checks_renamed s lib old new e free) lib v.checks);

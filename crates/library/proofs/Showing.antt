@@ -8,7 +8,7 @@ use Rattle.std.specs.List.Sorted.{IsPermutation}
 use Rattle.std.specs.Str.{bytes_eq}
 use Rattle.std.proofs.lemmas.List.{length-map, get_or-map}
 use Rattle.std.proofs.lemmas.List.Elements.{All-map, All-nil, All-same, All-weaker, All-contains}
-use Rattle.std.proofs.lemmas.List.Sorted.{All-permutation, Contains-permutation, IsPermutation-map, length_permutation}
+use Rattle.std.proofs.lemmas.List.Sorted.{All-permutation, Contains-permutation, IsPermutation-map, IsPermutation-sym, length_permutation}
 use Rattle.mmtext.specs.Words.{is_label, has_dot}
 use Rattle.mmsyntax.specs.declared.statement.Kind.{Kind}
 use Rattle.mmsyntax.specs.declared.statement.Kind.TheVariants.{Axiom, Theorem}
@@ -18,11 +18,13 @@ use Rattle.mmsyntax.specs.declared.symbols.Name.{Name}
 use Rattle.mmsyntax.specs.Tables.{Tables, meaning}
 use Rattle.mmsyntax.specs.Steps.{float_named}
 use Rattle.mmsyntax.specs.Assertions.{is_lawful_label, is_citable_label, Distinct, Fits, IsNameable, IsUnit, IsDeclarable}
+use Rattle.mmsyntax.proofs.Apart.{apart_plain, lawful_plain}
 use Rattle.mmsyntax.proofs.Declarable.{spelled_where_declarable}
 use Rattle.proofcheck.specs.Derivation.{Checks}
 use Rattle.library.specs.declared.library.Ranked.{Ranked}
 use Rattle.library.specs.Library.{Setting, IsSetting, IsLibrary, Verifies, label_of, lower, citable, Listed, shown_database}
 use Rattle.library.specs.Laws.{LibrariesAreSpelled}
+use Rattle.library.proofs.Clashing.{apart_among}
 use Rattle.library.proofs.Derivations.{Within, NamesOne, checks_within, steps_named, steps_some}
 use Rattle.library.proofs.Frames.{frame_found, frames_within}
 use Rattle.library.proofs.Labels.{distinct_permutation}
@@ -38,6 +40,7 @@ library_permutation s lib other l p = record {
   ranks = All-permutation InRange lib other p l.ranks;
   lawful = All-permutation (λ e. IsTrue (is_lawful_label s.prelude (label_of e))) lib other p l.lawful;
   distinct = distinct_permutation (map label_of lib) (map label_of other) (IsPermutation-map label_of lib other p) l.distinct;
+  apart = apart_among lib other (λ e. Contains-permutation other lib e (IsPermutation-sym lib other p)) l.apart;
   room = subst (λ n. n ≤ s.slots) (sym (length_permutation lib other p)) l.room;
 }
 
@@ -136,12 +139,16 @@ pub verifies_shown : (s : Setting) (lib : List Ranked) → IsSetting s → All I
     → IsDeclarable s.prelude (map (λ e. e.assertion) lib) → All (ChecksIn s lib) lib → Verifies s lib
 verifies_shown s lib setting ranks room d checks =
     let assertion = λ (e : Ranked). e.assertion in
+    let Lawful = λ (e : Ranked). IsTrue (is_lawful_label s.prelude (label_of e)) in
+    let lawful : All Lawful lib = All-unmap (λ a. IsTrue (is_lawful_label s.prelude a.label)) assertion lib d.lawful in
     record {
       setting = setting;
       library = record {
         ranks = ranks;
-        lawful = All-unmap (λ a. IsTrue (is_lawful_label s.prelude a.label)) assertion lib d.lawful;
+        lawful = lawful;
         distinct = subst (Distinct bytes_eq) (labels-assertions lib) d.distinct;
+        apart = apart_plain (map label_of lib) (All-map (λ l. has_dot l ≡ false) label_of lib
+            (All-weaker Lawful (λ e. has_dot (label_of e) ≡ false) (λ e. lawful_plain s.prelude (label_of e)) lib lawful));
         room = room;
       };
       fit = All-unmap (Fits s.prelude) assertion lib (λ i z lt. (d.units i z lt).fits);

@@ -14,6 +14,7 @@ use Rattle.mmsyntax.specs.declared.statement.Step.{Step}
 use Rattle.mmsyntax.specs.declared.statement.Step.TheVariants.{Float, Hyp, Cite}
 use Rattle.mmsyntax.specs.Assertions.{is_lawful_label}
 use Rattle.mmsyntax.specs.Blocks.{is_same_pair}
+use Rattle.mmsyntax.specs.Dotted.{clash}
 use Rattle.mmstatement.specs.Frames.{frame}
 use Rattle.proofcheck.specs.declared.fault.ProofFault.{ProofFault}
 use Rattle.proofcheck.specs.Derivation.{Tree}
@@ -37,6 +38,10 @@ is_labelled label e = bytes_eq label (label_of e)
 -- whether some assertion has the label
 abbrev pub has : List Ranked → List ℕ → Bool
 has lib label = list_any (is_labelled label) lib
+
+-- whether the label is L.k of that of some assertion, or that of some assertion L.k of it
+abbrev pub clashes : List Ranked → List ℕ → Bool
+clashes lib label = list_any (λ e. clash (label_of e) label) lib
 
 -- the assertion with the label
 abbrev pub found : List Ranked → List ℕ → Option Ranked
@@ -122,6 +127,10 @@ bad_label s label = where_so (not (is_lawful_label s.prelude label)) reason.BadL
 abbrev pub label_taken : List Ranked → List ℕ → Option Reason
 label_taken lib label = where_so (has lib label) reason.LabelTaken
 
+-- an assertion has a label that may not stand beside this one
+abbrev pub label_clashes : List Ranked → List ℕ → Option Reason
+label_clashes lib label = where_so (clashes lib label) reason.LabelClashes
+
 -- a rank is at least 1
 abbrev pub bad_rank : ℕ → Option Reason
 bad_rank rank = where_so (rank == 0) reason.BadRank
@@ -189,6 +198,7 @@ add_tests s lib rank a =
     bad_rank rank
     ∷ bad_label s a.label
     ∷ label_taken lib a.label
+    ∷ label_clashes lib a.label
     ∷ where_so (is_axiom a.kind) reason.AxiomNotAllowed
     ∷ cites_unknown lib a.proof
     ∷ cited_not_lower lib rank a.proof
@@ -215,8 +225,10 @@ replace_tests s lib old new e =
     ∷ cited_not_lower lib e.rank (Cite new ∷ [])
     ∷ []
 
+-- the label that is replaced may clash with the new one
 abbrev pub rename_tests : Setting → List Ranked → List ℕ → List ℕ → Tests
-rename_tests s lib old new = unknown_label lib old ∷ bad_label s new ∷ label_taken lib new ∷ []
+rename_tests s lib old new =
+    unknown_label lib old ∷ bad_label s new ∷ label_taken lib new ∷ label_clashes (without old lib) new ∷ []
 
 -- of the assertion that is found
 abbrev pub move_tests : List Ranked → ℕ → Ranked → Tests

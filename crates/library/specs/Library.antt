@@ -9,6 +9,7 @@ use Rattle.mmsyntax.specs.declared.statement.Assertion.{Assertion}
 use Rattle.mmsyntax.specs.Tables.{Tables, Contents}
 use Rattle.mmsyntax.specs.Layout.{IsSoundPrelude}
 use Rattle.mmsyntax.specs.Assertions.{is_lawful_label, Distinct, Fits}
+use Rattle.mmsyntax.specs.Dotted.{AreApart}
 use Rattle.proofcheck.specs.Derivation.{Citable, Checks}
 use Rattle.proofcheck.specs.Databases.{frame_in}
 use Rattle.library.specs.declared.library.Ranked.{Ranked}
@@ -35,12 +36,13 @@ highest_rank = 4294967295
 abbrev pub label_of : Ranked → List ℕ
 label_of e = e.assertion.label
 
--- a library is a list of assertions with ranks, in whatever order: each rank from 1 to 4,294,967,295, each label lawful and no other's, at
--- most as many as slots
+-- a library is a list of assertions with ranks, in whatever order: each rank from 1 to 4,294,967,295, each label lawful, no other's, and not
+-- L.k of another's L; at most as many as slots
 pub record IsLibrary (s : Setting) (lib : List Ranked) : Type 0 where
   pub ranks : All (λ e. (1 ≤ e.rank) × (e.rank ≤ highest_rank)) lib
   pub lawful : All (λ e. IsTrue (is_lawful_label s.prelude (label_of e))) lib
   pub distinct : Distinct bytes_eq (map label_of lib)
+  pub apart : AreApart (map label_of lib)
   pub room : length lib ≤ s.slots
 
 -- the assertions of strictly lower rank

@@ -6,7 +6,7 @@ use Rattle.proofcheck.specs.FaultNames.{printed_fault}
 use Rattle.library.specs.declared.reason.Reason.{Reason}
 use Rattle.library.specs.declared.reason.Reason.TheVariants.{UnknownLabel, LabelTaken, BadLabel, BadRank, CitesUnknown, CitedNotLower}
 use Rattle.library.specs.declared.reason.Reason.TheVariants.{CiterNotHigher, StillCited, NotATheorem, AxiomNotAllowed, ProofFails}
-use Rattle.library.specs.declared.reason.Reason.TheVariants.{LibraryFull, NotAlike}
+use Rattle.library.specs.declared.reason.Reason.TheVariants.{LibraryFull, NotAlike, LabelClashes}
 
 abbrev pub number_of : Reason → ℕ
 number_of UnknownLabel = 1
@@ -22,6 +22,7 @@ number_of AxiomNotAllowed = 10
 number_of (ProofFails fault) = 11
 number_of LibraryFull = 12
 number_of NotAlike = 13
+number_of LabelClashes = 14
 
 abbrev pub name_of : Reason → List ℕ
 name_of UnknownLabel = codes "UnknownLabel"
@@ -37,6 +38,7 @@ name_of AxiomNotAllowed = codes "AxiomNotAllowed"
 name_of (ProofFails fault) = codes "ProofFails"
 name_of LibraryFull = codes "LibraryFull"
 name_of NotAlike = codes "NotAlike"
+name_of LabelClashes = codes "LabelClashes"
 
 -- what stands behind the name of a reason: the number of citers, or the step and the fault of the proof
 abbrev pub said_besides : Reason → List ℕ

@@ -35,12 +35,14 @@ pub enum Reason {
     LibraryFull,
     /// The hypotheses or the statements of two assertions differ, or the one that is to be cited restricts a pair that the other doesn't.
     NotAlike,
+    /// The label is `L.k` of another assertion's label L, or another's is `L.k` of this one, for some k from 1 to 1,000.
+    LabelClashes,
 }
 
 impl Reason {
     ghost use Rattle.library.specs.Reasons.{number_of, name_of};
 
-    /// The number of the reason, from 1 to 13.
+    /// The number of the reason, from 1 to 14.
     pub fn number(self) -> u32
         ensures { result ≡ number_of self }
     {
@@ -58,6 +60,7 @@ impl Reason {
             Reason::ProofFails(_) => 11,
             Reason::LibraryFull => 12,
             Reason::NotAlike => 13,
+            Reason::LabelClashes => 14,
         }
     }
 
@@ -79,6 +82,7 @@ impl Reason {
             Reason::ProofFails(_) => "ProofFails",
             Reason::LibraryFull => "LibraryFull",
             Reason::NotAlike => "NotAlike",
+            Reason::LabelClashes => "LabelClashes",
         }
     }
 }

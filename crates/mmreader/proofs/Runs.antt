@@ -1,7 +1,7 @@
 -- What stands in the middle of statements, and that a single unit never comes to a $c, $v or $f.
 use Rattle.std.proofs.Common.{◌≡◌, ℕ, ◌<◌, Bool, true, false, cond, List, [], ◌∷◌, ◌++◌, length, Option, Some, None, Result, Ok, Err}
 use Rattle.std.proofs.Common.{refl, sym, ap, subst, ◌∙◌, arith, leb-false, length-append}
-use Rattle.std.specs.Prelude.{is_some, nat_lt, nat_le}
+use Rattle.std.specs.Prelude.{is_some, nat_lt, nat_le, IfOk}
 use mathlib.Core.Bool.{not}
 use Rattle.std.proofs.lemmas.Bool.{cond-false, or_parts}
 use Rattle.mmsyntax.specs.declared.statement.Symbol.{Symbol}
@@ -18,19 +18,20 @@ use Rattle.mmreader.specs.declared.place.PreludePlace.TheVariants as prelude
 use Rattle.mmtext.specs.Words.{Word, has_dollar, is_label}
 use Rattle.mmtext.specs.Text.{Token, mark_of}
 use Rattle.mmsyntax.specs.Tables.{Tables, meaning}
-use Rattle.mmsyntax.specs.Rows.{Known, in_prelude, is_used, first_fault, label_tests, float_label_tests, assertion_label_tests}
+use Rattle.mmsyntax.specs.Rows.{Known, Units, in_prelude, is_used, first_fault, label_tests, float_label_tests, assertion_label_tests}
 use Rattle.mmsyntax.specs.Rows.{symbol_tests, symbol_of, type_of, variable_of, variable_named, with_constant, with_variable}
 use Rattle.mmsyntax.specs.Rows.{with_assertion}
 use Rattle.mmsyntax.specs.Blocks.{Block, hypothesis_label_tests, distinct_of, with_distinct, axiom_of, theorem_of}
 use Rattle.mmsyntax.specs.Steps.{step_of}
-use Rattle.mmtext.specs.Languages.{State, fault, step}
+use Rattle.mmtext.specs.Languages.{fault}
 use Rattle.mmsyntax.specs.Faults.{Scope, outside, inside, block_of, Place, at_start, at_close, after_label, in_constants, in_variables}
 use Rattle.mmsyntax.specs.Faults.{float_type, float_variable, float_end, in_distinct, in_hypothesis, in_axiom, in_theorem, in_proof}
 use Rattle.mmsyntax.specs.Faults.{Position, at, faulted, tested, given, outermost_row, block_row, close_row, keyword_row, constant_row}
 use Rattle.mmsyntax.specs.Faults.{variable_row, float_end_row, distinct_row, hypothesis_row, axiom_row, theorem_row, proof_row, behind}
-use Rattle.mmsyntax.specs.Faults.{in_place, row, unit_at, unit_row, database_language, unit_language}
-use Rattle.mmreader.specs.Views.{seen_place, IsUnitPlace}
-use Rattle.mmtext.proofs.Turns.{OnPlace, keeps_step}
+use Rattle.mmsyntax.specs.Faults.{in_place, row, unit_at, unit_row}
+use Rattle.mmtext.specs.declared.fault.Stop.{Stop}
+use Rattle.mmreader.specs.Views.{seen_place, known_of, IsUnitPlace, Leads}
+use Rattle.mmtext.proofs.Turns.{OnPlace}
 use Rattle.mmsyntax.proofs.Sound.{cond_none, if_ok, free_variable}
 use Rattle.mmsyntax.proofs.Again.{none_is}
 
@@ -198,14 +199,16 @@ pub row_stands : (p : Position) (t : Token) → StandsAt p → OkStands (row p t
 unfolding row
 row_stands p t h = place_stands p.known p.place t (mark_of t.text) h
 
--- what stands in a database stands behind each token
-pub stands_step : (s q : State Position) (t : Token) → StandsAt s.place → step database_language s t ≡ Ok q → StandsAt q.place
-stands_step s q t h e = keeps_step database_language StandsAt row_stands s q t h e
-
 -- the row of a place, by the mark of the token
 pub row_at : (p : Position) (t : Token) (m : Mark) → m ≡ mark_of t.text → row p t ≡ in_place p.known p.place t m
 unfolding row
 row_at p t m is = ap (in_place p.known p.place t) (sym is)
+
+-- what stands at a place stands where its row leads
+pub stands_on : (here : Position) (w : Token) (m : Mark) (t : Tables) (u : Units) (r : Result CodePlace Stop) → m ≡ mark_of w.text
+    → StandsAt here → Leads t u r (in_place here.known here.place w m) → IfOk r (λ q. Stands (known_of t u) (seen_place q))
+stands_on here w m t u (Ok q) is h leads = subst OkStands (row_at here w m is ∙ leads) (row_stands here w h)
+stands_on here w m t u (Err e) is h leads = tt
 
 -- ---- single units
 
@@ -316,18 +319,13 @@ pub row_unit : (p : Position) (t : Token) → UnitAt p → OnPlace UnitAt (row p
 unfolding row
 row_unit p t h = place_unit p.known p.place t (mark_of t.text) h.0 h.1
 
--- what stands in a unit stands behind each token
-pub unit_stands_step : (t : Tables) (s q : State Position) (w : Token) → StandsAt s.place → step (unit_language t) s w ≡ Ok q
-    → StandsAt q.place
-unit_stands_step t s q w h e =
-    keeps_step (unit_language t) StandsAt
-    (λ p w h. ok_cond StandsAt (is_some (unit_at p.known p.place)) (fault w BadToken) (row p w) tt (row_stands p w h)) s q w h e
+-- the same of the rows of a unit
+pub unit_row_stands : (p : Position) (t : Token) → StandsAt p → OkStands (unit_row p t)
+unit_row_stands p t h = ok_cond StandsAt (is_some (unit_at p.known p.place)) (fault t BadToken) (row p t) tt (row_stands p t h)
 
 -- a unit never comes to a $c, $v or $f
-pub unit_step : (t : Tables) (s q : State Position) (w : Token) → UnitAt s.place → step (unit_language t) s w ≡ Ok q → UnitAt q.place
-unit_step t s q w h e =
-    keeps_step (unit_language t) UnitAt
-    (λ p w h. ok_cond UnitAt (is_some (unit_at p.known p.place)) (fault w BadToken) (row p w) tt (row_unit p w h)) s q w h e
+pub unit_row_unit : (p : Position) (t : Token) → UnitAt p → OnPlace UnitAt (unit_row p t)
+unit_row_unit p t h = ok_cond UnitAt (is_some (unit_at p.known p.place)) (fault t BadToken) (row p t) tt (row_unit p t h)
 
 -- the code's place is none in a $c, $v or $f where the place that is seen is none
 pub unit_place : (p : CodePlace) → InUnit (seen_place p) → IsUnitPlace p

@@ -1,7 +1,7 @@
 -- A single assertion, token by token: what its rows keep.
 use Rattle.std.proofs.Common.{◌≡◌, true, false, Option, Some, None, Result, Ok, Err, refl, sym, ap, subst}
 use Rattle.std.proofs.Common.{◌∙◌}
-use Rattle.std.specs.Prelude.{is_some}
+use Rattle.std.specs.Prelude.{is_some, IfOk}
 use Rattle.mmsyntax.specs.declared.statement.Assertion.{Assertion}
 use Rattle.mmtext.specs.Text.{Token, mark_of}
 use Rattle.mmtext.specs.declared.mark.Mark.{Mark}
@@ -10,6 +10,7 @@ use Rattle.mmreader.specs.Standing.{Stands}
 use Rattle.mmreader.specs.declared.place.UnitPlace.{UnitPlace}
 use Rattle.mmreader.specs.declared.place.UnitPlace.TheVariants as unit
 use Rattle.mmreader.specs.declared.place.Place.{Place as CodePlace}
+use Rattle.mmreader.specs.declared.place.Place.TheVariants as code
 use Rattle.mmtext.specs.declared.fault.Stop.{Stop}
 use Rattle.mmtext.specs.Views.{Fails}
 use Rattle.mmreader.specs.declared.reading.unit_reader.UnitProgress.{UnitProgress}
@@ -18,10 +19,11 @@ use Rattle.mmtext.proofs.Turns.{OnPlace}
 use Rattle.mmsyntax.specs.Tables.{Tables}
 use Rattle.mmsyntax.specs.Rows.{Known, Units}
 use Rattle.mmsyntax.specs.Faults.{Place, outside, inside, at_start, in_constants, in_variables, float_type, float_variable, float_end}
-use Rattle.mmsyntax.specs.Faults.{Position, in_place, row, first_of, unit_at}
-use Rattle.mmreader.specs.Views.{seen_place, seen_unit_place, seen_position, known_of, IsUnitPlace}
+use Rattle.mmsyntax.specs.Faults.{Position, in_place, row, first_of, unit_at, unit_row}
+use Rattle.mmreader.specs.Views.{seen_place, seen_unit_place, seen_position, known_of, IsUnitPlace, Leads}
 use Rattle.mmreader.specs.UnitReadings.{UnitReading, position_of, GoesOn}
-use Rattle.mmreader.proofs.Runs.{InUnit, UnitAt, StandsAt, row_at, row_stands, row_unit, unit_place}
+use Rattle.mmreader.specs.Readers.{IsReadyUnit}
+use Rattle.mmreader.proofs.Runs.{InUnit, UnitAt, StandsAt, row_at, row_stands, row_unit, unit_row_stands, unit_row_unit, unit_place}
 
 -- ---- what a unit's place says
 
@@ -64,13 +66,9 @@ stands_over k l p i h = h
 -- ---- one token
 
 -- what a row keeps of a unit
-pub record Behind (p : CodePlace) (u : Units) : Type 0 where
-  pub unit : IsUnitPlace p
-  pub goes_on : GoesOn (record { units = u; place = seen_place p })
-
 pub kept : (t : Tables) (u : Units) (p : UnitPlace) (w : Token) (m : Mark) (after : Units) (q : CodePlace)
     → GoesOn (record { units = u; place = seen_unit_place p }) → m ≡ mark_of w.text
-    → in_place (known_of t u) (seen_unit_place p) w m ≡ Ok (seen_position t after q) → Behind q after
+    → in_place (known_of t u) (seen_unit_place p) w m ≡ Ok (seen_position t after q) → IsReadyUnit q after
 kept t u p w m after q g is h =
     let here : Position = record { known = known_of t u; place = seen_unit_place p } in
     let e = row_at here w m is ∙ h in
@@ -83,6 +81,27 @@ kept t u p w m after q g is h =
         stands = λ s. stands_over (known_of t after) (known_of s after) (seen_place q) in_unit.1 stands;
       };
     }
+
+-- what a row of the unit keeps
+pub still_ready : (t : Tables) (u : Units) (p : CodePlace) (w : Token) (after : Units) (q : CodePlace) → IsReadyUnit p u
+    → unit_row (seen_position t u p) w ≡ Ok (seen_position t after q) → IsReadyUnit q after
+still_ready t u (code.Prelude p) w after q ready e = absurd ready.unit
+still_ready t u (code.Unit p) w after q ready e =
+    let here = seen_position t u (code.Unit p) in
+    let stands = subst (OnPlace StandsAt) e (unit_row_stands here w (ready.goes_on.stands t)) in
+    let in_unit = subst (OnPlace UnitAt) e (unit_row_unit here w (ready.goes_on.closed, in_unit_place p)) in
+    record {
+      unit = unit_place q in_unit.1;
+      goes_on = record {
+        closed = in_unit.0;
+        stands = λ s. stands_over (known_of t after) (known_of s after) (seen_place q) in_unit.1 stands;
+      };
+    }
+
+pub ready_on : (t : Tables) (u : Units) (p : CodePlace) (w : Token) (after : Units) (r : Result CodePlace Stop) → IsReadyUnit p u
+    → Leads t after r (unit_row (seen_position t u p) w) → IfOk r (λ q. IsReadyUnit q after)
+ready_on t u p w after (Ok q) ready leads = still_ready t u p w after q ready leads
+ready_on t u p w after (Err e) ready leads = tt
 
 -- the row at what was read, as the code has it
 pub row_read : (t s : Tables) (r : UnitReading) (u : Units) (p : UnitPlace) (w : Token) (m : Mark) → s ≡ t

@@ -1,7 +1,7 @@
 -- Words without a $: the steps that they are by what is kept of them, and where they lead in an expression or a proof.
 use Rattle.std.proofs.Common.{◌≡◌, ℕ, ◌<◌, Bool, true, false, cond, List, length, None, Some, Result, Ok, Err}
 use Rattle.std.proofs.Common.{refl, sym, ap, subst, ◌∙◌, inl, inr, arith}
-use Rattle.std.specs.Prelude.{◌||◌, nat_le, codes}
+use Rattle.std.specs.Prelude.{◌||◌, nat_le, codes, OnOk}
 use Rattle.std.specs.Str.{bytes_eq}
 use mathlib.Core.Bool.{not}
 use Rattle.std.proofs.lemmas.Bool.{cases_Bool, cond-false, lt-leb}
@@ -11,21 +11,23 @@ use Rattle.mmtext.specs.declared.fault.FaultKind.TheVariants.{BadToken, OutOfPro
 use Rattle.mmtext.specs.declared.mark.Mark.TheVariants as mark
 use Rattle.mmtext.specs.Words.{Word, has_dollar, is_label}
 use Rattle.mmtext.specs.Text.{Token}
-use Rattle.mmtext.specs.Languages.{State, step, marked, led, inside_comment}
+use Rattle.mmtext.specs.Takings.{TakesWord as Takes}
+use Rattle.mmtext.proofs.Turns.{OnPlace}
 use Rattle.mmtext.proofs.Marks.{same_word, label_plain, mark_plain}
 use Rattle.mmsyntax.specs.Tables.{Tables, meaning}
-use Rattle.mmsyntax.specs.Rows.{first_fault}
+use Rattle.mmsyntax.specs.Rows.{Known, first_fault}
 use Rattle.mmsyntax.specs.Blocks.{Hypothesis}
 use Rattle.mmsyntax.specs.Steps.{step_tests, float_named, hypothesis_named, step_named, unless_faulty, step_of}
-use Rattle.mmsyntax.specs.Faults.{Place, Position, in_place, row, database_language}
+use Rattle.mmsyntax.specs.Faults.{Place, in_place, row, database_language}
 use Rattle.mmreader.specs.declared.recent.Recalled.{Recalled}
 use Rattle.mmreader.specs.declared.recent.Recent.{Recent}
 use Rattle.mmreader.specs.declared.place.Place.{Place as CodePlace}
 use Rattle.mmreader.specs.declared.place.Place.TheVariants as code
 use Rattle.mmreader.specs.Recalls.{IsTrueOf, Knows, IsKept}
-use Rattle.mmreader.specs.Takings.{TakesWord, TakesToken}
+use Rattle.mmreader.specs.Standing.{Stands}
+use Rattle.mmreader.specs.Takings.{TakesWord}
 use Rattle.mmreader.specs.Views.{IsUnitPlace}
-use Rattle.mmreader.proofs.Runs.{row_at}
+use Rattle.mmreader.proofs.Runs.{StandsAt, row_at, row_stands}
 
 -- ---- steps
 
@@ -59,26 +61,28 @@ recalled t hyps count r kept label lt =
 
 -- ---- places
 
--- a word without a $ outside of comments
-step_plain : (s : State Position) (t : Token) → s.in_comment ≡ false → has_dollar t.text ≡ false
-    → step database_language s t ≡ led (in_place s.place.known s.place.place t mark.Plain)
-unfolding step
-step_plain s t out h =
-    let plain = mark_plain t.text h in
-    ap (marked database_language s t) plain
-    ∙ cond-false s.in_comment (inside_comment s.place t mark.Plain) (led (row s.place t)) out
-    ∙ ap led (row_at s.place t mark.Plain (sym plain))
+plain_row : (k : Known) (p : Place) (t : Token) → has_dollar t.text ≡ false
+    → row (record { known = k; place = p }) t ≡ in_place k p t mark.Plain
+plain_row k p t h = row_at (record { known = k; place = p }) t mark.Plain (sym (mark_plain t.text h))
 
--- what is taken in a place is what the step of the language leads to
-pub taken : (s : State Position) (q : Place) (t : Token) (r : Result Bool Stop) → s.in_comment ≡ false
-    → TakesWord s.place.known s.place.place t q r
-    → TakesToken s t (record { place = record { known = s.place.known; place = q }; in_comment = s.in_comment }) r
-taken s q t (Ok true) out r =
-    step_plain s t out r.0 ∙ ap led r.1
-    ∙ ap (λ b. Ok (record { place = record { known = s.place.known; place = q }; in_comment = b })) (sym out)
-taken s q t (Ok false) out r = ap (λ x. record { place = record { known = s.place.known; place = x }; in_comment = s.in_comment }) r
-taken s q t (Err stop.Memory) out r = tt
-taken s q t (Err (stop.Fault f)) out r = step_plain s t out r.0 ∙ ap led r.1
+-- what is taken in a place is what the language leads to
+pub taken : (k : Known) (p q : Place) (t : Token) (r : Result Bool Stop) → TakesWord k p t q r
+    → Takes database_language (record { known = k; place = p }) t (record { known = k; place = q }) r
+taken k p q t (Ok true) h = (h.0, plain_row k p t h.0 ∙ h.1)
+taken k p q t (Ok false) h = ap (λ x. record { known = k; place = x }) h
+taken k p q t (Err stop.Memory) h = tt
+taken k p q t (Err (stop.Fault f)) h = (h.0, plain_row k p t h.0 ∙ h.1)
+
+-- and what stands there stands then
+pub still_stands : (k : Known) (p q : Place) (t : Token) (b : Bool) → TakesWord k p t q (Ok b) → Stands k p → Stands k q
+still_stands k p q t true h stands =
+    subst (OnPlace StandsAt) (plain_row k p t h.0 ∙ h.1) (row_stands (record { known = k; place = p }) t stands)
+still_stands k p q t false h stands = subst (Stands k) (sym h) stands
+
+pub ready_after : (s : Tables) (k : Known) (p q : Place) (c : Recent) (t : Token) (r : Result Bool Stop) → TakesWord k p t q r → Stands k p
+    → Knows s c → OnOk r (Stands k q × Knows s c)
+ready_after s k p q c t (Ok b) h stands knows = (still_stands k p q t b h stands, knows)
+ready_after s k p q c t (Err e) h stands knows = tt
 
 -- what is kept of words stays true where the symbols don't change, or nothing is kept
 pub still_known : (p : CodePlace) (t u : Tables) (old new : Recent) → Knows t old → IsKept p old new → (IsUnitPlace p → u ≡ t) → Knows u new

@@ -1,9 +1,11 @@
 pub mod Labels
 pub mod HypothesisPlaces
+pub mod StandingPairs
 pub mod Views
 pub mod Recalls
 pub mod Takings
 pub mod Standing
 pub mod UnitReadings
 pub mod UnitViews
+pub mod Readers
 pub mod Laws

@@ -7,10 +7,9 @@ use Rattle.mmtext.specs.declared.fault.Stop.TheVariants as stop
 use Rattle.mmtext.specs.declared.mark.Mark.TheVariants as mark
 use Rattle.mmtext.specs.Words.{has_dollar}
 use Rattle.mmtext.specs.Text.{Token}
-use Rattle.mmtext.specs.Languages.{State, fault, step}
-use Rattle.mmtext.specs.Views.{Fails}
+use Rattle.mmtext.specs.Languages.{fault}
 use Rattle.mmsyntax.specs.Rows.{Known}
-use Rattle.mmsyntax.specs.Faults.{Place, Position, in_place, database_language}
+use Rattle.mmsyntax.specs.Faults.{Place, in_place}
 
 -- what a word gives put behind others, or its fault
 abbrev pub pushed : {A : Type 0} → Token → List A → Result A FaultKind → Result (List A) TextFault
@@ -30,9 +29,3 @@ TakesWord k p t q (Ok true) = (has_dollar t.text ≡ false) × (in_place k p t m
 TakesWord k p t q (Ok false) = q ≡ p
 TakesWord k p t q (Err stop.Memory) = Unit {0}
 TakesWord k p t q (Err (stop.Fault f)) = (has_dollar t.text ≡ false) × (in_place k p t mark.Plain ≡ Err f)
-
--- whether it took the token in a state, and the state then
-abbrev pub TakesToken : State Position → Token → State Position → Result Bool Stop → Type 0
-TakesToken s t q (Ok true) = step database_language s t ≡ Ok q
-TakesToken s t q (Ok false) = q ≡ s
-TakesToken s t q (Err e) = Fails e (step database_language s t)

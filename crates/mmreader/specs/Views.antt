@@ -11,10 +11,8 @@ use Rattle.mmreader.specs.declared.place.Place.{Place as CodePlace}
 use Rattle.mmreader.specs.declared.place.Place.TheVariants as code
 use Rattle.mmreader.specs.declared.place.Behind.{Behind as CodeBehind}
 use Rattle.mmreader.specs.declared.place.Behind.TheVariants.{Statement, BlockEnd}
-use Rattle.mmreader.specs.declared.place.State.{State as CodeState}
 use Rattle.mmtext.specs.declared.fault.Stop.{Stop}
 use Rattle.mmtext.specs.declared.fault.TextFault.{TextFault}
-use Rattle.mmtext.specs.Languages.{State}
 use Rattle.mmtext.specs.Views.{seen, Gives}
 use Rattle.mmsyntax.specs.Tables.{Tables, Contents}
 use Rattle.mmsyntax.specs.Rows.{Units, Known}
@@ -64,10 +62,6 @@ seen_position t u p = record { known = known_of t u; place = seen_place p }
 abbrev pub seen_behind : CodeBehind → Place
 seen_behind Statement = at_start outside
 seen_behind BlockEnd = at_close
-
--- a state of the code, beside what is known there
-abbrev pub seen_state : Tables → Units → CodeState → State Position
-seen_state t u s = record { place = seen_position t u s.place; in_comment = s.in_comment }
 
 -- a place of the code outside of $c, $v and $f
 abbrev pub IsUnitPlace : CodePlace → Type 0

@@ -1,12 +1,13 @@
 //! What a block holds before its assertion.
 
 ghost use Rattle.std.specs.Prelude.{◌≡◌, ◌<◌, length, map, IfOk, OnOk};
-ghost use Rattle.mmsyntax.specs.Blocks.{no_block, with_pair, with_pairs, with_hypothesis};
+ghost use Rattle.mmsyntax.specs.Blocks.{no_block, with_pairs, with_hypothesis};
 ghost use Rattle.mmsyntax.specs.Steps.{hypothesis_named};
 
+use crate::pair_set::PairSet;
 use mmsyntax::Expr;
 use std::alloc::{AllocError, Global};
-use std::collections::{BTreeSet, HashMap};
+use std::collections::HashMap;
 use std::hash::RandomState;
 use std::marker::Model;
 
@@ -31,7 +32,7 @@ impl<'a> Model for Hypothesis<'a> {
 /// The restricted pairs and the hypotheses. The map has the place of each hypothesis, for look-ups alone.
 #[derive(Drop)]
 struct Content<'a> {
-    pairs: BTreeSet<(u32, u32)>,
+    pairs: PairSet,
     hyps: Vec<Hypothesis<'a>>,
     places: HashMap<Vec<u8>, u32, RandomState>,
 }
@@ -42,7 +43,7 @@ impl<'a> Model for Content<'a> {
 
     ghost Value = { Seen };
 
-    ghost view = { λ b. record { pairs = b.pairs.keys; hyps = b.hyps.items } };
+    ghost view = { λ b. record { pairs = b.pairs; hyps = b.hyps.items } };
 
     ghost invariant = { λ b. FindsHypotheses b.places b.hyps.items };
 }
@@ -52,7 +53,7 @@ impl<'a> Content<'a> {
         ensures { result ≡ no_block }
     {
         Content {
-            pairs: BTreeSet::new(alloc),
+            pairs: PairSet::new(alloc, keys),
             hyps: Vec::new(alloc),
             places: HashMap::with_hasher(alloc, keys),
         }
@@ -82,7 +83,7 @@ impl<'a> Content<'a> {
     fn add_pairs(&mut self, variable: u32, earlier: &[u32]) -> Result<(), AllocError>
         ensures { OnOk result (self.new ≡ record self.old { pairs = with_pairs variable earlier.now self.old.pairs }) }
     {
-        put_pairs(&mut self.pairs, variable, earlier)
+        self.pairs.put_all(variable, earlier)
     }
 
     fn add_hypothesis(
@@ -113,7 +114,7 @@ impl<'a> Content<'a> {
     fn into_parts(self, alloc: Global) -> Result<(Vec<(u32, u32)>, Vec<Expr>), AllocError>
         ensures { IfOk result (λ r. (r.0.items ≡ self.entry.pairs) × (r.1.items ≡ map (λ h. h.expression) self.entry.hyps)) }
     {
-        let pairs = listed_pairs(alloc, self.pairs)?;
+        let pairs = self.pairs.into_vec(alloc)?;
         let hyps = expressions(alloc, self.hyps)?;
         Ok((pairs, hyps))
     }
@@ -203,44 +204,6 @@ fn first_labelled(hyps: &[Hypothesis<'_>], word: &[u8]) -> Option<u32>
         place += 1;
     }
     None
-}
-
-/// Puts a pair in its place, if it isn't there.
-fn put_pair(pairs: &mut BTreeSet<(u32, u32)>, pair: (u32, u32)) -> Result<(), AllocError>
-    ensures { OnOk result (pairs.new.keys ≡ with_pair pair pairs.old.keys) }
-{
-    pairs.insert(pair)?;
-    Ok(())
-}
-
-/// Puts the pairs of a variable and earlier ones.
-fn put_pairs(
-    pairs: &mut BTreeSet<(u32, u32)>,
-    variable: u32,
-    earlier: &[u32],
-) -> Result<(), AllocError>
-    ensures { OnOk result (pairs.new.keys ≡ with_pairs variable earlier.now pairs.old.keys) }
-{
-    for other in earlier {
-        let pair = if *other < variable {
-            (*other, variable)
-        } else {
-            (variable, *other)
-        };
-        put_pair(pairs, pair)?;
-    }
-    Ok(())
-}
-
-/// The pairs of a set, ascending.
-fn listed_pairs(alloc: Global, pairs: BTreeSet<(u32, u32)>) -> Result<Vec<(u32, u32)>, AllocError>
-    ensures { IfOk result (λ v. v.items ≡ pairs.keys) }
-{
-    let mut out = Vec::new(alloc);
-    for pair in pairs {
-        out.push(pair)?;
-    }
-    Ok(out)
 }
 
 /// The expressions of hypotheses.

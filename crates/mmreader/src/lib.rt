@@ -4,6 +4,7 @@
 mod block;
 mod known;
 pub mod laws;
+mod pair_set;
 mod place;
 mod reading;
 mod recent;

@@ -4,7 +4,9 @@ ghost use Rattle.std.specs.Prelude.{◌≡◌};
 ghost use Rattle.mmreader.specs.Views.{seen_place, seen_behind, is_outermost};
 
 use crate::block::Block;
-use mmsyntax::{Step, Symbol};
+use crate::known::Units;
+use crate::recent::Recent;
+use mmsyntax::{Step, Symbol, SymbolTable};
 use mmtext::Token;
 
 /// Outermost, or in a block that holds this much.
@@ -87,13 +89,6 @@ impl Behind {
     }
 }
 
-/// A place, and whether a comment is open there.
-#[derive(Drop)]
-pub(crate) struct State<'a> {
-    pub place: Place<'a>,
-    pub in_comment: bool,
-}
-
 /// Whether a place is outermost, between statements.
 pub(crate) fn is_outermost(place: &Place<'_>) -> bool
     ensures { result ≡ is_outermost (seen_place place.now) }
@@ -102,4 +97,22 @@ pub(crate) fn is_outermost(place: &Place<'_>) -> bool
         Place::Unit(UnitPlace::AtStart(Scope::Outside)) => true,
         _ => false,
     }
+}
+
+/// How far a database was read, outside of comments.
+#[derive(Drop)]
+pub(crate) struct DatabaseReader<'a> {
+    pub symbols: SymbolTable,
+    pub units: Units,
+    /// What is known of words, by the symbols.
+    pub recent: Recent<'a>,
+    pub place: Place<'a>,
+}
+
+/// How far an assertion was read over the symbols of a prelude, outside of comments.
+#[derive(Drop)]
+pub(crate) struct AssertionReader<'a> {
+    pub symbols: &'a SymbolTable,
+    pub units: Units,
+    pub place: Place<'a>,
 }

@@ -1,19 +1,17 @@
 //! Reading a database, token by token.
 
-ghost use Rattle.std.specs.Prelude.{◌≡◌, ◌≢◌, ◌≤◌, ◌⊎◌, length, IfOk, IfErr, OnOk};
+ghost use Rattle.std.specs.Prelude.{◌≡◌, ◌≢◌, ◌≤◌, ◌⊎◌, length, IfOk, IfErr};
 ghost use Rattle.mmtext.specs.declared.fault.TextFault.{TextFault};
 ghost use Rattle.mmtext.specs.declared.fault.FaultKind.TheVariants.{NoMemory};
 ghost use Rattle.mmsyntax.specs.Tables.{Contents};
-ghost use Rattle.mmtext.specs.Languages.{step, said_at, finished, token_reading, reading, Reads, Refuses};
-ghost use Rattle.mmsyntax.specs.Faults.{in_place, database_language, FaultyDatabase};
+ghost use Rattle.mmtext.specs.Languages.{Reads, Refuses};
+ghost use Rattle.mmtext.specs.Text.{mark_of};
+ghost use Rattle.mmsyntax.specs.Faults.{in_place, row, FaultyDatabase};
 ghost use Rattle.mmsyntax.specs.Grammar.{Spells};
 ghost use Rattle.mmsyntax.specs.Layout.{HasSpelling};
-ghost use Rattle.mmtext.specs.Views.{seen, Gives};
+ghost use Rattle.mmtext.specs.Views.{seen};
 ghost use Rattle.mmreader.specs.Standing.{Stands};
-ghost use Rattle.mmreader.specs.Recalls.{Knows};
-ghost use Rattle.mmreader.specs.Views.{seen_place, seen_state, known_of, contents_of, IsUnitPlace, Leads};
-ghost use Rattle.mmreader.specs.Takings.{TakesToken};
-ghost use Rattle.mmsyntax.specs.Rows.{Units};
+ghost use Rattle.mmreader.specs.Views.{seen_place, seen_position, known_of, contents_of, IsUnitPlace, Leads};
 
 mod labels;
 mod prelude_rows;
@@ -24,13 +22,10 @@ mod units;
 mod words;
 
 use crate::known::Units;
-use crate::place::{Place, Scope, State, UnitPlace, is_outermost};
+use crate::place::{DatabaseReader, Place, Scope, UnitPlace, is_outermost};
 use crate::recent::Recent;
 use mmsyntax::{Assertion, Database, Prelude, Sequence, SymbolTable};
-use mmtext::{
-    Mark, Stop, TextFault, Token, Turn, comment_turn, mark_word, next_token, no_memory, text_fault,
-    unfinished_at,
-};
+use mmtext::{Mark, Reader, Stop, TextFault, Token, no_memory, read_text};
 use prelude_rows::next_prelude_place;
 use std::alloc::Global;
 use std::hash::RandomState;
@@ -41,8 +36,8 @@ use unit_rows::next_unit_place;
 pub use units::read_assertion;
 use words::take_word;
 
-/// Where a token leads that stands outside of comments.
-fn next_place<'a>(
+/// Where a token with a mark leads that stands outside of comments.
+fn place_by_mark<'a>(
     alloc: Global,
     symbols: &mut SymbolTable,
     units: &mut Units,
@@ -61,153 +56,67 @@ fn next_place<'a>(
     }
 }
 
-/// Where a token of a database leads.
-fn advance<'a>(
+/// The same, by the language; and what stands at a place stands behind the token too.
+fn next_place<'a>(
     alloc: Global,
     symbols: &mut SymbolTable,
     units: &mut Units,
-    state: State<'a>,
+    place: Place<'a>,
     token: Token<'a>,
-) -> Result<State<'a>, Stop>
-    requires { Stands (known_of symbols.old units.old) (seen_place state.place) }
-    ensures leads { Gives (λ s. seen_state symbols.new units.new s) result
-        (step database_language (seen_state symbols.old units.old state.entry) (seen token.entry)) }
-    ensures kept { IsUnitPlace state.entry.place → symbols.new ≡ symbols.old }
+    mark: Mark,
+) -> Result<Place<'a>, Stop>
+    requires stands { Stands (known_of symbols.old units.old) (seen_place place) }
+    requires mark { mark ≡ mark_of token.text.now }
+    ensures leads { Leads symbols.new units.new result (row (seen_position symbols.old units.old place.entry) (seen token.entry)) }
+    ensures stands { IfOk result (λ p. Stands (known_of symbols.new units.new) (seen_place p)) }
+    ensures kept { IsUnitPlace place.entry → symbols.new ≡ symbols.old }
 {
-    let State { place, in_comment } = state;
-    let mark = mark_word(token.text);
-    match comment_turn(in_comment, token, mark)? {
-        Turn::Skipped(in_comment) => Ok(State { place, in_comment }),
-        Turn::Read => Ok(State {
-            place: next_place(alloc, symbols, units, place, token, mark)?,
-            in_comment: false,
-        }),
-    }
+    place_by_mark(alloc, symbols, units, place, token, mark)
 }
 
-/// Takes a word without `$` outside of comments where it stands. Whether it was one, at a place that takes them.
-fn take_plain<'a>(
-    alloc: Global,
-    symbols: &SymbolTable,
-    recent: &mut Recent<'a>,
-    state: &mut State<'a>,
-    token: Token<'a>,
-) -> Result<bool, Stop>
-    requires { Knows symbols.now recent.old }
-    ensures knows { Knows symbols.now recent.new }
-    ensures taken { (u : Units) →
-        TakesToken (seen_state symbols.now u state.old) (seen token.entry) (seen_state symbols.now u state.new) result }
-{
-    if state.in_comment {
-        return Ok(false);
-    }
-    take_word(alloc, symbols, recent, &mut state.place, token)
-}
+impl<'a> Reader<'a> for DatabaseReader<'a> {
+    ghost use Rattle.mmsyntax.specs.Tables.{Contents};
+    ghost use Rattle.mmsyntax.specs.Faults.{Position, database_language};
+    ghost use Rattle.mmreader.specs.Views.{contents_of};
+    ghost use Rattle.mmreader.specs.Readers.{database_place, IsReadyDatabase};
 
-/// Takes any token: the state is moved on.
-fn move_on<'a>(
-    alloc: Global,
-    symbols: &mut SymbolTable,
-    units: &mut Units,
-    recent: &mut Recent<'a>,
-    state: &mut State<'a>,
-    token: Token<'a>,
-) -> Result<(), Stop>
-    requires stands { Stands (known_of symbols.old units.old) (seen_place state.old.place) }
-    requires knows { Knows symbols.old recent.old }
-    ensures knows { OnOk result (Knows symbols.new recent.new) }
-    ensures leads { Gives (λ _. seen_state symbols.new units.new state.new) result
-        (step database_language (seen_state symbols.old units.old state.old) (seen token.entry)) }
-{
-    recent.keep_at(&state.place);
-    let nowhere = State {
-        place: Place::Unit(UnitPlace::AtClose),
-        in_comment: false,
-    };
-    let here = mem::replace(state, nowhere);
-    *state = advance(alloc, symbols, units, here, token)?;
-    Ok(())
-}
+    type Said = (SymbolTable, Vec<Assertion>);
 
-/// Reads a token of a database. Most are words that go on where they stand, and leave the state where it lies.
-fn read_token<'a>(
-    alloc: Global,
-    symbols: &mut SymbolTable,
-    units: &mut Units,
-    recent: &mut Recent<'a>,
-    state: &mut State<'a>,
-    token: Token<'a>,
-) -> Result<(), Stop>
-    requires stands { Stands (known_of symbols.old units.old) (seen_place state.old.place) }
-    requires knows { Knows symbols.old recent.old }
-    ensures knows { OnOk result (Knows symbols.new recent.new) }
-    ensures leads { Gives (λ _. seen_state symbols.new units.new state.new) result
-        (step database_language (seen_state symbols.old units.old state.old) (seen token.entry)) }
-{
-    if take_plain(alloc, symbols, recent, state, token)? {
-        return Ok(());
-    }
-    move_on(alloc, symbols, units, recent, state, token)
-}
+    ghost Place = { Position };
 
-/// What a text declares that ends in a state. `length` is that of the text.
-fn finish(
-    symbols: SymbolTable,
-    units: Units,
-    state: &State<'_>,
-    length: usize,
-) -> Result<(SymbolTable, Vec<Assertion>), Stop>
-    ensures { Gives (λ r. contents_of r.0 r.1.items) result
-        (finished length (said_at database_language (seen_state symbols units state.now))) }
-{
-    if state.in_comment || !is_outermost(&state.place) {
-        return Err(unfinished_at(length));
-    }
-    Ok((symbols, units.into_assertions()))
-}
+    ghost Meaning = { Contents };
 
-/// What the tokens of a text declare.
-fn read_tokens(
-    alloc: Global,
-    keys: RandomState,
-    text: &[u8],
-) -> Result<(SymbolTable, Vec<Assertion>), Stop>
-    ensures { Gives (λ r. contents_of r.0 r.1.items) result (token_reading database_language text.now) }
-{
-    let mut symbols = SymbolTable::new(alloc, keys);
-    let mut units = Units::new(alloc, keys, false);
-    let mut state = State {
-        place: Place::Unit(UnitPlace::AtStart(Scope::Outside)),
-        in_comment: false,
-    };
-    let mut recent = Recent::new(alloc);
-    let mut at = 0;
-    while let Some(token) = next_token(text, at) {
-        at = token.place + token.text.len();
-        read_token(
+    ghost language = { λ _. database_language };
+
+    ghost place = { database_place };
+
+    ghost IsReady = { IsReadyDatabase };
+
+    ghost meaning = { λ said. contents_of said.0 said.1.items };
+
+    fn take_word(&mut self, alloc: Global, token: Token<'a>) -> Result<bool, Stop> {
+        take_word(
             alloc,
-            &mut symbols,
-            &mut units,
-            &mut recent,
-            &mut state,
+            &self.symbols,
+            &mut self.recent,
+            &mut self.place,
             token,
-        )?;
+        )
     }
-    finish(symbols, units, &state, text.len())
-}
 
-/// What a text declares: its length is tested first, then its bytes, then its tokens.
-fn read_text(
-    alloc: Global,
-    keys: RandomState,
-    text: &[u8],
-) -> Result<(SymbolTable, Vec<Assertion>), Stop>
-    ensures { Gives (λ r. contents_of r.0 r.1.items) result (reading database_language text.now) }
-{
-    if let Some(fault) = text_fault(text) {
-        return Err(Stop::Fault(fault));
+    fn take(&mut self, alloc: Global, token: Token<'a>, mark: Mark) -> Result<(), Stop> {
+        self.recent.keep_at(&self.place);
+        let here = mem::replace(&mut self.place, Place::Unit(UnitPlace::AtClose));
+        self.place = next_place(alloc, &mut self.symbols, &mut self.units, here, token, mark)?;
+        Ok(())
     }
-    read_tokens(alloc, keys, text)
+
+    fn finish(self) -> Option<(SymbolTable, Vec<Assertion>)> {
+        if !is_outermost(&self.place) {
+            return None;
+        }
+        Some((self.symbols, self.units.into_assertions()))
+    }
 }
 
 /// The database that a text spells.
@@ -259,7 +168,13 @@ pub fn read_database(alloc: Global, keys: RandomState, text: &[u8]) -> Result<Da
     // A text with a fault is refused with it, unless memory runs out.
     ensures refused { (f : TextFault) → FaultyDatabase text.now f → Refuses result f }
 {
-    match read_text(alloc, keys, text) {
+    let reader = DatabaseReader {
+        symbols: SymbolTable::new(alloc, keys),
+        units: Units::new(alloc, keys, false),
+        recent: Recent::new(alloc),
+        place: Place::Unit(UnitPlace::AtStart(Scope::Outside)),
+    };
+    match read_text(alloc, reader, text) {
         Ok((symbols, assertions)) => Ok(into_database(symbols, assertions)),
         Err(Stop::Fault(fault)) => Err(fault),
         Err(Stop::Memory) => Err(no_memory()),

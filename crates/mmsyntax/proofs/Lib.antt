@@ -14,3 +14,6 @@ pub mod Written
 pub mod Canonical
 pub mod Declarable
 pub mod Copies
+pub mod Numerals
+pub mod DottedWords
+pub mod Apart

@@ -1,7 +1,6 @@
 -- The canonical layout: one line for each statement, words separated by one space, what stands in a block indented by two.
 use Rattle.std.specs.Prelude.{ℕ, suc, List, [], ◌∷◌, ◌++◌, map, slice_index_or}
 use Rattle.std.specs.List.{flat_map}
-use Rattle.std.specs.Fmt.{decimal}
 use Rattle.std.specs.Prelude.{codes}
 use Rattle.mmsyntax.specs.declared.statement.Symbol.{Symbol}
 use Rattle.mmsyntax.specs.declared.statement.Symbol.TheVariants.{Const, Var}
@@ -13,6 +12,7 @@ use Rattle.mmsyntax.specs.declared.statement.Float.{Float as FloatOf}
 use Rattle.mmsyntax.specs.declared.statement.Assertion.{Assertion}
 use Rattle.mmtext.specs.Words.{Word}
 use Rattle.mmsyntax.specs.Tables.{Contents, Tables}
+pub use Rattle.mmsyntax.specs.Dotted.{hypothesis_label}
 use Rattle.mmsyntax.specs.Grammar.{Claim, asserted, proved, Piece, distinct, hypothesis, Statement, constants, variables, float, alone}
 use Rattle.mmsyntax.specs.Grammar.{block}
 use Rattle.mmsyntax.specs.Grammar.{claim_spelling, piece_spelling, spelling, Spells, SpellsUnit}
@@ -35,10 +35,6 @@ float_at fs j = slice_index_or fs j no_float
 abbrev pub symbol_word : Tables → Symbol → Word
 symbol_word t (Const i) = word_at t.constants i
 symbol_word t (Var j) = word_at t.variables (float_at t.floats j).variable
-
--- the label of the n-th hypothesis of an assertion, from 1: L.1, L.2, ..
-abbrev pub hypothesis_label : Word → ℕ → Word
-hypothesis_label label n = label ++ 46 ∷ decimal n
 
 -- the word of a step in the proof of an assertion with a label; steps count hypotheses from 0
 abbrev pub step_word : Tables → Word → Step → Word

@@ -1,4 +1,5 @@
 pub mod Tables
+pub mod Dotted
 pub mod Rows
 pub mod Blocks
 pub mod Steps
@@ -8,4 +9,5 @@ pub mod Layout
 pub mod Assertions
 pub mod Preludes
 pub mod Laws
+pub mod Numbers
 pub mod Indexes

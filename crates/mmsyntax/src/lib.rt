@@ -2,15 +2,18 @@
 #![tactic(auto)]
 
 mod database;
+mod dotted;
 mod fitting;
 mod label;
 pub mod laws;
+pub mod numeral;
 mod prelude;
 mod sequence;
 mod statement;
 mod symbols;
 
 pub use database::Database;
+pub use dotted::{hypothesis_number, is_dotted, trunk};
 pub use fitting::{fits, is_lawful_label};
 pub use label::Label;
 pub use prelude::Prelude;

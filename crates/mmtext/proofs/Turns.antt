@@ -1,8 +1,8 @@
 -- A token outside or inside of comments, as the code takes it, against the step of any language; and what a language keeps at each step.
-use Rattle.std.proofs.Common.{◌≡◌, ℕ, ltb, Bool, true, false, cond, List, ◌∷◌, length, Option, Some, None, Result, Ok, Err}
+use Rattle.std.proofs.Common.{◌≡◌, ℕ, ltb, Bool, true, false, cond, List, [], ◌∷◌, length, Option, Some, None, Result, Ok, Err}
 use Rattle.std.proofs.Common.{refl, sym, ap, subst, ◌∙◌}
 use Rattle.std.specs.Option.{option_map}
-use Rattle.mmtext.specs.declared.fault.FaultKind.TheVariants.{BadToken, BadByte, TooLong}
+use Rattle.mmtext.specs.declared.fault.FaultKind.TheVariants.{BadToken, BadByte, TooLong, Unfinished}
 use Rattle.mmtext.specs.declared.fault.Stop.{Stop}
 use Rattle.mmtext.specs.declared.fault.Stop.TheVariants as stop
 use Rattle.mmtext.specs.declared.fault.TextFault.{TextFault}
@@ -11,10 +11,13 @@ use Rattle.mmtext.specs.declared.mark.Mark.TheVariants as mark
 use Rattle.mmtext.specs.declared.comments.Turn.{Turn}
 use Rattle.mmtext.specs.declared.comments.Turn.TheVariants as turn
 use Rattle.mmtext.specs.Text.{Token, tokens, mark_of, has_comment_mark, bad_byte}
-use Rattle.mmtext.specs.Languages.{Language, State, fault, led, outside_comment, inside_comment, step, run, start_of}
-use Rattle.mmtext.specs.Languages.{token_reading, without_bad_byte, reading}
-use Rattle.mmtext.specs.Views.{turn_at, fault_of_bytes, Fails, Gives}
-use Rattle.mmtext.proofs.Readings.{stops_here}
+use Rattle.mmtext.specs.Words.{has_dollar}
+use Rattle.mmtext.specs.Languages.{Language, State, fault, led, outside_comment, inside_comment, marked, step, run, start_of}
+use Rattle.mmtext.specs.Languages.{said_at, finished, token_reading, without_bad_byte, reading}
+use Rattle.mmtext.specs.Takings.{TakesWord}
+use Rattle.mmtext.specs.Views.{turn_at, state_at, fault_of_bytes, Fails, Gives}
+use Rattle.mmtext.proofs.Marks.{mark_plain}
+use Rattle.mmtext.proofs.Readings.{ends_here, stops_here}
 
 -- ---- one token
 
@@ -164,3 +167,38 @@ unfolding reading
 clean_bytes l bytes h =
     sym
     (cond_clean (ltb 16777216 (length bytes)) (record { place = 16777216; kind = TooLong }) (bad_byte bytes) (token_reading l bytes) h)
+
+-- ---- words
+
+word_steps : {P A : Type 0} (l : Language P A) (p : P) (t : Token) → has_dollar t.text ≡ false → step l (state_at p false) t ≡ led (l.row p t)
+unfolding step
+word_steps l p t h = ap (marked l (state_at p false) t) (mark_plain t.text h)
+
+-- a word that is taken outside of comments
+pub word_leads : {P A : Type 0} (l : Language P A) (p q : P) (b : Bool) (t : Token) → b ≡ false → TakesWord l p t q (Ok true)
+    → step l (state_at p b) t ≡ Ok (state_at q b)
+word_leads l p q true t out h = absurd cc
+word_leads l p q false t out h = word_steps l p t h.0 ∙ ap led h.1
+
+-- a word at which reading stops
+pub word_stops : {P A : Type 0} (l : Language P A) (p q : P) (b : Bool) (t : Token) (e : Stop) → b ≡ false → TakesWord l p t q (Err e)
+    → Fails e (step l (state_at p b) t)
+word_stops l p q true t e out h = absurd cc
+word_stops l p q false t stop.Memory out h = tt
+word_stops l p q false t (stop.Fault f) out h = word_steps l p t h.0 ∙ ap led h.1
+
+-- ---- the end of a text
+
+-- a text that ends in a comment
+pub ends_open : {P A : Type 0} (l : Language P A) (text : List ℕ) (p : P) (b : Bool) (ts : List Token) → b ≡ true → ts ≡ []
+    → run l (state_at p b) ts ≡ run l (start_of l) (tokens text)
+    → token_reading l text ≡ Err (record { place = length text; kind = Unfinished })
+ends_open l text p b ts is none same =
+    ends_here l text (state_at p b) ts none same ∙ ap (λ x. finished (length text) (said_at l (state_at p x))) is
+
+-- a text that ends outside of one
+pub ends_at : {P A : Type 0} (l : Language P A) (text : List ℕ) (p : P) (b : Bool) (ts : List Token) → b ≡ false → ts ≡ []
+    → run l (state_at p b) ts ≡ run l (start_of l) (tokens text)
+    → token_reading l text ≡ finished (length text) (l.said p)
+ends_at l text p b ts is none same =
+    ends_here l text (state_at p b) ts none same ∙ ap (λ x. finished (length text) (said_at l (state_at p x))) is

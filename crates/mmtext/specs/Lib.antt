@@ -4,4 +4,5 @@ pub mod Languages
 pub mod Comments
 pub mod FaultNames
 pub mod Views
+pub mod Takings
 pub mod Laws

@@ -11,11 +11,15 @@ use Rattle.mmtext.specs.declared.fault.Stop.{Stop}
 use Rattle.mmtext.specs.declared.fault.Stop.TheVariants as stop
 use Rattle.mmtext.specs.declared.fault.TextFault.{TextFault}
 use Rattle.mmtext.specs.Text.{Token, bad_byte, has_comment_mark}
-use Rattle.mmtext.specs.Languages.{fault}
+use Rattle.mmtext.specs.Languages.{State, fault}
 
 -- a token of the code
 abbrev pub seen : CodeToken → Token
 seen t = record { place = t.place; text = t.text.now }
+
+-- a place, and whether a comment is open there
+abbrev pub state_at : {P : Type 0} → P → Bool → State P
+state_at p b = record { place = p; in_comment = b }
 
 -- the fault of a text before its tokens
 abbrev pub fault_of_bytes : List ℕ → Option TextFault

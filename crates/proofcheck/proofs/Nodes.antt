@@ -29,6 +29,13 @@ pub subst-drop : (s : List (ℕ × Expression)) (e : Expression) (i : ℕ) (d : 
     → subst s (drop i e) ≡ subst s (get_or e i d ∷ []) ++ subst s (drop (i + 1) e)
 subst-drop s e i d lt = rw (drop-cons e i d, add-one) (subst-cons s (get_or e i d) (drop (suc i) e))
 
+-- an expression in which nothing is replaced
+pub subst-none : (s : List (ℕ × Expression)) (e : Expression) → length s ≡ 0 → subst s e ≡ e
+subst-none s [] none = refl
+subst-none s (Const c ∷ e) none = ap (λ d. Const c ∷ d) (subst-none s e none)
+subst-none [] (Var j ∷ e) none = ap (λ d. Var j ∷ d) (subst-none [] e none)
+subst-none (x ∷ xs) (Var j ∷ e) none = cc
+
 -- `==` at symbols
 pub symbol_decides : (a b : Symbol) → Decides (eq-value.it a b) (a ≡ b)
 symbol_decides (Const c) (Const d) = (λ e. ap Const ((Decides-eqb c d).0 e), λ e. let same : c ≡ d = cc in (Decides-eqb c d).1 same)

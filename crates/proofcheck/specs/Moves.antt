@@ -7,6 +7,8 @@ use Rattle.mmsyntax.specs.declared.statement.Step.{Step}
 use Rattle.mmsyntax.specs.declared.statement.Step.TheVariants.{Float, Hyp, Cite}
 use Rattle.proofcheck.specs.declared.fault.ProofFaultKind.{ProofFaultKind}
 use Rattle.proofcheck.specs.declared.fault.ProofFaultKind.TheVariants.{TooLong, NoMemory, UnknownStep, StackShort}
+use Rattle.proofcheck.specs.declared.substitutes.Conclusion.{Conclusion}
+use Rattle.proofcheck.specs.declared.substitutes.Conclusion.TheVariants.{Unchanged, Made}
 use Rattle.proofcheck.specs.Derivation.{Expression, Citable, FloatGives, Gives, arity}
 use Rattle.proofcheck.specs.Faults.{FailsTest, last}
 
@@ -32,3 +34,8 @@ IsTooLongOrNoMemory TooLong P = P
 IsTooLongOrNoMemory NoMemory P = Unit {0}
 IsTooLongOrNoMemory UnknownStep P = ⊥
 IsTooLongOrNoMemory _ P = ⊥
+
+-- the expression that a citation gives: as it stands, or what was put together
+abbrev pub concluded : Conclusion → Expression → Expression
+concluded (Unchanged e) made = e.now
+concluded Made made = made

@@ -11,17 +11,18 @@ use crate::fault::{ProofFault, ProofFaultKind};
 use crate::frames::Frames;
 use crate::node::node;
 use crate::stack::Stack;
+use crate::substitutes::Conclusion;
 use crate::thesis::Thesis;
 use mmstatement::{Assertion, Expr, Frame, Kind, Prelude, Step, Symbol};
 use std::alloc::Global;
 
 /// Puts what a citation of the frame gives in the place of the last expressions, which it takes.
-fn cite(
+fn cite<'a>(
     alloc: Global,
     prelude: &Prelude,
     thesis: &Thesis,
-    frame: &Frame,
-    stack: &mut Stack,
+    frame: &'a Frame,
+    stack: &mut Stack<'a>,
     made: &mut Vec<Symbol>,
 ) -> Result<(), ProofFaultKind>
     ensures ok { OnOk result (GivesOnLast prelude.now thesis.now frame.now stack.old stack.new) }
@@ -33,19 +34,22 @@ fn cite(
         return Err(ProofFaultKind::StackShort);
     }
     let base = stack.len() - count;
-    node(alloc, prelude, thesis, frame, &stack.last(count), made)?;
+    let conclusion = node(alloc, prelude, thesis, frame, &stack.last(count), made)?;
     stack.truncate(base);
-    stack.push(made.as_slice())?;
+    match conclusion {
+        Conclusion::Unchanged(statement) => stack.lend(statement)?,
+        Conclusion::Made => stack.push(made.as_slice())?,
+    }
     Ok(())
 }
 
 /// Takes one step. What a citation makes is put together in `made`.
-fn take_step<F: Frames>(
+fn take_step<'a, F: Frames>(
     alloc: Global,
     prelude: &Prelude,
-    frames: &F,
-    thesis: &Thesis,
-    stack: &mut Stack,
+    frames: &'a F,
+    thesis: &Thesis<'a>,
+    stack: &mut Stack<'a>,
     made: &mut Vec<Symbol>,
     step: &Step,
 ) -> Result<(), ProofFaultKind>
@@ -64,7 +68,7 @@ fn take_step<F: Frames>(
         Step::Hyp(k) => match thesis.assertion().hyps.as_slice().get(*k as usize) {
             None => Err(ProofFaultKind::UnknownStep),
             Some(hyp) => {
-                stack.push(hyp.as_slice())?;
+                stack.lend(hyp.as_slice())?;
                 Ok(())
             }
         },
@@ -139,8 +143,9 @@ fn check_steps<F: Frames>(
 /// The time is about linear in the symbols that the steps write down and compare, plus the pairs of variables that are compared: a pair is
 /// found by halving among those of the assertion, or at once where it stands close behind the one before, and the expression of a variable
 /// among the `$f` of a frame, by halving where they are many. Pairs or `$f` that don't ascend are gone through instead: no assertion that
-/// fits a prelude and no frame of `frame_of` has such. Each step writes its expression down once, behind those that are left, and a
-/// citation once more: no step allocates, but where the room for all of them grows.
+/// fits a prelude and no frame of `frame_of` has such. A step that names a `$e`, or an assertion without mandatory variables, copies
+/// nothing. Each other citation writes its expression down twice, the second time behind those that are left. No step allocates, but
+/// where the room for all of them grows.
 pub fn check<F: Frames>(
     alloc: Global,
     prelude: &Prelude,

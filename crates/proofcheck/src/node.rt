@@ -1,13 +1,14 @@
 //! The tests of a citation: what a frame asks of the expressions of its mandatory hypotheses.
 
-ghost use Rattle.std.specs.Prelude.{◌≡◌, ◌≢◌, ◌↔◌, ◌≤◌, IsTrue, OnOk, IfErr, length};
+ghost use Rattle.std.specs.Prelude.{◌≡◌, ◌≢◌, ◌↔◌, ◌≤◌, IsTrue, IfOk, IfErr, length};
 ghost use Rattle.proofcheck.specs.Derivation.{Gives, HasType, HaveTypes, arity};
 ghost use Rattle.proofcheck.specs.Faults.{FailsTest};
+ghost use Rattle.proofcheck.specs.Moves.{concluded};
 
 use crate::fault::ProofFaultKind;
 use crate::pairs::pairs_fit;
 use crate::stack::Args;
-use crate::substitutes::{Substitution, are_substituted, conclude};
+use crate::substitutes::{Conclusion, Substitution, are_substituted, conclude};
 use crate::thesis::Thesis;
 use mmstatement::{Frame, Prelude, Symbol};
 use std::alloc::Global;
@@ -45,16 +46,16 @@ fn have_types(prelude: &Prelude, floats: &[u32], args: &Args) -> bool
 }
 
 /// Makes what a citation of the frame gives over these expressions, one for each mandatory hypothesis; or tells the first test that fails.
-pub(crate) fn node(
+pub(crate) fn node<'a>(
     alloc: Global,
     prelude: &Prelude,
     thesis: &Thesis,
-    frame: &Frame,
+    frame: &'a Frame,
     args: &Args,
     made: &mut Vec<Symbol>,
-) -> Result<(), ProofFaultKind>
+) -> Result<Conclusion<'a>, ProofFaultKind>
     requires { length args.now ≡ arity frame.now }
-    ensures ok { OnOk result (Gives prelude.now thesis.now frame.now args.now made.new.items) }
+    ensures ok { IfOk result (λ e. Gives prelude.now thesis.now frame.now args.now (concluded e made.new.items)) }
     ensures err { IfErr result (λ kind. kind ≢ ProofFaultKind.NoMemory → FailsTest prelude.now thesis.now frame.now args.now kind) }
 {
     let floats = frame.floats.as_slice();

@@ -1,6 +1,7 @@
-//! The expressions of the trees so far: their symbols in one vector, one expression behind another.
+//! The expressions of the trees so far: their symbols in one vector, one expression behind another, or lent from where they stand.
 
 ghost use Rattle.std.specs.Prelude.{◌≡◌, ◌-◌, ◌<◌, ◌≤◌, ◌++◌, ◌∷◌, [], OnOk, length, take, drop, slice_index_or};
+ghost use Rattle.proofcheck.specs.Spans.{start};
 
 use mmstatement::Symbol;
 use std::alloc::{AllocError, Global};
@@ -11,11 +12,30 @@ const USUAL_SYMBOLS: usize = 256;
 
 const USUAL_EXPRESSIONS: usize = 32;
 
+/// An expression of a stack.
+#[derive(Clone, Copy)]
+pub(crate) enum Entry<'a> {
+    /// The stack's own symbols from a place to another.
+    Own(usize, usize),
+    /// Symbols that stand elsewhere, and how many symbols of the stack's own lie below.
+    Lent(usize, &'a [Symbol]),
+}
+
+/// How many symbols of the stack's own lie below an entry.
+fn start_of(entry: &Entry) -> usize
+    ensures { result ≡ start entry.now }
+{
+    match entry {
+        Entry::Own(start, _) => *start,
+        Entry::Lent(start, _) => *start,
+    }
+}
+
 /// The last expressions of a stack. Contracts see them as a list.
 #[derive(Drop)]
 pub(crate) struct Args<'a> {
     symbols: &'a [Symbol],
-    spans: &'a [(usize, usize)],
+    entries: &'a [Entry<'a>],
 }
 
 impl<'a> Model for Args<'a> {
@@ -25,9 +45,9 @@ impl<'a> Model for Args<'a> {
 
     ghost Value = { List (List Symbol) };
 
-    ghost view = { λ a. cut a.symbols.now a.spans.now };
+    ghost view = { λ a. cut a.symbols.now a.entries.now };
 
-    ghost invariant = { λ a. AreWithin (length a.symbols.now) a.spans.now };
+    ghost invariant = { λ a. AreWithin (length a.symbols.now) a.entries.now };
 }
 
 impl<'a> Args<'a> {
@@ -35,7 +55,7 @@ impl<'a> Args<'a> {
     pub(crate) fn len(&self) -> usize
         ensures { result ≡ length self.now }
     {
-        self.spans.len()
+        self.entries.len()
     }
 
     /// The expression at a place.
@@ -43,9 +63,11 @@ impl<'a> Args<'a> {
         requires { place < length self.now }
         ensures { result.now ≡ slice_index_or self.now place result.now }
     {
-        let spans = self.spans;
-        let (start, end) = spans[place];
-        &self.symbols[start..end]
+        let symbols = self.symbols;
+        match self.entries[place] {
+            Entry::Own(start, end) => &symbols[start..end],
+            Entry::Lent(_, lent) => lent,
+        }
     }
 
     /// Those from a place on.
@@ -53,51 +75,51 @@ impl<'a> Args<'a> {
         requires { place ≤ length self.now }
         ensures { result ≡ drop place self.now }
     {
-        let (_, spans) = self.spans.split_at(place);
+        let (_, entries) = self.entries.split_at(place);
         Args {
             symbols: self.symbols,
-            spans,
+            entries,
         }
     }
 }
 
 /// The expressions of the trees so far, the last one on top. Contracts see them as a list.
 #[derive(Drop)]
-pub(crate) struct Stack {
+pub(crate) struct Stack<'a> {
     symbols: Vec<Symbol>,
-    spans: Vec<(usize, usize)>,
+    entries: Vec<Entry<'a>>,
 }
 
-impl Model for Stack {
+impl<'a> Model for Stack<'a> {
     ghost use Rattle.std.specs.Prelude.{List, length};
     ghost use Rattle.mmsyntax.specs.declared.statement.Symbol.{Symbol};
     ghost use Rattle.proofcheck.specs.Spans.{cut, AreSpans};
 
     ghost Value = { List (List Symbol) };
 
-    ghost view = { λ s. cut s.symbols.items s.spans.items };
+    ghost view = { λ s. cut s.symbols.items s.entries.items };
 
-    ghost invariant = { λ s. AreSpans (length s.symbols.items) s.spans.items };
+    ghost invariant = { λ s. AreSpans (length s.symbols.items) s.entries.items };
 }
 
-impl Stack {
+impl<'a> Stack<'a> {
     /// No expressions.
-    pub(crate) fn new(alloc: Global) -> Stack
+    pub(crate) fn new(alloc: Global) -> Stack<'a>
         ensures { result ≡ [] }
     {
         let mut symbols = Vec::new(alloc);
-        let mut spans = Vec::new(alloc);
+        let mut entries = Vec::new(alloc);
         // Room for most proofs. Where it is refused, each growth asks again.
         let _ = symbols.reserve(USUAL_SYMBOLS);
-        let _ = spans.reserve(USUAL_EXPRESSIONS);
-        Stack { symbols, spans }
+        let _ = entries.reserve(USUAL_EXPRESSIONS);
+        Stack { symbols, entries }
     }
 
     /// How many expressions it has.
     pub(crate) fn len(&self) -> usize
         ensures { result ≡ length self.now }
     {
-        self.spans.len()
+        self.entries.len()
     }
 
     /// So many of the last expressions.
@@ -105,11 +127,11 @@ impl Stack {
         requires { count ≤ length self.now }
         ensures { result ≡ drop (length self.now - count) self.now }
     {
-        let base = self.spans.len() - count;
-        let (_, spans) = self.spans.as_slice().split_at(base);
+        let base = self.entries.len() - count;
+        let (_, entries) = self.entries.as_slice().split_at(base);
         Args {
             symbols: self.symbols.as_slice(),
-            spans,
+            entries,
         }
     }
 
@@ -120,7 +142,16 @@ impl Stack {
         let start = self.symbols.len();
         self.symbols.extend_from_slice(expression)?;
         let end = self.symbols.len();
-        self.spans.push((start, end))?;
+        self.entries.push(Entry::Own(start, end))?;
+        Ok(())
+    }
+
+    /// Puts an expression that stands elsewhere on top, without a copy.
+    pub(crate) fn lend(&mut self, expression: &'a [Symbol]) -> Result<(), AllocError>
+        ensures { OnOk result (self.new ≡ self.old ++ expression.now ∷ []) }
+    {
+        let below = self.symbols.len();
+        self.entries.push(Entry::Lent(below, expression))?;
         Ok(())
     }
 
@@ -128,10 +159,10 @@ impl Stack {
     pub(crate) fn truncate(&mut self, count: usize)
         ensures { self.new ≡ take count self.old }
     {
-        if count < self.spans.len() {
-            let (start, _) = self.spans[count];
+        if count < self.entries.len() {
+            let start = start_of(&self.entries[count]);
             self.symbols.truncate(start);
-            self.spans.truncate(count);
+            self.entries.truncate(count);
         }
     }
 }

@@ -1,10 +1,10 @@
 //! The substitution of a citation: each mandatory `$f` with its expression, less its type. No list of them is built.
 
-ghost use Rattle.std.specs.Prelude.{◌≡◌, ◌↔◌, ◌∷◌, ◌++◌, ◌+◌, [], ◌≤◌, ◌<◌, ℕ, IsTrue, OnOk, IfErr, length, map, drop, true};
+ghost use Rattle.std.specs.Prelude.{◌≡◌, ◌↔◌, ◌∷◌, ◌++◌, ◌+◌, [], ◌≤◌, ◌<◌, ℕ, IsTrue, IfOk, OnOk, IfErr, length, map, drop, true};
 ghost use Rattle.std.specs.List.Sorted.{IsNonDecreasing};
 ghost use Rattle.mmstatement.specs.Substitution.{subst};
 ghost use Rattle.mmstatement.specs.Places.{IsFirstPlace};
-ghost use Rattle.proofcheck.specs.Moves.{IsTooLongOrNoMemory};
+ghost use Rattle.proofcheck.specs.Moves.{IsTooLongOrNoMemory, concluded};
 
 use crate::fault::ProofFaultKind;
 use crate::stack::Args;
@@ -115,6 +115,15 @@ impl<'a> Substitution<'a> {
     }
 }
 
+/// An expression after substitution.
+#[derive(Clone, Copy)]
+pub(crate) enum Conclusion<'a> {
+    /// As it stands, where nothing is substituted: it isn't copied.
+    Unchanged(&'a [Symbol]),
+    /// What was put together.
+    Made,
+}
+
 /// What the substitution makes of one symbol.
 fn piece<'s>(substitution: &'s Substitution, symbol: &'s Symbol) -> &'s [Symbol]
     ensures { result.now ≡ subst substitution.now (symbol.now ∷ []) }
@@ -200,7 +209,7 @@ fn add_piece(
 }
 
 /// Makes the expression after substitution, of at most 65,535 symbols.
-pub(crate) fn conclude(
+fn make(
     substitution: &Substitution,
     symbols: &[Symbol],
     made: &mut Vec<Symbol>,
@@ -213,4 +222,24 @@ pub(crate) fn conclude(
         add_piece(substitution, symbol, made)?;
     }
     Ok(())
+}
+
+/// The expression after substitution, of at most 65,535 symbols: put together in `made`, but where nothing is substituted.
+pub(crate) fn conclude<'a>(
+    substitution: &Substitution,
+    symbols: &'a [Symbol],
+    made: &mut Vec<Symbol>,
+) -> Result<Conclusion<'a>, ProofFaultKind>
+    ensures value { IfOk result (λ e. (concluded e made.new.items ≡ subst substitution.now symbols.now)
+        × (length (concluded e made.new.items) ≤ 65535)) }
+    ensures kinds { IfErr result (λ kind. IsTooLongOrNoMemory kind (65535 < length (subst substitution.now symbols.now))) }
+{
+    if substitution.len() > 0 {
+        make(substitution, symbols, made)?;
+        return Ok(Conclusion::Made);
+    }
+    if symbols.len() > MOST_SYMBOLS {
+        return Err(ProofFaultKind::TooLong);
+    }
+    Ok(Conclusion::Unchanged(symbols))
 }

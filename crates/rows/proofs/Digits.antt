@@ -5,8 +5,9 @@ use Rattle.std.specs.Prelude.{IfSome, IsNone}
 use Rattle.std.specs.Fmt.{decimal}
 use Rattle.std.proofs.lemmas.Bool.Decides.{nat_tests}
 use Rattle.scripts.specs.ScriptFaults.{is_numeral}
-use Rattle.scripts.specs.ScriptViews.{written_within}
-use Rattle.scripts.proofs.Numerals.{numeral_decimal, decimal_numeral, decimal_value, not_above}
+use Rattle.mmsyntax.specs.Numbers.{written_within}
+use Rattle.mmsyntax.proofs.Numerals.{decimal_value, not_above}
+use Rattle.scripts.proofs.Numerals.{numeral_decimal, decimal_numeral}
 
 -- two numbers with the same digits are the same
 pub same_number : (w : List ℕ) (m n : ℕ) → m < 2 ^ 64 → n < 2 ^ 64 → w ≡ decimal m → w ≡ decimal n → m ≡ n

@@ -1,8 +1,7 @@
 -- The rows of a script at its words, in both directions.
-use Rattle.std.proofs.Common.{◌≡◌, ◌≢◌, ℕ, ◌+◌, ◌^◌, ◌<◌, ◌≤◌, Bool, true, false, cond, ltb, leb, List, [], ◌∷◌, ◌++◌, length, Option, Some}
+use Rattle.std.proofs.Common.{◌≡◌, ◌≢◌, ℕ, ◌^◌, ◌<◌, ◌≤◌, Bool, true, false, cond, ltb, leb, List, [], ◌∷◌, ◌++◌, length, Option, Some}
 use Rattle.std.proofs.Common.{None, Result, Ok, Err, refl, sym, ap, subst, ◌∙◌, arith}
-use Rattle.std.specs.Prelude.{codes, is_some}
-use Rattle.std.specs.Fmt.{decimal}
+use Rattle.std.specs.Prelude.{codes}
 use Rattle.std.specs.Str.{bytes_eq}
 use Rattle.std.specs.Str.Parse.{digits_value}
 use Rattle.std.proofs.lemmas.Bool.{cond-true, cond-false}
@@ -13,7 +12,7 @@ use Rattle.mmtext.specs.declared.fault.TextFault.{TextFault}
 use Rattle.mmtext.specs.declared.mark.Mark.{Mark}
 use Rattle.mmtext.specs.declared.mark.Mark.TheVariants as mark
 use Rattle.mmtext.specs.Text.{Token, mark_of}
-use Rattle.mmtext.specs.Words.{Word, has_dollar, is_label}
+use Rattle.mmtext.specs.Words.{Word, has_dollar}
 use Rattle.mmtext.specs.Languages.{fault}
 use Rattle.mmtext.proofs.CommentLaws.{same_word}
 use Rattle.mmsyntax.specs.declared.statement.Step.{Step}
@@ -26,16 +25,19 @@ use Rattle.library.specs.declared.command.Command.{Command}
 use Rattle.library.specs.declared.command.Command.TheVariants as command
 use Rattle.library.specs.Fitting.{highest_rank}
 use Rattle.scripts.specs.Scripts.{IsRank, other_step_of}
-use Rattle.scripts.specs.ScriptFaults.{CommandPlace, at_rank, in_unit, at_reproved, at_proof, in_proof, at_old_label, at_new_label}
+use Rattle.scripts.specs.ScriptFaults.{at_rank, at_reproved, in_proof, at_old_label}
 use Rattle.scripts.specs.ScriptFaults.{at_recited}
-use Rattle.scripts.specs.ScriptFaults.{at_moved, at_new_rank, at_deleted, at_shown, Place, outermost, at_command, within, Progress, Led}
+use Rattle.scripts.specs.ScriptFaults.{at_moved, at_deleted, at_shown, Place, outermost, Progress, Led}
 use Rattle.scripts.specs.ScriptFaults.{inside, whole_command, bad, bad_text, label_row, is_numeral, rank_row, proof_start, step_led}
 use Rattle.scripts.specs.ScriptFaults.{step_row, command_word, at, led, command_row}
 use Rattle.mmtext.specs.declared.fault.Stop.{Stop}
 use Rattle.mmtext.specs.declared.fault.Stop.TheVariants as stop
 use Rattle.mmtext.specs.Views.{Fails}
-use Rattle.scripts.specs.ScriptViews.{label_at, rank_at, decided, place_numbered}
-use Rattle.scripts.proofs.Numerals.{numeral_decimal, decimal_numeral, decimal_value, digits_plain, numeral_digits}
+use Rattle.scripts.specs.ScriptViews.{label_at, rank_at, decided, place_numbered, TakesInCommand}
+use Rattle.mmreader.specs.Takings.{TakesItem, pushed}
+use Rattle.mmtext.proofs.Marks.{mark_plain}
+use Rattle.mmsyntax.proofs.Numerals.{decimal_value, digits_lack}
+use Rattle.scripts.proofs.Numerals.{numeral_decimal, decimal_numeral, numeral_digits}
 
 abbrev pub Script : Type 0
 Script = List (List Command)
@@ -55,7 +57,7 @@ pub rank_value : (w : Word) (rank : ℕ) → IsRank w rank → digits_value 10 w
 rank_value w rank r = ap (digits_value 10) r.digits ∙ decimal_value rank (below_64 rank r.small)
 
 pub rank_plain : (w : Word) (rank : ℕ) → IsRank w rank → has_dollar w ≡ false
-rank_plain w rank r = digits_plain w (numeral_digits w (rank_numeral w rank r))
+rank_plain w rank r = digits_lack 36 w (omega arith) (numeral_digits w (rank_numeral w rank r))
 
 unless_ok : (o : Option FaultKind) (r : Result Step FaultKind) (s : Step) → unless_faulty o r ≡ Ok s → o ≡ None
 unless_ok None r s h = refl
@@ -208,3 +210,30 @@ unfolding other_step_of place_numbered
 other_step_is t s label w n h same is =
     ap (λ (x : Tables). unless_faulty (first_fault (step_tests n w)) (step_named w (float_named (meaning x w)) h)) same
     ∙ ap (λ x. unless_faulty (first_fault (step_tests n w)) (step_named w (float_named (meaning t w)) x)) is
+
+-- a word that is taken behind the steps of another proof
+plain_step : (t : Tables) (label : Word) (steps : List Step) (u : Token) → has_dollar u.text ≡ false
+    → step_row t label steps u (mark_of u.text) ≡ step_led label steps (other_step_of t label (length steps) u.text)
+plain_step t label [] u h = ap (step_row t label [] u) (mark_plain u.text h)
+plain_step t label (s ∷ steps) u h = ap (step_row t label (s ∷ steps) u) (mark_plain u.text h)
+
+pub step_taken : (t : Tables) (label given : Word) (old new : List Step) (u : Token) (r : Result Bool Stop) → given ≡ label
+    → TakesItem u old new (other_step_of t given (length old) u.text) r → TakesInCommand t (in_proof label old) u (in_proof label new) r
+step_taken t label given old new u r same h =
+    go r (subst (λ (x : Word). TakesItem u old new (other_step_of t x (length old) u.text) r) same h)
+  where
+    led_by : (x : Result Step FaultKind) → pushed u old x ≡ Ok new → step_led label old x ≡ inside (in_proof label new)
+    led_by (Ok s) e = ap (λ y. inside (in_proof label y)) (let k : old ++ s ∷ [] ≡ new = cc in k)
+    led_by (Err kind) e = absurd cc
+
+    bad_by : (x : Result Step FaultKind) (f : TextFault) → pushed u old x ≡ Err f → decided u (step_led label old x) ≡ Err f
+    bad_by (Ok s) f e = absurd cc
+    bad_by (Err kind) f e = cc
+
+    go : (r : Result Bool Stop) → TakesItem u old new (other_step_of t label (length old) u.text) r
+        → TakesInCommand t (in_proof label old) u (in_proof label new) r
+    go (Ok true) h = (h.0, plain_step t label old u h.0 ∙ led_by (other_step_of t label (length old) u.text) h.1)
+    go (Ok false) h = ap (in_proof label) h
+    go (Err stop.Memory) h = tt
+    go (Err (stop.Fault f)) h =
+        (h.0, ap (decided u) (plain_step t label old u h.0) ∙ bad_by (other_step_of t label (length old) u.text) f h.1)

@@ -1,11 +1,14 @@
 -- Of the code's inside, apart from the rules: how the values of the reader of scripts are seen.
-use Rattle.std.specs.Prelude.{ℕ, nat_lt, Option, Some, None, Result, Ok, Err, if◌then◌else◌}
+use Rattle.std.specs.Prelude.{◌≡◌, ℕ, nat_lt, Bool, true, false, List, Option, Some, None, Result, Ok, Err, if◌then◌else◌}
 use Rattle.std.specs.Str.Parse.{digits_value}
 use Rattle.mmtext.specs.declared.fault.FaultKind.TheVariants.{BadToken, TooLong}
+use Rattle.mmtext.specs.declared.fault.Stop.{Stop}
+use Rattle.mmtext.specs.declared.fault.Stop.TheVariants as stop
 use Rattle.mmtext.specs.declared.fault.TextFault.{TextFault}
 use Rattle.mmtext.specs.Text.{Token}
 use Rattle.mmtext.specs.Words.{Word, has_dollar}
-use Rattle.mmtext.specs.Languages.{State, fault}
+use Rattle.mmtext.specs.Languages.{fault}
+use Rattle.mmsyntax.specs.Dotted.{hypothesis_numbered}
 use Rattle.mmsyntax.specs.Tables.{Tables}
 use Rattle.mmreader.specs.UnitReadings.{position_of}
 use Rattle.scripts.specs.declared.script.place.CommandPlace.{CommandPlace as CodeCommandPlace}
@@ -14,24 +17,16 @@ use Rattle.scripts.specs.declared.script.place.Place.{Place as CodePlace}
 use Rattle.scripts.specs.declared.script.place.Place.TheVariants as outer
 use Rattle.scripts.specs.declared.script.place.Led.{Led as CodeLed}
 use Rattle.scripts.specs.declared.script.place.Led.TheVariants as led
-use Rattle.scripts.specs.declared.script.place.Progress.{Progress as CodeProgress}
-use Rattle.scripts.specs.declared.script.place.State.{State as CodeState}
+use Rattle.scripts.specs.declared.script.place.ScriptReader.{ScriptReader}
+use Rattle.library.specs.declared.command.Command.{Command}
 use Rattle.library.specs.Fitting.{highest_rank}
-use Rattle.scripts.specs.Scripts.{hypothesis_numbered, counted_from_0}
+use Rattle.scripts.specs.Scripts.{counted_from_0}
 use Rattle.scripts.specs.ScriptFaults.{CommandPlace, at_rank, in_unit, at_reproved, at_proof, in_proof, at_old_label, at_new_label}
 use Rattle.scripts.specs.ScriptFaults.{at_recited, at_old_citation, at_new_citation}
 use Rattle.scripts.specs.ScriptFaults.{at_moved, at_new_rank, at_deleted, at_shown, Place, outermost, at_command, within, Progress}
-use Rattle.scripts.specs.ScriptFaults.{Led, inside, whole_command, bad, bad_text, is_numeral}
+use Rattle.scripts.specs.ScriptFaults.{Led, inside, whole_command, bad, bad_text, is_numeral, in_command}
 
 -- ---- words
-
--- the number of digits, up to a highest
-abbrev pub written_within : ℕ → Word → Option ℕ
-written_within highest w = if nat_lt highest (digits_value 10 w) then None else Some (digits_value 10 w)
-
--- a rank
-abbrev pub rank_written : Word → Option ℕ
-rank_written w = written_within highest_rank w
 
 -- the place of the hypothesis that a word names in another proof of L
 unfoldable pub place_numbered : Word → Word → Option ℕ
@@ -88,10 +83,17 @@ decided t (whole_command c) = Ok (whole_command c)
 decided t (bad kind) = fault t kind
 decided t (bad_text f) = Err f
 
--- how far a script was read, as the code keeps it
-abbrev pub seen_progress : Tables → CodeProgress → Progress
-seen_progress t p = record { script = p.script.items; place = seen_place t p.place }
+-- a place of the code behind whole transactions
+abbrev pub seen_at : Tables → List (List Command) → CodePlace → Progress
+seen_at t script p = record { script = script; place = seen_place t p }
 
--- the state of the code
-abbrev pub seen_state : Tables → CodeState → State Progress
-seen_state t s = record { place = seen_progress t s.progress; in_comment = s.in_comment }
+-- how far a script was read, as the code keeps it
+abbrev pub seen_progress : ScriptReader → Progress
+seen_progress r = seen_at r.prelude.now r.script.items r.place
+
+-- whether a function took a word without $ in a command, and the place then
+abbrev pub TakesInCommand : Tables → CommandPlace → Token → CommandPlace → Result Bool Stop → Type 0
+TakesInCommand t p token q (Ok true) = (has_dollar token.text ≡ false) × (in_command t p token ≡ inside q)
+TakesInCommand t p token q (Ok false) = q ≡ p
+TakesInCommand t p token q (Err stop.Memory) = Unit {0}
+TakesInCommand t p token q (Err (stop.Fault f)) = (has_dollar token.text ≡ false) × (decided token (in_command t p token) ≡ Err f)

@@ -1,20 +1,18 @@
 -- The grammar of scripts: which words spell transactions, and which bytes spell a script.
 use Rattle.std.specs.Prelude.{◌≡◌, ◌≢◌, ◌≤◌, ℕ, zero, suc, false, List, [], ◌∷◌, ◌++◌, length, Option, Some, None, Result, Ok}
-use Rattle.std.specs.Prelude.{codes, find}
-use Rattle.std.specs.List.{range_with_len}
+use Rattle.std.specs.Prelude.{codes}
 use Rattle.std.specs.Fmt.{decimal}
-use Rattle.std.specs.Str.{bytes_eq}
 use Rattle.mmtext.specs.declared.fault.FaultKind.{FaultKind}
 use Rattle.mmtext.specs.Text.{tokens, IsClean}
 use Rattle.mmtext.specs.Words.{Word, has_dollar}
 use Rattle.mmtext.specs.Comments.{words_of, without_comments}
 use Rattle.mmsyntax.specs.declared.statement.Step.{Step}
 use Rattle.mmsyntax.specs.declared.statement.Assertion.{Assertion}
+use Rattle.mmsyntax.specs.Dotted.{hypothesis_numbered}
 use Rattle.mmsyntax.specs.Tables.{Tables, meaning}
 use Rattle.mmsyntax.specs.Rows.{Known, prelude_alone, first_fault}
 use Rattle.mmsyntax.specs.Steps.{step_tests, float_named, step_named, unless_faulty}
 use Rattle.mmsyntax.specs.Grammar.{Statement, spelling, Declares}
-use Rattle.mmsyntax.specs.Layout.{hypothesis_label}
 use Rattle.library.specs.declared.command.Command.{Command}
 use Rattle.library.specs.declared.command.Command.TheVariants as command
 use Rattle.library.specs.Fitting.{highest_rank}
@@ -31,10 +29,6 @@ pub record IsRank (w : Word) (rank : ℕ) : Type 0 where
   pub small : rank ≤ highest_rank
 
 -- ---- the steps of another proof
-
--- the number k from 1 to 1,000 for which a word is the label L.k of the k-th hypothesis of L
-abbrev pub hypothesis_numbered : Word → Word → Option ℕ
-hypothesis_numbered label w = find (λ k. bytes_eq w (hypothesis_label label k)) (range_with_len 1 1000)
 
 -- steps count hypotheses from 0
 abbrev pub counted_from_0 : Option ℕ → Option ℕ

@@ -8,7 +8,8 @@ pub use laws::one_script_or_fault;
 pub use library::{
     Command, Line, PlainLibrary, Ranked, Reason, Refused, Reply, Script, Transaction,
 };
+pub use mmsyntax::numeral::{count, number};
 pub use script::{
-    CommandPlace, Led, count, is_numeral, number, read_command_word, read_in_command, read_label,
-    read_rank, read_script,
+    CommandPlace, Led, is_numeral, read_command_word, read_in_command, read_label, read_rank,
+    read_script, take_in_command,
 };

@@ -5,165 +5,124 @@ ghost use Rattle.mmtext.specs.declared.fault.FaultKind.TheVariants.{NoMemory};
 ghost use Rattle.mmtext.specs.declared.fault.TextFault.{TextFault};
 ghost use Rattle.mmtext.specs.Text.{Token as SeenToken};
 ghost use Rattle.mmtext.specs.Views.{seen, Gives};
-ghost use Rattle.mmtext.specs.Languages.{step, said_at, finished, token_reading, reading, Reads, Refuses};
+ghost use Rattle.mmtext.specs.Languages.{Reads, Refuses};
 ghost use Rattle.mmsyntax.specs.Tables.{Tables};
 ghost use Rattle.library.specs.declared.command.Command.{Command};
 ghost use Rattle.library.specs.Fitting.{CommandFits};
 ghost use Rattle.scripts.specs.Scripts.{SpellsScript};
-ghost use Rattle.scripts.specs.ScriptFaults.{led, command_row, in_place, script_language, FaultyScript};
-ghost use Rattle.scripts.specs.ScriptViews.{seen_led, seen_place, seen_progress, seen_state};
+ghost use Rattle.scripts.specs.ScriptFaults.{led, command_row, in_place, FaultyScript};
+ghost use Rattle.scripts.specs.ScriptViews.{seen_led, seen_place, seen_at};
 
 mod command_rows;
 mod numerals;
 mod place;
 
-pub use command_rows::{read_command_word, read_in_command, read_label, read_rank};
+pub use command_rows::{
+    read_command_word, read_in_command, read_label, read_rank, take_in_command,
+};
 use library::{Command, Script, Transaction};
 use mmstatement::{FaultKind, Prelude, Sequence, TextFault};
-use mmtext::{
-    Stop, Token, Turn, comment_turn, fault_at, mark_word, next_token, no_memory, text_fault,
-    unfinished_at,
-};
-pub use numerals::{count, is_numeral, number};
-use place::{Place, Progress, State};
+use mmtext::{Mark, Reader, Stop, Token, fault_at, no_memory, read_text};
+pub use numerals::is_numeral;
+use place::{Place, ScriptReader};
 pub use place::{CommandPlace, Led};
 use std::alloc::Global;
+use std::mem;
 
 /// A place in a command, or one more command behind the others.
-fn go_on<'a>(
-    script: Vec<Transaction>,
-    mut commands: Vec<Command>,
-    next: Led<'a>,
-) -> Result<Progress<'a>, Stop>
-    ensures { (t : Tables) (token : SeenToken) → Gives (seen_progress t) result
-        (led script.items commands.items token (seen_led t next.entry)) }
+fn go_on<'a>(mut commands: Vec<Command>, next: Led<'a>) -> Result<Place<'a>, Stop>
+    ensures { (t : Tables) (script : List (List Command)) (token : SeenToken) → Gives (seen_at t script) result
+        (led script commands.items token (seen_led t next.entry)) }
 {
-    let place = match next {
-        Led::Inside(place) => Place::Within(commands, place),
+    match next {
+        Led::Inside(place) => Ok(Place::Within(commands, place)),
         Led::Whole(command) => {
             commands.push(command)?;
-            Place::AtCommand(commands)
+            Ok(Place::AtCommand(commands))
         }
-    };
-    Ok(Progress { script, place })
+    }
 }
 
 /// Behind `begin` and whole commands: `commit`, or the word of a command.
 fn read_at_command<'a>(
-    mut script: Vec<Transaction>,
+    script: &mut Vec<Transaction>,
     commands: Vec<Command>,
     token: Token<'a>,
-) -> Result<Progress<'a>, Stop>
-    ensures { (t : Tables) → Gives (seen_progress t) result (command_row script.items commands.items (seen token.entry)) }
+) -> Result<Place<'a>, Stop>
+    ensures { (t : Tables) → Gives (seen_at t script.new.items) result
+        (command_row script.old.items commands.items (seen token.entry)) }
 {
     if token.text == b"commit".as_slice() {
         script.push(Sequence::from_vec(commands))?;
-        return Ok(Progress {
-            script,
-            place: Place::Outermost,
-        });
+        return Ok(Place::Outermost);
     }
     let next = read_command_word(token)?;
-    go_on(script, commands, next)
+    go_on(commands, next)
 }
 
-/// Where a token leads that stands in no comment and opens none.
-fn next_progress<'a>(
+/// Where a token leads that stands in no comment and opens none. A transaction that it ends is put behind the others.
+fn next_place<'a>(
     alloc: Global,
     prelude: &Prelude,
-    progress: Progress<'a>,
+    script: &mut Vec<Transaction>,
+    place: Place<'a>,
     token: Token<'a>,
-) -> Result<Progress<'a>, Stop>
-    ensures { Gives (seen_progress prelude.now) result
-        (in_place prelude.now progress.entry.script.items (seen_place prelude.now progress.entry.place) (seen token.entry)) }
+) -> Result<Place<'a>, Stop>
+    ensures { Gives (seen_at prelude.now script.new.items) result
+        (in_place prelude.now script.old.items (seen_place prelude.now place.entry) (seen token.entry)) }
 {
-    let Progress { script, place } = progress;
     match place {
-        Place::Outermost if token.text == b"begin".as_slice() => Ok(Progress {
-            script,
-            place: Place::AtCommand(Vec::new(alloc)),
-        }),
+        Place::Outermost if token.text == b"begin".as_slice() => {
+            Ok(Place::AtCommand(Vec::new(alloc)))
+        }
         Place::Outermost => Err(fault_at(token, FaultKind::BadToken)),
         Place::AtCommand(commands) => read_at_command(script, commands, token),
         Place::Within(commands, place) => {
             let next = read_in_command(alloc, prelude, place, token)?;
-            go_on(script, commands, next)
+            go_on(commands, next)
         }
     }
 }
 
-/// Where a token leads.
-fn advance<'a>(
-    alloc: Global,
-    prelude: &Prelude,
-    state: State<'a>,
-    token: Token<'a>,
-) -> Result<State<'a>, Stop>
-    ensures { Gives (seen_state prelude.now) result
-        (step (script_language prelude.now) (seen_state prelude.now state.entry) (seen token.entry)) }
-{
-    let State {
-        progress,
-        in_comment,
-    } = state;
-    let mark = mark_word(token.text);
-    match comment_turn(in_comment, token, mark)? {
-        Turn::Skipped(in_comment) => Ok(State {
-            progress,
-            in_comment,
-        }),
-        Turn::Read => Ok(State {
-            progress: next_progress(alloc, prelude, progress, token)?,
-            in_comment: false,
-        }),
-    }
-}
+impl<'a> Reader<'a> for ScriptReader<'a> {
+    ghost use Rattle.std.specs.Prelude.{List};
+    ghost use Rattle.library.specs.declared.command.Command.{Command};
+    ghost use Rattle.scripts.specs.ScriptFaults.{Progress, script_language};
+    ghost use Rattle.scripts.specs.ScriptViews.{seen_progress};
 
-/// The script of a text that ends in a state. `length` is that of the text.
-fn finish(state: State<'_>, length: usize) -> Result<Vec<Transaction>, Stop>
-    ensures { (t : Tables) → Gives (λ v. v.items) result
-        (finished length (said_at (script_language t) (seen_state t state.entry))) }
-{
-    let State {
-        progress: Progress { script, place },
-        in_comment,
-    } = state;
-    if in_comment {
-        return Err(unfinished_at(length));
-    }
-    match place {
-        Place::Outermost => Ok(script),
-        Place::AtCommand(_) | Place::Within(_, _) => Err(unfinished_at(length)),
-    }
-}
+    type Said = Script;
 
-/// What the tokens of a text say.
-fn read_tokens(alloc: Global, prelude: &Prelude, text: &[u8]) -> Result<Vec<Transaction>, Stop>
-    ensures { Gives (λ v. v.items) result (token_reading (script_language prelude.now) text.now) }
-{
-    let mut state = State {
-        progress: Progress {
-            script: Vec::new(alloc),
-            place: Place::Outermost,
-        },
-        in_comment: false,
-    };
-    let mut at = 0;
-    while let Some(token) = next_token(text, at) {
-        at = token.place + token.text.len();
-        state = advance(alloc, prelude, state, token)?;
-    }
-    finish(state, text.len())
-}
+    ghost Place = { Progress };
 
-/// What a text says: its length is tested first, then its bytes, then its tokens.
-fn read_text(alloc: Global, prelude: &Prelude, text: &[u8]) -> Result<Vec<Transaction>, Stop>
-    ensures { Gives (λ v. v.items) result (reading (script_language prelude.now) text.now) }
-{
-    if let Some(fault) = text_fault(text) {
-        return Err(Stop::Fault(fault));
+    ghost Meaning = { List (List Command) };
+
+    ghost language = { λ r. script_language r.prelude.now };
+
+    ghost place = { seen_progress };
+
+    ghost IsReady = { λ _. Unit {0} };
+
+    ghost meaning = { λ script. script };
+
+    fn take_word(&mut self, alloc: Global, token: Token<'a>) -> Result<bool, Stop> {
+        match &mut self.place {
+            Place::Within(_, place) => take_in_command(alloc, self.prelude, place, token),
+            _ => Ok(false),
+        }
     }
-    read_tokens(alloc, prelude, text)
+
+    fn take(&mut self, alloc: Global, token: Token<'a>, _mark: Mark) -> Result<(), Stop> {
+        let here = mem::replace(&mut self.place, Place::Outermost);
+        self.place = next_place(alloc, self.prelude, &mut self.script, here, token)?;
+        Ok(())
+    }
+
+    fn finish(self) -> Option<Script> {
+        match self.place {
+            Place::Outermost => Some(Sequence::from_vec(self.script)),
+            Place::AtCommand(_) | Place::Within(_, _) => None,
+        }
+    }
 }
 
 /// The script that a text spells over a prelude: transactions, each of them `begin`, commands and `commit`. Comments may stand between any
@@ -205,8 +164,13 @@ pub fn read_script(alloc: Global, prelude: &Prelude, text: &[u8]) -> Result<Scri
     // Some text declares a prelude, so what is read over it fits.
     // For the proof: some text declares the prelude.
     let _floats = prelude.floats();
-    match read_text(alloc, prelude, text) {
-        Ok(script) => Ok(Sequence::from_vec(script)),
+    let reader = ScriptReader {
+        prelude,
+        script: Vec::new(alloc),
+        place: Place::Outermost,
+    };
+    match read_text(alloc, reader, text) {
+        Ok(script) => Ok(script),
         Err(Stop::Fault(fault)) => Err(fault),
         Err(Stop::Memory) => Err(no_memory()),
     }

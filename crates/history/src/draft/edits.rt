@@ -12,11 +12,12 @@ ghost use Rattle.history.specs.Entries.{StandsIn};
 ghost use Rattle.history.specs.Citers.{HasAllCiters, IsCiter};
 ghost use Rattle.history.specs.Places.{StandsAt};
 ghost use Rattle.history.specs.Drafts.{now_in, citing, changed_at, changed_all, KeepsStart, Takes, TakesAll};
-ghost use Rattle.history.specs.Refusals.{first_reason, proof_tests};
+ghost use Rattle.history.specs.Refusals.{first_reason, proof_tests, label_tests};
 ghost use Rattle.history.specs.declared.editor.ApplyError.TheVariants as error;
 
 use super::Draft;
 use crate::citing::{recited, relabelled, reproved};
+use crate::clashing::has_clash;
 use crate::editor::ApplyError;
 use crate::listing::list_lines;
 use crate::places::{entry_at, find_entry, find_label};
@@ -80,6 +81,23 @@ impl Draft {
         }
     }
 
+    /// The reason for which an assertion may not have a label. The one with the label `own`, if there is one, may clash with it.
+    fn refuse_label(&self, own: &[u8], label: &[u8]) -> Option<Reason>
+        ensures { result ≡ first_reason (label_tests self.now.setting (now_in self.now) own.now label.now) }
+    {
+        let entries = self.entries.as_slice();
+        if !is_lawful_label(&self.prelude, label) {
+            return Some(Reason::BadLabel);
+        }
+        if find_label(entries, &self.places, label).is_some() {
+            return Some(Reason::LabelTaken);
+        }
+        if has_clash(entries, own, label) {
+            return Some(Reason::LabelClashes);
+        }
+        None
+    }
+
     /// The reason for which adding an assertion with this rank is refused.
     fn refuse_add(
         &self,
@@ -93,11 +111,9 @@ impl Draft {
         if rank == 0 {
             return Ok(Some(Reason::BadRank));
         }
-        if !is_lawful_label(&self.prelude, label) {
-            return Ok(Some(Reason::BadLabel));
-        }
-        if find_label(self.entries.as_slice(), &self.places, label).is_some() {
-            return Ok(Some(Reason::LabelTaken));
+        // No assertion has the label where it is tested what it clashes with, so this leaves none out.
+        if let Some(reason) = self.refuse_label(label, label) {
+            return Ok(Some(reason));
         }
         if let Kind::Axiom = assertion.kind {
             return Ok(Some(Reason::AxiomNotAllowed));
@@ -220,15 +236,13 @@ impl Draft {
         ensures taken { Takes index self.old (command.Rename old.now new.now) result self.new }
         ensures kept { KeepsStart self.old self.new }
     {
-        let Some((place, entry)) = find_entry(self.entries.as_slice(), &self.places, old.as_slice())
-        else {
+        let own = old.as_slice();
+        let refusal = self.refuse_label(own, new.as_slice());
+        let Some((place, entry)) = find_entry(self.entries.as_slice(), &self.places, own) else {
             return Err(refused(index, Reason::UnknownLabel));
         };
-        if !is_lawful_label(&self.prelude, new.as_slice()) {
-            return Err(refused(index, Reason::BadLabel));
-        }
-        if find_label(self.entries.as_slice(), &self.places, new.as_slice()).is_some() {
-            return Err(refused(index, Reason::LabelTaken));
+        if let Some(reason) = refusal {
+            return Err(refused(index, reason));
         }
         let renamed = relabelled(alloc, entry, new)?;
         let citers = Vec::from_slice(alloc, self.citers_of(place))?;

@@ -6,23 +6,22 @@ ghost use Rattle.mmtext.specs.declared.fault.FaultKind.TheVariants.{NoMemory};
 ghost use Rattle.mmsyntax.specs.declared.statement.Assertion.{Assertion};
 ghost use Rattle.mmtext.specs.Text.{mark_of};
 ghost use Rattle.mmsyntax.specs.Tables.{Tables};
-ghost use Rattle.mmtext.specs.Languages.{step, said_at, finished, token_reading, reading, Reads, Refuses};
-ghost use Rattle.mmsyntax.specs.Faults.{unit_at, unit_row, unit_language, FaultyUnit};
+ghost use Rattle.mmtext.specs.Languages.{Reads, Refuses};
+ghost use Rattle.mmsyntax.specs.Faults.{unit_at, unit_row, FaultyUnit};
 ghost use Rattle.mmsyntax.specs.Grammar.{SpellsUnit};
-ghost use Rattle.mmtext.specs.Views.{seen, Gives};
+ghost use Rattle.mmtext.specs.Views.{seen};
 ghost use Rattle.mmreader.specs.Standing.{Stands};
-ghost use Rattle.mmreader.specs.Views.{seen_place, seen_position, seen_state, known_of, IsUnitPlace, Leads};
+ghost use Rattle.mmreader.specs.Readers.{IsReadyUnit};
+ghost use Rattle.mmreader.specs.Views.{seen_place, seen_position, known_of, IsUnitPlace, Leads};
 
 use super::unit_rows::next_unit_place;
 use crate::known::Units;
-use crate::place::{Place, Scope, State, UnitPlace, is_outermost};
+use crate::place::{AssertionReader, Place, Scope, UnitPlace, is_outermost};
 use mmsyntax::{Assertion, Prelude, SymbolTable};
-use mmtext::{
-    FaultKind, Mark, Stop, TextFault, Token, Turn, comment_turn, fault_at, mark_word, next_token,
-    no_memory, text_fault, unfinished_at,
-};
+use mmtext::{FaultKind, Mark, Reader, Stop, TextFault, Token, fault_at, no_memory, read_text};
 use std::alloc::Global;
 use std::hash::RandomState;
+use std::mem;
 
 /// Whether a place is behind the unit.
 pub(super) fn is_behind_unit(units: &Units, place: &Place<'_>) -> bool
@@ -32,7 +31,7 @@ pub(super) fn is_behind_unit(units: &Units, place: &Place<'_>) -> bool
 }
 
 /// Where a token leads that stands outside of comments: nowhere behind the unit.
-fn next_place<'a>(
+fn place_by_row<'a>(
     alloc: Global,
     symbols: &SymbolTable,
     units: &mut Units,
@@ -54,78 +53,58 @@ fn next_place<'a>(
     }
 }
 
-/// Where a token of a unit leads.
-fn advance<'a>(
+/// The same; and what is true of a reader at a place is true of it behind the token too.
+fn next_place<'a>(
     alloc: Global,
     symbols: &SymbolTable,
     units: &mut Units,
-    state: State<'a>,
+    place: Place<'a>,
     token: Token<'a>,
-) -> Result<State<'a>, Stop>
-    requires stands { Stands (known_of symbols.now units.old) (seen_place state.place) }
-    requires unit { IsUnitPlace state.place }
-    ensures { Gives (λ s. seen_state symbols.now units.new s) result
-        (step (unit_language symbols.now) (seen_state symbols.now units.old state.entry) (seen token.entry)) }
+    mark: Mark,
+) -> Result<Place<'a>, Stop>
+    requires ready { IsReadyUnit place units.old }
+    requires mark { mark ≡ mark_of token.text.now }
+    ensures leads { Leads symbols.now units.new result (unit_row (seen_position symbols.now units.old place.entry) (seen token.entry)) }
+    ensures ready { IfOk result (λ p. IsReadyUnit p units.new) }
 {
-    let State { place, in_comment } = state;
-    let mark = mark_word(token.text);
-    match comment_turn(in_comment, token, mark)? {
-        Turn::Skipped(in_comment) => Ok(State { place, in_comment }),
-        Turn::Read => Ok(State {
-            place: next_place(alloc, symbols, units, place, token, mark)?,
-            in_comment: false,
-        }),
-    }
+    place_by_row(alloc, symbols, units, place, token, mark)
 }
 
-/// The unit of a text that ends in a state. `length` is that of the text.
-fn finish(units: Units, state: &State<'_>, length: usize) -> Result<Assertion, Stop>
-    ensures { (t : Tables) → Gives (λ a. a) result (finished length (said_at (unit_language t) (seen_state t units state.now))) }
-{
-    if state.in_comment || !is_outermost(&state.place) {
-        return Err(unfinished_at(length));
-    }
-    match units.into_first() {
-        Some(assertion) => Ok(assertion),
-        None => Err(unfinished_at(length)),
-    }
-}
+impl<'a> Reader<'a> for AssertionReader<'a> {
+    ghost use Rattle.mmsyntax.specs.declared.statement.Assertion.{Assertion};
+    ghost use Rattle.mmsyntax.specs.Faults.{Position, unit_language};
+    ghost use Rattle.mmreader.specs.Readers.{assertion_place, IsReadyUnit};
 
-/// The unit that the tokens of a text are.
-fn read_tokens(
-    alloc: Global,
-    keys: RandomState,
-    symbols: &SymbolTable,
-    text: &[u8],
-) -> Result<Assertion, Stop>
-    ensures { Gives (λ a. a) result (token_reading (unit_language symbols.now) text.now) }
-{
-    let mut units = Units::new(alloc, keys, true);
-    let mut state = State {
-        place: Place::Unit(UnitPlace::AtStart(Scope::Outside)),
-        in_comment: false,
-    };
-    let mut at = 0;
-    while let Some(token) = next_token(text, at) {
-        at = token.place + token.text.len();
-        state = advance(alloc, symbols, &mut units, state, token)?;
-    }
-    finish(units, &state, text.len())
-}
+    type Said = Assertion;
 
-/// The unit that a text is: its length is tested first, then its bytes, then its tokens.
-fn read_text(
-    alloc: Global,
-    keys: RandomState,
-    symbols: &SymbolTable,
-    text: &[u8],
-) -> Result<Assertion, Stop>
-    ensures { Gives (λ a. a) result (reading (unit_language symbols.now) text.now) }
-{
-    if let Some(fault) = text_fault(text) {
-        return Err(Stop::Fault(fault));
+    ghost Place = { Position };
+
+    ghost Meaning = { Assertion };
+
+    ghost language = { λ r. unit_language r.symbols.now };
+
+    ghost place = { assertion_place };
+
+    ghost IsReady = { λ r. IsReadyUnit r.place r.units };
+
+    ghost meaning = { λ assertion. assertion };
+
+    fn take_word(&mut self, _alloc: Global, _token: Token<'a>) -> Result<bool, Stop> {
+        Ok(false)
     }
-    read_tokens(alloc, keys, symbols, text)
+
+    fn take(&mut self, alloc: Global, token: Token<'a>, mark: Mark) -> Result<(), Stop> {
+        let here = mem::replace(&mut self.place, Place::Unit(UnitPlace::AtClose));
+        self.place = next_place(alloc, self.symbols, &mut self.units, here, token, mark)?;
+        Ok(())
+    }
+
+    fn finish(self) -> Option<Assertion> {
+        if !is_outermost(&self.place) {
+            return None;
+        }
+        self.units.into_first()
+    }
 }
 
 /// The assertion that a text spells over a prelude: one `$a` or `$p`, alone or in its block.
@@ -155,7 +134,12 @@ pub fn read_assertion(
     // A text with a fault is refused with it, unless memory runs out.
     ensures refused { (f : TextFault) → FaultyUnit prelude.now text.now f → Refuses result f }
 {
-    match read_text(alloc, keys, prelude.symbols(), text) {
+    let reader = AssertionReader {
+        symbols: prelude.symbols(),
+        units: Units::new(alloc, keys, true),
+        place: Place::Unit(UnitPlace::AtStart(Scope::Outside)),
+    };
+    match read_text(alloc, reader, text) {
         Ok(assertion) => Ok(assertion),
         Err(Stop::Fault(fault)) => Err(fault),
         Err(Stop::Memory) => Err(no_memory()),

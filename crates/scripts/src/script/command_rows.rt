@@ -1,20 +1,22 @@
 //! Reading a command: one function for each kind of word in it.
 
-ghost use Rattle.std.specs.Prelude.{◌≡◌, IfOk};
+ghost use Rattle.std.specs.Prelude.{◌≡◌, length, IfOk};
 ghost use Rattle.mmtext.specs.Text.{mark_of};
 ghost use Rattle.mmtext.specs.Views.{seen, Gives};
 ghost use Rattle.mmsyntax.specs.Tables.{Tables};
 ghost use Rattle.mmsyntax.specs.Faults.{row};
 ghost use Rattle.mmreader.specs.UnitReadings.{position_of};
+ghost use Rattle.mmreader.specs.Takings.{TakesItem};
 ghost use Rattle.scripts.specs.Scripts.{other_step_of};
 ghost use Rattle.scripts.specs.ScriptFaults.{command_word, in_command, proof_start, step_row, unit_row};
-ghost use Rattle.scripts.specs.ScriptViews.{label_at, rank_at, decided, seen_command_place, seen_led};
+ghost use Rattle.scripts.specs.ScriptViews.{label_at, rank_at, decided, seen_command_place, seen_led, TakesInCommand};
 
-use super::numerals::{hypothesis_place, is_numeral, number};
+use super::numerals::{hypothesis_place, is_numeral};
 use super::place::{CommandPlace, Led};
 use library::Command;
 use mmreader::{UnitProgress, UnitReader, named_step};
 use mmstatement::{FaultKind, Label, Prelude, Sequence, Step};
+use mmsyntax::numeral::number;
 use mmtext::{Mark, Stop, Token, contains_dollar, fault_at, mark_word};
 use std::alloc::{AllocError, Global};
 
@@ -112,6 +114,53 @@ fn read_step<'a>(
             Ok(Led::Inside(CommandPlace::InProof(label, steps)))
         }
         Err(kind) => Err(fault_at(token, kind)),
+    }
+}
+
+/// Puts the step that a word is behind others of another proof of an assertion with a label. A word with a `$` is left: whether it had
+/// none.
+fn take_step(
+    alloc: Global,
+    prelude: &Prelude,
+    label: &[u8],
+    steps: &mut Vec<Step>,
+    token: Token<'_>,
+) -> Result<bool, Stop>
+    ensures { TakesItem (seen token.entry) steps.old.items steps.new.items
+        (other_step_of prelude.now label.now (length steps.old.items) token.entry.text.now) result }
+{
+    if contains_dollar(token.text) {
+        return Ok(false);
+    }
+    match other_step(alloc, prelude, label, steps.len(), token.text)? {
+        Ok(step) => {
+            steps.push(step)?;
+            Ok(true)
+        }
+        Err(kind) => Err(fault_at(token, kind)),
+    }
+}
+
+/// Takes a word without `$` that stands in a command, outside of comments, if that is a proof, whose steps grow where they lie: whether it
+/// did.
+///
+/// # Errors
+///
+/// As [`read_in_command`].
+pub fn take_in_command<'a>(
+    alloc: Global,
+    prelude: &Prelude,
+    place: &mut CommandPlace<'a>,
+    token: Token<'a>,
+) -> Result<bool, Stop>
+    ensures { TakesInCommand prelude.now (seen_command_place prelude.now place.old) (seen token.entry)
+        (seen_command_place prelude.now place.new) result }
+{
+    match place {
+        CommandPlace::InProof(label, steps) => {
+            take_step(alloc, prelude, label.as_slice(), steps, token)
+        }
+        _ => Ok(false),
     }
 }
 

@@ -2,7 +2,7 @@
 
 use library::{Command, Transaction};
 use mmreader::UnitReader;
-use mmstatement::{Label, Step};
+use mmstatement::{Label, Prelude, Step};
 
 /// What was read of the command in which a token stands.
 #[derive(Drop)]
@@ -57,18 +57,12 @@ pub enum Led<'a> {
     Whole(Command),
 }
 
-/// How far a script was read.
+/// How far a script was read, outside of comments.
 #[derive(Drop)]
-pub(super) struct Progress<'a> {
+pub(super) struct ScriptReader<'a> {
+    pub prelude: &'a Prelude,
     /// The transactions that were committed, in order.
     pub script: Vec<Transaction>,
     /// The place behind them.
     pub place: Place<'a>,
-}
-
-/// How far a script was read, and whether a comment is open there.
-#[derive(Drop)]
-pub(super) struct State<'a> {
-    pub progress: Progress<'a>,
-    pub in_comment: bool,
 }

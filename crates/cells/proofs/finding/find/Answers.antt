@@ -3,7 +3,7 @@ use Rattle.cells.specs.Slots.{bucket_cell, next_cell}
 use Rattle.cells.specs.Sight.{Reads}
 use Rattle.cells.proofs.Sights.{looks_trans}
 use Rattle.cells.proofs.Settings.{same_slots}
-use Rattle.cells.proofs.Walks.{walk_begins, walk_on, walk_fails, walk_finds, ahead_at_end, ahead_at_last}
+use Rattle.cells.proofs.Walks.{walk_begins, walk_on, walk_fails, walk_finds, ahead_at_end, ahead_at_last, IsLabelled}
 use Rattle.cells.proofs.finding.find.Goals as goal
 
 pub loop-init : goal.loop-init
@@ -12,9 +12,13 @@ loop-init g c =
     let new = g.C.Cells.sight c.read.new.self in
     let slots = c.slot_count-slots.result in
     let b = c.bucket.result in
+    let label = c.args.label.now in
     let read : Reads (bucket_cell slots b) c.in_ok-word.word old new = search rules in
-    let is : slots ≡ new.setting.slots = c.slot_count-slots.ensures.value ∙ sym (same_slots old new read.looks) in
-    (read.looks, walk_begins new slots c.args.label.now is old b c.in_ok-word.word c.bucket.ensures.within c.bucket.ensures.value read)
+    let is : slots ≡ new.setting.slots = c.slot_count-slots.ensures.value ∙ sym (same_slots old new read.looks) in (
+      read.looks,
+      walk_begins new slots is (IsLabelled label) old b c.in_ok-word.word c.bucket.ensures.within
+          (λ st i named. (label, named, sym c.bucket.ensures.value)) read,
+    )
 
 pub returns-in_default-clause-ok : goal.returns-in_default-clause-ok
 returns-in_default-clause-ok g c =
@@ -23,8 +27,8 @@ returns-in_default-clause-ok g c =
     let slots = c.slot_count-slots.result in
     let inv = c.loop.invariant in
     let none : (i : ℕ) → i < slots → c.loop.word ≡ i + 1 → ⊥ = c.in_default.ensures in
-    walk_fails new slots c.args.label.now (c.slot_count-slots.ensures.value ∙ sym (same_slots old new inv.0))
-    (λ st lib v. ahead_at_end slots c.args.label.now c.loop.word c.loop.counter _ (inv.1 st lib v) none)
+    walk_fails new slots (c.slot_count-slots.ensures.value ∙ sym (same_slots old new inv.0)) c.args.label.now
+    (λ st lib v. ahead_at_end slots (IsLabelled c.args.label.now) c.loop.word c.loop.counter _ (inv.1 st lib v) none)
 
 pub returns-in_err-has_label-clause-looks : goal.returns-in_err-has_label-clause-looks
 returns-in_err-has_label-clause-looks g c = looks_trans _ _ _ c.loop.invariant.0 c.has_label.ensures.looks
@@ -39,7 +43,7 @@ returns-then-branch-clause-ok g c =
     let slots = c.slot_count-slots.result in
     let looks = looks_trans _ _ _ c.loop.invariant.0 c.has_label.ensures.looks in
     let link : (c.in-Some.slot < slots) × (c.loop.word ≡ c.in-Some.slot + 1) = c.in-Some.ensures in
-    walk_finds new slots c.args.label.now (c.slot_count-slots.ensures.value ∙ sym (same_slots old new looks)) c.in-Some.slot link.0
+    walk_finds new slots (c.slot_count-slots.ensures.value ∙ sym (same_slots old new looks)) c.args.label.now c.in-Some.slot link.0
     (λ st m. (c.in_ok-has_label.ensures.ok st m).0 c.if-branch.true)
 
 pub returns-in_err-word-2-clause-looks : goal.returns-in_err-word-2-clause-looks
@@ -59,7 +63,7 @@ loop-preserved g c =
     let link : (slot < slots) × (c.loop.word ≡ slot + 1) = c.in-Some.ensures in
     let is : slots ≡ between.setting.slots = c.slot_count-slots.ensures.value ∙ sym (same_slots old between looks) in (
       looks_trans _ _ _ looks read.looks,
-      walk_on _ between new slots label c.loop.word c.loop.counter slot c.in_ok-word-2.word is c.has_label.ensures.looks read c.loop.invariant.1 link.1
+      walk_on _ between new slots (IsLabelled label) c.loop.word c.loop.counter slot c.in_ok-word-2.word is c.has_label.ensures.looks read c.loop.invariant.1 link.1
           (λ st m named. let yes = (c.in_ok-has_label.ensures.ok st m).1 named in let no = c.if-branch.false in absurd cc),
     )
 
@@ -70,5 +74,5 @@ returns-clause-ok g c =
     let slots = c.slot_count-slots.result in
     let inv = c.loop.invariant in
     let last : c.loop.counter ≡ slots = search rules in
-    walk_fails new slots c.args.label.now (c.slot_count-slots.ensures.value ∙ sym (same_slots old new inv.0))
-    (λ st lib v. ahead_at_last slots c.args.label.now c.loop.word c.loop.counter _ (inv.1 st lib v) last)
+    walk_fails new slots (c.slot_count-slots.ensures.value ∙ sym (same_slots old new inv.0)) c.args.label.now
+    (λ st lib v. ahead_at_last slots (IsLabelled c.args.label.now) c.loop.word c.loop.counter _ (inv.1 st lib v) last)

@@ -7,23 +7,22 @@ use Rattle.historytext.proofs.HistoryLaws.{reading_found, same_history, no_fault
 use Rattle.historytext.proofs.reading.read_history.Goals as goal
 
 pub returns-in-Ok-clause-found : goal.returns-in-Ok-clause-found
-returns-in-Ok-clause-found c = rw c.from_vec.ensures
-    (reading_found c.args.prelude.now c.args.text.now c.in-Ok.entries.items c.in-Ok.ensures)
+returns-in-Ok-clause-found c = reading_found c.args.prelude.now c.args.text.now c.in-Ok.history c.in-Ok.ensures
 
 pub returns-in-Ok-clause-fits : goal.returns-in-Ok-clause-fits
 returns-in-Ok-clause-fits c =
     let t = c.args.prelude.now in
     let bytes = c.args.text.now in
-    let history = c.in-Ok.entries.items in
-    rw c.from_vec.ensures (history_fits t bytes history c.floats-floats.ensures.sound (reading_found t bytes history c.in-Ok.ensures))
+    let history = c.in-Ok.history in
+    history_fits t bytes history c.floats-floats.ensures.sound (reading_found t bytes history c.in-Ok.ensures)
 
 pub returns-in-Ok-clause-only : goal.returns-in-Ok-clause-only
 returns-in-Ok-clause-only c = λ history short s.
-    c.from_vec.ensures ∙ same_history c.args.prelude.now c.args.text.now history c.in-Ok.entries.items short s c.in-Ok.ensures
+    same_history c.args.prelude.now c.args.text.now history c.in-Ok.history short s c.in-Ok.ensures
 
 pub returns-in-Ok-clause-refused : goal.returns-in-Ok-clause-refused
 returns-in-Ok-clause-refused c = λ f faulty.
-    not_both (history_language c.args.prelude.now) c.args.text.now f c.in-Ok.entries.items faulty c.in-Ok.ensures
+    not_both (history_language c.args.prelude.now) c.args.text.now f c.in-Ok.history faulty c.in-Ok.ensures
 
 pub returns-in-Err-Fault-clause-only : goal.returns-in-Err-Fault-clause-only
 returns-in-Err-Fault-clause-only c = λ history short s.

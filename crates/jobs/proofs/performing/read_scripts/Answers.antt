@@ -19,12 +19,21 @@ loop-i-init c = record {
 }
 
 pub returns-in-Err-clause-err : goal.returns-in-Err-clause-err
-returns-in-Err-clause-err c = script_fault c.args.prelude.now c.args.texts.now c.loop-i.scripts.items c.index-texts-i.result c.loop-i.i c.in-Err.fault c.text_fault.result (omega arith) c.index-texts-i.is c.loop-i.invariant.spelled (λ k. subst (λ (b : Bytes). FaultyScript c.args.prelude.now b c.in-Err.fault) c.as_slice.ensures.value (c.in-Err.ensures.fault k)) c.text_fault.ensures
+returns-in-Err-clause-err c =
+    let p = c.args.prelude.now in
+    script_fault p c.args.texts.now c.loop-i.scripts.items c.index-texts-i.result c.loop-i.i c.in-Err.fault c.text_fault.result (omega arith)
+    c.index-texts-i.is c.loop-i.invariant.spelled
+    (λ k. subst (λ (b : Bytes). FaultyScript p b c.in-Err.fault) c.as_slice.ensures.value (c.in-Err.ensures.fault k)) c.text_fault.ensures
 
 pub loop-i-preserved : goal.loop-i-preserved
 loop-i-preserved c = record {
   spelled =
-      subst (λ (xs : List Orders). AreScripts c.args.prelude.now (map (λ t. t.items) (take (c.loop-i.i + 1) c.args.texts.now)) xs) (sym c.in_ok-push-in-Ok.ensures.items) (spelled_next c.args.prelude.now c.args.texts.now c.loop-i.scripts.items c.index-texts-i.result c.in-Ok.script c.loop-i.i (omega arith) c.index-texts-i.is c.loop-i.invariant.spelled (read_as c.args.prelude.now _ _ c.in-Ok.script c.as_slice.ensures.value c.in-Ok.ensures.found c.in-Ok.ensures.refused));
+      let p = c.args.prelude.now in
+      let texts = c.args.texts.now in
+      subst (λ (xs : List Orders). AreScripts p (map (λ t. t.items) (take (c.loop-i.i + 1) texts)) xs) (sym c.in_ok-push-in-Ok.ensures.items)
+      (spelled_next p texts c.loop-i.scripts.items c.index-texts-i.result c.in-Ok.script c.loop-i.i (omega arith) c.index-texts-i.is
+      c.loop-i.invariant.spelled
+      (read_as p _ _ c.in-Ok.script c.as_slice.ensures.value c.in-Ok.ensures.found c.in-Ok.ensures.refused));
   fit =
       let p = c.args.prelude.now in
       All-same (Fit p) _ (c.loop-i.scripts.items ++ c.in-Ok.script ∷ []) c.in_ok-push-in-Ok.ensures.items
@@ -38,9 +47,14 @@ pub returns-in-Err-clause-refused : goal.returns-in-Err-clause-refused
 returns-in-Err-clause-refused c = λ k f first.
     let text = c.index-texts-i.result in
     let as_text = c.as_slice.ensures.value in
-    script_refused c.args.prelude.now c.args.texts.now c.loop-i.scripts.items text c.loop-i.i k c.in-Err.fault f c.text_fault.result (omega arith) c.index-texts-i.is c.loop-i.invariant.spelled
+    script_refused c.args.prelude.now c.args.texts.now c.loop-i.scripts.items text c.loop-i.i k c.in-Err.fault f c.text_fault.result
+    (omega arith) c.index-texts-i.is c.loop-i.invariant.spelled
     (λ h faulty. c.in-Err.ensures.refused h (subst (λ (b : Bytes). FaultyScript c.args.prelude.now b h) (sym as_text) faulty))
     (λ ne. subst (λ (b : Bytes). FaultyScript c.args.prelude.now b c.in-Err.fault) as_text (c.in-Err.ensures.fault ne)) c.text_fault.ensures first
 
 pub returns-clause-refused : goal.returns-clause-refused
-returns-clause-refused c = λ k f first. absurd (no_first c.args.prelude.now _ c.loop-i.scripts.items k f (spelled_all c.args.prelude.now c.args.texts.now c.loop-i.scripts.items c.loop-i.i (omega arith) c.loop-i.invariant.spelled) first)
+returns-clause-refused c = λ k f first.
+    let p = c.args.prelude.now in
+    let scripts = c.loop-i.scripts.items in
+    let spelled = spelled_all p c.args.texts.now scripts c.loop-i.i (omega arith) c.loop-i.invariant.spelled in
+    absurd (no_first p _ scripts k f spelled first)

@@ -56,5 +56,7 @@ returns c = λ workers room w.
       prints = c.in_ok-report_run.ensures ∙ ap (λ p. report_text p rows ++ library_lines e.library) c.prelude.ensures;
       accepted = exported_accepted e.library c.entries-entries.ensures.verifies c.entries-entries.ensures.ordered;
       kept = kept;
-      spelled = λ yes. subst (λ bytes. SpellsHistory db.prelude bytes e.history) (sym (kept ∙ ap (λ b. if b then history_text db.prelude e.history else []) yes)) spelled;
+      spelled = λ yes.
+          subst (λ bytes. SpellsHistory db.prelude bytes e.history)
+          (sym (kept ∙ ap (λ b. if b then history_text db.prelude e.history else []) yes)) spelled;
     }

@@ -3,13 +3,13 @@ use Rattle.std.proofs.Common.{sym, subst, ap, ◌∙◌}
 use Rattle.std.proofs.lemmas.Result.{err_from_is_err_and}
 use Rattle.mmtext.specs.Views.{seen, Fails, Gives}
 use Rattle.scripts.specs.ScriptFaults.{command_word, led}
-use Rattle.scripts.specs.ScriptViews.{seen_led, seen_progress}
+use Rattle.scripts.specs.ScriptViews.{seen_led, seen_at}
 use Rattle.scripts.proofs.ScriptRows.{word_row, led_fails, decided_is}
 use Rattle.scripts.proofs.script.read_at_command.Goals as goal
 
 pub returns-in_err-next : goal.returns-in_err-next
 returns-in_err-next c = λ t.
-    let s = c.args.script.items in
+    let s = c.args.script.now.items in
     let cs = c.args.commands.items in
     let u = seen c.args.token in
     let p = err_from_is_err_and c.from_residual-in_err-next.result c.from_residual-in_err-next.ensures.1 in
@@ -19,9 +19,9 @@ returns-in_err-next c = λ t.
 
 pub returns : goal.returns
 returns c = λ t.
-    let s = c.args.script.items in
+    let s = c.args.script.now.items in
     let cs = c.args.commands.items in
     let u = seen c.args.token in
     let row = word_row s cs u c.as_slice.result.now c.eq.result c.as_slice.ensures c.eq.ensures c.if-eq.false in
     let next = decided_is u (command_word u.text) (seen_led t c.in_ok-next.next) (c.in_ok-next.ensures t) in
-    subst (Gives (seen_progress t) c.go_on.result) (sym (row ∙ ap (led s cs u) next)) (c.go_on.ensures t u)
+    subst (Gives (seen_at t s) c.go_on.result) (sym (row ∙ ap (led s cs u) next)) (c.go_on.ensures t s u)

@@ -1,5 +1,5 @@
 -- What is left to show of `read_script`.
-use Rattle.std.proofs.Common.{◌∙◌, inl, inr}
+use Rattle.std.proofs.Common.{inl, inr}
 use Rattle.scripts.specs.ScriptFaults.{script_language}
 use Rattle.mmtext.proofs.Readings.{reading_fault, not_both, same_fault}
 use Rattle.mmtext.proofs.Turns.{fault_given}
@@ -7,22 +7,22 @@ use Rattle.scripts.proofs.ScriptLaws.{reading_found, answered, no_fault, script_
 use Rattle.scripts.proofs.script.read_script.Goals as goal
 
 pub returns-in-Ok-clause-found : goal.returns-in-Ok-clause-found
-returns-in-Ok-clause-found c = rw c.from_vec.ensures (reading_found c.args.prelude.now c.args.text.now c.in-Ok.script.items c.in-Ok.ensures)
+returns-in-Ok-clause-found c = reading_found c.args.prelude.now c.args.text.now c.in-Ok.script c.in-Ok.ensures
 
 pub returns-in-Ok-clause-fits : goal.returns-in-Ok-clause-fits
 returns-in-Ok-clause-fits c =
     let t = c.args.prelude.now in
     let bytes = c.args.text.now in
-    let script = c.in-Ok.script.items in
-    rw c.from_vec.ensures (script_fits t bytes script c.floats-floats.ensures.sound (reading_found t bytes script c.in-Ok.ensures))
+    let script = c.in-Ok.script in
+    script_fits t bytes script c.floats-floats.ensures.sound (reading_found t bytes script c.in-Ok.ensures)
 
 pub returns-in-Ok-clause-only : goal.returns-in-Ok-clause-only
 returns-in-Ok-clause-only c = λ script short s.
-    c.from_vec.ensures ∙ answered c.args.prelude.now c.args.text.now script c.in-Ok.script.items short s c.in-Ok.ensures
+    answered c.args.prelude.now c.args.text.now script c.in-Ok.script short s c.in-Ok.ensures
 
 pub returns-in-Ok-clause-refused : goal.returns-in-Ok-clause-refused
 returns-in-Ok-clause-refused c = λ f faulty.
-    not_both (script_language c.args.prelude.now) c.args.text.now f c.in-Ok.script.items faulty c.in-Ok.ensures
+    not_both (script_language c.args.prelude.now) c.args.text.now f c.in-Ok.script faulty c.in-Ok.ensures
 
 pub returns-in-Err-Fault-clause-only : goal.returns-in-Err-Fault-clause-only
 returns-in-Err-Fault-clause-only c = λ script short s.

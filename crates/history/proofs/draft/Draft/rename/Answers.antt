@@ -1,73 +1,45 @@
-use Rattle.std.proofs.Common.{◌≡◌, Some, false, true, Ok, set, refl, sym, ap, subst, ◌∙◌}
+use Rattle.std.proofs.Common.{◌≡◌, ℕ, List, Some, false, Ok, set, refl, sym, ap, subst, ◌∙◌}
 use Rattle.std.specs.List.{slice_get, Contains}
 use Rattle.std.proofs.lemmas.Option.{slice_get_within}
-use mathlib.Core.Bool.{not}
-use Rattle.mmsyntax.specs.Assertions.{is_lawful_label}
 use Rattle.mmstatement.specs.Frames.{frame}
 use Rattle.library.specs.declared.library.Ranked.{Ranked}
-use Rattle.library.specs.declared.reason.Reason.TheVariants as reason
-use Rattle.library.specs.Edits.{has, done, unknown_label, bad_label, label_taken, rename_tests}
+use Rattle.library.specs.Edits.{has, done, rename_tests}
 use Rattle.history.specs.Entries.{living, StandsIn}
 use Rattle.history.specs.Citers.{Covers, HasAllCiters, IsCiter}
+use Rattle.library.specs.Library.{Setting}
+use Rattle.history.specs.Refusals.{first_reason, label_tests}
 use Rattle.history.specs.Drafts.{Drafted, now_in, with_label, citing, changed_all}
 use Rattle.history.proofs.Covering.{covers-fresh, all-relabelled}
 use Rattle.history.proofs.Changing.{get-set_same}
 use Rattle.history.proofs.Known.{verified-uncited}
-use Rattle.history.proofs.Commands.{tested_some, tested_none, so, not_so, first-some, first-none, HasLabel, has_label, has_own, known}
-use Rattle.history.proofs.Commands.{library-renamed}
+use Rattle.history.proofs.Commands.{tested_some, tested_none, HasLabel, has_label, has_own, label_free, rename_front, library-renamed}
 use Rattle.history.proofs.draft.Draft.rename.Goals as goal
 
-pub returns-then-not-is_lawful_label-clause-taken : goal.returns-then-not-is_lawful_label-clause-taken
-returns-then-not-is_lawful_label-clause-taken c =
-    let d = c.args.self.now in
-    let lib = now_in d in
-    let i = c.self.inside in
-    let held : i.entries.items ≡ d.entries = ap (λ (x : Drafted). x.entries) c.self.view_is in
-    let slice : c.as_slice.result.now ≡ i.entries.items = c.as_slice.ensures.value in
-    let w = c.args.old.now in
-    let at = c.in-Some.ensures.some in
-    let e = c.in-Some.entry.now in
-    let p = c.in-Some.place in
-    let own : HasLabel i.places d.entries w p e =
-    has_label i.places i.entries.items d.entries c.as_slice.result.now c.as_slice-2.result.now w p e c.self.invariant.0.indexed held slice
-    at.0 at.1 c.as_slice-2.ensures in
-    let new = c.args.new.now in
-    let lawful : is_lawful_label d.setting.prelude new ≡ false =
-    ap (λ (x : Drafted). is_lawful_label x.setting.prelude new) (sym c.self.view_is)
-    ∙ ap (is_lawful_label i.prelude) (sym c.as_slice-3.ensures) ∙ sym c.is_lawful_label.ensures ∙ c.if-not-is_lawful_label.true in
-    let there = not_so (not (has lib w)) reason.UnknownLabel (ap not (has_own i.places d.entries w p e own)) in
-    let bad = so (not (is_lawful_label d.setting.prelude new)) reason.BadLabel (ap not lawful) in
-    let first = first-none (unknown_label lib w) _ there ∙ first-some (bad_label d.setting new) _ reason.BadLabel bad in
-    rw c.refused-then-not-is_lawful_label.ensures (refl, tested_some (rename_tests d.setting lib w new) _ reason.BadLabel first)
+-- the tests of the new label, of labels that are equal
+as_labels : (s : Setting) (lib : List Ranked) (v v' w w' : List ℕ) → v ≡ w → v' ≡ w'
+    → first_reason (label_tests s lib w w') ≡ first_reason (label_tests s lib v v')
+as_labels s lib v v' w w' e f =
+    ap (λ x. first_reason (label_tests s lib x w')) (sym e) ∙ ap (λ x. first_reason (label_tests s lib v x)) (sym f)
 
-pub returns-then-is_some-clause-taken : goal.returns-then-is_some-clause-taken
-returns-then-is_some-clause-taken c =
+pub returns-in-Some-refusal-clause-taken : goal.returns-in-Some-refusal-clause-taken
+returns-in-Some-refusal-clause-taken c =
     let d = c.args.self.now in
     let lib = now_in d in
     let i = c.self.inside in
     let held : i.entries.items ≡ d.entries = ap (λ (x : Drafted). x.entries) c.self.view_is in
-    let slice : c.as_slice.result.now ≡ i.entries.items = c.as_slice.ensures.value in
     let w = c.args.old.now in
+    let new = c.args.new.now in
     let at = c.in-Some.ensures.some in
     let e = c.in-Some.entry.now in
     let p = c.in-Some.place in
     let own : HasLabel i.places d.entries w p e =
-    has_label i.places i.entries.items d.entries c.as_slice.result.now c.as_slice-2.result.now w p e c.self.invariant.0.indexed held slice
-    at.0 at.1 c.as_slice-2.ensures in
-    let new = c.args.new.now in
-    let lawful : is_lawful_label d.setting.prelude new ≡ true =
-    ap (λ (x : Drafted). is_lawful_label x.setting.prelude new) (sym c.self.view_is)
-    ∙ ap (is_lawful_label i.prelude) (sym c.as_slice-3.ensures) ∙ sym c.is_lawful_label.ensures ∙ c.if-not-is_lawful_label.false in
-    let there = not_so (not (has lib w)) reason.UnknownLabel (ap not (has_own i.places d.entries w p e own)) in
-    let good = not_so (not (is_lawful_label d.setting.prelude new)) reason.BadLabel (ap not lawful) in
-    let here : has lib new ≡ true =
-    known c.as_slice-4.result.now d.entries c.as_slice-5.result.now new c.find_label.result c.is_some.result
-    (c.as_slice-4.ensures.value ∙ held) c.as_slice-5.ensures c.find_label.ensures c.is_some.ensures
-    ∙ c.if-is_some.true in
-    let first =
-    first-none (unknown_label lib w) _ there ∙ first-none (bad_label d.setting new) _ good
-    ∙ first-some (label_taken lib new) _ reason.LabelTaken (so (has lib new) reason.LabelTaken here) in
-    rw c.refused-then-is_some.ensures (refl, tested_some (rename_tests d.setting lib w new) _ reason.LabelTaken first)
+    has_label i.places i.entries.items d.entries c.as_slice-2.result.now c.as_slice-own.result.now w p e c.self.invariant.0.indexed held
+    c.as_slice-2.ensures.value at.0 at.1 c.as_slice-own.ensures in
+    let told =
+    as_labels d.setting lib c.as_slice-own.result.now c.as_slice.result.now w new c.as_slice-own.ensures c.as_slice.ensures
+    ∙ sym c.refuse_label-refusal.ensures in
+    let first = rename_front d.setting lib w new (has_own i.places d.entries w p e own) ∙ told ∙ c.in-Some-refusal.is in
+    rw c.refused-in-Some-refusal.ensures (refl, tested_some (rename_tests d.setting lib w new) _ c.in-Some-refusal.reason first)
 
 pub put-requires-clause-framed : goal.put-requires-clause-framed
 put-requires-clause-framed c =
@@ -75,14 +47,14 @@ put-requires-clause-framed c =
     let lib = now_in d in
     let i = c.self.inside in
     let held : i.entries.items ≡ d.entries = ap (λ (x : Drafted). x.entries) c.self.view_is in
-    let slice : c.as_slice.result.now ≡ i.entries.items = c.as_slice.ensures.value in
+    let slice : c.as_slice-2.result.now ≡ i.entries.items = c.as_slice-2.ensures.value in
     let w = c.args.old.now in
     let at = c.in-Some.ensures.some in
     let e = c.in-Some.entry.now in
     let p = c.in-Some.place in
     let own : HasLabel i.places d.entries w p e =
-    has_label i.places i.entries.items d.entries c.as_slice.result.now c.as_slice-2.result.now w p e c.self.invariant.0.indexed held slice
-    at.0 at.1 c.as_slice-2.ensures in
+    has_label i.places i.entries.items d.entries c.as_slice-2.result.now c.as_slice-own.result.now w p e c.self.invariant.0.indexed held slice
+    at.0 at.1 c.as_slice-own.ensures in
     let stands : StandsIn i.entries.items p e = subst (λ l. StandsIn l p e) slice at.0 in
     let framed = c.self.invariant.0.framed.framed p e stands in
     ap (λ (x : Drafted). slice_get x.frames p) (sym c.self.view_is) ∙ framed
@@ -95,14 +67,14 @@ citers_of-requires c =
     let lib = now_in d in
     let i = c.self.inside in
     let held : i.entries.items ≡ d.entries = ap (λ (x : Drafted). x.entries) c.self.view_is in
-    let slice : c.as_slice.result.now ≡ i.entries.items = c.as_slice.ensures.value in
+    let slice : c.as_slice-2.result.now ≡ i.entries.items = c.as_slice-2.ensures.value in
     let w = c.args.old.now in
     let at = c.in-Some.ensures.some in
     let e = c.in-Some.entry.now in
     let p = c.in-Some.place in
     let own : HasLabel i.places d.entries w p e =
-    has_label i.places i.entries.items d.entries c.as_slice.result.now c.as_slice-2.result.now w p e c.self.invariant.0.indexed held slice
-    at.0 at.1 c.as_slice-2.ensures in
+    has_label i.places i.entries.items d.entries c.as_slice-2.result.now c.as_slice-own.result.now w p e c.self.invariant.0.indexed held slice
+    at.0 at.1 c.as_slice-own.ensures in
     let new = c.args.new.now in
     (e, own.at)
 
@@ -112,19 +84,19 @@ put-requires-clause-covered c =
     let lib = now_in d in
     let i = c.self.inside in
     let held : i.entries.items ≡ d.entries = ap (λ (x : Drafted). x.entries) c.self.view_is in
-    let slice : c.as_slice.result.now ≡ i.entries.items = c.as_slice.ensures.value in
+    let slice : c.as_slice-2.result.now ≡ i.entries.items = c.as_slice-2.ensures.value in
     let w = c.args.old.now in
     let at = c.in-Some.ensures.some in
     let e = c.in-Some.entry.now in
     let p = c.in-Some.place in
     let own : HasLabel i.places d.entries w p e =
-    has_label i.places i.entries.items d.entries c.as_slice.result.now c.as_slice-2.result.now w p e c.self.invariant.0.indexed held slice
-    at.0 at.1 c.as_slice-2.ensures in
+    has_label i.places i.entries.items d.entries c.as_slice-2.result.now c.as_slice-own.result.now w p e c.self.invariant.0.indexed held slice
+    at.0 at.1 c.as_slice-own.ensures in
     let new = c.args.new.now in
-    let free : has lib new ≡ false =
-    known c.as_slice-4.result.now d.entries c.as_slice-5.result.now new c.find_label.result c.is_some.result
-    (c.as_slice-4.ensures.value ∙ held) c.as_slice-5.ensures c.find_label.ensures c.is_some.ensures
-    ∙ c.if-is_some.false in
+    let told =
+    as_labels d.setting lib c.as_slice-own.result.now c.as_slice.result.now w new c.as_slice-own.ensures c.as_slice.ensures
+    ∙ sym c.refuse_label-refusal.ensures in
+    let free : has lib new ≡ false = label_free d.setting lib w new (told ∙ c.in_default-refusal.is) in
     let covers : Covers d.citers d.entries = subst (λ (x : Drafted). Covers x.citers x.entries) c.self.view_is
     c.self.invariant.3.covers_now in
     rw c.in_ok-renamed.ensures
@@ -138,16 +110,16 @@ recite_all-requires-clause-all c =
     let lib = now_in d in
     let i = c.self.inside in
     let held : i.entries.items ≡ d.entries = ap (λ (x : Drafted). x.entries) c.self.view_is in
-    let slice : c.as_slice.result.now ≡ i.entries.items = c.as_slice.ensures.value in
+    let slice : c.as_slice-2.result.now ≡ i.entries.items = c.as_slice-2.ensures.value in
     let w = c.args.old.now in
     let at = c.in-Some.ensures.some in
     let e = c.in-Some.entry.now in
     let p = c.in-Some.place in
     let own : HasLabel i.places d.entries w p e =
-    has_label i.places i.entries.items d.entries c.as_slice.result.now c.as_slice-2.result.now w p e c.self.invariant.0.indexed held slice
-    at.0 at.1 c.as_slice-2.ensures in
+    has_label i.places i.entries.items d.entries c.as_slice-2.result.now c.as_slice-own.result.now w p e c.self.invariant.0.indexed held slice
+    at.0 at.1 c.as_slice-own.ensures in
     let new = c.args.new.now in
-    let same : c.as_slice-6.result.now ≡ c.citers_of.result.now = c.as_slice-6.ensures.value ∙ c.in_ok-citers.ensures.items in
+    let same : c.as_slice-3.result.now ≡ c.citers_of.result.now = c.as_slice-3.ensures.value ∙ c.in_ok-citers.ensures.items in
     let now = c.in_ok-put.ensures.done.entries ∙ ap (λ (x : Ranked). set d.entries p (Some x)) c.in_ok-renamed.ensures in
     let all : HasAllCiters d.entries w c.citers_of.result.now =
     subst (λ l. HasAllCiters d.entries l c.citers_of.result.now) own.labelled (c.citers_of.ensures.all e own.at) in
@@ -159,16 +131,16 @@ recite_all-requires-clause-listed c =
     let lib = now_in d in
     let i = c.self.inside in
     let held : i.entries.items ≡ d.entries = ap (λ (x : Drafted). x.entries) c.self.view_is in
-    let slice : c.as_slice.result.now ≡ i.entries.items = c.as_slice.ensures.value in
+    let slice : c.as_slice-2.result.now ≡ i.entries.items = c.as_slice-2.ensures.value in
     let w = c.args.old.now in
     let at = c.in-Some.ensures.some in
     let e = c.in-Some.entry.now in
     let p = c.in-Some.place in
     let own : HasLabel i.places d.entries w p e =
-    has_label i.places i.entries.items d.entries c.as_slice.result.now c.as_slice-2.result.now w p e c.self.invariant.0.indexed held slice
-    at.0 at.1 c.as_slice-2.ensures in
+    has_label i.places i.entries.items d.entries c.as_slice-2.result.now c.as_slice-own.result.now w p e c.self.invariant.0.indexed held slice
+    at.0 at.1 c.as_slice-own.ensures in
     let new = c.args.new.now in
-    let same : c.as_slice-6.result.now ≡ c.citers_of.result.now = c.as_slice-6.ensures.value ∙ c.in_ok-citers.ensures.items in
+    let same : c.as_slice-3.result.now ≡ c.citers_of.result.now = c.as_slice-3.ensures.value ∙ c.in_ok-citers.ensures.items in
     let now = c.in_ok-put.ensures.done.entries ∙ ap (λ (x : Ranked). set d.entries p (Some x)) c.in_ok-renamed.ensures in
     let within = slice_get_within d.entries p (Some e) own.at in (
       p,
@@ -187,29 +159,21 @@ returns-clause-taken c =
     let lib = now_in d in
     let i = c.self.inside in
     let held : i.entries.items ≡ d.entries = ap (λ (x : Drafted). x.entries) c.self.view_is in
-    let slice : c.as_slice.result.now ≡ i.entries.items = c.as_slice.ensures.value in
+    let slice : c.as_slice-2.result.now ≡ i.entries.items = c.as_slice-2.ensures.value in
     let w = c.args.old.now in
     let at = c.in-Some.ensures.some in
     let e = c.in-Some.entry.now in
     let p = c.in-Some.place in
     let own : HasLabel i.places d.entries w p e =
-    has_label i.places i.entries.items d.entries c.as_slice.result.now c.as_slice-2.result.now w p e c.self.invariant.0.indexed held slice
-    at.0 at.1 c.as_slice-2.ensures in
+    has_label i.places i.entries.items d.entries c.as_slice-2.result.now c.as_slice-own.result.now w p e c.self.invariant.0.indexed held slice
+    at.0 at.1 c.as_slice-own.ensures in
     let new = c.args.new.now in
-    let lawful : is_lawful_label d.setting.prelude new ≡ true =
-    ap (λ (x : Drafted). is_lawful_label x.setting.prelude new) (sym c.self.view_is)
-    ∙ ap (is_lawful_label i.prelude) (sym c.as_slice-3.ensures) ∙ sym c.is_lawful_label.ensures ∙ c.if-not-is_lawful_label.false in
-    let there = not_so (not (has lib w)) reason.UnknownLabel (ap not (has_own i.places d.entries w p e own)) in
-    let good = not_so (not (is_lawful_label d.setting.prelude new)) reason.BadLabel (ap not lawful) in
-    let here : has lib new ≡ false =
-    known c.as_slice-4.result.now d.entries c.as_slice-5.result.now new c.find_label.result c.is_some.result
-    (c.as_slice-4.ensures.value ∙ held) c.as_slice-5.ensures c.find_label.ensures c.is_some.ensures
-    ∙ c.if-is_some.false in
-    let first =
-    first-none (unknown_label lib w) _ there ∙ first-none (bad_label d.setting new) _ good
-    ∙ first-none (label_taken lib new) _ (not_so (has lib new) reason.LabelTaken here) in
+    let told =
+    as_labels d.setting lib c.as_slice-own.result.now c.as_slice.result.now w new c.as_slice-own.ensures c.as_slice.ensures
+    ∙ sym c.refuse_label-refusal.ensures in
     let now =
     c.in_ok-recite_all.ensures.done ∙ ap (changed_all (citing w new)) c.in_ok-put.ensures.done.entries
     ∙ ap (λ (x : Ranked). changed_all (citing w new) (set d.entries p (Some x))) c.in_ok-renamed.ensures in
-    tested_none (rename_tests d.setting lib w new) _ first
+    tested_none (rename_tests d.setting lib w new) _
+    (rename_front d.setting lib w new (has_own i.places d.entries w p e own) ∙ told ∙ c.in_default-refusal.is)
     ∙ ap (λ l. Ok (done l)) (sym (library-renamed i.places d.entries w new p e own) ∙ ap living (sym now))

@@ -1,16 +1,12 @@
 -- What is left to show of `next_place`.
-use Rattle.std.proofs.Common.{sym, subst, ap, ◌∙◌}
-use Rattle.mmsyntax.specs.Faults.{in_place}
 use Rattle.mmtext.specs.Views.{seen}
-use Rattle.mmreader.specs.Views.{seen_place, seen_position, known_of, Leads}
-use Rattle.mmreader.proofs.Runs.{unit_row_at}
+use Rattle.mmreader.proofs.UnitRows.{ready_on}
 use Rattle.mmreader.proofs.reading.units.next_place.Goals as goal
 
-pub returns : goal.returns
-returns c =
-    let here = seen_position c.args.symbols.now c.args.units.now c.args.place in
-    let token = seen c.args.token in
-    let before = sym (c.is_behind_unit.ensures c.args.symbols.now) ∙ c.if-is_behind_unit.false in
-    let at_place = ap (λ p. in_place (known_of c.args.symbols.now c.args.units.now) (seen_place p) token c.args.mark) (sym c.in-Unit.is) in
-    subst (Leads c.args.symbols.now c.next_unit_place.new.units c.next_unit_place.result)
-    (at_place ∙ sym (unit_row_at here token c.args.mark c.requires.mark before)) c.next_unit_place.ensures
+pub place_by_row-requires-clause-stands : goal.place_by_row-requires-clause-stands
+place_by_row-requires-clause-stands c = c.requires.ready.goes_on.stands c.args.symbols.now
+
+pub returns-clause-ready : goal.returns-clause-ready
+returns-clause-ready c =
+    ready_on c.args.symbols.now c.args.units.now c.args.place (seen c.args.token) c.place_by_row.new.units c.place_by_row.result
+    c.requires.ready c.place_by_row.ensures

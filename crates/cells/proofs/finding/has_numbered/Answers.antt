@@ -1,0 +1,83 @@
+use Rattle.std.proofs.Common.{rules, ◌≡◌, ◌<◌, ◌+◌, ℕ, sym, ◌∙◌}
+use Rattle.cells.specs.Slots.{bucket_cell, next_cell}
+use Rattle.cells.specs.Sight.{Reads}
+use Rattle.cells.specs.Clashing.{IsDottedAt}
+use Rattle.cells.proofs.Sights.{looks_trans}
+use Rattle.cells.proofs.Settings.{same_slots}
+use Rattle.cells.proofs.Walks.{walk_begins, walk_on, ahead_at_end, ahead_at_last}
+use Rattle.cells.proofs.Clashing.{dotted_lies, no_numbered, numbered_found}
+use Rattle.cells.proofs.finding.has_numbered.Goals as goal
+
+pub loop-init : goal.loop-init
+loop-init g c =
+    let old = g.C.Cells.sight c.args.cells.now in
+    let new = g.C.Cells.sight c.read.new.self in
+    let slots = c.slot_count-slots.result in
+    let b = c.hash.result in
+    let own = c.args.own.now in
+    let label = c.args.label.now in
+    let read : Reads (bucket_cell slots b) c.in_ok-word.word old new = search rules in
+    let is : slots ≡ new.setting.slots = c.slot_count-slots.ensures.value ∙ sym (same_slots old new read.looks) in (
+      read.looks,
+      walk_begins new slots is (IsDottedAt own label) old b c.in_ok-word.word c.hash.ensures.within
+          (dotted_lies own label slots b c.hash.ensures.value) read,
+    )
+
+pub returns-in_default-clause-ok : goal.returns-in_default-clause-ok
+returns-in_default-clause-ok g c =
+    let old = g.C.Cells.sight c.args.cells.now in
+    let new = g.C.Cells.sight c.loop.cells in
+    let slots = c.slot_count-slots.result in
+    let inv = c.loop.invariant in
+    let own = c.args.own.now in
+    let label = c.args.label.now in
+    let none : (i : ℕ) → i < slots → c.loop.word ≡ i + 1 → ⊥ = c.in_default.ensures in
+    no_numbered new slots (c.slot_count-slots.ensures.value ∙ sym (same_slots old new inv.0)) own label
+    (λ st lib v. ahead_at_end slots (IsDottedAt own label) c.loop.word c.loop.counter _ (inv.1 st lib v) none)
+
+pub returns-in_err-has_dotted_label-clause-looks : goal.returns-in_err-has_dotted_label-clause-looks
+returns-in_err-has_dotted_label-clause-looks g c = looks_trans _ _ _ c.loop.invariant.0 c.has_dotted_label.ensures.looks
+
+pub returns-then-branch-clause-looks : goal.returns-then-branch-clause-looks
+returns-then-branch-clause-looks g c = looks_trans _ _ _ c.loop.invariant.0 c.has_dotted_label.ensures.looks
+
+pub returns-then-branch-clause-ok : goal.returns-then-branch-clause-ok
+returns-then-branch-clause-ok g c =
+    let new = g.C.Cells.sight c.has_dotted_label.new.cells in
+    numbered_found new c.args.own.now c.args.label.now c.in-Some.slot
+    (λ st m. (c.in_ok-has_dotted_label.ensures.ok st m).0 c.if-branch.true)
+
+pub returns-in_err-word-2-clause-looks : goal.returns-in_err-word-2-clause-looks
+returns-in_err-word-2-clause-looks g c =
+    looks_trans _ _ _ (looks_trans _ _ _ c.loop.invariant.0 c.has_dotted_label.ensures.looks) c.in_err-word-2.ensures.err
+
+pub loop-preserved : goal.loop-preserved
+loop-preserved g c =
+    let old = g.C.Cells.sight c.args.cells.now in
+    let between = g.C.Cells.sight c.has_dotted_label.new.cells in
+    let new = g.C.Cells.sight c.read-in-loop.new.self in
+    let slots = c.slot_count-slots.result in
+    let slot = c.in-Some.slot in
+    let own = c.args.own.now in
+    let label = c.args.label.now in
+    let looks = looks_trans _ _ _ c.loop.invariant.0 c.has_dotted_label.ensures.looks in
+    let read : Reads (next_cell slots slot) c.in_ok-word-2.word between new = search rules in
+    let link : (slot < slots) × (c.loop.word ≡ slot + 1) = c.in-Some.ensures in
+    let is : slots ≡ between.setting.slots = c.slot_count-slots.ensures.value ∙ sym (same_slots old between looks) in (
+      looks_trans _ _ _ looks read.looks,
+      walk_on _ between new slots (IsDottedAt own label) c.loop.word c.loop.counter slot c.in_ok-word-2.word is c.has_dotted_label.ensures.looks read
+          c.loop.invariant.1 link.1
+          (λ st m here. let yes = (c.in_ok-has_dotted_label.ensures.ok st m).1 here in let no = c.if-branch.false in absurd cc),
+    )
+
+pub returns-clause-ok : goal.returns-clause-ok
+returns-clause-ok g c =
+    let old = g.C.Cells.sight c.args.cells.now in
+    let new = g.C.Cells.sight c.loop.cells in
+    let slots = c.slot_count-slots.result in
+    let inv = c.loop.invariant in
+    let own = c.args.own.now in
+    let label = c.args.label.now in
+    let last : c.loop.counter ≡ slots = search rules in
+    no_numbered new slots (c.slot_count-slots.ensures.value ∙ sym (same_slots old new inv.0)) own label
+    (λ st lib v. ahead_at_last slots (IsDottedAt own label) c.loop.word c.loop.counter _ (inv.1 st lib v) last)

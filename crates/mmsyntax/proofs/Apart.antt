@@ -1,0 +1,64 @@
+-- Labels of which none is L.k of another: what keeps them so, and that labels without a dot are.
+use Rattle.std.proofs.Common.{◌≡◌, Bool, true, false, List, [], ◌∷◌, length, refl, sym, ◌∙◌}
+use Rattle.std.proofs.Common.{subst, inl, inr, arith}
+use Rattle.std.specs.Prelude.{IsTrue, ◌⊎◌, ◌||◌, ◌&&◌, nat_le, is_some}
+use mathlib.Core.Bool.{not}
+use Rattle.std.specs.List.{All, Contains, list_any}
+use Rattle.std.proofs.lemmas.Bool.{and_parts, not-true, or_parts}
+use Rattle.std.proofs.lemmas.List.Elements.{All-cons, All-contains, Contains-get_or}
+use Rattle.mmtext.specs.Words.{Word, has_dot, is_label}
+use Rattle.mmsyntax.specs.Tables.{Tables, meaning}
+use Rattle.mmsyntax.specs.Assertions.{is_lawful_label}
+use Rattle.mmsyntax.specs.Dotted.{is_dotted, clash, AreApart}
+use Rattle.mmsyntax.proofs.DottedWords.{not_dotted_itself, plain_not_dotted}
+use Rattle.mmsyntax.proofs.Distinct.{any_at}
+
+-- ---- two labels
+
+pub clash-sym : (l w : Word) → clash l w ≡ clash w l
+clash-sym l w = swapped (is_dotted l w) (is_dotted w l)
+  where
+    swapped : (a b : Bool) → (a || b) ≡ (b || a)
+    swapped true true = refl
+    swapped true false = refl
+    swapped false true = refl
+    swapped false false = refl
+
+-- ---- lists
+
+pub apart_nil : AreApart []
+apart_nil l w l_in w_in = absurd (omega (arith, l_in.1))
+
+-- labels that are among some that are apart
+pub apart_within : (ls ms : List Word) → ((w : Word) → Contains ms w → Contains ls w) → AreApart ls → AreApart ms
+apart_within ls ms within h l w l_in w_in = h l w (within l l_in) (within w w_in)
+
+-- and with one more label that clashes with none of them
+pub apart_with : (ls ms : List Word) (new : Word) → ((w : Word) → Contains ms w → (w ≡ new) ⊎ (Contains ls w × (clash w new ≡ false)))
+    → AreApart ls → AreApart ms
+apart_with ls ms new among h l w l_in w_in =
+    elim (among l l_in) [
+      | inl is ↦ elim (among w w_in) [
+        | inl same ↦ subst (λ x. is_dotted l x ≡ false) (is ∙ sym same) (not_dotted_itself l)
+        | inr other ↦ subst (λ x. is_dotted x w ≡ false) (sym is) (or_parts (is_dotted w new) (is_dotted new w) other.1).1
+      ]
+      | inr own ↦ elim (among w w_in) [
+        | inl same ↦ subst (λ x. is_dotted l x ≡ false) (sym same) (or_parts (is_dotted l new) (is_dotted new l) own.1).0
+        | inr other ↦ h l w own.0 other.0
+      ]
+    ]
+
+pub apart_cons : (new : Word) (ls : List Word) → list_any (λ l. clash l new) ls ≡ false → AreApart ls → AreApart (new ∷ ls)
+apart_cons new ls clear =
+    let Among = λ (w : Word). (w ≡ new) ⊎ (Contains ls w × (clash w new ≡ false)) in
+    let among : All Among ls = λ i d lt. inr (Contains-get_or ls i d lt, any_at (λ l. clash l new) ls i d clear lt) in
+    apart_with ls (new ∷ ls) new (λ w w_in. All-contains Among (new ∷ ls) w (All-cons Among new ls (inl refl) among) w_in)
+
+-- labels without dots
+pub apart_plain : (ls : List Word) → All (λ l. has_dot l ≡ false) ls → AreApart ls
+apart_plain ls plain l w l_in w_in = plain_not_dotted l w (All-contains (λ x. has_dot x ≡ false) ls w plain w_in)
+
+pub lawful_plain : (t : Tables) (w : Word) → IsTrue (is_lawful_label t w) → has_dot w ≡ false
+lawful_plain t w h =
+    let short = nat_le 1 (length w) && nat_le (length w) 255 && is_label w in
+    not-true (has_dot w) (and_parts short (not (has_dot w)) (and_parts (short && not (has_dot w)) (not (is_some (meaning t w))) h).0).1
