@@ -1,17 +1,18 @@
 -- Which commands and replies are within the limits of a prelude.
-use Rattle.std.specs.Prelude.{◌≤◌, length}
+use Rattle.std.specs.Prelude.{◌≤◌, length, All}
 use Rattle.mmsyntax.specs.Tables.{Tables}
-use Rattle.mmsyntax.specs.Assertions.{Fits}
+use Rattle.mmsyntax.specs.Assertions.{CitesApart, Fits}
 pub use Rattle.library.specs.Library.{highest_rank}
 use Rattle.library.specs.declared.command.Command.{Command}
 use Rattle.library.specs.declared.command.Command.TheVariants.{Add, Reprove, Replace, Rename, Move, Delete, Show, List}
 use Rattle.library.specs.declared.command.Reply.{Reply}
 use Rattle.library.specs.declared.command.Reply.TheVariants.{Done, Shown, Listed}
 
--- a rank is at most the highest, an added assertion fits the prelude, and another proof has at most 16,384 steps
+-- a rank is at most the highest, an added assertion fits the prelude, and another proof of L has at most 16,384 steps, of which none cites
+-- L.k
 abbrev pub CommandFits : Tables → Command → Type 0
 CommandFits t (Add rank a) = (rank ≤ highest_rank) × Fits t a
-CommandFits t (Reprove label steps) = length steps ≤ 16384
+CommandFits t (Reprove label steps) = (length steps ≤ 16384) × All (CitesApart label) steps
 CommandFits t (Replace label old new) = Unit {0}
 CommandFits t (Rename old new) = Unit {0}
 CommandFits t (Move label rank) = rank ≤ highest_rank

@@ -6,7 +6,7 @@ ghost use Rattle.library.specs.Fitting.{CommandFits};
 ghost use Rattle.library.specs.Transactions.{has_edit, has_too_many};
 
 use crate::library::Ranked;
-use mmstatement::{Assertion, Kind, Label, Prelude, Sequence, Step, copy_steps, fits};
+use mmstatement::{Assertion, Kind, Label, Prelude, Sequence, Step, are_citing_apart, copy_steps, fits};
 use std::alloc::{AllocError, Global};
 
 /// The highest rank.
@@ -57,14 +57,17 @@ pub enum Command {
 }
 
 impl Command {
-    /// Whether the command is within the limits of a prelude: an added assertion fits it, and another proof has at most 16,384 steps. Of a
-    /// rank nothing is asked, as every `u32` is one.
+    /// Whether the command is within the limits of a prelude: an added assertion fits it, and another proof of L has at most 16,384 steps, of
+    /// which none cites `L.k`. Of a rank nothing is asked, as every `u32` is one.
     pub fn fits(&self, prelude: &Prelude) -> bool
         ensures { IsTrue result ↔ CommandFits prelude.now self.now }
     {
         match self {
             Command::Add { rank, assertion } => *rank <= HIGHEST_RANK && fits(prelude, assertion),
-            Command::Reprove { steps, .. } => steps.as_slice().len() <= MOST_STEPS,
+            Command::Reprove { label, steps } => {
+                steps.as_slice().len() <= MOST_STEPS
+                    && are_citing_apart(label.as_slice(), steps.as_slice())
+            }
             Command::Move { rank, .. } => *rank <= HIGHEST_RANK,
             Command::Replace { .. }
             | Command::Rename { .. }

@@ -1,7 +1,7 @@
 -- Of the code's inside, apart from the rules: what is kept of words that were looked up.
 use Rattle.std.specs.Prelude.{◌≡◌, []}
 use Rattle.std.specs.List.{All}
-use Rattle.mmtext.specs.Words.{has_dollar, is_label, has_dot}
+use Rattle.mmtext.specs.Words.{has_dollar, is_label}
 use Rattle.mmsyntax.specs.Tables.{Tables, meaning}
 use Rattle.mmreader.specs.declared.recent.Recalled.{Recalled}
 use Rattle.mmreader.specs.declared.recent.Recent.{Recent}
@@ -13,7 +13,6 @@ pub record IsTrueOf (t : Tables) (r : Recalled) : Type 0 where
   pub names : r.name ≡ meaning t r.word.now
   pub dollar : r.with_dollar ≡ has_dollar r.word.now
   pub label : r.is_label ≡ is_label r.word.now
-  pub dotted : r.is_dotted ≡ has_dot r.word.now
 
 -- all that is kept is so
 abbrev pub Knows : Tables → Recent → Type 0

@@ -1,23 +1,34 @@
 //! What is known of the assertions while a text is read.
 
-ghost use Rattle.std.specs.Prelude.{◌≡◌, ◌<◌, ◌^◌, ◌++◌, ◌∷◌, true, [], length, OnOk};
-ghost use Rattle.mmsyntax.specs.Rows.{no_units, is_unit_label, is_used};
+ghost use Rattle.std.specs.Prelude.{◌≡◌, ◌<◌, ◌^◌, ◌++◌, ◌∷◌, true, [], length, IfOk, OnOk};
+ghost use Rattle.mmsyntax.specs.Rows.{no_units, is_assertion_label, is_unit_label, is_used, clashes};
 ghost use Rattle.mmsyntax.specs.Faults.{first_of};
 ghost use Rattle.mmreader.specs.Views.{known_of};
 
-use mmsyntax::{Assertion, Label, SymbolTable};
+use mmsyntax::{Assertion, Label, SymbolTable, trunk};
 use std::alloc::{AllocError, Global};
 use std::collections::HashMap;
 use std::hash::RandomState;
 use std::marker::Model;
+use std::mem;
 
-/// The assertions so far, and whether `$c`, `$v` and `$f` are over. The map has their labels and those of all `$e`.
+/// Whose label a word is.
+#[derive(Clone, Copy, PartialEq, Eq)]
+pub(crate) enum Owner {
+    Assertion,
+    /// A `$e`, and no assertion.
+    Hypothesis,
+}
+
+/// The assertions so far, and whether `$c`, `$v` and `$f` are over. One map has their labels and those of all `$e`; the other has each L of
+/// which an assertion has the label `L.k`.
 #[derive(Drop)]
 pub(crate) struct Units {
     assertions: Vec<Assertion>,
     hypothesis_labels: Vec<Label>,
     prelude_closed: bool,
-    labels: HashMap<Vec<u8>, (), RandomState>,
+    labels: HashMap<Vec<u8>, Owner, RandomState>,
+    trunks: HashMap<Vec<u8>, (), RandomState>,
 }
 
 impl Model for Units {
@@ -32,7 +43,7 @@ impl Model for Units {
       prelude_closed = u.prelude_closed;
     } };
 
-    ghost invariant = { λ u. HasLabels u.labels (record {
+    ghost invariant = { λ u. HasLabels u.labels u.trunks (record {
       assertions = u.assertions.items;
       hypothesis_labels = u.hypothesis_labels.items;
       prelude_closed = u.prelude_closed;
@@ -48,10 +59,11 @@ impl Units {
             hypothesis_labels: Vec::new(alloc),
             prelude_closed,
             labels: HashMap::with_hasher(alloc, keys),
+            trunks: HashMap::with_hasher(alloc, keys),
         }
     }
 
-    /// The keys from which its map draws its hashes.
+    /// The keys from which its maps draw their hashes.
     pub fn keys(&self) -> RandomState {
         *self.labels.hasher()
     }
@@ -76,14 +88,33 @@ impl Units {
         self.labels.contains_key(word)
     }
 
+    /// Whether an earlier assertion has the label.
+    fn has_assertion(&self, word: &[u8]) -> bool
+        ensures { result ≡ is_assertion_label self.now.assertions word.now }
+    {
+        self.labels.get(word) == Some(&Owner::Assertion)
+    }
+
+    /// Whether a label clashes with that of an earlier assertion: of the two, one is `L.k` of the other. Two look-ups in maps.
+    pub fn has_clash(&self, word: &[u8]) -> bool
+        ensures { result ≡ clashes self.now.assertions word.now }
+    {
+        let trunk = trunk(word);
+        (trunk.len() < word.len() && self.has_assertion(trunk)) || self.trunks.contains_key(word)
+    }
+
     /// One more label of a `$e`.
     pub fn add_hypothesis_label(&mut self, alloc: Global, label: &[u8]) -> Result<(), AllocError>
         ensures { OnOk result (self.new ≡ record self.old { hypothesis_labels = self.old.hypothesis_labels ++ label.now ∷ [] }) }
     {
         let key = Vec::from_slice(alloc, label)?;
-        let label = Label::from_slice(alloc, label)?;
-        self.hypothesis_labels.push(label)?;
-        match self.labels.insert(key, ()) {
+        let kept = Label::from_slice(alloc, label)?;
+        self.hypothesis_labels.push(kept)?;
+        // An assertion that has the label stays its owner.
+        if self.labels.contains_key(label) {
+            return Ok(());
+        }
+        match self.labels.insert(key, Owner::Hypothesis) {
             Ok(_) => Ok(()),
             Err(_) => {
                 let _ = self.hypothesis_labels.pop();
@@ -92,23 +123,41 @@ impl Units {
         }
     }
 
-    /// One more assertion, which closes the prelude.
+    /// One more assertion, which closes the prelude. Where memory runs out, none is left.
     pub fn add_assertion(&mut self, alloc: Global, assertion: Assertion) -> Result<(), AllocError>
         ensures { OnOk result
             (self.new ≡ record self.old { assertions = self.old.assertions ++ assertion ∷ []; prelude_closed = true }) }
     {
-        let key = Vec::from_slice(alloc, assertion.label.as_slice())?;
-        self.assertions.push(assertion)?;
-        match self.labels.insert(key, ()) {
-            Ok(_) => {
-                self.prelude_closed = true;
-                Ok(())
-            }
-            Err(_) => {
-                let _ = self.assertions.pop();
-                Err(AllocError)
-            }
+        let none = Units::new(alloc, self.keys(), true);
+        *self = mem::replace(self, none).with_assertion(alloc, assertion)?;
+        Ok(())
+    }
+
+    fn with_assertion(self, alloc: Global, assertion: Assertion) -> Result<Units, AllocError>
+        ensures { IfOk result
+            (λ made. made ≡ record self.entry { assertions = self.entry.assertions ++ assertion.entry ∷ []; prelude_closed = true }) }
+    {
+        let Units {
+            mut assertions,
+            hypothesis_labels,
+            mut labels,
+            mut trunks,
+            ..
+        } = self;
+        let label = assertion.label.as_slice();
+        let trunk = trunk(label);
+        if trunk.len() < label.len() {
+            trunks.insert(Vec::from_slice(alloc, trunk)?, ())?;
         }
+        labels.insert(Vec::from_slice(alloc, label)?, Owner::Assertion)?;
+        assertions.push(assertion)?;
+        Ok(Units {
+            assertions,
+            hypothesis_labels,
+            prelude_closed: true,
+            labels,
+            trunks,
+        })
     }
 
     /// All assertions, in order.

@@ -5,7 +5,7 @@ ghost use Rattle.mmreader.specs.Recalls.{IsTrueOf, IsKept, Knows};
 
 use crate::place::Place;
 use mmsyntax::{Name, SymbolTable};
-use mmtext::{contains_dollar, contains_dot, is_label_token};
+use mmtext::{contains_dollar, is_label_token};
 use std::alloc::{AllocError, Global};
 use std::hash::{FoldHasher, Hasher};
 
@@ -16,14 +16,13 @@ const MANY: usize = 65536;
 /// The most symbols that are few.
 const FEW_SYMBOLS: usize = 2048;
 
-/// What is known of a word: what it names, whether a `$` or a dot stands in it, and whether it has only bytes of a label.
+/// What is known of a word: what it names, whether a `$` stands in it, and whether it has only bytes of a label.
 #[derive(Clone, Copy)]
 pub(crate) struct Recalled<'a> {
     pub word: &'a [u8],
     pub name: Option<Name>,
     pub with_dollar: bool,
     pub is_label: bool,
-    pub is_dotted: bool,
 }
 
 /// One word for each place, or none at all. A new word takes the place of an earlier one, so words that were chosen to meet at one place
@@ -43,7 +42,6 @@ fn looked_up<'a>(symbols: &SymbolTable, word: &'a [u8]) -> Recalled<'a>
         name: symbols.look_up(word),
         with_dollar: contains_dollar(word),
         is_label: is_label_token(word),
-        is_dotted: contains_dot(word),
     }
 }
 

@@ -8,7 +8,7 @@ pub use frames::frame_of;
 pub use mmreader::{read_assertion, read_database};
 pub use mmsyntax::{
     Assertion, Database, Expr, Float, Frame, Kind, Label, Name, Prelude, Sequence, Step, Symbol,
-    copy_steps, fits, hypothesis_number, is_dotted, is_lawful_label, laws, trunk,
+    are_citing_apart, copy_steps, fits, hypothesis_number, is_dotted, is_lawful_label, laws, trunk,
 };
 pub use mmtext::{FaultKind, TextFault};
 pub use mmwriter::{put_assertion, put_prelude, write_assertion, write_database};

@@ -12,7 +12,8 @@ use Rattle.mmsyntax.specs.declared.statement.Step.TheVariants.{Float, Hyp, Cite}
 use Rattle.mmsyntax.specs.declared.statement.Assertion.{Assertion}
 use Rattle.mmsyntax.specs.Tables.{Tables, Contents, meaning}
 use Rattle.mmsyntax.specs.Blocks.{is_pair_below}
-use Rattle.mmtext.specs.Words.{is_label, has_dot}
+use Rattle.mmtext.specs.Words.{Word, is_label}
+use Rattle.mmsyntax.specs.Dotted.{is_dotted, AreApart}
 use Rattle.mmsyntax.specs.Steps.{float_named}
 use Rattle.mmsyntax.specs.Layout.{HasSpelling, IsSoundPrelude, HasUnitSpelling}
 
@@ -51,8 +52,14 @@ abbrev pub AreAscending : List (ℕ × ℕ) → Type 0
 AreAscending [] = Unit {0}
 AreAscending (p ∷ ps) = All (ComesBefore p) ps × AreAscending ps
 
+-- a step of the proof of L cites no L.k, which no library has beside L (a rule of the profile)
+abbrev pub CitesApart : Word → Step → Type 0
+CitesApart label (Float j) = Unit {0}
+CitesApart label (Hyp n) = Unit {0}
+CitesApart label (Cite w) = is_dotted label w ≡ false
+
 -- an assertion over a prelude, within the limits: its $d, its $e, its statement, and a proof if it is a $p (section 4.1.3);
--- nothing is said of labels, or of what a step names
+-- nothing else is said of labels, or of what a step names
 pub record Fits (t : Tables) (a : Assertion) : Type 0 where
   pub statement : IsExpression t a.statement
   pub hyps : All (IsExpression t) a.hyps
@@ -62,10 +69,11 @@ pub record Fits (t : Tables) (a : Assertion) : Type 0 where
   pub few_pairs : length a.pairs ≤ 65535
   pub no_axiom_proof : a.kind ≡ Axiom → a.proof ≡ []
   pub few_steps : length a.proof ≤ 16384
+  pub cites_apart : All (CitesApart a.label) a.proof
 
--- 1 to 255 bytes of a label token without a dot (section 4.1.1; the dot is the profile's)
+-- 1 to 255 bytes of a label token (section 4.1.1; the number is the profile's)
 abbrev pub is_plain_label : List ℕ → Bool
-is_plain_label w = nat_le 1 (length w) && nat_le (length w) 255 && is_label w && not (has_dot w)
+is_plain_label w = nat_le 1 (length w) && nat_le (length w) 255 && is_label w
 
 -- the label of an assertion: a plain label that names nothing of the prelude (section 4.1.3)
 abbrev pub is_lawful_label : Tables → List ℕ → Bool
@@ -100,12 +108,13 @@ pub record IsUnit (t : Tables) (a : Assertion) : Type 0 where
   pub some_steps : a.kind ≡ Theorem → a.proof ≢ []
   pub steps : All (IsNameable t (length a.hyps)) a.proof
 
--- what a text declares beside a prelude: at most 4,096 units, with different lawful labels
+-- what a text declares beside a prelude: at most 4,096 units, with different lawful labels, of which none is L.k of another
 pub record IsDeclarable (t : Tables) (xs : List Assertion) : Type 0 where
   pub prelude : IsSoundPrelude t
   pub units : All (IsUnit t) xs
   pub lawful : All (λ a. IsTrue (is_lawful_label t a.label)) xs
   pub distinct : Distinct bytes_eq (map (λ a. a.label) xs)
+  pub apart : AreApart (map (λ a. a.label) xs)
   pub few : length xs ≤ 4096
 
 -- a database has a spelling just where its assertions are declarable over its prelude

@@ -196,7 +196,7 @@ theorem_row k s label e t m = next_symbol k e t (λ x. in_theorem s label x)
 -- one more step of a proof
 abbrev pub next_step : Known → Scope → Word → List Symbol → List Step → Token → Result Position TextFault
 next_step k s label e steps t =
-    given t (step_of k.tables (block_of s).hyps (length steps) t.text) (λ x. at k (in_proof s label e (steps ++ x ∷ [])))
+    given t (step_of k.tables label (block_of s).hyps (length steps) t.text) (λ x. at k (in_proof s label e (steps ++ x ∷ [])))
 
 -- a step of a proof, or the $. behind one
 abbrev pub proof_row : Known → Scope → Word → List Symbol → List Step → Token → Mark → Result Position TextFault

@@ -76,11 +76,11 @@ abbrev pub Restricts : Tables → Block → List ℕ → List Word → Block →
 Restricts t b vs [] after = (2 ≤ length vs) × (b ≡ after)
 Restricts t b vs (w ∷ ws) after = (j : ℕ) × (distinct_of t vs b.pairs w ≡ Ok j) × Restricts t (with_distinct b vs j) (vs ++ j ∷ []) ws after
 
--- the words of a proof behind `front` steps, and all steps
-abbrev pub StepsAfter : Tables → List Hypothesis → List Step → List Word → List Step → Type 0
-StepsAfter t hyps front [] steps = front ≡ steps
-StepsAfter t hyps front (w ∷ ws) steps =
-    (s : Step) × (step_of t hyps (length front) w ≡ Ok s) × StepsAfter t hyps (front ++ s ∷ []) ws steps
+-- the words of the proof of L behind `front` steps, and all steps
+abbrev pub StepsAfter : Tables → Word → List Hypothesis → List Step → List Word → List Step → Type 0
+StepsAfter t label hyps front [] steps = front ≡ steps
+StepsAfter t label hyps front (w ∷ ws) steps =
+    (s : Step) × (step_of t label hyps (length front) w ≡ Ok s) × StepsAfter t label hyps (front ++ s ∷ []) ws steps
 
 -- an assertion behind what its block holds
 abbrev pub Claims : Known → Block → Claim → Assertion → Type 0
@@ -89,7 +89,7 @@ Claims k b (asserted label ws) a =
     × ((e : List Symbol) × ReadsAfter k.tables [] ws e × (axiom_of b label e ≡ a))
 Claims k b (proved label ws steps) a =
     IsTrue (is_label label) × Pass (assertion_label_tests k label) × (ws ≢ []) × (steps ≢ [])
-    × ((e : List Symbol) × (ss : List Step) × ReadsAfter k.tables [] ws e × StepsAfter k.tables b.hyps [] steps ss
+    × ((e : List Symbol) × (ss : List Step) × ReadsAfter k.tables [] ws e × StepsAfter k.tables label b.hyps [] steps ss
     × (theorem_of b label e ss ≡ a))
 
 -- a $d or $e in a block, with what is known and what the block holds behind it

@@ -11,9 +11,10 @@ use Rattle.mmsyntax.specs.declared.symbols.Name.{Name}
 use Rattle.mmsyntax.specs.declared.symbols.Name.TheVariants.{Constant, Variable}
 use Rattle.mmtext.specs.declared.fault.FaultKind.{FaultKind}
 use Rattle.mmtext.specs.declared.fault.FaultKind.TheVariants.{BadToken, OutOfProfile, UnknownSymbol, RepeatedLabel, BadLabel}
-use Rattle.mmtext.specs.declared.fault.FaultKind.TheVariants.{NoTypeFor, TooLong}
+use Rattle.mmtext.specs.declared.fault.FaultKind.TheVariants.{NoTypeFor, TooLong, LabelClashes}
 use Rattle.mmtext.specs.Words.{Word, has_dollar, has_dot, has_hypothesis_form}
 use Rattle.mmsyntax.specs.Tables.{Tables, meaning}
+use Rattle.mmsyntax.specs.Dotted.{clash}
 
 -- ---- what is known
 
@@ -49,6 +50,10 @@ in_prelude k = not k.units.prelude_closed
 abbrev pub is_assertion_label : List Assertion → Word → Bool
 is_assertion_label xs w = list_any (λ a. bytes_eq w a.label) xs
 
+-- the label is L.k of that of some assertion, or that of some assertion L.k of it (a rule of the profile)
+abbrev pub clashes : List Assertion → Word → Bool
+clashes xs w = list_any (λ a. clash a.label w) xs
+
 -- an earlier $e, $a or $p has the label
 abbrev pub is_unit_label : Units → Word → Bool
 is_unit_label u w = is_assertion_label u.assertions w || list_any (bytes_eq w) u.hypothesis_labels
@@ -81,21 +86,23 @@ symbol_tests k count w =
     ∷ (nat_le 65535 count, TooLong)
     ∷ []
 
--- the label of a $f, $a or $p, once its keyword has passed, where `count` of the `limit` stand: it is new (section 4.1.3)
-abbrev pub label_tests : Known → ℕ → ℕ → Word → Tests
-label_tests k count limit w =
+-- the label of a $f, once its keyword has passed: without a dot (a rule of the profile), and new (section 4.1.3); at most 65,535 stand
+abbrev pub float_label_tests : Known → Word → Tests
+float_label_tests k w =
     (has_dot w || nat_lt 255 (length w), BadLabel)
     ∷ (is_used k w, RepeatedLabel)
-    ∷ (nat_le limit count, TooLong)
+    ∷ (nat_le 65535 (length k.tables.floats), TooLong)
     ∷ []
 
--- at most 65,535 $f
-abbrev pub float_label_tests : Known → Word → Tests
-float_label_tests k w = label_tests k (length k.tables.floats) 65535 w
-
--- at most 4,096 assertions
+-- the label of a $a or $p, once its keyword has passed: new (section 4.1.3), and apart from those of the earlier assertions, of which at
+-- most 4,096 stand
 abbrev pub assertion_label_tests : Known → Word → Tests
-assertion_label_tests k w = label_tests k (length k.units.assertions) 4096 w
+assertion_label_tests k w =
+    (nat_lt 255 (length w), BadLabel)
+    ∷ (is_used k w, RepeatedLabel)
+    ∷ (clashes k.units.assertions w, LabelClashes)
+    ∷ (nat_le 4096 (length k.units.assertions), TooLong)
+    ∷ []
 
 -- ---- symbols
 

@@ -7,9 +7,10 @@ use Rattle.mmsyntax.specs.declared.statement.Step.TheVariants.{Float, Hyp, Cite}
 use Rattle.mmsyntax.specs.declared.symbols.Name.{Name}
 use Rattle.mmsyntax.specs.declared.symbols.Name.TheVariants.{Label}
 use Rattle.mmtext.specs.declared.fault.FaultKind.{FaultKind}
-use Rattle.mmtext.specs.declared.fault.FaultKind.TheVariants.{BadToken, OutOfProfile, BadLabel, TooLong}
-use Rattle.mmtext.specs.Words.{Word, has_dollar, has_dot, is_label}
+use Rattle.mmtext.specs.declared.fault.FaultKind.TheVariants.{BadToken, OutOfProfile, BadLabel, TooLong, LabelClashes}
+use Rattle.mmtext.specs.Words.{Word, has_dollar, is_label}
 use Rattle.mmsyntax.specs.Tables.{Tables, meaning, place_of}
+use Rattle.mmsyntax.specs.Dotted.{is_dotted}
 use Rattle.mmsyntax.specs.Rows.{Tests, first_fault}
 use Rattle.mmsyntax.specs.Blocks.{Hypothesis}
 
@@ -31,18 +32,20 @@ float_named _ = None
 abbrev pub hypothesis_named : List Hypothesis → Word → Option ℕ
 hypothesis_named hyps w = place_of (λ h. bytes_eq w h.label) hyps
 
--- a hypothesis is active in its block alone (section 4.1.3). Any other label is that of an assertion, which no reader looks up
-abbrev pub step_named : Word → Option ℕ → Option ℕ → Result Step FaultKind
-step_named w (Some j) h = Ok (Float j)
-step_named w None (Some n) = Ok (Hyp n)
-step_named w None None = if has_dot w || nat_lt 255 (length w) then Err BadLabel else Ok (Cite w)
+-- what a word names in the proof of L: a hypothesis is active in its block alone (section 4.1.3). Any other label is that of an assertion,
+-- which no reader looks up; L.k is that of none (a rule of the profile)
+abbrev pub step_named : Word → Word → Option ℕ → Option ℕ → Result Step FaultKind
+step_named label w (Some j) h = Ok (Float j)
+step_named label w None (Some n) = Ok (Hyp n)
+step_named label w None None =
+    if nat_lt 255 (length w) then Err BadLabel else (if is_dotted label w then Err LabelClashes else Ok (Cite w))
 
 -- the fault of a test, and else what the word names
 abbrev pub unless_faulty : Option FaultKind → Result Step FaultKind → Result Step FaultKind
 unless_faulty (Some kind) named = Err kind
 unless_faulty None named = named
 
--- a word behind `count` steps of a proof, in a block with these hypotheses
-unfoldable pub step_of : Tables → List Hypothesis → ℕ → Word → Result Step FaultKind
-step_of t hyps count w =
-    unless_faulty (first_fault (step_tests count w)) (step_named w (float_named (meaning t w)) (hypothesis_named hyps w))
+-- a word behind `count` steps of the proof of L, in a block with these hypotheses
+unfoldable pub step_of : Tables → Word → List Hypothesis → ℕ → Word → Result Step FaultKind
+step_of t label hyps count w =
+    unless_faulty (first_fault (step_tests count w)) (step_named label w (float_named (meaning t w)) (hypothesis_named hyps w))

@@ -1,13 +1,14 @@
 //! What fits a prelude: assertions, and their labels.
 
 ghost use Rattle.std.specs.Prelude.{◌≡◌, ◌≤◌, ◌↔◌, IsTrue, [], All, length};
-ghost use Rattle.mmsyntax.specs.Assertions.{IsSymbolOf, BeginsWithConstant, IsExpression, IsPairOf, ComesBefore, AreAscending, Fits};
+ghost use Rattle.mmsyntax.specs.Assertions.{IsSymbolOf, BeginsWithConstant, IsExpression, IsPairOf, ComesBefore, AreAscending, CitesApart, Fits};
 ghost use Rattle.mmsyntax.specs.Assertions.{is_lawful_label};
 ghost use Rattle.mmsyntax.specs.declared.statement.Kind.TheVariants.{Axiom};
 
+use crate::dotted::is_dotted;
 use crate::prelude::Prelude;
 use crate::statement::{Assertion, Expr, Kind, Step, Symbol};
-use mmtext::{contains_dot, is_label_token};
+use mmtext::is_label_token;
 
 /// Whether a symbol is one of the prelude.
 fn is_symbol_of(prelude: &Prelude, symbol: Symbol) -> bool
@@ -93,9 +94,28 @@ fn is_proof_of(kind: Kind, steps: &[Step]) -> bool
     (kind == Kind::Theorem || steps.is_empty()) && steps.len() <= 16384
 }
 
-/// Whether an assertion is one over the prelude, within the limits. Labels, and what steps name, are not looked at.
+/// Whether a step, in the proof of the assertion with a label, cites no `L.k` where that is L.
+fn is_citing_apart(label: &[u8], step: &Step) -> bool
+    ensures { IsTrue result ↔ CitesApart label.now step.now }
+{
+    match step {
+        Step::Float(_) | Step::Hyp(_) => true,
+        Step::Cite(cited) => !is_dotted(label, cited.as_slice()),
+    }
+}
+
+/// Whether no step of a proof of L cites a label `L.k`, with k from 1 to 1,000: no library has one beside L, and in a text it would name a
+/// hypothesis.
+pub fn are_citing_apart(label: &[u8], steps: &[Step]) -> bool
+    ensures { IsTrue result ↔ All (CitesApart label.now) steps.now }
+{
+    steps.iter().all(|step| is_citing_apart(label, step))
+}
+
+/// Whether an assertion is one over the prelude, within the limits, whose proof cites no label `L.k` where its own is L. Nothing else of
+/// labels, or of what steps name, is looked at.
 ///
-/// It takes no memory, and about as many turns as the assertion has symbols, pairs and hypotheses.
+/// It takes no memory, and about as many turns as the assertion has symbols, pairs, hypotheses and steps.
 pub fn fits(prelude: &Prelude, assertion: &Assertion) -> bool
     ensures { IsTrue result ↔ Fits prelude.now assertion.now }
 {
@@ -103,9 +123,10 @@ pub fn fits(prelude: &Prelude, assertion: &Assertion) -> bool
         && are_hypotheses(prelude, assertion.hyps.as_slice())
         && are_restrictions(prelude.floats().len(), assertion.pairs.as_slice())
         && is_proof_of(assertion.kind, assertion.proof.as_slice())
+        && are_citing_apart(assertion.label.as_slice(), assertion.proof.as_slice())
 }
 
-/// Whether an assertion over the prelude may have a label: 1 to 255 letters, digits, `-` and `_`, and no name of the prelude.
+/// Whether an assertion over the prelude may have a label: 1 to 255 letters, digits, `-`, `_` and `.`, and no name of the prelude.
 ///
 /// One look-up in a map.
 pub fn is_lawful_label(prelude: &Prelude, label: &[u8]) -> bool
@@ -114,6 +135,5 @@ pub fn is_lawful_label(prelude: &Prelude, label: &[u8]) -> bool
     label.len() >= 1
         && label.len() <= 255
         && is_label_token(label)
-        && !contains_dot(label)
         && !prelude.look_up(label).is_some()
 }

@@ -14,7 +14,7 @@ mod symbols;
 
 pub use database::Database;
 pub use dotted::{hypothesis_number, is_dotted, trunk};
-pub use fitting::{fits, is_lawful_label};
+pub use fitting::{are_citing_apart, fits, is_lawful_label};
 pub use label::Label;
 pub use prelude::Prelude;
 pub use sequence::Sequence;

@@ -3,7 +3,7 @@ use Rattle.std.specs.Prelude.{ℕ, List, ◌∷◌, ◌++◌, codes}
 use Rattle.std.specs.Fmt.{decimal}
 use Rattle.mmtext.specs.declared.fault.FaultKind.{FaultKind}
 use Rattle.mmtext.specs.declared.fault.FaultKind.TheVariants.{BadByte, BadToken, Unfinished, OutOfProfile, UnknownSymbol}
-use Rattle.mmtext.specs.declared.fault.FaultKind.TheVariants.{RepeatedLabel, BadLabel, NoTypeFor, TooLong, NoMemory}
+use Rattle.mmtext.specs.declared.fault.FaultKind.TheVariants.{RepeatedLabel, BadLabel, NoTypeFor, TooLong, NoMemory, LabelClashes}
 use Rattle.mmtext.specs.declared.fault.TextFault.{TextFault}
 
 -- numbers from 1
@@ -18,6 +18,7 @@ number_of BadLabel = 7
 number_of NoTypeFor = 8
 number_of TooLong = 9
 number_of NoMemory = 10
+number_of LabelClashes = 11
 
 -- the names as messages print them
 abbrev pub name_of : FaultKind → List ℕ
@@ -31,6 +32,7 @@ name_of BadLabel = codes "BadLabel"
 name_of NoTypeFor = codes "NoTypeFor"
 name_of TooLong = codes "TooLong"
 name_of NoMemory = codes "NoMemory"
+name_of LabelClashes = codes "LabelClashes"
 
 -- number, space, name
 abbrev pub numbered_name : ℕ → List ℕ → List ℕ

@@ -31,6 +31,8 @@ pub enum FaultKind {
     TooLong,
     /// Memory ran out.
     NoMemory,
+    /// A label `L.k` beside the label L.
+    LabelClashes,
 }
 
 /// The first fault of a text.
@@ -46,7 +48,7 @@ impl FaultKind {
     ghost use Rattle.std.specs.Prelude.{◌≡◌};
     ghost use Rattle.mmtext.specs.FaultNames.{number_of, name_of};
 
-    /// The number of the kind, from 1 to 10.
+    /// The number of the kind, from 1 to 11.
     pub fn number(self) -> u32
         ensures { result ≡ number_of self }
     {
@@ -61,6 +63,7 @@ impl FaultKind {
             FaultKind::NoTypeFor => 8,
             FaultKind::TooLong => 9,
             FaultKind::NoMemory => 10,
+            FaultKind::LabelClashes => 11,
         }
     }
 
@@ -79,6 +82,7 @@ impl FaultKind {
             FaultKind::NoTypeFor => "NoTypeFor",
             FaultKind::TooLong => "TooLong",
             FaultKind::NoMemory => "NoMemory",
+            FaultKind::LabelClashes => "LabelClashes",
         }
     }
 }

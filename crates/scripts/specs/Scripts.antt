@@ -36,10 +36,11 @@ counted_from_0 None = None
 counted_from_0 (Some zero) = None
 counted_from_0 (Some (suc k)) = Some k
 
--- a word behind `count` steps of another proof of L: as in a text, but L.k is the k-th hypothesis, whether there is one or not
+-- a word behind `count` steps of another proof of L: as in a text, but L.k is the k-th hypothesis, whether there is one or not, and so
+-- never clashes
 unfoldable pub other_step_of : Tables → Word → ℕ → Word → Result Step FaultKind
 other_step_of t label count w =
-    unless_faulty (first_fault (step_tests count w)) (step_named w (float_named (meaning t w)) (counted_from_0 (hypothesis_numbered label w)))
+    unless_faulty (first_fault (step_tests count w)) (step_named label w (float_named (meaning t w)) (counted_from_0 (hypothesis_numbered label w)))
 
 -- the words of another proof of L behind `front` steps, and all steps
 abbrev pub OtherSteps : Tables → Word → List Step → List Word → List Step → Type 0

@@ -1,7 +1,7 @@
 //! The tests of labels and symbols, in order.
 
 ghost use Rattle.std.specs.Prelude.{◌≡◌, ◌==◌};
-ghost use Rattle.mmsyntax.specs.Rows.{first_fault, symbol_tests, label_tests, symbol_named, unless_full, symbol_of};
+ghost use Rattle.mmsyntax.specs.Rows.{first_fault, symbol_tests, float_label_tests, assertion_label_tests, symbol_named, unless_full, symbol_of};
 ghost use Rattle.mmsyntax.specs.Blocks.{hypothesis_label_tests};
 ghost use Rattle.mmreader.specs.Views.{known_of};
 
@@ -14,6 +14,8 @@ use mmtext::{FaultKind, contains_dollar, contains_dot, names_hypothesis};
 pub(crate) const MOST_LABEL_BYTES: usize = 255;
 /// The most bytes of the label of a `$e`: in canonical layout it has a dot and a number behind that of its assertion.
 const MOST_HYPOTHESIS_LABEL_BYTES: usize = 260;
+/// The most assertions of a database.
+const MOST_ASSERTIONS: usize = 4096;
 /// The most hypotheses of a block.
 const MOST_HYPOTHESES: usize = 1000;
 /// The most constants, and variables, and `$f`, and symbols of an expression, and pairs of a block.
@@ -46,15 +48,13 @@ pub(crate) fn symbol_fault(
     None
 }
 
-/// The fault of the label of a `$f`, `$a` or `$p`, where `count` of `limit` stand.
-pub(crate) fn label_fault(
+/// The fault of the label of a `$f`.
+pub(crate) fn float_label_fault(
     symbols: &SymbolTable,
     units: &Units,
-    count: usize,
-    limit: usize,
     word: &[u8],
 ) -> Option<FaultKind>
-    ensures { result ≡ first_fault (label_tests (known_of symbols.now units.now) count limit word.now) }
+    ensures { result ≡ first_fault (float_label_tests (known_of symbols.now units.now) word.now) }
 {
     if contains_dot(word) || word.len() > MOST_LABEL_BYTES {
         return Some(FaultKind::BadLabel);
@@ -62,7 +62,30 @@ pub(crate) fn label_fault(
     if has_name(symbols, units, word) {
         return Some(FaultKind::RepeatedLabel);
     }
-    if count >= limit {
+    if symbols.floats().len() >= MOST_SYMBOLS {
+        return Some(FaultKind::TooLong);
+    }
+    None
+}
+
+/// The fault of the label of a `$a` or `$p`.
+pub(crate) fn assertion_label_fault(
+    symbols: &SymbolTable,
+    units: &Units,
+    word: &[u8],
+) -> Option<FaultKind>
+    ensures { result ≡ first_fault (assertion_label_tests (known_of symbols.now units.now) word.now) }
+{
+    if word.len() > MOST_LABEL_BYTES {
+        return Some(FaultKind::BadLabel);
+    }
+    if has_name(symbols, units, word) {
+        return Some(FaultKind::RepeatedLabel);
+    }
+    if units.has_clash(word) {
+        return Some(FaultKind::LabelClashes);
+    }
+    if units.count() >= MOST_ASSERTIONS {
         return Some(FaultKind::TooLong);
     }
     None

@@ -1,7 +1,6 @@
 //! The words of `$d` and the steps of proofs.
 
 ghost use Rattle.std.specs.Prelude.{◌≡◌, ◌==◌, None, IfOk};
-ghost use Rattle.mmtext.specs.Words.{has_dot};
 ghost use Rattle.std.specs.List.{list_any};
 ghost use Rattle.mmsyntax.specs.Tables.{meaning};
 ghost use Rattle.mmsyntax.specs.Rows.{first_fault};
@@ -14,8 +13,8 @@ use super::labels::{MOST_LABEL_BYTES, MOST_SYMBOLS};
 use crate::block::Block;
 use crate::place::Scope;
 use crate::recent::Recalled;
-use mmsyntax::{Label, Name, Step, SymbolTable};
-use mmtext::{FaultKind, contains_dollar, contains_dot, is_label_token};
+use mmsyntax::{Label, Name, Step, SymbolTable, is_dotted};
+use mmtext::{FaultKind, contains_dollar, is_label_token};
 use std::alloc::{AllocError, Global};
 
 /// The most steps of a proof.
@@ -106,36 +105,40 @@ fn float_named(name: Option<Name>) -> Option<u32>
     }
 }
 
-/// The step that a word is which is the label of no `$f`, where it names, if any, the hypothesis at a place; or why it is none.
+/// The step that a word is in the proof of the assertion with a label, where it is the label of no `$f` and names, if any, the hypothesis at
+/// a place; or why it is none.
 fn labelled_step(
     alloc: Global,
+    label: &[u8],
     hypothesis: Option<u32>,
     word: &[u8],
-    is_dotted: bool,
 ) -> Result<Result<Step, FaultKind>, AllocError>
-    requires { is_dotted ≡ has_dot word.now }
-    ensures { IfOk result (λ r. r ≡ step_named word.now None hypothesis) }
+    ensures { IfOk result (λ r. r ≡ step_named label.now word.now None hypothesis) }
 {
     if let Some(n) = hypothesis {
         return Ok(Ok(Step::Hyp(n)));
     }
-    if is_dotted || word.len() > MOST_LABEL_BYTES {
+    if word.len() > MOST_LABEL_BYTES {
         return Ok(Err(FaultKind::BadLabel));
+    }
+    if is_dotted(label, word) {
+        return Ok(Err(FaultKind::LabelClashes));
     }
     Ok(Ok(Step::Cite(Label::from_slice(alloc, word)?)))
 }
 
-/// The step that a word is behind `count` steps of a proof where it names, if any, the hypothesis at a place; or why it is none. No
-/// assertion is looked up.
+/// The step that a word is behind `count` steps of a proof of the assertion with a label, where it names, if any, the hypothesis at a place;
+/// or why it is none. No assertion is looked up.
 pub fn named_step(
     alloc: Global,
     symbols: &SymbolTable,
+    label: &[u8],
     hypothesis: Option<u32>,
     count: usize,
     word: &[u8],
 ) -> Result<Result<Step, FaultKind>, AllocError>
     ensures { IfOk result (λ r. r ≡ unless_faulty (first_fault (step_tests count word.now))
-        (step_named word.now (float_named (meaning symbols.now word.now)) hypothesis)) }
+        (step_named label.now word.now (float_named (meaning symbols.now word.now)) hypothesis)) }
 {
     if let Some(kind) = step_fault(count, word) {
         return Ok(Err(kind));
@@ -143,36 +146,37 @@ pub fn named_step(
     if let Some(j) = float_named(symbols.look_up(word)) {
         return Ok(Ok(Step::Float(j)));
     }
-    labelled_step(alloc, hypothesis, word, contains_dot(word))
+    labelled_step(alloc, label, hypothesis, word)
 }
 
-/// The step that a word is behind `count` steps of a proof, or why it is none.
+/// The step that a word is behind `count` steps of a proof of the assertion with a label, or why it is none.
 #[tactic(auto, unfolding(mmsyntax::specs::Steps::step_of))]
 pub(crate) fn step_at(
     alloc: Global,
     symbols: &SymbolTable,
+    label: &[u8],
     scope: &Scope<'_>,
     count: usize,
     word: &[u8],
 ) -> Result<Result<Step, FaultKind>, AllocError>
-    ensures { IfOk result (λ r. r ≡ step_of symbols.now (block_of (seen_scope scope.now)).hyps count word.now) }
+    ensures { IfOk result (λ r. r ≡ step_of symbols.now label.now (block_of (seen_scope scope.now)).hyps count word.now) }
 {
-    named_step(alloc, symbols, hypothesis_in(scope, word), count, word)
+    named_step(alloc, symbols, label, hypothesis_in(scope, word), count, word)
 }
 
 /// The step that a word is by what is known of it, or why it is none. Of a `$f` the block isn't asked.
 pub(crate) fn recalled_step(
     alloc: Global,
+    label: &[u8],
     scope: &Scope<'_>,
     known: Recalled<'_>,
 ) -> Result<Result<Step, FaultKind>, AllocError>
-    requires { known.is_dotted ≡ has_dot known.word.now }
-    ensures { IfOk result (λ r. r ≡ step_named known.entry.word.now (float_named known.entry.name)
+    ensures { IfOk result (λ r. r ≡ step_named label.now known.entry.word.now (float_named known.entry.name)
         (hypothesis_named (block_of (seen_scope scope.now)).hyps known.entry.word.now)) }
 {
     if let Some(j) = float_named(known.name) {
         return Ok(Ok(Step::Float(j)));
     }
     let hypothesis = hypothesis_in(scope, known.word);
-    labelled_step(alloc, hypothesis, known.word, known.is_dotted)
+    labelled_step(alloc, label, hypothesis, known.word)
 }

@@ -9,7 +9,7 @@ ghost use Rattle.mmtext.specs.declared.mark.Mark.TheVariants.{Floating, Essentia
 ghost use Rattle.mmreader.specs.Standing.{Stands};
 ghost use Rattle.mmreader.specs.Views.{seen_scope, seen_behind, seen_unit_place, known_of, Leads};
 
-use super::labels::{MOST_SYMBOLS, hypothesis_label_fault, label_fault, symbol_at};
+use super::labels::{assertion_label_fault, float_label_fault, hypothesis_label_fault, symbol_at};
 use super::steps::{restrict, step_at};
 use crate::block::Block;
 use crate::known::Units;
@@ -17,9 +17,6 @@ use crate::place::{Behind, Place, PreludePlace, Scope, Theorem, UnitPlace};
 use mmsyntax::{Assertion, Kind, Label, Sequence, Step, Symbol, SymbolTable};
 use mmtext::{FaultKind, Mark, Stop, Token, fault_at, is_label_token};
 use std::alloc::{AllocError, Global};
-
-/// The most assertions of a database.
-const MOST_ASSERTIONS: usize = 4096;
 
 /// Start of a statement, outermost.
 fn outermost<'a>(
@@ -111,8 +108,7 @@ fn float_keyword<'a>(
     if units.is_prelude_closed() {
         return Err(fault_at(token, FaultKind::OutOfProfile));
     }
-    let count = symbols.floats().len();
-    match label_fault(symbols, units, count, MOST_SYMBOLS, label.text) {
+    match float_label_fault(symbols, units, label.text) {
         Some(kind) => Err(fault_at(label, kind)),
         None => Ok(Place::Prelude(PreludePlace::FloatType(label.text))),
     }
@@ -159,7 +155,7 @@ fn keyword<'a>(
         Mark::Floating => float_keyword(symbols, units, scope, label, token),
         Mark::Essential => hypothesis_keyword(alloc, symbols, units, scope, label, token),
         Mark::Axiom => {
-            match label_fault(symbols, units, units.count(), MOST_ASSERTIONS, label.text) {
+            match assertion_label_fault(symbols, units, label.text) {
                 Some(kind) => Err(fault_at(label, kind)),
                 None => {
                     let place = UnitPlace::InAxiom(scope, label.text, Vec::new(alloc));
@@ -168,7 +164,7 @@ fn keyword<'a>(
             }
         }
         Mark::Provable => {
-            match label_fault(symbols, units, units.count(), MOST_ASSERTIONS, label.text) {
+            match assertion_label_fault(symbols, units, label.text) {
                 Some(kind) => Err(fault_at(label, kind)),
                 None => {
                     let place = UnitPlace::InTheorem(scope, label.text, Vec::new(alloc));
@@ -355,7 +351,7 @@ fn proof_step<'a>(
         units.add_assertion(alloc, assertion)?;
         return Ok(next.place());
     }
-    match step_at(alloc, symbols, &scope, steps.len(), token.text)? {
+    match step_at(alloc, symbols, label, &scope, steps.len(), token.text)? {
         Ok(step) => {
             steps.push(step)?;
             let theorem = Theorem {

@@ -17,22 +17,23 @@ use mmsyntax::{Step, Symbol, SymbolTable};
 use mmtext::{FaultKind, Stop, Token, fault_at};
 use std::alloc::{AllocError, Global};
 
-/// The step that a word is of which all is known, behind `count` steps of a proof, or why it is none.
+/// The step that a word is of which all is known, behind `count` steps of a proof of the assertion with a label, or why it is none.
 #[tactic(auto, unfolding(mmsyntax::specs::Steps::step_of))]
 fn known_step(
     alloc: Global,
     symbols: &SymbolTable,
+    label: &[u8],
     scope: &Scope<'_>,
     count: usize,
     known: Recalled<'_>,
 ) -> Result<Result<Step, FaultKind>, AllocError>
     requires { IsTrueOf symbols.now known }
-    ensures { IfOk result (λ r. r ≡ step_of symbols.now (block_of (seen_scope scope.now)).hyps count known.entry.word.now) }
+    ensures { IfOk result (λ r. r ≡ step_of symbols.now label.now (block_of (seen_scope scope.now)).hyps count known.entry.word.now) }
 {
     if !known.is_label || count >= MOST_STEPS {
-        return step_at(alloc, symbols, scope, count, known.word);
+        return step_at(alloc, symbols, label, scope, count, known.word);
     }
-    recalled_step(alloc, scope, known)
+    recalled_step(alloc, label, scope, known)
 }
 
 /// Puts the symbol that a word is behind others. A word with a `$` is left: whether it had none.
@@ -74,14 +75,14 @@ fn take_step<'a>(
     ensures knows { Knows symbols.now recent.new }
     ensures kept { OnOk result (theorem.new ≡ record theorem.old { steps = theorem.new.steps }) }
     ensures taken { TakesItem (seen token.entry) theorem.old.steps.items theorem.new.steps.items
-        (step_of symbols.now (block_of (seen_scope theorem.old.scope)).hyps (length theorem.old.steps.items) token.entry.text.now) result }
+        (step_of symbols.now theorem.old.label.now (block_of (seen_scope theorem.old.scope)).hyps (length theorem.old.steps.items) token.entry.text.now) result }
 {
     let known = recent.look_up(alloc, symbols, token.text)?;
     if known.with_dollar {
         return Ok(false);
     }
     let count = theorem.steps.len();
-    match known_step(alloc, symbols, &theorem.scope, count, known)? {
+    match known_step(alloc, symbols, theorem.label, &theorem.scope, count, known)? {
         Ok(step) => {
             theorem.steps.push(step)?;
             Ok(true)

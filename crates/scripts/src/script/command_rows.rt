@@ -90,7 +90,7 @@ fn other_step(
     ensures { IfOk result (λ r. r ≡ other_step_of prelude.now label.now count word.now) }
 {
     let hypothesis = hypothesis_place(label, word);
-    named_step(alloc, prelude.symbols(), hypothesis, count, word)
+    named_step(alloc, prelude.symbols(), label, hypothesis, count, word)
 }
 
 /// A step of another proof, or the `$.` behind one.
