@@ -18,6 +18,7 @@ use Rattle.mmsyntax.specs.Rows.{with_assertion}
 use Rattle.mmsyntax.specs.Grammar.{DeclaresConstants, DeclaresVariables}
 pub use Rattle.mmsyntax.specs.Preludes.{IsSymbolWord, IsLabelWord, IsFloatSound, AreSound, variables_used}
 use Rattle.mmsyntax.specs.Assertions.{Distinct, IsUnit, is_lawful_label}
+use Rattle.mmsyntax.specs.Dotted.{AreApart}
 use Rattle.mmsyntax.proofs.Names.{place_of-at, variable_from_named, bytes_eq-sym}
 use Rattle.mmsyntax.proofs.Distinct.{distinct_insert, float_labels, labels_of, prelude_names, is_some-meaning, is_some-place_of, IsNew}
 use Rattle.mmsyntax.proofs.Distinct.{new_word, all_push, all_weaker}
@@ -33,6 +34,7 @@ pub record IsSound (k : Known) : Type 0 where
   pub units : AllByRecursion (IsUnit k.tables) k.units.assertions
   pub lawful : AllByRecursion (λ a. IsTrue (is_lawful_label k.tables a.label)) k.units.assertions
   pub distinct : Distinct bytes_eq (labels_of k.units.assertions)
+  pub apart : AreApart (labels_of k.units.assertions)
   pub few : length k.units.assertions ≤ 4096
   pub unclosed : IsTrue (in_prelude k) → k.units.assertions ≡ []
 
