@@ -84,9 +84,10 @@ pub distinct_plain : (t : Tables) (vs : List ℕ) (ps : List (ℕ × ℕ)) (w : 
 unfolding distinct_of
 distinct_plain t vs ps w j h = (if_ok (has_dollar w) BadToken _ j h).0
 
-pub step_plain : (t : Tables) (hyps : List Hypothesis) (n : ℕ) (w : Word) (x : Step) → step_of t hyps n w ≡ Ok x → has_dollar w ≡ false
+pub step_plain : (t : Tables) (label : Word) (hyps : List Hypothesis) (n : ℕ) (w : Word) (x : Step) → step_of t label hyps n w ≡ Ok x
+    → has_dollar w ≡ false
 unfolding step_of
-step_plain t hyps n w x h = second (bytes_eq w (codes "?") || bytes_eq w (codes "(")) (has_dollar w) _ _ x h
+step_plain t label hyps n w x h = second (bytes_eq w (codes "?") || bytes_eq w (codes "(")) (has_dollar w) _ _ x h
   where
     second : (a b : Bool) (o : Option FaultKind) (r : Result Step FaultKind) (x : Step)
         → unless_faulty (cond a (Some OutOfProfile) (cond b (Some BadToken) o)) r ≡ Ok x → b ≡ false

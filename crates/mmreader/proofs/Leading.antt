@@ -196,7 +196,7 @@ module _ {A : Type 0} (l : Language Position A) (on : GoesOnInside l) where
   pub steps_lead : (k : Known) (s : Scope) (label : Word) (e : List Symbol) (q : List Step → Position)
       → ((steps : List Step) (t : Token) → steps ≢ [] → t.text ≡ codes "$." → row (there k (in_proof s label e steps)) t ≡ Ok (q steps))
       → (front : List Step) (ws : List Word) (steps : List Step) (ts : List Token) (more : List Word) (final : Result Position TextFault)
-      → StepsAfter k.tables (block_of s).hyps front ws steps → (front ≢ []) ⊎ (ws ≢ []) → words_of ts ≡ ws ++ codes "$." ∷ more
+      → StepsAfter k.tables label (block_of s).hyps front ws steps → (front ≢ []) ⊎ (ws ≢ []) → words_of ts ≡ ws ++ codes "$." ∷ more
       → ((rest : List Token) → words_of rest ≡ more → walk l (q steps) rest ≡ final)
       → walk l (there k (in_proof s label e front)) ts ≡ final
   steps_lead k s label e q last front [] steps ts more final d n h next =
@@ -209,8 +209,8 @@ module _ {A : Type 0} (l : Language Position A) (on : GoesOnInside l) where
       final h (on k (in_proof s label e front) tt)
       (λ t g.
       let hyps = (block_of s).hyps in
-      let read : step_of k.tables hyps (length front) t.text ≡ Ok d.0 = ap (step_of k.tables hyps (length front)) g ∙ d.1 in
-      row_at k (in_proof s label e front) t mark.Plain _ (mark_plain t.text (step_plain k.tables hyps (length front) t.text d.0 read))
+      let read : step_of k.tables label hyps (length front) t.text ≡ Ok d.0 = ap (step_of k.tables label hyps (length front)) g ∙ d.1 in
+      row_at k (in_proof s label e front) t mark.Plain _ (mark_plain t.text (step_plain k.tables label hyps (length front) t.text d.0 read))
       (step_at k s label e front t ∙ ap (λ r. given t r (λ x. at k (in_proof s label e (front ++ x ∷ [])))) read))
       (λ rest o. steps_lead k s label e q last (front ++ d.0 ∷ []) ws steps rest more final d.2 (inl (some_more front d.0)) o next)
 

@@ -62,12 +62,12 @@ restricted_ordinary t b vs (w ∷ ws) held d =
     All-cons IsOrdinary w ws (plain_is_ordinary w (distinct_plain t vs b.pairs w d.0 d.1))
     (restricted_ordinary t (with_distinct b vs d.0) (vs ++ d.0 ∷ []) ws held d.2)
 
-steps_ordinary : (t : Tables) (hyps : List Hypothesis) (front : List Step) (ws : List Word) (steps : List Step)
-    → StepsAfter t hyps front ws steps → All IsOrdinary ws
-steps_ordinary t hyps front [] steps d = All-nil IsOrdinary
-steps_ordinary t hyps front (w ∷ ws) steps d =
-    All-cons IsOrdinary w ws (plain_is_ordinary w (step_plain t hyps (length front) w d.0 d.1))
-    (steps_ordinary t hyps (front ++ d.0 ∷ []) ws steps d.2)
+steps_ordinary : (t : Tables) (l : Word) (hyps : List Hypothesis) (front : List Step) (ws : List Word) (steps : List Step)
+    → StepsAfter t l hyps front ws steps → All IsOrdinary ws
+steps_ordinary t l hyps front [] steps d = All-nil IsOrdinary
+steps_ordinary t l hyps front (w ∷ ws) steps d =
+    All-cons IsOrdinary w ws (plain_is_ordinary w (step_plain t l hyps (length front) w d.0 d.1))
+    (steps_ordinary t l hyps (front ++ d.0 ∷ []) ws steps d.2)
 
 -- ---- statements
 
@@ -81,7 +81,7 @@ claim_ordinary k b (proved w ws ps) a d =
     All-cons IsOrdinary w (codes "$p" ∷ (ws ++ codes "$=" ∷ (ps ++ codes "$." ∷ []))) (label w d.0)
     (All-cons IsOrdinary (codes "$p") _ keywords.4
     (All-append IsOrdinary ws (codes "$=" ∷ (ps ++ codes "$." ∷ [])) (symbols_ordinary k.tables [] ws n.0 n.2)
-    (All-cons IsOrdinary (codes "$=") _ keywords.9 (ended ps (steps_ordinary k.tables b.hyps [] ps n.1 n.3)))))
+    (All-cons IsOrdinary (codes "$=") _ keywords.9 (ended ps (steps_ordinary k.tables w b.hyps [] ps n.1 n.3)))))
 
 piece_ordinary : (k : Known) (b : Block) (p : Piece) (after : Known) (held : Block) → Holds k b p after held
     → All IsOrdinary (piece_spelling p)

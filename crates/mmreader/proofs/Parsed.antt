@@ -74,7 +74,7 @@ pub record ReadsSteps {A : Type 0} (l : Language Position A) (k : Known) (s : Sc
   pub whole : List Step
   pub parts : words_of ts ≡ words ++ codes "$." ∷ words_of rest
   pub any : (front ≢ []) ⊎ (words ≢ [])
-  pub read : StepsAfter k.tables (block_of s).hyps front words whole
+  pub read : StepsAfter k.tables label (block_of s).hyps front words whole
   pub walks : walk l (theorem_end k s label e whole) rest ≡ Ok final
   pub shorter : length rest < length ts
 

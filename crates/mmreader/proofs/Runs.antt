@@ -18,7 +18,7 @@ use Rattle.mmreader.specs.declared.place.PreludePlace.TheVariants as prelude
 use Rattle.mmtext.specs.Words.{Word, has_dollar, is_label}
 use Rattle.mmtext.specs.Text.{Token, mark_of}
 use Rattle.mmsyntax.specs.Tables.{Tables, meaning}
-use Rattle.mmsyntax.specs.Rows.{Known, Units, in_prelude, is_used, first_fault, label_tests, float_label_tests, assertion_label_tests}
+use Rattle.mmsyntax.specs.Rows.{Known, Units, in_prelude, is_used, first_fault, float_label_tests, assertion_label_tests}
 use Rattle.mmsyntax.specs.Rows.{symbol_tests, symbol_of, type_of, variable_of, variable_named, with_constant, with_variable}
 use Rattle.mmsyntax.specs.Rows.{with_assertion}
 use Rattle.mmsyntax.specs.Blocks.{Block, hypothesis_label_tests, distinct_of, with_distinct, axiom_of, theorem_of}
@@ -53,13 +53,13 @@ ok_given Q t (Err kind) next h = tt
 
 -- ---- tests that passed
 
-pub label_free : (k : Known) (count limit : ℕ) (w : Word) → first_fault (label_tests k count limit w) ≡ None
-    → (meaning k.tables w ≡ None) × (count < limit)
-label_free k count limit w h =
+float_free : (k : Known) (w : Word) → first_fault (float_label_tests k w) ≡ None
+    → (meaning k.tables w ≡ None) × (length k.tables.floats < 65535)
+float_free k w h =
     let one = cond_none _ _ _ h in
     let two = cond_none _ _ _ one.1 in
     let three = cond_none _ _ _ two.1 in
-    (none_is (meaning k.tables w) (or_parts _ _ two.0).0, leb-false limit count three.0)
+    (none_is (meaning k.tables w) (or_parts _ _ two.0).0, leb-false 65535 (length k.tables.floats) three.0)
 
 room_left : (k : Known) (b : Block) (w : Word) → first_fault (hypothesis_label_tests k b w) ≡ None → length b.hyps < 1000
 room_left k b w h =
@@ -109,7 +109,7 @@ keyword_stands : (k : Known) (s : Scope) (label t : Token) (m : Mark) → IsRoom
 keyword_stands k outside label t mark.Floating h =
     ok_cond StandsAt (in_prelude k) (tested label (float_label_tests k label.text) (at k (float_type label.text))) (fault t OutOfProfile)
     (ok_faulted StandsAt label (first_fault (float_label_tests k label.text)) (at k (float_type label.text))
-    (λ e. label_free k (length k.tables.floats) 65535 label.text e)) tt
+    (λ e. float_free k label.text e)) tt
 keyword_stands k (inside b) label t mark.Floating h = tt
 keyword_stands k outside label t mark.Essential h = tt
 keyword_stands k (inside b) label t mark.Essential h =
@@ -173,7 +173,7 @@ proof_stands : (k : Known) (s : Scope) (label : Word) (e : List Symbol) (steps :
     → OkStands (proof_row k s label e steps t m)
 proof_stands k s label e (x ∷ steps) t mark.End h = behind_stands (with_assertion k (theorem_of (block_of s) label e (x ∷ steps))) s
 proof_stands k s label e steps t m h =
-    ok_given StandsAt t (step_of k.tables (block_of s).hyps (length steps) t.text) (λ x. at k (in_proof s label e (steps ++ x ∷ [])))
+    ok_given StandsAt t (step_of k.tables label (block_of s).hyps (length steps) t.text) (λ x. at k (in_proof s label e (steps ++ x ∷ [])))
     (λ x g. h)
 
 place_stands : (k : Known) (p : Place) (t : Token) (m : Mark) → Stands k p → OkStands (in_place k p t m)
@@ -296,7 +296,7 @@ proof_unit : (k : Known) (s : Scope) (label : Word) (e : List Symbol) (steps : L
     → k.units.prelude_closed ≡ true → OnPlace UnitAt (proof_row k s label e steps t m)
 proof_unit k s label e (x ∷ steps) t mark.End c = behind_unit (with_assertion k (theorem_of (block_of s) label e (x ∷ steps))) s refl
 proof_unit k s label e steps t m c =
-    ok_given UnitAt t (step_of k.tables (block_of s).hyps (length steps) t.text) (λ x. at k (in_proof s label e (steps ++ x ∷ [])))
+    ok_given UnitAt t (step_of k.tables label (block_of s).hyps (length steps) t.text) (λ x. at k (in_proof s label e (steps ++ x ∷ [])))
     (λ x g. (c, tt))
 
 place_unit : (k : Known) (p : Place) (t : Token) (m : Mark) → k.units.prelude_closed ≡ true → InUnit p → OnPlace UnitAt (in_place k p t m)

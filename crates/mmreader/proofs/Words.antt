@@ -50,13 +50,13 @@ step_passes count w l lt =
     ∙ cond-false (nat_le 16384 count) (Some TooLong) None (lt-leb 16384 count lt)
 
 -- the step of a label by what is kept of it
-pub recalled : (t : Tables) (hyps : List Hypothesis) (count : ℕ) (r : Recalled) → IsTrueOf t r → r.is_label ≡ true → count < 16384
-    → step_named r.word.now (float_named r.name) (hypothesis_named hyps r.word.now) ≡ step_of t hyps count r.word.now
+pub recalled : (t : Tables) (l : Word) (hyps : List Hypothesis) (count : ℕ) (r : Recalled) → IsTrueOf t r → r.is_label ≡ true → count < 16384
+    → step_named l r.word.now (float_named r.name) (hypothesis_named hyps r.word.now) ≡ step_of t l hyps count r.word.now
 unfolding step_of
-recalled t hyps count r kept label lt =
+recalled t l hyps count r kept label lt =
     let w = r.word.now in
-    ap (λ n. step_named w (float_named n) (hypothesis_named hyps w)) kept.names
-    ∙ sym (ap (λ o. unless_faulty o (step_named w (float_named (meaning t w)) (hypothesis_named hyps w)))
+    ap (λ n. step_named l w (float_named n) (hypothesis_named hyps w)) kept.names
+    ∙ sym (ap (λ o. unless_faulty o (step_named l w (float_named (meaning t w)) (hypothesis_named hyps w)))
     (step_passes count w (sym kept.label ∙ label) lt))
 
 -- ---- places

@@ -19,5 +19,5 @@ owner_of u w =
 -- the one map has the labels of the units, each with its owner, and no others; the other has each L of which some assertion has L.k as label
 pub record HasLabels (labels : HashMap (Vec ℕ Global) Owner RandomState) (trunks : HashMap (Vec ℕ Global) (Unit {0}) RandomState) (u : Units)
     : Type 0 where
-  pub owners : (w : List ℕ) → get_by (λ k. bytes_eq w k.items) labels ≡ owner_of u w
-  pub trunks : (w : List ℕ) → is_some (get_by (λ k. bytes_eq w k.items) trunks) ≡ list_any (λ a. is_dotted w a.label) u.assertions
+  pub owned : (w : List ℕ) → get_by (λ k. bytes_eq w k.items) labels ≡ owner_of u w
+  pub dotted : (w : List ℕ) → is_some (get_by (λ k. bytes_eq w k.items) trunks) ≡ list_any (λ a. is_dotted w a.label) u.assertions

@@ -134,8 +134,7 @@ impl Units {
     }
 
     fn with_assertion(self, alloc: Global, assertion: Assertion) -> Result<Units, AllocError>
-        ensures { IfOk result
-            (λ made. made ≡ record self.entry { assertions = self.entry.assertions ++ assertion.entry ∷ []; prelude_closed = true }) }
+        ensures { IfOk result (λ made. made ≡ record self { assertions = self.assertions ++ assertion ∷ []; prelude_closed = true }) }
     {
         let Units {
             mut assertions,

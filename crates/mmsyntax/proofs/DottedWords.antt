@@ -219,7 +219,7 @@ plain_not_dotted l w plain = elim (cases_Bool (is_dotted l w)) [
   | inr n ↦ n
 ]
 
-dotted_longer : (l w : Word) → is_dotted l w ≡ true → length l < length w
+pub dotted_longer : (l w : Word) → is_dotted l w ≡ true → length l < length w
 dotted_longer l w h =
     let p = dotted_parts l w h in
     let e : length w ≡ length l + suc (length (decimal p.k)) = ap length p.is ∙ length-append l (46 ∷ decimal p.k) in

@@ -1,8 +1,23 @@
 -- What is left to show of `add_hypothesis_label`.
-use Rattle.std.proofs.Common.{rules}
+use Rattle.std.proofs.Common.{sym, subst, rules, ◌∙◌, ◌++◌, ◌∷◌, []}
 use Rattle.mmsyntax.specs.Rows.{Units}
-use Rattle.mmreader.proofs.LabelMaps.{labelled_too}
+use Rattle.mmreader.specs.Labels.{HasLabels}
+use Rattle.mmreader.proofs.LabelMaps.{owners_still, owners_too}
 use Rattle.mmreader.proofs.known.Units.add_hypothesis_label.Goals as goal
+
+pub invariant_of-self-then-contains_key : goal.invariant_of-self-then-contains_key
+invariant_of-self-then-contains_key c =
+    let here : Units = record {
+      assertions = c.self.inside.assertions.items;
+      hypothesis_labels = c.self.inside.hypothesis_labels.items;
+      prelude_closed = c.self.inside.prelude_closed;
+    } in
+    subst (λ ls. HasLabels c.self.inside.labels c.self.inside.trunks (record here { hypothesis_labels = ls }))
+    (search rules)
+    (record {
+      owned = owners_still c.self.inside.labels here c.args.label.now c.self.invariant.owned (search rules);
+      dotted = c.self.invariant.dotted;
+    })
 
 pub invariant_of-self-in-Ok : goal.invariant_of-self-in-Ok
 invariant_of-self-in-Ok c =
@@ -11,6 +26,10 @@ invariant_of-self-in-Ok c =
       hypothesis_labels = c.self.inside.hypothesis_labels.items;
       prelude_closed = c.self.inside.prelude_closed;
     } in
-    labelled_too c.self.inside.labels c.insert.new.self c.in_ok-key.key here c.push.new.self.items c.args.label.now
-    c.self.inside.prelude_closed c.self.invariant
-    (search rules) (search rules) c.in-Ok.ensures.updates
+    subst (λ ls. HasLabels c.insert.new.self c.self.inside.trunks (record here { hypothesis_labels = ls }))
+    (search rules)
+    (record {
+      owned = owners_too c.self.inside.labels c.insert.new.self c.in_ok-key.key here c.args.label.now c.self.invariant.owned
+          (search rules) (search rules) c.in-Ok.ensures.updates;
+      dotted = c.self.invariant.dotted;
+    })
