@@ -140,8 +140,9 @@ impl<'a> Reader<'a> for DatabaseReader<'a> {
 ///   assertion for `$d` or a label; `BadToken` for what isn't `$d` or a label, and behind its assertion for what isn't `$}`.
 /// - Behind a label: `OutOfProfile` for `$f` in a block or behind an assertion, and for `$e` outermost; `BadToken` for what isn't `$f`,
 ///   `$e`, `$a` or `$p`.
-/// - At the label, once its keyword has passed: `BadLabel` if it is too long, or for `$f`, `$a` and `$p` has a `.`; `RepeatedLabel` if an
-///   earlier label, of a `$e` too, or a symbol is equal; `TooLong` where no more `$f`, `$e` or assertions may stand.
+/// - At the label, once its keyword has passed: `BadLabel` if it is too long, or for `$f` has a `.`; `RepeatedLabel` if an earlier label,
+///   of a `$e` too, or a symbol is equal; for `$a` and `$p` `LabelClashes` where it is `L.k` for the label L of an earlier assertion, or an
+///   earlier one has the label `L.k` for it, with k from 1 to 1,000; `TooLong` where no more `$f`, `$e` or assertions may stand.
 /// - In `$c` and `$v`: `BadToken` for a token with `$`, also a `$.` with no symbol before it; `TooLong` for a long symbol; `OutOfProfile`
 ///   for one as `a.1`, which a hypothesis may have as label; `RepeatedLabel` where an earlier symbol or label is equal; `TooLong` where
 ///   no more may stand.
@@ -152,8 +153,8 @@ impl<'a> Reader<'a> for DatabaseReader<'a> {
 /// - In `$e`, `$a` and `$p`: `BadToken` for a token with `$`, also an end with no symbol before it; `UnknownSymbol` where the first symbol
 ///   isn't a constant or a later one isn't declared; `NoTypeFor` for a variable without `$f`; `TooLong` for too many symbols.
 /// - In a proof: `OutOfProfile` for `?` and `(`; `BadToken` for a token with `$`, also a `$.` with no step before it, and for what isn't
-///   a label; `TooLong` for too many steps; `BadLabel` for a label that is too long or has a `.`, unless it is that of a `$f` or of a `$e`
-///   of the block.
+///   a label; `TooLong` for too many steps; unless it is that of a `$f` or of a `$e` of the block, `BadLabel` for a label that is too
+///   long, and `LabelClashes` for `L.k` in the proof of L, with k from 1 to 1,000.
 /// - `Unfinished` at the length of the text: it ends in a statement, in a block or in a comment.
 /// - `NoMemory`: memory ran out; its place is 0, whatever was read.
 pub fn read_database(alloc: Global, keys: RandomState, text: &[u8]) -> Result<Database, TextFault>
