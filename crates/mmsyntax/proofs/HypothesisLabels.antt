@@ -18,7 +18,7 @@ use Rattle.mmsyntax.proofs.DottedWords.{DottedParts, dotted_is, dotted_same, num
 
 -- ---- L.k and M.n
 
-own_parts : (l : Word) (k : ℕ) → l ≢ [] → 1 ≤ k → k ≤ 1000 → DottedParts l (hypothesis_label l k)
+abbrev own_parts : (l : Word) (k : ℕ) → l ≢ [] → 1 ≤ k → k ≤ 1000 → DottedParts l (hypothesis_label l k)
 own_parts l k some low high = record { some = some; k = k; low = low; high = high; is = refl }
 
 parts_dotted : (l w : Word) → DottedParts l w → is_dotted l w ≡ true
@@ -110,9 +110,9 @@ no_label (x ∷ labels) last n some low high clear =
     (no_label labels last n some low high both.1)
 
 -- the last of labels is the label of no hypothesis of it, or of an earlier
-pub not_numbered : (labels : List Word) (last w : Word) → list_any (λ l. clash l last) labels ≡ false → IsNumbered (labels ++ last ∷ []) w
-    → bytes_eq last w ≡ false
-not_numbered labels last w clear p = elim (cases_Bool (bytes_eq last w)) [
+pub not_numbered : (labels : List Word) (last : Word) → list_any (λ l. clash l last) labels ≡ false → (w : Word)
+    → IsNumbered (labels ++ last ∷ []) w → bytes_eq last w ≡ false
+not_numbered labels last clear w p = elim (cases_Bool (bytes_eq last w)) [
   | inl y ↦
       let dotted : is_dotted p.label last ≡ true = ap (is_dotted p.label) (same_bytes last w y) ∙ parts_dotted p.label w p.parts in
       let none : list_any (λ l. is_dotted l last) (labels ++ last ∷ []) ≡ false = none_dotted in
