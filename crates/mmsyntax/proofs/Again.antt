@@ -85,7 +85,8 @@ not_empty : (w : Word) → leb 1 (length w) ≡ true → w ≢ []
 not_empty [] h = absurd cc
 not_empty (b ∷ bs) h = λ e. absurd cc
 
-pub plain_label : (w : Word) (is_named : Bool) → (leb 1 (length w) && leb (length w) 255 && is_label w && not is_named) ≡ true → IsPlainLabel w is_named
+pub plain_label : (w : Word) (is_named : Bool) → (leb 1 (length w) && leb (length w) 255 && is_label w && not is_named) ≡ true
+    → IsPlainLabel w is_named
 plain_label w is_named h =
     let p = four_true (leb 1 (length w)) (leb (length w) 255) (is_label w) (not is_named) h in
     record { some = not_empty w p.0; short = le (length w) 255 p.1; label = p.2; new = not-true is_named p.3 }
@@ -260,7 +261,8 @@ module _ (t : Tables) (s : AreSound t) where
   module _ (label : Word) (some : label ≢ []) (is_l : is_label label ≡ true) (count : ℕ) (few : count ≤ 1000) where
     -- the word of a step is read as the step, however hypotheses are found
     pub named_again : (n : ℕ) (x : Step) (hyp : Option ℕ) → n < 16384 → IsNameable t count x → CitesApart label x → Finds x hyp
-        → let w = step_word t label x in unless_faulty (first_fault (step_tests n w)) (step_named label w (float_named (meaning t w)) hyp) ≡ Ok x
+        → let w = step_word t label x in
+        unless_faulty (first_fault (step_tests n w)) (step_named label w (float_named (meaning t w)) hyp) ≡ Ok x
     named_again n (FloatStep j) hyp room lt apart finds =
         let w = (float_at t.floats j).label in
         let f = (float_sound j lt).label in

@@ -26,7 +26,7 @@ use Rattle.mmsyntax.specs.Layout.{unit_of, unit_statement}
 use Rattle.mmsyntax.specs.Assertions.{IsExpression, IsPairOf, AreAscending, CitesApart, IsNameable, IsUnit, is_lawful_label, Distinct}
 use Rattle.mmsyntax.proofs.Names.{bytes_eq-sym}
 use Rattle.mmsyntax.proofs.Distinct.{any-map, distinct_front, labels_of, not_used, none_of, all_push, all_weaker}
-use Rattle.mmsyntax.proofs.Sound.{AreSound}
+use Rattle.mmsyntax.specs.Preludes.{AreSound}
 use Rattle.mmsyntax.proofs.Apart.{apart_front}
 use Rattle.mmsyntax.proofs.Units.{expressions}
 use Rattle.mmsyntax.proofs.Numbered.{number_label, number_short}

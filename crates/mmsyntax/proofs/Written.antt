@@ -24,7 +24,7 @@ use Rattle.mmsyntax.specs.Layout.{distinct_pieces, hypothesis_pieces, claim_of_k
 use Rattle.mmsyntax.specs.Assertions.{IsSymbolOf, IsExpression, IsPairOf, IsNameable, IsUnit, is_lawful_label}
 use Rattle.mmsyntax.proofs.Distinct.{all_append, all_map}
 use Rattle.mmsyntax.proofs.Lines.{IsWord, IsWritten}
-use Rattle.mmsyntax.proofs.Sound.{IsSymbolWord, IsFloatSound, AreSound}
+use Rattle.mmsyntax.specs.Preludes.{IsSymbolWord, IsFloatSound, AreSound}
 use Rattle.mmsyntax.proofs.Numbered.{differ, number_label, number_word}
 use Rattle.mmsyntax.proofs.Again.{IsPlainLabel, plain_label, label_word, plain_at, symbol_is_word, float_sound}
 
