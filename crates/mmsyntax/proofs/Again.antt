@@ -1,7 +1,7 @@
 -- The words of symbols, of pairs and of steps are read as these again.
 use Rattle.std.proofs.Common.{◌≡◌, ◌≢◌, ℕ, zero, suc, ◌^◌, ◌<◌, ◌≤◌, Bool, true, false, cond, eqb, leb, ltb, List, [], ◌∷◌, ◌++◌, length}
-use Rattle.std.proofs.Common.{get_or, drop, map, Option, Some, None, Result, Ok, Err, refl, sym, ap, subst, ◌∙◌, inl, inr, arith, append_assoc}
-use Rattle.std.proofs.Common.{length-append}
+use Rattle.std.proofs.Common.{get_or, drop, map, Option, Some, None, Ok, Err, refl, sym, ap, subst, ◌∙◌, inl, inr, arith, append_assoc}
+use Rattle.std.proofs.Common.{Result, length-append}
 use Rattle.std.specs.Prelude.{◌||◌, ◌&&◌, is_some, codes}
 use mathlib.Core.Bool.{not}
 use Rattle.std.specs.List.{list_any, AllByRecursion}
@@ -27,7 +27,8 @@ use Rattle.mmsyntax.specs.Blocks.{Hypothesis, with_pair, in_order, typed_named, 
 use Rattle.mmsyntax.specs.Steps.{step_tests, float_named, hypothesis_named, step_named, unless_faulty, step_of}
 use Rattle.mmsyntax.specs.Grammar.{ReadsAfter, Restricts, StepsAfter}
 use Rattle.mmsyntax.specs.Layout.{word_at, no_float, float_at, symbol_word, hypothesis_label, step_word}
-use Rattle.mmsyntax.specs.Assertions.{IsSymbolOf, BeginsWithConstant, IsExpression, IsPairOf, AreAscending, CitesApart, IsNameable, Distinct}
+use Rattle.mmsyntax.specs.Assertions.{IsSymbolOf, BeginsWithConstant, IsExpression, IsPairOf, AreAscending, IsNameable, Distinct}
+use Rattle.mmsyntax.specs.Assertions.{CitesApart}
 use Rattle.mmsyntax.specs.Preludes.{IsWord, IsSymbolWord, IsFloatSound, AreSound, variables_used}
 use Rattle.mmsyntax.specs.Dotted.{is_dotted}
 use Rattle.mmtext.proofs.Marks.{label_plain}

@@ -52,7 +52,8 @@ pub record IsEarlier (labels : List Word) (last : Word) (count : ℕ) (w : Word)
 any_more : (labels : List Word) (last w : Word) → list_any (bytes_eq w) labels ≡ true → list_any (bytes_eq w) (labels ++ last ∷ []) ≡ true
 any_more labels last w h = list_any-append (bytes_eq w) labels (last ∷ []) ∙ or_left (list_any (bytes_eq w) labels) _ h
 
-pub earlier : (labels : List Word) (last w : Word) → list_any (bytes_eq last) labels ≡ false → IsNumbered labels w → IsEarlier labels last 0 w
+pub earlier : (labels : List Word) (last w : Word) → list_any (bytes_eq last) labels ≡ false → IsNumbered labels w
+    → IsEarlier labels last 0 w
 earlier labels last w new p = record {
   numbered = record { label = p.label; parts = p.parts; of_one = any_more labels last p.label p.of_one };
   before = λ e. absurd (let f : true ≡ false = sym p.of_one ∙ ap (λ l. list_any (bytes_eq l) labels) e ∙ new in cc);
@@ -154,12 +155,14 @@ made_named label n m i [] some e lt few = absurd (omega arith)
 made_named label n m zero (x ∷ es) some e lt few =
     let same : m ≡ n = omega arith in
     cond-true (bytes_eq (hypothesis_label label (suc m)) (hypothesis_label label (suc n))) (Some 0) _
-    (ap (λ k. bytes_eq (hypothesis_label label (suc k)) (hypothesis_label label (suc n))) same ∙ bytes_eq-same (hypothesis_label label (suc n)))
+    (ap (λ k. bytes_eq (hypothesis_label label (suc k)) (hypothesis_label label (suc n))) same
+    ∙ bytes_eq-same (hypothesis_label label (suc n)))
 made_named label n m (suc i) (x ∷ es) some e lt few =
     let v = hypothesis_label label (suc m) in
     let w = hypothesis_label label (suc n) in
     let own : (k : ℕ) → k < 1000 → DottedParts label (hypothesis_label label (suc k)) =
     λ k lt. own_parts label (suc k) some (omega arith) (omega arith) in
-    let apart = parts_apart label label v w (own m (omega arith)) (own n (omega arith)) (λ a b. let same : suc m ≡ suc n = b in omega arith) in
+    let apart = parts_apart label label v w (own m (omega arith)) (own n (omega arith))
+    (λ a b. let same : suc m ≡ suc n = b in omega arith) in
     cond-false (bytes_eq v w) (Some 0) (option_map (λ k. suc k) (hypothesis_named (made label (suc n) es) v)) apart
     ∙ ap (λ o. option_map (λ k. suc k) o) (made_named label (suc n) m i es some (omega arith) (omega arith) (omega arith))
