@@ -3,7 +3,7 @@ use Rattle.std.proofs.Common.{◌≡◌, Bool, true, false, List, [], ◌∷◌,
 use Rattle.std.proofs.Common.{subst, inl, inr, arith}
 use Rattle.std.specs.Prelude.{◌⊎◌, ◌||◌}
 use Rattle.std.specs.List.{All, Contains, list_any}
-use Rattle.std.proofs.lemmas.Bool.{or_parts}
+use Rattle.std.proofs.lemmas.Bool.{or_parts, or_from}
 use Rattle.std.proofs.lemmas.List.Elements.{All-cons, All-contains, Contains-get_or, Contains-append_left, Contains-append_right}
 use Rattle.std.proofs.lemmas.List.Elements.{Contains-append_cases}
 use Rattle.mmtext.specs.Words.{Word}
@@ -59,3 +59,18 @@ apart_behind ls new clear h =
       | inl before ↦ Contains-append_right (new ∷ []) ls w before
       | inr last ↦ Contains-append_left (new ∷ []) ls w last
     ]) (apart_cons new ls clear h)
+
+-- a label in the middle of labels that are apart clashes with none before it
+pub apart_front : (ls ms : List Word) (w : Word) → AreApart (ls ++ w ∷ ms) → list_any (λ l. clash l w) ls ≡ false
+apart_front ls ms w h = front ls (λ l l_in. Contains-append_left ls (w ∷ ms) l l_in)
+  where
+    here : Contains (ls ++ w ∷ ms) w
+    here = Contains-append_right ls (w ∷ ms) w (0, omega arith, refl)
+
+    front : (xs : List Word) → ((l : Word) → Contains xs l → Contains (ls ++ w ∷ ms) l) → list_any (λ l. clash l w) xs ≡ false
+    front [] within = refl
+    front (x ∷ xs) within =
+        let x_in = within x (0, omega arith, refl) in
+        or_from (clash x w) (list_any (λ l. clash l w) xs)
+        (or_from (is_dotted x w) (is_dotted w x) (h x w x_in here) (h w x here x_in))
+        (front xs (λ l l_in. within l (Contains-append_right (x ∷ []) xs l l_in)))

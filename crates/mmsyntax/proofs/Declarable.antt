@@ -41,6 +41,7 @@ sound_again db d = record {
   units = recursion_from_All (IsUnit db.prelude) db.assertions d.units;
   lawful = recursion_from_All (λ a. IsTrue (is_lawful_label db.prelude a.label)) db.assertions d.lawful;
   distinct = d.distinct;
+  apart = d.apart;
   few = d.few;
   unclosed = λ h. absurd cc;
 }
