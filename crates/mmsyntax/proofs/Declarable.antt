@@ -31,6 +31,7 @@ declarable db h =
       units = All-from_recursion (IsUnit t) xs s.units;
       lawful = All-from_recursion (λ a. IsTrue (is_lawful_label t a.label)) xs s.lawful;
       distinct = s.distinct;
+      apart = s.apart;
       few = s.few;
     }
 
