@@ -58,12 +58,16 @@ fn open(
     Pair::open(alloc, keys, &db, SLOTS, ROOM)
 }
 
-/// Does random transactions in both, until the two differ.
+/// Does random transactions in both, until the two differ. Those that aren't within the limits, as they cite `L.k` in a proof of L, are left
+/// out.
 fn compare(alloc: Global, pair: &mut Pair, task: &Task) -> Result<Option<Tally>, AllocError> {
     let mut maker = Maker::new(Pcg32::new(task.seed, 54));
     let mut tally = Tally::default();
     for number in 0..task.transactions {
         let commands = maker.transaction(alloc)?;
+        if !pair.takes(commands.as_slice()) {
+            continue;
+        }
         let Some(outcome) = pair.run(alloc, commands.as_slice())? else {
             return Ok(None);
         };

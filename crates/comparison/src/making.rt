@@ -31,9 +31,11 @@ $}
 "
 }
 
-/// The labels that commands name: those of theorems that come and go, of the axioms, and two that no assertion may have.
+/// The labels that commands name: those of theorems that come and go, some of which clash, of the axioms, and two that no assertion may
+/// have.
 pub const LABELS: [&str; 16] = [
-    "a", "b", "c", "d", "e", "f", "g", "h", "i", "j", "we", "wi", "wk", "wn", "wx", "a.b",
+    "a", "b", "c", "d", "e", "a.1", "a.2", "b.1", "a.1.1", "c.1001", "we", "wi", "wk", "wn", "wx",
+    "a+b",
 ];
 
 /// Draws commands.

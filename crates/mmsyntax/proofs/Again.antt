@@ -1,7 +1,7 @@
 -- The words of symbols, of pairs and of steps are read as these again.
 use Rattle.std.proofs.Common.{◌≡◌, ◌≢◌, ℕ, zero, suc, ◌^◌, ◌<◌, ◌≤◌, Bool, true, false, cond, eqb, leb, ltb, List, [], ◌∷◌, ◌++◌, length}
 use Rattle.std.proofs.Common.{get_or, drop, map, Option, Some, None, Ok, Err, refl, sym, ap, subst, ◌∙◌, inl, inr, arith, append_assoc}
-use Rattle.std.proofs.Common.{length-append}
+use Rattle.std.proofs.Common.{Result, length-append}
 use Rattle.std.specs.Prelude.{◌||◌, ◌&&◌, is_some, codes}
 use mathlib.Core.Bool.{not}
 use Rattle.std.specs.List.{list_any, AllByRecursion}
@@ -19,7 +19,7 @@ use Rattle.mmsyntax.specs.declared.statement.Step.TheVariants.{Float as FloatSte
 use Rattle.mmsyntax.specs.declared.statement.Float.{Float}
 use Rattle.mmsyntax.specs.declared.symbols.Name.TheVariants.{Constant, Variable, Label}
 use Rattle.mmtext.specs.declared.fault.FaultKind.{FaultKind}
-use Rattle.mmtext.specs.declared.fault.FaultKind.TheVariants.{BadToken, BadLabel, OutOfProfile, TooLong}
+use Rattle.mmtext.specs.declared.fault.FaultKind.TheVariants.{BadToken, BadLabel, LabelClashes, OutOfProfile, TooLong}
 use Rattle.mmtext.specs.Words.{Word, has_dollar, has_dot, is_label, has_hypothesis_form}
 use Rattle.mmsyntax.specs.Tables.{Tables, place_of, float_of, named, meaning}
 use Rattle.mmsyntax.specs.Rows.{symbol_named, unless_full, symbol_of, first_fault}
@@ -28,10 +28,12 @@ use Rattle.mmsyntax.specs.Steps.{step_tests, float_named, hypothesis_named, step
 use Rattle.mmsyntax.specs.Grammar.{ReadsAfter, Restricts, StepsAfter}
 use Rattle.mmsyntax.specs.Layout.{word_at, no_float, float_at, symbol_word, hypothesis_label, step_word}
 use Rattle.mmsyntax.specs.Assertions.{IsSymbolOf, BeginsWithConstant, IsExpression, IsPairOf, AreAscending, IsNameable, Distinct}
+use Rattle.mmsyntax.specs.Assertions.{CitesApart}
+use Rattle.mmsyntax.specs.Preludes.{IsWord, IsSymbolWord, IsFloatSound, AreSound, variables_used}
+use Rattle.mmsyntax.specs.Dotted.{is_dotted}
 use Rattle.mmtext.proofs.Marks.{label_plain}
 use Rattle.mmsyntax.proofs.Distinct.{any_at, any-map, cross, place_of-item, place_of-absent, distinct_left, distinct_right, float_labels}
 use Rattle.mmsyntax.proofs.Distinct.{is_some-meaning, none_of, all_map}
-use Rattle.mmsyntax.proofs.Sound.{IsSymbolWord, IsFloatSound, IsLabelWord, AreSound, variables_used}
 use Rattle.mmsyntax.proofs.Pairs.{next_pair}
 use Rattle.mmsyntax.proofs.Numbered.{differ, label_bytes, number_label, number_dot, number_form}
 
@@ -66,36 +68,35 @@ float_of-item (f ∷ fs) (suc j) d lt =
     cond-false (eqb f.variable v) (Some 0) (option_map (λ n. suc n) (float_of fs v)) (any_at (λ g. eqb f.variable g.variable) fs j no_float other (omega arith))
     ∙ ap (λ o. option_map (λ n. suc n) o) (float_of-item fs j d.1 (omega arith))
 
--- what five tests of a label say
+-- what four tests of a label say
 pub record IsPlainLabel (w : Word) (is_named : Bool) : Type 0 where
   pub some : w ≢ []
   pub short : length w ≤ 255
   pub label : is_label w ≡ true
-  pub dots : has_dot w ≡ false
   pub new : is_named ≡ false
 
-five_true : (a b c d e : Bool) → (a && b && c && d && e) ≡ true → (a ≡ true) × (b ≡ true) × (c ≡ true) × (d ≡ true) × (e ≡ true)
-five_true true true true true true h = (refl, refl, refl, refl, refl)
-five_true true true true true false h = absurd cc
-five_true true true true false e h = absurd cc
-five_true true true false d e h = absurd cc
-five_true true false c d e h = absurd cc
-five_true false b c d e h = absurd cc
+four_true : (a b c d : Bool) → (a && b && c && d) ≡ true → (a ≡ true) × (b ≡ true) × (c ≡ true) × (d ≡ true)
+four_true true true true true h = (refl, refl, refl, refl)
+four_true true true true false h = absurd cc
+four_true true true false d h = absurd cc
+four_true true false c d h = absurd cc
+four_true false b c d h = absurd cc
 
 not_empty : (w : Word) → leb 1 (length w) ≡ true → w ≢ []
 not_empty [] h = absurd cc
 not_empty (b ∷ bs) h = λ e. absurd cc
 
-pub plain_label : (w : Word) (is_named : Bool) → (leb 1 (length w) && leb (length w) 255 && is_label w && not (has_dot w) && not is_named) ≡ true → IsPlainLabel w is_named
+pub plain_label : (w : Word) (is_named : Bool) → (leb 1 (length w) && leb (length w) 255 && is_label w && not is_named) ≡ true
+    → IsPlainLabel w is_named
 plain_label w is_named h =
-    let p = five_true (leb 1 (length w)) (leb (length w) 255) (is_label w) (not (has_dot w)) (not is_named) h in
-    record { some = not_empty w p.0; short = le (length w) 255 p.1; label = p.2; dots = not-true (has_dot w) p.3; new = not-true is_named p.4 }
+    let p = four_true (leb 1 (length w)) (leb (length w) 255) (is_label w) (not is_named) h in
+    record { some = not_empty w p.0; short = le (length w) 255 p.1; label = p.2; new = not-true is_named p.3 }
   where
     le : (a b : ℕ) → leb a b ≡ true → a ≤ b
     le a b h = grind (arith, nat_tests)
 
-pub label_word : (w : Word) (is_named : Bool) → IsPlainLabel w is_named → IsLabelWord w
-label_word w is_named p = record { label = p.label; plain = or_from (has_dot w) (ltb 255 (length w)) p.dots (le-ltb 255 (length w) p.short); word = (p.some, label_bytes w p.label) }
+pub label_word : (w : Word) (is_named : Bool) → IsPlainLabel w is_named → IsWord w
+label_word w is_named p = (p.some, label_bytes w p.label)
 
 -- what the word of a step finds among the hypotheses: its number, or nothing
 abbrev pub Finds : Step → Option ℕ → Type 0
@@ -246,10 +247,9 @@ module _ (t : Tables) (s : AreSound t) where
 
   -- ---- steps
 
-  step_ok : (hyp : Option ℕ) (count : ℕ) (w : Word) (x : Step) → has_dollar w ≡ false → is_label w ≡ true → count < 16384
-      → step_named w (float_named (meaning t w)) hyp ≡ Ok x
-      → unless_faulty (first_fault (step_tests count w)) (step_named w (float_named (meaning t w)) hyp) ≡ Ok x
-  step_ok hyp count w x plain label room h =
+  step_ok : (named : Result Step FaultKind) (count : ℕ) (w : Word) (x : Step) → has_dollar w ≡ false → is_label w ≡ true → count < 16384
+      → named ≡ Ok x → unless_faulty (first_fault (step_tests count w)) named ≡ Ok x
+  step_ok named count w x plain label room h =
       let tests = step_tests count w in
       let odd : (bytes_eq w (codes "?") || bytes_eq w (codes "(")) ≡ false = or_from (bytes_eq w (codes "?")) (bytes_eq w (codes "(")) (differ is_label w (codes "?") label refl) (differ is_label w (codes "(") label refl) in
       let pass : first_fault tests ≡ None =
@@ -257,50 +257,62 @@ module _ (t : Tables) (s : AreSound t) where
       (none_cond (has_dollar w) BadToken (first_fault (drop 2 tests)) plain
       (none_cond (not (is_label w)) BadToken (first_fault (drop 3 tests)) (ap not label)
       (none_cond (leb 16384 count) TooLong None (lt-leb 16384 count room) refl))) in
-      ap (λ o. unless_faulty o (step_named w (float_named (meaning t w)) hyp)) pass ∙ h
+      ap (λ o. unless_faulty o named) pass ∙ h
 
   module _ (label : Word) (some : label ≢ []) (is_l : is_label label ≡ true) (count : ℕ) (few : count ≤ 1000) where
     -- the word of a step is read as the step, however hypotheses are found
-    pub named_again : (n : ℕ) (x : Step) (hyp : Option ℕ) → n < 16384 → IsNameable t count x → Finds x hyp
-        → let w = step_word t label x in unless_faulty (first_fault (step_tests n w)) (step_named w (float_named (meaning t w)) hyp) ≡ Ok x
-    named_again n (FloatStep j) hyp room lt finds =
+    pub named_again : (n : ℕ) (x : Step) (hyp : Option ℕ) → n < 16384 → IsNameable t count x → CitesApart label x → Finds x hyp
+        → let w = step_word t label x in
+        unless_faulty (first_fault (step_tests n w)) (step_named label w (float_named (meaning t w)) hyp) ≡ Ok x
+    named_again n (FloatStep j) hyp room lt apart finds =
         let w = (float_at t.floats j).label in
         let f = (float_sound j lt).label in
-        step_ok hyp n w (FloatStep j) (label_plain w f.label) f.label room (ap (λ o. step_named w (float_named o) hyp) (label_meaning j lt))
-    named_again n (Hyp m) hyp room lt finds =
+        step_ok (step_named label w (float_named (meaning t w)) hyp) n w (FloatStep j) (label_plain w f.label) f.label room
+        (ap (λ o. step_named label w (float_named o) hyp) (label_meaning j lt))
+    named_again n (Hyp m) hyp room lt apart finds =
         let w = hypothesis_label label (suc m) in
         let small : m < count = lt in
         let is_l' = number_label label (suc m) is_l (omega arith) in
         let none : meaning t w ≡ None = none_is (meaning t w) (number_not_named label (suc m) some is_l (omega arith) (omega arith)) in
-        step_ok hyp n w (Hyp m) (label_plain w is_l') is_l' room (ap (λ o. step_named w (float_named o) hyp) none ∙ ap (step_named w None) finds)
-    named_again n (Cite w) hyp room h finds =
+        step_ok (step_named label w (float_named (meaning t w)) hyp) n w (Hyp m) (label_plain w is_l') is_l' room
+        (ap (λ o. step_named label w (float_named o) hyp) none ∙ ap (step_named label w None) finds)
+    named_again n (Cite w) hyp room h apart finds =
         let p = plain_label w (is_some (float_named (meaning t w))) h in
         let none : float_named (meaning t w) ≡ None = none_is (float_named (meaning t w)) p.new in
-        step_ok hyp n w (Cite w) (label_plain w p.label) p.label room
-        (ap (λ o. step_named w o hyp) none ∙ ap (step_named w None) finds
-        ∙ cond-false (has_dot w || ltb 255 (length w)) (Err BadLabel) (Ok (Cite w)) (label_word w (is_some (float_named (meaning t w))) p).plain)
+        step_ok (step_named label w (float_named (meaning t w)) hyp) n w (Cite w) (label_plain w p.label) p.label room
+        (ap (λ o. step_named label w o hyp) none ∙ ap (step_named label w None) finds
+        ∙ cond-false (ltb 255 (length w)) (Err BadLabel) _ (le-ltb 255 (length w) p.short)
+        ∙ cond-false (is_dotted label w) (Err LabelClashes) (Ok (Cite w)) apart)
 
-  module _ (label : Word) (some : label ≢ []) (is_l : is_label label ≡ true) (hyps : List Hypothesis) (count : ℕ) (few : count ≤ 1000) (dots : AllByRecursion (λ h. has_dot h.label ≡ true) hyps)
+  module _ (label : Word) (some : label ≢ []) (is_l : is_label label ≡ true) (hyps : List Hypothesis) (count : ℕ) (few : count ≤ 1000)
+      (dotted : AllByRecursion (λ h. is_dotted label h.label ≡ true) hyps)
       (found : (n : ℕ) → n < count → hypothesis_named hyps (hypothesis_label label (suc n)) ≡ Some n) where
-    no_dots : (w : Word) (hs : List Hypothesis) → has_dot w ≡ false → AllByRecursion (λ h. has_dot h.label ≡ true) hs → list_any (λ h. bytes_eq w h.label) hs ≡ false
-    no_dots w [] h all = refl
-    no_dots w (x ∷ hs) h all = or_from (bytes_eq w x.label) (list_any (λ h. bytes_eq w h.label) hs) (differ (λ v. not (has_dot v)) w x.label (ap not h) (ap not all.0)) (no_dots w hs h all.1)
+    -- a word that is no L.k is the label of no hypothesis of L
+    not_among : (w : Word) (hs : List Hypothesis) → is_dotted label w ≡ false → AllByRecursion (λ h. is_dotted label h.label ≡ true) hs
+        → list_any (λ h. bytes_eq w h.label) hs ≡ false
+    not_among w [] h all = refl
+    not_among w (x ∷ hs) h all =
+        or_from (bytes_eq w x.label) (list_any (λ h. bytes_eq w h.label) hs)
+        (differ (λ v. not (is_dotted label v)) w x.label (ap not h) (ap not all.0)) (not_among w hs h all.1)
 
-    finds_here : (x : Step) → IsNameable t count x → Finds x (hypothesis_named hyps (step_word t label x))
-    finds_here (FloatStep j) lt = tt
-    finds_here (Hyp m) lt = found m lt
-    finds_here (Cite w) h =
-        place_of-absent (λ h. bytes_eq w h.label) hyps (no_dots w hyps (plain_label w (is_some (float_named (meaning t w))) h).dots dots)
+    finds_here : (x : Step) → IsNameable t count x → CitesApart label x → Finds x (hypothesis_named hyps (step_word t label x))
+    finds_here (FloatStep j) lt apart = tt
+    finds_here (Hyp m) lt apart = found m lt
+    finds_here (Cite w) h apart = place_of-absent (λ h. bytes_eq w h.label) hyps (not_among w hyps apart dotted)
 
-    step_again : (n : ℕ) (x : Step) → n < 16384 → IsNameable t count x → step_of t hyps n (step_word t label x) ≡ Ok x
+    step_again : (n : ℕ) (x : Step) → n < 16384 → IsNameable t count x → CitesApart label x
+        → step_of t label hyps n (step_word t label x) ≡ Ok x
     unfolding step_of
-    step_again n x room h = named_again label some is_l count few n x (hypothesis_named hyps (step_word t label x)) room h (finds_here x h)
+    step_again n x room h apart =
+        named_again label some is_l count few n x (hypothesis_named hyps (step_word t label x)) room h apart (finds_here x h apart)
 
-    pub steps_again : (front rest : List Step) → AllByRecursion (IsNameable t count) rest → length (front ++ rest) ≤ 16384 → StepsAfter t hyps front (map (step_word t label) rest) (front ++ rest)
-    steps_again front [] h fit = sym (append-nil front)
-    steps_again front (x ∷ rest) h fit =
+    pub steps_again : (front rest : List Step) → AllByRecursion (IsNameable t count) rest → AllByRecursion (CitesApart label) rest
+        → length (front ++ rest) ≤ 16384 → StepsAfter t label hyps front (map (step_word t label) rest) (front ++ rest)
+    steps_again front [] h apart fit = sym (append-nil front)
+    steps_again front (x ∷ rest) h apart fit =
         let more : (front ++ x ∷ []) ++ rest ≡ front ++ x ∷ rest = append_assoc front (x ∷ []) rest in (
           x,
-          step_again (length front) x (omega (arith, length-append front (x ∷ rest))) h.0,
-          subst (StepsAfter t hyps (front ++ x ∷ []) (map (step_word t label) rest)) more (steps_again (front ++ x ∷ []) rest h.1 (subst (λ (y : List Step). length y ≤ 16384) (sym more) fit)),
+          step_again (length front) x (omega (arith, length-append front (x ∷ rest))) h.0 apart.0,
+          subst (StepsAfter t label hyps (front ++ x ∷ []) (map (step_word t label) rest)) more
+              (steps_again (front ++ x ∷ []) rest h.1 apart.1 (subst (λ (y : List Step). length y ≤ 16384) (sym more) fit)),
         )

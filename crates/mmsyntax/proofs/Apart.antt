@@ -1,16 +1,14 @@
--- Labels of which none is L.k of another: what keeps them so, and that labels without a dot are.
-use Rattle.std.proofs.Common.{◌≡◌, Bool, true, false, List, [], ◌∷◌, length, refl, sym, ◌∙◌}
+-- Labels of which none is L.k of another, and what keeps them so.
+use Rattle.std.proofs.Common.{◌≡◌, Bool, true, false, List, [], ◌∷◌, ◌++◌, length, refl, sym, ◌∙◌}
 use Rattle.std.proofs.Common.{subst, inl, inr, arith}
-use Rattle.std.specs.Prelude.{IsTrue, ◌⊎◌, ◌||◌, ◌&&◌, nat_le, is_some}
-use mathlib.Core.Bool.{not}
+use Rattle.std.specs.Prelude.{◌⊎◌, ◌||◌}
 use Rattle.std.specs.List.{All, Contains, list_any}
-use Rattle.std.proofs.lemmas.Bool.{and_parts, not-true, or_parts}
-use Rattle.std.proofs.lemmas.List.Elements.{All-cons, All-contains, Contains-get_or}
-use Rattle.mmtext.specs.Words.{Word, has_dot, is_label}
-use Rattle.mmsyntax.specs.Tables.{Tables, meaning}
-use Rattle.mmsyntax.specs.Assertions.{is_lawful_label}
+use Rattle.std.proofs.lemmas.Bool.{or_parts, or_from}
+use Rattle.std.proofs.lemmas.List.Elements.{All-cons, All-contains, Contains-get_or, Contains-append_left, Contains-append_right}
+use Rattle.std.proofs.lemmas.List.Elements.{Contains-append_cases}
+use Rattle.mmtext.specs.Words.{Word}
 use Rattle.mmsyntax.specs.Dotted.{is_dotted, clash, AreApart}
-use Rattle.mmsyntax.proofs.DottedWords.{not_dotted_itself, plain_not_dotted}
+use Rattle.mmsyntax.proofs.DottedWords.{not_dotted_itself}
 use Rattle.mmsyntax.proofs.Distinct.{any_at}
 
 -- ---- two labels
@@ -54,11 +52,25 @@ apart_cons new ls clear =
     let among : All Among ls = λ i d lt. inr (Contains-get_or ls i d lt, any_at (λ l. clash l new) ls i d clear lt) in
     apart_with ls (new ∷ ls) new (λ w w_in. All-contains Among (new ∷ ls) w (All-cons Among new ls (inl refl) among) w_in)
 
--- labels without dots
-pub apart_plain : (ls : List Word) → All (λ l. has_dot l ≡ false) ls → AreApart ls
-apart_plain ls plain l w l_in w_in = plain_not_dotted l w (All-contains (λ x. has_dot x ≡ false) ls w plain w_in)
+pub apart_behind : (ls : List Word) (new : Word) → list_any (λ l. clash l new) ls ≡ false → AreApart ls → AreApart (ls ++ new ∷ [])
+apart_behind ls new clear h =
+    apart_within (new ∷ ls) (ls ++ new ∷ []) (λ w w_in.
+    elim (Contains-append_cases ls (new ∷ []) w w_in) [
+      | inl before ↦ Contains-append_right (new ∷ []) ls w before
+      | inr last ↦ Contains-append_left (new ∷ []) ls w last
+    ]) (apart_cons new ls clear h)
 
-pub lawful_plain : (t : Tables) (w : Word) → IsTrue (is_lawful_label t w) → has_dot w ≡ false
-lawful_plain t w h =
-    let short = nat_le 1 (length w) && nat_le (length w) 255 && is_label w in
-    not-true (has_dot w) (and_parts short (not (has_dot w)) (and_parts (short && not (has_dot w)) (not (is_some (meaning t w))) h).0).1
+-- a label in the middle of labels that are apart clashes with none before it
+pub apart_front : (ls ms : List Word) (w : Word) → AreApart (ls ++ w ∷ ms) → list_any (λ l. clash l w) ls ≡ false
+apart_front ls ms w h = front ls (λ l l_in. Contains-append_left ls (w ∷ ms) l l_in)
+  where
+    here : Contains (ls ++ w ∷ ms) w
+    here = Contains-append_right ls (w ∷ ms) w (0, omega arith, refl)
+
+    front : (xs : List Word) → ((l : Word) → Contains xs l → Contains (ls ++ w ∷ ms) l) → list_any (λ l. clash l w) xs ≡ false
+    front [] within = refl
+    front (x ∷ xs) within =
+        let x_in = within x (0, omega arith, refl) in
+        or_from (clash x w) (list_any (λ l. clash l w) xs)
+        (or_from (is_dotted x w) (is_dotted w x) (h x w x_in here) (h w x here x_in))
+        (front xs (λ l l_in. within l (Contains-append_right (x ∷ []) xs l l_in)))

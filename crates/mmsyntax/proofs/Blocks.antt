@@ -4,7 +4,6 @@ use Rattle.std.proofs.Common.{None, refl, sym, ap, subst, ◌∙◌, arith, appe
 use Rattle.std.specs.Prelude.{is_some, IsTrue}
 use Rattle.std.specs.List.{list_any, AllByRecursion}
 use Rattle.std.specs.Str.{bytes_eq}
-use mathlib.Core.Bool.{not}
 use Rattle.std.proofs.lemmas.Bool.{lt-leb, le-ltb}
 use Rattle.std.proofs.lemmas.List.{append-nil, map-append}
 use Rattle.std.proofs.lemmas.List.Elements.{recursion_from_All}
@@ -15,22 +14,25 @@ use Rattle.mmsyntax.specs.declared.statement.Kind.TheVariants.{Axiom, Theorem}
 use Rattle.mmsyntax.specs.declared.statement.Step.{Step}
 use Rattle.mmsyntax.specs.declared.statement.Assertion.{Assertion}
 use Rattle.mmtext.specs.declared.fault.FaultKind.TheVariants.{RepeatedLabel, BadLabel, TooLong}
-use Rattle.mmtext.specs.Words.{Word, has_dot}
+use Rattle.mmtext.specs.Words.{Word}
 use Rattle.mmsyntax.specs.Tables.{Tables, meaning}
-use Rattle.mmsyntax.specs.Rows.{Known, is_used, Pass, first_fault, assertion_label_tests, with_assertion}
+use Rattle.mmsyntax.specs.Dotted.{clash, AreApart}
+use Rattle.mmsyntax.specs.Rows.{Known, clashes, is_used, Pass, first_fault, assertion_label_tests, with_assertion}
 use Rattle.mmsyntax.specs.Blocks.{Hypothesis, Block, no_block, hypothesis_label_tests, with_hypothesis}
 use Rattle.mmsyntax.specs.Grammar.{Claim, Piece, Restricts, ReadsAfter, StepsAfter, Claims, HoldAll, Declares, DeclareAll}
 use Rattle.mmsyntax.specs.Faults.{database_of}
 use Rattle.mmsyntax.specs.Layout.{hypothesis_label, symbol_word, step_word, distinct_pieces, hypothesis_pieces, claim_of_kind, claim_of}
 use Rattle.mmsyntax.specs.Layout.{unit_of, unit_statement}
-use Rattle.mmsyntax.specs.Assertions.{IsExpression, IsPairOf, AreAscending, IsNameable, IsUnit, is_lawful_label, Distinct}
+use Rattle.mmsyntax.specs.Assertions.{IsExpression, IsPairOf, AreAscending, CitesApart, IsNameable, IsUnit, is_lawful_label, Distinct}
 use Rattle.mmsyntax.proofs.Names.{bytes_eq-sym}
-use Rattle.mmsyntax.proofs.Distinct.{distinct_front, labels_of, not_used, none_of, all_push, all_weaker}
-use Rattle.mmsyntax.proofs.Sound.{AreSound}
+use Rattle.mmsyntax.proofs.Distinct.{any-map, distinct_front, labels_of, not_used, none_of, all_push, all_weaker}
+use Rattle.mmsyntax.specs.Preludes.{AreSound}
+use Rattle.mmsyntax.proofs.Apart.{apart_front}
 use Rattle.mmsyntax.proofs.Units.{expressions}
-use Rattle.mmsyntax.proofs.Numbered.{differ, number_dot, number_label, number_short, IsNumbered, IsEarlier, earlier, still_earlier}
-use Rattle.mmsyntax.proofs.Numbered.{newest, not_earlier, made, made_dots, made_named}
-use Rattle.mmsyntax.proofs.Again.{none_cond, IsPlainLabel, plain_label, label_word, number_not_named, reads_again, some_words}
+use Rattle.mmsyntax.proofs.Numbered.{number_label, number_short}
+use Rattle.mmsyntax.proofs.HypothesisLabels.{IsNumbered, IsEarlier, earlier, still_earlier, newest, not_earlier, no_label, not_numbered}
+use Rattle.mmsyntax.proofs.HypothesisLabels.{made, made_dotted, made_named}
+use Rattle.mmsyntax.proofs.Again.{none_cond, IsPlainLabel, plain_label, number_not_named, reads_again, some_words}
 use Rattle.mmsyntax.proofs.Again.{restricts_again, steps_again}
 
 -- ---- in general
@@ -92,16 +94,16 @@ module _ (t : Tables) (s : AreSound t) where
   -- ---- $e
 
   module _ (closed : Bool) (front : List Assertion) (label : Word) (p : IsPlainLabel label (is_some (meaning t label)))
-      (no_dots : AllByRecursion (λ w. has_dot w ≡ false) (labels_of front)) where
+      (clear : list_any (λ l. clash l label) (labels_of front) ≡ false) where
     new_number : (n : ℕ) (hs : List Word) → n < 1000 → AllByRecursion (IsEarlier (labels_of front) label n) hs
         → is_used (k3 closed front hs) (hypothesis_label label (suc n)) ≡ false
     new_number n hs lt old =
         let w = hypothesis_label label (suc n) in
         not_used (k3 closed front hs) w (record {
           not_named = number_not_named t s label (suc n) p.some p.label (omega arith) (omega arith);
-          not_label = none_of (λ v. has_dot v ≡ false) w (labels_of front) (λ v h. differ has_dot w v (number_dot label _) h) no_dots;
+          not_label = no_label (labels_of front) label (suc n) p.some (omega arith) (omega arith) clear;
           not_hypothesis = none_of (IsEarlier (labels_of front) label n) w hs
-              (λ v h. not_earlier (labels_of front) label n v p.dots (omega arith) h) old;
+              (λ v h. not_earlier (labels_of front) label n v p.some lt h) old;
         })
 
     number_pass : (n : ℕ) (hs : List Word) (b : Block) → n ≡ length b.hyps → n < 1000
@@ -136,7 +138,7 @@ module _ (t : Tables) (s : AreSound t) where
         let small : suc n < 2 ^ 64 = omega arith in
         let older = all_weaker (IsEarlier (labels_of front) label n) (IsEarlier (labels_of front) label (suc n)) hs
         (still_earlier (labels_of front) label n) old in
-        let now = all_push (IsEarlier (labels_of front) label (suc n)) hs w older (newest (labels_of front) label n p.dots small) in
+        let now = all_push (IsEarlier (labels_of front) label (suc n)) hs w older (newest (labels_of front) label n p.some (omega arith)) in
         let rest = hypotheses_hold (hs ++ w ∷ []) (with_hypothesis b w x) (suc n) es (omega (arith, length-append b.hyps (new ∷ [])))
         (omega arith) now h.1 in
         let all : (b.hyps ++ new ∷ []) ++ made label (suc n) es ≡ b.hyps ++ made label n (x ∷ es) =
@@ -191,9 +193,11 @@ module _ (t : Tables) (s : AreSound t) where
       let x = u.fits.statement in
       let hyps = made a.label 0 a.hyps in
       let few : length a.hyps ≤ 1000 = u.fits.few_hyps in
-      let found = λ (n : ℕ) (lt : n < length a.hyps). made_named a.label 0 n n a.hyps p.dots (omega arith) lt (omega arith) in
-      let steps = steps_again t s a.label p.some p.label hyps (length a.hyps) few (made_dots a.label 0 a.hyps) found [] a.proof
-      (recursion_from_All (IsNameable t (length a.hyps)) a.proof u.steps) u.fits.few_steps in (
+      let found = λ (n : ℕ) (lt : n < length a.hyps). made_named a.label 0 n n a.hyps p.some (omega arith) lt (omega arith) in
+      let dotted = made_dotted a.label 0 a.hyps p.some (omega arith) in
+      let steps = steps_again t s a.label p.some p.label hyps (length a.hyps) few dotted found [] a.proof
+      (recursion_from_All (IsNameable t (length a.hyps)) a.proof u.steps)
+      (recursion_from_All (CitesApart a.label) a.proof u.fits.cites_apart) u.fits.few_steps in (
         p.label,
         pass,
         some_words t s a.statement x,
@@ -202,7 +206,7 @@ module _ (t : Tables) (s : AreSound t) where
           a.statement,
           a.proof,
           subst (λ y. ReadsAfter y [] (map (symbol_word t) a.statement) a.statement) (sym same) (reads_again t s a.statement x),
-          subst (λ y. StepsAfter y hyps [] (map (step_word t a.label) a.proof) a.proof) (sym same) steps,
+          subst (λ y. StepsAfter y a.label hyps [] (map (step_word t a.label) a.proof) a.proof) (sym same) steps,
           same_unit a.label a.kind Theorem a.pairs a.hyps (expressions hyps) a.statement a.proof a.proof (sym e)
               (made_expressions a.label 0 a.hyps) refl,
         ),
@@ -221,10 +225,10 @@ module _ (t : Tables) (s : AreSound t) where
     pub declares : Declares (k3 closed front hs) (unit_statement t a) (k3 true (front ++ a ∷ []) behind)
 
   pub unit_declares : (closed : Bool) (front : List Assertion) (hs : List Word) (a : Assertion) → IsUnit t a
-      → IsTrue (is_lawful_label t a.label) → AllByRecursion (λ w. has_dot w ≡ false) (labels_of front)
+      → IsTrue (is_lawful_label t a.label) → list_any (λ l. clash l a.label) (labels_of front) ≡ false
       → list_any (bytes_eq a.label) (labels_of front) ≡ false → length front < 4096
       → AllByRecursion (IsNumbered (labels_of front)) hs → UnitDeclares closed front hs a
-  unit_declares closed front hs a u lawful dots new room old =
+  unit_declares closed front hs a u lawful clear new room old =
       let k = k3 closed front hs in
       let p = plain_label a.label (is_some (meaning t a.label)) lawful in
       let few : length a.hyps ≤ 1000 = u.fits.few_hyps in
@@ -232,18 +236,18 @@ module _ (t : Tables) (s : AreSound t) where
       u.fits.pairs_ascend u.fits.few_pairs in
       let earlier_all = all_weaker (IsNumbered (labels_of front)) (IsEarlier (labels_of front) a.label 0) hs
       (λ w x. earlier (labels_of front) a.label w new x) old in
-      let second = hypotheses_hold closed front a.label p dots hs (record { pairs = a.pairs; hyps = [] }) 0 a.hyps refl
+      let second = hypotheses_hold closed front a.label p clear hs (record { pairs = a.pairs; hyps = [] }) 0 a.hyps refl
       (omega arith) earlier_all (recursion_from_All (IsExpression t) a.hyps u.fits.hyps) in
       let next = k3 closed front second.behind in
       let labels : labels_of (front ++ a ∷ []) ≡ labels_of front ++ a.label ∷ [] = map-append (λ x. x.label) front (a ∷ []) in
       let number = second.numbered in
       let absent : list_any (bytes_eq a.label) second.behind ≡ false =
-      none_of (IsNumbered (labels_of front ++ a.label ∷ [])) a.label second.behind
-      (λ v x. differ (λ u. not (has_dot u)) a.label v (ap not p.dots) (ap not (ap has_dot x.is_it ∙ number_dot x.label _))) number in
+      none_of (IsNumbered (labels_of front ++ a.label ∷ [])) a.label second.behind (not_numbered (labels_of front) a.label clear) number in
       let unused = not_used next a.label (record { not_named = p.new; not_label = new; not_hypothesis = absent }) in
-      let word = label_word a.label (is_some (meaning t a.label)) p in
+      let apart : clashes front a.label ≡ false = sym (any-map (λ l. clash l a.label) (λ x. x.label) front) ∙ clear in
       let pass : Pass (assertion_label_tests next a.label) =
-      none_cond _ _ _ word.plain (none_cond _ _ _ unused (none_cond _ _ _ (lt-leb 4096 (length front) room) refl)) in
+      none_cond _ _ _ (le-ltb 255 (length a.label) p.short)
+      (none_cond _ _ _ unused (none_cond _ _ _ apart (none_cond _ _ _ (lt-leb 4096 (length front) room) refl))) in
       record {
         behind = second.behind;
         numbered = subst (λ ls. AllByRecursion (IsNumbered ls) second.behind) (sym labels) number;
@@ -260,24 +264,23 @@ module _ (t : Tables) (s : AreSound t) where
     pub whole : database_of known ≡ record { prelude = t; assertions = front ++ rest }
 
   pub units_declare : (closed : Bool) (front : List Assertion) (hs : List Word) (rest : List Assertion) → AllByRecursion (IsUnit t) rest
-      → AllByRecursion (λ a. IsTrue (is_lawful_label t a.label)) rest → AllByRecursion (λ w. has_dot w ≡ false) (labels_of front)
+      → AllByRecursion (λ a. IsTrue (is_lawful_label t a.label)) rest → AreApart (labels_of (front ++ rest))
       → Distinct bytes_eq (labels_of (front ++ rest)) → length (front ++ rest) ≤ 4096 → AllByRecursion (IsNumbered (labels_of front)) hs
       → UnitsDeclare closed front hs rest
-  units_declare closed front hs [] u l dots d fit old = record {
+  units_declare closed front hs [] u l apart d fit old = record {
     known = k3 closed front hs;
     declares = refl;
     whole = ap (λ x. record { prelude = t; assertions = x }) (sym (append-nil front));
   }
-  units_declare closed front hs (a ∷ rest) u l dots d fit old =
-      let p = plain_label a.label (is_some (meaning t a.label)) l.0 in
-      let new = distinct_front bytes_eq bytes_eq-sym (labels_of front) (labels_of rest) a.label
-      (subst (Distinct bytes_eq) (map-append (λ x. x.label) front (a ∷ rest)) d) in
-      let one = unit_declares closed front hs a u.0 l.0 dots new (omega (arith, length-append front (a ∷ rest))) old in
+  units_declare closed front hs (a ∷ rest) u l apart d fit old =
+      let all_labels : labels_of (front ++ a ∷ rest) ≡ labels_of front ++ a.label ∷ labels_of rest =
+      map-append (λ x. x.label) front (a ∷ rest) in
+      let new = distinct_front bytes_eq bytes_eq-sym (labels_of front) (labels_of rest) a.label (subst (Distinct bytes_eq) all_labels d) in
+      let clear = apart_front (labels_of front) (labels_of rest) a.label (subst AreApart all_labels apart) in
+      let one = unit_declares closed front hs a u.0 l.0 clear new (omega (arith, length-append front (a ∷ rest))) old in
       let more : (front ++ a ∷ []) ++ rest ≡ front ++ a ∷ rest = append_assoc front (a ∷ []) rest in
-      let labels : labels_of (front ++ a ∷ []) ≡ labels_of front ++ a.label ∷ [] = map-append (λ x. x.label) front (a ∷ []) in
-      let dots' = subst (AllByRecursion (λ w. has_dot w ≡ false)) (sym labels)
-      (all_push (λ w. has_dot w ≡ false) (labels_of front) a.label dots p.dots) in
-      let all = units_declare true (front ++ a ∷ []) one.behind rest u.1 l.1 dots'
+      let all = units_declare true (front ++ a ∷ []) one.behind rest u.1 l.1
+      (subst (λ xs. AreApart (labels_of xs)) (sym more) apart)
       (subst (λ xs. Distinct bytes_eq (labels_of xs)) (sym more) d)
       (subst (λ (x : List Assertion). length x ≤ 4096) (sym more) fit) one.numbered in
       record {

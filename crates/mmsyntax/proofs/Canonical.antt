@@ -32,9 +32,9 @@ settled k s = record {
   units = s.units;
   lawful = s.lawful;
   distinct = s.distinct;
+  apart = s.apart;
   few = s.few;
-  unclosed =
-      λ h. absurd cc;
+  unclosed = λ h. absurd cc;
 }
 
 known_sound : (bytes : List ℕ) (db : Contents) (s : Spells bytes db) → IsSound s.known
@@ -62,7 +62,7 @@ spelled db s =
     let xs = db.assertions in
     let ss = canonical t xs in
     let words = canonical_written t s.tables xs s.units s.lawful in
-    let units = units_declare t s.tables false [] [] xs s.units s.lawful tt s.distinct s.few tt in
+    let units = units_declare t s.tables false [] [] xs s.units s.lawful s.apart s.distinct s.few tt in
     subst (λ (bytes : List ℕ). Spells bytes db) (sym (text_of-statements db)) (record {
       clean = clean_statements ss words;
       statements = ss;
@@ -83,7 +83,7 @@ pub unit_spells : (t : Tables) (a : Assertion) → IsSoundPrelude t → IsUnit t
 unit_spells t a sound u lawful =
     let s = sound_tables t sound in
     let words = unit_written t s a u lawful in
-    let one = unit_declares t s true [] [] a u lawful tt refl (omega arith) tt in
+    let one = unit_declares t s true [] [] a u lawful refl refl (omega arith) tt in
     record {
       clean = clean_statement (unit_statement t a) words;
       statement = unit_statement t a;

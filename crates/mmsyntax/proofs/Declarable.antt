@@ -31,6 +31,7 @@ declarable db h =
       units = All-from_recursion (IsUnit t) xs s.units;
       lawful = All-from_recursion (λ a. IsTrue (is_lawful_label t a.label)) xs s.lawful;
       distinct = s.distinct;
+      apart = s.apart;
       few = s.few;
     }
 
@@ -40,6 +41,7 @@ sound_again db d = record {
   units = recursion_from_All (IsUnit db.prelude) db.assertions d.units;
   lawful = recursion_from_All (λ a. IsTrue (is_lawful_label db.prelude a.label)) db.assertions d.lawful;
   distinct = d.distinct;
+  apart = d.apart;
   few = d.few;
   unclosed = λ h. absurd cc;
 }

@@ -5,7 +5,7 @@ use Rattle.std.specs.Prelude.{◌||◌, ◌&&◌, is_some, codes}
 use mathlib.Core.Bool.{not}
 use Rattle.std.specs.List.{list_any, AllByRecursion}
 use Rattle.std.specs.Str.{bytes_eq}
-use Rattle.std.proofs.lemmas.Bool.{ltb-false, leb-false, or_parts, not-false}
+use Rattle.std.proofs.lemmas.Bool.{ltb-false, leb-false, not-false}
 use Rattle.std.proofs.lemmas.Bool.Decides.{nat_tests}
 use Rattle.std.proofs.lemmas.List.Elements.{All-from_recursion}
 use Rattle.mmsyntax.specs.declared.statement.Symbol.{Symbol}
@@ -16,17 +16,18 @@ use Rattle.mmsyntax.specs.declared.statement.Step.TheVariants.{Float as FloatSte
 use Rattle.mmsyntax.specs.declared.symbols.Name.{Name}
 use Rattle.mmsyntax.specs.declared.symbols.Name.TheVariants.{Constant, Variable, Label}
 use Rattle.mmtext.specs.declared.fault.FaultKind.{FaultKind}
-use Rattle.mmtext.specs.declared.fault.FaultKind.TheVariants.{BadToken, BadLabel, TooLong, OutOfProfile}
-use Rattle.mmtext.specs.Words.{Word, has_dollar, has_dot, is_label}
+use Rattle.mmtext.specs.declared.fault.FaultKind.TheVariants.{BadToken, BadLabel, TooLong, OutOfProfile, LabelClashes}
+use Rattle.mmtext.specs.Words.{Word, has_dollar, is_label}
 use Rattle.mmsyntax.specs.Tables.{Tables, named, meaning}
 use Rattle.mmsyntax.specs.Rows.{symbol_named, unless_full, symbol_of, first_fault}
 use Rattle.mmsyntax.specs.Blocks.{Hypothesis, Block, with_pairs, typed_named, unless_repeated, distinct_of, with_distinct}
 use Rattle.mmsyntax.specs.Steps.{step_tests, float_named, hypothesis_named, step_named, unless_faulty, step_of}
 use Rattle.mmsyntax.specs.Grammar.{ReadsAfter, Restricts, StepsAfter}
 use Rattle.mmsyntax.specs.Layout.{no_float, float_at}
-use Rattle.mmsyntax.specs.Assertions.{IsSymbolOf, BeginsWithConstant, IsExpression, IsPairOf, AreAscending, IsNameable}
+use Rattle.mmsyntax.specs.Dotted.{is_dotted}
+use Rattle.mmsyntax.specs.Assertions.{IsSymbolOf, BeginsWithConstant, IsExpression, IsPairOf, AreAscending, CitesApart, IsNameable}
 use Rattle.mmsyntax.proofs.Names.{place_of-at, variable_from_named}
-use Rattle.mmsyntax.proofs.Distinct.{all_push}
+use Rattle.mmsyntax.proofs.Distinct.{all_push, all_weaker}
 use Rattle.mmsyntax.proofs.Lines.{IsWord}
 use Rattle.mmsyntax.proofs.Sound.{cond_none, if_ok}
 use Rattle.mmsyntax.proofs.Pairs.{pairs_with, pairs_ascend}
@@ -137,33 +138,32 @@ some_bytes (b ∷ bs) h = one (length bs)
 at_most : (n limit : ℕ) → ltb limit n ≡ false → leb n limit ≡ true
 at_most n limit h = grind (arith, nat_tests)
 
-all_five : (a b c d e : Bool) → a ≡ true → b ≡ true → c ≡ true → d ≡ true → e ≡ true → (a && b && c && d && e) ≡ true
-all_five a b c d e h i j k l = rw (h, i, j, k, l)
+all_four : (a b c d : Bool) → a ≡ true → b ≡ true → c ≡ true → d ≡ true → (a && b && c && d) ≡ true
+all_four a b c d h i j k = rw (h, i, j, k)
 
 -- bytes of a label, if it names nothing that it may not
-pub label_five : (w : Word) (named : Bool) → IsWord w → is_label w ≡ true → (has_dot w || ltb 255 (length w)) ≡ false → named ≡ false
-    → (leb 1 (length w) && leb (length w) 255 && is_label w && not (has_dot w) && not named) ≡ true
-label_five w named word label plain new =
-    let p = or_parts (has_dot w) (ltb 255 (length w)) plain in
-    all_five (leb 1 (length w)) (leb (length w) 255) (is_label w) (not (has_dot w)) (not named) (some_bytes w word.0)
-    (at_most (length w) 255 p.1) label (ap not p.0) (ap not new)
+pub label_four : (w : Word) (named : Bool) → IsWord w → is_label w ≡ true → ltb 255 (length w) ≡ false → named ≡ false
+    → (leb 1 (length w) && leb (length w) 255 && is_label w && not named) ≡ true
+label_four w named word label short new =
+    all_four (leb 1 (length w)) (leb (length w) 255) (is_label w) (not named) (some_bytes w word.0) (at_most (length w) 255 short) label
+    (ap not new)
 
 -- ---- steps
 
--- what passing tests of a step say
-record StepPasses (t : Tables) (hyps : List Hypothesis) (count : ℕ) (w : Word) (s : Step) : Type 0 where
+-- what passing tests of a step in the proof of L say
+record StepPasses (t : Tables) (own : Word) (hyps : List Hypothesis) (count : ℕ) (w : Word) (s : Step) : Type 0 where
   label : is_label w ≡ true
   room : count < 16384
-  is_named : step_named w (float_named (meaning t w)) (hypothesis_named hyps w) ≡ Ok s
+  is_named : step_named own w (float_named (meaning t w)) (hypothesis_named hyps w) ≡ Ok s
 
 pub no_fault : (o : Option FaultKind) (r : Result Step FaultKind) (s : Step) → unless_faulty o r ≡ Ok s → (o ≡ None) × (r ≡ Ok s)
 no_fault (Some kind) r s h = absurd cc
 no_fault None r s h = (refl, h)
 
-step_passes : (t : Tables) (hyps : List Hypothesis) (count : ℕ) (w : Word) (s : Step) → step_of t hyps count w ≡ Ok s
-    → StepPasses t hyps count w s
+step_passes : (t : Tables) (own : Word) (hyps : List Hypothesis) (count : ℕ) (w : Word) (s : Step) → step_of t own hyps count w ≡ Ok s
+    → StepPasses t own hyps count w s
 unfolding step_of
-step_passes t hyps count w s h =
+step_passes t own hyps count w s h =
     let both = no_fault (first_fault (step_tests count w)) _ s h in
     let tests = step_tests count w in
     let a = cond_none (bytes_eq w (codes "?") || bytes_eq w (codes "(")) OutOfProfile (first_fault (drop 1 tests)) both.0 in
@@ -178,60 +178,67 @@ float_label t w (Some (Constant i)) j e h = absurd cc
 float_label t w (Some (Variable i o)) j e h = absurd cc
 float_label t w None j e h = absurd cc
 
-named_step : (t : Tables) (hyps : List Hypothesis) (w : Word) (s : Step) (f h : Option ℕ) → IsWord w → is_label w ≡ true
-    → float_named (meaning t w) ≡ f → hypothesis_named hyps w ≡ h → step_named w f h ≡ Ok s → IsNameable t (length hyps) s
-named_step t hyps w s (Some j) h word label ef eh n = let same : FloatStep j ≡ s = cc in
-    subst (IsNameable t (length hyps)) same (float_label t w (meaning t w) j refl ef)
-named_step t hyps w s None (Some i) word label ef eh n = let same : Hyp i ≡ s = cc in
-    subst (IsNameable t (length hyps)) same (place_of-at (λ h. bytes_eq w h.label) hyps i (record { label = []; expression = [] }) eh).0
-named_step t hyps w s None None word label ef eh n =
-    let both = if_ok (has_dot w || ltb 255 (length w)) BadLabel (Ok (Cite w)) s n in
-    let same : Cite w ≡ s = let e : Ok (Cite w) ≡ Ok s = both.1 in cc in
-    subst (IsNameable t (length hyps)) same (label_five w (is_some (float_named (meaning t w))) word label both.0 (ap is_some ef))
-
-steps_nameable : (t : Tables) (hyps : List Hypothesis) (front : List Step) (ws : List Word) (steps : List Step) → AllByRecursion IsWord ws
-    → AllByRecursion (IsNameable t (length hyps)) front → StepsAfter t hyps front ws steps
-    → AllByRecursion (IsNameable t (length hyps)) steps
-steps_nameable t hyps front [] steps words h d = subst (AllByRecursion (IsNameable t (length hyps))) d h
-steps_nameable t hyps front (w ∷ ws) steps words h d =
-    let p = step_passes t hyps (length front) w d.0 d.1 in
-    let s = named_step t hyps w d.0 (float_named (meaning t w)) (hypothesis_named hyps w) words.0 p.label refl refl p.is_named in
-    steps_nameable t hyps (front ++ d.0 ∷ []) ws steps words.1 (all_push (IsNameable t (length hyps)) front d.0 h s) d.2
-
-steps_few : (t : Tables) (hyps : List Hypothesis) (front : List Step) (ws : List Word) (steps : List Step) → length front ≤ 16384
-    → StepsAfter t hyps front ws steps → length steps ≤ 16384
-steps_few t hyps front [] steps h d = subst (λ (x : List Step). length x ≤ 16384) d h
-steps_few t hyps front (w ∷ ws) steps h d =
-    let room : length front < 16384 = (step_passes t hyps (length front) w d.0 d.1).room in
-    steps_few t hyps (front ++ d.0 ∷ []) ws steps (omega (arith, length-append front (d.0 ∷ []))) d.2
-
 more_steps : (front : List Step) (s : Step) → (front ++ s ∷ []) ≢ []
 more_steps [] s = λ h. absurd cc
 more_steps (x ∷ front) s = λ h. absurd cc
 
-steps_stay : (t : Tables) (hyps : List Hypothesis) (front : List Step) (ws : List Word) (steps : List Step) → front ≢ []
-    → StepsAfter t hyps front ws steps → steps ≢ []
-steps_stay t hyps front [] steps some d = subst (λ (x : List Step). x ≢ []) d some
-steps_stay t hyps front (w ∷ ws) steps some d = steps_stay t hyps (front ++ d.0 ∷ []) ws steps (more_steps front d.0) d.2
+module _ (t : Tables) (own : Word) (hyps : List Hypothesis) where
+  -- a step of the proof of L that a text can name
+  abbrev IsStep : Step → Type 0
+  IsStep s = IsNameable t (length hyps) s × CitesApart own s
 
-steps_some : (t : Tables) (hyps : List Hypothesis) (ws : List Word) (steps : List Step) → ws ≢ [] → StepsAfter t hyps [] ws steps
-    → steps ≢ []
-steps_some t hyps [] steps some d = absurd (some refl)
-steps_some t hyps (w ∷ ws) steps some d = steps_stay t hyps (d.0 ∷ []) ws steps (more_steps [] d.0) d.2
+  named_step : (w : Word) (s : Step) (f h : Option ℕ) → IsWord w → is_label w ≡ true → float_named (meaning t w) ≡ f
+      → hypothesis_named hyps w ≡ h → step_named own w f h ≡ Ok s → IsStep s
+  named_step w s (Some j) h word label ef eh n = let same : FloatStep j ≡ s = cc in
+      subst IsStep same (float_label t w (meaning t w) j refl ef, tt)
+  named_step w s None (Some i) word label ef eh n = let same : Hyp i ≡ s = cc in
+      subst IsStep same ((place_of-at (λ h. bytes_eq w h.label) hyps i (record { label = []; expression = [] }) eh).0, tt)
+  named_step w s None None word label ef eh n =
+      let short = if_ok (ltb 255 (length w)) BadLabel _ s n in
+      let apart = if_ok (is_dotted own w) LabelClashes (Ok (Cite w)) s short.1 in
+      let same : Cite w ≡ s = let e : Ok (Cite w) ≡ Ok s = apart.1 in cc in
+      subst IsStep same (label_four w (is_some (float_named (meaning t w))) word label short.0 (ap is_some ef), apart.0)
 
--- the steps of a proof
-pub record AreSteps (t : Tables) (hyps : ℕ) (steps : List Step) : Type 0 where
+  steps_named : (front : List Step) (ws : List Word) (steps : List Step) → AllByRecursion IsWord ws → AllByRecursion IsStep front
+      → StepsAfter t own hyps front ws steps → AllByRecursion IsStep steps
+  steps_named front [] steps words h d = subst (AllByRecursion IsStep) d h
+  steps_named front (w ∷ ws) steps words h d =
+      let p = step_passes t own hyps (length front) w d.0 d.1 in
+      let s = named_step w d.0 (float_named (meaning t w)) (hypothesis_named hyps w) words.0 p.label refl refl p.is_named in
+      steps_named (front ++ d.0 ∷ []) ws steps words.1 (all_push IsStep front d.0 h s) d.2
+
+  steps_few : (front : List Step) (ws : List Word) (steps : List Step) → length front ≤ 16384 → StepsAfter t own hyps front ws steps
+      → length steps ≤ 16384
+  steps_few front [] steps h d = subst (λ (x : List Step). length x ≤ 16384) d h
+  steps_few front (w ∷ ws) steps h d =
+      let room : length front < 16384 = (step_passes t own hyps (length front) w d.0 d.1).room in
+      steps_few (front ++ d.0 ∷ []) ws steps (omega (arith, length-append front (d.0 ∷ []))) d.2
+
+  steps_stay : (front : List Step) (ws : List Word) (steps : List Step) → front ≢ [] → StepsAfter t own hyps front ws steps → steps ≢ []
+  steps_stay front [] steps some d = subst (λ (x : List Step). x ≢ []) d some
+  steps_stay front (w ∷ ws) steps some d = steps_stay (front ++ d.0 ∷ []) ws steps (more_steps front d.0) d.2
+
+  steps_some : (ws : List Word) (steps : List Step) → ws ≢ [] → StepsAfter t own hyps [] ws steps → steps ≢ []
+  steps_some [] steps some d = absurd (some refl)
+  steps_some (w ∷ ws) steps some d = steps_stay (d.0 ∷ []) ws steps (more_steps [] d.0) d.2
+
+-- the steps of the proof of L
+pub record AreSteps (t : Tables) (own : Word) (hyps : ℕ) (steps : List Step) : Type 0 where
   pub nameable : AllByRecursion (IsNameable t hyps) steps
+  pub apart : AllByRecursion (CitesApart own) steps
   pub few : length steps ≤ 16384
   pub some : steps ≢ []
 
-pub read_steps : (t : Tables) (hyps : List Hypothesis) (ws : List Word) (steps : List Step) → ws ≢ [] → AllByRecursion IsWord ws
-    → StepsAfter t hyps [] ws steps → AreSteps t (length hyps) steps
-read_steps t hyps ws steps some words d = record {
-  nameable = steps_nameable t hyps [] ws steps words tt d;
-  few = steps_few t hyps [] ws steps (omega arith) d;
-  some = steps_some t hyps ws steps some d;
-}
+pub read_steps : (t : Tables) (own : Word) (hyps : List Hypothesis) (ws : List Word) (steps : List Step) → ws ≢ []
+    → AllByRecursion IsWord ws → StepsAfter t own hyps [] ws steps → AreSteps t own (length hyps) steps
+read_steps t own hyps ws steps some words d =
+    let named = steps_named t own hyps [] ws steps words tt d in
+    record {
+      nameable = all_weaker (IsStep t own hyps) (IsNameable t (length hyps)) steps (λ s h. h.0) named;
+      apart = all_weaker (IsStep t own hyps) (CitesApart own) steps (λ s h. h.1) named;
+      few = steps_few t own hyps [] ws steps (omega arith) d;
+      some = steps_some t own hyps ws steps some d;
+    }
 
 -- ---- $d
 

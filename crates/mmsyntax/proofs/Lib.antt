@@ -7,6 +7,7 @@ pub mod Pairs
 pub mod Found
 pub mod Units
 pub mod Numbered
+pub mod HypothesisLabels
 pub mod Again
 pub mod Preludes
 pub mod Blocks

@@ -10,7 +10,8 @@ use Rattle.mmsyntax.specs.declared.symbols.Name.TheVariants.{Variable}
 use Rattle.mmtext.specs.declared.fault.FaultKind.TheVariants.{UnknownSymbol}
 use Rattle.mmtext.specs.Words.{Word, has_dollar}
 use Rattle.mmsyntax.specs.Tables.{Tables, place_of, float_of, named, meaning}
-use Rattle.mmsyntax.specs.Rows.{Known, nothing, is_used, Pass, symbol_tests, label_tests, type_named, type_of, variable_named, variable_of}
+use Rattle.mmsyntax.specs.Rows.{Known, nothing, is_used, Pass, symbol_tests, float_label_tests, type_named, type_of, variable_named}
+use Rattle.mmsyntax.specs.Rows.{variable_of}
 use Rattle.mmsyntax.specs.Grammar.{Statement, DeclaresConstants, DeclaresVariables, Declares, DeclareAll}
 use Rattle.mmsyntax.specs.Layout.{word_at, constants_of, variables_of, float_statement, canonical_prelude}
 use Rattle.mmsyntax.specs.Assertions.{Distinct}
@@ -26,8 +27,10 @@ symbol_pass : (k : Known) (n : ℕ) (w : Word) → IsSymbolWord w → is_used k 
 symbol_pass k n w s new room = none_cond _ _ _ s.no_dollar
     (none_cond _ _ _ s.short (none_cond _ _ _ s.form (none_cond _ _ _ new (none_cond _ _ _ (lt-leb 65535 n room) refl))))
 
-label_pass : (k : Known) (n limit : ℕ) (w : Word) → IsLabelWord w → is_used k w ≡ false → n < limit → Pass (label_tests k n limit w)
-label_pass k n limit w s new room = none_cond _ _ _ s.plain (none_cond _ _ _ new (none_cond _ _ _ (lt-leb limit n room) refl))
+float_label_pass : (k : Known) (w : Word) → IsLabelWord w → is_used k w ≡ false → length k.tables.floats < 65535
+    → Pass (float_label_tests k w)
+float_label_pass k w s new room =
+    none_cond _ _ _ s.plain (none_cond _ _ _ new (none_cond _ _ _ (lt-leb 65535 (length k.tables.floats) room) refl))
 
 -- a word that differs from all names of the tables before it
 is_new : (t : Tables) (before : List Word) (w : Word) (later : List Word) → prelude_names t ≡ before
@@ -137,7 +140,7 @@ module _ (t : Tables) (s : AreSound t) where
       let v = plain_at t.variables f.variable s.variables_sound x.variable_within in (
         refl,
         x.label.label,
-        label_pass (bare (t2 front)) (length front) 65535 f.label x.label
+        float_label_pass (bare (t2 front)) f.label x.label
             (is_new (t2 front) (t.constants ++ (t.variables ++ float_labels front)) f.label later refl d) room,
         (
           f.type_code,

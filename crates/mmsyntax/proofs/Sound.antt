@@ -12,16 +12,17 @@ use Rattle.mmsyntax.specs.declared.symbols.Name.TheVariants.{Constant, Variable,
 use Rattle.mmtext.specs.declared.fault.FaultKind.{FaultKind}
 use Rattle.mmtext.specs.Words.{Word, has_dollar, has_dot, is_label, has_hypothesis_form}
 use Rattle.mmsyntax.specs.Tables.{Tables, place_of, float_of, named, meaning}
-use Rattle.mmsyntax.specs.Rows.{Known, no_units, nothing, in_prelude, Pass, symbol_tests, label_tests, float_label_tests, type_named}
-use Rattle.mmsyntax.specs.Rows.{type_of, variable_named, variable_of, with_constant, with_variable, with_float, with_hypothesis_label}
-use Rattle.mmsyntax.specs.Rows.{with_assertion}
+use Rattle.mmsyntax.specs.Rows.{Known, no_units, nothing, in_prelude, clashes, Pass, symbol_tests, float_label_tests, assertion_label_tests}
+use Rattle.mmsyntax.specs.Rows.{type_named, type_of, variable_named, variable_of, with_constant, with_variable, with_float}
+use Rattle.mmsyntax.specs.Rows.{with_hypothesis_label, with_assertion}
 use Rattle.mmsyntax.specs.Grammar.{DeclaresConstants, DeclaresVariables}
 pub use Rattle.mmsyntax.specs.Preludes.{IsSymbolWord, IsLabelWord, IsFloatSound, AreSound, variables_used}
 use Rattle.mmsyntax.specs.Assertions.{Distinct, IsUnit, is_lawful_label}
-use Rattle.mmsyntax.specs.Dotted.{AreApart}
+use Rattle.mmsyntax.specs.Dotted.{clash, AreApart}
 use Rattle.mmsyntax.proofs.Names.{place_of-at, variable_from_named, bytes_eq-sym}
 use Rattle.mmsyntax.proofs.Distinct.{distinct_insert, float_labels, labels_of, prelude_names, is_some-meaning, is_some-place_of, IsNew}
-use Rattle.mmsyntax.proofs.Distinct.{new_word, all_push, all_weaker}
+use Rattle.mmsyntax.proofs.Distinct.{new_word, any-map, all_push, all_weaker}
+use Rattle.mmsyntax.proofs.Apart.{apart_nil, apart_behind}
 use Rattle.mmsyntax.proofs.Lines.{IsWord}
 
 -- the tables alone
@@ -54,13 +55,15 @@ nothing_sound = record {
   units = tt;
   lawful = tt;
   distinct = tt;
+  apart = apart_nil;
   few = omega arith;
   unclosed = λ _. refl;
 }
 
 -- sound tables with no assertion
 pub alone_sound : (t : Tables) (closed : Bool) → AreSound t → IsSound (record { tables = t; units = no_units closed })
-alone_sound t closed s = record { tables = s; units = tt; lawful = tt; distinct = tt; few = omega arith; unclosed = λ _. refl }
+alone_sound t closed s =
+    record { tables = s; units = tt; lawful = tt; distinct = tt; apart = apart_nil; few = omega arith; unclosed = λ _. refl }
 
 -- ---- what passing tests say
 
@@ -84,17 +87,31 @@ symbol_passes k n w h =
     let e = cond_none _ _ _ d.1 in
     record { no_dollar = a.0; short = b.0; form = c.0; new = new_word k w d.0; room = leb-false 65535 n e.0 }
 
-pub record LabelPasses (k : Known) (n limit : ℕ) (w : Word) : Type 0 where
-  pub plain : (has_dot w || nat_lt 255 (length w)) ≡ false
-  pub new : IsNew k w
-  pub room : n < limit
+record FloatLabelPasses (k : Known) (w : Word) : Type 0 where
+  plain : (has_dot w || nat_lt 255 (length w)) ≡ false
+  new : IsNew k w
+  room : length k.tables.floats < 65535
 
-pub label_passes : (k : Known) (n limit : ℕ) (w : Word) → Pass (label_tests k n limit w) → LabelPasses k n limit w
-label_passes k n limit w h =
+float_label_passes : (k : Known) (w : Word) → Pass (float_label_tests k w) → FloatLabelPasses k w
+float_label_passes k w h =
     let a = cond_none _ _ _ h in
     let b = cond_none _ _ _ a.1 in
     let c = cond_none _ _ _ b.1 in
-    record { plain = a.0; new = new_word k w b.0; room = leb-false limit n c.0 }
+    record { plain = a.0; new = new_word k w b.0; room = leb-false 65535 (length k.tables.floats) c.0 }
+
+pub record AssertionLabelPasses (k : Known) (w : Word) : Type 0 where
+  pub short : nat_lt 255 (length w) ≡ false
+  pub new : IsNew k w
+  pub clear : clashes k.units.assertions w ≡ false
+  pub room : length k.units.assertions < 4096
+
+pub assertion_label_passes : (k : Known) (w : Word) → Pass (assertion_label_tests k w) → AssertionLabelPasses k w
+assertion_label_passes k w h =
+    let a = cond_none _ _ _ h in
+    let b = cond_none _ _ _ a.1 in
+    let c = cond_none _ _ _ b.1 in
+    let d = cond_none _ _ _ c.1 in
+    record { short = a.0; new = new_word k w b.0; clear = c.0; room = leb-false 4096 (length k.units.assertions) d.0 }
 
 -- ---- names stay different
 
@@ -125,6 +142,7 @@ with_tables k t opens s now =
       units = subst (AllByRecursion (IsUnit t)) (sym none) tt;
       lawful = subst (AllByRecursion (λ a. IsTrue (is_lawful_label t a.label))) (sym none) tt;
       distinct = s.distinct;
+      apart = s.apart;
       few = s.few;
       unclosed = s.unclosed;
     }
@@ -231,7 +249,7 @@ pub float_sound : (k after : Known) (label c v : Word) (i j : ℕ) → IsTrue (i
 float_sound k after label c v i j opens sound is_word is_l pass ty va whole =
     let s = sound.tables in
     let t = k.tables in
-    let p = label_passes k (length t.floats) 65535 label pass in
+    let p = float_label_passes k label pass in
     let f : Float = record { label = label; type_code = i; variable = j } in
     let fs = t.floats in
     let cs = t.constants in
@@ -268,23 +286,26 @@ hypothesis_sound k w s = record {
   units = s.units;
   lawful = s.lawful;
   distinct = s.distinct;
+  apart = s.apart;
   few = s.few;
-  unclosed =
-      s.unclosed;
+  unclosed = s.unclosed;
 }
 
 pub assertion_sound : (k : Known) (a : Assertion) → IsSound k → IsUnit k.tables a → IsTrue (is_lawful_label k.tables a.label)
-    → list_any (bytes_eq a.label) (labels_of k.units.assertions) ≡ false → length k.units.assertions < 4096 → IsSound (with_assertion k a)
-assertion_sound k a s unit lawful new room =
+    → AssertionLabelPasses k a.label → IsSound (with_assertion k a)
+assertion_sound k a s unit lawful p =
     let xs = k.units.assertions in
     let ls = labels_of xs in
+    let behind : labels_of (xs ++ a ∷ []) ≡ ls ++ a.label ∷ [] = map-append (λ x. x.label) xs (a ∷ []) in
     record {
       tables = s.tables;
       units = all_push (IsUnit k.tables) xs a s.units unit;
       lawful = all_push (λ x. IsTrue (is_lawful_label k.tables x.label)) xs a s.lawful lawful;
-      distinct = subst (Distinct bytes_eq) (sym (map-append (λ x. x.label) xs (a ∷ [])))
+      distinct = subst (Distinct bytes_eq) (sym behind)
           (distinct_insert bytes_eq bytes_eq-sym ls [] a.label (subst (Distinct bytes_eq) (sym (append-nil ls)) s.distinct)
-          (ap (list_any (bytes_eq a.label)) (append-nil ls) ∙ new));
-      few = omega (arith, length-append xs (a ∷ []));
+          (ap (list_any (bytes_eq a.label)) (append-nil ls) ∙ p.new.not_label));
+      apart = subst AreApart (sym behind)
+          (apart_behind ls a.label (any-map (λ l. clash l a.label) (λ x. x.label) xs ∙ p.clear) s.apart);
+      few = let room : length xs < 4096 = p.room in omega (arith, length-append xs (a ∷ []));
       unclosed = λ h. absurd cc;
     }

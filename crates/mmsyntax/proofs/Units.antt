@@ -19,12 +19,12 @@ use Rattle.mmsyntax.specs.Rows.{Known, Pass, is_used, first_fault, in_prelude, a
 use Rattle.mmsyntax.specs.Blocks.{Hypothesis, Block, no_block, hypothesis_label_tests, with_hypothesis, assertion_of, axiom_of, theorem_of}
 use Rattle.mmsyntax.specs.Grammar.{Claim, asserted, proved, Piece, distinct, hypothesis, Statement, constants, variables, float, alone}
 use Rattle.mmsyntax.specs.Grammar.{block, claim_spelling, piece_spelling, spelling, Claims, Holds, HoldAll, Declares, DeclareAll}
-use Rattle.mmsyntax.specs.Assertions.{IsExpression, IsPairOf, Fits, IsNameable, IsUnit}
+use Rattle.mmsyntax.specs.Assertions.{IsExpression, IsPairOf, CitesApart, Fits, IsNameable, IsUnit}
 use Rattle.mmsyntax.proofs.Distinct.{all_push, all_left, all_right}
 use Rattle.mmsyntax.proofs.Lines.{IsWord}
-use Rattle.mmsyntax.proofs.Sound.{IsSound, cond_none, label_passes, constants_all, variables_all, float_sound, hypothesis_sound}
-use Rattle.mmsyntax.proofs.Sound.{assertion_sound}
-use Rattle.mmsyntax.proofs.Found.{read_expression, label_five, AreSteps, read_steps, AreRestricted, restricts}
+use Rattle.mmsyntax.proofs.Sound.{IsSound, cond_none, assertion_label_passes, constants_all, variables_all, float_sound}
+use Rattle.mmsyntax.proofs.Sound.{hypothesis_sound, assertion_sound}
+use Rattle.mmsyntax.proofs.Found.{read_expression, label_four, AreSteps, read_steps, AreRestricted, restricts}
 
 abbrev pub expressions : List Hypothesis → List (List Symbol)
 expressions hyps = map (λ h. h.expression) hyps
@@ -96,8 +96,8 @@ pieces_held (p ∷ ps) k b after held s h d =
 -- ---- $a and $p
 
 unit_fits : (t : Tables) (b : Block) (w : Word) (kind : Kind) (e : List Symbol) (steps : List Step) → IsBlockSound t b → IsExpression t e
-    → (kind ≡ Axiom → steps ≡ []) → length steps ≤ 16384 → Fits t (assertion_of b w kind e steps)
-unit_fits t b w kind e steps h x none few = record {
+    → (kind ≡ Axiom → steps ≡ []) → length steps ≤ 16384 → AllByRecursion (CitesApart w) steps → Fits t (assertion_of b w kind e steps)
+unit_fits t b w kind e steps h x none few apart = record {
   statement = x;
   hyps = All-from_recursion (IsExpression t) (expressions b.hyps) h.hyps;
   few_hyps = omega (arith, length-map b.hyps (λ (g : Hypothesis). g.expression), h.few_hyps);
@@ -106,19 +106,20 @@ unit_fits t b w kind e steps h x none few = record {
   few_pairs = h.pairs.few;
   no_axiom_proof = none;
   few_steps = few;
+  cites_apart = All-from_recursion (CitesApart w) steps apart;
 }
 
 axiom_unit : (t : Tables) (b : Block) (w : Word) (e : List Symbol) → IsBlockSound t b → IsExpression t e → IsUnit t (axiom_of b w e)
 axiom_unit t b w e h x = record {
-  fits = unit_fits t b w Axiom e [] h x (λ _. refl) (omega arith);
+  fits = unit_fits t b w Axiom e [] h x (λ _. refl) (omega arith) tt;
   some_steps = λ c. absurd cc;
   steps = All-from_recursion (IsNameable t (length (expressions b.hyps))) [] tt;
 }
 
 theorem_unit : (t : Tables) (b : Block) (w : Word) (e : List Symbol) (steps : List Step) → IsBlockSound t b → IsExpression t e
-    → AreSteps t (length b.hyps) steps → IsUnit t (theorem_of b w e steps)
+    → AreSteps t w (length b.hyps) steps → IsUnit t (theorem_of b w e steps)
 theorem_unit t b w e steps h x s = record {
-  fits = unit_fits t b w Theorem e steps h x (λ c. absurd cc) s.few;
+  fits = unit_fits t b w Theorem e steps h x (λ c. absurd cc) s.few s.apart;
   some_steps = λ _. s.some;
   steps = All-from_recursion (IsNameable t (length (expressions b.hyps))) steps
       (subst (λ (n : ℕ). AllByRecursion (IsNameable t n) steps) (sym (length-map b.hyps (λ (g : Hypothesis). g.expression))) s.nameable);
@@ -127,8 +128,8 @@ theorem_unit t b w e steps h x s = record {
 claim_label : (k : Known) (a : Assertion) → IsSound k → IsUnit k.tables a → IsWord a.label → IsTrue (is_label a.label)
     → Pass (assertion_label_tests k a.label) → IsSound (with_assertion k a)
 claim_label k a s u word label pass =
-    let p = label_passes k (length k.units.assertions) 4096 a.label pass in
-    assertion_sound k a s u (label_five a.label _ word label p.plain p.new.not_named) p.new.not_label p.room
+    let p = assertion_label_passes k a.label pass in
+    assertion_sound k a s u (label_four a.label _ word label p.short p.new.not_named) p
 
 claim_sound : (k : Known) (b : Block) (claim : Claim) (a : Assertion) → IsSound k → IsBlockSound k.tables b
     → AllByRecursion IsWord (claim_spelling claim) → Claims k b claim a → IsSound (with_assertion k a)
@@ -143,7 +144,7 @@ claim_sound k b (proved label ws steps) a s h words d =
     let behind = all_right IsWord ws (codes "$=" ∷ (steps ++ codes "$." ∷ [])) words.1.1 in
     let step_words = all_left IsWord steps (codes "$." ∷ []) behind.1 in
     let u = theorem_unit k.tables b label e ss h (read_expression k.tables ws e d.2 rest.2)
-    (read_steps k.tables b.hyps steps ss d.3 step_words rest.3) in
+    (read_steps k.tables label b.hyps steps ss d.3 step_words rest.3) in
     subst (λ (x : Assertion). IsSound (with_assertion k x)) rest.4 (claim_label k (theorem_of b label e ss) s u words.0 d.0 d.1)
 
 -- ---- statements

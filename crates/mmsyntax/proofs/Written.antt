@@ -24,7 +24,7 @@ use Rattle.mmsyntax.specs.Layout.{distinct_pieces, hypothesis_pieces, claim_of_k
 use Rattle.mmsyntax.specs.Assertions.{IsSymbolOf, IsExpression, IsPairOf, IsNameable, IsUnit, is_lawful_label}
 use Rattle.mmsyntax.proofs.Distinct.{all_append, all_map}
 use Rattle.mmsyntax.proofs.Lines.{IsWord, IsWritten}
-use Rattle.mmsyntax.proofs.Sound.{IsSymbolWord, IsFloatSound, AreSound}
+use Rattle.mmsyntax.specs.Preludes.{IsSymbolWord, IsFloatSound, AreSound}
 use Rattle.mmsyntax.proofs.Numbered.{differ, number_label, number_word}
 use Rattle.mmsyntax.proofs.Again.{IsPlainLabel, plain_label, label_word, plain_at, symbol_is_word, float_sound}
 
@@ -117,16 +117,18 @@ module _ (t : Tables) (s : AreSound t) where
       label_written (hypothesis_label label (suc n)) (number_word label (suc n) is_l small) (number_label label (suc n) is_l small)
   step_written label is_l count few (Cite w) h =
       let p = plain_label w (is_some (float_named (meaning t w))) h in
-      label_written w (label_word w (is_some (float_named (meaning t w))) p).word p.label
+      label_written w (label_word w (is_some (float_named (meaning t w))) p) p.label
 
   claim_written : (a : Assertion) (kind : Kind) → IsUnit t a → IsPlainLabel a.label (is_some (meaning t a.label)) → AllByRecursion IsWritten (claim_spelling (claim_of_kind kind a.label (map (symbol_word t) a.statement) (map (step_word t a.label) a.proof)))
   claim_written a Axiom u p =
-      (label_written a.label (label_word a.label (is_some (meaning t a.label)) p).word p.label, (keyword 97 refl refl, ended (map (symbol_word t) a.statement) (expression_written a.statement u.fits.statement)))
+      let label = label_written a.label (label_word a.label (is_some (meaning t a.label)) p) p.label in
+      (label, (keyword 97 refl refl, ended (map (symbol_word t) a.statement) (expression_written a.statement u.fits.statement)))
   claim_written a Theorem u p =
       let ws = map (symbol_word t) a.statement in
       let few : length a.hyps ≤ 1000 = u.fits.few_hyps in
       let steps = all_map (IsNameable t (length a.hyps)) IsWritten (step_word t a.label) a.proof (step_written a.label p.label (length a.hyps) few) (recursion_from_All (IsNameable t (length a.hyps)) a.proof u.steps) in
-      (label_written a.label (label_word a.label (is_some (meaning t a.label)) p).word p.label, (keyword 112 refl refl, all_append IsWritten ws _ (expression_written a.statement u.fits.statement) (keyword 61 refl refl, ended (map (step_word t a.label) a.proof) steps)))
+      let label = label_written a.label (label_word a.label (is_some (meaning t a.label)) p) p.label in
+      (label, (keyword 112 refl refl, all_append IsWritten ws _ (expression_written a.statement u.fits.statement) (keyword 61 refl refl, ended (map (step_word t a.label) a.proof) steps)))
 
   unit_of_written : (ps : List Piece) (claim : Claim) → AllByRecursion ArePieceWords ps → AllByRecursion IsWritten (claim_spelling claim) → AreWritten (unit_of ps claim)
   unfolding AreWritten ArePieceWords

@@ -70,6 +70,11 @@ impl Pair {
         })
     }
 
+    /// Whether commands are within the limits of the library's prelude: the two are asked of no others.
+    pub fn takes(&self, commands: &[Command]) -> bool {
+        all_fit(self.written.prelude(), commands)
+    }
+
     /// Whether the two list and show the same.
     ///
     /// # Errors
