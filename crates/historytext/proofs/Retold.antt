@@ -62,7 +62,7 @@ pub record UnitRetold (t : Tables) (a : Assertion) : Type 0 where
 pub unit_alone : (t : Tables) (a : Assertion) → IsSoundPrelude t → IsUnit t a → IsTrue (is_lawful_label t a.label) → UnitRetold t a
 unit_alone t a sound unit lawful =
     let tables = sound_tables t sound in
-    let again = unit_declares t tables true [] [] a unit lawful tt refl (omega arith) tt in
+    let again = unit_declares t tables true [] [] a unit lawful refl refl (omega arith) tt in
     record {
       declares = (
         record { tables = t; units = record { assertions = a ∷ []; hypothesis_labels = again.behind; prelude_closed = true } },

@@ -15,7 +15,7 @@ use Rattle.mmsyntax.specs.declared.statement.Step.{Step}
 use Rattle.mmsyntax.specs.Tables.{Tables, meaning}
 use Rattle.mmsyntax.specs.Grammar.{spelling}
 use Rattle.mmsyntax.specs.Layout.{line, step_word, unit_statement, IsSoundPrelude}
-use Rattle.mmsyntax.specs.Assertions.{IsNameable}
+use Rattle.mmsyntax.specs.Assertions.{CitesApart, IsNameable}
 use Rattle.mmsyntax.proofs.Again.{IsPlainLabel, plain_label}
 use Rattle.mmsyntax.proofs.Canonical.{sound_tables}
 use Rattle.mmsyntax.proofs.Distinct.{all_append, all_map}
@@ -119,6 +119,7 @@ module _ (t : Tables) (sound : IsSoundPrelude t) where
       let p = plain_of label h.0 in
       let s = sound_tables t sound in
       let nameable = recursion_from_All (IsNameable t 1000) steps h.3 in
+      let apart = recursion_from_All (CitesApart label) steps h.4 in
       let named = map (step_word t label) steps in
       record {
         words = codes "reprove" ∷ label ∷ codes "$=" ∷ (named ++ codes "$." ∷ []);
@@ -126,7 +127,7 @@ module _ (t : Tables) (sound : IsSoundPrelude t) where
           named,
           is_plain label h.0,
           some_words label steps h.1,
-          others_again t s label p.some p.label [] steps nameable h.2,
+          others_again t s label p.some p.label [] steps nameable apart h.2,
           refl,
         );
         written = (

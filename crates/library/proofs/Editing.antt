@@ -149,7 +149,7 @@ edit_verifies s lib (Add rank a) e v fits h =
 edit_verifies s lib (Reprove label steps) e v fits h =
     let next = done (changed label (with_proof steps) lib) in
     found_kept s (found lib label) (λ f. tested (reprove_tests s lib steps f) next) e
-    (λ f here. edit_kept s (reprove_tests s lib steps f) next e (reprove_kept s lib label steps f v here fits)) h
+    (λ f here. edit_kept s (reprove_tests s lib steps f) next e (reprove_kept s lib label steps f v here fits.0)) h
 edit_verifies s lib (Replace label old new) e v fits h =
     let next = λ (f : Ranked). done (changed label (with_proof (recited old new f.assertion.proof)) lib) in
     found_kept s (found lib label) (λ f. tested (replace_tests s lib old new f) (next f)) e

@@ -7,6 +7,7 @@ pub mod Filtered
 pub mod Clashing
 pub mod Lower
 pub mod Showing
+pub mod CitingApart
 pub mod Carrying
 pub mod Citations
 pub mod Opening

@@ -17,7 +17,7 @@ use Rattle.mmsyntax.specs.declared.statement.Kind.TheVariants.{Axiom, Theorem}
 use Rattle.mmsyntax.specs.declared.statement.Step.{Step}
 use Rattle.mmsyntax.specs.declared.statement.Step.TheVariants.{Float, Hyp, Cite}
 use Rattle.mmsyntax.specs.Tables.{Tables}
-use Rattle.mmsyntax.specs.Assertions.{is_lawful_label, IsNameable, IsUnit}
+use Rattle.mmsyntax.specs.Assertions.{is_lawful_label, CitesApart, IsNameable, IsUnit}
 use Rattle.library.specs.declared.library.Ranked.{Ranked}
 use Rattle.library.specs.declared.command.Command.{Command}
 use Rattle.library.specs.declared.command.Command.TheVariants as command
@@ -51,11 +51,11 @@ pub record IsSound (t : Tables) (e : Ranked) : Type 0 where
   pub unit : IsUnit t e.assertion
   pub lawful : IsLawful t (label_of e)
 
--- another proof names at most 1,000 hypotheses
+-- another proof of L names at most 1,000 hypotheses, and no L.k beside them
 abbrev pub IsSoundCommand : Tables → Command → Type 0
 IsSoundCommand t (command.Add rank a) = IsSound t (record { rank = rank; assertion = a })
 IsSoundCommand t (command.Reprove label steps) =
-    IsLawful t label × (steps ≢ []) × (length steps ≤ 16384) × All (IsNameable t 1000) steps
+    IsLawful t label × (steps ≢ []) × (length steps ≤ 16384) × All (IsNameable t 1000) steps × All (CitesApart label) steps
 IsSoundCommand t (command.Replace label old new) = IsLawful t label × IsLawful t old × IsLawful t new
 IsSoundCommand t (command.Rename old new) = IsLawful t old × IsLawful t new
 IsSoundCommand t (command.Move label rank) = IsLawful t label × (rank ≤ highest_rank)
@@ -148,7 +148,7 @@ module _ (s : Setting) (lib : List Ranked) (v : Verifies s lib) (e : Edited) whe
 
   reprove_sound : (label : List ℕ) (steps : List Step) → CommandFits s.prelude (command.Reprove label steps)
       → edit s lib (command.Reprove label steps) ≡ Ok e → IsSoundTurn s.prelude (command.Reprove label steps) e.reply
-  reprove_sound label steps few h =
+  reprove_sound label steps fits h =
       let next = changed label (with_proof steps) lib in
       let act = λ (f : Ranked). tested (reprove_tests s lib steps f) (done next) in
       let here = found_then (found lib label) act e h in
@@ -159,15 +159,16 @@ module _ (s : Setting) (lib : List Ranked) (v : Verifies s lib) (e : Edited) whe
       let at = λ (g : Ranked). if is_labelled label g then with_proof steps g else g in
       let is_new : at f ≡ new = cond-true (is_labelled label f) new f (is_labelled-own label f (sym own.1)) in
       let there : Contains next new = subst (λ g. Contains next g) is_new (contains_mapped at lib f own.0) in
-      let sound = sound_in s e.library (edit_verifies s lib (command.Reprove label steps) e v few h) new
+      let sound = sound_in s e.library (edit_verifies s lib (command.Reprove label steps) e v fits h) new
       (subst (λ (x : Edited). Contains x.library new) passed.1 there) in
       let theorem = theorem_where f.assertion.kind (where_none (is_axiom f.assertion.kind) NotATheorem passed.0.0) in (
         (
           found_lawful s lib v label f here.1,
           sound.unit.some_steps theorem,
-          few,
+          fits.0,
           All-weaker (IsNameable s.prelude (length f.assertion.hyps)) (IsNameable s.prelude 1000)
               (nameable_more s.prelude (length f.assertion.hyps) 1000 sound.unit.fits.few_hyps) steps sound.unit.steps,
+          fits.1,
         ),
         done_reply (reprove_tests s lib steps f) next here.2,
       )

@@ -1,14 +1,15 @@
 -- What a renaming does to a library that verifies: it still verifies.
-use Rattle.std.proofs.Common.{◌≡◌, ◌≢◌, ◌≤◌, ℕ, true, false, cond, List, [], ◌∷◌, map, refl, sym, ap, subst, ◌∙◌}
+use Rattle.std.proofs.Common.{◌≡◌, ◌≢◌, ◌≤◌, ℕ, true, false, cond, List, [], ◌∷◌, get_or, map, refl, sym, ap, subst, ◌∙◌}
 use Rattle.std.specs.Prelude.{IsTrue, nat_lt, filter}
 use Rattle.std.specs.List.{All}
 use Rattle.std.specs.Str.{bytes_eq}
 use Rattle.std.proofs.lemmas.Bool.{cond_both, both_ways}
 use Rattle.std.proofs.lemmas.List.{length-map}
-use Rattle.std.proofs.lemmas.List.Elements.{All-map, All-weaker}
+use Rattle.std.proofs.lemmas.List.Elements.{All-map, All-weaker, Contains-get_or}
 use Rattle.mmsyntax.specs.declared.statement.Assertion.{Assertion}
+use Rattle.mmsyntax.specs.declared.statement.Kind.TheVariants.{Axiom}
 use Rattle.mmsyntax.specs.Tables.{Tables}
-use Rattle.mmsyntax.specs.Assertions.{is_lawful_label, Distinct, Fits}
+use Rattle.mmsyntax.specs.Assertions.{is_lawful_label, CitesApart, Distinct, Fits}
 use Rattle.mmsyntax.specs.Dotted.{AreApart}
 use Rattle.proofcheck.specs.Laws.{replacing, step_relabelled, renamed}
 use Rattle.proofcheck.specs.Derivation.{Proves}
@@ -17,7 +18,9 @@ use Rattle.proofcheck.proofs.Relabelling.{renamed-proves}
 use Rattle.library.specs.declared.library.Ranked.{Ranked}
 use Rattle.library.specs.Library.{Setting, IsLibrary, Verifies, label_of, lower}
 use Rattle.library.specs.Edits.{rename, has, clashes, without}
+use Rattle.library.proofs.CitingApart.{proof_apart}
 use Rattle.library.proofs.Clashing.{apart_replaced}
+use Rattle.library.proofs.Filtered.{contains_mapped}
 use Rattle.library.proofs.Labels.{distinct_replaced}
 use Rattle.library.proofs.Lower.{lower_all}
 use Rattle.library.proofs.Places.{has-labels, has_at}
@@ -29,16 +32,22 @@ renamed_entry old new e = record { rank = e.rank; assertion = renamed old new e.
 
 -- ---- what stays
 
-fits_renamed : (t : Tables) (old new : List ℕ) (a : Assertion) → Fits t a → Fits t (renamed old new a)
-fits_renamed t old new a f = record {
+no_proof_renamed : (old new : List ℕ) (a : Assertion) → (a.kind ≡ Axiom → a.proof ≡ []) → a.kind ≡ Axiom → (renamed old new a).proof ≡ []
+no_proof_renamed old new a none is = ap (map (step_relabelled (replacing old new))) (none is)
+
+-- where the new proof cites apart from the new label
+fits_renamed : (t : Tables) (old new : List ℕ) (a : Assertion) → All (CitesApart (renamed old new a).label) (renamed old new a).proof → Fits t a
+    → Fits t (renamed old new a)
+fits_renamed t old new a apart f = record {
   statement = f.statement;
   hyps = f.hyps;
   few_hyps = f.few_hyps;
   pairs_within = f.pairs_within;
   pairs_ascend = f.pairs_ascend;
   few_pairs = f.few_pairs;
-  no_axiom_proof = λ e. ap (map (step_relabelled (replacing old new))) (f.no_axiom_proof e);
+  no_axiom_proof = no_proof_renamed old new a f.no_axiom_proof;
   few_steps = subst (λ n. n ≤ 16384) (sym (length-map a.proof (step_relabelled (replacing old new)))) f.few_steps;
+  cites_apart = apart;
 }
 
 labels-rename : (old new : List ℕ) (lib : List Ranked) → map label_of (rename old new lib) ≡ map (replacing old new) (map label_of lib)
@@ -97,13 +106,19 @@ pub rename_verifies : (s : Setting) (lib : List Ranked) (old new : List ℕ) →
     → has lib new ≡ false → clashes (without old lib) new ≡ false → Verifies s (rename old new lib)
 rename_verifies s lib old new v lawful free clear =
     let t = s.prelude in
-    let Good = λ (e : Ranked). Fits t e.assertion in
     let f = renamed_entry old new in
     let After = ChecksIn s (rename old new lib) in
+    let library = library_renamed s lib old new v.library lawful free clear in
+    let checks : All (λ e. After (f e)) lib =
+    All-weaker (ChecksIn s lib) (λ e. After (f e)) (λ e. checks_renamed s lib old new e free) lib v.checks in
     record {
       setting = v.setting;
-      library = library_renamed s lib old new v.library lawful free clear;
-      fit = All-map Good f lib (All-weaker Good (λ e. Good (f e)) (λ e. fits_renamed t old new e.assertion) lib v.fit);
-      checks = All-map After f lib
-          (All-weaker (ChecksIn s lib) (λ e. After (f e)) (λ e. checks_renamed s lib old new e free) lib v.checks);
+      library = library;
+      fit = All-map (λ e. Fits t e.assertion) f lib (λ i d lt.
+          let e = get_or lib i d in
+          let fits = v.fit i d lt in
+          let own = contains_mapped label_of (rename old new lib) (f e) (contains_mapped f lib e (Contains-get_or lib i d lt)) in
+          let none = no_proof_renamed old new e.assertion fits.no_axiom_proof in
+          fits_renamed t old new e.assertion (proof_apart s (rename old new lib) library.apart (f e) own none (checks i d lt)) fits);
+      checks = All-map After f lib checks;
     }

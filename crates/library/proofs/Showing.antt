@@ -9,7 +9,7 @@ use Rattle.std.specs.Str.{bytes_eq}
 use Rattle.std.proofs.lemmas.List.{length-map, get_or-map}
 use Rattle.std.proofs.lemmas.List.Elements.{All-map, All-nil, All-same, All-weaker, All-contains}
 use Rattle.std.proofs.lemmas.List.Sorted.{All-permutation, Contains-permutation, IsPermutation-map, IsPermutation-sym, length_permutation}
-use Rattle.mmtext.specs.Words.{is_label, has_dot}
+use Rattle.mmtext.specs.Words.{is_label}
 use Rattle.mmsyntax.specs.declared.statement.Kind.{Kind}
 use Rattle.mmsyntax.specs.declared.statement.Kind.TheVariants.{Axiom, Theorem}
 use Rattle.mmsyntax.specs.declared.statement.Step.{Step}
@@ -18,7 +18,7 @@ use Rattle.mmsyntax.specs.declared.symbols.Name.{Name}
 use Rattle.mmsyntax.specs.Tables.{Tables, meaning}
 use Rattle.mmsyntax.specs.Steps.{float_named}
 use Rattle.mmsyntax.specs.Assertions.{is_lawful_label, is_citable_label, Distinct, Fits, IsNameable, IsUnit, IsDeclarable}
-use Rattle.mmsyntax.proofs.Apart.{apart_plain, lawful_plain}
+use Rattle.mmsyntax.specs.Dotted.{AreApart}
 use Rattle.mmsyntax.proofs.Declarable.{spelled_where_declarable}
 use Rattle.proofcheck.specs.Derivation.{Checks}
 use Rattle.library.specs.declared.library.Ranked.{Ranked}
@@ -80,7 +80,7 @@ last_weaker true e f h k = h k
 -- what may be the label of an assertion a step may cite
 pub lawful_citable : (t : Tables) (w : List ℕ) → IsTrue (is_lawful_label t w) → IsTrue (is_citable_label t w)
 lawful_citable t w h =
-    last_weaker (nat_le 1 (length w) && nat_le (length w) 255 && is_label w && not (has_dot w)) (not (is_some (meaning t w)))
+    last_weaker (nat_le 1 (length w) && nat_le (length w) 255 && is_label w) (not (is_some (meaning t w)))
     (not (is_some (float_named (meaning t w)))) (no_float_label (meaning t w)) h
 
 -- each label that the proof of an entry may cite is lawful
@@ -123,6 +123,7 @@ shown_declarable l v =
       units = All-map (IsUnit l.setting.prelude) (λ e. e.assertion) l.entries (units_of l.setting l.entries v);
       lawful = All-map (λ a. IsTrue (is_lawful_label l.setting.prelude a.label)) (λ e. e.assertion) l.entries v.library.lawful;
       distinct = subst (Distinct bytes_eq) (sym (labels-assertions l.entries)) v.library.distinct;
+      apart = subst AreApart (sym (labels-assertions l.entries)) v.library.apart;
       few = omega (arith, length-map l.entries (λ (e : Ranked). e.assertion));
     }
 
@@ -139,16 +140,13 @@ pub verifies_shown : (s : Setting) (lib : List Ranked) → IsSetting s → All I
     → IsDeclarable s.prelude (map (λ e. e.assertion) lib) → All (ChecksIn s lib) lib → Verifies s lib
 verifies_shown s lib setting ranks room d checks =
     let assertion = λ (e : Ranked). e.assertion in
-    let Lawful = λ (e : Ranked). IsTrue (is_lawful_label s.prelude (label_of e)) in
-    let lawful : All Lawful lib = All-unmap (λ a. IsTrue (is_lawful_label s.prelude a.label)) assertion lib d.lawful in
     record {
       setting = setting;
       library = record {
         ranks = ranks;
-        lawful = lawful;
+        lawful = All-unmap (λ a. IsTrue (is_lawful_label s.prelude a.label)) assertion lib d.lawful;
         distinct = subst (Distinct bytes_eq) (labels-assertions lib) d.distinct;
-        apart = apart_plain (map label_of lib) (All-map (λ l. has_dot l ≡ false) label_of lib
-            (All-weaker Lawful (λ e. has_dot (label_of e) ≡ false) (λ e. lawful_plain s.prelude (label_of e)) lib lawful));
+        apart = subst AreApart (labels-assertions lib) d.apart;
         room = room;
       };
       fit = All-unmap (Fits s.prelude) assertion lib (λ i z lt. (d.units i z lt).fits);

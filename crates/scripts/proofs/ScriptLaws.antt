@@ -3,7 +3,7 @@ use Rattle.std.proofs.Common.{◌≡◌, ℕ, suc, ◌+◌, ◌<◌, ◌≤◌, 
 use Rattle.std.proofs.Common.{Err, refl, sym, ap, subst, ◌∙◌, arith, leb-false, length-append}
 use Rattle.std.specs.Prelude.{All, codes}
 use Rattle.std.specs.List.{AllByRecursion}
-use Rattle.std.proofs.lemmas.List.Elements.{All-from_recursion, All-nil, All-cons}
+use Rattle.std.proofs.lemmas.List.Elements.{All-from_recursion, All-append, All-nil, All-cons}
 use Rattle.mmtext.specs.declared.fault.TextFault.{TextFault}
 use Rattle.mmtext.specs.Text.{Token, tokens, IsClean}
 use Rattle.mmtext.specs.Words.{Word}
@@ -17,7 +17,7 @@ use Rattle.mmsyntax.specs.Tables.{Tables}
 use Rattle.mmsyntax.specs.Rows.{prelude_alone}
 use Rattle.mmsyntax.specs.Grammar.{Statement, spelling}
 use Rattle.mmsyntax.specs.Layout.{IsSoundPrelude}
-use Rattle.mmsyntax.specs.Assertions.{Fits, IsUnit}
+use Rattle.mmsyntax.specs.Assertions.{CitesApart, Fits, IsUnit}
 use Rattle.mmsyntax.proofs.Distinct.{all_left, all_right}
 use Rattle.mmsyntax.proofs.Lines.{IsWord, clean_words}
 use Rattle.mmsyntax.proofs.Sound.{alone_sound}
@@ -29,7 +29,7 @@ use Rattle.library.specs.declared.command.Command.TheVariants as command
 use Rattle.library.specs.Fitting.{CommandFits}
 use Rattle.scripts.specs.Scripts.{IsRank, OtherSteps, DeclaresAlone, SpellsCommand, SpellsEach, SpellsTransaction, SpellsScript}
 use Rattle.scripts.specs.ScriptFaults.{Place, outermost, at_command, within, Progress, whole, script_language}
-use Rattle.scripts.proofs.ScriptRows.{Script, progress, StepPasses, step_passes}
+use Rattle.scripts.proofs.ScriptRows.{Script, progress, StepPasses, step_passes, step_apart}
 use Rattle.scripts.proofs.ScriptWords.{script_ordinary, script_leads}
 use Rattle.scripts.proofs.ScriptParsed.{reads_script}
 
@@ -105,11 +105,20 @@ few_steps t label front (w ∷ ws) steps h d =
     let lt = leb-false 16384 (length front) (step_passes t label w (length front) d.0 d.1).room in
     few_steps t label (front ++ d.0 ∷ []) ws steps (omega (arith, length-append front (d.0 ∷ []))) d.2
 
+steps_apart : (t : Tables) (label : Word) (front : List Step) (ws : List Word) (steps : List Step) → All (CitesApart label) front
+    → OtherSteps t label front ws steps → All (CitesApart label) steps
+steps_apart t label front [] steps h d = subst (All (CitesApart label)) d h
+steps_apart t label front (w ∷ ws) steps h d =
+    let P = CitesApart label in
+    let one = All-cons P d.0 [] (step_apart t label w (length front) d.0 d.1) (All-nil P) in
+    steps_apart t label (front ++ d.0 ∷ []) ws steps (All-append P front (d.0 ∷ []) h one) d.2
+
 command_fits : (t : Tables) → IsSoundPrelude t → (c : Command) (ws : List Word) → AllByRecursion IsWord ws → SpellsCommand t c ws
     → CommandFits t c
 command_fits t sound (command.Add rank a) ws words d =
     let all = subst (AllByRecursion IsWord) d.4 words in (d.2.small, unit_fits t d.1 a sound all.1.1 d.3)
-command_fits t sound (command.Reprove label steps) ws words d = few_steps t label [] d.0 steps (omega arith) d.3
+command_fits t sound (command.Reprove label steps) ws words d =
+    (few_steps t label [] d.0 steps (omega arith) d.3, steps_apart t label [] d.0 steps (All-nil (CitesApart label)) d.3)
 command_fits t sound (command.Replace label old new) ws words d = tt
 command_fits t sound (command.Rename old new) ws words d = tt
 command_fits t sound (command.Move label rank) ws words d = d.2.small

@@ -7,7 +7,7 @@ use Rattle.std.specs.Str.Parse.{digits_value}
 use Rattle.std.proofs.lemmas.Bool.{cond-true, cond-false}
 use Rattle.std.proofs.lemmas.Bool.Decides.{nat_tests}
 use Rattle.mmtext.specs.declared.fault.FaultKind.{FaultKind}
-use Rattle.mmtext.specs.declared.fault.FaultKind.TheVariants.{BadToken, TooLong, OutOfProfile}
+use Rattle.mmtext.specs.declared.fault.FaultKind.TheVariants.{BadToken, BadLabel, LabelClashes, TooLong, OutOfProfile}
 use Rattle.mmtext.specs.declared.fault.TextFault.{TextFault}
 use Rattle.mmtext.specs.declared.mark.Mark.{Mark}
 use Rattle.mmtext.specs.declared.mark.Mark.TheVariants as mark
@@ -16,10 +16,14 @@ use Rattle.mmtext.specs.Words.{Word, has_dollar}
 use Rattle.mmtext.specs.Languages.{fault}
 use Rattle.mmtext.proofs.CommentLaws.{same_word}
 use Rattle.mmsyntax.specs.declared.statement.Step.{Step}
+use Rattle.mmsyntax.specs.declared.statement.Step.TheVariants.{Float, Hyp, Cite}
+use Rattle.mmsyntax.specs.Assertions.{CitesApart}
+use Rattle.mmsyntax.specs.Dotted.{is_dotted}
 use Rattle.mmsyntax.specs.Tables.{Tables, meaning}
 use Rattle.mmsyntax.specs.Rows.{first_fault}
 use Rattle.mmsyntax.specs.Steps.{step_tests, float_named, step_named, unless_faulty}
-use Rattle.mmsyntax.proofs.Sound.{cond_none}
+use Rattle.mmsyntax.proofs.Found.{no_fault}
+use Rattle.mmsyntax.proofs.Sound.{cond_none, if_ok}
 use Rattle.mmreader.proofs.Keywords.{Says, says}
 use Rattle.library.specs.declared.command.Command.{Command}
 use Rattle.library.specs.declared.command.Command.TheVariants as command
@@ -59,10 +63,6 @@ rank_value w rank r = ap (digits_value 10) r.digits ∙ decimal_value rank (belo
 pub rank_plain : (w : Word) (rank : ℕ) → IsRank w rank → has_dollar w ≡ false
 rank_plain w rank r = digits_lack 36 w (omega arith) (numeral_digits w (rank_numeral w rank r))
 
-unless_ok : (o : Option FaultKind) (r : Result Step FaultKind) (s : Step) → unless_faulty o r ≡ Ok s → o ≡ None
-unless_ok None r s h = refl
-unless_ok (Some kind) r s h = absurd cc
-
 -- the tests of a step that passed
 pub record StepPasses (count : ℕ) (w : Word) : Type 0 where
   pub plain : has_dollar w ≡ false
@@ -71,11 +71,25 @@ pub record StepPasses (count : ℕ) (w : Word) : Type 0 where
 pub step_passes : (t : Tables) (label w : Word) (count : ℕ) (s : Step) → other_step_of t label count w ≡ Ok s → StepPasses count w
 unfolding other_step_of
 step_passes t label w count s h =
-    let none = unless_ok (first_fault (step_tests count w)) _ s h in
+    let none = (no_fault (first_fault (step_tests count w)) _ s h).0 in
     let one = cond_none _ OutOfProfile _ none in
     let two = cond_none (has_dollar w) BadToken _ one.1 in
     let three = cond_none _ BadToken _ two.1 in
     record { plain = two.0; room = (cond_none (leb 16384 count) TooLong None three.1).0 }
+
+named_apart : (label w : Word) (f h : Option ℕ) (s : Step) → step_named label w f h ≡ Ok s → CitesApart label s
+named_apart label w (Some j) h s n = subst (CitesApart label) (let e : Float j ≡ s = cc in e) tt
+named_apart label w None (Some i) s n = subst (CitesApart label) (let e : Hyp i ≡ s = cc in e) tt
+named_apart label w None None s n =
+    let short = if_ok (ltb 255 (length w)) BadLabel _ s n in
+    let apart = if_ok (is_dotted label w) LabelClashes (Ok (Cite w)) s short.1 in
+    let same : Cite w ≡ s = let e : Ok (Cite w) ≡ Ok s = apart.1 in cc in
+    subst (CitesApart label) same apart.0
+
+-- a step of another proof of L cites no L.k
+pub step_apart : (t : Tables) (label w : Word) (count : ℕ) (s : Step) → other_step_of t label count w ≡ Ok s → CitesApart label s
+unfolding other_step_of
+step_apart t label w count s h = named_apart label w _ _ s (no_fault (first_fault (step_tests count w)) _ s h).1
 
 -- ---- what a row says, where what it leads to has a property
 
@@ -205,11 +219,11 @@ word_row s cs u commit b is e n =
 
 -- a step of another proof, as the code finds it
 pub other_step_is : (t s : Tables) (label w : Word) (n : ℕ) (h : Option ℕ) → s ≡ t → h ≡ place_numbered label w
-    → unless_faulty (first_fault (step_tests n w)) (step_named w (float_named (meaning s w)) h) ≡ other_step_of t label n w
+    → unless_faulty (first_fault (step_tests n w)) (step_named label w (float_named (meaning s w)) h) ≡ other_step_of t label n w
 unfolding other_step_of place_numbered
 other_step_is t s label w n h same is =
-    ap (λ (x : Tables). unless_faulty (first_fault (step_tests n w)) (step_named w (float_named (meaning x w)) h)) same
-    ∙ ap (λ x. unless_faulty (first_fault (step_tests n w)) (step_named w (float_named (meaning t w)) x)) is
+    ap (λ (x : Tables). unless_faulty (first_fault (step_tests n w)) (step_named label w (float_named (meaning x w)) h)) same
+    ∙ ap (λ x. unless_faulty (first_fault (step_tests n w)) (step_named label w (float_named (meaning t w)) x)) is
 
 -- a word that is taken behind the steps of another proof
 plain_step : (t : Tables) (label : Word) (steps : List Step) (u : Token) → has_dollar u.text ≡ false
