@@ -5,7 +5,7 @@ use mathlib.Core.Bool.{not}
 use Rattle.std.specs.List.{list_any}
 use Rattle.std.specs.Str.{bytes_eq}
 use Rattle.std.proofs.lemmas.List.{take_more, take-append-drop, length-take-le, map-append}
-use Rattle.std.proofs.lemmas.List.Elements.{All-take, All-head, All-tail}
+use Rattle.std.proofs.lemmas.List.Elements.{All-take, All-head, All-tail, Contains-append_left}
 use Rattle.std.proofs.lemmas.List.Folds.{list_any_at}
 use Rattle.std.proofs.lemmas.Option.{slice_get-get_or}
 use Rattle.std.proofs.lemmas.Grind.{common_steps}
@@ -17,6 +17,8 @@ use Rattle.mmsyntax.specs.declared.statement.Step.TheVariants.{Float, Hyp, Cite}
 use Rattle.mmsyntax.specs.Tables.{Tables, Contents}
 use Rattle.mmsyntax.specs.Layout.{HasSpelling}
 use Rattle.mmsyntax.specs.Assertions.{Distinct, IsUnit, IsDeclarable, is_lawful_label}
+use Rattle.mmsyntax.specs.Dotted.{AreApart}
+use Rattle.mmsyntax.proofs.Apart.{apart_within}
 use Rattle.mmsyntax.proofs.Names.{bytes_eq-same, bytes_eq-sym}
 use Rattle.mmsyntax.proofs.Distinct.{distinct_left, distinct_front}
 use Rattle.mmsyntax.proofs.Declarable.{declarable, spelled_where_declarable}
@@ -37,15 +39,22 @@ use Rattle.cells.specs.Opening.{front, held_from}
 whole : (k : ℕ) (xs : List Assertion) → take k xs ++ drop k xs ≡ xs
 whole k xs = take-append-drop k xs
 
+front_labels : (k : ℕ) (xs : List Assertion)
+    → map (λ (a : Assertion). a.label) (take k xs) ++ map (λ (a : Assertion). a.label) (drop k xs) ≡ map (λ (a : Assertion). a.label) xs
+front_labels k xs =
+    let label = λ (a : Assertion). a.label in
+    sym (map-append label (take k xs) (drop k xs)) ∙ ap (map label) (whole k xs)
+
 front_declarable : (t : Tables) (k : ℕ) (xs : List Assertion) → IsDeclarable t xs → IsDeclarable t (take k xs)
 front_declarable t k xs d =
+    let some = map (λ (a : Assertion). a.label) (take k xs) in
+    let others = map (λ (a : Assertion). a.label) (drop k xs) in
     record {
       prelude = d.prelude;
       units = All-take (IsUnit t) k xs d.units;
       lawful = All-take (λ a. IsTrue (is_lawful_label t a.label)) k xs d.lawful;
-      distinct = distinct_left bytes_eq (map (λ (a : Assertion). a.label) (take k xs)) (map (λ (a : Assertion). a.label) (drop k xs))
-          (subst (λ ls. Distinct bytes_eq ls)
-          (sym (ap (map (λ (a : Assertion). a.label)) (whole k xs)) ∙ map-append (λ (a : Assertion). a.label) (take k xs) (drop k xs)) d.distinct);
+      distinct = distinct_left bytes_eq some others (subst (λ ls. Distinct bytes_eq ls) (sym (front_labels k xs)) d.distinct);
+      apart = apart_within (some ++ others) some (Contains-append_left some others) (subst AreApart (sym (front_labels k xs)) d.apart);
       few = let n : length (take k xs) ≤ length xs = grind (arith, common_steps) in omega (arith, n, d.few);
     }
 

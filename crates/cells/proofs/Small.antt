@@ -6,7 +6,7 @@ use Rattle.std.specs.List.{All, AllZip, Contains}
 use Rattle.std.proofs.lemmas.Bool.Decides.{nat_tests}
 use Rattle.std.proofs.lemmas.List.Elements.{All-nil, All-cons, All-head, All-tail, All-weaker, All-contains}
 use Rattle.std.proofs.lemmas.List.Sums.{AllPass-from_list_all}
-use Rattle.mmtext.specs.Words.{is_label_byte, is_label, has_dot}
+use Rattle.mmtext.specs.Words.{is_label_byte, is_label}
 use Rattle.mmsyntax.specs.declared.statement.Step.{Step}
 use Rattle.mmsyntax.specs.declared.statement.Step.TheVariants.{Float, Hyp, Cite}
 use Rattle.mmsyntax.specs.Tables.{Tables, meaning}
@@ -48,11 +48,10 @@ label_byte b h = grind (arith, nat_tests)
 token_bytes : (w : List ℕ) → IsTrue (is_label w) → All IsByte w
 token_bytes w h = All-weaker (λ b. is_label_byte b ≡ true) IsByte label_byte w (AllPass-from_list_all is_label_byte w h)
 
-label_bytes : (w : List ℕ) (last : Bool) → IsTrue (nat_le 1 (length w) && nat_le (length w) 255 && is_label w && not (has_dot w) && last) → All IsByte w
+label_bytes : (w : List ℕ) (last : Bool) → IsTrue (nat_le 1 (length w) && nat_le (length w) 255 && is_label w && last) → All IsByte w
 label_bytes w last h =
     let short = nat_le 1 (length w) && nat_le (length w) 255 in
-    token_bytes w (and_last short (is_label w)
-    (and_first (short && is_label w) (not (has_dot w)) (and_first (short && is_label w && not (has_dot w)) last h)))
+    token_bytes w (and_last short (is_label w) (and_first (short && is_label w) last h))
 
 pub lawful_bytes : (t : Tables) (w : List ℕ) → IsTrue (is_lawful_label t w) → All IsByte w
 lawful_bytes t w h = label_bytes w (not (is_some (meaning t w))) h

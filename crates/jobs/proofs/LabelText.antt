@@ -10,7 +10,7 @@ use Rattle.std.proofs.lemmas.List.Elements.{All-get_or, All-weaker}
 use Rattle.std.proofs.lemmas.List.Sums.{AllPass-from_list_all}
 use Rattle.std.proofs.lemmas.Str.{IsUtf8-from_ascii}
 use Rattle.std.proofs.lemmas.Str.Ascii.{IsAscii-from_all}
-use Rattle.mmtext.specs.Words.{is_label_byte, is_label, has_dot}
+use Rattle.mmtext.specs.Words.{is_label_byte, is_label}
 use Rattle.mmsyntax.specs.declared.statement.Assertion.{Assertion}
 use Rattle.mmsyntax.specs.Tables.{Tables, meaning}
 use Rattle.mmsyntax.specs.Assertions.{is_lawful_label}
@@ -36,10 +36,9 @@ label_byte_ascii b h = grind (arith, nat_tests)
 lawful_shown : (t : Tables) (w : List ℕ) → is_lawful_label t w ≡ true → shown_label w ≡ w
 lawful_shown t w h =
     let within = nat_le 1 (length w) && nat_le (length w) 255 in
-    let a = and_parts (within && is_label w && not (has_dot w)) (not (is_some (meaning t w))) h in
-    let b = and_parts (within && is_label w) (not (has_dot w)) a.0 in
-    let c = and_parts within (is_label w) b.0 in
-    let ascii = All-weaker (λ x. is_label_byte x ≡ true) (λ x. x < 128) label_byte_ascii w (AllPass-from_list_all is_label_byte w c.1) in
+    let a = and_parts (within && is_label w) (not (is_some (meaning t w))) h in
+    let b = and_parts within (is_label w) a.0 in
+    let ascii = All-weaker (λ x. is_label_byte x ≡ true) (λ x. x < 128) label_byte_ascii w (AllPass-from_list_all is_label_byte w b.1) in
     shown_text w (IsUtf8-from_ascii w (IsAscii-from_all w ascii))
 
 database_shown : (text : Bytes) (label : List ℕ) (fault : ProofFault) → IsDatabaseFault text (Proof label fault) → shown_label label ≡ label
