@@ -63,9 +63,14 @@ pub dotted_by_trunk : (l w : Word) → is_dotted l w ≡ (ltb (length (trunk w))
 dotted_by_trunk l w = elim (cases_Bool (is_dotted l w)) [
   | inl y ↦
       let is = dotted_trunk l w y in
-      y ∙ sym (ap (λ x. ltb (length x) (length w) && bytes_eq x l) is ∙ both (ltb (length l) (length w)) (bytes_eq l l) (shorter (length l) (length w) (dotted_longer l w y)) (bytes_eq-same l))
+      let longer = shorter (length l) (length w) (dotted_longer l w y) in
+      y
+      ∙ sym
+      (ap (λ x. ltb (length x) (length w) && bytes_eq x l) is ∙ both (ltb (length l) (length w)) (bytes_eq l l) longer (bytes_eq-same l))
   | inr n ↦ n ∙ sym (elim (trunk_whole_or_dotted w) [
-    | inl whole ↦ ap (λ x. ltb (length x) (length w) && bytes_eq (trunk w) l) whole ∙ ap (λ b. b && bytes_eq (trunk w) l) (no_shorter (length w) (length w) (omega arith))
+    | inl whole ↦
+        ap (λ x. ltb (length x) (length w) && bytes_eq (trunk w) l) whole
+        ∙ ap (λ b. b && bytes_eq (trunk w) l) (no_shorter (length w) (length w) (omega arith))
     | inr dotted ↦ not_both (ltb (length (trunk w)) (length w)) (bytes_eq (trunk w) l)
         (λ y. sym (ap (λ x. is_dotted x w) (same_bytes (trunk w) l y)) ∙ dotted) n
   ])
@@ -91,8 +96,8 @@ clashes_by_trunk xs w =
     (λ a. dotted_by_trunk a.label w))
 
 -- as the code looks it up
-pub looked_up : (xs : List Assertion) (w front : Word) (b : Bool) → front ≡ trunk w → length front < length w → b ≡ is_assertion_label xs front
-    → b ≡ has_trunk xs w
+pub looked_up : (xs : List Assertion) (w front : Word) (b : Bool) → front ≡ trunk w → length front < length w
+    → b ≡ is_assertion_label xs front → b ≡ has_trunk xs w
 looked_up xs w front b is short e =
     e ∙ ap (λ x. x && is_assertion_label xs front) (sym (shorter (length front) (length w) short))
     ∙ ap (λ l. ltb (length l) (length w) && is_assertion_label xs l) is
@@ -109,8 +114,8 @@ pub clash_before : (xs : List Assertion) (w : Word) (b : Bool) → b ≡ has_tru
 clash_before xs w b e y =
     y ∙ ap (λ x. x || list_any (λ a. is_dotted w a.label) xs) (sym y ∙ e) ∙ sym (clashes_by_trunk xs w)
 
-pub clash_behind : (xs : List Assertion) (w : Word) (a b : Bool) → a ≡ has_trunk xs w → a ≡ false → b ≡ list_any (λ x. is_dotted w x.label) xs
-    → b ≡ clashes xs w
+pub clash_behind : (xs : List Assertion) (w : Word) (a b : Bool) → a ≡ has_trunk xs w → a ≡ false
+    → b ≡ list_any (λ x. is_dotted w x.label) xs → b ≡ clashes xs w
 clash_behind xs w a b e n at_b =
     at_b ∙ ap (λ x. x || list_any (λ x. is_dotted w x.label) xs) (sym n ∙ e) ∙ sym (clashes_by_trunk xs w)
 
@@ -169,7 +174,8 @@ pub trunks_still : (m : HashMap (Vec ℕ Global) (Unit {0}) RandomState) (xs : L
     → is_some (hash.get_by (λ q. bytes_eq w q.items) m) ≡ list_any (λ x. is_dotted w x.label) (xs ++ a ∷ [])
 trunks_still m xs a at_m long w =
     at_m w
-    ∙ ap (λ b. (b && bytes_eq (trunk a.label) w) || list_any (λ x. is_dotted w x.label) xs) (sym (no_shorter (length (trunk a.label)) (length a.label) long))
+    ∙ ap (λ b. (b && bytes_eq (trunk a.label) w) || list_any (λ x. is_dotted w x.label) xs)
+    (sym (no_shorter (length (trunk a.label)) (length a.label) long))
     ∙ ap (λ b. b || list_any (λ x. is_dotted w x.label) xs) (sym (dotted_by_trunk w a.label))
     ∙ sym (any_push (λ x. is_dotted w x.label) xs a)
 

@@ -181,7 +181,8 @@ proof_in : (k : Known) (s : Scope) (label : Word) (e : List Symbol) (steps : Lis
     → Says m t.text → in_place k (in_proof s label e steps) t m ≡ Ok q → EndsOrSteps k s label e steps t q
 proof_in k s label e (x ∷ steps) t mark.End q w h = inl ((λ z. absurd cc), w, cc)
 proof_in k s label e steps t m q w h =
-    inr (given_ok t (step_of k.tables label (block_of s).hyps (length steps) t.text) (λ x. there k (in_proof s label e (steps ++ x ∷ []))) q h)
+    inr
+    (given_ok t (step_of k.tables label (block_of s).hyps (length steps) t.text) (λ x. there k (in_proof s label e (steps ++ x ∷ []))) q h)
 
 pub proof_leads : (k : Known) (s : Scope) (label : Word) (e : List Symbol) (steps : List Step) (t : Token) (q : Position)
     → row (there k (in_proof s label e steps)) t ≡ Ok q → EndsOrSteps k s label e steps t q

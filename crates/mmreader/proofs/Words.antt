@@ -50,8 +50,8 @@ step_passes count w l lt =
     ∙ cond-false (nat_le 16384 count) (Some TooLong) None (lt-leb 16384 count lt)
 
 -- the step of a label by what is kept of it
-pub recalled : (t : Tables) (l : Word) (hyps : List Hypothesis) (count : ℕ) (r : Recalled) → IsTrueOf t r → r.is_label ≡ true → count < 16384
-    → step_named l r.word.now (float_named r.name) (hypothesis_named hyps r.word.now) ≡ step_of t l hyps count r.word.now
+pub recalled : (t : Tables) (l : Word) (hyps : List Hypothesis) (count : ℕ) (r : Recalled) → IsTrueOf t r → r.is_label ≡ true
+    → count < 16384 → step_named l r.word.now (float_named r.name) (hypothesis_named hyps r.word.now) ≡ step_of t l hyps count r.word.now
 unfolding step_of
 recalled t l hyps count r kept label lt =
     let w = r.word.now in

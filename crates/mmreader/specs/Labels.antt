@@ -16,8 +16,8 @@ owner_of u w =
     if is_assertion_label u.assertions w then Some owner.Assertion
     else (if list_any (bytes_eq w) u.hypothesis_labels then Some owner.Hypothesis else None)
 
--- the one map has the labels of the units, each with its owner, and no others; the other has each L of which some assertion has L.k as label
-pub record HasLabels (labels : HashMap (Vec ℕ Global) Owner RandomState) (trunks : HashMap (Vec ℕ Global) (Unit {0}) RandomState) (u : Units)
-    : Type 0 where
+-- the one map has the labels of the units, each with its owner, and no others; the other has each L where some assertion has the label L.k
+pub record HasLabels (labels : HashMap (Vec ℕ Global) Owner RandomState) (trunks : HashMap (Vec ℕ Global) (Unit {0}) RandomState)
+    (u : Units) : Type 0 where
   pub owned : (w : List ℕ) → get_by (λ k. bytes_eq w k.items) labels ≡ owner_of u w
   pub dotted : (w : List ℕ) → is_some (get_by (λ k. bytes_eq w k.items) trunks) ≡ list_any (λ a. is_dotted w a.label) u.assertions

@@ -1,7 +1,8 @@
 //! The tests of labels and symbols, in order.
 
 ghost use Rattle.std.specs.Prelude.{◌≡◌, ◌==◌};
-ghost use Rattle.mmsyntax.specs.Rows.{first_fault, symbol_tests, float_label_tests, assertion_label_tests, symbol_named, unless_full, symbol_of};
+ghost use Rattle.mmsyntax.specs.Rows.{first_fault, symbol_tests, float_label_tests, assertion_label_tests};
+ghost use Rattle.mmsyntax.specs.Rows.{symbol_named, unless_full, symbol_of};
 ghost use Rattle.mmsyntax.specs.Blocks.{hypothesis_label_tests};
 ghost use Rattle.mmreader.specs.Views.{known_of};
 

@@ -105,8 +105,8 @@ fn float_named(name: Option<Name>) -> Option<u32>
     }
 }
 
-/// The step that a word is in the proof of the assertion with a label, where it is the label of no `$f` and names, if any, the hypothesis at
-/// a place; or why it is none.
+/// The step that a word is in the proof of the assertion with a label, where it is the label of no `$f` and names, if any, the hypothesis
+/// at a place; or why it is none.
 fn labelled_step(
     alloc: Global,
     label: &[u8],
@@ -127,8 +127,8 @@ fn labelled_step(
     Ok(Ok(Step::Cite(Label::from_slice(alloc, word)?)))
 }
 
-/// The step that a word is behind `count` steps of a proof of the assertion with a label, where it names, if any, the hypothesis at a place;
-/// or why it is none. No assertion is looked up.
+/// The step that a word is behind `count` steps of a proof of the assertion with a label, where it names, if any, the hypothesis at a
+/// place; or why it is none. No assertion is looked up.
 pub fn named_step(
     alloc: Global,
     symbols: &SymbolTable,

@@ -115,8 +115,8 @@ impl<'a> Reader<'a> for AssertionReader<'a> {
 /// # Errors
 ///
 /// Those of `read_database`, where `$c`, `$v` and `$f` are `OutOfProfile` as behind an assertion, and `RepeatedLabel` and `LabelClashes`
-/// look at the prelude and at the labels of the text alone. Besides: `BadToken` at the first token behind the assertion or its block, other than those of
-/// comments; `Unfinished` at the length of a text that ends before them.
+/// look at the prelude and at the labels of the text alone. Besides: `BadToken` at the first token behind the assertion or its block,
+/// other than those of comments; `Unfinished` at the length of a text that ends before them.
 pub fn read_assertion(
     alloc: Global,
     keys: RandomState,

@@ -10,5 +10,6 @@ pub returns : goal.returns
 returns c =
     let hyps = (block_of (seen_scope c.args.scope.now)).hyps in
     subst (λ s. IfOk c.recalled_step.result (λ r. r ≡ s))
-    (recalled c.args.symbols.now c.args.label.now hyps c.args.count c.args.known c.requires c.if-not-known.false c.if-count-ge-MOST_STEPS.false)
+    (recalled c.args.symbols.now c.args.label.now hyps c.args.count c.args.known c.requires c.if-not-known.false
+    c.if-count-ge-MOST_STEPS.false)
     c.recalled_step.ensures
