@@ -13,3 +13,4 @@ pub mod SamePreludes
 pub mod Runs
 pub mod UnitRows
 pub mod Words
+pub mod UnitWords

@@ -61,7 +61,8 @@ recalled t l hyps count r kept label lt =
 
 -- ---- places
 
-plain_row : (k : Known) (p : Place) (t : Token) → has_dollar t.text ≡ false
+-- the row of a place at a word without $
+pub plain_row : (k : Known) (p : Place) (t : Token) → has_dollar t.text ≡ false
     → row (record { known = k; place = p }) t ≡ in_place k p t mark.Plain
 plain_row k p t h = row_at (record { known = k; place = p }) t mark.Plain (sym (mark_plain t.text h))
 

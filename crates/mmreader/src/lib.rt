@@ -10,3 +10,4 @@ mod reading;
 mod recent;
 
 pub use reading::{UnitProgress, UnitReader, named_step, read_assertion, read_database};
+pub use recent::Recent;

@@ -1,6 +1,7 @@
 //! Words that were looked up lately. Most words of a text stand in it again and again.
 
 ghost use Rattle.std.specs.Prelude.{◌≡◌, [], IfOk};
+ghost use Rattle.mmsyntax.specs.Tables.{Tables};
 ghost use Rattle.mmreader.specs.Recalls.{IsTrueOf, IsKept, Knows};
 
 use crate::place::Place;
@@ -9,7 +10,15 @@ use mmtext::{contains_dollar, is_label_token};
 use std::alloc::{AllocError, Global};
 use std::hash::{FoldHasher, Hasher};
 
-/// How many words are kept where a prelude has few symbols.
+/// How many words of a short text are kept.
+const FEWEST: usize = 64;
+/// The bytes of the longest text that is short.
+const SHORT_TEXT: usize = 1024;
+/// How many words are kept of a text that isn't long.
+const FEWER: usize = 512;
+/// The bytes of the longest text that isn't long.
+const MIDDLING_TEXT: usize = 16384;
+/// How many words of a long text are kept where a prelude has few symbols.
 const FEW: usize = 4096;
 /// How many are kept where it has many.
 const MANY: usize = 65536;
@@ -25,11 +34,13 @@ pub(crate) struct Recalled<'a> {
     pub is_label: bool,
 }
 
-/// One word for each place, or none at all. A new word takes the place of an earlier one, so words that were chosen to meet at one place
-/// cost what they would cost without this.
+/// Words that were looked up lately among the symbols of a prelude: one for each place, or none at all. A new word takes the place of an
+/// earlier one, so words that were chosen to meet at one place cost what they would cost without this.
 #[derive(Drop)]
-pub(crate) struct Recent<'a> {
+pub struct Recent<'a> {
     entries: Vec<Recalled<'a>>,
+    /// The most words that are kept.
+    most: usize,
 }
 
 /// What is known of a word by looking at it.
@@ -46,17 +57,28 @@ fn looked_up<'a>(symbols: &SymbolTable, word: &'a [u8]) -> Recalled<'a>
 }
 
 impl<'a> Recent<'a> {
-    /// No word.
-    pub fn new(alloc: Global) -> Self
+    /// No word, of a text that may be long.
+    pub(crate) fn new(alloc: Global) -> Self
         ensures { result.entries.items ≡ [] }
     {
         Recent {
             entries: Vec::new(alloc),
+            most: MANY,
+        }
+    }
+
+    /// No word, of a text of a length in bytes: the shorter it is, the fewer are kept.
+    pub fn for_text(alloc: Global, length: usize) -> Self
+        ensures { (t : Tables) → Knows t result }
+    {
+        Recent {
+            entries: Vec::new(alloc),
+            most: most_of_text(length),
         }
     }
 
     /// Keeps no word at a place where the symbols may change.
-    pub fn keep_at(&mut self, place: &Place<'_>)
+    pub(crate) fn keep_at(&mut self, place: &Place<'_>)
         ensures { IsKept place.now self.old self.new }
     {
         match place {
@@ -70,11 +92,7 @@ impl<'a> Recent<'a> {
         requires { self.old.entries.items ≡ [] }
         ensures { Knows symbols.now self.new }
     {
-        let count = symbols
-            .constants()
-            .len()
-            .saturating_add(symbols.variables().len());
-        let size = if count > FEW_SYMBOLS { MANY } else { FEW };
+        let size = size_for(symbols, self.most);
         let nothing = looked_up(symbols, b"".as_slice());
         let mut entries = Vec::with_capacity(alloc, size)?;
         for _ in 0..size {
@@ -85,7 +103,7 @@ impl<'a> Recent<'a> {
     }
 
     /// What is known of a word, which is kept.
-    pub fn look_up(
+    pub(crate) fn look_up(
         &mut self,
         alloc: Global,
         symbols: &SymbolTable,
@@ -110,6 +128,27 @@ impl<'a> Recent<'a> {
         self.entries[place] = found;
         Ok(found)
     }
+}
+
+/// How many words of a text of a length in bytes are kept at most: filling the places takes less time than reading the text.
+fn most_of_text(length: usize) -> usize {
+    if length <= SHORT_TEXT {
+        FEWEST
+    } else if length <= MIDDLING_TEXT {
+        FEWER
+    } else {
+        MANY
+    }
+}
+
+/// How many words are kept by the number of symbols, and at most so many: a power of two.
+fn size_for(symbols: &SymbolTable, most: usize) -> usize {
+    let count = symbols
+        .constants()
+        .len()
+        .saturating_add(symbols.variables().len());
+    let size = if count > FEW_SYMBOLS { MANY } else { FEW };
+    if size > most { most } else { size }
 }
 
 /// The place of a word among `size`, a power of two.

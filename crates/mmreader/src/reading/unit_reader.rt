@@ -6,12 +6,15 @@ ghost use Rattle.mmsyntax.specs.Faults.{row};
 ghost use Rattle.mmtext.specs.Views.{seen};
 ghost use Rattle.mmreader.specs.Views.{seen_place, seen_position, IsUnitPlace};
 ghost use Rattle.mmreader.specs.UnitReadings.{nothing_read, position_of, GoesOn};
-ghost use Rattle.mmreader.specs.UnitViews.{IsProgress, Progresses};
+ghost use Rattle.mmreader.specs.UnitViews.{IsProgress, Progresses, TakesInUnit};
+ghost use Rattle.mmreader.specs.Recalls.{Knows};
 
 use super::unit_rows::next_unit_place;
 use super::units::is_behind_unit;
+use super::words::take_unit_word;
 use crate::known::Units;
 use crate::place::{Place, Scope, UnitPlace};
+use crate::recent::Recent;
 use mmsyntax::{Assertion, Prelude};
 use mmtext::{Stop, Token, mark_word};
 use std::alloc::Global;
@@ -91,5 +94,25 @@ impl<'a> UnitReader<'a> {
         let mark = mark_word(token.text);
         let place = next_unit_place(alloc, prelude.symbols(), &mut units, place, token, mark)?;
         Ok(progress(units, place))
+    }
+
+    /// Takes a word without `$`, which stands outside of comments, if that is a symbol of an expression or a step of a proof: those grow
+    /// where they lie. Whether it did. What was looked up lately is of the same prelude.
+    ///
+    /// # Errors
+    ///
+    /// As [`UnitReader::read`].
+    pub fn take_word(
+        &mut self,
+        alloc: Global,
+        prelude: &Prelude,
+        recent: &mut Recent<'a>,
+        token: Token<'a>,
+    ) -> Result<bool, Stop>
+        requires { Knows prelude.now recent.old }
+        ensures knows { Knows prelude.now recent.new }
+        ensures taken { TakesInUnit prelude.now self.old (seen token.entry) self.new result }
+    {
+        take_unit_word(alloc, prelude.symbols(), recent, &mut self.place, token)
     }
 }

@@ -1,11 +1,12 @@
 //! Words that go on what a token stands in: the symbols of an expression and the steps of a proof. Most tokens of a text are one of these.
 
-ghost use Rattle.std.specs.Prelude.{◌≡◌, length, IfOk, OnOk};
-ghost use Rattle.mmsyntax.specs.Rows.{Units, symbol_of};
+ghost use Rattle.std.specs.Prelude.{◌≡◌, true, None, length, IfOk};
+ghost use Rattle.mmsyntax.specs.Rows.{Known, Units, symbol_of};
 ghost use Rattle.mmsyntax.specs.Steps.{step_of};
-ghost use Rattle.mmsyntax.specs.Faults.{block_of};
+ghost use Rattle.mmsyntax.specs.Faults.{block_of, unit_at};
 ghost use Rattle.mmtext.specs.Views.{seen};
 ghost use Rattle.mmreader.specs.Recalls.{IsTrueOf, Knows};
+ghost use Rattle.mmreader.specs.Standing.{Stands};
 ghost use Rattle.mmreader.specs.Takings.{TakesItem, TakesWord};
 ghost use Rattle.mmreader.specs.Views.{seen_scope, seen_unit_place, seen_place, known_of};
 
@@ -73,7 +74,7 @@ fn take_step<'a>(
 ) -> Result<bool, Stop>
     requires { Knows symbols.now recent.old }
     ensures knows { Knows symbols.now recent.new }
-    ensures kept { OnOk result (theorem.new ≡ record theorem.old { steps = theorem.new.steps }) }
+    ensures kept { theorem.new ≡ record theorem.old { steps = theorem.new.steps } }
     ensures taken { TakesItem (seen token.entry) theorem.old.steps.items theorem.new.steps.items
         (step_of symbols.now theorem.old.label.now (block_of (seen_scope theorem.old.scope)).hyps (length theorem.old.steps.items)
             token.entry.text.now) result }
@@ -94,7 +95,7 @@ fn take_step<'a>(
 
 /// Takes a word without `$` where it stands, if that is an expression or a proof, whose symbols or steps grow where they lie. Whether it
 /// did.
-fn take_unit_word<'a>(
+pub(super) fn take_unit_word<'a>(
     alloc: Global,
     symbols: &SymbolTable,
     recent: &mut Recent<'a>,
@@ -105,6 +106,9 @@ fn take_unit_word<'a>(
     ensures knows { Knows symbols.now recent.new }
     ensures taken { (u : Units) →
         TakesWord (known_of symbols.now u) (seen_unit_place place.old) (seen token.entry) (seen_unit_place place.new) result }
+    // What is taken ends no assertion.
+    ensures within { IfOk result (λ taken. taken ≡ true → (k : Known) → unit_at k (seen_unit_place place.new) ≡ None) }
+    ensures stands { (k : Known) → Stands k (seen_unit_place place.old) → Stands k (seen_unit_place place.new) }
 {
     match place {
         UnitPlace::InHypothesis(_, _, expression) => {
