@@ -21,6 +21,7 @@ use Rattle.mmsyntax.specs.Assertions.{CitesApart}
 use Rattle.mmsyntax.specs.Dotted.{is_dotted}
 use Rattle.mmsyntax.specs.Tables.{Tables, meaning}
 use Rattle.mmsyntax.specs.Rows.{first_fault}
+use Rattle.mmsyntax.specs.Faults.{Position}
 use Rattle.mmsyntax.specs.Steps.{step_tests, float_named, step_named, unless_faulty}
 use Rattle.mmsyntax.proofs.Found.{no_fault}
 use Rattle.mmsyntax.proofs.Sound.{cond_none, if_ok}
@@ -33,12 +34,14 @@ use Rattle.scripts.specs.ScriptFaults.{at_rank, at_reproved, in_proof, at_old_la
 use Rattle.scripts.specs.ScriptFaults.{at_recited}
 use Rattle.scripts.specs.ScriptFaults.{at_moved, at_deleted, at_shown, Place, outermost, Progress, Led}
 use Rattle.scripts.specs.ScriptFaults.{inside, whole_command, bad, bad_text, label_row, is_numeral, rank_row, proof_start, step_led}
-use Rattle.scripts.specs.ScriptFaults.{step_row, command_word, at, led, command_row}
+use Rattle.scripts.specs.ScriptFaults.{in_unit, unit_led, unit_row, step_row, command_word, at, led, command_row}
 use Rattle.mmtext.specs.declared.fault.Stop.{Stop}
 use Rattle.mmtext.specs.declared.fault.Stop.TheVariants as stop
 use Rattle.mmtext.specs.Views.{Fails}
 use Rattle.scripts.specs.ScriptViews.{label_at, rank_at, decided, place_numbered, TakesInCommand}
 use Rattle.mmreader.specs.Takings.{TakesItem, pushed}
+use Rattle.mmreader.specs.UnitReadings.{UnitReading, position_of}
+use Rattle.mmreader.specs.UnitViews.{TakesInUnit}
 use Rattle.mmtext.proofs.Marks.{mark_plain}
 use Rattle.mmsyntax.proofs.Numerals.{decimal_value, digits_lack}
 use Rattle.scripts.proofs.Numerals.{numeral_decimal, decimal_numeral, numeral_digits}
@@ -251,3 +254,11 @@ step_taken t label given old new u r same h =
     go (Err stop.Memory) h = tt
     go (Err (stop.Fault f)) h =
         (h.0, ap (decided u) (plain_step t label old u h.0) ∙ bad_by (other_step_of t label (length old) u.text) f h.1)
+
+-- what is taken of an assertion is taken in the command that adds it
+pub unit_taken : (t : Tables) (rank : ℕ) (old new : UnitReading) (u : Token) (r : Result Bool Stop) → TakesInUnit t old u new r
+    → TakesInCommand t (in_unit rank (position_of t old)) u (in_unit rank (position_of t new)) r
+unit_taken t rank old new u (Ok true) h = (h.0, ap (unit_row rank) h.1 ∙ ap (unit_led rank (position_of t new)) h.2)
+unit_taken t rank old new u (Ok false) h = ap (λ (x : UnitReading). in_unit rank (position_of t x)) h
+unit_taken t rank old new u (Err stop.Memory) h = tt
+unit_taken t rank old new u (Err (stop.Fault f)) h = (h.0, ap (λ (x : Result Position TextFault). decided u (unit_row rank x)) h.1)

@@ -21,6 +21,7 @@ pub use command_rows::{
     read_command_word, read_in_command, read_label, read_rank, take_in_command,
 };
 use library::{Command, Script, Transaction};
+use mmreader::Recent;
 use mmstatement::{FaultKind, Prelude, Sequence, TextFault};
 use mmtext::{Mark, Reader, Stop, Token, fault_at, no_memory, read_text};
 pub use numerals::is_numeral;
@@ -87,6 +88,7 @@ fn next_place<'a>(
 impl<'a> Reader<'a> for ScriptReader<'a> {
     ghost use Rattle.std.specs.Prelude.{List};
     ghost use Rattle.library.specs.declared.command.Command.{Command};
+    ghost use Rattle.mmreader.specs.Recalls.{Knows};
     ghost use Rattle.scripts.specs.ScriptFaults.{Progress, script_language};
     ghost use Rattle.scripts.specs.ScriptViews.{seen_progress};
 
@@ -100,13 +102,15 @@ impl<'a> Reader<'a> for ScriptReader<'a> {
 
     ghost place = { seen_progress };
 
-    ghost IsReady = { λ _. Unit {0} };
+    ghost IsReady = { λ r. Knows r.prelude.now r.recent };
 
     ghost meaning = { λ script. script };
 
     fn take_word(&mut self, alloc: Global, token: Token<'a>) -> Result<bool, Stop> {
         match &mut self.place {
-            Place::Within(_, place) => take_in_command(alloc, self.prelude, place, token),
+            Place::Within(_, place) => {
+                take_in_command(alloc, self.prelude, &mut self.recent, place, token)
+            }
             _ => Ok(false),
         }
     }
@@ -166,6 +170,7 @@ pub fn read_script(alloc: Global, prelude: &Prelude, text: &[u8]) -> Result<Scri
     let _floats = prelude.floats();
     let reader = ScriptReader {
         prelude,
+        recent: Recent::for_text(alloc, text.len()),
         script: Vec::new(alloc),
         place: Place::Outermost,
     };

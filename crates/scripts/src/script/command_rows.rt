@@ -7,6 +7,7 @@ ghost use Rattle.mmsyntax.specs.Tables.{Tables};
 ghost use Rattle.mmsyntax.specs.Faults.{row};
 ghost use Rattle.mmreader.specs.UnitReadings.{position_of};
 ghost use Rattle.mmreader.specs.Takings.{TakesItem};
+ghost use Rattle.mmreader.specs.Recalls.{Knows};
 ghost use Rattle.scripts.specs.Scripts.{other_step_of};
 ghost use Rattle.scripts.specs.ScriptFaults.{command_word, in_command, proof_start, step_row, unit_row};
 ghost use Rattle.scripts.specs.ScriptViews.{label_at, rank_at, decided, seen_command_place, seen_led, TakesInCommand};
@@ -14,7 +15,7 @@ ghost use Rattle.scripts.specs.ScriptViews.{label_at, rank_at, decided, seen_com
 use super::numerals::{hypothesis_place, is_numeral};
 use super::place::{CommandPlace, Led};
 use library::Command;
-use mmreader::{UnitProgress, UnitReader, named_step};
+use mmreader::{Recent, UnitProgress, UnitReader, named_step};
 use mmstatement::{FaultKind, Label, Prelude, Sequence, Step};
 use mmsyntax::numeral::number;
 use mmtext::{Mark, Stop, Token, contains_dollar, fault_at, mark_word};
@@ -141,8 +142,8 @@ fn take_step(
     }
 }
 
-/// Takes a word without `$` that stands in a command, outside of comments, if that is a proof, whose steps grow where they lie: whether it
-/// did.
+/// Takes a word without `$` that stands in a command, outside of comments, if that is a step of a proof or a symbol of an expression, which
+/// grow where they lie: whether it did. What was looked up lately is of the same prelude.
 ///
 /// # Errors
 ///
@@ -150,16 +151,20 @@ fn take_step(
 pub fn take_in_command<'a>(
     alloc: Global,
     prelude: &Prelude,
+    recent: &mut Recent<'a>,
     place: &mut CommandPlace<'a>,
     token: Token<'a>,
 ) -> Result<bool, Stop>
-    ensures { TakesInCommand prelude.now (seen_command_place prelude.now place.old) (seen token.entry)
+    requires { Knows prelude.now recent.old }
+    ensures knows { Knows prelude.now recent.new }
+    ensures taken { TakesInCommand prelude.now (seen_command_place prelude.now place.old) (seen token.entry)
         (seen_command_place prelude.now place.new) result }
 {
     match place {
         CommandPlace::InProof(label, steps) => {
             take_step(alloc, prelude, label.as_slice(), steps, token)
         }
+        CommandPlace::InUnit(_, reader) => reader.take_word(alloc, prelude, recent, token),
         _ => Ok(false),
     }
 }

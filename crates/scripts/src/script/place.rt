@@ -1,7 +1,7 @@
 //! Places in a script.
 
 use library::{Command, Transaction};
-use mmreader::UnitReader;
+use mmreader::{Recent, UnitReader};
 use mmstatement::{Label, Prelude, Step};
 
 /// What was read of the command in which a token stands.
@@ -61,6 +61,8 @@ pub enum Led<'a> {
 #[derive(Drop)]
 pub(super) struct ScriptReader<'a> {
     pub prelude: &'a Prelude,
+    /// What is known of words, by the prelude.
+    pub recent: Recent<'a>,
     /// The transactions that were committed, in order.
     pub script: Vec<Transaction>,
     /// The place behind them.

@@ -1,14 +1,15 @@
 -- What is left to show of `take_in_command`.
 use Rattle.std.proofs.Common.{sym, subst}
 use Rattle.mmtext.specs.Views.{seen}
+use Rattle.mmreader.specs.UnitReadings.{position_of}
 use Rattle.scripts.specs.declared.script.place.CommandPlace.{CommandPlace}
-use Rattle.scripts.specs.ScriptFaults.{in_proof}
+use Rattle.scripts.specs.ScriptFaults.{in_proof, in_unit}
 use Rattle.scripts.specs.ScriptViews.{seen_command_place, TakesInCommand}
-use Rattle.scripts.proofs.ScriptRows.{step_taken}
+use Rattle.scripts.proofs.ScriptRows.{step_taken, unit_taken}
 use Rattle.scripts.proofs.script.command_rows.take_in_command.Goals as goal
 
-pub returns-in-InProof : goal.returns-in-InProof
-returns-in-InProof c =
+pub returns-in-InProof-clause-taken : goal.returns-in-InProof-clause-taken
+returns-in-InProof-clause-taken c =
     let t = c.args.prelude.now in
     let u = seen c.args.token in
     let label = c.in-InProof.label in
@@ -16,3 +17,13 @@ returns-in-InProof c =
     let new = c.take_step.new.steps.items in
     subst (λ (x : CommandPlace). TakesInCommand t (seen_command_place t x) u (in_proof label new) c.take_step.result) (sym c.in-InProof.is)
     (step_taken t label c.as_slice.result.now old new u c.take_step.result c.as_slice.ensures c.take_step.ensures)
+
+pub returns-in-InUnit-clause-taken : goal.returns-in-InUnit-clause-taken
+returns-in-InUnit-clause-taken c =
+    let t = c.args.prelude.now in
+    let u = seen c.args.token in
+    let old = c.in-InUnit.reader in
+    let new = c.take_word.new.self in
+    let rank = c.in-InUnit.field-0 in
+    subst (λ (x : CommandPlace). TakesInCommand t (seen_command_place t x) u (in_unit rank (position_of t new)) c.take_word.result)
+    (sym c.in-InUnit.is) (unit_taken t rank old new u c.take_word.result c.take_word.ensures.taken)
