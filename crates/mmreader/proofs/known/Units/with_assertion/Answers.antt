@@ -31,7 +31,7 @@ invariant_of-result c =
     let Dotted = λ (m : HashMap (Vec ℕ Global) (Unit {0}) RandomState). (w : Word) → is_some (hash.get_by (λ q. bytes_eq w q.items) m)
         ≡ list_any (λ x. is_dotted w x.label) (here.assertions ++ a ∷ []) in
     subst (λ xs. HasLabels c.insert-2.new.self c.if-trunk-label.trunks (record here { assertions = xs; prelude_closed = true }))
-    (sym (search rules))
+    (sym c.in_ok-push.ensures.items)
     (record {
       owned = owners_with c.self.inside.labels c.insert-2.new.self c.in_ok-from_slice-2.field-0 here a true c.self.invariant.owned
           (search rules) c.in_ok-insert-2.ensures.updates;
