@@ -1,7 +1,7 @@
 //! Places in a history.
 
 use library::{Command, Entry, Line, Reply};
-use mmreader::UnitReader;
+use mmreader::{Recent, UnitReader};
 use mmstatement::{Kind, Label, Prelude};
 use scripts::CommandPlace;
 
@@ -67,6 +67,8 @@ pub(crate) enum Place<'a> {
 #[derive(Drop)]
 pub(crate) struct HistoryReader<'a> {
     pub prelude: &'a Prelude,
+    /// What is known of words, by the prelude.
+    pub recent: Recent<'a>,
     /// The entries that are whole, in order.
     pub entries: Vec<Entry>,
     /// The place behind them.

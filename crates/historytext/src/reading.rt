@@ -13,9 +13,10 @@ ghost use Rattle.historytext.specs.Places.{entry_row, in_place, whole, FaultyHis
 ghost use Rattle.historytext.specs.Views.{seen_place, seen_at};
 
 use crate::entry_rows::read_in_entry;
-use crate::place::{EntryPlace, HistoryReader, Place};
+use crate::place::{EntryPlace, HistoryReader, Place, ReplyPlace};
 use crate::reply_rows::read_count;
 use library::{Entry, History};
+use mmreader::Recent;
 use mmstatement::{FaultKind, Prelude, Sequence, TextFault};
 use mmtext::{Mark, Reader, Stop, Token, fault_at, no_memory, read_text};
 use scripts::take_in_command;
@@ -75,6 +76,7 @@ fn may_end(place: &Place<'_>) -> bool
 impl<'a> Reader<'a> for HistoryReader<'a> {
     ghost use Rattle.std.specs.Prelude.{List};
     ghost use Rattle.library.specs.declared.history.Entry.{Entry};
+    ghost use Rattle.mmreader.specs.Recalls.{Knows};
     ghost use Rattle.historytext.specs.Places.{Progress, history_language};
     ghost use Rattle.historytext.specs.Views.{seen_progress};
 
@@ -88,14 +90,17 @@ impl<'a> Reader<'a> for HistoryReader<'a> {
 
     ghost place = { seen_progress };
 
-    ghost IsReady = { λ _. Unit {0} };
+    ghost IsReady = { λ r. Knows r.prelude.now r.recent };
 
     ghost meaning = { λ history. history };
 
     fn take_word(&mut self, alloc: Global, token: Token<'a>) -> Result<bool, Stop> {
         match &mut self.place {
             Place::InEntry(_, EntryPlace::Within(_, place)) => {
-                take_in_command(alloc, self.prelude, place, token)
+                take_in_command(alloc, self.prelude, &mut self.recent, place, token)
+            }
+            Place::InEntry(_, EntryPlace::Answering(_, _, ReplyPlace::InShown(_, _, reader))) => {
+                reader.take_word(alloc, self.prelude, &mut self.recent, token)
             }
             _ => Ok(false),
         }
@@ -153,6 +158,7 @@ pub fn read_history(alloc: Global, prelude: &Prelude, text: &[u8]) -> Result<His
     let _floats = prelude.floats();
     let reader = HistoryReader {
         prelude,
+        recent: Recent::for_text(alloc, text.len()),
         entries: Vec::new(alloc),
         place: Place::AtHistory,
     };
