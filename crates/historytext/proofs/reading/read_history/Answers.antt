@@ -1,10 +1,16 @@
 -- What is left to show of `read_history`.
-use Rattle.std.proofs.Common.{◌∙◌, inl, inr}
-use Rattle.historytext.specs.Places.{history_language}
+use Rattle.std.proofs.Common.{List, refl, ap, ◌∙◌, inl, inr}
+use Rattle.library.specs.declared.history.Entry.{Entry}
+use Rattle.historytext.specs.Places.{at_history, history_language}
 use Rattle.mmtext.proofs.Readings.{reading_fault, not_both, same_fault}
 use Rattle.mmtext.proofs.Turns.{fault_given}
+use Rattle.historytext.proofs.HistoryRows.{progress}
 use Rattle.historytext.proofs.HistoryLaws.{reading_found, same_history, no_fault, history_fits}
 use Rattle.historytext.proofs.reading.read_history.Goals as goal
+
+pub read_text-requires : goal.read_text-requires
+read_text-requires c κs =
+    ((refl, tt), (c.for_text.ensures c.args.prelude.now, ap (λ (es : List Entry). progress es at_history) c.new.ensures.items))
 
 pub returns-in-Ok-clause-found : goal.returns-in-Ok-clause-found
 returns-in-Ok-clause-found c = reading_found c.args.prelude.now c.args.text.now c.in-Ok.history c.in-Ok.ensures
