@@ -1,6 +1,6 @@
 -- What the maps of labels find, at first and after one more label.
 use Rattle.std.proofs.Common.{◌≡◌, ℕ, ◌<◌, ◌≤◌, Bool, true, false, cond, ltb, List, [], ◌∷◌, ◌++◌, length, Option, Some, None, Vec}
-use Rattle.std.proofs.Common.{refl, sym, ap, subst, ◌∙◌, inl, inr, arith}
+use Rattle.std.proofs.Common.{refl, sym, ap, ◌∙◌, inl, inr, arith}
 use Rattle.std.specs.Option.{is_some}
 use Rattle.std.specs.List.{list_any}
 use Rattle.std.specs.Prelude.{◌||◌, ◌&&◌}
@@ -15,7 +15,7 @@ use Rattle.mmtext.specs.Words.{Word}
 use Rattle.mmsyntax.specs.declared.statement.Assertion.{Assertion}
 use Rattle.mmsyntax.specs.Dotted.{is_dotted, trunk}
 use Rattle.mmsyntax.specs.Rows.{Units, is_assertion_label, is_unit_label, clashes}
-use Rattle.mmreader.specs.Labels.{HasLabels, owner_of}
+use Rattle.mmreader.specs.Labels.{owner_of}
 use Rattle.mmreader.specs.declared.known.Owner.{Owner}
 use Rattle.mmreader.specs.declared.known.Owner.TheVariants as owner
 use Rattle.mmsyntax.proofs.Names.{after_update, bytes_eq-sym, bytes_eq-same, same_bytes, swap_or, is_some-cond}

@@ -148,8 +148,8 @@ impl<'a> Reader<'a> for ScriptReader<'a> {
 /// - `OutOfProfile` for `$[` and `$]` outside of comments;
 /// - `TooLong` for a rank that is higher;
 /// - in an assertion the faults of `read_assertion`;
-/// - in another proof `OutOfProfile` for `?` and `(`, `TooLong` for a step behind 16,384, and `BadLabel` for a label that is too long or
-///   has a `.`, unless it is that of a `$f` or `L.k`.
+/// - in another proof `OutOfProfile` for `?` and `(`, `TooLong` for a step behind 16,384, and `BadLabel` for a label that is too long,
+///   unless it is that of a `$f` or `L.k`.
 pub fn read_script(alloc: Global, prelude: &Prelude, text: &[u8]) -> Result<Script, TextFault>
     // What is read is spelled so.
     ensures found { IfOk result (λ script. SpellsScript prelude.now text.now script) }

@@ -1,15 +1,10 @@
 -- What is left to show of `read_script`.
-use Rattle.std.proofs.Common.{refl, ap, inl, inr}
-use Rattle.scripts.specs.ScriptFaults.{outermost, script_language}
+use Rattle.std.proofs.Common.{inl, inr, refl, rules}
+use Rattle.scripts.specs.ScriptFaults.{script_language}
 use Rattle.mmtext.proofs.Readings.{reading_fault, not_both, same_fault}
 use Rattle.mmtext.proofs.Turns.{fault_given}
-use Rattle.scripts.proofs.ScriptRows.{Script, progress}
 use Rattle.scripts.proofs.ScriptLaws.{reading_found, answered, no_fault, script_fits}
 use Rattle.scripts.proofs.script.read_script.Goals as goal
-
-pub read_text-requires : goal.read_text-requires
-read_text-requires c κs =
-    ((refl, tt), (c.for_text.ensures c.args.prelude.now, ap (λ (s : Script). progress s outermost) c.new.ensures.items))
 
 pub returns-in-Ok-clause-found : goal.returns-in-Ok-clause-found
 returns-in-Ok-clause-found c = reading_found c.args.prelude.now c.args.text.now c.in-Ok.script c.in-Ok.ensures
@@ -48,3 +43,7 @@ pub returns-in-Err-Fault-clause-refused : goal.returns-in-Err-Fault-clause-refus
 returns-in-Err-Fault-clause-refused c = λ f faulty.
     let given = fault_given _ c.in-Err-Fault.fault _ c.in-Err-Fault.field-0-is c.in-Err-Fault.ensures in
     inl (same_fault (script_language c.args.prelude.now) c.args.text.now f c.in-Err-Fault.fault faulty given)
+
+-- no word is kept yet, so each that is kept is so
+pub read_text-requires : goal.read_text-requires
+read_text-requires c κs = ((refl, tt), (c.for_text.ensures c.args.prelude.now, search rules))

@@ -1,5 +1,5 @@
 -- What is left to show of `add_hypothesis_label`.
-use Rattle.std.proofs.Common.{sym, subst, rules, ◌∙◌, ◌++◌, ◌∷◌, []}
+use Rattle.std.proofs.Common.{subst, rules}
 use Rattle.mmsyntax.specs.Rows.{Units}
 use Rattle.mmreader.specs.Labels.{HasLabels}
 use Rattle.mmreader.proofs.LabelMaps.{owners_still, owners_too}

@@ -1,5 +1,5 @@
 -- What is left to show of `has_clash`.
-use Rattle.std.proofs.Common.{sym, ◌∙◌, rules}
+use Rattle.std.proofs.Common.{rules}
 use Rattle.mmreader.proofs.LabelMaps.{looked_up, not_looked_up, clash_before, clash_behind}
 use Rattle.mmreader.proofs.known.Units.has_clash.Goals as goal
 use Rattle.mmreader.proofs.known.Units.has_clash.Goals.{then-trunk-word, else-trunk-word}
