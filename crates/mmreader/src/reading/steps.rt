@@ -161,7 +161,14 @@ pub(crate) fn step_at(
 ) -> Result<Result<Step, FaultKind>, AllocError>
     ensures { IfOk result (λ r. r ≡ step_of symbols.now label.now (block_of (seen_scope scope.now)).hyps count word.now) }
 {
-    named_step(alloc, symbols, label, hypothesis_in(scope, word), count, word)
+    named_step(
+        alloc,
+        symbols,
+        label,
+        hypothesis_in(scope, word),
+        count,
+        word,
+    )
 }
 
 /// The step that a word is by what is known of it, or why it is none. Of a `$f` the block isn't asked.

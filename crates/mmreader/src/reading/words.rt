@@ -77,7 +77,7 @@ fn take_step<'a>(
     ensures kept { theorem.new ≡ record theorem.old { steps = theorem.new.steps } }
     ensures taken { TakesItem (seen token.entry) theorem.old.steps.items theorem.new.steps.items
         (step_of symbols.now theorem.old.label.now (block_of (seen_scope theorem.old.scope)).hyps (length theorem.old.steps.items)
-            token.entry.text.now) result }
+        token.entry.text.now) result }
 {
     let known = recent.look_up(alloc, symbols, token.text)?;
     if known.with_dollar {

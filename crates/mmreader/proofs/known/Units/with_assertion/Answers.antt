@@ -29,7 +29,7 @@ invariant_of-result c =
     let l = c.as_slice-label.result.now in
     let front = c.trunk-trunk.result.now in
     let Dotted = λ (m : HashMap (Vec ℕ Global) (Unit {0}) RandomState). (w : Word) → is_some (hash.get_by (λ q. bytes_eq w q.items) m)
-        ≡ list_any (λ x. is_dotted w x.label) (here.assertions ++ a ∷ []) in
+    ≡ list_any (λ x. is_dotted w x.label) (here.assertions ++ a ∷ []) in
     subst (λ xs. HasLabels c.insert-2.new.self c.if-trunk-label.trunks (record here { assertions = xs; prelude_closed = true }))
     (sym c.in_ok-push.ensures.items)
     (record {
