@@ -1,12 +1,13 @@
--- Words without a $: the steps that they are by what is kept of them, and where they lead in an expression or a proof.
+-- Words without a $: the symbols and steps that they are by what is kept of them, and where they lead in an expression or a proof.
 use Rattle.std.proofs.Common.{◌≡◌, ℕ, ◌<◌, Bool, true, false, cond, List, length, None, Some, Result, Ok, Err}
 use Rattle.std.proofs.Common.{refl, sym, ap, subst, ◌∙◌, inl, inr, arith}
-use Rattle.std.specs.Prelude.{◌||◌, nat_le, codes, OnOk}
+use Rattle.std.specs.Prelude.{◌||◌, ◌==◌, ◌++◌, ◌∷◌, [], nat_le, codes, OnOk}
 use Rattle.std.specs.Str.{bytes_eq}
 use mathlib.Core.Bool.{not}
 use Rattle.std.proofs.lemmas.Bool.{cases_Bool, cond-false, lt-leb}
 use Rattle.mmtext.specs.declared.fault.Stop.{Stop}
 use Rattle.mmtext.specs.declared.fault.Stop.TheVariants as stop
+use Rattle.mmtext.specs.declared.fault.FaultKind.{FaultKind}
 use Rattle.mmtext.specs.declared.fault.FaultKind.TheVariants.{BadToken, OutOfProfile, TooLong}
 use Rattle.mmtext.specs.declared.mark.Mark.TheVariants as mark
 use Rattle.mmtext.specs.Words.{Word, has_dollar, is_label}
@@ -15,7 +16,7 @@ use Rattle.mmtext.specs.Takings.{TakesWord as Takes}
 use Rattle.mmtext.proofs.Turns.{OnPlace}
 use Rattle.mmtext.proofs.Marks.{same_word, label_plain, mark_plain}
 use Rattle.mmsyntax.specs.Tables.{Tables, meaning}
-use Rattle.mmsyntax.specs.Rows.{Known, first_fault}
+use Rattle.mmsyntax.specs.Rows.{Known, first_fault, symbol_named, unless_full, symbol_of}
 use Rattle.mmsyntax.specs.Blocks.{Hypothesis}
 use Rattle.mmsyntax.specs.Steps.{step_tests, float_named, hypothesis_named, step_named, unless_faulty, step_of}
 use Rattle.mmsyntax.specs.Faults.{Place, in_place, row, database_language}
@@ -25,7 +26,7 @@ use Rattle.mmreader.specs.declared.place.Place.{Place as CodePlace}
 use Rattle.mmreader.specs.declared.place.Place.TheVariants as code
 use Rattle.mmreader.specs.Recalls.{IsTrueOf, Knows, IsKept}
 use Rattle.mmreader.specs.Standing.{Stands}
-use Rattle.mmreader.specs.Takings.{TakesWord}
+use Rattle.mmreader.specs.Takings.{TakesItem, TakesWord, pushed}
 use Rattle.mmreader.specs.Views.{IsUnitPlace}
 use Rattle.mmreader.proofs.Runs.{StandsAt, row_at, row_stands}
 
@@ -58,6 +59,32 @@ recalled t l hyps count r kept label lt =
     ap (λ n. step_named l w (float_named n) (hypothesis_named hyps w)) kept.names
     ∙ sym (ap (λ o. unless_faulty o (step_named l w (float_named (meaning t w)) (hypothesis_named hyps w)))
     (step_passes count w (sym kept.label ∙ label) lt))
+
+-- ---- items
+
+-- what is kept of a word tells whether it has a $
+pub kept_plain : (t : Tables) (w : Word) (r : Recalled) → (r.word.now ≡ w) × IsTrueOf t r → r.with_dollar ≡ false → has_dollar w ≡ false
+kept_plain t w r kept none = sym (ap has_dollar kept.0) ∙ sym kept.1.dollar ∙ none
+
+-- and the symbol that it is
+pub kept_symbol : (t : Tables) (w : Word) (r : Recalled) (n : ℕ) → (r.word.now ≡ w) × IsTrueOf t r → r.with_dollar ≡ false
+    → symbol_of t n w ≡ unless_full n (symbol_named (n == 0) r.name)
+unfolding symbol_of
+kept_symbol t w r n kept none =
+    let named = unless_full n (symbol_named (n == 0) (meaning t w)) in
+    cond-false (has_dollar w) (Err BadToken) named (kept_plain t w r kept none)
+    ∙ ap (λ m. unless_full n (symbol_named (n == 0) m)) (ap (meaning t) (sym kept.0) ∙ sym kept.1.names)
+
+-- what is put behind others, or the fault
+pub taken_item : {A : Type 0} (t : Token) (old new : List A) (given : Result A FaultKind) (x : A) → has_dollar t.text ≡ false
+    → given ≡ Ok x → new ≡ old ++ x ∷ [] → TakesItem t old new given (Ok true)
+taken_item t old new given x plain is put = (plain, ap (pushed t old) is ∙ ap Ok (sym put))
+
+pub refused_item : {A : Type 0} (t : Token) (old new : List A) (given : Result A FaultKind) (kind : FaultKind) (s : Stop)
+    → has_dollar t.text ≡ false → given ≡ Err kind → s ≡ stop.Fault (record { place = t.place; kind = kind })
+    → TakesItem t old new given (Err s)
+refused_item t old new given kind s plain is told =
+    subst (λ e. TakesItem t old new given (Err e)) (sym told) (plain, ap (pushed t old) is)
 
 -- ---- places
 

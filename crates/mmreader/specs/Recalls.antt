@@ -1,7 +1,7 @@
 -- Of the code's inside, apart from the rules: what is kept of words that were looked up.
-use Rattle.std.specs.Prelude.{◌≡◌, []}
+use Rattle.std.specs.Prelude.{◌≡◌, ◌<◌, ℕ, List, [], length, get_or}
 use Rattle.std.specs.List.{All}
-use Rattle.mmtext.specs.Words.{has_dollar, is_label}
+use Rattle.mmtext.specs.Words.{Word, has_dollar, is_label}
 use Rattle.mmsyntax.specs.Tables.{Tables, meaning}
 use Rattle.mmreader.specs.declared.recent.Recalled.{Recalled}
 use Rattle.mmreader.specs.declared.recent.Recent.{Recent}
@@ -17,6 +17,11 @@ pub record IsTrueOf (t : Tables) (r : Recalled) : Type 0 where
 -- all that is kept is so
 abbrev pub Knows : Tables → Recent → Type 0
 Knows t r = All (λ e. IsTrueOf t e) r.entries.items
+
+-- at a place all is kept of a word
+abbrev pub IsKeptAt : Tables → List Recalled → ℕ → Word → Type 0
+IsKeptAt t entries place w =
+    (place < length entries) × ((d : Recalled) → ((get_or entries place d).word.now ≡ w) × IsTrueOf t (get_or entries place d))
 
 -- in $c, $v and $f, which change the symbols, nothing is kept
 abbrev pub IsKept : Place → Recent → Recent → Type 0

@@ -5,11 +5,15 @@ use Rattle.mmtext.specs.declared.fault.TextFault.{TextFault}
 use Rattle.mmtext.specs.declared.fault.Stop.{Stop}
 use Rattle.mmtext.specs.declared.fault.Stop.TheVariants as stop
 use Rattle.mmtext.specs.declared.mark.Mark.TheVariants as mark
-use Rattle.mmtext.specs.Words.{has_dollar}
+use Rattle.mmtext.specs.Words.{Word, has_dollar}
 use Rattle.mmtext.specs.Text.{Token}
 use Rattle.mmtext.specs.Languages.{fault}
+use Rattle.mmsyntax.specs.declared.statement.Step.{Step}
+use Rattle.mmsyntax.specs.declared.statement.Step.TheVariants.{Float, Hyp, Cite}
 use Rattle.mmsyntax.specs.Rows.{Known}
 use Rattle.mmsyntax.specs.Faults.{Place, in_place}
+use Rattle.mmreader.specs.declared.reading.steps.Named.{Named}
+use Rattle.mmreader.specs.declared.reading.steps.Named.TheVariants as named
 
 -- what a word gives put behind others, or its fault
 abbrev pub pushed : {A : Type 0} → Token → List A → Result A FaultKind → Result (List A) TextFault
@@ -29,3 +33,14 @@ TakesWord k p t q (Ok true) = (has_dollar t.text ≡ false) × (in_place k p t m
 TakesWord k p t q (Ok false) = q ≡ p
 TakesWord k p t q (Err stop.Memory) = Unit {0}
 TakesWord k p t q (Err (stop.Fault f)) = (has_dollar t.text ≡ false) × (in_place k p t mark.Plain ≡ Err f)
+
+-- the step that a word is by what it names
+abbrev pub step_as : Word → Named → Step
+step_as w (named.Float j) = Float j
+step_as w (named.Hyp n) = Hyp n
+step_as w named.Assertion = Cite w
+
+-- that step, or the fault
+abbrev pub step_or_fault : Word → Result Named FaultKind → Result Step FaultKind
+step_or_fault w (Ok n) = Ok (step_as w n)
+step_or_fault w (Err kind) = Err kind

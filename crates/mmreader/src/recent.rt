@@ -1,8 +1,9 @@
 //! Words that were looked up lately. Most words of a text stand in it again and again.
 
-ghost use Rattle.std.specs.Prelude.{◌≡◌, [], IfOk};
+ghost use Rattle.std.specs.Prelude.{◌≡◌, ◌<◌, [], IfOk, OnOk, length};
 ghost use Rattle.mmsyntax.specs.Tables.{Tables};
-ghost use Rattle.mmreader.specs.Recalls.{IsTrueOf, IsKept, Knows};
+ghost use Rattle.mmtext.specs.Words.{Word};
+ghost use Rattle.mmreader.specs.Recalls.{IsTrueOf, IsKept, IsKeptAt, Knows};
 
 use crate::place::Place;
 use mmsyntax::{Name, SymbolTable};
@@ -90,43 +91,43 @@ impl<'a> Recent<'a> {
     /// Makes room for words.
     fn open(&mut self, alloc: Global, symbols: &SymbolTable) -> Result<(), AllocError>
         requires { self.old.entries.items ≡ [] }
-        ensures { Knows symbols.now self.new }
+        ensures knows { Knows symbols.now self.new }
+        ensures room { OnOk result (0 < length self.new.entries.items) }
     {
         let size = size_for(symbols, self.most);
         let nothing = looked_up(symbols, b"".as_slice());
-        let mut entries = Vec::with_capacity(alloc, size)?;
-        for _ in 0..size {
-            entries.push(nothing)?;
-        }
-        self.entries = entries;
+        self.entries = vec![in alloc; nothing; size]?;
         Ok(())
     }
 
-    /// What is known of a word, which is kept.
+    /// The place of what is known of a word, which is looked up if nothing is kept of it.
     pub(crate) fn look_up(
         &mut self,
         alloc: Global,
         symbols: &SymbolTable,
         word: &'a [u8],
-    ) -> Result<Recalled<'a>, AllocError>
+    ) -> Result<usize, AllocError>
         requires { Knows symbols.now self.old }
         ensures knows { Knows symbols.now self.new }
-        ensures found { IfOk result (λ r. (r.word.now ≡ word.now) × IsTrueOf symbols.now r) }
+        ensures found { IfOk result (λ place. IsKeptAt symbols.now self.new.entries.items place word.now) }
     {
         if self.entries.is_empty() {
             self.open(alloc, symbols)?;
         }
         let place = place_of(word, self.entries.len());
-        if place >= self.entries.len() {
-            return Ok(looked_up(symbols, word));
+        if self.entries[place].word != word {
+            self.entries[place] = looked_up(symbols, word);
         }
-        let kept = self.entries[place];
-        if kept.word == word {
-            return Ok(kept);
-        }
-        let found = looked_up(symbols, word);
-        self.entries[place] = found;
-        Ok(found)
+        Ok(place)
+    }
+
+    /// What is known of the word that is kept at a place.
+    pub(crate) fn at(&self, place: usize) -> &Recalled<'a>
+        requires { place < length self.now.entries.items }
+        ensures { (t : Tables) (w : Word) → IsKeptAt t self.now.entries.items place w
+            → (result.now.word.now ≡ w) × IsTrueOf t result.now }
+    {
+        &self.entries[place]
     }
 }
 
@@ -142,18 +143,23 @@ fn most_of_text(length: usize) -> usize {
 }
 
 /// How many words are kept by the number of symbols, and at most so many: a power of two.
-fn size_for(symbols: &SymbolTable, most: usize) -> usize {
+fn size_for(symbols: &SymbolTable, most: usize) -> usize
+    ensures { 0 < result }
+{
     let count = symbols
         .constants()
         .len()
         .saturating_add(symbols.variables().len());
     let size = if count > FEW_SYMBOLS { MANY } else { FEW };
-    if size > most { most } else { size }
+    if size > most { most.max(1) } else { size }
 }
 
 /// The place of a word among `size`, a power of two.
-fn place_of(word: &[u8], size: usize) -> usize {
+fn place_of(word: &[u8], size: usize) -> usize
+    requires { 0 < size }
+    ensures { result < size }
+{
     let mut hasher = FoldHasher::default();
     hasher.write(word);
-    (hasher.finish() as usize) & size.wrapping_sub(1)
+    (hasher.finish() as usize) & (size - 1)
 }

@@ -61,7 +61,7 @@ fn take_step<'a, F: Frames>(
         Step::Float(i) => match prelude.floats().get(*i as usize) {
             None => Err(ProofFaultKind::UnknownStep),
             Some(float) => {
-                stack.push(&[Symbol::Const(float.type_code), Symbol::Var(*i)])?;
+                stack.push_two(Symbol::Const(float.type_code), Symbol::Var(*i))?;
                 Ok(())
             }
         },

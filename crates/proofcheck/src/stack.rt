@@ -146,6 +146,18 @@ impl<'a> Stack<'a> {
         Ok(())
     }
 
+    /// Puts an expression of two symbols on top, each where it is to stand.
+    pub(crate) fn push_two(&mut self, first: Symbol, second: Symbol) -> Result<(), AllocError>
+        ensures { OnOk result (self.new ≡ self.old ++ (first ∷ second ∷ []) ∷ []) }
+    {
+        let start = self.symbols.len();
+        self.symbols.push(first)?;
+        self.symbols.push(second)?;
+        let end = self.symbols.len();
+        self.entries.push(Entry::Own(start, end))?;
+        Ok(())
+    }
+
     /// Puts an expression that stands elsewhere on top, without a copy.
     pub(crate) fn lend(&mut self, expression: &'a [Symbol]) -> Result<(), AllocError>
         ensures { OnOk result (self.new ≡ self.old ++ expression.now ∷ []) }

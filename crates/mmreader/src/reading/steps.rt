@@ -7,6 +7,7 @@ ghost use Rattle.mmsyntax.specs.Rows.{first_fault};
 ghost use Rattle.mmsyntax.specs.Blocks.{typed_named, distinct_of, with_distinct};
 ghost use Rattle.mmsyntax.specs.Steps.{step_tests, float_named, hypothesis_named, step_named, unless_faulty, step_of};
 ghost use Rattle.mmsyntax.specs.Faults.{block_of};
+ghost use Rattle.mmreader.specs.Takings.{step_as, step_or_fault};
 ghost use Rattle.mmreader.specs.Views.{seen_scope};
 
 use super::labels::{MOST_LABEL_BYTES, MOST_SYMBOLS};
@@ -105,26 +106,64 @@ fn float_named(name: Option<Name>) -> Option<u32>
     }
 }
 
-/// The step that a word is in the proof of the assertion with a label, where it is the label of no `$f` and names, if any, the hypothesis
-/// at a place; or why it is none.
-fn labelled_step(
-    alloc: Global,
-    label: &[u8],
-    hypothesis: Option<u32>,
-    word: &[u8],
-) -> Result<Result<Step, FaultKind>, AllocError>
-    ensures { IfOk result (λ r. r ≡ step_named label.now word.now None hypothesis) }
+/// What a step of a proof names.
+#[derive(Clone, Copy)]
+pub(crate) enum Named {
+    /// The `$f` at this place of the prelude.
+    Float(u32),
+    /// The hypothesis at this place of the assertion being proved.
+    Hyp(u32),
+    /// The assertion with the word of the step as its label.
+    Assertion,
+}
+
+/// What a word names in the proof of the assertion with a label, where it is the label of no `$f` and names, if any, the hypothesis at a
+/// place; or why it names nothing.
+fn label_named(label: &[u8], hypothesis: Option<u32>, word: &[u8]) -> Result<Named, FaultKind>
+    ensures { step_or_fault word.now result ≡ step_named label.now word.now None hypothesis }
 {
     if let Some(n) = hypothesis {
-        return Ok(Ok(Step::Hyp(n)));
+        return Ok(Named::Hyp(n));
     }
     if word.len() > MOST_LABEL_BYTES {
-        return Ok(Err(FaultKind::BadLabel));
+        return Err(FaultKind::BadLabel);
     }
     if is_dotted(label, word) {
-        return Ok(Err(FaultKind::LabelClashes));
+        return Err(FaultKind::LabelClashes);
     }
-    Ok(Ok(Step::Cite(Label::from_slice(alloc, word)?)))
+    Ok(Named::Assertion)
+}
+
+/// What a word names as a step behind `count` steps of a proof of the assertion with a label, where it names, if any, the hypothesis at a
+/// place; or why it names nothing.
+fn name_of_step(
+    symbols: &SymbolTable,
+    label: &[u8],
+    hypothesis: Option<u32>,
+    count: usize,
+    word: &[u8],
+) -> Result<Named, FaultKind>
+    ensures { step_or_fault word.now result ≡ unless_faulty (first_fault (step_tests count word.now))
+        (step_named label.now word.now (float_named (meaning symbols.now word.now)) hypothesis) }
+{
+    if let Some(kind) = step_fault(count, word) {
+        return Err(kind);
+    }
+    if let Some(j) = float_named(symbols.look_up(word)) {
+        return Ok(Named::Float(j));
+    }
+    label_named(label, hypothesis, word)
+}
+
+/// The step that a word is by what it names.
+pub(crate) fn step_for(alloc: Global, named: Named, word: &[u8]) -> Result<Step, AllocError>
+    ensures { IfOk result (λ s. s ≡ step_as word.now named) }
+{
+    match named {
+        Named::Float(j) => Ok(Step::Float(j)),
+        Named::Hyp(n) => Ok(Step::Hyp(n)),
+        Named::Assertion => Ok(Step::Cite(Label::from_slice(alloc, word)?)),
+    }
 }
 
 /// The step that a word is behind `count` steps of a proof of the assertion with a label, where it names, if any, the hypothesis at a
@@ -140,50 +179,37 @@ pub fn named_step(
     ensures { IfOk result (λ r. r ≡ unless_faulty (first_fault (step_tests count word.now))
         (step_named label.now word.now (float_named (meaning symbols.now word.now)) hypothesis)) }
 {
-    if let Some(kind) = step_fault(count, word) {
-        return Ok(Err(kind));
+    match name_of_step(symbols, label, hypothesis, count, word) {
+        Ok(named) => Ok(Ok(step_for(alloc, named, word)?)),
+        Err(kind) => Ok(Err(kind)),
     }
-    if let Some(j) = float_named(symbols.look_up(word)) {
-        return Ok(Ok(Step::Float(j)));
-    }
-    labelled_step(alloc, label, hypothesis, word)
 }
 
-/// The step that a word is behind `count` steps of a proof of the assertion with a label, or why it is none.
+/// What a word names as a step behind `count` steps of a proof of the assertion with a label, or why it names nothing.
 #[tactic(auto, unfolding(mmsyntax::specs::Steps::step_of))]
 pub(crate) fn step_at(
-    alloc: Global,
     symbols: &SymbolTable,
     label: &[u8],
     scope: &Scope<'_>,
     count: usize,
     word: &[u8],
-) -> Result<Result<Step, FaultKind>, AllocError>
-    ensures { IfOk result (λ r. r ≡ step_of symbols.now label.now (block_of (seen_scope scope.now)).hyps count word.now) }
+) -> Result<Named, FaultKind>
+    ensures { step_or_fault word.now result ≡ step_of symbols.now label.now (block_of (seen_scope scope.now)).hyps count word.now }
 {
-    named_step(
-        alloc,
-        symbols,
-        label,
-        hypothesis_in(scope, word),
-        count,
-        word,
-    )
+    name_of_step(symbols, label, hypothesis_in(scope, word), count, word)
 }
 
-/// The step that a word is by what is known of it, or why it is none. Of a `$f` the block isn't asked.
+/// What a word names as a step by what is known of it, or why it names nothing. Of a `$f` the block isn't asked.
 pub(crate) fn recalled_step(
-    alloc: Global,
     label: &[u8],
     scope: &Scope<'_>,
-    known: Recalled<'_>,
-) -> Result<Result<Step, FaultKind>, AllocError>
-    ensures { IfOk result (λ r. r ≡ step_named label.now known.entry.word.now (float_named known.entry.name)
-        (hypothesis_named (block_of (seen_scope scope.now)).hyps known.entry.word.now)) }
+    known: &Recalled<'_>,
+) -> Result<Named, FaultKind>
+    ensures { step_or_fault known.now.word.now result ≡ step_named label.now known.now.word.now (float_named known.now.name)
+        (hypothesis_named (block_of (seen_scope scope.now)).hyps known.now.word.now) }
 {
     if let Some(j) = float_named(known.name) {
-        return Ok(Ok(Step::Float(j)));
+        return Ok(Named::Float(j));
     }
-    let hypothesis = hypothesis_in(scope, known.word);
-    labelled_step(alloc, label, hypothesis, known.word)
+    label_named(label, hypothesis_in(scope, known.word), known.word)
 }

@@ -10,7 +10,7 @@ ghost use Rattle.mmreader.specs.Standing.{Stands};
 ghost use Rattle.mmreader.specs.Views.{seen_scope, seen_behind, seen_unit_place, known_of, Leads};
 
 use super::labels::{assertion_label_fault, float_label_fault, hypothesis_label_fault, symbol_at};
-use super::steps::{restrict, step_at};
+use super::steps::{restrict, step_at, step_for};
 use crate::block::Block;
 use crate::known::Units;
 use crate::place::{Behind, Place, PreludePlace, Scope, Theorem, UnitPlace};
@@ -351,9 +351,9 @@ fn proof_step<'a>(
         units.add_assertion(alloc, assertion)?;
         return Ok(next.place());
     }
-    match step_at(alloc, symbols, label, &scope, steps.len(), token.text)? {
-        Ok(step) => {
-            steps.push(step)?;
+    match step_at(symbols, label, &scope, steps.len(), token.text) {
+        Ok(named) => {
+            steps.push(step_for(alloc, named, token.text)?)?;
             let theorem = Theorem {
                 scope,
                 label,

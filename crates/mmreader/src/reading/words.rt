@@ -7,34 +7,35 @@ ghost use Rattle.mmsyntax.specs.Faults.{block_of, unit_at};
 ghost use Rattle.mmtext.specs.Views.{seen};
 ghost use Rattle.mmreader.specs.Recalls.{IsTrueOf, Knows};
 ghost use Rattle.mmreader.specs.Standing.{Stands};
-ghost use Rattle.mmreader.specs.Takings.{TakesItem, TakesWord};
+ghost use Rattle.mmreader.specs.Takings.{TakesItem, TakesWord, step_or_fault};
 ghost use Rattle.mmreader.specs.Views.{seen_scope, seen_unit_place, seen_place, known_of};
 
 use super::labels::symbol_named;
-use super::steps::{MOST_STEPS, recalled_step, step_at};
+use super::steps::{MOST_STEPS, Named, recalled_step, step_at, step_for};
 use crate::place::{Place, Scope, Theorem, UnitPlace};
 use crate::recent::{Recalled, Recent};
-use mmsyntax::{Step, Symbol, SymbolTable};
+use mmsyntax::{Symbol, SymbolTable};
 use mmtext::{FaultKind, Stop, Token, fault_at};
-use std::alloc::{AllocError, Global};
+use std::alloc::Global;
 
-/// The step that a word is of which all is known, behind `count` steps of a proof of the assertion with a label, or why it is none.
+/// What a word names of which all is known, as a step behind `count` steps of a proof of the assertion with a label, or why it names
+/// nothing.
 #[tactic(auto, unfolding(mmsyntax::specs::Steps::step_of))]
 fn known_step(
-    alloc: Global,
     symbols: &SymbolTable,
     label: &[u8],
     scope: &Scope<'_>,
     count: usize,
-    known: Recalled<'_>,
-) -> Result<Result<Step, FaultKind>, AllocError>
-    requires { IsTrueOf symbols.now known }
-    ensures { IfOk result (λ r. r ≡ step_of symbols.now label.now (block_of (seen_scope scope.now)).hyps count known.entry.word.now) }
+    known: &Recalled<'_>,
+) -> Result<Named, FaultKind>
+    requires { IsTrueOf symbols.now known.now }
+    ensures { step_or_fault known.now.word.now result
+        ≡ step_of symbols.now label.now (block_of (seen_scope scope.now)).hyps count known.now.word.now }
 {
     if !known.is_label || count >= MOST_STEPS {
-        return step_at(alloc, symbols, label, scope, count, known.word);
+        return step_at(symbols, label, scope, count, known.word);
     }
-    recalled_step(alloc, label, scope, known)
+    recalled_step(label, scope, known)
 }
 
 /// Puts the symbol that a word is behind others. A word with a `$` is left: whether it had none.
@@ -51,7 +52,8 @@ fn take_symbol<'a>(
     ensures taken { TakesItem (seen token.entry) expression.old.items expression.new.items
         (symbol_of symbols.now (length expression.old.items) token.entry.text.now) result }
 {
-    let known = recent.look_up(alloc, symbols, token.text)?;
+    let place = recent.look_up(alloc, symbols, token.text)?;
+    let known = recent.at(place);
     if known.with_dollar {
         return Ok(false);
     }
@@ -79,14 +81,15 @@ fn take_step<'a>(
         (step_of symbols.now theorem.old.label.now (block_of (seen_scope theorem.old.scope)).hyps (length theorem.old.steps.items)
         token.entry.text.now) result }
 {
-    let known = recent.look_up(alloc, symbols, token.text)?;
+    let place = recent.look_up(alloc, symbols, token.text)?;
+    let known = recent.at(place);
     if known.with_dollar {
         return Ok(false);
     }
     let count = theorem.steps.len();
-    match known_step(alloc, symbols, theorem.label, &theorem.scope, count, known)? {
-        Ok(step) => {
-            theorem.steps.push(step)?;
+    match known_step(symbols, theorem.label, &theorem.scope, count, known) {
+        Ok(named) => {
+            theorem.steps.push(step_for(alloc, named, token.text)?)?;
             Ok(true)
         }
         Err(kind) => Err(fault_at(token, kind)),

@@ -1,6 +1,5 @@
 -- What is left to show of `known_step`.
-use Rattle.std.proofs.Common.{◌≡◌, subst}
-use Rattle.std.specs.Prelude.{IfOk}
+use Rattle.std.proofs.Common.{◌∙◌}
 use Rattle.mmsyntax.specs.Faults.{block_of}
 use Rattle.mmreader.specs.Views.{seen_scope}
 use Rattle.mmreader.proofs.Words.{recalled}
@@ -9,7 +8,6 @@ use Rattle.mmreader.proofs.reading.words.known_step.Goals as goal
 pub returns : goal.returns
 returns c =
     let hyps = (block_of (seen_scope c.args.scope.now)).hyps in
-    subst (λ s. IfOk c.recalled_step.result (λ r. r ≡ s))
-    (recalled c.args.symbols.now c.args.label.now hyps c.args.count c.args.known c.requires c.if-not-known.false
-    c.if-count-ge-MOST_STEPS.false)
     c.recalled_step.ensures
+    ∙ recalled c.args.symbols.now c.args.label.now hyps c.args.count c.args.known.now c.requires c.if-not-known.false
+    c.if-count-ge-MOST_STEPS.false
