@@ -1,7 +1,10 @@
 -- What is read back from the bodies of a slot is what it holds.
-use Rattle.std.proofs.Common.{◌≡◌, ℕ, zero, suc, ◌+◌, ◌<◌, List, [], ◌∷◌, ◌++◌, length, get_or, take, refl, sym, ap, subst, ◌∙◌, arith}
+use Rattle.std.proofs.Common.{◌≡◌, ℕ, zero, suc, ◌+◌, ◌<◌, List, [], ◌∷◌, ◌++◌, ◌≤◌, length, get_or, take, refl, sym, ap, subst, ◌∙◌, inl, inr, arith}
 use Rattle.std.specs.List.{All, AllZip}
-use Rattle.std.proofs.lemmas.List.{take_more, take_all}
+use Rattle.std.proofs.Math.Nat.{eq-or-lt_of_le}
+use Rattle.std.proofs.Math.ListN.{get_or-append}
+use Rattle.std.proofs.Math.Seq.{get_or-append_seam}
+use Rattle.std.proofs.lemmas.List.{take_more, take_all, length-append, get_or_default}
 use Rattle.std.proofs.lemmas.List.Elements.{All-get_or}
 use Rattle.std.proofs.lemmas.Slice.Zip.{AllZip-long}
 use Rattle.mmsyntax.specs.declared.statement.Kind.{Kind}
@@ -21,7 +24,7 @@ use Rattle.cells.specs.State.{State}
 use Rattle.cells.specs.Slots.{proof_cell}
 use Rattle.cells.specs.Shows.{IsNamed, IsStoredAs, AreStoredAs, HoldsProof, Holds}
 use Rattle.cells.specs.Sight.{Sight, Matches, Looks, after}
-use Rattle.cells.specs.Lookups.{ForEachHeld, AreWordsOf, IsNameAt, IsShortLabelled}
+use Rattle.cells.specs.Lookups.{ForEachHeld, AreWordsOf, IsNameAt, IsShortLabelled, IsStepOf, AreStepsOf}
 use Rattle.cells.proofs.Sights.{matches_back, views_back, after_looks}
 use Rattle.cells.proofs.Settings.{same_slots}
 use Rattle.cells.proofs.Small.{label_small}
@@ -92,6 +95,31 @@ pub read_back_all : {O : Type 0} → (s : Sight O) (slots i : ℕ) (kept : List 
 read_back_all s slots i kept steps xs st each n m short z =
     let long = AllZip-long (IsStoredAs (IsNamed slots (after s st))) xs kept z in
     each st xs m short z ∙ take_all i xs (omega (arith, long, n))
+
+-- a step that is stored as one stays so
+step_of_later : {O : Type 0} → (s t : Sight O) (slots : ℕ) (kept : StoredStep) (made : Step) → Looks s t → IsStepOf slots s kept made
+    → IsStepOf slots t kept made
+step_of_later s t slots kept made looks is = λ st x m short stored.
+    is st x (matches_back s t st looks.onward m) short
+    (subst (λ (y : State). IsStoredAs (IsNamed slots y) x kept) (after_looks s t st looks) stored)
+
+-- and so do the first steps, with one more
+pub steps_of_on : {O : Type 0} → (s t : Sight O) (slots i : ℕ) (kept : List StoredStep) (steps more : List Step) (made : Step) (d : StoredStep)
+    → Looks s t → AreStepsOf slots s kept steps → length steps ≡ i → i < length kept → more ≡ steps ++ made ∷ []
+    → IsStepOf slots t (get_or kept i d) made → AreStepsOf slots t kept more
+steps_of_on s t slots i kept steps more made d looks each n within push is k d' e lt =
+    let long : length more ≡ length steps + 1 = ap (λ (ys : List Step). length ys) push ∙ length-append steps (made ∷ []) in
+    elim (eq-or-lt_of_le (let le : k ≤ length steps = omega (arith, long, lt) in le)) [
+      | inl here ↦
+        let same : get_or more k e ≡ made =
+        ap (λ (ys : List Step). get_or ys k e) push ∙ ap (λ (j : ℕ). get_or (steps ++ made ∷ []) j e) here ∙ get_or-append_seam steps made [] e in
+        let place : get_or kept i d ≡ get_or kept k d' = get_or_default kept i d d' within ∙ ap (λ (j : ℕ). get_or kept j d') (sym n ∙ sym here) in
+        subst (IsStepOf slots t (get_or kept k d')) (sym same) (subst (λ (x : StoredStep). IsStepOf slots t x made) place is)
+      | inr before ↦
+        let same : get_or more k e ≡ get_or steps k e = ap (λ (ys : List Step). get_or ys k e) push ∙ get_or-append steps (made ∷ []) e k before in
+        subst (IsStepOf slots t (get_or kept k d')) (sym same)
+        (step_of_later s t slots (get_or kept k d') (get_or steps k e) looks (each k d' e before))
+    ]
 
 -- ---- assertions
 

@@ -4,7 +4,7 @@ use Rattle.std.proofs.lemmas.Grind.{common_steps}
 use mathlib.Core.Bool.{not}
 use Rattle.std.specs.List.{AllZip}
 use Rattle.std.proofs.lemmas.Bool.{cases_Bool, cond-true, cond-false}
-use Rattle.std.proofs.lemmas.List.{take_more, take_all}
+use Rattle.std.proofs.lemmas.List.{take_more, take_all, length-take-le, get_or-take, get_or_default}
 use Rattle.std.proofs.lemmas.List.Folds.{list_any_at}
 use Rattle.mmsyntax.specs.declared.statement.Step.{Step}
 use Rattle.mmsyntax.specs.declared.statement.Step.TheVariants.{Cite, Float as FloatStep, Hyp as HypStep}
@@ -17,8 +17,9 @@ use Rattle.cells.specs.Shows.{IsNamed, IsStoredAs, AreStoredAs}
 use Rattle.cells.specs.Sight.{Sight, Looks, after}
 use Rattle.ranges.specs.Ranges.{Has}
 use Rattle.cells.specs.Lookups.{ForEach, Finds, AreWithin, StoresStep, Resolves}
-use Rattle.ranges.proofs.Members.{has_append_cases}
+use Rattle.ranges.proofs.Members.{has_append_cases, has_from_contains}
 use Rattle.cells.proofs.Sights.{for_each_later}
+use Rattle.cells.proofs.ReadBack.{zip_at}
 
 -- ---- one step
 
@@ -110,6 +111,34 @@ resolve_on r s slots i steps kept more x y is looks each stores here lt push = (
 pub resolve_fails : {O : Type 0} → (s : Sight O) (i : ℕ) (steps : List Step) (x : Step) → StoresStep s x None → x ≡ get_or steps i x → i < length steps → Resolves s steps None
 resolve_fails s i steps x stores here lt = λ st lib v.
     list_any_at (is_of_unknown lib) steps i x lt (subst (λ (z : Step). is_of_unknown lib z ≡ true) here (stores st lib v))
+
+-- what is stored so far
+pub resolved_so_far : {O : Type 0} → (s : Sight O) (slots i : ℕ) (steps : List Step) (kept seen : List StoredStep) → slots ≡ s.setting.slots
+    → i < length steps → AreResolved s slots (take i steps) kept → seen ≡ kept → Resolves s (take (length seen) steps) (Some seen)
+resolved_so_far s slots i steps kept seen is lt each same =
+    let front = each.0 in
+    let n : length kept ≡ i = omega (arith, front, length-take-le i steps (omega arith)) in
+    subst (λ (ks : List StoredStep). Resolves s (take (length ks) steps) (Some ks)) (sym same)
+    (subst (λ (m : ℕ). Resolves s (take m steps) (Some kept)) (sym n) (
+      front,
+      subst (λ (m : ℕ). AreWithin m kept) is each.1,
+      λ st lib v. subst (λ (m : ℕ). AreStoredAs m (after s st) (take i steps) kept) is (each.2 st lib v),
+    ))
+
+-- and a step that is one of those is stored as that one
+pub stored_at : {O : Type 0} → (s : Sight O) (steps : List Step) (kept : List StoredStep) (k : ℕ) (x : Step) (d : StoredStep)
+    → Resolves s (take (length kept) steps) (Some kept) → k < length kept → x ≡ get_or steps k x → StoresStep s x (Some (get_or kept k d))
+stored_at s steps kept k x d each lt stands = (within, told)
+  where
+    within : AreWithin s.setting.slots (get_or kept k d ∷ [])
+    within i (inl e) = each.1 i (has_from_contains kept (Slot i) (k, lt, get_or_default kept k (Slot i) d lt ∙ sym e))
+    within i (inr h) = absurd h
+
+    told : ForEach s (λ st lib. IsStoredAs (IsNamed s.setting.slots st) x (get_or kept k d))
+    told st lib v =
+        let at = zip_at (IsStoredAs (IsNamed s.setting.slots (after s st))) (take (length kept) steps) kept k x d (each.2 st lib v) lt in
+        let same : get_or (take (length kept) steps) k x ≡ x = get_or-take (length kept) steps k x lt ∙ sym stands in
+        subst (λ (y : Step). IsStoredAs (IsNamed s.setting.slots (after s st)) y (get_or kept k d)) same at.0
 
 pub resolve_all : {O : Type 0} → (s : Sight O) (slots i : ℕ) (steps : List Step) (kept : List StoredStep) → slots ≡ s.setting.slots → length steps ≡ i
     → AreResolved s slots (take i steps) kept → Resolves s steps (Some kept)

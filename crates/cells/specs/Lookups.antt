@@ -1,5 +1,5 @@
 -- What the calls that read a library's cells answer, for every state that may be under the run.
-use Rattle.std.specs.Prelude.{◌≡◌, ◌≢◌, ◌<◌, ◌≤◌, ℕ, ◌+◌, ◌%◌, ◌↔◌, IsTrue, List, [], ◌∷◌, Option, Some, None, Bool, true, false, length, All, Contains}
+use Rattle.std.specs.Prelude.{◌≡◌, ◌≢◌, ◌<◌, ◌≤◌, ℕ, ◌+◌, ◌%◌, ◌↔◌, IsTrue, List, [], ◌∷◌, Option, Some, None, Bool, true, false, length, get_or, All, Contains}
 use Rattle.std.specs.List.{list_any}
 use Rattle.mmsyntax.specs.declared.statement.Step.{Step}
 use Rattle.mmsyntax.specs.declared.statement.Step.TheVariants.{Float, Hyp, Cite}
@@ -104,3 +104,7 @@ IsShortLabelled (Cite label) = All (λ byte. byte < 256) label
 abbrev pub IsStepOf : {O : Type 0} → ℕ → Sight O → StoredStep → Step → Type 0
 IsStepOf slots s kept made =
     (st : State) (x : Step) → Matches s st → IsShortLabelled x → IsStoredAs (IsNamed slots (after s st)) x kept → made ≡ x
+
+-- the first of the kept steps are these
+abbrev pub AreStepsOf : {O : Type 0} → ℕ → Sight O → List StoredStep → List Step → Type 0
+AreStepsOf slots s kept steps = (k : ℕ) (d : StoredStep) (e : Step) → k < length steps → IsStepOf slots s (get_or kept k d) (get_or steps k e)

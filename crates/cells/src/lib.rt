@@ -1,6 +1,7 @@
 //! The library in cells: how a library lies in words, and what reads and writes of cells do to it.
 #![tactic(auto)]
 
+mod again;
 mod cells;
 mod chains;
 mod counts;

@@ -1,14 +1,15 @@
 //! Reads an assertion back from its slot.
 
-ghost use Rattle.std.specs.Prelude.{◌≡◌, ◌<◌, IfOk};
+ghost use Rattle.std.specs.Prelude.{◌≡◌, ◌<◌, IfOk, Some, true, length, take};
 ghost use Rattle.mmstatement.specs.Frames.{frame};
 ghost use Rattle.library.specs.Library.{label_of};
 ghost use Rattle.library.specs.Edits.{citers};
 ghost use Rattle.bodystore.specs.Bodies.{kind_word, statement_of};
 ghost use Rattle.std.specs.Option.{option_map};
 ghost use Rattle.cells.specs.Sight.{Looks};
-ghost use Rattle.cells.specs.Lookups.{ForEachHeld, IfFull, IsNameAt, AreStepsAt, IsStepOf, StoresStep, Resolves};
+ghost use Rattle.cells.specs.Lookups.{ForEachHeld, IfFull, IsNameAt, AreStepsAt, IsStepOf, AreStepsOf, StoresStep, Resolves};
 
+use crate::again::{Hints, number_of};
 use crate::cells::Cells;
 use crate::finding::find;
 use crate::halt::Halt;
@@ -152,10 +153,44 @@ pub fn proof<C: Cells>(
     let kept = stored_proof(alloc, cells, slot)?;
     let slots = slot_count(cells);
     let mut steps = Vec::with_capacity(alloc, kept.len())?;
-    for step in kept.as_slice() {
-        steps.push(named_step(alloc, cells, slots, *step)?)?;
+    let mut hints = Hints::new();
+    for (i, step) in kept.iter().enumerate() {
+        let hint = hints.exchange(number_of_stored(*step), i);
+        let made = named_again(alloc, cells, slots, &kept, &steps, hint, *step)?;
+        steps.push(made)?;
     }
     Ok(Sequence::from_vec(steps))
+}
+
+/// A number for a step in the store.
+fn number_of_stored(step: StoredStep) -> usize {
+    match step {
+        StoredStep::Float(place) => place as usize,
+        StoredStep::Hyp(place) => place as usize,
+        StoredStep::Slot(slot) => slot as usize,
+    }
+}
+
+/// The step with the label of the slot that it cites: that of the step at a place, if it is stored as the same, so that the label of an
+/// assertion that a proof cites again and again is read once.
+fn named_again<C: Cells>(
+    alloc: Global,
+    cells: &mut C,
+    slots: usize,
+    kept: &[StoredStep],
+    steps: &[Step],
+    hint: usize,
+    step: StoredStep,
+) -> Result<Step, Halt<C::Stop>>
+    requires slots { slots ≡ (C.sight cells.old).setting.slots }
+    requires steps { AreStepsOf slots (C.sight cells.old) kept.now steps.now }
+    ensures looks { Looks (C.sight cells.old) (C.sight cells.new) }
+    ensures ok { IfOk result (λ made. IsStepOf slots (C.sight cells.new) step made) }
+{
+    if hint < steps.len() && hint < kept.len() && kept[hint] == step {
+        return Ok(steps[hint].copy(alloc)?);
+    }
+    named_step(alloc, cells, slots, step)
 }
 
 /// The step with the label of the slot that it cites.
@@ -232,13 +267,55 @@ pub fn resolve<C: Cells>(
     ensures ok { IfOk result (λ kept. Resolves (C.sight cells.new) steps.now (option_map (λ v. v.items) kept)) }
 {
     let mut kept = Vec::with_capacity(alloc, steps.len())?;
-    for step in steps {
-        let Some(stored) = stored_step(cells, step).map_err(Halt::Stopped)? else {
+    let mut hints = Hints::new();
+    for (i, step) in steps.iter().enumerate() {
+        let hint = hints.exchange(number_of_step(step), i);
+        let Some(stored) = stored_again(cells, steps, &kept, hint, step).map_err(Halt::Stopped)?
+        else {
             return Ok(None);
         };
         kept.push(stored)?;
     }
     Ok(Some(kept))
+}
+
+/// A number for a step.
+fn number_of_step(step: &Step) -> usize {
+    match step {
+        Step::Float(place) => *place as usize,
+        Step::Hyp(place) => *place as usize,
+        Step::Cite(label) => number_of(label.as_slice()),
+    }
+}
+
+/// Whether both steps cite one label.
+fn cite_the_same(step: &Step, other: &Step) -> bool
+    ensures { result ≡ true → step.now ≡ other.now }
+{
+    match (step, other) {
+        (Step::Cite(label), Step::Cite(cited)) => label == cited,
+        _ => false,
+    }
+}
+
+/// The step with a cited label as the slot that has it; none where it cites a label that no assertion has. If the step at a place, which
+/// is stored already, cites the same label, it is stored as that one, so that an assertion that a proof cites again and again is looked
+/// for once.
+fn stored_again<C: Cells>(
+    cells: &mut C,
+    steps: &[Step],
+    kept: &[StoredStep],
+    hint: usize,
+    step: &Step,
+) -> Result<Option<StoredStep>, C::Stop>
+    requires { Resolves (C.sight cells.old) (take (length kept.now) steps.now) (Some kept.now) }
+    ensures looks { Looks (C.sight cells.old) (C.sight cells.new) }
+    ensures ok { IfOk result (λ stored. StoresStep (C.sight cells.new) step.now stored) }
+{
+    if hint < kept.len() && hint < steps.len() && cite_the_same(&steps[hint], step) {
+        return Ok(Some(kept[hint]));
+    }
+    stored_step(cells, step)
 }
 
 /// The step with a cited label as the slot that has it; none where it cites a label that no assertion has.

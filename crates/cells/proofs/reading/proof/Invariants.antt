@@ -1,8 +1,12 @@
+use Rattle.std.proofs.Common.{◌≡◌, length}
 use Rattle.cells.specs.Sight.{Looks}
+use Rattle.cells.specs.Lookups.{AreStepsOf}
 use Rattle.cells.proofs.ReadBack.{AreReadBack}
 use Rattle.cells.proofs.reading.proof.Given as goal
 
-abbrev pub invariant-loop-step : goal.invariant-loop-step
-invariant-loop-step g l =
+abbrev pub invariant-loop-i : goal.invariant-loop-i
+invariant-loop-i g l =
     Looks (g.C.Cells.sight l.initial.cells) (g.C.Cells.sight l.cells)
-    × AreReadBack (g.C.Cells.sight l.cells) l.slots l.step-items l.step-index l.steps.items
+    × AreReadBack (g.C.Cells.sight l.cells) l.slots l.step-items l.i l.steps.items
+    × (length l.steps.items ≡ l.i)
+    × AreStepsOf l.slots (g.C.Cells.sight l.cells) l.step-items l.steps.items

@@ -3,7 +3,7 @@ use Rattle.cells.specs.Sight.{Looks}
 use Rattle.cells.proofs.Resolving.{AreResolved}
 use Rattle.cells.proofs.reading.resolve.Given as goal
 
-abbrev pub invariant-loop-step : goal.invariant-loop-step
-invariant-loop-step g l =
+abbrev pub invariant-loop-i : goal.invariant-loop-i
+invariant-loop-i g l =
     Looks (g.C.Cells.sight l.fn.cells) (g.C.Cells.sight l.cells)
-    × AreResolved (g.C.Cells.sight l.cells) (g.C.Cells.sight l.fn.cells).setting.slots (take l.step-index l.steps) l.kept.items
+    × AreResolved (g.C.Cells.sight l.cells) (g.C.Cells.sight l.fn.cells).setting.slots (take l.i l.steps) l.kept.items
