@@ -1,5 +1,5 @@
 -- Words without a $: the symbols and steps that they are by what is kept of them, and where they lead in an expression or a proof.
-use Rattle.std.proofs.Common.{◌≡◌, ℕ, ◌<◌, Bool, true, false, cond, List, length, None, Some, Result, Ok, Err}
+use Rattle.std.proofs.Common.{◌≡◌, ℕ, ◌<◌, Bool, true, false, cond, List, length, Option, None, Some, Result, Ok, Err}
 use Rattle.std.proofs.Common.{refl, sym, ap, subst, ◌∙◌, inl, inr, arith}
 use Rattle.std.specs.Prelude.{◌||◌, ◌==◌, ◌++◌, ◌∷◌, [], nat_le, codes, OnOk}
 use Rattle.std.specs.Str.{bytes_eq}
@@ -50,15 +50,20 @@ step_passes count w l lt =
     ∙ cond-false (not (is_label w)) (Some BadToken) full (ap not l)
     ∙ cond-false (nat_le 16384 count) (Some TooLong) None (lt-leb 16384 count lt)
 
--- the step of a label by what is kept of it
+-- what a label names by what is kept of it
+pub recalled_named : (t : Tables) (l : Word) (h : Option ℕ) (count : ℕ) (r : Recalled) → IsTrueOf t r → r.is_label ≡ true → count < 16384
+    → step_named l r.word.now (float_named r.name) h
+    ≡ unless_faulty (first_fault (step_tests count r.word.now)) (step_named l r.word.now (float_named (meaning t r.word.now)) h)
+recalled_named t l h count r kept label lt =
+    let w = r.word.now in
+    ap (λ n. step_named l w (float_named n) h) kept.names
+    ∙ sym (ap (λ o. unless_faulty o (step_named l w (float_named (meaning t w)) h)) (step_passes count w (sym kept.label ∙ label) lt))
+
+-- and so the step that it is
 pub recalled : (t : Tables) (l : Word) (hyps : List Hypothesis) (count : ℕ) (r : Recalled) → IsTrueOf t r → r.is_label ≡ true
     → count < 16384 → step_named l r.word.now (float_named r.name) (hypothesis_named hyps r.word.now) ≡ step_of t l hyps count r.word.now
 unfolding step_of
-recalled t l hyps count r kept label lt =
-    let w = r.word.now in
-    ap (λ n. step_named l w (float_named n) (hypothesis_named hyps w)) kept.names
-    ∙ sym (ap (λ o. unless_faulty o (step_named l w (float_named (meaning t w)) (hypothesis_named hyps w)))
-    (step_passes count w (sym kept.label ∙ label) lt))
+recalled t l hyps count r kept label lt = recalled_named t l (hypothesis_named hyps r.word.now) count r kept label lt
 
 -- ---- items
 

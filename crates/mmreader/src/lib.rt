@@ -9,5 +9,7 @@ mod place;
 mod reading;
 mod recent;
 
-pub use reading::{UnitProgress, UnitReader, named_step, read_assertion, read_database};
+pub use reading::{
+    UnitProgress, UnitReader, named_step, read_assertion, read_database, recalled_named_step,
+};
 pub use recent::Recent;

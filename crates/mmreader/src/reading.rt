@@ -30,7 +30,7 @@ use prelude_rows::next_prelude_place;
 use std::alloc::Global;
 use std::hash::RandomState;
 use std::mem;
-pub use steps::named_step;
+pub use steps::{named_step, recalled_named_step};
 pub use unit_reader::{UnitProgress, UnitReader};
 use unit_rows::next_unit_place;
 pub use units::read_assertion;

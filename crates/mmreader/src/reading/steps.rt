@@ -7,13 +7,14 @@ ghost use Rattle.mmsyntax.specs.Rows.{first_fault};
 ghost use Rattle.mmsyntax.specs.Blocks.{typed_named, distinct_of, with_distinct};
 ghost use Rattle.mmsyntax.specs.Steps.{step_tests, float_named, hypothesis_named, step_named, unless_faulty, step_of};
 ghost use Rattle.mmsyntax.specs.Faults.{block_of};
+ghost use Rattle.mmreader.specs.Recalls.{IsTrueOf, Knows};
 ghost use Rattle.mmreader.specs.Takings.{step_as, step_or_fault};
 ghost use Rattle.mmreader.specs.Views.{seen_scope};
 
 use super::labels::{MOST_LABEL_BYTES, MOST_SYMBOLS};
 use crate::block::Block;
 use crate::place::Scope;
-use crate::recent::Recalled;
+use crate::recent::{Recalled, Recent};
 use mmsyntax::{Label, Name, Step, SymbolTable, is_dotted};
 use mmtext::{FaultKind, contains_dollar, is_label_token};
 use std::alloc::{AllocError, Global};
@@ -197,6 +198,49 @@ pub(crate) fn step_at(
     ensures { step_or_fault word.now result ≡ step_of symbols.now label.now (block_of (seen_scope scope.now)).hyps count word.now }
 {
     name_of_step(symbols, label, hypothesis_in(scope, word), count, word)
+}
+
+/// As [`name_of_step`], of a word of which all is known.
+fn name_by_recall(
+    symbols: &SymbolTable,
+    label: &[u8],
+    hypothesis: Option<u32>,
+    count: usize,
+    known: &Recalled<'_>,
+) -> Result<Named, FaultKind>
+    requires { IsTrueOf symbols.now known.now }
+    ensures { step_or_fault known.now.word.now result ≡ unless_faulty (first_fault (step_tests count known.now.word.now))
+        (step_named label.now known.now.word.now (float_named (meaning symbols.now known.now.word.now)) hypothesis) }
+{
+    if !known.is_label || count >= MOST_STEPS {
+        return name_of_step(symbols, label, hypothesis, count, known.word);
+    }
+    match float_named(known.name) {
+        Some(j) => Ok(Named::Float(j)),
+        None => label_named(label, hypothesis, known.word),
+    }
+}
+
+/// As [`named_step`], of a word that was looked up lately or is looked up now among the same symbols.
+pub fn recalled_named_step<'a>(
+    alloc: Global,
+    symbols: &SymbolTable,
+    recent: &mut Recent<'a>,
+    label: &[u8],
+    hypothesis: Option<u32>,
+    count: usize,
+    word: &'a [u8],
+) -> Result<Result<Step, FaultKind>, AllocError>
+    requires { Knows symbols.now recent.old }
+    ensures knows { Knows symbols.now recent.new }
+    ensures step { IfOk result (λ r. r ≡ unless_faulty (first_fault (step_tests count word.now))
+        (step_named label.now word.now (float_named (meaning symbols.now word.now)) hypothesis)) }
+{
+    let place = recent.look_up(alloc, symbols, word)?;
+    match name_by_recall(symbols, label, hypothesis, count, recent.at(place)) {
+        Ok(named) => Ok(Ok(step_for(alloc, named, word)?)),
+        Err(kind) => Ok(Err(kind)),
+    }
 }
 
 /// What a word names as a step by what is known of it, or why it names nothing. Of a `$f` the block isn't asked.

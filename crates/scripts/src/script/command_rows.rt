@@ -15,7 +15,7 @@ ghost use Rattle.scripts.specs.ScriptViews.{label_at, rank_at, decided, seen_com
 use super::numerals::{hypothesis_place, is_numeral};
 use super::place::{CommandPlace, Led};
 use library::Command;
-use mmreader::{Recent, UnitProgress, UnitReader, named_step};
+use mmreader::{Recent, UnitProgress, UnitReader, named_step, recalled_named_step};
 use mmstatement::{FaultKind, Label, Prelude, Sequence, Step};
 use mmsyntax::numeral::number;
 use mmtext::{Mark, Stop, Token, contains_dollar, fault_at, mark_word};
@@ -94,6 +94,24 @@ fn other_step(
     named_step(alloc, prelude.symbols(), label, hypothesis, count, word)
 }
 
+/// The same, of a word that was looked up lately or is looked up now.
+fn recalled_other_step<'a>(
+    alloc: Global,
+    prelude: &Prelude,
+    recent: &mut Recent<'a>,
+    label: &[u8],
+    count: usize,
+    word: &'a [u8],
+) -> Result<Result<Step, FaultKind>, AllocError>
+    requires { Knows prelude.now recent.old }
+    ensures knows { Knows prelude.now recent.new }
+    ensures step { IfOk result (λ r. r ≡ other_step_of prelude.now label.now count word.now) }
+{
+    let hypothesis = hypothesis_place(label, word);
+    let symbols = prelude.symbols();
+    recalled_named_step(alloc, symbols, recent, label, hypothesis, count, word)
+}
+
 /// A step of another proof, or the `$.` behind one.
 fn read_step<'a>(
     alloc: Global,
@@ -120,20 +138,23 @@ fn read_step<'a>(
 
 /// Puts the step that a word is behind others of another proof of an assertion with a label. A word with a `$` is left: whether it had
 /// none.
-fn take_step(
+fn take_step<'a>(
     alloc: Global,
     prelude: &Prelude,
+    recent: &mut Recent<'a>,
     label: &[u8],
     steps: &mut Vec<Step>,
-    token: Token<'_>,
+    token: Token<'a>,
 ) -> Result<bool, Stop>
-    ensures { TakesItem (seen token.entry) steps.old.items steps.new.items
+    requires { Knows prelude.now recent.old }
+    ensures knows { Knows prelude.now recent.new }
+    ensures taken { TakesItem (seen token.entry) steps.old.items steps.new.items
         (other_step_of prelude.now label.now (length steps.old.items) token.entry.text.now) result }
 {
     if contains_dollar(token.text) {
         return Ok(false);
     }
-    match other_step(alloc, prelude, label, steps.len(), token.text)? {
+    match recalled_other_step(alloc, prelude, recent, label, steps.len(), token.text)? {
         Ok(step) => {
             steps.push(step)?;
             Ok(true)
@@ -162,7 +183,7 @@ pub fn take_in_command<'a>(
 {
     match place {
         CommandPlace::InProof(label, steps) => {
-            take_step(alloc, prelude, label.as_slice(), steps, token)
+            take_step(alloc, prelude, recent, label.as_slice(), steps, token)
         }
         CommandPlace::InUnit(_, reader) => reader.take_word(alloc, prelude, recent, token),
         _ => Ok(false),

@@ -16,7 +16,7 @@ returns-in-InProof-clause-taken c =
     let old = c.in-InProof.steps.items in
     let new = c.take_step.new.steps.items in
     subst (λ (x : CommandPlace). TakesInCommand t (seen_command_place t x) u (in_proof label new) c.take_step.result) (sym c.in-InProof.is)
-    (step_taken t label c.as_slice.result.now old new u c.take_step.result c.as_slice.ensures c.take_step.ensures)
+    (step_taken t label c.as_slice.result.now old new u c.take_step.result c.as_slice.ensures c.take_step.ensures.taken)
 
 pub returns-in-InUnit-clause-taken : goal.returns-in-InUnit-clause-taken
 returns-in-InUnit-clause-taken c =
