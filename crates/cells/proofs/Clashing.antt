@@ -10,16 +10,16 @@ use Rattle.std.proofs.lemmas.List.Folds.{list_any_at, list_any_none}
 use Rattle.mmsyntax.proofs.Names.{same_bytes, bytes_eq-same}
 use Rattle.library.specs.declared.library.Ranked.{Ranked}
 use Rattle.library.specs.Library.{label_of}
-use Rattle.library.specs.Edits.{is_labelled, found, clashes, without}
+use Rattle.library.specs.Edits.{is_labelled, found, without}
 use Rattle.library.proofs.Filtered.{contains_filtered, contained_filter, contains_unmapped}
 use Rattle.library.proofs.Places.{found_own, found_in, is_labelled-own}
 use Rattle.ranges.specs.declared.range.Range.{Range as Place}
-use Rattle.mmsyntax.specs.Dotted.{clash, is_dotted, trunk}
+use Rattle.mmsyntax.specs.Dotted.{is_dotted, trunk}
 use Rattle.cells.specs.State.{State}
 use Rattle.cells.specs.Slots.{name_cell, hash, bucket}
-use Rattle.cells.specs.Shows.{Held, IsNamed, Shows, entries_of}
+use Rattle.cells.specs.Shows.{Held, IsNamed, Shows}
 use Rattle.cells.specs.Sight.{Sight, Matches, Views, Looks, Knows, after}
-use Rattle.cells.specs.Lookups.{ForEach, Finds, TellsClash}
+use Rattle.cells.specs.Lookups.{Finds, TellsClash}
 use Rattle.cells.specs.Clashing.{IsDottedAt, TellsTrunk, TellsNumbered}
 use Rattle.mmsyntax.proofs.DottedWords.{not_dotted_itself, dotted_trunk, trunk_whole_or_dotted}
 use Rattle.cells.proofs.Sights.{for_each_later}

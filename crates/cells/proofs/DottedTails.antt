@@ -8,7 +8,7 @@ use Rattle.std.proofs.lemmas.Bool.{cases_Bool, eqb-true}
 use Rattle.std.proofs.lemmas.List.{take-append-drop}
 use Rattle.std.proofs.lemmas.Fmt.{length-decimal-le, decimal_nonempty, IsAscii-decimal}
 use Rattle.mmsyntax.specs.Dotted.{hypothesis_label, hypothesis_numbered, is_dotted}
-use Rattle.mmsyntax.proofs.DottedWords.{numbered_some, numbered_is, DottedParts, dotted_parts, dotted_is}
+use Rattle.mmsyntax.proofs.DottedWords.{numbered_some, numbered_is, dotted_parts, dotted_is}
 
 -- ---- what stands behind the label
 

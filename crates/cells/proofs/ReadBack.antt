@@ -111,14 +111,14 @@ steps_of_on s t slots i kept steps more made d looks each n within push is k d' 
     let long : length more ≡ length steps + 1 = ap (λ (ys : List Step). length ys) push ∙ length-append steps (made ∷ []) in
     elim (eq-or-lt_of_le (let le : k ≤ length steps = omega (arith, long, lt) in le)) [
       | inl here ↦
-        let same : get_or more k e ≡ made =
-        ap (λ (ys : List Step). get_or ys k e) push ∙ ap (λ (j : ℕ). get_or (steps ++ made ∷ []) j e) here ∙ get_or-append_seam steps made [] e in
-        let place : get_or kept i d ≡ get_or kept k d' = get_or_default kept i d d' within ∙ ap (λ (j : ℕ). get_or kept j d') (sym n ∙ sym here) in
-        subst (IsStepOf slots t (get_or kept k d')) (sym same) (subst (λ (x : StoredStep). IsStepOf slots t x made) place is)
+          let same : get_or more k e ≡ made =
+          ap (λ (ys : List Step). get_or ys k e) push ∙ ap (λ (j : ℕ). get_or (steps ++ made ∷ []) j e) here ∙ get_or-append_seam steps made [] e in
+          let place : get_or kept i d ≡ get_or kept k d' = get_or_default kept i d d' within ∙ ap (λ (j : ℕ). get_or kept j d') (sym n ∙ sym here) in
+          subst (IsStepOf slots t (get_or kept k d')) (sym same) (subst (λ (x : StoredStep). IsStepOf slots t x made) place is)
       | inr before ↦
-        let same : get_or more k e ≡ get_or steps k e = ap (λ (ys : List Step). get_or ys k e) push ∙ get_or-append steps (made ∷ []) e k before in
-        subst (IsStepOf slots t (get_or kept k d')) (sym same)
-        (step_of_later s t slots (get_or kept k d') (get_or steps k e) looks (each k d' e before))
+          let same : get_or more k e ≡ get_or steps k e = ap (λ (ys : List Step). get_or ys k e) push ∙ get_or-append steps (made ∷ []) e k before in
+          subst (IsStepOf slots t (get_or kept k d')) (sym same)
+          (step_of_later s t slots (get_or kept k d') (get_or steps k e) looks (each k d' e before))
     ]
 
 -- ---- assertions

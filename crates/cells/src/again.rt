@@ -16,9 +16,7 @@ pub(crate) struct Hints {
 impl Hints {
     /// The first place for each number.
     pub(crate) fn new() -> Hints {
-        Hints {
-            places: [0; HINTS],
-        }
+        Hints { places: [0; HINTS] }
     }
 
     /// The place that was noted for a number, in whose stead this one is.

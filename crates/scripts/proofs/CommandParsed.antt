@@ -1,5 +1,5 @@
 -- Commands within another language: tokens that lead through their rows are their words.
-use Rattle.std.proofs.Common.{◌≡◌, ◌≢◌, ℕ, zero, suc, ◌<◌, true, false, List, [], ◌∷◌, ◌++◌, length, Result, Ok, Err, refl, sym, ap, subst, ◌∙◌}
+use Rattle.std.proofs.Common.{◌≡◌, ◌≢◌, ℕ, zero, suc, ◌<◌, false, List, [], ◌∷◌, ◌++◌, length, Result, Ok, Err, refl, sym, ap, subst, ◌∙◌}
 use Rattle.std.proofs.Common.{◌⊎◌, inl, inr, arith, append_assoc, append-nil}
 use Rattle.std.specs.Prelude.{codes}
 use Rattle.std.specs.Str.{bytes_eq}
@@ -7,7 +7,7 @@ use Rattle.std.proofs.lemmas.Bool.{cases_Bool, cond-true, cond-false}
 use Rattle.mmtext.specs.declared.fault.FaultKind.{FaultKind}
 use Rattle.mmtext.specs.declared.fault.FaultKind.TheVariants.{BadToken}
 use Rattle.mmtext.specs.declared.fault.TextFault.{TextFault}
-use Rattle.mmtext.specs.Text.{Token, mark_of}
+use Rattle.mmtext.specs.Text.{Token}
 use Rattle.mmtext.specs.Words.{Word, has_dollar}
 use Rattle.mmtext.specs.Comments.{words_of}
 use Rattle.mmtext.specs.Languages.{Language}
@@ -23,7 +23,7 @@ use Rattle.scripts.specs.ScriptFaults.{at_recited, at_old_citation, at_new_citat
 use Rattle.scripts.specs.ScriptFaults.{at_moved, at_new_rank, at_deleted, at_shown, Led, inside, whole_command, bad, label_row, rank_row}
 use Rattle.scripts.specs.ScriptFaults.{unit_start, step_led, in_command, command_word}
 use Rattle.scripts.proofs.ScriptRows.{label_case, rank_case, word_case, proof_case, step_case}
-use Rattle.scripts.proofs.InnerUnits.{ReadsUnit, reads_unit}
+use Rattle.scripts.proofs.InnerUnits.{reads_unit}
 use Rattle.scripts.proofs.CommandWords.{next_of, Asking, and_one, Asks, has_units}
 
 -- a token led to a place

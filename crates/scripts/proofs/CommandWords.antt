@@ -1,5 +1,5 @@
 -- Commands within another language: their words are ordinary, and lead behind them.
-use Rattle.std.proofs.Common.{◌≡◌, ◌≢◌, ℕ, Bool, true, false, cond, List, [], ◌∷◌, ◌++◌, length, Option, Some, None, Result, Ok, Err, refl, sym, ap, subst, ◌∙◌, ◌⊎◌, inl, inr, append_assoc, append-nil}
+use Rattle.std.proofs.Common.{◌≡◌, ◌≢◌, ℕ, false, cond, List, [], ◌∷◌, ◌++◌, length, Option, Some, None, Result, Ok, Err, refl, sym, ap, subst, ◌∙◌, ◌⊎◌, inl, inr, append_assoc, append-nil}
 use Rattle.std.specs.Prelude.{codes, All}
 use Rattle.std.specs.Str.{bytes_eq}
 use Rattle.std.proofs.lemmas.Bool.{cond-false}
@@ -20,9 +20,9 @@ use Rattle.mmreader.proofs.Keywords.{end_mark, proof_mark, mark_plain}
 use Rattle.mmreader.proofs.Ordinary.{statement_ordinary}
 use Rattle.library.specs.declared.command.Command.{Command}
 use Rattle.library.specs.declared.command.Command.TheVariants as command
-use Rattle.scripts.specs.Scripts.{IsRank, OtherSteps, SpellsCommand, SpellsEach, SpellsTransaction, other_step_of}
-use Rattle.scripts.specs.ScriptFaults.{CommandPlace, at_rank, in_unit, at_reproved, at_proof, in_proof, at_recited, at_old_citation, at_new_citation, at_old_label, at_new_label, at_moved, at_new_rank, at_deleted, at_shown, Led, inside, whole_command, bad, bad_text, label_row, rank_row, unit_start, unit_led, unit_row, proof_start, step_led, step_row, in_command, command_word}
-use Rattle.scripts.proofs.ScriptRows.{rank_plain, StepPasses, step_passes, label_led, rank_led, step_end, step_plain}
+use Rattle.scripts.specs.Scripts.{OtherSteps, SpellsCommand, SpellsEach, SpellsTransaction, other_step_of}
+use Rattle.scripts.specs.ScriptFaults.{CommandPlace, at_rank, in_unit, at_reproved, at_proof, in_proof, at_recited, at_old_citation, at_new_citation, at_old_label, at_new_label, at_moved, at_new_rank, at_deleted, at_shown, Led, inside, whole_command, bad, bad_text, unit_start, unit_led, unit_row, proof_start, step_led, step_row, in_command, command_word}
+use Rattle.scripts.proofs.ScriptRows.{rank_plain, step_passes, label_led, rank_led, step_end, step_plain}
 use Rattle.scripts.proofs.InnerUnits.{unit_end, unit_next, HasUnits, unit_words_lead}
 
 -- ---- the words are ordinary

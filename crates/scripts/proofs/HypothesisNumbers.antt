@@ -1,5 +1,5 @@
 -- Which place a word names in another proof.
-use Rattle.std.proofs.Common.{◌≡◌, ℕ, zero, suc, ◌-◌, ◌≤◌, Option, Some, None, refl, sym, ap, ◌∙◌, arith}
+use Rattle.std.proofs.Common.{◌≡◌, ℕ, zero, suc, ◌-◌, Some, None, sym, ap, ◌∙◌, arith}
 use Rattle.mmtext.specs.Words.{Word}
 use Rattle.mmsyntax.specs.Dotted.{hypothesis_numbered}
 use Rattle.mmsyntax.proofs.DottedWords.{numbered_is}

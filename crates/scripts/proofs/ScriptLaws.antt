@@ -1,13 +1,13 @@
 -- What the reader of scripts gives is what the text spells, and is within the limits.
-use Rattle.std.proofs.Common.{◌≡◌, ℕ, suc, ◌+◌, ◌<◌, ◌≤◌, Bool, true, false, List, [], ◌∷◌, ◌++◌, length, Option, Some, None, Result, Ok}
+use Rattle.std.proofs.Common.{◌≡◌, ℕ, suc, ◌≤◌, true, false, List, [], ◌∷◌, ◌++◌, length, Some, Ok}
 use Rattle.std.proofs.Common.{Err, refl, sym, ap, subst, ◌∙◌, arith, leb-false, length-append}
 use Rattle.std.specs.Prelude.{All, codes}
 use Rattle.std.specs.List.{AllByRecursion}
-use Rattle.std.proofs.lemmas.List.Elements.{All-from_recursion, All-append, All-nil, All-cons}
+use Rattle.std.proofs.lemmas.List.Elements.{All-append, All-nil, All-cons}
 use Rattle.mmtext.specs.declared.fault.TextFault.{TextFault}
-use Rattle.mmtext.specs.Text.{Token, tokens, IsClean}
+use Rattle.mmtext.specs.Text.{tokens, IsClean}
 use Rattle.mmtext.specs.Words.{Word}
-use Rattle.mmtext.specs.Languages.{State, run, ended, token_reading, reading}
+use Rattle.mmtext.specs.Languages.{run, ended, token_reading, reading}
 use Rattle.mmtext.specs.Laws.{IsGrammarOf}
 use Rattle.mmtext.proofs.Readings.{reading_ok, clean_reading}
 use Rattle.mmtext.proofs.CommentLaws.{here, walks_outside, runs_all}
@@ -27,9 +27,9 @@ use Rattle.mmreader.proofs.DatabaseLaws.{ended_ok}
 use Rattle.library.specs.declared.command.Command.{Command}
 use Rattle.library.specs.declared.command.Command.TheVariants as command
 use Rattle.library.specs.Fitting.{CommandFits}
-use Rattle.scripts.specs.Scripts.{IsRank, OtherSteps, DeclaresAlone, SpellsCommand, SpellsEach, SpellsTransaction, SpellsScript}
-use Rattle.scripts.specs.ScriptFaults.{Place, outermost, at_command, within, Progress, whole, script_language}
-use Rattle.scripts.proofs.ScriptRows.{Script, progress, StepPasses, step_passes, step_apart}
+use Rattle.scripts.specs.Scripts.{OtherSteps, DeclaresAlone, SpellsCommand, SpellsEach, SpellsTransaction, SpellsScript}
+use Rattle.scripts.specs.ScriptFaults.{Place, outermost, at_command, within, whole, script_language}
+use Rattle.scripts.proofs.ScriptRows.{Script, progress, step_passes, step_apart}
 use Rattle.scripts.proofs.ScriptWords.{script_ordinary, script_leads}
 use Rattle.scripts.proofs.ScriptParsed.{reads_script}
 

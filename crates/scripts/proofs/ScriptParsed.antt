@@ -14,7 +14,7 @@ use Rattle.scripts.specs.Scripts.{SpellsEach, SpellsTransaction}
 use Rattle.scripts.specs.ScriptFaults.{Place, outermost, at_command, within, Progress, at, script_language}
 use Rattle.scripts.proofs.ScriptRows.{Script, progress}
 use Rattle.scripts.proofs.ScriptWords.{asking, asks}
-use Rattle.scripts.proofs.CommandParsed.{IsApart, ReadsCommands, reads_commands}
+use Rattle.scripts.proofs.CommandParsed.{IsApart, reads_commands}
 
 -- the transactions of which these are the words, behind those of s
 pub record ReadsTransactions (t : Tables) (s : Script) (ts : List Token) (final : Progress) : Type 0 where

@@ -39,8 +39,8 @@ loop-i-preserved g c =
       read_back_on between s c.slot_count-slots.result c.loop-i.i kept c.loop-i.steps.items c.push.new.self.items
           c.in_ok-made.made (stored.Float 0) c.named_again.ensures.looks c.loop-i.invariant.1 (omega arith) push c.in_ok-made.ensures.ok,
       (let before = c.loop-i.invariant.2 in
-        let long : length c.push.new.self.items ≡ length c.loop-i.steps.items + 1 = ap (λ (ys : List Step). length ys) push ∙ length-append c.loop-i.steps.items (c.in_ok-made.made ∷ []) in
-        omega (arith, long, before)),
+          let long : length c.push.new.self.items ≡ length c.loop-i.steps.items + 1 = ap (λ (ys : List Step). length ys) push ∙ length-append c.loop-i.steps.items (c.in_ok-made.made ∷ []) in
+          omega (arith, long, before)),
       steps_of_on between s c.slot_count-slots.result c.loop-i.i kept c.loop-i.steps.items c.push.new.self.items c.in_ok-made.made (stored.Float 0)
           c.named_again.ensures.looks c.loop-i.invariant.3 c.loop-i.invariant.2 (omega arith) push c.in_ok-made.ensures.ok,
     )

@@ -1,5 +1,5 @@
 -- What is left to show of `stored_again`.
-use Rattle.std.proofs.Common.{◌≡◌, sym, ap, subst, ◌∙◌}
+use Rattle.std.proofs.Common.{◌≡◌, subst}
 use Rattle.mmsyntax.specs.declared.statement.Step.{Step}
 use Rattle.bodystore.specs.declared.stored.StoredStep.TheVariants as stored
 use Rattle.std.specs.Prelude.{get_or}

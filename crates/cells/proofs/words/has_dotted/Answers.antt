@@ -1,4 +1,4 @@
-use Rattle.std.proofs.Common.{ℕ, sym, ◌∙◌, inl, inr, arith}
+use Rattle.std.proofs.Common.{sym, ◌∙◌, inl, inr, arith}
 use Rattle.cells.proofs.Sights.{looks_trans}
 use Rattle.cells.proofs.Bodies.{knows_later}
 use Rattle.cells.proofs.DottedTails.{none_of_empty, none_shorter, none_of_tail, told_by_front, filled}

@@ -1,5 +1,5 @@
 -- What is left to show of `name_by_recall`.
-use Rattle.std.proofs.Common.{◌≡◌, ◌∙◌, sym, ap}
+use Rattle.std.proofs.Common.{◌∙◌, sym, ap}
 use Rattle.mmsyntax.specs.Steps.{step_named}
 use Rattle.mmreader.proofs.Words.{recalled_named}
 use Rattle.mmreader.proofs.reading.steps.name_by_recall.Goals as goal

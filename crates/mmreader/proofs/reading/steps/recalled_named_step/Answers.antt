@@ -1,8 +1,5 @@
 -- What is left to show of `recalled_named_step`.
-use Rattle.std.proofs.Common.{◌≡◌, ◌∙◌, Ok, Result, sym, ap}
-use Rattle.mmtext.specs.Words.{Word}
-use Rattle.mmtext.specs.declared.fault.FaultKind.{FaultKind}
-use Rattle.mmsyntax.specs.declared.statement.Step.{Step}
+use Rattle.std.proofs.Common.{◌∙◌, Ok, sym, ap}
 use Rattle.mmsyntax.specs.Tables.{meaning}
 use Rattle.mmsyntax.specs.Rows.{first_fault}
 use Rattle.mmsyntax.specs.Steps.{step_tests, float_named, step_named, unless_faulty}
