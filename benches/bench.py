@@ -21,6 +21,8 @@ from statistics import median
 
 HERE = pathlib.Path(__file__).resolve().parent
 SIZES = (1, 4, 16)
+# the largest input's bodies have more words than the room of a run has by default
+ROOM = ["--room", "16777216"]
 
 
 def make(path, *arguments):
@@ -121,7 +123,8 @@ def main():
         outputs = {}
         for _ in range(options.rounds):
             for program, command in programs.items():
-                spent, outputs[program] = milliseconds([*command, "run", *arguments])
+                room = ROOM if program == "mmrefactor" else []
+                spent, outputs[program] = milliseconds([*command, "run", *room, *arguments])
                 took[program].append(spent)
         if len(set(outputs.values())) > 1:
             raise SystemExit(f"{name}: the programs print different texts")
