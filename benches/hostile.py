@@ -22,6 +22,8 @@ import time
 HERE = pathlib.Path(__file__).resolve().parent
 LEAST = 5.0
 MOST_STEPS = 16384
+# words enough for each row; more would take longer to clear than some rows take
+ROOM = "2097152"
 # the end of a block whose axiom gives `|- T` back
 RULE = ["rt", "$e", "|-", "T", "$.", "rule", "$a", "|-", "T", "$.", "$}"]
 
@@ -244,7 +246,7 @@ class Bench:
 
     def run(self, script):
         self.script.write_text(script)
-        return best([*self.program, "run", "--room", "16777216", self.db, self.script], self.rounds)
+        return best([*self.program, "run", "--room", ROOM, self.db, self.script], self.rounds)
 
     def took(self, text):
         """The time that a text takes beyond an empty one, and what is answered."""
