@@ -1,11 +1,12 @@
 //! The names and the texts of faults that no row prints.
 
-use cells::{Halt, PlainStop};
+use cells::Halt;
 use commands::RunError;
 use history::{ApplyError, OpenError, ReplayError};
 use library::{Reason, Refused};
 use mmstatement::{FaultKind, SubstituteError};
 use mmtext::Stop;
+use plaincells::PlainStop;
 use proofcheck::ProofFaultKind;
 use std::test::Fail;
 

@@ -4,11 +4,13 @@ ghost use Rattle.std.specs.Prelude.{◌≡◌, true};
 
 use crate::shared::mini;
 use crate::slots::{demo, free_from, opened, three, value_of};
-use cells::{Cells, PlainStop};
-use commands::{RunError, read_script, run};
+use cells::Cells;
+use commands::{RunError, run};
 use library::{Reason, Refused};
 use mmstatement::Prelude;
+use plaincells::PlainStop;
 use ranges::Range;
+use scripts::read_script;
 use std::alloc::{AllocGlobal, Global};
 use std::collections::BTreeSet;
 use std::random::RandomSource;

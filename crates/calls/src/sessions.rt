@@ -1,7 +1,7 @@
 //! Sessions on a library in running words: what becomes of their transactions, and what is left at the end.
 
 ghost use Rattle.std.specs.Prelude.{◌≡◌, All, IfOk, IfSome};
-ghost use Rattle.proofcheck.specs.Databases.{AllCheck};
+ghost use Rattle.derivation.specs.Databases.{AllCheck};
 ghost use Rattle.transaction.specs.Members.{IsOf};
 
 use crate::shared::{database, mini};

@@ -3,11 +3,9 @@
 ghost use Rattle.std.specs.Prelude.{◌≡◌, ◌≤◌, true};
 
 use crate::shared::{database, mini};
-use cells::{
-    Cells, OpenError, PlainCells, bucket, citers, entry, find, free_slot, is_full, kind, label,
-    put_in, rank,
-};
+use cells::{Cells, bucket, citers, entry, find, free_slot, is_full, kind, label, put_in, rank};
 use mmstatement::{Kind, Label, Prelude, fits, write_assertion};
+use plaincells::{OpenError, PlainCells};
 use proofcheck::check_all;
 use ranges::Range;
 use std::alloc::{AllocError, AllocGlobal, Global};

@@ -1,13 +1,14 @@
 //! The tasks.
 
-ghost use Rattle.proofcheck.specs.Databases.{AllCheck};
+ghost use Rattle.derivation.specs.Databases.{AllCheck};
 
 use crate::task::Task;
-use cells::{Cells, PlainCells, entry};
+use cells::{Cells, entry};
 use commands::RunError;
 use history::{ApplyError, Editor};
 use mmstatement::{Database, read_database};
 use pairs::{InCells, all_fit};
+use plaincells::PlainCells;
 use proofcheck::check_all;
 use scripts::read_script;
 use std::alloc::{AllocError, Global};

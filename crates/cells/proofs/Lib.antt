@@ -16,12 +16,6 @@ pub mod Holding
 pub mod Staging
 pub mod Laying
 pub mod Filled
-pub mod Logs
-pub mod Numbered
-pub mod Stores
-pub mod Widened
-pub mod PlainSights
-pub mod Empty
 pub mod Ones
 pub mod Recounting
 pub mod Storing
@@ -35,8 +29,3 @@ pub mod Renaming
 pub mod Small
 pub mod ReadBack
 pub mod Resolving
-pub mod Lengths
-pub mod Fronts
-pub mod Opened
-pub mod Naming
-pub mod OfWords

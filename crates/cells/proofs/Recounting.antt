@@ -11,7 +11,7 @@ use Rattle.mmsyntax.specs.declared.statement.Step.{Step}
 use Rattle.mmsyntax.specs.declared.statement.Step.TheVariants.{Float, Hyp, Cite}
 use Rattle.mmsyntax.specs.Assertions.{Distinct}
 use Rattle.mmsyntax.proofs.Names.{same_bytes, bytes_eq-same}
-use Rattle.proofcheck.specs.Laws.{replacing, step_relabelled}
+use Rattle.derivation.specs.Laws.{replacing, step_relabelled}
 use Rattle.library.specs.declared.library.Ranked.{Ranked}
 use Rattle.library.specs.Library.{label_of}
 use Rattle.library.specs.Edits.{is_labelled, is_citation, cites, citers, with_rank, changed, rename, without}

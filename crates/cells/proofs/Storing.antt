@@ -4,7 +4,7 @@ use Rattle.mmsyntax.specs.declared.statement.Kind.{Kind}
 use Rattle.mmsyntax.specs.declared.statement.Kind.TheVariants.{Axiom, Theorem}
 use Rattle.mmsyntax.specs.declared.statement.Step.{Step}
 use Rattle.mmsyntax.specs.declared.statement.Step.TheVariants.{Float, Hyp, Cite}
-use Rattle.proofcheck.specs.Laws.{step_relabelled}
+use Rattle.derivation.specs.Laws.{step_relabelled}
 use Rattle.ranges.specs.Ranges.{Has}
 use Rattle.bodystore.specs.declared.stored.StoredStep.{StoredStep}
 use Rattle.bodystore.specs.declared.stored.StoredStep.TheVariants as stored

@@ -6,8 +6,4 @@ pub mod Lookups
 pub mod Clashing
 pub mod Chains
 pub mod Filling
-pub mod Plain
-pub mod PlainViews
-pub mod Measures
-pub mod Opening
-pub mod Reasons
+pub mod Answers

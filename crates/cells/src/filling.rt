@@ -13,7 +13,7 @@ use crate::counts::{cited_slots, count_in};
 use crate::halt::Halt;
 use crate::places::{citers_cell, name_cell, proof_cell, rank_cell, slot_count, statement_cell};
 use bodystore::{StoredStep, encode_label, encode_proof, encode_statement};
-use mmstatement::{Assertion, Kind};
+use mmsyntax::{Assertion, Kind};
 use std::alloc::Global;
 
 /// Puts an assertion with its rank into an empty slot: stages its label, its statement and its proof, in this order, writes the slot's

@@ -8,7 +8,7 @@ ghost use Rattle.cells.specs.Clashing.{TellsDotted, TellsTrunk, TellsNumbered};
 use crate::cells::Cells;
 use crate::places::{bucket, bucket_cell, hash, link, name_cell, next_cell, slot_count};
 use crate::words::{has_dotted, has_words, range_of};
-use mmstatement::trunk;
+use mmsyntax::trunk;
 
 /// Whether the slot has the label.
 pub(crate) fn has_label<C: Cells>(cells: &mut C, slot: usize, label: &[u8]) -> Result<bool, C::Stop>

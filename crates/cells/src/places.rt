@@ -4,7 +4,7 @@ ghost use Rattle.std.specs.Prelude.{◌≡◌, ◌<◌, ◌≤◌, ◌+◌, Some
 ghost use Rattle.cells.specs.Slots.{name_cell, statement_cell, proof_cell, rank_cell, citers_cell, bucket_cell, next_cell, hash, bucket, is_ranged};
 
 use crate::cells::Cells;
-use mmstatement::trunk;
+use mmsyntax::trunk;
 
 /// How many slots the library has: 1 to 4,096.
 pub fn slot_count<C: Cells>(cells: &C) -> usize
@@ -52,7 +52,7 @@ pub(crate) fn link(word: u64, slots: usize) -> Option<usize>
 }
 
 /// Whether the cell is a range cell: a name, statement or proof cell, which holds 0 or a word that names a range.
-pub(crate) fn is_range_cell(slots: usize, cell: usize) -> bool
+pub fn is_range_cell(slots: usize, cell: usize) -> bool
     requires { slots ≤ 4096 }
     ensures { result ≡ is_ranged slots cell }
 {

@@ -1,7 +1,7 @@
 //! Reads an assertion back from its slot.
 
 ghost use Rattle.std.specs.Prelude.{◌≡◌, ◌<◌, IfOk, Some, true, length, take};
-ghost use Rattle.mmstatement.specs.Frames.{frame};
+ghost use Rattle.mmframes.specs.Frames.{frame};
 ghost use Rattle.library.specs.Library.{label_of};
 ghost use Rattle.library.specs.Edits.{citers};
 ghost use Rattle.bodystore.specs.Bodies.{kind_word, statement_of};
@@ -17,7 +17,8 @@ use crate::places::{citers_cell, name_cell, proof_cell, rank_cell, slot_count, s
 use crate::words::{first_word, words_of};
 use bodystore::{Statement, StoredStep, decode_label, decode_proof, decode_statement};
 use library::Ranked;
-use mmstatement::{Assertion, Frame, Kind, Label, Prelude, Sequence, Step, frame_of};
+use mmframes::frame_of;
+use mmsyntax::{Assertion, Frame, Kind, Label, Prelude, Sequence, Step};
 use std::alloc::Global;
 
 /// How many assertions cite the one in the slot.

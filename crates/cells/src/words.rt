@@ -9,7 +9,7 @@ ghost use Rattle.cells.specs.Lookups.{AreWordsOf, IsFirstWordOf};
 
 use crate::cells::Cells;
 use crate::halt::Halt;
-use mmstatement::hypothesis_number;
+use mmsyntax::hypothesis_number;
 use ranges::Range;
 use std::alloc::{AllocError, Global};
 

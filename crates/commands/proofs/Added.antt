@@ -28,9 +28,9 @@ use Rattle.ranges.proofs.Members.{mapped_has, cases_has, none_absent}
 use Rattle.cells.proofs.Holding.{held_name, empty_free}
 use Rattle.cells.proofs.Found.{length_held}
 use Rattle.cells.proofs.Sights.{views_back, matches_back, looks_trans}
-use Rattle.commands.specs.Answers.{Does, IsRefused, CommandAnswers}
-use Rattle.commands.specs.declared.ending.CommandError.{CommandError}
-use Rattle.commands.specs.declared.ending.CommandError.TheVariants.{Stopped, Refused, NoMemory}
+use Rattle.cells.specs.Answers.{Does, IsRefused, CommandAnswers}
+use Rattle.cells.specs.declared.ending.CommandError.{CommandError}
+use Rattle.cells.specs.declared.ending.CommandError.TheVariants.{Stopped, Refused, NoMemory}
 use Rattle.commands.specs.Citing.{Passes, TellsRefusal}
 use Rattle.commands.specs.Naming.{PassesAsNew, TellsNotNew, label_tests}
 use Rattle.commands.proofs.Seeing.{views_later}

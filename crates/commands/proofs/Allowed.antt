@@ -7,7 +7,7 @@ use Rattle.library.specs.declared.command.Command.{Command}
 use Rattle.library.specs.Edits.{is_edit}
 use Rattle.library.specs.Transactions.{has_edit}
 use Rattle.cells.specs.Sight.{Sight}
-use Rattle.commands.specs.Answers.{stages, has_staging, MayDo}
+use Rattle.cells.specs.Answers.{stages, has_staging, MayDo}
 
 -- where it may keep values aside if some command is an edit, and may stage words if some command stages a body
 pub may_do_all : {O : Type 0} → (s : Sight O) (cs : List Command) → (has_edit cs ≡ true → s.may_write ≡ true)

@@ -15,7 +15,7 @@ use Rattle.mmsyntax.specs.declared.statement.Step.TheVariants.{Float, Hyp, Cite}
 use Rattle.mmsyntax.specs.Tables.{Tables}
 use Rattle.mmsyntax.specs.Assertions.{Fits}
 use Rattle.mmsyntax.proofs.Names.{same_bytes}
-use Rattle.proofcheck.specs.Derivation.{Citable, Proves}
+use Rattle.derivation.specs.Derivation.{Citable, Proves}
 use Rattle.library.specs.declared.library.Ranked.{Ranked}
 use Rattle.library.specs.Library.{Setting, Verifies, label_of, lower, citable}
 use Rattle.library.specs.Edits.{cites, citers, is_citation}

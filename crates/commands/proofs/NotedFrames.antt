@@ -12,8 +12,8 @@ use Rattle.mmsyntax.specs.declared.statement.Step.{Step}
 use Rattle.mmsyntax.specs.declared.statement.Step.TheVariants.{Cite}
 use Rattle.mmsyntax.specs.Tables.{Tables}
 use Rattle.mmsyntax.proofs.Names.{same_bytes, bytes_eq-same}
-use Rattle.mmstatement.specs.Frames.{frame}
-use Rattle.proofcheck.specs.Derivation.{Citable}
+use Rattle.mmframes.specs.Frames.{frame}
+use Rattle.derivation.specs.Derivation.{Citable}
 use Rattle.library.specs.declared.library.Ranked.{Ranked}
 use Rattle.library.specs.Edits.{found}
 use Rattle.library.proofs.Places.{found_in}

@@ -8,7 +8,7 @@ use Rattle.cells.specs.Sight.{Sight, Looks, Reads, after}
 use Rattle.cells.specs.Lookups.{ForEach, IsFoundAt, Finds}
 use Rattle.cells.proofs.Settings.{same_slots}
 use Rattle.cells.proofs.Sights.{for_each_later}
-use Rattle.commands.specs.Answers.{WritesIfEdit, Does}
+use Rattle.cells.specs.Answers.{WritesIfEdit, Does}
 use Rattle.commands.proofs.Seeing.{views_later}
 
 -- a label that was found is found there while nothing is written

@@ -5,10 +5,10 @@ use Rattle.mmsyntax.specs.declared.statement.Kind.TheVariants.{Theorem}
 use Rattle.mmsyntax.specs.declared.statement.Step.{Step}
 use Rattle.mmsyntax.specs.declared.statement.Step.TheVariants.{Cite}
 use Rattle.mmsyntax.specs.Tables.{Tables}
-use Rattle.proofcheck.specs.declared.fault.ProofFault.{ProofFault}
-use Rattle.proofcheck.specs.Derivation.{Citable, Tree, float, hyp, node, listing, listings, Checks}
-use Rattle.proofcheck.specs.Faults.{HasProofFault}
-use Rattle.proofcheck.proofs.Outcome.{outcome-tree, outcome-fault}
+use Rattle.derivation.specs.declared.fault.ProofFault.{ProofFault}
+use Rattle.derivation.specs.Derivation.{Citable, Tree, float, hyp, node, listing, listings, Checks}
+use Rattle.derivation.specs.Faults.{HasProofFault}
+use Rattle.derivation.proofs.Outcome.{outcome-tree, outcome-fault}
 use Rattle.library.specs.Edits.{fault_of}
 use Rattle.commands.specs.Citing.{TellsFault}
 

@@ -12,12 +12,12 @@ use Rattle.mmsyntax.specs.declared.statement.Step.{Step}
 use Rattle.mmsyntax.specs.declared.statement.Step.TheVariants.{Float, Hyp, Cite}
 use Rattle.mmsyntax.specs.Assertions.{Distinct}
 use Rattle.mmsyntax.specs.Tables.{Tables}
-use Rattle.mmstatement.specs.Frames.{frame}
-use Rattle.proofcheck.specs.declared.fault.ProofFault.{ProofFault}
-use Rattle.proofcheck.specs.Derivation.{Citable}
-use Rattle.proofcheck.specs.Databases.{frame_in}
-use Rattle.proofcheck.specs.Outcomes.{outcome}
-use Rattle.proofcheck.proofs.Growing.{outcome-alike}
+use Rattle.mmframes.specs.Frames.{frame}
+use Rattle.derivation.specs.declared.fault.ProofFault.{ProofFault}
+use Rattle.derivation.specs.Derivation.{Citable}
+use Rattle.derivation.specs.Databases.{frame_in}
+use Rattle.derivation.specs.Outcomes.{outcome}
+use Rattle.derivation.proofs.Growing.{outcome-alike}
 use Rattle.library.specs.declared.library.Ranked.{Ranked}
 use Rattle.library.specs.declared.reason.Reason.{Reason}
 use Rattle.library.specs.declared.reason.Reason.TheVariants.{CitesUnknown, CitedNotLower, ProofFails}

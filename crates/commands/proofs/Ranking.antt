@@ -22,7 +22,7 @@ use Rattle.cells.proofs.ReadBack.{held_later}
 use Rattle.cells.proofs.Settings.{same_slots}
 use Rattle.cells.proofs.Sights.{matches_back}
 use Rattle.cells.proofs.Values.{value_there, value_elsewhere}
-use Rattle.commands.specs.Answers.{Does, IsRefused}
+use Rattle.cells.specs.Answers.{Does, IsRefused}
 use Rattle.commands.specs.Citing.{TellsNotBelow, TellsCitedUpTo}
 use Rattle.commands.proofs.Refusing.{first_refuses, first_passes, of_some, refused}
 use Rattle.commands.proofs.Seeing.{views_later}

@@ -7,7 +7,7 @@ use Rattle.std.proofs.lemmas.Bool.{leb-false, lt-leb, or_parts}
 use Rattle.mmsyntax.specs.declared.statement.Step.{Step}
 use Rattle.mmsyntax.specs.declared.statement.Step.TheVariants.{Float, Hyp, Cite}
 use Rattle.mmsyntax.specs.Assertions.{Distinct}
-use Rattle.proofcheck.specs.Laws.{replacing, step_relabelled}
+use Rattle.derivation.specs.Laws.{replacing, step_relabelled}
 use Rattle.library.specs.declared.library.Ranked.{Ranked}
 use Rattle.library.specs.Library.{label_of}
 use Rattle.library.specs.Edits.{recited}

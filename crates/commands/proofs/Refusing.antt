@@ -12,10 +12,10 @@ use Rattle.library.specs.Library.{Setting}
 use Rattle.library.specs.Edits.{Edited, Tests, tested, where_so, of_found, found, edit}
 use Rattle.cells.specs.Sight.{Sight, Looks}
 use Rattle.cells.specs.Lookups.{ForEach}
-use Rattle.commands.specs.Answers.{IsRefused, CommandAnswers}
+use Rattle.cells.specs.Answers.{IsRefused, CommandAnswers}
 use Rattle.commands.specs.Citing.{TellsRefusal, Fails}
-use Rattle.commands.specs.declared.ending.CommandError.{CommandError}
-use Rattle.commands.specs.declared.ending.CommandError.TheVariants as command
+use Rattle.cells.specs.declared.ending.CommandError.{CommandError}
+use Rattle.cells.specs.declared.ending.CommandError.TheVariants as command
 use Rattle.commands.proofs.Seeing.{views_later}
 
 -- ---- tests

@@ -18,9 +18,9 @@ use Rattle.cells.proofs.Sights.{matches_back, views_back, looks_trans}
 use Rattle.cells.proofs.Found.{unfound}
 use Rattle.cells.proofs.Renaming.{still_chained, renamed_shows}
 use Rattle.cells.proofs.Unlinking.{slot_gone}
-use Rattle.commands.specs.Answers.{WritesSome, Does, CommandAnswers}
-use Rattle.commands.specs.declared.ending.CommandError.{CommandError}
-use Rattle.commands.specs.declared.ending.CommandError.TheVariants.{Stopped, Refused, NoMemory}
+use Rattle.cells.specs.Answers.{WritesSome, Does, CommandAnswers}
+use Rattle.cells.specs.declared.ending.CommandError.{CommandError}
+use Rattle.cells.specs.declared.ending.CommandError.TheVariants.{Stopped, Refused, NoMemory}
 use Rattle.commands.specs.Changes.{RenamesAt}
 use Rattle.commands.specs.Naming.{PassesAsNew, TellsNotNew, label_tests}
 use Rattle.commands.proofs.Chaining.{TakesOut, PutsIn, taken_out, put_in_chain}

@@ -20,7 +20,7 @@ use Rattle.cells.proofs.Sights.{matches_back, views_back}
 use Rattle.ranges.proofs.Members.{all_from_has}
 use Rattle.cells.proofs.Counted.{listed_within}
 use Rattle.cells.proofs.Deleting.{still_chained, deleted_shows}
-use Rattle.commands.specs.Answers.{WritesSome, Does}
+use Rattle.cells.specs.Answers.{WritesSome, Does}
 use Rattle.commands.specs.Changes.{DeletesAt}
 use Rattle.commands.proofs.Chaining.{TakesOut, taken_out}
 use Rattle.commands.proofs.Seeing.{views_later, found_later}

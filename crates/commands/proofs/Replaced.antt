@@ -9,7 +9,7 @@ use Rattle.mmsyntax.specs.declared.statement.Kind.TheVariants.{Axiom, Theorem}
 use Rattle.mmsyntax.specs.declared.statement.Step.{Step}
 use Rattle.mmsyntax.specs.declared.statement.Step.TheVariants.{Cite}
 use Rattle.mmsyntax.specs.Tables.{Tables}
-use Rattle.mmstatement.specs.Frames.{frame}
+use Rattle.mmframes.specs.Frames.{frame}
 use Rattle.library.specs.declared.library.Ranked.{Ranked}
 use Rattle.library.specs.declared.command.Command.{Command}
 use Rattle.library.specs.declared.command.Command.TheVariants.{Replace}
@@ -34,11 +34,11 @@ use Rattle.cells.proofs.Found.{unfound, found_named}
 use Rattle.cells.proofs.ReadBack.{held_later}
 use Rattle.cells.proofs.Settings.{same_slots}
 use Rattle.cells.proofs.Sights.{looks_trans, matches_back}
-use Rattle.commands.specs.Answers.{WritesSome, Does, IsRefused, CommandAnswers}
+use Rattle.cells.specs.Answers.{WritesSome, Does, IsRefused, CommandAnswers}
 use Rattle.commands.specs.Changes.{ReprovesAt}
 use Rattle.commands.specs.Replacing.{TellsUnknown, TellsAlike, TellsNotLower, recited_step}
-use Rattle.commands.specs.declared.ending.CommandError.{CommandError}
-use Rattle.commands.specs.declared.ending.CommandError.TheVariants as command
+use Rattle.cells.specs.declared.ending.CommandError.{CommandError}
+use Rattle.cells.specs.declared.ending.CommandError.TheVariants as command
 use Rattle.commands.proofs.OnlyLooks.{finds_later}
 use Rattle.commands.proofs.Ranking.{stored_since}
 use Rattle.commands.proofs.Recited.{recited_stored}

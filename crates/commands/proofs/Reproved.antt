@@ -20,7 +20,7 @@ use Rattle.cells.specs.Sight.{Sight, Views, Onward, Looks, after}
 use Rattle.cells.specs.Lookups.{ForEach, ForEachHeld, IsFoundAt}
 use Rattle.cells.proofs.Sights.{matches_back}
 use Rattle.cells.proofs.ReadBack.{assembled}
-use Rattle.commands.specs.Answers.{WritesSome, Does}
+use Rattle.cells.specs.Answers.{WritesSome, Does}
 use Rattle.commands.specs.Changes.{ReprovesAt}
 use Rattle.commands.specs.Citing.{proof_tests, Passes, Fails}
 use Rattle.commands.proofs.Seeing.{views_later}

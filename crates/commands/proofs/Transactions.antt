@@ -15,9 +15,9 @@ use Rattle.library.proofs.Editing.{apply_verifies}
 use Rattle.cells.specs.State.{State}
 use Rattle.cells.specs.Sight.{Sight, Matches, Views, Onward}
 use Rattle.cells.proofs.Sights.{looks_refl, looks_trans, matches_back}
-use Rattle.commands.specs.Answers.{WritesIfEdit, error_at, Does, IsRefused, CommandAnswers, DoesAll, RefusesAll, RunAnswers}
-use Rattle.commands.specs.declared.ending.CommandError.{CommandError}
-use Rattle.commands.specs.declared.ending.CommandError.TheVariants as command
+use Rattle.cells.specs.Answers.{WritesIfEdit, error_at, Does, IsRefused, CommandAnswers, DoesAll, RefusesAll, RunAnswers}
+use Rattle.cells.specs.declared.ending.CommandError.{CommandError}
+use Rattle.cells.specs.declared.ending.CommandError.TheVariants as command
 
 -- ---- over a library
 

@@ -9,7 +9,7 @@ use Rattle.cells.specs.State.{State}
 use Rattle.cells.specs.Shows.{AreStoredAs}
 use Rattle.cells.specs.Sight.{Sight, after}
 use Rattle.cells.specs.Lookups.{IsFoundAt}
-use Rattle.commands.specs.Answers.{ForEachBefore, ShowsAfter}
+use Rattle.cells.specs.Answers.{ForEachBefore, ShowsAfter}
 
 -- what is so of every library in which the slot holds the assertion with the label
 abbrev pub ForEachFound : {O : Type 0} → Sight O → Sight O → ℕ → List ℕ → (State → List Ranked → Ranked → Type 0) → Type 0

@@ -11,10 +11,10 @@ use Rattle.mmsyntax.specs.declared.statement.Frame.{Frame}
 use Rattle.mmsyntax.specs.declared.statement.Step.{Step}
 use Rattle.mmsyntax.specs.declared.statement.Step.TheVariants.{Cite}
 use Rattle.mmsyntax.specs.Tables.{Tables}
-use Rattle.mmstatement.specs.Frames.{frame}
-use Rattle.proofcheck.specs.declared.fault.ProofFault.{ProofFault}
-use Rattle.proofcheck.specs.Derivation.{Citable}
-use Rattle.proofcheck.specs.Outcomes.{outcome}
+use Rattle.mmframes.specs.Frames.{frame}
+use Rattle.derivation.specs.declared.fault.ProofFault.{ProofFault}
+use Rattle.derivation.specs.Derivation.{Citable}
+use Rattle.derivation.specs.Outcomes.{outcome}
 use Rattle.library.specs.declared.library.Ranked.{Ranked}
 use Rattle.library.specs.declared.reason.Reason.{Reason}
 use Rattle.library.specs.declared.reason.Reason.TheVariants.{ProofFails}
@@ -25,8 +25,8 @@ use Rattle.bodystore.specs.declared.stored.StoredStep.{StoredStep}
 use Rattle.cells.specs.Shows.{AreStoredAs, Holds}
 use Rattle.cells.specs.Sight.{Sight}
 use Rattle.cells.specs.Lookups.{ForEach, ForEachHeld, AreWithin}
-use Rattle.commands.specs.declared.ending.CommandError.{CommandError}
-use Rattle.commands.specs.declared.ending.CommandError.TheVariants.{Refused}
+use Rattle.cells.specs.declared.ending.CommandError.{CommandError}
+use Rattle.cells.specs.declared.ending.CommandError.TheVariants.{Refused}
 
 -- what is so of every library and of all steps that are stored as these
 abbrev pub ForEachStored : {O : Type 0} → Sight O → List StoredStep → (List Ranked → List Step → Type 0) → Type 0

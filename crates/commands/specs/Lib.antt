@@ -1,4 +1,3 @@
-pub mod Answers
 pub mod Citing
 pub mod Changes
 pub mod Naming

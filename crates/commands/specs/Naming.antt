@@ -6,8 +6,8 @@ use Rattle.library.specs.Library.{Setting}
 use Rattle.library.specs.Edits.{Tests, Edited, tested, has, without, bad_label, label_taken, label_clashes}
 use Rattle.cells.specs.Sight.{Sight}
 use Rattle.cells.specs.Lookups.{ForEach}
-use Rattle.commands.specs.declared.ending.CommandError.{CommandError}
-use Rattle.commands.specs.declared.ending.CommandError.TheVariants.{Refused}
+use Rattle.cells.specs.declared.ending.CommandError.{CommandError}
+use Rattle.cells.specs.declared.ending.CommandError.TheVariants.{Refused}
 
 -- the tests of a new label, with more behind them; it may clash with the label `own`
 abbrev pub label_tests : Setting → List Ranked → List ℕ → List ℕ → Tests → Tests

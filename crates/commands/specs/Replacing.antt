@@ -1,7 +1,7 @@
 -- Of the code's inside, apart from the rules: what the tests of another citation tell, for every state that may be under the run.
 use Rattle.std.specs.Prelude.{◌≡◌, ℕ, ◌==◌, ◌||◌, if◌then◌else◌, nat_le, List, Bool, None, Contains}
 use Rattle.mmsyntax.specs.Tables.{Tables}
-use Rattle.mmstatement.specs.Frames.{frame}
+use Rattle.mmframes.specs.Frames.{frame}
 use Rattle.library.specs.declared.library.Ranked.{Ranked}
 use Rattle.library.specs.declared.reason.Reason.TheVariants.{UnknownLabel}
 use Rattle.library.specs.Edits.{found, is_alike}
@@ -10,8 +10,8 @@ use Rattle.bodystore.specs.declared.stored.StoredStep.TheVariants.{Float, Hyp, S
 use Rattle.cells.specs.Shows.{Holds}
 use Rattle.cells.specs.Sight.{Sight}
 use Rattle.cells.specs.Lookups.{ForEach, ForEachHeld}
-use Rattle.commands.specs.declared.ending.CommandError.{CommandError}
-use Rattle.commands.specs.declared.ending.CommandError.TheVariants.{Refused}
+use Rattle.cells.specs.declared.ending.CommandError.{CommandError}
+use Rattle.cells.specs.declared.ending.CommandError.TheVariants.{Refused}
 
 -- why no slot has a label: no assertion has it, or the run was stopped, or memory ran out
 abbrev pub TellsUnknown : {O : Type 0} → {S : Type 0} → Sight O → List ℕ → CommandError S → Type 0

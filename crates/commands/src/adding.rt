@@ -4,14 +4,13 @@ ghost use Rattle.std.specs.Prelude.{◌≡◌, true};
 ghost use Rattle.library.specs.declared.command.Command.TheVariants as command;
 ghost use Rattle.library.specs.Fitting.{CommandFits};
 ghost use Rattle.cells.specs.Sight.{Onward};
-ghost use Rattle.commands.specs.Answers.{CommandAnswers};
+ghost use Rattle.cells.specs.Answers.{CommandAnswers};
 
 use crate::citing::test_proof;
-use crate::ending::CommandError;
 use crate::naming::test_new_label;
-use cells::{Cells, Halt, bucket, fill, free_slot, slot_count};
+use cells::{Cells, CommandError, Halt, bucket, fill, free_slot, slot_count};
 use library::{Reason, Reply};
-use mmstatement::{Assertion, Kind, Prelude};
+use mmsyntax::{Assertion, Kind, Prelude};
 use std::alloc::Global;
 
 /// Adds a theorem with a rank, in the first empty slot from the number of its label's bucket on. It reads at most three chains for its

@@ -6,12 +6,12 @@ ghost use Rattle.cells.specs.Sight.{Looks};
 ghost use Rattle.cells.specs.Lookups.{AreWithin};
 ghost use Rattle.commands.specs.Citing.{TellsNotBelow, TellsFrames, NotesFrame, TellsFault, Passes, TellsRefusal, frames_in};
 
-use crate::ending::CommandError;
 use bodystore::StoredStep;
-use cells::{Cells, Halt, frame, rank, resolve, slot_count};
+use cells::{Cells, CommandError, Halt, frame, rank, resolve, slot_count};
+use derivation::{ProofFault, ProofFaultKind};
 use library::Reason;
-use mmstatement::{Assertion, Frame, Label, Prelude, Step};
-use proofcheck::{Frames, ProofFault, ProofFaultKind, check};
+use mmsyntax::{Assertion, Frame, Label, Prelude, Step};
+use proofcheck::{Frames, check};
 use std::alloc::{AllocError, Global};
 use std::collections::BTreeMap;
 

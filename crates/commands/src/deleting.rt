@@ -3,13 +3,14 @@
 ghost use Rattle.std.specs.Prelude.{◌≡◌, ◌<◌, true, IfOk};
 ghost use Rattle.library.specs.declared.command.Command.TheVariants as command;
 ghost use Rattle.cells.specs.Sight.{Onward};
-ghost use Rattle.commands.specs.Answers.{CommandAnswers, WritesSome};
+ghost use Rattle.cells.specs.Answers.{CommandAnswers, WritesSome};
 ghost use Rattle.commands.specs.Changes.{DeletesAt};
 
-use crate::ending::CommandError;
-use cells::{Cells, Halt, cited_slots, citers, count_out, find, stored_proof, take_out, vacate};
+use cells::{
+    Cells, CommandError, Halt, cited_slots, citers, count_out, find, stored_proof, take_out, vacate,
+};
 use library::{Reason, Reply};
-use mmstatement::Label;
+use mmsyntax::Label;
 use std::alloc::Global;
 
 /// Removes the assertion with the label, which no proof cites. It stages nothing.

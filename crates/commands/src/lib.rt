@@ -4,7 +4,6 @@
 mod adding;
 mod citing;
 mod deleting;
-mod ending;
 mod looking;
 mod moving;
 mod naming;
@@ -15,11 +14,7 @@ mod rights;
 mod running;
 mod showing;
 
-pub use ending::{CommandError, RunError};
+pub use cells::{CommandError, RunError};
 pub use looking::entries;
 pub use rights::{has_staging, stages};
 pub use running::{run, take};
-pub use scripts::{
-    Command, CommandPlace, Led, Line, PlainLibrary, Ranked, Reason, Refused, Reply, Script,
-    Transaction, read_script,
-};

@@ -3,15 +3,16 @@
 ghost use Rattle.std.specs.Prelude.{◌≡◌, ◌<◌, true, IfOk};
 ghost use Rattle.library.specs.declared.command.Command.TheVariants as command;
 ghost use Rattle.cells.specs.Sight.{Onward, Looks};
-ghost use Rattle.commands.specs.Answers.{CommandAnswers};
+ghost use Rattle.cells.specs.Answers.{CommandAnswers};
 ghost use Rattle.commands.specs.Citing.{TellsCites, TellsCitedUpTo};
 
 use crate::citing::cites_not_below;
-use crate::ending::CommandError;
 use bodystore::StoredStep;
-use cells::{Cells, Halt, citers, find, put, rank, rank_cell, slot_count, stored_proof};
+use cells::{
+    Cells, CommandError, Halt, citers, find, put, rank, rank_cell, slot_count, stored_proof,
+};
 use library::{Reason, Reply};
-use mmstatement::Label;
+use mmsyntax::Label;
 use std::alloc::Global;
 
 /// Gives the assertion with the label another rank. It stages nothing.

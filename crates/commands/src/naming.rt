@@ -4,10 +4,9 @@ ghost use Rattle.std.specs.Prelude.{◌≡◌, OnOk, IfErr};
 ghost use Rattle.cells.specs.Sight.{Looks};
 ghost use Rattle.commands.specs.Naming.{PassesAsNew, TellsNotNew};
 
-use crate::ending::CommandError;
-use cells::{Cells, Halt, find, has_clash};
+use cells::{Cells, CommandError, Halt, find, has_clash};
 use library::Reason;
-use mmstatement::{Prelude, is_lawful_label};
+use mmsyntax::{Prelude, is_lawful_label};
 
 /// Tests the label that a new assertion gets, or one gets in place of the label `own`; for a new one `own` is the label itself. It reads at
 /// most three chains: that of the label, and the two with labels that may clash with it.

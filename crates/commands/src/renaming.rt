@@ -4,15 +4,14 @@ ghost use Rattle.std.specs.Prelude.{◌≡◌, ◌≢◌, ◌<◌, [], true, IfO
 ghost use Rattle.library.specs.declared.command.Command.TheVariants as command;
 ghost use Rattle.cells.specs.Sight.{Onward};
 ghost use Rattle.bodystore.specs.Bodies.{label_body};
-ghost use Rattle.commands.specs.Answers.{CommandAnswers, WritesSome};
+ghost use Rattle.cells.specs.Answers.{CommandAnswers, WritesSome};
 ghost use Rattle.commands.specs.Changes.{RenamesAt};
 
-use crate::ending::CommandError;
 use crate::naming::test_new_label;
 use bodystore::encode_label;
-use cells::{Cells, Halt, find, name_cell, put_body, put_in, slot_count, take_out};
+use cells::{Cells, CommandError, Halt, find, name_cell, put_body, put_in, slot_count, take_out};
 use library::{Reason, Reply};
-use mmstatement::{Label, Prelude};
+use mmsyntax::{Label, Prelude};
 use std::alloc::Global;
 
 /// Gives the assertion with the label `old` the label `new`. It reads the chain of the one and at most three for the other, and writes the

@@ -4,15 +4,14 @@ ghost use Rattle.std.specs.Prelude.{◌≡◌, ◌<◌, true, Some, IfOk, IfErr,
 ghost use Rattle.library.specs.declared.command.Command.TheVariants as command;
 ghost use Rattle.cells.specs.Sight.{Onward, Looks};
 ghost use Rattle.cells.specs.Lookups.{Finds};
-ghost use Rattle.commands.specs.Answers.{CommandAnswers};
+ghost use Rattle.cells.specs.Answers.{CommandAnswers};
 ghost use Rattle.commands.specs.Replacing.{TellsUnknown, TellsAlike, TellsNotLower, recited_step};
 
-use crate::ending::CommandError;
 use crate::reproving::put_steps;
 use bodystore::StoredStep;
-use cells::{Cells, Halt, find, frame, rank, slot_count, stored_proof};
+use cells::{Cells, CommandError, Halt, find, frame, rank, slot_count, stored_proof};
 use library::{Reason, Reply, is_alike};
-use mmstatement::{Label, Prelude};
+use mmsyntax::{Label, Prelude};
 use std::alloc::Global;
 
 /// In the proof of the theorem with the label, has each citation of the assertion `old` cite the assertion `new`, and stages the proof,

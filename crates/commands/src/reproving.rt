@@ -4,18 +4,17 @@ ghost use Rattle.std.specs.Prelude.{◌≡◌, ◌≢◌, ◌<◌, [], true, Lis
 ghost use Rattle.library.specs.declared.command.Command.TheVariants as command;
 ghost use Rattle.cells.specs.Sight.{Onward};
 ghost use Rattle.cells.specs.Lookups.{AreWithin};
-ghost use Rattle.commands.specs.Answers.{CommandAnswers, WritesSome};
+ghost use Rattle.cells.specs.Answers.{CommandAnswers, WritesSome};
 ghost use Rattle.commands.specs.Changes.{ReprovesAt};
 
 use crate::citing::test_proof;
-use crate::ending::CommandError;
 use bodystore::{StoredStep, encode_proof};
 use cells::{
-    Cells, Halt, cited_slots, count_in, count_out, find, proof_cell, put_body, rank, slot_count,
-    statement, stored_proof,
+    Cells, CommandError, Halt, cited_slots, count_in, count_out, find, proof_cell, put_body, rank,
+    slot_count, statement, stored_proof,
 };
 use library::{Reason, Reply};
-use mmstatement::{Kind, Label, Prelude, Sequence, Step, copy_steps};
+use mmsyntax::{Kind, Label, Prelude, Sequence, Step, copy_steps};
 use std::alloc::Global;
 
 /// Gives the theorem with the label another proof, and stages it, even where it is equal to the former.

@@ -1,7 +1,7 @@
 //! What a run is to be allowed for its commands.
 
 ghost use Rattle.std.specs.Prelude.{◌≡◌};
-ghost use Rattle.commands.specs.Answers.{stages, has_staging};
+ghost use Rattle.cells.specs.Answers.{stages, has_staging};
 
 use library::Command;
 

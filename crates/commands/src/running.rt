@@ -3,19 +3,18 @@
 ghost use Rattle.std.specs.Prelude.{◌≡◌, All};
 ghost use Rattle.library.specs.Fitting.{CommandFits};
 ghost use Rattle.cells.specs.Sight.{Onward};
-ghost use Rattle.commands.specs.Answers.{MayDo, CommandAnswers, RunAnswers};
+ghost use Rattle.cells.specs.Answers.{MayDo, CommandAnswers, RunAnswers};
 
 use crate::adding::add;
 use crate::deleting::delete;
-use crate::ending::{CommandError, RunError};
 use crate::moving::move_to;
 use crate::renaming::rename;
 use crate::replacing::replace;
 use crate::reproving::reprove;
 use crate::showing::{list, show};
-use cells::Cells;
+use cells::{Cells, CommandError, RunError};
 use library::{Command, Reply};
-use mmstatement::{Prelude, Sequence};
+use mmsyntax::{Prelude, Sequence};
 use std::alloc::Global;
 
 /// Does the commands of a transaction, one after another, each over what those before it kept aside, and answers the reply to each. Each command is

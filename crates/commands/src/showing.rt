@@ -3,13 +3,14 @@
 ghost use Rattle.std.specs.Prelude.{◌≡◌, ◌<◌, IfOk};
 ghost use Rattle.library.specs.declared.command.Command.TheVariants as command;
 ghost use Rattle.cells.specs.Sight.{Onward, Looks};
-ghost use Rattle.commands.specs.Answers.{CommandAnswers};
+ghost use Rattle.cells.specs.Answers.{CommandAnswers};
 ghost use Rattle.commands.specs.Listing.{line_cmp, TellsLine, AreAllLines};
 
-use crate::ending::CommandError;
-use cells::{Cells, Halt, citers, entry, find, is_full, kind, label, rank, slot_count};
+use cells::{
+    Cells, CommandError, Halt, citers, entry, find, is_full, kind, label, rank, slot_count,
+};
 use library::{Line, Reason, Reply};
-use mmstatement::{Label, Sequence};
+use mmsyntax::{Label, Sequence};
 use std::alloc::Global;
 use std::cmp::Ordering;
 

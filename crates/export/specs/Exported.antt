@@ -3,7 +3,7 @@ use Rattle.std.specs.Prelude.{ℕ, List}
 use Rattle.mmsyntax.specs.Tables.{Contents}
 use Rattle.mmsyntax.specs.Grammar.{Spells}
 use Rattle.mmsyntax.specs.Layout.{text_of}
-use Rattle.proofcheck.specs.Databases.{AllCheck}
+use Rattle.derivation.specs.Databases.{AllCheck}
 use Rattle.library.specs.Library.{Listed, shown_database}
 
 -- the canonical layout of what a library shows: the prelude, then its assertions in export order

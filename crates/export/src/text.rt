@@ -4,7 +4,7 @@ ghost use Rattle.std.specs.Prelude.{◌≡◌, ◌++◌, IfOk, OnOk};
 ghost use Rattle.export.specs.Exported.{exported_text, Accepts};
 
 use library::PlainLibrary;
-use mmstatement::{put_assertion, put_prelude};
+use mmwriter::{put_assertion, put_prelude};
 use std::alloc::{AllocError, Global};
 
 /// Appends the exported text of a library: the lines of its prelude, then the line of each assertion in export order.

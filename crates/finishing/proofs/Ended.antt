@@ -14,7 +14,7 @@ use Rattle.tlwords.specs.declared.closing.ClosedWords.{ClosedWords}
 use Rattle.tlwords.specs.Seen.{Seen}
 use Rattle.cells.specs.State.{most_words}
 use Rattle.cells.specs.Shows.{Shows}
-use Rattle.cells.specs.PlainViews.{named_state}
+use Rattle.plaincells.specs.PlainViews.{named_state}
 use Rattle.ranges.proofs.Members.{has_mapped, mapped_has, all_has, all_from_has}
 use Rattle.lawful.specs.declared.notes.Note.{Note}
 use Rattle.lawful.specs.Lawful.{setting_of, first_library, state_of}

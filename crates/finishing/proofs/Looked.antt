@@ -12,13 +12,13 @@ use Rattle.cells.specs.State.{State, most_words}
 use Rattle.cells.specs.Slots.{is_ranged}
 use Rattle.cells.specs.Shows.{Shows}
 use Rattle.cells.specs.Sight.{Views, Looks, after}
-use Rattle.cells.specs.Plain.{numbered_from, undone, ranges_in}
-use Rattle.cells.specs.PlainViews.{setting_of, sight_of, now_state, first_state, named_state, AreOfWords}
-use Rattle.cells.specs.declared.plain.PlainCells.{PlainCells}
-use Rattle.cells.proofs.Logs.{length-undone}
-use Rattle.cells.proofs.Numbered.{over_all}
-use Rattle.cells.proofs.PlainSights.{plain_matches}
-use Rattle.cells.proofs.Widened.{shows_widened}
+use Rattle.plaincells.specs.Plain.{numbered_from, undone, ranges_in}
+use Rattle.plaincells.specs.PlainViews.{setting_of, sight_of, now_state, first_state, named_state, AreOfWords}
+use Rattle.plaincells.specs.declared.plain.PlainCells.{PlainCells}
+use Rattle.plaincells.proofs.Logs.{length-undone}
+use Rattle.plaincells.proofs.Numbered.{over_all}
+use Rattle.plaincells.proofs.PlainSights.{plain_matches}
+use Rattle.plaincells.proofs.Widened.{shows_widened}
 use Rattle.commands.specs.Looking.{AreEntries}
 
 -- the values are those that are numbered

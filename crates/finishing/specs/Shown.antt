@@ -3,7 +3,7 @@ use Rattle.std.specs.Prelude.{◌≡◌, ◌≤◌, ◌*◌, ℕ, List, length, 
 use Rattle.library.specs.declared.library.Ranked.{Ranked}
 use Rattle.library.specs.Library.{Setting, Listed, ShowsInOrder, Verifies}
 use Rattle.cells.specs.Shows.{Shows}
-use Rattle.cells.specs.PlainViews.{named_state, ShowNamed}
+use Rattle.plaincells.specs.PlainViews.{named_state, ShowNamed}
 use Rattle.tlwords.specs.declared.closing.ClosedWords.{ClosedWords}
 
 -- the values of the cells

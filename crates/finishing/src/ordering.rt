@@ -7,7 +7,7 @@ ghost use Rattle.transaction.specs.Closings.{lists_of};
 ghost use Rattle.finishing.specs.Ordering.{AreOrdered, ArePut, IsFirstMissing, IsFirstHeld};
 
 use library::{Entry, History};
-use mmstatement::Sequence;
+use mmsyntax::Sequence;
 use std::alloc::{AllocError, Global};
 use tlwords::ClosedCell;
 use transaction::Record;

@@ -7,12 +7,12 @@ use Rattle.mmsyntax.specs.declared.statement.Assertion.{Assertion}
 use Rattle.mmsyntax.specs.declared.statement.Frame.{Frame}
 use Rattle.mmsyntax.specs.declared.statement.Kind.TheVariants.{Theorem}
 use Rattle.mmsyntax.specs.Tables.{Tables}
-use Rattle.mmstatement.specs.Frames.{frame}
-use Rattle.proofcheck.specs.declared.fault.ProofFault.{ProofFault}
-use Rattle.proofcheck.specs.Databases.{frame_in}
-use Rattle.proofcheck.specs.Derivation.{Checks}
-use Rattle.proofcheck.specs.Faults.{HasProofFault}
-use Rattle.proofcheck.proofs.Outcome.{outcome-tree, outcome-fault}
+use Rattle.mmframes.specs.Frames.{frame}
+use Rattle.derivation.specs.declared.fault.ProofFault.{ProofFault}
+use Rattle.derivation.specs.Databases.{frame_in}
+use Rattle.derivation.specs.Derivation.{Checks}
+use Rattle.derivation.specs.Faults.{HasProofFault}
+use Rattle.derivation.proofs.Outcome.{outcome-tree, outcome-fault}
 use Rattle.library.specs.declared.library.Ranked.{Ranked}
 use Rattle.library.specs.declared.reason.Reason.TheVariants.{ProofFails}
 use Rattle.library.specs.Library.{Setting, label_of, lower, citable}

@@ -11,7 +11,7 @@ use Rattle.mmsyntax.specs.declared.statement.Step.TheVariants.{Float, Hyp, Cite}
 use Rattle.mmsyntax.proofs.Distinct.{or_false}
 use Rattle.library.specs.declared.library.Ranked.{Ranked}
 use Rattle.library.specs.Library.{label_of}
-use Rattle.proofcheck.specs.Laws.{replacing, step_relabelled}
+use Rattle.derivation.specs.Laws.{replacing, step_relabelled}
 use Rattle.library.specs.Edits.{rename, is_citation, cites, has, is_labelled, with_proof}
 use Rattle.library.proofs.Labels.{replacing-old, replacing-other}
 use Rattle.library.proofs.Renaming.{renamed_entry}

@@ -14,7 +14,7 @@ use Rattle.mmsyntax.specs.Assertions.{Fits}
 use Rattle.mmsyntax.specs.Tables.{Tables}
 use Rattle.mmsyntax.proofs.Distinct.{or_false, both_false}
 use Rattle.mmsyntax.proofs.Names.{same_bytes}
-use Rattle.proofcheck.specs.Derivation.{Citable, Checks}
+use Rattle.derivation.specs.Derivation.{Citable, Checks}
 use Rattle.library.specs.declared.library.Ranked.{Ranked}
 use Rattle.library.specs.Library.{Setting, Verifies, citable}
 use Rattle.library.specs.Edits.{has, is_citation, cites, is_of_unknown}

@@ -6,12 +6,12 @@ use Rattle.std.specs.Str.{bytes_eq}
 use Rattle.std.specs.declared.alloc.Global.{Global}
 use Rattle.mmsyntax.specs.declared.statement.Frame.{Frame}
 use Rattle.mmsyntax.specs.Tables.{Tables}
-use Rattle.mmstatement.specs.Frames.{frame}
+use Rattle.mmframes.specs.Frames.{frame}
 use Rattle.library.specs.declared.library.Ranked.{Ranked}
 use Rattle.library.specs.declared.command.Command.{Command}
 use Rattle.library.specs.declared.command.Reply.{Reply}
 use Rattle.library.specs.Library.{Setting, Verifies, label_of}
-use Rattle.proofcheck.specs.Laws.{replacing, step_relabelled}
+use Rattle.derivation.specs.Laws.{replacing, step_relabelled}
 use Rattle.library.specs.Edits.{with_proof, edit}
 use Rattle.library.specs.Transactions.{apply}
 use Rattle.history.specs.declared.notes.Note.{Note}

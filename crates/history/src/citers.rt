@@ -7,7 +7,7 @@ ghost use Rattle.history.specs.Citers.{EachAscends, AreEntered, Covers, KeepsCit
 
 use crate::places::{Places, find_label};
 use library::Ranked;
-use mmstatement::Step;
+use mmsyntax::Step;
 use std::alloc::{AllocError, Global};
 
 /// For each place, the places whose proof may cite the assertion there, in ascending order.

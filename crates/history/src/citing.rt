@@ -1,13 +1,13 @@
 //! Copies of assertions with another label, and with another label in the place of one that the proof cites.
 
 ghost use Rattle.std.specs.Prelude.{◌≡◌, map, IfOk};
-ghost use Rattle.proofcheck.specs.Laws.{replacing, step_relabelled};
+ghost use Rattle.derivation.specs.Laws.{replacing, step_relabelled};
 ghost use Rattle.library.specs.Edits.{with_proof};
 ghost use Rattle.history.specs.Drafts.{with_label, citing};
 
 use crate::testing::is_citation;
 use library::Ranked;
-use mmstatement::{Assertion, Expr, Label, Sequence, Step};
+use mmsyntax::{Assertion, Expr, Label, Sequence, Step};
 use std::alloc::{AllocError, Global};
 
 fn renamed_step(alloc: Global, step: &Step, old: &[u8], new: &Label) -> Result<Step, AllocError>

@@ -8,7 +8,7 @@ ghost use Rattle.history.specs.Entries.{living};
 ghost use Rattle.history.specs.Testing.{passes_there, clashes_beside};
 
 use library::Ranked;
-use mmstatement::is_dotted;
+use mmsyntax::is_dotted;
 
 /// Whether one of two labels is `L.k` of the other: the longer one, if either is.
 fn clash(label: &[u8], other: &[u8]) -> bool

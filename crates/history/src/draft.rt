@@ -11,7 +11,7 @@ use crate::citers::{Citers, open_citers};
 use crate::notes::{Note, drop_notes, take_all_back};
 use crate::places::{Places, open_entries, open_frames};
 use library::{PlainLibrary, Ranked};
-use mmstatement::{Assertion, Frame, Prelude};
+use mmsyntax::{Assertion, Frame, Prelude};
 use std::alloc::{AllocError, Global};
 use std::hash::RandomState;
 use std::marker::Model;

@@ -2,7 +2,7 @@
 
 use crate::draft::Draft;
 use library::{Command, PlainLibrary, Refused, Reply};
-use mmstatement::{Database, Prelude, Sequence};
+use mmsyntax::{Database, Prelude, Sequence};
 use std::alloc::{AllocError, Global};
 use std::hash::RandomState;
 use std::marker::Model;
@@ -123,7 +123,7 @@ impl Model for Editor {
 
 impl Editor {
     ghost use Rattle.std.specs.Prelude.{◌≡◌, ◌≤◌, length, All};
-    ghost use Rattle.proofcheck.specs.Databases.{AllCheck};
+    ghost use Rattle.derivation.specs.Databases.{AllCheck};
     ghost use Rattle.library.specs.Library.{Verifies, ShowsInOrder};
     ghost use Rattle.library.specs.Fitting.{CommandFits};
     ghost use Rattle.history.specs.Editors.{Answers};

@@ -11,7 +11,7 @@ ghost use Rattle.history.specs.Listing.{line_cmp, AreNoted, AreCounted};
 
 use crate::places::{Places, find_label};
 use library::{Line, Ranked};
-use mmstatement::{Sequence, Step};
+use mmsyntax::{Sequence, Step};
 use std::alloc::{AllocError, Global};
 use std::cmp::Ordering;
 

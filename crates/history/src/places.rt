@@ -6,12 +6,13 @@ ghost use Rattle.mmsyntax.specs.Assertions.{Distinct};
 ghost use Rattle.library.specs.Library.{label_of, ranked_from};
 ghost use Rattle.library.specs.Edits.{has};
 ghost use Rattle.library.specs.declared.library.Ranked.{Ranked as RankedView};
-ghost use Rattle.mmstatement.specs.Frames.{frame};
+ghost use Rattle.mmframes.specs.Frames.{frame};
 ghost use Rattle.history.specs.Entries.{living, standing, StandsIn};
 ghost use Rattle.history.specs.Places.{IsIndex, HasOnly, KeepsLabels, FoundAt, Puts, StandsSomewhere, place_in};
 
 use library::Ranked;
-use mmstatement::{Assertion, Frame, Prelude, frame_of};
+use mmframes::frame_of;
+use mmsyntax::{Assertion, Frame, Prelude};
 use std::alloc::{AllocError, Global};
 use std::collections::HashMap;
 use std::hash::RandomState;

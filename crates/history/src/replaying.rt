@@ -1,14 +1,14 @@
 //! Histories done again: what an editor answers to their transactions, against the replies that they hold.
 
 ghost use Rattle.std.specs.Prelude.{◌≡◌, ◌≤◌, ◌↔◌, IfOk, OnOk, IsTrue, map};
-ghost use Rattle.proofcheck.specs.Databases.{AllCheck};
+ghost use Rattle.derivation.specs.Databases.{AllCheck};
 ghost use Rattle.library.specs.Histories.{told, after_entry, EntryFits, EntriesFit, IsRepeated};
 ghost use Rattle.history.specs.Replays.{Replays};
 
 use crate::editor::{ApplyError, Editor, OpenError};
 use crate::same::same_replies;
 use library::{Entry, PlainLibrary};
-use mmstatement::Database;
+use mmsyntax::Database;
 use std::alloc::{AllocError, Global};
 use std::hash::RandomState;
 use thiserror::Error;

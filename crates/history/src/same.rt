@@ -3,7 +3,7 @@
 ghost use Rattle.std.specs.Prelude.{◌≡◌, ◌↔◌, IsTrue};
 
 use library::{Line, Ranked, Reply};
-use mmstatement::{Assertion, Expr, Step};
+use mmsyntax::{Assertion, Expr, Step};
 
 fn same_step(a: &Step, b: &Step) -> bool
     ensures { IsTrue result ↔ (a.now ≡ b.now) }

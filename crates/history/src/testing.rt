@@ -13,9 +13,10 @@ ghost use Rattle.history.specs.Citers.{HasAllCiters};
 ghost use Rattle.history.specs.Testing.{passes_at, cites_from};
 
 use crate::places::{Places, entry_at, find_label};
+use derivation::{ProofFault, ProofFaultKind};
 use library::Ranked;
-use mmstatement::{Assertion, Frame, Label, Prelude, Step};
-use proofcheck::{Frames, ProofFault, ProofFaultKind, check};
+use mmsyntax::{Assertion, Frame, Label, Prelude, Step};
+use proofcheck::{Frames, check};
 use std::alloc::{AllocError, Global};
 
 pub(crate) fn is_citation(step: &Step, label: &[u8]) -> bool
@@ -168,7 +169,7 @@ struct Lower<'a> {
 }
 
 impl Frames for Lower<'_> {
-    ghost use Rattle.proofcheck.specs.Databases.{frame_in};
+    ghost use Rattle.derivation.specs.Databases.{frame_in};
     ghost use Rattle.library.specs.Library.{lower};
     ghost use Rattle.history.specs.Entries.{living};
 

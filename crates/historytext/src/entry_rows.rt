@@ -12,8 +12,8 @@ ghost use Rattle.historytext.specs.Views.{seen_answered, seen_entry_place, seen_
 use crate::place::{Answered, EntryPlace, Place};
 use crate::reply_rows::{read_in_reply, read_reply_word};
 use library::{Command, Entry, Reply};
-use mmstatement::{FaultKind, Prelude, Sequence};
-use mmtext::{Stop, Token, fault_at};
+use mmsyntax::{Prelude, Sequence};
+use mmtext::{FaultKind, Stop, Token, fault_at};
 use scripts::{Led, read_command_word, read_in_command};
 use std::alloc::Global;
 

@@ -2,7 +2,7 @@
 
 use library::{Command, Entry, Line, Reply};
 use mmreader::{Recent, UnitReader};
-use mmstatement::{Kind, Label, Prelude};
+use mmsyntax::{Kind, Label, Prelude};
 use scripts::CommandPlace;
 
 /// What was read of the reply in which a token stands.

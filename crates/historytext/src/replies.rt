@@ -8,7 +8,7 @@ ghost use Rattle.historytext.specs.Layout.{set_in, line_text, reply_text};
 
 use crate::numbers::put_number;
 use library::{Line, Ranked, Reply};
-use mmstatement::{Kind, Prelude};
+use mmsyntax::{Kind, Prelude};
 use mmwriter::{put_assertion, put_word};
 use std::alloc::{AllocError, Global};
 

@@ -11,8 +11,8 @@ ghost use Rattle.historytext.specs.Views.{answer, count_at, kind_at, seen_answer
 use crate::place::{Answered, ReplyPlace};
 use library::{Line, Ranked, Reply};
 use mmreader::{UnitProgress, UnitReader};
-use mmstatement::{FaultKind, Kind, Prelude, Sequence};
-use mmtext::{Stop, Token, fault_at};
+use mmsyntax::{Kind, Prelude, Sequence};
+use mmtext::{FaultKind, Stop, Token, fault_at};
 use scripts::{count, is_numeral, read_label, read_rank};
 use std::alloc::Global;
 

@@ -10,7 +10,7 @@ ghost use Rattle.historytext.specs.Layout.{command_text, transaction_text};
 
 use crate::numbers::put_number;
 use library::Command;
-use mmstatement::{Assertion, Label, Prelude, Step};
+use mmsyntax::{Assertion, Label, Prelude, Step};
 use mmwriter::{put_assertion, put_steps, put_word};
 use std::alloc::AllocError;
 

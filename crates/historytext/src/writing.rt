@@ -9,7 +9,7 @@ use crate::numbers::put_number;
 use crate::replies::put_reply;
 use crate::transactions::put_transaction;
 use library::{Command, Entry, Reply};
-use mmstatement::Prelude;
+use mmsyntax::Prelude;
 use std::alloc::{AllocError, Global};
 
 fn put_replies(

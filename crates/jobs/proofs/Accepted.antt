@@ -5,8 +5,8 @@ use Rattle.mmsyntax.specs.Faults.{database_language}
 use Rattle.mmsyntax.specs.Grammar.{Spells}
 use Rattle.mmsyntax.specs.Tables.{Contents}
 use Rattle.mmreader.proofs.DatabaseLaws.{database_grammar}
-use Rattle.proofcheck.specs.Databases.{AllCheck}
-use Rattle.proofcheck.proofs.Exact.{first-excludes}
+use Rattle.derivation.specs.Databases.{AllCheck}
+use Rattle.derivation.proofs.Exact.{first-excludes}
 use Rattle.jobs.specs.declared.job.Fault.{Fault}
 use Rattle.jobs.specs.declared.job.Fault.TheVariants.{Proof}
 use Rattle.jobs.specs.Jobs.{Bytes, IsDatabase, IsChecked, IsProofFault, IsDatabaseFault}

@@ -8,9 +8,9 @@ use Rattle.mmtext.specs.declared.fault.FaultKind.TheVariants.{NoMemory as OutOfM
 use Rattle.mmsyntax.specs.Tables.{Contents}
 use Rattle.mmtext.specs.Languages.{too_long}
 use Rattle.mmsyntax.specs.Faults.{FaultyDatabase}
-use Rattle.proofcheck.specs.declared.fault.ProofFault.{ProofFault}
-use Rattle.proofcheck.specs.declared.fault.ProofFaultKind.TheVariants.{NoMemory as NoMemoryOfProof}
-use Rattle.proofcheck.specs.Databases.{IsFirstFault as IsFirstFaultOfProofs}
+use Rattle.derivation.specs.declared.fault.ProofFault.{ProofFault}
+use Rattle.derivation.specs.declared.fault.ProofFaultKind.TheVariants.{NoMemory as NoMemoryOfProof}
+use Rattle.derivation.specs.Databases.{IsFirstFault as IsFirstFaultOfProofs}
 use Rattle.jobs.specs.declared.job.Fault.{Fault}
 use Rattle.jobs.specs.declared.job.Fault.TheVariants.{Text, Proof, NoMemory}
 use Rattle.jobs.specs.Jobs.{Bytes, IsDatabase, IsLabelAt, IsProofFault, IsDatabaseFault, IsOrLacksMemory}

@@ -15,7 +15,7 @@ use Rattle.mmsyntax.specs.declared.statement.Assertion.{Assertion}
 use Rattle.mmsyntax.specs.Tables.{Tables, meaning}
 use Rattle.mmsyntax.specs.Assertions.{is_lawful_label}
 use Rattle.mmsyntax.proofs.Declarable.{declarable}
-use Rattle.proofcheck.specs.declared.fault.ProofFault.{ProofFault}
+use Rattle.derivation.specs.declared.fault.ProofFault.{ProofFault}
 use Rattle.jobs.specs.declared.job.Job.TheVariants.{Check, Run, Replay}
 use Rattle.jobs.specs.declared.job.Fault.TheVariants.{Proof}
 use Rattle.jobs.specs.FaultLines.{shown_label}

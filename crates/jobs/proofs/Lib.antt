@@ -10,3 +10,7 @@ pub mod Printable
 pub mod LabelText
 pub mod Accepted
 pub mod Own
+mod Covers
+mod DoneNumbers
+mod Told
+mod Leaving

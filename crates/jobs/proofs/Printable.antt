@@ -5,7 +5,7 @@ use Rattle.std.specs.List.{AllZip}
 use Rattle.std.proofs.lemmas.List.Elements.{All-nil, All-cons, All-head, All-tail}
 use Rattle.mmsyntax.specs.Tables.{Contents}
 use Rattle.mmsyntax.specs.Layout.{HasSpelling}
-use Rattle.proofcheck.specs.Databases.{AllCheck}
+use Rattle.derivation.specs.Databases.{AllCheck}
 use Rattle.library.specs.declared.command.Command.{Command}
 use Rattle.library.specs.declared.history.Entry.{Entry as CodeEntry}
 use Rattle.library.specs.declared.library.Ranked.{Ranked}

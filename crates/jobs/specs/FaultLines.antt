@@ -3,7 +3,7 @@ use Rattle.std.specs.Prelude.{ℕ, List, [], ◌++◌, Option, Some, None, codes
 use Rattle.std.specs.Str.{is_utf8}
 use Rattle.std.specs.Fmt.{decimal}
 use Rattle.mmtext.specs.FaultNames.{printed_fault as printed_text_fault}
-use Rattle.proofcheck.specs.FaultNames.{printed_fault}
+use Rattle.derivation.specs.FaultNames.{printed_fault}
 use Rattle.jobs.specs.declared.job.Fault.{Fault}
 use Rattle.jobs.specs.declared.job.Fault.TheVariants.{Text, Proof, Differs, StoreFull, Missing, Held, NoThread, NoMemory}
 

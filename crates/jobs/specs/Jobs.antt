@@ -9,17 +9,17 @@ use Rattle.mmtext.specs.declared.fault.FaultKind.TheVariants.{NoMemory as OutOfM
 use Rattle.mmsyntax.specs.Tables.{Tables, Contents}
 use Rattle.mmsyntax.specs.Grammar.{Spells}
 use Rattle.mmsyntax.specs.Faults.{FaultyDatabase}
-use Rattle.proofcheck.specs.declared.fault.ProofFaultKind.TheVariants.{NoMemory as NoMemoryOfProof}
-use Rattle.proofcheck.specs.Databases.{AllCheck, IsFirstFault as IsFirstFaultOfProofs}
+use Rattle.derivation.specs.declared.fault.ProofFaultKind.TheVariants.{NoMemory as NoMemoryOfProof}
+use Rattle.derivation.specs.Databases.{AllCheck, IsFirstFault as IsFirstFaultOfProofs}
 use Rattle.library.specs.declared.command.Command.{Command}
 use Rattle.library.specs.Library.{Listed, ShowsInOrder, Verifies, opening}
 use Rattle.scripts.specs.Scripts.{SpellsScript}
 use Rattle.scripts.specs.ScriptFaults.{FaultyScript}
 use Rattle.library.specs.declared.history.Entry.{Entry}
 use Rattle.library.specs.Histories.{told, after, after_all, EntriesFit, IsLegal}
-use Rattle.cells.specs.Measures.{bodies_length}
+use Rattle.plaincells.specs.Measures.{bodies_length}
 use Rattle.transaction.specs.declared.outcome.Outcome.{Outcome}
-use Rattle.editing.specs.Edits.{AreToldBy}
+use Rattle.jobs.specs.Edits.{AreToldBy}
 use Rattle.history.specs.Replays.{IsFirstDiffering}
 use Rattle.historytext.specs.Grammar.{SpellsHistory}
 use Rattle.historytext.specs.Places.{FaultyHistory}

@@ -3,7 +3,7 @@ use Rattle.std.specs.Prelude.{◌≡◌, ◌≤◌, ℕ, true, List, All, Vec, l
 use Rattle.std.specs.declared.alloc.Global.{Global}
 use Rattle.mmsyntax.specs.Tables.{Tables}
 use Rattle.mmsyntax.specs.Layout.{IsSoundPrelude}
-use Rattle.proofcheck.specs.declared.fault.ProofFault.{ProofFault}
+use Rattle.derivation.specs.declared.fault.ProofFault.{ProofFault}
 use Rattle.library.specs.Fitting.{CommandFits}
 use Rattle.scripts.specs.Scripts.{SpellsScript}
 use Rattle.jobs.specs.declared.job.Job.{Job}

@@ -5,3 +5,4 @@ pub mod Jobs
 pub mod Parts
 pub mod Tasks
 pub mod Laws
+pub mod Edits

@@ -3,8 +3,8 @@ use Rattle.std.specs.Prelude.{◌≡◌, ◌≢◌, ◌<◌, ◌+◌, ℕ, zero,
 use Rattle.mmtext.specs.declared.fault.TextFault.{TextFault}
 use Rattle.mmtext.specs.declared.fault.FaultKind.TheVariants.{NoMemory as OutOfMemory}
 use Rattle.mmsyntax.specs.Tables.{Tables, Contents}
-use Rattle.proofcheck.specs.declared.fault.ProofFault.{ProofFault}
-use Rattle.proofcheck.specs.declared.fault.ProofFaultKind.TheVariants.{NoMemory as NoMemoryOfProof}
+use Rattle.derivation.specs.declared.fault.ProofFault.{ProofFault}
+use Rattle.derivation.specs.declared.fault.ProofFaultKind.TheVariants.{NoMemory as NoMemoryOfProof}
 use Rattle.library.specs.Library.{Listed, ShowsInOrder, opening}
 use Rattle.library.specs.declared.history.Entry.{Entry}
 use Rattle.library.specs.Histories.{told, after_all, IsLegal}
@@ -13,10 +13,10 @@ use Rattle.jobs.specs.declared.job.Fault.{Fault}
 use Rattle.jobs.specs.declared.job.Fault.TheVariants.{Text, Proof, StoreFull, Missing, Held, NoThread, NoMemory}
 use Rattle.jobs.specs.Outcomes.{setting_of}
 use Rattle.jobs.specs.Jobs.{Bytes, IsFirstFault, IsLabelAt, IsRunLack}
-use Rattle.cells.specs.Measures.{bodies_length}
+use Rattle.plaincells.specs.Measures.{bodies_length}
 use Rattle.transaction.specs.declared.shape.Shape.{Shape}
-use Rattle.editing.specs.declared.error.EditError.{EditError}
-use Rattle.editing.specs.declared.error.EditError.TheVariants as edit
+use Rattle.jobs.specs.declared.error.EditError.{EditError}
+use Rattle.jobs.specs.declared.error.EditError.TheVariants as edit
 
 -- the scripts' part of a fault
 abbrev pub IsScriptFault : Tables → List Bytes → Fault → Type 0

@@ -2,7 +2,7 @@
 
 ghost use Rattle.jobs.specs.Parts.{IsTextFaultOf};
 
-use editing::EditError;
+use crate::error::EditError;
 use mmstatement::{FaultKind, Label, TextFault};
 use proofcheck::ProofFault;
 use std::alloc::{AllocError, AllocFailed};

@@ -2,6 +2,8 @@
 #![tactic(auto)]
 
 mod answering;
+mod editing;
+mod error;
 mod job;
 mod laws;
 mod performing;
@@ -13,6 +15,8 @@ mod telling;
 mod watching;
 
 pub use answering::{Answered, answer};
+pub use editing::{Edited, edit_all};
+pub use error::EditError;
 pub use job::{Fault, Job, Printed};
 pub use laws::{
     accepted_texts_check, fault_labels_are_shown, runs_are_replayed, spelled_scripts_fit,

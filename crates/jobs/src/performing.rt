@@ -4,7 +4,7 @@ ghost use Rattle.std.specs.Prelude.{◌≡◌, ◌≢◌, ◌<◌, ◌+◌, ◌+
 ghost use Rattle.std.specs.Fmt.{decimal};
 ghost use Rattle.mmtext.specs.declared.fault.FaultKind.TheVariants.{NoMemory as OutOfMemory};
 ghost use Rattle.mmtext.specs.declared.fault.TextFault.{TextFault as FaultOfText};
-ghost use Rattle.proofcheck.specs.Databases.{AllCheck, IsFirstFault as IsFirstFaultOfProofs};
+ghost use Rattle.derivation.specs.Databases.{AllCheck, IsFirstFault as IsFirstFaultOfProofs};
 ghost use Rattle.jobs.specs.declared.job.Fault.{Fault as FaultOfJob};
 ghost use Rattle.jobs.specs.declared.job.Fault.TheVariants.{NoMemory};
 ghost use Rattle.jobs.specs.Jobs.{AreScripts, IsChecked, IsWithin, AreWithin, IsCheck, IsRun, IsReplay, DoneAsAsked, IsLabelAt};

@@ -3,7 +3,7 @@
 ghost use Rattle.std.specs.Prelude.{◌≡◌, ◌≢◌, ◌++◌, ◌∷◌, List, All, IfOk, IfErr, length, codes};
 ghost use Rattle.std.specs.Fmt.{decimal};
 ghost use Rattle.mmtext.specs.declared.fault.TextFault.{TextFault as FaultOfText};
-ghost use Rattle.proofcheck.specs.Databases.{AllCheck};
+ghost use Rattle.derivation.specs.Databases.{AllCheck};
 ghost use Rattle.library.specs.declared.history.Entry.{Entry as EntryOf};
 ghost use Rattle.historytext.specs.Places.{FaultyHistory};
 ghost use Rattle.historytext.specs.Layout.{EntryFits};

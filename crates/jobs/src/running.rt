@@ -1,9 +1,9 @@
 //! Scripts run over the library of a database by workers, and what is printed of it.
 
 ghost use Rattle.std.specs.Prelude.{◌≡◌, ℕ, ◌<◌, ◌^◌, ◌++◌, [], if◌then◌else◌, All, IfOk, IfErr, length};
-ghost use Rattle.proofcheck.specs.Databases.{AllCheck};
+ghost use Rattle.derivation.specs.Databases.{AllCheck};
 ghost use Rattle.library.specs.Fitting.{CommandFits};
-ghost use Rattle.cells.specs.Measures.{bodies_length};
+ghost use Rattle.plaincells.specs.Measures.{bodies_length};
 ghost use Rattle.transaction.specs.Openings.{IsOpened};
 ghost use Rattle.historytext.specs.Layout.{EntryFits, history_text};
 ghost use Rattle.workers.specs.Works.{lists_of};
@@ -13,11 +13,11 @@ ghost use Rattle.jobs.specs.Parts.{IsOpenFault, IsWorkFault, shape_with};
 ghost use Rattle.jobs.specs.Outcomes.{OutcomesFit};
 ghost use Rattle.jobs.specs.Reports.{report_text};
 
+use crate::editing::{Edited, edit_all};
 use crate::job::{Fault, Printed};
 use crate::replaying::SLOTS;
 use crate::report::report;
 use crate::watching::Watch;
-use editing::{Edited, edit_all};
 use export::put_library;
 use historytext::write_history;
 use library::{Entry, Script};

@@ -8,7 +8,7 @@ use Rattle.ranges.proofs.Named.{has_its_ranges}
 use Rattle.cells.specs.State.{most_words}
 use Rattle.cells.specs.Slots.{cell_count, is_ranged}
 use Rattle.cells.specs.Shows.{Shows}
-use Rattle.cells.proofs.Naming.{stored_named}
+use Rattle.plaincells.proofs.Naming.{stored_named}
 use Rattle.lawful.specs.Lawful.{state_of}
 use Rattle.lawful.proofs.Keeping.{shows_kept}
 

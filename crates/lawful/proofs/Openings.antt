@@ -8,9 +8,9 @@ use Rattle.ranges.specs.declared.range.Range.{Range as Place}
 use Rattle.ranges.proofs.Named.{part_get}
 use Rattle.cells.specs.State.{most_words}
 use Rattle.cells.specs.Slots.{cell_count}
-use Rattle.cells.specs.Plain.{ranges_in}
-use Rattle.cells.proofs.Naming.{shown_names}
-use Rattle.cells.proofs.Stores.{place_of}
+use Rattle.plaincells.specs.Plain.{ranges_in}
+use Rattle.plaincells.proofs.Naming.{shown_names}
+use Rattle.plaincells.proofs.Stores.{place_of}
 use Rattle.lawful.specs.Laws.{OpenedCellsOpenWell}
 use Rattle.lawful.proofs.Naming.{named_shows}
 

@@ -8,7 +8,7 @@ use Rattle.cells.specs.State.{State, with_writes}
 use Rattle.cells.specs.Shows.{Shows}
 use Rattle.cells.specs.Sight.{Sight, Suits, Matches, Views, Onward, after}
 use Rattle.cells.proofs.Sights.{onward_refl, matches_back}
-use Rattle.commands.specs.Answers.{WritesIfEdit}
+use Rattle.cells.specs.Answers.{WritesIfEdit}
 use Rattle.lawful.specs.declared.notes.Given.{Given}
 use Rattle.lawful.specs.Lawful.{setting_of, sight_of}
 use Rattle.lawful.specs.Laws.{RunsAreLawful, LooksAreLawful}

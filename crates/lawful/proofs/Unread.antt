@@ -7,7 +7,7 @@ use Rattle.library.specs.Library.{Setting}
 use Rattle.library.specs.Transactions.{apply, apply_from}
 use Rattle.ranges.specs.Ranges.{Range}
 use Rattle.cells.specs.State.{State}
-use Rattle.cells.proofs.Empty.{shows_none, none_verifies}
+use Rattle.plaincells.proofs.Empty.{shows_none, none_verifies}
 use Rattle.lawful.specs.Lawful.{setting_of}
 use Rattle.lawful.specs.Laws.{UnreadIsUnlawful}
 

@@ -25,9 +25,9 @@ use Rattle.cells.specs.Slots.{cell_count, is_ranged}
 use Rattle.cells.specs.Shows.{Shows}
 use Rattle.cells.specs.Sight.{Sight, Suits, Onward}
 use Rattle.cells.specs.Lookups.{ForEach}
-use Rattle.cells.specs.declared.plain.PlainCells.{PlainCells}
-use Rattle.cells.specs.Opening.{Opens}
-use Rattle.commands.specs.Answers.{DoesAll, RefusesAll}
+use Rattle.plaincells.specs.declared.plain.PlainCells.{PlainCells}
+use Rattle.plaincells.specs.Opening.{Opens}
+use Rattle.cells.specs.Answers.{DoesAll, RefusesAll}
 use Rattle.lawful.specs.declared.notes.Given.{Given}
 use Rattle.lawful.specs.declared.notes.Note.{Note}
 use Rattle.lawful.specs.declared.notes.Note.TheVariants.{Done, Refused, Looked}

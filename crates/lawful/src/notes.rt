@@ -2,7 +2,7 @@
 //! contracts alone.
 
 use library::{PlainLibrary, Refused, Reply, Transaction};
-use mmstatement::{Database, Sequence};
+use mmsyntax::{Database, Sequence};
 use std::snapshot::Snapshot;
 
 /// What all transactions on a library share: the opening database, and how many slots the library has.

@@ -7,9 +7,9 @@ use Rattle.mmsyntax.specs.declared.statement.Assertion.{Assertion}
 use Rattle.mmsyntax.specs.declared.statement.Step.TheVariants.{Cite}
 use Rattle.mmsyntax.specs.Assertions.{Distinct}
 use Rattle.mmsyntax.specs.Tables.{Tables}
-use Rattle.mmstatement.specs.Frames.{frame}
-use Rattle.proofcheck.specs.Databases.{frame_in}
-use Rattle.proofcheck.specs.Derivation.{Checks}
+use Rattle.mmframes.specs.Frames.{frame}
+use Rattle.derivation.specs.Databases.{frame_in}
+use Rattle.derivation.specs.Derivation.{Checks}
 use Rattle.library.specs.declared.library.Ranked.{Ranked}
 use Rattle.library.specs.Library.{Setting, label_of, lower, citable}
 use Rattle.library.proofs.Derivations.{proves_cited}

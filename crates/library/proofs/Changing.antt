@@ -9,7 +9,7 @@ use Rattle.std.proofs.lemmas.List.Elements.{All-map, All-contains, Contains-get_
 use Rattle.mmsyntax.specs.Assertions.{is_lawful_label, Distinct, Fits}
 use Rattle.mmsyntax.specs.Dotted.{AreApart}
 use Rattle.mmsyntax.specs.Tables.{Tables}
-use Rattle.mmstatement.specs.Frames.{frame}
+use Rattle.mmframes.specs.Frames.{frame}
 use Rattle.library.specs.declared.library.Ranked.{Ranked}
 use Rattle.library.specs.Library.{Setting, Verifies, label_of}
 use Rattle.library.specs.Edits.{is_labelled, found, changed}

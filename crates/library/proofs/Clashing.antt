@@ -12,7 +12,7 @@ use Rattle.std.proofs.lemmas.List.Sorted.{list_any-IsPermutation}
 use Rattle.mmsyntax.specs.Dotted.{clash, AreApart}
 use Rattle.mmsyntax.proofs.Apart.{apart_cons, apart_with, apart_within}
 use Rattle.mmsyntax.proofs.Distinct.{any-map}
-use Rattle.proofcheck.specs.Laws.{replacing}
+use Rattle.derivation.specs.Laws.{replacing}
 use Rattle.library.specs.declared.library.Ranked.{Ranked}
 use Rattle.library.specs.Library.{label_of}
 use Rattle.library.specs.Edits.{is_labelled, has, clashes, without}

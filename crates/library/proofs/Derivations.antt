@@ -9,10 +9,10 @@ use Rattle.mmsyntax.specs.declared.statement.Assertion.{Assertion}
 use Rattle.mmsyntax.specs.declared.statement.Step.{Step}
 use Rattle.mmsyntax.specs.declared.statement.Step.TheVariants.{Float, Hyp, Cite}
 use Rattle.mmsyntax.specs.Tables.{Tables}
-use Rattle.proofcheck.specs.Derivation.{Expression, Citable, Tree, Trees, float, hyp, node, none, some, Derives, DeriveEach}
-use Rattle.proofcheck.specs.Derivation.{listing, listings, Proves, Checks}
-use Rattle.proofcheck.specs.Laws.{step_relabelled, StandsFor}
-use Rattle.proofcheck.proofs.Relabelling.{relabelled-proves}
+use Rattle.derivation.specs.Derivation.{Expression, Citable, Tree, Trees, float, hyp, node, none, some, Derives, DeriveEach}
+use Rattle.derivation.specs.Derivation.{listing, listings, Proves, Checks}
+use Rattle.derivation.specs.Laws.{step_relabelled, StandsFor}
+use Rattle.derivation.proofs.Relabelling.{relabelled-proves}
 
 -- ---- other citable frames
 

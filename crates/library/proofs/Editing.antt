@@ -10,10 +10,10 @@ use Rattle.mmsyntax.specs.declared.statement.Assertion.{Assertion}
 use Rattle.mmsyntax.specs.declared.statement.Step.{Step}
 use Rattle.mmsyntax.specs.declared.statement.Step.TheVariants.{Cite}
 use Rattle.mmsyntax.specs.Assertions.{is_lawful_label}
-use Rattle.proofcheck.specs.declared.fault.ProofFault.{ProofFault}
-use Rattle.proofcheck.specs.Derivation.{Tree, Proves}
-use Rattle.proofcheck.specs.Outcomes.{outcome, IsOutcome}
-use Rattle.proofcheck.proofs.Outcome.{outcome-is}
+use Rattle.derivation.specs.declared.fault.ProofFault.{ProofFault}
+use Rattle.derivation.specs.Derivation.{Tree, Proves}
+use Rattle.derivation.specs.Outcomes.{outcome, IsOutcome}
+use Rattle.derivation.proofs.Outcome.{outcome-is}
 use Rattle.library.specs.declared.library.Ranked.{Ranked}
 use Rattle.library.specs.declared.command.Command.{Command}
 use Rattle.library.specs.declared.command.Command.TheVariants.{Add, Reprove, Replace, Rename, Move, Delete, Show, List as ListAll}

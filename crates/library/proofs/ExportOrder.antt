@@ -20,8 +20,8 @@ use Rattle.mmsyntax.specs.declared.statement.Assertion.{Assertion}
 use Rattle.mmsyntax.specs.Assertions.{Distinct}
 use Rattle.mmsyntax.proofs.Distinct.{distinct_left}
 use Rattle.mmsyntax.proofs.Names.{same_bytes}
-use Rattle.proofcheck.specs.Databases.{frame_in}
-use Rattle.proofcheck.specs.Derivation.{Checks}
+use Rattle.derivation.specs.Databases.{frame_in}
+use Rattle.derivation.specs.Derivation.{Checks}
 use Rattle.library.specs.declared.library.Ranked.{Ranked}
 use Rattle.library.specs.Library.{label_of, lower, citable, IsInExportOrder, entry_cmp}
 use Rattle.library.specs.Laws.{ExportOrderIsOne, ShownLibrariesCheck}

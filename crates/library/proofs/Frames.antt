@@ -12,8 +12,8 @@ use Rattle.mmsyntax.specs.Tables.{Tables}
 use Rattle.mmsyntax.specs.Assertions.{Distinct}
 use Rattle.mmsyntax.proofs.Names.{same_bytes, bytes_eq-same}
 use Rattle.mmsyntax.proofs.Distinct.{any_at}
-use Rattle.mmstatement.specs.Frames.{frame}
-use Rattle.proofcheck.specs.Databases.{frame_in}
+use Rattle.mmframes.specs.Frames.{frame}
+use Rattle.derivation.specs.Databases.{frame_in}
 use Rattle.library.proofs.Derivations.{Within}
 
 -- a frame that is given is that of an assertion with the label

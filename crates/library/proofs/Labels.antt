@@ -11,7 +11,7 @@ use Rattle.std.proofs.lemmas.List.Sorted.{sum_by-IsPermutation}
 use Rattle.mmsyntax.specs.Assertions.{Distinct}
 use Rattle.mmsyntax.proofs.Names.{same_bytes, bytes_eq-same, bytes_eq-sym}
 use Rattle.mmsyntax.proofs.Distinct.{or_false, any_at, any-map}
-use Rattle.proofcheck.specs.Laws.{replacing}
+use Rattle.derivation.specs.Laws.{replacing}
 use Rattle.library.proofs.Counts.{one_if, none_counted, none_from_count}
 
 -- ---- places

@@ -12,10 +12,10 @@ use Rattle.mmsyntax.specs.Tables.{Tables}
 use Rattle.mmsyntax.specs.declared.statement.Assertion.{Assertion}
 use Rattle.mmsyntax.specs.declared.statement.Frame.{Frame}
 use Rattle.mmsyntax.specs.declared.statement.Symbol.{Symbol}
-use Rattle.mmstatement.specs.Frames.{frame, occurs}
-use Rattle.proofcheck.specs.Laws.{StandsFor}
-use Rattle.proofcheck.specs.Outcomes.{same_expression}
-use Rattle.proofcheck.proofs.Decisions.{expressions-decide, pairs-decide, contains-decides}
+use Rattle.mmframes.specs.Frames.{frame, occurs}
+use Rattle.derivation.specs.Laws.{StandsFor}
+use Rattle.derivation.specs.Outcomes.{same_expression}
+use Rattle.derivation.proofs.Decisions.{expressions-decide, pairs-decide, contains-decides}
 use Rattle.library.specs.Edits.{is_alike}
 use Rattle.library.specs.LikeFrames.{SaysNoLess}
 

@@ -8,8 +8,8 @@ use Rattle.mmsyntax.specs.declared.statement.Assertion.{Assertion}
 use Rattle.mmsyntax.specs.Tables.{Contents}
 use Rattle.mmsyntax.specs.Assertions.{IsDeclarable}
 use Rattle.mmsyntax.proofs.Declarable.{declarable}
-use Rattle.proofcheck.specs.Databases.{AllCheck, frame_in}
-use Rattle.proofcheck.specs.Derivation.{Checks}
+use Rattle.derivation.specs.Databases.{AllCheck, frame_in}
+use Rattle.derivation.specs.Derivation.{Checks}
 use Rattle.library.specs.declared.library.Ranked.{Ranked}
 use Rattle.library.specs.Library.{Setting, lower, ranked_from, opening}
 use Rattle.library.specs.Laws.{OpeningsVerify}

@@ -11,10 +11,10 @@ use Rattle.mmsyntax.specs.declared.statement.Kind.TheVariants.{Axiom}
 use Rattle.mmsyntax.specs.Tables.{Tables}
 use Rattle.mmsyntax.specs.Assertions.{is_lawful_label, CitesApart, Distinct, Fits}
 use Rattle.mmsyntax.specs.Dotted.{AreApart}
-use Rattle.proofcheck.specs.Laws.{replacing, step_relabelled, renamed}
-use Rattle.proofcheck.specs.Derivation.{Proves}
-use Rattle.proofcheck.specs.Databases.{frame_in}
-use Rattle.proofcheck.proofs.Relabelling.{renamed-proves}
+use Rattle.derivation.specs.Laws.{replacing, step_relabelled, renamed}
+use Rattle.derivation.specs.Derivation.{Proves}
+use Rattle.derivation.specs.Databases.{frame_in}
+use Rattle.derivation.proofs.Relabelling.{renamed-proves}
 use Rattle.library.specs.declared.library.Ranked.{Ranked}
 use Rattle.library.specs.Library.{Setting, IsLibrary, Verifies, label_of, lower}
 use Rattle.library.specs.Edits.{rename, has, clashes, without}

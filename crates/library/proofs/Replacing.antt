@@ -11,10 +11,10 @@ use Rattle.mmsyntax.specs.declared.statement.Frame.{Frame}
 use Rattle.mmsyntax.specs.declared.statement.Step.TheVariants.{Cite}
 use Rattle.mmsyntax.specs.Assertions.{Fits}
 use Rattle.mmsyntax.proofs.Names.{same_bytes}
-use Rattle.mmstatement.specs.Frames.{frame}
-use Rattle.proofcheck.specs.Databases.{frame_in}
-use Rattle.proofcheck.specs.Laws.{StandsFor, replacing, step_relabelled}
-use Rattle.proofcheck.proofs.Relabelling.{relabelled-proves}
+use Rattle.mmframes.specs.Frames.{frame}
+use Rattle.derivation.specs.Databases.{frame_in}
+use Rattle.derivation.specs.Laws.{StandsFor, replacing, step_relabelled}
+use Rattle.derivation.proofs.Relabelling.{relabelled-proves}
 use Rattle.library.specs.declared.library.Ranked.{Ranked}
 use Rattle.library.specs.Library.{Setting, Verifies, label_of, lower, citable}
 use Rattle.library.specs.Edits.{is_axiom, found, changed, with_proof, recited, is_alike, are_alike, is_not_below, cites_not_below}

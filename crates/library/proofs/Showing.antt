@@ -20,7 +20,7 @@ use Rattle.mmsyntax.specs.Steps.{float_named}
 use Rattle.mmsyntax.specs.Assertions.{is_lawful_label, is_citable_label, Distinct, Fits, IsNameable, IsUnit, IsDeclarable}
 use Rattle.mmsyntax.specs.Dotted.{AreApart}
 use Rattle.mmsyntax.proofs.Declarable.{spelled_where_declarable}
-use Rattle.proofcheck.specs.Derivation.{Checks}
+use Rattle.derivation.specs.Derivation.{Checks}
 use Rattle.library.specs.declared.library.Ranked.{Ranked}
 use Rattle.library.specs.Library.{Setting, IsSetting, IsLibrary, Verifies, label_of, lower, citable, Listed, shown_database}
 use Rattle.library.specs.Laws.{LibrariesAreSpelled}

@@ -15,11 +15,11 @@ use Rattle.mmsyntax.specs.declared.statement.Step.TheVariants.{Float, Hyp, Cite}
 use Rattle.mmsyntax.specs.Assertions.{is_lawful_label}
 use Rattle.mmsyntax.specs.Blocks.{is_same_pair}
 use Rattle.mmsyntax.specs.Dotted.{clash}
-use Rattle.mmstatement.specs.Frames.{frame}
-use Rattle.proofcheck.specs.declared.fault.ProofFault.{ProofFault}
-use Rattle.proofcheck.specs.Derivation.{Tree}
-use Rattle.proofcheck.specs.Laws.{renamed, replacing, step_relabelled}
-use Rattle.proofcheck.specs.Outcomes.{outcome, same_expression}
+use Rattle.mmframes.specs.Frames.{frame}
+use Rattle.derivation.specs.declared.fault.ProofFault.{ProofFault}
+use Rattle.derivation.specs.Derivation.{Tree}
+use Rattle.derivation.specs.Laws.{renamed, replacing, step_relabelled}
+use Rattle.derivation.specs.Outcomes.{outcome, same_expression}
 use Rattle.library.specs.declared.library.Ranked.{Ranked}
 use Rattle.library.specs.declared.command.Command.{Command}
 use Rattle.library.specs.declared.command.Command.TheVariants as command

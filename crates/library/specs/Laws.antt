@@ -4,7 +4,7 @@ use Rattle.std.specs.Str.{bytes_eq}
 use Rattle.mmsyntax.specs.Tables.{Contents}
 use Rattle.mmsyntax.specs.Layout.{HasSpelling}
 use Rattle.mmsyntax.specs.Assertions.{Distinct}
-use Rattle.proofcheck.specs.Databases.{AllCheck}
+use Rattle.derivation.specs.Databases.{AllCheck}
 use Rattle.library.specs.declared.library.Ranked.{Ranked}
 use Rattle.library.specs.declared.command.Command.{Command}
 use Rattle.library.specs.declared.command.Reply.{Reply}

@@ -10,8 +10,8 @@ use Rattle.mmsyntax.specs.Tables.{Tables, Contents}
 use Rattle.mmsyntax.specs.Layout.{IsSoundPrelude}
 use Rattle.mmsyntax.specs.Assertions.{is_lawful_label, Distinct, Fits}
 use Rattle.mmsyntax.specs.Dotted.{AreApart}
-use Rattle.proofcheck.specs.Derivation.{Citable, Checks}
-use Rattle.proofcheck.specs.Databases.{frame_in}
+use Rattle.derivation.specs.Derivation.{Citable, Checks}
+use Rattle.derivation.specs.Databases.{frame_in}
 use Rattle.library.specs.declared.library.Ranked.{Ranked}
 
 -- what is fixed throughout: the prelude, and how many assertions a library may hold

@@ -2,7 +2,7 @@
 use Rattle.std.specs.Prelude.{ℕ, List, [], ◌∷◌, ◌++◌, codes}
 use Rattle.std.specs.Fmt.{decimal}
 use Rattle.mmtext.specs.FaultNames.{numbered_name}
-use Rattle.proofcheck.specs.FaultNames.{printed_fault}
+use Rattle.derivation.specs.FaultNames.{printed_fault}
 use Rattle.library.specs.declared.reason.Reason.{Reason}
 use Rattle.library.specs.declared.reason.Reason.TheVariants.{UnknownLabel, LabelTaken, BadLabel, BadRank, CitesUnknown, CitedNotLower}
 use Rattle.library.specs.declared.reason.Reason.TheVariants.{CiterNotHigher, StillCited, NotATheorem, AxiomNotAllowed, ProofFails}

@@ -1,11 +1,11 @@
 //! When one assertion may stand where another is cited.
 
 ghost use Rattle.std.specs.Prelude.{◌≡◌, ◌↔◌, All, Contains, IsTrue, true};
-ghost use Rattle.proofcheck.specs.Lookups.{ArePairsSorted, IsPlaceOfPair};
+ghost use Rattle.derivation.specs.Lookups.{ArePairsSorted, IsPlaceOfPair};
 ghost use Rattle.library.specs.Edits.{is_alike};
 ghost use Rattle.library.specs.LikeFrames.{SaysNoLess};
 
-use mmstatement::{Expr, Frame, Symbol};
+use mmsyntax::{Expr, Frame, Symbol};
 
 /// Whether expressions are equal.
 fn is_same(one: &[Symbol], other: &[Symbol]) -> bool

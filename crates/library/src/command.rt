@@ -6,7 +6,7 @@ ghost use Rattle.library.specs.Fitting.{CommandFits};
 ghost use Rattle.library.specs.Transactions.{has_edit, has_too_many};
 
 use crate::library::Ranked;
-use mmstatement::{
+use mmsyntax::{
     Assertion, Kind, Label, Prelude, Sequence, Step, are_citing_apart, copy_steps, fits,
 };
 use std::alloc::{AllocError, Global};

@@ -1,7 +1,7 @@
 //! Histories: what became of each number that was drawn.
 
 use crate::command::{Reply, Transaction};
-use mmstatement::Sequence;
+use mmsyntax::Sequence;
 
 /// An entry of a history.
 #[derive(Debug, Drop)]

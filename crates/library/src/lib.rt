@@ -8,6 +8,7 @@ mod laws;
 mod library;
 mod reason;
 
+pub use crate::{PlainLibrary, Ranked};
 pub use alike::is_alike;
 pub use command::{
     Command, Line, MOST_COMMANDS, Reply, Script, Transaction, copy_commands, copy_replies,
@@ -19,5 +20,4 @@ pub use laws::{
     reads_leave_the_library, replies_are_within_limits, settled_fronts_stay, shown_libraries_check,
     transactions_verify,
 };
-pub use library::{PlainLibrary, Ranked};
 pub use reason::{Reason, Refused};

@@ -3,7 +3,7 @@
 ghost use Rattle.std.specs.Prelude.{◌≡◌, IfOk};
 ghost use Rattle.library.specs.Library.{Verifies, IsInExportOrder, ShowsInOrder, entry_cmp};
 
-use mmstatement::{Assertion, Prelude, Sequence};
+use mmsyntax::{Assertion, Prelude, Sequence};
 use std::alloc::{AllocError, Global};
 use std::cmp::Ordering;
 use std::marker::Model;

@@ -2,7 +2,7 @@
 
 ghost use Rattle.std.specs.Prelude.{◌≡◌};
 
-use proofcheck::ProofFault;
+use derivation::ProofFault;
 use std::{error, fmt};
 use thiserror::Error;
 

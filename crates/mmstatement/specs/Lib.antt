@@ -1,7 +1,7 @@
-pub mod Frames
-pub mod Places
-pub mod Substitution
-pub mod SubstituteErrors
+pub use Rattle.mmframes.specs.Frames
+pub use Rattle.mmframes.specs.Places
+pub use Rattle.mmframes.specs.Substitution
+pub use Rattle.mmframes.specs.SubstituteErrors
 pub use Rattle.mmtext.specs.Words
 pub use Rattle.mmtext.specs.Text
 pub use Rattle.mmtext.specs.Languages

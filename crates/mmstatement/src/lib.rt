@@ -1,10 +1,7 @@
-//! Texts of the Metamath profile, read exactly and written back; frames and substitution.
+//! Texts of the Metamath profile, read exactly and written back; frames and substitution: the front of the crates that have them.
 #![tactic(auto)]
 
-mod frames;
-mod substitution;
-
-pub use frames::frame_of;
+pub use mmframes::{SubstituteError, frame_of, substitute};
 pub use mmreader::{read_assertion, read_database};
 pub use mmsyntax::{
     Assertion, Database, Expr, Float, Frame, Kind, Label, Name, Prelude, Sequence, Step, Symbol,
@@ -12,4 +9,3 @@ pub use mmsyntax::{
 };
 pub use mmtext::{FaultKind, TextFault};
 pub use mmwriter::{put_assertion, put_prelude, write_assertion, write_database};
-pub use substitution::{SubstituteError, substitute};

@@ -11,24 +11,24 @@ use Rattle.library.specs.Transactions.{apply}
 use Rattle.library.proofs.Editing.{apply_verifies}
 use Rattle.library.proofs.Opening.{opening_verifies}
 use Rattle.library.specs.Library.{opening}
-use Rattle.proofcheck.specs.Databases.{AllCheck}
+use Rattle.derivation.specs.Databases.{AllCheck}
 use Rattle.mmsyntax.specs.Layout.{HasSpelling}
 use Rattle.mmsyntax.specs.Tables.{Contents}
-use Rattle.cells.specs.Opening.{Opens}
-use Rattle.cells.specs.declared.plain.PlainCells.{PlainCells}
+use Rattle.plaincells.specs.Opening.{Opens}
+use Rattle.plaincells.specs.declared.plain.PlainCells.{PlainCells}
 use Rattle.cells.specs.State.{State}
 use Rattle.cells.specs.Shows.{Shows}
 use Rattle.cells.specs.Sight.{Views, Onward}
-use Rattle.cells.specs.Plain.{plain_state, undone}
-use Rattle.cells.specs.declared.plain.PlainStop.{PlainStop}
-use Rattle.cells.specs.PlainViews.{setting_of, sight_of, first_state, now_state, AreSameButLog}
+use Rattle.plaincells.specs.Plain.{plain_state, undone}
+use Rattle.plaincells.specs.declared.plain.PlainStop.{PlainStop}
+use Rattle.plaincells.specs.PlainViews.{setting_of, sight_of, first_state, now_state, AreSameButLog}
 use Rattle.mmsyntax.specs.Tables.{Tables}
 use Rattle.ranges.specs.Pairs.{Pairs}
 use Rattle.cells.proofs.Sights.{matches_back}
-use Rattle.cells.proofs.Opened.{first_matches, after_first, later_views}
-use Rattle.commands.specs.declared.ending.RunError.{RunError}
-use Rattle.commands.specs.declared.ending.RunError.TheVariants.{Stopped, Refused, NoMemory}
-use Rattle.commands.specs.Answers.{DoesAll, RefusesAll, RunAnswers}
+use Rattle.plaincells.proofs.Opened.{first_matches, after_first, later_views}
+use Rattle.cells.specs.declared.ending.RunError.{RunError}
+use Rattle.cells.specs.declared.ending.RunError.TheVariants.{Stopped, Refused, NoMemory}
+use Rattle.cells.specs.Answers.{DoesAll, RefusesAll, RunAnswers}
 use Rattle.pairs.specs.InCells.{ShowsNow, ShowsSomeNow, Applies}
 
 -- a library that is shown is one that is

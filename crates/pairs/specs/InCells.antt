@@ -5,13 +5,13 @@ use Rattle.library.specs.declared.command.Command.{Command}
 use Rattle.library.specs.declared.command.Reply.{Reply}
 use Rattle.library.specs.Library.{Verifies}
 use Rattle.library.specs.Transactions.{apply}
-use Rattle.cells.specs.declared.plain.PlainCells.{PlainCells}
-use Rattle.cells.specs.declared.plain.PlainStop.{PlainStop}
+use Rattle.plaincells.specs.declared.plain.PlainCells.{PlainCells}
+use Rattle.plaincells.specs.declared.plain.PlainStop.{PlainStop}
 use Rattle.cells.specs.Shows.{Shows}
-use Rattle.cells.specs.Plain.{ShowsSome}
-use Rattle.cells.specs.PlainViews.{setting_of, now_state}
-use Rattle.commands.specs.declared.ending.RunError.{RunError}
-use Rattle.commands.specs.declared.ending.RunError.TheVariants.{Refused}
+use Rattle.plaincells.specs.Plain.{ShowsSome}
+use Rattle.plaincells.specs.PlainViews.{setting_of, now_state}
+use Rattle.cells.specs.declared.ending.RunError.{RunError}
+use Rattle.cells.specs.declared.ending.RunError.TheVariants.{Refused}
 
 -- the cells show the library, which verifies
 pub record ShowsNow (c : PlainCells) (lib : List Ranked) : Type 0 where

@@ -3,10 +3,10 @@
 ghost use Rattle.std.specs.Prelude.{◌≡◌};
 ghost use Rattle.pairs.specs.InCells.{ShowsSomeNow};
 
-use cells::{OpenError, PlainCells, PlainStop};
 use commands::{RunError, run};
 use library::{Command, Reply};
 use mmstatement::{Database, Prelude, Sequence};
+use plaincells::{OpenError, PlainCells, PlainStop};
 use std::alloc::Global;
 
 /// A library in plain cells that verifies.
@@ -20,7 +20,7 @@ pub struct InCells {
 
 impl InCells {
     ghost use Rattle.std.specs.Prelude.{◌≡◌, ◌≤◌, All, IfOk};
-    ghost use Rattle.proofcheck.specs.Databases.{AllCheck};
+    ghost use Rattle.derivation.specs.Databases.{AllCheck};
     ghost use Rattle.library.specs.Library.{opening};
     ghost use Rattle.library.specs.Fitting.{CommandFits};
     ghost use Rattle.pairs.specs.InCells.{ShowsNow, Applies};

@@ -1,7 +1,7 @@
 //! The editor and the library in cells, side by side.
 
 ghost use Rattle.std.specs.Prelude.{◌≡◌, ◌≤◌, All, IsTrue};
-ghost use Rattle.proofcheck.specs.Databases.{AllCheck};
+ghost use Rattle.derivation.specs.Databases.{AllCheck};
 ghost use Rattle.library.specs.Fitting.{CommandFits};
 
 use crate::in_cells::InCells;

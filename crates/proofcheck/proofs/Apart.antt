@@ -11,8 +11,8 @@ use Rattle.std.proofs.lemmas.List.Elements.{Contains-get_or}
 use Rattle.mmsyntax.specs.declared.statement.Symbol.{Symbol}
 use Rattle.mmsyntax.specs.declared.statement.Symbol.TheVariants.{Var}
 use Rattle.mmsyntax.specs.Blocks.{in_order}
-use Rattle.proofcheck.specs.Derivation.{Expression, IsApart, AreApart}
-use Rattle.proofcheck.specs.Lookups.{PassesAbove}
+use Rattle.derivation.specs.Derivation.{Expression, IsApart, AreApart}
+use Rattle.derivation.specs.Lookups.{PassesAbove}
 
 -- what holds of the elements so far and of the next
 pub within_one_more : {X : Type 0} (P : X → Type 0) (xs : List X) (i : ℕ) (e : X) → i < length xs → AllWithin P xs 0 i → P (get_or xs i e)

@@ -1,17 +1,5 @@
-pub mod Plain
-pub mod Forests
-pub mod Stuck
-pub mod Nodes
 pub mod Apart
 pub mod Places
 pub mod Reports
-pub mod Relabelling
-pub mod OneFault
-pub mod OneTree
-pub mod Decisions
-pub mod Growing
-pub mod Exact
-pub mod Outcome
-pub mod Lookups
 pub mod Replaced
 pub mod Spans

@@ -7,14 +7,14 @@ use Rattle.std.proofs.lemmas.Bool.Decides.{Decides-ltb}
 use Rattle.mmsyntax.specs.Tables.{Tables}
 use Rattle.mmsyntax.specs.declared.statement.Frame.{Frame}
 use Rattle.mmsyntax.specs.declared.statement.Assertion.{Assertion}
-use Rattle.mmstatement.specs.Frames.{frame}
-use Rattle.proofcheck.specs.Databases.{frame_in, citable_at, ChecksAt, HasFaultAt}
+use Rattle.mmframes.specs.Frames.{frame}
+use Rattle.derivation.specs.Databases.{frame_in, citable_at, ChecksAt, HasFaultAt}
 use Rattle.proofcheck.specs.Reports.{place_from, frame_below, first_of_two}
-use Rattle.proofcheck.specs.Derivation.{Citable, Checks}
-use Rattle.proofcheck.specs.Faults.{HasProofFault}
-use Rattle.proofcheck.specs.declared.fault.ProofFault.{ProofFault}
+use Rattle.derivation.specs.Derivation.{Citable, Checks}
+use Rattle.derivation.specs.Faults.{HasProofFault}
+use Rattle.derivation.specs.declared.fault.ProofFault.{ProofFault}
 use Rattle.mmsyntax.specs.Tables.{Contents}
-use Rattle.proofcheck.proofs.Plain.{at_seam}
+use Rattle.derivation.proofs.Plain.{at_seam}
 
 pub place_from-push : (n : ℕ) (label : List ℕ) (xs : List Assertion) (a : Assertion)
     → place_from n label (xs ++ a ∷ []) ≡ first_of_two (place_from n label xs)

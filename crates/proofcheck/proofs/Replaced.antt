@@ -9,11 +9,11 @@ use Rattle.std.proofs.lemmas.List.Kept.{Contains-dedup_nat, Contains-from_dedup}
 use Rattle.std.proofs.lemmas.List.Sorted.{Contains-permutation, IsPermutation-sym}
 use Rattle.mmsyntax.specs.declared.statement.Symbol.{Symbol}
 use Rattle.mmsyntax.specs.declared.statement.Symbol.TheVariants.{Var}
-use Rattle.mmstatement.specs.Substitution.{replacement, subst}
-use Rattle.proofcheck.specs.Derivation.{Expression, substitution}
-use Rattle.mmstatement.specs.Places.{IsFirstPlace, IsPlaceOf}
-use Rattle.mmstatement.proofs.Places.{place-of as first-place-of}
-use Rattle.proofcheck.specs.Lookups.{AreVariablesOf}
+use Rattle.mmframes.specs.Substitution.{replacement, subst}
+use Rattle.derivation.specs.Derivation.{Expression, substitution}
+use Rattle.mmframes.specs.Places.{IsFirstPlace, IsPlaceOf}
+use Rattle.mmframes.proofs.Places.{place-of as first-place-of}
+use Rattle.derivation.specs.Lookups.{AreVariablesOf}
 
 -- where the numbers ascend, the first that isn't below n is where n would be
 pub halved-found : (xs : List ℕ) (n i : ℕ) → IsPartitionPoint (λ y. ltb y n ≡ true) (λ y. ltb y n ≡ false) xs i → i < length xs

@@ -6,9 +6,9 @@ use Rattle.std.specs.List.{AllZip, range_with_len}
 use Rattle.std.proofs.lemmas.Option.{slice_get_within}
 use Rattle.std.proofs.lemmas.Bool.{ltb-true, ltb-false}
 use Rattle.mmsyntax.specs.Tables.{Contents}
-use Rattle.proofcheck.specs.declared.fault.ProofFault.{ProofFault}
-use Rattle.proofcheck.specs.declared.fault.ProofFaultKind.TheVariants.{NoMemory}
-use Rattle.proofcheck.specs.Databases.{ChecksAt, IsFirstFault, AllCheck}
+use Rattle.derivation.specs.declared.fault.ProofFault.{ProofFault}
+use Rattle.derivation.specs.declared.fault.ProofFaultKind.TheVariants.{NoMemory}
+use Rattle.derivation.specs.Databases.{ChecksAt, IsFirstFault, AllCheck}
 use Rattle.proofcheck.specs.Reports.{FoundAmong, FoundInLane, earlier, earliest}
 
 module _ (db : Contents) where

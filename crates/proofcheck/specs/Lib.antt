@@ -1,10 +1,3 @@
-pub mod Derivation
-pub mod Faults
-pub mod FaultNames
-pub mod Databases
-pub mod Laws
-pub mod Outcomes
-pub mod Moves
+pub mod Conclusions
 pub mod Spans
 pub mod Reports
-pub mod Lookups

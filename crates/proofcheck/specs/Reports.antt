@@ -5,9 +5,9 @@ use Rattle.std.specs.Str.{bytes_eq}
 use Rattle.mmsyntax.specs.declared.statement.Frame.{Frame}
 use Rattle.mmsyntax.specs.declared.statement.Assertion.{Assertion}
 use Rattle.mmsyntax.specs.Tables.{Contents}
-use Rattle.proofcheck.specs.declared.fault.ProofFault.{ProofFault}
-use Rattle.proofcheck.specs.declared.fault.ProofFaultKind.TheVariants.{NoMemory}
-use Rattle.proofcheck.specs.Databases.{ChecksAt, HasFaultAt}
+use Rattle.derivation.specs.declared.fault.ProofFault.{ProofFault}
+use Rattle.derivation.specs.declared.fault.ProofFaultKind.TheVariants.{NoMemory}
+use Rattle.derivation.specs.Databases.{ChecksAt, HasFaultAt}
 
 -- the place of the first of the assertions that has the label, where the first of all has the place n
 abbrev pub place_from : ℕ → List ℕ → List Assertion → Option ℕ

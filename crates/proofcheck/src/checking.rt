@@ -3,17 +3,17 @@
 //! The steps are taken in order over a stack of what their trees derive. No definition knows the stack: contracts speak of trees.
 
 ghost use Rattle.std.specs.Prelude.{◌≡◌, ◌≢◌, ◌↔◌, [], ◌∷◌, IsTrue, IfOk, OnOk, IfErr, MatchResult};
-ghost use Rattle.proofcheck.specs.Derivation.{Proves, Checks};
-ghost use Rattle.proofcheck.specs.Faults.{StepFails, EndFails, HasFault, HasProofFault};
-ghost use Rattle.proofcheck.specs.Moves.{Moves, GivesOnLast, FailsOnLast};
+ghost use Rattle.derivation.specs.Derivation.{Proves, Checks};
+ghost use Rattle.derivation.specs.Faults.{StepFails, EndFails, HasFault, HasProofFault};
+ghost use Rattle.derivation.specs.Moves.{Moves, GivesOnLast, FailsOnLast};
 
-use crate::fault::{ProofFault, ProofFaultKind};
 use crate::frames::Frames;
 use crate::node::node;
 use crate::stack::Stack;
 use crate::substitutes::Conclusion;
 use crate::thesis::Thesis;
-use mmstatement::{Assertion, Expr, Frame, Kind, Prelude, Step, Symbol};
+use derivation::{ProofFault, ProofFaultKind};
+use mmsyntax::{Assertion, Expr, Frame, Kind, Prelude, Step, Symbol};
 use std::alloc::Global;
 
 /// Puts what a citation of the frame gives in the place of the last expressions, which it takes.

@@ -2,15 +2,16 @@
 
 ghost use Rattle.std.specs.Prelude.{◌≡◌, ◌≢◌, ◌<◌, ℕ, None, map, IfOk, OnOk, IfErr, MatchResult, length};
 ghost use Rattle.std.specs.List.{AllZip, range_with_len};
-ghost use Rattle.mmstatement.specs.Frames.{frame};
-ghost use Rattle.proofcheck.specs.Databases.{AllCheck, ChecksAt, HasFaultAt, IsFirstFault};
+ghost use Rattle.mmframes.specs.Frames.{frame};
+ghost use Rattle.derivation.specs.Databases.{AllCheck, ChecksAt, HasFaultAt, IsFirstFault};
 ghost use Rattle.proofcheck.specs.Reports.{FoundInLane, earlier, earliest};
 
 use crate::checking::check;
 use crate::earlier::Earlier;
-use crate::fault::{ProofFault, ProofFaultKind};
 use crate::labels::Places;
-use mmstatement::{Assertion, Database, Frame, Prelude, frame_of};
+use derivation::{ProofFault, ProofFaultKind};
+use mmframes::frame_of;
+use mmsyntax::{Assertion, Database, Frame, Prelude};
 use rayon::prelude::*;
 use std::alloc::{AllocError, Global};
 use std::thread::Threads;

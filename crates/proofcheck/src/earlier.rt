@@ -4,7 +4,7 @@ ghost use Rattle.proofcheck.specs.Reports.{frame_below, place_from};
 
 use crate::frames::Frames;
 use crate::labels::Places;
-use mmstatement::{Frame, Label};
+use mmsyntax::{Frame, Label};
 
 /// The assertions before one of a database: the frames of all, and the place that their labels have to stay below.
 #[derive(Drop)]

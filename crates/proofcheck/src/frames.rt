@@ -4,7 +4,7 @@ ghost use Rattle.std.specs.Prelude.{◌≡◌, List, ℕ, Option};
 ghost use Rattle.std.specs.Option.{option_copied};
 ghost use Rattle.mmsyntax.specs.declared.statement.Frame.{Frame};
 
-use mmstatement::{Frame, Label};
+use mmsyntax::{Frame, Label};
 
 /// Assertions that may be cited, each seen as its frame.
 pub trait Frames {

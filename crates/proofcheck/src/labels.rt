@@ -5,7 +5,7 @@ ghost use Rattle.std.specs.HashMap.{get_by};
 ghost use Rattle.std.specs.Str.{bytes_eq};
 ghost use Rattle.proofcheck.specs.Reports.{first_of_two, place_from, IsHint};
 
-use mmstatement::Assertion;
+use mmsyntax::Assertion;
 use std::alloc::{AllocError, Global};
 use std::collections::HashMap;
 use std::hash::{BuildHasher, FoldHasher, Hasher, RandomState};

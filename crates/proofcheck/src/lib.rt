@@ -8,10 +8,8 @@
 mod checking;
 mod databases;
 mod earlier;
-mod fault;
 mod frames;
 mod labels;
-pub mod laws;
 mod node;
 mod pairs;
 mod stack;
@@ -20,5 +18,5 @@ mod thesis;
 
 pub use checking::check;
 pub use databases::check_all;
-pub use fault::{ProofFault, ProofFaultKind};
+pub use derivation::{ProofFault, ProofFaultKind, laws};
 pub use frames::Frames;

@@ -1,16 +1,16 @@
 //! The tests of a citation: what a frame asks of the expressions of its mandatory hypotheses.
 
 ghost use Rattle.std.specs.Prelude.{◌≡◌, ◌≢◌, ◌↔◌, ◌≤◌, IsTrue, IfOk, IfErr, length};
-ghost use Rattle.proofcheck.specs.Derivation.{Gives, HasType, HaveTypes, arity};
-ghost use Rattle.proofcheck.specs.Faults.{FailsTest};
-ghost use Rattle.proofcheck.specs.Moves.{concluded};
+ghost use Rattle.derivation.specs.Derivation.{Gives, HasType, HaveTypes, arity};
+ghost use Rattle.derivation.specs.Faults.{FailsTest};
+ghost use Rattle.proofcheck.specs.Conclusions.{concluded};
 
-use crate::fault::ProofFaultKind;
 use crate::pairs::pairs_fit;
 use crate::stack::Args;
 use crate::substitutes::{Conclusion, Substitution, are_substituted, conclude};
 use crate::thesis::Thesis;
-use mmstatement::{Frame, Prelude, Symbol};
+use derivation::ProofFaultKind;
+use mmsyntax::{Frame, Prelude, Symbol};
 use std::alloc::Global;
 
 /// Whether an expression begins with the type of the `$f` at a place.

@@ -2,13 +2,13 @@
 
 ghost use Rattle.std.specs.Prelude.{◌≡◌, ◌↔◌, ◌⊎◌, ℕ, IsTrue, IfOk, OnOk, MatchOption, All, Contains};
 ghost use Rattle.std.specs.List.{AllZip};
-ghost use Rattle.mmstatement.specs.Substitution.{replacement};
-ghost use Rattle.proofcheck.specs.Derivation.{AreApart, IsApart};
-ghost use Rattle.proofcheck.specs.Lookups.{AreVariablesOf, PassesAbove};
+ghost use Rattle.mmframes.specs.Substitution.{replacement};
+ghost use Rattle.derivation.specs.Derivation.{AreApart, IsApart};
+ghost use Rattle.derivation.specs.Lookups.{AreVariablesOf, PassesAbove};
 
 use crate::substitutes::Substitution;
 use crate::thesis::Thesis;
-use mmstatement::Symbol;
+use mmsyntax::Symbol;
 use std::alloc::{AllocError, Global};
 use std::slice;
 

@@ -3,7 +3,7 @@
 ghost use Rattle.std.specs.Prelude.{◌≡◌, ◌-◌, ◌<◌, ◌≤◌, ◌++◌, ◌∷◌, [], OnOk, length, take, drop, slice_index_or};
 ghost use Rattle.proofcheck.specs.Spans.{start};
 
-use mmstatement::Symbol;
+use mmsyntax::Symbol;
 use std::alloc::{AllocError, Global};
 use std::marker::Model;
 

@@ -2,13 +2,14 @@
 
 ghost use Rattle.std.specs.Prelude.{◌≡◌, ◌↔◌, ◌∷◌, ◌++◌, ◌+◌, [], ◌≤◌, ◌<◌, ℕ, IsTrue, IfOk, OnOk, IfErr, length, map, drop, true};
 ghost use Rattle.std.specs.List.Sorted.{IsNonDecreasing};
-ghost use Rattle.mmstatement.specs.Substitution.{subst};
-ghost use Rattle.mmstatement.specs.Places.{IsFirstPlace};
-ghost use Rattle.proofcheck.specs.Moves.{IsTooLongOrNoMemory, concluded};
+ghost use Rattle.mmframes.specs.Substitution.{subst};
+ghost use Rattle.mmframes.specs.Places.{IsFirstPlace};
+ghost use Rattle.derivation.specs.Moves.{IsTooLongOrNoMemory};
+ghost use Rattle.proofcheck.specs.Conclusions.{concluded};
 
-use crate::fault::ProofFaultKind;
 use crate::stack::Args;
-use mmstatement::{Expr, Symbol};
+use derivation::ProofFaultKind;
+use mmsyntax::{Expr, Symbol};
 use std::alloc::AllocError;
 use std::marker::Model;
 use std::slice;
@@ -64,7 +65,7 @@ impl<'a> Model for Substitution<'a> {
     ghost use Rattle.std.specs.Prelude.{◌≡◌, ◌≤◌, ℕ, List, true, length};
     ghost use Rattle.std.specs.List.Sorted.{IsNonDecreasing};
     ghost use Rattle.mmsyntax.specs.declared.statement.Symbol.{Symbol};
-    ghost use Rattle.proofcheck.specs.Derivation.{substitution};
+    ghost use Rattle.derivation.specs.Derivation.{substitution};
 
     ghost Value = { List (ℕ × List Symbol) };
 
@@ -76,8 +77,8 @@ impl<'a> Model for Substitution<'a> {
 impl<'a> Substitution<'a> {
     ghost use Rattle.std.specs.Prelude.{◌≡◌, ◌≤◌, ◌<◌, ℕ, List, length, slice_index_or};
     ghost use Rattle.mmsyntax.specs.declared.statement.Symbol.{Symbol};
-    ghost use Rattle.proofcheck.specs.Derivation.{substitution};
-    ghost use Rattle.mmstatement.specs.Places.{IsPlaceOf};
+    ghost use Rattle.derivation.specs.Derivation.{substitution};
+    ghost use Rattle.mmframes.specs.Places.{IsPlaceOf};
 
     /// The substitution of an expression for each `$f`. The `$f` are gone through once.
     pub(crate) fn new(floats: &'a [u32], args: &'a Args<'a>) -> Substitution<'a>

@@ -1,9 +1,9 @@
 //! The assertion being proved, made ready for look-ups of its restricted pairs.
 
 ghost use Rattle.std.specs.Prelude.{◌≡◌, ◌<◌, IfSome, length, slice_index_or};
-ghost use Rattle.proofcheck.specs.Lookups.{IsPlaceOfPair};
+ghost use Rattle.derivation.specs.Lookups.{IsPlaceOfPair};
 
-use mmstatement::Assertion;
+use mmsyntax::Assertion;
 use std::marker::Model;
 
 /// How many pairs are looked at before all are.
@@ -20,7 +20,7 @@ pub(crate) struct Thesis<'a> {
 impl<'a> Model for Thesis<'a> {
     ghost use Rattle.std.specs.Prelude.{◌≡◌, true};
     ghost use Rattle.mmsyntax.specs.declared.statement.Assertion.{Assertion};
-    ghost use Rattle.proofcheck.specs.Lookups.{ArePairsSorted};
+    ghost use Rattle.derivation.specs.Lookups.{ArePairsSorted};
 
     ghost Value = { Assertion };
 

@@ -7,8 +7,8 @@ use Rattle.mmsyntax.specs.Grammar.{Spells, SpellsUnit}
 use Rattle.mmsyntax.specs.Faults.{FaultyDatabase, FaultyUnit}
 use Rattle.mmsyntax.specs.Layout.{text_of, assertion_text}
 use Rattle.mmsyntax.specs.Assertions.{Fits}
-use Rattle.proofcheck.specs.declared.fault.ProofFaultKind.TheVariants.{NoMemory as NoMemoryOfProof}
-use Rattle.proofcheck.specs.Databases.{AllCheck, IsFirstFault}
+use Rattle.derivation.specs.declared.fault.ProofFaultKind.TheVariants.{NoMemory as NoMemoryOfProof}
+use Rattle.derivation.specs.Databases.{AllCheck, IsFirstFault}
 use Rattle.jobs.specs.declared.job.Fault.TheVariants.{NoMemory as NoMemoryOfJob}
 use Rattle.jobs.specs.Jobs.{IsRun, IsRunFault, IsRunLack, IsReplay, IsReplayFault, library_lines}
 use Rattle.rows.specs.declared.answer.Answer.{Answer}

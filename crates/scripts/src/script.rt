@@ -22,8 +22,8 @@ pub use command_rows::{
 };
 use library::{Command, Script, Transaction};
 use mmreader::Recent;
-use mmstatement::{FaultKind, Prelude, Sequence, TextFault};
-use mmtext::{Mark, Reader, Stop, Token, fault_at, no_memory, read_text};
+use mmsyntax::{Prelude, Sequence};
+use mmtext::{FaultKind, Mark, Reader, Stop, TextFault, Token, fault_at, no_memory, read_text};
 pub use numerals::is_numeral;
 use place::{Place, ScriptReader};
 pub use place::{CommandPlace, Led};

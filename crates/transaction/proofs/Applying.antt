@@ -8,7 +8,7 @@ use Rattle.library.specs.declared.reason.Refused.{Refused as Refusal}
 use Rattle.library.specs.Library.{Setting}
 use Rattle.library.specs.Fitting.{CommandFits}
 use Rattle.cells.specs.Sight.{Onward}
-use Rattle.commands.specs.Answers.{has_staging, DoesAll, RefusesAll}
+use Rattle.cells.specs.Answers.{has_staging, DoesAll, RefusesAll}
 use Rattle.tlwords.specs.declared.mode.Mode.{Mode}
 use Rattle.lawful.specs.declared.notes.Given.{Given}
 use Rattle.lawful.specs.Lawful.{setting_of}

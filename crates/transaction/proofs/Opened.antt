@@ -8,15 +8,15 @@ use Rattle.std.proofs.lemmas.List.Elements.{All-nil, All-map}
 use Rattle.std.proofs.lemmas.Simd.{map-map}
 use Rattle.mmsyntax.specs.Tables.{Contents}
 use Rattle.mmsyntax.specs.Layout.{HasSpelling}
-use Rattle.proofcheck.specs.Databases.{AllCheck}
+use Rattle.derivation.specs.Databases.{AllCheck}
 use Rattle.library.specs.Library.{Verifies, opening, setting_over}
 use Rattle.library.proofs.Opening.{opening_verifies}
 use Rattle.ranges.specs.Ranges.{Range, ranges_named}
 use Rattle.bodystore.specs.Stages.{Staged, AreStaged}
 use Rattle.cells.specs.Slots.{is_ranged}
 use Rattle.cells.specs.State.{most_words}
-use Rattle.cells.specs.declared.plain.PlainCells.{PlainCells}
-use Rattle.cells.specs.Opening.{Opens as CellsOpen}
+use Rattle.plaincells.specs.declared.plain.PlainCells.{PlainCells}
+use Rattle.plaincells.specs.Opening.{Opens as CellsOpen}
 use Rattle.tlwords.specs.declared.words.Words.{Words}
 use Rattle.tlwords.specs.Terms.{AreNamed}
 use Rattle.tlwords.specs.Callers.{home_of}

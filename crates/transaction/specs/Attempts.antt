@@ -6,7 +6,7 @@ use Rattle.library.specs.declared.command.Reply.{Reply}
 use Rattle.library.specs.declared.reason.Refused.{Refused as Refusal}
 use Rattle.library.specs.Histories.{void_entry}
 use Rattle.library.specs.Transactions.{has_edit, has_too_many}
-use Rattle.commands.specs.Answers.{has_staging}
+use Rattle.cells.specs.Answers.{has_staging}
 use Rattle.tlcore.specs.History.{WasWritten}
 use Rattle.tlwords.specs.Seen.{Work, Call, Committed as CommittedCall, Answered}
 use Rattle.tlwords.specs.Known.{Known}

@@ -2,13 +2,13 @@
 use Rattle.std.specs.Prelude.{◌≡◌, ◌≢◌, ◌<◌, ◌≤◌, ◌^◌, Some, List, [], length, All, Result, Ok, Err, map, Vec}
 use Rattle.std.specs.declared.alloc.Global.{Global}
 use Rattle.mmsyntax.specs.Tables.{Tables, Contents}
-use Rattle.proofcheck.specs.declared.fault.ProofFaultKind.TheVariants as fault
-use Rattle.proofcheck.specs.Databases.{AllCheck, IsFirstFault}
+use Rattle.derivation.specs.declared.fault.ProofFaultKind.TheVariants as fault
+use Rattle.derivation.specs.Databases.{AllCheck, IsFirstFault}
 use Rattle.ranges.specs.Ranges.{ranges_named}
 use Rattle.cells.specs.Slots.{is_ranged}
-use Rattle.cells.specs.declared.opening.OpenError.{OpenError as CellsError}
-use Rattle.cells.specs.declared.opening.OpenError.TheVariants as cells
-use Rattle.cells.specs.Measures.{bodies_length}
+use Rattle.plaincells.specs.declared.opening.OpenError.{OpenError as CellsError}
+use Rattle.plaincells.specs.declared.opening.OpenError.TheVariants as cells
+use Rattle.plaincells.specs.Measures.{bodies_length}
 use Rattle.tlwords.specs.Known.{Known}
 use Rattle.tlwords.specs.Calls.{new_pass}
 use Rattle.tlwords.specs.Runs.{down}

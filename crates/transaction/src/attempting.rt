@@ -3,7 +3,7 @@
 ghost use Rattle.std.specs.Prelude.{◌≡◌, ◌≢◌, [], true, false, All, IfOk};
 ghost use Rattle.library.specs.Fitting.{CommandFits};
 ghost use Rattle.library.specs.Transactions.{has_edit};
-ghost use Rattle.commands.specs.Answers.{has_staging};
+ghost use Rattle.cells.specs.Answers.{has_staging};
 ghost use Rattle.tlwords.specs.Commits.{writes_kept};
 ghost use Rattle.tlwords.specs.declared.mode.Mode.TheVariants.{Reading};
 ghost use Rattle.lawful.specs.Laws.{IsPassOn};
@@ -19,7 +19,7 @@ use crate::session::{Kit, Session};
 use commands::{RunError, has_staging, run};
 use lawful::Note;
 use library::{Refused, Reply, Transaction, copy_commands, copy_replies, has_edit, has_too_many};
-use mmstatement::Sequence;
+use mmsyntax::Sequence;
 use std::alloc::{AllocError, Global};
 use std::snapshot::Snapshot;
 use tlwords::Mode;

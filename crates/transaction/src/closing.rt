@@ -8,7 +8,7 @@ use crate::outcome::Record;
 use crate::running::Library;
 use crate::session::Session;
 use lawful::{Given, LibraryLaw};
-use mmstatement::Prelude;
+use mmsyntax::Prelude;
 use std::alloc::{AllocError, Global};
 use tlwords::{ClosedWords, Pass, close};
 

@@ -1,7 +1,7 @@
 //! Opens libraries in running words.
 
 ghost use Rattle.std.specs.Prelude.{◌≡◌, ◌≢◌, ◌↔◌, ◌≤◌, [], length, IsTrue, IfOk, IfErr, OnOk, All};
-ghost use Rattle.proofcheck.specs.Databases.{AllCheck};
+ghost use Rattle.derivation.specs.Databases.{AllCheck};
 ghost use Rattle.tlwords.specs.Known.{Knows};
 ghost use Rattle.lawful.specs.Lawful.{library_terms};
 ghost use Rattle.lawful.specs.Laws.{IsPassOn};
@@ -11,10 +11,11 @@ use crate::running::Library;
 use crate::session::{Kit, Session};
 use crate::shape::{OpenError, Shape};
 use bodystore::Stage;
-use cells::PlainCells;
+use derivation::ProofFaultKind;
 use lawful::{Given, LibraryLaw};
-use mmstatement::Database;
-use proofcheck::{ProofFaultKind, check_all};
+use mmsyntax::Database;
+use plaincells::PlainCells;
+use proofcheck::check_all;
 use std::alloc::{AllocError, Global};
 use std::hash::RandomState;
 use std::snapshot::Snapshot;

@@ -1,7 +1,7 @@
 //! What becomes of a transaction, and of a number that it drew.
 
 use library::{PlainLibrary, Refused, Reply, Transaction};
-use mmstatement::Sequence;
+use mmsyntax::Sequence;
 
 /// Where a try met another session.
 #[derive(Clone, Copy, Debug, PartialEq, Eq)]

@@ -1,7 +1,7 @@
 //! A library in running words.
 
 use lawful::{Given, LibraryLaw};
-use mmstatement::Prelude;
+use mmsyntax::Prelude;
 use std::marker::Model;
 use tlwords::Words;
 

@@ -1,6 +1,6 @@
 //! How a library is laid out, and why it is not opened.
 
-use proofcheck::ProofFault;
+use derivation::ProofFault;
 use std::alloc::AllocError;
 use thiserror::Error;
 

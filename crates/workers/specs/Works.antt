@@ -9,7 +9,7 @@ use Rattle.library.specs.Library.{Setting}
 use Rattle.library.specs.Agrees.{Agrees, committed, read, refused}
 use Rattle.library.specs.Histories.{Entry, done_entry}
 use Rattle.library.specs.Transactions.{has_edit, has_too_many}
-use Rattle.commands.specs.Answers.{has_staging}
+use Rattle.cells.specs.Answers.{has_staging}
 use Rattle.claims.specs.Claims.{up_to}
 use Rattle.lawful.specs.declared.notes.Given.{Given}
 use Rattle.lawful.specs.Lawful.{setting_of, first_library}

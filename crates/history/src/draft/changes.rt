@@ -1,7 +1,7 @@
 //! The changes of a library that can be taken back: what is put in a place, noted with what stood there.
 
 ghost use Rattle.std.specs.Prelude.{◌≡◌, ◌∷◌, ◌++◌, [], false, length, set, Some, None, slice_get, IfOk, OnOk};
-ghost use Rattle.mmstatement.specs.Frames.{frame};
+ghost use Rattle.mmframes.specs.Frames.{frame};
 ghost use Rattle.library.specs.declared.library.Ranked.{Ranked};
 ghost use Rattle.library.specs.Library.{label_of};
 ghost use Rattle.library.specs.Edits.{has};
@@ -13,7 +13,7 @@ use super::Draft;
 use crate::citers::{enter, enter_citer};
 use crate::notes::Note;
 use library::Ranked;
-use mmstatement::{Frame, Step};
+use mmsyntax::{Frame, Step};
 use std::alloc::{AllocError, Global};
 use std::mem;
 

@@ -25,7 +25,8 @@ use crate::testing::{
     cites, cites_not_below, cites_unknown, count_citers, has_citer_below, proof_fault,
 };
 use library::{Command, Ranked, Reason, Refused, Reply, is_alike};
-use mmstatement::{Assertion, Kind, Label, Sequence, Step, copy_steps, frame_of, is_lawful_label};
+use mmframes::frame_of;
+use mmsyntax::{Assertion, Kind, Label, Sequence, Step, copy_steps, is_lawful_label};
 use std::alloc::{AllocError, Global};
 
 impl Draft {

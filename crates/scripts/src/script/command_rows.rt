@@ -16,9 +16,9 @@ use super::numerals::{hypothesis_place, is_numeral};
 use super::place::{CommandPlace, Led};
 use library::Command;
 use mmreader::{Recent, UnitProgress, UnitReader, named_step, recalled_named_step};
-use mmstatement::{FaultKind, Label, Prelude, Sequence, Step};
 use mmsyntax::numeral::number;
-use mmtext::{Mark, Stop, Token, contains_dollar, fault_at, mark_word};
+use mmsyntax::{Label, Prelude, Sequence, Step};
+use mmtext::{FaultKind, Mark, Stop, Token, contains_dollar, fault_at, mark_word};
 use std::alloc::{AllocError, Global};
 
 /// A label: a word without `$`.

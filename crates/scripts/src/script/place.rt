@@ -2,7 +2,7 @@
 
 use library::{Command, Transaction};
 use mmreader::{Recent, UnitReader};
-use mmstatement::{Label, Prelude, Step};
+use mmsyntax::{Label, Prelude, Step};
 
 /// What was read of the command in which a token stands.
 #[derive(Drop)]

@@ -9,7 +9,7 @@ use Rattle.cells.specs.Filling.{IsFillable}
 use Rattle.cells.proofs.Sights.{onward_trans}
 use Rattle.cells.proofs.Settings.{same_slots}
 use Rattle.cells.proofs.Laying.{ok_mapped}
-use Rattle.commands.specs.Answers.{CommandAnswers}
+use Rattle.cells.specs.Answers.{CommandAnswers}
 use Rattle.commands.specs.Naming.{PassesAsNew, TellsNotNew}
 use Rattle.commands.proofs.Refusing.{answers_refused}
 use Rattle.commands.proofs.Added.{add_unlabelled, add_axiom, add_refused, add_full, add_done, MayTest}

@@ -4,7 +4,7 @@ use Rattle.cells.specs.State.{State, HasBody}
 use Rattle.cells.specs.Slots.{name_cell}
 use Rattle.cells.specs.Sight.{Matches, after}
 use Rattle.cells.proofs.Sights.{onward_trans}
-use Rattle.commands.specs.Answers.{WritesSome}
+use Rattle.cells.specs.Answers.{WritesSome}
 use Rattle.commands.specs.Changes.{RenamesAt}
 use Rattle.commands.proofs.Chaining.{TakesOut, PutsIn}
 use Rattle.commands.proofs.Results.{if_ok_always}

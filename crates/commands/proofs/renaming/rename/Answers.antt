@@ -6,7 +6,7 @@ use Rattle.cells.specs.Sight.{Sight}
 use Rattle.cells.specs.Lookups.{Finds}
 use Rattle.cells.proofs.Sights.{onward_trans}
 use Rattle.cells.proofs.Laying.{ok_mapped}
-use Rattle.commands.specs.Answers.{CommandAnswers}
+use Rattle.cells.specs.Answers.{CommandAnswers}
 use Rattle.commands.specs.Naming.{PassesAsNew, TellsNotNew}
 use Rattle.commands.proofs.Refusing.{refused, answers_refused}
 use Rattle.commands.proofs.Relabelling.{rename_unknown, rename_unlabelled, renamed}

@@ -1,5 +1,5 @@
 use Rattle.std.proofs.Common.{◌≡◌, ap, ◌∙◌}
-use Rattle.mmstatement.specs.Frames.{frame}
+use Rattle.mmframes.specs.Frames.{frame}
 use Rattle.library.specs.Edits.{is_alike}
 use Rattle.cells.proofs.ReadBack.{held_later}
 use Rattle.cells.proofs.Sights.{looks_trans}

@@ -9,7 +9,7 @@ use Rattle.cells.specs.Filling.{AreCitedSlots}
 use Rattle.cells.proofs.Sights.{onward_trans}
 use Rattle.cells.proofs.Laying.{if_mapped, ok_mapped}
 use Rattle.ranges.proofs.Members.{all_from_has}
-use Rattle.commands.specs.Answers.{WritesSome}
+use Rattle.cells.specs.Answers.{WritesSome}
 use Rattle.commands.specs.Changes.{ReprovesAt}
 use Rattle.commands.proofs.Removing.{CountsOutOf}
 use Rattle.commands.proofs.Restepping.{CountsInOf, restepped}

@@ -7,7 +7,7 @@ use Rattle.mmsyntax.specs.Tables.{Tables}
 use Rattle.library.specs.declared.command.Command.{Command}
 use Rattle.library.specs.Fitting.{CommandFits}
 use Rattle.cells.proofs.Sights.{onward_refl, onward_trans}
-use Rattle.commands.specs.Answers.{DoesAll, RunAnswers, error_at}
+use Rattle.cells.specs.Answers.{DoesAll, RunAnswers, error_at}
 use Rattle.commands.proofs.Transactions.{does_none, does_more, ends}
 use Rattle.commands.proofs.running.run.Goals as goal
 

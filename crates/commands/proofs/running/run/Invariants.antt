@@ -1,6 +1,6 @@
 use Rattle.std.proofs.Common.{take}
 use Rattle.cells.specs.Sight.{Onward}
-use Rattle.commands.specs.Answers.{DoesAll}
+use Rattle.cells.specs.Answers.{DoesAll}
 use Rattle.commands.proofs.running.run.Given as goal
 
 abbrev pub invariant-loop-done : goal.invariant-loop-done

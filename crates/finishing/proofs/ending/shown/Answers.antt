@@ -2,7 +2,7 @@ use Rattle.std.proofs.Common.{◌≡◌, ◌*◌, ◌∙◌, ap, sym, subst, Lis
 use Rattle.library.specs.Library.{Setting, Verifies}
 use Rattle.tlwords.specs.declared.closing.ClosedCell.{ClosedCell}
 use Rattle.tlwords.specs.declared.closing.ClosedWords.{ClosedWords}
-use Rattle.cells.specs.PlainViews.{ShowNamed, AreOfWords}
+use Rattle.plaincells.specs.PlainViews.{ShowNamed, AreOfWords}
 use Rattle.finishing.specs.Shown.{values_of}
 use Rattle.finishing.proofs.Looked.{prelude_is, looked_verifies, looked_in_order}
 use Rattle.finishing.proofs.ending.shown.Goals as goal

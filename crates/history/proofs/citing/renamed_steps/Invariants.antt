@@ -1,5 +1,5 @@
 use Rattle.std.proofs.Common.{◌≡◌, map, take}
-use Rattle.proofcheck.specs.Laws.{replacing, step_relabelled}
+use Rattle.derivation.specs.Laws.{replacing, step_relabelled}
 use Rattle.history.proofs.citing.renamed_steps.Given as goal
 
 abbrev pub invariant-loop-step : goal.invariant-loop-step

@@ -1,5 +1,5 @@
 use Rattle.std.proofs.Common.{◌≡◌, map, take}
-use Rattle.mmstatement.specs.Frames.{frame}
+use Rattle.mmframes.specs.Frames.{frame}
 use Rattle.history.proofs.places.open_frames.Given as goal
 
 abbrev pub invariant-loop-assertion : goal.invariant-loop-assertion

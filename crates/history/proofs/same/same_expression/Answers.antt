@@ -1,5 +1,5 @@
 use Rattle.std.proofs.lemmas.Slice.Eq.{slice_eq-Decides}
-use Rattle.proofcheck.proofs.Nodes.{symbol_decides}
+use Rattle.derivation.proofs.Nodes.{symbol_decides}
 use Rattle.history.proofs.same.same_expression.Goals as goal
 
 pub returns : goal.returns

@@ -1,6 +1,6 @@
 use Rattle.std.proofs.Common.{subst, sym}
 use Rattle.std.proofs.lemmas.Result.{err_from_is_err_and}
-use Rattle.proofcheck.specs.Databases.{AllCheck}
+use Rattle.derivation.specs.Databases.{AllCheck}
 use Rattle.jobs.proofs.JobFaults.{short_text, text_faulted, text_memory, text_refused, proof_of_database, database_refused}
 use Rattle.jobs.proofs.JobFaults.{database_faultless}
 use Rattle.jobs.proofs.performing.read_and_check.Goals as goal

@@ -1,6 +1,6 @@
 use Rattle.std.proofs.Common.{◌≤◌, ◌<◌, length, subst, arith}
 use Rattle.mmsyntax.proofs.Declarable.{declarable}
-use Rattle.proofcheck.proofs.Exact.{first-excludes}
+use Rattle.derivation.proofs.Exact.{first-excludes}
 use Rattle.transaction.specs.declared.shape.OpenError.TheVariants.{TooMany, ProofFails}
 use Rattle.transaction.specs.Openings.{Refuses}
 use Rattle.jobs.specs.Parts.{shape_with}

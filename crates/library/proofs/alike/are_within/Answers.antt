@@ -4,7 +4,7 @@ use Rattle.std.specs.Option.{is_some}
 use Rattle.std.proofs.Math.Seq.{drop-cons}
 use Rattle.std.proofs.lemmas.List.{drop_all}
 use Rattle.std.proofs.lemmas.List.Elements.{All-cons, All-nil, All-tail}
-use Rattle.proofcheck.specs.Lookups.{IsPlaceOfPair}
+use Rattle.derivation.specs.Lookups.{IsPlaceOfPair}
 use Rattle.library.proofs.alike.are_within.Goals as goal
 
 -- a pair that has a place is there

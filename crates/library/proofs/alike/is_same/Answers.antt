@@ -1,6 +1,6 @@
 -- What is left to show of `is_same`.
 use Rattle.std.proofs.lemmas.Slice.Eq.{slice_eq-Decides}
-use Rattle.proofcheck.proofs.Nodes.{symbol_decides}
+use Rattle.derivation.proofs.Nodes.{symbol_decides}
 use Rattle.library.proofs.alike.is_same.Goals as goal
 
 pub returns : goal.returns

@@ -1,5 +1,5 @@
 -- What is left to show of `place_of`.
-use Rattle.proofcheck.proofs.Lookups.{pair-searched}
+use Rattle.derivation.proofs.Lookups.{pair-searched}
 use Rattle.library.proofs.alike.place_of.Goals as goal
 
 pub returns-then-ascend : goal.returns-then-ascend

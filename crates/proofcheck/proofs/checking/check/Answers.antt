@@ -1,4 +1,4 @@
-use Rattle.proofcheck.proofs.Exact.{proved-answered, fault-answered}
+use Rattle.derivation.proofs.Exact.{proved-answered, fault-answered}
 use Rattle.proofcheck.proofs.checking.check.Goals as goal
 
 pub returns-in-Theorem-clause-proved : goal.returns-in-Theorem-clause-proved

@@ -1,8 +1,8 @@
 use Rattle.std.proofs.Common.{◌≡◌, ◌+◌, length, take, [], ◌∷◌, ◌++◌, refl, sym, ap, ◌∙◌}
 use Rattle.std.proofs.lemmas.List.{take_more, take_all}
 use Rattle.std.proofs.lemmas.Option.{slice_get_read}
-use Rattle.proofcheck.proofs.Forests.{Runs-more}
-use Rattle.proofcheck.proofs.Stuck.{step-fault, end-fault, proved}
+use Rattle.derivation.proofs.Forests.{Runs-more}
+use Rattle.derivation.proofs.Stuck.{step-fault, end-fault, proved}
 use Rattle.proofcheck.proofs.checking.check_steps.Goals as goal
 
 pub returns-in-Err-clause-fault : goal.returns-in-Err-clause-fault

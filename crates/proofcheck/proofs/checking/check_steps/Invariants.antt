@@ -1,5 +1,5 @@
 use Rattle.std.proofs.Common.{take, []}
-use Rattle.proofcheck.proofs.Forests.{Runs}
+use Rattle.derivation.proofs.Forests.{Runs}
 use Rattle.proofcheck.proofs.checking.check_steps.Given as goal
 
 abbrev pub invariant-loop-done : goal.invariant-loop-done

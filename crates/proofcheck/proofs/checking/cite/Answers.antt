@@ -1,8 +1,8 @@
 use Rattle.std.proofs.Common.{◌≡◌, ◌-◌, ◌+◌, ◌≤◌, length, drop, ap, ◌∙◌, arith}
 use Rattle.std.proofs.lemmas.Result.{err_from_is_err_and}
-use Rattle.proofcheck.specs.Derivation.{arity}
-use Rattle.proofcheck.specs.Faults.{last}
-use Rattle.proofcheck.proofs.Nodes.{FailsOnLast-test}
+use Rattle.derivation.specs.Derivation.{arity}
+use Rattle.derivation.specs.Faults.{last}
+use Rattle.derivation.proofs.Nodes.{FailsOnLast-test}
 use Rattle.proofcheck.proofs.checking.cite.Goals as goal
 
 pub returns-in_err-conclusion-clause-err : goal.returns-in_err-conclusion-clause-err

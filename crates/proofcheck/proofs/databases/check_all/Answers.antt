@@ -1,7 +1,7 @@
 use Rattle.std.proofs.Common.{◌≡◌, None, Some, sym, ap, ◌∙◌}
 use Rattle.proofcheck.specs.Reports.{earliest}
 use Rattle.proofcheck.proofs.Reports.{none-found, found-first}
-use Rattle.proofcheck.proofs.Exact.{only-memory, first-excludes, first-is-one}
+use Rattle.derivation.proofs.Exact.{only-memory, first-excludes, first-is-one}
 use Rattle.proofcheck.proofs.databases.check_all.Goals as goal
 
 pub returns-in-None-clause-yes : goal.returns-in-None-clause-yes

@@ -1,8 +1,8 @@
 use Rattle.std.proofs.Common.{◌≡◌, List, ℕ, refl}
 use Rattle.std.proofs.lemmas.Option.{slice_get_read}
 use Rattle.std.proofs.lemmas.Result.{on_ok_weaker, IfErr-weaker}
-use Rattle.proofcheck.specs.Derivation.{Citable}
-use Rattle.proofcheck.specs.Databases.{citable_at}
+use Rattle.derivation.specs.Derivation.{Citable}
+use Rattle.derivation.specs.Databases.{citable_at}
 use Rattle.proofcheck.specs.Reports.{frame_below, place_from}
 use Rattle.proofcheck.proofs.Places.{below-cited, checks-at, fault-at}
 use Rattle.proofcheck.proofs.databases.check_at.Goals as goal

@@ -1,5 +1,5 @@
 use Rattle.std.proofs.Common.{◌≡◌, ℕ, ◌%◌, ◌<◌, ◌-◌}
-use Rattle.proofcheck.specs.Databases.{ChecksAt}
+use Rattle.derivation.specs.Databases.{ChecksAt}
 use Rattle.proofcheck.proofs.databases.check_lane.Given as goal
 
 abbrev pub invariant-loop-place : goal.invariant-loop-place

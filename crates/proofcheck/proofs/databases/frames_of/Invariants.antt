@@ -1,5 +1,5 @@
 use Rattle.std.proofs.Common.{◌≡◌, take, map}
-use Rattle.mmstatement.specs.Frames.{frame}
+use Rattle.mmframes.specs.Frames.{frame}
 use Rattle.proofcheck.proofs.databases.frames_of.Given as goal
 
 abbrev pub invariant-loop-assertion : goal.invariant-loop-assertion

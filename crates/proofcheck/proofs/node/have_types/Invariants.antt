@@ -1,5 +1,5 @@
 use Rattle.std.proofs.Common.{◌↔◌, drop}
-use Rattle.proofcheck.specs.Derivation.{HaveTypes}
+use Rattle.derivation.specs.Derivation.{HaveTypes}
 use Rattle.proofcheck.proofs.node.have_types.Given as goal
 
 abbrev pub invariant-loop-i : goal.invariant-loop-i

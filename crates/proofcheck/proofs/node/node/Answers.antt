@@ -1,6 +1,6 @@
 use Rattle.std.proofs.Common.{sym, ◌∙◌}
 use Rattle.std.proofs.lemmas.Result.{IfOk-weaker, IfErr-weaker}
-use Rattle.proofcheck.proofs.Nodes.{too-long-only}
+use Rattle.derivation.proofs.Nodes.{too-long-only}
 use Rattle.proofcheck.proofs.node.node.Goals as goal
 
 pub returns-then-not-branch-clause-err : goal.returns-then-not-branch-clause-err

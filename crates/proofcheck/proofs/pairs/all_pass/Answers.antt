@@ -1,6 +1,6 @@
 use Rattle.std.proofs.Common.{sym, ◌∙◌}
 use Rattle.std.specs.List.{All}
-use Rattle.proofcheck.specs.Lookups.{PassesAbove}
+use Rattle.derivation.specs.Lookups.{PassesAbove}
 use Rattle.proofcheck.proofs.Apart.{within_one_more}
 use Rattle.proofcheck.proofs.pairs.all_pass.Goals as goal
 

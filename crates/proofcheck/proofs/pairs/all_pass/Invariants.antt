@@ -1,5 +1,5 @@
 use Rattle.std.specs.List.{AllWithin, All}
-use Rattle.proofcheck.specs.Lookups.{PassesAbove}
+use Rattle.derivation.specs.Lookups.{PassesAbove}
 use Rattle.proofcheck.proofs.pairs.all_pass.Given as goal
 
 abbrev pub invariant-loop-u : goal.invariant-loop-u

@@ -1,5 +1,5 @@
-use Rattle.mmstatement.specs.Substitution.{replacement}
-use Rattle.proofcheck.specs.Derivation.{AreApart}
+use Rattle.mmframes.specs.Substitution.{replacement}
+use Rattle.derivation.specs.Derivation.{AreApart}
 use Rattle.proofcheck.proofs.Apart.{within_one_more}
 use Rattle.proofcheck.proofs.pairs.pairs_fit.Goals as goal
 

@@ -1,6 +1,6 @@
 use Rattle.std.specs.List.{AllWithin}
-use Rattle.mmstatement.specs.Substitution.{replacement}
-use Rattle.proofcheck.specs.Derivation.{AreApart}
+use Rattle.mmframes.specs.Substitution.{replacement}
+use Rattle.derivation.specs.Derivation.{AreApart}
 use Rattle.proofcheck.proofs.pairs.pairs_fit.Given as goal
 
 abbrev pub invariant-loop-pair : goal.invariant-loop-pair

@@ -1,5 +1,5 @@
 use Rattle.std.specs.List.{AllWithin}
-use Rattle.proofcheck.specs.Lookups.{PassesAbove}
+use Rattle.derivation.specs.Lookups.{PassesAbove}
 use Rattle.proofcheck.proofs.pairs.passes_each.Given as goal
 
 abbrev pub invariant-loop-v : goal.invariant-loop-v

@@ -2,7 +2,7 @@ use Rattle.std.proofs.Common.{◌<◌, [], length, arith}
 use Rattle.std.proofs.lemmas.List.{take_more}
 use Rattle.std.proofs.lemmas.Slice.Zip.{all_zipped_more}
 use Rattle.std.proofs.Common.{get_or, take}
-use Rattle.proofcheck.specs.Lookups.{AreVariablesOf}
+use Rattle.derivation.specs.Lookups.{AreVariablesOf}
 use Rattle.proofcheck.proofs.pairs.variables_of_each.Goals as goal
 
 pub loop-place-preserved : goal.loop-place-preserved

@@ -1,6 +1,6 @@
 use Rattle.std.proofs.Common.{take}
 use Rattle.std.specs.List.{AllZip}
-use Rattle.proofcheck.specs.Lookups.{AreVariablesOf}
+use Rattle.derivation.specs.Lookups.{AreVariablesOf}
 use Rattle.proofcheck.proofs.pairs.variables_of_each.Given as goal
 
 abbrev pub invariant-loop-place : goal.invariant-loop-place

@@ -1,5 +1,5 @@
 use Rattle.std.proofs.Common.{◌≡◌, ◌↔◌, drop, map}
-use Rattle.mmstatement.specs.Substitution.{subst}
+use Rattle.mmframes.specs.Substitution.{subst}
 use Rattle.proofcheck.proofs.substitutes.are_substituted.Given as goal
 
 abbrev pub invariant-loop-i : goal.invariant-loop-i

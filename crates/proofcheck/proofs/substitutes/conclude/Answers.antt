@@ -1,5 +1,5 @@
 use Rattle.std.proofs.Common.{◌≡◌, length, sym, arith}
-use Rattle.proofcheck.proofs.Nodes.{subst-none}
+use Rattle.derivation.proofs.Nodes.{subst-none}
 use Rattle.proofcheck.proofs.substitutes.conclude.Goals as goal
 
 pub returns-then-symbols-gt-MOST_SYMBOLS-clause-kinds : goal.returns-then-symbols-gt-MOST_SYMBOLS-clause-kinds

@@ -1,7 +1,7 @@
 use Rattle.std.proofs.lemmas.Option.{MatchOption-at_some, MatchOption-at_none}
 use Rattle.std.proofs.lemmas.Slice.Eq.{strip_prefix_is}
 use Rattle.mmsyntax.specs.declared.statement.Symbol.TheVariants.{Const}
-use Rattle.proofcheck.proofs.Nodes.{subst-drop, symbol_decides, piece-matches, piece-fails}
+use Rattle.derivation.proofs.Nodes.{subst-drop, symbol_decides, piece-matches, piece-fails}
 use Rattle.proofcheck.proofs.substitutes.is_substituted.Goals as goal
 
 pub returns-in-None : goal.returns-in-None

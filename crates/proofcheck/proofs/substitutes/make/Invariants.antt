@@ -1,5 +1,5 @@
 use Rattle.std.proofs.Common.{◌≡◌, ◌++◌, ◌≤◌, drop, length}
-use Rattle.mmstatement.specs.Substitution.{subst}
+use Rattle.mmframes.specs.Substitution.{subst}
 use Rattle.proofcheck.proofs.substitutes.make.Given as goal
 
 abbrev pub invariant-loop-symbol : goal.invariant-loop-symbol

@@ -1,5 +1,5 @@
 use Rattle.std.proofs.Common.{◌-◌, take, drop, refl}
-use Rattle.proofcheck.proofs.Lookups.{found-near}
+use Rattle.derivation.proofs.Lookups.{found-near}
 use Rattle.proofcheck.proofs.thesis.place_near.Goals as goal
 
 pub returns-in-Ok : goal.returns-in-Ok

@@ -1,5 +1,5 @@
 use Rattle.std.proofs.Common.{◌≡◌, length, map, sym, ap, subst, ◌∙◌}
-use Rattle.mmstatement.specs.Frames.{frame}
+use Rattle.mmframes.specs.Frames.{frame}
 use Rattle.library.specs.Library.{ranked_from}
 use Rattle.history.specs.Entries.{living, standing, AreFramed}
 use Rattle.history.specs.Citers.{Covers}

@@ -5,7 +5,7 @@ use Rattle.std.proofs.lemmas.List.{length-set}
 use Rattle.std.proofs.lemmas.Option.{slice_get_within, slice_get_read}
 use Rattle.mmsyntax.proofs.Names.{after_update}
 use Rattle.mmsyntax.specs.declared.statement.Frame.{Frame}
-use Rattle.mmstatement.specs.Frames.{frame}
+use Rattle.mmframes.specs.Frames.{frame}
 use Rattle.library.specs.declared.library.Ranked.{Ranked}
 use Rattle.library.specs.Library.{label_of}
 use Rattle.library.specs.Edits.{has}

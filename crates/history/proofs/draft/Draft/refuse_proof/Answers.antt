@@ -3,7 +3,7 @@ use Rattle.std.specs.List.{list_any}
 use Rattle.std.specs.Option.{option_map}
 use Rattle.mmsyntax.specs.declared.statement.Step.{Step}
 use Rattle.mmsyntax.specs.declared.statement.Assertion.{Assertion}
-use Rattle.proofcheck.specs.declared.fault.ProofFault.{ProofFault}
+use Rattle.derivation.specs.declared.fault.ProofFault.{ProofFault}
 use Rattle.library.specs.declared.reason.Reason.{Reason}
 use Rattle.library.specs.declared.reason.Reason.TheVariants as reason
 use Rattle.library.specs.Library.{Setting}

@@ -1,7 +1,7 @@
 use Rattle.std.proofs.Common.{◌≡◌, ℕ, List, Some, false, Ok, set, refl, sym, ap, subst, ◌∙◌}
 use Rattle.std.specs.List.{slice_get, Contains}
 use Rattle.std.proofs.lemmas.Option.{slice_get_within}
-use Rattle.mmstatement.specs.Frames.{frame}
+use Rattle.mmframes.specs.Frames.{frame}
 use Rattle.library.specs.declared.library.Ranked.{Ranked}
 use Rattle.library.specs.Edits.{has, done, rename_tests}
 use Rattle.history.specs.Entries.{living, StandsIn}

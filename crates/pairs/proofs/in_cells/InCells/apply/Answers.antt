@@ -2,7 +2,7 @@ use Rattle.std.proofs.Common.{All, sym, ap, subst, ◌∙◌, refl}
 use Rattle.mmsyntax.specs.Tables.{Tables}
 use Rattle.library.specs.Fitting.{CommandFits}
 use Rattle.library.specs.Library.{Setting}
-use Rattle.cells.specs.PlainViews.{sight_of}
+use Rattle.plaincells.specs.PlainViews.{sight_of}
 use Rattle.commands.proofs.Allowed.{may_do_all}
 use Rattle.pairs.proofs.Plain.{done_shows, done_shows_some, begun_shows, kept_shows, ended_tells}
 use Rattle.pairs.proofs.in_cells.InCells.apply.Goals as goal

@@ -1,6 +1,6 @@
 use Rattle.std.proofs.Common.{◌≡◌, ap, ◌∙◌}
-use Rattle.proofcheck.specs.Lookups.{ArePairsSorted}
-use Rattle.proofcheck.proofs.Lookups.{pair-searched}
+use Rattle.derivation.specs.Lookups.{ArePairsSorted}
+use Rattle.derivation.proofs.Lookups.{pair-searched}
 use Rattle.proofcheck.proofs.thesis.Thesis.place_of.Goals as goal
 
 pub returns-then-self : goal.returns-then-self

@@ -1,6 +1,0 @@
-use Rattle.std.proofs.Common.{◌≡◌, ◌+◌, take}
-use Rattle.cells.specs.Measures.{bodies_length}
-use Rattle.cells.proofs.opening.fit_into.Given as goal
-
-abbrev pub invariant-loop-assertion : goal.invariant-loop-assertion
-invariant-loop-assertion l = l.left + bodies_length (take l.assertion-index l.assertions) ≡ l.room

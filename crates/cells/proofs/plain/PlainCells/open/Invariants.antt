@@ -1,5 +1,0 @@
-use Rattle.cells.specs.Opening.{Opens, front}
-use Rattle.cells.proofs.plain.PlainCells.open.Given as goal
-
-abbrev pub invariant-loop-slot : goal.invariant-loop-slot
-invariant-loop-slot l = Opens (front l.slot l.database) l.slots l.room l.cells

@@ -1,0 +1,12 @@
+pub mod Plain
+pub mod Forests
+pub mod Stuck
+pub mod Nodes
+pub mod Relabelling
+pub mod OneFault
+pub mod OneTree
+pub mod Decisions
+pub mod Growing
+pub mod Exact
+pub mod Outcome
+pub mod Lookups

@@ -1,4 +1,0 @@
-mod Covers
-mod DoneNumbers
-mod Told
-mod Leaving

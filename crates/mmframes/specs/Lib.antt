@@ -1,0 +1,4 @@
+pub mod Frames
+pub mod Places
+pub mod Substitution
+pub mod SubstituteErrors

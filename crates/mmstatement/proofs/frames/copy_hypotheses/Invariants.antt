@@ -1,5 +1,0 @@
-use Rattle.std.proofs.Common.{◌≡◌, take}
-use Rattle.mmstatement.proofs.frames.copy_hypotheses.Given as goal
-
-abbrev pub invariant-loop-hyp : goal.invariant-loop-hyp
-invariant-loop-hyp l = l.made.items ≡ take l.hyp-index l.hyps

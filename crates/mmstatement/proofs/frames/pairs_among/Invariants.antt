@@ -1,7 +1,0 @@
-use Rattle.std.proofs.Common.{◌≡◌, ◌&&◌, take}
-use Rattle.std.specs.Prelude.{filter}
-use Rattle.mmstatement.proofs.Mandatory.{has}
-use Rattle.mmstatement.proofs.frames.pairs_among.Given as goal
-
-abbrev pub invariant-loop-pair : goal.invariant-loop-pair
-invariant-loop-pair l = l.found.items ≡ filter (λ q. has q.0 l.floats && has q.1 l.floats) (take l.pair-index l.pairs)

@@ -1,0 +1,11 @@
+pub mod Logs
+pub mod Numbered
+pub mod Stores
+pub mod Widened
+pub mod PlainSights
+pub mod Empty
+pub mod Lengths
+pub mod Fronts
+pub mod Opened
+pub mod Naming
+pub mod OfWords

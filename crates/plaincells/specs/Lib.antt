@@ -1,0 +1,5 @@
+pub mod Plain
+pub mod PlainViews
+pub mod Measures
+pub mod Opening
+pub mod Reasons

@@ -1,0 +1,34 @@
+-- What opening a database in plain cells gives, and when it is refused.
+use Rattle.std.specs.Prelude.{◌≡◌, ◌<◌, ◌≤◌, ℕ, suc, List, [], ◌∷◌, length, take}
+use Rattle.mmsyntax.specs.Tables.{Contents}
+use Rattle.library.specs.declared.library.Ranked.{Ranked}
+use Rattle.library.specs.Library.{opening}
+use Rattle.plaincells.specs.declared.opening.OpenError.{OpenError}
+use Rattle.plaincells.specs.declared.opening.OpenError.TheVariants.{TooMany, StoreFull, NoMemory}
+use Rattle.plaincells.specs.declared.plain.PlainCells.{PlainCells}
+use Rattle.plaincells.specs.PlainViews.{now_state}
+use Rattle.plaincells.specs.Measures.{bodies_length}
+use Rattle.cells.specs.Shows.{Held, ShowsHeld}
+
+-- assertions, each with a slot: the slots from the slot i on, in order
+abbrev pub held_from : ℕ → List Ranked → List Held
+held_from i [] = []
+held_from i (e ∷ es) = record { slot = i; entry = e } ∷ held_from (suc i) es
+
+-- the cells show the opening library, the assertion k in the slot k, both counted from 0; and nothing was written since
+pub record Opens (db : Contents) (slots room : ℕ) (made : PlainCells) : Type 0 where
+  pub prelude : made.prelude ≡ db.prelude
+  pub slots_are : made.slots ≡ slots
+  pub room_is : made.room ≡ room
+  pub kept : made.log.items ≡ []
+  pub shows : ShowsHeld slots (now_state made) (opening db) (held_from 0 (opening db))
+
+-- the prelude, with the first so many assertions
+abbrev pub front : ℕ → Contents → Contents
+front k db = record db { assertions = take k db.assertions }
+
+-- more assertions than slots; or bodies of more words than the room
+abbrev pub Refuses : Contents → ℕ → ℕ → OpenError → Type 0
+Refuses db slots room TooMany = slots < length db.assertions
+Refuses db slots room StoreFull = (length db.assertions ≤ slots) × (room < bodies_length db.assertions)
+Refuses db slots room NoMemory = (length db.assertions ≤ slots) × (bodies_length db.assertions ≤ room)

@@ -1,0 +1,305 @@
+//! Cells and a store on plain vectors, for one thread.
+
+ghost use Rattle.std.specs.Prelude.{◌≡◌, ◌≢◌, ◌≤◌, ◌<◌, ◌*◌, ◌+◌, ◌++◌, ◌↔◌, [], ◌∷◌, length, slice_index, is_ok, true, if◌then◌else◌, IfOk, IfErr, IsErrOf, IsOkUnless};
+ghost use Rattle.cells.specs.Sight.{Looks, Reads, Stages};
+ghost use Rattle.cells.specs.Slots.{cell_count};
+ghost use Rattle.plaincells.specs.Plain.{undone, ranges_in, ShowsSome, BeganWithSome, HoldNames, LieInStore, IsLogOf, AreNamedBy, behind, with_place};
+
+use cells::{Cells, is_range_cell};
+use mmsyntax::Prelude;
+use ranges::Range;
+use std::alloc::{AllocError, Global};
+use thiserror::Error;
+
+/// Why a run over plain cells is stopped.
+#[derive(Clone, Copy, Debug, PartialEq, Eq, Error)]
+pub enum PlainStop {
+    /// The store has no room for the words.
+    #[error("the store has no room for the words")]
+    StoreFull,
+    /// Memory ran out.
+    #[error("out of memory")]
+    NoMemory,
+}
+
+impl PlainStop {
+    ghost use Rattle.plaincells.specs.Reasons.{stop_number_of, stop_name_of};
+
+    /// The number of the reason, from 1 to 2.
+    pub fn number(self) -> u32
+        ensures { result ≡ stop_number_of self }
+    {
+        match self {
+            PlainStop::StoreFull => 1,
+            PlainStop::NoMemory => 2,
+        }
+    }
+
+    /// The name of the reason.
+    pub fn name(self) -> &'static str
+        ensures { result.now ≡ stop_name_of self }
+    {
+        match self {
+            PlainStop::StoreFull => "StoreFull",
+            PlainStop::NoMemory => "NoMemory",
+        }
+    }
+}
+
+/// A library in cells, and the store of its bodies, on plain vectors.
+///
+/// What a run writes stands in the cells at once; `undo` gives back what they held when the run began, and `keep` begins another.
+#[derive(Drop)]
+pub struct PlainCells {
+    prelude: Prelude,
+    slots: usize,
+    room: usize,
+    values: Vec<u64>,
+    // each cell that this run read, with what it held then
+    log: Vec<(usize, u64)>,
+    store: Vec<u64>,
+    ranges: Vec<Range>,
+    ghost some: { 1 ≤ slots },
+    ghost few: { slots ≤ 4096 },
+    ghost long: { length values.items ≡ 7 * slots },
+    ghost roomy: { room ≤ 16777216 },
+    ghost stored: { length store.items ≤ room },
+    ghost logged: { IsLogOf (7 * slots) log.items },
+    ghost lie: { LieInStore store.items ranges.items },
+    ghost names: { HoldNames slots values.items (ranges_in store.items ranges.items) },
+    ghost began_with_names: { HoldNames slots (undone values.items log.items) (ranges_in store.items ranges.items) },
+    ghost began: { ∥ BeganWithSome (record { prelude = prelude; slots = slots }) room values.items log.items store.items ranges.items ∥₁ },
+}
+
+impl PlainCells {
+    ghost use Rattle.plaincells.specs.PlainViews.{setting_of, AreBlank, AreOfWords, ShowNamed, AreSameButLog, AreSameButValues};
+
+    /// The cells of a library without assertions, over a prelude, with a store that has room for so many words.
+    ///
+    /// # Errors
+    ///
+    /// Want of memory.
+    pub fn empty(
+        alloc: Global,
+        prelude: Prelude,
+        slots: usize,
+        room: usize,
+    ) -> Result<PlainCells, AllocError>
+        requires some { 1 ≤ slots }
+        requires few { slots ≤ 4096 }
+        requires roomy { room ≤ 16777216 }
+        ensures { IfOk result (λ made. AreBlank prelude slots room made) }
+    {
+        Ok(PlainCells {
+            prelude,
+            slots,
+            room,
+            values: vec![in alloc; 0; 7 * slots]?,
+            log: Vec::new(alloc),
+            store: Vec::new(alloc),
+            ranges: Vec::new(alloc),
+        })
+    }
+
+    /// The cells of a library that these values show, with a store of just these words, which has room for no more.
+    ///
+    /// # Errors
+    ///
+    /// Want of memory.
+    pub fn of_words(
+        alloc: Global,
+        prelude: Prelude,
+        slots: usize,
+        values: Vec<u64>,
+        store: Vec<u64>,
+    ) -> Result<PlainCells, AllocError>
+        requires some { 1 ≤ slots }
+        requires few { slots ≤ 4096 }
+        requires long { length values.items ≡ 7 * slots }
+        requires roomy { length store.items ≤ 16777216 }
+        requires shows { ShowNamed (record { prelude = prelude; slots = slots }) values.items store.items }
+        ensures { IfOk result (λ made. AreOfWords prelude slots values.items store.items made) }
+    {
+        let ranges = named_ranges(alloc, slots, values.as_slice())?;
+        Ok(PlainCells {
+            prelude,
+            slots,
+            room: store.len(),
+            values,
+            log: Vec::new(alloc),
+            store,
+            ranges,
+        })
+    }
+
+    /// The prelude of the library's assertions.
+    pub fn prelude(&self) -> &Prelude
+        ensures { result.now ≡ self.now.prelude }
+    {
+        &self.prelude
+    }
+
+    /// The prelude of the library's assertions. The cells are gone then.
+    pub fn into_prelude(self) -> Prelude
+        ensures { result ≡ self.prelude }
+    {
+        let PlainCells {
+            prelude,
+            slots: _,
+            room: _,
+            values: _,
+            log: _,
+            store: _,
+            ranges: _,
+        } = self;
+        prelude
+    }
+
+    /// How many words of the store are taken.
+    pub fn taken(&self) -> usize
+        ensures { result ≡ length self.now.store.items }
+    {
+        self.store.len()
+    }
+
+    /// The value of a cell as it stands now, whoever wrote it.
+    pub fn value(&self, cell: usize) -> u64
+        requires { cell < 7 * self.now.slots }
+        ensures { result ≡ slice_index self.now.values.items cell }
+    {
+        self.values[cell]
+    }
+
+    /// The values of all cells as they stand now, whoever wrote them.
+    pub fn values(&self) -> &[u64]
+        ensures { result.now ≡ self.now.values.items }
+    {
+        self.values.as_slice()
+    }
+
+    /// The words of the store that are taken.
+    pub fn store(&self) -> &[u64]
+        ensures { result.now ≡ self.now.store.items }
+    {
+        self.store.as_slice()
+    }
+
+    /// Keeps what this run wrote, and begins another.
+    pub fn keep(&mut self)
+        requires { ∥ ShowsSome (setting_of self.old) self.old.values.items self.old.store.items self.old.ranges.items ∥₁ }
+        ensures log { self.new.log.items ≡ [] }
+        ensures same { AreSameButLog self.old self.new }
+    {
+        self.log.clear();
+    }
+
+    /// Gives each cell the value that it had when this run began, and begins another. What was staged stays in the store.
+    pub fn undo(&mut self)
+        ensures log { self.new.log.items ≡ [] }
+        ensures values { self.new.values.items ≡ undone self.old.values.items self.old.log.items }
+        ensures same { AreSameButValues self.old self.new }
+    {
+        give_back(self.values.as_mut_slice(), &mut self.log);
+    }
+}
+
+/// The ranges that the range cells name which have these values, once for each cell that names one.
+fn named_ranges(alloc: Global, slots: usize, values: &[u64]) -> Result<Vec<Range>, AllocError>
+    requires { slots ≤ 4096 }
+    ensures { IfOk result (λ ranges. AreNamedBy slots values.now (length values.now) ranges.items) }
+{
+    let mut ranges = Vec::new(alloc);
+    for (cell, &value) in values.iter().enumerate() {
+        if is_range_cell(slots, cell) && value != 0 {
+            ranges.push(Range::named(value))?;
+        }
+    }
+    Ok(ranges)
+}
+
+/// Gives each cell of a log the value that it had before, the last first. The log is empty then.
+fn give_back(values: &mut [u64], log: &mut Vec<(usize, u64)>)
+    requires { IsLogOf (length values.old) log.old.items }
+    ensures log { log.new.items ≡ [] }
+    ensures values { values.new ≡ undone values.old log.old.items }
+{
+    while let Some((cell, value)) = log.pop() {
+        values[cell] = value;
+    }
+}
+
+/// Puts words behind those of a store, and their range behind the others. Both stay as they are where memory runs out.
+fn put_behind(
+    store: &mut Vec<u64>,
+    ranges: &mut Vec<Range>,
+    words: &[u64],
+) -> Result<Range, AllocError>
+    ensures range { IfOk result (λ range. range ≡ behind store.old.items words.now) }
+    ensures store { store.new.items ≡ (if is_ok result then store.old.items ++ words.now else store.old.items) }
+    ensures ranges { ranges.new.items ≡ with_place (is_ok result) ranges.old.items (behind store.old.items words.now) }
+{
+    let range = Range {
+        start: store.len(),
+        len: words.len(),
+    };
+    ranges.reserve(1)?;
+    store.extend_from_slice(words)?;
+    ranges.push_reserved(range);
+    Ok(range)
+}
+
+impl Cells for PlainCells {
+    ghost use mathlib.Core.Logic.{∥∥₁_map};
+    ghost use Rattle.plaincells.specs.PlainViews.{sight_of, first_state};
+
+    type Stop = PlainStop;
+
+    type Origin = ();
+
+    ghost sight = { sight_of };
+
+    fn slots(&self) -> usize {
+        self.slots
+    }
+
+    // the trait's clauses, and why it is stopped
+    fn read(&mut self, cell: usize) -> Result<u64, PlainStop>
+        requires { cell < cell_count (sight_of self.old).setting.slots }
+        ensures ok { IfOk result (λ v. Reads cell v (sight_of self.old) (sight_of self.new)) }
+        ensures err { IfErr result (λ _. Looks (sight_of self.old) (sight_of self.new)) }
+        ensures memory { IsOkUnless result PlainStop.NoMemory }
+    {
+        let value = self.values[cell];
+        match self.log.push((cell, value)) {
+            Ok(()) => Ok(value),
+            Err(_) => Err(PlainStop::NoMemory),
+        }
+    }
+
+    fn write(&mut self, cell: usize, value: u64) {
+        self.values[cell] = value;
+    }
+
+    fn load(&mut self, range: Range, index: usize) -> u64 {
+        self.store[range.start + index]
+    }
+
+    // the trait's clauses, and when the store is full
+    fn stage(&mut self, words: &[u64]) -> Result<Range, PlainStop>
+        requires may { (sight_of self.old).may_stage ≡ true }
+        requires some { words.now ≢ [] }
+        ensures ok { IfOk result (λ range. Stages words.now range (sight_of self.old) (sight_of self.new)) }
+        ensures err { IfErr result (λ _. Looks (sight_of self.old) (sight_of self.new)) }
+        ensures full { IsErrOf result PlainStop.StoreFull ↔ (self.old.room < length self.old.store.items + length words.now) }
+    {
+        if words.len() > self.room - self.store.len() {
+            return Err(PlainStop::StoreFull);
+        }
+        match put_behind(&mut self.store, &mut self.ranges, words) {
+            Ok(range) => Ok(range),
+            Err(_) => Err(PlainStop::NoMemory),
+        }
+    }
+
+    ghost grounded = { λ c. ∥∥₁_map c.began (λ b. (first_state c, b.0, b.1)) };
+}
