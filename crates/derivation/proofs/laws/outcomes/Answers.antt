@@ -1,7 +1,7 @@
 -- The laws of outcomes are lemmas.
-use Rattle.proofcheck.proofs.Growing.{outcome-alike}
-use Rattle.proofcheck.proofs.Outcome.{outcome-is, outcome-is-one}
-use Rattle.proofcheck.proofs.laws.outcomes.Goals as goal
+use Rattle.derivation.proofs.Growing.{outcome-alike}
+use Rattle.derivation.proofs.Outcome.{outcome-is, outcome-is-one}
+use Rattle.derivation.proofs.laws.outcomes.Goals as goal
 
 pub returns-clause-one : goal.returns-clause-one
 returns-clause-one c = outcome-is-one
