@@ -13,7 +13,7 @@ mod places;
 mod reading;
 mod words;
 
-pub use crate::Cells;
+pub use cells::Cells;
 pub use chains::{put_in, take_out};
 pub use counts::{cited_slots, count_in, count_out};
 pub use ending::{CommandError, RunError};

@@ -8,7 +8,6 @@ mod laws;
 mod library;
 mod reason;
 
-pub use crate::{PlainLibrary, Ranked};
 pub use alike::is_alike;
 pub use command::{
     Command, Line, MOST_COMMANDS, Reply, Script, Transaction, copy_commands, copy_replies,
@@ -20,4 +19,5 @@ pub use laws::{
     reads_leave_the_library, replies_are_within_limits, settled_fronts_stay, shown_libraries_check,
     transactions_verify,
 };
+pub use library::{PlainLibrary, Ranked};
 pub use reason::{Reason, Refused};
