@@ -2,7 +2,6 @@
 use Rattle.std.proofs.Common.{◌≡◌, ℕ, ◌⊎◌, List, [], ◌∷◌, ◌++◌, Option, None, Some, length, set, take, drop}
 use Rattle.std.proofs.Common.{arith, refl, sym, ap, subst, ◌∙◌, inl, inr}
 use Rattle.std.specs.List.{slice_get}
-use Rattle.std.specs.Map.{lookup}
 use Rattle.std.specs.Str.{bytes_eq}
 use Rattle.std.specs.Option.{IsSome}
 use Rattle.std.proofs.lemmas.List.{length-set, length-append, map-append, take-append-le, take_all}
@@ -15,11 +14,11 @@ use Rattle.mmstatement.specs.Frames.{frame}
 use Rattle.library.specs.declared.library.Ranked.{Ranked}
 use Rattle.library.specs.Library.{label_of}
 use Rattle.catalog.specs.declared.notes.Note.{Note}
-use Rattle.catalog.specs.Entries.{Entries, living, StandsIn, AreFramed}
+use Rattle.catalog.specs.Entries.{Entries, StandsIn, AreFramed}
 use Rattle.catalog.specs.Places.{Places, place_in, IsIndex, HasOnly, StandsSomewhere, KeepsLabels, Puts}
 use Rattle.catalog.specs.Changes.{taken_back, undone, formers, CanStand, CanTakeBack, CanUndo, AreNotesFramed, IsForgotten}
-use Rattle.catalog.proofs.Changing.{get-set_same, get-set_other, get-set_is, set-back, set-left, get-left, get-last, living-opened}
-use Rattle.catalog.proofs.Indexes.{IsAloneIn, PutsAt, stands-alone, puts_at-keeps, index-set, index-opened, pushed-cases}
+use Rattle.catalog.proofs.Changing.{get-set_same, get-set_other, get-set_is, set-left, get-left, get-last}
+use Rattle.catalog.proofs.Indexes.{PutsAt, stands-alone, pushed-cases}
 
 -- ---- one more change
 

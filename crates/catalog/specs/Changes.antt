@@ -1,23 +1,18 @@
 -- Of the code's inside, apart from the rules: changes of one place or of all, and how they are taken back.
 use Rattle.std.specs.Prelude.{◌≡◌, ◌<◌, ℕ, zero, suc, List, [], ◌∷◌, length, map, set, slice_get, Option, Some, None}
-use Rattle.std.specs.Prelude.{◌≤◌, Vec, vec_len, vec_capacity, IsSome, Result, Ok, Err, false}
+use Rattle.std.specs.Prelude.{IsSome, false}
 use Rattle.std.specs.Option.{option_map}
 use Rattle.std.specs.Str.{bytes_eq}
-use Rattle.std.specs.declared.alloc.Global.{Global}
 use Rattle.mmsyntax.specs.declared.statement.Frame.{Frame}
 use Rattle.mmsyntax.specs.Tables.{Tables}
 use Rattle.mmstatement.specs.Frames.{frame}
 use Rattle.library.specs.declared.library.Ranked.{Ranked}
-use Rattle.library.specs.declared.command.Command.{Command}
-use Rattle.library.specs.declared.command.Reply.{Reply}
-use Rattle.library.specs.Library.{Setting, Verifies, label_of}
+use Rattle.library.specs.Library.{label_of}
 use Rattle.proofcheck.specs.Laws.{replacing, step_relabelled}
-use Rattle.library.specs.Edits.{with_proof, edit}
-use Rattle.library.specs.Transactions.{apply}
+use Rattle.library.specs.Edits.{with_proof}
 use Rattle.catalog.specs.declared.notes.Note.{Note}
-use Rattle.catalog.specs.Entries.{Entries, living, standing, StandsIn, AreFramed}
-use Rattle.catalog.specs.Places.{Places, place_in, IsIndex, HasOnly, StandsSomewhere}
-use Rattle.catalog.specs.Citers.{Citers, EachAscends, Covers}
+use Rattle.catalog.specs.Entries.{Entries, StandsIn}
+use Rattle.catalog.specs.Places.{Places, place_in, StandsSomewhere}
 
 -- ---- changes of one assertion
 

@@ -16,6 +16,10 @@ use std::alloc::{AllocError, Global};
 pub type Citers = Vec<Vec<usize>>;
 
 /// Puts a place into an ascending list, unless it stands there.
+///
+/// # Errors
+///
+/// Want of memory.
 pub fn enter(list: &mut Vec<usize>, place: usize) -> Result<(), AllocError>
     requires { IsStrictlyIncreasing list.old.items }
     ensures ascending { IsStrictlyIncreasing list.new.items }
@@ -59,6 +63,10 @@ fn enter_step(
 
 /// Puts a place into the list of each assertion that some steps cite: one look-up for each citation. After an error it stands in some
 /// of them.
+///
+/// # Errors
+///
+/// Want of memory.
 pub fn enter_citer(
     entries: &[Option<Ranked>],
     places: &Places,
@@ -93,6 +101,10 @@ fn empty_lists(alloc: Global, count: usize) -> Result<Citers, AllocError>
 }
 
 /// The lists of the assertions at their places: one look-up for each citation.
+///
+/// # Errors
+///
+/// Want of memory.
 pub fn open_citers(
     alloc: Global,
     entries: &[Option<Ranked>],

@@ -47,6 +47,10 @@ fn copy_expressions(alloc: Global, expressions: &[Expr]) -> Result<Sequence<Expr
 }
 
 /// An assertion with another proof: the proof that it has isn't copied.
+///
+/// # Errors
+///
+/// Want of memory.
 pub fn reproved(alloc: Global, entry: &Ranked, proof: Sequence<Step>) -> Result<Ranked, AllocError>
     ensures { IfOk result (λ made. made ≡ with_proof proof entry.now) }
 {
@@ -65,6 +69,10 @@ pub fn reproved(alloc: Global, entry: &Ranked, proof: Sequence<Step>) -> Result<
 }
 
 /// An assertion with a label in the place of another in its proof.
+///
+/// # Errors
+///
+/// Want of memory.
 pub fn recited(alloc: Global, entry: &Ranked, old: &[u8], new: &Label) -> Result<Ranked, AllocError>
     ensures { IfOk result (λ made. made ≡ citing old.now new.now entry.now) }
 {
@@ -73,6 +81,10 @@ pub fn recited(alloc: Global, entry: &Ranked, old: &[u8], new: &Label) -> Result
 }
 
 /// An assertion with another label.
+///
+/// # Errors
+///
+/// Want of memory.
 pub fn relabelled(alloc: Global, entry: &Ranked, label: &Label) -> Result<Ranked, AllocError>
     ensures { IfOk result (λ made. made ≡ with_label label.now entry.now) }
 {

@@ -135,6 +135,10 @@ fn compare(a: &Line, b: &Line) -> Ordering
 }
 
 /// The lines of all assertions, in export order. But for the sort, the time is about that of reading every proof.
+///
+/// # Errors
+///
+/// Want of memory.
 pub fn list_lines(
     alloc: Global,
     entries: &[Option<Ranked>],

@@ -101,6 +101,10 @@ pub(crate) fn add_entry(
 }
 
 /// The opening library of assertions: the k-th of them has the rank 100 k.
+///
+/// # Errors
+///
+/// Want of memory.
 pub fn open_entries(
     alloc: Global,
     keys: RandomState,
@@ -125,6 +129,10 @@ pub fn open_entries(
 }
 
 /// The frames of assertions, in order.
+///
+/// # Errors
+///
+/// Want of memory.
 pub fn open_frames(
     alloc: Global,
     prelude: &Prelude,

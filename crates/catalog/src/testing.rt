@@ -186,6 +186,10 @@ impl Frames for Lower<'_> {
 }
 
 /// The fault of the proof of a theorem of a rank, over the assertions of lower rank, if it has one.
+///
+/// # Errors
+///
+/// Want of memory.
 pub fn proof_fault(
     alloc: Global,
     prelude: &Prelude,

@@ -1,27 +1,23 @@
 -- What is always true of a draft's fields, after a change, with one more place, and when nothing is noted.
-use Rattle.std.proofs.Common.{◌≡◌, ℕ, ◌⊎◌, List, [], ◌∷◌, ◌++◌, Option, None, Some, length, set, take, drop}
-use Rattle.std.proofs.Common.{arith, refl, sym, ap, subst, ◌∙◌, inl, inr}
+use Rattle.std.proofs.Common.{◌≡◌, ℕ, List, [], ◌∷◌, ◌++◌, Option, None, Some, length, set}
+use Rattle.std.proofs.Common.{arith, sym, ap, subst, ◌∙◌, inl, inr}
 use Rattle.std.specs.List.{slice_get}
 use Rattle.std.specs.Map.{lookup}
 use Rattle.std.specs.Str.{bytes_eq}
 use Rattle.std.specs.Option.{IsSome}
-use Rattle.std.proofs.lemmas.List.{length-set, length-append, map-append, take-append-le, take_all}
-use Rattle.std.proofs.lemmas.Bool.{cases_Bool, cases_eq, cond-false}
-use Rattle.std.proofs.lemmas.Option.{slice_get_within}
-use Rattle.mmsyntax.proofs.Names.{same_bytes}
+use Rattle.std.proofs.lemmas.List.{length-append}
 use Rattle.mmsyntax.specs.declared.statement.Frame.{Frame}
 use Rattle.mmsyntax.specs.Tables.{Tables}
 use Rattle.mmstatement.specs.Frames.{frame}
 use Rattle.library.specs.declared.library.Ranked.{Ranked}
 use Rattle.library.specs.Library.{label_of}
 use Rattle.catalog.specs.declared.notes.Note.{Note}
-use Rattle.catalog.specs.Entries.{Entries, living, StandsIn, AreFramed}
-use Rattle.catalog.specs.Places.{Places, place_in, IsIndex, HasOnly, StandsSomewhere, KeepsLabels, Puts}
-use Rattle.catalog.specs.Changes.{taken_back, undone, formers, CanStand, CanTakeBack, CanUndo, AreNotesFramed, IsForgotten}
-use Rattle.history.specs.Drafts.{IsDraft}
-use Rattle.history.specs.Drafts.{IsCounted}
-use Rattle.catalog.proofs.Changing.{get-set_same, get-set_other, get-set_is, set-back, set-left, get-left, get-last, living-opened}
-use Rattle.catalog.proofs.Indexes.{IsAloneIn, PutsAt, stands-alone, puts_at-keeps, index-set, index-opened, pushed-cases}
+use Rattle.catalog.specs.Entries.{Entries, living, AreFramed}
+use Rattle.catalog.specs.Places.{Places, place_in, IsIndex, HasOnly}
+use Rattle.catalog.specs.Changes.{taken_back, undone, formers, CanUndo}
+use Rattle.history.specs.Drafts.{IsDraft, IsCounted}
+use Rattle.catalog.proofs.Changing.{set-back, get-left, living-opened}
+use Rattle.catalog.proofs.Indexes.{IsAloneIn, PutsAt, puts_at-keeps, index-set, index-opened, pushed-cases}
 use Rattle.catalog.proofs.Undoing.{undone-push, can_undo-push, can_undo-kept, can_take_back, formers-push, only-fewer, somewhere-left, only-noted}
 use Rattle.catalog.proofs.Undoing.{framed-set, notes_framed-push, notes_framed-opened, undone-opened, can_undo-opened}
 

@@ -1,26 +1,22 @@
 -- Of the code's inside, apart from the rules: a library during a transaction: what was changed, and how it is taken back.
-use Rattle.std.specs.Prelude.{◌≡◌, ◌<◌, ℕ, zero, suc, List, [], ◌∷◌, length, map, set, slice_get, Option, Some, None}
-use Rattle.std.specs.Prelude.{◌≤◌, Vec, vec_len, vec_capacity, IsSome, Result, Ok, Err, false}
-use Rattle.std.specs.Option.{option_map}
-use Rattle.std.specs.Str.{bytes_eq}
+use Rattle.std.specs.Prelude.{◌≡◌, ℕ, List, [], length, set, Option}
+use Rattle.std.specs.Prelude.{◌≤◌, Vec, vec_len, vec_capacity, Result, Ok, Err}
 use Rattle.std.specs.declared.alloc.Global.{Global}
 use Rattle.mmsyntax.specs.declared.statement.Frame.{Frame}
 use Rattle.mmsyntax.specs.Tables.{Tables}
-use Rattle.mmstatement.specs.Frames.{frame}
 use Rattle.library.specs.declared.library.Ranked.{Ranked}
 use Rattle.library.specs.declared.command.Command.{Command}
 use Rattle.library.specs.declared.command.Reply.{Reply}
-use Rattle.library.specs.Library.{Setting, Verifies, label_of}
-use Rattle.proofcheck.specs.Laws.{replacing, step_relabelled}
-use Rattle.library.specs.Edits.{with_proof, edit}
+use Rattle.library.specs.Library.{Setting, Verifies}
+use Rattle.library.specs.Edits.{edit}
 use Rattle.library.specs.Transactions.{apply}
 use Rattle.catalog.specs.declared.notes.Note.{Note}
 use Rattle.history.specs.declared.editor.ApplyError.{ApplyError}
 use Rattle.history.specs.declared.editor.ApplyError.TheVariants.{Refused, NoMemory}
-use Rattle.catalog.specs.Entries.{Entries, living, standing, StandsIn, AreFramed}
-use Rattle.catalog.specs.Places.{Places, place_in, IsIndex, HasOnly, StandsSomewhere}
+use Rattle.catalog.specs.Entries.{Entries, living, standing, AreFramed}
+use Rattle.catalog.specs.Places.{Places, IsIndex, HasOnly}
 use Rattle.catalog.specs.Citers.{Citers, EachAscends, Covers}
-use Rattle.catalog.specs.Changes.{taken_back, undone, formers, CanUndo, AreNotesFramed}
+use Rattle.catalog.specs.Changes.{undone, formers, CanUndo, AreNotesFramed}
 
 -- what a draft holds: the setting, the library at the start of the transaction, the assertions now by their places, beside them their
 -- frames and who may cite them, and the changes that are noted
