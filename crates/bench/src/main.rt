@@ -1,8 +1,8 @@
 //! bench cells|check|words|sessions|all WORD..: what is measured of this repository's crates, for the programs of `benches/`.
 //!
-//! `cells` measures libraries in cells, `check` reading and checking, `words` transactions over shared words, `sessions` scripts by many threads; the
-//! further words are told at each. `all DB SCRIPT SCRIPTS..` does a small run of each: what it prints on the standard output is the same each time. The
-//! status is 1 where something fails, and 2 where the words aren't understood.
+//! `cells` measures libraries in cells, `check` reading and checking, `words` transactions over shared words, `sessions` scripts by many
+//! threads; the further words are told at each. `all DB SCRIPT SCRIPTS..` does a small run of each, and prints the same on the standard output
+//! each time. The status is 1 where something fails, and 2 where the words aren't understood.
 #![tactic(auto)]
 
 mod cell_work;

@@ -1,5 +1,5 @@
-//! `words PATTERN CELLS TRANSACTIONS THREADS`: 1, 2 or 4 threads run so many transactions each, over one memory of so many cells of value 0, for
-//! `benches/words.py`.
+//! `words PATTERN CELLS TRANSACTIONS THREADS`: 1, 2 or 4 threads run so many transactions each, over one memory of so many cells of value 0,
+//! for `benches/words.py`.
 //!
 //! It prints how many transactions committed, and the sum of the values at the end. The patterns are `disjoint`, `uniform`, `hot` and `read`.
 

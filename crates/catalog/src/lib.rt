@@ -1,5 +1,5 @@
-//! What the one-thread editor keeps of a library: its assertions by their places, found by their labels, with who may cite them; the tests of
-//! commands on them, and changes that can be taken back.
+//! What the one-thread editor keeps of a library: its assertions by their places, found by their labels, with who may cite them; the tests
+//! of commands on them, and changes that can be taken back.
 #![tactic(auto)]
 
 mod citers;
