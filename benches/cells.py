@@ -1,7 +1,7 @@
 #!/usr/bin/env python3
 """A library in cells beside the one-thread editor: opening, reading back, and transactions of one kind.
 
-    cells.py DB.. [--program crates/cellbench/out/cellbench] [--beside CMD] [--transactions 2000] [--lists 20] [--rounds 3] [--seed 1] [--out DIR]
+    cells.py DB.. [--program crates/bench/out/bench] [--beside CMD] [--transactions 2000] [--lists 20] [--rounds 3] [--seed 1] [--out DIR]
 
 For each DB it takes the time of reading and checking, of opening in plain cells (less the former) and of reading all back (less that); and
 for scripts of renames, shows, small additions, moves, deletions and lists the time of the transactions by the editor and over cells, each less that of
@@ -55,7 +55,7 @@ def transactions(kind, labels, steps, count, chance):
 def main():
     parser = argparse.ArgumentParser(description=__doc__.splitlines()[0])
     parser.add_argument("databases", nargs="+", type=pathlib.Path)
-    parser.add_argument("--program", default=TOP / "crates/cellbench/out/cellbench", type=pathlib.Path)
+    parser.add_argument("--program", default=TOP / "crates/bench/out/bench", type=pathlib.Path)
     parser.add_argument("--beside", help="an editor of mmrefactor's command line, as a yardstick", type=str)
     parser.add_argument("--transactions", type=int, default=2000)
     parser.add_argument("--lists", type=int, default=20)
@@ -70,7 +70,7 @@ def main():
         times = {task: [] for task in ("check", "open", "back")}
         for _ in range(asked.rounds):
             for task, taken in times.items():
-                taken.append(run(asked.program, task, database)[0])
+                taken.append(run(asked.program, "cells", task, database)[0])
         check, opened, back = (median(times[task]) for task in ("check", "open", "back"))
         print(f"{database.name}: check {check:.0f}, open {opened - check:.0f}, read back {back - opened:.0f}")
         found = units(database.read_text(encoding="utf-8"))
@@ -87,8 +87,8 @@ def main():
             printed = set()
             for _ in range(asked.rounds):
                 for task, taken in spent.items():
-                    base = run(asked.program, task, database, empty)[0]
-                    whole, said = run(asked.program, task, database, script)
+                    base = run(asked.program, "cells", task, database, empty)[0]
+                    whole, said = run(asked.program, "cells", task, database, script)
                     taken.append(whole - base)
                     printed.add(said)
             if len(printed) != 1:

@@ -19,14 +19,14 @@ use Rattle.library.specs.Edits.{unknown_label, is_alike, are_alike, is_not_below
 use Rattle.library.proofs.Clashing.{without-absent}
 use Rattle.library.proofs.Editing.{where_none}
 use Rattle.library.proofs.Places.{find_nowhere, is_labelled-own}
-use Rattle.history.specs.Entries.{Entries, living, StandsIn}
-use Rattle.history.specs.Places.{Places, IsIndex, FoundAt}
-use Rattle.history.specs.Drafts.{IsAlone, with_label, citing, changed_all}
+use Rattle.catalog.specs.Entries.{Entries, living, StandsIn}
+use Rattle.catalog.specs.Places.{Places, IsIndex, FoundAt}
+use Rattle.catalog.specs.Changes.{IsAlone, with_label, citing, changed_all}
 use Rattle.history.specs.Refusals.{first_reason, proof_tests, label_tests}
-use Rattle.history.proofs.Living.{found-at, stands-has, some-known}
-use Rattle.history.proofs.Changing.{living-changed, living-removed, living-pushed, set-last}
-use Rattle.history.proofs.Indexes.{stands-alone}
-use Rattle.history.proofs.Citations.{rename_place}
+use Rattle.catalog.proofs.Living.{found-at, stands-has, some-known}
+use Rattle.catalog.proofs.Changing.{living-changed, living-removed, living-pushed, set-last}
+use Rattle.catalog.proofs.Indexes.{stands-alone}
+use Rattle.catalog.proofs.Citations.{rename_place}
 
 -- ---- tests
 

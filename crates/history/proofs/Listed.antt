@@ -5,13 +5,14 @@ use Rattle.std.specs.declared.alloc.Global.{Global}
 use Rattle.std.proofs.lemmas.List.{length-set, length-append}
 use Rattle.std.proofs.lemmas.List.Elements.{All-append, All-cons, All-nil}
 use Rattle.library.specs.declared.library.Ranked.{Ranked}
-use Rattle.history.specs.declared.notes.Note.{Note}
-use Rattle.history.specs.Entries.{Entries}
-use Rattle.history.specs.Places.{Places}
-use Rattle.history.specs.Citers.{Citers, Covers, KeepsCiters, EachAscends}
-use Rattle.history.specs.Drafts.{undone, CanUndo, AreCiters}
-use Rattle.history.proofs.Covering.{keeps-pushed, covers-kept, covers-opened}
-use Rattle.history.proofs.Undoing.{undone-opened}
+use Rattle.catalog.specs.declared.notes.Note.{Note}
+use Rattle.catalog.specs.Entries.{Entries}
+use Rattle.catalog.specs.Places.{Places}
+use Rattle.catalog.specs.Citers.{Citers, Covers, KeepsCiters, EachAscends}
+use Rattle.catalog.specs.Changes.{undone, CanUndo}
+use Rattle.history.specs.Drafts.{AreCiters}
+use Rattle.catalog.proofs.Covering.{keeps-pushed, covers-kept, covers-opened}
+use Rattle.catalog.proofs.Undoing.{undone-opened}
 
 -- a place has something else, and what it had is noted
 pub citers_noted : (c : Citers) (ns after : List Note) (es : Entries) (p : ℕ) (o : Option Ranked) → AreCiters c ns es

@@ -1,98 +1,22 @@
 -- Of the code's inside, apart from the rules: a library during a transaction: what was changed, and how it is taken back.
-use Rattle.std.specs.Prelude.{◌≡◌, ◌<◌, ℕ, zero, suc, List, [], ◌∷◌, length, map, set, slice_get, Option, Some, None}
-use Rattle.std.specs.Prelude.{◌≤◌, Vec, vec_len, vec_capacity, IsSome, Result, Ok, Err, false}
-use Rattle.std.specs.Option.{option_map}
-use Rattle.std.specs.Str.{bytes_eq}
+use Rattle.std.specs.Prelude.{◌≡◌, ℕ, List, [], length, set, Option}
+use Rattle.std.specs.Prelude.{◌≤◌, Vec, vec_len, vec_capacity, Result, Ok, Err}
 use Rattle.std.specs.declared.alloc.Global.{Global}
 use Rattle.mmsyntax.specs.declared.statement.Frame.{Frame}
 use Rattle.mmsyntax.specs.Tables.{Tables}
-use Rattle.mmframes.specs.Frames.{frame}
 use Rattle.library.specs.declared.library.Ranked.{Ranked}
 use Rattle.library.specs.declared.command.Command.{Command}
 use Rattle.library.specs.declared.command.Reply.{Reply}
-use Rattle.library.specs.Library.{Setting, Verifies, label_of}
-use Rattle.derivation.specs.Laws.{replacing, step_relabelled}
-use Rattle.library.specs.Edits.{with_proof, edit}
+use Rattle.library.specs.Library.{Setting, Verifies}
+use Rattle.library.specs.Edits.{edit}
 use Rattle.library.specs.Transactions.{apply}
-use Rattle.history.specs.declared.notes.Note.{Note}
+use Rattle.catalog.specs.declared.notes.Note.{Note}
 use Rattle.history.specs.declared.editor.ApplyError.{ApplyError}
 use Rattle.history.specs.declared.editor.ApplyError.TheVariants.{Refused, NoMemory}
-use Rattle.history.specs.Entries.{Entries, living, standing, StandsIn, AreFramed}
-use Rattle.history.specs.Places.{Places, place_in, IsIndex, HasOnly, StandsSomewhere}
-use Rattle.history.specs.Citers.{Citers, EachAscends, Covers}
-
--- ---- changes of one assertion
-
--- an assertion with another label
-abbrev pub with_label : List ℕ → Ranked → Ranked
-with_label w e = record e { assertion = record e.assertion { label = w } }
-
--- an assertion with a label replaced in its proof
-abbrev pub citing : List ℕ → List ℕ → Ranked → Ranked
-citing old new e = with_proof (map (step_relabelled (replacing old new)) e.assertion.proof) e
-
--- the assertion at a place changed, if there is one
-abbrev pub changed_at : ℕ → (Ranked → Ranked) → Entries → Entries
-changed_at p change [] = []
-changed_at zero change (o ∷ os) = option_map change o ∷ os
-changed_at (suc p) change (o ∷ os) = o ∷ changed_at p change os
-
--- each assertion changed
-abbrev pub changed_all : (Ranked → Ranked) → Entries → Entries
-changed_all change entries = map (option_map change) entries
-
--- an assertion that may stand at a place in the stead of the one there: it has the same label and the same frame
-pub record Succeeds (t : Tables) (entries : Entries) (p : ℕ) (new : Ranked) : Type 0 where
-  pub former : Ranked
-  pub at : StandsIn entries p former
-  pub labelled : label_of new ≡ label_of former
-  pub framed : frame t new.assertion ≡ frame t former.assertion
-
--- ---- changes taken back
-
--- the entries with what a note holds back at its place
-abbrev pub taken_back : Note → Entries → Entries
-taken_back n entries = set entries n.place n.former
-
--- the entries before some changes, from those after them: the last is taken back first
-abbrev pub undone : List Note → Entries → Entries
-undone [] entries = entries
-undone (n ∷ ns) entries = taken_back n (undone ns entries)
-
--- what the notes hold
-abbrev pub formers : List Note → Entries
-formers ns = map (λ n. n.former) ns
-
--- at every other place no assertion has the label
-pub record IsAlone (entries : Entries) (w : List ℕ) (p : ℕ) : Type 0 where
-  pub others : (q : ℕ) (f : Ranked) → StandsIn entries q f → (q ≡ p → ⊥) → bytes_eq w (label_of f) ≡ false
-
--- an assertion may be put at a place, without memory: no other has its label, and the map has it
-abbrev pub CanStand : Places → Entries → ℕ → Option Ranked → Type 0
-CanStand m entries p None = Unit {0}
-CanStand m entries p (Some e) = IsAlone entries (label_of e) p × IsSome (place_in m (label_of e))
-
-pub record CanTakeBack (m : Places) (entries : Entries) (n : Note) : Type 0 where
-  pub within : n.place < length entries
-  pub stands : CanStand m entries n.place n.former
-
--- each change can be taken back once the later ones are
-abbrev pub CanUndo : Places → List Note → Entries → Type 0
-CanUndo m [] entries = Unit {0}
-CanUndo m (n ∷ ns) entries = CanUndo m ns entries × CanTakeBack m (undone ns entries) n
-
--- the map has the label of what a note held only where an assertion has it
-abbrev pub IsForgotten : Places → Entries → Option Ranked → Type 0
-IsForgotten m entries None = Unit {0}
-IsForgotten m entries (Some e) = IsSome (place_in m (label_of e)) → StandsSomewhere entries (label_of e)
-
--- the frames have, at the place of each note, the frame of what it holds
-abbrev pub AreNotesFramed : Tables → List Note → List Frame → Type 0
-AreNotesFramed t [] frames = Unit {0}
-AreNotesFramed t (n ∷ ns) frames =
-    AreNotesFramed t ns frames × ((e : Ranked) → n.former ≡ Some e → slice_get frames n.place ≡ Some (frame t e.assertion))
-
--- ---- drafts
+use Rattle.catalog.specs.Entries.{Entries, living, standing, AreFramed}
+use Rattle.catalog.specs.Places.{Places, IsIndex, HasOnly}
+use Rattle.catalog.specs.Citers.{Citers, EachAscends, Covers}
+use Rattle.catalog.specs.Changes.{undone, formers, CanUndo, AreNotesFramed}
 
 -- what a draft holds: the setting, the library at the start of the transaction, the assertions now by their places, beside them their
 -- frames and who may cite them, and the changes that are noted

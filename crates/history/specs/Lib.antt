@@ -2,10 +2,5 @@ pub mod Editors
 pub mod Openings
 pub mod Replays
 pub mod Errors
-pub mod Entries
-pub mod Places
-pub mod Testing
-pub mod Listing
-pub mod Citers
 pub mod Drafts
 pub mod Refusals

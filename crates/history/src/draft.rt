@@ -4,12 +4,12 @@ ghost use Rattle.std.specs.Prelude.{◌≡◌, ◌≤◌, length, map, IfOk, vec
 ghost use Rattle.std.specs.Str.{bytes_eq};
 ghost use Rattle.mmsyntax.specs.Assertions.{Distinct};
 ghost use Rattle.library.specs.Library.{Verifies, ShowsInOrder, label_of, ranked_from};
-ghost use Rattle.history.specs.Entries.{living};
+ghost use Rattle.catalog.specs.Entries.{living};
 ghost use Rattle.history.specs.Drafts.{now_in, IsOpened, Settles};
 
-use crate::citers::{Citers, open_citers};
-use crate::notes::{Note, drop_notes, take_all_back};
-use crate::places::{Places, open_entries, open_frames};
+use catalog::{
+    Citers, Note, Places, drop_notes, open_citers, open_entries, open_frames, take_all_back,
+};
 use library::{PlainLibrary, Ranked};
 use mmsyntax::{Assertion, Frame, Prelude};
 use std::alloc::{AllocError, Global};
@@ -42,8 +42,9 @@ pub(crate) struct Draft {
 }
 
 impl Model for Draft {
-    ghost use Rattle.history.specs.Entries.{living};
-    ghost use Rattle.history.specs.Drafts.{Drafted, undone, IsDraft, AreCiters, IsCounted, IsShelf};
+    ghost use Rattle.catalog.specs.Entries.{living};
+    ghost use Rattle.catalog.specs.Changes.{undone};
+    ghost use Rattle.history.specs.Drafts.{Drafted, IsDraft, AreCiters, IsCounted, IsShelf};
 
     ghost Value = { Drafted };
 

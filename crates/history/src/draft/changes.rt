@@ -5,13 +5,13 @@ ghost use Rattle.mmframes.specs.Frames.{frame};
 ghost use Rattle.library.specs.declared.library.Ranked.{Ranked};
 ghost use Rattle.library.specs.Library.{label_of};
 ghost use Rattle.library.specs.Edits.{has};
-ghost use Rattle.history.specs.Entries.{StandsIn};
-ghost use Rattle.history.specs.Citers.{AreEntered, Covers, IsCiter};
-ghost use Rattle.history.specs.Drafts.{now_in, Succeeds, Exchanges, KeepsStart};
+ghost use Rattle.catalog.specs.Entries.{StandsIn};
+ghost use Rattle.catalog.specs.Citers.{AreEntered, Covers, IsCiter};
+ghost use Rattle.catalog.specs.Changes.{Succeeds};
+ghost use Rattle.history.specs.Drafts.{now_in, Exchanges, KeepsStart};
 
 use super::Draft;
-use crate::citers::{enter, enter_citer};
-use crate::notes::Note;
+use catalog::{Note, enter, enter_citer};
 use library::Ranked;
 use mmsyntax::{Frame, Step};
 use std::alloc::{AllocError, Global};

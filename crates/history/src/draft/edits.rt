@@ -8,21 +8,19 @@ ghost use Rattle.library.specs.Edits.{add_tests, replace_tests, citers};
 ghost use Rattle.library.specs.Fitting.{CommandFits};
 ghost use Rattle.library.specs.Library.{Verifies, label_of};
 ghost use Rattle.library.specs.declared.library.Ranked.{Ranked};
-ghost use Rattle.history.specs.Entries.{StandsIn};
-ghost use Rattle.history.specs.Citers.{HasAllCiters, IsCiter};
-ghost use Rattle.history.specs.Places.{StandsAt};
-ghost use Rattle.history.specs.Drafts.{now_in, citing, changed_at, changed_all, KeepsStart, Takes, TakesAll};
+ghost use Rattle.catalog.specs.Entries.{StandsIn};
+ghost use Rattle.catalog.specs.Citers.{HasAllCiters, IsCiter};
+ghost use Rattle.catalog.specs.Places.{StandsAt};
+ghost use Rattle.catalog.specs.Changes.{citing, changed_at, changed_all};
+ghost use Rattle.history.specs.Drafts.{now_in, KeepsStart, Takes, TakesAll};
 ghost use Rattle.history.specs.Refusals.{first_reason, proof_tests, label_tests};
 ghost use Rattle.history.specs.declared.editor.ApplyError.TheVariants as error;
 
 use super::Draft;
-use crate::citing::{recited, relabelled, reproved};
-use crate::clashing::has_clash;
 use crate::editor::ApplyError;
-use crate::listing::list_lines;
-use crate::places::{entry_at, find_entry, find_label};
-use crate::testing::{
-    cites, cites_not_below, cites_unknown, count_citers, has_citer_below, proof_fault,
+use catalog::{
+    cites, cites_not_below, cites_unknown, count_citers, entry_at, find_entry, find_label,
+    has_citer_below, has_clash, list_lines, proof_fault, recited, relabelled, reproved,
 };
 use library::{Command, Ranked, Reason, Refused, Reply, is_alike};
 use mmframes::frame_of;

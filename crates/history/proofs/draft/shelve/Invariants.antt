@@ -1,7 +1,7 @@
 use Rattle.std.proofs.Common.{◌≡◌, ◌≤◌, ◌+◌, ◌++◌, length}
 use Rattle.std.specs.Prelude.{vec_len, vec_capacity}
 use Rattle.std.specs.Vec.Iter.{into_iter_items, into_iter_len}
-use Rattle.history.specs.Entries.{living}
+use Rattle.catalog.specs.Entries.{living}
 use Rattle.history.proofs.draft.shelve.Given as goal
 
 -- what is on the shelf, and what is left

@@ -5,13 +5,13 @@ use Rattle.mmframes.specs.Frames.{frame}
 use Rattle.library.specs.declared.library.Ranked.{Ranked}
 use Rattle.library.specs.Library.{Setting, label_of}
 use Rattle.library.specs.Edits.{has, is_of_unknown, done, add_tests}
-use Rattle.history.specs.Entries.{Entries, living, StandsIn}
-use Rattle.history.specs.Listing.{some_cites}
+use Rattle.catalog.specs.Entries.{Entries, living, StandsIn}
+use Rattle.catalog.specs.Listing.{some_cites}
 use Rattle.history.specs.Drafts.{Drafted, now_in}
-use Rattle.history.proofs.Changing.{get-last, living-opened}
-use Rattle.history.proofs.Covering.{covers-fresh, stands-opened}
+use Rattle.catalog.proofs.Changing.{get-last, living-opened}
+use Rattle.catalog.proofs.Covering.{covers-fresh, stands-opened}
 use Rattle.history.proofs.Commands.{tested_some, tested_none, add_free, add_known, library-added}
-use Rattle.history.proofs.Known.{verified-uncited, known-uncited}
+use Rattle.catalog.proofs.Known.{verified-uncited, known-uncited}
 use Rattle.history.proofs.draft.Draft.add.Goals as goal
 
 pub returns-in-Some-clause-taken : goal.returns-in-Some-clause-taken

@@ -1,8 +1,8 @@
 use Rattle.std.proofs.Common.{◌≡◌, length, rules, sym, ap, subst, ◌∙◌}
-use Rattle.history.specs.Citers.{Covers, KeepsCiters}
+use Rattle.catalog.specs.Citers.{Covers, KeepsCiters}
 use Rattle.history.specs.Drafts.{AreCiters}
 use Rattle.history.proofs.Listed.{citers_grown}
-use Rattle.history.proofs.Undoing.{written_whole}
+use Rattle.catalog.proofs.Undoing.{written_whole}
 use Rattle.history.proofs.draft.Draft.cite.Goals as goal
 
 listed : (c : goal.After-self-1) → AreCiters c.enter_citer.new.citers c.self.inside.notes.items c.self.inside.entries.items

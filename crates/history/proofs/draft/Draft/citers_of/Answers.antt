@@ -1,9 +1,9 @@
 use Rattle.std.proofs.Common.{◌≡◌, Some, length, refl, sym, ap, subst, ◌∙◌, arith}
 use Rattle.std.specs.List.{slice_get, Contains}
 use Rattle.std.proofs.lemmas.Option.{slice_get_within, slice_get_read}
-use Rattle.history.specs.Citers.{Covers}
+use Rattle.catalog.specs.Citers.{Covers}
 use Rattle.history.specs.Drafts.{Drafted}
-use Rattle.history.proofs.Covering.{all-listed}
+use Rattle.catalog.proofs.Covering.{all-listed}
 use Rattle.history.proofs.draft.Draft.citers_of.Goals as goal
 
 -- the list that was read

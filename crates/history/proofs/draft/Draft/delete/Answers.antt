@@ -3,7 +3,7 @@ use Rattle.std.specs.Prelude.{nat_le}
 use Rattle.std.proofs.lemmas.Bool.{le-leb, lt-leb}
 use Rattle.library.specs.declared.reason.Reason.TheVariants as reason
 use Rattle.library.specs.Edits.{done, still_cited, citers}
-use Rattle.history.specs.Entries.{living}
+use Rattle.catalog.specs.Entries.{living}
 use Rattle.history.specs.Drafts.{Drafted, now_in}
 use Rattle.history.proofs.Commands.{tested_some, tested_none, so, not_so, first-some, first-none, found_nowhere, known_label, HasLabel}
 use Rattle.history.proofs.Commands.{has_label, free_in}

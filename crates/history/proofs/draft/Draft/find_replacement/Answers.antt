@@ -10,12 +10,12 @@ use Rattle.library.specs.declared.library.Ranked.{Ranked}
 use Rattle.library.specs.declared.reason.Reason.TheVariants as reason
 use Rattle.library.specs.Library.{Setting, label_of}
 use Rattle.library.specs.Edits.{is_axiom, is_alike, where_so, replace_tests}
-use Rattle.history.specs.Entries.{Entries, living, StandsIn, AreFramed}
-use Rattle.history.specs.Places.{Places, IsIndex, StandsAt}
+use Rattle.catalog.specs.Entries.{Entries, living, StandsIn, AreFramed}
+use Rattle.catalog.specs.Places.{Places, IsIndex, StandsAt}
 use Rattle.history.specs.Drafts.{Drafted}
 use Rattle.history.specs.Refusals.{first_reason}
 use Rattle.history.proofs.Commands.{so, not_so, first-some, first-none, replace_front, HasLabel, has_label, has_own}
-use Rattle.history.proofs.Living.{found-at}
+use Rattle.catalog.proofs.Living.{found-at}
 use Rattle.history.proofs.draft.Draft.find_replacement.Goals as goal
 
 -- the tests behind those of the labels, by what was found

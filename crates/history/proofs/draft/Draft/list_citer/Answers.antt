@@ -6,11 +6,11 @@ use Rattle.std.proofs.lemmas.List.Elements.{All-set}
 use Rattle.std.proofs.lemmas.Result.{on_ok_weaker}
 use Rattle.std.proofs.lemmas.Option.{slice_get_read}
 use Rattle.library.specs.Library.{label_of}
-use Rattle.history.specs.Entries.{StandsIn}
-use Rattle.history.specs.Places.{StandsAt}
+use Rattle.catalog.specs.Entries.{StandsIn}
+use Rattle.catalog.specs.Places.{StandsAt}
 use Rattle.history.specs.Drafts.{Drafted}
-use Rattle.history.proofs.Changing.{get-set_same}
-use Rattle.history.proofs.Covering.{keeps-set, list-within}
+use Rattle.catalog.proofs.Changing.{get-set_same}
+use Rattle.catalog.proofs.Covering.{keeps-set, list-within}
 use Rattle.history.proofs.Listed.{citers_grown}
 use Rattle.history.proofs.draft.Draft.list_citer.Goals as goal
 

@@ -8,11 +8,11 @@ use Rattle.library.specs.declared.library.Ranked.{Ranked}
 use Rattle.library.specs.declared.reason.Reason.TheVariants as reason
 use Rattle.library.specs.Library.{label_of}
 use Rattle.library.specs.Edits.{done, cites, cited_not_lower, cites_not_below, citer_not_higher, with_rank, move_tests, bad_rank}
-use Rattle.history.specs.Entries.{Entries, living, StandsIn}
-use Rattle.history.specs.Places.{StandsAt}
-use Rattle.history.specs.Citers.{Covers, HasAllCiters}
+use Rattle.catalog.specs.Entries.{Entries, living, StandsIn}
+use Rattle.catalog.specs.Places.{StandsAt}
+use Rattle.catalog.specs.Citers.{Covers, HasAllCiters}
 use Rattle.history.specs.Drafts.{Drafted, now_in}
-use Rattle.history.proofs.Covering.{all-listed, list-within, covers-replaced}
+use Rattle.catalog.proofs.Covering.{all-listed, list-within, covers-replaced}
 use Rattle.history.proofs.Commands.{tested_some, tested_none, so, not_so, first-some, first-none, found_nowhere, known_label, HasLabel}
 use Rattle.history.proofs.Commands.{has_label, free_in}
 use Rattle.history.proofs.Commands.{library-changed}

@@ -1,14 +1,14 @@
 use Rattle.std.proofs.Common.{◌≡◌, length, map, sym, ap, subst, ◌∙◌}
 use Rattle.mmframes.specs.Frames.{frame}
 use Rattle.library.specs.Library.{ranked_from}
-use Rattle.history.specs.Entries.{living, standing, AreFramed}
-use Rattle.history.specs.Citers.{Covers}
-use Rattle.history.specs.Drafts.{undone}
-use Rattle.history.proofs.Changing.{living-standing}
+use Rattle.catalog.specs.Entries.{living, standing, AreFramed}
+use Rattle.catalog.specs.Citers.{Covers}
+use Rattle.catalog.specs.Changes.{undone}
+use Rattle.catalog.proofs.Changing.{living-standing}
 use Rattle.library.proofs.Opening.{length-ranked_from}
-use Rattle.history.proofs.Openings.{framed-opening}
+use Rattle.catalog.proofs.Openings.{framed-opening}
 use Rattle.history.proofs.Listed.{citers_settled}
-use Rattle.history.proofs.Undoing.{draft_settled, counted_settled}
+use Rattle.history.proofs.Drafting.{draft_settled, counted_settled}
 use Rattle.history.proofs.draft.Draft.open.Goals as goal
 
 pub invariant_of-result-2 : goal.invariant_of-result-2

@@ -1,9 +1,10 @@
 use Rattle.std.proofs.Common.{◌≡◌, ◌∷◌, ◌++◌, [], None, length, rules, sym, ap, subst, ◌∙◌}
-use Rattle.history.specs.Entries.{living}
-use Rattle.history.specs.Drafts.{Drafted, IsDraft, AreCiters, IsCounted, undone}
-use Rattle.history.proofs.Changing.{living-opened}
+use Rattle.catalog.specs.Entries.{living}
+use Rattle.catalog.specs.Changes.{undone}
+use Rattle.history.specs.Drafts.{Drafted, IsDraft, AreCiters, IsCounted}
+use Rattle.catalog.proofs.Changing.{living-opened}
 use Rattle.history.proofs.Listed.{citers_opened}
-use Rattle.history.proofs.Undoing.{draft_opened}
+use Rattle.history.proofs.Drafting.{draft_opened}
 use Rattle.history.proofs.draft.Draft.open_place.Goals as goal
 
 abbrev Opened : goal.After-len → Type 0

@@ -9,15 +9,16 @@ use Rattle.mmframes.specs.Frames.{frame}
 use Rattle.library.specs.declared.library.Ranked.{Ranked}
 use Rattle.library.specs.Library.{label_of}
 use Rattle.library.specs.Edits.{has}
-use Rattle.history.specs.declared.notes.Note.{Note}
-use Rattle.history.specs.Entries.{Entries, living}
-use Rattle.history.specs.Places.{Puts}
-use Rattle.history.specs.Citers.{Covers}
-use Rattle.history.specs.Drafts.{Drafted, IsDraft, IsCounted, undone}
-use Rattle.history.proofs.Changing.{count-into, count-within}
-use Rattle.history.proofs.Indexes.{free-alone}
+use Rattle.catalog.specs.declared.notes.Note.{Note}
+use Rattle.catalog.specs.Entries.{Entries, living}
+use Rattle.catalog.specs.Places.{Puts}
+use Rattle.catalog.specs.Citers.{Covers}
+use Rattle.catalog.specs.Changes.{undone}
+use Rattle.history.specs.Drafts.{Drafted, IsDraft, IsCounted}
+use Rattle.catalog.proofs.Changing.{count-into, count-within}
+use Rattle.catalog.proofs.Indexes.{free-alone}
 use Rattle.history.proofs.Listed.{citers_noted}
-use Rattle.history.proofs.Undoing.{draft_noted, draft_same}
+use Rattle.history.proofs.Drafting.{draft_noted, draft_same}
 use Rattle.history.proofs.draft.Draft.put.Goals as goal
 
 -- the place, by its frame

@@ -2,14 +2,15 @@ use Rattle.std.proofs.Common.{◌≡◌, Some, false, set, refl, sym, ap, subst,
 use Rattle.library.specs.declared.library.Ranked.{Ranked}
 use Rattle.library.specs.Library.{label_of}
 use Rattle.library.specs.Edits.{cites}
-use Rattle.history.specs.Entries.{StandsIn}
-use Rattle.history.specs.Citers.{Covers, IsCiter}
-use Rattle.history.specs.Places.{IsIndex}
-use Rattle.history.specs.Drafts.{Drafted, citing}
-use Rattle.history.proofs.Changing.{changed-nothing, changed-set}
-use Rattle.history.proofs.Citations.{citing-alone, cites-renamed}
-use Rattle.history.proofs.Covering.{covers-replaced}
-use Rattle.history.proofs.Living.{one-place}
+use Rattle.catalog.specs.Entries.{StandsIn}
+use Rattle.catalog.specs.Citers.{Covers, IsCiter}
+use Rattle.catalog.specs.Places.{IsIndex}
+use Rattle.catalog.specs.Changes.{citing}
+use Rattle.history.specs.Drafts.{Drafted}
+use Rattle.catalog.proofs.Changing.{changed-nothing, changed-set}
+use Rattle.catalog.proofs.Citations.{citing-alone, cites-renamed}
+use Rattle.catalog.proofs.Covering.{covers-replaced}
+use Rattle.catalog.proofs.Living.{one-place}
 use Rattle.history.proofs.draft.Draft.recite.Goals as goal
 
 pub returns-in_default-clause-done : goal.returns-in_default-clause-done

@@ -3,12 +3,12 @@ use Rattle.std.proofs.Math.ListN.{drop_of_length-le}
 use Rattle.std.proofs.lemmas.List.Elements.{Contains-get_or}
 use Rattle.std.proofs.lemmas.Bool.{false_from_ne_true}
 use Rattle.library.specs.Edits.{cites}
-use Rattle.history.specs.Entries.{Entries}
-use Rattle.history.specs.Citers.{IsCiter}
-use Rattle.history.specs.Places.{StandsAt}
-use Rattle.history.specs.Drafts.{changed_at, citing}
-use Rattle.history.proofs.Citations.{citing-alone}
-use Rattle.history.proofs.Reciting.{changed_each, each-is-all, stands-changed}
+use Rattle.catalog.specs.Entries.{Entries}
+use Rattle.catalog.specs.Citers.{IsCiter}
+use Rattle.catalog.specs.Places.{StandsAt}
+use Rattle.catalog.specs.Changes.{changed_at, citing}
+use Rattle.catalog.proofs.Citations.{citing-alone}
+use Rattle.catalog.proofs.Reciting.{changed_each, each-is-all, stands-changed}
 use Rattle.history.proofs.Taking.{kept_on}
 use Rattle.history.proofs.draft.Draft.recite_all.Goals as goal
 

@@ -1,9 +1,10 @@
 use Rattle.std.proofs.Common.{◌≡◌, ℕ, drop}
 use Rattle.std.specs.List.{Contains}
-use Rattle.history.specs.Citers.{IsCiter}
-use Rattle.history.specs.Places.{StandsAt}
-use Rattle.history.specs.Drafts.{KeepsStart, citing}
-use Rattle.history.proofs.Reciting.{changed_each}
+use Rattle.catalog.specs.Citers.{IsCiter}
+use Rattle.catalog.specs.Places.{StandsAt}
+use Rattle.catalog.specs.Changes.{citing}
+use Rattle.history.specs.Drafts.{KeepsStart}
+use Rattle.catalog.proofs.Reciting.{changed_each}
 use Rattle.history.proofs.draft.Draft.recite_all.Given as goal
 
 -- what is left to rename leads to the same library

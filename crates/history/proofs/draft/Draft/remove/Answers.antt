@@ -1,14 +1,15 @@
 use Rattle.std.proofs.Common.{◌≡◌, ℕ, ◌-◌, None, arith, ◌∷◌, ◌++◌, [], Some, length, set, refl, sym, ap, subst, ◌∙◌}
 use Rattle.std.proofs.lemmas.Option.{slice_get_within, slice_get_read}
 use Rattle.library.specs.declared.library.Ranked.{Ranked}
-use Rattle.history.specs.declared.notes.Note.{Note}
-use Rattle.history.specs.Entries.{Entries, living, StandsIn}
-use Rattle.history.specs.Citers.{Covers}
-use Rattle.history.specs.Drafts.{Drafted, IsDraft, IsCounted, undone}
-use Rattle.history.proofs.Changing.{count-removed}
-use Rattle.history.proofs.Covering.{covers-removed}
+use Rattle.catalog.specs.declared.notes.Note.{Note}
+use Rattle.catalog.specs.Entries.{Entries, living, StandsIn}
+use Rattle.catalog.specs.Citers.{Covers}
+use Rattle.catalog.specs.Changes.{undone}
+use Rattle.history.specs.Drafts.{Drafted, IsDraft, IsCounted}
+use Rattle.catalog.proofs.Changing.{count-removed}
+use Rattle.catalog.proofs.Covering.{covers-removed}
 use Rattle.history.proofs.Listed.{citers_noted}
-use Rattle.history.proofs.Undoing.{draft_noted}
+use Rattle.history.proofs.Drafting.{draft_noted}
 use Rattle.history.proofs.draft.Draft.remove.Goals as goal
 
 stands_in : (d : Drafted) (es : Entries) (p : ℕ) → (at : (e : Ranked) × StandsIn d.entries p e) → es ≡ d.entries → StandsIn es p at.0

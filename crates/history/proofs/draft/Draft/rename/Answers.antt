@@ -4,14 +4,15 @@ use Rattle.std.proofs.lemmas.Option.{slice_get_within}
 use Rattle.mmframes.specs.Frames.{frame}
 use Rattle.library.specs.declared.library.Ranked.{Ranked}
 use Rattle.library.specs.Edits.{has, done, rename_tests}
-use Rattle.history.specs.Entries.{living, StandsIn}
-use Rattle.history.specs.Citers.{Covers, HasAllCiters, IsCiter}
+use Rattle.catalog.specs.Entries.{living, StandsIn}
+use Rattle.catalog.specs.Citers.{Covers, HasAllCiters, IsCiter}
 use Rattle.library.specs.Library.{Setting}
 use Rattle.history.specs.Refusals.{first_reason, label_tests}
-use Rattle.history.specs.Drafts.{Drafted, now_in, with_label, citing, changed_all}
-use Rattle.history.proofs.Covering.{covers-fresh, all-relabelled}
-use Rattle.history.proofs.Changing.{get-set_same}
-use Rattle.history.proofs.Known.{verified-uncited}
+use Rattle.catalog.specs.Changes.{with_label, citing, changed_all}
+use Rattle.history.specs.Drafts.{Drafted, now_in}
+use Rattle.catalog.proofs.Covering.{covers-fresh, all-relabelled}
+use Rattle.catalog.proofs.Changing.{get-set_same}
+use Rattle.catalog.proofs.Known.{verified-uncited}
 use Rattle.history.proofs.Commands.{tested_some, tested_none, HasLabel, has_label, has_own, label_free, rename_front, library-renamed}
 use Rattle.history.proofs.draft.Draft.rename.Goals as goal
 

@@ -4,15 +4,16 @@ use Rattle.std.proofs.lemmas.Option.{slice_get_within, slice_get_read}
 use Rattle.mmframes.specs.Frames.{frame}
 use Rattle.library.specs.declared.library.Ranked.{Ranked}
 use Rattle.library.specs.Library.{label_of}
-use Rattle.history.specs.declared.notes.Note.{Note}
-use Rattle.history.specs.Entries.{living, StandsIn}
-use Rattle.history.specs.Places.{Puts, place_in}
-use Rattle.history.specs.Citers.{Covers}
-use Rattle.history.specs.Drafts.{Drafted, IsDraft, IsCounted, IsAlone, undone}
-use Rattle.history.proofs.Changing.{count-changed}
-use Rattle.history.proofs.Indexes.{puts-same, stands-alone}
+use Rattle.catalog.specs.declared.notes.Note.{Note}
+use Rattle.catalog.specs.Entries.{living, StandsIn}
+use Rattle.catalog.specs.Places.{Puts, place_in}
+use Rattle.catalog.specs.Citers.{Covers}
+use Rattle.catalog.specs.Changes.{IsAlone, undone}
+use Rattle.history.specs.Drafts.{Drafted, IsDraft, IsCounted}
+use Rattle.catalog.proofs.Changing.{count-changed}
+use Rattle.catalog.proofs.Indexes.{puts-same, stands-alone}
 use Rattle.history.proofs.Listed.{citers_noted}
-use Rattle.history.proofs.Undoing.{draft_noted}
+use Rattle.history.proofs.Drafting.{draft_noted}
 use Rattle.history.proofs.draft.Draft.replace.Goals as goal
 
 abbrev Replaced : goal.After-push_reserved → Type 0

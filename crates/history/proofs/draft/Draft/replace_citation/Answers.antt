@@ -1,8 +1,9 @@
 use Rattle.std.proofs.Common.{◌≡◌, Ok, Some, refl, sym, ap, ◌∙◌}
 use Rattle.library.specs.Edits.{done, with_proof, recited, replace_tests}
-use Rattle.history.specs.Entries.{living}
-use Rattle.history.specs.Drafts.{Drafted, now_in, citing, changed_at}
-use Rattle.history.proofs.Changing.{changed-set}
+use Rattle.catalog.specs.Entries.{living}
+use Rattle.catalog.specs.Changes.{citing, changed_at}
+use Rattle.history.specs.Drafts.{Drafted, now_in}
+use Rattle.catalog.proofs.Changing.{changed-set}
 use Rattle.history.proofs.Commands.{tested_some, tested_none, found_nowhere, known_label, HasLabel, has_label, free_in, library-changed}
 use Rattle.history.proofs.draft.Draft.replace_citation.Goals as goal
 

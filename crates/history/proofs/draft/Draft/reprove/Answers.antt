@@ -3,11 +3,11 @@ use Rattle.library.specs.declared.library.Ranked.{Ranked}
 use Rattle.library.specs.declared.reason.Reason.TheVariants as reason
 use Rattle.library.specs.Edits.{is_axiom, where_so, done, with_proof, reprove_tests}
 use Rattle.library.specs.Library.{label_of}
-use Rattle.history.specs.Entries.{Entries, living, StandsIn}
-use Rattle.history.specs.Listing.{some_cites}
+use Rattle.catalog.specs.Entries.{Entries, living, StandsIn}
+use Rattle.catalog.specs.Listing.{some_cites}
 use Rattle.history.specs.Drafts.{Drafted, now_in}
 use Rattle.history.specs.Refusals.{first_reason, proof_tests}
-use Rattle.history.proofs.Covering.{covers-replaced}
+use Rattle.catalog.proofs.Covering.{covers-replaced}
 use Rattle.history.proofs.Commands.{tested_some, tested_none, so, not_so, first-some, first-none, found_nowhere, known_label, HasLabel}
 use Rattle.history.proofs.Commands.{has_label, free_in}
 use Rattle.history.proofs.Commands.{library-changed}

@@ -1,10 +1,11 @@
 use Rattle.std.proofs.Common.{◌≡◌, [], length, rules, sym, ap, subst, ◌∙◌}
-use Rattle.history.specs.Entries.{living, AreFramed}
-use Rattle.history.specs.Places.{IsIndex, HasOnly}
-use Rattle.history.specs.Citers.{Covers}
-use Rattle.history.specs.Drafts.{undone}
+use Rattle.catalog.specs.Entries.{living, AreFramed}
+use Rattle.catalog.specs.Places.{IsIndex, HasOnly}
+use Rattle.catalog.specs.Citers.{Covers}
+use Rattle.catalog.specs.Changes.{undone}
 use Rattle.history.proofs.Listed.{citers_settled}
-use Rattle.history.proofs.Undoing.{draft_settled, counted_settled, framed-undone, written_whole, length-undone}
+use Rattle.history.proofs.Drafting.{draft_settled, counted_settled}
+use Rattle.catalog.proofs.Undoing.{framed-undone, written_whole, length-undone}
 use Rattle.history.proofs.draft.Draft.undo.Goals as goal
 
 pub invariant_of-self : goal.invariant_of-self

@@ -1,11 +1,11 @@
 use Rattle.std.proofs.Common.{◌≡◌, ◌≤◌, map, length, sym, ap, subst, ◌∙◌}
 use Rattle.std.specs.Str.{bytes_eq}
 use Rattle.mmsyntax.specs.Assertions.{Distinct}
-use Rattle.history.specs.Entries.{living}
+use Rattle.catalog.specs.Entries.{living}
 use Rattle.library.specs.Library.{Setting, Verifies, label_of, ranked_from, opening}
 use Rattle.library.proofs.Opening.{opening_verifies}
 use Rattle.history.specs.Drafts.{now_in}
-use Rattle.history.proofs.Changing.{living-standing}
+use Rattle.catalog.proofs.Changing.{living-standing}
 use Rattle.history.proofs.editor.Editor.open.Goals as goal
 
 pub open-requires-clause-distinct : goal.open-requires-clause-distinct

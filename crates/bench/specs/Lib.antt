@@ -1,0 +1,4 @@
+-- The definitions that the contracts cite.
+pub mod Engines
+pub mod Patterns
+pub mod Teams

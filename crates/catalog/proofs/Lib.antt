@@ -1,0 +1,15 @@
+pub mod Living
+pub mod Reading
+pub mod Citable
+pub mod Counting
+pub mod Lines
+pub mod Changing
+pub mod Indexes
+pub mod Undoing
+pub mod Openings
+pub mod Citations
+pub mod Ascending
+pub mod Covering
+pub mod Members
+pub mod Reciting
+pub mod Known

@@ -1,0 +1,6 @@
+pub mod Entries
+pub mod Places
+pub mod Testing
+pub mod Listing
+pub mod Citers
+pub mod Changes

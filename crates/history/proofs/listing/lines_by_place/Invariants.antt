@@ -1,7 +1,0 @@
-use Rattle.std.proofs.Common.{◌≡◌, map, take}
-use Rattle.library.specs.Edits.{line}
-use Rattle.history.specs.Entries.{living}
-use Rattle.history.proofs.listing.lines_by_place.Given as goal
-
-abbrev pub invariant-loop-place : goal.invariant-loop-place
-invariant-loop-place l = l.lines.items ≡ map (line (living l.entries)) (living (take l.place l.entries))
