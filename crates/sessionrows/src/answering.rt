@@ -18,11 +18,12 @@ ghost use Rattle.sessionrows.specs.Opened.{IsOpen};
 ghost use Rattle.sessionrows.specs.Tables.{Stands};
 
 use crate::looking::look;
+use crate::names::place_of;
 use crate::opened::Opened;
 use crate::printing::write_outcome;
-use crate::seats::place_of;
+use crate::seats::learn;
 use crate::table::Table;
-use crate::trying::{attempt, learn};
+use crate::trying::attempt;
 use crate::undone::Undone;
 use crate::words::first_word;
 use std::alloc::{AllocError, Global};

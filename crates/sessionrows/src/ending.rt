@@ -1,12 +1,12 @@
 //! Ends of libraries.
 
-ghost use Rattle.std.specs.Prelude.{◌≤◌, All, IfOk, map};
+ghost use Rattle.std.specs.Prelude.{◌≤◌, map};
 ghost use Rattle.derivation.specs.Databases.{AllCheck};
 ghost use Rattle.library.specs.Histories.{told, EntriesFit};
-ghost use Rattle.transaction.specs.Members.{IsOf};
 ghost use Rattle.sessionrows.specs.Opened.{IsOpen};
 
 use crate::opened::Opened;
+use crate::seats::leave_others;
 use crate::undone::Undone;
 use export::{put_library, write_library};
 use finishing::{FinishError, finish};
@@ -15,7 +15,6 @@ use library::{Entry, PlainLibrary};
 use mmsyntax::Database;
 use std::alloc::{AllocError, Global};
 use std::hash::RandomState;
-use transaction::{Library, Session};
 
 /// Ends a library with the sessions at these places alone. The lines of its end: the number of entries and the text of the library after
 /// them, and whether the replay of the history gives the same library; or why it has no whole history.
@@ -34,39 +33,17 @@ pub fn end(
     let Opened {
         database,
         library,
-        sessions,
+        mut sessions,
     } = opened;
     let slots = library.slots();
-    let handed = chosen(alloc, &library, sessions, places)?;
-    match finish(alloc, library, handed) {
+    leave_others(&library, &mut sessions, places);
+    match finish(alloc, library, sessions) {
         Ok((history, after)) => {
             let same = is_replayed(alloc, keys, &database, slots, history.as_slice(), &after)?;
             write_end(alloc, history.as_slice().len(), &after, same)
         }
         Err(error) => write_unfinished(alloc, error),
     }
-}
-
-/// The sessions at these places.
-fn chosen(
-    alloc: Global,
-    library: &Library,
-    mut sessions: Vec<Session>,
-    places: &[usize],
-) -> Result<Vec<Session>, AllocError>
-    requires { All (IsOf library.now) sessions.items }
-    ensures { IfOk result (λ made. All (IsOf library.now) made.items) }
-{
-    let _ = library;
-    let mut made = Vec::new(alloc);
-    for place in (0..sessions.len()).rev() {
-        if let Some(session) = sessions.pop()
-            && places.contains(&place)
-        {
-            made.push(session)?;
-        }
-    }
-    Ok(made)
 }
 
 /// Whether the replay of a history over the database gives this library.

@@ -3,9 +3,9 @@
 ghost use Rattle.sessionrows.specs.Tables.{Stands};
 
 use crate::ending::end;
+use crate::names::places_of;
 use crate::opened::{Opened, open};
 use crate::printing::write_unopened;
-use crate::seats::places_of;
 use crate::undone::Undone;
 use crate::words::{first_word, number_of};
 use std::alloc::Global;

@@ -1,6 +1,5 @@
-//! What the sessions of a library do: transactions, and learning of one another.
+//! Transactions of sessions.
 
-ghost use Rattle.std.specs.Prelude.{All};
 ghost use Rattle.transaction.specs.Members.{IsOf};
 
 use crate::undone::Undone;
@@ -36,28 +35,4 @@ pub fn attempt(
         return Err(Undone::Unreadable);
     };
     Ok(session.attempt(alloc, library, transaction))
-}
-
-/// Tells the session at one place what the one at another has seen.
-///
-/// # Errors
-///
-/// `Unreadable` where there are no two such sessions; want of memory.
-pub fn learn(
-    library: &Library,
-    sessions: &mut Vec<Session>,
-    place: usize,
-    other: usize,
-) -> Result<(), Undone>
-    requires { All (IsOf library.now) sessions.old.items }
-    ensures { All (IsOf library.now) sessions.new.items }
-{
-    if place == other || place >= sessions.len() || other >= sessions.len() {
-        return Err(Undone::Unreadable);
-    }
-    let mut told = sessions.remove(other);
-    let place = if other < place { place - 1 } else { place };
-    sessions[place].learn(library, &mut told);
-    sessions.insert(other, told)?;
-    Ok(())
 }
