@@ -140,12 +140,3 @@ fn a_megabyte_is_taken(rt: HostRuntime) -> Result<(), Fail> {
     assert!(rt; writer.held.as_slice() == text.as_slice());
     Ok(())
 }
-
-#[test]
-fn all_is_taken_by_a_vector(rt: HostRuntime) -> Result<(), Fail> {
-    let library = library(&rt, mini())?;
-    let mut text = Vec::new(rt.alloc());
-    assert_eq!(rt; export(rt.alloc(), &library, &mut text), Ok(()));
-    assert_eq!(rt; text.as_slice(), mini());
-    Ok(())
-}

@@ -6,7 +6,6 @@ use crate::shared::mini;
 use crate::slots::{demo, free_from, opened, three, value_of};
 use cells::Cells;
 use commands::{RunError, run};
-use library::{Reason, Refused};
 use mmstatement::Prelude;
 use plaincells::PlainStop;
 use ranges::Range;
@@ -112,22 +111,6 @@ fn an_equal_proof_is_staged_again(rt: HostRuntime) -> Result<(), Fail> {
         (value_of(&cells, 12), value_of(&cells, 4), cells.taken()),
         (Some(35 * 33_554_432 + 3), Some(1), 38)
     );
-    Ok(())
-}
-
-#[test]
-fn a_refused_command_stages_nothing(rt: HostRuntime) -> Result<(), Fail> {
-    let alloc = rt.alloc();
-    let mut cells = opened(&rt, mini(), 1, 100)?;
-    let prelude = cells.prelude().copy(alloc)?;
-    let script = b"begin show we add 200 t $p wff $= we $. commit";
-    let answer = done_in(alloc, &prelude, &mut cells, script)?;
-    let full = Refused {
-        index: 2,
-        reason: Reason::LibraryFull,
-    };
-    assert!(rt; matches!(answer, Err(RunError::Refused(refused)) if refused == full));
-    assert_eq!(rt; cells.taken(), 7);
     Ok(())
 }
 

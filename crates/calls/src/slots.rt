@@ -251,25 +251,6 @@ pub(crate) fn demo(alloc: Global) -> Result<Vec<u8>, AllocError> {
     Ok(text)
 }
 
-#[test]
-fn a_database_is_read_back(rt: HostRuntime) -> Result<(), Fail> {
-    let alloc = rt.alloc();
-    let text = demo(alloc)?;
-    // 9 + 13 + 11 + 13 + 22 + 14 + 18 words of the axioms, and 3 + 3 + 5 + 34 of the theorem
-    let mut cells = opened(&rt, text.as_slice(), 8, 145)?;
-    assert_eq!(rt; cells.taken(), 145);
-    let prelude = cells.prelude().copy(alloc)?;
-    let mut back = Vec::new(alloc);
-    for slot in 0..8 {
-        let (written, _) = entry_of(alloc, &prelude, &mut cells, slot)?;
-        back.extend_from_slice(written.as_slice())?;
-    }
-    assert_eq!(rt; back.as_slice(), demo_assertions());
-    let refused = opening(&rt, text.as_slice(), 8, 144)?;
-    assert!(rt; matches!(refused, Err(OpenError::StoreFull)));
-    Ok(())
-}
-
 /// Puts the slot 1 before the others of the chain of `we`.
 fn chain_second<C: Cells>(cells: &mut C) -> bool
     requires { (C.sight cells.old).may_write ≡ true }
