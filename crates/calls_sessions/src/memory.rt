@@ -1,0 +1,278 @@
+//! Want of memory: what calls on a library in running words answer where it is refused, and what they answer after that.
+//!
+//! Each test passes where memory is there, and `tools/refuse-memory` runs it with each allocation refused in turn. What the call that it
+//! is of answers is asserted. Where memory is refused to what goes before that call or comes after it, the test ends with want of memory
+//! as its error.
+
+ghost use Rattle.transaction.specs.Members.{IsOf};
+
+use crate::sessions::{last, opened, opening, tried, with};
+use export::write_library;
+use finishing::{FinishError, finish};
+use samples::{demo, three};
+use scripts::Reply;
+use std::alloc::{AllocError, AllocGlobal, Global};
+use std::random::RandomSource;
+use std::test::Fail;
+use std::thread::Threads;
+use transaction::{Library, Look, OpenError, Outcome, Session};
+
+/// A database with `$d` and `$e`, whose second theorem cites the first: both are of the same rule.
+fn rules(alloc: Global) -> Result<Vec<u8>, AllocError> {
+    let mut text = Vec::from_slice(alloc, three())?;
+    text.extend_from_slice(
+        b"${
+  $d x y $.
+  th2.1 $e |- x y $.
+  th2 $p |- x y x $= wx wy th2.1 th $.
+$}
+",
+    )?;
+    Ok(text)
+}
+
+/// What becomes of the one transaction of a script by one try, or where memory was refused to that, by the next.
+fn tried_again(
+    alloc: Global,
+    library: &Library,
+    session: &mut Session,
+    script: &[u8],
+) -> Result<Outcome, Fail>
+    requires { IsOf library.now session.old }
+    ensures { IsOf library.now session.new }
+{
+    match tried(alloc, library, session, script)? {
+        Outcome::NoMemory => tried(alloc, library, session, script),
+        outcome => Ok(outcome),
+    }
+}
+
+/// The same over a library of its own, that of a text.
+fn tried_on(
+    rt: &(impl AllocGlobal + RandomSource + Threads + Sync),
+    text: &[u8],
+    script: &[u8],
+) -> Result<Outcome, Fail> {
+    let (library, mut sessions) = opened(rt, text, 1000, 1)?;
+    let mut session = last(&library, &mut sessions)?;
+    tried_again(rt.alloc(), &library, &mut session, script)
+}
+
+/// The same over the library of `examples/demo.mm`.
+fn tried_on_demo(
+    rt: &(impl AllocGlobal + RandomSource + Threads + Sync),
+    script: &[u8],
+) -> Result<Outcome, Fail> {
+    tried_on(rt, demo(rt.alloc())?.as_slice(), script)
+}
+
+/// Whether the one transaction of a script, which is one edit, is the first entry of the history.
+fn is_first(
+    rt: &(impl AllocGlobal + RandomSource + Threads + Sync),
+    script: &[u8],
+) -> Result<bool, Fail> {
+    match tried_on_demo(rt, script)? {
+        Outcome::Committed { number: 1, replies } => {
+            Ok(matches!(replies.as_slice(), [Reply::Done]))
+        }
+        _ => Ok(false),
+    }
+}
+
+#[test]
+fn an_addition_is_tried_again(rt: HostRuntime) -> Result<(), Fail> {
+    assert!(rt; is_first(&rt, b"begin add 900 th2 $p |- 0 = 0 $= tze th1 $. commit")?);
+    Ok(())
+}
+
+#[test]
+fn a_new_proof_is_tried_again(rt: HostRuntime) -> Result<(), Fail> {
+    let script =
+        b"begin reprove th1 $= tt tze tpl tt weq tt tt weq tt a2 tt tze tpl tt weq tt tze tpl tt weq tt tt weq wim
+tt a2 tt tze tpl tt tt a1 mp mp $. commit";
+    assert!(rt; is_first(&rt, script)?);
+    Ok(())
+}
+
+#[test]
+fn a_replacement_is_tried_again(rt: HostRuntime) -> Result<(), Fail> {
+    assert!(rt; is_first(&rt, b"begin replace th1 a2 a2 commit")?);
+    Ok(())
+}
+
+#[test]
+fn a_renaming_is_tried_again(rt: HostRuntime) -> Result<(), Fail> {
+    assert!(rt; is_first(&rt, b"begin rename th1 refl commit")?);
+    Ok(())
+}
+
+#[test]
+fn a_move_is_tried_again(rt: HostRuntime) -> Result<(), Fail> {
+    assert!(rt; is_first(&rt, b"begin move th1 801 commit")?);
+    Ok(())
+}
+
+#[test]
+fn a_deletion_is_tried_again(rt: HostRuntime) -> Result<(), Fail> {
+    assert!(rt; is_first(&rt, b"begin delete th1 commit")?);
+    Ok(())
+}
+
+#[test]
+fn what_is_shown_is_tried_again(rt: HostRuntime) -> Result<(), Fail> {
+    match tried_on_demo(&rt, b"begin show th1 commit")? {
+        Outcome::Read { place: 0, replies } => {
+            let [Reply::Shown { citers: 0, shown }] = replies.as_slice() else {
+                return Err(Fail::from("the assertion is shown"));
+            };
+            assert_eq!(rt;
+                (shown.rank, shown.assertion.proof.as_slice().len()),
+                (800, 34)
+            );
+        }
+        _ => return Err(Fail::from("it is read at the place 0")),
+    }
+    Ok(())
+}
+
+#[test]
+fn a_list_is_tried_again(rt: HostRuntime) -> Result<(), Fail> {
+    match tried_on_demo(&rt, b"begin list commit")? {
+        Outcome::Read { place: 0, replies } => {
+            let [Reply::Listed { lines }] = replies.as_slice() else {
+                return Err(Fail::from("the assertions are listed"));
+            };
+            assert_eq!(rt; lines.as_slice().len(), 8);
+        }
+        _ => return Err(Fail::from("it is read at the place 0")),
+    }
+    Ok(())
+}
+
+#[test]
+fn all_commands_are_tried_again(rt: HostRuntime) -> Result<(), Fail> {
+    let script = b"begin add 900 th2 $p |- 0 = 0 $= tze th1 $.
+reprove th2 $= tze tze tpl tze weq tze tze weq tze a2 tze tze tpl tze weq tze tze tpl tze weq tze tze weq wim
+tze a2 tze tze tpl tze tze a1 mp mp $.
+replace th2 a2 a2 rename th2 zero move zero 901 show zero list delete zero commit";
+    match tried_on_demo(&rt, script)? {
+        Outcome::Committed { number: 1, replies } => assert_eq!(rt; replies.as_slice().len(), 8),
+        _ => return Err(Fail::from("it is the first entry")),
+    }
+    Ok(())
+}
+
+#[test]
+fn all_commands_on_rules_are_tried_again(rt: HostRuntime) -> Result<(), Fail> {
+    let script =
+        b"begin add 500 ${ $d x y $. th3.1 $e |- x y $. th3 $p |- x y x $= wx wy th3.1 th2 $. $}
+reprove th3 $= wx wy th3.1 th $.
+replace th3 th th rename th3 rule move rule 501 show rule list delete rule commit";
+    match tried_on(&rt, rules(rt.alloc())?.as_slice(), script)? {
+        Outcome::Committed { number: 1, replies } => assert_eq!(rt; replies.as_slice().len(), 8),
+        _ => return Err(Fail::from("it is the first entry")),
+    }
+    Ok(())
+}
+
+/// How many sessions the library of a text has, or why it isn't opened: by one try, or where memory was refused to that, by the next.
+fn opened_again(
+    rt: &(impl AllocGlobal + RandomSource + Threads + Sync),
+    text: &[u8],
+) -> Result<Result<usize, OpenError>, Fail> {
+    let made = match opening(rt, text, 4096, 1000, 2)? {
+        Err(OpenError::NoMemory) => opening(rt, text, 4096, 1000, 2)?,
+        made => made,
+    };
+    match made {
+        Ok((_, sessions)) => Ok(Ok(sessions.len())),
+        Err(error) => Ok(Err(error)),
+    }
+}
+
+#[test]
+fn a_library_is_opened_again(rt: HostRuntime) -> Result<(), Fail> {
+    let made = opened_again(&rt, demo(rt.alloc())?.as_slice())?;
+    assert_eq!(rt; made, Ok(2));
+    Ok(())
+}
+
+#[test]
+fn a_library_of_rules_is_opened_again(rt: HostRuntime) -> Result<(), Fail> {
+    let made = opened_again(&rt, rules(rt.alloc())?.as_slice())?;
+    assert_eq!(rt; made, Ok(2));
+    Ok(())
+}
+
+/// What a look at the whole library gives, or where memory was refused to that, the next look.
+fn looked_again(alloc: Global, library: &Library, session: &mut Session) -> Look
+    requires { IsOf library.now session.old }
+    ensures { IsOf library.now session.new }
+{
+    match session.snapshot(alloc, library) {
+        Look::NoMemory => session.snapshot(alloc, library),
+        look => look,
+    }
+}
+
+/// Whether a look at the library of a text sees at the place 0 just what the text says.
+fn is_seen(
+    rt: &(impl AllocGlobal + RandomSource + Threads + Sync),
+    text: &[u8],
+) -> Result<bool, Fail> {
+    let alloc = rt.alloc();
+    let (library, mut sessions) = opened(rt, text, 1000, 1)?;
+    let mut session = last(&library, &mut sessions)?;
+    match looked_again(alloc, &library, &mut session) {
+        Look::Read {
+            place: 0,
+            library: seen,
+        } => Ok(write_library(alloc, &seen)?.as_slice() == text),
+        _ => Ok(false),
+    }
+}
+
+#[test]
+fn a_look_is_tried_again(rt: HostRuntime) -> Result<(), Fail> {
+    assert!(rt; is_seen(&rt, demo(rt.alloc())?.as_slice())?);
+    Ok(())
+}
+
+#[test]
+fn a_look_at_rules_is_tried_again(rt: HostRuntime) -> Result<(), Fail> {
+    assert!(rt; is_seen(&rt, rules(rt.alloc())?.as_slice())?);
+    Ok(())
+}
+
+/// How many entries and assertions the library of a text has at its end, behind the one transaction of a script; or why it has no end.
+fn ended(
+    rt: &(impl AllocGlobal + RandomSource + Threads + Sync),
+    text: &[u8],
+    script: &[u8],
+) -> Result<Result<(usize, usize), FinishError>, Fail> {
+    let alloc = rt.alloc();
+    let (library, mut sessions) = opened(rt, text, 1000, 1)?;
+    let mut session = last(&library, &mut sessions)?;
+    tried_again(alloc, &library, &mut session, script)?;
+    with(&library, &mut sessions, session)?;
+    match finish(alloc, library, sessions) {
+        Ok((history, after)) => Ok(Ok((history.as_slice().len(), after.entries().len()))),
+        Err(error) => Ok(Err(error)),
+    }
+}
+
+#[test]
+fn an_end_is_whole_or_lacks_memory(rt: HostRuntime) -> Result<(), Fail> {
+    let text = demo(rt.alloc())?;
+    let end = ended(&rt, text.as_slice(), b"begin rename th1 refl commit")?;
+    assert!(rt; end == Ok((1, 8)) || end == Err(FinishError::NoMemory));
+    Ok(())
+}
+
+#[test]
+fn an_end_of_rules_is_whole_or_lacks_memory(rt: HostRuntime) -> Result<(), Fail> {
+    let text = rules(rt.alloc())?;
+    let end = ended(&rt, text.as_slice(), b"begin rename th2 rule commit")?;
+    assert!(rt; end == Ok((1, 4)) || end == Err(FinishError::NoMemory));
+    Ok(())
+}
