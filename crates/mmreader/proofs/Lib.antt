@@ -1,6 +1,3 @@
-pub mod LabelMaps
-pub mod BlockPlaces
-pub mod PairsAgain
 pub mod Keywords
 pub mod Ordinary
 pub mod Leading

@@ -30,7 +30,8 @@ use Rattle.mmsyntax.specs.Faults.{Position, at, faulted, tested, given, outermos
 use Rattle.mmsyntax.specs.Faults.{variable_row, float_end_row, distinct_row, hypothesis_row, axiom_row, theorem_row, proof_row, behind}
 use Rattle.mmsyntax.specs.Faults.{in_place, row, unit_at, unit_row}
 use Rattle.mmtext.specs.declared.fault.Stop.{Stop}
-use Rattle.mmreader.specs.Views.{seen_place, known_of, IsUnitPlace, Leads}
+use Rattle.mmunits.specs.Views.{known_of}
+use Rattle.mmreader.specs.Views.{seen_place, IsUnitPlace, Leads}
 use Rattle.mmtext.proofs.Turns.{OnPlace}
 use Rattle.mmsyntax.proofs.Sound.{cond_none, if_ok, free_variable}
 use Rattle.mmsyntax.proofs.Again.{none_is}

@@ -20,7 +20,8 @@ use Rattle.mmsyntax.specs.Tables.{Tables}
 use Rattle.mmsyntax.specs.Rows.{Known, Units}
 use Rattle.mmsyntax.specs.Faults.{Place, outside, inside, at_start, in_constants, in_variables, float_type, float_variable, float_end}
 use Rattle.mmsyntax.specs.Faults.{Position, in_place, row, first_of, unit_at, unit_row}
-use Rattle.mmreader.specs.Views.{seen_place, seen_unit_place, seen_position, known_of, Leads}
+use Rattle.mmunits.specs.Views.{known_of}
+use Rattle.mmreader.specs.Views.{seen_place, seen_unit_place, seen_position, Leads}
 use Rattle.mmreader.specs.UnitReadings.{UnitReading, position_of, GoesOn}
 use Rattle.mmreader.specs.Readers.{IsReadyUnit}
 use Rattle.mmreader.proofs.Runs.{InUnit, UnitAt, StandsAt, row_at, row_stands, row_unit, unit_row_stands, unit_row_unit, unit_place}

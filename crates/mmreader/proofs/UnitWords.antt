@@ -10,7 +10,7 @@ use Rattle.mmsyntax.specs.Faults.{Place, unit_at}
 use Rattle.mmreader.specs.Takings.{TakesWord}
 use Rattle.mmreader.specs.UnitReadings.{UnitReading}
 use Rattle.mmreader.specs.UnitViews.{TakesInUnit}
-use Rattle.mmreader.specs.Views.{known_of}
+use Rattle.mmunits.specs.Views.{known_of}
 use Rattle.mmreader.proofs.Words.{plain_row}
 
 -- what is taken ends no assertion

@@ -1,6 +1,3 @@
-pub mod Labels
-pub mod HypothesisPlaces
-pub mod StandingPairs
 pub mod Views
 pub mod Recalls
 pub mod Takings

@@ -8,7 +8,8 @@ use Rattle.mmreader.specs.declared.place.AssertionReader.{AssertionReader}
 use Rattle.mmreader.specs.Standing.{Stands}
 use Rattle.mmreader.specs.Recalls.{Knows}
 use Rattle.mmreader.specs.UnitReadings.{GoesOn}
-use Rattle.mmreader.specs.Views.{seen_place, seen_position, known_of, IsUnitPlace}
+use Rattle.mmunits.specs.Views.{known_of}
+use Rattle.mmreader.specs.Views.{seen_place, seen_position, IsUnitPlace}
 
 -- the place of a reader of databases
 abbrev pub database_place : DatabaseReader → Position

@@ -4,7 +4,7 @@ use Rattle.mmsyntax.specs.Tables.{Tables}
 use Rattle.mmsyntax.specs.Rows.{Units, no_units}
 use Rattle.mmsyntax.specs.Faults.{Place, outside, at_start, Position}
 use Rattle.mmreader.specs.Standing.{Stands}
-use Rattle.mmreader.specs.Views.{known_of}
+use Rattle.mmunits.specs.Views.{known_of}
 
 -- what is known of it, and the place
 pub record UnitReading : Type 0 where

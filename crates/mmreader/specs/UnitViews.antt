@@ -11,7 +11,7 @@ use Rattle.mmsyntax.specs.Faults.{Position, row, unit_at}
 use Rattle.mmreader.specs.declared.reading.unit_reader.UnitProgress.{UnitProgress}
 use Rattle.mmreader.specs.declared.reading.unit_reader.UnitProgress.TheVariants.{Within, Whole}
 use Rattle.mmreader.specs.UnitReadings.{UnitReading, position_of}
-use Rattle.mmreader.specs.Views.{known_of}
+use Rattle.mmunits.specs.Views.{known_of}
 
 -- within the assertion, or with the whole assertion behind it
 abbrev pub IsProgress : Tables → UnitProgress → Position → Type 0

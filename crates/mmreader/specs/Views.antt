@@ -15,15 +15,12 @@ use Rattle.mmtext.specs.declared.fault.Stop.{Stop}
 use Rattle.mmtext.specs.declared.fault.TextFault.{TextFault}
 use Rattle.mmtext.specs.Views.{seen, Gives}
 use Rattle.mmsyntax.specs.Tables.{Tables, Contents}
-use Rattle.mmsyntax.specs.Rows.{Units, Known}
+use Rattle.mmsyntax.specs.Rows.{Units}
 use Rattle.mmsyntax.specs.Faults.{Scope, outside, inside, Place, at_start, at_close, after_label, in_constants, in_variables, float_type}
 use Rattle.mmsyntax.specs.Faults.{float_variable, float_end, in_distinct, in_hypothesis, in_axiom, in_theorem, in_proof, Position}
+use Rattle.mmunits.specs.Views.{known_of}
 
 -- ---- values
-
--- what is known, which the code keeps in two
-abbrev pub known_of : Tables → Units → Known
-known_of t u = record { tables = t; units = u }
 
 -- a scope of the code
 abbrev pub seen_scope : CodeScope → Scope

@@ -1,10 +1,7 @@
 //! Reading texts: a database, or a single assertion over a prelude.
 #![tactic(auto)]
 
-mod block;
-mod known;
 pub mod laws;
-mod pair_set;
 mod place;
 mod reading;
 mod recent;

@@ -3,11 +3,10 @@
 ghost use Rattle.std.specs.Prelude.{◌≡◌};
 ghost use Rattle.mmreader.specs.Views.{seen_place, seen_behind, is_outermost};
 
-use crate::block::Block;
-use crate::known::Units;
 use crate::recent::Recent;
 use mmsyntax::{Step, Symbol, SymbolTable};
 use mmtext::Token;
+use mmunits::{Block, Units};
 
 /// Outermost, or in a block that holds this much.
 #[derive(Drop)]

@@ -11,7 +11,8 @@ ghost use Rattle.mmsyntax.specs.Grammar.{Spells};
 ghost use Rattle.mmsyntax.specs.Layout.{HasSpelling};
 ghost use Rattle.mmtext.specs.Views.{seen};
 ghost use Rattle.mmreader.specs.Standing.{Stands};
-ghost use Rattle.mmreader.specs.Views.{seen_place, seen_position, known_of, contents_of, IsUnitPlace, Leads};
+ghost use Rattle.mmunits.specs.Views.{known_of};
+ghost use Rattle.mmreader.specs.Views.{seen_place, seen_position, contents_of, IsUnitPlace, Leads};
 
 mod labels;
 mod prelude_rows;
@@ -21,11 +22,11 @@ mod unit_rows;
 mod units;
 mod words;
 
-use crate::known::Units;
 use crate::place::{DatabaseReader, Place, Scope, UnitPlace, is_outermost};
 use crate::recent::Recent;
 use mmsyntax::{Assertion, Database, Prelude, Sequence, SymbolTable};
 use mmtext::{Mark, Reader, Stop, TextFault, Token, no_memory, read_text};
+use mmunits::Units;
 use prelude_rows::next_prelude_place;
 use std::alloc::Global;
 use std::hash::RandomState;

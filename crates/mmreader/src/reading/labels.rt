@@ -4,12 +4,11 @@ ghost use Rattle.std.specs.Prelude.{◌≡◌, ◌==◌};
 ghost use Rattle.mmsyntax.specs.Rows.{first_fault, symbol_tests, float_label_tests, assertion_label_tests};
 ghost use Rattle.mmsyntax.specs.Rows.{symbol_named, unless_full, symbol_of};
 ghost use Rattle.mmsyntax.specs.Blocks.{hypothesis_label_tests};
-ghost use Rattle.mmreader.specs.Views.{known_of};
+ghost use Rattle.mmunits.specs.Views.{known_of};
 
-use crate::block::Block;
-use crate::known::{Units, has_name};
 use mmsyntax::{Name, Symbol, SymbolTable};
 use mmtext::{FaultKind, contains_dollar, contains_dot, names_hypothesis};
+use mmunits::{Block, Units, has_name};
 
 /// The most bytes of a symbol, and of a label that isn't one of a `$e`.
 pub(crate) const MOST_LABEL_BYTES: usize = 255;

@@ -6,14 +6,15 @@ ghost use Rattle.mmsyntax.specs.Rows.{type_of, variable_of};
 ghost use Rattle.mmsyntax.specs.Faults.{constant_row, variable_row, type_row, float_variable_row, float_end_row, in_place};
 ghost use Rattle.mmtext.specs.Views.{seen};
 ghost use Rattle.mmreader.specs.Standing.{IsFree, Stands};
-ghost use Rattle.mmreader.specs.Views.{seen_prelude_place, known_of, Leads};
+ghost use Rattle.mmunits.specs.Views.{known_of};
+ghost use Rattle.mmreader.specs.Views.{seen_prelude_place, Leads};
 ghost use Rattle.mmsyntax.specs.declared.symbols.Name.TheVariants.{Variable};
 
 use super::labels::symbol_fault;
-use crate::known::Units;
 use crate::place::{Place, PreludePlace, Scope, UnitPlace};
 use mmsyntax::{Name, SymbolTable};
 use mmtext::{FaultKind, Mark, Stop, Token, contains_dollar, fault_at};
+use mmunits::Units;
 use std::alloc::Global;
 
 /// A symbol in `$c`, or the `$.` behind one.

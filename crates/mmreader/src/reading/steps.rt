@@ -12,11 +12,11 @@ ghost use Rattle.mmreader.specs.Takings.{step_as, step_or_fault};
 ghost use Rattle.mmreader.specs.Views.{seen_scope};
 
 use super::labels::{MOST_LABEL_BYTES, MOST_SYMBOLS};
-use crate::block::Block;
 use crate::place::Scope;
 use crate::recent::{Recalled, Recent};
 use mmsyntax::{Label, Name, Step, SymbolTable, is_dotted};
 use mmtext::{FaultKind, contains_dollar, is_label_token};
+use mmunits::Block;
 use std::alloc::{AllocError, Global};
 
 /// The most steps of a proof.

@@ -7,15 +7,15 @@ ghost use Rattle.mmsyntax.specs.Faults.{theorem_row, proof_row, behind, block_of
 ghost use Rattle.mmtext.specs.Views.{seen};
 ghost use Rattle.mmtext.specs.declared.mark.Mark.TheVariants.{Floating, Essential};
 ghost use Rattle.mmreader.specs.Standing.{Stands};
-ghost use Rattle.mmreader.specs.Views.{seen_scope, seen_behind, seen_unit_place, known_of, Leads};
+ghost use Rattle.mmunits.specs.Views.{known_of};
+ghost use Rattle.mmreader.specs.Views.{seen_scope, seen_behind, seen_unit_place, Leads};
 
 use super::labels::{assertion_label_fault, float_label_fault, hypothesis_label_fault, symbol_at};
 use super::steps::{restrict, step_at, step_for};
-use crate::block::Block;
-use crate::known::Units;
 use crate::place::{Behind, Place, PreludePlace, Scope, Theorem, UnitPlace};
 use mmsyntax::{Assertion, Kind, Label, Sequence, Step, Symbol, SymbolTable};
 use mmtext::{FaultKind, Mark, Stop, Token, fault_at, is_label_token};
+use mmunits::{Block, Units};
 use std::alloc::{AllocError, Global};
 
 /// Start of a statement, outermost.

@@ -12,13 +12,14 @@ ghost use Rattle.mmsyntax.specs.Grammar.{SpellsUnit};
 ghost use Rattle.mmtext.specs.Views.{seen};
 ghost use Rattle.mmreader.specs.Standing.{Stands};
 ghost use Rattle.mmreader.specs.Readers.{IsReadyUnit};
-ghost use Rattle.mmreader.specs.Views.{seen_place, seen_position, known_of, IsUnitPlace, Leads};
+ghost use Rattle.mmunits.specs.Views.{known_of};
+ghost use Rattle.mmreader.specs.Views.{seen_place, seen_position, IsUnitPlace, Leads};
 
 use super::unit_rows::next_unit_place;
-use crate::known::Units;
 use crate::place::{AssertionReader, Place, Scope, UnitPlace, is_outermost};
 use mmsyntax::{Assertion, Prelude, SymbolTable};
 use mmtext::{FaultKind, Mark, Reader, Stop, TextFault, Token, fault_at, no_memory, read_text};
+use mmunits::Units;
 use std::alloc::Global;
 use std::hash::RandomState;
 use std::mem;

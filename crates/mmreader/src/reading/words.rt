@@ -8,7 +8,8 @@ ghost use Rattle.mmtext.specs.Views.{seen};
 ghost use Rattle.mmreader.specs.Recalls.{IsTrueOf, Knows};
 ghost use Rattle.mmreader.specs.Standing.{Stands};
 ghost use Rattle.mmreader.specs.Takings.{TakesItem, TakesWord, step_or_fault};
-ghost use Rattle.mmreader.specs.Views.{seen_scope, seen_unit_place, seen_place, known_of};
+ghost use Rattle.mmunits.specs.Views.{known_of};
+ghost use Rattle.mmreader.specs.Views.{seen_scope, seen_unit_place, seen_place};
 
 use super::labels::symbol_named;
 use super::steps::{MOST_STEPS, Named, recalled_step, step_at, step_for};

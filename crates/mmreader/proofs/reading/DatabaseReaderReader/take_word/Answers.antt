@@ -1,6 +1,7 @@
 -- What is left to show of `take_word` of a `DatabaseReader`.
 use Rattle.mmtext.specs.Views.{seen}
-use Rattle.mmreader.specs.Views.{seen_place, known_of}
+use Rattle.mmunits.specs.Views.{known_of}
+use Rattle.mmreader.specs.Views.{seen_place}
 use Rattle.mmreader.proofs.Words.{taken, ready_after}
 use Rattle.mmreader.proofs.reading.DatabaseReaderReader.take_word.Goals as goal
 

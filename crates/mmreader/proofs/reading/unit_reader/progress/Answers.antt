@@ -1,7 +1,8 @@
 -- What is left to show of `progress`.
 use Rattle.std.proofs.Common.{[], sym, ◌∙◌}
 use Rattle.mmsyntax.specs.Tables.{Tables}
-use Rattle.mmreader.specs.Views.{known_of, seen_place}
+use Rattle.mmunits.specs.Views.{known_of}
+use Rattle.mmreader.specs.Views.{seen_place}
 use Rattle.mmreader.proofs.UnitRows.{some_first}
 use Rattle.mmreader.proofs.reading.unit_reader.progress.Goals as goal
 

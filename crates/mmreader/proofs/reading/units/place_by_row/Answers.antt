@@ -2,7 +2,8 @@
 use Rattle.std.proofs.Common.{sym, subst, ap, ◌∙◌}
 use Rattle.mmsyntax.specs.Faults.{in_place}
 use Rattle.mmtext.specs.Views.{seen}
-use Rattle.mmreader.specs.Views.{seen_place, seen_position, known_of, Leads}
+use Rattle.mmunits.specs.Views.{known_of}
+use Rattle.mmreader.specs.Views.{seen_place, seen_position, Leads}
 use Rattle.mmreader.proofs.Runs.{unit_row_at}
 use Rattle.mmreader.proofs.reading.units.place_by_row.Goals as goal
 

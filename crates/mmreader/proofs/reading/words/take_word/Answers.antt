@@ -2,7 +2,8 @@
 use Rattle.std.proofs.Common.{sym, subst}
 use Rattle.mmtext.specs.Views.{seen}
 use Rattle.mmreader.specs.Takings.{TakesWord}
-use Rattle.mmreader.specs.Views.{seen_place, seen_unit_place, known_of}
+use Rattle.mmunits.specs.Views.{known_of}
+use Rattle.mmreader.specs.Views.{seen_place, seen_unit_place}
 use Rattle.mmreader.proofs.reading.words.take_word.Goals as goal
 
 pub returns-in-Unit-clause-taken : goal.returns-in-Unit-clause-taken

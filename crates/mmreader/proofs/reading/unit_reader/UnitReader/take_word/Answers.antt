@@ -1,6 +1,7 @@
 -- What is left to show of `UnitReader::take_word`.
 use Rattle.mmtext.specs.Views.{seen}
-use Rattle.mmreader.specs.Views.{seen_unit_place, known_of}
+use Rattle.mmunits.specs.Views.{known_of}
+use Rattle.mmreader.specs.Views.{seen_unit_place}
 use Rattle.mmreader.proofs.UnitWords.{taken_in_unit}
 use Rattle.mmreader.proofs.reading.unit_reader.UnitReader.take_word.Goals as goal
 

@@ -1,0 +1,117 @@
+-- Pairs in order, and what the map of a block's hypotheses finds after one more.
+use Rattle.std.proofs.Common.{◌≡◌, ℕ, zero, suc, ◌+◌, ◌<◌, Bool, true, false, cond, List, [], ◌∷◌, ◌++◌, length, get_or, drop}
+use Rattle.std.proofs.Common.{Option, Some, None, Vec}
+use Rattle.std.proofs.Common.{refl, sym, ap, subst, ◌∙◌, eqb, ltb, arith}
+use Rattle.std.specs.Prelude.{◌||◌, ◌&&◌}
+use Rattle.std.specs.Option.{option_map, option_or, is_some}
+use Rattle.std.specs.Str.{bytes_eq}
+use Rattle.std.specs.HashMap as hash
+use Rattle.std.specs.HashMap.{HashMap}
+use Rattle.std.specs.BTreeSet.{insert_key}
+use Rattle.std.specs.Ordering.{nat_cmp, ordering_then, match_ordering}
+use Rattle.std.specs.declared.cmp.Ordering.{Ordering}
+use Rattle.std.specs.declared.cmp.Ordering.TheVariants.{Less, Equal, Greater}
+use Rattle.std.specs.declared.alloc.Global.{Global}
+use Rattle.std.specs.declared.random_state.RandomState.{RandomState}
+use Rattle.std.proofs.lemmas.Bool.{ltb-true}
+use Rattle.mmsyntax.specs.Tables.{place_of}
+use Rattle.mmsyntax.specs.Blocks.{Hypothesis, with_pair}
+use Rattle.mmsyntax.specs.Steps.{hypothesis_named}
+use Rattle.mmunits.specs.HypothesisPlaces.{FindsHypotheses}
+use Rattle.mmsyntax.proofs.Names.{after_update, bytes_eq-sym, place_of-push, option_or-none, same_bytes, ne-eqb}
+
+-- ---- pairs
+
+-- the order of pairs
+abbrev pub pair_cmp : ℕ × ℕ → ℕ × ℕ → Ordering
+pair_cmp p q = ordering_then (nat_cmp p.0 q.0) (nat_cmp p.1 q.1)
+
+lt_not_eq : (m n : ℕ) → ltb m n ≡ true → eqb m n ≡ false
+lt_not_eq m n h = ne-eqb m n (λ e. let lt : m < n = ltb-true m n h in absurd (omega (arith, e)))
+
+put_by : {A : Type 0} (a b c d : Bool) → (a ≡ true → b ≡ false) → (c ≡ true → d ≡ false) → (x y z v : A) → z ≡ v
+    → match_ordering (ordering_then (cond a Less (cond b Equal Greater)) (cond c Less (cond d Equal Greater))) x y z
+    ≡ cond (b && d) y (cond (a || (b && c)) x v)
+put_by true true c d h g x y z v e = absurd (let f : true ≡ false = h refl in cc)
+put_by true false c d h g x y z v e = refl
+put_by false false c d h g x y z v e = e
+put_by false true true true h g x y z v e = absurd (let f : true ≡ false = g refl in cc)
+put_by false true true false h g x y z v e = refl
+put_by false true false true h g x y z v e = refl
+put_by false true false false h g x y z v e = e
+
+-- a pair is put into a set as into an ascending list
+pub pair_put : (p : ℕ × ℕ) (ps : List (ℕ × ℕ)) → insert_key pair_cmp ps p ≡ with_pair p ps
+pair_put p [] = refl
+pair_put p (q ∷ qs) =
+    put_by (ltb p.0 q.0) (eqb p.0 q.0) (ltb p.1 q.1) (eqb p.1 q.1) (lt_not_eq p.0 q.0) (lt_not_eq p.1 q.1) (p ∷ q ∷ qs) (q ∷ qs)
+    (q ∷ insert_key pair_cmp qs p) (q ∷ with_pair p qs) (ap (λ rest. q ∷ rest) (pair_put p qs))
+
+-- ---- hypotheses
+
+-- a place among those behind the first n
+abbrev pub behind : ℕ → Option ℕ → Option ℕ
+behind n o = option_map (λ m. n + m) o
+
+behind_suc : (n : ℕ) (o : Option ℕ) → behind (suc n) o ≡ option_map (λ m. suc m) (behind n o)
+behind_suc n None = refl
+behind_suc n (Some m) = ap (λ k. Some k) (let e : suc n + m ≡ suc (n + m) = omega arith in e)
+
+suc_behind : (n : ℕ) (o : Option ℕ) → behind n (option_map (λ m. suc m) o) ≡ behind (suc n) o
+suc_behind n None = refl
+suc_behind n (Some m) = ap (λ k. Some k) (let e : n + suc m ≡ suc n + m = omega arith in e)
+
+-- the item at a place passes, and is the first of what is left
+pub first_here : {A : Type 0} (test : A → Bool) (xs : List A) (i : ℕ) (d : A) → i < length xs → test (get_or xs i d) ≡ true
+    → behind i (place_of test (drop i xs)) ≡ Some i
+first_here test [] i d lt h = absurd (omega arith)
+first_here test (x ∷ xs) zero d lt h = ap (λ b. behind 0 (cond b (Some 0) (option_map (λ n. suc n) (place_of test xs)))) h
+first_here test (x ∷ xs) (suc i) d lt h =
+    behind_suc i (place_of test (drop i xs)) ∙ ap (λ o. option_map (λ m. suc m) o) (first_here test xs i d (omega arith) h)
+
+-- it doesn't, and the first is behind it
+pub first_later : {A : Type 0} (test : A → Bool) (xs : List A) (i : ℕ) (d : A) → i < length xs → test (get_or xs i d) ≡ false
+    → behind i (place_of test (drop i xs)) ≡ behind (suc i) (place_of test (drop (suc i) xs))
+first_later test [] i d lt h = absurd (omega arith)
+first_later test (x ∷ xs) zero d lt h =
+    ap (λ b. behind 0 (cond b (Some 0) (option_map (λ n. suc n) (place_of test xs)))) h ∙ suc_behind 0 (place_of test xs)
+first_later test (x ∷ xs) (suc i) d lt h =
+    behind_suc i (place_of test (drop i xs))
+    ∙ ap (λ o. option_map (λ m. suc m) o) (first_later test xs i d (omega arith) h)
+    ∙ sym (behind_suc (suc i) (place_of test (drop (suc i) xs)))
+
+or_new : (b : Bool) (n : ℕ) (o : Option ℕ) → (b ≡ true → is_some o ≡ false) → cond b (Some n) o ≡ option_or o (cond b (Some n) None)
+or_new true n None h = refl
+or_new true n (Some m) h = absurd (let f : true ≡ false = h refl in cc)
+or_new false n o h = sym (option_or-none o)
+
+or_old : (b : Bool) (n : ℕ) (o : Option ℕ) → (b ≡ true → is_some o ≡ true) → o ≡ option_or o (cond b (Some n) None)
+or_old b n (Some m) h = refl
+or_old true n None h = absurd (let f : false ≡ true = h refl in cc)
+or_old false n None h = refl
+
+-- whether the map has the label, at a word that is the label
+at_word : (m : HashMap (Vec ℕ Global) ℕ RandomState) (hyps : List Hypothesis) (label w : List ℕ) (b : Bool) → FindsHypotheses m hyps
+    → is_some (hash.get_by (λ k. bytes_eq label k.items) m) ≡ b → bytes_eq w label ≡ true → is_some (hypothesis_named hyps w) ≡ b
+at_word m hyps label w b at_m has same =
+    subst (λ x. is_some (hypothesis_named hyps x) ≡ b) (sym (same_bytes w label same)) (ap is_some (sym (at_m label)) ∙ has)
+
+-- one more hypothesis whose label is in the map already
+pub found_before : (m : HashMap (Vec ℕ Global) ℕ RandomState) (hyps after : List Hypothesis) (h : Hypothesis) → FindsHypotheses m hyps
+    → is_some (hash.get_by (λ k. bytes_eq h.label k.items) m) ≡ true → after ≡ hyps ++ h ∷ [] → FindsHypotheses m after
+found_before m hyps after h at_m has pushed w =
+    at_m w ∙ or_old (bytes_eq w h.label) (length hyps) (hypothesis_named hyps w) (at_word m hyps h.label w true at_m has)
+    ∙ sym (place_of-push (λ g. bytes_eq w g.label) hyps h) ∙ ap (λ hs. hypothesis_named hs w) (sym pushed)
+
+-- one more hypothesis whose label isn't
+pub found_now : (m n : HashMap (Vec ℕ Global) ℕ RandomState) (k : Vec ℕ Global) (hyps after : List Hypothesis) (h : Hypothesis) (place : ℕ)
+    → FindsHypotheses m hyps → is_some (hash.get_by (λ k. bytes_eq h.label k.items) m) ≡ false → k.items ≡ h.label → place ≡ length hyps
+    → after ≡ hyps ++ h ∷ [] → hash.Updates (λ x y. bytes_eq x.items y.items) m n k (Some place) → FindsHypotheses n after
+found_now m n k hyps after h place at_m has key at_end pushed updates w =
+    after_update k.items m n (Some place) updates w
+    ∙ ap (λ x. cond (bytes_eq x w) (Some place) (hash.get_by (λ q. bytes_eq w q.items) m)) key
+    ∙ ap (λ b. cond b (Some place) (hash.get_by (λ q. bytes_eq w q.items) m)) (bytes_eq-sym h.label w)
+    ∙ ap (λ p. cond (bytes_eq w h.label) (Some p) (hash.get_by (λ q. bytes_eq w q.items) m)) at_end
+    ∙ ap (λ o. cond (bytes_eq w h.label) (Some (length hyps)) o) (at_m w)
+    ∙ or_new (bytes_eq w h.label) (length hyps) (hypothesis_named hyps w) (at_word m hyps h.label w false at_m has)
+    ∙ sym (place_of-push (λ g. bytes_eq w g.label) hyps h) ∙ ap (λ hs. hypothesis_named hs w) (sym pushed)

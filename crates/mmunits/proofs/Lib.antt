@@ -1,0 +1,3 @@
+pub mod LabelMaps
+pub mod BlockPlaces
+pub mod PairsAgain

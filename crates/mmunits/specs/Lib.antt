@@ -1,0 +1,4 @@
+pub mod Labels
+pub mod HypothesisPlaces
+pub mod StandingPairs
+pub mod Views
