@@ -1,5 +1,8 @@
 //! What the passes at their places do.
 
+ghost use Rattle.std.specs.Prelude.{◌≡◌, All};
+ghost use Rattle.wordrows.specs.Seats.{is_named, RestsAt, RunsAt, StandsAt};
+
 use crate::answer::Answer;
 use crate::line::{Line, Step, read_line};
 use crate::running::{begin_run, commit, go_on, leave};
@@ -14,9 +17,15 @@ fn do_at_rest<'w>(
     words: &'w Words<Anything>,
     rest: Resting,
     step: &Step,
-) -> (Stand<'w>, Answer) {
+) -> (Stand<'w>, Answer)
+    requires { RestsAt words.now rest }
+    ensures { StandsAt words.now result.0 }
+{
     match step {
-        Step::Begin(mode) => begin_run(alloc, words, rest, *mode),
+        Step::Begin(mode) => {
+            let (playing, answer) = begin_run(alloc, words, rest, *mode);
+            (Stand::Running(playing), answer)
+        }
         _ => (Stand::AtRest(rest), Answer::Cannot),
     }
 }
@@ -27,13 +36,17 @@ fn do_running<'w>(
     named: bool,
     mut playing: Playing<'w>,
     step: &Step,
-) -> (Stand<'w>, Result<Answer, AllocError>) {
+) -> (Stand<'w>, Result<Answer, AllocError>)
+    requires named { is_named words.now ≡ named }
+    requires runs { RunsAt words.now playing }
+    ensures { StandsAt words.now result.0 }
+{
     match step {
         Step::Commit(note) => {
-            let (rest, answer) = commit(playing, *note);
+            let (rest, answer) = commit(words, playing, *note);
             (Stand::AtRest(rest), Ok(answer))
         }
-        Step::Leave => (Stand::AtRest(leave(playing)), Ok(Answer::Left)),
+        Step::Leave => (Stand::AtRest(leave(words, playing)), Ok(Answer::Left)),
         _ => {
             let answer = go_on(words, named, &mut playing, step);
             (Stand::Running(playing), answer)
@@ -48,7 +61,11 @@ fn do_step<'w>(
     named: bool,
     stand: Stand<'w>,
     step: &Step,
-) -> (Stand<'w>, Result<Answer, AllocError>) {
+) -> (Stand<'w>, Result<Answer, AllocError>)
+    requires named { is_named words.now ≡ named }
+    requires stands { StandsAt words.now stand }
+    ensures { StandsAt words.now result.0 }
+{
     match stand {
         Stand::AtRest(rest) => {
             let (stand, answer) = do_at_rest(alloc, words, rest, step);
@@ -64,7 +81,12 @@ fn teach(
     words: &Words<Anything>,
     rest: &mut Resting,
     other: &mut Resting,
-) -> Result<Answer, AllocError> {
+) -> Result<Answer, AllocError>
+    requires rests { RestsAt words.now rest.old }
+    requires other { RestsAt words.now other.old }
+    ensures rests { RestsAt words.now rest.new }
+    ensures other { RestsAt words.now other.new }
+{
     learn(words, &mut rest.pass, &mut other.pass);
     rest.ranges.extend_from_slice(other.ranges.as_slice())?;
     Ok(Answer::Learnt)
@@ -75,7 +97,12 @@ fn do_learn(
     words: &Words<Anything>,
     stand: &mut Stand<'_>,
     other: &mut Stand<'_>,
-) -> Result<Answer, AllocError> {
+) -> Result<Answer, AllocError>
+    requires stands { StandsAt words.now stand.old }
+    requires other { StandsAt words.now other.old }
+    ensures stands { StandsAt words.now stand.new }
+    ensures other { StandsAt words.now other.new }
+{
     let (Stand::AtRest(rest), Stand::AtRest(other)) = (stand, other) else {
         return Ok(Answer::Cannot);
     };
@@ -89,7 +116,11 @@ fn do_line<'w>(
     named: bool,
     stands: &mut Vec<Stand<'w>>,
     line: &Line,
-) -> Result<Answer, AllocError> {
+) -> Result<Answer, AllocError>
+    requires named { is_named words.now ≡ named }
+    requires stands { All (StandsAt words.now) stands.old.items }
+    ensures { All (StandsAt words.now) stands.new.items }
+{
     match line {
         Line::Step { pass, step } => {
             if *pass >= stands.len() {
@@ -119,7 +150,11 @@ pub fn answer_line<'w>(
     named: bool,
     stands: &mut Vec<Stand<'w>>,
     line: &[u8],
-) -> Result<Answer, AllocError> {
+) -> Result<Answer, AllocError>
+    requires named { is_named words.now ≡ named }
+    requires stands { All (StandsAt words.now) stands.old.items }
+    ensures { All (StandsAt words.now) stands.new.items }
+{
     match read_line(alloc, line)? {
         Some(line) => do_line(alloc, words, named, stands, &line),
         None => Ok(Answer::Cannot),

@@ -1,5 +1,9 @@
 //! The lines from one opening of words to the next.
 
+ghost use Rattle.std.specs.Prelude.{◌≡◌, true, All, IfOk, IfSome, IsTrue, length};
+ghost use Rattle.tlwords.specs.Callers.{SitsAt, AreOfOneOpening};
+ghost use Rattle.wordrows.specs.Seats.{is_named, IsNameIn, StandsAt};
+
 use crate::acting::answer_line;
 use crate::answer::Answer;
 use crate::line::{Opening, closes, is_comment, opens, read_closing, read_opening};
@@ -32,7 +36,11 @@ fn answer_lines<'w>(
     named: bool,
     stands: &mut Vec<Stand<'w>>,
     lines: &[Vec<u8>],
-) -> Result<(), AllocError> {
+) -> Result<(), AllocError>
+    requires named { is_named words.now ≡ named }
+    requires stands { All (StandsAt words.now) stands.old.items }
+    ensures { All (StandsAt words.now) stands.new.items }
+{
     for line in lines {
         if is_comment(line) {
             put_line(out, line)?;
@@ -45,7 +53,14 @@ fn answer_lines<'w>(
 }
 
 /// The passes at their places.
-fn seat_all<'w>(alloc: Global, passes: Vec<Pass<Anything>>) -> Result<Vec<Stand<'w>>, AllocError> {
+fn seat_all<'w>(
+    alloc: Global,
+    words: &'w Words<Anything>,
+    passes: Vec<Pass<Anything>>,
+) -> Result<Vec<Stand<'w>>, AllocError>
+    requires { All (AreOfOneOpening words.now) passes.items }
+    ensures { IfOk result (λ stands. All (StandsAt words.now) stands.items) }
+{
     let mut stands = Vec::new(alloc);
     for pass in passes {
         stands.push(Stand::AtRest(Resting {
@@ -59,9 +74,13 @@ fn seat_all<'w>(alloc: Global, passes: Vec<Pass<Anything>>) -> Result<Vec<Stand<
 /// The passes at these places, if each of them is there at rest.
 fn take_passes(
     alloc: Global,
+    words: &Words<Anything>,
     stands: &mut Vec<Stand<'_>>,
     places: &[usize],
-) -> Result<Option<Vec<Pass<Anything>>>, AllocError> {
+) -> Result<Option<Vec<Pass<Anything>>>, AllocError>
+    requires { All (StandsAt words.now) stands.old.items }
+    ensures { IfOk result (λ taken. IfSome taken (λ passes. All (SitsAt words.now) passes.items)) }
+{
     let mut passes = Vec::new(alloc);
     for place in places {
         if *place >= stands.len() {
@@ -79,11 +98,15 @@ fn take_passes(
 /// The passes with which a line closes the words, if it can be done.
 fn closing_passes(
     alloc: Global,
+    words: &Words<Anything>,
     stands: &mut Vec<Stand<'_>>,
     line: &[u8],
-) -> Result<Option<Vec<Pass<Anything>>>, AllocError> {
+) -> Result<Option<Vec<Pass<Anything>>>, AllocError>
+    requires { All (StandsAt words.now) stands.old.items }
+    ensures { IfOk result (λ taken. IfSome taken (λ passes. All (SitsAt words.now) passes.items)) }
+{
     match read_closing(alloc, line)? {
-        Some(places) => take_passes(alloc, stands, places.as_slice()),
+        Some(places) => take_passes(alloc, words, stands, places.as_slice()),
         None => Ok(None),
     }
 }
@@ -93,7 +116,9 @@ fn close_words(
     alloc: Global,
     words: Words<Anything>,
     passes: Result<Option<Vec<Pass<Anything>>>, AllocError>,
-) -> Result<Answer, AllocError> {
+) -> Result<Answer, AllocError>
+    requires { IfOk passes (λ taken. IfSome taken (λ list. All (SitsAt words) list.items)) }
+{
     match passes? {
         Some(passes) => Ok(Answer::Closed(close(alloc, words, passes)?)),
         None => Ok(Answer::Cannot),
@@ -108,33 +133,51 @@ fn play(
     named: bool,
     passes: Vec<Pass<Anything>>,
     lines: &[Vec<u8>],
-) -> Result<(), AllocError> {
+) -> Result<(), AllocError>
+    requires named { is_named words ≡ named }
+    requires passes { All (AreOfOneOpening words) passes.items }
+{
     let at = lines
         .iter()
         .position(|line| closes(line))
         .unwrap_or(lines.len());
     let (before, behind) = lines.split_at(at);
-    let mut stands = seat_all(alloc, passes)?;
+    let mut stands = seat_all(alloc, &words, passes)?;
     answer_lines(alloc, out, &words, named, &mut stands, before)?;
     let Some((line, behind)) = behind.split_first() else {
         return Ok(());
     };
-    let passes = closing_passes(alloc, &mut stands, line);
+    let passes = closing_passes(alloc, &words, &mut stands, line);
     drop(stands);
     put_answer(out, line, close_words(alloc, words, passes))?;
     refuse_lines(out, behind)
 }
 
 /// Whether a word is 0, or names a range of a store of so many words.
-fn is_name(word: u64, words: usize) -> bool {
+fn is_name(word: u64, words: usize) -> bool
+    ensures { IsTrue result → IsNameIn words word }
+{
     let (start, len) = (word / LENGTHS, word % LENGTHS);
     word == 0 || len != 0 && start + len <= words as u64
 }
 
+/// Whether each of these words is 0, or names a range of a store of so many words.
+fn are_names(values: &[u64], words: usize) -> bool
+    ensures { IsTrue result → All (IsNameIn words) values.now }
+{
+    for value in values {
+        if !is_name(*value, words) {
+            return false;
+        }
+    }
+    true
+}
+
 /// Whether the cells may have these values.
-fn fits(opening: &Opening) -> bool {
-    let words = opening.store.len();
-    !opening.named || opening.values.iter().all(|value| is_name(*value, words))
+fn fits(opening: &Opening) -> bool
+    ensures { IsTrue result → opening.now.named ≡ true → All (IsNameIn (length opening.now.store.items)) opening.now.values.items }
+{
+    !opening.named || are_names(opening.values.as_slice(), opening.store.len())
 }
 
 /// Opens words, and answers the lines behind.
@@ -144,7 +187,9 @@ fn open_words(
     opening: &Opening,
     line: &[u8],
     lines: &[Vec<u8>],
-) -> Result<(), AllocError> {
+) -> Result<(), AllocError>
+    requires { opening.now.named ≡ true → All (IsNameIn (length opening.now.store.items)) opening.now.values.items }
+{
     let Opening {
         room,
         passes,

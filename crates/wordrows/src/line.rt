@@ -4,7 +4,7 @@ use std::alloc::{AllocError, Global};
 use tlwords::{Mode, Range};
 
 /// What a pass is to do.
-#[derive(Debug, Drop)]
+#[derive(Drop)]
 pub enum Step {
     /// To begin a run.
     Begin(Mode),
@@ -42,7 +42,7 @@ pub enum Step {
 }
 
 /// What a line asks.
-#[derive(Debug, Drop)]
+#[derive(Drop)]
 pub enum Line {
     /// A pass is to do something.
     Step {
@@ -61,7 +61,7 @@ pub enum Line {
 }
 
 /// What words are to be opened.
-#[derive(Debug, Drop)]
+#[derive(Drop)]
 pub struct Opening {
     /// How many words the store has.
     pub room: usize,

@@ -1,8 +1,13 @@
 //! What runs do.
 
+ghost use Rattle.std.specs.Prelude.{◌≡◌, ◌/◌, ◌%◌, ◌^◌, true, IsTrue};
+ghost use Rattle.std.specs.List.{Contains};
+ghost use Rattle.tlwords.specs.Runs.{was_read};
+ghost use Rattle.wordrows.specs.Seats.{is_named, IsThere, RestsAt, RunsAt};
+
 use crate::answer::Answer;
 use crate::line::Step;
-use crate::seat::{Anything, Playing, Resting, Stand};
+use crate::seat::{Anything, Playing, Resting};
 use std::alloc::{AllocError, Global};
 use tlwords::{Mode, Range, Words, begin};
 
@@ -15,7 +20,10 @@ pub fn begin_run<'w>(
     words: &'w Words<Anything>,
     rest: Resting,
     mode: Mode,
-) -> (Stand<'w>, Answer) {
+) -> (Playing<'w>, Answer)
+    requires { RestsAt words.now rest }
+    ensures { RunsAt words.now result.0 }
+{
     let Resting { pass, ranges } = rest;
     let run = begin(words, pass, mode);
     let place = run.place();
@@ -25,7 +33,64 @@ pub fn begin_run<'w>(
         read: Vec::new(alloc),
         ranges,
     };
-    (Stand::Running(playing), Answer::Began(place))
+    (playing, Answer::Began(place))
+}
+
+/// Whether the cell is one of these.
+fn has_cell(cells: &[usize], cell: usize) -> bool
+    ensures { IsTrue result → Contains cells.now cell }
+{
+    cells.contains(&cell)
+}
+
+/// Whether the range is one of these.
+fn has_range(ranges: &[Range], range: Range) -> bool
+    ensures { IsTrue result → Contains ranges.now range }
+{
+    ranges.contains(&range)
+}
+
+/// The range that a word names.
+fn named_by(word: u64) -> Range
+    ensures start { result.start ≡ word / 2 ^ 25 }
+    ensures len { result.len ≡ word % 2 ^ 25 }
+{
+    Range {
+        start: (word / LENGTHS) as usize,
+        len: (word % LENGTHS) as usize,
+    }
+}
+
+/// Notes that a cell was read, where the run may write.
+fn note_cell(
+    words: &Words<Anything>,
+    playing: &mut Playing<'_>,
+    cell: usize,
+) -> Result<(), AllocError>
+    requires runs { RunsAt words.now playing.old }
+    requires read { playing.old.mode ≡ Mode.Writing → was_read playing.old.run.slots cell ≡ true }
+    ensures runs { RunsAt words.now playing.new }
+    ensures same { playing.new.run ≡ playing.old.run }
+{
+    if playing.mode == Mode::Reading {
+        return Ok(());
+    }
+    playing.read.push(cell)?;
+    Ok(())
+}
+
+/// Notes that the pass knows of a range.
+fn note_range(
+    words: &Words<Anything>,
+    playing: &mut Playing<'_>,
+    range: Range,
+) -> Result<(), AllocError>
+    requires runs { RunsAt words.now playing.old }
+    requires there { IsThere playing.old.run.known.seen.ranges range }
+    ensures { RunsAt words.now playing.new }
+{
+    playing.ranges.push(range)?;
+    Ok(())
 }
 
 /// Reads a cell. Where it is to hold the word that names a range, the pass knows of that range from then on.
@@ -34,7 +99,11 @@ fn read(
     named: bool,
     playing: &mut Playing<'_>,
     cell: usize,
-) -> Result<Answer, AllocError> {
+) -> Result<Answer, AllocError>
+    requires named { is_named words.now ≡ named }
+    requires runs { RunsAt words.now playing.old }
+    ensures { RunsAt words.now playing.new }
+{
     if cell >= words.cells() {
         return Ok(Answer::Cannot);
     }
@@ -42,21 +111,33 @@ fn read(
         Ok(value) => value,
         Err(conflict) => return Ok(Answer::Stopped(conflict)),
     };
-    if playing.mode == Mode::Writing {
-        playing.read.push(cell)?;
-    }
-    if named && value % LENGTHS != 0 {
-        playing.ranges.push(Range {
-            start: (value / LENGTHS) as usize,
-            len: (value % LENGTHS) as usize,
-        })?;
+    note_cell(words, playing, cell)?;
+    let range = named_by(value);
+    if named && range.len != 0 {
+        note_range(words, playing, range)?;
     }
     Ok(Answer::Read(value))
 }
 
-/// Keeps a value for a cell that was read. Where cells hold words that name ranges, that is 0.
-fn write(playing: &mut Playing<'_>, named: bool, cell: usize, value: u64) -> Answer {
-    if named && value != 0 || !playing.read.contains(&cell) {
+/// Keeps a value for a cell that was read. Where cells name ranges, that is 0.
+fn write(
+    words: &Words<Anything>,
+    named: bool,
+    playing: &mut Playing<'_>,
+    cell: usize,
+    value: u64,
+) -> Answer
+    requires named { is_named words.now ≡ named }
+    requires runs { RunsAt words.now playing.old }
+    ensures { RunsAt words.now playing.new }
+{
+    if cell >= words.cells() || playing.mode == Mode::Reading {
+        return Answer::Cannot;
+    }
+    if named && value != 0 {
+        return Answer::Cannot;
+    }
+    if !has_cell(playing.read.as_slice(), cell) {
         return Answer::Cannot;
     }
     playing.run.write(cell, value);
@@ -64,8 +145,17 @@ fn write(playing: &mut Playing<'_>, named: bool, cell: usize, value: u64) -> Ans
 }
 
 /// Keeps the word that names a range for a cell that was read.
-fn name(playing: &mut Playing<'_>, cell: usize, range: Range) -> Answer {
-    if !playing.read.contains(&cell) || !playing.ranges.contains(&range) {
+fn name(words: &Words<Anything>, playing: &mut Playing<'_>, cell: usize, range: Range) -> Answer
+    requires { RunsAt words.now playing.old }
+    ensures { RunsAt words.now playing.new }
+{
+    if cell >= words.cells() || playing.mode == Mode::Reading {
+        return Answer::Cannot;
+    }
+    if range.start >= 1 << 25 || range.len >= 1 << 25 {
+        return Answer::Cannot;
+    }
+    if !has_cell(playing.read.as_slice(), cell) || !has_range(playing.ranges.as_slice(), range) {
         return Answer::Cannot;
     }
     let value = range.start as u64 * LENGTHS + range.len as u64;
@@ -73,14 +163,30 @@ fn name(playing: &mut Playing<'_>, cell: usize, range: Range) -> Answer {
     Answer::Kept
 }
 
+/// Throws away what was kept.
+fn forget(words: &Words<Anything>, playing: &mut Playing<'_>) -> Answer
+    requires { RunsAt words.now playing.old }
+    ensures { RunsAt words.now playing.new }
+{
+    playing.run.forget();
+    Answer::Forgot
+}
+
 /// Stages words.
-fn stage(playing: &mut Playing<'_>, staged: &[u64]) -> Result<Answer, AllocError> {
+fn stage(
+    words: &Words<Anything>,
+    playing: &mut Playing<'_>,
+    staged: &[u64],
+) -> Result<Answer, AllocError>
+    requires { RunsAt words.now playing.old }
+    ensures { RunsAt words.now playing.new }
+{
     if staged.is_empty() {
         return Ok(Answer::Cannot);
     }
     match playing.run.stage(staged) {
         Ok(range) => {
-            playing.ranges.push(range)?;
+            note_range(words, playing, range)?;
             Ok(Answer::Staged(range))
         }
         Err(full) => Ok(Answer::Full(full)),
@@ -88,8 +194,11 @@ fn stage(playing: &mut Playing<'_>, staged: &[u64]) -> Result<Answer, AllocError
 }
 
 /// Loads a word of a range that the pass knows of.
-fn load(playing: &mut Playing<'_>, range: Range, index: usize) -> Answer {
-    if index >= range.len || !playing.ranges.contains(&range) {
+fn load(words: &Words<Anything>, playing: &mut Playing<'_>, range: Range, index: usize) -> Answer
+    requires { RunsAt words.now playing.old }
+    ensures { RunsAt words.now playing.new }
+{
+    if index >= range.len || !has_range(playing.ranges.as_slice(), range) {
         return Answer::Cannot;
     }
     Answer::Loaded(playing.run.load(range, index))
@@ -101,30 +210,37 @@ pub fn go_on(
     named: bool,
     playing: &mut Playing<'_>,
     step: &Step,
-) -> Result<Answer, AllocError> {
+) -> Result<Answer, AllocError>
+    requires named { is_named words.now ≡ named }
+    requires runs { RunsAt words.now playing.old }
+    ensures { RunsAt words.now playing.new }
+{
     match step {
         Step::Read(cell) => read(words, named, playing, *cell),
-        Step::Write { cell, value } => Ok(write(playing, named, *cell, *value)),
-        Step::Name { cell, range } => Ok(name(playing, *cell, *range)),
-        Step::Forget => {
-            playing.run.forget();
-            Ok(Answer::Forgot)
-        }
-        Step::Stage(staged) => stage(playing, staged.as_slice()),
-        Step::Load { range, index } => Ok(load(playing, *range, *index)),
+        Step::Write { cell, value } => Ok(write(words, named, playing, *cell, *value)),
+        Step::Name { cell, range } => Ok(name(words, playing, *cell, *range)),
+        Step::Forget => Ok(forget(words, playing)),
+        Step::Stage(staged) => stage(words, playing, staged.as_slice()),
+        Step::Load { range, index } => Ok(load(words, playing, *range, *index)),
         Step::Begin(_) | Step::Commit(_) | Step::Leave => Ok(Answer::Cannot),
     }
 }
 
 /// Commits.
-pub fn commit(playing: Playing<'_>, note: u64) -> (Resting, Answer) {
+pub fn commit(words: &Words<Anything>, playing: Playing<'_>, note: u64) -> (Resting, Answer)
+    requires { RunsAt words.now playing }
+    ensures { RestsAt words.now result.0 }
+{
     let (run, ranges) = playing.into_parts();
     let (pass, outcome) = run.commit(&note);
     (Resting { pass, ranges }, Answer::Ended(outcome))
 }
 
 /// Ends a run with nothing written.
-pub fn leave(playing: Playing<'_>) -> Resting {
+pub fn leave(words: &Words<Anything>, playing: Playing<'_>) -> Resting
+    requires { RunsAt words.now playing }
+    ensures { RestsAt words.now result }
+{
     let (run, ranges) = playing.into_parts();
     Resting {
         pass: run.leave(),

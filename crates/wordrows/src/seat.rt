@@ -1,5 +1,7 @@
 //! What stands at each place: a pass at rest, its run, or nothing.
 
+ghost use Rattle.std.specs.Prelude.{◌≡◌};
+
 use tlwords::{Law, Mode, Pass, Range, Run};
 
 /// Any transaction is lawful. The setting says whether each cell holds 0 or a word that names a range.
@@ -48,7 +50,10 @@ impl Drop for Playing<'_> {
 
 impl<'w> Playing<'w> {
     /// The run, and the ranges that its pass knows of.
-    pub fn into_parts(self) -> (Run<'w, Anything>, Vec<Range>) {
+    pub fn into_parts(self) -> (Run<'w, Anything>, Vec<Range>)
+        ensures run { result.0 ≡ self.entry.run }
+        ensures ranges { result.1 ≡ self.entry.ranges }
+    {
         let Playing {
             run,
             mode: _,
