@@ -1,12 +1,12 @@
 -- What a run keeps of the cells, and the ranges that its pass has seen.
-use Rattle.std.proofs.Common.{◌≡◌, ◌∙◌, ◌≢◌, ℕ, zero, suc, ◌+◌, ◌*◌, ◌/◌, ◌%◌, ◌^◌, ◌<◌, ◌≤◌, inl, inr, Bool, true, Option, Some, None, List, length, refl, sym, ap, subst, arith}
+use Rattle.std.proofs.Common.{◌≡◌, ◌∙◌, ◌≢◌, ℕ, zero, suc, ◌+◌, ◌*◌, ◌/◌, ◌%◌, ◌^◌, ◌<◌, ◌≤◌, inl, inr, Option, Some, None, List, length, refl, sym, ap, subst, arith}
 use Rattle.std.specs.Prelude.{All}
 use Rattle.std.proofs.lemmas.List.Elements.{All-weaker}
-use Rattle.ranges.specs.Ranges.{Range, Has, Within, Names, word_of, AreOfOneStore}
+use Rattle.ranges.specs.Ranges.{Range, Has, Within, Names, AreOfOneStore}
 use Rattle.ranges.specs.Pairs.{Pairs}
 use Rattle.tlwords.specs.declared.log.Slot.{Slot}
 use Rattle.tlwords.specs.declared.store.Range.{Range as Place}
-use Rattle.tlwords.specs.Runs.{value_kept, HasKept}
+use Rattle.tlwords.specs.Runs.{value_kept}
 use Rattle.tlwords.specs.Commits.{with_write, writes_below, writes_kept}
 use Rattle.wordrows.specs.Seats.{IsThere}
 

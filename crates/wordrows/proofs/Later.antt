@@ -1,7 +1,7 @@
 -- What stays of a run from one step to a later one.
-use Rattle.std.proofs.Common.{◌≡◌, ◌∙◌, ℕ, ◌⊎◌, inl, inr, is_some, Bool, true, Option, Some, None, Result, Ok, Err, List, [], ◌∷◌, ◌++◌, length, refl, sym, ap, subst, Vec, Global}
+use Rattle.std.proofs.Common.{◌≡◌, ◌∙◌, ℕ, ◌⊎◌, inl, inr, is_some, Bool, true, Option, Some, None, Result, Ok, Err, List, [], ◌∷◌, ◌++◌, refl, sym, ap, subst, Vec, Global}
 use Rattle.std.specs.Prelude.{All, IfOk, IfErr}
-use Rattle.std.proofs.lemmas.List.Elements.{All-weaker, All-push, All-same}
+use Rattle.std.proofs.lemmas.List.Elements.{All-append, All-weaker, All-push, All-same}
 use Rattle.std.proofs.lemmas.Bool.{cases_eq}
 use Rattle.ranges.specs.Ranges.{Range, Has, Within, Names, AreOfOneStore}
 use Rattle.tlwords.specs.declared.log.Slot.{Slot}
@@ -19,6 +19,7 @@ use Rattle.tlwords.specs.Runs.{was_read, value_kept, HasKept}
 use Rattle.tlwords.specs.Commits.{HasForgotten}
 use Rattle.tlwords.specs.Calls.{Notes, HasRead, HasStopped, IsLawful, IsRefused, Ends}
 use Rattle.wordrows.specs.declared.seat.Playing.{Playing}
+use Rattle.wordrows.specs.declared.seat.Resting.{Resting}
 use Rattle.wordrows.specs.Seats.{IsThere, RestsAt, RunsAt, is_named}
 use Rattle.wordrows.proofs.Kept.{all_later, names_later, written_kept}
 
@@ -261,4 +262,30 @@ module _ {L : Type 0} (words : Words L Bool ℕ) where
         opening = home ∙ old.home;
         there = subst (λ (v : Vec Place Global). All (IsThere r.seen.ranges) v.items) (sym same)
             (all_later p.run.known.seen.ranges r.seen.ranges p.ranges.items within old.there);
+      }
+
+-- ---- passes
+
+module _ {L : Type 0} (words : Words L Bool ℕ) where
+  -- a pass at rest knows more, and of the same ranges
+  pub rests_known : (r : Resting) (k : Known Bool ℕ) (ranges : Vec Place Global) → k.home ≡ r.pass.home → Within r.pass.seen.ranges k.seen.ranges
+      → ranges.items ≡ r.ranges.items → RestsAt words r → RestsAt words (record { pass = k; ranges = ranges })
+  rests_known r k ranges home within same old =
+      record {
+        opening = home ∙ old.opening;
+        there = All-same (IsThere k.seen.ranges) ranges.items r.ranges.items same
+            (all_later r.pass.seen.ranges k.seen.ranges r.ranges.items within old.there);
+      }
+
+  -- it has learnt of another one, and of its ranges
+  pub rests_taught : (r other : Resting) (k : Known Bool ℕ) (ranges : Vec Place Global) → k.home ≡ r.pass.home → Within r.pass.seen.ranges k.seen.ranges
+      → Within other.pass.seen.ranges k.seen.ranges → ranges.items ≡ r.ranges.items ++ other.ranges.items → RestsAt words r → RestsAt words other
+      → RestsAt words (record { pass = k; ranges = ranges })
+  rests_taught r other k ranges home within told same old told_old =
+      record {
+        opening = home ∙ old.opening;
+        there = All-same (IsThere k.seen.ranges) ranges.items (r.ranges.items ++ other.ranges.items) same
+            (All-append (IsThere k.seen.ranges) r.ranges.items other.ranges.items
+            (all_later r.pass.seen.ranges k.seen.ranges r.ranges.items within old.there)
+            (all_later other.pass.seen.ranges k.seen.ranges other.ranges.items told told_old.there));
       }

@@ -93,54 +93,93 @@ fn teach(
 }
 
 /// What stands at a place learns of what stands at another one, where both are passes at rest.
-fn do_learn(
+fn do_learn<'w>(
     words: &Words<Anything>,
-    stand: &mut Stand<'_>,
-    other: &mut Stand<'_>,
-) -> Result<Answer, AllocError>
-    requires stands { StandsAt words.now stand.old }
-    requires other { StandsAt words.now other.old }
-    ensures stands { StandsAt words.now stand.new }
-    ensures other { StandsAt words.now other.new }
+    stand: Stand<'w>,
+    other: Stand<'w>,
+) -> (Stand<'w>, Stand<'w>, Result<Answer, AllocError>)
+    requires stands { StandsAt words.now stand }
+    requires other { StandsAt words.now other }
+    ensures stands { StandsAt words.now result.0 }
+    ensures other { StandsAt words.now result.1 }
 {
-    let (Stand::AtRest(rest), Stand::AtRest(other)) = (stand, other) else {
-        return Ok(Answer::Cannot);
-    };
-    teach(words, rest, other)
+    match (stand, other) {
+        (Stand::AtRest(mut rest), Stand::AtRest(mut other)) => {
+            let answer = teach(words, &mut rest, &mut other);
+            (Stand::AtRest(rest), Stand::AtRest(other), answer)
+        }
+        (stand, other) => (stand, other, Ok(Answer::Cannot)),
+    }
 }
 
-/// What the places are, after a line, and what it is answered.
-fn do_line<'w>(
+/// Takes away what stands at a place: nothing where there is no such place.
+pub fn take_stand<'w>(
+    words: &Words<Anything>,
+    stands: &mut Vec<Stand<'w>>,
+    place: usize,
+) -> Stand<'w>
+    requires { All (StandsAt words.now) stands.old.items }
+    ensures stands { All (StandsAt words.now) stands.new.items }
+    ensures taken { StandsAt words.now result }
+{
+    if place >= stands.len() {
+        return Stand::Gone;
+    }
+    mem::replace(&mut stands[place], Stand::Gone)
+}
+
+/// Puts this at a place, if there is such a place.
+fn put_stand<'w>(
+    words: &Words<Anything>,
+    stands: &mut Vec<Stand<'w>>,
+    place: usize,
+    stand: Stand<'w>,
+)
+    requires stands { All (StandsAt words.now) stands.old.items }
+    requires stand { StandsAt words.now stand }
+    ensures { All (StandsAt words.now) stands.new.items }
+{
+    if place < stands.len() {
+        let _ = mem::replace(&mut stands[place], stand);
+    }
+}
+
+/// What stands at a place does a step.
+fn do_step_at<'w>(
     alloc: Global,
     words: &'w Words<Anything>,
     named: bool,
     stands: &mut Vec<Stand<'w>>,
-    line: &Line,
+    pass: usize,
+    step: &Step,
 ) -> Result<Answer, AllocError>
     requires named { is_named words.now ≡ named }
     requires stands { All (StandsAt words.now) stands.old.items }
     ensures { All (StandsAt words.now) stands.new.items }
 {
-    match line {
-        Line::Step { pass, step } => {
-            if *pass >= stands.len() {
-                return Ok(Answer::Cannot);
-            }
-            let stand = mem::replace(&mut stands[*pass], Stand::Gone);
-            let (stand, answer) = do_step(alloc, words, named, stand, step);
-            stands[*pass] = stand;
-            answer
-        }
-        Line::Learn { pass, other } => {
-            if *pass >= stands.len() || *other >= stands.len() {
-                return Ok(Answer::Cannot);
-            }
-            let mut stand = mem::replace(&mut stands[*pass], Stand::Gone);
-            let answer = do_learn(words, &mut stand, &mut stands[*other]);
-            stands[*pass] = stand;
-            answer
-        }
-    }
+    let stand = take_stand(words, stands, pass);
+    let (stand, answer) = do_step(alloc, words, named, stand, step);
+    put_stand(words, stands, pass, stand);
+    answer
+}
+
+/// What stands at a place learns of what stands at another one.
+fn do_learn_at<'w>(
+    words: &Words<Anything>,
+    stands: &mut Vec<Stand<'w>>,
+    pass: usize,
+    other: usize,
+) -> Result<Answer, AllocError>
+    requires { All (StandsAt words.now) stands.old.items }
+    ensures { All (StandsAt words.now) stands.new.items }
+{
+    let stand = take_stand(words, stands, pass);
+    let mate = take_stand(words, stands, other);
+    let (stand, mate, answer) = do_learn(words, stand, mate);
+    // Where both are one place, what stood there comes back last.
+    put_stand(words, stands, other, mate);
+    put_stand(words, stands, pass, stand);
+    answer
 }
 
 /// What a line between the opening and the close is answered.
@@ -156,7 +195,8 @@ pub fn answer_line<'w>(
     ensures { All (StandsAt words.now) stands.new.items }
 {
     match read_line(alloc, line)? {
-        Some(line) => do_line(alloc, words, named, stands, &line),
+        Some(Line::Step { pass, step }) => { do_step_at(alloc, words, named, stands, pass, &step) }
+        Some(Line::Learn { pass, other }) => do_learn_at(words, stands, pass, other),
         None => Ok(Answer::Cannot),
     }
 }

@@ -1,16 +1,15 @@
 //! The lines from one opening of words to the next.
 
-ghost use Rattle.std.specs.Prelude.{◌≡◌, true, All, IfOk, IfSome, IsTrue, length};
+ghost use Rattle.std.specs.Prelude.{◌≡◌, ◌≤◌, true, All, IfOk, IfSome, IsTrue, length};
 ghost use Rattle.tlwords.specs.Callers.{SitsAt, AreOfOneOpening};
 ghost use Rattle.wordrows.specs.Seats.{is_named, IsNameIn, StandsAt};
 
-use crate::acting::answer_line;
+use crate::acting::{answer_line, take_stand};
 use crate::answer::Answer;
 use crate::line::{Opening, closes, is_comment, opens, read_closing, read_opening};
 use crate::print::{put_answer, put_line};
 use crate::seat::{Anything, Resting, Stand};
 use std::alloc::{AllocError, Global};
-use std::mem;
 use tlwords::{Pass, Words, close, open};
 
 /// One more than the greatest length that a word can tell: 2^25.
@@ -52,17 +51,17 @@ fn answer_lines<'w>(
     Ok(())
 }
 
-/// The passes at their places.
+/// The passes at their places, the last of them first.
 fn seat_all<'w>(
     alloc: Global,
     words: &'w Words<Anything>,
-    passes: Vec<Pass<Anything>>,
+    mut passes: Vec<Pass<Anything>>,
 ) -> Result<Vec<Stand<'w>>, AllocError>
     requires { All (AreOfOneOpening words.now) passes.items }
     ensures { IfOk result (λ stands. All (StandsAt words.now) stands.items) }
 {
     let mut stands = Vec::new(alloc);
-    for pass in passes {
+    while let Some(pass) = passes.pop() {
         stands.push(Stand::AtRest(Resting {
             pass,
             ranges: Vec::new(alloc),
@@ -83,10 +82,7 @@ fn take_passes(
 {
     let mut passes = Vec::new(alloc);
     for place in places {
-        if *place >= stands.len() {
-            return Ok(None);
-        }
-        let Stand::AtRest(rest) = mem::replace(&mut stands[*place], Stand::Gone) else {
+        let Stand::AtRest(rest) = take_stand(words, stands, *place) else {
             return Ok(None);
         };
         let Resting { pass, ranges: _ } = rest;
@@ -233,7 +229,9 @@ fn answer_block(
 }
 
 /// How many lines stand before the next that opens words.
-fn block_length(lines: &[Vec<u8>]) -> usize {
+fn block_length(lines: &[Vec<u8>]) -> usize
+    ensures { result ≤ length lines.now }
+{
     lines
         .iter()
         .position(|line| opens(line))

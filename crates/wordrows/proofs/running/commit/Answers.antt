@@ -1,4 +1,4 @@
-use Rattle.std.proofs.Common.{◌≡◌, ◌∙◌, ap, subst, sym}
+use Rattle.std.proofs.Common.{◌∙◌, ap, subst}
 use Rattle.ranges.specs.Ranges.{Within}
 use Rattle.wordrows.proofs.Later.{run_lawful, rests_later, commit_within}
 use Rattle.wordrows.proofs.running.commit.Goals as goal
