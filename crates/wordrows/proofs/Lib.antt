@@ -1,0 +1,3 @@
+pub mod Kept
+pub mod Later
+pub mod Named

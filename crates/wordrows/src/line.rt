@@ -1,0 +1,259 @@
+//! How lines are read.
+
+use std::alloc::{AllocError, Global};
+use tlwords::{Mode, Range};
+
+/// What a pass is to do.
+#[derive(Drop)]
+pub enum Step {
+    /// To begin a run.
+    Begin(Mode),
+    /// To read a cell.
+    Read(usize),
+    /// To keep a value for a cell.
+    Write {
+        /// The cell.
+        cell: usize,
+        /// The value.
+        value: u64,
+    },
+    /// To keep the word that names a range for a cell.
+    Name {
+        /// The cell.
+        cell: usize,
+        /// The range.
+        range: Range,
+    },
+    /// To throw away what was kept.
+    Forget,
+    /// To stage words.
+    Stage(Vec<u64>),
+    /// To load a word of a range.
+    Load {
+        /// The range.
+        range: Range,
+        /// Which of its words, from 0.
+        index: usize,
+    },
+    /// To commit with a note.
+    Commit(u64),
+    /// To end the run with nothing written.
+    Leave,
+}
+
+/// What a line asks.
+#[derive(Drop)]
+pub enum Line {
+    /// A pass is to do something.
+    Step {
+        /// The place of the pass, from 0.
+        pass: usize,
+        /// What it is to do.
+        step: Step,
+    },
+    /// A pass is to learn of another one.
+    Learn {
+        /// The place of the pass that learns.
+        pass: usize,
+        /// The place of the other one.
+        other: usize,
+    },
+}
+
+/// What words are to be opened.
+#[derive(Drop)]
+pub struct Opening {
+    /// How many words the store has.
+    pub room: usize,
+    /// How many passes there are.
+    pub passes: usize,
+    /// Whether the cells hold words that name ranges.
+    pub named: bool,
+    /// The values of the cells.
+    pub values: Vec<u64>,
+    /// The words that the store begins with.
+    pub store: Vec<u64>,
+}
+
+/// Whether a line says something to the reader alone.
+pub fn is_comment(line: &[u8]) -> bool {
+    line.is_empty() || line.starts_with(b"#")
+}
+
+/// Whether a line opens words.
+pub fn opens(line: &[u8]) -> bool {
+    line.starts_with(b"open ")
+}
+
+/// Whether a line closes them.
+pub fn closes(line: &[u8]) -> bool {
+    line.starts_with(b"close")
+}
+
+/// The words of a line, between spaces.
+fn words_of(alloc: Global, line: &[u8]) -> Result<Vec<&str>, AllocError> {
+    str::from_utf8(line)
+        .unwrap_or("")
+        .split_ascii_whitespace()
+        .collect(alloc)
+}
+
+/// A number that is written in decimal digits.
+fn number(word: &str) -> Option<u64> {
+    word.parse().ok()
+}
+
+/// The same, of a place or a count.
+fn count(word: &str) -> Option<usize> {
+    word.parse().ok()
+}
+
+/// The numbers that these words are, if each is one.
+fn numbers(alloc: Global, words: &[&str]) -> Result<Option<Vec<u64>>, AllocError> {
+    let mut found = Vec::new(alloc);
+    for word in words {
+        let Some(value) = number(word) else {
+            return Ok(None);
+        };
+        found.push(value)?;
+    }
+    Ok(Some(found))
+}
+
+/// The place of the pass that a letter names: A is 0.
+fn pass_named(word: &str) -> Option<usize> {
+    match word.as_bytes() {
+        [letter @ b'A'..=b'Z'] => Some((*letter - b'A') as usize),
+        _ => None,
+    }
+}
+
+fn mode_named(word: &str) -> Option<Mode> {
+    match word {
+        "writing" => Some(Mode::Writing),
+        "reading" => Some(Mode::Reading),
+        _ => None,
+    }
+}
+
+fn range_of(start: &str, len: &str) -> Option<Range> {
+    Some(Range {
+        start: count(start)?,
+        len: count(len)?,
+    })
+}
+
+/// The step of a line, behind the pass, that has no list of words.
+fn plain_step(words: &[&str]) -> Option<Step> {
+    match words {
+        ["begins", mode] => Some(Step::Begin(mode_named(mode)?)),
+        ["reads", cell] => Some(Step::Read(count(cell)?)),
+        ["writes", cell, value] => Some(Step::Write {
+            cell: count(cell)?,
+            value: number(value)?,
+        }),
+        ["names", cell, start, len] => Some(Step::Name {
+            cell: count(cell)?,
+            range: range_of(start, len)?,
+        }),
+        ["forgets"] => Some(Step::Forget),
+        ["loads", start, len, index] => Some(Step::Load {
+            range: range_of(start, len)?,
+            index: count(index)?,
+        }),
+        ["commits", note] => Some(Step::Commit(number(note)?)),
+        ["leaves"] => Some(Step::Leave),
+        _ => None,
+    }
+}
+
+/// The step of a line, behind the pass.
+fn step_of(alloc: Global, words: &[&str]) -> Result<Option<Step>, AllocError> {
+    match words {
+        ["stages", staged @ ..] => Ok(numbers(alloc, staged)?.map(Step::Stage)),
+        _ => Ok(plain_step(words)),
+    }
+}
+
+/// What a line asks of the passes, if it can be read.
+pub fn read_line(alloc: Global, line: &[u8]) -> Result<Option<Line>, AllocError> {
+    let words = words_of(alloc, line)?;
+    let Some((name, rest)) = words.as_slice().split_first() else {
+        return Ok(None);
+    };
+    let Some(pass) = pass_named(name) else {
+        return Ok(None);
+    };
+    match rest {
+        ["learns", other] => Ok(pass_named(other).map(|other| Line::Learn { pass, other })),
+        _ => Ok(step_of(alloc, rest)?.map(|step| Line::Step { pass, step })),
+    }
+}
+
+fn are_named(word: &str) -> Option<bool> {
+    match word {
+        "named" => Some(true),
+        "plain" => Some(false),
+        _ => None,
+    }
+}
+
+/// The values of the cells, and the words of the store.
+fn lists_of(alloc: Global, words: &[&str]) -> Result<Option<(Vec<u64>, Vec<u64>)>, AllocError> {
+    let Some(at) = words.iter().position(|word| *word == "store") else {
+        return Ok(None);
+    };
+    let (values, store) = words.split_at(at);
+    let Some(values) = numbers(alloc, values)? else {
+        return Ok(None);
+    };
+    let Some((_, store)) = store.split_first() else {
+        return Ok(None);
+    };
+    Ok(numbers(alloc, store)?.map(|store| (values, store)))
+}
+
+/// What words a line opens, if it can be read.
+pub fn read_opening(alloc: Global, line: &[u8]) -> Result<Option<Opening>, AllocError> {
+    let words = words_of(alloc, line)?;
+    let [
+        "open",
+        "room",
+        room,
+        "passes",
+        passes,
+        named,
+        "values",
+        rest @ ..,
+    ] = words.as_slice()
+    else {
+        return Ok(None);
+    };
+    let (Some(room), Some(passes), Some(named)) = (count(room), count(passes), are_named(named))
+    else {
+        return Ok(None);
+    };
+    Ok(lists_of(alloc, rest)?.map(|(values, store)| Opening {
+        room,
+        passes,
+        named,
+        values,
+        store,
+    }))
+}
+
+/// The places of the passes with which a line closes the words, if it can be read.
+pub fn read_closing(alloc: Global, line: &[u8]) -> Result<Option<Vec<usize>>, AllocError> {
+    let words = words_of(alloc, line)?;
+    let ["close", names @ ..] = words.as_slice() else {
+        return Ok(None);
+    };
+    let mut places = Vec::new(alloc);
+    for name in names {
+        let Some(pass) = pass_named(name) else {
+            return Ok(None);
+        };
+        places.push(pass)?;
+    }
+    Ok(Some(places))
+}

@@ -1,0 +1,49 @@
+//! The table of runs that meet: lines that passes do in turn over words, on one thread, and what each line is answered.
+//!
+//! The lines stand in this crate's `stdin`, and what was worked out by hand from the definitions in its `stdout`: each line again, and behind a colon its
+//! answer. The gate runs this program over the one and compares what it prints with the other, so that a line costs no proof.
+//!
+//! | The line | It means |
+//! |---|---|
+//! | `# ..`, and an empty line | says something to the reader, and is not answered |
+//! | `open room ROOM passes PASSES plain values V.. store W..` | opens words, which those that were opened before leave: cells of these values, a store of `ROOM` words that begins with these, and so many passes, A, B, C and so on; with `named` in place of `plain` the cells hold 0 or words that name ranges of the store |
+//! | `A begins writing`, `A begins reading` | the pass A begins a run |
+//! | `A reads CELL`, `A writes CELL VALUE`, `A forgets` | its run reads a cell; keeps a value for a cell that it has read; throws away what it kept |
+//! | `A names CELL START LENGTH` | its run keeps the word that names this range, which the pass has staged or read or learnt of |
+//! | `A stages W..`, `A loads START LENGTH INDEX` | its run stages these words; loads a word of such a range |
+//! | `A commits NOTE`, `A leaves` | its run ends |
+//! | `A learns B` | the pass A learns of the pass B, both at rest |
+//! | `close A B ..` | ends the words and all runs, with these passes, which are at rest |
+//!
+//! A line that is none of these, or that the pass can't do now, is answered `cannot do this line`, and changes nothing.
+#![tactic(auto)]
+
+mod acting;
+mod answer;
+mod block;
+mod line;
+mod print;
+mod running;
+mod seat;
+
+use crate::block::answer_table;
+use std::alloc::Global;
+use std::io;
+use std::io::{BufRead, BufReader, Write};
+
+/// The lines of the standard input, without their line feeds.
+fn read_lines(rt: &impl Input, alloc: Global) -> io::Result<Vec<Vec<u8>>> {
+    let mut lines = Vec::new(alloc);
+    for line in BufReader::new(alloc, rt.reader())?.split(alloc, b'\n') {
+        lines.push(line?)?;
+    }
+    Ok(lines)
+}
+
+fn main(rt: HostRuntime) -> io::Result<()> {
+    let alloc = rt.alloc();
+    let lines = read_lines(&rt, alloc)?;
+    let mut out = Vec::new(alloc);
+    answer_table(alloc, &mut out, lines.as_slice())?;
+    io::writer(&rt).write_all(out.as_slice())
+}
