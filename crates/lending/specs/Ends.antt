@@ -1,5 +1,5 @@
 -- Of the code's inside, apart from the rules: how a run ends, and when a note lets it.
-use Rattle.std.specs.Prelude.{◌≡◌, true, false, Some, None, List, []}
+use Rattle.std.specs.Prelude.{◌≡◌, true, false, Some, None, []}
 use Rattle.ranges.specs.Pairs.{Pairs}
 use Rattle.tlwords.specs.Commits.{writes_kept}
 use Rattle.lawful.specs.declared.notes.Note.{Note}
