@@ -1,5 +1,5 @@
 -- A look at the whole library: what may be noted of it, and how it ends.
-use Rattle.std.proofs.Common.{◌≡◌, ℕ, List, [], ◌∷◌, ◌++◌, false, Option, Some, None, inl, refl, sym, ap, subst, ◌∙◌}
+use Rattle.std.proofs.Common.{◌≡◌, ℕ, ◌⊎◌, inl, inr, List, [], ◌∷◌, ◌++◌, false, Option, Some, None, refl, sym, ap, subst, ◌∙◌}
 use Rattle.std.proofs.lemmas.List.Sorted.{IsPermutation-trans}
 use Rattle.bodystore.specs.Stages.{Staged}
 use Rattle.library.specs.declared.library.Ranked.{Ranked}
@@ -82,6 +82,10 @@ may_be_looked old new library looks blank setting told s is =
 abbrev pub told_of : ℕ → GivenUp → Look
 told_of place (given.Conflict found) = look.Conflict (met_at place found)
 told_of place _ = look.NoMemory
+
+pub told_none : (place : ℕ) (why : GivenUp) → (why ≡ given.StoreFull) ⊎ (why ≡ given.NoMemory) → told_of place why ≡ look.NoMemory
+told_none place why (inl is) = ap (told_of place) is
+told_none place why (inr is) = ap (told_of place) is
 
 module _ (l : Lending) (stage : Staged) (over : Option Conflict) (lent : IsLent l stage over) where
   -- a read met a conflict

@@ -9,7 +9,7 @@ pub sorted-requires : goal.sorted-requires
 sorted-requires c =
     let run = c.entries.new.cells.run in
     let looks = c.entries.ensures.looks in
-    let lending = c.place-_place.ensures.stands in
+    let lending = c.place-place.ensures.stands in
     let given = c.requires.given ∙ sym (ap (λ (h : Home). h.given) c.library.view_is) in
     let slots = c.library.inside.given.slots in
     let setting : setting_of run.given ≡ record { prelude = c.in_ok-prelude.prelude; slots = slots } =

@@ -5,9 +5,9 @@ use Rattle.transaction.specs.declared.outcome.Look.TheVariants as look
 use Rattle.transaction.specs.Looks.{Sees}
 use Rattle.transaction.specs.Tries.{IsLaterPass}
 use Rattle.transaction.proofs.Ended.{met_at, is_later}
-use Rattle.transaction.proofs.Looked.{told_of, sees_stopped}
+use Rattle.transaction.proofs.Looked.{told_of, told_none, sees_stopped}
 use Rattle.transaction.proofs.looking.stop.Goals as goal
-use Rattle.transaction.proofs.looking.stop.Goals.{in-Conflict, in-StoreFull, in-NoMemory}
+use Rattle.transaction.proofs.looking.stop.Goals.{in-Conflict, in-StoreFull}
 
 pub returns-clause-later : goal.returns-clause-later
 returns-clause-later c =
@@ -26,8 +26,7 @@ returns-clause-sees c =
       | in-Conflict w ↦
           let met = w.met.ensures ∙ ap (λ (p : ℕ). met_at p w.in-Conflict.found) place in
           w.seen-is ∙ ap look.Conflict met ∙ ap (told_of l.going.place) (sym w.in-Conflict.is)
-      | in-StoreFull w ↦ w.seen-is ∙ ap (told_of l.going.place) (sym w.in-StoreFull.is)
-      | in-NoMemory w ↦ w.seen-is ∙ ap (told_of l.going.place) (sym w.in-NoMemory.is)
+      | in-StoreFull w ↦ w.seen-is ∙ sym (told_none l.going.place why w.in-StoreFull.is)
     ] in
     subst (λ (k : Pass). Sees l.began k c.match-why.seen) (sym ended.kit)
     (subst (λ (s : Look). Sees l.began l.going.known s) (sym is)
