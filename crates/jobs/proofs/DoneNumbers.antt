@@ -16,9 +16,9 @@ use Rattle.cells.proofs.Tallies.{filter_permutation}
 use Rattle.lawful.specs.History.{history_of}
 use Rattle.lawful.proofs.Entries.{at_index}
 use Rattle.claims.specs.Claims.{up_to}
+use Rattle.lending.specs.Lent.{Pass}
 use Rattle.transaction.specs.declared.outcome.Record.{Record}
 use Rattle.transaction.specs.Members.{Home, Member, AreRecorded, IsRecordIn, entry_recorded}
-use Rattle.transaction.specs.Attempts.{Pass}
 use Rattle.workers.specs.Works.{IsHandedBack, is_done, newly_done, all_newly_done}
 use Rattle.workers.proofs.Numbers.{done_at}
 use Rattle.finishing.specs.Finishes.{IsFinished}

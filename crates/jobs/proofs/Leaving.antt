@@ -9,10 +9,10 @@ use Rattle.library.specs.declared.command.Command.{Command}
 use Rattle.library.specs.declared.history.Entry.{Entry as CodeEntry}
 use Rattle.library.specs.Library.{Listed}
 use Rattle.library.specs.Histories.{told}
+use Rattle.lending.specs.Lent.{Pass}
 use Rattle.transaction.specs.declared.outcome.Outcome.{Outcome}
 use Rattle.transaction.specs.Members.{Home, Member, IsOf}
 use Rattle.transaction.specs.Openings.{IsNew}
-use Rattle.transaction.specs.Attempts.{Pass}
 use Rattle.transaction.specs.Closings.{passes_of}
 use Rattle.ranges.specs.Ranges.{Has}
 use Rattle.ranges.proofs.Members.{mapped_has}

@@ -13,8 +13,7 @@ use Rattle.tlwords.specs.declared.mode.Mode.{Mode}
 use Rattle.lawful.specs.declared.notes.Given.{Given}
 use Rattle.lawful.specs.Lawful.{setting_of}
 use Rattle.lawful.proofs.Running.{runs_are_lawful}
-use Rattle.transaction.specs.Attempts.{Pass}
-use Rattle.transaction.specs.Lent.{Lending, Lends, sight_of}
+use Rattle.lending.specs.Lent.{Pass, Lending, Lends, sight_of}
 use Rattle.transaction.specs.Tries.{MayBeDone, MayBeRefused}
 
 module _ (g : Given) (k : Pass) (mode : Mode) (cs : List Command) (old : Lending) (lends : Lends g k mode (has_staging cs) old) where

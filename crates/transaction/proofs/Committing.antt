@@ -10,6 +10,7 @@ use Rattle.library.specs.Histories.{done_entry}
 use Rattle.library.specs.Transactions.{has_edit}
 use Rattle.bodystore.specs.Stages.{Staged}
 use Rattle.cells.specs.State.{most_words}
+use Rattle.cells.specs.Answers.{has_staging}
 use Rattle.tlwords.specs.declared.mode.Mode.TheVariants.{Reading}
 use Rattle.tlwords.specs.declared.outcome.Conflict.{Conflict}
 use Rattle.tlwords.specs.Seen.{SeenGrows, Committed, Answered}
@@ -27,13 +28,18 @@ use Rattle.lawful.specs.Lawful.{library_terms}
 use Rattle.lawful.specs.History.{history_of, IsHistoryOf}
 use Rattle.lawful.specs.Laws.{IsPassOn}
 use Rattle.lawful.proofs.Standing.{sessions_stand}
+use Rattle.lending.specs.Lent.{Pass, Lending, IsLent}
+use Rattle.lending.specs.declared.live.GivenUp.{GivenUp}
+use Rattle.lending.specs.declared.live.GivenUp.TheVariants as given
+use Rattle.lending.specs.Ends.{IsLawfulWith, IsForgotten, IsGivenUp}
 use Rattle.transaction.specs.declared.outcome.Conflict.{Conflict as Met}
+use Rattle.transaction.specs.declared.outcome.Outcome.{Outcome}
 use Rattle.transaction.specs.declared.outcome.Outcome.TheVariants as outcome
 use Rattle.transaction.specs.declared.outcome.Record.{Record}
 use Rattle.transaction.specs.Members.{IsRecordIn}
-use Rattle.transaction.specs.Attempts.{Pass, AddsNothing, Meets}
-use Rattle.transaction.specs.Lent.{Lending, IsLent}
-use Rattle.transaction.specs.Tries.{IsLaterPass, Tries, IsLawfulWith, IsForgotten}
+use Rattle.transaction.specs.Attempts.{AddsNothing, Meets}
+use Rattle.transaction.specs.Tries.{IsLaterPass, Tries}
+use Rattle.transaction.proofs.Ended.{met_at, is_later, adds_nothing, meets}
 
 -- the record of a number that a conflict left void
 abbrev pub void_record : ℕ → Record
@@ -42,6 +48,12 @@ void_record number = record { number = number; done = None }
 abbrev pub void_records : Option ℕ → Option Record
 void_records None = None
 void_records (Some number) = Some (void_record number)
+
+-- what is told of a run that is given up
+abbrev pub told_of : ℕ → GivenUp → Outcome
+told_of place (given.Conflict c) = outcome.Conflict (met_at place c)
+told_of place given.StoreFull = outcome.StoreFull
+told_of place given.NoMemory = outcome.NoMemory
 
 module _ (l : Lending) (stage : Staged) (over : Option Conflict) (lent : IsLent l stage over) (cs : List Command) where
   later_by : (k : Pass) → k.home ≡ l.going.known.home → k.name ≡ l.going.known.name → SeenGrows l.going.known.seen k.seen
@@ -55,16 +67,10 @@ module _ (l : Lending) (stage : Staged) (over : Option Conflict) (lent : IsLent 
       }
 
   later_same : IsLaterPass l.began l.going.known
-  later_same =
-      record {
-        home = ap (λ (z : Pass). z.home) lent.since;
-        name = ap (λ (z : Pass). z.name) lent.since;
-        grows = lent.grows;
-        knows = lent.stands.knows;
-      }
+  later_same = is_later l stage over lent
 
-  adds_nothing : AddsNothing l.began l.going.known
-  adds_nothing = record { mine = ap (λ (z : Pass). z.mine) lent.since; drawn = ap (λ (z : Pass). z.drawn) lent.since }
+  adds_none : AddsNothing l.began l.going.known
+  adds_none = adds_nothing l stage over lent
 
   -- what the pass has seen then is a history of the library
   history : (k : Pass) → k.home ≡ l.going.known.home → Knows library_terms k → IsHistoryOf l.given k.home.base k.seen
@@ -221,23 +227,22 @@ module _ (l : Lending) (stage : Staged) (over : Option Conflict) (lent : IsLent 
   pub met_before : (c : Conflict) → OnlyReads → l.going.over ≡ Some c
       → Tries cs l.began l.going.known (outcome.Conflict (met_of c)) None
   met_before c reading is =
-      let has = lent.met c (sym lent.over_is ∙ is) in
+      let has = meets l stage over lent c is in
       record {
         later = later_same;
-        gains = (
-          adds_nothing.mine,
-          inl adds_nothing.drawn,
-          record {
-            placed = lent.placed;
-            looked = has.looked;
-            runs = ap (λ (z : Pass). z.runs) lent.since;
-            cause = inl has.cause;
-            written = has.written;
-          },
-          λ none. (has.untold (reading none), adds_nothing.drawn),
-        );
-        recorded = adds_nothing.drawn;
+        gains = (adds_none.mine, inl adds_none.drawn, has.0, λ none. (has.1 (reading none), adds_none.drawn));
+        recorded = adds_none.drawn;
       }
+
+  -- ---- it is given up
+
+  pub gives_up : (why : GivenUp) → IsGivenUp l why → OnlyReads → l.may_stage ≡ has_staging cs
+      → Tries cs l.began l.going.known (told_of l.going.place why) None
+  gives_up (given.Conflict c) is reading stages = met_before c reading is
+  gives_up given.StoreFull is reading stages =
+      let full = lent.full is.1 in
+      record { later = later_same; gains = (adds_none, full.0, sym stages ∙ full.1); recorded = adds_none.drawn }
+  gives_up given.NoMemory is reading stages = record { later = later_same; gains = adds_none; recorded = adds_none.drawn }
 
   -- ---- no number is left
 
@@ -245,8 +250,8 @@ module _ (l : Lending) (stage : Staged) (over : Option Conflict) (lent : IsLent 
   uses_up count =
       record {
         later = later_same;
-        gains = (adds_nothing, ap (λ (z : Pass). length z.drawn) (sym lent.since) ∙ count);
-        recorded = adds_nothing.drawn;
+        gains = (adds_none, ap (λ (z : Pass). length z.drawn) (sym lent.since) ∙ count);
+        recorded = adds_none.drawn;
       }
 
   -- ---- what a commit answers

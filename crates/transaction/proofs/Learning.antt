@@ -4,8 +4,8 @@ use Rattle.tlwords.specs.Seen.{Agree}
 use Rattle.tlwords.specs.Calls.{Learns as WordsLearn}
 use Rattle.lawful.specs.Lawful.{library_terms}
 use Rattle.lawful.proofs.Standing.{other_calls_agree}
+use Rattle.lending.specs.Lent.{Pass}
 use Rattle.transaction.specs.Members.{Member, IsMember}
-use Rattle.transaction.specs.Attempts.{Pass}
 use Rattle.transaction.specs.Looks.{Learns}
 use Rattle.transaction.specs.Tries.{IsLaterPass}
 use Rattle.transaction.proofs.Staying.{pass_on, still_member, goes_on}

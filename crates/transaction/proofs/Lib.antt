@@ -3,10 +3,6 @@ pub mod Staying
 pub mod Learning
 pub mod Looked
 pub mod Taken
-pub mod Kept
-pub mod Lending
-pub mod Sighted
-mod Reading
 pub mod Ended
 pub mod Opened
 pub mod Recorded

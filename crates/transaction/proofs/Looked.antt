@@ -1,5 +1,5 @@
 -- A look at the whole library: what may be noted of it, and how it ends.
-use Rattle.std.proofs.Common.{◌≡◌, ℕ, List, [], ◌∷◌, ◌++◌, false, Option, Some, None, inl, refl, sym, ap, subst, ◌∙◌}
+use Rattle.std.proofs.Common.{◌≡◌, ℕ, ◌⊎◌, inl, inr, List, [], ◌∷◌, ◌++◌, false, Option, Some, None, refl, sym, ap, subst, ◌∙◌}
 use Rattle.std.proofs.lemmas.List.Sorted.{IsPermutation-trans}
 use Rattle.bodystore.specs.Stages.{Staged}
 use Rattle.library.specs.declared.library.Ranked.{Ranked}
@@ -25,14 +25,16 @@ use Rattle.lawful.specs.Lawful.{setting_of, library_terms}
 use Rattle.lawful.specs.History.{library_after, state_after}
 use Rattle.lawful.proofs.Standing.{runs_suit}
 use Rattle.lawful.proofs.Running.{looks_are_lawful}
+use Rattle.lending.specs.declared.live.GivenUp.{GivenUp}
+use Rattle.lending.specs.declared.live.GivenUp.TheVariants as given
+use Rattle.lending.specs.Lent.{Pass, Lending, IsLent, is_writing, sight_of}
+use Rattle.lending.specs.Ends.{IsGivenUp}
 use Rattle.transaction.specs.declared.outcome.Look.{Look}
 use Rattle.transaction.specs.declared.outcome.Look.TheVariants as look
-use Rattle.transaction.specs.declared.outcome.Conflict.{Conflict as Met}
 use Rattle.transaction.specs.Members.{Member, IsMember}
-use Rattle.transaction.specs.Attempts.{Pass}
 use Rattle.transaction.specs.Looks.{Looks, Sees, SaysLooked}
-use Rattle.transaction.specs.Lent.{Lending, IsLent, is_writing, sight_of}
 use Rattle.transaction.specs.Tries.{IsLaterPass, MayBeLooked}
+use Rattle.transaction.proofs.Ended.{met_at, is_later, adds_nothing, meets}
 use Rattle.transaction.proofs.Staying.{pass_on, still_member, goes_on}
 
 -- ---- the library that was read
@@ -76,9 +78,27 @@ may_be_looked old new library looks blank setting told s is =
 
 -- ---- its end
 
--- the conflict of a run at a place
-abbrev pub met_at : ℕ → Conflict → Met
-met_at place found = record { place = place; cell = found.cell; word = found.word; before = found.before }
+-- what is told of a look that is given up: it stages nothing, so it is memory that ran out where it met no conflict
+abbrev pub told_of : ℕ → GivenUp → Look
+told_of place (given.Conflict found) = look.Conflict (met_at place found)
+told_of place _ = look.NoMemory
+
+pub told_none : (place : ℕ) (why : GivenUp) → (why ≡ given.StoreFull) ⊎ (why ≡ given.NoMemory) → told_of place why ≡ look.NoMemory
+told_none place why (inl is) = ap (told_of place) is
+told_none place why (inr is) = ap (told_of place) is
+
+module _ (l : Lending) (stage : Staged) (over : Option Conflict) (lent : IsLent l stage over) where
+  -- a read met a conflict
+  saw_conflict : (found : Conflict) → l.going.mode ≡ Reading → l.going.over ≡ Some found
+      → Sees l.began l.going.known (look.Conflict (met_at l.going.place found))
+  saw_conflict found mode is =
+      let has = meets l stage over lent found is in
+      (adds_nothing l stage over lent, has.0, has.1 mode)
+
+  pub sees_stopped : (why : GivenUp) → IsGivenUp l why → l.going.mode ≡ Reading → Sees l.began l.going.known (told_of l.going.place why)
+  sees_stopped (given.Conflict found) is mode = saw_conflict found mode is
+  sees_stopped given.StoreFull is mode = adds_nothing l stage over lent
+  sees_stopped given.NoMemory is mode = adds_nothing l stage over lent
 
 module _ (l : Lending) (stage : Staged) (over : Option Conflict) (lent : IsLent l stage over) (n : Note) (new : Pass) (o : Outcome)
     (stopped : (k : Conflict) → l.going.over ≡ Some k → (o ≡ ends.Conflict k None) × (new ≡ l.going.known))
@@ -96,13 +116,7 @@ module _ (l : Lending) (stage : Staged) (over : Option Conflict) (lent : IsLent 
         grows = seen_trans l.began.seen l.going.known.seen new.seen lent.grows a.grows;
         knows = a.knows;
       }
-  later_by (Some k) met =
-      subst (IsLaterPass l.began) (sym (stopped k met).1) (record {
-        home = ap (λ (z : Pass). z.home) lent.since;
-        name = ap (λ (z : Pass). z.name) lent.since;
-        grows = lent.grows;
-        knows = lent.stands.knows;
-      })
+  later_by (Some k) met = subst (IsLaterPass l.began) (sym (stopped k met).1) (is_later l stage over lent)
 
   pub look_later : IsLaterPass l.began new
   look_later = later_by l.going.over refl
@@ -133,20 +147,9 @@ module _ (l : Lending) (stage : Staged) (over : Option Conflict) (lent : IsLent 
   sees_conflict_by found drawn mode is (Some k) met =
       let own = (stopped k met).0 in
       let same : k ≡ found = cc in
-      let has = lent.met k (sym lent.over_is ∙ met) in
-      subst (λ (c : Conflict). Sees l.began new (look.Conflict (met_at l.going.place c)))
-      same (subst (λ (z : Pass). Sees l.began z (look.Conflict (met_at l.going.place k)))
-      (sym (stopped k met).1) (
-        record { mine = ap (λ (z : Pass). z.mine) lent.since; drawn = ap (λ (z : Pass). z.drawn) lent.since },
-        record {
-          placed = lent.placed;
-          looked = has.looked;
-          runs = ap (λ (z : Pass). z.runs) lent.since;
-          cause = inl has.cause;
-          written = has.written;
-        },
-        has.untold mode,
-      ))
+      subst (λ (c : Conflict). Sees l.began new (look.Conflict (met_at l.going.place c))) same
+      (subst (λ (z : Pass). Sees l.began z (look.Conflict (met_at l.going.place k))) (sym (stopped k met).1)
+      (saw_conflict l stage over lent k mode met))
 
   pub sees_conflict : (found : Conflict) (drawn : Option ℕ) → l.going.mode ≡ Reading → o ≡ ends.Conflict found drawn
       → Sees l.began new (look.Conflict (met_at l.going.place found))

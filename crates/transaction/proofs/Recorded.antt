@@ -10,9 +10,10 @@ use Rattle.tlwords.specs.Seen.{Seen, SeenGrows}
 use Rattle.lawful.specs.declared.notes.Note.{Note}
 use Rattle.lawful.specs.History.{history_of}
 use Rattle.lawful.proofs.Entries.{histories_grow}
+use Rattle.lending.specs.Lent.{Pass}
 use Rattle.transaction.specs.declared.outcome.Record.{Record}
 use Rattle.transaction.specs.Members.{Member, AreRecorded, entry_recorded, IsRecordIn}
-use Rattle.transaction.specs.Attempts.{Pass, IsVoidNumber}
+use Rattle.transaction.specs.Attempts.{IsVoidNumber}
 use Rattle.transaction.specs.Tries.{IsRecorded}
 
 recorded_settled : (done : Option (List Command × List Reply)) → entry_recorded done ≢ open_entry

@@ -2,8 +2,8 @@
 use denote.Param.Send.{IsSend, IsSync, sendable}
 use Rattle.std.proofs.Crossing.{crosses}
 use Rattle.std.proofs.MapsCrossing as maps
-use Rattle.bodystore.proofs.Sent.{stage_send}
-use Rattle.tlwords.proofs.Sent.{pass_send, words_sync}
+use Rattle.tlwords.proofs.Sent.{words_sync}
+use Rattle.lending.proofs.Sent.{kit_send}
 use Rattle.mmsyntax.specs.contracts.label.Label as Label
 use Rattle.mmsyntax.specs.contracts.statement.Assertion as Assertion
 use Rattle.mmsyntax.specs.contracts.prelude.Prelude as Prelude
@@ -12,7 +12,6 @@ use Rattle.library.specs.contracts.command.Reply as Reply
 use Rattle.lawful.specs.contracts.notes.Given as Given
 use Rattle.transaction.specs.contracts.outcome.Record as Record
 use Rattle.transaction.specs.contracts.outcome.Outcome as Outcome
-use Rattle.transaction.specs.contracts.session.Kit as Kit
 use Rattle.transaction.specs.contracts.session.Session as Session
 use Rattle.transaction.specs.contracts.running.Library as Library
 
@@ -33,9 +32,6 @@ record_send = let command = command_send in let reply = reply_send in search (cr
 
 pub outcome_send : IsSend Outcome.the_field.row
 outcome_send = search (crosses, sendable) depth 60 fits 100000
-
-kit_send : IsSend Kit.the_field.row
-kit_send = let stage = stage_send in search (pass_send, crosses, sendable) depth 60 fits 100000
 
 pub session_send : IsSend Session.the_field.row
 session_send = let own = record_send in let kit = kit_send in search (crosses, sendable) depth 60 fits 100000

@@ -4,9 +4,9 @@ use Rattle.cells.specs.State.{most_words}
 use Rattle.tlwords.specs.Known.{Home}
 use Rattle.lawful.specs.declared.notes.Given.{Given}
 use Rattle.lawful.specs.Laws.{IsPassOn}
+use Rattle.lending.specs.Lent.{Pass}
 use Rattle.transaction.specs.declared.outcome.Record.{Record}
 use Rattle.transaction.specs.Members.{Member, IsMember, IsLater}
-use Rattle.transaction.specs.Attempts.{Pass}
 use Rattle.transaction.specs.Kits.{known_in}
 use Rattle.transaction.specs.Tries.{IsLaterPass}
 use Rattle.transaction.proofs.Standing.{stands}

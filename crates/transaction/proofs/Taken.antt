@@ -7,9 +7,9 @@ use Rattle.std.proofs.lemmas.List.Elements.{All-append, All-cons, All-head, All-
 use Rattle.atomic_table.specs.Seated.{TableId}
 use Rattle.tlwords.specs.Known.{Home as WordsHome}
 use Rattle.lawful.specs.declared.notes.Given.{Given}
+use Rattle.lending.specs.Lent.{Pass}
 use Rattle.transaction.specs.declared.outcome.Record.{Record}
 use Rattle.transaction.specs.Members.{Home, Member, IsOf, IsMember}
-use Rattle.transaction.specs.Attempts.{Pass}
 use Rattle.transaction.specs.Closings.{AreTaken, passes_of}
 
 pub none_taken : AreTaken [] [] []

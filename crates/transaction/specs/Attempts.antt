@@ -9,20 +9,15 @@ use Rattle.library.specs.Transactions.{has_edit, has_too_many}
 use Rattle.cells.specs.Answers.{has_staging}
 use Rattle.tlcore.specs.History.{WasWritten}
 use Rattle.tlwords.specs.Seen.{Work, Call, Committed as CommittedCall, Answered}
-use Rattle.tlwords.specs.Known.{Known}
 use Rattle.tlwords.specs.Runs.{HasCause}
-use Rattle.lawful.specs.declared.notes.Given.{Given}
 use Rattle.lawful.specs.declared.notes.Note.{Note}
 use Rattle.lawful.specs.declared.notes.Note.TheVariants as note
 use Rattle.lawful.specs.History.{history_of}
+use Rattle.lending.specs.Lent.{Pass}
 use Rattle.transaction.specs.declared.outcome.Conflict.{Conflict as Met}
 use Rattle.transaction.specs.declared.outcome.Outcome.{Outcome}
 use Rattle.transaction.specs.declared.outcome.Outcome.TheVariants as outcome
 use Rattle.transaction.specs.Members.{Member, IsLater}
-
--- what a pass of a library knows
-abbrev pub Pass : Type 0
-Pass = Known Given Note
 
 -- ---- the notes of calls
 

@@ -3,10 +3,10 @@ use Rattle.std.specs.Prelude.{◌≡◌, ◌≤◌, ◌^◌, ℕ, List, length, 
 use Rattle.std.specs.declared.alloc.Global.{Global}
 use Rattle.tlwords.specs.Closing.{ClosesAll}
 use Rattle.lawful.specs.Lawful.{setting_of, library_terms}
+use Rattle.lending.specs.Lent.{Pass}
 use Rattle.transaction.specs.declared.closing.ClosedLibrary.{ClosedLibrary}
 use Rattle.transaction.specs.declared.outcome.Record.{Record}
 use Rattle.transaction.specs.Members.{Home, Member, IsMember}
-use Rattle.transaction.specs.Attempts.{Pass}
 
 -- what the passes of sessions know
 abbrev pub passes_of : List Member → List Pass

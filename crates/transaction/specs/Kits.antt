@@ -1,7 +1,7 @@
 -- Of the code's inside, apart from the rules: what the pass of a session knows, which a run may have for a time.
 use Rattle.std.specs.Prelude.{Option, Some, None}
+use Rattle.lending.specs.Lent.{Pass}
 use Rattle.transaction.specs.Members.{no_pass}
-use Rattle.transaction.specs.Attempts.{Pass}
 
 -- what the pass knows; nothing while a run has it
 abbrev pub known_in : Option Pass → Pass

@@ -5,5 +5,4 @@ pub mod Attempts
 pub mod Looks
 pub mod Closings
 pub mod Kits
-pub mod Lent
 pub mod Tries

@@ -6,10 +6,11 @@ use Rattle.tlwords.specs.Seen.{SeenGrows, Answered}
 use Rattle.lawful.specs.declared.notes.Note.{Note}
 use Rattle.lawful.specs.declared.notes.Note.TheVariants as note
 use Rattle.lawful.specs.History.{history_of, AllAgree}
+use Rattle.lending.specs.Lent.{Pass}
 use Rattle.transaction.specs.declared.outcome.Look.{Look}
 use Rattle.transaction.specs.declared.outcome.Look.TheVariants as look
 use Rattle.transaction.specs.Members.{Member, IsLater}
-use Rattle.transaction.specs.Attempts.{Pass, GainsCall, IsNotBefore, DrawsNone, AddsNothing, Meets}
+use Rattle.transaction.specs.Attempts.{GainsCall, IsNotBefore, DrawsNone, AddsNothing, Meets}
 
 -- the note says that the library was this
 abbrev pub SaysLooked : Listed → Note → Type 0

@@ -12,12 +12,12 @@ ghost use Rattle.transaction.specs.Members.{IsOf};
 ghost use Rattle.transaction.specs.Attempts.{Attempts};
 ghost use Rattle.transaction.specs.Tries.{Tries, MayBeDone, MayBeRefused};
 
-use crate::live::{Live, met};
-use crate::outcome::{Outcome, Record};
+use crate::outcome::{Outcome, Record, met};
 use crate::running::Library;
-use crate::session::{Kit, Session};
+use crate::session::Session;
 use commands::{RunError, has_staging, run};
 use lawful::Note;
+use lending::{GivenUp, Kit, Live};
 use library::{Refused, Reply, Transaction, copy_commands, copy_replies, has_edit, has_too_many};
 use mmsyntax::Sequence;
 use std::alloc::{AllocError, Global};
@@ -80,7 +80,7 @@ fn transact(alloc: Global, library: &Library, kit: Kit, commands: &Transaction) 
     let edits = has_edit(commands.as_slice());
     let mode = if edits { Mode::Writing } else { Mode::Reading };
     let may_stage = has_staging(commands.as_slice());
-    let mut live = Live::begin(alloc, library, kit, mode, may_stage);
+    let mut live = library.begin(alloc, kit, mode, may_stage);
     match run(alloc, &library.prelude, &mut live, commands.as_slice()) {
         Ok(replies) if edits => commit(alloc, live, commands, replies),
         Ok(replies) => answer(live, commands, replies),
@@ -113,8 +113,6 @@ fn commit(alloc: Global, live: Live<'_>, commands: &Transaction, replies: Sequen
     let Ok(done) = copy_done(alloc, commands, &replies) else {
         return stop(live, commands);
     };
-    // For the proof: how the run stands to its pass.
-    let _ = &live.slots;
     let place = live.place();
     let note = Note::Done {
         commands: Snapshot::of(commands),
@@ -150,8 +148,6 @@ fn answer(live: Live<'_>, commands: &Transaction, replies: Sequence<Reply>) -> T
     requires lawful { MayBeDone live.run commands.now replies }
     ensures { Tries commands.now live.entry.run.began result.kit result.outcome result.drawn }
 {
-    // For the proof: how the run stands to its pass.
-    let _ = &live.slots;
     let place = live.place();
     let note = Note::Done {
         commands: Snapshot::of(commands),
@@ -179,8 +175,6 @@ fn refuse(mut live: Live<'_>, commands: &Transaction, refused: Refused) -> Tried
     ensures { Tries commands.now live.entry.run.began result.kit result.outcome result.drawn }
 {
     live.forget();
-    // For the proof: how the run stands to its pass.
-    let _ = &live.slots;
     let place = live.place();
     let note = Note::Refused {
         commands: Snapshot::of(commands),
@@ -207,7 +201,13 @@ fn stop(live: Live<'_>, commands: &Transaction) -> Tried
     requires reading { has_edit commands.now ≡ false → live.run.going.mode ≡ Reading }
     ensures { Tries commands.now live.entry.run.began result.kit result.outcome result.drawn }
 {
-    let (kit, outcome) = live.give_up();
+    let place = live.place();
+    let (kit, why) = live.give_up();
+    let outcome = match why {
+        GivenUp::Conflict(found) => Outcome::Conflict(met(place, found)),
+        GivenUp::StoreFull => Outcome::StoreFull,
+        GivenUp::NoMemory => Outcome::NoMemory,
+    };
     Tried {
         kit,
         outcome,

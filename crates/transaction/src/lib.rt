@@ -7,7 +7,6 @@
 
 mod attempting;
 mod closing;
-mod live;
 mod looking;
 mod opening;
 mod outcome;

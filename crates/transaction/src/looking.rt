@@ -8,18 +8,18 @@ ghost use Rattle.tlwords.specs.declared.mode.Mode.TheVariants.{Reading};
 ghost use Rattle.tlwords.specs.Commits.{writes_kept};
 ghost use Rattle.lawful.specs.Laws.{IsPassOn};
 ghost use Rattle.lawful.specs.Lawful.{setting_of};
+ghost use Rattle.lending.specs.Lent.{sight_of};
 ghost use Rattle.transaction.specs.Members.{IsOf};
 ghost use Rattle.transaction.specs.Looks.{Looks, Sees};
-ghost use Rattle.transaction.specs.Lent.{sight_of};
 ghost use Rattle.transaction.specs.Tries.{IsLaterPass, MayBeLooked};
 
-use crate::live::{Live, Stopped, met};
-use crate::outcome::{Look, Outcome};
+use crate::outcome::{Look, met};
 use crate::running::Library;
-use crate::session::{Kit, Session};
+use crate::session::Session;
 use cells::Halt;
 use commands::entries;
 use lawful::Note;
+use lending::{GivenUp, Kit, Live, Stopped};
 use library::PlainLibrary;
 use std::alloc::Global;
 use std::snapshot::Snapshot;
@@ -50,7 +50,7 @@ fn look(alloc: Global, library: &Library, kit: Kit) -> (Kit, Look)
     ensures later { IsLaterPass kit result.0 }
     ensures sees { Sees kit result.0 result.1 }
 {
-    let mut live = Live::begin(alloc, library, kit, Mode::Reading, false);
+    let mut live = library.begin(alloc, kit, Mode::Reading, false);
     match read_all(alloc, library, &mut live) {
         Ok(seen) => show(live, seen),
         Err(_) => stop(live),
@@ -71,7 +71,7 @@ fn read_all(
 {
     let entries = entries(alloc, live)?;
     // For the proof: what the run has read is of a library that verifies.
-    let _ = &live.slots;
+    let _place = live.place();
     let prelude = library.prelude.copy(alloc)?;
     Ok(PlainLibrary::sorted(prelude, library.given.slots, entries))
 }
@@ -84,8 +84,6 @@ fn show(live: Live<'_>, library: PlainLibrary) -> (Kit, Look)
     ensures later { IsLaterPass live.entry.run.began result.0 }
     ensures sees { Sees live.entry.run.began result.0 result.1 }
 {
-    // For the proof: how the run stands to its pass.
-    let _ = &live.slots;
     let place = live.place();
     let note = Note::Looked {
         library: Snapshot::of(&library),
@@ -105,11 +103,12 @@ fn stop(live: Live<'_>) -> (Kit, Look)
     ensures later { IsLaterPass live.entry.run.began result.0 }
     ensures sees { Sees live.entry.run.began result.0 result.1 }
 {
-    let (kit, outcome) = live.give_up();
-    let seen = match outcome {
-        Outcome::Conflict(met) => Look::Conflict(met),
+    let place = live.place();
+    let (kit, why) = live.give_up();
+    let seen = match why {
+        GivenUp::Conflict(found) => Look::Conflict(met(place, found)),
         // It stages nothing, so it is memory that ran out.
-        _ => Look::NoMemory,
+        GivenUp::StoreFull | GivenUp::NoMemory => Look::NoMemory,
     };
     (kit, seen)
 }

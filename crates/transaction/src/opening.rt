@@ -8,11 +8,12 @@ ghost use Rattle.lawful.specs.Laws.{IsPassOn};
 ghost use Rattle.transaction.specs.Openings.{IsShape, Opens, Refuses, Faults, AreSeated};
 
 use crate::running::Library;
-use crate::session::{Kit, Session};
+use crate::session::Session;
 use crate::shape::{OpenError, Shape};
 use bodystore::Stage;
 use derivation::ProofFaultKind;
 use lawful::{Given, LibraryLaw};
+use lending::Kit;
 use mmsyntax::Database;
 use plaincells::PlainCells;
 use proofcheck::check_all;

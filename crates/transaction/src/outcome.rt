@@ -1,5 +1,7 @@
 //! What becomes of a transaction, and of a number that it drew.
 
+ghost use Rattle.std.specs.Prelude.{◌≡◌};
+
 use library::{PlainLibrary, Refused, Reply, Transaction};
 use mmsyntax::Sequence;
 
@@ -65,4 +67,16 @@ pub struct Record {
     pub number: u64,
     /// The transaction that committed with the number, with its replies; none where it met a conflict then.
     pub done: Option<(Transaction, Sequence<Reply>)>,
+}
+
+/// The conflict of a run at a place.
+pub(crate) fn met(place: u64, found: tlwords::Conflict) -> Conflict
+    ensures { result ≡ record { place = place; cell = found.cell; word = found.word; before = found.before } }
+{
+    Conflict {
+        place,
+        cell: found.cell,
+        word: found.word,
+        before: found.before,
+    }
 }

@@ -1,9 +1,11 @@
 //! A library in running words.
 
 use lawful::{Given, LibraryLaw};
+use lending::{Kit, Live};
 use mmsyntax::Prelude;
+use std::alloc::Global;
 use std::marker::Model;
-use tlwords::Words;
+use tlwords::{Mode, Words};
 
 /// A library in words that sessions share. Contracts see the opening that it is of.
 #[derive(Drop)]
@@ -30,6 +32,8 @@ impl Library {
     ghost use Rattle.std.specs.Prelude.{◌≡◌, Some};
     ghost use Rattle.tlwords.specs.Callers.{home_of};
     ghost use Rattle.lawful.specs.Lawful.{setting_of};
+    ghost use Rattle.lawful.specs.Laws.{IsPassOn};
+    ghost use Rattle.lending.specs.Lent.{Lends};
     ghost use Rattle.transaction.specs.Openings.{IsLibraryOf};
 
     /// Its prelude, what was given at its opening, and its words.
@@ -43,6 +47,15 @@ impl Library {
             words,
         } = self;
         (prelude, given, words)
+    }
+
+    /// Begins a run of a session on its words, to read only or to write too, that may stage words or not.
+    pub(crate) fn begin(&self, alloc: Global, kit: Kit, mode: Mode, may_stage: bool) -> Live<'_>
+        requires own { kit.home ≡ self.now.words }
+        requires on { IsPassOn self.now.given kit }
+        ensures { Lends self.now.given kit mode may_stage result.run }
+    {
+        Live::begin(alloc, &self.words, &self.given, kit, mode, may_stage)
     }
 
     /// The prelude of the library's assertions.

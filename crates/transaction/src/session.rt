@@ -6,40 +6,11 @@ ghost use Rattle.transaction.specs.Looks.{Learns};
 
 use crate::outcome::Record;
 use crate::running::Library;
-use bodystore::Stage;
-use lawful::{Given, LibraryLaw};
+use lawful::Given;
+use lending::Kit;
 use std::marker::Model;
 use std::snapshot::Snapshot;
-use tlwords::{Pass, learn};
-
-/// What a run takes along: the session's pass, and the ranges that the session has staged since its last commit. Contracts see what the pass
-/// knows.
-#[derive(Drop)]
-pub(crate) struct Kit {
-    pub(crate) pass: Pass<LibraryLaw>,
-    pub(crate) stage: Stage,
-}
-
-impl Model for Kit {
-    ghost use Rattle.bodystore.specs.Stages.{AreStaged};
-    ghost use Rattle.transaction.specs.Attempts.{Pass as Knowing};
-
-    ghost Value = { Knowing };
-
-    ghost view = { λ k. k.pass };
-
-    ghost invariant = { λ k. AreStaged k.pass.seen.ranges k.stage };
-}
-
-impl Kit {
-    /// Its pass. What was staged is forgotten.
-    pub(crate) fn into_pass(self) -> Pass<LibraryLaw>
-        ensures { result ≡ self }
-    {
-        let Kit { pass, stage: _ } = self;
-        pass
-    }
-}
+use tlwords::learn;
 
 /// A session of a library: one transaction after another, on one thread at a time. Contracts see what it knows: what it has seen of the
 /// history, its calls, the numbers that it drew, and their records.

@@ -77,17 +77,17 @@ impl From<AllocError> for OpenError {
     }
 }
 
-impl From<cells::OpenError> for OpenError {
+impl From<plaincells::OpenError> for OpenError {
     ghost use Rattle.std.specs.Prelude.{◌≡◌};
     ghost use Rattle.transaction.specs.Openings.{from_cells};
 
     ghost from_gives = { λ error e. e ≡ from_cells error };
 
-    fn from(error: cells::OpenError) -> Self {
+    fn from(error: plaincells::OpenError) -> Self {
         match error {
-            cells::OpenError::TooMany => OpenError::TooMany,
-            cells::OpenError::StoreFull => OpenError::StoreFull,
-            cells::OpenError::NoMemory => OpenError::NoMemory,
+            plaincells::OpenError::TooMany => OpenError::TooMany,
+            plaincells::OpenError::StoreFull => OpenError::StoreFull,
+            plaincells::OpenError::NoMemory => OpenError::NoMemory,
         }
     }
 }

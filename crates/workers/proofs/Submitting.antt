@@ -19,11 +19,12 @@ use Rattle.lawful.specs.declared.notes.Note.TheVariants as note
 use Rattle.lawful.specs.Lawful.{setting_of, first_library}
 use Rattle.lawful.specs.History.{history_of, CommitAgrees, AnswerAgrees, CallAgrees, AllAgree}
 use Rattle.lawful.proofs.Entries.{length-entries_of}
+use Rattle.lending.specs.Lent.{Pass}
 use Rattle.transaction.specs.declared.outcome.Conflict.{Conflict as Met}
 use Rattle.transaction.specs.declared.outcome.Outcome.{Outcome}
 use Rattle.transaction.specs.declared.outcome.Outcome.TheVariants as outcome
 use Rattle.transaction.specs.Members.{Member, Stands}
-use Rattle.transaction.specs.Attempts.{Pass, Gains, GainsCall, Submits, SaysDone, SaysRefused, tried}
+use Rattle.transaction.specs.Attempts.{Gains, GainsCall, Submits, SaysDone, SaysRefused, tried}
 use Rattle.workers.specs.Works.{OutcomeAgrees, OutcomeFits, StandsFrom, place_behind, numbers_of}
 
 -- ---- a session later

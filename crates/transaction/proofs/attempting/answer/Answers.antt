@@ -2,7 +2,6 @@ use Rattle.std.proofs.Common.{◌≡◌, ℕ, None, sym, ap, subst, ◌∙◌}
 use Rattle.tlwords.specs.declared.outcome.Outcome.TheVariants.{Read as EndsRead}
 use Rattle.transaction.specs.declared.outcome.Outcome.{Outcome}
 use Rattle.transaction.specs.declared.outcome.Outcome.TheVariants as outcome
-use Rattle.transaction.specs.Lent.{Lent, IsLent}
 use Rattle.transaction.specs.Tries.{Tries}
 use Rattle.transaction.proofs.Committing.{met_is, reads, answered, met_only}
 use Rattle.transaction.proofs.attempting.answer.Goals as goal
@@ -14,13 +13,14 @@ end-kit-requires c = λ none. c.requires.lawful _ _ c.of.ensures c.of-2.ensures
 pub returns : goal.returns
 returns c =
     let l = c.args.live.run in
-    let stage = c.live.inside.stage in
-    let over = c.live.inside.over in
+    let lending = c.place-place.ensures.stands in
+    let stage = lending.0 in
+    let over = lending.1 in
+    let lent = lending.2 in
     let cs = c.args.commands.now in
     let k = c.end-kit.result.0 in
     let o = c.end-kit.result.1 in
     let ends = c.end-kit.ensures in
-    let lent = subst (λ (v : Lent). IsLent v.run stage over) c.live.view_is c.live.invariant.1 in
     let outcomes = λ (x : Outcome). Tries cs l.began k x None in
     let done = λ (place : ℕ) (is : o ≡ EndsRead place).
     let a = answered l stage over lent cs _ k o ends.over ends.ended place is in
@@ -31,7 +31,7 @@ returns c =
       | in-Read+in-Refused-1 w ↦ subst outcomes (sym w.outcome-is) (done w.in-Read.place w.in-Read.is)
       | in-Read+in-Looked-1 w ↦ subst outcomes (sym w.outcome-is) (done w.in-Read.place w.in-Read.is)
       | in-Conflict w ↦
-          let met = met_is l stage over lent cs w.in-Conflict.conflict c.place-place.result w.met.result w.met.ensures c.place-place.ensures in
+          let met = met_is l stage over lent cs w.in-Conflict.conflict c.place-place.result w.met.result w.met.ensures c.place-place.ensures.value in
           let never : l.going.over ≡ None → ⊥ = λ none. let a = ends.reading none c.requires.reading in let b = w.in-Conflict.is in cc in
           subst outcomes (sym (w.outcome-is ∙ ap outcome.Conflict met))
           (met_only l stage over lent cs _ k o ends.over ends.ended w.in-Conflict.conflict _ (λ none. c.requires.reading)

@@ -6,7 +6,6 @@ use Rattle.tlwords.specs.declared.outcome.Outcome.TheVariants.{Committed as Ends
 use Rattle.transaction.specs.declared.outcome.Outcome.{Outcome}
 use Rattle.transaction.specs.declared.outcome.Outcome.TheVariants as outcome
 use Rattle.transaction.specs.declared.outcome.Record.{Record}
-use Rattle.transaction.specs.Lent.{Lent, IsLent}
 use Rattle.transaction.specs.Tries.{Tries}
 use Rattle.transaction.proofs.Committing.{met_is, commits, committed, conflicts, used, void_mapped, void_records}
 use Rattle.transaction.proofs.attempting.commit.Goals as goal
@@ -18,13 +17,14 @@ end-kit-requires c = λ none. c.requires.lawful _ _ c.of.ensures c.of-2.ensures
 pub returns : goal.returns
 returns c =
     let l = c.args.live.run in
-    let stage = c.live.inside.stage in
-    let over = c.live.inside.over in
+    let lending = c.place-place.ensures.stands in
+    let stage = lending.0 in
+    let over = lending.1 in
+    let lent = lending.2 in
     let cs = c.args.commands.now in
     let k = c.end-kit.result.0 in
     let o = c.end-kit.result.1 in
     let ends = c.end-kit.ensures in
-    let lent = subst (λ (v : Lent). IsLent v.run stage over) c.live.view_is c.live.invariant.1 in
     let outcomes = λ (x : Outcome × Option Record). Tries cs l.began k x.0 x.1 in
     let done = λ (number : ℕ) (is : o ≡ EndsDone number). subst (λ (d : List Command × List Reply). Tries cs l.began k (outcome.Committed number c.args.replies) (Some (record { number = number; done = Some d })))
     (sym c.in-Ok.ensures)
@@ -35,7 +35,7 @@ returns c =
       | in-Committed+in-Refused-1 w ↦ subst outcomes (sym w.outcome-is) (done w.in-Committed.number w.in-Committed.is)
       | in-Committed+in-Looked-1 w ↦ subst outcomes (sym w.outcome-is) (done w.in-Committed.number w.in-Committed.is)
       | in-Conflict w ↦
-          let met = met_is l stage over lent cs w.in-Conflict.conflict c.place-place.result w.met.result w.met.ensures c.place-place.ensures in
+          let met = met_is l stage over lent cs w.in-Conflict.conflict c.place-place.result w.met.result w.met.ensures c.place-place.ensures.value in
           let mapped : w.map.result ≡ void_records w.in-Conflict.drawn =
           void_mapped w.in-Conflict.drawn w.map.result _ w.map.ensures.cases (λ x y p. search rules) in
           subst outcomes (sym (w.outcome-is ∙ (λ j. (outcome.Conflict (met j), mapped j))))

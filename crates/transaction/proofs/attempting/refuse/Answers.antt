@@ -1,10 +1,9 @@
 use Rattle.std.proofs.Common.{◌≡◌, ℕ, false, None, sym, ap, subst, ◌∙◌}
 use Rattle.library.specs.Transactions.{has_edit}
 use Rattle.lawful.specs.declared.notes.Note.TheVariants.{Refused}
+use Rattle.lending.specs.Lent.{Pass, Lending}
 use Rattle.transaction.specs.declared.outcome.Outcome.{Outcome}
 use Rattle.transaction.specs.declared.outcome.Outcome.TheVariants as outcome
-use Rattle.transaction.specs.Attempts.{Pass}
-use Rattle.transaction.specs.Lent.{Lent, Lending, IsLent}
 use Rattle.transaction.specs.Tries.{Tries}
 use Rattle.transaction.proofs.Committing.{met_is, met_of, refuses, answered, met_only, never_rejects, forgotten_lawful}
 use Rattle.transaction.proofs.attempting.refuse.Goals as goal
@@ -18,13 +17,14 @@ end-kit-requires c =
 pub returns : goal.returns
 returns c =
     let l = c.forget.new.self.run in
-    let stage = c.live.inside.stage in
-    let over = c.live.inside.over in
+    let lending = c.place-place.ensures.stands in
+    let stage = lending.0 in
+    let over = lending.1 in
+    let lent = lending.2 in
     let cs = c.args.commands.now in
     let k = c.end-kit.result.0 in
     let o = c.end-kit.result.1 in
     let ends = c.end-kit.ensures in
-    let lent = subst (λ (v : Lent). IsLent v.run stage over) c.live.view_is c.live.invariant.1 in
     let began = ap (λ (x : Lending). x.began) c.forget.ensures.is in
     let reading = λ (none : has_edit cs ≡ false). ap (λ (x : Lending). x.going.mode) c.forget.ensures.is ∙ c.requires.reading none in
     let outcomes = λ (x : Outcome). Tries cs c.args.live.run.began k x None in
@@ -36,7 +36,7 @@ returns c =
           (subst (λ (z : Pass). Tries cs z k (outcome.Refused l.going.place c.args.refused) None) began
           (refuses l stage over lent cs c.of.result c.of-2.result c.args.refused k c.of.ensures c.of-2.ensures a.1)))
       | in-Conflict w ↦
-          let met = met_is l stage over lent cs w.in-Conflict.conflict c.place-place.result w.met.result w.met.ensures c.place-place.ensures in
+          let met = met_is l stage over lent cs w.in-Conflict.conflict c.place-place.result w.met.result w.met.ensures c.place-place.ensures.value in
           subst outcomes (sym (w.outcome-is ∙ ap outcome.Conflict met))
           (subst (λ (z : Pass). Tries cs z k (outcome.Conflict (met_of l stage over lent cs w.in-Conflict.conflict)) None) began
           (met_only l stage over lent cs _ k o ends.over ends.ended w.in-Conflict.conflict _ reading w.in-Conflict.is

@@ -2,8 +2,8 @@ use Rattle.std.proofs.Common.{Bool, List, Err, ap, subst, ◌∙◌}
 use Rattle.library.specs.declared.command.Command.{Command}
 use Rattle.cells.specs.declared.ending.RunError.{RunError}
 use Rattle.cells.specs.Answers.{has_staging, DoesAll, RunAnswers}
-use Rattle.transaction.specs.declared.live.Stopped.{Stopped}
-use Rattle.transaction.specs.Lent.{Lends, sight_of}
+use Rattle.lending.specs.declared.live.Stopped.{Stopped}
+use Rattle.lending.specs.Lent.{Lends, sight_of}
 use Rattle.transaction.proofs.Applying.{may_be_done, may_be_refused}
 use Rattle.transaction.proofs.attempting.transact.Goals as goal
 

@@ -1,8 +1,8 @@
 use Rattle.std.proofs.Common.{◌≡◌, List, [], ◌∷◌, ◌++◌, Vec, length, length-append, sym, ap, subst, ◌∙◌, arith}
 use Rattle.std.specs.declared.alloc.Global.{Global}
+use Rattle.lending.specs.Lent.{Pass}
 use Rattle.transaction.specs.declared.outcome.Record.{Record}
 use Rattle.transaction.specs.Members.{Member, IsMember}
-use Rattle.transaction.specs.Attempts.{Pass}
 use Rattle.transaction.specs.Kits.{known_in}
 use Rattle.transaction.specs.Closings.{AreTaken}
 use Rattle.transaction.proofs.Taken.{one_taken}

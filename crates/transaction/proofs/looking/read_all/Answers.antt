@@ -2,7 +2,6 @@ use Rattle.std.proofs.Common.{◌≡◌, sym, ap, subst, ◌∙◌}
 use Rattle.library.specs.Library.{Setting, Verifies}
 use Rattle.lawful.specs.Lawful.{setting_of}
 use Rattle.transaction.specs.Members.{Home}
-use Rattle.transaction.specs.Lent.{Lent, IsLent}
 use Rattle.transaction.proofs.Looked.{entries_verify, entries_shown}
 use Rattle.transaction.proofs.looking.read_all.Goals as goal
 
@@ -10,14 +9,14 @@ pub sorted-requires : goal.sorted-requires
 sorted-requires c =
     let run = c.entries.new.cells.run in
     let looks = c.entries.ensures.looks in
-    let lent = subst (λ (v : Lent). IsLent v.run c.live.inside.stage c.live.inside.over) c.live.view_is c.live.invariant.1 in
+    let lending = c.place-place.ensures.stands in
     let given = c.requires.given ∙ sym (ap (λ (h : Home). h.given) c.library.view_is) in
     let slots = c.library.inside.given.slots in
     let setting : setting_of run.given ≡ record { prelude = c.in_ok-prelude.prelude; slots = slots } =
     looks.onward.setting ∙ ap setting_of given
     ∙ (λ i. record { prelude = sym (c.in_ok-prelude.ensures ∙ c.library.invariant.prelude_is) i; slots = slots }) in
     subst (λ (s : Setting). Verifies s c.in_ok-entries.entries.items) setting
-    (entries_verify run c.live.inside.stage c.live.inside.over c.in_ok-entries.entries.items lent (looks.writes ∙ c.requires.blank)
+    (entries_verify run lending.0 lending.1 c.in_ok-entries.entries.items lending.2 (looks.writes ∙ c.requires.blank)
     c.in_ok-entries.ensures.ok)
 
 pub returns-clause-ok : goal.returns-clause-ok

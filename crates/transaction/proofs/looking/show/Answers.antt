@@ -2,12 +2,12 @@ use Rattle.std.proofs.Common.{◌≡◌, ℕ, sym, ap, subst, ◌∙◌}
 use Rattle.ranges.specs.Pairs.{Pairs}
 use Rattle.tlwords.specs.declared.outcome.Outcome.TheVariants as ends
 use Rattle.lawful.specs.declared.notes.Note.TheVariants.{Looked}
+use Rattle.lending.specs.Ends.{IsLawfulWith}
 use Rattle.transaction.specs.declared.outcome.Conflict.{Conflict as Met}
 use Rattle.transaction.specs.declared.outcome.Look.TheVariants as look
 use Rattle.transaction.specs.Looks.{Sees}
-use Rattle.transaction.specs.Lent.{Lent, IsLent}
-use Rattle.transaction.specs.Tries.{IsLawfulWith}
-use Rattle.transaction.proofs.Looked.{met_at, look_later, sees_read, sees_conflict}
+use Rattle.transaction.proofs.Ended.{met_at}
+use Rattle.transaction.proofs.Looked.{look_later, sees_read, sees_conflict}
 use Rattle.transaction.proofs.looking.show.Goals as goal
 use Rattle.transaction.proofs.looking.show.Goals.{in-Read+in-Done-1, in-Read+in-Refused-1, in-Read+in-Looked-1, in-Conflict}
 
@@ -18,17 +18,17 @@ end-kit-requires c none =
 
 pub returns-clause-later : goal.returns-clause-later
 returns-clause-later c =
-    let lent = subst (λ (v : Lent). IsLent v.run c.live.inside.stage c.live.inside.over) c.live.view_is c.live.invariant.1 in
-    look_later c.args.live.run c.live.inside.stage c.live.inside.over lent (Looked c.of.result) c.end-kit.result.0 c.end-kit.result.1
+    let lending = c.place-place.ensures.stands in
+    look_later c.args.live.run lending.0 lending.1 lending.2 (Looked c.of.result) c.end-kit.result.0 c.end-kit.result.1
     c.end-kit.ensures.over (λ none. c.end-kit.ensures.reading none c.requires.reading) c.end-kit.ensures.ended
 
 pub returns-clause-sees : goal.returns-clause-sees
 returns-clause-sees c =
     let run = c.args.live.run in
     let new = c.end-kit.result.0 in
-    let lent = subst (λ (v : Lent). IsLent v.run c.live.inside.stage c.live.inside.over) c.live.view_is c.live.invariant.1 in
+    let lending = c.place-place.ensures.stands in
     let is_read = λ (place : ℕ) (is : c.end-kit.result.1 ≡ ends.Read place).
-    sees_read run c.live.inside.stage c.live.inside.over lent (Looked c.of.result) new c.end-kit.result.1
+    sees_read run lending.0 lending.1 lending.2 (Looked c.of.result) new c.end-kit.result.1
     c.end-kit.ensures.over (λ none. c.end-kit.ensures.reading none c.requires.reading) c.end-kit.ensures.ended
     place c.args.library c.of.ensures is in
     elim c.match-ended.branch [
@@ -37,9 +37,9 @@ returns-clause-sees c =
       | in-Read+in-Looked-1 w ↦ subst (Sees run.began new) (sym w.seen-is) (is_read w.in-Read.place w.in-Read.is)
       | in-Conflict w ↦
           let found = w.in-Conflict.conflict in
-          let met = w.met.ensures ∙ ap (λ (p : ℕ). met_at p found) c.place-place.ensures in
+          let met = w.met.ensures ∙ ap (λ (p : ℕ). met_at p found) c.place-place.ensures.value in
           subst (Sees run.began new) (sym (w.seen-is ∙ ap (λ (m : Met). look.Conflict m) met))
-          (sees_conflict run c.live.inside.stage c.live.inside.over lent (Looked c.of.result) new c.end-kit.result.1
+          (sees_conflict run lending.0 lending.1 lending.2 (Looked c.of.result) new c.end-kit.result.1
           c.end-kit.ensures.over (λ none. c.end-kit.ensures.reading none c.requires.reading) c.end-kit.ensures.ended
           found _ c.requires.reading w.in-Conflict.is)
     ]

@@ -1,7 +1,7 @@
 use Rattle.std.proofs.Common.{◌≡◌, List, sym, ap, subst}
 use Rattle.std.specs.Prelude.{All}
+use Rattle.lending.specs.Lent.{Pass}
 use Rattle.transaction.specs.Members.{Home}
-use Rattle.transaction.specs.Attempts.{Pass}
 use Rattle.transaction.proofs.Taken.{all_seated}
 use Rattle.transaction.proofs.running.Library.close.Goals as goal
 

@@ -1,7 +1,7 @@
 use Rattle.std.proofs.Common.{◌≡◌, Option, Some, refl, sym, ap, subst, ◌∙◌}
 use Rattle.bodystore.proofs.Staging.{staged_go_on}
+use Rattle.lending.specs.Lent.{Pass}
 use Rattle.transaction.specs.Members.{Member, IsMember}
-use Rattle.transaction.specs.Attempts.{Pass}
 use Rattle.transaction.specs.Looks.{Learns}
 use Rattle.transaction.proofs.Staying.{session_with}
 use Rattle.transaction.proofs.Learning.{own_stays, other_stays, session_learns}

@@ -1,6 +1,6 @@
 use Rattle.std.proofs.Common.{◌≡◌, Option, Some, refl, sym, ap, subst, ◌∙◌}
+use Rattle.lending.specs.Lent.{Pass}
 use Rattle.transaction.specs.Members.{Member, IsMember}
-use Rattle.transaction.specs.Attempts.{Pass}
 use Rattle.transaction.specs.Looks.{Looks}
 use Rattle.transaction.proofs.Staying.{session_with}
 use Rattle.transaction.proofs.Looked.{looker_stays, session_looks}

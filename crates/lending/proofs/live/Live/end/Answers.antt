@@ -1,0 +1,28 @@
+use Rattle.std.proofs.Common.{◌≡◌, None, sym, subst, ◌∙◌}
+use Rattle.tlwords.specs.Commits.{writes_kept}
+use Rattle.bodystore.specs.Stages.{AreStaged}
+use Rattle.bodystore.proofs.Staging.{staged_go_on, nothing_staged}
+use Rattle.lending.specs.Ends.{IsLawfulWith}
+use Rattle.lending.proofs.Lending.{lending_in}
+use Rattle.lending.proofs.Ended.{may_end, ended_grows}
+use Rattle.lending.proofs.live.Live.end.Goals.{in-Committed, in_default}
+use Rattle.lending.proofs.live.Live.end.Goals as goal
+
+pub commit-pass-requires : goal.commit-pass-requires
+commit-pass-requires c =
+    let s = c.self.inside in
+    let note = c.args.note.now in
+    let may = subst (λ x. x.run.going.over ≡ None → IsLawfulWith x.run (writes_kept x.run.going.slots) note) (sym c.self.view_is) c.requires in
+    record { lawful = λ none. may_end (lending_in s) s.stage s.over c.self.invariant.1 note (may none) }
+
+pub invariant_of-result : goal.invariant_of-result
+invariant_of-result c =
+    let s = c.self.inside in
+    let e = c.commit-pass.ensures in
+    let k = c.commit-pass.result.0 in
+    let grows = ended_grows c.args.note.now (lending_in s) k c.commit-pass.result.1 e.over e.ended in
+    elim c.match-outcome.branch [
+      | in-Committed w ↦ subst (AreStaged k.seen.ranges) (sym (w.stage-is ∙ w.clear.ensures)) (nothing_staged k.seen.ranges)
+      | in_default w ↦ subst (AreStaged k.seen.ranges) (sym w.stage-is)
+          (staged_go_on s.run.known.seen.ranges k.seen.ranges s.stage grows.2 c.self.invariant.1.staged)
+    ]

@@ -1,0 +1,23 @@
+use Rattle.std.proofs.Common.{subst}
+use Rattle.cells.specs.Sight.{Looks}
+use Rattle.lending.specs.Lent.{sight_of}
+use Rattle.lending.proofs.Lending.{lending_in, agrees_of, loads_lent}
+use Rattle.lending.proofs.Sighted.{loads_look}
+use Rattle.lending.proofs.live.LiveCells.load.Goals as goal
+
+pub invariant_of-self : goal.invariant_of-self
+invariant_of-self c =
+    let s = c.self.inside in
+    (c.self.invariant.0, loads_lent (lending_in s) s.stage s.over c.self.invariant.1 c.load.new.self c.load.ensures.loaded)
+
+pub invariant_of-self-inside : goal.invariant_of-self-inside
+invariant_of-self-inside c =
+    let s = c.self.inside in
+    let lent = loads_lent (lending_in s) s.stage s.over c.self.invariant.1 c.load.new.self c.load.ensures.loaded in
+    (∣ agrees_of _ s.stage s.over lent ∣₁, tt)
+
+pub returns-clause-looks : goal.returns-clause-looks
+returns-clause-looks c =
+    let l = lending_in c.self.inside in
+    subst (λ x. Looks (sight_of x.run) (sight_of (record l { going = c.load.new.self }))) c.self.view_is
+    (loads_look l c.load.new.self c.load.ensures.loaded)

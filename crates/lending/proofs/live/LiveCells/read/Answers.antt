@@ -1,0 +1,64 @@
+use Rattle.std.proofs.Common.{◌<◌, ℕ, Some, sym, subst}
+use Rattle.cells.specs.Slots.{cell_count}
+use Rattle.cells.specs.Sight.{Looks, Reads}
+use Rattle.lending.specs.Lent.{sight_of}
+use Rattle.lending.proofs.Lending.{lending_in, agrees_of, base_count}
+use Rattle.lending.proofs.Reading.{read_ends, stop_ends}
+use Rattle.lending.proofs.live.LiveCells.read.Goals as goal
+
+pub read-requires : goal.read-requires
+read-requires c =
+    let s = c.self.inside in
+    subst (λ (n : ℕ). c.args.cell < n) (sym (base_count (lending_in s) s.stage s.over c.self.invariant.1))
+    (subst (λ x. c.args.cell < cell_count (sight_of x.run).setting.slots) (sym c.self.view_is) c.requires)
+
+pub invariant_of-self : goal.invariant_of-self
+invariant_of-self c =
+    let s = c.self.inside in
+    let e = c.in-Ok.ensures in
+    let r = c.read.new.self in
+    let ends = read_ends (lending_in s) s.stage s.over c.self.invariant.1 c.args.cell r c.in-Ok.value e.over e.kept e.ok e.noted in
+    (c.self.invariant.0, ends.0)
+
+pub invariant_of-self-inside : goal.invariant_of-self-inside
+invariant_of-self-inside c =
+    let s = c.self.inside in
+    let e = c.in-Ok.ensures in
+    let r = c.read.new.self in
+    let ends = read_ends (lending_in s) s.stage s.over c.self.invariant.1 c.args.cell r c.in-Ok.value e.over e.kept e.ok e.noted in
+    (∣ agrees_of _ s.stage s.over ends.0 ∣₁, tt)
+
+pub invariant_of-self-in-Err : goal.invariant_of-self-in-Err
+invariant_of-self-in-Err c =
+    let s = c.self.inside in
+    let e = c.in-Err.ensures in
+    let r = c.read.new.self in
+    let ends = stop_ends (lending_in s) s.stage s.over c.self.invariant.1 c.args.cell r c.in-Err.conflict e.over e.err in
+    (c.self.invariant.0, ends.0)
+
+pub invariant_of-self-inside-in-Err : goal.invariant_of-self-inside-in-Err
+invariant_of-self-inside-in-Err c =
+    let s = c.self.inside in
+    let e = c.in-Err.ensures in
+    let r = c.read.new.self in
+    let met = c.in-Err.conflict in
+    let ends = stop_ends (lending_in s) s.stage s.over c.self.invariant.1 c.args.cell r met e.over e.err in
+    (∣ agrees_of _ s.stage (Some met) ends.0 ∣₁, tt)
+
+pub returns-in-Ok-clause-ok : goal.returns-in-Ok-clause-ok
+returns-in-Ok-clause-ok c =
+    let s = c.self.inside in
+    let l = lending_in s in
+    let e = c.in-Ok.ensures in
+    let r = c.read.new.self in
+    subst (λ x. Reads c.args.cell c.in-Ok.value (sight_of x.run) (sight_of (record l { going = r }))) c.self.view_is
+    (read_ends l s.stage s.over c.self.invariant.1 c.args.cell r c.in-Ok.value e.over e.kept e.ok e.noted).1
+
+pub returns-in-Err-clause-err : goal.returns-in-Err-clause-err
+returns-in-Err-clause-err c =
+    let s = c.self.inside in
+    let l = lending_in s in
+    let e = c.in-Err.ensures in
+    let r = c.read.new.self in
+    subst (λ x. Looks (sight_of x.run) (sight_of (record l { going = r }))) c.self.view_is
+    (stop_ends l s.stage s.over c.self.invariant.1 c.args.cell r c.in-Err.conflict e.over e.err).1

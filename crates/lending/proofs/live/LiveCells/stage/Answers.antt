@@ -1,0 +1,52 @@
+use Rattle.std.proofs.Common.{◌≡◌, true, length, sym, subst}
+use Rattle.ranges.specs.declared.range.Range.{Range as Place}
+use Rattle.cells.specs.Sight.{Looks, Stages}
+use Rattle.lending.specs.Lent.{sight_of}
+use Rattle.lending.proofs.Lending.{lending_in, agrees_of, staged_lent, refused_lent}
+use Rattle.lending.proofs.Sighted.{stages_sight, refused_look}
+use Rattle.lending.proofs.live.LiveCells.stage.Goals as goal
+
+pub invariant_of-self : goal.invariant_of-self
+invariant_of-self c =
+    let s = c.self.inside in
+    let may : s.may_stage ≡ true = subst (λ x. (sight_of x.run).may_stage ≡ true) (sym c.self.view_is) c.requires.may in
+    let lent = refused_lent (lending_in s) s.stage s.over c.self.invariant.1 (length c.args.words.now) c.stage.new.self may
+    c.in_default-stage.ensures.err in
+    (c.self.invariant.0, lent)
+
+pub invariant_of-self-inside : goal.invariant_of-self-inside
+invariant_of-self-inside c =
+    let s = c.self.inside in
+    let may : s.may_stage ≡ true = subst (λ x. (sight_of x.run).may_stage ≡ true) (sym c.self.view_is) c.requires.may in
+    let lent = refused_lent (lending_in s) s.stage s.over c.self.invariant.1 (length c.args.words.now) c.stage.new.self may
+    c.in_default-stage.ensures.err in
+    (∣ agrees_of _ s.stage s.over lent ∣₁, tt)
+
+pub returns-in_default-stage-clause-err : goal.returns-in_default-stage-clause-err
+returns-in_default-stage-clause-err c =
+    let l = lending_in c.self.inside in
+    subst (λ x. Looks (sight_of x.run) (sight_of (record l { going = c.stage.new.self; full = true }))) c.self.view_is
+    (refused_look l (length c.args.words.now) c.stage.new.self c.in_default-stage.ensures.err)
+
+pub invariant_of-self-2 : goal.invariant_of-self-2
+invariant_of-self-2 c =
+    let s = c.self.inside in
+    let lent = staged_lent (lending_in s) s.stage s.over c.self.invariant.1 c.args.words.now c.in-Ok.staged.start c.stage.new.self
+    c.note.new.self c.note.result c.in-Ok.ensures.ok.1 c.note.ensures.ok c.note.ensures.err in
+    (c.self.invariant.0, lent)
+
+pub invariant_of-self-inside-2 : goal.invariant_of-self-inside-2
+invariant_of-self-inside-2 c =
+    let s = c.self.inside in
+    let lent = staged_lent (lending_in s) s.stage s.over c.self.invariant.1 c.args.words.now c.in-Ok.staged.start c.stage.new.self
+    c.note.new.self c.note.result c.in-Ok.ensures.ok.1 c.note.ensures.ok c.note.ensures.err in
+    (∣ agrees_of _ c.note.new.self s.over lent ∣₁, tt)
+
+pub returns-clause-ok : goal.returns-clause-ok
+returns-clause-ok c =
+    let l = lending_in c.self.inside in
+    let r = c.stage.new.self in
+    let words = c.args.words.now in
+    let range : Place = record { start = c.in-Ok.staged.start; len = c.in-Ok.staged.len } in
+    subst (λ x. Stages words range (sight_of x.run) (sight_of (record l { going = r }))) c.self.view_is
+    (stages_sight l words range r c.in-Ok.ensures.ok.1 c.in-Ok.ensures.ok.0)

@@ -1,0 +1,106 @@
+-- Of the code's inside, apart from the rules: a run on a library's words as commands see it, and what is so of it at all times.
+use Rattle.std.specs.Prelude.{◌≡◌, ℕ, ◌+◌, ◌/◌, ◌≤◌, Bool, true, false, is_some, Option, Some, None, List, [], length}
+use Rattle.tlcore.specs.History.{WasWritten}
+use Rattle.ranges.specs.Ranges.{Has, Names}
+use Rattle.tlwords.specs.declared.mode.Mode.{Mode}
+use Rattle.tlwords.specs.declared.mode.Mode.TheVariants.{Reading, Writing}
+use Rattle.tlwords.specs.declared.outcome.Conflict.{Conflict}
+use Rattle.tlwords.specs.Seen.{SeenGrows}
+use Rattle.tlwords.specs.Known.{Known, Going, Stands}
+use Rattle.tlwords.specs.Runs.{word_seen, value_kept, was_read, HasCause}
+use Rattle.tlwords.specs.Commits.{writes_kept}
+use Rattle.bodystore.specs.Stages.{Staged, AreStaged}
+use Rattle.library.specs.declared.library.Ranked.{Ranked}
+use Rattle.cells.specs.State.{State}
+use Rattle.cells.specs.Slots.{is_ranged}
+use Rattle.cells.specs.Sight.{Sight, WasRead, Suits}
+use Rattle.lawful.specs.declared.notes.Given.{Given}
+use Rattle.lawful.specs.declared.notes.Note.{Note}
+use Rattle.lawful.specs.Lawful.{setting_of, library_terms}
+use Rattle.lawful.specs.Laws.{IsPassOn}
+
+-- what a pass of a library knows
+abbrev pub Pass : Type 0
+Pass = Known Given Note
+
+-- a run: what its pass knew at the beginning, the run as it goes, whether it may stage words, and whether the store had no room
+-- for some
+pub record Lending : Type 0 where
+  pub given : Given
+  pub began : Pass
+  pub going : Going Given Note
+  pub may_stage : Bool
+  pub full : Bool
+
+abbrev pub is_writing : Mode → Bool
+is_writing Reading = false
+is_writing Writing = true
+
+-- what commands see of it
+abbrev pub sight_of : Lending → Sight Pass
+sight_of l =
+    record {
+      origin = l.began;
+      setting = setting_of l.given;
+      may_write = is_writing l.going.mode;
+      may_stage = l.may_stage;
+      ranges = l.going.known.seen.ranges;
+      reads = l.going.reads;
+      writes = writes_kept l.going.slots;
+      taken = l.going.known.taken;
+      room = l.going.known.home.room;
+    }
+
+-- some state that shows a library that verifies agrees with all that the run has seen
+abbrev pub Agrees : Lending → Type 0
+Agrees l = (st : State) × (lib : List Ranked) × Suits (sight_of l) st lib
+
+-- a run that commands may be given: at all times it agrees with some state
+pub record Lent : Type 0 where
+  pub run : Lending
+  pub agrees : ∥ Agrees run ∥₁
+
+-- the run has met this conflict by a read. A run that only reads tells no word that it had seen before
+pub record HasMet (met : Conflict) (g : Going Given Note) : Type 0 where
+  pub looked : g.known.looked ≡ Some (met.cell, met.word)
+  pub written : WasWritten g.known.seen.history met.cell (met.word / 2)
+  pub cause : HasCause g.place met.word
+  pub untold : g.mode ≡ Reading → met.before ≡ None
+
+-- what is so of the run at all times: of its pass nothing is lost or added since it began but what it has seen, its loads of the clock and its
+-- stagings
+pub record IsLent (l : Lending) (stage : Staged) (over : Option Conflict) : Type 0 where
+  pub on : IsPassOn l.given l.began
+  pub since : l.going.known ≡ record l.began {
+    seen = l.going.known.seen;
+    runs = l.began.runs + 1;
+    looked = l.going.known.looked;
+    full = l.going.known.full;
+    taken = l.going.known.taken;
+    added = l.going.known.added;
+  }
+  pub grows : SeenGrows l.began.seen l.going.known.seen
+  pub placed : length l.began.seen.history ≤ l.going.place
+  pub stands : Stands library_terms l.going
+  -- a run that only reads notes nothing of what it read
+  pub unnoted : l.going.mode ≡ Reading → (c : ℕ) → word_seen l.going.slots c ≡ None
+  -- what is kept aside is of cells that were read, and in range cells it names finished ranges
+  pub read : l.going.mode ≡ Writing → (c : ℕ) → WasRead (sight_of l) c → was_read l.going.slots c ≡ true
+  pub kept : (c : ℕ) → is_some (value_kept l.going.slots c) ≡ true → WasRead (sight_of l) c
+  pub named : (c v : ℕ) → Has (c, v) (writes_kept l.going.slots) → is_ranged l.given.slots c ≡ true → Names l.going.known.seen.ranges v
+  pub staged : AreStaged l.going.known.seen.ranges stage
+  pub over_is : l.going.over ≡ over
+  pub met : (k : Conflict) → over ≡ Some k → HasMet k l.going
+  pub full : l.full ≡ true → (is_some l.going.known.full ≡ true) × (l.may_stage ≡ true)
+
+-- so with some stage, and with the conflict that ended the run, if one did
+abbrev pub IsLending : Lending → Type 0
+IsLending l = (stage : Staged) × (over : Option Conflict) × IsLent l stage over
+
+-- a run that was just begun on a pass
+pub record Lends (g : Given) (k : Pass) (mode : Mode) (may_stage : Bool) (l : Lending) : Type 0 where
+  pub given : l.given ≡ g
+  pub began : l.began ≡ k
+  pub mode_is : l.going.mode ≡ mode
+  pub may : l.may_stage ≡ may_stage
+  pub blank : writes_kept l.going.slots ≡ []

@@ -1,0 +1,37 @@
+//! What a run takes along, and gives back at its end.
+
+use bodystore::Stage;
+use lawful::LibraryLaw;
+use std::marker::Model;
+use tlwords::Pass;
+
+/// What a run takes along: a pass of the words, and the ranges that were staged for it since its last commit. Contracts see what the pass
+/// knows.
+#[derive(Drop)]
+pub struct Kit {
+    pub pass: Pass<LibraryLaw>,
+    pub stage: Stage,
+}
+
+impl Model for Kit {
+    ghost use Rattle.bodystore.specs.Stages.{AreStaged};
+    ghost use Rattle.lending.specs.Lent.{Pass as Knowing};
+
+    ghost Value = { Knowing };
+
+    ghost view = { λ k. k.pass };
+
+    ghost invariant = { λ k. AreStaged k.pass.seen.ranges k.stage };
+}
+
+impl Kit {
+    ghost use Rattle.std.specs.Prelude.{◌≡◌};
+
+    /// Its pass. What was staged is forgotten.
+    pub fn into_pass(self) -> Pass<LibraryLaw>
+        ensures { result ≡ self }
+    {
+        let Kit { pass, stage: _ } = self;
+        pass
+    }
+}

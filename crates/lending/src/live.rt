@@ -1,0 +1,221 @@
+//! A run of a library's words as the cells of a library.
+
+ghost use Rattle.std.specs.Prelude.{◌≡◌, ◌≢◌, ◌<◌, ℕ, List, [], Some, None, true, IfOk, IfErr, slice_get};
+ghost use Rattle.lending.specs.Lent.{Agrees};
+
+use crate::kit::Kit;
+use bodystore::Stage;
+use cells::Cells;
+use lawful::{Given, LibraryLaw, Note};
+use ranges::Range;
+use std::alloc::Global;
+use std::marker::Model;
+use std::snapshot::Snapshot;
+use thiserror::Error;
+use tlwords::{Conflict, Mode, Outcome, Pass, Run, Words, begin};
+
+/// A run was stopped: it met a conflict, or the store had no room. The run itself knows which.
+#[derive(Clone, Copy, Debug, PartialEq, Eq, Error)]
+#[error("the run met another session, or the store has no room")]
+pub struct Stopped;
+
+/// Why a run is given up.
+#[derive(Clone, Copy)]
+pub enum GivenUp {
+    /// A read of it met another session.
+    Conflict(Conflict),
+    /// The store had no room for words that it was to stage.
+    StoreFull,
+    /// It met neither, so memory ran out elsewhere.
+    NoMemory,
+}
+
+/// A run, which commands may be given. Contracts see what its pass knew at the beginning, and the run as it goes.
+pub struct Live<'w> {
+    alloc: Global,
+    slots: usize,
+    run: Run<'w, LibraryLaw>,
+    stage: Stage,
+    // the conflict that ended the run
+    over: Option<Conflict>,
+    // whether the store had no room
+    full: bool,
+    may_stage: bool,
+    given: Snapshot<Given>,
+    began: Snapshot<Pass<LibraryLaw>>,
+    ghost agrees: { ∥ Agrees (record { given = given.value; began = began.value; going = run; may_stage = may_stage; full = full }) ∥₁ },
+}
+
+impl<'w> Model for Live<'w> {
+    ghost use Rattle.std.specs.Prelude.{◌≡◌};
+    ghost use Rattle.lending.specs.Lent.{Lent, IsLent};
+
+    ghost Value = { Lent };
+
+    ghost view = { λ l. record { run = record { given = l.given.value; began = l.began.value; going = l.run; may_stage = l.may_stage; full = l.full }; agrees = l.agrees } };
+
+    ghost invariant = { λ l. (l.slots ≡ l.given.value.slots) × IsLent (record { given = l.given.value; began = l.began.value; going = l.run; may_stage = l.may_stage; full = l.full }) l.stage l.over };
+}
+
+impl<'w> Live<'w> {
+    ghost use Rattle.std.specs.Prelude.{◌≡◌, [], None, Some};
+    ghost use Rattle.ranges.specs.Pairs.{Pairs};
+    ghost use Rattle.tlwords.specs.Calls.{Ends};
+    ghost use Rattle.tlwords.specs.Commits.{writes_kept};
+    ghost use Rattle.tlwords.specs.declared.mode.Mode.TheVariants.{Reading};
+    ghost use Rattle.tlwords.specs.declared.outcome.Conflict.{Conflict as ConflictValue};
+    ghost use Rattle.tlwords.specs.declared.outcome.Outcome.TheVariants.{Read as EndsRead, Conflict as EndsConflict};
+    ghost use Rattle.tlwords.specs.Callers.{home_of};
+    ghost use Rattle.lawful.specs.Lawful.{library_terms};
+    ghost use Rattle.lawful.specs.Laws.{IsPassOn};
+    ghost use Rattle.lending.specs.Lent.{Lends, IsLending};
+    ghost use Rattle.lending.specs.Ends.{IsLawfulWith, IsForgotten, IsGivenUp};
+
+    /// Begins a run on words that were opened with what is given, to read only or to write too, that may stage words or not.
+    pub fn begin(
+        alloc: Global,
+        words: &'w Words<LibraryLaw>,
+        given: &Given,
+        kit: Kit,
+        mode: Mode,
+        may_stage: bool,
+    ) -> Live<'w>
+        requires own { kit.home ≡ home_of words.now }
+        requires on { IsPassOn given.now kit }
+        ensures { Lends given.now kit mode may_stage result.run }
+    {
+        let Kit { pass, stage } = kit;
+        let began = Snapshot::of(&pass);
+        Live {
+            alloc,
+            slots: given.slots,
+            run: begin(words, pass, mode),
+            stage,
+            over: None,
+            full: false,
+            may_stage,
+            given: Snapshot::of(given),
+            began,
+        }
+    }
+
+    /// The number of entries before the run, all of whose commits it sees. For contracts it also says what is so of the run at all times.
+    pub fn place(&self) -> u64
+        ensures value { result ≡ self.now.run.going.place }
+        ensures stands { IsLending self.now.run }
+    {
+        self.run.place()
+    }
+
+    /// Throws away what was kept aside.
+    pub fn forget(&mut self)
+        ensures { IsForgotten self.old.run self.new.run }
+    {
+        self.run.forget();
+    }
+
+    /// Ends the run, and makes what it wrote an entry of the history, with this note; or, where it wrote nothing, a call at its place.
+    pub fn end(self, note: &Note) -> (Kit, Outcome)
+        requires { self.run.going.over ≡ None → IsLawfulWith self.run (writes_kept self.run.going.slots) note.now }
+        ensures over { (k : ConflictValue) → self.entry.run.going.over ≡ Some k → (result.1 ≡ EndsConflict k None) × (result.0 ≡ self.entry.run.going.known) }
+        ensures reading { self.entry.run.going.over ≡ None → self.entry.run.going.mode ≡ Reading → result.1 ≡ EndsRead self.entry.run.going.place }
+        ensures ended { self.entry.run.going.over ≡ None → Ends library_terms note.now self.entry.run.going result.0 result.1 }
+    {
+        let Live {
+            run,
+            mut stage,
+            alloc: _,
+            slots: _,
+            over: _,
+            full: _,
+            may_stage: _,
+            given: _,
+            began: _,
+        } = self;
+        let (pass, outcome) = run.commit(note);
+        if let Outcome::Committed(_) = outcome {
+            stage.clear();
+        }
+        (Kit { pass, stage }, outcome)
+    }
+
+    /// Ends a run that was stopped, or that is given up for want of memory, with nothing written: why.
+    pub fn give_up(self) -> (Kit, GivenUp)
+        ensures kit { result.0 ≡ self.entry.run.going.known }
+        ensures why { IsGivenUp self.entry.run result.1 }
+    {
+        let Live {
+            run,
+            stage,
+            over,
+            full,
+            alloc: _,
+            slots: _,
+            may_stage: _,
+            given: _,
+            began: _,
+        } = self;
+        let why = match over {
+            Some(met) => GivenUp::Conflict(met),
+            None if full => GivenUp::StoreFull,
+            None => GivenUp::NoMemory,
+        };
+        let pass = run.leave();
+        (Kit { pass, stage }, why)
+    }
+}
+
+impl<'w> Cells for Live<'w> {
+    ghost use Rattle.lending.specs.Lent.{sight_of};
+
+    type Stop = Stopped;
+
+    type Origin = Pass<LibraryLaw>;
+
+    ghost sight = { λ l. sight_of l.run };
+
+    fn slots(&self) -> usize {
+        self.slots
+    }
+
+    fn read(&mut self, cell: usize) -> Result<u64, Stopped> {
+        match self.run.read(cell) {
+            Ok(value) => Ok(value),
+            Err(conflict) => {
+                self.over = Some(conflict);
+                Err(Stopped)
+            }
+        }
+    }
+
+    fn write(&mut self, cell: usize, value: u64) {
+        self.run.write(cell, value);
+    }
+
+    fn load(&mut self, range: Range, index: usize) -> u64 {
+        let range = tlwords::Range {
+            start: range.start,
+            len: range.len,
+        };
+        self.run.load(range, index)
+    }
+
+    fn stage(&mut self, words: &[u64]) -> Result<Range, Stopped> {
+        if let Some(range) = self.stage.find(words) {
+            return Ok(range);
+        }
+        let Ok(staged) = self.run.stage(words) else {
+            self.full = true;
+            return Err(Stopped);
+        };
+        let range = Range {
+            start: staged.start,
+            len: staged.len,
+        };
+        // Where there is no memory for the note, a later body of the same words is staged anew.
+        let _ = self.stage.note(self.alloc, words, range);
+        Ok(range)
+    }
+
+    ghost grounded = { λ l. l.agrees };
+}

@@ -1,0 +1,28 @@
+use Rattle.std.proofs.Common.{◌≡◌, ℕ, None, sym, ap, subst, ◌∙◌}
+use Rattle.lending.specs.Lent.{Pass}
+use Rattle.transaction.specs.declared.outcome.Outcome.{Outcome}
+use Rattle.transaction.specs.declared.outcome.Outcome.TheVariants as outcome
+use Rattle.transaction.specs.Tries.{Tries}
+use Rattle.transaction.proofs.Ended.{met_at}
+use Rattle.transaction.proofs.Committing.{told_of, gives_up}
+use Rattle.transaction.proofs.attempting.stop.Goals as goal
+use Rattle.transaction.proofs.attempting.stop.Goals.{in-Conflict, in-StoreFull, in-NoMemory}
+
+pub returns : goal.returns
+returns c =
+    let l = c.args.live.run in
+    let lending = c.place-place.ensures.stands in
+    let cs = c.args.commands.now in
+    let place = c.place-place.ensures.value in
+    let why = c.give_up-kit.result.1 in
+    let ended = c.give_up-kit.ensures in
+    let is : c.match-why.outcome ≡ told_of l.going.place why = elim c.match-why.branch [
+      | in-Conflict w ↦
+          let met = w.met.ensures ∙ ap (λ (p : ℕ). met_at p w.in-Conflict.found) place in
+          w.outcome-is ∙ ap outcome.Conflict met ∙ ap (told_of l.going.place) (sym w.in-Conflict.is)
+      | in-StoreFull w ↦ w.outcome-is ∙ ap (told_of l.going.place) (sym w.in-StoreFull.is)
+      | in-NoMemory w ↦ w.outcome-is ∙ ap (told_of l.going.place) (sym w.in-NoMemory.is)
+    ] in
+    subst (λ (k : Pass). Tries cs l.began k c.match-why.outcome None) (sym ended.kit)
+    (subst (λ (o : Outcome). Tries cs l.began l.going.known o None) (sym is)
+    (gives_up l lending.0 lending.1 lending.2 cs why ended.why c.requires.reading c.requires.stages))
