@@ -1,5 +1,5 @@
 -- What a library in running words leaves at its end.
-use Rattle.std.specs.Prelude.{◌≡◌, ◌≤◌, ◌^◌, ℕ, List, length, map, All, Vec}
+use Rattle.std.specs.Prelude.{◌≡◌, ◌≤◌, ◌^◌, List, length, map, All, Vec}
 use Rattle.std.specs.declared.alloc.Global.{Global}
 use Rattle.tlwords.specs.Closing.{ClosesAll}
 use Rattle.lawful.specs.Lawful.{setting_of, library_terms}

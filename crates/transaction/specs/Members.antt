@@ -1,16 +1,14 @@
 -- What contracts see of a library in running words and of its sessions, and what is so of a session at all times.
 use Rattle.std.specs.Prelude.{◌≡◌, ℕ, suc, Option, Some, None, List, [], All, map, slice_get}
-use Rattle.atomic_table.specs.Seated.{TableId}
 use Rattle.library.specs.declared.command.Command.{Command}
 use Rattle.library.specs.declared.command.Reply.{Reply}
-use Rattle.library.specs.Library.{IsSetting}
 use Rattle.library.specs.Histories.{Entry, void_entry, done_entry}
 use Rattle.tlwords.specs.Seen.{SeenGrows}
 use Rattle.tlwords.specs.Known.{Home as WordsHome, Known, Knows}
 use Rattle.tlwords.specs.Calls.{new_pass}
 use Rattle.lawful.specs.declared.notes.Given.{Given}
 use Rattle.lawful.specs.declared.notes.Note.{Note}
-use Rattle.lawful.specs.Lawful.{setting_of, library_terms}
+use Rattle.lawful.specs.Lawful.{library_terms}
 use Rattle.lawful.specs.History.{history_of, IsHistoryOf, AllAgree}
 use Rattle.lawful.specs.Laws.{IsPassOn}
 use Rattle.transaction.specs.declared.outcome.Record.{Record}
