@@ -1,6 +1,6 @@
 //! What several modules of tests begin with: databases, libraries and lists of small texts.
 
-ghost use Rattle.std.specs.Prelude.{false, ◌≤◌};
+ghost use Rattle.std.specs.Prelude.{◌≤◌};
 
 use history::{Editor, OpenError};
 use mmstatement::{Database, Sequence, read_database};
@@ -11,7 +11,6 @@ use std::hash::RandomState;
 use std::random::RandomSource;
 use std::test::Fail;
 use std::thread::Threads;
-use tlwords::Law;
 
 /// 23 bytes: one constant, and an axiom.
 pub(crate) fn mini() -> &'static [u8] {
@@ -71,15 +70,4 @@ pub(crate) fn library(
 /// The list of these items.
 pub(crate) fn sequence<T: Copy>(alloc: Global, items: &[T]) -> Result<Sequence<T>, AllocError> {
     Ok(Sequence::from_vec(Vec::from_slice(alloc, items)?))
-}
-
-/// Any transaction is lawful, and no cell names a range.
-pub struct Anything;
-
-impl Law for Anything {
-    type Setting = ();
-
-    type Note = u64;
-
-    ghost terms = { record { lawful = λ _ _ _ _ _. Unit {0}; opens = λ _ _ _. Unit {0}; ranged = λ _ _. false } };
 }
