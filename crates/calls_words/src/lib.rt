@@ -7,12 +7,6 @@
 #![tactic(auto)]
 
 #[cfg(test)]
-mod anything;
-#[cfg(test)]
 mod machine;
-#[cfg(test)]
-mod openings;
-#[cfg(test)]
-mod store;
 #[cfg(test)]
 mod words;

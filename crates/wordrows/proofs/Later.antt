@@ -1,5 +1,6 @@
 -- What stays of a run from one step to a later one.
-use Rattle.std.proofs.Common.{◌≡◌, ◌∙◌, ℕ, ◌⊎◌, inl, inr, is_some, Bool, true, Option, Some, None, Result, Ok, Err, List, [], ◌∷◌, ◌++◌, refl, sym, ap, subst, Vec, Global}
+use Rattle.std.proofs.Common.{◌≡◌, ◌∙◌, ℕ, ◌⊎◌, inl, inr, is_some, Bool, true, Option, Some, None, Result, Ok, Err, List, [], ◌∷◌, ◌++◌, refl, sym}
+use Rattle.std.proofs.Common.{ap, subst, Vec, Global}
 use Rattle.std.specs.Prelude.{All, IfOk, IfErr}
 use Rattle.std.proofs.lemmas.List.Elements.{All-append, All-weaker, All-push, All-same}
 use Rattle.std.proofs.lemmas.Bool.{cases_eq}
@@ -108,7 +109,8 @@ module _ {L : Type 0} (words : Words L Bool ℕ) where
         kept = old.kept;
       }
 
-  pub runs_same_there : (p : Playing) (ranges : Vec Place Global) → ranges.items ≡ p.ranges.items → RunsAt words p → RunsAt words (record p { ranges = ranges })
+  pub runs_same_there : (p : Playing) (ranges : Vec Place Global) → ranges.items ≡ p.ranges.items → RunsAt words p
+      → RunsAt words (record p { ranges = ranges })
   runs_same_there p ranges same old =
       record {
         home = old.home;
@@ -121,11 +123,13 @@ module _ {L : Type 0} (words : Words L Bool ℕ) where
 
 -- ---- reads
 
-notes_read : (m : Mode) (slots after : List Slot) (cell word : ℕ) → Notes m slots after cell word → (c : ℕ) → was_read slots c ≡ true → was_read after c ≡ true
+notes_read : (m : Mode) (slots after : List Slot) (cell word : ℕ) → Notes m slots after cell word → (c : ℕ) → was_read slots c ≡ true
+    → was_read after c ≡ true
 notes_read Reading slots after cell word same c is = ap (λ (s : List Slot). was_read s c) same ∙ is
 notes_read Writing slots after cell word noted c is = noted.3 c is
 
-notes_kept : (m : Mode) (slots after : List Slot) (cell word : ℕ) → Notes m slots after cell word → (c v : ℕ) → value_kept after c ≡ Some v → value_kept slots c ≡ Some v
+notes_kept : (m : Mode) (slots after : List Slot) (cell word : ℕ) → Notes m slots after cell word → (c v : ℕ) → value_kept after c ≡ Some v
+    → value_kept slots c ≡ Some v
 notes_kept Reading slots after cell word same c v is = sym (ap (λ (s : List Slot). value_kept s c) same) ∙ is
 notes_kept Writing slots after cell word noted c v is = sym (noted.1 c) ∙ is
 
@@ -148,11 +152,13 @@ pub record Reads (g r : Going Bool ℕ) (cell : ℕ) (result : Result ℕ Confli
   pub ok : g.over ≡ None → value_kept g.slots cell ≡ None → IfOk result (λ v. HasRead law cell v g r)
   pub err : g.over ≡ None → IfErr result (λ k. HasStopped law cell k g r)
 
-read_new : (g r : Going Bool ℕ) (cell : ℕ) (result : Result ℕ Conflict) → IfOk result (λ v. HasRead law cell v g r) → IfErr result (λ k. HasStopped law cell k g r) → Later g r
+read_new : (g r : Going Bool ℕ) (cell : ℕ) (result : Result ℕ Conflict) → IfOk result (λ v. HasRead law cell v g r)
+    → IfErr result (λ k. HasStopped law cell k g r) → Later g r
 read_new g r cell (Ok v) ok err = later_read cell v g r ok
 read_new g r cell (Err k) ok err = later_stopped cell k g r err
 
-read_at : (g r : Going Bool ℕ) (cell : ℕ) (result : Result ℕ Conflict) → Reads g r cell result → (over : Option Conflict) (kept : Option ℕ) → g.over ≡ over
+read_at : (g r : Going Bool ℕ) (cell : ℕ) (result : Result ℕ Conflict) → Reads g r cell result → (over : Option Conflict) (kept : Option ℕ)
+    → g.over ≡ over
     → value_kept g.slots cell ≡ kept → Later g r
 read_at g r cell result reads (Some k) kept o e = later_same g r (reads.over k o).1
 read_at g r cell result reads None (Some v) o e = later_same g r (reads.kept v o e).1
@@ -184,7 +190,8 @@ ends_within n g r (EndsRead place) ends = ends.2.grows.2
 ends_within n g r (EndsConflict k drawn) ends = ends.1.grows.2
 ends_within n g r NumbersUsed ends = λ x has. subst (λ (y : Known Bool ℕ). Has x y.seen.ranges) (sym ends.2) has
 
-commit_at : (n : ℕ) (g : Going Bool ℕ) (r : Known Bool ℕ) (o : Outcome) → ((k : Conflict) → g.over ≡ Some k → (o ≡ EndsConflict k None) × (r ≡ g.known))
+commit_at : (n : ℕ) (g : Going Bool ℕ) (r : Known Bool ℕ) (o : Outcome)
+    → ((k : Conflict) → g.over ≡ Some k → (o ≡ EndsConflict k None) × (r ≡ g.known))
     → (g.over ≡ None → Ends law n g r o) → (over : Option Conflict) → g.over ≡ over → Within g.known.seen.ranges r.seen.ranges
 commit_at n g r o stopped ended (Some k) e = λ x has. subst (λ (y : Known Bool ℕ). Has x y.seen.ranges) (sym (stopped k e).1) has
 commit_at n g r o stopped ended None e = ends_within n g r o (ended e)
@@ -197,7 +204,8 @@ commit_within n g r o stopped ended = commit_at n g r o stopped ended g.over ref
 -- ---- writes
 
 written_kept_at : (slots after : List Slot) (ranges : List Range) (cell value : ℕ) → HasKept slots after cell value → Names ranges value
-    → ((c v : ℕ) → value_kept slots c ≡ Some v → Names ranges v) → (c v : ℕ) → (c ≡ cell) ⊎ (c ≡ cell → ⊥) → value_kept after c ≡ Some v → Names ranges v
+    → ((c v : ℕ) → value_kept slots c ≡ Some v → Names ranges v) → (c v : ℕ) → (c ≡ cell) ⊎ (c ≡ cell → ⊥) → value_kept after c ≡ Some v
+    → Names ranges v
 written_kept_at slots after ranges cell value kept named all c v (inl here) e =
     let at = kept.1 in
     let same : v ≡ value = (let f : value_kept after cell ≡ Some v = ap (value_kept after) (sym here) ∙ e in cc) in
@@ -213,7 +221,8 @@ module _ {L : Type 0} (words : Words L Bool ℕ) where
       record {
         home = ap (λ (x : Going Bool ℕ). x.known.home) same ∙ old.home;
         mode = ap (λ (x : Going Bool ℕ). x.mode) same ∙ old.mode;
-        read = All-weaker (λ c. was_read p.run.slots c ≡ true) (λ c. was_read r.slots c ≡ true) (λ c is. ap (λ (o : Option ℕ). is_some o) (kept.3 c) ∙ is) p.read.items old.read;
+        read = All-weaker (λ c. was_read p.run.slots c ≡ true) (λ c. was_read r.slots c ≡ true) (λ c is. ap (λ (o : Option ℕ). is_some o)
+            (kept.3 c) ∙ is) p.read.items old.read;
         there = subst (λ (rs : List Range). All (IsThere rs) p.ranges.items) (sym ranges) old.there;
         store = subst (λ (rs : List Range). AreOfOneStore words.room rs) (sym ranges) old.store;
         kept = λ is c v e. subst (λ (rs : List Range). Names rs v) (sym ranges)
@@ -248,7 +257,8 @@ module _ {L : Type 0} (words : Words L Bool ℕ) where
         among = λ r has. has;
         lawful = tt;
         named = λ c v has is.
-            let home : g.known.home.setting ≡ Some (is_named words) = ap (λ (y : Going Bool ℕ). y.known.home.setting) same ∙ ap (λ h. h.setting) old.home in
+            let home : g.known.home.setting ≡ Some (is_named words) = ap (λ (y : Going Bool ℕ). y.known.home.setting) same ∙ ap
+            (λ h. h.setting) old.home in
             let named : is_named words ≡ true = (let e : x ≡ true = is in cc) in
             subst (λ (y : Going Bool ℕ). Names y.known.seen.ranges v) (sym same)
             (old.kept named c v (ap (λ (y : Going Bool ℕ). value_kept y.slots c) (sym same) ∙ written_kept g.slots c v has));
@@ -278,7 +288,8 @@ module _ {L : Type 0} (words : Words L Bool ℕ) where
       }
 
   -- it has learnt of another one, and of its ranges
-  pub rests_taught : (r other : Resting) (k : Known Bool ℕ) (ranges : Vec Place Global) → k.home ≡ r.pass.home → Within r.pass.seen.ranges k.seen.ranges
+  pub rests_taught : (r other : Resting) (k : Known Bool ℕ) (ranges : Vec Place Global) → k.home ≡ r.pass.home
+      → Within r.pass.seen.ranges k.seen.ranges
       → Within other.pass.seen.ranges k.seen.ranges → ranges.items ≡ r.ranges.items ++ other.ranges.items → RestsAt words r → RestsAt words other
       → RestsAt words (record { pass = k; ranges = ranges })
   rests_taught r other k ranges home within told same old told_old =

@@ -1,5 +1,6 @@
 -- The values of cells that name ranges of the store, at the opening.
-use Rattle.std.proofs.Common.{◌≡◌, ◌≢◌, ℕ, ◌+◌, ◌/◌, ◌%◌, ◌^◌, ◌≤◌, inl, inr, Bool, true, Some, List, [], length, slice_get, take, drop, get_or, refl, ap, subst, arith, length-drop}
+use Rattle.std.proofs.Common.{◌≡◌, ◌≢◌, ℕ, ◌+◌, ◌/◌, ◌%◌, ◌^◌, ◌≤◌, inl, inr, Bool, true, Some, List, [], length, slice_get, take, drop, get_or}
+use Rattle.std.proofs.Common.{refl, ap, subst, arith, length-drop}
 use Rattle.std.specs.Prelude.{All}
 use Rattle.std.proofs.lemmas.List.{length-take-le}
 use Rattle.std.proofs.lemmas.Option.{slice_get-get_or, slice_get_within}

@@ -120,11 +120,11 @@ fn numbers(alloc: Global, words: &[&str]) -> Result<Option<Vec<u64>>, AllocError
     Ok(Some(found))
 }
 
-/// The place of the pass that a letter names: A is 0.
+/// The place of the pass that a letter names, from 0; any place is named by its number too.
 fn pass_named(word: &str) -> Option<usize> {
     match word.as_bytes() {
         [letter @ b'A'..=b'Z'] => Some((*letter - b'A') as usize),
-        _ => None,
+        _ => count(word),
     }
 }
 

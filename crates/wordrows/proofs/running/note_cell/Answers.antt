@@ -7,4 +7,5 @@ returns-in_err-push-clause-runs c = runs_same_read c.args.words.now c.args.playi
 
 pub returns-clause-runs : goal.returns-clause-runs
 returns-clause-runs c =
-    runs_read c.args.words.now c.args.playing.now c.push.new.self c.args.cell c.in_ok-push.ensures.items (c.requires.read (search rules)) c.requires.runs
+    runs_read c.args.words.now c.args.playing.now c.push.new.self c.args.cell c.in_ok-push.ensures.items (c.requires.read
+    (search rules)) c.requires.runs

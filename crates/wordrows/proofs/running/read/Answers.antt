@@ -17,7 +17,8 @@ note_cell-requires c =
     let read = c.in-Ok.ensures in
     let reads : Reads p.run c.read.new.self c.args.cell _ = record { over = read.over; kept = read.kept; ok = read.ok; err = read.err } in
     record {
-      runs = runs_later c.args.words.now p c.read.new.self read.same.0 read.same.2 (read_later p.run c.read.new.self c.args.cell _ reads) c.requires.runs;
+      runs = runs_later c.args.words.now p c.read.new.self read.same.0 read.same.2
+          (read_later p.run c.read.new.self c.args.cell _ reads) c.requires.runs;
       read = λ writing. read.noted (c.requires.runs.mode ∙ writing);
     }
 
