@@ -9,7 +9,7 @@ use crate::places::{citers_cell, slot_count};
 use bodystore::StoredStep;
 use std::alloc::{AllocError, Global};
 
-/// The slots that the steps of a proof cite, each once, ascending.
+/// The slots that the steps of a proof cite, each once. They come ascending, of which the contract says nothing.
 ///
 /// # Errors
 ///

@@ -21,10 +21,11 @@ use transaction::{ClosedLibrary, Library, Session};
 ///
 /// # Errors
 ///
-/// Want of memory aside: `Missing` with the least such number, exactly where a number up to the clock was drawn by none of these sessions; else
-/// `Held` with the least such cell, exactly where the lock of a cell is held. Where all the library's sessions are handed in, each with the name
-/// that it got at the opening, no number is missing, no lock is held, and the clock is how many numbers they drew. The library and the sessions are
-/// gone then.
+/// Want of memory. `Missing`: a number up to the clock was drawn by none of these sessions; it is the least. `Held`: no number is missing,
+/// and the lock of a cell is held; it is the least. The contract says this of closed words that there are, into whose history grows what
+/// each of these sessions had seen. So where a session is left out, it doesn't say that these are the words that the library had at its
+/// end. Where all the library's sessions are handed in, no lock is held, and the clock is how many numbers they drew; where each of them
+/// has the name that it got at the opening, too, no number is missing. The library and the sessions are gone then.
 pub fn finish(
     alloc: Global,
     library: Library,

@@ -7,9 +7,10 @@ ghost use Rattle.tlwords.specs.Events.{ClockLoadIsEvent, LookIsEvent, LoadIsEven
 
 use crate::law::Law;
 
-/// Each step that `begin`, `read`, `commit` and `learn` make on the clock or on a word of a cell is one event of the machine of `tlcore`:
-/// in every table that keeps the rule there is a world that shows the words and the seats before the step, and one that shows those after
-/// it, and the machine goes from the one to the other by the action of the step's kind.
+/// A step on the clock or on a word of a cell, of each of the nine kinds that `begin`, `read`, `commit` and `learn` have in their code, is
+/// one event of the machine of `tlcore`: in every table that keeps the rule there is a world that shows the words and the seats before the
+/// step, and one that shows those after it, and the machine goes from the one to the other by the action of the step's kind. The law knows
+/// a step by what it finds and what it tells its seat; it doesn't say which steps a call makes.
 ///
 /// Loads of the spare word, by which a pass sees the history so far or notes a call that wrote nothing, are no steps of the machine; nor are
 /// steps on the store's words.

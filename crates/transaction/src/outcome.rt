@@ -15,7 +15,9 @@ pub struct Conflict {
     /// The lock word that was found there: it is odd where the cell was locked, and half of it is the number of the last transaction that
     /// wrote the cell, or 0.
     pub word: u64,
-    /// The lock word that this try's last read of the cell had found, if one had ended and the try keeps its reads.
+    /// The lock word that this try's last read of the cell had found. None where no such read had ended, or the try keeps no reads, as one
+    /// without an edit. Where `word` is even, and half of it at most `place`, contracts say that there is one, and that it is another than
+    /// `word`; else they say of it only that it is None in a try without an edit.
     pub before: Option<u64>,
 }
 
