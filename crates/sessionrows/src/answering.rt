@@ -8,7 +8,7 @@
 //! | `A COMMAND ..` | what becomes of the transaction that the session A has of these commands, by one try, and its replies |
 //! | `B learn A` | `learnt`: the session B has learnt what A has seen |
 //! | `A snapshot` | `seen PLACE`, and the exported text of the library after PLACE entries |
-//! | `finish A B ..` | `finished N`, the text of the library after its N entries, and whether the replay of the history gives it too; or `missing N`, or `held CELL` |
+//! | `finish A B ..` | `finished N`, the library's text then, and whether the replay of its history gives it; or `missing N`, `held CELL` |
 //! | any other | `cannot read this line` |
 //!
 //! The sessions of a library are called `A` to `Z`, or `1` to `64`. Where memory runs out, `no memory` is answered.

@@ -95,8 +95,8 @@ impl Table {
         }
     }
 
-    /// Opens the library of a database, by words that say its name and the shape: `opened` and how many sessions there are, or why it isn't opened.
-    /// What was open before stays so where the new one isn't opened.
+    /// Opens the library of a database, by words that say its name and the shape: `opened` and how many sessions there are, or why it isn't
+    /// opened. What was open before stays so where the new one isn't opened.
     ///
     /// # Errors
     ///
