@@ -19,10 +19,6 @@ there_later ranges more within p (words, has, len) = (words, within (record { st
 pub all_later : (ranges more : List Range) (ps : List Place) → Within ranges more → All (IsThere ranges) ps → All (IsThere more) ps
 all_later ranges more ps within all = All-weaker (IsThere ranges) (IsThere more) (there_later ranges more within) ps all
 
-pub names_later : (ranges more : List Range) (v : ℕ) → Within ranges more → Names ranges v → Names more v
-names_later ranges more v within (inl e) = inl e
-names_later ranges more v within (inr (r, has, e)) = inr (r, within r has, e)
-
 -- ---- what is written was kept
 
 written_by : (slots : List Slot) (n c v : ℕ) (ps : Pairs) → (Has (c, v) ps → value_kept slots c ≡ Some v) → (o : Option ℕ) → value_kept slots n ≡ o

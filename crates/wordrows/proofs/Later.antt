@@ -5,6 +5,7 @@ use Rattle.std.specs.Prelude.{All, IfOk, IfErr}
 use Rattle.std.proofs.lemmas.List.Elements.{All-append, All-weaker, All-push, All-same}
 use Rattle.std.proofs.lemmas.Bool.{cases_eq}
 use Rattle.ranges.specs.Ranges.{Range, Has, Within, Names, AreOfOneStore}
+use Rattle.ranges.proofs.Grown.{names_grow}
 use Rattle.tlwords.specs.declared.log.Slot.{Slot}
 use Rattle.tlwords.specs.declared.mode.Mode.{Mode}
 use Rattle.tlwords.specs.declared.mode.Mode.TheVariants.{Reading, Writing}
@@ -22,7 +23,7 @@ use Rattle.tlwords.specs.Calls.{Notes, HasRead, HasStopped, IsLawful, IsRefused,
 use Rattle.wordrows.specs.declared.seat.Playing.{Playing}
 use Rattle.wordrows.specs.declared.seat.Resting.{Resting}
 use Rattle.wordrows.specs.Seats.{IsThere, RestsAt, RunsAt, is_named}
-use Rattle.wordrows.proofs.Kept.{all_later, names_later, written_kept}
+use Rattle.wordrows.proofs.Kept.{all_later, written_kept}
 
 -- the law of the table
 abbrev pub law : Terms Bool ℕ
@@ -66,7 +67,7 @@ module _ {L : Type 0} (words : Words L Bool ℕ) where
             subst (λ (n : ℕ). AreOfOneStore n p.run.known.seen.ranges) (sym (room p.run old.home)) old.store in
             subst (λ (n : ℕ). AreOfOneStore n r.known.seen.ranges) (room r (home ∙ old.home))
             (later.store (is_named words) (ap (λ h. h.setting) (home ∙ old.home)) before);
-        kept = λ is c v e. names_later p.run.known.seen.ranges r.known.seen.ranges v later.within (old.kept is c v (later.kept c v e));
+        kept = λ is c v e. names_grow p.run.known.seen.ranges r.known.seen.ranges v later.within (old.kept is c v (later.kept c v e));
       }
 
   -- one more cell was read
