@@ -9,7 +9,7 @@ use Rattle.library.specs.declared.command.Reply.{Reply}
 use Rattle.library.specs.Library.{Setting}
 use Rattle.library.specs.Transactions.{Applied, apply}
 use Rattle.library.specs.Histories.{Entry, open_entry, void_entry, done_entry, after, after_all, IsRepeated, IsLegal}
-use Rattle.library.proofs.Legal.{get_in_front}
+use Rattle.librarylaws.proofs.Legal.{get_in_front}
 use Rattle.history.specs.Replays.{IsFirstDiffering}
 
 -- the next entry, which differs, is the first that does

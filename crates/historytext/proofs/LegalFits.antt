@@ -10,7 +10,7 @@ use Rattle.library.specs.declared.history.Entry.{Entry as CodeEntry}
 use Rattle.library.specs.declared.history.Entry.TheVariants.{Void, Done}
 use Rattle.library.specs.Library.{Setting, Verifies}
 use Rattle.library.specs.Histories.{told, EntryFits as CommandsFit, EntriesFit, IsLegal}
-use Rattle.library.proofs.Agreeing.{legal_replies_fit}
+use Rattle.librarylaws.proofs.Agreeing.{legal_replies_fit}
 use Rattle.historytext.specs.Layout.{EntryFits}
 use Rattle.historytext.specs.Laws.{LegalHistoriesFit}
 

@@ -6,5 +6,6 @@ pub mod HistoryRows
 pub mod HistoryWords
 pub mod HistoryParsed
 pub mod HistoryLaws
+pub mod Naming
 pub mod LegalFits
 pub mod Spelled

@@ -32,7 +32,7 @@ use Rattle.library.specs.declared.history.Entry.TheVariants as entry
 use Rattle.library.specs.declared.library.Ranked.{Ranked}
 use Rattle.library.specs.Histories.{told, EntriesFit, IsLegal}
 use Rattle.library.specs.Library.{highest_rank, Setting, Verifies}
-use Rattle.library.proofs.Naming.{IsLawful, IsSoundCommand, IsSoundLine, IsSoundReply, IsSoundTurn, legal_sound}
+use Rattle.historytext.proofs.Naming.{IsLawful, IsSoundCommand, IsSoundLine, IsSoundReply, IsSoundTurn, legal_sound}
 use Rattle.scripts.specs.Scripts.{IsPlain, IsRank, SpellsCommand, SpellsEach, SpellsTransaction}
 use Rattle.historytext.specs.Grammar.{highest_count, IsCount, kind_word, SpellsLine, SpellsReply, SpellsEntry, SpellsHistory}
 use Rattle.historytext.specs.Layout.{history_text}

@@ -8,7 +8,7 @@ use Rattle.library.specs.Library.{Verifies, opening}
 use Rattle.library.proofs.Opening.{opening_verifies}
 use Rattle.library.specs.declared.history.Entry.{Entry}
 use Rattle.library.specs.Histories.{told, after, EntriesFit}
-use Rattle.library.proofs.Fronts.{fronts_verify}
+use Rattle.librarylaws.proofs.Fronts.{fronts_verify}
 use Rattle.jobs.specs.Outcomes.{setting_of}
 
 -- so does the opening library of a database whose proofs check

@@ -3,7 +3,6 @@ pub mod JobFaults
 pub mod RunFaults
 pub mod ReplayFaults
 pub mod Shown
-pub mod ReportLines
 pub mod Fronts
 pub mod Worked
 pub mod Printable

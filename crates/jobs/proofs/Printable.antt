@@ -12,13 +12,14 @@ use Rattle.library.specs.declared.library.Ranked.{Ranked}
 use Rattle.library.specs.Library.{Setting, Listed, Verifies, opening}
 use Rattle.library.specs.Fitting.{CommandFits}
 use Rattle.library.specs.Histories.{Entry, told, after, EntriesFit, IsLegal}
-use Rattle.library.proofs.Agreeing.{legal_replies_fit}
-use Rattle.library.proofs.Fitting.{replies_fit}
-use Rattle.library.proofs.Fronts.{fronts_verify}
+use Rattle.librarylaws.proofs.Agreeing.{legal_replies_fit}
+use Rattle.librarylaws.proofs.Fitting.{replies_fit}
+use Rattle.librarylaws.proofs.Fronts.{fronts_verify}
 use Rattle.transaction.specs.declared.outcome.Outcome.{Outcome}
 use Rattle.transaction.specs.declared.outcome.Outcome.TheVariants.{Committed, Read, Conflict}
 use Rattle.workers.specs.Works.{OutcomeAgrees, ScriptAgrees, place_behind}
-use Rattle.jobs.specs.Outcomes.{setting_of, OutcomeFits, OutcomesFit}
+use Rattle.reports.specs.Reports.{OutcomeFits, OutcomesFit}
+use Rattle.jobs.specs.Outcomes.{setting_of}
 use Rattle.jobs.specs.Jobs.{IsWorked}
 use Rattle.jobs.proofs.Fronts.{opening_stands}
 

@@ -31,7 +31,7 @@ use Rattle.jobs.specs.declared.job.Printed.{Printed}
 use Rattle.jobs.specs.declared.job.Fault.{Fault}
 use Rattle.jobs.specs.declared.job.Fault.TheVariants.{Text, Proof, Differs, StoreFull, Missing, NoThread, NoMemory}
 use Rattle.jobs.specs.Outcomes.{setting_of}
-use Rattle.jobs.specs.Reports.{report_text}
+use Rattle.reports.specs.Reports.{report_text}
 
 abbrev pub Bytes : Type 0
 Bytes = List ℕ

@@ -1,5 +1,4 @@
 pub mod Outcomes
-pub mod Reports
 pub mod FaultLines
 pub mod Jobs
 pub mod Parts

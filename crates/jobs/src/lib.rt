@@ -8,7 +8,6 @@ mod job;
 mod laws;
 mod performing;
 mod replaying;
-mod report;
 mod running;
 mod task;
 mod telling;

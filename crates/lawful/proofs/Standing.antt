@@ -11,9 +11,9 @@ use Rattle.library.specs.Library.{Setting, Verifies}
 use Rattle.library.specs.Transactions.{apply, library_of, HasReplies}
 use Rattle.library.specs.Fitting.{CommandFits}
 use Rattle.library.specs.Histories.{Entry, open_entry, void_entry, done_entry, EntryFits, EntriesFit, after, after_entry, IsLegal}
-use Rattle.library.proofs.Fronts.{fronts_verify}
-use Rattle.library.proofs.Leaving.{apply_leaves}
-use Rattle.library.proofs.Legal.{after-more}
+use Rattle.librarylaws.proofs.Fronts.{fronts_verify}
+use Rattle.librarylaws.proofs.Leaving.{apply_leaves}
+use Rattle.librarylaws.proofs.Legal.{after-more}
 use Rattle.tlcore.specs.History.{Entry as WordsEntry, One, deed, deed_in, deed_of, value_after, value_over, written}
 use Rattle.tlcore.specs.declared.entries.Status.{Status}
 use Rattle.tlcore.specs.declared.entries.Status.TheVariants as status

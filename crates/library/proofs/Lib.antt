@@ -23,9 +23,3 @@ pub mod Editing
 pub mod Orders
 pub mod ExportOrder
 pub mod Listing
-pub mod Leaving
-pub mod Fitting
-pub mod Fronts
-pub mod Legal
-pub mod Agreeing
-pub mod Naming

@@ -4,7 +4,6 @@
 mod alike;
 mod command;
 mod history;
-mod laws;
 mod library;
 mod reason;
 
@@ -14,10 +13,5 @@ pub use command::{
     has_edit, has_too_many,
 };
 pub use history::{Entry, History};
-pub use laws::{
-    agreement_stays, export_order_is_one, fronts_verify, libraries_are_spelled, openings_verify,
-    reads_leave_the_library, replies_are_within_limits, settled_fronts_stay, shown_libraries_check,
-    transactions_verify,
-};
 pub use library::{PlainLibrary, Ranked};
 pub use reason::{Reason, Refused};

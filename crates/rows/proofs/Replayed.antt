@@ -10,7 +10,7 @@ use Rattle.std.proofs.lemmas.Slice.Eq.{ends_is}
 use Rattle.std.proofs.lemmas.Str.Parse.{digit_from_value}
 use Rattle.std.specs.Char.{digit_value}
 use Rattle.std.proofs.Common.{◌≤◌, length, subst}
-use Rattle.jobs.specs.Reports.{report_text}
+use Rattle.reports.specs.Reports.{report_text}
 use Rattle.jobs.specs.Jobs.{IsRun, replayed_lines, library_lines}
 
 abbrev is_feed : ℕ → Bool

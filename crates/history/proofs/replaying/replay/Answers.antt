@@ -3,7 +3,7 @@ use Rattle.std.proofs.lemmas.Option.{slice_get_read}
 use Rattle.std.proofs.lemmas.List.{take_all, length-map}
 use Rattle.library.specs.Library.{setting_over, opening, ShowsInOrder}
 use Rattle.library.specs.Histories.{told, after_all, after_entry, IsLegal}
-use Rattle.library.proofs.Legal.{after-more, goes_on, told_at}
+use Rattle.librarylaws.proofs.Legal.{after-more, goes_on, told_at}
 use Rattle.history.proofs.Differing.{first_differing}
 use Rattle.history.proofs.replaying.replay.Goals as goal
 

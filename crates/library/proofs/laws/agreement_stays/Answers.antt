@@ -1,8 +1,0 @@
-use Rattle.library.proofs.Agreeing.{agreement_stays, commits_are_legal}
-use Rattle.library.proofs.laws.agreement_stays.Goals as goal
-
-pub returns-clause-stays : goal.returns-clause-stays
-returns-clause-stays c = agreement_stays
-
-pub returns-clause-legal : goal.returns-clause-legal
-returns-clause-legal c = commits_are_legal

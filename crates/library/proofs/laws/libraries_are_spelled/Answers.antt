@@ -1,5 +1,0 @@
-use Rattle.library.proofs.Showing.{shown_spelled}
-use Rattle.library.proofs.laws.libraries_are_spelled.Goals as goal
-
-pub returns : goal.returns
-returns c = shown_spelled

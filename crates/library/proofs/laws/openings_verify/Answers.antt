@@ -1,5 +1,0 @@
-use Rattle.library.proofs.Opening.{opening_verifies}
-use Rattle.library.proofs.laws.openings_verify.Goals as goal
-
-pub returns : goal.returns
-returns c = opening_verifies

@@ -1,5 +1,0 @@
-use Rattle.library.proofs.Leaving.{apply_leaves}
-use Rattle.library.proofs.laws.reads_leave_the_library.Goals as goal
-
-pub returns : goal.returns
-returns c = apply_leaves

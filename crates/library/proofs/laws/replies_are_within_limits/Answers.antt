@@ -1,9 +1,0 @@
-use Rattle.library.proofs.Fitting.{replies_fit}
-use Rattle.library.proofs.Agreeing.{legal_replies_fit}
-use Rattle.library.proofs.laws.replies_are_within_limits.Goals as goal
-
-pub returns-clause-replies : goal.returns-clause-replies
-returns-clause-replies c = replies_fit
-
-pub returns-clause-histories : goal.returns-clause-histories
-returns-clause-histories c = legal_replies_fit

@@ -1,5 +1,0 @@
-use Rattle.library.proofs.ExportOrder.{shown_check}
-use Rattle.library.proofs.laws.shown_libraries_check.Goals as goal
-
-pub returns : goal.returns
-returns c = shown_check

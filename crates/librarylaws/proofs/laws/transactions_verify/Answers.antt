@@ -1,0 +1,5 @@
+use Rattle.library.proofs.Editing.{edit_verifies, transaction_verifies}
+use Rattle.librarylaws.proofs.laws.transactions_verify.Goals as goal
+
+pub returns : goal.returns
+returns c = record { edits = edit_verifies; transactions = transaction_verifies }

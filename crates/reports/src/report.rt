@@ -1,0 +1,116 @@
+//! The report of a run: a line for each transaction, then its replies.
+
+ghost use Rattle.std.specs.Prelude.{◌≡◌, ◌++◌, All, IfOk, OnOk, map};
+ghost use Rattle.std.specs.List.{flat_map};
+ghost use Rattle.library.specs.Fitting.{ReplyFits};
+ghost use Rattle.historytext.specs.Layout.{reply_text};
+ghost use Rattle.transaction.specs.declared.outcome.Outcome.TheVariants as outcome;
+ghost use Rattle.reports.specs.Reports.{OutcomeFits, OutcomesFit, outcome_text, script_text_from, report_text};
+
+use historytext::put_reply;
+use library::{Refused, Reply};
+use mmsyntax::Prelude;
+use std::alloc::{AllocError, Global};
+use transaction::Outcome;
+
+/// The lines of replies, in order.
+fn put_replies(
+    alloc: Global,
+    out: &mut Vec<u8>,
+    prelude: &Prelude,
+    replies: &[Reply],
+) -> Result<(), AllocError>
+    requires { All (ReplyFits prelude.now) replies.now }
+    ensures { OnOk result (out.new.items ≡ out.old.items ++ flat_map (reply_text prelude.now) replies.now) }
+{
+    for reply in replies {
+        put_reply(alloc, out, prelude, reply)?;
+    }
+    Ok(())
+}
+
+/// The line of a refusal behind `S.T `.
+fn put_refusal(
+    alloc: Global,
+    out: &mut Vec<u8>,
+    prelude: &Prelude,
+    place: u64,
+    refused: Refused,
+) -> Result<(), AllocError>
+    ensures { OnOk result (out.new.items ≡ out.old.items ++ outcome_text prelude.now (outcome.Refused place refused)) }
+{
+    let Refused { index, reason } = refused;
+    let line = format!(in alloc; "refused {place} at {index}: {reason}\n")?;
+    out.extend_from_slice(line.as_bytes())
+}
+
+/// The lines of one transaction behind `S.T `. Its outcome is no conflict.
+fn put_outcome(
+    alloc: Global,
+    out: &mut Vec<u8>,
+    prelude: &Prelude,
+    outcome: &Outcome,
+) -> Result<(), AllocError>
+    requires { OutcomeFits prelude.now outcome.now }
+    ensures { OnOk result (out.new.items ≡ out.old.items ++ outcome_text prelude.now outcome.now) }
+{
+    match outcome {
+        Outcome::Committed { number, replies } => {
+            let line = format!(in alloc; "committed {number}\n")?;
+            out.extend_from_slice(line.as_bytes())?;
+            put_replies(alloc, out, prelude, replies.as_slice())
+        }
+        Outcome::Read { place, replies } => {
+            let line = format!(in alloc; "read {place}\n")?;
+            out.extend_from_slice(line.as_bytes())?;
+            put_replies(alloc, out, prelude, replies.as_slice())
+        }
+        Outcome::Refused { place, refused } => put_refusal(alloc, out, prelude, *place, *refused),
+        Outcome::Conflict(_) => unreachable!(),
+        Outcome::StoreFull => out.extend_from_slice(b"store full\n"),
+        Outcome::NumbersUsed => out.extend_from_slice(b"numbers used\n"),
+        Outcome::TooManyCommands => out.extend_from_slice(b"too many commands\n"),
+        Outcome::NoMemory => out.extend_from_slice(b"no memory\n"),
+    }
+}
+
+/// The lines of a script, which counts from 1.
+fn put_script(
+    alloc: Global,
+    out: &mut Vec<u8>,
+    prelude: &Prelude,
+    script: u64,
+    outcomes: &[Outcome],
+) -> Result<(), AllocError>
+    requires { All (OutcomeFits prelude.now) outcomes.now }
+    ensures { OnOk result (out.new.items ≡ out.old.items ++ script_text_from prelude.now script 1 outcomes.now) }
+{
+    for (i, outcome) in outcomes.iter().enumerate() {
+        let transaction = i as u64 + 1;
+        let number = format!(in alloc; "{script}.{transaction} ")?;
+        out.extend_from_slice(number.as_bytes())?;
+        put_outcome(alloc, out, prelude, outcome)?;
+    }
+    Ok(())
+}
+
+/// The report of a run: for each transaction of each script a line with both numbers, which count from 1, and its outcome, and then the lines of
+/// its replies. The outcomes are no conflicts, and their replies within the limits of the prelude.
+///
+/// # Errors
+///
+/// Want of memory.
+pub fn report(
+    alloc: Global,
+    prelude: &Prelude,
+    rows: &[Vec<Outcome>],
+) -> Result<Vec<u8>, AllocError>
+    requires { OutcomesFit prelude.now (map (λ row. row.items) rows.now) }
+    ensures { IfOk result (λ out. out.items ≡ report_text prelude.now (map (λ row. row.items) rows.now)) }
+{
+    let mut out = Vec::new(alloc);
+    for (i, row) in rows.iter().enumerate() {
+        put_script(alloc, &mut out, prelude, i as u64 + 1, row.as_slice())?;
+    }
+    Ok(out)
+}
