@@ -60,6 +60,10 @@ pub record Lent : Type 0 where
   pub run : Lending
   pub agrees : ∥ Agrees run ∥₁
 
+-- the word that was found, if one was, is no conflict of a run at the place: it shows the lock free, and a version up to there
+abbrev pub FindsNone : ℕ → Option (ℕ × ℕ) → Type 0
+FindsNone place looked = (c word : ℕ) → looked ≡ Some (c, word) → HasCause place word → ⊥
+
 -- the run has met this conflict by a read. A run that only reads tells no word that it had seen before
 pub record HasMet (met : Conflict) (g : Going Given Note) : Type 0 where
   pub looked : g.known.looked ≡ Some (met.cell, met.word)
@@ -91,7 +95,9 @@ pub record IsLent (l : Lending) (stage : Staged) (over : Option Conflict) : Type
   pub staged : AreStaged l.going.known.seen.ranges stage
   pub over_is : l.going.over ≡ over
   pub met : (k : Conflict) → over ≡ Some k → HasMet k l.going
+  pub clear : over ≡ None → FindsNone l.going.place l.going.known.looked
   pub full : l.full ≡ true → (is_some l.going.known.full ≡ true) × (l.may_stage ≡ true)
+  pub unrefused : l.full ≡ false → l.going.known.full ≡ l.began.full
 
 -- so with some stage, and with the conflict that ended the run, if one did
 abbrev pub IsLending : Lending → Type 0

@@ -114,6 +114,7 @@ module _ {S N : Type 0} (terms : Terms S N) where
               record {
                 sees = sees_all;
                 free = even;
+                below = low;
                 named = λ x set ranged. names_grow m2.0.seen.ranges m3.0.seen.ranges b r.sees.own.2
                     (q.named x c a (ap (λ (v : View S N). v.setting) looked_is ∙ set) looked_place ranged);
                 is = relooked_is ∙ ap (λ (z : Seat × ℕ). let v : View S N =

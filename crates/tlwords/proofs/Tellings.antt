@@ -1,5 +1,5 @@
 -- What the calls tell their callers, from what they tell of the seat.
-use Rattle.std.proofs.Common.{◌≡◌, ◌≢◌, ℕ, ◌+◌, ◌<◌, ◌≤◌, Bool, min, ◌⊎◌, inl, inr, ⊎_elim, true, false, is_some, Option, Some, None, List, [], ◌∷◌, ◌++◌, length, sym, refl, ap, ◌∙◌, subst, ◌^◌, arith}
+use Rattle.std.proofs.Common.{◌≡◌, ◌≢◌, ℕ, ◌+◌, ◌/◌, ◌<◌, ◌≤◌, Bool, min, ◌⊎◌, inl, inr, ⊎_elim, true, false, is_some, Option, Some, None, List, [], ◌∷◌, ◌++◌, length, sym, refl, ap, ◌∙◌, subst, ◌^◌, arith}
 use Rattle.atomic_table.specs.Seated.{TableId}
 use Rattle.atomic_table.specs.declared.shared.Seat.{Seat as TableSeat}
 use Rattle.tlcore.specs.History.{One}
@@ -83,6 +83,7 @@ module _ {S N : Type 0} (terms : Terms S N) where
             stands = stands_of later r over after t.sees.sound f;
             word = word;
             free = t.free;
+            below = subst (λ (n : ℕ). word / 2 ≤ n) (sym (ap (λ (v : View S N). v.seat.rv) t.is) ∙ f.5) t.below;
             named = t.named;
             notes = n;
             is = λ j. going_of (e j) (t.is j) place mode over after;

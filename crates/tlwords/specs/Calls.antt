@@ -74,6 +74,7 @@ module _ {S N : Type 0} (terms : Terms S N) where
     pub stands : Stands terms r
     pub word : ℕ
     pub free : word % 2 ≡ 0
+    pub below : word / 2 ≤ g.place
     pub named : (x : S) → g.known.home.setting ≡ Some x → terms.ranged x cell ≡ true → Names r.known.seen.ranges value
     pub notes : Notes g.mode g.slots r.slots cell word
     pub is : r ≡ record g {

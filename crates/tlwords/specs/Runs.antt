@@ -130,6 +130,7 @@ module _ {S N : Type 0} (terms : Terms S N) where
   pub record ReadsCell (c word value : ℕ) (m r : Mine S N) : Type 0 where
     pub sees : Sees terms m.0 r.0
     pub free : word % 2 ≡ 0
+    pub below : word / 2 ≤ m.0.seat.rv
     pub named : (x : S) → m.0.setting ≡ Some x → terms.ranged x c ≡ true → Names r.0.seen.ranges value
     pub is : r.0 ≡ record m.0 {
       seen = r.0.seen;

@@ -39,7 +39,7 @@ use Rattle.transaction.specs.declared.outcome.Record.{Record}
 use Rattle.transaction.specs.Members.{IsRecordIn}
 use Rattle.transaction.specs.Attempts.{AddsNothing, Meets}
 use Rattle.transaction.specs.Tries.{IsLaterPass, Tries}
-use Rattle.transaction.proofs.Ended.{met_at, is_later, adds_nothing, meets}
+use Rattle.transaction.proofs.Ended.{met_at, is_later, adds_nothing, ran_once, met_none, meets}
 
 -- the record of a number that a conflict left void
 abbrev pub void_record : ℕ → Record
@@ -68,6 +68,9 @@ module _ (l : Lending) (stage : Staged) (over : Option Conflict) (lent : IsLent 
 
   later_same : IsLaterPass l.began l.going.known
   later_same = is_later l stage over lent
+
+  once : l.going.known.runs ≡ l.began.runs + 1
+  once = ran_once l stage over lent
 
   adds_none : AddsNothing l.began l.going.known
   adds_none = adds_nothing l stage over lent
@@ -116,6 +119,8 @@ module _ (l : Lending) (stage : Staged) (over : Option Conflict) (lent : IsLent 
                 ap (λ (z : Pass). z.mine) w.is ∙ ap (λ (z : Pass). z.mine ++ Committed number work ∷ []) lent.since,
               ),
             );
+            run = ap (λ (z : Pass). z.runs) w.is ∙ once;
+            unrefused = λ e. absurd cc;
             recorded = (drawn, commit_recorded number k w);
           }
 
@@ -136,6 +141,8 @@ module _ (l : Lending) (stage : Staged) (over : Option Conflict) (lent : IsLent 
                 ap (λ (z : Pass). z.mine) w.is ∙ ap (λ (z : Pass). z.mine ++ Answered l.going.place work ∷ []) lent.since,
               ),
             );
+            run = ap (λ (z : Pass). z.runs) w.is ∙ once;
+            unrefused = λ e. absurd cc;
             recorded = drawn;
           }
 
@@ -158,6 +165,8 @@ module _ (l : Lending) (stage : Staged) (over : Option Conflict) (lent : IsLent 
             ap (λ (z : Pass). z.mine) w.is ∙ ap (λ (z : Pass). z.mine ++ Answered l.going.place work ∷ []) lent.since,
           ),
         );
+        run = ap (λ (z : Pass). z.runs) w.is ∙ once;
+        unrefused = λ e. absurd cc;
         recorded = drawn;
       }
 
@@ -201,6 +210,8 @@ module _ (l : Lending) (stage : Staged) (over : Option Conflict) (lent : IsLent 
           rejected_meets c None k (ap (λ (z : Pass). z.runs) w.entry) w,
           λ none. absurd (edits_not edits none),
         );
+        run = ap (λ (z : Pass). z.runs) w.entry ∙ once;
+        unrefused = λ e. absurd cc;
         recorded = drawn;
       }
 
@@ -220,6 +231,8 @@ module _ (l : Lending) (stage : Staged) (over : Option Conflict) (lent : IsLent 
           rejected_meets c (Some number) k (ap (λ (z : Pass). z.runs) same) w,
           λ none. absurd (edits_not edits none),
         );
+        run = ap (λ (z : Pass). z.runs) same ∙ once;
+        unrefused = λ e. absurd cc;
         recorded = (drawn, (e.0, e.1, void));
       }
 
@@ -231,6 +244,8 @@ module _ (l : Lending) (stage : Staged) (over : Option Conflict) (lent : IsLent 
       record {
         later = later_same;
         gains = (adds_none.mine, inl adds_none.drawn, has.0, λ none. (has.1 (reading none), adds_none.drawn));
+        run = once;
+        unrefused = λ e. absurd cc;
         recorded = adds_none.drawn;
       }
 
@@ -241,8 +256,21 @@ module _ (l : Lending) (stage : Staged) (over : Option Conflict) (lent : IsLent 
   gives_up (given.Conflict c) is reading stages = met_before c reading is
   gives_up given.StoreFull is reading stages =
       let full = lent.full is.1 in
-      record { later = later_same; gains = (adds_none, full.0, sym stages ∙ full.1); recorded = adds_none.drawn }
-  gives_up given.NoMemory is reading stages = record { later = later_same; gains = adds_none; recorded = adds_none.drawn }
+      record {
+        later = later_same;
+        gains = (adds_none, full.0, sym stages ∙ full.1);
+        run = (once, met_none l stage over lent is.0);
+        unrefused = λ e. absurd cc;
+        recorded = adds_none.drawn;
+      }
+  gives_up given.NoMemory is reading stages =
+      record {
+        later = later_same;
+        gains = adds_none;
+        run = (once, met_none l stage over lent is.0);
+        unrefused = λ e. lent.unrefused is.1;
+        recorded = adds_none.drawn;
+      }
 
   -- ---- no number is left
 
@@ -251,6 +279,8 @@ module _ (l : Lending) (stage : Staged) (over : Option Conflict) (lent : IsLent 
       record {
         later = later_same;
         gains = (adds_none, ap (λ (z : Pass). length z.drawn) (sym lent.since) ∙ count);
+        run = once;
+        unrefused = λ e. absurd cc;
         recorded = adds_none.drawn;
       }
 

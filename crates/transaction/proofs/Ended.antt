@@ -5,7 +5,7 @@ use Rattle.tlwords.specs.declared.outcome.Conflict.{Conflict}
 use Rattle.bodystore.specs.Stages.{Staged}
 use Rattle.lending.specs.Lent.{Pass, Lending, IsLent}
 use Rattle.transaction.specs.declared.outcome.Conflict.{Conflict as Met}
-use Rattle.transaction.specs.Attempts.{AddsNothing, Meets}
+use Rattle.transaction.specs.Attempts.{AddsNothing, Meets, MetNone}
 use Rattle.transaction.specs.Tries.{IsLaterPass}
 
 -- the conflict of a run at a place
@@ -25,6 +25,18 @@ module _ (l : Lending) (stage : Staged) (over : Option Conflict) (lent : IsLent 
   pub adds_nothing : AddsNothing l.began l.going.known
   adds_nothing = record { mine = ap (λ (k : Pass). k.mine) lent.since; drawn = ap (λ (k : Pass). k.drawn) lent.since }
 
+  pub ran_once : l.going.known.runs ≡ l.began.runs + 1
+  ran_once = ap (λ (k : Pass). k.runs) lent.since
+
+  -- a run that isn't over met none
+  pub met_none : l.going.over ≡ None → MetNone l.began l.going.known
+  met_none none = record {
+    place = l.going.place;
+    placed = lent.placed;
+    within = lent.stands.placed;
+    found = lent.clear (sym lent.over_is ∙ none);
+  }
+
   -- where a read met a conflict, so did the call; one that only reads tells no word that it had seen before
   pub meets : (c : Conflict) → l.going.over ≡ Some c
       → Meets l.began l.going.known (met_at l.going.place c) × (l.going.mode ≡ Reading → c.before ≡ None)
@@ -33,7 +45,7 @@ module _ (l : Lending) (stage : Staged) (over : Option Conflict) (lent : IsLent 
         record {
           placed = lent.placed;
           looked = has.looked;
-          runs = ap (λ (k : Pass). k.runs) lent.since;
+          runs = ran_once;
           cause = inl has.cause;
           written = has.written;
         },

@@ -19,7 +19,7 @@ use Rattle.transaction.specs.declared.outcome.Outcome.TheVariants as outcome
 use Rattle.transaction.specs.declared.outcome.Record.{Record}
 use Rattle.transaction.specs.Members.{Member, IsLater, IsMember}
 use Rattle.transaction.specs.Attempts.{Gains, Attempts, Submits, IsVoidNumber, DrawsVoid, AddsNothing, GainsCall, SaysDone, SaysRefused}
-use Rattle.transaction.specs.Attempts.{tried}
+use Rattle.transaction.specs.Attempts.{tried, IsOneRun, MetNone}
 use Rattle.transaction.specs.Tries.{IsLaterPass, IsRecorded, Tries}
 use Rattle.transaction.proofs.Standing.{stands}
 use Rattle.transaction.proofs.Recorded.{with_record, still_recorded, voids_grow}
@@ -36,9 +36,9 @@ module _ (m : Member) (is : IsMember m) where
       record { given = refl; home = refl; name = refl; grows = seen_refl m.known.seen; stands = stands m is }
 
   -- nothing was done
-  pub attempts_none : (cs : List Command) (o : Outcome) → Gains cs m.known m.known o → (has_too_many cs ≡ true → o ≡ outcome.TooManyCommands)
-      → Attempts cs m m o
-  attempts_none cs o gains counted = record { later = same_later; gains = gains; counted = counted }
+  pub attempts_none : (cs : List Command) → has_too_many cs ≡ true → Attempts cs m m outcome.TooManyCommands
+  attempts_none cs many =
+      record { later = same_later; gains = (refl, many); run = tt; unrefused = λ e. absurd cc; counted = λ t. refl }
 
   pub member_after : (k : Pass) (r : Option Record) → IsLaterPass m.known k → IsRecorded m.known k r → IsMember (after_run m k r)
   member_after k r later recorded =
@@ -60,6 +60,8 @@ module _ (m : Member) (is : IsMember m) where
           stands = stands (after_run m k r) (member_after k r t.later t.recorded);
         };
         gains = t.gains;
+        run = t.run;
+        unrefused = t.unrefused;
         counted = λ many. let no : true ≡ false = sym many ∙ few in absurd cc;
       }
 
@@ -103,6 +105,7 @@ pub record Tried (cs : List Command) (old now : Member) : Type 0 where
   pub runs : ℕ
   pub counted : now.known.runs ≡ old.known.runs + runs
   pub mine : now.known.mine ≡ old.known.mine
+  pub unrefused : runs ≡ 0 → now.known.full ≡ old.known.full
 
 pub tried_none : (cs : List Command) (m : Member) → Tried cs m m
 tried_none cs m =
@@ -114,6 +117,7 @@ tried_none cs m =
       runs = 0;
       counted = omega arith;
       mine = refl;
+      unrefused = λ none. refl;
     }
 
 -- a number drawn behind these, and void
@@ -173,6 +177,7 @@ module _ (cs : List Command) (old now next : Member) (o : Outcome) (so_far : Tri
         runs = so_far.runs + 1;
         counted = (let e = g.2.runs in let f = so_far.counted in omega arith);
         mine = g.0 ∙ so_far.mine;
+        unrefused = λ none. absurd (omega (arith, none));
       }
 
   -- ---- the last try
@@ -188,6 +193,12 @@ module _ (cs : List Command) (old now next : Member) (o : Outcome) (so_far : Tri
 
   calls : (call : Work Note → Call Note) (Says : Note → Type 0) → GainsCall now.known next.known call Says → GainsCall before next.known call Says
   calls call Says g = (g.0, g.1, g.2 ∙ ap (λ (z : List (Call Note)). z ++ call g.0 ∷ []) so_far.mine)
+
+  one_more : next.known.runs ≡ now.known.runs + 1 → next.known.runs ≡ before.runs + 1
+  one_more one = let f = so_far.counted in omega (arith, one, f)
+
+  none_since : MetNone now.known next.known → MetNone before next.known
+  none_since none = record { place = none.place; placed = not_before none.place none.placed; within = none.within; found = none.found }
 
   gains_since : (v : Outcome) → Gains cs now.known next.known v → ((met : Met) → v ≢ outcome.Conflict met) → v ≢ outcome.TooManyCommands
       → Gains cs before next.known v
@@ -207,6 +218,16 @@ module _ (cs : List Command) (old now next : Member) (o : Outcome) (so_far : Tri
   gains_since outcome.TooManyCommands g settles some = absurd (some refl)
   gains_since outcome.NoMemory g settles some = adds g
 
+  ran_since : (v : Outcome) → IsOneRun now.known next.known v → IsOneRun before next.known v
+  ran_since (outcome.Committed number replies) one = one_more one
+  ran_since (outcome.Read place replies) one = one_more one
+  ran_since (outcome.Refused place refused) one = one_more one
+  ran_since (outcome.Conflict met) one = one_more one
+  ran_since outcome.StoreFull one = (one_more one.0, none_since one.1)
+  ran_since outcome.NumbersUsed one = one_more one
+  ran_since outcome.TooManyCommands one = one
+  ran_since outcome.NoMemory one = (one_more one.0, none_since one.1)
+
   submits_some : ((met : Met) → o ≢ outcome.Conflict met) → o ≢ outcome.TooManyCommands → Submits cs old next o
   submits_some settled some =
       record {
@@ -215,6 +236,8 @@ module _ (cs : List Command) (old now next : Member) (o : Outcome) (so_far : Tri
         void = void_then;
         runs = so_far.runs;
         gains = gains_since o a.gains settled some;
+        run = ran_since o a.run;
+        unrefused = λ is none. a.unrefused is ∙ so_far.unrefused none;
         settled = settled;
         counted = a.counted;
       }
@@ -231,6 +254,8 @@ module _ (cs : List Command) (old now next : Member) (o : Outcome) (so_far : Tri
         void = All-nil (IsVoidNumber next.known);
         runs = 0;
         gains = subst (Gains cs (tried old.known [] 0) next.known) (sym is) (all, g.1);
+        run = subst (IsOneRun (tried old.known [] 0) next.known) (sym is) tt;
+        unrefused = λ memory none. let no = sym is ∙ memory in absurd cc;
         settled = λ met e. let no = sym is ∙ e in cc;
         counted = a.counted;
       }

@@ -13,7 +13,7 @@ use Rattle.tlwords.specs.Runs.{HasCause}
 use Rattle.lawful.specs.declared.notes.Note.{Note}
 use Rattle.lawful.specs.declared.notes.Note.TheVariants as note
 use Rattle.lawful.specs.History.{history_of}
-use Rattle.lending.specs.Lent.{Pass}
+use Rattle.lending.specs.Lent.{Pass, FindsNone}
 use Rattle.transaction.specs.declared.outcome.Conflict.{Conflict as Met}
 use Rattle.transaction.specs.declared.outcome.Outcome.{Outcome}
 use Rattle.transaction.specs.declared.outcome.Outcome.TheVariants as outcome
@@ -89,22 +89,44 @@ Gains cs old new outcome.NumbersUsed = AddsNothing old new × (length old.drawn 
 Gains cs old new outcome.TooManyCommands = (new ≡ old) × (has_too_many cs ≡ true)
 Gains cs old new outcome.NoMemory = AddsNothing old new
 
+-- ---- how it ran
+
+-- the last look of the run, if it made one, met no conflict: the word that it found shows the lock free, and a version up to the run's place
+pub record MetNone (old new : Pass) : Type 0 where
+  pub place : ℕ
+  pub placed : IsNotBefore old place
+  pub within : place ≤ length new.seen.history
+  pub found : FindsNone place new.looked
+
+-- the call was one run, but where it had too many commands; and a full store or want of memory is told only where that run met no conflict
+abbrev pub IsOneRun : Pass → Pass → Outcome → Type 0
+IsOneRun old new outcome.TooManyCommands = Unit {0}
+IsOneRun old new outcome.StoreFull = (new.runs ≡ old.runs + 1) × MetNone old new
+IsOneRun old new outcome.NoMemory = (new.runs ≡ old.runs + 1) × MetNone old new
+IsOneRun old new _ = new.runs ≡ old.runs + 1
+
 -- what one try does
 pub record Attempts (cs : List Command) (old new : Member) (o : Outcome) : Type 0 where
   pub later : IsLater old new
   pub gains : Gains cs old.known new.known o
+  pub run : IsOneRun old.known new.known o
+  -- where memory ran out, no staging was refused for the first time
+  pub unrefused : o ≡ outcome.NoMemory → new.known.full ≡ old.known.full
   pub counted : has_too_many cs ≡ true → o ≡ outcome.TooManyCommands
 
 -- what the pass knew, with further numbers, and after further runs
 abbrev pub tried : Pass → List ℕ → ℕ → Pass
 tried k numbers runs = record k { drawn = k.drawn ++ numbers; runs = k.runs + runs }
 
--- what tries until there is no conflict do: as one, after others that drew further numbers, which are void
+-- what tries until there is no conflict do: as the last one, after others, each of one run, that drew further numbers, which are void
 pub record Submits (cs : List Command) (old new : Member) (o : Outcome) : Type 0 where
   pub later : IsLater old new
   pub numbers : List ℕ
   pub void : All (IsVoidNumber new.known) numbers
   pub runs : ℕ
   pub gains : Gains cs (tried old.known numbers runs) new.known o
+  pub run : IsOneRun (tried old.known numbers runs) new.known o
+  -- where memory ran out at the first try, no staging was refused for the first time
+  pub unrefused : o ≡ outcome.NoMemory → runs ≡ 0 → new.known.full ≡ old.known.full
   pub settled : (met : Met) → o ≢ outcome.Conflict met
   pub counted : has_too_many cs ≡ true → o ≡ outcome.TooManyCommands

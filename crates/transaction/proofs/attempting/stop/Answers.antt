@@ -8,8 +8,8 @@ use Rattle.transaction.proofs.Committing.{told_of, gives_up}
 use Rattle.transaction.proofs.attempting.stop.Goals as goal
 use Rattle.transaction.proofs.attempting.stop.Goals.{in-Conflict, in-StoreFull, in-NoMemory}
 
-pub returns : goal.returns
-returns c =
+pub returns-clause-tries : goal.returns-clause-tries
+returns-clause-tries c =
     let l = c.args.live.run in
     let lending = c.place-place.ensures.stands in
     let cs = c.args.commands.now in
