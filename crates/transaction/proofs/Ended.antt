@@ -1,5 +1,5 @@
 -- What a run of a session leaves of its pass where it ends with nothing written.
-use Rattle.std.proofs.Common.{◌≡◌, ℕ, inl, Option, Some, None, ap, sym, ◌∙◌}
+use Rattle.std.proofs.Common.{◌≡◌, ℕ, ◌+◌, inl, Option, Some, None, ap, sym, ◌∙◌}
 use Rattle.tlwords.specs.declared.mode.Mode.TheVariants.{Reading}
 use Rattle.tlwords.specs.declared.outcome.Conflict.{Conflict}
 use Rattle.bodystore.specs.Stages.{Staged}

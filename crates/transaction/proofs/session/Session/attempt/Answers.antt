@@ -16,8 +16,8 @@ returns-then-has_too_many c =
     subst (λ (x : Member). Attempts cs x x outcome.TooManyCommands) c.self.view_is
     (attempts_none _ c.self.invariant.1 cs many)
 
-pub invariant_of-self-in-Some-drawn : goal.invariant_of-self-in-Some-drawn
-invariant_of-self-in-Some-drawn c =
+pub invariant_of-self : goal.invariant_of-self
+invariant_of-self c =
     let cs = c.args.commands.now in
     let m : Member = record { given = c.self.inside.given.value; known = known_in c.self.inside.kit; records = c.self.inside.records.items } in
     let r = c.transact-kit.result.drawn in
