@@ -198,13 +198,13 @@ module _ {S N : Type 0} (terms : Terms S N) (setting : S) (base : List ℕ) (roo
         }
 
     -- the view after a step without a new number
-    abbrev pub after_step : View S N → World → Seat → ℕ → Option (ℕ × ℕ) → List (Call N) → Told S N → View S N
-    after_step v world z runs looked mine told =
-        record v { seen = record { history = world.history; notes = r.notes; ranges = ranges }; seat = z; runs = runs; looked = looked; mine = mine; told = told }
+    abbrev pub after_step : View S N → World → Seat → List (Call N) → Told S N → View S N
+    after_step v world z mine told =
+        record v { seen = record { history = world.history; notes = r.notes; ranges = ranges }; seat = z; mine = mine; told = told }
 
     -- a step without a new number, by one event of the machine
     pub goes : (id : ℕ) (v : View S N) → get_elem? vs id ≡ some v
-        → (after : List ℕ) (world : World) (z : Seat) (runs : ℕ) (looked : Option (ℕ × ℕ)) (mine : List (Call N)) (told : Told S N)
+        → (after : List ℕ) (world : World) (z : Seat) (mine : List (Call N)) (told : Told S N)
         → ((c : ℕ) (x : Cell) → slice_get world.cells c ≡ Some x → terms.ranged setting c ≡ true → Names ranges x.value)
         → Keeps base r.world world → world.seats ≡ slice_set (r.world).seats id z → after ≡ words_of world
         → length world.cells ≡ length (r.world).cells → length world.history ≡ length (r.world).history
@@ -214,10 +214,10 @@ module _ {S N : Type 0} (terms : Terms S N) (setting : S) (base : List ℕ) (roo
         → ((i : ℕ) → number_at v.seat.place ≡ Some i → (number_at z.place ≡ Some i) ⊎ IsSettled world.history i)
         → ((i : ℕ) → number_at z.place ≡ Some i → number_at v.seat.place ≡ Some i)
         → LookIsFresh world.history z → (v.rights ≡ 0 → v.seat.held ≡ [] → z.held ≡ [])
-        → Rule ranges after (slice_set vs id (after_step v world z runs looked mine told)) × Sees terms v (after_step v world z runs looked mine told)
-    goes id v at after world z runs looked mine told named keeps seats words cells len calls is_told settles noted look unheld =
+        → Rule ranges after (slice_set vs id (after_step v world z mine told)) × Sees terms v (after_step v world z mine told)
+    goes id v at after world z mine told named keeps seats words cells len calls is_told settles noted look unheld =
         let later : Seen N = record { history = world.history; notes = r.notes; ranges = ranges } in
-        let w : View S N = after_step v world z runs looked mine told in
+        let w : View S N = after_step v world z mine told in
         let f : Suits terms setting base room now r.owner v = r.suits id v at in
         let grow : SeenGrows now later = (keeps.grows, λ i n e. e, λ x has. has) in
         let own : IsTold setting base later r.owner (tells v) = told_grows setting base now later r.owner r.owner (tells v) grow (λ n l. refl) f.own in

@@ -45,7 +45,7 @@ module _ {S N : Type 0} (terms : Terms S N) (setting : S) (base : List ℕ) (roo
       let e : slice_get w.seats id ≡ Some v.seat = seat_at terms setting base room ranges ws vs r id v at in
       let same : Keeps base w w = record { invariant = r.invariant; grows = Grows-refl w.history } in
       goes terms setting base room ranges ws vs r id v at
-      (slice_set ws 0 (slice_index ws 0)) w v.seat v.runs v.looked mine v.told r.named same
+      (slice_set ws 0 (slice_index ws 0)) w v.seat mine v.told r.named same
       (sym (set_same w.seats id v.seat e)) (set-get_or ws 0 0 ∙ r.words_are) refl refl calls f.told (λ i a. inl a) (λ i a. a) f.look
       (λ _ b. b)
 
