@@ -7,7 +7,6 @@ use Rattle.tlcore.specs.History.{One}
 use Rattle.tlcore.specs.Seats.{Seat, number_at, reads_of}
 use Rattle.tlcore.specs.Machine.{World}
 use Rattle.tlcore.specs.Invariant.{Invariant, SeatOk}
-use Rattle.tlcore.specs.Laws.{Keeps}
 use Rattle.tlcore.proofs.Lists.{get-set_same}
 use Rattle.tlcore.proofs.SeatParts.{ReadsOk-one}
 use Rattle.tlcore.specs.declared.cells.Cell.{Cell}
@@ -18,6 +17,7 @@ use Rattle.tlwords.specs.Views.{Told, Gone, View, tells, untold, Sound}
 use Rattle.tlwords.specs.Layout.{words_of}
 use Rattle.tlwords.specs.Rule.{total_of, LookIsFresh, EntriesAre, IsTold, IsGone, rights_of, numbers_of, Suits, Kept}
 use Rattle.tlwords.specs.Plays.{Mine, Sees}
+use Rattle.tlwords.proofs.Reaching.{Follows}
 use Rattle.tlwords.proofs.Seens.{settled_grows, look_grows, seen_refl, seen_trans, agree_grows, entries_grow}
 use Rattle.tlwords.proofs.Paired.{get_same, get_map, map_set}
 use Rattle.tlwords.proofs.Once.{nothing_drawn}
@@ -158,7 +158,7 @@ module _ {S N : Type 0} (terms : Terms S N) (setting : S) (base : List ℕ) (roo
     pub moved : (id : ℕ) (v w : View S N) → get_elem? vs id ≡ some v → (qs : List Range) (after : List ℕ) (world : World) (notes : List N) (owner : ℕ → ℕ)
         → Within ranges qs → AreOfOneStore room qs
         → ((c : ℕ) (x : Cell) → slice_get world.cells c ≡ Some x → terms.ranged setting c ≡ true → Names qs x.value)
-        → Keeps base r.world world → world.seats ≡ slice_set (r.world).seats id w.seat → after ≡ words_of world
+        → Follows base r.world world → world.seats ≡ slice_set (r.world).seats id w.seat → after ≡ words_of world
         → length world.cells ≡ length (r.world).cells → NotesGrow r.notes notes → length notes ≡ length world.history
         → EntriesAre terms setting (record { history = world.history; notes = notes; ranges = qs })
         → ((n : ℕ) → n ≤ length (r.world).history → owner n ≡ r.owner n)
@@ -173,6 +173,7 @@ module _ {S N : Type 0} (terms : Terms S N) (setting : S) (base : List ℕ) (roo
           notes = notes;
           owner = owner;
           invariant = keeps.invariant;
+          reached = keeps.reached r.reached;
           words_are = words;
           seats_are =
               map_set (λ (u : View S N). u.seat) vs id w
@@ -206,7 +207,7 @@ module _ {S N : Type 0} (terms : Terms S N) (setting : S) (base : List ℕ) (roo
     pub goes : (id : ℕ) (v : View S N) → get_elem? vs id ≡ some v
         → (after : List ℕ) (world : World) (z : Seat) (mine : List (Call N)) (told : Told S N)
         → ((c : ℕ) (x : Cell) → slice_get world.cells c ≡ Some x → terms.ranged setting c ≡ true → Names ranges x.value)
-        → Keeps base r.world world → world.seats ≡ slice_set (r.world).seats id z → after ≡ words_of world
+        → Follows base r.world world → world.seats ≡ slice_set (r.world).seats id z → after ≡ words_of world
         → length world.cells ≡ length (r.world).cells → length world.history ≡ length (r.world).history
         → (Agree terms setting base (record { history = world.history; notes = r.notes; ranges = ranges }) v.mine
         → Agree terms setting base (record { history = world.history; notes = r.notes; ranges = ranges }) mine)

@@ -11,7 +11,7 @@ use Rattle.tlcore.specs.Seats.{Seat, number_at, passes}
 use Rattle.tlcore.specs.Machine.{World, with_seat, begun, placed, conflict, saw, look, load, relook}
 use Rattle.tlcore.specs.Invariant.{Invariant, IsOld}
 use Rattle.tlcore.specs.declared.actions.Action.TheVariants.{Begin, Look, Load, Relook}
-use Rattle.tlcore.specs.Laws.{Leads, Keeps}
+use Rattle.tlcore.specs.Laws.{Leads}
 use Rattle.tlcore.proofs.Growth.{get_exists}
 use Rattle.tlcore.proofs.Halves.{halves}
 use Rattle.tlcore.proofs.Laws.{begin_leads, look_leads, load_leads, relook_leads}
@@ -27,6 +27,7 @@ use Rattle.tlwords.specs.Views.{Told, View, untold}
 use Rattle.tlwords.specs.Layout.{clock_at, lock_at, value_at}
 use Rattle.tlwords.specs.Rule.{Start, IsFresh, LookIsFresh, IsTold, Suits, Ruled}
 use Rattle.tlwords.specs.Plays.{Mine, Sees, Looks, began, after_look, after_relook, sampled, looked, loaded, relooked, bare}
+use Rattle.tlwords.proofs.Reaching.{Follows, by_event}
 use Rattle.tlwords.proofs.Paired.{clock_word, lock_word, value_word, word_count, lock_within, value_within}
 use Rattle.tlwords.proofs.Seens.{version_settled}
 use Rattle.tlwords.proofs.Lifts.{lifted}
@@ -110,7 +111,7 @@ module _ {S N : Type 0} (terms : Terms S N) (setting : S) (base : List ℕ) (roo
   -- a load, by an event that changes the seat alone
   pub quiet : (ranges : List Range) (ws : List ℕ) (vs : List (View S N)) (r : Rule terms setting base room ranges ws vs) (id : ℕ) (v : View S N) → get_elem? vs id ≡ some v
       → (i : ℕ) (z : Seat) (told : Told S N)
-      → Keeps base r.world (with_seat r.world id z) → IsTold setting base (now terms setting base room ranges ws vs r) r.owner told
+      → Follows base r.world (with_seat r.world id z) → IsTold setting base (now terms setting base room ranges ws vs r) r.owner told
       → ((k : ℕ) → number_at v.seat.place ≡ Some k → number_at z.place ≡ Some k)
       → ((k : ℕ) → number_at z.place ≡ Some k → number_at v.seat.place ≡ Some k)
       → LookIsFresh (r.world).history z → (v.rights ≡ 0 → v.seat.held ≡ [] → z.held ≡ [])
@@ -132,8 +133,8 @@ module _ {S N : Type 0} (terms : Terms S N) (setting : S) (base : List ℕ) (roo
       let is : n ≡ w.clock = clock_word ws w r.words_are in
       let e : slice_get w.seats id ≡ Some v.seat = seat_at terms setting base room ranges ws vs r id v at in
       let lead : Leads base w id Begin (with_seat w id (begun w v.seat)) = begin_leads base w id v.seat r.invariant e p in
-      let keep : Keeps base w (with_seat w id (began v.seat n)) =
-      subst (λ (k : ℕ). Keeps base w (with_seat w id (began v.seat k))) (sym is) lead.keeps in
+      let keep : Follows base w (with_seat w id (began v.seat n)) =
+      subst (λ (k : ℕ). Follows base w (with_seat w id (began v.seat k))) (sym is) (by_event lead) in
       let h : Seen N = record { history = w.history; notes = r.notes; ranges = ranges } in
       let u : View S N = record v { seen = h; seat = began v.seat n; told = untold } in
       let q : Rule terms setting base room ranges (slice_set ws clock_at n) (slice_set vs id u) × Sees terms v u =
@@ -171,8 +172,8 @@ module _ {S N : Type 0} (terms : Terms S N) (setting : S) (base : List ℕ) (roo
       let is : n ≡ (x.0).lock = lock_word ws w r.words_are c x.0 x.1 in
       let e : slice_get w.seats id ≡ Some t = seat_at terms setting base room ranges ws vs r id v at in
       let lead : Leads base w id (Look c) (look w id t c x.0) = look_leads base w id t c x.0 r.invariant e p x.1 in
-      let keep : Keeps base w (with_seat w id (after_look t c n)) =
-      subst (λ (k : ℕ). Keeps base w (with_seat w id (after_look t c k))) (sym is) lead.keeps in
+      let keep : Follows base w (with_seat w id (after_look t c n)) =
+      subst (λ (k : ℕ). Follows base w (with_seat w id (after_look t c k))) (sym is) (by_event lead) in
       let h : Seen N = record { history = w.history; notes = r.notes; ranges = ranges } in
       let u : View S N = record v { seen = h; seat = after_look t c n } in
       let f : Suits terms setting base room h r.owner v = r.suits id v at in
@@ -208,8 +209,8 @@ module _ {S N : Type 0} (terms : Terms S N) (setting : S) (base : List ℕ) (roo
       let e : slice_get w.seats id ≡ Some t = seat_at terms setting base room ranges ws vs r id v at in
       let lead : Leads base w id (Load c) (load w id t c word x.0) = load_leads base w id t c word x.0 r.invariant e p x.1 in
       let z : Seat = placed t (Loaded c word n) in
-      let keep : Keeps base w (with_seat w id z) =
-      subst (λ (k : ℕ). Keeps base w (with_seat w id (placed t (Loaded c word k)))) (sym is) lead.keeps in
+      let keep : Follows base w (with_seat w id z) =
+      subst (λ (k : ℕ). Follows base w (with_seat w id (placed t (Loaded c word k)))) (sym is) (by_event lead) in
       let h : Seen N = record { history = w.history; notes = r.notes; ranges = ranges } in
       let u : View S N = record v { seen = h; seat = z } in
       let f : Suits terms setting base room h r.owner v = r.suits id v at in
@@ -250,8 +251,8 @@ module _ {S N : Type 0} (terms : Terms S N) (setting : S) (base : List ℕ) (roo
       let e : slice_get w.seats id ≡ Some t = seat_at terms setting base room ranges ws vs r id v at in
       let lead : Leads base w id (Relook c) (relook w id t c word value x.0) = relook_leads base w id t c word value x.0 r.invariant e p x.1 in
       let z : Seat = after_relook t c word value n in
-      let keep : Keeps base w (with_seat w id z) =
-      subst (λ (k : ℕ). Keeps base w (with_seat w id (after_relook t c word value k))) (sym is) lead.keeps in
+      let keep : Follows base w (with_seat w id z) =
+      subst (λ (k : ℕ). Follows base w (with_seat w id (after_relook t c word value k))) (sym is) (by_event lead) in
       let h : Seen N = record { history = w.history; notes = r.notes; ranges = ranges } in
       let u : View S N = record v { seen = h; seat = z } in
       let f : Suits terms setting base room h r.owner v = r.suits id v at in

@@ -108,7 +108,7 @@ module _ {S N : Type 0} (terms : Terms S N) where
               }
 
           -- the seat after a second look that found this word, where it passed
-          reads : ℕ → Seat
+          abbrev reads : ℕ → Seat
           reads k =
               record (saw m0.0.seat c k) { place = Reading; reads = record { cell = c; word = a; value = b } ∷ m0.0.seat.reads }
 

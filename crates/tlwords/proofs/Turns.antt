@@ -130,13 +130,13 @@ module _ {S N : Type 0} (terms : Terms S N) where
 
     module _ (g : Before) (c v w n : ℕ) (s : Mine S N) (l : low ≤ c) (unkept : NoneKept slots low c) (t : Takes terms c v w r n s) where
       -- the seat after the take, where it found the word and where it didn't
-      hit : Seat
+      abbrev hit : Seat
       hit = record (saw m.0.seat c n) {
         place = Taking;
         held = record { cell = c; word = w; value = v; stored = false } ∷ held_in slots 0 0 low;
       }
 
-      miss : Seat
+      abbrev miss : Seat
       miss = conflict (saw (holding m.0.seat Taking Reading (held_in slots 0 0 low)) c n)
           (if is_nil (held_in slots 0 0 low) then Idle else Failing)
 
@@ -159,12 +159,16 @@ module _ {S N : Type 0} (terms : Terms S N) where
                 (λ o. if_false (n == w) hit miss (ne_eqb n w ne)
                 ∙ ap (λ (ks : List Held). let z : Seat = record (holding (conflict m.0.seat Idle) Failing Idle ks) { looked = Some (c, n) } in z)
                 (sym (held_on slots 0 0 low c l unkept)));
-            finds = record { looked = ap (λ (v : View S N). v.seat.looked) t.is ∙ if_known (λ (z : Seat). z.looked ≡ Some (c, n)) (n == w)
-                (record (saw r.0.seat c n) {
-                  place = Taking;
-                  held = record { cell = c; word = w; value = v; stored = false } ∷ r.0.seat.held;
-                })
-                (conflict (saw r.0.seat c n) (if is_nil r.0.seat.held then Idle else Failing)) (λ _. refl) (λ _. refl); written = t.written; before = f ∙ sym is };
+            finds = record {
+              looked = ap (λ (v : View S N). v.seat.looked) t.is ∙ if_known (λ (z : Seat). z.looked ≡ Some (c, n)) (n == w)
+                  (record (saw r.0.seat c n) {
+                    place = Taking;
+                    held = record { cell = c; word = w; value = v; stored = false } ∷ r.0.seat.held;
+                  })
+                  (conflict (saw r.0.seat c n) (if is_nil r.0.seat.held then Idle else Failing)) (λ _. refl) (λ _. refl);
+              written = t.written;
+              before = f ∙ sym is;
+            };
             sees = moves_then m r s g.moves t.sees;
             differs = (w, is, λ z. ne (sym z));
             within = within;

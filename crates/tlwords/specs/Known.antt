@@ -2,7 +2,8 @@
 use Rattle.std.specs.Prelude.{◌≡◌, ℕ, suc, ◌^◌, ◌≤◌, Option, Some, None, List, length, map}
 use Rattle.atomic_table.specs.Seated.{TableId}
 use Rattle.tlcore.specs.History.{One}
-use Rattle.tlcore.specs.Seats.{Read, reads_of}
+use Rattle.tlcore.specs.Seats.{reads_of}
+use Rattle.tlcore.specs.declared.seats.Read.{Read}
 use Rattle.ranges.specs.Ranges.{Has, AreOfOneStore}
 use Rattle.ranges.specs.Pairs.{Pairs, written}
 use Rattle.tlwords.specs.declared.log.Slot.{Slot}

@@ -100,8 +100,8 @@ pub record Tried (cs : List Command) (old now : Member) : Type 0 where
   pub numbers : List ℕ
   pub void : All (IsVoidNumber now.known) numbers
   pub drawn : now.known.drawn ≡ old.known.drawn ++ numbers
-  pub runs : ℕ
-  pub counted : now.known.runs ≡ old.known.runs + runs
+  pub runs : List ℕ
+  pub counted : now.known.clocks ≡ runs ++ old.known.clocks
   pub mine : now.known.mine ≡ old.known.mine
 
 pub tried_none : (cs : List Command) (m : Member) → Tried cs m m
@@ -111,8 +111,8 @@ tried_none cs m =
       numbers = [];
       void = All-nil (IsVoidNumber m.known);
       drawn = sym (append-nil m.known.drawn);
-      runs = 0;
-      counted = omega arith;
+      runs = [];
+      counted = refl;
       mine = refl;
     }
 
@@ -131,11 +131,10 @@ few_commands : (cs : List Command) (many : Bool) (o : Outcome) (met : Met) → o
 few_commands cs true o met is counted = let no = sym is ∙ counted refl in absurd cc
 few_commands cs false o met is counted = refl
 
-tried_nothing : (k : Pass) → k ≡ tried k [] 0
+tried_nothing : (k : Pass) → k ≡ tried k [] []
 tried_nothing k =
     let drawn : k.drawn ≡ k.drawn ++ [] = sym (append-nil k.drawn) in
-    let runs : k.runs ≡ k.runs + 0 = omega arith in
-    λ j. record k { drawn = drawn j; runs = runs j }
+    λ j. record k { drawn = drawn j }
 
 -- whether a transaction has too many commands
 is_too_many : (o : Outcome) → (o ≡ outcome.TooManyCommands) ⊎ (o ≢ outcome.TooManyCommands)
@@ -170,8 +169,8 @@ module _ (cs : List Command) (old now next : Member) (o : Outcome) (so_far : Tri
         numbers = all.0;
         void = all.1;
         drawn = all.2;
-        runs = so_far.runs + 1;
-        counted = (let e = g.2.runs in let f = so_far.counted in omega arith);
+        runs = met.place ∷ so_far.runs;
+        counted = g.2.run ∙ ap (λ (ps : List ℕ). met.place ∷ ps) so_far.counted;
         mine = g.0 ∙ so_far.mine;
       }
 
@@ -223,14 +222,14 @@ module _ (cs : List Command) (old now next : Member) (o : Outcome) (so_far : Tri
   submits_none : (now ≡ old) ⊎ (IsLater old now × (has_too_many cs ≡ false)) → o ≡ outcome.TooManyCommands → Submits cs old next o
   submits_none (inl same) is =
       let g = subst (Gains cs now.known next.known) is a.gains in
-      let all : next.known ≡ tried old.known [] 0 = g.0 ∙ (ap (λ (m : Member). m.known) same
+      let all : next.known ≡ tried old.known [] [] = g.0 ∙ (ap (λ (m : Member). m.known) same
       ∙ tried_nothing old.known) in
       record {
         later = later_by so_far.since;
         numbers = [];
         void = All-nil (IsVoidNumber next.known);
-        runs = 0;
-        gains = subst (Gains cs (tried old.known [] 0) next.known) (sym is) (all, g.1);
+        runs = [];
+        gains = subst (Gains cs (tried old.known [] []) next.known) (sym is) (all, g.1);
         settled = λ met e. let no = sym is ∙ e in cc;
         counted = a.counted;
       }

@@ -1,5 +1,5 @@
 -- What a look at the whole library gives, and what a session learns of another one.
-use Rattle.std.specs.Prelude.{◌≡◌, ◌≢◌, ℕ, None}
+use Rattle.std.specs.Prelude.{◌≡◌, ◌≢◌, ℕ, None, false}
 use Rattle.library.specs.Library.{Listed}
 use Rattle.ranges.specs.Ranges.{Has}
 use Rattle.tlwords.specs.Seen.{SeenGrows, Answered}
@@ -20,7 +20,7 @@ SaysLooked library _ = ⊥
 -- what the pass has then
 abbrev pub Sees : Pass → Pass → Look → Type 0
 Sees old new (look.Read place library) = IsNotBefore old place × DrawsNone old new × GainsCall old new (Answered place) (SaysLooked library)
-Sees old new (look.Conflict met) = AddsNothing old new × Meets old new met × (met.before ≡ None)
+Sees old new (look.Conflict met) = AddsNothing old new × Meets false old new met × (met.before ≡ None)
 Sees old new look.NoMemory = AddsNothing old new
 
 -- what a look does
