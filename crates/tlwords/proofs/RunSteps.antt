@@ -1,5 +1,5 @@
 -- The three steps of a read.
-use Rattle.std.proofs.Common.{◌≡◌, ◌≢◌, ℕ, ◌+◌, ◌/◌, ◌%◌, ◌<◌, ◌≤◌, inl, inr, eq-eqb, ne_eqb, nat_le, Bool, true, false, if◌then◌else◌}
+use Rattle.std.proofs.Common.{◌≡◌, ◌≢◌, ℕ, ◌/◌, ◌%◌, ◌<◌, ◌≤◌, inl, inr, eq-eqb, ne_eqb, nat_le, Bool, true, false, if◌then◌else◌}
 use Rattle.std.proofs.Common.{◌==◌, ◌&&◌, is_some, Option, Some, None, List, ◌∷◌, length, sym, refl, ap, ◌∙◌, subst, arith}
 use mathlib.Core.Logic.{dite}
 use native.Mathlib.Decide.{ℕ_discrete}
