@@ -1,4 +1,4 @@
-use Rattle.std.proofs.Common.{◌≡◌, ℕ, None, sym, ap, subst, ◌∙◌}
+use Rattle.std.proofs.Common.{ℕ, None, sym, ap, subst, ◌∙◌}
 use Rattle.lawful.specs.declared.notes.Note.TheVariants.{Refused}
 use Rattle.lending.specs.Lent.{Pass, Lending, is_writing}
 use Rattle.transaction.specs.declared.outcome.Outcome.{Outcome}
