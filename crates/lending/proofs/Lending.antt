@@ -13,7 +13,7 @@ use Rattle.tlwords.specs.declared.mode.Mode.{Mode}
 use Rattle.tlwords.specs.declared.mode.Mode.TheVariants.{Reading, Writing}
 use Rattle.tlwords.specs.declared.outcome.Conflict.{Conflict}
 use Rattle.tlwords.specs.Seen.{Seen, SeenGrows}
-use Rattle.tlwords.specs.Known.{Home, Going, Stands}
+use Rattle.tlwords.specs.Known.{Home, Going, Stands, word_told}
 use Rattle.tlwords.specs.Runs.{word_seen, value_kept, was_read, HasKept, HasCause}
 use Rattle.tlwords.specs.Commits.{writes_kept, HasForgotten}
 use Rattle.tlwords.specs.Calls.{Begins, HasRead, HasStopped, HasLoaded, HasStaged, IsRefused, Notes}
@@ -85,8 +85,9 @@ module _ (g : Given) (k : Pass) (stage : Staged) (mode : Mode) (may : Bool) (r :
         on = on;
         since = ap (λ (x : Going Given Note). x.known) b.is ∙ (λ j. let z : Pass = record k {
           seen = r.known.seen;
-          runs = k.runs + 1;
+          clocks = r.place ∷ k.clocks;
           looked = sym (ap (λ (x : Going Given Note). x.known.looked) b.is) j;
+          found = sym (ap (λ (x : Going Given Note). x.known.found) b.is) j;
           full = sym (ap (λ (x : Going Given Note). x.known.full) b.is) j;
           taken = sym (ap (λ (x : Going Given Note). x.known.taken) b.is) j;
           added = sym (ap (λ (x : Going Given Note). x.known.added) b.is) j;
@@ -172,7 +173,7 @@ abbrev pub read_on : Lending → Seen Note → ℕ → ℕ → ℕ → List Slot
 read_on l seen cell word value slots =
     record l {
       going = record l.going {
-        known = record l.going.known { seen = seen; looked = Some (cell, word) };
+        known = record l.going.known { seen = seen; looked = Some (cell, word); found = (cell, word) ∷ l.going.known.found };
         reads = (cell, value) ∷ l.going.reads;
         slots = slots;
       };
@@ -219,7 +220,7 @@ module _ (l : Lending) (stage : Staged) (over : Option Conflict) (i : IsLent l s
         looked = m.looked;
         written = WasWritten-kept l.going.known.seen.history seen.history c.cell (c.word / 2) grows.0 m.written;
         cause = m.cause;
-        untold = m.untold;
+        before = m.before;
       }
 
   -- the stage goes on
@@ -306,7 +307,7 @@ module _ (l : Lending) (stage : Staged) (over : Option Conflict) (i : IsLent l s
         looked = λ j. Some (sym h.cell_is j, met.word);
         written = h.finds.written;
         cause = h.cause;
-        untold = λ m. sym h.finds.before ∙ i.unnoted m met.cell;
+        before = h.finds.told ∙ ap (λ (x : Going Given Note). word_told l.going.mode met.cell x.known.found) h.is;
       } in
       subst (λ (x : Going Given Note). IsLent (record l { going = x }) stage (Some met)) (sym h.is)
       (later_lent seen looked k.full k.taken k.added (Some met) l.full stage (Some met) h.grows
@@ -329,7 +330,8 @@ module _ (l : Lending) (stage : Staged) (over : Option Conflict) (i : IsLent l s
     read_lent none noted =
         record {
           on = i.on;
-          since = ap (λ (k : Pass). let z : Pass = record k { seen = r.known.seen; looked = Some (cell, h.word) } in z) i.since;
+          since = ap (λ (k : Pass). let z : Pass = record k { seen = r.known.seen; looked = Some (cell, h.word); found = (cell, h.word) ∷ l.going.known.found } in z)
+              i.since;
           grows = seen_trans l.began.seen l.going.known.seen r.known.seen i.grows h.grows;
           placed = i.placed;
           stands = subst (Stands library_terms) h.is h.stands;
@@ -374,7 +376,7 @@ module _ (l : Lending) (stage : Staged) (over : Option Conflict) (i : IsLent l s
             (λ n. i.named c v (kept_has l.going.slots c v (sym (k.2 c n) ∙ has_kept slots c v has)) ranged);
         staged = i.staged;
         over_is = i.over_is;
-        met = λ c e. let m = i.met c e in record { looked = m.looked; written = m.written; cause = m.cause; untold = m.untold };
+        met = λ c e. let m = i.met c e in record { looked = m.looked; written = m.written; cause = m.cause; before = m.before };
         clear = i.clear;
         full = i.full;
         unrefused = i.unrefused;
@@ -401,7 +403,7 @@ module _ (l : Lending) (stage : Staged) (over : Option Conflict) (i : IsLent l s
         named = λ c v has ranged. absurd (subst (Has (c, v)) k.3 has);
         staged = i.staged;
         over_is = i.over_is;
-        met = λ c e. let m = i.met c e in record { looked = m.looked; written = m.written; cause = m.cause; untold = m.untold };
+        met = λ c e. let m = i.met c e in record { looked = m.looked; written = m.written; cause = m.cause; before = m.before };
         clear = i.clear;
         full = i.full;
         unrefused = i.unrefused;

@@ -295,6 +295,7 @@ module _ {S N : Type 0} (terms : Terms S N) (setting : S) (base : List ℕ) (roo
   is_world : IsWorldOf base w.history closed.clock closed.cells.items w
   is_world = record {
     invariant = k.invariant;
+    reached = k.reached;
     history_is = refl;
     clock_is = (k.invariant).consistent.clock ∙ shown.clock_is;
     count = let m : n ≡ length w.cells = many in omega (arith, m, cells_count);

@@ -12,7 +12,7 @@ use Rattle.tlwords.specs.Terms.{Terms, Opened}
 use Rattle.tlwords.specs.Seen.{Seen, SeenGrows, Legal, Agree}
 use Rattle.tlwords.specs.Known.{Known}
 use Rattle.tlwords.specs.Layout.{lock_at, value_at, store_at}
-use Rattle.tlwords.specs.Rule.{total_of, IsLeft}
+use Rattle.tlwords.specs.Rule.{total_of, IsLeft, Reached}
 use Rattle.tlcore.specs.Machine.{World}
 use Rattle.tlcore.specs.Seats.{Seat, is_nil, is_resting}
 use Rattle.tlcore.specs.Invariant.{Invariant, Holds}
@@ -41,9 +41,11 @@ pub record Shows (base : List ℕ) (h : List Entry) (clock : ℕ) (cells : List 
   -- the half of a lock word, locked or free, is 0 or the number of a Done entry that writes the cell
   pub written : (c : ℕ) (x : ClosedCell) → slice_get cells c ≡ Some x → WasWritten h c (x.lock / 2)
 
--- the machine's world of this history, in which its invariant holds, has the clock and the cells that the words show
+-- the machine's world of this history, in which its invariant holds, and which is reached by lawful events, has the clock and the cells that
+-- the words show
 pub record IsWorldOf (base : List ℕ) (h : List Entry) (clock : ℕ) (cells : List ClosedCell) (w : World) : Type 0 where
   pub invariant : Invariant base w
+  pub reached : Reached base w
   pub history_is : w.history ≡ h
   pub clock_is : w.clock ≡ clock
   pub count : length w.cells ≡ length cells

@@ -7,6 +7,7 @@ ghost use Rattle.cells.specs.Answers.{has_staging};
 ghost use Rattle.tlwords.specs.Commits.{writes_kept};
 ghost use Rattle.tlwords.specs.declared.mode.Mode.TheVariants.{Reading};
 ghost use Rattle.lawful.specs.Laws.{IsPassOn};
+ghost use Rattle.lending.specs.Lent.{is_writing};
 ghost use Rattle.lawful.specs.Lawful.{setting_of};
 ghost use Rattle.transaction.specs.Members.{IsOf};
 ghost use Rattle.transaction.specs.Attempts.{Attempts};
@@ -114,6 +115,7 @@ fn copy_done(
 /// Commits a run whose commands are done, of which one is an edit.
 fn commit(alloc: Global, live: Live<'_>, commands: &Transaction, replies: Sequence<Reply>) -> Tried
     requires stages { live.run.may_stage ≡ has_staging commands.now }
+    requires writes { is_writing live.run.going.mode ≡ has_edit commands.now }
     requires edit { has_edit commands.now ≡ true }
     requires some { writes_kept live.run.going.slots ≢ [] }
     requires lawful { MayBeDone live.run commands.now replies }
@@ -179,7 +181,7 @@ fn answer(live: Live<'_>, commands: &Transaction, replies: Sequence<Reply>) -> T
 
 /// Ends a run of which a command is refused: what it kept aside is thrown away.
 fn refuse(mut live: Live<'_>, commands: &Transaction, refused: Refused) -> Tried
-    requires reading { has_edit commands.now ≡ false → live.run.going.mode ≡ Reading }
+    requires writes { is_writing live.run.going.mode ≡ has_edit commands.now }
     requires lawful { MayBeRefused live.run commands.now refused }
     ensures { Tries commands.now live.entry.run.began result.kit result.outcome result.drawn }
 {
@@ -207,7 +209,7 @@ fn refuse(mut live: Live<'_>, commands: &Transaction, refused: Refused) -> Tried
 /// Ends a run that was stopped, or for which memory ran out.
 fn stop(live: Live<'_>, commands: &Transaction) -> Tried
     requires stages { live.run.may_stage ≡ has_staging commands.now }
-    requires reading { has_edit commands.now ≡ false → live.run.going.mode ≡ Reading }
+    requires writes { is_writing live.run.going.mode ≡ has_edit commands.now }
     ensures tries { Tries commands.now live.entry.run.began result.kit result.outcome result.drawn }
     ensures undrawn { result.drawn ≡ None }
 {

@@ -25,4 +25,4 @@ returns-clause-tries c =
     ] in
     subst (λ (k : Pass). Tries cs l.began k c.match-why.outcome None) (sym ended.kit)
     (subst (λ (o : Outcome). Tries cs l.began l.going.known o None) (sym is)
-    (gives_up l lending.0 lending.1 lending.2 cs why ended.why c.requires.reading c.requires.stages))
+    (gives_up l lending.0 lending.1 lending.2 cs why ended.why c.requires.writes c.requires.stages))
