@@ -1,11 +1,12 @@
 -- A run of a session goes on: what is so of it at all times stays so, and it agrees with some state of its library.
 use Rattle.std.proofs.Common.{◌≡◌, ℕ, ◌+◌, ◌/◌, ◌%◌, ◌<◌, ◌≤◌, arith, inl, inr, Bool, true, false, is_some, Option, Some, None, List, ◌∷◌, length}
-use Rattle.std.proofs.Common.{refl, sym, ap, ◌∙◌, subst, min}
+use Rattle.std.proofs.Common.{refl, sym, ap, ◌∙◌, subst, min, eq-eqb, ◌==◌, if◌then◌else◌}
 use Rattle.std.specs.Prelude.{Result, Ok, Err, OnOk, OnErr}
 use Rattle.std.specs.FinMap.{insert}
 use mathlib.Core.Logic.{dite}
 use native.Mathlib.Decide.{ℕ_discrete}
 use Rattle.tlcore.proofs.Growth.{WasWritten-kept}
+use Rattle.ranges.specs.Pairs.{Pairs, written}
 use Rattle.ranges.specs.Ranges.{Has, Names}
 use Rattle.ranges.proofs.Grown.{names_grow}
 use Rattle.tlwords.specs.declared.log.Slot.{Slot}
@@ -141,15 +142,15 @@ pub noted_writes : (mode : Mode) (slots after : List Slot) (cell word : ℕ) →
 noted_writes mode slots after cell word n =
     same_writes slots after (read_room mode slots after cell word n) (noted_values mode slots after cell word n)
 
--- a free word of a version up to the place is no conflict
-word_told : Option (ℕ × ℕ) → ℕ
-word_told None = 0
-word_told (Some p) = p.1
+-- the word under which a read has ended is no conflict: it is free, and of a version up to the place
+abbrev NoCause : ℕ → Pairs → Option (ℕ × ℕ) → Type 0
+NoCause place found None = Unit {0}
+NoCause place found (Some p) = (HasCause place p.1 → ⊥) × (written p.0 found ≡ Some p.1)
 
-finds_none : (place c word : ℕ) → word % 2 ≡ 0 → word / 2 ≤ place → FindsNone place (Some (c, word))
-unfolding word_told
-finds_none place c word free below d other told cause =
-    let same : word ≡ other = ap word_told told in none (subst (HasCause place) (sym same) cause)
+finds_none : (place c word : ℕ) (found : Pairs) → word % 2 ≡ 0 → word / 2 ≤ place → FindsNone place (Some (c, word)) ((c, word) ∷ found)
+finds_none place c word found free below d other told =
+    let here : written c ((c, word) ∷ found) ≡ Some word = rw (eq-eqb c c refl) refl in
+    subst (NoCause place ((c, word) ∷ found)) told (none, here)
   where
     none : HasCause place word → ⊥
     none (inl odd) = omega (arith, odd, free)
@@ -189,7 +190,7 @@ module _ (l : Lending) (stage : Staged) (over : Option Conflict) (i : IsLent l s
       → SeenGrows l.going.known.seen seen → Stands library_terms (later l seen looked full taken added now no_room).going
       → AreStaged seen.ranges next → now ≡ ended
       → ((c : Conflict) → ended ≡ Some c → HasMet c (later l seen looked full taken added now no_room).going)
-      → (ended ≡ None → FindsNone l.going.place looked) → (no_room ≡ true → (is_some full ≡ true) × (l.may_stage ≡ true))
+      → (ended ≡ None → FindsNone l.going.place looked l.going.known.found) → (no_room ≡ true → (is_some full ≡ true) × (l.may_stage ≡ true))
       → (no_room ≡ false → full ≡ l.began.full) → IsLent (later l seen looked full taken added now no_room) next ended
   later_lent seen looked full taken added now no_room next ended grows stands staged over_is met clear full_is unrefused =
       record {
@@ -345,7 +346,7 @@ module _ (l : Lending) (stage : Staged) (over : Option Conflict) (i : IsLent l s
           staged = staged_on r.known.seen h.grows;
           over_is = i.over_is;
           met = λ c e. let a : None ≡ Some c = sym none ∙ (i.over_is ∙ e) in absurd cc;
-          clear = λ e. finds_none l.going.place cell h.word h.free h.below;
+          clear = λ e. finds_none l.going.place cell h.word l.going.known.found h.free h.below;
           full = i.full;
           unrefused = i.unrefused;
         }

@@ -2,6 +2,7 @@
 use Rattle.std.specs.Prelude.{◌≡◌, ℕ, ◌/◌, ◌≤◌, Bool, true, false, is_some, Option, Some, None, List, [], ◌∷◌, length}
 use Rattle.tlcore.specs.History.{WasWritten}
 use Rattle.ranges.specs.Ranges.{Has, Names}
+use Rattle.ranges.specs.Pairs.{Pairs, written}
 use Rattle.tlwords.specs.declared.mode.Mode.{Mode}
 use Rattle.tlwords.specs.declared.mode.Mode.TheVariants.{Reading, Writing}
 use Rattle.tlwords.specs.declared.outcome.Conflict.{Conflict}
@@ -60,9 +61,11 @@ pub record Lent : Type 0 where
   pub run : Lending
   pub agrees : ∥ Agrees run ∥₁
 
--- the word that was found, if one was, is no conflict of a run at the place: it shows the lock free, and a version up to there
-abbrev pub FindsNone : ℕ → Option (ℕ × ℕ) → Type 0
-FindsNone place looked = (c word : ℕ) → looked ≡ Some (c, word) → HasCause place word → ⊥
+-- the word that the last look found, if there was one, is no conflict of a run at the place: it shows the lock free, and a version up to there,
+-- and it is the one under which the newest read of the cell ended
+abbrev pub FindsNone : ℕ → Option (ℕ × ℕ) → Pairs → Type 0
+FindsNone place looked found =
+    (c word : ℕ) → looked ≡ Some (c, word) → (HasCause place word → ⊥) × (written c found ≡ Some word)
 
 -- the run has met this conflict by a read. The word before is the one that its newest read of the cell found; a run that only reads tells none
 pub record HasMet (met : Conflict) (g : Going Given Note) : Type 0 where
@@ -96,7 +99,7 @@ pub record IsLent (l : Lending) (stage : Staged) (over : Option Conflict) : Type
   pub staged : AreStaged l.going.known.seen.ranges stage
   pub over_is : l.going.over ≡ over
   pub met : (k : Conflict) → over ≡ Some k → HasMet k l.going
-  pub clear : over ≡ None → FindsNone l.going.place l.going.known.looked
+  pub clear : over ≡ None → FindsNone l.going.place l.going.known.looked l.going.known.found
   pub full : l.full ≡ true → (is_some l.going.known.full ≡ true) × (l.may_stage ≡ true)
   pub unrefused : l.full ≡ false → l.going.known.full ≡ l.began.full
 

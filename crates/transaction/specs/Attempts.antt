@@ -99,12 +99,13 @@ Gains cs old new outcome.NoMemory = AddsNothing old new
 abbrev pub LoadsOnce : Pass → Pass → ℕ → Type 0
 LoadsOnce old new place = new.clocks ≡ place ∷ old.clocks
 
--- the last look of the run, if it made one, met no conflict: the word that it found shows the lock free, and a version up to the run's place
+-- the last look of the run, if it made one, met no conflict: the word that it found shows the lock free, and a version up to the run's place, and
+-- is the one under which the run's newest read of the cell ended
 pub record MetNone (old new : Pass) : Type 0 where
   pub place : ℕ
   pub placed : IsNotBefore old place
   pub run : LoadsOnce old new place
-  pub found : FindsNone place new.looked
+  pub found : FindsNone place new.looked new.found
 
 -- the call was one run, at the place that is told, but where it had too many commands; and a full store or want of memory is told only where
 -- that run met no conflict

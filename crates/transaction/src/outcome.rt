@@ -41,13 +41,13 @@ pub enum Outcome {
     },
     /// It met another session, and changed nothing.
     Conflict(Conflict),
-    /// The store has no room for a body, or had none for one that this session staged before. It changed nothing.
+    /// The store has no room for a body, or had none for one that this session staged before. The run met no conflict, and changed nothing.
     StoreFull,
     /// The session has drawn 2^40 numbers. It changed nothing.
     NumbersUsed,
     /// It has more than 16 commands. Nothing was done.
     TooManyCommands,
-    /// Memory ran out. It changed nothing.
+    /// Memory ran out, in a run that met no conflict. It changed nothing.
     NoMemory,
 }
 
@@ -58,7 +58,7 @@ pub enum Look {
     Read { place: u64, library: PlainLibrary },
     /// It met another session.
     Conflict(Conflict),
-    /// Memory ran out.
+    /// Memory ran out, in a run that met no conflict.
     NoMemory,
 }
 
