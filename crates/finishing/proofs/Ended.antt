@@ -1,6 +1,7 @@
 -- What a library leaves at its end: the records of its sessions are its history, and its cells show the library after it.
-use Rattle.std.proofs.Common.{◌≡◌, ◌≢◌, ◌∙◌, ap, sym, subst, refl, ℕ, zero, suc, ◌+◌, ◌*◌, ◌≤◌, List, [], ◌∷◌, length, map, Option, Some, None, arith}
+use Rattle.std.proofs.Common.{◌≡◌, ◌≢◌, ◌∙◌, ap, sym, subst, refl, ℕ, zero, suc, ◌+◌, ◌*◌, ◌%◌, ◌<◌, ◌≤◌, ◌⊎◌, inl, inr, List, [], ◌∷◌, length, map, Option, Some, None, arith}
 use Rattle.std.specs.Prelude.{slice_get, option_map, All, Err}
+use Rattle.std.proofs.lemmas.Bool.{cases_lt}
 use Rattle.std.proofs.lemmas.List.{length-map, take_all}
 use Rattle.std.proofs.lemmas.Option.{slice_get-map, slice_get_within}
 use Rattle.library.specs.declared.command.Command.{Command}
@@ -10,6 +11,7 @@ use Rattle.library.specs.declared.library.Ranked.{Ranked}
 use Rattle.library.specs.Histories.{Entry, open_entry, EntriesFit, Grows, IsLegal, after_all, told}
 use Rattle.library.specs.Library.{Verifies, Listed, Setting}
 use Rattle.ranges.specs.Ranges.{Has}
+use Rattle.tlwords.specs.declared.closing.ClosedCell.{ClosedCell}
 use Rattle.tlwords.specs.declared.closing.ClosedWords.{ClosedWords}
 use Rattle.tlwords.specs.Seen.{Seen}
 use Rattle.cells.specs.State.{most_words}
@@ -26,7 +28,7 @@ use Rattle.lawful.proofs.Naming.{named_shows}
 use Rattle.transaction.specs.declared.closing.ClosedLibrary.{ClosedLibrary}
 use Rattle.transaction.specs.declared.outcome.Record.{Record}
 use Rattle.transaction.specs.Members.{Home, Member, IsMember, IsRecordIn, entry_recorded}
-use Rattle.transaction.specs.Closings.{IsClosed, lists_of}
+use Rattle.transaction.specs.Closings.{IsClosed, lists_of, passes_of}
 use Rattle.finishing.specs.declared.error.FinishError.TheVariants.{Missing, Held}
 use Rattle.finishing.specs.Finishes.{IsDrawn, IsMissing, AreRecordedBy, IsFinished, Finishes}
 use Rattle.finishing.specs.Ordering.{IsToldIn, AreOrdered, IsFirstMissing, IsFirstHeld}
@@ -132,7 +134,23 @@ module _ (home : Home) (members : List Member) (closed : ClosedLibrary) (is : Is
       none_missing n m = let p = missing_empty n m in none p.0 p.2
 
       pub finish_held : (c : ℕ) → IsFirstHeld words.cells.items (Some c) → Finishes home members (Err (Held c))
-      finish_held c first = (words, is.words, none_missing, first.0, λ d lt h. first.1 d h.0 lt h.1 h.2)
+      finish_held c first =
+          let x = first.0 in
+          (words, is.words, none_missing, x, λ d lt h. first.1 d h.0 lt h.1 h.2, (is.words.closes.held c x.0 x.1 x.2, lacks c x.0 x.1 x.2))
+        where
+          -- were all handed in, no lock would be held
+          lacks : (c : ℕ) (x : ClosedCell) → slice_get words.cells.items c ≡ Some x → x.lock % 2 ≡ 1 → length members < home.sessions
+          lacks c x at odd = go (cases_lt (length members) home.sessions)
+            where
+              passes : length (passes_of members) ≡ length members
+              passes = length-map members (λ m. m.known)
+
+              go : (length members < home.sessions) ⊎ (home.sessions ≤ length members) → length members < home.sessions
+              go (inl less) = less
+              go (inr all) =
+                  let few = is.words.others in
+                  let free = (is.words.still (omega (arith, few, all, passes))).free c x at in
+                  absurd (omega (arith, free, odd))
 
     -- ---- the whole history
 

@@ -6,7 +6,7 @@ use Rattle.library.specs.declared.history.Entry.{Entry as CodeEntry}
 use Rattle.ranges.specs.Ranges.{Has}
 use Rattle.tlwords.specs.declared.closing.ClosedCell.{ClosedCell}
 use Rattle.tlwords.specs.declared.closing.ClosedWords.{ClosedWords}
-use Rattle.tlwords.specs.Closing.{ClosesAll}
+use Rattle.tlwords.specs.Closing.{ClosesAll, IsHeldIn}
 use Rattle.cells.specs.Shows.{Shows}
 use Rattle.lawful.specs.Lawful.{setting_of, first_library, state_of, library_terms}
 use Rattle.lawful.specs.History.{history_of, AllAgree}
@@ -16,8 +16,9 @@ use Rattle.transaction.specs.declared.outcome.Record.{Record}
 use Rattle.finishing.specs.declared.error.FinishError.{FinishError}
 use Rattle.finishing.specs.declared.error.FinishError.TheVariants.{Missing, Held, NoMemory}
 
--- the words are those of the library at its end: into the one history that they show grows what each of these sessions had seen; and where
--- all sessions of the library are handed in, no lock is held, and the clock is how many numbers they drew
+-- the words are those of the library at its end: into the one history that they show grows what each of these sessions had seen; a lock that is
+-- held is that of a seat in the middle of a run, of which there are no more than sessions that aren't handed in; and where all are handed in, no
+-- lock is held, and the clock is how many numbers they drew
 abbrev pub AreItsWords : Home → List Member → ClosedWords → Type 0
 AreItsWords home members words =
     ClosesAll library_terms home.given home.words.base home.store home.sessions (passes_of members) words
@@ -35,6 +36,11 @@ pub record IsMissing (members : List Member) (words : ClosedWords) (n : ℕ) : T
 -- the lock of the cell is held
 abbrev pub IsHeld : ClosedWords → ℕ → Type 0
 IsHeld words c = (x : ClosedCell) × (slice_get words.cells.items c ≡ Some x) × (x.lock % 2 ≡ 1)
+
+-- a seat of the library holds the cell, in the middle of a run. It is that of a session that isn't among these, each of which is at rest and holds
+-- nothing: so not all sessions are here
+abbrev pub IsHeldByAnother : (home : Home) (members : List Member) (words : ClosedWords) → AreItsWords home members words → ℕ → Type 0
+IsHeldByAnother home members words its c = IsHeldIn its.closes.world c × (length members < home.sessions)
 
 -- each entry is the record of a number that one of the sessions drew
 abbrev pub AreRecordedBy : List Member → List CodeEntry → Type 0
@@ -60,13 +66,13 @@ pub record IsFinished (home : Home) (members : List Member) (history : List Code
   pub shows : Shows home.given.slots (state_of (map (λ x. x.value) words.cells.items) its.closes.seen.ranges)
       (after_all (setting_of home.given) (first_library home.given) (map told history))
 
--- the least number that is missing; then the least cell whose lock is held
+-- the least number that is missing; then the least cell whose lock is held, by a session that isn't handed in
 abbrev pub Finishes : Home → List Member → Result (List CodeEntry × Listed) FinishError → Type 0
 Finishes home members (Ok made) = IsFinished home members made.0 made.1
 Finishes home members (Err (Missing n)) =
     (words : ClosedWords) × AreItsWords home members words × IsMissing members words n
     × ((m : ℕ) → m < n → IsMissing members words m → ⊥)
 Finishes home members (Err (Held c)) =
-    (words : ClosedWords) × AreItsWords home members words × ((n : ℕ) → IsMissing members words n → ⊥) × IsHeld words c
-    × ((d : ℕ) → d < c → IsHeld words d → ⊥)
+    (words : ClosedWords) × (its : AreItsWords home members words) × ((n : ℕ) → IsMissing members words n → ⊥) × IsHeld words c
+    × ((d : ℕ) → d < c → IsHeld words d → ⊥) × IsHeldByAnother home members words its c
 Finishes home members (Err NoMemory) = Unit {0}

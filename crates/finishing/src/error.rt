@@ -9,7 +9,7 @@ pub enum FinishError {
     /// This number, from 1, was drawn by no session that was handed in; it is the least.
     #[error("missing {0}")]
     Missing(u64),
-    /// The lock of this cell, from 0, is held; it is the least.
+    /// The lock of this cell, from 0, is held; it is the least. A session that was not handed in holds it, in the middle of a run.
     #[error("held {0}")]
     Held(usize),
     /// Memory ran out.

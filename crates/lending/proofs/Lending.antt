@@ -1,11 +1,12 @@
 -- A run of a session goes on: what is so of it at all times stays so, and it agrees with some state of its library.
-use Rattle.std.proofs.Common.{◌≡◌, ℕ, ◌+◌, ◌/◌, ◌≤◌, inl, inr, Bool, true, false, is_some, Option, Some, None, List, ◌∷◌, length}
-use Rattle.std.proofs.Common.{refl, sym, ap, ◌∙◌, subst, min}
+use Rattle.std.proofs.Common.{◌≡◌, ℕ, ◌+◌, ◌/◌, ◌%◌, ◌<◌, ◌≤◌, arith, inl, inr, Bool, true, false, is_some, Option, Some, None, List, ◌∷◌, length}
+use Rattle.std.proofs.Common.{refl, sym, ap, ◌∙◌, subst, min, eq-eqb, ◌==◌, if◌then◌else◌}
 use Rattle.std.specs.Prelude.{Result, Ok, Err, OnOk, OnErr}
 use Rattle.std.specs.FinMap.{insert}
 use mathlib.Core.Logic.{dite}
 use native.Mathlib.Decide.{ℕ_discrete}
 use Rattle.tlcore.proofs.Growth.{WasWritten-kept}
+use Rattle.ranges.specs.Pairs.{Pairs, written}
 use Rattle.ranges.specs.Ranges.{Has, Names}
 use Rattle.ranges.proofs.Grown.{names_grow}
 use Rattle.tlwords.specs.declared.log.Slot.{Slot}
@@ -13,8 +14,8 @@ use Rattle.tlwords.specs.declared.mode.Mode.{Mode}
 use Rattle.tlwords.specs.declared.mode.Mode.TheVariants.{Reading, Writing}
 use Rattle.tlwords.specs.declared.outcome.Conflict.{Conflict}
 use Rattle.tlwords.specs.Seen.{Seen, SeenGrows}
-use Rattle.tlwords.specs.Known.{Home, Going, Stands}
-use Rattle.tlwords.specs.Runs.{word_seen, value_kept, was_read, HasKept}
+use Rattle.tlwords.specs.Known.{Home, Going, Stands, word_told}
+use Rattle.tlwords.specs.Runs.{word_seen, value_kept, was_read, HasKept, HasCause}
 use Rattle.tlwords.specs.Commits.{writes_kept, HasForgotten}
 use Rattle.tlwords.specs.Calls.{Begins, HasRead, HasStopped, HasLoaded, HasStaged, IsRefused, Notes}
 use Rattle.tlwords.proofs.Modes.{read_room}
@@ -31,7 +32,7 @@ use Rattle.lawful.specs.History.{library_after, state_after}
 use Rattle.lawful.specs.Laws.{IsPassOn}
 use Rattle.lawful.proofs.Standing.{runs_suit}
 use Rattle.lending.specs.declared.live.Live.TheInside.{Inside}
-use Rattle.lending.specs.Lent.{Pass, Lending, sight_of, Agrees, HasMet, IsLent}
+use Rattle.lending.specs.Lent.{Pass, Lending, sight_of, Agrees, HasMet, IsLent, FindsNone}
 use Rattle.lending.proofs.Kept.{has_kept, kept_has, blank_writes, same_writes}
 
 -- ---- it agrees with some state
@@ -85,8 +86,9 @@ module _ (g : Given) (k : Pass) (stage : Staged) (mode : Mode) (may : Bool) (r :
         on = on;
         since = ap (λ (x : Going Given Note). x.known) b.is ∙ (λ j. let z : Pass = record k {
           seen = r.known.seen;
-          runs = k.runs + 1;
+          clocks = r.place ∷ k.clocks;
           looked = sym (ap (λ (x : Going Given Note). x.known.looked) b.is) j;
+          found = sym (ap (λ (x : Going Given Note). x.known.found) b.is) j;
           full = sym (ap (λ (x : Going Given Note). x.known.full) b.is) j;
           taken = sym (ap (λ (x : Going Given Note). x.known.taken) b.is) j;
           added = sym (ap (λ (x : Going Given Note). x.known.added) b.is) j;
@@ -101,7 +103,10 @@ module _ (g : Given) (k : Pass) (stage : Staged) (mode : Mode) (may : Bool) (r :
         staged = staged_go_on k.seen.ranges r.known.seen.ranges stage b.grows.2 staged;
         over_is = ap (λ (x : Going Given Note). x.over) b.is;
         met = λ c e. absurd cc;
+        clear = λ e c word told.
+            let no : None ≡ Some (c, word) = sym (ap (λ (x : Going Given Note). x.known.looked) b.is) ∙ told in absurd cc;
         full = λ e. absurd cc;
+        unrefused = λ e. ap (λ (x : Going Given Note). x.known.full) b.is;
       }
 
 -- where the pass and what was given are known by other names
@@ -137,6 +142,20 @@ pub noted_writes : (mode : Mode) (slots after : List Slot) (cell word : ℕ) →
 noted_writes mode slots after cell word n =
     same_writes slots after (read_room mode slots after cell word n) (noted_values mode slots after cell word n)
 
+-- the word under which a read has ended is no conflict: it is free, and of a version up to the place
+abbrev NoCause : ℕ → Pairs → Option (ℕ × ℕ) → Type 0
+NoCause place found None = Unit {0}
+NoCause place found (Some p) = (HasCause place p.1 → ⊥) × (written p.0 found ≡ Some p.1)
+
+finds_none : (place c word : ℕ) (found : Pairs) → word % 2 ≡ 0 → word / 2 ≤ place → FindsNone place (Some (c, word)) ((c, word) ∷ found)
+finds_none place c word found free below d other told =
+    let here : written c ((c, word) ∷ found) ≡ Some word = rw (eq-eqb c c refl) refl in
+    subst (NoCause place ((c, word) ∷ found)) told (none, here)
+  where
+    none : HasCause place word → ⊥
+    none (inl odd) = omega (arith, odd, free)
+    none (inr above) = omega (arith, above, below)
+
 -- ---- it goes on
 
 -- the run later, with the same reads, and the same kept of the cells
@@ -155,7 +174,7 @@ abbrev pub read_on : Lending → Seen Note → ℕ → ℕ → ℕ → List Slot
 read_on l seen cell word value slots =
     record l {
       going = record l.going {
-        known = record l.going.known { seen = seen; looked = Some (cell, word) };
+        known = record l.going.known { seen = seen; looked = Some (cell, word); found = (cell, word) ∷ l.going.known.found };
         reads = (cell, value) ∷ l.going.reads;
         slots = slots;
       };
@@ -171,9 +190,9 @@ module _ (l : Lending) (stage : Staged) (over : Option Conflict) (i : IsLent l s
       → SeenGrows l.going.known.seen seen → Stands library_terms (later l seen looked full taken added now no_room).going
       → AreStaged seen.ranges next → now ≡ ended
       → ((c : Conflict) → ended ≡ Some c → HasMet c (later l seen looked full taken added now no_room).going)
-      → (no_room ≡ true → (is_some full ≡ true) × (l.may_stage ≡ true))
-      → IsLent (later l seen looked full taken added now no_room) next ended
-  later_lent seen looked full taken added now no_room next ended grows stands staged over_is met full_is =
+      → (ended ≡ None → FindsNone l.going.place looked l.going.known.found) → (no_room ≡ true → (is_some full ≡ true) × (l.may_stage ≡ true))
+      → (no_room ≡ false → full ≡ l.began.full) → IsLent (later l seen looked full taken added now no_room) next ended
+  later_lent seen looked full taken added now no_room next ended grows stands staged over_is met clear full_is unrefused =
       record {
         on = i.on;
         since = ap (λ (k : Pass). let z : Pass =
@@ -188,7 +207,9 @@ module _ (l : Lending) (stage : Staged) (over : Option Conflict) (i : IsLent l s
         staged = staged;
         over_is = over_is;
         met = met;
+        clear = clear;
         full = full_is;
+        unrefused = unrefused;
       }
 
   -- what it met it has met, while it looks no more
@@ -200,7 +221,7 @@ module _ (l : Lending) (stage : Staged) (over : Option Conflict) (i : IsLent l s
         looked = m.looked;
         written = WasWritten-kept l.going.known.seen.history seen.history c.cell (c.word / 2) grows.0 m.written;
         cause = m.cause;
-        untold = m.untold;
+        before = m.before;
       }
 
   -- the stage goes on
@@ -214,7 +235,7 @@ module _ (l : Lending) (stage : Staged) (over : Option Conflict) (i : IsLent l s
       let seen = r.known.seen in
       subst (λ (x : Going Given Note). IsLent (record l { going = x }) stage over) (sym h.is)
       (later_lent seen k.looked k.full k.taken k.added l.going.over l.full stage over h.grows (subst (Stands library_terms) h.is h.stands)
-      (staged_on seen h.grows) i.over_is (met_on seen k.full k.taken k.added l.full h.grows) i.full)
+      (staged_on seen h.grows) i.over_is (met_on seen k.full k.taken k.added l.full h.grows) i.clear i.full i.unrefused)
 
   -- words were staged
   stages_lent : (words : List ℕ) (start : ℕ) (r : Going Given Note) (next : Staged) → HasStaged library_terms words start l.going r
@@ -225,7 +246,7 @@ module _ (l : Lending) (stage : Staged) (over : Option Conflict) (i : IsLent l s
       let taken = k.taken + length words in
       subst (λ (x : Going Given Note). IsLent (record l { going = x }) next over) (sym h.is)
       (later_lent seen k.looked k.full taken k.added l.going.over l.full next over h.grows (subst (Stands library_terms) h.is h.stands)
-      staged i.over_is (met_on seen k.full taken k.added l.full h.grows) i.full)
+      staged i.over_is (met_on seen k.full taken k.added l.full h.grows) i.clear i.full i.unrefused)
 
   noted_staged : (words : List ℕ) (start : ℕ) (r : Going Given Note) → HasStaged library_terms words start l.going r
       → AreStaged r.known.seen.ranges (insert stage words start)
@@ -263,7 +284,9 @@ module _ (l : Lending) (stage : Staged) (over : Option Conflict) (i : IsLent l s
         staged = i.staged;
         over_is = i.over_is;
         met = i.met;
+        clear = i.clear;
         full = λ t. (ap is_some e, may);
+        unrefused = λ t. absurd cc;
       })
   refused_lent count r may (inr (tail, h)) =
       let k = l.going.known in
@@ -272,7 +295,7 @@ module _ (l : Lending) (stage : Staged) (over : Option Conflict) (i : IsLent l s
       subst (λ (x : Going Given Note). IsLent (record l { going = x; full = true }) stage over) (sym h.is)
       (later_lent seen k.looked (Some (tail, count)) k.taken added l.going.over true stage over h.grows
       (subst (Stands library_terms) h.is h.stands) (staged_on seen h.grows) i.over_is
-      (met_on seen (Some (tail, count)) k.taken added true h.grows) (λ t. (refl, may)))
+      (met_on seen (Some (tail, count)) k.taken added true h.grows) i.clear (λ t. (refl, may)) (λ t. absurd cc))
 
   -- a read met a conflict
   pub stops_lent : (cell : ℕ) (met : Conflict) (r : Going Given Note) → HasStopped library_terms cell met l.going r
@@ -285,13 +308,14 @@ module _ (l : Lending) (stage : Staged) (over : Option Conflict) (i : IsLent l s
         looked = λ j. Some (sym h.cell_is j, met.word);
         written = h.finds.written;
         cause = h.cause;
-        untold = λ m. sym h.finds.before ∙ i.unnoted m met.cell;
+        before = h.finds.told ∙ ap (λ (x : Going Given Note). word_told l.going.mode met.cell x.known.found) h.is;
       } in
       subst (λ (x : Going Given Note). IsLent (record l { going = x }) stage (Some met)) (sym h.is)
       (later_lent seen looked k.full k.taken k.added (Some met) l.full stage (Some met) h.grows
       (subst (Stands library_terms) h.is h.stands) (staged_on seen h.grows) refl
       (λ c e. let same : met ≡ c = cc in
-      subst (λ (x : Conflict). HasMet x (later l seen looked k.full k.taken k.added (Some met) l.full).going) same has) i.full)
+      subst (λ (x : Conflict). HasMet x (later l seen looked k.full k.taken k.added (Some met) l.full).going) same has)
+      (λ e. absurd cc) i.full i.unrefused)
 
   -- a cell was read
   module _ (cell value : ℕ) (r : Going Given Note) (h : HasRead library_terms cell value l.going r) where
@@ -307,7 +331,8 @@ module _ (l : Lending) (stage : Staged) (over : Option Conflict) (i : IsLent l s
     read_lent none noted =
         record {
           on = i.on;
-          since = ap (λ (k : Pass). let z : Pass = record k { seen = r.known.seen; looked = Some (cell, h.word) } in z) i.since;
+          since = ap (λ (k : Pass). let z : Pass = record k { seen = r.known.seen; looked = Some (cell, h.word); found = (cell, h.word) ∷ l.going.known.found } in z)
+              i.since;
           grows = seen_trans l.began.seen l.going.known.seen r.known.seen i.grows h.grows;
           placed = i.placed;
           stands = subst (Stands library_terms) h.is h.stands;
@@ -321,7 +346,9 @@ module _ (l : Lending) (stage : Staged) (over : Option Conflict) (i : IsLent l s
           staged = staged_on r.known.seen h.grows;
           over_is = i.over_is;
           met = λ c e. let a : None ≡ Some c = sym none ∙ (i.over_is ∙ e) in absurd cc;
+          clear = λ e. finds_none l.going.place cell h.word l.going.known.found h.free h.below;
           full = i.full;
+          unrefused = i.unrefused;
         }
 
     pub reads_lent : l.going.over ≡ None → (l.going.mode ≡ Writing → was_read r.slots cell ≡ true)
@@ -350,8 +377,10 @@ module _ (l : Lending) (stage : Staged) (over : Option Conflict) (i : IsLent l s
             (λ n. i.named c v (kept_has l.going.slots c v (sym (k.2 c n) ∙ has_kept slots c v has)) ranged);
         staged = i.staged;
         over_is = i.over_is;
-        met = λ c e. let m = i.met c e in record { looked = m.looked; written = m.written; cause = m.cause; untold = m.untold };
+        met = λ c e. let m = i.met c e in record { looked = m.looked; written = m.written; cause = m.cause; before = m.before };
+        clear = i.clear;
         full = i.full;
+        unrefused = i.unrefused;
       }
 
   pub writes_lent : (cell value : ℕ) (r : Going Given Note) → HasKept l.going.slots r.slots cell value
@@ -375,8 +404,10 @@ module _ (l : Lending) (stage : Staged) (over : Option Conflict) (i : IsLent l s
         named = λ c v has ranged. absurd (subst (Has (c, v)) k.3 has);
         staged = i.staged;
         over_is = i.over_is;
-        met = λ c e. let m = i.met c e in record { looked = m.looked; written = m.written; cause = m.cause; untold = m.untold };
+        met = λ c e. let m = i.met c e in record { looked = m.looked; written = m.written; cause = m.cause; before = m.before };
+        clear = i.clear;
         full = i.full;
+        unrefused = i.unrefused;
       }
 
   pub forgets_lent : (r : Going Given Note) → HasForgotten l.going.slots r.slots → r ≡ record l.going { slots = r.slots }

@@ -1,12 +1,13 @@
 -- Of the code's inside, apart from the rules: a run on a library's words as commands see it, and what is so of it at all times.
-use Rattle.std.specs.Prelude.{◌≡◌, ℕ, ◌+◌, ◌/◌, ◌≤◌, Bool, true, false, is_some, Option, Some, None, List, [], length}
+use Rattle.std.specs.Prelude.{◌≡◌, ℕ, ◌/◌, ◌≤◌, Bool, true, false, is_some, Option, Some, None, List, [], ◌∷◌, length}
 use Rattle.tlcore.specs.History.{WasWritten}
 use Rattle.ranges.specs.Ranges.{Has, Names}
+use Rattle.ranges.specs.Pairs.{Pairs, written}
 use Rattle.tlwords.specs.declared.mode.Mode.{Mode}
 use Rattle.tlwords.specs.declared.mode.Mode.TheVariants.{Reading, Writing}
 use Rattle.tlwords.specs.declared.outcome.Conflict.{Conflict}
 use Rattle.tlwords.specs.Seen.{SeenGrows}
-use Rattle.tlwords.specs.Known.{Known, Going, Stands}
+use Rattle.tlwords.specs.Known.{Known, Going, Stands, word_told}
 use Rattle.tlwords.specs.Runs.{word_seen, value_kept, was_read, HasCause}
 use Rattle.tlwords.specs.Commits.{writes_kept}
 use Rattle.bodystore.specs.Stages.{Staged, AreStaged}
@@ -60,21 +61,28 @@ pub record Lent : Type 0 where
   pub run : Lending
   pub agrees : ∥ Agrees run ∥₁
 
--- the run has met this conflict by a read. A run that only reads tells no word that it had seen before
+-- the word that the last look found, if there was one, is no conflict of a run at the place: it shows the lock free, and a version up to there,
+-- and it is the one under which the newest read of the cell ended
+abbrev pub FindsNone : ℕ → Option (ℕ × ℕ) → Pairs → Type 0
+FindsNone place looked found =
+    (c word : ℕ) → looked ≡ Some (c, word) → (HasCause place word → ⊥) × (written c found ≡ Some word)
+
+-- the run has met this conflict by a read. The word before is the one that its newest read of the cell found; a run that only reads tells none
 pub record HasMet (met : Conflict) (g : Going Given Note) : Type 0 where
   pub looked : g.known.looked ≡ Some (met.cell, met.word)
   pub written : WasWritten g.known.seen.history met.cell (met.word / 2)
   pub cause : HasCause g.place met.word
-  pub untold : g.mode ≡ Reading → met.before ≡ None
+  pub before : met.before ≡ word_told g.mode met.cell g.known.found
 
--- what is so of the run at all times: of its pass nothing is lost or added since it began but what it has seen, its loads of the clock and its
--- stagings
+-- what is so of the run at all times: of its pass nothing is lost or added since it began but what it has seen, its load of the clock, which
+-- found its place, its looks, its reads and its stagings
 pub record IsLent (l : Lending) (stage : Staged) (over : Option Conflict) : Type 0 where
   pub on : IsPassOn l.given l.began
   pub since : l.going.known ≡ record l.began {
     seen = l.going.known.seen;
-    runs = l.began.runs + 1;
+    clocks = l.going.place ∷ l.began.clocks;
     looked = l.going.known.looked;
+    found = l.going.known.found;
     full = l.going.known.full;
     taken = l.going.known.taken;
     added = l.going.known.added;
@@ -91,7 +99,9 @@ pub record IsLent (l : Lending) (stage : Staged) (over : Option Conflict) : Type
   pub staged : AreStaged l.going.known.seen.ranges stage
   pub over_is : l.going.over ≡ over
   pub met : (k : Conflict) → over ≡ Some k → HasMet k l.going
+  pub clear : over ≡ None → FindsNone l.going.place l.going.known.looked l.going.known.found
   pub full : l.full ≡ true → (is_some l.going.known.full ≡ true) × (l.may_stage ≡ true)
+  pub unrefused : l.full ≡ false → l.going.known.full ≡ l.began.full
 
 -- so with some stage, and with the conflict that ended the run, if one did
 abbrev pub IsLending : Lending → Type 0

@@ -4,7 +4,7 @@ use Rattle.std.proofs.lemmas.Bool.{both_ways}
 use Rattle.std.proofs.lemmas.Option.{none-some}
 use Rattle.tlcore.specs.History.{Will, deed, value, version}
 use Rattle.tlcore.specs.Seats.{Checking, Held, Idle, Loaded, Looked, Place, Reading, Seat, Storing, Taking, all_below, find_held, is_held, is_nil, is_settled, passes, settled_below, stored, without}
-use Rattle.tlcore.specs.Machine.{Action, Begin, Cell, World, begun, given, next, placed, with_seat}
+use Rattle.tlcore.specs.Machine.{Action, Begin, Cell, World, begun, given, next, placed, saw, with_seat}
 use Rattle.tlcore.specs.Schedules.{Event, run}
 use Rattle.tlcore.specs.Conflicts.{ConflictsHaveCause, HeldByOther, HeldMeanwhile, NoBegin, cell_of}
 use Rattle.tlcore.specs.Invariant.{Consistent, Holds, Invariant, IsOld}
@@ -79,12 +79,12 @@ module _ (o : List ℕ) (w : World) (s : ℕ) (t : Seat) (I : Consistent o w) (e
 
   row_cause : (a : Action) (v : World) (u : Seat) → Row w s t a v → slice_get v.seats s ≡ Some u → u.conflicted ≡ true → Cause a
   row_cause a v u (begins p) f g = no_conflict (begun w t) u a refl f g
-  row_cause a v u (looks {c} {x} p h m) f g = no_conflict (placed t (Looked c x.lock)) u a calm f g
+  row_cause a v u (looks {c} {x} p h m) f g = no_conflict (placed (saw t c x.lock) (Looked c x.lock)) u a calm f g
   row_cause a v u (look_conflicts {c} {x} p h m) f g =
       (c, refl, λ L b. stale L c x (active_at L c Reading p b) h (λ k i. none_held o w s t I e Reading p (λ y. y) c (k, i)) m)
   row_cause a v u (loads {c} {word} {x} p h) f g = no_conflict (placed t (Loaded c word x.value)) u a calm f g
   row_cause a v u (relooks {c} {word} {v = y} {x} p h m) f g =
-      no_conflict (record t { place = Reading; reads = record { cell = c; word = word; value = y } ∷ t.reads }) u a calm f g
+      no_conflict (record (saw t c x.lock) { place = Reading; reads = record { cell = c; word = word; value = y } ∷ t.reads }) u a calm f g
   row_cause a v u (relook_conflicts {c} {word} {v = y} {x} p h m) f g = (c, refl, go)
     where
       go : (L : ℕ) → Active L w.cells t c t.place → ⊥
@@ -93,7 +93,7 @@ module _ (o : List ℕ) (w : World) (s : ℕ) (t : Seat) (I : Consistent o w) (e
           other_numbers x.lock word m
           (st.0.lock x h (λ k i. none_held o w s t I e (Loaded c word y) p (λ q. q.0) c (k, i)) ∙ sym (st.1 refl))
   row_cause a v u (takes {c} {v = y} {r} {x} p i h m) f g =
-      no_conflict (record t { place = Taking; held = record { cell = c; word = r.word; value = y; stored = false } ∷ t.held }) u a calm f g
+      no_conflict (record (saw t c x.lock) { place = Taking; held = record { cell = c; word = r.word; value = y; stored = false } ∷ t.held }) u a calm f g
   row_cause a v u (take_conflicts {c} {r = r} {x} p i h m) f g = (c, refl, λ L b. go L b p)
     where
       at_last : (L : ℕ) → Steady L w.cells t.rv t.held t.reads c → ((k : Held) → find_held c t.held ≡ Some k → ⊥) → ⊥
@@ -103,7 +103,7 @@ module _ (o : List ℕ) (w : World) (s : ℕ) (t : Seat) (I : Consistent o w) (e
       go L b (inl q) = at_last L (active_at L c Reading q b) (λ k j. none_held o w s t I e Reading q (λ y. y) c (k, j))
       go L b (inr q) = at_last L (active_at L c Taking q.0 b) (λ k j. below_free c t.held k q.1 j)
   row_cause a v u (draws p) f g = no_conflict (placed t (Checking w.clock 0)) u a calm f g
-  row_cause a v u (checks {i} {u = n} {c} p d h m) f g = no_conflict (placed t (Checking i (suc c))) u a calm f g
+  row_cause a v u (checks {i} {u = n} {c} {x} p d h m) f g = no_conflict (placed (saw t c x.lock) (Checking i (suc c))) u a calm f g
   row_cause a v u (check_conflicts {i} {u = n} {c} {x} p d h m) f g =
       (c, refl, λ L b. stale L c x (active_at L c (Checking i n) p b) h (λ k j. due_free c n t.held (settled_below c t.held n t.reads) k d j) m)
   row_cause a v u (stores {i} {c} p h j) f g = no_conflict (record t { place = Storing i; held = stored c t.held }) u a calm f g

@@ -55,19 +55,19 @@ module _ (o : List ℕ) (w : World) (s : ℕ) (t : Seat) (I : Consistent o w) (e
   pub row_keeps : (a : Action) (v : World) → Row w s t a v → Kept o w v
   row_keeps a v (begins p) = same (with_seat w s (begun w t)) refl (begin_keeps o w s t I e)
   row_keeps a v (looks {c} {x} p f m) = same v refl (looked_keeps o w s t c x I e (empty_at Reading p (λ y. y)) f m)
-  row_keeps a v (look_conflicts p f m) = same v refl (conflict_keeps o w s t I e (empty_at Reading p (λ y. y)))
+  row_keeps a v (look_conflicts {c} {x} p f m) = same v refl (conflict_keeps o w s t c x.lock I e (empty_at Reading p (λ y. y)))
   row_keeps a v (loads {c} {word} {x} p f) = same v refl (load_keeps o w s t c word x I e p f)
   row_keeps a v (relooks {c} {word} {v = y} {x} p f m) = same v refl (relooked_keeps o w s t c word y x I e p f m)
-  row_keeps a v (relook_conflicts {c} {word} {v = y} p f m) =
-      same v refl (conflict_keeps o w s t I e (empty_at (Loaded c word y) p (λ q. q.0)))
+  row_keeps a v (relook_conflicts {c} {word} {v = y} {x} p f m) =
+      same v refl (conflict_keeps o w s t c x.lock I e (empty_at (Loaded c word y) p (λ q. q.0)))
   row_keeps a v (takes {c} {v = y} {r} {x} p f g m) =
       same v refl (taken_keeps o w s t c y r.word x I e (free_of c p).0 (free_of c p).1
       (find_read-ok o w.history t.rv c t.reads r (I.seats s t e).reads f).1 g (equal_numbers x.lock r.word m))
-  row_keeps a v (take_conflicts {c} p f g m) = same v refl (lost_keeps o w s t I e (free_of c p).0 (free_of c p).1)
+  row_keeps a v (take_conflicts {c} {x = x} p f g m) = same v refl (lost_keeps o w s t c x.lock I e (free_of c p).0 (free_of c p).1)
   row_keeps a v (draws p) =
       (drawn_keeps o w s t I e p, Grows-append w.history (record { status = Open; reads = reads_of t.reads; writes = writes_of t.held }))
   row_keeps a v (checks {i} {u} {c} {x} p d f m) = same v refl (checked_keeps o w s t i u c x I e p d f m)
-  row_keeps a v (check_conflicts {i} {u} p d f m) = same v refl (check_fails_keeps o w s t i u I e p)
+  row_keeps a v (check_conflicts {i} {u} {c} {x} p d f m) = same v refl (check_fails_keeps o w s t i u I e p c x.lock)
   row_keeps a v (stores {i} {c} {k} {x} (inl p) f g) = (
     first_store_keeps o w s t i p.0 c k x I e p.1 (drawn_one o w s t i p.0 I e p.1 p.2) f g,
     first_grows o w s t i p.0 c k x I e p.1

@@ -4,7 +4,7 @@ use Rattle.std.proofs.Common.{◌==◌, ◌∙◌, ◌∷◌, ◌≡◌, ◌≢�
 use Rattle.tlcore.specs.History.{Entry, Void, settle}
 use Rattle.tlcore.specs.Seats.{Checking, Failing, Held, Idle, Loaded, Looked, Place, Reading, Seat, Storing, Taking, Voiding, find_held}
 use Rattle.tlcore.specs.Seats.{is_nil, stored, without}
-use Rattle.tlcore.specs.Machine.{Action, Cell, World, begun, conflict, placed, with_seat}
+use Rattle.tlcore.specs.Machine.{Action, Cell, World, begun, conflict, placed, saw, with_seat}
 use Rattle.tlcore.specs.Invariant.{Consistent, HeldOk, Holds, LockedAreHeld, PlaceOk}
 use Rattle.tlcore.proofs.Lists.{equal_numbers, get-set_cases, get-set_other, get-set_same, known, odd_even, other_numbers, same_or_not}
 use Rattle.tlcore.proofs.Quiet.{empty_held}
@@ -76,39 +76,39 @@ module _ (o : List ℕ) (w : World) (s : ℕ) (t : Seat) (I : Consistent o w) (e
   pub row_moves : (a : Action) (v : World) → Row w s t a v → Moves w s t v
   row_moves a v (begins (inl p)) = seat_moves (begun w t) (λ c h. absurd (none_held Idle p (λ y. y) c h))
   row_moves a v (begins (inr p)) = seat_moves (begun w t) (λ c h. absurd (none_held Reading p (λ y. y) c h))
-  row_moves a v (looks {c} {x} p f m) = seat_moves (placed t (Looked c x.lock)) (λ d h. h)
-  row_moves a v (look_conflicts p f m) = seat_moves (conflict t Idle) (λ d h. h)
+  row_moves a v (looks {c} {x} p f m) = seat_moves (placed (saw t c x.lock) (Looked c x.lock)) (λ d h. h)
+  row_moves a v (look_conflicts {c} {x} p f m) = seat_moves (conflict (saw t c x.lock) Idle) (λ d h. h)
   row_moves a v (loads {c} {word} {x} p f) = seat_moves (placed t (Loaded c word x.value)) (λ d h. h)
-  row_moves a v (relooks {c} {word} {v = u} p f m) =
-      seat_moves (record t { place = Reading; reads = record { cell = c; word = word; value = u } ∷ t.reads }) (λ d h. h)
-  row_moves a v (relook_conflicts p f m) = seat_moves (conflict t Idle) (λ d h. h)
+  row_moves a v (relooks {c} {word} {v = u} {x} p f m) =
+      seat_moves (record (saw t c x.lock) { place = Reading; reads = record { cell = c; word = word; value = u } ∷ t.reads }) (λ d h. h)
+  row_moves a v (relook_conflicts {c} {x = x} p f m) = seat_moves (conflict (saw t c x.lock) Idle) (λ d h. h)
   row_moves a v (takes {c} {v = u} {r} {x} p g f m) = (
-    record t { place = Taking; held = record { cell = c; word = r.word; value = u; stored = false } ∷ t.held },
+    record (saw t c x.lock) { place = Taking; held = record { cell = c; word = r.word; value = u; stored = false } ∷ t.held },
     refl,
     λ d y h. go d y (get-set_cases w.cells c d (record x { lock = suc r.word }) y h),
   )
     where
       z : Seat
-      z = record t { place = Taking; held = record { cell = c; word = r.word; value = u; stored = false } ∷ t.held }
+      z = record (saw t c x.lock) { place = Taking; held = record { cell = c; word = r.word; value = u; stored = false } ∷ t.held }
 
       more : (d : ℕ) → Holds t d → ((c == d) ≡ true) ⊎ ((c == d) ≡ false)
-          → Holds (record t { place = Taking; held = record { cell = c; word = r.word; value = u; stored = false } ∷ t.held }) d
+          → Holds (record (saw t c x.lock) { place = Taking; held = record { cell = c; word = r.word; value = u; stored = false } ∷ t.held }) d
       more d h (inl b) = (record { cell = c; word = r.word; value = u; stored = false }, rw b refl)
       more d h (inr b) = (h.0, rw b h.1)
 
       here : (d : ℕ) → d ≡ c → ((c == d) ≡ true) ⊎ ((c == d) ≡ false)
-          → Holds (record t { place = Taking; held = record { cell = c; word = r.word; value = u; stored = false } ∷ t.held }) d
+          → Holds (record (saw t c x.lock) { place = Taking; held = record { cell = c; word = r.word; value = u; stored = false } ∷ t.held }) d
       here d n (inl b) = (record { cell = c; word = r.word; value = u; stored = false }, rw b refl)
       here d n (inr b) = absurd (other_numbers c d b (sym n))
 
       go : (d : ℕ) (y : Cell) → ((d ≡ c) × (y ≡ record x { lock = suc r.word })) ⊎ ((d ≢ c) × (slice_get w.cells d ≡ Some y))
-          → CellMoves w t (record t { place = Taking; held = record { cell = c; word = r.word; value = u; stored = false } ∷ t.held }) d y
+          → CellMoves w t (record (saw t c x.lock) { place = Taking; held = record { cell = c; word = r.word; value = u; stored = false } ∷ t.held }) d y
       go d y (inl q) = inr (inl (here d q.0 (known (c == d))))
       go d y (inr q) = inl (y, q.1, refl, λ h. more d h (known (c == d)))
-  row_moves a v (take_conflicts p g f m) = seat_moves (conflict t (if is_nil t.held then Idle else Failing)) (λ d h. h)
+  row_moves a v (take_conflicts {c} {x = x} p g f m) = seat_moves (conflict (saw t c x.lock) (if is_nil t.held then Idle else Failing)) (λ d h. h)
   row_moves a v (draws p) = (placed t (Checking w.clock 0), refl, λ c y g. inl (y, g, refl, λ h. h))
-  row_moves a v (checks {i} {u} {c} p d f m) = seat_moves (placed t (Checking i (suc c))) (λ d h. h)
-  row_moves a v (check_conflicts {i} p d f m) = seat_moves (conflict t (Voiding i)) (λ d h. h)
+  row_moves a v (checks {i} {u} {c} {x} p d f m) = seat_moves (placed (saw t c x.lock) (Checking i (suc c))) (λ d h. h)
+  row_moves a v (check_conflicts {i} {c = c} {x} p d f m) = seat_moves (conflict (saw t c x.lock) (Voiding i)) (λ d h. h)
   row_moves a v (stores {i} {c} {k} {x} p g f) = (
     record t { place = Storing i; held = stored c t.held },
     refl,

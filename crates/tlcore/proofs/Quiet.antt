@@ -4,7 +4,7 @@ use Rattle.std.proofs.Common.{subst, suc, sym, true, ℕ, ◌*◌, ◌<◌, ◌=
 use Rattle.tlcore.specs.History.{Done, Entry, IsOne, Open, Will, deed, value, version}
 use Rattle.tlcore.specs.Seats.{Checking, Held, Idle, Loaded, Looked, Place, Read, Reading, Seat, Voiding, find_held, is_due, is_held}
 use Rattle.tlcore.specs.Seats.{is_settled, number_at, passes, settled_below}
-use Rattle.tlcore.specs.Machine.{Cell, World, begun, conflict, placed, with_seat}
+use Rattle.tlcore.specs.Machine.{Cell, World, begun, conflict, placed, saw, with_seat}
 use Rattle.tlcore.specs.Invariant.{CheckingOk, Consistent, HeldOk, HeldShows, IsOld, PlaceOk, ReadsOk, SeatOk, SettledOk, done_at}
 use Rattle.tlcore.proofs.AfterEvent.{Consistent-seat}
 use Rattle.tlcore.proofs.Lists.{at_most_numbers, both_left, both_right, equal_numbers, get_within, less_numbers, one_of}
@@ -37,17 +37,18 @@ begin_keeps o w s t I e =
     refl refl
 
 -- a conflict where nothing is held
-pub conflict_keeps : (o : List ℕ) (w : World) (s : ℕ) (t : Seat) → Consistent o w → slice_get w.seats s ≡ Some t → t.held ≡ []
-    → Consistent o (with_seat w s (conflict t Idle))
-conflict_keeps o w s t I e n =
+pub conflict_keeps : (o : List ℕ) (w : World) (s : ℕ) (t : Seat) (c word : ℕ) → Consistent o w → slice_get w.seats s ≡ Some t
+    → t.held ≡ [] → Consistent o (with_seat w s (conflict (saw t c word) Idle))
+conflict_keeps o w s t c word I e n =
     let q : SeatOk o w.cells w.history t = I.seats s t e in
-    Consistent-empty o w s t (conflict t Idle) I e
-    (seat_empty o w.cells w.history (conflict t Idle) n q.rv q.reads n)
+    Consistent-empty o w s t (conflict (saw t c word) Idle) I e
+    (seat_empty o w.cells w.history (conflict (saw t c word) Idle) n q.rv q.reads n)
     n refl
 
 -- a look that passes
 pub looked_keeps : (o : List ℕ) (w : World) (s : ℕ) (t : Seat) (c : ℕ) (x : Cell) → Consistent o w → slice_get w.seats s ≡ Some t
-    → t.held ≡ [] → slice_get w.cells c ≡ Some x → passes x.lock t.rv ≡ true → Consistent o (with_seat w s (placed t (Looked c x.lock)))
+    → t.held ≡ [] → slice_get w.cells c ≡ Some x → passes x.lock t.rv ≡ true
+    → Consistent o (with_seat w s (placed (saw t c x.lock) (Looked c x.lock)))
 looked_keeps o w s t c x I e n f p =
     let q : SeatOk o w.cells w.history t = I.seats s t e in
     let old : IsOld x.lock t.rv = passes-old x.lock t.rv p in
@@ -55,8 +56,8 @@ looked_keeps o w s t c x I e n f p =
     I.cells c old.0 x f old.1 in
     let shows : x.lock ≡ 2 * version w.history c → (y : Cell) → slice_get w.cells c ≡ Some y → y.value ≡ value o w.history c =
     λ r y g. (let j : Some x ≡ Some y = sym f ∙ g in let same : x ≡ y = cc in ap (λ (a : Cell). a.value) (sym same) ∙ b.1) in
-    Consistent-empty o w s t (placed t (Looked c x.lock)) I e
-    (seat_empty o w.cells w.history (placed t (Looked c x.lock)) (n, old, omega (arith, old.1, b.0), shows) q.rv q.reads n)
+    Consistent-empty o w s t (placed (saw t c x.lock) (Looked c x.lock)) I e
+    (seat_empty o w.cells w.history (placed (saw t c x.lock) (Looked c x.lock)) (n, old, omega (arith, old.1, b.0), shows) q.rv q.reads n)
     n refl
 
 -- load
@@ -72,7 +73,7 @@ load_keeps o w s t c word x I e p f =
 -- a second look that finds the same word
 pub relooked_keeps : (o : List ℕ) (w : World) (s : ℕ) (t : Seat) (c word v : ℕ) (x : Cell) → Consistent o w → slice_get w.seats s ≡ Some t
     → t.place ≡ Loaded c word v → slice_get w.cells c ≡ Some x → (x.lock == word) ≡ true
-    → Consistent o (with_seat w s (record t { place = Reading; reads = record { cell = c; word = word; value = v } ∷ t.reads }))
+    → Consistent o (with_seat w s (record (saw t c x.lock) { place = Reading; reads = record { cell = c; word = word; value = v } ∷ t.reads }))
 relooked_keeps o w s t c word v x I e p f m =
     let q : SeatOk o w.cells w.history t = I.seats s t e in
     let r : PlaceOk o w.cells w.history t (Loaded c word v) = rw p at q.place in
@@ -83,8 +84,8 @@ relooked_keeps o w s t c word v x I e p f m =
     let d : v ≡ value o w.history c = r.3 (omega (arith, b.0, old.1, a)) in
     let one : IsOne o w.history t.rv c v =
     subst (λ (y : ℕ). IsOne o w.history t.rv c y) (sym d) (free_is_one o w.cells w.history c t.rv x I.cells f old q.rv) in
-    Consistent-empty o w s t (record t { place = Reading; reads = record { cell = c; word = word; value = v } ∷ t.reads }) I e
-    (seat_empty o w.cells w.history (record t { place = Reading; reads = record { cell = c; word = word; value = v } ∷ t.reads }) r.0 q.rv
+    Consistent-empty o w s t (record (saw t c x.lock) { place = Reading; reads = record { cell = c; word = word; value = v } ∷ t.reads }) I e
+    (seat_empty o w.cells w.history (record (saw t c x.lock) { place = Reading; reads = record { cell = c; word = word; value = v } ∷ t.reads }) r.0 q.rv
     ((r.1, one), q.reads) r.0)
     r.0 refl
 
@@ -102,13 +103,13 @@ held_place o h rv p q c k x d n r =
     }
 
 -- the seat goes on to a place of the same number, and holds the same
-pub Consistent-place : (o : List ℕ) (w : World) (s : ℕ) (t : Seat) (p : Place) (b : Bool) → Consistent o w → slice_get w.seats s ≡ Some t
-    → done_at p ≡ done_at t.place → number_at p ≡ number_at t.place
-    → PlaceOk o w.cells w.history (record t { place = p; conflicted = b }) p
-    → Consistent o (with_seat w s (record t { place = p; conflicted = b }))
-Consistent-place o w s t p b I e d n ok =
+pub Consistent-place : (o : List ℕ) (w : World) (s : ℕ) (t : Seat) (p : Place) (b : Bool) (l : Option (ℕ × ℕ)) → Consistent o w
+    → slice_get w.seats s ≡ Some t → done_at p ≡ done_at t.place → number_at p ≡ number_at t.place
+    → PlaceOk o w.cells w.history (record t { place = p; conflicted = b; looked = l }) p
+    → Consistent o (with_seat w s (record t { place = p; conflicted = b; looked = l }))
+Consistent-place o w s t p b l I e d n ok =
     let q : SeatOk o w.cells w.history t = I.seats s t e in
-    Consistent-seat o w s t (record t { place = p; conflicted = b }) I e
+    Consistent-seat o w s t (record t { place = p; conflicted = b; looked = l }) I e
     (record {
       place = ok;
       rv = q.rv;
@@ -165,7 +166,7 @@ module _ (o : List ℕ) (w : World) (s : ℕ) (t : Seat) (i u : ℕ) (I : Consis
   r = subst (λ (y : Place). PlaceOk o w.cells w.history t y) p q.place
 
   checked : (c : ℕ) (x : Cell) → is_due t u c ≡ true → slice_get w.cells c ≡ Some x → passes x.lock t.rv ≡ true
-      → Consistent o (with_seat w s (placed t (Checking i (suc c))))
+      → Consistent o (with_seat w s (placed (saw t c x.lock) (Checking i (suc c))))
   checked c x due f m =
       let old : IsOld x.lock t.rv = passes-old x.lock t.rv m in
       let b : (old.0 ≡ version w.history c) × (x.value ≡ value o w.history c) × ((j v : ℕ) → deed w.history c j ≡ Will v → ⊥) =
@@ -174,7 +175,7 @@ module _ (o : List ℕ) (w : World) (s : ℕ) (t : Seat) (i u : ℕ) (I : Consis
       let a : t.rv ≤ i = r.after in
       let one : (v : ℕ) → IsOne o w.history t.rv c v → IsOne o w.history i c v =
       λ v k. one_on o w.history c t.rv i v k (omega (arith, b.0, old.2)) a (omega arith) (λ j d y. b.2 j d) in
-      Consistent-place o w s t (Checking i (suc c)) t.conflicted I e (ap done_at (sym p)) (ap number_at (sym p))
+      Consistent-place o w s t (Checking i (suc c)) t.conflicted (Some (c, x.lock)) I e (ap done_at (sym p)) (ap number_at (sym p))
       (record {
         entry = r.entry;
         here = r.here;
@@ -187,9 +188,9 @@ module _ (o : List ℕ) (w : World) (s : ℕ) (t : Seat) (i u : ℕ) (I : Consis
             (both_right (not (is_settled t.held u c)) (settled_below c t.held u t.reads) due) one;
       })
 
-  pub check_fails_keeps : Consistent o (with_seat w s (conflict t (Voiding i)))
-  check_fails_keeps =
-      Consistent-place o w s t (Voiding i) true I e (ap done_at (sym p)) (ap number_at (sym p))
+  pub check_fails_keeps : (c word : ℕ) → Consistent o (with_seat w s (conflict (saw t c word) (Voiding i)))
+  check_fails_keeps c word =
+      Consistent-place o w s t (Voiding i) true (Some (c, word)) I e (ap done_at (sym p)) (ap number_at (sym p))
       (r.entry, r.here, λ d. open_done (sym r.status ∙ d))
     where
       open_done : Open ≡ Done → ⊥
@@ -197,5 +198,5 @@ module _ (o : List ℕ) (w : World) (s : ℕ) (t : Seat) (i u : ℕ) (I : Consis
 
 pub checked_keeps : (o : List ℕ) (w : World) (s : ℕ) (t : Seat) (i u c : ℕ) (x : Cell) → Consistent o w → slice_get w.seats s ≡ Some t
     → t.place ≡ Checking i u → is_due t u c ≡ true → slice_get w.cells c ≡ Some x → passes x.lock t.rv ≡ true
-    → Consistent o (with_seat w s (placed t (Checking i (suc c))))
+    → Consistent o (with_seat w s (placed (saw t c x.lock) (Checking i (suc c))))
 checked_keeps o w s t i u c x I e p d f m = checked o w s t i u I e p c x d f m

@@ -6,7 +6,7 @@ use Rattle.tlcore.specs.History.{Void, settle}
 use Rattle.tlcore.specs.Seats.{Checking, Failing, Held, Idle, Loaded, Looked, Place, Read, Reading, Seat, Storing, Taking, Voiding}
 use Rattle.tlcore.specs.Seats.{all_below, all_settled, find_held, find_read, is_due, is_next, is_nil, passes}
 use Rattle.tlcore.specs.Machine.{Action, Begin, Cell, Check, Draw, Load, Look, Release, Relook, Store, Take, World, act, begun, check}
-use Rattle.tlcore.specs.Machine.{conflict, drawn, given, load, look, next, only_if, placed, release, relook, store, take_cell, taken}
+use Rattle.tlcore.specs.Machine.{conflict, drawn, given, load, look, next, only_if, placed, release, relook, saw, store, take_cell, taken}
 use Rattle.tlcore.specs.Machine.{with_seat}
 use Rattle.tlcore.proofs.Lists.{both_right, equal_numbers, known}
 
@@ -27,25 +27,25 @@ some_keeps P (Some b) v h e = let q : b ≡ v = cc in subst P q h
 pub data Row (w : World) (s : ℕ) (t : Seat) : Action → World → Type 0 where
   begins : (t.place ≡ Idle) ⊎ (t.place ≡ Reading) → Row w s t Begin (with_seat w s (begun w t))
   looks : {c : ℕ} {x : Cell} → t.place ≡ Reading → slice_get w.cells c ≡ Some x → passes x.lock t.rv ≡ true
-      → Row w s t (Look c) (with_seat w s (placed t (Looked c x.lock)))
+      → Row w s t (Look c) (with_seat w s (placed (saw t c x.lock) (Looked c x.lock)))
   look_conflicts : {c : ℕ} {x : Cell} → t.place ≡ Reading → slice_get w.cells c ≡ Some x → passes x.lock t.rv ≡ false
-      → Row w s t (Look c) (with_seat w s (conflict t Idle))
+      → Row w s t (Look c) (with_seat w s (conflict (saw t c x.lock) Idle))
   loads : {c word : ℕ} {x : Cell} → t.place ≡ Looked c word → slice_get w.cells c ≡ Some x → Row w s t (Load c) (load w s t c word x)
   relooks : {c word v : ℕ} {x : Cell} → t.place ≡ Loaded c word v → slice_get w.cells c ≡ Some x → (x.lock == word) ≡ true
-      → Row w s t (Relook c) (with_seat w s (record t { place = Reading; reads = record { cell = c; word = word; value = v } ∷ t.reads }))
+      → Row w s t (Relook c) (with_seat w s (record (saw t c x.lock) { place = Reading; reads = record { cell = c; word = word; value = v } ∷ t.reads }))
   relook_conflicts : {c word v : ℕ} {x : Cell} → t.place ≡ Loaded c word v → slice_get w.cells c ≡ Some x → (x.lock == word) ≡ false
-      → Row w s t (Relook c) (with_seat w s (conflict t Idle))
+      → Row w s t (Relook c) (with_seat w s (conflict (saw t c x.lock) Idle))
   takes : {c v : ℕ} {r : Read} {x : Cell} → (t.place ≡ Reading) ⊎ ((t.place ≡ Taking) × (all_below c t.held ≡ true))
       → find_read c t.reads ≡ Some r → slice_get w.cells c ≡ Some x → (x.lock == r.word) ≡ true
       → Row w s t (Take c v) (taken w s t c v r.word x)
   take_conflicts : {c v : ℕ} {r : Read} {x : Cell} → (t.place ≡ Reading) ⊎ ((t.place ≡ Taking) × (all_below c t.held ≡ true))
       → find_read c t.reads ≡ Some r → slice_get w.cells c ≡ Some x → (x.lock == r.word) ≡ false
-      → Row w s t (Take c v) (with_seat w s (conflict t (if is_nil t.held then Idle else Failing)))
+      → Row w s t (Take c v) (with_seat w s (conflict (saw t c x.lock) (if is_nil t.held then Idle else Failing)))
   draws : t.place ≡ Taking → Row w s t Draw (drawn w s t)
   checks : {i u c : ℕ} {x : Cell} → t.place ≡ Checking i u → is_due t u c ≡ true → slice_get w.cells c ≡ Some x → passes x.lock t.rv ≡ true
-      → Row w s t (Check c) (with_seat w s (placed t (Checking i (suc c))))
+      → Row w s t (Check c) (with_seat w s (placed (saw t c x.lock) (Checking i (suc c))))
   check_conflicts : {i u c : ℕ} {x : Cell} → t.place ≡ Checking i u → is_due t u c ≡ true → slice_get w.cells c ≡ Some x
-      → passes x.lock t.rv ≡ false → Row w s t (Check c) (with_seat w s (conflict t (Voiding i)))
+      → passes x.lock t.rv ≡ false → Row w s t (Check c) (with_seat w s (conflict (saw t c x.lock) (Voiding i)))
   stores : {i c : ℕ} {k : Held} {x : Cell}
       → ((u : ℕ) × (t.place ≡ Checking i u) × ((is_next t i || all_settled t.held u t.reads) ≡ true)) ⊎ (t.place ≡ Storing i)
       → find_held c t.held ≡ Some k → slice_get w.cells c ≡ Some x
@@ -71,10 +71,10 @@ module _ (w : World) (s : ℕ) (t : Seat) where
   check_row : (i u c : ℕ) (x : Cell) → t.place ≡ Checking i u → is_due t u c ≡ true → slice_get w.cells c ≡ Some x
       → (passes x.lock t.rv ≡ true) ⊎ (passes x.lock t.rv ≡ false) → Row w s t (Check c) (check w s t i c x)
   check_row i u c x p d f (inl m) =
-      subst (λ (y : Bool). Row w s t (Check c) (with_seat w s (if y then placed t (Checking i (suc c)) else conflict t (Voiding i))))
+      subst (λ (y : Bool). Row w s t (Check c) (with_seat w s (if y then placed (saw t c x.lock) (Checking i (suc c)) else conflict (saw t c x.lock) (Voiding i))))
       (sym m) (checks p d f m)
   check_row i u c x p d f (inr m) =
-      subst (λ (y : Bool). Row w s t (Check c) (with_seat w s (if y then placed t (Checking i (suc c)) else conflict t (Voiding i))))
+      subst (λ (y : Bool). Row w s t (Check c) (with_seat w s (if y then placed (saw t c x.lock) (Checking i (suc c)) else conflict (saw t c x.lock) (Voiding i))))
       (sym m) (check_conflicts p d f m)
 
   take_row : (c v : ℕ) (r : Read) (x : Cell) → (t.place ≡ Reading) ⊎ ((t.place ≡ Taking) × (all_below c t.held ≡ true))
@@ -82,10 +82,10 @@ module _ (w : World) (s : ℕ) (t : Seat) where
       → ((x.lock == r.word) ≡ true) ⊎ ((x.lock == r.word) ≡ false) → Row w s t (Take c v) (take_cell w s t c v r.word x)
   take_row c v r x p g f (inl m) =
       subst (λ (y : Bool). Row w s t (Take c v) (if y then taken w s t c v r.word x else with_seat w s
-      (conflict t (if is_nil t.held then Idle else Failing)))) (sym m) (takes p g f m)
+      (conflict (saw t c x.lock) (if is_nil t.held then Idle else Failing)))) (sym m) (takes p g f m)
   take_row c v r x p g f (inr m) =
       subst (λ (y : Bool). Row w s t (Take c v) (if y then taken w s t c v r.word x else with_seat w s
-      (conflict t (if is_nil t.held then Idle else Failing)))) (sym m) (take_conflicts p g f m)
+      (conflict (saw t c x.lock) (if is_nil t.held then Idle else Failing)))) (sym m) (take_conflicts p g f m)
 
   take_rows : (c v : ℕ) → (t.place ≡ Reading) ⊎ ((t.place ≡ Taking) × (all_below c t.held ≡ true))
       → IfSome (given (find_read c t.reads) (λ r. given (slice_get w.cells c) (λ x. Some (take_cell w s t c v r.word x))))

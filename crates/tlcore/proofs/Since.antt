@@ -3,7 +3,7 @@ use Rattle.std.proofs.Common.{Bool, List, None, Some, ap, false, if◌then◌els
 use Rattle.std.proofs.Common.{ℕ, ◌*◌, ◌==◌, ◌∙◌, ◌∷◌, ◌≡◌, ◌≢◌, ◌⊎◌}
 use Rattle.tlcore.specs.Seats.{Checking, Failing, Held, Idle, Loaded, Looked, Place, Read, Reading, Seat, Storing, Taking, Voiding}
 use Rattle.tlcore.specs.Seats.{all_below, find_held, find_read, is_nil, stored, without}
-use Rattle.tlcore.specs.Machine.{Action, Begin, Cell, World, conflict, placed}
+use Rattle.tlcore.specs.Machine.{Action, Begin, Cell, World, conflict, placed, saw}
 use Rattle.tlcore.specs.Conflicts.{HeldByOther}
 use Rattle.tlcore.specs.Invariant.{Consistent, IsOld}
 use Rattle.tlcore.proofs.Lists.{equal_numbers, get-set_cases, get-set_same, known, option_known, other_numbers}
@@ -101,17 +101,17 @@ module _ (o : List ℕ) (L : ℕ) (w : World) (s c : ℕ) (t : Seat) (I : Consis
   own_step b v n (begins p) = absurd (n refl)
   own_step b v n (looks {c = d} {x} p f m) =
       let st : Steady L w.cells t.rv t.held t.reads c = at_place Reading p in (
-        placed t (Looked d x.lock),
-        after_seat (placed t (Looked d x.lock)),
+        placed (saw t d x.lock) (Looked d x.lock),
+        after_seat (placed (saw t d x.lock) (Looked d x.lock)),
         (st, λ q. st.lock x (ap (slice_get w.cells) (sym q) ∙ f) (λ k h. none_held o w s t I e Reading p (λ y. y) c (k, h))),
       )
-  own_step b v n (look_conflicts p f m) = (conflict t Idle, after_seat (conflict t Idle), tt)
+  own_step b v n (look_conflicts {c = d} {x} p f m) = (conflict (saw t d x.lock) Idle, after_seat (conflict (saw t d x.lock) Idle), tt)
   own_step b v n (loads {c = d} {word} {x} p f) =
       let st : Steady L w.cells t.rv t.held t.reads c × (d ≡ c → word ≡ L) = at_place (Looked d word) p in
       (placed t (Loaded d word x.value), after_seat (placed t (Loaded d word x.value)), (st.0, st.1))
   own_step b v n (relooks {c = d} {word} {v = u} {x} p f m) = (
-    record t { place = Reading; reads = record { cell = d; word = word; value = u } ∷ t.reads },
-    after_seat (record t { place = Reading; reads = record { cell = d; word = word; value = u } ∷ t.reads }),
+    record (saw t d x.lock) { place = Reading; reads = record { cell = d; word = word; value = u } ∷ t.reads },
+    after_seat (record (saw t d x.lock) { place = Reading; reads = record { cell = d; word = word; value = u } ∷ t.reads }),
     record { old = st.0.old; lock = st.0.lock; words = λ r g. go r g (known (d == c)) },
   )
     where
@@ -125,10 +125,10 @@ module _ (o : List ℕ) (L : ℕ) (w : World) (s c : ℕ) (t : Seat) (I : Consis
           let i : record { cell = d; word = word; value = u } ≡ r = cc in
           ap (λ (y : Read). y.word) (sym i) ∙ st.1 (equal_numbers d c q)
       go r g (inr q) = st.0.words r (rw q at g)
-  own_step b v n (relook_conflicts p f m) = (conflict t Idle, after_seat (conflict t Idle), tt)
+  own_step b v n (relook_conflicts {c = d} {x = x} p f m) = (conflict (saw t d x.lock) Idle, after_seat (conflict (saw t d x.lock) Idle), tt)
   own_step b v n (takes {c = d} {v = u} {r} {x} p g f m) = (
-    record t { place = Taking; held = record { cell = d; word = r.word; value = u; stored = false } ∷ t.held },
-    after_seat (record t { place = Taking; held = record { cell = d; word = r.word; value = u; stored = false } ∷ t.held }),
+    record (saw t d x.lock) { place = Taking; held = record { cell = d; word = r.word; value = u; stored = false } ∷ t.held },
+    after_seat (record (saw t d x.lock) { place = Taking; held = record { cell = d; word = r.word; value = u; stored = false } ∷ t.held }),
     record { old = st.old; lock = λ y h k. go y k (get-set_cases w.cells d c (record x { lock = suc r.word }) y h); words = st.words },
   )
     where
@@ -150,18 +150,19 @@ module _ (o : List ℕ) (L : ℕ) (w : World) (s c : ℕ) (t : Seat) (I : Consis
           → ((c ≡ d) × (y ≡ record x { lock = suc r.word })) ⊎ ((c ≢ d) × (slice_get w.cells c ≡ Some y)) → y.lock ≡ L
       go y k (inl q) = absurd (k (record { cell = d; word = r.word; value = u; stored = false }) (found (sym q.0) (known (d == c))))
       go y k (inr q) = st.lock y q.1 (λ j h. k j (later j (λ i. q.0 (sym i)) (known (d == c)) h))
-  own_step b v n (take_conflicts p g f m) = (
-    conflict t (if is_nil t.held then Idle else Failing),
-    after_seat (conflict t (if is_nil t.held then Idle else Failing)),
-    quiet_case (is_nil t.held) w.cells (conflict t (if is_nil t.held then Idle else Failing)) Idle Failing tt tt,
+  own_step b v n (take_conflicts {c = d} {x = x} p g f m) = (
+    conflict (saw t d x.lock) (if is_nil t.held then Idle else Failing),
+    after_seat (conflict (saw t d x.lock) (if is_nil t.held then Idle else Failing)),
+    quiet_case (is_nil t.held) w.cells (conflict (saw t d x.lock) (if is_nil t.held then Idle else Failing)) Idle Failing tt tt,
   )
   own_step b v n (draws p) =
       let st : Steady L w.cells t.rv t.held t.reads c = at_place Taking p in
       (placed t (Checking w.clock 0), after_seat (placed t (Checking w.clock 0)), st)
-  own_step b v n (checks {i} {u} {c = d} p q f m) =
+  own_step b v n (checks {i} {u} {c = d} {x} p q f m) =
       let st : Steady L w.cells t.rv t.held t.reads c = at_place (Checking i u) p in
-      (placed t (Checking i (suc d)), after_seat (placed t (Checking i (suc d))), st)
-  own_step b v n (check_conflicts {i} p q f m) = (conflict t (Voiding i), after_seat (conflict t (Voiding i)), tt)
+      (placed (saw t d x.lock) (Checking i (suc d)), after_seat (placed (saw t d x.lock) (Checking i (suc d))), st)
+  own_step b v n (check_conflicts {i} {c = d} {x} p q f m) =
+      (conflict (saw t d x.lock) (Voiding i), after_seat (conflict (saw t d x.lock) (Voiding i)), tt)
   own_step b v n (stores {i} {c = d} p g f) =
       (record t { place = Storing i; held = stored d t.held }, after_seat (record t { place = Storing i; held = stored d t.held }), tt)
   own_step b v n (releases_done {i} {c = d} {k} {x} p g st f) = (

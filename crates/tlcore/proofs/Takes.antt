@@ -3,7 +3,7 @@ use Rattle.std.proofs.Common.{List, None, Some, ap, arith, false, if◌then◌el
 use Rattle.std.proofs.lemmas.Option.{none-some}
 use Rattle.tlcore.specs.History.{Did, WasWritten, Will, deed, value, version}
 use Rattle.tlcore.specs.Seats.{Failing, Held, Idle, Seat, Taking, find_held, is_nil, number_at}
-use Rattle.tlcore.specs.Machine.{Cell, World, conflict, taken, with_seat}
+use Rattle.tlcore.specs.Machine.{Cell, World, conflict, saw, taken, with_seat}
 use Rattle.tlcore.specs.Invariant.{CellsOk, Consistent, HeldOk, IsOld, SeatOk, done_at}
 use Rattle.tlcore.proofs.AfterEvent.{Consistent-step, Others}
 use Rattle.tlcore.proofs.Deeds.{version-deed}
@@ -71,7 +71,7 @@ module _ (o : List ℕ) (w : World) (s : ℕ) (t : Seat) (c v word : ℕ) (x : C
           absurd (odd_even old.0 u (omega (arith, z, j, old.1)))
       go (inr p) = I.cells d u y p.1 j
 
-  take_seat : SeatOk o (slice_set w.cells c (record x { lock = suc word })) w.history (record t { place = Taking; held = record { cell = c; word = word; value = v; stored = false } ∷ t.held })
+  take_seat : SeatOk o (slice_set w.cells c (record x { lock = suc word })) w.history (record (saw t c x.lock) { place = Taking; held = record { cell = c; word = word; value = v; stored = false } ∷ t.held })
   take_seat =
       record {
         place = tt;
@@ -102,7 +102,7 @@ module _ (o : List ℕ) (w : World) (s : ℕ) (t : Seat) (c v word : ℕ) (x : C
 
   pub taken_keeps : Consistent o (taken w s t c v word x)
   taken_keeps =
-      Consistent-step o w s t (record t { place = Taking; held = record { cell = c; word = word; value = v; stored = false } ∷ t.held })
+      Consistent-step o w s t (record (saw t c x.lock) { place = Taking; held = record { cell = c; word = word; value = v; stored = false } ∷ t.held })
       (slice_set w.cells c (record x { lock = suc word })) w.history w.clock (record { cell = c; word = word; value = v; stored = false } ∷ t.held) None I e
       (set_frame o w.cells w.history w.history (record { cell = c; word = word; value = v; stored = false } ∷ t.held) None c (record x { lock = suc word })
       (Grows-refl w.history) (Stays-refl o w.history) (λ d i u a. a) (λ i a b p. p) (record { cell = c; word = word; value = v; stored = false })
@@ -115,14 +115,15 @@ module _ (o : List ℕ) (w : World) (s : ℕ) (t : Seat) (c v word : ℕ) (x : C
       found (inr a) = absurd (other_numbers c c a refl)
 
 -- a lost exchange
-pub lost_keeps : (o : List ℕ) (w : World) (s : ℕ) (t : Seat) → Consistent o w → slice_get w.seats s ≡ Some t → done_at t.place ≡ None
-    → number_at t.place ≡ None
-    → Consistent o (with_seat w s (conflict t (if is_nil t.held then Idle else Failing)))
-lost_keeps o w s t I e nd nn = go (known (is_nil t.held))
+pub lost_keeps : (o : List ℕ) (w : World) (s : ℕ) (t : Seat) (c word : ℕ) → Consistent o w → slice_get w.seats s ≡ Some t
+    → done_at t.place ≡ None → number_at t.place ≡ None
+    → Consistent o (with_seat w s (conflict (saw t c word) (if is_nil t.held then Idle else Failing)))
+lost_keeps o w s t c word I e nd nn = go (known (is_nil t.held))
   where
     go : (is_nil t.held ≡ true) ⊎ (is_nil t.held ≡ false)
-        → Consistent o (with_seat w s (conflict t (if is_nil t.held then Idle else Failing)))
+        → Consistent o (with_seat w s (conflict (saw t c word) (if is_nil t.held then Idle else Failing)))
     go (inl m) =
-        let r : Consistent o (with_seat w s (conflict t Idle)) = conflict_keeps o w s t I e (is_nil-nil t.held m) in rw m r
+        let r : Consistent o (with_seat w s (conflict (saw t c word) Idle)) = conflict_keeps o w s t c word I e (is_nil-nil t.held m) in rw m r
     go (inr m) =
-        let r : Consistent o (with_seat w s (conflict t Failing)) = Consistent-place o w s t Failing true I e (sym nd) (sym nn) tt in rw m r
+        let r : Consistent o (with_seat w s (conflict (saw t c word) Failing)) =
+        Consistent-place o w s t Failing true (Some (c, word)) I e (sym nd) (sym nn) tt in rw m r

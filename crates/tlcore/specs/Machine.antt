@@ -30,15 +30,21 @@ placed t p = record t { place = p }
 abbrev pub conflict : Seat → Place → Seat
 conflict t p = record t { place = p; conflicted = true }
 
+-- a look at the cell c, a check or a take of it has found this lock word
+abbrev pub saw : Seat → ℕ → ℕ → Seat
+saw t c word = record t { looked = Some (c, word) }
+
 -- ---- what follows each kind of event: t is the seat s of the world w, x the cell c
 
 -- Begin (section 2.2, step 1): the clock is sampled as rv
 abbrev pub begun : World → Seat → Seat
-begun w t = record { place = Reading; rv = w.clock; reads = []; held = []; conflicted = false }
+begun w t =
+    record { place = Reading; rv = w.clock; reads = []; held = []; conflicted = false; clocks = w.clock ∷ t.clocks; looked = None }
 
 -- Look (step 2): the lock word is to be free and of version at most rv
 abbrev pub look : World → ℕ → Seat → ℕ → Cell → World
-look w s t c x = with_seat w s (if passes x.lock t.rv then placed t (Looked c x.lock) else conflict t Idle)
+look w s t c x =
+    with_seat w s (if passes x.lock t.rv then placed (saw t c x.lock) (Looked c x.lock) else conflict (saw t c x.lock) Idle)
 
 -- Load (step 2): the value word
 abbrev pub load : World → ℕ → Seat → ℕ → ℕ → Cell → World
@@ -49,8 +55,8 @@ abbrev pub relook : World → ℕ → Seat → ℕ → ℕ → ℕ → Cell → 
 relook w s t c word value x =
     with_seat w s
     (if x.lock == word
-    then record t { place = Reading; reads = record { cell = c; word = word; value = value } ∷ t.reads }
-    else conflict t Idle)
+    then record (saw t c x.lock) { place = Reading; reads = record { cell = c; word = word; value = value } ∷ t.reads }
+    else conflict (saw t c x.lock) Idle)
 
 -- the cell is locked and held
 abbrev pub taken : World → ℕ → Seat → ℕ → ℕ → ℕ → Cell → World
@@ -58,7 +64,7 @@ taken w s t c value word x =
     record w {
       cells = slice_set w.cells c (record x { lock = suc word });
       seats =
-          slice_set w.seats s (record t {
+          slice_set w.seats s (record (saw t c x.lock) {
             place = Taking;
             held =
                 record { cell = c; word = word; value = value; stored = false } ∷ t.held;
@@ -70,7 +76,7 @@ abbrev pub take_cell : World → ℕ → Seat → ℕ → ℕ → ℕ → Cell �
 take_cell w s t c value word x =
     if x.lock == word
     then taken w s t c value word x
-    else with_seat w s (conflict t (if is_nil t.held then Idle else Failing))
+    else with_seat w s (conflict (saw t c x.lock) (if is_nil t.held then Idle else Failing))
 
 -- Draw (step 4): the clock is advanced, and its new value is the number of the run's entry
 abbrev pub drawn : World → ℕ → Seat → World
@@ -83,7 +89,8 @@ drawn w s t =
 
 -- Check (step 5): the lock word of a cell that was read is to be free and of version at most rv still
 abbrev pub check : World → ℕ → Seat → ℕ → ℕ → Cell → World
-check w s t i c x = with_seat w s (if passes x.lock t.rv then placed t (Checking i (suc c)) else conflict t (Voiding i))
+check w s t i c x =
+    with_seat w s (if passes x.lock t.rv then placed (saw t c x.lock) (Checking i (suc c)) else conflict (saw t c x.lock) (Voiding i))
 
 -- Store (step 6): the value word; the first store makes the entry Done
 abbrev pub store : World → ℕ → Seat → ℕ → ℕ → Held → Cell → World

@@ -11,17 +11,20 @@ pub use Rattle.tlcore.specs.declared.seats.Held.{Held}
 pub use Rattle.tlcore.specs.declared.seats.Place.{Place}
 pub use Rattle.tlcore.specs.declared.seats.Place.TheVariants.{Idle, Reading, Looked, Loaded, Taking, Checking, Storing, Failing, Voiding}
 
--- conflicted: the seat's last run met a conflict, and no Begin of the seat came since
+-- conflicted: the seat's last run met a conflict, and no Begin of the seat came since. clocks: what its loads of the clock found, the newest
+-- first. looked: the cell and the lock word that its last look, check or take since the last of these found
 pub record Seat : Type 0 where
   pub place : Place
   pub rv : ℕ
   pub reads : List Read
   pub held : List Held
   pub conflicted : Bool
+  pub clocks : List ℕ
+  pub looked : Option (ℕ × ℕ)
 
 -- a seat that never ran
 abbrev pub idle : Seat
-idle = record { place = Idle; rv = 0; reads = []; held = []; conflicted = false }
+idle = record { place = Idle; rv = 0; reads = []; held = []; conflicted = false; clocks = []; looked = None }
 
 -- the index of the entry that the run has drawn
 abbrev pub number_at : Place → Option ℕ

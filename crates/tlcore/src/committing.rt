@@ -43,6 +43,7 @@ pub fn take(
     if cell >= cells.len() {
         return Ok(false);
     }
+    seat.looked = Some((cell, cells[cell].lock));
     if cells[cell].lock == read.word {
         seat.held.insert(
             0,
@@ -106,7 +107,9 @@ pub fn check(cells: &[Cell], seat: &mut Seat, cell: usize) -> bool
             if find_read(cell, &seat.reads).is_none() || cell >= cells.len() {
                 return false;
             }
-            if passes(cells[cell].lock, seat.rv) {
+            let word = cells[cell].lock;
+            seat.looked = Some((cell, word));
+            if passes(word, seat.rv) {
                 seat.place = Place::Checking {
                     entry,
                     upto: cell + 1,

@@ -173,6 +173,8 @@ fn idle_seats(alloc: Global, seats: usize) -> Result<Vec<Seat>, AllocError>
             reads: Vec::new(alloc),
             held: Vec::new(alloc),
             conflicted: false,
+            clocks: Vec::new(alloc),
+            looked: None,
         })?;
     }
     Ok(all)
@@ -218,7 +220,7 @@ fn act(
     ensures { IfOk result (λ b. Acts cells.old.items seat.old history.old.items action b cells.new.items seat.new history.new.items) }
 {
     match action {
-        Action::Begin => Ok(begin(alloc, cells, seat, history)),
+        Action::Begin => begin(alloc, cells, seat, history),
         Action::Look(cell) => Ok(look(cells, seat, cell)),
         Action::Load(cell) => Ok(load(cells, seat, cell)),
         Action::Relook(cell) => relook(cells, seat, cell),

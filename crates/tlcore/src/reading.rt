@@ -15,19 +15,27 @@ use crate::sets::passes;
 use std::alloc::{AllocError, Global};
 
 /// Samples the clock, which is the length of the history.
-pub fn begin(alloc: Global, cells: &[Cell], seat: &mut Seat, history: &[Entry]) -> bool
-    ensures { Acts cells.now seat.old history.now Begin result cells.now seat.new history.now }
+pub fn begin(
+    alloc: Global,
+    cells: &[Cell],
+    seat: &mut Seat,
+    history: &[Entry],
+) -> Result<bool, AllocError>
+    ensures { IfOk result (λ b. Acts cells.now seat.old history.now Begin b cells.now seat.new history.now) }
 {
     match seat.place {
         Place::Idle | Place::Reading => {
+            let clock = history.len() as u64;
+            seat.clocks.insert(0, clock)?;
+            seat.looked = None;
             seat.place = Place::Reading;
-            seat.rv = history.len() as u64;
+            seat.rv = clock;
             seat.reads = Vec::new(alloc);
             seat.held = Vec::new(alloc);
             seat.conflicted = false;
-            true
+            Ok(true)
         }
-        _ => false,
+        _ => Ok(false),
     }
 }
 
@@ -41,6 +49,7 @@ pub fn look(cells: &[Cell], seat: &mut Seat, cell: usize) -> bool
                 return false;
             }
             let word = cells[cell].lock;
+            seat.looked = Some((cell, word));
             if passes(word, seat.rv) {
                 seat.place = Place::Looked { cell, word };
             } else {
@@ -86,6 +95,7 @@ pub fn relook(cells: &[Cell], seat: &mut Seat, cell: usize) -> Result<bool, Allo
             if loaded != cell || cell >= cells.len() {
                 return Ok(false);
             }
+            seat.looked = Some((cell, cells[cell].lock));
             if cells[cell].lock == word {
                 seat.reads.insert(0, Read { cell, word, value })?;
                 seat.place = Place::Reading;

@@ -66,6 +66,10 @@ pub struct Seat {
     pub held: Vec<Held>,
     /// Whether the last run met a conflict.
     pub conflicted: bool,
+    /// What the loads of the clock found, the newest first.
+    pub clocks: Vec<u64>,
+    /// The cell and the lock word that the last look, check or take since the last load of the clock found.
+    pub looked: Option<(usize, u64)>,
 }
 
 impl Model for Seat {
@@ -73,7 +77,7 @@ impl Model for Seat {
 
     ghost Value = { SeatValue };
 
-    ghost view = { λ a. record { place = a.place; rv = a.rv; reads = a.reads.items; held = a.held.items; conflicted = a.conflicted } };
+    ghost view = { λ a. record { place = a.place; rv = a.rv; reads = a.reads.items; held = a.held.items; conflicted = a.conflicted; clocks = a.clocks.items; looked = a.looked } };
 }
 
 impl Seat {
@@ -87,6 +91,8 @@ impl Seat {
             reads: self.reads.clone()?,
             held: self.held.clone()?,
             conflicted: self.conflicted,
+            clocks: self.clocks.clone()?,
+            looked: self.looked,
         })
     }
 }

@@ -5,7 +5,7 @@ use Rattle.std.proofs.Common.{slice_get, sym, refl, ap, ◌∙◌, arith}
 use Rattle.std.specs.List.{list_all}
 use Rattle.std.specs.Option.{option_map}
 use Rattle.tlcore.specs.Seats.{Seat, find_read, is_held, is_settled, settled_below, all_settled, is_due, is_next, passes}
-use Rattle.tlcore.specs.Machine.{placed, conflict}
+use Rattle.tlcore.specs.Machine.{placed, conflict, saw}
 use Rattle.tlcore.proofs.Lists.{option_known, get_within}
 use Rattle.tlcore.specs.declared.seats.Read.{Read}
 use Rattle.tlcore.specs.declared.seats.Place.TheVariants.{Checking, Voiding}
@@ -16,6 +16,7 @@ use Rattle.tlwords.specs.Plays.{Mine, Checks, after_check}
 use Rattle.tlwords.specs.Runs.{word_seen, value_kept, was_read, IsKeptOf, HasCause}
 use Rattle.tlwords.specs.Committing.{held_in, Goes, FailsTheCheck, Passes}
 use Rattle.tlwords.specs.Walks.{is_wanted, NoneWanted}
+use Rattle.tlwords.proofs.ReadSteps.{if_known}
 use Rattle.tlwords.proofs.RunSteps.{if_true, if_false, passes_true, passes_false}
 use Rattle.tlwords.proofs.Held.{held_yes, held_no, lt_yes, lt_no, le_yes, le_cases}
 use Rattle.tlwords.proofs.Turns.{goes_start, goes_seat, goes_by}
@@ -109,7 +110,7 @@ module _ {S N : Type 0} (terms : Terms S N) (slots : List Slot) (i : ℕ) (m : M
         ap (λ (t : Seat). is_due t low c) at ∙ (λ j. not (open_still j) && rest j),
       )
         where
-          at : r.0.seat ≡ placed m.0.seat (Checking i low)
+          at : r.0.seat ≡ record (placed m.0.seat (Checking i low)) { looked = r.0.seat.looked }
           at = goes_seat terms m r (placed m.0.seat (Checking i low)) g
 
           open_still : is_settled m.0.seat.held low c ≡ false
@@ -133,25 +134,31 @@ module _ {S N : Type 0} (terms : Terms S N) (slots : List Slot) (i : ℕ) (m : M
           }
 
       module _ (c n : ℕ) (s : Mine S N) (t : Checks terms c r n s) where
-        looks : s.0 ≡ record r.0 { seen = s.0.seen; seat = after_check r.0.seat i c n; looked = Some (c, n) }
+        looks : s.0 ≡ record r.0 { seen = s.0.seen; seat = after_check r.0.seat i c n }
         looks = t.is i low (ap (λ (t : Seat). t.place) (goes_seat terms m r (placed m.0.seat (Checking i low)) g))
 
         pub check_goes : n % 2 ≡ 0 → n / 2 ≤ m.0.seat.rv → Goes terms m (placed m.0.seat (Checking i (c + 1))) s
         check_goes even l =
-            goes_by terms (λ (t : Seat). after_check t i c n) (Some (c, n)) m r s (placed m.0.seat (Checking i low))
+            goes_by terms (λ (t : Seat). after_check t i c n) (λ _. Some (c, n)) m r s (placed m.0.seat (Checking i low))
             (placed m.0.seat (Checking i (c + 1))) g t.sees looks
-            (if_true (passes n m.0.seat.rv) (placed m.0.seat (Checking i (suc c))) (conflict (placed m.0.seat (Checking i low)) (Voiding i))
+            (λ o. if_true (passes n m.0.seat.rv) (placed (saw m.0.seat c n) (Checking i (suc c))) (conflict (saw m.0.seat c n) (Voiding i))
             (passes_true n m.0.seat.rv even l)
-            ∙ ap (λ (x : ℕ). placed m.0.seat (Checking i x)) (let a : suc c ≡ c + 1 = omega arith in a))
+            ∙ ap (λ (x : ℕ). placed (saw m.0.seat c n) (Checking i x)) (let a : suc c ≡ c + 1 = omega arith in a))
 
         pub check_fails : (w : ℕ) (b : Option ℕ) → b ≡ Some w → word_seen slots c ≡ Some w → HasCause m.0.seat.rv n
             → FailsTheCheck terms slots i (record { cell = c; word = n; before = b }) m s
         check_fails w b is f cause =
             record {
-              goes = goes_by terms (λ (t : Seat). after_check t i c n) (Some (c, n)) m r s (placed m.0.seat (Checking i low))
+              goes = goes_by terms (λ (t : Seat). after_check t i c n) (λ _. Some (c, n)) m r s (placed m.0.seat (Checking i low))
                   (conflict m.0.seat (Voiding i)) g t.sees looks
-                  (if_false (passes n m.0.seat.rv) (placed m.0.seat (Checking i (suc c)))
-                  (conflict (placed m.0.seat (Checking i low)) (Voiding i)) (passes_false n m.0.seat.rv cause));
-              finds = record { looked = ap (λ (v : View S N). v.looked) looks; written = t.written; before = f ∙ sym is };
+                  (λ o. if_false (passes n m.0.seat.rv) (placed (saw m.0.seat c n) (Checking i (suc c)))
+                  (conflict (saw m.0.seat c n) (Voiding i)) (passes_false n m.0.seat.rv cause));
+              finds = record {
+                looked = ap (λ (v : View S N). v.seat.looked) looks
+                    ∙ if_known (λ (z : Seat). z.looked ≡ Some (c, n)) (passes n r.0.seat.rv) (placed (saw r.0.seat c n) (Checking i (suc c)))
+                    (conflict (saw r.0.seat c n) (Voiding i)) (λ _. refl) (λ _. refl);
+                written = t.written;
+                before = f ∙ sym is;
+              };
               cause = cause;
             }

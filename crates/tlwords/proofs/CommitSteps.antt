@@ -9,10 +9,10 @@ use Rattle.atomic_table.specs.Table.{step, Allows}
 use Rattle.atomic_table.proofs.Lists.{exchanged}
 use Rattle.tlcore.specs.History.{Entry, wv, settle}
 use Rattle.tlcore.specs.Seats.{Seat, number_at, passes, reads_of, writes_of, find_read, find_held, all_below, all_settled, is_due, is_next, is_nil, without, stored as stored_in}
-use Rattle.tlcore.specs.Machine.{World, with_seat, placed, conflict, taken, take_cell, drawn, check, store, release}
+use Rattle.tlcore.specs.Machine.{World, with_seat, placed, conflict, saw, taken, take_cell, drawn, check, store, release}
 use Rattle.tlcore.specs.Invariant.{PlaceOk, CheckingOk}
 use Rattle.tlcore.specs.declared.actions.Action.TheVariants.{Take, Draw, Check, Store, Release}
-use Rattle.tlcore.specs.Laws.{Leads, Keeps}
+use Rattle.tlcore.specs.Laws.{Leads}
 use Rattle.tlcore.proofs.Laws.{take_leads, draw_leads, check_leads, store_leads, release_leads, release_failed_leads, release_void_leads}
 use Rattle.tlcore.proofs.Lists.{get-append_cases, get-append_seam, get-append_left, get-set_same, get_within, length-append_one, length-slice_set}
 use Rattle.tlcore.proofs.Settling.{length-settle, get-settle_same}
@@ -30,6 +30,7 @@ use Rattle.tlwords.specs.Views.{Gone, View, tells, Sound}
 use Rattle.tlwords.specs.Layout.{clock_at, lock_at, value_at, paired, front_of, words_of}
 use Rattle.tlwords.specs.Rule.{Start, rights_of, numbers_of, total_of, LookIsFresh, EntriesAre, IsTold, Suits, Ruled}
 use Rattle.tlwords.specs.Plays.{Mine, GivesBack, Sees, Takes, Checks, Stores, Releases, work_of, after_take, after_check, after_store, after_release, took, drew, checked, stored, released, bare}
+use Rattle.tlwords.proofs.Reaching.{Follows, by_event}
 use Rattle.tlwords.proofs.Paired.{clock_word, lock_word, lock_is_set, value_is_set, word_count, lock_within, value_within}
 use Rattle.tlwords.proofs.Seens.{settled_grows, seen_refl, seen_trans, permits_grow, agree_grows, agree_snoc}
 use Rattle.tlwords.proofs.Lifts.{lifted}
@@ -67,45 +68,49 @@ module _ {S N : Type 0} (terms : Terms S N) (setting : S) (base : List ℕ) (roo
       let is : n ≡ (x.0).lock = lock_word ws w r.words_are c x.0 x.1 in
       let e : slice_get w.seats id ≡ Some t = seat_at terms setting base room ranges ws vs r id v at in
       let lead : Leads base w id (Take c value) (take_cell w id t c value d.word x.0) = take_leads base w id t c value d x.0 r.invariant e p read x.1 in
-      let keep : Keeps base w (take_cell w id t c value old x.0) = subst (λ (k : ℕ). Keeps base w (take_cell w id t c value k x.0)) word lead.keeps in
+      let keep : Follows base w (take_cell w id t c value old x.0) = subst (λ (k : ℕ). Follows base w (take_cell w id t c value k x.0)) word (by_event lead) in
       let h : Seen N = record { history = w.history; notes = r.notes; ranges = ranges } in
       let z : Seat = after_take t c value old n in
-      let u : View S N = record v { seen = h; seat = z; looked = Some (c, n) } in
+      let u : View S N = record v { seen = h; seat = z } in
       let f : Suits terms setting base room h r.owner v = r.suits id v at in
-      let held : Seat = record t { place = Taking; held = record { cell = c; word = old; value = value; stored = false } ∷ t.held } in
-      let lost : Seat = conflict t (if is_nil t.held then Idle else Failing) in
+      let held : ℕ → Seat = λ k.
+      record (saw t c k) { place = Taking; held = record { cell = c; word = old; value = value; stored = false } ∷ t.held } in
+      let lost : ℕ → Seat = λ k. conflict (saw t c k) (if is_nil t.held then Idle else Failing) in
       let none_now : (k : ℕ) → number_at t.place ≡ Some k → ⊥ = λ k a.
       ⊎_elim (λ (b : t.place ≡ Reading). no_number t.place Reading k b refl a)
       (λ (b : (t.place ≡ Taking) × (all_below c t.held ≡ true)). no_number t.place Taking k b.0 refl a) p in
       let P : ℕ → Seat → Type 0 = λ k z.
-      Rule terms setting base room ranges (slice_set ws (lock_at c) k) (slice_set vs id (record v { seen = h; seat = z; looked = Some (c, n) }))
-      × Sees terms v (record v { seen = h; seat = z; looked = Some (c, n) }) in
+      Rule terms setting base room ranges (slice_set ws (lock_at c) k) (slice_set vs id (record v { seen = h; seat = z }))
+      × Sees terms v (record v { seen = h; seat = z }) in
       let q : P (either (eqb n old) new n) z = exchanged n old new (λ (k : ℕ). P k z)
       (λ hit.
       let b : ((x.0).lock == old) ≡ true = eq-eqb (x.0).lock old (sym is ∙ hit) in
       let world : World = taken w id t c value old x.0 in
-      let keep' : Keeps base w world =
-      subst (λ (v : World). Keeps base w v) (if_true ((x.0).lock == old) world (with_seat w id lost) b) keep in
+      let keep' : Follows base w world =
+      subst (λ (v : World). Follows base w v) (if_true ((x.0).lock == old) world (with_seat w id (lost (x.0).lock)) b) keep in
       let words : slice_set ws (lock_at c) new ≡ words_of world =
       ap (λ (k : ℕ). slice_set ws (lock_at c) k) (let g : new ≡ suc old = omega (arith, up) in g) ∙ lock_is_set ws w r.words_are c (suc old) x.0 x.1 in
-      subst (λ (z : Seat). P new z) (sym (if_true (n == old) held lost (eq-eqb n old hit)))
-      (goes terms setting base room ranges ws vs r id v at (slice_set ws (lock_at c) new) world held v.runs (Some (c, n)) v.mine v.told
-      (named_locked terms setting base room ranges ws vs r c (suc old) x.0 x.1) keep' refl words
+      subst (λ (z : Seat). P new z) (sym (if_true (n == old) (held n) (lost n) (eq-eqb n old hit)))
+      (goes terms setting base room ranges ws vs r id v at (slice_set ws (lock_at c) new) world (held n) v.mine v.told
+      (named_locked terms setting base room ranges ws vs r c (suc old) x.0 x.1) keep'
+      (ap (λ (k : ℕ). slice_set w.seats id (held k)) (sym is)) words
       (length-slice_set w.cells c (record x.0 { lock = suc old })) refl (λ a. a) f.told
       (λ k a. absurd (none_now k a)) (λ k a. absurd (no_number Taking Taking k refl refl a))
       (λ d o a b. absurd (not_looking Taking refl d o a b)) (λ e _. absurd (omega (arith, e, some_rights)))))
       (λ miss.
       let b : ((x.0).lock == old) ≡ false = ne_eqb (x.0).lock old (λ a. miss (is ∙ a)) in
-      let keep' : Keeps base w (with_seat w id lost) =
-      subst (λ (v : World). Keeps base w v) (if_false ((x.0).lock == old) (taken w id t c value old x.0) (with_seat w id lost) b) keep in
-      subst (λ (z : Seat). P n z) (sym (if_false (n == old) held lost (ne_eqb n old miss)))
-      (quiet terms setting base room ranges ws vs r id v at (lock_at c) lost v.runs (Some (c, n)) v.told keep' f.told
+      let keep' : Follows base w (with_seat w id (lost n)) =
+      subst (λ (k : ℕ). Follows base w (with_seat w id (lost k))) (sym is)
+      (subst (λ (v : World). Follows base w v)
+      (if_false ((x.0).lock == old) (taken w id t c value old x.0) (with_seat w id (lost (x.0).lock)) b) keep) in
+      subst (λ (z : Seat). P n z) (sym (if_false (n == old) (held n) (lost n) (ne_eqb n old miss)))
+      (quiet terms setting base room ranges ws vs r id v at (lock_at c) (lost n) v.told keep' f.told
       (λ k a. absurd (none_now k a))
       (λ k a. absurd (place_known (λ (z : Place). number_at z ≡ Some k → ⊥) (is_nil t.held) Idle Failing
       (λ _ b. no_number Idle Idle k refl refl b) (λ _ b. no_number Failing Failing k refl refl b) a))
-      (place_known (λ (z : Place). LookIsFresh w.history (conflict t z)) (is_nil t.held) Idle Failing
+      (place_known (λ (z : Place). LookIsFresh w.history (conflict (saw t c n) z)) (is_nil t.held) Idle Failing
       (λ _ d o a b. absurd (not_looking Idle refl d o a b)) (λ _ d o a b. absurd (not_looking Failing refl d o a b)))
-      (λ _ b. b) (record v { seen = h; seat = lost; looked = Some (c, n) }) refl)) in (
+      (λ _ b. b) (record v { seen = h; seat = lost n }) refl)) in (
         lock_within ws w r.words_are c x.0 x.1,
         u,
         (refl, refl, refl),
@@ -253,7 +258,7 @@ module _ {S N : Type 0} (terms : Terms S N) (setting : S) (base : List ℕ) (roo
       ap (λ (l : List ℕ). slice_set l clock_at ((n + 1) % 2 ^ 64)) r.words_are ∙ ap (λ (k : ℕ). front_of k (paired w.cells)) wrap in
       let rule : Rule terms setting base room ranges (slice_set ws clock_at ((n + 1) % 2 ^ 64)) (slice_set vs id u) =
       moved terms setting base room ranges ws vs r id v u at ranges (slice_set ws clock_at ((n + 1) % 2 ^ 64)) world notes owner (λ x has. has) r.lie
-      r.named lead.keeps
+      r.named (by_event lead)
       (ap (λ (k : Seat). slice_set w.seats id k) (sym zz)) words refl grow.1 (omega (arith, count, same, len)) entries old suit refl
       (omega (arith, more, len)) in
       let sound : Sound terms u =
@@ -296,20 +301,20 @@ module _ {S N : Type 0} (terms : Terms S N) (setting : S) (base : List ℕ) (roo
       let is : n ≡ (x.0).lock = lock_word ws w r.words_are c x.0 x.1 in
       let e : slice_get w.seats id ≡ Some t = seat_at terms setting base room ranges ws vs r id v at in
       let lead : Leads base w id (Check c) (check w id t i c x.0) = check_leads base w id t i upto c d x.0 r.invariant e p further due read x.1 in
-      let keep : Keeps base w (with_seat w id (after_check t i c n)) =
-      subst (λ (k : ℕ). Keeps base w (with_seat w id (after_check t i c k))) (sym is) lead.keeps in
+      let keep : Follows base w (with_seat w id (after_check t i c n)) =
+      subst (λ (k : ℕ). Follows base w (with_seat w id (after_check t i c k))) (sym is) (by_event lead) in
       let h : Seen N = record { history = w.history; notes = r.notes; ranges = ranges } in
       let z : Seat = after_check t i c n in
-      let u : View S N = record v { seen = h; seat = z; looked = Some (c, n) } in
+      let u : View S N = record v { seen = h; seat = z } in
       let f : Suits terms setting base room h r.owner v = r.suits id v at in
-      let number : number_at z.place ≡ Some i = if_known (λ (z : Seat). number_at z.place ≡ Some i) (passes n t.rv) (placed t (Checking i (suc c))) (conflict t (Voiding i)) (λ _. refl) (λ _. refl) in
+      let number : number_at z.place ≡ Some i = if_known (λ (z : Seat). number_at z.place ≡ Some i) (passes n t.rv) (placed (saw t c n) (Checking i (suc c))) (conflict (saw t c n) (Voiding i)) (λ _. refl) (λ _. refl) in
       let was : number_at t.place ≡ Some i = ap number_at p in
       let q : Rule terms setting base room ranges (slice_set ws (lock_at c) n) (slice_set vs id u) × Sees terms v u =
-      quiet terms setting base room ranges ws vs r id v at (lock_at c) z v.runs (Some (c, n)) v.told keep f.told
+      quiet terms setting base room ranges ws vs r id v at (lock_at c) z v.told keep f.told
       (λ k a. number ∙ (sym was ∙ a)) (λ k a. was ∙ (sym number ∙ a))
-      (if_known (λ (z : Seat). LookIsFresh w.history z) (passes n t.rv) (placed t (Checking i (suc c))) (conflict t (Voiding i))
+      (if_known (λ (z : Seat). LookIsFresh w.history z) (passes n t.rv) (placed (saw t c n) (Checking i (suc c))) (conflict (saw t c n) (Voiding i))
       (λ _ d o a b. absurd (not_looking (Checking i (suc c)) refl d o a b)) (λ _ d o a b. absurd (not_looking (Voiding i) refl d o a b)))
-      (λ _ b. if_known (λ (z : Seat). z.held ≡ []) (passes n t.rv) (placed t (Checking i (suc c))) (conflict t (Voiding i)) (λ _. b) (λ _. b)) u refl in (
+      (λ _ b. if_known (λ (z : Seat). z.held ≡ []) (passes n t.rv) (placed (saw t c n) (Checking i (suc c))) (conflict (saw t c n) (Voiding i)) (λ _. b) (λ _. b)) u refl in (
         lock_within ws w r.words_are c x.0 x.1,
         u,
         (refl, refl, refl),
@@ -319,7 +324,7 @@ module _ {S N : Type 0} (terms : Terms S N) (setting : S) (base : List ℕ) (roo
           written = half_written terms setting base room ranges ws vs r c n x.0 x.1 is;
           is = λ j other a.
               let b : i ≡ j = checking_is i upto j other (sym p ∙ a) in
-              ap (λ (k : ℕ). let m : View S N = record v { seen = h; seat = after_check t k c n; looked = Some (c, n) } in m) b;
+              ap (λ (k : ℕ). let m : View S N = record v { seen = h; seat = after_check t k c n } in m) b;
         }),
       )
 
@@ -335,7 +340,7 @@ module _ {S N : Type 0} (terms : Terms S N) (setting : S) (base : List ℕ) (roo
   -- the rule after a store, which adds to the pass's calls what agrees
   stores_go : (ranges : List Range) (ws : List ℕ) (vs : List (View S N)) (r : Rule terms setting base room ranges ws vs) (id : ℕ) (v : View S N) → get_elem? vs id ≡ some v
       → (c i : ℕ) (k : Held) (x : Cell) (mine : List (Call N)) → slice_get (r.world).cells c ≡ Some x
-      → Keeps base r.world (store r.world id v.seat i c k x) → number_at v.seat.place ≡ Some i
+      → Follows base r.world (store r.world id v.seat i c k x) → number_at v.seat.place ≡ Some i
       → (terms.ranged setting c ≡ true → Names ranges k.value)
       → (Agree terms setting base (record { history = settle (r.world).history i Done; notes = r.notes; ranges = ranges }) v.mine
       → Agree terms setting base (record { history = settle (r.world).history i Done; notes = r.notes; ranges = ranges }) mine)
@@ -351,7 +356,7 @@ module _ {S N : Type 0} (terms : Terms S N) (setting : S) (base : List ℕ) (roo
       let told : IsTold setting base h r.owner v.told =
       told_grows setting base (now terms setting base room ranges ws vs r) h r.owner r.owner v.told (stays.grows, λ i m a. a, λ y has. has) (λ n l. refl) suit.told in
       subst (λ (u : View S N). Rule terms setting base room ranges (slice_set ws (value_at c) k.value) (slice_set vs id u) × Sees terms v u) (sym is)
-      (goes terms setting base room ranges ws vs r id v at (slice_set ws (value_at c) k.value) world (after_store v.seat i c) v.runs v.looked mine v.told
+      (goes terms setting base room ranges ws vs r id v at (slice_set ws (value_at c) k.value) world (after_store v.seat i c) mine v.told
       (named_after terms setting base room ranges ws vs r c (record x { value = k.value }) names) stays refl
       (value_is_set ws w r.words_are c k.value x f) (length-slice_set w.cells c (record x { value = k.value })) len calls told
       (λ j a. inl (sym number ∙ a)) (λ j a. number ∙ a) (λ d o a b. absurd (not_looking (Storing i) refl d o a b)) (λ _ b. ap (stored_in c) b))
@@ -385,7 +390,7 @@ module _ {S N : Type 0} (terms : Terms S N) (setting : S) (base : List ℕ) (roo
       let mine : List (Call N) = v.mine ++ Committed (suc i) (work_of t noted.0) ∷ [] in
       let u : View S N = record v { seen = h; seat = after_store t i c; mine = mine } in
       let q : Rule terms setting base room ranges (slice_set ws (value_at c) k.value) (slice_set vs id u) × Sees terms v u =
-      stores_go ranges ws vs r id v at c i k x.0 mine x.1 lead.keeps number
+      stores_go ranges ws vs r id v at c i k x.0 mine x.1 (by_event lead) number
       (held_named terms setting base room ranges ws vs r id v at c i k (inl (p.0, p.1)) holds)
       (λ a. agree_snoc terms setting base h v.mine (Committed (suc i) (work_of t noted.0)) a (i, refl, done)) u refl in (
         value_within ws w r.words_are c x.0 x.1,
@@ -417,7 +422,7 @@ module _ {S N : Type 0} (terms : Terms S N) (setting : S) (base : List ℕ) (roo
       let number : number_at t.place ≡ Some i = ap number_at p in
       let u : View S N = record v { seen = h; seat = after_store t i c } in
       let q : Rule terms setting base room ranges (slice_set ws (value_at c) k.value) (slice_set vs id u) × Sees terms v u =
-      stores_go ranges ws vs r id v at c i k x.0 v.mine x.1 lead.keeps number
+      stores_go ranges ws vs r id v at c i k x.0 v.mine x.1 (by_event lead) number
       (held_named terms setting base room ranges ws vs r id v at c i k (inr p) holds) (λ a. a) u refl in (
         value_within ws w r.words_are c x.0 x.1,
         u,
@@ -450,7 +455,7 @@ module _ {S N : Type 0} (terms : Terms S N) (setting : S) (base : List ℕ) (roo
   -- the rule after a release with this word, where the history becomes h; the entry of a run that has drawn is settled
   releases_go : (ranges : List Range) (ws : List ℕ) (vs : List (View S N)) (r : Rule terms setting base room ranges ws vs) (id : ℕ) (v : View S N) → get_elem? vs id ≡ some v
       → (c word : ℕ) (x : Cell) (h : List Entry) → slice_get (r.world).cells c ≡ Some x
-      → Keeps base r.world (release r.world id v.seat c word x h) → length h ≡ length (r.world).history
+      → Follows base r.world (release r.world id v.seat c word x h) → length h ≡ length (r.world).history
       → ((i : ℕ) → number_at v.seat.place ≡ Some i → IsSettled h i)
       → ((d word value : ℕ) → is_looking v.seat.place ≡ false)
       → Rule terms setting base room ranges (slice_set ws (lock_at c) word) (slice_set vs id (record v { seen = record { history = h; notes = r.notes; ranges = ranges }; seat = after_release v.seat c }))
@@ -463,7 +468,7 @@ module _ {S N : Type 0} (terms : Terms S N) (setting : S) (base : List ℕ) (roo
       let suit : Suits terms setting base room (now terms setting base room ranges ws vs r) r.owner v = r.suits id v at in
       let told : IsTold setting base later r.owner v.told =
       told_grows setting base (now terms setting base room ranges ws vs r) later r.owner r.owner v.told (stays.grows, λ i m a. a, λ y has. has) (λ n l. refl) suit.told in
-      goes terms setting base room ranges ws vs r id v at (slice_set ws (lock_at c) word) world (after_release t c) v.runs v.looked v.mine v.told
+      goes terms setting base room ranges ws vs r id v at (slice_set ws (lock_at c) word) world (after_release t c) v.mine v.told
       (named_locked terms setting base room ranges ws vs r c word x f) stays refl
       (lock_is_set ws w r.words_are c word x f) (length-slice_set w.cells c (record x { lock = word })) len (λ a. a) told
       (λ i a. inr (ends i a))
@@ -489,7 +494,7 @@ module _ {S N : Type 0} (terms : Terms S N) (setting : S) (base : List ℕ) (roo
       subst (λ (z : Place). PlaceOk base w.cells w.history t z) p.1 ((r.invariant).consistent.seats id t e).place in
       let u : View S N = record v { seen = record { history = w.history; notes = r.notes; ranges = ranges }; seat = after_release t c } in
       let q : Rule terms setting base room ranges (slice_set ws (lock_at c) (2 * wv p.0)) (slice_set vs id u) × Sees terms v u =
-      releases_go ranges ws vs r id v at c (2 * wv p.0) x.0 w.history x.1 lead.keeps refl
+      releases_go ranges ws vs r id v at c (2 * wv p.0) x.0 w.history x.1 (by_event lead) refl
       (λ j a. subst (λ (z : ℕ). IsSettled w.history z) (some_same p.0 j (sym (ap number_at p.1) ∙ a)) (ok.0, ok.1, λ b. landed_not_open (sym ok.2 ∙ b)))
       (λ d o a. ap is_looking p.1) in (
         lock_within ws w r.words_are c x.0 x.1,
@@ -510,7 +515,7 @@ module _ {S N : Type 0} (terms : Terms S N) (setting : S) (base : List ℕ) (roo
       let lead : Leads base w id (Release c) (release w id t c k.word x.0 w.history) = release_failed_leads base w id t c k x.0 r.invariant e p.0 holds x.1 in
       let u : View S N = record v { seen = record { history = w.history; notes = r.notes; ranges = ranges }; seat = after_release t c } in
       let q : Rule terms setting base room ranges (slice_set ws (lock_at c) k.word) (slice_set vs id u) × Sees terms v u =
-      releases_go ranges ws vs r id v at c k.word x.0 w.history x.1 lead.keeps refl
+      releases_go ranges ws vs r id v at c k.word x.0 w.history x.1 (by_event lead) refl
       (λ j a. absurd (no_number t.place Failing j p.0 refl a)) (λ d o a. ap is_looking p.0) in (
         lock_within ws w r.words_are c x.0 x.1,
         u,
@@ -534,7 +539,7 @@ module _ {S N : Type 0} (terms : Terms S N) (setting : S) (base : List ℕ) (roo
       let there : slice_get h p.0 ≡ Some (record ok.0 { status = Void }) = get-settle_same w.history p.0 Void ok.0 ok.1 in
       let u : View S N = record v { seen = record { history = h; notes = r.notes; ranges = ranges }; seat = after_release t c } in
       let q : Rule terms setting base room ranges (slice_set ws (lock_at c) k.word) (slice_set vs id u) × Sees terms v u =
-      releases_go ranges ws vs r id v at c k.word x.0 h x.1 lead.keeps (length-settle w.history p.0 Void)
+      releases_go ranges ws vs r id v at c k.word x.0 h x.1 (by_event lead) (length-settle w.history p.0 Void)
       (λ j a. subst (λ (z : ℕ). IsSettled h z) (some_same p.0 j (sym (ap number_at p.1) ∙ a)) (record ok.0 { status = Void }, there, void_not_open))
       (λ d o a. ap is_looking p.1) in (
         lock_within ws w r.words_are c x.0 x.1,

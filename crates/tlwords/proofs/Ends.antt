@@ -1,15 +1,17 @@
 -- What the closed words show.
-use Rattle.std.proofs.Common.{◌≡◌, ◌≢◌, ◌⊎◌, inl, inr, ⊎_elim, true, ◌/◌, ◌%◌, ◌^◌, map, ℕ, zero, suc, ◌+◌, ◌*◌, ◌<◌, ◌≤◌, Some, List, [], ◌∷◌, ◌++◌, length, slice_get, slice_index, min, sym, refl, ap, ◌∙◌, subst, arith, true}
+use Rattle.std.proofs.Common.{◌≡◌, ◌≢◌, ◌⊎◌, inl, inr, ⊎_elim, Bool, true, false, ◌/◌, ◌%◌, ◌^◌, map, ℕ, zero, suc, ◌+◌, ◌*◌, ◌<◌, ◌≤◌, Some, List, [], ◌∷◌, ◌++◌, length, slice_get, slice_index, min, sym, refl, ap, ◌∙◌, subst, arith}
 use mathlib.Core.Option.{some, some-injective, some-ne-none}
 use lib.ListN.{get_elem?}
 use Rattle.std.proofs.lemmas.List.{length-append, length-map}
 use Rattle.atomic_table.specs.Table.{State}
 use Rattle.tlcore.specs.History.{Will, version, value, deed}
-use Rattle.tlcore.specs.Seats.{Seat}
+use Rattle.std.specs.Prelude.{if◌then◌else◌}
+use Rattle.tlcore.specs.Seats.{Seat, is_nil, is_resting}
+use Rattle.tlcore.specs.declared.seats.Held.{Held}
+use Rattle.tlcore.specs.Invariant.{Holds}
 use Rattle.tlcore.specs.Machine.{World}
 use Rattle.tlcore.proofs.Growth.{get_exists}
 use Rattle.tlcore.proofs.Lists.{get_within, same_or_not}
-use Rattle.tlcore.specs.Seats.{is_resting}
 use Rattle.tlcore.specs.declared.cells.Cell.{Cell}
 use Rattle.tlwords.specs.declared.closing.ClosedCell.{ClosedCell}
 use Rattle.tlwords.specs.declared.closing.ClosedWords.{ClosedWords}
@@ -21,7 +23,7 @@ use Rattle.tlwords.specs.Layout.{clock_at, lock_at, value_at, front_size, tail_a
 use Rattle.tlwords.specs.Known.{Known, known_of, gone_known}
 use Rattle.atomic_table.specs.Seated.{TableId}
 use Rattle.tlwords.specs.Rule.{total_of, Start, IsLeft, rights_of, numbers_of, moved_of, Adds, Kept, Ruled}
-use Rattle.tlwords.specs.Closing.{AreCellsOf, IsStoreOf, Shows, IsWorldOf, Closes, EndsIn, IsStill, ClosesAll}
+use Rattle.tlwords.specs.Closing.{AreCellsOf, IsStoreOf, Shows, IsWorldOf, Closes, EndsIn, IsStill, ClosesAll, IsHeldIn, holders_in}
 use Rattle.tlwords.proofs.Keeps.{now, seat_at, legal_of}
 use Rattle.tlwords.proofs.Gathers.{nothing_held, rests_unheld}
 use Rattle.tlwords.proofs.ReadSteps.{half_of, half_written}
@@ -97,6 +99,26 @@ only_one f (x ∷ xs) (suc id) v at each =
     let b : total_of f xs ≡ f v = only_one f xs id v at (λ j u other there. each (suc j) u (λ p. other (omega (arith, p))) there) in
     omega (arith, a, b)
 
+-- where each is at most another, so are all together; and where one leaves so many, all do
+total_most : {V : Type 0} (f g : V → ℕ) (vs : List V) → ((j : ℕ) (u : V) → get_elem? vs j ≡ some u → f u ≤ g u) → total_of f vs ≤ total_of g vs
+total_most f g [] each = omega arith
+total_most f g (x ∷ xs) each =
+    let a : f x ≤ g x = each 0 x refl in
+    let b : total_of f xs ≤ total_of g xs = total_most f g xs (λ j u at. each (suc j) u at) in
+    omega (arith, a, b)
+
+total_leaves : {V : Type 0} (f g : V → ℕ) (vs : List V) (id : ℕ) (v : V) (k : ℕ) → get_elem? vs id ≡ some v → f v + k ≤ g v
+    → ((j : ℕ) (u : V) → get_elem? vs j ≡ some u → f u ≤ g u) → total_of f vs + k ≤ total_of g vs
+total_leaves f g [] id v k at leaves each = absurd (some-ne-none v (sym at))
+total_leaves f g (x ∷ xs) zero v k at leaves each =
+    let a : f x + k ≤ g x = subst (λ y. f y + k ≤ g y) (sym (some-injective x v at)) leaves in
+    let b : total_of f xs ≤ total_of g xs = total_most f g xs (λ j u there. each (suc j) u there) in
+    omega (arith, a, b)
+total_leaves f g (x ∷ xs) (suc id) v k at leaves each =
+    let a : f x ≤ g x = each 0 x refl in
+    let b : total_of f xs + k ≤ total_of g xs = total_leaves f g xs id v k at leaves (λ j u there. each (suc j) u there) in
+    omega (arith, a, b)
+
 no_length : {A : Type 0} (xs : List A) → length xs ≡ 0 → xs ≡ []
 no_length [] e = refl
 no_length (x ∷ xs) e = absurd (omega (arith, e))
@@ -111,6 +133,18 @@ seat_view f (v ∷ vs) (suc i) x e = seat_view f vs i x e
 total_map : {U V : Type 0} (f : V → ℕ) (g : U → V) (us : List U) → total_of f (map g us) ≡ total_of (λ (u : U). f (g u)) us
 total_map f g [] = refl
 total_map f g (u ∷ us) = ap (λ (n : ℕ). f (g u) + n) (total_map f g us)
+
+-- 1 where it holds a cell
+abbrev holder_of : Seat → ℕ
+holder_of t = if is_nil t.held then 0 else 1
+
+holds_none : (t : Seat) → t.held ≡ [] → holder_of t ≡ 0
+holds_none t e = ap (λ (ks : List Held). if is_nil ks then 0 else 1) e
+
+holds_few : (ks : List Held) (n : ℕ) → (n ≡ 0 → ks ≡ []) → (if is_nil ks then 0 else 1) ≤ n
+holds_few [] n unheld = omega arith
+holds_few (x ∷ ks) zero unheld = let e : x ∷ ks ≡ [] = unheld refl in absurd (cc)
+holds_few (x ∷ ks) (suc n) unheld = omega arith
 
 has_split : {U : Type 0} (u : U) (us : List U) (v : U) → Has u (us ++ v ∷ []) → Has u us ⊎ (u ≡ v)
 has_split u [] v (inl e) = inr e
@@ -234,12 +268,34 @@ module _ {S N : Type 0} (terms : Terms S N) (setting : S) (base : List ℕ) (roo
       let y : (y : Cell) × (slice_get w.cells c ≡ Some y) × (y.lock ≡ x.lock) × (y.value ≡ x.value) = cell_same c x f in
       subst (λ (v : ℕ). Names r.ranges v) y.3 (k.named c y.0 y.1 is)
 
+  -- a lock that is held is that of a seat in the middle of a run
+  held : (c : ℕ) (x : ClosedCell) → slice_get closed.cells.items c ≡ Some x → x.lock % 2 ≡ 1 → IsHeldIn w c
+  held c x f odd =
+      let y : (y : Cell) × (slice_get w.cells c ≡ Some y) × (y.lock ≡ x.lock) × (y.value ≡ x.value) = cell_same c x f in
+      let lock : x.lock ≡ suc (2 * (x.lock / 2)) = omega (arith, odd) in
+      let b = (k.invariant).locked_are_held c (x.lock / 2) y.0 y.1 (y.2 ∙ lock) in
+      record { index = b.0; seat = b.1; here = b.2; holds = b.3; busy = busy b.0 b.1 b.2 b.3 (is_resting b.1.place) refl }
+    where
+      busy : (id : ℕ) (t : Seat) → slice_get w.seats id ≡ Some t → Holds t c → (v : Bool) → is_resting t.place ≡ v → is_resting t.place ≡ false
+      busy id t at holds true rest = absurd (nothing_held t c (rests_unheld base w id t k.invariant at rest) holds)
+      busy id t at holds false rest = rest
+
+  -- a view whose seat holds a cell has a part of the right to draw
+  few_held : (j : ℕ) (u : View S N) → get_elem? s.views j ≡ some u → holder_of u.seat ≤ rights_of u
+  few_held j u at =
+      let a : holder_of u.seat ≤ u.rights = holds_few u.seat.held u.rights (k.suits j u at).unheld in
+      omega (arith, a)
+
+  holders : holders_in w ≡ total_of (λ (u : View S N). holder_of u.seat) s.views
+  holders = ap (total_of holder_of) (sym k.seats_are) ∙ total_map holder_of (λ (u : View S N). u.seat) s.views
+
   legal : Legal terms setting base last
   legal = legal_of terms setting base room r.ranges w k.notes k.invariant k.entries
 
   is_world : IsWorldOf base w.history closed.clock closed.cells.items w
   is_world = record {
     invariant = k.invariant;
+    reached = k.reached;
     history_is = refl;
     clock_is = (k.invariant).consistent.clock ∙ shown.clock_is;
     count = let m : n ≡ length w.cells = many in omega (arith, m, cells_count);
@@ -277,6 +333,7 @@ module _ {S N : Type 0} (terms : Terms S N) (setting : S) (base : List ℕ) (roo
     refused = refused;
     opening = k.opening;
     named = named;
+    held = held;
   }
 
   found_of : (m count : ℕ) → m + min count (room + 1) ≤ r.tail → m + min count (length closed.store.items + 1) ≤ closed.tail
@@ -393,6 +450,27 @@ module _ {S N : Type 0} (terms : Terms S N) (setting : S) (base : List ℕ) (roo
           omega (arith, a, b, c, t);
     }
 
+  -- the seats that hold a cell are not those of the passes given
+  others : (id : ℕ) (x : View S N) (gs : List (Gone S N)) → get_elem? s.views id ≡ some (record x { gone = gs }) → x.seat.held ≡ []
+      → x.rights ≡ 1 → (count : ℕ) → length gs + 1 ≡ count → holders_in closes.world + count ≤ opened.sessions
+  unfolding closes
+  others id x gs there unheld one count is =
+      let none : holder_of x.seat ≡ 0 = holds_none x.seat unheld in
+      let l : total_of (λ (u : View S N). holder_of u.seat) s.views + count ≤ total_of rights_of s.views =
+      total_leaves (λ (u : View S N). holder_of u.seat) rights_of s.views id (record x { gone = gs }) count there (omega (arith, none, one, is)) few_held in
+      let a : total_of rights_of s.views ≡ opened.sessions = r.dealt in
+      let b : holders_in w ≡ total_of (λ (u : View S N). holder_of u.seat) s.views = holders in
+      omega (arith, l, a, b)
+
+  others_alone : holders_in closes.world ≤ opened.sessions
+  unfolding closes
+  others_alone =
+      let l : total_of (λ (u : View S N). holder_of u.seat) s.views ≤ total_of rights_of s.views =
+      total_most (λ (u : View S N). holder_of u.seat) rights_of s.views few_held in
+      let a : total_of rights_of s.views ≡ opened.sessions = r.dealt in
+      let b : holders_in w ≡ total_of (λ (u : View S N). holder_of u.seat) s.views = holders in
+      omega (arith, l, a, b)
+
   pub closes_all : (table : TableId) (id : ℕ) (x : View S N) (gs : List (Gone S N)) → get_elem? s.views id ≡ some (record x { gone = gs }) → is_resting x.seat.place ≡ true
       → x.rights ≡ 1
       → (us : List (Known S N)) → gs ≡ map gone_known us → ClosesAll terms setting base opened.store opened.sessions (us ++ known_of table x ∷ []) closed
@@ -415,6 +493,10 @@ module _ {S N : Type 0} (terms : Terms S N) (setting : S) (base : List ℕ) (roo
             let b : moved_of v ≤ total_of moved_of s.views = total_has moved_of s.views id v there in
             let c : moved_of v ≡ total_of (λ (x : Known S N). x.taken + x.added) (us ++ known_of table x ∷ []) = given_moved table x gs us gone in
             omega (arith, t, a, b, c);
+        others = others id x gs there unheld one (length (us ++ known_of table x ∷ []))
+            (let b : length (us ++ known_of table x ∷ []) ≡ length us + 1 = length-append us (known_of table x ∷ []) in
+            let c : length gs ≡ length us = ap length gone ∙ length-map us gone_known in
+            omega (arith, b, c));
         still = still table id x gs there unheld us one gone;
       }
 
@@ -423,6 +505,7 @@ module _ {S N : Type 0} (terms : Terms S N) (setting : S) (base : List ℕ) (roo
     closes = closes;
     each = λ u has. absurd has;
     moved = let b : length opened.store ≤ closed.tail = behind in omega (arith, b);
+    others = let b : holders_in closes.world ≤ opened.sessions = others_alone in omega (arith, b);
     still = λ e. absurd (omega (arith, e, some_sessions));
   }
 

@@ -5,7 +5,7 @@ use native.Mathlib.Decide.{ℕ_discrete}
 use Rattle.std.proofs.lemmas.List.{set-get_or, get_or_append_left, set-append_left}
 use Rattle.tlcore.specs.History.{Entry, wv, settle}
 use Rattle.tlcore.specs.Seats.{Seat, is_next, is_nil, all_settled, number_at}
-use Rattle.tlcore.specs.Machine.{World, with_seat, begun, placed, conflict, taken, drawn, store, release}
+use Rattle.tlcore.specs.Machine.{World, with_seat, begun, placed, conflict, saw, taken, drawn, store, release}
 use Rattle.tlcore.specs.Laws.{Leads}
 use Rattle.tlcore.specs.declared.actions.Action.{Action}
 use Rattle.tlcore.specs.declared.actions.Action.TheVariants.{Begin, Look, Load, Relook, Take, Draw, Check, Store, Release}
@@ -96,7 +96,7 @@ module _ {S N : Type 0} (terms : Terms S N) (setting : S) (base : List ℕ) (roo
       let w : World = at.rule.kept.world in
       quiet m r at Begin clock_at (begun w m.0.seat) (clock_within m r at)
       (begin_leads base w at.seat m.0.seat at.rule.kept.invariant (here_seat m r at) place)
-      (ap (λ (v : View S N). v.seat) t.is ∙ ap began (clock_is m r at))
+      (ap (λ (v : View S N). v.seat) t.is ∙ ap (began m.0.seat) (clock_is m r at))
 
   pub looks_are : LookIsEvent terms setting base room opened
   looks_are m r at c has place t =
@@ -139,8 +139,8 @@ module _ {S N : Type 0} (terms : Terms S N) (setting : S) (base : List ℕ) (roo
       let is : n ≡ (x.0).lock = lock_is m r at c x.0 x.1 in
       let l = lock_within at.rule.front w at.rule.kept.words_are c x.0 x.1 in
       let lead = take_leads base w at.seat s c value d x.0 at.rule.kept.invariant (here_seat m r at) place read x.1 in
-      let held : Seat = record s { place = Taking; held = record { cell = c; word = d.word; value = value; stored = false } ∷ s.held } in
-      let lost : Seat = conflict s (if is_nil s.held then Idle else Failing) in
+      let held : ℕ → Seat = λ k. record (saw s c k) { place = Taking; held = record { cell = c; word = d.word; value = value; stored = false } ∷ s.held } in
+      let lost : ℕ → Seat = λ k. conflict (saw s c k) (if is_nil s.held then Idle else Failing) in
       let world : World = taken w at.seat s c value d.word x.0 in
       let seat : r.0.seat ≡ after_take s c value d.word n = ap (λ (v : View S N). v.seat) t.is in
       dite (ℕ_discrete n d.word)
@@ -150,16 +150,16 @@ module _ {S N : Type 0} (terms : Terms S N) (setting : S) (base : List ℕ) (roo
       subst (λ (left : ℕ). IsEvent terms setting base room opened m r at (Take c value) (lock_at c) left)
       (sym (if_true (n == d.word) (d.word + 1) n (eq-eqb n d.word hit)))
       (event m r at (Take c value) (lock_at c) (d.word + 1) world l
-      (subst (λ (v : World). Leads base w at.seat (Take c value) v) (if_true ((x.0).lock == d.word) world (with_seat w at.seat lost) same) lead)
+      (subst (λ (v : World). Leads base w at.seat (Take c value) v) (if_true ((x.0).lock == d.word) world (with_seat w at.seat (lost (x.0).lock)) same) lead)
       (ap (λ (k : ℕ). slice_set at.rule.front (lock_at c) k) up ∙ lock_is_set at.rule.front w at.rule.kept.words_are c (suc d.word) x.0 x.1)
-      (ap (λ (t : Seat). slice_set w.seats at.seat t) (seat ∙ if_true (n == d.word) held lost (eq-eqb n d.word hit)))))
+      (ap (λ (t : Seat). slice_set w.seats at.seat t) (seat ∙ (if_true (n == d.word) (held n) (lost n) (eq-eqb n d.word hit) ∙ ap held is)))))
       (λ miss.
       let other : ((x.0).lock == d.word) ≡ false = ne_eqb (x.0).lock d.word (λ a. miss (is ∙ a)) in
       subst (λ (left : ℕ). IsEvent terms setting base room opened m r at (Take c value) (lock_at c) left)
       (sym (if_false (n == d.word) (d.word + 1) n (ne_eqb n d.word miss)))
-      (quiet m r at (Take c value) (lock_at c) lost l
-      (subst (λ (v : World). Leads base w at.seat (Take c value) v) (if_false ((x.0).lock == d.word) world (with_seat w at.seat lost) other) lead)
-      (seat ∙ if_false (n == d.word) held lost (ne_eqb n d.word miss))))
+      (quiet m r at (Take c value) (lock_at c) (lost (x.0).lock) l
+      (subst (λ (v : World). Leads base w at.seat (Take c value) v) (if_false ((x.0).lock == d.word) world (with_seat w at.seat (lost (x.0).lock)) other) lead)
+      (seat ∙ (if_false (n == d.word) (held n) (lost n) (ne_eqb n d.word miss) ∙ ap lost is))))
 
   pub draws_are : DrawIsEvent terms setting base room opened
   draws_are m r at note place t =

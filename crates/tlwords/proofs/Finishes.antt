@@ -53,7 +53,7 @@ module _ {S N : Type 0} (terms : Terms S N) (slots : List Slot) (x : N) (m r : M
       )
 
   module _ (g : Goes terms m (holding m.0.seat Taking Reading (held_in slots 0 0 (length slots))) r) where
-    at : r.0.seat ≡ holding m.0.seat Taking Reading (held_in slots 0 0 (length slots))
+    at : r.0.seat ≡ record (holding m.0.seat Taking Reading (held_in slots 0 0 (length slots))) { looked = r.0.seat.looked }
     at = goes_seat terms m r (holding m.0.seat Taking Reading (held_in slots 0 0 (length slots))) g
 
     pub taken_run : (place : ℕ) → writes_kept slots ≢ [] → m.0.seat.rv ≡ place

@@ -1,5 +1,5 @@
 -- A pass is given up to another one: its seat rests, and its view stays among those that are gone.
-use Rattle.std.proofs.Common.{◌≡◌, ◌≢◌, ℕ, suc, ◌+◌, ◌*◌, ◌^◌, ◌≤◌, ◌⊎◌, inl, inr, ⊎_elim, true, Option, Some, None, List, [], ◌∷◌, ◌++◌, All, length, map, slice_get, slice_set, sym, refl, ap, ◌∙◌, subst, arith}
+use Rattle.std.proofs.Common.{◌≡◌, ◌≢◌, ℕ, suc, ◌+◌, ◌*◌, ◌^◌, ◌≤◌, ◌⊎◌, inl, inr, ⊎_elim, true, Some, None, List, [], ◌∷◌, ◌++◌, All, length, map, slice_get, slice_set, sym, refl, ap, ◌∙◌, subst, arith}
 use mathlib.Core.Option.{some}
 use lib.ListN.{get_elem?}
 use Rattle.std.proofs.lemmas.List.{length-append, get_or_append_left, map-append}
@@ -18,7 +18,7 @@ use Rattle.ranges.specs.Ranges.{Range, Has}
 use Rattle.tlwords.specs.Terms.{Terms}
 use Rattle.tlwords.specs.Seen.{Seen}
 use Rattle.tlwords.specs.Views.{Gone, Staging, View, gone_of, untold, nobody}
-use Rattle.tlwords.specs.Rule.{total_of, Start, IsTold, IsGone, rights_of, numbers_of, moved_of, added_of, Suits, Adds, IsTail, Shelf, Ruled}
+use Rattle.tlwords.specs.Rule.{by_leaving, total_of, Start, IsTold, IsGone, rights_of, numbers_of, moved_of, added_of, Suits, Adds, IsTail, Shelf, Ruled}
 use Rattle.tlwords.specs.Plays.{given_up}
 use Rattle.tlwords.proofs.Paired.{set_same, map_set}
 use Rattle.tlwords.proofs.Keeps.{now, seat_at, untold_is, total_set}
@@ -231,6 +231,7 @@ module _ {S N : Type 0} (terms : Terms S N) (setting : S) (base : List ℕ) (roo
             notes = k.notes;
             owner = k.owner;
             invariant = rested base k.world other w.seat k.invariant seat_w unheld;
+            reached = by_leaving other w.seat k.reached seat_w rest;
             words_are = k.words_are;
             seats_are =
                 map_set (λ (x : View S N). x.seat) (slice_set vs id b) other nobody

@@ -7,7 +7,6 @@ use Rattle.tlcore.specs.History.{One}
 use Rattle.tlcore.specs.Seats.{Seat, number_at, reads_of}
 use Rattle.tlcore.specs.Machine.{World}
 use Rattle.tlcore.specs.Invariant.{Invariant, SeatOk}
-use Rattle.tlcore.specs.Laws.{Keeps}
 use Rattle.tlcore.proofs.Lists.{get-set_same}
 use Rattle.tlcore.proofs.SeatParts.{ReadsOk-one}
 use Rattle.tlcore.specs.declared.cells.Cell.{Cell}
@@ -18,6 +17,7 @@ use Rattle.tlwords.specs.Views.{Told, Gone, View, tells, untold, Sound}
 use Rattle.tlwords.specs.Layout.{words_of}
 use Rattle.tlwords.specs.Rule.{total_of, LookIsFresh, EntriesAre, IsTold, IsGone, rights_of, numbers_of, Suits, Kept}
 use Rattle.tlwords.specs.Plays.{Mine, Sees}
+use Rattle.tlwords.proofs.Reaching.{Follows}
 use Rattle.tlwords.proofs.Seens.{settled_grows, look_grows, seen_refl, seen_trans, agree_grows, entries_grow}
 use Rattle.tlwords.proofs.Paired.{get_same, get_map, map_set}
 use Rattle.tlwords.proofs.Once.{nothing_drawn}
@@ -158,7 +158,7 @@ module _ {S N : Type 0} (terms : Terms S N) (setting : S) (base : List ℕ) (roo
     pub moved : (id : ℕ) (v w : View S N) → get_elem? vs id ≡ some v → (qs : List Range) (after : List ℕ) (world : World) (notes : List N) (owner : ℕ → ℕ)
         → Within ranges qs → AreOfOneStore room qs
         → ((c : ℕ) (x : Cell) → slice_get world.cells c ≡ Some x → terms.ranged setting c ≡ true → Names qs x.value)
-        → Keeps base r.world world → world.seats ≡ slice_set (r.world).seats id w.seat → after ≡ words_of world
+        → Follows base r.world world → world.seats ≡ slice_set (r.world).seats id w.seat → after ≡ words_of world
         → length world.cells ≡ length (r.world).cells → NotesGrow r.notes notes → length notes ≡ length world.history
         → EntriesAre terms setting (record { history = world.history; notes = notes; ranges = qs })
         → ((n : ℕ) → n ≤ length (r.world).history → owner n ≡ r.owner n)
@@ -173,6 +173,7 @@ module _ {S N : Type 0} (terms : Terms S N) (setting : S) (base : List ℕ) (roo
           notes = notes;
           owner = owner;
           invariant = keeps.invariant;
+          reached = keeps.reached r.reached;
           words_are = words;
           seats_are =
               map_set (λ (u : View S N). u.seat) vs id w
@@ -198,15 +199,15 @@ module _ {S N : Type 0} (terms : Terms S N) (setting : S) (base : List ℕ) (roo
         }
 
     -- the view after a step without a new number
-    abbrev pub after_step : View S N → World → Seat → ℕ → Option (ℕ × ℕ) → List (Call N) → Told S N → View S N
-    after_step v world z runs looked mine told =
-        record v { seen = record { history = world.history; notes = r.notes; ranges = ranges }; seat = z; runs = runs; looked = looked; mine = mine; told = told }
+    abbrev pub after_step : View S N → World → Seat → List (Call N) → Told S N → View S N
+    after_step v world z mine told =
+        record v { seen = record { history = world.history; notes = r.notes; ranges = ranges }; seat = z; mine = mine; told = told }
 
     -- a step without a new number, by one event of the machine
     pub goes : (id : ℕ) (v : View S N) → get_elem? vs id ≡ some v
-        → (after : List ℕ) (world : World) (z : Seat) (runs : ℕ) (looked : Option (ℕ × ℕ)) (mine : List (Call N)) (told : Told S N)
+        → (after : List ℕ) (world : World) (z : Seat) (mine : List (Call N)) (told : Told S N)
         → ((c : ℕ) (x : Cell) → slice_get world.cells c ≡ Some x → terms.ranged setting c ≡ true → Names ranges x.value)
-        → Keeps base r.world world → world.seats ≡ slice_set (r.world).seats id z → after ≡ words_of world
+        → Follows base r.world world → world.seats ≡ slice_set (r.world).seats id z → after ≡ words_of world
         → length world.cells ≡ length (r.world).cells → length world.history ≡ length (r.world).history
         → (Agree terms setting base (record { history = world.history; notes = r.notes; ranges = ranges }) v.mine
         → Agree terms setting base (record { history = world.history; notes = r.notes; ranges = ranges }) mine)
@@ -214,10 +215,10 @@ module _ {S N : Type 0} (terms : Terms S N) (setting : S) (base : List ℕ) (roo
         → ((i : ℕ) → number_at v.seat.place ≡ Some i → (number_at z.place ≡ Some i) ⊎ IsSettled world.history i)
         → ((i : ℕ) → number_at z.place ≡ Some i → number_at v.seat.place ≡ Some i)
         → LookIsFresh world.history z → (v.rights ≡ 0 → v.seat.held ≡ [] → z.held ≡ [])
-        → Rule ranges after (slice_set vs id (after_step v world z runs looked mine told)) × Sees terms v (after_step v world z runs looked mine told)
-    goes id v at after world z runs looked mine told named keeps seats words cells len calls is_told settles noted look unheld =
+        → Rule ranges after (slice_set vs id (after_step v world z mine told)) × Sees terms v (after_step v world z mine told)
+    goes id v at after world z mine told named keeps seats words cells len calls is_told settles noted look unheld =
         let later : Seen N = record { history = world.history; notes = r.notes; ranges = ranges } in
-        let w : View S N = after_step v world z runs looked mine told in
+        let w : View S N = after_step v world z mine told in
         let f : Suits terms setting base room now r.owner v = r.suits id v at in
         let grow : SeenGrows now later = (keeps.grows, λ i n e. e, λ x has. has) in
         let own : IsTold setting base later r.owner (tells v) = told_grows setting base now later r.owner r.owner (tells v) grow (λ n l. refl) f.own in

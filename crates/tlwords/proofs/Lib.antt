@@ -2,6 +2,7 @@ pub mod Once
 pub mod Seens
 pub mod Paired
 pub mod Keeps
+pub mod Reaching
 pub mod Fronts
 pub mod ReadSteps
 pub mod CommitSteps

@@ -9,8 +9,6 @@ use Rattle.atomic_table.proofs.Lists.{at_set, at_snoc, set_else}
 use Rattle.tlcore.specs.Seats.{Seat, idle, reads_of}
 use Rattle.tlcore.specs.Machine.{World}
 use Rattle.tlcore.specs.Invariant.{SeatOk}
-use Rattle.tlcore.specs.Laws.{Keeps}
-use Rattle.tlcore.proofs.Growth.{Grows-refl}
 use Rattle.tlcore.proofs.Laws.{idle_seat_keeps}
 use Rattle.tlcore.proofs.SeatParts.{ReadsOk-one}
 use Rattle.tlcore.specs.declared.seats.Place.TheVariants.{Idle}
@@ -19,8 +17,9 @@ use Rattle.ranges.specs.Ranges.{Range, Has}
 use Rattle.tlwords.specs.Terms.{Terms, Permits}
 use Rattle.tlwords.specs.Seen.{Work, Call, Answered, Seen, Agree}
 use Rattle.tlwords.specs.Views.{Gone, View, tells, untold, nobody}
-use Rattle.tlwords.specs.Rule.{total_of, Start, IsTold, rights_of, numbers_of, Suits, Ruled}
+use Rattle.tlwords.specs.Rule.{by_joining, total_of, Start, IsTold, rights_of, numbers_of, Suits, Ruled}
 use Rattle.tlwords.specs.Plays.{Mine, Sees, recalled, refreshed, witness, told_by, newcomer, bare}
+use Rattle.tlwords.proofs.Reaching.{Follows, by_none}
 use Rattle.tlwords.proofs.Paired.{set_same, map_set, word_count}
 use Rattle.tlwords.proofs.Seens.{agree_snoc, permits_grow}
 use Rattle.tlwords.proofs.Shelves.{dealt_same, shelf_same, shelf_shared}
@@ -43,9 +42,9 @@ module _ {S N : Type 0} (terms : Terms S N) (setting : S) (base : List ℕ) (roo
       let w : World = r.world in
       let f : Suits terms setting base room (now terms setting base room ranges ws vs r) r.owner v = r.suits id v at in
       let e : slice_get w.seats id ≡ Some v.seat = seat_at terms setting base room ranges ws vs r id v at in
-      let same : Keeps base w w = record { invariant = r.invariant; grows = Grows-refl w.history } in
+      let same : Follows base w w = by_none base w r.invariant in
       goes terms setting base room ranges ws vs r id v at
-      (slice_set ws 0 (slice_index ws 0)) w v.seat v.runs v.looked mine v.told r.named same
+      (slice_set ws 0 (slice_index ws 0)) w v.seat mine v.told r.named same
       (sym (set_same w.seats id v.seat e)) (set-get_or ws 0 0 ∙ r.words_are) refl refl calls f.told (λ i a. inl a) (λ i a. a) f.look
       (λ _ b. b)
 
@@ -124,6 +123,7 @@ module _ {S N : Type 0} (terms : Terms S N) (setting : S) (base : List ℕ) (roo
         notes = r.notes;
         owner = r.owner;
         invariant = idle_seat_keeps base (r.world) r.invariant;
+        reached = by_joining r.reached;
         words_are = r.words_are;
         seats_are =
             map_snoc (slice_set vs id w) u
@@ -263,7 +263,7 @@ module _ {S N : Type 0} (terms : Terms S N) (setting : S) (base : List ℕ) (roo
   changed ranges ws vs r id v w at suit same rights count =
       let e : slice_get (r.world).seats id ≡ Some v.seat = seat_at terms setting base room ranges ws vs r id v at in
       moved terms setting base room ranges ws vs r id v w at ranges ws r.world r.notes r.owner (λ x has. has) r.lie r.named
-      (record { invariant = r.invariant; grows = Grows-refl (r.world).history })
+      (by_none base r.world r.invariant)
       (sym (ap (λ (t : Seat). slice_set (r.world).seats id t) same ∙ set_same (r.world).seats id v.seat e)) r.words_are refl
       (λ i n a. a) r.notes_are r.entries
       (λ n l. refl) suit rights (omega (arith, count))

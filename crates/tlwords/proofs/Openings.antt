@@ -16,7 +16,7 @@ use Rattle.tlwords.specs.Terms.{Terms, AreNamed}
 use Rattle.tlwords.specs.Seen.{Seen, opening_seen}
 use Rattle.tlwords.specs.Views.{Staging, View, Sound, untold, fresh}
 use Rattle.tlwords.specs.Layout.{store_at, paired, opening_words, unused, front_of, shelf_of}
-use Rattle.tlwords.specs.Rule.{IsTold, Suits, Kept, Adds, Shelf, Ruled, first_view}
+use Rattle.tlwords.specs.Rule.{at_opening, IsTold, Suits, Kept, Adds, Shelf, Ruled, first_view}
 use Rattle.tlwords.specs.Runs.{down, dealer, IsNew, KnowsStore}
 use Rattle.tlwords.specs.Plays.{Mine, newcomer}
 use Rattle.tlwords.proofs.Logs.{take_next}
@@ -110,6 +110,7 @@ module _ {S N : Type 0} (terms : Terms S N) (setting : S) (values store : List â
         notes = [];
         owner = Î» _. 0;
         invariant = start_ok values 1;
+        reached = at_opening 1;
         words_are = ap (front_of 0) (paired_opened values);
         seats_are = refl;
         cells_are = length_opened values;

@@ -1,5 +1,5 @@
 -- Begin, Look, Load and Relook keep the rule: each is one event of the machine.
-use Rattle.std.proofs.Common.{◌≡◌, ◌≢◌, ℕ, suc, ◌+◌, ◌-◌, ◌*◌, ◌/◌, ◌%◌, ◌<◌, ◌≤◌, ◌⊎◌, inl, inr, ⊎_elim, Bool, true, false, if◌then◌else◌, ◌==◌, Option, Some, None, List, [], ◌∷◌, length, slice_get, slice_set, slice_index, sym, refl, ap, ◌∙◌, subst, arith}
+use Rattle.std.proofs.Common.{◌≡◌, ◌≢◌, ℕ, suc, ◌-◌, ◌*◌, ◌/◌, ◌%◌, ◌<◌, ◌≤◌, ◌⊎◌, inl, inr, ⊎_elim, Bool, true, false, if◌then◌else◌, ◌==◌, Some, None, List, [], ◌∷◌, length, slice_get, slice_set, slice_index, sym, refl, ap, ◌∙◌, subst, arith}
 use mathlib.Core.Logic.{dite}
 use mathlib.Core.Option.{none, some}
 use native.Mathlib.Decide.{ℕ_discrete, dec_lt}
@@ -8,10 +8,10 @@ use Rattle.std.proofs.lemmas.List.{set-get_or}
 use Rattle.atomic_table.specs.Table.{step, Allows}
 use Rattle.tlcore.specs.History.{Entry, WasWritten, Will, deed, version, version_after, value}
 use Rattle.tlcore.specs.Seats.{Seat, number_at, passes}
-use Rattle.tlcore.specs.Machine.{World, with_seat, begun, placed, conflict, look, load, relook}
+use Rattle.tlcore.specs.Machine.{World, with_seat, begun, placed, conflict, saw, look, load, relook}
 use Rattle.tlcore.specs.Invariant.{Invariant, IsOld}
 use Rattle.tlcore.specs.declared.actions.Action.TheVariants.{Begin, Look, Load, Relook}
-use Rattle.tlcore.specs.Laws.{Leads, Keeps}
+use Rattle.tlcore.specs.Laws.{Leads}
 use Rattle.tlcore.proofs.Growth.{get_exists}
 use Rattle.tlcore.proofs.Halves.{halves}
 use Rattle.tlcore.proofs.Laws.{begin_leads, look_leads, load_leads, relook_leads}
@@ -27,6 +27,7 @@ use Rattle.tlwords.specs.Views.{Told, View, untold}
 use Rattle.tlwords.specs.Layout.{clock_at, lock_at, value_at}
 use Rattle.tlwords.specs.Rule.{Start, IsFresh, LookIsFresh, IsTold, Suits, Ruled}
 use Rattle.tlwords.specs.Plays.{Mine, Sees, Looks, began, after_look, after_relook, sampled, looked, loaded, relooked, bare}
+use Rattle.tlwords.proofs.Reaching.{Follows, by_event}
 use Rattle.tlwords.proofs.Paired.{clock_word, lock_word, value_word, word_count, lock_within, value_within}
 use Rattle.tlwords.proofs.Seens.{version_settled}
 use Rattle.tlwords.proofs.Lifts.{lifted}
@@ -109,16 +110,16 @@ module _ {S N : Type 0} (terms : Terms S N) (setting : S) (base : List ℕ) (roo
 
   -- a load, by an event that changes the seat alone
   pub quiet : (ranges : List Range) (ws : List ℕ) (vs : List (View S N)) (r : Rule terms setting base room ranges ws vs) (id : ℕ) (v : View S N) → get_elem? vs id ≡ some v
-      → (i : ℕ) (z : Seat) (runs : ℕ) (looked : Option (ℕ × ℕ)) (told : Told S N)
-      → Keeps base r.world (with_seat r.world id z) → IsTold setting base (now terms setting base room ranges ws vs r) r.owner told
+      → (i : ℕ) (z : Seat) (told : Told S N)
+      → Follows base r.world (with_seat r.world id z) → IsTold setting base (now terms setting base room ranges ws vs r) r.owner told
       → ((k : ℕ) → number_at v.seat.place ≡ Some k → number_at z.place ≡ Some k)
       → ((k : ℕ) → number_at z.place ≡ Some k → number_at v.seat.place ≡ Some k)
       → LookIsFresh (r.world).history z → (v.rights ≡ 0 → v.seat.held ≡ [] → z.held ≡ [])
-      → (w : View S N) → w ≡ after_step terms setting base room ranges ws vs r v (r.world) z runs looked v.mine told
+      → (w : View S N) → w ≡ after_step terms setting base room ranges ws vs r v (r.world) z v.mine told
       → Rule terms setting base room ranges (slice_set ws i (slice_index ws i)) (slice_set vs id w) × Sees terms v w
-  quiet ranges ws vs r id v at i z runs looked told stays is_told on back look unheld w is =
+  quiet ranges ws vs r id v at i z told stays is_told on back look unheld w is =
       subst (λ (w : View S N). Rule terms setting base room ranges (slice_set ws i (slice_index ws i)) (slice_set vs id w) × Sees terms v w) (sym is)
-      (goes terms setting base room ranges ws vs r id v at (slice_set ws i (slice_index ws i)) (with_seat r.world id z) z runs looked v.mine told r.named stays refl
+      (goes terms setting base room ranges ws vs r id v at (slice_set ws i (slice_index ws i)) (with_seat r.world id z) z v.mine told r.named stays refl
       (set-get_or ws i 0 ∙ r.words_are) refl refl (λ a. a) is_told (λ k p. inl (on k p)) back look unheld)
 
   pub samples : (opened : Start) (slots id : ℕ) (me : Mine S N) → (me.0.seat.place ≡ Idle) ⊎ (me.0.seat.place ≡ Reading)
@@ -132,11 +133,12 @@ module _ {S N : Type 0} (terms : Terms S N) (setting : S) (base : List ℕ) (roo
       let is : n ≡ w.clock = clock_word ws w r.words_are in
       let e : slice_get w.seats id ≡ Some v.seat = seat_at terms setting base room ranges ws vs r id v at in
       let lead : Leads base w id Begin (with_seat w id (begun w v.seat)) = begin_leads base w id v.seat r.invariant e p in
-      let keep : Keeps base w (with_seat w id (began n)) = subst (λ (k : ℕ). Keeps base w (with_seat w id (began k))) (sym is) lead.keeps in
+      let keep : Follows base w (with_seat w id (began v.seat n)) =
+      subst (λ (k : ℕ). Follows base w (with_seat w id (began v.seat k))) (sym is) (by_event lead) in
       let h : Seen N = record { history = w.history; notes = r.notes; ranges = ranges } in
-      let u : View S N = record v { seen = h; seat = began n; told = untold; runs = v.runs + 1; looked = None } in
+      let u : View S N = record v { seen = h; seat = began v.seat n; told = untold } in
       let q : Rule terms setting base room ranges (slice_set ws clock_at n) (slice_set vs id u) × Sees terms v u =
-      quiet ranges ws vs r id v at clock_at (began n) (v.runs + 1) None untold keep (untold_is setting base h r.owner)
+      quiet ranges ws vs r id v at clock_at (began v.seat n) untold keep (untold_is setting base h r.owner)
       (λ k a. absurd (⊎_elim (λ (b : v.seat.place ≡ Idle). no_number v.seat.place Idle k b refl a) (λ (b : v.seat.place ≡ Reading). no_number v.seat.place Reading k b refl a) p))
       (λ k a. absurd (no_number Reading Reading k refl refl a))
       (λ c word value a. absurd (not_looking Reading refl c word value a)) (λ _ _. refl) u refl in
@@ -170,21 +172,21 @@ module _ {S N : Type 0} (terms : Terms S N) (setting : S) (base : List ℕ) (roo
       let is : n ≡ (x.0).lock = lock_word ws w r.words_are c x.0 x.1 in
       let e : slice_get w.seats id ≡ Some t = seat_at terms setting base room ranges ws vs r id v at in
       let lead : Leads base w id (Look c) (look w id t c x.0) = look_leads base w id t c x.0 r.invariant e p x.1 in
-      let keep : Keeps base w (with_seat w id (after_look t c n)) =
-      subst (λ (k : ℕ). Keeps base w (with_seat w id (after_look t c k))) (sym is) lead.keeps in
+      let keep : Follows base w (with_seat w id (after_look t c n)) =
+      subst (λ (k : ℕ). Follows base w (with_seat w id (after_look t c k))) (sym is) (by_event lead) in
       let h : Seen N = record { history = w.history; notes = r.notes; ranges = ranges } in
-      let u : View S N = record v { seen = h; seat = after_look t c n; looked = Some (c, n) } in
+      let u : View S N = record v { seen = h; seat = after_look t c n } in
       let f : Suits terms setting base room h r.owner v = r.suits id v at in
       let rv : t.rv ≤ length w.history = ((r.invariant).consistent.seats id t e).rv in
       let q : Rule terms setting base room ranges (slice_set ws (lock_at c) n) (slice_set vs id u) × Sees terms v u =
-      quiet ranges ws vs r id v at (lock_at c) (after_look t c n) v.runs (Some (c, n)) v.told keep f.told
+      quiet ranges ws vs r id v at (lock_at c) (after_look t c n) v.told keep f.told
       (λ k a. absurd (no_number t.place Reading k p refl a))
-      (λ k a. absurd (if_known (λ (z : Seat). number_at z.place ≡ Some k → ⊥) (passes n t.rv) (placed t (Looked c n)) (conflict t Idle)
+      (λ k a. absurd (if_known (λ (z : Seat). number_at z.place ≡ Some k → ⊥) (passes n t.rv) (placed (saw t c n) (Looked c n)) (conflict (saw t c n) Idle)
       (λ _ b. no_number (Looked c n) (Looked c n) k refl refl b) (λ _ b. no_number Idle Idle k refl refl b) a))
-      (if_known (λ (z : Seat). LookIsFresh w.history z) (passes n t.rv) (placed t (Looked c n)) (conflict t Idle)
-      (λ b. looked_fresh w.history t c n (pass_fresh base w c n t.rv x.0 r.invariant x.1 is rv b))
+      (if_known (λ (z : Seat). LookIsFresh w.history z) (passes n t.rv) (placed (saw t c n) (Looked c n)) (conflict (saw t c n) Idle)
+      (λ b. looked_fresh w.history (saw t c n) c n (pass_fresh base w c n t.rv x.0 r.invariant x.1 is rv b))
       (λ _ d word value a. absurd (not_looking Idle refl d word value a)))
-      (λ _ b. if_known (λ (z : Seat). z.held ≡ []) (passes n t.rv) (placed t (Looked c n)) (conflict t Idle) (λ _. b) (λ _. b)) u refl in (
+      (λ _ b. if_known (λ (z : Seat). z.held ≡ []) (passes n t.rv) (placed (saw t c n) (Looked c n)) (conflict (saw t c n) Idle) (λ _. b) (λ _. b)) u refl in (
         lock_within ws w r.words_are c x.0 x.1,
         u,
         (refl, refl, refl),
@@ -207,13 +209,13 @@ module _ {S N : Type 0} (terms : Terms S N) (setting : S) (base : List ℕ) (roo
       let e : slice_get w.seats id ≡ Some t = seat_at terms setting base room ranges ws vs r id v at in
       let lead : Leads base w id (Load c) (load w id t c word x.0) = load_leads base w id t c word x.0 r.invariant e p x.1 in
       let z : Seat = placed t (Loaded c word n) in
-      let keep : Keeps base w (with_seat w id z) =
-      subst (λ (k : ℕ). Keeps base w (with_seat w id (placed t (Loaded c word k)))) (sym is) lead.keeps in
+      let keep : Follows base w (with_seat w id z) =
+      subst (λ (k : ℕ). Follows base w (with_seat w id (placed t (Loaded c word k)))) (sym is) (by_event lead) in
       let h : Seen N = record { history = w.history; notes = r.notes; ranges = ranges } in
       let u : View S N = record v { seen = h; seat = z } in
       let f : Suits terms setting base room h r.owner v = r.suits id v at in
       let q : Rule terms setting base room ranges (slice_set ws (value_at c) n) (slice_set vs id u) × Sees terms v u =
-      quiet ranges ws vs r id v at (value_at c) z v.runs v.looked v.told keep f.told
+      quiet ranges ws vs r id v at (value_at c) z v.told keep f.told
       (λ k a. absurd (no_number t.place (Looked c word) k p refl a))
       (λ k a. absurd (no_number (Loaded c word n) (Loaded c word n) k refl refl a))
       (loaded_fresh w.history t c word n (f.look c word 0 (inl p))) (λ _ b. b) u refl in (
@@ -249,21 +251,21 @@ module _ {S N : Type 0} (terms : Terms S N) (setting : S) (base : List ℕ) (roo
       let e : slice_get w.seats id ≡ Some t = seat_at terms setting base room ranges ws vs r id v at in
       let lead : Leads base w id (Relook c) (relook w id t c word value x.0) = relook_leads base w id t c word value x.0 r.invariant e p x.1 in
       let z : Seat = after_relook t c word value n in
-      let keep : Keeps base w (with_seat w id z) =
-      subst (λ (k : ℕ). Keeps base w (with_seat w id (after_relook t c word value k))) (sym is) lead.keeps in
+      let keep : Follows base w (with_seat w id z) =
+      subst (λ (k : ℕ). Follows base w (with_seat w id (after_relook t c word value k))) (sym is) (by_event lead) in
       let h : Seen N = record { history = w.history; notes = r.notes; ranges = ranges } in
-      let u : View S N = record v { seen = h; seat = z; looked = Some (c, n) } in
+      let u : View S N = record v { seen = h; seat = z } in
       let f : Suits terms setting base room h r.owner v = r.suits id v at in
       let rv : t.rv ≤ length w.history = ((r.invariant).consistent.seats id t e).rv in
-      let reads : Seat = record t { place = Reading; reads = record { cell = c; word = word; value = value } ∷ t.reads } in
+      let reads : Seat = record (saw t c n) { place = Reading; reads = record { cell = c; word = word; value = value } ∷ t.reads } in
       let q : Rule terms setting base room ranges (slice_set ws (lock_at c) n) (slice_set vs id u) × Sees terms v u =
-      quiet ranges ws vs r id v at (lock_at c) z v.runs (Some (c, n)) v.told keep f.told
+      quiet ranges ws vs r id v at (lock_at c) z v.told keep f.told
       (λ k a. absurd (no_number t.place (Loaded c word value) k p refl a))
-      (λ k a. absurd (if_known (λ (z : Seat). number_at z.place ≡ Some k → ⊥) (n == word) reads (conflict t Idle)
+      (λ k a. absurd (if_known (λ (z : Seat). number_at z.place ≡ Some k → ⊥) (n == word) reads (conflict (saw t c n) Idle)
       (λ _ b. no_number Reading Reading k refl refl b) (λ _ b. no_number Idle Idle k refl refl b) a))
-      (if_known (λ (z : Seat). LookIsFresh w.history z) (n == word) reads (conflict t Idle)
+      (if_known (λ (z : Seat). LookIsFresh w.history z) (n == word) reads (conflict (saw t c n) Idle)
       (λ _ d o a b. absurd (not_looking Reading refl d o a b)) (λ _ d o a b. absurd (not_looking Idle refl d o a b)))
-      (λ _ b. if_known (λ (z : Seat). z.held ≡ []) (n == word) reads (conflict t Idle) (λ _. b) (λ _. b)) u refl in
+      (λ _ b. if_known (λ (z : Seat). z.held ≡ []) (n == word) reads (conflict (saw t c n) Idle) (λ _. b) (λ _. b)) u refl in
       let same : (d other found : ℕ) → t.place ≡ Loaded d other found → Loaded c word value ≡ Loaded d other found = λ d other found a. sym p ∙ a in
       let half : WasWritten w.history c (n / 2) = half_written ranges ws vs r c n x.0 x.1 is in
       let fresh : IsFresh w.history t.rv c word = f.look c word value (inr p) in
@@ -288,9 +290,9 @@ module _ {S N : Type 0} (terms : Terms S N) (setting : S) (base : List ℕ) (roo
       )
     where
       is_at : (d other found : ℕ) → Loaded c word value ≡ Loaded d other found → (v : View S N) (h : Seen N) (n : ℕ)
-          → record v { seen = h; seat = after_relook v.seat c word value n; looked = Some (c, n) } ≡ record v { seen = h; seat = after_relook v.seat d other found n; looked = Some (d, n) }
+          → record v { seen = h; seat = after_relook v.seat c word value n } ≡ record v { seen = h; seat = after_relook v.seat d other found n }
       is_at d other found a v h n =
           let i : c ≡ d = cc in
           let j : word ≡ other = cc in
           let k : value ≡ found = cc in
-          ap (λ (z : ℕ × ℕ × ℕ). let m : View S N = record v { seen = h; seat = after_relook v.seat z.0 z.1 z.2 n; looked = Some (z.0, n) } in m) (λ g. (i g, j g, k g))
+          ap (λ (z : ℕ × ℕ × ℕ). let m : View S N = record v { seen = h; seat = after_relook v.seat z.0 z.1 z.2 n } in m) (λ g. (i g, j g, k g))

@@ -69,13 +69,14 @@ module _ {S N : Type 0} (terms : Terms S N) (slots : List Slot) (high : ℕ) (ne
           done = g.done;
           gives = g.gives;
           start = g.start;
-          goes = goes_by terms (λ (t : Seat). after_release t c) r.0.looked m r s (holding m.0.seat g.place Idle still)
+          goes = goes_by terms (λ (t : Seat). after_release t c) (λ o. o) m r s (holding m.0.seat g.place Idle still)
               (holding m.0.seat g.place Idle (held_in slots g.done (c + 1) high)) g.goes t.sees t.is
-              (λ j. let z : Seat = record m.0.seat {
+              (λ o j. let z : Seat = record m.0.seat {
                 place = (if is_nil (left j) then Idle else (if some_held j then Idle else g.place));
                 held = left j;
+                looked = o;
               } in z);
-          looked = ap (λ (v : View S N). v.looked) t.is ∙ g.looked;
+          looked = ap (λ (v : View S N). v.seat.looked) t.is ∙ g.looked;
           void = λ i p. inr (t.void i (still_at ∙ p));
         }
       where

@@ -1,11 +1,11 @@
 -- The three steps of a read.
-use Rattle.std.proofs.Common.{◌≡◌, ◌≢◌, ℕ, ◌+◌, ◌/◌, ◌%◌, ◌<◌, ◌≤◌, inl, inr, eq-eqb, ne_eqb, nat_le, Bool, true, false, if◌then◌else◌}
+use Rattle.std.proofs.Common.{◌≡◌, ◌≢◌, ℕ, ◌/◌, ◌%◌, ◌<◌, ◌≤◌, inl, inr, eq-eqb, ne_eqb, nat_le, Bool, true, false, if◌then◌else◌}
 use Rattle.std.proofs.Common.{◌==◌, ◌&&◌, is_some, Option, Some, None, List, ◌∷◌, length, sym, refl, ap, ◌∙◌, subst, arith}
 use mathlib.Core.Logic.{dite}
 use native.Mathlib.Decide.{ℕ_discrete}
 use Rattle.std.proofs.lemmas.Bool.Decides.{nat_tests}
 use Rattle.tlcore.specs.Seats.{Seat, passes, is_nil}
-use Rattle.tlcore.specs.Machine.{placed, conflict}
+use Rattle.tlcore.specs.Machine.{placed, conflict, saw}
 use Rattle.tlcore.specs.declared.seats.Place.{Place}
 use Rattle.tlcore.specs.declared.seats.Place.TheVariants.{Idle, Reading, Looked, Loaded}
 use Rattle.tlcore.specs.Seats.{is_reading, is_resting}
@@ -65,22 +65,22 @@ module _ {S N : Type 0} (terms : Terms S N) where
           sees = p.sees;
           written = p.written;
           cause = cause;
-          is = p.is ∙ ap (λ (t : Seat). let v : View S N = record m0.0 { seen = m1.0.seen; seat = t; looked = Some (c, a) } in v)
-              (if_false (passes a m0.0.seat.rv) (placed m0.0.seat (Looked c a)) (conflict m0.0.seat Idle)
+          is = p.is ∙ ap (λ (t : Seat). let v : View S N = record m0.0 { seen = m1.0.seen; seat = t } in v)
+              (if_false (passes a m0.0.seat.rv) (placed (saw m0.0.seat c a) (Looked c a)) (conflict (saw m0.0.seat c a) Idle)
               (passes_false a m0.0.seat.rv cause));
         }
 
     module _ (even : a % 2 ≡ 0) (low : a / 2 ≤ m0.0.seat.rv) where
-      looked_is : m1.0 ≡ record m0.0 { seen = m1.0.seen; seat = placed m0.0.seat (Looked c a); looked = Some (c, a) }
+      looked_is : m1.0 ≡ record m0.0 { seen = m1.0.seen; seat = placed (saw m0.0.seat c a) (Looked c a) }
       looked_is =
-          p.is ∙ ap (λ (t : Seat). let v : View S N = record m0.0 { seen = m1.0.seen; seat = t; looked = Some (c, a) } in v)
-          (if_true (passes a m0.0.seat.rv) (placed m0.0.seat (Looked c a)) (conflict m0.0.seat Idle) (passes_true a m0.0.seat.rv even low))
+          p.is ∙ ap (λ (t : Seat). let v : View S N = record m0.0 { seen = m1.0.seen; seat = t } in v)
+          (if_true (passes a m0.0.seat.rv) (placed (saw m0.0.seat c a) (Looked c a)) (conflict (saw m0.0.seat c a) Idle) (passes_true a m0.0.seat.rv even low))
 
       pub looked_place : m1.0.seat.place ≡ Looked c a
       looked_place = ap (λ (v : View S N). v.seat.place) looked_is
 
       module _ (m2 : Mine S N) (b : ℕ) (q : Loads terms m1 b m2) where
-        loaded_is : m2.0 ≡ record m0.0 { seen = m2.0.seen; seat = placed m0.0.seat (Loaded c a b); looked = Some (c, a) }
+        loaded_is : m2.0 ≡ record m0.0 { seen = m2.0.seen; seat = placed (saw m0.0.seat c a) (Loaded c a b) }
         loaded_is =
             q.is c a looked_place
             ∙ ap (λ (v : View S N). let u : View S N = record v { seen = m2.0.seen; seat = placed v.seat (Loaded c a b) } in u) looked_is
@@ -91,14 +91,12 @@ module _ {S N : Type 0} (terms : Terms S N) where
         module _ (m3 : Mine S N) (d : ℕ) (r : Relooks terms m2 d m3) where
           relooked_is : m3.0 ≡ record m0.0 {
             seen = m3.0.seen;
-            seat = after_relook (placed m0.0.seat (Loaded c a b)) c a b d;
-            looked =
-                Some (c, d);
+            seat = after_relook (placed (saw m0.0.seat c a) (Loaded c a b)) c a b d;
           }
           relooked_is =
               r.is c a b loaded_place
               ∙ ap (λ (v : View S N). let u : View S N = record v
-              { seen = m3.0.seen; seat = after_relook v.seat c a b d; looked = Some (c, d) } in u) loaded_is
+              { seen = m3.0.seen; seat = after_relook v.seat c a b d } in u) loaded_is
 
           sees_all : Sees terms m0.0 m3.0
           sees_all =
@@ -109,27 +107,21 @@ module _ {S N : Type 0} (terms : Terms S N) where
                 sound = r.sees.sound;
               }
 
+          -- the seat after a second look that found this word, where it passed
+          abbrev reads : ℕ → Seat
+          reads k =
+              record (saw m0.0.seat c k) { place = Reading; reads = record { cell = c; word = a; value = b } ∷ m0.0.seat.reads }
+
           pub read_is : d ≡ a → ReadsCell terms c a b m0 m3
           read_is e =
               record {
                 sees = sees_all;
                 free = even;
+                below = low;
                 named = λ x set ranged. names_grow m2.0.seen.ranges m3.0.seen.ranges b r.sees.own.2
                     (q.named x c a (ap (λ (v : View S N). v.setting) looked_is ∙ set) looked_place ranged);
-                is = relooked_is ∙ ap (λ (z : Seat × ℕ). let v : View S N =
-                    record m0.0 { seen = m3.0.seen; seat = z.0; looked = Some (c, z.1) } in v)
-                    (λ j. (
-                      if_true (d == a) (record m0.0.seat {
-                        place = Reading;
-                        reads = record {
-                          cell = c;
-                          word = a;
-                          value =
-                              b;
-                        } ∷ m0.0.seat.reads;
-                      }) (conflict m0.0.seat Idle) (eq-eqb d a e) j,
-                      e j,
-                    ));
+                is = relooked_is ∙ ap (λ (t : Seat). let v : View S N = record m0.0 { seen = m3.0.seen; seat = t } in v)
+                    (if_true (d == a) (reads d) (conflict (saw m0.0.seat c d) Idle) (eq-eqb d a e) ∙ ap reads e);
               }
 
           pub read_stops : d ≢ a → Stops terms c d m0 m3
@@ -141,13 +133,8 @@ module _ {S N : Type 0} (terms : Terms S N) where
                     (λ e. inr (subst (λ (k : ℕ). k < d / 2) (ap (λ (v : View S N). v.seat.rv) loaded_is)
                     (r.missed c a b loaded_place ne e)))
                     (λ e. inl (omega (arith, e)));
-                is = relooked_is ∙ ap (λ (t : Seat). let v : View S N = record m0.0 { seen = m3.0.seen; seat = t; looked = Some (c, d) } in
-                    v)
-                    (if_false (d == a) (record m0.0.seat {
-                      place = Reading;
-                      reads =
-                          record { cell = c; word = a; value = b } ∷ m0.0.seat.reads;
-                    }) (conflict m0.0.seat Idle) (ne_eqb d a ne));
+                is = relooked_is ∙ ap (λ (t : Seat). let v : View S N = record m0.0 { seen = m3.0.seen; seat = t } in v)
+                    (if_false (d == a) (reads d) (conflict (saw m0.0.seat c d) Idle) (ne_eqb d a ne));
               }
 
 -- ---- a run begins
@@ -239,14 +226,11 @@ module _ {S N : Type 0} (terms : Terms S N) where
             (subst (λ (v : View S N). v.name ≢ v.told.name → (k : ℕ) → Has k v.drawn → Has k v.told.drawn → ⊥) e p.apart);
         same = subst (λ (v : View S N). (x y : S) → m0.0.setting ≡ Some x → v.setting ≡ Some y → (x ≡ y) × (m0.0.base ≡ v.base)) q.is same;
         is = p.is ∙ (ap (λ (v : View S N). let w : View S N =
-            record v { seen = m2.0.seen; seat = began n; told = untold; runs = v.runs + 1; looked = None } in w) e
+            record v { seen = m2.0.seen; seat = began v.seat n; told = untold } in w) e
             ∙ ap (λ (k : ℕ). let w : View S N = record m0.0 {
               seen = m2.0.seen;
-              seat = began k;
+              seat = began m0.0.seat k;
               told = untold;
-              runs =
-                  m0.0.runs + 1;
-              looked = None;
             } in w) (sym p.clock));
         other_is = f ∙ (q.is ∙ ap (λ (g : Seen N). let w : View S N = record u0.0 { seen = g } in w)
             (ap (λ (v : View S N). v.seen) (sym f)));

@@ -52,8 +52,7 @@ one_more ns n = let e : length (ns ++ n ∷ []) ≡ suc (length ns) = length-app
 abbrev ended : {S N : Type 0} → Mine S N → ℕ → Work N → View S N → View S N
 ended u n w v = record v {
   seen = u.0.seen;
-  seat = record v.seat { place = Idle; held = [] };
-  looked = u.0.looked;
+  seat = record v.seat { place = Idle; held = []; looked = u.0.seat.looked };
   mine = v.mine ++ Committed (suc n) w ∷ [];
 }
 
@@ -75,7 +74,7 @@ module _ {S N : Type 0} (terms : Terms S N) (slots : List Slot) where
 
     pub failed_releases : Releasing terms slots k.cell None 0 r r
     failed_releases =
-        let e : r.0.seat ≡ holding (conflict m.0.seat Idle) Failing Idle (held_in slots 0 0 k.cell) =
+        let e : r.0.seat ≡ record (holding (conflict m.0.seat Idle) Failing Idle (held_in slots 0 0 k.cell)) { looked = r.0.seat.looked } =
         goes_seat terms m r (holding (conflict m.0.seat Idle) Failing Idle (held_in slots 0 0 k.cell)) f.goes in
         let start : r.0.seat ≡ holding r.0.seat Failing Idle (held_in slots 0 0 k.cell) =
         e ∙ ap (λ (t : Seat). holding t Failing Idle (held_in slots 0 0 k.cell)) (sym e) in
@@ -96,7 +95,7 @@ module _ {S N : Type 0} (terms : Terms S N) (slots : List Slot) where
           finds = finds_on k r s g f.finds;
           cause = inr f.differs;
           entry = g.goes.is ∙ ap (λ (v : View S N). let w : View S N =
-              record v { seen = s.0.seen; seat = record v.seat { place = Idle; held = [] }; looked = s.0.looked } in w) f.goes.is;
+              record v { seen = s.0.seen; seat = record v.seat { place = Idle; held = []; looked = s.0.seat.looked } } in w) f.goes.is;
         }
 
   -- ---- a number was drawn
@@ -120,7 +119,7 @@ module _ {S N : Type 0} (terms : Terms S N) (slots : List Slot) where
 
     -- the check failed
     module _ (k : Conflict) (s : Mine S N) (f : FailsTheCheck terms slots n k r s) where
-      failed_seat : s.0.seat ≡ conflict r.0.seat (Voiding n)
+      failed_seat : s.0.seat ≡ record (conflict r.0.seat (Voiding n)) { looked = s.0.seat.looked }
       failed_seat = goes_seat terms r s (conflict r.0.seat (Voiding n)) f.goes
 
       pub void_kept : IsKeptOf s.0.seat slots
@@ -162,13 +161,12 @@ module _ {S N : Type 0} (terms : Terms S N) (slots : List Slot) where
               d.later,
               g.void n (ap (λ (t : Seat). t.place) failed_seat),
               g.goes.is ∙ (ap (λ (v : View S N). let w : View S N =
-                  record v { seen = z.0.seen; seat = record v.seat { place = Idle; held = [] }; looked = z.0.looked } in w) f.goes.is
+                  record v { seen = z.0.seen; seat = record v.seat { place = Idle; held = []; looked = z.0.seat.looked } } in w) f.goes.is
                   ∙ ap (λ (v : View S N). let w : View S N = record v
-                  { seen = z.0.seen; seat = over_seat terms v.seat true; looked = z.0.looked } in w) drawn_is)
+                  { seen = z.0.seen; seat = over_seat terms v.seat true z.0.seat.looked } in w) drawn_is)
                   ∙ (λ j. let w : View S N = record m.0 {
                     seen = z.0.seen;
-                    seat = over_seat terms m.0.seat true;
-                    looked = z.0.looked;
+                    seat = over_seat terms m.0.seat true z.0.seat.looked;
                     note = Some x;
                     drawn = m.0.drawn ++ sym is j ∷ [];
                   } in w),
@@ -182,7 +180,7 @@ module _ {S N : Type 0} (terms : Terms S N) (slots : List Slot) where
 
     -- the check passed
     module _ (s : Mine S N) (p : Passes terms n r s) where
-      passed_seat : s.0.seat ≡ placed r.0.seat (Checking n p.upto)
+      passed_seat : s.0.seat ≡ record (placed r.0.seat (Checking n p.upto)) { looked = s.0.seat.looked }
       passed_seat = goes_seat terms r s (placed r.0.seat (Checking n p.upto)) p.goes
 
       passed_reads : s.0.seat.reads ≡ m.0.seat.reads
@@ -250,12 +248,11 @@ module _ {S N : Type 0} (terms : Terms S N) (slots : List Slot) where
               done = subst (λ (w : Work N). IsDone u.0.seen n w) same_work
                   (done_grows z.0.seen u.0.seen n (work_kept s.0.seat slots x) (moves_grow terms z u g.goes.moves) a.done);
               is = g.goes.is ∙ (ap (λ (v : View S N). let w : View S N =
-                  record v { seen = u.0.seen; seat = record v.seat { place = Idle; held = [] }; looked = u.0.looked } in w) a.is
+                  record v { seen = u.0.seen; seat = record v.seat { place = Idle; held = []; looked = u.0.seat.looked } } in w) a.is
                   ∙ (ap (ended u n (work_kept s.0.seat slots x)) p.goes.is ∙ (ap (ended u n (work_kept s.0.seat slots x)) drawn_is
                   ∙ (λ j. let w : View S N = record m.0 {
                     seen = u.0.seen;
-                    seat = over_seat terms m.0.seat m.0.seat.conflicted;
-                    looked = u.0.looked;
+                    seat = over_seat terms m.0.seat m.0.seat.conflicted u.0.seat.looked;
                     note = Some x;
                     drawn = m.0.drawn ++ sym is j ∷ [];
                     mine = m.0.mine ++ Committed (sym is j) (same_work j) ∷ [];
@@ -271,7 +268,7 @@ module _ {S N : Type 0} (terms : Terms S N) (slots : List Slot) where
     taken : Seat
     taken = holding m.0.seat Taking Reading ks
 
-    pub taken_seat : r.0.seat ≡ holding m.0.seat Taking Reading ks
+    pub taken_seat : r.0.seat ≡ record (holding m.0.seat Taking Reading ks) { looked = r.0.seat.looked }
     taken_seat = goes_seat terms m r (holding m.0.seat Taking Reading ks) g
 
     seen_before : (i : ℕ) → length r.0.seen.history ≤ i → length m.0.seen.history ≤ i
@@ -288,15 +285,13 @@ module _ {S N : Type 0} (terms : Terms S N) (slots : List Slot) where
           done = subst (λ (w : Work N). IsDone s.0.seen h.index w) same_work h.done;
           is = h.is ∙ (ap (λ (v : View S N). let w : View S N = record v {
             seen = s.0.seen;
-            seat = over_seat terms v.seat v.seat.conflicted;
-            looked = s.0.looked;
+            seat = over_seat terms v.seat v.seat.conflicted s.0.seat.looked;
             note = Some x;
             drawn = v.drawn ++ number ∷ [];
             mine = v.mine ++ Committed number (work_kept r.0.seat slots x) ∷ [];
           } in w) g.is ∙ ap (λ (k : Work N). let w : View S N = record m.0 {
             seen = s.0.seen;
-            seat = over_seat terms m.0.seat m.0.seat.conflicted;
-            looked = s.0.looked;
+            seat = over_seat terms m.0.seat m.0.seat.conflicted s.0.seat.looked;
             note = Some x;
             drawn = m.0.drawn ++ number ∷ [];
             mine = m.0.mine ++ Committed number k ∷ [];
@@ -309,7 +304,7 @@ module _ {S N : Type 0} (terms : Terms S N) (slots : List Slot) where
     unentered : (x : N) (drawn : Option ℕ) (s : Mine S N) → HasNoEntry terms x drawn r s → HasNoEntry terms x drawn m s
     unentered x None s e =
         e ∙ ap (λ (v : View S N). let w : View S N = record v
-        { seen = s.0.seen; seat = over_seat terms v.seat true; looked = s.0.looked } in w) g.is
+        { seen = s.0.seen; seat = over_seat terms v.seat true s.0.seat.looked } in w) g.is
     unentered x (Some number) s e = (
       e.0,
       e.1,
@@ -317,8 +312,7 @@ module _ {S N : Type 0} (terms : Terms S N) (slots : List Slot) where
       e.3,
       e.4 ∙ ap (λ (v : View S N). let w : View S N = record v {
         seen = s.0.seen;
-        seat = over_seat terms v.seat true;
-        looked = s.0.looked;
+        seat = over_seat terms v.seat true s.0.seat.looked;
         note = Some x;
         drawn = v.drawn ++ number ∷ [];
       } in w) g.is,

@@ -7,7 +7,6 @@ use mathlib.Core.Option.{none, some}
 use lib.ListN.{get_elem?}
 use Rattle.atomic_table.specs.Table.{State, Act, step, keeps, carried_after, Valid, stepped, Allows}
 use Rattle.tlcore.specs.Machine.{World}
-use Rattle.tlcore.specs.Laws.{Keeps}
 use Rattle.tlcore.proofs.Growth.{Grows-refl}
 use Rattle.tlcore.proofs.Lists.{get_within}
 use Rattle.ranges.specs.Ranges.{Range, Has, Within, AreOfOneStore}
@@ -17,6 +16,7 @@ use Rattle.tlwords.specs.Views.{Staging, Gone, View, tells}
 use Rattle.tlwords.specs.Layout.{front_size, tail_at, store_at, shelf_of}
 use Rattle.tlwords.specs.Rule.{Start, EntriesAre, IsTold, Suits, Shelf, Ruled}
 use Rattle.tlwords.specs.Plays.{Mine, Sees, Fetches, advanced, filled, fetched, bare}
+use Rattle.tlwords.proofs.Reaching.{Follows, by_none}
 use Rattle.tlwords.proofs.Paired.{set_same}
 use Rattle.ranges.proofs.Grown.{names_grow, within_refl}
 use Rattle.tlwords.proofs.Seens.{seen_refl, seen_trans, agree_grows, permits_grow}
@@ -48,7 +48,7 @@ module _ {S N : Type 0} (terms : Terms S N) (setting : S) (base : List ℕ) (roo
         let w : View S N = aside qs staging full taken added in
         let f : Suits terms setting base room g r.owner v = r.suits id v at in
         let e : slice_get world.seats id ≡ Some v.seat = seat_at terms setting base room ranges front vs r id v at in
-        let still : Keeps base world world = record { invariant = r.invariant; grows = Grows-refl world.history } in
+        let still : Follows base world world = by_none base world r.invariant in
         let grow : SeenGrows g h = (Grows-refl world.history, λ i n a. a, wider) in
         let own : IsTold setting base h r.owner (tells v) = told_grows setting base g h r.owner r.owner (tells v) grow (λ n l. refl) f.own in
         let entries : EntriesAre terms setting h =

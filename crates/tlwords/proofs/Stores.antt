@@ -89,8 +89,8 @@ module _ {S N : Type 0} (terms : Terms S N) (slots : List Slot) (i : ℕ) (x : N
                     held =
                         (ap (stored c) held ∙ held_stored slots 0 0 (length slots) c (omega arith) (unkept_both slots 0 low c before unkept))
                         j;
+                    looked = sym (ap (λ (v : View S N). v.seat.looked) f.1) j;
                   };
-                  looked = sym (ap (λ (v : View S N). v.looked) f.1) j;
                   mine = m.0.mine ++ Committed (suc i) (same_work j) ∷ [];
                 } in w);
               }
@@ -109,8 +109,11 @@ module _ {S N : Type 0} (terms : Terms S N) (slots : List Slot) (i : ℕ) (x : N
                 is = e ∙ (ap (λ (v : View S N). let w : View S N = record v { seen = s.0.seen; seat = after_store v.seat i c } in w) p.is
                     ∙ (λ j. let w : View S N = record m.0 {
                       seen = s.0.seen;
-                      seat = record m.0.seat { place = Storing i; held = held_stored slots low 0 (length slots) c l unkept j };
-                      looked = sym (ap (λ (v : View S N). v.looked) e) j;
+                      seat = record m.0.seat {
+                        place = Storing i;
+                        held = held_stored slots low 0 (length slots) c l unkept j;
+                        looked = sym (ap (λ (v : View S N). v.seat.looked) e) j;
+                      };
                       mine = m.0.mine ++ Committed (suc i) work ∷ [];
                     } in w));
               }
@@ -124,8 +127,11 @@ module _ {S N : Type 0} (terms : Terms S N) (slots : List Slot) (i : ℕ) (x : N
           done = p.done;
           is = p.is ∙ (λ j. let w : View S N = record m.0 {
             seen = r.0.seen;
-            seat = record m.0.seat { place = Storing i; held = held_done slots low (length slots) 0 (length slots) (omega arith) unkept j };
-            looked = r.0.looked;
+            seat = record m.0.seat {
+              place = Storing i;
+              held = held_done slots low (length slots) 0 (length slots) (omega arith) unkept j;
+              looked = r.0.seat.looked;
+            };
             mine = m.0.mine ++ Committed (suc i) work ∷ [];
           } in w);
         }) so

@@ -1,23 +1,27 @@
 -- What the calls tell their callers, from what they tell of the seat.
-use Rattle.std.proofs.Common.{◌≡◌, ◌≢◌, ℕ, ◌+◌, ◌<◌, ◌≤◌, Bool, min, ◌⊎◌, inl, inr, ⊎_elim, true, false, is_some, Option, Some, None, List, [], ◌∷◌, ◌++◌, length, sym, refl, ap, ◌∙◌, subst, ◌^◌, arith}
+use Rattle.std.proofs.Common.{◌≡◌, ◌≢◌, ℕ, ◌+◌, ◌/◌, ◌<◌, ◌≤◌, Bool, min, ◌⊎◌, inl, inr, ⊎_elim, true, false, if◌then◌else◌, ◌==◌, is_some, Option, Some, None, List, [], ◌∷◌, ◌++◌, length, sym, refl, ap, ◌∙◌, subst, ◌^◌, arith}
 use Rattle.atomic_table.specs.Seated.{TableId}
 use Rattle.atomic_table.specs.declared.shared.Seat.{Seat as TableSeat}
 use Rattle.tlcore.specs.History.{One}
-use Rattle.tlcore.specs.Seats.{number_at, is_resting, reads_of}
+use Rattle.std.specs.Option.{option_map}
+use Rattle.tlcore.specs.Seats.{Seat, find_read, number_at, is_resting, reads_of}
+use Rattle.tlcore.specs.declared.seats.Read.{Read}
 use Rattle.tlcore.specs.declared.seats.Place.{Place}
 use Rattle.tlcore.proofs.Words.{resting_at}
 use Rattle.ranges.specs.Ranges.{Range, AreOfOneStore}
+use Rattle.ranges.specs.Pairs.{written}
 use Rattle.tlwords.specs.declared.log.Slot.{Slot}
 use Rattle.tlwords.specs.declared.mode.Mode.{Mode}
+use Rattle.tlwords.specs.declared.mode.Mode.TheVariants.{Reading, Writing}
 use Rattle.tlwords.specs.declared.outcome.Conflict.{Conflict}
 use Rattle.tlwords.specs.declared.outcome.Outcome.{Outcome}
 use Rattle.tlwords.specs.declared.outcome.Outcome.TheVariants.{Committed as EndsDone, Read as EndsRead, Conflict as EndsConflict, NumbersUsed}
 use Rattle.tlwords.specs.Terms.{Terms}
 use Rattle.tlwords.specs.Seen.{Work, Answered}
 use Rattle.tlwords.specs.Views.{View, Sound, fresh}
-use Rattle.tlwords.specs.Known.{Known, Going, Knows, Stands, known_of, going_of}
+use Rattle.tlwords.specs.Known.{Known, Going, Knows, Stands, known_of, going_of, found_of, word_told}
 use Rattle.tlwords.specs.Plays.{Mine, Sees, Sampled, Refreshes}
-use Rattle.tlwords.specs.Runs.{KnowsStore, Rests, IsBlank, IsPassOf, IsRunOf, HasCause, word_seen, ReadsCell, Stops, Stages as SeatStages, Learns as SeatLearns}
+use Rattle.tlwords.specs.Runs.{KnowsStore, Rests, IsBlank, IsPassOf, IsRunOf, HasCause, word_seen, noted, IsKeptOf, ReadsCell, Stops, Stages as SeatStages, Learns as SeatLearns}
 use Rattle.tlwords.specs.Commits.{work_kept, HasCommitted, HasAnswered, HasConflicted, HasEnded}
 use Rattle.tlwords.specs.Calls as calls
 use Rattle.tlwords.proofs.RunSteps.{left_fits}
@@ -31,6 +35,24 @@ not_drawing : {A : Type 0} (p : Place) (i : ℕ) → is_resting p ≡ true → (
 not_drawing p i e (inr a) = a
 not_drawing p i e (inl q) =
     none_some i (sym (⊎_elim (λ r. ap number_at r) (λ r. ap number_at r) (resting_at p e)) ∙ q)
+
+past_room : (room tail count : ℕ) → room < tail + count → room < tail + min count (room + 1)
+past_room room tail count above = grind arith
+
+-- the word that the slots have of a cell is the one that its newest read found
+newest : (c : ℕ) (rs : List Read) → option_map (λ (r : Read). r.word) (find_read c rs) ≡ written c (found_of rs)
+newest c [] = refl
+newest c (r ∷ rs) = go (r.cell == c) (newest c rs)
+  where
+    go : (b : Bool) → option_map (λ (r : Read). r.word) (find_read c rs) ≡ written c (found_of rs)
+        → option_map (λ (r : Read). r.word) (if b then Some r else find_read c rs) ≡ (if b then Some r.word else written c (found_of rs))
+    go true e = refl
+    go false e = e
+
+told_of : (mode : Mode) (t : Seat) (slots : List Slot) (c : ℕ) → IsKeptOf (noted mode t) slots
+    → word_seen slots c ≡ word_told mode c (found_of t.reads)
+told_of Reading t slots c k = k.0 c
+told_of Writing t slots c k = k.0 c ∙ newest c t.reads
 
 few_by : (n count : ℕ) → n ≡ count → count ≤ 2 ^ 40 → n ≤ 2 ^ 40
 few_by n count e l = omega (arith, e, l)
@@ -83,22 +105,25 @@ module _ {S N : Type 0} (terms : Terms S N) where
             stands = stands_of later r over after t.sees.sound f;
             word = word;
             free = t.free;
+            below = subst (λ (n : ℕ). word / 2 ≤ n) (sym (ap (λ (v : View S N). v.seat.rv) t.is) ∙ f.5) t.below;
             named = t.named;
             notes = n;
             is = λ j. going_of (e j) (t.is j) place mode over after;
           }
 
       pub stop_tells : (c word : ℕ) (before : Option ℕ) → Stops terms c word m r → m.0.seat.rv ≡ place → IsRunOf r count place true
-          → word_seen slots c ≡ before
+          → word_seen slots c ≡ before → IsKeptOf (noted mode m.0.seat) slots
           → calls.HasStopped terms c (record { cell = c; word = word; before = before }) (going_of table m.0 place mode over slots)
           (going_of later r.0 place mode (Some (record { cell = c; word = word; before = before })) slots)
-      stop_tells c word before t rv f seen =
+      stop_tells c word before t rv f seen kept =
           let k : Conflict = record { cell = c; word = word; before = before } in
+          let told : before ≡ word_told mode c (found_of r.0.seat.reads) = sym seen ∙ (told_of mode m.0.seat slots c kept
+          ∙ ap (λ (v : View S N). word_told mode c (found_of v.seat.reads)) (sym t.is)) in
           record {
             grows = t.sees.own;
             stands = stands_of later r (Some k) slots t.sees.sound f;
             cell_is = refl;
-            finds = record { looked = ap (λ (v : View S N). v.looked) t.is; written = t.written; before = seen };
+            finds = record { looked = ap (λ (v : View S N). v.seat.looked) t.is; written = t.written; before = seen; told = told };
             cause = subst (λ (n : ℕ). HasCause n word) rv t.cause;
             is = λ j. going_of (e j) (t.is j) place mode (Some k) slots;
           }
@@ -133,6 +158,7 @@ module _ {S N : Type 0} (terms : Terms S N) where
             stands = stands_of later r over slots s.sound f;
             unrefused = unrefused;
             above = above;
+            past = past_room (m.0.room) tail words above;
             is = λ j. going_of (e j) (is j) place mode over slots;
           }
 
@@ -160,11 +186,17 @@ module _ {S N : Type 0} (terms : Terms S N) where
   same_home table x y xs ys room ranges k e p q =
       e ∙ (λ j. calls.new_pass (record { table = table; setting = Some (sym p j); base = sym q j; room = room }) ranges k.name)
 
+  told_by_newest : (mode : Mode) (slots : List Slot) (n : N) (k : Conflict) (m r : Mine S N) → word_seen slots k.cell ≡ k.before
+      → IsKeptOf (noted mode m.0.seat) slots → found_of m.0.seat.reads ≡ found_of r.0.seat.reads
+      → k.before ≡ word_told mode k.cell (found_of r.0.seat.reads)
+  told_by_newest mode slots n k m r before kept same =
+      sym before ∙ (told_of mode m.0.seat slots k.cell kept ∙ ap (word_told mode k.cell) same)
+
   -- a commit ended so
   pub end_tells : (table later : TableId) (place count : ℕ) (mode : Mode) (over : Option Conflict) (slots : List Slot) (n : N) (m r : Mine S N) (o : Outcome)
-      → later ≡ table → m.0.seat.rv ≡ place → IsPassOf r count → HasEnded terms slots n m r o
+      → later ≡ table → m.0.seat.rv ≡ place → IsKeptOf (noted mode m.0.seat) slots → IsPassOf r count → HasEnded terms slots n m r o
       → calls.Ends terms n (going_of table m.0 place mode over slots) (known_of later r.0) o
-  end_tells table later place count mode over slots n m r (EndsDone number) e rv f h =
+  end_tells table later place count mode over slots n m r (EndsDone number) e rv kept f h =
       let c : HasCommitted terms number (work_kept m.0.seat slots n) m r = h.1 in (
         h.0,
         record {
@@ -177,7 +209,7 @@ module _ {S N : Type 0} (terms : Terms S N) where
           is = λ j. known_of (e j) (c.is j);
         },
       )
-  end_tells table later place count mode over slots n m r (EndsRead p) e rv f h =
+  end_tells table later place count mode over slots n m r (EndsRead p) e rv kept f h =
       let a : HasAnswered terms (work_kept m.0.seat slots n) m r = h.2 in
       let w : Work N = work_kept m.0.seat slots n in
       let same : m.0.seat.rv ≡ p = sym h.1 in (
@@ -190,29 +222,31 @@ module _ {S N : Type 0} (terms : Terms S N) where
               ∙ ap (λ (q : ℕ). let k : Known S N = record (known_of table m.0) { seen = r.0.seen; mine = m.0.mine ++ Answered q w ∷ [] } in k) same;
         },
       )
-  end_tells table later place count mode over slots n m r (EndsConflict k None) e rv f h =
-      let c : HasConflicted terms slots n k None m r = h.1 in (
+  end_tells table later place count mode over slots n m r (EndsConflict k None) e rv kept f h =
+      let c : HasConflicted terms slots n k None m r = h.1 in
+      let told = told_by_newest mode slots n k m r c.finds.before kept (ap (λ (v : View S N). found_of v.seat.reads) (sym c.entry)) in (
         h.0,
         record {
           grows = c.sees.own;
           knows = knows_of later r.0 c.sees.sound f.1 (few_by (length r.0.drawn) count f.3 f.4);
-          finds = record { looked = c.finds.looked; written = c.finds.written; before = c.finds.before };
+          finds = record { looked = c.finds.looked; written = c.finds.written; before = c.finds.before; told = told };
           cause = subst (λ (q : ℕ). HasCause q k.word ⊎ ((w : ℕ) × (k.before ≡ Some w) × (w ≢ k.word))) rv c.cause;
           entry = λ j. known_of (e j) (c.entry j);
         },
       )
-  end_tells table later place count mode over slots n m r (EndsConflict k (Some number)) e rv f h =
-      let c : HasConflicted terms slots n k (Some number) m r = h.1 in (
+  end_tells table later place count mode over slots n m r (EndsConflict k (Some number)) e rv kept f h =
+      let c : HasConflicted terms slots n k (Some number) m r = h.1 in
+      let told = told_by_newest mode slots n k m r c.finds.before kept (ap (λ (v : View S N). found_of v.seat.reads) (sym c.entry.4)) in (
         h.0,
         record {
           grows = c.sees.own;
           knows = knows_of later r.0 c.sees.sound f.1 (few_by (length r.0.drawn) count f.3 f.4);
-          finds = record { looked = c.finds.looked; written = c.finds.written; before = c.finds.before };
+          finds = record { looked = c.finds.looked; written = c.finds.written; before = c.finds.before; told = told };
           cause = subst (λ (q : ℕ). HasCause q k.word ⊎ ((w : ℕ) × (k.before ≡ Some w) × (w ≢ k.word))) rv c.cause;
           entry = (c.entry.0, c.entry.1, c.entry.2, c.entry.3, λ j. known_of (e j) (c.entry.4 j));
         },
       )
-  end_tells table later place count mode over slots n m r NumbersUsed e rv f h = (h.0, h.1, λ j. known_of (e j) (h.2 j).0)
+  end_tells table later place count mode over slots n m r NumbersUsed e rv kept f h = (h.0, h.1, λ j. known_of (e j) (h.2 j).0)
 
   -- a commit leaves the pass at its opening
   pub ends_home : (n : N) (g : Going S N) (r : Known S N) (o : Outcome) → calls.Ends terms n g r o → r.home ≡ g.known.home

@@ -4,9 +4,10 @@ use Rattle.std.proofs.Common.{if◌then◌else◌, Option, Some, None, List, ◌
 use Rattle.std.specs.Option.{option_map}
 use Rattle.atomic_table.specs.declared.shared.Seat.{Seat as TableSeat}
 use Rattle.tlcore.specs.Seats.{Seat, find_read, is_nil, all_below}
-use Rattle.tlcore.specs.Machine.{conflict}
+use Rattle.tlcore.specs.Machine.{conflict, saw}
 use Rattle.tlcore.proofs.Lists.{known}
 use Rattle.tlcore.specs.declared.seats.Read.{Read}
+use Rattle.tlcore.specs.declared.seats.Held.{Held}
 use Rattle.tlcore.specs.declared.seats.Place.TheVariants.{Idle, Reading, Taking, Failing}
 use Rattle.tlwords.specs.declared.log.Slot.{Slot}
 use Rattle.tlwords.specs.Terms.{Terms}
@@ -17,6 +18,7 @@ use Rattle.tlwords.specs.Runs.{word_seen, value_kept, was_read, IsKeptOf}
 use Rattle.tlwords.specs.Committing.{held_in, holding, Goes, FailsToTake}
 use Rattle.tlwords.specs.Walks.{NoneWanted}
 use Rattle.tlwords.proofs.Seens.{seen_refl, seen_trans}
+use Rattle.tlwords.proofs.ReadSteps.{if_known}
 use Rattle.tlwords.proofs.RunSteps.{if_true, if_false}
 use Rattle.tlwords.proofs.Held.{NoneKept, held_on, held_more, held_below}
 
@@ -72,21 +74,25 @@ module _ {S N : Type 0} (terms : Terms S N) where
   goes_start m t e =
       record {
         moves = inl refl;
-        is = ap (λ (t : Seat). let v : View S N = record m.0 { seat = t } in v) (sym e);
+        is = ap (λ (t : Seat). let v : View S N = record m.0 { seat = record t { looked = m.0.seat.looked } } in v) (sym e);
       }
 
-  -- a step that changes the seat by f
-  pub goes_by : (f : Seat → Seat) (o : Option (ℕ × ℕ)) (m r s : Mine S N) (t u : Seat) → Goes terms m t r → Sees terms r.0 s.0
-      → s.0 ≡ record r.0 { seen = s.0.seen; seat = f r.0.seat; looked = o } → f t ≡ u → Goes terms m u s
-  goes_by f o m r s t u g p e q =
+  -- a step that changes the seat by f, and its last look by l
+  pub goes_by : (f : Seat → Seat) (l : Option (ℕ × ℕ) → Option (ℕ × ℕ)) (m r s : Mine S N) (t u : Seat) → Goes terms m t r
+      → Sees terms r.0 s.0 → s.0 ≡ record r.0 { seen = s.0.seen; seat = f r.0.seat }
+      → ((o : Option (ℕ × ℕ)) → f (record t { looked = o }) ≡ record u { looked = l o }) → Goes terms m u s
+  goes_by f l m r s t u g p e q =
+      let o : Option (ℕ × ℕ) = r.0.seat.looked in
+      let a : s.0 ≡ record m.0 { seen = s.0.seen; seat = record u { looked = l o } } =
+      e ∙ (ap (λ (v : View S N). let w : View S N = record v { seen = s.0.seen; seat = f v.seat } in w) g.is
+      ∙ ap (λ (z : Seat). let w : View S N = record m.0 { seen = s.0.seen; seat = z } in w) (q o)) in
       record {
         moves = inr (moves_then m r s g.moves p);
-        is = e ∙ (ap (λ (v : View S N). let w : View S N = record v { seen = s.0.seen; seat = f v.seat; looked = o } in w) g.is
-            ∙ (λ j. let w : View S N = record m.0 { seen = s.0.seen; seat = q j; looked = sym (ap (λ (v : View S N). v.looked) e) j } in
-            w));
+        is = a ∙ ap (λ (k : Option (ℕ × ℕ)). let w : View S N = record m.0 { seen = s.0.seen; seat = record u { looked = k } } in w)
+            (sym (ap (λ (v : View S N). v.seat.looked) a));
       }
 
-  pub goes_seat : (m r : Mine S N) (t : Seat) → Goes terms m t r → r.0.seat ≡ t
+  pub goes_seat : (m r : Mine S N) (t : Seat) → Goes terms m t r → r.0.seat ≡ record t { looked = r.0.seat.looked }
   goes_seat m r t g = ap (λ (v : View S N). v.seat) g.is
 
   pub goes_setting : (m r : Mine S N) (t : Seat) (y : S) → Goes terms m t r → m.0.setting ≡ Some y → r.0.setting ≡ Some y
@@ -123,36 +129,46 @@ module _ {S N : Type 0} (terms : Terms S N) where
         )
 
     module _ (g : Before) (c v w n : ℕ) (s : Mine S N) (l : low ≤ c) (unkept : NoneKept slots low c) (t : Takes terms c v w r n s) where
+      -- the seat after the take, where it found the word and where it didn't
+      abbrev hit : Seat
+      hit = record (saw m.0.seat c n) {
+        place = Taking;
+        held = record { cell = c; word = w; value = v; stored = false } ∷ held_in slots 0 0 low;
+      }
+
+      abbrev miss : Seat
+      miss = conflict (saw (holding m.0.seat Taking Reading (held_in slots 0 0 low)) c n)
+          (if is_nil (held_in slots 0 0 low) then Idle else Failing)
+
       pub take_goes : value_kept slots c ≡ Some v → word_seen slots c ≡ Some w → n ≡ w
           → Goes terms m (holding m.0.seat Taking Reading (held_in slots 0 0 (c + 1))) s
       take_goes e f same =
-          goes_by (λ (t : Seat). after_take t c v w n) (Some (c, n)) m r s (holding m.0.seat Taking Reading (held_in slots 0 0 low))
+          goes_by (λ (t : Seat). after_take t c v w n) (λ _. Some (c, n)) m r s (holding m.0.seat Taking Reading (held_in slots 0 0 low))
           (holding m.0.seat Taking Reading (held_in slots 0 0 (c + 1))) g t.sees t.is
-          (if_true (n == w) (record m.0.seat {
-            place = Taking;
-            held =
-                record { cell = c; word = w; value = v; stored = false } ∷ held_in slots 0 0 low;
-          })
-          (conflict (holding m.0.seat Taking Reading (held_in slots 0 0 low)) (if is_nil (held_in slots 0 0 low) then Idle else Failing))
-          (eq-eqb n w same)
-          ∙ ap (holding m.0.seat Taking Reading) (sym (held_more slots low c v w l unkept e f)))
+          (λ o. if_true (n == w) hit miss (eq-eqb n w same)
+          ∙ ap (λ (ks : List Held). let z : Seat = record (holding m.0.seat Taking Reading ks) { looked = Some (c, n) } in z)
+          (sym (held_more slots low c v w l unkept e f)))
 
       pub take_fails : (b : Option ℕ) → b ≡ Some w → c < length slots → word_seen slots c ≡ Some w → n ≢ w
           → FailsToTake terms slots (record { cell = c; word = n; before = b }) m s
       take_fails b is within f ne =
           record {
-            goes = goes_by (λ (t : Seat). after_take t c v w n) (Some (c, n)) m r s
+            goes = goes_by (λ (t : Seat). after_take t c v w n) (λ _. Some (c, n)) m r s
                 (holding m.0.seat Taking Reading (held_in slots 0 0 low))
                 (holding (conflict m.0.seat Idle) Failing Idle (held_in slots 0 0 c)) g t.sees t.is
-                (if_false (n == w) (record m.0.seat {
-                  place = Taking;
-                  held =
-                      record { cell = c; word = w; value = v; stored = false } ∷ held_in slots 0 0 low;
-                })
-                (conflict (holding m.0.seat Taking Reading (held_in slots 0 0 low))
-                (if is_nil (held_in slots 0 0 low) then Idle else Failing)) (ne_eqb n w ne)
-                ∙ ap (holding (conflict m.0.seat Idle) Failing Idle) (sym (held_on slots 0 0 low c l unkept)));
-            finds = record { looked = ap (λ (v : View S N). v.looked) t.is; written = t.written; before = f ∙ sym is };
+                (λ o. if_false (n == w) hit miss (ne_eqb n w ne)
+                ∙ ap (λ (ks : List Held). let z : Seat = record (holding (conflict m.0.seat Idle) Failing Idle ks) { looked = Some (c, n) } in z)
+                (sym (held_on slots 0 0 low c l unkept)));
+            finds = record {
+              looked = ap (λ (v : View S N). v.seat.looked) t.is ∙ if_known (λ (z : Seat). z.looked ≡ Some (c, n)) (n == w)
+                  (record (saw r.0.seat c n) {
+                    place = Taking;
+                    held = record { cell = c; word = w; value = v; stored = false } ∷ r.0.seat.held;
+                  })
+                  (conflict (saw r.0.seat c n) (if is_nil r.0.seat.held then Idle else Failing)) (λ _. refl) (λ _. refl);
+              written = t.written;
+              before = f ∙ sym is;
+            };
             sees = moves_then m r s g.moves t.sees;
             differs = (w, is, λ z. ne (sym z));
             within = within;

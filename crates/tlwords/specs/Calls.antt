@@ -13,7 +13,7 @@ use Rattle.tlwords.specs.Terms.{Terms, Permits}
 use Rattle.tlwords.specs.Seen.{Work, SeenGrows, IsDone, Agree, Committed, Answered, opening_seen}
 use Rattle.tlwords.specs.Runs.{word_seen, IsBlank, HasNoted, HasCause}
 use Rattle.tlwords.specs.Commits.{writes_kept, IsVoid}
-use Rattle.tlwords.specs.Known.{Home, Known, Going, Knows, Stands}
+use Rattle.tlwords.specs.Known.{Home, Known, Going, Knows, Stands, word_told}
 
 -- a pass of an opening, which has seen these ranges and done nothing yet
 abbrev pub new_pass : {S N : Type 0} → Home S → List Range → ℕ → Known S N
@@ -24,8 +24,9 @@ new_pass home ranges name =
       mine = [];
       name = name;
       drawn = [];
-      runs = 0;
+      clocks = [];
       looked = None;
+      found = [];
       full = None;
       taken = 0;
       added = 0;
@@ -60,7 +61,7 @@ module _ {S N : Type 0} (terms : Terms S N) where
     pub blank : IsBlank g.slots
     pub size : length g.slots ≡ length k.home.base
     pub is : g ≡ record {
-      known = record k { seen = g.known.seen; runs = k.runs + 1; looked = None };
+      known = record k { seen = g.known.seen; clocks = g.place ∷ k.clocks; looked = None; found = [] };
       place = g.place;
       mode = mode;
       over = None;
@@ -74,26 +75,28 @@ module _ {S N : Type 0} (terms : Terms S N) where
     pub stands : Stands terms r
     pub word : ℕ
     pub free : word % 2 ≡ 0
+    pub below : word / 2 ≤ g.place
     pub named : (x : S) → g.known.home.setting ≡ Some x → terms.ranged x cell ≡ true → Names r.known.seen.ranges value
     pub notes : Notes g.mode g.slots r.slots cell word
     pub is : r ≡ record g {
-      known = record g.known { seen = r.known.seen; looked = Some (cell, word) };
+      known = record g.known { seen = r.known.seen; looked = Some (cell, word); found = (cell, word) ∷ g.known.found };
       reads = (cell, value) ∷ g.reads;
       slots = r.slots;
     }
 
-  -- a look or a take of the conflict's cell found its word
-  pub record Finds (slots : List Slot) (c : ConflictValue) (k : Known S N) : Type 0 where
+  -- a look or a take of the conflict's cell found its word; the word before is the one that the run's newest read of the cell found
+  pub record Finds (mode : Mode) (slots : List Slot) (c : ConflictValue) (k : Known S N) : Type 0 where
     pub looked : k.looked ≡ Some (c.cell, c.word)
     pub written : WasWritten k.seen.history c.cell (c.word / 2)
     pub before : word_seen slots c.cell ≡ c.before
+    pub told : c.before ≡ word_told mode c.cell k.found
 
   -- a read of the cell ended with this conflict, and the run is over
   pub record HasStopped (cell : ℕ) (c : ConflictValue) (g r : Going S N) : Type 0 where
     pub grows : SeenGrows g.known.seen r.known.seen
     pub stands : Stands terms r
     pub cell_is : c.cell ≡ cell
-    pub finds : Finds g.slots c r.known
+    pub finds : Finds g.mode g.slots c r.known
     pub cause : HasCause g.place c.word
     pub is : r ≡ record g { known = record g.known { seen = r.known.seen; looked = Some (cell, c.word) }; over = Some c }
 
@@ -118,6 +121,8 @@ module _ {S N : Type 0} (terms : Terms S N) where
     pub stands : Stands terms r
     pub unrefused : g.known.full ≡ None
     pub above : g.known.home.room < tail + count
+    -- it is past the room from then on, so that no later staging of any session fits
+    pub past : g.known.home.room < tail + min count (g.known.home.room + 1)
     pub is : r ≡ record g {
       known = record g.known { seen = r.known.seen; full = Some (tail, count); added = min count (g.known.home.room + 1) };
     }
@@ -155,7 +160,7 @@ module _ {S N : Type 0} (terms : Terms S N) where
   pub record IsRejected (c : ConflictValue) (drawn : Option ℕ) (g : Going S N) (r : Known S N) : Type 0 where
     pub grows : SeenGrows g.known.seen r.seen
     pub knows : Knows terms r
-    pub finds : Finds g.slots c r
+    pub finds : Finds g.mode g.slots c r
     pub cause : HasCause g.place c.word ⊎ ((w : ℕ) × (c.before ≡ Some w) × (w ≢ c.word))
     pub entry : HasNoEntry drawn g.known r
 
@@ -180,5 +185,5 @@ module _ {S N : Type 0} (terms : Terms S N) where
     -- the numbers of passes with two names are different
     pub apart : k.name ≢ j.name → (n : ℕ) → Has n k.drawn → Has n j.drawn → ⊥
     pub same : (x y : S) → k.home.setting ≡ Some x → j.home.setting ≡ Some y → (x ≡ y) × (k.home.base ≡ j.home.base)
-    pub is : k2 ≡ record k { seen = k2.seen; runs = k.runs + 1; looked = None }
+    pub is : k2 ≡ record k { seen = k2.seen; clocks = length k2.seen.history ∷ k.clocks; looked = None; found = [] }
     pub other_is : j2 ≡ record j { seen = j2.seen }

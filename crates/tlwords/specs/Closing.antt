@@ -1,5 +1,6 @@
 -- What the words show at the end.
-use Rattle.std.specs.Prelude.{◌%◌, ◌≡◌, ℕ, ◌+◌, ◌*◌, ◌/◌, ◌≤◌, Some, List, [], eqb, length, map, slice_get, vec_capacity, min, true}
+use Rattle.std.specs.Prelude.{◌%◌, ◌≡◌, ℕ, ◌+◌, ◌*◌, ◌/◌, ◌≤◌, Some, List, [], eqb, length, map, slice_get, vec_capacity, min, true, false}
+use Rattle.std.specs.Prelude.{if◌then◌else◌}
 use Rattle.std.specs.List.{IsDistinct}
 use mathlib.Core.Option.{some}
 use lib.ListN.{get_elem?}
@@ -11,9 +12,10 @@ use Rattle.tlwords.specs.Terms.{Terms, Opened}
 use Rattle.tlwords.specs.Seen.{Seen, SeenGrows, Legal, Agree}
 use Rattle.tlwords.specs.Known.{Known}
 use Rattle.tlwords.specs.Layout.{lock_at, value_at, store_at}
-use Rattle.tlwords.specs.Rule.{total_of, IsLeft}
+use Rattle.tlwords.specs.Rule.{total_of, IsLeft, Reached}
 use Rattle.tlcore.specs.Machine.{World}
-use Rattle.tlcore.specs.Invariant.{Invariant}
+use Rattle.tlcore.specs.Seats.{Seat, is_nil, is_resting}
+use Rattle.tlcore.specs.Invariant.{Invariant, Holds}
 
 -- the cells have these words
 abbrev pub AreCellsOf : List ℕ → List ClosedCell → Type 0
@@ -39,16 +41,30 @@ pub record Shows (base : List ℕ) (h : List Entry) (clock : ℕ) (cells : List 
   -- the half of a lock word, locked or free, is 0 or the number of a Done entry that writes the cell
   pub written : (c : ℕ) (x : ClosedCell) → slice_get cells c ≡ Some x → WasWritten h c (x.lock / 2)
 
--- the machine's world of this history, in which its invariant holds, has the clock and the cells that the words show
+-- the machine's world of this history, in which its invariant holds, and which is reached by lawful events, has the clock and the cells that
+-- the words show
 pub record IsWorldOf (base : List ℕ) (h : List Entry) (clock : ℕ) (cells : List ClosedCell) (w : World) : Type 0 where
   pub invariant : Invariant base w
+  pub reached : Reached base w
   pub history_is : w.history ≡ h
   pub clock_is : w.clock ≡ clock
   pub count : length w.cells ≡ length cells
   pub cells_are : (c : ℕ) (x : ClosedCell) → slice_get cells c ≡ Some x → slice_get w.cells c ≡ Some (record { lock = x.lock; value = x.value })
 
+-- a seat of the world holds the cell. It is in the middle of a run: one at rest, as that of each pass is, holds none
+pub record IsHeldIn (w : World) (c : ℕ) : Type 0 where
+  pub index : ℕ
+  pub seat : Seat
+  pub here : slice_get w.seats index ≡ Some seat
+  pub holds : Holds seat c
+  pub busy : is_resting seat.place ≡ false
+
+-- how many seats hold a cell
+abbrev pub holders_in : World → ℕ
+holders_in w = total_of (λ (t : Seat). if is_nil t.held then 0 else 1) w.seats
+
 -- there is one lawful history, of a lawful opening, which the words show; the store has the finished ranges, the opening's words and, from
--- the tail on, zeros; and what a range cell holds at the end, locked or free, is 0 or names one of these ranges
+-- the tail on, zeros; what a range cell holds at the end, locked or free, is 0 or names one of these ranges; and a lock that is held is a seat's
 pub record Closes {S N : Type 0} (terms : Terms S N) (setting : S) (base opened : List ℕ) (words : ClosedWords) : Type 0 where
   pub seen : Seen N
   pub world : World
@@ -66,6 +82,7 @@ pub record Closes {S N : Type 0} (terms : Terms S N) (setting : S) (base opened 
   pub refused : words.tail ≤ length words.store.items + (length words.store.items + 1) * 64
   pub opening : Opened terms setting seen.ranges base
   pub named : (c : ℕ) (x : ClosedCell) → slice_get words.cells.items c ≡ Some x → terms.ranged setting c ≡ true → Names seen.ranges x.value
+  pub held : (c : ℕ) (x : ClosedCell) → slice_get words.cells.items c ≡ Some x → x.lock % 2 ≡ 1 → IsHeldIn world c
 
 -- what the pass had seen grows into it, its calls agree with it, and the tail is behind a staging of it that was refused
 pub record EndsIn {S N : Type 0} (terms : Terms S N) (setting : S) (base opened : List ℕ) (words : ClosedWords) (c : Closes terms setting base opened words)
@@ -83,10 +100,12 @@ pub record IsStill {S N : Type 0} (opened : List ℕ) (words : ClosedWords) (giv
   pub every : IsDistinct eqb (map (λ (v : Known S N). v.name) given) → (n : ℕ) → 1 ≤ n → n ≤ words.clock → (v : Known S N) × Has v given × Has n v.drawn
   pub tail : words.tail ≡ length opened + total_of (λ (v : Known S N). v.taken + v.added) given
 
--- the words close a memory of so many sessions; each of the passes given ended in it, and where these are all, the words are still
+-- the words close a memory of so many sessions; each of the passes given ended in it, at rest, so that a seat that holds a cell is one of a pass
+-- that is not among them: there are no more of these than sessions without a pass here; and where these passes are all, the words are still
 pub record ClosesAll {S N : Type 0} (terms : Terms S N) (setting : S) (base opened : List ℕ) (sessions : ℕ) (given : List (Known S N)) (words : ClosedWords) :
     Type 0 where
   pub closes : Closes terms setting base opened words
   pub each : (v : Known S N) → Has v given → EndsIn terms setting base opened words closes v
   pub moved : length opened + total_of (λ (v : Known S N). v.taken + v.added) given ≤ words.tail
+  pub others : holders_in closes.world + length given ≤ sessions
   pub still : length given ≡ sessions → IsStill opened words given

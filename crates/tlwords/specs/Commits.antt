@@ -61,15 +61,15 @@ IsVoid g i = (e : Entry) × (slice_get g.history i ≡ Some e) × (e.status ≡ 
 module _ {S N : Type 0} (terms : Terms S N) where
   -- a look or a take of the conflict's cell found its word
   pub record Finds (slots : List Slot) (k : ConflictValue) (r : Mine S N) : Type 0 where
-    pub looked : r.0.looked ≡ Some (k.cell, k.word)
+    pub looked : r.0.seat.looked ≡ Some (k.cell, k.word)
     pub written : WasWritten r.0.seen.history k.cell (k.word / 2)
     pub before : word_seen slots k.cell ≡ k.before
 
   -- ---- the end of the call
 
-  -- the seat of a run that is over
-  abbrev pub over_seat : Seat → Bool → Seat
-  over_seat t conflicted = record t { place = Idle; held = []; conflicted = conflicted }
+  -- the seat of a run that is over, after this last look
+  abbrev pub over_seat : Seat → Bool → Option (ℕ × ℕ) → Seat
+  over_seat t conflicted looked = record t { place = Idle; held = []; conflicted = conflicted; looked = looked }
 
   -- the call has this number, and its entry is Done, with its work
   pub record HasCommitted (number : ℕ) (w : Work N) (m r : Mine S N) : Type 0 where
@@ -80,8 +80,7 @@ module _ {S N : Type 0} (terms : Terms S N) where
     pub done : IsDone r.0.seen index w
     pub is : r.0 ≡ record m.0 {
       seen = r.0.seen;
-      seat = over_seat m.0.seat m.0.seat.conflicted;
-      looked = r.0.looked;
+      seat = over_seat m.0.seat m.0.seat.conflicted r.0.seat.looked;
       note = Some w.note;
       drawn = m.0.drawn ++ number ∷ [];
       mine = m.0.mine ++ Committed number w ∷ [];
@@ -94,13 +93,12 @@ module _ {S N : Type 0} (terms : Terms S N) where
 
   -- no number was drawn, or this one alone, whose entry is Void
   abbrev pub HasNoEntry : N → Option ℕ → Mine S N → Mine S N → Type 0
-  HasNoEntry n None m r = r.0 ≡ record m.0 { seen = r.0.seen; seat = over_seat m.0.seat true; looked = r.0.looked }
+  HasNoEntry n None m r = r.0 ≡ record m.0 { seen = r.0.seen; seat = over_seat m.0.seat true r.0.seat.looked }
   HasNoEntry n (Some number) m r =
       (i : ℕ) × (number ≡ suc i) × (length m.0.seen.history ≤ i) × IsVoid r.0.seen i
       × (r.0 ≡ record m.0 {
         seen = r.0.seen;
-        seat = over_seat m.0.seat true;
-        looked = r.0.looked;
+        seat = over_seat m.0.seat true r.0.seat.looked;
         note = Some n;
         drawn = m.0.drawn ++ number ∷ [];
       })

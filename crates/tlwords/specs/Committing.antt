@@ -35,10 +35,10 @@ abbrev pub holding : Seat → Place → Place → List Held → Seat
 holding t p none ks = record t { place = (if is_nil ks then none else p); held = ks }
 
 module _ {S N : Type 0} (terms : Terms S N) where
-  -- the run has gone on to the seat t, and nothing else has changed but what was seen and the last look
+  -- the run has gone on to the seat t but for the last look, and nothing else has changed but what was seen
   pub record Goes (m : Mine S N) (t : Seat) (r : Mine S N) : Type 0 where
     pub moves : (r ≡ m) ⊎ Sees terms m.0 r.0
-    pub is : r.0 ≡ record m.0 { seen = r.0.seen; seat = t; looked = r.0.looked }
+    pub is : r.0 ≡ record m.0 { seen = r.0.seen; seat = record t { looked = r.0.seat.looked } }
 
   -- the take of the conflict's cell failed, and the smaller cells are held
   pub record FailsToTake (slots : List Slot) (k : ConflictValue) (m r : Mine S N) : Type 0 where
@@ -66,8 +66,7 @@ module _ {S N : Type 0} (terms : Terms S N) where
     pub done : IsDone r.0.seen i w
     pub is : r.0 ≡ record m.0 {
       seen = r.0.seen;
-      seat = record m.0.seat { place = Storing i; held = held_in slots low 0 (length slots) };
-      looked = r.0.looked;
+      seat = record m.0.seat { place = Storing i; held = held_in slots low 0 (length slots); looked = r.0.seat.looked };
       mine = m.0.mine ++ Committed (wv i) w ∷ [];
     }
 
@@ -80,11 +79,11 @@ module _ {S N : Type 0} (terms : Terms S N) where
         ⊎ ((done ≡ high) × ((i : ℕ) × (place ≡ Storing i) × (new ≡ Some (2 * wv i))))
     pub start : m.0.seat ≡ holding m.0.seat place Idle (held_in slots done 0 high)
     pub goes : Goes m (holding m.0.seat place Idle (held_in slots done low high)) r
-    pub looked : r.0.looked ≡ m.0.looked
+    pub looked : r.0.seat.looked ≡ m.0.seat.looked
     pub void : (i : ℕ) → place ≡ Voiding i → (r ≡ m) ⊎ IsVoid r.0.seen i
 
   -- nothing is held any more
   pub record ReleasesAll (m r : Mine S N) : Type 0 where
     pub goes : Goes m (record m.0.seat { place = Idle; held = [] }) r
-    pub looked : r.0.looked ≡ m.0.looked
+    pub looked : r.0.seat.looked ≡ m.0.seat.looked
     pub void : (i : ℕ) → m.0.seat.place ≡ Voiding i → IsVoid r.0.seen i

@@ -1,12 +1,14 @@
 -- What callers see of a pass and of a run, and what is so of it by itself, whatever the other passes do.
-use Rattle.std.specs.Prelude.{◌≡◌, ℕ, suc, ◌^◌, ◌≤◌, Option, Some, List, length}
+use Rattle.std.specs.Prelude.{◌≡◌, ℕ, suc, ◌^◌, ◌≤◌, Option, Some, None, List, length, map}
 use Rattle.atomic_table.specs.Seated.{TableId}
 use Rattle.tlcore.specs.History.{One}
 use Rattle.tlcore.specs.Seats.{reads_of}
+use Rattle.tlcore.specs.declared.seats.Read.{Read}
 use Rattle.ranges.specs.Ranges.{Has, AreOfOneStore}
-use Rattle.ranges.specs.Pairs.{Pairs}
+use Rattle.ranges.specs.Pairs.{Pairs, written}
 use Rattle.tlwords.specs.declared.log.Slot.{Slot}
 use Rattle.tlwords.specs.declared.mode.Mode.{Mode}
+use Rattle.tlwords.specs.declared.mode.Mode.TheVariants.{Reading, Writing}
 use Rattle.tlwords.specs.declared.outcome.Conflict.{Conflict}
 use Rattle.tlwords.specs.Terms.{Terms, Opened}
 use Rattle.tlwords.specs.Seen.{Call, Seen, IsSettled, Legal, Agree}
@@ -28,9 +30,11 @@ pub record Known (S N : Type 0) : Type 0 where
   -- its name, and the numbers that it drew
   pub name : ℕ
   pub drawn : List ℕ
-  -- its loads of the clock, and the cell and lock word that its last look or take since the last of these found
-  pub runs : ℕ
+  -- what its loads of the clock found, the newest first; and the cell and lock word that its last look, check or take since then found
+  pub clocks : List ℕ
   pub looked : Option (ℕ × ℕ)
+  -- the cells and lock words of the reads that have ended since then, the newest first
+  pub found : Pairs
   -- what its first staging that was refused found: the tail and the length
   pub full : Option (ℕ × ℕ)
   -- how many words of the store it has taken, and what that staging added to the tail
@@ -50,6 +54,15 @@ pub record Going (S N : Type 0) : Type 0 where
   -- what it keeps of each cell
   pub slots : List Slot
 
+-- the reads as cells and lock words
+abbrev pub found_of : List Read → Pairs
+found_of rs = map (λ r. (r.cell, r.word)) rs
+
+-- the lock word that the newest of these reads of the cell found. A run that only reads keeps none
+abbrev pub word_told : Mode → ℕ → Pairs → Option ℕ
+word_told Reading c found = None
+word_told Writing c found = written c found
+
 module _ {S N : Type 0} where
   -- what a seat shows
   abbrev pub known_of : TableId → View S N → Known S N
@@ -60,8 +73,9 @@ module _ {S N : Type 0} where
         mine = v.mine;
         name = v.name;
         drawn = v.drawn;
-        runs = v.runs;
-        looked = v.looked;
+        clocks = v.seat.clocks;
+        looked = v.seat.looked;
+        found = found_of v.seat.reads;
         full = v.full;
         taken = v.taken;
         added = v.added;

@@ -4,7 +4,7 @@ use Rattle.atomic_table.specs.Table.{Me, Step}
 use Rattle.atomic_table.specs.declared.shared.Seat.{Seat as TableSeat}
 use Rattle.tlcore.specs.History.{Entry, WasWritten, wv}
 use Rattle.tlcore.specs.Seats.{Seat, passes, reads_of, writes_of, is_nil, is_next, all_settled, without, stored as stored_in}
-use Rattle.tlcore.specs.Machine.{placed, conflict}
+use Rattle.tlcore.specs.Machine.{placed, conflict, saw}
 use Rattle.tlcore.specs.declared.entries.Status.TheVariants.{Void}
 use Rattle.tlcore.specs.declared.seats.Held.{Held}
 use Rattle.tlcore.specs.declared.seats.Place.TheVariants.{Idle, Reading, Looked, Loaded, Taking, Checking, Storing, Failing, Voiding}
@@ -22,30 +22,32 @@ abbrev pub work_of : {N : Type 0} → Seat → N → Work N
 work_of t n = record { reads = reads_of t.reads; writes = writes_of t.held; note = n }
 
 -- a run that has just begun at this place
-abbrev pub began : ℕ → Seat
-began place = record { place = Reading; rv = place; reads = []; held = []; conflicted = false }
+abbrev pub began : Seat → ℕ → Seat
+began t place =
+    record { place = Reading; rv = place; reads = []; held = []; conflicted = false; clocks = place ∷ t.clocks; looked = None }
 
 -- after a look at the cell that found this word
 abbrev pub after_look : Seat → ℕ → ℕ → Seat
-after_look t c word = if passes word t.rv then placed t (Looked c word) else conflict t Idle
+after_look t c word = if passes word t.rv then placed (saw t c word) (Looked c word) else conflict (saw t c word) Idle
 
 -- after the second look, where the first found `word` and `value` was loaded, and this one found n
 abbrev pub after_relook : Seat → ℕ → ℕ → ℕ → ℕ → Seat
 after_relook t c word value n =
     if n == word
-    then record t { place = Reading; reads = record { cell = c; word = word; value = value } ∷ t.reads }
-    else conflict t Idle
+    then record (saw t c n) { place = Reading; reads = record { cell = c; word = word; value = value } ∷ t.reads }
+    else conflict (saw t c n) Idle
 
 -- after a try to take the cell from the word `word`, which found n
 abbrev pub after_take : Seat → ℕ → ℕ → ℕ → ℕ → Seat
 after_take t c value word n =
     if n == word
-    then record t { place = Taking; held = record { cell = c; word = word; value = value; stored = false } ∷ t.held }
-    else conflict t (if is_nil t.held then Idle else Failing)
+    then record (saw t c n) { place = Taking; held = record { cell = c; word = word; value = value; stored = false } ∷ t.held }
+    else conflict (saw t c n) (if is_nil t.held then Idle else Failing)
 
 -- after a check of the cell that found this word
 abbrev pub after_check : Seat → ℕ → ℕ → ℕ → Seat
-after_check t i c word = if passes word t.rv then placed t (Checking i (suc c)) else conflict t (Voiding i)
+after_check t i c word =
+    if passes word t.rv then placed (saw t c word) (Checking i (suc c)) else conflict (saw t c word) (Voiding i)
 
 -- after the store of the cell's value
 abbrev pub after_store : Seat → ℕ → ℕ → Seat
@@ -80,13 +82,13 @@ module _ {S N : Type 0} (terms : Terms S N) where
     -- the numbers of passes with two names are different
     pub apart : m.0.name ≢ m.0.told.name → (k : ℕ) → Has k m.0.drawn → Has k m.0.told.drawn → ⊥
     pub same : (x y : S) → m.0.setting ≡ Some x → m.0.told.setting ≡ Some y → (x ≡ y) × (m.0.base ≡ m.0.told.base)
-    pub is : r.0 ≡ record m.0 { seen = r.0.seen; seat = began n; told = untold; runs = m.0.runs + 1; looked = None }
+    pub is : r.0 ≡ record m.0 { seen = r.0.seen; seat = began m.0.seat n; told = untold }
 
   -- Look
   pub record Looks (c : ℕ) (m : Mine S N) (n : ℕ) (r : Mine S N) : Type 0 where
     pub sees : Sees m.0 r.0
     pub written : WasWritten r.0.seen.history c (n / 2)
-    pub is : r.0 ≡ record m.0 { seen = r.0.seen; seat = after_look m.0.seat c n; looked = Some (c, n) }
+    pub is : r.0 ≡ record m.0 { seen = r.0.seen; seat = after_look m.0.seat c n }
 
   -- Load: in a range cell it finds 0 or a word that names a finished range
   pub record Loads (m : Mine S N) (n : ℕ) (r : Mine S N) : Type 0 where
@@ -102,13 +104,13 @@ module _ {S N : Type 0} (terms : Terms S N) where
     -- another word than that of the first look is locked, or of a version above the place
     pub missed : (c word value : ℕ) → m.0.seat.place ≡ Loaded c word value → n ≢ word → n % 2 ≡ 0 → m.0.seat.rv < n / 2
     pub is : (c word value : ℕ) → m.0.seat.place ≡ Loaded c word value
-        → r.0 ≡ record m.0 { seen = r.0.seen; seat = after_relook m.0.seat c word value n; looked = Some (c, n) }
+        → r.0 ≡ record m.0 { seen = r.0.seen; seat = after_relook m.0.seat c word value n }
 
   -- Take, from the word `word`
   pub record Takes (c value word : ℕ) (m : Mine S N) (n : ℕ) (r : Mine S N) : Type 0 where
     pub sees : Sees m.0 r.0
     pub written : WasWritten r.0.seen.history c (n / 2)
-    pub is : r.0 ≡ record m.0 { seen = r.0.seen; seat = after_take m.0.seat c value word n; looked = Some (c, n) }
+    pub is : r.0 ≡ record m.0 { seen = r.0.seen; seat = after_take m.0.seat c value word n }
 
   -- Draw: the number is n + 1
   pub record Draws (note : Option N) (m : Mine S N) (n : ℕ) (r : Mine S N) : Type 0 where
@@ -124,7 +126,7 @@ module _ {S N : Type 0} (terms : Terms S N) where
     pub sees : Sees m.0 r.0
     pub written : WasWritten r.0.seen.history c (n / 2)
     pub is : (i upto : ℕ) → m.0.seat.place ≡ Checking i upto
-        → r.0 ≡ record m.0 { seen = r.0.seen; seat = after_check m.0.seat i c n; looked = Some (c, n) }
+        → r.0 ≡ record m.0 { seen = r.0.seen; seat = after_check m.0.seat i c n }
 
   -- Store: the first one makes the entry Done, and the call is one of the pass
   pub record Stores (c : ℕ) (m r : Mine S N) : Type 0 where

@@ -7,8 +7,10 @@ use Rattle.atomic_table.specs.Table.{State}
 use Rattle.std.specs.Prelude.{suc, ◌⊎◌, eqb}
 use Rattle.std.specs.List.{IsDistinct}
 use Rattle.tlcore.specs.History.{Entry, version_after, deed, NoneWill}
-use Rattle.tlcore.specs.Seats.{Seat, number_at}
-use Rattle.tlcore.specs.Machine.{World}
+use Rattle.tlcore.specs.Seats.{Seat, idle, is_resting, number_at}
+use Rattle.tlcore.specs.Machine.{World, next, with_seat}
+use Rattle.tlcore.specs.declared.actions.Action.{Action}
+use Rattle.tlcore.specs.Schedules.{start}
 use Rattle.tlcore.specs.declared.cells.Cell.{Cell}
 use Rattle.tlcore.specs.declared.seats.Place.TheVariants.{Looked, Loaded}
 use Rattle.tlcore.specs.Invariant.{Invariant}
@@ -39,6 +41,17 @@ abbrev pub EntriesAre : {S N : Type 0} → Terms S N → S → Seen N → Type 0
 EntriesAre {S} {N} terms setting g =
     (i : ℕ) (e : Entry) (n : N) → slice_get g.history i ≡ Some e → slice_get g.notes i ≡ Some n
     → Permits terms setting g.ranges e.reads e.writes n × (e.writes ≢ [])
+
+-- ---- the world
+
+-- the world is reached from the opening values by events of the machine, each lawful where it came. A seat may join, idle; and one whose run is
+-- over or holds no cell may leave, and is idle from then on
+pub data Reached (base : List ℕ) : World → Type 0 where
+  at_opening : (seats : ℕ) → Reached base (start base seats)
+  by_step : {w v : World} (s : ℕ) (a : Action) → Reached base w → next w s a ≡ Some v → Reached base v
+  by_joining : {w : World} → Reached base w → Reached base (record w { seats = w.seats ++ idle ∷ [] })
+  by_leaving : {w : World} (s : ℕ) (t : Seat) → Reached base w → slice_get w.seats s ≡ Some t → is_resting t.place ≡ true
+      → Reached base (with_seat w s idle)
 
 -- ---- the store
 
@@ -113,6 +126,8 @@ module _ {S N : Type 0} where
     -- the name of the pass that drew the number
     pub owner : ℕ → ℕ
     pub invariant : Invariant base world
+    -- so what each seat shows of itself is what the machine made of its own steps
+    pub reached : Reached base world
     pub words_are : words ≡ words_of world
     pub seats_are : map (λ (v : View S N). v.seat) views ≡ world.seats
     pub cells_are : length world.cells ≡ length base

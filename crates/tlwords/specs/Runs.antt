@@ -4,7 +4,7 @@ use Rattle.std.specs.Prelude.{Some, None, List, [], ◌∷◌, length, slice_get
 use Rattle.std.specs.Option.{option_map}
 use Rattle.tlcore.specs.History.{WasWritten}
 use Rattle.tlcore.specs.Seats.{Seat, find_read, is_nil}
-use Rattle.tlcore.specs.Machine.{conflict}
+use Rattle.tlcore.specs.Machine.{conflict, saw}
 use Rattle.tlcore.specs.declared.seats.Read.{Read}
 use Rattle.tlcore.specs.declared.seats.Place.TheVariants.{Idle, Reading as AtReading}
 use Rattle.tlcore.specs.Seats.{is_resting, is_reading}
@@ -130,11 +130,12 @@ module _ {S N : Type 0} (terms : Terms S N) where
   pub record ReadsCell (c word value : ℕ) (m r : Mine S N) : Type 0 where
     pub sees : Sees terms m.0 r.0
     pub free : word % 2 ≡ 0
+    pub below : word / 2 ≤ m.0.seat.rv
     pub named : (x : S) → m.0.setting ≡ Some x → terms.ranged x c ≡ true → Names r.0.seen.ranges value
     pub is : r.0 ≡ record m.0 {
       seen = r.0.seen;
-      seat = record m.0.seat { place = AtReading; reads = record { cell = c; word = word; value = value } ∷ m.0.seat.reads };
-      looked = Some (c, word);
+      seat =
+          record (saw m.0.seat c word) { place = AtReading; reads = record { cell = c; word = word; value = value } ∷ m.0.seat.reads };
     }
 
   -- the words are a finished range of the store now, from this start on, and the pass has taken as many words more
@@ -156,7 +157,7 @@ module _ {S N : Type 0} (terms : Terms S N) where
     pub sees : Sees terms m.0 r.0
     pub written : WasWritten r.0.seen.history c (word / 2)
     pub cause : HasCause m.0.seat.rv word
-    pub is : r.0 ≡ record m.0 { seen = r.0.seen; seat = conflict m.0.seat Idle; looked = Some (c, word) }
+    pub is : r.0 ≡ record m.0 { seen = r.0.seen; seat = conflict (saw m.0.seat c word) Idle }
 
   -- a pass v has learnt of u: they are v2 and u2 now
   pub record Learns (v u v2 u2 : View S N) : Type 0 where
@@ -170,5 +171,5 @@ module _ {S N : Type 0} (terms : Terms S N) where
     -- the numbers of passes with two names are different
     pub apart : v.name ≢ u.name → (k : ℕ) → Has k v.drawn → Has k u.drawn → ⊥
     pub same : (x y : S) → v.setting ≡ Some x → u.setting ≡ Some y → (x ≡ y) × (v.base ≡ u.base)
-    pub is : v2 ≡ record v { seen = v2.seen; seat = began (length v2.seen.history); told = untold; runs = v.runs + 1; looked = None }
+    pub is : v2 ≡ record v { seen = v2.seen; seat = began v.seat (length v2.seen.history); told = untold }
     pub other_is : u2 ≡ record u { seen = u2.seen }

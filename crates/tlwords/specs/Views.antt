@@ -38,7 +38,7 @@ pub record View (S N : Type 0) : Type 0 where
   pub setting : Option S
   pub base : List ℕ
   pub room : ℕ
-  -- the machine's seat: the run, its place, its reads and the cells that it holds
+  -- the machine's seat: the run, its place, its reads and the cells that it holds; its loads of the clock, and its last look or take
   pub seat : Seat
   -- the note of the run that drew last
   pub note : Option N
@@ -49,9 +49,6 @@ pub record View (S N : Type 0) : Type 0 where
   pub name : ℕ
   pub drawn : List ℕ
   pub rights : ℕ
-  -- its loads of the clock, and the cell and lock word that its last look or take since the last of these found
-  pub runs : ℕ
-  pub looked : Option (ℕ × ℕ)
   -- the range that it is staging, and what its first staging that was refused found: the tail and the length
   pub staging : Option Staging
   pub full : Option (ℕ × ℕ)
@@ -87,8 +84,6 @@ module _ {S N : Type 0} where
         name = name;
         drawn = [];
         rights = rights;
-        runs = 0;
-        looked = None;
         staging = None;
         full = None;
         taken = 0;

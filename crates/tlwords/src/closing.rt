@@ -43,8 +43,9 @@ pub struct ClosedWords {
 }
 
 /// Ends a memory, and the passes of it that are given. Its words show one history, into which grows what each of the passes had seen, and the
-/// store has each finished range. Where as many passes are given as there were sessions, no lock is held any more, and the clock and the
-/// tail are where these passes moved them.
+/// store has each finished range. A lock that is held is that of a seat in the middle of a run, and no more seats hold one than passes are left
+/// out: a pass is at rest, and holds nothing. Where as many passes are given as there were sessions, no lock is held any more, and the clock and
+/// the tail are where these passes moved them.
 pub fn close<L: Law>(
     alloc: Global,
     words: Words<L>,

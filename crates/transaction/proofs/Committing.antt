@@ -1,5 +1,5 @@
 -- What the end of a run of a session makes of its pass.
-use Rattle.std.proofs.Common.{◌≡◌, ℕ, suc, ◌+◌, ◌<◌, ◌≤◌, inl, inr, true, false, List, [], ◌∷◌, ◌++◌, length, Option, Some, None}
+use Rattle.std.proofs.Common.{◌≡◌, ℕ, suc, ◌+◌, ◌<◌, ◌≤◌, inl, inr, Bool, true, false, if◌then◌else◌, List, [], ◌∷◌, ◌++◌, length, Option, Some, None}
 use Rattle.std.proofs.Common.{refl, sym, ap, subst, ◌∙◌, arith}
 use Rattle.std.specs.declared.snapshot.Snapshot.{Snapshot}
 use Rattle.std.specs.Prelude.{◌^◌, MatchOption, IsSomeAnd}
@@ -11,7 +11,6 @@ use Rattle.library.specs.Transactions.{has_edit}
 use Rattle.bodystore.specs.Stages.{Staged}
 use Rattle.cells.specs.State.{most_words}
 use Rattle.cells.specs.Answers.{has_staging}
-use Rattle.tlwords.specs.declared.mode.Mode.TheVariants.{Reading}
 use Rattle.tlwords.specs.declared.outcome.Conflict.{Conflict}
 use Rattle.tlwords.specs.Seen.{SeenGrows, Committed, Answered}
 use Rattle.tlwords.specs.Known.{Home, Knows}
@@ -19,7 +18,7 @@ use Rattle.tlwords.specs.Commits.{writes_kept}
 use Rattle.tlwords.specs.Calls.{work_done, IsCommitted, IsAnswered, IsRejected, Ends}
 use Rattle.tlwords.specs.declared.outcome.Outcome.{Outcome as Answer}
 use Rattle.tlwords.specs.declared.outcome.Outcome.TheVariants.{Committed as EndsDone, Read as EndsRead, Conflict as EndsConflict, NumbersUsed}
-use Rattle.ranges.specs.Pairs.{Pairs}
+use Rattle.ranges.specs.Pairs.{Pairs, written}
 use Rattle.tlwords.proofs.Seens.{seen_trans}
 use Rattle.lawful.specs.declared.notes.Given.{Given}
 use Rattle.lawful.specs.declared.notes.Note.{Note}
@@ -28,7 +27,7 @@ use Rattle.lawful.specs.Lawful.{library_terms}
 use Rattle.lawful.specs.History.{history_of, IsHistoryOf}
 use Rattle.lawful.specs.Laws.{IsPassOn}
 use Rattle.lawful.proofs.Standing.{sessions_stand}
-use Rattle.lending.specs.Lent.{Pass, Lending, IsLent}
+use Rattle.lending.specs.Lent.{Pass, Lending, is_writing, IsLent}
 use Rattle.lending.specs.declared.live.GivenUp.{GivenUp}
 use Rattle.lending.specs.declared.live.GivenUp.TheVariants as given
 use Rattle.lending.specs.Ends.{IsLawfulWith, IsForgotten, IsGivenUp}
@@ -37,9 +36,9 @@ use Rattle.transaction.specs.declared.outcome.Outcome.{Outcome}
 use Rattle.transaction.specs.declared.outcome.Outcome.TheVariants as outcome
 use Rattle.transaction.specs.declared.outcome.Record.{Record}
 use Rattle.transaction.specs.Members.{IsRecordIn}
-use Rattle.transaction.specs.Attempts.{AddsNothing, Meets}
+use Rattle.transaction.specs.Attempts.{AddsNothing, Meets, LoadsOnce}
 use Rattle.transaction.specs.Tries.{IsLaterPass, Tries}
-use Rattle.transaction.proofs.Ended.{met_at, is_later, adds_nothing, meets}
+use Rattle.transaction.proofs.Ended.{met_at, is_later, adds_nothing, runs_once, met_none, meets, told_by}
 
 -- the record of a number that a conflict left void
 abbrev pub void_record : ℕ → Record
@@ -68,6 +67,9 @@ module _ (l : Lending) (stage : Staged) (over : Option Conflict) (lent : IsLent 
 
   later_same : IsLaterPass l.began l.going.known
   later_same = is_later l stage over lent
+
+  once : LoadsOnce l.began l.going.known l.going.place
+  once = runs_once l stage over lent
 
   adds_none : AddsNothing l.began l.going.known
   adds_none = adds_nothing l stage over lent
@@ -116,6 +118,8 @@ module _ (l : Lending) (stage : Staged) (over : Option Conflict) (lent : IsLent 
                 ap (λ (z : Pass). z.mine) w.is ∙ ap (λ (z : Pass). z.mine ++ Committed number work ∷ []) lent.since,
               ),
             );
+            run = (l.going.place, ap (λ (z : Pass). z.clocks) w.is ∙ once);
+            unrefused = λ e. absurd cc;
             recorded = (drawn, commit_recorded number k w);
           }
 
@@ -136,6 +140,8 @@ module _ (l : Lending) (stage : Staged) (over : Option Conflict) (lent : IsLent 
                 ap (λ (z : Pass). z.mine) w.is ∙ ap (λ (z : Pass). z.mine ++ Answered l.going.place work ∷ []) lent.since,
               ),
             );
+            run = ap (λ (z : Pass). z.clocks) w.is ∙ once;
+            unrefused = λ e. absurd cc;
             recorded = drawn;
           }
 
@@ -158,14 +164,16 @@ module _ (l : Lending) (stage : Staged) (over : Option Conflict) (lent : IsLent 
             ap (λ (z : Pass). z.mine) w.is ∙ ap (λ (z : Pass). z.mine ++ Answered l.going.place work ∷ []) lent.since,
           ),
         );
+        run = ap (λ (z : Pass). z.clocks) w.is ∙ once;
+        unrefused = λ e. absurd cc;
         recorded = drawn;
       }
 
   -- ---- conflicts
 
-  -- a transaction without an edit only reads
-  abbrev pub OnlyReads : Type 0
-  OnlyReads = has_edit cs ≡ false → l.going.mode ≡ Reading
+  -- a transaction writes where it has an edit, and else only reads
+  abbrev pub WritesEdits : Type 0
+  WritesEdits = is_writing l.going.mode ≡ has_edit cs
 
   edits_not : has_edit cs ≡ true → has_edit cs ≡ false → ⊥
   edits_not edits none = let a : true ≡ false = sym edits ∙ none in cc
@@ -178,35 +186,39 @@ module _ (l : Lending) (stage : Staged) (over : Option Conflict) (lent : IsLent 
   met_is c place met is at =
       is ∙ ap (λ (p : ℕ). let z : Met = record { place = p; cell = c.cell; word = c.word; before = c.before } in z) at
 
-  rejected_meets : (c : Conflict) (drawn : Option ℕ) (k : Pass) → k.runs ≡ l.going.known.runs → IsRejected library_terms c drawn l.going k
-      → Meets l.began k (met_of c)
-  rejected_meets c drawn k runs w =
+  rejected_meets : (c : Conflict) (drawn : Option ℕ) (k : Pass) → WritesEdits → k.clocks ≡ l.going.known.clocks
+      → IsRejected library_terms c drawn l.going k → Meets (has_edit cs) l.began k (met_of c)
+  rejected_meets c drawn k writes runs w =
       record {
         placed = lent.placed;
+        run = runs ∙ runs_once l stage over lent;
         looked = w.finds.looked;
-        runs = runs ∙ ap (λ (z : Pass). z.runs) lent.since;
+        before = w.finds.told ∙ told_by l.going.mode c.cell k.found
+            ∙ ap (λ (b : Bool). if b then written c.cell k.found else None) writes;
         cause = w.cause;
         written = w.finds.written;
       }
 
-  pub rejects_undrawn : (c : Conflict) (k : Pass) → has_edit cs ≡ true → IsRejected library_terms c None l.going k
+  pub rejects_undrawn : (c : Conflict) (k : Pass) → WritesEdits → has_edit cs ≡ true → IsRejected library_terms c None l.going k
       → Tries cs l.began k (outcome.Conflict (met_of c)) None
-  rejects_undrawn c k edits w =
+  rejects_undrawn c k writes edits w =
       let drawn : k.drawn ≡ l.began.drawn = ap (λ (z : Pass). z.drawn) w.entry ∙ ap (λ (z : Pass). z.drawn) lent.since in
       record {
         later = later_by k (ap (λ (z : Pass). z.home) w.entry) (ap (λ (z : Pass). z.name) w.entry) w.grows w.knows;
         gains = (
           ap (λ (z : Pass). z.mine) w.entry ∙ ap (λ (z : Pass). z.mine) lent.since,
           inl drawn,
-          rejected_meets c None k (ap (λ (z : Pass). z.runs) w.entry) w,
+          rejected_meets c None k writes (ap (λ (z : Pass). z.clocks) w.entry) w,
           λ none. absurd (edits_not edits none),
         );
+        run = ap (λ (z : Pass). z.clocks) w.entry ∙ once;
+        unrefused = λ e. absurd cc;
         recorded = drawn;
       }
 
-  pub rejects_drawn : (c : Conflict) (number : ℕ) (k : Pass) → has_edit cs ≡ true → IsRejected library_terms c (Some number) l.going k
+  pub rejects_drawn : (c : Conflict) (number : ℕ) (k : Pass) → WritesEdits → has_edit cs ≡ true → IsRejected library_terms c (Some number) l.going k
       → Tries cs l.began k (outcome.Conflict (met_of c)) (Some (void_record number))
-  rejects_drawn c number k edits w =
+  rejects_drawn c number k writes edits w =
       let e = w.entry in
       let same = e.4 in
       let drawn : k.drawn ≡ l.began.drawn ++ number ∷ [] =
@@ -217,32 +229,55 @@ module _ (l : Lending) (stage : Staged) (over : Option Conflict) (lent : IsLent 
         gains = (
           ap (λ (z : Pass). z.mine) same ∙ ap (λ (z : Pass). z.mine) lent.since,
           inr (number, drawn, (e.0, e.1, void)),
-          rejected_meets c (Some number) k (ap (λ (z : Pass). z.runs) same) w,
+          rejected_meets c (Some number) k writes (ap (λ (z : Pass). z.clocks) same) w,
           λ none. absurd (edits_not edits none),
         );
+        run = ap (λ (z : Pass). z.clocks) same ∙ once;
+        unrefused = λ e. absurd cc;
         recorded = (drawn, (e.0, e.1, void));
       }
 
   -- the run had met it by a read
-  pub met_before : (c : Conflict) → OnlyReads → l.going.over ≡ Some c
+  pub met_before : (c : Conflict) → WritesEdits → l.going.over ≡ Some c
       → Tries cs l.began l.going.known (outcome.Conflict (met_of c)) None
-  met_before c reading is =
-      let has = meets l stage over lent c is in
+  met_before c writes is =
+      let has : Meets (has_edit cs) l.began l.going.known (met_of c) =
+      subst (λ (b : Bool). Meets b l.began l.going.known (met_of c)) writes (meets l stage over lent c is) in
       record {
         later = later_same;
-        gains = (adds_none.mine, inl adds_none.drawn, has.0, λ none. (has.1 (reading none), adds_none.drawn));
+        gains = (
+          adds_none.mine,
+          inl adds_none.drawn,
+          has,
+          λ none. (has.before ∙ ap (λ (b : Bool). if b then written c.cell l.going.known.found else None) none, adds_none.drawn),
+        );
+        run = once;
+        unrefused = λ e. absurd cc;
         recorded = adds_none.drawn;
       }
 
   -- ---- it is given up
 
-  pub gives_up : (why : GivenUp) → IsGivenUp l why → OnlyReads → l.may_stage ≡ has_staging cs
+  pub gives_up : (why : GivenUp) → IsGivenUp l why → WritesEdits → l.may_stage ≡ has_staging cs
       → Tries cs l.began l.going.known (told_of l.going.place why) None
   gives_up (given.Conflict c) is reading stages = met_before c reading is
   gives_up given.StoreFull is reading stages =
       let full = lent.full is.1 in
-      record { later = later_same; gains = (adds_none, full.0, sym stages ∙ full.1); recorded = adds_none.drawn }
-  gives_up given.NoMemory is reading stages = record { later = later_same; gains = adds_none; recorded = adds_none.drawn }
+      record {
+        later = later_same;
+        gains = (adds_none, full.0, sym stages ∙ full.1);
+        run = met_none l stage over lent is.0;
+        unrefused = λ e. absurd cc;
+        recorded = adds_none.drawn;
+      }
+  gives_up given.NoMemory is reading stages =
+      record {
+        later = later_same;
+        gains = adds_none;
+        run = met_none l stage over lent is.0;
+        unrefused = λ e. lent.unrefused is.1;
+        recorded = adds_none.drawn;
+      }
 
   -- ---- no number is left
 
@@ -251,15 +286,17 @@ module _ (l : Lending) (stage : Staged) (over : Option Conflict) (lent : IsLent 
       record {
         later = later_same;
         gains = (adds_none, ap (λ (z : Pass). length z.drawn) (sym lent.since) ∙ count);
+        run = (l.going.place, once);
+        unrefused = λ e. absurd cc;
         recorded = adds_none.drawn;
       }
 
   -- ---- what a commit answers
 
-  rejects : (c : Conflict) (drawn : Option ℕ) (k : Pass) → has_edit cs ≡ true → IsRejected library_terms c drawn l.going k
+  rejects : (c : Conflict) (drawn : Option ℕ) (k : Pass) → WritesEdits → has_edit cs ≡ true → IsRejected library_terms c drawn l.going k
       → Tries cs l.began k (outcome.Conflict (met_of c)) (void_records drawn)
-  rejects c None k edits w = rejects_undrawn c k edits w
-  rejects c (Some number) k edits w = rejects_drawn c number k edits w
+  rejects c None k writes edits w = rejects_undrawn c k writes edits w
+  rejects c (Some number) k writes edits w = rejects_drawn c number k writes edits w
 
   module _ (n : Note) (k : Pass) (o : Answer)
       (stopped : (c : Conflict) → l.going.over ≡ Some c → (o ≡ EndsConflict c None) × (k ≡ l.going.known))
@@ -283,28 +320,28 @@ module _ (l : Lending) (stage : Staged) (over : Option Conflict) (lent : IsLent 
         → (place ≡ l.going.place) × IsAnswered library_terms l.going.place (work_done l.going n) l.going.known k
     answered place is = answered_by place is l.going.over refl
 
-    met_by : (c own : Conflict) → OnlyReads → l.going.over ≡ Some own → own ≡ c
+    met_by : (c own : Conflict) → WritesEdits → l.going.over ≡ Some own → own ≡ c
         → Tries cs l.began k (outcome.Conflict (met_of c)) None
     met_by c own reading met same =
         subst (λ (x : Conflict). Tries cs l.began k (outcome.Conflict (met_of x)) None) same
         (subst (λ (z : Pass). Tries cs l.began z (outcome.Conflict (met_of own)) None) (sym (stopped own met).1) (met_before own reading met))
 
-    conflicts_by : (c : Conflict) (drawn : Option ℕ) → has_edit cs ≡ true → o ≡ EndsConflict c drawn → (v : Option Conflict)
+    conflicts_by : (c : Conflict) (drawn : Option ℕ) → WritesEdits → has_edit cs ≡ true → o ≡ EndsConflict c drawn → (v : Option Conflict)
         → l.going.over ≡ v → Tries cs l.began k (outcome.Conflict (met_of c)) (void_records drawn)
-    conflicts_by c drawn edits is None none = rejects c drawn k edits (subst (Ends library_terms n l.going k) is (ended none)).1
-    conflicts_by c drawn edits is (Some own) met =
+    conflicts_by c drawn writes edits is None none = rejects c drawn k writes edits (subst (Ends library_terms n l.going k) is (ended none)).1
+    conflicts_by c drawn writes edits is (Some own) met =
         let e = (stopped own met).0 in
         let same : own ≡ c = cc in
         let nothing : drawn ≡ None = cc in
         subst (λ (d : Option ℕ). Tries cs l.began k (outcome.Conflict (met_of c)) (void_records d)) (sym nothing)
-        (met_by c own (λ none. absurd (edits_not edits none)) met same)
+        (met_by c own writes met same)
 
-    pub conflicts : (c : Conflict) (drawn : Option ℕ) → has_edit cs ≡ true → o ≡ EndsConflict c drawn
+    pub conflicts : (c : Conflict) (drawn : Option ℕ) → WritesEdits → has_edit cs ≡ true → o ≡ EndsConflict c drawn
         → Tries cs l.began k (outcome.Conflict (met_of c)) (void_records drawn)
-    conflicts c drawn edits is = conflicts_by c drawn edits is l.going.over refl
+    conflicts c drawn writes edits is = conflicts_by c drawn writes edits is l.going.over refl
 
     -- where a commit could not meet one, the run had met it before
-    met_only_by : (c : Conflict) (drawn : Option ℕ) → OnlyReads → o ≡ EndsConflict c drawn → (l.going.over ≡ None → ⊥)
+    met_only_by : (c : Conflict) (drawn : Option ℕ) → WritesEdits → o ≡ EndsConflict c drawn → (l.going.over ≡ None → ⊥)
         → (v : Option Conflict) → l.going.over ≡ v → Tries cs l.began k (outcome.Conflict (met_of c)) None
     met_only_by c drawn reading is some None none = absurd (some none)
     met_only_by c drawn reading is some (Some own) met =
@@ -312,7 +349,7 @@ module _ (l : Lending) (stage : Staged) (over : Option Conflict) (lent : IsLent 
         let same : own ≡ c = cc in
         met_by c own reading met same
 
-    pub met_only : (c : Conflict) (drawn : Option ℕ) → OnlyReads → o ≡ EndsConflict c drawn → (l.going.over ≡ None → ⊥)
+    pub met_only : (c : Conflict) (drawn : Option ℕ) → WritesEdits → o ≡ EndsConflict c drawn → (l.going.over ≡ None → ⊥)
         → Tries cs l.began k (outcome.Conflict (met_of c)) None
     met_only c drawn reading is some = met_only_by c drawn reading is some l.going.over refl
 

@@ -1,5 +1,5 @@
 -- A look at the whole library: what may be noted of it, and how it ends.
-use Rattle.std.proofs.Common.{◌≡◌, ℕ, ◌⊎◌, inl, inr, List, [], ◌∷◌, ◌++◌, false, Option, Some, None, refl, sym, ap, subst, ◌∙◌}
+use Rattle.std.proofs.Common.{◌≡◌, ℕ, ◌⊎◌, inl, inr, Bool, List, [], ◌∷◌, ◌++◌, false, Option, Some, None, refl, sym, ap, subst, ◌∙◌}
 use Rattle.std.proofs.lemmas.List.Sorted.{IsPermutation-trans}
 use Rattle.bodystore.specs.Stages.{Staged}
 use Rattle.library.specs.declared.library.Ranked.{Ranked}
@@ -32,9 +32,10 @@ use Rattle.lending.specs.Ends.{IsGivenUp}
 use Rattle.transaction.specs.declared.outcome.Look.{Look}
 use Rattle.transaction.specs.declared.outcome.Look.TheVariants as look
 use Rattle.transaction.specs.Members.{Member, IsMember}
+use Rattle.transaction.specs.Attempts.{Meets}
 use Rattle.transaction.specs.Looks.{Looks, Sees, SaysLooked}
 use Rattle.transaction.specs.Tries.{IsLaterPass, MayBeLooked}
-use Rattle.transaction.proofs.Ended.{met_at, is_later, adds_nothing, meets}
+use Rattle.transaction.proofs.Ended.{met_at, is_later, adds_nothing, runs_once, met_none, meets}
 use Rattle.transaction.proofs.Staying.{pass_on, still_member, goes_on}
 
 -- ---- the library that was read
@@ -92,13 +93,15 @@ module _ (l : Lending) (stage : Staged) (over : Option Conflict) (lent : IsLent 
   saw_conflict : (found : Conflict) → l.going.mode ≡ Reading → l.going.over ≡ Some found
       → Sees l.began l.going.known (look.Conflict (met_at l.going.place found))
   saw_conflict found mode is =
-      let has = meets l stage over lent found is in
-      (adds_nothing l stage over lent, has.0, has.1 mode)
+      let has : Meets false l.began l.going.known (met_at l.going.place found) =
+      subst (λ (b : Bool). Meets b l.began l.going.known (met_at l.going.place found)) (ap is_writing mode)
+      (meets l stage over lent found is) in
+      (adds_nothing l stage over lent, has, has.before)
 
   pub sees_stopped : (why : GivenUp) → IsGivenUp l why → l.going.mode ≡ Reading → Sees l.began l.going.known (told_of l.going.place why)
   sees_stopped (given.Conflict found) is mode = saw_conflict found mode is
-  sees_stopped given.StoreFull is mode = adds_nothing l stage over lent
-  sees_stopped given.NoMemory is mode = adds_nothing l stage over lent
+  sees_stopped given.StoreFull is mode = (adds_nothing l stage over lent, met_none l stage over lent is.0)
+  sees_stopped given.NoMemory is mode = (adds_nothing l stage over lent, met_none l stage over lent is.0)
 
 module _ (l : Lending) (stage : Staged) (over : Option Conflict) (lent : IsLent l stage over) (n : Note) (new : Pass) (o : Outcome)
     (stopped : (k : Conflict) → l.going.over ≡ Some k → (o ≡ ends.Conflict k None) × (new ≡ l.going.known))
@@ -135,6 +138,7 @@ module _ (l : Lending) (stage : Staged) (over : Option Conflict) (lent : IsLent 
           ap (λ (z : Pass). z.mine) a.is
               ∙ ap (λ (z : Pass). z.mine ++ Answered l.going.place (work_done l.going n) ∷ []) lent.since,
         ),
+        ap (λ (z : Pass). z.clocks) a.is ∙ runs_once l stage over lent,
       )
   sees_read_by place library says is (Some k) met = let other = (stopped k met).0 in absurd cc
 
@@ -160,7 +164,7 @@ module _ (l : Lending) (stage : Staged) (over : Option Conflict) (lent : IsLent 
 pub draws_none : (old new : Pass) (l : Look) → Sees old new l → new.drawn ≡ old.drawn
 draws_none old new (look.Read place library) sees = sees.1
 draws_none old new (look.Conflict met) sees = sees.0.drawn
-draws_none old new look.NoMemory sees = sees.drawn
+draws_none old new look.NoMemory sees = sees.0.drawn
 
 module _ (m : Member) (k : Pass) (l : Look) (is : IsMember m) (later : IsLaterPass m.known k) (sees : Sees m.known k l) where
   pub looker_stays : IsMember (record m { known = k })

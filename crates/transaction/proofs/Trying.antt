@@ -1,5 +1,5 @@
 -- What one run of a session makes of the session, and what runs until there is no conflict do.
-use Rattle.std.proofs.Common.{◌≡◌, ◌≢◌, ℕ, ◌+◌, ◌≤◌, ◌⊎◌, inl, inr, Bool, true, false, List, [], ◌∷◌, ◌++◌, length, Option, Some, None}
+use Rattle.std.proofs.Common.{◌≡◌, ◌≢◌, ℕ, ◌≤◌, ◌⊎◌, inl, inr, Bool, true, false, List, [], ◌∷◌, ◌++◌, length, Option, Some, None}
 use Rattle.std.proofs.Common.{refl, sym, ap, subst, ◌∙◌, arith, append_assoc}
 use Rattle.std.specs.Prelude.{All}
 use Rattle.std.proofs.lemmas.List.{append-nil}
@@ -19,7 +19,7 @@ use Rattle.transaction.specs.declared.outcome.Outcome.TheVariants as outcome
 use Rattle.transaction.specs.declared.outcome.Record.{Record}
 use Rattle.transaction.specs.Members.{Member, IsLater, IsMember}
 use Rattle.transaction.specs.Attempts.{Gains, Attempts, Submits, IsVoidNumber, DrawsVoid, AddsNothing, GainsCall, SaysDone, SaysRefused}
-use Rattle.transaction.specs.Attempts.{tried}
+use Rattle.transaction.specs.Attempts.{tried, IsOneRun, LoadsOnce, MetNone}
 use Rattle.transaction.specs.Tries.{IsLaterPass, IsRecorded, Tries}
 use Rattle.transaction.proofs.Standing.{stands}
 use Rattle.transaction.proofs.Recorded.{with_record, still_recorded, voids_grow}
@@ -36,9 +36,9 @@ module _ (m : Member) (is : IsMember m) where
       record { given = refl; home = refl; name = refl; grows = seen_refl m.known.seen; stands = stands m is }
 
   -- nothing was done
-  pub attempts_none : (cs : List Command) (o : Outcome) → Gains cs m.known m.known o → (has_too_many cs ≡ true → o ≡ outcome.TooManyCommands)
-      → Attempts cs m m o
-  attempts_none cs o gains counted = record { later = same_later; gains = gains; counted = counted }
+  pub attempts_none : (cs : List Command) → has_too_many cs ≡ true → Attempts cs m m outcome.TooManyCommands
+  attempts_none cs many =
+      record { later = same_later; gains = (refl, many); run = tt; unrefused = λ e. absurd cc; counted = λ t. refl }
 
   pub member_after : (k : Pass) (r : Option Record) → IsLaterPass m.known k → IsRecorded m.known k r → IsMember (after_run m k r)
   member_after k r later recorded =
@@ -60,6 +60,8 @@ module _ (m : Member) (is : IsMember m) where
           stands = stands (after_run m k r) (member_after k r t.later t.recorded);
         };
         gains = t.gains;
+        run = t.run;
+        unrefused = t.unrefused;
         counted = λ many. let no : true ≡ false = sym many ∙ few in absurd cc;
       }
 
@@ -100,9 +102,10 @@ pub record Tried (cs : List Command) (old now : Member) : Type 0 where
   pub numbers : List ℕ
   pub void : All (IsVoidNumber now.known) numbers
   pub drawn : now.known.drawn ≡ old.known.drawn ++ numbers
-  pub runs : ℕ
-  pub counted : now.known.runs ≡ old.known.runs + runs
+  pub runs : List ℕ
+  pub counted : now.known.clocks ≡ runs ++ old.known.clocks
   pub mine : now.known.mine ≡ old.known.mine
+  pub unrefused : runs ≡ [] → now.known.full ≡ old.known.full
 
 pub tried_none : (cs : List Command) (m : Member) → Tried cs m m
 tried_none cs m =
@@ -111,9 +114,10 @@ tried_none cs m =
       numbers = [];
       void = All-nil (IsVoidNumber m.known);
       drawn = sym (append-nil m.known.drawn);
-      runs = 0;
-      counted = omega arith;
+      runs = [];
+      counted = refl;
       mine = refl;
+      unrefused = λ none. refl;
     }
 
 -- a number drawn behind these, and void
@@ -131,11 +135,10 @@ few_commands : (cs : List Command) (many : Bool) (o : Outcome) (met : Met) → o
 few_commands cs true o met is counted = let no = sym is ∙ counted refl in absurd cc
 few_commands cs false o met is counted = refl
 
-tried_nothing : (k : Pass) → k ≡ tried k [] 0
+tried_nothing : (k : Pass) → k ≡ tried k [] []
 tried_nothing k =
     let drawn : k.drawn ≡ k.drawn ++ [] = sym (append-nil k.drawn) in
-    let runs : k.runs ≡ k.runs + 0 = omega arith in
-    λ j. record k { drawn = drawn j; runs = runs j }
+    λ j. record k { drawn = drawn j }
 
 -- whether a transaction has too many commands
 is_too_many : (o : Outcome) → (o ≡ outcome.TooManyCommands) ⊎ (o ≢ outcome.TooManyCommands)
@@ -170,9 +173,10 @@ module _ (cs : List Command) (old now next : Member) (o : Outcome) (so_far : Tri
         numbers = all.0;
         void = all.1;
         drawn = all.2;
-        runs = so_far.runs + 1;
-        counted = (let e = g.2.runs in let f = so_far.counted in omega arith);
+        runs = met.place ∷ so_far.runs;
+        counted = g.2.run ∙ ap (λ (ps : List ℕ). met.place ∷ ps) so_far.counted;
         mine = g.0 ∙ so_far.mine;
+        unrefused = λ none. absurd cc;
       }
 
   -- ---- the last try
@@ -188,6 +192,18 @@ module _ (cs : List Command) (old now next : Member) (o : Outcome) (so_far : Tri
 
   calls : (call : Work Note → Call Note) (Says : Note → Type 0) → GainsCall now.known next.known call Says → GainsCall before next.known call Says
   calls call Says g = (g.0, g.1, g.2 ∙ ap (λ (z : List (Call Note)). z ++ call g.0 ∷ []) so_far.mine)
+
+  one_more : (place : ℕ) → LoadsOnce now.known next.known place → LoadsOnce before next.known place
+  one_more place one = one ∙ ap (λ (ps : List ℕ). place ∷ ps) so_far.counted
+
+  none_since : MetNone now.known next.known → MetNone before next.known
+  none_since none =
+      record {
+        place = none.place;
+        placed = not_before none.place none.placed;
+        run = one_more none.place none.run;
+        found = none.found;
+      }
 
   gains_since : (v : Outcome) → Gains cs now.known next.known v → ((met : Met) → v ≢ outcome.Conflict met) → v ≢ outcome.TooManyCommands
       → Gains cs before next.known v
@@ -207,6 +223,16 @@ module _ (cs : List Command) (old now next : Member) (o : Outcome) (so_far : Tri
   gains_since outcome.TooManyCommands g settles some = absurd (some refl)
   gains_since outcome.NoMemory g settles some = adds g
 
+  ran_since : (v : Outcome) → IsOneRun now.known next.known v → IsOneRun before next.known v
+  ran_since (outcome.Committed number replies) one = (one.0, one_more one.0 one.1)
+  ran_since (outcome.Read place replies) one = one_more place one
+  ran_since (outcome.Refused place refused) one = one_more place one
+  ran_since (outcome.Conflict met) one = one_more met.place one
+  ran_since outcome.StoreFull one = none_since one
+  ran_since outcome.NumbersUsed one = (one.0, one_more one.0 one.1)
+  ran_since outcome.TooManyCommands one = one
+  ran_since outcome.NoMemory one = none_since one
+
   submits_some : ((met : Met) → o ≢ outcome.Conflict met) → o ≢ outcome.TooManyCommands → Submits cs old next o
   submits_some settled some =
       record {
@@ -215,6 +241,8 @@ module _ (cs : List Command) (old now next : Member) (o : Outcome) (so_far : Tri
         void = void_then;
         runs = so_far.runs;
         gains = gains_since o a.gains settled some;
+        run = ran_since o a.run;
+        unrefused = λ is none. a.unrefused is ∙ so_far.unrefused none;
         settled = settled;
         counted = a.counted;
       }
@@ -223,14 +251,16 @@ module _ (cs : List Command) (old now next : Member) (o : Outcome) (so_far : Tri
   submits_none : (now ≡ old) ⊎ (IsLater old now × (has_too_many cs ≡ false)) → o ≡ outcome.TooManyCommands → Submits cs old next o
   submits_none (inl same) is =
       let g = subst (Gains cs now.known next.known) is a.gains in
-      let all : next.known ≡ tried old.known [] 0 = g.0 ∙ (ap (λ (m : Member). m.known) same
+      let all : next.known ≡ tried old.known [] [] = g.0 ∙ (ap (λ (m : Member). m.known) same
       ∙ tried_nothing old.known) in
       record {
         later = later_by so_far.since;
         numbers = [];
         void = All-nil (IsVoidNumber next.known);
-        runs = 0;
-        gains = subst (Gains cs (tried old.known [] 0) next.known) (sym is) (all, g.1);
+        runs = [];
+        gains = subst (Gains cs (tried old.known [] []) next.known) (sym is) (all, g.1);
+        run = subst (IsOneRun (tried old.known [] []) next.known) (sym is) tt;
+        unrefused = λ memory none. let no = sym is ∙ memory in absurd cc;
         settled = λ met e. let no = sym is ∙ e in cc;
         counted = a.counted;
       }

@@ -1,5 +1,5 @@
 -- What becomes of a transaction that a session runs, and what the session's pass knows then.
-use Rattle.std.specs.Prelude.{◌≡◌, ◌≢◌, ◌<◌, ◌≤◌, ℕ, suc, ◌+◌, ◌/◌, ◌^◌, ◌⊎◌, true, false, is_some, Some, None, List, [], ◌∷◌, ◌++◌}
+use Rattle.std.specs.Prelude.{◌≡◌, ◌≢◌, ◌<◌, ◌≤◌, ℕ, suc, ◌/◌, ◌^◌, ◌⊎◌, Bool, true, false, is_some, if◌then◌else◌, Some, None, List, [], ◌∷◌, ◌++◌}
 use Rattle.std.specs.Prelude.{length, slice_get, All}
 use Rattle.library.specs.declared.command.Command.{Command}
 use Rattle.library.specs.declared.command.Reply.{Reply}
@@ -7,13 +7,14 @@ use Rattle.library.specs.declared.reason.Refused.{Refused as Refusal}
 use Rattle.library.specs.Histories.{void_entry}
 use Rattle.library.specs.Transactions.{has_edit, has_too_many}
 use Rattle.cells.specs.Answers.{has_staging}
+use Rattle.ranges.specs.Pairs.{written}
 use Rattle.tlcore.specs.History.{WasWritten}
 use Rattle.tlwords.specs.Seen.{Work, Call, Committed as CommittedCall, Answered}
 use Rattle.tlwords.specs.Runs.{HasCause}
 use Rattle.lawful.specs.declared.notes.Note.{Note}
 use Rattle.lawful.specs.declared.notes.Note.TheVariants as note
 use Rattle.lawful.specs.History.{history_of}
-use Rattle.lending.specs.Lent.{Pass}
+use Rattle.lending.specs.Lent.{Pass, FindsNone}
 use Rattle.transaction.specs.declared.outcome.Conflict.{Conflict as Met}
 use Rattle.transaction.specs.declared.outcome.Outcome.{Outcome}
 use Rattle.transaction.specs.declared.outcome.Outcome.TheVariants as outcome
@@ -58,12 +59,15 @@ pub record AddsNothing (old new : Pass) : Type 0 where
   pub mine : new.mine ≡ old.mine
   pub drawn : DrawsNone old new
 
--- what was found of the conflict's cell: the last look of the one run of this call found the word, which shows the lock held, a version above
--- the place, or another word than the read before. The half of the word is 0 or the number of a Done entry that writes this very cell
-pub record Meets (old new : Pass) (met : Met) : Type 0 where
+-- what was found of the conflict's cell: the one load of the clock of this call found the place, and the last look of its run the word, which
+-- shows the lock held, a version above the place, or another word than the read before. The half of the word is 0 or the number of a Done
+-- entry that writes this very cell. Where the run keeps its reads, the word before is the one that its newest read of the cell found, and
+-- there is none exactly where no read of the cell had ended; where it keeps none, none is told
+pub record Meets (keeps : Bool) (old new : Pass) (met : Met) : Type 0 where
   pub placed : IsNotBefore old met.place
+  pub run : new.clocks ≡ met.place ∷ old.clocks
   pub looked : new.looked ≡ Some (met.cell, met.word)
-  pub runs : new.runs ≡ old.runs + 1
+  pub before : met.before ≡ (if keeps then written met.cell new.found else None)
   pub cause : HasCause met.place met.word ⊎ ((w : ℕ) × (met.before ≡ Some w) × (w ≢ met.word))
   pub written : WasWritten new.seen.history met.cell (met.word / 2)
 
@@ -83,28 +87,59 @@ Gains cs old new (outcome.Read place replies) =
 Gains cs old new (outcome.Refused place refused) =
     IsNotBefore old place × DrawsNone old new × GainsCall old new (Answered place) (SaysRefused cs refused)
 Gains cs old new (outcome.Conflict met) =
-    (new.mine ≡ old.mine) × DrawsVoid old new × Meets old new met × (has_edit cs ≡ false → KeptNoReads old new met)
+    (new.mine ≡ old.mine) × DrawsVoid old new × Meets (has_edit cs) old new met × (has_edit cs ≡ false → KeptNoReads old new met)
 Gains cs old new outcome.StoreFull = AddsNothing old new × (is_some new.full ≡ true) × (has_staging cs ≡ true)
 Gains cs old new outcome.NumbersUsed = AddsNothing old new × (length old.drawn ≡ 2 ^ 40)
 Gains cs old new outcome.TooManyCommands = (new ≡ old) × (has_too_many cs ≡ true)
 Gains cs old new outcome.NoMemory = AddsNothing old new
 
+-- ---- how it ran
+
+-- the call loaded the clock once, and that found this place
+abbrev pub LoadsOnce : Pass → Pass → ℕ → Type 0
+LoadsOnce old new place = new.clocks ≡ place ∷ old.clocks
+
+-- the last look of the run, if it made one, met no conflict: the word that it found shows the lock free, and a version up to the run's place, and
+-- is the one under which the run's newest read of the cell ended
+pub record MetNone (old new : Pass) : Type 0 where
+  pub place : ℕ
+  pub placed : IsNotBefore old place
+  pub run : LoadsOnce old new place
+  pub found : FindsNone place new.looked new.found
+
+-- the call was one run, at the place that is told, but where it had too many commands; and a full store or want of memory is told only where
+-- that run met no conflict
+abbrev pub IsOneRun : Pass → Pass → Outcome → Type 0
+IsOneRun old new (outcome.Read place replies) = LoadsOnce old new place
+IsOneRun old new (outcome.Refused place refused) = LoadsOnce old new place
+IsOneRun old new (outcome.Conflict met) = LoadsOnce old new met.place
+IsOneRun old new outcome.StoreFull = MetNone old new
+IsOneRun old new outcome.NoMemory = MetNone old new
+IsOneRun old new outcome.TooManyCommands = Unit {0}
+IsOneRun old new _ = (place : ℕ) × LoadsOnce old new place
+
 -- what one try does
 pub record Attempts (cs : List Command) (old new : Member) (o : Outcome) : Type 0 where
   pub later : IsLater old new
   pub gains : Gains cs old.known new.known o
+  pub run : IsOneRun old.known new.known o
+  -- where memory ran out, no staging was refused for the first time
+  pub unrefused : o ≡ outcome.NoMemory → new.known.full ≡ old.known.full
   pub counted : has_too_many cs ≡ true → o ≡ outcome.TooManyCommands
 
--- what the pass knew, with further numbers, and after further runs
-abbrev pub tried : Pass → List ℕ → ℕ → Pass
-tried k numbers runs = record k { drawn = k.drawn ++ numbers; runs = k.runs + runs }
+-- what the pass knew, with further numbers, and after further runs, at these places, the newest first
+abbrev pub tried : Pass → List ℕ → List ℕ → Pass
+tried k numbers runs = record k { drawn = k.drawn ++ numbers; clocks = runs ++ k.clocks }
 
--- what tries until there is no conflict do: as one, after others that drew further numbers, which are void
+-- what tries until there is no conflict do: as the last one, after others, each of one run, that drew further numbers, which are void
 pub record Submits (cs : List Command) (old new : Member) (o : Outcome) : Type 0 where
   pub later : IsLater old new
   pub numbers : List ℕ
   pub void : All (IsVoidNumber new.known) numbers
-  pub runs : ℕ
+  pub runs : List ℕ
   pub gains : Gains cs (tried old.known numbers runs) new.known o
+  pub run : IsOneRun (tried old.known numbers runs) new.known o
+  -- where memory ran out at the first try, no staging was refused for the first time
+  pub unrefused : o ≡ outcome.NoMemory → runs ≡ [] → new.known.full ≡ old.known.full
   pub settled : (met : Met) → o ≢ outcome.Conflict met
   pub counted : has_too_many cs ≡ true → o ≡ outcome.TooManyCommands

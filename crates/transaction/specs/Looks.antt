@@ -1,5 +1,5 @@
 -- What a look at the whole library gives, and what a session learns of another one.
-use Rattle.std.specs.Prelude.{◌≡◌, ◌≢◌, ℕ, None}
+use Rattle.std.specs.Prelude.{◌≡◌, ◌≢◌, ℕ, None, false}
 use Rattle.library.specs.Library.{Listed}
 use Rattle.ranges.specs.Ranges.{Has}
 use Rattle.tlwords.specs.Seen.{SeenGrows, Answered}
@@ -10,18 +10,19 @@ use Rattle.lending.specs.Lent.{Pass}
 use Rattle.transaction.specs.declared.outcome.Look.{Look}
 use Rattle.transaction.specs.declared.outcome.Look.TheVariants as look
 use Rattle.transaction.specs.Members.{Member, IsLater}
-use Rattle.transaction.specs.Attempts.{GainsCall, IsNotBefore, DrawsNone, AddsNothing, Meets}
+use Rattle.transaction.specs.Attempts.{GainsCall, IsNotBefore, DrawsNone, AddsNothing, Meets, LoadsOnce, MetNone}
 
 -- the note says that the library was this
 abbrev pub SaysLooked : Listed → Note → Type 0
 SaysLooked library (note.Looked l) = l.value ≡ library
 SaysLooked library _ = ⊥
 
--- what the pass has then
+-- what the pass has then, after one run: want of memory is told only where it met no conflict
 abbrev pub Sees : Pass → Pass → Look → Type 0
-Sees old new (look.Read place library) = IsNotBefore old place × DrawsNone old new × GainsCall old new (Answered place) (SaysLooked library)
-Sees old new (look.Conflict met) = AddsNothing old new × Meets old new met × (met.before ≡ None)
-Sees old new look.NoMemory = AddsNothing old new
+Sees old new (look.Read place library) =
+    IsNotBefore old place × DrawsNone old new × GainsCall old new (Answered place) (SaysLooked library) × LoadsOnce old new place
+Sees old new (look.Conflict met) = AddsNothing old new × Meets false old new met × (met.before ≡ None)
+Sees old new look.NoMemory = AddsNothing old new × MetNone old new
 
 -- what a look does
 pub record Looks (old new : Member) (l : Look) : Type 0 where

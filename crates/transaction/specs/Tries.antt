@@ -15,8 +15,9 @@ use Rattle.lending.specs.Lent.{Pass, Lending}
 use Rattle.lending.specs.Ends.{IsLawfulWith}
 use Rattle.transaction.specs.declared.outcome.Record.{Record}
 use Rattle.transaction.specs.declared.outcome.Outcome.{Outcome}
+use Rattle.transaction.specs.declared.outcome.Outcome.TheVariants as outcome
 use Rattle.transaction.specs.Members.{IsRecordIn}
-use Rattle.transaction.specs.Attempts.{Gains}
+use Rattle.transaction.specs.Attempts.{Gains, IsOneRun}
 
 -- the pass later: of the same words, with the same name, having seen more
 pub record IsLaterPass (old new : Pass) : Type 0 where
@@ -34,6 +35,8 @@ IsRecorded old new (Some r) = (new.drawn ≡ old.drawn ++ r.number ∷ []) × Is
 pub record Tries (cs : List Command) (old new : Pass) (o : Outcome) (r : Option Record) : Type 0 where
   pub later : IsLaterPass old new
   pub gains : Gains cs old new o
+  pub run : IsOneRun old new o
+  pub unrefused : o ≡ outcome.NoMemory → new.full ≡ old.full
   pub recorded : IsRecorded old new r
 
 -- the run is lawful with a note that the commands are done

@@ -1,12 +1,13 @@
 //! Tries transactions.
 
-ghost use Rattle.std.specs.Prelude.{◌≡◌, ◌≢◌, [], true, false, All, IfOk};
+ghost use Rattle.std.specs.Prelude.{◌≡◌, ◌≢◌, ◌<◌, [], true, false, is_some, All, IfOk, vec_len, vec_capacity};
 ghost use Rattle.library.specs.Fitting.{CommandFits};
 ghost use Rattle.library.specs.Transactions.{has_edit};
 ghost use Rattle.cells.specs.Answers.{has_staging};
 ghost use Rattle.tlwords.specs.Commits.{writes_kept};
 ghost use Rattle.tlwords.specs.declared.mode.Mode.TheVariants.{Reading};
 ghost use Rattle.lawful.specs.Laws.{IsPassOn};
+ghost use Rattle.lending.specs.Lent.{is_writing};
 ghost use Rattle.lawful.specs.Lawful.{setting_of};
 ghost use Rattle.transaction.specs.Members.{IsOf};
 ghost use Rattle.transaction.specs.Attempts.{Attempts};
@@ -39,7 +40,8 @@ impl Session {
     /// after one front of the history, which is no older than what this session had seen or been told.
     ///
     /// Every other outcome changes nothing, and the session can be used again; only words of the store that were staged stay used. All memory
-    /// is taken before the first lock.
+    /// is taken before the first lock. Each try but one of too many commands is one run, which loads the clock once: it is never tried again
+    /// inside. Where a run met a conflict, that is the outcome, and neither `StoreFull` nor `NoMemory`.
     pub fn attempt(&mut self, alloc: Global, library: &Library, commands: &Transaction) -> Outcome
         requires own { IsOf library.now self.old }
         requires fit { All (CommandFits (setting_of library.now.given).prelude) commands.now }
@@ -51,9 +53,6 @@ impl Session {
         if has_too_many(commands.as_slice()) {
             return Outcome::TooManyCommands;
         }
-        if self.records.reserve(1).is_err() {
-            return Outcome::NoMemory;
-        }
         let Some(kit) = self.kit.take() else {
             unreachable!()
         };
@@ -61,7 +60,7 @@ impl Session {
             kit,
             outcome,
             drawn,
-        } = transact(alloc, library, kit, commands);
+        } = transact(alloc, library, kit, commands, &mut self.records);
         self.kit = Some(kit);
         if let Some(own) = drawn {
             self.records.push_reserved(own);
@@ -70,17 +69,28 @@ impl Session {
     }
 }
 
-/// Runs a transaction once, to its end.
-fn transact(alloc: Global, library: &Library, kit: Kit, commands: &Transaction) -> Tried
+/// Runs a transaction once, to its end. Before its first read there is memory for one record more, or the run is given up.
+fn transact(
+    alloc: Global,
+    library: &Library,
+    kit: Kit,
+    commands: &Transaction,
+    records: &mut Vec<Record>,
+) -> Tried
     requires own { kit.home ≡ library.now.words }
     requires on { IsPassOn library.now.given kit }
     requires fit { All (CommandFits (setting_of library.now.given).prelude) commands.now }
-    ensures { Tries commands.now kit result.kit result.outcome result.drawn }
+    ensures tries { Tries commands.now kit result.kit result.outcome result.drawn }
+    ensures records { records.new.items ≡ records.old.items }
+    ensures room { is_some result.drawn ≡ true → vec_len records.new < vec_capacity records.new }
 {
     let edits = has_edit(commands.as_slice());
     let mode = if edits { Mode::Writing } else { Mode::Reading };
     let may_stage = has_staging(commands.as_slice());
     let mut live = library.begin(alloc, kit, mode, may_stage);
+    if records.reserve(1).is_err() {
+        return stop(live, commands);
+    }
     match run(alloc, &library.prelude, &mut live, commands.as_slice()) {
         Ok(replies) if edits => commit(alloc, live, commands, replies),
         Ok(replies) => answer(live, commands, replies),
@@ -105,6 +115,7 @@ fn copy_done(
 /// Commits a run whose commands are done, of which one is an edit.
 fn commit(alloc: Global, live: Live<'_>, commands: &Transaction, replies: Sequence<Reply>) -> Tried
     requires stages { live.run.may_stage ≡ has_staging commands.now }
+    requires writes { is_writing live.run.going.mode ≡ has_edit commands.now }
     requires edit { has_edit commands.now ≡ true }
     requires some { writes_kept live.run.going.slots ≢ [] }
     requires lawful { MayBeDone live.run commands.now replies }
@@ -170,7 +181,7 @@ fn answer(live: Live<'_>, commands: &Transaction, replies: Sequence<Reply>) -> T
 
 /// Ends a run of which a command is refused: what it kept aside is thrown away.
 fn refuse(mut live: Live<'_>, commands: &Transaction, refused: Refused) -> Tried
-    requires reading { has_edit commands.now ≡ false → live.run.going.mode ≡ Reading }
+    requires writes { is_writing live.run.going.mode ≡ has_edit commands.now }
     requires lawful { MayBeRefused live.run commands.now refused }
     ensures { Tries commands.now live.entry.run.began result.kit result.outcome result.drawn }
 {
@@ -198,8 +209,9 @@ fn refuse(mut live: Live<'_>, commands: &Transaction, refused: Refused) -> Tried
 /// Ends a run that was stopped, or for which memory ran out.
 fn stop(live: Live<'_>, commands: &Transaction) -> Tried
     requires stages { live.run.may_stage ≡ has_staging commands.now }
-    requires reading { has_edit commands.now ≡ false → live.run.going.mode ≡ Reading }
-    ensures { Tries commands.now live.entry.run.began result.kit result.outcome result.drawn }
+    requires writes { is_writing live.run.going.mode ≡ has_edit commands.now }
+    ensures tries { Tries commands.now live.entry.run.began result.kit result.outcome result.drawn }
+    ensures undrawn { result.drawn ≡ None }
 {
     let place = live.place();
     let (kit, why) = live.give_up();

@@ -8,16 +8,16 @@ use mmsyntax::Sequence;
 /// Where a try met another session.
 #[derive(Clone, Copy, Debug, PartialEq, Eq)]
 pub struct Conflict {
-    /// How many numbers were drawn before the try.
+    /// How many numbers were drawn before the try, as its one load of the clock found it.
     pub place: u64,
     /// The cell, from 0.
     pub cell: usize,
     /// The lock word that was found there: it is odd where the cell was locked, and half of it is the number of the last transaction that
     /// wrote the cell, or 0.
     pub word: u64,
-    /// The lock word that this try's last read of the cell had found. None where no such read had ended, or the try keeps no reads, as one
-    /// without an edit. Where `word` is even, and half of it at most `place`, contracts say that there is one, and that it is another than
-    /// `word`; else they say of it only that it is None in a try without an edit.
+    /// The lock word that this try's newest read of the cell had found. None exactly where no read of the cell had ended, and in each try that
+    /// keeps no reads: one without an edit, and a look. Where `word` is even, and half of it at most `place`, there is one, and it is another
+    /// than `word`.
     pub before: Option<u64>,
 }
 
@@ -41,13 +41,13 @@ pub enum Outcome {
     },
     /// It met another session, and changed nothing.
     Conflict(Conflict),
-    /// The store has no room for a body, or had none for one that this session staged before. It changed nothing.
+    /// The store has no room for a body, or had none for one that this session staged before. The run met no conflict, and changed nothing.
     StoreFull,
     /// The session has drawn 2^40 numbers. It changed nothing.
     NumbersUsed,
     /// It has more than 16 commands. Nothing was done.
     TooManyCommands,
-    /// Memory ran out. It changed nothing.
+    /// Memory ran out, in a run that met no conflict. It changed nothing.
     NoMemory,
 }
 
@@ -58,7 +58,7 @@ pub enum Look {
     Read { place: u64, library: PlainLibrary },
     /// It met another session.
     Conflict(Conflict),
-    /// Memory ran out.
+    /// Memory ran out, in a run that met no conflict.
     NoMemory,
 }
 

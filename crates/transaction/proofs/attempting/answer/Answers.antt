@@ -1,5 +1,6 @@
 use Rattle.std.proofs.Common.{◌≡◌, ℕ, None, sym, ap, subst, ◌∙◌}
 use Rattle.tlwords.specs.declared.outcome.Outcome.TheVariants.{Read as EndsRead}
+use Rattle.lending.specs.Lent.{is_writing}
 use Rattle.transaction.specs.declared.outcome.Outcome.{Outcome}
 use Rattle.transaction.specs.declared.outcome.Outcome.TheVariants as outcome
 use Rattle.transaction.specs.Tries.{Tries}
@@ -34,6 +35,6 @@ returns c =
           let met = met_is l stage over lent cs w.in-Conflict.conflict c.place-place.result w.met.result w.met.ensures c.place-place.ensures.value in
           let never : l.going.over ≡ None → ⊥ = λ none. let a = ends.reading none c.requires.reading in let b = w.in-Conflict.is in cc in
           subst outcomes (sym (w.outcome-is ∙ ap outcome.Conflict met))
-          (met_only l stage over lent cs _ k o ends.over ends.ended w.in-Conflict.conflict _ (λ none. c.requires.reading)
+          (met_only l stage over lent cs _ k o ends.over ends.ended w.in-Conflict.conflict _ (ap is_writing c.requires.reading ∙ sym c.requires.edit)
           w.in-Conflict.is never)
     ]

@@ -39,7 +39,7 @@ returns c =
           let mapped : w.map.result ≡ void_records w.in-Conflict.drawn =
           void_mapped w.in-Conflict.drawn w.map.result _ w.map.ensures.cases (λ x y p. search rules) in
           subst outcomes (sym (w.outcome-is ∙ (λ j. (outcome.Conflict (met j), mapped j))))
-          (conflicts l stage over lent cs _ k o ends.over ends.ended w.in-Conflict.conflict w.in-Conflict.drawn c.requires.edit
+          (conflicts l stage over lent cs _ k o ends.over ends.ended w.in-Conflict.conflict w.in-Conflict.drawn c.requires.writes c.requires.edit
           w.in-Conflict.is)
       | in-NumbersUsed w ↦ subst outcomes (sym w.outcome-is) (used l stage over lent cs _ k o ends.over ends.ended w.in-NumbersUsed.is)
     ]

@@ -1,7 +1,6 @@
-use Rattle.std.proofs.Common.{◌≡◌, ℕ, false, None, sym, ap, subst, ◌∙◌}
-use Rattle.library.specs.Transactions.{has_edit}
+use Rattle.std.proofs.Common.{ℕ, None, sym, ap, subst, ◌∙◌}
 use Rattle.lawful.specs.declared.notes.Note.TheVariants.{Refused}
-use Rattle.lending.specs.Lent.{Pass, Lending}
+use Rattle.lending.specs.Lent.{Pass, Lending, is_writing}
 use Rattle.transaction.specs.declared.outcome.Outcome.{Outcome}
 use Rattle.transaction.specs.declared.outcome.Outcome.TheVariants as outcome
 use Rattle.transaction.specs.Tries.{Tries}
@@ -26,7 +25,7 @@ returns c =
     let o = c.end-kit.result.1 in
     let ends = c.end-kit.ensures in
     let began = ap (λ (x : Lending). x.began) c.forget.ensures.is in
-    let reading = λ (none : has_edit cs ≡ false). ap (λ (x : Lending). x.going.mode) c.forget.ensures.is ∙ c.requires.reading none in
+    let writes = ap (λ (x : Lending). is_writing x.going.mode) c.forget.ensures.is ∙ c.requires.writes in
     let outcomes = λ (x : Outcome). Tries cs c.args.live.run.began k x None in
     elim c.match-ended.branch [
       | in-Read w ↦
@@ -39,6 +38,6 @@ returns c =
           let met = met_is l stage over lent cs w.in-Conflict.conflict c.place-place.result w.met.result w.met.ensures c.place-place.ensures.value in
           subst outcomes (sym (w.outcome-is ∙ ap outcome.Conflict met))
           (subst (λ (z : Pass). Tries cs z k (outcome.Conflict (met_of l stage over lent cs w.in-Conflict.conflict)) None) began
-          (met_only l stage over lent cs _ k o ends.over ends.ended w.in-Conflict.conflict _ reading w.in-Conflict.is
+          (met_only l stage over lent cs _ k o ends.over ends.ended w.in-Conflict.conflict _ writes w.in-Conflict.is
           (never_rejects l stage over lent cs _ k o ends.over ends.ended c.forget.ensures.none w.in-Conflict.conflict _ w.in-Conflict.is)))
     ]

@@ -8,8 +8,8 @@ use Rattle.transaction.proofs.Committing.{told_of, gives_up}
 use Rattle.transaction.proofs.attempting.stop.Goals as goal
 use Rattle.transaction.proofs.attempting.stop.Goals.{in-Conflict, in-StoreFull, in-NoMemory}
 
-pub returns : goal.returns
-returns c =
+pub returns-clause-tries : goal.returns-clause-tries
+returns-clause-tries c =
     let l = c.args.live.run in
     let lending = c.place-place.ensures.stands in
     let cs = c.args.commands.now in
@@ -25,4 +25,4 @@ returns c =
     ] in
     subst (λ (k : Pass). Tries cs l.began k c.match-why.outcome None) (sym ended.kit)
     (subst (λ (o : Outcome). Tries cs l.began l.going.known o None) (sym is)
-    (gives_up l lending.0 lending.1 lending.2 cs why ended.why c.requires.reading c.requires.stages))
+    (gives_up l lending.0 lending.1 lending.2 cs why ended.why c.requires.writes c.requires.stages))

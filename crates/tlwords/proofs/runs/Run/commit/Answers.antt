@@ -42,7 +42,7 @@ returns-clause-ended g c = λ o.
           (subst (λ x. Ends g.L.Law.terms c.args.note.now c.args.self (known_of e.new.seat.table_id e.new.seat.me.0) x) (sym w.outcome-is)
           (subst (λ x. Ends g.L.Law.terms c.args.note.now x (known_of e.new.seat.table_id e.new.seat.me.0) e.result) c.self.view_is
           (end_tells g.L.Law.terms s.seat.table_id e.new.seat.table_id s.place e.new.count s.mode s.over s.log.slots c.args.note.now s.seat.me e.new.seat.me
-          e.result e.ensures.seat.0 c.self.invariant.fits.5 e.ensures.pass e.ensures.ended)))
+          e.result e.ensures.seat.0 c.self.invariant.fits.5 c.self.invariant.kept e.ensures.pass e.ensures.ended)))
     ]
 
 pub returns-clause-home : goal.returns-clause-home
@@ -56,6 +56,6 @@ returns-clause-home g c =
           ∙ (ends_home g.L.Law.terms c.args.note.now (going_of s.seat.table_id s.seat.me.0 s.place s.mode s.over s.log.slots)
           (known_of e.new.seat.table_id e.new.seat.me.0) e.result
           (end_tells g.L.Law.terms s.seat.table_id e.new.seat.table_id s.place e.new.count s.mode s.over s.log.slots c.args.note.now s.seat.me e.new.seat.me
-          e.result e.ensures.seat.0 c.self.invariant.fits.5 e.ensures.pass e.ensures.ended)
+          e.result e.ensures.seat.0 c.self.invariant.fits.5 c.self.invariant.kept e.ensures.pass e.ensures.ended)
           ∙ ap (λ x. x.known.home) c.self.view_is)
     ]

@@ -64,7 +64,7 @@ returns-in-Err-clause-err g c = λ o.
     (going_of r.table_id r.me.0 s.place s.mode (Some (record { cell = c.args.cell; word = c.in-Err.word; before = before })) s.log.slots)) c.self.view_is
     (stop_tells g.L.Law.terms s.mode s.count s.place s.seat.table_id r.table_id s.seat.me r.me s.over s.log.slots c.fetch.ensures.seat.0 c.args.cell
     c.in-Err.word before t i.fits.5 (stop_fits g.L.Law.terms _ _ _ _ _ _ _ t i.fits)
-    (subst (λ x. word_seen x.slots c.args.cell ≡ before) (sym c.self.view_is) c.slot-slot.ensures.0))
+    (subst (λ x. word_seen x.slots c.args.cell ≡ before) (sym c.self.view_is) c.slot-slot.ensures.0) i.kept)
 
 pub returns-in-Ok-clause-same : goal.returns-in-Ok-clause-same
 returns-in-Ok-clause-same g c =

@@ -14,30 +14,19 @@ returns-then-has_too_many c =
     let cs = c.args.commands.now in
     let many = sym (c.has_too_many.ensures ∙ ap has_too_many c.as_slice.ensures) ∙ c.if-has_too_many.true in
     subst (λ (x : Member). Attempts cs x x outcome.TooManyCommands) c.self.view_is
-    (attempts_none _ c.self.invariant.1 cs outcome.TooManyCommands (refl, many) (λ t. refl))
+    (attempts_none _ c.self.invariant.1 cs many)
 
-pub returns-then-is_err : goal.returns-then-is_err
-returns-then-is_err c =
-    let cs = c.args.commands.now in
-    let m : Member = record { given = c.self.inside.given.value; known = known_in c.self.inside.kit; records = c.self.inside.records.items } in
-    let few = sym (c.has_too_many.ensures ∙ ap has_too_many c.as_slice.ensures) ∙ c.if-has_too_many.false in
-    let next : Member = record m { records = c.reserve.new.self.items } in
-    subst (λ (x : Member). Attempts cs x next outcome.NoMemory) c.self.view_is
-    (subst (λ (rs : List Record). Attempts cs m (record m { records = rs }) outcome.NoMemory) (sym c.reserve.ensures.items)
-    (attempts_none m c.self.invariant.1 cs outcome.NoMemory (record { mine = refl; drawn = refl })
-    (λ many. let a : true ≡ false = sym many ∙ few in absurd cc)))
-
-pub invariant_of-self-in-Some-drawn : goal.invariant_of-self-in-Some-drawn
-invariant_of-self-in-Some-drawn c =
+pub invariant_of-self : goal.invariant_of-self
+invariant_of-self c =
     let cs = c.args.commands.now in
     let m : Member = record { given = c.self.inside.given.value; known = known_in c.self.inside.kit; records = c.self.inside.records.items } in
     let r = c.transact-kit.result.drawn in
     let records : c.push_reserved.new.self.items ≡ with_record m.records r =
-    c.push_reserved.ensures.items ∙ (ap (λ (rs : List Record). rs ++ c.in-Some-drawn.own ∷ []) c.reserve.ensures.items
+    c.push_reserved.ensures.items ∙ (ap (λ (rs : List Record). rs ++ c.in-Some-drawn.own ∷ []) c.transact-kit.ensures.records
     ∙ ap (with_record m.records) (sym c.in-Some-drawn.is)) in (
       refl,
       run_member m c.self.invariant.1 cs c.in-Some.kit c.transact-kit.result.kit c.transact-kit.result.outcome r _ (ap known_in c.in-Some.ensures.value)
-          c.transact-kit.ensures records,
+          c.transact-kit.ensures.tries records,
     )
 
 pub invariant_of-self-in_default-drawn : goal.invariant_of-self-in_default-drawn
@@ -45,11 +34,11 @@ invariant_of-self-in_default-drawn c =
     let cs = c.args.commands.now in
     let m : Member = record { given = c.self.inside.given.value; known = known_in c.self.inside.kit; records = c.self.inside.records.items } in
     let r = c.transact-kit.result.drawn in
-    let records : c.reserve.new.self.items ≡ with_record m.records r =
-    c.reserve.ensures.items ∙ ap (with_record m.records) (sym (no_record r c.in_default-drawn.not-Some)) in (
+    let records : c.transact-kit.new.records.items ≡ with_record m.records r =
+    c.transact-kit.ensures.records ∙ ap (with_record m.records) (sym (no_record r c.in_default-drawn.not-Some)) in (
       refl,
       run_member m c.self.invariant.1 cs c.in-Some.kit c.transact-kit.result.kit c.transact-kit.result.outcome r _ (ap known_in c.in-Some.ensures.value)
-          c.transact-kit.ensures records,
+          c.transact-kit.ensures.tries records,
     )
 
 pub returns-in-Some-drawn : goal.returns-in-Some-drawn
@@ -59,12 +48,12 @@ returns-in-Some-drawn c =
     let few = sym (c.has_too_many.ensures ∙ ap has_too_many c.as_slice.ensures) ∙ c.if-has_too_many.false in
     let r = c.transact-kit.result.drawn in
     let records : c.push_reserved.new.self.items ≡ with_record m.records r =
-    c.push_reserved.ensures.items ∙ (ap (λ (rs : List Record). rs ++ c.in-Some-drawn.own ∷ []) c.reserve.ensures.items
+    c.push_reserved.ensures.items ∙ (ap (λ (rs : List Record). rs ++ c.in-Some-drawn.own ∷ []) c.transact-kit.ensures.records
     ∙ ap (with_record m.records) (sym c.in-Some-drawn.is)) in
     let next : Member = record { given = m.given; known = c.transact-kit.result.kit; records = c.push_reserved.new.self.items } in
     subst (λ (x : Member). Attempts cs x next c.transact-kit.result.outcome) c.self.view_is
     (run_attempts m c.self.invariant.1 cs c.in-Some.kit c.transact-kit.result.kit c.transact-kit.result.outcome r _ (ap known_in c.in-Some.ensures.value)
-    c.transact-kit.ensures records few)
+    c.transact-kit.ensures.tries records few)
 
 pub returns-in_default-drawn : goal.returns-in_default-drawn
 returns-in_default-drawn c =
@@ -72,9 +61,9 @@ returns-in_default-drawn c =
     let m : Member = record { given = c.self.inside.given.value; known = known_in c.self.inside.kit; records = c.self.inside.records.items } in
     let few = sym (c.has_too_many.ensures ∙ ap has_too_many c.as_slice.ensures) ∙ c.if-has_too_many.false in
     let r = c.transact-kit.result.drawn in
-    let records : c.reserve.new.self.items ≡ with_record m.records r =
-    c.reserve.ensures.items ∙ ap (with_record m.records) (sym (no_record r c.in_default-drawn.not-Some)) in
-    let next : Member = record { given = m.given; known = c.transact-kit.result.kit; records = c.reserve.new.self.items } in
+    let records : c.transact-kit.new.records.items ≡ with_record m.records r =
+    c.transact-kit.ensures.records ∙ ap (with_record m.records) (sym (no_record r c.in_default-drawn.not-Some)) in
+    let next : Member = record { given = m.given; known = c.transact-kit.result.kit; records = c.transact-kit.new.records.items } in
     subst (λ (x : Member). Attempts cs x next c.transact-kit.result.outcome) c.self.view_is
     (run_attempts m c.self.invariant.1 cs c.in-Some.kit c.transact-kit.result.kit c.transact-kit.result.outcome r _ (ap known_in c.in-Some.ensures.value)
-    c.transact-kit.ensures records few)
+    c.transact-kit.ensures.tries records few)
