@@ -102,6 +102,7 @@ module _ (g : Given) (k : Pass) (stage : Staged) (mode : Mode) (may : Bool) (r :
         over_is = ap (λ (x : Going Given Note). x.over) b.is;
         met = λ c e. absurd cc;
         full = λ e. absurd cc;
+        full_stays = λ p e. ap (λ (x : Going Given Note). x.known.full) b.is ∙ e;
       }
 
 -- where the pass and what was given are known by other names
@@ -172,8 +173,9 @@ module _ (l : Lending) (stage : Staged) (over : Option Conflict) (i : IsLent l s
       → AreStaged seen.ranges next → now ≡ ended
       → ((c : Conflict) → ended ≡ Some c → HasMet c (later l seen looked full taken added now no_room).going)
       → (no_room ≡ true → (is_some full ≡ true) × (l.may_stage ≡ true))
+      → ((found : ℕ × ℕ) → l.going.known.full ≡ Some found → full ≡ Some found)
       → IsLent (later l seen looked full taken added now no_room) next ended
-  later_lent seen looked full taken added now no_room next ended grows stands staged over_is met full_is =
+  later_lent seen looked full taken added now no_room next ended grows stands staged over_is met full_is stays =
       record {
         on = i.on;
         since = ap (λ (k : Pass). let z : Pass =
@@ -189,6 +191,7 @@ module _ (l : Lending) (stage : Staged) (over : Option Conflict) (i : IsLent l s
         over_is = over_is;
         met = met;
         full = full_is;
+        full_stays = λ p e. stays p (i.full_stays p e);
       }
 
   -- what it met it has met, while it looks no more
@@ -214,7 +217,7 @@ module _ (l : Lending) (stage : Staged) (over : Option Conflict) (i : IsLent l s
       let seen = r.known.seen in
       subst (λ (x : Going Given Note). IsLent (record l { going = x }) stage over) (sym h.is)
       (later_lent seen k.looked k.full k.taken k.added l.going.over l.full stage over h.grows (subst (Stands library_terms) h.is h.stands)
-      (staged_on seen h.grows) i.over_is (met_on seen k.full k.taken k.added l.full h.grows) i.full)
+      (staged_on seen h.grows) i.over_is (met_on seen k.full k.taken k.added l.full h.grows) i.full (λ p e. e))
 
   -- words were staged
   stages_lent : (words : List ℕ) (start : ℕ) (r : Going Given Note) (next : Staged) → HasStaged library_terms words start l.going r
@@ -225,7 +228,7 @@ module _ (l : Lending) (stage : Staged) (over : Option Conflict) (i : IsLent l s
       let taken = k.taken + length words in
       subst (λ (x : Going Given Note). IsLent (record l { going = x }) next over) (sym h.is)
       (later_lent seen k.looked k.full taken k.added l.going.over l.full next over h.grows (subst (Stands library_terms) h.is h.stands)
-      staged i.over_is (met_on seen k.full taken k.added l.full h.grows) i.full)
+      staged i.over_is (met_on seen k.full taken k.added l.full h.grows) i.full (λ p e. e))
 
   noted_staged : (words : List ℕ) (start : ℕ) (r : Going Given Note) → HasStaged library_terms words start l.going r
       → AreStaged r.known.seen.ranges (insert stage words start)
@@ -264,6 +267,7 @@ module _ (l : Lending) (stage : Staged) (over : Option Conflict) (i : IsLent l s
         over_is = i.over_is;
         met = i.met;
         full = λ t. (ap is_some e, may);
+        full_stays = i.full_stays;
       })
   refused_lent count r may (inr (tail, h)) =
       let k = l.going.known in
@@ -272,7 +276,8 @@ module _ (l : Lending) (stage : Staged) (over : Option Conflict) (i : IsLent l s
       subst (λ (x : Going Given Note). IsLent (record l { going = x; full = true }) stage over) (sym h.is)
       (later_lent seen k.looked (Some (tail, count)) k.taken added l.going.over true stage over h.grows
       (subst (Stands library_terms) h.is h.stands) (staged_on seen h.grows) i.over_is
-      (met_on seen (Some (tail, count)) k.taken added true h.grows) (λ t. (refl, may)))
+      (met_on seen (Some (tail, count)) k.taken added true h.grows) (λ t. (refl, may))
+      (λ p e. let none = h.unrefused in absurd cc))
 
   -- a read met a conflict
   pub stops_lent : (cell : ℕ) (met : Conflict) (r : Going Given Note) → HasStopped library_terms cell met l.going r
@@ -291,7 +296,7 @@ module _ (l : Lending) (stage : Staged) (over : Option Conflict) (i : IsLent l s
       (later_lent seen looked k.full k.taken k.added (Some met) l.full stage (Some met) h.grows
       (subst (Stands library_terms) h.is h.stands) (staged_on seen h.grows) refl
       (λ c e. let same : met ≡ c = cc in
-      subst (λ (x : Conflict). HasMet x (later l seen looked k.full k.taken k.added (Some met) l.full).going) same has) i.full)
+      subst (λ (x : Conflict). HasMet x (later l seen looked k.full k.taken k.added (Some met) l.full).going) same has) i.full (λ p e. e))
 
   -- a cell was read
   module _ (cell value : ℕ) (r : Going Given Note) (h : HasRead library_terms cell value l.going r) where
@@ -322,6 +327,7 @@ module _ (l : Lending) (stage : Staged) (over : Option Conflict) (i : IsLent l s
           over_is = i.over_is;
           met = λ c e. let a : None ≡ Some c = sym none ∙ (i.over_is ∙ e) in absurd cc;
           full = i.full;
+          full_stays = i.full_stays;
         }
 
     pub reads_lent : l.going.over ≡ None → (l.going.mode ≡ Writing → was_read r.slots cell ≡ true)
@@ -352,6 +358,7 @@ module _ (l : Lending) (stage : Staged) (over : Option Conflict) (i : IsLent l s
         over_is = i.over_is;
         met = λ c e. let m = i.met c e in record { looked = m.looked; written = m.written; cause = m.cause; untold = m.untold };
         full = i.full;
+        full_stays = i.full_stays;
       }
 
   pub writes_lent : (cell value : ℕ) (r : Going Given Note) → HasKept l.going.slots r.slots cell value
@@ -377,6 +384,7 @@ module _ (l : Lending) (stage : Staged) (over : Option Conflict) (i : IsLent l s
         over_is = i.over_is;
         met = λ c e. let m = i.met c e in record { looked = m.looked; written = m.written; cause = m.cause; untold = m.untold };
         full = i.full;
+        full_stays = i.full_stays;
       }
 
   pub forgets_lent : (r : Going Given Note) → HasForgotten l.going.slots r.slots → r ≡ record l.going { slots = r.slots }

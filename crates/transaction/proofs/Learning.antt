@@ -16,6 +16,7 @@ module _ (m o : Member) (k j : Pass) (is : IsMember m) (other : IsMember o) (lea
     home = ap (λ (z : Pass). z.home) learnt.is;
     name = ap (λ (z : Pass). z.name) learnt.is;
     grows = learnt.own;
+    full = λ p e. ap (λ (z : Pass). z.full) learnt.is ∙ e;
     knows = learnt.knows;
   }
 
@@ -24,6 +25,7 @@ module _ (m o : Member) (k j : Pass) (is : IsMember m) (other : IsMember o) (lea
     home = ap (λ (z : Pass). z.home) learnt.other_is;
     name = ap (λ (z : Pass). z.name) learnt.other_is;
     grows = learnt.other;
+    full = λ p e. ap (λ (z : Pass). z.full) learnt.other_is ∙ e;
     knows = learnt.other_knows;
   }
 
