@@ -1,5 +1,5 @@
 -- What one session learns of another.
-use Rattle.std.proofs.Common.{◌≡◌, ℕ, List, sym, ap, subst}
+use Rattle.std.proofs.Common.{◌≡◌, ℕ, List, sym, ap, subst, ◌∙◌}
 use Rattle.tlwords.specs.Seen.{Agree}
 use Rattle.tlwords.specs.Calls.{Learns as WordsLearn}
 use Rattle.lawful.specs.Lawful.{library_terms}
