@@ -1,6 +1,6 @@
 -- What a session's transactions make of it: it is later, its outcomes agree with its history, and its new numbers are theirs.
 use Rattle.std.proofs.Common.{◌≡◌, ℕ, ◌≤◌, inl, inr, List, [], ◌∷◌, ◌++◌, length, Some, refl, sym, ap, subst, ◌∙◌, arith}
-use Rattle.std.specs.Prelude.{All, flat_map, map, slice_get, slice_index_or}
+use Rattle.std.specs.Prelude.{All, flat_map, map, slice_get}
 use Rattle.std.proofs.lemmas.List.Elements.{All-nil, All-cons}
 use Rattle.std.proofs.lemmas.Option.{get_or_from_slice_get}
 use Rattle.library.specs.declared.command.Command.{Command}

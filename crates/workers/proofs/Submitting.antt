@@ -1,7 +1,7 @@
 -- What one transaction makes of a session: further calls and numbers, and an outcome that agrees where its calls do.
 use Rattle.std.proofs.Common.{◌≡◌, ◌≢◌, ℕ, ◌≤◌, Option, List, [], ◌∷◌, ◌++◌, length, length-append, refl, sym, ap, subst, ◌∙◌, arith}
 use Rattle.std.proofs.Common.{append_assoc}
-use Rattle.std.specs.Prelude.{◌^◌, All, Some, None, is_some, true}
+use Rattle.std.specs.Prelude.{All, Some, None, is_some, true}
 use Rattle.std.proofs.Math.Seq.{drop-append_seam}
 use Rattle.std.proofs.lemmas.List.{append-nil}
 use Rattle.std.proofs.lemmas.List.Elements.{All-head, All-drop}
@@ -23,7 +23,7 @@ use Rattle.lending.specs.Lent.{Pass, FullStays}
 use Rattle.transaction.specs.declared.outcome.Conflict.{Conflict as Met}
 use Rattle.transaction.specs.declared.outcome.Outcome.{Outcome}
 use Rattle.transaction.specs.declared.outcome.Outcome.TheVariants as outcome
-use Rattle.transaction.specs.Members.{Member, Stands}
+use Rattle.transaction.specs.Members.{Member}
 use Rattle.transaction.specs.Attempts.{Gains, GainsCall, Submits, SaysDone, SaysRefused, tried}
 use Rattle.workers.specs.Works.{OutcomeAgrees, OutcomeFits, ToldBy, StandsFrom, place_behind, numbers_of}
 

@@ -1,5 +1,5 @@
 -- All workers together: from what each did follows what became of all scripts.
-use Rattle.std.proofs.Common.{◌≡◌, ◌≢◌, ℕ, zero, suc, ◌+◌, ◌<◌, List, [], ◌∷◌, ◌++◌, length, map, flat_map, get_or, Some, true}
+use Rattle.std.proofs.Common.{◌≡◌, ◌≢◌, ℕ, suc, ◌+◌, ◌<◌, List, [], ◌∷◌, ◌++◌, length, map, flat_map, get_or, Some, true}
 use Rattle.std.proofs.Common.{All, IsPermutation, inl, inr, refl, sym, ap, subst, ◌∙◌, arith}
 use Rattle.std.specs.Prelude.{slice_get, slice_index_or}
 use Rattle.std.specs.List.{AllZip, sum_by}
@@ -170,8 +170,7 @@ module _ (home : Home) (opened : home.words.setting ≡ Some home.given) (script
       let share : IsShareOf home.given scripts outcomes m s.session (share_of s) = record {
         rising = shift.rises;
         run = subst (IsRunBy home.given m s.session (all_of scripts (share_of s))) (sym told) run;
-      } in
-      (
+      } in (
         share,
         all_shares outcomes ms cs ss (All-tail (IsOf home) m ms own) shifts.1
             (λ row has. each row (has_append_right s.rows.items (rows_of ss) row has)),

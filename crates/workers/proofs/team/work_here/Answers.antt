@@ -1,4 +1,4 @@
-use Rattle.std.proofs.Common.{◌≡◌, List, [], ◌∷◌, ◌++◌, length, length-append, map, ap, sym, subst, ◌∙◌, inl, inr, arith}
+use Rattle.std.proofs.Common.{◌≡◌, List, [], ◌∷◌, ◌++◌, length, length-append, map, sym, subst, inl, inr, arith}
 use Rattle.claims.specs.Claims.{Claimant}
 use Rattle.transaction.specs.Members.{Member}
 use Rattle.workers.specs.declared.shift.Shift.{Shift}
