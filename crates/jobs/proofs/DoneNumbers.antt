@@ -1,5 +1,5 @@
 -- The numbers that the sessions of a library drew, all of them together: those that are done are those of the done entries of its history.
-use Rattle.std.proofs.Common.{◌≡◌, ℕ, suc, ◌+◌, ◌<◌, Bool, cond, List, [], ◌∷◌, ◌++◌, length, map, flat_map, inl, inr, refl, sym, ap, subst, ◌∙◌, arith}
+use Rattle.std.proofs.Common.{◌≡◌, ℕ, suc, ◌+◌, ◌<◌, ◌≤◌, Bool, cond, List, [], ◌∷◌, ◌++◌, length, map, flat_map, inl, inr, refl, sym, ap, subst, ◌∙◌, arith}
 use Rattle.std.specs.Prelude.{All, IsPermutation, drop, filter}
 use Rattle.std.specs.List.{AllZip}
 use Rattle.std.proofs.lemmas.List.{length-append, length-map}
@@ -41,6 +41,18 @@ total_drawn : (ms : List Member) → length (flat_map drawn_by ms) ≡ total_of 
 total_drawn [] = refl
 total_drawn (m ∷ ms) =
     length-append m.known.drawn (flat_map drawn_by ms) ∙ ap (λ n. length m.known.drawn + n) (total_drawn ms)
+
+-- one drew no more than all together
+drawn_within : (ms : List Member) (m : Member) → Has m ms → length m.known.drawn ≤ length (flat_map drawn_by ms)
+drawn_within [] m has = absurd has
+drawn_within (n ∷ ns) m (inl same) =
+    let size = length-append n.known.drawn (flat_map drawn_by ns) in
+    let own = ap (λ (z : Member). length z.known.drawn) same in
+    omega (arith, size, own)
+drawn_within (n ∷ ns) m (inr has) =
+    let size = length-append n.known.drawn (flat_map drawn_by ns) in
+    let others = drawn_within ns m has in
+    omega (arith, size, others)
 
 -- ---- one session
 
@@ -99,6 +111,14 @@ module _ (home : Home) (before after : List Member) (history : List CodeEntry) (
   drawn =
       let all = length-map after (λ (m : Member). m.known) ∙ AllZip-long IsHandedBack before after back ∙ many in
       total_drawn after ∙ sym (finished.its.still all).clock ∙ sym finished.long
+
+  -- and none of them drew more than the history has entries
+  pub few_drawn : (m : Member) → Has m after → length m.known.drawn ≤ length entries
+  few_drawn m has =
+      let one = drawn_within after m has in
+      let size = length-map history told in
+      let all = drawn in
+      omega (arith, one, size, all)
 
   each : (i : ℕ) → i < length history → Has (suc i) (flat_map drawn_by after)
   each i less =

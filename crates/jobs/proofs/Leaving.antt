@@ -16,13 +16,16 @@ use Rattle.transaction.specs.Openings.{IsNew}
 use Rattle.transaction.specs.Closings.{passes_of}
 use Rattle.ranges.specs.Ranges.{Has}
 use Rattle.ranges.proofs.Members.{mapped_has}
-use Rattle.workers.specs.Works.{Works, IsHandedBack, IsShare}
+use Rattle.workers.specs.declared.error.WorkError.{WorkError}
+use Rattle.workers.specs.declared.error.WorkError.TheVariants as work
+use Rattle.workers.specs.Works.{Works, HasOutcomes, IsHandedBack, IsLack as IsWorkLack}
 use Rattle.finishing.specs.declared.error.FinishError.{FinishError}
 use Rattle.finishing.specs.declared.error.FinishError.TheVariants.{Missing, Held, NoMemory}
 use Rattle.finishing.specs.Finishes.{IsFinished, Finishes}
-use Rattle.jobs.specs.Edits.{IsEdited, IsLack, from_finish}
-use Rattle.jobs.proofs.DoneNumbers.{done_are}
-use Rattle.jobs.proofs.Told.{scripts_told, shares_from_first, still_of}
+use Rattle.jobs.specs.Edits.{IsEdited, IsLack, ToldIn, from_work, from_finish}
+use Rattle.jobs.proofs.DoneNumbers.{done_are, few_drawn}
+use Rattle.jobs.proofs.Shares.{of_each}
+use Rattle.jobs.proofs.Told.{as_many_shares, shares_told, share_told, still_of}
 
 -- sessions that are handed back have the names that they had
 names_kept : (before after : List Member) → AllZip IsHandedBack before after
@@ -31,6 +34,11 @@ names_kept [] [] back = refl
 names_kept [] (n ∷ ns) back = absurd back
 names_kept (m ∷ ms) [] back = absurd back
 names_kept (m ∷ ms) (n ∷ ns) back = λ i. back.0.0.name i ∷ names_kept ms ns back.1 i
+
+-- why scripts weren't run to their end
+pub unrun : (before : List Member) (error : WorkError) → IsWorkLack before error → IsLack before (from_work error)
+unrun before work.NoMemory h = tt
+unrun before work.NoThread h = h
 
 module _ (home : Home) (before : List Member) (new : All (IsNew home) before) where
   pub new_own : All (IsOf home) before
@@ -49,15 +57,24 @@ module _ (home : Home) (before : List Member) (new : All (IsNew home) before) wh
     pub handed_on : All (IsOf home) after
     handed_on = still_of home before after new_own works.back
 
+    -- that no number is left is shown by the history
+    all_told : (history : List CodeEntry) (library : Listed) → IsFinished home after history library
+        → All (All (ToldIn (map told history))) rows
+    all_told history library finished =
+        of_each (ToldIn (map told history)) rows (length scripts) works.shares (AllZip-long HasOutcomes scripts rows works.each) works.parts
+        (share_told home.given (map told history) scripts rows before after works.shares
+        (few_drawn home before after history library finished many none_drawn works.back) works.run)
+
     pub leaves : (history : List CodeEntry) (library : Listed) → IsFinished home after history library
         → IsEdited home scripts rows history library
     leaves history library finished = record {
       told_by = record {
-        each = scripts_told home.given (map told history) before after none_seen finished.agree scripts rows works.run;
+        each = works.each;
         shares = works.shares;
-        many = AllZip-long (λ (old : Member) share. IsShare rows (length old.known.seen.history) share) before works.shares works.order ∙ many;
+        many = as_many_shares home.given scripts rows before after works.shares works.run ∙ many;
         parts = works.parts;
-        order = shares_from_first rows before works.shares none_seen works.order;
+        run = shares_told home.given (map told history) scripts rows before after works.shares none_seen finished.agree works.run;
+        told = all_told history library finished;
         numbers = done_are home before after history library finished many none_drawn works.back _ works.numbers;
       };
       legal = finished.legal;

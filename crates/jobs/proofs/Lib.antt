@@ -11,5 +11,6 @@ pub mod Accepted
 pub mod Own
 mod Covers
 mod DoneNumbers
+mod Shares
 mod Told
 mod Leaving

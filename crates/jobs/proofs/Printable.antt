@@ -1,7 +1,6 @@
 -- The outcomes of a run can be printed: their replies fit, and none is a conflict.
-use Rattle.std.proofs.Common.{ℕ, List, [], ◌∷◌, map}
+use Rattle.std.proofs.Common.{ℕ, List, [], ◌∷◌, length, map}
 use Rattle.std.specs.Prelude.{All}
-use Rattle.std.specs.List.{AllZip}
 use Rattle.std.proofs.lemmas.List.Elements.{All-nil, All-cons, All-head, All-tail}
 use Rattle.mmsyntax.specs.Tables.{Contents}
 use Rattle.mmsyntax.specs.Layout.{HasSpelling}
@@ -17,11 +16,15 @@ use Rattle.librarylaws.proofs.Fitting.{replies_fit}
 use Rattle.librarylaws.proofs.Fronts.{fronts_verify}
 use Rattle.transaction.specs.declared.outcome.Outcome.{Outcome}
 use Rattle.transaction.specs.declared.outcome.Outcome.TheVariants.{Committed, Read, Conflict}
-use Rattle.workers.specs.Works.{OutcomeAgrees, ScriptAgrees, place_behind}
+use Rattle.std.proofs.lemmas.Slice.Zip.{AllZip-long}
+use Rattle.ranges.proofs.Members.{all_has}
+use Rattle.workers.specs.Works.{OutcomeAgrees, ScriptAgrees, HasOutcomes, all_of, place_behind}
 use Rattle.reports.specs.Reports.{OutcomeFits, OutcomesFit}
+use Rattle.jobs.specs.Edits.{AreToldBy, IsShareIn}
 use Rattle.jobs.specs.Outcomes.{setting_of}
 use Rattle.jobs.specs.Jobs.{IsWorked}
 use Rattle.jobs.proofs.Fronts.{opening_stands}
+use Rattle.jobs.proofs.Shares.{of_share, of_each}
 
 -- ---- of a legal history from an opening library that verifies
 
@@ -44,15 +47,12 @@ module _ (s : Setting) (lib0 : List Ranked) (h : List Entry) (v : Verifies s lib
       All-cons (OutcomeFits s.prelude) o os (outcome_fits cs o (All-head P cs rest fit) a.0)
       (script_fits (place_behind place o) rest os (All-tail P cs rest fit) a.4)
 
-  rows_fit : (scripts : List (List (List Command))) (rows : List (List Outcome)) → All (All (All (CommandFits s.prelude))) scripts
-      → AllZip (ScriptAgrees s lib0 h 0) scripts rows → OutcomesFit s.prelude rows
-  rows_fit [] [] fit a = All-nil (All (OutcomeFits s.prelude))
-  rows_fit [] (row ∷ rows) fit a = absurd a
-  rows_fit (script ∷ scripts) [] fit a = absurd a
-  rows_fit (script ∷ scripts) (row ∷ rows) fit a =
-      let P = All (All (CommandFits s.prelude)) in
-      All-cons (All (OutcomeFits s.prelude)) row rows (script_fits 0 script row (All-head P script scripts fit) a.0)
-      (rows_fit scripts rows (All-tail P script scripts fit) a.1)
+  rows_fit : (workers : ℕ) (scripts : List (List (List Command))) (rows : List (List Outcome)) → All (All (All (CommandFits s.prelude))) scripts
+      → AreToldBy s lib0 h workers scripts rows → OutcomesFit s.prelude rows
+  rows_fit workers scripts rows fit t =
+      of_each (OutcomeFits s.prelude) rows (length scripts) t.shares (AllZip-long HasOutcomes scripts rows t.each) t.parts (λ share has.
+      script_fits 0 (all_of scripts share) (all_of rows share) (of_share (All (CommandFits s.prelude)) scripts fit share)
+      (all_has (IsShareIn s lib0 h scripts rows) t.shares share t.run has).agrees)
 
 -- ---- of a run
 
@@ -60,4 +60,4 @@ pub printable : (db : Contents) (workers room : ℕ) (scripts : List (List (List
     (library : Listed) → HasSpelling db → AllCheck db → All (All (All (CommandFits db.prelude))) scripts
     → IsWorked db workers room scripts rows history library → OutcomesFit db.prelude rows
 printable db workers room scripts rows history library spelled checks fit w =
-    rows_fit (setting_of db) (opening db) (map told history) (opening_stands db spelled checks) w.within w.legal scripts rows fit w.told_by.each
+    rows_fit (setting_of db) (opening db) (map told history) (opening_stands db spelled checks) w.within w.legal workers scripts rows fit w.told_by

@@ -29,24 +29,24 @@ script_of_run db texts room contents p (Text (suc k) g) over checked h ne =
     ((contents, checked, subst (λ t. IsFirstFault t texts k g) over h.0), h.1)
 script_of_run db texts room contents p _ over checked h ne = absurd h
 
-module _ (db : Bytes) (texts : List Bytes) (room : ℕ) (contents : Contents) (scripts : List Orders) (checked : IsChecked db contents)
+module _ (db : Bytes) (texts : List Bytes) (workers room : ℕ) (contents : Contents) (scripts : List Orders) (checked : IsChecked db contents)
     (ordered : AreScripts contents.prelude texts scripts) where
   -- and too small a room, where all scripts are read. Else the run came to no end
-  work_of_run : (f : Fault) → IsWorkFault contents room f → f ≢ NoMemory → IsRunFault db texts room f ⊎ IsRunLack f
+  work_of_run : (f : Fault) → IsWorkFault contents workers room f → f ≢ NoMemory → IsRunFault db texts room f ⊎ IsRunLack workers f
   work_of_run StoreFull h ne = inl (contents, scripts, checked, ordered, h)
   work_of_run NoMemory h ne = absurd (ne refl)
   work_of_run _ h ne = inr h
 
-  pub run_faulted : (r : Result Printed Fault) → IfErr r (IsWorkFault contents room)
-      → IfErr r (λ f. f ≢ NoMemory → IsRunFault db texts room f ⊎ IsRunLack f)
+  pub run_faulted : (r : Result Printed Fault) → IfErr r (IsWorkFault contents workers room)
+      → IfErr r (λ f. f ≢ NoMemory → IsRunFault db texts room f ⊎ IsRunLack workers f)
   run_faulted (Ok printed) h = h
   run_faulted (Err f) h = λ ne. work_of_run f h ne
 
-  pub run_done : (workers : ℕ) (asked : Bool) (r : Result Printed Fault)
+  pub run_done : (asked : Bool) (r : Result Printed Fault)
       → IfOk r (λ p. PrintsRun contents workers room asked scripts p.out.items p.history.items)
       → IfOk r (λ p. IsRun db texts workers room asked p.out.items p.history.items)
-  run_done workers asked (Ok printed) h = record { contents = contents; checked = checked; scripts = scripts; ordered = ordered; printed = h }
-  run_done workers asked (Err f) h = h
+  run_done asked (Ok printed) h = record { contents = contents; checked = checked; scripts = scripts; ordered = ordered; printed = h }
+  run_done asked (Err f) h = h
 
 -- ---- which is answered
 

@@ -62,8 +62,8 @@ module _ (db : Contents) (workers room : ℕ) (home : Home) (members : List Memb
   -- ---- its end
 
   -- why scripts that were run on all its sessions came to none
-  pub unworked : (e : EditError) → IsLack members e → IsWorkFault db room (from_edit e)
-  unworked edit.NoThread h = tt
+  pub unworked : (e : EditError) → IsLack members e → IsWorkFault db workers room (from_edit e)
+  unworked edit.NoThread h = let same = many_sessions in omega (arith, h, same)
   unworked (edit.Missing n) h = absurd (h.1 (subst (IsDistinct eqb) (sym o.names) (down_distinct workers workers (omega arith))))
   unworked (edit.Held c) h = absurd h
   unworked edit.NoMemory h = tt

@@ -202,10 +202,11 @@ IsRunFault db texts room StoreFull =
     × (room < bodies_length contents.assertions)
 IsRunFault db texts room f = IsDatabaseFault db f
 
--- why a run that has no fault may come to no end: a thread can't be had. No number is missing in its history, and no lock is held at its end
-abbrev pub IsRunLack : Fault → Type 0
-IsRunLack NoThread = Unit {0}
-IsRunLack _ = ⊥
+-- why a run that has no fault may come to no end: a thread for one of two workers or more can't be had. No number is missing in its history, and
+-- no lock is held at its end
+abbrev pub IsRunLack : ℕ → Fault → Type 0
+IsRunLack workers NoThread = 2 ≤ workers
+IsRunLack workers _ = ⊥
 
 -- an entry is the first of the history that differs
 abbrev pub IsDifference : Contents → List Entry → Fault → Type 0
@@ -229,7 +230,7 @@ IsFaultOf (Replay db history) f = IsReplayFault db.items history.items f
 
 -- why a job that has none may come to no end
 abbrev pub IsLackOf : Job → Fault → Type 0
-IsLackOf (Run db texts workers room asked) f = IsRunLack f
+IsLackOf (Run db texts workers room asked) f = IsRunLack workers f
 IsLackOf _ f = ⊥
 
 -- the answer where there is a fault: that fault, unless memory ran out

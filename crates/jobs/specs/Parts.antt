@@ -75,10 +75,10 @@ IsOpenFault contents room NoMemory = Unit {0}
 IsOpenFault contents room _ = ⊥
 
 -- nor its scripts run to their end
-abbrev pub IsWorkFault : Contents → ℕ → Fault → Type 0
-IsWorkFault contents room StoreFull = room < bodies_length contents.assertions
-IsWorkFault contents room NoMemory = Unit {0}
-IsWorkFault contents room f = IsRunLack f
+abbrev pub IsWorkFault : Contents → ℕ → ℕ → Fault → Type 0
+IsWorkFault contents workers room StoreFull = room < bodies_length contents.assertions
+IsWorkFault contents workers room NoMemory = Unit {0}
+IsWorkFault contents workers room f = IsRunLack workers f
 
 -- the fault of a run that came to no end
 abbrev pub from_edit : EditError → Fault

@@ -135,7 +135,7 @@ fn run(
 ) -> Result<Printed, Fault>
     requires within { IsWithin plan.workers plan.room }
     ensures done { IfOk result (λ p. IsRun db.now (map (λ t. t.items) scripts.now) plan.workers plan.room plan.history p.out.items p.history.items) }
-    ensures fault { IfErr result (λ f. f ≢ NoMemory → IsRunFault db.now (map (λ t. t.items) scripts.now) plan.room f ⊎ IsRunLack f) }
+    ensures fault { IfErr result (λ f. f ≢ NoMemory → IsRunFault db.now (map (λ t. t.items) scripts.now) plan.room f ⊎ IsRunLack plan.workers f) }
     ensures refused { (f : FaultOfJob) → IsRunFault db.now (map (λ t. t.items) scripts.now) plan.room f → RefusesWith f result }
 {
     let db = read_and_check(rt, alloc, keys, db)?;

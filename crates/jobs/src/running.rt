@@ -96,7 +96,7 @@ fn edit(
     requires within { IsWithin plan.workers plan.room }
     requires fit { All (All (All (CommandFits db.now.prelude))) scripts.now }
     ensures done { IfOk result (λ e. IsWorked db.now plan.workers plan.room scripts.now (lists_of e.outcomes.items) e.history e.library) }
-    ensures fault { IfErr result (IsWorkFault db.now plan.room) }
+    ensures fault { IfErr result (IsWorkFault db.now plan.workers plan.room) }
     ensures full { plan.room < bodies_length db.now.assertions → RefusesWith StoreFull result }
 {
     let (library, sessions) = open(alloc, keys, db, plan)?;
@@ -183,7 +183,7 @@ pub(crate) fn print_run(
     requires within { IsWithin plan.workers plan.room }
     requires fit { All (All (All (CommandFits db.now.prelude))) scripts.now }
     ensures done { IfOk result (λ p. PrintsRun db.now plan.workers plan.room plan.history scripts.now p.out.items p.history.items) }
-    ensures fault { IfErr result (IsWorkFault db.now plan.room) }
+    ensures fault { IfErr result (IsWorkFault db.now plan.workers plan.room) }
     ensures full { plan.room < bodies_length db.now.assertions → RefusesWith StoreFull result }
 {
     let edited = edit(rt, alloc, keys, db, scripts, plan, watch)?;

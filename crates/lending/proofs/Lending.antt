@@ -107,6 +107,7 @@ module _ (g : Given) (k : Pass) (stage : Staged) (mode : Mode) (may : Bool) (r :
             let no : None ≡ Some (c, word) = sym (ap (λ (x : Going Given Note). x.known.looked) b.is) ∙ told in absurd cc;
         full = λ e. absurd cc;
         unrefused = λ e. ap (λ (x : Going Given Note). x.known.full) b.is;
+        full_stays = λ p e. ap (λ (x : Going Given Note). x.known.full) b.is ∙ e;
       }
 
 -- where the pass and what was given are known by other names
@@ -191,8 +192,9 @@ module _ (l : Lending) (stage : Staged) (over : Option Conflict) (i : IsLent l s
       → AreStaged seen.ranges next → now ≡ ended
       → ((c : Conflict) → ended ≡ Some c → HasMet c (later l seen looked full taken added now no_room).going)
       → (ended ≡ None → FindsNone l.going.place looked l.going.known.found) → (no_room ≡ true → (is_some full ≡ true) × (l.may_stage ≡ true))
-      → (no_room ≡ false → full ≡ l.began.full) → IsLent (later l seen looked full taken added now no_room) next ended
-  later_lent seen looked full taken added now no_room next ended grows stands staged over_is met clear full_is unrefused =
+      → (no_room ≡ false → full ≡ l.began.full) → ((found : ℕ × ℕ) → l.going.known.full ≡ Some found → full ≡ Some found)
+      → IsLent (later l seen looked full taken added now no_room) next ended
+  later_lent seen looked full taken added now no_room next ended grows stands staged over_is met clear full_is unrefused stays =
       record {
         on = i.on;
         since = ap (λ (k : Pass). let z : Pass =
@@ -210,6 +212,7 @@ module _ (l : Lending) (stage : Staged) (over : Option Conflict) (i : IsLent l s
         clear = clear;
         full = full_is;
         unrefused = unrefused;
+        full_stays = λ p e. stays p (i.full_stays p e);
       }
 
   -- what it met it has met, while it looks no more
@@ -235,7 +238,7 @@ module _ (l : Lending) (stage : Staged) (over : Option Conflict) (i : IsLent l s
       let seen = r.known.seen in
       subst (λ (x : Going Given Note). IsLent (record l { going = x }) stage over) (sym h.is)
       (later_lent seen k.looked k.full k.taken k.added l.going.over l.full stage over h.grows (subst (Stands library_terms) h.is h.stands)
-      (staged_on seen h.grows) i.over_is (met_on seen k.full k.taken k.added l.full h.grows) i.clear i.full i.unrefused)
+      (staged_on seen h.grows) i.over_is (met_on seen k.full k.taken k.added l.full h.grows) i.clear i.full i.unrefused (λ p e. e))
 
   -- words were staged
   stages_lent : (words : List ℕ) (start : ℕ) (r : Going Given Note) (next : Staged) → HasStaged library_terms words start l.going r
@@ -246,7 +249,7 @@ module _ (l : Lending) (stage : Staged) (over : Option Conflict) (i : IsLent l s
       let taken = k.taken + length words in
       subst (λ (x : Going Given Note). IsLent (record l { going = x }) next over) (sym h.is)
       (later_lent seen k.looked k.full taken k.added l.going.over l.full next over h.grows (subst (Stands library_terms) h.is h.stands)
-      staged i.over_is (met_on seen k.full taken k.added l.full h.grows) i.clear i.full i.unrefused)
+      staged i.over_is (met_on seen k.full taken k.added l.full h.grows) i.clear i.full i.unrefused (λ p e. e))
 
   noted_staged : (words : List ℕ) (start : ℕ) (r : Going Given Note) → HasStaged library_terms words start l.going r
       → AreStaged r.known.seen.ranges (insert stage words start)
@@ -287,6 +290,7 @@ module _ (l : Lending) (stage : Staged) (over : Option Conflict) (i : IsLent l s
         clear = i.clear;
         full = λ t. (ap is_some e, may);
         unrefused = λ t. absurd cc;
+        full_stays = i.full_stays;
       })
   refused_lent count r may (inr (tail, h)) =
       let k = l.going.known in
@@ -295,7 +299,7 @@ module _ (l : Lending) (stage : Staged) (over : Option Conflict) (i : IsLent l s
       subst (λ (x : Going Given Note). IsLent (record l { going = x; full = true }) stage over) (sym h.is)
       (later_lent seen k.looked (Some (tail, count)) k.taken added l.going.over true stage over h.grows
       (subst (Stands library_terms) h.is h.stands) (staged_on seen h.grows) i.over_is
-      (met_on seen (Some (tail, count)) k.taken added true h.grows) i.clear (λ t. (refl, may)) (λ t. absurd cc))
+      (met_on seen (Some (tail, count)) k.taken added true h.grows) i.clear (λ t. (refl, may)) (λ t. absurd cc) (λ p e. let none = h.unrefused in absurd cc))
 
   -- a read met a conflict
   pub stops_lent : (cell : ℕ) (met : Conflict) (r : Going Given Note) → HasStopped library_terms cell met l.going r
@@ -315,7 +319,7 @@ module _ (l : Lending) (stage : Staged) (over : Option Conflict) (i : IsLent l s
       (subst (Stands library_terms) h.is h.stands) (staged_on seen h.grows) refl
       (λ c e. let same : met ≡ c = cc in
       subst (λ (x : Conflict). HasMet x (later l seen looked k.full k.taken k.added (Some met) l.full).going) same has)
-      (λ e. absurd cc) i.full i.unrefused)
+      (λ e. absurd cc) i.full i.unrefused (λ p e. e))
 
   -- a cell was read
   module _ (cell value : ℕ) (r : Going Given Note) (h : HasRead library_terms cell value l.going r) where
@@ -349,6 +353,7 @@ module _ (l : Lending) (stage : Staged) (over : Option Conflict) (i : IsLent l s
           clear = λ e. finds_none l.going.place cell h.word l.going.known.found h.free h.below;
           full = i.full;
           unrefused = i.unrefused;
+          full_stays = i.full_stays;
         }
 
     pub reads_lent : l.going.over ≡ None → (l.going.mode ≡ Writing → was_read r.slots cell ≡ true)
@@ -381,6 +386,7 @@ module _ (l : Lending) (stage : Staged) (over : Option Conflict) (i : IsLent l s
         clear = i.clear;
         full = i.full;
         unrefused = i.unrefused;
+        full_stays = i.full_stays;
       }
 
   pub writes_lent : (cell value : ℕ) (r : Going Given Note) → HasKept l.going.slots r.slots cell value
@@ -408,6 +414,7 @@ module _ (l : Lending) (stage : Staged) (over : Option Conflict) (i : IsLent l s
         clear = i.clear;
         full = i.full;
         unrefused = i.unrefused;
+        full_stays = i.full_stays;
       }
 
   pub forgets_lent : (r : Going Given Note) → HasForgotten l.going.slots r.slots → r ≡ record l.going { slots = r.slots }

@@ -24,6 +24,10 @@ use Rattle.lawful.specs.Laws.{IsPassOn}
 abbrev pub Pass : Type 0
 Pass = Known Given Note
 
+-- what the first staging of a pass that was refused found is known from then on
+abbrev pub FullStays : Pass → Pass → Type 0
+FullStays old new = (found : ℕ × ℕ) → old.full ≡ Some found → new.full ≡ Some found
+
 -- a run: what its pass knew at the beginning, the run as it goes, whether it may stage words, and whether the store had no room
 -- for some
 pub record Lending : Type 0 where
@@ -102,6 +106,7 @@ pub record IsLent (l : Lending) (stage : Staged) (over : Option Conflict) : Type
   pub clear : over ≡ None → FindsNone l.going.place l.going.known.looked l.going.known.found
   pub full : l.full ≡ true → (is_some l.going.known.full ≡ true) × (l.may_stage ≡ true)
   pub unrefused : l.full ≡ false → l.going.known.full ≡ l.began.full
+  pub full_stays : FullStays l.began l.going.known
 
 -- so with some stage, and with the conflict that ended the run, if one did
 abbrev pub IsLending : Lending → Type 0

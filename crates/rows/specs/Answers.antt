@@ -55,7 +55,7 @@ Keeps text _ _ = ⊥
 -- what the run of scripts over a database by so many workers prints, in a store with so much room; or its fault, or why it came to no end
 abbrev pub IsRunOf : List ℕ → List (List ℕ) → ℕ → ℕ → Answer → Type 0
 IsRunOf db scripts workers room (Text out) = (history : List ℕ) × IsRun db scripts workers room false out.items history
-IsRunOf db scripts workers room (Failed fault) = fault ≢ NoMemoryOfJob → IsRunFault db scripts room fault ⊎ IsRunLack fault
+IsRunOf db scripts workers room (Failed fault) = fault ≢ NoMemoryOfJob → IsRunFault db scripts room fault ⊎ IsRunLack workers fault
 IsRunOf db scripts workers room _ = ⊥
 
 -- the lines of the library after a run of the scripts; that the replay of its history gave another, which is so only where it is longer than a
@@ -64,7 +64,7 @@ abbrev pub IsSharedOf : List ℕ → List (List ℕ) → ℕ → ℕ → Answer 
 IsSharedOf db scripts workers room (Text lines) =
     (out history : List ℕ) × (run : IsRun db scripts workers room true out history) × (lines.items ≡ library_lines run.printed.library)
 IsSharedOf db scripts workers room Differs = (out history : List ℕ) × IsRun db scripts workers room true out history × (16777216 < length history)
-IsSharedOf db scripts workers room (Failed fault) = fault ≢ NoMemoryOfJob → IsRunFault db scripts room fault ⊎ IsRunLack fault
+IsSharedOf db scripts workers room (Failed fault) = fault ≢ NoMemoryOfJob → IsRunFault db scripts room fault ⊎ IsRunLack workers fault
 IsSharedOf db scripts workers room _ = ⊥
 
 -- what the replay of a history over a database prints, or its fault

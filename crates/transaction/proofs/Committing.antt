@@ -55,13 +55,14 @@ told_of place given.StoreFull = outcome.StoreFull
 told_of place given.NoMemory = outcome.NoMemory
 
 module _ (l : Lending) (stage : Staged) (over : Option Conflict) (lent : IsLent l stage over) (cs : List Command) where
-  later_by : (k : Pass) → k.home ≡ l.going.known.home → k.name ≡ l.going.known.name → SeenGrows l.going.known.seen k.seen
-      → Knows library_terms k → IsLaterPass l.began k
-  later_by k home name grows knows =
+  later_by : (k : Pass) → k.home ≡ l.going.known.home → k.name ≡ l.going.known.name → k.full ≡ l.going.known.full
+      → SeenGrows l.going.known.seen k.seen → Knows library_terms k → IsLaterPass l.began k
+  later_by k home name full grows knows =
       record {
         home = home ∙ ap (λ (z : Pass). z.home) lent.since;
         name = name ∙ ap (λ (z : Pass). z.name) lent.since;
         grows = seen_trans l.began.seen l.going.known.seen k.seen lent.grows grows;
+        full = λ p e. full ∙ lent.full_stays p e;
         knows = knows;
       }
 
@@ -107,7 +108,7 @@ module _ (l : Lending) (stage : Staged) (over : Option Conflict) (lent : IsLent 
           omega arith
           ) in
           record {
-            later = later_by k (ap (λ (z : Pass). z.home) w.is) (ap (λ (z : Pass). z.name) w.is) w.grows w.knows;
+            later = later_by k (ap (λ (z : Pass). z.home) w.is) (ap (λ (z : Pass). z.name) w.is) (ap (λ (z : Pass). z.full) w.is) w.grows w.knows;
             gains = (
               edits,
               behind,
@@ -129,7 +130,7 @@ module _ (l : Lending) (stage : Staged) (over : Option Conflict) (lent : IsLent 
           let work = work_done l.going (Done c r) in
           let drawn : k.drawn ≡ l.began.drawn = ap (λ (z : Pass). z.drawn) w.is ∙ ap (λ (z : Pass). z.drawn) lent.since in
           record {
-            later = later_by k (ap (λ (z : Pass). z.home) w.is) (ap (λ (z : Pass). z.name) w.is) w.grows w.knows;
+            later = later_by k (ap (λ (z : Pass). z.home) w.is) (ap (λ (z : Pass). z.name) w.is) (ap (λ (z : Pass). z.full) w.is) w.grows w.knows;
             gains = (
               edits,
               lent.placed,
@@ -154,7 +155,7 @@ module _ (l : Lending) (stage : Staged) (over : Option Conflict) (lent : IsLent 
       let work = work_done l.going (Refused c r) in
       let drawn : k.drawn ≡ l.began.drawn = ap (λ (z : Pass). z.drawn) w.is ∙ ap (λ (z : Pass). z.drawn) lent.since in
       record {
-        later = later_by k (ap (λ (z : Pass). z.home) w.is) (ap (λ (z : Pass). z.name) w.is) w.grows w.knows;
+        later = later_by k (ap (λ (z : Pass). z.home) w.is) (ap (λ (z : Pass). z.name) w.is) (ap (λ (z : Pass). z.full) w.is) w.grows w.knows;
         gains = (
           lent.placed,
           drawn,
@@ -204,7 +205,7 @@ module _ (l : Lending) (stage : Staged) (over : Option Conflict) (lent : IsLent 
   rejects_undrawn c k writes edits w =
       let drawn : k.drawn ≡ l.began.drawn = ap (λ (z : Pass). z.drawn) w.entry ∙ ap (λ (z : Pass). z.drawn) lent.since in
       record {
-        later = later_by k (ap (λ (z : Pass). z.home) w.entry) (ap (λ (z : Pass). z.name) w.entry) w.grows w.knows;
+        later = later_by k (ap (λ (z : Pass). z.home) w.entry) (ap (λ (z : Pass). z.name) w.entry) (ap (λ (z : Pass). z.full) w.entry) w.grows w.knows;
         gains = (
           ap (λ (z : Pass). z.mine) w.entry ∙ ap (λ (z : Pass). z.mine) lent.since,
           inl drawn,
@@ -225,7 +226,7 @@ module _ (l : Lending) (stage : Staged) (over : Option Conflict) (lent : IsLent 
       ap (λ (z : Pass). z.drawn) same ∙ ap (λ (z : Pass). z.drawn ++ number ∷ []) lent.since in
       let void = (history k (ap (λ (z : Pass). z.home) same) w.knows).void e.0 e.3 in
       record {
-        later = later_by k (ap (λ (z : Pass). z.home) same) (ap (λ (z : Pass). z.name) same) w.grows w.knows;
+        later = later_by k (ap (λ (z : Pass). z.home) same) (ap (λ (z : Pass). z.name) same) (ap (λ (z : Pass). z.full) same) w.grows w.knows;
         gains = (
           ap (λ (z : Pass). z.mine) same ∙ ap (λ (z : Pass). z.mine) lent.since,
           inr (number, drawn, (e.0, e.1, void)),

@@ -27,6 +27,7 @@ module _ (l : Lending) (stage : Staged) (over : Option Conflict) (lent : IsLent 
         home = ap (λ (k : Pass). k.home) lent.since;
         name = ap (λ (k : Pass). k.name) lent.since;
         grows = lent.grows;
+        full = lent.full_stays;
         knows = lent.stands.knows;
       }
 

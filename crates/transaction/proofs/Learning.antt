@@ -1,5 +1,5 @@
 -- What one session learns of another.
-use Rattle.std.proofs.Common.{◌≡◌, ℕ, List, sym, ap, subst}
+use Rattle.std.proofs.Common.{◌≡◌, ℕ, List, sym, ap, subst, ◌∙◌}
 use Rattle.tlwords.specs.Seen.{Agree}
 use Rattle.tlwords.specs.Calls.{Learns as WordsLearn}
 use Rattle.lawful.specs.Lawful.{library_terms}
@@ -16,6 +16,7 @@ module _ (m o : Member) (k j : Pass) (is : IsMember m) (other : IsMember o) (lea
     home = ap (λ (z : Pass). z.home) learnt.is;
     name = ap (λ (z : Pass). z.name) learnt.is;
     grows = learnt.own;
+    full = λ p e. ap (λ (z : Pass). z.full) learnt.is ∙ e;
     knows = learnt.knows;
   }
 
@@ -24,6 +25,7 @@ module _ (m o : Member) (k j : Pass) (is : IsMember m) (other : IsMember o) (lea
     home = ap (λ (z : Pass). z.home) learnt.other_is;
     name = ap (λ (z : Pass). z.name) learnt.other_is;
     grows = learnt.other;
+    full = λ p e. ap (λ (z : Pass). z.full) learnt.other_is ∙ e;
     knows = learnt.other_knows;
   }
 

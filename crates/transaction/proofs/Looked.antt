@@ -117,6 +117,7 @@ module _ (l : Lending) (stage : Staged) (over : Option Conflict) (lent : IsLent 
         home = ap (λ (z : Pass). z.home) a.is ∙ ap (λ (z : Pass). z.home) lent.since;
         name = ap (λ (z : Pass). z.name) a.is ∙ ap (λ (z : Pass). z.name) lent.since;
         grows = seen_trans l.began.seen l.going.known.seen new.seen lent.grows a.grows;
+        full = λ p e. ap (λ (z : Pass). z.full) a.is ∙ lent.full_stays p e;
         knows = a.knows;
       }
   later_by (Some k) met = subst (IsLaterPass l.began) (sym (stopped k met).1) (is_later l stage over lent)

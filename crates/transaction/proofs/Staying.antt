@@ -36,5 +36,6 @@ module _ (m : Member) (k : Pass) (is : IsMember m) (later : IsLaterPass m.known 
     home = later.home;
     name = later.name;
     grows = later.grows;
+    full = later.full;
     stands = stands (record m { known = k }) still_member;
   }

@@ -33,7 +33,7 @@ after_run m k r = record m { known = k; records = with_record m.records r }
 module _ (m : Member) (is : IsMember m) where
   same_later : IsLater m m
   same_later =
-      record { given = refl; home = refl; name = refl; grows = seen_refl m.known.seen; stands = stands m is }
+      record { given = refl; home = refl; name = refl; grows = seen_refl m.known.seen; full = λ p e. e; stands = stands m is }
 
   -- nothing was done
   pub attempts_none : (cs : List Command) → has_too_many cs ≡ true → Attempts cs m m outcome.TooManyCommands
@@ -57,6 +57,7 @@ module _ (m : Member) (is : IsMember m) where
           home = t.later.home;
           name = t.later.name;
           grows = t.later.grows;
+          full = t.later.full;
           stands = stands (after_run m k r) (member_after k r t.later t.recorded);
         };
         gains = t.gains;
@@ -92,6 +93,7 @@ later_trans a b c p q =
       home = q.home ∙ p.home;
       name = q.name ∙ p.name;
       grows = seen_trans a.known.seen b.known.seen c.known.seen p.grows q.grows;
+      full = λ found e. q.full found (p.full found e);
       stands = q.stands;
     }
 

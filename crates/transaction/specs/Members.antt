@@ -11,6 +11,7 @@ use Rattle.lawful.specs.declared.notes.Note.{Note}
 use Rattle.lawful.specs.Lawful.{library_terms}
 use Rattle.lawful.specs.History.{history_of, IsHistoryOf, AllAgree}
 use Rattle.lawful.specs.Laws.{IsPassOn}
+use Rattle.lending.specs.Lent.{FullStays}
 use Rattle.transaction.specs.declared.outcome.Record.{Record}
 
 -- a library in running words: the opening database and the slots, the opening of its words, the words that its store began with, and how
@@ -57,12 +58,14 @@ pub record Stands (m : Member) : Type 0 where
   pub agree : AllAgree m.given (history_of m.known.seen) m.known.mine
   pub recorded : AreRecorded m
 
--- the session later: of the same library, with the same name, having seen more
+-- the session later: of the same library, with the same name, having seen more. Where a staging of it found the store full, that is told from
+-- then on
 pub record IsLater (old new : Member) : Type 0 where
   pub given : new.given ≡ old.given
   pub home : new.known.home ≡ old.known.home
   pub name : new.known.name ≡ old.known.name
   pub grows : SeenGrows old.known.seen new.known.seen
+  pub full : FullStays old.known new.known
   pub stands : Stands new
 
 -- ---- what is so at all times

@@ -11,7 +11,7 @@ use Rattle.tlwords.specs.Commits.{writes_kept}
 use Rattle.lawful.specs.declared.notes.Note.TheVariants.{Done, Refused, Looked}
 use Rattle.lawful.specs.Lawful.{library_terms}
 use Rattle.lawful.specs.History.{history_of}
-use Rattle.lending.specs.Lent.{Pass, Lending}
+use Rattle.lending.specs.Lent.{Pass, Lending, FullStays}
 use Rattle.lending.specs.Ends.{IsLawfulWith}
 use Rattle.transaction.specs.declared.outcome.Record.{Record}
 use Rattle.transaction.specs.declared.outcome.Outcome.{Outcome}
@@ -24,6 +24,7 @@ pub record IsLaterPass (old new : Pass) : Type 0 where
   pub home : new.home ≡ old.home
   pub name : new.name ≡ old.name
   pub grows : SeenGrows old.seen new.seen
+  pub full : FullStays old new
   pub knows : Knows library_terms new
 
 -- the number that was drawn, if one was, has this record

@@ -1,5 +1,5 @@
 -- The rows of all shifts together: each script has one, and once they are sorted they are in the order of the scripts.
-use Rattle.std.proofs.Common.{◌≡◌, ◌≢◌, ℕ, zero, suc, ◌+◌, ◌-◌, ◌<◌, ◌≤◌, List, [], ◌∷◌, ◌++◌, length, map, flat_map, get_or, true, false}
+use Rattle.std.proofs.Common.{◌≡◌, ℕ, zero, suc, ◌+◌, ◌-◌, ◌<◌, ◌≤◌, List, [], ◌∷◌, ◌++◌, length, map, flat_map, get_or, true, false}
 use Rattle.std.proofs.Common.{All, IsPermutation, inl, inr, refl, sym, ap, subst, ◌∙◌, arith}
 use Rattle.std.specs.Ordering.{nat_cmp, is_lt}
 use Rattle.std.specs.List.Sorted.{IsSorted, IsNonDecreasing, IsNonDecreasingBy}
@@ -12,7 +12,7 @@ use Rattle.std.proofs.lemmas.List.Elements.{All-head, All-tail}
 use Rattle.std.proofs.lemmas.List.Sorted.{IsPermutation-sym, IsPermutation-trans, IsPermutation-map, length_permutation}
 use Rattle.std.proofs.lemmas.Map.Lookups.{exact_unsigned}
 use Rattle.library.proofs.Orders.{ties_at}
-use Rattle.claims.specs.Claims.{Home as Numbers, Claimant, AreClaimed, claims_of, up_to}
+use Rattle.claims.specs.Claims.{Home as Numbers, AreClaimed, claims_of, up_to}
 use Rattle.workers.specs.declared.shift.Row.{Row}
 use Rattle.workers.specs.declared.shift.Shift.{Shift}
 use Rattle.workers.specs.Shifts.{AreWhole}

@@ -1,6 +1,6 @@
 -- The numbers that a session draws: those that are done are those of its committed transactions.
-use Rattle.std.proofs.Common.{◌≡◌, ℕ, zero, suc, Bool, false, List, [], ◌∷◌, ◌++◌, length, refl, sym, ap, ◌∙◌, arith}
-use Rattle.std.specs.Prelude.{All, Some, drop, filter, slice_get}
+use Rattle.std.proofs.Common.{◌≡◌, ℕ, zero, suc, Bool, false, List, [], ◌∷◌, ◌++◌, length, append_assoc, refl, sym, ap, ◌∙◌, arith}
+use Rattle.std.specs.Prelude.{All, Some, drop, filter, flat_map, slice_get}
 use Rattle.std.proofs.Math.Seq.{drop-append_seam}
 use Rattle.std.proofs.lemmas.Bool.{cond-true}
 use Rattle.std.proofs.lemmas.List.{append-nil}
@@ -62,6 +62,20 @@ numbers_first outcome.StoreFull os = refl
 numbers_first outcome.NumbersUsed os = refl
 numbers_first outcome.TooManyCommands os = refl
 numbers_first outcome.NoMemory os = refl
+
+numbers_both : (os ps : List Outcome) → numbers_of (os ++ ps) ≡ numbers_of os ++ numbers_of ps
+numbers_both [] ps = refl
+numbers_both (o ∷ os) ps =
+    numbers_first o (os ++ ps)
+    ∙ (ap (λ (ns : List ℕ). numbers_of (o ∷ []) ++ ns) (numbers_both os ps)
+    ∙ (sym (append_assoc (numbers_of (o ∷ [])) (numbers_of os) (numbers_of ps))
+    ∙ ap (λ (ns : List ℕ). ns ++ numbers_of ps) (sym (numbers_first o os))))
+
+-- of what is told one after another
+pub numbers_all : {A : Type 0} (f : A → List Outcome) (xs : List A) → numbers_of (flat_map f xs) ≡ flat_map (λ x. numbers_of (f x)) xs
+numbers_all f [] = refl
+numbers_all f (x ∷ xs) =
+    numbers_both (f x) (flat_map f xs) ∙ ap (λ (ns : List ℕ). numbers_of (f x) ++ ns) (numbers_all f xs)
 
 -- ---- further numbers
 

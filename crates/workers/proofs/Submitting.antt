@@ -1,7 +1,7 @@
 -- What one transaction makes of a session: further calls and numbers, and an outcome that agrees where its calls do.
-use Rattle.std.proofs.Common.{◌≡◌, ◌≢◌, ℕ, ◌≤◌, List, [], ◌∷◌, ◌++◌, length, refl, sym, ap, subst, ◌∙◌, arith}
+use Rattle.std.proofs.Common.{◌≡◌, ◌≢◌, ℕ, ◌≤◌, Option, List, [], ◌∷◌, ◌++◌, length, length-append, refl, sym, ap, subst, ◌∙◌, arith}
 use Rattle.std.proofs.Common.{append_assoc}
-use Rattle.std.specs.Prelude.{All, Some}
+use Rattle.std.specs.Prelude.{All, Some, None, is_some, true}
 use Rattle.std.proofs.Math.Seq.{drop-append_seam}
 use Rattle.std.proofs.lemmas.List.{append-nil}
 use Rattle.std.proofs.lemmas.List.Elements.{All-head, All-drop}
@@ -19,13 +19,13 @@ use Rattle.lawful.specs.declared.notes.Note.TheVariants as note
 use Rattle.lawful.specs.Lawful.{setting_of, first_library}
 use Rattle.lawful.specs.History.{history_of, CommitAgrees, AnswerAgrees, CallAgrees, AllAgree}
 use Rattle.lawful.proofs.Entries.{length-entries_of}
-use Rattle.lending.specs.Lent.{Pass}
+use Rattle.lending.specs.Lent.{Pass, FullStays}
 use Rattle.transaction.specs.declared.outcome.Conflict.{Conflict as Met}
 use Rattle.transaction.specs.declared.outcome.Outcome.{Outcome}
 use Rattle.transaction.specs.declared.outcome.Outcome.TheVariants as outcome
-use Rattle.transaction.specs.Members.{Member, Stands}
+use Rattle.transaction.specs.Members.{Member}
 use Rattle.transaction.specs.Attempts.{Gains, GainsCall, Submits, SaysDone, SaysRefused, tried}
-use Rattle.workers.specs.Works.{OutcomeAgrees, OutcomeFits, StandsFrom, place_behind, numbers_of}
+use Rattle.workers.specs.Works.{OutcomeAgrees, OutcomeFits, ToldBy, StandsFrom, place_behind, numbers_of}
 
 -- ---- a session later
 
@@ -35,6 +35,7 @@ pub record Goes (old new : Member) : Type 0 where
   pub home : new.known.home ≡ old.known.home
   pub name : new.known.name ≡ old.known.name
   pub grows : SeenGrows old.known.seen new.known.seen
+  pub full : FullStays old.known new.known
   pub calls : List (Call Note)
   pub mine : new.known.mine ≡ old.known.mine ++ calls
   pub numbers : List ℕ
@@ -46,6 +47,7 @@ goes_nowhere m = record {
   home = refl;
   name = refl;
   grows = seen_refl m.known.seen;
+  full = λ p e. e;
   calls = [];
   mine = sym (append-nil m.known.mine);
   numbers = [];
@@ -61,14 +63,12 @@ goes_on a b c p q = record {
   home = q.home ∙ p.home;
   name = q.name ∙ p.name;
   grows = seen_trans a.known.seen b.known.seen c.known.seen p.grows q.grows;
+  full = λ found e. q.full found (p.full found e);
   calls = p.calls ++ q.calls;
   mine = appended a.known.mine b.known.mine c.known.mine p.calls q.calls p.mine q.mine;
   numbers = p.numbers ++ q.numbers;
   drawn = appended a.known.drawn b.known.drawn c.known.drawn p.numbers q.numbers p.drawn q.drawn;
 }
-
-pub goes_further : (old new : Member) → Goes old new → length old.known.seen.history ≤ length new.known.seen.history
-goes_further old new goes = goes.grows.0.0
 
 -- ---- what a transaction gains
 
@@ -174,6 +174,28 @@ gained_fits cs old new outcome.NumbersUsed g = tt
 gained_fits cs old new outcome.TooManyCommands g = g.1
 gained_fits cs old new outcome.NoMemory g = tt
 
+-- ---- why it was given up stays told
+
+still_full : (old new : Pass) → FullStays old new → (found : Option (ℕ × ℕ)) → old.full ≡ found → is_some found ≡ true → is_some new.full ≡ true
+still_full old new stays None is some = absurd cc
+still_full old new stays (Some found) is some = ap is_some (stays found is)
+
+gained_told : (cs : List Command) (old new : Pass) (o : Outcome) → Gains cs old new o → (last : Member) (more : List ℕ)
+    → last.known.drawn ≡ new.drawn ++ more → FullStays new last.known → ToldBy last o
+gained_told cs old new (outcome.Committed number replies) g last more drawn stays = tt
+gained_told cs old new (outcome.Read place replies) g last more drawn stays = tt
+gained_told cs old new (outcome.Refused place reason) g last more drawn stays = tt
+gained_told cs old new (outcome.Conflict met) g last more drawn stays = tt
+gained_told cs old new outcome.StoreFull g last more drawn stays = still_full new last.known stays new.full refl g.1
+gained_told cs old new outcome.NumbersUsed g last more drawn stays =
+    let all = ap length g.0.drawn in
+    let used = g.1 in
+    let size = length-append new.drawn more in
+    let whole = ap length drawn in
+    omega (arith, all, used, size, whole)
+gained_told cs old new outcome.TooManyCommands g last more drawn stays = tt
+gained_told cs old new outcome.NoMemory g last more drawn stays = tt
+
 gained_behind : (cs : List Command) (old new : Pass) (o : Outcome) (place : ℕ) → Gains cs old new o → place ≤ length old.seen.history
     → StandsFrom place o
 gained_behind cs old new (outcome.Committed number replies) place g seen = let further = g.1 in omega arith
@@ -204,6 +226,7 @@ module _ (cs : List Command) (old new : Member) (o : Outcome) (submits : Submits
         home = submits.later.home;
         name = submits.later.name;
         grows = submits.later.grows;
+        full = submits.later.full;
         calls = calls.0;
         mine = calls.1;
         numbers = submits.numbers ++ numbers_of (o ∷ []);
@@ -217,6 +240,9 @@ module _ (cs : List Command) (old new : Member) (o : Outcome) (submits : Submits
 
   pub submitted_fits : OutcomeFits cs o
   submitted_fits = gained_fits cs before new.known o submits.gains
+
+  pub submitted_told : (last : Member) → Goes new last → ToldBy last o
+  submitted_told last goes = gained_told cs before new.known o submits.gains last goes.numbers goes.drawn goes.full
 
   pub submitted_stands : (place : ℕ) → place ≤ length old.known.seen.history → StandsFrom place o
   submitted_stands place seen = gained_behind cs before new.known o place submits.gains seen

@@ -20,6 +20,15 @@ promised_more scripts (d ∷ done) [] m c p were s sm sc = absurd were
 promised_more scripts (d ∷ done) (q ∷ ps) m c p were s sm sc =
     (were.0, were.1, were.2, promised_more scripts done ps m c p were.3 s sm sc)
 
+-- one more shift, behind the others
+pub shifts_more : (scripts : List (List (List Command))) (done : List (Member × Claimant)) (ss : List Shift) (m : Member) (c : Claimant) (s : Shift)
+    → AreShifts scripts (map (λ d. d.0) done) (map (λ d. d.1) done) ss → IsShift scripts m c s.session s.claimant s.rows.items
+    → AreShifts scripts (map (λ d. d.0) (done ++ (m, c) ∷ [])) (map (λ d. d.1) (done ++ (m, c) ∷ [])) (ss ++ s ∷ [])
+shifts_more scripts [] [] m c s were is = (is, tt)
+shifts_more scripts [] (q ∷ ss) m c s were is = absurd were
+shifts_more scripts (d ∷ done) [] m c s were is = absurd were
+shifts_more scripts (d ∷ done) (q ∷ ss) m c s were is = (were.0, shifts_more scripts done ss m c s were.1 is)
+
 -- where each promise is kept, each thread hands back a shift
 pub shifts_kept : (scripts : List (List (List Command))) (ms : List Member) (cs : List Claimant) (ps : List ShiftOf) (ss : List Shift)
     → ArePromised scripts ms cs ps → AllZip IsKept ps ss → AreShifts scripts ms cs ss

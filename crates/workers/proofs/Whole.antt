@@ -1,11 +1,11 @@
 -- All workers together: from what each did follows what became of all scripts.
-use Rattle.std.proofs.Common.{◌≡◌, ◌≢◌, ℕ, zero, suc, ◌+◌, ◌<◌, List, [], ◌∷◌, ◌++◌, length, map, flat_map, get_or, Some, true}
+use Rattle.std.proofs.Common.{◌≡◌, ◌≢◌, ℕ, suc, ◌+◌, ◌<◌, List, [], ◌∷◌, ◌++◌, length, map, flat_map, get_or, Some, true}
 use Rattle.std.proofs.Common.{All, IsPermutation, inl, inr, refl, sym, ap, subst, ◌∙◌, arith}
-use Rattle.std.specs.Prelude.{slice_get}
+use Rattle.std.specs.Prelude.{slice_get, slice_index_or}
 use Rattle.std.specs.List.{AllZip, sum_by}
 use Rattle.std.proofs.lemmas.Grind.{flat_map-append}
 use Rattle.std.proofs.lemmas.List.{length-map, map-append, get_or-map, nil_from_length}
-use Rattle.std.proofs.lemmas.List.Elements.{All-nil, All-cons, All-head, All-tail, All-append, All-weaker}
+use Rattle.std.proofs.lemmas.List.Elements.{All-nil, All-cons, All-head, All-tail, All-append}
 use Rattle.std.proofs.lemmas.List.Folds.{flat_map-map}
 use Rattle.std.proofs.lemmas.List.Sorted.{IsPermutation-sym, IsPermutation-map, All-permutation, sum_by-IsPermutation}
 use Rattle.std.proofs.lemmas.List.Sums.{sum_by-append, sum_by-cons}
@@ -14,15 +14,15 @@ use Rattle.ranges.specs.Ranges.{Has}
 use Rattle.ranges.proofs.Members.{all_from_has, contains_from_has, has_append_left, has_append_right, has_permutation}
 use Rattle.cells.proofs.Tallies.{is_one, permutation_from_counts}
 use Rattle.claims.specs.Claims.{Home as Numbers, Claimant, IsOf as IsClaimantOf, IsNewOf, up_to}
-use Rattle.lawful.specs.declared.notes.Given.{Given}
 use Rattle.transaction.specs.declared.outcome.Outcome.{Outcome}
 use Rattle.transaction.specs.Members.{Home, Member, IsOf, IsLater}
 use Rattle.workers.specs.declared.shift.Row.{Row}
 use Rattle.workers.specs.declared.shift.Shift.{Shift}
-use Rattle.workers.specs.Works.{Works, IsRunByOne, IsHandedBack, AreBehind, IsShare, outcomes_at, all_newly_done, numbers_of}
+use Rattle.workers.specs.Works.{Works, HasOutcomes, IsRunBy, IsShareOf, AreSharesOf, IsHandedBack, all_of, all_newly_done, numbers_of}
 use Rattle.workers.specs.Shifts.{IsShift, AreShifts, AreWhole, AreCollected}
 use Rattle.workers.proofs.Collected.{length-up_to, at_up_to, rows_of}
-use Rattle.workers.proofs.Runs.{run_behind, runs_later, runs_agree, runs_numbers}
+use Rattle.workers.proofs.Numbers.{numbers_all}
+use Rattle.workers.proofs.Runs.{told_in, row_outcomes, runs_later, runs_share, runs_numbers}
 
 abbrev Script : Type 0
 Script = List (List Command)
@@ -78,18 +78,6 @@ in_turn R all rows scripts each =
 
 -- ---- the sessions
 
--- the row is of a script that one of the sessions ran
-abbrev IsRun : Given → List Script → List Member → List Member → Row → Type 0
-IsRun g scripts before after row =
-    (script : Script) × (slice_get scripts row.script ≡ Some script) × IsRunByOne g before after script row.outcomes.items
-
--- whatever session stands before these
-one_before : (g : Given) (scripts : List Script) (before after : List Member) (m n : Member) (row : Row) → IsRun g scripts before after row
-    → IsRun g scripts (m ∷ before) (n ∷ after) row
-one_before g scripts before after m n row run =
-    let one = run.2 in
-    (run.0, run.1, (suc one.0, one.1, one.2, one.3, one.4, one.5))
-
 abbrev sessions_of : List Shift → List Member
 sessions_of shifts = map (λ s. s.session) shifts
 
@@ -105,7 +93,7 @@ shares_are (s ∷ ss) =
 
 -- in rows that are in the order of their scripts each stands at its script
 at_script : (n : ℕ) (rows : List Row) → map (λ row. row.script) rows ≡ up_to n → (row : Row) → Has row rows
-    → outcomes_at (map (λ r. r.outcomes.items) rows) row.script ≡ row.outcomes.items
+    → slice_index_or (map (λ r. r.outcomes.items) rows) row.script [] ≡ row.outcomes.items
 at_script n rows scripts row has =
     let script = λ (r : Row). r.script in
     let outcomes = λ (r : Row). r.outcomes.items in
@@ -118,13 +106,18 @@ at_script n rows scripts row has =
     ap (λ i. get_or (map outcomes rows) i []) here ∙ (get_or-map outcomes rows at.0 row [] at.1 ∙ ap outcomes at.2)
 
 -- what is told of a worker's scripts, one after another
-share_told : (outcomes : List (List Outcome)) (rows : List Row) → ((row : Row) → Has row rows → outcomes_at outcomes row.script ≡ row.outcomes.items)
-    → flat_map (outcomes_at outcomes) (map (λ row. row.script) rows) ≡ flat_map (λ row. row.outcomes.items) rows
+share_told : (outcomes : List (List Outcome)) (rows : List Row)
+    → ((row : Row) → Has row rows → slice_index_or outcomes row.script [] ≡ row.outcomes.items)
+    → all_of outcomes (map (λ row. row.script) rows) ≡ told_in rows
 share_told outcomes [] each = refl
 share_told outcomes (row ∷ rows) each =
     let first = each row (inl refl) in
     let rest = share_told outcomes rows (λ r has. each r (inr has)) in
     λ i. first i ++ rest i
+
+-- the row is of a script, and has its outcomes
+abbrev IsOfScript : List Script → Row → Type 0
+IsOfScript scripts row = (script : Script) × (slice_get scripts row.script ≡ Some script) × HasOutcomes script row.outcomes.items
 
 abbrev numbers_in : Row → List ℕ
 numbers_in row = numbers_of row.outcomes.items
@@ -147,41 +140,42 @@ module _ (home : Home) (opened : home.words.setting ≡ Some home.given) (script
       → all_newly_done ms (sessions_of ss) ≡ flat_map numbers_in (rows_of ss)
   new_numbers [] [] [] shifts = refl
   new_numbers (m ∷ ms) (c ∷ cs) (s ∷ ss) shifts =
-      let here = runs_numbers scripts m s.session s.rows.items shifts.0.runs shifts.0.stands in
+      let told = λ (row : Row). row.outcomes.items in
+      let here = runs_numbers scripts m s.session s.rows.items shifts.0.runs shifts.0.stands ∙ numbers_all told s.rows.items in
       let rest = new_numbers ms cs ss shifts.1 in
       ap (λ ns. ns ++ all_newly_done ms (sessions_of ss)) here
       ∙ (ap (λ ns. flat_map numbers_in s.rows.items ++ ns) rest ∙ sym (flat_map-append numbers_in s.rows.items (rows_of ss)))
   new_numbers _ _ _ shifts = absurd shifts
 
-  all_run : (ms : List Member) (cs : List Claimant) (ss : List Shift) → All (IsOf home) ms → AreShifts scripts ms cs ss
-      → All (IsRun home.given scripts ms (sessions_of ss)) (rows_of ss)
-  all_run [] [] [] own shifts = All-nil (IsRun home.given scripts [] [])
-  all_run (m ∷ ms) (c ∷ cs) (s ∷ ss) own shifts =
+  all_outcomes : (ms : List Member) (cs : List Claimant) (ss : List Shift) → AreShifts scripts ms cs ss
+      → All (IsOfScript scripts) (rows_of ss)
+  all_outcomes [] [] [] shifts = All-nil (IsOfScript scripts)
+  all_outcomes (m ∷ ms) (c ∷ cs) (s ∷ ss) shifts =
+      All-append (IsOfScript scripts) s.rows.items (rows_of ss)
+      (all_from_has (IsOfScript scripts) s.rows.items (row_outcomes scripts m s.session s.rows.items shifts.0.runs))
+      (all_outcomes ms cs ss shifts.1)
+  all_outcomes _ _ _ shifts = absurd shifts
+
+  all_shares : (outcomes : List (List Outcome)) (ms : List Member) (cs : List Claimant) (ss : List Shift) → All (IsOf home) ms
+      → AreShifts scripts ms cs ss
+      → ((row : Row) → Has row (rows_of ss) → slice_index_or outcomes row.script [] ≡ row.outcomes.items)
+      → AreSharesOf home.given scripts outcomes ms (sessions_of ss) (map share_of ss)
+  all_shares outcomes [] [] [] own shifts each = tt
+  all_shares outcomes (m ∷ ms) (c ∷ cs) (s ∷ ss) own shifts each =
       let shift = shifts.0 in
-      let now = IsRun home.given scripts (m ∷ ms) (sessions_of (s ∷ ss)) in
       let later = (runs_later scripts m s.session s.rows.items shift.runs shift.stands).0 in
       let same = given_is m s.session (All-head (IsOf home) m ms own) later in
-      let here : All now s.rows.items = all_from_has now s.rows.items (λ row has.
-      let r = runs_agree home.given scripts m s.session s.rows.items shift.runs same row has in
-      (r.0, r.1, (0, m, s.session, refl, refl, r.2))) in
-      let rest = all_run ms cs ss (All-tail (IsOf home) m ms own) shifts.1 in
-      let others : All now (rows_of ss) = All-weaker (IsRun home.given scripts ms (sessions_of ss)) now
-      (one_before home.given scripts ms (sessions_of ss) m s.session) (rows_of ss) rest in
-      All-append now s.rows.items (rows_of ss) here others
-  all_run _ _ _ own shifts = absurd shifts
-
-  all_shares : (outcomes : List (List Outcome)) (ms : List Member) (cs : List Claimant) (ss : List Shift) → AreShifts scripts ms cs ss
-      → ((row : Row) → Has row (rows_of ss) → outcomes_at outcomes row.script ≡ row.outcomes.items)
-      → AllZip (λ old share. IsShare outcomes (length old.known.seen.history) share) ms (map share_of ss)
-  all_shares outcomes [] [] [] shifts each = tt
-  all_shares outcomes (m ∷ ms) (c ∷ cs) (s ∷ ss) shifts each =
-      let shift = shifts.0 in
-      let place = length m.known.seen.history in
       let told = share_told outcomes s.rows.items (λ row has. each row (has_append_left s.rows.items (rows_of ss) row has)) in
-      let behind = run_behind scripts place m s.session s.rows.items shift.runs (omega arith) in
-      let own : IsShare outcomes place (share_of s) = record { rising = shift.rises; behind = subst (AreBehind place) (sym told) behind } in
-      (own, all_shares outcomes ms cs ss shifts.1 (λ row has. each row (has_append_right s.rows.items (rows_of ss) row has)))
-  all_shares outcomes _ _ _ shifts each = absurd shifts
+      let run = runs_share scripts m s.session s.rows.items shift.runs home.given same in
+      let share : IsShareOf home.given scripts outcomes m s.session (share_of s) = record {
+        rising = shift.rises;
+        run = subst (IsRunBy home.given m s.session (all_of scripts (share_of s))) (sym told) run;
+      } in (
+        share,
+        all_shares outcomes ms cs ss (All-tail (IsOf home) m ms own) shifts.1
+            (λ row has. each row (has_append_right s.rows.items (rows_of ss) row has)),
+      )
+  all_shares outcomes _ _ _ own shifts each = absurd shifts
 
   -- what became of all scripts
   pub works : (before : List Member) (cs : List Claimant) (ss : List Shift) (outcomes : List (List Outcome)) (after : List Member)
@@ -191,15 +185,14 @@ module _ (home : Home) (opened : home.words.setting ≡ Some home.given) (script
       let outcomes_of = λ (row : Row). row.outcomes.items in
       let script_of = λ (row : Row). row.script in
       let all : List (List Outcome) = map outcomes_of made.rows in
-      let run = all_run before cs ss own shifts in
-      let ran = All-permutation (IsRun home.given scripts before (sessions_of ss)) (rows_of ss) made.rows made.same run in
+      let each = All-permutation (IsOfScript scripts) (rows_of ss) made.rows made.same (all_outcomes before cs ss shifts) in
       let back = flat_permutation numbers_in made.rows (rows_of ss) (IsPermutation-sym (rows_of ss) made.rows made.same) in
       let numbers : IsPermutation (flat_map numbers_of all) (all_newly_done before (sessions_of ss)) =
       subst (λ ns. IsPermutation ns (all_newly_done before (sessions_of ss))) (sym (flat_map-map numbers_of outcomes_of made.rows))
       (subst (λ ns. IsPermutation (flat_map numbers_in made.rows) ns) (sym (new_numbers before cs ss shifts)) back) in
       let whole : Works home.given before scripts all (sessions_of ss) =
       record {
-        run = in_turn (IsRunByOne home.given before (sessions_of ss)) scripts made.rows made.each ran;
+        each = in_turn HasOutcomes scripts made.rows made.each each;
         back = handed_back before cs ss shifts;
         shares = map share_of ss;
         parts =
@@ -207,8 +200,8 @@ module _ (home : Home) (opened : home.words.setting ≡ Some home.given) (script
             (subst (λ ns. IsPermutation ns (map script_of (rows_of ss))) made.each
             (IsPermutation-sym (map script_of (rows_of ss)) (map script_of made.rows)
             (IsPermutation-map script_of (rows_of ss) made.rows made.same)));
-        order =
-            all_shares all before cs ss shifts (λ row has.
+        run =
+            all_shares all before cs ss own shifts (λ row has.
             at_script (length scripts) made.rows made.each row (has_permutation (rows_of ss) made.rows row made.same has));
         numbers = numbers;
       } in

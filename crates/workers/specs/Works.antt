@@ -1,5 +1,6 @@
 -- What becomes of scripts that workers run on the sessions of one library.
-use Rattle.std.specs.Prelude.{◌≡◌, ◌<◌, ◌≤◌, ℕ, zero, suc, List, [], ◌∷◌, ◌++◌, Bool, true, false, Some, IsPermutation, length, drop, filter, flat_map, map, slice_get, slice_index_or, Vec}
+use Rattle.std.specs.Prelude.{◌≡◌, ◌<◌, ◌≤◌, ◌^◌, ℕ, zero, suc, List, [], ◌∷◌, ◌++◌, Bool, true, false, is_some, All, IsPermutation, length}
+use Rattle.std.specs.Prelude.{drop, filter, flat_map, map, slice_index_or, Vec}
 use Rattle.std.specs.List.{AllZip}
 use Rattle.std.specs.List.Sorted.{IsStrictlyIncreasing}
 use Rattle.std.specs.declared.alloc.Global.{Global}
@@ -17,6 +18,8 @@ use Rattle.lawful.specs.History.{history_of, AllAgree}
 use Rattle.transaction.specs.declared.outcome.Outcome.{Outcome}
 use Rattle.transaction.specs.declared.outcome.Outcome.TheVariants as outcome
 use Rattle.transaction.specs.Members.{Member, IsLater}
+use Rattle.workers.specs.declared.error.WorkError.{WorkError}
+use Rattle.workers.specs.declared.error.WorkError.TheVariants.{NoMemory, NoThread}
 
 -- ---- an outcome
 
@@ -36,6 +39,13 @@ OutcomeFits cs (outcome.Read place replies) = has_edit cs ≡ false
 OutcomeFits cs outcome.StoreFull = has_staging cs ≡ true
 OutcomeFits cs outcome.TooManyCommands = has_too_many cs ≡ true
 OutcomeFits cs _ = Unit {0}
+
+-- why it was given up is told by the session, which is this at the end: that no number is left, by the 2^40 numbers that it drew, and it draws no
+-- more; that the store is full, by what a staging of it found, which was refused
+abbrev pub ToldBy : Member → Outcome → Type 0
+ToldBy m outcome.NumbersUsed = 2 ^ 40 ≤ length m.known.drawn
+ToldBy m outcome.StoreFull = is_some m.known.full ≡ true
+ToldBy m _ = Unit {0}
 
 -- it stands at a place, or later
 abbrev pub StandsFrom : ℕ → Outcome → Type 0
@@ -63,34 +73,32 @@ ScriptAgrees s lib0 h place (cs ∷ rest) (o ∷ os) =
     × ScriptAgrees s lib0 h (place_behind place o) rest os
 
 -- the session ran it, behind all that it had seen: as each history has it with which the session's calls agree. They agree with the one that it
--- has seen by now, and with the whole one at the library's end
-abbrev pub IsRunBy : Given → Member → Member → List (List Command) → List Outcome → Type 0
-IsRunBy g old new script outcomes =
-    (new.given ≡ g)
-    × ((h : List Entry) → AllAgree g h new.known.mine
-    → ScriptAgrees (setting_of g) (first_library g) h (length old.known.seen.history) script outcomes)
-
--- one of the sessions ran it
-abbrev pub IsRunByOne : Given → List Member → List Member → List (List Command) → List Outcome → Type 0
-IsRunByOne g before after script outcomes =
-    (j : ℕ) × (old : Member) × (new : Member) × (slice_get before j ≡ Some old) × (slice_get after j ≡ Some new)
-    × IsRunBy g old new script outcomes
+-- has seen by now, and with the whole one at the library's end. What was given up, the session tells why
+pub record IsRunBy (g : Given) (old new : Member) (script : List (List Command)) (outcomes : List Outcome) : Type 0 where
+  pub given : new.given ≡ g
+  pub agrees : (h : List Entry) → AllAgree g h new.known.mine
+      → ScriptAgrees (setting_of g) (first_library g) h (length old.known.seen.history) script outcomes
+  pub told : All (ToldBy new) outcomes
 
 -- ---- the scripts of one session
 
--- outcomes, one after another, none of which goes back behind a place, nor behind those before it
-abbrev pub AreBehind : ℕ → List Outcome → Type 0
-AreBehind place [] = Unit {0}
-AreBehind place (o ∷ os) = StandsFrom place o × AreBehind (place_behind place o) os
+-- what the scripts with these indexes, from 0, have: their transactions, or their outcomes, one after another
+abbrev pub all_of : {A : Type 0} → List (List A) → List ℕ → List A
+all_of rows share = flat_map (λ n. slice_index_or rows n []) share
 
--- those of the script with an index, from 0
-abbrev pub outcomes_at : List (List Outcome) → ℕ → List Outcome
-outcomes_at rows n = slice_index_or rows n []
-
--- a session that had seen so much runs the scripts with these indexes, in this order: what is told of one after another of them never goes back
-pub record IsShare (rows : List (List Outcome)) (place : ℕ) (share : List ℕ) : Type 0 where
+-- the session ran the scripts with these indexes, in their order, one after another: as it runs one script of all their transactions. So each is
+-- true of the history, and what is told of one after another of them never goes back
+pub record IsShareOf (g : Given) (scripts : List (List (List Command))) (rows : List (List Outcome)) (old new : Member) (share : List ℕ) :
+    Type 0 where
   pub rising : IsStrictlyIncreasing share
-  pub behind : AreBehind place (flat_map (outcomes_at rows) share)
+  pub run : IsRunBy g old new (all_of scripts share) (all_of rows share)
+
+-- each session, in order, ran its share
+abbrev pub AreSharesOf : Given → List (List (List Command)) → List (List Outcome) → List Member → List Member → List (List ℕ) → Type 0
+AreSharesOf g scripts rows [] [] [] = Unit {0}
+AreSharesOf g scripts rows (old ∷ before) (new ∷ after) (share ∷ shares) =
+    IsShareOf g scripts rows old new share × AreSharesOf g scripts rows before after shares
+AreSharesOf g scripts rows _ _ _ = ⊥
 
 -- ---- numbers
 
@@ -126,16 +134,25 @@ all_newly_done (old ∷ before) (new ∷ after) = newly_done old new ++ all_newl
 abbrev pub IsHandedBack : Member → Member → Type 0
 IsHandedBack old new = IsLater old new × (numbers : List ℕ) × (new.known.drawn ≡ old.known.drawn ++ numbers)
 
--- each script has its outcomes; the sessions are those handed in, in this order, and each ran its share of the scripts, in their order, each script by
--- one; and the numbers newly drawn by them that are done are those of the committed transactions, each of one
+-- one outcome for each transaction
+abbrev pub HasOutcomes : List (List Command) → List Outcome → Type 0
+HasOutcomes script outcomes = length outcomes ≡ length script
+
+-- each script has its outcomes; the sessions are those handed in, in this order, and each ran its share of the scripts, each script by one; and
+-- the numbers newly drawn by them that are done are those of the committed transactions, each of one
 pub record Works (g : Given) (before : List Member) (scripts : List (List (List Command))) (outcomes : List (List Outcome)) (after : List Member)
     : Type 0 where
-  pub run : AllZip (IsRunByOne g before after) scripts outcomes
+  pub each : AllZip HasOutcomes scripts outcomes
   pub back : AllZip IsHandedBack before after
   pub shares : List (List ℕ)
   pub parts : IsPermutation (up_to (length scripts)) (flat_map (λ share. share) shares)
-  pub order : AllZip (λ old share. IsShare outcomes (length old.known.seen.history) share) before shares
+  pub run : AreSharesOf g scripts outcomes before after shares
   pub numbers : IsPermutation (flat_map numbers_of outcomes) (all_newly_done before after)
 
 abbrev pub lists_of : List (Vec Outcome Global) → List (List Outcome)
 lists_of outcomes = map (λ own. own.items) outcomes
+
+-- why scripts aren't run to their end: memory ran out, or a thread can't be had, which is asked for only where there are two sessions or more
+abbrev pub IsLack : List Member → WorkError → Type 0
+IsLack sessions NoThread = 2 ≤ length sessions
+IsLack sessions NoMemory = Unit {0}

@@ -1,12 +1,13 @@
 //! Workers on threads.
 
-ghost use Rattle.std.specs.Prelude.{◌≡◌, All, IfOk, length, map};
+ghost use Rattle.std.specs.Prelude.{◌≡◌, All, IfOk, IfErr, length, map};
 ghost use Rattle.std.specs.List.{AllZip};
 ghost use Rattle.library.specs.Fitting.{CommandFits};
 ghost use Rattle.claims.specs.Claims.{IsOf as Claims};
 ghost use Rattle.lawful.specs.Lawful.{setting_of};
 ghost use Rattle.transaction.specs.Members.{IsOf};
 ghost use Rattle.workers.specs.Shifts.{AreShifts, ArePromised, IsKept};
+ghost use Rattle.workers.specs.Works.{IsLack};
 
 use crate::error::WorkError;
 use crate::gate::Gate;
@@ -38,12 +39,57 @@ impl<'w> Promise<Handed> for ShiftOf<'w> {
     ghost kept_by = { λ p r. IfOk r (IsKept p) };
 }
 
-/// Runs the scripts with a worker for each session, each on a thread, and waits for all of them.
+/// Runs the scripts with a worker for each session, and waits for all of them. Where there are two or more, each is on a thread.
 ///
 /// # Errors
 ///
-/// `NoThread` where a thread can't be had, and want of memory.
+/// `NoThread` where there are two or more and a thread can't be had, and want of memory.
 pub(crate) fn employ<R: Threads + Wait + Sync, G: Gate + Sync>(
+    rt: &R,
+    alloc: Global,
+    shop: Shop<'_, G>,
+    sessions: Vec<Session>,
+    claimants: Vec<Claimant>,
+) -> Result<Vec<Shift>, WorkError>
+    requires own { All (IsOf shop.library.now) sessions.items }
+    requires claims { All (Claims shop.numbers.now) claimants.items }
+    requires pairs { length claimants.items ≡ length sessions.items }
+    requires indexes { shop.numbers.now.count ≡ length shop.scripts.now }
+    requires fit { All (All (All (CommandFits (setting_of shop.library.now.given).prelude))) shop.scripts.now }
+    ensures shifts { IfOk result (λ shifts. AreShifts shop.entry.scripts.now sessions.items claimants.items shifts.items) }
+    ensures lack { IfErr result (IsLack sessions.items) }
+{
+    if sessions.len() < 2 {
+        Ok(work_here(rt, alloc, shop, sessions, claimants)?)
+    } else {
+        work_on_threads(rt, alloc, shop, sessions, claimants)
+    }
+}
+
+/// Runs the scripts with one worker after another, on the calling thread.
+fn work_here<R: Wait, G: Gate>(
+    rt: &R,
+    alloc: Global,
+    shop: Shop<'_, G>,
+    sessions: Vec<Session>,
+    claimants: Vec<Claimant>,
+) -> Result<Vec<Shift>, AllocError>
+    requires own { All (IsOf shop.library.now) sessions.items }
+    requires claims { All (Claims shop.numbers.now) claimants.items }
+    requires pairs { length claimants.items ≡ length sessions.items }
+    requires indexes { shop.numbers.now.count ≡ length shop.scripts.now }
+    requires fit { All (All (All (CommandFits (setting_of shop.library.now.given).prelude))) shop.scripts.now }
+    ensures { IfOk result (λ shifts. AreShifts shop.entry.scripts.now sessions.items claimants.items shifts.items) }
+{
+    let mut shifts = Vec::with_capacity(alloc, sessions.len())?;
+    for (session, claimant) in sessions.into_iter().zip(claimants) {
+        shifts.push_reserved(work(rt, alloc, shop, session, claimant)?);
+    }
+    Ok(shifts)
+}
+
+/// Runs the scripts with a worker for each session, each on a thread, and waits for all of them.
+fn work_on_threads<R: Threads + Wait + Sync, G: Gate + Sync>(
     rt: &R,
     alloc: Global,
     shop: Shop<'_, G>,

@@ -1,10 +1,10 @@
 //! Runs scripts on the sessions of a library.
 
-ghost use Rattle.std.specs.Prelude.{◌≡◌, ◌≢◌, [], All, IfOk, length};
+ghost use Rattle.std.specs.Prelude.{◌≡◌, ◌≢◌, [], All, IfOk, IfErr, length};
 ghost use Rattle.library.specs.Fitting.{CommandFits};
 ghost use Rattle.lawful.specs.Lawful.{setting_of};
 ghost use Rattle.transaction.specs.Members.{IsOf};
-ghost use Rattle.workers.specs.Works.{Works, lists_of};
+ghost use Rattle.workers.specs.Works.{Works, IsLack, lists_of};
 ghost use Rattle.workers.specs.Shifts.{AreWhole, AreCollected};
 
 use crate::error::WorkError;
@@ -13,7 +13,7 @@ use crate::shift::{Row, Shift, Shop};
 use crate::team::employ;
 use claims::Numbers;
 use library::Script;
-use std::alloc::Global;
+use std::alloc::{AllocError, Global};
 use std::sync::Wait;
 use std::thread::Threads;
 use transaction::{Library, Outcome, Session};
@@ -28,7 +28,7 @@ pub struct Worked {
 }
 
 /// Runs scripts on a library, with a worker for each of these sessions of it, of which there is at least one. The commands of the scripts are
-/// within the limits of its prelude.
+/// within the limits of its prelude. Two workers or more are each on a thread; one alone is on the calling thread, and none is started.
 ///
 /// A worker claims the next script that nobody has claimed, tells the gate, submits the script's transactions in order, whatever becomes of
 /// them, tells the gate of each, and at the end again, and goes on until all scripts are claimed. The call returns when every worker has
@@ -36,7 +36,7 @@ pub struct Worked {
 ///
 /// # Errors
 ///
-/// `NoThread` where a thread can't be had, and want of memory. The sessions are gone then, and what they committed stays in the library.
+/// `NoThread` where there are two sessions or more and a thread can't be had, and want of memory. The sessions are gone then, and what they committed stays in the library.
 pub fn run_scripts<R: Threads + Wait + Sync, G: Gate + Sync>(
     rt: &R,
     alloc: Global,
@@ -48,7 +48,8 @@ pub fn run_scripts<R: Threads + Wait + Sync, G: Gate + Sync>(
     requires some { sessions.items ≢ [] }
     requires own { All (IsOf library.now) sessions.items }
     requires fit { All (All (All (CommandFits (setting_of library.now.given).prelude))) scripts.now }
-    ensures { IfOk result (λ worked. Works library.now.given sessions.items scripts.now (lists_of worked.outcomes.items) worked.sessions.items) }
+    ensures worked { IfOk result (λ worked. Works library.now.given sessions.items scripts.now (lists_of worked.outcomes.items) worked.sessions.items) }
+    ensures lack { IfErr result (IsLack sessions.items) }
 {
     // For the proof: the words were opened with what the library was given.
     let _ = library.prelude();
@@ -61,7 +62,7 @@ pub fn run_scripts<R: Threads + Wait + Sync, G: Gate + Sync>(
         gate,
     };
     let shifts = employ(rt, alloc, shop, sessions, claimants)?;
-    collect(alloc, numbers, rows, shifts)
+    Ok(collect(alloc, numbers, rows, shifts)?)
 }
 
 /// What the workers did, in the order of the scripts.
@@ -70,7 +71,7 @@ fn collect(
     numbers: Numbers,
     mut rows: Vec<Row>,
     shifts: Vec<Shift>,
-) -> Result<Worked, WorkError>
+) -> Result<Worked, AllocError>
     requires none { rows.items ≡ [] }
     requires whole { AreWhole numbers shifts.items }
     ensures { IfOk result (λ worked. AreCollected numbers.count shifts.items (lists_of worked.outcomes.items) worked.sessions.items) }

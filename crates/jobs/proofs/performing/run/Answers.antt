@@ -34,7 +34,7 @@ returns-clause-done g c =
     let scripts = c.in_ok-scripts.scripts.items in
     let texts = map (λ t. t.items) c.args.scripts.now in
     let ordered = subst (λ t. AreScripts t texts scripts) c.prelude.ensures c.in_ok-scripts.ensures.ok in
-    run_done c.args.db.now texts c.args.plan.room db scripts c.in_ok-db.ensures.done ordered c.args.plan.workers c.args.plan.history
+    run_done c.args.db.now texts c.args.plan.workers c.args.plan.room db scripts c.in_ok-db.ensures.done ordered c.args.plan.history
     c.print_run.result (rw c.as_slice.ensures.value at c.print_run.ensures.done)
 
 pub returns-clause-fault : goal.returns-clause-fault
@@ -43,7 +43,8 @@ returns-clause-fault g c =
     let scripts = c.in_ok-scripts.scripts.items in
     let texts = map (λ t. t.items) c.args.scripts.now in
     let ordered = subst (λ t. AreScripts t texts scripts) c.prelude.ensures c.in_ok-scripts.ensures.ok in
-    run_faulted c.args.db.now texts c.args.plan.room db scripts c.in_ok-db.ensures.done ordered c.print_run.result c.print_run.ensures.fault
+    run_faulted c.args.db.now texts c.args.plan.workers c.args.plan.room db scripts c.in_ok-db.ensures.done ordered c.print_run.result
+    c.print_run.ensures.fault
 
 pub returns-clause-refused : goal.returns-clause-refused
 returns-clause-refused g c f =

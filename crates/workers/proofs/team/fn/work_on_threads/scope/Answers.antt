@@ -1,7 +1,7 @@
 use Rattle.std.proofs.Common.{map}
 use Rattle.std.proofs.lemmas.Result.{IfOk-weaker}
 use Rattle.workers.proofs.Teams.{shifts_kept}
-use Rattle.workers.proofs.team.fn.employ.scope.Goals as goal
+use Rattle.workers.proofs.team.fn.work_on_threads.scope.Goals as goal
 
 pub returns : goal.returns
 returns g c =
