@@ -1,13 +1,16 @@
 -- What the sights of a run have in common, before and after its calls.
-use Rattle.std.proofs.Common.{◌≡◌, ℕ, List, Option, Some, refl, sym, ap, subst, ◌∙◌, true, false}
+use Rattle.std.proofs.Common.{◌≡◌, ℕ, List, length, Option, Some, None, refl, sym, ap, subst, ◌∙◌, true, false, arith}
 use Rattle.std.specs.Prelude.{◌==◌, if◌then◌else◌}
+use Rattle.std.specs.FinMap.{get}
 use Rattle.std.proofs.lemmas.Bool.Decides.{Decides-eqb}
 use Rattle.library.specs.declared.library.Ranked.{Ranked}
 use Rattle.ranges.specs.Pairs.{written}
 use Rattle.ranges.specs.Ranges.{Has, Within}
+use Rattle.ranges.specs.declared.range.Range.{Range as Place}
 use Rattle.ranges.proofs.Grown.{within_refl, within_trans}
+use Rattle.bodystore.specs.Stages.{Staged}
 use Rattle.cells.specs.State.{State, FitsReads, with_writes, value_or, with_value}
-use Rattle.cells.specs.Sight.{Sight, WasWritten, Matches, Views, Onward, Looks, Writes, after}
+use Rattle.cells.specs.Sight.{Sight, WasWritten, Matches, Views, Onward, TakesAtMost, Looks, Writes, Stages, after}
 use Rattle.library.specs.Library.{Setting, Verifies}
 use Rattle.cells.specs.Shows.{Shows}
 use Rattle.cells.specs.Lookups.{ForEach}
@@ -26,6 +29,8 @@ onward_refl s =
       reads = λ st h. h;
       read = λ c h. h;
       written = λ c h. h;
+      taken = omega arith;
+      staged = λ words start h. h;
     }
 
 pub onward_trans : {O : Type 0} → (r s t : Sight O) → Onward r s → Onward s t → Onward r t
@@ -40,13 +45,21 @@ onward_trans r s t f g =
       reads = λ st h. f.reads st (g.reads st h);
       read = λ c h. g.read c (f.read c h);
       written = λ c h. g.written c (f.written c h);
+      taken = omega arith;
+      staged = λ words start h. g.staged words start (f.staged words start h);
     }
 
 pub looks_refl : {O : Type 0} → (s : Sight O) → Looks s s
-looks_refl s = record { onward = onward_refl s; writes = refl; taken = refl }
+looks_refl s = record { onward = onward_refl s; writes = refl; taken = refl; staged = refl }
 
 pub looks_trans : {O : Type 0} → (r s t : Sight O) → Looks r s → Looks s t → Looks r t
-looks_trans r s t f g = record { onward = onward_trans r s t f.onward g.onward; writes = g.writes ∙ f.writes; taken = g.taken ∙ f.taken }
+looks_trans r s t f g =
+    record {
+      onward = onward_trans r s t f.onward g.onward;
+      writes = g.writes ∙ f.writes;
+      taken = g.taken ∙ f.taken;
+      staged = g.staged ∙ f.staged;
+    }
 
 pub writes_onward : {O : Type 0} → (cell v : ℕ) (s t : Sight O) → Writes cell v s t → Onward s t
 writes_onward cell v s t w =
@@ -60,6 +73,8 @@ writes_onward cell v s t w =
       reads = λ st h. subst (FitsReads st) w.reads h;
       read = λ c h. (h.0, subst (Has (c, h.0)) (sym w.reads) h.1);
       written = λ c h. written_on c h;
+      taken = omega (arith, w.taken);
+      staged = λ words start h. ap (λ (m : Staged). get m words) w.staged ∙ h;
     }
   where
     written_on : (c : ℕ) → WasWritten s c → WasWritten t c
@@ -79,6 +94,14 @@ writes_cell cell v s t w =
   where
     same_is_same : (n : ℕ) → (n == n) ≡ true
     same_is_same n = (Decides-eqb n n).1 refl
+
+-- to stage words takes at most these
+pub stages_take : {O : Type 0} → (words : List ℕ) (range : Place) (s t : Sight O) → Stages words range s t → TakesAtMost (length words) s t
+stages_take words range s t f = go (get s.staged words) refl
+  where
+    go : (found : Option ℕ) → get s.staged words ≡ found → TakesAtMost (length words) s t
+    go (Some start) e = let taken = (f.again start e).taken in omega (arith, taken)
+    go None e = let taken = (f.anew e).taken in omega (arith, taken)
 
 -- ---- the states that are left possible
 

@@ -1,5 +1,5 @@
 -- What becomes of a state where an assertion is put into an empty slot.
-use Rattle.std.specs.Prelude.{◌≡◌, ◌≢◌, ◌<◌, ◌≤◌, ◌⊎◌, ℕ, ◌+◌, ◌-◌, ◌*◌, ◌^◌, List, All, [], ◌∷◌, ◌++◌, false, nat_eq}
+use Rattle.std.specs.Prelude.{◌≡◌, ◌≢◌, ◌<◌, ◌≤◌, ◌⊎◌, ℕ, ◌+◌, ◌-◌, ◌*◌, ◌^◌, List, All, [], ◌∷◌, ◌++◌, length, false, nat_eq}
 use Rattle.mmsyntax.specs.declared.statement.Assertion.{Assertion}
 use Rattle.mmsyntax.specs.declared.statement.Kind.{Kind}
 use Rattle.mmsyntax.specs.declared.statement.Kind.TheVariants.{Theorem, Axiom}
@@ -58,6 +58,10 @@ abbrev pub FillsAny : {O : Type 0} → ℕ → ℕ → Assertion → List Stored
 FillsAny i rank a kept old new =
     (st : State) (lib : List Ranked) → Matches new st → (shown : Views old st lib) → MayFill old.setting.slots (after old st) lib i a kept
     → Fills old.setting.slots (after new st) lib shown.shows.held i rank a
+
+-- the words of its bodies: of its label, of its statement, and of its steps as they are stored
+abbrev pub bodies_length : Assertion → List StoredStep → ℕ
+bodies_length a kept = length (label_body a.label) + length (statement_body (statement_of a)) + length (proof_body kept)
 
 -- an assertion that has a label, with steps that cite slots, at least one where it is a theorem, and none where it is an axiom
 pub record IsFillable (slots : ℕ) (a : Assertion) (kept : List StoredStep) : Type 0 where

@@ -1,17 +1,20 @@
 -- What a run has seen of the cells and of the store, what it keeps aside, and the states that this leaves possible.
-use Rattle.std.specs.Prelude.{◌≡◌, ◌≢◌, ℕ, ◌+◌, ◌==◌, ◌⊎◌, if◌then◌else◌, List, Bool, true, Some, length}
+use Rattle.std.specs.Prelude.{◌≡◌, ◌≢◌, ℕ, ◌+◌, ◌≤◌, ◌==◌, ◌⊎◌, if◌then◌else◌, List, Bool, true, Some, None, length}
+use Rattle.std.specs.FinMap.{get, insert}
 use Rattle.library.specs.declared.library.Ranked.{Ranked}
 use Rattle.library.specs.Library.{Setting, Verifies}
 use Rattle.ranges.specs.Pairs.{Pairs, written}
 use Rattle.ranges.specs.Ranges.{Range, Has, Within, Names, AreOfOneStore}
 use Rattle.ranges.specs.declared.range.Range.{Range as Place}
+use Rattle.bodystore.specs.Stages.{Staged}
 use Rattle.cells.specs.State.{State, FitsReads, with_writes, most_words}
 use Rattle.cells.specs.Slots.{is_ranged}
 use Rattle.cells.specs.Shows.{Shows}
 
 -- what the run began with, which tells it from every other; the setting of the library; whether it may keep values aside, and whether it
 -- may stage words; the finished ranges that it knows, what it has read from cells, what it keeps aside for cells, how many words of the store
--- were taken by it and by those before it, and how many words the store has room for
+-- were taken by it and by those before it, how many words the store has room for, and which words have a range that was staged since the
+-- last Committed, with where it starts
 pub record Sight (O : Type 0) : Type 0 where
   pub origin : O
   pub setting : Setting
@@ -22,6 +25,7 @@ pub record Sight (O : Type 0) : Type 0 where
   pub writes : Pairs
   pub taken : ℕ
   pub room : ℕ
+  pub staged : Staged
 
 -- the cell was read
 abbrev pub WasRead : {O : Type 0} → Sight O → ℕ → Type 0
@@ -69,7 +73,11 @@ KeepsOthers cell old new = (st : State) (c : ℕ) → c ≢ cell → (after new 
 
 -- ---- what the calls of a run do to its sight
 
--- it is the same run, and nothing that was read, seen or written is lost
+-- what was staged is staged still
+abbrev pub StaysStaged : Staged → Staged → Type 0
+StaysStaged old new = (words : List ℕ) (start : ℕ) → get old words ≡ Some start → get new words ≡ Some start
+
+-- it is the same run, and nothing that was read, seen, written or staged is lost
 pub record Onward {O : Type 0} (old new : Sight O) : Type 0 where
   pub origin : new.origin ≡ old.origin
   pub setting : new.setting ≡ old.setting
@@ -80,12 +88,19 @@ pub record Onward {O : Type 0} (old new : Sight O) : Type 0 where
   pub reads : (st : State) → FitsReads st new.reads → FitsReads st old.reads
   pub read : (c : ℕ) → WasRead old c → WasRead new c
   pub written : (c : ℕ) → WasWritten old c → WasWritten new c
+  pub taken : old.taken ≤ new.taken
+  pub staged : StaysStaged old.staged new.staged
 
--- and what is kept aside stays the same, and no word of the store was taken
+-- at most so many words of the store were taken
+abbrev pub TakesAtMost : {O : Type 0} → ℕ → Sight O → Sight O → Type 0
+TakesAtMost count old new = new.taken ≤ old.taken + count
+
+-- and what is kept aside and what is staged stays the same, and no word of the store was taken
 pub record Looks {O : Type 0} (old new : Sight O) : Type 0 where
   pub onward : Onward old new
   pub writes : new.writes ≡ old.writes
   pub taken : new.taken ≡ old.taken
+  pub staged : new.staged ≡ old.staged
 
 -- the cell was read, with this value: that of every state that may be the one under the run, with what the run keeps aside
 pub record Reads {O : Type 0} (cell v : ℕ) (old new : Sight O) : Type 0 where
@@ -105,14 +120,27 @@ pub record Writes {O : Type 0} (cell v : ℕ) (old new : Sight O) : Type 0 where
   pub reads : new.reads ≡ old.reads
   pub taken : new.taken ≡ old.taken
   pub writes : (c : ℕ) → written c new.writes ≡ (if c == cell then Some v else written c old.writes)
+  pub staged : new.staged ≡ old.staged
 
--- the words are those of a finished range: a new one, or one that was there
+-- the words had this range: it is taken again, and no word of the store
+pub record TakesAgain {O : Type 0} (start : ℕ) (range : Place) (old new : Sight O) : Type 0 where
+  pub start_is : range.start ≡ start
+  pub taken : new.taken ≡ old.taken
+  pub staged : new.staged ≡ old.staged
+
+-- the words had none: just they are taken, and the range is staged besides, if there is memory for it and the cells keep what is staged
+pub record TakesAnew {O : Type 0} (words : List ℕ) (range : Place) (old new : Sight O) : Type 0 where
+  pub taken : new.taken ≡ old.taken + length words
+  pub staged : (new.staged ≡ old.staged) ⊎ (new.staged ≡ insert old.staged words range.start)
+
+-- the words are those of a finished range: one that was staged, where there was one, else a new one
 pub record Stages {O : Type 0} (words : List ℕ) (range : Place) (old new : Sight O) : Type 0 where
   pub onward : Onward old new
   pub writes : new.writes ≡ old.writes
-  pub taken : (new.taken ≡ old.taken) ⊎ (new.taken ≡ old.taken + length words)
   pub finished : Has (record { start = range.start; words = words }) new.ranges
   pub len : range.len ≡ length words
+  pub again : (start : ℕ) → get old.staged words ≡ Some start → TakesAgain start range old new
+  pub anew : get old.staged words ≡ None → TakesAnew words range old new
 
 -- the range is one that the run knows, with these words
 pub record Knows {O : Type 0} (s : Sight O) (range : Place) (words : List ℕ) : Type 0 where

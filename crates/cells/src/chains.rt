@@ -1,7 +1,7 @@
 //! Puts slots into the chains of label buckets, and takes them out.
 
 ghost use Rattle.std.specs.Prelude.{◌≡◌, ◌<◌, true, IfOk};
-ghost use Rattle.cells.specs.Sight.{Sight, Onward};
+ghost use Rattle.cells.specs.Sight.{Sight, Onward, TakesAtMost};
 ghost use Rattle.cells.specs.Chains.{PutsIn, TakesOut};
 
 use crate::cells::Cells;
@@ -17,6 +17,7 @@ pub fn put_in<C: Cells>(cells: &mut C, slot: usize, label: &[u8]) -> Result<(), 
     requires slot { slot < (C.sight cells.old).setting.slots }
     ensures onward { Onward (C.sight cells.old) (C.sight cells.new) }
     ensures ok { IfOk result (λ _. PutsIn slot label.now (C.sight cells.old) (C.sight cells.new)) }
+    ensures taken { TakesAtMost 0 (C.sight cells.old) (C.sight cells.new) }
 {
     let slots = slot_count(cells);
     let front = bucket_cell(slots, bucket(label, slots));
@@ -37,6 +38,7 @@ pub fn take_out<C: Cells>(cells: &mut C, slot: usize, label: &[u8]) -> Result<()
     requires slot { slot < (C.sight cells.old).setting.slots }
     ensures onward { Onward (C.sight cells.old) (C.sight cells.new) }
     ensures ok { IfOk result (λ _. TakesOut slot label.now (C.sight cells.old) (C.sight cells.new)) }
+    ensures taken { TakesAtMost 0 (C.sight cells.old) (C.sight cells.new) }
 {
     let slots = slot_count(cells);
     let next = cells.read(next_cell(slots, slot))?;

@@ -1,7 +1,7 @@
 //! Counts the citers of the assertions that a proof cites.
 
 ghost use Rattle.std.specs.Prelude.{◌≡◌, ◌<◌, true, All, IfOk};
-ghost use Rattle.cells.specs.Sight.{Sight, Onward};
+ghost use Rattle.cells.specs.Sight.{Sight, Onward, TakesAtMost};
 ghost use Rattle.cells.specs.Filling.{AreCitedSlots, CountsAnyIn, CountsAnyOut};
 
 use crate::cells::Cells;
@@ -38,6 +38,7 @@ pub fn count_in<C: Cells>(cells: &mut C, cited: &[usize]) -> Result<(), C::Stop>
     requires slots { All (λ i. i < (C.sight cells.old).setting.slots) cited.now }
     ensures onward { Onward (C.sight cells.old) (C.sight cells.new) }
     ensures ok { IfOk result (λ _. CountsAnyIn cited.now (C.sight cells.old) (C.sight cells.new)) }
+    ensures taken { TakesAtMost 0 (C.sight cells.old) (C.sight cells.new) }
 {
     let _slots = slot_count(cells);
     for slot in cited {
@@ -56,6 +57,7 @@ pub fn count_out<C: Cells>(cells: &mut C, cited: &[usize]) -> Result<(), C::Stop
     requires { (C.sight cells.old).may_write ≡ true }
     ensures onward { Onward (C.sight cells.old) (C.sight cells.new) }
     ensures ok { IfOk result (λ _. CountsAnyOut cited.now (C.sight cells.old) (C.sight cells.new)) }
+    ensures taken { TakesAtMost 0 (C.sight cells.old) (C.sight cells.new) }
 {
     let slots = slot_count(cells);
     for slot in cited {

@@ -1,11 +1,12 @@
 //! Puts an assertion into an empty slot.
 
-ghost use Rattle.std.specs.Prelude.{◌≡◌, ◌≢◌, ◌<◌, [], true, false, IfOk};
+ghost use Rattle.std.specs.Prelude.{◌≡◌, ◌≢◌, ◌<◌, [], length, true, false, IfOk};
 ghost use Rattle.mmsyntax.specs.declared.statement.Kind.TheVariants.{Theorem};
+ghost use Rattle.bodystore.specs.Bodies.{proof_body};
 ghost use Rattle.cells.specs.State.{State, HasBody, with_value};
 ghost use Rattle.cells.specs.Slots.{cell_count, is_ranged, name_cell, proof_cell};
-ghost use Rattle.cells.specs.Sight.{Sight, WasWritten, ForEachState, Turns, KeepsOthers, Onward, after};
-ghost use Rattle.cells.specs.Filling.{FillsAny, IsFillable, LaysAnyDown, LaysProof, Empties};
+ghost use Rattle.cells.specs.Sight.{Sight, WasWritten, ForEachState, Turns, KeepsOthers, Onward, TakesAtMost, after};
+ghost use Rattle.cells.specs.Filling.{bodies_length, FillsAny, IsFillable, LaysAnyDown, LaysProof, Empties};
 
 use crate::cells::Cells;
 use crate::chains::put_in;
@@ -17,7 +18,7 @@ use mmsyntax::{Assertion, Kind};
 use std::alloc::Global;
 
 /// Puts an assertion with its rank into an empty slot: stages its label, its statement and its proof, in this order, writes the slot's
-/// cells, counts its citations, and puts the slot into the chain of its label's bucket.
+/// cells, counts its citations, and puts the slot into the chain of its label's bucket. It takes at most the words of these three bodies.
 ///
 /// The steps of the proof are given as they are stored. An axiom has none.
 ///
@@ -38,6 +39,7 @@ pub fn fill<C: Cells>(
     ensures onward { Onward (C.sight cells.old) (C.sight cells.new) }
     ensures ok { IfOk result (λ _. FillsAny slot rank assertion.now steps.now (C.sight cells.old) (C.sight cells.new)) }
     ensures written { IfOk result (λ _. WasWritten (C.sight cells.new) (name_cell slot)) }
+    ensures taken { TakesAtMost (bodies_length assertion.now steps.now) (C.sight cells.old) (C.sight cells.new) }
 {
     lay_down(alloc, cells, slot, rank, assertion, steps)?;
     let cited = cited_slots(alloc, steps)?;
@@ -61,6 +63,7 @@ fn lay_down<C: Cells>(
     ensures onward { Onward (C.sight cells.old) (C.sight cells.new) }
     ensures ok { IfOk result (λ _. LaysAnyDown slot rank assertion.now steps.now (C.sight cells.old) (C.sight cells.new)) }
     ensures written { IfOk result (λ _. WasWritten (C.sight cells.new) (name_cell slot)) }
+    ensures taken { TakesAtMost (bodies_length assertion.now steps.now) (C.sight cells.old) (C.sight cells.new) }
 {
     let _slots = slot_count(cells);
     let label = encode_label(alloc, assertion.label.as_slice())?;
@@ -86,6 +89,7 @@ fn put_proof<C: Cells>(
     ensures onward { Onward (C.sight cells.old) (C.sight cells.new) }
     ensures ok { IfOk result (λ _. Turns (C.sight cells.old) (C.sight cells.new) (λ st next. LaysProof st next slot kind steps.now)) }
     ensures others { IfOk result (λ _. KeepsOthers (proof_cell slot) (C.sight cells.old) (C.sight cells.new)) }
+    ensures taken { TakesAtMost (length (proof_body steps.now)) (C.sight cells.old) (C.sight cells.new) }
 {
     let _slots = slot_count(cells);
     match kind {
@@ -105,13 +109,14 @@ pub fn put<C: Cells>(cells: &mut C, cell: usize, value: u64) -> Result<(), C::St
     ensures onward { Onward (C.sight cells.old) (C.sight cells.new) }
     ensures ok { IfOk result (λ _. (st : State) → after (C.sight cells.new) st ≡ with_value cell value (after (C.sight cells.old) st)) }
     ensures written { IfOk result (λ _. WasWritten (C.sight cells.new) cell) }
+    ensures taken { TakesAtMost 0 (C.sight cells.old) (C.sight cells.new) }
 {
     cells.read(cell)?;
     cells.write(cell, value);
     Ok(())
 }
 
-/// Stages words and has a cell name their range.
+/// Stages words and has a cell name their range. It takes at most these words, and none where they were staged.
 pub fn put_body<C: Cells>(cells: &mut C, cell: usize, words: &[u64]) -> Result<(), C::Stop>
     requires may { ((C.sight cells.old).may_write ≡ true) × ((C.sight cells.old).may_stage ≡ true) }
     requires cell { cell < cell_count (C.sight cells.old).setting.slots }
@@ -120,6 +125,7 @@ pub fn put_body<C: Cells>(cells: &mut C, cell: usize, words: &[u64]) -> Result<(
     ensures ok { IfOk result (λ _. ForEachState (C.sight cells.new) (λ st. HasBody st cell words.now)) }
     ensures others { IfOk result (λ _. KeepsOthers cell (C.sight cells.old) (C.sight cells.new)) }
     ensures written { IfOk result (λ _. WasWritten (C.sight cells.new) cell) }
+    ensures taken { TakesAtMost (length words.now) (C.sight cells.old) (C.sight cells.new) }
 {
     let range = cells.stage(words)?;
     cells.read(cell)?;
@@ -138,6 +144,7 @@ pub fn vacate<C: Cells>(cells: &mut C, slot: usize) -> Result<(), C::Stop>
     ensures onward { Onward (C.sight cells.old) (C.sight cells.new) }
     ensures ok { IfOk result (λ _. (st : State) → Empties slot (after (C.sight cells.old) st) (after (C.sight cells.new) st)) }
     ensures written { IfOk result (λ _. WasWritten (C.sight cells.new) (name_cell slot)) }
+    ensures taken { TakesAtMost 0 (C.sight cells.old) (C.sight cells.new) }
 {
     let _slots = slot_count(cells);
     for part in 0..5 {

@@ -23,3 +23,4 @@ pub mod Transactions
 pub mod Allowed
 pub mod Recited
 pub mod Replaced
+pub mod Taking

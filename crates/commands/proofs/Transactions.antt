@@ -2,6 +2,7 @@
 use Rattle.std.proofs.Common.{◌≡◌, ◌+◌, ℕ, Bool, true, false, List, [], ◌∷◌, ◌++◌, Result, Ok, Err, length, refl, sym}
 use Rattle.std.proofs.Common.{ap, subst, ◌∙◌, arith}
 use Rattle.std.specs.Prelude.{◌||◌, All}
+use Rattle.std.proofs.lemmas.List.Sums.{sum_by-append, sum_by-cons}
 use Rattle.library.specs.declared.library.Ranked.{Ranked}
 use Rattle.library.specs.declared.command.Command.{Command}
 use Rattle.library.specs.declared.command.Reply.{Reply}
@@ -13,11 +14,13 @@ use Rattle.library.specs.Edits.{Edited, edit, is_edit}
 use Rattle.library.specs.Transactions.{Applied, with_reply, then_apply, apply_from, has_edit}
 use Rattle.library.proofs.Editing.{apply_verifies}
 use Rattle.cells.specs.State.{State}
-use Rattle.cells.specs.Sight.{Sight, Matches, Views, Onward}
+use Rattle.cells.specs.Sight.{Sight, Matches, Views, Onward, TakesAtMost}
 use Rattle.cells.proofs.Sights.{looks_refl, looks_trans, matches_back}
-use Rattle.cells.specs.Answers.{WritesIfEdit, error_at, Does, IsRefused, CommandAnswers, DoesAll, RefusesAll, RunAnswers}
+use Rattle.cells.specs.Answers.{ForEachBefore, WritesIfEdit, error_at, Does, IsRefused, CommandAnswers, DoesAll, RefusesAll, RunAnswers}
 use Rattle.cells.specs.declared.ending.CommandError.{CommandError}
 use Rattle.cells.specs.declared.ending.CommandError.TheVariants as command
+use Rattle.commands.specs.Takes.{command_words, TakesBodies, most_words_of}
+use Rattle.commands.proofs.Taking.{few_words}
 
 -- ---- over a library
 
@@ -104,6 +107,10 @@ apply_refused s n lib (d ∷ cs) c more a reason h is =
 
 -- ---- over cells
 
+-- no command takes no word
+pub takes_none : {O : Type 0} → (s : Sight O) → ForEachBefore s s (λ st lib. TakesAtMost (most_words_of []) s s)
+takes_none s st lib m v = omega arith
+
 pub does_none : {O : Type 0} → (s : Sight O) → DoesAll s s [] []
 does_none s = record { applies = λ st lib m v. (lib, apply_none s.setting 1 lib, v.shows); writes = looks_refl s }
 
@@ -150,6 +157,17 @@ module _ {O : Type 0} (s t u : Sight O) (cs : List Command) (replies : List Repl
             (e.0, apply_more s.setting 1 lib cs c (record { library = now.next; replies = replies }) edited now.applied is, e.2);
         writes = subst (λ b. WritesIfEdit b s u) (has_edit_more cs c) (writes_on (has_edit cs) (is_edit c) s t u on does.writes one.writes);
       }
+
+  -- and takes at most the words of one more
+  pub takes_more : (c : Command) → TakesBodies c t u → ForEachBefore s t (λ st lib. TakesAtMost (most_words_of cs) s t)
+      → ForEachBefore s u (λ st lib. TakesAtMost (most_words_of (cs ++ c ∷ [])) s u)
+  takes_more c one before st lib m v =
+      let now = made st lib m v in
+      let first = before st lib now.views.matches v in
+      let then = one st now.next m now.views in
+      let few = few_words t.setting now.next now.views.verifies c in
+      let words = command_words (λ label. 16384) in
+      omega (arith, first, then, few, sum_by-append words cs (c ∷ []), sum_by-cons words c [])
 
   pub refuses_more : (c : Command) (more : List Command) (reason : Reason) → IsRefused t u c reason
       → RefusesAll s u (cs ++ c ∷ more) (record { index = 1 + length cs; reason = reason })

@@ -4,3 +4,4 @@ pub mod Naming
 pub mod Listing
 pub mod Looking
 pub mod Replacing
+pub mod Takes

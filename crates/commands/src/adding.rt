@@ -5,6 +5,7 @@ ghost use Rattle.library.specs.declared.command.Command.TheVariants as command;
 ghost use Rattle.library.specs.Fitting.{CommandFits};
 ghost use Rattle.cells.specs.Sight.{Onward};
 ghost use Rattle.cells.specs.Answers.{CommandAnswers};
+ghost use Rattle.commands.specs.Takes.{TakesBodies};
 
 use crate::citing::test_proof;
 use crate::naming::test_new_label;
@@ -28,6 +29,7 @@ pub(crate) fn add<C: Cells>(
     requires fits { CommandFits prelude.now (command.Add rank assertion.now) }
     ensures onward { Onward (C.sight cells.old) (C.sight cells.new) }
     ensures answers { CommandAnswers (C.sight cells.old) (C.sight cells.new) (command.Add rank assertion.now) result }
+    ensures taken { TakesBodies (command.Add rank assertion.now) (C.sight cells.old) (C.sight cells.new) }
 {
     let label = assertion.label.as_slice();
     if rank == 0 {

@@ -1,11 +1,12 @@
 //! Gives an assertion another label.
 
-ghost use Rattle.std.specs.Prelude.{◌≡◌, ◌≢◌, ◌<◌, [], true, IfOk};
+ghost use Rattle.std.specs.Prelude.{◌≡◌, ◌≢◌, ◌<◌, [], length, true, IfOk};
 ghost use Rattle.library.specs.declared.command.Command.TheVariants as command;
-ghost use Rattle.cells.specs.Sight.{Onward};
+ghost use Rattle.cells.specs.Sight.{Onward, TakesAtMost};
 ghost use Rattle.bodystore.specs.Bodies.{label_body};
 ghost use Rattle.cells.specs.Answers.{CommandAnswers, WritesSome};
 ghost use Rattle.commands.specs.Changes.{RenamesAt};
+ghost use Rattle.commands.specs.Takes.{TakesBodies};
 
 use crate::naming::test_new_label;
 use bodystore::encode_label;
@@ -27,6 +28,7 @@ pub(crate) fn rename<C: Cells>(
     requires prelude { prelude.now ≡ (C.sight cells.old).setting.prelude }
     ensures onward { Onward (C.sight cells.old) (C.sight cells.new) }
     ensures answers { CommandAnswers (C.sight cells.old) (C.sight cells.new) (command.Rename old.now new.now) result }
+    ensures taken { TakesBodies (command.Rename old.now new.now) (C.sight cells.old) (C.sight cells.new) }
 {
     let Some(slot) = find(cells, old.as_slice()).map_err(Halt::Stopped)? else {
         return Err(Reason::UnknownLabel.into());
@@ -52,6 +54,7 @@ fn relabel<C: Cells>(
     ensures onward { Onward (C.sight cells.old) (C.sight cells.new) }
     ensures written { IfOk result (λ _. WritesSome (C.sight cells.new)) }
     ensures ok { IfOk result (λ _. RenamesAt (C.sight cells.old) (C.sight cells.new) slot old.now new.now) }
+    ensures taken { TakesAtMost (length body.now) (C.sight cells.old) (C.sight cells.new) }
 {
     let _slots = slot_count(cells);
     put_body(cells, name_cell(slot), body)?;

@@ -6,6 +6,7 @@ ghost use Rattle.cells.specs.Sight.{Onward, Looks};
 ghost use Rattle.cells.specs.Lookups.{Finds};
 ghost use Rattle.cells.specs.Answers.{CommandAnswers};
 ghost use Rattle.commands.specs.Replacing.{TellsUnknown, TellsAlike, TellsNotLower, recited_step};
+ghost use Rattle.commands.specs.Takes.{TakesBodies};
 
 use crate::reproving::put_steps;
 use bodystore::StoredStep;
@@ -29,6 +30,7 @@ pub(crate) fn replace<C: Cells>(
     requires prelude { prelude.now ≡ (C.sight cells.old).setting.prelude }
     ensures onward { Onward (C.sight cells.old) (C.sight cells.new) }
     ensures answers { CommandAnswers (C.sight cells.old) (C.sight cells.new) (command.Replace label.now old.now new.now) result }
+    ensures taken { TakesBodies (command.Replace label.now old.now new.now) (C.sight cells.old) (C.sight cells.new) }
 {
     let slot = slot_of(cells, label)?;
     let former = slot_of(cells, old)?;

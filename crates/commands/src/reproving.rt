@@ -1,11 +1,13 @@
 //! Gives a theorem another proof.
 
-ghost use Rattle.std.specs.Prelude.{◌≡◌, ◌≢◌, ◌<◌, [], true, List, IfOk};
+ghost use Rattle.std.specs.Prelude.{◌≡◌, ◌≢◌, ◌<◌, [], true, List, length, IfOk};
 ghost use Rattle.library.specs.declared.command.Command.TheVariants as command;
-ghost use Rattle.cells.specs.Sight.{Onward};
+ghost use Rattle.bodystore.specs.Bodies.{proof_body};
+ghost use Rattle.cells.specs.Sight.{Onward, TakesAtMost};
 ghost use Rattle.cells.specs.Lookups.{AreWithin};
 ghost use Rattle.cells.specs.Answers.{CommandAnswers, WritesSome};
 ghost use Rattle.commands.specs.Changes.{ReprovesAt};
+ghost use Rattle.commands.specs.Takes.{TakesBodies};
 
 use crate::citing::test_proof;
 use bodystore::{StoredStep, encode_proof};
@@ -29,6 +31,7 @@ pub(crate) fn reprove<C: Cells>(
     requires prelude { prelude.now ≡ (C.sight cells.old).setting.prelude }
     ensures onward { Onward (C.sight cells.old) (C.sight cells.new) }
     ensures answers { CommandAnswers (C.sight cells.old) (C.sight cells.new) (command.Reprove label.now steps.now) result }
+    ensures taken { TakesBodies (command.Reprove label.now steps.now) (C.sight cells.old) (C.sight cells.new) }
 {
     let Some(slot) = find(cells, label.as_slice()).map_err(Halt::Stopped)? else {
         return Err(Reason::UnknownLabel.into());
@@ -59,6 +62,7 @@ pub(crate) fn put_steps<C: Cells>(
     ensures onward { Onward (C.sight cells.old) (C.sight cells.new) }
     ensures written { IfOk result (λ _. WritesSome (C.sight cells.new)) }
     ensures ok { IfOk result (λ _. (label : List _) → ReprovesAt (C.sight cells.old) (C.sight cells.new) slot label kept.now) }
+    ensures taken { TakesAtMost (length (proof_body kept.now)) (C.sight cells.old) (C.sight cells.new) }
 {
     let _slots = slot_count(cells);
     let former = stored_proof(alloc, cells, slot)?;

@@ -2,8 +2,9 @@
 
 ghost use Rattle.std.specs.Prelude.{◌≡◌, All};
 ghost use Rattle.library.specs.Fitting.{CommandFits};
-ghost use Rattle.cells.specs.Sight.{Onward};
-ghost use Rattle.cells.specs.Answers.{MayDo, CommandAnswers, RunAnswers};
+ghost use Rattle.cells.specs.Sight.{Onward, TakesAtMost};
+ghost use Rattle.cells.specs.Answers.{ForEachBefore, MayDo, CommandAnswers, RunAnswers};
+ghost use Rattle.commands.specs.Takes.{TakesBodies, most_words_of};
 
 use crate::adding::add;
 use crate::deleting::delete;
@@ -39,6 +40,7 @@ pub fn run<C: Cells>(
     requires fits { All (CommandFits prelude.now) commands.now }
     ensures onward { Onward (C.sight cells.old) (C.sight cells.new) }
     ensures answers { RunAnswers (C.sight cells.old) (C.sight cells.new) commands.now result }
+    ensures taken { ForEachBefore (C.sight cells.old) (C.sight cells.new) (λ st lib. TakesAtMost (most_words_of commands.now) (C.sight cells.old) (C.sight cells.new)) }
 {
     let mut replies = Vec::new(alloc);
     for (done, command) in commands.iter().enumerate() {
@@ -66,6 +68,7 @@ pub fn take<C: Cells>(
     requires fits { CommandFits prelude.now command.now }
     ensures onward { Onward (C.sight cells.old) (C.sight cells.new) }
     ensures answers { CommandAnswers (C.sight cells.old) (C.sight cells.new) command.now result }
+    ensures taken { TakesBodies command.now (C.sight cells.old) (C.sight cells.new) }
 {
     match command {
         Command::Add { rank, assertion } => add(alloc, prelude, cells, *rank, assertion),

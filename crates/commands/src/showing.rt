@@ -5,6 +5,7 @@ ghost use Rattle.library.specs.declared.command.Command.TheVariants as command;
 ghost use Rattle.cells.specs.Sight.{Onward, Looks};
 ghost use Rattle.cells.specs.Answers.{CommandAnswers};
 ghost use Rattle.commands.specs.Listing.{line_cmp, TellsLine, AreAllLines};
+ghost use Rattle.commands.specs.Takes.{TakesBodies};
 
 use cells::{
     Cells, CommandError, Halt, citers, entry, find, is_full, kind, label, rank, slot_count,
@@ -22,6 +23,7 @@ pub(crate) fn show<C: Cells>(
 ) -> Result<Reply, CommandError<C::Stop>>
     ensures onward { Onward (C.sight cells.old) (C.sight cells.new) }
     ensures answers { CommandAnswers (C.sight cells.old) (C.sight cells.new) (command.Show label.now) result }
+    ensures taken { TakesBodies (command.Show label.now) (C.sight cells.old) (C.sight cells.new) }
 {
     let Some(slot) = find(cells, label.as_slice()).map_err(Halt::Stopped)? else {
         return Err(Reason::UnknownLabel.into());
@@ -35,6 +37,7 @@ pub(crate) fn show<C: Cells>(
 pub(crate) fn list<C: Cells>(alloc: Global, cells: &mut C) -> Result<Reply, CommandError<C::Stop>>
     ensures onward { Onward (C.sight cells.old) (C.sight cells.new) }
     ensures answers { CommandAnswers (C.sight cells.old) (C.sight cells.new) command.List result }
+    ensures taken { TakesBodies command.List (C.sight cells.old) (C.sight cells.new) }
 {
     let mut lines = all_lines(alloc, cells)?;
     lines.sort_unstable_by(compare);

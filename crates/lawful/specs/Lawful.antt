@@ -1,5 +1,6 @@
 -- Which transactions on the cells of a library are lawful: those that do what their notes say, to every library that the cells may show.
 use Rattle.std.specs.Prelude.{◌≡◌, ℕ, List, [], Ok, Err, All, length, slice_index, true, false}
+use Rattle.std.specs.FinMap.{empty}
 use Rattle.library.specs.declared.library.Ranked.{Ranked}
 use Rattle.library.specs.declared.command.Command.{Command}
 use Rattle.library.specs.declared.command.Reply.{Reply}
@@ -64,7 +65,7 @@ DoesAsSaid s (Refused commands refused) =
 DoesAsSaid s (Looked library) =
     (library.value.setting ≡ s.setting) × (s.writes ≡ []) × ForEachUnder s (λ st lib. ShowsInOrder lib library.value.entries)
 
--- what a run has seen that knows these ranges, with its reads and writes. How many words of the store it took is no matter here
+-- what a run has seen that knows these ranges, with its reads and writes. What it took of the store and staged is no matter here
 abbrev pub sight_of : Given → List Range → Pairs → Pairs → Sight (Unit {0})
 sight_of g ranges reads writes =
     record {
@@ -77,6 +78,7 @@ sight_of g ranges reads writes =
       writes = writes;
       taken = 0;
       room = most_words;
+      staged = empty;
     }
 
 -- the transaction with these reads, writes and note is lawful for these ranges

@@ -1,5 +1,5 @@
 -- When the words let a run end with a note, and that nothing that was seen is lost by its end.
-use Rattle.std.proofs.Common.{◌≡◌, Option, Some, None, sym, ap, refl, ◌∙◌, subst}
+use Rattle.std.proofs.Common.{◌≡◌, ℕ, Option, Some, None, sym, ap, refl, ◌∙◌, subst}
 use Rattle.tlwords.specs.declared.outcome.Conflict.{Conflict}
 use Rattle.tlwords.specs.declared.outcome.Outcome.{Outcome as Answer}
 use Rattle.tlwords.specs.declared.outcome.Outcome.TheVariants.{Committed as EndsDone, Read as EndsRead, Conflict as EndsConflict, NumbersUsed}
@@ -13,7 +13,7 @@ use Rattle.bodystore.specs.Stages.{Staged}
 use Rattle.lawful.specs.declared.notes.Note.{Note}
 use Rattle.lawful.specs.Lawful.{library_terms}
 use Rattle.lending.specs.Lent.{Pass, Lending, IsLent}
-use Rattle.lending.specs.Ends.{IsLawfulWith}
+use Rattle.lending.specs.Ends.{IsLawfulWith, staged_after}
 
 module _ (l : Lending) (stage : Staged) (over : Option Conflict) (i : IsLent l stage over) where
   -- a note of which the run is lawful is one with which the words let it commit
@@ -30,6 +30,31 @@ ends_grow note l k (EndsDone number) h = h.1.grows
 ends_grow note l k (EndsRead place) h = h.2.grows
 ends_grow note l k (EndsConflict c drawn) h = h.1.grows
 ends_grow note l k NumbersUsed h = subst (λ (x : Pass). SeenGrows l.going.known.seen x.seen) (sym h.2) (seen_refl l.going.known.seen)
+
+-- what was staged stays where a run didn't commit
+pub still_staged : (a : Answer) (staged : Staged) → ((number : ℕ) → a ≡ EndsDone number → ⊥) → staged ≡ staged_after a staged
+still_staged (EndsDone number) staged none = absurd (none number refl)
+still_staged (EndsRead place) staged none = refl
+still_staged (EndsConflict c drawn) staged none = refl
+still_staged NumbersUsed staged none = refl
+
+-- a commit takes no word of the store
+ends_taken : (note : Note) (l : Lending) (k : Pass) (a : Answer) → Ends library_terms note l.going k a → k.taken ≡ l.going.known.taken
+ends_taken note l k (EndsDone number) h = ap (λ (x : Pass). x.taken) h.1.is
+ends_taken note l k (EndsRead place) h = ap (λ (x : Pass). x.taken) h.2.is
+ends_taken note l k (EndsConflict c None) h = ap (λ (x : Pass). x.taken) h.1.entry
+ends_taken note l k (EndsConflict c (Some number)) h = let e = h.1.entry in ap (λ (x : Pass). x.taken) e.4
+ends_taken note l k NumbersUsed h = ap (λ (x : Pass). x.taken) h.2
+
+-- so does the end of a run that had met a conflict
+pub ended_taken : (note : Note) (l : Lending) (k : Pass) (a : Answer)
+    → ((c : Conflict) → l.going.over ≡ Some c → (a ≡ EndsConflict c None) × (k ≡ l.going.known))
+    → (l.going.over ≡ None → Ends library_terms note l.going k a) → k.taken ≡ l.going.known.taken
+ended_taken note l k a met ended = go l.going.over refl
+  where
+    go : (o : Option Conflict) → l.going.over ≡ o → k.taken ≡ l.going.known.taken
+    go None e = ends_taken note l k a (ended e)
+    go (Some c) e = ap (λ (x : Pass). x.taken) (met c e).1
 
 -- after the end of a run, one that had met a conflict too
 pub ended_grows : (note : Note) (l : Lending) (k : Pass) (a : Answer)

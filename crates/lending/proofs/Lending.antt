@@ -66,13 +66,13 @@ base_count l stage over i =
 
 -- the run among the fields of the code
 abbrev pub lending_in : Inside → Lending
-lending_in s = record { given = s.given.value; began = s.began.value; going = s.run; may_stage = s.may_stage; full = s.full }
+lending_in s = record { given = s.given.value; began = s.began.value; going = s.run; may_stage = s.may_stage; full = s.full; staged = s.stage }
 
 -- ---- it begins
 
 module _ (g : Given) (k : Pass) (stage : Staged) (mode : Mode) (may : Bool) (r : Going Given Note) (b : Begins library_terms mode k r) where
   abbrev begun : Lending
-  begun = record { given = g; began = k; going = r; may_stage = may; full = false }
+  begun = record { given = g; began = k; going = r; may_stage = may; full = false; staged = stage }
 
   unread : (c : ℕ) → WasRead (sight_of begun) c → ⊥
   unread c w = subst (Has (c, w.0)) (ap (λ (x : Going Given Note). x.reads) b.is) w.1
@@ -114,10 +114,10 @@ module _ (g : Given) (k : Pass) (stage : Staged) (mode : Mode) (may : Bool) (r :
 pub began_lent : (g : Given) (k : Pass) (stage : Staged) (mode : Mode) (may : Bool) (told : Given) (pass known : Pass) (r : Going Given Note)
     → pass ≡ k → told ≡ g → known ≡ pass → Begins library_terms mode pass r → IsPassOn g k
     → length pass.seen.history ≤ r.place → AreStaged pass.seen.ranges stage
-    → IsLent (record { given = told; began = known; going = r; may_stage = may; full = false }) stage None
+    → IsLent (record { given = told; began = known; going = r; may_stage = may; full = false; staged = stage }) stage None
 began_lent g k stage mode may told pass known r f m n b on placed staged =
-    subst (λ (x : Given). IsLent (record { given = x; began = known; going = r; may_stage = may; full = false }) stage None) (sym m)
-    (subst (λ (x : Pass). IsLent (record { given = g; began = x; going = r; may_stage = may; full = false }) stage None) (sym n)
+    subst (λ (x : Given). IsLent (record { given = x; began = known; going = r; may_stage = may; full = false; staged = stage }) stage None) (sym m)
+    (subst (λ (x : Pass). IsLent (record { given = g; began = x; going = r; may_stage = may; full = false; staged = stage }) stage None) (sym n)
     (begins_lent g pass stage mode may r b (subst (IsPassOn g) (sym f) on) placed staged))
 
 -- ---- a read is noted
@@ -184,6 +184,25 @@ read_on l seen cell word value slots =
 -- with other slots
 abbrev pub slots_on : Lending → List Slot → Lending
 slots_on l slots = record l { going = record l.going { slots = slots } }
+
+-- what is so of a run doesn't hang on what it shows of its stage
+restaged : (l : Lending) (next : Staged) (over : Option Conflict) → IsLent l next over → IsLent (record l { staged = next }) next over
+restaged l next over i =
+    record {
+      on = i.on;
+      since = i.since;
+      grows = i.grows;
+      placed = i.placed;
+      stands = i.stands;
+      unnoted = i.unnoted;
+      read = i.read;
+      kept = i.kept;
+      named = i.named;
+      staged = i.staged;
+      over_is = i.over_is;
+      met = i.met;
+      full = i.full;
+    }
 
 module _ (l : Lending) (stage : Staged) (over : Option Conflict) (i : IsLent l stage over) where
   later_lent : (seen : Seen Note) (looked full : Option (ℕ × ℕ)) (taken added : ℕ) (now : Option Conflict) (no_room : Bool)
@@ -266,8 +285,9 @@ module _ (l : Lending) (stage : Staged) (over : Option Conflict) (i : IsLent l s
   -- words were staged, and noted or not
   pub staged_lent : {A E : Type 0} (words : List ℕ) (start : ℕ) (r : Going Given Note) (next : Staged) (made : Result A E)
       → HasStaged library_terms words start l.going r → OnOk made (next ≡ insert stage words start) → OnErr made (next ≡ stage)
-      → IsLent (record l { going = r }) next over
-  staged_lent words start r next made h ok err = stages_lent words start r next h (noted_or_not words start r next made h ok err)
+      → IsLent (record l { going = r; staged = next }) next over
+  staged_lent words start r next made h ok err =
+      restaged (record l { going = r }) next over (stages_lent words start r next h (noted_or_not words start r next made h ok err))
 
   -- a staging was refused
   pub refused_lent : (count : ℕ) (r : Going Given Note) → l.may_stage ≡ true → IsRefused library_terms count l.going r

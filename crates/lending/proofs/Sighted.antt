@@ -1,6 +1,13 @@
 -- What the steps of a run of a session do to what commands see of it.
-use Rattle.std.proofs.Common.{◌≡◌, ℕ, ◌+◌, ◌==◌, if◌then◌else◌, inl, inr, Bool, true, is_some, Option, Some, None, List, length}
-use Rattle.std.proofs.Common.{eq-eqb, ne_eqb, refl, sym, ap, ◌∙◌, subst, min}
+use Rattle.std.proofs.Common.{◌≡◌, ℕ, ◌+◌, ◌≤◌, ◌⊎◌, ◌==◌, if◌then◌else◌, inl, inr, Bool, true, is_some, Option, Some, None, List, length}
+use Rattle.std.proofs.Common.{eq-eqb, ne_eqb, refl, sym, ap, ◌∙◌, subst, min, arith}
+use Rattle.std.specs.Prelude.{Result, Ok, Err, OnOk, OnErr}
+use Rattle.std.specs.Cmp.Lexicographic.{slice_cmp, nat_list_cmp_total, bytes_decides}
+use Rattle.std.specs.FinMap.{get, insert, get-insert}
+use Rattle.std.specs.Option.{option_map}
+use Rattle.std.specs.Ordering.{nat_cmp, is_eq}
+use Rattle.std.proofs.lemmas.Bool.{cases_Bool, cond-false}
+use Rattle.std.proofs.lemmas.Map.Text.{is_eq-slice_cmp}
 use mathlib.Core.Logic.{dite}
 use native.Mathlib.Decide.{ℕ_discrete}
 use Rattle.ranges.specs.declared.range.Range.{Range as Place}
@@ -12,10 +19,11 @@ use Rattle.tlwords.specs.Known.{Going}
 use Rattle.tlwords.specs.Runs.{value_kept, HasKept}
 use Rattle.tlwords.specs.Commits.{writes_kept}
 use Rattle.tlwords.specs.Calls.{HasRead, HasStopped, HasLoaded, HasStaged, IsRefused}
-use Rattle.bodystore.specs.Stages.{Staged}
+use Rattle.bodystore.specs.Stages.{Staged, range_at}
+use Rattle.bodystore.proofs.Staging.{found_is_staged}
 use Rattle.cells.specs.State.{value_or}
-use Rattle.cells.specs.Sight.{Onward, Looks, Reads, Writes, Stages}
-use Rattle.cells.proofs.Sights.{looks_refl}
+use Rattle.cells.specs.Sight.{StaysStaged, Onward, Looks, Reads, Writes, Stages}
+use Rattle.cells.proofs.Sights.{onward_refl, looks_refl}
 use Rattle.lawful.specs.declared.notes.Given.{Given}
 use Rattle.lawful.specs.declared.notes.Note.{Note}
 use Rattle.lawful.specs.Lawful.{library_terms}
@@ -26,8 +34,9 @@ use Rattle.lending.proofs.Lending.{pass_on, noted_values, noted_writes, later, r
 -- ---- nothing is lost
 
 later_onward : (l : Lending) (seen : Seen Note) (looked full : Option (ℕ × ℕ)) (taken added : ℕ) (over : Option Conflict) (no_room : Bool)
-    → SeenGrows l.going.known.seen seen → Onward (sight_of l) (sight_of (later l seen looked full taken added over no_room))
-later_onward l seen looked full taken added over no_room grows =
+    → l.going.known.taken ≤ taken → SeenGrows l.going.known.seen seen
+    → Onward (sight_of l) (sight_of (later l seen looked full taken added over no_room))
+later_onward l seen looked full taken added over no_room more grows =
     record {
       origin = refl;
       setting = refl;
@@ -38,13 +47,20 @@ later_onward l seen looked full taken added over no_room grows =
       reads = λ st f. f;
       read = λ c w. w;
       written = λ c w. w;
+      taken = more;
+      staged = λ words start w. w;
     }
 
 later_looks : (l : Lending) (seen : Seen Note) (looked full : Option (ℕ × ℕ)) (added : ℕ) (over : Option Conflict) (no_room : Bool)
     → SeenGrows l.going.known.seen seen
     → Looks (sight_of l) (sight_of (later l seen looked full l.going.known.taken added over no_room))
 later_looks l seen looked full added over no_room grows =
-    record { onward = later_onward l seen looked full l.going.known.taken added over no_room grows; writes = refl; taken = refl }
+    record {
+      onward = later_onward l seen looked full l.going.known.taken added over no_room (omega arith) grows;
+      writes = refl;
+      taken = refl;
+      staged = refl;
+    }
 
 -- a word was loaded
 pub loads_look : (l : Lending) (r : Going Given Note) → HasLoaded library_terms l.going r
@@ -74,20 +90,93 @@ refused_look l count r (inr (tail, h)) =
 
 -- ---- words are staged
 
-pub stages_sight : (l : Lending) (words : List ℕ) (range : Place) (r : Going Given Note)
-    → HasStaged library_terms words range.start l.going r
-    → range.len ≡ length words → Stages words range (sight_of l) (sight_of (record l { going = r }))
-stages_sight l words range r h len =
+-- a range that is staged besides changes none of those that were
+stays_staged : (stage : Staged) (words : List ℕ) (start : ℕ) → get stage words ≡ None → StaysStaged stage (insert stage words start)
+stays_staged stage words start none others place is =
+    let at = get-insert nat_list_cmp_total stage words start others in
+    elim (cases_Bool (is_eq (slice_cmp nat_cmp others words))) [
+      | inl y ↦
+          let same : others ≡ words = (bytes_decides others words).0 (sym (is_eq-slice_cmp others words) ∙ y) in
+          absurd (let clash : Some place ≡ None = sym is ∙ ap (get stage) same ∙ none in cc)
+      | inr n ↦ at ∙ cond-false _ (Some start) (get stage others) n ∙ is
+    ]
+
+-- and so where there is no memory for the note
+stays_or_not : {A E : Type 0} (stage next : Staged) (words : List ℕ) (start : ℕ) (made : Result A E) → get stage words ≡ None
+    → OnOk made (next ≡ insert stage words start) → OnErr made (next ≡ stage)
+    → StaysStaged stage next × ((next ≡ stage) ⊎ (next ≡ insert stage words start))
+stays_or_not stage next words start (Ok x) none ok err =
+    (subst (StaysStaged stage) (sym ok) (stays_staged stage words start none), inr ok)
+stays_or_not stage next words start (Err x) none ok err = (subst (StaysStaged stage) (sym err) (λ others place is. is), inl err)
+
+-- what was not found was not staged
+pub none_staged : (stage : Staged) (words : List ℕ) → option_map (range_at words) (get stage words) ≡ None → get stage words ≡ None
+none_staged stage words e = go (get stage words) refl
+  where
+    go : (o : Option ℕ) → get stage words ≡ o → get stage words ≡ None
+    go None is = is
+    go (Some start) is = absurd (let clash = ap (option_map (range_at words)) (sym is) ∙ e in cc clash)
+
+pub stages_sight : {A E : Type 0} (l : Lending) (words : List ℕ) (range : Place) (r : Going Given Note) (next : Staged) (made : Result A E)
+    → HasStaged library_terms words range.start l.going r → get l.staged words ≡ None
+    → OnOk made (next ≡ insert l.staged words range.start) → OnErr made (next ≡ l.staged)
+    → range.len ≡ length words → Stages words range (sight_of l) (sight_of (record l { going = r; staged = next }))
+stages_sight l words range r next made h none ok err len =
     let k = l.going.known in
     let taken = k.taken + length words in
-    subst (λ (x : Going Given Note). Stages words range (sight_of l) (sight_of (record l { going = x }))) (sym h.is)
+    let stays = stays_or_not l.staged next words range.start made none ok err in
+    let on = later_onward l r.known.seen k.looked k.full taken k.added l.going.over l.full (omega arith) h.grows in
+    subst (λ (x : Going Given Note). Stages words range (sight_of l) (sight_of (record l { going = x; staged = next }))) (sym h.is)
     (record {
-      onward = later_onward l r.known.seen k.looked k.full taken k.added l.going.over l.full h.grows;
+      onward = record {
+        origin = refl;
+        setting = refl;
+        may_write = refl;
+        may_stage = refl;
+        room = refl;
+        ranges = on.ranges;
+        reads = on.reads;
+        read = on.read;
+        written = on.written;
+        taken = on.taken;
+        staged = stays.0;
+      };
       writes = refl;
-      taken = inr refl;
       finished = h.finished;
       len = len;
+      again = λ start e. absurd (let clash : Some start ≡ None = sym e ∙ none in cc);
+      anew = λ e. record { taken = refl; staged = stays.1 };
     })
+
+-- words that were staged are taken again
+pub again_sight : (l : Lending) (stage : Staged) (over : Option Conflict) → IsLent l stage over → (words : List ℕ) (range : Place)
+    → l.staged ≡ stage → option_map (range_at words) (get stage words) ≡ Some range → Stages words range (sight_of l) (sight_of l)
+again_sight l stage over i words range own found =
+    let is = found_is_staged l.going.known.seen.ranges stage words range i.staged found in
+    let at = staged_at stage words range found in
+    record {
+      onward = onward_refl (sight_of l);
+      writes = refl;
+      finished = is.0;
+      len = is.1;
+      again = λ start e. record {
+          start_is = (let same : Some range.start ≡ Some start = sym at ∙ sym (ap (λ (m : Staged). get m words) own) ∙ e in cc);
+          taken = refl;
+          staged = refl;
+      };
+      anew = λ none. absurd (let clash : Some range.start ≡ None = sym at ∙ sym (ap (λ (m : Staged). get m words) own) ∙ none in cc);
+    }
+  where
+    staged_at : (stage : Staged) (words : List ℕ) (range : Place) → option_map (range_at words) (get stage words) ≡ Some range
+        → get stage words ≡ Some range.start
+    staged_at stage words range e = go (get stage words) refl
+      where
+        go : (o : Option ℕ) → get stage words ≡ o → get stage words ≡ Some range.start
+        go None is = absurd (let clash = ap (option_map (range_at words)) (sym is) ∙ e in cc clash)
+        go (Some start) is =
+            let same : Some (range_at words start) ≡ Some range = ap (option_map (range_at words)) (sym is) ∙ e in
+            let place : range_at words start ≡ range = cc in
+            is ∙ ap (λ (p : Place). Some p.start) place
 
 -- ---- a cell is read
 
@@ -122,9 +211,12 @@ module _ (l : Lending) (stage : Staged) (over : Option Conflict) (i : IsLent l s
             reads = λ st f. f.1;
             read = λ c w. (w.0, inr w.1);
             written = λ c w. (w.0, ap (written c) same ∙ w.1);
+            taken = omega arith;
+            staged = λ words start w. w;
           };
           writes = same;
           taken = refl;
+          staged = refl;
         }
 
     reads_now : value_kept l.going.slots cell ≡ None → Reads cell value (sight_of l) (sight_of now)
@@ -157,6 +249,7 @@ kept_sight l cell value slots k =
       reads = refl;
       taken = refl;
       writes = written_now;
+      staged = refl;
     }
   where
     written_now : (c : ℕ) → written c (writes_kept slots) ≡ (if c == cell then Some value else written c (writes_kept l.going.slots))

@@ -1,5 +1,7 @@
 -- Of the code's inside, apart from the rules: a run on a library's words as commands see it, and what is so of it at all times.
-use Rattle.std.specs.Prelude.{◌≡◌, ℕ, ◌/◌, ◌≤◌, Bool, true, false, is_some, Option, Some, None, List, [], ◌∷◌, length}
+use Rattle.std.specs.Prelude.{◌≡◌, ℕ, ◌/◌, ◌≤◌, Bool, true, false, is_some, Option, Some, None, List, [], ◌∷◌, length, ◌+◌}
+use Rattle.std.specs.Coded.{Coded, coded_ℕ, coded_list}
+use Rattle.std.specs.FinMap as map
 use Rattle.tlcore.specs.History.{WasWritten}
 use Rattle.ranges.specs.Ranges.{Has, Names}
 use Rattle.ranges.specs.Pairs.{Pairs, written}
@@ -28,14 +30,24 @@ Pass = Known Given Note
 abbrev pub FullStays : Pass → Pass → Type 0
 FullStays old new = (found : ℕ × ℕ) → old.full ≡ Some found → new.full ≡ Some found
 
--- a run: what its pass knew at the beginning, the run as it goes, whether it may stage words, and whether the store had no room
--- for some
+-- what a run takes along, and gives back at its end: what its pass knows, and what was staged for it since its last Committed
+pub record Carried : Type 0 where
+  pub pass : Pass
+  pub staged : Staged
+
+-- the values of what is staged are told apart as maps of lists of numbers
+abbrev pub staged_code : Coded Staged
+staged_code = map.code (coded_list coded_ℕ) coded_ℕ
+
+-- a run: what its pass knew at the beginning, the run as it goes, whether it may stage words, whether the store had no room for some, and
+-- what is staged
 pub record Lending : Type 0 where
   pub given : Given
   pub began : Pass
   pub going : Going Given Note
   pub may_stage : Bool
   pub full : Bool
+  pub staged : Staged
 
 abbrev pub is_writing : Mode → Bool
 is_writing Reading = false
@@ -54,6 +66,7 @@ sight_of l =
       writes = writes_kept l.going.slots;
       taken = l.going.known.taken;
       room = l.going.known.home.room;
+      staged = l.staged;
     }
 
 -- some state that shows a library that verifies agrees with all that the run has seen
@@ -112,10 +125,12 @@ pub record IsLent (l : Lending) (stage : Staged) (over : Option Conflict) : Type
 abbrev pub IsLending : Lending → Type 0
 IsLending l = (stage : Staged) × (over : Option Conflict) × IsLent l stage over
 
--- a run that was just begun on a pass
-pub record Lends (g : Given) (k : Pass) (mode : Mode) (may_stage : Bool) (l : Lending) : Type 0 where
+-- a run that was just begun on what it takes along
+pub record Lends (g : Given) (k : Carried) (mode : Mode) (may_stage : Bool) (l : Lending) : Type 0 where
   pub given : l.given ≡ g
-  pub began : l.began ≡ k
+  pub began : l.began ≡ k.pass
   pub mode_is : l.going.mode ≡ mode
   pub may : l.may_stage ≡ may_stage
   pub blank : writes_kept l.going.slots ≡ []
+  pub taken : l.going.known.taken ≡ k.pass.taken
+  pub staged : l.staged ≡ k.staged

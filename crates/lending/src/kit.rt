@@ -6,7 +6,7 @@ use std::marker::Model;
 use tlwords::Pass;
 
 /// What a run takes along: a pass of the words, and the ranges that were staged for it since its last commit. Contracts see what the pass
-/// knows.
+/// knows, and what is staged.
 #[derive(Drop)]
 pub struct Kit {
     pub pass: Pass<LibraryLaw>,
@@ -15,11 +15,14 @@ pub struct Kit {
 
 impl Model for Kit {
     ghost use Rattle.bodystore.specs.Stages.{AreStaged};
-    ghost use Rattle.lending.specs.Lent.{Pass as Knowing};
+    ghost use Rattle.std.specs.Coded.{codes};
+    ghost use Rattle.lending.specs.Lent.{Carried, staged_code};
 
-    ghost Value = { Knowing };
+    ghost Value = { Carried };
 
-    ghost view = { λ k. k.pass };
+    ghost coded = { Prim.hlevel (codes, staged_code) };
+
+    ghost view = { λ k. record { pass = k.pass; staged = k.stage } };
 
     ghost invariant = { λ k. AreStaged k.pass.seen.ranges k.stage };
 }
@@ -29,7 +32,7 @@ impl Kit {
 
     /// Its pass. What was staged is forgotten.
     pub fn into_pass(self) -> Pass<LibraryLaw>
-        ensures { result ≡ self }
+        ensures { result ≡ self.pass }
     {
         let Kit { pass, stage: _ } = self;
         pass

@@ -43,18 +43,21 @@ pub struct Live<'w> {
     may_stage: bool,
     given: Snapshot<Given>,
     began: Snapshot<Pass<LibraryLaw>>,
-    ghost agrees: { ∥ Agrees (record { given = given.value; began = began.value; going = run; may_stage = may_stage; full = full }) ∥₁ },
+    ghost agrees: { ∥ Agrees (record { given = given.value; began = began.value; going = run; may_stage = may_stage; full = full; staged = stage }) ∥₁ },
 }
 
 impl<'w> Model for Live<'w> {
     ghost use Rattle.std.specs.Prelude.{◌≡◌};
-    ghost use Rattle.lending.specs.Lent.{Lent, IsLent};
+    ghost use Rattle.std.specs.Coded.{codes};
+    ghost use Rattle.lending.specs.Lent.{Lent, IsLent, staged_code};
 
     ghost Value = { Lent };
 
-    ghost view = { λ l. record { run = record { given = l.given.value; began = l.began.value; going = l.run; may_stage = l.may_stage; full = l.full }; agrees = l.agrees } };
+    ghost coded = { Prim.hlevel (codes, staged_code) };
 
-    ghost invariant = { λ l. (l.slots ≡ l.given.value.slots) × IsLent (record { given = l.given.value; began = l.began.value; going = l.run; may_stage = l.may_stage; full = l.full }) l.stage l.over };
+    ghost view = { λ l. record { run = record { given = l.given.value; began = l.began.value; going = l.run; may_stage = l.may_stage; full = l.full; staged = l.stage }; agrees = l.agrees } };
+
+    ghost invariant = { λ l. (l.slots ≡ l.given.value.slots) × IsLent (record { given = l.given.value; began = l.began.value; going = l.run; may_stage = l.may_stage; full = l.full; staged = l.stage }) l.stage l.over };
 }
 
 impl<'w> Live<'w> {
@@ -69,7 +72,7 @@ impl<'w> Live<'w> {
     ghost use Rattle.lawful.specs.Lawful.{library_terms};
     ghost use Rattle.lawful.specs.Laws.{IsPassOn};
     ghost use Rattle.lending.specs.Lent.{Lends, IsLending};
-    ghost use Rattle.lending.specs.Ends.{IsLawfulWith, IsForgotten, IsGivenUp};
+    ghost use Rattle.lending.specs.Ends.{IsLawfulWith, IsForgotten, IsGivenUp, staged_after};
 
     /// Begins a run on words that were opened with what is given, to read only or to write too, that may stage words or not.
     pub fn begin(
@@ -80,8 +83,8 @@ impl<'w> Live<'w> {
         mode: Mode,
         may_stage: bool,
     ) -> Live<'w>
-        requires own { kit.home ≡ home_of words.now }
-        requires on { IsPassOn given.now kit }
+        requires own { kit.pass.home ≡ home_of words.now }
+        requires on { IsPassOn given.now kit.pass }
         ensures { Lends given.now kit mode may_stage result.run }
     {
         let Kit { pass, stage } = kit;
@@ -114,12 +117,15 @@ impl<'w> Live<'w> {
         self.run.forget();
     }
 
-    /// Ends the run, and makes what it wrote an entry of the history, with this note; or, where it wrote nothing, a call at its place.
+    /// Ends the run, and makes what it wrote an entry of the history, with this note; or, where it wrote nothing, a call at its place. What
+    /// was staged is forgotten where it committed, and stays where it didn't.
     pub fn end(self, note: &Note) -> (Kit, Outcome)
         requires { self.run.going.over ≡ None → IsLawfulWith self.run (writes_kept self.run.going.slots) note.now }
-        ensures over { (k : ConflictValue) → self.entry.run.going.over ≡ Some k → (result.1 ≡ EndsConflict k None) × (result.0 ≡ self.entry.run.going.known) }
+        ensures over { (k : ConflictValue) → self.entry.run.going.over ≡ Some k → (result.1 ≡ EndsConflict k None) × (result.0.pass ≡ self.entry.run.going.known) }
         ensures reading { self.entry.run.going.over ≡ None → self.entry.run.going.mode ≡ Reading → result.1 ≡ EndsRead self.entry.run.going.place }
-        ensures ended { self.entry.run.going.over ≡ None → Ends library_terms note.now self.entry.run.going result.0 result.1 }
+        ensures ended { self.entry.run.going.over ≡ None → Ends library_terms note.now self.entry.run.going result.0.pass result.1 }
+        ensures staged { result.0.staged ≡ staged_after result.1 self.entry.run.staged }
+        ensures taken { result.0.pass.taken ≡ self.entry.run.going.known.taken }
     {
         let Live {
             run,
@@ -139,10 +145,11 @@ impl<'w> Live<'w> {
         (Kit { pass, stage }, outcome)
     }
 
-    /// Ends a run that was stopped, or that is given up for want of memory, with nothing written: why.
+    /// Ends a run that was stopped, or that is given up for want of memory, with nothing written: why. What was staged stays.
     pub fn give_up(self) -> (Kit, GivenUp)
-        ensures kit { result.0 ≡ self.entry.run.going.known }
+        ensures kit { result.0.pass ≡ self.entry.run.going.known }
         ensures why { IsGivenUp self.entry.run result.1 }
+        ensures staged { result.0.staged ≡ self.entry.run.staged }
     {
         let Live {
             run,

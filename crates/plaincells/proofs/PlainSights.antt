@@ -2,6 +2,9 @@
 use Rattle.std.proofs.Common.{◌≡◌, ℕ, List, [], ◌∷◌, ◌++◌, length, get_or, set, inl, inr, refl, sym, ap, subst, ◌∙◌, arith, true, length-append}
 use Rattle.std.specs.Prelude.{◌<◌, ◌≤◌, ◌⊎◌, Bool, false, if◌then◌else◌, Some, slice_get}
 use mathlib.Core.Logic.{∥∥₁_map}
+use Rattle.std.specs.Cmp.Lexicographic.{slice_cmp}
+use Rattle.std.specs.FinMap.{get-empty}
+use Rattle.std.specs.Ordering.{nat_cmp}
 use Rattle.std.proofs.lemmas.Bool.{cases_eq}
 use Rattle.std.proofs.lemmas.Grind.{common_steps}
 use Rattle.std.proofs.lemmas.Option.{slice_get-get_or}
@@ -87,9 +90,12 @@ plain_reads s room values log store places cell v lt e hold =
           reads = λ st h. fits_front st (read_at_first base log) _ (subst (FitsReads st) more h);
           read = λ c h. (h.0, subst (Has (c, h.0)) (sym more) (has_front (c, h.0) (read_at_first base log) _ h.1));
           written = λ c h. h;
+          taken = omega arith;
+          staged = λ words start h. h;
         };
         writes = refl;
         taken = refl;
+        staged = refl;
       };
       value = λ st m. e ∙ sym (value_kept values cell (st.value cell) lt);
       read = (get_or base cell 0, subst (Has (cell, get_or base cell 0)) (sym more) (has_last (cell, get_or base cell 0) (read_at_first base log)));
@@ -126,6 +132,7 @@ plain_writes s room values log store places cell v lt read =
       reads = ap (λ xs. read_at_first xs log) (plain_undone s room values log store places cell v read);
       taken = refl;
       writes = λ c. written_set values cell v c lt;
+      staged = refl;
     }
 
 -- a word that names a range may stand in the cell
@@ -147,11 +154,24 @@ pub plain_stages : (s : Setting) (room : ℕ) (values : List ℕ) (log : Pairs) 
     (plain_sight s room values log (store ++ words) (places ++ behind store words ∷ []))
 plain_stages s room values log store words places lie =
     record {
-      onward = record { origin = refl; setting = refl; may_write = refl; may_stage = refl; room = refl; ranges = within_staged store words places lie; reads = λ st h. h; read = λ c h. h; written = λ c h. h };
+      onward = record {
+        origin = refl;
+        setting = refl;
+        may_write = refl;
+        may_stage = refl;
+        room = refl;
+        ranges = within_staged store words places lie;
+        reads = λ st h. h;
+        read = λ c h. h;
+        written = λ c h. h;
+        taken = omega (arith, length-append store words);
+        staged = λ others start h. h;
+      };
       writes = refl;
-      taken = inr (length-append store words);
       finished = has_staged store words places lie;
       len = refl;
+      again = λ start e. absurd (let none = sym (get-empty (slice_cmp nat_cmp) words) ∙ e in cc none);
+      anew = λ e. record { taken = length-append store words; staged = inl refl };
     }
 
 -- the values show what they showed

@@ -1,6 +1,7 @@
 -- Of the code's inside, apart from the rules: cells on plain vectors: what they hold at all times, and what their run has seen.
 use Rattle.std.specs.Prelude.{◌≡◌, ◌≢◌, ◌<◌, ◌≤◌, ℕ, suc, ◌+◌, ◌/◌, ◌%◌, ◌^◌, ◌||◌, ◌==◌, Bool, true, if◌then◌else◌, List, [], ◌∷◌, ◌++◌, length, map, take, drop, slice_get, slice_set, slice_index, Some}
 use Rattle.std.specs.List.{list_any}
+use Rattle.std.specs.FinMap.{empty}
 use Rattle.library.specs.declared.library.Ranked.{Ranked}
 use Rattle.library.specs.Library.{Setting, Verifies}
 use Rattle.ranges.specs.Pairs.{Pairs}
@@ -42,7 +43,7 @@ abbrev pub with_place : Bool → List Place → Place → List Place
 with_place put places place = if put then places ++ place ∷ [] else places
 
 -- what the run has seen: it may do all; it knows all ranges; it has read the cells of its log; it keeps aside all values as they are now; and the words
--- that were taken are those of the store
+-- that were taken are those of the store. It notes nothing of what is staged
 abbrev pub plain_sight : Setting → ℕ → List ℕ → Pairs → List ℕ → List Place → Sight (Unit {0})
 plain_sight setting room values log store places =
     record {
@@ -55,6 +56,7 @@ plain_sight setting room values log store places =
       writes = numbered_from 0 values;
       taken = length store;
       room = room;
+      staged = empty;
     }
 
 -- the state of these values and ranges

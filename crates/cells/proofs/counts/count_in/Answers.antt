@@ -20,6 +20,7 @@ loop-slot-preserved g c =
     let wrote = writes_onward _ _ _ _ c.write.ensures in
     record {
       onward = onward_trans _ _ _ c.loop-slot.invariant.onward (onward_trans _ _ _ read.looks.onward wrote);
+      taken = omega (arith, c.loop-slot.invariant.taken, read.looks.taken, c.write.ensures.taken);
       changes = λ st m d.
           let m1 = matches_back _ _ st wrote m in
           let m0 = matches_back _ _ st read.looks.onward m1 in

@@ -2,7 +2,7 @@ use Rattle.std.proofs.Common.{◌<◌, ◌+◌, ℕ, List, All, nat_eq, take, ge
 use Rattle.std.proofs.lemmas.List.{take_all}
 use Rattle.mmsyntax.specs.Assertions.{Distinct}
 use Rattle.cells.specs.State.{State}
-use Rattle.cells.specs.Sight.{Sight, Matches, Onward, after}
+use Rattle.cells.specs.Sight.{Sight, Matches, Onward, TakesAtMost, after}
 use Rattle.cells.proofs.Sights.{onward_trans, writes_onward, matches_back}
 use Rattle.cells.proofs.Counting.{Changes, one_less, changes_more, count_made, counts_out}
 use Rattle.cells.proofs.counts.count_out.Goals as goal
@@ -21,6 +21,8 @@ loop-slot-preserved g c = elim c.if-slot-slots.branch [
       record {
         onward = subst (λ cells. Onward old (g.C.Cells.sight cells)) (sym w.cells-is)
             (onward_trans _ _ _ c.loop-slot.invariant.onward (onward_trans _ _ _ read.looks.onward wrote));
+        taken = subst (λ cells. TakesAtMost 0 old (g.C.Cells.sight cells)) (sym w.cells-is)
+            (omega (arith, c.loop-slot.invariant.taken, read.looks.taken, w.write.ensures.taken));
         changes = subst (Turned (i + 1)) (sym w.cells-is) (λ st m within d.
             let m1 = matches_back _ _ st wrote m in
             let m0 = matches_back _ _ st read.looks.onward m1 in
@@ -32,6 +34,7 @@ loop-slot-preserved g c = elim c.if-slot-slots.branch [
   | else-slot-slots w ↦
       record {
         onward = subst (λ cells. Onward old (g.C.Cells.sight cells)) (sym w.cells-is) c.loop-slot.invariant.onward;
+        taken = subst (λ cells. TakesAtMost 0 old (g.C.Cells.sight cells)) (sym w.cells-is) c.loop-slot.invariant.taken;
         changes = λ st m within d.
             let lt = within i 0 c.loop-slot-test.true in
             let some = c.slot_count-slots.ensures.value in

@@ -1,7 +1,7 @@
-use Rattle.std.proofs.Common.{◌*◌, ◌+◌, ◌^◌, ap, ◌∙◌, inr}
+use Rattle.std.proofs.Common.{◌*◌, ◌+◌, ◌^◌, ap, ◌∙◌, inr, arith}
 use Rattle.cells.specs.State.{State}
 use Rattle.cells.specs.Sight.{after}
-use Rattle.cells.proofs.Sights.{onward_trans, writes_onward, writes_cell, after_writes}
+use Rattle.cells.proofs.Sights.{onward_trans, writes_onward, writes_cell, stages_take, after_writes}
 use Rattle.cells.proofs.Bodies.{body_known}
 use Rattle.cells.proofs.Staging.{staged_start, staged_len}
 use Rattle.cells.proofs.Values.{value_there}
@@ -49,3 +49,13 @@ returns-clause-ok g c st m =
 
 pub returns-clause-written : goal.returns-clause-written
 returns-clause-written g c = writes_cell _ _ _ _ c.write.ensures
+
+pub returns-in_err-read-clause-taken : goal.returns-in_err-read-clause-taken
+returns-in_err-read-clause-taken g c =
+    let staged = stages_take _ _ _ _ c.in_ok-range.ensures.ok in
+    omega (arith, staged, c.in_err-read.ensures.err.taken)
+
+pub returns-clause-taken : goal.returns-clause-taken
+returns-clause-taken g c =
+    let staged = stages_take _ _ _ _ c.in_ok-range.ensures.ok in
+    omega (arith, staged, c.in_ok-read.ensures.ok.looks.taken, c.write.ensures.taken)

@@ -12,6 +12,7 @@ pub loop-part-init : goal.loop-part-init
 loop-part-init g c =
     record {
       onward = onward_refl (g.C.Cells.sight c.args.cells.now);
+      taken = omega arith;
       zeros = λ st cell low high. absurd (omega (arith, low, high));
       others = λ st cell out. refl;
       written = λ some. absurd (omega (arith, some));
@@ -40,6 +41,7 @@ pub loop-part-preserved : goal.loop-part-preserved
 loop-part-preserved g c =
     record {
       onward = onward_trans _ _ _ c.loop-part.invariant.onward (onward_trans _ _ _ c.in_ok-read.ensures.ok.looks.onward wrote);
+      taken = omega (arith, c.loop-part.invariant.taken, c.in_ok-read.ensures.ok.looks.taken, c.write.ensures.taken);
       zeros = λ st other low high. elim (cases_eq other cell) [
         | inl is ↦ ap (λ (x : State). x.value other) (made st) ∙ ap (λ n. (with_value cell 0 (after now st)).value n) is ∙ value_there cell 0 (after now st)
         | inr ne ↦ elsewhere st other ne ∙ c.loop-part.invariant.zeros st other low (omega (arith, at, high, ne))

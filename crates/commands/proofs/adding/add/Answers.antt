@@ -1,18 +1,21 @@
-use Rattle.std.proofs.Common.{◌≡◌, ◌∙◌, ◌<◌, ℕ, List, Some, None, Err, sym, ap, subst}
+use Rattle.std.proofs.Common.{◌≡◌, ◌∙◌, ◌<◌, ℕ, List, length, Some, None, Err, sym, ap, subst, arith}
 use Rattle.std.proofs.lemmas.Bool.{ne_eqb}
 use Rattle.std.proofs.lemmas.Result.{err_from_is_err_and}
 use Rattle.library.specs.declared.command.Command.TheVariants as command
 use Rattle.library.specs.declared.reason.Reason.TheVariants as reason
+use Rattle.bodystore.specs.declared.stored.StoredStep.{StoredStep}
+use Rattle.bodystore.specs.Bodies.{proof_body}
 use Rattle.cells.specs.Sight.{Sight}
 use Rattle.cells.specs.Lookups.{FindsFree}
 use Rattle.cells.specs.Filling.{IsFillable}
-use Rattle.cells.proofs.Sights.{onward_trans}
+use Rattle.cells.proofs.Sights.{onward_trans, looks_trans}
 use Rattle.cells.proofs.Settings.{same_slots}
 use Rattle.cells.proofs.Laying.{ok_mapped}
 use Rattle.cells.specs.Answers.{CommandAnswers}
 use Rattle.commands.specs.Naming.{PassesAsNew, TellsNotNew}
 use Rattle.commands.proofs.Refusing.{answers_refused}
 use Rattle.commands.proofs.Added.{add_unlabelled, add_axiom, add_refused, add_full, add_done, MayTest}
+use Rattle.commands.proofs.Taking.{stored_taken}
 use Rattle.commands.proofs.adding.add.Goals as goal
 
 -- what is told of the slice is told of the label
@@ -142,3 +145,21 @@ returns-clause-answers g c =
     add_done s0 s1 s2 rank a may c.test_proof.ensures.looks c.in_ok-kept.kept.items c.in_ok-kept.ensures.ok s3 c.free_slot.ensures.looks s4
     c.bucket-from.result c.in-Some.slot c.as_slice.result.now first c.fill.ensures.onward c.as_slice.ensures.value c.in_ok-fill.ensures.ok
     c.in_ok-fill.ensures.written
+
+pub returns-in_err-fill-clause-taken : goal.returns-in_err-fill-clause-taken
+returns-in_err-fill-clause-taken g c st lib m v =
+    let looks = looks_trans _ _ _ c.test_new_label.ensures.looks c.test_proof.ensures.looks in
+    let on = onward_trans _ _ _ c.free_slot.ensures.looks.onward c.fill.ensures.onward in
+    let long = stored_taken (g.C.Cells.sight c.args.cells.now) (g.C.Cells.sight c.test_proof.new.cells) (g.C.Cells.sight c.fill.new.cells) looks on
+    c.args.assertion.now.proof c.in_ok-kept.kept.items c.in_ok-kept.ensures.ok.stored st lib m v in
+    let same = ap (λ (ks : List StoredStep). length (proof_body ks)) c.as_slice.ensures.value in
+    omega (arith, long, same, c.fill.ensures.taken, c.free_slot.ensures.looks.taken, looks.taken)
+
+pub returns-clause-taken : goal.returns-clause-taken
+returns-clause-taken g c st lib m v =
+    let looks = looks_trans _ _ _ c.test_new_label.ensures.looks c.test_proof.ensures.looks in
+    let on = onward_trans _ _ _ c.free_slot.ensures.looks.onward c.fill.ensures.onward in
+    let long = stored_taken (g.C.Cells.sight c.args.cells.now) (g.C.Cells.sight c.test_proof.new.cells) (g.C.Cells.sight c.fill.new.cells) looks on
+    c.args.assertion.now.proof c.in_ok-kept.kept.items c.in_ok-kept.ensures.ok.stored st lib m v in
+    let same = ap (λ (ks : List StoredStep). length (proof_body ks)) c.as_slice.ensures.value in
+    omega (arith, long, same, c.fill.ensures.taken, c.free_slot.ensures.looks.taken, looks.taken)

@@ -1,9 +1,11 @@
-use Rattle.std.proofs.Common.{◌≡◌, ◌≢◌, true, false, [], length, map, rules, arith, sym, ap, subst, ◌∙◌}
+use Rattle.std.proofs.Common.{◌≡◌, ◌≢◌, true, false, List, [], length, map, rules, arith, sym, ap, subst, ◌∙◌}
 use Rattle.std.specs.Vec.{vec_len}
 use Rattle.std.proofs.lemmas.Bool.Decides.{Decides-eqb}
 use Rattle.std.proofs.lemmas.List.{nil_from_length, with_items_is}
 use Rattle.library.specs.declared.command.Command.TheVariants.{Replace}
 use Rattle.library.specs.declared.reason.Reason.TheVariants.{UnknownLabel, NotATheorem, NotAlike, CitedNotLower}
+use Rattle.bodystore.specs.declared.stored.StoredStep.{StoredStep}
+use Rattle.bodystore.specs.Bodies.{proof_body}
 use Rattle.cells.specs.Lookups.{AreWithin}
 use Rattle.cells.proofs.Laying.{ok_mapped}
 use Rattle.cells.proofs.Sights.{looks_trans, onward_trans}
@@ -14,6 +16,7 @@ use Rattle.commands.proofs.Recited.{recited_within}
 use Rattle.commands.proofs.Refusing.{of_none, refused_later, answers_refused}
 use Rattle.commands.proofs.Replaced.{answers_unknown, refuses_old, refuses_new, sought, sought_later, alike_later}
 use Rattle.commands.proofs.Replaced.{refuses_axiom, refuses_unlike, refuses_not_lower, replaced}
+use Rattle.commands.proofs.Taking.{found_taken, recited_length}
 use Rattle.commands.proofs.replacing.replace.Goals as goal
 
 pub returns-in_err-slot-clause-answers : goal.returns-in_err-slot-clause-answers
@@ -241,3 +244,45 @@ returns-clause-answers g c =
     ∙ ap (λ n. map (recited_step n j k) c.in_ok-kept.kept.items) c.slot_count.ensures.value in
     replaced s0 s6 i j k label old new kept there some p c.requires.prelude like (subst (TellsNotLower s6 i k) c.if-branch.false told) s7
     c.put_steps.ensures.onward (subst (ReprovesAt s6 s7 i label) is (c.in_ok-put_steps.ensures.ok label)) c.in_ok-put_steps.ensures.written
+
+pub returns-in_err-put_steps-clause-taken : goal.returns-in_err-put_steps-clause-taken
+returns-in_err-put_steps-clause-taken g c st lib m v =
+    let s1 = g.C.Cells.sight c.slot_of.new.cells in
+    let s4 = g.C.Cells.sight c.stored_proof.new.cells in
+    let j = c.in_ok-former.former in
+    let k = c.in_ok-next.next in
+    let kept = c.in_ok-kept.kept.items in
+    let since = looks_trans _ _ _ c.slot_of-2.ensures.looks (looks_trans _ _ _ c.slot_of-3.ensures.looks c.stored_proof.ensures.looks) in
+    let looks = looks_trans _ _ _ c.slot_of.ensures.looks since in
+    let later = looks_trans _ _ _ c.are_alike.ensures.looks c.is_not_lower.ensures.looks in
+    let on = onward_trans _ _ _ later.onward c.put_steps.ensures.onward in
+    let finds = finds_later s1 s4 c.args.label.now c.in_ok-slot.slot since c.in_ok-slot.ensures.ok in
+    let long = found_taken (g.C.Cells.sight c.args.cells.now) s4 (g.C.Cells.sight c.put_steps.new.cells) c.args.label.now c.in_ok-slot.slot
+    kept looks on finds c.in_ok-kept.ensures.ok st lib m v in
+    let written = c.as_slice.ensures.value
+    ∙ with_items_is c.in_ok-kept.kept c.recite.new.steps (c.recite.auto.steps ∙ c.as_mut_slice.ensures.len) in
+    let is = written ∙ c.recite.ensures ∙ ap (map (recited_step c.slot_count.result j k)) c.as_mut_slice.ensures.value in
+    let same = ap (λ (ks : List StoredStep). length (proof_body ks)) is in
+    let recited = recited_length (recited_step c.slot_count.result j k) kept in
+    omega (arith, long, same, recited, c.put_steps.ensures.taken, looks.taken, later.taken)
+
+pub returns-clause-taken : goal.returns-clause-taken
+returns-clause-taken g c st lib m v =
+    let s1 = g.C.Cells.sight c.slot_of.new.cells in
+    let s4 = g.C.Cells.sight c.stored_proof.new.cells in
+    let j = c.in_ok-former.former in
+    let k = c.in_ok-next.next in
+    let kept = c.in_ok-kept.kept.items in
+    let since = looks_trans _ _ _ c.slot_of-2.ensures.looks (looks_trans _ _ _ c.slot_of-3.ensures.looks c.stored_proof.ensures.looks) in
+    let looks = looks_trans _ _ _ c.slot_of.ensures.looks since in
+    let later = looks_trans _ _ _ c.are_alike.ensures.looks c.is_not_lower.ensures.looks in
+    let on = onward_trans _ _ _ later.onward c.put_steps.ensures.onward in
+    let finds = finds_later s1 s4 c.args.label.now c.in_ok-slot.slot since c.in_ok-slot.ensures.ok in
+    let long = found_taken (g.C.Cells.sight c.args.cells.now) s4 (g.C.Cells.sight c.put_steps.new.cells) c.args.label.now c.in_ok-slot.slot
+    kept looks on finds c.in_ok-kept.ensures.ok st lib m v in
+    let written = c.as_slice.ensures.value
+    ∙ with_items_is c.in_ok-kept.kept c.recite.new.steps (c.recite.auto.steps ∙ c.as_mut_slice.ensures.len) in
+    let is = written ∙ c.recite.ensures ∙ ap (map (recited_step c.slot_count.result j k)) c.as_mut_slice.ensures.value in
+    let same = ap (λ (ks : List StoredStep). length (proof_body ks)) is in
+    let recited = recited_length (recited_step c.slot_count.result j k) kept in
+    omega (arith, long, same, recited, c.put_steps.ensures.taken, looks.taken, later.taken)

@@ -1,7 +1,9 @@
-use Rattle.std.proofs.Common.{◌≡◌, ℕ, List, Some, None, sym, subst, ◌∙◌}
+use Rattle.std.proofs.Common.{◌≡◌, ℕ, List, length, Some, None, sym, ap, subst, ◌∙◌, arith}
 use Rattle.library.specs.declared.command.Command.TheVariants as command
 use Rattle.library.specs.declared.reason.Reason.TheVariants as reason
-use Rattle.bodystore.specs.Bodies.{statement_of}
+use Rattle.mmsyntax.specs.declared.statement.Assertion.{Assertion}
+use Rattle.bodystore.specs.declared.stored.StoredStep.{StoredStep}
+use Rattle.bodystore.specs.Bodies.{statement_of, proof_body}
 use Rattle.cells.specs.Lookups.{Finds, AreWithin}
 use Rattle.cells.proofs.Sights.{onward_trans, looks_trans}
 use Rattle.cells.proofs.Laying.{ok_mapped}
@@ -10,6 +12,7 @@ use Rattle.commands.specs.Changes.{ReprovesAt}
 use Rattle.commands.proofs.OnlyLooks.{finds_later}
 use Rattle.commands.proofs.Refusing.{of_none, refused, refused_later, answers_refused, answers_tested}
 use Rattle.commands.proofs.Reproved.{retitled, axiom_refused, reprove_refused, reproved}
+use Rattle.commands.proofs.Taking.{stored_taken}
 use Rattle.commands.proofs.reproving.reprove.Goals as goal
 
 pub returns-in_default-clause-answers : goal.returns-in_default-clause-answers
@@ -143,3 +146,31 @@ returns-clause-answers g c =
     let reproves = subst (ReprovesAt s4 s5 i label) c.as_slice-3.ensures.value (c.in_ok-put_steps.ensures.ok label) in
     reproved s4 i label made stated here steps theorem rank ranked a is s0 s5 kept looks c.put_steps.ensures.onward c.in_ok-kept.ensures.ok
     reproves c.in_ok-put_steps.ensures.written
+
+pub returns-in_err-put_steps-clause-taken : goal.returns-in_err-put_steps-clause-taken
+returns-in_err-put_steps-clause-taken g c st lib m v =
+    let looks = looks_trans _ _ _ c.find.ensures.looks (looks_trans _ _ _ c.statement.ensures.looks
+    (looks_trans _ _ _ c.rank.ensures.looks c.test_proof.ensures.looks)) in
+    let a = c.into_assertion-theorem.result in
+    let is = c.into_assertion-theorem.ensures
+    ∙ retitled c.in_ok-statement.statement c.in_ok-copy.field-0 c.args.label.now c.in_ok-proof.proof c.args.steps.now c.in_ok-copy.ensures
+    (c.in_ok-proof.ensures ∙ c.as_slice-2.ensures) in
+    let long = stored_taken (g.C.Cells.sight c.args.cells.now) (g.C.Cells.sight c.test_proof.new.cells) (g.C.Cells.sight c.put_steps.new.cells)
+    looks c.put_steps.ensures.onward a.proof c.in_ok-kept.kept.items c.in_ok-kept.ensures.ok.stored st lib m v in
+    let steps = ap (λ (x : Assertion). length x.proof) is in
+    let same = ap (λ (ks : List StoredStep). length (proof_body ks)) c.as_slice-3.ensures.value in
+    omega (arith, long, steps, same, c.put_steps.ensures.taken, looks.taken)
+
+pub returns-clause-taken : goal.returns-clause-taken
+returns-clause-taken g c st lib m v =
+    let looks = looks_trans _ _ _ c.find.ensures.looks (looks_trans _ _ _ c.statement.ensures.looks
+    (looks_trans _ _ _ c.rank.ensures.looks c.test_proof.ensures.looks)) in
+    let a = c.into_assertion-theorem.result in
+    let is = c.into_assertion-theorem.ensures
+    ∙ retitled c.in_ok-statement.statement c.in_ok-copy.field-0 c.args.label.now c.in_ok-proof.proof c.args.steps.now c.in_ok-copy.ensures
+    (c.in_ok-proof.ensures ∙ c.as_slice-2.ensures) in
+    let long = stored_taken (g.C.Cells.sight c.args.cells.now) (g.C.Cells.sight c.test_proof.new.cells) (g.C.Cells.sight c.put_steps.new.cells)
+    looks c.put_steps.ensures.onward a.proof c.in_ok-kept.kept.items c.in_ok-kept.ensures.ok.stored st lib m v in
+    let steps = ap (λ (x : Assertion). length x.proof) is in
+    let same = ap (λ (ks : List StoredStep). length (proof_body ks)) c.as_slice-3.ensures.value in
+    omega (arith, long, steps, same, c.put_steps.ensures.taken, looks.taken)

@@ -3,18 +3,22 @@ use Rattle.std.proofs.Common.{subst, ◌∙◌, arith, drop-cons}
 use Rattle.std.specs.Prelude.{All}
 use Rattle.std.proofs.lemmas.List.{take_more, take-append-drop, length-take-le}
 use Rattle.std.proofs.lemmas.List.Elements.{All-take}
+use Rattle.std.proofs.lemmas.List.Sums.{sum_by-take-le}
 use Rattle.mmsyntax.specs.Tables.{Tables}
 use Rattle.library.specs.declared.command.Command.{Command}
 use Rattle.library.specs.Fitting.{CommandFits}
 use Rattle.cells.proofs.Sights.{onward_refl, onward_trans}
-use Rattle.cells.specs.Answers.{DoesAll, RunAnswers, error_at}
-use Rattle.commands.proofs.Transactions.{does_none, does_more, ends}
+use Rattle.cells.specs.Sight.{TakesAtMost}
+use Rattle.cells.specs.Answers.{ForEachBefore, DoesAll, RunAnswers, error_at}
+use Rattle.commands.specs.Takes.{most_words_of, command_words}
+use Rattle.commands.proofs.Transactions.{takes_none, takes_more, does_none, does_more, ends}
+use Rattle.commands.proofs.Taking.{few_of_all}
 use Rattle.commands.proofs.running.run.Goals as goal
 
 pub loop-done-init : goal.loop-done-init
 loop-done-init g c =
     let s = g.C.Cells.sight c.args.cells.now in
-    record { onward = onward_refl _; does = subst (DoesAll s s []) (sym c.new-replies.ensures.items) (does_none s) }
+    record { onward = onward_refl _; taken = takes_none s; does = subst (DoesAll s s []) (sym c.new-replies.ensures.items) (does_none s) }
 
 pub returns-in_err-push-in-Ok-clause-onward : goal.returns-in_err-push-in-Ok-clause-onward
 returns-in_err-push-in-Ok-clause-onward g c = onward_trans _ _ _ c.loop-done.invariant.onward c.take.ensures.onward
@@ -67,7 +71,52 @@ loop-done-preserved g c =
     ap (λ y. take k cs ++ y ∷ []) c.index-commands-done.is ∙ sym (take_more cs k x c.loop-done-test.true) in
     let does = does_more s t u (take k cs) replies c.loop-done.invariant.does c.loop-done.invariant.onward c.take.ensures.onward fit x reply
     c.in-Ok.ensures.answers in
+    let taken = takes_more s t u (take k cs) replies c.loop-done.invariant.does c.loop-done.invariant.onward c.take.ensures.onward fit x
+    c.take.ensures.taken c.loop-done.invariant.taken in
     record {
       onward = onward_trans _ _ _ c.loop-done.invariant.onward c.take.ensures.onward;
+      taken = subst (λ l. ForEachBefore s u (λ st lib. TakesAtMost (most_words_of l) s u)) front taken;
       does = subst (λ l. DoesAll s u l c.push.new.self.items) front (subst (DoesAll s u (take k cs ++ x ∷ [])) (sym push) does);
     }
+
+pub returns-in_err-push-in-Ok-clause-taken : goal.returns-in_err-push-in-Ok-clause-taken
+returns-in_err-push-in-Ok-clause-taken g c st lib m v =
+    let s = g.C.Cells.sight c.args.cells.now in
+    let t = g.C.Cells.sight c.loop-done.cells in
+    let u = g.C.Cells.sight c.take.new.cells in
+    let cs = c.args.commands.now in
+    let k = c.loop-done.done in
+    let x = c.index-commands-done.result in
+    let fit : All (CommandFits s.setting.prelude) (take k cs) =
+    subst (λ (p : Tables). All (CommandFits p) (take k cs)) c.requires.prelude
+    (All-take (CommandFits c.args.prelude.now) k cs c.requires.fits) in
+    let front : take k cs ++ x ∷ [] ≡ take (k + 1) cs =
+    ap (λ y. take k cs ++ y ∷ []) c.index-commands-done.is ∙ sym (take_more cs k x c.loop-done-test.true) in
+    let taken = takes_more s t u (take k cs) c.loop-done.replies.items c.loop-done.invariant.does c.loop-done.invariant.onward
+    c.take.ensures.onward fit x c.take.ensures.taken c.loop-done.invariant.taken st lib m v in
+    let few = few_of_all cs k x front in
+    omega (arith, taken, few)
+
+pub returns-in-Err-clause-taken : goal.returns-in-Err-clause-taken
+returns-in-Err-clause-taken g c st lib m v =
+    let s = g.C.Cells.sight c.args.cells.now in
+    let t = g.C.Cells.sight c.loop-done.cells in
+    let u = g.C.Cells.sight c.take.new.cells in
+    let cs = c.args.commands.now in
+    let k = c.loop-done.done in
+    let x = c.index-commands-done.result in
+    let fit : All (CommandFits s.setting.prelude) (take k cs) =
+    subst (λ (p : Tables). All (CommandFits p) (take k cs)) c.requires.prelude
+    (All-take (CommandFits c.args.prelude.now) k cs c.requires.fits) in
+    let front : take k cs ++ x ∷ [] ≡ take (k + 1) cs =
+    ap (λ y. take k cs ++ y ∷ []) c.index-commands-done.is ∙ sym (take_more cs k x c.loop-done-test.true) in
+    let taken = takes_more s t u (take k cs) c.loop-done.replies.items c.loop-done.invariant.does c.loop-done.invariant.onward
+    c.take.ensures.onward fit x c.take.ensures.taken c.loop-done.invariant.taken st lib m v in
+    let few = few_of_all cs k x front in
+    omega (arith, taken, few)
+
+pub returns-clause-taken : goal.returns-clause-taken
+returns-clause-taken g c st lib m v =
+    let few = sum_by-take-le (command_words (λ label. 16384)) c.args.commands.now c.loop-done.done in
+    let taken = c.loop-done.invariant.taken st lib m v in
+    omega (arith, taken, few)

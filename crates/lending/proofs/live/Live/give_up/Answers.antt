@@ -17,3 +17,6 @@ returns-clause-why c =
       | in-None w ↦ subst (IsGivenUp l) (sym w.why-is) (over ∙ w.in-None.is, w.if-full.true)
       | in-None-2 w ↦ subst (IsGivenUp l) (sym w.why-is) (over ∙ w.in-None.is, w.if-full.false)
     ])
+
+pub returns-clause-staged : goal.returns-clause-staged
+returns-clause-staged c = ap (λ x. x.run.staged) c.self.view_is

@@ -1,9 +1,9 @@
-use Rattle.std.proofs.Common.{◌≡◌, true, length, sym, subst}
+use Rattle.std.proofs.Common.{◌≡◌, true, length, refl, sym, subst, ◌∙◌}
 use Rattle.ranges.specs.declared.range.Range.{Range as Place}
 use Rattle.cells.specs.Sight.{Looks, Stages}
 use Rattle.lending.specs.Lent.{sight_of}
 use Rattle.lending.proofs.Lending.{lending_in, agrees_of, staged_lent, refused_lent}
-use Rattle.lending.proofs.Sighted.{stages_sight, refused_look}
+use Rattle.lending.proofs.Sighted.{none_staged, stages_sight, again_sight, refused_look}
 use Rattle.lending.proofs.live.LiveCells.stage.Goals as goal
 
 pub invariant_of-self : goal.invariant_of-self
@@ -42,11 +42,21 @@ invariant_of-self-inside-2 c =
     c.note.new.self c.note.result c.in-Ok.ensures.ok.1 c.note.ensures.ok c.note.ensures.err in
     (∣ agrees_of _ c.note.new.self s.over lent ∣₁, tt)
 
+pub returns-in-Some-clause-ok : goal.returns-in-Some-clause-ok
+returns-in-Some-clause-ok c =
+    let s = c.self.inside in
+    let found = sym c.find.ensures ∙ c.in-Some.is in
+    subst (λ x. Stages c.args.words.now c.in-Some.range (sight_of x.run) (sight_of x.run)) c.self.view_is
+    (again_sight (lending_in s) s.stage s.over c.self.invariant.1 c.args.words.now c.in-Some.range refl found)
+
 pub returns-clause-ok : goal.returns-clause-ok
 returns-clause-ok c =
-    let l = lending_in c.self.inside in
+    let s = c.self.inside in
+    let l = lending_in s in
     let r = c.stage.new.self in
     let words = c.args.words.now in
     let range : Place = record { start = c.in-Ok.staged.start; len = c.in-Ok.staged.len } in
-    subst (λ x. Stages words range (sight_of x.run) (sight_of (record l { going = r }))) c.self.view_is
-    (stages_sight l words range r c.in-Ok.ensures.ok.1 c.in-Ok.ensures.ok.0)
+    let none = none_staged s.stage words (sym c.find.ensures ∙ c.in_default.is) in
+    subst (λ x. Stages words range (sight_of x.run) (sight_of (record l { going = r; staged = c.note.new.self }))) c.self.view_is
+    (stages_sight l words range r c.note.new.self c.note.result c.in-Ok.ensures.ok.1 none c.note.ensures.ok c.note.ensures.err
+    c.in-Ok.ensures.ok.0)
