@@ -2,6 +2,7 @@ use Rattle.std.proofs.Common.{take, nat_eq}
 use Rattle.mmsyntax.specs.Assertions.{Distinct}
 use Rattle.cells.specs.State.{State}
 use Rattle.cells.specs.Sight.{Matches, Onward, after}
+use Rattle.cells.specs.Aside.{KeepsAside, IsCitersOf}
 use Rattle.cells.proofs.Counting.{Changes, one_more}
 use Rattle.cells.proofs.counts.count_in.Given as goal
 
@@ -11,6 +12,7 @@ invariant-loop-slot g l =
     let now = g.C.Cells.sight l.cells in
     record {
       onward : Onward old now;
+      keeps : KeepsAside (IsCitersOf l.cited) old now;
       changes : (st : State) → Matches now st → Distinct nat_eq l.cited
           → Changes one_more (take l.slot-index l.cited) (after old st) (after now st);
     }

@@ -4,6 +4,7 @@ use Rattle.cells.specs.Sight.{after}
 use Rattle.cells.proofs.Sights.{onward_trans, writes_onward, writes_cell, after_writes}
 use Rattle.cells.proofs.Bodies.{body_known}
 use Rattle.cells.proofs.Staging.{staged_start, staged_len}
+use Rattle.cells.proofs.Keeping.{keeps_put}
 use Rattle.cells.proofs.Values.{value_there}
 use Rattle.cells.proofs.filling.put_body.Goals as goal
 
@@ -49,3 +50,8 @@ returns-clause-ok g c st m =
 
 pub returns-clause-written : goal.returns-clause-written
 returns-clause-written g c = writes_cell _ _ _ _ c.write.ensures
+
+pub returns-clause-keeps : goal.returns-clause-keeps
+returns-clause-keeps g c =
+    keeps_put _ _ (g.C.Cells.sight c.args.cells.now) (g.C.Cells.sight c.read.new.self) (g.C.Cells.sight c.write.new.self)
+    (c.in_ok-read.ensures.ok.looks.writes ∙ c.in_ok-range.ensures.ok.writes) c.write.ensures

@@ -2,6 +2,7 @@ use Rattle.std.proofs.Common.{◌≡◌, ◌<◌, ◌≤◌, ◌*◌, ◌+◌, �
 use Rattle.cells.specs.State.{State}
 use Rattle.cells.specs.Slots.{name_cell}
 use Rattle.cells.specs.Sight.{WasWritten, Onward, after}
+use Rattle.cells.specs.Aside.{KeepsAside, IsOfSlot}
 use Rattle.cells.proofs.filling.vacate.Given as goal
 
 abbrev pub invariant-loop-part : goal.invariant-loop-part
@@ -10,6 +11,7 @@ invariant-loop-part g l =
     let now = g.C.Cells.sight l.cells in
     record {
       onward : Onward old now;
+      keeps : KeepsAside (IsOfSlot l.slot) old now;
       zeros : (st : State) (c : ℕ) → 5 * l.slot ≤ c → c < 5 * l.slot + l.part → (after now st).value c ≡ 0;
       others : (st : State) (c : ℕ) → (c < 5 * l.slot) ⊎ (5 * l.slot + l.part ≤ c) → (after now st).value c ≡ (after old st).value c;
       written : 0 < l.part → WasWritten now (name_cell l.slot);
