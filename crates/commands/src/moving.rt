@@ -5,6 +5,7 @@ ghost use Rattle.library.specs.declared.command.Command.TheVariants as command;
 ghost use Rattle.cells.specs.Sight.{Onward, Looks};
 ghost use Rattle.cells.specs.Answers.{CommandAnswers};
 ghost use Rattle.commands.specs.Citing.{TellsCites, TellsCitedUpTo};
+ghost use Rattle.commands.specs.Touches.{KeepsTo};
 
 use crate::citing::cites_not_below;
 use bodystore::StoredStep;
@@ -25,6 +26,7 @@ pub(crate) fn move_to<C: Cells>(
     requires { (C.sight cells.old).may_write ≡ true }
     ensures onward { Onward (C.sight cells.old) (C.sight cells.new) }
     ensures answers { CommandAnswers (C.sight cells.old) (C.sight cells.new) (command.Move label.now rank) result }
+    ensures keeps { IfOk result (λ _. KeepsTo (C.sight cells.old) (C.sight cells.new) (command.Move label.now rank)) }
 {
     let Some(slot) = find(cells, label.as_slice()).map_err(Halt::Stopped)? else {
         return Err(Reason::UnknownLabel.into());

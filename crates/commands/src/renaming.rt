@@ -6,6 +6,7 @@ ghost use Rattle.cells.specs.Sight.{Onward};
 ghost use Rattle.bodystore.specs.Bodies.{label_body};
 ghost use Rattle.cells.specs.Answers.{CommandAnswers, WritesSome};
 ghost use Rattle.commands.specs.Changes.{RenamesAt};
+ghost use Rattle.commands.specs.Touches.{KeepsTo, RenamesWithin};
 
 use crate::naming::test_new_label;
 use bodystore::encode_label;
@@ -27,6 +28,7 @@ pub(crate) fn rename<C: Cells>(
     requires prelude { prelude.now ≡ (C.sight cells.old).setting.prelude }
     ensures onward { Onward (C.sight cells.old) (C.sight cells.new) }
     ensures answers { CommandAnswers (C.sight cells.old) (C.sight cells.new) (command.Rename old.now new.now) result }
+    ensures keeps { IfOk result (λ _. KeepsTo (C.sight cells.old) (C.sight cells.new) (command.Rename old.now new.now)) }
 {
     let Some(slot) = find(cells, old.as_slice()).map_err(Halt::Stopped)? else {
         return Err(Reason::UnknownLabel.into());
@@ -52,6 +54,7 @@ fn relabel<C: Cells>(
     ensures onward { Onward (C.sight cells.old) (C.sight cells.new) }
     ensures written { IfOk result (λ _. WritesSome (C.sight cells.new)) }
     ensures ok { IfOk result (λ _. RenamesAt (C.sight cells.old) (C.sight cells.new) slot old.now new.now) }
+    ensures keeps { IfOk result (λ _. RenamesWithin (C.sight cells.old) (C.sight cells.new) slot new.now) }
 {
     let _slots = slot_count(cells);
     put_body(cells, name_cell(slot), body)?;

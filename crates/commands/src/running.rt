@@ -1,9 +1,10 @@
 //! Runs transactions.
 
-ghost use Rattle.std.specs.Prelude.{◌≡◌, All};
+ghost use Rattle.std.specs.Prelude.{◌≡◌, All, IfOk};
 ghost use Rattle.library.specs.Fitting.{CommandFits};
 ghost use Rattle.cells.specs.Sight.{Onward};
 ghost use Rattle.cells.specs.Answers.{MayDo, CommandAnswers, RunAnswers};
+ghost use Rattle.commands.specs.Touches.{KeepsTo};
 
 use crate::adding::add;
 use crate::deleting::delete;
@@ -50,7 +51,8 @@ pub fn run<C: Cells>(
     Ok(Sequence::from_vec(replies))
 }
 
-/// Does one command, over what is kept aside. It is within the limits of the prelude, which is the library's, and the run may do it.
+/// Does one command, over what is kept aside. It is within the limits of the prelude, which is the library's, and the run may do it. It keeps
+/// values aside for no cells but those of what it changes: so commands that change nothing of one another's don't meet.
 ///
 /// # Errors
 ///
@@ -66,6 +68,7 @@ pub fn take<C: Cells>(
     requires fits { CommandFits prelude.now command.now }
     ensures onward { Onward (C.sight cells.old) (C.sight cells.new) }
     ensures answers { CommandAnswers (C.sight cells.old) (C.sight cells.new) command.now result }
+    ensures keeps { IfOk result (λ _. KeepsTo (C.sight cells.old) (C.sight cells.new) command.now) }
 {
     match command {
         Command::Add { rank, assertion } => add(alloc, prelude, cells, *rank, assertion),
