@@ -1,9 +1,9 @@
 -- For which cells values are kept aside, through the calls of a run.
-use Rattle.std.proofs.Common.{◌≡◌, ℕ, Option, Some, true, false, sym, ap, ◌∙◌, inl, inr, ⊎_elim}
+use Rattle.std.proofs.Common.{◌≡◌, ℕ, Some, sym, ap, ◌∙◌, inl, inr, ⊎_elim}
 use Rattle.std.specs.Prelude.{◌==◌}
 use Rattle.std.proofs.lemmas.Bool.{cases_eq, cond-false, ne_eqb}
 use Rattle.ranges.specs.Pairs.{written}
-use Rattle.cells.specs.Sight.{Sight, WasWritten, Looks, Writes}
+use Rattle.cells.specs.Sight.{Sight, Writes}
 use Rattle.cells.specs.Aside.{KeepsAside}
 
 -- nothing is kept aside more where nothing is written

@@ -6,9 +6,9 @@ use Rattle.library.specs.Library.{label_of}
 use Rattle.library.specs.declared.library.Ranked.{Ranked}
 use Rattle.ranges.specs.Ranges.{Has}
 use Rattle.cells.specs.State.{State}
-use Rattle.cells.specs.Slots.{bucket_cell, next_cell}
+use Rattle.cells.specs.Slots.{bucket_cell, next_cell, bucket}
 use Rattle.cells.specs.Shows.{Held, slots_of, AreChained}
-use Rattle.cells.specs.Sight.{Sight, Matches, after}
+use Rattle.cells.specs.Sight.{Sight, Matches, Turns, after}
 
 -- without the one in the slot
 abbrev pub without_slot : ℕ → List Held → List Held
@@ -27,6 +27,11 @@ pub record Rechains (slots : ℕ) (st next : State) (held then : List Held) : Ty
 pub record GoesFirst (slots : ℕ) (st next : State) (i b : ℕ) : Type 0 where
   pub first : next.value (bucket_cell slots b) ≡ i + 1
   pub behind : next.value (next_cell slots i) ≡ st.value (bucket_cell slots b)
+
+-- so in each state that may be under the run, in the chain of the label's bucket
+abbrev pub GoesToFront : {O : Type 0} → ℕ → List ℕ → Sight O → Sight O → Type 0
+GoesToFront slot label old new =
+    let slots = old.setting.slots in Turns old new (λ st next. GoesFirst slots st next slot (bucket slots label))
 
 -- in each state that may be under the run, whatever is chained there: a slot that is not among it comes to it, with an assertion that has
 -- the label

@@ -1,10 +1,9 @@
 //! Puts slots into the chains of label buckets, and takes them out.
 
 ghost use Rattle.std.specs.Prelude.{◌≡◌, ◌<◌, true, IfOk};
-ghost use Rattle.cells.specs.Slots.{bucket};
-ghost use Rattle.cells.specs.Sight.{Sight, Onward, Turns};
-ghost use Rattle.cells.specs.Aside.{KeepsAside, IsOfFront, IsOfLeaving};
-ghost use Rattle.cells.specs.Chains.{PutsIn, TakesOut, GoesFirst};
+ghost use Rattle.cells.specs.Sight.{Sight, Onward};
+ghost use Rattle.cells.specs.Aside.{KeepsAside, IsOfFront, KeepsLeaving};
+ghost use Rattle.cells.specs.Chains.{PutsIn, TakesOut, GoesToFront};
 
 use crate::cells::Cells;
 use crate::places::{bucket, bucket_cell, link, next_cell, slot_count};
@@ -19,7 +18,7 @@ pub fn put_in<C: Cells>(cells: &mut C, slot: usize, label: &[u8]) -> Result<(), 
     requires slot { slot < (C.sight cells.old).setting.slots }
     ensures onward { Onward (C.sight cells.old) (C.sight cells.new) }
     ensures ok { IfOk result (λ _. PutsIn slot label.now (C.sight cells.old) (C.sight cells.new)) }
-    ensures front { let slots = (C.sight cells.old).setting.slots in IfOk result (λ _. Turns (C.sight cells.old) (C.sight cells.new) (λ st next. GoesFirst slots st next slot (bucket slots label.now))) }
+    ensures front { IfOk result (λ _. GoesToFront slot label.now (C.sight cells.old) (C.sight cells.new)) }
     ensures keeps { IfOk result (λ _. KeepsAside (IsOfFront (C.sight cells.old).setting.slots slot label.now) (C.sight cells.old) (C.sight cells.new)) }
 {
     let slots = slot_count(cells);
@@ -41,7 +40,7 @@ pub fn take_out<C: Cells>(cells: &mut C, slot: usize, label: &[u8]) -> Result<()
     requires slot { slot < (C.sight cells.old).setting.slots }
     ensures onward { Onward (C.sight cells.old) (C.sight cells.new) }
     ensures ok { IfOk result (λ _. TakesOut slot label.now (C.sight cells.old) (C.sight cells.new)) }
-    ensures keeps { IfOk result (λ _. Turns (C.sight cells.old) (C.sight cells.new) (λ st next. KeepsAside (IsOfLeaving (C.sight cells.old).setting.slots st slot) (C.sight cells.old) (C.sight cells.new))) }
+    ensures keeps { IfOk result (λ _. KeepsLeaving slot (C.sight cells.old) (C.sight cells.new)) }
 {
     let slots = slot_count(cells);
     let next = cells.read(next_cell(slots, slot))?;

@@ -7,6 +7,7 @@ pub mod Relabelling
 pub mod Removing
 pub mod Restepping
 pub mod Touching
+pub mod TouchingAll
 pub mod Reproved
 pub mod ByteKeys
 pub mod Outcomes

@@ -1,6 +1,5 @@
 -- For which cells a command keeps values aside, from what its parts keep aside.
-use Rattle.std.proofs.Common.{◌≡◌, ◌≢◌, ◌<◌, ◌≤◌, ◌⊎◌, ℕ, ◌+◌, ◌*◌, List, Some, true, false, Result, Ok, Err, refl, sym, ap, subst, ◌∙◌, inl, inr, ⊎_elim, arith, nat_eq}
-use Rattle.std.specs.Prelude.{IfOk, All}
+use Rattle.std.proofs.Common.{◌≡◌, ◌≢◌, ◌<◌, ◌⊎◌, ℕ, List, map, true, sym, ap, subst, ◌∙◌, inl, inr, ⊎_elim, arith}
 use Rattle.std.specs.List.{list_any}
 use Rattle.std.specs.Str.{bytes_eq}
 use Rattle.mmsyntax.specs.declared.statement.Step.{Step}
@@ -9,9 +8,8 @@ use Rattle.mmsyntax.specs.Assertions.{Distinct}
 use Rattle.library.specs.declared.library.Ranked.{Ranked}
 use Rattle.library.specs.declared.command.Command.{Command}
 use Rattle.library.specs.declared.command.Command.TheVariants.{Add, Reprove, Rename, Move, Delete}
-use Rattle.library.specs.declared.command.Reply.{Reply}
 use Rattle.library.specs.Library.{Setting, label_of}
-use Rattle.library.specs.Edits.{cites, is_citation, is_edit, with_proof}
+use Rattle.library.specs.Edits.{cites, is_citation, with_proof}
 use Rattle.library.proofs.Places.{found_in}
 use Rattle.ranges.specs.Ranges.{Has, AreOfOneStore}
 use Rattle.ranges.proofs.Members.{all_from_has}
@@ -20,18 +18,16 @@ use Rattle.bodystore.specs.declared.stored.StoredStep.TheVariants.{Slot}
 use Rattle.cells.specs.State.{State, most_words}
 use Rattle.cells.specs.Slots.{name_cell, proof_cell, rank_cell, citers_cell, bucket}
 use Rattle.cells.specs.Shows.{Held, AreStoredAs, Shows}
-use Rattle.cells.specs.Sight.{Sight, WasWritten, Matches, Views, Onward, Looks, Turns, after}
-use Rattle.cells.specs.Aside.{KeepsAside, IsOfSlot, IsCitersOf, IsCitersOfCited, IsOfFront, IsOfLeaving, IsOfFilling}
+use Rattle.cells.specs.Sight.{Sight, Matches, Onward, Looks, after}
+use Rattle.cells.specs.Aside.{KeepsAside, IsOfSlot, IsCitersOf, IsCitersOfCited, IsOfFront, IsOfLeaving, KeepsLeaving, IsOfFilling}
 use Rattle.cells.specs.Filling.{AreCitedSlots, AreOnlyIn}
 use Rattle.cells.specs.Lookups.{ForEach, ForEachHeld, IsFoundAt, IsFirstEmpty}
-use Rattle.cells.specs.Answers.{Does, CommandAnswers}
-use Rattle.cells.specs.declared.ending.CommandError.{CommandError}
 use Rattle.cells.proofs.Sights.{matches_back, after_looks}
 use Rattle.cells.proofs.Keeping.{keeps_same, keeps_trans, keeps_wider}
 use Rattle.cells.proofs.Holding.{stored_named, named_held, stored_cites, cites_stored}
 use Rattle.cells.proofs.Found.{held_holds}
 use Rattle.cells.proofs.Counted.{listed_within}
-use Rattle.commands.specs.Touches.{IsFirstFree, IsCitersCell, IsOfReproof, IsOfDeletion, IsOfAddition, Touches, KeepsTo}
+use Rattle.commands.specs.Touches.{IsFirstFree, IsCitersCell, IsOfReproof, IsOfDeletion, Touches, KeepsTo}
 use Rattle.commands.specs.Touches.{ReprovesWithin, DeletesWithin, RenamesWithin}
 use Rattle.commands.proofs.Removing.{CountsOutOf}
 use Rattle.commands.proofs.Seeing.{views_later, found_later}
@@ -45,17 +41,6 @@ keeps_to_since s t u c looks on keeps st lib m v cell was =
     ⊎_elim (λ before. keeps_same (Touches s.setting.slots (after s st) lib c) s t looks.writes cell before)
     (λ is. inr (subst (λ (x : State). Touches s.setting.slots x lib c cell) (after_looks s t st looks)
     (subst (λ (x : Setting). Touches x.slots (after t st) lib c cell) looks.onward.setting is))) later
-
--- a command that is no edit keeps nothing aside
-pub reading_keeps : {O : Type 0} → {S : Type 0} (s t : Sight O) (c : Command) (r : Result Reply (CommandError S)) → is_edit c ≡ false
-    → CommandAnswers s t c r → IfOk r (λ _. KeepsTo s t c)
-reading_keeps s t c (Err e) reads answers = tt
-reading_keeps s t c (Ok reply) reads answers st lib m v =
-    keeps_same (Touches s.setting.slots (after s st) lib c) s t (looks c reads answers).writes
-  where
-    looks : (c : Command) → is_edit c ≡ false → Does s t c reply → Looks s t
-    looks c reads does = elim (is_edit c) as (λ b. b ≡ false → Rattle.cells.specs.Answers.WritesIfEdit b s t → Looks s t)
-        [ true ↦ λ e w. absurd cc | false ↦ λ e w. w ] reads does.writes
 
 -- ---- what steps cite, by its slots
 
@@ -166,7 +151,7 @@ reprove_keeps s new i label steps kept here stored within st lib m v c was =
 
 pub relabels_within : {O : Type 0} → (s0 s1 s2 s3 : Sight O) (i : ℕ) (to : List ℕ) → Onward s0 s1 → Onward s1 s2 → Onward s2 s3
     → i < s0.setting.slots → ((st : State) (c : ℕ) → c ≢ name_cell i → (after s1 st).value c ≡ (after s0 st).value c)
-    → KeepsAside (λ c. c ≡ name_cell i) s0 s1 → Turns s1 s2 (λ st next. KeepsAside (IsOfLeaving s1.setting.slots st i) s1 s2)
+    → KeepsAside (λ c. c ≡ name_cell i) s0 s1 → KeepsLeaving i s1 s2
     → KeepsAside (IsOfFront s2.setting.slots i to) s2 s3 → RenamesWithin s0 s3 i to
 relabels_within s0 s1 s2 s3 i to on1 on2 on3 within others named leaves comes st m =
     keeps_trans such s0 s2 s3
@@ -205,7 +190,7 @@ pub removes_within : {O : Type 0} → (s0 s1 s2 s3 s4 : Sight O) (i : ℕ) (labe
     → Looks s0 s1 → Onward s1 s2 → Onward s2 s3 → Onward s3 s4
     → ForEachHeld s1 i (λ st lib e. AreStoredAs s1.setting.slots st e.assertion.proof former)
     → AreCitedSlots former listed → CountsOutOf s1 s2 listed → KeepsAside (IsCitersOf listed) s1 s2
-    → Turns s2 s3 (λ st next. KeepsAside (IsOfLeaving s2.setting.slots st i) s2 s3) → KeepsAside (IsOfSlot i) s3 s4
+    → KeepsLeaving i s2 s3 → KeepsAside (IsOfSlot i) s3 s4
     → DeletesWithin s0 s4 i label
 removes_within s0 s1 s2 s3 s4 i label former listed looks on2 on3 on4 read cited counts out leaves emptied st lib m seen here =
     keeps_trans such s0 s1 s4 (keeps_same such s0 s1 looks.writes)
@@ -245,9 +230,11 @@ removes_within s0 s1 s2 s3 s4 i label former listed looks on2 on3 on4 read cited
         let counted = counts st m2 (all_from_has (λ j. j < s1.setting.slots) listed (λ j h. let lt = within j h in omega (arith, lt, early)))
         cited.apart in
         ⊎_elim (λ leads. let low = leads.0 in
-        inl (omega (arith, low, slots_are),
-        sym (counted.others c (λ j h z. let lt = within j h in omega (arith, low, slots_are, lt, z))
-        ∙ ap (λ (x : State). x.value c) (after_looks s0 s1 st looks)) ∙ leads.1))
+        inl (
+          omega (arith, low, slots_are),
+          sym (counted.others c (λ j h z. let lt = within j h in omega (arith, low, slots_are, lt, z))
+              ∙ ap (λ (x : State). x.value c) (after_looks s0 s1 st looks)) ∙ leads.1,
+        ))
         (λ own. inr (omega (arith, own, slots_are))) is
 
 pub delete_keeps : {O : Type 0} → (s new : Sight O) (i : ℕ) (label : List ℕ)

@@ -1,20 +1,21 @@
--- For which cells a command keeps values aside: those of what it changes, and no others.
-use Rattle.std.specs.Prelude.{◌≡◌, ◌≢◌, ◌<◌, ◌⊎◌, ℕ, ◌+◌, ◌%◌, List, true}
+-- For which cells a command and a transaction keep values aside: those of what they change, and no others.
+use Rattle.std.specs.Prelude.{◌≡◌, ◌≢◌, ◌<◌, ◌⊎◌, ℕ, ◌+◌, ◌%◌, List, ◌∷◌, ◌++◌, true}
 use Rattle.mmsyntax.specs.declared.statement.Step.{Step}
 use Rattle.library.specs.declared.library.Ranked.{Ranked}
 use Rattle.library.specs.declared.command.Command.{Command}
 use Rattle.library.specs.declared.command.Command.TheVariants.{Add, Reprove, Replace, Rename, Move, Delete, Show}
 use Rattle.library.specs.declared.command.Command.TheVariants as command
+use Rattle.library.specs.declared.command.Reply.{Reply}
 use Rattle.library.specs.Library.{label_of}
 use Rattle.library.specs.Edits.{cites, with_proof, recited}
 use Rattle.bodystore.specs.declared.stored.StoredStep.{StoredStep}
 use Rattle.cells.specs.State.{State}
 use Rattle.cells.specs.Slots.{name_cell, proof_cell, rank_cell, citers_cell, bucket}
 use Rattle.cells.specs.Shows.{Holds, IsEmpty, AreStoredAs}
-use Rattle.cells.specs.Sight.{Sight, Turns, after}
+use Rattle.cells.specs.Sight.{Sight, Onward, Turns, after}
 use Rattle.cells.specs.Aside.{KeepsAside, IsOfSlot, IsOfFront, IsOfLeaving}
 use Rattle.cells.specs.Lookups.{IsFoundAt}
-use Rattle.cells.specs.Answers.{ForEachBefore}
+use Rattle.cells.specs.Answers.{ForEachBefore, DoesAll}
 use Rattle.commands.specs.Changes.{ForEachFound}
 
 -- the first empty slot from a slot on, going round
@@ -61,6 +62,22 @@ module _ (slots : ℕ) (st : State) (lib : List Ranked) where
 -- a command keeps values aside for no others, in each state that may be under the run
 abbrev pub KeepsTo : {O : Type 0} → Sight O → Sight O → Command → Type 0
 KeepsTo old new c = ForEachBefore old new (λ st lib. KeepsAside (Touches old.setting.slots (after old st) lib c) old new)
+
+-- a cell for which one command of a transaction may keep a value aside, over what those before it kept aside
+pub record IsTouchedByOne {O : Type 0} (old new : Sight O) (cs : List Command) (cell : ℕ) : Type 0 where
+  pub before : List Command
+  pub one : Command
+  pub behind : List Command
+  pub all : cs ≡ before ++ one ∷ behind
+  pub mid : Sight O
+  pub replies : List Reply
+  pub does : DoesAll old mid before replies
+  pub onward : Onward mid new
+  pub touches : ForEachBefore mid new (λ st lib. Touches mid.setting.slots (after mid st) lib one cell)
+
+-- a transaction keeps values aside for no others
+abbrev pub KeepsToAll : {O : Type 0} → Sight O → Sight O → List Command → Type 0
+KeepsToAll old new cs = KeepsAside (IsTouchedByOne old new cs) old new
 
 -- ---- of the code's inside
 

@@ -4,7 +4,7 @@ ghost use Rattle.std.specs.Prelude.{◌≡◌, All, IfOk};
 ghost use Rattle.library.specs.Fitting.{CommandFits};
 ghost use Rattle.cells.specs.Sight.{Onward};
 ghost use Rattle.cells.specs.Answers.{MayDo, CommandAnswers, RunAnswers};
-ghost use Rattle.commands.specs.Touches.{KeepsTo};
+ghost use Rattle.commands.specs.Touches.{KeepsTo, KeepsToAll};
 
 use crate::adding::add;
 use crate::deleting::delete;
@@ -23,7 +23,7 @@ use std::alloc::Global;
 ///
 /// The replies are those of the transaction's definition over the library, and the cells then show the library as it is after it: for every
 /// state of the cells that agrees with what was read, shows a library that verifies, and has the ranges that were seen. So whatever else
-/// becomes of cells that were not read, nothing changes in the answer.
+/// becomes of cells that were not read, nothing changes in the answer. Values are kept aside for no cells but those of what the commands change.
 ///
 /// # Errors
 ///
@@ -40,6 +40,7 @@ pub fn run<C: Cells>(
     requires fits { All (CommandFits prelude.now) commands.now }
     ensures onward { Onward (C.sight cells.old) (C.sight cells.new) }
     ensures answers { RunAnswers (C.sight cells.old) (C.sight cells.new) commands.now result }
+    ensures keeps { IfOk result (λ _. KeepsToAll (C.sight cells.old) (C.sight cells.new) commands.now) }
 {
     let mut replies = Vec::new(alloc);
     for (done, command) in commands.iter().enumerate() {

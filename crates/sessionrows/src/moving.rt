@@ -54,12 +54,7 @@ fn write_moved(alloc: Global, slots: usize, cells: &[ClosedCell]) -> Result<Vec<
 }
 
 /// Puts the name of a cell behind `out`.
-fn put_name(
-    alloc: Global,
-    out: &mut Vec<u8>,
-    slots: usize,
-    cell: usize,
-) -> Result<(), AllocError>
+fn put_name(alloc: Global, out: &mut Vec<u8>, slots: usize, cell: usize) -> Result<(), AllocError>
     requires { slots ≤ 4096 }
 {
     let (kind, number) = if cell < 5 * slots {

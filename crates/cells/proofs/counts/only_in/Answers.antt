@@ -1,4 +1,4 @@
-use Rattle.std.proofs.Common.{◌≡◌, ℕ, List, Vec, Global, [], ◌∷◌, ◌++◌, true, false, ap, ◌∙◌, sym, subst, refl, get_or, arith}
+use Rattle.std.proofs.Common.{◌≡◌, ℕ, List, Vec, Global, [], ◌∷◌, ◌++◌, ap, ◌∙◌, sym, subst, refl, get_or, arith}
 use Rattle.std.specs.Prelude.{filter}
 use Rattle.std.proofs.lemmas.List.{take_all}
 use mathlib.Core.Bool.{not}

@@ -8,9 +8,8 @@ use Rattle.cells.specs.State.{State}
 use Rattle.cells.specs.Shows.{Held, slots_of, AreChained}
 use Rattle.cells.specs.Chains.{Rechains}
 use Rattle.cells.specs.Filling.{AreCitedSlots, MayFill, Fills}
-use Rattle.bodystore.specs.declared.stored.StoredStep.TheVariants.{Slot}
 use Rattle.cells.specs.Slots.{name_cell}
-use Rattle.cells.specs.Aside.{KeepsAside, IsOfSlot, IsCitersOf, IsOfFront, IsCitersOfCited, IsOfFilling}
+use Rattle.cells.specs.Aside.{KeepsAside, IsOfSlot, IsCitersOf, IsOfFront, IsOfFilling}
 use Rattle.cells.proofs.Keeping.{keeps_trans, keeps_wider}
 use Rattle.cells.specs.Sight.{Matches, Views, after}
 use Rattle.cells.proofs.Sights.{onward_trans, matches_back}

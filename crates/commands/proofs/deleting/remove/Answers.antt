@@ -3,7 +3,6 @@ use Rattle.bodystore.specs.declared.stored.StoredStep.{StoredStep}
 use Rattle.cells.specs.Filling.{AreCitedSlots}
 use Rattle.cells.proofs.Sights.{onward_trans}
 use Rattle.cells.proofs.Laying.{if_mapped, ok_mapped}
-use Rattle.cells.specs.Aside.{KeepsAside, IsCitersOf}
 use Rattle.commands.specs.Changes.{DeletesAt}
 use Rattle.commands.specs.Touches.{DeletesWithin}
 use Rattle.commands.proofs.Touching.{removes_within}

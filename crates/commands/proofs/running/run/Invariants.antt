@@ -1,6 +1,7 @@
 use Rattle.std.proofs.Common.{take}
 use Rattle.cells.specs.Sight.{Onward}
 use Rattle.cells.specs.Answers.{DoesAll}
+use Rattle.commands.specs.Touches.{KeepsToAll}
 use Rattle.commands.proofs.running.run.Given as goal
 
 abbrev pub invariant-loop-done : goal.invariant-loop-done
@@ -8,4 +9,5 @@ invariant-loop-done g l =
     record {
       onward : Onward (g.C.Cells.sight l.fn.cells) (g.C.Cells.sight l.cells);
       does : DoesAll (g.C.Cells.sight l.fn.cells) (g.C.Cells.sight l.cells) (take l.done l.commands) l.replies.items;
+      keeps : KeepsToAll (g.C.Cells.sight l.fn.cells) (g.C.Cells.sight l.cells) (take l.done l.commands);
     }
