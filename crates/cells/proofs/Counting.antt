@@ -12,6 +12,8 @@ use Rattle.cells.specs.Filling.{CountsIn, CountsOut}
 use Rattle.ranges.proofs.Members.{has_append_left, has_append_right, has_append_cases, absent}
 use Rattle.cells.specs.Sight.{Sight, Looks, Writes, after}
 use Rattle.cells.proofs.Sights.{after_looks, after_writes}
+use Rattle.cells.specs.Aside.{KeepsAside, IsCitersOf}
+use Rattle.cells.proofs.Keeping.{keeps_wider, keeps_put}
 use Rattle.cells.proofs.Values.{value_there, value_elsewhere}
 
 -- ---- cells that are no range cells
@@ -62,16 +64,16 @@ changes_push f listed x st mid ch free =
     new : ℕ
     new = f (mid.value (citers_cell x))
 
+pub index_has : (ys : List ℕ) (k : ℕ) → k < length ys → Has (get_or ys k 0) ys
+index_has [] k below = omega (arith, below)
+index_has (y ∷ ys) zero below = inl refl
+index_has (y ∷ ys) (suc k) below = inr (index_has ys k (omega (arith, below)))
+
 -- an element of numbers that differ does not stand before its place
 pub before_apart : (xs : List ℕ) (i : ℕ) → Distinct nat_eq xs → i < length xs → Has (get_or xs i 0) (take i xs) → ⊥
 before_apart [] i d lt h = omega (arith, lt)
 before_apart (x ∷ xs) zero d lt h = h
-before_apart (x ∷ xs) (suc i) d lt (inl e) = absent xs x d.0 (subst (λ n. Has n xs) e (at xs i (omega (arith, lt))))
-  where
-    at : (ys : List ℕ) (k : ℕ) → k < length ys → Has (get_or ys k 0) ys
-    at [] k below = omega (arith, below)
-    at (y ∷ ys) zero below = inl refl
-    at (y ∷ ys) (suc k) below = inr (at ys k (omega (arith, below)))
+before_apart (x ∷ xs) (suc i) d lt (inl e) = absent xs x d.0 (subst (λ n. Has n xs) e (index_has xs i (omega (arith, lt))))
 before_apart (x ∷ xs) (suc i) d lt (inr h) = before_apart xs i d.1 (omega (arith, lt)) h
 
 -- one step further along the list
@@ -89,6 +91,13 @@ counts_in xs st next few ch =
 
 pub counts_out : (xs : List ℕ) (st next : State) → Changes one_less xs st next → CountsOut xs st next
 counts_out xs st next ch = record { counted = ch.counted; others = ch.others }
+
+-- for the citers cell of a listed slot
+pub keeps_counted : {O : Type 0} → (xs : List ℕ) (i cell v : ℕ) (r s t : Sight O) → i < length xs → cell ≡ citers_cell (get_or xs i 0)
+    → Looks r s → Writes cell v s t → KeepsAside (IsCitersOf xs) r t
+keeps_counted xs i cell v r s t lt is looks writes =
+    keeps_wider (λ c. c ≡ cell) (IsCitersOf xs) r t (λ c same. (get_or xs i 0, index_has xs i lt, same ∙ is))
+    (keeps_put cell v r s t looks.writes writes)
 
 -- what is written where a count was read
 pub count_made : {O : Type 0} → (f : ℕ → ℕ) (r s t : Sight O) (st : State) (cell there v w x : ℕ) → Looks r s → Writes there w s t → there ≡ citers_cell x

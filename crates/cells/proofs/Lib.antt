@@ -1,4 +1,5 @@
 pub mod Sights
+pub mod Keeping
 pub mod Settings
 pub mod Bodies
 pub mod Holders

@@ -20,7 +20,28 @@ use Rattle.cells.proofs.Sights.{after_writes}
 
 -- ---- into a chain
 
--- what is written to put a slot in front of the chain of a label's bucket, with what was written before
+-- what is written to put a slot in front of the chain of a bucket, with what was written before
+pub puts_front : {O : Type 0} → (old mid new : Sight O) (st : State) (front link first slot b : ℕ) (s : Sight O)
+    → after s st ≡ after old st → Writes link first s mid → Writes front (slot + 1) mid new
+    → front ≡ bucket_cell old.setting.slots b → link ≡ next_cell old.setting.slots slot → first ≡ (after old st).value front
+    → b < old.setting.slots → PutsFront old.setting.slots (after old st) (after new st) slot b
+puts_front old mid new st front link first slot b s same links fronts front_is link_is first_is in_buckets =
+    subst (λ (x : State). PutsFront old.setting.slots (after old st) x slot b) (sym made) (record {
+      front = ap (with_value front (slot + 1) (with_value link first (after old st))).value (sym front_is)
+          ∙ value_there front (slot + 1) (with_value link first (after old st));
+      link = ap (with_value front (slot + 1) (with_value link first (after old st))).value (sym link_is)
+          ∙ value_elsewhere front (slot + 1) (with_value link first (after old st)) link
+          (λ z. omega (arith, front_is, link_is, in_buckets, z))
+          ∙ value_there link first (after old st) ∙ first_is ∙ ap (after old st).value front_is;
+      others = λ c f l. value_elsewhere front (slot + 1) (with_value link first (after old st)) c (λ z. f (z ∙ front_is))
+          ∙ value_elsewhere link first (after old st) c (λ z. l (z ∙ link_is));
+    })
+  where
+    made : after new st ≡ with_value front (slot + 1) (with_value link first (after old st))
+    made = after_writes front (slot + 1) mid new st fronts
+        ∙ ap (with_value front (slot + 1)) (after_writes link first s mid st links ∙ ap (with_value link first) same)
+
+-- so a slot that is in no chain comes into the one of its label
 pub in_front : {O : Type 0} → (old mid new : Sight O) (st : State) (front link first slot : ℕ) (label : List ℕ) (held : List Held) (e : Ranked) (s : Sight O)
     → after s st ≡ after old st → Writes link first s mid → Writes front (slot + 1) mid new
     → front ≡ bucket_cell old.setting.slots (bucket old.setting.slots label) → link ≡ next_cell old.setting.slots slot
@@ -35,21 +56,8 @@ in_front old mid new st front link first slot label held e s same links fronts f
     slots : ℕ
     slots = old.setting.slots
 
-    made : after new st ≡ with_value front (slot + 1) (with_value link first (after old st))
-    made = after_writes front (slot + 1) mid new st fronts
-        ∙ ap (with_value front (slot + 1)) (after_writes link first s mid st links ∙ ap (with_value link first) same)
-
     puts : PutsFront old.setting.slots (after old st) (after new st) slot (bucket old.setting.slots label)
-    puts = subst (λ (x : State). PutsFront old.setting.slots (after old st) x slot (bucket old.setting.slots label)) (sym made) (record {
-      front = ap (with_value front (slot + 1) (with_value link first (after old st))).value (sym front_is)
-          ∙ value_there front (slot + 1) (with_value link first (after old st));
-      link = ap (with_value front (slot + 1) (with_value link first (after old st))).value (sym link_is)
-          ∙ value_elsewhere front (slot + 1) (with_value link first (after old st)) link
-          (λ z. omega (arith, front_is, link_is, in_buckets, z))
-          ∙ value_there link first (after old st) ∙ first_is ∙ ap (after old st).value front_is;
-      others = λ c f l. value_elsewhere front (slot + 1) (with_value link first (after old st)) c (λ z. f (z ∙ front_is))
-          ∙ value_elsewhere link first (after old st) c (λ z. l (z ∙ link_is));
-    })
+    puts = puts_front old mid new st front link first slot (bucket old.setting.slots label) s same links fronts front_is link_is first_is in_buckets
 
 -- ---- along a chain
 

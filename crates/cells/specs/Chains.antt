@@ -1,14 +1,14 @@
 -- What becomes of the chains where a slot is put into one, or taken out.
-use Rattle.std.specs.Prelude.{◌≡◌, ◌<◌, ◌≤◌, ◌*◌, ℕ, List, ◌∷◌, ◌==◌, filter, nat_eq, length}
+use Rattle.std.specs.Prelude.{◌≡◌, ◌<◌, ◌≤◌, ◌*◌, ◌+◌, ℕ, List, ◌∷◌, ◌==◌, filter, nat_eq, length}
 use mathlib.Core.Bool.{not}
 use Rattle.mmsyntax.specs.Assertions.{Distinct}
 use Rattle.library.specs.Library.{label_of}
 use Rattle.library.specs.declared.library.Ranked.{Ranked}
 use Rattle.ranges.specs.Ranges.{Has}
 use Rattle.cells.specs.State.{State}
-use Rattle.cells.specs.Slots.{next_cell}
+use Rattle.cells.specs.Slots.{bucket_cell, next_cell, bucket}
 use Rattle.cells.specs.Shows.{Held, slots_of, AreChained}
-use Rattle.cells.specs.Sight.{Sight, Matches, after}
+use Rattle.cells.specs.Sight.{Sight, Matches, Turns, after}
 
 -- without the one in the slot
 abbrev pub without_slot : ℕ → List Held → List Held
@@ -22,6 +22,16 @@ pub record Rechains (slots : ℕ) (st next : State) (held then : List Held) : Ty
   pub others : (i : ℕ) → i < slots → (Has i (slots_of held) → ⊥) → (Has i (slots_of then) → ⊥)
       → next.value (next_cell slots i) ≡ st.value (next_cell slots i)
   pub out : (i : ℕ) → Has i (slots_of held) → (Has i (slots_of then) → ⊥) → next.value (next_cell slots i) ≡ 0
+
+-- the slot is the first of the bucket's chain, and behind it comes what was the first
+pub record GoesFirst (slots : ℕ) (st next : State) (i b : ℕ) : Type 0 where
+  pub first : next.value (bucket_cell slots b) ≡ i + 1
+  pub behind : next.value (next_cell slots i) ≡ st.value (bucket_cell slots b)
+
+-- so in each state that may be under the run, in the chain of the label's bucket
+abbrev pub GoesToFront : {O : Type 0} → ℕ → List ℕ → Sight O → Sight O → Type 0
+GoesToFront slot label old new =
+    let slots = old.setting.slots in Turns old new (λ st next. GoesFirst slots st next slot (bucket slots label))
 
 -- in each state that may be under the run, whatever is chained there: a slot that is not among it comes to it, with an assertion that has
 -- the label

@@ -1,5 +1,6 @@
 -- What becomes of a state where an assertion is put into an empty slot.
 use Rattle.std.specs.Prelude.{◌≡◌, ◌≢◌, ◌<◌, ◌≤◌, ◌⊎◌, ℕ, ◌+◌, ◌-◌, ◌*◌, ◌^◌, List, All, [], ◌∷◌, ◌++◌, length, false, nat_eq}
+use Rattle.std.specs.List.Sorted.{IsStrictlyIncreasing}
 use Rattle.mmsyntax.specs.declared.statement.Assertion.{Assertion}
 use Rattle.mmsyntax.specs.declared.statement.Kind.{Kind}
 use Rattle.mmsyntax.specs.declared.statement.Kind.TheVariants.{Theorem, Axiom}
@@ -15,11 +16,18 @@ use Rattle.cells.specs.Slots.{name_cell, statement_cell, proof_cell, rank_cell, 
 use Rattle.cells.specs.Shows.{Held, IsEmpty, AreStoredAs, ShowsHeld}
 use Rattle.cells.specs.Sight.{Sight, Matches, Views, after, Turns}
 
--- the slots that the steps cite, each once
+-- the slots that the steps cite, each once, ascending
 pub record AreCitedSlots (steps : List StoredStep) (slots : List ℕ) : Type 0 where
   pub apart : Distinct nat_eq slots
   pub cited : (i : ℕ) → Has i slots → Has (Slot i) steps
   pub all : (i : ℕ) → Has (Slot i) steps → Has i slots
+  pub ascending : IsStrictlyIncreasing slots
+
+-- those of the listed slots that the others haven't, each once
+pub record AreOnlyIn (listed others only : List ℕ) : Type 0 where
+  pub apart : Distinct nat_eq only
+  pub from : (i : ℕ) → Has i only → Has i listed × (Has i others → ⊥)
+  pub all : (i : ℕ) → Has i listed → (Has i others → ⊥) → Has i only
 
 -- each of these slots has one citer more, and nothing else changes
 pub record CountsIn (listed : List ℕ) (st next : State) : Type 0 where

@@ -2,6 +2,7 @@ pub mod State
 pub mod Slots
 pub mod Shows
 pub mod Sight
+pub mod Aside
 pub mod Lookups
 pub mod Clashing
 pub mod Chains

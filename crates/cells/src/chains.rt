@@ -2,7 +2,8 @@
 
 ghost use Rattle.std.specs.Prelude.{◌≡◌, ◌<◌, true, IfOk};
 ghost use Rattle.cells.specs.Sight.{Sight, Onward, TakesAtMost};
-ghost use Rattle.cells.specs.Chains.{PutsIn, TakesOut};
+ghost use Rattle.cells.specs.Chains.{PutsIn, TakesOut, GoesToFront};
+ghost use Rattle.cells.specs.Aside.{KeepsAside, IsOfFront, KeepsLeaving};
 
 use crate::cells::Cells;
 use crate::places::{bucket, bucket_cell, link, next_cell, slot_count};
@@ -18,6 +19,8 @@ pub fn put_in<C: Cells>(cells: &mut C, slot: usize, label: &[u8]) -> Result<(), 
     ensures onward { Onward (C.sight cells.old) (C.sight cells.new) }
     ensures ok { IfOk result (λ _. PutsIn slot label.now (C.sight cells.old) (C.sight cells.new)) }
     ensures taken { TakesAtMost 0 (C.sight cells.old) (C.sight cells.new) }
+    ensures front { IfOk result (λ _. GoesToFront slot label.now (C.sight cells.old) (C.sight cells.new)) }
+    ensures keeps { IfOk result (λ _. KeepsAside (IsOfFront (C.sight cells.old).setting.slots slot label.now) (C.sight cells.old) (C.sight cells.new)) }
 {
     let slots = slot_count(cells);
     let front = bucket_cell(slots, bucket(label, slots));
@@ -39,6 +42,7 @@ pub fn take_out<C: Cells>(cells: &mut C, slot: usize, label: &[u8]) -> Result<()
     ensures onward { Onward (C.sight cells.old) (C.sight cells.new) }
     ensures ok { IfOk result (λ _. TakesOut slot label.now (C.sight cells.old) (C.sight cells.new)) }
     ensures taken { TakesAtMost 0 (C.sight cells.old) (C.sight cells.new) }
+    ensures keeps { IfOk result (λ _. KeepsLeaving slot (C.sight cells.old) (C.sight cells.new)) }
 {
     let slots = slot_count(cells);
     let next = cells.read(next_cell(slots, slot))?;

@@ -2,14 +2,16 @@
 
 ghost use Rattle.std.specs.Prelude.{◌≡◌, ◌<◌, true, All, IfOk};
 ghost use Rattle.cells.specs.Sight.{Sight, Onward, TakesAtMost};
-ghost use Rattle.cells.specs.Filling.{AreCitedSlots, CountsAnyIn, CountsAnyOut};
+ghost use Rattle.cells.specs.Filling.{AreCitedSlots, CountsAnyIn, CountsAnyOut, AreOnlyIn};
+ghost use Rattle.std.specs.List.Sorted.{IsStrictlyIncreasing};
+ghost use Rattle.cells.specs.Aside.{KeepsAside, IsCitersOf};
 
 use crate::cells::Cells;
 use crate::places::{citers_cell, slot_count};
 use bodystore::StoredStep;
 use std::alloc::{AllocError, Global};
 
-/// The slots that the steps of a proof cite, each once. They come ascending, of which the contract says nothing.
+/// The slots that the steps of a proof cite, each once, ascending.
 ///
 /// # Errors
 ///
@@ -28,6 +30,25 @@ pub fn cited_slots(alloc: Global, steps: &[StoredStep]) -> Result<Vec<usize>, Al
     Ok(slots)
 }
 
+/// Those of these slots that aren't among the others, in their order. Both are listed ascending.
+///
+/// # Errors
+///
+/// Want of memory.
+pub fn only_in(alloc: Global, slots: &[usize], others: &[usize]) -> Result<Vec<usize>, AllocError>
+    requires slots { IsStrictlyIncreasing slots.now }
+    requires others { IsStrictlyIncreasing others.now }
+    ensures { IfOk result (λ made. AreOnlyIn slots.now others.now made.items) }
+{
+    let mut only = Vec::new(alloc);
+    for slot in slots {
+        if others.binary_search(slot).is_err() {
+            only.push(*slot)?;
+        }
+    }
+    Ok(only)
+}
+
 /// Counts one citer more for each of these slots.
 ///
 /// # Errors
@@ -39,6 +60,7 @@ pub fn count_in<C: Cells>(cells: &mut C, cited: &[usize]) -> Result<(), C::Stop>
     ensures onward { Onward (C.sight cells.old) (C.sight cells.new) }
     ensures ok { IfOk result (λ _. CountsAnyIn cited.now (C.sight cells.old) (C.sight cells.new)) }
     ensures taken { TakesAtMost 0 (C.sight cells.old) (C.sight cells.new) }
+    ensures keeps { IfOk result (λ _. KeepsAside (IsCitersOf cited.now) (C.sight cells.old) (C.sight cells.new)) }
 {
     let _slots = slot_count(cells);
     for slot in cited {
@@ -58,6 +80,7 @@ pub fn count_out<C: Cells>(cells: &mut C, cited: &[usize]) -> Result<(), C::Stop
     ensures onward { Onward (C.sight cells.old) (C.sight cells.new) }
     ensures ok { IfOk result (λ _. CountsAnyOut cited.now (C.sight cells.old) (C.sight cells.new)) }
     ensures taken { TakesAtMost 0 (C.sight cells.old) (C.sight cells.new) }
+    ensures keeps { IfOk result (λ _. KeepsAside (IsCitersOf cited.now) (C.sight cells.old) (C.sight cells.new)) }
 {
     let slots = slot_count(cells);
     for slot in cited {

@@ -7,6 +7,7 @@ ghost use Rattle.cells.specs.State.{State, HasBody, with_value};
 ghost use Rattle.cells.specs.Slots.{cell_count, is_ranged, name_cell, proof_cell};
 ghost use Rattle.cells.specs.Sight.{Sight, WasWritten, ForEachState, Turns, KeepsOthers, Onward, TakesAtMost, after};
 ghost use Rattle.cells.specs.Filling.{bodies_length, FillsAny, IsFillable, LaysAnyDown, LaysProof, Empties};
+ghost use Rattle.cells.specs.Aside.{KeepsAside, IsOfSlot, IsOfFilling};
 
 use crate::cells::Cells;
 use crate::chains::put_in;
@@ -40,6 +41,7 @@ pub fn fill<C: Cells>(
     ensures ok { IfOk result (λ _. FillsAny slot rank assertion.now steps.now (C.sight cells.old) (C.sight cells.new)) }
     ensures written { IfOk result (λ _. WasWritten (C.sight cells.new) (name_cell slot)) }
     ensures taken { TakesAtMost (bodies_length assertion.now steps.now) (C.sight cells.old) (C.sight cells.new) }
+    ensures keeps { IfOk result (λ _. KeepsAside (IsOfFilling (C.sight cells.old).setting.slots slot assertion.now.label steps.now) (C.sight cells.old) (C.sight cells.new)) }
 {
     lay_down(alloc, cells, slot, rank, assertion, steps)?;
     let cited = cited_slots(alloc, steps)?;
@@ -64,6 +66,7 @@ fn lay_down<C: Cells>(
     ensures ok { IfOk result (λ _. LaysAnyDown slot rank assertion.now steps.now (C.sight cells.old) (C.sight cells.new)) }
     ensures written { IfOk result (λ _. WasWritten (C.sight cells.new) (name_cell slot)) }
     ensures taken { TakesAtMost (bodies_length assertion.now steps.now) (C.sight cells.old) (C.sight cells.new) }
+    ensures keeps { IfOk result (λ _. KeepsAside (IsOfSlot slot) (C.sight cells.old) (C.sight cells.new)) }
 {
     let _slots = slot_count(cells);
     let label = encode_label(alloc, assertion.label.as_slice())?;
@@ -90,6 +93,7 @@ fn put_proof<C: Cells>(
     ensures ok { IfOk result (λ _. Turns (C.sight cells.old) (C.sight cells.new) (λ st next. LaysProof st next slot kind steps.now)) }
     ensures others { IfOk result (λ _. KeepsOthers (proof_cell slot) (C.sight cells.old) (C.sight cells.new)) }
     ensures taken { TakesAtMost (length (proof_body steps.now)) (C.sight cells.old) (C.sight cells.new) }
+    ensures keeps { IfOk result (λ _. KeepsAside (λ c. c ≡ proof_cell slot) (C.sight cells.old) (C.sight cells.new)) }
 {
     let _slots = slot_count(cells);
     match kind {
@@ -110,6 +114,7 @@ pub fn put<C: Cells>(cells: &mut C, cell: usize, value: u64) -> Result<(), C::St
     ensures ok { IfOk result (λ _. (st : State) → after (C.sight cells.new) st ≡ with_value cell value (after (C.sight cells.old) st)) }
     ensures written { IfOk result (λ _. WasWritten (C.sight cells.new) cell) }
     ensures taken { TakesAtMost 0 (C.sight cells.old) (C.sight cells.new) }
+    ensures keeps { IfOk result (λ _. KeepsAside (λ c. c ≡ cell) (C.sight cells.old) (C.sight cells.new)) }
 {
     cells.read(cell)?;
     cells.write(cell, value);
@@ -126,6 +131,7 @@ pub fn put_body<C: Cells>(cells: &mut C, cell: usize, words: &[u64]) -> Result<(
     ensures others { IfOk result (λ _. KeepsOthers cell (C.sight cells.old) (C.sight cells.new)) }
     ensures written { IfOk result (λ _. WasWritten (C.sight cells.new) cell) }
     ensures taken { TakesAtMost (length words.now) (C.sight cells.old) (C.sight cells.new) }
+    ensures keeps { IfOk result (λ _. KeepsAside (λ c. c ≡ cell) (C.sight cells.old) (C.sight cells.new)) }
 {
     let range = cells.stage(words)?;
     cells.read(cell)?;
@@ -145,6 +151,7 @@ pub fn vacate<C: Cells>(cells: &mut C, slot: usize) -> Result<(), C::Stop>
     ensures ok { IfOk result (λ _. (st : State) → Empties slot (after (C.sight cells.old) st) (after (C.sight cells.new) st)) }
     ensures written { IfOk result (λ _. WasWritten (C.sight cells.new) (name_cell slot)) }
     ensures taken { TakesAtMost 0 (C.sight cells.old) (C.sight cells.new) }
+    ensures keeps { IfOk result (λ _. KeepsAside (IsOfSlot slot) (C.sight cells.old) (C.sight cells.new)) }
 {
     let _slots = slot_count(cells);
     for part in 0..5 {

@@ -15,7 +15,7 @@ mod words;
 
 pub use cells::Cells;
 pub use chains::{put_in, take_out};
-pub use counts::{cited_slots, count_in, count_out};
+pub use counts::{cited_slots, count_in, count_out, only_in};
 pub use ending::{CommandError, RunError};
 pub use filling::{fill, put, put_body, vacate};
 pub use finding::{find, free_slot, has_clash};

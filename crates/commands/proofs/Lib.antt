@@ -6,6 +6,8 @@ pub mod Chaining
 pub mod Relabelling
 pub mod Removing
 pub mod Restepping
+pub mod Touching
+pub mod TouchingAll
 pub mod Reproved
 pub mod ByteKeys
 pub mod Outcomes

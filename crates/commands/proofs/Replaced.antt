@@ -1,5 +1,5 @@
 -- The tests of another citation in a proof, and what becomes of the library where they pass.
-use Rattle.std.proofs.Common.{◌≡◌, ◌≢◌, ℕ, Bool, true, false, List, [], ◌∷◌, Some, None, Result, Ok, Err, map, refl, sym, ap, subst, ◌∙◌}
+use Rattle.std.proofs.Common.{◌≡◌, ◌≢◌, ℕ, Bool, true, false, List, [], ◌∷◌, Some, None, Result, Ok, Err, map, refl, sym, ap, subst, ◌∙◌, inl, inr, ⊎_elim}
 use Rattle.std.specs.Prelude.{nat_le}
 use Rattle.std.specs.Result.{IsErrAnd}
 use Rattle.std.proofs.Math.Bool.{or-false}
@@ -36,6 +36,7 @@ use Rattle.cells.proofs.Settings.{same_slots}
 use Rattle.cells.proofs.Sights.{looks_trans, matches_back}
 use Rattle.cells.specs.Answers.{WritesSome, Does, IsRefused, CommandAnswers}
 use Rattle.commands.specs.Changes.{ReprovesAt}
+use Rattle.commands.specs.Touches.{ReprovesWithin, KeepsTo}
 use Rattle.commands.specs.Replacing.{TellsUnknown, TellsAlike, TellsNotLower, recited_step}
 use Rattle.cells.specs.declared.ending.CommandError.{CommandError}
 use Rattle.cells.specs.declared.ending.CommandError.TheVariants as command
@@ -230,6 +231,21 @@ module _ {O : Type 0} (first s : Sight O) (i j k : ℕ) (label old new : List �
       replace_axiom s.setting lib label old new at.entry at.found at_old.entry at_old.found at_new.entry at_new.found
       (no_step s.setting.slots (after s st) a.kind a.proof kept (λ theorem. steps_some _ _ a a.proof a.statement (checks theorem))
       (stored_there st lib v) none))
+
+  -- the steps that cite the other slot are kept aside, and what counts the two
+  pub replace_keeps : (last : Sight O) → ReprovesWithin s last i label (map (recited_step s.setting.slots j k) kept)
+      → KeepsTo s last (Replace label old new)
+  replace_keeps last within st lib m v c was =
+      let at = known.finds.1 st lib v in
+      let at_old = known.finds_old.1 st lib v in
+      let at_new = known.finds_new.1 st lib v in
+      let slots = s.setting.slots in
+      let steps = at.entry.assertion.proof in
+      let apart = v.verifies.library.distinct in
+      let named = found_named slots (after s st) lib v.shows v.matches.store apart new k at_new in
+      ⊎_elim (λ before. inl before) (λ is. inr (i, at, is))
+      (within st lib m v at (recited old new steps) (recited_stored slots (after s st) lib v.shows v.matches.store apart j k old new at_old
+      named steps kept (stored_there st lib v)) c was)
 
   module _ (some : kept ≢ []) (p : Tables) (prelude : p ≡ first.setting.prelude) where
     theorem_there : (st : State) (lib : List Ranked) (v : Views s st lib) → (known.finds.1 st lib v).entry.assertion.kind ≡ Theorem

@@ -1,5 +1,6 @@
 pub mod Citing
 pub mod Changes
+pub mod Touches
 pub mod Naming
 pub mod Listing
 pub mod Looking

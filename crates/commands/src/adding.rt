@@ -1,11 +1,12 @@
 //! Adds a theorem.
 
-ghost use Rattle.std.specs.Prelude.{◌≡◌, true};
+ghost use Rattle.std.specs.Prelude.{◌≡◌, true, IfOk};
 ghost use Rattle.library.specs.declared.command.Command.TheVariants as command;
 ghost use Rattle.library.specs.Fitting.{CommandFits};
 ghost use Rattle.cells.specs.Sight.{Onward};
 ghost use Rattle.cells.specs.Answers.{CommandAnswers};
 ghost use Rattle.commands.specs.Takes.{TakesBodies};
+ghost use Rattle.commands.specs.Touches.{KeepsTo};
 
 use crate::citing::test_proof;
 use crate::naming::test_new_label;
@@ -30,6 +31,7 @@ pub(crate) fn add<C: Cells>(
     ensures onward { Onward (C.sight cells.old) (C.sight cells.new) }
     ensures answers { CommandAnswers (C.sight cells.old) (C.sight cells.new) (command.Add rank assertion.now) result }
     ensures taken { TakesBodies (command.Add rank assertion.now) (C.sight cells.old) (C.sight cells.new) }
+    ensures keeps { IfOk result (λ _. KeepsTo (C.sight cells.old) (C.sight cells.new) (command.Add rank assertion.now)) }
 {
     let label = assertion.label.as_slice();
     if rank == 0 {

@@ -6,6 +6,7 @@ ghost use Rattle.cells.specs.Sight.{Onward, Looks};
 ghost use Rattle.cells.specs.Answers.{CommandAnswers};
 ghost use Rattle.commands.specs.Citing.{TellsCites, TellsCitedUpTo};
 ghost use Rattle.commands.specs.Takes.{TakesBodies};
+ghost use Rattle.commands.specs.Touches.{KeepsTo};
 
 use crate::citing::cites_not_below;
 use bodystore::StoredStep;
@@ -27,6 +28,7 @@ pub(crate) fn move_to<C: Cells>(
     ensures onward { Onward (C.sight cells.old) (C.sight cells.new) }
     ensures answers { CommandAnswers (C.sight cells.old) (C.sight cells.new) (command.Move label.now rank) result }
     ensures taken { TakesBodies (command.Move label.now rank) (C.sight cells.old) (C.sight cells.new) }
+    ensures keeps { IfOk result (λ _. KeepsTo (C.sight cells.old) (C.sight cells.new) (command.Move label.now rank)) }
 {
     let Some(slot) = find(cells, label.as_slice()).map_err(Halt::Stopped)? else {
         return Err(Reason::UnknownLabel.into());

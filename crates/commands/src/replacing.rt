@@ -5,6 +5,7 @@ ghost use Rattle.library.specs.declared.command.Command.TheVariants as command;
 ghost use Rattle.cells.specs.Sight.{Onward, Looks};
 ghost use Rattle.cells.specs.Lookups.{Finds};
 ghost use Rattle.cells.specs.Answers.{CommandAnswers};
+ghost use Rattle.commands.specs.Touches.{KeepsTo};
 ghost use Rattle.commands.specs.Replacing.{TellsUnknown, TellsAlike, TellsNotLower, recited_step};
 ghost use Rattle.commands.specs.Takes.{TakesBodies};
 
@@ -31,6 +32,7 @@ pub(crate) fn replace<C: Cells>(
     ensures onward { Onward (C.sight cells.old) (C.sight cells.new) }
     ensures answers { CommandAnswers (C.sight cells.old) (C.sight cells.new) (command.Replace label.now old.now new.now) result }
     ensures taken { TakesBodies (command.Replace label.now old.now new.now) (C.sight cells.old) (C.sight cells.new) }
+    ensures keeps { IfOk result (λ _. KeepsTo (C.sight cells.old) (C.sight cells.new) (command.Replace label.now old.now new.now)) }
 {
     let slot = slot_of(cells, label)?;
     let former = slot_of(cells, old)?;

@@ -8,12 +8,13 @@ ghost use Rattle.cells.specs.Lookups.{AreWithin};
 ghost use Rattle.cells.specs.Answers.{CommandAnswers, WritesSome};
 ghost use Rattle.commands.specs.Changes.{ReprovesAt};
 ghost use Rattle.commands.specs.Takes.{TakesBodies};
+ghost use Rattle.commands.specs.Touches.{KeepsTo, ReprovesWithin};
 
 use crate::citing::test_proof;
 use bodystore::{StoredStep, encode_proof};
 use cells::{
-    Cells, CommandError, Halt, cited_slots, count_in, count_out, find, proof_cell, put_body, rank,
-    slot_count, statement, stored_proof,
+    Cells, CommandError, Halt, cited_slots, count_in, count_out, find, only_in, proof_cell,
+    put_body, rank, slot_count, statement, stored_proof,
 };
 use library::{Reason, Reply};
 use mmsyntax::{Kind, Label, Prelude, Sequence, Step, copy_steps};
@@ -32,6 +33,7 @@ pub(crate) fn reprove<C: Cells>(
     ensures onward { Onward (C.sight cells.old) (C.sight cells.new) }
     ensures answers { CommandAnswers (C.sight cells.old) (C.sight cells.new) (command.Reprove label.now steps.now) result }
     ensures taken { TakesBodies (command.Reprove label.now steps.now) (C.sight cells.old) (C.sight cells.new) }
+    ensures keeps { IfOk result (λ _. KeepsTo (C.sight cells.old) (C.sight cells.new) (command.Reprove label.now steps.now)) }
 {
     let Some(slot) = find(cells, label.as_slice()).map_err(Halt::Stopped)? else {
         return Err(Reason::UnknownLabel.into());
@@ -48,7 +50,8 @@ pub(crate) fn reprove<C: Cells>(
     Ok(Reply::Done)
 }
 
-/// Stages steps, has the proof cell of a slot name them, counts out what the former proof cites, and counts in what these cite.
+/// Stages steps, has the proof cell of a slot name them, counts out what the former proof cites and these don't, and counts in what these
+/// cite and the former proof doesn't.
 pub(crate) fn put_steps<C: Cells>(
     alloc: Global,
     cells: &mut C,
@@ -63,13 +66,16 @@ pub(crate) fn put_steps<C: Cells>(
     ensures written { IfOk result (λ _. WritesSome (C.sight cells.new)) }
     ensures ok { IfOk result (λ _. (label : List _) → ReprovesAt (C.sight cells.old) (C.sight cells.new) slot label kept.now) }
     ensures taken { TakesAtMost (length (proof_body kept.now)) (C.sight cells.old) (C.sight cells.new) }
+    ensures keeps { IfOk result (λ _. (label : List _) → ReprovesWithin (C.sight cells.old) (C.sight cells.new) slot label kept.now) }
 {
     let _slots = slot_count(cells);
     let former = stored_proof(alloc, cells, slot)?;
     let before = cited_slots(alloc, former.as_slice())?;
     let now = cited_slots(alloc, kept)?;
+    let dropped = only_in(alloc, before.as_slice(), now.as_slice())?;
+    let gained = only_in(alloc, now.as_slice(), before.as_slice())?;
     let body = encode_proof(alloc, kept)?;
     put_body(cells, proof_cell(slot), body.as_slice()).map_err(Halt::Stopped)?;
-    count_out(cells, before.as_slice()).map_err(Halt::Stopped)?;
-    count_in(cells, now.as_slice()).map_err(Halt::Stopped)
+    count_out(cells, dropped.as_slice()).map_err(Halt::Stopped)?;
+    count_in(cells, gained.as_slice()).map_err(Halt::Stopped)
 }

@@ -1,10 +1,11 @@
 //! Runs transactions.
 
-ghost use Rattle.std.specs.Prelude.{◌≡◌, All};
+ghost use Rattle.std.specs.Prelude.{◌≡◌, All, IfOk};
 ghost use Rattle.library.specs.Fitting.{CommandFits};
 ghost use Rattle.cells.specs.Sight.{Onward, TakesAtMost};
 ghost use Rattle.cells.specs.Answers.{ForEachBefore, MayDo, CommandAnswers, RunAnswers};
 ghost use Rattle.commands.specs.Takes.{TakesBodies, most_words_of};
+ghost use Rattle.commands.specs.Touches.{KeepsTo, KeepsToAll};
 
 use crate::adding::add;
 use crate::deleting::delete;
@@ -23,7 +24,7 @@ use std::alloc::Global;
 ///
 /// The replies are those of the transaction's definition over the library, and the cells then show the library as it is after it: for every
 /// state of the cells that agrees with what was read, shows a library that verifies, and has the ranges that were seen. So whatever else
-/// becomes of cells that were not read, nothing changes in the answer.
+/// becomes of cells that were not read, nothing changes in the answer. Values are kept aside for no cells but those of what the commands change.
 ///
 /// # Errors
 ///
@@ -41,6 +42,7 @@ pub fn run<C: Cells>(
     ensures onward { Onward (C.sight cells.old) (C.sight cells.new) }
     ensures answers { RunAnswers (C.sight cells.old) (C.sight cells.new) commands.now result }
     ensures taken { ForEachBefore (C.sight cells.old) (C.sight cells.new) (λ st lib. TakesAtMost (most_words_of commands.now) (C.sight cells.old) (C.sight cells.new)) }
+    ensures keeps { IfOk result (λ _. KeepsToAll (C.sight cells.old) (C.sight cells.new) commands.now) }
 {
     let mut replies = Vec::new(alloc);
     for (done, command) in commands.iter().enumerate() {
@@ -52,7 +54,8 @@ pub fn run<C: Cells>(
     Ok(Sequence::from_vec(replies))
 }
 
-/// Does one command, over what is kept aside. It is within the limits of the prelude, which is the library's, and the run may do it.
+/// Does one command, over what is kept aside. It is within the limits of the prelude, which is the library's, and the run may do it. It keeps
+/// values aside for no cells but those of what it changes: so commands that change nothing of one another's don't meet.
 ///
 /// # Errors
 ///
@@ -69,6 +72,7 @@ pub fn take<C: Cells>(
     ensures onward { Onward (C.sight cells.old) (C.sight cells.new) }
     ensures answers { CommandAnswers (C.sight cells.old) (C.sight cells.new) command.now result }
     ensures taken { TakesBodies command.now (C.sight cells.old) (C.sight cells.new) }
+    ensures keeps { IfOk result (λ _. KeepsTo (C.sight cells.old) (C.sight cells.new) command.now) }
 {
     match command {
         Command::Add { rank, assertion } => add(alloc, prelude, cells, *rank, assertion),

@@ -9,6 +9,7 @@
 //! | `B learn A` | `learnt`: the session B has learnt what A has seen |
 //! | `A snapshot` | `seen PLACE`, and the exported text of the library after PLACE entries |
 //! | `finish A B ..` | `finished N`, the library's text then, and whether the replay of its history gives it; or `missing N`, `held CELL` |
+//! | `locks A B ..` | the same end: the cells whose lock words have moved since the opening, in their order; or `none` |
 //! | any other | `cannot read this line` |
 //!
 //! The sessions of a library are called `A` to `Z`, or `1` to `64`. Where memory runs out, `no memory` is answered.
@@ -53,6 +54,7 @@ pub fn answer_line(
         b"|" => table.put_line(alloc, behind),
         b"open" => table.open(rt, alloc, keys, behind),
         b"finish" => table.finish(alloc, keys, behind),
+        b"locks" => table.finish_moved(alloc, behind),
         _ => {
             let Some(opened) = &mut table.opened else {
                 return Err(Undone::Unreadable);

@@ -7,6 +7,7 @@
 mod answering;
 mod ending;
 mod looking;
+mod moving;
 mod names;
 mod opened;
 mod printing;

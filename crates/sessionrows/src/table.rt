@@ -1,8 +1,11 @@
 //! What later lines begin with: the texts of databases, by name, and the library that is open.
 
+ghost use Rattle.std.specs.Prelude.{IfOk};
+ghost use Rattle.sessionrows.specs.Opened.{IsOpen};
 ghost use Rattle.sessionrows.specs.Tables.{Stands};
 
 use crate::ending::end;
+use crate::moving::moved;
 use crate::names::places_of;
 use crate::opened::{Opened, open};
 use crate::printing::write_unopened;
@@ -137,6 +140,33 @@ impl Table {
         requires { Stands self.old }
         ensures { Stands self.new }
     {
+        let (opened, places) = self.take(alloc, names)?;
+        end(alloc, keys, opened, places.as_slice())
+    }
+
+    /// Ends the library that is open, with the sessions alone that are named: which lock words have moved. Nothing is open then.
+    ///
+    /// # Errors
+    ///
+    /// `Unreadable` where nothing is open, or no session has such a name; want of memory.
+    pub fn finish_moved(&mut self, alloc: Global, names: &[u8]) -> Result<Vec<u8>, Undone>
+        requires { Stands self.old }
+        ensures { Stands self.new }
+    {
+        let (opened, places) = self.take(alloc, names)?;
+        moved(alloc, opened, places.as_slice())
+    }
+
+    /// Takes out the library that is open, with the places of the sessions that are named.
+    ///
+    /// # Errors
+    ///
+    /// `Unreadable` where nothing is open, or no session has such a name: what is open stays so. Want of memory.
+    fn take(&mut self, alloc: Global, names: &[u8]) -> Result<(Opened, Vec<usize>), Undone>
+        requires { Stands self.old }
+        ensures stands { Stands self.new }
+        ensures open { IfOk result (λ taken. IsOpen taken.0) }
+    {
         let places = places_of(alloc, names)?;
         let Some(opened) = self.opened.take() else {
             return Err(Undone::Unreadable);
@@ -146,6 +176,6 @@ impl Table {
             self.opened = Some(opened);
             return Err(Undone::Unreadable);
         }
-        end(alloc, keys, opened, places.as_slice())
+        Ok((opened, places))
     }
 }

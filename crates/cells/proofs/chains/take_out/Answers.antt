@@ -1,9 +1,11 @@
-use Rattle.std.proofs.Common.{◌≡◌, ◌<◌, ◌+◌, ℕ, List, sym, ap, subst, ◌∙◌, arith, refl}
+use Rattle.std.proofs.Common.{◌≡◌, ◌<◌, ◌+◌, ℕ, List, sym, ap, subst, ◌∙◌, inl, inr, arith, refl}
 use Rattle.library.specs.Library.{label_of}
 use Rattle.cells.specs.Slots.{bucket, bucket_cell, next_cell}
 use Rattle.cells.specs.State.{State}
 use Rattle.cells.specs.Sight.{WasRead, after}
 use Rattle.cells.proofs.Sights.{onward_trans, writes_onward, looks_trans, matches_back, after_looks}
+use Rattle.cells.specs.Aside.{IsOfLeaving}
+use Rattle.cells.proofs.Keeping.{keeps_same, keeps_trans, keeps_wider, keeps_written}
 use Rattle.cells.proofs.Linking.{bucket_within, has_bucket}
 use Rattle.cells.proofs.Unlinking.{leading}
 use Rattle.cells.proofs.Walking.{Walks, walk_begins, walk_goes, walk_found, walk_on, walk_ends, taken_out}
@@ -124,3 +126,39 @@ returns-clause-ok g c st held e m chained distinct has label_is few =
     let lt = bucket_within old.setting.slots (label_of e) (omega (arith, slots_are, c.slot_count-slots.ensures.some)) in
     absurd (walk_ends old.setting.slots c.args.slot (after old st) _ c.loop.before c.loop.counter
     (c.loop.invariant.walks st held e m chained distinct has label_is lt few) (omega arith))
+
+pub returns-in_default-clause-keeps : goal.returns-in_default-clause-keeps
+returns-in_default-clause-keeps g c st m =
+    let old = g.C.Cells.sight c.args.cells.now in
+    keeps_same (IsOfLeaving old.setting.slots (after old st) c.args.slot) old (g.C.Cells.sight c.read-in-loop.new.self)
+    (c.in_ok-word.ensures.ok.looks.writes ∙ c.loop.invariant.looks.writes)
+
+pub returns-then-member-slot-clause-keeps : goal.returns-then-member-slot-clause-keeps
+returns-then-member-slot-clause-keeps g c st m =
+    let old = g.C.Cells.sight c.args.cells.now in
+    let now = g.C.Cells.sight c.read-in-loop.new.self in
+    let mid = g.C.Cells.sight c.write.new.self in
+    let new = g.C.Cells.sight c.write-then-member-slot.new.self in
+    let such = IsOfLeaving old.setting.slots (after old st) c.args.slot in
+    let slots_are = c.slot_count-slots.ensures.value in
+    let read = c.in_ok-word.ensures.ok in
+    let both = looks_trans _ _ _ c.loop.invariant.looks read.looks in
+    let m1 = matches_back _ _ st (onward_trans _ _ _ (writes_onward _ _ _ _ c.write.ensures)
+    (writes_onward _ _ _ _ c.write-then-member-slot.ensures)) m in
+    let word_is = sym (read.value st m1 ∙ ap (λ (x : State). x.value c.loop.before) (after_looks _ _ st both)) in
+    let found = c.in-Some.ensures.1 in
+    let own = c.if-member-slot.true in
+    let leads : (after old st).value c.loop.before ≡ c.args.slot + 1 = omega (arith, word_is, found, own) in
+    let link : c.next_cell-then-member-slot.result ≡ next_cell old.setting.slots c.args.slot =
+    omega (arith, c.next_cell-then-member-slot.ensures, slots_are) in
+    keeps_trans such old mid new
+    (keeps_trans such old now mid (keeps_same such old now both.writes)
+    (keeps_wider (λ k. k ≡ c.loop.before) such now mid
+    (λ k is. inl (omega (arith, c.loop.invariant.low, is), ap (after old st).value is ∙ leads)) (keeps_written _ _ now mid c.write.ensures)))
+    (keeps_wider (λ k. k ≡ c.next_cell-then-member-slot.result) such mid new (λ k is. inr (is ∙ link))
+    (keeps_written _ _ mid new c.write-then-member-slot.ensures))
+
+pub returns-clause-keeps : goal.returns-clause-keeps
+returns-clause-keeps g c st m =
+    let old = g.C.Cells.sight c.args.cells.now in
+    keeps_same (IsOfLeaving old.setting.slots (after old st) c.args.slot) old (g.C.Cells.sight c.loop.cells) c.loop.invariant.looks.writes

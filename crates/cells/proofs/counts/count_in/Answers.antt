@@ -2,7 +2,9 @@ use Rattle.std.proofs.Common.{◌+◌, ℕ, List, take, get_or, sym, subst, arit
 use Rattle.std.proofs.lemmas.List.{take_all}
 use Rattle.cells.specs.Sight.{after}
 use Rattle.cells.proofs.Sights.{onward_trans, writes_onward, matches_back}
-use Rattle.cells.proofs.Counting.{Changes, one_more, changes_more, count_made, counts_in}
+use Rattle.cells.specs.Aside.{IsCitersOf}
+use Rattle.cells.proofs.Keeping.{keeps_trans}
+use Rattle.cells.proofs.Counting.{Changes, one_more, changes_more, count_made, counts_in, keeps_counted}
 use Rattle.cells.proofs.counts.count_in.Goals as goal
 
 pub returns-in_err-count-clause-onward : goal.returns-in_err-count-clause-onward
@@ -21,6 +23,8 @@ loop-slot-preserved g c =
     record {
       onward = onward_trans _ _ _ c.loop-slot.invariant.onward (onward_trans _ _ _ read.looks.onward wrote);
       taken = omega (arith, c.loop-slot.invariant.taken, read.looks.taken, c.write.ensures.taken);
+      keeps = keeps_trans (IsCitersOf c.args.cited.now) old now new c.loop-slot.invariant.keeps
+          (keeps_counted cited i _ _ now _ new (omega arith) c.citers_cell-in-loop-slot.ensures read.looks c.write.ensures);
       changes = λ st m d.
           let m1 = matches_back _ _ st wrote m in
           let m0 = matches_back _ _ st read.looks.onward m1 in

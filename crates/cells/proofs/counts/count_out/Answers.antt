@@ -4,7 +4,9 @@ use Rattle.mmsyntax.specs.Assertions.{Distinct}
 use Rattle.cells.specs.State.{State}
 use Rattle.cells.specs.Sight.{Sight, Matches, Onward, TakesAtMost, after}
 use Rattle.cells.proofs.Sights.{onward_trans, writes_onward, matches_back}
-use Rattle.cells.proofs.Counting.{Changes, one_less, changes_more, count_made, counts_out}
+use Rattle.cells.specs.Aside.{KeepsAside, IsCitersOf}
+use Rattle.cells.proofs.Keeping.{keeps_trans}
+use Rattle.cells.proofs.Counting.{Changes, one_less, changes_more, count_made, counts_out, keeps_counted}
 use Rattle.cells.proofs.counts.count_out.Goals as goal
 use Rattle.cells.proofs.counts.count_out.Goals.{then-slot-slots+in_ok-count, else-slot-slots}
 
@@ -23,6 +25,9 @@ loop-slot-preserved g c = elim c.if-slot-slots.branch [
             (onward_trans _ _ _ c.loop-slot.invariant.onward (onward_trans _ _ _ read.looks.onward wrote));
         taken = subst (λ cells. TakesAtMost 0 old (g.C.Cells.sight cells)) (sym w.cells-is)
             (omega (arith, c.loop-slot.invariant.taken, read.looks.taken, w.write.ensures.taken));
+        keeps = subst (λ cells. KeepsAside (IsCitersOf cited) old (g.C.Cells.sight cells)) (sym w.cells-is)
+            (keeps_trans (IsCitersOf cited) old now new c.loop-slot.invariant.keeps
+            (keeps_counted cited i _ _ now _ new (omega arith) w.citers_cell-then-slot-slots.ensures read.looks w.write.ensures));
         changes = subst (Turned (i + 1)) (sym w.cells-is) (λ st m within d.
             let m1 = matches_back _ _ st wrote m in
             let m0 = matches_back _ _ st read.looks.onward m1 in
@@ -35,6 +40,7 @@ loop-slot-preserved g c = elim c.if-slot-slots.branch [
       record {
         onward = subst (λ cells. Onward old (g.C.Cells.sight cells)) (sym w.cells-is) c.loop-slot.invariant.onward;
         taken = subst (λ cells. TakesAtMost 0 old (g.C.Cells.sight cells)) (sym w.cells-is) c.loop-slot.invariant.taken;
+        keeps = subst (λ cells. KeepsAside (IsCitersOf cited) old (g.C.Cells.sight cells)) (sym w.cells-is) c.loop-slot.invariant.keeps;
         changes = λ st m within d.
             let lt = within i 0 c.loop-slot-test.true in
             let some = c.slot_count-slots.ensures.value in

@@ -1,4 +1,4 @@
-use Rattle.std.proofs.Common.{◌≡◌, ◌<◌, List, ◌∷◌, sym, subst, ◌∙◌, refl, arith}
+use Rattle.std.proofs.Common.{◌≡◌, ◌<◌, ℕ, List, ◌∷◌, sym, subst, ◌∙◌, inl, inr, refl, arith}
 use Rattle.std.proofs.lemmas.List.Sums.{count_by-le-length}
 use Rattle.library.specs.declared.library.Ranked.{Ranked}
 use Rattle.library.specs.Library.{Setting, label_of}
@@ -9,6 +9,8 @@ use Rattle.cells.specs.Shows.{Held, slots_of, AreChained}
 use Rattle.cells.specs.Chains.{Rechains}
 use Rattle.cells.specs.Filling.{AreCitedSlots, MayFill, Fills}
 use Rattle.cells.specs.Slots.{name_cell}
+use Rattle.cells.specs.Aside.{KeepsAside, IsOfSlot, IsCitersOf, IsOfFront, IsOfFilling}
+use Rattle.cells.proofs.Keeping.{keeps_trans, keeps_wider}
 use Rattle.cells.specs.Sight.{Matches, Views, after}
 use Rattle.cells.proofs.Sights.{onward_trans, matches_back}
 use Rattle.ranges.proofs.Members.{all_from_has}
@@ -79,3 +81,25 @@ returns-clause-written g c =
     let later = onward_trans _ _ _ c.count_in.ensures.onward c.put_in.ensures.onward in
     let done = later.written (name_cell c.args.slot) c.in_ok-lay_down.ensures.written in
     if_mapped _ _ _ _ _ c.map_err-2.ensures.cases c.put_in.ensures.ok (λ x put. done)
+
+pub returns-clause-keeps : goal.returns-clause-keeps
+returns-clause-keeps g c =
+    let s0 = g.C.Cells.sight c.args.cells.now in
+    let s1 = g.C.Cells.sight c.lay_down.new.cells in
+    let s2 = g.C.Cells.sight c.count_in.new.cells in
+    let s3 = g.C.Cells.sight c.put_in.new.cells in
+    let i = c.args.slot in
+    let label = c.args.assertion.now.label in
+    let steps = c.args.steps.now in
+    let cited = c.as_slice.result.now in
+    let such = IsOfFilling s0.setting.slots c.args.slot c.args.assertion.now.label c.args.steps.now in
+    let setting = c.count_in.ensures.onward.setting ∙ c.lay_down.ensures.onward.setting in
+    let own = keeps_wider (IsOfSlot c.args.slot) such s0 s1 (λ k is. inl is) c.in_ok-lay_down.ensures.keeps in
+    let counted = keeps_wider (IsCitersOf c.as_slice.result.now) such s1 s2
+    (λ k is. inr (inr (is.0, c.in_ok-cited.ensures.cited is.0 (subst (Has is.0) c.as_slice.ensures.value is.1), is.2)))
+    (ok_mapped _ _ _ _ _ c.in_ok-map_err.was c.map_err.ensures.cases c.count_in.ensures.keeps) in
+    if_mapped _ _ (λ _. KeepsAside such s0 s3) _ _ c.map_err-2.ensures.cases c.put_in.ensures.keeps (λ _ front.
+    keeps_trans such s0 s2 s3 (keeps_trans such s0 s1 s2 own counted)
+    (keeps_wider (IsOfFront s2.setting.slots c.args.slot c.as_slice-2.result.now) such s2 s3
+    (λ k is. inr (inl (subst (λ (l : List ℕ). IsOfFront s0.setting.slots c.args.slot l k) c.as_slice-2.ensures
+    (subst (λ (s : Setting). IsOfFront s.slots c.args.slot c.as_slice-2.result.now k) setting is)))) front))

@@ -1,7 +1,9 @@
-use Rattle.std.proofs.Common.{◌≡◌, ℕ, ap, subst, ◌∙◌, refl}
+use Rattle.std.proofs.Common.{◌≡◌, ◌<◌, ◌*◌, ◌+◌, ℕ, ap, subst, ◌∙◌, refl, arith}
 use Rattle.cells.specs.Slots.{name_cell}
 use Rattle.cells.specs.State.{State, HasBody, with_value}
-use Rattle.cells.specs.Sight.{WasWritten, Matches, after}
+use Rattle.cells.specs.Sight.{Sight, WasWritten, Matches, after}
+use Rattle.cells.specs.Aside.{KeepsAside, IsOfSlot}
+use Rattle.cells.proofs.Keeping.{keeps_same, keeps_trans, keeps_wider}
 use Rattle.cells.specs.Filling.{LaysDown}
 use Rattle.cells.proofs.Sights.{onward_trans, matches_back}
 use Rattle.cells.proofs.Laying.{if_mapped, ok_mapped, laid_down}
@@ -69,3 +71,29 @@ returns-clause-written g c =
     let done = later.written (name_cell c.args.slot) (subst (WasWritten s1) c.name_cell.ensures named) in
     let then : (x : Unit {0}) → WasWritten s5 c.citers_cell.result → WasWritten s5 (name_cell c.args.slot) = λ x w. done in
     if_mapped _ _ _ _ _ c.map_err-4.ensures.cases c.put-2.ensures.written then
+
+-- a cell of the slot is kept aside after others of it
+one_more : {O : Type 0} → (slot part cell : ℕ) (r s t : Sight O) → cell ≡ 5 * slot + part → part < 5 → KeepsAside (IsOfSlot slot) r s
+    → KeepsAside (λ c. c ≡ cell) s t → KeepsAside (IsOfSlot slot) r t
+one_more slot part cell r s t is few before last =
+    keeps_trans (IsOfSlot slot) r s t before
+    (keeps_wider (λ c. c ≡ cell) (IsOfSlot slot) s t (λ c same. (omega (arith, is, same), omega (arith, is, few, same))) last)
+
+pub returns-clause-keeps : goal.returns-clause-keeps
+returns-clause-keeps g c =
+    let i = c.args.slot in
+    let s0 = g.C.Cells.sight c.args.cells.now in
+    let s1 = g.C.Cells.sight c.put_body.new.cells in
+    let s2 = g.C.Cells.sight c.put_body-2.new.cells in
+    let s3 = g.C.Cells.sight c.put_proof.new.cells in
+    let s4 = g.C.Cells.sight c.put.new.cells in
+    let s5 = g.C.Cells.sight c.put-2.new.cells in
+    let named = one_more i 0 _ s0 s0 s1 (c.name_cell.ensures ∙ omega arith) (omega arith) (keeps_same (IsOfSlot c.args.slot) s0 s0 refl)
+    (ok_mapped _ _ _ _ _ c.in_ok-map_err.was c.map_err.ensures.cases c.put_body.ensures.keeps) in
+    let stated = one_more i 1 _ s0 s1 s2 c.statement_cell.ensures (omega arith) named
+    (ok_mapped _ _ _ _ _ c.in_ok-map_err-2.was c.map_err-2.ensures.cases c.put_body-2.ensures.keeps) in
+    let proven = one_more i 2 _ s0 s2 s3 refl (omega arith) stated c.in_ok-put_proof.ensures.keeps in
+    let ranked = one_more i 3 _ s0 s3 s4 c.rank_cell.ensures (omega arith) proven
+    (ok_mapped _ _ _ _ _ c.in_ok-map_err-3.was c.map_err-3.ensures.cases c.put.ensures.keeps) in
+    if_mapped _ _ (λ _. KeepsAside (IsOfSlot c.args.slot) s0 s5) _ _ c.map_err-4.ensures.cases c.put-2.ensures.keeps
+    (λ _ last. one_more i 4 _ s0 s4 s5 c.citers_cell.ensures (omega arith) ranked last)

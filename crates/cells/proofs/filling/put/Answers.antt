@@ -1,4 +1,5 @@
 use Rattle.cells.proofs.Sights.{onward_trans, writes_onward, writes_cell}
+use Rattle.cells.proofs.Keeping.{keeps_put}
 use Rattle.cells.proofs.filling.put.Goals as goal
 
 pub returns-clause-onward : goal.returns-clause-onward
@@ -6,3 +7,8 @@ returns-clause-onward g c = onward_trans _ _ _ c.in_ok-read.ensures.ok.looks.onw
 
 pub returns-clause-written : goal.returns-clause-written
 returns-clause-written g c = writes_cell _ _ _ _ c.write.ensures
+
+pub returns-clause-keeps : goal.returns-clause-keeps
+returns-clause-keeps g c =
+    keeps_put _ _ (g.C.Cells.sight c.args.cells.now) (g.C.Cells.sight c.read.new.self) (g.C.Cells.sight c.write.new.self)
+    c.in_ok-read.ensures.ok.looks.writes c.write.ensures

@@ -4,6 +4,7 @@ use Rattle.cells.specs.Sight.{after}
 use Rattle.cells.proofs.Sights.{onward_trans, writes_onward, writes_cell, stages_take, after_writes}
 use Rattle.cells.proofs.Bodies.{body_known}
 use Rattle.cells.proofs.Staging.{staged_start, staged_len}
+use Rattle.cells.proofs.Keeping.{keeps_put}
 use Rattle.cells.proofs.Values.{value_there}
 use Rattle.cells.proofs.filling.put_body.Goals as goal
 
@@ -59,3 +60,8 @@ pub returns-clause-taken : goal.returns-clause-taken
 returns-clause-taken g c =
     let staged = stages_take _ _ _ _ c.in_ok-range.ensures.ok in
     omega (arith, staged, c.in_ok-read.ensures.ok.looks.taken, c.write.ensures.taken)
+
+pub returns-clause-keeps : goal.returns-clause-keeps
+returns-clause-keeps g c =
+    keeps_put _ _ (g.C.Cells.sight c.args.cells.now) (g.C.Cells.sight c.read.new.self) (g.C.Cells.sight c.write.new.self)
+    (c.in_ok-read.ensures.ok.looks.writes ∙ c.in_ok-range.ensures.ok.writes) c.write.ensures

@@ -5,6 +5,8 @@ use Rattle.cells.specs.State.{State, with_value}
 use Rattle.cells.specs.Slots.{cell_count}
 use Rattle.cells.specs.Sight.{Sight, WasWritten, Onward, after}
 use Rattle.cells.proofs.Sights.{onward_refl, onward_trans, writes_onward, writes_cell, after_looks, after_writes}
+use Rattle.cells.specs.Aside.{IsOfSlot}
+use Rattle.cells.proofs.Keeping.{keeps_same, keeps_trans, keeps_wider, keeps_put}
 use Rattle.cells.proofs.Values.{value_there, value_elsewhere}
 use Rattle.cells.proofs.filling.vacate.Goals as goal
 
@@ -13,6 +15,7 @@ loop-part-init g c =
     record {
       onward = onward_refl (g.C.Cells.sight c.args.cells.now);
       taken = omega arith;
+      keeps = keeps_same (IsOfSlot c.args.slot) (g.C.Cells.sight c.args.cells.now) (g.C.Cells.sight c.args.cells.now) refl;
       zeros = λ st cell low high. absurd (omega (arith, low, high));
       others = λ st cell out. refl;
       written = λ some. absurd (omega (arith, some));
@@ -42,6 +45,9 @@ loop-part-preserved g c =
     record {
       onward = onward_trans _ _ _ c.loop-part.invariant.onward (onward_trans _ _ _ c.in_ok-read.ensures.ok.looks.onward wrote);
       taken = omega (arith, c.loop-part.invariant.taken, c.in_ok-read.ensures.ok.looks.taken, c.write.ensures.taken);
+      keeps = keeps_trans (IsOfSlot c.args.slot) (g.C.Cells.sight c.args.cells.now) now new c.loop-part.invariant.keeps
+          (keeps_wider (λ k. k ≡ cell) (IsOfSlot c.args.slot) now new (λ k is. (omega (arith, at, is), omega (arith, at, is, c.loop-part-test.true)))
+          (keeps_put cell 0 now _ new c.in_ok-read.ensures.ok.looks.writes c.write.ensures));
       zeros = λ st other low high. elim (cases_eq other cell) [
         | inl is ↦ ap (λ (x : State). x.value other) (made st) ∙ ap (λ n. (with_value cell 0 (after now st)).value n) is ∙ value_there cell 0 (after now st)
         | inr ne ↦ elsewhere st other ne ∙ c.loop-part.invariant.zeros st other low (omega (arith, at, high, ne))

@@ -9,6 +9,11 @@ use Rattle.cells.specs.Sight.{Sight}
 use Rattle.cells.specs.Lookups.{FindsFree}
 use Rattle.cells.specs.Filling.{IsFillable}
 use Rattle.cells.proofs.Sights.{onward_trans, looks_trans}
+use Rattle.bodystore.specs.declared.stored.StoredStep.{StoredStep}
+use Rattle.cells.specs.Slots.{bucket}
+use Rattle.cells.specs.Aside.{KeepsAside, IsOfFilling}
+use Rattle.commands.proofs.ProofTests.{stored_on}
+use Rattle.commands.proofs.Touching.{keeps_to_since, add_keeps}
 use Rattle.cells.proofs.Settings.{same_slots}
 use Rattle.cells.proofs.Laying.{ok_mapped}
 use Rattle.cells.specs.Answers.{CommandAnswers}
@@ -163,3 +168,27 @@ returns-clause-taken g c st lib m v =
     c.args.assertion.now.proof c.in_ok-kept.kept.items c.in_ok-kept.ensures.ok.stored st lib m v in
     let same = ap (λ (ks : List StoredStep). length (proof_body ks)) c.as_slice.ensures.value in
     omega (arith, long, same, c.fill.ensures.taken, c.free_slot.ensures.looks.taken, looks.taken)
+
+pub returns-clause-keeps : goal.returns-clause-keeps
+returns-clause-keeps g c =
+    let s0 = g.C.Cells.sight c.args.cells.now in
+    let s2 = g.C.Cells.sight c.test_proof.new.cells in
+    let s3 = g.C.Cells.sight c.free_slot.new.cells in
+    let s4 = g.C.Cells.sight c.fill.new.cells in
+    let a = c.args.assertion.now in
+    let slot = c.in-Some.slot in
+    let kept = c.in_ok-kept.kept.items in
+    let on = c.free_slot.ensures.looks in
+    let first : FindsFree s3 c.bucket-from.result (Some c.in-Some.slot) =
+    subst (FindsFree s3 c.bucket-from.result) c.in-Some.is
+    (ok_mapped _ _ _ _ _ c.in_ok-slot.was c.map_err.ensures.cases c.free_slot.ensures.ok) in
+    let from_is : c.bucket-from.result ≡ bucket s3.setting.slots a.label =
+    c.bucket-from.ensures.value
+    ∙ ap (λ (n : ℕ). bucket n c.as_slice-label.result.now) (c.slot_count.ensures.value ∙ sym (same_slots s2 s3 on))
+    ∙ ap (bucket s3.setting.slots) c.as_slice-label.ensures in
+    keeps_to_since s0 s3 s4 (command.Add c.args.rank a)
+    (looks_trans _ _ _ c.test_new_label.ensures.looks (looks_trans _ _ _ c.test_proof.ensures.looks on)) c.fill.ensures.onward
+    (add_keeps s3 s4 c.bucket-from.result slot c.args.rank a kept from_is first
+    (stored_on s2 s3 a.proof kept on c.in_ok-kept.ensures.ok.stored)
+    (subst (λ (steps : List StoredStep). KeepsAside (IsOfFilling s3.setting.slots slot a.label steps) s3 s4) c.as_slice.ensures.value
+    c.in_ok-fill.ensures.keeps))

@@ -4,6 +4,8 @@ use Rattle.library.specs.declared.reason.Reason.TheVariants as reason
 use Rattle.cells.specs.Lookups.{Finds}
 use Rattle.cells.proofs.Sights.{onward_trans, looks_trans}
 use Rattle.cells.proofs.Laying.{ok_mapped}
+use Rattle.commands.proofs.OnlyLooks.{finds_later}
+use Rattle.commands.proofs.Touching.{keeps_to_since, delete_keeps}
 use Rattle.commands.proofs.Refusing.{of_none, refused, answers_refused}
 use Rattle.commands.proofs.Removing.{CountsCiters, delete_cited, counted, deleted}
 use Rattle.commands.proofs.deleting.delete.Goals as goal
@@ -69,3 +71,18 @@ returns-clause-answers g c =
     let none : c.in_ok-citers.citers ≡ 0 = omega (arith, c.if-citers-gt0.false) in
     deleted s0 s1 s2 s3 c.in-Some.slot label c.find.ensures.looks c.citers.ensures.looks c.remove.ensures.onward finds
     (λ st lib v. let e = counts st lib v in (e.0, e.1, sym none ∙ e.2)) c.in_ok-remove.ensures.ok c.in_ok-remove.ensures.written
+
+pub returns-clause-keeps : goal.returns-clause-keeps
+returns-clause-keeps g c =
+    let s0 = g.C.Cells.sight c.args.cells.now in
+    let s1 = g.C.Cells.sight c.find.new.cells in
+    let s2 = g.C.Cells.sight c.citers.new.cells in
+    let s3 = g.C.Cells.sight c.remove.new.cells in
+    let label = c.args.label.now in
+    let finds : Finds s1 c.args.label.now (Some c.in-Some.slot) =
+    subst (Finds s1 c.args.label.now) c.in-Some.is
+    (subst (λ (l : List ℕ). Finds s1 l c.in_ok-slot.field-0) c.as_slice.ensures
+    (ok_mapped _ _ _ _ _ c.in_ok-slot.was c.map_err.ensures.cases c.find.ensures.ok)) in
+    keeps_to_since s0 s2 s3 (command.Delete label) (looks_trans _ _ _ c.find.ensures.looks c.citers.ensures.looks) c.remove.ensures.onward
+    (delete_keeps s2 s3 c.in-Some.slot label (finds_later s1 s2 label c.in-Some.slot c.citers.ensures.looks finds).1
+    c.in_ok-remove.ensures.keeps)

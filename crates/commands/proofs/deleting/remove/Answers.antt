@@ -4,6 +4,8 @@ use Rattle.cells.specs.Filling.{AreCitedSlots}
 use Rattle.cells.proofs.Sights.{onward_trans}
 use Rattle.cells.proofs.Laying.{if_mapped, ok_mapped}
 use Rattle.commands.specs.Changes.{DeletesAt}
+use Rattle.commands.specs.Touches.{DeletesWithin}
+use Rattle.commands.proofs.Touching.{removes_within}
 use Rattle.commands.proofs.Chaining.{TakesOut}
 use Rattle.commands.proofs.Removing.{removed}
 use Rattle.commands.proofs.deleting.remove.Goals as goal
@@ -38,3 +40,22 @@ returns-clause-ok g c =
     if_mapped _ _ (λ _. DeletesAt s0 s4 c.args.slot c.args.label.now) _ _ c.map_err-3.ensures.cases c.vacate.ensures.ok (λ _ empties.
     removed s0 s1 s2 s3 s4 c.args.slot c.args.label.now former listed c.stored_proof.ensures.looks c.count_out.ensures.onward
     c.take_out.ensures.onward c.vacate.ensures.onward c.in_ok-former.ensures.ok cited counts takes empties)
+
+pub returns-clause-keeps : goal.returns-clause-keeps
+returns-clause-keeps g c =
+    let s0 = g.C.Cells.sight c.args.cells.now in
+    let s1 = g.C.Cells.sight c.stored_proof.new.cells in
+    let s2 = g.C.Cells.sight c.count_out.new.cells in
+    let s3 = g.C.Cells.sight c.take_out.new.cells in
+    let s4 = g.C.Cells.sight c.vacate.new.cells in
+    let former = c.in_ok-former.former.items in
+    let listed = c.as_slice-2.result.now in
+    let former_cited = subst (λ (kept : List StoredStep). AreCitedSlots kept c.in_ok-cited.cited.items) c.as_slice.ensures.value
+    c.in_ok-cited.ensures in
+    let cited = subst (AreCitedSlots c.in_ok-former.former.items) (sym c.as_slice-2.ensures.value) former_cited in
+    let counts = ok_mapped _ _ _ _ _ c.in_ok-map_err.was c.map_err.ensures.cases c.count_out.ensures.ok in
+    let out = ok_mapped _ _ _ _ _ c.in_ok-map_err.was c.map_err.ensures.cases c.count_out.ensures.keeps in
+    let leaves = ok_mapped _ _ _ _ _ c.in_ok-map_err-2.was c.map_err-2.ensures.cases c.take_out.ensures.keeps in
+    if_mapped _ _ (λ _. DeletesWithin s0 s4 c.args.slot c.args.label.now) _ _ c.map_err-3.ensures.cases c.vacate.ensures.keeps (λ _ emptied.
+    removes_within s0 s1 s2 s3 s4 c.args.slot c.args.label.now former listed c.stored_proof.ensures.looks c.count_out.ensures.onward
+    c.take_out.ensures.onward c.vacate.ensures.onward c.in_ok-former.ensures.ok cited counts out leaves emptied)

@@ -8,7 +8,9 @@ use Rattle.cells.specs.Sight.{WasWritten, after}
 use Rattle.cells.specs.Lookups.{Finds}
 use Rattle.cells.proofs.Laying.{ok_mapped}
 use Rattle.cells.proofs.Sights.{onward_trans, looks_trans}
+use Rattle.cells.specs.Aside.{KeepsAside}
 use Rattle.commands.specs.Citing.{TellsNotBelow, TellsCitedUpTo}
+use Rattle.commands.proofs.Touching.{keeps_to_since, move_keeps}
 use Rattle.commands.proofs.CitedRanks.{stored_later}
 use Rattle.commands.proofs.OnlyLooks.{finds_later}
 use Rattle.commands.proofs.Ranking.{stored_since, refused_unranked, refused_not_above, refused_not_below, does_move}
@@ -157,3 +159,21 @@ returns-clause-answers g c =
     c.if-rank-eq0.false kept (stored_since second t i kept on c.in_ok-kept.ensures.ok) high u c.put.ensures.onward low
     (λ st. put st ∙ ap (λ (n : ℕ). with_value n c.args.rank (after t st)) c.rank_cell.ensures)
     (subst (WasWritten u) c.rank_cell.ensures written)
+
+pub returns-clause-keeps : goal.returns-clause-keeps
+returns-clause-keeps g c =
+    let old = g.C.Cells.sight c.args.cells.now in
+    let first = g.C.Cells.sight c.find.new.cells in
+    let t = g.C.Cells.sight c.is_cited_up_to.new.cells in
+    let u = g.C.Cells.sight c.put.new.cells in
+    let label = c.args.label.now in
+    let i = c.in-Some.slot in
+    let finds = ok_mapped _ _ _ _ _ c.in_ok-slot.was c.map_err.ensures.cases c.find.ensures.ok in
+    let some : Finds first c.args.label.now (Some c.in-Some.slot) =
+    subst (Finds first c.args.label.now) c.in-Some.is (subst (λ l. Finds first l c.in_ok-slot.field-0) c.as_slice.ensures finds) in
+    let since = looks_trans _ _ _ c.stored_proof.ensures.looks
+    (looks_trans _ _ _ c.cites_not_below.ensures.looks c.is_cited_up_to.ensures.looks) in
+    keeps_to_since old t u (Move c.args.label.now c.args.rank) (looks_trans _ _ _ c.find.ensures.looks since) c.put.ensures.onward
+    (move_keeps t u i label c.args.rank (finds_later first t label i since some).1
+    (subst (λ (n : ℕ). KeepsAside (λ k. k ≡ n) t u) c.rank_cell.ensures
+    (ok_mapped _ _ _ _ _ c.in_ok-map_err-2.was c.map_err-3.ensures.cases c.put.ensures.keeps)))

@@ -1,8 +1,5 @@
-use Rattle.std.proofs.Common.{◌≡◌, Bool, true, sym, subst, ◌∙◌}
-use Rattle.std.specs.Option.{is_some}
-use Rattle.mmsyntax.specs.Assertions.{is_lawful_label}
-use Rattle.library.specs.Edits.{has}
-use Rattle.cells.specs.Lookups.{ForEach, TellsClash}
+use Rattle.std.proofs.Common.{sym, subst, ◌∙◌}
+use Rattle.cells.specs.Lookups.{TellsClash}
 use Rattle.cells.proofs.Sights.{looks_trans, views_back}
 use Rattle.cells.proofs.Laying.{ok_mapped}
 use Rattle.commands.specs.Naming.{TellsNotNew}

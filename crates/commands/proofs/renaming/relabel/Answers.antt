@@ -1,11 +1,14 @@
-use Rattle.std.proofs.Common.{◌≡◌, ◌≢◌, ℕ, subst}
+use Rattle.std.proofs.Common.{◌≡◌, ◌≢◌, ℕ, List, subst}
 use Rattle.std.proofs.lemmas.Result.{IfOk-weaker}
 use Rattle.cells.specs.State.{State, HasBody}
 use Rattle.cells.specs.Slots.{name_cell}
 use Rattle.cells.specs.Sight.{Matches, after}
 use Rattle.cells.proofs.Sights.{onward_trans}
 use Rattle.cells.specs.Answers.{WritesSome}
+use Rattle.cells.specs.Aside.{KeepsAside, IsOfFront}
 use Rattle.commands.specs.Changes.{RenamesAt}
+use Rattle.commands.specs.Touches.{RenamesWithin}
+use Rattle.commands.proofs.Touching.{relabels_within}
 use Rattle.commands.proofs.Chaining.{TakesOut, PutsIn}
 use Rattle.commands.proofs.Results.{if_ok_always}
 use Rattle.commands.proofs.Relabelling.{relabelled}
@@ -40,3 +43,19 @@ returns-clause-ok g c =
     relabelled s0 s1 s2 s3 c.args.slot c.args.old.now c.args.new.now c.args.body.now c.put_body.ensures.onward c.take_out.ensures.onward
     c.put_in.ensures.onward c.requires.body named others takes (subst (PutsIn s2 s3 c.args.slot) c.as_slice-2.ensures puts))
     c.put_in.ensures.ok
+
+pub returns-clause-keeps : goal.returns-clause-keeps
+returns-clause-keeps g c =
+    let s0 = g.C.Cells.sight c.args.cells.now in
+    let s1 = g.C.Cells.sight c.put_body.new.cells in
+    let s2 = g.C.Cells.sight c.take_out.new.cells in
+    let s3 = g.C.Cells.sight c.put_in.new.cells in
+    let cell : c.name_cell.result ≡ name_cell c.args.slot = c.name_cell.ensures in
+    let others = subst (λ (n : ℕ). (st : State) (k : ℕ) → k ≢ n → (after s1 st).value k ≡ (after s0 st).value k) cell
+    c.in_ok-put_body.ensures.others in
+    let named = subst (λ (n : ℕ). KeepsAside (λ k. k ≡ n) s0 s1) cell c.in_ok-put_body.ensures.keeps in
+    IfOk-weaker c.put_in.result _ (λ _. RenamesWithin s0 s3 c.args.slot c.args.new.now) (λ _ comes.
+    relabels_within s0 s1 s2 s3 c.args.slot c.args.new.now c.put_body.ensures.onward c.take_out.ensures.onward c.put_in.ensures.onward
+    c.requires.slot others named c.in_ok-take_out.ensures.keeps
+    (subst (λ (l : List ℕ). KeepsAside (IsOfFront s2.setting.slots c.args.slot l) s2 s3) c.as_slice-2.ensures comes))
+    c.put_in.ensures.keeps

@@ -4,7 +4,9 @@ use Rattle.library.specs.declared.command.Command.TheVariants as command
 use Rattle.library.specs.declared.reason.Reason.TheVariants as reason
 use Rattle.cells.specs.Sight.{Sight}
 use Rattle.cells.specs.Lookups.{Finds}
-use Rattle.cells.proofs.Sights.{onward_trans}
+use Rattle.cells.proofs.Sights.{onward_trans, looks_trans}
+use Rattle.commands.proofs.OnlyLooks.{finds_later}
+use Rattle.commands.proofs.Touching.{keeps_to_since, rename_keeps}
 use Rattle.cells.proofs.Laying.{ok_mapped}
 use Rattle.cells.specs.Answers.{CommandAnswers}
 use Rattle.commands.specs.Naming.{PassesAsNew, TellsNotNew}
@@ -81,3 +83,21 @@ returns-clause-answers g c =
     c.relabel.ensures.onward
     (ok_mapped _ _ _ _ _ c.in_ok-map_err.was c.map_err-2.ensures.cases c.relabel.ensures.ok)
     (ok_mapped _ _ _ _ _ c.in_ok-map_err.was c.map_err-2.ensures.cases c.relabel.ensures.written)
+
+pub returns-clause-keeps : goal.returns-clause-keeps
+returns-clause-keeps g c =
+    let s0 = g.C.Cells.sight c.args.cells.now in
+    let s1 = g.C.Cells.sight c.find.new.cells in
+    let s2 = g.C.Cells.sight c.test_new_label.new.cells in
+    let s3 = g.C.Cells.sight c.relabel.new.cells in
+    let i = c.in-Some.slot in
+    let from = c.args.old.now in
+    let to = c.args.new.now in
+    let finds : Finds s1 c.args.old.now (Some c.in-Some.slot) =
+    subst (Finds s1 c.args.old.now) c.in-Some.is
+    (subst (λ (l : List ℕ). Finds s1 l c.in_ok-slot.field-0) c.as_slice.ensures
+    (ok_mapped _ _ _ _ _ c.in_ok-slot.was c.map_err.ensures.cases c.find.ensures.ok)) in
+    keeps_to_since s0 s2 s3 (command.Rename from to) (looks_trans _ _ _ c.find.ensures.looks c.test_new_label.ensures.looks)
+    c.relabel.ensures.onward
+    (rename_keeps s2 s3 i from to (finds_later s1 s2 from i c.test_new_label.ensures.looks finds).1
+    (ok_mapped _ _ _ _ _ c.in_ok-map_err.was c.map_err-2.ensures.cases c.relabel.ensures.keeps))

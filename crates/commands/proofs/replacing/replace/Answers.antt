@@ -10,12 +10,14 @@ use Rattle.cells.specs.Lookups.{AreWithin}
 use Rattle.cells.proofs.Laying.{ok_mapped}
 use Rattle.cells.proofs.Sights.{looks_trans, onward_trans}
 use Rattle.commands.specs.Changes.{ReprovesAt}
+use Rattle.commands.specs.Touches.{ReprovesWithin}
+use Rattle.commands.proofs.Touching.{keeps_to_since}
 use Rattle.commands.specs.Replacing.{TellsAlike, TellsNotLower, recited_step}
 use Rattle.commands.proofs.OnlyLooks.{finds_later}
 use Rattle.commands.proofs.Recited.{recited_within}
 use Rattle.commands.proofs.Refusing.{of_none, refused_later, answers_refused}
 use Rattle.commands.proofs.Replaced.{answers_unknown, refuses_old, refuses_new, sought, sought_later, alike_later}
-use Rattle.commands.proofs.Replaced.{refuses_axiom, refuses_unlike, refuses_not_lower, replaced}
+use Rattle.commands.proofs.Replaced.{refuses_axiom, refuses_unlike, refuses_not_lower, replaced, replace_keeps}
 use Rattle.commands.proofs.Taking.{found_taken, recited_length}
 use Rattle.commands.proofs.replacing.replace.Goals as goal
 
@@ -286,3 +288,32 @@ returns-clause-taken g c st lib m v =
     let same = ap (λ (ks : List StoredStep). length (proof_body ks)) is in
     let recited = recited_length (recited_step c.slot_count.result j k) kept in
     omega (arith, long, same, recited, c.put_steps.ensures.taken, looks.taken, later.taken)
+
+pub returns-clause-keeps : goal.returns-clause-keeps
+returns-clause-keeps g c =
+    let s0 = g.C.Cells.sight c.args.cells.now in
+    let s1 = g.C.Cells.sight c.slot_of.new.cells in
+    let s2 = g.C.Cells.sight c.slot_of-2.new.cells in
+    let s3 = g.C.Cells.sight c.slot_of-3.new.cells in
+    let s4 = g.C.Cells.sight c.stored_proof.new.cells in
+    let s5 = g.C.Cells.sight c.are_alike.new.cells in
+    let s6 = g.C.Cells.sight c.is_not_lower.new.cells in
+    let s7 = g.C.Cells.sight c.put_steps.new.cells in
+    let i = c.in_ok-slot.slot in
+    let j = c.in_ok-former.former in
+    let k = c.in_ok-next.next in
+    let label = c.args.label.now in
+    let old = c.args.old.now in
+    let new = c.args.new.now in
+    let kept = c.in_ok-kept.kept.items in
+    let known = sought i j k label old new kept s0 s1 s2 s3 s4 c.slot_of.ensures.looks c.slot_of-2.ensures.looks c.slot_of-3.ensures.looks
+    c.stored_proof.ensures.looks c.in_ok-slot.ensures.ok c.in_ok-former.ensures.ok c.in_ok-next.ensures.ok c.in_ok-kept.ensures.ok in
+    let since = looks_trans s4 s5 s6 c.are_alike.ensures.looks c.is_not_lower.ensures.looks in
+    let there = sought_later i j k label old new kept s0 s4 s6 since known in
+    let written = c.as_slice.ensures.value
+    ∙ with_items_is c.in_ok-kept.kept c.recite.new.steps (c.recite.auto.steps ∙ c.as_mut_slice.ensures.len) in
+    let is = written ∙ c.recite.ensures ∙ ap (map (recited_step c.slot_count.result j k)) c.as_mut_slice.ensures.value
+    ∙ ap (λ n. map (recited_step n j k) c.in_ok-kept.kept.items) c.slot_count.ensures.value in
+    keeps_to_since s0 s6 s7 (Replace label old new) there.looks c.put_steps.ensures.onward
+    (replace_keeps s0 s6 i j k label old new kept there s7
+    (subst (ReprovesWithin s6 s7 i label) is (c.in_ok-put_steps.ensures.keeps label)))

@@ -8,7 +8,13 @@ use Rattle.cells.specs.Lookups.{Finds, AreWithin}
 use Rattle.cells.proofs.Sights.{onward_trans, looks_trans}
 use Rattle.cells.proofs.Laying.{ok_mapped}
 use Rattle.cells.proofs.ReadBack.{held_later}
+use Rattle.cells.specs.Lookups.{ForEach}
+use Rattle.cells.specs.Shows.{AreStoredAs}
+use Rattle.mmsyntax.specs.declared.statement.Assertion.{Assertion}
+use Rattle.mmsyntax.specs.declared.statement.Step.{Step}
 use Rattle.commands.specs.Changes.{ReprovesAt}
+use Rattle.commands.specs.Touches.{ReprovesWithin}
+use Rattle.commands.proofs.Touching.{keeps_to_since, reprove_keeps}
 use Rattle.commands.proofs.OnlyLooks.{finds_later}
 use Rattle.commands.proofs.Refusing.{of_none, refused, refused_later, answers_refused, answers_tested}
 use Rattle.commands.proofs.Reproved.{retitled, axiom_refused, reprove_refused, reproved}
@@ -174,3 +180,27 @@ returns-clause-taken g c st lib m v =
     let steps = ap (λ (x : Assertion). length x.proof) is in
     let same = ap (λ (ks : List StoredStep). length (proof_body ks)) c.as_slice-3.ensures.value in
     omega (arith, long, steps, same, c.put_steps.ensures.taken, looks.taken)
+
+pub returns-clause-keeps : goal.returns-clause-keeps
+returns-clause-keeps g c =
+    let s0 = g.C.Cells.sight c.args.cells.now in
+    let s1 = g.C.Cells.sight c.find.new.cells in
+    let s4 = g.C.Cells.sight c.test_proof.new.cells in
+    let s5 = g.C.Cells.sight c.put_steps.new.cells in
+    let i = c.in-Some.slot in
+    let label = c.args.label.now in
+    let steps = c.args.steps.now in
+    let kept = c.in_ok-kept.kept.items in
+    let since = looks_trans _ _ _ c.statement.ensures.looks (looks_trans _ _ _ c.rank.ensures.looks c.test_proof.ensures.looks) in
+    let finds : Finds s1 c.args.label.now (Some c.in-Some.slot) =
+    subst (Finds s1 c.args.label.now) c.in-Some.is
+    (subst (λ (l : List ℕ). Finds s1 l c.in_ok-slot.field-0) c.as_slice.ensures
+    (ok_mapped _ _ _ _ _ c.in_ok-slot.was c.map_err.ensures.cases c.find.ensures.ok)) in
+    let is = c.into_assertion-theorem.ensures
+    ∙ retitled c.in_ok-statement.statement c.in_ok-copy.field-0 c.args.label.now c.in_ok-proof.proof c.args.steps.now c.in_ok-copy.ensures
+    (c.in_ok-proof.ensures ∙ c.as_slice-2.ensures) in
+    let stored = subst (λ (xs : List Step). ForEach s4 (λ st lib. AreStoredAs s4.setting.slots st xs kept))
+    (ap (λ (a : Assertion). a.proof) is) c.in_ok-kept.ensures.ok.stored in
+    keeps_to_since s0 s4 s5 (command.Reprove label steps) (looks_trans _ _ _ c.find.ensures.looks since) c.put_steps.ensures.onward
+    (reprove_keeps s4 s5 i label steps kept (finds_later s1 s4 label i since finds).1 stored
+    (subst (ReprovesWithin s4 s5 i label) c.as_slice-3.ensures.value (c.in_ok-put_steps.ensures.keeps label)))

@@ -13,12 +13,19 @@ use Rattle.cells.specs.Answers.{ForEachBefore, DoesAll, RunAnswers, error_at}
 use Rattle.commands.specs.Takes.{most_words_of, command_words}
 use Rattle.commands.proofs.Transactions.{takes_none, takes_more, does_none, does_more, ends}
 use Rattle.commands.proofs.Taking.{few_of_all}
+use Rattle.commands.specs.Touches.{KeepsToAll}
+use Rattle.commands.proofs.TouchingAll.{keeps_none, keeps_more}
 use Rattle.commands.proofs.running.run.Goals as goal
 
 pub loop-done-init : goal.loop-done-init
 loop-done-init g c =
     let s = g.C.Cells.sight c.args.cells.now in
-    record { onward = onward_refl _; taken = takes_none s; does = subst (DoesAll s s []) (sym c.new-replies.ensures.items) (does_none s) }
+    record {
+      onward = onward_refl _;
+      taken = takes_none s;
+      does = subst (DoesAll s s []) (sym c.new-replies.ensures.items) (does_none s);
+      keeps = keeps_none s;
+    }
 
 pub returns-in_err-push-in-Ok-clause-onward : goal.returns-in_err-push-in-Ok-clause-onward
 returns-in_err-push-in-Ok-clause-onward g c = onward_trans _ _ _ c.loop-done.invariant.onward c.take.ensures.onward
@@ -76,6 +83,8 @@ loop-done-preserved g c =
     record {
       onward = onward_trans _ _ _ c.loop-done.invariant.onward c.take.ensures.onward;
       taken = subst (λ l. ForEachBefore s u (λ st lib. TakesAtMost (most_words_of l) s u)) front taken;
+      keeps = subst (λ l. KeepsToAll s u l) front (keeps_more s t u (take k cs) replies c.loop-done.invariant.does c.take.ensures.onward x
+          c.loop-done.invariant.keeps c.in-Ok.ensures.keeps);
       does = subst (λ l. DoesAll s u l c.push.new.self.items) front (subst (DoesAll s u (take k cs ++ x ∷ [])) (sym push) does);
     }
 

@@ -1,0 +1,47 @@
+-- For which cells a transaction keeps values aside, command by command.
+use Rattle.std.proofs.Common.{◌≡◌, ℕ, List, [], ◌∷◌, ◌++◌, Option, Some, None, refl, sym, ap, ◌∙◌, ◌⊎◌, inl, inr, ⊎_elim, append_assoc}
+use Rattle.library.specs.declared.command.Command.{Command}
+use Rattle.library.specs.declared.command.Reply.{Reply}
+use Rattle.ranges.specs.Pairs.{written}
+use Rattle.cells.specs.Sight.{Sight, WasWritten, Onward}
+use Rattle.cells.specs.Answers.{DoesAll}
+use Rattle.cells.proofs.Sights.{onward_trans, matches_back}
+use Rattle.cells.proofs.Keeping.{keeps_same}
+use Rattle.commands.specs.Touches.{IsTouchedByOne, KeepsTo, KeepsToAll}
+
+pub keeps_none : {O : Type 0} → (s : Sight O) → KeepsToAll s s []
+keeps_none s = keeps_same (IsTouchedByOne s s []) s s refl
+
+-- one command more
+pub keeps_more : {O : Type 0} → (s t u : Sight O) (cs : List Command) (replies : List Reply) → DoesAll s t cs replies → Onward t u → (x : Command)
+    → KeepsToAll s t cs → KeepsTo t u x → KeepsToAll s u (cs ++ x ∷ [])
+keeps_more s t u cs replies does on x before keeps c was = by_cases (written c t.writes) refl
+  where
+    by_cases : (o : Option ℕ) → written c t.writes ≡ o → WasWritten s c ⊎ IsTouchedByOne s u (cs ++ x ∷ []) c
+    by_cases (Some v) is =
+        ⊎_elim (λ first. inl first)
+        (λ (k : IsTouchedByOne s t cs c). inr (record {
+          before = k.before;
+          one = k.one;
+          behind = k.behind ++ x ∷ [];
+          all = ap (λ (l : List Command). l ++ x ∷ []) k.all ∙ append_assoc k.before (k.one ∷ k.behind) (x ∷ []);
+          mid = k.mid;
+          replies = k.replies;
+          does = k.does;
+          onward = onward_trans k.mid t u k.onward on;
+          touches = λ st lib m v. k.touches st lib (matches_back t u st on m) v;
+        }))
+        (before c (v, is))
+    by_cases None none =
+        inr (record {
+          before = cs;
+          one = x;
+          behind = [];
+          all = refl;
+          mid = t;
+          replies = replies;
+          does = does;
+          onward = on;
+          touches = λ st lib m v.
+              ⊎_elim (λ w. let z : Some w.0 ≡ None = sym w.1 ∙ none in absurd cc) (λ is. is) (keeps st lib m v c was);
+        })
