@@ -1,5 +1,5 @@
 -- What scripts leave that all sessions of a new library ran to their end; or why they leave nothing.
-use Rattle.std.proofs.Common.{◌≡◌, ◌∙◌, ℕ, List, [], ◌∷◌, eqb, length, map, refl, sym, ap, subst, arith}
+use Rattle.std.proofs.Common.{◌≡◌, ◌∙◌, List, [], ◌∷◌, eqb, length, map, refl, sym, ap, subst, arith}
 use Rattle.std.specs.List.{AllZip, IsDistinct}
 use Rattle.std.specs.Prelude.{All, Err}
 use Rattle.std.proofs.lemmas.List.{length-map}

@@ -29,7 +29,7 @@ use Rattle.jobs.specs.declared.job.Job.{Job}
 use Rattle.jobs.specs.declared.job.Job.TheVariants.{Check, Run, Replay}
 use Rattle.jobs.specs.declared.job.Printed.{Printed}
 use Rattle.jobs.specs.declared.job.Fault.{Fault}
-use Rattle.jobs.specs.declared.job.Fault.TheVariants.{Text, Proof, Differs, StoreFull, Missing, NoThread, NoMemory}
+use Rattle.jobs.specs.declared.job.Fault.TheVariants.{Text, Proof, Differs, StoreFull, NoThread, NoMemory}
 use Rattle.jobs.specs.Outcomes.{setting_of}
 use Rattle.reports.specs.Reports.{report_text}
 
