@@ -1,0 +1,16 @@
+use Rattle.std.proofs.Common.{◌∷◌, ◌++◌, [], codes, true, false, inl, inr, refl}
+use Rattle.program.specs.Events.{writes, says}
+use Rattle.program.proofs.Behind.{adds_more}
+use Rattle.program.proofs.conduct.save_and_print.Goals as goal
+
+pub returns-in-Ok : goal.returns-in-Ok
+returns-in-Ok g c =
+    let told = c.print_out.ensures in
+    (writes c.args.path.now c.args.history.now true ∷ told.0, adds_more c.in-Ok.ensures told.1, inl (told.0, refl, told.2))
+
+pub returns-in-Err-Refused : goal.returns-in-Err-Refused
+returns-in-Err-Refused g c = (
+  writes c.args.path.now c.args.history.now false ∷ says (c.args.path.now ++ codes ": cannot write") ∷ [],
+  adds_more c.in-Err-Refused.ensures c.say_of.ensures,
+  inr (refl, refl),
+)

@@ -1,0 +1,79 @@
+-- The command lines that the program takes, as its parser knows them.
+use Rattle.std.specs.Prelude.{◌≡◌, [], ◌∷◌, Some, true, false, codes}
+use Rattle.clap.specs.declared.builder.arg.Arg.{Arg}
+use Rattle.clap.specs.declared.builder.command.Command.{Command}
+use Rattle.clap.specs.declared.builder.action.ArgAction.TheVariants.{Set, Append}
+use Rattle.clap.specs.declared.builder.value_parser.ValueParser.TheVariants as parser
+use Rattle.clap.specs.declared.builder.command.Command.TheViews.{out-Command}
+use Rattle.clap.specs.Words.{App, Rule, app_of, new_app, new_rule, rule_of, with_rule, with_subcommand}
+use Rattle.clap.specs.Lexer.{usize_max}
+
+-- `DB`
+abbrev pub database_rule : Rule
+database_rule = record (new_rule (codes "DB")) { required = true; action = Some Set }
+
+-- `--workers N`, of 1 to 64, and 1 where it isn't given
+abbrev pub workers_rule : Rule
+workers_rule = record (new_rule (codes "workers")) {
+  long = Some (codes "workers");
+  value_names = 1;
+  parser = Some (parser.Unsigned 1 64);
+  defaults = codes "1" ∷ [];
+  action = Some Set;
+}
+
+-- `--room W`, of at most 2^24, and 2^20 where it isn't given
+abbrev pub room_rule : Rule
+room_rule = record (new_rule (codes "room")) {
+  long = Some (codes "room");
+  value_names = 1;
+  parser = Some (parser.Unsigned 0 16777216);
+  defaults = codes "1048576" ∷ [];
+  action = Some Set;
+}
+
+-- `--history FILE`
+abbrev pub history_rule : Rule
+history_rule = record (new_rule (codes "history")) { long = Some (codes "history"); value_names = 1; action = Some Set }
+
+-- `SCRIPT..`
+abbrev pub scripts_rule : Rule
+scripts_rule = record (new_rule (codes "SCRIPT")) {
+  required = true;
+  range = Some (record { start_inclusive = 1; end_inclusive = usize_max });
+  action = Some Append;
+}
+
+-- `HISTORY`
+abbrev pub replayed_rule : Rule
+replayed_rule = record (new_rule (codes "HISTORY")) { required = true; action = Some Set }
+
+-- `check DB`
+abbrev pub check_app : App
+check_app = with_rule (new_app (codes "check")) database_rule
+
+-- `run [--workers N] [--room W] [--history FILE] DB SCRIPT..`
+abbrev pub run_app : App
+run_app = with_rule (with_rule (with_rule (with_rule (with_rule (new_app (codes "run")) workers_rule) room_rule) history_rule) database_rule) scripts_rule
+
+-- `replay DB HISTORY`
+abbrev pub replay_app : App
+replay_app = with_rule (with_rule (new_app (codes "replay")) database_rule) replayed_rule
+
+-- the program, before it has subcommands: it has a version, and wants one of them
+abbrev pub bare_app : App
+bare_app =
+    let bare = new_app (codes "mmrefactor") in
+    record bare { top = record bare.top { has_version = true; subcommand_required = true; arg_required_else_help = true } }
+
+-- `mmrefactor`, with its three subcommands
+abbrev pub program_app : App
+program_app = with_subcommand (with_subcommand (with_subcommand bare_app check_app.top) run_app.top) replay_app.top
+
+-- an argument with these rules
+abbrev pub IsArgument : Rule → Arg → Type 0
+IsArgument rule a = (rule_of a ≡ rule) × (a.global ≡ false)
+
+-- a command line with these rules
+abbrev pub IsLine : App → Command → Type 0
+IsLine app c = (app_of c ≡ app) × ((out-Command c).has_globals ≡ false)

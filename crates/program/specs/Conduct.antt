@@ -1,0 +1,149 @@
+-- What the program does for a command line, event by event, and the status that it ends with.
+use Rattle.std.specs.Prelude.{◌≡◌, ◌≢◌, ◌⊎◌, ℕ, true, false, List, [], ◌∷◌, ◌++◌, Option, Some, None, Result, Ok, Err, All, codes, length}
+use Rattle.std.specs.Prelude.{slice_get, string_bytes}
+use Rattle.clap.specs.declared.error.Error.{Error}
+use Rattle.clap.specs.declared.error.kind.ErrorKind.TheVariants.{DisplayHelp, DisplayVersion, OutOfMemory}
+use Rattle.clap.specs.Words.{Row, Text, HasKind, fault_of, kind_of, subcommand_of}
+use Rattle.jobs.specs.declared.answering.Answered.{Answered}
+use Rattle.jobs.specs.declared.answering.Answered.TheVariants.{Done, Refused}
+use Rattle.jobs.specs.declared.job.Fault.{Fault}
+use Rattle.jobs.specs.declared.job.Job.{Job}
+use Rattle.jobs.specs.declared.task.Task.{Task}
+use Rattle.jobs.specs.Jobs.{IsFaultOf, AnswersItsOwn}
+use Rattle.jobs.specs.Tasks.{Answers, IsJobOf, IsLineOf, IsToldBy, TakesTexts}
+use Rattle.program.specs.declared.conduct.Unread.{Unread}
+use Rattle.program.specs.declared.conduct.Unread.TheVariants as unread
+use Rattle.program.specs.declared.world.Trouble.{Trouble}
+use Rattle.program.specs.declared.world.Trouble.TheVariants as trouble
+use Rattle.program.specs.CommandLine.{program_app}
+use Rattle.program.specs.Events.{Bytes, Event, IsQuiet, reads, writes, prints, says, shows}
+use Rattle.program.specs.Orders.{AsksFor, IsOrder}
+
+-- ---- an answer
+
+-- `LINE` is said, alone, and the status is 1
+abbrev pub IsSaid : Bytes → List Event → ℕ → Type 0
+IsSaid line es status = (es ≡ says line ∷ []) × (status ≡ 1)
+
+-- the text is printed, and the status is 0; or it can't be, which is said, and the status is 1
+abbrev pub IsPrinted : Bytes → List Event → ℕ → Type 0
+IsPrinted out es status =
+    ((es ≡ prints out true ∷ []) × (status ≡ 0)) ⊎ ((es ≡ prints out false ∷ says (codes "cannot write") ∷ []) × (status ≡ 1))
+
+-- a history is written to its file, and then the text is printed; or that file can't be written, which is said, the status is 1, and nothing is
+-- printed
+abbrev pub IsWritten : Option Bytes → Bytes → Bytes → List Event → ℕ → Type 0
+IsWritten None history out es status = IsPrinted out es status
+IsWritten (Some path) history out es status =
+    ((rest : List Event) × (es ≡ writes path history true ∷ rest) × IsPrinted out rest status)
+    ⊎ ((es ≡ writes path history false ∷ says (path ++ codes ": cannot write") ∷ []) × (status ≡ 1))
+
+-- what a job prints, or the line of its fault
+abbrev pub IsTold : Option Bytes → Answered → List Event → ℕ → Type 0
+IsTold history (Done printed) es status = IsWritten history printed.history.items printed.out.items es status
+IsTold history (Refused line) es status = IsSaid (string_bytes line) es status
+
+-- ---- an order
+
+-- the files at these paths, each with the bytes that were read
+abbrev pub reads_of : List Bytes → List Bytes → List Event
+reads_of ps [] = []
+reads_of [] (t ∷ ts) = []
+reads_of (p ∷ ps) (t ∷ ts) = reads p (Some t) ∷ reads_of ps ts
+
+-- the next file is read, and its text is put behind the others; or it can't be; or there is no memory for it
+abbrev pub IsReadBehind : {A : Type 0} → Bytes → List Bytes → List Bytes → List Event → Result A Trouble → Type 0
+IsReadBehind path old new es (Ok done) = (text : Bytes) × (new ≡ old ++ text ∷ []) × (es ≡ reads path (Some text) ∷ [])
+IsReadBehind path old new es (Err trouble.Refused) = (new ≡ old) × (es ≡ reads path None ∷ [])
+IsReadBehind path old new es (Err trouble.NoMemory) = All IsQuiet es
+
+-- the files before one that can't be read are read; or memory ran out
+abbrev pub IsStopped : List Bytes → List Bytes → List Event → Unread → Type 0
+IsStopped paths texts es (unread.File path) =
+    (slice_get paths (length texts) ≡ Some path.now) × (es ≡ reads_of paths texts ++ reads path.now None ∷ [])
+IsStopped paths texts es unread.NoMemory = All IsQuiet es
+
+-- all files are read in their order, or not
+abbrev pub AreRead : {A : Type 0} → List Bytes → List Bytes → List Event → Result A Unread → Type 0
+AreRead paths texts es (Ok done) = (length texts ≡ length paths) × (es ≡ reads_of paths texts)
+AreRead paths texts es (Err u) = IsStopped paths texts es u
+
+-- the answer to a job of these paths
+pub record IsAnswer (paths : List Bytes) (job : Job) (told : Answered) : Type 0 where
+  pub answers : Answers paths job told
+  pub refused : (f : Fault) → IsFaultOf job f → IsLineOf paths f told
+  pub own : AnswersItsOwn job (IsToldBy told)
+
+-- the answer to a job is told
+abbrev pub IsJobAnswered : List Bytes → Option Bytes → Job → List Event → ℕ → Type 0
+IsJobAnswered paths history job es status = (told : Answered) × IsAnswer paths job told × IsTold history told es status
+
+-- the texts are the job of a task, whose answer is told; or the system gives no random numbers, which is said; or so many texts aren't a job
+abbrev pub IsAnswered : Task → List Bytes → Option Bytes → List Bytes → List Event → ℕ → Type 0
+IsAnswered task paths history texts es status =
+    ((job : Job) × IsJobOf task texts job × IsJobAnswered paths history job es status)
+    ⊎ (IsSaid (codes "no random numbers") es status
+    ⊎ ((TakesTexts task (length texts) → ⊥) × IsSaid (codes "the command line cannot be read") es status))
+
+-- a file can't be read, and no one behind it is: it is said which, and the status is 1
+abbrev pub IsUnread : List Bytes → List Event → ℕ → Type 0
+IsUnread paths es status =
+    (texts : List Bytes) × (path : Bytes) × (slice_get paths (length texts) ≡ Some path)
+    × (es ≡ reads_of paths texts ++ (reads path None ∷ says (path ++ codes ": cannot read") ∷ [])) × (status ≡ 1)
+
+-- it is said which file can't be read; where memory ran out for one, nothing is said yet
+abbrev pub IsUnreadTold : {E : Type 0} → Unread → List Event → Result ℕ E → Type 0
+IsUnreadTold (unread.File path) es (Ok status) = IsSaid (path.now ++ codes ": cannot read") es status
+IsUnreadTold (unread.File path) es (Err e) = ⊥
+IsUnreadTold unread.NoMemory es (Ok status) = ⊥
+IsUnreadTold unread.NoMemory es (Err e) = es ≡ []
+
+-- all files are read, in their order, before anything else is done; and then the job of their texts is answered
+abbrev pub IsRead : Task → List Bytes → Option Bytes → List Event → ℕ → Type 0
+IsRead task paths history es status =
+    (texts : List Bytes) × (rest : List Event) × (length texts ≡ length paths) × (es ≡ reads_of paths texts ++ rest)
+    × IsAnswered task paths history texts rest status
+
+abbrev pub IsFollowed : Task → List Bytes → Option Bytes → List Event → ℕ → Type 0
+IsFollowed task paths history es status = IsUnread paths es status ⊎ IsRead task paths history es status
+
+-- ---- a command line
+
+-- the parser's text is shown, and the status is 0 for help and the version, and 2 for all else; or it can't be, which is said, and it is 1
+abbrev pub IsShown : Error → List Event → ℕ → Type 0
+IsShown e es status =
+    ((es ≡ shows e true ∷ []) × (((kind_of e ≡ DisplayHelp) ⊎ (kind_of e ≡ DisplayVersion)) → status ≡ 0)
+    × (kind_of e ≢ DisplayHelp → kind_of e ≢ DisplayVersion → status ≡ 2))
+    ⊎ ((es ≡ shows e false ∷ says (codes "cannot write") ∷ []) × (status ≡ 1))
+
+-- a subcommand with an order, which is followed
+abbrev pub IsOrdered : Option (Text × List Row) → List Event → ℕ → Type 0
+IsOrdered found es status =
+    (task : Task) × (paths : List Bytes) × (history : Option Bytes) × IsOrder found task paths history × IsFollowed task paths history es status
+
+-- no subcommand, or one that asks for no task
+abbrev pub IsUnasked : Option (Text × List Row) → List Event → ℕ → Type 0
+IsUnasked found es status = ((task : Task) → AsksFor found task → ⊥) × IsSaid (codes "the command line cannot be read") es status
+
+abbrev pub IsMatched : Option (Text × List Row) → List Event → ℕ → Type 0
+IsMatched found es status = IsOrdered found es status ⊎ IsUnasked found es status
+
+-- the words are none of the program's command lines, or ask for help or the version, which the parser tells by its error
+abbrev pub IsUsage : List Text → List Event → ℕ → Type 0
+IsUsage words es status = (e : Error) × HasKind (fault_of program_app words) e × (kind_of e ≢ OutOfMemory) × IsShown e es status
+
+abbrev pub IsObeyed : List Text → List Event → ℕ → Type 0
+IsObeyed words es status = IsUsage words es status ⊎ IsMatched (subcommand_of program_app words) es status
+
+-- what was done so far where memory ran out
+abbrev pub EndsBy : {E : Type 0} → (List Event → ℕ → Type 0) → List Event → Result ℕ E → Type 0
+EndsBy P es (Ok status) = P es status
+EndsBy P es (Err e) = All IsQuiet es
+
+-- memory ran out before anything was printed or said: that is said, and the status is 1
+abbrev pub IsOutOfMemory : List Event → ℕ → Type 0
+IsOutOfMemory es status = (front : List Event) × (es ≡ front ++ says (codes "no memory") ∷ []) × All IsQuiet front × (status ≡ 1)
+
+-- what the program does for the words of a command line, and its status
+abbrev pub Obeys : List Text → List Event → ℕ → Type 0
+Obeys words es status = IsObeyed words es status ⊎ IsOutOfMemory es status

@@ -1,0 +1,4 @@
+pub mod CommandLine
+pub mod Orders
+pub mod Events
+pub mod Conduct
