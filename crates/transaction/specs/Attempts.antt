@@ -1,12 +1,16 @@
 -- What becomes of a transaction that a session runs, and what the session's pass knows then.
-use Rattle.std.specs.Prelude.{◌≡◌, ◌≢◌, ◌<◌, ◌≤◌, ℕ, suc, ◌/◌, ◌^◌, ◌⊎◌, Bool, true, false, is_some, if◌then◌else◌, Some, None, List, [], ◌∷◌, ◌++◌}
-use Rattle.std.specs.Prelude.{length, slice_get, All}
+use Rattle.std.specs.Prelude.{◌≡◌, ◌≢◌, ◌<◌, ◌≤◌, ℕ, suc, ◌+◌, ◌*◌, ◌/◌, ◌^◌, ◌⊎◌, Bool, true, false, is_some, if◌then◌else◌, Some, None}
+use Rattle.std.specs.Prelude.{List, [], ◌∷◌, ◌++◌, length, slice_get, All}
+use Rattle.std.specs.FinMap.{empty}
+use Rattle.bodystore.specs.Stages.{Staged}
 use Rattle.library.specs.declared.command.Command.{Command}
 use Rattle.library.specs.declared.command.Reply.{Reply}
 use Rattle.library.specs.declared.reason.Refused.{Refused as Refusal}
 use Rattle.library.specs.Histories.{void_entry}
 use Rattle.library.specs.Transactions.{has_edit, has_too_many}
 use Rattle.cells.specs.Answers.{has_staging}
+use Rattle.cells.specs.Sight.{StaysStaged}
+use Rattle.commands.specs.Takes.{most_words_of}
 use Rattle.ranges.specs.Pairs.{written}
 use Rattle.tlcore.specs.History.{WasWritten}
 use Rattle.tlwords.specs.Seen.{Work, Call, Committed as CommittedCall, Answered}
@@ -118,7 +122,12 @@ IsOneRun old new outcome.NoMemory = MetNone old new
 IsOneRun old new outcome.TooManyCommands = Unit {0}
 IsOneRun old new _ = (place : ℕ) × LoadsOnce old new place
 
--- what one try does
+-- what is staged then: nothing after a Committed; else what was staged, and maybe more
+abbrev pub LeavesStaged : Staged → Staged → Outcome → Type 0
+LeavesStaged old new (outcome.Committed number replies) = new ≡ empty
+LeavesStaged old new _ = StaysStaged old new
+
+-- what one try does. It takes at most the words of the bodies of its commands, each once
 pub record Attempts (cs : List Command) (old new : Member) (o : Outcome) : Type 0 where
   pub later : IsLater old new
   pub gains : Gains cs old.known new.known o
@@ -126,12 +135,16 @@ pub record Attempts (cs : List Command) (old new : Member) (o : Outcome) : Type 
   -- where memory ran out, no staging was refused for the first time
   pub unrefused : o ≡ outcome.NoMemory → new.known.full ≡ old.known.full
   pub counted : has_too_many cs ≡ true → o ≡ outcome.TooManyCommands
+  pub staged : LeavesStaged old.staged new.staged o
+  pub taken : new.known.taken ≤ old.known.taken + most_words_of cs
+  pub untouched : has_too_many cs ≡ true → new.staged ≡ old.staged
 
 -- what the pass knew, with further numbers, and after further runs, at these places, the newest first
 abbrev pub tried : Pass → List ℕ → List ℕ → Pass
 tried k numbers runs = record k { drawn = k.drawn ++ numbers; clocks = runs ++ k.clocks }
 
--- what tries until there is no conflict do: as the last one, after others, each of one run, that drew further numbers, which are void
+-- what tries until there is no conflict do: as the last one, after others, each of one run, that drew further numbers, which are void, and took
+-- words of the store
 pub record Submits (cs : List Command) (old new : Member) (o : Outcome) : Type 0 where
   pub later : IsLater old new
   pub numbers : List ℕ
@@ -143,3 +156,6 @@ pub record Submits (cs : List Command) (old new : Member) (o : Outcome) : Type 0
   pub unrefused : o ≡ outcome.NoMemory → runs ≡ [] → new.known.full ≡ old.known.full
   pub settled : (met : Met) → o ≢ outcome.Conflict met
   pub counted : has_too_many cs ≡ true → o ≡ outcome.TooManyCommands
+  pub staged : LeavesStaged old.staged new.staged o
+  pub taken : new.known.taken ≤ old.known.taken + (length runs * most_words_of cs + most_words_of cs)
+  pub untouched : has_too_many cs ≡ true → new.staged ≡ old.staged
