@@ -201,7 +201,10 @@ restaged l next over i =
       staged = i.staged;
       over_is = i.over_is;
       met = i.met;
+      clear = i.clear;
       full = i.full;
+      unrefused = i.unrefused;
+      full_stays = i.full_stays;
     }
 
 module _ (l : Lending) (stage : Staged) (over : Option Conflict) (i : IsLent l stage over) where
