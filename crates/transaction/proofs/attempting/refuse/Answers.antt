@@ -1,4 +1,4 @@
-use Rattle.std.proofs.Common.{ℕ, None, sym, ap, subst, ◌∙◌}
+use Rattle.std.proofs.Common.{◌≡◌, ℕ, None, sym, ap, subst, ◌∙◌}
 use Rattle.lawful.specs.declared.notes.Note.TheVariants.{Refused}
 use Rattle.tlwords.specs.declared.outcome.Outcome.{Outcome as Answer}
 use Rattle.lending.specs.Lent.{Pass, Lending, is_writing}

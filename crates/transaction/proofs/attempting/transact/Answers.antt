@@ -1,11 +1,27 @@
-use Rattle.std.proofs.Common.{Bool, List, Err, ap, subst, ◌∙◌}
+use Rattle.std.proofs.Common.{◌≡◌, Bool, true, false, List, Err, refl, sym, ap, subst, ◌∙◌, arith}
 use Rattle.library.specs.declared.command.Command.{Command}
+use Rattle.library.specs.Transactions.{has_edit}
 use Rattle.cells.specs.declared.ending.RunError.{RunError}
 use Rattle.cells.specs.Answers.{has_staging, DoesAll, RunAnswers}
 use Rattle.lending.specs.declared.live.Stopped.{Stopped}
-use Rattle.lending.specs.Lent.{Lends, sight_of}
+use Rattle.cells.proofs.Sights.{onward_refl}
+use Rattle.commands.proofs.Allowed.{may_do_all}
+use Rattle.lending.specs.Lent.{Lends, is_writing, sight_of}
 use Rattle.transaction.proofs.Applying.{may_be_done, may_be_refused, stored}
 use Rattle.transaction.proofs.attempting.transact.Goals as goal
+use Rattle.transaction.proofs.attempting.transact.Goals.{then-edits, else-edits}
+
+pub run-requires-clause-may : goal.run-requires-clause-may
+run-requires-clause-may c =
+    let cs = c.as_slice-3.result.now in
+    let edits : has_edit cs ≡ c.has_edit-edits.result =
+    ap has_edit (c.as_slice-3.ensures ∙ sym c.as_slice.ensures) ∙ sym c.has_edit-edits.ensures in
+    may_do_all (sight_of c.begin-live.result.run) cs
+    (λ is. ap is_writing c.begin-live.ensures.mode_is ∙ elim c.if-edits.branch [
+      | then-edits w ↦ ap is_writing w.mode-is
+      | else-edits w ↦ (let no : true ≡ false = sym is ∙ (edits ∙ w.if-edits.false) in absurd cc)
+    ])
+    (λ is. c.begin-live.ensures.may ∙ (c.has_staging-may_stage.ensures ∙ (ap has_staging (c.as_slice-2.ensures ∙ sym c.as_slice-3.ensures) ∙ is)))
 
 pub commit-requires-clause-lawful : goal.commit-requires-clause-lawful
 commit-requires-clause-lawful c =
@@ -61,4 +77,10 @@ returns-in-Err-Refused-clause-stored c =
 pub returns-in-Err-clause-stored : goal.returns-in-Err-clause-stored
 returns-in-Err-clause-stored c =
     stored _ c.args.kit _ _ c.begin-live.result.run c.run.new.cells.run c.begin-live.ensures c.run.ensures.onward c.args.commands.now _
-    c.as_slice-3.ensures c.stop.result.kit c.run.new.cells.agrees c.run.ensures.taken c.stop.result.outcome c.stop.ensures.stored
+    c.as_slice-3.ensures c.stop-in-Err.result.kit c.run.new.cells.agrees c.run.ensures.taken c.stop-in-Err.result.outcome c.stop-in-Err.ensures.stored
+
+pub returns-then-is_err-clause-stored : goal.returns-then-is_err-clause-stored
+returns-then-is_err-clause-stored c =
+    let l = c.begin-live.result.run in
+    stored _ c.args.kit _ _ l l c.begin-live.ensures (onward_refl (sight_of l)) c.args.commands.now _ refl c.stop.result.kit
+    c.begin-live.result.agrees (λ st lib m v. omega arith) c.stop.result.outcome c.stop.ensures.stored
