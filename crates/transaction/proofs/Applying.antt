@@ -1,21 +1,32 @@
 -- What a run of commands gives that a session's run was lent to.
-use Rattle.std.proofs.Common.{◌≡◌, List, sym, ap, subst, ◌∙◌}
+use Rattle.std.proofs.Common.{◌≡◌, ◌≤◌, ◌+◌, ℕ, Bool, List, sym, ap, subst, ◌∙◌, arith}
+use Rattle.std.proofs.Math.Bridge.{le_prop}
+use Rattle.std.proofs.Math.Logic.{∥∥₁_elim}
 use Rattle.std.specs.Prelude.{All}
+use Rattle.std.specs.FinMap.{get}
+use Rattle.bodystore.specs.Stages.{Staged}
 use Rattle.library.specs.declared.command.Command.{Command}
 use Rattle.library.specs.declared.command.Reply.{Reply}
 use Rattle.library.specs.declared.reason.Refused.{Refused as Refusal}
-use Rattle.library.specs.Library.{Setting}
+use Rattle.library.specs.Library.{Setting, Verifies}
 use Rattle.library.specs.Fitting.{CommandFits}
-use Rattle.cells.specs.Sight.{Onward}
-use Rattle.cells.specs.Answers.{has_staging, DoesAll, RefusesAll}
+use Rattle.ranges.specs.Pairs.{Pairs}
+use Rattle.cells.specs.State.{with_writes}
+use Rattle.cells.specs.Shows.{Shows}
+use Rattle.cells.specs.Sight.{Views, StaysStaged, Onward, TakesAtMost}
+use Rattle.cells.specs.Answers.{ForEachBefore, has_staging, DoesAll, RefusesAll}
+use Rattle.cells.proofs.Sights.{matches_back}
+use Rattle.commands.specs.Takes.{most_words_of}
 use Rattle.tlwords.specs.declared.mode.Mode.{Mode}
 use Rattle.lawful.specs.declared.notes.Given.{Given}
 use Rattle.lawful.specs.Lawful.{setting_of}
 use Rattle.lawful.proofs.Running.{runs_are_lawful}
-use Rattle.lending.specs.Lent.{Pass, Lending, Lends, sight_of}
-use Rattle.transaction.specs.Tries.{MayBeDone, MayBeRefused}
+use Rattle.lending.specs.Lent.{Carried, Lending, Agrees, Lends, sight_of}
+use Rattle.transaction.specs.declared.outcome.Outcome.{Outcome}
+use Rattle.transaction.specs.declared.outcome.Outcome.TheVariants as outcome
+use Rattle.transaction.specs.Tries.{MayBeDone, MayBeRefused, carried_by, EndsStored, Stores}
 
-module _ (g : Given) (k : Pass) (mode : Mode) (cs : List Command) (old : Lending) (lends : Lends g k mode (has_staging cs) old) where
+module _ (g : Given) (k : Carried) (mode : Mode) (cs : List Command) (old : Lending) (lends : Lends g k mode (has_staging cs) old) where
   module _ (new : Lending) (onward : Onward (sight_of old) (sight_of new)) where
     setting_is : setting_of g ≡ setting_of new.given
     setting_is = sym (onward.setting ∙ ap setting_of lends.given)
@@ -36,3 +47,41 @@ module _ (g : Given) (k : Pass) (mode : Mode) (cs : List Command) (old : Lending
           (runs_are_lawful new.given (sight_of old) (sight_of new) c (sym onward.setting) lends.blank onward (fit_for c.value is)).1 r
           (subst (λ (x : List Command). RefusesAll (sight_of old) (sight_of new) x r.value) (sym is)
           (subst (λ (x : Refusal). RefusesAll (sight_of old) (sight_of new) cs x) (sym why) refuses))
+
+-- ---- what a run of the commands takes, and what is staged when it has ended
+
+module _ (g : Given) (k : Carried) (mode : Mode) (may : Bool) (old new : Lending) (lends : Lends g k mode may old)
+    (onward : Onward (sight_of old) (sight_of new)) where
+  -- the state that the run agrees with is one that it may have begun with
+  began_views : (a : Agrees new) → Views (sight_of old) a.0 a.1
+  began_views a =
+      record {
+        matches = matches_back (sight_of old) (sight_of new) a.0 onward a.2.matches;
+        shows = subst (λ (ps : Pairs). Shows (setting_of old.given).slots (with_writes a.0 ps) a.1) (sym lends.blank)
+            (subst (λ (s : Setting). Shows s.slots a.0 a.1) onward.setting a.2.shows);
+        verifies = subst (λ (s : Setting). Verifies s a.1) onward.setting a.2.verifies;
+      }
+
+  module _ (cs told : List Command) (same : told ≡ cs) (made : Carried) (agrees : ∥ Agrees new ∥₁)
+      (takes : ForEachBefore (sight_of old) (sight_of new) (λ st lib. TakesAtMost (most_words_of told) (sight_of old) (sight_of new))) where
+    few : made.pass.taken ≡ new.going.known.taken → made.pass.taken ≤ k.pass.taken + most_words_of cs
+    few now =
+        let taken : new.going.known.taken ≤ old.going.known.taken + most_words_of told =
+        ∥∥₁_elim agrees le_prop (λ a. takes a.0 a.1 a.2.matches (began_views a)) in
+        let began = lends.taken in
+        let words = ap most_words_of same in
+        omega (arith, taken, began, words, now)
+
+    stays : made.staged ≡ new.staged → StaysStaged k.staged made.staged
+    stays is = subst (StaysStaged k.staged) (sym is) (λ words start h.
+        onward.staged words start (ap (λ (m : Staged). get m words) lends.staged ∙ h))
+
+    pub stored : (o : Outcome) → EndsStored (carried_by new) made o → Stores cs k made o
+    stored (outcome.Committed number replies) e = (e.1, few e.0)
+    stored (outcome.Read place replies) e = (stays e.1, few e.0)
+    stored (outcome.Refused place refused) e = (stays e.1, few e.0)
+    stored (outcome.Conflict met) e = (stays e.1, few e.0)
+    stored outcome.StoreFull e = (stays e.1, few e.0)
+    stored outcome.NumbersUsed e = (stays e.1, few e.0)
+    stored outcome.TooManyCommands e = (stays e.1, few e.0)
+    stored outcome.NoMemory e = (stays e.1, few e.0)

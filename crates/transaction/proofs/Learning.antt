@@ -1,5 +1,5 @@
 -- What one session learns of another.
-use Rattle.std.proofs.Common.{◌≡◌, ℕ, List, sym, ap, subst}
+use Rattle.std.proofs.Common.{◌≡◌, ℕ, List, refl, sym, ap, subst}
 use Rattle.tlwords.specs.Seen.{Agree}
 use Rattle.tlwords.specs.Calls.{Learns as WordsLearn}
 use Rattle.lawful.specs.Lawful.{library_terms}
@@ -37,19 +37,20 @@ module _ (m o : Member) (k j : Pass) (is : IsMember m) (other : IsMember o) (lea
   base = ap (λ (z : Pass). z.home.base) learnt.is
 
   pub own_stays : IsMember (record m { known = k })
-  own_stays = still_member m k is own_later own_none
+  own_stays = still_member m k m.staged is own_later own_none
 
   pub other_stays : IsMember (record o { known = j })
-  other_stays = still_member o j other other_later other_none
+  other_stays = still_member o j o.staged other other_later other_none
 
   pub session_learns : Learns m o (record m { known = k }) (record o { known = j })
   session_learns = record {
-    own = goes_on m k is own_later own_none;
-    other_own = goes_on o j other other_later other_none;
+    own = goes_on m k m.staged is own_later own_none;
+    other_own = goes_on o j o.staged other other_later other_none;
     told = learnt.told;
     kept = record { mine = ap (λ (z : Pass). z.mine) learnt.is; drawn = own_none };
     other_kept = record { mine = ap (λ (z : Pass). z.mine) learnt.other_is; drawn = other_none };
     agree = other_calls_agree m.given k o.known.mine (pass_on m.given m.known k own_later.home is.on) learnt.knows
         (subst (λ (b : List ℕ). Agree library_terms m.given b k.seen o.known.mine) (sym base) (learnt.calls m.given is.on.0));
     apart = learnt.apart;
+    staged = (refl, refl);
   }

@@ -27,13 +27,13 @@ use Rattle.lawful.proofs.Standing.{runs_suit}
 use Rattle.lawful.proofs.Running.{looks_are_lawful}
 use Rattle.lending.specs.declared.live.GivenUp.{GivenUp}
 use Rattle.lending.specs.declared.live.GivenUp.TheVariants as given
-use Rattle.lending.specs.Lent.{Pass, Lending, IsLent, is_writing, sight_of}
+use Rattle.lending.specs.Lent.{Pass, Carried, Lending, IsLent, is_writing, sight_of}
 use Rattle.lending.specs.Ends.{IsGivenUp}
 use Rattle.transaction.specs.declared.outcome.Look.{Look}
 use Rattle.transaction.specs.declared.outcome.Look.TheVariants as look
 use Rattle.transaction.specs.Members.{Member, IsMember}
 use Rattle.transaction.specs.Looks.{Looks, Sees, SaysLooked}
-use Rattle.transaction.specs.Tries.{IsLaterPass, MayBeLooked}
+use Rattle.transaction.specs.Tries.{IsLaterPass, StoresNothing, MayBeLooked}
 use Rattle.transaction.proofs.Ended.{met_at, is_later, adds_nothing, meets}
 use Rattle.transaction.proofs.Staying.{pass_on, still_member, goes_on}
 
@@ -162,9 +162,15 @@ draws_none old new (look.Read place library) sees = sees.1
 draws_none old new (look.Conflict met) sees = sees.0.drawn
 draws_none old new look.NoMemory sees = sees.drawn
 
-module _ (m : Member) (k : Pass) (l : Look) (is : IsMember m) (later : IsLaterPass m.known k) (sees : Sees m.known k l) where
-  pub looker_stays : IsMember (record m { known = k })
-  looker_stays = still_member m k is later (draws_none m.known k l sees)
+module _ (m : Member) (k : Carried) (l : Look) (is : IsMember m) (later : IsLaterPass m.known k.pass) (sees : Sees m.known k.pass l) where
+  pub looker_stays : IsMember (record m { known = k.pass; staged = k.staged })
+  looker_stays = still_member m k.pass k.staged is later (draws_none m.known k.pass l sees)
 
-  pub session_looks : Looks m (record m { known = k }) l
-  session_looks = record { later = goes_on m k is later (draws_none m.known k l sees); sees = sees }
+  pub session_looks : StoresNothing (record { pass = m.known; staged = m.staged }) k → Looks m (record m { known = k.pass; staged = k.staged }) l
+  session_looks stored =
+      record {
+        later = goes_on m k.pass k.staged is later (draws_none m.known k.pass l sees);
+        sees = sees;
+        staged = stored.1;
+        taken = stored.0;
+      }

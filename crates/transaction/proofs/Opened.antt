@@ -58,17 +58,16 @@ none_staged ranges stage is =
     (record { among = λ words start at. let none = sym (get-empty (slice_cmp nat_cmp) words) ∙ at in cc none })
 
 -- one more session is made, of the next pass
-pub seat_next : (g s : Given) (k : Known Given Note) (records : List Record) (made new : List Member)
+pub seat_next : (g s : Given) (k : Known Given Note) (records : List Record) (stage : Staged) (made new : List Member)
     → (rest left all : List (Known Given Note))
-    → new ≡ made ++ record { given = s; known = k; records = records } ∷ []
-    → s ≡ g → records ≡ []
+    → new ≡ made ++ record { given = s; known = k; records = records; staged = stage } ∷ []
+    → s ≡ g → records ≡ [] → stage ≡ empty
     → rest ≡ k ∷ left
     → made ++ map (seated g) rest ≡ map (seated g) all
     → new ++ map (seated g) left ≡ map (seated g) all
-seat_next g s k records made new rest left all new_is given none next so_far =
-    let one : record { given = s; known = k; records = records } ≡ seated g k =
-    ap (λ (x : Given). record { given = x; known = k; records = records }) given
-    ∙ ap (λ (rs : List Record). record { given = g; known = k; records = rs }) none in
+seat_next g s k records stage made new rest left all new_is given none clear next so_far =
+    let one : record { given = s; known = k; records = records; staged = stage } ≡ seated g k =
+    λ j. record { given = given j; known = k; records = none j; staged = clear j } in
     ap (λ (ms : List Member). ms ++ map (seated g) left) (new_is ∙ ap (λ (m : Member). made ++ m ∷ []) one)
     ∙ append_assoc made (seated g k ∷ []) (map (seated g) left)
     ∙ (ap (λ ks. made ++ map (seated g) ks) (sym next) ∙ so_far)

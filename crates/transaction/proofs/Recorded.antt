@@ -10,6 +10,7 @@ use Rattle.tlwords.specs.Seen.{Seen, SeenGrows}
 use Rattle.lawful.specs.declared.notes.Note.{Note}
 use Rattle.lawful.specs.History.{history_of}
 use Rattle.lawful.proofs.Entries.{histories_grow}
+use Rattle.bodystore.specs.Stages.{Staged}
 use Rattle.lending.specs.Lent.{Pass}
 use Rattle.transaction.specs.declared.outcome.Record.{Record}
 use Rattle.transaction.specs.Members.{Member, AreRecorded, entry_recorded, IsRecordIn}
@@ -42,11 +43,11 @@ abbrev pub with_record : List Record → Option Record → List Record
 with_record rs None = rs
 with_record rs (Some r) = rs ++ r ∷ []
 
-pub still_recorded : (m : Member) (k : Pass) (r : Option Record) → SeenGrows m.known.seen k.seen → IsRecorded m.known k r → AreRecorded m
-    → AreRecorded (record m { known = k; records = with_record m.records r })
-still_recorded m k None grows none are =
+pub still_recorded : (m : Member) (k : Pass) (s : Staged) (r : Option Record) → SeenGrows m.known.seen k.seen → IsRecorded m.known k r → AreRecorded m
+    → AreRecorded (record m { known = k; records = with_record m.records r; staged = s })
+still_recorded m k s None grows none are =
     record { numbers = are.numbers ∙ sym none; entries = records_grow m.known.seen k.seen m.records grows are.entries }
-still_recorded m k (Some r) grows (drawn, is) are =
+still_recorded m k s (Some r) grows (drawn, is) are =
     record {
       numbers =
           map-append (λ (x : Record). x.number) m.records (r ∷ []) ∙ (ap (λ (ns : List ℕ). ns ++ r.number ∷ []) are.numbers ∙ sym drawn);

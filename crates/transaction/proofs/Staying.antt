@@ -4,23 +4,24 @@ use Rattle.cells.specs.State.{most_words}
 use Rattle.tlwords.specs.Known.{Home}
 use Rattle.lawful.specs.declared.notes.Given.{Given}
 use Rattle.lawful.specs.Laws.{IsPassOn}
-use Rattle.lending.specs.Lent.{Pass}
+use Rattle.bodystore.specs.Stages.{Staged}
+use Rattle.lending.specs.Lent.{Pass, Carried}
 use Rattle.transaction.specs.declared.outcome.Record.{Record}
 use Rattle.transaction.specs.Members.{Member, IsMember, IsLater}
-use Rattle.transaction.specs.Kits.{known_in}
+use Rattle.transaction.specs.Kits.{known_in, staged_in}
 use Rattle.transaction.specs.Tries.{IsLaterPass}
 use Rattle.transaction.proofs.Standing.{stands}
 use Rattle.transaction.proofs.Recorded.{records_grow}
 
 -- a session as its code holds it
-abbrev pub session_with : Given → List Record → Option Pass → Member
-session_with given records kit = record { given = given; known = known_in kit; records = records }
+abbrev pub session_with : Given → List Record → Option Carried → Member
+session_with given records kit = record { given = given; known = known_in kit; records = records; staged = staged_in kit }
 
 pub pass_on : (g : Given) (old new : Pass) → new.home ≡ old.home → IsPassOn g old → IsPassOn g new
 pass_on g old new same is = subst (λ (h : Home Given). (h.setting ≡ Some g) × (h.room ≤ most_words)) (sym same) is
 
-module _ (m : Member) (k : Pass) (is : IsMember m) (later : IsLaterPass m.known k) (none : k.drawn ≡ m.known.drawn) where
-  pub still_member : IsMember (record m { known = k })
+module _ (m : Member) (k : Pass) (s : Staged) (is : IsMember m) (later : IsLaterPass m.known k) (none : k.drawn ≡ m.known.drawn) where
+  pub still_member : IsMember (record m { known = k; staged = s })
   still_member = record {
     on = pass_on m.given m.known k later.home is.on;
     knows = later.knows;
@@ -30,11 +31,11 @@ module _ (m : Member) (k : Pass) (is : IsMember m) (later : IsLaterPass m.known 
     };
   }
 
-  pub goes_on : IsLater m (record m { known = k })
+  pub goes_on : IsLater m (record m { known = k; staged = s })
   goes_on = record {
     given = refl;
     home = later.home;
     name = later.name;
     grows = later.grows;
-    stands = stands (record m { known = k }) still_member;
+    stands = stands (record m { known = k; staged = s }) still_member;
   }

@@ -1,34 +1,37 @@
 -- What one run of a session makes of the session, and what runs until there is no conflict do.
-use Rattle.std.proofs.Common.{◌≡◌, ◌≢◌, ℕ, ◌+◌, ◌≤◌, ◌⊎◌, inl, inr, Bool, true, false, List, [], ◌∷◌, ◌++◌, length, Option, Some, None}
+use Rattle.std.proofs.Common.{◌≡◌, ◌≢◌, ℕ, ◌+◌, ◌*◌, ◌≤◌, ◌⊎◌, inl, inr, Bool, true, false, List, [], ◌∷◌, ◌++◌, length, Option, Some, None}
 use Rattle.std.proofs.Common.{refl, sym, ap, subst, ◌∙◌, arith, append_assoc}
 use Rattle.std.specs.Prelude.{All}
 use Rattle.std.proofs.lemmas.List.{append-nil}
+use Rattle.std.proofs.Math.Nat.{add-mul}
 use Rattle.std.proofs.lemmas.List.Elements.{All-nil, All-push}
 use Rattle.library.specs.declared.command.Command.{Command}
 use Rattle.library.specs.Transactions.{has_too_many}
 use Rattle.cells.specs.State.{most_words}
+use Rattle.cells.specs.Sight.{StaysStaged}
+use Rattle.commands.specs.Takes.{most_words_of}
 use Rattle.tlwords.specs.Seen.{Work, Call, Committed, Answered}
 use Rattle.tlwords.specs.Known.{Home}
 use Rattle.tlwords.proofs.Seens.{seen_refl, seen_trans}
 use Rattle.lawful.specs.declared.notes.Given.{Given}
 use Rattle.lawful.specs.declared.notes.Note.{Note}
-use Rattle.lending.specs.Lent.{Pass}
+use Rattle.lending.specs.Lent.{Pass, Carried}
 use Rattle.transaction.specs.declared.outcome.Conflict.{Conflict as Met}
 use Rattle.transaction.specs.declared.outcome.Outcome.{Outcome}
 use Rattle.transaction.specs.declared.outcome.Outcome.TheVariants as outcome
 use Rattle.transaction.specs.declared.outcome.Record.{Record}
 use Rattle.transaction.specs.Members.{Member, IsLater, IsMember}
-use Rattle.transaction.specs.Attempts.{Gains, Attempts, Submits, IsVoidNumber, DrawsVoid, AddsNothing, GainsCall, SaysDone, SaysRefused}
+use Rattle.transaction.specs.Attempts.{Gains, LeavesStaged, Attempts, Submits, IsVoidNumber, DrawsVoid, AddsNothing, GainsCall, SaysDone, SaysRefused}
 use Rattle.transaction.specs.Attempts.{tried}
-use Rattle.transaction.specs.Tries.{IsLaterPass, IsRecorded, Tries}
+use Rattle.transaction.specs.Tries.{IsLaterPass, IsRecorded, Stores, Tries}
 use Rattle.transaction.proofs.Standing.{stands}
 use Rattle.transaction.proofs.Recorded.{with_record, still_recorded, voids_grow}
 
 -- ---- one try
 
 -- the session after a run
-abbrev pub after_run : Member → Pass → Option Record → Member
-after_run m k r = record m { known = k; records = with_record m.records r }
+abbrev pub after_run : Member → Carried → Option Record → Member
+after_run m k r = record m { known = k.pass; records = with_record m.records r; staged = k.staged }
 
 module _ (m : Member) (is : IsMember m) where
   same_later : IsLater m m
@@ -37,20 +40,28 @@ module _ (m : Member) (is : IsMember m) where
 
   -- nothing was done
   pub attempts_none : (cs : List Command) (o : Outcome) → Gains cs m.known m.known o → (has_too_many cs ≡ true → o ≡ outcome.TooManyCommands)
-      → Attempts cs m m o
-  attempts_none cs o gains counted = record { later = same_later; gains = gains; counted = counted }
+      → LeavesStaged m.staged m.staged o → Attempts cs m m o
+  attempts_none cs o gains counted staged =
+      record {
+        later = same_later;
+        gains = gains;
+        counted = counted;
+        staged = staged;
+        taken = omega arith;
+        untouched = λ many. refl;
+      }
 
-  pub member_after : (k : Pass) (r : Option Record) → IsLaterPass m.known k → IsRecorded m.known k r → IsMember (after_run m k r)
+  pub member_after : (k : Carried) (r : Option Record) → IsLaterPass m.known k.pass → IsRecorded m.known k.pass r → IsMember (after_run m k r)
   member_after k r later recorded =
       record {
         on = subst (λ (h : Home Given). (h.setting ≡ Some m.given) × (h.room ≤ most_words)) (sym later.home) is.on;
         knows = later.knows;
-        recorded = still_recorded m k r later.grows recorded is.recorded;
+        recorded = still_recorded m k.pass k.staged r later.grows recorded is.recorded;
       }
 
-  pub attempts_run : (cs : List Command) (k : Pass) (o : Outcome) (r : Option Record) → has_too_many cs ≡ false → Tries cs m.known k o r
-      → Attempts cs m (after_run m k r) o
-  attempts_run cs k o r few t =
+  pub attempts_run : (cs : List Command) (k : Carried) (o : Outcome) (r : Option Record) → has_too_many cs ≡ false → Tries cs m.known k.pass o r
+      → Stores cs (record { pass = m.known; staged = m.staged }) k o → Attempts cs m (after_run m k r) o
+  attempts_run cs k o r few t stored =
       record {
         later = record {
           given = refl;
@@ -61,21 +72,27 @@ module _ (m : Member) (is : IsMember m) where
         };
         gains = t.gains;
         counted = λ many. let no : true ≡ false = sym many ∙ few in absurd cc;
+        staged = stored.0;
+        taken = stored.1;
+        untouched = λ many. let no : true ≡ false = sym many ∙ few in absurd cc;
       }
 
 -- the session whose records are these then
-module _ (m : Member) (is : IsMember m) (cs : List Command) (kit k : Pass) (o : Outcome) (r : Option Record) (records : List Record)
-    (same : kit ≡ m.known) (tries : Tries cs kit k o r) (are : records ≡ with_record m.records r) where
-  tries_here : Tries cs m.known k o r
-  tries_here = subst (λ (z : Pass). Tries cs z k o r) same tries
+module _ (m : Member) (is : IsMember m) (cs : List Command) (kit k : Carried) (o : Outcome) (r : Option Record) (records : List Record)
+    (same : kit.pass ≡ m.known) (tries : Tries cs kit.pass k.pass o r) (are : records ≡ with_record m.records r) where
+  tries_here : Tries cs m.known k.pass o r
+  tries_here = subst (λ (z : Pass). Tries cs z k.pass o r) same tries
 
-  pub run_member : IsMember (record m { known = k; records = records })
-  run_member = subst (λ (rs : List Record). IsMember (record m { known = k; records = rs })) (sym are)
+  pub run_member : IsMember (record m { known = k.pass; records = records; staged = k.staged })
+  run_member = subst (λ (rs : List Record). IsMember (record m { known = k.pass; records = rs; staged = k.staged })) (sym are)
       (member_after m is k r tries_here.later tries_here.recorded)
 
-  pub run_attempts : has_too_many cs ≡ false → Attempts cs m (record m { known = k; records = records }) o
-  run_attempts few = subst (λ (rs : List Record). Attempts cs m (record m { known = k; records = rs }) o) (sym are)
-      (attempts_run m is cs k o r few tries_here)
+  pub run_attempts : kit.staged ≡ m.staged → Stores cs kit k o → has_too_many cs ≡ false
+      → Attempts cs m (record m { known = k.pass; records = records; staged = k.staged }) o
+  run_attempts stage stored few =
+      subst (λ (rs : List Record). Attempts cs m (record m { known = k.pass; records = rs; staged = k.staged }) o) (sym are)
+      (attempts_run m is cs k o r few tries_here
+      (subst (λ (z : Carried). Stores cs z k o) (λ j. record { pass = same j; staged = stage j }) stored))
 
 pub no_record : (r : Option Record) → ((x : Record) → r ≢ Some x) → r ≡ None
 no_record None none = refl
@@ -103,6 +120,8 @@ pub record Tried (cs : List Command) (old now : Member) : Type 0 where
   pub runs : ℕ
   pub counted : now.known.runs ≡ old.known.runs + runs
   pub mine : now.known.mine ≡ old.known.mine
+  pub staged : StaysStaged old.staged now.staged
+  pub taken : now.known.taken ≤ old.known.taken + runs * most_words_of cs
 
 pub tried_none : (cs : List Command) (m : Member) → Tried cs m m
 tried_none cs m =
@@ -114,6 +133,8 @@ tried_none cs m =
       runs = 0;
       counted = omega arith;
       mine = refl;
+      staged = λ words start h. h;
+      taken = omega arith;
     }
 
 -- a number drawn behind these, and void
@@ -160,6 +181,29 @@ module _ (cs : List Command) (old now next : Member) (o : Outcome) (so_far : Tri
   void_then : All (IsVoidNumber next.known) so_far.numbers
   void_then = voids_grow now.known next.known so_far.numbers a.later.grows so_far.void
 
+  more_words : (so_far.runs + 1) * most_words_of cs ≡ so_far.runs * most_words_of cs + most_words_of cs
+  more_words = let e = add-mul so_far.runs 1 (most_words_of cs) in omega (arith, e)
+
+  stays : StaysStaged now.staged next.staged → StaysStaged old.staged next.staged
+  stays is = λ words start h. is words start (so_far.staged words start h)
+
+  staged_then : (v : Outcome) → LeavesStaged now.staged next.staged v → LeavesStaged old.staged next.staged v
+  staged_then (outcome.Committed number replies) is = is
+  staged_then (outcome.Read place replies) is = stays is
+  staged_then (outcome.Refused place refused) is = stays is
+  staged_then (outcome.Conflict met) is = stays is
+  staged_then outcome.StoreFull is = stays is
+  staged_then outcome.NumbersUsed is = stays is
+  staged_then outcome.TooManyCommands is = stays is
+  staged_then outcome.NoMemory is = stays is
+
+  words_then : next.known.taken ≤ old.known.taken + (so_far.runs * most_words_of cs + most_words_of cs)
+  words_then = let p = a.taken in let q = so_far.taken in omega (arith, p, q)
+
+  untouched_by : (now ≡ old) ⊎ (IsLater old now × (has_too_many cs ≡ false)) → has_too_many cs ≡ true → next.staged ≡ old.staged
+  untouched_by (inl same) many = a.untouched many ∙ ap (λ (m : Member). m.staged) same
+  untouched_by (inr (later, few)) many = let no : true ≡ false = sym many ∙ few in absurd cc
+
   -- one more conflict
   pub tried_more : (met : Met) → o ≡ outcome.Conflict met → Tried cs old next
   tried_more met is =
@@ -173,6 +217,8 @@ module _ (cs : List Command) (old now next : Member) (o : Outcome) (so_far : Tri
         runs = so_far.runs + 1;
         counted = (let e = g.2.runs in let f = so_far.counted in omega arith);
         mine = g.0 ∙ so_far.mine;
+        staged = stays (subst (LeavesStaged now.staged next.staged) is a.staged);
+        taken = (let e = more_words in let p = a.taken in let q = so_far.taken in omega (arith, e, p, q));
       }
 
   -- ---- the last try
@@ -217,6 +263,9 @@ module _ (cs : List Command) (old now next : Member) (o : Outcome) (so_far : Tri
         gains = gains_since o a.gains settled some;
         settled = settled;
         counted = a.counted;
+        staged = staged_then o a.staged;
+        taken = words_then;
+        untouched = untouched_by so_far.since;
       }
 
   -- with too many commands nothing was tried before
@@ -233,6 +282,9 @@ module _ (cs : List Command) (old now next : Member) (o : Outcome) (so_far : Tri
         gains = subst (Gains cs (tried old.known [] 0) next.known) (sym is) (all, g.1);
         settled = λ met e. let no = sym is ∙ e in cc;
         counted = a.counted;
+        staged = staged_then o a.staged;
+        taken = (let p = ap (λ (k : Pass). k.taken) all in omega (arith, p));
+        untouched = untouched_by (inl same);
       }
   submits_none (inr (later, few)) is =
       let g = subst (Gains cs now.known next.known) is a.gains in

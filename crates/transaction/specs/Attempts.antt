@@ -1,12 +1,16 @@
 -- What becomes of a transaction that a session runs, and what the session's pass knows then.
 use Rattle.std.specs.Prelude.{◌≡◌, ◌≢◌, ◌<◌, ◌≤◌, ℕ, suc, ◌+◌, ◌/◌, ◌^◌, ◌⊎◌, true, false, is_some, Some, None, List, [], ◌∷◌, ◌++◌}
-use Rattle.std.specs.Prelude.{length, slice_get, All}
+use Rattle.std.specs.Prelude.{◌*◌, length, slice_get, All}
+use Rattle.std.specs.FinMap.{empty}
+use Rattle.bodystore.specs.Stages.{Staged}
 use Rattle.library.specs.declared.command.Command.{Command}
 use Rattle.library.specs.declared.command.Reply.{Reply}
 use Rattle.library.specs.declared.reason.Refused.{Refused as Refusal}
 use Rattle.library.specs.Histories.{void_entry}
 use Rattle.library.specs.Transactions.{has_edit, has_too_many}
 use Rattle.cells.specs.Answers.{has_staging}
+use Rattle.cells.specs.Sight.{StaysStaged}
+use Rattle.commands.specs.Takes.{most_words_of}
 use Rattle.tlcore.specs.History.{WasWritten}
 use Rattle.tlwords.specs.Seen.{Work, Call, Committed as CommittedCall, Answered}
 use Rattle.tlwords.specs.Runs.{HasCause}
@@ -89,17 +93,25 @@ Gains cs old new outcome.NumbersUsed = AddsNothing old new × (length old.drawn 
 Gains cs old new outcome.TooManyCommands = (new ≡ old) × (has_too_many cs ≡ true)
 Gains cs old new outcome.NoMemory = AddsNothing old new
 
--- what one try does
+-- what is staged then: nothing after a Committed; else what was staged, and maybe more
+abbrev pub LeavesStaged : Staged → Staged → Outcome → Type 0
+LeavesStaged old new (outcome.Committed number replies) = new ≡ empty
+LeavesStaged old new _ = StaysStaged old new
+
+-- what one try does. It takes at most the words of the bodies of its commands, each once
 pub record Attempts (cs : List Command) (old new : Member) (o : Outcome) : Type 0 where
   pub later : IsLater old new
   pub gains : Gains cs old.known new.known o
   pub counted : has_too_many cs ≡ true → o ≡ outcome.TooManyCommands
+  pub staged : LeavesStaged old.staged new.staged o
+  pub taken : new.known.taken ≤ old.known.taken + most_words_of cs
+  pub untouched : has_too_many cs ≡ true → new.staged ≡ old.staged
 
 -- what the pass knew, with further numbers, and after further runs
 abbrev pub tried : Pass → List ℕ → ℕ → Pass
 tried k numbers runs = record k { drawn = k.drawn ++ numbers; runs = k.runs + runs }
 
--- what tries until there is no conflict do: as one, after others that drew further numbers, which are void
+-- what tries until there is no conflict do: as one, after others that drew further numbers, which are void, and took words of the store
 pub record Submits (cs : List Command) (old new : Member) (o : Outcome) : Type 0 where
   pub later : IsLater old new
   pub numbers : List ℕ
@@ -108,3 +120,6 @@ pub record Submits (cs : List Command) (old new : Member) (o : Outcome) : Type 0
   pub gains : Gains cs (tried old.known numbers runs) new.known o
   pub settled : (met : Met) → o ≢ outcome.Conflict met
   pub counted : has_too_many cs ≡ true → o ≡ outcome.TooManyCommands
+  pub staged : LeavesStaged old.staged new.staged o
+  pub taken : new.known.taken ≤ old.known.taken + (runs * most_words_of cs + most_words_of cs)
+  pub untouched : has_too_many cs ≡ true → new.staged ≡ old.staged

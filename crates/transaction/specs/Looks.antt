@@ -27,6 +27,8 @@ Sees old new look.NoMemory = AddsNothing old new
 pub record Looks (old new : Member) (l : Look) : Type 0 where
   pub later : IsLater old new
   pub sees : Sees old.known new.known l
+  pub staged : new.staged ≡ old.staged
+  pub taken : new.known.taken ≡ old.known.taken
 
 -- one session has learnt of another
 pub record Learns (old other new other_new : Member) : Type 0 where
@@ -40,3 +42,5 @@ pub record Learns (old other new other_new : Member) : Type 0 where
   pub agree : AllAgree new.given (history_of new.known.seen) other.known.mine
   -- and the numbers of two sessions are different
   pub apart : old.known.name ≢ other.known.name → (number : ℕ) → Has number old.known.drawn → Has number other.known.drawn → ⊥
+  -- what each has staged stays
+  pub staged : (new.staged ≡ old.staged) × (other_new.staged ≡ other.staged)

@@ -1,5 +1,6 @@
 -- What contracts see of a library in running words and of its sessions, and what is so of a session at all times.
 use Rattle.std.specs.Prelude.{◌≡◌, ℕ, suc, Option, Some, None, List, [], All, map, slice_get}
+use Rattle.bodystore.specs.Stages.{Staged}
 use Rattle.library.specs.declared.command.Command.{Command}
 use Rattle.library.specs.declared.command.Reply.{Reply}
 use Rattle.library.specs.Histories.{Entry, void_entry, done_entry}
@@ -21,11 +22,13 @@ pub record Home : Type 0 where
   pub store : List ℕ
   pub sessions : ℕ
 
--- a session: the opening database and the slots, what its pass knows, and the records of the numbers that it drew
+-- a session: the opening database and the slots, what its pass knows, the records of the numbers that it drew, and what it has staged since
+-- its last Committed
 pub record Member : Type 0 where
   pub given : Given
   pub known : Known Given Note
   pub records : List Record
+  pub staged : Staged
 
 -- the session is one of the library
 abbrev pub IsOf : Home → Member → Type 0

@@ -1,22 +1,25 @@
 -- Of the code's inside, apart from the rules: what one run of a session does to its pass, and the record that is left of it.
-use Rattle.std.specs.Prelude.{◌≡◌, Option, Some, None, List, [], ◌∷◌, ◌++◌}
+use Rattle.std.specs.Prelude.{◌≡◌, ◌≤◌, ◌+◌, Option, Some, None, List, [], ◌∷◌, ◌++◌}
+use Rattle.std.specs.FinMap.{empty}
 use Rattle.std.specs.declared.snapshot.Snapshot.{Snapshot}
 use Rattle.library.specs.declared.command.Command.{Command}
 use Rattle.library.specs.declared.command.Reply.{Reply}
 use Rattle.library.specs.declared.reason.Refused.{Refused as Refusal}
 use Rattle.library.specs.Library.{Listed}
+use Rattle.commands.specs.Takes.{most_words_of}
 use Rattle.tlwords.specs.Seen.{SeenGrows}
 use Rattle.tlwords.specs.Known.{Knows}
 use Rattle.tlwords.specs.Commits.{writes_kept}
 use Rattle.lawful.specs.declared.notes.Note.TheVariants.{Done, Refused, Looked}
 use Rattle.lawful.specs.Lawful.{library_terms}
 use Rattle.lawful.specs.History.{history_of}
-use Rattle.lending.specs.Lent.{Pass, Lending}
+use Rattle.lending.specs.Lent.{Pass, Carried, Lending}
 use Rattle.lending.specs.Ends.{IsLawfulWith}
 use Rattle.transaction.specs.declared.outcome.Record.{Record}
 use Rattle.transaction.specs.declared.outcome.Outcome.{Outcome}
 use Rattle.transaction.specs.Members.{IsRecordIn}
-use Rattle.transaction.specs.Attempts.{Gains}
+use Rattle.transaction.specs.declared.outcome.Outcome.TheVariants as outcome
+use Rattle.transaction.specs.Attempts.{Gains, LeavesStaged}
 
 -- the pass later: of the same words, with the same name, having seen more
 pub record IsLaterPass (old new : Pass) : Type 0 where
@@ -35,6 +38,23 @@ pub record Tries (cs : List Command) (old new : Pass) (o : Outcome) (r : Option 
   pub later : IsLaterPass old new
   pub gains : Gains cs old new o
   pub recorded : IsRecorded old new r
+
+-- what a run would give back, were it ended now
+abbrev pub carried_by : Lending → Carried
+carried_by l = record { pass = l.going.known; staged = l.staged }
+
+-- nothing is taken of the store, and what was staged stays
+abbrev pub StoresNothing : Carried → Carried → Type 0
+StoresNothing old new = (new.pass.taken ≡ old.pass.taken) × (new.staged ≡ old.staged)
+
+-- so where a run ends, but that a Committed forgets what was staged
+abbrev pub EndsStored : Carried → Carried → Outcome → Type 0
+EndsStored old new (outcome.Committed number replies) = (new.pass.taken ≡ old.pass.taken) × (new.staged ≡ empty)
+EndsStored old new _ = StoresNothing old new
+
+-- what one run takes of the store and leaves staged
+abbrev pub Stores : List Command → Carried → Carried → Outcome → Type 0
+Stores cs old new o = LeavesStaged old.staged new.staged o × (new.pass.taken ≤ old.pass.taken + most_words_of cs)
 
 -- the run is lawful with a note that the commands are done
 abbrev pub MayBeDone : Lending → List Command → List Reply → Type 0

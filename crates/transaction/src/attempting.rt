@@ -10,7 +10,7 @@ ghost use Rattle.lawful.specs.Laws.{IsPassOn};
 ghost use Rattle.lawful.specs.Lawful.{setting_of};
 ghost use Rattle.transaction.specs.Members.{IsOf};
 ghost use Rattle.transaction.specs.Attempts.{Attempts};
-ghost use Rattle.transaction.specs.Tries.{Tries, MayBeDone, MayBeRefused};
+ghost use Rattle.transaction.specs.Tries.{Tries, Stores, EndsStored, carried_by, MayBeDone, MayBeRefused};
 
 use crate::outcome::{Outcome, Record, met};
 use crate::running::Library;
@@ -38,8 +38,9 @@ impl Session {
     /// A transaction with an edit that is not refused is `Committed`; one without is `Read`, and keeps no read set. What it reads is the library
     /// after one front of the history, which is no older than what this session had seen or been told.
     ///
-    /// Every other outcome changes nothing, and the session can be used again; only words of the store that were staged stay used. All memory
-    /// is taken before the first lock.
+    /// Every other outcome changes nothing, and the session can be used again; only words of the store that were staged stay used: at most
+    /// those of its bodies, each once, and none for a body that was staged since the last Committed, unless memory ran out for the note of
+    /// it. All memory is taken before the first lock.
     pub fn attempt(&mut self, alloc: Global, library: &Library, commands: &Transaction) -> Outcome
         requires own { IsOf library.now self.old }
         requires fit { All (CommandFits (setting_of library.now.given).prelude) commands.now }
@@ -72,10 +73,11 @@ impl Session {
 
 /// Runs a transaction once, to its end.
 fn transact(alloc: Global, library: &Library, kit: Kit, commands: &Transaction) -> Tried
-    requires own { kit.home ≡ library.now.words }
-    requires on { IsPassOn library.now.given kit }
+    requires own { kit.pass.home ≡ library.now.words }
+    requires on { IsPassOn library.now.given kit.pass }
     requires fit { All (CommandFits (setting_of library.now.given).prelude) commands.now }
-    ensures { Tries commands.now kit result.kit result.outcome result.drawn }
+    ensures tries { Tries commands.now kit.pass result.kit.pass result.outcome result.drawn }
+    ensures stored { Stores commands.now kit result.kit result.outcome }
 {
     let edits = has_edit(commands.as_slice());
     let mode = if edits { Mode::Writing } else { Mode::Reading };
@@ -108,7 +110,8 @@ fn commit(alloc: Global, live: Live<'_>, commands: &Transaction, replies: Sequen
     requires edit { has_edit commands.now ≡ true }
     requires some { writes_kept live.run.going.slots ≢ [] }
     requires lawful { MayBeDone live.run commands.now replies }
-    ensures { Tries commands.now live.entry.run.began result.kit result.outcome result.drawn }
+    ensures tries { Tries commands.now live.entry.run.began result.kit.pass result.outcome result.drawn }
+    ensures stored { EndsStored (carried_by live.entry.run) result.kit result.outcome }
 {
     let Ok(done) = copy_done(alloc, commands, &replies) else {
         return stop(live, commands);
@@ -146,7 +149,8 @@ fn answer(live: Live<'_>, commands: &Transaction, replies: Sequence<Reply>) -> T
     requires edit { has_edit commands.now ≡ false }
     requires reading { live.run.going.mode ≡ Reading }
     requires lawful { MayBeDone live.run commands.now replies }
-    ensures { Tries commands.now live.entry.run.began result.kit result.outcome result.drawn }
+    ensures tries { Tries commands.now live.entry.run.began result.kit.pass result.outcome result.drawn }
+    ensures stored { EndsStored (carried_by live.entry.run) result.kit result.outcome }
 {
     let place = live.place();
     let note = Note::Done {
@@ -172,7 +176,8 @@ fn answer(live: Live<'_>, commands: &Transaction, replies: Sequence<Reply>) -> T
 fn refuse(mut live: Live<'_>, commands: &Transaction, refused: Refused) -> Tried
     requires reading { has_edit commands.now ≡ false → live.run.going.mode ≡ Reading }
     requires lawful { MayBeRefused live.run commands.now refused }
-    ensures { Tries commands.now live.entry.run.began result.kit result.outcome result.drawn }
+    ensures tries { Tries commands.now live.entry.run.began result.kit.pass result.outcome result.drawn }
+    ensures stored { EndsStored (carried_by live.entry.run) result.kit result.outcome }
 {
     live.forget();
     let place = live.place();
@@ -199,7 +204,8 @@ fn refuse(mut live: Live<'_>, commands: &Transaction, refused: Refused) -> Tried
 fn stop(live: Live<'_>, commands: &Transaction) -> Tried
     requires stages { live.run.may_stage ≡ has_staging commands.now }
     requires reading { has_edit commands.now ≡ false → live.run.going.mode ≡ Reading }
-    ensures { Tries commands.now live.entry.run.began result.kit result.outcome result.drawn }
+    ensures tries { Tries commands.now live.entry.run.began result.kit.pass result.outcome result.drawn }
+    ensures stored { EndsStored (carried_by live.entry.run) result.kit result.outcome }
 {
     let place = live.place();
     let (kit, why) = live.give_up();

@@ -11,7 +11,7 @@ ghost use Rattle.lawful.specs.Lawful.{setting_of};
 ghost use Rattle.lending.specs.Lent.{sight_of};
 ghost use Rattle.transaction.specs.Members.{IsOf};
 ghost use Rattle.transaction.specs.Looks.{Looks, Sees};
-ghost use Rattle.transaction.specs.Tries.{IsLaterPass, MayBeLooked};
+ghost use Rattle.transaction.specs.Tries.{IsLaterPass, StoresNothing, carried_by, MayBeLooked};
 
 use crate::outcome::{Look, met};
 use crate::running::Library;
@@ -45,10 +45,11 @@ impl Session {
 
 /// Runs a look once, to its end.
 fn look(alloc: Global, library: &Library, kit: Kit) -> (Kit, Look)
-    requires own { kit.home ≡ library.now.words }
-    requires on { IsPassOn library.now.given kit }
-    ensures later { IsLaterPass kit result.0 }
-    ensures sees { Sees kit result.0 result.1 }
+    requires own { kit.pass.home ≡ library.now.words }
+    requires on { IsPassOn library.now.given kit.pass }
+    ensures later { IsLaterPass kit.pass result.0.pass }
+    ensures sees { Sees kit.pass result.0.pass result.1 }
+    ensures stored { StoresNothing kit result.0 }
 {
     let mut live = library.begin(alloc, kit, Mode::Reading, false);
     match read_all(alloc, library, &mut live) {
@@ -81,8 +82,9 @@ fn show(live: Live<'_>, library: PlainLibrary) -> (Kit, Look)
     requires reading { live.run.going.mode ≡ Reading }
     requires blank { writes_kept live.run.going.slots ≡ [] }
     requires lawful { MayBeLooked live.run library }
-    ensures later { IsLaterPass live.entry.run.began result.0 }
-    ensures sees { Sees live.entry.run.began result.0 result.1 }
+    ensures later { IsLaterPass live.entry.run.began result.0.pass }
+    ensures sees { Sees live.entry.run.began result.0.pass result.1 }
+    ensures stored { StoresNothing (carried_by live.entry.run) result.0 }
 {
     let place = live.place();
     let note = Note::Looked {
@@ -100,8 +102,9 @@ fn show(live: Live<'_>, library: PlainLibrary) -> (Kit, Look)
 /// Ends a run that was stopped, or for which memory ran out.
 fn stop(live: Live<'_>) -> (Kit, Look)
     requires reading { live.run.going.mode ≡ Reading }
-    ensures later { IsLaterPass live.entry.run.began result.0 }
-    ensures sees { Sees live.entry.run.began result.0 result.1 }
+    ensures later { IsLaterPass live.entry.run.began result.0.pass }
+    ensures sees { Sees live.entry.run.began result.0.pass result.1 }
+    ensures stored { StoresNothing (carried_by live.entry.run) result.0 }
 {
     let place = live.place();
     let (kit, why) = live.give_up();

@@ -51,8 +51,8 @@ impl Library {
 
     /// Begins a run of a session on its words, to read only or to write too, that may stage words or not.
     pub(crate) fn begin(&self, alloc: Global, kit: Kit, mode: Mode, may_stage: bool) -> Live<'_>
-        requires own { kit.home ≡ self.now.words }
-        requires on { IsPassOn self.now.given kit }
+        requires own { kit.pass.home ≡ self.now.words }
+        requires on { IsPassOn self.now.given kit.pass }
         ensures { Lends self.now.given kit mode may_stage result.run }
     {
         Live::begin(alloc, &self.words, &self.given, kit, mode, may_stage)

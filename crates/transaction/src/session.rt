@@ -13,7 +13,7 @@ use std::snapshot::Snapshot;
 use tlwords::learn;
 
 /// A session of a library: one transaction after another, on one thread at a time. Contracts see what it knows: what it has seen of the
-/// history, its calls, the numbers that it drew, and their records.
+/// history, its calls, the numbers that it drew, their records, and what is staged since its last Committed.
 #[derive(Drop)]
 pub struct Session {
     // none only while a run has it
@@ -24,14 +24,18 @@ pub struct Session {
 
 impl Model for Session {
     ghost use Rattle.std.specs.Prelude.{◌≡◌, true, is_some};
+    ghost use Rattle.std.specs.Coded.{codes};
+    ghost use Rattle.lending.specs.Lent.{staged_code};
     ghost use Rattle.transaction.specs.Members.{Member, IsMember};
-    ghost use Rattle.transaction.specs.Kits.{known_in};
+    ghost use Rattle.transaction.specs.Kits.{known_in, staged_in};
 
     ghost Value = { Member };
 
-    ghost view = { λ s. record { given = s.given.value; known = known_in s.kit; records = s.records.items } };
+    ghost coded = { Prim.hlevel (codes, staged_code) };
 
-    ghost invariant = { λ s. (is_some s.kit ≡ true) × IsMember (record { given = s.given.value; known = known_in s.kit; records = s.records.items }) };
+    ghost view = { λ s. record { given = s.given.value; known = known_in s.kit; records = s.records.items; staged = staged_in s.kit } };
+
+    ghost invariant = { λ s. (is_some s.kit ≡ true) × IsMember (record { given = s.given.value; known = known_in s.kit; records = s.records.items; staged = staged_in s.kit }) };
 }
 
 impl Session {

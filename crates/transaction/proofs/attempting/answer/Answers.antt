@@ -1,8 +1,10 @@
 use Rattle.std.proofs.Common.{◌≡◌, ℕ, None, sym, ap, subst, ◌∙◌}
+use Rattle.tlwords.specs.declared.outcome.Outcome.{Outcome as Answer}
 use Rattle.tlwords.specs.declared.outcome.Outcome.TheVariants.{Read as EndsRead}
+use Rattle.lending.specs.Ends.{staged_after}
 use Rattle.transaction.specs.declared.outcome.Outcome.{Outcome}
 use Rattle.transaction.specs.declared.outcome.Outcome.TheVariants as outcome
-use Rattle.transaction.specs.Tries.{Tries}
+use Rattle.transaction.specs.Tries.{Tries, EndsStored, carried_by}
 use Rattle.transaction.proofs.Committing.{met_is, reads, answered, met_only}
 use Rattle.transaction.proofs.attempting.answer.Goals as goal
 use Rattle.transaction.proofs.attempting.answer.Goals.{in-Read+in-Done-1, in-Read+in-Refused-1, in-Read+in-Looked-1, in-Conflict}
@@ -10,15 +12,15 @@ use Rattle.transaction.proofs.attempting.answer.Goals.{in-Read+in-Done-1, in-Rea
 pub end-kit-requires : goal.end-kit-requires
 end-kit-requires c = λ none. c.requires.lawful _ _ c.of.ensures c.of-2.ensures
 
-pub returns : goal.returns
-returns c =
+pub returns-clause-tries : goal.returns-clause-tries
+returns-clause-tries c =
     let l = c.args.live.run in
     let lending = c.place-place.ensures.stands in
     let stage = lending.0 in
     let over = lending.1 in
     let lent = lending.2 in
     let cs = c.args.commands.now in
-    let k = c.end-kit.result.0 in
+    let k = c.end-kit.result.0.pass in
     let o = c.end-kit.result.1 in
     let ends = c.end-kit.ensures in
     let outcomes = λ (x : Outcome). Tries cs l.began k x None in
@@ -36,4 +38,18 @@ returns c =
           subst outcomes (sym (w.outcome-is ∙ ap outcome.Conflict met))
           (met_only l stage over lent cs _ k o ends.over ends.ended w.in-Conflict.conflict _ (λ none. c.requires.reading)
           w.in-Conflict.is never)
+    ]
+
+pub returns-clause-stored : goal.returns-clause-stored
+returns-clause-stored c =
+    let l = c.args.live.run in
+    let e = c.end-kit.ensures in
+    let left = λ (o : Answer) (is : c.end-kit.result.1 ≡ o).
+    e.staged ∙ ap (λ (x : Answer). staged_after x l.staged) is in
+    let outcomes = EndsStored (carried_by l) c.end-kit.result.0 in
+    elim c.match-ended.branch [
+      | in-Read+in-Done-1 w ↦ subst outcomes (sym w.outcome-is) (e.taken, left _ w.in-Read.is)
+      | in-Read+in-Refused-1 w ↦ subst outcomes (sym w.outcome-is) (e.taken, left _ w.in-Read.is)
+      | in-Read+in-Looked-1 w ↦ subst outcomes (sym w.outcome-is) (e.taken, left _ w.in-Read.is)
+      | in-Conflict w ↦ subst outcomes (sym w.outcome-is) (e.taken, left _ w.in-Conflict.is)
     ]

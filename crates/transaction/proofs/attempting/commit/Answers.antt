@@ -1,12 +1,14 @@
-use Rattle.std.proofs.Common.{◌≡◌, ℕ, Option, Some, sym, subst, ◌∙◌}
+use Rattle.std.proofs.Common.{◌≡◌, ℕ, Option, Some, sym, ap, subst, ◌∙◌}
 use Rattle.std.proofs.Common.{List, rules}
 use Rattle.library.specs.declared.command.Command.{Command}
 use Rattle.library.specs.declared.command.Reply.{Reply}
+use Rattle.tlwords.specs.declared.outcome.Outcome.{Outcome as Answer}
 use Rattle.tlwords.specs.declared.outcome.Outcome.TheVariants.{Committed as EndsDone}
+use Rattle.lending.specs.Ends.{staged_after}
 use Rattle.transaction.specs.declared.outcome.Outcome.{Outcome}
 use Rattle.transaction.specs.declared.outcome.Outcome.TheVariants as outcome
 use Rattle.transaction.specs.declared.outcome.Record.{Record}
-use Rattle.transaction.specs.Tries.{Tries}
+use Rattle.transaction.specs.Tries.{Tries, EndsStored, carried_by}
 use Rattle.transaction.proofs.Committing.{met_is, commits, committed, conflicts, used, void_mapped, void_records}
 use Rattle.transaction.proofs.attempting.commit.Goals as goal
 use Rattle.transaction.proofs.attempting.commit.Goals.{in-Committed+in-Done-1, in-Committed+in-Refused-1, in-Committed+in-Looked-1, in-Conflict, in-NumbersUsed}
@@ -14,15 +16,15 @@ use Rattle.transaction.proofs.attempting.commit.Goals.{in-Committed+in-Done-1, i
 pub end-kit-requires : goal.end-kit-requires
 end-kit-requires c = λ none. c.requires.lawful _ _ c.of.ensures c.of-2.ensures
 
-pub returns : goal.returns
-returns c =
+pub returns-clause-tries : goal.returns-clause-tries
+returns-clause-tries c =
     let l = c.args.live.run in
     let lending = c.place-place.ensures.stands in
     let stage = lending.0 in
     let over = lending.1 in
     let lent = lending.2 in
     let cs = c.args.commands.now in
-    let k = c.end-kit.result.0 in
+    let k = c.end-kit.result.0.pass in
     let o = c.end-kit.result.1 in
     let ends = c.end-kit.ensures in
     let outcomes = λ (x : Outcome × Option Record). Tries cs l.began k x.0 x.1 in
@@ -42,4 +44,19 @@ returns c =
           (conflicts l stage over lent cs _ k o ends.over ends.ended w.in-Conflict.conflict w.in-Conflict.drawn c.requires.edit
           w.in-Conflict.is)
       | in-NumbersUsed w ↦ subst outcomes (sym w.outcome-is) (used l stage over lent cs _ k o ends.over ends.ended w.in-NumbersUsed.is)
+    ]
+
+pub returns-clause-stored : goal.returns-clause-stored
+returns-clause-stored c =
+    let l = c.args.live.run in
+    let e = c.end-kit.ensures in
+    let left = λ (o : Answer) (is : c.end-kit.result.1 ≡ o).
+    e.staged ∙ ap (λ (x : Answer). staged_after x l.staged) is in
+    let outcomes = λ (x : Outcome × Option Record). EndsStored (carried_by l) c.end-kit.result.0 x.0 in
+    elim c.match-ended.branch [
+      | in-Committed+in-Done-1 w ↦ subst outcomes (sym w.outcome-is) (e.taken, left _ w.in-Committed.is)
+      | in-Committed+in-Refused-1 w ↦ subst outcomes (sym w.outcome-is) (e.taken, left _ w.in-Committed.is)
+      | in-Committed+in-Looked-1 w ↦ subst outcomes (sym w.outcome-is) (e.taken, left _ w.in-Committed.is)
+      | in-Conflict w ↦ subst outcomes (sym w.outcome-is) (e.taken, left _ w.in-Conflict.is)
+      | in-NumbersUsed w ↦ subst outcomes (sym w.outcome-is) (e.taken, left _ w.in-NumbersUsed.is)
     ]

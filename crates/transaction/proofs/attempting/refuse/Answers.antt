@@ -1,10 +1,12 @@
 use Rattle.std.proofs.Common.{◌≡◌, ℕ, false, None, sym, ap, subst, ◌∙◌}
 use Rattle.library.specs.Transactions.{has_edit}
 use Rattle.lawful.specs.declared.notes.Note.TheVariants.{Refused}
+use Rattle.tlwords.specs.declared.outcome.Outcome.{Outcome as Answer}
 use Rattle.lending.specs.Lent.{Pass, Lending}
+use Rattle.lending.specs.Ends.{staged_after}
 use Rattle.transaction.specs.declared.outcome.Outcome.{Outcome}
 use Rattle.transaction.specs.declared.outcome.Outcome.TheVariants as outcome
-use Rattle.transaction.specs.Tries.{Tries}
+use Rattle.transaction.specs.Tries.{Tries, EndsStored, carried_by}
 use Rattle.transaction.proofs.Committing.{met_is, met_of, refuses, answered, met_only, never_rejects, forgotten_lawful}
 use Rattle.transaction.proofs.attempting.refuse.Goals as goal
 use Rattle.transaction.proofs.attempting.refuse.Goals.{in-Read, in-Conflict}
@@ -14,15 +16,15 @@ end-kit-requires c =
     λ none. forgotten_lawful c.args.live.run c.forget.new.self.run c.forget.ensures (Refused c.of.result c.of-2.result)
     (c.requires.lawful _ _ c.of.ensures c.of-2.ensures)
 
-pub returns : goal.returns
-returns c =
+pub returns-clause-tries : goal.returns-clause-tries
+returns-clause-tries c =
     let l = c.forget.new.self.run in
     let lending = c.place-place.ensures.stands in
     let stage = lending.0 in
     let over = lending.1 in
     let lent = lending.2 in
     let cs = c.args.commands.now in
-    let k = c.end-kit.result.0 in
+    let k = c.end-kit.result.0.pass in
     let o = c.end-kit.result.1 in
     let ends = c.end-kit.ensures in
     let began = ap (λ (x : Lending). x.began) c.forget.ensures.is in
@@ -41,4 +43,18 @@ returns c =
           (subst (λ (z : Pass). Tries cs z k (outcome.Conflict (met_of l stage over lent cs w.in-Conflict.conflict)) None) began
           (met_only l stage over lent cs _ k o ends.over ends.ended w.in-Conflict.conflict _ reading w.in-Conflict.is
           (never_rejects l stage over lent cs _ k o ends.over ends.ended c.forget.ensures.none w.in-Conflict.conflict _ w.in-Conflict.is)))
+    ]
+
+pub returns-clause-stored : goal.returns-clause-stored
+returns-clause-stored c =
+    let old = carried_by c.args.live.run in
+    let l = c.forget.new.self.run in
+    let e = c.end-kit.ensures in
+    let taken = e.taken ∙ ap (λ (x : Lending). x.going.known.taken) c.forget.ensures.is in
+    let left = λ (o : Answer) (is : c.end-kit.result.1 ≡ o).
+    e.staged ∙ ap (λ (x : Answer). staged_after x l.staged) is in
+    let same = ap (λ (x : Lending). x.staged) c.forget.ensures.is in
+    elim c.match-ended.branch [
+      | in-Read w ↦ subst (EndsStored old c.end-kit.result.0) (sym w.outcome-is) (taken, left _ w.in-Read.is ∙ same)
+      | in-Conflict w ↦ subst (EndsStored old c.end-kit.result.0) (sym w.outcome-is) (taken, left _ w.in-Conflict.is ∙ same)
     ]

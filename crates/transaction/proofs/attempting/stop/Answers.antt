@@ -2,14 +2,14 @@ use Rattle.std.proofs.Common.{◌≡◌, ℕ, None, sym, ap, subst, ◌∙◌}
 use Rattle.lending.specs.Lent.{Pass}
 use Rattle.transaction.specs.declared.outcome.Outcome.{Outcome}
 use Rattle.transaction.specs.declared.outcome.Outcome.TheVariants as outcome
-use Rattle.transaction.specs.Tries.{Tries}
+use Rattle.transaction.specs.Tries.{Tries, StoresNothing, EndsStored, carried_by}
 use Rattle.transaction.proofs.Ended.{met_at}
 use Rattle.transaction.proofs.Committing.{told_of, gives_up}
 use Rattle.transaction.proofs.attempting.stop.Goals as goal
 use Rattle.transaction.proofs.attempting.stop.Goals.{in-Conflict, in-StoreFull, in-NoMemory}
 
-pub returns : goal.returns
-returns c =
+pub returns-clause-tries : goal.returns-clause-tries
+returns-clause-tries c =
     let l = c.args.live.run in
     let lending = c.place-place.ensures.stands in
     let cs = c.args.commands.now in
@@ -26,3 +26,14 @@ returns c =
     subst (λ (k : Pass). Tries cs l.began k c.match-why.outcome None) (sym ended.kit)
     (subst (λ (o : Outcome). Tries cs l.began l.going.known o None) (sym is)
     (gives_up l lending.0 lending.1 lending.2 cs why ended.why c.requires.reading c.requires.stages))
+
+pub returns-clause-stored : goal.returns-clause-stored
+returns-clause-stored c =
+    let kept : StoresNothing (carried_by c.args.live.run) c.give_up-kit.result.0 =
+    (ap (λ (k : Pass). k.taken) c.give_up-kit.ensures.kit, c.give_up-kit.ensures.staged) in
+    let outcomes = EndsStored (carried_by c.args.live.run) c.give_up-kit.result.0 in
+    elim c.match-why.branch [
+      | in-Conflict w ↦ subst outcomes (sym w.outcome-is) kept
+      | in-StoreFull w ↦ subst outcomes (sym w.outcome-is) kept
+      | in-NoMemory w ↦ subst outcomes (sym w.outcome-is) kept
+    ]

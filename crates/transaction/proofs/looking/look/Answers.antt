@@ -1,5 +1,8 @@
-use Rattle.std.proofs.Common.{ap, sym, ◌∙◌}
+use Rattle.std.proofs.Common.{◌≡◌, ap, sym, ◌∙◌}
+use Rattle.cells.specs.Sight.{Looks as LooksOn}
 use Rattle.lawful.specs.Lawful.{setting_of}
+use Rattle.lending.specs.Lent.{Carried, Lending, sight_of}
+use Rattle.transaction.specs.Tries.{StoresNothing, carried_by}
 use Rattle.transaction.proofs.Looked.{may_be_looked}
 use Rattle.transaction.proofs.looking.look.Goals as goal
 
@@ -7,3 +10,20 @@ pub show-requires-clause-lawful : goal.show-requires-clause-lawful
 show-requires-clause-lawful c =
     may_be_looked c.begin-live.result.run c.read_all.new.live.run c.in-Ok.seen c.read_all.ensures.looks c.begin-live.ensures.blank
     (c.in-Ok.ensures.setting ∙ sym (ap setting_of c.begin-live.ensures.given)) c.in-Ok.ensures.ok
+
+-- a look takes nothing
+stored_since : (kit new : Carried) (old now : Lending) → old.going.known.taken ≡ kit.pass.taken → old.staged ≡ kit.staged
+    → LooksOn (sight_of old) (sight_of now) → StoresNothing (carried_by now) new → StoresNothing kit new
+stored_since kit new old now taken staged looks stored = (stored.0 ∙ looks.taken ∙ taken, stored.1 ∙ looks.staged ∙ staged)
+
+pub returns-in-Ok-clause-stored : goal.returns-in-Ok-clause-stored
+returns-in-Ok-clause-stored c =
+    let lends = c.begin-live.ensures in
+    stored_since c.args.kit c.show.result.0 c.begin-live.result.run c.read_all.new.live.run lends.taken lends.staged
+    c.read_all.ensures.looks c.show.ensures.stored
+
+pub returns-in-Err-clause-stored : goal.returns-in-Err-clause-stored
+returns-in-Err-clause-stored c =
+    let lends = c.begin-live.ensures in
+    stored_since c.args.kit c.stop.result.0 c.begin-live.result.run c.read_all.new.live.run lends.taken lends.staged
+    c.read_all.ensures.looks c.stop.ensures.stored

@@ -1,8 +1,9 @@
 use Rattle.std.proofs.Common.{◌≡◌, ℕ, sym, ap, subst, ◌∙◌}
 use Rattle.ranges.specs.Pairs.{Pairs}
+use Rattle.tlwords.specs.declared.outcome.Outcome.{Outcome as Answer}
 use Rattle.tlwords.specs.declared.outcome.Outcome.TheVariants as ends
 use Rattle.lawful.specs.declared.notes.Note.TheVariants.{Looked}
-use Rattle.lending.specs.Ends.{IsLawfulWith}
+use Rattle.lending.specs.Ends.{IsLawfulWith, staged_after}
 use Rattle.transaction.specs.declared.outcome.Conflict.{Conflict as Met}
 use Rattle.transaction.specs.declared.outcome.Look.TheVariants as look
 use Rattle.transaction.specs.Looks.{Sees}
@@ -19,13 +20,13 @@ end-kit-requires c none =
 pub returns-clause-later : goal.returns-clause-later
 returns-clause-later c =
     let lending = c.place-place.ensures.stands in
-    look_later c.args.live.run lending.0 lending.1 lending.2 (Looked c.of.result) c.end-kit.result.0 c.end-kit.result.1
+    look_later c.args.live.run lending.0 lending.1 lending.2 (Looked c.of.result) c.end-kit.result.0.pass c.end-kit.result.1
     c.end-kit.ensures.over (λ none. c.end-kit.ensures.reading none c.requires.reading) c.end-kit.ensures.ended
 
 pub returns-clause-sees : goal.returns-clause-sees
 returns-clause-sees c =
     let run = c.args.live.run in
-    let new = c.end-kit.result.0 in
+    let new = c.end-kit.result.0.pass in
     let lending = c.place-place.ensures.stands in
     let is_read = λ (place : ℕ) (is : c.end-kit.result.1 ≡ ends.Read place).
     sees_read run lending.0 lending.1 lending.2 (Looked c.of.result) new c.end-kit.result.1
@@ -42,4 +43,17 @@ returns-clause-sees c =
           (sees_conflict run lending.0 lending.1 lending.2 (Looked c.of.result) new c.end-kit.result.1
           c.end-kit.ensures.over (λ none. c.end-kit.ensures.reading none c.requires.reading) c.end-kit.ensures.ended
           found _ c.requires.reading w.in-Conflict.is)
+    ]
+
+pub returns-clause-stored : goal.returns-clause-stored
+returns-clause-stored c =
+    let l = c.args.live.run in
+    let e = c.end-kit.ensures in
+    let left = λ (o : Answer) (is : c.end-kit.result.1 ≡ o).
+    e.staged ∙ ap (λ (x : Answer). staged_after x l.staged) is in
+    elim c.match-ended.branch [
+      | in-Read+in-Done-1 w ↦ (e.taken, left _ w.in-Read.is)
+      | in-Read+in-Refused-1 w ↦ (e.taken, left _ w.in-Read.is)
+      | in-Read+in-Looked-1 w ↦ (e.taken, left _ w.in-Read.is)
+      | in-Conflict w ↦ (e.taken, left _ w.in-Conflict.is)
     ]

@@ -31,3 +31,6 @@ returns-clause-sees c =
     subst (λ (k : Pass). Sees l.began k c.match-why.seen) (sym ended.kit)
     (subst (λ (s : Look). Sees l.began l.going.known s) (sym is)
     (sees_stopped l lending.0 lending.1 lending.2 why ended.why c.requires.reading))
+
+pub returns-clause-stored : goal.returns-clause-stored
+returns-clause-stored c = (ap (λ (k : Pass). k.taken) c.give_up-kit.ensures.kit, c.give_up-kit.ensures.staged)

@@ -1,11 +1,16 @@
 use Rattle.std.proofs.Common.{◌≡◌, Option, Some, refl, sym, ap, subst, ◌∙◌}
 use Rattle.bodystore.proofs.Staging.{staged_go_on}
-use Rattle.lending.specs.Lent.{Pass}
+use Rattle.bodystore.specs.Stages.{Staged}
+use Rattle.lending.specs.Lent.{Pass, Carried}
 use Rattle.transaction.specs.Members.{Member, IsMember}
 use Rattle.transaction.specs.Looks.{Learns}
 use Rattle.transaction.proofs.Staying.{session_with}
 use Rattle.transaction.proofs.Learning.{own_stays, other_stays, session_learns}
 use Rattle.transaction.proofs.session.Session.learn.Goals as goal
+
+-- what a run would take along
+abbrev carried : Pass → Staged → Carried
+carried pass stage = record { pass = pass; staged = stage }
 
 pub invariant_of-kit : goal.invariant_of-kit
 invariant_of-kit c =
@@ -18,44 +23,44 @@ invariant_of-others c =
 
 pub invariant_of-self : goal.invariant_of-self
 invariant_of-self c =
-    let own : Option Pass → Member = session_with c.self.inside.given.value c.self.inside.records.items in
-    let others : Option Pass → Member = session_with c.other.inside.given.value c.other.inside.records.items in
-    let kit : c.self.inside.kit ≡ Some c.kit.inside.pass =
-    sym c.take.ensures.value ∙ c.in-Some.is ∙ ap (λ (k : Pass). Some k) (sym c.kit.view_is) in
-    let other : c.other.inside.kit ≡ Some c.others.inside.pass =
-    sym c.take-2.ensures.value ∙ c.in-Some-take.is ∙ ap (λ (k : Pass). Some k) (sym c.others.view_is) in (
+    let own : Option Carried → Member = session_with c.self.inside.given.value c.self.inside.records.items in
+    let others : Option Carried → Member = session_with c.other.inside.given.value c.other.inside.records.items in
+    let kit : c.self.inside.kit ≡ Some (carried c.kit.inside.pass c.kit.inside.stage) =
+    sym c.take.ensures.value ∙ c.in-Some.is ∙ ap (λ (k : Carried). Some k) (sym c.kit.view_is) in
+    let other : c.other.inside.kit ≡ Some (carried c.others.inside.pass c.others.inside.stage) =
+    sym c.take-2.ensures.value ∙ c.in-Some-take.is ∙ ap (λ (k : Carried). Some k) (sym c.others.view_is) in (
       refl,
-      own_stays (own (Some c.kit.inside.pass)) (others (Some c.others.inside.pass)) c.learn.new.pass c.learn.new.other
-          (subst (λ (o : Option Pass). IsMember (own o)) kit c.self.invariant.1)
-          (subst (λ (o : Option Pass). IsMember (others o)) other c.other.invariant.1) c.learn.ensures,
+      own_stays (own (Some (carried c.kit.inside.pass c.kit.inside.stage))) (others (Some (carried c.others.inside.pass c.others.inside.stage))) c.learn.new.pass c.learn.new.other
+          (subst (λ (o : Option Carried). IsMember (own o)) kit c.self.invariant.1)
+          (subst (λ (o : Option Carried). IsMember (others o)) other c.other.invariant.1) c.learn.ensures,
     )
 
 pub invariant_of-other : goal.invariant_of-other
 invariant_of-other c =
-    let own : Option Pass → Member = session_with c.self.inside.given.value c.self.inside.records.items in
-    let others : Option Pass → Member = session_with c.other.inside.given.value c.other.inside.records.items in
-    let kit : c.self.inside.kit ≡ Some c.kit.inside.pass =
-    sym c.take.ensures.value ∙ c.in-Some.is ∙ ap (λ (k : Pass). Some k) (sym c.kit.view_is) in
-    let other : c.other.inside.kit ≡ Some c.others.inside.pass =
-    sym c.take-2.ensures.value ∙ c.in-Some-take.is ∙ ap (λ (k : Pass). Some k) (sym c.others.view_is) in (
+    let own : Option Carried → Member = session_with c.self.inside.given.value c.self.inside.records.items in
+    let others : Option Carried → Member = session_with c.other.inside.given.value c.other.inside.records.items in
+    let kit : c.self.inside.kit ≡ Some (carried c.kit.inside.pass c.kit.inside.stage) =
+    sym c.take.ensures.value ∙ c.in-Some.is ∙ ap (λ (k : Carried). Some k) (sym c.kit.view_is) in
+    let other : c.other.inside.kit ≡ Some (carried c.others.inside.pass c.others.inside.stage) =
+    sym c.take-2.ensures.value ∙ c.in-Some-take.is ∙ ap (λ (k : Carried). Some k) (sym c.others.view_is) in (
       refl,
-      other_stays (own (Some c.kit.inside.pass)) (others (Some c.others.inside.pass)) c.learn.new.pass c.learn.new.other
-          (subst (λ (o : Option Pass). IsMember (own o)) kit c.self.invariant.1)
-          (subst (λ (o : Option Pass). IsMember (others o)) other c.other.invariant.1) c.learn.ensures,
+      other_stays (own (Some (carried c.kit.inside.pass c.kit.inside.stage))) (others (Some (carried c.others.inside.pass c.others.inside.stage))) c.learn.new.pass c.learn.new.other
+          (subst (λ (o : Option Carried). IsMember (own o)) kit c.self.invariant.1)
+          (subst (λ (o : Option Carried). IsMember (others o)) other c.other.invariant.1) c.learn.ensures,
     )
 
 pub returns : goal.returns
 returns c =
-    let own : Option Pass → Member = session_with c.self.inside.given.value c.self.inside.records.items in
-    let others : Option Pass → Member = session_with c.other.inside.given.value c.other.inside.records.items in
-    let kit : c.self.inside.kit ≡ Some c.kit.inside.pass =
-    sym c.take.ensures.value ∙ c.in-Some.is ∙ ap (λ (k : Pass). Some k) (sym c.kit.view_is) in
-    let other : c.other.inside.kit ≡ Some c.others.inside.pass =
-    sym c.take-2.ensures.value ∙ c.in-Some-take.is ∙ ap (λ (k : Pass). Some k) (sym c.others.view_is) in
-    let own_new = own (Some c.learn.new.pass) in
-    let others_new = others (Some c.learn.new.other) in
+    let own : Option Carried → Member = session_with c.self.inside.given.value c.self.inside.records.items in
+    let others : Option Carried → Member = session_with c.other.inside.given.value c.other.inside.records.items in
+    let kit : c.self.inside.kit ≡ Some (carried c.kit.inside.pass c.kit.inside.stage) =
+    sym c.take.ensures.value ∙ c.in-Some.is ∙ ap (λ (k : Carried). Some k) (sym c.kit.view_is) in
+    let other : c.other.inside.kit ≡ Some (carried c.others.inside.pass c.others.inside.stage) =
+    sym c.take-2.ensures.value ∙ c.in-Some-take.is ∙ ap (λ (k : Carried). Some k) (sym c.others.view_is) in
+    let own_new = own (Some (carried c.learn.new.pass c.kit.inside.stage)) in
+    let others_new = others (Some (carried c.learn.new.other c.others.inside.stage)) in
     subst (λ (m : Member). Learns m c.args.other.now own_new others_new) (ap own (sym kit) ∙ c.self.view_is)
-    (subst (λ (o : Member). Learns (own (Some c.kit.inside.pass)) o own_new others_new) (ap others (sym other) ∙ c.other.view_is)
-    (session_learns (own (Some c.kit.inside.pass)) (others (Some c.others.inside.pass)) c.learn.new.pass c.learn.new.other
-    (subst (λ (o : Option Pass). IsMember (own o)) kit c.self.invariant.1)
-    (subst (λ (o : Option Pass). IsMember (others o)) other c.other.invariant.1) c.learn.ensures))
+    (subst (λ (o : Member). Learns (own (Some (carried c.kit.inside.pass c.kit.inside.stage))) o own_new others_new) (ap others (sym other) ∙ c.other.view_is)
+    (session_learns (own (Some (carried c.kit.inside.pass c.kit.inside.stage))) (others (Some (carried c.others.inside.pass c.others.inside.stage))) c.learn.new.pass c.learn.new.other
+    (subst (λ (o : Option Carried). IsMember (own o)) kit c.self.invariant.1)
+    (subst (λ (o : Option Carried). IsMember (others o)) other c.other.invariant.1) c.learn.ensures))
