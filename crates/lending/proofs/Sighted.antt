@@ -160,9 +160,9 @@ again_sight l stage over i words range own found =
       finished = is.0;
       len = is.1;
       again = λ start e. record {
-          start_is = (let same : Some range.start ≡ Some start = sym at ∙ sym (ap (λ (m : Staged). get m words) own) ∙ e in cc);
-          taken = refl;
-          staged = refl;
+        start_is = (let same : Some range.start ≡ Some start = sym at ∙ sym (ap (λ (m : Staged). get m words) own) ∙ e in cc);
+        taken = refl;
+        staged = refl;
       };
       anew = λ none. absurd (let clash : Some range.start ≡ None = sym at ∙ sym (ap (λ (m : Staged). get m words) own) ∙ none in cc);
     }
