@@ -24,7 +24,8 @@ use std::alloc::Global;
 ///
 /// The replies are those of the transaction's definition over the library, and the cells then show the library as it is after it: for every
 /// state of the cells that agrees with what was read, shows a library that verifies, and has the ranges that were seen. So whatever else
-/// becomes of cells that were not read, nothing changes in the answer. Values are kept aside for no cells but those of what the commands change.
+/// becomes of cells that were not read, nothing changes in the answer. Values are kept aside for no cells but those of what the commands
+/// change.
 ///
 /// # Errors
 ///
@@ -54,8 +55,8 @@ pub fn run<C: Cells>(
     Ok(Sequence::from_vec(replies))
 }
 
-/// Does one command, over what is kept aside. It is within the limits of the prelude, which is the library's, and the run may do it. It keeps
-/// values aside for no cells but those of what it changes: so commands that change nothing of one another's don't meet.
+/// Does one command, over what is kept aside. It is within the limits of the prelude, which is the library's, and the run may do it. It
+/// keeps values aside for no cells but those of what it changes.
 ///
 /// # Errors
 ///

@@ -12,8 +12,8 @@ use tlwords::ClosedCell;
 /// The names of the five cells of a slot, in their order.
 const PARTS: [&str; 5] = ["name", "statement", "proof", "rank", "citers"];
 
-/// Ends a library with the sessions at these places alone. A line of the cells whose lock words aren't those of the opening, which are 0: each
-/// by its kind and its slot or bucket, from 0, in the order of the cells; or `none`.
+/// Ends a library with the sessions at these places alone. A line of the cells whose lock words aren't those of the opening, which are 0:
+/// each by its kind and its slot or bucket, from 0, in the order of the cells; or `none`.
 ///
 /// # Errors
 ///
