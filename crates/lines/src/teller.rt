@@ -50,7 +50,9 @@ where
     };
     let mut texts = Vec::new(rt.alloc());
     for script in scripts {
-        texts.push(fs::read(rt, script.as_str())?).map_err(AllocError::from)?;
+        texts
+            .push(fs::read(rt, script.as_str())?)
+            .map_err(AllocError::from)?;
     }
     let job = Job::Run {
         db: fs::read(rt, db.as_str())?,
