@@ -1,0 +1,3 @@
+$c wff $.
+a $a wff $.
+t $p wff $= a $.

@@ -1,0 +1,3 @@
+$c wff $.
+a $a wff $.
+b $p wff $= a a $.
