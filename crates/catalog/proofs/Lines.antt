@@ -20,7 +20,7 @@ use Rattle.library.specs.declared.command.Line.{Line}
 use Rattle.library.specs.declared.library.Ranked.{Ranked}
 use Rattle.library.specs.Library.{label_of, entry_cmp, in_export_order}
 use Rattle.library.specs.Edits.{line}
-use Rattle.library.proofs.Listing.{library_shown}
+use Rattle.librarylaws.proofs.Listing.{library_shown}
 use Rattle.library.proofs.Orders.{ties_at}
 use Rattle.library.proofs.Places.{labels_apart}
 use Rattle.catalog.specs.Entries.{Entries, living}

@@ -14,7 +14,7 @@ use Rattle.mmframes.specs.Frames.{frame}
 use Rattle.library.specs.declared.library.Ranked.{Ranked}
 use Rattle.library.specs.Library.{label_of, ranked_from}
 use Rattle.library.specs.Edits.{has}
-use Rattle.library.proofs.Opening.{length-ranked_from}
+use Rattle.librarylaws.proofs.Opening.{length-ranked_from}
 use Rattle.library.proofs.Places.{labels_apart}
 use Rattle.catalog.specs.Entries.{standing, StandsIn, AreFramed}
 use Rattle.catalog.proofs.Living.{none-has}

@@ -12,7 +12,7 @@ use Rattle.library.specs.declared.command.Line.{Line}
 use Rattle.library.specs.declared.library.Ranked.{Ranked}
 use Rattle.library.specs.Library.{label_of, entry_cmp, in_export_order}
 use Rattle.library.specs.Edits.{line}
-use Rattle.library.proofs.Listing.{in-export-order-is}
+use Rattle.librarylaws.proofs.Listing.{in-export-order-is}
 use Rattle.commands.specs.Listing.{line_cmp}
 
 pub line_cmp_total : IsTotalOrder line_cmp

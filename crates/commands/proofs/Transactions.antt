@@ -12,7 +12,7 @@ use Rattle.library.specs.Library.{Setting, Verifies}
 use Rattle.library.specs.Fitting.{CommandFits}
 use Rattle.library.specs.Edits.{Edited, edit, is_edit}
 use Rattle.library.specs.Transactions.{Applied, with_reply, then_apply, apply_from, has_edit}
-use Rattle.library.proofs.Editing.{apply_verifies}
+use Rattle.librarylaws.proofs.Editing.{apply_verifies}
 use Rattle.cells.specs.State.{State}
 use Rattle.cells.specs.Sight.{Sight, Matches, Views, Onward, TakesAtMost}
 use Rattle.cells.proofs.Sights.{looks_refl, looks_trans, matches_back}

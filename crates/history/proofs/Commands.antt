@@ -17,7 +17,7 @@ use Rattle.library.specs.Edits.{Edited, Tests, tested, of_found, where_so, has, 
 use Rattle.library.specs.Edits.{is_axiom, bad_rank, bad_label, label_taken, label_clashes, clashes, cites_unknown, is_of_unknown, added, rename, add_tests}
 use Rattle.library.specs.Edits.{unknown_label, is_alike, are_alike, is_not_below, replace_tests, rename_tests}
 use Rattle.library.proofs.Clashing.{without-absent}
-use Rattle.library.proofs.Editing.{where_none}
+use Rattle.librarylaws.proofs.Editing.{where_none}
 use Rattle.library.proofs.Places.{find_nowhere, is_labelled-own}
 use Rattle.catalog.specs.Entries.{Entries, living, StandsIn}
 use Rattle.catalog.specs.Places.{Places, IsIndex, FoundAt}

@@ -11,7 +11,7 @@ use Rattle.library.specs.Library.{Setting, Verifies}
 use Rattle.library.specs.Fitting.{CommandFits}
 use Rattle.library.specs.Edits.{edit}
 use Rattle.library.specs.Transactions.{Applied, with_reply, then_apply, apply_from, apply}
-use Rattle.library.proofs.Editing.{apply_verifies}
+use Rattle.librarylaws.proofs.Editing.{apply_verifies}
 use Rattle.history.specs.declared.editor.ApplyError.{ApplyError}
 use Rattle.history.specs.declared.editor.ApplyError.TheVariants as error
 use Rattle.history.specs.Drafts.{Drafted, now_in, Takes, TakesAll, KeepsStart, Settles, IsSettled}

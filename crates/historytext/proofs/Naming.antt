@@ -33,10 +33,10 @@ use Rattle.library.specs.Edits.{with_proof, rename, without, still_cited, add_te
 use Rattle.library.specs.Fitting.{CommandFits}
 use Rattle.library.specs.Transactions.{Applied, with_reply, then_apply, apply_from, apply}
 use Rattle.library.specs.Histories.{Entry, open_entry, done_entry, EntryFits, EntriesFit, after, IsLegal}
-use Rattle.library.proofs.Editing.{tests_passed, where_none, lawful_where, edit_verifies}
+use Rattle.librarylaws.proofs.Editing.{tests_passed, where_none, lawful_where, edit_verifies}
 use Rattle.library.proofs.Filtered.{contains_mapped}
 use Rattle.librarylaws.proofs.Fronts.{fronts_verify}
-use Rattle.library.proofs.Listing.{library_shown}
+use Rattle.librarylaws.proofs.Listing.{library_shown}
 use Rattle.library.proofs.Places.{is_labelled-own, has_somewhere, found_in}
 use Rattle.library.proofs.Showing.{InRange, units_of}
 

@@ -5,7 +5,7 @@ use Rattle.mmsyntax.specs.Layout.{HasSpelling}
 use Rattle.mmsyntax.proofs.Declarable.{declarable}
 use Rattle.derivation.specs.Databases.{AllCheck}
 use Rattle.library.specs.Library.{Verifies, opening}
-use Rattle.library.proofs.Opening.{opening_verifies}
+use Rattle.librarylaws.proofs.Opening.{opening_verifies}
 use Rattle.library.specs.declared.history.Entry.{Entry}
 use Rattle.library.specs.Histories.{told, after, EntriesFit}
 use Rattle.librarylaws.proofs.Fronts.{fronts_verify}

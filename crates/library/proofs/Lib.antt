@@ -10,16 +10,8 @@ pub mod Showing
 pub mod CitingApart
 pub mod Carrying
 pub mod Citations
-pub mod Opening
 pub mod Renaming
-pub mod Adding
 pub mod Changing
-pub mod Moving
-pub mod Reproving
 pub mod LikeFrames
-pub mod Replacing
-pub mod Deleting
-pub mod Editing
 pub mod Orders
 pub mod ExportOrder
-pub mod Listing

@@ -17,7 +17,7 @@ use Rattle.library.specs.Edits.{is_labelled, edit}
 use Rattle.library.specs.Fitting.{CommandFits, ReplyFits}
 use Rattle.library.specs.Transactions.{Applied, with_reply, then_apply, apply_from}
 use Rattle.library.specs.Laws.{RepliesFit}
-use Rattle.library.proofs.Editing.{edit_verifies}
+use Rattle.librarylaws.proofs.Editing.{edit_verifies}
 
 -- what is found in a list is one of its items
 found_holds : {A : Type 0} (P : A → Type 0) (p : A → Bool) (xs : List A) (x : A) → AllByRecursion P xs → find p xs ≡ Some x → P x

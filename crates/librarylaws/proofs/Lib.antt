@@ -1,3 +1,11 @@
+pub mod Opening
+pub mod Adding
+pub mod Moving
+pub mod Reproving
+pub mod Replacing
+pub mod Deleting
+pub mod Editing
+pub mod Listing
 pub mod Fronts
 pub mod Legal
 pub mod Leaving

@@ -8,8 +8,8 @@ use Rattle.library.specs.declared.reason.Refused.{Refused as Refusal}
 use Rattle.library.specs.Library.{Setting, Verifies}
 use Rattle.library.specs.Fitting.{CommandFits}
 use Rattle.library.specs.Transactions.{apply}
-use Rattle.library.proofs.Editing.{apply_verifies}
-use Rattle.library.proofs.Opening.{opening_verifies}
+use Rattle.librarylaws.proofs.Editing.{apply_verifies}
+use Rattle.librarylaws.proofs.Opening.{opening_verifies}
 use Rattle.library.specs.Library.{opening}
 use Rattle.derivation.specs.Databases.{AllCheck}
 use Rattle.mmsyntax.specs.Layout.{HasSpelling}

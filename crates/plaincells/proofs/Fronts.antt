@@ -29,7 +29,7 @@ use Rattle.library.specs.Library.{Verifies, setting_over, ranked_from, opening}
 use Rattle.library.specs.Edits.{has, added, is_of_unknown}
 use Rattle.library.proofs.Derivations.{NamesOne, steps_named}
 use Rattle.library.proofs.Frames.{frame_found}
-use Rattle.library.proofs.Opening.{length-ranked_from, opening_verifies}
+use Rattle.librarylaws.proofs.Opening.{length-ranked_from, opening_verifies}
 use Rattle.ranges.specs.Ranges.{Has}
 use Rattle.cells.specs.Shows.{slots_of}
 use Rattle.plaincells.specs.Opening.{front, held_from}

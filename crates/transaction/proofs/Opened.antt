@@ -10,7 +10,7 @@ use Rattle.mmsyntax.specs.Tables.{Contents}
 use Rattle.mmsyntax.specs.Layout.{HasSpelling}
 use Rattle.derivation.specs.Databases.{AllCheck}
 use Rattle.library.specs.Library.{Verifies, opening, setting_over}
-use Rattle.library.proofs.Opening.{opening_verifies}
+use Rattle.librarylaws.proofs.Opening.{opening_verifies}
 use Rattle.ranges.specs.Ranges.{Range, ranges_named}
 use Rattle.bodystore.specs.Stages.{Staged, AreStaged}
 use Rattle.cells.specs.Slots.{is_ranged}

@@ -6,7 +6,7 @@ use Rattle.library.specs.declared.library.Ranked.{Ranked}
 use Rattle.library.specs.Library.{ranked_from}
 use Rattle.catalog.specs.Entries.{standing}
 use Rattle.catalog.proofs.Changing.{living-standing}
-use Rattle.library.proofs.Opening.{length-ranked_from}
+use Rattle.librarylaws.proofs.Opening.{length-ranked_from}
 use Rattle.catalog.proofs.Openings.{ranked_from-at, ranked_from-next, front_free}
 use Rattle.catalog.proofs.places.open_entries.Goals as goal
 

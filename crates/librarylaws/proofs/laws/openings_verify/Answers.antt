@@ -1,4 +1,4 @@
-use Rattle.library.proofs.Opening.{opening_verifies}
+use Rattle.librarylaws.proofs.Opening.{opening_verifies}
 use Rattle.librarylaws.proofs.laws.openings_verify.Goals as goal
 
 pub returns : goal.returns

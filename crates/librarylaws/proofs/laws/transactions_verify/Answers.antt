@@ -1,4 +1,4 @@
-use Rattle.library.proofs.Editing.{edit_verifies, transaction_verifies}
+use Rattle.librarylaws.proofs.Editing.{edit_verifies, transaction_verifies}
 use Rattle.librarylaws.proofs.laws.transactions_verify.Goals as goal
 
 pub returns : goal.returns

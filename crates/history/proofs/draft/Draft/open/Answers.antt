@@ -5,7 +5,7 @@ use Rattle.catalog.specs.Entries.{living, standing, AreFramed}
 use Rattle.catalog.specs.Citers.{Covers}
 use Rattle.catalog.specs.Changes.{undone}
 use Rattle.catalog.proofs.Changing.{living-standing}
-use Rattle.library.proofs.Opening.{length-ranked_from}
+use Rattle.librarylaws.proofs.Opening.{length-ranked_from}
 use Rattle.catalog.proofs.Openings.{framed-opening}
 use Rattle.history.proofs.Listed.{citers_settled}
 use Rattle.history.proofs.Drafting.{draft_settled, counted_settled}

@@ -8,7 +8,7 @@ use Rattle.library.specs.Edits.{Edited}
 use Rattle.library.specs.Fitting.{CommandFits}
 use Rattle.library.specs.Library.{Setting, Verifies}
 use Rattle.library.specs.Transactions.{apply_from}
-use Rattle.library.proofs.Editing.{edit_verifies}
+use Rattle.librarylaws.proofs.Editing.{edit_verifies}
 use Rattle.history.specs.Drafts.{now_in}
 use Rattle.history.proofs.Taking.{with_replies, taken_all, taken_one, error_ends, kept_on}
 use Rattle.history.proofs.draft.Draft.take_all.Goals as goal

@@ -3,7 +3,7 @@ use Rattle.std.specs.Str.{bytes_eq}
 use Rattle.mmsyntax.specs.Assertions.{Distinct}
 use Rattle.catalog.specs.Entries.{living}
 use Rattle.library.specs.Library.{Setting, Verifies, label_of, ranked_from, opening}
-use Rattle.library.proofs.Opening.{opening_verifies}
+use Rattle.librarylaws.proofs.Opening.{opening_verifies}
 use Rattle.history.specs.Drafts.{now_in}
 use Rattle.catalog.proofs.Changing.{living-standing}
 use Rattle.history.proofs.editor.Editor.open.Goals as goal

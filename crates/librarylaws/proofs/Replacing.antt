@@ -22,7 +22,7 @@ use Rattle.library.proofs.LikeFrames.{alike-stands}
 use Rattle.library.proofs.Frames.{frame_found, frame_given}
 use Rattle.library.proofs.Lower.{lower_all, lower_has, lower_distinct}
 use Rattle.library.proofs.Places.{found_in, found_one, is_labelled-own}
-use Rattle.library.proofs.Reproving.{reprove_verifies}
+use Rattle.librarylaws.proofs.Reproving.{reprove_verifies}
 use Rattle.library.proofs.Showing.{ChecksIn}
 
 -- two assertions that are found are alike

@@ -30,13 +30,13 @@ use Rattle.library.specs.Edits.{add_tests, reprove_tests, replace_tests, rename_
 use Rattle.library.specs.Fitting.{CommandFits, highest_rank}
 use Rattle.library.specs.Transactions.{Applied, with_reply, then_apply, apply_from, apply, library_of}
 use Rattle.library.specs.Laws.{EditsVerify, TransactionsVerify}
-use Rattle.library.proofs.Adding.{add_verifies}
+use Rattle.librarylaws.proofs.Adding.{add_verifies}
 use Rattle.library.proofs.Counts.{none_from_count}
-use Rattle.library.proofs.Deleting.{delete_verifies}
-use Rattle.library.proofs.Moving.{move_verifies}
+use Rattle.librarylaws.proofs.Deleting.{delete_verifies}
+use Rattle.librarylaws.proofs.Moving.{move_verifies}
 use Rattle.library.proofs.Renaming.{rename_verifies}
-use Rattle.library.proofs.Replacing.{replace_verifies}
-use Rattle.library.proofs.Reproving.{reprove_verifies}
+use Rattle.librarylaws.proofs.Replacing.{replace_verifies}
+use Rattle.librarylaws.proofs.Reproving.{reprove_verifies}
 use Rattle.library.proofs.Showing.{ChecksIn}
 
 -- ---- tests
