@@ -1,6 +1,6 @@
 //! What is printed of a run: the outcome of each transaction of each script.
 #![tactic(auto)]
 
-mod report;
+mod telling;
 
-pub use report::report;
+pub use telling::report;

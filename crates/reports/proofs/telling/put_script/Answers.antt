@@ -1,6 +1,6 @@
 use Rattle.std.proofs.Common.{◌∙◌}
 use Rattle.reports.proofs.ReportLines.{told_on}
-use Rattle.reports.proofs.report.put_script.Goals as goal
+use Rattle.reports.proofs.telling.put_script.Goals as goal
 
 pub loop-i-preserved : goal.loop-i-preserved
 loop-i-preserved c =

@@ -1,6 +1,6 @@
 use Rattle.std.proofs.Common.{arith}
 use Rattle.reports.proofs.ReportLines.{row_on, rows_told, row_fits}
-use Rattle.reports.proofs.report.report.Goals as goal
+use Rattle.reports.proofs.telling.report.Goals as goal
 
 pub put_script-requires : goal.put_script-requires
 put_script-requires c =

@@ -1,7 +1,7 @@
 -- What the loop of `put_script` keeps.
 use Rattle.std.proofs.Common.{◌≡◌, ◌+◌, ◌++◌, drop}
 use Rattle.reports.specs.Reports.{script_text_from}
-use Rattle.reports.proofs.report.put_script.Given as goal
+use Rattle.reports.proofs.telling.put_script.Given as goal
 
 abbrev pub invariant-loop-i : goal.invariant-loop-i
 invariant-loop-i l =
