@@ -1,13 +1,12 @@
 -- What the reader of histories gives is what the text spells, and is within the limits.
 use Rattle.std.proofs.Common.{◌≡◌, ℕ, zero, suc, ◌≤◌, false, List, [], ◌∷◌, ◌++◌, length, Option, Some, None, Result, Ok, Err, refl, sym, ap, subst, ◌∙◌}
-use Rattle.std.specs.Prelude.{All, codes}
+use Rattle.std.specs.Prelude.{All, codes, IfOk}
 use Rattle.std.specs.List.{AllByRecursion}
 use Rattle.mmtext.specs.declared.fault.TextFault.{TextFault}
 use Rattle.mmtext.specs.Text.{Token, tokens, IsClean}
 use Rattle.mmtext.specs.Words.{Word}
-use Rattle.mmtext.specs.Languages.{State, run, ended, token_reading, reading}
-use Rattle.mmtext.specs.Laws.{IsGrammarOf}
-use Rattle.mmtext.proofs.Readings.{reading_ok, clean_reading}
+use Rattle.mmtext.specs.Languages.{State, run, ended, token_reading}
+use Rattle.mmtext.specs.Laws.{IsGrammarOf, IsRead}
 use Rattle.mmtext.proofs.CommentLaws.{here, walks_outside, runs_all}
 use Rattle.mmsyntax.specs.Tables.{Tables}
 use Rattle.mmsyntax.specs.Layout.{IsSoundPrelude}
@@ -57,10 +56,6 @@ token_found t bytes history clean h =
       entries = r.spells;
     })
 
-pub reading_found : (t : Tables) (bytes : List ℕ) (history : List Entry) → reading (history_language t) bytes ≡ Ok history
-    → SpellsHistory t bytes history
-reading_found t bytes history h = let r = reading_ok (history_language t) bytes history h in token_found t bytes history r.0 r.1
-
 -- ---- what is spelled is read
 
 token_spelled : (t : Tables) (bytes : List ℕ) (history : List Entry) → SpellsHistory t bytes history
@@ -76,19 +71,6 @@ token_spelled t bytes history s =
 -- what is spelled is what the language says
 pub history_grammar : (t : Tables) → IsGrammarOf (history_language t) (SpellsHistory t)
 history_grammar t bytes history = (λ s. (s.clean, token_spelled t bytes history s), λ h. token_found t bytes history h.0 h.1)
-
-reading_spelled : (t : Tables) (bytes : List ℕ) (history : List Entry) → length bytes ≤ 16777216 → SpellsHistory t bytes history
-    → reading (history_language t) bytes ≡ Ok history
-reading_spelled t bytes history short s = clean_reading (history_language t) bytes short s.clean ∙ token_spelled t bytes history s
-
--- the answer of a reader that gives what reading gives, at a text that is spelled
-pub same_history : (t : Tables) (bytes : List ℕ) (history found : List Entry) → length bytes ≤ 16777216 → SpellsHistory t bytes history
-    → reading (history_language t) bytes ≡ Ok found → found ≡ history
-same_history t bytes history found short s h = let e : Ok history ≡ Ok found = sym (reading_spelled t bytes history short s) ∙ h in cc
-
-pub no_fault : (t : Tables) (bytes : List ℕ) (history : List Entry) (f : TextFault) → length bytes ≤ 16777216 → SpellsHistory t bytes history
-    → reading (history_language t) bytes ≡ Err f → ⊥
-no_fault t bytes history f short s h = let e : Ok history ≡ Err f = sym (reading_spelled t bytes history short s) ∙ h in absurd cc
 
 -- ---- what is spelled is within the limits
 
@@ -111,3 +93,9 @@ pub history_fits : (t : Tables) (bytes : List ℕ) (history : List Entry) → Is
 history_fits t bytes history sound s =
     let words = clean_words bytes (codes "history" ∷ s.count ∷ s.inner) s.clean s.words_are in
     each_fits (SpellsEntry t) (EntryFits t) (entry_fits t sound) history s.inner words.1.1 s.entries
+
+-- so are those that are read
+pub read_fits : (t : Tables) (bytes : List ℕ) (r : Result (List Entry) TextFault) → IsSoundPrelude t
+    → IsRead (history_language t) (SpellsHistory t) bytes r → IfOk r (All (EntryFits t))
+read_fits t bytes (Ok history) sound h = history_fits t bytes history sound h.found
+read_fits t bytes (Err f) sound h = tt

@@ -207,6 +207,7 @@ whole entries _ = None
 -- the language of histories over a prelude
 abbrev pub history_language : Tables → Language Progress (List Entry)
 history_language t = record {
+  most_bytes = 16777216;
   start = record { entries = []; place = at_history };
   row = λ p token. in_place t p.entries p.place token;
   said = λ p. whole p.entries p.place;

@@ -1,15 +1,13 @@
 //! Reading a history, token by token.
 
-ghost use Rattle.std.specs.Prelude.{◌≡◌, ◌≢◌, ◌≤◌, ◌⊎◌, List, length, Some, None, All, IfOk, IfErr, if◌then◌else◌};
-ghost use Rattle.mmtext.specs.declared.fault.FaultKind.TheVariants.{NoMemory};
-ghost use Rattle.mmtext.specs.declared.fault.TextFault.{TextFault};
+ghost use Rattle.std.specs.Prelude.{◌≡◌, List, Some, None, All, IfOk, if◌then◌else◌};
 ghost use Rattle.mmtext.specs.Views.{seen, Gives};
-ghost use Rattle.mmtext.specs.Languages.{Reads, Refuses};
+ghost use Rattle.mmtext.specs.Laws.{IsRead};
 ghost use Rattle.mmsyntax.specs.Tables.{Tables};
 ghost use Rattle.library.specs.declared.history.Entry.{Entry};
 ghost use Rattle.historytext.specs.Grammar.{SpellsHistory};
 ghost use Rattle.historytext.specs.Layout.{EntryFits};
-ghost use Rattle.historytext.specs.Places.{entry_row, in_place, whole, FaultyHistory};
+ghost use Rattle.historytext.specs.Places.{entry_row, in_place, whole, history_language};
 ghost use Rattle.historytext.specs.Views.{seen_place, seen_at};
 
 use crate::entry_rows::read_in_entry;
@@ -17,8 +15,8 @@ use crate::place::{EntryPlace, HistoryReader, Place, ReplyPlace};
 use crate::reply_rows::read_count;
 use library::{Entry, History};
 use mmreader::Recent;
-use mmsyntax::{Prelude, Sequence};
-use mmtext::{FaultKind, Mark, Reader, Stop, TextFault, Token, fault_at, no_memory, read_text};
+use mmsyntax::{MOST_BYTES, Prelude, Sequence};
+use mmtext::{FaultKind, Mark, Reader, Stop, TextFault, Token, fault_at, read};
 use scripts::take_in_command;
 use std::alloc::Global;
 use std::mem;
@@ -94,6 +92,10 @@ impl<'a> Reader<'a> for HistoryReader<'a> {
 
     ghost meaning = { λ history. history };
 
+    fn most_bytes(&self) -> usize {
+        MOST_BYTES
+    }
+
     fn take_word(&mut self, alloc: Global, token: Token<'a>) -> Result<bool, Stop> {
         match &mut self.place {
             Place::InEntry(_, EntryPlace::Within(_, place)) => {
@@ -140,18 +142,10 @@ impl<'a> Reader<'a> for HistoryReader<'a> {
 /// - `TooLong` for a number that is higher;
 /// - in a command the faults of `read_script`, and in an assertion those of `read_assertion`.
 pub fn read_history(alloc: Global, prelude: &Prelude, text: &[u8]) -> Result<History, TextFault>
-    // What is read is spelled so.
-    ensures found { IfOk result (λ history. SpellsHistory prelude.now text.now history) }
+    // What is read is spelled so, and what is spelled so is read, unless memory runs out; a fault is the text's, or want of memory.
+    ensures read { IsRead (history_language prelude.now) (SpellsHistory prelude.now) text.now result }
     // Its commands and replies are within the limits of the prelude.
     ensures fits { IfOk result (λ history. All (EntryFits prelude.now) history) }
-    // What is spelled so is read, if the text isn't too long, unless memory runs out.
-    ensures only { (history : List Entry) → length text.now ≤ 16777216 → SpellsHistory prelude.now text.now history → Reads result history }
-    // Any other fault than want of memory is the text's.
-    ensures fault { IfErr result (λ f. f.kind ≢ NoMemory → FaultyHistory prelude.now text.now f) }
-    // A fault is the text's, or want of memory, whose place is 0.
-    ensures place { IfErr result (λ f. (f ≡ record { place = 0; kind = NoMemory }) ⊎ FaultyHistory prelude.now text.now f) }
-    // A text with a fault is refused with it, unless memory runs out.
-    ensures refused { (f : TextFault) → FaultyHistory prelude.now text.now f → Refuses result f }
 {
     // Some text declares a prelude, so what is read over it fits.
     // For the proof: some text declares the prelude.
@@ -162,9 +156,5 @@ pub fn read_history(alloc: Global, prelude: &Prelude, text: &[u8]) -> Result<His
         entries: Vec::new(alloc),
         place: Place::AtHistory,
     };
-    match read_text(alloc, reader, text) {
-        Ok(history) => Ok(history),
-        Err(Stop::Fault(fault)) => Err(fault),
-        Err(Stop::Memory) => Err(no_memory()),
-    }
+    read(alloc, reader, text)
 }

@@ -6,7 +6,6 @@ pub mod ParsedRows
 pub mod Parsed
 pub mod ParsedStatements
 pub mod DatabaseLaws
-pub mod SamePreludes
 pub mod Runs
 pub mod UnitRows
 pub mod Words

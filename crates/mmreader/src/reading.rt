@@ -1,12 +1,9 @@
 //! Reading a database, token by token.
 
-ghost use Rattle.std.specs.Prelude.{◌≡◌, ◌≢◌, ◌≤◌, ◌⊎◌, length, IfOk, IfErr};
-ghost use Rattle.mmtext.specs.declared.fault.TextFault.{TextFault};
-ghost use Rattle.mmtext.specs.declared.fault.FaultKind.TheVariants.{NoMemory};
-ghost use Rattle.mmsyntax.specs.Tables.{Contents};
-ghost use Rattle.mmtext.specs.Languages.{Reads, Refuses};
+ghost use Rattle.std.specs.Prelude.{◌≡◌, IfOk};
+ghost use Rattle.mmtext.specs.Laws.{IsRead};
 ghost use Rattle.mmtext.specs.Text.{mark_of};
-ghost use Rattle.mmsyntax.specs.Faults.{in_place, row, FaultyDatabase};
+ghost use Rattle.mmsyntax.specs.Faults.{in_place, row, database_language};
 ghost use Rattle.mmsyntax.specs.Grammar.{Spells};
 ghost use Rattle.mmsyntax.specs.Layout.{HasSpelling};
 ghost use Rattle.mmtext.specs.Views.{seen};
@@ -24,8 +21,8 @@ mod words;
 
 use crate::place::{DatabaseReader, Place, Scope, UnitPlace, is_outermost};
 use crate::recent::Recent;
-use mmsyntax::{Assertion, Database, Prelude, Sequence, SymbolTable};
-use mmtext::{Mark, Reader, Stop, TextFault, Token, no_memory, read_text};
+use mmsyntax::{Assertion, Database, MOST_BYTES, Prelude, Sequence, SymbolTable};
+use mmtext::{Mark, Reader, Stop, TextFault, Token, read};
 use mmunits::Units;
 use prelude_rows::next_prelude_place;
 use std::alloc::Global;
@@ -95,6 +92,10 @@ impl<'a> Reader<'a> for DatabaseReader<'a> {
 
     ghost meaning = { λ said. contents_of said.0 said.1.items };
 
+    fn most_bytes(&self) -> usize {
+        MOST_BYTES
+    }
+
     fn take_word(&mut self, alloc: Global, token: Token<'a>) -> Result<bool, Stop> {
         take_word(
             alloc,
@@ -159,16 +160,8 @@ impl<'a> Reader<'a> for DatabaseReader<'a> {
 /// - `Unfinished` at the length of the text: it ends in a statement, in a block or in a comment.
 /// - `NoMemory`: memory ran out; its place is 0, whatever was read.
 pub fn read_database(alloc: Global, keys: RandomState, text: &[u8]) -> Result<Database, TextFault>
-    // What is read is spelled so.
-    ensures found { IfOk result (λ db. Spells text.now db) }
-    // What is spelled so is read, if the text isn't too long, unless memory runs out.
-    ensures only { (db : Contents) → length text.now ≤ 16777216 → Spells text.now db → Reads result db }
-    // Any other fault than want of memory is the text's.
-    ensures fault { IfErr result (λ f. f.kind ≢ NoMemory → FaultyDatabase text.now f) }
-    // A fault is the text's, or want of memory, whose place is 0.
-    ensures place { IfErr result (λ f. (f ≡ record { place = 0; kind = NoMemory }) ⊎ FaultyDatabase text.now f) }
-    // A text with a fault is refused with it, unless memory runs out.
-    ensures refused { (f : TextFault) → FaultyDatabase text.now f → Refuses result f }
+    // What is read is spelled so, and what is spelled so is read, unless memory runs out; a fault is the text's, or want of memory.
+    ensures { IsRead database_language Spells text.now result }
 {
     let reader = DatabaseReader {
         symbols: SymbolTable::new(alloc, keys),
@@ -176,10 +169,9 @@ pub fn read_database(alloc: Global, keys: RandomState, text: &[u8]) -> Result<Da
         recent: Recent::new(alloc),
         place: Place::Unit(UnitPlace::AtStart(Scope::Outside)),
     };
-    match read_text(alloc, reader, text) {
+    match read(alloc, reader, text) {
         Ok((symbols, assertions)) => Ok(into_database(symbols, assertions)),
-        Err(Stop::Fault(fault)) => Err(fault),
-        Err(Stop::Memory) => Err(no_memory()),
+        Err(fault) => Err(fault),
     }
 }
 

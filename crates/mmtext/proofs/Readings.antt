@@ -162,21 +162,21 @@ bad_at bytes i lt before here =
 
 -- ---- what reading gives, by the length of a text and its bytes
 
-too_long_reading : {P A : Type 0} (l : Language P A) (bytes : List ℕ) → 16777216 < length bytes
-    → reading l bytes ≡ Err (record { place = 16777216; kind = TooLong })
+too_long_reading : {P A : Type 0} (l : Language P A) (bytes : List ℕ) → l.most_bytes < length bytes
+    → reading l bytes ≡ Err (record { place = l.most_bytes; kind = TooLong })
 unfolding reading
 too_long_reading l bytes long =
-    cond-true (ltb 16777216 (length bytes)) (Err (record { place = 16777216; kind = TooLong }))
+    cond-true (ltb l.most_bytes (length bytes)) (Err (record { place = l.most_bytes; kind = TooLong }))
     (without_bad_byte (bad_byte bytes) (token_reading l bytes)) (lt-ltb _ _ long)
 
-short_reading : {P A : Type 0} (l : Language P A) (bytes : List ℕ) → length bytes ≤ 16777216
+short_reading : {P A : Type 0} (l : Language P A) (bytes : List ℕ) → length bytes ≤ l.most_bytes
     → reading l bytes ≡ without_bad_byte (bad_byte bytes) (token_reading l bytes)
 unfolding reading
 short_reading l bytes short =
-    cond-false (ltb 16777216 (length bytes)) (Err (record { place = 16777216; kind = TooLong }))
+    cond-false (ltb l.most_bytes (length bytes)) (Err (record { place = l.most_bytes; kind = TooLong }))
     (without_bad_byte (bad_byte bytes) (token_reading l bytes)) (le-ltb _ _ short)
 
-pub clean_reading : {P A : Type 0} (l : Language P A) (bytes : List ℕ) → length bytes ≤ 16777216 → IsClean bytes
+pub clean_reading : {P A : Type 0} (l : Language P A) (bytes : List ℕ) → length bytes ≤ l.most_bytes → IsClean bytes
     → reading l bytes ≡ token_reading l bytes
 clean_reading l bytes short clean =
     short_reading l bytes short ∙ ap (λ o. without_bad_byte o (token_reading l bytes)) (none_from_clean bytes clean)
@@ -185,9 +185,9 @@ clean_reading l bytes short clean =
 pub reading_ok : {P A : Type 0} (l : Language P A) (bytes : List ℕ) (a : A) → reading l bytes ≡ Ok a
     → IsClean bytes × (token_reading l bytes ≡ Ok a)
 reading_ok {P} {A} l bytes a h =
-    elim (cases_Bool (ltb 16777216 (length bytes))) [
+    elim (cases_Bool (ltb l.most_bytes (length bytes))) [
       | inl y ↦ absurd
-          (let e : Err (record { place = 16777216; kind = TooLong }) ≡ Ok a = sym (too_long_reading l bytes (ltb-true _ _ y)) ∙ h in cc)
+          (let e : Err (record { place = l.most_bytes; kind = TooLong }) ≡ Ok a = sym (too_long_reading l bytes (ltb-true _ _ y)) ∙ h in cc)
       | inr n ↦ by_bytes (bad_byte bytes) refl (sym (short_reading l bytes (ltb-false _ _ n)) ∙ h)
     ]
   where
@@ -240,7 +240,7 @@ ended_fault : {P A : Type 0} (l : Language P A) (len : ℕ) (r : Result (State P
 ended_fault l len (Err g) f h = inl cc
 ended_fault l len (Ok s) f h = let e = finished_fault len (said_at l s) f h in inr (s, refl, e.0, e.1)
 
-token_fault : {P A : Type 0} (l : Language P A) (bytes : List ℕ) (f : TextFault) → length bytes ≤ 16777216 → IsClean bytes
+token_fault : {P A : Type 0} (l : Language P A) (bytes : List ℕ) (f : TextFault) → length bytes ≤ l.most_bytes → IsClean bytes
     → token_reading l bytes ≡ Err f → Faulty l bytes f
 unfolding token_reading
 token_fault l bytes f short clean h =
@@ -253,14 +253,14 @@ token_fault l bytes f short clean h =
 -- why a text is not read is a fault of it
 pub reading_fault : {P A : Type 0} (l : Language P A) (bytes : List ℕ) (f : TextFault) → reading l bytes ≡ Err f → Faulty l bytes f
 reading_fault {P} {A} l bytes f h =
-    elim (cases_Bool (ltb 16777216 (length bytes))) [
-      | inl y ↦ let long : 16777216 < length bytes = ltb-true _ _ y in too_long long
-          (let e : Err (record { place = 16777216; kind = TooLong }) ≡ Err f = sym (too_long_reading l bytes long) ∙ h in cc)
-      | inr n ↦ let short : length bytes ≤ 16777216 = ltb-false _ _ n in bytes_fault short (bad_byte bytes) refl
+    elim (cases_Bool (ltb l.most_bytes (length bytes))) [
+      | inl y ↦ let long : l.most_bytes < length bytes = ltb-true _ _ y in too_long long
+          (let e : Err (record { place = l.most_bytes; kind = TooLong }) ≡ Err f = sym (too_long_reading l bytes long) ∙ h in cc)
+      | inr n ↦ let short : length bytes ≤ l.most_bytes = ltb-false _ _ n in bytes_fault short (bad_byte bytes) refl
           (sym (short_reading l bytes short) ∙ h)
     ]
   where
-    bytes_fault : length bytes ≤ 16777216 → (o : Option ℕ) → bad_byte bytes ≡ o → without_bad_byte o (token_reading l bytes) ≡ Err f
+    bytes_fault : length bytes ≤ l.most_bytes → (o : Option ℕ) → bad_byte bytes ≡ o → without_bad_byte o (token_reading l bytes) ≡ Err f
         → Faulty l bytes f
     bytes_fault short (Some i) e g = let b = bad_found bytes i e in bad i short b.0 b.2 b.1 cc
     bytes_fault short None e g = token_fault l bytes f short (clean_from_none bytes e) g

@@ -155,18 +155,18 @@ cond_clean true g o next h = absurd cc
 cond_clean false g o next h = unless_good o next h
 
 -- a fault before the tokens is that of the text
-pub faulty_bytes : {P A : Type 0} (l : Language P A) (bytes : List ℕ) (f : TextFault) → fault_of_bytes bytes ≡ Some f
+pub faulty_bytes : {P A : Type 0} (l : Language P A) (bytes : List ℕ) (f : TextFault) → fault_of_bytes l.most_bytes bytes ≡ Some f
     → reading l bytes ≡ Err f
 unfolding reading
 faulty_bytes l bytes f h =
-    cond_fault (ltb 16777216 (length bytes)) (record { place = 16777216; kind = TooLong }) f (bad_byte bytes) (token_reading l bytes) h
+    cond_fault (ltb l.most_bytes (length bytes)) (record { place = l.most_bytes; kind = TooLong }) f (bad_byte bytes) (token_reading l bytes) h
 
 -- where there is none the tokens decide
-pub clean_bytes : {P A : Type 0} (l : Language P A) (bytes : List ℕ) → fault_of_bytes bytes ≡ None → token_reading l bytes ≡ reading l bytes
+pub clean_bytes : {P A : Type 0} (l : Language P A) (bytes : List ℕ) → fault_of_bytes l.most_bytes bytes ≡ None → token_reading l bytes ≡ reading l bytes
 unfolding reading
 clean_bytes l bytes h =
     sym
-    (cond_clean (ltb 16777216 (length bytes)) (record { place = 16777216; kind = TooLong }) (bad_byte bytes) (token_reading l bytes) h)
+    (cond_clean (ltb l.most_bytes (length bytes)) (record { place = l.most_bytes; kind = TooLong }) (bad_byte bytes) (token_reading l bytes) h)
 
 -- ---- words
 

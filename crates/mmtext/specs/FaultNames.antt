@@ -4,6 +4,7 @@ use Rattle.std.specs.Fmt.{decimal}
 use Rattle.mmtext.specs.declared.fault.FaultKind.{FaultKind}
 use Rattle.mmtext.specs.declared.fault.FaultKind.TheVariants.{BadByte, BadToken, Unfinished, OutOfProfile, UnknownSymbol}
 use Rattle.mmtext.specs.declared.fault.FaultKind.TheVariants.{RepeatedLabel, BadLabel, NoTypeFor, TooLong, NoMemory, LabelClashes}
+use Rattle.mmtext.specs.declared.fault.FaultKind.TheVariants.{UnknownLabel, NotActive}
 use Rattle.mmtext.specs.declared.fault.TextFault.{TextFault}
 
 -- numbers from 1
@@ -19,6 +20,8 @@ number_of NoTypeFor = 8
 number_of TooLong = 9
 number_of NoMemory = 10
 number_of LabelClashes = 11
+number_of UnknownLabel = 12
+number_of NotActive = 13
 
 -- the names as messages print them
 abbrev pub name_of : FaultKind → List ℕ
@@ -33,6 +36,8 @@ name_of NoTypeFor = codes "NoTypeFor"
 name_of TooLong = codes "TooLong"
 name_of NoMemory = codes "NoMemory"
 name_of LabelClashes = codes "LabelClashes"
+name_of UnknownLabel = codes "UnknownLabel"
+name_of NotActive = codes "NotActive"
 
 -- number, space, name
 abbrev pub numbered_name : ℕ → List ℕ → List ℕ

@@ -30,9 +30,10 @@ use Rattle.mmtext.specs.declared.mark.Mark.{Mark}
 use Rattle.mmtext.specs.declared.mark.Mark.TheVariants as mark
 use Rattle.mmtext.specs.Text.{Token, tokens, is_lawful, IsCleanBefore, IsClean, bad_byte, mark_of, has_comment_mark}
 
--- a language whose places are P and whose texts say an A: the place where a text starts; the place to which a token outside of comments
--- leads, or the fault of that token; and what a text says that ends at a place, if it may end there
+-- a language whose places are P and whose texts say an A: the most bytes that a text may have; the place where it starts; the place to which
+-- a token outside of comments leads, or the fault of that token; and what a text says that ends at a place, if it may end there
 pub record Language (P A : Type 0) : Type 0 where
+  pub most_bytes : ℕ
   pub start : P
   pub row : P → Token → Result P TextFault
   pub said : P → Option A
@@ -119,7 +120,7 @@ without_bad_byte None next = next
 -- what a text says, or its fault: its length, its bytes, its tokens
 unfoldable pub reading : {P A : Type 0} → Language P A → List ℕ → Result A TextFault
 reading l bytes =
-    if nat_lt 16777216 (length bytes) then Err (record { place = 16777216; kind = TooLong })
+    if nat_lt l.most_bytes (length bytes) then Err (record { place = l.most_bytes; kind = TooLong })
     else without_bad_byte (bad_byte bytes) (token_reading l bytes)
 
 -- the tokens of front break no test and lead to s
@@ -129,15 +130,15 @@ Reaches l front s = run l (start_of l) front ≡ Ok s
 -- the fault of a text: in its length, else in its bytes, else at a token, else at its end
 pub data Faulty {P A : Type 0} (l : Language P A) (bytes : List ℕ) (f : TextFault) : Type 0 where
   -- more bytes than are read
-  too_long : 16777216 < length bytes → f ≡ record { place = 16777216; kind = TooLong } → Faulty l bytes f
+  too_long : l.most_bytes < length bytes → f ≡ record { place = l.most_bytes; kind = TooLong } → Faulty l bytes f
   -- the first byte that may not stand in a text
-  bad : (place : ℕ) → length bytes ≤ 16777216 → place < length bytes → IsCleanBefore place bytes
+  bad : (place : ℕ) → length bytes ≤ l.most_bytes → place < length bytes → IsCleanBefore place bytes
       → is_lawful (slice_index bytes place) ≡ false → f ≡ record { place = place; kind = BadByte } → Faulty l bytes f
   -- a front of the tokens that breaks no test, and the fault of the token behind it, which breaks one
-  at_token : (front rest : List Token) (t : Token) (s : State P) → length bytes ≤ 16777216 → IsClean bytes
+  at_token : (front rest : List Token) (t : Token) (s : State P) → length bytes ≤ l.most_bytes → IsClean bytes
       → tokens bytes ≡ front ++ t ∷ rest → Reaches l front s → step l s t ≡ Err f → Faulty l bytes f
   -- no token breaks a test, and the text may not end there
-  unfinished : (s : State P) → length bytes ≤ 16777216 → IsClean bytes → Reaches l (tokens bytes) s → said_at l s ≡ None
+  unfinished : (s : State P) → length bytes ≤ l.most_bytes → IsClean bytes → Reaches l (tokens bytes) s → said_at l s ≡ None
       → f ≡ record { place = length bytes; kind = Unfinished } → Faulty l bytes f
 
 -- ---- what a reader answers

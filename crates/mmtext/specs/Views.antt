@@ -11,7 +11,8 @@ use Rattle.mmtext.specs.declared.fault.Stop.{Stop}
 use Rattle.mmtext.specs.declared.fault.Stop.TheVariants as stop
 use Rattle.mmtext.specs.declared.fault.TextFault.{TextFault}
 use Rattle.mmtext.specs.Text.{Token, bad_byte, has_comment_mark}
-use Rattle.mmtext.specs.Languages.{State, fault}
+use Rattle.mmtext.specs.Languages.{Language, State, fault}
+use Rattle.mmtext.specs.Laws.{Says, IsRead}
 
 -- a token of the code
 abbrev pub seen : CodeToken → Token
@@ -21,10 +22,10 @@ seen t = record { place = t.place; text = t.text.now }
 abbrev pub state_at : {P : Type 0} → P → Bool → State P
 state_at p b = record { place = p; in_comment = b }
 
--- the fault of a text before its tokens
-abbrev pub fault_of_bytes : List ℕ → Option TextFault
-fault_of_bytes bytes =
-    if nat_lt 16777216 (length bytes) then Some (record { place = 16777216; kind = TooLong })
+-- the fault of a text before its tokens, where a text may have so many bytes
+abbrev pub fault_of_bytes : ℕ → List ℕ → Option TextFault
+fault_of_bytes most bytes =
+    if nat_lt most (length bytes) then Some (record { place = most; kind = TooLong })
     else option_map (λ place. record { place = place; kind = BadByte }) (bad_byte bytes)
 
 -- ---- comments
@@ -50,3 +51,12 @@ Fails (stop.Fault f) read = read ≡ Err f
 abbrev pub Gives : {X Y : Type 0} → (X → Y) → Result X Stop → Result Y TextFault → Type 0
 Gives view (Ok x) read = read ≡ Ok (view x)
 Gives view (Err e) read = Fails e read
+
+-- what is answered, seen by view
+abbrev pub seen_by : {X Y : Type 0} → (X → Y) → Result X TextFault → Result Y TextFault
+seen_by view (Ok x) = Ok (view x)
+seen_by view (Err f) = Err f
+
+-- what is answered to a text, seen by view, is what the language says
+abbrev pub IsReadAs : {P X Y : Type 0} → (X → Y) → Language P Y → List ℕ → Result X TextFault → Type 0
+IsReadAs view l bytes result = IsRead l (Says l) bytes (seen_by view result)

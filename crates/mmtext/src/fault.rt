@@ -33,13 +33,18 @@ pub enum FaultKind {
     NoMemory,
     /// A label `L.k` beside the label L.
     LabelClashes,
+    /// A label in a proof that nothing before it has. Of texts in the whole language alone.
+    UnknownLabel,
+    /// A name that is declared before, and not here. Of texts in the whole language alone.
+    NotActive,
 }
 
 /// The first fault of a text.
 #[derive(Clone, Copy, Debug, PartialEq, Eq)]
 pub struct TextFault {
     /// The byte at which the token at fault begins, counted from 0. For `BadByte` the first bad byte; for `Unfinished` the length of
-    /// the text; for a text over the limit 16,777,216; for `NoMemory` 0, whatever was read.
+    /// the text; for a text that is too long the most
+    /// bytes that it may have; for `NoMemory` 0, whatever was read.
     pub place: usize,
     pub kind: FaultKind,
 }
@@ -48,7 +53,7 @@ impl FaultKind {
     ghost use Rattle.std.specs.Prelude.{◌≡◌};
     ghost use Rattle.mmtext.specs.FaultNames.{number_of, name_of};
 
-    /// The number of the kind, from 1 to 11.
+    /// The number of the kind, from 1 to 13.
     pub fn number(self) -> u32
         ensures { result ≡ number_of self }
     {
@@ -64,6 +69,8 @@ impl FaultKind {
             FaultKind::TooLong => 9,
             FaultKind::NoMemory => 10,
             FaultKind::LabelClashes => 11,
+            FaultKind::UnknownLabel => 12,
+            FaultKind::NotActive => 13,
         }
     }
 
@@ -83,6 +90,8 @@ impl FaultKind {
             FaultKind::TooLong => "TooLong",
             FaultKind::NoMemory => "NoMemory",
             FaultKind::LabelClashes => "LabelClashes",
+            FaultKind::UnknownLabel => "UnknownLabel",
+            FaultKind::NotActive => "NotActive",
         }
     }
 }

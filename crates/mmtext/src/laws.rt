@@ -14,12 +14,12 @@ pub fn one_fault<P, A>()
     ensures { (l : Language P A) → HasOneFault l }
 {}
 
-/// A text of at most 16,777,216 bytes that says a value has no fault.
+/// A text that says a value and isn't too long has no fault.
 pub fn no_fault_beside_a_value<P, A>()
     ensures { (l : Language P A) → SpellsWithoutFault l (Says l) }
 {}
 
-/// A text that says a value and has a fault is longer than 16,777,216 bytes, and that is its fault.
+/// A text that says a value and has a fault has more bytes than its language allows, and that is its fault.
 pub fn only_its_length_beside_a_value<P, A>()
     ensures { (l : Language P A) → FailsByLength l (Says l) }
 {}

@@ -15,6 +15,6 @@ pub use mark::{
     Mark, contains_comment_mark, contains_dollar, contains_dot, is_label_token, is_number_from_one,
     mark_word, names_hypothesis,
 };
-pub use reading::{Reader, read_text};
+pub use reading::{Reader, read};
 pub use texts::{no_memory, text_fault, unfinished_at};
 pub use token::{Token, first_bad_byte, next_token};

@@ -5,12 +5,12 @@ ghost use Rattle.std.specs.Option.{option_map};
 ghost use Rattle.mmtext.specs.Text.{mark_of};
 ghost use Rattle.mmtext.specs.Languages.{Language, step, token_reading, reading};
 ghost use Rattle.mmtext.specs.Takings.{TakesWord};
-ghost use Rattle.mmtext.specs.Views.{seen, state_at, Gives};
+ghost use Rattle.mmtext.specs.Views.{seen, state_at, Gives, IsReadAs};
 
 use crate::comments::{Turn, comment_turn};
-use crate::fault::Stop;
+use crate::fault::{Stop, TextFault};
 use crate::mark::{Mark, mark_word};
-use crate::texts::{text_fault, unfinished_at};
+use crate::texts::{no_memory, text_fault, unfinished_at};
 use crate::token::{Token, next_token};
 use std::alloc::Global;
 
@@ -38,6 +38,10 @@ pub trait Reader<'a>: Drop {
 
     // How the rules see what is said.
     ghost meaning: { Self.Said → Meaning };
+
+    /// The most bytes that a text of the language may have.
+    fn most_bytes(&self) -> usize
+        ensures { result ≡ (language self.now).most_bytes };
 
     /// Takes a word without `$`, if that is quick: whether it did. Else it stays where it is.
     fn take_word(&mut self, alloc: Global, token: Token<'a>) -> Result<bool, Stop>
@@ -129,21 +133,35 @@ fn read_tokens<'a, R: Reader<'a>>(
 }
 
 /// What a text says, read by a reader at its start: its length is tested first, then its bytes, then its tokens.
-///
-/// # Errors
-///
-/// The first fault of the text in the language, or want of memory.
-pub fn read_text<'a, R: Reader<'a>>(
-    alloc: Global,
-    reader: R,
-    text: &'a [u8],
-) -> Result<R::Said, Stop>
+fn read_text<'a, R: Reader<'a>>(alloc: Global, reader: R, text: &'a [u8]) -> Result<R::Said, Stop>
     requires ready { R.IsReady reader }
     requires start { R.place reader ≡ (R.language reader).start }
     ensures { Gives R.meaning result (reading (R.language reader) text.now) }
 {
-    if let Some(fault) = text_fault(text) {
+    if let Some(fault) = text_fault(reader.most_bytes(), text) {
         return Err(Stop::Fault(fault));
     }
     read_tokens(alloc, reader, text)
+}
+
+/// What a text says, read by a reader at its start.
+///
+/// # Errors
+///
+/// The first fault of the text in the language: in its length, else in its bytes, else at a token, else at its end. `NoMemory`, with place 0,
+/// if memory ran out.
+pub fn read<'a, R: Reader<'a>>(
+    alloc: Global,
+    reader: R,
+    text: &'a [u8],
+) -> Result<R::Said, TextFault>
+    requires ready { R.IsReady reader }
+    requires start { R.place reader ≡ (R.language reader).start }
+    ensures { IsReadAs R.meaning (R.language reader) text.now result }
+{
+    match read_text(alloc, reader, text) {
+        Ok(said) => Ok(said),
+        Err(Stop::Fault(fault)) => Err(fault),
+        Err(Stop::Memory) => Err(no_memory()),
+    }
 }

@@ -8,16 +8,13 @@ ghost use Rattle.mmtext.specs.Views.{fault_of_bytes};
 use crate::fault::{FaultKind, Stop, TextFault};
 use crate::token::first_bad_byte;
 
-/// The most bytes that a text may have.
-const MOST_BYTES: usize = 16_777_216;
-
-/// The fault of a text before its tokens: its length, then the first byte that may not stand in it.
-pub fn text_fault(text: &[u8]) -> Option<TextFault>
-    ensures { result ≡ fault_of_bytes text.now }
+/// The fault of a text before its tokens, where it may have so many bytes: its length, then the first byte that may not stand in it.
+pub fn text_fault(most_bytes: usize, text: &[u8]) -> Option<TextFault>
+    ensures { result ≡ fault_of_bytes most_bytes text.now }
 {
-    if text.len() > MOST_BYTES {
+    if text.len() > most_bytes {
         return Some(TextFault {
-            place: MOST_BYTES,
+            place: most_bytes,
             kind: FaultKind::TooLong,
         });
     }

@@ -1,15 +1,14 @@
 -- What the reader of scripts gives is what the text spells, and is within the limits.
 use Rattle.std.proofs.Common.{◌≡◌, ℕ, suc, ◌≤◌, true, false, List, [], ◌∷◌, ◌++◌, length, Some, Ok}
 use Rattle.std.proofs.Common.{Err, refl, sym, ap, subst, ◌∙◌, arith, leb-false, length-append}
-use Rattle.std.specs.Prelude.{All, codes}
+use Rattle.std.specs.Prelude.{All, codes, IfOk, Result}
 use Rattle.std.specs.List.{AllByRecursion}
 use Rattle.std.proofs.lemmas.List.Elements.{All-append, All-nil, All-cons}
 use Rattle.mmtext.specs.declared.fault.TextFault.{TextFault}
 use Rattle.mmtext.specs.Text.{tokens, IsClean}
 use Rattle.mmtext.specs.Words.{Word}
-use Rattle.mmtext.specs.Languages.{run, ended, token_reading, reading}
-use Rattle.mmtext.specs.Laws.{IsGrammarOf}
-use Rattle.mmtext.proofs.Readings.{reading_ok, clean_reading}
+use Rattle.mmtext.specs.Languages.{run, ended, token_reading}
+use Rattle.mmtext.specs.Laws.{IsGrammarOf, IsRead}
 use Rattle.mmtext.proofs.CommentLaws.{here, walks_outside, runs_all}
 use Rattle.mmsyntax.specs.declared.statement.Step.{Step}
 use Rattle.mmsyntax.specs.declared.statement.Assertion.{Assertion}
@@ -54,10 +53,6 @@ token_found t bytes script clean h =
     subst (λ s. SpellsScript t bytes s) same
     (record { clean = clean; words = _; words_are = o.words_are; transactions = r.transactions })
 
-pub reading_found : (t : Tables) (bytes : List ℕ) (script : Script) → reading (script_language t) bytes ≡ Ok script
-    → SpellsScript t bytes script
-reading_found t bytes script h = let r = reading_ok (script_language t) bytes script h in token_found t bytes script r.0 r.1
-
 -- ---- what is spelled is read
 
 token_spelled : (t : Tables) (bytes : List ℕ) (script : Script) → SpellsScript t bytes script
@@ -72,19 +67,6 @@ token_spelled t bytes script s =
 -- what is spelled is what the language says
 pub script_grammar : (t : Tables) → IsGrammarOf (script_language t) (SpellsScript t)
 script_grammar t bytes script = (λ s. (s.clean, token_spelled t bytes script s), λ h. token_found t bytes script h.0 h.1)
-
-reading_spelled : (t : Tables) (bytes : List ℕ) (script : Script) → length bytes ≤ 16777216 → SpellsScript t bytes script
-    → reading (script_language t) bytes ≡ Ok script
-reading_spelled t bytes script short s = clean_reading (script_language t) bytes short s.clean ∙ token_spelled t bytes script s
-
--- the answer of a reader that gives what reading gives, at a text that is spelled
-pub answered : (t : Tables) (bytes : List ℕ) (script found : Script) → length bytes ≤ 16777216 → SpellsScript t bytes script
-    → reading (script_language t) bytes ≡ Ok found → found ≡ script
-answered t bytes script found short s h = let e : Ok script ≡ Ok found = sym (reading_spelled t bytes script short s) ∙ h in cc
-
-pub no_fault : (t : Tables) (bytes : List ℕ) (script : Script) (f : TextFault) → length bytes ≤ 16777216 → SpellsScript t bytes script
-    → reading (script_language t) bytes ≡ Err f → ⊥
-no_fault t bytes script f short s h = let e : Ok script ≡ Err f = sym (reading_spelled t bytes script short s) ∙ h in absurd cc
 
 -- ---- what is spelled is within the limits
 
@@ -146,3 +128,9 @@ pub script_fits : (t : Tables) (bytes : List ℕ) (script : Script) → IsSoundP
 script_fits t bytes script sound s =
     each_fits (SpellsTransaction t) (λ commands. All (CommandFits t) commands) (transaction_fits t sound) script s.words
     (clean_words bytes s.words s.clean s.words_are) s.transactions
+
+-- so are those that are read
+pub read_fits : (t : Tables) (bytes : List ℕ) (r : Result Script TextFault) → IsSoundPrelude t
+    → IsRead (script_language t) (SpellsScript t) bytes r → IfOk r (λ script. All (λ commands. All (CommandFits t) commands) script)
+read_fits t bytes (Ok script) sound h = script_fits t bytes script sound h.found
+read_fits t bytes (Err f) sound h = tt

@@ -175,6 +175,7 @@ whole script _ = None
 -- the language of scripts over a prelude: no transaction at the start
 abbrev pub script_language : Tables → Language Progress (List (List Command))
 script_language t = record {
+  most_bytes = 16777216;
   start = record { script = []; place = outermost };
   row = λ p token. in_place t p.script p.place token;
   said = λ p. whole p.script p.place;

@@ -1,16 +1,14 @@
 //! Reading a script, token by token.
 
-ghost use Rattle.std.specs.Prelude.{◌≡◌, ◌≢◌, ◌≤◌, ◌⊎◌, List, length, All, IfOk, IfErr};
-ghost use Rattle.mmtext.specs.declared.fault.FaultKind.TheVariants.{NoMemory};
-ghost use Rattle.mmtext.specs.declared.fault.TextFault.{TextFault};
+ghost use Rattle.std.specs.Prelude.{◌≡◌, List, All, IfOk};
 ghost use Rattle.mmtext.specs.Text.{Token as SeenToken};
 ghost use Rattle.mmtext.specs.Views.{seen, Gives};
-ghost use Rattle.mmtext.specs.Languages.{Reads, Refuses};
+ghost use Rattle.mmtext.specs.Laws.{IsRead};
 ghost use Rattle.mmsyntax.specs.Tables.{Tables};
 ghost use Rattle.library.specs.declared.command.Command.{Command};
 ghost use Rattle.library.specs.Fitting.{CommandFits};
 ghost use Rattle.scripts.specs.Scripts.{SpellsScript};
-ghost use Rattle.scripts.specs.ScriptFaults.{led, command_row, in_place, FaultyScript};
+ghost use Rattle.scripts.specs.ScriptFaults.{led, command_row, in_place, script_language};
 ghost use Rattle.scripts.specs.ScriptViews.{seen_led, seen_place, seen_at};
 
 mod command_rows;
@@ -22,8 +20,8 @@ pub use command_rows::{
 };
 use library::{Command, Script, Transaction};
 use mmreader::Recent;
-use mmsyntax::{Prelude, Sequence};
-use mmtext::{FaultKind, Mark, Reader, Stop, TextFault, Token, fault_at, no_memory, read_text};
+use mmsyntax::{MOST_BYTES, Prelude, Sequence};
+use mmtext::{FaultKind, Mark, Reader, Stop, TextFault, Token, fault_at, read};
 pub use numerals::is_numeral;
 use place::{Place, ScriptReader};
 pub use place::{CommandPlace, Led};
@@ -106,6 +104,10 @@ impl<'a> Reader<'a> for ScriptReader<'a> {
 
     ghost meaning = { λ script. script };
 
+    fn most_bytes(&self) -> usize {
+        MOST_BYTES
+    }
+
     fn take_word(&mut self, alloc: Global, token: Token<'a>) -> Result<bool, Stop> {
         match &mut self.place {
             Place::Within(_, place) => {
@@ -151,19 +153,10 @@ impl<'a> Reader<'a> for ScriptReader<'a> {
 /// - in another proof `OutOfProfile` for `?` and `(`, `TooLong` for a step behind 16,384, and `BadLabel` for a label that is too long,
 ///   unless it is that of a `$f` or `L.k`.
 pub fn read_script(alloc: Global, prelude: &Prelude, text: &[u8]) -> Result<Script, TextFault>
-    // What is read is spelled so.
-    ensures found { IfOk result (λ script. SpellsScript prelude.now text.now script) }
+    // What is read is spelled so, and what is spelled so is read, unless memory runs out; a fault is the text's, or want of memory.
+    ensures read { IsRead (script_language prelude.now) (SpellsScript prelude.now) text.now result }
     // Its commands are within the limits of the prelude.
     ensures fits { IfOk result (λ script. All (λ commands. All (CommandFits prelude.now) commands) script) }
-    // What is spelled so is read, if the text isn't too long, unless memory runs out.
-    ensures only { (script : List (List Command)) → length text.now ≤ 16777216 → SpellsScript prelude.now text.now script
-        → Reads result script }
-    // Any other fault than want of memory is the text's.
-    ensures fault { IfErr result (λ f. f.kind ≢ NoMemory → FaultyScript prelude.now text.now f) }
-    // A fault is the text's, or want of memory, whose place is 0.
-    ensures place { IfErr result (λ f. (f ≡ record { place = 0; kind = NoMemory }) ⊎ FaultyScript prelude.now text.now f) }
-    // A text with a fault is refused with it, unless memory runs out.
-    ensures refused { (f : TextFault) → FaultyScript prelude.now text.now f → Refuses result f }
 {
     // Some text declares a prelude, so what is read over it fits.
     // For the proof: some text declares the prelude.
@@ -174,9 +167,5 @@ pub fn read_script(alloc: Global, prelude: &Prelude, text: &[u8]) -> Result<Scri
         script: Vec::new(alloc),
         place: Place::Outermost,
     };
-    match read_text(alloc, reader, text) {
-        Ok(script) => Ok(script),
-        Err(Stop::Fault(fault)) => Err(fault),
-        Err(Stop::Memory) => Err(no_memory()),
-    }
+    read(alloc, reader, text)
 }

@@ -1,13 +1,11 @@
 //! Reading a single assertion over a prelude, alone or in its block.
 
-ghost use Rattle.std.specs.Prelude.{◌≡◌, ◌≢◌, ◌≤◌, ◌⊎◌, length, is_some, IfOk, IfErr};
-ghost use Rattle.mmtext.specs.declared.fault.TextFault.{TextFault};
-ghost use Rattle.mmtext.specs.declared.fault.FaultKind.TheVariants.{NoMemory};
+ghost use Rattle.std.specs.Prelude.{◌≡◌, is_some, IfOk};
 ghost use Rattle.mmsyntax.specs.declared.statement.Assertion.{Assertion};
 ghost use Rattle.mmtext.specs.Text.{mark_of};
 ghost use Rattle.mmsyntax.specs.Tables.{Tables};
-ghost use Rattle.mmtext.specs.Languages.{Reads, Refuses};
-ghost use Rattle.mmsyntax.specs.Faults.{unit_at, unit_row, FaultyUnit};
+ghost use Rattle.mmtext.specs.Laws.{IsRead};
+ghost use Rattle.mmsyntax.specs.Faults.{unit_at, unit_row, unit_language};
 ghost use Rattle.mmsyntax.specs.Grammar.{SpellsUnit};
 ghost use Rattle.mmtext.specs.Views.{seen};
 ghost use Rattle.mmreader.specs.Standing.{Stands};
@@ -17,8 +15,8 @@ ghost use Rattle.mmreader.specs.Views.{seen_place, seen_position, IsUnitPlace, L
 
 use super::unit_rows::next_unit_place;
 use crate::place::{AssertionReader, Place, Scope, UnitPlace, is_outermost};
-use mmsyntax::{Assertion, Prelude, SymbolTable};
-use mmtext::{FaultKind, Mark, Reader, Stop, TextFault, Token, fault_at, no_memory, read_text};
+use mmsyntax::{Assertion, MOST_BYTES, Prelude, SymbolTable};
+use mmtext::{FaultKind, Mark, Reader, Stop, TextFault, Token, fault_at, read};
 use mmunits::Units;
 use std::alloc::Global;
 use std::hash::RandomState;
@@ -90,6 +88,10 @@ impl<'a> Reader<'a> for AssertionReader<'a> {
 
     ghost meaning = { λ assertion. assertion };
 
+    fn most_bytes(&self) -> usize {
+        MOST_BYTES
+    }
+
     fn take_word(&mut self, _alloc: Global, _token: Token<'a>) -> Result<bool, Stop> {
         Ok(false)
     }
@@ -124,25 +126,13 @@ pub fn read_assertion(
     prelude: &Prelude,
     text: &[u8],
 ) -> Result<Assertion, TextFault>
-    // What is read is spelled so.
-    ensures found { IfOk result (λ a. SpellsUnit prelude.now text.now a) }
-    // What is spelled so is read, if the text isn't too long, unless memory runs out.
-    ensures only { (a : Assertion) → length text.now ≤ 16777216 → SpellsUnit prelude.now text.now a → Reads result a }
-    // Any other fault than want of memory is the text's.
-    ensures fault { IfErr result (λ f. f.kind ≢ NoMemory → FaultyUnit prelude.now text.now f) }
-    // A fault is the text's, or want of memory, whose place is 0.
-    ensures place { IfErr result (λ f. (f ≡ record { place = 0; kind = NoMemory }) ⊎ FaultyUnit prelude.now text.now f) }
-    // A text with a fault is refused with it, unless memory runs out.
-    ensures refused { (f : TextFault) → FaultyUnit prelude.now text.now f → Refuses result f }
+    // What is read is spelled so, and what is spelled so is read, unless memory runs out; a fault is the text's, or want of memory.
+    ensures { IsRead (unit_language prelude.now) (SpellsUnit prelude.now) text.now result }
 {
     let reader = AssertionReader {
         symbols: prelude.symbols(),
         units: Units::new(alloc, keys, true),
         place: Place::Unit(UnitPlace::AtStart(Scope::Outside)),
     };
-    match read_text(alloc, reader, text) {
-        Ok(assertion) => Ok(assertion),
-        Err(Stop::Fault(fault)) => Err(fault),
-        Err(Stop::Memory) => Err(no_memory()),
-    }
+    read(alloc, reader, text)
 }
