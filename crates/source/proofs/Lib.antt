@@ -1,0 +1,3 @@
+pub mod Decoded
+pub mod Alike
+pub mod Sizes

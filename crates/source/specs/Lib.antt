@@ -1,0 +1,9 @@
+pub mod Statements
+pub mod Scopes
+pub mod Letters
+pub mod Proofs
+pub mod Tests
+pub mod Sources
+pub mod Faults
+pub mod Views
+pub mod Examples

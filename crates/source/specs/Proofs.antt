@@ -1,0 +1,200 @@
+-- What a proof denotes: a tree over hypotheses and assertions (Metamath book, sections 4.1.4 and 4.2.8; compressed proofs: appendix B).
+use Rattle.std.specs.Prelude.{◌≡◌, ℕ, ◌+◌, zero, suc, pred, Bool, List, [], ◌∷◌, ◌++◌, map, find, Option, Some, None, slice_get, if◌then◌else◌, ◌==◌}
+use Rattle.std.specs.Prelude.{false, ◌||◌, take_while, is_some}
+use mathlib.Core.Bool.{not}
+use Rattle.std.specs.Option.{option_map, option_and_then}
+use Rattle.std.specs.List.{list_any, flat_map}
+use Rattle.std.specs.Str.{bytes_eq}
+use Rattle.mmtext.specs.Words.{Word}
+use Rattle.source.specs.declared.letters.Code.{Code}
+use Rattle.source.specs.declared.letters.Code.TheVariants.{Number, Mark}
+use Rattle.source.specs.Statements.{Proof, normal, compressed}
+use Rattle.source.specs.Scopes.{Hypothesis, label_of, Assertion, is_unknown}
+use Rattle.source.specs.Letters.{decoded, codes_of}
+
+-- a label over the trees of what it takes: none of a hypothesis, and of an assertion one for each of its mandatory hypotheses
+mutual
+  pub data Tree : Type 0 where
+    node : Word → Trees → Tree
+
+  pub data Trees : Type 0 where
+    none : Trees
+    some : Tree → Trees → Trees
+
+-- ---- steps
+
+-- a label, a marked subproof again (from 0), or the mark of the subproof that ends here
+pub data Step : Type 0 where
+  names : Word → Step
+  again : ℕ → Step
+  marks : Step
+
+-- a number from 0: that of a label, or behind the labels of a marked subproof (appendix B)
+abbrev pub numbered : List Word → ℕ → Step
+numbered [] n = again n
+numbered (w ∷ ws) zero = names w
+numbered (w ∷ ws) (suc n) = numbered ws n
+
+-- a code; numbers count from 1
+abbrev pub step_of : List Word → Code → Step
+step_of labels (Number n) = numbered labels (pred n)
+step_of labels Mark = marks
+
+-- the steps of a proof: those of letters count the mandatory hypotheses, then the labels in parentheses, then the marked subproofs
+abbrev pub steps_of : List Hypothesis → Proof → Option (List Step)
+steps_of hypotheses (normal ws) = Some (map (λ w. names w) ws)
+steps_of hypotheses (compressed labels letters) =
+    option_map (map (step_of (map label_of hypotheses ++ labels))) (codes_of (flat_map (λ w. w) letters))
+
+-- ---- what labels take
+
+-- one entry for each mandatory hypothesis, and none where the label is that of an active hypothesis
+abbrev pub taken_by : List Assertion → List Hypothesis → Word → Option (List Hypothesis)
+taken_by earlier active w =
+    if list_any (λ h. bytes_eq w (label_of h)) active then Some []
+    else option_map (λ a. a.hypotheses) (find (λ a. bytes_eq w a.label) earlier)
+
+-- ---- the stack (section 4.1.4), whatever it holds: trees, or what stands for them
+
+-- the entries, the last first, and the marked ones, the first first
+pub record Stack (A : Type 0) : Type 0 where
+  pub entries : List A
+  pub marked : List A
+
+abbrev pub empty : {A : Type 0} → Stack A
+empty = record { entries = []; marked = [] }
+
+-- one entry for each hypothesis comes off, before those that came off
+abbrev pub pop : {A : Type 0} → List Hypothesis → List A → List A → Option (List A × List A)
+pop [] xs off = Some (off, xs)
+pop (h ∷ hs) [] off = None
+pop (h ∷ hs) (x ∷ xs) off = pop hs xs (x ∷ off)
+
+-- an entry goes on
+abbrev pub push : {A : Type 0} → Stack A → A → Stack A
+push s x = record s { entries = x ∷ s.entries }
+
+-- what a label makes of what came off goes on
+abbrev pub put : {A : Type 0} → (Word → List A → A) → Word → List A → Option (List A × List A) → Option (Stack A)
+put make w marked None = None
+put make w marked (Some p) = Some (record { entries = make w p.0 ∷ p.1; marked = marked })
+
+-- a label takes its entries, if what it names is there
+abbrev pub cite : {A : Type 0} → (Word → List A → A) → Word → Stack A → Option (List Hypothesis) → Option (Stack A)
+cite make w s None = None
+cite make w s (Some hs) = put make w s.marked (pop hs s.entries [])
+
+-- a marked entry again, if it is there
+abbrev pub repeat : {A : Type 0} → Stack A → Option A → Option (Stack A)
+repeat s None = None
+repeat s (Some x) = Some (push s x)
+
+-- the last entry is marked
+abbrev pub mark : {A : Type 0} → List A → List A → Option (Stack A)
+mark [] marked = None
+mark (x ∷ xs) marked = Some (record { entries = x ∷ xs; marked = marked ++ x ∷ [] })
+
+-- a step of a proof of which active hypotheses may be named, after earlier assertions
+abbrev pub stepped : {A : Type 0} → (Word → List A → A) → List Assertion → List Hypothesis → Stack A → Step → Option (Stack A)
+stepped make earlier active s (names w) = cite make w s (taken_by earlier active w)
+stepped make earlier active s (again n) = repeat s (slice_get s.marked n)
+stepped make earlier active s marks = mark s.entries s.marked
+
+-- steps one after the other
+abbrev pub run : {A : Type 0} → (Word → List A → A) → List Assertion → List Hypothesis → Option (Stack A) → List Step → Option (Stack A)
+run make earlier active s [] = s
+run make earlier active None (x ∷ xs) = None
+run make earlier active (Some s) (x ∷ xs) = run make earlier active (stepped make earlier active s x) xs
+
+-- one entry is left
+abbrev pub only : {A : Type 0} → List A → Option A
+only (x ∷ []) = Some x
+only _ = None
+
+abbrev pub single : {A : Type 0} → Option (Stack A) → Option A
+single None = None
+single (Some s) = only s.entries
+
+-- what steps make
+abbrev pub made : {A : Type 0} → (Word → List A → A) → List Assertion → List Hypothesis → List Step → Option A
+made make earlier active steps = single (run make earlier active (Some empty) steps)
+
+-- trees of a list
+abbrev pub over : List Tree → Trees
+over [] = none
+over (t ∷ ts) = some t (over ts)
+
+-- what steps denote
+abbrev pub denoted_by : List Assertion → List Hypothesis → List Step → Option Tree
+denoted_by earlier active steps = made (λ w ts. node w (over ts)) earlier active steps
+
+-- the code may keep something else than trees: what it makes is then what stands for the tree
+abbrev pub MadeAlike : Type 0 → Type 0 → Type 0
+MadeAlike A B =
+    (f : A → B) (a : Word → List A → A) (b : Word → List B → B) → ((w : Word) (xs : List A) → f (a w xs) ≡ b w (map f xs))
+    → (earlier : List Assertion) (active : List Hypothesis) (steps : List Step)
+    → made b earlier active steps ≡ option_map f (made a earlier active steps)
+
+-- how many steps list a tree
+abbrev mutual
+  pub size : Tree → ℕ
+  size (node w trees) = suc (sizes trees)
+
+  pub sizes : Trees → ℕ
+  sizes none = 0
+  sizes (some t ts) = size t + sizes ts
+
+abbrev pub total : List ℕ → ℕ
+total [] = 0
+total (n ∷ ns) = n + total ns
+
+-- it is made without the tree, in as many additions as the proof has steps and entries
+abbrev pub SizesAreMade : Type 0
+SizesAreMade =
+    (earlier : List Assertion) (active : List Hypothesis) (steps : List Step)
+    → made (λ w ns. suc (total ns)) earlier active steps ≡ option_map size (denoted_by earlier active steps)
+
+-- ---- proofs
+
+-- a step isn't there
+abbrev pub is_unfinished : Proof → Bool
+is_unfinished (normal ws) = list_any is_unknown ws
+is_unfinished (compressed labels letters) = list_any (list_any (λ b. b == 63)) letters
+
+-- the tree that the proof of an assertion denotes, after the earlier assertions
+abbrev pub denoted : List Assertion → Assertion → Option Tree
+denoted earlier a =
+    option_and_then (λ proof. option_and_then (denoted_by earlier a.active) (steps_of a.hypotheses proof)) a.proof
+
+-- ---- while a proof is read: whether what its steps take is there, until a step isn't there. Of what stands behind that nothing is asked
+
+-- a tree is on the stack, whichever
+abbrev pub there : Word → List (Unit {0}) → Unit {0}
+there w trees = tt
+
+-- each step takes what is there
+abbrev pub go_on : List Assertion → List Hypothesis → Option (List Step) → Bool
+go_on earlier active None = false
+go_on earlier active (Some steps) = is_some (run there earlier active (Some empty) steps)
+
+-- the labels in front of the first ?
+abbrev pub known_labels : List Word → List Word
+known_labels ws = take_while (λ w. not (is_unknown w)) ws
+
+-- the steps of labels do
+abbrev pub labels_go_on : List Assertion → List Hypothesis → List Word → Bool
+labels_go_on earlier active ws = go_on earlier active (Some (map (λ w. names w) (known_labels ws)))
+
+-- the letters in front of the first ?
+abbrev pub known_letters : List ℕ → List ℕ
+known_letters letters = take_while (λ b. not (b == 63)) letters
+
+-- the steps of letters do, of which the last number may be cut
+abbrev pub letters_go_on : List Assertion → List Hypothesis → List Word → List ℕ → Bool
+letters_go_on earlier active labels letters =
+    go_on earlier active (option_map (λ d. map (step_of labels) d.codes) (decoded 0 (known_letters letters)))
+
+-- a finished proof denotes a tree
+abbrev pub denotes : List Assertion → List Hypothesis → List Hypothesis → Proof → Bool
+denotes earlier active hypotheses proof =
+    is_unfinished proof || is_some (option_and_then (made there earlier active) (steps_of hypotheses proof))

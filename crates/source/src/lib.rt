@@ -1,0 +1,9 @@
+//! What a source in the whole language of Metamath declares, as plain data.
+#![tactic(auto)]
+
+pub mod laws;
+mod letters;
+mod standing;
+
+pub use letters::{Code, Turn, read_letters, take_letter};
+pub use standing::{ProofWords, Standing};
