@@ -45,3 +45,9 @@ pub returns-clause-refused : goal.returns-clause-refused
 returns-clause-refused g c f =
     database_faultless c.args.text.now c.in-Ok.db c.in-Ok.ensures.refused
     (λ contents is. c.in-Ok.ensures.only contents (short_text _ is.faultless) is.spelled) f c.in_ok-check_proofs.ensures.refused
+
+pub returns-clause-done : goal.returns-clause-done
+returns-clause-done g c = record {
+  read = record { spelled = c.in-Ok.ensures.found; faultless = c.in-Ok.ensures.refused };
+  checks = c.in_ok-check_proofs.ensures.done;
+}
