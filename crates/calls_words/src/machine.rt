@@ -1,8 +1,9 @@
 //! The machine: schedules whose ends are known, and all interleavings of two short transactions.
 
-ghost use Rattle.std.specs.Prelude.{◌<◌};
+ghost use Rattle.std.specs.Prelude.{◌<◌, ◌≤◌, OnOk};
 
 use std::alloc::{AllocError, Global};
+use std::process::Abort;
 use std::test::Fail;
 use tlcore::{Action, Ran, World, run_schedule, step};
 
@@ -49,6 +50,21 @@ fn expected(
     )
 }
 
+/// The world of a schedule ends so.
+fn assert_end(rt: &impl Abort, ran: &Ran, seat: usize, end: Shown) -> Result<(), Fail> {
+    assert_eq!(rt; shown(ran, seat), end);
+    Ok(())
+}
+
+/// A seat reads a cell.
+fn read(seat: usize, cell: usize) -> [Event; 3] {
+    [
+        (seat, Action::Look(cell)),
+        (seat, Action::Load(cell)),
+        (seat, Action::Relook(cell)),
+    ]
+}
+
 /// A seat begins, reads a cell, takes it with a value, draws, stores and releases.
 fn write(seat: usize, cell: usize, value: u64) -> [Event; 8] {
     [
@@ -75,41 +91,52 @@ fn run_parts(alloc: Global, parts: &[&[Event]]) -> Result<Ran, AllocError> {
     run_schedule(alloc, &world, &events)
 }
 
-/// Seat 1 writes 7 to cell 0, and seat 0 begins before, amid or after that.
+/// Seat 1 writes 7 to cell 0 in eight events, of which so many come before seat 0 begins; at the end seat 0 does something else.
+fn run_around(alloc: Global, front: usize, last: Event) -> Result<Ran, Fail> {
+    let all = write(1, 0, 7);
+    let (before, behind) = all.split_at_checked(front).ok_or("front")?;
+    Ok(run_parts(alloc, &[before, &[(0, Action::Begin)], behind, &[last]])?)
+}
+
+/// Seat 1 writes 7 to cell 0.
 #[test]
 fn a_run_commits(rt: HostRuntime) -> Result<(), Fail> {
-    let alloc = rt.alloc();
-    let all = write(1, 0, 7);
-    let (begin, look, draw) = ((0, Action::Begin), (0, Action::Look(0)), (0, Action::Draw));
-    for (row, took, conflicted) in [(0, 8, false), (1, 10, true), (2, 9, false), (3, 10, false)] {
-        let ran = match row {
-            0 => run_parts(alloc, &[&all])?,
-            1 => run_parts(alloc, &[&[begin], &all, &[look]])?,
-            2 => run_parts(alloc, &[&[begin], &all, &[draw]])?,
-            _ => run_parts(alloc, &[&all[..6], &[begin], &all[6..], &[look]])?,
-        };
-        let end = expected((took, 1), [2, 0], [7, 0], [Some(true), None], conflicted);
-        assert_eq!(rt; shown(&ran, 0), end, "row {row}");
-    }
-    let ran = run_parts(alloc, &[&all])?;
+    let ran = run_parts(rt.alloc(), &[&write(1, 0, 7)])?;
+    let end = expected((8, 1), [2, 0], [7, 0], [Some(true), None], false);
+    assert_end(&rt, &ran, 0, end)
+}
+
+/// There is no third cell, no fourth seat and no entry 0.
+#[test]
+fn nothing_else_is_shown(rt: HostRuntime) -> Result<(), Fail> {
+    let ran = run_parts(rt.alloc(), &[&write(1, 0, 7)])?;
+    assert_eq!(rt; (ran.world.lock(2), ran.world.value(2)), (None, None));
     assert_eq!(rt;
-        (
-            ran.world.lock(2),
-            ran.world.value(2),
-            ran.world.conflicted(3)
-        ),
-        (None, None, false)
+        (ran.world.conflicted(3), ran.world.settled(0)),
+        (false, None)
     );
-    assert_eq!(rt; (ran.world.settled(0), ran.world.settled(2)), (None, None));
     Ok(())
 }
 
-/// Seat 1 takes the first of its eight events and no more, and then seat 0 looks at its cell, or commits elsewhere.
+/// Seat 0 begins before that, and looks at the cell, or draws, behind it; or it begins amid it.
+#[test]
+fn a_run_meets_what_came_behind_its_begin(rt: HostRuntime) -> Result<(), Fail> {
+    let rows = [
+        (0, Action::Look(0), 10, true),
+        (0, Action::Draw, 9, false),
+        (6, Action::Look(0), 10, false),
+    ];
+    for (front, last, took, conflicted) in rows {
+        let ran = run_around(rt.alloc(), front, (0, last))?;
+        let end = expected((took, 1), [2, 0], [7, 0], [Some(true), None], conflicted);
+        assert_end(&rt, &ran, 0, end)?;
+    }
+    Ok(())
+}
+
+/// Seat 1 takes the first of its eight events and no more, and then seat 0 looks at its cell.
 #[test]
 fn a_seat_stops_for_good(rt: HostRuntime) -> Result<(), Fail> {
-    let alloc = rt.alloc();
-    let looks = [(0, Action::Begin), (0, Action::Look(0))];
-    let all = write(1, 0, 7);
     let rows = [
         (4, false, 0, None, 0, 0),
         (5, true, 0, None, 0, 1),
@@ -118,7 +145,7 @@ fn a_seat_stops_for_good(rt: HostRuntime) -> Result<(), Fail> {
         (8, false, 1, Some(true), 7, 2),
     ];
     for (front, conflicted, clock, settled, value, lock) in rows {
-        let ran = run_parts(alloc, &[all.get(..front).ok_or("front")?, &looks])?;
+        let ran = run_front(rt.alloc(), front)?;
         let end = expected(
             (front + 2, clock),
             [lock, 0],
@@ -126,100 +153,132 @@ fn a_seat_stops_for_good(rt: HostRuntime) -> Result<(), Fail> {
             [settled, None],
             conflicted,
         );
-        assert_eq!(rt; shown(&ran, 0), end, "front {front}");
+        assert_end(&rt, &ran, 0, end)?;
     }
-
-    // Another seat draws the next number, and its entry settles first.
-    let other = write(0, 1, 9);
-    let stopped = run_parts(alloc, &[&all[..6], &other])?;
-    let end = expected((14, 2), [1, 4], [0, 9], [None, Some(true)], false);
-    assert_eq!(rt; shown(&stopped, 0), end);
-    let late = run_parts(alloc, &[&all[..6], &other, &all[6..]])?;
-    let end = expected((16, 2), [2, 4], [7, 9], [Some(true), Some(true)], false);
-    assert_eq!(rt; shown(&late, 0), end);
     Ok(())
 }
 
-/// A draws 1 and B draws 2 and settles first; and a run that needs no check.
+/// So many events of seat 1, and then seat 0 begins and looks.
+fn run_front(alloc: Global, front: usize) -> Result<Ran, Fail>
+    ensures { OnOk result (front ≤ 8) }
+{
+    let all = write(1, 0, 7);
+    let front = all.get(..front).ok_or("front")?;
+    Ok(run_parts(alloc, &[front, &[(0, Action::Begin), (0, Action::Look(0))]])?)
+}
+
+/// Seat 1 has drawn 1 and stops. Another draws the next number, and its entry settles first.
 #[test]
-fn entries_settle_out_of_order(rt: HostRuntime) -> Result<(), Fail> {
-    let alloc = rt.alloc();
-    let a = write(0, 0, 8);
-    let b = write(1, 1, 9);
-    // A reader that begins between them reads what B wrote, and conflicts at A's cell.
-    let reads = [
-        (2, Action::Begin),
-        (2, Action::Look(1)),
-        (2, Action::Load(1)),
-        (2, Action::Relook(1)),
-    ];
-    let before = run_parts(alloc, &[&a[..6], &b, &reads])?;
-    let end = expected((18, 2), [1, 4], [0, 9], [None, Some(true)], false);
-    assert_eq!(rt; shown(&before, 2), end);
-    assert_eq!(rt; before.world.value_read(2, 1), Some(9));
-    let after = run_parts(
+fn a_later_entry_settles_first(rt: HostRuntime) -> Result<(), Fail> {
+    let (all, other) = (write(1, 0, 7), write(0, 1, 9));
+    let ran = run_parts(rt.alloc(), &[&all[..6], &other])?;
+    let end = expected((14, 2), [1, 4], [0, 9], [None, Some(true)], false);
+    assert_end(&rt, &ran, 0, end)
+}
+
+/// And then seat 1 goes on.
+#[test]
+fn an_earlier_entry_settles_late(rt: HostRuntime) -> Result<(), Fail> {
+    let (all, other) = (write(1, 0, 7), write(0, 1, 9));
+    let ran = run_parts(rt.alloc(), &[&all[..6], &other, &all[6..]])?;
+    let end = expected((16, 2), [2, 4], [7, 9], [Some(true), Some(true)], false);
+    assert_end(&rt, &ran, 0, end)
+}
+
+/// A draws 1 and B draws 2 and settles. A reader that begins then reads what B wrote; these events follow.
+fn run_between(alloc: Global, last: &[Event]) -> Result<Ran, AllocError> {
+    let (a, b) = (write(0, 0, 8), write(1, 1, 9));
+    run_parts(
         alloc,
-        &[&a[..6], &b, &reads, &[(2, Action::Look(0))], &a[6..]],
-    )?;
-    let end = expected((21, 2), [2, 4], [8, 9], [Some(true), Some(true)], true);
-    assert_eq!(rt; shown(&after, 2), end);
+        &[&a[..6], &b, &[(2, Action::Begin)], &read(2, 1), last],
+    )
+}
+
+/// The reader has read what B wrote, of entry 2, while entry 1 isn't settled.
+#[test]
+fn a_reader_reads_between_entries(rt: HostRuntime) -> Result<(), Fail> {
+    let ran = run_between(rt.alloc(), &[])?;
+    assert_eq!(rt; ran.world.value_read(2, 1), Some(9));
+    let end = expected((18, 2), [1, 4], [0, 9], [None, Some(true)], false);
+    assert_end(&rt, &ran, 2, end)
+}
+
+/// At A's cell, which A holds, it conflicts.
+#[test]
+fn a_reader_conflicts_at_a_held_cell(rt: HostRuntime) -> Result<(), Fail> {
+    let a = write(0, 0, 8);
+    let last = [(2, Action::Look(0)), a[6], a[7]];
+    let ran = run_between(rt.alloc(), &last)?;
     assert_eq!(rt;
-        (after.world.value_read(2, 1), after.world.value_read(2, 0)),
+        (ran.world.value_read(2, 1), ran.world.value_read(2, 0)),
         (Some(9), None)
     );
+    let end = expected((21, 2), [2, 4], [8, 9], [Some(true), Some(true)], true);
+    assert_end(&rt, &ran, 2, end)
+}
 
-    // X has read both cells when B takes one of them. Nobody drew a number in between, so X has nothing to check.
-    let x = [
-        (0, Action::Begin),
-        (0, Action::Look(0)),
-        (0, Action::Load(0)),
-        (0, Action::Relook(0)),
-        (0, Action::Look(1)),
-        (0, Action::Load(1)),
-        (0, Action::Relook(1)),
-        (0, Action::Take(1, 5)),
-        (0, Action::Draw),
+/// X begins and reads both cells; B takes the first of them; X takes the second with 5 and draws. Nobody drew a number in between. These events
+/// follow.
+fn run_unchecked(alloc: Global, last: &[Event]) -> Result<Ran, AllocError> {
+    let b = write(1, 0, 6);
+    let takes = [(0, Action::Take(1, 5)), (0, Action::Draw)];
+    run_parts(
+        alloc,
+        &[
+            &[(0, Action::Begin)],
+            &read(0, 0),
+            &read(0, 1),
+            &b[..5],
+            &takes,
+            last,
+        ],
+    )
+}
+
+/// X has nothing to check.
+#[test]
+fn no_check_is_due(rt: HostRuntime) -> Result<(), Fail> {
+    let ran = run_unchecked(rt.alloc(), &[(0, Action::Check(0))])?;
+    let end = expected((14, 1), [1, 1], [0, 0], [None, None], false);
+    assert_end(&rt, &ran, 0, end)
+}
+
+/// So X stores and releases, and then B.
+#[test]
+fn a_run_without_a_check_commits(rt: HostRuntime) -> Result<(), Fail> {
+    let b = write(1, 0, 6);
+    let last = [
         (0, Action::Store(1)),
         (0, Action::Release(1)),
+        b[5],
+        b[6],
+        b[7],
     ];
-    let b = write(1, 0, 6);
-    let checks = run_parts(
-        alloc,
-        &[&x[..7], &b[..5], &x[7..9], &[(0, Action::Check(0))]],
-    )?;
-    let end = expected((14, 1), [1, 1], [0, 0], [None, None], false);
-    assert_eq!(rt; shown(&checks, 0), end);
-    let stores = run_parts(alloc, &[&x[..7], &b[..5], &x[7..], &b[5..]])?;
+    let ran = run_unchecked(rt.alloc(), &last)?;
     let end = expected((19, 2), [4, 2], [6, 5], [Some(true), Some(true)], false);
-    assert_eq!(rt; shown(&stores, 0), end);
-    Ok(())
+    assert_end(&rt, &ran, 0, end)
 }
 
 /// X reads both cells, Y writes the first and commits, and X takes the second: its check fails, its entry is Void, and the lock is given back.
 #[test]
 fn a_failed_check_voids_the_entry(rt: HostRuntime) -> Result<(), Fail> {
-    let x = [
-        (0, Action::Begin),
-        (0, Action::Look(0)),
-        (0, Action::Load(0)),
-        (0, Action::Relook(0)),
-        (0, Action::Look(1)),
-        (0, Action::Load(1)),
-        (0, Action::Relook(1)),
+    let last = [
         (0, Action::Take(1, 9)),
         (0, Action::Draw),
         (0, Action::Check(0)),
         (0, Action::Release(1)),
     ];
     let y = write(1, 0, 1);
-    let ran = run_parts(rt.alloc(), &[&x[..7], &y, &x[7..]])?;
-    let end = expected((19, 2), [2, 0], [1, 0], [Some(true), Some(false)], true);
-    assert_eq!(rt; shown(&ran, 0), end);
+    let ran = run_parts(
+        rt.alloc(),
+        &[&[(0, Action::Begin)], &read(0, 0), &read(0, 1), &y, &last],
+    )?;
     assert_eq!(rt;
         (ran.world.value_read(0, 0), ran.world.value_read(3, 0)),
         (Some(0), None)
     );
-    Ok(())
+    let end = expected((19, 2), [2, 0], [1, 0], [Some(true), Some(false)], true);
+    assert_end(&rt, &ran, 0, end)
 }
 
 /// Two transactions on their way: how far each is in its program, and the values that it has loaded.
@@ -230,27 +289,35 @@ struct Walk {
     loaded: [[u64; 2]; 2],
 }
 
-/// The events of a seat's transaction: it reads both cells, and writes its own one by what it has loaded of the other.
-fn program(seat: usize, loaded: [u64; 2]) -> [Action; 12] {
-    let (own, other, value) = if seat == 0 {
-        (0, 1, loaded[1].wrapping_add(1))
+/// How many events a seat's transaction has.
+const EVENTS: usize = 12;
+
+/// An event of a seat's transaction, from 0: it reads both cells, and writes its own one by what it has loaded of the other.
+fn program(seat: usize, loaded: [u64; 2], index: usize) -> Action {
+    let (own, other) = if seat == 0 { (0, 1) } else { (1, 0) };
+    match index {
+        0 => Action::Begin,
+        1 => Action::Look(own),
+        2 => Action::Load(own),
+        3 => Action::Relook(own),
+        4 => Action::Look(other),
+        5 => Action::Load(other),
+        6 => Action::Relook(other),
+        7 => Action::Take(own, written(seat, loaded)),
+        8 => Action::Draw,
+        9 => Action::Check(other),
+        10 => Action::Store(own),
+        _ => Action::Release(own),
+    }
+}
+
+/// What a seat writes.
+fn written(seat: usize, loaded: [u64; 2]) -> u64 {
+    if seat == 0 {
+        loaded[1].wrapping_add(1)
     } else {
-        (1, 0, loaded[0].wrapping_mul(2))
-    };
-    [
-        Action::Begin,
-        Action::Look(own),
-        Action::Load(own),
-        Action::Relook(own),
-        Action::Look(other),
-        Action::Load(other),
-        Action::Relook(other),
-        Action::Take(own, value),
-        Action::Draw,
-        Action::Check(other),
-        Action::Store(own),
-        Action::Release(own),
-    ]
+        loaded[0].wrapping_mul(2)
+    }
 }
 
 /// The walk after the next event of a seat, or None where its transaction has ended. A check that isn't lawful is left out, and
@@ -258,20 +325,17 @@ fn program(seat: usize, loaded: [u64; 2]) -> [Action; 12] {
 fn turn(alloc: Global, walk: &Walk, seat: usize) -> Result<Option<Walk>, AllocError>
     requires { seat < 2 }
 {
-    let program = program(seat, walk.loaded[seat]);
-    for (index, action) in program.iter().enumerate() {
-        if index < walk.at[seat] {
-            continue;
-        }
-        if let Some(world) = step(alloc, &walk.world, seat, *action)? {
+    for index in walk.at[seat]..EVENTS {
+        let action = program(seat, walk.loaded[seat], index);
+        if let Some(world) = step(alloc, &walk.world, seat, action)? {
             let mut at = walk.at;
-            at[seat] = match (world.conflicted(seat), *action) {
+            at[seat] = match (world.conflicted(seat), action) {
                 (true, Action::Check(_)) => 11,
                 (true, _) => 12,
                 (false, _) => index + 1,
             };
             let mut loaded = walk.loaded;
-            if let Action::Load(cell) = *action
+            if let Action::Load(cell) = action
                 && cell < 2
             {
                 loaded[seat][cell] = walk.world.value(cell).unwrap_or(0);
