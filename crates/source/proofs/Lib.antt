@@ -3,3 +3,4 @@ pub mod Alike
 pub mod Sizes
 pub mod Passing
 pub mod InOrder
+pub mod Labels

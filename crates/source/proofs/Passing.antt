@@ -16,6 +16,12 @@ use Rattle.source.specs.Proofs.{labels_go_on}
 use Rattle.source.specs.Tests.{passes, constant_tests, variable_tests, type_tests, float_tests, distinct_tests, symbol_tests, named_tests}
 use Rattle.source.specs.Tests.{step_tests, cited_tests, letter_tests, is_letter}
 
+pub three_parts : (a b c : Bool) → (a && b && c) ≡ true → (a ≡ true) × (b ≡ true) × (c ≡ true)
+three_parts a b c h =
+    let front = and_parts (a && b) c h in
+    let both = and_parts a b front.0 in
+    (both.0, both.1, front.1)
+
 no_fault_in : (o : Option FaultKind) → is_none o ≡ true → o ≡ None
 no_fault_in None h = refl
 no_fault_in (Some kind) h = absurd cc
