@@ -55,7 +55,7 @@ one_more : (ls : List Word) (l : Word) → list_all is_label ls ≡ true → is_
 one_more ls l all h =
     list_all-append is_label ls (l ∷ []) ∙ ap (λ b. b && (is_label l && true)) all ∙ ap (λ b. b && true) h
 
-new_label : (s : Scope) (label : Word) → is_new_label s label ≡ true → is_label label ≡ true
+pub new_label : (s : Scope) (label : Word) → is_new_label s label ≡ true → is_label label ≡ true
 new_label s label h = (and_parts (is_label label) (passes (label_tests s label)) h).0
 
 mutual

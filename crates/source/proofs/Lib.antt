@@ -4,3 +4,4 @@ pub mod Sizes
 pub mod Passing
 pub mod InOrder
 pub mod Labels
+pub mod Ordinary
