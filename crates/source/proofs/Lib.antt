@@ -5,3 +5,5 @@ pub mod Passing
 pub mod InOrder
 pub mod Labels
 pub mod Ordinary
+pub mod Leading
+pub mod LeadingRows
