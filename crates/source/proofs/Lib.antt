@@ -7,3 +7,4 @@ pub mod Labels
 pub mod Ordinary
 pub mod Leading
 pub mod LeadingRows
+pub mod LeadingStatements
