@@ -49,6 +49,13 @@ constant_read : (p : Position) (b : Bool) (t : Token)
 constant_read p true t = refl
 constant_read p false t = refl
 
+-- a symbol more
+pub constant_next : (s : Scope) (around : List Scope) (front : List Word) (w : Word)
+    → there (behind (constants_at s front) (a_constant w)) around (in_constants true) ≡ constant_place s around (front ++ w ∷ [])
+constant_next s around front w =
+    ap (λ x. there x around (in_constants true)) (one_constant s front w)
+    ∙ ap (λ b. there (constants_at s (front ++ w ∷ [])) around (in_constants b)) (sym (one_stands front w))
+
 pub constant_leads : (s : Scope) (around : List Scope) (front : List Word) (t : Token) → passes (constant_tests_at s front t.text) ≡ true
     → row (constant_place s around front) t ≡ Ok (constant_place s around (front ++ t.text ∷ []))
 constant_leads s around front t h =
@@ -57,8 +64,7 @@ constant_leads s around front t h =
     plain_row p t (Ok (constant_place s around (front ++ w ∷ []))) (constant_plain (constants_at s front) w h)
     (constant_read p (nat_le 1 (length front)) t
     ∙ passed t (constant_tests_at s front w) (declares p (a_constant w) (in_constants true)) h
-    ∙ ap (λ x. Ok (there x around (in_constants true))) (one_constant s front w)
-    ∙ ap (λ b. Ok (there (constants_at s (front ++ w ∷ [])) around (in_constants b))) (sym (one_stands front w)))
+    ∙ ap (λ x. Ok x) (constant_next s around front w))
 
 abbrev pub variable_place : Scope → List Scope → List Word → Position
 variable_place s around front = there (variables_at s front) around (in_variables (nat_le 1 (length front)))
@@ -69,6 +75,13 @@ variable_read : (p : Position) (b : Bool) (t : Token)
 variable_read p true t = refl
 variable_read p false t = refl
 
+-- a symbol more
+pub variable_next : (s : Scope) (around : List Scope) (front : List Word) (w : Word)
+    → there (behind (variables_at s front) (a_variable w)) around (in_variables true) ≡ variable_place s around (front ++ w ∷ [])
+variable_next s around front w =
+    ap (λ x. there x around (in_variables true)) (one_variable s front w)
+    ∙ ap (λ b. there (variables_at s (front ++ w ∷ [])) around (in_variables b)) (sym (one_stands front w))
+
 pub variable_leads : (s : Scope) (around : List Scope) (front : List Word) (t : Token) → passes (variable_tests_at s front t.text) ≡ true
     → row (variable_place s around front) t ≡ Ok (variable_place s around (front ++ t.text ∷ []))
 variable_leads s around front t h =
@@ -77,8 +90,7 @@ variable_leads s around front t h =
     plain_row p t (Ok (variable_place s around (front ++ w ∷ []))) (variable_plain (variables_at s front) w h)
     (variable_read p (nat_le 1 (length front)) t
     ∙ passed t (variable_tests_at s front w) (declares p (a_variable w) (in_variables true)) h
-    ∙ ap (λ x. Ok (there x around (in_variables true))) (one_variable s front w)
-    ∙ ap (λ b. Ok (there (variables_at s (front ++ w ∷ [])) around (in_variables b))) (sym (one_stands front w)))
+    ∙ ap (λ x. Ok x) (variable_next s around front w))
 
 pub constants_end : (s : Scope) (around : List Scope) (ws : List Word) (t : Token) → nat_le 1 (length ws) ≡ true → t.text ≡ codes "$."
     → row (constant_place s around ws) t ≡ Ok (home (behind s (constants ws)) around)

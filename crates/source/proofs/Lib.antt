@@ -8,3 +8,4 @@ pub mod Ordinary
 pub mod Leading
 pub mod LeadingRows
 pub mod LeadingStatements
+pub mod ParsedRows
