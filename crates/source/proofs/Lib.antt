@@ -9,3 +9,4 @@ pub mod Leading
 pub mod LeadingRows
 pub mod LeadingStatements
 pub mod ParsedRows
+pub mod Parsed
