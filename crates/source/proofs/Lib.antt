@@ -10,3 +10,4 @@ pub mod LeadingRows
 pub mod LeadingStatements
 pub mod ParsedRows
 pub mod Parsed
+pub mod ParsedStatements

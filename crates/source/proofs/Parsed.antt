@@ -108,6 +108,13 @@ pub record ReadsProof (s : Scope) (around : List Scope) (label : Word) (e : List
   pub walks : walk source_language (home (behind s (proved label e proof)) around) rest ≡ Ok final
   pub shorter : length rest < length ts
 
+-- the words of a compressed proof, part by part
+compressed_words : (w : Word) (all others labels letters more : List Word) → w ≡ codes "(" → all ≡ labels ++ codes ")" ∷ others
+    → others ≡ letters ++ codes "$." ∷ more → w ∷ all ≡ proof_spelling (compressed labels letters) ++ codes "$." ∷ more
+compressed_words w all others labels letters more is h g =
+    ap (λ x. x ∷ all) is ∙ ap (λ x. codes "(" ∷ x) (h ∙ ap (λ x. labels ++ codes ")" ∷ x) g)
+    ∙ ap (λ x. codes "(" ∷ x) (sym (append_assoc labels (codes ")" ∷ letters) (codes "$." ∷ more)))
+
 module _ (final : Position) (e : final.place ≡ at_start) where
   float_ends : (s : Scope) (around : List Scope) (label : Word) (tc tv : Token) (ts : List Token) → passes (type_tests s tc.text) ≡ true
       → passes (float_tests s tv.text) ≡ true → walk source_language (there s around (float_end label tc.text tv.text)) ts ≡ Ok final
@@ -181,9 +188,7 @@ module _ (final : Position) (e : final.place ≡ at_start) where
       record {
         proof = proof;
         rest = l.rest;
-        parts =
-            ap (λ w. w ∷ words_of ts) is ∙ ap (λ ws. codes "(" ∷ ws) o.parts ∙ ap (λ ws. codes "(" ∷ (o.words ++ codes ")" ∷ ws)) l.parts
-            ∙ ap (λ ws. codes "(" ∷ ws) (sym (append_assoc o.words (codes ")" ∷ l.words) (codes "$." ∷ words_of l.rest)));
+        parts = compressed_words t.text (words_of ts) (words_of o.rest) o.words l.words (words_of l.rest) is o.parts l.parts;
         lawful =
             two_true (has_lawful_words s x proof) (is_whole s x proof)
             (three_true (list_all (λ w. passes (cited_tests s x w)) o.words) (one_or_more l.words) (all_pass (letter_tests s x o.words) [] l.words)
