@@ -1,13 +1,13 @@
 -- Behind lawful statements every label is a label token, so that no parenthesis is a label in a proof.
-use Rattle.std.proofs.Common.{◌≡◌, Bool, true, false, List, [], ◌∷◌, ◌++◌, refl, sym, ap, ◌∙◌, inl, inr, append-nil}
-use Rattle.std.specs.Prelude.{◌&&◌, ◌||◌, codes, nat_le, length}
-use Rattle.std.specs.List.{list_any, list_all}
+use Rattle.std.proofs.Common.{◌≡◌, true, false, List, [], ◌∷◌, ◌++◌, refl, sym, ap, ◌∙◌, inl, inr}
+use Rattle.std.specs.Prelude.{◌&&◌, ◌||◌, codes}
+use Rattle.std.specs.List.{list_all}
 use Rattle.std.specs.Str.{bytes_eq}
 use Rattle.std.proofs.lemmas.Bool.{cases_Bool, and_parts}
 use Rattle.std.proofs.lemmas.List.Folds.{list_all-append}
 use Rattle.mmtext.specs.Words.{Word, is_label}
 use Rattle.mmtext.proofs.Marks.{same_word}
-use Rattle.source.specs.Statements.{Proof, Statement, constants, variables, float, hypothesis, distinct, asserted, proved, block}
+use Rattle.source.specs.Statements.{Statement, constants, variables, float, hypothesis, distinct, asserted, proved, block}
 use Rattle.source.specs.Statements.{Statements, none, some}
 use Rattle.source.specs.Scopes.{Scope, is_in, is_unknown, enter, behind, behind_all}
 use Rattle.source.specs.Tests.{passes, label_tests, type_tests, float_tests, is_new_label, is_expression, is_lawful_proof, step_tests, cited_tests}

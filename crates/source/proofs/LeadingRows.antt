@@ -1,8 +1,8 @@
 -- What passes its tests leads through the rows of the table: words of each list, labels, and the keywords that begin and end statements.
-use Rattle.std.proofs.Common.{◌≡◌, ℕ, suc, Bool, true, false, cond, List, [], ◌∷◌, ◌++◌, length, Option, None, Ok, refl, sym, ap, ◌∙◌}
+use Rattle.std.proofs.Common.{◌≡◌, ℕ, Bool, true, false, List, [], ◌∷◌, ◌++◌, length, Ok, refl, sym, ap, ◌∙◌}
 use Rattle.std.specs.Prelude.{codes, nat_le}
 use Rattle.std.specs.Str.{bytes_eq}
-use Rattle.std.proofs.lemmas.Bool.{and_parts, cond-true, cond-false}
+use Rattle.std.proofs.lemmas.Bool.{cond-true, cond-false}
 use Rattle.mmtext.specs.declared.fault.FaultKind.TheVariants.{BadToken}
 use Rattle.mmtext.specs.declared.mark.Mark.TheVariants as mark
 use Rattle.mmtext.specs.Words.{Word, has_dollar, is_label}
@@ -10,15 +10,15 @@ use Rattle.mmtext.specs.Text.{Token, mark_of}
 use Rattle.mmtext.specs.Languages.{fault}
 use Rattle.mmtext.proofs.Marks.{mark_plain, label_plain}
 use Rattle.mmsyntax.specs.Rows.{Tests}
-use Rattle.source.specs.Statements.{Proof, normal, compressed, Statement, constants, variables, float, hypothesis, distinct, asserted, proved}
-use Rattle.source.specs.Scopes.{Scope, Stand, enter, leave, behind}
+use Rattle.source.specs.Statements.{normal, compressed, constants, variables, float, hypothesis, distinct, asserted, proved}
+use Rattle.source.specs.Scopes.{Scope, enter, leave, behind}
 use Rattle.source.specs.Tests.{passes, label_tests, type_tests, float_tests, distinct_tests, symbol_tests, step_tests, cited_tests, letter_tests}
 use Rattle.source.specs.Tests.{constant_tests, variable_tests, a_constant, a_variable, is_whole}
-use Rattle.source.specs.Faults.{Place, at_start, after_label, in_constants, in_variables, in_distinct, float_type, float_variable, float_end}
+use Rattle.source.specs.Faults.{Place, after_label, in_constants, in_variables, in_distinct, float_type, float_variable, float_end}
 use Rattle.source.specs.Faults.{in_hypothesis, in_axiom, in_theorem, in_steps, in_labels, in_letters, Position, Next, to, tested, faulted, declares}
-use Rattle.source.specs.Faults.{constant_row, variable_row, distinct_row, next_step, labels_row, letters_row, ends, ends_proof, in_place, row}
-use Rattle.source.proofs.Passing.{no_fault, constant_plain, variable_plain, type_plain, float_plain, distinct_plain, symbol_plain}
-use Rattle.source.proofs.Passing.{step_plain, cited_plain, letter_plain}
+use Rattle.source.specs.Faults.{constant_row, variable_row, distinct_row, next_step, letters_row, in_place, row}
+use Rattle.source.proofs.Passing.{no_fault, constant_plain, variable_plain, distinct_plain, symbol_plain}
+use Rattle.source.proofs.Passing.{step_plain, letter_plain}
 use Rattle.source.proofs.InOrder.{constants_at, variables_at, constant_tests_at, variable_tests_at, one_constant, one_variable, one_stands}
 use Rattle.source.proofs.Labels.{HasLabels, step_apart, cited_apart}
 use Rattle.source.proofs.Leading.{there, home}

@@ -1,6 +1,6 @@
 -- The words of lawful statements lead from before them to behind them.
-use Rattle.std.proofs.Common.{◌≡◌, ℕ, Bool, true, false, List, [], ◌∷◌, ◌++◌, length, Ok, sym, ap, subst, ◌∙◌}
-use Rattle.std.specs.Prelude.{◌&&◌, codes, nat_le}
+use Rattle.std.proofs.Common.{◌≡◌, true, false, List, [], ◌∷◌, ◌++◌, length, Ok, sym, ap, ◌∙◌}
+use Rattle.std.specs.Prelude.{codes, nat_le}
 use Rattle.std.specs.List.{list_all}
 use Rattle.std.proofs.lemmas.Bool.{and_parts}
 use Rattle.mmtext.specs.Words.{Word, is_label}
@@ -11,10 +11,10 @@ use Rattle.source.specs.Tests.{passes, label_tests, constant_tests, variable_tes
 use Rattle.source.specs.Tests.{step_tests, cited_tests, letter_tests, all_pass, is_new_label, is_expression, has_lawful_words, is_whole}
 use Rattle.source.specs.Tests.{is_lawful_proof, each_declared, a_constant, a_variable, is_lawful, are_lawful}
 use Rattle.source.specs.Faults.{Place, after_label, in_constants, in_variables, in_distinct, float_type, float_variable, float_end}
-use Rattle.source.specs.Faults.{in_hypothesis, in_axiom, in_theorem, in_steps, in_labels, in_letters, Position, row}
+use Rattle.source.specs.Faults.{in_hypothesis, in_axiom, in_theorem, in_steps, in_labels, in_letters, Position}
 use Rattle.source.proofs.Passing.{three_parts}
 use Rattle.source.proofs.InOrder.{constant_tests_at, variable_tests_at, no_constants, no_variables, constants_pass, variables_pass, each_alone}
-use Rattle.source.proofs.Labels.{HasLabels, labels_stay, all_labels_stay}
+use Rattle.source.proofs.Labels.{HasLabels, labels_stay}
 use Rattle.source.proofs.Leading.{there, home, Leads, no_word, word_leads, one_word, two_words, words_lead, each_leads}
 use Rattle.source.proofs.LeadingRows.{constant_place, constant_leads, constants_begin, constants_end, variable_place, variable_leads}
 use Rattle.source.proofs.LeadingRows.{variables_begin, variables_end, distinct_begin, distinct_leads, distinct_end, ReadsSymbols}

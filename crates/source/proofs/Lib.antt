@@ -11,3 +11,4 @@ pub mod LeadingStatements
 pub mod ParsedRows
 pub mod Parsed
 pub mod ParsedStatements
+pub mod SourceLaws

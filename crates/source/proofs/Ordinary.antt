@@ -1,10 +1,10 @@
 -- The words of lawful statements are ordinary: none opens or closes a comment or includes a file.
-use Rattle.std.proofs.Common.{◌≡◌, Bool, true, List, [], ◌∷◌, ◌++◌, refl, sym, ◌∙◌}
-use Rattle.std.specs.Prelude.{◌&&◌, All, codes, nat_le, length}
+use Rattle.std.proofs.Common.{◌≡◌, true, List, [], ◌∷◌, ◌++◌, refl, sym, ◌∙◌}
+use Rattle.std.specs.Prelude.{All, codes, nat_le, length}
 use Rattle.std.specs.List.{list_all}
 use Rattle.std.proofs.lemmas.Bool.{and_parts}
 use Rattle.std.proofs.lemmas.List.Elements.{All-nil, All-cons, All-append}
-use Rattle.mmtext.specs.Words.{Word, is_label}
+use Rattle.mmtext.specs.Words.{Word}
 use Rattle.mmtext.specs.Text.{mark_of}
 use Rattle.mmtext.proofs.Marks.{label_plain}
 use Rattle.mmtext.proofs.CommentLaws.{IsOrdinary, plain_is_ordinary}
@@ -79,6 +79,7 @@ proof_ordinary s e proof h =
 
 mutual
   unfolding mark_of
+
   pub statement_ordinary : (s : Scope) (x : Statement) → is_lawful s x ≡ true → All IsOrdinary (spelling x)
   statement_ordinary s (constants ws) h =
       let parts = three_parts s.outermost (nat_le 1 (length ws)) (each_declared a_constant constant_tests s ws) h in

@@ -1,7 +1,7 @@
 -- Tokens that lead from a place in a statement to the end of a text have the words of a list, a $f or a proof, and go on behind them.
-use Rattle.std.proofs.Common.{◌≡◌, ℕ, ◌<◌, Bool, true, List, [], ◌∷◌, ◌++◌, length, Ok, refl, sym, ap, subst, ◌∙◌, inl, inr, arith}
+use Rattle.std.proofs.Common.{◌≡◌, ◌<◌, Bool, true, List, [], ◌∷◌, ◌++◌, length, Ok, refl, sym, ap, subst, ◌∙◌, inl, inr, arith}
 use Rattle.std.proofs.Common.{append_assoc, append-nil}
-use Rattle.std.specs.Prelude.{◌&&◌, codes, nat_le}
+use Rattle.std.specs.Prelude.{◌&&◌, codes}
 use Rattle.std.specs.List.{list_all}
 use Rattle.std.proofs.lemmas.Bool.{and_parts}
 use Rattle.mmtext.specs.Words.{Word}
@@ -13,7 +13,7 @@ use Rattle.source.specs.Statements.{Proof, normal, compressed, float, proved, pr
 use Rattle.source.specs.Scopes.{Scope, behind}
 use Rattle.source.specs.Tests.{passes, type_tests, float_tests, step_tests, cited_tests, letter_tests, all_pass, has_lawful_words, is_whole}
 use Rattle.source.specs.Tests.{is_lawful_proof}
-use Rattle.source.specs.Faults.{Place, at_start, float_type, float_variable, float_end, in_steps, in_labels, in_letters, Position, row}
+use Rattle.source.specs.Faults.{Place, at_start, float_type, float_variable, float_end, in_steps, in_labels, in_letters, Position}
 use Rattle.source.specs.Faults.{source_language}
 use Rattle.source.proofs.InOrder.{each_alone, behind_first, one_at_least}
 use Rattle.source.proofs.Leading.{there, home}

@@ -1,12 +1,10 @@
 -- What leads through the rows of the table passed its tests: each row, by where it leads.
-use Rattle.std.proofs.Common.{◌≡◌, ℕ, Bool, true, false, cond, List, [], ◌∷◌, ◌++◌, length, Option, Some, None, Result, Ok, Err, refl, sym, ap, ◌∙◌}
+use Rattle.std.proofs.Common.{◌≡◌, Bool, true, false, cond, List, [], ◌∷◌, ◌++◌, length, Option, Some, None, Ok, refl, sym, ap, ◌∙◌}
 use Rattle.std.proofs.Common.{◌⊎◌, inl, inr}
 use Rattle.std.specs.Prelude.{◌&&◌, codes, nat_le, is_none}
 use Rattle.std.specs.Str.{bytes_eq}
-use Rattle.std.proofs.lemmas.Bool.{cases_Bool}
 use Rattle.mmtext.specs.declared.fault.FaultKind.{FaultKind}
 use Rattle.mmtext.specs.declared.fault.FaultKind.TheVariants.{BadToken}
-use Rattle.mmtext.specs.declared.fault.TextFault.{TextFault}
 use Rattle.mmtext.specs.declared.mark.Mark.{Mark}
 use Rattle.mmtext.specs.declared.mark.Mark.TheVariants as mark
 use Rattle.mmtext.specs.Words.{Word, is_label}
@@ -14,12 +12,12 @@ use Rattle.mmtext.specs.Text.{Token, mark_of}
 use Rattle.mmtext.specs.Languages.{fault}
 use Rattle.mmtext.proofs.Marks.{same_word, Says, says}
 use Rattle.mmsyntax.specs.Rows.{Tests, first_fault}
-use Rattle.source.specs.Statements.{Proof, normal, compressed, Statement, constants, variables, float, hypothesis, distinct, asserted, proved}
-use Rattle.source.specs.Scopes.{Scope, Stand, closed_in, enter, leave, behind}
+use Rattle.source.specs.Statements.{normal, compressed, constants, variables, float, hypothesis, distinct, asserted, proved}
+use Rattle.source.specs.Scopes.{Scope, closed_in, enter, leave, behind}
 use Rattle.source.specs.Tests.{passes, label_tests, type_tests, float_tests, distinct_tests, symbol_tests, step_tests, cited_tests, letter_tests}
-use Rattle.source.specs.Tests.{constant_tests, variable_tests, a_constant, a_variable, is_whole}
-use Rattle.source.specs.Faults.{Place, at_start, after_label, in_constants, in_variables, in_distinct, float_type, float_variable, float_end}
-use Rattle.source.specs.Faults.{in_hypothesis, in_axiom, in_theorem, in_steps, in_labels, in_letters, Position, Next, tested, faulted}
+use Rattle.source.specs.Tests.{a_constant, a_variable, is_whole}
+use Rattle.source.specs.Faults.{after_label, in_constants, in_variables, in_distinct, float_type, float_variable, float_end}
+use Rattle.source.specs.Faults.{in_hypothesis, in_axiom, in_theorem, in_steps, in_labels, in_letters, Position, tested, faulted}
 use Rattle.source.specs.Faults.{closes, start_row, keyword_row, constant_row, variable_row, in_place, row}
 use Rattle.source.proofs.InOrder.{constants_at, variables_at, constant_tests_at, variable_tests_at, one_at_least, two_at_least}
 use Rattle.source.proofs.Leading.{there, home}

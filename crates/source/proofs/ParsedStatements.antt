@@ -1,7 +1,7 @@
 -- Tokens that lead from between statements to the end of a text have the words of lawful statements, block in block.
-use Rattle.std.proofs.Common.{◌≡◌, ℕ, zero, suc, ◌<◌, ◌≤◌, Bool, true, false, List, [], ◌∷◌, ◌++◌, length, Ok, refl, sym, ap, subst, ◌∙◌, arith}
+use Rattle.std.proofs.Common.{◌≡◌, ℕ, zero, suc, ◌<◌, ◌≤◌, true, false, List, [], ◌∷◌, ◌++◌, length, Ok, refl, sym, ap, subst, ◌∙◌, arith}
 use Rattle.std.proofs.Common.{append_assoc}
-use Rattle.std.specs.Prelude.{◌&&◌, codes}
+use Rattle.std.specs.Prelude.{codes}
 use Rattle.mmtext.specs.Words.{Word, is_label}
 use Rattle.mmtext.specs.Text.{Token}
 use Rattle.mmtext.specs.Comments.{words_of}
@@ -20,7 +20,7 @@ use Rattle.source.proofs.LeadingRows.{constant_place, variable_place}
 use Rattle.source.proofs.ParsedRows.{one_or_more, two_or_more, constants_go, variables_go, distinct_go, hypothesis_go, axiom_go, theorem_go}
 use Rattle.source.proofs.ParsedRows.{Labelled, of_float, of_hypothesis, of_axiom, of_theorem, keyword_goes, Starts, of_constants, of_variables}
 use Rattle.source.proofs.ParsedRows.{of_distinct, of_block, of_end, of_label, start_goes}
-use Rattle.source.proofs.Parsed.{IsInner, no_end, onward, two_true, three_true, ReadsWords, reads_words, reads_float, reads_proof}
+use Rattle.source.proofs.Parsed.{no_end, onward, two_true, three_true, reads_words, reads_float, reads_proof}
 
 -- ---- one statement
 

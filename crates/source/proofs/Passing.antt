@@ -1,5 +1,5 @@
 -- What passing tests say of a word: it has no $, and it is declared where the test asks for that.
-use Rattle.std.proofs.Common.{◌≡◌, ℕ, Bool, true, false, cond, eqb, List, [], ◌∷◌, ◌++◌, length, Option, Some, None, refl, sym, ap, subst, ◌∙◌}
+use Rattle.std.proofs.Common.{◌≡◌, ℕ, Bool, true, false, cond, eqb, List, [], ◌∷◌, ◌++◌, Option, Some, None, refl, sym, ap, subst, ◌∙◌}
 use Rattle.std.proofs.Common.{inl, inr}
 use Rattle.std.specs.Prelude.{is_none, codes, ◌||◌, ◌&&◌}
 use Rattle.std.specs.List.{list_any, list_all}
@@ -7,7 +7,7 @@ use Rattle.std.specs.Str.{bytes_eq}
 use mathlib.Core.Bool.{not}
 use Rattle.std.proofs.lemmas.Bool.{cases_Bool, eqb-true, and_parts, not-false}
 use Rattle.mmtext.specs.declared.fault.FaultKind.{FaultKind}
-use Rattle.mmtext.specs.declared.fault.FaultKind.TheVariants.{BadToken, UnknownLabel, NotActive, RepeatedLabel}
+use Rattle.mmtext.specs.declared.fault.FaultKind.TheVariants.{BadToken, UnknownLabel, NotActive}
 use Rattle.mmtext.specs.Words.{Word, has_dollar}
 use Rattle.mmtext.proofs.Marks.{same_word}
 use Rattle.mmsyntax.specs.Rows.{Tests, first_fault}
