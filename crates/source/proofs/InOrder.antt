@@ -35,12 +35,14 @@ no_variables s =
     ap (λ x. record s { variables = x; symbols = s.symbols ++ [] }) (append-nil s.variables)
     ∙ ap (λ x. record s { symbols = x }) (append-nil s.symbols)
 
-pub one_constant : (s : Scope) (front : List Word) (w : Word) → behind (constants_at s front) (a_constant w) ≡ constants_at s (front ++ w ∷ [])
+pub one_constant : (s : Scope) (front : List Word) (w : Word)
+    → behind (constants_at s front) (a_constant w) ≡ constants_at s (front ++ w ∷ [])
 one_constant s front w =
     ap (λ x. record s { constants = x; symbols = (s.symbols ++ front) ++ w ∷ [] }) (append_assoc s.constants front (w ∷ []))
     ∙ ap (λ x. record s { constants = s.constants ++ (front ++ w ∷ []); symbols = x }) (append_assoc s.symbols front (w ∷ []))
 
-pub one_variable : (s : Scope) (front : List Word) (w : Word) → behind (variables_at s front) (a_variable w) ≡ variables_at s (front ++ w ∷ [])
+pub one_variable : (s : Scope) (front : List Word) (w : Word)
+    → behind (variables_at s front) (a_variable w) ≡ variables_at s (front ++ w ∷ [])
 one_variable s front w =
     ap (λ x. record s { variables = x; symbols = (s.symbols ++ front) ++ w ∷ [] }) (append_assoc s.variables front (w ∷ []))
     ∙ ap (λ x. record s { variables = s.variables ++ (front ++ w ∷ []); symbols = x }) (append_assoc s.symbols front (w ∷ []))

@@ -10,7 +10,8 @@ use Rattle.mmtext.proofs.Marks.{same_word}
 use Rattle.source.specs.Statements.{Statement, constants, variables, float, hypothesis, distinct, asserted, proved, block}
 use Rattle.source.specs.Statements.{Statements, none, some}
 use Rattle.source.specs.Scopes.{Scope, is_in, is_unknown, enter, behind, behind_all}
-use Rattle.source.specs.Tests.{passes, label_tests, type_tests, float_tests, is_new_label, is_expression, is_lawful_proof, step_tests, cited_tests}
+use Rattle.source.specs.Tests.{passes, label_tests, type_tests, float_tests, is_new_label, is_expression, is_lawful_proof, step_tests}
+use Rattle.source.specs.Tests.{cited_tests}
 use Rattle.source.specs.Tests.{is_lawful, are_lawful}
 use Rattle.source.proofs.Passing.{three_parts, step_labelled, cited_labelled}
 

@@ -12,10 +12,12 @@ use Rattle.mmtext.proofs.Marks.{mark_plain, label_plain}
 use Rattle.mmsyntax.specs.Rows.{Tests}
 use Rattle.source.specs.Statements.{normal, compressed, constants, variables, float, hypothesis, distinct, asserted, proved}
 use Rattle.source.specs.Scopes.{Scope, enter, leave, behind}
-use Rattle.source.specs.Tests.{passes, label_tests, type_tests, float_tests, distinct_tests, symbol_tests, step_tests, cited_tests, letter_tests}
+use Rattle.source.specs.Tests.{passes, label_tests, type_tests, float_tests, distinct_tests, symbol_tests, step_tests, cited_tests}
+use Rattle.source.specs.Tests.{letter_tests}
 use Rattle.source.specs.Tests.{constant_tests, variable_tests, a_constant, a_variable, is_whole}
 use Rattle.source.specs.Faults.{Place, after_label, in_constants, in_variables, in_distinct, float_type, float_variable, float_end}
-use Rattle.source.specs.Faults.{in_hypothesis, in_axiom, in_theorem, in_steps, in_labels, in_letters, Position, Next, to, tested, faulted, declares}
+use Rattle.source.specs.Faults.{in_hypothesis, in_axiom, in_theorem, in_steps, in_labels, in_letters, Position, Next, to, tested, faulted}
+use Rattle.source.specs.Faults.{declares}
 use Rattle.source.specs.Faults.{constant_row, variable_row, distinct_row, next_step, letters_row, in_place, row}
 use Rattle.source.proofs.Passing.{no_fault, constant_plain, variable_plain, distinct_plain, symbol_plain}
 use Rattle.source.proofs.Passing.{step_plain, letter_plain}
@@ -130,7 +132,8 @@ unfolding row mark_of
 distinct_end s around [] t some e = absurd (let x : false ≡ true = some in cc)
 distinct_end s around (v ∷ []) t some e = absurd (let x : false ≡ true = some in cc)
 distinct_end s around (v ∷ w ∷ vs) t some e =
-    word_row (there s around (in_distinct (v ∷ w ∷ vs))) (codes "$.") (Ok (home (behind s (distinct (v ∷ w ∷ vs))) around)) t (λ place. refl) e
+    word_row (there s around (in_distinct (v ∷ w ∷ vs))) (codes "$.") (Ok (home (behind s (distinct (v ∷ w ∷ vs))) around)) t
+    (λ place. refl) e
 
 -- ---- the symbols of $e, $a and $p
 
@@ -153,7 +156,8 @@ theorem_symbols label p [] t = refl
 theorem_symbols label p (c ∷ e) t = refl
 
 pub symbol_leads : (place : List Word → Place) → ReadsSymbols place → (s : Scope) (around : List Scope) (front : List Word) (t : Token)
-    → passes (symbol_tests s front t.text) ≡ true → row (there s around (place front)) t ≡ Ok (there s around (place (front ++ t.text ∷ [])))
+    → passes (symbol_tests s front t.text) ≡ true
+    → row (there s around (place front)) t ≡ Ok (there s around (place (front ++ t.text ∷ [])))
 symbol_leads place reads s around front t h =
     let p = there s around (place front) in
     let next = there s around (place (front ++ t.text ∷ [])) in
@@ -172,14 +176,16 @@ pub axiom_end : (s : Scope) (around : List Scope) (label : Word) (ws : List Word
 unfolding row mark_of
 axiom_end s around label [] t some e = absurd (let x : false ≡ true = some in cc)
 axiom_end s around label (c ∷ ws) t some e =
-    word_row (there s around (in_axiom label (c ∷ ws))) (codes "$.") (Ok (home (behind s (asserted label (c ∷ ws))) around)) t (λ place. refl) e
+    word_row (there s around (in_axiom label (c ∷ ws))) (codes "$.") (Ok (home (behind s (asserted label (c ∷ ws))) around)) t
+    (λ place. refl) e
 
 pub theorem_end : (s : Scope) (around : List Scope) (label : Word) (ws : List Word) (t : Token) → nat_le 1 (length ws) ≡ true
     → t.text ≡ codes "$=" → row (there s around (in_theorem label ws)) t ≡ Ok (there s around (in_steps label ws []))
 unfolding row mark_of
 theorem_end s around label [] t some e = absurd (let x : false ≡ true = some in cc)
 theorem_end s around label (c ∷ ws) t some e =
-    word_row (there s around (in_theorem label (c ∷ ws))) (codes "$=") (Ok (there s around (in_steps label (c ∷ ws) []))) t (λ place. refl) e
+    word_row (there s around (in_theorem label (c ∷ ws))) (codes "$=") (Ok (there s around (in_steps label (c ∷ ws) []))) t
+    (λ place. refl) e
 
 -- ---- normal proofs
 
@@ -207,8 +213,9 @@ unfolding row mark_of
 steps_end s around label e [] t some finished is = absurd (let x : false ≡ true = some in cc)
 steps_end s around label e (w ∷ ws) t some finished is =
     let after = home (behind s (proved label e (normal (w ∷ ws)))) around in
+    let proof = normal (w ∷ ws) in
     word_row (there s around (in_steps label e (w ∷ ws))) (codes "$.") (Ok after) t
-    (λ place. cond-true (is_whole s e (normal (w ∷ ws))) (Ok after) (fault (record { place = place; text = codes "$." }) BadToken) finished) is
+    (λ place. cond-true (is_whole s e proof) (Ok after) (fault (record { place = place; text = codes "$." }) BadToken) finished) is
 
 -- ---- compressed proofs
 

@@ -4,7 +4,8 @@ use Rattle.std.specs.Prelude.{codes, nat_le}
 use Rattle.std.specs.List.{list_all}
 use Rattle.std.proofs.lemmas.Bool.{and_parts}
 use Rattle.mmtext.specs.Words.{Word, is_label}
-use Rattle.source.specs.Statements.{Proof, normal, compressed, Statement, constants, variables, float, hypothesis, distinct, asserted, proved}
+use Rattle.source.specs.Statements.{Proof, normal, compressed, Statement, constants, variables, float, hypothesis, distinct, asserted}
+use Rattle.source.specs.Statements.{proved}
 use Rattle.source.specs.Statements.{block, Statements, none, some, proof_spelling, spelling, spellings}
 use Rattle.source.specs.Scopes.{Scope, enter, leave, behind, behind_all}
 use Rattle.source.specs.Tests.{passes, label_tests, constant_tests, variable_tests, type_tests, float_tests, distinct_tests, symbol_tests}
@@ -13,12 +14,14 @@ use Rattle.source.specs.Tests.{is_lawful_proof, each_declared, a_constant, a_var
 use Rattle.source.specs.Faults.{Place, after_label, in_constants, in_variables, in_distinct, float_type, float_variable, float_end}
 use Rattle.source.specs.Faults.{in_hypothesis, in_axiom, in_theorem, in_steps, in_labels, in_letters, Position}
 use Rattle.source.proofs.Passing.{three_parts}
-use Rattle.source.proofs.InOrder.{constant_tests_at, variable_tests_at, no_constants, no_variables, constants_pass, variables_pass, each_alone}
+use Rattle.source.proofs.InOrder.{constant_tests_at, variable_tests_at, no_constants, no_variables, constants_pass, variables_pass}
+use Rattle.source.proofs.InOrder.{each_alone}
 use Rattle.source.proofs.Labels.{HasLabels, labels_stay}
 use Rattle.source.proofs.Leading.{there, home, Leads, no_word, word_leads, one_word, two_words, words_lead, each_leads}
 use Rattle.source.proofs.LeadingRows.{constant_place, constant_leads, constants_begin, constants_end, variable_place, variable_leads}
 use Rattle.source.proofs.LeadingRows.{variables_begin, variables_end, distinct_begin, distinct_leads, distinct_end, ReadsSymbols}
-use Rattle.source.proofs.LeadingRows.{hypothesis_symbols, axiom_symbols, theorem_symbols, symbol_leads, hypothesis_end, axiom_end, theorem_end}
+use Rattle.source.proofs.LeadingRows.{hypothesis_symbols, axiom_symbols, theorem_symbols, symbol_leads, hypothesis_end, axiom_end}
+use Rattle.source.proofs.LeadingRows.{theorem_end}
 use Rattle.source.proofs.LeadingRows.{step_leads, steps_end, labels_begin, cited_leads, labels_end, letters_lead, letters_end, type_leads}
 use Rattle.source.proofs.LeadingRows.{float_variable_leads, float_ends, label_leads, IsKeyword, float_keyword, hypothesis_keyword}
 use Rattle.source.proofs.LeadingRows.{axiom_keyword, theorem_keyword, keyword_leads, opens, closes}

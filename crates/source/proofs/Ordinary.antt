@@ -8,15 +8,18 @@ use Rattle.mmtext.specs.Words.{Word}
 use Rattle.mmtext.specs.Text.{mark_of}
 use Rattle.mmtext.proofs.Marks.{label_plain}
 use Rattle.mmtext.proofs.CommentLaws.{IsOrdinary, plain_is_ordinary}
-use Rattle.source.specs.Statements.{Proof, normal, compressed, Statement, constants, variables, float, hypothesis, distinct, asserted, proved}
+use Rattle.source.specs.Statements.{Proof, normal, compressed, Statement, constants, variables, float, hypothesis, distinct, asserted}
+use Rattle.source.specs.Statements.{proved}
 use Rattle.source.specs.Statements.{block, Statements, none, some, proof_spelling, spelling, spellings}
 use Rattle.source.specs.Scopes.{Scope, enter, behind}
 use Rattle.source.specs.Tests.{passes, type_tests, float_tests, distinct_tests, symbol_tests, step_tests, cited_tests, letter_tests}
-use Rattle.source.specs.Tests.{all_pass, is_new_label, is_expression, has_lawful_words, is_whole, is_lawful_proof, each_declared, a_constant}
+use Rattle.source.specs.Tests.{all_pass, is_new_label, is_expression, has_lawful_words, is_whole, is_lawful_proof, each_declared}
+use Rattle.source.specs.Tests.{a_constant}
 use Rattle.source.specs.Tests.{a_variable, constant_tests, variable_tests, is_lawful, are_lawful}
 use Rattle.source.proofs.Passing.{three_parts, constant_plain, variable_plain, type_plain, float_plain, distinct_plain, symbol_plain}
 use Rattle.source.proofs.Passing.{step_plain, cited_plain, letter_plain}
-use Rattle.source.proofs.InOrder.{constants_at, constant_tests_at, variables_at, variable_tests_at, constants_pass, variables_pass, each_alone}
+use Rattle.source.proofs.InOrder.{constants_at, constant_tests_at, variables_at, variable_tests_at, constants_pass, variables_pass}
+use Rattle.source.proofs.InOrder.{each_alone}
 use Rattle.source.proofs.InOrder.{all_ordinary}
 use Rattle.source.proofs.Labels.{new_label}
 

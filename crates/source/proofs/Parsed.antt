@@ -81,7 +81,9 @@ reads_words at tests stop enough after goes inner final e front (t ∷ ts) h =
             parts = ap (λ ws. t.text ∷ ws) o.parts;
             pass = two_true (passes (tests front t.text)) (all_pass tests (front ++ t.text ∷ []) o.words) n.0 o.pass;
             enough_stand = ap enough (sym same) ∙ o.enough_stand;
-            walks = onward (after (front ++ t.text ∷ o.words)) (after ((front ++ t.text ∷ []) ++ o.words)) final o.rest (ap after (sym same)) o.walks;
+            walks =
+                onward (after (front ++ t.text ∷ o.words)) (after ((front ++ t.text ∷ []) ++ o.words)) final o.rest
+                (ap after (sym same)) o.walks;
             shorter = let lt : length o.rest < length ts = o.shorter in omega arith;
           }
     ]
@@ -134,7 +136,8 @@ module _ (final : Position) (e : final.place ≡ at_start) where
         shorter = omega arith;
       }
 
-  float_has_variable : (s : Scope) (around : List Scope) (label : Word) (tc : Token) (ts : List Token) → passes (type_tests s tc.text) ≡ true
+  float_has_variable : (s : Scope) (around : List Scope) (label : Word) (tc : Token) (ts : List Token)
+      → passes (type_tests s tc.text) ≡ true
       → walk source_language (there s around (float_variable label tc.text)) ts ≡ Ok final → ReadsFloat s around label (tc ∷ ts) final
   float_has_variable s around label tc [] c h = absurd (no_end (there s around (float_variable label tc.text)) final tt e h)
   float_has_variable s around label tc (tv ∷ ts) c h =
@@ -156,7 +159,8 @@ module _ (final : Position) (e : final.place ≡ at_start) where
       → ReadsProof s around label x (t ∷ ts) final
   reads_steps s around label x t ts first h =
       let w = t.text in
-      let o = reads_words (λ ws. there s around (in_steps label x (w ∷ ws))) (λ ws v. step_tests s (w ∷ ws) v) (codes "$.") (steps_enough s x w)
+      let o = reads_words (λ ws. there s around (in_steps label x (w ∷ ws))) (λ ws v. step_tests s (w ∷ ws) v) (codes "$.")
+      (steps_enough s x w)
       (λ ws. home (behind s (proved label x (normal (w ∷ ws)))) around) (steps_go s around label x w) (λ ws. tt) final e [] ts h in
       let proof = normal (w ∷ o.words) in
       let all = two_true (passes (step_tests s [] w)) (all_pass (step_tests s) (w ∷ []) o.words) first
@@ -181,7 +185,8 @@ module _ (final : Position) (e : final.place ≡ at_start) where
       let o = reads_words (λ ws. there s around (in_labels label x ws)) (λ ws w. cited_tests s x w) (codes ")") (λ ws. true)
       (λ ws. there s around (in_letters label x ws [])) (cited_go s around label x) (λ ws. tt) final e [] ts h in
       let l = reads_words (λ ls. there s around (in_letters label x o.words ls)) (letter_tests s x o.words) (codes "$.")
-      (letters_enough s x o.words) (λ ls. home (behind s (proved label x (compressed o.words ls))) around) (letters_go s around label x o.words)
+      (letters_enough s x o.words) (λ ls. home (behind s (proved label x (compressed o.words ls))) around)
+      (letters_go s around label x o.words)
       (λ ls. tt) final e [] o.rest o.walks in
       let proof = compressed o.words l.words in
       let both = and_parts (one_or_more l.words) (is_whole s x proof) l.enough_stand in
@@ -191,7 +196,8 @@ module _ (final : Position) (e : final.place ≡ at_start) where
         parts = compressed_words t.text (words_of ts) (words_of o.rest) o.words l.words (words_of l.rest) is o.parts l.parts;
         lawful =
             two_true (has_lawful_words s x proof) (is_whole s x proof)
-            (three_true (list_all (λ w. passes (cited_tests s x w)) o.words) (one_or_more l.words) (all_pass (letter_tests s x o.words) [] l.words)
+            (three_true (list_all (λ w. passes (cited_tests s x w)) o.words) (one_or_more l.words)
+            (all_pass (letter_tests s x o.words) [] l.words)
             (each_alone (cited_tests s x) [] o.words ∙ o.pass) both.0 l.pass)
             both.1;
         walks = l.walks;

@@ -14,7 +14,8 @@ use Rattle.mmtext.proofs.Marks.{same_word, Says, says}
 use Rattle.mmsyntax.specs.Rows.{Tests, first_fault}
 use Rattle.source.specs.Statements.{normal, compressed, constants, variables, float, hypothesis, distinct, asserted, proved}
 use Rattle.source.specs.Scopes.{Scope, closed_in, enter, leave, behind}
-use Rattle.source.specs.Tests.{passes, label_tests, type_tests, float_tests, distinct_tests, symbol_tests, step_tests, cited_tests, letter_tests}
+use Rattle.source.specs.Tests.{passes, label_tests, type_tests, float_tests, distinct_tests, symbol_tests, step_tests, cited_tests}
+use Rattle.source.specs.Tests.{letter_tests}
 use Rattle.source.specs.Tests.{a_constant, a_variable, is_whole}
 use Rattle.source.specs.Faults.{after_label, in_constants, in_variables, in_distinct, float_type, float_variable, float_end}
 use Rattle.source.specs.Faults.{in_hypothesis, in_axiom, in_theorem, in_steps, in_labels, in_letters, Position, tested, faulted}
@@ -66,7 +67,8 @@ constant_in s around front b t m q is n h =
 pub constants_go : (s : Scope) (around : List Scope)
     → Goes (constant_place s around) (constant_tests_at s) (codes "$.") one_or_more (λ ws. home (behind s (constants ws)) around)
 constants_go s around front t q h =
-    constant_in s around front (one_or_more front) t (mark_of t.text) q (says t.text) refl (in_place_of (constant_place s around front) t q h)
+    constant_in s around front (one_or_more front) t (mark_of t.text) q (says t.text) refl
+    (in_place_of (constant_place s around front) t q h)
 
 variable_in : (s : Scope) (around : List Scope) (front : List Word) (b : Bool) (t : Token) (m : Mark) (q : Position) → Says m t.text
     → one_or_more front ≡ b → variable_row (variable_place s around front) b t m ≡ Ok q
@@ -81,7 +83,8 @@ variable_in s around front b t m q is n h =
 pub variables_go : (s : Scope) (around : List Scope)
     → Goes (variable_place s around) (variable_tests_at s) (codes "$.") one_or_more (λ ws. home (behind s (variables ws)) around)
 variables_go s around front t q h =
-    variable_in s around front (one_or_more front) t (mark_of t.text) q (says t.text) refl (in_place_of (variable_place s around front) t q h)
+    variable_in s around front (one_or_more front) t (mark_of t.text) q (says t.text) refl
+    (in_place_of (variable_place s around front) t q h)
 
 -- ---- $d
 
@@ -126,7 +129,8 @@ axiom_in s around label e t m q is h =
     inr (tested_ok t (symbol_tests s e t.text) (there s around (in_axiom label (e ++ t.text ∷ []))) q h)
 
 pub axiom_go : (s : Scope) (around : List Scope) (label : Word)
-    → Goes (λ e. there s around (in_axiom label e)) (symbol_tests s) (codes "$.") one_or_more (λ e. home (behind s (asserted label e)) around)
+    → Goes (λ e. there s around (in_axiom label e)) (symbol_tests s) (codes "$.") one_or_more
+    (λ e. home (behind s (asserted label e)) around)
 axiom_go s around label e t q h =
     axiom_in s around label e t (mark_of t.text) q (says t.text) (in_place_of (there s around (in_axiom label e)) t q h)
 
@@ -181,10 +185,11 @@ step_in s around label e first ws t m q is h =
     inr (tested_ok t (step_tests s (first ∷ ws) t.text) (there s around (in_steps label e (first ∷ (ws ++ t.text ∷ [])))) q h)
 
 pub steps_go : (s : Scope) (around : List Scope) (label : Word) (e : List Word) (first : Word)
-    → Goes (λ ws. there s around (in_steps label e (first ∷ ws))) (λ ws w. step_tests s (first ∷ ws) w) (codes "$.") (steps_enough s e first)
-    (λ ws. home (behind s (proved label e (normal (first ∷ ws)))) around)
+    → Goes (λ ws. there s around (in_steps label e (first ∷ ws))) (λ ws w. step_tests s (first ∷ ws) w) (codes "$.")
+    (steps_enough s e first) (λ ws. home (behind s (proved label e (normal (first ∷ ws)))) around)
 steps_go s around label e first ws t q h =
-    step_in s around label e first ws t (mark_of t.text) q (says t.text) (in_place_of (there s around (in_steps label e (first ∷ ws))) t q h)
+    step_in s around label e first ws t (mark_of t.text) q (says t.text)
+    (in_place_of (there s around (in_steps label e (first ∷ ws))) t q h)
 
 -- ---- compressed proofs
 
@@ -222,10 +227,12 @@ letters_go s around label e ws ls t q h =
 
 -- ---- $f
 
-pub type_goes : (s : Scope) (around : List Scope) (label : Word) (t : Token) (q : Position) → row (there s around (float_type label)) t ≡ Ok q
+pub type_goes : (s : Scope) (around : List Scope) (label : Word) (t : Token) (q : Position)
+    → row (there s around (float_type label)) t ≡ Ok q
     → (passes (type_tests s t.text) ≡ true) × (there s around (float_variable label t.text) ≡ q)
 type_goes s around label t q h =
-    tested_ok t (type_tests s t.text) (there s around (float_variable label t.text)) q (in_place_of (there s around (float_type label)) t q h)
+    tested_ok t (type_tests s t.text) (there s around (float_variable label t.text)) q
+    (in_place_of (there s around (float_type label)) t q h)
 
 pub float_variable_goes : (s : Scope) (around : List Scope) (label c : Word) (t : Token) (q : Position)
     → row (there s around (float_variable label c)) t ≡ Ok q

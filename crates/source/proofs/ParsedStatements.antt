@@ -12,13 +12,15 @@ use Rattle.source.specs.Scopes.{Scope, enter, leave, behind, behind_all}
 use Rattle.source.specs.Tests.{passes, label_tests, constant_tests, variable_tests, type_tests, float_tests, distinct_tests, symbol_tests}
 use Rattle.source.specs.Tests.{all_pass, is_new_label, is_expression, is_lawful_proof, each_declared, a_constant, a_variable}
 use Rattle.source.specs.Tests.{is_lawful, are_lawful}
-use Rattle.source.specs.Faults.{at_start, after_label, in_constants, in_variables, in_distinct, float_type, in_hypothesis, in_axiom, in_theorem}
+use Rattle.source.specs.Faults.{at_start, after_label, in_constants, in_variables, in_distinct, float_type, in_hypothesis, in_axiom}
+use Rattle.source.specs.Faults.{in_theorem}
 use Rattle.source.specs.Faults.{in_steps, Position, source_language}
 use Rattle.source.proofs.InOrder.{constant_tests_at, variable_tests_at, no_constants, no_variables, constants_pass, variables_pass}
 use Rattle.source.proofs.Leading.{there, home}
 use Rattle.source.proofs.LeadingRows.{constant_place, variable_place}
 use Rattle.source.proofs.ParsedRows.{one_or_more, two_or_more, constants_go, variables_go, distinct_go, hypothesis_go, axiom_go, theorem_go}
-use Rattle.source.proofs.ParsedRows.{Labelled, of_float, of_hypothesis, of_axiom, of_theorem, keyword_goes, Starts, of_constants, of_variables}
+use Rattle.source.proofs.ParsedRows.{Labelled, of_float, of_hypothesis, of_axiom, of_theorem, keyword_goes, Starts, of_constants}
+use Rattle.source.proofs.ParsedRows.{of_variables}
 use Rattle.source.proofs.ParsedRows.{of_distinct, of_block, of_end, of_label, start_goes}
 use Rattle.source.proofs.Parsed.{no_end, onward, two_true, three_true, reads_words, reads_float, reads_proof}
 
@@ -54,8 +56,8 @@ module _ (final : Position) (e : final.place ≡ at_start) where
       → walk source_language (there s around (in_constants false)) ts ≡ Ok final → ReadsStatement s around (t ∷ ts) final
   reads_constants s around t ts is outer h =
       let p = constant_place s around [] in
-      let o = reads_words (constant_place s around) (constant_tests_at s) (codes "$.") one_or_more (λ ws. home (behind s (constants ws)) around)
-      (constants_go s around) (λ ws. tt) final e [] ts
+      let o = reads_words (constant_place s around) (constant_tests_at s) (codes "$.") one_or_more
+      (λ ws. home (behind s (constants ws)) around) (constants_go s around) (λ ws. tt) final e [] ts
       (onward p (there s around (in_constants false)) final ts (ap (λ x. there x around (in_constants false)) (no_constants s)) h) in
       record {
         statement = constants o.words;
@@ -72,8 +74,8 @@ module _ (final : Position) (e : final.place ≡ at_start) where
       → walk source_language (there s around (in_variables false)) ts ≡ Ok final → ReadsStatement s around (t ∷ ts) final
   reads_variables s around t ts is h =
       let p = variable_place s around [] in
-      let o = reads_words (variable_place s around) (variable_tests_at s) (codes "$.") one_or_more (λ ws. home (behind s (variables ws)) around)
-      (variables_go s around) (λ ws. tt) final e [] ts
+      let o = reads_words (variable_place s around) (variable_tests_at s) (codes "$.") one_or_more
+      (λ ws. home (behind s (variables ws)) around) (variables_go s around) (λ ws. tt) final e [] ts
       (onward p (there s around (in_variables false)) final ts (ap (λ x. there x around (in_variables false)) (no_variables s)) h) in
       record {
         statement = variables o.words;
@@ -101,8 +103,9 @@ module _ (final : Position) (e : final.place ≡ at_start) where
       }
 
   -- behind a new label and its keyword
-  float_read : (s : Scope) (around : List Scope) (label u : Token) (ts : List Token) → is_new_label s label.text ≡ true → u.text ≡ codes "$f"
-      → walk source_language (there s around (float_type label.text)) ts ≡ Ok final → ReadsStatement s around (label ∷ u ∷ ts) final
+  float_read : (s : Scope) (around : List Scope) (label u : Token) (ts : List Token) → is_new_label s label.text ≡ true
+      → u.text ≡ codes "$f" → walk source_language (there s around (float_type label.text)) ts ≡ Ok final
+      → ReadsStatement s around (label ∷ u ∷ ts) final
   float_read s around label u ts new is h =
       let o = reads_float final e s around label.text ts h in
       record {
@@ -110,7 +113,8 @@ module _ (final : Position) (e : final.place ≡ at_start) where
         rest = o.rest;
         parts = ap (λ x. label.text ∷ x ∷ words_of ts) is ∙ ap (λ x. label.text ∷ codes "$f" ∷ x) o.parts;
         lawful =
-            three_true (is_new_label s label.text) (passes (type_tests s o.c)) (passes (float_tests s o.v)) new o.type_passes o.variable_passes;
+            three_true (is_new_label s label.text) (passes (type_tests s o.c)) (passes (float_tests s o.v)) new o.type_passes
+            o.variable_passes;
         walks = o.walks;
         shorter = let lt : length o.rest < length ts = o.shorter in omega arith;
       }
@@ -242,7 +246,8 @@ module _ (final : Position) (e : final.place ≡ at_start) (f : final.stand.arou
   unfolding Later
   then_all s around t ts later o =
       let lt : length o.rest < length (t ∷ ts) = o.shorter in
-      one_more s around (t ∷ ts) o.rest final o.statement o.parts o.lawful lt (later (behind s o.statement) around o.rest (omega arith) o.walks)
+      one_more s around (t ∷ ts) o.rest final o.statement o.parts o.lawful lt
+      (later (behind s o.statement) around o.rest (omega arith) o.walks)
 
   -- a block, of which the statements are read, and what follows it
   then_block : (s : Scope) (around : List Scope) (t : Token) (ts : List Token) → Later ts → t.text ≡ codes "${"

@@ -35,7 +35,8 @@ abbrev EachClear : Tests → Type 0
 EachClear [] = Unit {0}
 EachClear (t ∷ ts) = (t.0 ≡ false) × (passes ts ≡ true)
 
-cond_passes : (b : Bool) (kind : FaultKind) (o : Option FaultKind) → is_none (cond b (Some kind) o) ≡ true → (b ≡ false) × (is_none o ≡ true)
+cond_passes : (b : Bool) (kind : FaultKind) (o : Option FaultKind) → is_none (cond b (Some kind) o) ≡ true
+    → (b ≡ false) × (is_none o ≡ true)
 cond_passes true kind o h = absurd cc
 cond_passes false kind o h = (refl, h)
 
