@@ -1,9 +1,9 @@
 -- Tokens that lead from a place in a statement to the end of a text have the words of a list, a $f or a proof, and go on behind them.
 use Rattle.std.proofs.Common.{◌≡◌, ◌<◌, Bool, true, List, [], ◌∷◌, ◌++◌, length, Ok, refl, sym, ap, subst, ◌∙◌, inl, inr, arith}
 use Rattle.std.proofs.Common.{append_assoc, append-nil}
-use Rattle.std.specs.Prelude.{◌&&◌, codes}
+use Rattle.std.specs.Prelude.{codes}
 use Rattle.std.specs.List.{list_all}
-use Rattle.std.proofs.lemmas.Bool.{and_parts}
+use Rattle.std.proofs.lemmas.Bool.{and_parts, and_from}
 use Rattle.mmtext.specs.Words.{Word}
 use Rattle.mmtext.specs.Text.{Token}
 use Rattle.mmtext.specs.Comments.{words_of}
@@ -15,6 +15,7 @@ use Rattle.source.specs.Tests.{passes, type_tests, float_tests, step_tests, cite
 use Rattle.source.specs.Tests.{is_lawful_proof}
 use Rattle.source.specs.Faults.{Place, at_start, float_type, float_variable, float_end, in_steps, in_labels, in_letters, Position}
 use Rattle.source.specs.Faults.{source_language}
+use Rattle.source.proofs.Passing.{three_from}
 use Rattle.source.proofs.InOrder.{each_alone, behind_first, one_at_least}
 use Rattle.source.proofs.Leading.{there, home}
 use Rattle.source.proofs.ParsedRows.{Goes, one_or_more, first_goes, steps_enough, steps_go, cited_go, letters_enough, letters_go, type_goes}
@@ -32,14 +33,6 @@ no_end p final inner e h = subst IsInner (ap (λ (x : Position). x.place) (walk_
 
 pub onward : (p q final : Position) (ts : List Token) → p ≡ q → walk source_language q ts ≡ Ok final → walk source_language p ts ≡ Ok final
 onward p q final ts e h = ap (λ x. walk source_language x ts) e ∙ h
-
--- ---- and, from its parts
-
-pub two_true : (a b : Bool) → a ≡ true → b ≡ true → (a && b) ≡ true
-two_true a b h g = ap (λ x. x && b) h ∙ g
-
-pub three_true : (a b c : Bool) → a ≡ true → b ≡ true → c ≡ true → (a && b && c) ≡ true
-three_true a b c h g k = two_true (a && b) c (two_true a b h g) k
 
 -- ---- lists of words
 
@@ -79,7 +72,7 @@ reads_words at tests stop enough after goes inner final e front (t ∷ ts) h =
             words = t.text ∷ o.words;
             rest = o.rest;
             parts = ap (λ ws. t.text ∷ ws) o.parts;
-            pass = two_true (passes (tests front t.text)) (all_pass tests (front ++ t.text ∷ []) o.words) n.0 o.pass;
+            pass = and_from (passes (tests front t.text)) (all_pass tests (front ++ t.text ∷ []) o.words) n.0 o.pass;
             enough_stand = ap enough (sym same) ∙ o.enough_stand;
             walks =
                 onward (after (front ++ t.text ∷ o.words)) (after ((front ++ t.text ∷ []) ++ o.words)) final o.rest
@@ -163,15 +156,15 @@ module _ (final : Position) (e : final.place ≡ at_start) where
       (steps_enough s x w)
       (λ ws. home (behind s (proved label x (normal (w ∷ ws)))) around) (steps_go s around label x w) (λ ws. tt) final e [] ts h in
       let proof = normal (w ∷ o.words) in
-      let all = two_true (passes (step_tests s [] w)) (all_pass (step_tests s) (w ∷ []) o.words) first
+      let all = and_from (passes (step_tests s [] w)) (all_pass (step_tests s) (w ∷ []) o.words) first
       (sym (behind_first (step_tests s) w [] o.words) ∙ o.pass) in
       record {
         proof = proof;
         rest = o.rest;
         parts = ap (λ ws. w ∷ ws) o.parts;
         lawful =
-            two_true (has_lawful_words s x proof) (is_whole s x proof)
-            (two_true (one_or_more (w ∷ o.words)) (all_pass (step_tests s) [] (w ∷ o.words)) (one_at_least (length o.words)) all)
+            and_from (has_lawful_words s x proof) (is_whole s x proof)
+            (and_from (one_or_more (w ∷ o.words)) (all_pass (step_tests s) [] (w ∷ o.words)) (one_at_least (length o.words)) all)
             o.enough_stand;
         walks = o.walks;
         shorter = let lt : length o.rest < length ts = o.shorter in omega arith;
@@ -195,8 +188,8 @@ module _ (final : Position) (e : final.place ≡ at_start) where
         rest = l.rest;
         parts = compressed_words t.text (words_of ts) (words_of o.rest) o.words l.words (words_of l.rest) is o.parts l.parts;
         lawful =
-            two_true (has_lawful_words s x proof) (is_whole s x proof)
-            (three_true (list_all (λ w. passes (cited_tests s x w)) o.words) (one_or_more l.words)
+            and_from (has_lawful_words s x proof) (is_whole s x proof)
+            (three_from (list_all (λ w. passes (cited_tests s x w)) o.words) (one_or_more l.words)
             (all_pass (letter_tests s x o.words) [] l.words)
             (each_alone (cited_tests s x) [] o.words ∙ o.pass) both.0 l.pass)
             both.1;

@@ -2,6 +2,7 @@
 use Rattle.std.proofs.Common.{◌≡◌, ℕ, zero, suc, ◌<◌, ◌≤◌, true, false, List, [], ◌∷◌, ◌++◌, length, Ok, refl, sym, ap, subst, ◌∙◌, arith}
 use Rattle.std.proofs.Common.{append_assoc}
 use Rattle.std.specs.Prelude.{codes}
+use Rattle.std.proofs.lemmas.Bool.{and_from}
 use Rattle.mmtext.specs.Words.{Word, is_label}
 use Rattle.mmtext.specs.Text.{Token}
 use Rattle.mmtext.specs.Comments.{words_of}
@@ -15,6 +16,7 @@ use Rattle.source.specs.Tests.{is_lawful, are_lawful}
 use Rattle.source.specs.Faults.{at_start, after_label, in_constants, in_variables, in_distinct, float_type, in_hypothesis, in_axiom}
 use Rattle.source.specs.Faults.{in_theorem}
 use Rattle.source.specs.Faults.{in_steps, Position, source_language}
+use Rattle.source.proofs.Passing.{three_from}
 use Rattle.source.proofs.InOrder.{constant_tests_at, variable_tests_at, no_constants, no_variables, constants_pass, variables_pass}
 use Rattle.source.proofs.Leading.{there, home}
 use Rattle.source.proofs.LeadingRows.{constant_place, variable_place}
@@ -22,7 +24,7 @@ use Rattle.source.proofs.ParsedRows.{one_or_more, two_or_more, constants_go, var
 use Rattle.source.proofs.ParsedRows.{Labelled, of_float, of_hypothesis, of_axiom, of_theorem, keyword_goes, Starts, of_constants}
 use Rattle.source.proofs.ParsedRows.{of_variables}
 use Rattle.source.proofs.ParsedRows.{of_distinct, of_block, of_end, of_label, start_goes}
-use Rattle.source.proofs.Parsed.{no_end, onward, two_true, three_true, reads_words, reads_float, reads_proof}
+use Rattle.source.proofs.Parsed.{no_end, onward, reads_words, reads_float, reads_proof}
 
 -- ---- one statement
 
@@ -64,7 +66,7 @@ module _ (final : Position) (e : final.place ≡ at_start) where
         rest = o.rest;
         parts = listed (codes "$c") t.text (codes "$.") (words_of ts) o.words (words_of o.rest) is o.parts;
         lawful =
-            three_true s.outermost (one_or_more o.words) (each_declared a_constant constant_tests s o.words) outer o.enough_stand
+            three_from s.outermost (one_or_more o.words) (each_declared a_constant constant_tests s o.words) outer o.enough_stand
             (constants_pass s o.words ∙ o.pass);
         walks = o.walks;
         shorter = let lt : length o.rest < length ts = o.shorter in omega arith;
@@ -82,7 +84,7 @@ module _ (final : Position) (e : final.place ≡ at_start) where
         rest = o.rest;
         parts = listed (codes "$v") t.text (codes "$.") (words_of ts) o.words (words_of o.rest) is o.parts;
         lawful =
-            two_true (one_or_more o.words) (each_declared a_variable variable_tests s o.words) o.enough_stand
+            and_from (one_or_more o.words) (each_declared a_variable variable_tests s o.words) o.enough_stand
             (variables_pass s o.words ∙ o.pass);
         walks = o.walks;
         shorter = let lt : length o.rest < length ts = o.shorter in omega arith;
@@ -97,7 +99,7 @@ module _ (final : Position) (e : final.place ≡ at_start) where
         statement = distinct o.words;
         rest = o.rest;
         parts = listed (codes "$d") t.text (codes "$.") (words_of ts) o.words (words_of o.rest) is o.parts;
-        lawful = two_true (two_or_more o.words) (all_pass (distinct_tests s) [] o.words) o.enough_stand o.pass;
+        lawful = and_from (two_or_more o.words) (all_pass (distinct_tests s) [] o.words) o.enough_stand o.pass;
         walks = o.walks;
         shorter = let lt : length o.rest < length ts = o.shorter in omega arith;
       }
@@ -113,7 +115,7 @@ module _ (final : Position) (e : final.place ≡ at_start) where
         rest = o.rest;
         parts = ap (λ x. label.text ∷ x ∷ words_of ts) is ∙ ap (λ x. label.text ∷ codes "$f" ∷ x) o.parts;
         lawful =
-            three_true (is_new_label s label.text) (passes (type_tests s o.c)) (passes (float_tests s o.v)) new o.type_passes
+            three_from (is_new_label s label.text) (passes (type_tests s o.c)) (passes (float_tests s o.v)) new o.type_passes
             o.variable_passes;
         walks = o.walks;
         shorter = let lt : length o.rest < length ts = o.shorter in omega arith;
@@ -131,8 +133,8 @@ module _ (final : Position) (e : final.place ≡ at_start) where
         rest = o.rest;
         parts = ap (λ x. w ∷ x) (listed (codes "$e") u.text (codes "$.") (words_of ts) o.words (words_of o.rest) is o.parts);
         lawful =
-            two_true (is_new_label s w) (is_expression s o.words) new
-            (two_true (one_or_more o.words) (all_pass (symbol_tests s) [] o.words) o.enough_stand o.pass);
+            and_from (is_new_label s w) (is_expression s o.words) new
+            (and_from (one_or_more o.words) (all_pass (symbol_tests s) [] o.words) o.enough_stand o.pass);
         walks = o.walks;
         shorter = let lt : length o.rest < length ts = o.shorter in omega arith;
       }
@@ -149,8 +151,8 @@ module _ (final : Position) (e : final.place ≡ at_start) where
         rest = o.rest;
         parts = ap (λ x. w ∷ x) (listed (codes "$a") u.text (codes "$.") (words_of ts) o.words (words_of o.rest) is o.parts);
         lawful =
-            two_true (is_new_label s w) (is_expression s o.words) new
-            (two_true (one_or_more o.words) (all_pass (symbol_tests s) [] o.words) o.enough_stand o.pass);
+            and_from (is_new_label s w) (is_expression s o.words) new
+            (and_from (one_or_more o.words) (all_pass (symbol_tests s) [] o.words) o.enough_stand o.pass);
         walks = o.walks;
         shorter = let lt : length o.rest < length ts = o.shorter in omega arith;
       }
@@ -169,8 +171,8 @@ module _ (final : Position) (e : final.place ≡ at_start) where
         parts =
             proved_words w u.text (words_of ts) o.words (words_of o.rest) (proof_spelling p.proof) (words_of p.rest) is o.parts p.parts;
         lawful =
-            three_true (is_new_label s w) (is_expression s o.words) (is_lawful_proof s o.words p.proof) new
-            (two_true (one_or_more o.words) (all_pass (symbol_tests s) [] o.words) o.enough_stand o.pass)
+            three_from (is_new_label s w) (is_expression s o.words) (is_lawful_proof s o.words p.proof) new
+            (and_from (one_or_more o.words) (all_pass (symbol_tests s) [] o.words) o.enough_stand o.pass)
             p.lawful;
         walks = p.walks;
         shorter = let lt : length o.rest < length ts = o.shorter in let less : length p.rest < length o.rest = p.shorter in omega arith;
@@ -179,16 +181,16 @@ module _ (final : Position) (e : final.place ≡ at_start) where
   keyword_read : (s : Scope) (around : List Scope) (label u : Token) (q : Position) (ts : List Token) → is_label label.text ≡ true
       → Labelled s around label u q → walk source_language q ts ≡ Ok final → ReadsStatement s around (label ∷ u ∷ ts) final
   keyword_read s around label u q ts is_l (of_float is pass at) h =
-      float_read s around label u ts (two_true (is_label label.text) (passes (label_tests s label.text)) is_l pass) is
+      float_read s around label u ts (and_from (is_label label.text) (passes (label_tests s label.text)) is_l pass) is
       (onward (there s around (float_type label.text)) q final ts at h)
   keyword_read s around label u q ts is_l (of_hypothesis is pass at) h =
-      hypothesis_read s around label u ts (two_true (is_label label.text) (passes (label_tests s label.text)) is_l pass) is
+      hypothesis_read s around label u ts (and_from (is_label label.text) (passes (label_tests s label.text)) is_l pass) is
       (onward (there s around (in_hypothesis label.text [])) q final ts at h)
   keyword_read s around label u q ts is_l (of_axiom is pass at) h =
-      axiom_read s around label u ts (two_true (is_label label.text) (passes (label_tests s label.text)) is_l pass) is
+      axiom_read s around label u ts (and_from (is_label label.text) (passes (label_tests s label.text)) is_l pass) is
       (onward (there s around (in_axiom label.text [])) q final ts at h)
   keyword_read s around label u q ts is_l (of_theorem is pass at) h =
-      theorem_read s around label u ts (two_true (is_label label.text) (passes (label_tests s label.text)) is_l pass) is
+      theorem_read s around label u ts (and_from (is_label label.text) (passes (label_tests s label.text)) is_l pass) is
       (onward (there s around (in_theorem label.text [])) q final ts at h)
 
   reads_labelled : (s : Scope) (around : List Scope) (label : Token) (ts : List Token) → is_label label.text ≡ true
@@ -223,7 +225,7 @@ one_more s around ts mid final x is lawful lt o = record {
   statements = some x o.statements;
   rest = o.rest;
   parts = is ∙ ap (λ ws. spelling x ++ ws) o.parts ∙ sym (append_assoc (spelling x) (spellings o.statements) (words_of o.rest));
-  lawful = two_true (is_lawful s x) (are_lawful (behind s x) o.statements) lawful o.lawful;
+  lawful = and_from (is_lawful s x) (are_lawful (behind s x) o.statements) lawful o.lawful;
   ends = o.ends;
   no_longer = let le : length o.rest ≤ length mid = o.no_longer in omega arith;
 }

@@ -5,7 +5,7 @@ use Rattle.std.specs.Prelude.{is_none, codes, ◌||◌, ◌&&◌}
 use Rattle.std.specs.List.{list_any, list_all}
 use Rattle.std.specs.Str.{bytes_eq}
 use mathlib.Core.Bool.{not}
-use Rattle.std.proofs.lemmas.Bool.{cases_Bool, eqb-true, and_parts, not-false}
+use Rattle.std.proofs.lemmas.Bool.{cases_Bool, eqb-true, and_parts, and_from, not-false}
 use Rattle.mmtext.specs.declared.fault.FaultKind.{FaultKind}
 use Rattle.mmtext.specs.declared.fault.FaultKind.TheVariants.{BadToken, UnknownLabel, NotActive}
 use Rattle.mmtext.specs.Words.{Word, has_dollar}
@@ -16,11 +16,16 @@ use Rattle.source.specs.Proofs.{labels_go_on}
 use Rattle.source.specs.Tests.{passes, constant_tests, variable_tests, type_tests, float_tests, distinct_tests, symbol_tests, named_tests}
 use Rattle.source.specs.Tests.{step_tests, cited_tests, letter_tests, is_letter}
 
+-- ---- tests, each behind the earlier ones
+
 pub three_parts : (a b c : Bool) → (a && b && c) ≡ true → (a ≡ true) × (b ≡ true) × (c ≡ true)
 three_parts a b c h =
     let front = and_parts (a && b) c h in
     let both = and_parts a b front.0 in
     (both.0, both.1, front.1)
+
+pub three_from : (a b c : Bool) → a ≡ true → b ≡ true → c ≡ true → (a && b && c) ≡ true
+three_from a b c h g k = and_from (a && b) c (and_from a b h g) k
 
 no_fault_in : (o : Option FaultKind) → is_none o ≡ true → o ≡ None
 no_fault_in None h = refl
