@@ -16,7 +16,7 @@ use Rattle.source.specs.Proofs.{labels_go_on}
 use Rattle.source.specs.Tests.{passes, constant_tests, variable_tests, type_tests, float_tests, distinct_tests, symbol_tests, named_tests}
 use Rattle.source.specs.Tests.{step_tests, cited_tests, letter_tests, is_letter}
 
--- ---- tests, each behind the earlier ones
+-- ---- three tests in one
 
 pub three_parts : (a b c : Bool) → (a && b && c) ≡ true → (a ≡ true) × (b ≡ true) × (c ≡ true)
 three_parts a b c h =
@@ -26,6 +26,8 @@ three_parts a b c h =
 
 pub three_from : (a b c : Bool) → a ≡ true → b ≡ true → c ≡ true → (a && b && c) ≡ true
 three_from a b c h g k = and_from (a && b) c (and_from a b h g) k
+
+-- ---- first faults
 
 no_fault_in : (o : Option FaultKind) → is_none o ≡ true → o ≡ None
 no_fault_in None h = refl
