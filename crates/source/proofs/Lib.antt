@@ -1,3 +1,14 @@
 pub mod Decoded
 pub mod Alike
 pub mod Sizes
+pub mod Passing
+pub mod InOrder
+pub mod Labels
+pub mod Ordinary
+pub mod Leading
+pub mod LeadingRows
+pub mod LeadingStatements
+pub mod ParsedRows
+pub mod Parsed
+pub mod ParsedStatements
+pub mod SourceLaws

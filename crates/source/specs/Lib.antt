@@ -5,5 +5,6 @@ pub mod Proofs
 pub mod Tests
 pub mod Sources
 pub mod Faults
+pub mod Laws
 pub mod Views
 pub mod Examples

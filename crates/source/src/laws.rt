@@ -1,7 +1,8 @@
-//! Examples of sources: functions without a body, whose contracts are the examples.
+//! Examples of sources, and laws of what texts declare, against their faults: functions without a body, whose contracts say them.
 
 ghost use Rattle.source.specs.Proofs.{MadeAlike, SizesAreMade};
 ghost use Rattle.source.specs.Examples.{ScopesAreSpelled, ScopesAreRead, FaultsAreFound, ScopesDeclare, DummyPairIsKept, ClosedIsRefused, LettersCount, LettersFail, MarkDenotes, LabelsDenote, BrokenDenoteNone};
+ghost use Rattle.source.specs.Laws.{SourceIsOne, SourceHasNoFault, FaultyIsNoSource, SourceOrFault, SourcesAreSaid};
 
 /// The words of a text.
 pub fn text_has_words()
@@ -66,4 +67,29 @@ pub fn made_alike<A, B>()
 /// How many steps list the tree of a proof is made without the tree.
 pub fn sizes_are_made()
     ensures { SizesAreMade }
+{}
+
+/// A text declares at most one source.
+pub fn one_source()
+    ensures { SourceIsOne }
+{}
+
+/// A text of at most 268,435,456 bytes that declares a source has no fault, so a reader does not refuse it.
+pub fn no_fault_of_a_source()
+    ensures { SourceHasNoFault }
+{}
+
+/// A text with a fault declares no source, unless it is longer than 268,435,456 bytes, and that is its fault.
+pub fn no_source_of_a_fault()
+    ensures { FaultyIsNoSource }
+{}
+
+/// Every text declares a source or has a fault.
+pub fn source_or_fault()
+    ensures { SourceOrFault }
+{}
+
+/// What a text declares by the grammar of sources is what the table of faults says.
+pub fn sources_are_said()
+    ensures { SourcesAreSaid }
 {}
