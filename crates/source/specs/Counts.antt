@@ -1,5 +1,5 @@
 -- While the words of a proof are read: that the steps so far are there, and how many entries they left on the stack.
-use Rattle.std.specs.Prelude.{◌≡◌, ℕ, Bool, true, false, ◌&&◌, ◌==◌, List, [], ◌∷◌, ◌++◌, map, length, Option, Some, None, if◌then◌else◌, ◌⊎◌, ◌-◌, ◌^◌}
+use Rattle.std.specs.Prelude.{◌≡◌, ℕ, Bool, true, false, ◌&&◌, ◌==◌, List, [], ◌∷◌, ◌++◌, map, length, replicate, Option, Some, None, if◌then◌else◌, ◌⊎◌, ◌-◌, ◌^◌}
 use Rattle.std.specs.Option.{option_map}
 use Rattle.std.specs.List.{list_any, flat_map}
 use mathlib.Core.Bool.{not}
@@ -45,6 +45,17 @@ CountsLetters s e labels ls c =
 -- labels take so many entries each
 abbrev pub HaveArities : List Assertion → List Hypothesis → List Word → List ℕ → Type 0
 HaveArities earlier active ws arities = map (λ w. option_map length (taken_by earlier active w)) ws ≡ map (λ n. Some n) arities
+
+-- the labels that numbers count, of which the first ones are those of so many hypotheses
+abbrev pub CountNumbers : List Assertion → List Hypothesis → List Word → ℕ → List ℕ → Type 0
+CountNumbers earlier active labels hypotheses arities = HaveArities earlier active labels (replicate hypotheses 0 ++ arities)
+
+-- a step from a stack that has so many entries leads to one that has so many, or isn't there
+pub record IsStep (earlier : List Assertion) (active : List Hypothesis) (x : Step) (old new : Entries) (goes : Bool) : Type 0 where
+  pub leads : (s : Stack (Unit {0})) → counts (Some s) ≡ Some (old.entries, old.marked)
+      → counts (stepped there earlier active s x) ≡ (if goes then Some (new.entries, new.marked) else None)
+  pub front : new.front ≡ old.front
+  pub known : new.is_known ≡ old.is_known
 
 -- none more can be counted (no text is as long)
 abbrev pub IsFull : Entries → Type 0
