@@ -1,3 +1,5 @@
 pub mod Decoded
 pub mod Alike
 pub mod Sizes
+pub mod Fronts
+pub mod Counted
