@@ -3,3 +3,4 @@ pub mod Alike
 pub mod Sizes
 pub mod Fronts
 pub mod Counted
+pub mod CountedLabels
