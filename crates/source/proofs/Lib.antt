@@ -4,3 +4,4 @@ pub mod Sizes
 pub mod Fronts
 pub mod Counted
 pub mod CountedLabels
+pub mod CountedLetters

@@ -110,7 +110,7 @@ impl Entries {
             (λ _. IsFull self.new) }
     {
         if !self.is_known {
-            return Ok(matches!(byte, b'A'..=b'Z' | b'?'));
+            return Ok(is_letter(byte));
         }
         if byte == b'?' {
             self.is_known = false;
@@ -139,9 +139,26 @@ impl Entries {
         };
         self.front = turn.front;
         match turn.said {
-            Some(Code::Number(number)) => self.take_number(hypotheses, arities, number),
-            Some(Code::Mark) => self.mark(),
+            Some(code) => self.take_code(hypotheses, arities, code),
             None => Ok(true),
+        }
+    }
+
+    /// One more code.
+    fn take_code(
+        &mut self,
+        hypotheses: usize,
+        arities: &[usize],
+        code: Code,
+    ) -> Result<bool, AllocError>
+        ensures { MatchResult result (λ goes. (earlier : List Assertion) (active : List Hypothesis) (labels : List Word)
+            → CountNumbers earlier active labels hypotheses arities.now
+            → IsStep earlier active (step_of labels code) self.old self.new goes)
+            (λ _. IsFull self.new) }
+    {
+        match code {
+            Code::Number(number) => self.take_number(hypotheses, arities, number),
+            Code::Mark => self.mark(),
         }
     }
 
@@ -205,4 +222,11 @@ impl Entries {
             None => Err(AllocError),
         }
     }
+}
+
+/// Whether a byte is a letter of a compressed proof, or `?`.
+fn is_letter(byte: u8) -> bool
+    ensures { result ≡ is_letter byte }
+{
+    matches!(byte, b'A'..=b'Z' | b'?')
 }
