@@ -21,7 +21,7 @@ use Rattle.source.proofs.Fronts.{open_front, shut_front, whole_front, stopped}
 use Rattle.source.proofs.Counted.{one_more, counted_some, run-append}
 use Rattle.source.proofs.CountedLabels.{known_none, known_one, any_more, or_true}
 
-abbrev is_question : ℕ → Bool
+abbrev pub is_question : ℕ → Bool
 is_question b = b == 63
 
 -- what is true beside a test that is
@@ -94,11 +94,11 @@ no_turn front b letter other =
 
 module _ (earlier : List Assertion) (active : List Hypothesis) (labels : List Word) where
   -- what letters leave
-  abbrev left_by : List Code → Option (Stack (Unit {0}))
+  abbrev pub left_by : List Code → Option (Stack (Unit {0}))
   left_by codes = run there earlier active (Some empty) (map (step_of labels) codes)
 
   -- letters go on where their codes leave something
-  goes_by : (letters : List ℕ) (codes : List Code) (front : ℕ) (goes : Bool) (p : ℕ × ℕ)
+  pub goes_by : (letters : List ℕ) (codes : List Code) (front : ℕ) (goes : Bool) (p : ℕ × ℕ)
       → decoded 0 (known_letters letters) ≡ Some (record { codes = codes; front = front })
       → counts (left_by codes) ≡ (if goes then Some p else None) → goes ≡ letters_go_on earlier active labels letters
   goes_by letters codes front goes p said left =

@@ -5,3 +5,4 @@ pub mod Fronts
 pub mod Counted
 pub mod CountedLabels
 pub mod CountedLetters
+pub mod CountedWords
