@@ -5,11 +5,11 @@ use Rattle.std.specs.Prelude.{Option, Some, None, ◌||◌, ◌&&◌, ◌==◌, 
 use Rattle.std.specs.Option.{option_map, option_and_then}
 use Rattle.std.specs.List.{list_any, list_all, flat_map, All}
 use Rattle.std.specs.Str.{bytes_eq}
-use Rattle.std.proofs.lemmas.Bool.{cases_Bool, and_cases, and_left, and_right, cond-true, cond-false}
-use Rattle.std.proofs.lemmas.List.{map-append, append-nil, take_all, take-append-drop, drop_more}
+use Rattle.std.proofs.lemmas.Bool.{cases_Bool, and_cases, and_parts, and_left, and_right, cond-true, cond-false}
+use Rattle.std.proofs.lemmas.List.{map-append, append-nil, take_all, take-append-drop, take_more, drop_more}
 use Rattle.std.proofs.lemmas.Option.{some_pair_parts}
 use Rattle.std.proofs.lemmas.List.Elements.{All-filter}
-use Rattle.std.proofs.lemmas.List.Folds.{list_any-append, list_all-append, list_any_at, list_all_at}
+use Rattle.std.proofs.lemmas.List.Folds.{list_any-append, list_all-append, list_any_at, list_all_at, list_all_more}
 use Rattle.std.proofs.lemmas.Grind.{flat_map-append}
 use mathlib.Core.Bool.{not}
 use Rattle.mmtext.specs.Words.{Word}
@@ -72,6 +72,18 @@ tests_find : (a b : Bool) → first_fault ((not a, BadToken) ∷ (not b, BadToke
 tests_find true true = refl
 tests_find true false = refl
 tests_find false b = refl
+
+-- one more byte
+pub one_byte : (earlier : List Assertion) (active : List Hypothesis) (labels : List Word) (letters : List ℕ) (w : Word) (i : ℕ) (c : Entries)
+    → i < length w → list_all is_letter (take i w) ≡ true
+    → (is_letter (get_or w i 0) && letters_go_on earlier active labels ((letters ++ take i w) ++ get_or w i 0 ∷ [])) ≡ true
+    → LettersAreCounted earlier active labels ((letters ++ take i w) ++ get_or w i 0 ∷ []) c
+    → LettersAreCounted earlier active labels (letters ++ take (i + 1) w) c × (list_all is_letter (take (i + 1) w) ≡ true)
+one_byte earlier active labels letters w i c lt all goes counted =
+    (subst (λ z. LettersAreCounted earlier active labels z c)
+         (append_assoc letters (take i w) (get_or w i 0 ∷ []) ∙ ap (λ z. letters ++ z) (sym (take_more w i 0 lt))) counted,
+     list_all_more is_letter w i 0 lt ∙ ap (λ b. b && is_letter (get_or w i 0)) all
+         ∙ (and_parts (is_letter (get_or w i 0)) (letters_go_on earlier active labels ((letters ++ take i w) ++ get_or w i 0 ∷ [])) goes).0)
 
 -- no byte fails
 pub word_goes : (s : Scope) (e labels ls : List Word) (w : Word) (n : ℕ) (c : Entries) → length w ≤ n
