@@ -1,5 +1,5 @@
 -- What a step leads to, on a stack of which the counts are known.
-use Rattle.std.proofs.Common.{◌≡◌, ℕ, zero, suc, pred, ◌+◌, ◌-◌, ◌<◌, ◌≤◌, Bool, true, false, List, [], ◌∷◌, ◌++◌, length, get_or, replicate, map, refl, sym, ap}
+use Rattle.std.proofs.Common.{◌≡◌, ℕ, zero, suc, ◌-◌, ◌<◌, ◌≤◌, Bool, true, false, List, [], ◌∷◌, ◌++◌, length, get_or, refl, sym, ap}
 use Rattle.std.proofs.Common.{subst, ◌∙◌, inl, inr, arith}
 use Rattle.std.specs.Prelude.{Option, Some, None, nat_le, slice_get, is_some, if◌then◌else◌}
 use Rattle.std.specs.Option.{option_map}
@@ -8,8 +8,8 @@ use Rattle.std.proofs.lemmas.Option.{some_pair_parts, slice_get-get_or, slice_ge
 use Rattle.mmtext.specs.Words.{Word}
 use Rattle.source.specs.declared.entries.Entries.{Entries}
 use Rattle.source.specs.Scopes.{Hypothesis, Assertion}
-use Rattle.source.specs.Proofs.{Step, names, again, marks, numbered, taken_by, Stack, pop, put, cite, repeat, stepped, run, there}
-use Rattle.source.specs.Counts.{counts, HaveArities, CountNumbers, IsStep}
+use Rattle.source.specs.Proofs.{Step, names, again, numbered, taken_by, Stack, pop, put, cite, repeat, stepped, run, there}
+use Rattle.source.specs.Counts.{counts, HaveArities, IsStep}
 
 -- ---- entries come off
 
@@ -39,15 +39,15 @@ cited w s (Some hs) k e =
     let at_k = ap (λ j. taken j n (length s.marked)) k-is in
     elim (cases_lt n (length hs)) [
       | inl lt ↦
-        ap (λ p. counts (put there w s.marked p)) (pop_few hs s.entries [] lt)
-        ∙ ap (λ b. if b then Some (suc (n - length hs), length s.marked) else None) (sym (lt-leb (length hs) n lt))
-        ∙ at_k
+          ap (λ p. counts (put there w s.marked p)) (pop_few hs s.entries [] lt)
+          ∙ ap (λ b. if b then Some (suc (n - length hs), length s.marked) else None) (sym (lt-leb (length hs) n lt))
+          ∙ at_k
       | inr le ↦
-        let rest = pop_many hs s.entries [] le in
-        ap (λ p. counts (put there w s.marked p)) rest.1
-        ∙ ap (λ i. Some (suc i, length s.marked)) rest.2
-        ∙ ap (λ b. if b then Some (suc (n - length hs), length s.marked) else None) (sym (le-leb (length hs) n le))
-        ∙ at_k
+          let rest = pop_many hs s.entries [] le in
+          ap (λ p. counts (put there w s.marked p)) rest.1
+          ∙ ap (λ i. Some (suc i, length s.marked)) rest.2
+          ∙ ap (λ b. if b then Some (suc (n - length hs), length s.marked) else None) (sym (le-leb (length hs) n le))
+          ∙ at_k
     ]
 
 -- the call says it, and the new counts do
@@ -102,7 +102,7 @@ module _ (earlier : List Assertion) (active : List Hypothesis) where
             repeated s n (omega (arith, both.1))
             ∙ ap (λ b. if b then Some (suc (length s.entries), length s.marked) else None) (sym (le-leb 0 (length s.entries) (omega arith)))
             ∙ ap (λ i. if nat_le 0 (length s.entries) then Some (suc i, length s.marked) else None)
-                (let e : length s.entries ≡ length s.entries - 0 = omega arith in e)
+            (let e : length s.entries ≡ length s.entries - 0 = omega arith in e)
             ∙ outcome 0 (length s.entries) (length s.marked) old new goes both.0 both.1 is new-is;
         front = same_front old new _ goes new-is;
         known = same_known old new _ goes new-is;

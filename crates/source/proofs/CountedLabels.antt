@@ -1,6 +1,6 @@
 -- What is counted of the labels of a normal proof, with one more of them.
-use Rattle.std.proofs.Common.{◌≡◌, ℕ, Bool, true, false, List, [], ◌∷◌, ◌++◌, map, refl, sym, ap, subst, ◌∙◌, inl, inr}
-use Rattle.std.specs.Prelude.{Some, None, ◌||◌, is_some, if◌then◌else◌}
+use Rattle.std.proofs.Common.{◌≡◌, Bool, true, false, List, [], ◌∷◌, ◌++◌, map, refl, sym, ap, subst, ◌∙◌, inl, inr}
+use Rattle.std.specs.Prelude.{Some, None, ◌||◌, if◌then◌else◌}
 use Rattle.std.specs.List.{list_any}
 use Rattle.std.proofs.lemmas.Bool.{cases_Bool, not-true, not-false}
 use Rattle.std.proofs.lemmas.List.{map-append, append-nil}
@@ -9,7 +9,7 @@ use mathlib.Core.Bool.{not}
 use Rattle.mmtext.specs.Words.{Word}
 use Rattle.source.specs.declared.entries.Entries.{Entries}
 use Rattle.source.specs.Scopes.{Hypothesis, Assertion, is_unknown}
-use Rattle.source.specs.Proofs.{Step, names, empty, run, there, known_labels, labels_go_on}
+use Rattle.source.specs.Proofs.{names, empty, run, there, known_labels, labels_go_on}
 use Rattle.source.specs.Counts.{counts, LabelsAreCounted, IsStep}
 use Rattle.source.proofs.Fronts.{open_front, shut_front, whole_front, stopped}
 use Rattle.source.proofs.Counted.{one_more, counted_some}
@@ -37,13 +37,14 @@ module _ (earlier : List Assertion) (active : List Hypothesis) where
   label_after ws w c counted off =
       let found = known_one is_unknown ws c.is_known counted.known off in
       let same = shut_front is_unknown ws (w ∷ []) found in
-      let left = ap (λ ks. counts (run there earlier active (Some empty) (map (λ k. names k) ks))) same ∙ counted.left in
-      (counted_some (run there earlier active (Some empty) (map (λ k. names k) (known_labels (ws ++ w ∷ [])))) true (c.entries, c.marked) left,
-       record {
-         left = left;
-         front = counted.front;
-         known = counted.known ∙ ap not (found ∙ sym (list_any-append is_unknown ws (w ∷ []) ∙ ap (λ b. b || (is_unknown w || false)) found));
-       })
+      let left = ap (λ ks. counts (run there earlier active (Some empty) (map (λ k. names k) ks))) same ∙ counted.left in (
+        counted_some (run there earlier active (Some empty) (map (λ k. names k) (known_labels (ws ++ w ∷ [])))) true (c.entries, c.marked) left,
+        record {
+          left = left;
+          front = counted.front;
+          known = counted.known ∙ ap not (found ∙ sym (list_any-append is_unknown ws (w ∷ []) ∙ ap (λ b. b || (is_unknown w || false)) found));
+        },
+      )
 
   -- a ?
   pub label_skipped : (ws : List Word) (w : Word) (old new : Entries) → LabelsAreCounted earlier active ws old → is_unknown w ≡ true
@@ -54,43 +55,44 @@ module _ (earlier : List Assertion) (active : List Hypothesis) where
         front = counted.front;
         known = ap not (sym found);
       })
-      where
-        same : known_labels (ws ++ w ∷ []) ≡ known_labels ws
-        same =
-            elim (cases_Bool (list_any is_unknown ws)) [
-              | inl found ↦ shut_front is_unknown ws (w ∷ []) found
-              | inr none ↦
+    where
+      same : known_labels (ws ++ w ∷ []) ≡ known_labels ws
+      same =
+          elim (cases_Bool (list_any is_unknown ws)) [
+            | inl found ↦ shut_front is_unknown ws (w ∷ []) found
+            | inr none ↦
                 open_front is_unknown ws (w ∷ []) none ∙ ap (λ z. ws ++ z) (stopped is_unknown w [] unknown)
                 ∙ append-nil ws ∙ sym (whole_front is_unknown ws none)
-            ]
+          ]
 
-        found : list_any is_unknown (ws ++ w ∷ []) ≡ true
-        found =
-            list_any-append is_unknown ws (w ∷ []) ∙ ap (λ b. list_any is_unknown ws || (b || false)) unknown ∙ or_true (list_any is_unknown ws)
+      found : list_any is_unknown (ws ++ w ∷ []) ≡ true
+      found =
+          list_any-append is_unknown ws (w ∷ []) ∙ ap (λ b. list_any is_unknown ws || (b || false)) unknown ∙ or_true (list_any is_unknown ws)
 
   -- a label
   pub label_counted : (ws : List Word) (w : Word) (old new : Entries) (goes : Bool) → LabelsAreCounted earlier active ws old
       → old.is_known ≡ true → is_unknown w ≡ false → IsStep earlier active (names w) old new goes
       → (goes ≡ labels_go_on earlier active (ws ++ w ∷ [])) × (goes ≡ true → LabelsAreCounted earlier active (ws ++ w ∷ []) new)
-  label_counted ws w old new goes counted on label step =
-      (counted_some (run there earlier active (Some empty) (map (λ k. names k) (known_labels (ws ++ w ∷ [])))) goes (new.entries, new.marked) left,
-       λ go. record {
-         left = left ∙ ap (λ b. if b then Some (new.entries, new.marked) else None) go;
-         front = step.front ∙ counted.front;
-         known = step.known ∙ on ∙ ap not (sym (any_more is_unknown ws w false false none label));
-       })
-      where
-        none : list_any is_unknown ws ≡ false
-        none = known_none is_unknown ws old.is_known counted.known on
+  label_counted ws w old new goes counted on label step = (
+    counted_some (run there earlier active (Some empty) (map (λ k. names k) (known_labels (ws ++ w ∷ [])))) goes (new.entries, new.marked) left,
+    λ go. record {
+      left = left ∙ ap (λ b. if b then Some (new.entries, new.marked) else None) go;
+      front = step.front ∙ counted.front;
+      known = step.known ∙ on ∙ ap not (sym (any_more is_unknown ws w false false none label));
+    },
+  )
+    where
+      none : list_any is_unknown ws ≡ false
+      none = known_none is_unknown ws old.is_known counted.known on
 
-        all : known_labels (ws ++ w ∷ []) ≡ known_labels ws ++ w ∷ []
-        all =
-            whole_front is_unknown (ws ++ w ∷ []) (any_more is_unknown ws w false false none label)
-            ∙ ap (λ z. z ++ w ∷ []) (sym (whole_front is_unknown ws none))
+      all : known_labels (ws ++ w ∷ []) ≡ known_labels ws ++ w ∷ []
+      all =
+          whole_front is_unknown (ws ++ w ∷ []) (any_more is_unknown ws w false false none label)
+          ∙ ap (λ z. z ++ w ∷ []) (sym (whole_front is_unknown ws none))
 
-        left : counts (run there earlier active (Some empty) (map (λ k. names k) (known_labels (ws ++ w ∷ []))))
-            ≡ (if goes then Some (new.entries, new.marked) else None)
-        left =
-            ap (λ ks. counts (run there earlier active (Some empty) (map (λ k. names k) ks))) all
-            ∙ ap (λ xs. counts (run there earlier active (Some empty) xs)) (map-append (λ k. names k) (known_labels ws) (w ∷ []))
-            ∙ one_more earlier active (Some empty) (map (λ k. names k) (known_labels ws)) (names w) old new goes counted.left step
+      left : counts (run there earlier active (Some empty) (map (λ k. names k) (known_labels (ws ++ w ∷ []))))
+          ≡ (if goes then Some (new.entries, new.marked) else None)
+      left =
+          ap (λ ks. counts (run there earlier active (Some empty) (map (λ k. names k) ks))) all
+          ∙ ap (λ xs. counts (run there earlier active (Some empty) xs)) (map-append (λ k. names k) (known_labels ws) (w ∷ []))
+          ∙ one_more earlier active (Some empty) (map (λ k. names k) (known_labels ws)) (names w) old new goes counted.left step

@@ -32,8 +32,8 @@ module _ {A : Type 0} (q : A → Bool) where
       elim (cases_Bool (q x)) [
         | inl found ↦ stopped x (xs ++ ys) found ∙ sym (stopped x xs found)
         | inr other ↦
-          let later : list_any q xs ≡ true = ap (λ b. b || list_any q xs) (sym other) ∙ h in
-          passed x (xs ++ ys) other ∙ ap (λ z. x ∷ z) (shut_front xs ys later) ∙ sym (passed x xs other)
+            let later : list_any q xs ≡ true = ap (λ b. b || list_any q xs) (sym other) ∙ h in
+            passed x (xs ++ ys) other ∙ ap (λ z. x ∷ z) (shut_front xs ys later) ∙ sym (passed x xs other)
       ]
 
   -- all stands in front where it finds none

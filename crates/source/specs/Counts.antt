@@ -1,5 +1,5 @@
 -- While the words of a proof are read: that the steps so far are there, and how many entries they left on the stack.
-use Rattle.std.specs.Prelude.{◌≡◌, ℕ, Bool, true, false, ◌&&◌, ◌==◌, List, [], ◌∷◌, ◌++◌, map, length, replicate, Option, Some, None, if◌then◌else◌, ◌⊎◌, ◌-◌, ◌^◌}
+use Rattle.std.specs.Prelude.{◌≡◌, ℕ, Bool, ◌==◌, List, ◌++◌, map, length, replicate, Option, Some, None, if◌then◌else◌, ◌⊎◌, ◌-◌, ◌^◌}
 use Rattle.std.specs.Option.{option_map}
 use Rattle.std.specs.List.{list_any, flat_map}
 use mathlib.Core.Bool.{not}
@@ -7,7 +7,7 @@ use Rattle.mmtext.specs.Words.{Word}
 use Rattle.source.specs.declared.letters.Code.{Code}
 use Rattle.source.specs.declared.entries.Entries.{Entries}
 use Rattle.source.specs.Scopes.{Hypothesis, Assertion, Scope, is_unknown}
-use Rattle.source.specs.Letters.{Decoded, decoded}
+use Rattle.source.specs.Letters.{decoded}
 use Rattle.source.specs.Proofs.{Step, names, step_of, taken_by, Stack, empty, stepped, run, there, known_labels, known_letters}
 use Rattle.source.specs.Tests.{numbered_labels}
 

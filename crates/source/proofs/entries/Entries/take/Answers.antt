@@ -1,6 +1,5 @@
 -- What is left to show of `take`.
 use Rattle.std.proofs.lemmas.Result.{MatchResult-weaker}
-use Rattle.source.specs.Proofs.{names}
 use Rattle.source.proofs.Counted.{named_step}
 use Rattle.source.proofs.CountedLabels.{label_after, label_counted}
 use Rattle.source.proofs.entries.Entries.take.Goals as goal
@@ -10,7 +9,7 @@ returns-then-self c =
     let old = c.args.self.now in
     MatchResult-weaker c.put.result c.put.ensures
     (λ goes puts s ws w counted label takes. label_counted s.assertions s.hypotheses ws w old c.put.new.self goes counted c.if-self.true label
-        (named_step s.assertions s.hypotheses w c.args.arity old c.put.new.self goes takes puts.0 puts.1))
+    (named_step s.assertions s.hypotheses w c.args.arity old c.put.new.self goes takes puts.0 puts.1))
     (λ _ full. full)
 
 pub returns-else-self : goal.returns-else-self

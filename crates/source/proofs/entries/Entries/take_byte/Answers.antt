@@ -1,8 +1,6 @@
 -- What is left to show of `take_byte`.
-use Rattle.std.proofs.Common.{List, [], ◌∷◌, ◌++◌, refl, sym, ap, subst, ◌∙◌}
-use Rattle.std.specs.Prelude.{◌&&◌}
+use Rattle.std.proofs.Common.{refl, ◌∙◌}
 use Rattle.std.proofs.lemmas.Result.{MatchResult-weaker}
-use Rattle.source.specs.Tests.{is_letter}
 use Rattle.source.proofs.CountedLetters.{letter_after, letter_known, letter_is, letter_kept}
 use Rattle.source.proofs.entries.Entries.take_byte.Goals as goal
 
@@ -21,6 +19,6 @@ pub returns : goal.returns
 returns c =
     MatchResult-weaker c.take_letter.result c.take_letter.ensures
     (λ goes says earlier active labels letters counted e.
-        let said = says earlier active labels letters counted e in
-        (letter_is earlier active labels letters c.args.byte c.args.self.now counted c.if-not-self.false c.if-byte-eq63.false goes said.0, said.1))
+    let said = says earlier active labels letters counted e in
+    (letter_is earlier active labels letters c.args.byte c.args.self.now counted c.if-not-self.false c.if-byte-eq63.false goes said.0, said.1))
     (λ _ full. full)

@@ -12,4 +12,4 @@ invariant-loop-byte l =
     (earlier : List Assertion) (active : List Hypothesis) (labels : List Word) (letters : List ℕ)
     → LettersAreCounted earlier active labels letters l.initial.self → CountNumbers earlier active labels l.hypotheses l.arities
     → LettersAreCounted earlier active labels (letters ++ take l.byte-index l.word) l.self
-        × (list_all is_letter (take l.byte-index l.word) ≡ true)
+    × (list_all is_letter (take l.byte-index l.word) ≡ true)

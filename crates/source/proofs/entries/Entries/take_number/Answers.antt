@@ -1,13 +1,13 @@
 -- What is left to show of `take_number`.
-use Rattle.std.proofs.Common.{◌≡◌, ℕ, suc, pred, ◌+◌, ◌-◌, ◌<◌, ◌≤◌, Bool, true, false, List, ◌++◌, length, get_or, replicate, sym, ap, subst, ◌∙◌, arith, refl}
-use Rattle.std.specs.Prelude.{Result, Ok, Err, MatchResult, nat_le, if◌then◌else◌}
+use Rattle.std.proofs.Common.{◌≡◌, ℕ, suc, pred, ◌+◌, ◌-◌, ◌<◌, ◌≤◌, Bool, false, List, ◌++◌, length, get_or, replicate, sym, subst, ◌∙◌, arith, refl}
+use Rattle.std.specs.Prelude.{nat_le, if◌then◌else◌}
 use Rattle.std.proofs.lemmas.Result.{MatchResult-weaker}
 use Rattle.std.proofs.lemmas.List.{length-append, length-replicate, get_or-replicate, get_or_append_left, get_or-append_right}
 use Rattle.mmtext.specs.Words.{Word}
 use Rattle.source.specs.declared.entries.Entries.{Entries}
 use Rattle.source.specs.Scopes.{Hypothesis, Assertion}
-use Rattle.source.specs.Proofs.{names, again, numbered}
-use Rattle.source.specs.Counts.{CountNumbers, IsStep, IsFull}
+use Rattle.source.specs.Proofs.{again, numbered}
+use Rattle.source.specs.Counts.{CountNumbers, IsStep}
 use Rattle.source.proofs.Counted.{label_step, marked_step, again_step, absent_step}
 use Rattle.source.proofs.entries.Entries.take_number.Goals as goal
 
@@ -45,13 +45,13 @@ of_mark : (h : ℕ) (ks : List ℕ) (i number : ℕ) (old new : Entries) (goes :
 of_mark h ks i number old new goes is le past step earlier active labels e =
     subst (λ j. IsStep earlier active (numbered labels j) old new goes) is
     (marked_step earlier active labels (replicate h 0 ++ ks) i (i - h - length ks) old new goes e (omega (arith, many h ks))
-        (omega (arith, many h ks)) (step earlier active))
+    (omega (arith, many h ks)) (step earlier active))
 
 pub returns-then-index-hypotheses : goal.returns-then-index-hypotheses
 returns-then-index-hypotheses c =
     MatchResult-weaker c.put.result c.put.ensures
     (λ goes puts. of_hypothesis c.args.hypotheses c.args.arities.now c.saturating_sub-index.result c.args.number c.args.self.now c.put.new.self
-        goes (omega arith) c.if-index-hypotheses.true puts)
+    goes (omega arith) c.if-index-hypotheses.true puts)
     (λ _ full. full)
 
 pub returns-then-index-arities : goal.returns-then-index-arities
@@ -59,7 +59,7 @@ returns-then-index-arities c =
     let call = c.put-then-index-arities in
     MatchResult-weaker call.result call.ensures
     (λ goes puts. of_label c.args.hypotheses c.args.arities.now c.saturating_sub-index.result _ c.args.number c.args.self.now call.new.self
-        goes (omega arith) c.if-index-hypotheses.false c.if-index-arities.true refl puts)
+    goes (omega arith) c.if-index-hypotheses.false c.if-index-arities.true refl puts)
     (λ _ full. full)
 
 pub returns-then-index-arities-2 : goal.returns-then-index-arities-2
@@ -67,8 +67,8 @@ returns-then-index-arities-2 c =
     let call = c.put-then-index-arities-2 in
     MatchResult-weaker call.result call.ensures
     (λ goes puts. of_mark c.args.hypotheses c.args.arities.now c.saturating_sub-index.result c.args.number c.args.self.now call.new.self
-        goes (omega arith) c.if-index-hypotheses.false c.if-index-arities.false
-        (λ earlier active. again_step earlier active _ c.args.self.now call.new.self goes c.if-index-arities-2.true puts.0 puts.1))
+    goes (omega arith) c.if-index-hypotheses.false c.if-index-arities.false
+    (λ earlier active. again_step earlier active _ c.args.self.now call.new.self goes c.if-index-arities-2.true puts.0 puts.1))
     (λ _ full. full)
 
 pub returns : goal.returns
