@@ -12,3 +12,8 @@ pub mod ParsedRows
 pub mod Parsed
 pub mod ParsedStatements
 pub mod SourceLaws
+pub mod Fronts
+pub mod Counted
+pub mod CountedLabels
+pub mod CountedLetters
+pub mod CountedWords

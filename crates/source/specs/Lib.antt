@@ -7,4 +7,5 @@ pub mod Sources
 pub mod Faults
 pub mod Laws
 pub mod Views
+pub mod Counts
 pub mod Examples
