@@ -13,8 +13,9 @@ use Rattle.library.specs.declared.command.Reply.{Reply}
 use Rattle.scripts.specs.ScriptFaults.{Led, inside, whole_command, bad, bad_text, is_numeral}
 use Rattle.scripts.specs.ScriptViews.{decided, number_at}
 use Rattle.library.specs.declared.history.Entry.{Entry}
-use Rattle.historytext.specs.Places.{Answered, going, whole_reply, wrong, wrong_text, number_row, asked, answered}
-use Rattle.historytext.specs.Views.{answer}
+use Rattle.historytext.specs.Grammar.{highest_count}
+use Rattle.historytext.specs.Places.{Answered, Progress, at, at_entry, count_row, going, whole_reply, wrong, wrong_text, number_row, asked, answered}
+use Rattle.historytext.specs.Views.{answer, count_at}
 
 -- where a number isn't one, the row of the number stops
 pub number_fails : (highest : ℕ) (u : Token) (behind : ℕ → Answered) (why : Stop) → Fails why (number_at highest u)
@@ -32,6 +33,23 @@ number_fails highest u behind (stop.Fault f) h = go (is_numeral u.text) (ltb hig
     go false c e = h_is e
       where
         h_is : fault {X = ℕ} u BadToken ≡ Err f → fault {X = Answered} u BadToken ≡ Err f
+        h_is e = cc
+
+-- where the number of entries isn't one, its row stops
+pub count_fails : (entries : List Entry) (u : Token) (why : Stop) → Fails why (count_at u) → Fails why (count_row entries u)
+count_fails entries u stop.Memory h = tt
+count_fails entries u (stop.Fault f) h = go (is_numeral u.text) (ltb highest_count (digits_value 10 u.text)) h
+  where
+    go : (b c : Bool) → cond b (cond c (fault u TooLong) (Ok (digits_value 10 u.text))) (fault u BadToken) ≡ Err f
+        → cond b (cond c (fault u TooLong) (at entries (at_entry (digits_value 10 u.text)))) (fault u BadToken) ≡ Err f
+    go true true e = h_is e
+      where
+        h_is : fault {X = ℕ} u TooLong ≡ Err f → fault {X = Progress} u TooLong ≡ Err f
+        h_is e = cc
+    go true false e = absurd cc
+    go false c e = h_is e
+      where
+        h_is : fault {X = ℕ} u BadToken ≡ Err f → fault {X = Progress} u BadToken ≡ Err f
         h_is e = cc
 
 -- where a command stops, the entry does

@@ -17,16 +17,17 @@ use Rattle.jobs.specs.declared.job.Job.{Job}
 use Rattle.jobs.specs.declared.job.Job.TheVariants.{Check, Run, Replay}
 use Rattle.jobs.specs.declared.job.Printed.{Printed}
 use Rattle.jobs.specs.declared.answering.Answered.TheVariants.{Refused}
-use Rattle.jobs.specs.declared.job.Fault.{Fault}
-use Rattle.jobs.specs.declared.job.Fault.TheVariants.{Text, Proof, Differs, NoMemory}
-use Rattle.jobs.specs.Outcomes.{setting_of}
-use Rattle.jobs.specs.Jobs.{Bytes, ok_line, replayed_lines, IsChecked, IsHistory, IsDifference, IsRun, PrintsReplay, IsReplay, DoneAsAsked}
-use Rattle.jobs.specs.Jobs.{IsReplayFault, IsFaultOf, AnswersItsOwn, IsPrintedBy}
-use Rattle.jobs.specs.FaultLines.{line_of}
+use Rattle.checking.specs.declared.fault.Fault.{Fault}
+use Rattle.checking.specs.declared.fault.Fault.TheVariants.{Text, Proof, Differs, NoMemory}
+use Rattle.checking.specs.Outcomes.{setting_of}
+use Rattle.checking.specs.Checks.{Bytes, ok_line, replayed_lines, IsChecked, IsHistory, IsDifference, PrintsReplay, IsReplay, IsReplayFault}
+use Rattle.jobs.specs.Jobs.{IsRun, DoneAsAsked}
+use Rattle.jobs.specs.Jobs.{IsFaultOf, AnswersItsOwn, IsPrintedBy}
+use Rattle.checking.specs.FaultLines.{line_of}
 use Rattle.jobs.specs.Tasks.{IsToldBy}
 use Rattle.jobs.specs.Laws.{RunsHaveNoFaultAgain}
-use Rattle.jobs.proofs.Accepted.{accepted_checks, accepted_faultless, one_database, checked_faultless}
-use Rattle.jobs.proofs.ReplayFaults.{no_difference}
+use Rattle.checking.proofs.Accepted.{accepted_checks, accepted_faultless, one_database, checked_faultless}
+use Rattle.checking.proofs.ReplayFaults.{no_difference}
 
 -- without a fault, memory ran out
 memory_alone : (f : Fault) → (f ≢ NoMemory → ⊥) → f ≡ NoMemory
@@ -97,7 +98,7 @@ answers_its_own (Check db) (Ok printed) done fault =
     λ a short.
     let checked = accepted_checks db.items a short in
     done.0.prints ∙ ap ok_line (one_database db.items done.0.contents a.database done.0.checked.read checked.read)
-answers_its_own (Check db) (Err f) done fault = λ a short. memory_alone f (λ ne. accepted_faultless db f a short (fault ne))
+answers_its_own (Check db) (Err f) done fault = λ a short. memory_alone f (λ ne. accepted_faultless db.items a short f (fault ne))
 answers_its_own (Run db texts workers room asked) answer done fault = tt
 answers_its_own (Replay db history) (Ok printed) done fault =
     λ texts workers room out run short. replay_printed db.items history.items out texts workers room run printed.out.items done.0

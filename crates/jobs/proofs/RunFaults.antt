@@ -4,14 +4,16 @@ use Rattle.std.specs.Prelude.{IfOk, IfErr}
 use Rattle.mmtext.specs.declared.fault.TextFault.{TextFault}
 use Rattle.mmsyntax.specs.Tables.{Tables, Contents}
 use Rattle.plaincells.specs.Measures.{bodies_length}
-use Rattle.jobs.specs.declared.job.Fault.{Fault}
-use Rattle.jobs.specs.declared.job.Fault.TheVariants.{Text, Proof, StoreFull, NoMemory}
+use Rattle.checking.specs.declared.fault.Fault.{Fault}
+use Rattle.checking.specs.declared.fault.Fault.TheVariants.{Text, Proof, StoreFull, NoMemory}
 use Rattle.jobs.specs.declared.job.Job.{Job}
 use Rattle.jobs.specs.declared.job.Printed.{Printed}
-use Rattle.jobs.specs.Jobs.{Bytes, Orders, IsChecked, AreScripts, IsFirstFault, IsDatabaseFault, PrintsRun, IsRun}
-use Rattle.jobs.specs.Jobs.{IsRunFault, IsRunLack, IsFaultOf, IsLackOf, IsOrLacksMemory, RefusesWith}
-use Rattle.jobs.specs.Parts.{IsScriptFault, IsRefusedBy, IsWorkFault}
-use Rattle.jobs.proofs.Faults.{no_first}
+use Rattle.checking.specs.Checks.{Bytes, Orders, IsChecked, AreScripts, IsFirstFault, IsDatabaseFault, IsOrLacksMemory, RefusesWith}
+use Rattle.jobs.specs.Jobs.{PrintsRun, IsRun}
+use Rattle.jobs.specs.Jobs.{IsRunFault, IsRunLack, IsFaultOf, IsLackOf}
+use Rattle.checking.specs.Parts.{IsScriptFault, IsRefusedBy}
+use Rattle.jobs.specs.Parts.{IsWorkFault}
+use Rattle.checking.proofs.ScriptFaults.{no_first}
 
 -- ---- what is answered
 

@@ -17,7 +17,7 @@ use Rattle.transaction.specs.Openings.{IsOpened}
 use Rattle.jobs.specs.Edits.{AreToldBy, IsEdited, IsLack}
 use Rattle.jobs.specs.declared.error.EditError.{EditError}
 use Rattle.jobs.specs.declared.error.EditError.TheVariants as edit
-use Rattle.jobs.specs.Outcomes.{setting_of}
+use Rattle.checking.specs.Outcomes.{setting_of}
 use Rattle.jobs.specs.Jobs.{IsWorked}
 use Rattle.jobs.specs.Parts.{shape_with, IsWorkFault, from_edit}
 

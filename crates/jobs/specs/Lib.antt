@@ -1,5 +1,3 @@
-pub mod Outcomes
-pub mod FaultLines
 pub mod Jobs
 pub mod Parts
 pub mod Tasks

@@ -1,15 +1,16 @@
 -- What is asked of texts, and what is answered.
-use Rattle.std.specs.Prelude.{◌≡◌, ◌≢◌, ◌≤◌, ◌⊎◌, ℕ, List, [], ◌∷◌, map, string_bytes}
+use Rattle.std.specs.Prelude.{◌≡◌, ◌≢◌, ◌⊎◌, List, [], ◌∷◌, map, string_bytes}
 use Rattle.jobs.specs.declared.job.Job.{Job}
 use Rattle.jobs.specs.declared.job.Job.TheVariants as job
-use Rattle.jobs.specs.declared.job.Fault.{Fault}
-use Rattle.jobs.specs.declared.job.Fault.TheVariants.{NoMemory}
-use Rattle.jobs.specs.declared.task.Task.{Task}
-use Rattle.jobs.specs.declared.task.Task.TheVariants.{Check, Run, Replay}
+use Rattle.checking.specs.declared.fault.Fault.{Fault}
+use Rattle.checking.specs.declared.fault.Fault.TheVariants.{NoMemory}
+use Rattle.checking.specs.declared.task.Task.{Task}
+use Rattle.checking.specs.declared.task.Task.TheVariants.{Check, Run, Replay}
 use Rattle.jobs.specs.declared.answering.Answered.{Answered}
 use Rattle.jobs.specs.declared.answering.Answered.TheVariants.{Done, Refused}
-use Rattle.jobs.specs.FaultLines.{line_of, fault_text}
-use Rattle.jobs.specs.Jobs.{Bytes, DoneAsAsked, IsFaultOf, IsLackOf}
+use Rattle.checking.specs.FaultLines.{line_of, fault_text}
+use Rattle.checking.specs.Checks.{Bytes}
+use Rattle.jobs.specs.Jobs.{DoneAsAsked, IsFaultOf, IsLackOf}
 
 -- ---- jobs of texts
 
@@ -23,12 +24,6 @@ abbrev pub task_of : Job → Task
 task_of (job.Check db) = Check
 task_of (job.Run db scripts workers room asked) = Run workers room asked
 task_of (job.Replay db history) = Replay
-
--- so many texts are a job: a database alone; one before any number of scripts; one before a history
-abbrev pub TakesTexts : Task → ℕ → Type 0
-TakesTexts Check count = count ≡ 1
-TakesTexts (Run workers room asked) count = 1 ≤ count
-TakesTexts Replay count = count ≡ 2
 
 -- the job of a task on exactly these texts
 pub record IsJobOf (asked : Task) (given : List Bytes) (j : Job) : Type 0 where

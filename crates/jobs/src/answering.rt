@@ -1,7 +1,7 @@
 //! What the program answers to a job: what it prints, or the line of its fault.
 
-ghost use Rattle.std.specs.Prelude.{◌≡◌, map, IfOk};
-ghost use Rattle.jobs.specs.declared.job.Fault.{Fault as FaultOfJob};
+ghost use Rattle.std.specs.Prelude.{map, IfOk};
+ghost use Rattle.checking.specs.declared.fault.Fault.{Fault as FaultOfJob};
 ghost use Rattle.jobs.specs.Jobs.{AreWithin, IsFaultOf, AnswersItsOwn};
 ghost use Rattle.jobs.specs.Tasks.{Answers, IsLineOf, IsToldBy};
 

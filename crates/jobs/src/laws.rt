@@ -1,12 +1,7 @@
 //! Laws of the definitions: each function does nothing, and its contract is the law.
 
-ghost use Rattle.jobs.specs.Laws.{SpelledScriptsFit, FaultLabelsAreShown};
-ghost use Rattle.jobs.specs.Laws.{AcceptedTextsCheck, AcceptedTextsHaveNoFault, RunsHaveNoFaultAgain};
-
-/// Over a prelude that some text declares, each command of a script that is spelled is within the limits of that prelude.
-pub fn spelled_scripts_fit()
-    ensures { SpelledScriptsFit }
-{}
+ghost use Rattle.checking.specs.Laws.{AcceptedTextsCheck};
+ghost use Rattle.jobs.specs.Laws.{FaultLabelsAreShown, AcceptedTextsHaveNoFault, RunsHaveNoFaultAgain};
 
 /// The line of a faulty proof has the label of its theorem as it stands in the database: a label is text.
 pub fn fault_labels_are_shown()

@@ -7,20 +7,17 @@ mod error;
 mod job;
 mod laws;
 mod performing;
-mod replaying;
 mod running;
 mod task;
-mod telling;
 mod watching;
 
 pub use answering::{Answered, answer};
 pub use editing::{Edited, edit_all};
 pub use error::EditError;
-pub use job::{Fault, Job, Printed};
-pub use laws::{
-    accepted_texts_check, fault_labels_are_shown, runs_are_replayed, spelled_scripts_fit,
-};
+pub use checking::{Fault, Task, spelled_scripts_fit};
+pub use job::{Job, Printed};
+pub use laws::{accepted_texts_check, fault_labels_are_shown, runs_are_replayed};
 pub use performing::perform;
-pub use task::{Task, job_of};
+pub use task::job_of;
 pub use watching::Watch;
 pub use workers::{Gate, Open};

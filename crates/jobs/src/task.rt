@@ -1,24 +1,11 @@
-//! What is asked of texts.
+//! The job of texts.
 
 ghost use Rattle.std.specs.Prelude.{◌↔◌, length, map, IfSome, IsNone};
-ghost use Rattle.jobs.specs.Tasks.{TakesTexts, IsJobOf};
+ghost use Rattle.checking.specs.Tasks.{TakesTexts};
+ghost use Rattle.jobs.specs.Tasks.{IsJobOf};
 
 use crate::job::Job;
-
-/// What is to be done with the texts of a command line.
-#[derive(Clone, Copy, Debug, PartialEq, Eq)]
-pub enum Task {
-    /// Checks the proofs of a database.
-    Check,
-    /// Runs scripts over a database, with so many workers, in a store with room for so many words. The text of the history may be asked for.
-    Run {
-        workers: usize,
-        room: usize,
-        history: bool,
-    },
-    /// Does a history again over a database.
-    Replay,
-}
+use checking::Task;
 
 /// The job of a task on texts, the first of which is the database: a check takes no other, a run the scripts behind it, all of them and in
 /// their order, and a replay the one history behind it. None for any other number of texts.

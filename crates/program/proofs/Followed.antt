@@ -7,13 +7,13 @@ use Rattle.clap.specs.declared.error.kind.ErrorKind.TheVariants.{OutOfMemory}
 use Rattle.clap.specs.Words.{HasKind, Row, Text, fault_of, kind_of, subcommand_of}
 use Rattle.jobs.specs.declared.answering.Answered.{Answered}
 use Rattle.jobs.specs.declared.job.Job.{Job}
-use Rattle.jobs.specs.declared.task.Task.{Task}
+use Rattle.checking.specs.declared.task.Task.{Task}
 use Rattle.jobs.specs.Tasks.{IsJobOf}
 use Rattle.program.specs.declared.conduct.Unread.{Unread}
 use Rattle.program.specs.declared.conduct.Unread.TheVariants as unread
-use Rattle.program.specs.CommandLine.{program_app}
+use Rattle.commandline.specs.CommandLine.{program_app}
 use Rattle.program.specs.Events.{Bytes, Event, IsQuiet, reads, says}
-use Rattle.program.specs.Orders.{IsOrder}
+use Rattle.commandline.specs.Orders.{IsOrder}
 use Rattle.program.specs.Conduct.{EndsBy, IsAnswer, IsAnswered, IsFollowed, IsJobAnswered, IsMatched, IsObeyed, IsShown, IsStopped, IsTold, IsUnreadTold, reads_of}
 use Rattle.program.proofs.Behind.{EndsBy-behind, EndsBy-weaker, quiet_nothing, reads_are_quiet}
 

@@ -1,4 +1,2 @@
-pub mod Lines
-pub mod Numbers
 pub mod Behind
 pub mod Followed

@@ -6,18 +6,19 @@ use Rattle.clap.specs.declared.error.kind.ErrorKind.TheVariants.{DisplayHelp, Di
 use Rattle.clap.specs.Words.{Row, Text, HasKind, fault_of, kind_of, subcommand_of}
 use Rattle.jobs.specs.declared.answering.Answered.{Answered}
 use Rattle.jobs.specs.declared.answering.Answered.TheVariants.{Done, Refused}
-use Rattle.jobs.specs.declared.job.Fault.{Fault}
+use Rattle.checking.specs.declared.fault.Fault.{Fault}
 use Rattle.jobs.specs.declared.job.Job.{Job}
-use Rattle.jobs.specs.declared.task.Task.{Task}
+use Rattle.checking.specs.declared.task.Task.{Task}
 use Rattle.jobs.specs.Jobs.{IsFaultOf, AnswersItsOwn}
-use Rattle.jobs.specs.Tasks.{Answers, IsJobOf, IsLineOf, IsToldBy, TakesTexts}
+use Rattle.jobs.specs.Tasks.{Answers, IsJobOf, IsLineOf, IsToldBy}
+use Rattle.checking.specs.Tasks.{TakesTexts}
 use Rattle.program.specs.declared.conduct.Unread.{Unread}
 use Rattle.program.specs.declared.conduct.Unread.TheVariants as unread
 use Rattle.program.specs.declared.world.Trouble.{Trouble}
 use Rattle.program.specs.declared.world.Trouble.TheVariants as trouble
-use Rattle.program.specs.CommandLine.{program_app}
+use Rattle.commandline.specs.CommandLine.{program_app}
 use Rattle.program.specs.Events.{Bytes, Event, IsQuiet, reads, writes, prints, says, shows}
-use Rattle.program.specs.Orders.{AsksFor, IsOrder}
+use Rattle.commandline.specs.Orders.{AsksFor, IsOrder}
 
 -- ---- an answer
 

@@ -1,4 +1,2 @@
-pub mod CommandLine
-pub mod Orders
 pub mod Events
 pub mod Conduct

@@ -4,14 +4,13 @@ ghost use Rattle.std.specs.Prelude.{◌≡◌, ◌≢◌, ◌∷◌, [], List, S
 ghost use Rattle.clap.specs.Words.{kind_of, subcommand_rows_of};
 ghost use Rattle.jobs.specs.Jobs.{AreWithin};
 ghost use Rattle.program.specs.Events.{Event, Adds, says};
-ghost use Rattle.program.specs.Orders.{AsksWithin};
+ghost use Rattle.commandline.specs.Orders.{AsksWithin};
 ghost use Rattle.program.specs.Conduct.{IsPrinted, IsWritten, IsTold, IsReadBehind, AreRead, IsUnreadTold, IsJobAnswered, IsAnswered, IsFollowed, IsShown, IsMatched, IsObeyed, EndsBy, Obeys};
 
-use crate::arguments::command_line;
-use crate::order::{Order, order_of};
 use crate::world::{Trouble, World};
 use clap::ArgMatches;
 use clap::error::ErrorKind;
+use commandline::{Order, command_line, order_of};
 use jobs::{Answered, Job, Watch, answer, job_of};
 use std::alloc::{AllocError, Global};
 use std::hash::RandomState;

@@ -11,7 +11,8 @@ use Rattle.std.proofs.lemmas.Str.Parse.{digit_from_value}
 use Rattle.std.specs.Char.{digit_value}
 use Rattle.std.proofs.Common.{◌≤◌, length, subst}
 use Rattle.reports.specs.Reports.{report_text}
-use Rattle.jobs.specs.Jobs.{IsRun, replayed_lines, library_lines}
+use Rattle.jobs.specs.Jobs.{IsRun}
+use Rattle.checking.specs.Checks.{replayed_lines, library_lines}
 
 abbrev is_feed : ℕ → Bool
 is_feed b = b == 10

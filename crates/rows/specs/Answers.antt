@@ -9,8 +9,9 @@ use Rattle.mmsyntax.specs.Layout.{text_of, assertion_text}
 use Rattle.mmsyntax.specs.Assertions.{Fits}
 use Rattle.derivation.specs.declared.fault.ProofFaultKind.TheVariants.{NoMemory as NoMemoryOfProof}
 use Rattle.derivation.specs.Databases.{AllCheck, IsFirstFault}
-use Rattle.jobs.specs.declared.job.Fault.TheVariants.{NoMemory as NoMemoryOfJob}
-use Rattle.jobs.specs.Jobs.{IsRun, IsRunFault, IsRunLack, IsReplay, IsReplayFault, library_lines}
+use Rattle.checking.specs.declared.fault.Fault.TheVariants.{NoMemory as NoMemoryOfJob}
+use Rattle.jobs.specs.Jobs.{IsRun, IsRunFault, IsRunLack}
+use Rattle.checking.specs.Checks.{IsReplay, IsReplayFault, library_lines}
 use Rattle.rows.specs.declared.answer.Answer.{Answer}
 use Rattle.rows.specs.declared.answer.Answer.TheVariants.{Kept, Read, Faulty, Text, Unfit, Checked, Unread, FaultyProof, Failed, Differs}
 

@@ -5,7 +5,7 @@ use Rattle.std.specs.declared.alloc.Global.{Global}
 use Rattle.std.specs.declared.vec.Vec.{Vec}
 use Rattle.jobs.specs.declared.job.Job.{Job}
 use Rattle.jobs.specs.declared.job.Job.TheVariants.{Run}
-use Rattle.jobs.specs.Jobs.{IsWithin}
+use Rattle.checking.specs.Tasks.{IsWithin}
 use Rattle.rows.specs.declared.answer.Answer.{Answer}
 use Rattle.rows.specs.declared.answer.Answer.TheVariants.{Kept, NoCommand}
 use Rattle.rows.specs.declared.runs.Runs.{Runs}

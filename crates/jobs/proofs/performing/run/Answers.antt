@@ -1,6 +1,6 @@
 use Rattle.std.proofs.Common.{inl, map, subst}
 use Rattle.std.proofs.lemmas.Result.{err_from_is_err_and}
-use Rattle.jobs.specs.Jobs.{AreScripts}
+use Rattle.checking.specs.Checks.{AreScripts}
 use Rattle.jobs.proofs.RunFaults.{database_of_run, script_of_run, run_faulted, run_done}
 use Rattle.jobs.proofs.RunFaults.{run_refused_by_database, run_refused_by_script, run_refused_by_room}
 use Rattle.jobs.proofs.performing.run.Goals as goal

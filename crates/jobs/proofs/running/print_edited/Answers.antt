@@ -9,10 +9,10 @@ use Rattle.historytext.proofs.LegalFits.{legal_histories_fit}
 use Rattle.historytext.proofs.Spelled.{legal_histories_are_spelled}
 use Rattle.export.proofs.Accepted.{exported_accepted}
 use Rattle.workers.specs.Works.{lists_of}
-use Rattle.jobs.specs.Outcomes.{setting_of}
+use Rattle.checking.specs.Outcomes.{setting_of}
 use Rattle.reports.specs.Reports.{OutcomesFit, report_text}
-use Rattle.jobs.specs.Jobs.{library_lines}
-use Rattle.jobs.proofs.Fronts.{opening_stands, fronts_of}
+use Rattle.checking.specs.Checks.{library_lines}
+use Rattle.checking.proofs.Fronts.{opening_stands, fronts_of}
 use Rattle.jobs.proofs.Printable.{printable}
 use Rattle.jobs.proofs.running.print_edited.Goals as goal
 

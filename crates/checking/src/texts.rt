@@ -1,0 +1,54 @@
+//! A check and a replay, from bytes to bytes.
+
+ghost use Rattle.std.specs.Prelude.{◌≡◌, ◌≢◌, ◌++◌, ◌∷◌, [], IfOk, IfErr, codes};
+ghost use Rattle.std.specs.Fmt.{decimal};
+ghost use Rattle.checking.specs.declared.fault.Fault.{Fault as FaultOfJob};
+ghost use Rattle.checking.specs.declared.fault.Fault.TheVariants.{NoMemory};
+ghost use Rattle.checking.specs.Checks.{IsCheck, IsReplay, IsDatabaseFault, IsReplayFault, RefusesWith};
+
+use crate::database::read_and_check;
+use crate::fault::Fault;
+use crate::replaying::{print_replay, read_entries};
+use std::alloc::{AllocError, Global};
+use std::hash::RandomState;
+use std::thread::Threads;
+
+/// `ok`, and the number of assertions.
+fn print_count(alloc: Global, count: usize) -> Result<Vec<u8>, AllocError>
+    ensures { IfOk result (λ out. out.items ≡ codes "ok " ++ (decimal count ++ 10 ∷ [])) }
+{
+    let line = format!(in alloc; "ok {count}\n")?;
+    Ok(line.into_bytes())
+}
+
+/// Checks the proofs of a database, as a text, and gives what is printed.
+pub fn check(
+    rt: &(impl Threads + Sync),
+    alloc: Global,
+    keys: RandomState,
+    db: &[u8],
+) -> Result<Vec<u8>, Fault>
+    ensures done { IfOk result (λ out. IsCheck db.now out.items) }
+    ensures fault { IfErr result (λ f. f ≢ NoMemory → IsDatabaseFault db.now f) }
+    ensures refused { (f : FaultOfJob) → IsDatabaseFault db.now f → RefusesWith f result }
+{
+    let db = read_and_check(rt, alloc, keys, db)?;
+    Ok(print_count(alloc, db.assertions().len())?)
+}
+
+/// Does the transactions of a history again, over a database, as texts, and gives what is printed.
+pub fn replay(
+    rt: &(impl Threads + Sync),
+    alloc: Global,
+    keys: RandomState,
+    db: &[u8],
+    history: &[u8],
+) -> Result<Vec<u8>, Fault>
+    ensures done { IfOk result (λ out. IsReplay db.now history.now out.items) }
+    ensures fault { IfErr result (λ f. f ≢ NoMemory → IsReplayFault db.now history.now f) }
+    ensures refused { (f : FaultOfJob) → IsReplayFault db.now history.now f → RefusesWith f result }
+{
+    let db = read_and_check(rt, alloc, keys, db)?;
+    let entries = read_entries(alloc, db.prelude(), history)?;
+    print_replay(alloc, keys, &db, entries.as_slice())
+}

@@ -1,0 +1,24 @@
+-- The number that an argument has.
+use Rattle.std.proofs.Common.{◌≡◌, ◌<◌, ◌^◌, ℕ, Option, Some, None, IfSome, IsNone, Result, refl, sym, subst}
+use Rattle.std.specs.Str.Parse.{ParsesUnsigned, ExplainsUnsignedError, HasUnsignedDigitsIfOk}
+use Rattle.std.specs.declared.num.ParseIntError.{ParseIntError}
+use Rattle.clap.specs.Words.{Text, ReadsOne}
+use Rattle.commandline.specs.Orders.{IsNumber}
+
+abbrev Gives : Text → Result ℕ ParseIntError → Type 0
+Gives bs r = ParsesUnsigned 64 10 bs r × ExplainsUnsignedError 10 bs r × HasUnsignedDigitsIfOk bs r
+
+-- what was read is the number
+pub read_is_number : (o : Option Text) (r : Option ℕ) → (o ≡ None → r ≡ None) → ((t : Text) → o ≡ Some t → ReadsOne Gives t r) → IfSome r (IsNumber o)
+read_is_number None r none some = subst (λ (x : Option ℕ). IfSome x (IsNumber None)) (sym (none refl)) tt
+read_is_number (Some t) None none some = tt
+read_is_number (Some t) (Some n) none some = let got = some t refl in (got.0.0.0, got.0.1)
+
+-- nothing was read only where there is no number below 2^64
+pub unread_is_none : (o : Option Text) (r : Option ℕ) → ((t : Text) → o ≡ Some t → ReadsOne Gives t r) → IsNone r
+    → (n : ℕ) → n < 2 ^ 64 → IsNumber o n → ⊥
+unread_is_none None r some none n small is = is
+unread_is_none (Some t) (Some m) some none n small is = cc
+unread_is_none (Some t) None some none n small is =
+    let got = some t refl in
+    got.1.0 (is.0, subst (λ (m : ℕ). m < 2 ^ 64) is.1 small)

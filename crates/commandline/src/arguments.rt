@@ -1,0 +1,138 @@
+//! The command lines that the program takes.
+
+ghost use Rattle.std.specs.Prelude.{IfOk};
+ghost use Rattle.commandline.specs.CommandLine.{IsArgument, IsLine, database_rule, workers_rule, room_rule, history_rule, scripts_rule, replayed_rule};
+ghost use Rattle.commandline.specs.CommandLine.{check_app, run_app, replay_app, program_app};
+
+use clap::builder::ValueParser;
+use clap::{Arg, ArgAction, Command};
+use std::alloc::{AllocError, Global};
+
+/// The most workers that a run has.
+pub(crate) const WORKERS: usize = 64;
+
+/// The most words that the store of a run has room for.
+pub(crate) const ROOM: usize = 16_777_216;
+
+/// The database of a job.
+fn database<'a>(alloc: Global) -> Arg<'a>
+    ensures { IsArgument database_rule result }
+{
+    Arg::new(alloc, "DB")
+        .help("A Metamath database")
+        .required(true)
+        .action(ArgAction::Set)
+}
+
+/// `--workers N`.
+fn workers<'a>(alloc: Global) -> Arg<'a>
+    ensures { IsArgument workers_rule result }
+{
+    Arg::new(alloc, "workers")
+        .long("workers")
+        .value_name("N")
+        .help("How many workers run the scripts, 1 to 64: each takes the next one")
+        .value_parser(ValueParser::unsigned(1, WORKERS as u64))
+        .default_value("1")
+        .action(ArgAction::Set)
+}
+
+/// `--room W`.
+fn room<'a>(alloc: Global) -> Arg<'a>
+    ensures { IsArgument room_rule result }
+{
+    Arg::new(alloc, "room")
+        .long("room")
+        .value_name("W")
+        .help("How many words the store of labels, statements and proofs has, up to 16777216")
+        .long_help(
+            "How many words the store of labels, statements and proofs has, up to 16777216. \
+             What a transaction stages stays used. Raise it where a run answers `store full`",
+        )
+        .value_parser(ValueParser::unsigned(0, ROOM as u64))
+        .default_value("1048576")
+        .action(ArgAction::Set)
+}
+
+/// `--history FILE`.
+fn history<'a>(alloc: Global) -> Arg<'a>
+    ensures { IsArgument history_rule result }
+{
+    Arg::new(alloc, "history")
+        .long("history")
+        .value_name("FILE")
+        .help("Writes the history of the run to this file")
+        .action(ArgAction::Set)
+}
+
+/// The scripts of a run.
+fn scripts<'a>(alloc: Global) -> Arg<'a>
+    ensures { IsArgument scripts_rule result }
+{
+    Arg::new(alloc, "SCRIPT")
+        .help("Edit scripts: each worker runs one after another")
+        .required(true)
+        .num_args(1..)
+        .action(ArgAction::Append)
+}
+
+/// The history of a replay.
+fn replayed<'a>(alloc: Global) -> Arg<'a>
+    ensures { IsArgument replayed_rule result }
+{
+    Arg::new(alloc, "HISTORY")
+        .help("The history of a run over the database")
+        .required(true)
+        .action(ArgAction::Set)
+}
+
+/// `mmrefactor check DB`.
+fn check_line<'a>(alloc: Global) -> Result<Command<'a>, AllocError>
+    ensures { IfOk result (IsLine check_app) }
+{
+    Command::new(alloc, "check")
+        .about("Checks the proofs of a database; prints the number of its assertions")
+        .arg(database(alloc))
+}
+
+/// `mmrefactor run [--workers N] [--room W] [--history FILE] DB SCRIPT..`.
+fn run_line<'a>(alloc: Global) -> Result<Command<'a>, AllocError>
+    ensures { IfOk result (IsLine run_app) }
+{
+    Command::new(alloc, "run")
+        .about("Runs edit scripts over a database; prints their replies and the resulting database")
+        .arg(workers(alloc))?
+        .arg(room(alloc))?
+        .arg(history(alloc))?
+        .arg(database(alloc))?
+        .arg(scripts(alloc))
+}
+
+/// `mmrefactor replay DB HISTORY`.
+fn replay_line<'a>(alloc: Global) -> Result<Command<'a>, AllocError>
+    ensures { IfOk result (IsLine replay_app) }
+{
+    Command::new(alloc, "replay")
+        .about("Does a history again and compares its replies; prints the resulting database")
+        .arg(database(alloc))?
+        .arg(replayed(alloc))
+}
+
+/// The command lines that the program takes: `mmrefactor check DB`, `mmrefactor run [--workers N] [--room W] [--history FILE] DB SCRIPT..` and
+/// `mmrefactor replay DB HISTORY`.
+///
+/// # Errors
+///
+/// Want of memory.
+pub fn command_line<'a>(alloc: Global) -> Result<Command<'a>, AllocError>
+    ensures { IfOk result (IsLine program_app) }
+{
+    Command::new(alloc, "mmrefactor")
+        .version("0.1.0")
+        .about("Refactors libraries of Metamath theorems")
+        .subcommand_required(true)
+        .arg_required_else_help(true)
+        .subcommand(check_line(alloc)?)?
+        .subcommand(run_line(alloc)?)?
+        .subcommand(replay_line(alloc)?)
+}

@@ -1,0 +1,8 @@
+//! What a command line asks for: its words, as the parser of command lines knows them.
+#![tactic(auto)]
+
+mod arguments;
+mod order;
+
+pub use arguments::command_line;
+pub use order::{Order, order_of};

@@ -1,5 +1,0 @@
-use Rattle.scripts.proofs.ScriptLaws.{script_fits}
-use Rattle.jobs.proofs.laws.spelled_scripts_fit.Goals as goal
-
-pub returns : goal.returns
-returns c = script_fits
