@@ -1,5 +1,6 @@
 -- What a walk over nodes lists, by what is named alone.
 use Rattle.std.specs.Prelude.{◌≡◌, ℕ, Bool, true, false, List, [], ◌∷◌, ◌++◌, length, slice_get, Option, Some, MatchOption}
+use mathlib.Core.Bool.{not}
 use Rattle.mmsyntax.specs.declared.statement.Step.{Step}
 use Rattle.source.specs.Proofs.{Tree}
 use Rattle.taking.specs.declared.named.Named.{Named}
@@ -11,13 +12,21 @@ use Rattle.taking.specs.Nodes.{Shared, trees}
 abbrev pub TakesAll : List Named → Shared → Type 0
 TakesAll named n = MatchOption (slice_get named n.named) ⊥ (λ x. length n.arguments ≡ length x.floats)
 
+-- a flag is as wanted
+abbrev pub is_wanted : Bool → Bool → Bool
+is_wanted true f = f
+is_wanted false f = not f
+
+-- one more in front, or not
+abbrev pub in_front : {A : Type 0} → Bool → A → List A → List A
+in_front true x xs = x ∷ xs
+in_front false x xs = xs
+
 -- what stands at the $f, or at the $e
 abbrev pub picked : {A : Type 0} → Bool → List Bool → List A → List A
-picked true (true ∷ fs) (x ∷ xs) = x ∷ picked true fs xs
-picked true (false ∷ fs) (x ∷ xs) = picked true fs xs
-picked false (true ∷ fs) (x ∷ xs) = picked false fs xs
-picked false (false ∷ fs) (x ∷ xs) = x ∷ picked false fs xs
-picked _ _ _ = []
+picked wanted [] xs = []
+picked wanted (f ∷ fs) [] = []
+picked wanted (f ∷ fs) (x ∷ xs) = in_front (is_wanted wanted f) x (picked wanted fs xs)
 
 -- the profile's order: first the $f
 abbrev pub arranged : {A : Type 0} → List Bool → List A → List A

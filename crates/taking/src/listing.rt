@@ -56,12 +56,13 @@ pub fn list(
     let mut pending = Vec::new(alloc);
     pending.push(root)?;
     while let Some(place) = pending.pop() {
+        let arguments = nodes.arguments(place);
         let cited = &named[nodes.named(place)];
         let Some(step) = &cited.step else {
             return Ok(None);
         };
         steps.push(step.copy(alloc)?)?;
-        push_arguments(&mut pending, nodes.arguments(place), cited.floats.as_slice())?;
+        push_arguments(&mut pending, arguments, cited.floats.as_slice())?;
     }
     steps.reverse();
     Ok(Some(Sequence::from_vec(steps)))

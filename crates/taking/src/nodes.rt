@@ -1,6 +1,6 @@
 //! The nodes of a proof, in which a marked subproof stands once.
 
-ghost use Rattle.std.specs.Prelude.{◌≡◌, ◌<◌, ◌++◌, ◌∷◌, [], length, slice_get, Some, OnOk};
+ghost use Rattle.std.specs.Prelude.{◌≡◌, ◌<◌, ◌++◌, ◌∷◌, [], length, slice_get, Some, OnOk, OnErr};
 ghost use Rattle.std.specs.Option.{option_map};
 ghost use Rattle.taking.specs.Nodes.{AreBelow, sizes, counted};
 ghost use Rattle.taking.specs.Views.{size_over};
@@ -83,10 +83,11 @@ impl Nodes {
         self.nodes[place].size
     }
 
-    /// One more node, over others. After an error nothing is said of the nodes.
+    /// One more node, over others. After an error the nodes are as they were.
     pub fn push(&mut self, named: usize, arguments: &[usize]) -> Result<(), AllocError>
         requires { AreBelow (length self.old) arguments.now }
-        ensures { OnOk result (self.new ≡ self.old ++ record { named = named; arguments = arguments.now } ∷ []) }
+        ensures ok { OnOk result (self.new ≡ self.old ++ record { named = named; arguments = arguments.now } ∷ []) }
+        ensures err { OnErr result (self.new ≡ self.old) }
     {
         let size = self.size_over(arguments);
         let begin = self.arguments.len();
