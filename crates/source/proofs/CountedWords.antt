@@ -249,8 +249,8 @@ letters_ended earlier active hypotheses labels ls c counted =
         → makes (uncut (Some (record { codes = counted.codes; front = c.front }))) ≡ ((c.entries == 1) && (c.front == 0))
     uncut_makes (inl whole) =
         ap makes (cond-true (c.front == 0) (Some counted.codes) None whole)
-        ∙ one_left (run there earlier active (Some empty) (map (step_of (map label_of hypotheses ++ labels)) counted.codes)) c.entries c.marked
-        counted.left
+        ∙ one_left (run there earlier active (Some empty) (map (step_of (map label_of hypotheses ++ labels)) counted.codes))
+        c.entries c.marked counted.left
         ∙ beside_true (c.entries == 1) (c.front == 0) whole
     uncut_makes (inr cut) =
         ap makes (cond-false (c.front == 0) (Some counted.codes) None cut) ∙ sym (and_right (c.entries == 1) (c.front == 0) cut)

@@ -5,3 +5,4 @@ pub mod Gathered
 pub mod Listed
 pub mod Labels
 pub mod Kept
+pub mod LongListings

@@ -9,3 +9,4 @@ pub mod Views
 pub mod Walks
 pub mod Decoded
 pub mod Examples
+pub mod Lengths

@@ -3,6 +3,7 @@
 
 mod decoded;
 pub mod laws;
+pub mod lengths;
 mod listing;
 mod named;
 mod nodes;
