@@ -149,7 +149,8 @@ module _ (earlier : List Assertion) (active : List Hypothesis) where
       (named_step at.0 k old new goes (at.2 ∙ ap (λ n. Some n) (sym k-is)) is new-is)
 
   pub marked_step : (ws : List Word) (ks : List ℕ) (i n : ℕ) (old new : Entries) (goes : Bool) → HaveArities earlier active ws ks
-      → length ks ≤ i → n ≡ i - length ks → IsStep earlier active (again n) old new goes → IsStep earlier active (numbered ws i) old new goes
+      → length ks ≤ i → n ≡ i - length ks → IsStep earlier active (again n) old new goes
+      → IsStep earlier active (numbered ws i) old new goes
   marked_step ws ks i n old new goes e le n-is step =
       subst (λ x. IsStep earlier active x old new goes) (ap again n-is ∙ sym (numbered_past ws ks i e le)) step
 

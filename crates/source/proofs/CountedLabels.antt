@@ -19,14 +19,17 @@ or_true true = refl
 or_true false = refl
 
 -- a ? was read, or none
-pub known_none : {A : Type 0} (q : A → Bool) (xs : List A) (known : Bool) → known ≡ not (list_any q xs) → known ≡ true → list_any q xs ≡ false
+pub known_none : {A : Type 0} (q : A → Bool) (xs : List A) (known : Bool) → known ≡ not (list_any q xs)
+    → known ≡ true → list_any q xs ≡ false
 known_none q xs known is on = not-true (list_any q xs) (sym is ∙ on)
 
-pub known_one : {A : Type 0} (q : A → Bool) (xs : List A) (known : Bool) → known ≡ not (list_any q xs) → known ≡ false → list_any q xs ≡ true
+pub known_one : {A : Type 0} (q : A → Bool) (xs : List A) (known : Bool) → known ≡ not (list_any q xs)
+    → known ≡ false → list_any q xs ≡ true
 known_one q xs known is off = not-false (list_any q xs) (sym is ∙ off)
 
 -- the test finds one behind others that it finds, or behind none
-pub any_more : {A : Type 0} (q : A → Bool) (xs : List A) (x : A) (a b : Bool) → list_any q xs ≡ a → q x ≡ b → list_any q (xs ++ x ∷ []) ≡ (a || b)
+pub any_more : {A : Type 0} (q : A → Bool) (xs : List A) (x : A) (a b : Bool) → list_any q xs ≡ a → q x ≡ b
+    → list_any q (xs ++ x ∷ []) ≡ (a || b)
 any_more q xs x a false e f = list_any-append q xs (x ∷ []) ∙ ap (λ c. c || (q x || false)) e ∙ ap (λ c. a || (c || false)) f
 any_more q xs x a true e f = list_any-append q xs (x ∷ []) ∙ ap (λ c. c || (q x || false)) e ∙ ap (λ c. a || (c || false)) f
 
@@ -38,11 +41,13 @@ module _ (earlier : List Assertion) (active : List Hypothesis) where
       let found = known_one is_unknown ws c.is_known counted.known off in
       let same = shut_front is_unknown ws (w ∷ []) found in
       let left = ap (λ ks. counts (run there earlier active (Some empty) (map (λ k. names k) ks))) same ∙ counted.left in (
-        counted_some (run there earlier active (Some empty) (map (λ k. names k) (known_labels (ws ++ w ∷ [])))) true (c.entries, c.marked) left,
+        counted_some (run there earlier active (Some empty) (map (λ k. names k) (known_labels (ws ++ w ∷ [])))) true
+            (c.entries, c.marked) left,
         record {
           left = left;
           front = counted.front;
-          known = counted.known ∙ ap not (found ∙ sym (list_any-append is_unknown ws (w ∷ []) ∙ ap (λ b. b || (is_unknown w || false)) found));
+          known = counted.known
+              ∙ ap not (found ∙ sym (list_any-append is_unknown ws (w ∷ []) ∙ ap (λ b. b || (is_unknown w || false)) found));
         },
       )
 
@@ -67,14 +72,16 @@ module _ (earlier : List Assertion) (active : List Hypothesis) where
 
       found : list_any is_unknown (ws ++ w ∷ []) ≡ true
       found =
-          list_any-append is_unknown ws (w ∷ []) ∙ ap (λ b. list_any is_unknown ws || (b || false)) unknown ∙ or_true (list_any is_unknown ws)
+          list_any-append is_unknown ws (w ∷ []) ∙ ap (λ b. list_any is_unknown ws || (b || false)) unknown
+          ∙ or_true (list_any is_unknown ws)
 
   -- a label
   pub label_counted : (ws : List Word) (w : Word) (old new : Entries) (goes : Bool) → LabelsAreCounted earlier active ws old
       → old.is_known ≡ true → is_unknown w ≡ false → IsStep earlier active (names w) old new goes
       → (goes ≡ labels_go_on earlier active (ws ++ w ∷ [])) × (goes ≡ true → LabelsAreCounted earlier active (ws ++ w ∷ []) new)
   label_counted ws w old new goes counted on label step = (
-    counted_some (run there earlier active (Some empty) (map (λ k. names k) (known_labels (ws ++ w ∷ [])))) goes (new.entries, new.marked) left,
+    counted_some (run there earlier active (Some empty) (map (λ k. names k) (known_labels (ws ++ w ∷ [])))) goes
+        (new.entries, new.marked) left,
     λ go. record {
       left = left ∙ ap (λ b. if b then Some (new.entries, new.marked) else None) go;
       front = step.front ∙ counted.front;

@@ -149,8 +149,8 @@ module _ (earlier : List Assertion) (active : List Hypothesis) (labels : List Wo
       said = ap (decoded 0) same ∙ counted.said
 
   -- the same, as a test of a byte
-  pub letter_known : (letters : List ℕ) (b : ℕ) (old new : Entries) → LettersAreCounted earlier active labels letters old → old.is_known ≡ true
-      → b ≡ 63 → new ≡ record old { is_known = false }
+  pub letter_known : (letters : List ℕ) (b : ℕ) (old new : Entries) → LettersAreCounted earlier active labels letters old
+      → old.is_known ≡ true → b ≡ 63 → new ≡ record old { is_known = false }
       → (true ≡ (is_letter b && letters_go_on earlier active labels (letters ++ b ∷ [])))
       × (true ≡ true → LettersAreCounted earlier active labels (letters ++ b ∷ []) new)
   letter_known letters b old new counted on is new-is =
@@ -244,7 +244,8 @@ module _ (earlier : List Assertion) (active : List Hypothesis) (labels : List Wo
   -- ---- what doesn't go on doesn't with more letters either
 
   stuck : (steps more : List Step) → go_on earlier active (Some steps) ≡ false → go_on earlier active (Some (steps ++ more)) ≡ false
-  stuck steps more h = ap is_some (run-append earlier active (Some empty) steps more) ∙ none_on (run there earlier active (Some empty) steps) h
+  stuck steps more h = ap is_some (run-append earlier active (Some empty) steps more)
+      ∙ none_on (run there earlier active (Some empty) steps) h
     where
       none_on : (s : Option (Stack (Unit {0}))) → is_some s ≡ false → is_some (run there earlier active s more) ≡ false
       none_on None e = lost more
@@ -254,12 +255,14 @@ module _ (earlier : List Assertion) (active : List Hypothesis) (labels : List Wo
           lost (x ∷ xs) = refl
       none_on (Some s) e = absurd cc
 
-  stuck_on : (d : Option Decoded) (rest : ℕ → Option Decoded) → go_on earlier active (option_map (λ (d : Decoded). map (step_of labels) d.codes) d) ≡ false
+  stuck_on : (d : Option Decoded) (rest : ℕ → Option Decoded)
+      → go_on earlier active (option_map (λ (d : Decoded). map (step_of labels) d.codes) d) ≡ false
       → go_on earlier active (option_map (λ (d : Decoded). map (step_of labels) d.codes) (joined d rest)) ≡ false
   stuck_on None rest h = refl
   stuck_on (Some d) rest h = with_rest (rest d.front)
     where
-      with_rest : (e : Option Decoded) → go_on earlier active (option_map (λ (d : Decoded). map (step_of labels) d.codes) (following d.codes e)) ≡ false
+      with_rest : (e : Option Decoded)
+          → go_on earlier active (option_map (λ (d : Decoded). map (step_of labels) d.codes) (following d.codes e)) ≡ false
       with_rest None = refl
       with_rest (Some e) =
           ap (λ xs. go_on earlier active (Some xs)) (map-append (step_of labels) d.codes e.codes)
@@ -268,7 +271,8 @@ module _ (earlier : List Assertion) (active : List Hypothesis) (labels : List Wo
   abbrev goes_at : List ℕ → Bool
   goes_at ls = go_on earlier active (option_map (λ (d : Decoded). map (step_of labels) d.codes) (decoded 0 ls))
 
-  pub letters_stuck : (xs ys : List ℕ) → letters_go_on earlier active labels xs ≡ false → letters_go_on earlier active labels (xs ++ ys) ≡ false
+  pub letters_stuck : (xs ys : List ℕ) → letters_go_on earlier active labels xs ≡ false
+      → letters_go_on earlier active labels (xs ++ ys) ≡ false
   letters_stuck xs ys h =
       elim (cases_Bool (list_any is_question xs)) [
         | inl found ↦ ap goes_at (shut_front is_question xs ys found) ∙ h

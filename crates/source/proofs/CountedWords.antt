@@ -1,5 +1,6 @@
 -- What is counted of whole words: of letters, and of a proof at its end.
-use Rattle.std.proofs.Common.{◌≡◌, ℕ, suc, ◌+◌, ◌<◌, ◌≤◌, Bool, true, false, List, [], ◌∷◌, ◌++◌, length, get_or, take, drop, replicate, map, refl, sym, ap, subst}
+use Rattle.std.proofs.Common.{◌≡◌, ℕ, suc, ◌+◌, ◌<◌, ◌≤◌, Bool, true, false, List, [], ◌∷◌, ◌++◌, length, get_or, take}
+use Rattle.std.proofs.Common.{drop, replicate, map, refl, sym, ap, subst}
 use Rattle.std.proofs.Common.{◌∙◌, inl, inr, arith, append_assoc, ne_eqb}
 use Rattle.std.specs.Prelude.{Option, Some, None, find, ◌||◌, ◌&&◌, ◌==◌, ◌⊎◌, is_some, if◌then◌else◌}
 use Rattle.std.specs.Option.{option_map, option_and_then}
@@ -35,7 +36,8 @@ IsActive active h = list_any (λ x. bytes_eq (label_of h) (label_of x)) active �
 
 all_active : (active : List Hypothesis) → All (IsActive active) active
 all_active active =
-    λ k d lt. list_any_at (λ x. bytes_eq (label_of (get_or active k d)) (label_of x)) active k d lt (bytes_eq-same (label_of (get_or active k d)))
+    λ k d lt. list_any_at (λ x. bytes_eq (label_of (get_or active k d)) (label_of x)) active k d lt
+    (bytes_eq-same (label_of (get_or active k d)))
 
 none_taken : (earlier : List Assertion) (active hs : List Hypothesis) → All (IsActive active) hs
     → map (λ w. option_map length (taken_by earlier active w)) (map label_of hs) ≡ map (λ n. Some n) (replicate (length hs) 0)
@@ -47,7 +49,8 @@ none_taken earlier active (h ∷ hs) all =
     ∙ ap (λ z. Some 0 ∷ z) (none_taken earlier active hs (λ k d lt. all (suc k) d (omega arith)))
 
 -- numbers count the mandatory hypotheses, then labels
-pub numbers_counted : (s : Scope) (e labels : List Word) (hypotheses : ℕ) (arities : List ℕ) → hypotheses ≡ length (mandatory s.hypotheses e)
+pub numbers_counted : (s : Scope) (e labels : List Word) (hypotheses : ℕ) (arities : List ℕ)
+    → hypotheses ≡ length (mandatory s.hypotheses e)
     → HaveArities s.assertions s.hypotheses labels arities
     → CountNumbers s.assertions s.hypotheses (numbered_labels s e labels) hypotheses arities
 numbers_counted s e labels hypotheses arities is have =
@@ -75,7 +78,8 @@ found_some p [] h = absurd cc
 found_some p (x ∷ xs) h =
     elim (cases_Bool (p x)) [
       | inl here ↦ ap is_some (cond-true (p x) (Some x) (find p xs) here)
-      | inr other ↦ ap is_some (cond-false (p x) (Some x) (find p xs) other) ∙ found_some p xs (ap (λ b. b || list_any p xs) (sym other) ∙ h)
+      | inr other ↦ ap is_some (cond-false (p x) (Some x) (find p xs) other)
+          ∙ found_some p xs (ap (λ b. b || list_any p xs) (sym other) ∙ h)
     ]
 
 mapped_some : {A B : Type 0} (f : A → B) (o : Option A) → is_some (option_map f o) ≡ is_some o
@@ -109,7 +113,8 @@ tests_find true false = refl
 tests_find false b = refl
 
 -- one more byte
-pub one_byte : (earlier : List Assertion) (active : List Hypothesis) (labels : List Word) (letters : List ℕ) (w : Word) (i : ℕ) (c : Entries)
+pub one_byte : (earlier : List Assertion) (active : List Hypothesis) (labels : List Word) (letters : List ℕ) (w : Word) (i : ℕ)
+    (c : Entries)
     → i < length w → list_all is_letter (take i w) ≡ true
     → (is_letter (get_or w i 0) && letters_go_on earlier active labels ((letters ++ take i w) ++ get_or w i 0 ∷ [])) ≡ true
     → LettersAreCounted earlier active labels ((letters ++ take i w) ++ get_or w i 0 ∷ []) c
@@ -188,7 +193,8 @@ one_left (Some s) n m e = only_one s.entries ∙ ap (λ k. k == 1) (some_pair_pa
 abbrev pub is_ended : Entries → Bool
 is_ended c = not c.is_known || ((c.entries == 1) && (c.front == 0))
 
-ended : (c : Entries) (unfinished made : Bool) → c.is_known ≡ not unfinished → (unfinished ≡ false → made ≡ ((c.entries == 1) && (c.front == 0)))
+ended : (c : Entries) (unfinished made : Bool) → c.is_known ≡ not unfinished
+    → (unfinished ≡ false → made ≡ ((c.entries == 1) && (c.front == 0)))
     → (unfinished || made) ≡ is_ended c
 ended c true made is h = ap (λ b. not b || ((c.entries == 1) && (c.front == 0))) (sym is)
 ended c false made is h = h refl ∙ ap (λ b. not b || ((c.entries == 1) && (c.front == 0))) (sym is)
@@ -214,7 +220,8 @@ labels_ended earlier active hypotheses ws c counted =
     ended c (list_any is_unknown ws) (is_some (made there earlier active (map (λ w. names w) ws))) counted.known
     (λ none.
     one_left (run there earlier active (Some empty) (map (λ w. names w) ws)) c.entries c.marked
-    (ap (λ ks. counts (run there earlier active (Some empty) (map (λ w. names w) ks))) (sym (whole_front is_unknown ws none)) ∙ counted.left)
+    (ap (λ ks. counts (run there earlier active (Some empty) (map (λ w. names w) ks))) (sym (whole_front is_unknown ws none))
+    ∙ counted.left)
     ∙ beside_true (c.entries == 1) (c.front == 0) (ap (λ n. n == 0) counted.front))
 
 any_flat : (ls : List Word) → list_any (list_any is_question) ls ≡ list_any is_question (flat_map (λ l. l) ls)
@@ -242,7 +249,8 @@ letters_ended earlier active hypotheses labels ls c counted =
         → makes (uncut (Some (record { codes = counted.codes; front = c.front }))) ≡ ((c.entries == 1) && (c.front == 0))
     uncut_makes (inl whole) =
         ap makes (cond-true (c.front == 0) (Some counted.codes) None whole)
-        ∙ one_left (run there earlier active (Some empty) (map (step_of (map label_of hypotheses ++ labels)) counted.codes)) c.entries c.marked counted.left
+        ∙ one_left (run there earlier active (Some empty) (map (step_of (map label_of hypotheses ++ labels)) counted.codes))
+        c.entries c.marked counted.left
         ∙ beside_true (c.entries == 1) (c.front == 0) whole
     uncut_makes (inr cut) =
         ap makes (cond-false (c.front == 0) (Some counted.codes) None cut) ∙ sym (and_right (c.entries == 1) (c.front == 0) cut)

@@ -1,6 +1,7 @@
 //! What the steps of a proof take, counted while its words are read.
 
-ghost use Rattle.std.specs.Prelude.{◌≡◌, List, [], ◌∷◌, ◌++◌, ◌-◌, ◌&&◌, ◌≢◌, ℕ, suc, nat_le, length, None, Some, true, false, MatchResult, if◌then◌else◌};
+ghost use Rattle.std.specs.Prelude.{◌≡◌, ◌≢◌, ℕ, suc, ◌-◌, nat_le, true, false, ◌&&◌, List, [], ◌∷◌, ◌++◌, length};
+ghost use Rattle.std.specs.Prelude.{None, Some, MatchResult, if◌then◌else◌};
 ghost use Rattle.std.specs.Option.{option_map};
 ghost use Rattle.mmtext.specs.Words.{Word};
 ghost use Rattle.mmtext.specs.declared.fault.FaultKind.TheVariants.{BadToken};
@@ -16,8 +17,8 @@ use std::alloc::AllocError;
 
 /// How many entries the steps of a proof left on the stack so far, until a step isn't there (`?`).
 ///
-/// Where a call says `false`, the proof is faulty there, and nothing is said of what is counted from then on. It fails where a number is too
-/// large for the machine.
+/// Where a call says `false`, the proof is faulty there, and nothing is said of what is counted from then on. A call fails where a count
+/// would not fit a `usize`: no text is as long.
 #[derive(Debug, Drop)]
 pub struct Entries {
     /// On the stack.
@@ -46,7 +47,8 @@ impl Entries {
 
     /// One more step of a normal proof, `?`: of what stands behind it nothing is asked.
     pub fn skip(&mut self)
-        ensures { (s : Scope) (ws : List Word) (w : Word) → CountsSteps s ws self.old → is_unknown w ≡ true → CountsSteps s (ws ++ w ∷ []) self.new }
+        ensures { (s : Scope) (ws : List Word) (w : Word) → CountsSteps s ws self.old → is_unknown w ≡ true
+            → CountsSteps s (ws ++ w ∷ []) self.new }
     {
         self.is_known = false;
     }
@@ -91,7 +93,8 @@ impl Entries {
     /// Whether the proof whose words these were denotes a tree, or is unfinished.
     pub fn is_whole(&self) -> bool
         ensures steps { (s : Scope) (e ws : List Word) → CountsSteps s ws self.now → result ≡ is_whole s e (normal ws) }
-        ensures letters { (s : Scope) (e labels ls : List Word) → CountsLetters s e labels ls self.now → result ≡ is_whole s e (compressed labels ls) }
+        ensures letters { (s : Scope) (e labels ls : List Word) → CountsLetters s e labels ls self.now
+            → result ≡ is_whole s e (compressed labels ls) }
     {
         !self.is_known || (self.entries == 1 && self.front == 0)
     }
@@ -208,7 +211,8 @@ impl Entries {
 
     /// The last entry is marked: whether there is one. Else nothing is changed.
     fn mark(&mut self) -> Result<bool, AllocError>
-        ensures { MatchResult result (λ goes. (earlier : List Assertion) (active : List Hypothesis) → IsStep earlier active marks self.old self.new goes)
+        ensures { MatchResult result (λ goes. (earlier : List Assertion) (active : List Hypothesis)
+            → IsStep earlier active marks self.old self.new goes)
             (λ _. IsFull self.new) }
     {
         if self.entries == 0 {

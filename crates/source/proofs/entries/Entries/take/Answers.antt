@@ -8,7 +8,8 @@ pub returns-then-self : goal.returns-then-self
 returns-then-self c =
     let old = c.args.self.now in
     MatchResult-weaker c.put.result c.put.ensures
-    (λ goes puts s ws w counted label takes. label_counted s.assertions s.hypotheses ws w old c.put.new.self goes counted c.if-self.true label
+    (λ goes puts s ws w counted label takes. label_counted s.assertions s.hypotheses ws w old c.put.new.self goes counted
+    c.if-self.true label
     (named_step s.assertions s.hypotheses w c.args.arity old c.put.new.self goes takes puts.0 puts.1))
     (λ _ full. full)
 

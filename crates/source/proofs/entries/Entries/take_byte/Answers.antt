@@ -19,6 +19,9 @@ pub returns : goal.returns
 returns c =
     MatchResult-weaker c.take_letter.result c.take_letter.ensures
     (λ goes says earlier active labels letters counted e.
-    let said = says earlier active labels letters counted e in
-    (letter_is earlier active labels letters c.args.byte c.args.self.now counted c.if-not-self.false c.if-byte-eq63.false goes said.0, said.1))
+    let said = says earlier active labels letters counted e in (
+      letter_is earlier active labels letters c.args.byte c.args.self.now counted c.if-not-self.false c.if-byte-eq63.false
+          goes said.0,
+      said.1,
+    ))
     (λ _ full. full)

@@ -9,5 +9,6 @@ pub returns-in-Mark : goal.returns-in-Mark
 returns-in-Mark c =
     MatchResult-weaker c.mark.result c.mark.ensures
     (λ goes step earlier active labels e.
-    subst (λ x. IsStep earlier active x c.args.self.now c.mark.new.self goes) (ap (step_of labels) (sym c.in-Mark.is)) (step earlier active))
+    subst (λ x. IsStep earlier active x c.args.self.now c.mark.new.self goes) (ap (step_of labels) (sym c.in-Mark.is))
+    (step earlier active))
     (λ _ full. full)

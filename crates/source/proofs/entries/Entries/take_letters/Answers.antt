@@ -11,8 +11,11 @@ returns-then-not-branch c =
     let numbers = numbers_counted s e labels c.args.hypotheses c.args.arities.now is have in
     let before = c.loop-byte.invariant s.assertions s.hypotheses (numbered_labels s e labels) (flat_map (λ l. l) ls) counted numbers in
     let said = c.in_ok-take_byte.ensures s.assertions s.hypotheses (numbered_labels s e labels)
-    (flat_map (λ l. l) ls ++ take c.loop-byte.byte-index c.args.word.now) before.0 numbers in
-    (word_fails s e labels ls c.args.word.now c.loop-byte.byte-index c.loop-byte-test.true (sym c.if-not-branch.true ∙ said.0), λ w. absurd cc)
+    (flat_map (λ l. l) ls ++ take c.loop-byte.byte-index c.args.word.now) before.0 numbers in (
+      word_fails s e labels ls c.args.word.now c.loop-byte.byte-index c.loop-byte-test.true
+          (sym c.if-not-branch.true ∙ said.0),
+      λ w. absurd cc,
+    )
 
 pub loop-byte-preserved : goal.loop-byte-preserved
 loop-byte-preserved c =

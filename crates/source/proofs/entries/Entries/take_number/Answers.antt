@@ -1,5 +1,6 @@
 -- What is left to show of `take_number`.
-use Rattle.std.proofs.Common.{◌≡◌, ℕ, suc, pred, ◌+◌, ◌-◌, ◌<◌, ◌≤◌, Bool, false, List, ◌++◌, length, get_or, replicate, sym, subst, ◌∙◌, arith, refl}
+use Rattle.std.proofs.Common.{◌≡◌, ℕ, suc, pred, ◌+◌, ◌-◌, ◌<◌, ◌≤◌, Bool, false, List, ◌++◌, length, get_or, replicate}
+use Rattle.std.proofs.Common.{sym, subst, ◌∙◌, arith, refl}
 use Rattle.std.specs.Prelude.{nat_le, if◌then◌else◌}
 use Rattle.std.proofs.lemmas.Result.{MatchResult-weaker}
 use Rattle.std.proofs.lemmas.List.{length-append, length-replicate, get_or-replicate, get_or_append_left, get_or-append_right}
@@ -50,7 +51,8 @@ of_mark h ks i number old new goes is le past step earlier active labels e =
 pub returns-then-index-hypotheses : goal.returns-then-index-hypotheses
 returns-then-index-hypotheses c =
     MatchResult-weaker c.put.result c.put.ensures
-    (λ goes puts. of_hypothesis c.args.hypotheses c.args.arities.now c.saturating_sub-index.result c.args.number c.args.self.now c.put.new.self
+    (λ goes puts. of_hypothesis c.args.hypotheses c.args.arities.now c.saturating_sub-index.result c.args.number c.args.self.now
+    c.put.new.self
     goes (omega arith) c.if-index-hypotheses.true puts)
     (λ _ full. full)
 

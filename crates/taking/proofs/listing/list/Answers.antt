@@ -1,0 +1,54 @@
+-- What is left to show of `list`.
+use Rattle.std.proofs.Common.{rules, ◌≡◌, ◌<◌, ◌∙◌, ◌++◌, [], sym, ap, subst, List, ℕ}
+use Rattle.std.specs.Prelude.{Some}
+use Rattle.mmsyntax.specs.declared.statement.Step.{Step}
+use Rattle.taking.specs.Walks.{arranged}
+use Rattle.taking.proofs.Listed.{Goes, weight, finish}
+use Rattle.taking.proofs.Labels.{popped_within, turn_on, stop_on, lighter_on, is_listing}
+use Rattle.taking.proofs.listing.list.Goals as goal
+
+pub arguments-arguments-requires : goal.arguments-arguments-requires
+arguments-arguments-requires c =
+    popped_within c.args.named.now c.args.nodes.now c.args.root c.loop-place.pending.items c.pop.new.self.items c.in-Some.place
+    c.loop-place.steps.items c.loop-place.invariant c.in-Some.ensures.items
+
+pub loop-place-smaller : goal.loop-place-smaller
+loop-place-smaller c =
+    let l = c.loop-place in
+    let pushed = c.in_ok-push_arguments.ensures
+    ∙ ap (λ fs. c.pop.new.self.items ++ arranged fs c.arguments-arguments.result.now) c.as_slice.ensures in
+    subst (λ (ps : List ℕ). weight c.args.nodes.now ps < weight c.args.nodes.now l.pending.items) (sym pushed)
+    (lighter_on c.args.named.now c.args.nodes.now c.args.root l.pending.items c.pop.new.self.items c.in-Some.place l.steps.items c.named.result
+    c.arguments-arguments.result.now c.index-named-named.result c.requires.whole l.invariant c.in-Some.ensures.items c.named.ensures
+    c.arguments-arguments.ensures.value c.arguments-arguments.ensures.below c.index-named-named.is)
+
+pub loop-place-preserved : goal.loop-place-preserved
+loop-place-preserved c =
+    let l = c.loop-place in
+    let pushed = c.in_ok-push_arguments.ensures
+    ∙ ap (λ fs. c.pop.new.self.items ++ arranged fs c.arguments-arguments.result.now) c.as_slice.ensures in
+    subst (λ (ps : List ℕ). Goes c.args.named.now c.args.nodes.now c.args.root ps c.push-in-Some.new.self.items) (sym pushed)
+    (subst
+    (λ (ss : List Step). Goes c.args.named.now c.args.nodes.now c.args.root
+    (c.pop.new.self.items ++ arranged c.index-named-named.result.floats c.arguments-arguments.result.now) ss)
+    (sym c.in_ok-push-2.ensures.items)
+    (turn_on c.args.named.now c.args.nodes.now c.args.root l.pending.items c.pop.new.self.items c.in-Some.place l.steps.items c.named.result
+    c.arguments-arguments.result.now c.index-named-named.result c.requires.whole l.invariant c.in-Some.ensures.items c.named.ensures
+    c.arguments-arguments.ensures.value c.arguments-arguments.ensures.below c.index-named-named.is c.in_ok-copy.field-0
+    (c.in-Some-step.is ∙ ap (λ x. Some x) (sym c.in_ok-copy.ensures))))
+
+pub returns : goal.returns
+returns c =
+    let l = c.loop-place in
+    let e : l.pending.items ≡ [] = search rules in
+    is_listing c.args.named.now c.args.nodes.now c.args.root (Some c.from_vec.result) c.requires.whole
+    (finish c.args.named.now c.args.nodes.now c.args.root l.steps.items
+    (subst (λ (ps : List ℕ). Goes c.args.named.now c.args.nodes.now c.args.root ps l.steps.items) e l.invariant)
+    ∙ ap (λ x. Some x) (sym (c.from_vec.ensures ∙ c.reverse.ensures.items)))
+
+pub returns-in_default-step : goal.returns-in_default-step
+returns-in_default-step c =
+    let l = c.loop-place in
+    stop_on c.args.named.now c.args.nodes.now c.args.root l.pending.items c.pop.new.self.items c.in-Some.place l.steps.items c.named.result
+    c.arguments-arguments.result.now c.index-named-named.result c.requires.whole l.invariant c.in-Some.ensures.items c.named.ensures
+    c.arguments-arguments.ensures.value c.arguments-arguments.ensures.below c.index-named-named.is c.in_default-step.is

@@ -1,0 +1,21 @@
+-- What stands for a proof once it is decoded.
+use Rattle.std.specs.Prelude.{◌≡◌, List, map, slice_get, Option}
+use Rattle.std.specs.Option.{option_and_then}
+use Rattle.mmtext.specs.Words.{Word}
+use Rattle.source.specs.declared.letters.Code.{Code}
+use Rattle.source.specs.Proofs.{Tree, step_of, denoted_by}
+use Rattle.taking.specs.declared.named.Named.{Named}
+use Rattle.taking.specs.declared.decoded.DecodedProof.{DecodedProof}
+use Rattle.taking.specs.Settings.{Setting, AreNamed}
+use Rattle.taking.specs.Nodes.{trees}
+
+-- the tree of a decoded proof
+abbrev pub tree_of : List Word → DecodedProof → Option Tree
+tree_of labels d = slice_get (trees labels d.nodes) d.root
+
+-- codes are decoded: wherever labels name what is named, the proof that was made stands for the tree that the codes denote, and none was made
+-- where they denote none
+abbrev pub AreDecoded : List Named → List Code → Option DecodedProof → Type 0
+AreDecoded named codes made =
+    (s : Setting) → AreNamed s named
+    → denoted_by s.earlier s.active (map (step_of s.labels) codes) ≡ option_and_then (tree_of s.labels) made

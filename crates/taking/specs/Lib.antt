@@ -1,0 +1,12 @@
+pub mod Names
+pub mod Says
+pub mod Listings
+pub mod Reasons
+pub mod Taken
+pub mod Settings
+pub mod Nodes
+pub mod Views
+pub mod Walks
+pub mod Decoded
+pub mod Examples
+pub mod Lengths

@@ -1,0 +1,57 @@
+-- Which assertions are chosen, and for what reason a theorem among them is taken as an axiom.
+use Rattle.std.specs.Prelude.{Bool, List, [], ◌∷◌, ◌++◌, Option, Some, None, if◌then◌else◌, ◌&&◌, nat_lt}
+use mathlib.Core.Bool.{not}
+use Rattle.std.specs.List.{list_any}
+use Rattle.std.specs.Str.{bytes_eq}
+use Rattle.mmtext.specs.Words.{Word}
+use Rattle.source.specs.Statements.{Proof}
+use Rattle.source.specs.Scopes.{Assertion, is_in}
+use Rattle.source.specs.Proofs.{Tree, Trees, node, none, some, denoted, size, is_unfinished}
+use Rattle.taking.specs.declared.reason.Reason.{Reason}
+use Rattle.taking.specs.declared.reason.Reason.TheVariants.{Unfinished, TooLong, InFront, CitesUnchosen}
+
+-- what is taken of a source: the labels of its assertions, and those of them that stand in front of the choice
+pub record Choice : Type 0 where
+  pub chosen : List Word
+  pub front : List Word
+
+-- ---- what a tree cites
+
+abbrev mutual
+  -- the labels of a tree
+  pub labels_of : Tree → List Word
+  labels_of (node w trees) = w ∷ labels_of_each trees
+
+  pub labels_of_each : Trees → List Word
+  labels_of_each none = []
+  labels_of_each (some t ts) = labels_of t ++ labels_of_each ts
+
+-- an assertion that isn't chosen has the label
+abbrev pub is_left_out : List Assertion → List Word → Word → Bool
+is_left_out earlier chosen w = list_any (λ a. bytes_eq w a.label) earlier && not (is_in chosen w)
+
+abbrev pub cites_left_out : List Assertion → List Word → Tree → Bool
+cites_left_out earlier chosen tree = list_any (is_left_out earlier chosen) (labels_of tree)
+
+-- ---- reasons, the first that holds: unfinished, too long, in front of the choice, citing what isn't chosen
+
+-- a listing has 16,384 steps at most (a rule of the profile)
+abbrev pub reason_of_tree : Choice → List Assertion → Word → Tree → Option Reason
+reason_of_tree choice earlier label tree =
+    if nat_lt 16384 (size tree) then Some TooLong else (
+    if is_in choice.front label then Some InFront else (
+    if cites_left_out earlier choice.chosen tree then Some CitesUnchosen else None))
+
+-- a finished proof denotes a tree in each source
+abbrev pub reason_of_finished : Choice → List Assertion → Word → Option Tree → Option Reason
+reason_of_finished choice earlier label None = None
+reason_of_finished choice earlier label (Some tree) = reason_of_tree choice earlier label tree
+
+-- why an assertion is taken as an axiom, if it has a proof
+abbrev pub reason_of : Choice → List Assertion → Assertion → Option Proof → Option Reason
+reason_of choice earlier x None = None
+reason_of choice earlier x (Some proof) =
+    if is_unfinished proof then Some Unfinished else reason_of_finished choice earlier x.label (denoted earlier x)
+
+abbrev pub reason : Choice → List Assertion → Assertion → Option Reason
+reason choice earlier x = reason_of choice earlier x x.proof

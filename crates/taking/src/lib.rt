@@ -1,0 +1,16 @@
+//! What is taken of a source in the whole language of Metamath: a library of the profile.
+#![tactic(auto)]
+
+mod decoded;
+pub mod laws;
+pub mod lengths;
+mod listing;
+mod named;
+mod nodes;
+mod reason;
+
+pub use decoded::DecodedProof;
+pub use listing::list;
+pub use named::Named;
+pub use nodes::Nodes;
+pub use reason::Reason;
