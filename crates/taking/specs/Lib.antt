@@ -8,4 +8,5 @@ pub mod Nodes
 pub mod Views
 pub mod Walks
 pub mod Decoded
+pub mod Decoding
 pub mod Examples

@@ -2,6 +2,7 @@
 #![tactic(auto)]
 
 mod decoded;
+mod decoder;
 pub mod laws;
 mod listing;
 mod named;
@@ -9,6 +10,7 @@ mod nodes;
 mod reason;
 
 pub use decoded::DecodedProof;
+pub use decoder::decode;
 pub use listing::list;
 pub use named::Named;
 pub use nodes::Nodes;
