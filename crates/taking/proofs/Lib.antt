@@ -5,3 +5,8 @@ pub mod Gathered
 pub mod Listed
 pub mod Labels
 pub mod Kept
+pub mod Turned
+pub mod Stacked
+pub mod Codes
+pub mod Loops
+pub mod Cited
