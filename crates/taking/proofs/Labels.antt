@@ -88,7 +88,7 @@ module _ (s : Setting) (named : List Named) (are : AreNamed s named) where
   taken o fs h = mapped (map is_float) o fs h
 
   -- the label with a number takes and is what is named
-  label_at : (a : ℕ) (y : Named) → slice_get named a ≡ Some y
+  pub label_at : (a : ℕ) (y : Named) → slice_get named a ≡ Some y
       → (hs : List Hypothesis) × (taken_by s.earlier s.active (slice_index_or s.labels a []) ≡ Some hs) × (map is_float hs ≡ y.floats)
       × (step_in s.places s.active (slice_index_or s.labels a []) ≡ y.step)
   label_at a y is =

@@ -6,3 +6,8 @@ pub mod Listed
 pub mod Labels
 pub mod Kept
 pub mod LongListings
+pub mod Turned
+pub mod Stacked
+pub mod Codes
+pub mod Loops
+pub mod Cited

@@ -8,5 +8,6 @@ pub mod Nodes
 pub mod Views
 pub mod Walks
 pub mod Decoded
+pub mod Decoding
 pub mod Examples
 pub mod Lengths

@@ -1,11 +1,8 @@
-//! Proofs decoded: from codes to nodes.
+//! A proof that is decoded.
 
-ghost use Rattle.std.specs.Prelude.{◌<◌, length, IfOk, IfSome, All};
+ghost use Rattle.std.specs.Prelude.{◌<◌, length};
 
-use crate::named::Named;
 use crate::nodes::Nodes;
-use source::Code;
-use std::alloc::{AllocError, Global};
 
 /// A proof as nodes.
 #[derive(Drop)]

@@ -2,6 +2,7 @@
 #![tactic(auto)]
 
 mod decoded;
+mod decoder;
 pub mod laws;
 pub mod lengths;
 mod listing;
@@ -10,6 +11,7 @@ mod nodes;
 mod reason;
 
 pub use decoded::DecodedProof;
+pub use decoder::decode;
 pub use listing::list;
 pub use named::Named;
 pub use nodes::Nodes;

@@ -1,0 +1,68 @@
+-- While a proof is decoded: for which stack of trees the code's stack of places stands.
+use Rattle.std.specs.Prelude.{◌≡◌, ℕ, Bool, List, [], length, reverse, All, filter_map, slice_get, slice_index_or, Option, Some, None, if◌then◌else◌}
+use Rattle.mmtext.specs.Words.{Word}
+use Rattle.source.specs.declared.letters.Code.{Code}
+use Rattle.source.specs.Proofs.{Tree, node, over, Stack, step_of, stepped, taken_by, cite, repeat, mark, only}
+use Rattle.taking.specs.declared.decoded.DecodedProof.{DecodedProof}
+use Rattle.taking.specs.Decoded.{tree_of}
+use Rattle.std.specs.Option.{option_and_then}
+use Rattle.taking.specs.declared.named.Named.{Named}
+use Rattle.taking.specs.declared.decoder.Decoder.{Decoder}
+use Rattle.taking.specs.Settings.{Setting, AreNamed}
+use Rattle.taking.specs.Nodes.{Shared, trees, AreBelow}
+use Rattle.taking.specs.Walks.{TakesAll}
+
+-- what a label makes of trees
+abbrev pub grown : Word → List Tree → Tree
+grown w ts = node w (over ts)
+
+-- the trees at places
+abbrev pub trees_at : List Word → List Shared → List ℕ → List Tree
+trees_at labels ns ks = filter_map (slice_get (trees labels ns)) ks
+
+-- the trees of entries, the last first, and those that are marked
+abbrev pub stack_on : List Word → List Shared → List ℕ → List ℕ → Stack Tree
+stack_on labels ns entries marked =
+    record { entries = trees_at labels ns (reverse entries); marked = trees_at labels ns marked }
+
+abbrev pub stack_of : List Word → Decoder → Stack Tree
+stack_of labels d = stack_on labels d.nodes d.entries.items d.marked.items
+
+-- each entry is a node, and each node takes as much as what it names asks for
+pub record StandsOn (named : List Named) (d : Decoder) : Type 0 where
+  pub entries : AreBelow (length d.nodes) d.entries.items
+  pub marked : AreBelow (length d.nodes) d.marked.items
+  pub whole : All (TakesAll named) d.nodes
+
+-- ---- what is done to the stack of trees, wherever labels name what is named, if what it takes is there
+
+-- a label takes its trees
+abbrev pub IsCited : List Named → ℕ → Decoder → Decoder → Bool → Type 0
+IsCited named place old new there =
+    (s : Setting) → AreNamed s named
+    → cite grown (slice_index_or s.labels place []) (stack_of s.labels old)
+    (taken_by s.earlier s.active (slice_index_or s.labels place []))
+    ≡ (if there then Some (stack_of s.labels new) else None)
+
+-- a marked tree stands there again
+abbrev pub IsRepeated : ℕ → Decoder → Decoder → Bool → Type 0
+IsRepeated number old new there =
+    (labels : List Word) → repeat (stack_of labels old) (slice_get (stack_of labels old).marked number)
+    ≡ (if there then Some (stack_of labels new) else None)
+
+-- the last tree is marked
+abbrev pub IsMarked : Decoder → Decoder → Bool → Type 0
+IsMarked old new there =
+    (labels : List Word) → mark (stack_of labels old).entries (stack_of labels old).marked
+    ≡ (if there then Some (stack_of labels new) else None)
+
+-- a code does its step
+abbrev pub IsTaken : List Named → Code → Decoder → Decoder → Bool → Type 0
+IsTaken named code old new there =
+    (s : Setting) → AreNamed s named
+    → stepped grown s.earlier s.active (stack_of s.labels old) (step_of s.labels code)
+    ≡ (if there then Some (stack_of s.labels new) else None)
+
+-- the tree that is left alone
+abbrev pub IsLeft : Decoder → Option DecodedProof → Type 0
+IsLeft d left = (labels : List Word) → only (stack_of labels d).entries ≡ option_and_then (tree_of labels) left
