@@ -1,11 +1,13 @@
 -- What stands in the middle of statements: the tests that a place has behind it stay passed.
-use Rattle.std.proofs.Common.{◌≡◌, Bool, true, false, cond, List, [], ◌∷◌, ◌++◌, Option, Some, None, Result, Ok, Err}
+use Rattle.std.proofs.Common.{◌≡◌, ℕ, Bool, true, false, cond, List, [], ◌∷◌, ◌++◌, Option, Some, None, Result, Ok, Err}
 use Rattle.std.proofs.Common.{refl, sym, ap, subst, ◌∙◌, append_assoc, arith, length}
 use Rattle.std.specs.Prelude.{is_none, nat_le, IfOk, ◌&&◌}
 use Rattle.std.specs.Str.{bytes_eq}
 use Rattle.std.specs.Prelude.{codes}
 use Rattle.std.proofs.lemmas.Bool.{and_parts, and_from, le-leb}
-use Rattle.std.proofs.lemmas.List.{append-nil}
+use Rattle.std.proofs.lemmas.List.{append-nil, map-append}
+use Rattle.std.specs.Borrow.{Bor}
+use Rattle.source.specs.Views.{seen_words}
 use Rattle.mmtext.specs.declared.fault.FaultKind.{FaultKind}
 use Rattle.mmtext.specs.declared.fault.FaultKind.TheVariants.{BadToken}
 use Rattle.mmtext.specs.declared.fault.TextFault.{TextFault}
@@ -28,7 +30,7 @@ use Rattle.source.specs.Faults.{ends_proof, faulted, tested, closes, start_row, 
 use Rattle.source.specs.Faults.{distinct_row, float_end_row, next_symbol, hypothesis_row, axiom_row, theorem_row, next_step, proof_row}
 use Rattle.source.specs.Faults.{labels_row, letters_row, in_place, row}
 use Rattle.sourcereader.specs.declared.place.Place.{Place as CodePlace}
-use Rattle.sourcereader.specs.Standing.{has_begun, is_stated, has_passed, Stands}
+use Rattle.sourcereader.specs.Standing.{has_begun, is_stated, has_passed, Stands, IsCounted, IsReadySource}
 use Rattle.sourcereader.specs.Views.{standing_at, seen_place, Leads}
 
 -- ---- what a row keeps
@@ -46,7 +48,19 @@ ok_tested : (Q : Position → Type 0) (t : Token) (ts : Tests) (next : Next) →
     → OnPlace Q (tested t ts next)
 ok_tested Q t ts next h = ok_faulted Q t (first_fault ts) next (λ e. h (ap is_none e))
 
+-- a token at which a test fails
+pub tested_fails : (t : Token) (ts : Tests) (next : Next) (kind : FaultKind) → first_fault ts ≡ Some kind → tested t ts next ≡ fault t kind
+tested_fails t ts next kind h = ap (λ o. faulted t o next) h
+
+-- a token whose tests pass
+pub tested_passes : (t : Token) (ts : Tests) (next : Next) → first_fault ts ≡ None → tested t ts next ≡ next
+tested_passes t ts next h = ap (λ o. faulted t o next) h
+
 -- ---- tests of words
+
+-- one more word that the code keeps
+pub one_more_word : (ws : List (Bor (List ℕ))) (w : Bor (List ℕ)) → seen_words (ws ++ w ∷ []) ≡ seen_words ws ++ w.now ∷ []
+one_more_word ws w = map-append (λ (x : Bor (List ℕ)). x.now) ws (w ∷ [])
 
 -- one more word that passes behind others
 pub one_more_passes : (tests : List Word → Word → Tests) (front ws : List Word) (w : Word) → all_pass tests front ws ≡ true
@@ -205,8 +219,9 @@ pub row_at : (p : Position) (t : Token) (m : Mark) → m ≡ mark_of t.text → 
 unfolding row
 row_at p t m is = ap (in_place p p.place t) (sym is)
 
--- what stands at a place stands where its row leads
-pub stands_on : (here : Position) (t : Token) (m : Mark) (s : Stand) (r : Result CodePlace Stop) → StandsAt here
-    → Leads s r (in_place here here.place t m) → IfOk r (λ q. Stands s.scope (seen_place q))
-stands_on here t m s (Ok q) h leads = subst OkStands leads (place_stands here here.place t m h)
-stands_on here t m s (Err e) h leads = tt
+-- what is so at a place is so where its row leads
+pub ready_on : (here : Position) (t : Token) (m : Mark) (s : Stand) (framed : List Word) (r : Result CodePlace Stop) → StandsAt here
+    → Leads s r (in_place here here.place t m) → IfOk r (λ q. IsCounted s.scope framed q) → IfOk r (λ q. IsReadySource s framed q)
+ready_on here t m s framed (Ok q) h leads counted =
+    record { stands = subst OkStands leads (place_stands here here.place t m h); counted = counted }
+ready_on here t m s framed (Err e) h leads counted = tt

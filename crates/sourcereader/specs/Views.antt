@@ -16,9 +16,9 @@ use Rattle.sourcereader.specs.declared.place.ProofPlace.TheVariants as proof
 
 -- a place of the code in a proof
 abbrev pub seen_proof_place : Word → List Word → ProofPlace → Place
-seen_proof_place label e (proof.InSteps steps) = in_steps label e (seen_words steps.items)
-seen_proof_place label e (proof.InLabels labels) = in_labels label e (seen_words labels.items)
-seen_proof_place label e (proof.InLetters labels letters) = in_letters label e (seen_words labels.items) (seen_words letters.items)
+seen_proof_place label e (proof.InSteps steps entries) = in_steps label e (seen_words steps.items)
+seen_proof_place label e (proof.InLabels n) = in_labels label e (seen_words n.labels.items)
+seen_proof_place label e (proof.InLetters n letters entries) = in_letters label e (seen_words n.labels.items) (seen_words letters.items)
 
 -- a place of the code
 abbrev pub seen_place : CodePlace → Place
@@ -33,7 +33,7 @@ seen_place (code.FloatEnd label c v) = float_end label.now c.now v.now
 seen_place (code.InHypothesis label e) = in_hypothesis label.now (seen_words e.items)
 seen_place (code.InAxiom label e) = in_axiom label.now (seen_words e.items)
 seen_place (code.InTheorem label e) = in_theorem label.now (seen_words e.items)
-seen_place (code.InProof label e p) = seen_proof_place label.now (seen_words e.items) p
+seen_place (code.InProof x p) = seen_proof_place x.label.now (seen_words x.expression.items) p
 
 -- a place beside what stands there
 abbrev pub standing_at : Stand → Place → Position

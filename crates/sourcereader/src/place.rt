@@ -1,5 +1,6 @@
 //! Places in a statement, as the reader keeps them.
 
+use crate::entries::Entries;
 use mmtext::Token;
 
 /// What was read of the statement that a token stands in. Its words are slices of the text.
@@ -28,18 +29,36 @@ pub(crate) enum Place<'a> {
     /// Behind a label, `$p` and symbols.
     InTheorem(&'a [u8], Vec<&'a [u8]>),
     /// Behind a label, `$p`, symbols and `$=`.
-    InProof(&'a [u8], Vec<&'a [u8]>, ProofPlace<'a>),
+    InProof(Theorem<'a>, ProofPlace<'a>),
+}
+
+/// The label and the symbols of a `$p`.
+#[derive(Drop)]
+pub(crate) struct Theorem<'a> {
+    pub label: &'a [u8],
+    pub expression: Vec<&'a [u8]>,
 }
 
 /// What was read of the proof that a token stands in.
 #[derive(Drop)]
 pub(crate) enum ProofPlace<'a> {
-    /// Behind steps.
-    InSteps(Vec<&'a [u8]>),
+    /// Behind steps, and the entries that they left.
+    InSteps(Vec<&'a [u8]>, Entries),
     /// Behind `(` and labels.
-    InLabels(Vec<&'a [u8]>),
-    /// Behind `)` and words of letters.
-    InLetters(Vec<&'a [u8]>, Vec<&'a [u8]>),
+    InLabels(Numbered<'a>),
+    /// Behind `)` and words of letters, and the entries that they left.
+    InLetters(Numbered<'a>, Vec<&'a [u8]>, Entries),
+}
+
+/// What the numbers of letters count in front of marked subproofs.
+#[derive(Drop)]
+pub(crate) struct Numbered<'a> {
+    /// How many mandatory hypotheses the `$p` has.
+    pub hypotheses: usize,
+    /// The labels in parentheses.
+    pub labels: Vec<&'a [u8]>,
+    /// How many entries each of these takes.
+    pub arities: Vec<usize>,
 }
 
 /// How far a source was read, outside of comments.

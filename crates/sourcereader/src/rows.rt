@@ -1,16 +1,17 @@
 //! Reading a statement outside of proofs: one function for each place in it.
 
-ghost use Rattle.std.specs.Prelude.{◌≡◌, List, true};
+ghost use Rattle.std.specs.Prelude.{◌≡◌, List, true, IfOk};
 ghost use Rattle.mmtext.specs.Views.{seen, Gives};
 ghost use Rattle.mmtext.specs.Words.{Word};
 ghost use Rattle.mmtext.specs.declared.mark.Mark.TheVariants.{Closing};
 ghost use Rattle.source.specs.Faults.{Place as SeenPlace, at_start, after_label, in_constants, in_variables, in_distinct, float_type, float_variable, float_end, in_hypothesis, in_axiom, in_theorem};
 ghost use Rattle.source.specs.Faults.{start_row, keyword_row, constant_row, variable_row, distinct_row, float_end_row, next_symbol, hypothesis_row, axiom_row, theorem_row, in_place};
 ghost use Rattle.source.specs.Views.{seen_words};
-ghost use Rattle.sourcereader.specs.Standing.{Stands};
+ghost use Rattle.sourcereader.specs.Standing.{Stands, IsCounted};
 ghost use Rattle.sourcereader.specs.Views.{standing_at, Leads};
 
-use crate::place::{Place, ProofPlace};
+use crate::entries::Entries;
+use crate::place::{Place, ProofPlace, Theorem};
 use mmtext::{FaultKind, Mark, Stop, Token, fault_at, is_label_token};
 use source::Standing;
 use std::alloc::Global;
@@ -22,7 +23,8 @@ pub(crate) fn start<'a, S: Standing<'a>>(
     token: Token<'a>,
     mark: Mark,
 ) -> Result<Place<'a>, Stop>
-    ensures { Leads (S.stand standing.new) result (start_row (standing_at (S.stand standing.old) at_start) (seen token.entry) mark) }
+    ensures leads { Leads (S.stand standing.new) result (start_row (standing_at (S.stand standing.old) at_start) (seen token.entry) mark) }
+    ensures counted { IfOk result (λ p. IsCounted (S.stand standing.new).scope (S.framed standing.new) p) }
 {
     match mark {
         Mark::Constants if standing.is_outermost() => Ok(Place::InConstants(false)),
@@ -40,7 +42,8 @@ pub(crate) fn start<'a, S: Standing<'a>>(
 
 /// The end of a block.
 fn close<'a, S: Standing<'a>>(standing: &mut S, token: Token<'a>) -> Result<Place<'a>, Stop>
-    ensures { Leads (S.stand standing.new) result (start_row (standing_at (S.stand standing.old) at_start) (seen token.entry) Closing) }
+    ensures leads { Leads (S.stand standing.new) result (start_row (standing_at (S.stand standing.old) at_start) (seen token.entry) Closing) }
+    ensures counted { IfOk result (λ p. IsCounted (S.stand standing.new).scope (S.framed standing.new) p) }
 {
     if !standing.close_block() {
         return Err(fault_at(token, FaultKind::BadToken));
@@ -56,8 +59,9 @@ pub(crate) fn keyword<'a, S: Standing<'a>>(
     token: Token<'a>,
     mark: Mark,
 ) -> Result<Place<'a>, Stop>
-    ensures { Leads (S.stand standing.now) result
+    ensures leads { Leads (S.stand standing.now) result
         (keyword_row (standing_at (S.stand standing.now) (after_label (seen label.entry))) (seen label.entry) (seen token.entry) mark) }
+    ensures counted { IfOk result (λ p. IsCounted (S.stand standing.now).scope (S.framed standing.now) p) }
 {
     let word = label.text;
     let place = match mark {
@@ -82,8 +86,9 @@ pub(crate) fn constant<'a, S: Standing<'a>>(
     mark: Mark,
 ) -> Result<Place<'a>, Stop>
     requires { Stands (S.stand standing.old).scope (in_constants some) }
-    ensures { Leads (S.stand standing.new) result
+    ensures leads { Leads (S.stand standing.new) result
         (constant_row (standing_at (S.stand standing.old) (in_constants some)) some (seen token.entry) mark) }
+    ensures counted { IfOk result (λ p. IsCounted (S.stand standing.new).scope (S.framed standing.new) p) }
 {
     if some && mark == Mark::End {
         return Ok(Place::AtStart);
@@ -103,8 +108,9 @@ pub(crate) fn variable<'a, S: Standing<'a>>(
     token: Token<'a>,
     mark: Mark,
 ) -> Result<Place<'a>, Stop>
-    ensures { Leads (S.stand standing.new) result
+    ensures leads { Leads (S.stand standing.new) result
         (variable_row (standing_at (S.stand standing.old) (in_variables some)) some (seen token.entry) mark) }
+    ensures counted { IfOk result (λ p. IsCounted (S.stand standing.new).scope (S.framed standing.new) p) }
 {
     if some && mark == Mark::End {
         return Ok(Place::AtStart);
@@ -125,8 +131,9 @@ pub(crate) fn distinct<'a, S: Standing<'a>>(
     mark: Mark,
 ) -> Result<Place<'a>, Stop>
     requires { Stands (S.stand standing.old).scope (in_distinct (seen_words variables.items)) }
-    ensures { let vs = seen_words variables.entry.items in Leads (S.stand standing.new) result
+    ensures leads { let vs = seen_words variables.entry.items in Leads (S.stand standing.new) result
         (distinct_row (standing_at (S.stand standing.old) (in_distinct vs)) vs (seen token.entry) mark) }
+    ensures counted { IfOk result (λ p. IsCounted (S.stand standing.new).scope (S.framed standing.new) p) }
 {
     if mark == Mark::End && variables.len() > 1 {
         standing.declare_distinct(alloc, variables)?;
@@ -146,8 +153,9 @@ pub(crate) fn type_code<'a, S: Standing<'a>>(
     token: Token<'a>,
     mark: Mark,
 ) -> Result<Place<'a>, Stop>
-    ensures { let place = float_type label.entry.now in Leads (S.stand standing.now) result
+    ensures leads { let place = float_type label.entry.now in Leads (S.stand standing.now) result
         (in_place (standing_at (S.stand standing.now) place) place (seen token.entry) mark) }
+    ensures counted { IfOk result (λ p. IsCounted (S.stand standing.now).scope (S.framed standing.now) p) }
 {
     match standing.type_fault(token.text) {
         Some(kind) => Err(fault_at(token, kind)),
@@ -163,8 +171,9 @@ pub(crate) fn typed_variable<'a, S: Standing<'a>>(
     token: Token<'a>,
     mark: Mark,
 ) -> Result<Place<'a>, Stop>
-    ensures { let place = float_variable label.entry.now type_code.entry.now in Leads (S.stand standing.now) result
+    ensures leads { let place = float_variable label.entry.now type_code.entry.now in Leads (S.stand standing.now) result
         (in_place (standing_at (S.stand standing.now) place) place (seen token.entry) mark) }
+    ensures counted { IfOk result (λ p. IsCounted (S.stand standing.now).scope (S.framed standing.now) p) }
 {
     match standing.float_fault(token.text) {
         Some(kind) => Err(fault_at(token, kind)),
@@ -183,8 +192,9 @@ pub(crate) fn float_end<'a, S: Standing<'a>>(
     mark: Mark,
 ) -> Result<Place<'a>, Stop>
     requires { Stands (S.stand standing.old).scope (float_end label.now type_code.now variable.now) }
-    ensures { let place = float_end label.entry.now type_code.entry.now variable.entry.now in Leads (S.stand standing.new) result
+    ensures leads { let place = float_end label.entry.now type_code.entry.now variable.entry.now in Leads (S.stand standing.new) result
         (in_place (standing_at (S.stand standing.old) place) place (seen token.entry) mark) }
+    ensures counted { IfOk result (λ p. IsCounted (S.stand standing.new).scope (S.framed standing.new) p) }
 {
     if mark != Mark::End {
         return Err(fault_at(token, FaultKind::BadToken));
@@ -203,8 +213,9 @@ pub(crate) fn hypothesis<'a, S: Standing<'a>>(
     mark: Mark,
 ) -> Result<Place<'a>, Stop>
     requires { Stands (S.stand standing.old).scope (in_hypothesis label.now (seen_words expression.items)) }
-    ensures { let e = seen_words expression.entry.items in Leads (S.stand standing.new) result
+    ensures leads { let e = seen_words expression.entry.items in Leads (S.stand standing.new) result
         (hypothesis_row (standing_at (S.stand standing.old) (in_hypothesis label.entry.now e)) label.entry.now e (seen token.entry) mark) }
+    ensures counted { IfOk result (λ p. IsCounted (S.stand standing.new).scope (S.framed standing.new) p) }
 {
     if mark == Mark::End && !expression.is_empty() {
         standing.declare_hypothesis(alloc, label, expression)?;
@@ -227,8 +238,9 @@ pub(crate) fn axiom<'a, S: Standing<'a>>(
     mark: Mark,
 ) -> Result<Place<'a>, Stop>
     requires { Stands (S.stand standing.old).scope (in_axiom label.now (seen_words expression.items)) }
-    ensures { let e = seen_words expression.entry.items in Leads (S.stand standing.new) result
+    ensures leads { let e = seen_words expression.entry.items in Leads (S.stand standing.new) result
         (axiom_row (standing_at (S.stand standing.old) (in_axiom label.entry.now e)) label.entry.now e (seen token.entry) mark) }
+    ensures counted { IfOk result (λ p. IsCounted (S.stand standing.new).scope (S.framed standing.new) p) }
 {
     if mark == Mark::End && !expression.is_empty() {
         standing.declare_axiom(alloc, label, expression)?;
@@ -250,12 +262,13 @@ pub(crate) fn theorem<'a, S: Standing<'a>>(
     token: Token<'a>,
     mark: Mark,
 ) -> Result<Place<'a>, Stop>
-    ensures { let e = seen_words expression.entry.items in Leads (S.stand standing.now) result
+    ensures leads { let e = seen_words expression.entry.items in Leads (S.stand standing.now) result
         (theorem_row (standing_at (S.stand standing.now) (in_theorem label.entry.now e)) label.entry.now e (seen token.entry) mark) }
+    ensures counted { IfOk result (λ p. IsCounted (S.stand standing.now).scope (S.framed standing.now) p) }
 {
     if mark == Mark::Proof && !expression.is_empty() {
-        let place = ProofPlace::InSteps(Vec::new(alloc));
-        return Ok(Place::InProof(label, expression, place));
+        let place = ProofPlace::InSteps(Vec::new(alloc), Entries::new());
+        return Ok(Place::InProof(Theorem { label, expression }, place));
     }
     if let Some(kind) = standing.symbol_fault(&expression, token.text) {
         return Err(fault_at(token, kind));
