@@ -12,7 +12,7 @@ use Rattle.sourcereader.specs.declared.place.ProofPlace.{ProofPlace}
 use Rattle.sourcereader.specs.declared.place.ProofPlace.TheVariants as proof
 use Rattle.sourcereader.specs.declared.place.Numbered.{Numbered}
 use Rattle.sourcereader.specs.Views.{seen_place}
-use Rattle.sourcereader.specs.Counts.{CountsSteps, CountsLetters, HaveArities}
+use Rattle.source.specs.Counts.{CountsSteps, CountsLetters, HaveArities}
 
 -- a new label, and symbols that passed
 abbrev pub has_begun : Scope → Word → List Word → Bool

@@ -1,7 +1,6 @@
 //! Reading a text in the whole language of Metamath, whatever keeps its tables.
 #![tactic(auto)]
 
-mod entries;
 mod place;
 mod proof_rows;
 mod reading;

@@ -1,7 +1,7 @@
 //! Places in a statement, as the reader keeps them.
 
-use crate::entries::Entries;
 use mmtext::Token;
+use source::Entries;
 
 /// What was read of the statement that a token stands in. Its words are slices of the text.
 #[derive(Drop)]

@@ -9,15 +9,14 @@ ghost use Rattle.source.specs.Proofs.{taken_by};
 ghost use Rattle.source.specs.Tests.{named_tests, step_tests, letter_tests, is_whole};
 ghost use Rattle.source.specs.Faults.{at_start, in_steps, in_labels, in_letters, tested, ends_proof, next_step, proof_row, labels_row, letters_row};
 ghost use Rattle.source.specs.Views.{seen_words, seen_proof};
-ghost use Rattle.sourcereader.specs.Counts.{CountsSteps};
+ghost use Rattle.source.specs.Counts.{CountsSteps};
 ghost use Rattle.sourcereader.specs.Standing.{Stands, IsCounted, IsCountedProof, is_stated};
 ghost use Rattle.sourcereader.specs.Views.{standing_at, seen_place, Leads};
 ghost use Rattle.sourcereader.specs.declared.place.ProofPlace.TheVariants.{InSteps, InLabels, InLetters};
 
-use crate::entries::Entries;
 use crate::place::{Numbered, Place, ProofPlace, Theorem};
 use mmtext::{FaultKind, Mark, Stop, Token, fault_at};
-use source::{ProofWords, Standing};
+use source::{Entries, ProofWords, Standing};
 use std::alloc::{AllocError, Global};
 
 /// How many entries a label takes that may stand in a proof.

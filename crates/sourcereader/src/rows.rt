@@ -10,10 +10,9 @@ ghost use Rattle.source.specs.Views.{seen_words};
 ghost use Rattle.sourcereader.specs.Standing.{Stands, IsCounted};
 ghost use Rattle.sourcereader.specs.Views.{standing_at, Leads};
 
-use crate::entries::Entries;
 use crate::place::{Place, ProofPlace, Theorem};
 use mmtext::{FaultKind, Mark, Stop, Token, fault_at, is_label_token};
-use source::Standing;
+use source::{Entries, Standing};
 use std::alloc::Global;
 
 /// The start of a statement.

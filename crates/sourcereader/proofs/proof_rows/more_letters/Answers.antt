@@ -5,7 +5,7 @@ use Rattle.mmtext.specs.Views.{seen}
 use Rattle.source.specs.Views.{seen_words}
 use Rattle.source.specs.Tests.{letter_tests}
 use Rattle.source.specs.Faults.{in_letters}
-use Rattle.sourcereader.specs.Counts.{CountsLetters}
+use Rattle.source.specs.Counts.{CountsLetters}
 use Rattle.sourcereader.specs.Views.{standing_at}
 use Rattle.sourcereader.proofs.Runs.{tested_fails, tested_passes, one_more_word}
 use Rattle.sourcereader.proofs.proof_rows.more_letters.Goals as goal
