@@ -6,4 +6,5 @@ pub mod Tests
 pub mod Sources
 pub mod Faults
 pub mod Views
+pub mod Counts
 pub mod Examples

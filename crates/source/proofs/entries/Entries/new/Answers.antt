@@ -1,0 +1,8 @@
+-- What is left to show of `new`.
+use Rattle.std.proofs.Common.{[], refl}
+use Rattle.source.specs.Letters.{decoded}
+use Rattle.source.proofs.entries.Entries.new.Goals as goal
+
+pub returns-clause-letters : goal.returns-clause-letters
+unfolding decoded
+returns-clause-letters c = λ s e labels. record { codes = []; said = refl; left = refl; known = refl }
