@@ -154,9 +154,9 @@ pub fn read_source<'a, S: Standing<'a>>(
     requires { S.stand standing ≡ outset }
     ensures { IsReadAs (λ s. (S.stand s).scope) source_language text.now result }
 {
-    let reader = SourceReader {
+    let reader: SourceReader<'a, S> = SourceReader {
         standing,
         place: Place::AtStart,
     };
-    read(alloc, reader, text)
+    read::<'a, SourceReader<'a, S>>(alloc, reader, text)
 }
