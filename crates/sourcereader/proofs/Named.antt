@@ -1,13 +1,12 @@
 -- Labels in a proof: one that passes its tests takes what the arity of what it names says.
 use Rattle.std.proofs.Common.{◌≡◌, Bool, true, false, cond, List, [], ◌∷◌, ◌++◌, Option, Some, None}
-use Rattle.std.proofs.Common.{refl, sym, ap, ◌∙◌, length}
+use Rattle.std.proofs.Common.{refl, ap, ◌∙◌, length}
 use Rattle.std.specs.Prelude.{is_some, find, ◌||◌}
 use Rattle.std.specs.List.{list_any}
 use Rattle.std.specs.Option.{option_map}
 use mathlib.Core.Bool.{not}
 use Rattle.std.specs.Str.{bytes_eq}
 use Rattle.std.proofs.lemmas.Bool.{cond-false}
-use Rattle.mmtext.specs.declared.fault.FaultKind.{FaultKind}
 use Rattle.mmtext.specs.declared.fault.FaultKind.TheVariants.{BadToken, UnknownLabel, NotActive}
 use Rattle.mmtext.specs.Words.{Word, has_dollar}
 use Rattle.mmsyntax.specs.Rows.{first_fault}

@@ -1,7 +1,7 @@
 -- What stands in the middle of statements: the tests that a place has behind it stay passed.
 use Rattle.std.proofs.Common.{◌≡◌, ℕ, Bool, true, false, cond, List, [], ◌∷◌, ◌++◌, Option, Some, None, Result, Ok, Err}
-use Rattle.std.proofs.Common.{refl, sym, ap, subst, ◌∙◌, append_assoc, arith, length}
-use Rattle.std.specs.Prelude.{is_none, nat_le, IfOk, ◌&&◌}
+use Rattle.std.proofs.Common.{refl, sym, ap, subst, append_assoc, arith, length}
+use Rattle.std.specs.Prelude.{is_none, nat_le, IfOk}
 use Rattle.std.specs.Str.{bytes_eq}
 use Rattle.std.specs.Prelude.{codes}
 use Rattle.std.proofs.lemmas.Bool.{and_parts, and_from, le-leb}
@@ -10,7 +10,6 @@ use Rattle.std.specs.Borrow.{Bor}
 use Rattle.source.specs.Views.{seen_words}
 use Rattle.mmtext.specs.declared.fault.FaultKind.{FaultKind}
 use Rattle.mmtext.specs.declared.fault.FaultKind.TheVariants.{BadToken}
-use Rattle.mmtext.specs.declared.fault.TextFault.{TextFault}
 use Rattle.mmtext.specs.declared.fault.Stop.{Stop}
 use Rattle.mmtext.specs.declared.mark.Mark.{Mark}
 use Rattle.mmtext.specs.declared.mark.Mark.TheVariants as mark
@@ -19,19 +18,19 @@ use Rattle.mmtext.specs.Text.{Token, mark_of}
 use Rattle.mmtext.specs.Languages.{fault}
 use Rattle.mmtext.proofs.Turns.{OnPlace}
 use Rattle.mmsyntax.specs.Rows.{Tests, first_fault}
-use Rattle.source.specs.Statements.{Proof, normal, compressed, Statement, float, hypothesis, distinct, asserted, proved}
-use Rattle.source.specs.Scopes.{Scope, Stand, declared, opened, closed}
+use Rattle.source.specs.Statements.{Proof, normal, compressed, proved}
+use Rattle.source.specs.Scopes.{Scope, Stand, closed}
 use Rattle.source.specs.Tests.{label_tests, constant_tests, variable_tests, type_tests, float_tests, distinct_tests, symbol_tests}
 use Rattle.source.specs.Tests.{step_tests, cited_tests, letter_tests, a_constant, a_variable, is_whole, passes, all_pass}
-use Rattle.source.specs.Tests.{is_new_label, is_expression}
+use Rattle.source.specs.Tests.{is_new_label}
 use Rattle.source.specs.Faults.{Place, at_start, after_label, in_constants, in_variables, in_distinct, float_type, float_variable, float_end}
 use Rattle.source.specs.Faults.{in_hypothesis, in_axiom, in_theorem, in_steps, in_labels, in_letters, Position, Next, to, ends}
 use Rattle.source.specs.Faults.{ends_proof, faulted, tested, closes, start_row, keyword_row, declares, constant_row, variable_row}
-use Rattle.source.specs.Faults.{distinct_row, float_end_row, next_symbol, hypothesis_row, axiom_row, theorem_row, next_step, proof_row}
+use Rattle.source.specs.Faults.{distinct_row, float_end_row, hypothesis_row, axiom_row, theorem_row, next_step, proof_row}
 use Rattle.source.specs.Faults.{labels_row, letters_row, in_place, row}
 use Rattle.sourcereader.specs.declared.place.Place.{Place as CodePlace}
-use Rattle.sourcereader.specs.Standing.{has_begun, is_stated, has_passed, Stands, IsCounted, IsReadySource}
-use Rattle.sourcereader.specs.Views.{standing_at, seen_place, Leads}
+use Rattle.sourcereader.specs.Standing.{has_begun, is_stated, Stands, IsCounted, IsReadySource}
+use Rattle.sourcereader.specs.Views.{Leads}
 
 -- ---- what a row keeps
 

@@ -1,6 +1,5 @@
 -- Of the code's inside, apart from the rules: how the places of the reader of sources are seen, and what its functions give for a token.
-use Rattle.std.specs.Prelude.{Option, Some, None, List, ◌++◌, ◌∷◌, [], Result}
-use Rattle.std.specs.Borrow.{Bor}
+use Rattle.std.specs.Prelude.{List, Result}
 use Rattle.mmtext.specs.declared.fault.Stop.{Stop}
 use Rattle.mmtext.specs.declared.fault.TextFault.{TextFault}
 use Rattle.mmtext.specs.Words.{Word}

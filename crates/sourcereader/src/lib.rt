@@ -1,6 +1,7 @@
 //! Reading a text in the whole language of Metamath, whatever keeps its tables.
 #![tactic(auto)]
 
+mod keeping;
 mod place;
 mod proof_rows;
 mod reading;

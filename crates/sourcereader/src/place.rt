@@ -60,11 +60,3 @@ pub(crate) struct Numbered<'a> {
     /// How many entries each of these takes.
     pub arities: Vec<usize>,
 }
-
-/// How far a source was read, outside of comments.
-#[derive(Drop)]
-pub(crate) struct SourceReader<'a, S> {
-    /// What stands there.
-    pub standing: S,
-    pub place: Place<'a>,
-}

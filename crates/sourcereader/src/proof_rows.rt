@@ -140,7 +140,14 @@ pub(crate) fn steps<'a, S: Standing<'a>>(
     }
     if mark == Mark::End {
         let whole = entries.is_whole();
-        return end(alloc, standing, theorem, ProofWords::Normal(steps), whole, token);
+        return end(
+            alloc,
+            standing,
+            theorem,
+            ProofWords::Normal(steps),
+            whole,
+            token,
+        );
     }
     step(standing, theorem, steps, entries, token)
 }

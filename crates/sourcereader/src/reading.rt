@@ -8,15 +8,18 @@ ghost use Rattle.source.specs.Faults.{in_place, row, source_language};
 ghost use Rattle.sourcereader.specs.Standing.{Stands, IsCounted, IsCountedProof, IsReadySource};
 ghost use Rattle.sourcereader.specs.Views.{seen_place, seen_proof_place, seen_at, Leads};
 ghost use Rattle.source.specs.Views.{seen_words};
-ghost use Rattle.sourcereader.specs.declared.place.Place.TheVariants.{InProof};
+ghost use Rattle.sourcereader.specs.declared.place.Place.TheVariants.{AtStart, InProof};
 
-use crate::place::{Place, ProofPlace, SourceReader, Theorem};
+use crate::keeping::{KeepsPlace, SourceReader};
+use crate::place::{Place, ProofPlace, Theorem};
 use crate::proof_rows::{labels, letters, steps};
-use crate::rows::{axiom, constant, distinct, float_end, hypothesis, keyword, start, theorem, type_code, typed_variable, variable};
+use crate::rows::{
+    axiom, constant, distinct, float_end, hypothesis, keyword, start, theorem, type_code,
+    typed_variable, variable,
+};
 use mmtext::{Mark, Reader, Stop, TextFault, Token, read};
 use source::Standing;
 use std::alloc::Global;
-use std::mem;
 
 /// The most bytes that a source may have.
 pub const MOST_BYTES: usize = 268_435_456;
@@ -42,7 +45,9 @@ fn proof_place_by_mark<'a, S: Standing<'a>>(
         }
         ProofPlace::InLabels(numbered) => labels(alloc, standing, theorem, numbered, token),
         ProofPlace::InLetters(numbered, words, entries) => {
-            letters(alloc, standing, theorem, numbered, words, entries, token, mark)
+            letters(
+                alloc, standing, theorem, numbered, words, entries, token, mark,
+            )
         }
     }
 }
@@ -98,7 +103,7 @@ fn next_place<'a, S: Standing<'a>>(
     place_by_mark(alloc, standing, place, token, mark)
 }
 
-impl<'a, S: Standing<'a>> Reader<'a> for SourceReader<'a, S> {
+impl<'a, S: Standing<'a>, P: KeepsPlace<'a>> Reader<'a> for SourceReader<S, P> {
     ghost use Rattle.source.specs.Scopes.{Scope};
     ghost use Rattle.source.specs.Faults.{Position, source_language};
     ghost use Rattle.sourcereader.specs.Standing.{IsReadySource};
@@ -112,9 +117,9 @@ impl<'a, S: Standing<'a>> Reader<'a> for SourceReader<'a, S> {
 
     ghost language = { λ _. source_language };
 
-    ghost place = { λ r. seen_at (S.stand r.standing) r.place };
+    ghost place = { λ r. seen_at (S.stand r.standing) (P.kept r.place) };
 
-    ghost IsReady = { λ r. IsReadySource (S.stand r.standing) (S.framed r.standing) r.place };
+    ghost IsReady = { λ r. IsReadySource (S.stand r.standing) (S.framed r.standing) (P.kept r.place) };
 
     ghost meaning = { λ s. (S.stand s).scope };
 
@@ -127,13 +132,14 @@ impl<'a, S: Standing<'a>> Reader<'a> for SourceReader<'a, S> {
     }
 
     fn take(&mut self, alloc: Global, token: Token<'a>, mark: Mark) -> Result<(), Stop> {
-        let here = mem::replace(&mut self.place, Place::AtStart);
-        self.place = next_place(alloc, &mut self.standing, here, token, mark)?;
+        let here = self.place.replace(Place::AtStart);
+        let next = next_place(alloc, &mut self.standing, here, token, mark)?;
+        self.place.replace(next);
         Ok(())
     }
 
     fn finish(mut self) -> Option<S> {
-        match self.place {
+        match self.place.replace(Place::AtStart) {
             // No block is open where none can be closed.
             Place::AtStart if !self.standing.close_block() => Some(self.standing),
             _ => None,
@@ -141,11 +147,57 @@ impl<'a, S: Standing<'a>> Reader<'a> for SourceReader<'a, S> {
     }
 }
 
-/// What stands behind a text, read over what stood before any statement.
+/// What stands behind a text, read from a place at its start.
+fn read_from<'a, S: Standing<'a>, P: KeepsPlace<'a>>(
+    alloc: Global,
+    standing: S,
+    place: P,
+    text: &'a [u8],
+) -> Result<S, TextFault>
+    requires outset { S.stand standing ≡ outset }
+    requires start { P.kept place ≡ AtStart }
+    ensures { IsReadAs (λ s. (S.stand s).scope) source_language text.now result }
+{
+    read(alloc, SourceReader { standing, place }, text)
+}
+
+/// What stands behind a text in the whole language, where at first nothing is declared.
+///
+/// Comments are passed over. What the text declares is put into `standing`, whose words are slices of the text; a `$p` is put there only
+/// where its proof denotes a tree or is unfinished. No proof is checked further than that.
 ///
 /// # Errors
 ///
-/// The first fault of the text.
+/// The first fault of the text, from the front. Its length comes first, then its bytes, then each token; where a token breaks more than
+/// one rule, the first below counts.
+///
+/// - `TooLong` at 268,435,456: the text has more bytes than that.
+/// - `BadByte`: a byte that is neither printable ASCII nor white space, also in a comment.
+/// - `BadToken`: in a comment a token other than `$)` that has `$(` or `$)` in it; outside of comments `$)`.
+/// - `OutOfProfile`: `$[` or `$]` outside of comments.
+/// - At the start of a statement: `BadToken` for `$c` in a block, for `$}` where none is open, and for what isn't `$c`, `$v`, `$d`, `${`,
+///   `$}` or a label: letters, digits, `-`, `_` and `.`.
+/// - Behind a label: `BadToken` for what isn't `$f`, `$e`, `$a` or `$p`.
+/// - At the label, once its keyword has passed: `RepeatedLabel` if an earlier label or symbol is equal, also of a closed block.
+/// - In `$c`: `BadToken` for a token with `$`, also a `$.` with no symbol before it; `RepeatedLabel` where an earlier symbol or label is
+///   equal, also of a closed block.
+/// - In `$v`: the same, but for a variable that isn't active, which may be declared again.
+/// - In `$d`: `BadToken` for a token with `$`, also a `$.` behind fewer than two variables; `UnknownSymbol` for what no `$v` declared;
+///   `NotActive` for a variable of a closed block; `BadToken` for one that stands twice.
+/// - In `$f`: `BadToken` for a token with `$`; `UnknownSymbol` where the type isn't a constant; for the variable as in `$d`, and
+///   `RepeatedLabel` where it has an active `$f`; `BadToken` for what isn't `$.` behind them.
+/// - In `$e`, `$a` and `$p`: `BadToken` for a token with `$`, also an end with no symbol before it; `UnknownSymbol` where the first symbol
+///   isn't a constant or a later one isn't declared; `NotActive` for a variable of a closed block; `NoTypeFor` for one without an active
+///   `$f`.
+/// - In a proof, for a label, which may be that of an active hypothesis or of an earlier assertion: `BadToken` for a token with `$`, also a
+///   `$.` with no step before it; `UnknownLabel` for one that nothing before has; `NotActive` for that of a hypothesis of a closed block.
+///   Where it is a step, `BadToken` if fewer entries are there than it takes, unless a `?` stands before it; in parentheses, `BadToken` for
+///   that of a mandatory hypothesis.
+/// - Behind parentheses: `BadToken` for a word with a byte other than `A` to `Z` and `?`, also a `$.` with no word before it, and for a
+///   word with a number or a `Z`, before the first `?`, that names nothing or takes what isn't there.
+/// - At the `$.` of a proof without `?`: `BadToken` where other than one entry is left, or a number is cut.
+/// - `Unfinished` at the length of the text: it ends in a statement, in a block or in a comment.
+/// - `NoMemory`: memory ran out; its place is 0, whatever was read.
 pub fn read_source<'a, S: Standing<'a>>(
     alloc: Global,
     standing: S,
@@ -154,9 +206,5 @@ pub fn read_source<'a, S: Standing<'a>>(
     requires { S.stand standing ≡ outset }
     ensures { IsReadAs (λ s. (S.stand s).scope) source_language text.now result }
 {
-    let reader: SourceReader<'a, S> = SourceReader {
-        standing,
-        place: Place::AtStart,
-    };
-    read::<'a, SourceReader<'a, S>>(alloc, reader, text)
+    read_from(alloc, standing, Place::AtStart, text)
 }

@@ -1,5 +1,5 @@
 -- What is left to show of `arity_of`.
-use Rattle.std.proofs.Common.{◌∙◌, sym}
+use Rattle.std.proofs.Common.{sym}
 use Rattle.sourcereader.proofs.Named.{takes_some}
 use Rattle.sourcereader.proofs.proof_rows.arity_of.Goals as goal
 

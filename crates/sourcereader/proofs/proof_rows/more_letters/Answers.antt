@@ -44,7 +44,8 @@ returns-clause-counted g c =
     let ws = seen_words c.args.numbered.labels.items in
     let ls = seen_words c.args.letters.items in
     let counted = c.requires.0 in
-    let took = c.in_ok-take_letters.ensures s e ws ls c.requires.1 counted.hypotheses (rw c.deref.ensures.value counted.arities) in
-    (counted,
-    subst (λ x. CountsLetters s e ws x c.take_letters.new.self)
-    (sym (ap seen_words c.in_ok-push.ensures.items ∙ one_more_word c.args.letters.items c.args.token.text)) (took.1 c.if-not-branch.false))
+    let took = c.in_ok-take_letters.ensures s e ws ls c.requires.1 counted.hypotheses (rw c.deref.ensures.value counted.arities) in (
+      counted,
+      subst (λ x. CountsLetters s e ws x c.take_letters.new.self)
+          (sym (ap seen_words c.in_ok-push.ensures.items ∙ one_more_word c.args.letters.items c.args.token.text)) (took.1 c.if-not-branch.false),
+    )

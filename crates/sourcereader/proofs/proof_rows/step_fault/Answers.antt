@@ -9,7 +9,7 @@ pub returns-then-eq : goal.returns-then-eq
 returns-then-eq g c ws counts =
     let s = (g.S.Standing.stand c.args.standing.now).scope in
     let unknown : is_unknown c.args.word.now ≡ true =
-        ap (bytes_eq c.args.word.now) (sym c.as_slice.ensures) ∙ sym c.eq.ensures ∙ c.if-eq.true in
+    ap (bytes_eq c.args.word.now) (sym c.as_slice.ensures) ∙ sym c.eq.ensures ∙ c.if-eq.true in
     (sym (unknown_step s ws c.args.word.now unknown), λ same. c.skip.ensures s ws c.args.word.now counts unknown)
 
 pub returns-then-branch : goal.returns-then-branch
@@ -17,6 +17,7 @@ returns-then-branch g c ws counts =
     let s = (g.S.Standing.stand c.args.standing.now).scope in
     let w = c.args.word.now in
     let known : is_unknown w ≡ false = ap (bytes_eq w) (sym c.as_slice.ensures) ∙ sym c.eq.ensures ∙ c.if-eq.false in
-    let took = c.in_ok-take.ensures s ws w counts known c.arity_of.ensures in
-    (sym (known_step s ws w known (sym c.named_fault.ensures ∙ c.in_default.is) (sym took.0 ∙ c.if-branch.true)),
-    λ same. took.1 c.if-branch.true)
+    let took = c.in_ok-take.ensures s ws w counts known c.arity_of.ensures in (
+      sym (known_step s ws w known (sym c.named_fault.ensures ∙ c.in_default.is) (sym took.0 ∙ c.if-branch.true)),
+      λ same. took.1 c.if-branch.true,
+    )
