@@ -1,0 +1,11 @@
+-- What is left to show of `labels`.
+use Rattle.source.specs.Views.{seen_words}
+use Rattle.sourcereader.proofs.proof_rows.labels.Goals as goal
+
+pub returns-then-eq-clause-counted : goal.returns-then-eq-clause-counted
+returns-then-eq-clause-counted g c =
+    let s = (g.S.Standing.stand c.args.standing.now).scope in (
+      c.requires.1,
+      rw c.new.ensures.items (
+          c.new-then-eq.ensures.letters s (seen_words c.args.theorem.expression.items) (seen_words c.args.numbered.labels.items)),
+    )

@@ -1,0 +1,62 @@
+//! Places in a statement, as the reader keeps them.
+
+use mmtext::Token;
+use source::Entries;
+
+/// What was read of the statement that a token stands in. Its words are slices of the text.
+#[derive(Drop)]
+pub(crate) enum Place<'a> {
+    /// At the start of a statement.
+    AtStart,
+    /// Behind a label.
+    AfterLabel(Token<'a>),
+    /// Behind `$c`, and whether a symbol stood.
+    InConstants(bool),
+    /// Behind `$v`, and whether a symbol stood.
+    InVariables(bool),
+    /// Behind `$d` and variables.
+    InDistinct(Vec<&'a [u8]>),
+    /// Behind a label and `$f`.
+    FloatType(&'a [u8]),
+    /// Behind the type.
+    FloatVariable(&'a [u8], &'a [u8]),
+    /// Behind the variable.
+    FloatEnd(&'a [u8], &'a [u8], &'a [u8]),
+    /// Behind a label, `$e` and symbols.
+    InHypothesis(&'a [u8], Vec<&'a [u8]>),
+    /// Behind a label, `$a` and symbols.
+    InAxiom(&'a [u8], Vec<&'a [u8]>),
+    /// Behind a label, `$p` and symbols.
+    InTheorem(&'a [u8], Vec<&'a [u8]>),
+    /// Behind a label, `$p`, symbols and `$=`.
+    InProof(Theorem<'a>, ProofPlace<'a>),
+}
+
+/// The label and the symbols of a `$p`.
+#[derive(Drop)]
+pub(crate) struct Theorem<'a> {
+    pub label: &'a [u8],
+    pub expression: Vec<&'a [u8]>,
+}
+
+/// What was read of the proof that a token stands in.
+#[derive(Drop)]
+pub(crate) enum ProofPlace<'a> {
+    /// Behind steps, and the entries that they left.
+    InSteps(Vec<&'a [u8]>, Entries),
+    /// Behind `(` and labels.
+    InLabels(Numbered<'a>),
+    /// Behind `)` and words of letters, and the entries that they left.
+    InLetters(Numbered<'a>, Vec<&'a [u8]>, Entries),
+}
+
+/// What the numbers of letters count in front of marked subproofs.
+#[derive(Drop)]
+pub(crate) struct Numbered<'a> {
+    /// How many mandatory hypotheses the `$p` has.
+    pub hypotheses: usize,
+    /// The labels in parentheses.
+    pub labels: Vec<&'a [u8]>,
+    /// How many entries each of these takes.
+    pub arities: Vec<usize>,
+}

@@ -1,0 +1,236 @@
+//! Reading a proof: one function for each place in it.
+
+ghost use Rattle.std.specs.Prelude.{◌≡◌, List, [], ◌∷◌, ◌++◌, length, None, Some, Ok, true, false, IfOk};
+ghost use Rattle.std.specs.Option.{option_map};
+ghost use Rattle.mmtext.specs.Views.{seen};
+ghost use Rattle.mmtext.specs.Words.{Word};
+ghost use Rattle.mmsyntax.specs.Rows.{first_fault};
+ghost use Rattle.source.specs.Proofs.{taken_by};
+ghost use Rattle.source.specs.Tests.{named_tests, step_tests, letter_tests, is_whole};
+ghost use Rattle.source.specs.Faults.{at_start, in_steps, in_labels, in_letters, tested, ends_proof, next_step, proof_row, labels_row, letters_row};
+ghost use Rattle.source.specs.Views.{seen_words, seen_proof};
+ghost use Rattle.source.specs.Counts.{CountsSteps};
+ghost use Rattle.sourcereader.specs.Standing.{Stands, IsCounted, IsCountedProof, is_stated};
+ghost use Rattle.sourcereader.specs.Views.{standing_at, seen_place, Leads};
+ghost use Rattle.sourcereader.specs.declared.place.ProofPlace.TheVariants.{InSteps, InLabels, InLetters};
+
+use crate::place::{Numbered, Place, ProofPlace, Theorem};
+use mmtext::{FaultKind, Mark, Stop, Token, fault_at};
+use source::{Entries, ProofWords, Standing};
+use std::alloc::{AllocError, Global};
+
+/// How many entries a label takes that may stand in a proof.
+fn arity_of<'a, S: Standing<'a>>(standing: &S, word: &'a [u8]) -> usize
+    requires { first_fault (named_tests (S.stand standing.now).scope word.now) ≡ None }
+    ensures { let s = (S.stand standing.now).scope in
+        option_map length (taken_by s.assertions s.hypotheses word.entry.now) ≡ Some result }
+{
+    match standing.arity(word) {
+        Some(arity) => arity,
+        // Not reached, since it names something.
+        None => 0,
+    }
+}
+
+/// The fault of one more step of a normal proof, which is counted behind others.
+fn step_fault<'a, S: Standing<'a>>(
+    standing: &S,
+    entries: &mut Entries,
+    word: &'a [u8],
+) -> Result<Option<FaultKind>, AllocError>
+    ensures { IfOk result (λ fault. let s = (S.stand standing.now).scope in (ws : List Word) → CountsSteps s ws entries.old
+        → (fault ≡ first_fault (step_tests s ws word.entry.now))
+        × (fault ≡ None → CountsSteps s (ws ++ word.entry.now ∷ []) entries.new)) }
+{
+    if word == b"?".as_slice() {
+        entries.skip();
+        return Ok(None);
+    }
+    if let Some(kind) = standing.named_fault(word) {
+        return Ok(Some(kind));
+    }
+    if entries.take(arity_of(standing, word))? {
+        Ok(None)
+    } else {
+        Ok(Some(FaultKind::BadToken))
+    }
+}
+
+/// The end of a `$p`, whose proof denotes a tree or is unfinished, or neither.
+fn end<'a, S: Standing<'a>>(
+    alloc: Global,
+    standing: &mut S,
+    theorem: Theorem<'a>,
+    proof: ProofWords<'a>,
+    whole: bool,
+    token: Token<'a>,
+) -> Result<Place<'a>, Stop>
+    requires stated { is_stated (S.stand standing.old).scope theorem.label.now (seen_words theorem.expression.items) ≡ true }
+    requires whole { whole ≡ is_whole (S.stand standing.old).scope (seen_words theorem.expression.items) (seen_proof proof) }
+    ensures leads { Leads (S.stand standing.new) result (ends_proof (standing_at (S.stand standing.old) at_start) theorem.entry.label.now
+        (seen_words theorem.entry.expression.items) (seen_proof proof.entry) (seen token.entry)) }
+    ensures counted { IfOk result (λ p. IsCounted (S.stand standing.new).scope (S.framed standing.new) p) }
+{
+    if !whole {
+        return Err(fault_at(token, FaultKind::BadToken));
+    }
+    standing.declare_theorem(alloc, theorem.label, theorem.expression, proof)?;
+    Ok(Place::AtStart)
+}
+
+/// A step of a normal proof.
+fn step<'a, S: Standing<'a>>(
+    standing: &S,
+    theorem: Theorem<'a>,
+    mut steps: Vec<&'a [u8]>,
+    mut entries: Entries,
+    token: Token<'a>,
+) -> Result<Place<'a>, Stop>
+    requires { CountsSteps (S.stand standing.now).scope (seen_words steps.items) entries }
+    ensures leads { let e = seen_words theorem.entry.expression.items in let ws = seen_words steps.entry.items in
+        Leads (S.stand standing.now) result
+        (next_step (standing_at (S.stand standing.now) (in_steps theorem.entry.label.now e ws)) theorem.entry.label.now e ws (seen token.entry)) }
+    ensures counted { IfOk result (λ p. IsCounted (S.stand standing.now).scope (S.framed standing.now) p) }
+{
+    if let Some(kind) = step_fault(standing, &mut entries, token.text)? {
+        return Err(fault_at(token, kind));
+    }
+    steps.push(token.text)?;
+    let place = ProofPlace::InSteps(steps, entries);
+    Ok(Place::InProof(theorem, place))
+}
+
+/// Behind `$=`: the `(` of a compressed proof.
+fn open<'a, S: Standing<'a>>(alloc: Global, standing: &mut S, theorem: Theorem<'a>) -> Place<'a>
+    ensures same { S.stand standing.new ≡ S.stand standing.old }
+    ensures place { seen_place result ≡ in_labels theorem.entry.label.now (seen_words theorem.entry.expression.items) [] }
+    ensures counted { IsCounted (S.stand standing.new).scope (S.framed standing.new) result }
+{
+    let hypotheses = standing.frame(&theorem.expression);
+    let numbered = Numbered {
+        hypotheses,
+        labels: Vec::new(alloc),
+        arities: Vec::new(alloc),
+    };
+    Place::InProof(theorem, ProofPlace::InLabels(numbered))
+}
+
+/// Behind `$=` and steps.
+pub(crate) fn steps<'a, S: Standing<'a>>(
+    alloc: Global,
+    standing: &mut S,
+    theorem: Theorem<'a>,
+    steps: Vec<&'a [u8]>,
+    entries: Entries,
+    token: Token<'a>,
+    mark: Mark,
+) -> Result<Place<'a>, Stop>
+    requires stated { is_stated (S.stand standing.old).scope theorem.label.now (seen_words theorem.expression.items) ≡ true }
+    requires counts { CountsSteps (S.stand standing.old).scope (seen_words steps.items) entries }
+    ensures leads { let e = seen_words theorem.entry.expression.items in let ws = seen_words steps.entry.items in
+        Leads (S.stand standing.new) result (proof_row (standing_at (S.stand standing.old) (in_steps theorem.entry.label.now e ws))
+        theorem.entry.label.now e ws (seen token.entry) mark) }
+    ensures counted { IfOk result (λ p. IsCounted (S.stand standing.new).scope (S.framed standing.new) p) }
+{
+    if steps.is_empty() {
+        if token.text == b"(".as_slice() {
+            return Ok(open(alloc, standing, theorem));
+        }
+        return step(standing, theorem, steps, entries, token);
+    }
+    if mark == Mark::End {
+        let whole = entries.is_whole();
+        return end(
+            alloc,
+            standing,
+            theorem,
+            ProofWords::Normal(steps),
+            whole,
+            token,
+        );
+    }
+    step(standing, theorem, steps, entries, token)
+}
+
+/// Behind `(` and labels.
+pub(crate) fn labels<'a, S: Standing<'a>>(
+    alloc: Global,
+    standing: &S,
+    theorem: Theorem<'a>,
+    mut numbered: Numbered<'a>,
+    token: Token<'a>,
+) -> Result<Place<'a>, Stop>
+    requires { IsCountedProof (S.stand standing.now).scope (S.framed standing.now) (seen_words theorem.expression.items) (InLabels numbered) }
+    ensures leads { let e = seen_words theorem.entry.expression.items in let ws = seen_words numbered.entry.labels.items in
+        Leads (S.stand standing.now) result (labels_row (standing_at (S.stand standing.now) (in_labels theorem.entry.label.now e ws))
+        theorem.entry.label.now e ws (seen token.entry)) }
+    ensures counted { IfOk result (λ p. IsCounted (S.stand standing.now).scope (S.framed standing.now) p) }
+{
+    if token.text == b")".as_slice() {
+        let place = ProofPlace::InLetters(numbered, Vec::new(alloc), Entries::new());
+        return Ok(Place::InProof(theorem, place));
+    }
+    if let Some(kind) = standing.cited_fault(token.text) {
+        return Err(fault_at(token, kind));
+    }
+    let arity = arity_of(standing, token.text);
+    numbered.labels.push(token.text)?;
+    numbered.arities.push(arity)?;
+    Ok(Place::InProof(theorem, ProofPlace::InLabels(numbered)))
+}
+
+/// One more word of letters.
+fn more_letters<'a, S: Standing<'a>>(
+    standing: &S,
+    theorem: Theorem<'a>,
+    numbered: Numbered<'a>,
+    mut letters: Vec<&'a [u8]>,
+    mut entries: Entries,
+    token: Token<'a>,
+) -> Result<Place<'a>, Stop>
+    requires { IsCountedProof (S.stand standing.now).scope (S.framed standing.now) (seen_words theorem.expression.items)
+        (InLetters numbered letters entries) }
+    ensures leads { let e = seen_words theorem.entry.expression.items in let ws = seen_words numbered.entry.labels.items in
+        let ls = seen_words letters.entry.items in let w = token.entry.text.now in Leads (S.stand standing.now) result
+        (tested (seen token.entry) (letter_tests (S.stand standing.now).scope e ws ls w)
+        (Ok (standing_at (S.stand standing.now) (in_letters theorem.entry.label.now e ws (ls ++ w ∷ []))))) }
+    ensures counted { IfOk result (λ p. IsCounted (S.stand standing.now).scope (S.framed standing.now) p) }
+{
+    if !entries.take_letters(numbered.hypotheses, &numbered.arities, token.text)? {
+        return Err(fault_at(token, FaultKind::BadToken));
+    }
+    letters.push(token.text)?;
+    let place = ProofPlace::InLetters(numbered, letters, entries);
+    Ok(Place::InProof(theorem, place))
+}
+
+/// Behind `)` and words of letters.
+pub(crate) fn letters<'a, S: Standing<'a>>(
+    alloc: Global,
+    standing: &mut S,
+    theorem: Theorem<'a>,
+    numbered: Numbered<'a>,
+    letters: Vec<&'a [u8]>,
+    entries: Entries,
+    token: Token<'a>,
+    mark: Mark,
+) -> Result<Place<'a>, Stop>
+    requires stated { is_stated (S.stand standing.old).scope theorem.label.now (seen_words theorem.expression.items) ≡ true }
+    requires counts { IsCountedProof (S.stand standing.old).scope (S.framed standing.old) (seen_words theorem.expression.items)
+        (InLetters numbered letters entries) }
+    ensures leads { let e = seen_words theorem.entry.expression.items in let ws = seen_words numbered.entry.labels.items in
+        let ls = seen_words letters.entry.items in Leads (S.stand standing.new) result
+        (letters_row (standing_at (S.stand standing.old) (in_letters theorem.entry.label.now e ws ls)) theorem.entry.label.now e ws ls
+        (seen token.entry) mark) }
+    ensures counted { IfOk result (λ p. IsCounted (S.stand standing.new).scope (S.framed standing.new) p) }
+{
+    if letters.is_empty() {
+        return more_letters(standing, theorem, numbered, letters, entries, token);
+    }
+    if mark == Mark::End {
+        let whole = entries.is_whole();
+        let proof = ProofWords::Compressed(numbered.labels, letters);
+        return end(alloc, standing, theorem, proof, whole, token);
+    }
+    more_letters(standing, theorem, numbered, letters, entries, token)
+}

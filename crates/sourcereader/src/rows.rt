@@ -1,0 +1,277 @@
+//! Reading a statement outside of proofs: one function for each place in it.
+
+ghost use Rattle.std.specs.Prelude.{◌≡◌, List, true, IfOk};
+ghost use Rattle.mmtext.specs.Views.{seen, Gives};
+ghost use Rattle.mmtext.specs.Words.{Word};
+ghost use Rattle.mmtext.specs.declared.mark.Mark.TheVariants.{Closing};
+ghost use Rattle.source.specs.Faults.{Place as SeenPlace, at_start, after_label, in_constants, in_variables, in_distinct, float_type, float_variable, float_end, in_hypothesis, in_axiom, in_theorem};
+ghost use Rattle.source.specs.Faults.{start_row, keyword_row, constant_row, variable_row, distinct_row, float_end_row, next_symbol, hypothesis_row, axiom_row, theorem_row, in_place};
+ghost use Rattle.source.specs.Views.{seen_words};
+ghost use Rattle.sourcereader.specs.Standing.{Stands, IsCounted};
+ghost use Rattle.sourcereader.specs.Views.{standing_at, Leads};
+
+use crate::place::{Place, ProofPlace, Theorem};
+use mmtext::{FaultKind, Mark, Stop, Token, fault_at, is_label_token};
+use source::{Entries, Standing};
+use std::alloc::Global;
+
+/// The start of a statement.
+pub(crate) fn start<'a, S: Standing<'a>>(
+    alloc: Global,
+    standing: &mut S,
+    token: Token<'a>,
+    mark: Mark,
+) -> Result<Place<'a>, Stop>
+    ensures leads { Leads (S.stand standing.new) result (start_row (standing_at (S.stand standing.old) at_start) (seen token.entry) mark) }
+    ensures counted { IfOk result (λ p. IsCounted (S.stand standing.new).scope (S.framed standing.new) p) }
+{
+    match mark {
+        Mark::Constants if standing.is_outermost() => Ok(Place::InConstants(false)),
+        Mark::Variables => Ok(Place::InVariables(false)),
+        Mark::Disjoint => Ok(Place::InDistinct(Vec::new(alloc))),
+        Mark::Opening => {
+            standing.open_block(alloc)?;
+            Ok(Place::AtStart)
+        }
+        Mark::Closing => close(standing, token),
+        Mark::Plain if is_label_token(token.text) => Ok(Place::AfterLabel(token)),
+        _ => Err(fault_at(token, FaultKind::BadToken)),
+    }
+}
+
+/// The end of a block.
+fn close<'a, S: Standing<'a>>(standing: &mut S, token: Token<'a>) -> Result<Place<'a>, Stop>
+    ensures leads { Leads (S.stand standing.new) result (start_row (standing_at (S.stand standing.old) at_start) (seen token.entry) Closing) }
+    ensures counted { IfOk result (λ p. IsCounted (S.stand standing.new).scope (S.framed standing.new) p) }
+{
+    if !standing.close_block() {
+        return Err(fault_at(token, FaultKind::BadToken));
+    }
+    Ok(Place::AtStart)
+}
+
+/// Behind a label.
+pub(crate) fn keyword<'a, S: Standing<'a>>(
+    alloc: Global,
+    standing: &S,
+    label: Token<'a>,
+    token: Token<'a>,
+    mark: Mark,
+) -> Result<Place<'a>, Stop>
+    ensures leads { Leads (S.stand standing.now) result
+        (keyword_row (standing_at (S.stand standing.now) (after_label (seen label.entry))) (seen label.entry) (seen token.entry) mark) }
+    ensures counted { IfOk result (λ p. IsCounted (S.stand standing.now).scope (S.framed standing.now) p) }
+{
+    let word = label.text;
+    let place = match mark {
+        Mark::Floating => Place::FloatType(word),
+        Mark::Essential => Place::InHypothesis(word, Vec::new(alloc)),
+        Mark::Axiom => Place::InAxiom(word, Vec::new(alloc)),
+        Mark::Provable => Place::InTheorem(word, Vec::new(alloc)),
+        _ => return Err(fault_at(token, FaultKind::BadToken)),
+    };
+    match standing.label_fault(word) {
+        Some(kind) => Err(fault_at(label, kind)),
+        None => Ok(place),
+    }
+}
+
+/// A symbol in `$c`, or the `$.` behind one.
+pub(crate) fn constant<'a, S: Standing<'a>>(
+    alloc: Global,
+    standing: &mut S,
+    some: bool,
+    token: Token<'a>,
+    mark: Mark,
+) -> Result<Place<'a>, Stop>
+    requires { Stands (S.stand standing.old).scope (in_constants some) }
+    ensures leads { Leads (S.stand standing.new) result
+        (constant_row (standing_at (S.stand standing.old) (in_constants some)) some (seen token.entry) mark) }
+    ensures counted { IfOk result (λ p. IsCounted (S.stand standing.new).scope (S.framed standing.new) p) }
+{
+    if some && mark == Mark::End {
+        return Ok(Place::AtStart);
+    }
+    if let Some(kind) = standing.constant_fault(token.text) {
+        return Err(fault_at(token, kind));
+    }
+    standing.declare_constant(alloc, token.text)?;
+    Ok(Place::InConstants(true))
+}
+
+/// A symbol in `$v`, or the `$.` behind one.
+pub(crate) fn variable<'a, S: Standing<'a>>(
+    alloc: Global,
+    standing: &mut S,
+    some: bool,
+    token: Token<'a>,
+    mark: Mark,
+) -> Result<Place<'a>, Stop>
+    ensures leads { Leads (S.stand standing.new) result
+        (variable_row (standing_at (S.stand standing.old) (in_variables some)) some (seen token.entry) mark) }
+    ensures counted { IfOk result (λ p. IsCounted (S.stand standing.new).scope (S.framed standing.new) p) }
+{
+    if some && mark == Mark::End {
+        return Ok(Place::AtStart);
+    }
+    if let Some(kind) = standing.variable_fault(token.text) {
+        return Err(fault_at(token, kind));
+    }
+    standing.declare_variable(alloc, token.text)?;
+    Ok(Place::InVariables(true))
+}
+
+/// A variable of a `$d`, or the `$.` behind two.
+pub(crate) fn distinct<'a, S: Standing<'a>>(
+    alloc: Global,
+    standing: &mut S,
+    mut variables: Vec<&'a [u8]>,
+    token: Token<'a>,
+    mark: Mark,
+) -> Result<Place<'a>, Stop>
+    requires { Stands (S.stand standing.old).scope (in_distinct (seen_words variables.items)) }
+    ensures leads { let vs = seen_words variables.entry.items in Leads (S.stand standing.new) result
+        (distinct_row (standing_at (S.stand standing.old) (in_distinct vs)) vs (seen token.entry) mark) }
+    ensures counted { IfOk result (λ p. IsCounted (S.stand standing.new).scope (S.framed standing.new) p) }
+{
+    if mark == Mark::End && variables.len() > 1 {
+        standing.declare_distinct(alloc, variables)?;
+        return Ok(Place::AtStart);
+    }
+    if let Some(kind) = standing.distinct_fault(&variables, token.text) {
+        return Err(fault_at(token, kind));
+    }
+    variables.push(token.text)?;
+    Ok(Place::InDistinct(variables))
+}
+
+/// The type of a `$f`.
+pub(crate) fn type_code<'a, S: Standing<'a>>(
+    standing: &S,
+    label: &'a [u8],
+    token: Token<'a>,
+    mark: Mark,
+) -> Result<Place<'a>, Stop>
+    ensures leads { let place = float_type label.entry.now in Leads (S.stand standing.now) result
+        (in_place (standing_at (S.stand standing.now) place) place (seen token.entry) mark) }
+    ensures counted { IfOk result (λ p. IsCounted (S.stand standing.now).scope (S.framed standing.now) p) }
+{
+    match standing.type_fault(token.text) {
+        Some(kind) => Err(fault_at(token, kind)),
+        None => Ok(Place::FloatVariable(label, token.text)),
+    }
+}
+
+/// The variable of a `$f`.
+pub(crate) fn typed_variable<'a, S: Standing<'a>>(
+    standing: &S,
+    label: &'a [u8],
+    type_code: &'a [u8],
+    token: Token<'a>,
+    mark: Mark,
+) -> Result<Place<'a>, Stop>
+    ensures leads { let place = float_variable label.entry.now type_code.entry.now in Leads (S.stand standing.now) result
+        (in_place (standing_at (S.stand standing.now) place) place (seen token.entry) mark) }
+    ensures counted { IfOk result (λ p. IsCounted (S.stand standing.now).scope (S.framed standing.now) p) }
+{
+    match standing.float_fault(token.text) {
+        Some(kind) => Err(fault_at(token, kind)),
+        None => Ok(Place::FloatEnd(label, type_code, token.text)),
+    }
+}
+
+/// The end of a `$f`.
+pub(crate) fn float_end<'a, S: Standing<'a>>(
+    alloc: Global,
+    standing: &mut S,
+    label: &'a [u8],
+    type_code: &'a [u8],
+    variable: &'a [u8],
+    token: Token<'a>,
+    mark: Mark,
+) -> Result<Place<'a>, Stop>
+    requires { Stands (S.stand standing.old).scope (float_end label.now type_code.now variable.now) }
+    ensures leads { let place = float_end label.entry.now type_code.entry.now variable.entry.now in Leads (S.stand standing.new) result
+        (in_place (standing_at (S.stand standing.old) place) place (seen token.entry) mark) }
+    ensures counted { IfOk result (λ p. IsCounted (S.stand standing.new).scope (S.framed standing.new) p) }
+{
+    if mark != Mark::End {
+        return Err(fault_at(token, FaultKind::BadToken));
+    }
+    standing.declare_float(alloc, label, type_code, variable)?;
+    Ok(Place::AtStart)
+}
+
+/// A symbol of a `$e`, or the `$.` behind one.
+pub(crate) fn hypothesis<'a, S: Standing<'a>>(
+    alloc: Global,
+    standing: &mut S,
+    label: &'a [u8],
+    mut expression: Vec<&'a [u8]>,
+    token: Token<'a>,
+    mark: Mark,
+) -> Result<Place<'a>, Stop>
+    requires { Stands (S.stand standing.old).scope (in_hypothesis label.now (seen_words expression.items)) }
+    ensures leads { let e = seen_words expression.entry.items in Leads (S.stand standing.new) result
+        (hypothesis_row (standing_at (S.stand standing.old) (in_hypothesis label.entry.now e)) label.entry.now e (seen token.entry) mark) }
+    ensures counted { IfOk result (λ p. IsCounted (S.stand standing.new).scope (S.framed standing.new) p) }
+{
+    if mark == Mark::End && !expression.is_empty() {
+        standing.declare_hypothesis(alloc, label, expression)?;
+        return Ok(Place::AtStart);
+    }
+    if let Some(kind) = standing.symbol_fault(&expression, token.text) {
+        return Err(fault_at(token, kind));
+    }
+    expression.push(token.text)?;
+    Ok(Place::InHypothesis(label, expression))
+}
+
+/// A symbol of a `$a`, or the `$.` behind one.
+pub(crate) fn axiom<'a, S: Standing<'a>>(
+    alloc: Global,
+    standing: &mut S,
+    label: &'a [u8],
+    mut expression: Vec<&'a [u8]>,
+    token: Token<'a>,
+    mark: Mark,
+) -> Result<Place<'a>, Stop>
+    requires { Stands (S.stand standing.old).scope (in_axiom label.now (seen_words expression.items)) }
+    ensures leads { let e = seen_words expression.entry.items in Leads (S.stand standing.new) result
+        (axiom_row (standing_at (S.stand standing.old) (in_axiom label.entry.now e)) label.entry.now e (seen token.entry) mark) }
+    ensures counted { IfOk result (λ p. IsCounted (S.stand standing.new).scope (S.framed standing.new) p) }
+{
+    if mark == Mark::End && !expression.is_empty() {
+        standing.declare_axiom(alloc, label, expression)?;
+        return Ok(Place::AtStart);
+    }
+    if let Some(kind) = standing.symbol_fault(&expression, token.text) {
+        return Err(fault_at(token, kind));
+    }
+    expression.push(token.text)?;
+    Ok(Place::InAxiom(label, expression))
+}
+
+/// A symbol of a `$p`, or the `$=` behind one.
+pub(crate) fn theorem<'a, S: Standing<'a>>(
+    alloc: Global,
+    standing: &S,
+    label: &'a [u8],
+    mut expression: Vec<&'a [u8]>,
+    token: Token<'a>,
+    mark: Mark,
+) -> Result<Place<'a>, Stop>
+    ensures leads { let e = seen_words expression.entry.items in Leads (S.stand standing.now) result
+        (theorem_row (standing_at (S.stand standing.now) (in_theorem label.entry.now e)) label.entry.now e (seen token.entry) mark) }
+    ensures counted { IfOk result (λ p. IsCounted (S.stand standing.now).scope (S.framed standing.now) p) }
+{
+    if mark == Mark::Proof && !expression.is_empty() {
+        let place = ProofPlace::InSteps(Vec::new(alloc), Entries::new());
+        return Ok(Place::InProof(Theorem { label, expression }, place));
+    }
+    if let Some(kind) = standing.symbol_fault(&expression, token.text) {
+        return Err(fault_at(token, kind));
+    }
+    expression.push(token.text)?;
+    Ok(Place::InTheorem(label, expression))
+}
