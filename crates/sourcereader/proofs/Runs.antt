@@ -1,7 +1,7 @@
 -- What stands in the middle of statements: the tests that a place has behind it stay passed.
 use Rattle.std.proofs.Common.{◌≡◌, ℕ, Bool, true, false, cond, List, [], ◌∷◌, ◌++◌, Option, Some, None, Result, Ok, Err}
 use Rattle.std.proofs.Common.{refl, sym, ap, subst, append_assoc, arith, length}
-use Rattle.std.specs.Prelude.{is_none, nat_le, IfOk}
+use Rattle.std.specs.Prelude.{is_none, nat_le, IfOk, Bool}
 use Rattle.std.specs.Str.{bytes_eq}
 use Rattle.std.specs.Prelude.{codes}
 use Rattle.std.proofs.lemmas.Bool.{and_parts, and_from, le-leb}
@@ -219,8 +219,8 @@ unfolding row
 row_at p t m is = ap (in_place p p.place t) (sym is)
 
 -- what is so at a place is so where its row leads
-pub ready_on : (here : Position) (t : Token) (m : Mark) (s : Stand) (framed : List Word) (r : Result CodePlace Stop) → StandsAt here
-    → Leads s r (in_place here here.place t m) → IfOk r (λ q. IsCounted s.scope framed q) → IfOk r (λ q. IsReadySource s framed q)
-ready_on here t m s framed (Ok q) h leads counted =
+pub ready_on : (here : Position) (t : Token) (m : Mark) (s : Stand) (marks : List Bool) (r : Result CodePlace Stop) → StandsAt here
+    → Leads s r (in_place here here.place t m) → IfOk r (λ q. IsCounted s.scope marks q) → IfOk r (λ q. IsReadySource s marks q)
+ready_on here t m s marks (Ok q) h leads counted =
     record { stands = subst OkStands leads (place_stands here here.place t m h); counted = counted }
-ready_on here t m s framed (Err e) h leads counted = tt
+ready_on here t m s marks (Err e) h leads counted = tt

@@ -1,7 +1,7 @@
 -- Of the code's inside, apart from the rules: what is always so in the middle of a statement, since its tests passed.
-use Rattle.std.specs.Prelude.{◌≡◌, Bool, true, ◌&&◌, List, [], length}
+use Rattle.std.specs.Prelude.{◌≡◌, Bool, true, ◌&&◌, List, [], length, map}
 use Rattle.mmtext.specs.Words.{Word, is_label}
-use Rattle.source.specs.Scopes.{Scope, Stand, mandatory}
+use Rattle.source.specs.Scopes.{Scope, Stand, mandatory, is_mandatory}
 use Rattle.source.specs.Tests.{type_tests, float_tests, distinct_tests, symbol_tests, passes, all_pass, is_new_label, is_expression}
 use Rattle.source.specs.Faults.{Place, at_start, after_label, in_constants, in_variables, in_distinct, float_type, float_variable, float_end}
 use Rattle.source.specs.Faults.{in_hypothesis, in_axiom, in_theorem, in_steps, in_labels, in_letters}
@@ -48,19 +48,23 @@ pub record IsNumbered (s : Scope) (e : List Word) (n : Numbered) : Type 0 where
   pub hypotheses : n.hypotheses ≡ length (mandatory s.hypotheses e)
   pub arities : HaveArities s.assertions s.hypotheses (seen_words n.labels.items) n.arities.items
 
--- what is counted in the proof of an expression, where one was framed last
-abbrev pub IsCountedProof : Scope → List Word → List Word → ProofPlace → Type 0
-IsCountedProof s framed e (proof.InSteps steps c) = CountsSteps s (seen_words steps.items) c
-IsCountedProof s framed e (proof.InLabels n) = (framed ≡ e) × IsNumbered s e n
-IsCountedProof s framed e (proof.InLetters n letters c) =
+-- which of the active hypotheses are mandatory for an expression
+abbrev pub mandatory_marks : Scope → List Word → List Bool
+mandatory_marks s e = map (is_mandatory s.hypotheses e) s.hypotheses
+
+-- what is counted in the proof of an expression, where these marks stand
+abbrev pub IsCountedProof : Scope → List Bool → List Word → ProofPlace → Type 0
+IsCountedProof s marks e (proof.InSteps steps c) = CountsSteps s (seen_words steps.items) c
+IsCountedProof s marks e (proof.InLabels n) = (marks ≡ mandatory_marks s e) × IsNumbered s e n
+IsCountedProof s marks e (proof.InLetters n letters c) =
     IsNumbered s e n × CountsLetters s e (seen_words n.labels.items) (seen_words letters.items) c
 
 -- what is counted of a proof is so
-abbrev pub IsCounted : Scope → List Word → CodePlace → Type 0
-IsCounted s framed (code.InProof x p) = IsCountedProof s framed (seen_words x.expression.items) p
-IsCounted s framed _ = Unit {0}
+abbrev pub IsCounted : Scope → List Bool → CodePlace → Type 0
+IsCounted s marks (code.InProof x p) = IsCountedProof s marks (seen_words x.expression.items) p
+IsCounted s marks _ = Unit {0}
 
 -- what is so of what a reader of sources keeps
-pub record IsReadySource (s : Stand) (framed : List Word) (p : CodePlace) : Type 0 where
+pub record IsReadySource (s : Stand) (marks : List Bool) (p : CodePlace) : Type 0 where
   pub stands : Stands s.scope (seen_place p)
-  pub counted : IsCounted s.scope framed p
+  pub counted : IsCounted s.scope marks p

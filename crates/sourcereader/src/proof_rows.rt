@@ -6,11 +6,11 @@ ghost use Rattle.mmtext.specs.Views.{seen};
 ghost use Rattle.mmtext.specs.Words.{Word};
 ghost use Rattle.mmsyntax.specs.Rows.{first_fault};
 ghost use Rattle.source.specs.Proofs.{taken_by};
-ghost use Rattle.source.specs.Tests.{named_tests, step_tests, letter_tests, is_whole};
+ghost use Rattle.source.specs.Tests.{named_tests, cited_tests, step_tests, letter_tests, is_whole};
 ghost use Rattle.source.specs.Faults.{at_start, in_steps, in_labels, in_letters, tested, ends_proof, next_step, proof_row, labels_row, letters_row};
 ghost use Rattle.source.specs.Views.{seen_words, seen_proof};
 ghost use Rattle.source.specs.Counts.{CountsSteps};
-ghost use Rattle.sourcereader.specs.Standing.{Stands, IsCounted, IsCountedProof, is_stated};
+ghost use Rattle.sourcereader.specs.Standing.{Stands, IsCounted, IsCountedProof, is_stated, mandatory_marks};
 ghost use Rattle.sourcereader.specs.Views.{standing_at, seen_place, Leads};
 ghost use Rattle.sourcereader.specs.declared.place.ProofPlace.TheVariants.{InSteps, InLabels, InLetters};
 
@@ -69,7 +69,7 @@ fn end<'a, S: Standing<'a>>(
     requires whole { whole ≡ is_whole (S.stand standing.old).scope (seen_words theorem.expression.items) (seen_proof proof) }
     ensures leads { Leads (S.stand standing.new) result (ends_proof (standing_at (S.stand standing.old) at_start) theorem.entry.label.now
         (seen_words theorem.entry.expression.items) (seen_proof proof.entry) (seen token.entry)) }
-    ensures counted { IfOk result (λ p. IsCounted (S.stand standing.new).scope (S.framed standing.new) p) }
+    ensures counted { IfOk result (λ p. IsCounted (S.stand standing.new).scope (S.marks standing.new) p) }
 {
     if !whole {
         return Err(fault_at(token, FaultKind::BadToken));
@@ -90,7 +90,7 @@ fn step<'a, S: Standing<'a>>(
     ensures leads { let e = seen_words theorem.entry.expression.items in let ws = seen_words steps.entry.items in
         Leads (S.stand standing.now) result
         (next_step (standing_at (S.stand standing.now) (in_steps theorem.entry.label.now e ws)) theorem.entry.label.now e ws (seen token.entry)) }
-    ensures counted { IfOk result (λ p. IsCounted (S.stand standing.now).scope (S.framed standing.now) p) }
+    ensures counted { IfOk result (λ p. IsCounted (S.stand standing.now).scope (S.marks standing.now) p) }
 {
     if let Some(kind) = step_fault(standing, &mut entries, token.text)? {
         return Err(fault_at(token, kind));
@@ -104,7 +104,7 @@ fn step<'a, S: Standing<'a>>(
 fn open<'a, S: Standing<'a>>(alloc: Global, standing: &mut S, theorem: Theorem<'a>) -> Place<'a>
     ensures same { S.stand standing.new ≡ S.stand standing.old }
     ensures place { seen_place result ≡ in_labels theorem.entry.label.now (seen_words theorem.entry.expression.items) [] }
-    ensures counted { IsCounted (S.stand standing.new).scope (S.framed standing.new) result }
+    ensures counted { IsCounted (S.stand standing.new).scope (S.marks standing.new) result }
 {
     let hypotheses = standing.frame(&theorem.expression);
     let numbered = Numbered {
@@ -130,7 +130,7 @@ pub(crate) fn steps<'a, S: Standing<'a>>(
     ensures leads { let e = seen_words theorem.entry.expression.items in let ws = seen_words steps.entry.items in
         Leads (S.stand standing.new) result (proof_row (standing_at (S.stand standing.old) (in_steps theorem.entry.label.now e ws))
         theorem.entry.label.now e ws (seen token.entry) mark) }
-    ensures counted { IfOk result (λ p. IsCounted (S.stand standing.new).scope (S.framed standing.new) p) }
+    ensures counted { IfOk result (λ p. IsCounted (S.stand standing.new).scope (S.marks standing.new) p) }
 {
     if steps.is_empty() {
         if token.text == b"(".as_slice() {
@@ -152,6 +152,18 @@ pub(crate) fn steps<'a, S: Standing<'a>>(
     step(standing, theorem, steps, entries, token)
 }
 
+/// The fault of a label in parentheses, in the proof of the expression that is framed.
+fn cited_fault<'a, S: Standing<'a>>(
+    standing: &S,
+    _expression: &[&'a [u8]],
+    word: &'a [u8],
+) -> Option<FaultKind>
+    requires { S.marks standing.now ≡ mandatory_marks (S.stand standing.now).scope (seen_words _expression.now) }
+    ensures { result ≡ first_fault (cited_tests (S.stand standing.now).scope (seen_words _expression.now) word.now) }
+{
+    standing.cited_fault(word)
+}
+
 /// Behind `(` and labels.
 pub(crate) fn labels<'a, S: Standing<'a>>(
     alloc: Global,
@@ -160,17 +172,17 @@ pub(crate) fn labels<'a, S: Standing<'a>>(
     mut numbered: Numbered<'a>,
     token: Token<'a>,
 ) -> Result<Place<'a>, Stop>
-    requires { IsCountedProof (S.stand standing.now).scope (S.framed standing.now) (seen_words theorem.expression.items) (InLabels numbered) }
+    requires { IsCountedProof (S.stand standing.now).scope (S.marks standing.now) (seen_words theorem.expression.items) (InLabels numbered) }
     ensures leads { let e = seen_words theorem.entry.expression.items in let ws = seen_words numbered.entry.labels.items in
         Leads (S.stand standing.now) result (labels_row (standing_at (S.stand standing.now) (in_labels theorem.entry.label.now e ws))
         theorem.entry.label.now e ws (seen token.entry)) }
-    ensures counted { IfOk result (λ p. IsCounted (S.stand standing.now).scope (S.framed standing.now) p) }
+    ensures counted { IfOk result (λ p. IsCounted (S.stand standing.now).scope (S.marks standing.now) p) }
 {
     if token.text == b")".as_slice() {
         let place = ProofPlace::InLetters(numbered, Vec::new(alloc), Entries::new());
         return Ok(Place::InProof(theorem, place));
     }
-    if let Some(kind) = standing.cited_fault(token.text) {
+    if let Some(kind) = cited_fault(standing, &theorem.expression, token.text) {
         return Err(fault_at(token, kind));
     }
     let arity = arity_of(standing, token.text);
@@ -188,13 +200,13 @@ fn more_letters<'a, S: Standing<'a>>(
     mut entries: Entries,
     token: Token<'a>,
 ) -> Result<Place<'a>, Stop>
-    requires { IsCountedProof (S.stand standing.now).scope (S.framed standing.now) (seen_words theorem.expression.items)
+    requires { IsCountedProof (S.stand standing.now).scope (S.marks standing.now) (seen_words theorem.expression.items)
         (InLetters numbered letters entries) }
     ensures leads { let e = seen_words theorem.entry.expression.items in let ws = seen_words numbered.entry.labels.items in
         let ls = seen_words letters.entry.items in let w = token.entry.text.now in Leads (S.stand standing.now) result
         (tested (seen token.entry) (letter_tests (S.stand standing.now).scope e ws ls w)
         (Ok (standing_at (S.stand standing.now) (in_letters theorem.entry.label.now e ws (ls ++ w ∷ []))))) }
-    ensures counted { IfOk result (λ p. IsCounted (S.stand standing.now).scope (S.framed standing.now) p) }
+    ensures counted { IfOk result (λ p. IsCounted (S.stand standing.now).scope (S.marks standing.now) p) }
 {
     if !entries.take_letters(numbered.hypotheses, &numbered.arities, token.text)? {
         return Err(fault_at(token, FaultKind::BadToken));
@@ -216,13 +228,13 @@ pub(crate) fn letters<'a, S: Standing<'a>>(
     mark: Mark,
 ) -> Result<Place<'a>, Stop>
     requires stated { is_stated (S.stand standing.old).scope theorem.label.now (seen_words theorem.expression.items) ≡ true }
-    requires counts { IsCountedProof (S.stand standing.old).scope (S.framed standing.old) (seen_words theorem.expression.items)
+    requires counts { IsCountedProof (S.stand standing.old).scope (S.marks standing.old) (seen_words theorem.expression.items)
         (InLetters numbered letters entries) }
     ensures leads { let e = seen_words theorem.entry.expression.items in let ws = seen_words numbered.entry.labels.items in
         let ls = seen_words letters.entry.items in Leads (S.stand standing.new) result
         (letters_row (standing_at (S.stand standing.old) (in_letters theorem.entry.label.now e ws ls)) theorem.entry.label.now e ws ls
         (seen token.entry) mark) }
-    ensures counted { IfOk result (λ p. IsCounted (S.stand standing.new).scope (S.framed standing.new) p) }
+    ensures counted { IfOk result (λ p. IsCounted (S.stand standing.new).scope (S.marks standing.new) p) }
 {
     if letters.is_empty() {
         return more_letters(standing, theorem, numbered, letters, entries, token);

@@ -2,7 +2,9 @@
 
 ghost use Rattle.std.specs.Prelude.{◌≡◌, IfOk};
 ghost use Rattle.mmtext.specs.Text.{mark_of};
-ghost use Rattle.mmtext.specs.Views.{seen, IsReadAs};
+ghost use Rattle.mmtext.specs.Views.{seen, seen_by, IsReadAs};
+ghost use Rattle.mmtext.specs.Laws.{IsRead};
+ghost use Rattle.source.specs.Sources.{DeclaresText};
 ghost use Rattle.source.specs.Scopes.{outset};
 ghost use Rattle.source.specs.Faults.{in_place, row, source_language};
 ghost use Rattle.sourcereader.specs.Standing.{Stands, IsCounted, IsCountedProof, IsReadySource};
@@ -34,10 +36,10 @@ fn proof_place_by_mark<'a, S: Standing<'a>>(
     mark: Mark,
 ) -> Result<Place<'a>, Stop>
     requires stands { Stands (S.stand standing.old).scope (seen_place (InProof theorem place)) }
-    requires counted { IsCountedProof (S.stand standing.old).scope (S.framed standing.old) (seen_words theorem.expression.items) place }
+    requires counted { IsCountedProof (S.stand standing.old).scope (S.marks standing.old) (seen_words theorem.expression.items) place }
     ensures leads { let here = seen_at (S.stand standing.old) (InProof theorem.entry place.entry) in
         Leads (S.stand standing.new) result (in_place here here.place (seen token.entry) mark) }
-    ensures counted { IfOk result (λ p. IsCounted (S.stand standing.new).scope (S.framed standing.new) p) }
+    ensures counted { IfOk result (λ p. IsCounted (S.stand standing.new).scope (S.marks standing.new) p) }
 {
     match place {
         ProofPlace::InSteps(words, entries) => {
@@ -60,10 +62,10 @@ fn place_by_mark<'a, S: Standing<'a>>(
     token: Token<'a>,
     mark: Mark,
 ) -> Result<Place<'a>, Stop>
-    requires { IsReadySource (S.stand standing.old) (S.framed standing.old) place }
+    requires { IsReadySource (S.stand standing.old) (S.marks standing.old) place }
     ensures leads { let here = seen_at (S.stand standing.old) place.entry in
         Leads (S.stand standing.new) result (in_place here here.place (seen token.entry) mark) }
-    ensures counted { IfOk result (λ p. IsCounted (S.stand standing.new).scope (S.framed standing.new) p) }
+    ensures counted { IfOk result (λ p. IsCounted (S.stand standing.new).scope (S.marks standing.new) p) }
 {
     match place {
         Place::AtStart => start(alloc, standing, token, mark),
@@ -95,10 +97,10 @@ fn next_place<'a, S: Standing<'a>>(
     token: Token<'a>,
     mark: Mark,
 ) -> Result<Place<'a>, Stop>
-    requires ready { IsReadySource (S.stand standing.old) (S.framed standing.old) place }
+    requires ready { IsReadySource (S.stand standing.old) (S.marks standing.old) place }
     requires mark { mark ≡ mark_of token.text.now }
     ensures leads { Leads (S.stand standing.new) result (row (seen_at (S.stand standing.old) place.entry) (seen token.entry)) }
-    ensures ready { IfOk result (λ p. IsReadySource (S.stand standing.new) (S.framed standing.new) p) }
+    ensures ready { IfOk result (λ p. IsReadySource (S.stand standing.new) (S.marks standing.new) p) }
 {
     place_by_mark(alloc, standing, place, token, mark)
 }
@@ -119,7 +121,7 @@ impl<'a, S: Standing<'a>, P: KeepsPlace<'a>> Reader<'a> for SourceReader<S, P> {
 
     ghost place = { λ r. seen_at (S.stand r.standing) (P.kept r.place) };
 
-    ghost IsReady = { λ r. IsReadySource (S.stand r.standing) (S.framed r.standing) (P.kept r.place) };
+    ghost IsReady = { λ r. IsReadySource (S.stand r.standing) (S.marks r.standing) (P.kept r.place) };
 
     ghost meaning = { λ s. (S.stand s).scope };
 
@@ -204,7 +206,8 @@ pub fn read_source<'a, S: Standing<'a>>(
     text: &'a [u8],
 ) -> Result<S, TextFault>
     requires { S.stand standing ≡ outset }
-    ensures { IsReadAs (λ s. (S.stand s).scope) source_language text.now result }
+    // What is read is declared so, and what is declared so is read, unless memory runs out; a fault is the text's, or want of memory.
+    ensures { IsRead source_language DeclaresText text.now (seen_by (λ s. (S.stand s).scope) result) }
 {
     read_from(alloc, standing, Place::AtStart, text)
 }

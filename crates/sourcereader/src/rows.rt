@@ -23,7 +23,7 @@ pub(crate) fn start<'a, S: Standing<'a>>(
     mark: Mark,
 ) -> Result<Place<'a>, Stop>
     ensures leads { Leads (S.stand standing.new) result (start_row (standing_at (S.stand standing.old) at_start) (seen token.entry) mark) }
-    ensures counted { IfOk result (λ p. IsCounted (S.stand standing.new).scope (S.framed standing.new) p) }
+    ensures counted { IfOk result (λ p. IsCounted (S.stand standing.new).scope (S.marks standing.new) p) }
 {
     match mark {
         Mark::Constants if standing.is_outermost() => Ok(Place::InConstants(false)),
@@ -42,7 +42,7 @@ pub(crate) fn start<'a, S: Standing<'a>>(
 /// The end of a block.
 fn close<'a, S: Standing<'a>>(standing: &mut S, token: Token<'a>) -> Result<Place<'a>, Stop>
     ensures leads { Leads (S.stand standing.new) result (start_row (standing_at (S.stand standing.old) at_start) (seen token.entry) Closing) }
-    ensures counted { IfOk result (λ p. IsCounted (S.stand standing.new).scope (S.framed standing.new) p) }
+    ensures counted { IfOk result (λ p. IsCounted (S.stand standing.new).scope (S.marks standing.new) p) }
 {
     if !standing.close_block() {
         return Err(fault_at(token, FaultKind::BadToken));
@@ -60,7 +60,7 @@ pub(crate) fn keyword<'a, S: Standing<'a>>(
 ) -> Result<Place<'a>, Stop>
     ensures leads { Leads (S.stand standing.now) result
         (keyword_row (standing_at (S.stand standing.now) (after_label (seen label.entry))) (seen label.entry) (seen token.entry) mark) }
-    ensures counted { IfOk result (λ p. IsCounted (S.stand standing.now).scope (S.framed standing.now) p) }
+    ensures counted { IfOk result (λ p. IsCounted (S.stand standing.now).scope (S.marks standing.now) p) }
 {
     let word = label.text;
     let place = match mark {
@@ -87,7 +87,7 @@ pub(crate) fn constant<'a, S: Standing<'a>>(
     requires { Stands (S.stand standing.old).scope (in_constants some) }
     ensures leads { Leads (S.stand standing.new) result
         (constant_row (standing_at (S.stand standing.old) (in_constants some)) some (seen token.entry) mark) }
-    ensures counted { IfOk result (λ p. IsCounted (S.stand standing.new).scope (S.framed standing.new) p) }
+    ensures counted { IfOk result (λ p. IsCounted (S.stand standing.new).scope (S.marks standing.new) p) }
 {
     if some && mark == Mark::End {
         return Ok(Place::AtStart);
@@ -109,7 +109,7 @@ pub(crate) fn variable<'a, S: Standing<'a>>(
 ) -> Result<Place<'a>, Stop>
     ensures leads { Leads (S.stand standing.new) result
         (variable_row (standing_at (S.stand standing.old) (in_variables some)) some (seen token.entry) mark) }
-    ensures counted { IfOk result (λ p. IsCounted (S.stand standing.new).scope (S.framed standing.new) p) }
+    ensures counted { IfOk result (λ p. IsCounted (S.stand standing.new).scope (S.marks standing.new) p) }
 {
     if some && mark == Mark::End {
         return Ok(Place::AtStart);
@@ -132,7 +132,7 @@ pub(crate) fn distinct<'a, S: Standing<'a>>(
     requires { Stands (S.stand standing.old).scope (in_distinct (seen_words variables.items)) }
     ensures leads { let vs = seen_words variables.entry.items in Leads (S.stand standing.new) result
         (distinct_row (standing_at (S.stand standing.old) (in_distinct vs)) vs (seen token.entry) mark) }
-    ensures counted { IfOk result (λ p. IsCounted (S.stand standing.new).scope (S.framed standing.new) p) }
+    ensures counted { IfOk result (λ p. IsCounted (S.stand standing.new).scope (S.marks standing.new) p) }
 {
     if mark == Mark::End && variables.len() > 1 {
         standing.declare_distinct(alloc, variables)?;
@@ -154,7 +154,7 @@ pub(crate) fn type_code<'a, S: Standing<'a>>(
 ) -> Result<Place<'a>, Stop>
     ensures leads { let place = float_type label.entry.now in Leads (S.stand standing.now) result
         (in_place (standing_at (S.stand standing.now) place) place (seen token.entry) mark) }
-    ensures counted { IfOk result (λ p. IsCounted (S.stand standing.now).scope (S.framed standing.now) p) }
+    ensures counted { IfOk result (λ p. IsCounted (S.stand standing.now).scope (S.marks standing.now) p) }
 {
     match standing.type_fault(token.text) {
         Some(kind) => Err(fault_at(token, kind)),
@@ -172,7 +172,7 @@ pub(crate) fn typed_variable<'a, S: Standing<'a>>(
 ) -> Result<Place<'a>, Stop>
     ensures leads { let place = float_variable label.entry.now type_code.entry.now in Leads (S.stand standing.now) result
         (in_place (standing_at (S.stand standing.now) place) place (seen token.entry) mark) }
-    ensures counted { IfOk result (λ p. IsCounted (S.stand standing.now).scope (S.framed standing.now) p) }
+    ensures counted { IfOk result (λ p. IsCounted (S.stand standing.now).scope (S.marks standing.now) p) }
 {
     match standing.float_fault(token.text) {
         Some(kind) => Err(fault_at(token, kind)),
@@ -193,7 +193,7 @@ pub(crate) fn float_end<'a, S: Standing<'a>>(
     requires { Stands (S.stand standing.old).scope (float_end label.now type_code.now variable.now) }
     ensures leads { let place = float_end label.entry.now type_code.entry.now variable.entry.now in Leads (S.stand standing.new) result
         (in_place (standing_at (S.stand standing.old) place) place (seen token.entry) mark) }
-    ensures counted { IfOk result (λ p. IsCounted (S.stand standing.new).scope (S.framed standing.new) p) }
+    ensures counted { IfOk result (λ p. IsCounted (S.stand standing.new).scope (S.marks standing.new) p) }
 {
     if mark != Mark::End {
         return Err(fault_at(token, FaultKind::BadToken));
@@ -214,7 +214,7 @@ pub(crate) fn hypothesis<'a, S: Standing<'a>>(
     requires { Stands (S.stand standing.old).scope (in_hypothesis label.now (seen_words expression.items)) }
     ensures leads { let e = seen_words expression.entry.items in Leads (S.stand standing.new) result
         (hypothesis_row (standing_at (S.stand standing.old) (in_hypothesis label.entry.now e)) label.entry.now e (seen token.entry) mark) }
-    ensures counted { IfOk result (λ p. IsCounted (S.stand standing.new).scope (S.framed standing.new) p) }
+    ensures counted { IfOk result (λ p. IsCounted (S.stand standing.new).scope (S.marks standing.new) p) }
 {
     if mark == Mark::End && !expression.is_empty() {
         standing.declare_hypothesis(alloc, label, expression)?;
@@ -239,7 +239,7 @@ pub(crate) fn axiom<'a, S: Standing<'a>>(
     requires { Stands (S.stand standing.old).scope (in_axiom label.now (seen_words expression.items)) }
     ensures leads { let e = seen_words expression.entry.items in Leads (S.stand standing.new) result
         (axiom_row (standing_at (S.stand standing.old) (in_axiom label.entry.now e)) label.entry.now e (seen token.entry) mark) }
-    ensures counted { IfOk result (λ p. IsCounted (S.stand standing.new).scope (S.framed standing.new) p) }
+    ensures counted { IfOk result (λ p. IsCounted (S.stand standing.new).scope (S.marks standing.new) p) }
 {
     if mark == Mark::End && !expression.is_empty() {
         standing.declare_axiom(alloc, label, expression)?;
@@ -263,7 +263,7 @@ pub(crate) fn theorem<'a, S: Standing<'a>>(
 ) -> Result<Place<'a>, Stop>
     ensures leads { let e = seen_words expression.entry.items in Leads (S.stand standing.now) result
         (theorem_row (standing_at (S.stand standing.now) (in_theorem label.entry.now e)) label.entry.now e (seen token.entry) mark) }
-    ensures counted { IfOk result (λ p. IsCounted (S.stand standing.now).scope (S.framed standing.now) p) }
+    ensures counted { IfOk result (λ p. IsCounted (S.stand standing.now).scope (S.marks standing.now) p) }
 {
     if mark == Mark::Proof && !expression.is_empty() {
         let place = ProofPlace::InSteps(Vec::new(alloc), Entries::new());

@@ -16,5 +16,5 @@ pub returns-clause-ready : goal.returns-clause-ready
 returns-clause-ready g c =
     let here = seen_at (g.S.Standing.stand c.args.standing.now) c.args.place in
     let next = c.place_by_mark.new.standing in
-    ready_on here (seen c.args.token) c.args.mark (g.S.Standing.stand next) (g.S.Standing.framed next) c.place_by_mark.result
+    ready_on here (seen c.args.token) c.args.mark (g.S.Standing.stand next) (g.S.Standing.marks next) c.place_by_mark.result
     c.requires.ready.stands c.place_by_mark.ensures.leads c.place_by_mark.ensures.counted
