@@ -13,7 +13,11 @@ use scripts::read_script;
 use std::alloc::Global;
 
 /// Reads the scripts in order. The first fault is that of the first text that has one.
-pub fn read_scripts(alloc: Global, prelude: &Prelude, texts: &[Vec<u8>]) -> Result<Vec<Script>, Fault>
+pub fn read_scripts(
+    alloc: Global,
+    prelude: &Prelude,
+    texts: &[Vec<u8>],
+) -> Result<Vec<Script>, Fault>
     ensures ok { IfOk result (λ v. AreScripts prelude.now (map (λ t. t.items) texts.now) v.items) }
     ensures fit { IfOk result (λ v. All (All (All (CommandFits prelude.now))) v.items) }
     ensures err { IfErr result (IsScriptFault prelude.now (map (λ t. t.items) texts.now)) }

@@ -6,8 +6,8 @@ ghost use Rattle.checking.specs.declared.task.Task.{Task as TaskOfJob};
 ghost use Rattle.commandline.specs.Orders.{IsNumber, HasLimits, IsTaskOf, AsksFor, IsOrder, listed, all_listed, paths_of, history_of};
 
 use crate::arguments::{ROOM, WORKERS};
-use clap::ArgMatches;
 use checking::Task;
+use clap::ArgMatches;
 use std::alloc::{AllocError, Global};
 
 /// What a command line asks for.

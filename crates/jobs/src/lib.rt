@@ -12,9 +12,9 @@ mod task;
 mod watching;
 
 pub use answering::{Answered, answer};
+pub use checking::{Fault, Task, spelled_scripts_fit};
 pub use editing::{Edited, edit_all};
 pub use error::EditError;
-pub use checking::{Fault, Task, spelled_scripts_fit};
 pub use job::{Job, Printed};
 pub use laws::{accepted_texts_check, fault_labels_are_shown, runs_are_replayed};
 pub use performing::perform;

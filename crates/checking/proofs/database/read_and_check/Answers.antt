@@ -49,5 +49,5 @@ returns-clause-refused g c f =
 pub returns-clause-done : goal.returns-clause-done
 returns-clause-done g c = record {
   read = record { spelled = c.in-Ok.ensures.found; faultless = c.in-Ok.ensures.refused };
-  checks = c.in_ok-check_proofs.ensures.done;
+  checks = c.in_ok-check_proofs.ensures.yes;
 }
