@@ -1,11 +1,11 @@
 //! What stands at a place of a source, as its reader asks for it and changes it.
 
-ghost use Rattle.std.specs.Prelude.{◌≡◌, List, length, None, Some, true, false, IfOk, if◌then◌else◌};
+ghost use Rattle.std.specs.Prelude.{◌≡◌, Bool, List, length, map, None, Some, true, false, IfOk, if◌then◌else◌};
 ghost use Rattle.std.specs.Option.{option_map};
 ghost use Rattle.mmtext.specs.Words.{Word};
 ghost use Rattle.mmsyntax.specs.Rows.{first_fault};
 ghost use Rattle.source.specs.Statements.{float, hypothesis, distinct, asserted, proved};
-ghost use Rattle.source.specs.Scopes.{Stand, mandatory, declared, opened, closed};
+ghost use Rattle.source.specs.Scopes.{Stand, mandatory, is_mandatory, declared, opened, closed};
 ghost use Rattle.source.specs.Proofs.{taken_by};
 ghost use Rattle.source.specs.Tests.{label_tests, constant_tests, variable_tests, type_tests, float_tests, distinct_tests, symbol_tests, named_tests, cited_tests, a_constant, a_variable, is_lawful};
 ghost use Rattle.source.specs.Views.{seen_words, seen_proof};
@@ -30,8 +30,8 @@ pub trait Standing<'a>: Drop {
     // what stands, with what stood before each open block
     ghost stand: { Self → Stand };
 
-    // the expression that was framed last
-    ghost framed: { Self → List Word };
+    // of each active hypothesis: whether it is mandatory for the expression that was framed last
+    ghost marks: { Self → List Bool };
 
     /// Whether no block is open.
     fn is_outermost(&self) -> bool
@@ -72,12 +72,15 @@ pub trait Standing<'a>: Drop {
     /// How many mandatory hypotheses an assertion with this expression has here. It is framed then.
     fn frame(&mut self, expression: &[&'a [u8]]) -> usize
         ensures count { result ≡ length (mandatory (stand self.old).scope.hypotheses (seen_words expression.now)) }
-        ensures framed { framed self.new ≡ seen_words expression.now }
+        ensures marks { marks self.new
+            ≡ map (is_mandatory (stand self.old).scope.hypotheses (seen_words expression.now)) (stand self.old).scope.hypotheses }
         ensures same { stand self.new ≡ stand self.old };
 
     /// The fault of a label in parentheses, in the proof of the expression that is framed.
     fn cited_fault(&self, word: &'a [u8]) -> Option<FaultKind>
-        ensures { result ≡ first_fault (cited_tests (stand self.now).scope (framed self.now) word.now) };
+        ensures { (e : List Word)
+            → marks self.now ≡ map (is_mandatory (stand self.now).scope.hypotheses e) (stand self.now).scope.hypotheses
+            → result ≡ first_fault (cited_tests (stand self.now).scope e word.now) };
 
     /// How many entries a label takes in a proof, if it names something there.
     fn arity(&self, word: &'a [u8]) -> Option<usize>

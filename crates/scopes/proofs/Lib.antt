@@ -1,0 +1,3 @@
+mod Paths
+mod Found
+mod Outset

@@ -1,0 +1,5 @@
+pub mod Paths
+pub mod Views
+pub mod Found
+pub mod Sound
+pub mod Sorts

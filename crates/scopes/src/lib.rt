@@ -1,0 +1,5 @@
+//! What stands at a place of a source in the whole language of Metamath, as tables with fast look-ups.
+#![tactic(auto)]
+
+mod sorts;
+mod tables;
