@@ -90,7 +90,7 @@ found_any test xs o h =
       | inr n ↦ n ∙ sym (none_noted test xs o n)
     ]
 
-finds_none : {A : Type 0} (test : A → Bool) (xs : List A) → list_any test xs ≡ false → find test xs ≡ None
+pub finds_none : {A : Type 0} (test : A → Bool) (xs : List A) → list_any test xs ≡ false → find test xs ≡ None
 finds_none test [] none = refl
 finds_none test (z ∷ zs) none =
     let parts = or_false (test z) (list_any test zs) none in

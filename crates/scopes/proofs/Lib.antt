@@ -1,3 +1,5 @@
 mod Paths
 mod Found
 mod Outset
+mod SortsOf
+mod Naming
