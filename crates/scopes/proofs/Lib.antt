@@ -3,3 +3,6 @@ mod Found
 mod Outset
 mod SortsOf
 mod Naming
+mod Growing
+mod Lawful
+mod Symbols
