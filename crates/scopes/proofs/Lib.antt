@@ -6,3 +6,6 @@ mod Naming
 mod Growing
 mod Lawful
 mod Symbols
+mod Linking
+mod Effects
+mod Closing

@@ -3,3 +3,4 @@ pub mod Views
 pub mod Found
 pub mod Sound
 pub mod Sorts
+pub mod Effects
