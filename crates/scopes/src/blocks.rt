@@ -33,7 +33,7 @@ pub(crate) fn close_block(tables: &mut Tables<'_>) -> bool
     requires { IsSoundTables tables.old }
     ensures sound { IsSoundTables tables.new }
     ensures closed { closed (stand_of (kept_of tables.old)) ≡ (if result then Some (stand_of (kept_of tables.new)) else None) }
-    ensures same { result ≡ false → tables.new ≡ tables.old }
+    ensures same { result ≡ false → kept_of tables.new ≡ kept_of tables.old }
 {
     let Some(block) = tables.blocks.pop() else {
         return false;

@@ -15,7 +15,7 @@ use mmtext::FaultKind;
 use mmtext::contains_dollar;
 
 /// Whether a word is one of some words.
-fn is_among(words: &[&[u8]], word: &[u8]) -> bool
+pub(crate) fn is_among(words: &[&[u8]], word: &[u8]) -> bool
     ensures { result ≡ is_in (seen_words words.now) word.now }
 {
     for other in words {

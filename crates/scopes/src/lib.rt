@@ -4,5 +4,6 @@
 mod blocks;
 mod declaring;
 mod faults;
+mod frames;
 mod sorts;
 mod tables;
