@@ -9,3 +9,4 @@ mod Symbols
 mod Linking
 mod Effects
 mod Closing
+mod Marks

@@ -4,3 +4,4 @@ pub mod Found
 pub mod Sound
 pub mod Sorts
 pub mod Effects
+pub mod Seen

@@ -5,5 +5,8 @@ mod blocks;
 mod declaring;
 mod faults;
 mod frames;
+mod scopes;
 mod sorts;
 mod tables;
+
+pub use scopes::Scopes;
