@@ -154,8 +154,8 @@ count_step q [] (suc i) = refl
 count_step {A} q (x ∷ xs) zero =
     elim (q x) as (λ b. length {A = A} (cond b (x ∷ []) []) ≡ 0 + cond b 1 0) [ true ↦ refl | false ↦ refl ]
 count_step {A} q (x ∷ xs) (suc i) =
-    let step = count_step q xs i in
-    let more = cond (unwrap_or (option_map q (slice_get xs i)) false) 1 0 in
+    let more : ℕ = cond (unwrap_or (option_map q (slice_get xs i)) false) 1 0 in
+    let step : length (filter q (take (suc i) xs)) ≡ length (filter q (take i xs)) + more = count_step q xs i in
     elim (q x) as (λ b. length (cond b (x ∷ filter q (take (suc i) xs)) (filter q (take (suc i) xs)))
     ≡ length (cond b (x ∷ filter q (take i xs)) (filter q (take i xs))) + more) [ true ↦ omega arith | false ↦ step ]
 
