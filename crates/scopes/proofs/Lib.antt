@@ -10,3 +10,4 @@ mod Linking
 mod Effects
 mod Closing
 mod Marks
+mod Seeing
