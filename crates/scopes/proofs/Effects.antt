@@ -109,7 +109,7 @@ float_named look k label c v s lawful =
 pub sound_float : (look : Word → Option Name) (k : Kept) (label c v : Word) (i : ℕ) (f : Option ℕ) → IsSound look k
     → is_lawful (scope_of k) (float label c v) ≡ true → look v ≡ Some (name.Variable i f)
     → IsSound (λ w. cond (bytes_eq v w) (Some (name.Variable i (Some (length k.active))))
-      (cond (bytes_eq label w) (Some (name.Hypothesis (length k.active))) (look w))) (with_link k (typing label c v))
+    (cond (bytes_eq label w) (Some (name.Hypothesis (length k.active))) (look w))) (with_link k (typing label c v))
 sound_float look k label c v i f s lawful at =
     let new = lawful_float (scope_of k) label c v lawful in
     let len : length (scope_of k).hypotheses ≡ length k.active = length-map k.active _ in
@@ -222,7 +222,7 @@ scope_entry look k label ws proof arity s =
 pub sound_entry : (look : Word → Option Name) (k : Kept) (label : Word) (ws : List Word) (proof : Option Proof) (arity : ℕ) → IsSound look k
     → is_lawful (scope_of k) (asserted label ws) ≡ true → arity ≡ length (mandatory (scope_of k).hypotheses ws)
     → IsSound (λ w. cond (bytes_eq label w) (Some (name.Assertion (length k.entries))) (look w))
-      (with_entry k (entry_here k label ws proof arity))
+    (with_entry k (entry_here k label ws proof arity))
 sound_entry look k label ws proof arity s lawful counts =
     let e = entry_here k label ws proof arity in
     let j = with_entry k e in

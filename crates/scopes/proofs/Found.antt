@@ -51,16 +51,16 @@ some_passes {A} test (z ∷ zs) h =
 pub found_push : {A : Type 0} (test : A → Bool) (xs : List A) (x : A) (o : Option ℕ) → test x ≡ false → Found test xs o
     → Found test (xs ++ x ∷ []) o
 found_push test xs x o fails h = λ i y at passes. elim (get-push xs x i y at) [
-      | inl e ↦ h i y e passes
-      | inr p ↦ let e : test y ≡ test x = ap test p.1 in absurd cc
-    ]
+  | inl e ↦ h i y e passes
+  | inr p ↦ let e : test y ≡ test x = ap test p.1 in absurd cc
+]
 
 pub found_here : {A : Type 0} (test : A → Bool) (xs : List A) (x : A) → list_any test xs ≡ false
     → Found test (xs ++ x ∷ []) (Some (length xs))
 found_here test xs x none = λ i y at passes. elim (get-push xs x i y at) [
-      | inl e ↦ let no : test y ≡ false = none_passes test xs i y none e in absurd cc
-      | inr p ↦ ap (λ n. Some n) (sym p.0)
-    ]
+  | inl e ↦ let no : test y ≡ false = none_passes test xs i y none e in absurd cc
+  | inr p ↦ ap (λ n. Some n) (sym p.0)
+]
 
 pub found_none : {A : Type 0} (test : A → Bool) (xs : List A) (o : Option ℕ) → list_any test xs ≡ false → Found test xs o
 found_none test xs o none = λ i y at passes. let no : test y ≡ false = none_passes test xs i y none at in absurd cc

@@ -69,6 +69,6 @@ float_bools true false false true false true false true false h = (refl, refl, r
 -- the label of a $f has no name, and its variable is a variable without a $f
 pub lawful_float : (s : Scope) (label c v : Word) → is_lawful s (float label c v) ≡ true
     → (is_in s.labels label ≡ false) × (is_in s.symbols label ≡ false) × (is_in s.symbols v ≡ true) × (is_in s.constants v ≡ false)
-      × (has_float s v ≡ false)
+    × (has_float s v ≡ false)
 lawful_float s label c v h = float_bools (is_label label) (is_in s.labels label) (is_in s.symbols label) (passes (type_tests s c))
     (has_dollar v) (is_in s.symbols v) (is_in s.constants v) (is_in s.variables v) (has_float s v) h

@@ -113,10 +113,10 @@ pub counted_stay : (links more : List Linked) (m n : ℕ) (es : List Entry) → 
     → AllByRecursion (IsCounted links m) es → ((o : Option ℕ) → IsWithin o (length links) → path more o ≡ path links o)
     → AllByRecursion (IsCounted more n) es
 counted_stay links more m n es longer le h same = all_map (IsCounted links m) (IsCounted more n) (λ e c. record {
-      hypotheses = within_more e.hypotheses (length links) (length more) longer c.hypotheses;
-      apart = within_more e.apart m n le c.apart;
-      arity = c.arity ∙ ap (λ hs. length (mandatory hs e.statement)) (sym (same e.hypotheses c.hypotheses));
-    }) es h
+  hypotheses = within_more e.hypotheses (length links) (length more) longer c.hypotheses;
+  apart = within_more e.apart m n le c.apart;
+  arity = c.arity ∙ ap (λ hs. length (mandatory hs e.statement)) (sym (same e.hypotheses c.hypotheses));
+}) es h
 
 -- ---- one more link
 

@@ -70,7 +70,7 @@ unknown s c o k l m = subst (λ o. Knows s c o) (no_name o (sym k.label ∙ l) (
 pub knows_constant : (s : Scope) (c : Word) (look : Word → Option Name) → ((w : Word) → Knows s w (look w))
     → is_in s.labels c ≡ false → is_in s.symbols c ≡ false
     → (w : Word) → Knows (record s { constants = s.constants ++ c ∷ []; symbols = s.symbols ++ c ∷ [] }) w
-      (cond (bytes_eq c w) (Some name.Constant) (look w))
+    (cond (bytes_eq c w) (Some name.Constant) (look w))
 knows_constant s c look known l m =
     let t : Scope = record s { constants = s.constants ++ c ∷ []; symbols = s.symbols ++ c ∷ [] } in
     let k = unknown s c (look c) (known c) l m in
@@ -95,7 +95,7 @@ knows_constant s c look known l m =
 pub knows_variable : (s : Scope) (v : Word) (look : Word → Option Name) → ((w : Word) → Knows s w (look w))
     → is_in s.labels v ≡ false → is_in s.constants v ≡ false → is_in s.variables v ≡ false
     → (w : Word) → Knows (record s { variables = s.variables ++ v ∷ []; symbols = s.symbols ++ v ∷ [] }) w
-      (cond (bytes_eq v w) (Some (name.Variable (length s.variables) (float_place (look v)))) (look w))
+    (cond (bytes_eq v w) (Some (name.Variable (length s.variables) (float_place (look v)))) (look w))
 knows_variable s v look known l c inactive =
     let t : Scope = record s { variables = s.variables ++ v ∷ []; symbols = s.symbols ++ v ∷ [] } in
     let k = known v in
@@ -125,7 +125,7 @@ knows_label : (s : Scope) (h : Hypothesis) (look : Word → Option Name) → ((w
     → is_in s.labels (label_of h) ≡ false → is_in s.symbols (label_of h) ≡ false
     → (w : Word) → is_float_of w h ≡ false
     → Knows (record s { hypotheses = s.hypotheses ++ h ∷ []; labels = s.labels ++ label_of h ∷ [] }) w
-      (cond (bytes_eq (label_of h) w) (Some (name.Hypothesis (length s.hypotheses))) (look w))
+    (cond (bytes_eq (label_of h) w) (Some (name.Hypothesis (length s.hypotheses))) (look w))
 knows_label s h look known l m =
     let t : Scope = record s { hypotheses = s.hypotheses ++ h ∷ []; labels = s.labels ++ label_of h ∷ [] } in
     let c = label_of h in
@@ -152,15 +152,15 @@ knows_label s h look known l m =
 pub knows_premise : (s : Scope) (label : Word) (ws : List Word) (look : Word → Option Name) → ((w : Word) → Knows s w (look w))
     → is_in s.labels label ≡ false → is_in s.symbols label ≡ false
     → (w : Word) → Knows (record s { hypotheses = s.hypotheses ++ premise label ws ∷ []; labels = s.labels ++ label ∷ [] }) w
-      (cond (bytes_eq label w) (Some (name.Hypothesis (length s.hypotheses))) (look w))
+    (cond (bytes_eq label w) (Some (name.Hypothesis (length s.hypotheses))) (look w))
 knows_premise s label ws look known l m w = knows_label s (premise label ws) look known l m w refl
 
 pub knows_float : (s : Scope) (label c v : Word) (i : ℕ) (f : Option ℕ) (look : Word → Option Name) → ((w : Word) → Knows s w (look w))
     → is_in s.labels label ≡ false → is_in s.symbols label ≡ false
     → look v ≡ Some (name.Variable i f) → list_any (is_float_of v) s.hypotheses ≡ false
     → (w : Word) → Knows (record s { hypotheses = s.hypotheses ++ typing label c v ∷ []; labels = s.labels ++ label ∷ [] }) w
-      (cond (bytes_eq v w) (Some (name.Variable i (Some (length s.hypotheses))))
-      (cond (bytes_eq label w) (Some (name.Hypothesis (length s.hypotheses))) (look w)))
+    (cond (bytes_eq v w) (Some (name.Variable i (Some (length s.hypotheses))))
+    (cond (bytes_eq label w) (Some (name.Hypothesis (length s.hypotheses))) (look w)))
 knows_float s label c v i f look known l m at free =
     let h = typing label c v in
     let t : Scope = record s { hypotheses = s.hypotheses ++ h ∷ []; labels = s.labels ++ label ∷ [] } in
@@ -187,7 +187,7 @@ knows_float s label c v i f look known l m at free =
 pub knows_assertion : (s : Scope) (a : Assertion) (look : Word → Option Name) → ((w : Word) → Knows s w (look w))
     → is_in s.labels a.label ≡ false → is_in s.symbols a.label ≡ false
     → (w : Word) → Knows (record s { labels = s.labels ++ a.label ∷ []; assertions = s.assertions ++ a ∷ [] }) w
-      (cond (bytes_eq a.label w) (Some (name.Assertion (length s.assertions))) (look w))
+    (cond (bytes_eq a.label w) (Some (name.Assertion (length s.assertions))) (look w))
 knows_assertion s a look known l m =
     let t : Scope = record s { labels = s.labels ++ a.label ∷ []; assertions = s.assertions ++ a ∷ [] } in
     let c = a.label in

@@ -175,8 +175,10 @@ pub(crate) fn with_asserted<'a>(
     requires lawful { is_lawful (scope_of (kept_of tables)) (asserted label.now (seen_words statement.items)) ≡ true }
     requires counted { arity ≡ length (mandatory (scope_of (kept_of tables)).hypotheses (seen_words statement.items)) }
     ensures sound { IfOk result (λ made. IsSoundTables made) }
-    ensures stand { IfOk result (λ made. stand_of (kept_of made) ≡ record (stand_of (kept_of tables.entry)) { scope =
-        with_assertion (scope_of (kept_of tables.entry)) label.entry.now (seen_words statement.entry.items) (option_map seen_proof proof.entry) }) }
+    ensures stand { IfOk result (λ made. stand_of (kept_of made) ≡ record (stand_of (kept_of tables.entry)) {
+      scope =
+          with_assertion (scope_of (kept_of tables.entry)) label.entry.now (seen_words statement.entry.items) (option_map seen_proof proof.entry);
+    }) }
 {
     let mut tables = tables;
     let hypotheses = last_active(tables.active.as_slice());

@@ -11,8 +11,7 @@ ghost use Rattle.scopes.specs.Sound.{IsSoundTables};
 
 use crate::sorts::{Sort, sort_of};
 use crate::tables::Tables;
-use mmtext::FaultKind;
-use mmtext::contains_dollar;
+use mmtext::{FaultKind, contains_dollar};
 
 /// Whether a word is one of some words.
 pub(crate) fn is_among(words: &[&[u8]], word: &[u8]) -> bool
@@ -118,11 +117,7 @@ pub(crate) fn distinct_fault(
 }
 
 /// The fault of a symbol of an expression behind others.
-pub(crate) fn symbol_fault(
-    tables: &Tables<'_>,
-    others: &[&[u8]],
-    word: &[u8],
-) -> Option<FaultKind>
+pub(crate) fn symbol_fault(tables: &Tables<'_>, others: &[&[u8]], word: &[u8]) -> Option<FaultKind>
     requires { IsSoundTables tables.now }
     ensures { result ≡ first_fault (symbol_tests (scope_of (kept_of tables.now)) (seen_words others.now) word.now) }
 {

@@ -55,11 +55,7 @@ fn stands_in_active(tables: &Tables<'_>, variable: &[u8]) -> bool
 }
 
 /// Whether a hypothesis is mandatory for an expression.
-fn is_mandatory(
-    tables: &Tables<'_>,
-    expression: &[&[u8]],
-    hypothesis: &HypothesisWords<'_>,
-) -> bool
+fn is_mandatory(tables: &Tables<'_>, expression: &[&[u8]], hypothesis: &HypothesisWords<'_>) -> bool
     requires { IsSoundTables tables.now }
     ensures { result ≡ is_mandatory (scope_of (kept_of tables.now)).hypotheses (seen_words expression.now) (hypothesis_of hypothesis.now) }
 {

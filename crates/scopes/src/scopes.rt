@@ -5,11 +5,8 @@ ghost use Rattle.source.specs.Scopes.{outset};
 ghost use Rattle.scopes.specs.Sound.{IsSoundTables};
 ghost use Rattle.scopes.specs.Views.{kept_of, stand_of, marks_of};
 
-use crate::blocks;
-use crate::declaring;
-use crate::faults;
-use crate::frames;
 use crate::tables::Tables;
+use crate::{blocks, declaring, faults, frames};
 use mmtext::FaultKind;
 use source::{ProofWords, Standing};
 use std::alloc::{AllocError, Global};

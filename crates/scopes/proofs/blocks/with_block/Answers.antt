@@ -21,8 +21,15 @@ pushed c =
     let f4 : c.len-4.result ≡ length (kept_of t).symbols = e4 ∙ sym (length-map t.symbols.items _) in
     let f5 : c.len-5.result ≡ length (kept_of t).labels = e5 ∙ sym (length-map t.labels.items _) in
     let f6 : c.len-6.result ≡ length (kept_of t).entries = e6 ∙ sym (length-map t.assertions.items _) in
-    let b : Block = record { constants = c.len.result; variables = c.len-2.result; active = c.len-3.result; apart = t.last_apart;
-    symbols = c.len-4.result; labels = c.len-5.result; assertions = c.len-6.result } in
+    let b : Block = record {
+      constants = c.len.result;
+      variables = c.len-2.result;
+      active = c.len-3.result;
+      apart = t.last_apart;
+      symbols = c.len-4.result;
+      labels = c.len-5.result;
+      assertions = c.len-6.result;
+    } in
     let is : c.push.new.self.items ≡ t.blocks.items ++ b ∷ [] = search rules in
     let here : b ≡ block_here (kept_of t) = cc in
     is ∙ ap (λ x. t.blocks.items ++ x ∷ []) here

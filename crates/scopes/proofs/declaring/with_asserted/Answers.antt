@@ -20,8 +20,14 @@ returns-clause-sound c =
     let proof = option_map seen_proof c.args.proof in
     let pushed : c.push.new.self.items ≡ t.labels.items ++ c.args.label ∷ [] = search rules in
     let labels : seen_words c.push.new.self.items ≡ seen_words t.labels.items ++ label ∷ [] = ap seen_words pushed ∙ map-append _ t.labels.items (c.args.label ∷ []) in
-    let also : c.push-2.new.self.items ≡ t.assertions.items ++ record { label = c.args.label; statement = c.args.statement; proof = c.args.proof;
-    hypotheses = c.last_active-hypotheses.result; apart = t.last_apart; arity = c.args.arity } ∷ [] = search rules in
+    let also : c.push-2.new.self.items ≡ t.assertions.items ++ record {
+      label = c.args.label;
+      statement = c.args.statement;
+      proof = c.args.proof;
+      hypotheses = c.last_active-hypotheses.result;
+      apart = t.last_apart;
+      arity = c.args.arity;
+    } ∷ [] = search rules in
     let seen : c.as_slice.result.now ≡ t.active.items = search rules in
     let last : c.last_active-hypotheses.result ≡ last_link t.active.items = c.last_active-hypotheses.ensures ∙ ap last_link seen in
     let put : Option ℕ → Entry = λ o. record { label = label; statement = ws; proof = proof; hypotheses = o; apart = t.last_apart; arity = c.args.arity } in
@@ -42,8 +48,14 @@ returns-clause-stand c =
     let proof = option_map seen_proof c.args.proof in
     let pushed : c.push.new.self.items ≡ t.labels.items ++ c.args.label ∷ [] = search rules in
     let labels : seen_words c.push.new.self.items ≡ seen_words t.labels.items ++ label ∷ [] = ap seen_words pushed ∙ map-append _ t.labels.items (c.args.label ∷ []) in
-    let also : c.push-2.new.self.items ≡ t.assertions.items ++ record { label = c.args.label; statement = c.args.statement; proof = c.args.proof;
-    hypotheses = c.last_active-hypotheses.result; apart = t.last_apart; arity = c.args.arity } ∷ [] = search rules in
+    let also : c.push-2.new.self.items ≡ t.assertions.items ++ record {
+      label = c.args.label;
+      statement = c.args.statement;
+      proof = c.args.proof;
+      hypotheses = c.last_active-hypotheses.result;
+      apart = t.last_apart;
+      arity = c.args.arity;
+    } ∷ [] = search rules in
     let seen : c.as_slice.result.now ≡ t.active.items = search rules in
     let last : c.last_active-hypotheses.result ≡ last_link t.active.items = c.last_active-hypotheses.ensures ∙ ap last_link seen in
     let put : Option ℕ → Entry = λ o. record { label = label; statement = ws; proof = proof; hypotheses = o; apart = t.last_apart; arity = c.args.arity } in
