@@ -1,0 +1,13 @@
+mod Paths
+mod Found
+mod Outset
+mod SortsOf
+mod Naming
+mod Growing
+mod Lawful
+mod Symbols
+mod Linking
+mod Effects
+mod Closing
+mod Marks
+mod Seeing

@@ -1,0 +1,40 @@
+-- What is left to show of `cited_fault`.
+use Rattle.std.proofs.Common.{◌≡◌, ◌∙◌, Bool, true, false, cond, List, [], ◌∷◌, ◌++◌, Option, None, Some, ap, refl, sym}
+use Rattle.std.specs.List.{list_any}
+use Rattle.std.specs.Str.{bytes_eq}
+use Rattle.mmtext.specs.declared.fault.FaultKind.{FaultKind}
+use Rattle.mmtext.specs.declared.fault.FaultKind.TheVariants.{BadToken}
+use Rattle.mmsyntax.specs.Rows.{Tests, first_fault}
+use Rattle.source.specs.Scopes.{label_of, mandatory}
+use Rattle.source.specs.Tests.{named_tests}
+use Rattle.scopes.specs.Views.{kept_of, scope_of}
+use Rattle.scopes.proofs.frames.cited_fault.Goals as goal
+
+-- the fault of tests that pass and then others
+behind_tests : (ts us : Tests) → first_fault ts ≡ None → first_fault (ts ++ us) ≡ first_fault us
+behind_tests [] us h = refl
+behind_tests (t ∷ ts) us h =
+    let head : (b : Bool) → cond b (Some t.1) (first_fault ts) ≡ None → cond b (Some t.1) (first_fault (ts ++ us)) ≡ first_fault us =
+    λ b. elim b as (λ b. cond b (Some t.1) (first_fault ts) ≡ None → cond b (Some t.1) (first_fault (ts ++ us)) ≡ first_fault us) [
+      | true ↦ λ e. absurd cc
+      | false ↦ λ e. behind_tests ts us e
+    ] in
+    head t.0 h
+
+pub returns-then-is_marked_label : goal.returns-then-is_marked_label
+returns-then-is_marked_label c = λ e marks.
+    let s = scope_of (kept_of c.args.tables.now) in
+    let w = c.args.word.now in
+    let named : first_fault (named_tests s w) ≡ None = sym c.named_fault.ensures ∙ c.in_default.is in
+    let label = sym (c.is_marked_label.ensures e marks) ∙ c.if-is_marked_label.true in
+    sym (behind_tests (named_tests s w) ((list_any (λ h. bytes_eq w (label_of h)) (mandatory s.hypotheses e), BadToken) ∷ []) named
+    ∙ ap (λ b. cond b (Some BadToken) None) label)
+
+pub returns-else-is_marked_label : goal.returns-else-is_marked_label
+returns-else-is_marked_label c = λ e marks.
+    let s = scope_of (kept_of c.args.tables.now) in
+    let w = c.args.word.now in
+    let named : first_fault (named_tests s w) ≡ None = sym c.named_fault.ensures ∙ c.in_default.is in
+    let label = sym (c.is_marked_label.ensures e marks) ∙ c.if-is_marked_label.false in
+    sym (behind_tests (named_tests s w) ((list_any (λ h. bytes_eq w (label_of h)) (mandatory s.hypotheses e), BadToken) ∷ []) named
+    ∙ ap (λ b. cond b (Some BadToken) None) label)

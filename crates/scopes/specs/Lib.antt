@@ -1,0 +1,7 @@
+pub mod Paths
+pub mod Views
+pub mod Found
+pub mod Sound
+pub mod Sorts
+pub mod Effects
+pub mod Seen

@@ -1,0 +1,45 @@
+//! Blocks that are opened and closed.
+
+ghost use Rattle.std.specs.Prelude.{◌≡◌, IfOk, Some, None, true, false, if◌then◌else◌};
+ghost use Rattle.source.specs.Scopes.{opened, closed};
+ghost use Rattle.scopes.specs.Views.{kept_of, stand_of};
+ghost use Rattle.scopes.specs.Sound.{IsSoundTables};
+
+use crate::tables::{Block, Tables};
+use std::alloc::AllocError;
+
+/// A block is opened.
+pub(crate) fn with_block<'a>(tables: Tables<'a>) -> Result<Tables<'a>, AllocError>
+    requires { IsSoundTables tables }
+    ensures sound { IfOk result (λ made. IsSoundTables made) }
+    ensures stand { IfOk result (λ made. stand_of (kept_of made) ≡ opened (stand_of (kept_of tables.entry))) }
+{
+    let mut tables = tables;
+    let block = Block {
+        constants: tables.constants.len(),
+        variables: tables.variables.len(),
+        active: tables.active.len(),
+        apart: tables.last_apart,
+        symbols: tables.symbols.len(),
+        labels: tables.labels.len(),
+        assertions: tables.assertions.len(),
+    };
+    tables.blocks.push(block)?;
+    Ok(tables)
+}
+
+/// The block that is open is closed: whether there is one. What was active in it alone is taken off.
+pub(crate) fn close_block(tables: &mut Tables<'_>) -> bool
+    requires { IsSoundTables tables.old }
+    ensures sound { IsSoundTables tables.new }
+    ensures closed { closed (stand_of (kept_of tables.old)) ≡ (if result then Some (stand_of (kept_of tables.new)) else None) }
+    ensures same { result ≡ false → kept_of tables.new ≡ kept_of tables.old }
+{
+    let Some(block) = tables.blocks.pop() else {
+        return false;
+    };
+    tables.variables.truncate(block.variables);
+    tables.active.truncate(block.active);
+    tables.last_apart = block.apart;
+    true
+}

@@ -1,0 +1,198 @@
+//! What is put into the tables.
+
+ghost use Rattle.std.specs.Prelude.{◌≡◌, ◌++◌, ◌∷◌, [], length, cond, ℕ, Option, None, Some, IfOk, true};
+ghost use Rattle.std.specs.Option.{option_map};
+ghost use Rattle.std.specs.Str.{bytes_eq};
+ghost use Rattle.mmtext.specs.Words.{Word};
+ghost use Rattle.source.specs.Statements.{float, hypothesis, distinct, asserted, proved};
+ghost use Rattle.source.specs.Scopes.{Scope, declared, behind, label_of, mandatory, with_assertion};
+ghost use Rattle.source.specs.Tests.{is_lawful, a_constant, a_variable};
+ghost use Rattle.source.specs.Views.{seen_words, seen_proof};
+ghost use Rattle.scopes.specs.declared.tables.Name.TheVariants as name;
+ghost use Rattle.scopes.specs.Views.{kept_of, scope_of, stand_of, hypothesis_of};
+ghost use Rattle.scopes.specs.Sound.{IsSoundTables, looks_up, float_place, last_link};
+ghost use Rattle.scopes.specs.Effects.{with_link};
+
+use crate::tables::{Active, Apart, Asserted, HypothesisWords, Link, Name, Tables};
+use source::ProofWords;
+use std::alloc::AllocError;
+
+/// One more constant.
+pub(crate) fn with_constant<'a>(
+    tables: Tables<'a>,
+    word: &'a [u8],
+) -> Result<Tables<'a>, AllocError>
+    requires sound { IsSoundTables tables }
+    requires lawful { is_lawful (scope_of (kept_of tables)) (a_constant word.now) ≡ true }
+    ensures sound { IfOk result (λ made. IsSoundTables made) }
+    ensures stand { IfOk result (λ made. stand_of (kept_of made) ≡ declared (stand_of (kept_of tables.entry)) (a_constant word.entry.now)) }
+{
+    let mut tables = tables;
+    tables.names.insert(word, Name::Constant)?;
+    tables.constants.push(word)?;
+    tables.symbols.push(word)?;
+    Ok(tables)
+}
+
+/// The place of the `$f` that was noted last for a variable.
+fn noted_float(tables: &Tables<'_>, word: &[u8]) -> Option<usize>
+    ensures { result ≡ float_place (looks_up tables.now.names word.now) }
+{
+    match tables.names.get(&word) {
+        Some(Name::Variable(_, float)) => *float,
+        _ => None,
+    }
+}
+
+/// One more variable.
+pub(crate) fn with_variable<'a>(
+    tables: Tables<'a>,
+    word: &'a [u8],
+) -> Result<Tables<'a>, AllocError>
+    requires sound { IsSoundTables tables }
+    requires lawful { is_lawful (scope_of (kept_of tables)) (a_variable word.now) ≡ true }
+    ensures sound { IfOk result (λ made. IsSoundTables made) }
+    ensures stand { IfOk result (λ made. stand_of (kept_of made) ≡ declared (stand_of (kept_of tables.entry)) (a_variable word.entry.now)) }
+{
+    let mut tables = tables;
+    let name = Name::Variable(tables.variables.len(), noted_float(&tables, word));
+    tables.names.insert(word, name)?;
+    tables.variables.push(word)?;
+    tables.symbols.push(word)?;
+    Ok(tables)
+}
+
+/// The number of the last active hypothesis.
+fn last_active(active: &[Active]) -> Option<usize>
+    ensures { result ≡ last_link active.now }
+{
+    match active.last() {
+        None => None,
+        Some(active) => Some(active.link),
+    }
+}
+
+/// One more hypothesis, and its label. The place of a `$f` is not noted yet for its variable.
+fn with_hypothesis<'a>(
+    tables: Tables<'a>,
+    label: &'a [u8],
+    hypothesis: HypothesisWords<'a>,
+) -> Result<Tables<'a>, AllocError>
+    requires { label_of (hypothesis_of hypothesis) ≡ label.now }
+    ensures kept { IfOk result (λ made. kept_of made ≡ with_link (kept_of tables.entry) (hypothesis_of hypothesis.entry)) }
+    ensures names { IfOk result (λ made. (w : Word) → looks_up made.names w
+        ≡ cond (bytes_eq label.entry.now w) (Some (name.Hypothesis (length tables.entry.active.items))) (looks_up tables.entry.names w)) }
+{
+    let mut tables = tables;
+    let before = last_active(tables.active.as_slice());
+    let link = tables.links.len();
+    let place = tables.active.len();
+    tables.names.insert(label, Name::Hypothesis(place))?;
+    tables.labels.push(label)?;
+    tables.links.push(Link { before, hypothesis })?;
+    tables.active.push(Active {
+        link,
+        is_mandatory: false,
+    })?;
+    Ok(tables)
+}
+
+/// One more `$e`.
+pub(crate) fn with_premise<'a>(
+    tables: Tables<'a>,
+    label: &'a [u8],
+    expression: Vec<&'a [u8]>,
+) -> Result<Tables<'a>, AllocError>
+    requires sound { IsSoundTables tables }
+    requires lawful { is_lawful (scope_of (kept_of tables)) (hypothesis label.now (seen_words expression.items)) ≡ true }
+    ensures sound { IfOk result (λ made. IsSoundTables made) }
+    ensures stand { IfOk result (λ made. stand_of (kept_of made)
+        ≡ declared (stand_of (kept_of tables.entry)) (hypothesis label.entry.now (seen_words expression.entry.items))) }
+{
+    let words = HypothesisWords::Premise(label, expression);
+    let made = with_hypothesis(tables, label, words)?;
+    Ok(made)
+}
+
+/// The place that was noted for a variable.
+fn noted_place(tables: &Tables<'_>, word: &[u8]) -> usize
+    ensures { (i : ℕ) (f : Option ℕ) → looks_up tables.now.names word.now ≡ Some (name.Variable i f) → result ≡ i }
+{
+    match tables.names.get(&word) {
+        Some(Name::Variable(place, _)) => *place,
+        _ => 0,
+    }
+}
+
+/// One more `$f`.
+pub(crate) fn with_float<'a>(
+    tables: Tables<'a>,
+    label: &'a [u8],
+    type_code: &'a [u8],
+    variable: &'a [u8],
+) -> Result<Tables<'a>, AllocError>
+    requires sound { IsSoundTables tables }
+    requires lawful { is_lawful (scope_of (kept_of tables)) (float label.now type_code.now variable.now) ≡ true }
+    ensures sound { IfOk result (λ made. IsSoundTables made) }
+    ensures stand { IfOk result (λ made. stand_of (kept_of made)
+        ≡ declared (stand_of (kept_of tables.entry)) (float label.entry.now type_code.entry.now variable.entry.now)) }
+{
+    let place = tables.active.len();
+    let name = Name::Variable(noted_place(&tables, variable), Some(place));
+    let words = HypothesisWords::Typing(label, type_code, variable);
+    let mut made = with_hypothesis(tables, label, words)?;
+    made.names.insert(variable, name)?;
+    Ok(made)
+}
+
+/// One more `$d`.
+pub(crate) fn with_distinct<'a>(
+    tables: Tables<'a>,
+    variables: Vec<&'a [u8]>,
+) -> Result<Tables<'a>, AllocError>
+    requires { IsSoundTables tables }
+    ensures sound { IfOk result (λ made. IsSoundTables made) }
+    ensures stand { IfOk result (λ made. stand_of (kept_of made)
+        ≡ declared (stand_of (kept_of tables.entry)) (distinct (seen_words variables.entry.items))) }
+{
+    let mut tables = tables;
+    let last = tables.aparts.len();
+    let before = tables.last_apart;
+    tables.aparts.push(Apart { before, variables })?;
+    tables.last_apart = Some(last);
+    Ok(tables)
+}
+
+/// One more assertion, with the count of its mandatory hypotheses.
+pub(crate) fn with_asserted<'a>(
+    tables: Tables<'a>,
+    label: &'a [u8],
+    statement: Vec<&'a [u8]>,
+    proof: Option<ProofWords<'a>>,
+    arity: usize,
+) -> Result<Tables<'a>, AllocError>
+    requires sound { IsSoundTables tables }
+    requires lawful { is_lawful (scope_of (kept_of tables)) (asserted label.now (seen_words statement.items)) ≡ true }
+    requires counted { arity ≡ length (mandatory (scope_of (kept_of tables)).hypotheses (seen_words statement.items)) }
+    ensures sound { IfOk result (λ made. IsSoundTables made) }
+    ensures stand { IfOk result (λ made. stand_of (kept_of made) ≡ record (stand_of (kept_of tables.entry)) {
+      scope =
+          with_assertion (scope_of (kept_of tables.entry)) label.entry.now (seen_words statement.entry.items) (option_map seen_proof proof.entry);
+    }) }
+{
+    let mut tables = tables;
+    let hypotheses = last_active(tables.active.as_slice());
+    let apart = tables.last_apart;
+    let place = tables.assertions.len();
+    tables.names.insert(label, Name::Assertion(place))?;
+    tables.labels.push(label)?;
+    tables.assertions.push(Asserted {
+        label,
+        statement,
+        proof,
+        hypotheses,
+        apart,
+        arity,
+    })?;
+    Ok(tables)
+}

@@ -1,0 +1,190 @@
+//! The tables as their users see them: what stands at a place.
+
+ghost use Rattle.std.specs.Prelude.{◌≡◌, IfOk};
+ghost use Rattle.source.specs.Scopes.{outset};
+ghost use Rattle.scopes.specs.Sound.{IsSoundTables};
+ghost use Rattle.scopes.specs.Views.{kept_of, stand_of, marks_of};
+
+use crate::tables::Tables;
+use crate::{blocks, declaring, faults, frames};
+use mmtext::FaultKind;
+use source::{ProofWords, Standing};
+use std::alloc::{AllocError, Global};
+use std::hash::RandomState;
+use std::marker::Model;
+use std::mem;
+
+/// What stands at a place of a source: names, active variables, hypotheses and `$d`, blocks that are open, and all assertions so far.
+///
+/// Each look-up is that of one word in a map. What is kept is linear in the text: the active hypotheses of an assertion are found from its
+/// last one.
+#[derive(Drop)]
+pub struct Scopes<'a> {
+    tables: Tables<'a>,
+}
+
+impl<'a> Model for Scopes<'a> {
+    ghost use Rattle.scopes.specs.Seen.{Seen};
+    ghost use Rattle.scopes.specs.Sound.{IsSoundTables};
+    ghost use Rattle.scopes.specs.Views.{kept_of, stand_of, marks_of};
+
+    ghost Value = { Seen };
+
+    ghost view = { λ s. record { stand = stand_of (kept_of s.tables); marks = marks_of (kept_of s.tables) } };
+
+    ghost invariant = { λ s. IsSoundTables s.tables };
+}
+
+impl<'a> Scopes<'a> {
+    /// Before any statement. `keys` make the hashes of the map inside.
+    pub fn new(alloc: Global, keys: RandomState) -> Scopes<'a>
+        ensures { result.stand ≡ outset }
+    {
+        Scopes {
+            tables: Tables::new(alloc, keys),
+        }
+    }
+
+    /// Takes the tables out, and leaves none.
+    fn take(&mut self, alloc: Global) -> Tables<'a>
+        ensures sound { IsSoundTables result }
+        ensures stand { stand_of (kept_of result) ≡ self.old.stand }
+    {
+        let none = Tables::new(alloc, *self.tables.names.hasher());
+        mem::replace(&mut self.tables, none)
+    }
+}
+
+impl<'a> Standing<'a> for Scopes<'a> {
+    ghost stand = { λ s. s.stand };
+
+    ghost marks = { λ s. s.marks };
+
+    fn is_outermost(&self) -> bool {
+        self.tables.blocks.is_empty()
+    }
+
+    fn label_fault(&self, word: &'a [u8]) -> Option<FaultKind> {
+        faults::label_fault(&self.tables, word)
+    }
+
+    fn constant_fault(&self, word: &'a [u8]) -> Option<FaultKind> {
+        faults::constant_fault(&self.tables, word)
+    }
+
+    fn variable_fault(&self, word: &'a [u8]) -> Option<FaultKind> {
+        faults::variable_fault(&self.tables, word)
+    }
+
+    fn type_fault(&self, word: &'a [u8]) -> Option<FaultKind> {
+        faults::type_fault(&self.tables, word)
+    }
+
+    fn float_fault(&self, word: &'a [u8]) -> Option<FaultKind> {
+        faults::float_fault(&self.tables, word)
+    }
+
+    fn distinct_fault(&self, others: &[&'a [u8]], word: &'a [u8]) -> Option<FaultKind> {
+        faults::distinct_fault(&self.tables, others, word)
+    }
+
+    fn symbol_fault(&self, others: &[&'a [u8]], word: &'a [u8]) -> Option<FaultKind> {
+        faults::symbol_fault(&self.tables, others, word)
+    }
+
+    fn named_fault(&self, word: &'a [u8]) -> Option<FaultKind> {
+        faults::named_fault(&self.tables, word)
+    }
+
+    fn frame(&mut self, expression: &[&'a [u8]]) -> usize {
+        frames::frame(&mut self.tables, expression)
+    }
+
+    fn cited_fault(&self, word: &'a [u8]) -> Option<FaultKind> {
+        frames::cited_fault(&self.tables, word)
+    }
+
+    fn arity(&self, word: &'a [u8]) -> Option<usize> {
+        frames::arity_of(&self.tables, word)
+    }
+
+    fn declare_constant(&mut self, alloc: Global, word: &'a [u8]) -> Result<(), AllocError> {
+        let tables = self.take(alloc);
+        self.tables = declaring::with_constant(tables, word)?;
+        Ok(())
+    }
+
+    fn declare_variable(&mut self, alloc: Global, word: &'a [u8]) -> Result<(), AllocError> {
+        let tables = self.take(alloc);
+        self.tables = declaring::with_variable(tables, word)?;
+        Ok(())
+    }
+
+    fn declare_float(
+        &mut self,
+        alloc: Global,
+        label: &'a [u8],
+        type_code: &'a [u8],
+        variable: &'a [u8],
+    ) -> Result<(), AllocError> {
+        let tables = self.take(alloc);
+        self.tables = declaring::with_float(tables, label, type_code, variable)?;
+        Ok(())
+    }
+
+    fn declare_hypothesis(
+        &mut self,
+        alloc: Global,
+        label: &'a [u8],
+        expression: Vec<&'a [u8]>,
+    ) -> Result<(), AllocError> {
+        let tables = self.take(alloc);
+        self.tables = declaring::with_premise(tables, label, expression)?;
+        Ok(())
+    }
+
+    fn declare_distinct(
+        &mut self,
+        alloc: Global,
+        variables: Vec<&'a [u8]>,
+    ) -> Result<(), AllocError> {
+        let tables = self.take(alloc);
+        self.tables = declaring::with_distinct(tables, variables)?;
+        Ok(())
+    }
+
+    fn declare_axiom(
+        &mut self,
+        alloc: Global,
+        label: &'a [u8],
+        expression: Vec<&'a [u8]>,
+    ) -> Result<(), AllocError> {
+        let arity = frames::frame(&mut self.tables, expression.as_slice());
+        let tables = self.take(alloc);
+        self.tables = declaring::with_asserted(tables, label, expression, None, arity)?;
+        Ok(())
+    }
+
+    fn declare_theorem(
+        &mut self,
+        alloc: Global,
+        label: &'a [u8],
+        expression: Vec<&'a [u8]>,
+        proof: ProofWords<'a>,
+    ) -> Result<(), AllocError> {
+        let arity = frames::frame(&mut self.tables, expression.as_slice());
+        let tables = self.take(alloc);
+        self.tables = declaring::with_asserted(tables, label, expression, Some(proof), arity)?;
+        Ok(())
+    }
+
+    fn open_block(&mut self, alloc: Global) -> Result<(), AllocError> {
+        let tables = self.take(alloc);
+        self.tables = blocks::with_block(tables)?;
+        Ok(())
+    }
+
+    fn close_block(&mut self) -> bool {
+        blocks::close_block(&mut self.tables)
+    }
+}
