@@ -10,3 +10,4 @@ pub mod Stacked
 pub mod Codes
 pub mod Loops
 pub mod Cited
+pub mod Found

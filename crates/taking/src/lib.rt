@@ -3,6 +3,7 @@
 
 mod decoded;
 mod decoder;
+mod fresh;
 pub mod laws;
 mod listing;
 mod named;
@@ -11,6 +12,7 @@ mod reason;
 
 pub use decoded::DecodedProof;
 pub use decoder::decode;
+pub use fresh::{FreeNames, fresh_name, library_name};
 pub use listing::list;
 pub use named::Named;
 pub use nodes::Nodes;
