@@ -11,3 +11,4 @@ pub mod Codes
 pub mod Loops
 pub mod Cited
 pub mod Found
+pub mod Symbols

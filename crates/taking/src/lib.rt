@@ -9,6 +9,7 @@ mod listing;
 mod named;
 mod nodes;
 mod reason;
+mod says;
 
 pub use decoded::DecodedProof;
 pub use decoder::decode;
@@ -17,3 +18,4 @@ pub use listing::list;
 pub use named::Named;
 pub use nodes::Nodes;
 pub use reason::Reason;
+pub use says::{SymbolPlaces, expression};
