@@ -12,3 +12,4 @@ pub mod Loops
 pub mod Cited
 pub mod Found
 pub mod Symbols
+pub mod Given

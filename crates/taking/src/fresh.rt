@@ -1,11 +1,14 @@
 //! Fresh names: what a name is changed to where the profile doesn't allow it.
 
-ghost use Rattle.std.specs.Prelude.{◌≡◌, ◌++◌, ◌∷◌, Bool, IfOk, OnOk};
+ghost use Rattle.std.specs.Prelude.{◌≡◌, ◌++◌, ◌∷◌, ◌&&◌, Bool, length, IfOk, OnOk, MatchOption};
+ghost use Rattle.std.specs.Str.{bytes_eq};
+ghost use mathlib.Core.Bool.{not};
 ghost use Rattle.mmtext.specs.Words.{Word};
-ghost use Rattle.taking.specs.Fresh.{undotted, candidate, fresh, renamed_by};
+ghost use Rattle.source.specs.Views.{seen_words};
+ghost use Rattle.taking.specs.Fresh.{undotted, candidate, fresh, renamed_by, AreGiven, AreLeft, IsRefused};
 
 use itoa::Buffer;
-use mmsyntax::Label;
+use mmsyntax::{Label, Sequence};
 use std::alloc::{AllocError, Global};
 
 /// Which names may be given: none that a symbol or a label has already.
@@ -16,6 +19,10 @@ pub trait FreeNames {
     /// Whether a name may be given.
     fn is_free(&self, name: &[u8]) -> bool
         ensures { result ≡ is_free self.now name.now };
+
+    /// A name is given, and may not be given again. After an error nothing is said of the names.
+    fn note(&mut self, name: &[u8]) -> Result<(), AllocError>
+        ensures { OnOk result ((w : Word) → is_free self.new w ≡ (is_free self.old w && not (bytes_eq w name.now))) };
 }
 
 /// A word with `_` at each dot.
@@ -83,4 +90,28 @@ pub fn library_name<N: FreeNames>(
     } else {
         Ok(Some(Label::from_slice(alloc, word)?))
     }
+}
+
+/// The names of words in the library, each other than the earlier ones where it changes: nothing where no candidate of a word is free. They
+/// are given then. After an error nothing is said of the names.
+pub fn library_names<N: FreeNames>(
+    alloc: Global,
+    names: &mut N,
+    changes: &[bool],
+    words: &[&[u8]],
+) -> Result<Option<Sequence<Label>>, AllocError>
+    requires { length changes.now ≡ length words.now }
+    ensures given { IfOk result (λ made. MatchOption made (IsRefused (N.is_free names.new) changes.now (seen_words words.now))
+        (λ given. AreGiven (N.is_free names.old) changes.now (seen_words words.now) given)) }
+    ensures left { IfOk result (λ made. MatchOption made (Unit {0}) (λ given. AreLeft (N.is_free names.old) (N.is_free names.new) given)) }
+{
+    let mut given = Vec::new(alloc);
+    for i in 0..words.len() {
+        let Some(name) = library_name(alloc, names, changes[i], words[i])? else {
+            return Ok(None);
+        };
+        names.note(name.as_slice())?;
+        given.push(name)?;
+    }
+    Ok(Some(Sequence::from_vec(given)))
 }

@@ -13,7 +13,7 @@ mod says;
 
 pub use decoded::DecodedProof;
 pub use decoder::decode;
-pub use fresh::{FreeNames, fresh_name, library_name};
+pub use fresh::{FreeNames, fresh_name, library_name, library_names};
 pub use listing::list;
 pub use named::Named;
 pub use nodes::Nodes;
