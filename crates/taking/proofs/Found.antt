@@ -11,7 +11,8 @@ module _ {A : Type 0} (test : A → Bool) (f : ℕ → A) where
   found a zero k h g none passes = absurd (omega arith)
   found a (suc n) k h g none passes =
       elim (eq-or-lt_of_le h) [
-        | inl e ↦ ap (λ b. if b then Some (f a) else find test (map f (range_with_len (a + 1) n))) (ap (λ j. test (f j)) e ∙ passes) ∙ ap (λ j. Some (f j)) e
+        | inl e ↦ ap (λ b. if b then Some (f a) else find test (map f (range_with_len (a + 1) n))) (ap (λ j. test (f j)) e ∙ passes) ∙
+            ap (λ j. Some (f j)) e
         | inr lt ↦
             ap (λ b. if b then Some (f a) else find test (map f (range_with_len (a + 1) n))) (none a (omega arith) lt)
             ∙ found (a + 1) n k (omega arith) (omega arith) (λ j p q. none j (omega arith) q) passes

@@ -25,5 +25,6 @@ loop-i-preserved g c =
     λ w. c.in_ok-note.ensures w ∙ ap (λ v. free l.names w && not (bytes_eq w v)) c.as_slice.ensures in
     subst (λ (ns : List Word). Given (free c.args.names.now) (free c.note.new.self) c.args.changes.now (seen_words words) (l.i + 1) ns)
     (sym c.in_ok-push.ensures.items)
-    (give (free c.args.names.now) (free l.names) (free c.note.new.self) c.args.changes.now (seen_words words) l.i l.given.items c.in-Some.name
+    (give (free c.args.names.now) (free l.names) (free c.note.new.self) c.args.changes.now (seen_words words) l.i l.given.items
+    c.in-Some.name
     l.invariant is noted)

@@ -41,4 +41,5 @@ returns g c =
     let long : length (seen_words c.args.words.now) ≤ l.word-index =
     subst (λ (n : ℕ). n ≤ l.word-index) (sym (length-map c.args.words.now (λ (w : Bor (List ℕ)). w.now))) c.loop-word-test.false in
     ap (λ x. Some x) c.from_vec.ensures
-    ∙ sym (l.invariant ∙ each_all (g.P.SymbolPlaces.placed c.args.places.now) (seen_words c.args.words.now) l.symbols.items l.word-index long)
+    ∙ sym (l.invariant ∙ each_all (g.P.SymbolPlaces.placed c.args.places.now) (seen_words c.args.words.now) l.symbols.items
+    l.word-index long)
