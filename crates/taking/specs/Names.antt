@@ -57,7 +57,7 @@ has_float_labelled w x = list_any (is_float_labelled w) x.active
 
 -- what is taken of a source has places in the order of the source: the constants that stand in it, the $f that are active there, those of
 -- dummy variables too, and its labels. The variable at a place is that of the $f at this place. In a source each constant and each label
--- stands once, and in a library all names differ: so no two names of the source have one in the library, but for local $f of one variable
+-- stands once, and in a library all names differ: so no name of the library stands for two of the source
 pub record HasPlaces (m : Map) (t : Tables) (s : Scope) (taken : List Assertion) : Type 0 where
   pub constants : m.constants ≡ filter (λ w. list_any (is_symbol_of w) taken) s.constants
   pub floats : m.floats ≡ filter (λ w. list_any (has_float_labelled w) taken) s.labels
