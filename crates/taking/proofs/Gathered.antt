@@ -79,7 +79,8 @@ picked_none (true ∷ fs) (Some x ∷ os) l h =
     sym (both_before (Some x) p q)
     ∙ ap (both (Some x)) (picked_none fs os (omega arith) (none_there x (gathered os) h))
 picked_none (false ∷ fs) (Some x ∷ os) l h =
-    none_later x (gathered (picked true fs os)) (gathered (picked false fs os)) (picked_none fs os (omega arith) (none_there x (gathered os) h))
+    none_later x (gathered (picked true fs os)) (gathered (picked false fs os)) (picked_none fs os (omega arith) (none_there x
+    (gathered os) h))
 
 arranged_as : {A : Type 0} (fs : List Bool) (os : List (Option A)) (r : Option (List A)) → length fs ≡ length os → gathered os ≡ r
     → gathered (arranged fs os) ≡ option_map (arranged fs) r

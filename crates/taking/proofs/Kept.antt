@@ -1,5 +1,6 @@
 -- What the code keeps of nodes: one more node leaves the others as they are.
-use Rattle.std.proofs.Common.{◌≡◌, ◌≤◌, ℕ, suc, ◌+◌, ◌-◌, List, [], ◌∷◌, ◌++◌, length, map, take, drop, refl, sym, ap, ◌∙◌, subst, arith, inl, inr}
+use Rattle.std.proofs.Common.{◌≡◌, ◌≤◌, ℕ, suc, ◌+◌, ◌-◌, List, [], ◌∷◌, ◌++◌, length, map, take, drop, refl, sym, ap, ◌∙◌, subst}
+use Rattle.std.proofs.Common.{arith, inl, inr}
 use Rattle.std.specs.Prelude.{Some, slice_get, slice_range, filter_map, min}
 use Rattle.std.specs.Option.{option_map}
 use Rattle.std.specs.List.{AllByRecursion, cons_option}
@@ -134,14 +135,16 @@ module _ (args ks : List ℕ) (ns : List Node) (x : Node) (sound : AreSound args
         map-append (λ (n : Node). n.size) ns (x ∷ [])
         ∙ ap (λ ms. ms ++ x.size ∷ []) sound.sizes_are
         ∙ ap (λ m. map counted (sizes (seen_nodes args ns)) ++ m ∷ []) size
-        ∙ sym (ap (map counted) sizes_more ∙ map-append counted (sizes (seen_nodes args ns)) (suc (total (filter_map (slice_get (sizes (seen_nodes args ns))) ks)) ∷ []));
+        ∙ sym (ap (map counted) sizes_more ∙ map-append counted (sizes (seen_nodes args ns)) (suc (total (filter_map (slice_get (sizes
+        (seen_nodes args ns))) ks)) ∷ []));
   }
 
 -- ---- sizes over arguments
 
 -- one more argument
 pub size_more : (ss : List ℕ) (ks : List ℕ) (k r : ℕ) → option_map counted (slice_get ss k) ≡ Some r
-    → counted (suc (total (filter_map (slice_get ss) (ks ++ k ∷ [])))) ≡ min (counted (suc (total (filter_map (slice_get ss) ks))) + r) 16385
+    → counted (suc (total (filter_map (slice_get ss) (ks ++ k ∷ [])))) ≡ min (counted (suc (total (filter_map (slice_get ss) ks))) + r)
+    16385
 size_more ss ks k r is =
     let v = mapped counted (slice_get ss k) r is in
     let e : filter_map (slice_get ss) (ks ++ k ∷ []) ≡ filter_map (slice_get ss) ks ++ v.0 ∷ [] =

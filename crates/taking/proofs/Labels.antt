@@ -175,14 +175,16 @@ module _ (named : List Named) (ns : List Shared) (root : ℕ) (pending front : L
   pub turn_on : (own : Step) → x.step ≡ Some own → Goes named ns root (front ++ arranged x.floats ks) (steps ++ own ∷ [])
   unfolding n
   turn_on own step =
-      turn named ns root front k steps n x at_node (node_at ns k a ks names takes) known.0 (recursion_from_All (λ i. i < k) ks below) known.1
+      turn named ns root front k steps n x at_node (node_at ns k a ks names takes) known.0 (recursion_from_All (λ i. i < k) ks below)
+      known.1
       own step
 
   pub stop_on : x.step ≡ None → IsListing named ns root None
   unfolding n
   stop_on step =
       is_listing named ns root None whole
-      (stop named ns root front k steps n x at_node (node_at ns k a ks names takes) known.0 (recursion_from_All (λ i. i < k) ks below) known.1
+      (stop named ns root front k steps n x at_node (node_at ns k a ks names takes) known.0 (recursion_from_All (λ i. i < k) ks below)
+      known.1
       step)
 
   pub lighter_on : weight ns (front ++ arranged x.floats ks) < weight ns pending

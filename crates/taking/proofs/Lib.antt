@@ -11,3 +11,6 @@ pub mod Stacked
 pub mod Codes
 pub mod Loops
 pub mod Cited
+pub mod Found
+pub mod Symbols
+pub mod Given

@@ -1,5 +1,6 @@
 -- Walks over nodes: what is pending, before the steps so far in turned order, lists the root.
-use Rattle.std.proofs.Common.{◌≡◌, ◌<◌, ℕ, zero, suc, ◌+◌, Bool, List, [], ◌∷◌, ◌++◌, length, map, reverse, get_or, refl, sym, ap, ◌∙◌, arith, append_assoc, append-nil, subst, true, false}
+use Rattle.std.proofs.Common.{◌≡◌, ◌<◌, ℕ, zero, suc, ◌+◌, Bool, List, [], ◌∷◌, ◌++◌, length, map, reverse, get_or, refl, sym, ap}
+use Rattle.std.proofs.Common.{◌∙◌, arith, append_assoc, append-nil, subst, true, false}
 use Rattle.std.specs.Prelude.{Option, Some, None, slice_get, filter_map}
 use Rattle.std.specs.Option.{option_map}
 use Rattle.std.specs.List.{AllByRecursion, flat_map}
@@ -120,7 +121,8 @@ module _ (named : List Named) (ns : List Shared) (root : ℕ) (front : List ℕ)
       ∙ gathered_append (map (listed_at named ns) front) (listed_at named ns k ∷ [])
       ∙ ap (λ o. with_rest ahead (gathered (o ∷ []))) here
 
-  later : gathered (map (listed_at named ns) (front ++ arranged x.floats n.arguments)) ≡ with_rest ahead (option_map (arranged x.floats) parts)
+  later : gathered (map (listed_at named ns) (front ++ arranged x.floats n.arguments)) ≡ with_rest ahead (option_map (arranged
+      x.floats) parts)
   unfolding ahead parts
   later =
       let args = map (listed_at named ns) n.arguments in
@@ -136,7 +138,8 @@ module _ (named : List Named) (ns : List Shared) (root : ℕ) (front : List ℕ)
       let inside = slice_get_within ns k n is in
       let args : AllByRecursion (λ i. i < length ns) n.arguments = all_more (λ i h. omega arith) n.arguments below in
       record {
-        within = all_both (λ i. i < length ns) front (arranged x.floats n.arguments) (all_front (λ i. i < length ns) front (k ∷ []) g.within)
+        within = all_both (λ i. i < length ns) front (arranged x.floats n.arguments) (all_front (λ i. i < length ns) front (k ∷ [])
+            g.within)
             (all_both (λ i. i < length ns) (picked true x.floats n.arguments) (picked false x.floats n.arguments)
             (picked_hold (λ i. i < length ns) true x.floats n.arguments args)
             (picked_hold (λ i. i < length ns) false x.floats n.arguments args));
@@ -163,7 +166,8 @@ module _ (named : List Named) (ns : List Shared) (root : ℕ) (front : List ℕ)
       let one : size k ≡ suc (total (map size n.arguments)) = value_at (λ n ks. suc (total ks)) 0 ns k n is below in
       let a : total (map size (front ++ k ∷ [])) ≡ total (map size front) + total (size k ∷ []) =
       ap total (map-append size front (k ∷ [])) ∙ total_append (map size front) (size k ∷ []) in
-      let b : total (map size (front ++ arranged x.floats n.arguments)) ≡ total (map size front) + total (arranged x.floats (map size n.arguments)) =
+      let b : total (map size (front ++ arranged x.floats n.arguments)) ≡ total (map size front) + total (arranged x.floats (map size
+      n.arguments)) =
       ap total (map-append size front (arranged x.floats n.arguments))
       ∙ total_append (map size front) (map size (arranged x.floats n.arguments))
       ∙ ap (λ zs. total (map size front) + total zs) (sym (arranged_map size x.floats n.arguments)) in

@@ -1,5 +1,6 @@
 -- Arguments in the profile's order.
-use Rattle.std.proofs.Common.{◌≡◌, ◌<◌, ◌≤◌, ℕ, suc, zero, ◌+◌, Bool, true, false, List, [], ◌∷◌, ◌++◌, length, map, take, get_or, refl, sym, ap, ◌∙◌, arith}
+use Rattle.std.proofs.Common.{◌≡◌, ◌<◌, ◌≤◌, ℕ, suc, zero, ◌+◌, Bool, true, false, List, [], ◌∷◌, ◌++◌, length, map, take, get_or}
+use Rattle.std.proofs.Common.{refl, sym, ap, ◌∙◌, arith}
 use Rattle.std.specs.Prelude.{min}
 use mathlib.Core.Bool.{beq}
 use Rattle.std.specs.List.{AllByRecursion}
@@ -17,7 +18,8 @@ front_map : {A B : Type 0} (f : A → B) (b : Bool) (x : A) (xs : List A) → in
 front_map f true x xs = refl
 front_map f false x xs = refl
 
-front_holds : {A : Type 0} (P : A → Type 0) (b : Bool) (x : A) (xs : List A) → P x → AllByRecursion P xs → AllByRecursion P (in_front b x xs)
+front_holds : {A : Type 0} (P : A → Type 0) (b : Bool) (x : A) (xs : List A) → P x → AllByRecursion P xs → AllByRecursion P (in_front b
+    x xs)
 front_holds P true x xs h a = (h, a)
 front_holds P false x xs h a = a
 
@@ -64,7 +66,8 @@ picked_all b (f ∷ fs) (x ∷ xs) zero h = absurd (omega arith)
 picked_all b (f ∷ fs) (x ∷ xs) (suc n) h = ap (in_front (is_wanted b f) x) (picked_all b fs xs n (omega arith))
 
 -- what holds of all holds of what is picked
-pub picked_hold : {A : Type 0} (P : A → Type 0) (b : Bool) (fs : List Bool) (xs : List A) → AllByRecursion P xs → AllByRecursion P (picked b fs xs)
+pub picked_hold : {A : Type 0} (P : A → Type 0) (b : Bool) (fs : List Bool) (xs : List A) → AllByRecursion P xs → AllByRecursion P
+    (picked b fs xs)
 picked_hold P b [] xs a = tt
 picked_hold P b (f ∷ fs) [] a = tt
 picked_hold P b (f ∷ fs) (x ∷ xs) a = front_holds P (is_wanted b f) x (picked b fs xs) a.0 (picked_hold P b fs xs a.1)

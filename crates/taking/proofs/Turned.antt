@@ -1,5 +1,6 @@
 -- Lists in turned order.
-use Rattle.std.proofs.Common.{◌≡◌, ℕ, zero, suc, ◌<◌, ◌-◌, get_or, List, [], ◌∷◌, ◌++◌, length, reverse, refl, sym, ap, ◌∙◌, arith, append-nil, subst}
+use Rattle.std.proofs.Common.{◌≡◌, ℕ, zero, suc, ◌<◌, ◌-◌, get_or, List, [], ◌∷◌, ◌++◌, length, reverse, refl, sym, ap, ◌∙◌}
+use Rattle.std.proofs.Common.{arith, append-nil, subst}
 use Rattle.std.specs.Prelude.{Option, Some, None, slice_get, filter_map}
 use Rattle.std.specs.Prelude.{Result, Ok, Err, IfOk}
 use Rattle.std.specs.Option.{option_map}

@@ -23,7 +23,8 @@ length_more [] y = refl
 length_more (z ∷ xs) y = ap suc (length_more xs y)
 
 -- where two functions agree on the items
-pub same_filter_map : {A B : Type 0} (g h : A → Option B) (xs : List A) → AllByRecursion (λ x. g x ≡ h x) xs → filter_map g xs ≡ filter_map h xs
+pub same_filter_map : {A B : Type 0} (g h : A → Option B) (xs : List A) → AllByRecursion (λ x. g x ≡ h x) xs → filter_map g xs ≡
+    filter_map h xs
 same_filter_map g h [] a = refl
 same_filter_map g h (x ∷ xs) a = ap (λ z. cons_option z (filter_map g xs)) a.0 ∙ ap (cons_option (h x)) (same_filter_map g h xs a.1)
 
@@ -35,8 +36,10 @@ map_got : {A B : Type 0} (f : A → B) (vs : List A) (ks : List ℕ)
     → map f (filter_map (slice_get vs) ks) ≡ filter_map (slice_get (map f vs)) ks
 map_got f vs [] = refl
 map_got {A} {B} f vs (k ∷ ks) =
-    let cons : (o : Option A) → map f (cons_option o (filter_map (slice_get vs) ks)) ≡ cons_option (option_map f o) (map f (filter_map (slice_get vs) ks)) =
-    λ o. elim o as (λ o. map f (cons_option o (filter_map (slice_get vs) ks)) ≡ cons_option (option_map f o) (map f (filter_map (slice_get vs) ks))) [
+    let cons : (o : Option A) → map f (cons_option o (filter_map (slice_get vs) ks)) ≡ cons_option (option_map f o) (map f (filter_map
+    (slice_get vs) ks)) =
+    λ o. elim o as (λ o. map f (cons_option o (filter_map (slice_get vs) ks)) ≡ cons_option (option_map f o) (map f (filter_map
+    (slice_get vs) ks))) [
       | Some x ↦ refl
       | None ↦ refl
     ] in
@@ -61,7 +64,8 @@ module _ {A : Type 0} (make : ℕ → List A → A) where
   unfolding one
   kept front [] k h = refl
   kept front (n ∷ ns) k h =
-      kept (front ++ one front n ∷ []) ns k (let e = length_more front (one front n) in omega arith) ∙ get_front front (one front n ∷ []) k h
+      kept (front ++ one front n ∷ []) ns k (let e = length_more front (one front n) in omega arith) ∙ get_front front (one front n ∷
+      []) k h
 
   as_long : (front : List A) (ns : List Shared) → length (values_behind make front ns) ≡ length front + length ns
   unfolding one
@@ -105,7 +109,8 @@ module _ {A : Type 0} (make : ℕ → List A → A) where
       ∙ ap (slice_get (front ++ one front x ∷ [])) here
       ∙ get_last front (one front x)
       ∙ ap (λ y. Some (one front y)) same
-      ∙ ap (λ args. Some (make n.named args)) (same_filter_map (slice_get front) (slice_get vs) n.arguments (all_more agree n.arguments below))
+      ∙ ap (λ args. Some (make n.named args)) (same_filter_map (slice_get front) (slice_get vs) n.arguments (all_more agree n.arguments
+      below))
   unrolled_behind front (x ∷ ns) (suc j) k n at is below =
       let more = length_more front (one front x) in
       unrolled_behind (front ++ one front x ∷ []) ns j k n (omega arith) is below

@@ -13,7 +13,8 @@ use Rattle.taking.specs.Nodes.{trees}
 abbrev pub tree_of : List Word → DecodedProof → Option Tree
 tree_of labels d = slice_get (trees labels d.nodes) d.root
 
--- codes are decoded: wherever labels name what is named, the proof that was made stands for the tree that the codes denote, and none was made
+-- codes are decoded: wherever labels name what is named, the proof that was made stands for the tree that the codes denote, and none was
+-- made
 -- where they denote none
 abbrev pub AreDecoded : List Named → List Code → Option DecodedProof → Type 0
 AreDecoded named codes made =

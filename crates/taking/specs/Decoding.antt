@@ -1,5 +1,6 @@
 -- While a proof is decoded: for which stack of trees the code's stack of places stands.
-use Rattle.std.specs.Prelude.{◌≡◌, ℕ, Bool, List, [], length, reverse, All, filter_map, slice_get, slice_index_or, Option, Some, None, if◌then◌else◌}
+use Rattle.std.specs.Prelude.{◌≡◌, ℕ, Bool, List, [], length, reverse, All, filter_map, slice_get, slice_index_or, Option, Some}
+use Rattle.std.specs.Prelude.{None, if◌then◌else◌}
 use Rattle.mmtext.specs.Words.{Word}
 use Rattle.source.specs.declared.letters.Code.{Code}
 use Rattle.source.specs.Proofs.{Tree, node, over, Stack, step_of, stepped, taken_by, cite, repeat, mark, only}

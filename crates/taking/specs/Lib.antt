@@ -1,4 +1,5 @@
 pub mod Names
+pub mod Fresh
 pub mod Says
 pub mod Listings
 pub mod Reasons

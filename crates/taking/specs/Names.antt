@@ -1,5 +1,6 @@
 -- The map of names: which name of the library each name of the source has, where it keeps its name, and what is told.
-use Rattle.std.specs.Prelude.{◌≡◌, ℕ, Bool, true, false, ◌||◌, ◌&&◌, List, [], ◌∷◌, ◌++◌, length, map, filter, find, Option, IsTrue, if◌then◌else◌}
+use Rattle.std.specs.Prelude.{◌≡◌, ℕ, Bool, true, false, ◌||◌, ◌&&◌, List, [], ◌∷◌, ◌++◌, length, map, filter, find, Option}
+use Rattle.std.specs.Prelude.{IsTrue, if◌then◌else◌}
 use mathlib.Core.Bool.{not}
 use Rattle.std.specs.Option.{option_map, option_and_then}
 use Rattle.std.specs.List.{list_any, list_all, zip, range_with_len}
@@ -55,7 +56,8 @@ abbrev pub has_float_labelled : Word → Assertion → Bool
 has_float_labelled w x = list_any (is_float_labelled w) x.active
 
 -- what is taken of a source has places in the order of the source: the constants that stand in it, the $f that are active there, those of
--- dummy variables too, and its labels. The variable at a place is that of the $f at this place
+-- dummy variables too, and its labels. The variable at a place is that of the $f at this place. In a source each constant and each label
+-- stands once, and in a library all names differ: so no name of the library stands for two of the source
 pub record HasPlaces (m : Map) (t : Tables) (s : Scope) (taken : List Assertion) : Type 0 where
   pub constants : m.constants ≡ filter (λ w. list_any (is_symbol_of w) taken) s.constants
   pub floats : m.floats ≡ filter (λ w. list_any (has_float_labelled w) taken) s.labels

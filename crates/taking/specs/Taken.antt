@@ -15,7 +15,8 @@ use Rattle.taking.specs.Reasons.{Choice, reason}
 
 -- ---- assertions
 
--- a theorem has its proof, and an axiom has none; so has a theorem that there is a reason to take as an axiom: of its proof nothing is needed
+-- a theorem has its proof, and an axiom has none; so has a theorem that there is a reason to take as an axiom: of its proof nothing is
+-- needed
 abbrev pub HasProof : Map → List Assertion → Assertion → Unit' → Option Proof → Option Reason → Type 0
 HasProof m earlier x a (Some proof) None = (a.kind ≡ Theorem) × IsListed m earlier x a
 HasProof m earlier x a _ _ = (a.kind ≡ Axiom) × (a.proof ≡ [])

@@ -3,16 +3,20 @@
 
 mod decoded;
 mod decoder;
+mod fresh;
 pub mod laws;
 pub mod lengths;
 mod listing;
 mod named;
 mod nodes;
 mod reason;
+mod says;
 
 pub use decoded::DecodedProof;
 pub use decoder::decode;
+pub use fresh::{FreeNames, fresh_name, library_name, library_names};
 pub use listing::list;
 pub use named::Named;
 pub use nodes::Nodes;
 pub use reason::Reason;
+pub use says::{SymbolPlaces, expression};

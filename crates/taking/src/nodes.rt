@@ -19,7 +19,8 @@ struct Node {
     size: usize,
 }
 
-/// Nodes, each behind its arguments. Contracts see for each the number of what it names, and the places of its arguments among the nodes; both
+/// Nodes, each behind its arguments. Contracts see for each the number of what it names, and the places of its arguments among the
+/// nodes; both
 /// count from 0.
 #[derive(Drop)]
 pub struct Nodes {

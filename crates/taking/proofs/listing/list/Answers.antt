@@ -18,7 +18,8 @@ loop-place-smaller c =
     let pushed = c.in_ok-push_arguments.ensures
     ∙ ap (λ fs. c.pop.new.self.items ++ arranged fs c.arguments-arguments.result.now) c.as_slice.ensures in
     subst (λ (ps : List ℕ). weight c.args.nodes.now ps < weight c.args.nodes.now l.pending.items) (sym pushed)
-    (lighter_on c.args.named.now c.args.nodes.now c.args.root l.pending.items c.pop.new.self.items c.in-Some.place l.steps.items c.named.result
+    (lighter_on c.args.named.now c.args.nodes.now c.args.root l.pending.items c.pop.new.self.items c.in-Some.place l.steps.items
+    c.named.result
     c.arguments-arguments.result.now c.index-named-named.result c.requires.whole l.invariant c.in-Some.ensures.items c.named.ensures
     c.arguments-arguments.ensures.value c.arguments-arguments.ensures.below c.index-named-named.is)
 

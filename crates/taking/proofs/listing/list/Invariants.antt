@@ -1,4 +1,5 @@
--- What the loop of `list` keeps: what is pending, before the steps so far in turned order, lists the root; what is pending weighs less each turn.
+-- What the loop of `list` keeps: what is pending, before the steps so far in turned order, lists the root; what is pending weighs less
+-- each turn.
 use Rattle.taking.proofs.Listed.{Goes, weight}
 use Rattle.taking.proofs.listing.list.Given as goal
 

@@ -50,4 +50,5 @@ returns c =
     c.loop-argument.argument-iterator c.next.new.self c.next.result first second c.loop-argument.yielded_by c.in-None.is
     c.next.ensures.steps in
     c.loop-argument.invariant
-    ∙ ap (λ ys. c.args.pending.now.items ++ ys) (picked_all c.args.wanted c.args.floats.now c.args.arguments.now (length c.loop-argument.yielded) end)
+    ∙ ap (λ ys. c.args.pending.now.items ++ ys) (picked_all c.args.wanted c.args.floats.now c.args.arguments.now (length
+    c.loop-argument.yielded) end)

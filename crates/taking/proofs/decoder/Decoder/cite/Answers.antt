@@ -42,11 +42,14 @@ returns-clause-stands c =
     record {
       entries = subst (λ (ms : List Shared). AreBelow (length ms) c.push-2.new.self.items) (sym nodes)
           (subst (λ (es : List ℕ). AreBelow (length ns) es) (sym entries)
-          (entries_stand named d.nodes d.entries.items d.marked.items n c.args.place x is c.requires.stands.entries c.requires.stands.marked long));
+          (entries_stand named d.nodes d.entries.items d.marked.items n c.args.place x is c.requires.stands.entries
+          c.requires.stands.marked long));
       marked = subst (λ (ms : List Shared). AreBelow (length ms) d.marked.items) (sym nodes)
-          (marked_stand named d.nodes d.entries.items d.marked.items n c.args.place x is c.requires.stands.entries c.requires.stands.marked long);
+          (marked_stand named d.nodes d.entries.items d.marked.items n c.args.place x is c.requires.stands.entries
+          c.requires.stands.marked long);
       whole = subst (λ (ms : List Shared). All (TakesAll named) ms) (sym nodes)
-          (nodes_stand named d.nodes d.entries.items d.marked.items n c.args.place x is c.requires.stands.entries c.requires.stands.marked long
+          (nodes_stand named d.nodes d.entries.items d.marked.items n c.args.place x is c.requires.stands.entries
+          c.requires.stands.marked long
           c.requires.stands.whole);
     }
 
@@ -67,6 +70,7 @@ returns-clause-cited c =
     let entries = c.in_ok-push-2.ensures.items ∙ ap (λ es. es ++ c.len-node.result ∷ []) c.truncate.ensures.items
     ∙ ap (λ k. take n d.entries.items ++ k ∷ []) c.len-node.ensures in
     λ s are.
-    last_cited named d.nodes d.entries.items d.marked.items n c.args.place x is c.requires.stands.entries c.requires.stands.marked long s are
+    last_cited named d.nodes d.entries.items d.marked.items n c.args.place x is c.requires.stands.entries c.requires.stands.marked long
+    s are
     ∙ ap (λ ms. Some (stack_on s.labels ms (take n d.entries.items ++ length d.nodes ∷ []) d.marked.items)) (sym nodes)
     ∙ ap (λ es. Some (stack_on s.labels c.push.new.self es d.marked.items)) (sym entries)
