@@ -17,6 +17,7 @@ use crate::rows::{
     axiom, constant, distinct, float_end, hypothesis, keyword, start, theorem, type_code,
     typed_variable, variable,
 };
+use crate::words::take_word;
 use mmtext::{Mark, Reader, Stop, TextFault, Token, read};
 use source::Standing;
 use std::alloc::Global;
@@ -127,8 +128,11 @@ impl<'a, S: Standing<'a>, P: KeepsPlace<'a>> Reader<'a> for SourceReader<S, P> {
         MOST_BYTES
     }
 
-    fn take_word(&mut self, _alloc: Global, _token: Token<'a>) -> Result<bool, Stop> {
-        Ok(false)
+    fn take_word(&mut self, _alloc: Global, token: Token<'a>) -> Result<bool, Stop> {
+        let mut here = self.place.replace(Place::AtStart);
+        let taken = take_word(&self.standing, &mut here, token)?;
+        self.place.replace(here);
+        Ok(taken)
     }
 
     fn take(&mut self, alloc: Global, token: Token<'a>, mark: Mark) -> Result<(), Stop> {
