@@ -72,8 +72,8 @@ fn place_by_mark<'a, S: Standing<'a>>(
         Place::InConstants(some) => constant(alloc, standing, some, token, mark),
         Place::InVariables(some) => variable(alloc, standing, some, token, mark),
         Place::InDistinct(variables) => distinct(alloc, standing, variables, token, mark),
-        Place::FloatType(label) => type_code(standing, label, token, mark),
-        Place::FloatVariable(label, code) => typed_variable(standing, label, code, token, mark),
+        Place::FloatType(label) => type_code(standing, label, token),
+        Place::FloatVariable(label, code) => typed_variable(standing, label, code, token),
         Place::FloatEnd(label, code, word) => {
             float_end(alloc, standing, label, code, word, token, mark)
         }

@@ -15,7 +15,8 @@ returns-in-InHypothesis-clause-taken g c =
     let t = seen c.args.token in
     let here = c.in-InHypothesis in
     let r = c.take_symbol in
-    subst (λ p. TakesWord source_language (seen_at stand p) t (seen_at stand (InHypothesis here.field-0 r.new.words)) r.result) (sym here.is)
+    let next = seen_at stand (InHypothesis here.field-0 r.new.words) in
+    subst (λ p. TakesWord source_language (seen_at stand p) t next r.result) (sym here.is)
     (hypothesis_taken stand here.field-0.now t (seen_words here.words.items) (seen_words r.new.words.items) r.result r.ensures)
 
 pub returns-in-InAxiom-clause-taken : goal.returns-in-InAxiom-clause-taken
