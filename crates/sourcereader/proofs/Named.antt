@@ -44,7 +44,8 @@ takes_some s w h none =
     let two = cond_none (not (is_in s.labels w)) UnknownLabel _ one.1 in
     let three = cond_none (not (is_named s w)) NotActive _ two.1 in
     let earlier = λ (a : Assertion). bytes_eq w a.label in
-    taken_in (list_any (λ (x : Hypothesis). bytes_eq w (label_of x)) s.hypotheses) (list_any earlier s.assertions) (find earlier s.assertions)
+    let here = list_any (λ (x : Hypothesis). bytes_eq w (label_of x)) s.hypotheses in
+    taken_in here (list_any earlier s.assertions) (find earlier s.assertions)
     (some_found earlier s.assertions) (not_false (is_named s w) three.0) none
 
 -- ---- steps

@@ -23,8 +23,8 @@ use Rattle.source.specs.Scopes.{Scope, Stand, closed}
 use Rattle.source.specs.Tests.{label_tests, constant_tests, variable_tests, type_tests, float_tests, distinct_tests, symbol_tests}
 use Rattle.source.specs.Tests.{step_tests, cited_tests, letter_tests, a_constant, a_variable, is_whole, passes, all_pass}
 use Rattle.source.specs.Tests.{is_new_label}
-use Rattle.source.specs.Faults.{Place, at_start, after_label, in_constants, in_variables, in_distinct, float_type, float_variable, float_end}
-use Rattle.source.specs.Faults.{in_hypothesis, in_axiom, in_theorem, in_steps, in_labels, in_letters, Position, Next, to, ends}
+use Rattle.source.specs.Faults.{Place, at_start, after_label, in_constants, in_variables, in_distinct, float_type, float_variable}
+use Rattle.source.specs.Faults.{float_end, in_hypothesis, in_axiom, in_theorem, in_steps, in_labels, in_letters, Position, Next, to, ends}
 use Rattle.source.specs.Faults.{ends_proof, faulted, tested, closes, start_row, keyword_row, declares, constant_row, variable_row}
 use Rattle.source.specs.Faults.{distinct_row, float_end_row, hypothesis_row, axiom_row, theorem_row, next_step, proof_row}
 use Rattle.source.specs.Faults.{labels_row, letters_row, in_place, row}
@@ -212,6 +212,10 @@ place_stands p (in_theorem label e) t m h = theorem_stands p label e t m h
 place_stands p (in_steps label e ws) t m h = proof_stands p label e ws t m h
 place_stands p (in_labels label e ws) t m h = labels_stands p label e ws t h
 place_stands p (in_letters label e ws ls) t m h = letters_stands p label e ws ls t m h
+
+pub row_stands : (p : Position) (t : Token) → StandsAt p → OkStands (row p t)
+unfolding row
+row_stands p t h = place_stands p p.place t (mark_of t.text) h
 
 -- the row of a place, by the mark of the token
 pub row_at : (p : Position) (t : Token) (m : Mark) → m ≡ mark_of t.text → row p t ≡ in_place p p.place t m

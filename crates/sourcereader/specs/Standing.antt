@@ -3,8 +3,8 @@ use Rattle.std.specs.Prelude.{◌≡◌, Bool, true, ◌&&◌, List, [], length,
 use Rattle.mmtext.specs.Words.{Word, is_label}
 use Rattle.source.specs.Scopes.{Scope, Stand, mandatory, is_mandatory}
 use Rattle.source.specs.Tests.{type_tests, float_tests, distinct_tests, symbol_tests, passes, all_pass, is_new_label, is_expression}
-use Rattle.source.specs.Faults.{Place, at_start, after_label, in_constants, in_variables, in_distinct, float_type, float_variable, float_end}
-use Rattle.source.specs.Faults.{in_hypothesis, in_axiom, in_theorem, in_steps, in_labels, in_letters}
+use Rattle.source.specs.Faults.{Place, at_start, after_label, in_constants, in_variables, in_distinct, float_type, float_variable}
+use Rattle.source.specs.Faults.{float_end, in_hypothesis, in_axiom, in_theorem, in_steps, in_labels, in_letters}
 use Rattle.source.specs.Views.{seen_words}
 use Rattle.sourcereader.specs.declared.place.Place.{Place as CodePlace}
 use Rattle.sourcereader.specs.declared.place.Place.TheVariants as code

@@ -5,8 +5,8 @@ use Rattle.mmtext.specs.declared.fault.TextFault.{TextFault}
 use Rattle.mmtext.specs.Words.{Word}
 use Rattle.mmtext.specs.Views.{seen, Gives}
 use Rattle.source.specs.Scopes.{Stand}
-use Rattle.source.specs.Faults.{Place, at_start, after_label, in_constants, in_variables, in_distinct, float_type, float_variable, float_end}
-use Rattle.source.specs.Faults.{in_hypothesis, in_axiom, in_theorem, in_steps, in_labels, in_letters, Position}
+use Rattle.source.specs.Faults.{Place, at_start, after_label, in_constants, in_variables, in_distinct, float_type, float_variable}
+use Rattle.source.specs.Faults.{float_end, in_hypothesis, in_axiom, in_theorem, in_steps, in_labels, in_letters, Position}
 use Rattle.source.specs.Views.{seen_words}
 use Rattle.sourcereader.specs.declared.place.Place.{Place as CodePlace}
 use Rattle.sourcereader.specs.declared.place.Place.TheVariants as code

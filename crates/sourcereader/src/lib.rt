@@ -6,5 +6,6 @@ mod place;
 mod proof_rows;
 mod reading;
 mod rows;
+mod words;
 
 pub use reading::{MOST_BYTES, read_source};

@@ -7,7 +7,8 @@ ghost use Rattle.mmtext.specs.Words.{Word};
 ghost use Rattle.mmsyntax.specs.Rows.{first_fault};
 ghost use Rattle.source.specs.Proofs.{taken_by};
 ghost use Rattle.source.specs.Tests.{named_tests, cited_tests, step_tests, letter_tests, is_whole};
-ghost use Rattle.source.specs.Faults.{at_start, in_steps, in_labels, in_letters, tested, ends_proof, next_step, proof_row, labels_row, letters_row};
+ghost use Rattle.source.specs.Faults.{at_start, in_steps, in_labels, in_letters, tested, ends_proof, next_step};
+ghost use Rattle.source.specs.Faults.{proof_row, labels_row, letters_row};
 ghost use Rattle.source.specs.Views.{seen_words, seen_proof};
 ghost use Rattle.source.specs.Counts.{CountsSteps};
 ghost use Rattle.sourcereader.specs.Standing.{Stands, IsCounted, IsCountedProof, is_stated, mandatory_marks};
@@ -89,7 +90,8 @@ fn step<'a, S: Standing<'a>>(
     requires { CountsSteps (S.stand standing.now).scope (seen_words steps.items) entries }
     ensures leads { let e = seen_words theorem.entry.expression.items in let ws = seen_words steps.entry.items in
         Leads (S.stand standing.now) result
-        (next_step (standing_at (S.stand standing.now) (in_steps theorem.entry.label.now e ws)) theorem.entry.label.now e ws (seen token.entry)) }
+        (next_step (standing_at (S.stand standing.now) (in_steps theorem.entry.label.now e ws)) theorem.entry.label.now e ws
+        (seen token.entry)) }
     ensures counted { IfOk result (λ p. IsCounted (S.stand standing.now).scope (S.marks standing.now) p) }
 {
     if let Some(kind) = step_fault(standing, &mut entries, token.text)? {
@@ -172,7 +174,8 @@ pub(crate) fn labels<'a, S: Standing<'a>>(
     mut numbered: Numbered<'a>,
     token: Token<'a>,
 ) -> Result<Place<'a>, Stop>
-    requires { IsCountedProof (S.stand standing.now).scope (S.marks standing.now) (seen_words theorem.expression.items) (InLabels numbered) }
+    requires { IsCountedProof (S.stand standing.now).scope (S.marks standing.now) (seen_words theorem.expression.items)
+        (InLabels numbered) }
     ensures leads { let e = seen_words theorem.entry.expression.items in let ws = seen_words numbered.entry.labels.items in
         Leads (S.stand standing.now) result (labels_row (standing_at (S.stand standing.now) (in_labels theorem.entry.label.now e ws))
         theorem.entry.label.now e ws (seen token.entry)) }

@@ -19,6 +19,7 @@ use crate::rows::{
     axiom, constant, distinct, float_end, hypothesis, keyword, start, theorem, type_code,
     typed_variable, variable,
 };
+use crate::words::take_word;
 use mmtext::{Mark, Reader, Stop, TextFault, Token, read};
 use source::Standing;
 use std::alloc::Global;
@@ -73,8 +74,8 @@ fn place_by_mark<'a, S: Standing<'a>>(
         Place::InConstants(some) => constant(alloc, standing, some, token, mark),
         Place::InVariables(some) => variable(alloc, standing, some, token, mark),
         Place::InDistinct(variables) => distinct(alloc, standing, variables, token, mark),
-        Place::FloatType(label) => type_code(standing, label, token, mark),
-        Place::FloatVariable(label, code) => typed_variable(standing, label, code, token, mark),
+        Place::FloatType(label) => type_code(standing, label, token),
+        Place::FloatVariable(label, code) => typed_variable(standing, label, code, token),
         Place::FloatEnd(label, code, word) => {
             float_end(alloc, standing, label, code, word, token, mark)
         }
@@ -129,8 +130,11 @@ impl<'a, S: Standing<'a>, P: KeepsPlace<'a>> Reader<'a> for SourceReader<S, P> {
         MOST_BYTES
     }
 
-    fn take_word(&mut self, _alloc: Global, _token: Token<'a>) -> Result<bool, Stop> {
-        Ok(false)
+    fn take_word(&mut self, _alloc: Global, token: Token<'a>) -> Result<bool, Stop> {
+        let mut here = self.place.replace(Place::AtStart);
+        let taken = take_word(&self.standing, &mut here, token)?;
+        self.place.replace(here);
+        Ok(taken)
     }
 
     fn take(&mut self, alloc: Global, token: Token<'a>, mark: Mark) -> Result<(), Stop> {

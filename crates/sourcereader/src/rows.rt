@@ -1,11 +1,12 @@
 //! Reading a statement outside of proofs: one function for each place in it.
 
-ghost use Rattle.std.specs.Prelude.{◌≡◌, List, true, IfOk};
-ghost use Rattle.mmtext.specs.Views.{seen, Gives};
-ghost use Rattle.mmtext.specs.Words.{Word};
+ghost use Rattle.std.specs.Prelude.{◌≡◌, IfOk, Ok};
+ghost use Rattle.mmtext.specs.Views.{seen};
 ghost use Rattle.mmtext.specs.declared.mark.Mark.TheVariants.{Closing};
-ghost use Rattle.source.specs.Faults.{Place as SeenPlace, at_start, after_label, in_constants, in_variables, in_distinct, float_type, float_variable, float_end, in_hypothesis, in_axiom, in_theorem};
-ghost use Rattle.source.specs.Faults.{start_row, keyword_row, constant_row, variable_row, distinct_row, float_end_row, next_symbol, hypothesis_row, axiom_row, theorem_row, in_place};
+ghost use Rattle.source.specs.Tests.{type_tests, float_tests};
+ghost use Rattle.source.specs.Faults.{at_start, after_label, in_constants, in_variables, in_distinct, float_variable, float_end};
+ghost use Rattle.source.specs.Faults.{in_hypothesis, in_axiom, in_theorem, tested, start_row, keyword_row, constant_row, variable_row};
+ghost use Rattle.source.specs.Faults.{distinct_row, hypothesis_row, axiom_row, theorem_row, in_place};
 ghost use Rattle.source.specs.Views.{seen_words};
 ghost use Rattle.sourcereader.specs.Standing.{Stands, IsCounted};
 ghost use Rattle.sourcereader.specs.Views.{standing_at, Leads};
@@ -41,7 +42,8 @@ pub(crate) fn start<'a, S: Standing<'a>>(
 
 /// The end of a block.
 fn close<'a, S: Standing<'a>>(standing: &mut S, token: Token<'a>) -> Result<Place<'a>, Stop>
-    ensures leads { Leads (S.stand standing.new) result (start_row (standing_at (S.stand standing.old) at_start) (seen token.entry) Closing) }
+    ensures leads { Leads (S.stand standing.new) result
+        (start_row (standing_at (S.stand standing.old) at_start) (seen token.entry) Closing) }
     ensures counted { IfOk result (λ p. IsCounted (S.stand standing.new).scope (S.marks standing.new) p) }
 {
     if !standing.close_block() {
@@ -150,10 +152,9 @@ pub(crate) fn type_code<'a, S: Standing<'a>>(
     standing: &S,
     label: &'a [u8],
     token: Token<'a>,
-    mark: Mark,
 ) -> Result<Place<'a>, Stop>
-    ensures leads { let place = float_type label.entry.now in Leads (S.stand standing.now) result
-        (in_place (standing_at (S.stand standing.now) place) place (seen token.entry) mark) }
+    ensures leads { let s = S.stand standing.now in let w = token.entry.text.now in Leads s result
+        (tested (seen token.entry) (type_tests s.scope w) (Ok (standing_at s (float_variable label.entry.now w)))) }
     ensures counted { IfOk result (λ p. IsCounted (S.stand standing.now).scope (S.marks standing.now) p) }
 {
     match standing.type_fault(token.text) {
@@ -168,10 +169,9 @@ pub(crate) fn typed_variable<'a, S: Standing<'a>>(
     label: &'a [u8],
     type_code: &'a [u8],
     token: Token<'a>,
-    mark: Mark,
 ) -> Result<Place<'a>, Stop>
-    ensures leads { let place = float_variable label.entry.now type_code.entry.now in Leads (S.stand standing.now) result
-        (in_place (standing_at (S.stand standing.now) place) place (seen token.entry) mark) }
+    ensures leads { let s = S.stand standing.now in let w = token.entry.text.now in Leads s result
+        (tested (seen token.entry) (float_tests s.scope w) (Ok (standing_at s (float_end label.entry.now type_code.entry.now w)))) }
     ensures counted { IfOk result (λ p. IsCounted (S.stand standing.now).scope (S.marks standing.now) p) }
 {
     match standing.float_fault(token.text) {
