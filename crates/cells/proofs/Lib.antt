@@ -1,5 +1,7 @@
 pub mod Sights
 pub mod Keeping
+pub mod Asking
+pub mod Along
 pub mod Settings
 pub mod Bodies
 pub mod Holders

@@ -6,7 +6,8 @@ ghost use Rattle.library.specs.Library.{label_of};
 ghost use Rattle.library.specs.Edits.{citers};
 ghost use Rattle.bodystore.specs.Bodies.{kind_word, statement_of};
 ghost use Rattle.std.specs.Option.{option_map};
-ghost use Rattle.cells.specs.Sight.{Looks};
+ghost use Rattle.cells.specs.Sight.{Looks, ReadsWithin};
+ghost use Rattle.cells.specs.Slots.{name_cell, statement_cell, proof_cell, rank_cell, citers_cell};
 ghost use Rattle.cells.specs.Lookups.{ForEachHeld, IfFull, IsNameAt, AreStepsAt, IsStepOf, AreStepsOf, StoresStep, Resolves};
 
 use crate::again::{Hints, number_of};
@@ -30,6 +31,7 @@ pub fn citers<C: Cells>(cells: &mut C, slot: usize) -> Result<u64, C::Stop>
     requires { slot < (C.sight cells.old).setting.slots }
     ensures looks { Looks (C.sight cells.old) (C.sight cells.new) }
     ensures ok { IfOk result (λ n. ForEachHeld (C.sight cells.new) slot (λ st lib e. n ≡ citers lib (label_of e))) }
+    ensures reads { ReadsWithin (λ c. c ≡ citers_cell slot) (C.sight cells.old) (C.sight cells.new) }
 {
     let _slots = slot_count(cells);
     cells.read(citers_cell(slot))
@@ -44,6 +46,7 @@ pub fn is_full<C: Cells>(cells: &mut C, slot: usize) -> Result<bool, C::Stop>
     requires { slot < (C.sight cells.old).setting.slots }
     ensures looks { Looks (C.sight cells.old) (C.sight cells.new) }
     ensures ok { IfOk result (λ b. IfFull (C.sight cells.new) slot b) }
+    ensures reads { ReadsWithin (λ c. c ≡ name_cell slot) (C.sight cells.old) (C.sight cells.new) }
 {
     let _slots = slot_count(cells);
     Ok(cells.read(name_cell(slot))? != 0)
@@ -58,6 +61,7 @@ pub fn kind<C: Cells>(cells: &mut C, slot: usize) -> Result<Kind, C::Stop>
     requires { slot < (C.sight cells.old).setting.slots }
     ensures looks { Looks (C.sight cells.old) (C.sight cells.new) }
     ensures ok { IfOk result (λ made. ForEachHeld (C.sight cells.new) slot (λ st lib e. made ≡ e.assertion.kind)) }
+    ensures reads { ReadsWithin (λ c. c ≡ statement_cell slot) (C.sight cells.old) (C.sight cells.new) }
 {
     let _slots = slot_count(cells);
     Ok(kind_of(first_word(cells, statement_cell(slot))?))
@@ -82,6 +86,7 @@ pub fn rank<C: Cells>(cells: &mut C, slot: usize) -> Result<u32, C::Stop>
     requires { slot < (C.sight cells.old).setting.slots }
     ensures looks { Looks (C.sight cells.old) (C.sight cells.new) }
     ensures ok { IfOk result (λ n. ForEachHeld (C.sight cells.new) slot (λ st lib e. n ≡ e.rank)) }
+    ensures reads { ReadsWithin (λ c. c ≡ rank_cell slot) (C.sight cells.old) (C.sight cells.new) }
 {
     let _slots = slot_count(cells);
     Ok((cells.read(rank_cell(slot))? & 0xffff_ffff) as u32)
@@ -96,6 +101,7 @@ pub fn label<C: Cells>(alloc: Global, cells: &mut C, slot: usize) -> Result<Labe
     requires { slot < (C.sight cells.old).setting.slots }
     ensures looks { Looks (C.sight cells.old) (C.sight cells.new) }
     ensures ok { IfOk result (λ made. ForEachHeld (C.sight cells.new) slot (λ st lib e. made ≡ label_of e)) }
+    ensures reads { ReadsWithin (λ c. c ≡ name_cell slot) (C.sight cells.old) (C.sight cells.new) }
 {
     name_of(alloc, cells, slot)
 }
@@ -105,6 +111,7 @@ fn name_of<C: Cells>(alloc: Global, cells: &mut C, slot: usize) -> Result<Label,
     requires { slot < (C.sight cells.old).setting.slots }
     ensures looks { Looks (C.sight cells.old) (C.sight cells.new) }
     ensures ok { IfOk result (λ made. IsNameAt (C.sight cells.new) slot made) }
+    ensures reads { ReadsWithin (λ c. c ≡ name_cell slot) (C.sight cells.old) (C.sight cells.new) }
 {
     let _slots = slot_count(cells);
     let words = words_of(alloc, cells, name_cell(slot))?;
@@ -120,6 +127,7 @@ pub fn statement<C: Cells>(
     requires { slot < (C.sight cells.old).setting.slots }
     ensures looks { Looks (C.sight cells.old) (C.sight cells.new) }
     ensures ok { IfOk result (λ made. ForEachHeld (C.sight cells.new) slot (λ st lib e. made ≡ statement_of e.assertion)) }
+    ensures reads { ReadsWithin (λ c. c ≡ statement_cell slot) (C.sight cells.old) (C.sight cells.new) }
 {
     let _slots = slot_count(cells);
     let words = words_of(alloc, cells, statement_cell(slot))?;
@@ -135,6 +143,7 @@ pub fn stored_proof<C: Cells>(
     requires { slot < (C.sight cells.old).setting.slots }
     ensures looks { Looks (C.sight cells.old) (C.sight cells.new) }
     ensures ok { IfOk result (λ made. AreStepsAt (C.sight cells.new) slot made.items) }
+    ensures reads { ReadsWithin (λ c. c ≡ proof_cell slot) (C.sight cells.old) (C.sight cells.new) }
 {
     let _slots = slot_count(cells);
     let words = words_of(alloc, cells, proof_cell(slot))?;
@@ -252,6 +261,7 @@ pub fn frame<C: Cells>(
     requires { slot < (C.sight cells.old).setting.slots }
     ensures looks { Looks (C.sight cells.old) (C.sight cells.new) }
     ensures ok { IfOk result (λ made. ForEachHeld (C.sight cells.new) slot (λ st lib e. made ≡ frame prelude.now e.assertion)) }
+    ensures reads { ReadsWithin (λ c. c ≡ statement_cell slot) (C.sight cells.old) (C.sight cells.new) }
 {
     let statement = statement(alloc, cells, slot)?;
     let bare = statement.into_assertion(Label::new(alloc), Sequence::from_vec(Vec::new(alloc)));

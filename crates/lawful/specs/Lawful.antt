@@ -79,6 +79,7 @@ sight_of g ranges reads writes =
       taken = 0;
       room = most_words;
       staged = empty;
+      halted = None;
     }
 
 -- the transaction with these reads, writes and note is lawful for these ranges
