@@ -4,7 +4,7 @@ use Rattle.cells.specs.State.{State}
 use Rattle.cells.specs.Slots.{name_cell, bucket_cell, next_cell}
 use Rattle.cells.specs.Sight.{Sight, Matches, Onward, Looks, Reads, ReadsWithin, ReadsNothing, after}
 use Rattle.cells.specs.Footprints.{ReadsWhere, IsMember, IsAlong, IsOfRound}
-use Rattle.cells.proofs.Asking.{nothing_same, asks_nothing, asks_more}
+use Rattle.cells.proofs.Asking.{nothing_same, asks_nothing, asks_more, asks_still}
 use Rattle.cells.proofs.Sights.{matches_back, after_looks}
 
 -- ---- in each state
@@ -22,6 +22,12 @@ where_more {s = s} {t = t} first on then wider =
     record {
       each = λ st m. let back = matches_back s t st on m in asks_more (first.each st back) (wider st back) then;
     }
+
+-- and then nothing
+pub where_still : {O : Type 0} → {such : State → ℕ → Type 0} → {r s t : Sight O} → ReadsWhere such r s → Onward s t → ReadsNothing s t
+    → ReadsWhere such r t
+where_still {s = s} {t = t} first on none =
+    record { each = λ st m. asks_still (first.each st (matches_back s t st on m)) none }
 
 -- and so where the calls only look
 pub where_trans : {O : Type 0} → {some such : State → ℕ → Type 0} → {r s t : Sight O} → ReadsWhere such r s → Looks r s → Onward s t

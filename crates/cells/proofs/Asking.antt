@@ -1,7 +1,13 @@
 -- For which cells calls ask, through the calls of a run.
-use Rattle.std.proofs.Common.{◌≡◌, ℕ, Some, sym, subst, ◌∙◌, inl, inr, ⊎_elim}
+use Rattle.std.proofs.Common.{◌≡◌, ℕ, zero, suc, ◌<◌, List, [], ◌∷◌, length, get_or, Some, refl, sym, subst, ◌∙◌, inl, inr, ⊎_elim, arith}
 use Rattle.ranges.specs.Ranges.{Has}
 use Rattle.cells.specs.Sight.{Sight, Writes, ReadsWithin, ReadsNothing}
+
+-- what stands at a place of a list is of the list
+pub item_has : {A : Type 0} → (xs : List A) (i : ℕ) (d : A) → i < length xs → Has (get_or xs i d) xs
+item_has [] i d lt = absurd (omega (arith, lt))
+item_has (x ∷ xs) zero d lt = inl refl
+item_has (x ∷ xs) (suc i) d lt = inr (item_has xs i d (omega (arith, lt)))
 
 -- ---- nothing is read
 

@@ -14,7 +14,7 @@ use Rattle.cells.specs.Sight.{Sight, Looks, Writes, ReadsWithin, ReadsNothing, a
 use Rattle.cells.proofs.Sights.{after_looks, after_writes}
 use Rattle.cells.specs.Aside.{KeepsAside, IsCitersOf}
 use Rattle.cells.proofs.Keeping.{keeps_wider, keeps_put}
-use Rattle.cells.proofs.Asking.{asks_cell, asks_still}
+use Rattle.cells.proofs.Asking.{item_has, asks_cell, asks_still}
 use Rattle.cells.proofs.Values.{value_there, value_elsewhere}
 
 -- ---- cells that are no range cells
@@ -66,9 +66,7 @@ changes_push f listed x st mid ch free =
     new = f (mid.value (citers_cell x))
 
 pub index_has : (ys : List ℕ) (k : ℕ) → k < length ys → Has (get_or ys k 0) ys
-index_has [] k below = omega (arith, below)
-index_has (y ∷ ys) zero below = inl refl
-index_has (y ∷ ys) (suc k) below = inr (index_has ys k (omega (arith, below)))
+index_has ys k below = item_has ys k 0 below
 
 -- an element of numbers that differ does not stand before its place
 pub before_apart : (xs : List ℕ) (i : ℕ) → Distinct nat_eq xs → i < length xs → Has (get_or xs i 0) (take i xs) → ⊥

@@ -32,3 +32,4 @@ pub mod Renaming
 pub mod Small
 pub mod ReadBack
 pub mod Resolving
+pub mod AskingSteps

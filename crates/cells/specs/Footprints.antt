@@ -5,7 +5,10 @@ use Rattle.mmsyntax.specs.declared.statement.Step.{Step}
 use Rattle.mmsyntax.specs.declared.statement.Step.TheVariants.{Cite}
 use Rattle.ranges.specs.Ranges.{Has}
 use Rattle.cells.specs.State.{State}
-use Rattle.cells.specs.Slots.{name_cell, bucket_cell, next_cell, hash, bucket}
+use Rattle.bodystore.specs.declared.stored.StoredStep.{StoredStep}
+use Rattle.bodystore.specs.declared.stored.StoredStep.TheVariants.{Slot}
+use Rattle.cells.specs.Slots.{name_cell, statement_cell, proof_cell, bucket_cell, next_cell, hash, bucket}
+use Rattle.cells.specs.Shows.{IsNamed}
 use Rattle.cells.specs.Sight.{Sight, Matches, ReadsWithin, after}
 
 -- no cell was asked for but those that were before, and those of which this is so in each state that may be under the run, with what the
@@ -49,3 +52,28 @@ module _ (slots : ℕ) where
   -- a look for each label that the steps cite
   abbrev pub IsOfResolving : List Step → State → ℕ → Type 0
   IsOfResolving steps st c = (label : List ℕ) × Has (Cite label) steps × IsOfLook label st c
+
+  -- the step's look: for the label that it cites
+  abbrev pub IsOfStep : Step → State → ℕ → Type 0
+  IsOfStep step st c = (label : List ℕ) × (step ≡ Cite label) × IsOfLook label st c
+
+  -- where a slot goes out of the chain of a label's bucket: its own next cell, the cell of the bucket, and the next cells of the slots in the
+  -- chain
+  abbrev pub IsOnChain : ℕ → State → ℕ → Type 0
+  IsOnChain b st c = (c ≡ bucket_cell slots b) ⊎ ((i : ℕ) × IsMember st b i × (c ≡ next_cell slots i))
+
+  abbrev pub IsOfTakingOut : ℕ → List ℕ → State → ℕ → Type 0
+  IsOfTakingOut i label st c = (c ≡ next_cell slots i) ⊎ IsOnChain (bucket slots label) st c
+
+  -- of a proof with these steps in a slot: its proof cell, and the name cells of the slots that have the labels which it cites
+  abbrev pub IsOfProof : ℕ → List Step → State → ℕ → Type 0
+  IsOfProof i steps st c =
+      (c ≡ proof_cell i) ⊎ ((label : List ℕ) × (j : ℕ) × Has (Cite label) steps × IsNamed slots st j label × (c ≡ name_cell j))
+
+  -- of an assertion with these steps in a slot: besides, its name and statement cells
+  abbrev pub IsOfAssertion : ℕ → List Step → State → ℕ → Type 0
+  IsOfAssertion i steps st c = (c ≡ name_cell i) ⊎ ((c ≡ statement_cell i) ⊎ IsOfProof i steps st c)
+
+-- the name cell of a slot that the step cites
+abbrev pub IsNameCited : StoredStep → ℕ → Type 0
+IsNameCited step c = (j : ℕ) × (step ≡ Slot j) × (c ≡ name_cell j)

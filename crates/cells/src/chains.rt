@@ -2,6 +2,7 @@
 
 ghost use Rattle.std.specs.Prelude.{◌≡◌, ◌<◌, true, IfOk};
 ghost use Rattle.cells.specs.Sight.{Sight, Onward, TakesAtMost, ReadsWithin};
+ghost use Rattle.cells.specs.Footprints.{ReadsWhere, IsOfTakingOut};
 ghost use Rattle.cells.specs.Chains.{PutsIn, TakesOut, GoesToFront};
 ghost use Rattle.cells.specs.Aside.{KeepsAside, IsOfFront, KeepsLeaving};
 
@@ -44,6 +45,7 @@ pub fn take_out<C: Cells>(cells: &mut C, slot: usize, label: &[u8]) -> Result<()
     ensures ok { IfOk result (λ _. TakesOut slot label.now (C.sight cells.old) (C.sight cells.new)) }
     ensures taken { TakesAtMost 0 (C.sight cells.old) (C.sight cells.new) }
     ensures keeps { IfOk result (λ _. KeepsLeaving slot (C.sight cells.old) (C.sight cells.new)) }
+    ensures reads { ReadsWhere (IsOfTakingOut (C.sight cells.old).setting.slots slot label.now) (C.sight cells.old) (C.sight cells.new) }
 {
     let slots = slot_count(cells);
     let next = cells.read(next_cell(slots, slot))?;

@@ -1,6 +1,6 @@
 //! Reads an assertion back from its slot.
 
-ghost use Rattle.std.specs.Prelude.{◌≡◌, ◌<◌, IfOk, Some, true, length, take};
+ghost use Rattle.std.specs.Prelude.{◌≡◌, ◌<◌, ◌⊎◌, IfOk, Some, true, length, take};
 ghost use Rattle.mmframes.specs.Frames.{frame};
 ghost use Rattle.library.specs.Library.{label_of};
 ghost use Rattle.library.specs.Edits.{citers};
@@ -8,6 +8,7 @@ ghost use Rattle.bodystore.specs.Bodies.{kind_word, statement_of};
 ghost use Rattle.std.specs.Option.{option_map};
 ghost use Rattle.cells.specs.Sight.{Looks, ReadsWithin};
 ghost use Rattle.cells.specs.Slots.{name_cell, statement_cell, proof_cell, rank_cell, citers_cell};
+ghost use Rattle.cells.specs.Footprints.{ReadsWhere, IsOfProof, IsOfAssertion, IsOfStep, IsOfResolving, IsNameCited};
 ghost use Rattle.cells.specs.Lookups.{ForEachHeld, IfFull, IsNameAt, AreStepsAt, IsStepOf, AreStepsOf, StoresStep, Resolves};
 
 use crate::again::{Hints, number_of};
@@ -159,6 +160,7 @@ pub fn proof<C: Cells>(
     requires { slot < (C.sight cells.old).setting.slots }
     ensures looks { Looks (C.sight cells.old) (C.sight cells.new) }
     ensures ok { IfOk result (λ made. ForEachHeld (C.sight cells.new) slot (λ st lib e. made ≡ e.assertion.proof)) }
+    ensures reads { ForEachHeld (C.sight cells.new) slot (λ st lib e. ReadsWithin (IsOfProof (C.sight cells.old).setting.slots slot e.assertion.proof st) (C.sight cells.old) (C.sight cells.new)) }
 {
     let kept = stored_proof(alloc, cells, slot)?;
     let slots = slot_count(cells);
@@ -196,6 +198,7 @@ fn named_again<C: Cells>(
     requires steps { AreStepsOf slots (C.sight cells.old) kept.now steps.now }
     ensures looks { Looks (C.sight cells.old) (C.sight cells.new) }
     ensures ok { IfOk result (λ made. IsStepOf slots (C.sight cells.new) step made) }
+    ensures reads { ReadsWithin (IsNameCited step) (C.sight cells.old) (C.sight cells.new) }
 {
     if hint < steps.len() && hint < kept.len() && kept[hint] == step {
         return Ok(steps[hint].copy(alloc)?);
@@ -213,6 +216,7 @@ fn named_step<C: Cells>(
     requires { slots ≡ (C.sight cells.old).setting.slots }
     ensures looks { Looks (C.sight cells.old) (C.sight cells.new) }
     ensures ok { IfOk result (λ made. IsStepOf slots (C.sight cells.new) step made) }
+    ensures reads { ReadsWithin (IsNameCited step) (C.sight cells.old) (C.sight cells.new) }
 {
     match step {
         StoredStep::Float(place) => Ok(Step::Float(place)),
@@ -233,6 +237,7 @@ pub fn assertion<C: Cells>(
     requires { slot < (C.sight cells.old).setting.slots }
     ensures looks { Looks (C.sight cells.old) (C.sight cells.new) }
     ensures ok { IfOk result (λ made. ForEachHeld (C.sight cells.new) slot (λ st lib e. made ≡ e.assertion)) }
+    ensures reads { ForEachHeld (C.sight cells.new) slot (λ st lib e. ReadsWithin (IsOfAssertion (C.sight cells.old).setting.slots slot e.assertion.proof st) (C.sight cells.old) (C.sight cells.new)) }
 {
     let label = label(alloc, cells, slot)?;
     let statement = statement(alloc, cells, slot)?;
@@ -245,6 +250,7 @@ pub fn entry<C: Cells>(alloc: Global, cells: &mut C, slot: usize) -> Result<Rank
     requires { slot < (C.sight cells.old).setting.slots }
     ensures looks { Looks (C.sight cells.old) (C.sight cells.new) }
     ensures ok { IfOk result (λ made. ForEachHeld (C.sight cells.new) slot (λ st lib e. made ≡ e)) }
+    ensures reads { ForEachHeld (C.sight cells.new) slot (λ st lib e. ReadsWithin (λ c. (c ≡ rank_cell slot) ⊎ IsOfAssertion (C.sight cells.old).setting.slots slot e.assertion.proof st c) (C.sight cells.old) (C.sight cells.new)) }
 {
     let assertion = assertion(alloc, cells, slot)?;
     let rank = rank(cells, slot).map_err(Halt::Stopped)?;
@@ -276,6 +282,7 @@ pub fn resolve<C: Cells>(
 ) -> Result<Option<Vec<StoredStep>>, Halt<C::Stop>>
     ensures looks { Looks (C.sight cells.old) (C.sight cells.new) }
     ensures ok { IfOk result (λ kept. Resolves (C.sight cells.new) steps.now (option_map (λ v. v.items) kept)) }
+    ensures reads { ReadsWhere (IsOfResolving (C.sight cells.old).setting.slots steps.now) (C.sight cells.old) (C.sight cells.new) }
 {
     let mut kept = Vec::with_capacity(alloc, steps.len())?;
     let mut hints = Hints::new();
@@ -322,6 +329,7 @@ fn stored_again<C: Cells>(
     requires { Resolves (C.sight cells.old) (take (length kept.now) steps.now) (Some kept.now) }
     ensures looks { Looks (C.sight cells.old) (C.sight cells.new) }
     ensures ok { IfOk result (λ stored. StoresStep (C.sight cells.new) step.now stored) }
+    ensures reads { ReadsWhere (IsOfStep (C.sight cells.old).setting.slots step.now) (C.sight cells.old) (C.sight cells.new) }
 {
     if hint < kept.len() && hint < steps.len() && cite_the_same(&steps[hint], step) {
         return Ok(Some(kept[hint]));
@@ -334,6 +342,7 @@ fn stored_again<C: Cells>(
 fn stored_step<C: Cells>(cells: &mut C, step: &Step) -> Result<Option<StoredStep>, C::Stop>
     ensures looks { Looks (C.sight cells.old) (C.sight cells.new) }
     ensures ok { IfOk result (λ kept. StoresStep (C.sight cells.new) step.now kept) }
+    ensures reads { ReadsWhere (IsOfStep (C.sight cells.old).setting.slots step.now) (C.sight cells.old) (C.sight cells.new) }
 {
     let _slots = slot_count(cells);
     match step {

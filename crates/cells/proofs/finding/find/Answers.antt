@@ -72,7 +72,7 @@ loop-preserved g c =
           (λ st m named. let yes = (c.in_ok-has_label.ensures.ok st m).1 named in let no = c.if-branch.false in absurd cc),
       leads_next slot c.loop.invariant.2 c.has_label.ensures.looks read c.in-Some.ensures,
       along_next slot (along_name c.in-Some.slot c.loop.invariant.3 c.loop.invariant.0 c.loop.invariant.2 c.in-Some.ensures c.has_label.ensures.looks.onward
-    c.has_label.ensures.reads) c.loop.invariant.0 c.loop.invariant.2 c.in-Some.ensures
+          c.has_label.ensures.reads) c.loop.invariant.0 c.loop.invariant.2 c.in-Some.ensures
           c.has_label.ensures.looks.onward read.looks.onward c.next_cell.ensures c.read-in-loop.ensures.reads,
     )
 

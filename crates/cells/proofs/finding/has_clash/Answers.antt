@@ -31,17 +31,17 @@ returns-clause-ok g c =
     (λ b below. clash_below own label r s b c.has_numbered.ensures.looks above below) c.has_numbered.ensures.ok
 
 pub returns-in_err-has_trunk-clause-reads : goal.returns-in_err-has_trunk-clause-reads
-returns-in_err-has_trunk-clause-reads g c = 
+returns-in_err-has_trunk-clause-reads g c =
     let old = g.C.Cells.sight c.args.cells.now in
     where_trans (where_same old) (looks_refl old) c.has_trunk.ensures.looks.onward c.has_trunk.ensures.reads (λ st k at. inl at)
 
 pub returns-then-branch-clause-reads : goal.returns-then-branch-clause-reads
-returns-then-branch-clause-reads g c = 
+returns-then-branch-clause-reads g c =
     let old = g.C.Cells.sight c.args.cells.now in
     where_trans (where_same old) (looks_refl old) c.has_trunk.ensures.looks.onward c.has_trunk.ensures.reads (λ st k at. inl at)
 
 pub returns-clause-reads : goal.returns-clause-reads
-returns-clause-reads g c = 
+returns-clause-reads g c =
     let old = g.C.Cells.sight c.args.cells.now in
     where_trans
     (where_trans (where_same old) (looks_refl old) c.has_trunk.ensures.looks.onward c.has_trunk.ensures.reads (λ st k at. inl at))

@@ -63,5 +63,5 @@ pub returns-then-not-has_dotted-clause-reads : goal.returns-then-not-has_dotted-
 returns-then-not-has_dotted-clause-reads g c = asks_still (asks_cell c.name_cell.ensures c.read.ensures.reads) c.has_dotted.ensures.reads
 
 pub returns-clause-reads : goal.returns-clause-reads
-returns-clause-reads g c = 
+returns-clause-reads g c =
     asks_still (asks_cell c.name_cell.ensures c.read.ensures.reads) (nothing_trans c.has_dotted.ensures.reads c.has_words.ensures.reads)

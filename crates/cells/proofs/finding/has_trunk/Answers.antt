@@ -37,7 +37,7 @@ returns-clause-ok g c =
     (subst (λ (l : List ℕ). Finds s l c.in_ok-find.field-0) is finds))
 
 pub returns-in_err-find-clause-reads : goal.returns-in_err-find-clause-reads
-returns-in_err-find-clause-reads g c = 
+returns-in_err-find-clause-reads g c =
     let old = g.C.Cells.sight c.args.cells.now in
     let front = c.trunk-front.result.now in
     let is : front ≡ trunk c.args.label.now = c.trunk-front.ensures in
@@ -47,7 +47,7 @@ returns-in_err-find-clause-reads g c =
     (λ st k at. (λ e. part (is ∙ e), λ e. other (is ∙ e), subst (λ (l : List ℕ). IsOfLook old.setting.slots l st k) is at))
 
 pub returns-clause-reads : goal.returns-clause-reads
-returns-clause-reads g c = 
+returns-clause-reads g c =
     let old = g.C.Cells.sight c.args.cells.now in
     let front = c.trunk-front.result.now in
     let is : front ≡ trunk c.args.label.now = c.trunk-front.ensures in

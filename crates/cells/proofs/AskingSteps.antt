@@ -1,0 +1,67 @@
+-- For which cells those calls ask that read the steps of a proof, or walk along a chain to a slot.
+use Rattle.std.proofs.Common.{◌≡◌, ◌<◌, ℕ, ◌+◌, List, [], ◌∷◌, length, get_or, refl, sym, subst, ◌∙◌, inl, inr, ⊎_elim}
+use Rattle.std.specs.List.{AllZip}
+use Rattle.mmsyntax.specs.declared.statement.Step.{Step}
+use Rattle.mmsyntax.specs.declared.statement.Step.TheVariants.{Float, Hyp, Cite}
+use Rattle.library.specs.Library.{Setting}
+use Rattle.bodystore.specs.declared.stored.StoredStep.{StoredStep}
+use Rattle.bodystore.specs.declared.stored.StoredStep.TheVariants as stored
+use Rattle.ranges.specs.Ranges.{Has}
+use Rattle.cells.specs.State.{State}
+use Rattle.cells.specs.Slots.{name_cell, proof_cell, bucket_cell, next_cell}
+use Rattle.cells.specs.Shows.{IsNamed, IsStoredAs, AreStoredAs}
+use Rattle.cells.specs.Sight.{Sight, Looks, ReadsWithin, after}
+use Rattle.cells.specs.Lookups.{ForEachHeld, AreStepsAt}
+use Rattle.cells.specs.Footprints.{IsMember, IsOnChain, IsOfProof, IsNameCited}
+use Rattle.cells.proofs.Asking.{item_has, asks_cell, asks_wider, asks_more}
+use Rattle.cells.proofs.ReadBack.{held_later}
+
+-- ---- the steps of a proof
+
+-- the name cell of a slot that one of the steps cites
+abbrev pub IsNameOfSteps : List StoredStep → ℕ → Type 0
+IsNameOfSteps kept c = (j : ℕ) × Has (stored.Slot j) kept × (c ≡ name_cell j)
+
+-- a slot that is cited has the label that is cited
+cited_named : (named : ℕ → List ℕ → Type 0) (x : Step) (j : ℕ) → IsStoredAs named x (stored.Slot j) → (label : List ℕ) × (x ≡ Cite label) × named j label
+cited_named named (Float i) j h = absurd h
+cited_named named (Hyp k) j h = absurd h
+cited_named named (Cite label) j h = (label, refl, h)
+
+zip_from : {A B : Type 0} (R : A → B → Type 0) (xs : List A) (ys : List B) (y : B) → AllZip R xs ys → Has y ys → (x : A) × Has x xs × R x y
+zip_from R [] [] y z h = absurd h
+zip_from R [] (w ∷ ys) y z h = absurd z
+zip_from R (x ∷ xs) [] y z h = absurd h
+zip_from R (x ∷ xs) (w ∷ ys) y z (inl e) = (x, inl refl, subst (R x) (sym e) z.0)
+zip_from R (x ∷ xs) (w ∷ ys) y z (inr h) = let rest = zip_from R xs ys y z.1 h in (rest.0, inr rest.1, rest.2)
+
+of_proof : (slots i : ℕ) (steps : List Step) (kept : List StoredStep) (st : State) → AreStoredAs slots st steps kept → (c : ℕ) → IsNameOfSteps kept c
+    → IsOfProof slots i steps st c
+of_proof slots i steps kept st are c at =
+    let z = zip_from (IsStoredAs (IsNamed slots st)) steps kept (stored.Slot at.0) are at.1 in
+    let n = cited_named (IsNamed slots st) z.0 at.0 z.2 in
+    inr (n.0, at.0, subst (λ (x : Step). Has x steps) n.1 z.1, n.2, at.2)
+
+-- one step of them
+pub name_of_one : {O : Type 0} → {s t : Sight O} → (kept : List StoredStep) (i : ℕ) (d : StoredStep) → i < length kept
+    → ReadsWithin (IsNameCited (get_or kept i d)) s t → ReadsWithin (IsNameOfSteps kept) s t
+name_of_one kept i d lt asks = asks_wider (λ c at. (at.0, subst (λ (x : StoredStep). Has x kept) at.1 (item_has kept i d lt), at.2)) asks
+
+-- the proof cell is read, and then names of what the steps cite that it holds
+pub proof_within : {O : Type 0} → (r s t : Sight O) (i : ℕ) (kept : List StoredStep) → Looks r s → Looks s t → AreStepsAt s i kept
+    → ReadsWithin (λ c. c ≡ proof_cell i) r s → ReadsWithin (IsNameOfSteps kept) s t
+    → ForEachHeld t i (λ st lib e. ReadsWithin (IsOfProof r.setting.slots i e.assertion.proof st) r t)
+proof_within r s t i kept first looks steps own names st lib v e at h =
+    let there = held_later s t i (λ x l f. AreStoredAs s.setting.slots x f.assertion.proof kept) looks steps st lib v e at h in
+    let here : AreStoredAs r.setting.slots (after t st) e.assertion.proof kept =
+    subst (λ (x : Setting). AreStoredAs x.slots (after t st) e.assertion.proof kept) first.onward.setting there in
+    asks_more (asks_cell (inl refl) own) (of_proof r.setting.slots i e.assertion.proof kept (after t st) here) names
+
+-- ---- along a chain to a slot
+
+-- the slot that the cell leads to stands in the chain
+pub member_of : (slots b cell i : ℕ) (st : State) → IsOnChain slots b st cell → i < slots → st.value cell ≡ i + 1 → IsMember slots st b i
+member_of slots b cell i st (inl front) lt is =
+    record { within = lt; before = []; behind = subst (λ (n : ℕ). st.value n ≡ i + 1) front is }
+member_of slots b cell i st (inr (j, member, at)) lt is =
+    record { within = lt; before = j ∷ member.before; behind = (subst (λ (n : ℕ). st.value n ≡ i + 1) at is, member.behind) }
