@@ -1,5 +1,5 @@
 -- Cell by cell along the chain of a bucket, and round the slots.
-use Rattle.std.proofs.Common.{◌≡◌, ◌≢◌, ◌<◌, ℕ, ◌+◌, ◌%◌, List, [], ◌∷◌, sym, ap, subst, ◌∙◌, inl, inr, below_more}
+use Rattle.std.proofs.Common.{◌≡◌, ◌≢◌, ◌<◌, ℕ, ◌+◌, ◌%◌, [], ◌∷◌, sym, ap, subst, ◌∙◌, inl, inr, below_more}
 use Rattle.cells.specs.State.{State}
 use Rattle.cells.specs.Slots.{name_cell, bucket_cell, next_cell}
 use Rattle.cells.specs.Sight.{Sight, Matches, Onward, Looks, Reads, ReadsWithin, ReadsNothing, after}

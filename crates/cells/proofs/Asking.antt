@@ -1,5 +1,5 @@
 -- For which cells calls ask, through the calls of a run.
-use Rattle.std.proofs.Common.{◌≡◌, ℕ, zero, suc, ◌<◌, List, [], ◌∷◌, length, get_or, Some, refl, sym, subst, ◌∙◌, inl, inr, ⊎_elim, arith}
+use Rattle.std.proofs.Common.{◌≡◌, ℕ, zero, suc, ◌<◌, List, [], ◌∷◌, length, get_or, refl, sym, subst, ◌∙◌, inl, inr, ⊎_elim, arith}
 use Rattle.ranges.specs.Ranges.{Has}
 use Rattle.cells.specs.Sight.{Sight, Writes, ReadsWithin, ReadsNothing}
 

@@ -1,5 +1,5 @@
 -- For which cells those calls ask that read the steps of a proof, or walk along a chain to a slot.
-use Rattle.std.proofs.Common.{◌≡◌, ◌<◌, ℕ, ◌+◌, List, [], ◌∷◌, length, get_or, refl, sym, subst, ◌∙◌, inl, inr, ⊎_elim}
+use Rattle.std.proofs.Common.{◌≡◌, ◌<◌, ℕ, ◌+◌, List, [], ◌∷◌, length, get_or, refl, sym, subst, inl, inr}
 use Rattle.std.specs.List.{AllZip}
 use Rattle.mmsyntax.specs.declared.statement.Step.{Step}
 use Rattle.mmsyntax.specs.declared.statement.Step.TheVariants.{Float, Hyp, Cite}
@@ -8,7 +8,7 @@ use Rattle.bodystore.specs.declared.stored.StoredStep.{StoredStep}
 use Rattle.bodystore.specs.declared.stored.StoredStep.TheVariants as stored
 use Rattle.ranges.specs.Ranges.{Has}
 use Rattle.cells.specs.State.{State}
-use Rattle.cells.specs.Slots.{name_cell, proof_cell, bucket_cell, next_cell}
+use Rattle.cells.specs.Slots.{name_cell, proof_cell}
 use Rattle.cells.specs.Shows.{IsNamed, IsStoredAs, AreStoredAs}
 use Rattle.cells.specs.Sight.{Sight, Looks, ReadsWithin, after}
 use Rattle.cells.specs.Lookups.{ForEachHeld, AreStepsAt}

@@ -1,0 +1,93 @@
+-- Which cells `move` reads, from what its parts read.
+use Rattle.std.proofs.Common.{◌≡◌, ◌≢◌, ◌<◌, ◌⊎◌, ℕ, List, Some, sym, ap, subst, ◌∙◌, inl, inr, ⊎_elim}
+use Rattle.std.specs.Prelude.{Contains}
+use Rattle.library.specs.declared.library.Ranked.{Ranked}
+use Rattle.library.specs.Library.{Setting, label_of}
+use Rattle.library.specs.Edits.{citers}
+use Rattle.library.proofs.Places.{found_in}
+use Rattle.ranges.specs.Ranges.{Has}
+use Rattle.bodystore.specs.declared.stored.StoredStep.{StoredStep}
+use Rattle.cells.specs.State.{State}
+use Rattle.cells.specs.Slots.{proof_cell, rank_cell, citers_cell}
+use Rattle.cells.specs.Shows.{AreStoredAs, Holds}
+use Rattle.cells.specs.Sight.{Sight, Onward, Looks, ReadsWithin, after}
+use Rattle.cells.specs.Footprints.{ReadsWhere, IsOfLook}
+use Rattle.cells.specs.Lookups.{ForEach, ForEachHeld, Finds, IsFoundAt}
+use Rattle.cells.proofs.Asking.{asks_wider, asks_more}
+use Rattle.cells.proofs.AskingSteps.{cited_slot}
+use Rattle.cells.proofs.ReadBack.{held_later}
+use Rattle.cells.proofs.Settings.{same_slots}
+use Rattle.cells.proofs.Sights.{matches_back, after_looks, for_each_later}
+use Rattle.commands.specs.Footprints.{IsOfRanks, IsOfRise, IsOfMoving, IsReadByMove, IsRankOfSteps, MoveReads}
+use Rattle.commands.proofs.OnlyLooks.{finds_later}
+use Rattle.commands.proofs.Seeing.{views_later}
+
+-- ---- whether a citer stands in the way
+
+-- the rank goes up, and something cites the assertion: ranks are read, and proofs
+pub rise_within : {O : Type 0} → (r s t : Sight O) (i limit current n : ℕ) → Looks r s → Looks s t
+    → ReadsWithin (λ c. (c ≡ rank_cell i) ⊎ (c ≡ citers_cell i)) r s → ForEachHeld s i (λ st lib e. current ≡ e.rank)
+    → ForEachHeld s i (λ st lib e. n ≡ citers lib (label_of e)) → current < limit → n ≢ 0
+    → ReadsWhere (IsOfRanks r.setting.slots current limit) s t
+    → ForEachHeld t i (λ st lib e. ReadsWithin (IsOfRise r.setting.slots st lib i e limit) r t)
+rise_within r s t i limit current n first looks own ranked counted up some ranks st lib v e at h =
+    let is = held_later s t i (λ x l f. current ≡ f.rank) looks ranked st lib v e at h in
+    let count = held_later s t i (λ x l f. n ≡ citers l (label_of f)) looks counted st lib v e at h in
+    asks_more (asks_wider (λ c k. ⊎_elim (λ rank. inl rank) (λ cited. inr (inl cited)) k) own)
+    (λ c k. inr (inr (subst (λ m. m < limit) is up, (λ none. some (count ∙ none)),
+    subst (λ m. IsOfRanks r.setting.slots m limit (after t st) c) is
+    (subst (λ (x : State). IsOfRanks r.setting.slots current limit x c) (sym (after_looks s t st looks)) k))))
+    (ranks.each st v.matches)
+
+-- ---- one part after another
+
+-- what was read by looks since the command began
+abbrev pub MovesSo : {O : Type 0} → List ℕ → ℕ → Sight O → Sight O → Type 0
+MovesSo label rank old s = ForEach s (λ st lib. ReadsWithin (IsReadByMove old.setting.slots st lib label rank) old s)
+
+module _ {O : Type 0} (old : Sight O) (label : List ℕ) (rank : ℕ) where
+  pub move_looks : (s : Sight O) → Looks old s → ReadsWhere (IsOfLook old.setting.slots label) old s → MovesSo label rank old s
+  move_looks s looks reads st lib v =
+      asks_wider (λ c is. inl (subst (λ (x : State). IsOfLook old.setting.slots label x c) (sym (after_looks old s st looks)) is))
+      (reads.each st v.matches)
+
+  -- cells are read that are of the assertion in the slot
+  pub move_more : (s t : Sight O) (i : ℕ) (such : State → List Ranked → Ranked → ℕ → Type 0) → Looks old s → Looks s t → Finds s label (Some i)
+      → MovesSo label rank old s → ForEachHeld t i (λ st lib e. ReadsWithin (such st lib e) s t)
+      → ((st : State) (lib : List Ranked) (e : Ranked) (c : ℕ) → such st lib e c → IsOfMoving old.setting.slots st lib i e rank c)
+      → MovesSo label rank old t
+  move_more s t i such first looks finds before reads wider st lib v =
+      let here = (finds_later s t label i looks finds).1 st lib v in
+      let same = looks.onward.setting ∙ first.onward.setting in
+      let at : IsFoundAt old.setting.slots (after t st) lib label i =
+      subst (λ (x : Setting). IsFoundAt x.slots (after t st) lib label i) same here in
+      asks_more (for_each_later s t (λ x l. ReadsWithin (IsReadByMove old.setting.slots x l label rank) old s) looks before st lib v)
+      (λ c is. inr (i, at, wider (after t st) lib at.entry c is))
+      (reads st lib v at.entry (found_in lib label at.entry at.found).0
+      (subst (λ (x : Setting). Holds x.slots (after t st) lib i at.entry) (sym same) at.holds))
+
+  -- where it ends with looks
+  pub move_now : (t : Sight O) → Looks old t → MovesSo label rank old t → MoveReads label rank old t
+  move_now t looks before st lib m v =
+      subst (λ (x : State). ReadsWithin (IsReadByMove old.setting.slots x lib label rank) old t) (after_looks old t st looks)
+      (before st lib (views_later old t st lib looks m v))
+
+  -- and then one that is put
+  pub move_put : (t u : Sight O) (i : ℕ) → Looks old t → Onward t u → Finds t label (Some i) → MovesSo label rank old t
+      → ReadsWithin (λ c. c ≡ rank_cell i) t u → MoveReads label rank old u
+  move_put t u i looks on finds before put st lib m v =
+      let back = matches_back t u st on m in
+      let now = views_later old t st lib looks back v in
+      let at : IsFoundAt old.setting.slots (after old st) lib label i =
+      subst (λ (x : State). IsFoundAt old.setting.slots x lib label i) (after_looks old t st looks)
+      (subst (λ (x : Setting). IsFoundAt x.slots (after t st) lib label i) looks.onward.setting (finds.1 st lib now)) in
+      asks_more (move_now t looks before st lib back v) (λ c is. inr (i, at, inr (inr (inl is)))) put
+
+  -- the ranks of what its proof cites are such cells
+  pub move_ranks : (t : Sight O) (i : ℕ) (kept : List StoredStep) → ForEachHeld t i (λ st lib e. AreStoredAs t.setting.slots st e.assertion.proof kept)
+      → t.setting ≡ old.setting → (st : State) (lib : List Ranked) (e : Ranked) → AreStoredAs t.setting.slots st e.assertion.proof kept → (c : ℕ)
+      → IsRankOfSteps kept c → IsOfMoving old.setting.slots st lib i e rank c
+  move_ranks t i kept stored same st lib e are c at =
+      let n = cited_slot old.setting.slots e.assertion.proof kept st at.0
+      (subst (λ (x : Setting). AreStoredAs x.slots st e.assertion.proof kept) same are) at.1 in
+      inr (inl (n.0, at.0, n.1, n.2, at.2))
