@@ -1,5 +1,5 @@
 -- Which cells `move` reads, from what its parts read.
-use Rattle.std.proofs.Common.{◌≡◌, ◌≢◌, ◌<◌, ◌⊎◌, ℕ, List, Some, sym, ap, subst, ◌∙◌, inl, inr, ⊎_elim}
+use Rattle.std.proofs.Common.{◌≡◌, ◌≢◌, ◌<◌, ◌≤◌, ◌⊎◌, ℕ, List, length, get_or, Some, refl, sym, ap, subst, ◌∙◌, inl, inr, ⊎_elim}
 use Rattle.std.specs.Prelude.{Contains}
 use Rattle.library.specs.declared.library.Ranked.{Ranked}
 use Rattle.library.specs.Library.{Setting, label_of}
@@ -7,22 +7,44 @@ use Rattle.library.specs.Edits.{citers}
 use Rattle.library.proofs.Places.{found_in}
 use Rattle.ranges.specs.Ranges.{Has}
 use Rattle.bodystore.specs.declared.stored.StoredStep.{StoredStep}
+use Rattle.bodystore.specs.declared.stored.StoredStep.TheVariants.{Slot}
 use Rattle.cells.specs.State.{State}
 use Rattle.cells.specs.Slots.{proof_cell, rank_cell, citers_cell}
 use Rattle.cells.specs.Shows.{AreStoredAs, Holds}
-use Rattle.cells.specs.Sight.{Sight, Onward, Looks, ReadsWithin, after}
+use Rattle.cells.specs.Sight.{Sight, Matches, Onward, Looks, ReadsWithin, after}
 use Rattle.cells.specs.Footprints.{ReadsWhere, IsOfLook}
 use Rattle.cells.specs.Lookups.{ForEach, ForEachHeld, Finds, IsFoundAt}
-use Rattle.cells.proofs.Asking.{asks_wider, asks_more}
+use Rattle.cells.proofs.Asking.{item_has, asks_cell, asks_wider, asks_more}
+use Rattle.cells.proofs.Along.{where_more}
 use Rattle.cells.proofs.AskingSteps.{cited_slot}
 use Rattle.cells.proofs.ReadBack.{held_later}
 use Rattle.cells.proofs.Settings.{same_slots}
 use Rattle.cells.proofs.Sights.{matches_back, after_looks, for_each_later}
-use Rattle.commands.specs.Footprints.{IsOfRanks, IsOfRise, IsOfMoving, IsReadByMove, IsRankOfSteps, MoveReads}
+use Rattle.commands.specs.Footprints.{IsOfRanks, IsOfRise, IsOfMoving, IsReadByMove, IsRankOfCited, IsRankOfSteps, MoveReads}
 use Rattle.commands.proofs.OnlyLooks.{finds_later}
 use Rattle.commands.proofs.Seeing.{views_later}
 
+-- the rank of a slot that one of the steps cites
+pub rank_of_one : {O : Type 0} → {s t : Sight O} → (kept : List StoredStep) (i : ℕ) (d : StoredStep) (j : ℕ) → i < length kept
+    → get_or kept i d ≡ Slot j → ReadsWithin (λ c. c ≡ rank_cell j) s t → ReadsWithin (IsRankOfSteps kept) s t
+rank_of_one kept i d j lt is asks = asks_cell (j, subst (λ (x : StoredStep). Has x kept) is (item_has kept i d lt), refl) asks
+
 -- ---- whether a citer stands in the way
+
+-- the rank of a slot is read
+pub rank_read : {O : Type 0} → {cell : ℕ} → (slots low high j : ℕ) (r s t : Sight O) → ReadsWhere (IsOfRanks slots low high) r s → Onward s t
+    → j < slots → cell ≡ rank_cell j → ReadsWithin (λ c. c ≡ cell) s t → ReadsWhere (IsOfRanks slots low high) r t
+rank_read slots low high j r s t before on lt at read = where_more before on read (λ st m c is. (j, lt, inl (is ∙ at)))
+
+-- and its proof, where the rank is between
+pub proof_read : {O : Type 0} → (slots low high j rank : ℕ) (r s t : Sight O) → ReadsWhere (IsOfRanks slots low high) r s → Looks r s → Onward s t
+    → j < slots → ((st : State) → Matches s st → rank ≡ (after s st).value (rank_cell j)) → low < rank → rank ≤ high
+    → ReadsWithin (λ c. c ≡ proof_cell j) s t → ReadsWhere (IsOfRanks slots low high) r t
+proof_read slots low high j rank r s t before looks on lt value above below read =
+    where_more before on read (λ st m c is.
+    let there : rank ≡ (after r st).value (rank_cell j) =
+    value st m ∙ ap (λ (x : State). x.value (rank_cell j)) (after_looks r s st looks) in
+    (j, lt, inr (subst (λ (n : ℕ). low < n) there above, subst (λ (n : ℕ). n ≤ high) there below, is)))
 
 -- the rank goes up, and something cites the assertion: ranks are read, and proofs
 pub rise_within : {O : Type 0} → (r s t : Sight O) (i limit current n : ℕ) → Looks r s → Looks s t
@@ -83,11 +105,11 @@ module _ {O : Type 0} (old : Sight O) (label : List ℕ) (rank : ℕ) where
       (subst (λ (x : Setting). IsFoundAt x.slots (after t st) lib label i) looks.onward.setting (finds.1 st lib now)) in
       asks_more (move_now t looks before st lib back v) (λ c is. inr (i, at, inr (inr (inl is)))) put
 
-  -- the ranks of what its proof cites are such cells
-  pub move_ranks : (t : Sight O) (i : ℕ) (kept : List StoredStep) → ForEachHeld t i (λ st lib e. AreStoredAs t.setting.slots st e.assertion.proof kept)
-      → t.setting ≡ old.setting → (st : State) (lib : List Ranked) (e : Ranked) → AreStoredAs t.setting.slots st e.assertion.proof kept → (c : ℕ)
-      → IsRankOfSteps kept c → IsOfMoving old.setting.slots st lib i e rank c
-  move_ranks t i kept stored same st lib e are c at =
-      let n = cited_slot old.setting.slots e.assertion.proof kept st at.0
-      (subst (λ (x : Setting). AreStoredAs x.slots st e.assertion.proof kept) same are) at.1 in
-      inr (inl (n.0, at.0, n.1, n.2, at.2))
+  -- the ranks of what its proof cites are read
+  pub ranks_within : (s t : Sight O) (i : ℕ) (kept : List StoredStep) → ForEachHeld t i (λ st lib e. AreStoredAs t.setting.slots st e.assertion.proof kept)
+      → t.setting ≡ old.setting → ReadsWithin (IsRankOfSteps kept) s t
+      → ForEachHeld t i (λ st lib e. ReadsWithin (IsRankOfCited old.setting.slots st lib e.assertion.proof) s t)
+  ranks_within s t i kept stored same reads st lib v e at h =
+      let are : AreStoredAs old.setting.slots (after t st) e.assertion.proof kept =
+      subst (λ (x : Setting). AreStoredAs x.slots (after t st) e.assertion.proof kept) same (stored st lib v e at h) in
+      asks_wider (λ c k. let n = cited_slot old.setting.slots e.assertion.proof kept (after t st) k.0 are k.1 in (n.0, k.0, n.1, n.2, k.2)) reads

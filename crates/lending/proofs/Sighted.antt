@@ -1,5 +1,5 @@
 -- What the steps of a run of a session do to what commands see of it.
-use Rattle.std.proofs.Common.{◌≡◌, ℕ, ◌+◌, ◌≤◌, ◌⊎◌, ◌==◌, if◌then◌else◌, inl, inr, ⊎_elim, Bool, true, is_some, Option, Some, None, List, length}
+use Rattle.std.proofs.Common.{◌≡◌, ℕ, ◌+◌, ◌≤◌, ◌⊎◌, ◌==◌, if◌then◌else◌, inl, inr, Bool, true, is_some, Option, Some, None, List, length}
 use Rattle.std.proofs.Common.{eq-eqb, ne_eqb, refl, sym, ap, ◌∙◌, subst, min, arith}
 use Rattle.std.specs.Prelude.{Result, Ok, Err, OnOk, OnErr}
 use Rattle.std.specs.Cmp.Lexicographic.{slice_cmp, nat_list_cmp_total, bytes_decides}
@@ -22,7 +22,7 @@ use Rattle.tlwords.specs.Calls.{HasRead, HasStopped, HasLoaded, HasStaged, IsRef
 use Rattle.bodystore.specs.Stages.{Staged, range_at}
 use Rattle.bodystore.proofs.Staging.{found_is_staged}
 use Rattle.cells.specs.State.{value_or}
-use Rattle.cells.specs.Sight.{StaysStaged, Onward, Looks, Reads, Writes, Stages, ReadsWithin, ReadsNothing}
+use Rattle.cells.specs.Sight.{StaysStaged, Onward, Looks, Reads, Writes, Stages, WasAsked, ReadsWithin, ReadsNothing}
 use Rattle.cells.proofs.Sights.{onward_refl, looks_refl}
 use Rattle.cells.proofs.Asking.{nothing_same}
 use Rattle.lawful.specs.declared.notes.Given.{Given}
@@ -89,10 +89,15 @@ stops_look l cell met r h =
 pub stops_within : (l : Lending) (cell : ℕ) (met : Conflict) (r : Going Given Note) → HasStopped library_terms cell met l.going r
     → ReadsWithin (λ c. c ≡ cell) (sight_of l) (sight_of (record l { going = r }))
 stops_within l cell met r h =
-    subst (λ (x : Going Given Note). ReadsWithin (λ c. c ≡ cell) (sight_of l) (sight_of (record l { going = x }))) (sym h.is) (record {
-      asked = λ c was. ⊎_elim (λ read. inl (inl read))
-          (λ stopped. inr ((let same : met.cell ≡ c = cc in sym same) ∙ h.cell_is)) was;
-    })
+    subst (λ (x : Going Given Note). ReadsWithin (λ c. c ≡ cell) (sight_of l) (sight_of (record l { going = x }))) (sym h.is)
+    (record { asked = either })
+  where
+    stopped : Lending
+    stopped = later l r.known.seen (Some (cell, met.word)) l.going.known.full l.going.known.taken l.going.known.added (Some met) l.full
+
+    either : (c : ℕ) → WasAsked (sight_of stopped) c → WasAsked (sight_of l) c ⊎ (c ≡ cell)
+    either c (inl read) = inl (inl read)
+    either c (inr is) = inr (let same : met.cell ≡ c = cc in sym same ∙ h.cell_is)
 
 -- a staging was refused
 pub refused_look : (l : Lending) (count : ℕ) (r : Going Given Note) → IsRefused library_terms count l.going r
@@ -270,11 +275,13 @@ module _ (l : Lending) (stage : Staged) (over : Option Conflict) (i : IsLent l s
     -- and no other
     pub reads_within : ReadsWithin (λ c. c ≡ cell) (sight_of l) (sight_of (record l { going = r }))
     reads_within =
-        subst (λ (x : Going Given Note). ReadsWithin (λ c. c ≡ cell) (sight_of l) (sight_of (record l { going = x }))) (sym h.is) (record {
-          asked = λ c was. ⊎_elim
-              (λ read. ⊎_elim (λ here. inr (ap (λ (p : ℕ × ℕ). p.0) here)) (λ before. inl (inl (read.0, before))) read.1)
-              (λ stopped. inl (inr stopped)) was;
-        })
+        subst (λ (x : Going Given Note). ReadsWithin (λ c. c ≡ cell) (sight_of l) (sight_of (record l { going = x }))) (sym h.is)
+        (record { asked = either })
+      where
+        either : (c : ℕ) → WasAsked (sight_of now) c → WasAsked (sight_of l) c ⊎ (c ≡ cell)
+        either c (inl (v, inl here)) = inr (ap (λ (p : ℕ × ℕ). p.0) here)
+        either c (inl (v, inr before)) = inl (inl (v, before))
+        either c (inr stopped) = inl (inr stopped)
 
 -- ---- a value is kept aside for a cell
 

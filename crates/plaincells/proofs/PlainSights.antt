@@ -15,7 +15,7 @@ use Rattle.ranges.specs.declared.range.Range.{Range as Place}
 use Rattle.ranges.proofs.Grown.{within_refl}
 use Rattle.cells.specs.State.{FitsReads, most_words}
 use Rattle.cells.specs.Slots.{is_ranged}
-use Rattle.cells.specs.Sight.{WasRead, Matches, Reads, Writes, Stages, ReadsWithin}
+use Rattle.cells.specs.Sight.{WasRead, Matches, Reads, Writes, Stages, WasAsked, ReadsWithin}
 use Rattle.plaincells.specs.Plain.{undone, read_at_first, ranges_in, plain_sight, plain_state, behind, ShowsSome, BeganWithSome, LieInStore, HoldNames, names, IsLogOf}
 use Rattle.ranges.proofs.Members.{has_append_cases}
 use Rattle.plaincells.proofs.Logs.{logged_push, has_front, has_last, undone_read, undone_write, read_at_first-push, fits_front, fits_first}
@@ -121,19 +121,20 @@ plain_reads s room values log store places cell v lt e hold =
 pub plain_asks : (s : Setting) (room : ℕ) (values : List ℕ) (log : Pairs) (store : List ℕ) (places : List Place) (cell v : ℕ)
     → v ≡ get_or values cell 0
     → ReadsWithin (λ c. c ≡ cell) (plain_sight s room values log store places) (plain_sight s room values (log ++ (cell, v) ∷ []) store places)
-plain_asks s room values log store places cell v e =
-    record {
-      asked = λ c was. ⊎_elim (λ read. elim (has_append_cases (read_at_first base log) _ (c, read.0) (subst (Has (c, read.0)) more read.1)) [
-        | inl before ↦ inl (inl (read.0, before))
-        | inr last ↦ inr (⊎_elim (λ here. ap (λ (p : ℕ × ℕ). p.0) here) (λ none. absurd none) last)
-      ]) (λ stopped. absurd (let never = stopped in cc never)) was;
-    }
+plain_asks s room values log store places cell v e = record { asked = either }
   where
     base : List ℕ
     base = undone values log
 
-    more : read_at_first (undone values (log ++ (cell, v) ∷ [])) (log ++ (cell, v) ∷ []) ≡ read_at_first base log ++ (cell, get_or base cell 0) ∷ []
-    more = read_logged values log cell v e
+    either : (c : ℕ) → WasAsked (plain_sight s room values (log ++ (cell, v) ∷ []) store places) c
+        → WasAsked (plain_sight s room values log store places) c ⊎ (c ≡ cell)
+    either c (inl read) =
+        elim (has_append_cases (read_at_first base log) ((cell, get_or base cell 0) ∷ []) (c, read.0)
+        (subst (Has (c, read.0)) (read_logged values log cell v e) read.1)) [
+          | inl before ↦ inl (inl (read.0, before))
+          | inr last ↦ inr (⊎_elim (λ here. ap (λ (p : ℕ × ℕ). p.0) here) (λ none. absurd none) last)
+        ]
+    either c (inr never) = absurd (cc never)
 
 -- ---- a cell is written
 
