@@ -56,9 +56,12 @@ rise_within r s t i limit current n first looks own ranked counted up some ranks
     let is = held_later s t i (λ x l f. current ≡ f.rank) looks ranked st lib v e at h in
     let count = held_later s t i (λ x l f. n ≡ citers l (label_of f)) looks counted st lib v e at h in
     asks_more (asks_wider (λ c k. ⊎_elim (λ rank. inl rank) (λ cited. inr (inl cited)) k) own)
-    (λ c k. inr (inr (subst (λ m. m < limit) is up, (λ none. some (count ∙ none)),
-    subst (λ m. IsOfRanks r.setting.slots m limit (after t st) c) is
-    (subst (λ (x : State). IsOfRanks r.setting.slots current limit x c) (sym (after_looks s t st looks)) k))))
+    (λ c k. inr (inr (
+      subst (λ m. m < limit) is up,
+      (λ none. some (count ∙ none)),
+      subst (λ m. IsOfRanks r.setting.slots m limit (after t st) c) is
+          (subst (λ (x : State). IsOfRanks r.setting.slots current limit x c) (sym (after_looks s t st looks)) k),
+    )))
     (ranks.each st v.matches)
 
 -- ---- one part after another

@@ -24,7 +24,6 @@ use Rattle.bodystore.proofs.Staging.{found_is_staged}
 use Rattle.cells.specs.State.{value_or}
 use Rattle.cells.specs.Sight.{StaysStaged, Onward, Looks, Reads, Writes, Stages, WasAsked, ReadsWithin, ReadsNothing}
 use Rattle.cells.proofs.Sights.{onward_refl, looks_refl}
-use Rattle.cells.proofs.Asking.{nothing_same}
 use Rattle.lawful.specs.declared.notes.Given.{Given}
 use Rattle.lawful.specs.declared.notes.Note.{Note}
 use Rattle.lawful.specs.Lawful.{library_terms}

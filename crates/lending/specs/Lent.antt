@@ -1,5 +1,5 @@
 -- Of the code's inside, apart from the rules: a run on a library's words as commands see it, and what is so of it at all times.
-use Rattle.std.specs.Prelude.{◌≡◌, ℕ, ◌/◌, ◌≤◌, Bool, true, false, is_some, Option, Some, None, List, [], ◌∷◌, length, ◌+◌}
+use Rattle.std.specs.Prelude.{◌≡◌, ℕ, ◌/◌, ◌≤◌, Bool, true, false, is_some, Option, Some, None, List, [], ◌∷◌, length}
 use Rattle.std.specs.Coded.{Coded, coded_ℕ, coded_list}
 use Rattle.std.specs.FinMap as map
 use Rattle.std.specs.Option.{option_map}
