@@ -1,6 +1,5 @@
 -- Which cells `move` reads, from what its parts read.
 use Rattle.std.proofs.Common.{◌≡◌, ◌≢◌, ◌<◌, ◌≤◌, ◌⊎◌, ℕ, List, length, get_or, Some, refl, sym, ap, subst, ◌∙◌, inl, inr, ⊎_elim}
-use Rattle.std.specs.Prelude.{Contains}
 use Rattle.library.specs.declared.library.Ranked.{Ranked}
 use Rattle.library.specs.Library.{Setting, label_of}
 use Rattle.library.specs.Edits.{citers}
@@ -18,7 +17,6 @@ use Rattle.cells.proofs.Asking.{item_has, asks_cell, asks_wider, asks_more}
 use Rattle.cells.proofs.Along.{where_more}
 use Rattle.cells.proofs.AskingSteps.{cited_slot}
 use Rattle.cells.proofs.ReadBack.{held_later}
-use Rattle.cells.proofs.Settings.{same_slots}
 use Rattle.cells.proofs.Sights.{matches_back, after_looks, for_each_later}
 use Rattle.commands.specs.Footprints.{IsOfRanks, IsOfRise, IsOfMoving, IsReadByMove, IsRankOfCited, IsRankOfSteps, MoveReads}
 use Rattle.commands.proofs.OnlyLooks.{finds_later}

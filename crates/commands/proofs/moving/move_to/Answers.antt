@@ -1,4 +1,4 @@
-use Rattle.std.proofs.Common.{◌≡◌, ℕ, List, Some, None, true, false, sym, subst, ap, ◌∙◌, inl, inr}
+use Rattle.std.proofs.Common.{◌≡◌, ℕ, List, Some, None, true, false, subst, ap, ◌∙◌, inl, inr}
 use Rattle.library.specs.declared.command.Command.TheVariants.{Move}
 use Rattle.std.specs.List.{list_any}
 use Rattle.library.specs.Edits.{cites_not_below}
