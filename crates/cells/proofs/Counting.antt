@@ -10,10 +10,11 @@ use Rattle.cells.specs.State.{State, with_value}
 use Rattle.cells.specs.Slots.{rank_cell, citers_cell, is_ranged}
 use Rattle.cells.specs.Filling.{CountsIn, CountsOut}
 use Rattle.ranges.proofs.Members.{has_append_left, has_append_right, has_append_cases, absent}
-use Rattle.cells.specs.Sight.{Sight, Looks, Writes, after}
+use Rattle.cells.specs.Sight.{Sight, Looks, Writes, ReadsWithin, ReadsNothing, after}
 use Rattle.cells.proofs.Sights.{after_looks, after_writes}
 use Rattle.cells.specs.Aside.{KeepsAside, IsCitersOf}
 use Rattle.cells.proofs.Keeping.{keeps_wider, keeps_put}
+use Rattle.cells.proofs.Asking.{item_has, asks_cell, asks_still}
 use Rattle.cells.proofs.Values.{value_there, value_elsewhere}
 
 -- ---- cells that are no range cells
@@ -65,9 +66,7 @@ changes_push f listed x st mid ch free =
     new = f (mid.value (citers_cell x))
 
 pub index_has : (ys : List ℕ) (k : ℕ) → k < length ys → Has (get_or ys k 0) ys
-index_has [] k below = omega (arith, below)
-index_has (y ∷ ys) zero below = inl refl
-index_has (y ∷ ys) (suc k) below = inr (index_has ys k (omega (arith, below)))
+index_has ys k below = item_has ys k 0 below
 
 -- an element of numbers that differ does not stand before its place
 pub before_apart : (xs : List ℕ) (i : ℕ) → Distinct nat_eq xs → i < length xs → Has (get_or xs i 0) (take i xs) → ⊥
@@ -98,6 +97,11 @@ pub keeps_counted : {O : Type 0} → (xs : List ℕ) (i cell v : ℕ) (r s t : S
 keeps_counted xs i cell v r s t lt is looks writes =
     keeps_wider (λ c. c ≡ cell) (IsCitersOf xs) r t (λ c same. (get_or xs i 0, index_has xs i lt, same ∙ is))
     (keeps_put cell v r s t looks.writes writes)
+
+-- a count that is read and written is one of these
+pub asks_counted : {O : Type 0} → (xs : List ℕ) (i cell : ℕ) (r s t : Sight O) → i < length xs → cell ≡ citers_cell (get_or xs i 0)
+    → ReadsWithin (λ c. c ≡ cell) r s → ReadsNothing s t → ReadsWithin (IsCitersOf xs) r t
+asks_counted xs i cell r s t lt is read none = asks_still (asks_cell (get_or xs i 0, index_has xs i lt, is) read) none
 
 -- what is written where a count was read
 pub count_made : {O : Type 0} → (f : ℕ → ℕ) (r s t : Sight O) (st : State) (cell there v w x : ℕ) → Looks r s → Writes there w s t → there ≡ citers_cell x

@@ -1,5 +1,7 @@
 pub mod Sights
 pub mod Keeping
+pub mod Asking
+pub mod Along
 pub mod Settings
 pub mod Bodies
 pub mod Holders
@@ -30,3 +32,4 @@ pub mod Renaming
 pub mod Small
 pub mod ReadBack
 pub mod Resolving
+pub mod AskingSteps

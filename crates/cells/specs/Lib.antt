@@ -3,6 +3,7 @@ pub mod Slots
 pub mod Shows
 pub mod Sight
 pub mod Aside
+pub mod Footprints
 pub mod Lookups
 pub mod Clashing
 pub mod Chains

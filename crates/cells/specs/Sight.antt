@@ -1,5 +1,5 @@
 -- What a run has seen of the cells and of the store, what it keeps aside, and the states that this leaves possible.
-use Rattle.std.specs.Prelude.{◌≡◌, ◌≢◌, ℕ, ◌+◌, ◌≤◌, ◌==◌, ◌⊎◌, if◌then◌else◌, List, Bool, true, Some, None, length}
+use Rattle.std.specs.Prelude.{◌≡◌, ◌≢◌, ℕ, ◌+◌, ◌≤◌, ◌==◌, ◌⊎◌, if◌then◌else◌, List, Bool, true, Option, Some, None, length}
 use Rattle.std.specs.FinMap.{get, insert}
 use Rattle.library.specs.declared.library.Ranked.{Ranked}
 use Rattle.library.specs.Library.{Setting, Verifies}
@@ -13,8 +13,8 @@ use Rattle.cells.specs.Shows.{Shows}
 
 -- what the run began with, which tells it from every other; the setting of the library; whether it may keep values aside, and whether it
 -- may stage words; the finished ranges that it knows, what it has read from cells, what it keeps aside for cells, how many words of the store
--- were taken by it and by those before it, how many words the store has room for, and which words have a range that was staged since the
--- last Committed, with where it starts
+-- were taken by it and by those before it, how many words the store has room for, which words have a range that was staged since the
+-- last Committed, with where it starts, and the cell whose read stopped the run, if one did
 pub record Sight (O : Type 0) : Type 0 where
   pub origin : O
   pub setting : Setting
@@ -26,10 +26,15 @@ pub record Sight (O : Type 0) : Type 0 where
   pub taken : ℕ
   pub room : ℕ
   pub staged : Staged
+  pub halted : Option ℕ
 
 -- the cell was read
 abbrev pub WasRead : {O : Type 0} → Sight O → ℕ → Type 0
 WasRead s c = (v : ℕ) × Has (c, v) s.reads
+
+-- the cell was asked for: it was read, or its read stopped the run
+abbrev pub WasAsked : {O : Type 0} → Sight O → ℕ → Type 0
+WasAsked s c = WasRead s c ⊎ (s.halted ≡ Some c)
 
 -- a value is kept aside for the cell
 abbrev pub WasWritten : {O : Type 0} → Sight O → ℕ → Type 0
@@ -91,6 +96,14 @@ pub record Onward {O : Type 0} (old new : Sight O) : Type 0 where
   pub taken : old.taken ≤ new.taken
   pub staged : StaysStaged old.staged new.staged
 
+-- no cell was asked for but those that were before, and those of which this is so
+pub record ReadsWithin {O : Type 0} (such : ℕ → Type 0) (old new : Sight O) : Type 0 where
+  pub asked : (c : ℕ) → WasAsked new c → WasAsked old c ⊎ such c
+
+-- and none at all
+pub record ReadsNothing {O : Type 0} (old new : Sight O) : Type 0 where
+  pub asked : (c : ℕ) → WasAsked new c → WasAsked old c
+
 -- at most so many words of the store were taken
 abbrev pub TakesAtMost : {O : Type 0} → ℕ → Sight O → Sight O → Type 0
 TakesAtMost count old new = new.taken ≤ old.taken + count
@@ -121,6 +134,7 @@ pub record Writes {O : Type 0} (cell v : ℕ) (old new : Sight O) : Type 0 where
   pub taken : new.taken ≡ old.taken
   pub writes : (c : ℕ) → written c new.writes ≡ (if c == cell then Some v else written c old.writes)
   pub staged : new.staged ≡ old.staged
+  pub halted : new.halted ≡ old.halted
 
 -- the words had this range: it is taken again, and no word of the store
 pub record TakesAgain {O : Type 0} (start : ℕ) (range : Place) (old new : Sight O) : Type 0 where

@@ -5,7 +5,7 @@ ghost use Rattle.library.specs.declared.library.Ranked.{Ranked};
 ghost use Rattle.ranges.specs.Ranges.{Names};
 ghost use Rattle.cells.specs.State.{State};
 ghost use Rattle.cells.specs.Slots.{cell_count, is_ranged};
-ghost use Rattle.cells.specs.Sight.{Sight, WasRead, Suits, Looks, Reads, Writes, Stages, Knows};
+ghost use Rattle.cells.specs.Sight.{Sight, WasRead, Suits, Looks, Reads, Writes, Stages, Knows, ReadsWithin, ReadsNothing};
 
 use ranges::Range;
 
@@ -37,7 +37,8 @@ pub trait Cells {
     fn read(&mut self, cell: usize) -> Result<u64, Self::Stop>
         requires { cell < cell_count (sight self.old).setting.slots }
         ensures ok { IfOk result (λ v. Reads cell v (sight self.old) (sight self.new)) }
-        ensures err { IfErr result (λ _. Looks (sight self.old) (sight self.new)) };
+        ensures err { IfErr result (λ _. Looks (sight self.old) (sight self.new)) }
+        ensures reads { ReadsWithin (λ c. c ≡ cell) (sight self.old) (sight self.new) };
 
     /// Keeps a value aside for a cell that was read, in a run that may. It takes no memory.
     fn write(&mut self, cell: usize, value: u64)
@@ -51,7 +52,8 @@ pub trait Cells {
     fn load(&mut self, range: Range, index: usize) -> u64
         requires { (words : List ℕ) × Knows (sight self.old) range words × (index < range.len) }
         ensures looks { Looks (sight self.old) (sight self.new) }
-        ensures word { (words : List ℕ) → Knows (sight self.old) range words → slice_get words index ≡ Some result };
+        ensures word { (words : List ℕ) → Knows (sight self.old) range words → slice_get words index ≡ Some result }
+        ensures reads { ReadsNothing (sight self.old) (sight self.new) };
 
     /// A finished range with these words, of which there is at least one, in a run that may stage.
     ///
@@ -62,7 +64,8 @@ pub trait Cells {
         requires may { (sight self.old).may_stage ≡ true }
         requires some { words.now ≢ [] }
         ensures ok { IfOk result (λ range. Stages words.now range (sight self.old) (sight self.new)) }
-        ensures err { IfErr result (λ _. Looks (sight self.old) (sight self.new)) };
+        ensures err { IfErr result (λ _. Looks (sight self.old) (sight self.new)) }
+        ensures reads { ReadsNothing (sight self.old) (sight self.new) };
 
     // all that was read agrees with some state that shows a library that verifies
     ghost grounded: { (x : Self) → ∥ ((st : State) × (lib : List Ranked) × Suits (sight x) st lib) ∥₁ };

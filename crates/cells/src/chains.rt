@@ -1,7 +1,8 @@
 //! Puts slots into the chains of label buckets, and takes them out.
 
 ghost use Rattle.std.specs.Prelude.{◌≡◌, ◌<◌, true, IfOk};
-ghost use Rattle.cells.specs.Sight.{Sight, Onward, TakesAtMost};
+ghost use Rattle.cells.specs.Sight.{Sight, Onward, TakesAtMost, ReadsWithin};
+ghost use Rattle.cells.specs.Footprints.{ReadsWhere, IsOfTakingOut};
 ghost use Rattle.cells.specs.Chains.{PutsIn, TakesOut, GoesToFront};
 ghost use Rattle.cells.specs.Aside.{KeepsAside, IsOfFront, KeepsLeaving};
 
@@ -21,6 +22,7 @@ pub fn put_in<C: Cells>(cells: &mut C, slot: usize, label: &[u8]) -> Result<(), 
     ensures taken { TakesAtMost 0 (C.sight cells.old) (C.sight cells.new) }
     ensures front { IfOk result (λ _. GoesToFront slot label.now (C.sight cells.old) (C.sight cells.new)) }
     ensures keeps { IfOk result (λ _. KeepsAside (IsOfFront (C.sight cells.old).setting.slots slot label.now) (C.sight cells.old) (C.sight cells.new)) }
+    ensures reads { ReadsWithin (IsOfFront (C.sight cells.old).setting.slots slot label.now) (C.sight cells.old) (C.sight cells.new) }
 {
     let slots = slot_count(cells);
     let front = bucket_cell(slots, bucket(label, slots));
@@ -43,6 +45,7 @@ pub fn take_out<C: Cells>(cells: &mut C, slot: usize, label: &[u8]) -> Result<()
     ensures ok { IfOk result (λ _. TakesOut slot label.now (C.sight cells.old) (C.sight cells.new)) }
     ensures taken { TakesAtMost 0 (C.sight cells.old) (C.sight cells.new) }
     ensures keeps { IfOk result (λ _. KeepsLeaving slot (C.sight cells.old) (C.sight cells.new)) }
+    ensures reads { ReadsWhere (IsOfTakingOut (C.sight cells.old).setting.slots slot label.now) (C.sight cells.old) (C.sight cells.new) }
 {
     let slots = slot_count(cells);
     let next = cells.read(next_cell(slots, slot))?;

@@ -1,7 +1,7 @@
 //! Counts the citers of the assertions that a proof cites.
 
 ghost use Rattle.std.specs.Prelude.{◌≡◌, ◌<◌, true, All, IfOk};
-ghost use Rattle.cells.specs.Sight.{Sight, Onward, TakesAtMost};
+ghost use Rattle.cells.specs.Sight.{Sight, Onward, TakesAtMost, ReadsWithin};
 ghost use Rattle.cells.specs.Filling.{AreCitedSlots, CountsAnyIn, CountsAnyOut, AreOnlyIn};
 ghost use Rattle.std.specs.List.Sorted.{IsStrictlyIncreasing};
 ghost use Rattle.cells.specs.Aside.{KeepsAside, IsCitersOf};
@@ -61,6 +61,7 @@ pub fn count_in<C: Cells>(cells: &mut C, cited: &[usize]) -> Result<(), C::Stop>
     ensures ok { IfOk result (λ _. CountsAnyIn cited.now (C.sight cells.old) (C.sight cells.new)) }
     ensures taken { TakesAtMost 0 (C.sight cells.old) (C.sight cells.new) }
     ensures keeps { IfOk result (λ _. KeepsAside (IsCitersOf cited.now) (C.sight cells.old) (C.sight cells.new)) }
+    ensures reads { ReadsWithin (IsCitersOf cited.now) (C.sight cells.old) (C.sight cells.new) }
 {
     let _slots = slot_count(cells);
     for slot in cited {
@@ -81,6 +82,7 @@ pub fn count_out<C: Cells>(cells: &mut C, cited: &[usize]) -> Result<(), C::Stop
     ensures ok { IfOk result (λ _. CountsAnyOut cited.now (C.sight cells.old) (C.sight cells.new)) }
     ensures taken { TakesAtMost 0 (C.sight cells.old) (C.sight cells.new) }
     ensures keeps { IfOk result (λ _. KeepsAside (IsCitersOf cited.now) (C.sight cells.old) (C.sight cells.new)) }
+    ensures reads { ReadsWithin (IsCitersOf cited.now) (C.sight cells.old) (C.sight cells.new) }
 {
     let slots = slot_count(cells);
     for slot in cited {

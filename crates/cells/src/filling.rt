@@ -5,7 +5,7 @@ ghost use Rattle.mmsyntax.specs.declared.statement.Kind.TheVariants.{Theorem};
 ghost use Rattle.bodystore.specs.Bodies.{proof_body};
 ghost use Rattle.cells.specs.State.{State, HasBody, with_value};
 ghost use Rattle.cells.specs.Slots.{cell_count, is_ranged, name_cell, proof_cell};
-ghost use Rattle.cells.specs.Sight.{Sight, WasWritten, ForEachState, Turns, KeepsOthers, Onward, TakesAtMost, after};
+ghost use Rattle.cells.specs.Sight.{Sight, WasWritten, ForEachState, Turns, KeepsOthers, Onward, TakesAtMost, ReadsWithin, after};
 ghost use Rattle.cells.specs.Filling.{bodies_length, FillsAny, IsFillable, LaysAnyDown, LaysProof, Empties};
 ghost use Rattle.cells.specs.Aside.{KeepsAside, IsOfSlot, IsOfFilling};
 
@@ -42,6 +42,7 @@ pub fn fill<C: Cells>(
     ensures written { IfOk result (λ _. WasWritten (C.sight cells.new) (name_cell slot)) }
     ensures taken { TakesAtMost (bodies_length assertion.now steps.now) (C.sight cells.old) (C.sight cells.new) }
     ensures keeps { IfOk result (λ _. KeepsAside (IsOfFilling (C.sight cells.old).setting.slots slot assertion.now.label steps.now) (C.sight cells.old) (C.sight cells.new)) }
+    ensures reads { ReadsWithin (IsOfFilling (C.sight cells.old).setting.slots slot assertion.now.label steps.now) (C.sight cells.old) (C.sight cells.new) }
 {
     lay_down(alloc, cells, slot, rank, assertion, steps)?;
     let cited = cited_slots(alloc, steps)?;
@@ -67,6 +68,7 @@ fn lay_down<C: Cells>(
     ensures written { IfOk result (λ _. WasWritten (C.sight cells.new) (name_cell slot)) }
     ensures taken { TakesAtMost (bodies_length assertion.now steps.now) (C.sight cells.old) (C.sight cells.new) }
     ensures keeps { IfOk result (λ _. KeepsAside (IsOfSlot slot) (C.sight cells.old) (C.sight cells.new)) }
+    ensures reads { ReadsWithin (IsOfSlot slot) (C.sight cells.old) (C.sight cells.new) }
 {
     let _slots = slot_count(cells);
     let label = encode_label(alloc, assertion.label.as_slice())?;
@@ -94,6 +96,7 @@ fn put_proof<C: Cells>(
     ensures others { IfOk result (λ _. KeepsOthers (proof_cell slot) (C.sight cells.old) (C.sight cells.new)) }
     ensures taken { TakesAtMost (length (proof_body steps.now)) (C.sight cells.old) (C.sight cells.new) }
     ensures keeps { IfOk result (λ _. KeepsAside (λ c. c ≡ proof_cell slot) (C.sight cells.old) (C.sight cells.new)) }
+    ensures reads { ReadsWithin (λ c. c ≡ proof_cell slot) (C.sight cells.old) (C.sight cells.new) }
 {
     let _slots = slot_count(cells);
     match kind {
@@ -115,6 +118,7 @@ pub fn put<C: Cells>(cells: &mut C, cell: usize, value: u64) -> Result<(), C::St
     ensures written { IfOk result (λ _. WasWritten (C.sight cells.new) cell) }
     ensures taken { TakesAtMost 0 (C.sight cells.old) (C.sight cells.new) }
     ensures keeps { IfOk result (λ _. KeepsAside (λ c. c ≡ cell) (C.sight cells.old) (C.sight cells.new)) }
+    ensures reads { ReadsWithin (λ c. c ≡ cell) (C.sight cells.old) (C.sight cells.new) }
 {
     cells.read(cell)?;
     cells.write(cell, value);
@@ -132,6 +136,7 @@ pub fn put_body<C: Cells>(cells: &mut C, cell: usize, words: &[u64]) -> Result<(
     ensures written { IfOk result (λ _. WasWritten (C.sight cells.new) cell) }
     ensures taken { TakesAtMost (length words.now) (C.sight cells.old) (C.sight cells.new) }
     ensures keeps { IfOk result (λ _. KeepsAside (λ c. c ≡ cell) (C.sight cells.old) (C.sight cells.new)) }
+    ensures reads { ReadsWithin (λ c. c ≡ cell) (C.sight cells.old) (C.sight cells.new) }
 {
     let range = cells.stage(words)?;
     cells.read(cell)?;
@@ -152,6 +157,7 @@ pub fn vacate<C: Cells>(cells: &mut C, slot: usize) -> Result<(), C::Stop>
     ensures written { IfOk result (λ _. WasWritten (C.sight cells.new) (name_cell slot)) }
     ensures taken { TakesAtMost 0 (C.sight cells.old) (C.sight cells.new) }
     ensures keeps { IfOk result (λ _. KeepsAside (IsOfSlot slot) (C.sight cells.old) (C.sight cells.new)) }
+    ensures reads { ReadsWithin (IsOfSlot slot) (C.sight cells.old) (C.sight cells.new) }
 {
     let _slots = slot_count(cells);
     for part in 0..5 {

@@ -1,7 +1,9 @@
 //! Looks for labels, for those that clash with one, and for empty slots.
 
-ghost use Rattle.std.specs.Prelude.{◌<◌, IfOk};
-ghost use Rattle.cells.specs.Sight.{Sight, Looks};
+ghost use Rattle.std.specs.Prelude.{◌≡◌, ◌<◌, IfOk};
+ghost use Rattle.cells.specs.Sight.{Sight, Looks, ReadsWithin};
+ghost use Rattle.cells.specs.Slots.{name_cell, hash};
+ghost use Rattle.cells.specs.Footprints.{ReadsWhere, IsAlong, IsOfLook, IsOfTrunk, IsOfClash, IsOfRound};
 ghost use Rattle.cells.specs.Lookups.{Finds, FindsFree, TellsLabel, TellsClash};
 ghost use Rattle.cells.specs.Clashing.{TellsDotted, TellsTrunk, TellsNumbered};
 
@@ -15,6 +17,7 @@ pub(crate) fn has_label<C: Cells>(cells: &mut C, slot: usize, label: &[u8]) -> R
     requires { slot < (C.sight cells.old).setting.slots }
     ensures looks { Looks (C.sight cells.old) (C.sight cells.new) }
     ensures ok { IfOk result (λ b. TellsLabel (C.sight cells.new) slot label.now b) }
+    ensures reads { ReadsWithin (λ c. c ≡ name_cell slot) (C.sight cells.old) (C.sight cells.new) }
 {
     let _slots = slot_count(cells);
     let word = cells.read(name_cell(slot))?;
@@ -36,6 +39,7 @@ pub(crate) fn has_label<C: Cells>(cells: &mut C, slot: usize, label: &[u8]) -> R
 pub fn find<C: Cells>(cells: &mut C, label: &[u8]) -> Result<Option<usize>, C::Stop>
     ensures looks { Looks (C.sight cells.old) (C.sight cells.new) }
     ensures ok { IfOk result (λ slot. Finds (C.sight cells.new) label.now slot) }
+    ensures reads { ReadsWhere (IsOfLook (C.sight cells.old).setting.slots label.now) (C.sight cells.old) (C.sight cells.new) }
 {
     let slots = slot_count(cells);
     let mut word = cells.read(bucket_cell(slots, bucket(label, slots)))?;
@@ -63,6 +67,7 @@ pub fn find<C: Cells>(cells: &mut C, label: &[u8]) -> Result<Option<usize>, C::S
 pub fn has_clash<C: Cells>(cells: &mut C, own: &[u8], label: &[u8]) -> Result<bool, C::Stop>
     ensures looks { Looks (C.sight cells.old) (C.sight cells.new) }
     ensures ok { IfOk result (λ b. TellsClash (C.sight cells.new) own.now label.now b) }
+    ensures reads { ReadsWhere (IsOfClash (C.sight cells.old).setting.slots own.now label.now) (C.sight cells.old) (C.sight cells.new) }
 {
     if has_trunk(cells, own, label)? {
         return Ok(true);
@@ -74,6 +79,7 @@ pub fn has_clash<C: Cells>(cells: &mut C, own: &[u8], label: &[u8]) -> Result<bo
 fn has_trunk<C: Cells>(cells: &mut C, own: &[u8], label: &[u8]) -> Result<bool, C::Stop>
     ensures looks { Looks (C.sight cells.old) (C.sight cells.new) }
     ensures ok { IfOk result (λ b. TellsTrunk (C.sight cells.new) own.now label.now b) }
+    ensures reads { ReadsWhere (IsOfTrunk (C.sight cells.old).setting.slots own.now label.now) (C.sight cells.old) (C.sight cells.new) }
 {
     let front = trunk(label);
     if front == label || front == own {
@@ -86,6 +92,7 @@ fn has_trunk<C: Cells>(cells: &mut C, own: &[u8], label: &[u8]) -> Result<bool, 
 fn has_numbered<C: Cells>(cells: &mut C, own: &[u8], label: &[u8]) -> Result<bool, C::Stop>
     ensures looks { Looks (C.sight cells.old) (C.sight cells.new) }
     ensures ok { IfOk result (λ b. TellsNumbered (C.sight cells.new) own.now label.now b) }
+    ensures reads { ReadsWhere (IsAlong (C.sight cells.old).setting.slots (hash (C.sight cells.old).setting.slots label.now)) (C.sight cells.old) (C.sight cells.new) }
 {
     let slots = slot_count(cells);
     let mut word = cells.read(bucket_cell(slots, hash(label, slots)))?;
@@ -111,6 +118,7 @@ fn has_dotted_label<C: Cells>(
     requires { slot < (C.sight cells.old).setting.slots }
     ensures looks { Looks (C.sight cells.old) (C.sight cells.new) }
     ensures ok { IfOk result (λ b. TellsDotted (C.sight cells.new) slot own.now label.now b) }
+    ensures reads { ReadsWithin (λ c. c ≡ name_cell slot) (C.sight cells.old) (C.sight cells.new) }
 {
     let _slots = slot_count(cells);
     let word = cells.read(name_cell(slot))?;
@@ -135,6 +143,7 @@ pub fn free_slot<C: Cells>(cells: &mut C, from: usize) -> Result<Option<usize>, 
     requires { from < (C.sight cells.old).setting.slots }
     ensures looks { Looks (C.sight cells.old) (C.sight cells.new) }
     ensures ok { IfOk result (λ slot. FindsFree (C.sight cells.new) from slot) }
+    ensures reads { ReadsWhere (IsOfRound (C.sight cells.old).setting.slots from) (C.sight cells.old) (C.sight cells.new) }
 {
     let slots = slot_count(cells);
     for steps in 0..slots {

@@ -1,12 +1,14 @@
 //! Reads an assertion back from its slot.
 
-ghost use Rattle.std.specs.Prelude.{◌≡◌, ◌<◌, IfOk, Some, true, length, take};
+ghost use Rattle.std.specs.Prelude.{◌≡◌, ◌<◌, ◌⊎◌, IfOk, Some, true, length, take};
 ghost use Rattle.mmframes.specs.Frames.{frame};
 ghost use Rattle.library.specs.Library.{label_of};
 ghost use Rattle.library.specs.Edits.{citers};
 ghost use Rattle.bodystore.specs.Bodies.{kind_word, statement_of};
 ghost use Rattle.std.specs.Option.{option_map};
-ghost use Rattle.cells.specs.Sight.{Looks};
+ghost use Rattle.cells.specs.Sight.{Looks, ReadsWithin};
+ghost use Rattle.cells.specs.Slots.{name_cell, statement_cell, proof_cell, rank_cell, citers_cell};
+ghost use Rattle.cells.specs.Footprints.{ReadsWhere, IsOfProof, IsOfAssertion, IsOfStep, IsOfResolving, IsNameCited};
 ghost use Rattle.cells.specs.Lookups.{ForEachHeld, IfFull, IsNameAt, AreStepsAt, IsStepOf, AreStepsOf, StoresStep, Resolves};
 
 use crate::again::{Hints, number_of};
@@ -30,6 +32,7 @@ pub fn citers<C: Cells>(cells: &mut C, slot: usize) -> Result<u64, C::Stop>
     requires { slot < (C.sight cells.old).setting.slots }
     ensures looks { Looks (C.sight cells.old) (C.sight cells.new) }
     ensures ok { IfOk result (λ n. ForEachHeld (C.sight cells.new) slot (λ st lib e. n ≡ citers lib (label_of e))) }
+    ensures reads { ReadsWithin (λ c. c ≡ citers_cell slot) (C.sight cells.old) (C.sight cells.new) }
 {
     let _slots = slot_count(cells);
     cells.read(citers_cell(slot))
@@ -44,6 +47,7 @@ pub fn is_full<C: Cells>(cells: &mut C, slot: usize) -> Result<bool, C::Stop>
     requires { slot < (C.sight cells.old).setting.slots }
     ensures looks { Looks (C.sight cells.old) (C.sight cells.new) }
     ensures ok { IfOk result (λ b. IfFull (C.sight cells.new) slot b) }
+    ensures reads { ReadsWithin (λ c. c ≡ name_cell slot) (C.sight cells.old) (C.sight cells.new) }
 {
     let _slots = slot_count(cells);
     Ok(cells.read(name_cell(slot))? != 0)
@@ -58,6 +62,7 @@ pub fn kind<C: Cells>(cells: &mut C, slot: usize) -> Result<Kind, C::Stop>
     requires { slot < (C.sight cells.old).setting.slots }
     ensures looks { Looks (C.sight cells.old) (C.sight cells.new) }
     ensures ok { IfOk result (λ made. ForEachHeld (C.sight cells.new) slot (λ st lib e. made ≡ e.assertion.kind)) }
+    ensures reads { ReadsWithin (λ c. c ≡ statement_cell slot) (C.sight cells.old) (C.sight cells.new) }
 {
     let _slots = slot_count(cells);
     Ok(kind_of(first_word(cells, statement_cell(slot))?))
@@ -82,6 +87,7 @@ pub fn rank<C: Cells>(cells: &mut C, slot: usize) -> Result<u32, C::Stop>
     requires { slot < (C.sight cells.old).setting.slots }
     ensures looks { Looks (C.sight cells.old) (C.sight cells.new) }
     ensures ok { IfOk result (λ n. ForEachHeld (C.sight cells.new) slot (λ st lib e. n ≡ e.rank)) }
+    ensures reads { ReadsWithin (λ c. c ≡ rank_cell slot) (C.sight cells.old) (C.sight cells.new) }
 {
     let _slots = slot_count(cells);
     Ok((cells.read(rank_cell(slot))? & 0xffff_ffff) as u32)
@@ -96,6 +102,7 @@ pub fn label<C: Cells>(alloc: Global, cells: &mut C, slot: usize) -> Result<Labe
     requires { slot < (C.sight cells.old).setting.slots }
     ensures looks { Looks (C.sight cells.old) (C.sight cells.new) }
     ensures ok { IfOk result (λ made. ForEachHeld (C.sight cells.new) slot (λ st lib e. made ≡ label_of e)) }
+    ensures reads { ReadsWithin (λ c. c ≡ name_cell slot) (C.sight cells.old) (C.sight cells.new) }
 {
     name_of(alloc, cells, slot)
 }
@@ -105,6 +112,7 @@ fn name_of<C: Cells>(alloc: Global, cells: &mut C, slot: usize) -> Result<Label,
     requires { slot < (C.sight cells.old).setting.slots }
     ensures looks { Looks (C.sight cells.old) (C.sight cells.new) }
     ensures ok { IfOk result (λ made. IsNameAt (C.sight cells.new) slot made) }
+    ensures reads { ReadsWithin (λ c. c ≡ name_cell slot) (C.sight cells.old) (C.sight cells.new) }
 {
     let _slots = slot_count(cells);
     let words = words_of(alloc, cells, name_cell(slot))?;
@@ -120,6 +128,7 @@ pub fn statement<C: Cells>(
     requires { slot < (C.sight cells.old).setting.slots }
     ensures looks { Looks (C.sight cells.old) (C.sight cells.new) }
     ensures ok { IfOk result (λ made. ForEachHeld (C.sight cells.new) slot (λ st lib e. made ≡ statement_of e.assertion)) }
+    ensures reads { ReadsWithin (λ c. c ≡ statement_cell slot) (C.sight cells.old) (C.sight cells.new) }
 {
     let _slots = slot_count(cells);
     let words = words_of(alloc, cells, statement_cell(slot))?;
@@ -135,6 +144,7 @@ pub fn stored_proof<C: Cells>(
     requires { slot < (C.sight cells.old).setting.slots }
     ensures looks { Looks (C.sight cells.old) (C.sight cells.new) }
     ensures ok { IfOk result (λ made. AreStepsAt (C.sight cells.new) slot made.items) }
+    ensures reads { ReadsWithin (λ c. c ≡ proof_cell slot) (C.sight cells.old) (C.sight cells.new) }
 {
     let _slots = slot_count(cells);
     let words = words_of(alloc, cells, proof_cell(slot))?;
@@ -150,6 +160,7 @@ pub fn proof<C: Cells>(
     requires { slot < (C.sight cells.old).setting.slots }
     ensures looks { Looks (C.sight cells.old) (C.sight cells.new) }
     ensures ok { IfOk result (λ made. ForEachHeld (C.sight cells.new) slot (λ st lib e. made ≡ e.assertion.proof)) }
+    ensures reads { ForEachHeld (C.sight cells.new) slot (λ st lib e. ReadsWithin (IsOfProof (C.sight cells.old).setting.slots slot e.assertion.proof st) (C.sight cells.old) (C.sight cells.new)) }
 {
     let kept = stored_proof(alloc, cells, slot)?;
     let slots = slot_count(cells);
@@ -187,6 +198,7 @@ fn named_again<C: Cells>(
     requires steps { AreStepsOf slots (C.sight cells.old) kept.now steps.now }
     ensures looks { Looks (C.sight cells.old) (C.sight cells.new) }
     ensures ok { IfOk result (λ made. IsStepOf slots (C.sight cells.new) step made) }
+    ensures reads { ReadsWithin (IsNameCited step) (C.sight cells.old) (C.sight cells.new) }
 {
     if hint < steps.len() && hint < kept.len() && kept[hint] == step {
         return Ok(steps[hint].copy(alloc)?);
@@ -204,6 +216,7 @@ fn named_step<C: Cells>(
     requires { slots ≡ (C.sight cells.old).setting.slots }
     ensures looks { Looks (C.sight cells.old) (C.sight cells.new) }
     ensures ok { IfOk result (λ made. IsStepOf slots (C.sight cells.new) step made) }
+    ensures reads { ReadsWithin (IsNameCited step) (C.sight cells.old) (C.sight cells.new) }
 {
     match step {
         StoredStep::Float(place) => Ok(Step::Float(place)),
@@ -224,6 +237,7 @@ pub fn assertion<C: Cells>(
     requires { slot < (C.sight cells.old).setting.slots }
     ensures looks { Looks (C.sight cells.old) (C.sight cells.new) }
     ensures ok { IfOk result (λ made. ForEachHeld (C.sight cells.new) slot (λ st lib e. made ≡ e.assertion)) }
+    ensures reads { ForEachHeld (C.sight cells.new) slot (λ st lib e. ReadsWithin (IsOfAssertion (C.sight cells.old).setting.slots slot e.assertion.proof st) (C.sight cells.old) (C.sight cells.new)) }
 {
     let label = label(alloc, cells, slot)?;
     let statement = statement(alloc, cells, slot)?;
@@ -236,6 +250,7 @@ pub fn entry<C: Cells>(alloc: Global, cells: &mut C, slot: usize) -> Result<Rank
     requires { slot < (C.sight cells.old).setting.slots }
     ensures looks { Looks (C.sight cells.old) (C.sight cells.new) }
     ensures ok { IfOk result (λ made. ForEachHeld (C.sight cells.new) slot (λ st lib e. made ≡ e)) }
+    ensures reads { ForEachHeld (C.sight cells.new) slot (λ st lib e. ReadsWithin (λ c. (c ≡ rank_cell slot) ⊎ IsOfAssertion (C.sight cells.old).setting.slots slot e.assertion.proof st c) (C.sight cells.old) (C.sight cells.new)) }
 {
     let assertion = assertion(alloc, cells, slot)?;
     let rank = rank(cells, slot).map_err(Halt::Stopped)?;
@@ -252,6 +267,7 @@ pub fn frame<C: Cells>(
     requires { slot < (C.sight cells.old).setting.slots }
     ensures looks { Looks (C.sight cells.old) (C.sight cells.new) }
     ensures ok { IfOk result (λ made. ForEachHeld (C.sight cells.new) slot (λ st lib e. made ≡ frame prelude.now e.assertion)) }
+    ensures reads { ReadsWithin (λ c. c ≡ statement_cell slot) (C.sight cells.old) (C.sight cells.new) }
 {
     let statement = statement(alloc, cells, slot)?;
     let bare = statement.into_assertion(Label::new(alloc), Sequence::from_vec(Vec::new(alloc)));
@@ -266,6 +282,7 @@ pub fn resolve<C: Cells>(
 ) -> Result<Option<Vec<StoredStep>>, Halt<C::Stop>>
     ensures looks { Looks (C.sight cells.old) (C.sight cells.new) }
     ensures ok { IfOk result (λ kept. Resolves (C.sight cells.new) steps.now (option_map (λ v. v.items) kept)) }
+    ensures reads { ReadsWhere (IsOfResolving (C.sight cells.old).setting.slots steps.now) (C.sight cells.old) (C.sight cells.new) }
 {
     let mut kept = Vec::with_capacity(alloc, steps.len())?;
     let mut hints = Hints::new();
@@ -312,6 +329,7 @@ fn stored_again<C: Cells>(
     requires { Resolves (C.sight cells.old) (take (length kept.now) steps.now) (Some kept.now) }
     ensures looks { Looks (C.sight cells.old) (C.sight cells.new) }
     ensures ok { IfOk result (λ stored. StoresStep (C.sight cells.new) step.now stored) }
+    ensures reads { ReadsWhere (IsOfStep (C.sight cells.old).setting.slots step.now) (C.sight cells.old) (C.sight cells.new) }
 {
     if hint < kept.len() && hint < steps.len() && cite_the_same(&steps[hint], step) {
         return Ok(Some(kept[hint]));
@@ -324,6 +342,7 @@ fn stored_again<C: Cells>(
 fn stored_step<C: Cells>(cells: &mut C, step: &Step) -> Result<Option<StoredStep>, C::Stop>
     ensures looks { Looks (C.sight cells.old) (C.sight cells.new) }
     ensures ok { IfOk result (λ kept. StoresStep (C.sight cells.new) step.now kept) }
+    ensures reads { ReadsWhere (IsOfStep (C.sight cells.old).setting.slots step.now) (C.sight cells.old) (C.sight cells.new) }
 {
     let _slots = slot_count(cells);
     match step {

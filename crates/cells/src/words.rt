@@ -4,7 +4,7 @@ ghost use Rattle.std.specs.Prelude.{◌≡◌, ◌≢◌, ◌<◌, ◌+◌, ◌*
 ghost use Rattle.mmsyntax.specs.Dotted.{hypothesis_numbered, is_dotted};
 ghost use Rattle.ranges.specs.Ranges.{Names};
 ghost use Rattle.cells.specs.Slots.{cell_count, is_ranged};
-ghost use Rattle.cells.specs.Sight.{Sight, Looks, Knows, ForEachState};
+ghost use Rattle.cells.specs.Sight.{Sight, Looks, Knows, ForEachState, ReadsWithin, ReadsNothing};
 ghost use Rattle.cells.specs.Lookups.{AreWordsOf, IsFirstWordOf};
 
 use crate::cells::Cells;
@@ -34,6 +34,7 @@ pub(crate) fn has_words<C: Cells>(cells: &mut C, range: Range, text: &[u8]) -> b
     requires { (words : List ℕ) × Knows (C.sight cells.old) range words }
     ensures looks { Looks (C.sight cells.old) (C.sight cells.new) }
     ensures same { (words : List ℕ) → Knows (C.sight cells.old) range words → (IsTrue result ↔ words ≡ text.now) }
+    ensures reads { ReadsNothing (C.sight cells.old) (C.sight cells.new) }
 {
     if range.len != text.len() {
         return false;
@@ -47,6 +48,7 @@ fn begins_with<C: Cells>(cells: &mut C, range: Range, text: &[u8]) -> bool
     requires long { length text.now ≤ range.len }
     ensures looks { Looks (C.sight cells.old) (C.sight cells.new) }
     ensures same { (words : List ℕ) → Knows (C.sight cells.old) range words → (IsTrue result ↔ take (length text.now) words ≡ text.now) }
+    ensures reads { ReadsNothing (C.sight cells.old) (C.sight cells.new) }
 {
     for (index, byte) in text.iter().enumerate() {
         if cells.load(range, index) != *byte as u64 {
@@ -62,6 +64,7 @@ pub(crate) fn has_dotted<C: Cells>(cells: &mut C, range: Range, label: &[u8]) ->
     requires { (words : List ℕ) × Knows (C.sight cells.old) range words }
     ensures looks { Looks (C.sight cells.old) (C.sight cells.new) }
     ensures same { (words : List ℕ) → Knows (C.sight cells.old) range words → result ≡ is_dotted label.now words }
+    ensures reads { ReadsNothing (C.sight cells.old) (C.sight cells.new) }
 {
     if label.is_empty() || range.len < label.len() {
         return false;
@@ -75,6 +78,7 @@ fn is_numbered<C: Cells>(cells: &mut C, range: Range, front: usize) -> bool
     requires long { front ≤ range.len }
     ensures looks { Looks (C.sight cells.old) (C.sight cells.new) }
     ensures same { (words : List ℕ) → Knows (C.sight cells.old) range words → result ≡ is_some (hypothesis_numbered [] (drop front words)) }
+    ensures reads { ReadsNothing (C.sight cells.old) (C.sight cells.new) }
 {
     let mut tail = [0; LONGEST_TAIL];
     let count = range.len - front;
@@ -100,6 +104,7 @@ fn range_words<C: Cells>(alloc: Global, cells: &mut C, range: Range) -> Result<V
     requires { (words : List ℕ) × Knows (C.sight cells.old) range words }
     ensures looks { Looks (C.sight cells.old) (C.sight cells.new) }
     ensures ok { IfOk result (λ made. (words : List ℕ) → Knows (C.sight cells.old) range words → made.items ≡ words) }
+    ensures reads { ReadsNothing (C.sight cells.old) (C.sight cells.new) }
 {
     let mut words = Vec::with_capacity(alloc, range.len)?;
     for index in 0..range.len {
@@ -118,6 +123,7 @@ pub(crate) fn words_of<C: Cells>(
     requires ranged { is_ranged (C.sight cells.old).setting.slots cell ≡ true }
     ensures looks { Looks (C.sight cells.old) (C.sight cells.new) }
     ensures ok { IfOk result (λ made. ForEachState (C.sight cells.new) (λ st. AreWordsOf st cell made.items)) }
+    ensures reads { ReadsWithin (λ c. c ≡ cell) (C.sight cells.old) (C.sight cells.new) }
 {
     let word = cells.read(cell).map_err(Halt::Stopped)?;
     if word == 0 {
@@ -133,6 +139,7 @@ pub(crate) fn first_word<C: Cells>(cells: &mut C, cell: usize) -> Result<u64, C:
     requires ranged { is_ranged (C.sight cells.old).setting.slots cell ≡ true }
     ensures looks { Looks (C.sight cells.old) (C.sight cells.new) }
     ensures ok { IfOk result (λ first. IsFirstWordOf (C.sight cells.new) cell first) }
+    ensures reads { ReadsWithin (λ c. c ≡ cell) (C.sight cells.old) (C.sight cells.new) }
 {
     let word = cells.read(cell)?;
     if word == 0 {

@@ -26,3 +26,4 @@ pub mod Allowed
 pub mod Recited
 pub mod Replaced
 pub mod Taking
+pub mod MoveReads

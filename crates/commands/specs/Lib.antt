@@ -6,3 +6,4 @@ pub mod Listing
 pub mod Looking
 pub mod Replacing
 pub mod Takes
+pub mod Footprints

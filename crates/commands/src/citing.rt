@@ -2,8 +2,9 @@
 
 ghost use Rattle.std.specs.Prelude.{◌≡◌, ◌<◌, IfOk, IfErr, OnOk};
 ghost use Rattle.mmsyntax.specs.declared.statement.Kind.TheVariants.{Theorem};
-ghost use Rattle.cells.specs.Sight.{Looks};
+ghost use Rattle.cells.specs.Sight.{Looks, ReadsWithin};
 ghost use Rattle.cells.specs.Lookups.{AreWithin};
+ghost use Rattle.commands.specs.Footprints.{IsRankOfSteps};
 ghost use Rattle.commands.specs.Citing.{TellsNotBelow, TellsFrames, NotesFrame, TellsFault, Passes, TellsRefusal, frames_in};
 
 use bodystore::StoredStep;
@@ -56,6 +57,7 @@ pub(crate) fn cites_not_below<C: Cells>(
 ) -> Result<bool, C::Stop>
     ensures looks { Looks (C.sight cells.old) (C.sight cells.new) }
     ensures ok { IfOk result (λ b. TellsNotBelow (C.sight cells.new) limit steps.now b) }
+    ensures reads { ReadsWithin (IsRankOfSteps steps.now) (C.sight cells.old) (C.sight cells.new) }
 {
     let slots = slot_count(cells);
     for step in steps {

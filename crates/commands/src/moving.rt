@@ -2,9 +2,12 @@
 
 ghost use Rattle.std.specs.Prelude.{◌≡◌, ◌<◌, true, IfOk};
 ghost use Rattle.library.specs.declared.command.Command.TheVariants as command;
-ghost use Rattle.cells.specs.Sight.{Onward, Looks};
+ghost use Rattle.cells.specs.Sight.{Onward, Looks, ReadsWithin};
 ghost use Rattle.cells.specs.Answers.{CommandAnswers};
 ghost use Rattle.commands.specs.Citing.{TellsCites, TellsCitedUpTo};
+ghost use Rattle.cells.specs.Slots.{proof_cell};
+ghost use Rattle.cells.specs.Lookups.{ForEachHeld};
+ghost use Rattle.commands.specs.Footprints.{IsOfRise, MoveReads};
 ghost use Rattle.commands.specs.Takes.{TakesBodies};
 ghost use Rattle.commands.specs.Touches.{KeepsTo};
 
@@ -29,6 +32,7 @@ pub(crate) fn move_to<C: Cells>(
     ensures answers { CommandAnswers (C.sight cells.old) (C.sight cells.new) (command.Move label.now rank) result }
     ensures taken { TakesBodies (command.Move label.now rank) (C.sight cells.old) (C.sight cells.new) }
     ensures keeps { IfOk result (λ _. KeepsTo (C.sight cells.old) (C.sight cells.new) (command.Move label.now rank)) }
+    ensures reads { MoveReads label.now rank (C.sight cells.old) (C.sight cells.new) }
 {
     let Some(slot) = find(cells, label.as_slice()).map_err(Halt::Stopped)? else {
         return Err(Reason::UnknownLabel.into());
@@ -61,6 +65,7 @@ fn is_cited_up_to<C: Cells>(
     requires { slot < (C.sight cells.old).setting.slots }
     ensures looks { Looks (C.sight cells.old) (C.sight cells.new) }
     ensures ok { IfOk result (λ b. TellsCitedUpTo (C.sight cells.new) slot limit b) }
+    ensures reads { ForEachHeld (C.sight cells.new) slot (λ st lib e. ReadsWithin (IsOfRise (C.sight cells.old).setting.slots st lib slot e limit) (C.sight cells.old) (C.sight cells.new)) }
 {
     let current = rank(cells, slot).map_err(Halt::Stopped)?;
     if limit <= current || citers(cells, slot).map_err(Halt::Stopped)? == 0 {
@@ -87,6 +92,7 @@ fn cites_slot<C: Cells>(
     requires cited { cited < (C.sight cells.old).setting.slots }
     ensures looks { Looks (C.sight cells.old) (C.sight cells.new) }
     ensures ok { IfOk result (λ b. TellsCites (C.sight cells.new) citing cited b) }
+    ensures reads { ReadsWithin (λ c. c ≡ proof_cell citing) (C.sight cells.old) (C.sight cells.new) }
 {
     let kept = stored_proof(alloc, cells, citing)?;
     Ok(kept.contains(&StoredStep::Slot(cited as u32)))

@@ -1,5 +1,5 @@
 -- Which transactions on the cells of a library are lawful: those that do what their notes say, to every library that the cells may show.
-use Rattle.std.specs.Prelude.{◌≡◌, ℕ, List, [], Ok, Err, All, length, slice_index, true, false}
+use Rattle.std.specs.Prelude.{◌≡◌, ℕ, List, [], Ok, Err, None, All, length, slice_index, true, false}
 use Rattle.std.specs.FinMap.{empty}
 use Rattle.library.specs.declared.library.Ranked.{Ranked}
 use Rattle.library.specs.declared.command.Command.{Command}
@@ -79,6 +79,7 @@ sight_of g ranges reads writes =
       taken = 0;
       room = most_words;
       staged = empty;
+      halted = None;
     }
 
 -- the transaction with these reads, writes and note is lawful for these ranges

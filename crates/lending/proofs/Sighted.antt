@@ -22,7 +22,7 @@ use Rattle.tlwords.specs.Calls.{HasRead, HasStopped, HasLoaded, HasStaged, IsRef
 use Rattle.bodystore.specs.Stages.{Staged, range_at}
 use Rattle.bodystore.proofs.Staging.{found_is_staged}
 use Rattle.cells.specs.State.{value_or}
-use Rattle.cells.specs.Sight.{StaysStaged, Onward, Looks, Reads, Writes, Stages}
+use Rattle.cells.specs.Sight.{StaysStaged, Onward, Looks, Reads, Writes, Stages, WasAsked, ReadsWithin, ReadsNothing}
 use Rattle.cells.proofs.Sights.{onward_refl, looks_refl}
 use Rattle.lawful.specs.declared.notes.Given.{Given}
 use Rattle.lawful.specs.declared.notes.Note.{Note}
@@ -70,6 +70,12 @@ loads_look l r h =
     subst (λ (x : Going Given Note). Looks (sight_of l) (sight_of (record l { going = x }))) (sym h.is)
     (later_looks l r.known.seen k.looked k.full k.added l.going.over l.full h.grows)
 
+-- and no cell was read
+pub loads_nothing : (l : Lending) (r : Going Given Note) → HasLoaded library_terms l.going r
+    → ReadsNothing (sight_of l) (sight_of (record l { going = r }))
+loads_nothing l r h =
+    subst (λ (x : Going Given Note). ReadsNothing (sight_of l) (sight_of (record l { going = x }))) (sym h.is) (record { asked = λ c was. was })
+
 -- a read met a conflict
 pub stops_look : (l : Lending) (cell : ℕ) (met : Conflict) (r : Going Given Note) → HasStopped library_terms cell met l.going r
     → Looks (sight_of l) (sight_of (record l { going = r }))
@@ -77,6 +83,20 @@ stops_look l cell met r h =
     let k = l.going.known in
     subst (λ (x : Going Given Note). Looks (sight_of l) (sight_of (record l { going = x }))) (sym h.is)
     (later_looks l r.known.seen (Some (cell, met.word)) k.full k.added (Some met) l.full h.grows)
+
+-- and no cell was asked for but its own
+pub stops_within : (l : Lending) (cell : ℕ) (met : Conflict) (r : Going Given Note) → HasStopped library_terms cell met l.going r
+    → ReadsWithin (λ c. c ≡ cell) (sight_of l) (sight_of (record l { going = r }))
+stops_within l cell met r h =
+    subst (λ (x : Going Given Note). ReadsWithin (λ c. c ≡ cell) (sight_of l) (sight_of (record l { going = x }))) (sym h.is)
+    (record { asked = either })
+  where
+    stopped : Lending
+    stopped = later l r.known.seen (Some (cell, met.word)) l.going.known.full l.going.known.taken l.going.known.added (Some met) l.full
+
+    either : (c : ℕ) → WasAsked (sight_of stopped) c → WasAsked (sight_of l) c ⊎ (c ≡ cell)
+    either c (inl read) = inl (inl read)
+    either c (inr is) = inr (let same : met.cell ≡ c = cc in sym same ∙ h.cell_is)
 
 -- a staging was refused
 pub refused_look : (l : Lending) (count : ℕ) (r : Going Given Note) → IsRefused library_terms count l.going r
@@ -87,6 +107,16 @@ refused_look l count r (inr (tail, h)) =
     let k = l.going.known in
     subst (λ (x : Going Given Note). Looks (sight_of l) (sight_of (record l { going = x; full = true }))) (sym h.is)
     (later_looks l r.known.seen k.looked (Some (tail, count)) (min count (k.home.room + 1)) l.going.over true h.grows)
+
+-- and no cell was read
+pub refused_nothing : (l : Lending) (count : ℕ) (r : Going Given Note) → IsRefused library_terms count l.going r
+    → ReadsNothing (sight_of l) (sight_of (record l { going = r; full = true }))
+refused_nothing l count r (inl (p, e, same)) =
+    subst (λ (x : Going Given Note). ReadsNothing (sight_of l) (sight_of (record l { going = x; full = true }))) (sym same)
+    (record { asked = λ c was. was })
+refused_nothing l count r (inr (tail, h)) =
+    subst (λ (x : Going Given Note). ReadsNothing (sight_of l) (sight_of (record l { going = x; full = true }))) (sym h.is)
+    (record { asked = λ c was. was })
 
 -- ---- words are staged
 
@@ -147,6 +177,13 @@ stages_sight l words range r next made h none ok err len =
       again = λ start e. absurd (let clash : Some start ≡ None = sym e ∙ none in cc);
       anew = λ e. record { taken = refl; staged = stays.1 };
     })
+
+-- and no cell is read
+pub stages_nothing : (l : Lending) (words : List ℕ) (start : ℕ) (r : Going Given Note) (next : Staged) → HasStaged library_terms words start l.going r
+    → ReadsNothing (sight_of l) (sight_of (record l { going = r; staged = next }))
+stages_nothing l words start r next h =
+    subst (λ (x : Going Given Note). ReadsNothing (sight_of l) (sight_of (record l { going = x; staged = next }))) (sym h.is)
+    (record { asked = λ c was. was })
 
 -- words that were staged are taken again
 pub again_sight : (l : Lending) (stage : Staged) (over : Option Conflict) → IsLent l stage over → (words : List ℕ) (range : Place)
@@ -234,6 +271,17 @@ module _ (l : Lending) (stage : Staged) (over : Option Conflict) (i : IsLent l s
     reads_sight unkept =
         subst (λ (x : Going Given Note). Reads cell value (sight_of l) (sight_of (record l { going = x }))) (sym h.is) (reads_now unkept)
 
+    -- and no other
+    pub reads_within : ReadsWithin (λ c. c ≡ cell) (sight_of l) (sight_of (record l { going = r }))
+    reads_within =
+        subst (λ (x : Going Given Note). ReadsWithin (λ c. c ≡ cell) (sight_of l) (sight_of (record l { going = x }))) (sym h.is)
+        (record { asked = either })
+      where
+        either : (c : ℕ) → WasAsked (sight_of now) c → WasAsked (sight_of l) c ⊎ (c ≡ cell)
+        either c (inl (v, inl here)) = inr (ap (λ (p : ℕ × ℕ). p.0) here)
+        either c (inl (v, inr before)) = inl (inl (v, before))
+        either c (inr stopped) = inl (inr stopped)
+
 -- ---- a value is kept aside for a cell
 
 kept_sight : (l : Lending) (cell value : ℕ) (slots : List Slot) → HasKept l.going.slots slots cell value
@@ -250,6 +298,7 @@ kept_sight l cell value slots k =
       taken = refl;
       writes = written_now;
       staged = refl;
+      halted = refl;
     }
   where
     written_now : (c : ℕ) → written c (writes_kept slots) ≡ (if c == cell then Some value else written c (writes_kept l.going.slots))

@@ -1,7 +1,8 @@
 -- Of the code's inside, apart from the rules: a run on a library's words as commands see it, and what is so of it at all times.
-use Rattle.std.specs.Prelude.{◌≡◌, ℕ, ◌/◌, ◌≤◌, Bool, true, false, is_some, Option, Some, None, List, [], ◌∷◌, length, ◌+◌}
+use Rattle.std.specs.Prelude.{◌≡◌, ℕ, ◌/◌, ◌≤◌, Bool, true, false, is_some, Option, Some, None, List, [], ◌∷◌, length}
 use Rattle.std.specs.Coded.{Coded, coded_ℕ, coded_list}
 use Rattle.std.specs.FinMap as map
+use Rattle.std.specs.Option.{option_map}
 use Rattle.tlcore.specs.History.{WasWritten}
 use Rattle.ranges.specs.Ranges.{Has, Names}
 use Rattle.ranges.specs.Pairs.{Pairs, written}
@@ -67,6 +68,7 @@ sight_of l =
       taken = l.going.known.taken;
       room = l.going.known.home.room;
       staged = l.staged;
+      halted = option_map (λ (k : Conflict). k.cell) l.going.over;
     }
 
 -- some state that shows a library that verifies agrees with all that the run has seen

@@ -1,5 +1,5 @@
 -- What plain cells have seen: their calls, and the state that they began with.
-use Rattle.std.proofs.Common.{◌≡◌, ℕ, List, [], ◌∷◌, ◌++◌, length, get_or, set, inl, inr, refl, sym, ap, subst, ◌∙◌, arith, true, length-append}
+use Rattle.std.proofs.Common.{◌≡◌, ℕ, List, [], ◌∷◌, ◌++◌, length, get_or, set, inl, inr, ⊎_elim, refl, sym, ap, subst, ◌∙◌, arith, true, length-append}
 use Rattle.std.specs.Prelude.{◌<◌, ◌≤◌, ◌⊎◌, Bool, false, if◌then◌else◌, Some, slice_get}
 use mathlib.Core.Logic.{∥∥₁_map}
 use Rattle.std.specs.Cmp.Lexicographic.{slice_cmp}
@@ -15,8 +15,9 @@ use Rattle.ranges.specs.declared.range.Range.{Range as Place}
 use Rattle.ranges.proofs.Grown.{within_refl}
 use Rattle.cells.specs.State.{FitsReads, most_words}
 use Rattle.cells.specs.Slots.{is_ranged}
-use Rattle.cells.specs.Sight.{WasRead, Matches, Reads, Writes, Stages}
+use Rattle.cells.specs.Sight.{WasRead, Matches, Reads, Writes, Stages, WasAsked, ReadsWithin}
 use Rattle.plaincells.specs.Plain.{undone, read_at_first, ranges_in, plain_sight, plain_state, behind, ShowsSome, BeganWithSome, LieInStore, HoldNames, names, IsLogOf}
+use Rattle.ranges.proofs.Members.{has_append_cases}
 use Rattle.plaincells.proofs.Logs.{logged_push, has_front, has_last, undone_read, undone_write, read_at_first-push, fits_front, fits_first}
 use Rattle.plaincells.proofs.Numbered.{value_kept, written_set, slice_get-set_same, slice_get-set_other}
 use Rattle.plaincells.proofs.Stores.{of_one_store, within_staged, has_staged, hold_more, names_true, true_names}
@@ -74,6 +75,14 @@ pub logged_either : (count : ℕ) (log log' : Pairs) (cell v : ℕ) (ok : Bool) 
 logged_either count log log' cell v ok l lt made =
     either_way (IsLogOf count) ok (log ++ (cell, v) ∷ []) log log' made (logged_push count log (cell, v) l lt) l
 
+-- the cell comes behind those that were read
+read_logged : (values : List ℕ) (log : Pairs) (cell v : ℕ) → v ≡ get_or values cell 0
+    → read_at_first (undone values (log ++ (cell, v) ∷ [])) (log ++ (cell, v) ∷ [])
+    ≡ read_at_first (undone values log) log ++ (cell, get_or (undone values log) cell 0) ∷ []
+read_logged values log cell v e =
+    ap (λ xs. read_at_first xs (log ++ (cell, v) ∷ [])) (undone_logged values log (log ++ (cell, v) ∷ []) cell v true e refl)
+    ∙ read_at_first-push (undone values log) log (cell, v)
+
 pub plain_reads : (s : Setting) (room : ℕ) (values : List ℕ) (log : Pairs) (store : List ℕ) (places : List Place) (cell v : ℕ)
     → cell < length values → v ≡ get_or values cell 0 → HoldNames s.slots values (ranges_in store places)
     → Reads cell v (plain_sight s room values log store places) (plain_sight s room values (log ++ (cell, v) ∷ []) store places)
@@ -105,11 +114,27 @@ plain_reads s room values log store places cell v lt e hold =
     base : List ℕ
     base = undone values log
 
-    entry : ℕ × ℕ
-    entry = (cell, v)
+    more : read_at_first (undone values (log ++ (cell, v) ∷ [])) (log ++ (cell, v) ∷ []) ≡ read_at_first base log ++ (cell, get_or base cell 0) ∷ []
+    more = read_logged values log cell v e
 
-    more : read_at_first (undone values (log ++ entry ∷ [])) (log ++ entry ∷ []) ≡ read_at_first base log ++ (cell, get_or base cell 0) ∷ []
-    more = ap (λ xs. read_at_first xs (log ++ entry ∷ [])) (undone_logged values log (log ++ entry ∷ []) cell v true e refl) ∙ read_at_first-push base log entry
+-- and no other
+pub plain_asks : (s : Setting) (room : ℕ) (values : List ℕ) (log : Pairs) (store : List ℕ) (places : List Place) (cell v : ℕ)
+    → v ≡ get_or values cell 0
+    → ReadsWithin (λ c. c ≡ cell) (plain_sight s room values log store places) (plain_sight s room values (log ++ (cell, v) ∷ []) store places)
+plain_asks s room values log store places cell v e = record { asked = either }
+  where
+    base : List ℕ
+    base = undone values log
+
+    either : (c : ℕ) → WasAsked (plain_sight s room values (log ++ (cell, v) ∷ []) store places) c
+        → WasAsked (plain_sight s room values log store places) c ⊎ (c ≡ cell)
+    either c (inl read) =
+        elim (has_append_cases (read_at_first base log) ((cell, get_or base cell 0) ∷ []) (c, read.0)
+        (subst (Has (c, read.0)) (read_logged values log cell v e) read.1)) [
+          | inl before ↦ inl (inl (read.0, before))
+          | inr last ↦ inr (⊎_elim (λ here. ap (λ (p : ℕ × ℕ). p.0) here) (λ none. absurd none) last)
+        ]
+    either c (inr never) = absurd (cc never)
 
 -- ---- a cell is written
 
@@ -133,6 +158,7 @@ plain_writes s room values log store places cell v lt read =
       taken = refl;
       writes = λ c. written_set values cell v c lt;
       staged = refl;
+      halted = refl;
     }
 
 -- a word that names a range may stand in the cell

@@ -1,5 +1,5 @@
 -- Of the code's inside, apart from the rules: cells on plain vectors: what they hold at all times, and what their run has seen.
-use Rattle.std.specs.Prelude.{◌≡◌, ◌≢◌, ◌<◌, ◌≤◌, ℕ, suc, ◌+◌, ◌/◌, ◌%◌, ◌^◌, ◌||◌, ◌==◌, Bool, true, if◌then◌else◌, List, [], ◌∷◌, ◌++◌, length, map, take, drop, slice_get, slice_set, slice_index, Some}
+use Rattle.std.specs.Prelude.{◌≡◌, ◌≢◌, ◌<◌, ◌≤◌, ℕ, suc, ◌+◌, ◌/◌, ◌%◌, ◌^◌, ◌||◌, ◌==◌, Bool, true, if◌then◌else◌, List, [], ◌∷◌, ◌++◌, length, map, take, drop, slice_get, slice_set, slice_index, Some, None}
 use Rattle.std.specs.List.{list_any}
 use Rattle.std.specs.FinMap.{empty}
 use Rattle.library.specs.declared.library.Ranked.{Ranked}
@@ -43,7 +43,8 @@ abbrev pub with_place : Bool → List Place → Place → List Place
 with_place put places place = if put then places ++ place ∷ [] else places
 
 -- what the run has seen: it may do all; it knows all ranges; it has read the cells of its log; it keeps aside all values as they are now; and the words
--- that were taken are those of the store. It notes nothing of what is staged
+-- that were taken are those of the store. It notes nothing of what is staged, and no
+-- read stops it but for want of memory, which it doesn't note
 abbrev pub plain_sight : Setting → ℕ → List ℕ → Pairs → List ℕ → List Place → Sight (Unit {0})
 plain_sight setting room values log store places =
     record {
@@ -57,6 +58,7 @@ plain_sight setting room values log store places =
       taken = length store;
       room = room;
       staged = empty;
+      halted = None;
     }
 
 -- the state of these values and ranges

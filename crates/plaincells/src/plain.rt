@@ -1,7 +1,7 @@
 //! Cells and a store on plain vectors, for one thread.
 
 ghost use Rattle.std.specs.Prelude.{◌≡◌, ◌≢◌, ◌≤◌, ◌<◌, ◌*◌, ◌+◌, ◌++◌, ◌↔◌, [], ◌∷◌, length, slice_index, is_ok, true, if◌then◌else◌, IfOk, IfErr, IsErrOf, IsOkUnless};
-ghost use Rattle.cells.specs.Sight.{Looks, Reads, Stages};
+ghost use Rattle.cells.specs.Sight.{Looks, Reads, Stages, ReadsWithin, ReadsNothing};
 ghost use Rattle.cells.specs.Slots.{cell_count};
 ghost use Rattle.plaincells.specs.Plain.{undone, ranges_in, ShowsSome, BeganWithSome, HoldNames, LieInStore, IsLogOf, AreNamedBy, behind, with_place};
 
@@ -267,6 +267,7 @@ impl Cells for PlainCells {
         requires { cell < cell_count (sight_of self.old).setting.slots }
         ensures ok { IfOk result (λ v. Reads cell v (sight_of self.old) (sight_of self.new)) }
         ensures err { IfErr result (λ _. Looks (sight_of self.old) (sight_of self.new)) }
+        ensures reads { ReadsWithin (λ c. c ≡ cell) (sight_of self.old) (sight_of self.new) }
         ensures memory { IsOkUnless result PlainStop.NoMemory }
     {
         let value = self.values[cell];
@@ -290,6 +291,7 @@ impl Cells for PlainCells {
         requires some { words.now ≢ [] }
         ensures ok { IfOk result (λ range. Stages words.now range (sight_of self.old) (sight_of self.new)) }
         ensures err { IfErr result (λ _. Looks (sight_of self.old) (sight_of self.new)) }
+        ensures reads { ReadsNothing (sight_of self.old) (sight_of self.new) }
         ensures full { IsErrOf result PlainStop.StoreFull ↔ (self.old.room < length self.old.store.items + length words.now) }
     {
         if words.len() > self.room - self.store.len() {

@@ -4,6 +4,7 @@ use Rattle.cells.specs.State.{State}
 use Rattle.cells.proofs.Sights.{onward_trans, writes_onward, looks_trans, matches_back, after_looks}
 use Rattle.cells.specs.Aside.{IsOfFront}
 use Rattle.cells.proofs.Keeping.{keeps_trans, keeps_wider, keeps_put, keeps_written}
+use Rattle.cells.proofs.Asking.{nothing_trans, nothing_written, asks_cell, asks_trans, asks_still}
 use Rattle.cells.proofs.Walking.{in_front, puts_front}
 use Rattle.cells.proofs.chains.put_in.Goals as goal
 
@@ -70,3 +71,27 @@ returns-clause-keeps g c =
     (keeps_wider (λ k. k ≡ c.next_cell-2.result) such s0 s3 (λ k is. inr (omega (arith, is, c.next_cell-2.ensures, slots_are))) link)
     (keeps_wider (λ k. k ≡ c.bucket_cell-front.result) such s3 s4
     (λ k is. inl (omega (arith, is, c.bucket_cell-front.ensures, slots_are, bucket_is))) front)
+
+pub returns-in_err-first-clause-reads : goal.returns-in_err-first-clause-reads
+returns-in_err-first-clause-reads g c =
+    let slots_are = c.slot_count-slots.ensures.value in
+    let bucket_is : c.bucket.result ≡ bucket (g.C.Cells.sight c.args.cells.now).setting.slots c.args.label.now =
+    c.bucket.ensures.value ∙ ap (λ (n : ℕ). bucket n c.args.label.now) slots_are in
+    asks_cell (inl (omega (arith, c.bucket_cell-front.ensures, slots_are, bucket_is))) c.read.ensures.reads
+
+pub returns-in_err-read-clause-reads : goal.returns-in_err-read-clause-reads
+returns-in_err-read-clause-reads g c =
+    let slots_are = c.slot_count-slots.ensures.value in
+    let bucket_is : c.bucket.result ≡ bucket (g.C.Cells.sight c.args.cells.now).setting.slots c.args.label.now =
+    c.bucket.ensures.value ∙ ap (λ (n : ℕ). bucket n c.args.label.now) slots_are in
+    asks_trans (asks_cell (inl (omega (arith, c.bucket_cell-front.ensures, slots_are, bucket_is))) c.read.ensures.reads)
+    (asks_cell (inr (omega (arith, c.next_cell.ensures, slots_are))) c.read-2.ensures.reads)
+
+pub returns-clause-reads : goal.returns-clause-reads
+returns-clause-reads g c =
+    let slots_are = c.slot_count-slots.ensures.value in
+    let bucket_is : c.bucket.result ≡ bucket (g.C.Cells.sight c.args.cells.now).setting.slots c.args.label.now =
+    c.bucket.ensures.value ∙ ap (λ (n : ℕ). bucket n c.args.label.now) slots_are in
+    asks_still (asks_trans (asks_cell (inl (omega (arith, c.bucket_cell-front.ensures, slots_are, bucket_is))) c.read.ensures.reads)
+    (asks_cell (inr (omega (arith, c.next_cell.ensures, slots_are))) c.read-2.ensures.reads))
+    (nothing_trans (nothing_written c.write.ensures) (nothing_written c.write-2.ensures))

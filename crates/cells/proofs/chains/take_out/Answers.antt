@@ -6,6 +6,10 @@ use Rattle.cells.specs.Sight.{WasRead, after}
 use Rattle.cells.proofs.Sights.{onward_trans, writes_onward, looks_trans, matches_back, after_looks}
 use Rattle.cells.specs.Aside.{IsOfLeaving}
 use Rattle.cells.proofs.Keeping.{keeps_same, keeps_trans, keeps_wider, keeps_written}
+use Rattle.cells.specs.Footprints.{IsOnChain}
+use Rattle.cells.proofs.Asking.{nothing_trans, nothing_written}
+use Rattle.cells.proofs.Along.{where_same, where_more, where_still}
+use Rattle.cells.proofs.AskingSteps.{member_of}
 use Rattle.cells.proofs.Linking.{bucket_within, has_bucket}
 use Rattle.cells.proofs.Unlinking.{leading}
 use Rattle.cells.proofs.Walking.{Walks, walk_begins, walk_goes, walk_found, walk_on, walk_ends, taken_out}
@@ -22,6 +26,8 @@ loop-init g c =
     (arith, slots_are, c.bucket.ensures.value, ap (λ (n : ℕ). bucket n c.args.label.now) slots_are)) in
     record {
       looks = c.in_ok-next.ensures.ok.looks;
+      reads = where_more (where_same old) c.in_ok-next.ensures.ok.looks.onward c.read.ensures.reads (λ st m k is. inl (is ∙ link));
+      stands = λ st m. inl front;
       low = omega (arith, c.bucket_cell-before.ensures, slots_are);
       high = omega (arith, c.bucket_cell-before.ensures, slots_are, c.bucket.ensures.within);
       read = subst (WasRead (g.C.Cells.sight c.read.new.self)) link c.in_ok-next.ensures.ok.read;
@@ -104,6 +110,18 @@ loop-preserved g c =
     omega (arith, c.next_cell-before.ensures, slots_are) in
     record {
       looks = both;
+      reads = where_more c.loop.invariant.reads read.looks.onward c.read-in-loop.ensures.reads
+          (λ st m k is. inr (subst (λ (n : ℕ). IsOnChain old.setting.slots (bucket old.setting.slots c.args.label.now) (after old st) n) (sym is)
+          (c.loop.invariant.stands st m)));
+      stands = λ st m.
+          let word_is = sym (read.value st m ∙ ap (λ (x : State). x.value c.loop.before) (after_looks _ _ st both)) in
+          inr (
+            c.in-Some.member,
+            member_of old.setting.slots (bucket old.setting.slots c.args.label.now) c.loop.before c.in-Some.member (after old st)
+                (c.loop.invariant.stands st (matches_back _ _ st read.looks.onward m)) (subst (λ (n : ℕ). c.in-Some.member < n) slots_are found.0)
+                (word_is ∙ found.1),
+            link,
+          );
       low = omega (arith, link);
       high = omega (arith, link, found.0, slots_are);
       read = read.looks.onward.read _ c.loop.invariant.read;
@@ -162,3 +180,35 @@ pub returns-clause-keeps : goal.returns-clause-keeps
 returns-clause-keeps g c st m =
     let old = g.C.Cells.sight c.args.cells.now in
     keeps_same (IsOfLeaving old.setting.slots (after old st) c.args.slot) old (g.C.Cells.sight c.loop.cells) c.loop.invariant.looks.writes
+
+pub returns-in_err-next-clause-reads : goal.returns-in_err-next-clause-reads
+returns-in_err-next-clause-reads g c =
+    let old = g.C.Cells.sight c.args.cells.now in
+    where_more (where_same old) c.in_err-next.ensures.err.onward c.read.ensures.reads
+    (λ st m k is. inl (omega (arith, is, c.next_cell.ensures, c.slot_count-slots.ensures.value)))
+
+pub returns-in_err-word-clause-reads : goal.returns-in_err-word-clause-reads
+returns-in_err-word-clause-reads g c =
+    let old = g.C.Cells.sight c.args.cells.now in
+    where_more c.loop.invariant.reads c.in_err-word.ensures.err.onward c.read-in-loop.ensures.reads
+    (λ st m k is. inr (subst (λ (n : ℕ). IsOnChain old.setting.slots (bucket old.setting.slots c.args.label.now) (after old st) n) (sym is)
+    (c.loop.invariant.stands st m)))
+
+pub returns-in_default-clause-reads : goal.returns-in_default-clause-reads
+returns-in_default-clause-reads g c =
+    let old = g.C.Cells.sight c.args.cells.now in
+    where_more c.loop.invariant.reads c.in_ok-word.ensures.ok.looks.onward c.read-in-loop.ensures.reads
+    (λ st m k is. inr (subst (λ (n : ℕ). IsOnChain old.setting.slots (bucket old.setting.slots c.args.label.now) (after old st) n) (sym is)
+    (c.loop.invariant.stands st m)))
+
+pub returns-then-member-slot-clause-reads : goal.returns-then-member-slot-clause-reads
+returns-then-member-slot-clause-reads g c =
+    let old = g.C.Cells.sight c.args.cells.now in
+    where_still (where_more c.loop.invariant.reads c.in_ok-word.ensures.ok.looks.onward c.read-in-loop.ensures.reads
+    (λ st m k is. inr (subst (λ (n : ℕ). IsOnChain old.setting.slots (bucket old.setting.slots c.args.label.now) (after old st) n) (sym is)
+    (c.loop.invariant.stands st m))))
+    (onward_trans _ _ _ (writes_onward _ _ _ _ c.write.ensures) (writes_onward _ _ _ _ c.write-then-member-slot.ensures))
+    (nothing_trans (nothing_written c.write.ensures) (nothing_written c.write-then-member-slot.ensures))
+
+pub returns-clause-reads : goal.returns-clause-reads
+returns-clause-reads g c = c.loop.invariant.reads

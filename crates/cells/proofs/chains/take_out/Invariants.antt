@@ -7,6 +7,7 @@ use Rattle.cells.specs.State.{State}
 use Rattle.cells.specs.Slots.{bucket_cell, next_cell, cell_count, bucket}
 use Rattle.cells.specs.Shows.{Held, slots_of, AreChained}
 use Rattle.cells.specs.Sight.{Matches, Looks, WasRead, after}
+use Rattle.cells.specs.Footprints.{ReadsWhere, IsOnChain, IsOfTakingOut}
 use Rattle.cells.proofs.Unlinking.{leading}
 use Rattle.cells.proofs.Walking.{Walks}
 use Rattle.cells.proofs.chains.take_out.Given as goal
@@ -19,6 +20,8 @@ invariant-loop g l =
     let slots = (g.C.Cells.sight l.fn.cells).setting.slots in
     record {
       looks : Looks old now;
+      reads : ReadsWhere (IsOfTakingOut slots l.slot l.label) old now;
+      stands : (st : State) → Matches now st → IsOnChain slots (bucket slots l.label) (after old st) l.before;
       low : 5 * slots ≤ l.before;
       high : l.before < cell_count slots;
       read : WasRead now (next_cell slots l.slot);

@@ -4,11 +4,17 @@ use Rattle.cells.specs.Sight.{after}
 use Rattle.cells.proofs.Sights.{onward_trans, writes_onward, matches_back}
 use Rattle.cells.specs.Aside.{IsCitersOf}
 use Rattle.cells.proofs.Keeping.{keeps_trans}
-use Rattle.cells.proofs.Counting.{Changes, one_more, changes_more, count_made, counts_in, keeps_counted}
+use Rattle.cells.proofs.Asking.{nothing_same, nothing_written, asks_trans}
+use Rattle.cells.proofs.Counting.{Changes, one_more, changes_more, count_made, counts_in, keeps_counted, asks_counted}
 use Rattle.cells.proofs.counts.count_in.Goals as goal
 
 pub returns-in_err-count-clause-onward : goal.returns-in_err-count-clause-onward
 returns-in_err-count-clause-onward g c = onward_trans _ _ _ c.loop-slot.invariant.onward c.in_err-count.ensures.err.onward
+
+pub returns-in_err-count-clause-reads : goal.returns-in_err-count-clause-reads
+returns-in_err-count-clause-reads g c =
+    asks_trans c.loop-slot.invariant.reads
+    (asks_counted c.args.cited.now c.loop-slot.slot-index _ _ _ _ (omega arith) c.citers_cell.ensures c.read.ensures.reads (nothing_same _))
 
 pub loop-slot-preserved : goal.loop-slot-preserved
 loop-slot-preserved g c =
@@ -25,6 +31,8 @@ loop-slot-preserved g c =
       taken = omega (arith, c.loop-slot.invariant.taken, read.looks.taken, c.write.ensures.taken);
       keeps = keeps_trans (IsCitersOf c.args.cited.now) old now new c.loop-slot.invariant.keeps
           (keeps_counted cited i _ _ now _ new (omega arith) c.citers_cell-in-loop-slot.ensures read.looks c.write.ensures);
+      reads = asks_trans c.loop-slot.invariant.reads
+          (asks_counted cited i _ now _ new (omega arith) c.citers_cell.ensures c.read.ensures.reads (nothing_written c.write.ensures));
       changes = λ st m d.
           let m1 = matches_back _ _ st wrote m in
           let m0 = matches_back _ _ st read.looks.onward m1 in

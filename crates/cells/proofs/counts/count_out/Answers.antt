@@ -2,16 +2,22 @@ use Rattle.std.proofs.Common.{◌<◌, ◌+◌, ℕ, List, All, nat_eq, take, ge
 use Rattle.std.proofs.lemmas.List.{take_all}
 use Rattle.mmsyntax.specs.Assertions.{Distinct}
 use Rattle.cells.specs.State.{State}
-use Rattle.cells.specs.Sight.{Sight, Matches, Onward, TakesAtMost, after}
+use Rattle.cells.specs.Sight.{Sight, Matches, Onward, TakesAtMost, ReadsWithin, after}
 use Rattle.cells.proofs.Sights.{onward_trans, writes_onward, matches_back}
 use Rattle.cells.specs.Aside.{KeepsAside, IsCitersOf}
 use Rattle.cells.proofs.Keeping.{keeps_trans}
-use Rattle.cells.proofs.Counting.{Changes, one_less, changes_more, count_made, counts_out, keeps_counted}
+use Rattle.cells.proofs.Asking.{nothing_same, nothing_written, asks_trans}
+use Rattle.cells.proofs.Counting.{Changes, one_less, changes_more, count_made, counts_out, keeps_counted, asks_counted}
 use Rattle.cells.proofs.counts.count_out.Goals as goal
 use Rattle.cells.proofs.counts.count_out.Goals.{then-slot-slots+in_ok-count, else-slot-slots}
 
 pub returns-in_err-count-clause-onward : goal.returns-in_err-count-clause-onward
 returns-in_err-count-clause-onward g c = onward_trans _ _ _ c.loop-slot.invariant.onward c.in_err-count.ensures.err.onward
+
+pub returns-in_err-count-clause-reads : goal.returns-in_err-count-clause-reads
+returns-in_err-count-clause-reads g c =
+    asks_trans c.loop-slot.invariant.reads
+    (asks_counted c.args.cited.now c.loop-slot.slot-index _ _ _ _ (omega arith) c.citers_cell.ensures c.read.ensures.reads (nothing_same _))
 
 pub loop-slot-preserved : goal.loop-slot-preserved
 loop-slot-preserved g c = elim c.if-slot-slots.branch [
@@ -28,6 +34,9 @@ loop-slot-preserved g c = elim c.if-slot-slots.branch [
         keeps = subst (λ cells. KeepsAside (IsCitersOf cited) old (g.C.Cells.sight cells)) (sym w.cells-is)
             (keeps_trans (IsCitersOf cited) old now new c.loop-slot.invariant.keeps
             (keeps_counted cited i _ _ now _ new (omega arith) w.citers_cell-then-slot-slots.ensures read.looks w.write.ensures));
+        reads = subst (λ cells. ReadsWithin (IsCitersOf cited) old (g.C.Cells.sight cells)) (sym w.cells-is)
+            (asks_trans c.loop-slot.invariant.reads
+            (asks_counted cited i _ now _ new (omega arith) w.citers_cell.ensures w.read.ensures.reads (nothing_written w.write.ensures)));
         changes = subst (Turned (i + 1)) (sym w.cells-is) (λ st m within d.
             let m1 = matches_back _ _ st wrote m in
             let m0 = matches_back _ _ st read.looks.onward m1 in
@@ -41,6 +50,7 @@ loop-slot-preserved g c = elim c.if-slot-slots.branch [
         onward = subst (λ cells. Onward old (g.C.Cells.sight cells)) (sym w.cells-is) c.loop-slot.invariant.onward;
         taken = subst (λ cells. TakesAtMost 0 old (g.C.Cells.sight cells)) (sym w.cells-is) c.loop-slot.invariant.taken;
         keeps = subst (λ cells. KeepsAside (IsCitersOf cited) old (g.C.Cells.sight cells)) (sym w.cells-is) c.loop-slot.invariant.keeps;
+        reads = subst (λ cells. ReadsWithin (IsCitersOf cited) old (g.C.Cells.sight cells)) (sym w.cells-is) c.loop-slot.invariant.reads;
         changes = λ st m within d.
             let lt = within i 0 c.loop-slot-test.true in
             let some = c.slot_count-slots.ensures.value in

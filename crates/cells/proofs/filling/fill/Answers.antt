@@ -11,6 +11,7 @@ use Rattle.cells.specs.Filling.{AreCitedSlots, MayFill, Fills}
 use Rattle.cells.specs.Slots.{name_cell}
 use Rattle.cells.specs.Aside.{KeepsAside, IsOfSlot, IsCitersOf, IsOfFront, IsOfFilling}
 use Rattle.cells.proofs.Keeping.{keeps_trans, keeps_wider}
+use Rattle.cells.proofs.Asking.{asks_wider, asks_more}
 use Rattle.cells.specs.Sight.{Matches, Views, after}
 use Rattle.cells.proofs.Sights.{onward_trans, matches_back}
 use Rattle.ranges.proofs.Members.{all_from_has}
@@ -103,3 +104,23 @@ returns-clause-keeps g c =
     (keeps_wider (IsOfFront s2.setting.slots c.args.slot c.as_slice-2.result.now) such s2 s3
     (λ k is. inr (inl (subst (λ (l : List ℕ). IsOfFront s0.setting.slots c.args.slot l k) c.as_slice-2.ensures
     (subst (λ (s : Setting). IsOfFront s.slots c.args.slot c.as_slice-2.result.now k) setting is)))) front))
+
+pub returns-in_err-lay_down-clause-reads : goal.returns-in_err-lay_down-clause-reads
+returns-in_err-lay_down-clause-reads g c = asks_wider (λ k is. inl is) c.lay_down.ensures.reads
+
+pub returns-in_err-cited-clause-reads : goal.returns-in_err-cited-clause-reads
+returns-in_err-cited-clause-reads g c = asks_wider (λ k is. inl is) c.lay_down.ensures.reads
+
+pub returns-in_err-map_err-clause-reads : goal.returns-in_err-map_err-clause-reads
+returns-in_err-map_err-clause-reads g c =
+    asks_more (asks_wider (λ k is. inl is) c.lay_down.ensures.reads)
+    (λ k is. inr (inr (is.0, c.in_ok-cited.ensures.cited is.0 (subst (Has is.0) c.as_slice.ensures.value is.1), is.2))) c.count_in.ensures.reads
+
+pub returns-clause-reads : goal.returns-clause-reads
+returns-clause-reads g c =
+    let s0 = g.C.Cells.sight c.args.cells.now in
+    asks_more (asks_more (asks_wider (λ k is. inl is) c.lay_down.ensures.reads)
+    (λ k is. inr (inr (is.0, c.in_ok-cited.ensures.cited is.0 (subst (Has is.0) c.as_slice.ensures.value is.1), is.2))) c.count_in.ensures.reads)
+    (λ k is. inr (inl (subst (λ (l : List ℕ). IsOfFront s0.setting.slots c.args.slot l k) c.as_slice-2.ensures
+    (subst (λ (s : Setting). IsOfFront s.slots c.args.slot c.as_slice-2.result.now k)
+    (c.count_in.ensures.onward.setting ∙ c.lay_down.ensures.onward.setting) is)))) c.put_in.ensures.reads

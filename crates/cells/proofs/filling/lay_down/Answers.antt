@@ -1,9 +1,10 @@
 use Rattle.std.proofs.Common.{◌≡◌, ◌<◌, ◌*◌, ◌+◌, ℕ, ap, subst, ◌∙◌, refl, arith}
 use Rattle.cells.specs.Slots.{name_cell}
 use Rattle.cells.specs.State.{State, HasBody, with_value}
-use Rattle.cells.specs.Sight.{Sight, WasWritten, Matches, after}
+use Rattle.cells.specs.Sight.{Sight, WasWritten, Matches, ReadsWithin, after}
 use Rattle.cells.specs.Aside.{KeepsAside, IsOfSlot}
 use Rattle.cells.proofs.Keeping.{keeps_same, keeps_trans, keeps_wider}
+use Rattle.cells.proofs.Asking.{nothing_same, asks_nothing, asks_cell, asks_trans}
 use Rattle.cells.specs.Filling.{LaysDown}
 use Rattle.cells.proofs.Sights.{onward_trans, matches_back}
 use Rattle.cells.proofs.Laying.{if_mapped, ok_mapped, laid_down}
@@ -97,3 +98,38 @@ returns-clause-keeps g c =
     (ok_mapped _ _ _ _ _ c.in_ok-map_err-3.was c.map_err-3.ensures.cases c.put.ensures.keeps) in
     if_mapped _ _ (λ _. KeepsAside (IsOfSlot c.args.slot) s0 s5) _ _ c.map_err-4.ensures.cases c.put-2.ensures.keeps
     (λ _ last. one_more i 4 _ s0 s4 s5 c.citers_cell.ensures (omega arith) ranked last)
+
+-- a cell of the slot is read after others of it
+one_read : {O : Type 0} → {cell : ℕ} → {r s t : Sight O} → (slot part : ℕ) → cell ≡ 5 * slot + part → part < 5 → ReadsWithin (IsOfSlot slot) r s
+    → ReadsWithin (λ c. c ≡ cell) s t → ReadsWithin (IsOfSlot slot) r t
+one_read slot part is few before last = asks_trans before (asks_cell (omega (arith, is), omega (arith, is, few)) last)
+
+pub returns-in_err-map_err-clause-reads : goal.returns-in_err-map_err-clause-reads
+returns-in_err-map_err-clause-reads g c =
+    one_read c.args.slot 0 (c.name_cell.ensures ∙ omega arith) (omega arith) (asks_nothing (nothing_same _)) c.put_body.ensures.reads
+
+pub returns-in_err-statement-clause-reads : goal.returns-in_err-statement-clause-reads
+returns-in_err-statement-clause-reads g c =
+    one_read c.args.slot 0 (c.name_cell.ensures ∙ omega arith) (omega arith) (asks_nothing (nothing_same _)) c.put_body.ensures.reads
+
+pub returns-in_err-map_err-2-clause-reads : goal.returns-in_err-map_err-2-clause-reads
+returns-in_err-map_err-2-clause-reads g c =
+    one_read c.args.slot 1 c.statement_cell.ensures (omega arith) (one_read c.args.slot 0 (c.name_cell.ensures ∙ omega arith) (omega arith) (asks_nothing (nothing_same _)) c.put_body.ensures.reads)
+    c.put_body-2.ensures.reads
+
+pub returns-in_err-put_proof-clause-reads : goal.returns-in_err-put_proof-clause-reads
+returns-in_err-put_proof-clause-reads g c =
+    one_read c.args.slot 2 refl (omega arith) (one_read c.args.slot 1 c.statement_cell.ensures (omega arith) (one_read c.args.slot 0 (c.name_cell.ensures ∙ omega arith) (omega arith) (asks_nothing (nothing_same _)) c.put_body.ensures.reads)
+    c.put_body-2.ensures.reads) c.put_proof.ensures.reads
+
+pub returns-in_err-map_err-3-clause-reads : goal.returns-in_err-map_err-3-clause-reads
+returns-in_err-map_err-3-clause-reads g c =
+    one_read c.args.slot 3 c.rank_cell.ensures (omega arith) (one_read c.args.slot 2 refl (omega arith) (one_read c.args.slot 1 c.statement_cell.ensures (omega arith) (one_read c.args.slot 0 (c.name_cell.ensures ∙ omega arith) (omega arith) (asks_nothing (nothing_same _)) c.put_body.ensures.reads)
+    c.put_body-2.ensures.reads) c.put_proof.ensures.reads)
+    c.put.ensures.reads
+
+pub returns-clause-reads : goal.returns-clause-reads
+returns-clause-reads g c =
+    one_read c.args.slot 4 c.citers_cell.ensures (omega arith) (one_read c.args.slot 3 c.rank_cell.ensures (omega arith) (one_read c.args.slot 2 refl (omega arith) (one_read c.args.slot 1 c.statement_cell.ensures (omega arith) (one_read c.args.slot 0 (c.name_cell.ensures ∙ omega arith) (omega arith) (asks_nothing (nothing_same _)) c.put_body.ensures.reads)
+    c.put_body-2.ensures.reads) c.put_proof.ensures.reads)
+    c.put.ensures.reads) c.put-2.ensures.reads

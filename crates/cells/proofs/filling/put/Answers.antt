@@ -1,5 +1,6 @@
 use Rattle.cells.proofs.Sights.{onward_trans, writes_onward, writes_cell}
 use Rattle.cells.proofs.Keeping.{keeps_put}
+use Rattle.cells.proofs.Asking.{nothing_written, asks_still}
 use Rattle.cells.proofs.filling.put.Goals as goal
 
 pub returns-clause-onward : goal.returns-clause-onward
@@ -12,3 +13,6 @@ pub returns-clause-keeps : goal.returns-clause-keeps
 returns-clause-keeps g c =
     keeps_put _ _ (g.C.Cells.sight c.args.cells.now) (g.C.Cells.sight c.read.new.self) (g.C.Cells.sight c.write.new.self)
     c.in_ok-read.ensures.ok.looks.writes c.write.ensures
+
+pub returns-clause-reads : goal.returns-clause-reads
+returns-clause-reads g c = asks_still c.read.ensures.reads (nothing_written c.write.ensures)

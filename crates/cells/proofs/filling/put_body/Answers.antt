@@ -5,6 +5,7 @@ use Rattle.cells.proofs.Sights.{onward_trans, writes_onward, writes_cell, stages
 use Rattle.cells.proofs.Bodies.{body_known}
 use Rattle.cells.proofs.Staging.{staged_start, staged_len}
 use Rattle.cells.proofs.Keeping.{keeps_put}
+use Rattle.cells.proofs.Asking.{nothing_written, asks_nothing, asks_after, asks_still}
 use Rattle.cells.proofs.Values.{value_there}
 use Rattle.cells.proofs.filling.put_body.Goals as goal
 
@@ -65,3 +66,14 @@ pub returns-clause-keeps : goal.returns-clause-keeps
 returns-clause-keeps g c =
     keeps_put _ _ (g.C.Cells.sight c.args.cells.now) (g.C.Cells.sight c.read.new.self) (g.C.Cells.sight c.write.new.self)
     (c.in_ok-read.ensures.ok.looks.writes ∙ c.in_ok-range.ensures.ok.writes) c.write.ensures
+
+pub returns-in_err-range-clause-reads : goal.returns-in_err-range-clause-reads
+returns-in_err-range-clause-reads g c = asks_nothing c.stage.ensures.reads
+
+pub returns-in_err-read-clause-reads : goal.returns-in_err-read-clause-reads
+returns-in_err-read-clause-reads g c = asks_after c.stage.ensures.reads c.read.ensures.reads
+
+pub returns-clause-reads : goal.returns-clause-reads
+returns-clause-reads g c =
+    asks_after c.stage.ensures.reads
+    (asks_still c.read.ensures.reads (nothing_written c.write.ensures))

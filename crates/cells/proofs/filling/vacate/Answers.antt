@@ -7,6 +7,7 @@ use Rattle.cells.specs.Sight.{Sight, WasWritten, Onward, after}
 use Rattle.cells.proofs.Sights.{onward_refl, onward_trans, writes_onward, writes_cell, after_looks, after_writes}
 use Rattle.cells.specs.Aside.{IsOfSlot}
 use Rattle.cells.proofs.Keeping.{keeps_same, keeps_trans, keeps_wider, keeps_put}
+use Rattle.cells.proofs.Asking.{nothing_same, nothing_written, asks_nothing, asks_cell, asks_trans, asks_still}
 use Rattle.cells.proofs.Values.{value_there, value_elsewhere}
 use Rattle.cells.proofs.filling.vacate.Goals as goal
 
@@ -16,6 +17,7 @@ loop-part-init g c =
       onward = onward_refl (g.C.Cells.sight c.args.cells.now);
       taken = omega arith;
       keeps = keeps_same (IsOfSlot c.args.slot) (g.C.Cells.sight c.args.cells.now) (g.C.Cells.sight c.args.cells.now) refl;
+      reads = asks_nothing (nothing_same _);
       zeros = λ st cell low high. absurd (omega (arith, low, high));
       others = λ st cell out. refl;
       written = λ some. absurd (omega (arith, some));
@@ -31,6 +33,12 @@ read-requires g c =
 
 pub returns-in_err-read-clause-onward : goal.returns-in_err-read-clause-onward
 returns-in_err-read-clause-onward g c = onward_trans _ _ _ c.loop-part.invariant.onward c.in_err-read.ensures.err.onward
+
+pub returns-in_err-read-clause-reads : goal.returns-in_err-read-clause-reads
+returns-in_err-read-clause-reads g c =
+    let at = ap (λ n. n + c.loop-part.part) c.name_cell.ensures in
+    asks_trans c.loop-part.invariant.reads
+    (asks_cell (omega (arith, at), omega (arith, at, c.loop-part-test.true)) c.read.ensures.reads)
 
 pub write-requires-clause-cell : goal.write-requires-clause-cell
 write-requires-clause-cell g c =
@@ -48,6 +56,9 @@ loop-part-preserved g c =
       keeps = keeps_trans (IsOfSlot c.args.slot) (g.C.Cells.sight c.args.cells.now) now new c.loop-part.invariant.keeps
           (keeps_wider (λ k. k ≡ cell) (IsOfSlot c.args.slot) now new (λ k is. (omega (arith, at, is), omega (arith, at, is, c.loop-part-test.true)))
           (keeps_put cell 0 now _ new c.in_ok-read.ensures.ok.looks.writes c.write.ensures));
+      reads = asks_still (asks_trans c.loop-part.invariant.reads
+          (asks_cell (omega (arith, at), omega (arith, at, c.loop-part-test.true)) c.read.ensures.reads))
+          (nothing_written c.write.ensures);
       zeros = λ st other low high. elim (cases_eq other cell) [
         | inl is ↦ ap (λ (x : State). x.value other) (made st) ∙ ap (λ n. (with_value cell 0 (after now st)).value n) is ∙ value_there cell 0 (after now st)
         | inr ne ↦ elsewhere st other ne ∙ c.loop-part.invariant.zeros st other low (omega (arith, at, high, ne))

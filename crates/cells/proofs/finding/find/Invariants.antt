@@ -1,5 +1,8 @@
+use Rattle.cells.specs.Slots.{bucket}
 use Rattle.cells.specs.Sight.{Looks}
+use Rattle.cells.specs.Footprints.{ReadsWhere, IsAlong}
 use Rattle.cells.specs.Lookups.{ForEach}
+use Rattle.cells.proofs.Along.{LeadsOn}
 use Rattle.cells.proofs.Walks.{IsAhead, IsLabelled}
 use Rattle.cells.proofs.finding.find.Given as goal
 
@@ -7,3 +10,5 @@ abbrev pub invariant-loop : goal.invariant-loop
 invariant-loop g l =
     Looks (g.C.Cells.sight l.fn.cells) (g.C.Cells.sight l.cells)
     × ForEach (g.C.Cells.sight l.cells) (λ st lib. IsAhead l.slots (IsLabelled l.label) l.word l.counter st)
+    × LeadsOn l.slots (bucket l.slots l.label) l.word (g.C.Cells.sight l.cells)
+    × ReadsWhere (IsAlong l.slots (bucket l.slots l.label)) (g.C.Cells.sight l.fn.cells) (g.C.Cells.sight l.cells)

@@ -2,6 +2,7 @@ use Rattle.std.proofs.Common.{rules, ◌<◌, ℕ, sym, subst, ◌∙◌}
 use Rattle.cells.specs.Slots.{name_cell}
 use Rattle.cells.specs.Sight.{Reads}
 use Rattle.cells.proofs.Sights.{looks_trans}
+use Rattle.cells.proofs.Asking.{nothing_trans, asks_cell, asks_still}
 use Rattle.cells.proofs.Settings.{same_slots}
 use Rattle.cells.proofs.Bodies.{value_later, knows_later}
 use Rattle.cells.proofs.Clashing.{no_dotted, dotted_but_own}
@@ -51,3 +52,16 @@ returns-clause-ok g c = λ st m.
     (subst (λ (n : ℕ). c.args.slot < n) (sym slots) c.requires)
     (sym (c.has_dotted.ensures.same known.0 known.1) ∙ c.if-not-has_dotted.false)
     (c.has_words.ensures.same known.0 (knows_later _ _ _ _ c.has_dotted.ensures.looks.onward known.1))
+
+pub returns-in_err-word-clause-reads : goal.returns-in_err-word-clause-reads
+returns-in_err-word-clause-reads g c = asks_cell c.name_cell.ensures c.read.ensures.reads
+
+pub returns-then-word-eq0-clause-reads : goal.returns-then-word-eq0-clause-reads
+returns-then-word-eq0-clause-reads g c = asks_cell c.name_cell.ensures c.read.ensures.reads
+
+pub returns-then-not-has_dotted-clause-reads : goal.returns-then-not-has_dotted-clause-reads
+returns-then-not-has_dotted-clause-reads g c = asks_still (asks_cell c.name_cell.ensures c.read.ensures.reads) c.has_dotted.ensures.reads
+
+pub returns-clause-reads : goal.returns-clause-reads
+returns-clause-reads g c =
+    asks_still (asks_cell c.name_cell.ensures c.read.ensures.reads) (nothing_trans c.has_dotted.ensures.reads c.has_words.ensures.reads)

@@ -2,6 +2,7 @@ use Rattle.std.proofs.Common.{rules, ◌≢◌, ◌<◌, ℕ, [], sym, subst}
 use Rattle.cells.specs.Slots.{name_cell}
 use Rattle.cells.specs.Sight.{Reads}
 use Rattle.cells.proofs.Sights.{looks_trans}
+use Rattle.cells.proofs.Asking.{asks_cell, asks_still}
 use Rattle.cells.proofs.Settings.{same_slots}
 use Rattle.cells.proofs.Bodies.{value_later, knows_later, same_words}
 use Rattle.cells.proofs.finding.has_label.Goals as goal
@@ -25,3 +26,12 @@ returns-clause-ok g c = λ st m.
     let iff = c.has_words.ensures.same known.0 known.1 in
     let slots = same_slots old s (looks_trans _ _ _ read.looks looks) in
     (λ yes. record { within = subst (λ (n : ℕ). c.args.slot < n) (sym slots) c.requires; body = same.0 (iff.0 yes) }, λ named. iff.1 (same.1 named.body))
+
+pub returns-in_err-word-clause-reads : goal.returns-in_err-word-clause-reads
+returns-in_err-word-clause-reads g c = asks_cell c.name_cell.ensures c.read.ensures.reads
+
+pub returns-then-word-eq0-clause-reads : goal.returns-then-word-eq0-clause-reads
+returns-then-word-eq0-clause-reads g c = asks_cell c.name_cell.ensures c.read.ensures.reads
+
+pub returns-clause-reads : goal.returns-clause-reads
+returns-clause-reads g c = asks_still (asks_cell c.name_cell.ensures c.read.ensures.reads) c.has_words.ensures.reads

@@ -2,6 +2,7 @@ use Rattle.std.proofs.Common.{◌≡◌, ℕ, sym, subst, ◌∙◌}
 use Rattle.cells.specs.Slots.{name_cell}
 use Rattle.cells.specs.Sight.{after}
 use Rattle.cells.specs.Lookups.{AreWordsOf}
+use Rattle.cells.proofs.Asking.{asks_cell}
 use Rattle.cells.proofs.reading.name_of.Goals as goal
 
 pub returns-clause-ok : goal.returns-clause-ok
@@ -12,3 +13,12 @@ returns-clause-ok g c = λ st label m small named.
     subst (λ (n : ℕ). AreWordsOf (after s st) n words) c.name_cell.ensures (c.in_ok-words.ensures.ok st m) in
     let same : label ≡ words = sym (are.body label named.body) in
     c.in_ok-decode_label.ensures label small (same ∙ sym c.as_slice.ensures.value)
+
+pub returns-in_err-words-clause-reads : goal.returns-in_err-words-clause-reads
+returns-in_err-words-clause-reads g c = asks_cell c.name_cell.ensures c.words_of.ensures.reads
+
+pub returns-in_err-decode_label-clause-reads : goal.returns-in_err-decode_label-clause-reads
+returns-in_err-decode_label-clause-reads g c = asks_cell c.name_cell.ensures c.words_of.ensures.reads
+
+pub returns-clause-reads : goal.returns-clause-reads
+returns-clause-reads g c = asks_cell c.name_cell.ensures c.words_of.ensures.reads

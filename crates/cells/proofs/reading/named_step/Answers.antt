@@ -1,6 +1,7 @@
-use Rattle.std.proofs.Common.{◌≡◌, ℕ, sym, subst, ◌∙◌}
+use Rattle.std.proofs.Common.{◌≡◌, ℕ, refl, sym, subst, ◌∙◌}
 use Rattle.cells.specs.Sight.{after}
 use Rattle.cells.specs.Shows.{IsNamed, IsStoredAs}
+use Rattle.cells.proofs.Asking.{asks_cell}
 use Rattle.cells.proofs.Settings.{same_slots}
 use Rattle.cells.proofs.ReadBack.{cite_stored}
 use Rattle.cells.proofs.reading.named_step.Goals as goal
@@ -13,3 +14,9 @@ returns-in_ok-name_of-in-Slot-clause-ok g c = λ st x m short is.
     let slot = c.in-Slot.slot in
     cite_stored named x slot c.in_ok-name_of-in-Slot.field-0 short (subst (IsStoredAs named x) c.in-Slot.is is)
     (λ label bytes h. c.in_ok-name_of-in-Slot.ensures.ok st label m bytes (subst (λ (n : ℕ). IsNamed n (after s st) slot label) same h))
+
+pub returns-in_err-name_of-in-Slot-clause-reads : goal.returns-in_err-name_of-in-Slot-clause-reads
+returns-in_err-name_of-in-Slot-clause-reads g c = asks_cell (c.in-Slot.slot, c.in-Slot.is, refl) c.name_of.ensures.reads
+
+pub returns-in_ok-name_of-in-Slot-clause-reads : goal.returns-in_ok-name_of-in-Slot-clause-reads
+returns-in_ok-name_of-in-Slot-clause-reads g c = asks_cell (c.in-Slot.slot, c.in-Slot.is, refl) c.name_of.ensures.reads

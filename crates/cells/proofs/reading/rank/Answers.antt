@@ -5,6 +5,7 @@ use Rattle.std.proofs.lemmas.Nat.{and_mask}
 use Rattle.cells.specs.Slots.{rank_cell}
 use Rattle.cells.specs.Sight.{Reads}
 use Rattle.cells.proofs.Small.{rank_small}
+use Rattle.cells.proofs.Asking.{asks_cell}
 use Rattle.cells.proofs.reading.rank.Goals as goal
 
 pub returns-clause-ok : goal.returns-clause-ok
@@ -15,3 +16,9 @@ returns-clause-ok g c = λ st lib v e at h.
     let is : c.in_ok-read.field-0 ≡ e.rank = read.value st v.matches ∙ h.rank in
     let small : e.rank < 2 ^ 32 = rank_small new.setting lib v.verifies e at in
     ap (λ (n : ℕ). bit_and n 4294967295) is ∙ (and_mask e.rank 32 ∙ mod-eq_of_lt small)
+
+pub returns-in_err-read-clause-reads : goal.returns-in_err-read-clause-reads
+returns-in_err-read-clause-reads g c = asks_cell c.rank_cell.ensures c.read.ensures.reads
+
+pub returns-clause-reads : goal.returns-clause-reads
+returns-clause-reads g c = asks_cell c.rank_cell.ensures c.read.ensures.reads

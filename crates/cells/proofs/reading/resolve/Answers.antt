@@ -1,6 +1,12 @@
-use Rattle.std.proofs.Common.{rules, ◌≡◌, ◌++◌, [], ◌∷◌, Option, Ok, length, sym, subst, arith}
+use Rattle.std.proofs.Common.{rules, ◌≡◌, ◌∙◌, ◌++◌, [], ◌∷◌, Option, Ok, length, sym, subst, arith}
 use Rattle.bodystore.specs.declared.stored.StoredStep.{StoredStep}
 use Rattle.cells.specs.Lookups.{StoresStep}
+use Rattle.mmsyntax.specs.declared.statement.Step.{Step}
+use Rattle.library.specs.Library.{Setting}
+use Rattle.ranges.specs.Ranges.{Has}
+use Rattle.cells.specs.Footprints.{IsOfLook}
+use Rattle.cells.proofs.Asking.{item_has}
+use Rattle.cells.proofs.Along.{where_trans}
 use Rattle.cells.proofs.Sights.{looks_trans}
 use Rattle.cells.proofs.Settings.{same_slots}
 use Rattle.std.proofs.lemmas.Result.{IfOk-at_ok}
@@ -45,6 +51,12 @@ loop-i-preserved g c =
       resolve_on between s old.setting.slots c.loop-i.i c.args.steps.now c.loop-i.kept.items c.push.new.self.items x c.in-Some.stored
           (sym (same_slots old s looks)) c.stored_again.ensures.looks c.loop-i.invariant.1 (subst (StoresStep s x) c.in-Some.is stores) c.index-steps-i.is
           (omega arith) push,
+      where_trans c.loop-i.invariant.2 c.loop-i.invariant.0 c.stored_again.ensures.looks.onward c.stored_again.ensures.reads
+          (λ st k at. (
+            at.0,
+            subst (λ (y : Step). Has y c.args.steps.now) (sym c.index-steps-i.is ∙ at.1) (item_has c.args.steps.now c.loop-i.i x (omega arith)),
+            subst (λ (q : Setting). IsOfLook q.slots at.0 st k) c.loop-i.invariant.0.onward.setting at.2,
+          )),
     )
 
 pub returns-clause-ok : goal.returns-clause-ok
@@ -55,3 +67,33 @@ returns-clause-ok g c =
     let n : length steps ≡ c.loop-i.i = search rules in
     resolve_all s old.setting.slots c.loop-i.i steps c.loop-i.kept.items (sym (same_slots old s c.loop-i.invariant.0)) n
     c.loop-i.invariant.1
+
+pub returns-in_err-stored-clause-reads : goal.returns-in_err-stored-clause-reads
+returns-in_err-stored-clause-reads g c =
+    let x = c.index-steps-i.result in
+    where_trans c.loop-i.invariant.2 c.loop-i.invariant.0 c.stored_again.ensures.looks.onward c.stored_again.ensures.reads
+    (λ st k at. (
+      at.0,
+      subst (λ (y : Step). Has y c.args.steps.now) (sym c.index-steps-i.is ∙ at.1) (item_has c.args.steps.now c.loop-i.i x (omega arith)),
+      subst (λ (q : Setting). IsOfLook q.slots at.0 st k) c.loop-i.invariant.0.onward.setting at.2,
+    ))
+
+pub returns-in_default-clause-reads : goal.returns-in_default-clause-reads
+returns-in_default-clause-reads g c =
+    let x = c.index-steps-i.result in
+    where_trans c.loop-i.invariant.2 c.loop-i.invariant.0 c.stored_again.ensures.looks.onward c.stored_again.ensures.reads
+    (λ st k at. (
+      at.0,
+      subst (λ (y : Step). Has y c.args.steps.now) (sym c.index-steps-i.is ∙ at.1) (item_has c.args.steps.now c.loop-i.i x (omega arith)),
+      subst (λ (q : Setting). IsOfLook q.slots at.0 st k) c.loop-i.invariant.0.onward.setting at.2,
+    ))
+
+pub returns-in_err-push-clause-reads : goal.returns-in_err-push-clause-reads
+returns-in_err-push-clause-reads g c =
+    let x = c.index-steps-i.result in
+    where_trans c.loop-i.invariant.2 c.loop-i.invariant.0 c.stored_again.ensures.looks.onward c.stored_again.ensures.reads
+    (λ st k at. (
+      at.0,
+      subst (λ (y : Step). Has y c.args.steps.now) (sym c.index-steps-i.is ∙ at.1) (item_has c.args.steps.now c.loop-i.i x (omega arith)),
+      subst (λ (q : Setting). IsOfLook q.slots at.0 st k) c.loop-i.invariant.0.onward.setting at.2,
+    ))

@@ -1,5 +1,6 @@
 use Rattle.std.proofs.Common.{take}
 use Rattle.cells.specs.Sight.{Looks}
+use Rattle.cells.specs.Footprints.{ReadsWhere, IsOfResolving}
 use Rattle.cells.proofs.Resolving.{AreResolved}
 use Rattle.cells.proofs.reading.resolve.Given as goal
 
@@ -7,3 +8,4 @@ abbrev pub invariant-loop-i : goal.invariant-loop-i
 invariant-loop-i g l =
     Looks (g.C.Cells.sight l.fn.cells) (g.C.Cells.sight l.cells)
     × AreResolved (g.C.Cells.sight l.cells) (g.C.Cells.sight l.fn.cells).setting.slots (take l.i l.steps) l.kept.items
+    × ReadsWhere (IsOfResolving (g.C.Cells.sight l.fn.cells).setting.slots l.steps) (g.C.Cells.sight l.fn.cells) (g.C.Cells.sight l.cells)

@@ -4,6 +4,7 @@ use Rattle.cells.specs.Slots.{statement_cell}
 use Rattle.cells.specs.Sight.{after}
 use Rattle.cells.specs.Lookups.{AreWordsOf}
 use Rattle.cells.proofs.Small.{statement_small}
+use Rattle.cells.proofs.Asking.{asks_cell}
 use Rattle.cells.proofs.reading.statement.Goals as goal
 
 pub returns-clause-ok : goal.returns-clause-ok
@@ -15,3 +16,12 @@ returns-clause-ok g c = λ st lib v e at h.
     let body = statement_body (statement_of e.assertion) in
     let same : body ≡ words = sym (are.body body h.statement) in
     c.in_ok-decode_statement.ensures (statement_of e.assertion) (statement_small s.setting lib v.verifies e at) (same ∙ sym c.as_slice.ensures.value)
+
+pub returns-in_err-words-clause-reads : goal.returns-in_err-words-clause-reads
+returns-in_err-words-clause-reads g c = asks_cell c.statement_cell.ensures c.words_of.ensures.reads
+
+pub returns-in_err-decode_statement-clause-reads : goal.returns-in_err-decode_statement-clause-reads
+returns-in_err-decode_statement-clause-reads g c = asks_cell c.statement_cell.ensures c.words_of.ensures.reads
+
+pub returns-clause-reads : goal.returns-clause-reads
+returns-clause-reads g c = asks_cell c.statement_cell.ensures c.words_of.ensures.reads

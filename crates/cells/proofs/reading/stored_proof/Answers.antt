@@ -5,6 +5,7 @@ use Rattle.cells.specs.Shows.{AreStoredAs}
 use Rattle.cells.specs.Lookups.{AreWordsOf}
 use Rattle.cells.proofs.Small.{steps_small}
 use Rattle.cells.proofs.ReadBack.{stored_words}
+use Rattle.cells.proofs.Asking.{asks_cell}
 use Rattle.cells.proofs.reading.stored_proof.Goals as goal
 
 pub returns-clause-ok : goal.returns-clause-ok
@@ -18,3 +19,12 @@ returns-clause-ok g c = λ st lib v e at h.
     let made : c.in_ok-decode_proof.field-0.items ≡ kept.0 =
     c.in_ok-decode_proof.ensures kept.0 (steps_small s.setting lib v.verifies e at (after s st) kept.0 kept.2) (kept.1 ∙ sym c.as_slice.ensures.value) in
     subst (AreStoredAs slots (after s st) e.assertion.proof) (sym made) kept.2
+
+pub returns-in_err-words-clause-reads : goal.returns-in_err-words-clause-reads
+returns-in_err-words-clause-reads g c = asks_cell c.proof_cell.ensures c.words_of.ensures.reads
+
+pub returns-in_err-decode_proof-clause-reads : goal.returns-in_err-decode_proof-clause-reads
+returns-in_err-decode_proof-clause-reads g c = asks_cell c.proof_cell.ensures c.words_of.ensures.reads
+
+pub returns-clause-reads : goal.returns-clause-reads
+returns-clause-reads g c = asks_cell c.proof_cell.ensures c.words_of.ensures.reads

@@ -1,6 +1,8 @@
 use Rattle.std.proofs.Common.{◌≡◌, ℕ, List, sym, subst, ◌∙◌, ap}
 use Rattle.mmsyntax.specs.declared.statement.Step.TheVariants.{Cite}
 use Rattle.cells.specs.Lookups.{Finds}
+use Rattle.cells.proofs.Sights.{looks_refl}
+use Rattle.cells.proofs.Along.{where_same, where_trans}
 use Rattle.cells.proofs.Resolving.{found_stored, none_stored}
 use Rattle.cells.proofs.reading.stored_step.Goals as goal
 
@@ -17,3 +19,24 @@ returns-in-None-clause-ok g c =
     let label = c.as_slice.result.now in
     let is : c.args.step.now ≡ Cite label = c.in-Cite.is ∙ ap (λ (l : List ℕ). Cite l) (sym c.as_slice.ensures) in
     none_stored s label c.args.step.now is (subst (Finds s label) c.in-None.is c.in_ok-slot-in-Cite.ensures.ok)
+
+pub returns-in_err-slot-in-Cite-clause-reads : goal.returns-in_err-slot-in-Cite-clause-reads
+returns-in_err-slot-in-Cite-clause-reads g c =
+    let old = g.C.Cells.sight c.args.cells.now in
+    let label = c.as_slice.result.now in
+    let is : c.args.step.now ≡ Cite label = c.in-Cite.is ∙ ap (λ (l : List ℕ). Cite l) (sym c.as_slice.ensures) in
+    where_trans (where_same old) (looks_refl old) c.find.ensures.looks.onward c.find.ensures.reads (λ st k at. (label, is, at))
+
+pub returns-in-Some-clause-reads : goal.returns-in-Some-clause-reads
+returns-in-Some-clause-reads g c =
+    let old = g.C.Cells.sight c.args.cells.now in
+    let label = c.as_slice.result.now in
+    let is : c.args.step.now ≡ Cite label = c.in-Cite.is ∙ ap (λ (l : List ℕ). Cite l) (sym c.as_slice.ensures) in
+    where_trans (where_same old) (looks_refl old) c.find.ensures.looks.onward c.find.ensures.reads (λ st k at. (label, is, at))
+
+pub returns-in-None-clause-reads : goal.returns-in-None-clause-reads
+returns-in-None-clause-reads g c =
+    let old = g.C.Cells.sight c.args.cells.now in
+    let label = c.as_slice.result.now in
+    let is : c.args.step.now ≡ Cite label = c.in-Cite.is ∙ ap (λ (l : List ℕ). Cite l) (sym c.as_slice.ensures) in
+    where_trans (where_same old) (looks_refl old) c.find.ensures.looks.onward c.find.ensures.reads (λ st k at. (label, is, at))

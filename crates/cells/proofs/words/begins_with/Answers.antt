@@ -3,6 +3,7 @@ use Rattle.std.proofs.lemmas.Grind.{same_number_lists}
 use Rattle.std.proofs.lemmas.List.{get_or-take, length-take-le}
 use Rattle.std.proofs.lemmas.Option.{get_or_from_slice_get}
 use Rattle.cells.proofs.Sights.{looks_trans}
+use Rattle.cells.proofs.Asking.{nothing_trans}
 use Rattle.cells.proofs.Bodies.{knows_later}
 use Rattle.cells.proofs.words.begins_with.Goals as goal
 
@@ -13,6 +14,9 @@ load-requires g c =
 
 pub returns-then-load-byte-clause-looks : goal.returns-then-load-byte-clause-looks
 returns-then-load-byte-clause-looks g c = looks_trans _ _ _ c.loop-index.invariant.0 c.load.ensures.looks
+
+pub returns-then-load-byte-clause-reads : goal.returns-then-load-byte-clause-reads
+returns-then-load-byte-clause-reads g c = nothing_trans c.loop-index.invariant.2 c.load.ensures.reads
 
 pub returns-then-load-byte-clause-same : goal.returns-then-load-byte-clause-same
 returns-then-load-byte-clause-same g c = λ words k.
@@ -31,6 +35,7 @@ loop-index-preserved g c =
       λ j words below k.
           let word = get_or_from_slice_get words i c.load.result 0 (c.load.ensures.word words (knows_later _ _ _ _ looks.onward k)) in
           below_more (λ (n : ℕ). get_or words n 0 ≡ get_or c.args.text.now n 0) _ (λ n l. c.loop-index.invariant.1 n words l k) (word ∙ c.if-load-byte.false) j below,
+      nothing_trans c.loop-index.invariant.2 c.load.ensures.reads,
     )
 
 pub returns-clause-same : goal.returns-clause-same

@@ -1,6 +1,7 @@
 use Rattle.std.proofs.Common.{rules, sym, ◌∙◌}
 use Rattle.cells.specs.Sight.{Reads, after}
 use Rattle.cells.proofs.Sights.{looks_trans}
+use Rattle.cells.proofs.Asking.{asks_still}
 use Rattle.cells.proofs.Bodies.{no_body, no_first, first_known, knows_later, value_later}
 use Rattle.cells.proofs.words.first_word.Goals as goal
 
@@ -22,6 +23,9 @@ pub returns-clause-looks : goal.returns-clause-looks
 returns-clause-looks g c =
     let read : Reads c.args.cell c.in_ok-word.word (g.C.Cells.sight c.args.cells.now) (g.C.Cells.sight c.read.new.self) = search rules in
     looks_trans _ _ _ read.looks c.load.ensures.looks
+
+pub returns-clause-reads : goal.returns-clause-reads
+returns-clause-reads g c = asks_still c.read.ensures.reads c.load.ensures.reads
 
 pub returns-clause-ok : goal.returns-clause-ok
 returns-clause-ok g c = λ st w more m b.

@@ -1,5 +1,6 @@
 use Rattle.std.proofs.Common.{sym, ◌∙◌, inl, inr, arith}
 use Rattle.cells.proofs.Sights.{looks_trans}
+use Rattle.cells.proofs.Asking.{nothing_trans}
 use Rattle.cells.proofs.Bodies.{knows_later}
 use Rattle.cells.proofs.DottedTails.{none_of_empty, none_shorter, none_of_tail, told_by_front, filled}
 use Rattle.cells.proofs.words.has_dotted.Goals as goal
@@ -20,6 +21,9 @@ begins_with-requires-clause-known g c =
 
 pub returns-then-is_numbered-clause-looks : goal.returns-then-is_numbered-clause-looks
 returns-then-is_numbered-clause-looks g c = looks_trans _ _ _ c.is_numbered.ensures.looks c.begins_with.ensures.looks
+
+pub returns-then-is_numbered-clause-reads : goal.returns-then-is_numbered-clause-reads
+returns-then-is_numbered-clause-reads g c = nothing_trans c.is_numbered.ensures.reads c.begins_with.ensures.reads
 
 pub returns-then-is_numbered-clause-same : goal.returns-then-is_numbered-clause-same
 returns-then-is_numbered-clause-same g c = λ words k.

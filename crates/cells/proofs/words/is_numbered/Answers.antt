@@ -6,6 +6,7 @@ use Rattle.std.proofs.lemmas.List.{get_or-take, get_or-drop, get_or-set_same, ge
 use Rattle.std.proofs.lemmas.Option.{get_or_from_slice_get}
 use Rattle.mmsyntax.specs.Dotted.{hypothesis_numbered}
 use Rattle.cells.proofs.Sights.{looks_trans}
+use Rattle.cells.proofs.Asking.{nothing_trans}
 use Rattle.cells.proofs.Bodies.{knows_later}
 use Rattle.cells.proofs.DottedTails.{not_tail, tail_length, tail_bytes}
 use Rattle.cells.proofs.words.is_numbered.Goals as goal
@@ -29,6 +30,9 @@ load-word-requires g c =
 
 pub returns-then-word-gt255-clause-looks : goal.returns-then-word-gt255-clause-looks
 returns-then-word-gt255-clause-looks g c = looks_trans _ _ _ c.loop-index.invariant.0 c.load-word.ensures.looks
+
+pub returns-then-word-gt255-clause-reads : goal.returns-then-word-gt255-clause-reads
+returns-then-word-gt255-clause-reads g c = nothing_trans c.loop-index.invariant.3 c.load-word.ensures.reads
 
 pub returns-then-word-gt255-clause-same : goal.returns-then-word-gt255-clause-same
 returns-then-word-gt255-clause-same g c = λ words k.
@@ -54,6 +58,7 @@ loop-index-preserved g c =
           let here = get_or-set_same tail i x 0 (omega arith) in
           below_more (λ (n : ℕ). get_or (set tail i x) n 0 ≡ get_or words (front + n) 0) _
           (λ n l. get_or-set_other tail i n x 0 (omega arith) ∙ c.loop-index.invariant.2 n words l k) (here ∙ sym word) j below,
+      nothing_trans c.loop-index.invariant.3 c.load-word.ensures.reads,
     )
 
 pub returns-clause-same : goal.returns-clause-same

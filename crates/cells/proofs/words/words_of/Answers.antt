@@ -2,6 +2,7 @@ use Rattle.std.proofs.Common.{rules, subst, sym}
 use Rattle.cells.specs.Sight.{Reads, after}
 use Rattle.cells.specs.Lookups.{AreWordsOf}
 use Rattle.cells.proofs.Sights.{looks_trans}
+use Rattle.cells.proofs.Asking.{asks_still}
 use Rattle.cells.proofs.Bodies.{knows_later, value_later, are_words}
 use Rattle.cells.proofs.words.words_of.Goals as goal
 
@@ -14,6 +15,12 @@ pub returns-clause-looks : goal.returns-clause-looks
 returns-clause-looks g c =
     let read : Reads c.args.cell c.in_ok-word.word (g.C.Cells.sight c.args.cells.now) (g.C.Cells.sight c.read.new.self) = search rules in
     looks_trans _ _ _ read.looks c.range_words.ensures.looks
+
+pub returns-in_err-range_words-clause-reads : goal.returns-in_err-range_words-clause-reads
+returns-in_err-range_words-clause-reads g c = asks_still c.read.ensures.reads c.range_words.ensures.reads
+
+pub returns-clause-reads : goal.returns-clause-reads
+returns-clause-reads g c = asks_still c.read.ensures.reads c.range_words.ensures.reads
 
 pub returns-clause-ok : goal.returns-clause-ok
 returns-clause-ok g c = λ st m.

@@ -2,9 +2,12 @@ use Rattle.std.proofs.Common.{◌∙◌, ◌+◌, ◌<◌, true, false, length, 
 use Rattle.std.proofs.lemmas.Bool.{le-leb, lt-leb}
 use Rattle.bodystore.specs.declared.stored.StoredStep.{StoredStep}
 use Rattle.bodystore.specs.declared.stored.StoredStep.TheVariants.{Float}
-use Rattle.cells.specs.Sight.{Sight, Looks}
+use Rattle.cells.specs.Sight.{Sight, Looks, ReadsWithin}
 use Rattle.cells.proofs.Sights.{looks_refl, looks_trans}
 use Rattle.cells.proofs.Settings.{same_slots}
+use Rattle.cells.proofs.Asking.{asks_trans}
+use Rattle.commands.specs.Footprints.{IsRankOfSteps}
+use Rattle.commands.proofs.MoveReads.{rank_of_one}
 use Rattle.commands.proofs.CitedRanks.{AreBelow, IsNotBelow, uncited_below, past_below, ranked_below}
 use Rattle.commands.proofs.CitedRanks.{below_more, tells_below, tells_not_below}
 use Rattle.commands.proofs.citing.cites_not_below.Goals.{in-Slot+else-slot-slots, else-slot-slots-via-then-slot-slots+in_ok-rank+else-branch, else-slot-slots-via-else-slot-slots, in_default}
@@ -33,7 +36,8 @@ loop-step-preserved g c =
     let i = c.loop-step.step-index in
     let kept = c.args.steps.now in
     let Q : Sight g.row.C-Origin.Denot → Type 0 =
-    λ s. Looks (g.C.Cells.sight c.args.cells.now) s × AreBelow s c.args.limit (c.loop-step.step-index + 1) c.args.steps.now in
+    λ s. Looks (g.C.Cells.sight c.args.cells.now) s × AreBelow s c.args.limit (c.loop-step.step-index + 1) c.args.steps.now
+    × ReadsWithin (IsRankOfSteps c.args.steps.now) (g.C.Cells.sight c.args.cells.now) s in
     let lt : c.loop-step.step-index < length c.args.steps.now = c.loop-step-test.true in
     let looks = c.loop-step.invariant.0 in
     let below = c.loop-step.invariant.1 in
@@ -49,6 +53,7 @@ loop-step-preserved g c =
                   looks_trans _ _ _ looks w'.rank.ensures.looks,
                   below_more now s limit i kept (Float 0) w'.rank.ensures.looks below lt
                       (subst (λ (x : StoredStep). IsNotBelow s limit x false) (sym w.in-Slot.is) one),
+                  asks_trans c.loop-step.invariant.2 (rank_of_one kept i (Float 0) slot lt w.in-Slot.is w'.rank.ensures.reads),
                 )
             | else-slot-slots-via-else-slot-slots w' ↦
                 let one = past_below now limit slot false (λ z.
@@ -60,6 +65,7 @@ loop-step-preserved g c =
                   looks,
                   below_more now now limit i kept (Float 0) (looks_refl now) below lt
                       (subst (λ (x : StoredStep). IsNotBelow now limit x false) (sym w.in-Slot.is) one),
+                  c.loop-step.invariant.2,
                 )
           ]
       | in_default w ↦
@@ -67,6 +73,7 @@ loop-step-preserved g c =
             looks,
             below_more now now limit i kept (Float 0) (looks_refl now) below lt
                 (uncited_below now limit (get_or kept i (Float 0)) w.in_default.not-Slot),
+            c.loop-step.invariant.2,
           )
     ]
 
@@ -74,3 +81,13 @@ pub returns-clause-ok : goal.returns-clause-ok
 returns-clause-ok g c =
     tells_below (g.C.Cells.sight c.loop-step.cells) c.args.limit c.loop-step.step-index c.args.steps.now (omega arith)
     c.loop-step.invariant.1
+
+pub returns-in_err-rank-clause-reads : goal.returns-in_err-rank-clause-reads
+returns-in_err-rank-clause-reads g c =
+    asks_trans c.loop-step.invariant.2
+    (rank_of_one c.args.steps.now c.loop-step.step-index (Float 0) c.in-Slot.slot (omega arith) c.in-Slot.is c.rank.ensures.reads)
+
+pub returns-then-branch-clause-reads : goal.returns-then-branch-clause-reads
+returns-then-branch-clause-reads g c =
+    asks_trans c.loop-step.invariant.2
+    (rank_of_one c.args.steps.now c.loop-step.step-index (Float 0) c.in-Slot.slot (omega arith) c.in-Slot.is c.rank.ensures.reads)

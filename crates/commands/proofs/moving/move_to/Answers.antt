@@ -1,15 +1,20 @@
-use Rattle.std.proofs.Common.{◌≡◌, ℕ, Some, None, true, false, subst, ap, ◌∙◌}
+use Rattle.std.proofs.Common.{◌≡◌, ℕ, List, Some, None, true, false, subst, ap, ◌∙◌, inl, inr}
 use Rattle.library.specs.declared.command.Command.TheVariants.{Move}
 use Rattle.std.specs.List.{list_any}
 use Rattle.library.specs.Edits.{cites_not_below}
 use Rattle.library.specs.declared.reason.Reason.TheVariants.{UnknownLabel, BadRank, CitedNotLower, CiterNotHigher}
 use Rattle.cells.specs.State.{State, with_value}
-use Rattle.cells.specs.Sight.{WasWritten, after}
-use Rattle.cells.specs.Lookups.{Finds}
+use Rattle.library.specs.Library.{Setting}
+use Rattle.cells.specs.Slots.{proof_cell}
+use Rattle.cells.specs.Sight.{WasWritten, ReadsWithin, after}
+use Rattle.cells.specs.Footprints.{ReadsWhere, IsOfLook}
+use Rattle.cells.specs.Lookups.{Finds, ForEachHeld}
 use Rattle.cells.proofs.Laying.{ok_mapped}
 use Rattle.cells.proofs.Sights.{onward_trans, looks_trans}
 use Rattle.cells.specs.Aside.{KeepsAside}
 use Rattle.commands.specs.Citing.{TellsNotBelow, TellsCitedUpTo}
+use Rattle.commands.specs.Footprints.{IsRankOfCited, IsRankOfSteps, IsOfRise}
+use Rattle.commands.proofs.MoveReads.{MovesSo, move_looks, move_more, move_now, move_put, ranks_within}
 use Rattle.commands.proofs.Touching.{keeps_to_since, move_keeps}
 use Rattle.commands.proofs.CitedRanks.{stored_later}
 use Rattle.commands.proofs.OnlyLooks.{finds_later}
@@ -177,3 +182,286 @@ returns-clause-keeps g c =
     (move_keeps t u i label c.args.rank (finds_later first t label i since some).1
     (subst (λ (n : ℕ). KeepsAside (λ k. k ≡ n) t u) c.rank_cell.ensures
     (ok_mapped _ _ _ _ _ c.in_ok-map_err-2.was c.map_err-3.ensures.cases c.put.ensures.keeps)))
+
+pub returns-in_err-slot-clause-reads : goal.returns-in_err-slot-clause-reads
+returns-in_err-slot-clause-reads g c =
+    let old = g.C.Cells.sight c.args.cells.now in
+    let s1 = g.C.Cells.sight c.find.new.cells in
+    let label = c.args.label.now in
+    let rank = c.args.rank in
+    let l1 = c.find.ensures.looks in
+    let m1 : MovesSo c.args.label.now c.args.rank old s1 =
+    move_looks old label rank s1 l1
+    (subst (λ (l : List ℕ). ReadsWhere (IsOfLook old.setting.slots l) old s1) c.as_slice.ensures c.find.ensures.reads) in
+    move_now old label rank s1 l1 m1
+
+pub returns-in_default-clause-reads : goal.returns-in_default-clause-reads
+returns-in_default-clause-reads g c =
+    let old = g.C.Cells.sight c.args.cells.now in
+    let s1 = g.C.Cells.sight c.find.new.cells in
+    let label = c.args.label.now in
+    let rank = c.args.rank in
+    let l1 = c.find.ensures.looks in
+    let m1 : MovesSo c.args.label.now c.args.rank old s1 =
+    move_looks old label rank s1 l1
+    (subst (λ (l : List ℕ). ReadsWhere (IsOfLook old.setting.slots l) old s1) c.as_slice.ensures c.find.ensures.reads) in
+    move_now old label rank s1 l1 m1
+
+pub returns-then-rank-eq0-clause-reads : goal.returns-then-rank-eq0-clause-reads
+returns-then-rank-eq0-clause-reads g c =
+    let old = g.C.Cells.sight c.args.cells.now in
+    let s1 = g.C.Cells.sight c.find.new.cells in
+    let label = c.args.label.now in
+    let rank = c.args.rank in
+    let l1 = c.find.ensures.looks in
+    let m1 : MovesSo c.args.label.now c.args.rank old s1 =
+    move_looks old label rank s1 l1
+    (subst (λ (l : List ℕ). ReadsWhere (IsOfLook old.setting.slots l) old s1) c.as_slice.ensures c.find.ensures.reads) in
+    move_now old label rank s1 l1 m1
+
+pub returns-in_err-kept-clause-reads : goal.returns-in_err-kept-clause-reads
+returns-in_err-kept-clause-reads g c =
+    let old = g.C.Cells.sight c.args.cells.now in
+    let s1 = g.C.Cells.sight c.find.new.cells in
+    let label = c.args.label.now in
+    let rank = c.args.rank in
+    let l1 = c.find.ensures.looks in
+    let m1 : MovesSo c.args.label.now c.args.rank old s1 =
+    move_looks old label rank s1 l1
+    (subst (λ (l : List ℕ). ReadsWhere (IsOfLook old.setting.slots l) old s1) c.as_slice.ensures c.find.ensures.reads) in
+    let i = c.in-Some.slot in
+    let finds = ok_mapped _ _ _ _ _ c.in_ok-slot.was c.map_err.ensures.cases c.find.ensures.ok in
+    let some : Finds s1 c.args.label.now (Some c.in-Some.slot) =
+    subst (Finds s1 c.args.label.now) c.in-Some.is (subst (λ l. Finds s1 l c.in_ok-slot.field-0) c.as_slice.ensures finds) in
+    let s2 = g.C.Cells.sight c.stored_proof.new.cells in
+    let l2 = looks_trans _ _ _ l1 c.stored_proof.ensures.looks in
+    let m2 : MovesSo c.args.label.now c.args.rank old s2 =
+    move_more old label rank s1 s2 i (λ st lib e k. k ≡ proof_cell c.in-Some.slot) l1 c.stored_proof.ensures.looks some m1
+    (λ st lib v e at h. c.stored_proof.ensures.reads) (λ st lib e k is. inl is) in
+    move_now old label rank s2 l2 m2
+
+pub returns-in_err-map_err-clause-reads : goal.returns-in_err-map_err-clause-reads
+returns-in_err-map_err-clause-reads g c =
+    let old = g.C.Cells.sight c.args.cells.now in
+    let s1 = g.C.Cells.sight c.find.new.cells in
+    let label = c.args.label.now in
+    let rank = c.args.rank in
+    let l1 = c.find.ensures.looks in
+    let m1 : MovesSo c.args.label.now c.args.rank old s1 =
+    move_looks old label rank s1 l1
+    (subst (λ (l : List ℕ). ReadsWhere (IsOfLook old.setting.slots l) old s1) c.as_slice.ensures c.find.ensures.reads) in
+    let i = c.in-Some.slot in
+    let finds = ok_mapped _ _ _ _ _ c.in_ok-slot.was c.map_err.ensures.cases c.find.ensures.ok in
+    let some : Finds s1 c.args.label.now (Some c.in-Some.slot) =
+    subst (Finds s1 c.args.label.now) c.in-Some.is (subst (λ l. Finds s1 l c.in_ok-slot.field-0) c.as_slice.ensures finds) in
+    let s2 = g.C.Cells.sight c.stored_proof.new.cells in
+    let l2 = looks_trans _ _ _ l1 c.stored_proof.ensures.looks in
+    let m2 : MovesSo c.args.label.now c.args.rank old s2 =
+    move_more old label rank s1 s2 i (λ st lib e k. k ≡ proof_cell c.in-Some.slot) l1 c.stored_proof.ensures.looks some m1
+    (λ st lib v e at h. c.stored_proof.ensures.reads) (λ st lib e k is. inl is) in
+    let kept = c.in_ok-kept.kept.items in
+    let s3 = g.C.Cells.sight c.cites_not_below.new.cells in
+    let l3 = looks_trans _ _ _ l2 c.cites_not_below.ensures.looks in
+    let ranks : ReadsWithin (IsRankOfSteps c.in_ok-kept.kept.items) s2 s3 =
+    subst (λ ks. ReadsWithin (IsRankOfSteps ks) s2 s3) c.as_slice-2.ensures.value c.cites_not_below.ensures.reads in
+    let m3 : MovesSo c.args.label.now c.args.rank old s3 =
+    move_more old label rank s2 s3 i (λ st lib e. IsRankOfCited old.setting.slots st lib e.assertion.proof) l2 c.cites_not_below.ensures.looks
+    (finds_later s1 s2 label i c.stored_proof.ensures.looks some) m2
+    (ranks_within old label rank s2 s3 i kept (stored_since s2 s3 i kept c.cites_not_below.ensures.looks c.in_ok-kept.ensures.ok) l3.onward.setting ranks)
+    (λ st lib e k is. inr (inl is)) in
+    move_now old label rank s3 l3 m3
+
+pub returns-then-branch-clause-reads : goal.returns-then-branch-clause-reads
+returns-then-branch-clause-reads g c =
+    let old = g.C.Cells.sight c.args.cells.now in
+    let s1 = g.C.Cells.sight c.find.new.cells in
+    let label = c.args.label.now in
+    let rank = c.args.rank in
+    let l1 = c.find.ensures.looks in
+    let m1 : MovesSo c.args.label.now c.args.rank old s1 =
+    move_looks old label rank s1 l1
+    (subst (λ (l : List ℕ). ReadsWhere (IsOfLook old.setting.slots l) old s1) c.as_slice.ensures c.find.ensures.reads) in
+    let i = c.in-Some.slot in
+    let finds = ok_mapped _ _ _ _ _ c.in_ok-slot.was c.map_err.ensures.cases c.find.ensures.ok in
+    let some : Finds s1 c.args.label.now (Some c.in-Some.slot) =
+    subst (Finds s1 c.args.label.now) c.in-Some.is (subst (λ l. Finds s1 l c.in_ok-slot.field-0) c.as_slice.ensures finds) in
+    let s2 = g.C.Cells.sight c.stored_proof.new.cells in
+    let l2 = looks_trans _ _ _ l1 c.stored_proof.ensures.looks in
+    let m2 : MovesSo c.args.label.now c.args.rank old s2 =
+    move_more old label rank s1 s2 i (λ st lib e k. k ≡ proof_cell c.in-Some.slot) l1 c.stored_proof.ensures.looks some m1
+    (λ st lib v e at h. c.stored_proof.ensures.reads) (λ st lib e k is. inl is) in
+    let kept = c.in_ok-kept.kept.items in
+    let s3 = g.C.Cells.sight c.cites_not_below.new.cells in
+    let l3 = looks_trans _ _ _ l2 c.cites_not_below.ensures.looks in
+    let ranks : ReadsWithin (IsRankOfSteps c.in_ok-kept.kept.items) s2 s3 =
+    subst (λ ks. ReadsWithin (IsRankOfSteps ks) s2 s3) c.as_slice-2.ensures.value c.cites_not_below.ensures.reads in
+    let m3 : MovesSo c.args.label.now c.args.rank old s3 =
+    move_more old label rank s2 s3 i (λ st lib e. IsRankOfCited old.setting.slots st lib e.assertion.proof) l2 c.cites_not_below.ensures.looks
+    (finds_later s1 s2 label i c.stored_proof.ensures.looks some) m2
+    (ranks_within old label rank s2 s3 i kept (stored_since s2 s3 i kept c.cites_not_below.ensures.looks c.in_ok-kept.ensures.ok) l3.onward.setting ranks)
+    (λ st lib e k is. inr (inl is)) in
+    move_now old label rank s3 l3 m3
+
+pub returns-in_err-is_cited_up_to-clause-reads : goal.returns-in_err-is_cited_up_to-clause-reads
+returns-in_err-is_cited_up_to-clause-reads g c =
+    let old = g.C.Cells.sight c.args.cells.now in
+    let s1 = g.C.Cells.sight c.find.new.cells in
+    let label = c.args.label.now in
+    let rank = c.args.rank in
+    let l1 = c.find.ensures.looks in
+    let m1 : MovesSo c.args.label.now c.args.rank old s1 =
+    move_looks old label rank s1 l1
+    (subst (λ (l : List ℕ). ReadsWhere (IsOfLook old.setting.slots l) old s1) c.as_slice.ensures c.find.ensures.reads) in
+    let i = c.in-Some.slot in
+    let finds = ok_mapped _ _ _ _ _ c.in_ok-slot.was c.map_err.ensures.cases c.find.ensures.ok in
+    let some : Finds s1 c.args.label.now (Some c.in-Some.slot) =
+    subst (Finds s1 c.args.label.now) c.in-Some.is (subst (λ l. Finds s1 l c.in_ok-slot.field-0) c.as_slice.ensures finds) in
+    let s2 = g.C.Cells.sight c.stored_proof.new.cells in
+    let l2 = looks_trans _ _ _ l1 c.stored_proof.ensures.looks in
+    let m2 : MovesSo c.args.label.now c.args.rank old s2 =
+    move_more old label rank s1 s2 i (λ st lib e k. k ≡ proof_cell c.in-Some.slot) l1 c.stored_proof.ensures.looks some m1
+    (λ st lib v e at h. c.stored_proof.ensures.reads) (λ st lib e k is. inl is) in
+    let kept = c.in_ok-kept.kept.items in
+    let s3 = g.C.Cells.sight c.cites_not_below.new.cells in
+    let l3 = looks_trans _ _ _ l2 c.cites_not_below.ensures.looks in
+    let ranks : ReadsWithin (IsRankOfSteps c.in_ok-kept.kept.items) s2 s3 =
+    subst (λ ks. ReadsWithin (IsRankOfSteps ks) s2 s3) c.as_slice-2.ensures.value c.cites_not_below.ensures.reads in
+    let m3 : MovesSo c.args.label.now c.args.rank old s3 =
+    move_more old label rank s2 s3 i (λ st lib e. IsRankOfCited old.setting.slots st lib e.assertion.proof) l2 c.cites_not_below.ensures.looks
+    (finds_later s1 s2 label i c.stored_proof.ensures.looks some) m2
+    (ranks_within old label rank s2 s3 i kept (stored_since s2 s3 i kept c.cites_not_below.ensures.looks c.in_ok-kept.ensures.ok) l3.onward.setting ranks)
+    (λ st lib e k is. inr (inl is)) in
+    let t = g.C.Cells.sight c.is_cited_up_to.new.cells in
+    let l4 = looks_trans _ _ _ l3 c.is_cited_up_to.ensures.looks in
+    let since = looks_trans _ _ _ c.stored_proof.ensures.looks c.cites_not_below.ensures.looks in
+    let m4 : MovesSo c.args.label.now c.args.rank old t =
+    move_more old label rank s3 t i (λ st lib e. IsOfRise old.setting.slots st lib c.in-Some.slot e c.args.rank) l3 c.is_cited_up_to.ensures.looks
+    (finds_later s1 s3 label i since some) m3
+    (subst (λ (x : Setting). ForEachHeld t c.in-Some.slot (λ st lib e. ReadsWithin (IsOfRise x.slots st lib c.in-Some.slot e c.args.rank) s3 t))
+    l3.onward.setting c.is_cited_up_to.ensures.reads)
+    (λ st lib e k is. inr (inr is)) in
+    move_now old label rank t l4 m4
+
+pub returns-then-branch-2-clause-reads : goal.returns-then-branch-2-clause-reads
+returns-then-branch-2-clause-reads g c =
+    let old = g.C.Cells.sight c.args.cells.now in
+    let s1 = g.C.Cells.sight c.find.new.cells in
+    let label = c.args.label.now in
+    let rank = c.args.rank in
+    let l1 = c.find.ensures.looks in
+    let m1 : MovesSo c.args.label.now c.args.rank old s1 =
+    move_looks old label rank s1 l1
+    (subst (λ (l : List ℕ). ReadsWhere (IsOfLook old.setting.slots l) old s1) c.as_slice.ensures c.find.ensures.reads) in
+    let i = c.in-Some.slot in
+    let finds = ok_mapped _ _ _ _ _ c.in_ok-slot.was c.map_err.ensures.cases c.find.ensures.ok in
+    let some : Finds s1 c.args.label.now (Some c.in-Some.slot) =
+    subst (Finds s1 c.args.label.now) c.in-Some.is (subst (λ l. Finds s1 l c.in_ok-slot.field-0) c.as_slice.ensures finds) in
+    let s2 = g.C.Cells.sight c.stored_proof.new.cells in
+    let l2 = looks_trans _ _ _ l1 c.stored_proof.ensures.looks in
+    let m2 : MovesSo c.args.label.now c.args.rank old s2 =
+    move_more old label rank s1 s2 i (λ st lib e k. k ≡ proof_cell c.in-Some.slot) l1 c.stored_proof.ensures.looks some m1
+    (λ st lib v e at h. c.stored_proof.ensures.reads) (λ st lib e k is. inl is) in
+    let kept = c.in_ok-kept.kept.items in
+    let s3 = g.C.Cells.sight c.cites_not_below.new.cells in
+    let l3 = looks_trans _ _ _ l2 c.cites_not_below.ensures.looks in
+    let ranks : ReadsWithin (IsRankOfSteps c.in_ok-kept.kept.items) s2 s3 =
+    subst (λ ks. ReadsWithin (IsRankOfSteps ks) s2 s3) c.as_slice-2.ensures.value c.cites_not_below.ensures.reads in
+    let m3 : MovesSo c.args.label.now c.args.rank old s3 =
+    move_more old label rank s2 s3 i (λ st lib e. IsRankOfCited old.setting.slots st lib e.assertion.proof) l2 c.cites_not_below.ensures.looks
+    (finds_later s1 s2 label i c.stored_proof.ensures.looks some) m2
+    (ranks_within old label rank s2 s3 i kept (stored_since s2 s3 i kept c.cites_not_below.ensures.looks c.in_ok-kept.ensures.ok) l3.onward.setting ranks)
+    (λ st lib e k is. inr (inl is)) in
+    let t = g.C.Cells.sight c.is_cited_up_to.new.cells in
+    let l4 = looks_trans _ _ _ l3 c.is_cited_up_to.ensures.looks in
+    let since = looks_trans _ _ _ c.stored_proof.ensures.looks c.cites_not_below.ensures.looks in
+    let m4 : MovesSo c.args.label.now c.args.rank old t =
+    move_more old label rank s3 t i (λ st lib e. IsOfRise old.setting.slots st lib c.in-Some.slot e c.args.rank) l3 c.is_cited_up_to.ensures.looks
+    (finds_later s1 s3 label i since some) m3
+    (subst (λ (x : Setting). ForEachHeld t c.in-Some.slot (λ st lib e. ReadsWithin (IsOfRise x.slots st lib c.in-Some.slot e c.args.rank) s3 t))
+    l3.onward.setting c.is_cited_up_to.ensures.reads)
+    (λ st lib e k is. inr (inr is)) in
+    move_now old label rank t l4 m4
+
+pub returns-in_err-map_err-2-clause-reads : goal.returns-in_err-map_err-2-clause-reads
+returns-in_err-map_err-2-clause-reads g c =
+    let old = g.C.Cells.sight c.args.cells.now in
+    let s1 = g.C.Cells.sight c.find.new.cells in
+    let label = c.args.label.now in
+    let rank = c.args.rank in
+    let l1 = c.find.ensures.looks in
+    let m1 : MovesSo c.args.label.now c.args.rank old s1 =
+    move_looks old label rank s1 l1
+    (subst (λ (l : List ℕ). ReadsWhere (IsOfLook old.setting.slots l) old s1) c.as_slice.ensures c.find.ensures.reads) in
+    let i = c.in-Some.slot in
+    let finds = ok_mapped _ _ _ _ _ c.in_ok-slot.was c.map_err.ensures.cases c.find.ensures.ok in
+    let some : Finds s1 c.args.label.now (Some c.in-Some.slot) =
+    subst (Finds s1 c.args.label.now) c.in-Some.is (subst (λ l. Finds s1 l c.in_ok-slot.field-0) c.as_slice.ensures finds) in
+    let s2 = g.C.Cells.sight c.stored_proof.new.cells in
+    let l2 = looks_trans _ _ _ l1 c.stored_proof.ensures.looks in
+    let m2 : MovesSo c.args.label.now c.args.rank old s2 =
+    move_more old label rank s1 s2 i (λ st lib e k. k ≡ proof_cell c.in-Some.slot) l1 c.stored_proof.ensures.looks some m1
+    (λ st lib v e at h. c.stored_proof.ensures.reads) (λ st lib e k is. inl is) in
+    let kept = c.in_ok-kept.kept.items in
+    let s3 = g.C.Cells.sight c.cites_not_below.new.cells in
+    let l3 = looks_trans _ _ _ l2 c.cites_not_below.ensures.looks in
+    let ranks : ReadsWithin (IsRankOfSteps c.in_ok-kept.kept.items) s2 s3 =
+    subst (λ ks. ReadsWithin (IsRankOfSteps ks) s2 s3) c.as_slice-2.ensures.value c.cites_not_below.ensures.reads in
+    let m3 : MovesSo c.args.label.now c.args.rank old s3 =
+    move_more old label rank s2 s3 i (λ st lib e. IsRankOfCited old.setting.slots st lib e.assertion.proof) l2 c.cites_not_below.ensures.looks
+    (finds_later s1 s2 label i c.stored_proof.ensures.looks some) m2
+    (ranks_within old label rank s2 s3 i kept (stored_since s2 s3 i kept c.cites_not_below.ensures.looks c.in_ok-kept.ensures.ok) l3.onward.setting ranks)
+    (λ st lib e k is. inr (inl is)) in
+    let t = g.C.Cells.sight c.is_cited_up_to.new.cells in
+    let l4 = looks_trans _ _ _ l3 c.is_cited_up_to.ensures.looks in
+    let since = looks_trans _ _ _ c.stored_proof.ensures.looks c.cites_not_below.ensures.looks in
+    let m4 : MovesSo c.args.label.now c.args.rank old t =
+    move_more old label rank s3 t i (λ st lib e. IsOfRise old.setting.slots st lib c.in-Some.slot e c.args.rank) l3 c.is_cited_up_to.ensures.looks
+    (finds_later s1 s3 label i since some) m3
+    (subst (λ (x : Setting). ForEachHeld t c.in-Some.slot (λ st lib e. ReadsWithin (IsOfRise x.slots st lib c.in-Some.slot e c.args.rank) s3 t))
+    l3.onward.setting c.is_cited_up_to.ensures.reads)
+    (λ st lib e k is. inr (inr is)) in
+    move_put old label rank t (g.C.Cells.sight c.put.new.cells) i l4 c.put.ensures.onward
+    (finds_later s1 t label i (looks_trans _ _ _ since c.is_cited_up_to.ensures.looks) some) m4
+    (subst (λ (n : ℕ). ReadsWithin (λ k. k ≡ n) t (g.C.Cells.sight c.put.new.cells)) c.rank_cell.ensures c.put.ensures.reads)
+
+pub returns-clause-reads : goal.returns-clause-reads
+returns-clause-reads g c =
+    let old = g.C.Cells.sight c.args.cells.now in
+    let s1 = g.C.Cells.sight c.find.new.cells in
+    let label = c.args.label.now in
+    let rank = c.args.rank in
+    let l1 = c.find.ensures.looks in
+    let m1 : MovesSo c.args.label.now c.args.rank old s1 =
+    move_looks old label rank s1 l1
+    (subst (λ (l : List ℕ). ReadsWhere (IsOfLook old.setting.slots l) old s1) c.as_slice.ensures c.find.ensures.reads) in
+    let i = c.in-Some.slot in
+    let finds = ok_mapped _ _ _ _ _ c.in_ok-slot.was c.map_err.ensures.cases c.find.ensures.ok in
+    let some : Finds s1 c.args.label.now (Some c.in-Some.slot) =
+    subst (Finds s1 c.args.label.now) c.in-Some.is (subst (λ l. Finds s1 l c.in_ok-slot.field-0) c.as_slice.ensures finds) in
+    let s2 = g.C.Cells.sight c.stored_proof.new.cells in
+    let l2 = looks_trans _ _ _ l1 c.stored_proof.ensures.looks in
+    let m2 : MovesSo c.args.label.now c.args.rank old s2 =
+    move_more old label rank s1 s2 i (λ st lib e k. k ≡ proof_cell c.in-Some.slot) l1 c.stored_proof.ensures.looks some m1
+    (λ st lib v e at h. c.stored_proof.ensures.reads) (λ st lib e k is. inl is) in
+    let kept = c.in_ok-kept.kept.items in
+    let s3 = g.C.Cells.sight c.cites_not_below.new.cells in
+    let l3 = looks_trans _ _ _ l2 c.cites_not_below.ensures.looks in
+    let ranks : ReadsWithin (IsRankOfSteps c.in_ok-kept.kept.items) s2 s3 =
+    subst (λ ks. ReadsWithin (IsRankOfSteps ks) s2 s3) c.as_slice-2.ensures.value c.cites_not_below.ensures.reads in
+    let m3 : MovesSo c.args.label.now c.args.rank old s3 =
+    move_more old label rank s2 s3 i (λ st lib e. IsRankOfCited old.setting.slots st lib e.assertion.proof) l2 c.cites_not_below.ensures.looks
+    (finds_later s1 s2 label i c.stored_proof.ensures.looks some) m2
+    (ranks_within old label rank s2 s3 i kept (stored_since s2 s3 i kept c.cites_not_below.ensures.looks c.in_ok-kept.ensures.ok) l3.onward.setting ranks)
+    (λ st lib e k is. inr (inl is)) in
+    let t = g.C.Cells.sight c.is_cited_up_to.new.cells in
+    let l4 = looks_trans _ _ _ l3 c.is_cited_up_to.ensures.looks in
+    let since = looks_trans _ _ _ c.stored_proof.ensures.looks c.cites_not_below.ensures.looks in
+    let m4 : MovesSo c.args.label.now c.args.rank old t =
+    move_more old label rank s3 t i (λ st lib e. IsOfRise old.setting.slots st lib c.in-Some.slot e c.args.rank) l3 c.is_cited_up_to.ensures.looks
+    (finds_later s1 s3 label i since some) m3
+    (subst (λ (x : Setting). ForEachHeld t c.in-Some.slot (λ st lib e. ReadsWithin (IsOfRise x.slots st lib c.in-Some.slot e c.args.rank) s3 t))
+    l3.onward.setting c.is_cited_up_to.ensures.reads)
+    (λ st lib e k is. inr (inr is)) in
+    move_put old label rank t (g.C.Cells.sight c.put.new.cells) i l4 c.put.ensures.onward
+    (finds_later s1 t label i (looks_trans _ _ _ since c.is_cited_up_to.ensures.looks) some) m4
+    (subst (λ (n : ℕ). ReadsWithin (λ k. k ≡ n) t (g.C.Cells.sight c.put.new.cells)) c.rank_cell.ensures c.put.ensures.reads)

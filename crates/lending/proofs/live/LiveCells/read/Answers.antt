@@ -1,6 +1,6 @@
-use Rattle.std.proofs.Common.{◌<◌, ℕ, Some, sym, subst}
+use Rattle.std.proofs.Common.{◌<◌, ◌≡◌, ℕ, Some, sym, subst}
 use Rattle.cells.specs.Slots.{cell_count}
-use Rattle.cells.specs.Sight.{Looks, Reads}
+use Rattle.cells.specs.Sight.{Looks, Reads, ReadsWithin}
 use Rattle.lending.specs.Lent.{sight_of}
 use Rattle.lending.proofs.Lending.{lending_in, agrees_of, base_count}
 use Rattle.lending.proofs.Reading.{read_ends, stop_ends}
@@ -62,3 +62,21 @@ returns-in-Err-clause-err c =
     let r = c.read.new.self in
     subst (λ x. Looks (sight_of x.run) (sight_of (record l { going = r }))) c.self.view_is
     (stop_ends l s.stage s.over c.self.invariant.1 c.args.cell r c.in-Err.conflict e.over e.err).1
+
+pub returns-in-Ok-clause-reads : goal.returns-in-Ok-clause-reads
+returns-in-Ok-clause-reads c =
+    let s = c.self.inside in
+    let l = lending_in s in
+    let e = c.in-Ok.ensures in
+    let r = c.read.new.self in
+    subst (λ x. ReadsWithin (λ k. k ≡ c.args.cell) (sight_of x.run) (sight_of (record l { going = r }))) c.self.view_is
+    (read_ends l s.stage s.over c.self.invariant.1 c.args.cell r c.in-Ok.value e.over e.kept e.ok e.noted).2
+
+pub returns-in-Err-clause-reads : goal.returns-in-Err-clause-reads
+returns-in-Err-clause-reads c =
+    let s = c.self.inside in
+    let l = lending_in s in
+    let e = c.in-Err.ensures in
+    let r = c.read.new.self in
+    subst (λ x. ReadsWithin (λ k. k ≡ c.args.cell) (sight_of x.run) (sight_of (record l { going = r }))) c.self.view_is
+    (stop_ends l s.stage s.over c.self.invariant.1 c.args.cell r c.in-Err.conflict e.over e.err).2

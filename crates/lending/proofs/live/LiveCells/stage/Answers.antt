@@ -1,9 +1,10 @@
 use Rattle.std.proofs.Common.{◌≡◌, true, length, refl, sym, subst, ◌∙◌}
 use Rattle.ranges.specs.declared.range.Range.{Range as Place}
-use Rattle.cells.specs.Sight.{Looks, Stages}
+use Rattle.cells.specs.Sight.{Looks, Stages, ReadsNothing}
+use Rattle.cells.proofs.Asking.{nothing_same}
 use Rattle.lending.specs.Lent.{sight_of}
 use Rattle.lending.proofs.Lending.{lending_in, agrees_of, staged_lent, refused_lent}
-use Rattle.lending.proofs.Sighted.{none_staged, stages_sight, again_sight, refused_look}
+use Rattle.lending.proofs.Sighted.{none_staged, stages_sight, stages_nothing, again_sight, refused_look, refused_nothing}
 use Rattle.lending.proofs.live.LiveCells.stage.Goals as goal
 
 pub invariant_of-self : goal.invariant_of-self
@@ -60,3 +61,20 @@ returns-clause-ok c =
     subst (λ x. Stages words range (sight_of x.run) (sight_of (record l { going = r; staged = c.note.new.self }))) c.self.view_is
     (stages_sight l words range r c.note.new.self c.note.result c.in-Ok.ensures.ok.1 none c.note.ensures.ok c.note.ensures.err
     c.in-Ok.ensures.ok.0)
+
+pub returns-in_default-stage-clause-reads : goal.returns-in_default-stage-clause-reads
+returns-in_default-stage-clause-reads c =
+    let l = lending_in c.self.inside in
+    subst (λ x. ReadsNothing (sight_of x.run) (sight_of (record l { going = c.stage.new.self; full = true }))) c.self.view_is
+    (refused_nothing l (length c.args.words.now) c.stage.new.self c.in_default-stage.ensures.err)
+
+pub returns-in-Some-clause-reads : goal.returns-in-Some-clause-reads
+returns-in-Some-clause-reads c =
+    subst (λ x. ReadsNothing (sight_of x.run) (sight_of x.run)) c.self.view_is (nothing_same (sight_of (lending_in c.self.inside)))
+
+pub returns-clause-reads : goal.returns-clause-reads
+returns-clause-reads c =
+    let l = lending_in c.self.inside in
+    let r = c.stage.new.self in
+    subst (λ x. ReadsNothing (sight_of x.run) (sight_of (record l { going = r; staged = c.note.new.self }))) c.self.view_is
+    (stages_nothing l c.args.words.now c.in-Ok.staged.start r c.note.new.self c.in-Ok.ensures.ok.1)
