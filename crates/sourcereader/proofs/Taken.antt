@@ -96,9 +96,9 @@ theorem_taken s label t old new r h =
     (λ d. row_plain (standing_at s (in_theorem label old)) t d ∙ theorem_word s label old t) h
 
 -- what is so of a place is so of that where the word was taken
-pub ready_after : (s : Stand) (framed : List Word) (p q : CodePlace) (t : Token) (r : Result Bool Stop) → StandsAt (seen_at s p)
-    → TakesWord source_language (seen_at s p) t (seen_at s q) r → OnOk r (IsCounted s.scope framed q) → OnOk r (IsReadySource s framed q)
-ready_after s framed p q t (Ok true) h taken counted =
+pub ready_after : (s : Stand) (marks : List Bool) (p q : CodePlace) (t : Token) (r : Result Bool Stop) → StandsAt (seen_at s p)
+    → TakesWord source_language (seen_at s p) t (seen_at s q) r → OnOk r (IsCounted s.scope marks q) → OnOk r (IsReadySource s marks q)
+ready_after s marks p q t (Ok true) h taken counted =
     record { stands = subst OkStands taken.1 (row_stands (seen_at s p) t h); counted = counted }
-ready_after s framed p q t (Ok false) h taken counted = record { stands = subst StandsAt (sym taken) h; counted = counted }
-ready_after s framed p q t (Err e) h taken counted = tt
+ready_after s marks p q t (Ok false) h taken counted = record { stands = subst StandsAt (sym taken) h; counted = counted }
+ready_after s marks p q t (Err e) h taken counted = tt

@@ -41,8 +41,8 @@ fn take_in_place<'a, S: Standing<'a>>(
     place: &mut Place<'a>,
     token: Token<'a>,
 ) -> Result<bool, Stop>
-    requires { IsReadySource (S.stand standing.now) (S.framed standing.now) place.old }
-    ensures counted { OnOk result (IsCounted (S.stand standing.now).scope (S.framed standing.now) place.new) }
+    requires { IsReadySource (S.stand standing.now) (S.marks standing.now) place.old }
+    ensures counted { OnOk result (IsCounted (S.stand standing.now).scope (S.marks standing.now) place.new) }
     ensures taken { TakesWord source_language (seen_at (S.stand standing.now) place.old) (seen token.entry)
         (seen_at (S.stand standing.now) place.new) result }
 {
@@ -60,8 +60,8 @@ pub(crate) fn take_word<'a, S: Standing<'a>>(
     place: &mut Place<'a>,
     token: Token<'a>,
 ) -> Result<bool, Stop>
-    requires { IsReadySource (S.stand standing.now) (S.framed standing.now) place.old }
-    ensures ready { OnOk result (IsReadySource (S.stand standing.now) (S.framed standing.now) place.new) }
+    requires { IsReadySource (S.stand standing.now) (S.marks standing.now) place.old }
+    ensures ready { OnOk result (IsReadySource (S.stand standing.now) (S.marks standing.now) place.new) }
     ensures taken { TakesWord source_language (seen_at (S.stand standing.now) place.old) (seen token.entry)
         (seen_at (S.stand standing.now) place.new) result }
 {
