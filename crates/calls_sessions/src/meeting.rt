@@ -146,9 +146,12 @@ fn conflicted_tries_take_no_further_word(rt: HostRuntime) -> Result<(), Fail> {
     let outcome = tried(alloc, &library, &mut one, REFUSED)?;
     assert!(rt; matches!(outcome, Outcome::Refused { place: 0, .. }));
     let done = AtomicBool::new(false);
-    let (Some((mut one, tries)), Some(mut other)) = meet(&rt, alloc, &library, one, other, &done)
-    else {
-        return Err(Fail::from("the scripts are read"));
+    let (one, other) = meet(&rt, alloc, &library, one, other, &done);
+    let Some((mut one, tries)) = one else {
+        return Err(Fail::from("the refused script is read"));
+    };
+    let Some(mut other) = other else {
+        return Err(Fail::from("the script of moves is read"));
     };
     assert_eq!(rt; (tries.conflicts, tries.others), (CONFLICTS, 0));
     // Now no word is left, but for what is staged.

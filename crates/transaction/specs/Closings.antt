@@ -12,7 +12,7 @@ use Rattle.transaction.specs.Members.{Home, Member, IsMember}
 abbrev pub passes_of : List Member → List Pass
 passes_of members = map (λ m. m.known) members
 
--- the records of each
+-- the items of each
 abbrev pub lists_of : {A : Type 0} → List (Vec A Global) → List (List A)
 lists_of rows = map (λ row. row.items) rows
 
