@@ -9,6 +9,8 @@
 #[cfg(test)]
 mod gates;
 #[cfg(test)]
+mod meeting;
+#[cfg(test)]
 mod memory;
 #[cfg(test)]
 mod sessions;

@@ -4,7 +4,7 @@ ghost use Rattle.std.specs.Prelude.{◌≡◌, ◌≢◌, [], All, IfOk, IfErr, 
 ghost use Rattle.library.specs.Fitting.{CommandFits};
 ghost use Rattle.lawful.specs.Lawful.{setting_of};
 ghost use Rattle.transaction.specs.Openings.{IsNew};
-ghost use Rattle.workers.specs.Works.{lists_of};
+ghost use Rattle.transaction.specs.Closings.{lists_of};
 ghost use Rattle.jobs.specs.Edits.{IsEdited, IsLack};
 
 use crate::error::EditError;

@@ -6,7 +6,7 @@ ghost use Rattle.library.specs.Fitting.{CommandFits};
 ghost use Rattle.plaincells.specs.Measures.{bodies_length};
 ghost use Rattle.transaction.specs.Openings.{IsOpened};
 ghost use Rattle.historytext.specs.Layout.{EntryFits, history_text};
-ghost use Rattle.workers.specs.Works.{lists_of};
+ghost use Rattle.transaction.specs.Closings.{lists_of};
 ghost use Rattle.checking.specs.declared.fault.Fault.TheVariants.{StoreFull};
 ghost use Rattle.checking.specs.Tasks.{IsWithin};
 ghost use Rattle.jobs.specs.Jobs.{IsWorked, PrintsRun};

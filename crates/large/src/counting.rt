@@ -6,7 +6,7 @@ use std::fs;
 use std::rt::Files;
 use std::sync::atomic::AtomicBool;
 use std::sync::atomic::Ordering::SeqCst;
-use std::thread::Threads;
+use std::thread::{Threads, available_parallelism};
 
 /// How many threads the process has, by the system's file on it; 0 where that can't be read.
 fn threads_now(rt: &(impl Files + AllocGlobal)) -> usize {
@@ -31,6 +31,14 @@ pub fn watch(rt: &(impl Files + AllocGlobal), done: &AtomicBool) -> usize {
         }
     }
     most
+}
+
+/// Whether the system gives the process more than one processor. Where it doesn't say, it does not.
+pub fn has_many_processors(rt: &impl Threads) -> bool {
+    match available_parallelism(rt) {
+        Ok(count) => count.get() > 1,
+        Err(_) => false,
+    }
 }
 
 /// Checks the proofs of a database, and says so in a word.

@@ -4,9 +4,11 @@
 #![tactic(auto)]
 
 mod counting;
+mod looking;
 mod making;
 
-use crate::counting::{check_beside, watch};
+use crate::counting::{check_beside, has_many_processors, watch};
+use crate::looking::look;
 use crate::making::{pairs_text, proofs_text, renames_text, tiny_text};
 use jobs::{Answered, Job, Open, Printed, answer};
 use mmstatement::read_database;
@@ -147,12 +149,15 @@ fn main(rt: HostRuntime) -> io::Result<()> {
     // Catches a set of pairs that doubles at each pair past 64, and one that gives up.
     let told = check(&rt, alloc, keys, pairs_text(alloc)?)?;
     print_answer(&rt, "60031 pairs", &told)?;
-    // Catches a check on one thread: the two are the one who checks and the one who counts.
     let Ok(db) = read_database(alloc, keys, proofs.as_slice()) else {
         return println!(rt; "not read");
     };
+    // Catches a snapshot that gives up at 1,000 assertions or more, and one that leaves some out.
+    let told = look(&rt, alloc, keys, &db, proofs.as_slice(), ROOM)?;
+    println!(rt; "snapshot of 4096 assertions: {told}")?;
+    // Catches a check on one thread where there are processors for two: the two are the one who checks and the one who counts.
     let done = AtomicBool::new(false);
     let (most, sound) = join(&rt, || watch(&rt, &done), || check_beside(&rt, &db, &done));
-    let many = sound && most > 2;
-    println!(rt; "check on more than one thread: {many}")
+    let many = sound && (most > 2 || !has_many_processors(&rt));
+    println!(rt; "check on more than one thread, where there are processors: {many}")
 }

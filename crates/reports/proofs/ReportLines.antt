@@ -7,11 +7,8 @@ use Rattle.std.proofs.Math.Seq.{drop-cons}
 use Rattle.std.specs.Fmt.{decimal}
 use Rattle.mmsyntax.specs.Tables.{Tables}
 use Rattle.transaction.specs.declared.outcome.Outcome.{Outcome}
+use Rattle.transaction.specs.Closings.{lists_of}
 use Rattle.reports.specs.Reports.{OutcomeFits, OutcomesFit, outcome_text, numbered_text, script_text_from, scripts_text_from}
-
--- the outcomes of each script
-abbrev pub lists_of : List (Vec Outcome Global) → List (List Outcome)
-lists_of rows = map (λ row. row.items) rows
 
 -- from the place of an item on, a list has the item and then what stands behind it
 pub here : {A : Type 0} (xs : List A) (i : ℕ) (x : A) → i < length xs → x ≡ get_or xs i x → drop i xs ≡ x ∷ drop (i + 1) xs

@@ -55,4 +55,6 @@ module _ (m o : Member) (k j : Pass) (is : IsMember m) (other : IsMember o) (lea
         (subst (λ (b : List ℕ). Agree library_terms m.given b k.seen o.known.mine) (sym base) (learnt.calls m.given is.on.0));
     apart = learnt.apart;
     staged = (refl, refl);
+    taken = (ap (λ (z : Pass). z.taken) learnt.is, ap (λ (z : Pass). z.taken) learnt.other_is);
+    full = (ap (λ (z : Pass). z.full) learnt.is, ap (λ (z : Pass). z.full) learnt.other_is);
   }

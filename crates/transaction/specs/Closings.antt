@@ -12,9 +12,9 @@ use Rattle.transaction.specs.Members.{Home, Member, IsMember}
 abbrev pub passes_of : List Member → List Pass
 passes_of members = map (λ m. m.known) members
 
--- the records of each
-abbrev pub lists_of : List (Vec Record Global) → List (List Record)
-lists_of records = map (λ own. own.items) records
+-- the items of each
+abbrev pub lists_of : {A : Type 0} → List (Vec A Global) → List (List A)
+lists_of rows = map (λ row. row.items) rows
 
 -- the words are those of the library at its end, into whose history grows what each of these sessions had seen; and these are their records
 pub record IsClosed (home : Home) (members : List Member) (closed : ClosedLibrary) : Type 0 where

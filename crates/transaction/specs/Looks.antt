@@ -43,5 +43,7 @@ pub record Learns (old other new other_new : Member) : Type 0 where
   pub agree : AllAgree new.given (history_of new.known.seen) other.known.mine
   -- and the numbers of two sessions are different
   pub apart : old.known.name ≢ other.known.name → (number : ℕ) → Has number old.known.drawn → Has number other.known.drawn → ⊥
-  -- what each has staged stays
+  -- what each has staged stays, and so does what is told of the store: neither took words of it, nor found it full
   pub staged : (new.staged ≡ old.staged) × (other_new.staged ≡ other.staged)
+  pub taken : (new.known.taken ≡ old.known.taken) × (other_new.known.taken ≡ other.known.taken)
+  pub full : (new.known.full ≡ old.known.full) × (other_new.known.full ≡ other.known.full)

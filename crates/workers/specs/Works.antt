@@ -1,9 +1,8 @@
 -- What becomes of scripts that workers run on the sessions of one library.
 use Rattle.std.specs.Prelude.{◌≡◌, ◌<◌, ◌≤◌, ◌^◌, ℕ, zero, suc, List, [], ◌∷◌, ◌++◌, Bool, true, false, is_some, All, IsPermutation, length}
-use Rattle.std.specs.Prelude.{drop, filter, flat_map, map, slice_index_or, Vec}
+use Rattle.std.specs.Prelude.{drop, filter, flat_map, map, slice_index_or}
 use Rattle.std.specs.List.{AllZip}
 use Rattle.std.specs.List.Sorted.{IsStrictlyIncreasing}
-use Rattle.std.specs.declared.alloc.Global.{Global}
 use Rattle.library.specs.declared.command.Command.{Command}
 use Rattle.library.specs.declared.library.Ranked.{Ranked}
 use Rattle.library.specs.Library.{Setting}
@@ -148,9 +147,6 @@ pub record Works (g : Given) (before : List Member) (scripts : List (List (List 
   pub parts : IsPermutation (up_to (length scripts)) (flat_map (λ share. share) shares)
   pub run : AreSharesOf g scripts outcomes before after shares
   pub numbers : IsPermutation (flat_map numbers_of outcomes) (all_newly_done before after)
-
-abbrev pub lists_of : List (Vec Outcome Global) → List (List Outcome)
-lists_of outcomes = map (λ own. own.items) outcomes
 
 -- why scripts aren't run to their end: memory ran out, or a thread can't be had, which is asked for only where there are two sessions or more
 abbrev pub IsLack : List Member → WorkError → Type 0

@@ -4,7 +4,8 @@ ghost use Rattle.std.specs.Prelude.{◌≡◌, ◌≢◌, [], All, IfOk, IfErr, 
 ghost use Rattle.library.specs.Fitting.{CommandFits};
 ghost use Rattle.lawful.specs.Lawful.{setting_of};
 ghost use Rattle.transaction.specs.Members.{IsOf};
-ghost use Rattle.workers.specs.Works.{Works, IsLack, lists_of};
+ghost use Rattle.transaction.specs.Closings.{lists_of};
+ghost use Rattle.workers.specs.Works.{Works, IsLack};
 ghost use Rattle.workers.specs.Shifts.{AreWhole, AreCollected};
 
 use crate::error::WorkError;

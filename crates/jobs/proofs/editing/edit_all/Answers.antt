@@ -1,5 +1,5 @@
 use Rattle.std.proofs.lemmas.Result.{err_from_is_err_and}
-use Rattle.workers.specs.Works.{lists_of}
+use Rattle.transaction.specs.Closings.{lists_of}
 use Rattle.jobs.proofs.Leaving.{handed_on, leaves, lacks, unrun}
 use Rattle.jobs.proofs.editing.edit_all.Goals as goal
 

@@ -8,7 +8,7 @@ use Rattle.historytext.specs.Layout.{EntryFits, history_text}
 use Rattle.historytext.proofs.LegalFits.{legal_histories_fit}
 use Rattle.historytext.proofs.Spelled.{legal_histories_are_spelled}
 use Rattle.export.proofs.Accepted.{exported_accepted}
-use Rattle.workers.specs.Works.{lists_of}
+use Rattle.transaction.specs.Closings.{lists_of}
 use Rattle.checking.specs.Outcomes.{setting_of}
 use Rattle.reports.specs.Reports.{OutcomesFit, report_text}
 use Rattle.checking.specs.Checks.{library_lines}

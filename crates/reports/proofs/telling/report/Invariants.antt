@@ -1,6 +1,6 @@
 -- What the loop of `report` keeps.
 use Rattle.std.proofs.Common.{◌≡◌, ◌+◌, ◌++◌, drop}
-use Rattle.reports.proofs.ReportLines.{lists_of}
+use Rattle.transaction.specs.Closings.{lists_of}
 use Rattle.reports.specs.Reports.{scripts_text_from, report_text}
 use Rattle.reports.proofs.telling.report.Given as goal
 

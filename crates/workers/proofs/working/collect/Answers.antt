@@ -6,7 +6,7 @@ use Rattle.std.proofs.lemmas.List.Sorted.{IsNonDecreasingBy-from_sort_by}
 use Rattle.claims.specs.Claims.{IsOf as Claims, AreClaimed}
 use Rattle.workers.specs.declared.shift.Row.{Row}
 use Rattle.workers.specs.declared.shift.Shift.{Shift}
-use Rattle.workers.specs.Works.{lists_of}
+use Rattle.transaction.specs.Closings.{lists_of}
 use Rattle.workers.proofs.Collected.{all_done, in_order}
 use Rattle.workers.proofs.working.collect.Goals as goal
 

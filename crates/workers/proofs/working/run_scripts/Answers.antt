@@ -1,5 +1,5 @@
 use Rattle.std.proofs.Common.{◌≡◌, ℕ, length, sym, subst, ◌∙◌}
-use Rattle.workers.specs.Works.{lists_of}
+use Rattle.transaction.specs.Closings.{lists_of}
 use Rattle.workers.specs.Shifts.{AreCollected}
 use Rattle.workers.proofs.Whole.{works, are_whole}
 use Rattle.workers.proofs.working.run_scripts.Goals as goal
