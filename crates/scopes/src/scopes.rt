@@ -1,6 +1,6 @@
 //! The tables as their users see them: what stands at a place.
 
-ghost use Rattle.std.specs.Prelude.{◌≡◌, IfOk};
+ghost use Rattle.std.specs.Prelude.{◌≡◌, IfOk, length};
 ghost use Rattle.source.specs.Scopes.{outset};
 ghost use Rattle.scopes.specs.Sound.{IsSoundTables};
 ghost use Rattle.scopes.specs.Views.{kept_of, stand_of, marks_of};
@@ -43,6 +43,13 @@ impl<'a> Scopes<'a> {
         Scopes {
             tables: Tables::new(alloc, keys),
         }
+    }
+
+    /// How many assertions stand.
+    pub fn assertions(&self) -> usize
+        ensures { result ≡ length self.now.stand.scope.assertions }
+    {
+        self.tables.assertions.len()
     }
 
     /// Takes the tables out, and leaves none.
