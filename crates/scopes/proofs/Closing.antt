@@ -1,6 +1,6 @@
 -- The tables behind the bounds of a block.
-use Rattle.std.proofs.Common.{◌≡◌, ◌⊎◌, inl, inr, ℕ, suc, ◌<◌, ◌≤◌, Bool, List, [], ◌∷◌, ◌++◌, length, take, map, reverse, Option, Some, None}
-use Rattle.std.proofs.Common.{refl, sym, ap, ◌∙◌, subst, arith, length-append}
+use Rattle.std.proofs.Common.{◌≡◌, inl, inr, ℕ, suc, ◌<◌, ◌≤◌, Bool, List, [], ◌∷◌, ◌++◌, length, take, reverse, Option, Some, None}
+use Rattle.std.proofs.Common.{refl, sym, ap, ◌∙◌, subst, arith}
 use Rattle.std.proofs.lemmas.List.{reverse-append, take-map, take-take, length-take, length-take-le, length-map}
 use Rattle.std.proofs.Math.Seq.{take-length}
 use Rattle.mmtext.specs.Words.{Word}
@@ -8,11 +8,11 @@ use Rattle.source.specs.Scopes.{Scope, Stand, opened, closed, closed_in, leave}
 use Rattle.scopes.specs.declared.tables.Name.{Name}
 use Rattle.scopes.specs.declared.tables.Active.{Active}
 use Rattle.scopes.specs.declared.tables.Block.{Block}
-use Rattle.scopes.specs.Paths.{path, IsWithin}
-use Rattle.scopes.specs.Views.{Kept, active_of, hypothesis_at, pairs_at, assertions_of, assertion_of, is_outermost, scope_before, scopes_around, scope_of, stand_of}
+use Rattle.scopes.specs.Paths.{path}
+use Rattle.scopes.specs.Views.{Kept, active_of, hypothesis_at, pairs_at, assertions_of, is_outermost, scope_before, scopes_around, scope_of, stand_of}
 use Rattle.scopes.specs.Sound.{Knows, IsSound, IsBelow, AreNested, last_link}
 use Rattle.scopes.proofs.Naming.{knows_less}
-use Rattle.scopes.proofs.Growing.{Sizes, sizes_of, began, Agree, nested_more, around_stays}
+use Rattle.scopes.proofs.Growing.{sizes_of, began, Agree, nested_more, around_stays}
 use Rattle.scopes.proofs.Linking.{all_take, take_past, split_at}
 
 -- ---- a block is opened

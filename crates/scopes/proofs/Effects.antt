@@ -1,24 +1,24 @@
 -- The tables with one more statement.
-use Rattle.std.proofs.Common.{◌≡◌, ℕ, ◌+◌, ◌<◌, ◌≤◌, Bool, true, false, cond, List, [], ◌∷◌, ◌++◌, length, take, map, reverse, Option, Some, None}
+use Rattle.std.proofs.Common.{◌≡◌, ℕ, ◌+◌, ◌<◌, ◌≤◌, true, false, cond, List, [], ◌∷◌, ◌++◌, length, take, reverse, Option, Some, None}
 use Rattle.std.proofs.Common.{refl, sym, ap, ◌∙◌, subst, arith, length-append}
-use Rattle.std.specs.List.{AllByRecursion, list_any, flat_map}
+use Rattle.std.specs.List.{list_any, flat_map}
 use Rattle.std.specs.Str.{bytes_eq}
-use Rattle.std.proofs.lemmas.List.{map-append, length-map, append-nil, take-append-le, take-map}
+use Rattle.std.proofs.lemmas.List.{map-append, length-map, append-nil}
 use Rattle.std.proofs.lemmas.Grind.{flat_map-append}
 use Rattle.mmtext.specs.Words.{Word}
-use Rattle.source.specs.Statements.{Statement, Proof, float, hypothesis, distinct, asserted, proved}
-use Rattle.source.specs.Scopes.{Hypothesis, typing, premise, label_of, is_float_of, Assertion, Scope, Stand, mandatory, pairs_of, declared, behind, with_hypothesis, with_assertion}
+use Rattle.source.specs.Statements.{Statement, Proof, float, hypothesis, distinct, asserted}
+use Rattle.source.specs.Scopes.{Hypothesis, typing, premise, label_of, Assertion, Scope, mandatory, pairs_of, declared, behind, with_hypothesis, with_assertion}
 use Rattle.source.specs.Tests.{is_lawful}
 use Rattle.scopes.specs.declared.tables.Name.{Name}
 use Rattle.scopes.specs.declared.tables.Name.TheVariants as name
 use Rattle.scopes.specs.declared.tables.Active.{Active}
 use Rattle.scopes.specs.Paths.{path, IsWithin}
-use Rattle.scopes.specs.Views.{Linked, SetApart, Entry, Kept, active_of, pairs_at, assertion_of, assertions_of, scopes_around, scope_of, stand_of}
+use Rattle.scopes.specs.Views.{Linked, Entry, Kept, active_of, pairs_at, assertion_of, assertions_of, scopes_around, scope_of, stand_of}
 use Rattle.scopes.specs.Sound.{Knows, IsSound, IsCounted, last_link}
 use Rattle.scopes.specs.Effects.{with_link}
 use Rattle.scopes.proofs.Paths.{path_stays, path_grows}
 use Rattle.scopes.proofs.Naming.{knows_premise, knows_float, knows_assertion}
-use Rattle.scopes.proofs.Growing.{sizes_of, IsMore, Agree, nested_more, around_stays, take_stays, push_more, within_more}
+use Rattle.scopes.proofs.Growing.{sizes_of, IsMore, Agree, nested_more, around_stays, take_stays, push_more}
 use Rattle.scopes.proofs.Linking.{all_push, all_map, all_listed, last_within, entries_stay, counted_stay, links_stay, listed_more, scope_link}
 use Rattle.scopes.proofs.Linking.{active_grows}
 use Rattle.scopes.proofs.Lawful.{lawful_hypothesis, lawful_float, lawful_asserted}

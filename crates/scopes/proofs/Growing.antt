@@ -1,9 +1,7 @@
 -- What stood before the open blocks stays, where the tables stay as far as each block began.
-use Rattle.std.proofs.Common.{◌≡◌, ℕ, zero, suc, ◌+◌, ◌<◌, ◌≤◌, List, [], ◌∷◌, ◌++◌, length, take, Option, Some, None, refl, sym, ap, ◌∙◌, arith}
+use Rattle.std.proofs.Common.{◌≡◌, ℕ, ◌≤◌, List, [], ◌∷◌, ◌++◌, length, take, Option, Some, None, refl, arith}
 use Rattle.std.proofs.Common.{length-append}
 use Rattle.std.proofs.lemmas.List.{take-append-le}
-use Rattle.mmtext.specs.Words.{Word}
-use Rattle.source.specs.Scopes.{Scope}
 use Rattle.scopes.specs.declared.tables.Block.{Block}
 use Rattle.scopes.specs.Paths.{IsWithin}
 use Rattle.scopes.specs.Views.{Kept, active_of, pairs_at, assertions_of, scope_before, scopes_around}

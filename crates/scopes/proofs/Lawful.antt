@@ -1,14 +1,13 @@
 -- What the tests of a statement say of its words.
-use Rattle.std.proofs.Common.{◌≡◌, Bool, true, false, ℕ, List, [], ◌∷◌, ◌++◌, refl}
-use Rattle.std.specs.Prelude.{◌&&◌, ◌||◌, is_none, nat_le, length}
-use Rattle.std.specs.List.{list_any}
+use Rattle.std.proofs.Common.{◌≡◌, Bool, true, false, List, [], ◌∷◌, refl}
+use Rattle.std.specs.Prelude.{◌&&◌, ◌||◌, is_none}
 use mathlib.Core.Bool.{not}
-use Rattle.mmtext.specs.declared.fault.FaultKind.TheVariants.{BadToken, UnknownSymbol, RepeatedLabel, NoTypeFor, UnknownLabel, NotActive}
+use Rattle.mmtext.specs.declared.fault.FaultKind.TheVariants.{BadToken, UnknownSymbol, RepeatedLabel, NotActive}
 use Rattle.mmtext.specs.Words.{Word, has_dollar, is_label}
 use Rattle.mmsyntax.specs.Rows.{first_fault}
-use Rattle.source.specs.Statements.{Proof, float, hypothesis, asserted, proved}
+use Rattle.source.specs.Statements.{float, hypothesis, asserted}
 use Rattle.source.specs.Scopes.{Scope, is_in, has_float}
-use Rattle.source.specs.Tests.{is_lawful, a_constant, a_variable, passes, type_tests, is_expression, is_lawful_proof}
+use Rattle.source.specs.Tests.{is_lawful, a_constant, a_variable, passes, type_tests, is_expression}
 
 constant_bools : (o d l m : Bool)
     → (o && true && (is_none (first_fault ((d, BadToken) ∷ (l || m, RepeatedLabel) ∷ [])) && true)) ≡ true → (l ≡ false) × (m ≡ false)

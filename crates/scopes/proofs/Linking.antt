@@ -1,16 +1,14 @@
 -- The tables with one more hypothesis or $d: what was linked before stays.
-use Rattle.std.proofs.Common.{◌≡◌, ◌⊎◌, inl, inr, ℕ, zero, suc, ◌+◌, ◌-◌, ◌<◌, ◌≤◌, Bool, false, List, [], ◌∷◌, ◌++◌, length, take, map, get_or}
+use Rattle.std.proofs.Common.{◌≡◌, ◌⊎◌, inl, inr, ℕ, zero, suc, ◌-◌, ◌<◌, ◌≤◌, Bool, false, List, [], ◌∷◌, ◌++◌, length, take}
 use Rattle.std.proofs.Common.{Option, Some, None, refl, sym, ap, ◌∙◌, subst, arith, length-append}
-use Rattle.std.specs.List.{AllByRecursion, slice_get, flat_map}
+use Rattle.std.specs.List.{AllByRecursion, slice_get}
 use Rattle.std.specs.Option.{option_map}
-use Rattle.std.proofs.lemmas.List.{map-append, get_or_append_left, take-append-le, append-nil}
+use Rattle.std.proofs.lemmas.List.{map-append, get_or_append_left, take-append-le}
 use Rattle.std.proofs.Math.Seq.{get_or-append_seam, take-length}
-use Rattle.std.proofs.lemmas.Grind.{flat_map-append}
-use Rattle.mmtext.specs.Words.{Word}
-use Rattle.source.specs.Scopes.{Hypothesis, Scope, label_of, mandatory, pairs_of}
+use Rattle.source.specs.Scopes.{Hypothesis, label_of, mandatory}
 use Rattle.scopes.specs.declared.tables.Active.{Active}
 use Rattle.scopes.specs.Paths.{path, IsWithin}
-use Rattle.scopes.specs.Views.{Linked, SetApart, Entry, Kept, hypothesis_at, active_of, pairs_at, assertion_of, assertions_of, scope_of}
+use Rattle.scopes.specs.Views.{Linked, SetApart, Entry, Kept, hypothesis_at, active_of, assertion_of, assertions_of, scope_of}
 use Rattle.scopes.specs.Sound.{IsSound, IsCounted, last_link}
 use Rattle.scopes.specs.Effects.{with_link}
 use Rattle.scopes.proofs.Paths.{path_stays, path_grows}

@@ -1,20 +1,20 @@
 -- The tables with other marks.
-use Rattle.std.proofs.Common.{◌≡◌, ◌⊎◌, inl, inr, ℕ, zero, suc, ◌+◌, ◌-◌, ◌<◌, ◌≤◌, Bool, true, false, cond, List, [], ◌∷◌, ◌++◌, length, take, map, reverse}
+use Rattle.std.proofs.Common.{◌≡◌, inl, inr, ℕ, zero, suc, ◌+◌, ◌-◌, ◌<◌, Bool, true, false, cond, List, [], ◌∷◌, length, take, map, reverse}
 use Rattle.std.proofs.Common.{Option, Some, None, refl, sym, ap, ◌∙◌, subst, arith}
 use Rattle.std.specs.Prelude.{◌||◌, ◌&&◌, filter}
 use Rattle.std.specs.List.{AllByRecursion, list_any, slice_get}
-use Rattle.std.specs.Option.{option_map, option_map_or, unwrap_or, is_some}
+use Rattle.std.specs.Option.{option_map, option_map_or, unwrap_or}
 use Rattle.std.proofs.lemmas.List.{take-map, length-map}
 use Rattle.std.proofs.lemmas.Option.{slice_get-map}
 use Rattle.std.proofs.Math.ListN.{set}
 use Rattle.std.proofs.lemmas.Bool.{cases_Bool}
 use Rattle.mmtext.specs.Words.{Word}
-use Rattle.source.specs.Scopes.{Hypothesis, Scope, Stand}
+use Rattle.source.specs.Scopes.{Scope}
 use Rattle.scopes.specs.declared.tables.Name.{Name}
 use Rattle.scopes.specs.declared.tables.Active.{Active}
 use Rattle.scopes.specs.Paths.{path}
 use Rattle.scopes.specs.Found.{Found, passes_at}
-use Rattle.scopes.specs.Views.{Linked, Kept, active_of, hypothesis_at, scopes_around, scope_of, stand_of, marks_of}
+use Rattle.scopes.specs.Views.{Linked, Kept, active_of, hypothesis_at, scopes_around, scope_of, stand_of}
 use Rattle.scopes.specs.Sound.{Knows, IsSound, AreNested, last_link}
 use Rattle.scopes.proofs.Found.{none_passes, some_passes, found_any}
 use Rattle.scopes.proofs.Growing.{sizes_of, Agree, around_stays}

@@ -1,6 +1,6 @@
 -- What the map of names knows after one more declaration.
-use Rattle.std.proofs.Common.{◌≡◌, ℕ, suc, ◌+◌, ◌<◌, ◌≤◌, Bool, true, false, cond, List, [], ◌∷◌, ◌++◌, length, take, Option, Some, None}
-use Rattle.std.proofs.Common.{refl, sym, ap, ◌∙◌, subst, inl, inr, arith}
+use Rattle.std.proofs.Common.{◌≡◌, ℕ, Bool, true, false, cond, List, [], ◌∷◌, ◌++◌, length, take, Option, Some, None}
+use Rattle.std.proofs.Common.{refl, sym, ap, ◌∙◌, subst, inl, inr}
 use Rattle.std.specs.Prelude.{◌||◌}
 use Rattle.std.specs.List.{list_any}
 use Rattle.std.specs.Str.{bytes_eq}
@@ -12,7 +12,7 @@ use Rattle.source.specs.Scopes.{Hypothesis, typing, premise, label_of, Assertion
 use Rattle.scopes.specs.declared.tables.Name.{Name}
 use Rattle.scopes.specs.declared.tables.Name.TheVariants as name
 use Rattle.scopes.specs.Found.{Found}
-use Rattle.scopes.specs.Sound.{Knows, is_constant, is_symbol, is_label, variable_place, float_place, hypothesis_place, assertion_place}
+use Rattle.scopes.specs.Sound.{Knows, is_symbol, is_label, variable_place, float_place, hypothesis_place, assertion_place}
 use Rattle.scopes.proofs.Found.{found_push, found_here, found_any, found_take}
 
 -- ---- words

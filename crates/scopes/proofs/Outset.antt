@@ -1,15 +1,12 @@
 -- What stands before any statement.
-use Rattle.std.proofs.Common.{◌≡◌, ℕ, zero, suc, List, [], ◌∷◌, take, Option, Some, None, refl, sym, ap, ◌∙◌}
-use Rattle.std.specs.List.{slice_get}
+use Rattle.std.proofs.Common.{◌≡◌, ℕ, zero, suc, [], take, Option, None, refl}
 use Rattle.mmtext.specs.Words.{Word}
 use Rattle.source.specs.Scopes.{outset}
 use Rattle.scopes.specs.declared.tables.Name.{Name}
 use Rattle.scopes.specs.Paths.{path}
 use Rattle.scopes.specs.Views.{Kept, scope_of, stand_of}
 use Rattle.scopes.specs.Sound.{Knows, IsSound}
-use Rattle.scopes.specs.Found.{Found}
 use Rattle.scopes.proofs.Found.{found_none}
-use Rattle.scopes.proofs.Paths.{path_stays}
 
 abbrev pub kept_nothing : Kept
 kept_nothing = record {

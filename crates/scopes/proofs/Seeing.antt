@@ -1,5 +1,5 @@
 -- What contracts see of the tables.
-use Rattle.std.proofs.Common.{◌≡◌, ℕ, suc, Bool, true, false, nat_eq, List, [], ◌∷◌, ◌++◌, length, map, reverse, Option, refl, sym, ap, ◌∙◌, subst, ne_eqb, arith}
+use Rattle.std.proofs.Common.{◌≡◌, suc, true, false, nat_eq, List, [], ◌∷◌, ◌++◌, length, reverse, Option, refl, sym, ap, ◌∙◌, subst, ne_eqb, arith}
 use Rattle.std.proofs.lemmas.List.{reverse-append}
 use Rattle.mmtext.specs.Words.{Word}
 use Rattle.source.specs.Statements.{Statement, Proof}

@@ -1,13 +1,13 @@
 -- What a word is, from the name that is noted for it.
-use Rattle.std.proofs.Common.{◌≡◌, ℕ, Bool, true, false, cond, List, Option, Some, None, refl, sym, ap, ◌∙◌, subst}
-use Rattle.std.specs.List.{list_any, slice_get, find}
+use Rattle.std.proofs.Common.{◌≡◌, ℕ, Bool, true, false, cond, Option, Some, None, sym, ap, ◌∙◌}
+use Rattle.std.specs.List.{slice_get}
 use Rattle.std.specs.Option.{option_map_or, option_and_then}
 use Rattle.std.specs.Str.{bytes_eq}
 use Rattle.mmtext.specs.Words.{Word}
 use Rattle.source.specs.Scopes.{Scope, label_of, is_float_of}
 use Rattle.scopes.specs.declared.tables.Name.TheVariants as name
 use Rattle.scopes.specs.declared.sorts.Sort.TheVariants as sort
-use Rattle.scopes.specs.Found.{Found, passes_at, passing, passing_at}
+use Rattle.scopes.specs.Found.{passes_at, passing}
 use Rattle.scopes.specs.Sound.{Knows}
 use Rattle.scopes.specs.Sorts.{IsSortOf}
 use Rattle.scopes.proofs.Found.{found_any, found_find, found_none, finds_none}

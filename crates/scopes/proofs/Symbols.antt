@@ -1,8 +1,8 @@
 -- The tables with one more symbol.
-use Rattle.std.proofs.Common.{◌≡◌, ℕ, ◌≤◌, Bool, true, cond, List, [], ◌∷◌, ◌++◌, length, take, reverse, Option, Some, None, refl, sym, ap, ◌∙◌, subst, arith}
+use Rattle.std.proofs.Common.{◌≡◌, true, cond, List, [], ◌∷◌, ◌++◌, length, reverse, Option, Some, refl, sym, ap, subst, arith}
 use Rattle.std.specs.Str.{bytes_eq}
 use Rattle.mmtext.specs.Words.{Word}
-use Rattle.source.specs.Scopes.{Scope, Stand, is_in, declared, behind}
+use Rattle.source.specs.Scopes.{Scope, Stand, declared, behind}
 use Rattle.source.specs.Tests.{is_lawful, a_constant, a_variable}
 use Rattle.scopes.specs.declared.tables.Name.{Name}
 use Rattle.scopes.specs.declared.tables.Name.TheVariants as name

@@ -1,9 +1,7 @@
 -- Of the code's inside, apart from the rules: what is put into the tables.
-use Rattle.std.specs.Prelude.{ℕ, false, List, [], ◌∷◌, ◌++◌, length, Option, Some, None}
-use Rattle.mmtext.specs.Words.{Word}
-use Rattle.source.specs.Statements.{Proof}
+use Rattle.std.specs.Prelude.{false, [], ◌∷◌, ◌++◌, length}
 use Rattle.source.specs.Scopes.{Hypothesis, label_of}
-use Rattle.scopes.specs.Views.{Entry, Kept}
+use Rattle.scopes.specs.Views.{Kept}
 use Rattle.scopes.specs.Sound.{last_link}
 
 -- one more hypothesis

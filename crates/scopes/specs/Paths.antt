@@ -1,5 +1,5 @@
 -- Lists that share their fronts: each item that is put behind others is noted with the number of the last item before it.
-use Rattle.std.specs.Prelude.{◌<◌, ℕ, List, [], ◌∷◌, ◌++◌, length, Option, Some, None}
+use Rattle.std.specs.Prelude.{◌<◌, ℕ, List, [], ◌∷◌, ◌++◌, Option, Some, None}
 use Rattle.std.proofs.Common.{get_or}
 
 -- the list that ends with the item of a number; none ends before all

@@ -5,7 +5,7 @@ use Rattle.std.specs.Str.{bytes_eq}
 use Rattle.mmtext.specs.Words.{Word}
 use Rattle.source.specs.Scopes.{Scope, Assertion, label_of, is_in, has_float}
 use Rattle.scopes.specs.declared.sorts.Sort.{Sort}
-use Rattle.scopes.specs.declared.sorts.Sort.TheVariants.{Unknown, Constant, Variable, Hypothesis, Assertion as AnAssertion, Closed}
+use Rattle.scopes.specs.declared.sorts.Sort.TheVariants.{Constant, Variable, Hypothesis, Assertion as AnAssertion, Closed}
 use Rattle.scopes.specs.Found.{Found}
 
 abbrev pub is_constant : Sort → Bool

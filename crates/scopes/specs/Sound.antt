@@ -8,7 +8,6 @@ use Rattle.std.specs.Borrow.{Bor}
 use Rattle.std.specs.declared.random_state.RandomState.{RandomState}
 use Rattle.mmtext.specs.Words.{Word}
 use Rattle.source.specs.Scopes.{label_of, Scope, is_in, is_float_of, mandatory}
-use Rattle.source.specs.Views.{seen_words}
 use Rattle.scopes.specs.declared.tables.Name.{Name}
 use Rattle.scopes.specs.declared.tables.Name.TheVariants as name
 use Rattle.scopes.specs.declared.tables.Active.{Active}

@@ -1,5 +1,5 @@
 -- Of the code's inside, apart from the rules: how contracts see the tables.
-use Rattle.std.specs.Prelude.{ℕ, Bool, true, false, List, [], ◌∷◌, ◌++◌, map, take, reverse, Option, Some, None}
+use Rattle.std.specs.Prelude.{ℕ, Bool, true, false, List, [], ◌∷◌, map, take, reverse, Option, None}
 use Rattle.std.proofs.Common.{get_or}
 use Rattle.std.specs.List.{flat_map}
 use Rattle.std.specs.Option.{option_map}

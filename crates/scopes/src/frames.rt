@@ -103,8 +103,8 @@ fn count_more(count: usize, counts: bool) -> usize
     if counts { count + 1 } else { count }
 }
 
-/// Marks the active hypotheses that are mandatory for an expression, and counts them. Each of them is compared with the words of the
-/// expression and of the active `$e`.
+/// Marks the active hypotheses that are mandatory for an expression, and counts them. The variable of each `$f` is looked for among the
+/// words of the expression and, by a walk over all active hypotheses, of the active `$e`. A mark for each variable would save the walks.
 pub(crate) fn frame(tables: &mut Tables<'_>, expression: &[&[u8]]) -> usize
     requires { IsSoundTables tables.old }
     ensures sound { IsSoundTables tables.new }

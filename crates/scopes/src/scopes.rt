@@ -1,6 +1,8 @@
 //! The tables as their users see them: what stands at a place.
 
-ghost use Rattle.std.specs.Prelude.{◌≡◌, IfOk, length};
+ghost use Rattle.std.specs.Prelude.{◌≡◌, IfOk, length, slice_get};
+ghost use Rattle.std.specs.Option.{option_map};
+ghost use Rattle.source.specs.Views.{seen_words};
 ghost use Rattle.source.specs.Scopes.{outset};
 ghost use Rattle.scopes.specs.Sound.{IsSoundTables};
 ghost use Rattle.scopes.specs.Views.{kept_of, stand_of, marks_of};
@@ -17,7 +19,7 @@ use std::mem;
 /// What stands at a place of a source: names, active variables, hypotheses and `$d`, blocks that are open, and all assertions so far.
 ///
 /// Each look-up is that of one word in a map. What is kept is linear in the text: the active hypotheses of an assertion are found from its
-/// last one.
+/// last one. A frame costs more than its words: the square of the active hypotheses at worst (`frames::frame`).
 #[derive(Drop)]
 pub struct Scopes<'a> {
     tables: Tables<'a>,
@@ -45,11 +47,22 @@ impl<'a> Scopes<'a> {
         }
     }
 
-    /// How many assertions there are so far.
-    pub fn assertion_count(&self) -> usize
+    /// How many assertions stand.
+    pub fn assertions(&self) -> usize
         ensures { result ≡ length self.now.stand.scope.assertions }
     {
         self.tables.assertions.len()
+    }
+
+    /// The symbols of the assertion at a place, counted from 0 in order of appearance, if it is there.
+    pub fn statement(&self, place: usize) -> Option<&[&'a [u8]]>
+        ensures { option_map (λ ws. seen_words ws.now) result
+            ≡ option_map (λ a. a.statement) (slice_get self.now.stand.scope.assertions place) }
+    {
+        match self.tables.assertions.get(place) {
+            None => None,
+            Some(assertion) => Some(assertion.statement.as_slice()),
+        }
     }
 
     /// Takes the tables out, and leaves none.

@@ -26,7 +26,7 @@ fn read_lines(rt: &impl Input, alloc: Global) -> io::Result<Vec<Vec<u8>>> {
 /// How many assertions a text declares, or its fault.
 fn answer(alloc: Global, keys: RandomState, text: &[u8]) -> Result<usize, TextFault> {
     let declared = read_source(alloc, Scopes::new(alloc, keys), text)?;
-    Ok(declared.assertion_count())
+    Ok(declared.assertions())
 }
 
 /// A text, and what is answered to it.

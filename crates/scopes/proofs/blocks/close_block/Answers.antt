@@ -1,5 +1,5 @@
 -- What is left to show of `close_block`.
-use Rattle.std.proofs.Common.{◌≡◌, ◌∙◌, ◌++◌, ◌∷◌, [], Some, length, take, map, ap, refl, sym, rules, arith}
+use Rattle.std.proofs.Common.{◌≡◌, ◌∙◌, ◌++◌, ◌∷◌, [], length, take, ap, refl, sym, rules}
 use Rattle.std.proofs.lemmas.List.{take-map}
 use Rattle.source.specs.Views.{seen_words}
 use Rattle.scopes.specs.Views.{kept_of}

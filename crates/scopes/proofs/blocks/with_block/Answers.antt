@@ -1,8 +1,8 @@
 -- What is left to show of `with_block`.
-use Rattle.std.proofs.Common.{◌≡◌, ◌∙◌, ◌++◌, ◌∷◌, [], length, map, ap, refl, sym, rules}
+use Rattle.std.proofs.Common.{◌≡◌, ◌∙◌, ◌++◌, ◌∷◌, [], length, ap, sym, rules}
 use Rattle.std.proofs.lemmas.List.{length-map}
 use Rattle.scopes.specs.declared.tables.Block.{Block}
-use Rattle.scopes.specs.Views.{kept_of, entry_of}
+use Rattle.scopes.specs.Views.{kept_of}
 use Rattle.scopes.specs.Sound.{looks_up}
 use Rattle.scopes.proofs.Closing.{block_here, sound_block, stand_block}
 use Rattle.scopes.proofs.blocks.with_block.Goals as goal

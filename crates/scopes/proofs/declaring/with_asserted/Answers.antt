@@ -1,12 +1,12 @@
 -- What is left to show of `with_asserted`.
-use Rattle.std.proofs.Common.{◌≡◌, ℕ, ◌∙◌, ◌++◌, ◌∷◌, [], Some, Option, length, map, cond, ap, refl, sym, rules}
+use Rattle.std.proofs.Common.{◌≡◌, ℕ, ◌∙◌, ◌++◌, ◌∷◌, [], Some, Option, length, map, cond, ap, sym, rules}
 use Rattle.std.specs.Option.{option_map}
 use Rattle.std.specs.Str.{bytes_eq}
 use Rattle.std.proofs.lemmas.List.{map-append, length-map}
 use Rattle.std.proofs.lemmas.Map.Text.{hash_map_updates_str}
 use Rattle.source.specs.Views.{seen_words, seen_proof}
 use Rattle.scopes.specs.declared.tables.Name.TheVariants as name
-use Rattle.scopes.specs.Views.{Entry, Kept, kept_of, entry_of}
+use Rattle.scopes.specs.Views.{Entry, kept_of, entry_of}
 use Rattle.scopes.specs.Sound.{looks_up, last_link}
 use Rattle.scopes.proofs.Symbols.{sound_looks}
 use Rattle.scopes.proofs.Effects.{entry_here, sound_entry, stand_entry}

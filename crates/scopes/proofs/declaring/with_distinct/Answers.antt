@@ -1,5 +1,5 @@
 -- What is left to show of `with_distinct`.
-use Rattle.std.proofs.Common.{◌≡◌, ◌∙◌, ◌++◌, ◌∷◌, [], Some, length, ap, map, rules, sym}
+use Rattle.std.proofs.Common.{◌≡◌, ◌∙◌, ◌++◌, ◌∷◌, [], length, ap, map, rules, sym}
 use Rattle.std.proofs.lemmas.List.{map-append, length-map}
 use Rattle.source.specs.Views.{seen_words}
 use Rattle.scopes.specs.Views.{kept_of, set_apart}

@@ -6,9 +6,8 @@ use Rattle.std.proofs.lemmas.Map.Text.{hash_map_updates_str}
 use Rattle.source.specs.Scopes.{label_of}
 use Rattle.source.specs.Views.{seen_words}
 use Rattle.scopes.specs.declared.tables.Name.TheVariants as name
-use Rattle.scopes.specs.Views.{Kept, kept_of, linked, hypothesis_of}
+use Rattle.scopes.specs.Views.{kept_of, linked, hypothesis_of}
 use Rattle.scopes.specs.Sound.{looks_up, last_link}
-use Rattle.scopes.specs.Effects.{with_link}
 use Rattle.scopes.proofs.declaring.with_hypothesis.Goals as goal
 
 pub returns-clause-kept : goal.returns-clause-kept

@@ -1,12 +1,12 @@
 -- What is left to show of `with_variable`.
-use Rattle.std.proofs.Common.{◌≡◌, ◌∙◌, ◌++◌, ◌∷◌, [], Some, length, ap, map, cond, sym, rules}
+use Rattle.std.proofs.Common.{◌≡◌, ◌∙◌, ◌++◌, ◌∷◌, [], Some, length, ap, cond, sym, rules}
 use Rattle.std.specs.Str.{bytes_eq}
 use Rattle.std.proofs.lemmas.List.{map-append, length-map}
 use Rattle.std.proofs.lemmas.Map.Text.{hash_map_updates_str}
 use Rattle.source.specs.Views.{seen_words}
 use Rattle.scopes.specs.declared.tables.Name.TheVariants as name
 use Rattle.scopes.specs.Views.{kept_of}
-use Rattle.scopes.specs.Sound.{looks_up, float_place}
+use Rattle.scopes.specs.Sound.{looks_up}
 use Rattle.scopes.proofs.Symbols.{sound_looks, sound_variable, stand_variable}
 use Rattle.scopes.proofs.declaring.with_variable.Goals as goal
 

@@ -1,10 +1,10 @@
 -- What is left to show of `arity_of`.
-use Rattle.std.proofs.Common.{◌≡◌, ◌∙◌, ℕ, List, [], Some, cond, length, map, ap, refl, sym}
-use Rattle.std.specs.List.{list_any, slice_get, find}
+use Rattle.std.proofs.Common.{◌≡◌, ◌∙◌, List, [], Some, cond, length, map, ap, refl, sym}
+use Rattle.std.specs.List.{slice_get, find}
 use Rattle.std.specs.Option.{option_map}
 use Rattle.std.proofs.lemmas.Option.{slice_get-map, slice_get_read}
 use Rattle.std.specs.Str.{bytes_eq}
-use Rattle.source.specs.Scopes.{Hypothesis, label_of, Assertion}
+use Rattle.source.specs.Scopes.{Hypothesis}
 use Rattle.scopes.specs.Views.{kept_of, scope_of, linked, set_apart, entry_of, assertion_of}
 use Rattle.scopes.specs.Sound.{IsCounted}
 use Rattle.scopes.proofs.Linking.{all_at}

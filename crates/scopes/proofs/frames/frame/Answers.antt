@@ -1,11 +1,11 @@
 -- What is left to show of `frame`.
-use Rattle.std.proofs.Common.{◌≡◌, ◌∙◌, ◌+◌, ◌<◌, ◌≤◌, ℕ, suc, Bool, true, false, cond, length, take, map, ap, refl, sym, subst, arith, rules}
+use Rattle.std.proofs.Common.{◌≡◌, ◌∙◌, ◌+◌, ◌<◌, ◌≤◌, ℕ, suc, Bool, true, false, cond, length, take, map, ap, sym, subst, arith, rules}
 use Rattle.std.specs.Prelude.{filter}
 use Rattle.std.specs.List.{slice_get}
 use Rattle.std.specs.Option.{option_map, unwrap_or}
 use Rattle.std.proofs.lemmas.List.{length-map}
 use Rattle.std.proofs.Math.ListN.{set}
-use Rattle.source.specs.Scopes.{Hypothesis, Scope, is_mandatory}
+use Rattle.source.specs.Scopes.{is_mandatory}
 use Rattle.source.specs.Views.{seen_words}
 use Rattle.scopes.specs.Views.{Kept, kept_of, scope_of, stand_of, marks_of}
 use Rattle.scopes.proofs.Marks.{count_step, mark_step}

@@ -1,6 +1,6 @@
 -- What is left to show of `is_marked_label`.
-use Rattle.std.proofs.Common.{◌≡◌, ◌∙◌, ℕ, Some, true, false, map, ap, refl, sym, rules}
-use Rattle.std.specs.List.{list_any, slice_get}
+use Rattle.std.proofs.Common.{◌≡◌, ◌∙◌, ℕ, Some, false, ap, refl, sym}
+use Rattle.std.specs.List.{slice_get}
 use Rattle.std.specs.Option.{unwrap_or, is_some}
 use Rattle.std.specs.Str.{bytes_eq}
 use Rattle.source.specs.Scopes.{Hypothesis, label_of, is_mandatory}

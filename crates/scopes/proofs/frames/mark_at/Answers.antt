@@ -1,9 +1,9 @@
 -- What is left to show of `mark_at`.
-use Rattle.std.proofs.Common.{◌≡◌, ◌∙◌, ℕ, Some, length, get_or, ap, refl, sym, rules, arith}
+use Rattle.std.proofs.Common.{◌≡◌, Some, get_or, refl, rules}
 use Rattle.std.specs.List.{slice_get}
 use Rattle.std.proofs.lemmas.Option.{slice_get_read}
 use Rattle.scopes.specs.declared.tables.Active.{Active}
-use Rattle.scopes.specs.Views.{kept_of, stand_of}
+use Rattle.scopes.specs.Views.{kept_of}
 use Rattle.scopes.specs.Sound.{looks_up}
 use Rattle.scopes.proofs.Marks.{marked_sound, marked_stand, set_numbers, set_marks}
 use Rattle.scopes.proofs.frames.mark_at.Goals as goal

@@ -1,7 +1,6 @@
 -- What is left to show of `stands_in_active`.
-use Rattle.std.proofs.Common.{◌≡◌, ◌∙◌, ◌+◌, ℕ, suc, true, false, length, take, ap, refl, sym, subst, arith, rules}
+use Rattle.std.proofs.Common.{◌≡◌, ◌∙◌, ◌+◌, ℕ, suc, false, take, sym, subst, arith}
 use Rattle.std.specs.List.{list_any}
-use Rattle.std.proofs.lemmas.List.{length-map}
 use Rattle.source.specs.Scopes.{stands_in}
 use Rattle.scopes.specs.Views.{kept_of, scope_of}
 use Rattle.scopes.proofs.Found.{any_step, any_there}

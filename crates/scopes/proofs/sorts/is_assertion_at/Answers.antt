@@ -1,9 +1,8 @@
 -- What is left to show of `is_assertion_at`.
-use Rattle.std.proofs.Common.{◌≡◌, refl, Some, ap, ◌∙◌, sym, false, map, rules, arith}
+use Rattle.std.proofs.Common.{◌≡◌, refl, Some, ap, ◌∙◌, sym, false, map}
 use Rattle.std.specs.List.{slice_get}
 use Rattle.std.specs.Option.{option_map, option_map_or}
 use Rattle.std.proofs.lemmas.Option.{slice_get-map, slice_get_read}
-use Rattle.std.proofs.lemmas.Grind.{common_steps}
 use Rattle.std.specs.Str.{bytes_eq}
 use Rattle.scopes.specs.Views.{linked, set_apart, entry_of, assertion_of}
 use Rattle.scopes.proofs.sorts.is_assertion_at.Goals as goal

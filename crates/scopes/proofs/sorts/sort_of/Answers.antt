@@ -1,5 +1,5 @@
 -- What is left to show of `sort_of`.
-use Rattle.std.proofs.Common.{◌≡◌, Some, None, true, false, ap, ◌∙◌, sym, subst, rules}
+use Rattle.std.proofs.Common.{◌≡◌, Some, None, ◌∙◌, sym, subst, rules}
 use Rattle.scopes.specs.Views.{kept_of, scope_of}
 use Rattle.scopes.specs.Sound.{Knows, looks_up}
 use Rattle.scopes.specs.declared.tables.Name.TheVariants.{Constant, Variable, Hypothesis, Assertion}

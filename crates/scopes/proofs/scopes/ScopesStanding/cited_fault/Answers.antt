@@ -1,5 +1,5 @@
 -- What is left to show of `cited_fault`.
-use Rattle.std.proofs.Common.{◌≡◌, ◌∙◌, map, ap, subst}
+use Rattle.std.proofs.Common.{◌≡◌, ◌∙◌, map, subst}
 use Rattle.mmsyntax.specs.Rows.{first_fault}
 use Rattle.source.specs.Scopes.{Scope, is_mandatory}
 use Rattle.source.specs.Tests.{cited_tests}

@@ -1,8 +1,8 @@
 -- What is left to show of `declare_axiom`.
-use Rattle.std.proofs.Common.{◌≡◌, ◌∙◌, None, Some, length, ap, sym}
+use Rattle.std.proofs.Common.{◌≡◌, ◌∙◌, None, length, ap, sym}
 use Rattle.source.specs.Statements.{asserted}
 use Rattle.source.specs.Scopes.{mandatory}
-use Rattle.source.specs.Views.{seen_words, seen_proof}
+use Rattle.source.specs.Views.{seen_words}
 use Rattle.scopes.specs.Views.{kept_of, scope_of, stand_of}
 use Rattle.scopes.proofs.Seeing.{lawful_there, same_scope, asserted_there}
 use Rattle.scopes.proofs.scopes.ScopesStanding.declare_axiom.Goals as goal

@@ -1,5 +1,5 @@
 -- What is left to show of `declare_theorem`.
-use Rattle.std.proofs.Common.{◌≡◌, ◌∙◌, None, Some, length, ap, sym}
+use Rattle.std.proofs.Common.{◌≡◌, ◌∙◌, Some, length, ap, sym}
 use Rattle.source.specs.Statements.{asserted}
 use Rattle.source.specs.Scopes.{mandatory}
 use Rattle.source.specs.Views.{seen_words, seen_proof}

@@ -1,5 +1,5 @@
 -- What is left to show of `is_outermost`.
-use Rattle.std.proofs.Common.{◌≡◌, ◌∙◌, nat_eq, length, ap, sym, rules}
+use Rattle.std.proofs.Common.{◌≡◌, ◌∙◌, nat_eq, length, ap, rules}
 use Rattle.std.specs.Vec.{vec_len}
 use Rattle.scopes.specs.Views.{kept_of}
 use Rattle.scopes.proofs.Seeing.{seen_scope, empty_outermost}

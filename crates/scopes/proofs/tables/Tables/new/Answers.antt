@@ -1,8 +1,6 @@
 -- What is left to show of `new`.
-use Rattle.std.proofs.Common.{◌≡◌, ◌∙◌, ap, rules}
-use Rattle.scopes.specs.Views.{Kept, stand_of, kept_of}
-use Rattle.scopes.specs.Sound.{IsSoundTables}
-use Rattle.scopes.proofs.Outset.{kept_nothing, sound_nothing, outset_of}
+use Rattle.std.proofs.Common.{rules}
+use Rattle.scopes.proofs.Outset.{sound_nothing, outset_of}
 use Rattle.scopes.proofs.tables.Tables.new.Goals as goal
 
 pub returns-clause-sound : goal.returns-clause-sound
