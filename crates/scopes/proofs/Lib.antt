@@ -10,4 +10,5 @@ mod Linking
 mod Effects
 mod Closing
 mod Marks
+mod Marking
 mod Seeing

@@ -1,110 +1,156 @@
 //! Which of the active hypotheses are mandatory.
 
-ghost use Rattle.std.specs.Prelude.{◌≡◌, Bool, ◌+◌, cond, false, List, ◌<◌, length, map, slice_get, slice_set, Some};
+ghost use Rattle.std.specs.Prelude.{◌≡◌, Bool, ◌+◌, false, List, [], ◌∷◌, ◌++◌, ◌<◌, length, map, take, slice_get, count_by};
 ghost use Rattle.mmtext.specs.Words.{Word};
 ghost use Rattle.mmsyntax.specs.Rows.{first_fault};
 ghost use Rattle.std.specs.Option.{option_map, unwrap_or};
 ghost use Rattle.std.specs.Str.{bytes_eq};
 ghost use Rattle.std.proofs.Math.ListN.{set};
 ghost use Rattle.std.specs.List.{list_any};
-ghost use Rattle.source.specs.Scopes.{is_mandatory, is_mandatory_variable, stands_in, label_of, mandatory};
+ghost use Rattle.source.specs.Scopes.{Hypothesis, is_mandatory, label_of, mandatory};
 ghost use Rattle.source.specs.Tests.{cited_tests};
 ghost use Rattle.source.specs.Proofs.{taken_by};
 ghost use Rattle.source.specs.Views.{seen_words};
-ghost use Rattle.scopes.specs.Views.{kept_of, scope_of, stand_of, marks_of, hypothesis_of};
-ghost use Rattle.scopes.specs.Found.{passes_at};
+ghost use Rattle.scopes.specs.Views.{kept_of, scope_of, stand_of, marks_of};
+ghost use Rattle.scopes.specs.Symbols.{symbols_at};
 ghost use Rattle.scopes.specs.Sound.{IsSoundTables};
 
-use crate::faults::{is_among, named_fault};
-use crate::sorts::{Sort, active_at, sort_of};
+use crate::faults::named_fault;
+use crate::sorts::{Sort, active_at, float_of, sort_of};
 use crate::tables::{HypothesisWords, Tables};
 use mmtext::FaultKind;
 
-/// Whether a variable stands in a hypothesis.
-fn stands_in(hypothesis: &HypothesisWords<'_>, variable: &[u8]) -> bool
-    ensures { result ≡ stands_in variable.now (hypothesis_of hypothesis.now) }
-{
-    match hypothesis {
-        HypothesisWords::Typing(_, _, _) => false,
-        HypothesisWords::Premise(_, words) => is_among(words.as_slice(), variable),
-    }
-}
-
-/// Whether a variable stands in the active hypothesis at a place.
-fn stands_at(tables: &Tables<'_>, place: usize, variable: &[u8]) -> bool
+/// How many symbols the active hypothesis at a place has, if it is a `$e`; else none.
+fn count_symbols(tables: &Tables<'_>, place: usize) -> usize
     requires { IsSoundTables tables.now }
-    ensures { result ≡ passes_at (stands_in variable.now) (scope_of (kept_of tables.now)).hypotheses (Some place) }
+    ensures { result ≡ length (symbols_at (scope_of (kept_of tables.now)).hypotheses place) }
 {
     match active_at(tables, place) {
-        None => false,
-        Some(hypothesis) => stands_in(hypothesis, variable),
+        Some(HypothesisWords::Premise(_, symbols)) => symbols.len(),
+        _ => 0,
     }
 }
 
-/// Whether a variable stands in an active `$e`.
-fn stands_in_active(tables: &Tables<'_>, variable: &[u8]) -> bool
+/// One of the symbols of the active hypothesis at a place, if it is a `$e` with so many.
+fn symbol_at<'a>(tables: &Tables<'a>, place: usize, index: usize) -> Option<&'a [u8]>
     requires { IsSoundTables tables.now }
-    ensures { result ≡ list_any (stands_in variable.now) (scope_of (kept_of tables.now)).hypotheses }
+    ensures { option_map (λ w. w.now) result ≡ slice_get (symbols_at (scope_of (kept_of tables.now)).hypotheses place) index }
 {
-    for place in 0..tables.active.len() {
-        if stands_at(tables, place, variable) {
-            return true;
-        }
-    }
-    false
+    let Some(HypothesisWords::Premise(_, symbols)) = active_at(tables, place) else {
+        return None;
+    };
+    let symbol = symbols.get(index)?;
+    Some(*symbol)
 }
 
-/// Whether a hypothesis is mandatory for an expression.
-fn is_mandatory(tables: &Tables<'_>, expression: &[&[u8]], hypothesis: &HypothesisWords<'_>) -> bool
+/// Whether the active hypothesis at a place is a `$e`: mandatory for any expression.
+fn is_premise_at(tables: &Tables<'_>, place: usize) -> bool
     requires { IsSoundTables tables.now }
-    ensures { result ≡ is_mandatory (scope_of (kept_of tables.now)).hypotheses (seen_words expression.now) (hypothesis_of hypothesis.now) }
-{
-    match hypothesis {
-        HypothesisWords::Premise(_, _) => true,
-        HypothesisWords::Typing(_, _, variable) => {
-            is_among(expression, variable) || stands_in_active(tables, variable)
-        }
-    }
-}
-
-/// Whether the active hypothesis at a place is mandatory for an expression.
-fn is_mandatory_at(tables: &Tables<'_>, expression: &[&[u8]], place: usize) -> bool
-    requires { IsSoundTables tables.now }
-    ensures { result ≡ unwrap_or (option_map (is_mandatory (scope_of (kept_of tables.now)).hypotheses (seen_words expression.now))
-        (slice_get (scope_of (kept_of tables.now)).hypotheses place)) false }
+    ensures { result ≡ unwrap_or (option_map (is_mandatory [] []) (slice_get (scope_of (kept_of tables.now)).hypotheses place)) false }
 {
     match active_at(tables, place) {
-        None => false,
-        Some(hypothesis) => is_mandatory(tables, expression, hypothesis),
+        Some(HypothesisWords::Premise(_, _)) => true,
+        _ => false,
     }
 }
 
-/// Marks the active hypothesis at a place if it is mandatory for an expression: whether it is.
-fn mark_at(tables: &mut Tables<'_>, expression: &[&[u8]], place: usize) -> bool
+/// Sets the mark of the active hypothesis at a place.
+fn set_mark(tables: &mut Tables<'_>, place: usize, mark: bool)
     requires sound { IsSoundTables tables.old }
     requires within { place < length tables.old.active.items }
     ensures sound { IsSoundTables tables.new }
     ensures stand { stand_of (kept_of tables.new) ≡ stand_of (kept_of tables.old) }
     ensures size { length tables.new.active.items ≡ length tables.old.active.items }
-    ensures mark { result ≡ unwrap_or (option_map (is_mandatory (scope_of (kept_of tables.old)).hypotheses (seen_words expression.now))
-        (slice_get (scope_of (kept_of tables.old)).hypotheses place)) false }
-    ensures marks { marks_of (kept_of tables.new) ≡ set (marks_of (kept_of tables.old)) place result }
+    ensures marks { marks_of (kept_of tables.new) ≡ set (marks_of (kept_of tables.old)) place mark }
 {
-    let marked = is_mandatory_at(tables, expression, place);
-    tables.active[place].is_mandatory = marked;
-    marked
+    tables.active[place].is_mandatory = mark;
 }
 
-/// One more, if it counts.
-fn count_more(count: usize, counts: bool) -> usize
-    requires { count < 18446744073709551615 }
-    ensures { result ≡ count + cond counts 1 0 }
+/// Marks each active `$e`, and no `$f`.
+fn mark_premises(tables: &mut Tables<'_>)
+    requires { IsSoundTables tables.old }
+    ensures sound { IsSoundTables tables.new }
+    ensures stand { stand_of (kept_of tables.new) ≡ stand_of (kept_of tables.old) }
+    ensures marks { marks_of (kept_of tables.new) ≡ map (is_mandatory [] []) (scope_of (kept_of tables.old)).hypotheses }
 {
-    if counts { count + 1 } else { count }
+    for place in 0..tables.active.len() {
+        let mark = is_premise_at(tables, place);
+        set_mark(tables, place, mark);
+    }
 }
 
-/// Marks the active hypotheses that are mandatory for an expression, and counts them. The variable of each `$f` is looked for among the
-/// words of the expression and, by a walk over all active hypotheses, of the active `$e`. A mark for each variable would save the walks.
+/// Marks the active `$f` of a word that has one. What was marked for some words is then marked for this word too.
+fn mark_float(tables: &mut Tables<'_>, word: &[u8])
+    requires { IsSoundTables tables.old }
+    ensures sound { IsSoundTables tables.new }
+    ensures stand { stand_of (kept_of tables.new) ≡ stand_of (kept_of tables.old) }
+    ensures marks { (premises : List Hypothesis) (words : List Word)
+        → marks_of (kept_of tables.old) ≡ map (is_mandatory premises words) (scope_of (kept_of tables.old)).hypotheses
+        → marks_of (kept_of tables.new) ≡ map (is_mandatory premises (words ++ word.now ∷ [])) (scope_of (kept_of tables.old)).hypotheses }
+{
+    if let Some(place) = float_of(tables, word) {
+        set_mark(tables, place, true);
+    }
+}
+
+/// Marks the active `$f` of each of some words.
+fn mark_words(tables: &mut Tables<'_>, words: &[&[u8]])
+    requires { IsSoundTables tables.old }
+    ensures sound { IsSoundTables tables.new }
+    ensures stand { stand_of (kept_of tables.new) ≡ stand_of (kept_of tables.old) }
+    ensures marks { (premises : List Hypothesis) (front : List Word)
+        → marks_of (kept_of tables.old) ≡ map (is_mandatory premises front) (scope_of (kept_of tables.old)).hypotheses
+        → marks_of (kept_of tables.new)
+        ≡ map (is_mandatory premises (front ++ seen_words words.now)) (scope_of (kept_of tables.old)).hypotheses }
+{
+    for word in words {
+        mark_float(tables, word);
+    }
+}
+
+/// Marks the active `$f` of one of the symbols of the active `$e` at a place, if they are so many.
+fn mark_symbol(tables: &mut Tables<'_>, place: usize, index: usize)
+    requires { IsSoundTables tables.old }
+    ensures sound { IsSoundTables tables.new }
+    ensures stand { stand_of (kept_of tables.new) ≡ stand_of (kept_of tables.old) }
+    ensures marks { (premises : List Hypothesis) (front : List Word)
+        → marks_of (kept_of tables.old)
+        ≡ map (is_mandatory premises (front ++ take index (symbols_at (scope_of (kept_of tables.old)).hypotheses place)))
+        (scope_of (kept_of tables.old)).hypotheses
+        → marks_of (kept_of tables.new)
+        ≡ map (is_mandatory premises (front ++ take (index + 1) (symbols_at (scope_of (kept_of tables.old)).hypotheses place)))
+        (scope_of (kept_of tables.old)).hypotheses }
+{
+    if let Some(symbol) = symbol_at(tables, place, index) {
+        mark_float(tables, symbol);
+    }
+}
+
+/// Marks the active `$f` of each symbol of the active hypothesis at a place, if it is a `$e`.
+fn mark_symbols(tables: &mut Tables<'_>, place: usize)
+    requires { IsSoundTables tables.old }
+    ensures sound { IsSoundTables tables.new }
+    ensures stand { stand_of (kept_of tables.new) ≡ stand_of (kept_of tables.old) }
+    ensures marks { (premises : List Hypothesis) (front : List Word)
+        → marks_of (kept_of tables.old) ≡ map (is_mandatory premises front) (scope_of (kept_of tables.old)).hypotheses
+        → marks_of (kept_of tables.new)
+        ≡ map (is_mandatory premises (front ++ symbols_at (scope_of (kept_of tables.old)).hypotheses place))
+        (scope_of (kept_of tables.old)).hypotheses }
+{
+    for index in 0..count_symbols(tables, place) {
+        mark_symbol(tables, place, index);
+    }
+}
+
+/// How many active hypotheses are marked.
+fn count_marked(tables: &Tables<'_>) -> usize
+    ensures { result ≡ count_by (λ a. a.is_mandatory) (kept_of tables.now).active }
+{
+    tables.active.iter().filter(|active| active.is_mandatory).count()
+}
+
+/// Marks the active hypotheses that are mandatory for an expression, and counts them. Each word of the expression and of the active `$e`
+/// is looked up once: the `$f` of a variable stands at the place that is noted for it.
 pub(crate) fn frame(tables: &mut Tables<'_>, expression: &[&[u8]]) -> usize
     requires { IsSoundTables tables.old }
     ensures sound { IsSoundTables tables.new }
@@ -113,12 +159,12 @@ pub(crate) fn frame(tables: &mut Tables<'_>, expression: &[&[u8]]) -> usize
     ensures marks { marks_of (kept_of tables.new) ≡ map (is_mandatory (scope_of (kept_of tables.old)).hypotheses (seen_words expression.now))
         (scope_of (kept_of tables.old)).hypotheses }
 {
-    let mut count = 0;
+    mark_premises(tables);
+    mark_words(tables, expression);
     for place in 0..tables.active.len() {
-        let marked = mark_at(tables, expression, place);
-        count = count_more(count, marked);
+        mark_symbols(tables, place);
     }
-    count
+    count_marked(tables)
 }
 
 /// Whether the active hypothesis at a place is marked.

@@ -19,7 +19,7 @@ use std::mem;
 /// What stands at a place of a source: names, active variables, hypotheses and `$d`, blocks that are open, and all assertions so far.
 ///
 /// Each look-up is that of one word in a map. What is kept is linear in the text: the active hypotheses of an assertion are found from its
-/// last one. A frame costs more than its words: the square of the active hypotheses at worst (`frames::frame`).
+/// last one. A frame costs its words, the active hypotheses and the words of the active `$e`.
 #[derive(Drop)]
 pub struct Scopes<'a> {
     tables: Tables<'a>,

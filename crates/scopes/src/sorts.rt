@@ -1,13 +1,13 @@
 //! What a word is at a place, by one look-up.
 
-ghost use Rattle.std.specs.Prelude.{◌≡◌, Some, length, slice_get};
+ghost use Rattle.std.specs.Prelude.{◌≡◌, Some, is_some, length, slice_get};
 ghost use Rattle.std.specs.Option.{option_map};
 ghost use Rattle.std.specs.Str.{bytes_eq};
 ghost use Rattle.source.specs.Scopes.{is_float_of, label_of};
 ghost use Rattle.source.specs.Views.{seen_words};
 ghost use Rattle.scopes.specs.Views.{kept_of, hypothesis_of, entry_of, scope_of};
-ghost use Rattle.scopes.specs.Found.{passes_at};
-ghost use Rattle.scopes.specs.Sound.{IsSoundTables};
+ghost use Rattle.scopes.specs.Found.{Found, passes_at};
+ghost use Rattle.scopes.specs.Sound.{IsSoundTables, float_place};
 ghost use Rattle.scopes.specs.Sorts.{IsSortOf};
 
 use crate::tables::{HypothesisWords, Name, Tables};
@@ -114,5 +114,30 @@ pub(crate) fn sort_of(tables: &Tables<'_>, word: &[u8]) -> Sort
                 Sort::Closed
             }
         }
+    }
+}
+
+/// The place that a name notes for the `$f` of a variable.
+fn noted_float(name: &Name) -> Option<usize>
+    ensures { result ≡ float_place (Some name.now) }
+{
+    match name {
+        Name::Variable(_, place) => *place,
+        _ => None,
+    }
+}
+
+/// The place of the active `$f` of a word among the active hypotheses, if the word is a variable that has one: one look-up too.
+pub(crate) fn float_of(tables: &Tables<'_>, word: &[u8]) -> Option<usize>
+    requires { IsSoundTables tables.now }
+    ensures there { passes_at (is_float_of word.now) (scope_of (kept_of tables.now)).hypotheses result ≡ is_some result }
+    ensures found { Found (is_float_of word.now) (scope_of (kept_of tables.now)).hypotheses result }
+{
+    let name = tables.names.get(&word)?;
+    let place = noted_float(name);
+    if is_float_at(tables, place, word) {
+        place
+    } else {
+        None
     }
 }
