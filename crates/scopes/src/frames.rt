@@ -146,7 +146,11 @@ fn mark_symbols(tables: &mut Tables<'_>, place: usize)
 fn count_marked(tables: &Tables<'_>) -> usize
     ensures { result ≡ count_by (λ a. a.is_mandatory) (kept_of tables.now).active }
 {
-    tables.active.iter().filter(|active| active.is_mandatory).count()
+    tables
+        .active
+        .iter()
+        .filter(|active| active.is_mandatory)
+        .count()
 }
 
 /// Marks the active hypotheses that are mandatory for an expression, and counts them. Each word of the expression and of the active `$e`

@@ -1,5 +1,5 @@
 -- What is left to show of `mark_float`.
-use Rattle.std.proofs.Common.{◌≡◌, ◌∙◌, Some, None, map, true, ap, subst, sym, rules}
+use Rattle.std.proofs.Common.{◌≡◌, ◌∙◌, Some, None, true, ap, subst, rules}
 use Rattle.std.specs.Prelude.{is_some}
 use Rattle.std.proofs.Math.ListN.{set}
 use Rattle.source.specs.Scopes.{is_float_of}

@@ -1,9 +1,9 @@
 -- What is left to show of `float_of`.
-use Rattle.std.proofs.Common.{◌≡◌, ◌∙◌, Option, Some, None, true, false, sym, subst, refl, rules}
+use Rattle.std.proofs.Common.{◌≡◌, ◌∙◌, Some, None, sym, subst, rules}
 use Rattle.source.specs.Scopes.{is_float_of}
 use Rattle.scopes.specs.Views.{kept_of, scope_of}
 use Rattle.scopes.specs.Found.{Found}
-use Rattle.scopes.specs.Sound.{Knows, looks_up, float_place}
+use Rattle.scopes.specs.Sound.{Knows, looks_up}
 use Rattle.scopes.proofs.Found.{found_any, found_none}
 use Rattle.scopes.proofs.sorts.float_of.Goals as goal
 

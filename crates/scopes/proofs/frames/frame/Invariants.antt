@@ -1,0 +1,16 @@
+-- What the loop of `frame` keeps.
+use Rattle.std.proofs.Common.{◌≡◌, take, map}
+use Rattle.source.specs.Scopes.{is_mandatory}
+use Rattle.source.specs.Views.{seen_words}
+use Rattle.scopes.specs.Views.{kept_of, scope_of, stand_of, marks_of}
+use Rattle.scopes.specs.Sound.{IsSoundTables}
+use Rattle.scopes.proofs.frames.frame.Given as goal
+
+abbrev pub invariant-loop-place : goal.invariant-loop-place
+invariant-loop-place l = record {
+  sound : IsSoundTables l.tables;
+  stand : stand_of (kept_of l.tables) ≡ stand_of (kept_of l.fn.tables);
+  marks : marks_of (kept_of l.tables)
+      ≡ map (is_mandatory (take l.place (scope_of (kept_of l.fn.tables)).hypotheses) (seen_words l.expression))
+      (scope_of (kept_of l.fn.tables)).hypotheses;
+}
