@@ -131,22 +131,3 @@ found_find test xs o h =
           r.4 ∙ sym (ap (passing_at test xs) (h r.0 r.1 r.2 r.3) ∙ item_at test xs r.0 r.1 r.2 r.3)
       | inr n ↦ finds_none test xs n ∙ sym (none_there test xs o n)
     ]
-
--- ---- items one after the other
-
-pub any_step : {A : Type 0} (test : A → Bool) (xs : List A) (i : ℕ) → list_any test (take i xs) ≡ false → passes_at test xs (Some i) ≡ false
-    → list_any test (take (suc i) xs) ≡ false
-any_step test [] i none here = refl
-any_step test (x ∷ xs) zero none here = ap (λ b. b || false) here
-any_step test (x ∷ xs) (suc i) none here =
-    let parts = or_false (test x) (list_any test (take i xs)) none in
-    ap (λ b. b || list_any test (take (suc i) xs)) parts.0 ∙ any_step test xs i parts.1 here
-
-pub any_there : {A : Type 0} (test : A → Bool) (xs : List A) (i : ℕ) → passes_at test xs (Some i) ≡ true → list_any test xs ≡ true
-any_there test [] i here = absurd cc
-any_there test (x ∷ xs) zero here = ap (λ b. b || list_any test xs) here
-any_there test (x ∷ xs) (suc i) here = ap (λ b. test x || b) (any_there test xs i here) ∙ or_true (test x)
-  where
-    or_true : (b : Bool) → (b || true) ≡ true
-    or_true true = refl
-    or_true false = refl

@@ -5,6 +5,7 @@ use Rattle.std.specs.Prelude.{◌||◌, filter, count_by}
 use Rattle.std.specs.List.{list_any, slice_get}
 use Rattle.std.specs.Option.{option_map_or}
 use Rattle.std.specs.Str.{bytes_eq}
+use Rattle.std.proofs.Math.Bool.{or-false, or-true, or_assoc, or_comm}
 use Rattle.std.proofs.Math.ListN.{set}
 use Rattle.std.proofs.lemmas.Bool.{cases_Bool}
 use Rattle.std.proofs.lemmas.List.Folds.{list_any-append}
@@ -16,14 +17,6 @@ use Rattle.source.specs.Views.{seen_words}
 use Rattle.scopes.specs.Found.{Found, passes_at}
 use Rattle.scopes.specs.Symbols.{symbols_of, symbols_at}
 use Rattle.scopes.proofs.Found.{none_passes, found_any}
-
-or_false : (b : Bool) → (b || false) ≡ b
-or_false true = refl
-or_false false = refl
-
-or_true : (b : Bool) → (b || true) ≡ true
-or_true true = refl
-or_true false = refl
 
 -- ---- a test that one more item passes
 
@@ -37,7 +30,7 @@ map_none test q [] none = refl
 map_none test q (x ∷ xs) none =
     let fails : test x ≡ false = none_passes test (x ∷ xs) zero x none refl in
     let later : list_any test xs ≡ false = ap (λ b. b || list_any test xs) (sym fails) ∙ none in
-    let here : q x ≡ (q x || test x) = sym (ap (λ b. q x || b) fails ∙ or_false (q x)) in
+    let here : q x ≡ (q x || test x) = sym (ap (λ b. q x || b) fails ∙ or-false (q x)) in
     let rest : map q xs ≡ map (λ x. q x || test x) xs = map_none test q xs later in
     cc
 
@@ -59,23 +52,16 @@ pub map_one : {A : Type 0} (test q : A → Bool) (xs : List A) (i : ℕ) → Fou
 map_one test q [] i h there = absurd cc
 map_one test q (x ∷ xs) zero h there =
     let passes : test x ≡ true = there in
-    let here : true ≡ (q x || test x) = sym (ap (λ b. q x || b) passes ∙ or_true (q x)) in
+    let here : true ≡ (q x || test x) = sym (ap (λ b. q x || b) passes ∙ or-true (q x)) in
     let rest : map q xs ≡ map (λ x. q x || test x) xs = map_none test q xs (found_any test xs None (found_first test x xs h)) in
     cc
 map_one test q (x ∷ xs) (suc i) h there =
     let fails : test x ≡ false = fails_first test x xs i h in
-    let here : q x ≡ (q x || test x) = sym (ap (λ b. q x || b) fails ∙ or_false (q x)) in
+    let here : q x ≡ (q x || test x) = sym (ap (λ b. q x || b) fails ∙ or-false (q x)) in
     let rest : set (map q xs) i true ≡ map (λ x. q x || test x) xs = map_one test q xs i (found_later test x xs i h) there in
     cc
 
 -- ---- one more word
-
-or_swap : (a b t : Bool) → ((a || t) || b) ≡ ((a || b) || t)
-or_swap true b t = refl
-or_swap false true true = refl
-or_swap false true false = refl
-or_swap false false true = refl
-or_swap false false false = refl
 
 -- a hypothesis is mandatory for one more word where it is so for the others, or is the $f of that word
 more_mandatory : (hs : List Hypothesis) (ws : List Word) (w : Word) (h : Hypothesis)
@@ -84,8 +70,10 @@ more_mandatory hs ws w (premise label us) = refl
 more_mandatory hs ws w (typing label c v) =
     let others : Bool = list_any (stands_in v) hs in
     ap (λ b. (is_in ws v || others) || b) (bytes_eq-sym w v)
-    ∙ or_swap (is_in ws v) (bytes_eq v w) others
-    ∙ ap (λ b. (is_in ws v || b) || others) (sym (or_false (bytes_eq v w)))
+    ∙ or_assoc (is_in ws v) others (bytes_eq v w)
+    ∙ ap (λ b. is_in ws v || b) (or_comm others (bytes_eq v w))
+    ∙ sym (or_assoc (is_in ws v) (bytes_eq v w) others)
+    ∙ ap (λ b. (is_in ws v || b) || others) (sym (or-false (bytes_eq v w)))
     ∙ ap (λ b. b || others) (sym (list_any-append (bytes_eq v) ws (w ∷ [])))
 
 pub mark_none : (xs hs : List Hypothesis) (ws : List Word) (w : Word) → Found (is_float_of w) xs None
@@ -147,13 +135,9 @@ any_more : {A : Type 0} (test : A → Bool) (xs : List A) (i : ℕ)
     → list_any test (take (suc i) xs) ≡ (list_any test (take i xs) || option_map_or test (slice_get xs i) false)
 any_more test [] zero = refl
 any_more test [] (suc i) = refl
-any_more test (x ∷ xs) zero = or_false (test x)
+any_more test (x ∷ xs) zero = or-false (test x)
 any_more test (x ∷ xs) (suc i) =
-    ap (λ b. test x || b) (any_more test xs i) ∙ or_apart (test x) (list_any test (take i xs)) (option_map_or test (slice_get xs i) false)
-  where
-    or_apart : (a b t : Bool) → (a || (b || t)) ≡ ((a || b) || t)
-    or_apart true b t = refl
-    or_apart false b t = refl
+    ap (λ b. test x || b) (any_more test xs i) ∙ sym (or_assoc (test x) (list_any test (take i xs)) (option_map_or test (slice_get xs i) false))
 
 stands_there : (v : Word) (h : Hypothesis) → stands_in v h ≡ is_in (symbols_of h) v
 stands_there v (typing label c u) = refl
@@ -172,16 +156,10 @@ next_mandatory hs ws i (premise label us) = refl
 next_mandatory hs ws i (typing label c v) =
     let before : Bool = list_any (stands_in v) (take i hs) in
     ap (λ b. b || before) (list_any-append (bytes_eq v) ws (symbols_at hs i))
-    ∙ or_right (is_in ws v) (is_in (symbols_at hs i) v) before
+    ∙ or_assoc (is_in ws v) (is_in (symbols_at hs i) v) before
+    ∙ ap (λ b. is_in ws v || b) (or_comm (is_in (symbols_at hs i) v) before)
     ∙ ap (λ b. is_in ws v || (before || b)) (sym (stands_at v hs i))
     ∙ ap (λ b. is_in ws v || b) (sym (any_more (stands_in v) hs i))
-  where
-    or_right : (a b t : Bool) → ((a || b) || t) ≡ (a || (t || b))
-    or_right true b t = refl
-    or_right false true true = refl
-    or_right false true false = refl
-    or_right false false true = refl
-    or_right false false false = refl
 
 pub mark_next : (xs hs : List Hypothesis) (ws : List Word) (i : ℕ)
     → map (is_mandatory (take i hs) (ws ++ symbols_at hs i)) xs ≡ map (is_mandatory (take (suc i) hs) ws) xs

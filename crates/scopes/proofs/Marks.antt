@@ -1,5 +1,5 @@
 -- The tables with other marks.
-use Rattle.std.proofs.Common.{◌≡◌, inl, inr, ℕ, zero, suc, ◌+◌, ◌-◌, ◌<◌, Bool, true, false, cond, List, [], ◌∷◌, length, take, map, reverse}
+use Rattle.std.proofs.Common.{◌≡◌, inl, inr, ℕ, zero, suc, ◌-◌, ◌<◌, Bool, true, false, cond, List, [], ◌∷◌, length, take, map, reverse}
 use Rattle.std.proofs.Common.{Option, Some, None, refl, sym, ap, ◌∙◌, subst, arith}
 use Rattle.std.specs.Prelude.{◌||◌, ◌&&◌, filter}
 use Rattle.std.specs.List.{AllByRecursion, list_any, slice_get}
@@ -145,19 +145,7 @@ none_filter {A} test q xs none =
       | inr n ↦ n
     ]
 
--- ---- one more item
-
-pub count_step : {A : Type 0} (q : A → Bool) (xs : List A) (i : ℕ)
-    → length (filter q (take (suc i) xs)) ≡ length (filter q (take i xs)) + cond (unwrap_or (option_map q (slice_get xs i)) false) 1 0
-count_step q [] zero = refl
-count_step q [] (suc i) = refl
-count_step {A} q (x ∷ xs) zero =
-    elim (q x) as (λ b. length {A = A} (cond b (x ∷ []) []) ≡ 0 + cond b 1 0) [ true ↦ refl | false ↦ refl ]
-count_step {A} q (x ∷ xs) (suc i) =
-    let more : ℕ = cond (unwrap_or (option_map q (slice_get xs i)) false) 1 0 in
-    let step : length (filter q (take (suc i) xs)) ≡ length (filter q (take i xs)) + more = count_step q xs i in
-    elim (q x) as (λ b. length (cond b (x ∷ filter q (take (suc i) xs)) (filter q (take (suc i) xs)))
-    ≡ length (cond b (x ∷ filter q (take i xs)) (filter q (take i xs))) + more) [ true ↦ omega arith | false ↦ step ]
+-- ---- one more mark
 
 pub mark_step : {A : Type 0} (q : A → Bool) (xs : List A) (marks : List Bool) (i : ℕ) → i < length marks → i < length xs
     → take i marks ≡ take i (map q xs)

@@ -14,7 +14,7 @@ use crate::tables::Tables;
 use mmtext::{FaultKind, contains_dollar};
 
 /// Whether a word is one of some words.
-pub(crate) fn is_among(words: &[&[u8]], word: &[u8]) -> bool
+fn is_among(words: &[&[u8]], word: &[u8]) -> bool
     ensures { result ≡ is_in (seen_words words.now) word.now }
 {
     for other in words {

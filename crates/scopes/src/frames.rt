@@ -1,6 +1,6 @@
 //! Which of the active hypotheses are mandatory.
 
-ghost use Rattle.std.specs.Prelude.{◌≡◌, Bool, ◌+◌, false, List, [], ◌∷◌, ◌++◌, ◌<◌, length, map, take, slice_get, count_by};
+ghost use Rattle.std.specs.Prelude.{◌≡◌, ◌+◌, false, List, [], ◌∷◌, ◌++◌, ◌<◌, length, map, take, slice_get, count_by};
 ghost use Rattle.mmtext.specs.Words.{Word};
 ghost use Rattle.mmsyntax.specs.Rows.{first_fault};
 ghost use Rattle.std.specs.Option.{option_map, unwrap_or};

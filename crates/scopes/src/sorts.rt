@@ -1,11 +1,11 @@
 //! What a word is at a place, by one look-up.
 
-ghost use Rattle.std.specs.Prelude.{◌≡◌, Some, is_some, length, slice_get};
+ghost use Rattle.std.specs.Prelude.{◌≡◌, Some, is_some, slice_get};
 ghost use Rattle.std.specs.Option.{option_map};
 ghost use Rattle.std.specs.Str.{bytes_eq};
 ghost use Rattle.source.specs.Scopes.{is_float_of, label_of};
 ghost use Rattle.source.specs.Views.{seen_words};
-ghost use Rattle.scopes.specs.Views.{kept_of, hypothesis_of, entry_of, scope_of};
+ghost use Rattle.scopes.specs.Views.{kept_of, hypothesis_of, scope_of};
 ghost use Rattle.scopes.specs.Found.{Found, passes_at};
 ghost use Rattle.scopes.specs.Sound.{IsSoundTables, float_place};
 ghost use Rattle.scopes.specs.Sorts.{IsSortOf};
