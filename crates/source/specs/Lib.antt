@@ -9,3 +9,4 @@ pub mod Laws
 pub mod Views
 pub mod Counts
 pub mod Examples
+pub mod Whole

@@ -1,11 +1,11 @@
 -- Which assertions are chosen, and for what reason a theorem among them is taken as an axiom.
-use Rattle.std.specs.Prelude.{Bool, List, [], ◌∷◌, ◌++◌, Option, Some, None, if◌then◌else◌, ◌&&◌, nat_lt}
+use Rattle.std.specs.Prelude.{◌≡◌, Bool, true, false, List, [], ◌∷◌, ◌++◌, map, Option, Some, None, if◌then◌else◌, ◌&&◌, nat_lt}
 use mathlib.Core.Bool.{not}
 use Rattle.std.specs.List.{list_any}
 use Rattle.std.specs.Str.{bytes_eq}
 use Rattle.mmtext.specs.Words.{Word}
 use Rattle.source.specs.Statements.{Proof}
-use Rattle.source.specs.Scopes.{Assertion, is_in}
+use Rattle.source.specs.Scopes.{Assertion, Scope, is_in}
 use Rattle.source.specs.Proofs.{Tree, Trees, node, none, some, denoted, size, is_unfinished}
 use Rattle.taking.specs.declared.reason.Reason.{Reason}
 use Rattle.taking.specs.declared.reason.Reason.TheVariants.{Unfinished, TooLong, InFront, CitesUnchosen}
@@ -55,3 +55,29 @@ reason_of choice earlier x (Some proof) =
 
 abbrev pub reason : Choice → List Assertion → Assertion → Option Reason
 reason choice earlier x = reason_of choice earlier x x.proof
+
+-- ---- what a proof needs: the labels of its tree, unless its theorem is taken as an axiom for what it is
+abbrev pub needed_by_tree : Option Tree → List Word
+needed_by_tree None = []
+needed_by_tree (Some tree) = if nat_lt 16384 (size tree) then [] else labels_of tree
+
+abbrev pub needed_by : List Assertion → Assertion → Option Proof → List Word
+needed_by earlier x None = []
+needed_by earlier x (Some proof) = if is_unfinished proof then [] else needed_by_tree (denoted earlier x)
+
+abbrev pub needed : List Assertion → Assertion → List Word
+needed earlier x = needed_by earlier x x.proof
+
+-- flags say of each assertion whether it is chosen, and whether it stands in front of the choice
+pub record AreFlags (s : Scope) (choice : Choice) (chosen front : List Bool) : Type 0 where
+  pub chosen : map (λ x. is_in choice.chosen x.label) s.assertions ≡ chosen
+  pub front : map (λ x. is_in choice.front x.label) s.assertions ≡ front
+
+-- what flags keep
+abbrev pub kept_at : {A : Type 0} → Bool → A → List A → List A
+kept_at true x xs = x ∷ xs
+kept_at false x xs = xs
+
+abbrev pub kept : {A : Type 0} → List Bool → List A → List A
+kept (f ∷ fs) (x ∷ xs) = kept_at f x (kept fs xs)
+kept _ _ = []

@@ -16,7 +16,7 @@ pub use decoded::DecodedProof;
 pub use decoder::decode;
 pub use fresh::{FreeNames, fresh_name, library_name, library_names};
 pub use listing::list;
-pub use named::Named;
+pub use named::{Named, StepPlaces};
 pub use nodes::Nodes;
 pub use reason::Reason;
 pub use says::{SymbolPlaces, expression};

@@ -1,0 +1,106 @@
+-- Which assertions of a source a wish chooses.
+use Rattle.std.specs.Prelude.{◌≡◌, ◌<◌, ◌≤◌, ℕ, pred, Bool, List, [], ◌∷◌, ◌++◌, map, filter, length, reverse, take, drop, slice_get}
+use Rattle.std.specs.Prelude.{Option, Some, None, IsTrue, if◌then◌else◌, ◌&&◌, nat_lt, ◌-◌}
+use Rattle.std.specs.List.{list_all, list_any}
+use Rattle.std.specs.Str.{bytes_eq}
+use Rattle.mmtext.specs.Words.{Word}
+use Rattle.mmsyntax.specs.Tables.{place_of}
+use Rattle.source.specs.Scopes.{Assertion, Scope, is_in}
+use Rattle.source.specs.Views.{seen_words}
+use Rattle.taking.specs.Reasons.{Choice, needed, AreFlags}
+use Rattle.choosing.specs.declared.wish.Wish.{Wish}
+use Rattle.choosing.specs.declared.wish.Wish.TheVariants as wish
+use Rattle.choosing.specs.declared.wish.Selection.{Selection}
+use Rattle.choosing.specs.declared.wish.Unchosen.{Unchosen}
+use Rattle.choosing.specs.declared.wish.Unchosen.TheVariants as unchosen
+
+-- labels of assertions
+abbrev pub labels_of : List Assertion → List Word
+labels_of xs = map (λ x. x.label) xs
+
+-- ---- all
+
+abbrev pub all_chosen : Scope → Choice
+all_chosen s = record { chosen = labels_of s.assertions; front = [] }
+
+-- ---- some assertions, and what their proofs need: the nearest first, as long as there is room
+
+-- of assertions, the last first: those that are asked for, and those that a later chosen one needs, as long as there is room
+abbrev pub nearest : List Word → ℕ → List Word → List Assertion → List Word
+nearest asked room wanted [] = []
+nearest asked room wanted (x ∷ before) =
+    if is_in asked x.label then x.label ∷ nearest asked room (needed (reverse before) x ++ wanted) before else (
+    if is_in wanted x.label && nat_lt 0 room then x.label ∷ nearest asked (pred room) (needed (reverse before) x ++ wanted) before else
+    nearest asked room wanted before)
+
+-- those that are asked for
+abbrev pub asked_of : List Word → Scope → List Assertion
+asked_of asked s = filter (λ x. is_in asked x.label) s.assertions
+
+abbrev pub chosen_for : List Word → Scope → Choice
+chosen_for asked s = record { chosen = nearest asked (4096 - length (asked_of asked s)) [] (reverse s.assertions); front = [] }
+
+-- ---- those between two, and in front of them what their proofs cite
+
+-- what the proofs of assertions behind earlier ones need
+abbrev pub needed_by_all : List Assertion → List Assertion → List Word
+needed_by_all earlier [] = []
+needed_by_all earlier (x ∷ xs) = needed earlier x ++ needed_by_all (earlier ++ x ∷ []) xs
+
+-- those from a place to another, which is one of them
+abbrev pub between : ℕ → ℕ → List Assertion → List Assertion
+between i j xs = drop i (take (j + 1) xs)
+
+abbrev pub front_of : ℕ → ℕ → List Assertion → List Assertion
+front_of i j xs = filter (λ x. is_in (needed_by_all (take i xs) (between i j xs)) x.label) (take i xs)
+
+abbrev pub chosen_between : ℕ → ℕ → Scope → Choice
+chosen_between i j s = record {
+  chosen = labels_of (front_of i j s.assertions) ++ labels_of (between i j s.assertions);
+  front = labels_of (front_of i j s.assertions);
+}
+
+-- ---- wishes
+
+-- the place of the assertion with a label
+abbrev pub place_in : Scope → Word → Option ℕ
+place_in s w = place_of (λ x. bytes_eq w x.label) s.assertions
+
+-- what a wish chooses
+abbrev pub IsChoice : Scope → Wish → Choice → Type 0
+IsChoice s wish.All choice = choice ≡ all_chosen s
+IsChoice s (wish.For asked) choice = choice ≡ chosen_for (seen_words asked.now) s
+IsChoice s (wish.Between from to) choice =
+    (i j : ℕ) × (place_in s from.now ≡ Some i) × (place_in s to.now ≡ Some j) × (choice ≡ chosen_between i j s)
+
+-- a selection by flags: at most 4,096 assertions
+pub record IsChosen (s : Scope) (w : Wish) (sel : Selection) : Type 0 where
+  pub choice : Choice
+  pub is_choice : IsChoice s w choice
+  pub flags : AreFlags s choice sel.chosen.items sel.front.items
+  pub there : IsTrue (list_all (is_in (labels_of s.assertions)) choice.chosen)
+  pub few : length choice.chosen ≤ 4096
+
+-- ---- refusals
+
+-- the labels of a wish
+abbrev pub labels_wished : Wish → List Word
+labels_wished wish.All = []
+labels_wished (wish.For asked) = seen_words asked.now
+labels_wished (wish.Between from to) = from.now ∷ to.now ∷ []
+
+abbrev pub StandsBehind : Scope → Wish → Type 0
+StandsBehind s (wish.Between from to) = (i j : ℕ) × (place_in s from.now ≡ Some i) × (place_in s to.now ≡ Some j) × (j < i)
+StandsBehind s _ = ⊥
+
+-- a wish for so many: more than 4,096
+abbrev pub IsWishForMany : Scope → Wish → ℕ → Type 0
+IsWishForMany s (wish.For asked) n = (length (asked_of (seen_words asked.now) s) ≡ n) × (4096 < n)
+IsWishForMany s w n = (choice : Choice) × IsChoice s w choice × (length choice.chosen ≡ n) × (4096 < n)
+
+-- why a wish is refused
+abbrev pub IsUnchosen : Scope → Wish → Unchosen → Type 0
+IsUnchosen s w (unchosen.UnknownLabel label) = IsTrue (is_in (labels_wished w) label.now) × (place_in s label.now ≡ None)
+IsUnchosen s w unchosen.Backwards = StandsBehind s w
+IsUnchosen s w (unchosen.TooMany n) = IsWishForMany s w n
+IsUnchosen s w unchosen.NoMemory = Unit {0}

@@ -1,0 +1,6 @@
+//! The names in a library of what is taken of a source.
+#![tactic(auto)]
+
+mod names;
+
+pub use names::{LibraryNames, Unnamed, name_all};

@@ -1,0 +1,10 @@
+//! The proofs of a source as trees: what the labels of each name, and its nodes.
+#![tactic(auto)]
+
+mod form;
+mod frames;
+mod reading;
+
+pub use form::{ProofForm, ProofTree};
+pub use frames::Frames;
+pub use reading::read_proof;
