@@ -82,7 +82,7 @@ found_some p (x ∷ xs) h =
           ∙ found_some p xs (ap (λ b. b || list_any p xs) (sym other) ∙ h)
     ]
 
-mapped_some : {A B : Type 0} (f : A → B) (o : Option A) → is_some (option_map f o) ≡ is_some o
+pub mapped_some : {A B : Type 0} (f : A → B) (o : Option A) → is_some (option_map f o) ≡ is_some o
 mapped_some f None = refl
 mapped_some f (Some x) = refl
 

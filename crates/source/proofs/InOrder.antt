@@ -82,6 +82,15 @@ behind_first tests first front [] = refl
 behind_first tests first front (w ∷ ws) =
     ap (λ b. passes (tests (first ∷ front) w) && b) (behind_first tests first (front ++ w ∷ []) ws)
 
+-- ---- what passing tests say of each word
+
+pub all_passed : (tests : List Word → Word → Tests) (P : Word → Type 0) → ((front : List Word) (w : Word) → passes (tests front w) ≡ true → P w)
+    → (front ws : List Word) → all_pass tests front ws ≡ true → All P ws
+all_passed tests P says front [] h = All-nil P
+all_passed tests P says front (w ∷ ws) h =
+    let both = and_parts (passes (tests front w)) (all_pass tests (front ++ w ∷ []) ws) h in
+    All-cons P w ws (says front w both.0) (all_passed tests P says (front ++ w ∷ []) ws both.1)
+
 -- ---- words without a $
 
 -- the tests let no word with a $ pass
@@ -90,10 +99,8 @@ Plain tests = (front : List Word) (w : Word) → passes (tests front w) ≡ true
 
 pub all_ordinary : (tests : List Word → Word → Tests) → Plain tests → (front ws : List Word) → all_pass tests front ws ≡ true
     → All IsOrdinary ws
-all_ordinary tests plain front [] h = All-nil IsOrdinary
-all_ordinary tests plain front (w ∷ ws) h =
-    let both = and_parts (passes (tests front w)) (all_pass tests (front ++ w ∷ []) ws) h in
-    All-cons IsOrdinary w ws (plain_is_ordinary w (plain front w both.0)) (all_ordinary tests plain (front ++ w ∷ []) ws both.1)
+all_ordinary tests plain front ws h =
+    all_passed tests IsOrdinary (λ earlier w p. plain_is_ordinary w (plain earlier w p)) front ws h
 
 -- ---- how many words
 

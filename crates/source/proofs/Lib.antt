@@ -17,3 +17,7 @@ pub mod Counted
 pub mod CountedLabels
 pub mod CountedLetters
 pub mod CountedWords
+pub mod Growing
+pub mod Everywhere
+pub mod Asserted
+pub mod Wholes

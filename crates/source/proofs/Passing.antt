@@ -38,7 +38,7 @@ pub no_fault : (ts : Tests) → passes ts ≡ true → first_fault ts ≡ None
 no_fault ts h = no_fault_in (first_fault ts) h
 
 -- the first test passes, and so do the others
-abbrev EachClear : Tests → Type 0
+abbrev pub EachClear : Tests → Type 0
 EachClear [] = Unit {0}
 EachClear (t ∷ ts) = (t.0 ≡ false) × (passes ts ≡ true)
 
@@ -47,7 +47,7 @@ cond_passes : (b : Bool) (kind : FaultKind) (o : Option FaultKind) → is_none (
 cond_passes true kind o h = absurd cc
 cond_passes false kind o h = (refl, h)
 
-each_clear : (ts : Tests) → passes ts ≡ true → EachClear ts
+pub each_clear : (ts : Tests) → passes ts ≡ true → EachClear ts
 each_clear [] h = tt
 each_clear (t ∷ ts) h = cond_passes t.0 t.1 (first_fault ts) h
 
@@ -80,9 +80,21 @@ named_labelled s w more h =
     let declared = (each_clear (named_tests s w ++ more) h).1 in
     not-false (is_in s.labels w) (each_clear ((not (is_in s.labels w), UnknownLabel) ∷ (not (is_named s w), NotActive) ∷ more) declared).0
 
+-- and it names an active hypothesis or an earlier assertion
+named_named : (s : Scope) (w : Word) (more : Tests) → passes (named_tests s w ++ more) ≡ true → is_named s w ≡ true
+named_named s w more h =
+    let named = (not (is_named s w), NotActive) ∷ more in
+    let labelled = (not (is_in s.labels w), UnknownLabel) ∷ named in
+    let h1 : passes labelled ≡ true = (each_clear (named_tests s w ++ more) h).1 in
+    let h2 : passes named ≡ true = (each_clear labelled h1).1 in
+    not-false (is_named s w) (each_clear named h2).0
+
 pub cited_labelled : (s : Scope) (e : List Word) (w : Word) → passes (cited_tests s e w) ≡ true → is_in s.labels w ≡ true
 cited_labelled s e w h =
     named_labelled s w ((list_any (λ x. bytes_eq w (label_of x)) (mandatory s.hypotheses e), BadToken) ∷ []) h
+
+pub cited_named : (s : Scope) (e : List Word) (w : Word) → passes (cited_tests s e w) ≡ true → is_named s w ≡ true
+cited_named s e w h = named_named s w ((list_any (λ x. bytes_eq w (label_of x)) (mandatory s.hypotheses e), BadToken) ∷ []) h
 
 pub cited_plain : (s : Scope) (e : List Word) (w : Word) → passes (cited_tests s e w) ≡ true → has_dollar w ≡ false
 cited_plain s e w h = (each_clear (cited_tests s e w) h).0
@@ -100,6 +112,11 @@ pub step_labelled : (s : Scope) (front : List Word) (w : Word) → passes (step_
     → is_in s.labels w ≡ true
 step_labelled s front w h n =
     named_labelled s w ((not (labels_go_on s.assertions s.hypotheses (front ++ w ∷ [])), BadToken) ∷ []) (step_known s front w h n)
+
+pub step_named : (s : Scope) (front : List Word) (w : Word) → passes (step_tests s front w) ≡ true → is_unknown w ≡ false
+    → is_named s w ≡ true
+step_named s front w h n =
+    named_named s w ((not (labels_go_on s.assertions s.hypotheses (front ++ w ∷ [])), BadToken) ∷ []) (step_known s front w h n)
 
 pub step_plain : (s : Scope) (front : List Word) (w : Word) → passes (step_tests s front w) ≡ true → has_dollar w ≡ false
 step_plain s front w h = elim (cases_Bool (is_unknown w)) [

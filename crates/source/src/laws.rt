@@ -3,6 +3,7 @@
 ghost use Rattle.source.specs.Proofs.{MadeAlike, SizesAreMade};
 ghost use Rattle.source.specs.Examples.{ScopesAreSpelled, ScopesAreRead, FaultsAreFound, ScopesDeclare, DummyPairIsKept, ClosedIsRefused, LettersCount, LettersFail, MarkDenotes, LabelsDenote, BrokenDenoteNone};
 ghost use Rattle.source.specs.Laws.{SourceIsOne, SourceHasNoFault, FaultyIsNoSource, SourceOrFault, SourcesAreSaid};
+ghost use Rattle.source.specs.Whole.{SourcesAreWhole};
 
 /// The words of a text.
 pub fn text_has_words()
@@ -92,4 +93,10 @@ pub fn source_or_fault()
 /// What a text declares by the grammar of sources is what the table of faults says.
 pub fn sources_are_said()
     ensures { SourcesAreSaid }
+{}
+
+/// What is so of each source: the mandatory hypotheses of an assertion are those of its frame, what a statement, a hypothesis or a finished
+/// proof names is declared, a finished proof denotes a tree, a label is that of one assertion or of one hypothesis.
+pub fn sources_are_whole()
+    ensures { SourcesAreWhole }
 {}
