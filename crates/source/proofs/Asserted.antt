@@ -1,20 +1,18 @@
 -- What lawful hypotheses and assertions name is declared where they stand, and a lawful proof is whole.
-use Rattle.std.proofs.Common.{◌≡◌, Bool, true, false, List, [], ◌∷◌, ◌++◌, IsTrue, IfSome, length, refl, sym, ap, ◌∙◌, inl, inr}
-use Rattle.std.specs.Prelude.{All, Some, is_some, nat_le, ◌||◌, ◌&&◌}
+use Rattle.std.proofs.Common.{◌≡◌, true, false, List, [], ◌∷◌, ◌++◌, IsTrue, length, sym, ap, ◌∙◌, inl, inr}
+use Rattle.std.specs.Prelude.{All, Some, is_some, nat_le, ◌||◌}
 use Rattle.std.specs.List.{list_any, list_all}
-use Rattle.std.specs.Str.{bytes_eq}
 use mathlib.Core.Bool.{not}
 use Rattle.std.proofs.lemmas.Bool.{cases_Bool, or_parts, or_right, and_parts, not-false}
 use Rattle.std.proofs.lemmas.List.Elements.{All-nil, All-cons, All-weaker}
 use Rattle.std.proofs.lemmas.List.Sums.{AllPass-from_list_all}
-use Rattle.mmtext.specs.declared.fault.FaultKind.TheVariants.{BadToken, UnknownSymbol, UnknownLabel, NotActive, NoTypeFor}
+use Rattle.mmtext.specs.declared.fault.FaultKind.TheVariants.{UnknownSymbol, NotActive, NoTypeFor}
 use Rattle.mmtext.specs.Words.{Word, is_label}
-use Rattle.mmsyntax.specs.Rows.{Tests}
 use Rattle.source.specs.Statements.{Proof, normal, compressed}
-use Rattle.source.specs.Scopes.{Hypothesis, typing, premise, label_of, Assertion, Scope, is_in, is_float_of, has_float, is_named}
-use Rattle.source.specs.Scopes.{is_unknown, mandatory}
+use Rattle.source.specs.Scopes.{Hypothesis, typing, premise, Assertion, Scope, is_in, is_float_of, has_float, is_named}
+use Rattle.source.specs.Scopes.{is_unknown}
 use Rattle.source.specs.Proofs.{taken_by, is_unfinished}
-use Rattle.source.specs.Tests.{label_tests, type_tests, symbol_tests, named_tests, step_tests, cited_tests, letter_tests, passes, all_pass}
+use Rattle.source.specs.Tests.{label_tests, type_tests, symbol_tests, step_tests, cited_tests, letter_tests, passes, all_pass}
 use Rattle.source.specs.Tests.{is_new_label, is_expression, has_lawful_words, is_whole, is_lawful_proof}
 use Rattle.source.specs.Whole.{is_typed_at, IsHypothesisWhole, labels_in, IsProofWhole, IsAssertionWhole}
 use Rattle.source.proofs.Passing.{each_clear, three_parts, step_named, cited_named}
@@ -72,7 +70,8 @@ module _ (s : Scope) where
       let both = and_parts (passes (step_tests s front w)) (all_pass (step_tests s) (front ++ w ∷ []) ws) h in
       All-cons IsTaken w ws (taken s w (step_named s front w both.0 known.0)) (steps_taken (front ++ w ∷ []) ws known.1 both.1)
 
-  labels_taken : (e : List Word) (proof : Proof) → has_lawful_words s e proof ≡ true → is_unfinished proof ≡ false → All IsTaken (labels_in proof)
+  labels_taken : (e : List Word) (proof : Proof) → has_lawful_words s e proof ≡ true → is_unfinished proof ≡ false
+      → All IsTaken (labels_in proof)
   labels_taken e (normal ws) h finished =
       steps_taken [] ws finished (and_parts (nat_le 1 (length ws)) (all_pass (step_tests s) [] ws) h).1
   labels_taken e (compressed labels letters) h finished =

@@ -1,5 +1,5 @@
 -- What is so of each hypothesis of a scope: of those that are active there, and of those that are active at its assertions.
-use Rattle.std.proofs.Common.{◌≡◌, List, [], ◌∷◌, ◌++◌, subst}
+use Rattle.std.proofs.Common.{List, [], ◌∷◌, ◌++◌, subst}
 use Rattle.std.specs.Prelude.{All, Option, None}
 use Rattle.std.proofs.lemmas.List.Elements.{All-nil, All-cons, All-head, All-tail, All-push}
 use Rattle.mmtext.specs.Words.{Word}
@@ -37,7 +37,8 @@ abbrev pub bare : Scope → Assertion
 bare s = asserting s [] [] None
 
 module _ (P : Hypothesis → Type 0) (s : Scope) where
-  pub everywhere_both : (Q R : Hypothesis → Type 0) → ((h : Hypothesis) → P h → Q h → R h) → Everywhere P s → Everywhere Q s → Everywhere R s
+  pub everywhere_both : (Q R : Hypothesis → Type 0) → ((h : Hypothesis) → P h → Q h → R h) → Everywhere P s → Everywhere Q s
+      → Everywhere R s
   everywhere_both Q R f p q = (
     all_both P Q R f s.hypotheses p.0 q.0,
     all_both (λ (x : Assertion). All P x.active) (λ (x : Assertion). All Q x.active) (λ (x : Assertion). All R x.active)

@@ -1,6 +1,6 @@
--- What stays behind statements: constants and labels stay, of closed blocks too, and the active hypotheses of a scope stay while it is open.
+-- What stays behind statements: constants and labels, of closed blocks too, and the active hypotheses of a scope while it is open.
 use Rattle.std.proofs.Common.{◌≡◌, true, List, [], ◌∷◌, ◌++◌, IsTrue, refl, sym, ap, ◌∙◌, append_assoc, append-nil}
-use Rattle.std.specs.Prelude.{Bool, ◌||◌}
+use Rattle.std.specs.Prelude.{Bool}
 use Rattle.std.specs.List.{list_any}
 use Rattle.std.specs.Str.{bytes_eq}
 use Rattle.std.proofs.lemmas.Bool.{or_left, or_right}

@@ -84,8 +84,9 @@ behind_first tests first front (w ∷ ws) =
 
 -- ---- what passing tests say of each word
 
-pub all_passed : (tests : List Word → Word → Tests) (P : Word → Type 0) → ((front : List Word) (w : Word) → passes (tests front w) ≡ true → P w)
-    → (front ws : List Word) → all_pass tests front ws ≡ true → All P ws
+pub all_passed : (tests : List Word → Word → Tests) (P : Word → Type 0)
+    → ((front : List Word) (w : Word) → passes (tests front w) ≡ true → P w) → (front ws : List Word) → all_pass tests front ws ≡ true
+    → All P ws
 all_passed tests P says front [] h = All-nil P
 all_passed tests P says front (w ∷ ws) h =
     let both = and_parts (passes (tests front w)) (all_pass tests (front ++ w ∷ []) ws) h in

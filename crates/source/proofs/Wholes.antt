@@ -1,7 +1,7 @@
 -- What stands behind lawful statements is whole: what is so at each place of a source, statement by statement.
 use Rattle.std.proofs.Common.{◌≡◌, Bool, true, false, List, [], ◌∷◌, ◌++◌, IsTrue, IfSome, map, refl, sym, ap, subst, ◌∙◌, inl, inr}
 use Rattle.std.proofs.Common.{append_assoc, append-nil}
-use Rattle.std.specs.Prelude.{All, Option, Some, None, ◌||◌, ◌&&◌}
+use Rattle.std.specs.Prelude.{All, Option, Some, None, ◌||◌}
 use Rattle.std.specs.List.{list_any}
 use Rattle.std.specs.Str.{bytes_eq}
 use Rattle.std.proofs.lemmas.Bool.{cases_Bool, or_from, and_parts}
@@ -18,13 +18,13 @@ use Rattle.source.specs.Statements.{Statements, none, some}
 use Rattle.source.specs.Scopes.{Hypothesis, typing, premise, label_of, Pair, Assertion, Scope, nothing, is_in, is_float_of, pairs_of}
 use Rattle.source.specs.Scopes.{with_hypothesis, with_assertion, enter, leave, behind, behind_all}
 use Rattle.source.specs.Tests.{passes, type_tests, float_tests, is_new_label, is_expression, is_lawful_proof, is_lawful, are_lawful}
-use Rattle.source.specs.Sources.{Declares}
 use Rattle.source.specs.Whole.{is_typed_at, IsHypothesisWhole, IsProofWhole, IsAssertionWhole, AreAssertionsWhole, IsWhole, SourcesAreWhole}
 use Rattle.source.proofs.Passing.{three_parts}
 use Rattle.source.proofs.Growing.{any_in_front, any_behind, Grows, one_label, all_grow, Extends, all_extend}
 use Rattle.source.proofs.Everywhere.{Everywhere, asserting, bare, everywhere_both, everywhere_weaker, everywhere_more, everywhere_asserted}
 use Rattle.source.proofs.Everywhere.{everywhere_left}
-use Rattle.source.proofs.Asserted.{new_label_apart, type_declared, expression_typed, proof_whole, typed_stays, hypothesis_stays, assertion_stays}
+use Rattle.source.proofs.Asserted.{new_label_apart, type_declared, expression_typed, proof_whole, typed_stays, hypothesis_stays}
+use Rattle.source.proofs.Asserted.{assertion_stays}
 
 -- ---- labels
 
@@ -66,7 +66,8 @@ record StandsWhole (s : Scope) : Type 0 where
   apart : Everywhere (IsApart s) s
 
 -- no assertion has a new label
-none_labelled : (s : Scope) (l : Word) → StandsWhole s → is_in s.labels l ≡ false → list_any (λ y. bytes_eq l y.label) s.assertions ≡ false
+none_labelled : (s : Scope) (l : Word) → StandsWhole s → is_in s.labels l ≡ false
+    → list_any (λ y. bytes_eq l y.label) s.assertions ≡ false
 none_labelled s l w new =
     list_any_none (λ (y : Assertion). bytes_eq l y.label) s.assertions
     (All-weaker (λ (y : Assertion). IsTrue (is_in s.labels y.label)) (λ (y : Assertion). bytes_eq l y.label ≡ false)
@@ -74,7 +75,8 @@ none_labelled s l w new =
 
 -- ---- assertions
 
-assertions_stay : (s t : Scope) (earlier xs : List Assertion) → Grows s t → AreAssertionsWhole s earlier xs → AreAssertionsWhole t earlier xs
+assertions_stay : (s t : Scope) (earlier xs : List Assertion) → Grows s t → AreAssertionsWhole s earlier xs
+    → AreAssertionsWhole t earlier xs
 assertions_stay s t earlier [] g h = tt
 assertions_stay s t earlier (x ∷ xs) g h = (assertion_stays s t earlier x g h.0, assertions_stay s t (earlier ++ x ∷ []) xs g h.1)
 
@@ -86,9 +88,25 @@ one_more s earlier (y ∷ xs) x h a = (
   one_more s (earlier ++ y ∷ []) xs x h.1 (subst (λ e. IsAssertionWhole s e x) (sym (append_assoc earlier (y ∷ []) xs)) a),
 )
 
--- ---- statements without a label, and the start of a block
-
 module _ (s : Scope) (w : StandsWhole s) where
+  -- ---- what is so where constants and labels grew
+
+  active_stay : (t : Scope) (y : Assertion) → Grows s t
+      → ((v : Word) → list_any (is_float_of v) s.hypotheses ≡ true → list_any (is_float_of v) y.active ≡ true)
+      → All (IsHypothesisWhole t y) s.hypotheses
+  active_stay t y g floats =
+      All-weaker (IsHypothesisWhole s (bare s)) (IsHypothesisWhole t y) (hypothesis_stays s t (bare s) y g floats) s.hypotheses w.hypotheses
+
+  labels_stay : (t : Scope) → Grows s t → All (λ x. IsTrue (is_in t.labels x.label)) s.assertions
+  labels_stay t g =
+      All-weaker (λ (x : Assertion). IsTrue (is_in s.labels x.label)) (λ (x : Assertion). IsTrue (is_in t.labels x.label))
+      (λ x l. g.labels x.label l) s.assertions w.labels
+
+  labelled_stay : (t : Scope) → Grows s t → Everywhere (IsLabelled t) s
+  labelled_stay t g = everywhere_weaker (IsLabelled s) s (IsLabelled t) (λ h l. g.labels (label_of h) l) w.labelled
+
+  -- ---- statements without a label, and the start of a block
+
   -- labels, hypotheses and assertions stay
   reshaped : (o : Bool) (cs vs : List Word) (ps : List Pair) (sy : List Word)
       → ((v : Word) → IsTrue (is_in s.constants v) → IsTrue (is_in cs v))
@@ -100,8 +118,7 @@ module _ (s : Scope) (w : StandsWhole s) where
         assertions = assertions_stay s t [] s.assertions g w.assertions;
         distinct = w.distinct;
         labels = w.labels;
-        hypotheses = All-weaker (IsHypothesisWhole s (bare s)) (IsHypothesisWhole t (bare t))
-            (hypothesis_stays s t (bare s) (bare t) g (λ v h. h)) s.hypotheses w.hypotheses;
+        hypotheses = active_stay t (bare t) g (λ v h. h);
         labelled = w.labelled;
         agree = w.agree;
         apart = w.apart;
@@ -115,7 +132,8 @@ module _ (s : Scope) (w : StandsWhole s) where
       let t = with_hypothesis s h in
       everywhere_more (AgreesWithAll t) s h
       (everywhere_both (AgreesWithAll s) s (IsLabelled s) (AgreesWithAll t)
-      (λ g a l. everywhere_more (AreSame g) s h a (λ e. absurd (apart_labels s.labels (label_of g) (label_of h) l new e))) w.agree w.labelled)
+      (λ g a l. everywhere_more (AreSame g) s h a (λ e. absurd (apart_labels s.labels (label_of g) (label_of h) l new e)))
+      w.agree w.labelled)
       (everywhere_more (AreSame h) s h
       (everywhere_weaker (IsLabelled s) s (AreSame h)
       (λ k l e. absurd (apart_labels s.labels (label_of k) (label_of h) l new (sym e))) w.labelled) (λ e. refl))
@@ -128,14 +146,10 @@ module _ (s : Scope) (w : StandsWhole s) where
       record {
         assertions = assertions_stay s t [] s.assertions g w.assertions;
         distinct = w.distinct;
-        labels = All-weaker (λ (x : Assertion). IsTrue (is_in s.labels x.label)) (λ (x : Assertion). IsTrue (is_in t.labels x.label))
-            (λ x l. g.labels x.label l) s.assertions w.labels;
+        labels = labels_stay t g;
         hypotheses = All-push (IsHypothesisWhole t (bare t)) s.hypotheses h
-            (All-weaker (IsHypothesisWhole s (bare s)) (IsHypothesisWhole t (bare t))
-            (hypothesis_stays s t (bare s) (bare t) g (λ v f. any_in_front (is_float_of v) s.hypotheses (h ∷ []) f)) s.hypotheses w.hypotheses)
-            whole;
-        labelled = everywhere_more (IsLabelled t) s h
-            (everywhere_weaker (IsLabelled s) s (IsLabelled t) (λ k l. g.labels (label_of k) l) w.labelled) (last_label s.labels (label_of h));
+            (active_stay t (bare t) g (λ v f. any_in_front (is_float_of v) s.hypotheses (h ∷ []) f)) whole;
+        labelled = everywhere_more (IsLabelled t) s h (labelled_stay t g) (last_label s.labels (label_of h));
         agree = agree_more h new;
         apart = everywhere_more (IsApart s) s h w.apart (none_labelled s (label_of h) w new);
       }
@@ -169,8 +183,7 @@ module _ (s : Scope) (w : StandsWhole s) where
         let x = asserting s label ws proof in
         let g : Grows s t = one_label s t label refl refl in
         record {
-          hypotheses = All-weaker (IsHypothesisWhole s (bare s)) (IsHypothesisWhole t x) (hypothesis_stays s t (bare s) x g (λ v h. h))
-              s.hypotheses w.hypotheses;
+          hypotheses = active_stay t x g (λ v h. h);
           statement = typed;
           mandatory = refl;
           proof = whole;
@@ -186,12 +199,9 @@ module _ (s : Scope) (w : StandsWhole s) where
           assertions = one_more t [] s.assertions x (assertions_stay s t [] s.assertions g w.assertions) (asserted_whole typed whole);
           distinct = distinct_more;
           labels = All-push (λ (y : Assertion). IsTrue (is_in t.labels y.label)) s.assertions x
-              (All-weaker (λ (y : Assertion). IsTrue (is_in s.labels y.label)) (λ (y : Assertion). IsTrue (is_in t.labels y.label))
-              (λ y l. g.labels y.label l) s.assertions w.labels) (last_label s.labels label);
-          hypotheses = All-weaker (IsHypothesisWhole s (bare s)) (IsHypothesisWhole t (bare t))
-              (hypothesis_stays s t (bare s) (bare t) g (λ v h. h)) s.hypotheses w.hypotheses;
-          labelled = everywhere_asserted (IsLabelled t) s label ws proof
-              (everywhere_weaker (IsLabelled s) s (IsLabelled t) (λ k l. g.labels (label_of k) l) w.labelled);
+              (labels_stay t g) (last_label s.labels label);
+          hypotheses = active_stay t (bare t) g (λ v h. h);
+          labelled = everywhere_asserted (IsLabelled t) s label ws proof (labelled_stay t g);
           agree = everywhere_asserted (AgreesWithAll t) s label ws proof
               (everywhere_weaker (AgreesWithAll s) s (AgreesWithAll t) (λ h a. everywhere_asserted (AreSame h) s label ws proof a) w.agree);
           apart = apart_more;
@@ -208,8 +218,7 @@ module _ (s : Scope) (w : StandsWhole s) where
         assertions = assertions_stay inner t [] inner.assertions from_inner v.assertions;
         distinct = v.distinct;
         labels = v.labels;
-        hypotheses = All-weaker (IsHypothesisWhole s (bare s)) (IsHypothesisWhole t (bare t))
-            (hypothesis_stays s t (bare s) (bare t) from_front (λ u h. h)) s.hypotheses w.hypotheses;
+        hypotheses = active_stay t (bare t) from_front (λ u h. h);
         labelled = everywhere_left (IsLabelled inner) inner s e v.labelled;
         agree = everywhere_left (AgreesWithAll t) inner s e
             (everywhere_weaker (AgreesWithAll inner) inner (AgreesWithAll t) (λ h a. everywhere_left (AreSame h) inner s e a) v.agree);
@@ -238,10 +247,11 @@ premise_whole : (s : Scope) (label : Word) (ws : List Word) → All (λ v. IsTru
     → IsHypothesisWhole (with_hypothesis s (premise label ws)) (bare (with_hypothesis s (premise label ws))) (premise label ws)
 premise_whole s label ws typed =
     let t = with_hypothesis s (premise label ws) in
-    let g : Grows s t = one_label s t label refl refl in
-    (last_label s.labels label,
-    All-weaker (λ v. IsTrue (is_typed_at s (bare s) v)) (λ v. IsTrue (is_typed_at t (bare t) v))
-    (typed_stays s t (bare s) (bare t) g (λ v f. any_in_front (is_float_of v) s.hypotheses (premise label ws ∷ []) f)) ws typed)
+    let g : Grows s t = one_label s t label refl refl in (
+      last_label s.labels label,
+      All-weaker (λ v. IsTrue (is_typed_at s (bare s) v)) (λ v. IsTrue (is_typed_at t (bare t) v))
+          (typed_stays s t (bare s) (bare t) g (λ v f. any_in_front (is_float_of v) s.hypotheses (premise label ws ∷ []) f)) ws typed,
+    )
 
 mutual
   stays : (s : Scope) (x : Statement) → StandsWhole s → is_lawful s x ≡ true → StandsWhole (behind s x)

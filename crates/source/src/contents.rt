@@ -65,7 +65,11 @@ pub trait Declared<'a> {
             ≡ Some (seen_hypotheses hs.items)) };
 
     /// The mandatory hypotheses of the assertion at a place, in order of appearance.
-    fn mandatory(&self, alloc: Global, place: usize) -> Result<Vec<&HypothesisWords<'a>>, AllocError>
+    fn mandatory(
+        &self,
+        alloc: Global,
+        place: usize,
+    ) -> Result<Vec<&HypothesisWords<'a>>, AllocError>
         requires { place < length (scope self.now).assertions }
         ensures { IfOk result (λ hs. option_map (λ a. a.hypotheses) (slice_get (scope self.now).assertions place)
             ≡ Some (seen_hypotheses hs.items)) };

@@ -95,8 +95,8 @@ pub fn sources_are_said()
     ensures { SourcesAreSaid }
 {}
 
-/// What is so of each source: the mandatory hypotheses of an assertion are those of its frame, what a statement, a hypothesis or a finished
-/// proof names is declared, a finished proof denotes a tree, a label is that of one assertion or of one hypothesis.
+/// What is so of each source: the mandatory hypotheses of an assertion are those of its frame; what a statement, a hypothesis or a finished
+/// proof names is declared; a finished proof denotes a tree; a label is that of one assertion or of one hypothesis.
 pub fn sources_are_whole()
     ensures { SourcesAreWhole }
 {}
