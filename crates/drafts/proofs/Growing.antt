@@ -1,10 +1,10 @@
 -- A sound prelude stays sound with one more name that is new, and each name of a sound prelude is new behind those before it.
-use Rattle.std.proofs.Common.{◌≡◌, ℕ, ◌<◌, ◌≤◌, false, List, [], ◌∷◌, ◌++◌, length, take, Ok, Err, None, refl, sym, ap, subst, ◌∙◌}
+use Rattle.std.proofs.Common.{◌≡◌, ℕ, ◌+◌, ◌<◌, ◌≤◌, false, List, [], ◌∷◌, ◌++◌, length, take, Ok, Err, None, refl, sym, ap, subst, ◌∙◌}
 use Rattle.std.proofs.Common.{arith}
 use Rattle.std.specs.Option.{is_some}
 use Rattle.std.specs.Str.{bytes_eq}
 use Rattle.std.proofs.lemmas.Bool.{cond-false, lt-leb}
-use Rattle.std.proofs.lemmas.List.{length-take-le}
+use Rattle.std.proofs.lemmas.List.{length-take-le, take_more}
 use Rattle.mmsyntax.specs.declared.statement.Float.{Float}
 use Rattle.mmtext.specs.declared.fault.FaultKind.TheVariants.{UnknownSymbol}
 use Rattle.mmtext.specs.Words.{Word, has_dollar}
@@ -68,6 +68,35 @@ with_one_float t f s room n =
     (float_sound (bare t) (with_float (bare t) f.label f.type_code f.variable) f.label (word_at t.constants f.type_code)
     (word_at t.variables f.variable) f.type_code f.variable refl (alone_sound t _ s) n.label.word n.label.label
     (float_label_pass t f n room) (type_is t f.type_code s n.type_within) (variable_is t f.variable s n.variable) refl).tables
+
+-- ---- the tables so far, with the name at the next place
+
+pub constants_so_far : (t s new : Tables) (w : Word) (i : ℕ) → s ≡ constants_before t i → w ≡ word_at t.constants i → i < length t.constants
+    → new ≡ record s { constants = s.constants ++ w ∷ [] } → new ≡ constants_before t (i + 1)
+constants_so_far t s new w i e f lt made =
+    let here = constants_before t i in
+    made
+    ∙ ap (λ (x : Tables). record x { constants = x.constants ++ w ∷ [] }) e
+    ∙ ap (λ (v : Word). record here { constants = here.constants ++ v ∷ [] }) f
+    ∙ ap (λ (ws : List Word). record here { constants = ws }) (sym (take_more t.constants i [] lt))
+
+pub variables_so_far : (t s new : Tables) (w : Word) (i : ℕ) → s ≡ variables_before t i → w ≡ word_at t.variables i → i < length t.variables
+    → new ≡ record s { variables = s.variables ++ w ∷ [] } → new ≡ variables_before t (i + 1)
+variables_so_far t s new w i e f lt made =
+    let here = variables_before t i in
+    made
+    ∙ ap (λ (x : Tables). record x { variables = x.variables ++ w ∷ [] }) e
+    ∙ ap (λ (v : Word). record here { variables = here.variables ++ v ∷ [] }) f
+    ∙ ap (λ (ws : List Word). record here { variables = ws }) (sym (take_more t.variables i [] lt))
+
+pub floats_so_far : (t s new : Tables) (f : Float) (i : ℕ) → s ≡ floats_before t i → f ≡ float_at t.floats i → i < length t.floats
+    → new ≡ record s { floats = s.floats ++ f ∷ [] } → new ≡ floats_before t (i + 1)
+floats_so_far t s new f i e is lt made =
+    let here = floats_before t i in
+    made
+    ∙ ap (λ (x : Tables). record x { floats = x.floats ++ f ∷ [] }) e
+    ∙ ap (λ (g : Float). record here { floats = here.floats ++ g ∷ [] }) is
+    ∙ ap (λ (fs : List Float). record here { floats = fs }) (sym (take_more t.floats i no_float lt))
 
 -- ---- names behind those before them
 

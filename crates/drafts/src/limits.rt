@@ -6,14 +6,13 @@ ghost use Rattle.drafts.specs.Drafts.{contents_of};
 ghost use Rattle.drafts.specs.Limits.{IsPassed, expressions, is_long};
 
 use crate::draft::Draft;
+use crate::words::MOST_NAME_BYTES;
 use mmsyntax::{Assertion, Expr, Float, Label};
 
 /// The most constants, and variables, and `$f`, and symbols of an expression, and pairs of an assertion.
 const MOST_SYMBOLS: usize = 65_535;
 /// The most assertions of a database.
 const MOST_ASSERTIONS: usize = 4_096;
-/// The most bytes of a name or a label.
-const MOST_NAME_BYTES: usize = 255;
 /// The most hypotheses of an assertion.
 const MOST_HYPOTHESES: usize = 1_000;
 /// The most steps of a proof.

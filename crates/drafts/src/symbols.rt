@@ -35,11 +35,7 @@ pub(crate) fn declare_prelude(
 }
 
 /// Puts the constants of a draft into an empty table.
-fn declare_constants(
-    alloc: Global,
-    symbols: &mut SymbolTable,
-    draft: &Draft,
-) -> Result<(), Refusal>
+fn declare_constants(alloc: Global, symbols: &mut SymbolTable, draft: &Draft) -> Result<(), Refusal>
     requires few { length draft.now.constants ≤ 65535 }
     requires empty { symbols.old ≡ record { constants = []; variables = []; floats = [] } }
     ensures made { OnOk result (symbols.new ≡ record { constants = draft.now.constants; variables = []; floats = [] }) }
@@ -53,11 +49,7 @@ fn declare_constants(
 }
 
 /// Puts the variables of a draft behind its constants.
-fn declare_variables(
-    alloc: Global,
-    symbols: &mut SymbolTable,
-    draft: &Draft,
-) -> Result<(), Refusal>
+fn declare_variables(alloc: Global, symbols: &mut SymbolTable, draft: &Draft) -> Result<(), Refusal>
     requires few { length draft.now.variables ≤ 65535 }
     requires constants { symbols.old ≡ record { constants = draft.now.constants; variables = []; floats = [] } }
     requires sound { AreSound symbols.old }
@@ -73,11 +65,7 @@ fn declare_variables(
 }
 
 /// Puts the `$f` of a draft behind its constants and its variables.
-fn declare_floats(
-    alloc: Global,
-    symbols: &mut SymbolTable,
-    draft: &Draft,
-) -> Result<(), Refusal>
+fn declare_floats(alloc: Global, symbols: &mut SymbolTable, draft: &Draft) -> Result<(), Refusal>
     requires few { length draft.now.floats ≤ 65535 }
     requires symbols { symbols.old ≡ record { constants = draft.now.constants; variables = draft.now.variables; floats = [] } }
     requires sound { AreSound symbols.old }
@@ -93,11 +81,7 @@ fn declare_floats(
 }
 
 /// One more constant, if it is new.
-fn declare_constant(
-    alloc: Global,
-    symbols: &mut SymbolTable,
-    name: &[u8],
-) -> Result<(), Refusal>
+fn declare_constant(alloc: Global, symbols: &mut SymbolTable, name: &[u8]) -> Result<(), Refusal>
     requires room { length symbols.old.constants < 65535 }
     ensures made { OnOk result (symbols.new ≡ record symbols.old { constants = symbols.old.constants ++ name.now ∷ [] }) }
     ensures lawful { OnOk result (IsNewSymbol symbols.old name.now) }
@@ -111,11 +95,7 @@ fn declare_constant(
 }
 
 /// One more variable, if it is new.
-fn declare_variable(
-    alloc: Global,
-    symbols: &mut SymbolTable,
-    name: &[u8],
-) -> Result<(), Refusal>
+fn declare_variable(alloc: Global, symbols: &mut SymbolTable, name: &[u8]) -> Result<(), Refusal>
     requires room { length symbols.old.variables < 65535 }
     ensures made { OnOk result (symbols.new ≡ record symbols.old { variables = symbols.old.variables ++ name.now ∷ [] }) }
     ensures lawful { OnOk result (IsNewSymbol symbols.old name.now) }

@@ -7,8 +7,8 @@ ghost use Rattle.mmsyntax.specs.Preludes.{IsWord, IsSymbolWord, IsLabelWord};
 
 use mmtext::{contains_dollar, contains_dot, is_label_token, names_hypothesis};
 
-/// The most bytes of a name.
-const MOST_NAME_BYTES: usize = 255;
+/// The most bytes of a name or a label.
+pub(crate) const MOST_NAME_BYTES: usize = 255;
 
 fn is_printable_byte(b: u8) -> bool
     ensures { result ≡ is_printable b }
@@ -37,10 +37,7 @@ pub(crate) fn is_symbol_word(word: &[u8]) -> bool
 pub(crate) fn is_label_word(word: &[u8]) -> bool
     ensures { IsTrue result ↔ IsLabelWord word.now }
 {
-    is_label_token(word)
-        && !contains_dot(word)
-        && word.len() <= MOST_NAME_BYTES
-        && is_word(word)
+    is_label_token(word) && !contains_dot(word) && word.len() <= MOST_NAME_BYTES && is_word(word)
 }
 
 /// Whether a word is 1 to 255 bytes of a label.
