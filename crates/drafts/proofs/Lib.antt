@@ -1,0 +1,3 @@
+mod Passed
+mod Growing
+mod Admitted

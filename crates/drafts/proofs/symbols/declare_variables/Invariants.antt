@@ -1,0 +1,9 @@
+-- What the loop of `declare_variables` keeps.
+use Rattle.std.proofs.Common.{◌≡◌}
+use Rattle.mmsyntax.specs.Preludes.{AreSound}
+use Rattle.mmsyntax.proofs.Copies.{variables_before}
+use Rattle.drafts.specs.Drafts.{tables_of}
+use Rattle.drafts.proofs.symbols.declare_variables.Given as goal
+
+abbrev pub invariant-loop-name : goal.invariant-loop-name
+invariant-loop-name l = record { so_far : l.symbols ≡ variables_before (tables_of l.draft) l.name-index; sound : AreSound l.symbols }

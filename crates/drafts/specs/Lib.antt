@@ -1,0 +1,4 @@
+pub mod Drafts
+pub mod Limits
+pub mod News
+pub mod Refusals
