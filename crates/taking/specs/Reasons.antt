@@ -70,8 +70,8 @@ needed earlier x = needed_by earlier x x.proof
 
 -- flags say of each assertion whether it is chosen, and whether it stands in front of the choice
 pub record AreFlags (s : Scope) (choice : Choice) (chosen front : List Bool) : Type 0 where
-  pub chosen : map (λ x. is_in choice.chosen x.label) s.assertions ≡ chosen
-  pub front : map (λ x. is_in choice.front x.label) s.assertions ≡ front
+  pub chosen_are : map (λ x. is_in choice.chosen x.label) s.assertions ≡ chosen
+  pub front_are : map (λ x. is_in choice.front x.label) s.assertions ≡ front
 
 -- what flags keep
 abbrev pub kept_at : {A : Type 0} → Bool → A → List A → List A
