@@ -1,7 +1,7 @@
 -- A label takes the last entries.
 use Rattle.std.proofs.Common.{◌≡◌, ◌<◌, ℕ, ◌+◌, ◌-◌, List, [], ◌∷◌, ◌++◌, length, take, drop, sym, ap, ◌∙◌, subst, arith}
 use Rattle.std.specs.Prelude.{Option, Some, slice_get, slice_index_or, All, MatchOption}
-use Rattle.std.specs.List.{AllByRecursion}
+use Rattle.std.specs.List.{AllByRecursion, list_any, flat_map}
 use Rattle.std.proofs.lemmas.List.{take_all, take-append-drop, length-drop}
 use Rattle.std.proofs.lemmas.List.Elements.{All-from_recursion, recursion_from_All}
 use Rattle.source.specs.Proofs.{taken_by, cite}
@@ -9,10 +9,12 @@ use Rattle.taking.specs.declared.named.Named.{Named}
 use Rattle.taking.specs.Settings.{Setting, AreNamed}
 use Rattle.taking.specs.Nodes.{Shared, AreBelow}
 use Rattle.taking.specs.Walks.{TakesAll}
-use Rattle.taking.specs.Decoding.{grown, stack_on}
+use Rattle.taking.specs.Reasons.{labels_of}
+use Rattle.taking.specs.Decoding.{grown, stack_on, trees_at, AreCovered}
 use Rattle.taking.proofs.Values.{length_more, all_more}
 use Rattle.taking.proofs.Listed.{all_both, all_front}
 use Rattle.taking.proofs.Stacked.{cites}
+use Rattle.taking.proofs.Covered.{over_entries}
 
 pub last_args : (es' es : List ℕ) (n : ℕ) → es' ≡ es → take (length es' - n) (drop n es') ≡ drop n es
 last_args es' es n e =
@@ -76,3 +78,11 @@ module _ (named : List Named) (ns : List Shared) (es ms : List ℕ) (n place : �
       subst (λ (o : Option Named). MatchOption o ⊥ (λ y. length (drop n es) ≡ length y.floats)) (sym is) whole in
       All-from_recursion (TakesAll named) (ns ++ own ∷ [])
       (all_both (TakesAll named) ns (own ∷ []) (recursion_from_All (TakesAll named) ns a) (here, tt))
+
+  pub covered_stand : AreCovered ns es
+      → AreCovered (ns ++ record { named = place; arguments = drop n es } ∷ []) (take n es ++ length ns ∷ [])
+  covered_stand a = λ labels test.
+      over_entries labels test ns (take n es) (drop n es) place front
+      (subst
+      (λ (fs : List ℕ). list_any test (flat_map labels_of (trees_at labels ns fs)) ≡ list_any (λ m. test (slice_index_or labels m.named [])) ns)
+      (sym (take-append-drop n es)) (a labels test))

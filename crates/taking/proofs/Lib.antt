@@ -8,6 +8,7 @@ pub mod Kept
 pub mod LongListings
 pub mod Turned
 pub mod Stacked
+pub mod Covered
 pub mod Codes
 pub mod Loops
 pub mod Cited

@@ -1,5 +1,5 @@
 -- What the loop of a decoding keeps.
-use Rattle.std.proofs.Common.{◌≡◌, ◌∙◌, ◌<◌, ℕ, List, [], length, map, drop, sym, ap, subst}
+use Rattle.std.proofs.Common.{◌≡◌, ◌∙◌, ◌<◌, ℕ, List, [], refl, length, map, drop, sym, ap, subst}
 use Rattle.std.specs.Prelude.{Some, All}
 use Rattle.std.proofs.lemmas.List.Elements.{All-from_recursion}
 use Rattle.source.specs.declared.letters.Code.{Code}
@@ -7,7 +7,7 @@ use Rattle.source.specs.Proofs.{run, empty, step_of}
 use Rattle.taking.specs.declared.named.Named.{Named}
 use Rattle.taking.specs.declared.decoder.Decoder.{Decoder}
 use Rattle.taking.specs.Settings.{Setting, AreNamed}
-use Rattle.taking.specs.Decoding.{grown, stack_on, stack_of, StandsOn}
+use Rattle.taking.specs.Decoding.{grown, stack_on, stack_of, StandsOn, AreCovered}
 use Rattle.taking.specs.Nodes.{Shared, AreBelow}
 use Rattle.taking.specs.Walks.{TakesAll}
 
@@ -27,6 +27,9 @@ start named codes d nodes entries marked = record {
     marked =
         subst (λ (ms : List ℕ). AreBelow (length d.nodes) ms) (sym marked) (All-from_recursion (λ k. k < length d.nodes) [] tt);
     whole = subst (λ (ns : List Shared). All (TakesAll named) ns) (sym nodes) (All-from_recursion (TakesAll named) [] tt);
+    covered =
+        subst (λ (ns : List Shared). AreCovered ns d.entries.items) (sym nodes)
+        (subst (λ (es : List ℕ). AreCovered [] es) (sym entries) (λ labels test. refl));
   };
   goes =
       λ s are.

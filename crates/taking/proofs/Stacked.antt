@@ -79,7 +79,7 @@ module _ (labels : List Word) (ns : List Shared) where
       ap (trees_at labels ns) (reverse-append es (k ∷ [])) ∙ ap (λ o. cons_option o (trees_at labels ns (reverse es))) (got_one k h)
 
   -- a node behind the others leaves their trees
-  kept_trees : (n : Shared) (ks : List ℕ) → AllByRecursion (λ k. k < length ns) ks
+  pub kept_trees : (n : Shared) (ks : List ℕ) → AllByRecursion (λ k. k < length ns) ks
       → trees_at labels (ns ++ n ∷ []) ks ≡ trees_at labels ns ks
   kept_trees n ks a =
       let e = as_long in
@@ -89,7 +89,7 @@ module _ (labels : List Word) (ns : List Shared) where
       ∙ same_filter_map (slice_get (ts ++ t ∷ [])) (slice_get ts) ks (all_more (λ k h. get_front ts (t ∷ []) k (omega arith)) ks a)
 
   -- and has its own
-  new_tree : (n : Shared) → slice_get (trees labels (ns ++ n ∷ [])) (length ns)
+  pub new_tree : (n : Shared) → slice_get (trees labels (ns ++ n ∷ [])) (length ns)
       ≡ Some (node (slice_index_or labels n.named []) (over (trees_at labels ns n.arguments)))
   new_tree n =
       let ts = trees labels ns in

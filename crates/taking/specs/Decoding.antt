@@ -7,11 +7,13 @@ use Rattle.source.specs.Proofs.{Tree, node, over, Stack, step_of, stepped, taken
 use Rattle.taking.specs.declared.decoded.DecodedProof.{DecodedProof}
 use Rattle.taking.specs.Decoded.{tree_of}
 use Rattle.std.specs.Option.{option_and_then}
+use Rattle.std.specs.List.{list_any, flat_map}
 use Rattle.taking.specs.declared.named.Named.{Named}
 use Rattle.taking.specs.declared.decoder.Decoder.{Decoder}
 use Rattle.taking.specs.Settings.{Setting, AreNamed}
 use Rattle.taking.specs.Nodes.{Shared, trees, AreBelow}
 use Rattle.taking.specs.Walks.{TakesAll}
+use Rattle.taking.specs.Reasons.{labels_of}
 
 -- what a label makes of trees
 abbrev pub grown : Word → List Tree → Tree
@@ -29,11 +31,18 @@ stack_on labels ns entries marked =
 abbrev pub stack_of : List Word → Decoder → Stack Tree
 stack_of labels d = stack_on labels d.nodes d.entries.items d.marked.items
 
--- each entry is a node, and each node takes as much as what it names asks for
+-- the nodes name just the labels of the trees of the entries: a test passes for one of these just where it passes for what a node names
+abbrev pub AreCovered : List Shared → List ℕ → Type 0
+AreCovered ns entries =
+    (labels : List Word) (test : Word → Bool)
+    → list_any test (flat_map labels_of (trees_at labels ns entries)) ≡ list_any (λ n. test (slice_index_or labels n.named [])) ns
+
+-- each entry is a node, each node takes as much as what it names asks for, and is below an entry
 pub record StandsOn (named : List Named) (d : Decoder) : Type 0 where
   pub entries : AreBelow (length d.nodes) d.entries.items
   pub marked : AreBelow (length d.nodes) d.marked.items
   pub whole : All (TakesAll named) d.nodes
+  pub covered : AreCovered d.nodes d.entries.items
 
 -- ---- what is done to the stack of trees, wherever labels name what is named, if what it takes is there
 

@@ -1,8 +1,10 @@
 //! Decoding a proof: from codes to nodes.
 
-ghost use Rattle.std.specs.Prelude.{◌≡◌, ◌<◌, length, All, IfOk, IfSome, [], true};
+ghost use Rattle.std.specs.Prelude.{◌≡◌, ◌<◌, List, length, All, IfOk, IfSome, Some, [], true};
+ghost use Rattle.mmtext.specs.Words.{Word};
+ghost use Rattle.source.specs.Proofs.{Tree};
 ghost use Rattle.taking.specs.Walks.{TakesAll};
-ghost use Rattle.taking.specs.Decoded.{AreDecoded};
+ghost use Rattle.taking.specs.Decoded.{AreDecoded, AreLabelsOf, tree_of};
 ghost use Rattle.taking.specs.Decoding.{StandsOn, IsCited, IsRepeated, IsMarked, IsTaken, IsLeft};
 
 use crate::decoded::DecodedProof;
@@ -102,6 +104,7 @@ impl Decoder {
         requires { StandsOn named.now self }
         ensures whole { IfSome result (λ proof. All (TakesAll named.now) proof.nodes) }
         ensures left { IsLeft self result }
+        ensures cites { IfSome result (λ d. (labels : List Word) (t : Tree) → tree_of labels d ≡ Some t → AreLabelsOf labels d.nodes t) }
     {
         if self.entries.len() != 1 {
             return None;
@@ -125,6 +128,8 @@ pub fn decode(
 ) -> Result<Option<DecodedProof>, AllocError>
     ensures whole { IfOk result (λ made. IfSome made (λ proof. All (TakesAll named.now) proof.nodes)) }
     ensures decoded { IfOk result (λ made. AreDecoded named.now codes.now made) }
+    ensures cites { IfOk result (λ made. IfSome made (λ d. (labels : List Word) (t : Tree)
+        → tree_of labels d ≡ Some t → AreLabelsOf labels d.nodes t)) }
 {
     let mut decoder = Decoder::new(alloc);
     for code in codes {

@@ -6,9 +6,9 @@ use Rattle.std.proofs.lemmas.List.Elements.{recursion_from_All}
 use Rattle.taking.specs.declared.named.Named.{Named}
 use Rattle.taking.specs.Nodes.{Shared, AreBelow}
 use Rattle.taking.specs.Walks.{TakesAll}
-use Rattle.taking.specs.Decoding.{stack_on}
+use Rattle.taking.specs.Decoding.{stack_on, AreCovered}
 use Rattle.taking.proofs.Stacked.{cites_none}
-use Rattle.taking.proofs.Cited.{last_args, last_cited, entries_stand, marked_stand, nodes_stand}
+use Rattle.taking.proofs.Cited.{last_args, last_cited, entries_stand, marked_stand, nodes_stand, covered_stand}
 use Rattle.taking.proofs.decoder.Decoder.cite.Goals as goal
 
 pub returns-then-count-arity-clause-cited : goal.returns-then-count-arity-clause-cited
@@ -51,6 +51,11 @@ returns-clause-stands c =
           (nodes_stand named d.nodes d.entries.items d.marked.items n c.args.place x is c.requires.stands.entries
           c.requires.stands.marked long
           c.requires.stands.whole);
+      covered = subst (λ (ms : List Shared). AreCovered ms c.push-2.new.self.items) (sym nodes)
+          (subst (λ (es : List ℕ). AreCovered ns es) (sym entries)
+          (covered_stand named d.nodes d.entries.items d.marked.items n c.args.place x is c.requires.stands.entries
+          c.requires.stands.marked long
+          c.requires.stands.covered));
     }
 
 pub returns-clause-cited : goal.returns-clause-cited

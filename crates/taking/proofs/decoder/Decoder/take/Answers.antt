@@ -1,6 +1,6 @@
 -- What is left to show of `take`.
 use Rattle.std.proofs.Common.{arith, ◌∙◌, ap}
-use Rattle.source.specs.Proofs.{stepped}
+use Rattle.source.specs.Proofs.{stepped, step_of}
 use Rattle.taking.specs.Decoding.{grown, stack_of}
 use Rattle.taking.proofs.Turned.{if_ok}
 use Rattle.taking.proofs.Codes.{step_names, step_repeats}
@@ -25,3 +25,10 @@ returns-else-place-named-clause-taken c =
     c.saturating_sub-place.ensures (let le = c.if-place-named.false in omega arith))
     ∙ h s.labels)
     c.repeat.ensures.repeated
+
+pub returns-in-Mark-clause-taken : goal.returns-in-Mark-clause-taken
+returns-in-Mark-clause-taken c =
+    if_ok c.mark.result
+    (λ there h. λ s are.
+    ap (λ code. stepped grown s.earlier s.active (stack_of s.labels c.args.self.now) (step_of s.labels code)) c.in-Mark.is ∙ h s.labels)
+    c.mark.ensures.marked
