@@ -1,1 +1,3 @@
+pub mod Indexes
 pub mod Sites
+pub mod Used

@@ -2,7 +2,9 @@
 #![tactic(auto)]
 
 mod gathering;
+mod indexed;
 mod sites;
+mod used;
 
 pub use gathering::sites_of;
 pub use sites::Sites;

@@ -1,0 +1,12 @@
+-- What the loop of `note_words` keeps: the words so far are noted.
+use Rattle.std.proofs.Common.{◌≡◌, take}
+use Rattle.std.specs.Prelude.{◌||◌}
+use Rattle.mmtext.specs.Words.{Word}
+use Rattle.source.specs.Scopes.{is_in}
+use Rattle.source.specs.Views.{seen_words}
+use Rattle.sites.specs.Used.{has}
+use Rattle.sites.proofs.used.note_words.Given as goal
+
+abbrev pub invariant-loop-word : goal.invariant-loop-word
+invariant-loop-word l =
+    (w : Word) → has l.symbols w ≡ (has l.initial.symbols w || is_in (seen_words (take l.word-index l.words)) w)
