@@ -12,6 +12,7 @@ use Rattle.mmsyntax.specs.Assertions.{Distinct}
 use Rattle.mmsyntax.proofs.Names.{bytes_eq-same, bytes_eq-sym}
 use Rattle.mmsyntax.proofs.Distinct.{any-map, distinct_left}
 use Rattle.source.specs.Scopes.{Assertion, is_in}
+use Rattle.taking.proofs.Values.{all_more}
 use Rattle.choosing.specs.Choices.{labels_of}
 use Rattle.choosing.proofs.Marked.{or_second}
 
@@ -27,10 +28,6 @@ map_alike f b [] zero h a = refl
 map_alike f b [] (suc n) h a = absurd (omega arith)
 map_alike f b (x ∷ xs) zero h a = absurd (omega arith)
 map_alike f b (x ∷ xs) (suc n) h a = ap (λ y. y ∷ map f xs) a.0 ∙ ap (λ ys. b ∷ ys) (map_alike f b xs n (omega arith) a.1)
-
-pub weaker : {A : Type 0} {P Q : A → Type 0} (f : (x : A) → P x → Q x) (xs : List A) → AllByRecursion P xs → AllByRecursion Q xs
-weaker f [] a = tt
-weaker f (x ∷ xs) a = (f x a.0, weaker f xs a.1)
 
 pub both_of : {A : Type 0} {P Q R : A → Type 0} (f : (x : A) → P x → Q x → R x) (xs : List A) → AllByRecursion P xs → AllByRecursion Q xs
     → AllByRecursion R xs
@@ -106,7 +103,7 @@ own_flags p (x ∷ xs) d =
       | inr n ↦
           let e = cond-false (p x) (x ∷ filter p xs) (filter p xs) n in
           (ap (λ ys. is_in (labels_of ys) x.label) e ∙ fewer p x.label xs d.0 ∙ sym n,
-          weaker (λ z f. ap (λ ys. is_in (labels_of ys) z.label) e ∙ f) xs rest)
+          all_more (λ z f. ap (λ ys. is_in (labels_of ys) z.label) e ∙ f) xs rest)
     ]
 
 -- ---- labels that are there

@@ -18,7 +18,9 @@ use Rattle.choosing.specs.Choices.{labels_of, nearest, all_chosen, chosen_for, c
 use Rattle.choosing.specs.Choices.{IsChosen, IsUnchosen}
 use Rattle.choosing.specs.Marks.{AreMarked}
 use Rattle.choosing.proofs.Apart.{map_alike, there, labels_pass, all_pass, count_flags}
+use Rattle.choosing.proofs.Marked.{found_at}
 use Rattle.choosing.proofs.Going.{unmarked_all}
+use Rattle.choosing.proofs.Known.{known_both, in_order}
 use Rattle.choosing.proofs.Turns.{few, filter_reverse, all_there, all_reverse}
 use Rattle.choosing.proofs.Parts.{parts_first, parts_flags, parts_count, parts_there}
 
@@ -35,6 +37,8 @@ all_is_chosen s sel n h small chosen front = record {
   };
   there = labels_pass (is_in (labels_of s.assertions)) s.assertions (there s.assertions);
   few = let e = length-map s.assertions (λ (x : Assertion). x.label) in omega arith;
+  known = refl;
+  in_order = λ h. h;
 }
 
 pub all_too_many : (s : Scope) (n : ℕ) → n ≡ length s.assertions → 4096 < n → IsUnchosen s wish.All (unchosen.TooMany n)
@@ -51,8 +55,9 @@ asked_count s ws flags n are count =
 pub for_is_chosen : (s : Scope) (asked : Bor (List (Bor (List ℕ)))) (sel : Selection) (flags : List Bool) (n m : ℕ)
     → AreMarked s.assertions (is_in (seen_words asked.now)) flags → n ≡ length (filter (λ b. b) flags) → n ≤ 4096
     → AreMarked s.assertions (is_in (nearest (seen_words asked.now) (4096 - n) [] (reverse s.assertions))) sel.chosen.items
-    → m ≡ length flags → sel.front.items ≡ replicate m false → IsChosen s (wish.For asked) sel
-for_is_chosen s asked sel flags n m are count small chosen long front =
+    → m ≡ length flags → sel.front.items ≡ replicate m false
+    → list_all (is_in (labels_of s.assertions)) (seen_words asked.now) ≡ true → IsChosen s (wish.For asked) sel
+for_is_chosen s asked sel flags n m are count small chosen long front known =
     let ws = seen_words asked.now in
     let q = is_in (labels_of s.assertions) in
     let k : length (asked_of ws s) ≡ n = asked_count s ws flags n are count in
@@ -74,6 +79,8 @@ for_is_chosen s asked sel flags n m are count small chosen long front =
           (let f = few ws (4096 - n) [] (reverse s.assertions) in
           let r = filter_reverse (λ x. is_in ws x.label) s.assertions in
           omega arith);
+      known = known;
+      in_order = λ h. h;
     }
 
 pub for_too_many : (s : Scope) (asked : Bor (List (Bor (List ℕ)))) (flags : List Bool) (n : ℕ)
@@ -82,6 +89,15 @@ pub for_too_many : (s : Scope) (asked : Bor (List (Bor (List ℕ)))) (flags : Li
 for_too_many s asked flags n are count many = (asked_count s (seen_words asked.now) flags n are count, many)
 
 -- ---- those between two
+
+-- each place has its flag
+pub wanted_within : (s : Scope) (label : Word) (place : ℕ) (test : Word → Bool) (wanted : List Bool) → place_in s label ≡ Some place
+    → AreMarked s.assertions test wanted → place < length wanted
+wanted_within s label place test wanted at are =
+    let h = (found_at s.assertions label place at).3 in
+    let e : length wanted ≡ length s.assertions =
+    ap length (sym are) ∙ length-map s.assertions (λ (x : Assertion). test x.label) in
+    omega arith
 
 module _ (s : Scope) (from to : Bor (List ℕ)) (i j : ℕ) (begins : place_in s from.now ≡ Some i) (ends : place_in s to.now ≡ Some j)
     (order : i ≤ j) (within : j < length s.assertions) (wanted : List Bool)
@@ -119,6 +135,8 @@ module _ (s : Scope) (from to : Bor (List ℕ)) (i j : ℕ) (begins : place_in s
     };
     there = parts_there s.assertions i (j + 1) needs (omega arith) (omega arith);
     few = let k = count_is sel.chosen.items n chosen count in omega arith;
+    known = known_both s from to i j begins ends;
+    in_order = in_order s from to i j begins ends order;
   }
 
   pub between_too_many : (chosen : List Bool) (n : ℕ)

@@ -5,17 +5,18 @@ use Rattle.std.specs.Prelude.{◌||◌, ◌&&◌, if◌then◌else◌, nat_lt, p
 use Rattle.std.specs.Option.{option_map}
 use Rattle.std.specs.List.{list_any}
 use Rattle.std.specs.Str.{bytes_eq}
+use Rattle.std.proofs.Math.Bool.{or_assoc, or-false}
 use Rattle.std.proofs.lemmas.Bool.{cond-true, cond-false}
-use Rattle.std.proofs.lemmas.List.{reverse-append, reverse-reverse, take_all}
+use Rattle.std.proofs.lemmas.List.{reverse-append, reverse-reverse, take_all, length-map}
 use Rattle.std.proofs.lemmas.List.Folds.{list_any-append}
-use Rattle.std.proofs.lemmas.Option.{slice_get-map}
+use Rattle.std.proofs.lemmas.Option.{slice_get-map, slice_get-get_or}
 use Rattle.mmtext.specs.Words.{Word}
 use Rattle.mmsyntax.specs.Assertions.{Distinct}
 use Rattle.source.specs.Scopes.{Assertion, is_in}
 use Rattle.taking.specs.Reasons.{needed}
 use Rattle.choosing.specs.Choices.{nearest}
 use Rattle.choosing.specs.Marks.{AreMarked, AreMarkedToo}
-use Rattle.choosing.proofs.Marked.{marks_agree, marked_at, swap_or, or_assoc}
+use Rattle.choosing.proofs.Marked.{marks_agree, marked_at, item, swap_or}
 
 -- so many are left, the first of all, with room for so many: these were wanted and chosen so far
 pub record Stands (xs : List Assertion) (asked : List Word) (all place room : ℕ) (wanted chosen : List Bool) : Type 0 where
@@ -46,14 +47,10 @@ start xs asked all n wanted chosen h w c = record {
 
 -- ---- the last
 
-or_none : (b : Bool) → (b || false) ≡ b
-or_none true = refl
-or_none false = refl
-
 pub finish : (xs : List Assertion) (asked : List Word) (all room : ℕ) (wanted chosen : List Bool) → Stands xs asked all 0 room wanted chosen
     → AreMarked xs (is_in (nearest asked all [] (reverse xs))) chosen
 finish xs asked all room wanted chosen s =
-    marks_agree xs (is_in s.done) (is_in (nearest asked all [] (reverse xs))) chosen (λ w. sym (or_none (is_in s.done w)) ∙ s.goes w)
+    marks_agree xs (is_in s.done) (is_in (nearest asked all [] (reverse xs))) chosen (λ w. sym (or-false (is_in s.done w)) ∙ s.goes w)
     s.chosen_are
 
 -- ---- a turn
@@ -168,3 +165,35 @@ module _ (xs : List Assertion) (asked : List Word) (all place room : ℕ) (wante
             ∙ ap (λ ys. is_in s.done v || is_in (nearest asked room s.needs ys) v) (sym (left xs place x is))
             ∙ s.goes v;
       }
+
+-- ---- a turn at the flags that were read
+
+pub turned_left : (xs : List Assertion) (asked : List Word) (all place left room after : ℕ) (wanted chosen marks : List Bool) (a w b v : Bool)
+    → Distinct bytes_eq (map (λ y. y.label) xs) → left < length xs → place ≡ suc left → AreMarked xs (is_in asked) marks
+    → a ≡ get_or marks left b → w ≡ get_or wanted left v → takes a w room ≡ false → after ≡ room_behind a w room
+    → Stands xs asked all place room wanted chosen → Stands xs asked all left after wanted chosen
+turned_left xs asked all place left room after wanted chosen marks a w b v d within place-is are a-is w-is h after-is s =
+    let x = item xs left within in
+    let long : length marks ≡ length xs = ap length (sym are) ∙ length-map xs (λ (y : Assertion). is_in asked y.label) in
+    let same : length wanted ≡ length xs = ap length (sym s.wanted_are) ∙ length-map xs (λ (y : Assertion). is_in s.needs y.label) in
+    let at : slice_get marks left ≡ Some a = slice_get-get_or marks left b (omega arith) ∙ ap (λ z. Some z) (sym a-is) in
+    let here : slice_get wanted left ≡ Some w = slice_get-get_or wanted left v (omega arith) ∙ ap (λ z. Some z) (sym w-is) in
+    subst (λ (k : ℕ). Stands xs asked all left k wanted chosen) (sym after-is)
+    (on_left xs asked all left room wanted chosen marks x.0 a w d x.1 are at here
+    (subst (λ (k : ℕ). Stands xs asked all k room wanted chosen) place-is s) h)
+
+pub turned_taken : (xs : List Assertion) (asked : List Word) (all place left room after : ℕ) (wanted chosen marks : List Bool) (a w b v : Bool)
+    → Distinct bytes_eq (map (λ y. y.label) xs) → left < length xs → place ≡ suc left → AreMarked xs (is_in asked) marks
+    → a ≡ get_or marks left b → w ≡ get_or wanted left v → takes a w room ≡ true → after ≡ room_behind a w room
+    → Stands xs asked all place room wanted chosen → (more : List Bool)
+    → ((test : Word → Bool) → AreMarked xs test wanted → AreMarkedToo xs left test more (slice_get xs left))
+    → Stands xs asked all left after more (set chosen left true)
+turned_taken xs asked all place left room after wanted chosen marks a w b v d within place-is are a-is w-is h after-is s more too =
+    let x = item xs left within in
+    let long : length marks ≡ length xs = ap length (sym are) ∙ length-map xs (λ (y : Assertion). is_in asked y.label) in
+    let same : length wanted ≡ length xs = ap length (sym s.wanted_are) ∙ length-map xs (λ (y : Assertion). is_in s.needs y.label) in
+    let at : slice_get marks left ≡ Some a = slice_get-get_or marks left b (omega arith) ∙ ap (λ z. Some z) (sym a-is) in
+    let here : slice_get wanted left ≡ Some w = slice_get-get_or wanted left v (omega arith) ∙ ap (λ z. Some z) (sym w-is) in
+    subst (λ (k : ℕ). Stands xs asked all left k more (set chosen left true)) (sym after-is)
+    (on_taken xs asked all left room wanted chosen marks x.0 a w d x.1 are at here
+    (subst (λ (k : ℕ). Stands xs asked all k room wanted chosen) place-is s) h more too)

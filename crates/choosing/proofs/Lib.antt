@@ -6,3 +6,4 @@ pub mod Apart
 pub mod Parts
 pub mod Wanted
 pub mod Chosen
+pub mod Known

@@ -6,6 +6,7 @@ use Rattle.std.specs.Prelude.{◌||◌, slice_get, slice_index_or, is_some, All}
 use Rattle.std.specs.Option.{option_map}
 use Rattle.std.specs.List.{list_any}
 use Rattle.std.specs.Str.{bytes_eq}
+use Rattle.std.proofs.Math.Bool.{or_assoc}
 use Rattle.std.proofs.lemmas.Bool.{or_parts}
 use Rattle.std.proofs.lemmas.Option.{slice_get-get_or, get_or_from_slice_get, slice_get_within}
 use Rattle.mmtext.specs.Words.{Word}
@@ -37,10 +38,6 @@ swap_or true true c = refl
 swap_or true false c = refl
 swap_or false true c = refl
 swap_or false false c = refl
-
-pub or_assoc : (a b c : Bool) → ((a || b) || c) ≡ (a || (b || c))
-or_assoc true b c = refl
-or_assoc false b c = refl
 
 pub or_second : (a b : Bool) → b ≡ true → (a || b) ≡ true
 or_second true b h = refl

@@ -4,24 +4,20 @@ use Rattle.std.proofs.Common.{◌∙◌, arith, append_assoc}
 use Rattle.std.specs.Prelude.{◌||◌, ◌&&◌, filter, replicate}
 use Rattle.std.specs.List.{list_any, list_all, AllByRecursion}
 use Rattle.std.specs.Str.{bytes_eq}
-use Rattle.std.proofs.lemmas.List.{map-append, length-map, length-append, length-drop, length-take-le, take-append-drop, take-map}
+use Rattle.std.proofs.lemmas.List.{map-append, length-map, length-append, length-drop, length-take-le, length-replicate, take-append-drop}
+use Rattle.std.proofs.lemmas.List.{take-map, take-take, take_all}
 use Rattle.std.proofs.lemmas.List.Elements.{filter-append}
 use Rattle.std.proofs.lemmas.List.Folds.{list_any-append, list_all-append}
 use Rattle.mmtext.specs.Words.{Word}
 use Rattle.mmsyntax.specs.Assertions.{Distinct}
 use Rattle.mmsyntax.proofs.Distinct.{distinct_left, distinct_right}
 use Rattle.source.specs.Scopes.{Assertion, is_in}
+use Rattle.taking.proofs.Values.{all_more}
 use Rattle.choosing.specs.Choices.{labels_of}
 use Rattle.choosing.specs.Marks.{from_to}
 use Rattle.choosing.proofs.Marked.{or_second}
-use Rattle.choosing.proofs.Apart.{map_same, map_alike, both_of, weaker, front_of_all, behind_of_all, fewer, front_apart, behind_apart}
+use Rattle.choosing.proofs.Apart.{map_same, map_alike, both_of, front_of_all, behind_of_all, fewer, front_apart, behind_apart}
 use Rattle.choosing.proofs.Apart.{own_flags, there, labels_pass, filter_hold, count_flags, count_trues, count_falses}
-
-take_within : {A : Type 0} (xs : List A) (i e : ℕ) → i ≤ e → take i (take e xs) ≡ take i xs
-take_within xs zero e h = refl
-take_within xs (suc i) zero h = absurd (omega arith)
-take_within [] (suc i) (suc e) h = refl
-take_within (x ∷ xs) (suc i) (suc e) h = ap (λ ys. x ∷ ys) (take_within xs i e (omega arith))
 
 or_none : (a b : Bool) → b ≡ false → (a || b) ≡ a
 or_none true b h = refl
@@ -47,11 +43,11 @@ parts_first xs i p d =
     ∙ ap (λ flags. flags ++ map F (drop i xs)) (map_same F p (take i xs) (own_flags p (take i xs) own) ∙ sym (take-map p i xs))
     ∙ ap (λ flags. take i (map p xs) ++ flags)
     (map_alike F false (drop i xs) (length (map p xs) - i) n
-    (weaker (λ y f. fewer p y.label (take i xs) f) (drop i xs) (behind_apart (take i xs) (drop i xs) apart)))
+    (all_more (λ y f. fewer p y.label (take i xs) f) (drop i xs) (behind_apart (take i xs) (drop i xs) apart)))
 
 -- those in front of a place, and behind them those up to another
 pub first : (xs : List Assertion) (i e : ℕ) → i ≤ e → take i xs ++ from_to i e xs ≡ take e xs
-first xs i e order = ap (λ ys. ys ++ from_to i e xs) (sym (take_within xs i e order)) ∙ take-append-drop i (take e xs)
+first xs i e order = ap (λ ys. ys ++ from_to i e xs) (sym (take-take i e xs order)) ∙ take-append-drop i (take e xs)
 
 module _ (xs : List Assertion) (i e : ℕ) (p : Assertion → Bool) (order : i ≤ e) (within : e ≤ length xs) where
   ahead : List Assertion
@@ -108,7 +104,7 @@ module _ (xs : List Assertion) (i e : ℕ) (p : Assertion → Bool) (order : i �
         (own_flags p ahead as_apart) (front_apart ahead inner first_apart)
 
     on_middle : AllByRecursion (λ x. chosen x ≡ true) inner
-    on_middle = weaker (λ x e. either x ∙ or_second (is_in (labels_of (filter p ahead)) x.label) (is_in (labels_of inner) x.label) e) inner (there inner)
+    on_middle = all_more (λ x e. either x ∙ or_second (is_in (labels_of (filter p ahead)) x.label) (is_in (labels_of inner) x.label) e) inner (there inner)
 
     on_last : AllByRecursion (λ x. chosen x ≡ false) after
     on_last =
@@ -167,3 +163,25 @@ module _ (xs : List Assertion) (i e : ℕ) (p : Assertion → Bool) (order : i �
       list_all-append (is_in (labels_of xs)) (labels_of (filter p ahead)) (labels_of inner)
       ∙ both_true (list_all (is_in (labels_of xs)) (labels_of (filter p ahead))) (list_all (is_in (labels_of xs)) (labels_of inner))
       (labels_pass (is_in (labels_of xs)) (filter p ahead) front) (labels_pass (is_in (labels_of xs)) inner behind)
+
+-- ---- flags that are made longer
+
+-- the first so many, then those that are set, then the rest
+pub resized : (wanted chosen first second : List Bool) (i e n : ℕ) → i ≤ e → e ≤ n → n ≡ length wanted → chosen ≡ take i wanted
+    → first ≡ take e chosen ++ replicate (e - length chosen) true → second ≡ take n first ++ replicate (n - length first) false
+    → second ≡ take i wanted ++ (replicate (e - i) true ++ replicate (length wanted - e) false)
+resized wanted chosen first second i e n order within long chosen-is first-is second-is =
+    let a : length chosen ≡ i = ap length chosen-is ∙ length-take-le i wanted (omega arith) in
+    let b : first ≡ take i wanted ++ replicate (e - i) true =
+    first-is
+    ∙ ap (λ fs. fs ++ replicate (e - length chosen) true) (take_all e chosen (omega arith) ∙ chosen-is)
+    ∙ ap (λ k. take i wanted ++ replicate (e - k) true) a in
+    let c : length first ≡ e =
+    ap length b
+    ∙ length-append (take i wanted) (replicate (e - i) true)
+    ∙ (let f = length-take-le i wanted (omega arith) in let g = length-replicate (e - i) true in omega arith) in
+    second-is
+    ∙ ap (λ fs. fs ++ replicate (n - length first) false) (take_all n first (omega arith) ∙ b)
+    ∙ append_assoc (take i wanted) (replicate (e - i) true) (replicate (n - length first) false)
+    ∙ ap (λ k. take i wanted ++ (replicate (e - i) true ++ replicate (n - k) false)) c
+    ∙ ap (λ k. take i wanted ++ (replicate (e - i) true ++ replicate (k - e) false)) long

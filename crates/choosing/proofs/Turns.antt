@@ -4,7 +4,7 @@ use Rattle.std.proofs.Common.{subst, ◌∙◌, arith, ◌⊎◌, inl, inr}
 use Rattle.std.specs.Prelude.{◌||◌, ◌&&◌, if◌then◌else◌, nat_lt, pred, reverse, filter, slice_get}
 use Rattle.std.specs.List.{list_any, list_all}
 use Rattle.std.specs.Str.{bytes_eq}
-use Rattle.std.proofs.lemmas.Bool.{cases_Bool, cond-true, cond-false}
+use Rattle.std.proofs.lemmas.Bool.{cases_Bool, cond-true, cond-false, and_parts}
 use Rattle.std.proofs.lemmas.Bool.Decides.{nat_tests}
 use Rattle.std.proofs.lemmas.List.{reverse-append, reverse-reverse, length-append}
 use Rattle.std.proofs.lemmas.List.Folds.{list_any-append, list_all-append}
@@ -13,8 +13,6 @@ use Rattle.mmtext.specs.Words.{Word}
 use Rattle.source.specs.Scopes.{Assertion, is_in}
 use Rattle.taking.specs.Reasons.{needed}
 use Rattle.choosing.specs.Choices.{nearest}
-use Rattle.choosing.specs.Marks.{AreMarked}
-use Rattle.choosing.proofs.Marked.{marks_agree, swap_or, or_assoc}
 
 -- ---- one assertion
 
@@ -46,14 +44,6 @@ turn asked room wanted x before =
 
 -- ---- so few are chosen
 
-and_second : (a b : Bool) → (a && b) ≡ true → b ≡ true
-and_second true b h = h
-and_second false b h = absurd cc
-
-first_true : (a b : Bool) → (a && b) ≡ true → a ≡ true
-first_true true b h = refl
-first_true false b h = h
-
 room_left : (n : ℕ) → nat_lt 0 n ≡ true → suc (pred n) ≡ n
 room_left zero h = absurd cc
 room_left (suc n) h = refl
@@ -75,7 +65,7 @@ few asked room wanted (x ∷ before) = elim (turn asked room wanted x before) [
           let e = ap length y.2 in
           let f = few asked (pred room) (needed (reverse before) x ++ wanted) before in
           let g = ap length (cond-false (is_in asked x.label) (x ∷ filter (asks asked) before) (filter (asks asked) before) y.0) in
-          let n = room_left room (and_second (is_in wanted x.label) (nat_lt 0 room) y.1) in
+          let n = room_left room (and_parts (is_in wanted x.label) (nat_lt 0 room) y.1).1 in
           omega arith
       | inr n ↦
           let e = ap length n.2 in
@@ -106,8 +96,8 @@ pub all_there : (q : Word → Bool) (asked : List Word) (room : ℕ) (wanted : L
     → list_all (λ x. q x.label) xs ≡ true → list_all q (nearest asked room wanted xs) ≡ true
 all_there q asked room wanted [] all = refl
 all_there q asked room wanted (x ∷ before) all =
-    let one : q x.label ≡ true = first_true (q x.label) (list_all (λ x. q x.label) before) all in
-    let rest : list_all (λ x. q x.label) before ≡ true = and_second (q x.label) (list_all (λ x. q x.label) before) all in
+    let one : q x.label ≡ true = (and_parts (q x.label) (list_all (λ x. q x.label) before) all).0 in
+    let rest : list_all (λ x. q x.label) before ≡ true = (and_parts (q x.label) (list_all (λ x. q x.label) before) all).1 in
     elim (turn asked room wanted x before) [
       | inl y ↦ ap (list_all q) y.1 ∙ both (q x.label) _ one (all_there q asked room (needed (reverse before) x ++ wanted) before rest)
       | inr r ↦ elim r [
@@ -123,5 +113,5 @@ all_reverse p [] all = refl
 all_reverse p (x ∷ xs) all =
     ap (list_all p) (reverse-append (x ∷ []) xs)
     ∙ list_all-append p (reverse xs) (x ∷ [])
-    ∙ both (list_all p (reverse xs)) (p x && true) (all_reverse p xs (and_second (p x) (list_all p xs) all))
-      (both (p x) true (first_true (p x) (list_all p xs) all) refl)
+    ∙ both (list_all p (reverse xs)) (p x && true) (all_reverse p xs (and_parts (p x) (list_all p xs) all).1)
+      (both (p x) true (and_parts (p x) (list_all p xs) all).0 refl)

@@ -4,6 +4,7 @@ use Rattle.std.proofs.Common.{◌∙◌, arith, append_assoc, add-one}
 use Rattle.std.specs.Prelude.{◌||◌, slice_get, replicate}
 use Rattle.std.specs.List.{list_any}
 use Rattle.std.specs.Str.{bytes_eq}
+use Rattle.std.proofs.Math.Bool.{or_comm}
 use Rattle.std.proofs.Math.ListN.{drop_of_length-le}
 use Rattle.std.proofs.lemmas.List.{append-nil, drop-append-le, length-take, length-take-le}
 use Rattle.std.proofs.lemmas.List.Folds.{list_any-append}
@@ -32,9 +33,6 @@ wanted_none xs i n marks h is =
     let e : from_to i i xs ≡ [] = drop_of_length-le (take i xs) short in
     subst (λ (ys : List Assertion). AreMarked xs (is_in (needed_by_all (take i xs) ys)) marks) (sym e) (unmarked_all xs n h ∙ sym is)
 
-or_swap : (a b : Bool) → (a || b) ≡ (b || a)
-or_swap a b = grind arith
-
 -- one more place
 pub wanted_more : (xs : List Assertion) (i k : ℕ) (marks after : List Bool) → i ≤ k → k < length xs
     → AreMarked xs (is_in (needed_by_all (take i xs) (from_to i k xs))) marks
@@ -54,7 +52,7 @@ wanted_more xs i k marks after order within are too =
     ∙ ap (λ zs. old ++ needed zs x.0) (first xs i k order) in
     marks_agree xs (λ w. is_in (needed (take k xs) x.0) w || is_in old w) (is_in (needed_by_all (take i xs) (from_to i (k + 1) xs))) after
     (λ w.
-    or_swap (is_in (needed (take k xs) x.0) w) (is_in old w)
+    or_comm (is_in (needed (take k xs) x.0) w) (is_in old w)
     ∙ sym (list_any-append (bytes_eq w) old (needed (take k xs) x.0))
     ∙ ap (λ ws. is_in ws w) (sym made))
     (subst (AreMarkedToo xs k (is_in old) after) x.1 (too (is_in old) are))

@@ -35,7 +35,7 @@ pub(crate) fn needed_between<'a, D: Declared<'a>>(
         wanted.items) }
 {
     let mut wanted = vec![in alloc; false; declared.assertions()]?;
-    for place in begin..=last {
+    for place in begin..last + 1 {
         mark_needed(alloc, keys, declared, frames, place, &mut wanted)?;
     }
     Ok(wanted)

@@ -1,6 +1,9 @@
 -- What is left to show of `needed_between`.
-use Rattle.std.proofs.Common.{◌≡◌, ◌∙◌, ◌≤◌, ◌<◌, length, take, arith, subst, sym, ap}
+use Rattle.std.proofs.Common.{◌≡◌, ◌∙◌, ◌≤◌, ◌<◌, ◌+◌, ℕ, length, take, arith, subst, sym, ap}
 use Rattle.std.proofs.lemmas.List.{with_items_is, length-replicate, length-map}
+use Rattle.source.specs.Scopes.{is_in}
+use Rattle.choosing.specs.Choices.{needed_by_all}
+use Rattle.choosing.specs.Marks.{AreMarked, from_to}
 use Rattle.choosing.proofs.Wanted.{wanted_none, wanted_more}
 use Rattle.choosing.proofs.between.needed_between.Goals as goal
 
@@ -30,4 +33,8 @@ loop-place-preserved g c =
     }
 
 pub returns-clause-wanted : goal.returns-clause-wanted
-returns-clause-wanted g c = ?
+returns-clause-wanted g c =
+    let xs = (g.D.Declared.scope c.args.declared.now).assertions in
+    let e : c.loop-place.place ≡ c.args.last + 1 = omega arith in
+    subst (λ (k : ℕ). AreMarked xs (is_in (needed_by_all (take c.args.begin xs) (from_to c.args.begin k xs))) c.loop-place.wanted.items) e
+    c.loop-place.invariant.wanted
