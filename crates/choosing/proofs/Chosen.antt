@@ -1,9 +1,9 @@
 -- What was found is what the wish chooses.
-use Rattle.std.proofs.Common.{◌≡◌, ◌≢◌, ◌<◌, ◌≤◌, ◌+◌, ◌-◌, ℕ, suc, Bool, true, false, List, [], ◌∷◌, ◌++◌, length, map, take, Some, None, refl, sym, ap, subst}
+use Rattle.std.proofs.Common.{◌≡◌, ◌<◌, ◌≤◌, ◌+◌, ◌-◌, ℕ, Bool, true, false, List, [], ◌++◌, length, map, take, Some, None, refl, sym, ap, subst}
 use Rattle.std.proofs.Common.{◌∙◌, arith}
 use Rattle.std.proofs.Common.{Bor}
-use Rattle.std.specs.Prelude.{◌||◌, IsTrue, filter, replicate, reverse}
-use Rattle.std.specs.List.{list_any, list_all, AllByRecursion}
+use Rattle.std.specs.Prelude.{◌||◌, filter, replicate, reverse}
+use Rattle.std.specs.List.{list_all}
 use Rattle.std.specs.Str.{bytes_eq}
 use Rattle.std.proofs.lemmas.List.{length-map}
 use Rattle.mmtext.specs.Words.{Word}
@@ -14,7 +14,7 @@ use Rattle.source.specs.Views.{seen_words}
 use Rattle.choosing.specs.declared.wish.Wish.TheVariants as wish
 use Rattle.choosing.specs.declared.wish.Selection.{Selection}
 use Rattle.choosing.specs.declared.wish.Unchosen.TheVariants as unchosen
-use Rattle.choosing.specs.Choices.{labels_of, nearest, all_chosen, chosen_for, chosen_between, place_in, needed_by_all, asked_of, between, front_of}
+use Rattle.choosing.specs.Choices.{labels_of, nearest, all_chosen, chosen_for, chosen_between, place_in, needed_by_all, asked_of, between}
 use Rattle.choosing.specs.Choices.{IsChosen, IsUnchosen}
 use Rattle.choosing.specs.Marks.{AreMarked}
 use Rattle.choosing.proofs.Apart.{map_alike, there, labels_pass, all_pass, count_flags}

@@ -1,5 +1,5 @@
 -- One more label: the assertion that has it is marked, and no other.
-use Rattle.std.proofs.Common.{◌≡◌, ◌<◌, ℕ, suc, zero, Bool, true, false, List, [], ◌∷◌, ◌++◌, length, map, take, get_or, set, Option, Some}
+use Rattle.std.proofs.Common.{◌≡◌, ◌<◌, ℕ, suc, zero, Bool, true, false, List, [], ◌∷◌, length, map, take, get_or, set, Option, Some}
 use Rattle.std.proofs.Common.{None, ◌+◌, refl, sym, ap, subst, ◌∙◌, arith, add-one}
 use Rattle.std.proofs.Common.{Bor}
 use Rattle.std.specs.Prelude.{◌||◌, slice_get, slice_index_or, is_some, All}

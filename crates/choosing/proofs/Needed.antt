@@ -1,12 +1,12 @@
 -- What a proof needs: the labels that its nodes name, unless it is too long.
-use Rattle.std.proofs.Common.{◌≡◌, ◌<◌, ◌≤◌, ℕ, suc, zero, Bool, true, false, List, [], ◌∷◌, length, map, take, Option, Some, None}
+use Rattle.std.proofs.Common.{◌≡◌, ◌<◌, ◌≤◌, ℕ, suc, Bool, true, false, List, [], ◌∷◌, length, map, take, Option, Some, None}
 use Rattle.std.proofs.Common.{refl, sym, ap, subst, ◌∙◌, arith}
 use Rattle.std.proofs.Common.{Bor}
 use Rattle.std.specs.Prelude.{slice_get, slice_index_or, nat_lt, All, MatchOption, IfSome, ◌||◌}
 use Rattle.std.specs.Option.{option_map}
-use Rattle.std.specs.List.{list_any, AllByRecursion}
+use Rattle.std.specs.List.{AllByRecursion}
 use Rattle.std.specs.Str.{bytes_eq}
-use Rattle.std.proofs.lemmas.Bool.{cond-true, cond-false, ltb-false}
+use Rattle.std.proofs.lemmas.Bool.{cond-true, cond-false}
 use Rattle.std.proofs.lemmas.Bool.Decides.{nat_tests}
 use Rattle.std.proofs.lemmas.Option.{slice_get-map, slice_get_within}
 use Rattle.std.proofs.lemmas.List.{length-map}
@@ -15,14 +15,14 @@ use Rattle.mmtext.specs.Words.{Word}
 use Rattle.source.specs.Statements.{Proof}
 use Rattle.source.specs.Scopes.{Assertion, is_in}
 use Rattle.source.specs.Views.{seen_words}
-use Rattle.source.specs.Proofs.{Tree, Trees, node, over, denoted, is_unfinished, size, sizes, total, taken_by}
+use Rattle.source.specs.Proofs.{Tree, node, over, denoted, is_unfinished, size, sizes, total, taken_by}
 use Rattle.taking.specs.declared.named.Named.{Named}
 use Rattle.taking.specs.Names.{Map}
 use Rattle.taking.specs.Nodes.{Shared, trees, counted}
 use Rattle.taking.specs.Nodes as nodes
 use Rattle.taking.specs.Reasons.{labels_of, needed, needed_by, needed_by_tree}
 use Rattle.taking.specs.Walks.{TakesAll}
-use Rattle.taking.proofs.Values.{mapped, natural, all_more}
+use Rattle.taking.proofs.Values.{natural, all_more}
 use Rattle.taking.specs.Settings.{is_float}
 use Rattle.prooftrees.specs.declared.form.ProofTree.{ProofTree}
 use Rattle.prooftrees.specs.declared.form.ProofForm.{ProofForm}

@@ -1,8 +1,7 @@
 -- What the proofs of those between two places need: one more place.
-use Rattle.std.proofs.Common.{◌≡◌, ◌<◌, ◌≤◌, ◌+◌, ℕ, suc, Bool, false, List, [], ◌∷◌, ◌++◌, length, map, take, drop, Option, Some, refl, sym, ap, subst}
+use Rattle.std.proofs.Common.{◌≡◌, ◌<◌, ◌≤◌, ◌+◌, ℕ, Bool, false, List, [], ◌∷◌, ◌++◌, length, take, drop, sym, ap, subst}
 use Rattle.std.proofs.Common.{◌∙◌, arith, append_assoc, add-one}
 use Rattle.std.specs.Prelude.{◌||◌, slice_get, replicate}
-use Rattle.std.specs.List.{list_any}
 use Rattle.std.specs.Str.{bytes_eq}
 use Rattle.std.proofs.Math.Bool.{or_comm}
 use Rattle.std.proofs.Math.ListN.{drop_of_length-le}

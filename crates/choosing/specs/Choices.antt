@@ -1,7 +1,7 @@
 -- Which assertions of a source a wish chooses.
-use Rattle.std.specs.Prelude.{◌≡◌, ◌<◌, ◌≤◌, ◌+◌, ℕ, pred, Bool, List, [], ◌∷◌, ◌++◌, map, filter, length, reverse, take, drop, slice_get}
+use Rattle.std.specs.Prelude.{◌≡◌, ◌<◌, ◌≤◌, ◌+◌, ℕ, pred, List, [], ◌∷◌, ◌++◌, map, filter, length, reverse, take, drop}
 use Rattle.std.specs.Prelude.{Option, Some, None, IsTrue, if◌then◌else◌, ◌&&◌, nat_lt, ◌-◌}
-use Rattle.std.specs.List.{list_all, list_any}
+use Rattle.std.specs.List.{list_all}
 use Rattle.std.specs.Str.{bytes_eq}
 use Rattle.mmtext.specs.Words.{Word}
 use Rattle.mmsyntax.specs.Tables.{place_of}

@@ -1,6 +1,6 @@
 -- What is left to show of `needed_between`.
-use Rattle.std.proofs.Common.{◌≡◌, ◌∙◌, ◌≤◌, ◌<◌, ◌+◌, ℕ, length, take, arith, subst, sym, ap}
-use Rattle.std.proofs.lemmas.List.{with_items_is, length-replicate, length-map}
+use Rattle.std.proofs.Common.{◌≡◌, ◌∙◌, ◌+◌, ℕ, length, take, arith, subst, sym, ap}
+use Rattle.std.proofs.lemmas.List.{with_items_is, length-replicate}
 use Rattle.source.specs.Scopes.{is_in}
 use Rattle.choosing.specs.Choices.{needed_by_all}
 use Rattle.choosing.specs.Marks.{AreMarked, from_to}

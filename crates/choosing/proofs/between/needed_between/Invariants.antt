@@ -1,5 +1,5 @@
 -- What the loop of `needed_between` keeps: what the proofs so far need.
-use Rattle.std.proofs.Common.{◌≡◌, ◌≤◌, length, take}
+use Rattle.std.proofs.Common.{◌≡◌, length, take}
 use Rattle.source.specs.Scopes.{is_in}
 use Rattle.prooftrees.specs.Frames.{Holds}
 use Rattle.choosing.specs.Choices.{needed_by_all}

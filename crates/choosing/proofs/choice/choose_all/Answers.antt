@@ -1,5 +1,5 @@
 -- What is left to show of `choose_all`.
-use Rattle.std.proofs.Common.{◌≤◌, arith}
+use Rattle.std.proofs.Common.{arith}
 use Rattle.choosing.proofs.Chosen.{all_is_chosen, all_too_many}
 use Rattle.choosing.proofs.choice.choose_all.Goals as goal
 

@@ -1,5 +1,5 @@
 -- What is left to show of `choose_between`.
-use Rattle.std.proofs.Common.{◌≡◌, ◌∙◌, ◌≤◌, ◌<◌, List, Bool, length, refl, sym, subst}
+use Rattle.std.proofs.Common.{◌≡◌, ◌∙◌, List, Bool, length, refl, sym, subst}
 use Rattle.std.specs.Prelude.{filter}
 use Rattle.choosing.proofs.Marked.{found_at}
 use Rattle.choosing.proofs.Chosen.{between_is_chosen, between_too_many, wanted_within}

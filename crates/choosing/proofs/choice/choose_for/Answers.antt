@@ -1,9 +1,6 @@
 -- What is left to show of `choose_for`.
-use Rattle.std.proofs.Common.{◌≡◌, ◌∙◌, ◌≤◌, ◌<◌, List, Bool, length, arith, sym, ap, subst}
-use Rattle.std.specs.Prelude.{filter}
-use Rattle.source.specs.Scopes.{is_in}
+use Rattle.std.proofs.Common.{◌∙◌, sym}
 use Rattle.source.specs.Views.{seen_words}
-use Rattle.choosing.specs.Marks.{AreMarked}
 use Rattle.choosing.proofs.Chosen.{for_is_chosen, for_too_many}
 use Rattle.choosing.proofs.choice.choose_for.Goals as goal
 

@@ -1,5 +1,5 @@
 -- What is left to show of `mark_named`.
-use Rattle.std.proofs.Common.{◌<◌, List, length, arith, subst}
+use Rattle.std.proofs.Common.{List, length, arith, subst}
 use Rattle.std.specs.Prelude.{◌||◌}
 use Rattle.std.proofs.lemmas.List.{take_all}
 use Rattle.source.specs.Views.{seen_words}

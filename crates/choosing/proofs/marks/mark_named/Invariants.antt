@@ -1,5 +1,5 @@
 -- What the loop of `mark_named` keeps: the nodes so far are marked.
-use Rattle.std.proofs.Common.{◌≡◌, Bool, length, take}
+use Rattle.std.proofs.Common.{Bool, take}
 use Rattle.std.specs.Prelude.{◌||◌}
 use Rattle.mmtext.specs.Words.{Word}
 use Rattle.source.specs.Views.{seen_words}

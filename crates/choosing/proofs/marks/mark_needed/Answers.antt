@@ -3,7 +3,7 @@ use Rattle.std.proofs.Common.{refl, subst, sym}
 use Rattle.std.specs.Prelude.{slice_get}
 use Rattle.choosing.specs.Marks.{AreMarkedToo}
 use Rattle.choosing.specs.Places.{nowhere}
-use Rattle.choosing.proofs.Needed.{all_within, marked_long, marked_short, marked_nothing}
+use Rattle.choosing.proofs.Needed.{all_within, marked_long, marked_short}
 use Rattle.choosing.proofs.marks.mark_needed.Goals as goal
 use Rattle.choosing.proofs.marks.mark_needed.Goals.{then-size-le-MOST_STEPS, else-size-le-MOST_STEPS}
 

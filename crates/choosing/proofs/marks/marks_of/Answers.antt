@@ -1,5 +1,5 @@
 -- What is left to show of `marks_of`.
-use Rattle.std.proofs.Common.{◌≡◌, ◌∙◌, ◌≤◌, true, length, take, arith, refl, subst, sym, ap}
+use Rattle.std.proofs.Common.{◌≡◌, ◌∙◌, true, arith, refl, subst, sym}
 use Rattle.std.specs.List.{list_all}
 use Rattle.std.proofs.lemmas.List.{take_all, with_items_is}
 use Rattle.source.specs.Scopes.{is_in}

@@ -1,5 +1,5 @@
 -- What is left to show of `choose_nearest`.
-use Rattle.std.proofs.Common.{◌≡◌, ◌∙◌, ◌≤◌, ◌<◌, ◌-◌, ℕ, suc, true, List, Bool, length, set, arith, refl, subst, sym, ap}
+use Rattle.std.proofs.Common.{◌≡◌, ◌∙◌, ◌-◌, ℕ, true, List, Bool, length, set, arith, refl, subst, sym, ap}
 use Rattle.std.proofs.lemmas.List.{with_items_is, length-replicate, length-set}
 use Rattle.choosing.proofs.Going.{Stands, start, finish, turned_left, turned_taken}
 use Rattle.choosing.proofs.nearest.choose_nearest.Goals as goal
