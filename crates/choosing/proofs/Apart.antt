@@ -44,14 +44,16 @@ behind_of_all P (x ∷ xs) ys a = behind_of_all P xs ys a.1
 -- ---- labels that differ
 
 -- none of the assertions has the label
-other : (w : Word) (xs : List Assertion) → list_any (bytes_eq w) (labels_of xs) ≡ false → AllByRecursion (λ x. bytes_eq x.label w ≡ false) xs
+other : (w : Word) (xs : List Assertion) → list_any (bytes_eq w) (labels_of xs) ≡ false
+    → AllByRecursion (λ x. bytes_eq x.label w ≡ false) xs
 other w [] none = tt
 other w (x ∷ xs) none =
     let both = or_parts (bytes_eq w x.label) (list_any (bytes_eq w) (labels_of xs)) none in
     (bytes_eq-sym x.label w ∙ both.0, other w xs both.1)
 
 -- what isn't among the labels of all isn't among those of some
-pub fewer : (p : Assertion → Bool) (w : Word) (xs : List Assertion) → is_in (labels_of xs) w ≡ false → is_in (labels_of (filter p xs)) w ≡ false
+pub fewer : (p : Assertion → Bool) (w : Word) (xs : List Assertion) → is_in (labels_of xs) w ≡ false
+    → is_in (labels_of (filter p xs)) w ≡ false
 fewer p w [] none = refl
 fewer p w (x ∷ xs) none =
     let both = or_parts (bytes_eq w x.label) (is_in (labels_of xs) w) none in
@@ -69,7 +71,7 @@ pub front_apart : (xs ys : List Assertion) → Distinct bytes_eq (labels_of (xs 
 front_apart [] ys d = tt
 front_apart (x ∷ xs) ys d =
     let none = sym (list_any-append (bytes_eq x.label) (labels_of xs) (labels_of ys))
-        ∙ ap (list_any (bytes_eq x.label)) (sym (map-append (λ (y : Assertion). y.label) xs ys)) ∙ d.0 in
+    ∙ ap (list_any (bytes_eq x.label)) (sym (map-append (λ (y : Assertion). y.label) xs ys)) ∙ d.0 in
     ((or_parts (is_in (labels_of xs) x.label) (is_in (labels_of ys) x.label) none).1, front_apart xs ys d.1)
 
 all_none : (xs : List Assertion) → AllByRecursion (λ x. is_in [] x.label ≡ false) xs
@@ -92,17 +94,19 @@ own_flags p (x ∷ xs) d =
     let apart = other x.label xs d.0 in
     elim (cases_Bool (p x)) [
       | inl y ↦
-          let e = cond-true (p x) (x ∷ filter p xs) (filter p xs) y in
-          (ap (λ ys. is_in (labels_of ys) x.label) e
-          ∙ ap (λ b. b || is_in (labels_of (filter p xs)) x.label) (bytes_eq-same x.label)
-          ∙ sym y,
-          both_of (λ z a f.
-          ap (λ ys. is_in (labels_of ys) z.label) e ∙ ap (λ b. b || is_in (labels_of (filter p xs)) z.label) a ∙ f)
-          xs apart rest)
+          let e = cond-true (p x) (x ∷ filter p xs) (filter p xs) y in (
+            ap (λ ys. is_in (labels_of ys) x.label) e
+                ∙ ap (λ b. b || is_in (labels_of (filter p xs)) x.label) (bytes_eq-same x.label)
+                ∙ sym y,
+            both_of (λ z a f.
+                ap (λ ys. is_in (labels_of ys) z.label) e ∙ ap (λ b. b || is_in (labels_of (filter p xs)) z.label) a ∙ f)
+                xs apart rest,
+          )
       | inr n ↦
-          let e = cond-false (p x) (x ∷ filter p xs) (filter p xs) n in
-          (ap (λ ys. is_in (labels_of ys) x.label) e ∙ fewer p x.label xs d.0 ∙ sym n,
-          all_more (λ z f. ap (λ ys. is_in (labels_of ys) z.label) e ∙ f) xs rest)
+          let e = cond-false (p x) (x ∷ filter p xs) (filter p xs) n in (
+            ap (λ ys. is_in (labels_of ys) x.label) e ∙ fewer p x.label xs d.0 ∙ sym n,
+            all_more (λ z f. ap (λ ys. is_in (labels_of ys) z.label) e ∙ f) xs rest,
+          )
     ]
 
 -- ---- labels that are there
@@ -110,9 +114,10 @@ own_flags p (x ∷ xs) d =
 there_of : (q : Word → Bool) (xs : List Assertion) → ((w : Word) → is_in (labels_of xs) w ≡ true → q w ≡ true)
     → AllByRecursion (λ x. q x.label ≡ true) xs
 there_of q [] h = tt
-there_of q (x ∷ xs) h =
-    (h x.label (ap (λ b. b || is_in (labels_of xs) x.label) (bytes_eq-same x.label)),
-    there_of q xs (λ w e. h w (or_second (bytes_eq w x.label) (is_in (labels_of xs) w) e)))
+there_of q (x ∷ xs) h = (
+  h x.label (ap (λ b. b || is_in (labels_of xs) x.label) (bytes_eq-same x.label)),
+  there_of q xs (λ w e. h w (or_second (bytes_eq w x.label) (is_in (labels_of xs) w) e)),
+)
 
 pub there : (xs : List Assertion) → AllByRecursion (λ x. is_in (labels_of xs) x.label ≡ true) xs
 there xs = there_of (is_in (labels_of xs)) xs (λ w e. e)

@@ -46,7 +46,8 @@ start xs asked all n wanted chosen h w c = record {
 
 -- ---- the last
 
-pub finish : (xs : List Assertion) (asked : List Word) (all room : ℕ) (wanted chosen : List Bool) → Stands xs asked all 0 room wanted chosen
+pub finish : (xs : List Assertion) (asked : List Word) (all room : ℕ) (wanted chosen : List Bool)
+    → Stands xs asked all 0 room wanted chosen
     → AreMarked xs (is_in (nearest asked all [] (reverse xs))) chosen
 finish xs asked all room wanted chosen s =
     marks_agree xs (is_in s.done) (is_in (nearest asked all [] (reverse xs))) chosen (λ w. sym (or-false (is_in s.done w)) ∙ s.goes w)
@@ -64,7 +65,8 @@ left : (xs : List Assertion) (place : ℕ) (x : Assertion) → slice_get xs plac
     → reverse (take (suc place) xs) ≡ x ∷ reverse (take place xs)
 left xs place x is = ap reverse (one_more xs place x is) ∙ reverse-append (take place xs) (x ∷ [])
 
-mark_of : (xs : List Assertion) (place : ℕ) (x : Assertion) (test : Word → Bool) (marks : List Bool) (b : Bool) → slice_get xs place ≡ Some x
+mark_of : (xs : List Assertion) (place : ℕ) (x : Assertion) (test : Word → Bool) (marks : List Bool) (b : Bool)
+    → slice_get xs place ≡ Some x
     → AreMarked xs test marks → slice_get marks place ≡ Some b → test x.label ≡ b
 mark_of xs place x test marks b is are at =
     let e : Some (test x.label) ≡ Some b =
@@ -167,8 +169,8 @@ module _ (xs : List Assertion) (asked : List Word) (all place room : ℕ) (wante
 
 -- ---- a turn at the flags that were read
 
-pub turned_left : (xs : List Assertion) (asked : List Word) (all place left room after : ℕ) (wanted chosen marks : List Bool) (a w b v : Bool)
-    → Distinct bytes_eq (map (λ y. y.label) xs) → left < length xs → place ≡ suc left → AreMarked xs (is_in asked) marks
+pub turned_left : (xs : List Assertion) (asked : List Word) (all place left room after : ℕ) (wanted chosen marks : List Bool)
+    (a w b v : Bool) → Distinct bytes_eq (map (λ y. y.label) xs) → left < length xs → place ≡ suc left → AreMarked xs (is_in asked) marks
     → a ≡ get_or marks left b → w ≡ get_or wanted left v → takes a w room ≡ false → after ≡ room_behind a w room
     → Stands xs asked all place room wanted chosen → Stands xs asked all left after wanted chosen
 turned_left xs asked all place left room after wanted chosen marks a w b v d within place-is are a-is w-is h after-is s =
@@ -181,8 +183,8 @@ turned_left xs asked all place left room after wanted chosen marks a w b v d wit
     (on_left xs asked all left room wanted chosen marks x.0 a w d x.1 are at here
     (subst (λ (k : ℕ). Stands xs asked all k room wanted chosen) place-is s) h)
 
-pub turned_taken : (xs : List Assertion) (asked : List Word) (all place left room after : ℕ) (wanted chosen marks : List Bool) (a w b v : Bool)
-    → Distinct bytes_eq (map (λ y. y.label) xs) → left < length xs → place ≡ suc left → AreMarked xs (is_in asked) marks
+pub turned_taken : (xs : List Assertion) (asked : List Word) (all place left room after : ℕ) (wanted chosen marks : List Bool)
+    (a w b v : Bool) → Distinct bytes_eq (map (λ y. y.label) xs) → left < length xs → place ≡ suc left → AreMarked xs (is_in asked) marks
     → a ≡ get_or marks left b → w ≡ get_or wanted left v → takes a w room ≡ true → after ≡ room_behind a w room
     → Stands xs asked all place room wanted chosen → (more : List Bool)
     → ((test : Word → Bool) → AreMarked xs test wanted → AreMarkedToo xs left test more (slice_get xs left))

@@ -84,7 +84,8 @@ marked_at [] k x test d is = absurd cc
 marked_at (y ∷ ys) zero x test d is =
     let e : y ≡ x = cc in
     let none = sym (any-map (bytes_eq y.label) (λ (z : Assertion). z.label) ys) ∙ d.0 in
-    subst (λ (z : Assertion). map (λ y. bytes_eq y.label z.label || test y.label) (y ∷ ys) ≡ set (map (λ y. test y.label) (y ∷ ys)) 0 true) e
+    subst (λ (z : Assertion). map (λ y. bytes_eq y.label z.label || test y.label) (y ∷ ys)
+    ≡ set (map (λ y. test y.label) (y ∷ ys)) 0 true) e
     (ap (λ b. (b || test y.label) ∷ map (λ z. bytes_eq z.label y.label || test z.label) ys) (bytes_eq-same y.label)
     ∙ ap (λ bs. true ∷ bs) (unmarked ys y.label test none))
 marked_at (y ∷ ys) (suc k) x test d is =
@@ -131,7 +132,8 @@ pub named_more : (xs : List Assertion) (labels : List Word) (nodes : List Shared
 named_more xs labels nodes i k marks after w marked label names test are =
     let n = mapped (λ (m : Shared). m.named) (slice_get nodes i) k names in
     let at : w ≡ slice_index_or labels n.0.named [] = label ∙ ap (λ j. slice_index_or labels j []) (sym n.2) in
-    marks_agree xs (λ v. bytes_eq v w || (is_named labels (take i nodes) v || test v)) (λ v. is_named labels (take (i + 1) nodes) v || test v)
+    marks_agree xs (λ v. bytes_eq v w || (is_named labels (take i nodes) v || test v))
+    (λ v. is_named labels (take (i + 1) nodes) v || test v)
     after
     (λ v.
     sym (or_assoc (bytes_eq v w) (is_named labels (take i nodes) v) (test v))
@@ -163,7 +165,8 @@ pub is_in_at : (labels : List (Bor (List ℕ))) (k : ℕ) (d : Bor (List ℕ)) �
     → is_in (seen_words labels) (get_or labels k d).now ≡ true
 is_in_at [] k d h = absurd (omega arith)
 is_in_at (l ∷ ls) zero d h = ap (λ b. b || is_in (seen_words ls) l.now) (bytes_eq-same l.now)
-is_in_at (l ∷ ls) (suc k) d h = or_second (bytes_eq (get_or ls k d).now l.now) (is_in (seen_words ls) (get_or ls k d).now) (is_in_at ls k d (omega arith))
+is_in_at (l ∷ ls) (suc k) d h =
+    or_second (bytes_eq (get_or ls k d).now l.now) (is_in (seen_words ls) (get_or ls k d).now) (is_in_at ls k d (omega arith))
 
 pub none_there : {A : Type 0} (o : Option A) → is_some o ≡ false → o ≡ None
 none_there None h = refl

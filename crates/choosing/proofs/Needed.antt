@@ -61,7 +61,8 @@ counted_is labels ns root k tree stands told =
 pub needs_nothing : (earlier : List Assertion) (x : Assertion) → x.proof ≡ None → needed earlier x ≡ []
 needs_nothing earlier x none = ap (needed_by earlier x) none
 
-pub unfinished_needs_nothing : (earlier : List Assertion) (x : Assertion) (proof : Proof) → x.proof ≡ Some proof → is_unfinished proof ≡ true
+pub unfinished_needs_nothing : (earlier : List Assertion) (x : Assertion) (proof : Proof) → x.proof ≡ Some proof
+    → is_unfinished proof ≡ true
     → needed earlier x ≡ []
 unfinished_needs_nothing earlier x proof is unfinished =
     ap (needed_by earlier x) is ∙ cond-true (is_unfinished proof) [] (needed_by_tree (denoted earlier x)) unfinished

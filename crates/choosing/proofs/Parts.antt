@@ -103,7 +103,9 @@ module _ (xs : List Assertion) (i e : ℕ) (p : Assertion → Bool) (order : i �
         (own_flags p ahead as_apart) (front_apart ahead inner first_apart)
 
     on_middle : AllByRecursion (λ x. chosen x ≡ true) inner
-    on_middle = all_more (λ x e. either x ∙ or_second (is_in (labels_of (filter p ahead)) x.label) (is_in (labels_of inner) x.label) e) inner (there inner)
+    on_middle =
+        all_more (λ x e. either x ∙ or_second (is_in (labels_of (filter p ahead)) x.label) (is_in (labels_of inner) x.label) e) inner
+        (there inner)
 
     on_last : AllByRecursion (λ x. chosen x ≡ false) after
     on_last =

@@ -33,11 +33,19 @@ turn asked room wanted x before =
     elim (cases_Bool (is_in asked x.label)) [
       | inl y ↦ inl (y, cond-true (is_in asked x.label) first (if takes then second else third) y)
       | inr n ↦ elim (cases_Bool takes) [
-          | inl y ↦ inr (inl (n, y, cond-false (is_in asked x.label) first (if takes then second else third) n
-              ∙ cond-true takes second third y))
-          | inr m ↦ inr (inr (n, m, cond-false (is_in asked x.label) first (if takes then second else third) n
-              ∙ cond-false takes second third m))
-        ]
+        | inl y ↦ inr (inl (
+          n,
+          y,
+          cond-false (is_in asked x.label) first (if takes then second else third) n
+              ∙ cond-true takes second third y,
+        ))
+        | inr m ↦ inr (inr (
+          n,
+          m,
+          cond-false (is_in asked x.label) first (if takes then second else third) n
+              ∙ cond-false takes second third m,
+        ))
+      ]
     ]
 
 -- ---- so few are chosen
@@ -59,18 +67,18 @@ few asked room wanted (x ∷ before) = elim (turn asked room wanted x before) [
       let g = ap length (cond-true (is_in asked x.label) (x ∷ filter (asks asked) before) (filter (asks asked) before) y.0) in
       omega arith
   | inr r ↦ elim r [
-      | inl y ↦
-          let e = ap length y.2 in
-          let f = few asked (pred room) (needed (reverse before) x ++ wanted) before in
-          let g = ap length (cond-false (is_in asked x.label) (x ∷ filter (asks asked) before) (filter (asks asked) before) y.0) in
-          let n = room_left room (and_parts (is_in wanted x.label) (nat_lt 0 room) y.1).1 in
-          omega arith
-      | inr n ↦
-          let e = ap length n.2 in
-          let f = few asked room wanted before in
-          let g = ap length (cond-false (is_in asked x.label) (x ∷ filter (asks asked) before) (filter (asks asked) before) n.0) in
-          omega arith
-    ]
+    | inl y ↦
+        let e = ap length y.2 in
+        let f = few asked (pred room) (needed (reverse before) x ++ wanted) before in
+        let g = ap length (cond-false (is_in asked x.label) (x ∷ filter (asks asked) before) (filter (asks asked) before) y.0) in
+        let n = room_left room (and_parts (is_in wanted x.label) (nat_lt 0 room) y.1).1 in
+        omega arith
+    | inr n ↦
+        let e = ap length n.2 in
+        let f = few asked room wanted before in
+        let g = ap length (cond-false (is_in asked x.label) (x ∷ filter (asks asked) before) (filter (asks asked) before) n.0) in
+        omega arith
+  ]
 ]
 
 -- as many pass behind as before
@@ -99,11 +107,11 @@ all_there q asked room wanted (x ∷ before) all =
     elim (turn asked room wanted x before) [
       | inl y ↦ ap (list_all q) y.1 ∙ both (q x.label) _ one (all_there q asked room (needed (reverse before) x ++ wanted) before rest)
       | inr r ↦ elim r [
-          | inl y ↦
-              ap (list_all q) y.2
-              ∙ both (q x.label) _ one (all_there q asked (pred room) (needed (reverse before) x ++ wanted) before rest)
-          | inr n ↦ ap (list_all q) n.2 ∙ all_there q asked room wanted before rest
-        ]
+        | inl y ↦
+            ap (list_all q) y.2
+            ∙ both (q x.label) _ one (all_there q asked (pred room) (needed (reverse before) x ++ wanted) before rest)
+        | inr n ↦ ap (list_all q) n.2 ∙ all_there q asked room wanted before rest
+      ]
     ]
 
 pub all_reverse : {A : Type 0} (p : A → Bool) (xs : List A) → list_all p xs ≡ true → list_all p (reverse xs) ≡ true
@@ -112,4 +120,4 @@ all_reverse p (x ∷ xs) all =
     ap (list_all p) (reverse-append (x ∷ []) xs)
     ∙ list_all-append p (reverse xs) (x ∷ [])
     ∙ both (list_all p (reverse xs)) (p x && true) (all_reverse p xs (and_parts (p x) (list_all p xs) all).1)
-      (both (p x) true (and_parts (p x) (list_all p xs) all).0 refl)
+    (both (p x) true (and_parts (p x) (list_all p xs) all).0 refl)

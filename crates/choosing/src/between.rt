@@ -42,7 +42,11 @@ pub(crate) fn needed_between<'a, D: Declared<'a>>(
 }
 
 /// Those from one place to another are chosen, and in front of them those that are wanted there.
-pub(crate) fn selected(wanted: Vec<bool>, begin: usize, last: usize) -> Result<Selection, AllocError>
+pub(crate) fn selected(
+    wanted: Vec<bool>,
+    begin: usize,
+    last: usize,
+) -> Result<Selection, AllocError>
     requires order { begin ≤ last }
     requires within { last < length wanted.items }
     ensures front { IfOk result (λ sel. sel.front.items ≡ take begin wanted.items ++ replicate (length wanted.items - begin) false) }

@@ -1,6 +1,6 @@
 //! Choosing: from a wish to what is chosen.
 
-ghost use Rattle.std.specs.Prelude.{◌≡◌, ◌≢◌, ◌∷◌, IfOk, IfErr, length, filter};
+ghost use Rattle.std.specs.Prelude.{◌≡◌, ◌≢◌, IfOk, IfErr, length, filter};
 ghost use Rattle.source.specs.Whole.{IsWhole};
 ghost use Rattle.prooftrees.specs.Frames.{Holds};
 ghost use Rattle.choosing.specs.Choices.{IsChosen, IsUnchosen};

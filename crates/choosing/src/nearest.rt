@@ -1,6 +1,6 @@
 //! What some assertions need: the nearest first, as long as there is room.
 
-ghost use Rattle.std.specs.Prelude.{◌≡◌, ◌≢◌, ◌||◌, ◌&&◌, [], List, if◌then◌else◌, nat_lt, pred, length, reverse, IfOk, IfErr};
+ghost use Rattle.std.specs.Prelude.{◌≡◌, ◌||◌, ◌&&◌, [], List, if◌then◌else◌, nat_lt, pred, length, reverse, IfOk};
 ghost use Rattle.mmtext.specs.Words.{Word};
 ghost use Rattle.source.specs.Scopes.{is_in};
 ghost use Rattle.source.specs.Whole.{IsWhole};
@@ -46,7 +46,7 @@ pub(crate) fn choose_nearest<'a, D: Declared<'a>>(
     ensures frames { IfOk result (λ _. Holds (D.scope declared.now).assertions frames.new) }
     ensures chosen { IfOk result (λ chosen. (ws : List Word) → AreMarked (D.scope declared.now).assertions (is_in ws) asked.now
         → AreMarked (D.scope declared.now).assertions
-            (is_in (nearest ws room [] (reverse (D.scope declared.now).assertions))) chosen.items) }
+        (is_in (nearest ws room [] (reverse (D.scope declared.now).assertions))) chosen.items) }
 {
     let mut wanted = vec![in alloc; false; asked.len()]?;
     let mut chosen = vec![in alloc; false; asked.len()]?;

@@ -1,7 +1,5 @@
 //! A library in which nothing has a place: for what is asked of proofs before there is one.
 
-ghost use Rattle.std.specs.Prelude.{[]};
-
 use mmsyntax::Step;
 use std::alloc::{AllocError, Global};
 use taking::StepPlaces;

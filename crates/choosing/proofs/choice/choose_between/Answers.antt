@@ -33,5 +33,6 @@ returns-clause-chosen g c =
     (sym c.in-Some-place_of.ensures) c.if-last-begin.false at.3 c.in_ok-wanted.wanted.items c.in_ok-wanted.ensures.wanted
     c.in_ok-selection.selection c.count_marked-count.result c.requires.whole.distinct c.in_ok-selection.ensures.front
     c.in_ok-selection.ensures.chosen
-    (subst (λ (fs : List Bool). c.count_marked-count.result ≡ length (filter (λ b. b) fs)) c.deref.ensures.value c.count_marked-count.ensures)
+    (subst (λ (fs : List Bool). c.count_marked-count.result ≡ length (filter (λ b. b) fs)) c.deref.ensures.value
+    c.count_marked-count.ensures)
     c.if-count-gt-MOST.false

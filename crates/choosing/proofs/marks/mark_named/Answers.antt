@@ -13,7 +13,8 @@ loop-node-preserved g c =
     λ test are. named_more (g.D.Declared.scope c.args.declared.now).assertions (seen_words c.args.labels.now) c.args.nodes.now
     c.loop-node.node c.named.result c.loop-node.marks c.mark.new.marks _ c.mark.ensures.marked
     (label_at c.args.labels.now c.named.result _
-    (named_there c.args.nodes.now c.loop-node.node c.named.result (length c.args.labels.now) c.requires.named c.named.ensures)) c.named.ensures test (c.loop-node.invariant test are)
+    (named_there c.args.nodes.now c.loop-node.node c.named.result (length c.args.labels.now) c.requires.named c.named.ensures))
+    c.named.ensures test (c.loop-node.invariant test are)
 
 pub returns : goal.returns
 returns g c =

@@ -9,10 +9,17 @@ use Rattle.choosing.proofs.marks.mark_needed.Goals.{then-size-le-MOST_STEPS, els
 
 pub mark_named-requires : goal.mark_named-requires
 mark_named-requires g c =
-    λ k. ((refl, tt),
-    (c.requires.whole.distinct,
-    (all_within nowhere (g.D.Declared.scope c.args.declared.now).assertions c.args.place c.in_ok-form.form c.requires.within
-    c.in_ok-form.ensures.form c.in-Tree.tree c.in-Tree.is c.deref.result.now c.deref.ensures.value, c.requires.long)))
+    λ k. (
+      (refl, tt),
+      (
+        c.requires.whole.distinct,
+        (
+          all_within nowhere (g.D.Declared.scope c.args.declared.now).assertions c.args.place c.in_ok-form.form c.requires.within
+              c.in_ok-form.ensures.form c.in-Tree.tree c.in-Tree.is c.deref.result.now c.deref.ensures.value,
+          c.requires.long,
+        ),
+      ),
+    )
 
 pub returns-after-size-le-MOST_STEPS-clause-marked : goal.returns-after-size-le-MOST_STEPS-clause-marked
 returns-after-size-le-MOST_STEPS-clause-marked g c =

@@ -21,8 +21,10 @@ loop-label-init g c = record {
 
 pub returns-then-not-mark-clause-refused : goal.returns-then-not-mark-clause-refused
 returns-then-not-mark-clause-refused g c =
-    λ other. (is_in_at c.args.labels.now c.loop-label.label-index _ c.loop-label-test.true,
-    none_there _ (sym c.if-not-mark.ensures.there))
+    λ other. (
+      is_in_at c.args.labels.now c.loop-label.label-index _ c.loop-label-test.true,
+      none_there _ (sym c.if-not-mark.ensures.there),
+    )
 
 pub loop-label-preserved : goal.loop-label-preserved
 loop-label-preserved g c =

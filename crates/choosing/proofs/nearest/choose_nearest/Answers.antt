@@ -14,8 +14,8 @@ loop-place-init g c =
       wanted = ap length wanted ∙ length-replicate (length c.args.asked.now) _ ∙ c.requires.long;
       chosen = ap length chosen ∙ length-replicate (length c.args.asked.now) _ ∙ c.requires.long;
       stands =
-          λ ws are. start xs ws c.args.room (length c.args.asked.now) c.in_ok-wanted.wanted.items c.in_ok-chosen.chosen.items c.requires.long
-          wanted chosen;
+          λ ws are. start xs ws c.args.room (length c.args.asked.now) c.in_ok-wanted.wanted.items c.in_ok-chosen.chosen.items
+          c.requires.long wanted chosen;
     }
 
 pub loop-place-preserved : goal.loop-place-preserved
