@@ -1,7 +1,7 @@
 -- Which assertions of a source a wish chooses.
-use Rattle.std.specs.Prelude.{◌≡◌, ◌<◌, ◌≤◌, ℕ, pred, Bool, List, [], ◌∷◌, ◌++◌, map, filter, length, reverse, take, drop, slice_get}
+use Rattle.std.specs.Prelude.{◌≡◌, ◌<◌, ◌≤◌, ◌+◌, ℕ, pred, List, [], ◌∷◌, ◌++◌, map, filter, length, reverse, take, drop}
 use Rattle.std.specs.Prelude.{Option, Some, None, IsTrue, if◌then◌else◌, ◌&&◌, nat_lt, ◌-◌}
-use Rattle.std.specs.List.{list_all, list_any}
+use Rattle.std.specs.List.{list_all}
 use Rattle.std.specs.Str.{bytes_eq}
 use Rattle.mmtext.specs.Words.{Word}
 use Rattle.mmsyntax.specs.Tables.{place_of}
@@ -66,6 +66,17 @@ chosen_between i j s = record {
 abbrev pub place_in : Scope → Word → Option ℕ
 place_in s w = place_of (λ x. bytes_eq w x.label) s.assertions
 
+-- the labels of a wish
+abbrev pub labels_wished : Wish → List Word
+labels_wished wish.All = []
+labels_wished (wish.For asked) = seen_words asked.now
+labels_wished (wish.Between from to) = from.now ∷ to.now ∷ []
+
+-- the first of two labels stands behind the second
+abbrev pub StandsBehind : Scope → Wish → Type 0
+StandsBehind s (wish.Between from to) = (i j : ℕ) × (place_in s from.now ≡ Some i) × (place_in s to.now ≡ Some j) × (j < i)
+StandsBehind s _ = ⊥
+
 -- what a wish chooses
 abbrev pub IsChoice : Scope → Wish → Choice → Type 0
 IsChoice s wish.All choice = choice ≡ all_chosen s
@@ -73,25 +84,17 @@ IsChoice s (wish.For asked) choice = choice ≡ chosen_for (seen_words asked.now
 IsChoice s (wish.Between from to) choice =
     (i j : ℕ) × (place_in s from.now ≡ Some i) × (place_in s to.now ≡ Some j) × (choice ≡ chosen_between i j s)
 
--- a selection by flags: at most 4,096 assertions
+-- a selection by flags: at most 4,096 assertions; each label of the wish is one of an assertion, and they stand the right way round
 pub record IsChosen (s : Scope) (w : Wish) (sel : Selection) : Type 0 where
   pub choice : Choice
   pub is_choice : IsChoice s w choice
   pub flags : AreFlags s choice sel.chosen.items sel.front.items
   pub there : IsTrue (list_all (is_in (labels_of s.assertions)) choice.chosen)
   pub few : length choice.chosen ≤ 4096
+  pub known : IsTrue (list_all (is_in (labels_of s.assertions)) (labels_wished w))
+  pub in_order : StandsBehind s w → ⊥
 
 -- ---- refusals
-
--- the labels of a wish
-abbrev pub labels_wished : Wish → List Word
-labels_wished wish.All = []
-labels_wished (wish.For asked) = seen_words asked.now
-labels_wished (wish.Between from to) = from.now ∷ to.now ∷ []
-
-abbrev pub StandsBehind : Scope → Wish → Type 0
-StandsBehind s (wish.Between from to) = (i j : ℕ) × (place_in s from.now ≡ Some i) × (place_in s to.now ≡ Some j) × (j < i)
-StandsBehind s _ = ⊥
 
 -- a wish for so many: more than 4,096
 abbrev pub IsWishForMany : Scope → Wish → ℕ → Type 0

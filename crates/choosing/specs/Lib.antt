@@ -1,1 +1,4 @@
 pub mod Choices
+pub mod Marks
+pub mod Places
+pub mod Examples

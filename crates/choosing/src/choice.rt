@@ -1,18 +1,110 @@
 //! Choosing: from a wish to what is chosen.
 
-ghost use Rattle.std.specs.Prelude.{◌≡◌, ◌≢◌, IfOk, IfErr};
+ghost use Rattle.std.specs.Prelude.{◌≡◌, ◌≢◌, IfOk, IfErr, length, filter};
 ghost use Rattle.source.specs.Whole.{IsWhole};
 ghost use Rattle.prooftrees.specs.Frames.{Holds};
 ghost use Rattle.choosing.specs.Choices.{IsChosen, IsUnchosen};
 ghost use Rattle.choosing.specs.declared.wish.Unchosen.TheVariants.{NoMemory};
+ghost use Rattle.choosing.specs.declared.wish.Wish.TheVariants.{All, For, Between};
 
+use crate::between::{needed_between, selected};
+use crate::marks::marks_of;
+use crate::nearest::choose_nearest;
 use crate::wish::{Selection, Unchosen, Wish};
 use prooftrees::Frames;
 use source::Declared;
 use std::alloc::Global;
 use std::hash::RandomState;
 
+/// So many assertions are taken at most.
+const MOST: usize = 4096;
+
+/// How many are marked.
+fn count_marked(marks: &[bool]) -> usize
+    ensures { result ≡ length (filter (λ b. b) marks.now) }
+{
+    marks.iter().filter(|is_marked| **is_marked).count()
+}
+
+/// All are chosen.
+fn choose_all<'a, 'w, D: Declared<'a>>(
+    alloc: Global,
+    declared: &D,
+) -> Result<Selection, Unchosen<'w>>
+    requires { IsWhole (D.scope declared.now) }
+    ensures chosen { IfOk result (IsChosen (D.scope declared.now) All) }
+    ensures refused { IfErr result (λ why. why ≢ NoMemory → IsUnchosen (D.scope declared.now) All why) }
+{
+    let count = declared.assertions();
+    if count > MOST {
+        return Err(Unchosen::TooMany(count));
+    }
+    Ok(Selection {
+        chosen: vec![in alloc; true; count]?,
+        front: vec![in alloc; false; count]?,
+    })
+}
+
+/// Those with these labels are chosen, and what their proofs need.
+fn choose_for<'a, 'w, D: Declared<'a>>(
+    alloc: Global,
+    keys: RandomState,
+    declared: &D,
+    frames: &mut Frames,
+    labels: &'w [&'w [u8]],
+) -> Result<Selection, Unchosen<'w>>
+    requires whole { IsWhole (D.scope declared.now) }
+    requires frames { Holds (D.scope declared.now).assertions frames.old }
+    ensures frames { IfOk result (λ _. Holds (D.scope declared.now).assertions frames.new) }
+    ensures chosen { IfOk result (IsChosen (D.scope declared.now) (For labels.entry)) }
+    ensures refused { IfErr result (λ why. why ≢ NoMemory → IsUnchosen (D.scope declared.now) (For labels.entry) why) }
+{
+    let asked = marks_of(alloc, declared, labels)?;
+    let count = count_marked(&asked);
+    if count > MOST {
+        return Err(Unchosen::TooMany(count));
+    }
+    let chosen = choose_nearest(alloc, keys, declared, frames, &asked, MOST - count)?;
+    let front = vec![in alloc; false; asked.len()]?;
+    Ok(Selection { chosen, front })
+}
+
+/// Those from one label to another are chosen, and in front of them what their proofs cite.
+fn choose_between<'a, 'w, D: Declared<'a>>(
+    alloc: Global,
+    keys: RandomState,
+    declared: &D,
+    frames: &mut Frames,
+    from: &'w [u8],
+    to: &'w [u8],
+) -> Result<Selection, Unchosen<'w>>
+    requires whole { IsWhole (D.scope declared.now) }
+    requires frames { Holds (D.scope declared.now).assertions frames.old }
+    ensures frames { IfOk result (λ _. Holds (D.scope declared.now).assertions frames.new) }
+    ensures chosen { IfOk result (IsChosen (D.scope declared.now) (Between from.entry to.entry)) }
+    ensures refused { IfErr result (λ why. why ≢ NoMemory → IsUnchosen (D.scope declared.now) (Between from.entry to.entry) why) }
+{
+    let Some(begin) = declared.place_of(from) else {
+        return Err(Unchosen::UnknownLabel(from));
+    };
+    let Some(last) = declared.place_of(to) else {
+        return Err(Unchosen::UnknownLabel(to));
+    };
+    if last < begin {
+        return Err(Unchosen::Backwards);
+    }
+    let wanted = needed_between(alloc, keys, declared, frames, begin, last)?;
+    let selection = selected(wanted, begin, last)?;
+    let count = count_marked(&selection.chosen);
+    if count > MOST {
+        return Err(Unchosen::TooMany(count));
+    }
+    Ok(selection)
+}
+
 /// What is chosen of a source by a wish.
+///
+/// Each proof that is needed is read once, and those that aren't are not read.
 ///
 /// # Errors
 ///
@@ -28,8 +120,12 @@ pub fn choose<'a, 'w, D: Declared<'a>>(
     requires whole { IsWhole (D.scope declared.now) }
     requires frames { Holds (D.scope declared.now).assertions frames.old }
     ensures frames { IfOk result (λ _. Holds (D.scope declared.now).assertions frames.new) }
-    ensures chosen { IfOk result (IsChosen (D.scope declared.now) wish) }
-    ensures refused { IfErr result (λ why. why ≢ NoMemory → IsUnchosen (D.scope declared.now) wish why) }
+    ensures chosen { IfOk result (IsChosen (D.scope declared.now) wish.entry) }
+    ensures refused { IfErr result (λ why. why ≢ NoMemory → IsUnchosen (D.scope declared.now) wish.entry why) }
 {
-    Err(Unchosen::NoMemory)
+    match wish {
+        Wish::All => choose_all(alloc, declared),
+        Wish::For(labels) => choose_for(alloc, keys, declared, frames, labels),
+        Wish::Between(from, to) => choose_between(alloc, keys, declared, frames, from, to),
+    }
 }

@@ -1,7 +1,12 @@
 //! Which assertions of a source are taken.
 #![tactic(auto)]
 
+mod between;
 mod choice;
+pub mod laws;
+mod marks;
+mod nearest;
+mod places;
 mod wish;
 
 pub use choice::choose;

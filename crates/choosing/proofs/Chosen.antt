@@ -1,0 +1,165 @@
+-- What was found is what the wish chooses.
+use Rattle.std.proofs.Common.{◌≡◌, ◌<◌, ◌≤◌, ◌+◌, ◌-◌, ℕ, Bool, true, false, List, [], ◌++◌, length, map, take, Some, None}
+use Rattle.std.proofs.Common.{refl, sym, ap, subst}
+use Rattle.std.proofs.Common.{◌∙◌, arith}
+use Rattle.std.proofs.Common.{Bor}
+use Rattle.std.specs.Prelude.{◌||◌, filter, replicate, reverse}
+use Rattle.std.specs.List.{list_all}
+use Rattle.std.specs.Str.{bytes_eq}
+use Rattle.std.proofs.lemmas.List.{length-map}
+use Rattle.mmtext.specs.Words.{Word}
+use Rattle.mmsyntax.specs.Assertions.{Distinct}
+use Rattle.mmsyntax.proofs.Names.{bytes_eq-same}
+use Rattle.source.specs.Scopes.{Assertion, Scope, is_in}
+use Rattle.source.specs.Views.{seen_words}
+use Rattle.choosing.specs.declared.wish.Wish.TheVariants as wish
+use Rattle.choosing.specs.declared.wish.Selection.{Selection}
+use Rattle.choosing.specs.declared.wish.Unchosen.TheVariants as unchosen
+use Rattle.choosing.specs.Choices.{labels_of, nearest, all_chosen, chosen_for, chosen_between, place_in, needed_by_all, asked_of, between}
+use Rattle.choosing.specs.Choices.{IsChosen, IsUnchosen}
+use Rattle.choosing.specs.Marks.{AreMarked}
+use Rattle.choosing.proofs.Apart.{map_alike, there, labels_pass, all_pass, count_flags}
+use Rattle.choosing.proofs.Marked.{found_at}
+use Rattle.choosing.proofs.Going.{unmarked_all}
+use Rattle.choosing.proofs.Known.{known_both, in_order}
+use Rattle.choosing.proofs.Turns.{few, filter_reverse, all_there, all_reverse}
+use Rattle.choosing.proofs.Parts.{parts_first, parts_flags, parts_count, parts_there}
+
+-- ---- all
+
+pub all_is_chosen : (s : Scope) (sel : Selection) (n : ℕ) → n ≡ length s.assertions → n ≤ 4096 → sel.chosen.items ≡ replicate n true
+    → sel.front.items ≡ replicate n false → IsChosen s wish.All sel
+all_is_chosen s sel n h small chosen front = record {
+  choice = all_chosen s;
+  is_choice = refl;
+  flags = record {
+    chosen_are = map_alike (λ x. is_in (labels_of s.assertions) x.label) true s.assertions n (sym h) (there s.assertions) ∙ sym chosen;
+    front_are = unmarked_all s.assertions n h ∙ sym front;
+  };
+  there = labels_pass (is_in (labels_of s.assertions)) s.assertions (there s.assertions);
+  few = let e = length-map s.assertions (λ (x : Assertion). x.label) in omega arith;
+  known = refl;
+  in_order = λ h. h;
+}
+
+pub all_too_many : (s : Scope) (n : ℕ) → n ≡ length s.assertions → 4096 < n → IsUnchosen s wish.All (unchosen.TooMany n)
+all_too_many s n h many = (all_chosen s, refl, length-map s.assertions (λ (x : Assertion). x.label) ∙ sym h, many)
+
+-- ---- some, and what they need
+
+-- as many are asked for as flags are set
+pub asked_count : (s : Scope) (ws : List Word) (flags : List Bool) (n : ℕ) → AreMarked s.assertions (is_in ws) flags
+    → n ≡ length (filter (λ b. b) flags) → length (asked_of ws s) ≡ n
+asked_count s ws flags n are count =
+    sym (count ∙ ap (λ bs. length (filter (λ b. b) bs)) (sym are) ∙ count_flags (λ (x : Assertion). is_in ws x.label) s.assertions)
+
+pub for_is_chosen : (s : Scope) (asked : Bor (List (Bor (List ℕ)))) (sel : Selection) (flags : List Bool) (n m : ℕ)
+    → AreMarked s.assertions (is_in (seen_words asked.now)) flags → n ≡ length (filter (λ b. b) flags) → n ≤ 4096
+    → AreMarked s.assertions (is_in (nearest (seen_words asked.now) (4096 - n) [] (reverse s.assertions))) sel.chosen.items
+    → m ≡ length flags → sel.front.items ≡ replicate m false
+    → list_all (is_in (labels_of s.assertions)) (seen_words asked.now) ≡ true → IsChosen s (wish.For asked) sel
+for_is_chosen s asked sel flags n m are count small chosen long front known =
+    let ws = seen_words asked.now in
+    let q = is_in (labels_of s.assertions) in
+    let k : length (asked_of ws s) ≡ n = asked_count s ws flags n are count in
+    let made : nearest ws (4096 - n) [] (reverse s.assertions) ≡ (chosen_for ws s).chosen =
+    ap (λ j. nearest ws (4096 - j) [] (reverse s.assertions)) (sym k) in
+    let size : m ≡ length s.assertions =
+    long ∙ ap length (sym are) ∙ length-map s.assertions (λ (x : Assertion). is_in ws x.label) in
+    record {
+      choice = chosen_for ws s;
+      is_choice = refl;
+      flags = record {
+        chosen_are = subst (λ (vs : List Word). map (λ x. is_in vs x.label) s.assertions ≡ sel.chosen.items) made chosen;
+        front_are = unmarked_all s.assertions m size ∙ sym front;
+      };
+      there = subst (λ (vs : List Word). list_all q vs ≡ true) made
+          (all_there q ws (4096 - n) [] (reverse s.assertions)
+          (all_reverse (λ x. q x.label) s.assertions (all_pass (λ x. q x.label) s.assertions (there s.assertions))));
+      few = subst (λ (vs : List Word). length vs ≤ 4096) made
+          (let f = few ws (4096 - n) [] (reverse s.assertions) in
+          let r = filter_reverse (λ x. is_in ws x.label) s.assertions in
+          omega arith);
+      known = known;
+      in_order = λ h. h;
+    }
+
+pub for_too_many : (s : Scope) (asked : Bor (List (Bor (List ℕ)))) (flags : List Bool) (n : ℕ)
+    → AreMarked s.assertions (is_in (seen_words asked.now)) flags → n ≡ length (filter (λ b. b) flags) → 4096 < n
+    → IsUnchosen s (wish.For asked) (unchosen.TooMany n)
+for_too_many s asked flags n are count many = (asked_count s (seen_words asked.now) flags n are count, many)
+
+-- ---- those between two
+
+-- each place has its flag
+pub wanted_within : (s : Scope) (label : Word) (place : ℕ) (test : Word → Bool) (wanted : List Bool) → place_in s label ≡ Some place
+    → AreMarked s.assertions test wanted → place < length wanted
+wanted_within s label place test wanted at are =
+    let h = (found_at s.assertions label place at).3 in
+    let e : length wanted ≡ length s.assertions =
+    ap length (sym are) ∙ length-map s.assertions (λ (x : Assertion). test x.label) in
+    omega arith
+
+module _ (s : Scope) (from to : Bor (List ℕ)) (i j : ℕ) (begins : place_in s from.now ≡ Some i) (ends : place_in s to.now ≡ Some j)
+    (order : i ≤ j) (within : j < length s.assertions) (wanted : List Bool)
+    (are : AreMarked s.assertions (is_in (needed_by_all (take i s.assertions) (between i j s.assertions))) wanted) where
+  needs : Assertion → Bool
+  needs x = is_in (needed_by_all (take i s.assertions) (between i j s.assertions)) x.label
+
+  first_flags : List Bool → List Bool
+  first_flags bs = take i bs ++ replicate (length bs - i) false
+
+  all_flags : List Bool → List Bool
+  all_flags bs = take i bs ++ (replicate (j + 1 - i) true ++ replicate (length bs - (j + 1)) false)
+
+  marks : map needs s.assertions ≡ wanted
+  unfolding needs
+  marks = are
+
+  count_is : (chosen : List Bool) (n : ℕ) → chosen ≡ all_flags wanted → n ≡ length (filter (λ b. b) chosen)
+      → length (chosen_between i j s).chosen ≡ n
+  unfolding needs all_flags
+  count_is chosen n is count =
+      sym (count ∙ parts_count s.assertions i (j + 1) needs (omega arith) (omega arith) chosen (is ∙ ap all_flags (sym marks)))
+
+  pub between_is_chosen : (sel : Selection) (n : ℕ) → Distinct bytes_eq (labels_of s.assertions)
+      → sel.front.items ≡ take i wanted ++ replicate (length wanted - i) false
+      → sel.chosen.items ≡ take i wanted ++ (replicate (j + 1 - i) true ++ replicate (length wanted - (j + 1)) false)
+      → n ≡ length (filter (λ b. b) sel.chosen.items) → n ≤ 4096 → IsChosen s (wish.Between from to) sel
+  unfolding needs all_flags first_flags
+  between_is_chosen sel n d front chosen count small = record {
+    choice = chosen_between i j s;
+    is_choice = (i, j, begins, ends, refl);
+    flags = record {
+      chosen_are = parts_flags s.assertions i (j + 1) needs (omega arith) (omega arith) d ∙ ap all_flags marks ∙ sym chosen;
+      front_are = parts_first s.assertions i needs d ∙ ap first_flags marks ∙ sym front;
+    };
+    there = parts_there s.assertions i (j + 1) needs (omega arith) (omega arith);
+    few = let k = count_is sel.chosen.items n chosen count in omega arith;
+    known = known_both s from to i j begins ends;
+    in_order = in_order s from to i j begins ends order;
+  }
+
+  pub between_too_many : (chosen : List Bool) (n : ℕ)
+      → chosen ≡ take i wanted ++ (replicate (j + 1 - i) true ++ replicate (length wanted - (j + 1)) false)
+      → n ≡ length (filter (λ b. b) chosen) → 4096 < n → IsUnchosen s (wish.Between from to) (unchosen.TooMany n)
+  unfolding all_flags
+  between_too_many chosen n is count many = (chosen_between i j s, (i, j, begins, ends, refl), count_is chosen n is count, many)
+
+-- ---- labels
+
+pub unknown_first : (s : Scope) (from to : Bor (List ℕ)) → place_in s from.now ≡ None
+    → IsUnchosen s (wish.Between from to) (unchosen.UnknownLabel from)
+unknown_first s from to none = (ap (λ b. b || (bytes_eq from.now to.now || false)) (bytes_eq-same from.now), none)
+
+or_true : (a b : Bool) → b ≡ true → (a || (b || false)) ≡ true
+or_true true b h = refl
+or_true false b h = ap (λ c. c || false) h
+
+pub unknown_second : (s : Scope) (from to : Bor (List ℕ)) → place_in s to.now ≡ None
+    → IsUnchosen s (wish.Between from to) (unchosen.UnknownLabel to)
+unknown_second s from to none = (or_true (bytes_eq to.now from.now) (bytes_eq to.now to.now) (bytes_eq-same to.now), none)
+
+pub backwards : (s : Scope) (from to : Bor (List ℕ)) (i j : ℕ) → place_in s from.now ≡ Some i → place_in s to.now ≡ Some j → j < i
+    → IsUnchosen s (wish.Between from to) unchosen.Backwards
+backwards s from to i j begins ends h = (i, j, begins, ends, h)
