@@ -1,7 +1,6 @@
 -- The limits of the profile that the contents of a database pass.
-use Rattle.std.specs.Prelude.{◌≡◌, ◌<◌, ℕ, Bool, false, nat_lt, List, [], ◌∷◌, length, map, IsTrue, slice_index_or}
+use Rattle.std.specs.Prelude.{◌≡◌, ◌<◌, ℕ, Bool, false, nat_lt, List, ◌∷◌, length, map, IsTrue, slice_index_or}
 use Rattle.std.specs.List.{list_any}
-use Rattle.mmtext.specs.Words.{Word}
 use Rattle.mmsyntax.specs.declared.statement.Symbol.{Symbol}
 use Rattle.mmsyntax.specs.declared.statement.Assertion.{Assertion}
 use Rattle.mmsyntax.specs.Tables.{Contents}

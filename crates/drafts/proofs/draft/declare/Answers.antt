@@ -1,5 +1,5 @@
 -- What is left to show of `declare`.
-use Rattle.std.proofs.Common.{◌≡◌, sym, ap, subst}
+use Rattle.std.proofs.Common.{sym, ap, subst}
 use Rattle.std.proofs.lemmas.Result.{err_from_is_err_and}
 use Rattle.mmsyntax.specs.Tables.{Tables}
 use Rattle.mmsyntax.specs.Layout.{HasSpelling}
