@@ -1,6 +1,6 @@
 -- What passes a limit of the profile, and that nothing spells it.
-use Rattle.std.proofs.Common.{◌≡◌, ℕ, zero, suc, ◌<◌, ◌≤◌, Bool, true, false, ltb, List, [], ◌∷◌, length, get_or, map, Option, Some, None, refl, sym, subst}
-use Rattle.std.proofs.Common.{inl, inr, arith}
+use Rattle.std.proofs.Common.{◌≡◌, ℕ, zero, suc, ◌<◌, ◌≤◌, Bool, true, false, ltb, List, [], ◌∷◌, length, get_or, map, Option}
+use Rattle.std.proofs.Common.{Some, None, refl, sym, subst, inl, inr, arith}
 use Rattle.std.specs.Prelude.{position, IfNone}
 use Rattle.std.specs.List.{list_any, position_or_len, AllByRecursion}
 use Rattle.std.proofs.lemmas.Bool.{ltb-true, ltb-false, le-ltb, or_from, cases_lt}
@@ -210,7 +210,8 @@ module _ (c : Contents) where
   none_passed n (ManySteps i) p = measured_none (λ a. length a.proof) 16384 i refl refl n.steps p
 
 -- what four clauses on no value say together
-pub if_all_none : {X P Q R S T : Type 0} (r : Option X) → (P → Q → R → S → T) → IfNone r P → IfNone r Q → IfNone r R → IfNone r S → IfNone r T
+pub if_all_none : {X P Q R S T : Type 0} (r : Option X) → (P → Q → R → S → T)
+    → IfNone r P → IfNone r Q → IfNone r R → IfNone r S → IfNone r T
 if_all_none None f p q r s = f p q r s
 if_all_none (Some x) f p q r s = tt
 

@@ -57,4 +57,5 @@ returns-clause-spelled c =
     let t = c.args.prelude.now in
     let xs : List Assertion = c.loop-assertion.yielded in
     let same : c.from_vec.result ≡ xs = search rules in
-    subst (λ ys. HasSpelling (record { prelude = t; assertions = ys })) (sym same) (admitted_spelled t xs c.loop-assertion.invariant.admitted)
+    subst (λ ys. HasSpelling (record { prelude = t; assertions = ys })) (sym same)
+    (admitted_spelled t xs c.loop-assertion.invariant.admitted)
