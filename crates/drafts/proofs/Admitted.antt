@@ -1,5 +1,5 @@
 -- Assertions that are admitted one by one are spelled, and each of spelled ones is admissible behind those before it.
-use Rattle.std.proofs.Common.{◌≡◌, ℕ, ◌<◌, ◌≤◌, true, false, ltb, List, [], ◌∷◌, ◌++◌, length, map, refl, sym, ap, subst, ◌∙◌, arith}
+use Rattle.std.proofs.Common.{◌≡◌, ◌<◌, true, false, List, [], ◌∷◌, ◌++◌, length, refl, sym, subst, ◌∙◌}
 use Rattle.std.specs.Option.{is_some}
 use Rattle.std.specs.Str.{bytes_eq}
 use Rattle.std.proofs.lemmas.Bool.{le-ltb, or_from}
@@ -7,7 +7,7 @@ use Rattle.std.proofs.lemmas.List.{map-append}
 use Rattle.mmsyntax.specs.declared.statement.Assertion.{Assertion}
 use Rattle.mmtext.specs.Words.{Word}
 use Rattle.mmsyntax.specs.Tables.{Tables, Contents, meaning}
-use Rattle.mmsyntax.specs.Rows.{Units, is_used, is_assertion_label, with_assertion}
+use Rattle.mmsyntax.specs.Rows.{Units, is_used, is_assertion_label}
 use Rattle.mmsyntax.specs.Dotted.{clash, AreApart}
 use Rattle.mmsyntax.specs.Layout.{HasSpelling, text_of}
 use Rattle.mmsyntax.specs.Preludes.{AreSound}
@@ -17,7 +17,7 @@ use Rattle.mmsyntax.proofs.Distinct.{any-map, all_right, distinct_front, labels_
 use Rattle.mmsyntax.proofs.Apart.{apart_front}
 use Rattle.mmsyntax.proofs.Sound.{IsSound, alone_sound, assertion_sound}
 use Rattle.mmsyntax.proofs.Again.{plain_label}
-use Rattle.mmsyntax.proofs.Canonical.{sound_of, sound_tables, spelled}
+use Rattle.mmsyntax.proofs.Canonical.{sound_of, spelled}
 use Rattle.mmunits.specs.Views.{known_of}
 use Rattle.drafts.specs.News.{IsAdmissible}
 

@@ -1,7 +1,6 @@
 -- The limits of the profile that the contents of a database pass.
-use Rattle.std.specs.Prelude.{◌≡◌, ◌<◌, ℕ, Bool, false, nat_lt, List, [], ◌∷◌, length, map, IsTrue, slice_index_or}
+use Rattle.std.specs.Prelude.{◌≡◌, ◌<◌, ℕ, Bool, false, nat_lt, List, ◌∷◌, length, map, IsTrue, slice_index_or}
 use Rattle.std.specs.List.{list_any}
-use Rattle.mmtext.specs.Words.{Word}
 use Rattle.mmsyntax.specs.declared.statement.Symbol.{Symbol}
 use Rattle.mmsyntax.specs.declared.statement.Assertion.{Assertion}
 use Rattle.mmsyntax.specs.Tables.{Contents}
@@ -41,8 +40,12 @@ IsPassed c (ManySymbols i) = IsTrue (slice_index_or (map (λ a. list_any is_long
 IsPassed c (ManyPairs i) = 65535 < measured (λ a. length a.pairs) c.assertions i
 IsPassed c (ManySteps i) = 16384 < measured (λ a. length a.proof) c.assertions i
 
--- what is told of why no text declares the contents: of a limit, that it is passed
+-- no limit is passed
+abbrev pub PassesNone : Contents → Type 0
+PassesNone c = (limit : Limit) → IsPassed c limit → ⊥
+
+-- what is told of why no text declares the contents: a limit that is passed; another rule only where none is
 abbrev pub IsTold : Contents → Undeclared → Type 0
 IsTold c (Passes limit) = IsPassed c limit
-IsTold c Unlawful = Unit {0}
+IsTold c Unlawful = PassesNone c
 IsTold c NoMemory = Unit {0}

@@ -1,9 +1,9 @@
 //! The limits of the profile, and the first that a draft passes.
 
-ghost use Rattle.std.specs.Prelude.{◌≡◌, ◌≤◌, IsTrue, IfSome, IfNone, nat_lt, length, position};
+ghost use Rattle.std.specs.Prelude.{◌≡◌, ◌≤◌, IsTrue, IfSome, IfNone, None, nat_lt, length, position};
 ghost use Rattle.std.specs.List.{list_any};
 ghost use Rattle.drafts.specs.Drafts.{contents_of};
-ghost use Rattle.drafts.specs.Limits.{IsPassed, expressions, is_long};
+ghost use Rattle.drafts.specs.Limits.{IsPassed, PassesNone, expressions, is_long};
 
 use crate::draft::Draft;
 use crate::words::MOST_NAME_BYTES;
@@ -50,6 +50,7 @@ pub enum Limit {
 /// The first limit that a draft passes, in the order of [`Limit`].
 pub(crate) fn passed_limit(draft: &Draft) -> Option<Limit>
     ensures passed { IfSome result (IsPassed (contents_of draft.now)) }
+    ensures none { IfNone result (PassesNone (contents_of draft.now)) }
     ensures constants { IfNone result (length draft.now.constants ≤ 65535) }
     ensures variables { IfNone result (length draft.now.variables ≤ 65535) }
     ensures floats { IfNone result (length draft.now.floats ≤ 65535) }
@@ -93,7 +94,11 @@ fn passed_number(draft: &Draft) -> Option<Limit>
 
 /// The first name that is too long.
 fn passed_length(draft: &Draft) -> Option<Limit>
-    ensures { IfSome result (IsPassed (contents_of draft.now)) }
+    ensures passed { IfSome result (IsPassed (contents_of draft.now)) }
+    ensures constants { IfNone result (position (λ name. nat_lt 255 (length name)) draft.now.constants ≡ None) }
+    ensures variables { IfNone result (position (λ name. nat_lt 255 (length name)) draft.now.variables ≡ None) }
+    ensures floats { IfNone result (position (λ float. nat_lt 255 (length float.label)) draft.now.floats ≡ None) }
+    ensures labels { IfNone result (position (λ a. nat_lt 255 (length a.label)) draft.now.assertions ≡ None) }
 {
     if let Some(place) = long_name(draft.constants.as_slice()) {
         return Some(Limit::LongConstant(place));
@@ -112,7 +117,11 @@ fn passed_length(draft: &Draft) -> Option<Limit>
 
 /// The first assertion that has too much of something.
 fn passed_by_assertion(draft: &Draft) -> Option<Limit>
-    ensures { IfSome result (IsPassed (contents_of draft.now)) }
+    ensures passed { IfSome result (IsPassed (contents_of draft.now)) }
+    ensures hyps { IfNone result (position (λ a. nat_lt 1000 (length a.hyps)) draft.now.assertions ≡ None) }
+    ensures symbols { IfNone result (position (λ a. list_any is_long (expressions a)) draft.now.assertions ≡ None) }
+    ensures pairs { IfNone result (position (λ a. nat_lt 65535 (length a.pairs)) draft.now.assertions ≡ None) }
+    ensures steps { IfNone result (position (λ a. nat_lt 16384 (length a.proof)) draft.now.assertions ≡ None) }
 {
     let assertions = draft.assertions.as_slice();
     if let Some(place) = many_hypotheses(assertions) {

@@ -1,5 +1,5 @@
 -- What is left to show of `declare`.
-use Rattle.std.proofs.Common.{◌≡◌, sym, ap, subst}
+use Rattle.std.proofs.Common.{sym, ap, subst}
 use Rattle.std.proofs.lemmas.Result.{err_from_is_err_and}
 use Rattle.mmsyntax.specs.Tables.{Tables}
 use Rattle.mmsyntax.specs.Layout.{HasSpelling}
@@ -22,7 +22,7 @@ returns-in_err-prelude-clause-refused c =
 pub returns-in_err-prelude-clause-told : goal.returns-in_err-prelude-clause-told
 returns-in_err-prelude-clause-told c =
     let p = err_from_is_err_and c.from_residual.result c.from_residual.ensures.1 in
-    rw (p.1, p.2) (refusal_told (contents_of c.args.draft) _)
+    rw (p.1, p.2) (refusal_told (contents_of c.args.draft) _ c.in_default.ensures.none)
 
 pub returns-in_err-assertions-clause-refused : goal.returns-in_err-assertions-clause-refused
 returns-in_err-assertions-clause-refused c =
@@ -35,4 +35,4 @@ returns-in_err-assertions-clause-refused c =
 pub returns-in_err-assertions-clause-told : goal.returns-in_err-assertions-clause-told
 returns-in_err-assertions-clause-told c =
     let p = err_from_is_err_and c.from_residual-in_err-assertions.result c.from_residual-in_err-assertions.ensures.1 in
-    rw (p.1, p.2) (refusal_told (contents_of c.args.draft) _)
+    rw (p.1, p.2) (refusal_told (contents_of c.args.draft) _ c.in_default.ensures.none)

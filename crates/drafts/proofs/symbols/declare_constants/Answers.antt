@@ -17,8 +17,8 @@ loop-name-preserved c =
     (omega arith) in
     let room = room_at t.constants s.constants i (ap (λ (x : Tables). x.constants) c.loop-name.invariant.so_far) item.1 c.requires.few in
     record {
-      so_far = constants_so_far t s c.declare_constant.new.symbols c.as_slice.result.now i c.loop-name.invariant.so_far (c.as_slice.ensures ∙ item.0) item.1
-          c.in_ok-declare_constant.ensures.made;
+      so_far = constants_so_far t s c.declare_constant.new.symbols c.as_slice.result.now i c.loop-name.invariant.so_far
+          (c.as_slice.ensures ∙ item.0) item.1 c.in_ok-declare_constant.ensures.made;
       sound = subst (λ (x : Tables). AreSound x) (sym c.in_ok-declare_constant.ensures.made)
           (with_one_constant s c.as_slice.result.now c.loop-name.invariant.sound room c.in_ok-declare_constant.ensures.lawful);
     }

@@ -14,8 +14,8 @@ loop-float-preserved c =
     let t = tables_of c.args.draft.now in
     let s : Tables = c.loop-float.symbols in
     let i = c.loop-float.float-index in
-    let item = item_at t.floats c.as_slice-float-items.result.now i c.float-item.result no_float c.as_slice-float-items.ensures c.float-item.is
-    (omega arith) in
+    let item = item_at t.floats c.as_slice-float-items.result.now i c.float-item.result no_float
+    c.as_slice-float-items.ensures c.float-item.is (omega arith) in
     let room = float_room_at t.floats s.floats i (ap (λ (x : Tables). x.floats) c.loop-float.invariant.so_far) item.1 c.requires.few in
     record {
       so_far = floats_so_far t s c.declare_float.new.symbols c.float-item.result i c.loop-float.invariant.so_far item.0 item.1
@@ -29,8 +29,8 @@ returns-in_err-declare_float-clause-refused c =
     let t = tables_of c.args.draft.now in
     let s : Tables = c.loop-float.symbols in
     let i = c.loop-float.float-index in
-    let item = item_at t.floats c.as_slice-float-items.result.now i c.float-item.result no_float c.as_slice-float-items.ensures c.float-item.is
-    (omega arith) in
+    let item = item_at t.floats c.as_slice-float-items.result.now i c.float-item.result no_float
+    c.as_slice-float-items.ensures c.float-item.is (omega arith) in
     let p = err_from_is_err_and c.from_residual.result c.from_residual.ensures.1 in
     rw (p.1, p.2)
     (λ other sound. c.in_err-declare_float.ensures.refused other

@@ -17,8 +17,8 @@ loop-name-preserved c =
     (omega arith) in
     let room = room_at t.variables s.variables i (ap (λ (x : Tables). x.variables) c.loop-name.invariant.so_far) item.1 c.requires.few in
     record {
-      so_far = variables_so_far t s c.declare_variable.new.symbols c.as_slice.result.now i c.loop-name.invariant.so_far (c.as_slice.ensures ∙ item.0) item.1
-          c.in_ok-declare_variable.ensures.made;
+      so_far = variables_so_far t s c.declare_variable.new.symbols c.as_slice.result.now i c.loop-name.invariant.so_far
+          (c.as_slice.ensures ∙ item.0) item.1 c.in_ok-declare_variable.ensures.made;
       sound = subst (λ (x : Tables). AreSound x) (sym c.in_ok-declare_variable.ensures.made)
           (with_one_variable s c.as_slice.result.now c.loop-name.invariant.sound room c.in_ok-declare_variable.ensures.lawful);
     }

@@ -1,5 +1,5 @@
 -- What is left to show of `admit_all`.
-use Rattle.std.proofs.Common.{◌≡◌, ◌<◌, true, List, [], ◌∷◌, ◌++◌, length, refl, sym, ap, subst, ◌∙◌, arith, rules, append_assoc, length-append}
+use Rattle.std.proofs.Common.{◌≡◌, ◌<◌, true, List, [], ◌∷◌, ◌++◌, length, sym, ap, subst, ◌∙◌, arith, rules, append_assoc, length-append}
 use Rattle.std.specs.Vec.Iter.{into_iter_items}
 use Rattle.std.proofs.lemmas.Result.{err_from_is_err_and}
 use Rattle.mmsyntax.specs.declared.statement.Assertion.{Assertion}
@@ -7,7 +7,7 @@ use Rattle.mmsyntax.specs.Rows.{Units}
 use Rattle.mmsyntax.specs.Layout.{HasSpelling}
 use Rattle.mmsyntax.proofs.Canonical.{sound_tables}
 use Rattle.drafts.specs.News.{IsAdmissible}
-use Rattle.drafts.proofs.Admitted.{units_of, none_admitted, one_more, admitted_spelled, admissible_next}
+use Rattle.drafts.proofs.Admitted.{none_admitted, one_more, admitted_spelled, admissible_next}
 use Rattle.drafts.proofs.units.admit_all.Goals as goal
 
 pub loop-assertion-init : goal.loop-assertion-init
@@ -57,4 +57,5 @@ returns-clause-spelled c =
     let t = c.args.prelude.now in
     let xs : List Assertion = c.loop-assertion.yielded in
     let same : c.from_vec.result ≡ xs = search rules in
-    subst (λ ys. HasSpelling (record { prelude = t; assertions = ys })) (sym same) (admitted_spelled t xs c.loop-assertion.invariant.admitted)
+    subst (λ ys. HasSpelling (record { prelude = t; assertions = ys })) (sym same)
+    (admitted_spelled t xs c.loop-assertion.invariant.admitted)
