@@ -1,0 +1,4 @@
+pub mod LeftOut
+pub mod Listable
+pub mod Reasons
+pub mod Forms

@@ -1,0 +1,4 @@
+//! From a source in the whole language of Metamath to a library of the profile.
+#![tactic(auto)]
+
+mod proving;
