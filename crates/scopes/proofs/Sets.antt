@@ -2,11 +2,10 @@
 use Rattle.std.proofs.Common.{◌≡◌, ◌∙◌, Bool, true, false, cond, List, [], ◌∷◌, ◌++◌, refl, sym, ap}
 use Rattle.std.specs.Prelude.{◌||◌}
 use Rattle.std.specs.Str.{bytes_eq}
-use Rattle.std.specs.List.{list_any}
 use Rattle.std.proofs.lemmas.List.Folds.{list_any-append}
 use Rattle.mmtext.specs.Words.{Word}
 use Rattle.mmsyntax.proofs.Names.{bytes_eq-sym}
-use Rattle.source.specs.Scopes.{Hypothesis, is_in, stands_in, typing, premise, is_mandatory, is_mandatory_variable}
+use Rattle.source.specs.Scopes.{Hypothesis, is_in, typing, premise, is_mandatory, is_mandatory_variable}
 use Rattle.scopes.specs.Chosen.{is_chosen}
 
 one_or : (b h a : Bool) → cond b true (h || a) ≡ (h || (a || (b || false)))
@@ -23,19 +22,6 @@ word_more w k old ws =
     ap (λ b. cond b true (old || is_in ws w)) (bytes_eq-sym k w)
     ∙ one_or (bytes_eq w k) old (is_in ws w)
     ∙ ap (λ b. old || b) (sym (list_any-append (bytes_eq w) ws (k ∷ [])))
-
-or_more : (h a b : Bool) → ((h || a) || b) ≡ (h || (a || (b || false)))
-or_more true a b = refl
-or_more false true b = refl
-or_more false false true = refl
-or_more false false false = refl
-
--- the words of one more hypothesis
-pub hypothesis_more : (w : Word) (h : Hypothesis) (old : Bool) (hs : List Hypothesis)
-    → ((old || list_any (stands_in w) hs) || stands_in w h) ≡ (old || list_any (stands_in w) (hs ++ h ∷ []))
-hypothesis_more w h old hs =
-    or_more old (list_any (stands_in w) hs) (stands_in w h)
-    ∙ ap (λ b. old || b) (sym (list_any-append (stands_in w) hs (h ∷ [])))
 
 -- what is chosen by the words of a statement and of the $e is mandatory
 pub chosen_mandatory : (test : Word → Bool) (active : List Hypothesis) (statement : List Word)

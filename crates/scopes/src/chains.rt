@@ -23,7 +23,7 @@ fn earlier(number: usize, before: Option<usize>) -> Option<usize>
 }
 
 /// The hypothesis of a number, and the number of the one before it.
-fn hypothesis_at<'t, 'a>(
+pub(crate) fn hypothesis_at<'t, 'a>(
     links: &'t [Link<'a>],
     number: Option<usize>,
 ) -> Option<(&'t HypothesisWords<'a>, Option<usize>)>
