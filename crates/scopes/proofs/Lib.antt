@@ -1,4 +1,7 @@
 mod Paths
+mod PathSteps
+mod Places
+mod Sets
 mod Found
 mod Outset
 mod SortsOf

@@ -9,7 +9,7 @@ lists_of-append : {A : Type 0} (lists : List (List A)) (ps qs : List (Option ℕ
 lists_of-append lists [] qs = refl
 lists_of-append lists (p ∷ ps) qs = lists_of-append (lists ++ (list_at lists p.0 ++ p.1 ∷ []) ∷ []) ps qs
 
-length-lists_of : {A : Type 0} (lists : List (List A)) (ps : List (Option ℕ × A)) → length (lists_of lists ps) ≡ length lists + length ps
+pub length-lists_of : {A : Type 0} (lists : List (List A)) (ps : List (Option ℕ × A)) → length (lists_of lists ps) ≡ length lists + length ps
 length-lists_of lists [] = omega arith
 length-lists_of lists (p ∷ ps) =
     let more = lists ++ (list_at lists p.0 ++ p.1 ∷ []) ∷ [] in

@@ -26,6 +26,7 @@ sort_unknown s w k = record {
   hypothesis = found_any _ _ _ k.hypothesis;
   place = k.hypothesis;
   assertion = found_any _ _ _ k.assertion;
+  noted = k.assertion;
   first = found_find _ _ _ k.assertion;
 }
 
@@ -39,6 +40,7 @@ sort_constant s w k = record {
   hypothesis = found_any _ _ _ k.hypothesis;
   place = k.hypothesis;
   assertion = found_any _ _ _ k.assertion;
+  noted = k.assertion;
   first = found_find _ _ _ k.assertion;
 }
 
@@ -54,6 +56,7 @@ sort_variable s w i f active typed k a t = record {
   hypothesis = found_any _ _ _ k.hypothesis;
   place = k.hypothesis;
   assertion = found_any _ _ _ k.assertion;
+  noted = k.assertion;
   first = found_find _ _ _ k.assertion;
 }
 
@@ -68,6 +71,7 @@ sort_hypothesis s w i k there = record {
   hypothesis = found_any _ _ _ k.hypothesis ∙ there;
   place = k.hypothesis;
   assertion = found_any _ _ _ k.assertion;
+  noted = k.assertion;
   first = found_find _ _ _ k.assertion;
 }
 
@@ -82,6 +86,7 @@ sort_assertion s w i k there = record {
   hypothesis = found_any _ _ _ k.hypothesis;
   place = k.hypothesis;
   assertion = found_any _ _ _ k.assertion ∙ there;
+  noted = k.assertion;
   first = found_find _ _ _ k.assertion ∙ passing_there _ (slice_get s.assertions i) there;
 }
 
@@ -98,6 +103,7 @@ closed_hypothesis s w i k gone =
       hypothesis = none;
       place = found_none _ _ None none;
       assertion = found_any _ _ _ k.assertion;
+      noted = k.assertion;
       first = found_find _ _ _ k.assertion;
     }
 
@@ -114,5 +120,6 @@ closed_assertion s w i k gone =
       hypothesis = found_any _ _ _ k.hypothesis;
       place = k.hypothesis;
       assertion = none;
+      noted = found_none _ _ None none;
       first = finds_none (λ a. bytes_eq w a.label) s.assertions none;
     }

@@ -1,5 +1,5 @@
 -- Lists that share their fronts: each item that is put behind others is noted with the number of the last item before it.
-use Rattle.std.specs.Prelude.{◌<◌, ℕ, List, [], ◌∷◌, ◌++◌, Option, Some, None}
+use Rattle.std.specs.Prelude.{◌<◌, ℕ, suc, nat_lt, if◌then◌else◌, List, [], ◌∷◌, ◌++◌, Option, Some, None}
 use Rattle.std.proofs.Common.{get_or}
 
 -- the list that ends with the item of a number; none ends before all
@@ -20,3 +20,13 @@ path items last = list_at (lists_of [] items) last
 abbrev pub IsWithin : Option ℕ → ℕ → Type 0
 IsWithin None n = Unit {0}
 IsWithin (Some i) n = i < n
+
+-- the number of an item before another, if it is below that
+abbrev pub earlier : ℕ → Option ℕ → Option ℕ
+earlier n None = None
+earlier n (Some i) = if nat_lt i n then Some i else None
+
+-- how many items there are up to one
+abbrev pub count_to : Option ℕ → ℕ
+count_to None = 0
+count_to (Some i) = suc i

@@ -39,6 +39,10 @@ abbrev pub assertion_in : List Assertion → Sort → Option Assertion
 assertion_in xs (AnAssertion i) = slice_get xs i
 assertion_in xs _ = None
 
+abbrev pub assertion_place : Sort → Option ℕ
+assertion_place (AnAssertion i) = Some i
+assertion_place _ = None
+
 abbrev pub is_assertion : Sort → Bool
 is_assertion (AnAssertion i) = true
 is_assertion _ = false
@@ -53,4 +57,5 @@ pub record IsSortOf (s : Scope) (w : Word) (sort : Sort) : Type 0 where
   pub hypothesis : list_any (λ h. bytes_eq w (label_of h)) s.hypotheses ≡ is_some (hypothesis_place sort)
   pub place : Found (λ h. bytes_eq w (label_of h)) s.hypotheses (hypothesis_place sort)
   pub assertion : list_any (λ a. bytes_eq w a.label) s.assertions ≡ is_assertion sort
+  pub noted : Found (λ a. bytes_eq w a.label) s.assertions (assertion_place sort)
   pub first : find (λ a. bytes_eq w a.label) s.assertions ≡ assertion_in s.assertions sort

@@ -3,12 +3,11 @@ use Rattle.std.specs.Prelude.{ℕ, Bool, true, false, List, [], ◌∷◌, map, 
 use Rattle.std.proofs.Common.{get_or}
 use Rattle.std.specs.List.{flat_map}
 use Rattle.std.specs.Option.{option_map}
+use Rattle.std.specs.Borrow.{Bor}
 use Rattle.mmtext.specs.Words.{Word}
 use Rattle.source.specs.Statements.{Proof}
-use Rattle.source.specs.Scopes.{Hypothesis, typing, premise, Assertion, Scope, Stand, mandatory, pairs_of}
-use Rattle.source.specs.Views.{seen_words, seen_proof}
-use Rattle.scopes.specs.declared.tables.HypothesisWords.{HypothesisWords}
-use Rattle.scopes.specs.declared.tables.HypothesisWords.TheVariants.{Typing, Premise}
+use Rattle.source.specs.Scopes.{Hypothesis, premise, Assertion, Scope, Stand, mandatory, pairs_of}
+use Rattle.source.specs.Views.{seen_words, seen_proof, seen_hypothesis}
 use Rattle.scopes.specs.declared.tables.Link.{Link}
 use Rattle.scopes.specs.declared.tables.Apart.{Apart}
 use Rattle.scopes.specs.declared.tables.Active.{Active}
@@ -19,17 +18,12 @@ use Rattle.scopes.specs.Paths.{path}
 
 -- ---- what is kept, in lists of words
 
--- a hypothesis
-abbrev pub hypothesis_of : HypothesisWords → Hypothesis
-hypothesis_of (Typing label c v) = typing label.now c.now v.now
-hypothesis_of (Premise label ws) = premise label.now (seen_words ws.items)
-
 -- a hypothesis with the number of the one before
 abbrev pub Linked : Type 0
 Linked = Option ℕ × Hypothesis
 
 abbrev pub linked : Link → Linked
-linked l = (l.before, hypothesis_of l.hypothesis)
+linked l = (l.before, seen_hypothesis l.hypothesis)
 
 -- the variables of a $d with the number of the one before
 abbrev pub SetApart : Type 0
@@ -37,6 +31,10 @@ SetApart = Option ℕ × List Word
 
 abbrev pub set_apart : Apart → SetApart
 set_apart a = (a.before, seen_words a.variables.items)
+
+-- the variables of some $d
+abbrev pub seen_aparts : List (Bor (List (Bor (List ℕ)))) → List (List Word)
+seen_aparts vs = map (λ v. seen_words v.now) vs
 
 -- an assertion with the numbers of the last active hypothesis and $d, and the count of its mandatory hypotheses
 pub record Entry : Type 0 where

@@ -7,14 +7,14 @@ ghost use Rattle.mmtext.specs.Words.{Word};
 ghost use Rattle.source.specs.Statements.{float, hypothesis, distinct, asserted, proved};
 ghost use Rattle.source.specs.Scopes.{Scope, declared, behind, label_of, mandatory, with_assertion};
 ghost use Rattle.source.specs.Tests.{is_lawful, a_constant, a_variable};
-ghost use Rattle.source.specs.Views.{seen_words, seen_proof};
+ghost use Rattle.source.specs.Views.{seen_words, seen_proof, seen_hypothesis};
 ghost use Rattle.scopes.specs.declared.tables.Name.TheVariants as name;
-ghost use Rattle.scopes.specs.Views.{kept_of, scope_of, stand_of, hypothesis_of};
+ghost use Rattle.scopes.specs.Views.{kept_of, scope_of, stand_of};
 ghost use Rattle.scopes.specs.Sound.{IsSoundTables, looks_up, float_place, last_link};
 ghost use Rattle.scopes.specs.Effects.{with_link};
 
-use crate::tables::{Active, Apart, Asserted, HypothesisWords, Link, Name, Tables};
-use source::ProofWords;
+use crate::tables::{Active, Apart, Asserted, Link, Name, Tables};
+use source::{HypothesisWords, ProofWords};
 use std::alloc::AllocError;
 
 /// One more constant.
@@ -78,8 +78,8 @@ fn with_hypothesis<'a>(
     label: &'a [u8],
     hypothesis: HypothesisWords<'a>,
 ) -> Result<Tables<'a>, AllocError>
-    requires { label_of (hypothesis_of hypothesis) ≡ label.now }
-    ensures kept { IfOk result (λ made. kept_of made ≡ with_link (kept_of tables.entry) (hypothesis_of hypothesis.entry)) }
+    requires { label_of (seen_hypothesis hypothesis) ≡ label.now }
+    ensures kept { IfOk result (λ made. kept_of made ≡ with_link (kept_of tables.entry) (seen_hypothesis hypothesis.entry)) }
     ensures names { IfOk result (λ made. (w : Word) → looks_up made.names w
         ≡ cond (bytes_eq label.entry.now w) (Some (name.Hypothesis (length tables.entry.active.items))) (looks_up tables.entry.names w)) }
 {

@@ -17,8 +17,9 @@ ghost use Rattle.scopes.specs.Sound.{IsSoundTables};
 
 use crate::faults::named_fault;
 use crate::sorts::{Sort, active_at, float_of, sort_of};
-use crate::tables::{HypothesisWords, Tables};
+use crate::tables::Tables;
 use mmtext::FaultKind;
+use source::HypothesisWords;
 
 /// How many symbols the active hypothesis at a place has, if it is a `$e`; else none.
 fn count_symbols(tables: &Tables<'_>, place: usize) -> usize

@@ -2,10 +2,13 @@
 #![tactic(auto)]
 
 mod blocks;
+mod chains;
 mod declaring;
 mod faults;
 mod frames;
+mod mandatory;
 mod scopes;
+mod shown;
 mod sorts;
 mod tables;
 

@@ -1,16 +1,14 @@
 //! The tables as their users see them: what stands at a place.
 
-ghost use Rattle.std.specs.Prelude.{◌≡◌, IfOk, length, slice_get};
-ghost use Rattle.std.specs.Option.{option_map};
-ghost use Rattle.source.specs.Views.{seen_words};
+ghost use Rattle.std.specs.Prelude.{◌≡◌};
 ghost use Rattle.source.specs.Scopes.{outset};
 ghost use Rattle.scopes.specs.Sound.{IsSoundTables};
 ghost use Rattle.scopes.specs.Views.{kept_of, stand_of, marks_of};
 
 use crate::tables::Tables;
-use crate::{blocks, declaring, faults, frames};
+use crate::{blocks, declaring, faults, frames, mandatory, shown};
 use mmtext::FaultKind;
-use source::{ProofWords, Standing};
+use source::{Declared, HypothesisWords, ProofWords, Standing};
 use std::alloc::{AllocError, Global};
 use std::hash::RandomState;
 use std::marker::Model;
@@ -44,24 +42,6 @@ impl<'a> Scopes<'a> {
     {
         Scopes {
             tables: Tables::new(alloc, keys),
-        }
-    }
-
-    /// How many assertions stand.
-    pub fn assertions(&self) -> usize
-        ensures { result ≡ length self.now.stand.scope.assertions }
-    {
-        self.tables.assertions.len()
-    }
-
-    /// The symbols of the assertion at a place, counted from 0 in order of appearance, if it is there.
-    pub fn statement(&self, place: usize) -> Option<&[&'a [u8]]>
-        ensures { option_map (λ ws. seen_words ws.now) result
-            ≡ option_map (λ a. a.statement) (slice_get self.now.stand.scope.assertions place) }
-    {
-        match self.tables.assertions.get(place) {
-            None => None,
-            Some(assertion) => Some(assertion.statement.as_slice()),
         }
     }
 
@@ -206,5 +186,61 @@ impl<'a> Standing<'a> for Scopes<'a> {
 
     fn close_block(&mut self) -> bool {
         blocks::close_block(&mut self.tables)
+    }
+}
+
+impl<'a> Declared<'a> for Scopes<'a> {
+    ghost scope = { λ s. s.stand.scope };
+
+    fn constants(&self) -> &[&'a [u8]] {
+        self.tables.constants.as_slice()
+    }
+
+    fn labels(&self) -> &[&'a [u8]] {
+        self.tables.labels.as_slice()
+    }
+
+    fn has_name(&self, word: &[u8]) -> bool {
+        shown::has_name(&self.tables, word)
+    }
+
+    fn assertions(&self) -> usize {
+        self.tables.assertions.len()
+    }
+
+    fn place_of(&self, label: &[u8]) -> Option<usize> {
+        shown::place_of(&self.tables, label)
+    }
+
+    fn label(&self, place: usize) -> Option<&'a [u8]> {
+        shown::label(&self.tables, place)
+    }
+
+    fn statement(&self, place: usize) -> Option<&[&'a [u8]]> {
+        shown::statement(&self.tables, place)
+    }
+
+    fn proof(&self, place: usize) -> Option<&ProofWords<'a>> {
+        shown::proof(&self.tables, place)
+    }
+
+    fn active(&self, alloc: Global, place: usize) -> Result<Vec<&HypothesisWords<'a>>, AllocError> {
+        shown::active(&self.tables, alloc, place)
+    }
+
+    fn mandatory(
+        &self,
+        alloc: Global,
+        place: usize,
+    ) -> Result<Vec<&HypothesisWords<'a>>, AllocError> {
+        mandatory::mandatory(&self.tables, alloc, place)
+    }
+
+    fn pairs(
+        &self,
+        alloc: Global,
+        place: usize,
+    ) -> Result<Vec<(&'a [u8], &'a [u8])>, AllocError> {
+        shown::pairs(&self.tables, alloc, place)
     }
 }

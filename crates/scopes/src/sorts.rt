@@ -4,13 +4,14 @@ ghost use Rattle.std.specs.Prelude.{◌≡◌, Some, is_some, slice_get};
 ghost use Rattle.std.specs.Option.{option_map};
 ghost use Rattle.std.specs.Str.{bytes_eq};
 ghost use Rattle.source.specs.Scopes.{is_float_of, label_of};
-ghost use Rattle.source.specs.Views.{seen_words};
-ghost use Rattle.scopes.specs.Views.{kept_of, hypothesis_of, scope_of};
+ghost use Rattle.source.specs.Views.{seen_words, seen_hypothesis};
+ghost use Rattle.scopes.specs.Views.{kept_of, scope_of};
 ghost use Rattle.scopes.specs.Found.{Found, passes_at};
 ghost use Rattle.scopes.specs.Sound.{IsSoundTables, float_place};
 ghost use Rattle.scopes.specs.Sorts.{IsSortOf};
 
-use crate::tables::{HypothesisWords, Name, Tables};
+use crate::tables::{Name, Tables};
+use source::HypothesisWords;
 
 /// What a word is.
 #[derive(Clone, Copy, Debug, PartialEq, Eq)]
@@ -45,7 +46,7 @@ pub(crate) fn active_at<'t, 'a>(
     place: usize,
 ) -> Option<&'t HypothesisWords<'a>>
     requires { IsSoundTables tables.now }
-    ensures { option_map (λ h. hypothesis_of h.now) result ≡ slice_get (scope_of (kept_of tables.now)).hypotheses place }
+    ensures { option_map (λ h. seen_hypothesis h.now) result ≡ slice_get (scope_of (kept_of tables.now)).hypotheses place }
 {
     let active = tables.active.get(place)?;
     let link = tables.links.get(active.link)?;

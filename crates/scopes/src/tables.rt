@@ -5,7 +5,7 @@ ghost use Rattle.scopes.specs.Views.{stand_of, kept_of};
 ghost use Rattle.scopes.specs.Sound.{IsSoundTables};
 ghost use Rattle.source.specs.Scopes.{outset};
 
-use source::ProofWords;
+use source::{HypothesisWords, ProofWords};
 use std::alloc::Global;
 use std::collections::HashMap;
 use std::hash::RandomState;
@@ -21,15 +21,6 @@ pub(crate) enum Name {
     Hypothesis(usize),
     /// The label of an assertion, with its place.
     Assertion(usize),
-}
-
-/// The words of a hypothesis.
-#[derive(Drop)]
-pub(crate) enum HypothesisWords<'a> {
-    /// The label, the type and the variable of a `$f`.
-    Typing(&'a [u8], &'a [u8], &'a [u8]),
-    /// The label and the symbols of a `$e`.
-    Premise(&'a [u8], Vec<&'a [u8]>),
 }
 
 /// A hypothesis, and the number of the one that was the last active one before it.

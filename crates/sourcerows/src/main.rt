@@ -8,6 +8,7 @@
 
 use mmtext::TextFault;
 use scopes::Scopes;
+use source::Declared;
 use sourcereader::read_source;
 use std::alloc::{AllocError, Global};
 use std::hash::RandomState;

@@ -4,9 +4,9 @@ use Rattle.std.specs.Str.{bytes_eq}
 use Rattle.std.proofs.lemmas.List.{map-append, length-map}
 use Rattle.std.proofs.lemmas.Map.Text.{hash_map_updates_str}
 use Rattle.source.specs.Scopes.{label_of}
-use Rattle.source.specs.Views.{seen_words}
+use Rattle.source.specs.Views.{seen_words, seen_hypothesis}
 use Rattle.scopes.specs.declared.tables.Name.TheVariants as name
-use Rattle.scopes.specs.Views.{kept_of, linked, hypothesis_of}
+use Rattle.scopes.specs.Views.{kept_of, linked}
 use Rattle.scopes.specs.Sound.{looks_up, last_link}
 use Rattle.scopes.proofs.declaring.with_hypothesis.Goals as goal
 
@@ -21,12 +21,12 @@ returns-clause-kept c =
     let last : c.last_active-before.result ≡ last_link t.active.items = c.last_active-before.ensures ∙ ap last_link seen in
     let count : c.len-link.result ≡ length t.links.items = search rules in
     let number : c.len-link.result ≡ length (kept_of t).links = count ∙ sym (length-map t.links.items linked) in
-    let labels : seen_words c.push.new.self.items ≡ seen_words t.labels.items ++ label_of (hypothesis_of h) ∷ [] =
+    let labels : seen_words c.push.new.self.items ≡ seen_words t.labels.items ++ label_of (seen_hypothesis h) ∷ [] =
     ap seen_words ls ∙ map-append _ t.labels.items (c.args.label ∷ [])
     ∙ ap (λ w. seen_words t.labels.items ++ w ∷ []) (sym c.requires) in
-    let links : map linked c.push-2.new.self.items ≡ map linked t.links.items ++ (last_link t.active.items, hypothesis_of h) ∷ [] =
+    let links : map linked c.push-2.new.self.items ≡ map linked t.links.items ++ (last_link t.active.items, seen_hypothesis h) ∷ [] =
     ap (map linked) ks ∙ map-append linked t.links.items _
-    ∙ ap (λ o. map linked t.links.items ++ (o, hypothesis_of h) ∷ []) last in
+    ∙ ap (λ o. map linked t.links.items ++ (o, seen_hypothesis h) ∷ []) last in
     let active : c.push-3.new.self.items ≡ t.active.items ++ record { link = length (kept_of t).links; is_mandatory = false } ∷ [] =
     actives ∙ ap (λ (n : ℕ). t.active.items ++ record { link = n; is_mandatory = false } ∷ []) number in
     rw (labels, links, active) refl

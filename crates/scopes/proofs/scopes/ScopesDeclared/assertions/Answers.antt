@@ -1,9 +1,10 @@
 -- What is left to show of `assertions`.
 use Rattle.std.proofs.Common.{◌≡◌, ◌∙◌, length, map, ap, sym, rules}
 use Rattle.std.proofs.lemmas.List.{length-map}
-use Rattle.scopes.specs.Views.{kept_of, entry_of}
+use Rattle.scopes.specs.Views.{entry_of}
+use Rattle.scopes.specs.Views.{kept_of}
 use Rattle.scopes.proofs.Seeing.{seen_scope}
-use Rattle.scopes.proofs.scopes.Scopes.assertions.Goals as goal
+use Rattle.scopes.proofs.scopes.ScopesDeclared.assertions.Goals as goal
 
 pub returns : goal.returns
 returns c =
