@@ -17,7 +17,8 @@ use std::mem;
 /// What stands at a place of a source: names, active variables, hypotheses and `$d`, blocks that are open, and all assertions so far.
 ///
 /// Each look-up is that of one word in a map. What is kept is linear in the text: the active hypotheses of an assertion are found from its
-/// last one. A frame costs its words, the active hypotheses and the words of the active `$e`.
+/// last one. A frame costs its words, the active hypotheses and the words of the active `$e`; so do the mandatory hypotheses of an assertion
+/// that are asked for later.
 #[derive(Drop)]
 pub struct Scopes<'a> {
     tables: Tables<'a>,
@@ -236,11 +237,7 @@ impl<'a> Declared<'a> for Scopes<'a> {
         mandatory::mandatory(&self.tables, alloc, place)
     }
 
-    fn pairs(
-        &self,
-        alloc: Global,
-        place: usize,
-    ) -> Result<Vec<(&'a [u8], &'a [u8])>, AllocError> {
+    fn pairs(&self, alloc: Global, place: usize) -> Result<Vec<(&'a [u8], &'a [u8])>, AllocError> {
         shown::pairs(&self.tables, alloc, place)
     }
 }

@@ -1,8 +1,7 @@
 -- What is left to show of `asserted`.
-use Rattle.std.proofs.Common.{◌≡◌, ◌∙◌, ℕ, List, Bor, Option, Some, None, map, ap, refl, sym}
+use Rattle.std.proofs.Common.{◌≡◌, ◌∙◌, List, Bor, Option, Some, None, map, ap, refl, sym}
 use Rattle.std.specs.List.{slice_get}
 use Rattle.std.specs.Option.{option_map}
-use Rattle.std.specs.Slice.{IsItemAt}
 use Rattle.std.proofs.lemmas.Option.{slice_get-map}
 use Rattle.scopes.specs.declared.tables.Asserted.{Asserted}
 use Rattle.scopes.specs.Views.{Linked, SetApart, linked, set_apart, entry_of, assertion_of}

@@ -1,5 +1,5 @@
 -- What is left to show of `place_of`.
-use Rattle.std.proofs.Common.{◌≡◌, ◌∙◌, ℕ, false, Some, None, refl, sym, rules}
+use Rattle.std.proofs.Common.{◌≡◌, ◌∙◌, ℕ, false, Some, refl, sym}
 use Rattle.std.specs.Str.{bytes_eq}
 use Rattle.source.specs.Scopes.{Assertion}
 use Rattle.scopes.specs.declared.sorts.Sort.{Sort}
