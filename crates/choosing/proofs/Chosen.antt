@@ -15,13 +15,13 @@ use Rattle.source.specs.Views.{seen_words}
 use Rattle.choosing.specs.declared.wish.Wish.TheVariants as wish
 use Rattle.choosing.specs.declared.wish.Selection.{Selection}
 use Rattle.choosing.specs.declared.wish.Unchosen.TheVariants as unchosen
-use Rattle.choosing.specs.Choices.{labels_of, nearest, all_chosen, chosen_for, chosen_between, place_in, needed_by_all, asked_of, between}
+use Rattle.choosing.specs.Choices.{first_unknown, labels_of, nearest, all_chosen, chosen_for, chosen_between, place_in, needed_by_all, asked_of, between}
 use Rattle.choosing.specs.Choices.{IsChosen, IsUnchosen}
 use Rattle.choosing.specs.Marks.{AreMarked}
 use Rattle.choosing.proofs.Apart.{map_alike, there, labels_pass, all_pass, count_flags}
 use Rattle.choosing.proofs.Marked.{found_at}
 use Rattle.choosing.proofs.Going.{unmarked_all}
-use Rattle.choosing.proofs.Known.{known_both, in_order}
+use Rattle.choosing.proofs.Known.{first_is_unknown, second_is_unknown, known_both, in_order}
 use Rattle.choosing.proofs.Turns.{few, filter_reverse, all_there, all_reverse}
 use Rattle.choosing.proofs.Parts.{parts_first, parts_flags, parts_count, parts_there}
 
@@ -43,7 +43,7 @@ all_is_chosen s sel n h small chosen front = record {
 }
 
 pub all_too_many : (s : Scope) (n : ℕ) → n ≡ length s.assertions → 4096 < n → IsUnchosen s wish.All (unchosen.TooMany n)
-all_too_many s n h many = (all_chosen s, refl, length-map s.assertions (λ (x : Assertion). x.label) ∙ sym h, many)
+all_too_many s n h many = (all_chosen s, refl, length-map s.assertions (λ (x : Assertion). x.label) ∙ sym h, many, λ e. e)
 
 -- ---- some, and what they need
 
@@ -57,7 +57,7 @@ pub for_is_chosen : (s : Scope) (asked : Bor (List (Bor (List ℕ)))) (sel : Sel
     → AreMarked s.assertions (is_in (seen_words asked.now)) flags → n ≡ length (filter (λ b. b) flags) → n ≤ 4096
     → AreMarked s.assertions (is_in (nearest (seen_words asked.now) (4096 - n) [] (reverse s.assertions))) sel.chosen.items
     → m ≡ length flags → sel.front.items ≡ replicate m false
-    → list_all (is_in (labels_of s.assertions)) (seen_words asked.now) ≡ true → IsChosen s (wish.For asked) sel
+    → first_unknown s (wish.For asked) ≡ None → IsChosen s (wish.For asked) sel
 for_is_chosen s asked sel flags n m are count small chosen long front known =
     let ws = seen_words asked.now in
     let q = is_in (labels_of s.assertions) in
@@ -86,8 +86,8 @@ for_is_chosen s asked sel flags n m are count small chosen long front known =
 
 pub for_too_many : (s : Scope) (asked : Bor (List (Bor (List ℕ)))) (flags : List Bool) (n : ℕ)
     → AreMarked s.assertions (is_in (seen_words asked.now)) flags → n ≡ length (filter (λ b. b) flags) → 4096 < n
-    → IsUnchosen s (wish.For asked) (unchosen.TooMany n)
-for_too_many s asked flags n are count many = (asked_count s (seen_words asked.now) flags n are count, many)
+    → first_unknown s (wish.For asked) ≡ None → IsUnchosen s (wish.For asked) (unchosen.TooMany n)
+for_too_many s asked flags n are count many known = (asked_count s (seen_words asked.now) flags n are count, many, known)
 
 -- ---- those between two
 
@@ -144,22 +144,21 @@ module _ (s : Scope) (from to : Bor (List ℕ)) (i j : ℕ) (begins : place_in s
       → chosen ≡ take i wanted ++ (replicate (j + 1 - i) true ++ replicate (length wanted - (j + 1)) false)
       → n ≡ length (filter (λ b. b) chosen) → 4096 < n → IsUnchosen s (wish.Between from to) (unchosen.TooMany n)
   unfolding all_flags
-  between_too_many chosen n is count many = (chosen_between i j s, (i, j, begins, ends, refl), count_is chosen n is count, many)
+  between_too_many chosen n is count many = (chosen_between i j s, (i, j, begins, ends, refl), count_is chosen n is count, many,
+      in_order s from to i j begins ends order)
 
 -- ---- labels
 
 pub unknown_first : (s : Scope) (from to : Bor (List ℕ)) → place_in s from.now ≡ None
     → IsUnchosen s (wish.Between from to) (unchosen.UnknownLabel from)
-unknown_first s from to none = (ap (λ b. b || (bytes_eq from.now to.now || false)) (bytes_eq-same from.now), none)
+unknown_first s from to none =
+    (ap (λ b. b || (bytes_eq from.now to.now || false)) (bytes_eq-same from.now), none, first_is_unknown s from to none)
 
 or_true : (a b : Bool) → b ≡ true → (a || (b || false)) ≡ true
 or_true true b h = refl
 or_true false b h = ap (λ c. c || false) h
 
-pub unknown_second : (s : Scope) (from to : Bor (List ℕ)) → place_in s to.now ≡ None
+pub unknown_second : (s : Scope) (from to : Bor (List ℕ)) (i : ℕ) → place_in s from.now ≡ Some i → place_in s to.now ≡ None
     → IsUnchosen s (wish.Between from to) (unchosen.UnknownLabel to)
-unknown_second s from to none = (or_true (bytes_eq to.now from.now) (bytes_eq to.now to.now) (bytes_eq-same to.now), none)
-
-pub backwards : (s : Scope) (from to : Bor (List ℕ)) (i j : ℕ) → place_in s from.now ≡ Some i → place_in s to.now ≡ Some j → j < i
-    → IsUnchosen s (wish.Between from to) unchosen.Backwards
-backwards s from to i j begins ends h = (i, j, begins, ends, h)
+unknown_second s from to i begins none =
+    (or_true (bytes_eq to.now from.now) (bytes_eq to.now to.now) (bytes_eq-same to.now), none, second_is_unknown s from to i begins none)

@@ -1,6 +1,7 @@
 -- Which assertions of a source a wish chooses.
-use Rattle.std.specs.Prelude.{◌≡◌, ◌<◌, ◌≤◌, ◌+◌, ℕ, pred, List, [], ◌∷◌, ◌++◌, map, filter, length, reverse, take, drop}
+use Rattle.std.specs.Prelude.{◌≡◌, ◌<◌, ◌≤◌, ◌+◌, ℕ, pred, List, [], ◌∷◌, ◌++◌, map, filter, find, length, reverse, take, drop}
 use Rattle.std.specs.Prelude.{Option, Some, None, IsTrue, if◌then◌else◌, ◌&&◌, nat_lt, ◌-◌}
+use mathlib.Core.Bool.{not}
 use Rattle.std.specs.List.{list_all}
 use Rattle.std.specs.Str.{bytes_eq}
 use Rattle.mmtext.specs.Words.{Word}
@@ -72,6 +73,10 @@ labels_wished wish.All = []
 labels_wished (wish.For asked) = seen_words asked.now
 labels_wished (wish.Between from to) = from.now ∷ to.now ∷ []
 
+-- the first of them that no assertion has
+abbrev pub first_unknown : Scope → Wish → Option Word
+first_unknown s w = find (λ l. not (is_in (labels_of s.assertions) l)) (labels_wished w)
+
 -- the first of two labels stands behind the second
 abbrev pub StandsBehind : Scope → Wish → Type 0
 StandsBehind s (wish.Between from to) = (i j : ℕ) × (place_in s from.now ≡ Some i) × (place_in s to.now ≡ Some j) × (j < i)
@@ -91,19 +96,21 @@ pub record IsChosen (s : Scope) (w : Wish) (sel : Selection) : Type 0 where
   pub flags : AreFlags s choice sel.chosen.items sel.front.items
   pub there : IsTrue (list_all (is_in (labels_of s.assertions)) choice.chosen)
   pub few : length choice.chosen ≤ 4096
-  pub known : IsTrue (list_all (is_in (labels_of s.assertions)) (labels_wished w))
+  pub known : first_unknown s w ≡ None
   pub in_order : StandsBehind s w → ⊥
 
 -- ---- refusals
 
--- a wish for so many: more than 4,096
+-- a wish for so many, whose labels are known and stand the right way round: more than 4,096
 abbrev pub IsWishForMany : Scope → Wish → ℕ → Type 0
-IsWishForMany s (wish.For asked) n = (length (asked_of (seen_words asked.now) s) ≡ n) × (4096 < n)
-IsWishForMany s w n = (choice : Choice) × IsChoice s w choice × (length choice.chosen ≡ n) × (4096 < n)
+IsWishForMany s (wish.For asked) n =
+    (length (asked_of (seen_words asked.now) s) ≡ n) × (4096 < n) × (first_unknown s (wish.For asked) ≡ None)
+IsWishForMany s w n = (choice : Choice) × IsChoice s w choice × (length choice.chosen ≡ n) × (4096 < n) × (StandsBehind s w → ⊥)
 
 -- why a wish is refused
 abbrev pub IsUnchosen : Scope → Wish → Unchosen → Type 0
-IsUnchosen s w (unchosen.UnknownLabel label) = IsTrue (is_in (labels_wished w) label.now) × (place_in s label.now ≡ None)
+IsUnchosen s w (unchosen.UnknownLabel label) =
+    IsTrue (is_in (labels_wished w) label.now) × (place_in s label.now ≡ None) × (first_unknown s w ≡ Some label.now)
 IsUnchosen s w unchosen.Backwards = StandsBehind s w
 IsUnchosen s w (unchosen.TooMany n) = IsWishForMany s w n
 IsUnchosen s w unchosen.NoMemory = Unit {0}

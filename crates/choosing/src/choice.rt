@@ -1,10 +1,10 @@
 //! Choosing: from a wish to what is chosen.
 
-ghost use Rattle.std.specs.Prelude.{◌≡◌, ◌≢◌, IfOk, IfErr, length, filter};
+ghost use Rattle.std.specs.Prelude.{◌≡◌, ◌≢◌, None, Some, IfOk, IfErr, length, filter};
 ghost use Rattle.source.specs.Whole.{IsWhole};
 ghost use Rattle.prooftrees.specs.Frames.{Holds};
-ghost use Rattle.choosing.specs.Choices.{IsChosen, IsUnchosen};
-ghost use Rattle.choosing.specs.declared.wish.Unchosen.TheVariants.{NoMemory};
+ghost use Rattle.choosing.specs.Choices.{place_in, IsChosen, IsUnchosen};
+ghost use Rattle.choosing.specs.declared.wish.Unchosen.TheVariants.{NoMemory, UnknownLabel};
 ghost use Rattle.choosing.specs.declared.wish.Wish.TheVariants.{All, For, Between};
 
 use crate::between::{needed_between, selected};
@@ -69,6 +69,17 @@ fn choose_for<'a, 'w, D: Declared<'a>>(
     Ok(Selection { chosen, front })
 }
 
+/// The place of the assertion with a label of a wish, or that none has it.
+fn place_of<'a, 'w, D: Declared<'a>>(declared: &D, label: &'w [u8]) -> Result<usize, Unchosen<'w>>
+    ensures found { IfOk result (λ place. place_in (D.scope declared.now) label.now ≡ Some place) }
+    ensures unknown { IfErr result (λ why. (why ≡ UnknownLabel label.entry) × (place_in (D.scope declared.now) label.now ≡ None)) }
+{
+    match declared.place_of(label) {
+        Some(place) => Ok(place),
+        None => Err(Unchosen::UnknownLabel(label)),
+    }
+}
+
 /// Those from one label to another are chosen, and in front of them what their proofs cite.
 fn choose_between<'a, 'w, D: Declared<'a>>(
     alloc: Global,
@@ -84,12 +95,8 @@ fn choose_between<'a, 'w, D: Declared<'a>>(
     ensures chosen { IfOk result (IsChosen (D.scope declared.now) (Between from.entry to.entry)) }
     ensures refused { IfErr result (λ why. why ≢ NoMemory → IsUnchosen (D.scope declared.now) (Between from.entry to.entry) why) }
 {
-    let Some(begin) = declared.place_of(from) else {
-        return Err(Unchosen::UnknownLabel(from));
-    };
-    let Some(last) = declared.place_of(to) else {
-        return Err(Unchosen::UnknownLabel(to));
-    };
+    let begin = place_of(declared, from)?;
+    let last = place_of(declared, to)?;
     if last < begin {
         return Err(Unchosen::Backwards);
     }
@@ -108,8 +115,8 @@ fn choose_between<'a, 'w, D: Declared<'a>>(
 ///
 /// # Errors
 ///
-/// In this order: a label that no assertion has; labels that stand the wrong way round; more than 4,096 assertions, with their number. Want
-/// of memory at any time. After an error nothing is said of the frames.
+/// In this order: the first label that no assertion has; labels that stand the wrong way round; more than 4,096 assertions, with their
+/// number. Want of memory at any time. After an error nothing is said of the frames.
 pub fn choose<'a, 'w, D: Declared<'a>>(
     alloc: Global,
     keys: RandomState,

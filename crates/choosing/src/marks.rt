@@ -1,7 +1,6 @@
 //! Marks on assertions, by their places.
 
-ghost use Rattle.std.specs.Prelude.{◌≡◌, ◌≢◌, ◌<◌, ◌||◌, Bool, length, map, slice_get, All, IfOk, IfErr, IsTrue, is_some};
-ghost use Rattle.std.specs.List.{list_all};
+ghost use Rattle.std.specs.Prelude.{◌≡◌, ◌≢◌, ◌<◌, ◌||◌, Bool, length, map, slice_get, All, IfOk, IfErr, None, is_some};
 ghost use Rattle.std.specs.Str.{bytes_eq};
 ghost use Rattle.mmtext.specs.Words.{Word};
 ghost use Rattle.mmsyntax.specs.Assertions.{Distinct};
@@ -10,7 +9,7 @@ ghost use Rattle.source.specs.Scopes.{is_in};
 ghost use Rattle.source.specs.Views.{seen_words};
 ghost use Rattle.source.specs.Whole.{IsWhole};
 ghost use Rattle.prooftrees.specs.Frames.{Holds};
-ghost use Rattle.choosing.specs.Choices.{labels_of, IsUnchosen};
+ghost use Rattle.choosing.specs.Choices.{first_unknown, IsUnchosen};
 ghost use Rattle.choosing.specs.Marks.{AreMarked, AreMarkedToo, is_named};
 ghost use Rattle.choosing.specs.declared.wish.Unchosen.TheVariants.{NoMemory};
 ghost use Rattle.choosing.specs.declared.wish.Wish.TheVariants.{For};
@@ -55,7 +54,7 @@ pub(crate) fn marks_of<'a, 'w, D: Declared<'a>>(
 ) -> Result<Vec<bool>, Unchosen<'w>>
     requires { IsWhole (D.scope declared.now) }
     ensures marked { IfOk result (λ marks. AreMarked (D.scope declared.now).assertions (is_in (seen_words labels.now)) marks.items) }
-    ensures known { IfOk result (λ _. IsTrue (list_all (is_in (labels_of (D.scope declared.now).assertions)) (seen_words labels.now))) }
+    ensures known { IfOk result (λ _. first_unknown (D.scope declared.now) (For labels.entry) ≡ None) }
     ensures refused { IfErr result (λ why. why ≢ NoMemory → IsUnchosen (D.scope declared.now) (For labels.entry) why) }
 {
     let mut marks = vec![in alloc; false; declared.assertions()]?;

@@ -8,6 +8,7 @@ pub returns-then-count-gt-MOST-clause-refused : goal.returns-then-count-gt-MOST-
 returns-then-count-gt-MOST-clause-refused g c =
     λ other. for_too_many (g.D.Declared.scope c.args.declared.now) c.args.labels c.deref.result.now c.count_marked-count.result
     (c.in_ok-asked.ensures.marked ∙ sym c.deref.ensures.value) c.count_marked-count.ensures c.if-count-gt-MOST.true
+    c.in_ok-asked.ensures.known
 
 pub returns-clause-chosen : goal.returns-clause-chosen
 returns-clause-chosen g c =

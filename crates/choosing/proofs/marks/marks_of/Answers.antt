@@ -1,13 +1,12 @@
 -- What is left to show of `marks_of`.
 use Rattle.std.proofs.Common.{◌≡◌, ◌∙◌, true, arith, refl, subst, sym}
-use Rattle.std.specs.List.{list_all}
+use Rattle.std.specs.Prelude.{None, find}
 use Rattle.std.proofs.lemmas.List.{take_all, with_items_is}
 use Rattle.source.specs.Scopes.{is_in}
 use Rattle.source.specs.Views.{seen_words}
-use Rattle.choosing.specs.Choices.{labels_of}
 use Rattle.choosing.specs.Marks.{AreMarked}
 use Rattle.choosing.proofs.Going.{unmarked_all}
-use Rattle.choosing.proofs.Known.{known_more}
+use Rattle.choosing.proofs.Known.{is_unknown, known_more, unknown_found}
 use Rattle.choosing.proofs.Marked.{is_in_at, none_there, labels_more}
 use Rattle.choosing.proofs.marks.marks_of.Goals as goal
 
@@ -24,6 +23,8 @@ returns-then-not-mark-clause-refused g c =
     λ other. (
       is_in_at c.args.labels.now c.loop-label.label-index _ c.loop-label-test.true,
       none_there _ (sym c.if-not-mark.ensures.there),
+      unknown_found (g.D.Declared.scope c.args.declared.now).assertions c.args.labels.now c.loop-label.label-index _ c.loop-label-test.true
+          (sym c.if-not-mark.ensures.there) c.loop-label.invariant.known,
     )
 
 pub loop-label-preserved : goal.loop-label-preserved
@@ -48,5 +49,5 @@ returns-clause-marked g c =
 pub returns-clause-known : goal.returns-clause-known
 returns-clause-known g c =
     let xs = (g.D.Declared.scope c.args.declared.now).assertions in
-    subst (λ ls. list_all (is_in (labels_of xs)) (seen_words ls) ≡ true)
+    subst (λ ls. find (is_unknown xs) (seen_words ls) ≡ None)
     (take_all c.loop-label.label-index c.args.labels.now (omega arith)) c.loop-label.invariant.known
