@@ -144,8 +144,13 @@ module _ (s : Scope) (from to : Bor (List ℕ)) (i j : ℕ) (begins : place_in s
       → chosen ≡ take i wanted ++ (replicate (j + 1 - i) true ++ replicate (length wanted - (j + 1)) false)
       → n ≡ length (filter (λ b. b) chosen) → 4096 < n → IsUnchosen s (wish.Between from to) (unchosen.TooMany n)
   unfolding all_flags
-  between_too_many chosen n is count many = (chosen_between i j s, (i, j, begins, ends, refl), count_is chosen n is count, many,
-      in_order s from to i j begins ends order)
+  between_too_many chosen n is count many = (
+    chosen_between i j s,
+    (i, j, begins, ends, refl),
+    count_is chosen n is count,
+    many,
+    in_order s from to i j begins ends order,
+  )
 
 -- ---- labels
 
