@@ -1,5 +1,5 @@
 -- Of the code's inside, apart from the rules: what was made once of the frames of assertions.
-use Rattle.std.specs.Prelude.{◌≡◌, ℕ, Bool, List, map, slice_get, Some, Option}
+use Rattle.std.specs.Prelude.{◌≡◌, ℕ, Bool, List, map, slice_get, Some}
 use Rattle.std.specs.Option.{option_map}
 use Rattle.source.specs.Scopes.{Assertion}
 use Rattle.taking.specs.Settings.{is_float}

@@ -1,2 +1,5 @@
 pub mod Frames
+pub mod Roles
+pub mod Counted
+pub mod Names
 pub mod Forms

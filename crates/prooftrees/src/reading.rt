@@ -1,16 +1,94 @@
 //! Reading a proof: from its words to its nodes.
 
-ghost use Rattle.std.specs.Prelude.{◌≡◌, ◌<◌, length, take, slice_get, IfOk, IfSome};
+ghost use Rattle.std.specs.Prelude.{◌≡◌, ◌<◌, length, take, slice_get, Some, None, All, IfOk, IfSome, MatchOption};
+ghost use Rattle.source.specs.Statements.{Proof};
 ghost use Rattle.source.specs.Whole.{IsWhole};
+ghost use Rattle.source.specs.Proofs.{denoted};
+ghost use Rattle.source.specs.Views.{seen_words, seen_proof};
 ghost use Rattle.prooftrees.specs.Frames.{Holds};
-ghost use Rattle.prooftrees.specs.Forms.{IsForm};
+ghost use Rattle.prooftrees.specs.Counted.{IsCounted, counted_labels};
+ghost use Rattle.prooftrees.specs.Names.{At, IsKnown};
+ghost use Rattle.prooftrees.specs.Forms.{IsForm, IsTree};
 
-use crate::form::ProofForm;
+use crate::counting::{Counted, count_labels, is_unfinished};
+use crate::form::{ProofForm, ProofTree};
 use crate::frames::Frames;
-use source::Declared;
+use crate::naming::name_labels;
+use crate::roles::Roles;
+use source::{Declared, ProofWords};
 use std::alloc::{AllocError, Global};
 use std::hash::RandomState;
-use taking::StepPlaces;
+use taking::{StepPlaces, decode};
+
+/// The tree of what the steps of the proof of the assertion at a place count: nothing where they denote none.
+fn tree_of<'a, D: Declared<'a>, P: StepPlaces>(
+    alloc: Global,
+    keys: RandomState,
+    declared: &D,
+    frames: &mut Frames,
+    places: &P,
+    place: usize,
+    counted: Counted<'a>,
+) -> Result<Option<ProofTree<'a>>, AllocError>
+    requires within { place < length (D.scope declared.now).assertions }
+    requires holds { Holds (D.scope declared.now).assertions frames.old }
+    requires counted { At (D.scope declared.now).assertions place
+        (λ x. (proof : Proof) → x.proof ≡ Some proof → IsCounted x.hypotheses proof counted) }
+    requires known { At (D.scope declared.now).assertions place
+        (λ x. All (IsKnown (take place (D.scope declared.now).assertions) x.active) (seen_words counted.labels.items)) }
+    ensures holds { Holds (D.scope declared.now).assertions frames.new }
+    ensures tree { IfOk result (λ tree. At (D.scope declared.now).assertions place (λ x. (proof : Proof) → x.proof ≡ Some proof
+        → MatchOption tree (denoted (take place (D.scope declared.now).assertions) x ≡ None)
+        (IsTree (P.places places.now) (take place (D.scope declared.now).assertions) x))) }
+{
+    let active = declared.active(alloc, place)?;
+    let roles = Roles::new(alloc, keys, active)?;
+    let labels = counted.labels;
+    let named = name_labels(
+        alloc,
+        declared,
+        frames,
+        places,
+        &roles,
+        place,
+        labels.as_slice(),
+    )?;
+    let Some(proof) = decode(alloc, named.as_slice(), counted.codes.as_slice())? else {
+        return Ok(None);
+    };
+    Ok(Some(ProofTree {
+        labels,
+        named,
+        proof,
+    }))
+}
+
+/// The tree that a finished proof of the assertion at a place denotes, if it denotes one.
+fn read_finished<'a, D: Declared<'a>, P: StepPlaces>(
+    alloc: Global,
+    keys: RandomState,
+    declared: &D,
+    frames: &mut Frames,
+    places: &P,
+    place: usize,
+    proof: &ProofWords<'a>,
+) -> Result<Option<ProofTree<'a>>, AllocError>
+    requires within { place < length (D.scope declared.now).assertions }
+    requires holds { Holds (D.scope declared.now).assertions frames.old }
+    requires proof { At (D.scope declared.now).assertions place (λ x. x.proof ≡ Some (seen_proof proof.now)) }
+    requires known { At (D.scope declared.now).assertions place
+        (λ x. All (IsKnown (take place (D.scope declared.now).assertions) x.active) (counted_labels x.hypotheses (seen_proof proof.now))) }
+    ensures holds { Holds (D.scope declared.now).assertions frames.new }
+    ensures tree { IfOk result (λ tree. At (D.scope declared.now).assertions place (λ x. MatchOption tree
+        (denoted (take place (D.scope declared.now).assertions) x ≡ None)
+        (IsTree (P.places places.now) (take place (D.scope declared.now).assertions) x))) }
+{
+    let mandatory = declared.mandatory(alloc, place)?;
+    let Some(counted) = count_labels(alloc, mandatory, proof)? else {
+        return Ok(None);
+    };
+    tree_of(alloc, keys, declared, frames, places, place, counted)
+}
 
 /// The proof of the assertion at a place: the tree that it denotes, its nodes named by the steps that they have in a library.
 ///
@@ -30,5 +108,16 @@ pub fn read_proof<'a, D: Declared<'a>, P: StepPlaces>(
     ensures form { IfOk result (λ form. IfSome (slice_get (D.scope declared.now).assertions place)
         (λ x. IsForm (P.places places.now) (take place (D.scope declared.now).assertions) x form)) }
 {
-    Err(AllocError)
+    let Some(proof) = declared.proof(place) else {
+        return Ok(ProofForm::Absent);
+    };
+    if is_unfinished(proof) {
+        return Ok(ProofForm::Unfinished);
+    }
+    let tree = read_finished(alloc, keys, declared, frames, places, place, proof)?;
+    match tree {
+        Some(tree) => Ok(ProofForm::Tree(tree)),
+        // A finished proof denotes a tree in each source.
+        None => unreachable!(),
+    }
 }

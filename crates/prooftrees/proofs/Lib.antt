@@ -1,0 +1,9 @@
+pub mod RolesOf
+pub mod Found
+pub mod Whole
+pub mod Numbered
+pub mod Framed
+pub mod Named
+pub mod Cases
+pub mod Trees
+pub mod Asked

@@ -1,0 +1,79 @@
+-- What is left to show of `read_proof`.
+use Rattle.std.proofs.Common.{◌≡◌, ◌∙◌, Option, Some, None, take, refl, sym, ap, subst}
+use Rattle.std.specs.Prelude.{slice_get, MatchOption}
+use Rattle.std.specs.Option.{option_map}
+use Rattle.source.specs.Proofs.{denoted}
+use Rattle.source.specs.Views.{seen_proof}
+use Rattle.prooftrees.specs.declared.form.ProofTree.{ProofTree}
+use Rattle.prooftrees.specs.Forms.{IsTree}
+use Rattle.prooftrees.proofs.Asked.{proof_is}
+use Rattle.prooftrees.proofs.Cases.{item_at, if_there}
+use Rattle.prooftrees.proofs.Whole.{whole_at, counted_known, tree_there}
+use Rattle.prooftrees.proofs.reading.read_proof.Goals as goal
+
+pub returns-in_default-clause-form : goal.returns-in_default-clause-form
+returns-in_default-clause-form g c =
+    let xs = (g.D.Declared.scope c.args.declared.now).assertions in
+    if_there (slice_get xs c.args.place)
+    (λ x at. proof_is xs c.args.place x at None (sym (ap (option_map (λ p. seen_proof p.now)) c.in_default.is) ∙ c.proof.ensures))
+
+pub returns-then-is_unfinished-clause-form : goal.returns-then-is_unfinished-clause-form
+returns-then-is_unfinished-clause-form g c =
+    let xs = (g.D.Declared.scope c.args.declared.now).assertions in
+    let own = seen_proof c.in-Some.proof.now in
+    if_there (slice_get xs c.args.place)
+    (λ x at. (
+      own,
+      proof_is xs c.args.place x at (Some own) (sym (ap (option_map (λ p. seen_proof p.now)) c.in-Some.is) ∙ c.proof.ensures),
+      sym c.is_unfinished.ensures ∙ c.if-is_unfinished.true,
+    ))
+
+pub read_finished-requires : goal.read_finished-requires
+read_finished-requires g c =
+    let s = g.D.Declared.scope c.args.declared.now in
+    let own = seen_proof c.in-Some.proof.now in
+    let said = sym (ap (option_map (λ p. seen_proof p.now)) c.in-Some.is) ∙ c.proof.ensures in
+    λ _. (
+      (refl, tt),
+      (
+        c.requires.within,
+        (
+          c.requires.frames,
+          (
+            λ x at. proof_is s.assertions c.args.place x at (Some own) said,
+            λ x at.
+                counted_known s (take c.args.place s.assertions) x own (whole_at s c.args.place x c.requires.whole at)
+                (proof_is s.assertions c.args.place x at (Some own) said) (sym c.is_unfinished.ensures ∙ c.if-is_unfinished.false),
+          ),
+        ),
+      ),
+    )
+
+pub unreachable-requires : goal.unreachable-requires
+unreachable-requires g c =
+    let s = g.D.Declared.scope c.args.declared.now in
+    let m = g.P.StepPlaces.places c.args.places.now in
+    let own = seen_proof c.in-Some.proof.now in
+    let there = item_at s.assertions c.args.place c.requires.within in
+    let x = there.0 in
+    let is = proof_is s.assertions c.args.place x there.1 (Some own)
+    (sym (ap (option_map (λ p. seen_proof p.now)) c.in-Some.is) ∙ c.proof.ensures) in
+    let none : denoted (take c.args.place s.assertions) x ≡ None =
+    subst (λ (o : Option ProofTree). MatchOption o (denoted (take c.args.place s.assertions) x ≡ None) (IsTree m (take c.args.place
+    s.assertions) x)) c.in-None.is (c.in_ok-tree.ensures.tree x there.1) in
+    tree_there s (take c.args.place s.assertions) x own (whole_at s c.args.place x c.requires.whole there.1) is
+    (sym c.is_unfinished.ensures ∙ c.if-is_unfinished.false) none
+
+pub returns-clause-form : goal.returns-clause-form
+returns-clause-form g c =
+    let xs = (g.D.Declared.scope c.args.declared.now).assertions in
+    let m = g.P.StepPlaces.places c.args.places.now in
+    let own = seen_proof c.in-Some.proof.now in
+    if_there (slice_get xs c.args.place)
+    (λ x at. (
+      own,
+      proof_is xs c.args.place x at (Some own) (sym (ap (option_map (λ p. seen_proof p.now)) c.in-Some.is) ∙ c.proof.ensures),
+      sym c.is_unfinished.ensures ∙ c.if-is_unfinished.false,
+      subst (λ (o : Option ProofTree). MatchOption o (denoted (take c.args.place xs) x ≡ None) (IsTree m (take c.args.place xs) x))
+          c.in-Some-tree.is (c.in_ok-tree.ensures.tree x at),
+    ))
