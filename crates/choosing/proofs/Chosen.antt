@@ -15,7 +15,8 @@ use Rattle.source.specs.Views.{seen_words}
 use Rattle.choosing.specs.declared.wish.Wish.TheVariants as wish
 use Rattle.choosing.specs.declared.wish.Selection.{Selection}
 use Rattle.choosing.specs.declared.wish.Unchosen.TheVariants as unchosen
-use Rattle.choosing.specs.Choices.{first_unknown, labels_of, nearest, all_chosen, chosen_for, chosen_between, place_in, needed_by_all, asked_of, between}
+use Rattle.choosing.specs.Choices.{first_unknown, labels_of, nearest, all_chosen, chosen_for, chosen_between, place_in, needed_by_all}
+use Rattle.choosing.specs.Choices.{asked_of, between}
 use Rattle.choosing.specs.Choices.{IsChosen, IsUnchosen}
 use Rattle.choosing.specs.Marks.{AreMarked}
 use Rattle.choosing.proofs.Apart.{map_alike, there, labels_pass, all_pass, count_flags}
@@ -144,8 +145,13 @@ module _ (s : Scope) (from to : Bor (List ℕ)) (i j : ℕ) (begins : place_in s
       → chosen ≡ take i wanted ++ (replicate (j + 1 - i) true ++ replicate (length wanted - (j + 1)) false)
       → n ≡ length (filter (λ b. b) chosen) → 4096 < n → IsUnchosen s (wish.Between from to) (unchosen.TooMany n)
   unfolding all_flags
-  between_too_many chosen n is count many = (chosen_between i j s, (i, j, begins, ends, refl), count_is chosen n is count, many,
-      in_order s from to i j begins ends order)
+  between_too_many chosen n is count many = (
+    chosen_between i j s,
+    (i, j, begins, ends, refl),
+    count_is chosen n is count,
+    many,
+    in_order s from to i j begins ends order,
+  )
 
 -- ---- labels
 
