@@ -15,7 +15,8 @@ use Rattle.source.specs.Views.{seen_words}
 use Rattle.choosing.specs.declared.wish.Wish.TheVariants as wish
 use Rattle.choosing.specs.declared.wish.Selection.{Selection}
 use Rattle.choosing.specs.declared.wish.Unchosen.TheVariants as unchosen
-use Rattle.choosing.specs.Choices.{first_unknown, labels_of, nearest, all_chosen, chosen_for, chosen_between, place_in, needed_by_all, asked_of, between}
+use Rattle.choosing.specs.Choices.{first_unknown, labels_of, nearest, all_chosen, chosen_for, chosen_between, place_in, needed_by_all}
+use Rattle.choosing.specs.Choices.{asked_of, between}
 use Rattle.choosing.specs.Choices.{IsChosen, IsUnchosen}
 use Rattle.choosing.specs.Marks.{AreMarked}
 use Rattle.choosing.proofs.Apart.{map_alike, there, labels_pass, all_pass, count_flags}

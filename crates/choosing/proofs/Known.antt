@@ -1,6 +1,6 @@
 -- The labels of a wish that is granted are those of assertions, and stand the right way round.
-use Rattle.std.proofs.Common.{◌≡◌, ◌<◌, ◌≤◌, ◌+◌, ℕ, suc, zero, Bool, true, false, List, [], ◌∷◌, length, map, take, get_or, Option, Some}
-use Rattle.std.proofs.Common.{None, Bor, refl, sym, ap, ◌∙◌, arith, add-one, inl, inr}
+use Rattle.std.proofs.Common.{◌≡◌, ◌<◌, ◌≤◌, ◌+◌, ℕ, suc, zero, Bool, true, false, List, [], ◌∷◌, length, take, get_or, Some}
+use Rattle.std.proofs.Common.{None, Bor, sym, ap, ◌∙◌, arith, add-one, inl, inr}
 use Rattle.std.specs.Prelude.{find, is_some}
 use mathlib.Core.Bool.{not}
 use Rattle.std.specs.Str.{bytes_eq}

@@ -1,5 +1,5 @@
 -- What is left to show of `choose_between`.
-use Rattle.std.proofs.Common.{◌≡◌, ◌∙◌, List, Bool, length, refl, sym, subst}
+use Rattle.std.proofs.Common.{◌≡◌, ◌∙◌, List, Bool, length, refl, subst}
 use Rattle.std.specs.Prelude.{filter}
 use Rattle.std.proofs.lemmas.Result.{err_from_is_err_and}
 use Rattle.choosing.proofs.Marked.{found_at}

@@ -1,5 +1,5 @@
 -- What is left to show of `marks_of`.
-use Rattle.std.proofs.Common.{◌≡◌, ◌∙◌, true, arith, refl, subst, sym}
+use Rattle.std.proofs.Common.{◌≡◌, ◌∙◌, arith, refl, subst, sym}
 use Rattle.std.specs.Prelude.{None, find}
 use Rattle.std.proofs.lemmas.List.{take_all, with_items_is}
 use Rattle.source.specs.Scopes.{is_in}

@@ -1,5 +1,5 @@
 -- What the loop of `marks_of` keeps: the labels so far are those of assertions, and these are marked.
-use Rattle.std.proofs.Common.{◌≡◌, true, take}
+use Rattle.std.proofs.Common.{◌≡◌, take}
 use Rattle.std.specs.Prelude.{None, find}
 use Rattle.source.specs.Scopes.{is_in}
 use Rattle.source.specs.Views.{seen_words}
