@@ -1,5 +1,5 @@
 -- The first place of an item, from the place that is noted for it.
-use Rattle.std.proofs.Common.{◌≡◌, inl, inr, ℕ, suc, Bool, true, false, cond, List, [], ◌∷◌, length, Bor, Option, Some, None, refl, sym, ap, ◌∙◌}
+use Rattle.std.proofs.Common.{◌≡◌, inl, inr, ℕ, suc, Bool, true, cond, List, [], ◌∷◌, length, Bor, Option, Some, None, refl, sym, ap, ◌∙◌}
 use Rattle.std.specs.Prelude.{◌||◌}
 use Rattle.std.specs.List.{list_any, slice_get}
 use Rattle.std.specs.Option.{option_map}
@@ -13,17 +13,6 @@ use Rattle.scopes.specs.Found.{Found}
 pub item_at : {A : Type 0} (xs : List A) (i : ℕ) (o : Option (Bor A)) → IsItemAt xs i o → option_map (λ x. x.now) o ≡ slice_get xs i
 item_at xs i None h = sym (slice_get_past xs i h.3)
 item_at xs i (Some x) h = sym (slice_get_read xs (length xs) i x.now refl h.3.0 h.1)
-
--- no item passes
-pub place_none : {A : Type 0} (test : A → Bool) (xs : List A) → list_any test xs ≡ false → place_of test xs ≡ None
-place_none test [] none = refl
-place_none {A} test (z ∷ zs) none =
-    elim (cases_Bool (test z)) [
-      | inl y ↦ absurd (let e : true ≡ false = sym (ap (λ b. b || list_any test zs) y) ∙ none in cc)
-      | inr n ↦
-          let later : list_any test zs ≡ false = sym (ap (λ b. b || list_any test zs) n) ∙ none in
-          ap (λ b. cond b (Some 0) (option_map (λ i. suc i) (place_of test zs))) n ∙ ap (option_map (λ i. suc i)) (place_none test zs later)
-    ]
 
 -- the first item that passes
 place_first : {A : Type 0} (test : A → Bool) (xs : List A) → list_any test xs ≡ true

@@ -1,12 +1,13 @@
 -- What is left to show of `place_of`.
 use Rattle.std.proofs.Common.{◌≡◌, ◌∙◌, ℕ, false, Some, refl, sym}
 use Rattle.std.specs.Str.{bytes_eq}
+use Rattle.mmsyntax.proofs.Distinct.{place_of-absent}
 use Rattle.source.specs.Scopes.{Assertion}
 use Rattle.scopes.specs.declared.sorts.Sort.{Sort}
 use Rattle.scopes.specs.declared.sorts.Sort.TheVariants as sort
 use Rattle.scopes.specs.Sorts.{is_assertion}
 use Rattle.scopes.specs.Views.{kept_of, scope_of}
-use Rattle.scopes.proofs.Places.{place_noted, place_none}
+use Rattle.scopes.proofs.Places.{place_noted}
 use Rattle.scopes.proofs.shown.place_of.Goals as goal
 
 pub returns-in-Assertion : goal.returns-in-Assertion
@@ -28,4 +29,4 @@ pub returns-in_default : goal.returns-in_default
 returns-in_default c =
     let xs = (scope_of (kept_of c.args.tables.now)).assertions in
     let test : Assertion → _ = λ a. bytes_eq c.args.label.now a.label in
-    sym (place_none test xs (c.sort_of.ensures.assertion ∙ no_assertion c.sort_of.result c.in_default.not-Assertion))
+    sym (place_of-absent test xs (c.sort_of.ensures.assertion ∙ no_assertion c.sort_of.result c.in_default.not-Assertion))
