@@ -1,1 +1,6 @@
+mod Actives
+mod Keeping
+mod Listing
+mod Noted
 mod Places
+mod Siting

@@ -1,25 +1,167 @@
 //! Gathering what of a source has a place.
 
-ghost use Rattle.std.specs.Prelude.{◌≡◌, length, IfOk};
+ghost use Rattle.std.specs.Prelude.{◌≡◌, ◌<◌, ◌≤◌, ◌⊎◌, length, filter, filter_map, map, IfOk, MatchOption, true, false};
+ghost use Rattle.std.specs.List.{list_any};
+ghost use Rattle.std.specs.Option.{option_map};
+ghost use Rattle.source.specs.Views.{seen_words};
 ghost use Rattle.source.specs.Whole.{IsWhole};
+ghost use Rattle.taking.specs.Names.{is_symbol_of, has_float_labelled};
 ghost use Rattle.taking.specs.Reasons.{kept};
+ghost use Rattle.sites.specs.Indexes.{HasRoom};
 ghost use Rattle.sites.specs.Sites.{AreSites};
+ghost use Rattle.sites.specs.Used.{has, is_noted, noted, type_at, variable_at};
 
+use crate::indexed::Indexed;
 use crate::sites::Sites;
+use crate::used::{Used, used_by};
 use source::Declared;
 use std::alloc::{AllocError, Global};
 use std::hash::RandomState;
 
-/// The sites of the assertions of a source that flags choose by their places.
+/// The most constants, and the most `$f`, that have places: the profile has room for no more.
+const MOST: usize = 65535;
+
+/// Those of some words that are used symbols.
+fn used_symbols<'a>(
+    alloc: Global,
+    used: &Used<'a>,
+    words: &[&'a [u8]],
+) -> Result<Vec<&'a [u8]>, AllocError>
+    ensures { IfOk result (λ made. seen_words made.items ≡ filter (has used.now.symbols) (seen_words words.now)) }
+{
+    let mut made = Vec::new(alloc);
+    for word in words {
+        if used.symbols.contains(word) {
+            made.push(*word)?;
+        }
+    }
+    Ok(made)
+}
+
+/// Those of some labels that are labels of used `$f`.
+fn used_floats<'a>(
+    alloc: Global,
+    used: &Used<'a>,
+    labels: &[&'a [u8]],
+) -> Result<Vec<&'a [u8]>, AllocError>
+    ensures { IfOk result (λ made. seen_words made.items ≡ filter (is_noted used.now) (seen_words labels.now)) }
+{
+    let mut made = Vec::new(alloc);
+    for label in labels {
+        if used.floats.contains_key(label) {
+            made.push(*label)?;
+        }
+    }
+    Ok(made)
+}
+
+/// The place of the type of the `$f` with a label.
+fn type_place(used: &Used<'_>, constants: &Indexed<'_>, label: &[u8]) -> Option<u32>
+    requires { length constants.now ≤ 65535 }
+    ensures { result ≡ type_at (noted used.now) constants.now label.now }
+{
+    let (kind, _) = used.floats.get(&label)?;
+    let place = constants.place(kind)?;
+    Some(place as u32)
+}
+
+/// The places of the types of the `$f` with some labels.
+fn type_places(
+    alloc: Global,
+    used: &Used<'_>,
+    constants: &Indexed<'_>,
+    labels: &[&[u8]],
+) -> Result<Vec<u32>, AllocError>
+    requires { length constants.now ≤ 65535 }
+    ensures { IfOk result (λ made. made.items ≡ filter_map (type_at (noted used.now) constants.now) (seen_words labels.now)) }
+{
+    let mut types = Vec::new(alloc);
+    for label in labels {
+        if let Some(place) = type_place(used, constants, label) {
+            types.push(place)?;
+        }
+    }
+    Ok(types)
+}
+
+/// The variable of the `$f` with a label.
+fn variable<'a>(used: &Used<'a>, label: &[u8]) -> Option<&'a [u8]>
+    ensures { option_map (λ w. w.now) result ≡ variable_at (noted used.now) label.now }
+{
+    let (_, variable) = used.floats.get(&label)?;
+    Some(*variable)
+}
+
+/// The variables of the `$f` with some labels.
+fn variables<'a>(
+    alloc: Global,
+    used: &Used<'a>,
+    labels: &[&[u8]],
+) -> Result<Vec<&'a [u8]>, AllocError>
+    ensures { IfOk result (λ made. seen_words made.items ≡ filter_map (variable_at (noted used.now)) (seen_words labels.now)) }
+{
+    let mut made = Vec::new(alloc);
+    for label in labels {
+        if let Some(variable) = variable(used, label) {
+            made.push(variable)?;
+        }
+    }
+    Ok(made)
+}
+
+/// The labels of the assertions of a source that flags choose by their places.
+fn chosen_labels<'a, D: Declared<'a>>(
+    alloc: Global,
+    declared: &D,
+    chosen: &[bool],
+) -> Result<Vec<&'a [u8]>, AllocError>
+    requires { length chosen.now ≡ length (D.scope declared.now).assertions }
+    ensures { IfOk result (λ made. seen_words made.items ≡ map (λ x. x.label) (kept chosen.now (D.scope declared.now).assertions)) }
+{
+    let mut made = Vec::new(alloc);
+    for (place, is_chosen) in chosen.iter().enumerate() {
+        if *is_chosen {
+            if let Some(label) = declared.label(place) {
+                made.push(label)?;
+            }
+        }
+    }
+    Ok(made)
+}
+
+/// Whether the profile has room for constants and `$f`.
+fn have_room(constants: &Indexed<'_>, floats: &Indexed<'_>) -> bool
+    ensures room { result ≡ true → HasRoom constants.now floats.now }
+    ensures full { result ≡ false → (65535 < length constants.now) ⊎ (65535 < length floats.now) }
+{
+    constants.len() <= MOST && floats.len() <= MOST
+}
+
+/// The sites of the assertions of a source that flags choose by their places: nothing where more than 65,535 constants or `$f` had places.
 pub fn sites_of<'a, D: Declared<'a>>(
     alloc: Global,
     keys: RandomState,
     declared: &D,
     chosen: &[bool],
-) -> Result<Sites<'a>, AllocError>
+) -> Result<Option<Sites<'a>>, AllocError>
     requires whole { IsWhole (D.scope declared.now) }
     requires flags { length chosen.now ≡ length (D.scope declared.now).assertions }
-    ensures { IfOk result (AreSites (D.scope declared.now) (kept chosen.now (D.scope declared.now).assertions)) }
+    ensures { let s = D.scope declared.now in let taken = kept chosen.now s.assertions in
+        IfOk result (λ made. MatchOption made
+        ((65535 < length (filter (λ w. list_any (is_symbol_of w) taken) s.constants))
+        ⊎ (65535 < length (filter (λ w. list_any (has_float_labelled w) taken) s.labels)))
+        (AreSites s taken)) }
 {
-    Err(AllocError)
+    let used = used_by(alloc, keys, declared, chosen)?;
+    let symbols = used_symbols(alloc, &used, declared.constants())?;
+    let constants = Indexed::new(alloc, keys, symbols)?;
+    let labels = used_floats(alloc, &used, declared.labels())?;
+    let floats = Indexed::new(alloc, keys, labels)?;
+    if !have_room(&constants, &floats) {
+        return Ok(None);
+    }
+    let types = type_places(alloc, &used, &constants, floats.words())?;
+    let variables = variables(alloc, &used, floats.words())?;
+    let labels = Indexed::new(alloc, keys, chosen_labels(alloc, declared, chosen)?)?;
+    Ok(Some(Sites::new(constants, floats, types, variables, labels)))
 }

@@ -41,10 +41,7 @@ impl<'a> Indexed<'a> {
         ensures { IfOk result (λ made. made ≡ seen_words words.entry.items) }
     {
         let places = first_places(alloc, keys, words.as_slice())?;
-        Ok(Indexed {
-            words,
-            places,
-        })
+        Ok(Indexed { words, places })
     }
 
     /// The words, by their places.
@@ -52,6 +49,13 @@ impl<'a> Indexed<'a> {
         ensures { seen_words result.now ≡ self.now }
     {
         self.words.as_slice()
+    }
+
+    /// How many words there are.
+    pub(crate) fn len(&self) -> usize
+        ensures { result ≡ length self.now }
+    {
+        self.words.len()
     }
 
     /// The first place of a word: one look-up.

@@ -28,11 +28,11 @@ impl<'a> Model for Sites<'a> {
     ghost Value = { Sited };
 
     ghost view = { λ s. record {
-        constants = s.constants;
-        floats = s.floats;
-        types = s.types.items;
-        variables = seen_words s.variables.items;
-        labels = s.labels;
+      constants = s.constants;
+      floats = s.floats;
+      types = s.types.items;
+      variables = seen_words s.variables.items;
+      labels = s.labels;
     } };
 
     ghost invariant = { λ s. HasRoom s.constants s.floats };

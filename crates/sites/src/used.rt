@@ -4,11 +4,13 @@ ghost use Rattle.std.specs.Prelude.{◌≡◌, ◌<◌, ◌||◌, length, IfOk, 
 ghost use Rattle.std.specs.List.{list_any};
 ghost use Rattle.mmtext.specs.Words.{Word};
 ghost use Rattle.source.specs.Scopes.{Assertion, is_in};
-ghost use Rattle.source.specs.Views.{seen_words, seen_hypothesis, seen_hypotheses};
+ghost use Rattle.source.specs.Views.{seen_words, seen_hypothesis};
+ghost use Rattle.sites.specs.Given.{given_hypotheses};
 ghost use Rattle.taking.specs.Names.{is_symbol_of, is_symbol_of_hypothesis};
 ghost use Rattle.taking.specs.Reasons.{kept};
 ghost use Rattle.sites.specs.Used.{has, noted, typed_by, typed, Uses};
 
+use crate::given::active_at;
 use source::{Declared, HypothesisWords};
 use std::alloc::{AllocError, Global};
 use std::collections::{HashMap, HashSet};
@@ -56,16 +58,31 @@ fn note_hypothesis<'a>(
 /// Notes what stands in hypotheses.
 fn note_hypotheses<'a>(
     used: &mut Used<'a>,
-    hypotheses: &[&HypothesisWords<'a>],
+    hypotheses: &[HypothesisWords<'a>],
 ) -> Result<(), AllocError>
     ensures symbols { OnOk result ((w : Word)
-        → has used.new.symbols w ≡ (has used.old.symbols w || list_any (is_symbol_of_hypothesis w) (seen_hypotheses hypotheses.now))) }
-    ensures floats { OnOk result ((w : Word) → noted used.new w ≡ typed w (noted used.old w) (seen_hypotheses hypotheses.now)) }
+        → has used.new.symbols w ≡ (has used.old.symbols w || list_any (is_symbol_of_hypothesis w) (given_hypotheses hypotheses.now))) }
+    ensures floats { OnOk result ((w : Word) → noted used.new w ≡ typed w (noted used.old w) (given_hypotheses hypotheses.now)) }
 {
     for hypothesis in hypotheses {
         note_hypothesis(used, hypothesis)?;
     }
     Ok(())
+}
+
+/// Notes the words of the assertion at a place.
+fn note_statement<'a, D: Declared<'a>>(
+    symbols: &mut HashSet<&'a [u8], RandomState>,
+    declared: &D,
+    place: usize,
+) -> Result<(), AllocError>
+    ensures { OnOk result ((x : Assertion) (w : Word) → slice_get (D.scope declared.now).assertions place ≡ Some x
+        → has symbols.new w ≡ (has symbols.old w || is_in x.statement w)) }
+{
+    match declared.statement(place) {
+        Some(statement) => note_words(symbols, statement),
+        None => Ok(()),
+    }
 }
 
 /// Notes what the assertion at a place uses.
@@ -81,10 +98,8 @@ fn note_assertion<'a, D: Declared<'a>>(
     ensures floats { OnOk result ((x : Assertion) (w : Word) → slice_get (D.scope declared.now).assertions place ≡ Some x
         → noted used.new w ≡ typed w (noted used.old w) x.active) }
 {
-    let active = declared.active(alloc, place)?;
-    if let Some(statement) = declared.statement(place) {
-        note_words(&mut used.symbols, statement)?;
-    }
+    let active = active_at(alloc, declared, place)?;
+    note_statement(&mut used.symbols, declared, place)?;
     note_hypotheses(used, active.as_slice())
 }
 
