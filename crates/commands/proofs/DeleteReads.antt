@@ -45,8 +45,12 @@ module _ {O : Type 0} (s0 s1 : Sight O) (i : ℕ) (label : List ℕ) where
         → ReadsSince (OfCommandFound s0 i label (Delete label)) s0 s0 s2
     removal_counts reads before =
         since_then (OfCommandFound s0 i label (Delete label)) before on2 (λ st lib m v.
-        asks_wider (λ c is at. inr (i, at, inr (inr (cited_citers s0.setting.slots (after s0 st) lib v.shows v.matches.store at.entry former c
-        (stored_before s0 s1 i label former looks read st lib (matches_back s1 s2 st on2 m) v at) (is.0, cited.cited is.0 is.1, is.2))))) reads)
+        asks_wider (λ c is at. inr (
+          i,
+          at,
+          inr (inr (cited_citers s0.setting.slots (after s0 st) lib v.shows v.matches.store at.entry former c
+              (stored_before s0 s1 i label former looks read st lib (matches_back s1 s2 st on2 m) v at) (is.0, cited.cited is.0 is.1, is.2))),
+        )) reads)
 
     -- no cell of a chain was changed
     chains_before : CountsOutOf s1 s2 listed → (st : State) (lib : List Ranked) → Matches s2 st → Views s0 st lib

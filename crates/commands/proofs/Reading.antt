@@ -1,5 +1,5 @@
 -- Which cells a command reads, from what its calls read; and a transaction, command by command.
-use Rattle.std.proofs.Common.{◌≡◌, ℕ, List, [], ◌∷◌, ◌++◌, Option, Some, None, true, false, refl, sym, ap, subst, ◌∙◌, ◌⊎◌, inl, inr, ⊎_elim, append_assoc}
+use Rattle.std.proofs.Common.{◌≡◌, ℕ, List, [], ◌∷◌, ◌++◌, Option, Some, None, refl, ap, ◌∙◌, ◌⊎◌, inl, inr, ⊎_elim, append_assoc}
 use Rattle.std.specs.Prelude.{◌==◌}
 use Rattle.std.proofs.lemmas.Bool.{cases_Bool}
 use Rattle.std.proofs.lemmas.Bool.Decides.{Decides-eqb}
@@ -7,7 +7,7 @@ use Rattle.library.specs.declared.command.Command.{Command}
 use Rattle.library.specs.declared.command.Reply.{Reply}
 use Rattle.ranges.specs.Pairs.{Pairs}
 use Rattle.ranges.specs.Ranges.{Has}
-use Rattle.cells.specs.Sight.{Sight, WasRead, WasAsked, Onward, ReadsWithin}
+use Rattle.cells.specs.Sight.{Sight, WasAsked, Onward}
 use Rattle.cells.specs.Answers.{DoesAll}
 use Rattle.cells.proofs.Sights.{onward_trans, matches_back}
 use Rattle.commands.specs.Footprints.{IsReadByOne, ReadsFor, ReadsForAll}

@@ -1,5 +1,5 @@
 -- Which cells `rename` reads, from what its parts read.
-use Rattle.std.proofs.Common.{◌≡◌, ◌≢◌, ◌<◌, ◌*◌, ◌≤◌, ℕ, List, ap, subst, ◌∙◌, inl, inr, ⊎_elim, arith}
+use Rattle.std.proofs.Common.{◌≡◌, ◌≢◌, ◌<◌, ℕ, List, subst, inl, inr, ⊎_elim, arith}
 use Rattle.library.specs.declared.command.Command.TheVariants.{Rename}
 use Rattle.library.specs.Library.{Setting}
 use Rattle.cells.specs.State.{State}
@@ -9,7 +9,6 @@ use Rattle.cells.specs.Aside.{IsOfFront}
 use Rattle.cells.specs.Footprints.{ReadsWhere, IsOfLook, IsOfClash, IsOfTakingOut}
 use Rattle.cells.proofs.Along.{where_trans}
 use Rattle.cells.proofs.Asking.{asks_wider}
-use Rattle.cells.proofs.Sights.{matches_back}
 use Rattle.commands.specs.Footprints.{IsOfNewLabel}
 use Rattle.commands.proofs.Since.{ReadsSince, OfCommandFound, since_then, taking_out, look_before}
 

@@ -1,5 +1,5 @@
 -- Which cells `show` and `list` read, from what their parts read.
-use Rattle.std.proofs.Common.{◌≡◌, ◌<◌, ◌⊎◌, ℕ, List, Some, true, sym, ap, subst, inl, inr, ⊎_elim, arith}
+use Rattle.std.proofs.Common.{◌≡◌, ◌<◌, ◌⊎◌, ℕ, List, Some, true, inl, inr, ⊎_elim, arith}
 use Rattle.mmsyntax.specs.declared.statement.Step.{Step}
 use Rattle.library.specs.declared.library.Ranked.{Ranked}
 use Rattle.library.specs.declared.command.Command.TheVariants.{Show}
@@ -7,7 +7,7 @@ use Rattle.library.specs.declared.command.Command.TheVariants as command
 use Rattle.cells.specs.State.{State}
 use Rattle.cells.specs.Slots.{name_cell, rank_cell, citers_cell}
 use Rattle.cells.specs.Shows.{Holds}
-use Rattle.cells.specs.Sight.{Sight, Onward, Looks, ReadsWithin, after}
+use Rattle.cells.specs.Sight.{Sight, Looks, ReadsWithin}
 use Rattle.cells.specs.Aside.{IsOfSlot}
 use Rattle.cells.specs.Footprints.{IsOfAssertion}
 use Rattle.cells.specs.Lookups.{ForEachHeld, Finds, IfFull}

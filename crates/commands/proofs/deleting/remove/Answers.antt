@@ -8,7 +8,6 @@ use Rattle.commands.specs.Touches.{DeletesWithin}
 use Rattle.commands.proofs.Touching.{removes_within}
 use Rattle.commands.proofs.Chaining.{TakesOut}
 use Rattle.commands.proofs.Removing.{removed}
-use Rattle.cells.specs.Slots.{proof_cell}
 use Rattle.cells.specs.Footprints.{ReadsWhere, IsOfTakingOut}
 use Rattle.library.specs.declared.command.Command.TheVariants.{Delete}
 use Rattle.commands.proofs.Since.{ReadsSince, OfCommandFound, found_end}

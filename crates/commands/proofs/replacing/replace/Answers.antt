@@ -1,4 +1,4 @@
-use Rattle.std.proofs.Common.{◌≡◌, ◌≢◌, ◌⊎◌, ℕ, inl, inr, ⊎_elim, true, false, List, [], length, map, rules, arith, sym, ap, subst, ◌∙◌}
+use Rattle.std.proofs.Common.{◌≡◌, ◌≢◌, inl, inr, true, false, List, [], length, map, rules, arith, sym, ap, subst, ◌∙◌}
 use Rattle.std.specs.Vec.{vec_len}
 use Rattle.std.proofs.lemmas.Bool.Decides.{Decides-eqb}
 use Rattle.std.proofs.lemmas.List.{nil_from_length, with_items_is}
@@ -19,7 +19,7 @@ use Rattle.commands.proofs.Refusing.{of_none, refused_later, answers_refused}
 use Rattle.commands.proofs.Replaced.{answers_unknown, refuses_old, refuses_new, sought, sought_later, alike_later}
 use Rattle.commands.proofs.Replaced.{refuses_axiom, refuses_unlike, refuses_not_lower, replaced, replace_keeps, replace_reads}
 use Rattle.commands.proofs.Taking.{found_taken, recited_length}
-use Rattle.cells.specs.Slots.{statement_cell, rank_cell, proof_cell}
+use Rattle.cells.specs.Slots.{proof_cell}
 use Rattle.cells.specs.Footprints.{IsOfLook}
 use Rattle.commands.specs.Touches.{Touches}
 use Rattle.commands.specs.Footprints.{ReadsFor, ReprovesReading}

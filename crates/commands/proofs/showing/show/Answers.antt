@@ -11,7 +11,6 @@ use Rattle.cells.proofs.ReadBack.{held_later}
 use Rattle.cells.proofs.Sights.{looks_trans}
 use Rattle.commands.proofs.OnlyLooks.{finds_later, does_reading}
 use Rattle.commands.proofs.Refusing.{of_none, of_some, refused, answers_refused}
-use Rattle.cells.specs.Sight.{ReadsWithin}
 use Rattle.cells.specs.Footprints.{ReadsWhere, IsOfLook}
 use Rattle.commands.specs.Footprints.{ReadsFor}
 use Rattle.commands.proofs.Since.{first_look}
