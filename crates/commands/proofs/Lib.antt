@@ -27,3 +27,11 @@ pub mod Recited
 pub mod Replaced
 pub mod Taking
 pub mod MoveReads
+pub mod Reading
+pub mod Since
+pub mod ShowReads
+pub mod DeleteReads
+pub mod RenameReads
+pub mod TestReads
+pub mod ReproveReads
+pub mod ReplaceReads

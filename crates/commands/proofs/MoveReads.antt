@@ -1,6 +1,7 @@
 -- Which cells `move` reads, from what its parts read.
 use Rattle.std.proofs.Common.{◌≡◌, ◌≢◌, ◌<◌, ◌≤◌, ◌⊎◌, ℕ, List, length, get_or, Some, refl, sym, ap, subst, ◌∙◌, inl, inr, ⊎_elim}
 use Rattle.library.specs.declared.library.Ranked.{Ranked}
+use Rattle.library.specs.declared.command.Command.TheVariants.{Move}
 use Rattle.library.specs.Library.{Setting, label_of}
 use Rattle.library.specs.Edits.{citers}
 use Rattle.library.proofs.Places.{found_in}
@@ -18,7 +19,7 @@ use Rattle.cells.proofs.Along.{where_more}
 use Rattle.cells.proofs.AskingSteps.{cited_slot}
 use Rattle.cells.proofs.ReadBack.{held_later}
 use Rattle.cells.proofs.Sights.{matches_back, after_looks, for_each_later}
-use Rattle.commands.specs.Footprints.{IsOfRanks, IsOfRise, IsOfMoving, IsReadByMove, IsRankOfCited, IsRankOfSteps, MoveReads}
+use Rattle.commands.specs.Footprints.{IsOfRanks, IsOfRise, IsOfMoving, IsReadByMove, IsRankOfCited, IsRankOfSteps, ReadsFor}
 use Rattle.commands.proofs.OnlyLooks.{finds_later}
 use Rattle.commands.proofs.Seeing.{views_later}
 
@@ -90,14 +91,14 @@ module _ {O : Type 0} (old : Sight O) (label : List ℕ) (rank : ℕ) where
       (subst (λ (x : Setting). Holds x.slots (after t st) lib i at.entry) (sym same) at.holds))
 
   -- where it ends with looks
-  pub move_now : (t : Sight O) → Looks old t → MovesSo label rank old t → MoveReads label rank old t
+  pub move_now : (t : Sight O) → Looks old t → MovesSo label rank old t → ReadsFor old t (Move label rank)
   move_now t looks before st lib m v =
       subst (λ (x : State). ReadsWithin (IsReadByMove old.setting.slots x lib label rank) old t) (after_looks old t st looks)
       (before st lib (views_later old t st lib looks m v))
 
   -- and then one that is put
   pub move_put : (t u : Sight O) (i : ℕ) → Looks old t → Onward t u → Finds t label (Some i) → MovesSo label rank old t
-      → ReadsWithin (λ c. c ≡ rank_cell i) t u → MoveReads label rank old u
+      → ReadsWithin (λ c. c ≡ rank_cell i) t u → ReadsFor old u (Move label rank)
   move_put t u i looks on finds before put st lib m v =
       let back = matches_back t u st on m in
       let now = views_later old t st lib looks back v in

@@ -45,6 +45,11 @@ use Rattle.commands.proofs.Ranking.{stored_since}
 use Rattle.commands.proofs.Recited.{recited_stored}
 use Rattle.commands.proofs.Refusing.{of_some, first_refuses, first_passes, refused_later}
 use Rattle.commands.proofs.Seeing.{has_found, views_later}
+use Rattle.cells.specs.Sight.{ReadsWithin}
+use Rattle.cells.specs.Answers.{ForEachBefore}
+use Rattle.cells.proofs.Asking.{asks_wider}
+use Rattle.commands.specs.Touches.{Touches}
+use Rattle.commands.specs.Footprints.{ReprovesReading}
 
 -- ---- the tests
 
@@ -246,6 +251,21 @@ module _ {O : Type 0} (first s : Sight O) (i j k : ℕ) (label old new : List �
       ⊎_elim (λ before. inl before) (λ is. inr (i, at, is))
       (within st lib m v at (recited old new steps) (recited_stored slots (after s st) lib v.shows v.matches.store apart j k old new at_old
       named steps kept (stored_there st lib v)) c was)
+
+  -- and so with what is read
+  pub replace_reads : (last : Sight O) → ReprovesReading s last i label (map (recited_step s.setting.slots j k) kept)
+      → ForEachBefore s last (λ st lib. ReadsWithin (Touches s.setting.slots (after s st) lib (Replace label old new)) s last)
+  replace_reads last within st lib m v =
+      let at = known.finds.1 st lib v in
+      let at_old = known.finds_old.1 st lib v in
+      let at_new = known.finds_new.1 st lib v in
+      let slots = s.setting.slots in
+      let steps = at.entry.assertion.proof in
+      let apart = v.verifies.library.distinct in
+      let named = found_named slots (after s st) lib v.shows v.matches.store apart new k at_new in
+      asks_wider (λ c is. (i, at, is))
+      (within st lib m v at (recited old new steps) (recited_stored slots (after s st) lib v.shows v.matches.store apart j k old new at_old
+      named steps kept (stored_there st lib v)))
 
   module _ (some : kept ≢ []) (p : Tables) (prelude : p ≡ first.setting.prelude) where
     theorem_there : (st : State) (lib : List Ranked) (v : Views s st lib) → (known.finds.1 st lib v).entry.assertion.kind ≡ Theorem

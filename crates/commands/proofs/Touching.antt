@@ -18,7 +18,7 @@ use Rattle.bodystore.specs.declared.stored.StoredStep.TheVariants.{Slot}
 use Rattle.cells.specs.State.{State, most_words}
 use Rattle.cells.specs.Slots.{name_cell, proof_cell, rank_cell, citers_cell, bucket}
 use Rattle.cells.specs.Shows.{Held, AreStoredAs, Shows}
-use Rattle.cells.specs.Sight.{Sight, Matches, Onward, Looks, after}
+use Rattle.cells.specs.Sight.{Sight, Matches, Views, Onward, Looks, after}
 use Rattle.cells.specs.Aside.{KeepsAside, IsOfSlot, IsCitersOf, IsCitersOfCited, IsOfFront, IsOfLeaving, KeepsLeaving, IsOfFilling}
 use Rattle.cells.specs.Filling.{AreCitedSlots, AreOnlyIn}
 use Rattle.cells.specs.Lookups.{ForEach, ForEachHeld, IsFoundAt, IsFirstEmpty}
@@ -80,6 +80,27 @@ module _ (slots : ℕ) (st : State) (lib : List Ranked) (shows : Shows slots st 
               (cites_stored slots st lib shows store apart p.0 p.1 others without stored_others so)),
         )
 
+  module _ (apart : Distinct bytes_eq (map label_of lib)) (e : Ranked) (steps : List Step) (former kept : List StoredStep)
+      (before now : List ℕ) (stored_before : AreStoredAs slots st e.assertion.proof former) (stored_as : AreStoredAs slots st steps kept)
+      (cited_before : AreCitedSlots former before) (cited_now : AreCitedSlots kept now) where
+    -- the citers cell of what the one proof cited, and the other doesn't
+    pub dropped_cited : (dropped : List ℕ) → AreOnlyIn before now dropped → (c : ℕ) → IsCitersOf dropped c
+        → IsCitersCell slots st lib (λ f. cites (label_of f) e ≢ cites (label_of f) (with_proof steps e)) c
+    dropped_cited dropped drops c is =
+        let d = drops.from is.0 is.1 in
+        let p = one_held apart e.assertion.proof steps former kept stored_before stored_as is.0 (cited_before.cited is.0 d.0)
+        (λ h. d.1 (cited_now.all is.0 h)) in
+        (p.0.slot, p.0.entry, held_holds slots st lib shows p.0 p.1, λ same. p.4 (sym same ∙ p.3), is.2 ∙ ap citers_cell (sym p.2))
+
+    -- and of what it cites, and the one didn't
+    pub gained_cited : (gained : List ℕ) → AreOnlyIn now before gained → (c : ℕ) → IsCitersOf gained c
+        → IsCitersCell slots st lib (λ f. cites (label_of f) e ≢ cites (label_of f) (with_proof steps e)) c
+    gained_cited gained gains c is =
+        let d = gains.from is.0 is.1 in
+        let p = one_held apart steps e.assertion.proof kept former stored_as stored_before is.0 (cited_now.cited is.0 d.0)
+        (λ h. d.1 (cited_before.all is.0 h)) in
+        (p.0.slot, p.0.entry, held_holds slots st lib shows p.0 p.1, λ same. p.4 (same ∙ p.3), is.2 ∙ ap citers_cell (sym p.2))
+
 -- ---- another proof
 
 pub resteps_within : {O : Type 0} → (s0 s1 s2 s3 s4 : Sight O) (i : ℕ) (label : List ℕ) (former kept : List StoredStep)
@@ -115,29 +136,15 @@ resteps_within s0 s1 s2 s3 s4 i label former kept before now dropped gained look
 
     was_cited : (c : ℕ) → IsCitersOf dropped c
         → IsCitersCell s0.setting.slots (after s0 st) lib (λ f. cites (label_of f) here.entry ≢ cites (label_of f) (with_proof steps here.entry)) c
-    was_cited c is =
-        let d = drops.from is.0 is.1 in
-        let p = one_held slots (after s0 st) lib seen.shows seen.matches.store seen.verifies.library.distinct e.assertion.proof steps former kept
-        stored_before stored_as is.0 (cited_before.cited is.0 d.0) (λ h. d.1 (cited_now.all is.0 h)) in (
-          p.0.slot,
-          p.0.entry,
-          held_holds slots (after s0 st) lib seen.shows p.0 p.1,
-          λ same. p.4 (sym same ∙ p.3),
-          is.2 ∙ ap citers_cell (sym p.2),
-        )
+    was_cited =
+        dropped_cited slots (after s0 st) lib seen.shows seen.matches.store seen.verifies.library.distinct e steps former kept before now
+        stored_before stored_as cited_before cited_now dropped drops
 
     is_cited : (c : ℕ) → IsCitersOf gained c
         → IsCitersCell s0.setting.slots (after s0 st) lib (λ f. cites (label_of f) here.entry ≢ cites (label_of f) (with_proof steps here.entry)) c
-    is_cited c is =
-        let d = gains.from is.0 is.1 in
-        let p = one_held slots (after s0 st) lib seen.shows seen.matches.store seen.verifies.library.distinct steps e.assertion.proof kept former
-        stored_as stored_before is.0 (cited_now.cited is.0 d.0) (λ h. d.1 (cited_before.all is.0 h)) in (
-          p.0.slot,
-          p.0.entry,
-          held_holds slots (after s0 st) lib seen.shows p.0 p.1,
-          λ same. p.4 (same ∙ p.3),
-          is.2 ∙ ap citers_cell (sym p.2),
-        )
+    is_cited =
+        gained_cited slots (after s0 st) lib seen.shows seen.matches.store seen.verifies.library.distinct e steps former kept before now
+        stored_before stored_as cited_before cited_now gained gains
 
 -- what was found gets steps that are stored as these
 pub reprove_keeps : {O : Type 0} → (s new : Sight O) (i : ℕ) (label : List ℕ) (steps : List Step) (kept : List StoredStep)
@@ -244,20 +251,24 @@ delete_keeps s new i label here within st lib m v c was =
 
 -- ---- an assertion more
 
-pub add_keeps : {O : Type 0} → (s new : Sight O) (from i rank : ℕ) (a : Assertion) (kept : List StoredStep) → from ≡ bucket s.setting.slots a.label
-    → IsFirstEmpty s from i → ForEach s (λ st lib. AreStoredAs s.setting.slots st a.proof kept)
-    → KeepsAside (IsOfFilling s.setting.slots i a.label kept) s new → KeepsTo s new (Add rank a)
-add_keeps s new from i rank a kept from_is first stored within st lib m v c was =
+-- what is filled is what the command touches
+pub add_touches : {O : Type 0} → (s : Sight O) (from i rank : ℕ) (a : Assertion) (kept : List StoredStep) → from ≡ bucket s.setting.slots a.label
+    → IsFirstEmpty s from i → ForEach s (λ st lib. AreStoredAs s.setting.slots st a.proof kept) → (st : State) (lib : List Ranked)
+    → Views s st lib → (c : ℕ) → IsOfFilling s.setting.slots i a.label kept c → Touches s.setting.slots (after s st) lib (Add rank a) c
+add_touches s from i rank a kept from_is first stored st lib v c is =
     let slots = s.setting.slots in
     let free : IsFirstFree s.setting.slots (after s st) from i =
-    record { steps = first.steps; at = first.at; empty = first.empty st lib v; full = λ k lt. first.full k lt st lib v } in
-    ⊎_elim (λ before. inl before)
-    (λ is. inr (
+    record { steps = first.steps; at = first.at; empty = first.empty st lib v; full = λ k lt. first.full k lt st lib v } in (
       i,
       subst (λ (n : ℕ). IsFirstFree s.setting.slots (after s st) n i) from_is free,
       ⊎_elim (λ own. inl own)
           (λ more. ⊎_elim (λ front. inr (inl front))
           (λ counted. inr (inr (cited_citers slots (after s st) lib v.shows v.matches.store (record { rank = rank; assertion = a }) kept c
           (stored st lib v) counted))) more) is,
-    ))
-    (within c was)
+    )
+
+pub add_keeps : {O : Type 0} → (s new : Sight O) (from i rank : ℕ) (a : Assertion) (kept : List StoredStep) → from ≡ bucket s.setting.slots a.label
+    → IsFirstEmpty s from i → ForEach s (λ st lib. AreStoredAs s.setting.slots st a.proof kept)
+    → KeepsAside (IsOfFilling s.setting.slots i a.label kept) s new → KeepsTo s new (Add rank a)
+add_keeps s new from i rank a kept from_is first stored within st lib m v c was =
+    ⊎_elim (λ before. inl before) (λ is. inr (add_touches s from i rank a kept from_is first stored st lib v c is)) (within c was)

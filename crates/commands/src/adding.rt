@@ -7,6 +7,7 @@ ghost use Rattle.cells.specs.Sight.{Onward};
 ghost use Rattle.cells.specs.Answers.{CommandAnswers};
 ghost use Rattle.commands.specs.Takes.{TakesBodies};
 ghost use Rattle.commands.specs.Touches.{KeepsTo};
+ghost use Rattle.commands.specs.Footprints.{ReadsFor};
 
 use crate::citing::test_proof;
 use crate::naming::test_new_label;
@@ -32,6 +33,7 @@ pub(crate) fn add<C: Cells>(
     ensures answers { CommandAnswers (C.sight cells.old) (C.sight cells.new) (command.Add rank assertion.now) result }
     ensures taken { TakesBodies (command.Add rank assertion.now) (C.sight cells.old) (C.sight cells.new) }
     ensures keeps { IfOk result (λ _. KeepsTo (C.sight cells.old) (C.sight cells.new) (command.Add rank assertion.now)) }
+    ensures reads { ReadsFor (C.sight cells.old) (C.sight cells.new) (command.Add rank assertion.now) }
 {
     let label = assertion.label.as_slice();
     if rank == 0 {

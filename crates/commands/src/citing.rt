@@ -3,8 +3,9 @@
 ghost use Rattle.std.specs.Prelude.{◌≡◌, ◌<◌, IfOk, IfErr, OnOk};
 ghost use Rattle.mmsyntax.specs.declared.statement.Kind.TheVariants.{Theorem};
 ghost use Rattle.cells.specs.Sight.{Looks, ReadsWithin};
+ghost use Rattle.cells.specs.Slots.{statement_cell};
 ghost use Rattle.cells.specs.Lookups.{AreWithin};
-ghost use Rattle.commands.specs.Footprints.{IsRankOfSteps};
+ghost use Rattle.commands.specs.Footprints.{IsRankOfSteps, IsStatementOfSteps, TestReads};
 ghost use Rattle.commands.specs.Citing.{TellsNotBelow, TellsFrames, NotesFrame, TellsFault, Passes, TellsRefusal, frames_in};
 
 use bodystore::StoredStep;
@@ -34,6 +35,7 @@ pub(crate) fn test_proof<C: Cells>(
     ensures looks { Looks (C.sight cells.old) (C.sight cells.new) }
     ensures ok { IfOk result (λ kept. Passes (C.sight cells.new) rank theorem.now kept.items) }
     ensures err { IfErr result (λ error. TellsRefusal (C.sight cells.new) rank theorem.now error) }
+    ensures reads { TestReads (C.sight cells.old) (C.sight cells.new) theorem.now.proof }
 {
     let steps = theorem.proof.as_slice();
     let Some(kept) = resolve(alloc, cells, steps)? else {
@@ -98,6 +100,7 @@ fn cited_frames<C: Cells>(
     requires { AreWithin (C.sight cells.old).setting.slots kept.now }
     ensures looks { Looks (C.sight cells.old) (C.sight cells.new) }
     ensures ok { IfOk result (λ made. TellsFrames (C.sight cells.new) prelude.now steps.now kept.now (frames_in made.by_label)) }
+    ensures reads { ReadsWithin (IsStatementOfSteps kept.now) (C.sight cells.old) (C.sight cells.new) }
 {
     let mut by_label = BTreeMap::new(alloc);
     for (step, stored) in steps.iter().zip(kept) {
@@ -124,6 +127,7 @@ fn note_frame<C: Cells>(
     requires { slot < (C.sight cells.old).setting.slots }
     ensures looks { Looks (C.sight cells.old) (C.sight cells.new) }
     ensures ok { OnOk result (NotesFrame (C.sight cells.new) prelude.now slot label.now (frames_in by_label.old) (frames_in by_label.new)) }
+    ensures reads { ReadsWithin (λ c. c ≡ statement_cell slot) (C.sight cells.old) (C.sight cells.new) }
 {
     if by_label.contains_key(label.as_slice()) {
         return Ok(());

@@ -7,6 +7,7 @@ ghost use Rattle.cells.specs.Answers.{CommandAnswers, WritesSome};
 ghost use Rattle.commands.specs.Changes.{DeletesAt};
 ghost use Rattle.commands.specs.Takes.{TakesBodies};
 ghost use Rattle.commands.specs.Touches.{KeepsTo, DeletesWithin};
+ghost use Rattle.commands.specs.Footprints.{ReadsFor, ReadsForFound};
 
 use cells::{
     Cells, CommandError, Halt, cited_slots, citers, count_out, find, stored_proof, take_out, vacate,
@@ -26,6 +27,7 @@ pub(crate) fn delete<C: Cells>(
     ensures answers { CommandAnswers (C.sight cells.old) (C.sight cells.new) (command.Delete label.now) result }
     ensures taken { TakesBodies (command.Delete label.now) (C.sight cells.old) (C.sight cells.new) }
     ensures keeps { IfOk result (λ _. KeepsTo (C.sight cells.old) (C.sight cells.new) (command.Delete label.now)) }
+    ensures reads { ReadsFor (C.sight cells.old) (C.sight cells.new) (command.Delete label.now) }
 {
     let Some(slot) = find(cells, label.as_slice()).map_err(Halt::Stopped)? else {
         return Err(Reason::UnknownLabel.into());
@@ -52,6 +54,7 @@ fn remove<C: Cells>(
     ensures ok { IfOk result (λ _. DeletesAt (C.sight cells.old) (C.sight cells.new) slot label.now) }
     ensures taken { TakesAtMost 0 (C.sight cells.old) (C.sight cells.new) }
     ensures keeps { IfOk result (λ _. DeletesWithin (C.sight cells.old) (C.sight cells.new) slot label.now) }
+    ensures reads { ReadsForFound (C.sight cells.old) (C.sight cells.new) slot label.now (command.Delete label.now) }
 {
     let former = stored_proof(alloc, cells, slot)?;
     let cited = cited_slots(alloc, former.as_slice())?;

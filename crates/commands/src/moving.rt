@@ -7,7 +7,7 @@ ghost use Rattle.cells.specs.Answers.{CommandAnswers};
 ghost use Rattle.commands.specs.Citing.{TellsCites, TellsCitedUpTo};
 ghost use Rattle.cells.specs.Slots.{proof_cell};
 ghost use Rattle.cells.specs.Lookups.{ForEachHeld};
-ghost use Rattle.commands.specs.Footprints.{IsOfRise, MoveReads};
+ghost use Rattle.commands.specs.Footprints.{IsOfRise, ReadsFor};
 ghost use Rattle.commands.specs.Takes.{TakesBodies};
 ghost use Rattle.commands.specs.Touches.{KeepsTo};
 
@@ -32,7 +32,7 @@ pub(crate) fn move_to<C: Cells>(
     ensures answers { CommandAnswers (C.sight cells.old) (C.sight cells.new) (command.Move label.now rank) result }
     ensures taken { TakesBodies (command.Move label.now rank) (C.sight cells.old) (C.sight cells.new) }
     ensures keeps { IfOk result (λ _. KeepsTo (C.sight cells.old) (C.sight cells.new) (command.Move label.now rank)) }
-    ensures reads { MoveReads label.now rank (C.sight cells.old) (C.sight cells.new) }
+    ensures reads { ReadsFor (C.sight cells.old) (C.sight cells.new) (command.Move label.now rank) }
 {
     let Some(slot) = find(cells, label.as_slice()).map_err(Halt::Stopped)? else {
         return Err(Reason::UnknownLabel.into());

@@ -2,6 +2,8 @@
 
 ghost use Rattle.std.specs.Prelude.{◌≡◌, OnOk, IfErr};
 ghost use Rattle.cells.specs.Sight.{Looks};
+ghost use Rattle.cells.specs.Footprints.{ReadsWhere};
+ghost use Rattle.commands.specs.Footprints.{IsOfNewLabel};
 ghost use Rattle.commands.specs.Naming.{PassesAsNew, TellsNotNew};
 
 use cells::{Cells, CommandError, Halt, find, has_clash};
@@ -24,6 +26,7 @@ pub(crate) fn test_new_label<C: Cells>(
     ensures looks { Looks (C.sight cells.old) (C.sight cells.new) }
     ensures ok { OnOk result (PassesAsNew (C.sight cells.new) own.now label.now) }
     ensures err { IfErr result (λ error. TellsNotNew (C.sight cells.new) own.now label.now error) }
+    ensures reads { ReadsWhere (IsOfNewLabel (C.sight cells.old).setting.slots own.now label.now) (C.sight cells.old) (C.sight cells.new) }
 {
     if !is_lawful_label(prelude, label) {
         return Err(Reason::BadLabel.into());

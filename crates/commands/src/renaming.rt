@@ -8,6 +8,7 @@ ghost use Rattle.cells.specs.Answers.{CommandAnswers, WritesSome};
 ghost use Rattle.commands.specs.Changes.{RenamesAt};
 ghost use Rattle.commands.specs.Takes.{TakesBodies};
 ghost use Rattle.commands.specs.Touches.{KeepsTo, RenamesWithin};
+ghost use Rattle.commands.specs.Footprints.{ReadsFor, ReadsForFound};
 
 use crate::naming::test_new_label;
 use bodystore::encode_label;
@@ -31,6 +32,7 @@ pub(crate) fn rename<C: Cells>(
     ensures answers { CommandAnswers (C.sight cells.old) (C.sight cells.new) (command.Rename old.now new.now) result }
     ensures taken { TakesBodies (command.Rename old.now new.now) (C.sight cells.old) (C.sight cells.new) }
     ensures keeps { IfOk result (λ _. KeepsTo (C.sight cells.old) (C.sight cells.new) (command.Rename old.now new.now)) }
+    ensures reads { ReadsFor (C.sight cells.old) (C.sight cells.new) (command.Rename old.now new.now) }
 {
     let Some(slot) = find(cells, old.as_slice()).map_err(Halt::Stopped)? else {
         return Err(Reason::UnknownLabel.into());
@@ -58,6 +60,7 @@ fn relabel<C: Cells>(
     ensures ok { IfOk result (λ _. RenamesAt (C.sight cells.old) (C.sight cells.new) slot old.now new.now) }
     ensures taken { TakesAtMost (length body.now) (C.sight cells.old) (C.sight cells.new) }
     ensures keeps { IfOk result (λ _. RenamesWithin (C.sight cells.old) (C.sight cells.new) slot new.now) }
+    ensures reads { ReadsForFound (C.sight cells.old) (C.sight cells.new) slot old.now (command.Rename old.now new.now) }
 {
     let _slots = slot_count(cells);
     put_body(cells, name_cell(slot), body)?;

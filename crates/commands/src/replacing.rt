@@ -1,11 +1,14 @@
 //! Has the proof of a theorem cite one assertion in place of another.
 
-ghost use Rattle.std.specs.Prelude.{◌≡◌, ◌<◌, true, Some, IfOk, IfErr, map};
+ghost use Rattle.std.specs.Prelude.{◌≡◌, ◌<◌, ◌⊎◌, true, Some, IfOk, IfErr, map};
 ghost use Rattle.library.specs.declared.command.Command.TheVariants as command;
-ghost use Rattle.cells.specs.Sight.{Onward, Looks};
+ghost use Rattle.cells.specs.Sight.{Onward, Looks, ReadsWithin};
 ghost use Rattle.cells.specs.Lookups.{Finds};
 ghost use Rattle.cells.specs.Answers.{CommandAnswers};
+ghost use Rattle.cells.specs.Slots.{statement_cell, rank_cell};
+ghost use Rattle.cells.specs.Footprints.{ReadsWhere, IsOfLook};
 ghost use Rattle.commands.specs.Touches.{KeepsTo};
+ghost use Rattle.commands.specs.Footprints.{ReadsFor};
 ghost use Rattle.commands.specs.Replacing.{TellsUnknown, TellsAlike, TellsNotLower, recited_step};
 ghost use Rattle.commands.specs.Takes.{TakesBodies};
 
@@ -33,6 +36,7 @@ pub(crate) fn replace<C: Cells>(
     ensures answers { CommandAnswers (C.sight cells.old) (C.sight cells.new) (command.Replace label.now old.now new.now) result }
     ensures taken { TakesBodies (command.Replace label.now old.now new.now) (C.sight cells.old) (C.sight cells.new) }
     ensures keeps { IfOk result (λ _. KeepsTo (C.sight cells.old) (C.sight cells.new) (command.Replace label.now old.now new.now)) }
+    ensures reads { ReadsFor (C.sight cells.old) (C.sight cells.new) (command.Replace label.now old.now new.now) }
 {
     let slot = slot_of(cells, label)?;
     let former = slot_of(cells, old)?;
@@ -67,6 +71,7 @@ fn slot_of<C: Cells>(cells: &mut C, label: &Label) -> Result<usize, CommandError
     ensures looks { Looks (C.sight cells.old) (C.sight cells.new) }
     ensures ok { IfOk result (λ slot. Finds (C.sight cells.new) label.now (Some slot)) }
     ensures err { IfErr result (λ error. TellsUnknown (C.sight cells.new) label.now error) }
+    ensures reads { ReadsWhere (IsOfLook (C.sight cells.old).setting.slots label.now) (C.sight cells.old) (C.sight cells.new) }
 {
     let Some(slot) = find(cells, label.as_slice()).map_err(Halt::Stopped)? else {
         return Err(Reason::UnknownLabel.into());
@@ -86,6 +91,7 @@ fn are_alike<C: Cells>(
     requires new { new < (C.sight cells.old).setting.slots }
     ensures looks { Looks (C.sight cells.old) (C.sight cells.new) }
     ensures ok { IfOk result (λ b. TellsAlike (C.sight cells.new) prelude.now old new b) }
+    ensures reads { ReadsWithin (λ c. (c ≡ statement_cell old) ⊎ (c ≡ statement_cell new)) (C.sight cells.old) (C.sight cells.new) }
 {
     let former = frame(alloc, prelude, cells, old)?;
     let next = frame(alloc, prelude, cells, new)?;
@@ -98,6 +104,7 @@ fn is_not_lower<C: Cells>(cells: &mut C, citing: usize, cited: usize) -> Result<
     requires cited { cited < (C.sight cells.old).setting.slots }
     ensures looks { Looks (C.sight cells.old) (C.sight cells.new) }
     ensures ok { IfOk result (λ b. TellsNotLower (C.sight cells.new) citing cited b) }
+    ensures reads { ReadsWithin (λ c. (c ≡ rank_cell citing) ⊎ (c ≡ rank_cell cited)) (C.sight cells.old) (C.sight cells.new) }
 {
     let limit = rank(cells, citing)?;
     Ok(limit <= rank(cells, cited)?)

@@ -9,6 +9,7 @@ ghost use Rattle.cells.specs.Answers.{CommandAnswers, WritesSome};
 ghost use Rattle.commands.specs.Changes.{ReprovesAt};
 ghost use Rattle.commands.specs.Takes.{TakesBodies};
 ghost use Rattle.commands.specs.Touches.{KeepsTo, ReprovesWithin};
+ghost use Rattle.commands.specs.Footprints.{ReadsFor, ReprovesReading};
 
 use crate::citing::test_proof;
 use bodystore::{StoredStep, encode_proof};
@@ -34,6 +35,7 @@ pub(crate) fn reprove<C: Cells>(
     ensures answers { CommandAnswers (C.sight cells.old) (C.sight cells.new) (command.Reprove label.now steps.now) result }
     ensures taken { TakesBodies (command.Reprove label.now steps.now) (C.sight cells.old) (C.sight cells.new) }
     ensures keeps { IfOk result (λ _. KeepsTo (C.sight cells.old) (C.sight cells.new) (command.Reprove label.now steps.now)) }
+    ensures reads { ReadsFor (C.sight cells.old) (C.sight cells.new) (command.Reprove label.now steps.now) }
 {
     let Some(slot) = find(cells, label.as_slice()).map_err(Halt::Stopped)? else {
         return Err(Reason::UnknownLabel.into());
@@ -67,6 +69,7 @@ pub(crate) fn put_steps<C: Cells>(
     ensures ok { IfOk result (λ _. (label : List _) → ReprovesAt (C.sight cells.old) (C.sight cells.new) slot label kept.now) }
     ensures taken { TakesAtMost (length (proof_body kept.now)) (C.sight cells.old) (C.sight cells.new) }
     ensures keeps { IfOk result (λ _. (label : List _) → ReprovesWithin (C.sight cells.old) (C.sight cells.new) slot label kept.now) }
+    ensures reads { (label : List _) → ReprovesReading (C.sight cells.old) (C.sight cells.new) slot label kept.now }
 {
     let _slots = slot_count(cells);
     let former = stored_proof(alloc, cells, slot)?;

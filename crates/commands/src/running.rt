@@ -6,6 +6,7 @@ ghost use Rattle.cells.specs.Sight.{Onward, TakesAtMost};
 ghost use Rattle.cells.specs.Answers.{ForEachBefore, MayDo, CommandAnswers, RunAnswers};
 ghost use Rattle.commands.specs.Takes.{TakesBodies, most_words_of};
 ghost use Rattle.commands.specs.Touches.{KeepsTo, KeepsToAll};
+ghost use Rattle.commands.specs.Footprints.{ReadsFor, ReadsForAll};
 
 use crate::adding::add;
 use crate::deleting::delete;
@@ -24,8 +25,8 @@ use std::alloc::Global;
 ///
 /// The replies are those of the transaction's definition over the library, and the cells then show the library as it is after it: for every
 /// state of the cells that agrees with what was read, shows a library that verifies, and has the ranges that were seen. So whatever else
-/// becomes of cells that were not read, nothing changes in the answer. Values are kept aside for no cells but those of what the commands
-/// change.
+/// becomes of cells that were not read, nothing changes in the answer. No cells are read but those of what the commands look for and change,
+/// also where it ends early, and values are kept aside for no cells but those of what they change.
 ///
 /// # Errors
 ///
@@ -44,6 +45,7 @@ pub fn run<C: Cells>(
     ensures answers { RunAnswers (C.sight cells.old) (C.sight cells.new) commands.now result }
     ensures taken { ForEachBefore (C.sight cells.old) (C.sight cells.new) (λ st lib. TakesAtMost (most_words_of commands.now) (C.sight cells.old) (C.sight cells.new)) }
     ensures keeps { IfOk result (λ _. KeepsToAll (C.sight cells.old) (C.sight cells.new) commands.now) }
+    ensures reads { ReadsForAll (C.sight cells.old) (C.sight cells.new) commands.now }
 {
     let mut replies = Vec::new(alloc);
     for (done, command) in commands.iter().enumerate() {
@@ -56,7 +58,7 @@ pub fn run<C: Cells>(
 }
 
 /// Does one command, over what is kept aside. It is within the limits of the prelude, which is the library's, and the run may do it. It
-/// keeps values aside for no cells but those of what it changes.
+/// reads no cells but those of what it looks for and changes, and keeps values aside for no cells but those of what it changes.
 ///
 /// # Errors
 ///
@@ -74,6 +76,7 @@ pub fn take<C: Cells>(
     ensures answers { CommandAnswers (C.sight cells.old) (C.sight cells.new) command.now result }
     ensures taken { TakesBodies command.now (C.sight cells.old) (C.sight cells.new) }
     ensures keeps { IfOk result (λ _. KeepsTo (C.sight cells.old) (C.sight cells.new) command.now) }
+    ensures reads { ReadsFor (C.sight cells.old) (C.sight cells.new) command.now }
 {
     match command {
         Command::Add { rank, assertion } => add(alloc, prelude, cells, *rank, assertion),

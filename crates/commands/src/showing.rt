@@ -1,11 +1,13 @@
 //! Shows an assertion, and lists all of them.
 
-ghost use Rattle.std.specs.Prelude.{◌≡◌, ◌<◌, IfOk};
+ghost use Rattle.std.specs.Prelude.{◌≡◌, ◌<◌, ◌⊎◌, IfOk};
 ghost use Rattle.library.specs.declared.command.Command.TheVariants as command;
-ghost use Rattle.cells.specs.Sight.{Onward, Looks};
+ghost use Rattle.cells.specs.Sight.{Onward, Looks, ReadsWithin};
+ghost use Rattle.cells.specs.Slots.{name_cell};
 ghost use Rattle.cells.specs.Answers.{CommandAnswers};
 ghost use Rattle.commands.specs.Listing.{line_cmp, TellsLine, AreAllLines};
 ghost use Rattle.commands.specs.Takes.{TakesBodies};
+ghost use Rattle.commands.specs.Footprints.{IsOfLine, ReadsFor};
 
 use cells::{
     Cells, CommandError, Halt, citers, entry, find, is_full, kind, label, rank, slot_count,
@@ -24,6 +26,7 @@ pub(crate) fn show<C: Cells>(
     ensures onward { Onward (C.sight cells.old) (C.sight cells.new) }
     ensures answers { CommandAnswers (C.sight cells.old) (C.sight cells.new) (command.Show label.now) result }
     ensures taken { TakesBodies (command.Show label.now) (C.sight cells.old) (C.sight cells.new) }
+    ensures reads { ReadsFor (C.sight cells.old) (C.sight cells.new) (command.Show label.now) }
 {
     let Some(slot) = find(cells, label.as_slice()).map_err(Halt::Stopped)? else {
         return Err(Reason::UnknownLabel.into());
@@ -38,6 +41,7 @@ pub(crate) fn list<C: Cells>(alloc: Global, cells: &mut C) -> Result<Reply, Comm
     ensures onward { Onward (C.sight cells.old) (C.sight cells.new) }
     ensures answers { CommandAnswers (C.sight cells.old) (C.sight cells.new) command.List result }
     ensures taken { TakesBodies command.List (C.sight cells.old) (C.sight cells.new) }
+    ensures reads { ReadsFor (C.sight cells.old) (C.sight cells.new) command.List }
 {
     let mut lines = all_lines(alloc, cells)?;
     lines.sort_unstable_by(compare);
@@ -50,6 +54,7 @@ pub(crate) fn list<C: Cells>(alloc: Global, cells: &mut C) -> Result<Reply, Comm
 fn all_lines<C: Cells>(alloc: Global, cells: &mut C) -> Result<Vec<Line>, Halt<C::Stop>>
     ensures looks { Looks (C.sight cells.old) (C.sight cells.new) }
     ensures ok { IfOk result (λ made. AreAllLines (C.sight cells.new) made.items) }
+    ensures reads { ReadsFor (C.sight cells.old) (C.sight cells.new) command.List }
 {
     let mut lines = Vec::new(alloc);
     for slot in 0..slot_count(cells) {
@@ -65,6 +70,7 @@ fn line<C: Cells>(alloc: Global, cells: &mut C, slot: usize) -> Result<Line, Hal
     requires { slot < (C.sight cells.old).setting.slots }
     ensures looks { Looks (C.sight cells.old) (C.sight cells.new) }
     ensures ok { IfOk result (λ made. TellsLine (C.sight cells.new) slot made) }
+    ensures reads { ReadsWithin (λ c. (c ≡ name_cell slot) ⊎ IsOfLine slot c) (C.sight cells.old) (C.sight cells.new) }
 {
     Ok(Line {
         rank: rank(cells, slot).map_err(Halt::Stopped)?,

@@ -1,4 +1,4 @@
-use Rattle.std.proofs.Common.{◌≡◌, ◌∙◌, ◌<◌, ℕ, List, length, Some, None, Err, sym, ap, subst, arith}
+use Rattle.std.proofs.Common.{◌≡◌, ◌∙◌, ◌<◌, ℕ, List, length, Some, None, Err, sym, ap, subst, inl, inr, arith}
 use Rattle.std.proofs.lemmas.Bool.{ne_eqb}
 use Rattle.std.proofs.lemmas.Result.{err_from_is_err_and}
 use Rattle.library.specs.declared.command.Command.TheVariants as command
@@ -13,7 +13,7 @@ use Rattle.bodystore.specs.declared.stored.StoredStep.{StoredStep}
 use Rattle.cells.specs.Slots.{bucket}
 use Rattle.cells.specs.Aside.{KeepsAside, IsOfFilling}
 use Rattle.commands.proofs.ProofTests.{stored_on}
-use Rattle.commands.proofs.Touching.{keeps_to_since, add_keeps}
+use Rattle.commands.proofs.Touching.{keeps_to_since, add_touches, add_keeps}
 use Rattle.cells.proofs.Settings.{same_slots}
 use Rattle.cells.proofs.Laying.{ok_mapped}
 use Rattle.cells.specs.Answers.{CommandAnswers}
@@ -21,6 +21,13 @@ use Rattle.commands.specs.Naming.{PassesAsNew, TellsNotNew}
 use Rattle.commands.proofs.Refusing.{answers_refused}
 use Rattle.commands.proofs.Added.{add_unlabelled, add_axiom, add_refused, add_full, add_done, MayTest}
 use Rattle.commands.proofs.Taking.{stored_taken}
+use Rattle.cells.specs.Sight.{ReadsWithin}
+use Rattle.cells.specs.Footprints.{ReadsWhere, IsOfRound}
+use Rattle.cells.proofs.Asking.{nothing_same, asks_nothing, asks_wider}
+use Rattle.cells.proofs.Sights.{looks_refl}
+use Rattle.commands.specs.Touches.{Touches}
+use Rattle.commands.specs.Footprints.{IsOfNewLabel, IsOfProofTest, ReadsFor}
+use Rattle.commands.proofs.Since.{OfCommand, since_then, since_where, since_before}
 use Rattle.commands.proofs.adding.add.Goals as goal
 
 -- what is told of the slice is told of the label
@@ -192,3 +199,182 @@ returns-clause-keeps g c =
     (stored_on s2 s3 a.proof kept on c.in_ok-kept.ensures.ok.stored)
     (subst (λ (steps : List StoredStep). KeepsAside (IsOfFilling s3.setting.slots slot a.label steps) s3 s4) c.as_slice.ensures.value
     c.in_ok-fill.ensures.keeps))
+
+pub returns-then-rank-eq0-clause-reads : goal.returns-then-rank-eq0-clause-reads
+returns-then-rank-eq0-clause-reads g c =
+    λ st lib m v. asks_nothing (nothing_same _)
+
+pub returns-in_err-test_new_label-clause-reads : goal.returns-in_err-test_new_label-clause-reads
+returns-in_err-test_new_label-clause-reads g c =
+    let s0 = g.C.Cells.sight c.args.cells.now in
+    let s1 = g.C.Cells.sight c.test_new_label.new.cells in
+    let a = c.args.assertion.now in
+    let x = command.Add c.args.rank a in
+    let r1 : ReadsFor s0 s1 (command.Add c.args.rank c.args.assertion.now) =
+    since_where (OfCommand s0 x) s0 s0 s1 (looks_refl s0) (λ n. IsOfNewLabel n a.label a.label) (λ st lib k is. inl is)
+    (subst (λ (l : List ℕ). ReadsWhere (IsOfNewLabel s0.setting.slots l l) s0 s1) c.as_slice-label.ensures c.test_new_label.ensures.reads) in
+    r1
+
+pub returns-in-Axiom-clause-reads : goal.returns-in-Axiom-clause-reads
+returns-in-Axiom-clause-reads g c =
+    let s0 = g.C.Cells.sight c.args.cells.now in
+    let s1 = g.C.Cells.sight c.test_new_label.new.cells in
+    let a = c.args.assertion.now in
+    let x = command.Add c.args.rank a in
+    let r1 : ReadsFor s0 s1 (command.Add c.args.rank c.args.assertion.now) =
+    since_where (OfCommand s0 x) s0 s0 s1 (looks_refl s0) (λ n. IsOfNewLabel n a.label a.label) (λ st lib k is. inl is)
+    (subst (λ (l : List ℕ). ReadsWhere (IsOfNewLabel s0.setting.slots l l) s0 s1) c.as_slice-label.ensures c.test_new_label.ensures.reads) in
+    r1
+
+pub returns-in_err-kept-clause-reads : goal.returns-in_err-kept-clause-reads
+returns-in_err-kept-clause-reads g c =
+    let s0 = g.C.Cells.sight c.args.cells.now in
+    let s1 = g.C.Cells.sight c.test_new_label.new.cells in
+    let a = c.args.assertion.now in
+    let x = command.Add c.args.rank a in
+    let r1 : ReadsFor s0 s1 (command.Add c.args.rank c.args.assertion.now) =
+    since_where (OfCommand s0 x) s0 s0 s1 (looks_refl s0) (λ n. IsOfNewLabel n a.label a.label) (λ st lib k is. inl is)
+    (subst (λ (l : List ℕ). ReadsWhere (IsOfNewLabel s0.setting.slots l l) s0 s1) c.as_slice-label.ensures c.test_new_label.ensures.reads) in
+    let s2 = g.C.Cells.sight c.test_proof.new.cells in
+    let l1 = c.test_new_label.ensures.looks in
+    let r2 : ReadsFor s0 s2 (command.Add c.args.rank c.args.assertion.now) =
+    since_then (OfCommand s0 x) r1 c.test_proof.ensures.looks.onward
+    (since_before (OfCommand s0 x) s0 s1 s2 l1 (λ n st lib k. IsOfProofTest n st lib a.proof k) (λ st lib k is. inr (inl is))
+    c.test_proof.ensures.looks.onward c.test_proof.ensures.reads) in
+    r2
+
+pub returns-in_err-slot-clause-reads : goal.returns-in_err-slot-clause-reads
+returns-in_err-slot-clause-reads g c =
+    let s0 = g.C.Cells.sight c.args.cells.now in
+    let s1 = g.C.Cells.sight c.test_new_label.new.cells in
+    let a = c.args.assertion.now in
+    let x = command.Add c.args.rank a in
+    let r1 : ReadsFor s0 s1 (command.Add c.args.rank c.args.assertion.now) =
+    since_where (OfCommand s0 x) s0 s0 s1 (looks_refl s0) (λ n. IsOfNewLabel n a.label a.label) (λ st lib k is. inl is)
+    (subst (λ (l : List ℕ). ReadsWhere (IsOfNewLabel s0.setting.slots l l) s0 s1) c.as_slice-label.ensures c.test_new_label.ensures.reads) in
+    let s2 = g.C.Cells.sight c.test_proof.new.cells in
+    let l1 = c.test_new_label.ensures.looks in
+    let r2 : ReadsFor s0 s2 (command.Add c.args.rank c.args.assertion.now) =
+    since_then (OfCommand s0 x) r1 c.test_proof.ensures.looks.onward
+    (since_before (OfCommand s0 x) s0 s1 s2 l1 (λ n st lib k. IsOfProofTest n st lib a.proof k) (λ st lib k is. inr (inl is))
+    c.test_proof.ensures.looks.onward c.test_proof.ensures.reads) in
+    let s3 = g.C.Cells.sight c.free_slot.new.cells in
+    let l2 = looks_trans _ _ _ l1 c.test_proof.ensures.looks in
+    let round_is : c.bucket-from.result ≡ bucket s2.setting.slots c.args.assertion.now.label =
+    c.bucket-from.ensures.value ∙ ap (λ (n : ℕ). bucket n c.as_slice-label.result.now) c.slot_count.ensures.value
+    ∙ ap (bucket s2.setting.slots) c.as_slice-label.ensures in
+    let r3 : ReadsFor s0 s3 (command.Add c.args.rank c.args.assertion.now) =
+    since_then (OfCommand s0 x) r2 c.free_slot.ensures.looks.onward
+    (since_where (OfCommand s0 x) s0 s2 s3 l2 (λ n. IsOfRound n (bucket n a.label)) (λ st lib k is. inr (inr (inl is)))
+    (subst (λ (n : ℕ). ReadsWhere (IsOfRound s2.setting.slots n) s2 s3) round_is c.free_slot.ensures.reads)) in
+    r3
+
+pub returns-in_default-2-clause-reads : goal.returns-in_default-2-clause-reads
+returns-in_default-2-clause-reads g c =
+    let s0 = g.C.Cells.sight c.args.cells.now in
+    let s1 = g.C.Cells.sight c.test_new_label.new.cells in
+    let a = c.args.assertion.now in
+    let x = command.Add c.args.rank a in
+    let r1 : ReadsFor s0 s1 (command.Add c.args.rank c.args.assertion.now) =
+    since_where (OfCommand s0 x) s0 s0 s1 (looks_refl s0) (λ n. IsOfNewLabel n a.label a.label) (λ st lib k is. inl is)
+    (subst (λ (l : List ℕ). ReadsWhere (IsOfNewLabel s0.setting.slots l l) s0 s1) c.as_slice-label.ensures c.test_new_label.ensures.reads) in
+    let s2 = g.C.Cells.sight c.test_proof.new.cells in
+    let l1 = c.test_new_label.ensures.looks in
+    let r2 : ReadsFor s0 s2 (command.Add c.args.rank c.args.assertion.now) =
+    since_then (OfCommand s0 x) r1 c.test_proof.ensures.looks.onward
+    (since_before (OfCommand s0 x) s0 s1 s2 l1 (λ n st lib k. IsOfProofTest n st lib a.proof k) (λ st lib k is. inr (inl is))
+    c.test_proof.ensures.looks.onward c.test_proof.ensures.reads) in
+    let s3 = g.C.Cells.sight c.free_slot.new.cells in
+    let l2 = looks_trans _ _ _ l1 c.test_proof.ensures.looks in
+    let round_is : c.bucket-from.result ≡ bucket s2.setting.slots c.args.assertion.now.label =
+    c.bucket-from.ensures.value ∙ ap (λ (n : ℕ). bucket n c.as_slice-label.result.now) c.slot_count.ensures.value
+    ∙ ap (bucket s2.setting.slots) c.as_slice-label.ensures in
+    let r3 : ReadsFor s0 s3 (command.Add c.args.rank c.args.assertion.now) =
+    since_then (OfCommand s0 x) r2 c.free_slot.ensures.looks.onward
+    (since_where (OfCommand s0 x) s0 s2 s3 l2 (λ n. IsOfRound n (bucket n a.label)) (λ st lib k is. inr (inr (inl is)))
+    (subst (λ (n : ℕ). ReadsWhere (IsOfRound s2.setting.slots n) s2 s3) round_is c.free_slot.ensures.reads)) in
+    r3
+
+pub returns-in_err-fill-clause-reads : goal.returns-in_err-fill-clause-reads
+returns-in_err-fill-clause-reads g c =
+    let s0 = g.C.Cells.sight c.args.cells.now in
+    let s1 = g.C.Cells.sight c.test_new_label.new.cells in
+    let a = c.args.assertion.now in
+    let x = command.Add c.args.rank a in
+    let r1 : ReadsFor s0 s1 (command.Add c.args.rank c.args.assertion.now) =
+    since_where (OfCommand s0 x) s0 s0 s1 (looks_refl s0) (λ n. IsOfNewLabel n a.label a.label) (λ st lib k is. inl is)
+    (subst (λ (l : List ℕ). ReadsWhere (IsOfNewLabel s0.setting.slots l l) s0 s1) c.as_slice-label.ensures c.test_new_label.ensures.reads) in
+    let s2 = g.C.Cells.sight c.test_proof.new.cells in
+    let l1 = c.test_new_label.ensures.looks in
+    let r2 : ReadsFor s0 s2 (command.Add c.args.rank c.args.assertion.now) =
+    since_then (OfCommand s0 x) r1 c.test_proof.ensures.looks.onward
+    (since_before (OfCommand s0 x) s0 s1 s2 l1 (λ n st lib k. IsOfProofTest n st lib a.proof k) (λ st lib k is. inr (inl is))
+    c.test_proof.ensures.looks.onward c.test_proof.ensures.reads) in
+    let s3 = g.C.Cells.sight c.free_slot.new.cells in
+    let l2 = looks_trans _ _ _ l1 c.test_proof.ensures.looks in
+    let round_is : c.bucket-from.result ≡ bucket s2.setting.slots c.args.assertion.now.label =
+    c.bucket-from.ensures.value ∙ ap (λ (n : ℕ). bucket n c.as_slice-label.result.now) c.slot_count.ensures.value
+    ∙ ap (bucket s2.setting.slots) c.as_slice-label.ensures in
+    let r3 : ReadsFor s0 s3 (command.Add c.args.rank c.args.assertion.now) =
+    since_then (OfCommand s0 x) r2 c.free_slot.ensures.looks.onward
+    (since_where (OfCommand s0 x) s0 s2 s3 l2 (λ n. IsOfRound n (bucket n a.label)) (λ st lib k is. inr (inr (inl is)))
+    (subst (λ (n : ℕ). ReadsWhere (IsOfRound s2.setting.slots n) s2 s3) round_is c.free_slot.ensures.reads)) in
+    let s4 = g.C.Cells.sight c.fill.new.cells in
+    let slot = c.in-Some.slot in
+    let kept = c.in_ok-kept.kept.items in
+    let on = c.free_slot.ensures.looks in
+    let first : FindsFree s3 c.bucket-from.result (Some c.in-Some.slot) =
+    subst (FindsFree s3 c.bucket-from.result) c.in-Some.is
+    (ok_mapped _ _ _ _ _ c.in_ok-slot.was c.map_err.ensures.cases c.free_slot.ensures.ok) in
+    let from_is : c.bucket-from.result ≡ bucket s3.setting.slots c.args.assertion.now.label =
+    round_is ∙ ap (λ (n : ℕ). bucket n c.args.assertion.now.label) (sym (same_slots s2 s3 on)) in
+    let filled : ReadsWithin (IsOfFilling s3.setting.slots c.in-Some.slot c.args.assertion.now.label c.in_ok-kept.kept.items) s3 s4 =
+    subst (λ (steps : List StoredStep). ReadsWithin (IsOfFilling s3.setting.slots slot a.label steps) s3 s4) c.as_slice.ensures.value
+    c.fill.ensures.reads in
+    since_then (OfCommand s0 x) r3 c.fill.ensures.onward
+    (since_before (OfCommand s0 x) s0 s3 s4 (looks_trans _ _ _ l2 on) (λ n st lib k. Touches n st lib (command.Add c.args.rank c.args.assertion.now) k)
+    (λ st lib k is. inr (inr (inr is))) c.fill.ensures.onward (λ st lib m v.
+    asks_wider (add_touches s3 c.bucket-from.result slot c.args.rank a kept from_is first
+    (stored_on s2 s3 a.proof kept on c.in_ok-kept.ensures.ok.stored) st lib v) filled))
+
+pub returns-clause-reads : goal.returns-clause-reads
+returns-clause-reads g c =
+    let s0 = g.C.Cells.sight c.args.cells.now in
+    let s1 = g.C.Cells.sight c.test_new_label.new.cells in
+    let a = c.args.assertion.now in
+    let x = command.Add c.args.rank a in
+    let r1 : ReadsFor s0 s1 (command.Add c.args.rank c.args.assertion.now) =
+    since_where (OfCommand s0 x) s0 s0 s1 (looks_refl s0) (λ n. IsOfNewLabel n a.label a.label) (λ st lib k is. inl is)
+    (subst (λ (l : List ℕ). ReadsWhere (IsOfNewLabel s0.setting.slots l l) s0 s1) c.as_slice-label.ensures c.test_new_label.ensures.reads) in
+    let s2 = g.C.Cells.sight c.test_proof.new.cells in
+    let l1 = c.test_new_label.ensures.looks in
+    let r2 : ReadsFor s0 s2 (command.Add c.args.rank c.args.assertion.now) =
+    since_then (OfCommand s0 x) r1 c.test_proof.ensures.looks.onward
+    (since_before (OfCommand s0 x) s0 s1 s2 l1 (λ n st lib k. IsOfProofTest n st lib a.proof k) (λ st lib k is. inr (inl is))
+    c.test_proof.ensures.looks.onward c.test_proof.ensures.reads) in
+    let s3 = g.C.Cells.sight c.free_slot.new.cells in
+    let l2 = looks_trans _ _ _ l1 c.test_proof.ensures.looks in
+    let round_is : c.bucket-from.result ≡ bucket s2.setting.slots c.args.assertion.now.label =
+    c.bucket-from.ensures.value ∙ ap (λ (n : ℕ). bucket n c.as_slice-label.result.now) c.slot_count.ensures.value
+    ∙ ap (bucket s2.setting.slots) c.as_slice-label.ensures in
+    let r3 : ReadsFor s0 s3 (command.Add c.args.rank c.args.assertion.now) =
+    since_then (OfCommand s0 x) r2 c.free_slot.ensures.looks.onward
+    (since_where (OfCommand s0 x) s0 s2 s3 l2 (λ n. IsOfRound n (bucket n a.label)) (λ st lib k is. inr (inr (inl is)))
+    (subst (λ (n : ℕ). ReadsWhere (IsOfRound s2.setting.slots n) s2 s3) round_is c.free_slot.ensures.reads)) in
+    let s4 = g.C.Cells.sight c.fill.new.cells in
+    let slot = c.in-Some.slot in
+    let kept = c.in_ok-kept.kept.items in
+    let on = c.free_slot.ensures.looks in
+    let first : FindsFree s3 c.bucket-from.result (Some c.in-Some.slot) =
+    subst (FindsFree s3 c.bucket-from.result) c.in-Some.is
+    (ok_mapped _ _ _ _ _ c.in_ok-slot.was c.map_err.ensures.cases c.free_slot.ensures.ok) in
+    let from_is : c.bucket-from.result ≡ bucket s3.setting.slots c.args.assertion.now.label =
+    round_is ∙ ap (λ (n : ℕ). bucket n c.args.assertion.now.label) (sym (same_slots s2 s3 on)) in
+    let filled : ReadsWithin (IsOfFilling s3.setting.slots c.in-Some.slot c.args.assertion.now.label c.in_ok-kept.kept.items) s3 s4 =
+    subst (λ (steps : List StoredStep). ReadsWithin (IsOfFilling s3.setting.slots slot a.label steps) s3 s4) c.as_slice.ensures.value
+    c.fill.ensures.reads in
+    since_then (OfCommand s0 x) r3 c.fill.ensures.onward
+    (since_before (OfCommand s0 x) s0 s3 s4 (looks_trans _ _ _ l2 on) (λ n st lib k. Touches n st lib (command.Add c.args.rank c.args.assertion.now) k)
+    (λ st lib k is. inr (inr (inr is))) c.fill.ensures.onward (λ st lib m v.
+    asks_wider (add_touches s3 c.bucket-from.result slot c.args.rank a kept from_is first
+    (stored_on s2 s3 a.proof kept on c.in_ok-kept.ensures.ok.stored) st lib v) filled))

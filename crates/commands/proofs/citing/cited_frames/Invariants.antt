@@ -1,6 +1,7 @@
 use Rattle.std.proofs.Common.{length}
-use Rattle.cells.specs.Sight.{Looks}
+use Rattle.cells.specs.Sight.{Looks, ReadsWithin}
 use Rattle.commands.specs.Citing.{frames_in}
+use Rattle.commands.specs.Footprints.{IsStatementOfSteps}
 use Rattle.commands.proofs.NotedFrames.{FirstAreNoted}
 use Rattle.commands.proofs.citing.cited_frames.Given as goal
 
@@ -8,3 +9,4 @@ abbrev pub invariant-loop-step : goal.invariant-loop-step
 invariant-loop-step g l =
     Looks (g.C.Cells.sight l.fn.cells) (g.C.Cells.sight l.cells)
     × FirstAreNoted (g.C.Cells.sight l.cells) l.prelude l.steps l.kept (length l.yielded) (frames_in l.by_label)
+    × ReadsWithin (IsStatementOfSteps l.kept) (g.C.Cells.sight l.fn.cells) (g.C.Cells.sight l.cells)

@@ -1,4 +1,4 @@
-use Rattle.std.proofs.Common.{◌≡◌, ◌<◌, ℕ, List, Option, Some, None, Vec, true, sym, subst}
+use Rattle.std.proofs.Common.{◌≡◌, ◌<◌, ℕ, List, Option, Some, None, Vec, true, sym, subst, inl, inr}
 use Rattle.std.specs.declared.alloc.Global.{Global}
 use Rattle.std.specs.Option.{option_map}
 use Rattle.mmsyntax.specs.declared.statement.Step.{Step}
@@ -13,6 +13,13 @@ use Rattle.cells.proofs.Settings.{same_slots}
 use Rattle.cells.proofs.Laying.{ok_mapped}
 use Rattle.commands.specs.Citing.{TellsNotBelow, TellsFault, TellsRefusal, frames_in}
 use Rattle.commands.proofs.ProofTests.{fails_unknown, fails_below, fails_fault, passes, sifted}
+use Rattle.cells.specs.Slots.{statement_cell, rank_cell}
+use Rattle.cells.specs.Sight.{ReadsWithin}
+use Rattle.cells.specs.Footprints.{ReadsWhere, IsOfResolving}
+use Rattle.cells.proofs.Sights.{looks_refl}
+use Rattle.commands.specs.Footprints.{IsRankOfSteps, IsStatementOfSteps}
+use Rattle.commands.proofs.Since.{ReadsSince, since_then, since_where}
+use Rattle.commands.proofs.TestReads.{OfTest, since_cited}
 use Rattle.commands.proofs.citing.test_proof.Goals as goal
 
 -- what is resolved of the slice is of the proof
@@ -125,3 +132,163 @@ returns-in-None-clause-ok g c =
     (subst (λ b. TellsNotBelow s2 rank c.as_slice.result.now b) c.if-branch.false told) c.in_ok-frames.ensures.ok in
     passes s1 s3 t rank a kept frames (looks_trans _ _ _ c.cites_not_below.ensures.looks c.cited_frames.ensures.looks) resolved known
     (subst (λ (o : Option ProofFault). TellsFault frames t a o) c.in-None.is c.in_ok-fault.ensures)
+
+pub returns-in_err-kept-clause-reads : goal.returns-in_err-kept-clause-reads
+returns-in_err-kept-clause-reads g c =
+    let s0 = g.C.Cells.sight c.args.cells.now in
+    let s1 = g.C.Cells.sight c.resolve.new.cells in
+    let steps = c.args.theorem.now.proof in
+    let r1 : ReadsSince (OfTest s0 c.args.theorem.now.proof) s0 s0 s1 =
+    since_where (OfTest s0 steps) s0 s0 s1 (looks_refl s0) (λ n. IsOfResolving n steps) (λ st lib k is. inl is)
+    (subst (λ (xs : List Step). ReadsWhere (IsOfResolving s0.setting.slots xs) s0 s1) c.as_slice-steps.ensures c.resolve.ensures.reads) in
+    r1
+
+pub returns-in_default-clause-reads : goal.returns-in_default-clause-reads
+returns-in_default-clause-reads g c =
+    let s0 = g.C.Cells.sight c.args.cells.now in
+    let s1 = g.C.Cells.sight c.resolve.new.cells in
+    let steps = c.args.theorem.now.proof in
+    let r1 : ReadsSince (OfTest s0 c.args.theorem.now.proof) s0 s0 s1 =
+    since_where (OfTest s0 steps) s0 s0 s1 (looks_refl s0) (λ n. IsOfResolving n steps) (λ st lib k is. inl is)
+    (subst (λ (xs : List Step). ReadsWhere (IsOfResolving s0.setting.slots xs) s0 s1) c.as_slice-steps.ensures c.resolve.ensures.reads) in
+    r1
+
+pub returns-in_err-map_err-clause-reads : goal.returns-in_err-map_err-clause-reads
+returns-in_err-map_err-clause-reads g c =
+    let s0 = g.C.Cells.sight c.args.cells.now in
+    let s1 = g.C.Cells.sight c.resolve.new.cells in
+    let steps = c.args.theorem.now.proof in
+    let r1 : ReadsSince (OfTest s0 c.args.theorem.now.proof) s0 s0 s1 =
+    since_where (OfTest s0 steps) s0 s0 s1 (looks_refl s0) (λ n. IsOfResolving n steps) (λ st lib k is. inl is)
+    (subst (λ (xs : List Step). ReadsWhere (IsOfResolving s0.setting.slots xs) s0 s1) c.as_slice-steps.ensures c.resolve.ensures.reads) in
+    let s2 = g.C.Cells.sight c.cites_not_below.new.cells in
+    let kept = c.in-Some.kept.items in
+    let resolved = of_proof s1 c.as_slice-steps.result.now c.args.theorem.now.proof c.in_ok-kept.field-0 (Some c.in-Some.kept)
+    c.as_slice-steps.ensures c.in-Some.is c.in_ok-kept.ensures.ok in
+    let ranks : ReadsWithin (IsRankOfSteps c.in-Some.kept.items) s1 s2 =
+    subst (λ (ks : List StoredStep). ReadsWithin (IsRankOfSteps ks) s1 s2) c.as_slice.ensures.value c.cites_not_below.ensures.reads in
+    let r2 : ReadsSince (OfTest s0 c.args.theorem.now.proof) s0 s0 s2 =
+    since_then (OfTest s0 steps) r1 c.cites_not_below.ensures.looks.onward
+    (since_cited (OfTest s0 steps) s0 s1 s1 s2 steps kept rank_cell c.resolve.ensures.looks (looks_refl s1)
+    c.cites_not_below.ensures.looks.onward resolved.2 (λ st lib k is. inr (inr is)) ranks) in
+    r2
+
+pub returns-then-branch-clause-reads : goal.returns-then-branch-clause-reads
+returns-then-branch-clause-reads g c =
+    let s0 = g.C.Cells.sight c.args.cells.now in
+    let s1 = g.C.Cells.sight c.resolve.new.cells in
+    let steps = c.args.theorem.now.proof in
+    let r1 : ReadsSince (OfTest s0 c.args.theorem.now.proof) s0 s0 s1 =
+    since_where (OfTest s0 steps) s0 s0 s1 (looks_refl s0) (λ n. IsOfResolving n steps) (λ st lib k is. inl is)
+    (subst (λ (xs : List Step). ReadsWhere (IsOfResolving s0.setting.slots xs) s0 s1) c.as_slice-steps.ensures c.resolve.ensures.reads) in
+    let s2 = g.C.Cells.sight c.cites_not_below.new.cells in
+    let kept = c.in-Some.kept.items in
+    let resolved = of_proof s1 c.as_slice-steps.result.now c.args.theorem.now.proof c.in_ok-kept.field-0 (Some c.in-Some.kept)
+    c.as_slice-steps.ensures c.in-Some.is c.in_ok-kept.ensures.ok in
+    let ranks : ReadsWithin (IsRankOfSteps c.in-Some.kept.items) s1 s2 =
+    subst (λ (ks : List StoredStep). ReadsWithin (IsRankOfSteps ks) s1 s2) c.as_slice.ensures.value c.cites_not_below.ensures.reads in
+    let r2 : ReadsSince (OfTest s0 c.args.theorem.now.proof) s0 s0 s2 =
+    since_then (OfTest s0 steps) r1 c.cites_not_below.ensures.looks.onward
+    (since_cited (OfTest s0 steps) s0 s1 s1 s2 steps kept rank_cell c.resolve.ensures.looks (looks_refl s1)
+    c.cites_not_below.ensures.looks.onward resolved.2 (λ st lib k is. inr (inr is)) ranks) in
+    r2
+
+pub returns-in_err-frames-clause-reads : goal.returns-in_err-frames-clause-reads
+returns-in_err-frames-clause-reads g c =
+    let s0 = g.C.Cells.sight c.args.cells.now in
+    let s1 = g.C.Cells.sight c.resolve.new.cells in
+    let steps = c.args.theorem.now.proof in
+    let r1 : ReadsSince (OfTest s0 c.args.theorem.now.proof) s0 s0 s1 =
+    since_where (OfTest s0 steps) s0 s0 s1 (looks_refl s0) (λ n. IsOfResolving n steps) (λ st lib k is. inl is)
+    (subst (λ (xs : List Step). ReadsWhere (IsOfResolving s0.setting.slots xs) s0 s1) c.as_slice-steps.ensures c.resolve.ensures.reads) in
+    let s2 = g.C.Cells.sight c.cites_not_below.new.cells in
+    let kept = c.in-Some.kept.items in
+    let resolved = of_proof s1 c.as_slice-steps.result.now c.args.theorem.now.proof c.in_ok-kept.field-0 (Some c.in-Some.kept)
+    c.as_slice-steps.ensures c.in-Some.is c.in_ok-kept.ensures.ok in
+    let ranks : ReadsWithin (IsRankOfSteps c.in-Some.kept.items) s1 s2 =
+    subst (λ (ks : List StoredStep). ReadsWithin (IsRankOfSteps ks) s1 s2) c.as_slice.ensures.value c.cites_not_below.ensures.reads in
+    let r2 : ReadsSince (OfTest s0 c.args.theorem.now.proof) s0 s0 s2 =
+    since_then (OfTest s0 steps) r1 c.cites_not_below.ensures.looks.onward
+    (since_cited (OfTest s0 steps) s0 s1 s1 s2 steps kept rank_cell c.resolve.ensures.looks (looks_refl s1)
+    c.cites_not_below.ensures.looks.onward resolved.2 (λ st lib k is. inr (inr is)) ranks) in
+    let s3 = g.C.Cells.sight c.cited_frames.new.cells in
+    let statements : ReadsWithin (IsStatementOfSteps c.in-Some.kept.items) s2 s3 =
+    subst (λ (ks : List StoredStep). ReadsWithin (IsStatementOfSteps ks) s2 s3) c.as_slice-2.ensures.value c.cited_frames.ensures.reads in
+    since_then (OfTest s0 steps) r2 c.cited_frames.ensures.looks.onward
+    (since_cited (OfTest s0 steps) s0 s1 s2 s3 steps kept statement_cell c.resolve.ensures.looks c.cites_not_below.ensures.looks
+    c.cited_frames.ensures.looks.onward resolved.2 (λ st lib k is. inr (inl is)) statements)
+
+pub returns-in_err-fault-clause-reads : goal.returns-in_err-fault-clause-reads
+returns-in_err-fault-clause-reads g c =
+    let s0 = g.C.Cells.sight c.args.cells.now in
+    let s1 = g.C.Cells.sight c.resolve.new.cells in
+    let steps = c.args.theorem.now.proof in
+    let r1 : ReadsSince (OfTest s0 c.args.theorem.now.proof) s0 s0 s1 =
+    since_where (OfTest s0 steps) s0 s0 s1 (looks_refl s0) (λ n. IsOfResolving n steps) (λ st lib k is. inl is)
+    (subst (λ (xs : List Step). ReadsWhere (IsOfResolving s0.setting.slots xs) s0 s1) c.as_slice-steps.ensures c.resolve.ensures.reads) in
+    let s2 = g.C.Cells.sight c.cites_not_below.new.cells in
+    let kept = c.in-Some.kept.items in
+    let resolved = of_proof s1 c.as_slice-steps.result.now c.args.theorem.now.proof c.in_ok-kept.field-0 (Some c.in-Some.kept)
+    c.as_slice-steps.ensures c.in-Some.is c.in_ok-kept.ensures.ok in
+    let ranks : ReadsWithin (IsRankOfSteps c.in-Some.kept.items) s1 s2 =
+    subst (λ (ks : List StoredStep). ReadsWithin (IsRankOfSteps ks) s1 s2) c.as_slice.ensures.value c.cites_not_below.ensures.reads in
+    let r2 : ReadsSince (OfTest s0 c.args.theorem.now.proof) s0 s0 s2 =
+    since_then (OfTest s0 steps) r1 c.cites_not_below.ensures.looks.onward
+    (since_cited (OfTest s0 steps) s0 s1 s1 s2 steps kept rank_cell c.resolve.ensures.looks (looks_refl s1)
+    c.cites_not_below.ensures.looks.onward resolved.2 (λ st lib k is. inr (inr is)) ranks) in
+    let s3 = g.C.Cells.sight c.cited_frames.new.cells in
+    let statements : ReadsWithin (IsStatementOfSteps c.in-Some.kept.items) s2 s3 =
+    subst (λ (ks : List StoredStep). ReadsWithin (IsStatementOfSteps ks) s2 s3) c.as_slice-2.ensures.value c.cited_frames.ensures.reads in
+    since_then (OfTest s0 steps) r2 c.cited_frames.ensures.looks.onward
+    (since_cited (OfTest s0 steps) s0 s1 s2 s3 steps kept statement_cell c.resolve.ensures.looks c.cites_not_below.ensures.looks
+    c.cited_frames.ensures.looks.onward resolved.2 (λ st lib k is. inr (inl is)) statements)
+
+pub returns-in-Some-2-clause-reads : goal.returns-in-Some-2-clause-reads
+returns-in-Some-2-clause-reads g c =
+    let s0 = g.C.Cells.sight c.args.cells.now in
+    let s1 = g.C.Cells.sight c.resolve.new.cells in
+    let steps = c.args.theorem.now.proof in
+    let r1 : ReadsSince (OfTest s0 c.args.theorem.now.proof) s0 s0 s1 =
+    since_where (OfTest s0 steps) s0 s0 s1 (looks_refl s0) (λ n. IsOfResolving n steps) (λ st lib k is. inl is)
+    (subst (λ (xs : List Step). ReadsWhere (IsOfResolving s0.setting.slots xs) s0 s1) c.as_slice-steps.ensures c.resolve.ensures.reads) in
+    let s2 = g.C.Cells.sight c.cites_not_below.new.cells in
+    let kept = c.in-Some.kept.items in
+    let resolved = of_proof s1 c.as_slice-steps.result.now c.args.theorem.now.proof c.in_ok-kept.field-0 (Some c.in-Some.kept)
+    c.as_slice-steps.ensures c.in-Some.is c.in_ok-kept.ensures.ok in
+    let ranks : ReadsWithin (IsRankOfSteps c.in-Some.kept.items) s1 s2 =
+    subst (λ (ks : List StoredStep). ReadsWithin (IsRankOfSteps ks) s1 s2) c.as_slice.ensures.value c.cites_not_below.ensures.reads in
+    let r2 : ReadsSince (OfTest s0 c.args.theorem.now.proof) s0 s0 s2 =
+    since_then (OfTest s0 steps) r1 c.cites_not_below.ensures.looks.onward
+    (since_cited (OfTest s0 steps) s0 s1 s1 s2 steps kept rank_cell c.resolve.ensures.looks (looks_refl s1)
+    c.cites_not_below.ensures.looks.onward resolved.2 (λ st lib k is. inr (inr is)) ranks) in
+    let s3 = g.C.Cells.sight c.cited_frames.new.cells in
+    let statements : ReadsWithin (IsStatementOfSteps c.in-Some.kept.items) s2 s3 =
+    subst (λ (ks : List StoredStep). ReadsWithin (IsStatementOfSteps ks) s2 s3) c.as_slice-2.ensures.value c.cited_frames.ensures.reads in
+    since_then (OfTest s0 steps) r2 c.cited_frames.ensures.looks.onward
+    (since_cited (OfTest s0 steps) s0 s1 s2 s3 steps kept statement_cell c.resolve.ensures.looks c.cites_not_below.ensures.looks
+    c.cited_frames.ensures.looks.onward resolved.2 (λ st lib k is. inr (inl is)) statements)
+
+pub returns-in-None-clause-reads : goal.returns-in-None-clause-reads
+returns-in-None-clause-reads g c =
+    let s0 = g.C.Cells.sight c.args.cells.now in
+    let s1 = g.C.Cells.sight c.resolve.new.cells in
+    let steps = c.args.theorem.now.proof in
+    let r1 : ReadsSince (OfTest s0 c.args.theorem.now.proof) s0 s0 s1 =
+    since_where (OfTest s0 steps) s0 s0 s1 (looks_refl s0) (λ n. IsOfResolving n steps) (λ st lib k is. inl is)
+    (subst (λ (xs : List Step). ReadsWhere (IsOfResolving s0.setting.slots xs) s0 s1) c.as_slice-steps.ensures c.resolve.ensures.reads) in
+    let s2 = g.C.Cells.sight c.cites_not_below.new.cells in
+    let kept = c.in-Some.kept.items in
+    let resolved = of_proof s1 c.as_slice-steps.result.now c.args.theorem.now.proof c.in_ok-kept.field-0 (Some c.in-Some.kept)
+    c.as_slice-steps.ensures c.in-Some.is c.in_ok-kept.ensures.ok in
+    let ranks : ReadsWithin (IsRankOfSteps c.in-Some.kept.items) s1 s2 =
+    subst (λ (ks : List StoredStep). ReadsWithin (IsRankOfSteps ks) s1 s2) c.as_slice.ensures.value c.cites_not_below.ensures.reads in
+    let r2 : ReadsSince (OfTest s0 c.args.theorem.now.proof) s0 s0 s2 =
+    since_then (OfTest s0 steps) r1 c.cites_not_below.ensures.looks.onward
+    (since_cited (OfTest s0 steps) s0 s1 s1 s2 steps kept rank_cell c.resolve.ensures.looks (looks_refl s1)
+    c.cites_not_below.ensures.looks.onward resolved.2 (λ st lib k is. inr (inr is)) ranks) in
+    let s3 = g.C.Cells.sight c.cited_frames.new.cells in
+    let statements : ReadsWithin (IsStatementOfSteps c.in-Some.kept.items) s2 s3 =
+    subst (λ (ks : List StoredStep). ReadsWithin (IsStatementOfSteps ks) s2 s3) c.as_slice-2.ensures.value c.cited_frames.ensures.reads in
+    since_then (OfTest s0 steps) r2 c.cited_frames.ensures.looks.onward
+    (since_cited (OfTest s0 steps) s0 s1 s2 s3 steps kept statement_cell c.resolve.ensures.looks c.cites_not_below.ensures.looks
+    c.cited_frames.ensures.looks.onward resolved.2 (λ st lib k is. inr (inl is)) statements)

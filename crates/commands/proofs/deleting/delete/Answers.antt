@@ -1,4 +1,4 @@
-use Rattle.std.proofs.Common.{◌≡◌, ℕ, List, Some, None, sym, subst, ◌∙◌, arith}
+use Rattle.std.proofs.Common.{◌≡◌, ℕ, List, Some, None, sym, subst, ◌∙◌, inl, inr, arith}
 use Rattle.library.specs.declared.command.Command.TheVariants as command
 use Rattle.library.specs.declared.reason.Reason.TheVariants as reason
 use Rattle.cells.specs.Lookups.{Finds}
@@ -8,6 +8,10 @@ use Rattle.commands.proofs.OnlyLooks.{finds_later}
 use Rattle.commands.proofs.Touching.{keeps_to_since, delete_keeps}
 use Rattle.commands.proofs.Refusing.{of_none, refused, answers_refused}
 use Rattle.commands.proofs.Removing.{CountsCiters, delete_cited, counted, deleted}
+use Rattle.cells.specs.Slots.{citers_cell}
+use Rattle.cells.specs.Footprints.{ReadsWhere, IsOfLook}
+use Rattle.commands.specs.Footprints.{ReadsFor}
+use Rattle.commands.proofs.Since.{first_look, then_cells, then_found, of_slot}
 use Rattle.commands.proofs.deleting.delete.Goals as goal
 
 pub returns-in_default-clause-answers : goal.returns-in_default-clause-answers
@@ -86,3 +90,103 @@ returns-clause-keeps g c =
     keeps_to_since s0 s2 s3 (command.Delete label) (looks_trans _ _ _ c.find.ensures.looks c.citers.ensures.looks) c.remove.ensures.onward
     (delete_keeps s2 s3 c.in-Some.slot label (finds_later s1 s2 label c.in-Some.slot c.citers.ensures.looks finds).1
     c.in_ok-remove.ensures.keeps)
+
+pub returns-in_err-slot-clause-reads : goal.returns-in_err-slot-clause-reads
+returns-in_err-slot-clause-reads g c =
+    let s0 = g.C.Cells.sight c.args.cells.now in
+    let s1 = g.C.Cells.sight c.find.new.cells in
+    let label = c.args.label.now in
+    let r1 : ReadsFor s0 s1 (command.Delete c.args.label.now) =
+    first_look s0 s1 (command.Delete label) label (λ st lib k is. inl is)
+    (subst (λ (l : List ℕ). ReadsWhere (IsOfLook s0.setting.slots l) s0 s1) c.as_slice.ensures c.find.ensures.reads) in
+    r1
+
+pub returns-in_default-clause-reads : goal.returns-in_default-clause-reads
+returns-in_default-clause-reads g c =
+    let s0 = g.C.Cells.sight c.args.cells.now in
+    let s1 = g.C.Cells.sight c.find.new.cells in
+    let label = c.args.label.now in
+    let r1 : ReadsFor s0 s1 (command.Delete c.args.label.now) =
+    first_look s0 s1 (command.Delete label) label (λ st lib k is. inl is)
+    (subst (λ (l : List ℕ). ReadsWhere (IsOfLook s0.setting.slots l) s0 s1) c.as_slice.ensures c.find.ensures.reads) in
+    r1
+
+pub returns-in_err-citers-clause-reads : goal.returns-in_err-citers-clause-reads
+returns-in_err-citers-clause-reads g c =
+    let s0 = g.C.Cells.sight c.args.cells.now in
+    let s1 = g.C.Cells.sight c.find.new.cells in
+    let label = c.args.label.now in
+    let r1 : ReadsFor s0 s1 (command.Delete c.args.label.now) =
+    first_look s0 s1 (command.Delete label) label (λ st lib k is. inl is)
+    (subst (λ (l : List ℕ). ReadsWhere (IsOfLook s0.setting.slots l) s0 s1) c.as_slice.ensures c.find.ensures.reads) in
+    let s2 = g.C.Cells.sight c.citers.new.cells in
+    let i = c.in-Some.slot in
+    let finds : Finds s1 c.args.label.now (Some c.in-Some.slot) =
+    subst (Finds s1 c.args.label.now) c.in-Some.is
+    (subst (λ (l : List ℕ). Finds s1 l c.in_ok-slot.field-0) c.as_slice.ensures
+    (ok_mapped _ _ _ _ _ c.in_ok-slot.was c.map_err.ensures.cases c.find.ensures.ok)) in
+    let r2 : ReadsFor s0 s2 (command.Delete c.args.label.now) =
+    then_cells s0 s1 s2 (command.Delete label) label i c.find.ensures.looks finds r1 c.citers.ensures.looks.onward (λ k. k ≡ citers_cell i)
+    (λ st lib at k is. inr (i, at, inr (inl (of_slot i 4 k (omega arith) is)))) c.citers.ensures.reads in
+    r2
+
+pub returns-then-citers-gt0-clause-reads : goal.returns-then-citers-gt0-clause-reads
+returns-then-citers-gt0-clause-reads g c =
+    let s0 = g.C.Cells.sight c.args.cells.now in
+    let s1 = g.C.Cells.sight c.find.new.cells in
+    let label = c.args.label.now in
+    let r1 : ReadsFor s0 s1 (command.Delete c.args.label.now) =
+    first_look s0 s1 (command.Delete label) label (λ st lib k is. inl is)
+    (subst (λ (l : List ℕ). ReadsWhere (IsOfLook s0.setting.slots l) s0 s1) c.as_slice.ensures c.find.ensures.reads) in
+    let s2 = g.C.Cells.sight c.citers.new.cells in
+    let i = c.in-Some.slot in
+    let finds : Finds s1 c.args.label.now (Some c.in-Some.slot) =
+    subst (Finds s1 c.args.label.now) c.in-Some.is
+    (subst (λ (l : List ℕ). Finds s1 l c.in_ok-slot.field-0) c.as_slice.ensures
+    (ok_mapped _ _ _ _ _ c.in_ok-slot.was c.map_err.ensures.cases c.find.ensures.ok)) in
+    let r2 : ReadsFor s0 s2 (command.Delete c.args.label.now) =
+    then_cells s0 s1 s2 (command.Delete label) label i c.find.ensures.looks finds r1 c.citers.ensures.looks.onward (λ k. k ≡ citers_cell i)
+    (λ st lib at k is. inr (i, at, inr (inl (of_slot i 4 k (omega arith) is)))) c.citers.ensures.reads in
+    r2
+
+pub returns-in_err-remove-clause-reads : goal.returns-in_err-remove-clause-reads
+returns-in_err-remove-clause-reads g c =
+    let s0 = g.C.Cells.sight c.args.cells.now in
+    let s1 = g.C.Cells.sight c.find.new.cells in
+    let label = c.args.label.now in
+    let r1 : ReadsFor s0 s1 (command.Delete c.args.label.now) =
+    first_look s0 s1 (command.Delete label) label (λ st lib k is. inl is)
+    (subst (λ (l : List ℕ). ReadsWhere (IsOfLook s0.setting.slots l) s0 s1) c.as_slice.ensures c.find.ensures.reads) in
+    let s2 = g.C.Cells.sight c.citers.new.cells in
+    let i = c.in-Some.slot in
+    let finds : Finds s1 c.args.label.now (Some c.in-Some.slot) =
+    subst (Finds s1 c.args.label.now) c.in-Some.is
+    (subst (λ (l : List ℕ). Finds s1 l c.in_ok-slot.field-0) c.as_slice.ensures
+    (ok_mapped _ _ _ _ _ c.in_ok-slot.was c.map_err.ensures.cases c.find.ensures.ok)) in
+    let r2 : ReadsFor s0 s2 (command.Delete c.args.label.now) =
+    then_cells s0 s1 s2 (command.Delete label) label i c.find.ensures.looks finds r1 c.citers.ensures.looks.onward (λ k. k ≡ citers_cell i)
+    (λ st lib at k is. inr (i, at, inr (inl (of_slot i 4 k (omega arith) is)))) c.citers.ensures.reads in
+    let s3 = g.C.Cells.sight c.remove.new.cells in
+    then_found s0 s2 s3 (command.Delete label) label i (looks_trans _ _ _ c.find.ensures.looks c.citers.ensures.looks)
+    (finds_later s1 s2 label i c.citers.ensures.looks finds) r2 c.remove.ensures.onward c.remove.ensures.reads
+
+pub returns-clause-reads : goal.returns-clause-reads
+returns-clause-reads g c =
+    let s0 = g.C.Cells.sight c.args.cells.now in
+    let s1 = g.C.Cells.sight c.find.new.cells in
+    let label = c.args.label.now in
+    let r1 : ReadsFor s0 s1 (command.Delete c.args.label.now) =
+    first_look s0 s1 (command.Delete label) label (λ st lib k is. inl is)
+    (subst (λ (l : List ℕ). ReadsWhere (IsOfLook s0.setting.slots l) s0 s1) c.as_slice.ensures c.find.ensures.reads) in
+    let s2 = g.C.Cells.sight c.citers.new.cells in
+    let i = c.in-Some.slot in
+    let finds : Finds s1 c.args.label.now (Some c.in-Some.slot) =
+    subst (Finds s1 c.args.label.now) c.in-Some.is
+    (subst (λ (l : List ℕ). Finds s1 l c.in_ok-slot.field-0) c.as_slice.ensures
+    (ok_mapped _ _ _ _ _ c.in_ok-slot.was c.map_err.ensures.cases c.find.ensures.ok)) in
+    let r2 : ReadsFor s0 s2 (command.Delete c.args.label.now) =
+    then_cells s0 s1 s2 (command.Delete label) label i c.find.ensures.looks finds r1 c.citers.ensures.looks.onward (λ k. k ≡ citers_cell i)
+    (λ st lib at k is. inr (i, at, inr (inl (of_slot i 4 k (omega arith) is)))) c.citers.ensures.reads in
+    let s3 = g.C.Cells.sight c.remove.new.cells in
+    then_found s0 s2 s3 (command.Delete label) label i (looks_trans _ _ _ c.find.ensures.looks c.citers.ensures.looks)
+    (finds_later s1 s2 label i c.citers.ensures.looks finds) r2 c.remove.ensures.onward c.remove.ensures.reads

@@ -1,4 +1,4 @@
-use Rattle.std.proofs.Common.{List, sym, subst}
+use Rattle.std.proofs.Common.{List, ℕ, sym, subst}
 use Rattle.bodystore.specs.declared.stored.StoredStep.{StoredStep}
 use Rattle.cells.specs.Filling.{AreCitedSlots}
 use Rattle.cells.proofs.Sights.{onward_trans}
@@ -8,6 +8,10 @@ use Rattle.commands.specs.Touches.{DeletesWithin}
 use Rattle.commands.proofs.Touching.{removes_within}
 use Rattle.commands.proofs.Chaining.{TakesOut}
 use Rattle.commands.proofs.Removing.{removed}
+use Rattle.cells.specs.Footprints.{ReadsWhere, IsOfTakingOut}
+use Rattle.library.specs.declared.command.Command.TheVariants.{Delete}
+use Rattle.commands.proofs.Since.{ReadsSince, OfCommandFound, found_end}
+use Rattle.commands.proofs.DeleteReads.{removal_proof, removal_counts, removal_chain, removal_slot}
 use Rattle.commands.proofs.deleting.remove.Goals as goal
 
 pub returns-in_err-map_err-clause-onward : goal.returns-in_err-map_err-clause-onward
@@ -59,3 +63,90 @@ returns-clause-keeps g c =
     if_mapped _ _ (λ _. DeletesWithin s0 s4 c.args.slot c.args.label.now) _ _ c.map_err-3.ensures.cases c.vacate.ensures.keeps (λ _ emptied.
     removes_within s0 s1 s2 s3 s4 c.args.slot c.args.label.now former listed c.stored_proof.ensures.looks c.count_out.ensures.onward
     c.take_out.ensures.onward c.vacate.ensures.onward c.in_ok-former.ensures.ok cited counts out leaves emptied)
+
+pub returns-in_err-former-clause-reads : goal.returns-in_err-former-clause-reads
+returns-in_err-former-clause-reads g c =
+    let s0 = g.C.Cells.sight c.args.cells.now in
+    let s1 = g.C.Cells.sight c.stored_proof.new.cells in
+    let i = c.args.slot in
+    let label = c.args.label.now in
+    let r1 : ReadsSince (OfCommandFound s0 c.args.slot c.args.label.now (Delete c.args.label.now)) s0 s0 s1 = removal_proof s0 s1 i label c.stored_proof.ensures.reads in
+    found_end s0 s1 i label (Delete c.args.label.now) r1
+
+pub returns-in_err-cited-clause-reads : goal.returns-in_err-cited-clause-reads
+returns-in_err-cited-clause-reads g c =
+    let s0 = g.C.Cells.sight c.args.cells.now in
+    let s1 = g.C.Cells.sight c.stored_proof.new.cells in
+    let i = c.args.slot in
+    let label = c.args.label.now in
+    let r1 : ReadsSince (OfCommandFound s0 c.args.slot c.args.label.now (Delete c.args.label.now)) s0 s0 s1 = removal_proof s0 s1 i label c.stored_proof.ensures.reads in
+    found_end s0 s1 i label (Delete c.args.label.now) r1
+
+pub returns-in_err-map_err-clause-reads : goal.returns-in_err-map_err-clause-reads
+returns-in_err-map_err-clause-reads g c =
+    let s0 = g.C.Cells.sight c.args.cells.now in
+    let s1 = g.C.Cells.sight c.stored_proof.new.cells in
+    let i = c.args.slot in
+    let label = c.args.label.now in
+    let r1 : ReadsSince (OfCommandFound s0 c.args.slot c.args.label.now (Delete c.args.label.now)) s0 s0 s1 = removal_proof s0 s1 i label c.stored_proof.ensures.reads in
+    let s2 = g.C.Cells.sight c.count_out.new.cells in
+    let former = c.in_ok-former.former.items in
+    let listed = c.as_slice-2.result.now in
+    let former_cited = subst (λ (kept : List StoredStep). AreCitedSlots kept c.in_ok-cited.cited.items) c.as_slice.ensures.value
+    c.in_ok-cited.ensures in
+    let cited = subst (AreCitedSlots c.in_ok-former.former.items) (sym c.as_slice-2.ensures.value) former_cited in
+    let r2 : ReadsSince (OfCommandFound s0 c.args.slot c.args.label.now (Delete c.args.label.now)) s0 s0 s2 =
+    removal_counts s0 s1 i label s2 former listed c.stored_proof.ensures.looks c.in_ok-former.ensures.ok cited c.count_out.ensures.onward
+    c.count_out.ensures.reads r1 in
+    found_end s0 s2 i label (Delete c.args.label.now) r2
+
+pub returns-in_err-map_err-2-clause-reads : goal.returns-in_err-map_err-2-clause-reads
+returns-in_err-map_err-2-clause-reads g c =
+    let s0 = g.C.Cells.sight c.args.cells.now in
+    let s1 = g.C.Cells.sight c.stored_proof.new.cells in
+    let i = c.args.slot in
+    let label = c.args.label.now in
+    let r1 : ReadsSince (OfCommandFound s0 c.args.slot c.args.label.now (Delete c.args.label.now)) s0 s0 s1 = removal_proof s0 s1 i label c.stored_proof.ensures.reads in
+    let s2 = g.C.Cells.sight c.count_out.new.cells in
+    let former = c.in_ok-former.former.items in
+    let listed = c.as_slice-2.result.now in
+    let former_cited = subst (λ (kept : List StoredStep). AreCitedSlots kept c.in_ok-cited.cited.items) c.as_slice.ensures.value
+    c.in_ok-cited.ensures in
+    let cited = subst (AreCitedSlots c.in_ok-former.former.items) (sym c.as_slice-2.ensures.value) former_cited in
+    let r2 : ReadsSince (OfCommandFound s0 c.args.slot c.args.label.now (Delete c.args.label.now)) s0 s0 s2 =
+    removal_counts s0 s1 i label s2 former listed c.stored_proof.ensures.looks c.in_ok-former.ensures.ok cited c.count_out.ensures.onward
+    c.count_out.ensures.reads r1 in
+    let s3 = g.C.Cells.sight c.take_out.new.cells in
+    let counts = ok_mapped _ _ _ _ _ c.in_ok-map_err.was c.map_err.ensures.cases c.count_out.ensures.ok in
+    let chain = subst (λ (l : List ℕ). ReadsWhere (IsOfTakingOut s2.setting.slots c.args.slot l) s2 s3) c.as_slice-3.ensures
+    c.take_out.ensures.reads in
+    let r3 : ReadsSince (OfCommandFound s0 c.args.slot c.args.label.now (Delete c.args.label.now)) s0 s0 s3 =
+    removal_chain s0 s1 i label s2 former listed c.stored_proof.ensures.looks c.in_ok-former.ensures.ok cited c.count_out.ensures.onward
+    s3 c.take_out.ensures.onward counts chain r2 in
+    found_end s0 s3 i label (Delete c.args.label.now) r3
+
+pub returns-clause-reads : goal.returns-clause-reads
+returns-clause-reads g c =
+    let s0 = g.C.Cells.sight c.args.cells.now in
+    let s1 = g.C.Cells.sight c.stored_proof.new.cells in
+    let i = c.args.slot in
+    let label = c.args.label.now in
+    let r1 : ReadsSince (OfCommandFound s0 c.args.slot c.args.label.now (Delete c.args.label.now)) s0 s0 s1 = removal_proof s0 s1 i label c.stored_proof.ensures.reads in
+    let s2 = g.C.Cells.sight c.count_out.new.cells in
+    let former = c.in_ok-former.former.items in
+    let listed = c.as_slice-2.result.now in
+    let former_cited = subst (λ (kept : List StoredStep). AreCitedSlots kept c.in_ok-cited.cited.items) c.as_slice.ensures.value
+    c.in_ok-cited.ensures in
+    let cited = subst (AreCitedSlots c.in_ok-former.former.items) (sym c.as_slice-2.ensures.value) former_cited in
+    let r2 : ReadsSince (OfCommandFound s0 c.args.slot c.args.label.now (Delete c.args.label.now)) s0 s0 s2 =
+    removal_counts s0 s1 i label s2 former listed c.stored_proof.ensures.looks c.in_ok-former.ensures.ok cited c.count_out.ensures.onward
+    c.count_out.ensures.reads r1 in
+    let s3 = g.C.Cells.sight c.take_out.new.cells in
+    let counts = ok_mapped _ _ _ _ _ c.in_ok-map_err.was c.map_err.ensures.cases c.count_out.ensures.ok in
+    let chain = subst (λ (l : List ℕ). ReadsWhere (IsOfTakingOut s2.setting.slots c.args.slot l) s2 s3) c.as_slice-3.ensures
+    c.take_out.ensures.reads in
+    let r3 : ReadsSince (OfCommandFound s0 c.args.slot c.args.label.now (Delete c.args.label.now)) s0 s0 s3 =
+    removal_chain s0 s1 i label s2 former listed c.stored_proof.ensures.looks c.in_ok-former.ensures.ok cited c.count_out.ensures.onward
+    s3 c.take_out.ensures.onward counts chain r2 in
+    let s4 = g.C.Cells.sight c.vacate.new.cells in
+    found_end s0 s4 i label (Delete c.args.label.now) (removal_slot s0 s3 i label s4 c.vacate.ensures.onward c.vacate.ensures.reads r3)

@@ -5,6 +5,8 @@ use Rattle.cells.proofs.Laying.{ok_mapped}
 use Rattle.commands.specs.Naming.{TellsNotNew}
 use Rattle.commands.proofs.Seeing.{found_or_free}
 use Rattle.commands.proofs.NewLabels.{lawful_later, taken_refuses, clash_refuses, new_passes}
+use Rattle.cells.proofs.Along.{where_same}
+use Rattle.commands.proofs.RenameReads.{label_looked, label_tested}
 use Rattle.commands.proofs.naming.test_new_label.Goals as goal
 
 pub returns-then-is_some-clause-err : goal.returns-then-is_some-clause-err
@@ -63,3 +65,55 @@ returns-clause-ok g c =
     new_passes s2 own label lawful
     (λ st lib v. found st lib (views_back s1 s2 st lib c.has_clash.ensures.looks v) ∙ (sym c.is_some.ensures ∙ c.if-is_some.false))
     (subst (TellsClash s2 own label) c.if-branch.false told)
+
+pub returns-then-not-is_lawful_label-clause-reads : goal.returns-then-not-is_lawful_label-clause-reads
+returns-then-not-is_lawful_label-clause-reads g c =
+    where_same _
+
+pub returns-in_err-map_err-clause-reads : goal.returns-in_err-map_err-clause-reads
+returns-in_err-map_err-clause-reads g c =
+    let s0 = g.C.Cells.sight c.args.cells.now in
+    let s1 = g.C.Cells.sight c.find.new.cells in
+    let own = c.args.own.now in
+    let label = c.args.label.now in
+    let r1 = label_looked s0 s1 own label c.find.ensures.reads in
+    r1
+
+pub returns-then-is_some-clause-reads : goal.returns-then-is_some-clause-reads
+returns-then-is_some-clause-reads g c =
+    let s0 = g.C.Cells.sight c.args.cells.now in
+    let s1 = g.C.Cells.sight c.find.new.cells in
+    let own = c.args.own.now in
+    let label = c.args.label.now in
+    let r1 = label_looked s0 s1 own label c.find.ensures.reads in
+    r1
+
+pub returns-in_err-map_err-2-clause-reads : goal.returns-in_err-map_err-2-clause-reads
+returns-in_err-map_err-2-clause-reads g c =
+    let s0 = g.C.Cells.sight c.args.cells.now in
+    let s1 = g.C.Cells.sight c.find.new.cells in
+    let own = c.args.own.now in
+    let label = c.args.label.now in
+    let r1 = label_looked s0 s1 own label c.find.ensures.reads in
+    let s2 = g.C.Cells.sight c.has_clash.new.cells in
+    label_tested s0 s1 s2 own label c.find.ensures.looks c.has_clash.ensures.looks r1 c.has_clash.ensures.reads
+
+pub returns-then-branch-clause-reads : goal.returns-then-branch-clause-reads
+returns-then-branch-clause-reads g c =
+    let s0 = g.C.Cells.sight c.args.cells.now in
+    let s1 = g.C.Cells.sight c.find.new.cells in
+    let own = c.args.own.now in
+    let label = c.args.label.now in
+    let r1 = label_looked s0 s1 own label c.find.ensures.reads in
+    let s2 = g.C.Cells.sight c.has_clash.new.cells in
+    label_tested s0 s1 s2 own label c.find.ensures.looks c.has_clash.ensures.looks r1 c.has_clash.ensures.reads
+
+pub returns-clause-reads : goal.returns-clause-reads
+returns-clause-reads g c =
+    let s0 = g.C.Cells.sight c.args.cells.now in
+    let s1 = g.C.Cells.sight c.find.new.cells in
+    let own = c.args.own.now in
+    let label = c.args.label.now in
+    let r1 = label_looked s0 s1 own label c.find.ensures.reads in
+    let s2 = g.C.Cells.sight c.has_clash.new.cells in
+    label_tested s0 s1 s2 own label c.find.ensures.looks c.has_clash.ensures.looks r1 c.has_clash.ensures.reads

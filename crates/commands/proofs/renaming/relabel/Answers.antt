@@ -12,6 +12,11 @@ use Rattle.commands.proofs.Touching.{relabels_within}
 use Rattle.commands.proofs.Chaining.{TakesOut, PutsIn}
 use Rattle.commands.proofs.Results.{if_ok_always}
 use Rattle.commands.proofs.Relabelling.{relabelled}
+use Rattle.library.specs.declared.command.Command.TheVariants.{Rename}
+use Rattle.cells.specs.Sight.{ReadsWithin}
+use Rattle.cells.specs.Footprints.{ReadsWhere, IsOfTakingOut}
+use Rattle.commands.proofs.Since.{ReadsSince, OfCommandFound, found_end}
+use Rattle.commands.proofs.RenameReads.{relabel_name, relabel_out, relabel_in}
 use Rattle.commands.proofs.renaming.relabel.Goals as goal
 
 pub returns-in_err-take_out-clause-onward : goal.returns-in_err-take_out-clause-onward
@@ -59,3 +64,54 @@ returns-clause-keeps g c =
     c.requires.slot others named c.in_ok-take_out.ensures.keeps
     (subst (λ (l : List ℕ). KeepsAside (IsOfFront s2.setting.slots c.args.slot l) s2 s3) c.as_slice-2.ensures comes))
     c.put_in.ensures.keeps
+
+pub returns-in_err-put_body-clause-reads : goal.returns-in_err-put_body-clause-reads
+returns-in_err-put_body-clause-reads g c =
+    let s0 = g.C.Cells.sight c.args.cells.now in
+    let s1 = g.C.Cells.sight c.put_body.new.cells in
+    let i = c.args.slot in
+    let from = c.args.old.now in
+    let to = c.args.new.now in
+    let r1 : ReadsSince (OfCommandFound s0 c.args.slot c.args.old.now (Rename c.args.old.now c.args.new.now)) s0 s0 s1 =
+    relabel_name s0 s1 i from to (subst (λ (n : ℕ). ReadsWithin (λ k. k ≡ n) s0 s1) c.name_cell.ensures c.put_body.ensures.reads) in
+    found_end s0 s1 i from (Rename from to) r1
+
+pub returns-in_err-take_out-clause-reads : goal.returns-in_err-take_out-clause-reads
+returns-in_err-take_out-clause-reads g c =
+    let s0 = g.C.Cells.sight c.args.cells.now in
+    let s1 = g.C.Cells.sight c.put_body.new.cells in
+    let i = c.args.slot in
+    let from = c.args.old.now in
+    let to = c.args.new.now in
+    let r1 : ReadsSince (OfCommandFound s0 c.args.slot c.args.old.now (Rename c.args.old.now c.args.new.now)) s0 s0 s1 =
+    relabel_name s0 s1 i from to (subst (λ (n : ℕ). ReadsWithin (λ k. k ≡ n) s0 s1) c.name_cell.ensures c.put_body.ensures.reads) in
+    let s2 = g.C.Cells.sight c.take_out.new.cells in
+    let others = subst (λ (n : ℕ). (st : State) (k : ℕ) → k ≢ n → (after s1 st).value k ≡ (after s0 st).value k) c.name_cell.ensures
+    c.in_ok-put_body.ensures.others in
+    let chain = subst (λ (l : List ℕ). ReadsWhere (IsOfTakingOut s1.setting.slots c.args.slot l) s1 s2) c.as_slice.ensures
+    c.take_out.ensures.reads in
+    let r2 : ReadsSince (OfCommandFound s0 c.args.slot c.args.old.now (Rename c.args.old.now c.args.new.now)) s0 s0 s2 =
+    relabel_out s0 s1 i from to s2 c.put_body.ensures.onward c.take_out.ensures.onward c.requires.slot others chain r1 in
+    found_end s0 s2 i from (Rename from to) r2
+
+pub returns-clause-reads : goal.returns-clause-reads
+returns-clause-reads g c =
+    let s0 = g.C.Cells.sight c.args.cells.now in
+    let s1 = g.C.Cells.sight c.put_body.new.cells in
+    let i = c.args.slot in
+    let from = c.args.old.now in
+    let to = c.args.new.now in
+    let r1 : ReadsSince (OfCommandFound s0 c.args.slot c.args.old.now (Rename c.args.old.now c.args.new.now)) s0 s0 s1 =
+    relabel_name s0 s1 i from to (subst (λ (n : ℕ). ReadsWithin (λ k. k ≡ n) s0 s1) c.name_cell.ensures c.put_body.ensures.reads) in
+    let s2 = g.C.Cells.sight c.take_out.new.cells in
+    let others = subst (λ (n : ℕ). (st : State) (k : ℕ) → k ≢ n → (after s1 st).value k ≡ (after s0 st).value k) c.name_cell.ensures
+    c.in_ok-put_body.ensures.others in
+    let chain = subst (λ (l : List ℕ). ReadsWhere (IsOfTakingOut s1.setting.slots c.args.slot l) s1 s2) c.as_slice.ensures
+    c.take_out.ensures.reads in
+    let r2 : ReadsSince (OfCommandFound s0 c.args.slot c.args.old.now (Rename c.args.old.now c.args.new.now)) s0 s0 s2 =
+    relabel_out s0 s1 i from to s2 c.put_body.ensures.onward c.take_out.ensures.onward c.requires.slot others chain r1 in
+    let s3 = g.C.Cells.sight c.put_in.new.cells in
+    let front = subst (λ (l : List ℕ). ReadsWithin (IsOfFront s2.setting.slots c.args.slot l) s2 s3) c.as_slice-2.ensures
+    c.put_in.ensures.reads in
+    found_end s0 s3 i from (Rename from to)
+    (relabel_in s0 s2 i from to s3 (onward_trans _ _ _ c.put_body.ensures.onward c.take_out.ensures.onward) c.put_in.ensures.onward front r2)

@@ -1,4 +1,4 @@
-use Rattle.std.proofs.Common.{◌≡◌, List, ℕ, Some, None, Err, sym, ap, subst, ◌∙◌}
+use Rattle.std.proofs.Common.{◌≡◌, List, ℕ, Some, None, Err, sym, ap, subst, ◌∙◌, inl, inr}
 use Rattle.std.proofs.lemmas.Result.{err_from_is_err_and}
 use Rattle.library.specs.declared.command.Command.TheVariants as command
 use Rattle.library.specs.declared.reason.Reason.TheVariants as reason
@@ -12,6 +12,9 @@ use Rattle.cells.specs.Answers.{CommandAnswers}
 use Rattle.commands.specs.Naming.{PassesAsNew, TellsNotNew}
 use Rattle.commands.proofs.Refusing.{refused, answers_refused}
 use Rattle.commands.proofs.Relabelling.{rename_unknown, rename_unlabelled, renamed}
+use Rattle.cells.specs.Footprints.{ReadsWhere, IsOfLook}
+use Rattle.commands.specs.Footprints.{IsOfNewLabel, ReadsFor}
+use Rattle.commands.proofs.Since.{OfCommand, since_then, since_where, first_look, then_found}
 use Rattle.commands.proofs.renaming.rename.Goals as goal
 
 -- what is told of the slices is told of the labels
@@ -101,3 +104,119 @@ returns-clause-keeps g c =
     c.relabel.ensures.onward
     (rename_keeps s2 s3 i from to (finds_later s1 s2 from i c.test_new_label.ensures.looks finds).1
     (ok_mapped _ _ _ _ _ c.in_ok-map_err.was c.map_err-2.ensures.cases c.relabel.ensures.keeps))
+
+pub returns-in_err-slot-clause-reads : goal.returns-in_err-slot-clause-reads
+returns-in_err-slot-clause-reads g c =
+    let s0 = g.C.Cells.sight c.args.cells.now in
+    let s1 = g.C.Cells.sight c.find.new.cells in
+    let from = c.args.old.now in
+    let to = c.args.new.now in
+    let r1 : ReadsFor s0 s1 (command.Rename c.args.old.now c.args.new.now) =
+    first_look s0 s1 (command.Rename from to) from (λ st lib k is. inl is)
+    (subst (λ (l : List ℕ). ReadsWhere (IsOfLook s0.setting.slots l) s0 s1) c.as_slice.ensures c.find.ensures.reads) in
+    r1
+
+pub returns-in_default-clause-reads : goal.returns-in_default-clause-reads
+returns-in_default-clause-reads g c =
+    let s0 = g.C.Cells.sight c.args.cells.now in
+    let s1 = g.C.Cells.sight c.find.new.cells in
+    let from = c.args.old.now in
+    let to = c.args.new.now in
+    let r1 : ReadsFor s0 s1 (command.Rename c.args.old.now c.args.new.now) =
+    first_look s0 s1 (command.Rename from to) from (λ st lib k is. inl is)
+    (subst (λ (l : List ℕ). ReadsWhere (IsOfLook s0.setting.slots l) s0 s1) c.as_slice.ensures c.find.ensures.reads) in
+    r1
+
+pub returns-in_err-test_new_label-clause-reads : goal.returns-in_err-test_new_label-clause-reads
+returns-in_err-test_new_label-clause-reads g c =
+    let s0 = g.C.Cells.sight c.args.cells.now in
+    let s1 = g.C.Cells.sight c.find.new.cells in
+    let from = c.args.old.now in
+    let to = c.args.new.now in
+    let r1 : ReadsFor s0 s1 (command.Rename c.args.old.now c.args.new.now) =
+    first_look s0 s1 (command.Rename from to) from (λ st lib k is. inl is)
+    (subst (λ (l : List ℕ). ReadsWhere (IsOfLook s0.setting.slots l) s0 s1) c.as_slice.ensures c.find.ensures.reads) in
+    let s2 = g.C.Cells.sight c.test_new_label.new.cells in
+    let tested : ReadsWhere (IsOfNewLabel s1.setting.slots c.args.old.now c.args.new.now) s1 s2 =
+    subst (λ (l : List ℕ). ReadsWhere (IsOfNewLabel s1.setting.slots c.args.old.now l) s1 s2) c.as_slice-3.ensures
+    (subst (λ (l : List ℕ). ReadsWhere (IsOfNewLabel s1.setting.slots l c.as_slice-3.result.now) s1 s2) c.as_slice-2.ensures
+    c.test_new_label.ensures.reads) in
+    let r2 : ReadsFor s0 s2 (command.Rename c.args.old.now c.args.new.now) =
+    since_then (OfCommand s0 (command.Rename from to)) r1 c.test_new_label.ensures.looks.onward
+    (since_where (OfCommand s0 (command.Rename from to)) s0 s1 s2 c.find.ensures.looks (λ n. IsOfNewLabel n from to)
+    (λ st lib k is. inr (inl is)) tested) in
+    r2
+
+pub returns-in_err-body-clause-reads : goal.returns-in_err-body-clause-reads
+returns-in_err-body-clause-reads g c =
+    let s0 = g.C.Cells.sight c.args.cells.now in
+    let s1 = g.C.Cells.sight c.find.new.cells in
+    let from = c.args.old.now in
+    let to = c.args.new.now in
+    let r1 : ReadsFor s0 s1 (command.Rename c.args.old.now c.args.new.now) =
+    first_look s0 s1 (command.Rename from to) from (λ st lib k is. inl is)
+    (subst (λ (l : List ℕ). ReadsWhere (IsOfLook s0.setting.slots l) s0 s1) c.as_slice.ensures c.find.ensures.reads) in
+    let s2 = g.C.Cells.sight c.test_new_label.new.cells in
+    let tested : ReadsWhere (IsOfNewLabel s1.setting.slots c.args.old.now c.args.new.now) s1 s2 =
+    subst (λ (l : List ℕ). ReadsWhere (IsOfNewLabel s1.setting.slots c.args.old.now l) s1 s2) c.as_slice-3.ensures
+    (subst (λ (l : List ℕ). ReadsWhere (IsOfNewLabel s1.setting.slots l c.as_slice-3.result.now) s1 s2) c.as_slice-2.ensures
+    c.test_new_label.ensures.reads) in
+    let r2 : ReadsFor s0 s2 (command.Rename c.args.old.now c.args.new.now) =
+    since_then (OfCommand s0 (command.Rename from to)) r1 c.test_new_label.ensures.looks.onward
+    (since_where (OfCommand s0 (command.Rename from to)) s0 s1 s2 c.find.ensures.looks (λ n. IsOfNewLabel n from to)
+    (λ st lib k is. inr (inl is)) tested) in
+    r2
+
+pub returns-in_err-map_err-clause-reads : goal.returns-in_err-map_err-clause-reads
+returns-in_err-map_err-clause-reads g c =
+    let s0 = g.C.Cells.sight c.args.cells.now in
+    let s1 = g.C.Cells.sight c.find.new.cells in
+    let from = c.args.old.now in
+    let to = c.args.new.now in
+    let r1 : ReadsFor s0 s1 (command.Rename c.args.old.now c.args.new.now) =
+    first_look s0 s1 (command.Rename from to) from (λ st lib k is. inl is)
+    (subst (λ (l : List ℕ). ReadsWhere (IsOfLook s0.setting.slots l) s0 s1) c.as_slice.ensures c.find.ensures.reads) in
+    let s2 = g.C.Cells.sight c.test_new_label.new.cells in
+    let tested : ReadsWhere (IsOfNewLabel s1.setting.slots c.args.old.now c.args.new.now) s1 s2 =
+    subst (λ (l : List ℕ). ReadsWhere (IsOfNewLabel s1.setting.slots c.args.old.now l) s1 s2) c.as_slice-3.ensures
+    (subst (λ (l : List ℕ). ReadsWhere (IsOfNewLabel s1.setting.slots l c.as_slice-3.result.now) s1 s2) c.as_slice-2.ensures
+    c.test_new_label.ensures.reads) in
+    let r2 : ReadsFor s0 s2 (command.Rename c.args.old.now c.args.new.now) =
+    since_then (OfCommand s0 (command.Rename from to)) r1 c.test_new_label.ensures.looks.onward
+    (since_where (OfCommand s0 (command.Rename from to)) s0 s1 s2 c.find.ensures.looks (λ n. IsOfNewLabel n from to)
+    (λ st lib k is. inr (inl is)) tested) in
+    let s3 = g.C.Cells.sight c.relabel.new.cells in
+    let i = c.in-Some.slot in
+    let finds : Finds s1 c.args.old.now (Some c.in-Some.slot) =
+    subst (Finds s1 c.args.old.now) c.in-Some.is
+    (subst (λ (l : List ℕ). Finds s1 l c.in_ok-slot.field-0) c.as_slice.ensures
+    (ok_mapped _ _ _ _ _ c.in_ok-slot.was c.map_err.ensures.cases c.find.ensures.ok)) in
+    then_found s0 s2 s3 (command.Rename from to) from i (looks_trans _ _ _ c.find.ensures.looks c.test_new_label.ensures.looks)
+    (finds_later s1 s2 from i c.test_new_label.ensures.looks finds) r2 c.relabel.ensures.onward c.relabel.ensures.reads
+
+pub returns-clause-reads : goal.returns-clause-reads
+returns-clause-reads g c =
+    let s0 = g.C.Cells.sight c.args.cells.now in
+    let s1 = g.C.Cells.sight c.find.new.cells in
+    let from = c.args.old.now in
+    let to = c.args.new.now in
+    let r1 : ReadsFor s0 s1 (command.Rename c.args.old.now c.args.new.now) =
+    first_look s0 s1 (command.Rename from to) from (λ st lib k is. inl is)
+    (subst (λ (l : List ℕ). ReadsWhere (IsOfLook s0.setting.slots l) s0 s1) c.as_slice.ensures c.find.ensures.reads) in
+    let s2 = g.C.Cells.sight c.test_new_label.new.cells in
+    let tested : ReadsWhere (IsOfNewLabel s1.setting.slots c.args.old.now c.args.new.now) s1 s2 =
+    subst (λ (l : List ℕ). ReadsWhere (IsOfNewLabel s1.setting.slots c.args.old.now l) s1 s2) c.as_slice-3.ensures
+    (subst (λ (l : List ℕ). ReadsWhere (IsOfNewLabel s1.setting.slots l c.as_slice-3.result.now) s1 s2) c.as_slice-2.ensures
+    c.test_new_label.ensures.reads) in
+    let r2 : ReadsFor s0 s2 (command.Rename c.args.old.now c.args.new.now) =
+    since_then (OfCommand s0 (command.Rename from to)) r1 c.test_new_label.ensures.looks.onward
+    (since_where (OfCommand s0 (command.Rename from to)) s0 s1 s2 c.find.ensures.looks (λ n. IsOfNewLabel n from to)
+    (λ st lib k is. inr (inl is)) tested) in
+    let s3 = g.C.Cells.sight c.relabel.new.cells in
+    let i = c.in-Some.slot in
+    let finds : Finds s1 c.args.old.now (Some c.in-Some.slot) =
+    subst (Finds s1 c.args.old.now) c.in-Some.is
+    (subst (λ (l : List ℕ). Finds s1 l c.in_ok-slot.field-0) c.as_slice.ensures
+    (ok_mapped _ _ _ _ _ c.in_ok-slot.was c.map_err.ensures.cases c.find.ensures.ok)) in
+    then_found s0 s2 s3 (command.Rename from to) from i (looks_trans _ _ _ c.find.ensures.looks c.test_new_label.ensures.looks)
+    (finds_later s1 s2 from i c.test_new_label.ensures.looks finds) r2 c.relabel.ensures.onward c.relabel.ensures.reads

@@ -1,4 +1,4 @@
-use Rattle.std.proofs.Common.{◌≡◌, ◌≢◌, true, false, List, [], length, map, rules, arith, sym, ap, subst, ◌∙◌}
+use Rattle.std.proofs.Common.{◌≡◌, ◌≢◌, inl, inr, true, false, List, [], length, map, rules, arith, sym, ap, subst, ◌∙◌}
 use Rattle.std.specs.Vec.{vec_len}
 use Rattle.std.proofs.lemmas.Bool.Decides.{Decides-eqb}
 use Rattle.std.proofs.lemmas.List.{nil_from_length, with_items_is}
@@ -17,8 +17,14 @@ use Rattle.commands.proofs.OnlyLooks.{finds_later}
 use Rattle.commands.proofs.Recited.{recited_within}
 use Rattle.commands.proofs.Refusing.{of_none, refused_later, answers_refused}
 use Rattle.commands.proofs.Replaced.{answers_unknown, refuses_old, refuses_new, sought, sought_later, alike_later}
-use Rattle.commands.proofs.Replaced.{refuses_axiom, refuses_unlike, refuses_not_lower, replaced, replace_keeps}
+use Rattle.commands.proofs.Replaced.{refuses_axiom, refuses_unlike, refuses_not_lower, replaced, replace_keeps, replace_reads}
 use Rattle.commands.proofs.Taking.{found_taken, recited_length}
+use Rattle.cells.specs.Slots.{proof_cell}
+use Rattle.cells.specs.Footprints.{IsOfLook}
+use Rattle.commands.specs.Touches.{Touches}
+use Rattle.commands.specs.Footprints.{ReadsFor, ReprovesReading}
+use Rattle.commands.proofs.Since.{OfCommand, since_then, since_where, since_before, first_look, then_cells}
+use Rattle.commands.proofs.ReplaceReads.{replace_alike, replace_ranks}
 use Rattle.commands.proofs.replacing.replace.Goals as goal
 
 pub returns-in_err-slot-clause-answers : goal.returns-in_err-slot-clause-answers
@@ -317,3 +323,367 @@ returns-clause-keeps g c =
     keeps_to_since s0 s6 s7 (Replace label old new) there.looks c.put_steps.ensures.onward
     (replace_keeps s0 s6 i j k label old new kept there s7
     (subst (ReprovesWithin s6 s7 i label) is (c.in_ok-put_steps.ensures.keeps label)))
+
+pub returns-in_err-slot-clause-reads : goal.returns-in_err-slot-clause-reads
+returns-in_err-slot-clause-reads g c =
+    let s0 = g.C.Cells.sight c.args.cells.now in
+    let s1 = g.C.Cells.sight c.slot_of.new.cells in
+    let label = c.args.label.now in
+    let old = c.args.old.now in
+    let new = c.args.new.now in
+    let x = Replace label old new in
+    let r1 : ReadsFor s0 s1 (Replace c.args.label.now c.args.old.now c.args.new.now) = first_look s0 s1 x label (λ st lib c is. inl (inl is)) c.slot_of.ensures.reads in
+    r1
+
+pub returns-in_err-former-clause-reads : goal.returns-in_err-former-clause-reads
+returns-in_err-former-clause-reads g c =
+    let s0 = g.C.Cells.sight c.args.cells.now in
+    let s1 = g.C.Cells.sight c.slot_of.new.cells in
+    let label = c.args.label.now in
+    let old = c.args.old.now in
+    let new = c.args.new.now in
+    let x = Replace label old new in
+    let r1 : ReadsFor s0 s1 (Replace c.args.label.now c.args.old.now c.args.new.now) = first_look s0 s1 x label (λ st lib c is. inl (inl is)) c.slot_of.ensures.reads in
+    let s2 = g.C.Cells.sight c.slot_of-2.new.cells in
+    let l1 = c.slot_of.ensures.looks in
+    let r2 : ReadsFor s0 s2 (Replace c.args.label.now c.args.old.now c.args.new.now) =
+    since_then (OfCommand s0 x) r1 c.slot_of-2.ensures.looks.onward
+    (since_where (OfCommand s0 x) s0 s1 s2 l1 (λ n. IsOfLook n old) (λ st lib c is. inl (inr (inl is))) c.slot_of-2.ensures.reads) in
+    r2
+
+pub returns-in_err-next-clause-reads : goal.returns-in_err-next-clause-reads
+returns-in_err-next-clause-reads g c =
+    let s0 = g.C.Cells.sight c.args.cells.now in
+    let s1 = g.C.Cells.sight c.slot_of.new.cells in
+    let label = c.args.label.now in
+    let old = c.args.old.now in
+    let new = c.args.new.now in
+    let x = Replace label old new in
+    let r1 : ReadsFor s0 s1 (Replace c.args.label.now c.args.old.now c.args.new.now) = first_look s0 s1 x label (λ st lib c is. inl (inl is)) c.slot_of.ensures.reads in
+    let s2 = g.C.Cells.sight c.slot_of-2.new.cells in
+    let l1 = c.slot_of.ensures.looks in
+    let r2 : ReadsFor s0 s2 (Replace c.args.label.now c.args.old.now c.args.new.now) =
+    since_then (OfCommand s0 x) r1 c.slot_of-2.ensures.looks.onward
+    (since_where (OfCommand s0 x) s0 s1 s2 l1 (λ n. IsOfLook n old) (λ st lib c is. inl (inr (inl is))) c.slot_of-2.ensures.reads) in
+    let s3 = g.C.Cells.sight c.slot_of-3.new.cells in
+    let l2 = looks_trans _ _ _ l1 c.slot_of-2.ensures.looks in
+    let r3 : ReadsFor s0 s3 (Replace c.args.label.now c.args.old.now c.args.new.now) =
+    since_then (OfCommand s0 x) r2 c.slot_of-3.ensures.looks.onward
+    (since_where (OfCommand s0 x) s0 s2 s3 l2 (λ n. IsOfLook n new) (λ st lib c is. inl (inr (inr is))) c.slot_of-3.ensures.reads) in
+    r3
+
+pub returns-in_err-kept-clause-reads : goal.returns-in_err-kept-clause-reads
+returns-in_err-kept-clause-reads g c =
+    let s0 = g.C.Cells.sight c.args.cells.now in
+    let s1 = g.C.Cells.sight c.slot_of.new.cells in
+    let label = c.args.label.now in
+    let old = c.args.old.now in
+    let new = c.args.new.now in
+    let x = Replace label old new in
+    let r1 : ReadsFor s0 s1 (Replace c.args.label.now c.args.old.now c.args.new.now) = first_look s0 s1 x label (λ st lib c is. inl (inl is)) c.slot_of.ensures.reads in
+    let s2 = g.C.Cells.sight c.slot_of-2.new.cells in
+    let l1 = c.slot_of.ensures.looks in
+    let r2 : ReadsFor s0 s2 (Replace c.args.label.now c.args.old.now c.args.new.now) =
+    since_then (OfCommand s0 x) r1 c.slot_of-2.ensures.looks.onward
+    (since_where (OfCommand s0 x) s0 s1 s2 l1 (λ n. IsOfLook n old) (λ st lib c is. inl (inr (inl is))) c.slot_of-2.ensures.reads) in
+    let s3 = g.C.Cells.sight c.slot_of-3.new.cells in
+    let l2 = looks_trans _ _ _ l1 c.slot_of-2.ensures.looks in
+    let r3 : ReadsFor s0 s3 (Replace c.args.label.now c.args.old.now c.args.new.now) =
+    since_then (OfCommand s0 x) r2 c.slot_of-3.ensures.looks.onward
+    (since_where (OfCommand s0 x) s0 s2 s3 l2 (λ n. IsOfLook n new) (λ st lib c is. inl (inr (inr is))) c.slot_of-3.ensures.reads) in
+    let s4 = g.C.Cells.sight c.stored_proof.new.cells in
+    let i = c.in_ok-slot.slot in
+    let j = c.in_ok-former.former in
+    let n = c.in_ok-next.next in
+    let since = looks_trans _ _ _ c.slot_of-2.ensures.looks c.slot_of-3.ensures.looks in
+    let r4 : ReadsFor s0 s4 (Replace c.args.label.now c.args.old.now c.args.new.now) =
+    then_cells s0 s3 s4 x label i (looks_trans _ _ _ l2 c.slot_of-3.ensures.looks) (finds_later s1 s3 label i since c.in_ok-slot.ensures.ok)
+    r3 c.stored_proof.ensures.looks.onward (λ m. m ≡ proof_cell i) (λ st lib at c is. inr (inr (inr (inr (i, at, inl is)))))
+    c.stored_proof.ensures.reads in
+    r4
+
+pub returns-then-is_empty-clause-reads : goal.returns-then-is_empty-clause-reads
+returns-then-is_empty-clause-reads g c =
+    let s0 = g.C.Cells.sight c.args.cells.now in
+    let s1 = g.C.Cells.sight c.slot_of.new.cells in
+    let label = c.args.label.now in
+    let old = c.args.old.now in
+    let new = c.args.new.now in
+    let x = Replace label old new in
+    let r1 : ReadsFor s0 s1 (Replace c.args.label.now c.args.old.now c.args.new.now) = first_look s0 s1 x label (λ st lib c is. inl (inl is)) c.slot_of.ensures.reads in
+    let s2 = g.C.Cells.sight c.slot_of-2.new.cells in
+    let l1 = c.slot_of.ensures.looks in
+    let r2 : ReadsFor s0 s2 (Replace c.args.label.now c.args.old.now c.args.new.now) =
+    since_then (OfCommand s0 x) r1 c.slot_of-2.ensures.looks.onward
+    (since_where (OfCommand s0 x) s0 s1 s2 l1 (λ n. IsOfLook n old) (λ st lib c is. inl (inr (inl is))) c.slot_of-2.ensures.reads) in
+    let s3 = g.C.Cells.sight c.slot_of-3.new.cells in
+    let l2 = looks_trans _ _ _ l1 c.slot_of-2.ensures.looks in
+    let r3 : ReadsFor s0 s3 (Replace c.args.label.now c.args.old.now c.args.new.now) =
+    since_then (OfCommand s0 x) r2 c.slot_of-3.ensures.looks.onward
+    (since_where (OfCommand s0 x) s0 s2 s3 l2 (λ n. IsOfLook n new) (λ st lib c is. inl (inr (inr is))) c.slot_of-3.ensures.reads) in
+    let s4 = g.C.Cells.sight c.stored_proof.new.cells in
+    let i = c.in_ok-slot.slot in
+    let j = c.in_ok-former.former in
+    let n = c.in_ok-next.next in
+    let since = looks_trans _ _ _ c.slot_of-2.ensures.looks c.slot_of-3.ensures.looks in
+    let r4 : ReadsFor s0 s4 (Replace c.args.label.now c.args.old.now c.args.new.now) =
+    then_cells s0 s3 s4 x label i (looks_trans _ _ _ l2 c.slot_of-3.ensures.looks) (finds_later s1 s3 label i since c.in_ok-slot.ensures.ok)
+    r3 c.stored_proof.ensures.looks.onward (λ m. m ≡ proof_cell i) (λ st lib at c is. inr (inr (inr (inr (i, at, inl is)))))
+    c.stored_proof.ensures.reads in
+    r4
+
+pub returns-in_err-are_alike-clause-reads : goal.returns-in_err-are_alike-clause-reads
+returns-in_err-are_alike-clause-reads g c =
+    let s0 = g.C.Cells.sight c.args.cells.now in
+    let s1 = g.C.Cells.sight c.slot_of.new.cells in
+    let label = c.args.label.now in
+    let old = c.args.old.now in
+    let new = c.args.new.now in
+    let x = Replace label old new in
+    let r1 : ReadsFor s0 s1 (Replace c.args.label.now c.args.old.now c.args.new.now) = first_look s0 s1 x label (λ st lib c is. inl (inl is)) c.slot_of.ensures.reads in
+    let s2 = g.C.Cells.sight c.slot_of-2.new.cells in
+    let l1 = c.slot_of.ensures.looks in
+    let r2 : ReadsFor s0 s2 (Replace c.args.label.now c.args.old.now c.args.new.now) =
+    since_then (OfCommand s0 x) r1 c.slot_of-2.ensures.looks.onward
+    (since_where (OfCommand s0 x) s0 s1 s2 l1 (λ n. IsOfLook n old) (λ st lib c is. inl (inr (inl is))) c.slot_of-2.ensures.reads) in
+    let s3 = g.C.Cells.sight c.slot_of-3.new.cells in
+    let l2 = looks_trans _ _ _ l1 c.slot_of-2.ensures.looks in
+    let r3 : ReadsFor s0 s3 (Replace c.args.label.now c.args.old.now c.args.new.now) =
+    since_then (OfCommand s0 x) r2 c.slot_of-3.ensures.looks.onward
+    (since_where (OfCommand s0 x) s0 s2 s3 l2 (λ n. IsOfLook n new) (λ st lib c is. inl (inr (inr is))) c.slot_of-3.ensures.reads) in
+    let s4 = g.C.Cells.sight c.stored_proof.new.cells in
+    let i = c.in_ok-slot.slot in
+    let j = c.in_ok-former.former in
+    let n = c.in_ok-next.next in
+    let since = looks_trans _ _ _ c.slot_of-2.ensures.looks c.slot_of-3.ensures.looks in
+    let r4 : ReadsFor s0 s4 (Replace c.args.label.now c.args.old.now c.args.new.now) =
+    then_cells s0 s3 s4 x label i (looks_trans _ _ _ l2 c.slot_of-3.ensures.looks) (finds_later s1 s3 label i since c.in_ok-slot.ensures.ok)
+    r3 c.stored_proof.ensures.looks.onward (λ m. m ≡ proof_cell i) (λ st lib at c is. inr (inr (inr (inr (i, at, inl is)))))
+    c.stored_proof.ensures.reads in
+    let known = sought i j n label old new c.in_ok-kept.kept.items s0 s1 s2 s3 s4 c.slot_of.ensures.looks c.slot_of-2.ensures.looks
+    c.slot_of-3.ensures.looks c.stored_proof.ensures.looks c.in_ok-slot.ensures.ok c.in_ok-former.ensures.ok c.in_ok-next.ensures.ok
+    c.in_ok-kept.ensures.ok in
+    let s5 = g.C.Cells.sight c.are_alike.new.cells in
+    let r5 : ReadsFor s0 s5 (Replace c.args.label.now c.args.old.now c.args.new.now) =
+    replace_alike s0 s4 s5 i j n label old new c.in_ok-kept.kept.items known c.are_alike.ensures.looks.onward r4 c.are_alike.ensures.reads in
+    r5
+
+pub returns-then-not-branch-clause-reads : goal.returns-then-not-branch-clause-reads
+returns-then-not-branch-clause-reads g c =
+    let s0 = g.C.Cells.sight c.args.cells.now in
+    let s1 = g.C.Cells.sight c.slot_of.new.cells in
+    let label = c.args.label.now in
+    let old = c.args.old.now in
+    let new = c.args.new.now in
+    let x = Replace label old new in
+    let r1 : ReadsFor s0 s1 (Replace c.args.label.now c.args.old.now c.args.new.now) = first_look s0 s1 x label (λ st lib c is. inl (inl is)) c.slot_of.ensures.reads in
+    let s2 = g.C.Cells.sight c.slot_of-2.new.cells in
+    let l1 = c.slot_of.ensures.looks in
+    let r2 : ReadsFor s0 s2 (Replace c.args.label.now c.args.old.now c.args.new.now) =
+    since_then (OfCommand s0 x) r1 c.slot_of-2.ensures.looks.onward
+    (since_where (OfCommand s0 x) s0 s1 s2 l1 (λ n. IsOfLook n old) (λ st lib c is. inl (inr (inl is))) c.slot_of-2.ensures.reads) in
+    let s3 = g.C.Cells.sight c.slot_of-3.new.cells in
+    let l2 = looks_trans _ _ _ l1 c.slot_of-2.ensures.looks in
+    let r3 : ReadsFor s0 s3 (Replace c.args.label.now c.args.old.now c.args.new.now) =
+    since_then (OfCommand s0 x) r2 c.slot_of-3.ensures.looks.onward
+    (since_where (OfCommand s0 x) s0 s2 s3 l2 (λ n. IsOfLook n new) (λ st lib c is. inl (inr (inr is))) c.slot_of-3.ensures.reads) in
+    let s4 = g.C.Cells.sight c.stored_proof.new.cells in
+    let i = c.in_ok-slot.slot in
+    let j = c.in_ok-former.former in
+    let n = c.in_ok-next.next in
+    let since = looks_trans _ _ _ c.slot_of-2.ensures.looks c.slot_of-3.ensures.looks in
+    let r4 : ReadsFor s0 s4 (Replace c.args.label.now c.args.old.now c.args.new.now) =
+    then_cells s0 s3 s4 x label i (looks_trans _ _ _ l2 c.slot_of-3.ensures.looks) (finds_later s1 s3 label i since c.in_ok-slot.ensures.ok)
+    r3 c.stored_proof.ensures.looks.onward (λ m. m ≡ proof_cell i) (λ st lib at c is. inr (inr (inr (inr (i, at, inl is)))))
+    c.stored_proof.ensures.reads in
+    let known = sought i j n label old new c.in_ok-kept.kept.items s0 s1 s2 s3 s4 c.slot_of.ensures.looks c.slot_of-2.ensures.looks
+    c.slot_of-3.ensures.looks c.stored_proof.ensures.looks c.in_ok-slot.ensures.ok c.in_ok-former.ensures.ok c.in_ok-next.ensures.ok
+    c.in_ok-kept.ensures.ok in
+    let s5 = g.C.Cells.sight c.are_alike.new.cells in
+    let r5 : ReadsFor s0 s5 (Replace c.args.label.now c.args.old.now c.args.new.now) =
+    replace_alike s0 s4 s5 i j n label old new c.in_ok-kept.kept.items known c.are_alike.ensures.looks.onward r4 c.are_alike.ensures.reads in
+    r5
+
+pub returns-in_err-map_err-clause-reads : goal.returns-in_err-map_err-clause-reads
+returns-in_err-map_err-clause-reads g c =
+    let s0 = g.C.Cells.sight c.args.cells.now in
+    let s1 = g.C.Cells.sight c.slot_of.new.cells in
+    let label = c.args.label.now in
+    let old = c.args.old.now in
+    let new = c.args.new.now in
+    let x = Replace label old new in
+    let r1 : ReadsFor s0 s1 (Replace c.args.label.now c.args.old.now c.args.new.now) = first_look s0 s1 x label (λ st lib c is. inl (inl is)) c.slot_of.ensures.reads in
+    let s2 = g.C.Cells.sight c.slot_of-2.new.cells in
+    let l1 = c.slot_of.ensures.looks in
+    let r2 : ReadsFor s0 s2 (Replace c.args.label.now c.args.old.now c.args.new.now) =
+    since_then (OfCommand s0 x) r1 c.slot_of-2.ensures.looks.onward
+    (since_where (OfCommand s0 x) s0 s1 s2 l1 (λ n. IsOfLook n old) (λ st lib c is. inl (inr (inl is))) c.slot_of-2.ensures.reads) in
+    let s3 = g.C.Cells.sight c.slot_of-3.new.cells in
+    let l2 = looks_trans _ _ _ l1 c.slot_of-2.ensures.looks in
+    let r3 : ReadsFor s0 s3 (Replace c.args.label.now c.args.old.now c.args.new.now) =
+    since_then (OfCommand s0 x) r2 c.slot_of-3.ensures.looks.onward
+    (since_where (OfCommand s0 x) s0 s2 s3 l2 (λ n. IsOfLook n new) (λ st lib c is. inl (inr (inr is))) c.slot_of-3.ensures.reads) in
+    let s4 = g.C.Cells.sight c.stored_proof.new.cells in
+    let i = c.in_ok-slot.slot in
+    let j = c.in_ok-former.former in
+    let n = c.in_ok-next.next in
+    let since = looks_trans _ _ _ c.slot_of-2.ensures.looks c.slot_of-3.ensures.looks in
+    let r4 : ReadsFor s0 s4 (Replace c.args.label.now c.args.old.now c.args.new.now) =
+    then_cells s0 s3 s4 x label i (looks_trans _ _ _ l2 c.slot_of-3.ensures.looks) (finds_later s1 s3 label i since c.in_ok-slot.ensures.ok)
+    r3 c.stored_proof.ensures.looks.onward (λ m. m ≡ proof_cell i) (λ st lib at c is. inr (inr (inr (inr (i, at, inl is)))))
+    c.stored_proof.ensures.reads in
+    let known = sought i j n label old new c.in_ok-kept.kept.items s0 s1 s2 s3 s4 c.slot_of.ensures.looks c.slot_of-2.ensures.looks
+    c.slot_of-3.ensures.looks c.stored_proof.ensures.looks c.in_ok-slot.ensures.ok c.in_ok-former.ensures.ok c.in_ok-next.ensures.ok
+    c.in_ok-kept.ensures.ok in
+    let s5 = g.C.Cells.sight c.are_alike.new.cells in
+    let r5 : ReadsFor s0 s5 (Replace c.args.label.now c.args.old.now c.args.new.now) =
+    replace_alike s0 s4 s5 i j n label old new c.in_ok-kept.kept.items known c.are_alike.ensures.looks.onward r4 c.are_alike.ensures.reads in
+    let s6 = g.C.Cells.sight c.is_not_lower.new.cells in
+    let there = sought_later i j n label old new c.in_ok-kept.kept.items s0 s4 s5 c.are_alike.ensures.looks known in
+    let r6 : ReadsFor s0 s6 (Replace c.args.label.now c.args.old.now c.args.new.now) =
+    replace_ranks s0 s5 s6 i j n label old new c.in_ok-kept.kept.items there c.is_not_lower.ensures.looks.onward r5
+    c.is_not_lower.ensures.reads in
+    r6
+
+pub returns-then-branch-clause-reads : goal.returns-then-branch-clause-reads
+returns-then-branch-clause-reads g c =
+    let s0 = g.C.Cells.sight c.args.cells.now in
+    let s1 = g.C.Cells.sight c.slot_of.new.cells in
+    let label = c.args.label.now in
+    let old = c.args.old.now in
+    let new = c.args.new.now in
+    let x = Replace label old new in
+    let r1 : ReadsFor s0 s1 (Replace c.args.label.now c.args.old.now c.args.new.now) = first_look s0 s1 x label (λ st lib c is. inl (inl is)) c.slot_of.ensures.reads in
+    let s2 = g.C.Cells.sight c.slot_of-2.new.cells in
+    let l1 = c.slot_of.ensures.looks in
+    let r2 : ReadsFor s0 s2 (Replace c.args.label.now c.args.old.now c.args.new.now) =
+    since_then (OfCommand s0 x) r1 c.slot_of-2.ensures.looks.onward
+    (since_where (OfCommand s0 x) s0 s1 s2 l1 (λ n. IsOfLook n old) (λ st lib c is. inl (inr (inl is))) c.slot_of-2.ensures.reads) in
+    let s3 = g.C.Cells.sight c.slot_of-3.new.cells in
+    let l2 = looks_trans _ _ _ l1 c.slot_of-2.ensures.looks in
+    let r3 : ReadsFor s0 s3 (Replace c.args.label.now c.args.old.now c.args.new.now) =
+    since_then (OfCommand s0 x) r2 c.slot_of-3.ensures.looks.onward
+    (since_where (OfCommand s0 x) s0 s2 s3 l2 (λ n. IsOfLook n new) (λ st lib c is. inl (inr (inr is))) c.slot_of-3.ensures.reads) in
+    let s4 = g.C.Cells.sight c.stored_proof.new.cells in
+    let i = c.in_ok-slot.slot in
+    let j = c.in_ok-former.former in
+    let n = c.in_ok-next.next in
+    let since = looks_trans _ _ _ c.slot_of-2.ensures.looks c.slot_of-3.ensures.looks in
+    let r4 : ReadsFor s0 s4 (Replace c.args.label.now c.args.old.now c.args.new.now) =
+    then_cells s0 s3 s4 x label i (looks_trans _ _ _ l2 c.slot_of-3.ensures.looks) (finds_later s1 s3 label i since c.in_ok-slot.ensures.ok)
+    r3 c.stored_proof.ensures.looks.onward (λ m. m ≡ proof_cell i) (λ st lib at c is. inr (inr (inr (inr (i, at, inl is)))))
+    c.stored_proof.ensures.reads in
+    let known = sought i j n label old new c.in_ok-kept.kept.items s0 s1 s2 s3 s4 c.slot_of.ensures.looks c.slot_of-2.ensures.looks
+    c.slot_of-3.ensures.looks c.stored_proof.ensures.looks c.in_ok-slot.ensures.ok c.in_ok-former.ensures.ok c.in_ok-next.ensures.ok
+    c.in_ok-kept.ensures.ok in
+    let s5 = g.C.Cells.sight c.are_alike.new.cells in
+    let r5 : ReadsFor s0 s5 (Replace c.args.label.now c.args.old.now c.args.new.now) =
+    replace_alike s0 s4 s5 i j n label old new c.in_ok-kept.kept.items known c.are_alike.ensures.looks.onward r4 c.are_alike.ensures.reads in
+    let s6 = g.C.Cells.sight c.is_not_lower.new.cells in
+    let there = sought_later i j n label old new c.in_ok-kept.kept.items s0 s4 s5 c.are_alike.ensures.looks known in
+    let r6 : ReadsFor s0 s6 (Replace c.args.label.now c.args.old.now c.args.new.now) =
+    replace_ranks s0 s5 s6 i j n label old new c.in_ok-kept.kept.items there c.is_not_lower.ensures.looks.onward r5
+    c.is_not_lower.ensures.reads in
+    r6
+
+pub returns-in_err-put_steps-clause-reads : goal.returns-in_err-put_steps-clause-reads
+returns-in_err-put_steps-clause-reads g c =
+    let s0 = g.C.Cells.sight c.args.cells.now in
+    let s1 = g.C.Cells.sight c.slot_of.new.cells in
+    let label = c.args.label.now in
+    let old = c.args.old.now in
+    let new = c.args.new.now in
+    let x = Replace label old new in
+    let r1 : ReadsFor s0 s1 (Replace c.args.label.now c.args.old.now c.args.new.now) = first_look s0 s1 x label (λ st lib c is. inl (inl is)) c.slot_of.ensures.reads in
+    let s2 = g.C.Cells.sight c.slot_of-2.new.cells in
+    let l1 = c.slot_of.ensures.looks in
+    let r2 : ReadsFor s0 s2 (Replace c.args.label.now c.args.old.now c.args.new.now) =
+    since_then (OfCommand s0 x) r1 c.slot_of-2.ensures.looks.onward
+    (since_where (OfCommand s0 x) s0 s1 s2 l1 (λ n. IsOfLook n old) (λ st lib c is. inl (inr (inl is))) c.slot_of-2.ensures.reads) in
+    let s3 = g.C.Cells.sight c.slot_of-3.new.cells in
+    let l2 = looks_trans _ _ _ l1 c.slot_of-2.ensures.looks in
+    let r3 : ReadsFor s0 s3 (Replace c.args.label.now c.args.old.now c.args.new.now) =
+    since_then (OfCommand s0 x) r2 c.slot_of-3.ensures.looks.onward
+    (since_where (OfCommand s0 x) s0 s2 s3 l2 (λ n. IsOfLook n new) (λ st lib c is. inl (inr (inr is))) c.slot_of-3.ensures.reads) in
+    let s4 = g.C.Cells.sight c.stored_proof.new.cells in
+    let i = c.in_ok-slot.slot in
+    let j = c.in_ok-former.former in
+    let n = c.in_ok-next.next in
+    let since = looks_trans _ _ _ c.slot_of-2.ensures.looks c.slot_of-3.ensures.looks in
+    let r4 : ReadsFor s0 s4 (Replace c.args.label.now c.args.old.now c.args.new.now) =
+    then_cells s0 s3 s4 x label i (looks_trans _ _ _ l2 c.slot_of-3.ensures.looks) (finds_later s1 s3 label i since c.in_ok-slot.ensures.ok)
+    r3 c.stored_proof.ensures.looks.onward (λ m. m ≡ proof_cell i) (λ st lib at c is. inr (inr (inr (inr (i, at, inl is)))))
+    c.stored_proof.ensures.reads in
+    let known = sought i j n label old new c.in_ok-kept.kept.items s0 s1 s2 s3 s4 c.slot_of.ensures.looks c.slot_of-2.ensures.looks
+    c.slot_of-3.ensures.looks c.stored_proof.ensures.looks c.in_ok-slot.ensures.ok c.in_ok-former.ensures.ok c.in_ok-next.ensures.ok
+    c.in_ok-kept.ensures.ok in
+    let s5 = g.C.Cells.sight c.are_alike.new.cells in
+    let r5 : ReadsFor s0 s5 (Replace c.args.label.now c.args.old.now c.args.new.now) =
+    replace_alike s0 s4 s5 i j n label old new c.in_ok-kept.kept.items known c.are_alike.ensures.looks.onward r4 c.are_alike.ensures.reads in
+    let s6 = g.C.Cells.sight c.is_not_lower.new.cells in
+    let there = sought_later i j n label old new c.in_ok-kept.kept.items s0 s4 s5 c.are_alike.ensures.looks known in
+    let r6 : ReadsFor s0 s6 (Replace c.args.label.now c.args.old.now c.args.new.now) =
+    replace_ranks s0 s5 s6 i j n label old new c.in_ok-kept.kept.items there c.is_not_lower.ensures.looks.onward r5
+    c.is_not_lower.ensures.reads in
+    let s7 = g.C.Cells.sight c.put_steps.new.cells in
+    let kept = c.in_ok-kept.kept.items in
+    let last = sought_later i j n label old new c.in_ok-kept.kept.items s0 s5 s6 c.is_not_lower.ensures.looks there in
+    let written = c.as_slice.ensures.value
+    ∙ with_items_is c.in_ok-kept.kept c.recite.new.steps (c.recite.auto.steps ∙ c.as_mut_slice.ensures.len) in
+    let is = written ∙ c.recite.ensures ∙ ap (map (recited_step c.slot_count.result j n)) c.as_mut_slice.ensures.value
+    ∙ ap (λ m. map (recited_step m j n) c.in_ok-kept.kept.items) c.slot_count.ensures.value in
+    since_then (OfCommand s0 x) r6 c.put_steps.ensures.onward
+    (since_before (OfCommand s0 x) s0 s6 s7 last.looks (λ m st lib c. Touches m st lib x c) (λ st lib c it. inr (inr (inr (inr it))))
+    c.put_steps.ensures.onward
+    (replace_reads s0 s6 i j n label old new kept last s7 (subst (ReprovesReading s6 s7 i label) is (c.put_steps.ensures.reads label))))
+
+pub returns-clause-reads : goal.returns-clause-reads
+returns-clause-reads g c =
+    let s0 = g.C.Cells.sight c.args.cells.now in
+    let s1 = g.C.Cells.sight c.slot_of.new.cells in
+    let label = c.args.label.now in
+    let old = c.args.old.now in
+    let new = c.args.new.now in
+    let x = Replace label old new in
+    let r1 : ReadsFor s0 s1 (Replace c.args.label.now c.args.old.now c.args.new.now) = first_look s0 s1 x label (λ st lib c is. inl (inl is)) c.slot_of.ensures.reads in
+    let s2 = g.C.Cells.sight c.slot_of-2.new.cells in
+    let l1 = c.slot_of.ensures.looks in
+    let r2 : ReadsFor s0 s2 (Replace c.args.label.now c.args.old.now c.args.new.now) =
+    since_then (OfCommand s0 x) r1 c.slot_of-2.ensures.looks.onward
+    (since_where (OfCommand s0 x) s0 s1 s2 l1 (λ n. IsOfLook n old) (λ st lib c is. inl (inr (inl is))) c.slot_of-2.ensures.reads) in
+    let s3 = g.C.Cells.sight c.slot_of-3.new.cells in
+    let l2 = looks_trans _ _ _ l1 c.slot_of-2.ensures.looks in
+    let r3 : ReadsFor s0 s3 (Replace c.args.label.now c.args.old.now c.args.new.now) =
+    since_then (OfCommand s0 x) r2 c.slot_of-3.ensures.looks.onward
+    (since_where (OfCommand s0 x) s0 s2 s3 l2 (λ n. IsOfLook n new) (λ st lib c is. inl (inr (inr is))) c.slot_of-3.ensures.reads) in
+    let s4 = g.C.Cells.sight c.stored_proof.new.cells in
+    let i = c.in_ok-slot.slot in
+    let j = c.in_ok-former.former in
+    let n = c.in_ok-next.next in
+    let since = looks_trans _ _ _ c.slot_of-2.ensures.looks c.slot_of-3.ensures.looks in
+    let r4 : ReadsFor s0 s4 (Replace c.args.label.now c.args.old.now c.args.new.now) =
+    then_cells s0 s3 s4 x label i (looks_trans _ _ _ l2 c.slot_of-3.ensures.looks) (finds_later s1 s3 label i since c.in_ok-slot.ensures.ok)
+    r3 c.stored_proof.ensures.looks.onward (λ m. m ≡ proof_cell i) (λ st lib at c is. inr (inr (inr (inr (i, at, inl is)))))
+    c.stored_proof.ensures.reads in
+    let known = sought i j n label old new c.in_ok-kept.kept.items s0 s1 s2 s3 s4 c.slot_of.ensures.looks c.slot_of-2.ensures.looks
+    c.slot_of-3.ensures.looks c.stored_proof.ensures.looks c.in_ok-slot.ensures.ok c.in_ok-former.ensures.ok c.in_ok-next.ensures.ok
+    c.in_ok-kept.ensures.ok in
+    let s5 = g.C.Cells.sight c.are_alike.new.cells in
+    let r5 : ReadsFor s0 s5 (Replace c.args.label.now c.args.old.now c.args.new.now) =
+    replace_alike s0 s4 s5 i j n label old new c.in_ok-kept.kept.items known c.are_alike.ensures.looks.onward r4 c.are_alike.ensures.reads in
+    let s6 = g.C.Cells.sight c.is_not_lower.new.cells in
+    let there = sought_later i j n label old new c.in_ok-kept.kept.items s0 s4 s5 c.are_alike.ensures.looks known in
+    let r6 : ReadsFor s0 s6 (Replace c.args.label.now c.args.old.now c.args.new.now) =
+    replace_ranks s0 s5 s6 i j n label old new c.in_ok-kept.kept.items there c.is_not_lower.ensures.looks.onward r5
+    c.is_not_lower.ensures.reads in
+    let s7 = g.C.Cells.sight c.put_steps.new.cells in
+    let kept = c.in_ok-kept.kept.items in
+    let last = sought_later i j n label old new c.in_ok-kept.kept.items s0 s5 s6 c.is_not_lower.ensures.looks there in
+    let written = c.as_slice.ensures.value
+    ∙ with_items_is c.in_ok-kept.kept c.recite.new.steps (c.recite.auto.steps ∙ c.as_mut_slice.ensures.len) in
+    let is = written ∙ c.recite.ensures ∙ ap (map (recited_step c.slot_count.result j n)) c.as_mut_slice.ensures.value
+    ∙ ap (λ m. map (recited_step m j n) c.in_ok-kept.kept.items) c.slot_count.ensures.value in
+    since_then (OfCommand s0 x) r6 c.put_steps.ensures.onward
+    (since_before (OfCommand s0 x) s0 s6 s7 last.looks (λ m st lib c. Touches m st lib x c) (λ st lib c it. inr (inr (inr (inr it))))
+    c.put_steps.ensures.onward
+    (replace_reads s0 s6 i j n label old new kept last s7 (subst (ReprovesReading s6 s7 i label) is (c.put_steps.ensures.reads label))))

@@ -16,6 +16,9 @@ use Rattle.commands.specs.Touches.{ReprovesWithin}
 use Rattle.commands.proofs.Touching.{resteps_within}
 use Rattle.commands.proofs.Removing.{CountsOutOf}
 use Rattle.commands.proofs.Restepping.{CountsInOf, restepped}
+use Rattle.cells.specs.Sight.{ReadsWithin}
+use Rattle.commands.proofs.Since.{ReadsSince, since_then}
+use Rattle.commands.proofs.ReproveReads.{OfResteps, resteps_end, resteps_proof, resteps_out, resteps_in}
 use Rattle.commands.proofs.reproving.put_steps.Goals as goal
 
 pub returns-in_err-map_err-clause-onward : goal.returns-in_err-map_err-clause-onward
@@ -103,3 +106,129 @@ returns-clause-keeps g c =
     c.in_ok-dropped.dropped.items c.in_ok-gained.gained.items c.stored_proof.ensures.looks c.put_body.ensures.onward
     c.count_out.ensures.onward c.count_in.ensures.onward c.in_ok-former.ensures.ok cited_before c.in_ok-now.ensures drops gains proven out
     (subst (λ (l : List ℕ). KeepsAside (IsCitersOf l) s3 s4) c.as_slice-8.ensures.value more))
+
+pub returns-in_err-former-clause-reads : goal.returns-in_err-former-clause-reads
+returns-in_err-former-clause-reads g c label =
+    let s0 = g.C.Cells.sight c.args.cells.now in
+    let s1 = g.C.Cells.sight c.stored_proof.new.cells in
+    let i = c.args.slot in
+    let kept = c.args.kept.now in
+    let r1 : ReadsSince (OfResteps s0 c.args.slot label c.args.kept.now) s0 s0 s1 = resteps_proof s0 i label kept s0 s1 c.stored_proof.ensures.reads in
+    resteps_end s0 i label kept s1 r1
+
+pub returns-in_err-before-clause-reads : goal.returns-in_err-before-clause-reads
+returns-in_err-before-clause-reads g c label =
+    let s0 = g.C.Cells.sight c.args.cells.now in
+    let s1 = g.C.Cells.sight c.stored_proof.new.cells in
+    let i = c.args.slot in
+    let kept = c.args.kept.now in
+    let r1 : ReadsSince (OfResteps s0 c.args.slot label c.args.kept.now) s0 s0 s1 = resteps_proof s0 i label kept s0 s1 c.stored_proof.ensures.reads in
+    resteps_end s0 i label kept s1 r1
+
+pub returns-in_err-now-clause-reads : goal.returns-in_err-now-clause-reads
+returns-in_err-now-clause-reads g c label =
+    let s0 = g.C.Cells.sight c.args.cells.now in
+    let s1 = g.C.Cells.sight c.stored_proof.new.cells in
+    let i = c.args.slot in
+    let kept = c.args.kept.now in
+    let r1 : ReadsSince (OfResteps s0 c.args.slot label c.args.kept.now) s0 s0 s1 = resteps_proof s0 i label kept s0 s1 c.stored_proof.ensures.reads in
+    resteps_end s0 i label kept s1 r1
+
+pub returns-in_err-dropped-clause-reads : goal.returns-in_err-dropped-clause-reads
+returns-in_err-dropped-clause-reads g c label =
+    let s0 = g.C.Cells.sight c.args.cells.now in
+    let s1 = g.C.Cells.sight c.stored_proof.new.cells in
+    let i = c.args.slot in
+    let kept = c.args.kept.now in
+    let r1 : ReadsSince (OfResteps s0 c.args.slot label c.args.kept.now) s0 s0 s1 = resteps_proof s0 i label kept s0 s1 c.stored_proof.ensures.reads in
+    resteps_end s0 i label kept s1 r1
+
+pub returns-in_err-gained-clause-reads : goal.returns-in_err-gained-clause-reads
+returns-in_err-gained-clause-reads g c label =
+    let s0 = g.C.Cells.sight c.args.cells.now in
+    let s1 = g.C.Cells.sight c.stored_proof.new.cells in
+    let i = c.args.slot in
+    let kept = c.args.kept.now in
+    let r1 : ReadsSince (OfResteps s0 c.args.slot label c.args.kept.now) s0 s0 s1 = resteps_proof s0 i label kept s0 s1 c.stored_proof.ensures.reads in
+    resteps_end s0 i label kept s1 r1
+
+pub returns-in_err-body-clause-reads : goal.returns-in_err-body-clause-reads
+returns-in_err-body-clause-reads g c label =
+    let s0 = g.C.Cells.sight c.args.cells.now in
+    let s1 = g.C.Cells.sight c.stored_proof.new.cells in
+    let i = c.args.slot in
+    let kept = c.args.kept.now in
+    let r1 : ReadsSince (OfResteps s0 c.args.slot label c.args.kept.now) s0 s0 s1 = resteps_proof s0 i label kept s0 s1 c.stored_proof.ensures.reads in
+    resteps_end s0 i label kept s1 r1
+
+pub returns-in_err-map_err-clause-reads : goal.returns-in_err-map_err-clause-reads
+returns-in_err-map_err-clause-reads g c label =
+    let s0 = g.C.Cells.sight c.args.cells.now in
+    let s1 = g.C.Cells.sight c.stored_proof.new.cells in
+    let i = c.args.slot in
+    let kept = c.args.kept.now in
+    let r1 : ReadsSince (OfResteps s0 c.args.slot label c.args.kept.now) s0 s0 s1 = resteps_proof s0 i label kept s0 s1 c.stored_proof.ensures.reads in
+    let s2 = g.C.Cells.sight c.put_body.new.cells in
+    let r2 : ReadsSince (OfResteps s0 c.args.slot label c.args.kept.now) s0 s0 s2 =
+    since_then (OfResteps s0 i label kept) r1 c.put_body.ensures.onward
+    (resteps_proof s0 i label kept s1 s2
+    (subst (λ (n : ℕ). ReadsWithin (λ k. k ≡ n) s1 s2) c.proof_cell.ensures c.put_body.ensures.reads)) in
+    resteps_end s0 i label kept s2 r2
+
+pub returns-in_err-map_err-2-clause-reads : goal.returns-in_err-map_err-2-clause-reads
+returns-in_err-map_err-2-clause-reads g c label =
+    let s0 = g.C.Cells.sight c.args.cells.now in
+    let s1 = g.C.Cells.sight c.stored_proof.new.cells in
+    let i = c.args.slot in
+    let kept = c.args.kept.now in
+    let r1 : ReadsSince (OfResteps s0 c.args.slot label c.args.kept.now) s0 s0 s1 = resteps_proof s0 i label kept s0 s1 c.stored_proof.ensures.reads in
+    let s2 = g.C.Cells.sight c.put_body.new.cells in
+    let r2 : ReadsSince (OfResteps s0 c.args.slot label c.args.kept.now) s0 s0 s2 =
+    since_then (OfResteps s0 i label kept) r1 c.put_body.ensures.onward
+    (resteps_proof s0 i label kept s1 s2
+    (subst (λ (n : ℕ). ReadsWithin (λ k. k ≡ n) s1 s2) c.proof_cell.ensures c.put_body.ensures.reads)) in
+    let s3 = g.C.Cells.sight c.count_out.new.cells in
+    let former = c.in_ok-former.former.items in
+    let before = c.in_ok-before.before.items in
+    let now = c.in_ok-now.now.items in
+    let cited_before = subst (λ (steps : List StoredStep). AreCitedSlots steps c.in_ok-before.before.items) c.as_slice.ensures.value
+    c.in_ok-before.ensures in
+    let drops = only_there _ _ _ _ _ c.as_slice-2.ensures.value c.as_slice-3.ensures.value c.in_ok-dropped.ensures in
+    let out = subst (λ (l : List ℕ). ReadsWithin (IsCitersOf l) s2 s3) c.as_slice-7.ensures.value c.count_out.ensures.reads in
+    let r3 : ReadsSince (OfResteps s0 c.args.slot label c.args.kept.now) s0 s0 s3 =
+    since_then (OfResteps s0 i label kept) r2 c.count_out.ensures.onward
+    (resteps_out s0 i label kept s1 s2 s3 former before now c.stored_proof.ensures.looks c.put_body.ensures.onward c.count_out.ensures.onward
+    c.in_ok-former.ensures.ok cited_before c.in_ok-now.ensures c.in_ok-dropped.dropped.items drops out) in
+    resteps_end s0 i label kept s3 r3
+
+pub returns-clause-reads : goal.returns-clause-reads
+returns-clause-reads g c label =
+    let s0 = g.C.Cells.sight c.args.cells.now in
+    let s1 = g.C.Cells.sight c.stored_proof.new.cells in
+    let i = c.args.slot in
+    let kept = c.args.kept.now in
+    let r1 : ReadsSince (OfResteps s0 c.args.slot label c.args.kept.now) s0 s0 s1 = resteps_proof s0 i label kept s0 s1 c.stored_proof.ensures.reads in
+    let s2 = g.C.Cells.sight c.put_body.new.cells in
+    let r2 : ReadsSince (OfResteps s0 c.args.slot label c.args.kept.now) s0 s0 s2 =
+    since_then (OfResteps s0 i label kept) r1 c.put_body.ensures.onward
+    (resteps_proof s0 i label kept s1 s2
+    (subst (λ (n : ℕ). ReadsWithin (λ k. k ≡ n) s1 s2) c.proof_cell.ensures c.put_body.ensures.reads)) in
+    let s3 = g.C.Cells.sight c.count_out.new.cells in
+    let former = c.in_ok-former.former.items in
+    let before = c.in_ok-before.before.items in
+    let now = c.in_ok-now.now.items in
+    let cited_before = subst (λ (steps : List StoredStep). AreCitedSlots steps c.in_ok-before.before.items) c.as_slice.ensures.value
+    c.in_ok-before.ensures in
+    let drops = only_there _ _ _ _ _ c.as_slice-2.ensures.value c.as_slice-3.ensures.value c.in_ok-dropped.ensures in
+    let out = subst (λ (l : List ℕ). ReadsWithin (IsCitersOf l) s2 s3) c.as_slice-7.ensures.value c.count_out.ensures.reads in
+    let r3 : ReadsSince (OfResteps s0 c.args.slot label c.args.kept.now) s0 s0 s3 =
+    since_then (OfResteps s0 i label kept) r2 c.count_out.ensures.onward
+    (resteps_out s0 i label kept s1 s2 s3 former before now c.stored_proof.ensures.looks c.put_body.ensures.onward c.count_out.ensures.onward
+    c.in_ok-former.ensures.ok cited_before c.in_ok-now.ensures c.in_ok-dropped.dropped.items drops out) in
+    let s4 = g.C.Cells.sight c.count_in.new.cells in
+    let gains = only_there _ _ _ _ _ c.as_slice-4.ensures.value c.as_slice-5.ensures.value c.in_ok-gained.ensures in
+    let more = subst (λ (l : List ℕ). ReadsWithin (IsCitersOf l) s3 s4) c.as_slice-8.ensures.value c.count_in.ensures.reads in
+    resteps_end s0 i label kept s4 (since_then (OfResteps s0 i label kept) r3 c.count_in.ensures.onward
+    (resteps_in s0 i label kept s1 s3 s4 former before now c.stored_proof.ensures.looks
+    (onward_trans _ _ _ c.put_body.ensures.onward c.count_out.ensures.onward) c.count_in.ensures.onward
+    c.in_ok-former.ensures.ok cited_before c.in_ok-now.ensures c.in_ok-gained.gained.items gains more))

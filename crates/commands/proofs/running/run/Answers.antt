@@ -15,6 +15,8 @@ use Rattle.commands.proofs.Transactions.{takes_none, takes_more, does_none, does
 use Rattle.commands.proofs.Taking.{few_of_all}
 use Rattle.commands.specs.Touches.{KeepsToAll}
 use Rattle.commands.proofs.TouchingAll.{keeps_none, keeps_more}
+use Rattle.commands.specs.Footprints.{ReadsForAll}
+use Rattle.commands.proofs.Reading.{reads_none, reads_more}
 use Rattle.commands.proofs.running.run.Goals as goal
 
 pub loop-done-init : goal.loop-done-init
@@ -25,6 +27,7 @@ loop-done-init g c =
       taken = takes_none s;
       does = subst (DoesAll s s []) (sym c.new-replies.ensures.items) (does_none s);
       keeps = keeps_none s;
+      reads = reads_none s;
     }
 
 pub returns-in_err-push-in-Ok-clause-onward : goal.returns-in_err-push-in-Ok-clause-onward
@@ -85,6 +88,8 @@ loop-done-preserved g c =
       taken = subst (λ l. ForEachBefore s u (λ st lib. TakesAtMost (most_words_of l) s u)) front taken;
       keeps = subst (λ l. KeepsToAll s u l) front (keeps_more s t u (take k cs) replies c.loop-done.invariant.does c.take.ensures.onward x
           c.loop-done.invariant.keeps c.in-Ok.ensures.keeps);
+      reads = subst (λ l. ReadsForAll s u l) front (reads_more s t u (take k cs) replies c.loop-done.invariant.does c.take.ensures.onward x []
+          c.loop-done.invariant.reads c.take.ensures.reads);
       does = subst (λ l. DoesAll s u l c.push.new.self.items) front (subst (DoesAll s u (take k cs ++ x ∷ [])) (sym push) does);
     }
 
@@ -129,3 +134,27 @@ returns-clause-taken g c st lib m v =
     let few = sum_by-take-le (command_words (λ label. 16384)) c.args.commands.now c.loop-done.done in
     let taken = c.loop-done.invariant.taken st lib m v in
     omega (arith, taken, few)
+
+pub returns-in_err-push-in-Ok-clause-reads : goal.returns-in_err-push-in-Ok-clause-reads
+returns-in_err-push-in-Ok-clause-reads g c =
+    let s = g.C.Cells.sight c.args.cells.now in
+    let t = g.C.Cells.sight c.loop-done.cells in
+    let u = g.C.Cells.sight c.take.new.cells in
+    let cs = c.args.commands.now in
+    let k = c.loop-done.done in
+    let x = c.index-commands-done.result in
+    subst (λ l. ReadsForAll s u l) (parted cs k x c.loop-done-test.true c.index-commands-done.is)
+    (reads_more s t u (take k cs) c.loop-done.replies.items c.loop-done.invariant.does c.take.ensures.onward x (drop (k + 1) cs)
+    c.loop-done.invariant.reads c.take.ensures.reads)
+
+pub returns-in-Err-clause-reads : goal.returns-in-Err-clause-reads
+returns-in-Err-clause-reads g c =
+    let s = g.C.Cells.sight c.args.cells.now in
+    let t = g.C.Cells.sight c.loop-done.cells in
+    let u = g.C.Cells.sight c.take.new.cells in
+    let cs = c.args.commands.now in
+    let k = c.loop-done.done in
+    let x = c.index-commands-done.result in
+    subst (λ l. ReadsForAll s u l) (parted cs k x c.loop-done-test.true c.index-commands-done.is)
+    (reads_more s t u (take k cs) c.loop-done.replies.items c.loop-done.invariant.does c.take.ensures.onward x (drop (k + 1) cs)
+    c.loop-done.invariant.reads c.take.ensures.reads)

@@ -3,6 +3,7 @@ use Rattle.std.specs.Prelude.{IfOk}
 use Rattle.commands.specs.Takes.{TakesBodies}
 use Rattle.library.specs.declared.command.Command.{Command}
 use Rattle.commands.specs.Touches.{KeepsTo}
+use Rattle.commands.specs.Footprints.{ReadsFor}
 use Rattle.commands.proofs.running.take.Goals as goal
 
 pub returns-in-Add-clause-taken : goal.returns-in-Add-clause-taken
@@ -72,3 +73,51 @@ returns-in-Delete-clause-keeps g c =
     let old = g.C.Cells.sight c.args.cells.now in
     let new = g.C.Cells.sight c.delete.new.cells in
     subst (λ (x : Command). IfOk c.delete.result (λ _. KeepsTo old new x)) (sym c.in-Delete.is) c.delete.ensures.keeps
+
+pub returns-in-Add-clause-reads : goal.returns-in-Add-clause-reads
+returns-in-Add-clause-reads g c =
+    let old = g.C.Cells.sight c.args.cells.now in
+    let new = g.C.Cells.sight c.add.new.cells in
+    subst (λ (x : Command). ReadsFor old new x) (sym c.in-Add.is) c.add.ensures.reads
+
+pub returns-in-Reprove-clause-reads : goal.returns-in-Reprove-clause-reads
+returns-in-Reprove-clause-reads g c =
+    let old = g.C.Cells.sight c.args.cells.now in
+    let new = g.C.Cells.sight c.reprove.new.cells in
+    subst (λ (x : Command). ReadsFor old new x) (sym c.in-Reprove.is) c.reprove.ensures.reads
+
+pub returns-in-Replace-clause-reads : goal.returns-in-Replace-clause-reads
+returns-in-Replace-clause-reads g c =
+    let old = g.C.Cells.sight c.args.cells.now in
+    let new = g.C.Cells.sight c.replace.new.cells in
+    subst (λ (x : Command). ReadsFor old new x) (sym c.in-Replace.is) c.replace.ensures.reads
+
+pub returns-in-Rename-clause-reads : goal.returns-in-Rename-clause-reads
+returns-in-Rename-clause-reads g c =
+    let old = g.C.Cells.sight c.args.cells.now in
+    let new = g.C.Cells.sight c.rename.new.cells in
+    subst (λ (x : Command). ReadsFor old new x) (sym c.in-Rename.is) c.rename.ensures.reads
+
+pub returns-in-Move-clause-reads : goal.returns-in-Move-clause-reads
+returns-in-Move-clause-reads g c =
+    let old = g.C.Cells.sight c.args.cells.now in
+    let new = g.C.Cells.sight c.move_to.new.cells in
+    subst (λ (x : Command). ReadsFor old new x) (sym c.in-Move.is) c.move_to.ensures.reads
+
+pub returns-in-Delete-clause-reads : goal.returns-in-Delete-clause-reads
+returns-in-Delete-clause-reads g c =
+    let old = g.C.Cells.sight c.args.cells.now in
+    let new = g.C.Cells.sight c.delete.new.cells in
+    subst (λ (x : Command). ReadsFor old new x) (sym c.in-Delete.is) c.delete.ensures.reads
+
+pub returns-in-Show-clause-reads : goal.returns-in-Show-clause-reads
+returns-in-Show-clause-reads g c =
+    let old = g.C.Cells.sight c.args.cells.now in
+    let new = g.C.Cells.sight c.show.new.cells in
+    subst (λ (x : Command). ReadsFor old new x) (sym c.in-Show.is) c.show.ensures.reads
+
+pub returns-in-List-clause-reads : goal.returns-in-List-clause-reads
+returns-in-List-clause-reads g c =
+    let old = g.C.Cells.sight c.args.cells.now in
+    let new = g.C.Cells.sight c.list.new.cells in
+    subst (λ (x : Command). ReadsFor old new x) (sym c.in-List.is) c.list.ensures.reads

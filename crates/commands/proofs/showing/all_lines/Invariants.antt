@@ -1,6 +1,8 @@
 use Rattle.library.specs.Edits.{line}
 use Rattle.cells.specs.Sight.{Looks}
 use Rattle.cells.specs.Lookups.{ForEach}
+use Rattle.library.specs.declared.command.Command.TheVariants as command
+use Rattle.commands.specs.Footprints.{ReadsFor}
 use Rattle.commands.proofs.Below.{AreToldBelow}
 use Rattle.commands.proofs.showing.all_lines.Given as goal
 
@@ -9,4 +11,5 @@ invariant-loop-slot g l =
     record {
       looks : Looks (g.C.Cells.sight l.fn.cells) (g.C.Cells.sight l.cells);
       lines : ForEach (g.C.Cells.sight l.cells) (AreToldBelow line (g.C.Cells.sight l.fn.cells).setting.slots l.slot l.lines.items);
+      reads : ReadsFor (g.C.Cells.sight l.fn.cells) (g.C.Cells.sight l.cells) command.List;
     }

@@ -1,4 +1,4 @@
-use Rattle.std.proofs.Common.{◌≡◌, ℕ}
+use Rattle.std.proofs.Common.{◌≡◌, ◌⊎◌, ℕ, refl, inl, inr}
 use Rattle.mmsyntax.specs.declared.statement.Kind.{Kind}
 use Rattle.library.specs.Library.{label_of}
 use Rattle.library.specs.Edits.{citers}
@@ -6,6 +6,10 @@ use Rattle.cells.specs.Lookups.{ForEachHeld}
 use Rattle.cells.proofs.Laying.{ok_mapped}
 use Rattle.cells.proofs.ReadBack.{held_later}
 use Rattle.cells.proofs.Sights.{looks_trans}
+use Rattle.cells.specs.Slots.{name_cell}
+use Rattle.cells.specs.Sight.{ReadsWithin}
+use Rattle.cells.proofs.Asking.{asks_cell, asks_trans}
+use Rattle.commands.specs.Footprints.{IsOfLine}
 use Rattle.commands.proofs.showing.line.Goals as goal
 
 pub returns-in_err-label-clause-looks : goal.returns-in_err-label-clause-looks
@@ -47,3 +51,51 @@ returns-clause-ok g c = λ st lib v e at h.
     ok_mapped _ _ _ _ _ c.in_ok-map_err-3.was c.map_err-3.ensures.cases c.citers.ensures.ok in
     let n : c.in_ok-map_err-3.field-0 ≡ citers lib (label_of e) = told st lib v e at h in
     λ j. record { rank = r j; label = l j; kind = k j; citers = n j }
+
+pub returns-in_err-map_err-clause-reads : goal.returns-in_err-map_err-clause-reads
+returns-in_err-map_err-clause-reads g c =
+    let r1 : ReadsWithin (λ k. (k ≡ name_cell c.args.slot) ⊎ IsOfLine c.args.slot k) (g.C.Cells.sight c.args.cells.now) (g.C.Cells.sight c.rank.new.cells) =
+    asks_cell (inr (inr (inl refl))) c.rank.ensures.reads in
+    r1
+
+pub returns-in_err-label-clause-reads : goal.returns-in_err-label-clause-reads
+returns-in_err-label-clause-reads g c =
+    let r1 : ReadsWithin (λ k. (k ≡ name_cell c.args.slot) ⊎ IsOfLine c.args.slot k) (g.C.Cells.sight c.args.cells.now) (g.C.Cells.sight c.rank.new.cells) =
+    asks_cell (inr (inr (inl refl))) c.rank.ensures.reads in
+    let r2 : ReadsWithin (λ k. (k ≡ name_cell c.args.slot) ⊎ IsOfLine c.args.slot k) (g.C.Cells.sight c.rank.new.cells) (g.C.Cells.sight c.label.new.cells) =
+    asks_cell (inl refl) c.label.ensures.reads in
+    asks_trans r1 r2
+
+pub returns-in_err-map_err-2-clause-reads : goal.returns-in_err-map_err-2-clause-reads
+returns-in_err-map_err-2-clause-reads g c =
+    let r1 : ReadsWithin (λ k. (k ≡ name_cell c.args.slot) ⊎ IsOfLine c.args.slot k) (g.C.Cells.sight c.args.cells.now) (g.C.Cells.sight c.rank.new.cells) =
+    asks_cell (inr (inr (inl refl))) c.rank.ensures.reads in
+    let r2 : ReadsWithin (λ k. (k ≡ name_cell c.args.slot) ⊎ IsOfLine c.args.slot k) (g.C.Cells.sight c.rank.new.cells) (g.C.Cells.sight c.label.new.cells) =
+    asks_cell (inl refl) c.label.ensures.reads in
+    let r3 : ReadsWithin (λ k. (k ≡ name_cell c.args.slot) ⊎ IsOfLine c.args.slot k) (g.C.Cells.sight c.label.new.cells) (g.C.Cells.sight c.kind.new.cells) =
+    asks_cell (inr (inl refl)) c.kind.ensures.reads in
+    asks_trans r1 (asks_trans r2 r3)
+
+pub returns-in_err-map_err-3-clause-reads : goal.returns-in_err-map_err-3-clause-reads
+returns-in_err-map_err-3-clause-reads g c =
+    let r1 : ReadsWithin (λ k. (k ≡ name_cell c.args.slot) ⊎ IsOfLine c.args.slot k) (g.C.Cells.sight c.args.cells.now) (g.C.Cells.sight c.rank.new.cells) =
+    asks_cell (inr (inr (inl refl))) c.rank.ensures.reads in
+    let r2 : ReadsWithin (λ k. (k ≡ name_cell c.args.slot) ⊎ IsOfLine c.args.slot k) (g.C.Cells.sight c.rank.new.cells) (g.C.Cells.sight c.label.new.cells) =
+    asks_cell (inl refl) c.label.ensures.reads in
+    let r3 : ReadsWithin (λ k. (k ≡ name_cell c.args.slot) ⊎ IsOfLine c.args.slot k) (g.C.Cells.sight c.label.new.cells) (g.C.Cells.sight c.kind.new.cells) =
+    asks_cell (inr (inl refl)) c.kind.ensures.reads in
+    let r4 : ReadsWithin (λ k. (k ≡ name_cell c.args.slot) ⊎ IsOfLine c.args.slot k) (g.C.Cells.sight c.kind.new.cells) (g.C.Cells.sight c.citers.new.cells) =
+    asks_cell (inr (inr (inr refl))) c.citers.ensures.reads in
+    asks_trans r1 (asks_trans r2 (asks_trans r3 r4))
+
+pub returns-clause-reads : goal.returns-clause-reads
+returns-clause-reads g c =
+    let r1 : ReadsWithin (λ k. (k ≡ name_cell c.args.slot) ⊎ IsOfLine c.args.slot k) (g.C.Cells.sight c.args.cells.now) (g.C.Cells.sight c.rank.new.cells) =
+    asks_cell (inr (inr (inl refl))) c.rank.ensures.reads in
+    let r2 : ReadsWithin (λ k. (k ≡ name_cell c.args.slot) ⊎ IsOfLine c.args.slot k) (g.C.Cells.sight c.rank.new.cells) (g.C.Cells.sight c.label.new.cells) =
+    asks_cell (inl refl) c.label.ensures.reads in
+    let r3 : ReadsWithin (λ k. (k ≡ name_cell c.args.slot) ⊎ IsOfLine c.args.slot k) (g.C.Cells.sight c.label.new.cells) (g.C.Cells.sight c.kind.new.cells) =
+    asks_cell (inr (inl refl)) c.kind.ensures.reads in
+    let r4 : ReadsWithin (λ k. (k ≡ name_cell c.args.slot) ⊎ IsOfLine c.args.slot k) (g.C.Cells.sight c.kind.new.cells) (g.C.Cells.sight c.citers.new.cells) =
+    asks_cell (inr (inr (inr refl))) c.citers.ensures.reads in
+    asks_trans r1 (asks_trans r2 (asks_trans r3 r4))

@@ -1,4 +1,4 @@
-use Rattle.std.proofs.Common.{◌≡◌, Some, Ok, refl, sym, subst, ◌∙◌}
+use Rattle.std.proofs.Common.{◌≡◌, ℕ, List, Some, Ok, refl, sym, subst, ◌∙◌, inl}
 use Rattle.library.specs.declared.command.Command.TheVariants.{Show}
 use Rattle.library.specs.declared.command.Reply.TheVariants.{Shown}
 use Rattle.library.specs.declared.reason.Reason.TheVariants.{UnknownLabel}
@@ -11,6 +11,10 @@ use Rattle.cells.proofs.ReadBack.{held_later}
 use Rattle.cells.proofs.Sights.{looks_trans}
 use Rattle.commands.proofs.OnlyLooks.{finds_later, does_reading}
 use Rattle.commands.proofs.Refusing.{of_none, of_some, refused, answers_refused}
+use Rattle.cells.specs.Footprints.{ReadsWhere, IsOfLook}
+use Rattle.commands.specs.Footprints.{ReadsFor}
+use Rattle.commands.proofs.Since.{first_look}
+use Rattle.commands.proofs.ShowReads.{show_entry, show_citers}
 use Rattle.commands.proofs.showing.show.Goals as goal
 
 pub returns-in_default-clause-answers : goal.returns-in_default-clause-answers
@@ -59,3 +63,78 @@ returns-clause-answers g c =
     held_later s2 s3 i (λ x l f. c.in_ok-shown.shown ≡ f) c.citers.ensures.looks c.in_ok-shown.ensures.ok st lib v e has at.holds in
     of_some lib label (λ f. Ok (shown lib f)) e at.found
     ∙ (λ j. Ok (record { library = lib; reply = Shown (sym n j) (sym r j) })))
+
+pub returns-in_err-slot-clause-reads : goal.returns-in_err-slot-clause-reads
+returns-in_err-slot-clause-reads g c =
+    let old = g.C.Cells.sight c.args.cells.now in
+    let s1 = g.C.Cells.sight c.find.new.cells in
+    let label = c.args.label.now in
+    let r1 : ReadsFor old s1 (Show c.args.label.now) =
+    first_look old s1 (Show label) label (λ st lib k is. inl is)
+    (subst (λ (l : List ℕ). ReadsWhere (IsOfLook old.setting.slots l) old s1) c.as_slice.ensures c.find.ensures.reads) in
+    r1
+
+pub returns-in_default-clause-reads : goal.returns-in_default-clause-reads
+returns-in_default-clause-reads g c =
+    let old = g.C.Cells.sight c.args.cells.now in
+    let s1 = g.C.Cells.sight c.find.new.cells in
+    let label = c.args.label.now in
+    let r1 : ReadsFor old s1 (Show c.args.label.now) =
+    first_look old s1 (Show label) label (λ st lib k is. inl is)
+    (subst (λ (l : List ℕ). ReadsWhere (IsOfLook old.setting.slots l) old s1) c.as_slice.ensures c.find.ensures.reads) in
+    r1
+
+pub returns-in_err-shown-clause-reads : goal.returns-in_err-shown-clause-reads
+returns-in_err-shown-clause-reads g c =
+    let old = g.C.Cells.sight c.args.cells.now in
+    let s1 = g.C.Cells.sight c.find.new.cells in
+    let label = c.args.label.now in
+    let r1 : ReadsFor old s1 (Show c.args.label.now) =
+    first_look old s1 (Show label) label (λ st lib k is. inl is)
+    (subst (λ (l : List ℕ). ReadsWhere (IsOfLook old.setting.slots l) old s1) c.as_slice.ensures c.find.ensures.reads) in
+    let s2 = g.C.Cells.sight c.entry.new.cells in
+    let i = c.in-Some.slot in
+    let finds = ok_mapped _ _ _ _ _ c.in_ok-slot.was c.map_err.ensures.cases c.find.ensures.ok in
+    let some : Finds s1 c.args.label.now (Some c.in-Some.slot) =
+    subst (Finds s1 c.args.label.now) c.in-Some.is (subst (λ l. Finds s1 l c.in_ok-slot.field-0) c.as_slice.ensures finds) in
+    let r2 : ReadsFor old s2 (Show c.args.label.now) =
+    show_entry old s1 s2 label i c.find.ensures.looks some r1 c.entry.ensures.looks c.entry.ensures.reads in
+    r2
+
+pub returns-in_err-citers-clause-reads : goal.returns-in_err-citers-clause-reads
+returns-in_err-citers-clause-reads g c =
+    let old = g.C.Cells.sight c.args.cells.now in
+    let s1 = g.C.Cells.sight c.find.new.cells in
+    let label = c.args.label.now in
+    let r1 : ReadsFor old s1 (Show c.args.label.now) =
+    first_look old s1 (Show label) label (λ st lib k is. inl is)
+    (subst (λ (l : List ℕ). ReadsWhere (IsOfLook old.setting.slots l) old s1) c.as_slice.ensures c.find.ensures.reads) in
+    let s2 = g.C.Cells.sight c.entry.new.cells in
+    let i = c.in-Some.slot in
+    let finds = ok_mapped _ _ _ _ _ c.in_ok-slot.was c.map_err.ensures.cases c.find.ensures.ok in
+    let some : Finds s1 c.args.label.now (Some c.in-Some.slot) =
+    subst (Finds s1 c.args.label.now) c.in-Some.is (subst (λ l. Finds s1 l c.in_ok-slot.field-0) c.as_slice.ensures finds) in
+    let r2 : ReadsFor old s2 (Show c.args.label.now) =
+    show_entry old s1 s2 label i c.find.ensures.looks some r1 c.entry.ensures.looks c.entry.ensures.reads in
+    let s3 = g.C.Cells.sight c.citers.new.cells in
+    show_citers old s2 s3 label i (looks_trans _ _ _ c.find.ensures.looks c.entry.ensures.looks)
+    (finds_later s1 s2 label i c.entry.ensures.looks some) r2 c.citers.ensures.looks c.citers.ensures.reads
+
+pub returns-clause-reads : goal.returns-clause-reads
+returns-clause-reads g c =
+    let old = g.C.Cells.sight c.args.cells.now in
+    let s1 = g.C.Cells.sight c.find.new.cells in
+    let label = c.args.label.now in
+    let r1 : ReadsFor old s1 (Show c.args.label.now) =
+    first_look old s1 (Show label) label (λ st lib k is. inl is)
+    (subst (λ (l : List ℕ). ReadsWhere (IsOfLook old.setting.slots l) old s1) c.as_slice.ensures c.find.ensures.reads) in
+    let s2 = g.C.Cells.sight c.entry.new.cells in
+    let i = c.in-Some.slot in
+    let finds = ok_mapped _ _ _ _ _ c.in_ok-slot.was c.map_err.ensures.cases c.find.ensures.ok in
+    let some : Finds s1 c.args.label.now (Some c.in-Some.slot) =
+    subst (Finds s1 c.args.label.now) c.in-Some.is (subst (λ l. Finds s1 l c.in_ok-slot.field-0) c.as_slice.ensures finds) in
+    let r2 : ReadsFor old s2 (Show c.args.label.now) =
+    show_entry old s1 s2 label i c.find.ensures.looks some r1 c.entry.ensures.looks c.entry.ensures.reads in
+    let s3 = g.C.Cells.sight c.citers.new.cells in
+    show_citers old s2 s3 label i (looks_trans _ _ _ c.find.ensures.looks c.entry.ensures.looks)
+    (finds_later s1 s2 label i c.entry.ensures.looks some) r2 c.citers.ensures.looks c.citers.ensures.reads
