@@ -22,7 +22,7 @@ false_true e = cc
 abbrev pub place_in : List Word → Hypothesis → Option ℕ
 place_in floats h = place_of (bytes_eq (label_of h)) floats
 
-still_some : {A B : Type 0} (f : A → B) (o : Option A) → is_some (option_map f o) ≡ is_some o
+pub still_some : {A B : Type 0} (f : A → B) (o : Option A) → is_some (option_map f o) ≡ is_some o
 still_some f None = refl
 still_some f (Some x) = refl
 

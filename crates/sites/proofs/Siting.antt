@@ -6,9 +6,10 @@ use Rattle.std.specs.Option.{option_map, option_and_then, is_some}
 use Rattle.std.specs.List.{list_any, flat_map, slice_get, AllByRecursion, cons_option}
 use Rattle.std.specs.Str.{bytes_eq}
 use Rattle.std.proofs.lemmas.Bool.{cases_Bool, cond-true, cond-false}
-use Rattle.std.proofs.lemmas.List.Folds.{list_any-append, list_any_at}
+use Rattle.std.proofs.lemmas.List.{get_or_default}
+use Rattle.std.proofs.lemmas.List.Folds.{list_any-append, list_any_at, Any-from_list_any}
 use Rattle.std.proofs.lemmas.List.Elements.{recursion_from_All, All-from_recursion}
-use Rattle.std.proofs.Math.Bool.{or-true}
+use Rattle.std.proofs.Math.Bool.{or-false}
 use Rattle.mmtext.specs.Words.{Word}
 use Rattle.mmsyntax.specs.Tables.{place_of}
 use Rattle.mmsyntax.proofs.Names.{bytes_eq-same, bytes_eq-sym, same_bytes}
@@ -22,23 +23,10 @@ use Rattle.std.specs.Borrow.{Bor}
 use Rattle.sites.specs.Indexes.{looks_up}
 use Rattle.sites.specs.declared.used.Used.{Used}
 use Rattle.sites.specs.Used.{noted, is_noted, typed_by, typed, type_at, variable_at}
+use Rattle.sites.proofs.Actives.{still_some}
 use Rattle.sites.proofs.Keeping.{kept_all}
 
 -- ---- tests of lists
-
--- an item that passes
-pub some_at : {A : Type 0} (test : A → Bool) (xs : List A) → list_any test xs ≡ true
-    → (k : ℕ) × (x : A) × (k < length xs) × (get_or xs k x ≡ x) × (test x ≡ true)
-some_at test [] h = absurd cc
-some_at {A} test (z ∷ zs) h =
-    elim (cases_Bool (test z)) [
-      | inl y ↦ (0, z, omega arith, refl, y)
-      | inr n ↦
-          let later : list_any test zs ≡ true = ap (λ b. b || list_any test zs) (sym n) ∙ h in
-          let r = some_at test zs later in
-          let lt : r.0 < length zs = r.2 in
-          (suc r.0, r.1, omega arith, r.3, r.4)
-    ]
 
 or_tail : (a b : Bool) → b ≡ true → (a || b) ≡ true
 or_tail true b h = refl
@@ -145,10 +133,6 @@ or_left : (a b : Bool) → b ≡ false → (a || b) ≡ true → a ≡ true
 or_left true b n h = refl
 or_left false b n h = absurd cc
 
-or_false : (a : Bool) → (a || false) ≡ a
-or_false true = refl
-or_false false = refl
-
 some_cond : {A : Type 0} (b : Bool) (x : A) (o : Option A) (t : Bool) → (is_some (cond b (Some x) o) || t) ≡ (is_some o || (b || t))
 some_cond true x None t = refl
 some_cond true x (Some y) t = refl
@@ -182,7 +166,7 @@ typed_only w c v o (k ∷ hs) all h =
 -- whether something is noted
 pub is_some-typed : (w : Word) (o : Option (Word × Word)) (hs : List Hypothesis)
     → is_some (typed w o hs) ≡ (is_some o || list_any (is_float_labelled w) hs)
-is_some-typed w o [] = sym (or_false (is_some o))
+is_some-typed w o [] = sym (or-false (is_some o))
 is_some-typed w o (typing label c v ∷ hs) =
     is_some-typed w (cond (bytes_eq w label) (Some (c, v)) o) hs
     ∙ some_cond (bytes_eq w label) (c, v) o (list_any (is_float_labelled w) hs)
@@ -296,12 +280,6 @@ module _ (s : Scope) (whole : IsWhole s) (fs : List Bool) (k : ℕ) (x : Asserti
 
 -- ---- sites
 
--- any default serves within
-get_or_any : {A : Type 0} (xs : List A) (k : ℕ) (d : A) → k < length xs → get_or xs k (get_or xs k d) ≡ get_or xs k d
-get_or_any [] k d h = absurd (omega arith)
-get_or_any (x ∷ xs) zero d h = refl
-get_or_any (x ∷ xs) (suc k) d h = get_or_any xs k d (omega arith)
-
 -- what was gathered, with what is noted for each label
 pub record AreGathered (s : Scope) (taken : List Assertion) (look : Word → Option (Word × Word)) (t : Sited) : Type 0 where
   pub look_is : (w : Word) → look w ≡ typed w None (hypotheses_of taken)
@@ -337,8 +315,8 @@ module _ (s : Scope) (whole : IsWhole s) (fs : List Bool) (look : Word → Optio
       let taken = kept fs s.assertions in
       let passes : list_any (has_float_labelled w) taken ≡ true =
       passes_kept (λ w. list_any (has_float_labelled w) taken) w s.labels (ap (λ ws. is_in ws w) (sym g.floats_are) ∙ in') in
-      let at = some_at (has_float_labelled w) taken passes in
-      let one = some_at (is_float_labelled w) at.1.active at.4 in
+      let at = Any-from_list_any (has_float_labelled w) taken passes in
+      let one = Any-from_list_any (is_float_labelled w) at.1.active at.4 in
       let is = float_is w one.1 one.4 in
       (is.0, is.1, active_float s whole fs at.0 at.1 at.2 at.3 one.0 one.1 one.2 one.3 w is.0 is.1 is.2)
 
@@ -378,22 +356,19 @@ module _ (s : Scope) (whole : IsWhole s) (fs : List Bool) (look : Word → Optio
     sited = λ k d lt. λ j e among.
         sited_by t (get_or (get_or (kept fs s.assertions) k d).active j e) (λ label c v is.
         sited_float label c v
-        (active_float s whole fs k (get_or (kept fs s.assertions) k d) lt (get_or_any (kept fs s.assertions) k d lt) j
-        (get_or (get_or (kept fs s.assertions) k d).active j e) among (get_or_any (get_or (kept fs s.assertions) k d).active j e among)
+        (active_float s whole fs k (get_or (kept fs s.assertions) k d) lt (get_or_default (kept fs s.assertions) k (get_or (kept fs s.assertions) k d) d lt) j
+        (get_or (get_or (kept fs s.assertions) k d).active j e) among (get_or_default (get_or (kept fs s.assertions) k d).active j
+        (get_or (get_or (kept fs s.assertions) k d).active j e) e among)
         label c v is));
   }
 
 -- ---- what is noted, and what is used
 
-noted_some : {A B : Type 0} (f : A → B) (o : Option A) → is_some (option_map f o) ≡ is_some o
-noted_some f None = refl
-noted_some f (Some x) = refl
-
 -- a label is noted where it is that of an active $f
 pub floats_noted : (used : Used) (taken : List Assertion) → ((w : Word) → noted used w ≡ typed w None (hypotheses_of taken))
     → (w : Word) → is_noted used w ≡ list_any (has_float_labelled w) taken
 floats_noted used taken are w =
-    sym (noted_some (λ (p : Bor (List ℕ) × Bor (List ℕ)). (p.0.now, p.1.now)) (looks_up used.floats w))
+    sym (still_some (λ (p : Bor (List ℕ) × Bor (List ℕ)). (p.0.now, p.1.now)) (looks_up used.floats w))
     ∙ ap is_some (are w)
     ∙ is_some-typed w None (hypotheses_of taken)
     ∙ any_flat (is_float_labelled w) (λ x. x.active) taken

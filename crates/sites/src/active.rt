@@ -63,6 +63,13 @@ impl<'s, 'a> Active<'s, 'a> {
         })
     }
 
+    /// The active hypotheses.
+    pub fn hypotheses(&self) -> &[HypothesisWords<'a>]
+        ensures { seen_hypotheses result.now ≡ self.now.active }
+    {
+        self.hypotheses
+    }
+
     /// The place of the active `$f` of a variable, if it has one: one look-up.
     pub fn variable(&self, word: &[u8]) -> Option<u32>
         ensures { result ≡ float_at self.now word.now }

@@ -1,0 +1,67 @@
+-- What is left to show of `name_all`.
+use Rattle.std.proofs.Common.{◌≡◌, ◌∙◌, List, [], ℕ, Bool, true, false, length, refl, sym, ap}
+use Rattle.std.specs.Prelude.{◌&&◌}
+use mathlib.Core.Bool.{not}
+use Rattle.std.specs.Borrow.{Bor}
+use Rattle.std.proofs.lemmas.List.{length-map}
+use Rattle.mmtext.specs.Words.{Word, has_dot, has_hypothesis_form}
+use Rattle.mmsyntax.specs.Dotted.{is_dotted}
+use Rattle.source.specs.Scopes.{Scope}
+use Rattle.source.specs.Views.{seen_words}
+use Rattle.taking.specs.Names.{is_fresh}
+use Rattle.naming.specs.Changes.{has, has_given}
+use Rattle.naming.proofs.Flags.{free_parts, given_named, given_variables, length-variables_changing}
+use Rattle.naming.proofs.Apart.{changing, given_apart}
+use Rattle.naming.proofs.names.name_all.Goals as goal
+
+no_trunk : (t d : Bool) → t ≡ false → (d ≡ true → t ≡ true) → d ≡ false
+no_trunk t false none there = refl
+no_trunk t true none there = let yes : t ≡ true = there refl in absurd cc
+
+pub named-requires-2 : goal.named-requires-2
+named-requires-2 g c =
+    ap length c.in_ok-changes-2.ensures
+    ∙ length-variables_changing [] (seen_words c.args.variables.now)
+    ∙ length-map c.args.variables.now (λ (w : Bor (List ℕ)). w.now)
+
+pub returns-clause-names : goal.returns-clause-names
+returns-clause-names g c =
+    let s : Scope = g.D.Declared.scope c.args.declared.now in
+    let f = c.in_ok-names.names in
+    let free : Word → Bool =
+    λ w. is_fresh (g.D.Declared.scope f.declared.now) w && (not (has f.trunks w) && (not (has_given f.given w) && not (has_dot w))) in
+    let fresh : (w : Word) → free w ≡ true → is_fresh s w ≡ true =
+    λ w h.
+    ap (λ d. is_fresh (g.D.Declared.scope d) w) (sym c.in_ok-names.ensures.declared)
+    ∙ (free_parts (is_fresh (g.D.Declared.scope f.declared.now) w) (has f.trunks w) (has_given f.given w) (has_dot w) h).0 in
+    let ls = seen_words c.args.labels.now in
+    record {
+      as_many_constants = c.in_ok-constants.ensures.given.as_many;
+      as_many_variables = c.in_ok-variables.ensures.given.as_many;
+      as_many_floats = c.in_ok-floats.ensures.given.as_many;
+      as_many_labels = c.in_ok-labels.ensures.given.as_many;
+      constants = given_named s c.in_ok-constants.ensures.given has_hypothesis_form c.in_ok-changes.ensures fresh;
+      variables =
+          given_variables s c.in_ok-variables.ensures.given c.in_ok-changes-2.ensures (λ w h. fresh w (c.in_ok-constants.ensures.left w h));
+      floats =
+          given_named s c.in_ok-floats.ensures.given has_dot c.in_ok-changes-3.ensures
+          (λ w h. fresh w (c.in_ok-constants.ensures.left w (c.in_ok-variables.ensures.left w h)));
+      labels =
+          given_named s c.in_ok-labels.ensures.given (changing ls) c.in_ok-changes-4.ensures
+          (λ w h. fresh w (c.in_ok-constants.ensures.left w (c.in_ok-variables.ensures.left w (c.in_ok-floats.ensures.left w h))));
+    }
+
+pub returns-clause-apart : goal.returns-clause-apart
+returns-clause-apart g c =
+    let f = c.in_ok-names.names in
+    let free : Word → Bool =
+    λ w. is_fresh (g.D.Declared.scope f.declared.now) w && (not (has f.trunks w) && (not (has_given f.given w) && not (has_dot w))) in
+    let parts : (w : Word) → free w ≡ true
+    → (is_fresh (g.D.Declared.scope f.declared.now) w ≡ true) × (has f.trunks w ≡ false) × (has_dot w ≡ false) =
+    λ w h. free_parts (is_fresh (g.D.Declared.scope f.declared.now) w) (has f.trunks w) (has_given f.given w) (has_dot w) h in
+    given_apart c.in_ok-labels.ensures.given c.in_ok-changes-4.ensures
+    (λ w h. (parts w (c.in_ok-constants.ensures.left w (c.in_ok-variables.ensures.left w (c.in_ok-floats.ensures.left w h)))).2)
+    (λ l w h in'.
+    no_trunk (has f.trunks l) (is_dotted l w)
+    (parts l (c.in_ok-constants.ensures.left l (c.in_ok-variables.ensures.left l (c.in_ok-floats.ensures.left l h)))).1
+    (c.in_ok-names.ensures.trunks l w in'))
