@@ -65,7 +65,7 @@ impl<'s, 'a> Active<'s, 'a> {
 
     /// The active hypotheses.
     pub fn hypotheses(&self) -> &[HypothesisWords<'a>]
-        ensures { seen_hypotheses result.now ≡ self.now.active }
+        ensures { given_hypotheses result.now ≡ self.now.active }
     {
         self.hypotheses
     }
