@@ -2,3 +2,5 @@ pub mod LeftOut
 pub mod Listable
 pub mod Reasons
 pub mod Forms
+mod Zipped
+mod Said

@@ -1,1 +1,3 @@
 pub mod Outcomes
+pub mod Placed
+pub mod Pairs

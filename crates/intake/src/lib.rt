@@ -1,4 +1,7 @@
 //! From a source in the whole language of Metamath to a library of the profile.
 #![tactic(auto)]
 
+mod drafting;
+mod places;
 mod proving;
+mod saying;
