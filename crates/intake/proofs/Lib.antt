@@ -4,3 +4,7 @@ pub mod Reasons
 pub mod Forms
 mod Zipped
 mod Said
+mod Stated
+mod Known
+mod Placing
+mod Going
