@@ -1,5 +1,5 @@
 -- The chosen assertions of a source, taken one after the other.
-use Rattle.std.proofs.Common.{◌≡◌, ◌∙◌, ◌≤◌, ℕ, ◌+◌, Bool, true, false, List, [], ◌∷◌, ◌++◌, length, take, drop, refl, sym, ap}
+use Rattle.std.proofs.Common.{◌≡◌, ◌∙◌, ◌≤◌, ℕ, ◌+◌, Bool, true, false, List, [], ◌∷◌, ◌++◌, length, take, drop, get_or, refl, sym, ap}
 use Rattle.std.proofs.Common.{subst, append_assoc, append-nil}
 use Rattle.std.specs.Prelude.{Some, None, Option, slice_get}
 use Rattle.std.proofs.Math.ListN.{drop_of_length-le}
@@ -34,32 +34,26 @@ module _ (m : Map) (t : Tables) (choice : Choice) (xs : List Assertion) (place :
       sym (take_more xs place x (slice_get_within xs place x at)
       ∙ ap (λ (y : Assertion). take place xs ++ y ∷ []) (get_or_from_slice_get xs place x x at))
 
-  from_here : (as' : List Unit') → AreTaken m t choice (take place xs) (x ∷ drop (place + 1) xs) as'
-      → AreTaken m t choice (take place xs) (drop place xs) as'
+  from_here : (as' : List Unit') → AreTaken m t choice (take place xs) (x ∷ drop (place + 1) xs) as' → AreTaken m t choice (take place xs) (drop place xs) as'
   from_here as' = subst (λ (ys : List Assertion). AreTaken m t choice (take place xs) ys as') (sym behind)
 
   module _ (later : List Unit') (rest : AreTaken m t choice (take (place + 1) xs) (drop (place + 1) xs) later) where
-    abbrev behind_it : List Unit' → Type 0
-    behind_it = AreTaken m t choice (take place xs ++ x ∷ []) (drop (place + 1) xs)
-
     rest_here : AreTaken m t choice (take place xs ++ x ∷ []) (drop (place + 1) xs) later
     rest_here = subst (λ (es : List Assertion). AreTaken m t choice es (drop (place + 1) xs) later) (sym front) rest
 
     pub one_taken : (a : Unit') → is_in choice.chosen x.label ≡ true → IsTaken m t choice (take place xs) x a
         → AreTaken m t choice (take place xs) (drop place xs) (a ∷ later)
     one_taken a chosen taken =
-        from_here (a ∷ later)
-        (subst (λ (b : Bool). AreTakenFrom b (IsTaken m t choice (take place xs) x) behind_it (a ∷ later)) (sym chosen)
-        (a, later, refl, taken, rest_here))
+        from_here (a ∷ later) (subst (λ (b : Bool). AreTakenFrom b (IsTaken m t choice (take place xs) x) (AreTaken m t choice (take place
+        xs ++ x ∷ []) (drop (place + 1) xs)) (a ∷ later)) (sym chosen) (a, later, refl, taken, rest_here))
 
     pub one_passed : is_in choice.chosen x.label ≡ false → AreTaken m t choice (take place xs) (drop place xs) later
     one_passed left =
-        from_here later
-        (subst (λ (b : Bool). AreTakenFrom b (IsTaken m t choice (take place xs) x) behind_it later) (sym left) rest_here)
+        from_here later (subst (λ (b : Bool). AreTakenFrom b (IsTaken m t choice (take place xs) x) (AreTaken m t choice (take place
+        xs ++ x ∷ []) (drop (place + 1) xs)) later) (sym left) rest_here)
 
   pub one_told : told choice (take place xs) (drop place xs)
-      ≡ told_of x.label (is_in choice.chosen x.label) (reason choice (take place xs) x)
-      ++ told choice (take (place + 1) xs) (drop (place + 1) xs)
+      ≡ told_of x.label (is_in choice.chosen x.label) (reason choice (take place xs) x) ++ told choice (take (place + 1) xs) (drop (place + 1) xs)
   one_told =
       ap (told choice (take place xs)) behind
       ∙ ap (λ (es : List Assertion). told_of x.label (is_in choice.chosen x.label) (reason choice (take place xs) x)
@@ -67,8 +61,7 @@ module _ (m : Map) (t : Tables) (choice : Choice) (xs : List Assertion) (place :
 
   -- all is taken of which this much was, with what is taken next, or passed
   module _ (old now : List Unit')
-      (all : (later : List Unit') → AreTaken m t choice (take place xs) (drop place xs) later
-      → AreTaken m t choice [] xs (old ++ later)) where
+      (all : (later : List Unit') → AreTaken m t choice (take place xs) (drop place xs) later → AreTaken m t choice [] xs (old ++ later)) where
     pub taken_more : (a : Unit') → now ≡ old ++ a ∷ [] → is_in choice.chosen x.label ≡ true → IsTaken m t choice (take place xs) x a
         → (later : List Unit') → AreTaken m t choice (take (place + 1) xs) (drop (place + 1) xs) later
         → AreTaken m t choice [] xs (now ++ later)
@@ -94,8 +87,7 @@ module _ (m : Map) (t : Tables) (choice : Choice) (xs : List Assertion) (place :
         ∙ ap (λ (ps : List (Word × Reason)). old ++ ps) one_told
         ∙ ap (λ (b : Bool). old ++ (told_of x.label b (reason choice (take place xs) x) ++ rest_told)) chosen
         ∙ ap (λ (q : Option Reason). old ++ (told_of x.label true q ++ rest_told)) is
-        ∙ sym (ap (λ (ps : List (Word × Reason)). ps ++ rest_told)
-        (grown ∙ ap (λ (ps : List (Word × Reason)). old ++ ps) (told_same x.label r))
+        ∙ sym (ap (λ (ps : List (Word × Reason)). ps ++ rest_told) (grown ∙ ap (λ (ps : List (Word × Reason)). old ++ ps) (told_same x.label r))
         ∙ append_assoc old (told_of x.label true r) rest_told)
 
     pub told_passed : now ≡ old → is_in choice.chosen x.label ≡ false → told choice [] xs ≡ now ++ rest_told

@@ -8,3 +8,5 @@ mod Stated
 mod Known
 mod Placing
 mod Going
+mod Libraries
+mod Steps

@@ -1,6 +1,6 @@
 -- What is stated of an assertion whose names all have places, and what becomes of it.
-use Rattle.std.proofs.Common.{◌≡◌, ◌∙◌, List, [], true, refl, sym, ap, subst}
-use Rattle.std.specs.Prelude.{Option, Some, None, is_some, IfSome, filter_map}
+use Rattle.std.proofs.Common.{◌≡◌, ◌∙◌, List, [], Bool, true, false, refl, sym, ap, subst}
+use Rattle.std.specs.Prelude.{Option, Some, None, is_some, IsTrue, IfSome, filter_map}
 use Rattle.std.specs.Option.{option_map}
 use Rattle.std.specs.Str.{bytes_eq}
 use Rattle.std.proofs.lemmas.Option.{same_Some}
@@ -13,7 +13,7 @@ use Rattle.source.specs.Scopes.{Hypothesis, Pair, Assertion, Scope}
 use Rattle.source.specs.Statements.{Proof}
 use Rattle.taking.specs.declared.reason.Reason.{Reason}
 use Rattle.taking.specs.Names.{Map, label_in}
-use Rattle.taking.specs.Says.{each, premises, symbol_at, expression_in, pair_at, ascending}
+use Rattle.taking.specs.Says.{each, premises, symbol_at, expression_in, pair_at, pairs_in, ascending, SaysSame}
 use Rattle.taking.specs.Taken.{HasProof}
 use Rattle.taking.specs.Listings.{IsListed}
 use Rattle.sites.specs.Actives.{Placed, float_at}

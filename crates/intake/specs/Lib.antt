@@ -3,3 +3,5 @@ pub mod Placed
 pub mod Pairs
 pub mod Gatherings
 pub mod Assembled
+pub mod Intakes
+pub mod Parts

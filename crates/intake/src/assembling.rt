@@ -124,8 +124,8 @@ fn taken_at<'a, D: Declared<'a>>(
     ensures made { (choice : Choice) → AreFlags (D.scope declared.now) choice chosen.now front.now
         → IfSome (slice_get (D.scope declared.now).assertions place) (λ x.
         HasStepsFor (map_of placed.now.sites.now placed.now.names.now) choice (D.scope declared.now) x
-        → IfOk result (IsMade (map_of placed.now.sites.now placed.now.names.now) (tables_of placed.now.sites.now placed.now.names.now)
-        choice (take place (D.scope declared.now).assertions) x)) }
+        → IfOk result (IsMade (map_of placed.now.sites.now placed.now.names.now) (tables_of placed.now.sites.now placed.now.names.now) choice
+        (take place (D.scope declared.now).assertions) x)) }
 {
     let assertion = stated(alloc, keys, declared, placed, place)?;
     let outcome = outcome_at(alloc, keys, declared, frames, placed, chosen, front, place)?;

@@ -2,7 +2,15 @@
 #![tactic(auto)]
 
 mod assembling;
+mod call;
+mod declaring;
 mod drafting;
 mod places;
 mod proving;
+mod refusal;
 mod saying;
+mod taken;
+
+pub use call::take;
+pub use refusal::Refusal;
+pub use taken::Taken;

@@ -1,0 +1,26 @@
+-- What is left to show of `take_from`: what was gathered is what the wish chose.
+use Rattle.std.proofs.Common.{rules, ◌≡◌}
+use Rattle.intake.proofs.Steps.{is_gathered}
+use Rattle.intake.proofs.call.take_from.Goals as goal
+
+pub returns-clause-taken : goal.returns-clause-taken
+returns-clause-taken g c =
+    let s = g.D.Declared.scope c.args.declared.now in
+    let sel = c.in_ok-selection.selection in
+    let same : c.as_slice-chosen.result.now ≡ sel.chosen.items = search rules in
+    let alike : c.as_slice-front.result.now ≡ sel.front.items = search rules in
+    c.library_of.ensures.taken s c.args.wish
+    (is_gathered s c.in_ok-sites.sites c.in_ok-names.names c.in_ok-names.ensures.names c.args.wish sel c.in_ok-gathered.gathered
+    c.as_slice-chosen.result.now c.as_slice-front.result.now same alike c.in_ok-selection.ensures.chosen c.in_ok-sites.ensures.sites
+    c.in_ok-gathered.ensures.taken c.in_ok-gathered.ensures.told)
+
+pub returns-clause-refused : goal.returns-clause-refused
+returns-clause-refused g c =
+    let s = g.D.Declared.scope c.args.declared.now in
+    let sel = c.in_ok-selection.selection in
+    let same : c.as_slice-chosen.result.now ≡ sel.chosen.items = search rules in
+    let alike : c.as_slice-front.result.now ≡ sel.front.items = search rules in
+    c.library_of.ensures.refused s c.args.wish
+    (is_gathered s c.in_ok-sites.sites c.in_ok-names.names c.in_ok-names.ensures.names c.args.wish sel c.in_ok-gathered.gathered
+    c.as_slice-chosen.result.now c.as_slice-front.result.now same alike c.in_ok-selection.ensures.chosen c.in_ok-sites.ensures.sites
+    c.in_ok-gathered.ensures.taken c.in_ok-gathered.ensures.told)

@@ -1,0 +1,80 @@
+-- What is taken of a text by a wish, and why nothing is.
+use Rattle.std.specs.Prelude.{◌≡◌, ◌<◌, ◌⊎◌, ◌||◌, ℕ, suc, List, filter, length, map, Option, Some, None, IsTrue, slice_get}
+use Rattle.std.specs.Option.{option_map}
+use Rattle.std.specs.List.{list_any}
+use Rattle.mmtext.specs.Words.{Word}
+use Rattle.mmsyntax.specs.Tables.{Contents}
+use Rattle.mmsyntax.specs.Layout.{HasSpelling}
+use Rattle.source.specs.Scopes.{Assertion, Scope, is_in}
+use Rattle.source.specs.Sources.{DeclaresText}
+use Rattle.source.specs.Faults.{FaultySource}
+use Rattle.taking.specs.declared.reason.Reason.{Reason}
+use Rattle.taking.specs.Names.{Naming, is_symbol_of, has_float_labelled}
+use Rattle.taking.specs.Reasons.{Choice}
+use Rattle.taking.specs.Taken.{Takes, chosen_of}
+use Rattle.choosing.specs.Choices.{IsChoice, IsUnchosen}
+use Rattle.choosing.specs.declared.wish.Wish.{Wish}
+use Rattle.choosing.specs.declared.wish.Unchosen.TheVariants as unchosen
+use Rattle.derivation.specs.declared.fault.ProofFault.{ProofFault}
+use Rattle.derivation.specs.Databases.{AllCheck, IsFirstFault}
+use Rattle.drafts.specs.Limits.{IsPassed}
+use Rattle.intake.specs.declared.taken.Taken.{Taken}
+use Rattle.intake.specs.declared.refusal.Refusal.{Refusal}
+use Rattle.intake.specs.declared.refusal.Refusal.TheVariants as refusal
+
+-- ---- what is taken
+
+-- what is told of it
+abbrev pub axioms_of : Taken → List (Word × Reason)
+axioms_of t = map (λ p. (p.0.now, p.1)) t.axioms.items
+
+abbrev pub names_of : Taken → List Naming
+names_of t = map (λ p. (p.0.now, p.1)) t.names.items
+
+-- the text declares a source, from which the library is taken by the wish; its proofs check
+pub record IsTaken (text : List ℕ) (w : Wish) (t : Taken) : Type 0 where
+  pub source : Scope
+  pub declares : DeclaresText text source
+  pub choice : Choice
+  pub is_choice : IsChoice source w choice
+  pub takes : Takes source choice t.database (axioms_of t) (names_of t)
+  pub checks : AllCheck t.database
+
+-- ---- refusals
+
+-- lists that are taken from the text by the wish
+pub record IsDraft (text : List ℕ) (w : Wish) (db : Contents) : Type 0 where
+  pub source : Scope
+  pub declares : DeclaresText text source
+  pub choice : Choice
+  pub is_choice : IsChoice source w choice
+  pub axioms : List (Word × Reason)
+  pub names : List Naming
+  pub takes : Takes source choice db axioms names
+
+-- what is chosen has more constants or $f than a library
+abbrev pub IsWide : Scope → List Assertion → Type 0
+IsWide s taken =
+    (65535 < length (filter (λ w. list_any (is_symbol_of w) taken) s.constants))
+    ⊎ (65535 < length (filter (λ w. list_any (has_float_labelled w) taken) s.labels))
+
+abbrev pub OfSource : List ℕ → (Scope → Type 0) → Type 0
+OfSource text says = (s : Scope) × DeclaresText text s × says s
+
+-- the proof of the theorem with a label has this fault, and it is the first
+abbrev pub IsProofFault : Contents → Word → ProofFault → Type 0
+IsProofFault db label fault =
+    (i : ℕ) × (option_map (λ a. a.label) (slice_get db.assertions i) ≡ Some label) × IsFirstFault db (suc i) fault
+
+-- why nothing is taken
+abbrev pub IsRefused : List ℕ → Wish → Refusal → Type 0
+IsRefused text w (refusal.Source fault) = FaultySource text fault
+IsRefused text w (refusal.UnknownLabel label) = OfSource text (λ s. IsUnchosen s w (unchosen.UnknownLabel label))
+IsRefused text w refusal.Backwards = OfSource text (λ s. IsUnchosen s w unchosen.Backwards)
+IsRefused text w (refusal.TooMany n) = OfSource text (λ s. IsUnchosen s w (unchosen.TooMany n))
+IsRefused text w refusal.TooWide = OfSource text (λ s. (choice : Choice) × IsChoice s w choice × IsWide s (chosen_of choice s))
+IsRefused text w (refusal.NoFreshName word) = OfSource text (λ s. IsTrue (is_in s.symbols word.now || is_in s.labels word.now))
+IsRefused text w (refusal.Passes limit name) = (db : Contents) × IsDraft text w db × IsPassed db limit × (HasSpelling db → ⊥)
+IsRefused text w refusal.Unlawful = (db : Contents) × IsDraft text w db × (HasSpelling db → ⊥)
+IsRefused text w (refusal.Proof label fault) = (db : Contents) × IsDraft text w db × IsProofFault db label fault
+IsRefused text w refusal.NoMemory = Unit {0}

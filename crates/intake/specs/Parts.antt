@@ -1,0 +1,72 @@
+-- Of the code's inside, apart from the rules: what is known of a source between the steps of the call.
+use Rattle.std.specs.Prelude.{◌≡◌, ◌≢◌, ◌≤◌, ℕ, Bool, List, [], map, length, IsTrue}
+use Rattle.std.specs.List.{list_all}
+use Rattle.mmtext.specs.Words.{Word}
+use Rattle.mmsyntax.specs.declared.statement.Assertion.{Assertion as Unit'}
+use Rattle.mmsyntax.specs.Tables.{Contents}
+use Rattle.source.specs.Scopes.{Scope, is_in}
+use Rattle.source.specs.Sources.{DeclaresText}
+use Rattle.taking.specs.declared.reason.Reason.{Reason}
+use Rattle.taking.specs.Names.{Naming, renamed}
+use Rattle.taking.specs.Reasons.{Choice}
+use Rattle.taking.specs.Taken.{Takes, AreTaken, told, chosen_of}
+use Rattle.choosing.specs.Choices.{IsChoice, labels_of}
+use Rattle.choosing.specs.declared.wish.Wish.{Wish}
+use Rattle.naming.specs.declared.names.LibraryNames.{LibraryNames}
+use Rattle.naming.specs.Namings.{AreNamedWell}
+use Rattle.sites.specs.Sites.{Sited, AreSites}
+use Rattle.derivation.specs.Databases.{AllCheck}
+use Rattle.intake.specs.declared.assembling.Gathered.{Gathered}
+use Rattle.intake.specs.declared.taken.Taken.{Taken}
+use Rattle.intake.specs.declared.refusal.Refusal.{Refusal}
+use Rattle.intake.specs.declared.refusal.Refusal.TheVariants.{NoMemory}
+use Rattle.intake.specs.Placed.{map_of, tables_of}
+use Rattle.intake.specs.Gatherings.{told_in}
+use Rattle.intake.specs.Intakes.{IsTaken, IsRefused, axioms_of, names_of}
+
+-- why nothing is taken of a source, whatever text declares it
+pub record IsRefusedOf (s : Scope) (w : Wish) (why : Refusal) : Type 0 where
+  pub refused : why ≢ NoMemory → (text : List ℕ) → DeclaresText text s → IsRefused text w why
+
+-- lists that are taken of a source, with what is told of them
+pub record IsTakenOf (s : Scope) (w : Wish) (db : Contents) (axioms : List (Word × Reason)) (names : List Naming) : Type 0 where
+  pub choice : Choice
+  pub is_choice : IsChoice s w choice
+  pub takes : Takes s choice db axioms names
+
+-- a library of a source, with what is told of it; its proofs check
+pub record IsLibraryOf (s : Scope) (w : Wish) (t : Taken) : Type 0 where
+  pub taken : IsTakenOf s w t.database (axioms_of t) (names_of t)
+  pub checks : AllCheck t.database
+
+-- what is said and proved of a source, by sites and names
+abbrev pub lists_of : Sited → LibraryNames → List Unit' → Contents
+lists_of t names as' = record { prelude = tables_of t names; assertions = as' }
+
+pub record IsGathered (s : Scope) (w : Wish) (t : Sited) (names : LibraryNames) (g : Gathered) : Type 0 where
+  pub choice : Choice
+  pub is_choice : IsChoice s w choice
+  pub there : IsTrue (list_all (is_in (labels_of s.assertions)) choice.chosen)
+  pub sites : AreSites s (chosen_of choice s) t
+  pub names_are : AreNamedWell s t.constants t.variables t.floats t.labels names
+  pub taken : AreTaken (map_of t names) (tables_of t names) choice [] s.assertions g.assertions.items
+  pub told_are : told choice [] s.assertions ≡ told_in g.axioms.items
+
+-- the names that were changed, where sites have these names
+abbrev pub changed_of : Sited → LibraryNames → List Naming
+changed_of t names = renamed (map_of t names) (tables_of t names)
+
+-- these flags say what a wish chooses
+pub record IsChoiceByFlags (s : Scope) (w : Wish) (flags : List Bool) : Type 0 where
+  pub choice : Choice
+  pub is_choice : IsChoice s w choice
+  pub flags_are : map (λ x. is_in choice.chosen x.label) s.assertions ≡ flags
+
+-- sites have as many names, and few $f
+pub record AreAsMany (t : Sited) (names : LibraryNames) : Type 0 where
+  pub constants : length names.constants ≡ length t.constants
+  pub variables : length names.variables ≡ length t.variables
+  pub floats : length names.floats ≡ length t.floats
+  pub labels : length names.labels ≡ length t.labels
+  pub types : length t.types ≡ length t.floats
+  pub few : length t.floats ≤ 65535

@@ -1,0 +1,183 @@
+//! The library of what was gathered: its draft is declared, and its proofs are checked.
+
+ghost use Rattle.std.specs.Prelude.{◌≡◌, ◌≢◌, List, map, IfOk, IfErr, MatchOption};
+ghost use Rattle.mmtext.specs.Words.{Word};
+ghost use Rattle.source.specs.Scopes.{Scope};
+ghost use Rattle.taking.specs.declared.reason.Reason.{Reason};
+ghost use Rattle.taking.specs.Names.{Naming};
+ghost use Rattle.choosing.specs.declared.wish.Wish.{Wish};
+ghost use Rattle.derivation.specs.Databases.{AllCheck, IsFirstFault};
+ghost use Rattle.drafts.specs.Drafts.{contents_of};
+ghost use Rattle.drafts.specs.Limits.{IsTold};
+ghost use Rattle.drafts.specs.declared.draft.Undeclared.TheVariants.{NoMemory as OutOfMemory};
+ghost use Rattle.mmsyntax.specs.Layout.{HasSpelling};
+ghost use Rattle.mmsyntax.specs.Tables.{Contents};
+ghost use Rattle.intake.specs.Gatherings.{told_in, told_names};
+ghost use Rattle.intake.specs.Intakes.{IsProofFault};
+ghost use Rattle.intake.specs.Parts.{AreAsMany, IsTakenOf, IsRefusedOf, IsLibraryOf, IsGathered, lists_of, changed_of};
+
+use crate::assembling::Gathered;
+use crate::drafting::{floats, put_changed};
+use crate::refusal::Refusal;
+use crate::taken::Taken;
+use derivation::{ProofFault, ProofFaultKind};
+use drafts::{Draft, Limit, Undeclared, declare};
+use mmsyntax::{Assertion, Database, Label, Sequence};
+use naming::LibraryNames;
+use proofcheck::check_all;
+use sites::Sites;
+use std::alloc::{AllocError, Global};
+use std::hash::RandomState;
+use std::thread::Threads;
+use taking::Reason;
+
+/// The names that were changed.
+fn changed_names<'a>(
+    alloc: Global,
+    sites: &Sites<'a>,
+    names: &LibraryNames,
+) -> Result<Vec<(&'a [u8], Label)>, AllocError>
+    requires { AreAsMany sites.now names.now }
+    ensures { IfOk result (λ changed. map (λ p. (p.0.now, p.1)) changed.items ≡ changed_of sites.now names.now) }
+{
+    let mut changed = Vec::new(alloc);
+    put_changed(
+        alloc,
+        &mut changed,
+        sites.constants(),
+        names.constants.as_slice(),
+    )?;
+    put_changed(
+        alloc,
+        &mut changed,
+        sites.variables(),
+        names.variables.as_slice(),
+    )?;
+    put_changed(alloc, &mut changed, sites.floats(), names.floats.as_slice())?;
+    put_changed(alloc, &mut changed, sites.labels(), names.labels.as_slice())?;
+    Ok(changed)
+}
+
+/// The draft of a library.
+fn draft_of(
+    alloc: Global,
+    sites: &Sites<'_>,
+    names: LibraryNames,
+    assertions: Vec<Assertion>,
+) -> Result<Draft, AllocError>
+    requires { AreAsMany sites.now names }
+    ensures { IfOk result (λ made. contents_of made ≡ lists_of sites.now names assertions.items) }
+{
+    let floats = floats(alloc, names.floats.as_slice(), sites.types())?;
+    Ok(Draft {
+        constants: names.constants,
+        variables: names.variables,
+        floats,
+        assertions: Sequence::from_vec(assertions),
+    })
+}
+
+/// The name in the source of what passes a limit by itself.
+fn name_at<'a>(sites: &Sites<'a>, limit: Limit) -> Option<&'a [u8]> {
+    match limit {
+        Limit::ManyConstants(_)
+        | Limit::ManyVariables(_)
+        | Limit::ManyFloats(_)
+        | Limit::ManyAssertions(_) => None,
+        Limit::LongConstant(place) => sites.constants().get(place).copied(),
+        Limit::LongVariable(place) => sites.variables().get(place).copied(),
+        Limit::LongFloat(place) => sites.floats().get(place).copied(),
+        Limit::LongLabel(place)
+        | Limit::ManyHypotheses(place)
+        | Limit::ManySymbols(place)
+        | Limit::ManyPairs(place)
+        | Limit::ManySteps(place) => sites.labels().get(place).copied(),
+    }
+}
+
+/// Why a draft makes no library.
+fn undeclared<'a, 'w>(sites: &Sites<'a>, why: Undeclared) -> Refusal<'a, 'w>
+    ensures { (s : Scope) (w : Wish) (db : Contents) (axioms : List (Word × Reason)) (names : List Naming)
+        → IsTakenOf s w db axioms names → (why ≢ OutOfMemory → HasSpelling db → ⊥) → IsTold db why → IsRefusedOf s w result }
+{
+    match why {
+        Undeclared::Passes(limit) => Refusal::Passes(limit, name_at(sites, limit)),
+        Undeclared::Unlawful => Refusal::Unlawful,
+        Undeclared::NoMemory => Refusal::NoMemory,
+    }
+}
+
+/// The label of the assertion with this number, counted from 1, whose proof has a fault.
+fn label_of_faulty(
+    alloc: Global,
+    database: &Database,
+    number: usize,
+    fault: ProofFault,
+) -> Result<Label, AllocError>
+    requires { IsFirstFault database.now number fault }
+    ensures { IfOk result (λ label. IsProofFault database.now label fault) }
+{
+    database.assertions()[number - 1].label.copy(alloc)
+}
+
+/// The first theorem of a library whose proof doesn't check, with its fault.
+fn first_faulty(
+    rt: &(impl Threads + Sync),
+    alloc: Global,
+    database: &Database,
+) -> Result<Option<(Label, ProofFault)>, AllocError>
+    ensures { IfOk result (λ found. MatchOption found (AllCheck database.now) (λ p. IsProofFault database.now p.0 p.1)) }
+{
+    let Err((number, fault)) = check_all(rt, alloc, database) else {
+        return Ok(None);
+    };
+    if fault.kind == ProofFaultKind::NoMemory {
+        return Err(AllocError);
+    }
+    let label = label_of_faulty(alloc, database, number, fault)?;
+    Ok(Some((label, fault)))
+}
+
+/// The library whose proofs check, with what is told of it.
+fn with_proofs<'a, 'w>(
+    rt: &(impl Threads + Sync),
+    alloc: Global,
+    database: Database,
+    axioms: Vec<(&'a [u8], Reason)>,
+    names: Vec<(&'a [u8], Label)>,
+) -> Result<Taken<'a>, Refusal<'a, 'w>>
+    ensures taken { (s : Scope) (w : Wish) → IsTakenOf s w database (told_in axioms.entry.items) (told_names names.entry.items)
+        → IfOk result (IsLibraryOf s w) }
+    ensures refused { (s : Scope) (w : Wish) → IsTakenOf s w database (told_in axioms.entry.items) (told_names names.entry.items)
+        → IfErr result (IsRefusedOf s w) }
+{
+    match first_faulty(rt, alloc, &database)? {
+        Some((label, fault)) => Err(Refusal::Proof(label, fault)),
+        None => Ok(Taken {
+            database,
+            axioms,
+            names,
+        }),
+    }
+}
+
+/// The library of what was gathered of a source by sites and names.
+pub(crate) fn library_of<'a, 'w>(
+    rt: &(impl Threads + Sync),
+    alloc: Global,
+    keys: RandomState,
+    sites: &Sites<'a>,
+    names: LibraryNames,
+    gathered: Gathered<'a>,
+) -> Result<Taken<'a>, Refusal<'a, 'w>>
+    requires { AreAsMany sites.now names }
+    ensures taken { (s : Scope) (w : Wish) → IsGathered s w sites.now names gathered.entry → IfOk result (IsLibraryOf s w) }
+    ensures refused { (s : Scope) (w : Wish) → IsGathered s w sites.now names gathered.entry → IfErr result (IsRefusedOf s w) }
+{
+    let changed = changed_names(alloc, sites, &names)?;
+    let draft = draft_of(alloc, sites, names, gathered.assertions)?;
+    match declare(alloc, keys, draft) {
+        Ok(database) => with_proofs(rt, alloc, database, gathered.axioms, changed),
+        Err(why) => Err(undeclared(sites, why)),
+    }
+}

@@ -1,0 +1,3 @@
+pub mod Comments
+pub mod Refusals
+pub mod Answers
