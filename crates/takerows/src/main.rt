@@ -1,0 +1,154 @@
+//! The table of what is taken: small sources in the whole language of Metamath, and the library that is taken of each.
+//!
+//! A line of this crate's `stdin` is `all`, `for LABEL ..` or `between LABEL LABEL`, then `:` and a source. Its `stdout`, worked out by hand from the
+//! rules, has each line again, and behind it the lines of the library, `axiom LABEL WHY` for each theorem that is taken as an axiom and
+//! `name OLD NEW` for each name that is changed; or `refused` and why. A line that begins with `#` says something to the reader, and is not
+//! answered.
+#![tactic(auto)]
+
+use choosing::Wish;
+use intake::{Refusal, Taken, take};
+use mmsyntax::Label;
+use mmwriter::write_database;
+use std::alloc::{AllocError, Global};
+use std::hash::RandomState;
+use std::io;
+use std::io::{BufRead, BufReader, Write};
+use std::thread::Threads;
+use taking::Reason;
+
+/// The lines of the standard input, without their line feeds.
+fn read_lines(rt: &impl Input, alloc: Global) -> io::Result<Vec<Vec<u8>>> {
+    let mut lines = Vec::new(alloc);
+    for line in BufReader::new(alloc, rt.reader())?.split(alloc, b'\n') {
+        lines.push(line?)?;
+    }
+    Ok(lines)
+}
+
+/// A row: the words in front of its colon, and the source behind it.
+#[derive(Drop)]
+struct Row<'a> {
+    words: Vec<&'a [u8]>,
+    source: &'a [u8],
+}
+
+/// Where the colon stands.
+fn colon_in(line: &[u8]) -> usize {
+    line.iter()
+        .position(|byte| *byte == b':')
+        .unwrap_or(line.len())
+}
+
+/// The row of a line.
+fn row_of(alloc: Global, line: &[u8]) -> Result<Row<'_>, AllocError> {
+    let colon = colon_in(line);
+    let mut words = Vec::new(alloc);
+    for word in line[..colon].split(|byte| *byte == b' ') {
+        if !word.is_empty() {
+            words.push(word)?;
+        }
+    }
+    let source = line.get(colon + 1..).unwrap_or(b"");
+    Ok(Row { words, source })
+}
+
+/// The wish of a row.
+fn wish_of<'w>(words: &'w [&'w [u8]]) -> Wish<'w> {
+    match words {
+        [first, labels @ ..] if *first == b"for".as_slice() => Wish::For(labels),
+        [first, from, to] if *first == b"between".as_slice() => Wish::Between(from, to),
+        _ => Wish::All,
+    }
+}
+
+/// Why a theorem is taken as an axiom.
+fn why(reason: Reason) -> &'static [u8] {
+    match reason {
+        Reason::Unfinished => b"unfinished",
+        Reason::TooLong => b"too long",
+        Reason::InFront => b"in front",
+        Reason::CitesUnchosen => b"cites what isn't chosen",
+    }
+}
+
+/// Two words behind a third, on a line.
+fn put_line(out: &mut Vec<u8>, what: &[u8], one: &[u8], other: &[u8]) -> Result<(), AllocError> {
+    out.extend_from_slice(what)?;
+    out.push(b' ')?;
+    out.extend_from_slice(one)?;
+    out.push(b' ')?;
+    out.extend_from_slice(other)?;
+    out.extend_from_slice(b"\n")
+}
+
+/// The theorems that are taken as axioms.
+fn put_axioms(out: &mut Vec<u8>, axioms: &[(&[u8], Reason)]) -> Result<(), AllocError> {
+    for pair in axioms {
+        put_line(out, b"axiom", pair.0, why(pair.1))?;
+    }
+    Ok(())
+}
+
+/// The names that were changed.
+fn put_names(out: &mut Vec<u8>, names: &[(&[u8], Label)]) -> Result<(), AllocError> {
+    for pair in names {
+        put_line(out, b"name", pair.0, pair.1.as_slice())?;
+    }
+    Ok(())
+}
+
+/// What was taken.
+fn put_taken(alloc: Global, out: &mut Vec<u8>, taken: &Taken<'_>) -> Result<(), AllocError> {
+    let text = write_database(alloc, &taken.database)?;
+    out.extend_from_slice(text.as_slice())?;
+    put_axioms(out, taken.axioms.as_slice())?;
+    put_names(out, taken.names.as_slice())
+}
+
+/// Why nothing was taken.
+fn put_refusal(
+    alloc: Global,
+    out: &mut Vec<u8>,
+    refusal: &Refusal<'_, '_>,
+) -> Result<(), AllocError> {
+    match refusal {
+        Refusal::Source(fault) => {
+            let line = format!(in alloc; "refused {fault}\n")?;
+            out.extend_from_slice(line.as_bytes())
+        }
+        Refusal::UnknownLabel(label) => put_line(out, b"refused", b"unknown", label),
+        Refusal::Backwards => out.extend_from_slice(b"refused backwards\n"),
+        Refusal::Proof(label, _) => put_line(out, b"refused", b"proof", label.as_slice()),
+        _ => out.extend_from_slice(b"refused\n"),
+    }
+}
+
+/// A row, and what is answered to it.
+fn put_row(
+    rt: &(impl Threads + Sync),
+    alloc: Global,
+    keys: RandomState,
+    out: &mut Vec<u8>,
+    line: &[u8],
+) -> Result<(), AllocError> {
+    out.extend_from_slice(line)?;
+    out.push(b'\n')?;
+    let row = row_of(alloc, line)?;
+    match take(rt, alloc, keys, row.source, wish_of(row.words.as_slice())) {
+        Ok(taken) => put_taken(alloc, out, &taken),
+        Err(refusal) => put_refusal(alloc, out, &refusal),
+    }
+}
+
+fn main(rt: HostRuntime) -> io::Result<()> {
+    let alloc = rt.alloc();
+    let keys = RandomState::new(&rt)?;
+    let mut out = Vec::new(alloc);
+    for line in read_lines(&rt, alloc)? {
+        if !line.is_empty() && !line.starts_with(b"#") {
+            put_row(&rt, alloc, keys, &mut out, line.as_slice())?;
+        }
+    }
+    io::writer(&rt).write_all(out.as_slice())
+}
