@@ -43,8 +43,9 @@ fn colon_in(line: &[u8]) -> usize {
 /// The row of a line.
 fn row_of(alloc: Global, line: &[u8]) -> Result<Row<'_>, AllocError> {
     let colon = colon_in(line);
+    let front = line.get(..colon).unwrap_or(line);
     let mut words = Vec::new(alloc);
-    for word in line[..colon].split(|byte| *byte == b' ') {
+    for word in front.split(|byte| *byte == b' ') {
         if !word.is_empty() {
             words.push(word)?;
         }
