@@ -50,7 +50,7 @@ fn row_of(alloc: Global, line: &[u8]) -> Result<Row<'_>, AllocError> {
             words.push(word)?;
         }
     }
-    let source = line.get(colon + 1..).unwrap_or(b"");
+    let source = line.get(colon.saturating_add(1)..).unwrap_or(b"");
     Ok(Row { words, source })
 }
 
