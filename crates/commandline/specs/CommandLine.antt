@@ -48,6 +48,22 @@ scripts_rule = record (new_rule (codes "SCRIPT")) {
 abbrev pub replayed_rule : Rule
 replayed_rule = record (new_rule (codes "HISTORY")) { required = true; action = Some Set }
 
+-- `--for LABEL`, as often as wished
+abbrev pub for_rule : Rule
+for_rule = record (new_rule (codes "for")) { long = Some (codes "for"); value_names = 1; action = Some Append }
+
+-- `--from LABEL`
+abbrev pub from_rule : Rule
+from_rule = record (new_rule (codes "from")) { long = Some (codes "from"); value_names = 1; action = Some Set }
+
+-- `--to LABEL`
+abbrev pub to_rule : Rule
+to_rule = record (new_rule (codes "to")) { long = Some (codes "to"); value_names = 1; action = Some Set }
+
+-- `SOURCE`
+abbrev pub source_rule : Rule
+source_rule = record (new_rule (codes "SOURCE")) { required = true; action = Some Set }
+
 -- `check DB`
 abbrev pub check_app : App
 check_app = with_rule (new_app (codes "check")) database_rule
@@ -60,15 +76,20 @@ run_app = with_rule (with_rule (with_rule (with_rule (with_rule (new_app (codes 
 abbrev pub replay_app : App
 replay_app = with_rule (with_rule (new_app (codes "replay")) database_rule) replayed_rule
 
+-- `take [--for LABEL].. [--from LABEL] [--to LABEL] SOURCE`
+abbrev pub take_app : App
+take_app = with_rule (with_rule (with_rule (with_rule (new_app (codes "take")) for_rule) from_rule) to_rule) source_rule
+
 -- the program, before it has subcommands: it has a version, and wants one of them
 abbrev pub bare_app : App
 bare_app =
     let bare = new_app (codes "mmrefactor") in
     record bare { top = record bare.top { has_version = true; subcommand_required = true; arg_required_else_help = true } }
 
--- `mmrefactor`, with its three subcommands
+-- `mmrefactor`, with its four subcommands
 abbrev pub program_app : App
-program_app = with_subcommand (with_subcommand (with_subcommand bare_app check_app.top) run_app.top) replay_app.top
+program_app =
+    with_subcommand (with_subcommand (with_subcommand (with_subcommand bare_app check_app.top) run_app.top) replay_app.top) take_app.top
 
 -- an argument with these rules
 abbrev pub IsArgument : Rule → Arg → Type 0

@@ -2,7 +2,8 @@
 
 ghost use Rattle.std.specs.Prelude.{IfOk};
 ghost use Rattle.commandline.specs.CommandLine.{IsArgument, IsLine, database_rule, workers_rule, room_rule, history_rule, scripts_rule, replayed_rule};
-ghost use Rattle.commandline.specs.CommandLine.{check_app, run_app, replay_app, program_app};
+ghost use Rattle.commandline.specs.CommandLine.{for_rule, from_rule, to_rule, source_rule};
+ghost use Rattle.commandline.specs.CommandLine.{check_app, run_app, replay_app, take_app, program_app};
 
 use clap::builder::ValueParser;
 use clap::{Arg, ArgAction, Command};
@@ -86,6 +87,51 @@ fn replayed<'a>(alloc: Global) -> Arg<'a>
         .action(ArgAction::Set)
 }
 
+/// `--for LABEL`, as often as wished.
+fn asked<'a>(alloc: Global) -> Arg<'a>
+    ensures { IsArgument for_rule result }
+{
+    Arg::new(alloc, "for")
+        .long("for")
+        .value_name("LABEL")
+        .help("Takes this assertion and all that its proof needs; several may be given")
+        .action(ArgAction::Append)
+}
+
+/// `--from LABEL`.
+fn first<'a>(alloc: Global) -> Arg<'a>
+    ensures { IsArgument from_rule result }
+{
+    Arg::new(alloc, "from")
+        .long("from")
+        .value_name("LABEL")
+        .help(
+            "Takes the assertions from this one to that of --to, and what they cite before as axioms",
+        )
+        .action(ArgAction::Set)
+}
+
+/// `--to LABEL`.
+fn last<'a>(alloc: Global) -> Arg<'a>
+    ensures { IsArgument to_rule result }
+{
+    Arg::new(alloc, "to")
+        .long("to")
+        .value_name("LABEL")
+        .help("The last of the assertions that --from begins")
+        .action(ArgAction::Set)
+}
+
+/// The source that a library is taken of.
+fn source<'a>(alloc: Global) -> Arg<'a>
+    ensures { IsArgument source_rule result }
+{
+    Arg::new(alloc, "SOURCE")
+        .help("A database in the whole language of Metamath, without $[")
+        .required(true)
+        .action(ArgAction::Set)
+}
+
 /// `mmrefactor check DB`.
 fn check_line<'a>(alloc: Global) -> Result<Command<'a>, AllocError>
     ensures { IfOk result (IsLine check_app) }
@@ -118,8 +164,23 @@ fn replay_line<'a>(alloc: Global) -> Result<Command<'a>, AllocError>
         .arg(replayed(alloc))
 }
 
-/// The command lines that the program takes: `mmrefactor check DB`, `mmrefactor run [--workers N] [--room W] [--history FILE] DB SCRIPT..` and
-/// `mmrefactor replay DB HISTORY`.
+/// `mmrefactor take [--for LABEL].. [--from LABEL --to LABEL] SOURCE`.
+fn take_line<'a>(alloc: Global) -> Result<Command<'a>, AllocError>
+    ensures { IfOk result (IsLine take_app) }
+{
+    Command::new(alloc, "take")
+        .about("Takes a library from a database in the whole language; prints it")
+        .after_help("Example: mmrefactor take --for sqrt2irr set.mm > sqrt2irr.mm")
+        .arg(asked(alloc))?
+        .arg(first(alloc))?
+        .arg(last(alloc))?
+        .arg(source(alloc))
+}
+
+/// The command lines that the program takes: `mmrefactor check DB`, `mmrefactor run [--workers N] [--room W] [--history FILE] DB SCRIPT..`,
+/// `mmrefactor replay DB HISTORY` and `mmrefactor take [--for LABEL].. [--from LABEL --to LABEL] SOURCE`.
+///
+/// That `--from` and `--to` go together, and not with `--for`, is no rule of these lines.
 ///
 /// # Errors
 ///
@@ -134,5 +195,6 @@ pub fn command_line<'a>(alloc: Global) -> Result<Command<'a>, AllocError>
         .arg_required_else_help(true)
         .subcommand(check_line(alloc)?)?
         .subcommand(run_line(alloc)?)?
-        .subcommand(replay_line(alloc)?)
+        .subcommand(replay_line(alloc)?)?
+        .subcommand(take_line(alloc)?)
 }

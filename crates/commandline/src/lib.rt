@@ -3,6 +3,8 @@
 
 mod arguments;
 mod order;
+mod take_order;
 
 pub use arguments::command_line;
 pub use order::{Order, order_of};
+pub use take_order::{TakeOrder, take_of};

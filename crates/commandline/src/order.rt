@@ -21,21 +21,23 @@ pub struct Order<'a> {
 }
 
 /// The name of the subcommand, and what was found for its arguments.
-fn subcommand_in<'m, 'a>(matches: &'m ArgMatches<'a>) -> Option<(&'a str, &'m ArgMatches<'a>)>
+pub(crate) fn subcommand_in<'m, 'a>(
+    matches: &'m ArgMatches<'a>,
+) -> Option<(&'a str, &'m ArgMatches<'a>)>
     ensures { option_map (λ p. (p.0.now, rows_of (found_of p.1.now))) result ≡ subcommand_rows_of matches.now }
 {
     matches.subcommand()
 }
 
 /// The first value of an argument.
-fn text_in<'a>(of: &ArgMatches<'a>, id: &str) -> Option<&'a str>
+pub(crate) fn text_in<'a>(of: &ArgMatches<'a>, id: &str) -> Option<&'a str>
     ensures { option_map (λ s. s.now) result ≡ first_of id.now (rows_of (found_of of.now)) }
 {
     of.get_str(id)
 }
 
 /// All values of an argument.
-fn texts_in<'m, 'a>(of: &'m ArgMatches<'a>, id: &str) -> Option<&'m [&'a str]>
+pub(crate) fn texts_in<'m, 'a>(of: &'m ArgMatches<'a>, id: &str) -> Option<&'m [&'a str]>
     ensures { option_map (λ s. map (λ v. v.now) s.now) result ≡ all_of id.now (rows_of (found_of of.now)) }
 {
     of.get_strs(id)
@@ -102,7 +104,10 @@ fn put_one<'a>(paths: &mut Vec<&'a str>, path: Option<&'a str>) -> Result<(), Al
 }
 
 /// Puts texts behind others, if there are some.
-fn put_all<'a>(paths: &mut Vec<&'a str>, texts: Option<&[&'a str]>) -> Result<(), AllocError>
+pub(crate) fn put_all<'a>(
+    paths: &mut Vec<&'a str>,
+    texts: Option<&[&'a str]>,
+) -> Result<(), AllocError>
     ensures { OnOk result (map (λ p. p.now) paths.new.items ≡
         map (λ p. p.now) paths.old.items ++ all_listed (option_map (λ s. map (λ v. v.now) s.now) texts.entry)) }
 {

@@ -1,6 +1,6 @@
 -- What the program does for a command line, event by event, and the status that it ends with.
 use Rattle.std.specs.Prelude.{◌≡◌, ◌≢◌, ◌⊎◌, ℕ, true, false, List, [], ◌∷◌, ◌++◌, Option, Some, None, Result, Ok, Err, All, codes, length}
-use Rattle.std.specs.Prelude.{slice_get, string_bytes}
+use Rattle.std.specs.Prelude.{map, slice_get, string_bytes}
 use Rattle.clap.specs.declared.error.Error.{Error}
 use Rattle.clap.specs.declared.error.kind.ErrorKind.TheVariants.{DisplayHelp, DisplayVersion, OutOfMemory}
 use Rattle.clap.specs.Words.{Row, Text, HasKind, fault_of, kind_of, subcommand_of}
@@ -19,6 +19,12 @@ use Rattle.program.specs.declared.world.Trouble.TheVariants as trouble
 use Rattle.commandline.specs.CommandLine.{program_app}
 use Rattle.program.specs.Events.{Bytes, Event, IsQuiet, reads, writes, prints, says, shows}
 use Rattle.commandline.specs.Orders.{AsksFor, IsOrder}
+use Rattle.commandline.specs.TakeOrders.{AsksToTake, IsTakeOrder}
+use Rattle.choosing.specs.declared.wish.Wish.{Wish}
+use Rattle.choosing.specs.declared.wish.Wish.TheVariants as wish
+use Rattle.taketext.specs.declared.answering.Told.{Told}
+use Rattle.taketext.specs.declared.answering.Told.TheVariants as told
+use Rattle.taketext.specs.Answers.{IsTakeAnswer}
 
 -- ---- an answer
 
@@ -108,6 +114,36 @@ IsRead task paths history es status =
 abbrev pub IsFollowed : Task → List Bytes → Option Bytes → List Event → ℕ → Type 0
 IsFollowed task paths history es status = IsUnread paths es status ⊎ IsRead task paths history es status
 
+-- ---- an order to take
+
+-- a library's text is printed, or the line of the refusal is said
+abbrev pub IsTakeTold : Told → List Event → ℕ → Type 0
+IsTakeTold (told.Printed out) es status = IsPrinted out.items es status
+IsTakeTold (told.Refused line) es status = IsSaid (string_bytes line) es status
+
+-- what is answered for a source is told; or the system gives no random numbers, which is said
+abbrev pub IsAnsweredTake : Bytes → Bytes → Wish → List Event → ℕ → Type 0
+IsAnsweredTake path source w es status =
+    ((told : Told) × IsTakeAnswer path source w told × IsTakeTold told es status) ⊎ IsSaid (codes "no random numbers") es status
+
+-- the source can't be read, which is said, and the status is 1; or it is read, and then a library is taken of it
+abbrev pub IsTakeFollowed : Bytes → Wish → List Event → ℕ → Type 0
+IsTakeFollowed path w es status =
+    ((es ≡ reads path None ∷ says (path ++ codes ": cannot read") ∷ []) × (status ≡ 1))
+    ⊎ ((source : Bytes) × (rest : List Event) × (es ≡ reads path (Some source) ∷ rest) × IsAnsweredTake path source w rest status)
+
+-- what is wished for by the labels of `--for`, and those of `--from` and `--to`
+abbrev pub IsWishOf : List Bytes → Option Bytes → Option Bytes → Wish → Type 0
+IsWishOf labels from to wish.All = (labels ≡ []) × (from ≡ None) × (to ≡ None)
+IsWishOf labels from to (wish.For asked) = (labels ≢ []) × (map (λ w. w.now) asked.now ≡ labels) × (from ≡ None) × (to ≡ None)
+IsWishOf labels from to (wish.Between first last) = (labels ≡ []) × (from ≡ Some first.now) × (to ≡ Some last.now)
+
+-- a library is taken by what is wished for; or the options don't go together, which is said, and no file is read
+abbrev pub IsTakeDone : Bytes → List Bytes → Option Bytes → Option Bytes → List Event → ℕ → Type 0
+IsTakeDone path labels from to es status =
+    ((w : Wish) × IsWishOf labels from to w × IsTakeFollowed path w es status)
+    ⊎ (((w : Wish) → IsWishOf labels from to w → ⊥) × IsSaid (codes "--from and --to go together, without --for") es status)
+
 -- ---- a command line
 
 -- the parser's text is shown, and the status is 0 for help and the version, and 2 for all else; or it can't be, which is said, and it is 1
@@ -122,12 +158,20 @@ abbrev pub IsOrdered : Option (Text × List Row) → List Event → ℕ → Type
 IsOrdered found es status =
     (task : Task) × (paths : List Bytes) × (history : Option Bytes) × IsOrder found task paths history × IsFollowed task paths history es status
 
--- no subcommand, or one that asks for no task
+-- a subcommand with an order to take, which is done
+abbrev pub IsTakeOrdered : Option (Text × List Row) → List Event → ℕ → Type 0
+IsTakeOrdered found es status =
+    (path : Bytes) × (labels : List Bytes) × (from : Option Bytes) × (to : Option Bytes) × IsTakeOrder found path labels from to
+    × IsTakeDone path labels from to es status
+
+-- no subcommand, or one that asks for no task and for nothing to take
 abbrev pub IsUnasked : Option (Text × List Row) → List Event → ℕ → Type 0
-IsUnasked found es status = ((task : Task) → AsksFor found task → ⊥) × IsSaid (codes "the command line cannot be read") es status
+IsUnasked found es status =
+    ((task : Task) → AsksFor found task → ⊥) × ((path : Bytes) → AsksToTake found path → ⊥)
+    × IsSaid (codes "the command line cannot be read") es status
 
 abbrev pub IsMatched : Option (Text × List Row) → List Event → ℕ → Type 0
-IsMatched found es status = IsOrdered found es status ⊎ IsUnasked found es status
+IsMatched found es status = IsOrdered found es status ⊎ (IsTakeOrdered found es status ⊎ IsUnasked found es status)
 
 -- the words are none of the program's command lines, or ask for help or the version, which the parser tells by its error
 abbrev pub IsUsage : List Text → List Event → ℕ → Type 0

@@ -7,6 +7,7 @@ ghost use Rattle.program.specs.Events.{Event, Adds, says};
 ghost use Rattle.commandline.specs.Orders.{AsksWithin};
 ghost use Rattle.program.specs.Conduct.{IsPrinted, IsWritten, IsTold, IsReadBehind, AreRead, IsUnreadTold, IsJobAnswered, IsAnswered, IsFollowed, IsShown, IsMatched, IsObeyed, EndsBy, Obeys};
 
+use crate::take::obey_take;
 use crate::world::{Trouble, World};
 use clap::ArgMatches;
 use clap::error::ErrorKind;
@@ -18,7 +19,7 @@ use std::sync::Wait;
 use std::thread::Threads;
 
 /// Says why nothing was printed: one line, and status 1.
-fn refuse<W: World>(world: &mut W, line: &str) -> u8
+pub(crate) fn refuse<W: World>(world: &mut W, line: &str) -> u8
     ensures said { Adds (W.done world.old) (W.done world.new) (says line.now ∷ []) }
     ensures status { result ≡ 1 }
 {
@@ -27,7 +28,7 @@ fn refuse<W: World>(world: &mut W, line: &str) -> u8
 }
 
 /// Prints a text, or says that it can't.
-fn print_out<W: World>(world: &mut W, out: &[u8]) -> u8
+pub(crate) fn print_out<W: World>(world: &mut W, out: &[u8]) -> u8
     ensures { (es : List Event) × Adds (W.done world.old) (W.done world.new) es × IsPrinted out.now es result }
 {
     if world.print(out) {
@@ -224,7 +225,7 @@ fn obey_matches<R: Threads + Wait + Sync, W: World, V: Watch + Sync>(
 {
     match order_of(alloc, matches) {
         Ok(Some(order)) => follow(rt, alloc, world, keys, &order, watch),
-        Ok(None) => Ok(refuse(world, "the command line cannot be read")),
+        Ok(None) => obey_take(rt, alloc, world, keys, matches),
         Err(_) => Err(AllocError),
     }
 }

@@ -4,9 +4,10 @@
 mod conduct;
 mod host;
 mod progress;
+mod take;
 mod world;
 
-pub use commandline::{Order, order_of};
+pub use commandline::{Order, TakeOrder, order_of, take_of};
 pub use conduct::obey;
 pub use host::run;
 pub use world::{Trouble, World};

@@ -1,0 +1,25 @@
+use Rattle.std.proofs.Common.{◌∷◌, ◌++◌, [], Some, None, codes, inl, refl}
+use Rattle.program.specs.Events.{reads, says}
+use Rattle.program.proofs.Behind.{adds_more}
+use Rattle.program.proofs.Taken.{one_read, source_read}
+use Rattle.program.proofs.take.take_source.Goals as goal
+
+pub returns-in-Ok : goal.returns-in-Ok
+returns-in-Ok g c =
+    let rest = c.answer_source.ensures in
+    let source = c.in-Ok.source.items in
+    let path = c.args.path.now in (
+      reads path (Some source) ∷ rest.0,
+      adds_more c.in-Ok.ensures rest.1,
+      source_read path source c.args.wish rest.0 c.answer_source.result (rw c.as_slice.ensures.value at rest.2),
+    )
+
+pub returns-in-Err-NoMemory : goal.returns-in-Err-NoMemory
+returns-in-Err-NoMemory g c = (reads c.args.path.now None ∷ [], c.in-Err-NoMemory.ensures, one_read c.args.path.now None)
+
+pub returns-in-Err-Refused : goal.returns-in-Err-Refused
+returns-in-Err-Refused g c = (
+  reads c.args.path.now None ∷ says (c.args.path.now ++ codes ": cannot read") ∷ [],
+  adds_more c.in-Err-Refused.ensures c.say_of.ensures,
+  inl (refl, refl),
+)
