@@ -1,7 +1,7 @@
 pub mod Seeing
 pub mod Refusing
 pub mod Chaining
-pub mod Restepping
+pub mod Restepped
 pub mod Touching
 pub mod ByteKeys
 pub mod Outcomes

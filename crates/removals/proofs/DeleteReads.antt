@@ -17,7 +17,7 @@ use Rattle.cells.specs.Lookups.{ForEachHeld, IsFoundAt}
 use Rattle.cells.proofs.Asking.{asks_wider}
 use Rattle.cells.proofs.Counted.{listed_within}
 use Rattle.cells.proofs.Sights.{matches_back, after_looks}
-use Rattle.groundwork.proofs.Restepping.{CountsOutOf}
+use Rattle.groundwork.proofs.Restepped.{CountsOutOf}
 use Rattle.groundwork.proofs.Since.{ReadsSince, OfCommandFound, since_then, of_slot, taking_out, look_before}
 use Rattle.groundwork.proofs.Touching.{cited_citers}
 use Rattle.groundwork.proofs.RestepReads.{stored_before}

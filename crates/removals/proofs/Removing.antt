@@ -23,7 +23,7 @@ use Rattle.cells.proofs.Deleting.{still_chained, deleted_shows}
 use Rattle.groundwork.proofs.Chaining.{TakesOut, taken_out}
 use Rattle.groundwork.proofs.Seeing.{views_later, found_later}
 use Rattle.groundwork.proofs.Refusing.{first_refuses, first_passes, of_some}
-use Rattle.groundwork.proofs.Restepping.{CountsOutOf}
+use Rattle.groundwork.proofs.Restepped.{CountsOutOf}
 use Rattle.removals.specs.Changes.{DeletesAt}
 
 -- what a proof that was read cites is counted out, its slot is taken out of its chain, and its five cells are emptied

@@ -16,7 +16,7 @@ use Rattle.cells.proofs.Sights.{matches_back, after_looks}
 use Rattle.cells.proofs.Keeping.{keeps_same, keeps_trans, keeps_wider}
 use Rattle.cells.proofs.Counted.{listed_within}
 use Rattle.groundwork.specs.Touches.{IsOfDeletion, KeepsTo}
-use Rattle.groundwork.proofs.Restepping.{CountsOutOf}
+use Rattle.groundwork.proofs.Restepped.{CountsOutOf}
 use Rattle.groundwork.proofs.Seeing.{views_later, found_later}
 use Rattle.groundwork.proofs.Touching.{cited_citers}
 use Rattle.removals.specs.Changes.{DeletesWithin}

@@ -14,8 +14,7 @@ use Rattle.cells.specs.Answers.{WritesSome}
 use Rattle.groundwork.specs.Changes.{ReprovesAt}
 use Rattle.groundwork.specs.Touches.{ReprovesWithin}
 use Rattle.groundwork.proofs.Touching.{resteps_within}
-use Rattle.groundwork.proofs.Restepping.{CountsOutOf}
-use Rattle.groundwork.proofs.Restepping.{CountsInOf, restepped}
+use Rattle.groundwork.proofs.Restepped.{CountsOutOf, CountsInOf, restepped}
 use Rattle.cells.specs.Sight.{ReadsWithin}
 use Rattle.groundwork.proofs.Since.{ReadsSince, since_then}
 use Rattle.groundwork.proofs.RestepReads.{OfResteps, resteps_end, resteps_proof, resteps_out, resteps_in}

@@ -1,5 +1,6 @@
 -- The slot of a theorem that is given another proof.
 use Rattle.std.proofs.Common.{◌≡◌, ◌≢◌, ℕ, ◌<◌, ◌^◌, List, refl, sym, ap, subst, ◌∙◌, arith, nat_eq}
+use Rattle.std.specs.Prelude.{All}
 use Rattle.mmsyntax.specs.Assertions.{Distinct}
 use Rattle.library.specs.Library.{Setting}
 use Rattle.library.specs.Edits.{changed, with_proof}
@@ -13,14 +14,13 @@ use Rattle.cells.specs.Slots.{proof_cell, citers_cell}
 use Rattle.cells.specs.Shows.{AreStoredAs, Shows}
 use Rattle.cells.specs.Sight.{Sight, Matches, Onward, Looks, after}
 use Rattle.cells.specs.Lookups.{ForEachHeld}
-use Rattle.cells.specs.Filling.{AreCitedSlots, AreOnlyIn, CountsIn}
+use Rattle.cells.specs.Filling.{AreCitedSlots, AreOnlyIn, CountsIn, CountsOut}
 use Rattle.cells.proofs.Sights.{matches_back, after_looks}
 use Rattle.cells.proofs.Holding.{stored_named, named_held}
 use Rattle.cells.proofs.Counted.{listed_within}
 use Rattle.cells.proofs.Reproving.{less_few, reproved_shows}
 use Rattle.groundwork.specs.Changes.{ReprovesAt}
 use Rattle.groundwork.proofs.Seeing.{views_later, found_later}
-use Rattle.groundwork.proofs.Restepping.{CountsOutOf}
 
 -- what counting out ensures
 abbrev pub CountsOutOf : {O : Type 0} → Sight O → Sight O → List ℕ → Type 0
