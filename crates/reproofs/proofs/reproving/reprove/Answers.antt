@@ -10,7 +10,6 @@ use Rattle.cells.proofs.Laying.{ok_mapped}
 use Rattle.cells.proofs.ReadBack.{held_later}
 use Rattle.cells.specs.Lookups.{ForEach}
 use Rattle.cells.specs.Shows.{AreStoredAs}
-use Rattle.mmsyntax.specs.declared.statement.Assertion.{Assertion}
 use Rattle.mmsyntax.specs.declared.statement.Step.{Step}
 use Rattle.groundwork.specs.Changes.{ReprovesAt}
 use Rattle.groundwork.specs.Touches.{ReprovesWithin}
