@@ -1,5 +1,5 @@
 -- Which cells `delete` reads, from what its parts read.
-use Rattle.std.proofs.Common.{◌≡◌, ◌<◌, ◌≤◌, ◌*◌, ◌⊎◌, ℕ, List, ap, subst, ◌∙◌, inl, inr, ⊎_elim, arith}
+use Rattle.std.proofs.Common.{◌≡◌, ◌<◌, ◌≤◌, ◌*◌, ℕ, List, ap, subst, ◌∙◌, inl, inr, ⊎_elim, arith}
 use Rattle.library.specs.declared.library.Ranked.{Ranked}
 use Rattle.library.specs.declared.command.Command.TheVariants.{Delete}
 use Rattle.library.specs.Library.{Setting}

@@ -1,5 +1,5 @@
 -- For which cells `delete` keeps values aside, from what its parts keep aside.
-use Rattle.std.proofs.Common.{◌≡◌, ◌<◌, ◌⊎◌, ℕ, List, sym, ap, subst, ◌∙◌, inl, inr, ⊎_elim, arith}
+use Rattle.std.proofs.Common.{◌≡◌, ◌<◌, ℕ, List, sym, ap, subst, ◌∙◌, inl, inr, ⊎_elim, arith}
 use Rattle.library.specs.declared.command.Command.TheVariants.{Delete}
 use Rattle.library.specs.Library.{Setting}
 use Rattle.library.proofs.Places.{found_in}

@@ -1,5 +1,5 @@
 -- Which cells `reprove` reads, and for which it keeps values aside, from what its parts do.
-use Rattle.std.proofs.Common.{ℕ, List, inl, inr, ◌⊎◌, ⊎_elim}
+use Rattle.std.proofs.Common.{ℕ, List, inl, inr, ⊎_elim}
 use Rattle.mmsyntax.specs.declared.statement.Step.{Step}
 use Rattle.library.specs.declared.command.Command.TheVariants.{Reprove}
 use Rattle.bodystore.specs.declared.stored.StoredStep.{StoredStep}
