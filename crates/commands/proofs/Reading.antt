@@ -10,7 +10,8 @@ use Rattle.ranges.specs.Ranges.{Has}
 use Rattle.cells.specs.Sight.{Sight, WasAsked, Onward}
 use Rattle.cells.specs.Answers.{DoesAll}
 use Rattle.cells.proofs.Sights.{onward_trans, matches_back}
-use Rattle.commands.specs.Footprints.{IsReadByOne, ReadsFor, ReadsForAll}
+use Rattle.commands.specs.Footprints.{IsReadByOne, ReadsForAll}
+use Rattle.groundwork.specs.Footprints.{ReadsFor}
 
 -- ---- whether a cell was asked for
 

@@ -7,7 +7,8 @@ use Rattle.cells.specs.Sight.{Sight, WasWritten, Onward}
 use Rattle.cells.specs.Answers.{DoesAll}
 use Rattle.cells.proofs.Sights.{onward_trans, matches_back}
 use Rattle.cells.proofs.Keeping.{keeps_same}
-use Rattle.commands.specs.Touches.{IsTouchedByOne, KeepsTo, KeepsToAll}
+use Rattle.commands.specs.Touches.{IsTouchedByOne, KeepsToAll}
+use Rattle.groundwork.specs.Touches.{KeepsTo}
 
 pub keeps_none : {O : Type 0} → (s : Sight O) → KeepsToAll s s []
 keeps_none s = keeps_same (IsTouchedByOne s s []) s s refl

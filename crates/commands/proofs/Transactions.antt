@@ -19,7 +19,8 @@ use Rattle.cells.proofs.Sights.{looks_refl, looks_trans, matches_back}
 use Rattle.cells.specs.Answers.{ForEachBefore, WritesIfEdit, error_at, Does, IsRefused, CommandAnswers, DoesAll, RefusesAll, RunAnswers}
 use Rattle.cells.specs.declared.ending.CommandError.{CommandError}
 use Rattle.cells.specs.declared.ending.CommandError.TheVariants as command
-use Rattle.commands.specs.Takes.{command_words, TakesBodies, most_words_of}
+use Rattle.groundwork.specs.Takes.{command_words, TakesBodies}
+use Rattle.commands.specs.Takes.{most_words_of}
 use Rattle.commands.proofs.Taking.{few_words}
 
 -- ---- over a library

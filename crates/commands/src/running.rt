@@ -4,20 +4,22 @@ ghost use Rattle.std.specs.Prelude.{◌≡◌, All, IfOk};
 ghost use Rattle.library.specs.Fitting.{CommandFits};
 ghost use Rattle.cells.specs.Sight.{Onward, TakesAtMost};
 ghost use Rattle.cells.specs.Answers.{ForEachBefore, MayDo, CommandAnswers, RunAnswers};
-ghost use Rattle.commands.specs.Takes.{TakesBodies, most_words_of};
-ghost use Rattle.commands.specs.Touches.{KeepsTo, KeepsToAll};
-ghost use Rattle.commands.specs.Footprints.{ReadsFor, ReadsForAll};
+ghost use Rattle.groundwork.specs.Takes.{TakesBodies};
+ghost use Rattle.commands.specs.Takes.{most_words_of};
+ghost use Rattle.groundwork.specs.Touches.{KeepsTo};
+ghost use Rattle.commands.specs.Touches.{KeepsToAll};
+ghost use Rattle.groundwork.specs.Footprints.{ReadsFor};
+ghost use Rattle.commands.specs.Footprints.{ReadsForAll};
 
-use crate::adding::add;
-use crate::deleting::delete;
-use crate::moving::move_to;
-use crate::renaming::rename;
-use crate::replacing::replace;
-use crate::reproving::reprove;
-use crate::showing::{list, show};
 use cells::{Cells, CommandError, RunError};
 use library::{Command, Reply};
 use mmsyntax::{Prelude, Sequence};
+use moves::move_to;
+use newlabels::{add, rename};
+use removals::delete;
+use replacements::replace;
+use reproofs::reprove;
+use shows::{list, show};
 use std::alloc::Global;
 
 /// Does the commands of a transaction, one after another, each over what those before it kept aside, and answers the reply to each. Each command is

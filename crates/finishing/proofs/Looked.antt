@@ -19,7 +19,7 @@ use Rattle.plaincells.proofs.Logs.{length-undone}
 use Rattle.plaincells.proofs.Numbered.{over_all}
 use Rattle.plaincells.proofs.PlainSights.{plain_matches}
 use Rattle.plaincells.proofs.Widened.{shows_widened}
-use Rattle.commands.specs.Looking.{AreEntries}
+use Rattle.shows.specs.Looking.{AreEntries}
 
 -- the values are those that are numbered
 numbered_values : (c : ℕ) (values : List ℕ) → map (λ p. p.1) (numbered_from c values) ≡ values

@@ -10,7 +10,7 @@ use Rattle.cells.specs.State.{with_writes}
 use Rattle.cells.specs.Shows.{Shows}
 use Rattle.cells.specs.Sight.{Looks as LooksOn, Views}
 use Rattle.cells.specs.Lookups.{ForEach}
-use Rattle.commands.specs.Looking.{AreEntries}
+use Rattle.shows.specs.Looking.{AreEntries}
 use Rattle.tlwords.specs.declared.mode.Mode.{Mode}
 use Rattle.tlwords.specs.declared.mode.Mode.TheVariants.{Reading, Writing}
 use Rattle.tlwords.specs.declared.outcome.Conflict.{Conflict}

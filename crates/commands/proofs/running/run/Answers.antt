@@ -10,7 +10,8 @@ use Rattle.library.specs.Fitting.{CommandFits}
 use Rattle.cells.proofs.Sights.{onward_refl, onward_trans}
 use Rattle.cells.specs.Sight.{TakesAtMost}
 use Rattle.cells.specs.Answers.{ForEachBefore, DoesAll, RunAnswers, error_at}
-use Rattle.commands.specs.Takes.{most_words_of, command_words}
+use Rattle.commands.specs.Takes.{most_words_of}
+use Rattle.groundwork.specs.Takes.{command_words}
 use Rattle.commands.proofs.Transactions.{takes_none, takes_more, does_none, does_more, ends}
 use Rattle.commands.proofs.Taking.{few_of_all}
 use Rattle.commands.specs.Touches.{KeepsToAll}

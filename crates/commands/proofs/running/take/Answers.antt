@@ -1,9 +1,9 @@
 use Rattle.std.proofs.Common.{sym, subst}
 use Rattle.std.specs.Prelude.{IfOk}
-use Rattle.commands.specs.Takes.{TakesBodies}
+use Rattle.groundwork.specs.Takes.{TakesBodies}
 use Rattle.library.specs.declared.command.Command.{Command}
-use Rattle.commands.specs.Touches.{KeepsTo}
-use Rattle.commands.specs.Footprints.{ReadsFor}
+use Rattle.groundwork.specs.Touches.{KeepsTo}
+use Rattle.groundwork.specs.Footprints.{ReadsFor}
 use Rattle.commands.proofs.running.take.Goals as goal
 
 pub returns-in-Add-clause-taken : goal.returns-in-Add-clause-taken

@@ -1,0 +1,16 @@
+pub mod Seeing
+pub mod Refusing
+pub mod Chaining
+pub mod Restepped
+pub mod Touching
+pub mod ByteKeys
+pub mod Outcomes
+pub mod CitedRanks
+pub mod NotedFrames
+pub mod ProofTests
+pub mod OnlyLooks
+pub mod Holders
+pub mod Taking
+pub mod Since
+pub mod TestReads
+pub mod RestepReads

@@ -1,0 +1,294 @@
+use Rattle.std.proofs.Common.{◌≡◌, ◌<◌, ℕ, List, Option, Some, None, Vec, true, sym, subst, inl, inr}
+use Rattle.std.specs.declared.alloc.Global.{Global}
+use Rattle.std.specs.Option.{option_map}
+use Rattle.mmsyntax.specs.declared.statement.Step.{Step}
+use Rattle.derivation.specs.declared.fault.ProofFault.{ProofFault}
+use Rattle.bodystore.specs.declared.stored.StoredStep.{StoredStep}
+use Rattle.bodystore.specs.declared.stored.StoredStep.TheVariants.{Slot}
+use Rattle.ranges.specs.Ranges.{Has}
+use Rattle.cells.specs.Sight.{Sight}
+use Rattle.cells.specs.Lookups.{Resolves}
+use Rattle.cells.proofs.Sights.{looks_trans}
+use Rattle.cells.proofs.Settings.{same_slots}
+use Rattle.cells.proofs.Laying.{ok_mapped}
+use Rattle.groundwork.specs.Citing.{TellsNotBelow, TellsFault, TellsRefusal, frames_in}
+use Rattle.groundwork.proofs.ProofTests.{fails_unknown, fails_below, fails_fault, passes, sifted}
+use Rattle.cells.specs.Slots.{statement_cell, rank_cell}
+use Rattle.cells.specs.Sight.{ReadsWithin}
+use Rattle.cells.specs.Footprints.{ReadsWhere, IsOfResolving}
+use Rattle.cells.proofs.Sights.{looks_refl}
+use Rattle.groundwork.specs.Footprints.{IsRankOfSteps, IsStatementOfSteps}
+use Rattle.groundwork.proofs.Since.{ReadsSince, since_then, since_where}
+use Rattle.groundwork.proofs.TestReads.{OfTest, since_cited}
+use Rattle.groundwork.proofs.citing.test_proof.Goals as goal
+
+-- what is resolved of the slice is of the proof
+of_proof : {O : Type 0} → (s : Sight O) (steps proof : List Step) (found other : Option (Vec StoredStep Global)) → steps ≡ proof → found ≡ other
+    → Resolves s steps (option_map (λ v. v.items) found) → Resolves s proof (option_map (λ v. v.items) other)
+of_proof s steps proof found other own is h =
+    subst (λ (xs : List Step). Resolves s xs (option_map (λ v. v.items) other)) own
+    (subst (λ (o : Option (Vec StoredStep Global)). Resolves s steps (option_map (λ v. v.items) o)) is h)
+
+pub returns-in_default-clause-err : goal.returns-in_default-clause-err
+returns-in_default-clause-err g c =
+    let s = g.C.Cells.sight c.resolve.new.cells in
+    let rank = c.args.rank in
+    let a = c.args.theorem.now in
+    subst (TellsRefusal s rank a) (sym c.into.ensures)
+    (fails_unknown s rank a
+    (of_proof s c.as_slice-steps.result.now c.args.theorem.now.proof c.in_ok-kept.field-0 None c.as_slice-steps.ensures
+    c.in_default.is c.in_ok-kept.ensures.ok))
+
+pub returns-in_err-map_err-clause-looks : goal.returns-in_err-map_err-clause-looks
+returns-in_err-map_err-clause-looks g c = looks_trans _ _ _ c.resolve.ensures.looks c.cites_not_below.ensures.looks
+
+pub returns-then-branch-clause-looks : goal.returns-then-branch-clause-looks
+returns-then-branch-clause-looks g c = looks_trans _ _ _ c.resolve.ensures.looks c.cites_not_below.ensures.looks
+
+pub returns-then-branch-clause-err : goal.returns-then-branch-clause-err
+returns-then-branch-clause-err g c =
+    let s1 = g.C.Cells.sight c.resolve.new.cells in
+    let s2 = g.C.Cells.sight c.cites_not_below.new.cells in
+    let rank = c.args.rank in
+    let a = c.args.theorem.now in
+    let kept = c.in-Some.kept.items in
+    let resolved = of_proof s1 c.as_slice-steps.result.now c.args.theorem.now.proof c.in_ok-kept.field-0 (Some c.in-Some.kept)
+    c.as_slice-steps.ensures c.in-Some.is c.in_ok-kept.ensures.ok in
+    let told : TellsNotBelow (g.C.Cells.sight c.cites_not_below.new.cells) c.args.rank c.as_slice.result.now c.in_ok-map_err.field-0 =
+    ok_mapped _ (λ b. TellsNotBelow (g.C.Cells.sight c.cites_not_below.new.cells) c.args.rank c.as_slice.result.now b) _ _ _
+    c.in_ok-map_err.was c.map_err.ensures.cases c.cites_not_below.ensures.ok in
+    subst (TellsRefusal s2 rank a) (sym c.into-then-branch.ensures)
+    (fails_below s1 s2 rank a kept c.cites_not_below.ensures.looks resolved
+    (subst (λ (ks : List StoredStep). TellsNotBelow s2 rank ks true) c.as_slice.ensures.value
+    (subst (λ b. TellsNotBelow s2 rank c.as_slice.result.now b) c.if-branch.true told)))
+
+pub cited_frames-requires : goal.cited_frames-requires
+cited_frames-requires g c = λ i h.
+    let s1 = g.C.Cells.sight c.resolve.new.cells in
+    let resolved = of_proof s1 c.as_slice-steps.result.now c.args.theorem.now.proof c.in_ok-kept.field-0 (Some c.in-Some.kept)
+    c.as_slice-steps.ensures c.in-Some.is c.in_ok-kept.ensures.ok in
+    subst (λ (n : ℕ). i < n) (sym (same_slots _ _ c.cites_not_below.ensures.looks))
+    (resolved.1 i (subst (λ (ks : List StoredStep). Has (Slot i) ks) c.as_slice-2.ensures.value h))
+
+pub returns-in_err-frames-clause-looks : goal.returns-in_err-frames-clause-looks
+returns-in_err-frames-clause-looks g c =
+    looks_trans _ _ _ c.resolve.ensures.looks (looks_trans _ _ _ c.cites_not_below.ensures.looks c.cited_frames.ensures.looks)
+
+pub returns-in_err-fault-clause-looks : goal.returns-in_err-fault-clause-looks
+returns-in_err-fault-clause-looks g c =
+    looks_trans _ _ _ c.resolve.ensures.looks (looks_trans _ _ _ c.cites_not_below.ensures.looks c.cited_frames.ensures.looks)
+
+pub returns-in-Some-2-clause-looks : goal.returns-in-Some-2-clause-looks
+returns-in-Some-2-clause-looks g c =
+    looks_trans _ _ _ c.resolve.ensures.looks (looks_trans _ _ _ c.cites_not_below.ensures.looks c.cited_frames.ensures.looks)
+
+pub returns-in-Some-2-clause-err : goal.returns-in-Some-2-clause-err
+returns-in-Some-2-clause-err g c =
+    let s0 = g.C.Cells.sight c.args.cells.now in
+    let s1 = g.C.Cells.sight c.resolve.new.cells in
+    let s2 = g.C.Cells.sight c.cites_not_below.new.cells in
+    let s3 = g.C.Cells.sight c.cited_frames.new.cells in
+    let rank = c.args.rank in
+    let a = c.args.theorem.now in
+    let t = c.args.prelude.now in
+    let kept = c.in-Some.kept.items in
+    let frames = frames_in c.in_ok-frames.frames.by_label in
+    let resolved = of_proof s1 c.as_slice-steps.result.now c.args.theorem.now.proof c.in_ok-kept.field-0 (Some c.in-Some.kept)
+    c.as_slice-steps.ensures c.in-Some.is c.in_ok-kept.ensures.ok in
+    let told : TellsNotBelow (g.C.Cells.sight c.cites_not_below.new.cells) c.args.rank c.as_slice.result.now c.in_ok-map_err.field-0 =
+    ok_mapped _ (λ b. TellsNotBelow (g.C.Cells.sight c.cites_not_below.new.cells) c.args.rank c.as_slice.result.now b) _ _ _
+    c.in_ok-map_err.was c.map_err.ensures.cases c.cites_not_below.ensures.ok in
+    let known = sifted s0 s1 s2 s3 t rank a c.as_slice-steps.result.now kept c.as_slice.result.now c.as_slice-2.result.now frames
+    c.requires.prelude c.resolve.ensures.looks c.cites_not_below.ensures.looks c.cited_frames.ensures.looks c.as_slice-steps.ensures
+    c.as_slice.ensures.value c.as_slice-2.ensures.value resolved
+    (subst (λ b. TellsNotBelow s2 rank c.as_slice.result.now b) c.if-branch.false told) c.in_ok-frames.ensures.ok in
+    subst (TellsRefusal s3 rank a) (sym c.into-in-Some-2.ensures)
+    (fails_fault s3 t rank a kept frames c.in-Some-2.fault known
+    (subst (λ (o : Option ProofFault). TellsFault frames t a o) c.in-Some-2.is c.in_ok-fault.ensures))
+
+pub returns-in-None-clause-looks : goal.returns-in-None-clause-looks
+returns-in-None-clause-looks g c =
+    looks_trans _ _ _ c.resolve.ensures.looks (looks_trans _ _ _ c.cites_not_below.ensures.looks c.cited_frames.ensures.looks)
+
+pub returns-in-None-clause-ok : goal.returns-in-None-clause-ok
+returns-in-None-clause-ok g c =
+    let s0 = g.C.Cells.sight c.args.cells.now in
+    let s1 = g.C.Cells.sight c.resolve.new.cells in
+    let s2 = g.C.Cells.sight c.cites_not_below.new.cells in
+    let s3 = g.C.Cells.sight c.cited_frames.new.cells in
+    let rank = c.args.rank in
+    let a = c.args.theorem.now in
+    let t = c.args.prelude.now in
+    let kept = c.in-Some.kept.items in
+    let frames = frames_in c.in_ok-frames.frames.by_label in
+    let resolved = of_proof s1 c.as_slice-steps.result.now c.args.theorem.now.proof c.in_ok-kept.field-0 (Some c.in-Some.kept)
+    c.as_slice-steps.ensures c.in-Some.is c.in_ok-kept.ensures.ok in
+    let told : TellsNotBelow (g.C.Cells.sight c.cites_not_below.new.cells) c.args.rank c.as_slice.result.now c.in_ok-map_err.field-0 =
+    ok_mapped _ (λ b. TellsNotBelow (g.C.Cells.sight c.cites_not_below.new.cells) c.args.rank c.as_slice.result.now b) _ _ _
+    c.in_ok-map_err.was c.map_err.ensures.cases c.cites_not_below.ensures.ok in
+    let known = sifted s0 s1 s2 s3 t rank a c.as_slice-steps.result.now kept c.as_slice.result.now c.as_slice-2.result.now frames
+    c.requires.prelude c.resolve.ensures.looks c.cites_not_below.ensures.looks c.cited_frames.ensures.looks c.as_slice-steps.ensures
+    c.as_slice.ensures.value c.as_slice-2.ensures.value resolved
+    (subst (λ b. TellsNotBelow s2 rank c.as_slice.result.now b) c.if-branch.false told) c.in_ok-frames.ensures.ok in
+    passes s1 s3 t rank a kept frames (looks_trans _ _ _ c.cites_not_below.ensures.looks c.cited_frames.ensures.looks) resolved known
+    (subst (λ (o : Option ProofFault). TellsFault frames t a o) c.in-None.is c.in_ok-fault.ensures)
+
+pub returns-in_err-kept-clause-reads : goal.returns-in_err-kept-clause-reads
+returns-in_err-kept-clause-reads g c =
+    let s0 = g.C.Cells.sight c.args.cells.now in
+    let s1 = g.C.Cells.sight c.resolve.new.cells in
+    let steps = c.args.theorem.now.proof in
+    let r1 : ReadsSince (OfTest s0 c.args.theorem.now.proof) s0 s0 s1 =
+    since_where (OfTest s0 steps) s0 s0 s1 (looks_refl s0) (λ n. IsOfResolving n steps) (λ st lib k is. inl is)
+    (subst (λ (xs : List Step). ReadsWhere (IsOfResolving s0.setting.slots xs) s0 s1) c.as_slice-steps.ensures c.resolve.ensures.reads) in
+    r1
+
+pub returns-in_default-clause-reads : goal.returns-in_default-clause-reads
+returns-in_default-clause-reads g c =
+    let s0 = g.C.Cells.sight c.args.cells.now in
+    let s1 = g.C.Cells.sight c.resolve.new.cells in
+    let steps = c.args.theorem.now.proof in
+    let r1 : ReadsSince (OfTest s0 c.args.theorem.now.proof) s0 s0 s1 =
+    since_where (OfTest s0 steps) s0 s0 s1 (looks_refl s0) (λ n. IsOfResolving n steps) (λ st lib k is. inl is)
+    (subst (λ (xs : List Step). ReadsWhere (IsOfResolving s0.setting.slots xs) s0 s1) c.as_slice-steps.ensures c.resolve.ensures.reads) in
+    r1
+
+pub returns-in_err-map_err-clause-reads : goal.returns-in_err-map_err-clause-reads
+returns-in_err-map_err-clause-reads g c =
+    let s0 = g.C.Cells.sight c.args.cells.now in
+    let s1 = g.C.Cells.sight c.resolve.new.cells in
+    let steps = c.args.theorem.now.proof in
+    let r1 : ReadsSince (OfTest s0 c.args.theorem.now.proof) s0 s0 s1 =
+    since_where (OfTest s0 steps) s0 s0 s1 (looks_refl s0) (λ n. IsOfResolving n steps) (λ st lib k is. inl is)
+    (subst (λ (xs : List Step). ReadsWhere (IsOfResolving s0.setting.slots xs) s0 s1) c.as_slice-steps.ensures c.resolve.ensures.reads) in
+    let s2 = g.C.Cells.sight c.cites_not_below.new.cells in
+    let kept = c.in-Some.kept.items in
+    let resolved = of_proof s1 c.as_slice-steps.result.now c.args.theorem.now.proof c.in_ok-kept.field-0 (Some c.in-Some.kept)
+    c.as_slice-steps.ensures c.in-Some.is c.in_ok-kept.ensures.ok in
+    let ranks : ReadsWithin (IsRankOfSteps c.in-Some.kept.items) s1 s2 =
+    subst (λ (ks : List StoredStep). ReadsWithin (IsRankOfSteps ks) s1 s2) c.as_slice.ensures.value c.cites_not_below.ensures.reads in
+    let r2 : ReadsSince (OfTest s0 c.args.theorem.now.proof) s0 s0 s2 =
+    since_then (OfTest s0 steps) r1 c.cites_not_below.ensures.looks.onward
+    (since_cited (OfTest s0 steps) s0 s1 s1 s2 steps kept rank_cell c.resolve.ensures.looks (looks_refl s1)
+    c.cites_not_below.ensures.looks.onward resolved.2 (λ st lib k is. inr (inr is)) ranks) in
+    r2
+
+pub returns-then-branch-clause-reads : goal.returns-then-branch-clause-reads
+returns-then-branch-clause-reads g c =
+    let s0 = g.C.Cells.sight c.args.cells.now in
+    let s1 = g.C.Cells.sight c.resolve.new.cells in
+    let steps = c.args.theorem.now.proof in
+    let r1 : ReadsSince (OfTest s0 c.args.theorem.now.proof) s0 s0 s1 =
+    since_where (OfTest s0 steps) s0 s0 s1 (looks_refl s0) (λ n. IsOfResolving n steps) (λ st lib k is. inl is)
+    (subst (λ (xs : List Step). ReadsWhere (IsOfResolving s0.setting.slots xs) s0 s1) c.as_slice-steps.ensures c.resolve.ensures.reads) in
+    let s2 = g.C.Cells.sight c.cites_not_below.new.cells in
+    let kept = c.in-Some.kept.items in
+    let resolved = of_proof s1 c.as_slice-steps.result.now c.args.theorem.now.proof c.in_ok-kept.field-0 (Some c.in-Some.kept)
+    c.as_slice-steps.ensures c.in-Some.is c.in_ok-kept.ensures.ok in
+    let ranks : ReadsWithin (IsRankOfSteps c.in-Some.kept.items) s1 s2 =
+    subst (λ (ks : List StoredStep). ReadsWithin (IsRankOfSteps ks) s1 s2) c.as_slice.ensures.value c.cites_not_below.ensures.reads in
+    let r2 : ReadsSince (OfTest s0 c.args.theorem.now.proof) s0 s0 s2 =
+    since_then (OfTest s0 steps) r1 c.cites_not_below.ensures.looks.onward
+    (since_cited (OfTest s0 steps) s0 s1 s1 s2 steps kept rank_cell c.resolve.ensures.looks (looks_refl s1)
+    c.cites_not_below.ensures.looks.onward resolved.2 (λ st lib k is. inr (inr is)) ranks) in
+    r2
+
+pub returns-in_err-frames-clause-reads : goal.returns-in_err-frames-clause-reads
+returns-in_err-frames-clause-reads g c =
+    let s0 = g.C.Cells.sight c.args.cells.now in
+    let s1 = g.C.Cells.sight c.resolve.new.cells in
+    let steps = c.args.theorem.now.proof in
+    let r1 : ReadsSince (OfTest s0 c.args.theorem.now.proof) s0 s0 s1 =
+    since_where (OfTest s0 steps) s0 s0 s1 (looks_refl s0) (λ n. IsOfResolving n steps) (λ st lib k is. inl is)
+    (subst (λ (xs : List Step). ReadsWhere (IsOfResolving s0.setting.slots xs) s0 s1) c.as_slice-steps.ensures c.resolve.ensures.reads) in
+    let s2 = g.C.Cells.sight c.cites_not_below.new.cells in
+    let kept = c.in-Some.kept.items in
+    let resolved = of_proof s1 c.as_slice-steps.result.now c.args.theorem.now.proof c.in_ok-kept.field-0 (Some c.in-Some.kept)
+    c.as_slice-steps.ensures c.in-Some.is c.in_ok-kept.ensures.ok in
+    let ranks : ReadsWithin (IsRankOfSteps c.in-Some.kept.items) s1 s2 =
+    subst (λ (ks : List StoredStep). ReadsWithin (IsRankOfSteps ks) s1 s2) c.as_slice.ensures.value c.cites_not_below.ensures.reads in
+    let r2 : ReadsSince (OfTest s0 c.args.theorem.now.proof) s0 s0 s2 =
+    since_then (OfTest s0 steps) r1 c.cites_not_below.ensures.looks.onward
+    (since_cited (OfTest s0 steps) s0 s1 s1 s2 steps kept rank_cell c.resolve.ensures.looks (looks_refl s1)
+    c.cites_not_below.ensures.looks.onward resolved.2 (λ st lib k is. inr (inr is)) ranks) in
+    let s3 = g.C.Cells.sight c.cited_frames.new.cells in
+    let statements : ReadsWithin (IsStatementOfSteps c.in-Some.kept.items) s2 s3 =
+    subst (λ (ks : List StoredStep). ReadsWithin (IsStatementOfSteps ks) s2 s3) c.as_slice-2.ensures.value c.cited_frames.ensures.reads in
+    since_then (OfTest s0 steps) r2 c.cited_frames.ensures.looks.onward
+    (since_cited (OfTest s0 steps) s0 s1 s2 s3 steps kept statement_cell c.resolve.ensures.looks c.cites_not_below.ensures.looks
+    c.cited_frames.ensures.looks.onward resolved.2 (λ st lib k is. inr (inl is)) statements)
+
+pub returns-in_err-fault-clause-reads : goal.returns-in_err-fault-clause-reads
+returns-in_err-fault-clause-reads g c =
+    let s0 = g.C.Cells.sight c.args.cells.now in
+    let s1 = g.C.Cells.sight c.resolve.new.cells in
+    let steps = c.args.theorem.now.proof in
+    let r1 : ReadsSince (OfTest s0 c.args.theorem.now.proof) s0 s0 s1 =
+    since_where (OfTest s0 steps) s0 s0 s1 (looks_refl s0) (λ n. IsOfResolving n steps) (λ st lib k is. inl is)
+    (subst (λ (xs : List Step). ReadsWhere (IsOfResolving s0.setting.slots xs) s0 s1) c.as_slice-steps.ensures c.resolve.ensures.reads) in
+    let s2 = g.C.Cells.sight c.cites_not_below.new.cells in
+    let kept = c.in-Some.kept.items in
+    let resolved = of_proof s1 c.as_slice-steps.result.now c.args.theorem.now.proof c.in_ok-kept.field-0 (Some c.in-Some.kept)
+    c.as_slice-steps.ensures c.in-Some.is c.in_ok-kept.ensures.ok in
+    let ranks : ReadsWithin (IsRankOfSteps c.in-Some.kept.items) s1 s2 =
+    subst (λ (ks : List StoredStep). ReadsWithin (IsRankOfSteps ks) s1 s2) c.as_slice.ensures.value c.cites_not_below.ensures.reads in
+    let r2 : ReadsSince (OfTest s0 c.args.theorem.now.proof) s0 s0 s2 =
+    since_then (OfTest s0 steps) r1 c.cites_not_below.ensures.looks.onward
+    (since_cited (OfTest s0 steps) s0 s1 s1 s2 steps kept rank_cell c.resolve.ensures.looks (looks_refl s1)
+    c.cites_not_below.ensures.looks.onward resolved.2 (λ st lib k is. inr (inr is)) ranks) in
+    let s3 = g.C.Cells.sight c.cited_frames.new.cells in
+    let statements : ReadsWithin (IsStatementOfSteps c.in-Some.kept.items) s2 s3 =
+    subst (λ (ks : List StoredStep). ReadsWithin (IsStatementOfSteps ks) s2 s3) c.as_slice-2.ensures.value c.cited_frames.ensures.reads in
+    since_then (OfTest s0 steps) r2 c.cited_frames.ensures.looks.onward
+    (since_cited (OfTest s0 steps) s0 s1 s2 s3 steps kept statement_cell c.resolve.ensures.looks c.cites_not_below.ensures.looks
+    c.cited_frames.ensures.looks.onward resolved.2 (λ st lib k is. inr (inl is)) statements)
+
+pub returns-in-Some-2-clause-reads : goal.returns-in-Some-2-clause-reads
+returns-in-Some-2-clause-reads g c =
+    let s0 = g.C.Cells.sight c.args.cells.now in
+    let s1 = g.C.Cells.sight c.resolve.new.cells in
+    let steps = c.args.theorem.now.proof in
+    let r1 : ReadsSince (OfTest s0 c.args.theorem.now.proof) s0 s0 s1 =
+    since_where (OfTest s0 steps) s0 s0 s1 (looks_refl s0) (λ n. IsOfResolving n steps) (λ st lib k is. inl is)
+    (subst (λ (xs : List Step). ReadsWhere (IsOfResolving s0.setting.slots xs) s0 s1) c.as_slice-steps.ensures c.resolve.ensures.reads) in
+    let s2 = g.C.Cells.sight c.cites_not_below.new.cells in
+    let kept = c.in-Some.kept.items in
+    let resolved = of_proof s1 c.as_slice-steps.result.now c.args.theorem.now.proof c.in_ok-kept.field-0 (Some c.in-Some.kept)
+    c.as_slice-steps.ensures c.in-Some.is c.in_ok-kept.ensures.ok in
+    let ranks : ReadsWithin (IsRankOfSteps c.in-Some.kept.items) s1 s2 =
+    subst (λ (ks : List StoredStep). ReadsWithin (IsRankOfSteps ks) s1 s2) c.as_slice.ensures.value c.cites_not_below.ensures.reads in
+    let r2 : ReadsSince (OfTest s0 c.args.theorem.now.proof) s0 s0 s2 =
+    since_then (OfTest s0 steps) r1 c.cites_not_below.ensures.looks.onward
+    (since_cited (OfTest s0 steps) s0 s1 s1 s2 steps kept rank_cell c.resolve.ensures.looks (looks_refl s1)
+    c.cites_not_below.ensures.looks.onward resolved.2 (λ st lib k is. inr (inr is)) ranks) in
+    let s3 = g.C.Cells.sight c.cited_frames.new.cells in
+    let statements : ReadsWithin (IsStatementOfSteps c.in-Some.kept.items) s2 s3 =
+    subst (λ (ks : List StoredStep). ReadsWithin (IsStatementOfSteps ks) s2 s3) c.as_slice-2.ensures.value c.cited_frames.ensures.reads in
+    since_then (OfTest s0 steps) r2 c.cited_frames.ensures.looks.onward
+    (since_cited (OfTest s0 steps) s0 s1 s2 s3 steps kept statement_cell c.resolve.ensures.looks c.cites_not_below.ensures.looks
+    c.cited_frames.ensures.looks.onward resolved.2 (λ st lib k is. inr (inl is)) statements)
+
+pub returns-in-None-clause-reads : goal.returns-in-None-clause-reads
+returns-in-None-clause-reads g c =
+    let s0 = g.C.Cells.sight c.args.cells.now in
+    let s1 = g.C.Cells.sight c.resolve.new.cells in
+    let steps = c.args.theorem.now.proof in
+    let r1 : ReadsSince (OfTest s0 c.args.theorem.now.proof) s0 s0 s1 =
+    since_where (OfTest s0 steps) s0 s0 s1 (looks_refl s0) (λ n. IsOfResolving n steps) (λ st lib k is. inl is)
+    (subst (λ (xs : List Step). ReadsWhere (IsOfResolving s0.setting.slots xs) s0 s1) c.as_slice-steps.ensures c.resolve.ensures.reads) in
+    let s2 = g.C.Cells.sight c.cites_not_below.new.cells in
+    let kept = c.in-Some.kept.items in
+    let resolved = of_proof s1 c.as_slice-steps.result.now c.args.theorem.now.proof c.in_ok-kept.field-0 (Some c.in-Some.kept)
+    c.as_slice-steps.ensures c.in-Some.is c.in_ok-kept.ensures.ok in
+    let ranks : ReadsWithin (IsRankOfSteps c.in-Some.kept.items) s1 s2 =
+    subst (λ (ks : List StoredStep). ReadsWithin (IsRankOfSteps ks) s1 s2) c.as_slice.ensures.value c.cites_not_below.ensures.reads in
+    let r2 : ReadsSince (OfTest s0 c.args.theorem.now.proof) s0 s0 s2 =
+    since_then (OfTest s0 steps) r1 c.cites_not_below.ensures.looks.onward
+    (since_cited (OfTest s0 steps) s0 s1 s1 s2 steps kept rank_cell c.resolve.ensures.looks (looks_refl s1)
+    c.cites_not_below.ensures.looks.onward resolved.2 (λ st lib k is. inr (inr is)) ranks) in
+    let s3 = g.C.Cells.sight c.cited_frames.new.cells in
+    let statements : ReadsWithin (IsStatementOfSteps c.in-Some.kept.items) s2 s3 =
+    subst (λ (ks : List StoredStep). ReadsWithin (IsStatementOfSteps ks) s2 s3) c.as_slice-2.ensures.value c.cited_frames.ensures.reads in
+    since_then (OfTest s0 steps) r2 c.cited_frames.ensures.looks.onward
+    (since_cited (OfTest s0 steps) s0 s1 s2 s3 steps kept statement_cell c.resolve.ensures.looks c.cites_not_below.ensures.looks
+    c.cited_frames.ensures.looks.onward resolved.2 (λ st lib k is. inr (inl is)) statements)

@@ -1,0 +1,5 @@
+pub mod Citing
+pub mod Changes
+pub mod Touches
+pub mod Takes
+pub mod Footprints

@@ -1,0 +1,52 @@
+//! Gives the theorem in a slot other steps.
+
+ghost use Rattle.std.specs.Prelude.{◌≡◌, ◌≢◌, ◌<◌, [], true, List, length, IfOk};
+ghost use Rattle.bodystore.specs.Bodies.{proof_body};
+ghost use Rattle.cells.specs.Sight.{Onward, TakesAtMost};
+ghost use Rattle.cells.specs.Lookups.{AreWithin};
+ghost use Rattle.cells.specs.Answers.{WritesSome};
+ghost use Rattle.groundwork.specs.Changes.{ReprovesAt};
+ghost use Rattle.groundwork.specs.Touches.{ReprovesWithin};
+ghost use Rattle.groundwork.specs.Footprints.{ReprovesReading};
+
+use bodystore::{StoredStep, encode_proof};
+use cells::{
+    Cells, Halt, cited_slots, count_in, count_out, only_in, proof_cell, put_body, slot_count,
+    stored_proof,
+};
+use std::alloc::Global;
+
+/// Stages steps, has the proof cell of a slot name them, counts out what the former proof cites and these don't, and counts in what these
+/// cite and the former proof doesn't. There is a step, and each that cites cites one of the slots.
+///
+/// # Errors
+///
+/// The run is stopped, or memory ran out. What was kept aside by then is the caller's to throw away.
+pub fn put_steps<C: Cells>(
+    alloc: Global,
+    cells: &mut C,
+    slot: usize,
+    kept: &[StoredStep],
+) -> Result<(), Halt<C::Stop>>
+    requires may { ((C.sight cells.old).may_write ≡ true) × ((C.sight cells.old).may_stage ≡ true) }
+    requires slot { slot < (C.sight cells.old).setting.slots }
+    requires some { kept.now ≢ [] }
+    requires within { AreWithin (C.sight cells.old).setting.slots kept.now }
+    ensures onward { Onward (C.sight cells.old) (C.sight cells.new) }
+    ensures written { IfOk result (λ _. WritesSome (C.sight cells.new)) }
+    ensures ok { IfOk result (λ _. (label : List _) → ReprovesAt (C.sight cells.old) (C.sight cells.new) slot label kept.now) }
+    ensures taken { TakesAtMost (length (proof_body kept.now)) (C.sight cells.old) (C.sight cells.new) }
+    ensures keeps { IfOk result (λ _. (label : List _) → ReprovesWithin (C.sight cells.old) (C.sight cells.new) slot label kept.now) }
+    ensures reads { (label : List _) → ReprovesReading (C.sight cells.old) (C.sight cells.new) slot label kept.now }
+{
+    let _slots = slot_count(cells);
+    let former = stored_proof(alloc, cells, slot)?;
+    let before = cited_slots(alloc, former.as_slice())?;
+    let now = cited_slots(alloc, kept)?;
+    let dropped = only_in(alloc, before.as_slice(), now.as_slice())?;
+    let gained = only_in(alloc, now.as_slice(), before.as_slice())?;
+    let body = encode_proof(alloc, kept)?;
+    put_body(cells, proof_cell(slot), body.as_slice()).map_err(Halt::Stopped)?;
+    count_out(cells, dropped.as_slice()).map_err(Halt::Stopped)?;
+    count_in(cells, gained.as_slice()).map_err(Halt::Stopped)
+}

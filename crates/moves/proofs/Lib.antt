@@ -1,0 +1,3 @@
+pub mod Citers
+pub mod Ranking
+pub mod MoveReads

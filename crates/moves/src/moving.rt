@@ -1,0 +1,103 @@
+//! Gives an assertion another rank.
+
+ghost use Rattle.std.specs.Prelude.{◌≡◌, ◌<◌, true, IfOk};
+ghost use Rattle.library.specs.declared.command.Command.TheVariants as command;
+ghost use Rattle.cells.specs.Sight.{Onward, Looks, ReadsWithin};
+ghost use Rattle.cells.specs.Answers.{CommandAnswers};
+ghost use Rattle.moves.specs.Citers.{TellsCites, TellsCitedUpTo};
+ghost use Rattle.cells.specs.Slots.{proof_cell};
+ghost use Rattle.cells.specs.Lookups.{ForEachHeld};
+ghost use Rattle.groundwork.specs.Footprints.{IsOfRise, ReadsFor};
+ghost use Rattle.groundwork.specs.Takes.{TakesBodies};
+ghost use Rattle.groundwork.specs.Touches.{KeepsTo};
+
+use bodystore::StoredStep;
+use cells::{
+    Cells, CommandError, Halt, citers, find, put, rank, rank_cell, slot_count, stored_proof,
+};
+use groundwork::cites_not_below;
+use library::{Reason, Reply};
+use mmsyntax::Label;
+use std::alloc::Global;
+
+/// Gives the assertion with the label another rank. It stages nothing.
+///
+/// # Errors
+///
+/// It is refused: nothing was kept aside or staged. The run is stopped, or memory ran out.
+pub fn move_to<C: Cells>(
+    alloc: Global,
+    cells: &mut C,
+    label: &Label,
+    rank: u32,
+) -> Result<Reply, CommandError<C::Stop>>
+    requires { (C.sight cells.old).may_write ≡ true }
+    ensures onward { Onward (C.sight cells.old) (C.sight cells.new) }
+    ensures answers { CommandAnswers (C.sight cells.old) (C.sight cells.new) (command.Move label.now rank) result }
+    ensures taken { TakesBodies (command.Move label.now rank) (C.sight cells.old) (C.sight cells.new) }
+    ensures keeps { IfOk result (λ _. KeepsTo (C.sight cells.old) (C.sight cells.new) (command.Move label.now rank)) }
+    ensures reads { ReadsFor (C.sight cells.old) (C.sight cells.new) (command.Move label.now rank) }
+{
+    let Some(slot) = find(cells, label.as_slice()).map_err(Halt::Stopped)? else {
+        return Err(Reason::UnknownLabel.into());
+    };
+    if rank == 0 {
+        return Err(Reason::BadRank.into());
+    }
+    let kept = stored_proof(alloc, cells, slot)?;
+    if cites_not_below(cells, rank, kept.as_slice()).map_err(Halt::Stopped)? {
+        return Err(Reason::CitedNotLower.into());
+    }
+    if is_cited_up_to(alloc, cells, slot, rank)? {
+        return Err(Reason::CiterNotHigher.into());
+    }
+    let _slots = slot_count(cells);
+    put(cells, rank_cell(slot), rank as u64).map_err(CommandError::Stopped)?;
+    Ok(Reply::Done)
+}
+
+/// Whether an assertion that cites the one in the slot isn't above a rank.
+///
+/// Its citers are above its own rank. So nothing is looked at where the new rank isn't, or where there is no citer; else the ranks of all slots,
+/// and the proofs of those between the two ranks.
+fn is_cited_up_to<C: Cells>(
+    alloc: Global,
+    cells: &mut C,
+    slot: usize,
+    limit: u32,
+) -> Result<bool, Halt<C::Stop>>
+    requires { slot < (C.sight cells.old).setting.slots }
+    ensures looks { Looks (C.sight cells.old) (C.sight cells.new) }
+    ensures ok { IfOk result (λ b. TellsCitedUpTo (C.sight cells.new) slot limit b) }
+    ensures reads { ForEachHeld (C.sight cells.new) slot (λ st lib e. ReadsWithin (IsOfRise (C.sight cells.old).setting.slots st lib slot e limit) (C.sight cells.old) (C.sight cells.new)) }
+{
+    let current = rank(cells, slot).map_err(Halt::Stopped)?;
+    if limit <= current || citers(cells, slot).map_err(Halt::Stopped)? == 0 {
+        return Ok(false);
+    }
+    for other in 0..slot_count(cells) {
+        // That of an empty slot is 0.
+        let rank = cells.read(rank_cell(other)).map_err(Halt::Stopped)?;
+        if rank > current as u64 && rank <= limit as u64 && cites_slot(alloc, cells, other, slot)? {
+            return Ok(true);
+        }
+    }
+    Ok(false)
+}
+
+/// Whether the proof in the one slot cites the other.
+fn cites_slot<C: Cells>(
+    alloc: Global,
+    cells: &mut C,
+    citing: usize,
+    cited: usize,
+) -> Result<bool, Halt<C::Stop>>
+    requires citing { citing < (C.sight cells.old).setting.slots }
+    requires cited { cited < (C.sight cells.old).setting.slots }
+    ensures looks { Looks (C.sight cells.old) (C.sight cells.new) }
+    ensures ok { IfOk result (λ b. TellsCites (C.sight cells.new) citing cited b) }
+    ensures reads { ReadsWithin (λ c. c ≡ proof_cell citing) (C.sight cells.old) (C.sight cells.new) }
+{
+    let kept = stored_proof(alloc, cells, citing)?;
+    Ok(kept.contains(&StoredStep::Slot(cited as u32)))
+}

@@ -1,0 +1,41 @@
+//! Tests the label that an assertion gets.
+
+ghost use Rattle.std.specs.Prelude.{◌≡◌, OnOk, IfErr};
+ghost use Rattle.cells.specs.Sight.{Looks};
+ghost use Rattle.cells.specs.Footprints.{ReadsWhere};
+ghost use Rattle.groundwork.specs.Footprints.{IsOfNewLabel};
+ghost use Rattle.newlabels.specs.Naming.{PassesAsNew, TellsNotNew};
+
+use cells::{Cells, CommandError, Halt, find, has_clash};
+use library::Reason;
+use mmsyntax::{Prelude, is_lawful_label};
+
+/// Tests the label that a new assertion gets, or one gets in place of the label `own`; for a new one `own` is the label itself. It reads at
+/// most three chains: that of the label, and the two with labels that may clash with it.
+///
+/// # Errors
+///
+/// In this order: no assertion may have the label; one has it; it clashes with that of one whose label isn't `own`. Or the run is stopped.
+pub(crate) fn test_new_label<C: Cells>(
+    prelude: &Prelude,
+    cells: &mut C,
+    own: &[u8],
+    label: &[u8],
+) -> Result<(), CommandError<C::Stop>>
+    requires { prelude.now ≡ (C.sight cells.old).setting.prelude }
+    ensures looks { Looks (C.sight cells.old) (C.sight cells.new) }
+    ensures ok { OnOk result (PassesAsNew (C.sight cells.new) own.now label.now) }
+    ensures err { IfErr result (λ error. TellsNotNew (C.sight cells.new) own.now label.now error) }
+    ensures reads { ReadsWhere (IsOfNewLabel (C.sight cells.old).setting.slots own.now label.now) (C.sight cells.old) (C.sight cells.new) }
+{
+    if !is_lawful_label(prelude, label) {
+        return Err(Reason::BadLabel.into());
+    }
+    if find(cells, label).map_err(Halt::Stopped)?.is_some() {
+        return Err(Reason::LabelTaken.into());
+    }
+    if has_clash(cells, own, label).map_err(Halt::Stopped)? {
+        return Err(Reason::LabelClashes.into());
+    }
+    Ok(())
+}

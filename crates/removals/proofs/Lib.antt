@@ -1,0 +1,3 @@
+pub mod Removing
+pub mod Touching
+pub mod DeleteReads

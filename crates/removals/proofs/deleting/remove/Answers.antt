@@ -1,0 +1,152 @@
+use Rattle.std.proofs.Common.{List, ℕ, sym, subst}
+use Rattle.bodystore.specs.declared.stored.StoredStep.{StoredStep}
+use Rattle.cells.specs.Filling.{AreCitedSlots}
+use Rattle.cells.proofs.Sights.{onward_trans}
+use Rattle.cells.proofs.Laying.{if_mapped, ok_mapped}
+use Rattle.removals.specs.Changes.{DeletesAt}
+use Rattle.removals.specs.Changes.{DeletesWithin}
+use Rattle.removals.proofs.Touching.{removes_within}
+use Rattle.groundwork.proofs.Chaining.{TakesOut}
+use Rattle.removals.proofs.Removing.{removed}
+use Rattle.cells.specs.Footprints.{ReadsWhere, IsOfTakingOut}
+use Rattle.library.specs.declared.command.Command.TheVariants.{Delete}
+use Rattle.groundwork.proofs.Since.{ReadsSince, OfCommandFound, found_end}
+use Rattle.removals.proofs.DeleteReads.{removal_proof, removal_counts, removal_chain, removal_slot}
+use Rattle.removals.proofs.deleting.remove.Goals as goal
+
+pub returns-in_err-map_err-clause-onward : goal.returns-in_err-map_err-clause-onward
+returns-in_err-map_err-clause-onward g c = onward_trans _ _ _ c.stored_proof.ensures.looks.onward c.count_out.ensures.onward
+
+pub returns-in_err-map_err-2-clause-onward : goal.returns-in_err-map_err-2-clause-onward
+returns-in_err-map_err-2-clause-onward g c =
+    onward_trans _ _ _ c.stored_proof.ensures.looks.onward (onward_trans _ _ _ c.count_out.ensures.onward c.take_out.ensures.onward)
+
+pub returns-clause-onward : goal.returns-clause-onward
+returns-clause-onward g c =
+    onward_trans _ _ _ c.stored_proof.ensures.looks.onward (onward_trans _ _ _ c.count_out.ensures.onward
+    (onward_trans _ _ _ c.take_out.ensures.onward c.vacate.ensures.onward))
+
+pub returns-clause-ok : goal.returns-clause-ok
+returns-clause-ok g c =
+    let s0 = g.C.Cells.sight c.args.cells.now in
+    let s1 = g.C.Cells.sight c.stored_proof.new.cells in
+    let s2 = g.C.Cells.sight c.count_out.new.cells in
+    let s3 = g.C.Cells.sight c.take_out.new.cells in
+    let s4 = g.C.Cells.sight c.vacate.new.cells in
+    let former = c.in_ok-former.former.items in
+    let listed = c.as_slice-2.result.now in
+    let former_cited = subst (λ (kept : List StoredStep). AreCitedSlots kept c.in_ok-cited.cited.items) c.as_slice.ensures.value
+    c.in_ok-cited.ensures in
+    let cited = subst (AreCitedSlots c.in_ok-former.former.items) (sym c.as_slice-2.ensures.value) former_cited in
+    let counts = ok_mapped _ _ _ _ _ c.in_ok-map_err.was c.map_err.ensures.cases c.count_out.ensures.ok in
+    let takes = subst (TakesOut s2 s3 c.args.slot) c.as_slice-3.ensures
+    (ok_mapped _ _ _ _ _ c.in_ok-map_err-2.was c.map_err-2.ensures.cases c.take_out.ensures.ok) in
+    if_mapped _ _ (λ _. DeletesAt s0 s4 c.args.slot c.args.label.now) _ _ c.map_err-3.ensures.cases c.vacate.ensures.ok (λ _ empties.
+    removed s0 s1 s2 s3 s4 c.args.slot c.args.label.now former listed c.stored_proof.ensures.looks c.count_out.ensures.onward
+    c.take_out.ensures.onward c.vacate.ensures.onward c.in_ok-former.ensures.ok cited counts takes empties)
+
+pub returns-clause-keeps : goal.returns-clause-keeps
+returns-clause-keeps g c =
+    let s0 = g.C.Cells.sight c.args.cells.now in
+    let s1 = g.C.Cells.sight c.stored_proof.new.cells in
+    let s2 = g.C.Cells.sight c.count_out.new.cells in
+    let s3 = g.C.Cells.sight c.take_out.new.cells in
+    let s4 = g.C.Cells.sight c.vacate.new.cells in
+    let former = c.in_ok-former.former.items in
+    let listed = c.as_slice-2.result.now in
+    let former_cited = subst (λ (kept : List StoredStep). AreCitedSlots kept c.in_ok-cited.cited.items) c.as_slice.ensures.value
+    c.in_ok-cited.ensures in
+    let cited = subst (AreCitedSlots c.in_ok-former.former.items) (sym c.as_slice-2.ensures.value) former_cited in
+    let counts = ok_mapped _ _ _ _ _ c.in_ok-map_err.was c.map_err.ensures.cases c.count_out.ensures.ok in
+    let out = ok_mapped _ _ _ _ _ c.in_ok-map_err.was c.map_err.ensures.cases c.count_out.ensures.keeps in
+    let leaves = ok_mapped _ _ _ _ _ c.in_ok-map_err-2.was c.map_err-2.ensures.cases c.take_out.ensures.keeps in
+    if_mapped _ _ (λ _. DeletesWithin s0 s4 c.args.slot c.args.label.now) _ _ c.map_err-3.ensures.cases c.vacate.ensures.keeps (λ _ emptied.
+    removes_within s0 s1 s2 s3 s4 c.args.slot c.args.label.now former listed c.stored_proof.ensures.looks c.count_out.ensures.onward
+    c.take_out.ensures.onward c.vacate.ensures.onward c.in_ok-former.ensures.ok cited counts out leaves emptied)
+
+pub returns-in_err-former-clause-reads : goal.returns-in_err-former-clause-reads
+returns-in_err-former-clause-reads g c =
+    let s0 = g.C.Cells.sight c.args.cells.now in
+    let s1 = g.C.Cells.sight c.stored_proof.new.cells in
+    let i = c.args.slot in
+    let label = c.args.label.now in
+    let r1 : ReadsSince (OfCommandFound s0 c.args.slot c.args.label.now (Delete c.args.label.now)) s0 s0 s1 = removal_proof s0 s1 i label c.stored_proof.ensures.reads in
+    found_end s0 s1 i label (Delete c.args.label.now) r1
+
+pub returns-in_err-cited-clause-reads : goal.returns-in_err-cited-clause-reads
+returns-in_err-cited-clause-reads g c =
+    let s0 = g.C.Cells.sight c.args.cells.now in
+    let s1 = g.C.Cells.sight c.stored_proof.new.cells in
+    let i = c.args.slot in
+    let label = c.args.label.now in
+    let r1 : ReadsSince (OfCommandFound s0 c.args.slot c.args.label.now (Delete c.args.label.now)) s0 s0 s1 = removal_proof s0 s1 i label c.stored_proof.ensures.reads in
+    found_end s0 s1 i label (Delete c.args.label.now) r1
+
+pub returns-in_err-map_err-clause-reads : goal.returns-in_err-map_err-clause-reads
+returns-in_err-map_err-clause-reads g c =
+    let s0 = g.C.Cells.sight c.args.cells.now in
+    let s1 = g.C.Cells.sight c.stored_proof.new.cells in
+    let i = c.args.slot in
+    let label = c.args.label.now in
+    let r1 : ReadsSince (OfCommandFound s0 c.args.slot c.args.label.now (Delete c.args.label.now)) s0 s0 s1 = removal_proof s0 s1 i label c.stored_proof.ensures.reads in
+    let s2 = g.C.Cells.sight c.count_out.new.cells in
+    let former = c.in_ok-former.former.items in
+    let listed = c.as_slice-2.result.now in
+    let former_cited = subst (λ (kept : List StoredStep). AreCitedSlots kept c.in_ok-cited.cited.items) c.as_slice.ensures.value
+    c.in_ok-cited.ensures in
+    let cited = subst (AreCitedSlots c.in_ok-former.former.items) (sym c.as_slice-2.ensures.value) former_cited in
+    let r2 : ReadsSince (OfCommandFound s0 c.args.slot c.args.label.now (Delete c.args.label.now)) s0 s0 s2 =
+    removal_counts s0 s1 i label s2 former listed c.stored_proof.ensures.looks c.in_ok-former.ensures.ok cited c.count_out.ensures.onward
+    c.count_out.ensures.reads r1 in
+    found_end s0 s2 i label (Delete c.args.label.now) r2
+
+pub returns-in_err-map_err-2-clause-reads : goal.returns-in_err-map_err-2-clause-reads
+returns-in_err-map_err-2-clause-reads g c =
+    let s0 = g.C.Cells.sight c.args.cells.now in
+    let s1 = g.C.Cells.sight c.stored_proof.new.cells in
+    let i = c.args.slot in
+    let label = c.args.label.now in
+    let r1 : ReadsSince (OfCommandFound s0 c.args.slot c.args.label.now (Delete c.args.label.now)) s0 s0 s1 = removal_proof s0 s1 i label c.stored_proof.ensures.reads in
+    let s2 = g.C.Cells.sight c.count_out.new.cells in
+    let former = c.in_ok-former.former.items in
+    let listed = c.as_slice-2.result.now in
+    let former_cited = subst (λ (kept : List StoredStep). AreCitedSlots kept c.in_ok-cited.cited.items) c.as_slice.ensures.value
+    c.in_ok-cited.ensures in
+    let cited = subst (AreCitedSlots c.in_ok-former.former.items) (sym c.as_slice-2.ensures.value) former_cited in
+    let r2 : ReadsSince (OfCommandFound s0 c.args.slot c.args.label.now (Delete c.args.label.now)) s0 s0 s2 =
+    removal_counts s0 s1 i label s2 former listed c.stored_proof.ensures.looks c.in_ok-former.ensures.ok cited c.count_out.ensures.onward
+    c.count_out.ensures.reads r1 in
+    let s3 = g.C.Cells.sight c.take_out.new.cells in
+    let counts = ok_mapped _ _ _ _ _ c.in_ok-map_err.was c.map_err.ensures.cases c.count_out.ensures.ok in
+    let chain = subst (λ (l : List ℕ). ReadsWhere (IsOfTakingOut s2.setting.slots c.args.slot l) s2 s3) c.as_slice-3.ensures
+    c.take_out.ensures.reads in
+    let r3 : ReadsSince (OfCommandFound s0 c.args.slot c.args.label.now (Delete c.args.label.now)) s0 s0 s3 =
+    removal_chain s0 s1 i label s2 former listed c.stored_proof.ensures.looks c.in_ok-former.ensures.ok cited c.count_out.ensures.onward
+    s3 c.take_out.ensures.onward counts chain r2 in
+    found_end s0 s3 i label (Delete c.args.label.now) r3
+
+pub returns-clause-reads : goal.returns-clause-reads
+returns-clause-reads g c =
+    let s0 = g.C.Cells.sight c.args.cells.now in
+    let s1 = g.C.Cells.sight c.stored_proof.new.cells in
+    let i = c.args.slot in
+    let label = c.args.label.now in
+    let r1 : ReadsSince (OfCommandFound s0 c.args.slot c.args.label.now (Delete c.args.label.now)) s0 s0 s1 = removal_proof s0 s1 i label c.stored_proof.ensures.reads in
+    let s2 = g.C.Cells.sight c.count_out.new.cells in
+    let former = c.in_ok-former.former.items in
+    let listed = c.as_slice-2.result.now in
+    let former_cited = subst (λ (kept : List StoredStep). AreCitedSlots kept c.in_ok-cited.cited.items) c.as_slice.ensures.value
+    c.in_ok-cited.ensures in
+    let cited = subst (AreCitedSlots c.in_ok-former.former.items) (sym c.as_slice-2.ensures.value) former_cited in
+    let r2 : ReadsSince (OfCommandFound s0 c.args.slot c.args.label.now (Delete c.args.label.now)) s0 s0 s2 =
+    removal_counts s0 s1 i label s2 former listed c.stored_proof.ensures.looks c.in_ok-former.ensures.ok cited c.count_out.ensures.onward
+    c.count_out.ensures.reads r1 in
+    let s3 = g.C.Cells.sight c.take_out.new.cells in
+    let counts = ok_mapped _ _ _ _ _ c.in_ok-map_err.was c.map_err.ensures.cases c.count_out.ensures.ok in
+    let chain = subst (λ (l : List ℕ). ReadsWhere (IsOfTakingOut s2.setting.slots c.args.slot l) s2 s3) c.as_slice-3.ensures
+    c.take_out.ensures.reads in
+    let r3 : ReadsSince (OfCommandFound s0 c.args.slot c.args.label.now (Delete c.args.label.now)) s0 s0 s3 =
+    removal_chain s0 s1 i label s2 former listed c.stored_proof.ensures.looks c.in_ok-former.ensures.ok cited c.count_out.ensures.onward
+    s3 c.take_out.ensures.onward counts chain r2 in
+    let s4 = g.C.Cells.sight c.vacate.new.cells in
+    found_end s0 s4 i label (Delete c.args.label.now) (removal_slot s0 s3 i label s4 c.vacate.ensures.onward c.vacate.ensures.reads r3)

@@ -1,0 +1,4 @@
+pub mod Recited
+pub mod Replaced
+pub mod Taking
+pub mod ReplaceReads

@@ -1,0 +1,2 @@
+pub mod Reproved
+pub mod ReproveReads

@@ -1,0 +1,50 @@
+//! Gives a theorem another proof.
+
+ghost use Rattle.std.specs.Prelude.{◌≡◌, ◌<◌, true, IfOk};
+ghost use Rattle.library.specs.declared.command.Command.TheVariants as command;
+ghost use Rattle.cells.specs.Sight.{Onward};
+ghost use Rattle.cells.specs.Answers.{CommandAnswers};
+ghost use Rattle.groundwork.specs.Takes.{TakesBodies};
+ghost use Rattle.groundwork.specs.Touches.{KeepsTo};
+ghost use Rattle.groundwork.specs.Footprints.{ReadsFor};
+
+use cells::{Cells, CommandError, Halt, find, rank, statement};
+use groundwork::{put_steps, test_proof};
+use library::{Reason, Reply};
+use mmsyntax::{Kind, Label, Prelude, Sequence, Step, copy_steps};
+use std::alloc::Global;
+
+/// Gives the theorem with the label another proof, and stages it, even where it is equal to the former.
+///
+/// # Errors
+///
+/// It is refused: nothing was kept aside or staged. The run is stopped, or memory ran out.
+pub fn reprove<C: Cells>(
+    alloc: Global,
+    prelude: &Prelude,
+    cells: &mut C,
+    label: &Label,
+    steps: &Sequence<Step>,
+) -> Result<Reply, CommandError<C::Stop>>
+    requires may { ((C.sight cells.old).may_write ≡ true) × ((C.sight cells.old).may_stage ≡ true) }
+    requires prelude { prelude.now ≡ (C.sight cells.old).setting.prelude }
+    ensures onward { Onward (C.sight cells.old) (C.sight cells.new) }
+    ensures answers { CommandAnswers (C.sight cells.old) (C.sight cells.new) (command.Reprove label.now steps.now) result }
+    ensures taken { TakesBodies (command.Reprove label.now steps.now) (C.sight cells.old) (C.sight cells.new) }
+    ensures keeps { IfOk result (λ _. KeepsTo (C.sight cells.old) (C.sight cells.new) (command.Reprove label.now steps.now)) }
+    ensures reads { ReadsFor (C.sight cells.old) (C.sight cells.new) (command.Reprove label.now steps.now) }
+{
+    let Some(slot) = find(cells, label.as_slice()).map_err(Halt::Stopped)? else {
+        return Err(Reason::UnknownLabel.into());
+    };
+    let statement = statement(alloc, cells, slot)?;
+    if let Kind::Axiom = statement.kind {
+        return Err(Reason::NotATheorem.into());
+    }
+    let rank = rank(cells, slot).map_err(Halt::Stopped)?;
+    let proof = copy_steps(alloc, steps.as_slice())?;
+    let theorem = statement.into_assertion(label.copy(alloc)?, proof);
+    let kept = test_proof(alloc, prelude, cells, rank, &theorem)?;
+    put_steps(alloc, cells, slot, kept.as_slice())?;
+    Ok(Reply::Done)
+}

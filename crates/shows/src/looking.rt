@@ -1,0 +1,27 @@
+//! Looks at a whole library.
+
+ghost use Rattle.std.specs.Prelude.{IfOk};
+ghost use Rattle.cells.specs.Sight.{Looks};
+ghost use Rattle.shows.specs.Looking.{AreEntries};
+
+use cells::{Cells, Halt, entry, is_full, slot_count};
+use library::Ranked;
+use std::alloc::Global;
+
+/// All assertions of the library with their ranks, by slot. It reads every slot, and the names of those that their proofs cite.
+///
+/// # Errors
+///
+/// The run is stopped, or memory ran out. What was kept aside stays.
+pub fn entries<C: Cells>(alloc: Global, cells: &mut C) -> Result<Vec<Ranked>, Halt<C::Stop>>
+    ensures looks { Looks (C.sight cells.old) (C.sight cells.new) }
+    ensures ok { IfOk result (λ made. AreEntries (C.sight cells.new) made.items) }
+{
+    let mut entries = Vec::new(alloc);
+    for slot in 0..slot_count(cells) {
+        if is_full(cells, slot).map_err(Halt::Stopped)? {
+            entries.push(entry(alloc, cells, slot)?)?;
+        }
+    }
+    Ok(entries)
+}

@@ -1,0 +1,96 @@
+//! Shows an assertion, and lists all of them.
+
+ghost use Rattle.std.specs.Prelude.{◌≡◌, ◌<◌, ◌⊎◌, IfOk};
+ghost use Rattle.library.specs.declared.command.Command.TheVariants as command;
+ghost use Rattle.cells.specs.Sight.{Onward, Looks, ReadsWithin};
+ghost use Rattle.cells.specs.Slots.{name_cell};
+ghost use Rattle.cells.specs.Answers.{CommandAnswers};
+ghost use Rattle.shows.specs.Listing.{line_cmp, TellsLine, AreAllLines};
+ghost use Rattle.groundwork.specs.Takes.{TakesBodies};
+ghost use Rattle.groundwork.specs.Footprints.{IsOfLine, ReadsFor};
+
+use cells::{
+    Cells, CommandError, Halt, citers, entry, find, is_full, kind, label, rank, slot_count,
+};
+use library::{Line, Reason, Reply};
+use mmsyntax::{Label, Sequence};
+use std::alloc::Global;
+use std::cmp::Ordering;
+
+/// Shows the assertion with the label. It reads the label's chain, one slot, and the names of those that its proof cites.
+///
+/// # Errors
+///
+/// No assertion has the label. The run is stopped, or memory ran out.
+pub fn show<C: Cells>(
+    alloc: Global,
+    cells: &mut C,
+    label: &Label,
+) -> Result<Reply, CommandError<C::Stop>>
+    ensures onward { Onward (C.sight cells.old) (C.sight cells.new) }
+    ensures answers { CommandAnswers (C.sight cells.old) (C.sight cells.new) (command.Show label.now) result }
+    ensures taken { TakesBodies (command.Show label.now) (C.sight cells.old) (C.sight cells.new) }
+    ensures reads { ReadsFor (C.sight cells.old) (C.sight cells.new) (command.Show label.now) }
+{
+    let Some(slot) = find(cells, label.as_slice()).map_err(Halt::Stopped)? else {
+        return Err(Reason::UnknownLabel.into());
+    };
+    let shown = entry(alloc, cells, slot)?;
+    let citers = citers(cells, slot).map_err(Halt::Stopped)?;
+    Ok(Reply::Shown { citers, shown })
+}
+
+/// Lists all assertions, in export order. It reads no proof.
+///
+/// # Errors
+///
+/// The run is stopped, or memory ran out.
+pub fn list<C: Cells>(alloc: Global, cells: &mut C) -> Result<Reply, CommandError<C::Stop>>
+    ensures onward { Onward (C.sight cells.old) (C.sight cells.new) }
+    ensures answers { CommandAnswers (C.sight cells.old) (C.sight cells.new) command.List result }
+    ensures taken { TakesBodies command.List (C.sight cells.old) (C.sight cells.new) }
+    ensures reads { ReadsFor (C.sight cells.old) (C.sight cells.new) command.List }
+{
+    let mut lines = all_lines(alloc, cells)?;
+    lines.sort_unstable_by(compare);
+    Ok(Reply::Listed {
+        lines: Sequence::from_vec(lines),
+    })
+}
+
+/// The lines of all assertions, by slot.
+fn all_lines<C: Cells>(alloc: Global, cells: &mut C) -> Result<Vec<Line>, Halt<C::Stop>>
+    ensures looks { Looks (C.sight cells.old) (C.sight cells.new) }
+    ensures ok { IfOk result (λ made. AreAllLines (C.sight cells.new) made.items) }
+    ensures reads { ReadsFor (C.sight cells.old) (C.sight cells.new) command.List }
+{
+    let mut lines = Vec::new(alloc);
+    for slot in 0..slot_count(cells) {
+        if is_full(cells, slot).map_err(Halt::Stopped)? {
+            lines.push(line(alloc, cells, slot)?)?;
+        }
+    }
+    Ok(lines)
+}
+
+/// What is listed of the assertion in the slot.
+fn line<C: Cells>(alloc: Global, cells: &mut C, slot: usize) -> Result<Line, Halt<C::Stop>>
+    requires { slot < (C.sight cells.old).setting.slots }
+    ensures looks { Looks (C.sight cells.old) (C.sight cells.new) }
+    ensures ok { IfOk result (λ made. TellsLine (C.sight cells.new) slot made) }
+    ensures reads { ReadsWithin (λ c. (c ≡ name_cell slot) ⊎ IsOfLine slot c) (C.sight cells.old) (C.sight cells.new) }
+{
+    Ok(Line {
+        rank: rank(cells, slot).map_err(Halt::Stopped)?,
+        label: label(alloc, cells, slot)?,
+        kind: kind(cells, slot).map_err(Halt::Stopped)?,
+        citers: citers(cells, slot).map_err(Halt::Stopped)?,
+    })
+}
+
+/// The export order of two lines: by rank, then by the bytes of the label.
+fn compare(a: &Line, b: &Line) -> Ordering
+    ensures { result ≡ line_cmp a.now b.now }
+{
+    a.rank.cmp(&b.rank).then_with(|| a.label.cmp(&b.label))
+}
