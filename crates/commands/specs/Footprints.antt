@@ -6,7 +6,6 @@ use Rattle.library.specs.declared.library.Ranked.{Ranked}
 use Rattle.library.specs.declared.command.Command.{Command}
 use Rattle.library.specs.declared.command.Command.TheVariants.{Add, Reprove, Replace, Rename, Move, Delete, Show}
 use Rattle.library.specs.declared.command.Command.TheVariants as command
-use Rattle.library.specs.declared.command.Reply.{Reply}
 use Rattle.library.specs.Library.{label_of}
 use Rattle.library.specs.Edits.{citers, cites, with_proof}
 use Rattle.ranges.specs.Ranges.{Has}
@@ -18,9 +17,9 @@ use Rattle.cells.specs.Shows.{IsNamed, Holds, AreStoredAs}
 use Rattle.cells.specs.Sight.{Sight, Onward, ReadsWithin, after}
 use Rattle.cells.specs.Aside.{IsOfSlot}
 use Rattle.cells.specs.Footprints.{IsOfLook, IsOfClash, IsOfResolving, IsOfRound}
-use Rattle.cells.specs.Answers.{ForEachBefore, DoesAll}
+use Rattle.cells.specs.Answers.{ForEachBefore}
 use Rattle.commands.specs.Changes.{ForEachFound}
-use Rattle.commands.specs.Touches.{OfFound, IsCitersCell, IsOfReproof, Touches}
+use Rattle.commands.specs.Touches.{OfFound, IsCitersCell, IsOfReproof, Touches, PassesAll}
 
 module _ (slots : ℕ) where
   -- the rank cell of a slot, or the proof cell of one whose rank is above the one and not above the other. That of an empty slot is 0
@@ -108,8 +107,7 @@ pub record IsReadByOne {O : Type 0} (old new : Sight O) (cs : List Command) (cel
   pub behind : List Command
   pub all : cs ≡ before ++ one ∷ behind
   pub mid : Sight O
-  pub replies : List Reply
-  pub does : DoesAll old mid before replies
+  pub passes : PassesAll old before mid
   pub onward : Onward mid new
   pub reads : ForEachBefore mid new (λ st lib. IsReadBy mid.setting.slots (after mid st) lib one cell)
 

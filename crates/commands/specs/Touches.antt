@@ -1,5 +1,5 @@
 -- For which cells a command and a transaction keep values aside: those of what they change, and no others.
-use Rattle.std.specs.Prelude.{◌≡◌, ◌≢◌, ◌<◌, ◌⊎◌, ℕ, ◌+◌, ◌%◌, List, ◌∷◌, ◌++◌, true}
+use Rattle.std.specs.Prelude.{◌≡◌, ◌≢◌, ◌<◌, ◌⊎◌, ℕ, ◌+◌, ◌%◌, List, [], ◌∷◌, ◌++◌, true}
 use Rattle.mmsyntax.specs.declared.statement.Step.{Step}
 use Rattle.library.specs.declared.library.Ranked.{Ranked}
 use Rattle.library.specs.declared.command.Command.{Command}
@@ -15,7 +15,7 @@ use Rattle.cells.specs.Shows.{Holds, IsEmpty, AreStoredAs}
 use Rattle.cells.specs.Sight.{Sight, Onward, Turns, after}
 use Rattle.cells.specs.Aside.{KeepsAside, IsOfSlot, IsOfFront, IsOfLeaving}
 use Rattle.cells.specs.Lookups.{IsFoundAt}
-use Rattle.cells.specs.Answers.{ForEachBefore, DoesAll}
+use Rattle.cells.specs.Answers.{ForEachBefore, Does}
 use Rattle.commands.specs.Changes.{ForEachFound}
 
 -- the first empty slot from a slot on, going round
@@ -63,6 +63,18 @@ module _ (slots : ℕ) (st : State) (lib : List Ranked) where
 abbrev pub KeepsTo : {O : Type 0} → Sight O → Sight O → Command → Type 0
 KeepsTo old new c = ForEachBefore old new (λ st lib. KeepsAside (Touches old.setting.slots (after old st) lib c) old new)
 
+-- the command is done, and keeps values aside for no others
+pub record Passes {O : Type 0} (old new : Sight O) (c : Command) : Type 0 where
+  pub onward : Onward old new
+  pub reply : Reply
+  pub does : Does old new c reply
+  pub keeps : KeepsTo old new c
+
+-- so are the commands, one after another
+abbrev pub PassesAll : {O : Type 0} → Sight O → List Command → Sight O → Type 0
+PassesAll {O} old [] new = new ≡ old
+PassesAll {O} old (c ∷ cs) new = (mid : Sight O) × Passes old mid c × PassesAll mid cs new
+
 -- a cell for which one command of a transaction may keep a value aside, over what those before it kept aside
 pub record IsTouchedByOne {O : Type 0} (old new : Sight O) (cs : List Command) (cell : ℕ) : Type 0 where
   pub before : List Command
@@ -70,8 +82,7 @@ pub record IsTouchedByOne {O : Type 0} (old new : Sight O) (cs : List Command) (
   pub behind : List Command
   pub all : cs ≡ before ++ one ∷ behind
   pub mid : Sight O
-  pub replies : List Reply
-  pub does : DoesAll old mid before replies
+  pub passes : PassesAll old before mid
   pub onward : Onward mid new
   pub touches : ForEachBefore mid new (λ st lib. Touches mid.setting.slots (after mid st) lib one cell)
 
