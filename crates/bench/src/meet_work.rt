@@ -42,14 +42,7 @@ fn print_row(rt: &impl Print, s: usize, t: usize, row: &Row) -> io::Result<()> {
 ///
 /// Want of memory, where the files are read.
 pub fn obey(
-    rt: &(impl AllocGlobal
-        + RandomSource
-        + Files
-        + Print
-        + Eprint
-        + Threads
-        + Wait
-        + Sync),
+    rt: &(impl AllocGlobal + RandomSource + Files + Print + Eprint + Threads + Wait + Sync),
     words: &[String],
 ) -> Result<Ending, AllocError> {
     let Ok(keys) = RandomState::new(rt) else {
