@@ -1,6 +1,6 @@
-"""Which cells a transaction may read and write, by the table of docs/ARCHITECTURE.md: of `show`, `move`, `reprove` and `rename`, which leave each
-assertion in its slot. A model by hand, and a wide one: a slot stands for each label that it may get by some command of the whole run, and
-`move` may read all ranks and proofs where something cites the assertion."""
+"""Which cells a transaction may read and write, by the table of docs/ARCHITECTURE.md: of `show`, `move`, `reprove` and `rename`, which leave
+each assertion in its slot. A model by hand, and a wide one: a slot stands for each label that it may get by some command of the whole
+run, and `move` may read all ranks and proofs where something cites the assertion."""
 
 import collections
 import random
@@ -100,7 +100,7 @@ class Library:
             if kind == "show":
                 found |= set(range(5 * slot, 5 * slot + 5)) | {cell(other, "name") for other in self.cited[slot]}
             elif kind == "move":
-                found |= {cell(slot, "proof"), cell(slot, "rank"), cell(slot, "citers")} | {cell(other, "rank") for other in self.cited[slot]}
+                found |= {cell(slot, part) for part in ("proof", "rank", "citers")} | {cell(other, "rank") for other in self.cited[slot]}
                 if slot in self.citing:
                     found |= {cell(other, part) for other in range(len(self.labels)) for part in ("rank", "proof")}
             elif kind == "reprove":
@@ -136,16 +136,19 @@ COMMITTED = re.compile(r"(\d+)\.(\d+) committed (\d+)")
 
 
 def conflicts(library, scripts, printed):
-    """How many conflicts there were, at a free cell and at a locked one; and those that are not as they should be: at a cell that the transaction
-    may not read, or that no transaction of another script may write, or, where it was free, not the one whose number it shows."""
-    reads = lambda commands: set().union(*map(library.reads, commands))
-    writes = {(s, t): set().union(*map(library.writes, commands)) for s, script in enumerate(scripts, 1) for t, commands in enumerate(script, 1)}
+    """How many conflicts there were, at a free cell and at a locked one; and those that are not as they should be: at a cell that the
+    transaction may not read, or that no transaction of another script may write, or, where it was free, not the one whose number it shows."""
+    def all_of(cells, commands):
+        return set().union(*map(cells, commands))
+
+    every = [(s, t, commands) for s, script in enumerate(scripts, 1) for t, commands in enumerate(script, 1)]
+    writes = {(s, t): all_of(library.writes, commands) for s, t, commands in every}
     numbers = {int(n): (int(s), int(t)) for s, t, n in COMMITTED.findall(printed)}
     counts, wrong = collections.Counter(), []
     for s, t, at, word, place in (map(int, found) for found in MET.findall(printed)):
         counts["at a locked cell" if word % 2 else "at a free cell"] += 1
         others = [key for key, cells in writes.items() if key[0] != s and at in cells]
-        if at not in reads(scripts[s - 1][t - 1]):
+        if at not in all_of(library.reads, scripts[s - 1][t - 1]):
             wrong.append(f"{s}.{t} met cell {at}, which it may not read")
         elif not others:
             wrong.append(f"{s}.{t} met cell {at}, which no other script may write")

@@ -16,8 +16,8 @@ use Rattle.transaction.specs.Footprints.{MayReadAfter, MayWriteAfter, IsLaterHis
 abbrev pub Runs : List Command → Member → Member → Outcome → Type 0
 Runs cs old new o = Attempts cs old new o ⊎ Submits cs old new o
 
--- a session has committed the one transaction with this number, another session of the library met this conflict in the other, and this is a
--- later history of it than what either had seen then
+-- a session has committed the one transaction with this number, another session of the library met this conflict in the other, and
+-- this is a later history of it than what either had seen then
 pub record AreMet (ones others : List Command) (number : ℕ) (met : Met) (by : Member) (seen : Seen Note) : Type 0 where
   pub one_before : Member
   pub one : Member

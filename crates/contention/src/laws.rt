@@ -8,8 +8,8 @@ pub fn conflicts_meet()
     ensures { ConflictsMeet }
 {}
 
-/// Where one transaction may write nothing that another may read, whichever fronts of the history they stand at, no conflict of the other has
-/// found a version of the one: what it found, free or locked, was of somebody else.
+/// Where one transaction may write nothing that another may read, whichever fronts of the history they stand at, no conflict of the
+/// other has found a version of the one. Of a lock that it found held no word shows the holder.
 pub fn apart_is_no_cause()
     ensures { ApartIsNoCause }
 {}

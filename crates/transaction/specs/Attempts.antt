@@ -135,7 +135,8 @@ pub record Attempts (cs : List Command) (old new : Member) (o : Outcome) : Type 
   pub run : IsOneRun old.known new.known o
   -- where memory ran out, no staging was refused for the first time
   pub unrefused : o ≡ outcome.NoMemory → new.known.full ≡ old.known.full
-  -- the cell of a conflict is one that it may read, at the conflict's place; and a Committed wrote only what it may, over the library before it
+  -- the cell of a conflict is one that it may read, at the conflict's place; and a Committed wrote only what it may write, over the
+  -- library before it
   pub footprint : StaysWithin new.given new.known.home.base new.known.seen cs o
   pub counted : has_too_many cs ≡ true → o ≡ outcome.TooManyCommands
   pub staged : LeavesStaged old.staged new.staged o

@@ -1,4 +1,5 @@
--- Which cells a transaction may read, and which it may write, where the cells show a library; and that what a try tells of cells is of these.
+-- Which cells a transaction may read, and which it may write, where the cells show a library; and that what a try tells of
+-- cells is of these.
 use Rattle.std.specs.Prelude.{◌≡◌, ◌⊎◌, ℕ, suc, List, [], ◌∷◌, ◌++◌, Some, Ok}
 use Rattle.library.specs.declared.library.Ranked.{Ranked}
 use Rattle.library.specs.declared.command.Command.{Command}

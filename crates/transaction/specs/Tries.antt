@@ -81,11 +81,13 @@ MayBeLooked l library = (s : Snapshot Listed) → s.value ≡ library → IsLawf
 
 -- each cell that the run has asked for is one that the transaction may read, in each state that may be under it and shows a library
 abbrev pub AsksWithin : Lending → List Command → Type 0
-AsksWithin l cs = (cell : ℕ) → WasAsked (sight_of l) cell → ForEachUnder (sight_of l) (λ st lib. MayRead (setting_of l.given) st lib cs cell)
+AsksWithin l cs =
+    (cell : ℕ) → WasAsked (sight_of l) cell → ForEachUnder (sight_of l) (λ st lib. MayRead (setting_of l.given) st lib cs cell)
 
 -- each for which it keeps a value aside is one that the transaction may write
 abbrev pub KeepsWithin : Lending → List Command → Type 0
-KeepsWithin l cs = (cell : ℕ) → WasWritten (sight_of l) cell → ForEachUnder (sight_of l) (λ st lib. MayWrite (setting_of l.given) st lib cs cell)
+KeepsWithin l cs =
+    (cell : ℕ) → WasWritten (sight_of l) cell → ForEachUnder (sight_of l) (λ st lib. MayWrite (setting_of l.given) st lib cs cell)
 
 -- so what is told of cells at the end is of these, by what the words were opened with
 abbrev pub EndsWithin : Pass → List Command → Pass → Outcome → Type 0
