@@ -4,12 +4,11 @@ use Rattle.std.specs.Prelude.{◌==◌}
 use Rattle.std.proofs.lemmas.Bool.{cases_Bool}
 use Rattle.std.proofs.lemmas.Bool.Decides.{Decides-eqb}
 use Rattle.library.specs.declared.command.Command.{Command}
-use Rattle.library.specs.declared.command.Reply.{Reply}
 use Rattle.ranges.specs.Pairs.{Pairs}
 use Rattle.ranges.specs.Ranges.{Has}
 use Rattle.cells.specs.Sight.{Sight, WasAsked, Onward}
-use Rattle.cells.specs.Answers.{DoesAll}
 use Rattle.cells.proofs.Sights.{onward_trans, matches_back}
+use Rattle.commands.specs.Touches.{PassesAll}
 use Rattle.commands.specs.Footprints.{IsReadByOne, ReadsForAll}
 use Rattle.groundwork.specs.Footprints.{ReadsFor}
 
@@ -52,9 +51,9 @@ pub reads_none : {O : Type 0} → (s : Sight O) → ReadsForAll s s []
 reads_none s = record { asked = λ c was. inl was }
 
 -- one command more, with others behind it that are not begun
-pub reads_more : {O : Type 0} → (s t u : Sight O) (cs : List Command) (replies : List Reply) → DoesAll s t cs replies → Onward t u → (x : Command)
+pub reads_more : {O : Type 0} → (s t u : Sight O) (cs : List Command) → PassesAll s cs t → Onward t u → (x : Command)
     (rest : List Command) → ReadsForAll s t cs → ReadsFor t u x → ReadsForAll s u (cs ++ x ∷ rest)
-reads_more s t u cs replies does on x rest before reads = record { asked = λ c was. of c was (was_asked t c) }
+reads_more s t u cs passes on x rest before reads = record { asked = λ c was. of c was (was_asked t c) }
   where
     of : (c : ℕ) → WasAsked u c → WasAsked t c ⊎ (WasAsked t c → ⊥) → WasAsked s c ⊎ IsReadByOne s u (cs ++ x ∷ rest) c
     of c was (inl early) =
@@ -65,8 +64,7 @@ reads_more s t u cs replies does on x rest before reads = record { asked = λ c 
           behind = k.behind ++ x ∷ rest;
           all = ap (λ (l : List Command). l ++ x ∷ rest) k.all ∙ append_assoc k.before (k.one ∷ k.behind) (x ∷ rest);
           mid = k.mid;
-          replies = k.replies;
-          does = k.does;
+          passes = k.passes;
           onward = onward_trans k.mid t u k.onward on;
           reads = λ st lib m v. k.reads st lib (matches_back t u st on m) v;
         }))
@@ -78,8 +76,7 @@ reads_more s t u cs replies does on x rest before reads = record { asked = λ c 
           behind = rest;
           all = refl;
           mid = t;
-          replies = replies;
-          does = does;
+          passes = passes;
           onward = on;
           reads = λ st lib m v. ⊎_elim (λ w. absurd (not_yet w)) (λ is. is) ((reads st lib m v).asked c was);
         })

@@ -50,7 +50,7 @@ done_over : (w : Option ℕ) (v : ℕ) → value_over (deed_of status.Done w) v 
 done_over None v = refl
 done_over (Some x) v = refl
 
-one_fits : (base : List ℕ) (seen : Seen Note) (k : ℕ) (reads : Pairs) → One base seen.history k reads
+pub one_fits : (base : List ℕ) (seen : Seen Note) (k : ℕ) (reads : Pairs) → One base seen.history k reads
     → FitsReads (state_after base seen k) reads
 one_fits base seen k [] one = tt
 one_fits base seen k (r ∷ reads) one = (one.0.0, one_fits base seen k reads one.1)

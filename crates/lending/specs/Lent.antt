@@ -134,5 +134,8 @@ pub record Lends (g : Given) (k : Carried) (mode : Mode) (may_stage : Bool) (l :
   pub mode_is : l.going.mode ≡ mode
   pub may : l.may_stage ≡ may_stage
   pub blank : writes_kept l.going.slots ≡ []
+  -- it has read nothing, and met no conflict
+  pub unread : l.going.reads ≡ []
+  pub unmet : l.going.over ≡ None
   pub taken : l.going.known.taken ≡ k.pass.taken
   pub staged : l.staged ≡ k.staged

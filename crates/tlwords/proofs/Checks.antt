@@ -160,5 +160,6 @@ module _ {S N : Type 0} (terms : Terms S N) (slots : List Slot) (i : ℕ) (m : M
                 written = t.written;
                 before = f ∙ sym is;
               };
+              read = ap is_some is;
               cause = cause;
             }

@@ -1,6 +1,6 @@
 -- A commit, from the draw on: its parts put together.
 use Rattle.std.proofs.Common.{◌≡◌, ◌≢◌, ℕ, suc, ◌+◌, ◌*◌, ◌/◌, ◌<◌, ◌≤◌, ◌⊎◌, inl, inr, ⊎_elim, Bool, true, false, ◌||◌, if◌then◌else◌}
-use Rattle.std.proofs.Common.{Option, Some, None, List, [], ◌∷◌, ◌++◌, length, sym, refl, ap, ◌∙◌, subst, arith}
+use Rattle.std.proofs.Common.{is_some, Option, Some, None, List, [], ◌∷◌, ◌++◌, length, sym, refl, ap, ◌∙◌, subst, arith}
 use Rattle.tlcore.specs.Seats.{Seat, is_nil, is_next, all_settled, reads_of, writes_of}
 use Rattle.tlcore.specs.Machine.{placed, conflict}
 use Rattle.tlcore.proofs.Growth.{WasWritten-kept}
@@ -93,6 +93,7 @@ module _ {S N : Type 0} (terms : Terms S N) (slots : List Slot) where
         record {
           sees = sees_on terms m r s f.sees g.goes.moves;
           finds = finds_on k r s g f.finds;
+          read = ap is_some f.differs.1;
           cause = inr f.differs;
           entry = g.goes.is ∙ ap (λ (v : View S N). let w : View S N =
               record v { seen = s.0.seen; seat = record v.seat { place = Idle; held = []; looked = s.0.seat.looked } } in w) f.goes.is;
@@ -154,6 +155,7 @@ module _ {S N : Type 0} (terms : Terms S N) (slots : List Slot) where
           record {
             sees = sees_on terms m s z (sees_on terms m r s d.sees f.goes.moves) g.goes.moves;
             finds = finds_on k s z g f.finds;
+            read = f.read;
             cause = inl (subst (λ (t : Seat). HasCause t.rv k.word) drawn_seat f.cause);
             entry = (
               n,
@@ -324,6 +326,7 @@ module _ {S N : Type 0} (terms : Terms S N) (slots : List Slot) where
         record {
           sees = moves_then terms m r s g.moves h.sees;
           finds = h.finds;
+          read = h.read;
           cause = subst (λ (t : Seat). HasCause t.rv k.word ⊎ ((w : ℕ) × (k.before ≡ Some w) × (w ≢ k.word))) taken_seat h.cause;
           entry = unentered x drawn s h.entry;
         }

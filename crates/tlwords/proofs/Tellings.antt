@@ -8,7 +8,9 @@ use Rattle.tlcore.specs.Seats.{Seat, find_read, number_at, is_resting, reads_of}
 use Rattle.tlcore.specs.declared.seats.Read.{Read}
 use Rattle.tlcore.specs.declared.seats.Place.{Place}
 use Rattle.tlcore.proofs.Words.{resting_at}
-use Rattle.ranges.specs.Ranges.{Range, AreOfOneStore}
+use Rattle.std.proofs.lemmas.Bool.{cases_Bool}
+use Rattle.std.proofs.lemmas.Bool.Decides.{Decides-eqb}
+use Rattle.ranges.specs.Ranges.{Range, Has, AreOfOneStore}
 use Rattle.ranges.specs.Pairs.{written}
 use Rattle.tlwords.specs.declared.log.Slot.{Slot}
 use Rattle.tlwords.specs.declared.mode.Mode.{Mode}
@@ -49,6 +51,17 @@ newest c (r ∷ rs) = go (r.cell == c) (newest c rs)
     go true e = refl
     go false e = e
 
+-- a cell whose read has ended has a value among the reads
+ended_reads : (rs : List Read) (c w : ℕ) → written c (found_of rs) ≡ Some w → (v : ℕ) × Has (c, v) (reads_of rs)
+ended_reads [] c w is = none_some w is
+ended_reads (r ∷ rs) c w is =
+    elim (cases_Bool (r.cell == c)) [
+      | inl same ↦ (r.value, inl (λ i. (sym ((Decides-eqb r.cell c).0 same) i, r.value)))
+      | inr other ↦
+          let later = ended_reads rs c w (ap (λ (b : Bool). if b then Some r.word else written c (found_of rs)) (sym other) ∙ is) in
+          (later.0, inr later.1)
+    ]
+
 told_of : (mode : Mode) (t : Seat) (slots : List Slot) (c : ℕ) → IsKeptOf (noted mode t) slots
     → word_seen slots c ≡ word_told mode c (found_of t.reads)
 told_of Reading t slots c k = k.0 c
@@ -79,6 +92,7 @@ module _ {S N : Type 0} (terms : Terms S N) where
           knows = knows_of table r.0 s (left_fits terms r count place (is_some over) f).1 (few_by (length r.0.drawn) count f.3 f.4);
           placed = subst (λ (n : ℕ). n ≤ length r.0.seen.history) f.5 s.placed;
           one = λ x e. subst (λ (n : ℕ). One r.0.base r.0.seen.history n (reads_of r.0.seat.reads)) f.5 (s.one x e);
+          ended = ended_reads r.0.seat.reads;
         }
 
     pub begin_tells : (table later : TableId) (m r : Mine S N) (slots : List Slot) → later ≡ table → Sampled terms m place r
@@ -230,6 +244,7 @@ module _ {S N : Type 0} (terms : Terms S N) where
           grows = c.sees.own;
           knows = knows_of later r.0 c.sees.sound f.1 (few_by (length r.0.drawn) count f.3 f.4);
           finds = record { looked = c.finds.looked; written = c.finds.written; before = c.finds.before; told = told };
+          read = c.read;
           cause = subst (λ (q : ℕ). HasCause q k.word ⊎ ((w : ℕ) × (k.before ≡ Some w) × (w ≢ k.word))) rv c.cause;
           entry = λ j. known_of (e j) (c.entry j);
         },
@@ -242,6 +257,7 @@ module _ {S N : Type 0} (terms : Terms S N) where
           grows = c.sees.own;
           knows = knows_of later r.0 c.sees.sound f.1 (few_by (length r.0.drawn) count f.3 f.4);
           finds = record { looked = c.finds.looked; written = c.finds.written; before = c.finds.before; told = told };
+          read = c.read;
           cause = subst (λ (q : ℕ). HasCause q k.word ⊎ ((w : ℕ) × (k.before ≡ Some w) × (w ≢ k.word))) rv c.cause;
           entry = (c.entry.0, c.entry.1, c.entry.2, c.entry.3, λ j. known_of (e j) (c.entry.4 j));
         },

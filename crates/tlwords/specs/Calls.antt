@@ -1,5 +1,5 @@
 -- What the calls on passes and runs tell their callers.
-use Rattle.std.specs.Prelude.{◌≡◌, ◌≢◌, ℕ, suc, ◌+◌, ◌/◌, ◌%◌, ◌^◌, ◌<◌, ◌≤◌, true, Option, Some, None, List, [], ◌∷◌, ◌++◌, length, ◌⊎◌, min}
+use Rattle.std.specs.Prelude.{◌≡◌, ◌≢◌, ℕ, suc, ◌+◌, ◌/◌, ◌%◌, ◌^◌, ◌<◌, ◌≤◌, true, is_some, Option, Some, None, List, [], ◌∷◌, ◌++◌, length, ◌⊎◌, min}
 use Rattle.atomic_table.specs.Seated.{TableId}
 use Rattle.tlcore.specs.History.{WasWritten}
 use Rattle.ranges.specs.Ranges.{Range, Has, Names}
@@ -156,11 +156,12 @@ module _ {S N : Type 0} (terms : Terms S N) where
       (i : ℕ) × (number ≡ suc i) × (length k.seen.history ≤ i) × IsVoid r.seen i
       × (r ≡ record k { seen = r.seen; looked = r.looked; drawn = k.drawn ++ number ∷ [] })
 
-  -- the call met this conflict, and drew this number or none
+  -- the call met this conflict, at a cell that the run had read, and drew this number or none
   pub record IsRejected (c : ConflictValue) (drawn : Option ℕ) (g : Going S N) (r : Known S N) : Type 0 where
     pub grows : SeenGrows g.known.seen r.seen
     pub knows : Knows terms r
     pub finds : Finds g.mode g.slots c r
+    pub read : is_some c.before ≡ true
     pub cause : HasCause g.place c.word ⊎ ((w : ℕ) × (c.before ≡ Some w) × (w ≢ c.word))
     pub entry : HasNoEntry drawn g.known r
 

@@ -1,5 +1,5 @@
 -- How a run commits: what it writes, and what the end of the call tells.
-use Rattle.std.specs.Prelude.{◌≡◌, ◌≢◌, ℕ, zero, suc, ◌/◌, ◌^◌, ◌≤◌, Bool, true, Option, Some, None, List, [], ◌∷◌, ◌++◌, length, slice_get}
+use Rattle.std.specs.Prelude.{◌≡◌, ◌≢◌, ℕ, zero, suc, ◌/◌, ◌^◌, ◌≤◌, Bool, true, is_some, Option, Some, None, List, [], ◌∷◌, ◌++◌, length, slice_get}
 use Rattle.std.specs.Prelude.{◌⊎◌}
 use Rattle.tlcore.specs.History.{Entry, WasWritten}
 use Rattle.tlcore.specs.Seats.{Seat, reads_of}
@@ -103,10 +103,11 @@ module _ {S N : Type 0} (terms : Terms S N) where
         drawn = m.0.drawn ++ number ∷ [];
       })
 
-  -- the call met this conflict, and drew this number or none
+  -- the call met this conflict, at a cell that the run had read, and drew this number or none
   pub record HasConflicted (slots : List Slot) (n : N) (k : ConflictValue) (drawn : Option ℕ) (m r : Mine S N) : Type 0 where
     pub sees : Sees terms m.0 r.0
     pub finds : Finds slots k r
+    pub read : is_some k.before ≡ true
     pub cause : HasCause m.0.seat.rv k.word ⊎ ((w : ℕ) × (k.before ≡ Some w) × (w ≢ k.word))
     pub entry : HasNoEntry n drawn m r
 

@@ -1,5 +1,5 @@
 -- Of the code's inside, apart from the rules: what the steps inside a commit tell, and the cells that it holds on the way.
-use Rattle.std.specs.Prelude.{◌≡◌, ◌≢◌, ℕ, zero, suc, ◌*◌, ◌<◌, nat_lt, nat_le, ◌||◌, true, if◌then◌else◌, Option, Some, None, List, []}
+use Rattle.std.specs.Prelude.{◌≡◌, ◌≢◌, ℕ, zero, suc, ◌*◌, ◌<◌, nat_lt, nat_le, ◌||◌, true, is_some, if◌then◌else◌, Option, Some, None, List, []}
 use Rattle.std.specs.Prelude.{◌∷◌, ◌++◌, length, ◌⊎◌}
 use Rattle.tlcore.specs.History.{wv}
 use Rattle.tlcore.specs.Seats.{Seat, is_nil, is_next, all_settled}
@@ -52,6 +52,7 @@ module _ {S N : Type 0} (terms : Terms S N) where
   pub record FailsTheCheck (slots : List Slot) (i : ℕ) (k : ConflictValue) (m r : Mine S N) : Type 0 where
     pub goes : Goes m (conflict m.0.seat (Voiding i)) r
     pub finds : Finds terms slots k r
+    pub read : is_some k.before ≡ true
     pub cause : HasCause m.0.seat.rv k.word
 
   -- the check passed, or wasn't needed

@@ -115,3 +115,5 @@ module _ {S N : Type 0} where
     pub placed : g.place ≤ length g.known.seen.history
     -- what it has read is one version at its place
     pub one : (x : S) → g.known.home.setting ≡ Some x → One g.known.home.base g.known.seen.history g.place g.reads
+    -- where a read of a cell has ended since it began, a value of the cell is among these
+    pub ended : (c w : ℕ) → written c g.known.found ≡ Some w → (v : ℕ) × Has (c, v) g.reads

@@ -1,8 +1,9 @@
 -- What a run of commands gives that a session's run was lent to.
-use Rattle.std.proofs.Common.{◌≡◌, ◌≤◌, ◌+◌, ℕ, Bool, List, sym, ap, subst, ◌∙◌, arith}
+use Rattle.std.proofs.Common.{◌≡◌, ◌≤◌, ◌+◌, ℕ, Bool, List, Some, None, inl, inr, ⊎_elim, sym, ap, subst, ◌∙◌, arith}
 use Rattle.std.proofs.Math.Bridge.{le_prop}
 use Rattle.std.proofs.Math.Logic.{∥∥₁_elim}
 use Rattle.std.specs.Prelude.{All}
+use Rattle.std.specs.Option.{option_map}
 use Rattle.std.specs.FinMap.{get}
 use Rattle.bodystore.specs.Stages.{Staged}
 use Rattle.library.specs.declared.command.Command.{Command}
@@ -10,13 +11,18 @@ use Rattle.library.specs.declared.command.Reply.{Reply}
 use Rattle.library.specs.declared.reason.Refused.{Refused as Refusal}
 use Rattle.library.specs.Library.{Setting, Verifies}
 use Rattle.library.specs.Fitting.{CommandFits}
-use Rattle.ranges.specs.Pairs.{Pairs}
-use Rattle.cells.specs.State.{with_writes}
+use Rattle.library.specs.declared.library.Ranked.{Ranked}
+use Rattle.ranges.specs.Pairs.{Pairs, written}
+use Rattle.ranges.specs.Ranges.{Has}
+use Rattle.cells.specs.State.{State, with_writes}
 use Rattle.cells.specs.Shows.{Shows}
-use Rattle.cells.specs.Sight.{Views, StaysStaged, Onward, TakesAtMost}
+use Rattle.cells.specs.Sight.{Views, Suits, WasAsked, WasWritten, StaysStaged, Onward, TakesAtMost}
 use Rattle.cells.specs.Answers.{ForEachBefore, has_staging, DoesAll, RefusesAll}
 use Rattle.cells.proofs.Sights.{matches_back}
 use Rattle.commands.specs.Takes.{most_words_of}
+use Rattle.commands.specs.Touches.{KeepsToAll}
+use Rattle.commands.specs.Footprints.{ReadsForAll}
+use Rattle.tlwords.specs.declared.outcome.Conflict.{Conflict}
 use Rattle.tlwords.specs.declared.mode.Mode.{Mode}
 use Rattle.lawful.specs.declared.notes.Given.{Given}
 use Rattle.lawful.specs.Lawful.{setting_of}
@@ -24,7 +30,8 @@ use Rattle.lawful.proofs.Running.{runs_are_lawful}
 use Rattle.lending.specs.Lent.{Carried, Lending, Agrees, Lends, sight_of}
 use Rattle.transaction.specs.declared.outcome.Outcome.{Outcome}
 use Rattle.transaction.specs.declared.outcome.Outcome.TheVariants as outcome
-use Rattle.transaction.specs.Tries.{MayBeDone, MayBeRefused, carried_by, EndsStored, Stores}
+use Rattle.transaction.specs.Tries.{MayBeDone, MayBeRefused, carried_by, EndsStored, Stores, AsksWithin, KeepsWithin}
+use Rattle.transaction.proofs.Within.{may_read, may_write}
 
 module _ (g : Given) (k : Carried) (mode : Mode) (cs : List Command) (old : Lending) (lends : Lends g k mode (has_staging cs) old) where
   module _ (new : Lending) (onward : Onward (sight_of old) (sight_of new)) where
@@ -47,6 +54,53 @@ module _ (g : Given) (k : Carried) (mode : Mode) (cs : List Command) (old : Lend
           (runs_are_lawful new.given (sight_of old) (sight_of new) c (sym onward.setting) lends.blank onward (fit_for c.value is)).1 r
           (subst (λ (x : List Command). RefusesAll (sight_of old) (sight_of new) x r.value) (sym is)
           (subst (λ (x : Refusal). RefusesAll (sight_of old) (sight_of new) cs x) (sym why) refuses))
+
+-- ---- which cells a run of the commands asks for, and keeps aside
+
+module _ (g : Given) (k : Carried) (mode : Mode) (may : Bool) (old : Lending) (lends : Lends g k mode may old) (cs : List Command) where
+  unasked : (cell : ℕ) → WasAsked (sight_of old) cell → ⊥
+  unasked cell (inl (v, has)) = subst (Has (cell, v)) lends.unread has
+  unasked cell (inr stop) =
+      let none = ap (option_map (λ (x : Conflict). x.cell)) lends.unmet in
+      let no : None ≡ Some cell = sym none ∙ stop in absurd cc
+
+  unwritten : (cell : ℕ) → WasWritten (sight_of old) cell → ⊥
+  unwritten cell (v, is) = let no : None ≡ Some v = sym (ap (written cell) lends.blank) ∙ is in absurd cc
+
+  -- none at its beginning
+  pub none_asked : AsksWithin old cs
+  none_asked cell was = absurd (unasked cell was)
+
+  module _ (new : Lending) (onward : Onward (sight_of old) (sight_of new)) (told : List Command) (same : told ≡ cs)
+      (fit : All (CommandFits (setting_of g).prelude) cs) where
+    setting_then : (sight_of old).setting ≡ setting_of new.given
+    setting_then = sym onward.setting
+
+    fit_then : All (CommandFits (setting_of new.given).prelude) cs
+    fit_then = subst (λ (s : Setting). All (CommandFits s.prelude) cs) (ap setting_of (sym lends.given) ∙ setting_then) fit
+
+    views_then : (st : State) (lib : List Ranked) → Suits (sight_of new) st lib → Views (sight_of old) st lib
+    views_then st lib s =
+        record {
+          matches = matches_back (sight_of old) (sight_of new) st onward s.matches;
+          shows = subst (λ (ps : Pairs). Shows (setting_of old.given).slots (with_writes st ps) lib) (sym lends.blank)
+              (subst (λ (x : Setting). Shows x.slots st lib) onward.setting s.shows);
+          verifies = subst (λ (x : Setting). Verifies x lib) onward.setting s.verifies;
+        }
+
+    pub asks_within : ReadsForAll (sight_of old) (sight_of new) told → AsksWithin new cs
+    asks_within reads cell was st lib s =
+        ⊎_elim (λ early. absurd (unasked cell early))
+        (λ is. may_read (setting_of new.given) st (sight_of new) s.matches (sight_of old) lib cs setting_then lends.blank (views_then st lib s) fit_then
+        cell is)
+        ((subst (ReadsForAll (sight_of old) (sight_of new)) same reads).asked cell was)
+
+    pub keeps_within : KeepsToAll (sight_of old) (sight_of new) told → KeepsWithin new cs
+    keeps_within keeps cell was st lib s =
+        ⊎_elim (λ early. absurd (unwritten cell early))
+        (λ is. may_write (setting_of new.given) st (sight_of new) s.matches (sight_of old) lib cs setting_then lends.blank (views_then st lib s) fit_then
+        cell is)
+        (subst (KeepsToAll (sight_of old) (sight_of new)) same keeps cell was)
 
 -- ---- what a run of the commands takes, and what is staged when it has ended
 

@@ -7,6 +7,8 @@ pub mod Ended
 pub mod Opened
 pub mod Recorded
 pub mod Committing
+pub mod Within
+pub mod Meeting
 pub mod Trying
 pub mod Applying
 pub mod Sent

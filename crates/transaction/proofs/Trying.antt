@@ -23,7 +23,7 @@ use Rattle.transaction.specs.declared.outcome.Record.{Record}
 use Rattle.transaction.specs.Members.{Member, IsLater, IsMember}
 use Rattle.transaction.specs.Attempts.{Gains, LeavesStaged, Attempts, Submits, IsVoidNumber, DrawsVoid, AddsNothing, GainsCall, SaysDone, SaysRefused}
 use Rattle.transaction.specs.Attempts.{tried, IsOneRun, LoadsOnce, MetNone}
-use Rattle.transaction.specs.Tries.{IsLaterPass, IsRecorded, Stores, Tries}
+use Rattle.transaction.specs.Tries.{IsLaterPass, IsRecorded, Stores, Tries, EndsWithin}
 use Rattle.transaction.proofs.Standing.{stands}
 use Rattle.transaction.proofs.Recorded.{with_record, still_recorded, voids_grow}
 
@@ -46,6 +46,7 @@ module _ (m : Member) (is : IsMember m) where
         gains = (refl, many);
         run = tt;
         unrefused = λ e. absurd cc;
+        footprint = λ new later. tt;
         counted = λ t. refl;
         staged = λ words start h. h;
         taken = omega arith;
@@ -61,8 +62,8 @@ module _ (m : Member) (is : IsMember m) where
       }
 
   pub attempts_run : (cs : List Command) (k : Carried) (o : Outcome) (r : Option Record) → has_too_many cs ≡ false → Tries cs m.known k.pass o r
-      → Stores cs (record { pass = m.known; staged = m.staged }) k o → Attempts cs m (after_run m k r) o
-  attempts_run cs k o r few t stored =
+      → Stores cs (record { pass = m.known; staged = m.staged }) k o → EndsWithin m.known cs k.pass o → Attempts cs m (after_run m k r) o
+  attempts_run cs k o r few t stored within =
       record {
         later = record {
           given = refl;
@@ -75,6 +76,7 @@ module _ (m : Member) (is : IsMember m) where
         gains = t.gains;
         run = t.run;
         unrefused = t.unrefused;
+        footprint = within m.given is.on.0;
         counted = λ many. let no : true ≡ false = sym many ∙ few in absurd cc;
         staged = stored.0;
         taken = stored.1;
@@ -91,12 +93,13 @@ module _ (m : Member) (is : IsMember m) (cs : List Command) (kit k : Carried) (o
   run_member = subst (λ (rs : List Record). IsMember (record m { known = k.pass; records = rs; staged = k.staged })) (sym are)
       (member_after m is k r tries_here.later tries_here.recorded)
 
-  pub run_attempts : kit.staged ≡ m.staged → Stores cs kit k o → has_too_many cs ≡ false
+  pub run_attempts : kit.staged ≡ m.staged → Stores cs kit k o → EndsWithin kit.pass cs k.pass o → has_too_many cs ≡ false
       → Attempts cs m (record m { known = k.pass; records = records; staged = k.staged }) o
-  run_attempts stage stored few =
+  run_attempts stage stored within few =
       subst (λ (rs : List Record). Attempts cs m (record m { known = k.pass; records = rs; staged = k.staged }) o) (sym are)
       (attempts_run m is cs k o r few tries_here
-      (subst (λ (z : Carried). Stores cs z k o) (λ j. record { pass = same j; staged = stage j }) stored))
+      (subst (λ (z : Carried). Stores cs z k o) (λ j. record { pass = same j; staged = stage j }) stored)
+      (subst (λ (z : Pass). EndsWithin z cs k.pass o) same within))
 
 pub no_record : (r : Option Record) → ((x : Record) → r ≢ Some x) → r ≡ None
 no_record None none = refl
@@ -296,6 +299,7 @@ module _ (cs : List Command) (old now next : Member) (o : Outcome) (so_far : Tri
         gains = gains_since o a.gains settled some;
         run = ran_since o a.run;
         unrefused = λ is none. a.unrefused is ∙ so_far.unrefused none;
+        footprint = a.footprint;
         settled = settled;
         counted = a.counted;
         staged = staged_then o a.staged;
@@ -317,6 +321,7 @@ module _ (cs : List Command) (old now next : Member) (o : Outcome) (so_far : Tri
         gains = subst (Gains cs (tried old.known [] []) next.known) (sym is) (all, g.1);
         run = subst (IsOneRun (tried old.known [] []) next.known) (sym is) tt;
         unrefused = λ memory none. let no = sym is ∙ memory in absurd cc;
+        footprint = a.footprint;
         settled = λ met e. let no = sym is ∙ e in cc;
         counted = a.counted;
         staged = staged_then o a.staged;

@@ -23,6 +23,7 @@ use Rattle.transaction.specs.declared.outcome.Conflict.{Conflict as Met}
 use Rattle.transaction.specs.declared.outcome.Outcome.{Outcome}
 use Rattle.transaction.specs.declared.outcome.Outcome.TheVariants as outcome
 use Rattle.transaction.specs.Members.{Member, IsLater}
+use Rattle.transaction.specs.Footprints.{StaysWithin}
 
 -- ---- the notes of calls
 
@@ -134,6 +135,9 @@ pub record Attempts (cs : List Command) (old new : Member) (o : Outcome) : Type 
   pub run : IsOneRun old.known new.known o
   -- where memory ran out, no staging was refused for the first time
   pub unrefused : o ≡ outcome.NoMemory → new.known.full ≡ old.known.full
+  -- the cell of a conflict is one that it may read, at the conflict's place; and a Committed wrote only what it may write, over the
+  -- library before it
+  pub footprint : StaysWithin new.given new.known.home.base new.known.seen cs o
   pub counted : has_too_many cs ≡ true → o ≡ outcome.TooManyCommands
   pub staged : LeavesStaged old.staged new.staged o
   pub taken : new.known.taken ≤ old.known.taken + most_words_of cs
@@ -154,6 +158,7 @@ pub record Submits (cs : List Command) (old new : Member) (o : Outcome) : Type 0
   pub run : IsOneRun (tried old.known numbers runs) new.known o
   -- where memory ran out at the first try, no staging was refused for the first time
   pub unrefused : o ≡ outcome.NoMemory → runs ≡ [] → new.known.full ≡ old.known.full
+  pub footprint : StaysWithin new.given new.known.home.base new.known.seen cs o
   pub settled : (met : Met) → o ≢ outcome.Conflict met
   pub counted : has_too_many cs ≡ true → o ≡ outcome.TooManyCommands
   pub staged : LeavesStaged old.staged new.staged o

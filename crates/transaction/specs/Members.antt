@@ -4,6 +4,8 @@ use Rattle.bodystore.specs.Stages.{Staged}
 use Rattle.library.specs.declared.command.Command.{Command}
 use Rattle.library.specs.declared.command.Reply.{Reply}
 use Rattle.library.specs.Histories.{Entry, void_entry, done_entry}
+use Rattle.ranges.specs.Ranges.{AreOfOneStore}
+use Rattle.cells.specs.State.{most_words}
 use Rattle.tlwords.specs.Seen.{SeenGrows}
 use Rattle.tlwords.specs.Known.{Home as WordsHome, Known, Knows}
 use Rattle.tlwords.specs.Calls.{new_pass}
@@ -53,11 +55,13 @@ pub record AreRecorded (m : Member) : Type 0 where
 
 -- ---- what is promised of a session
 
--- its words were opened with what it was given; the history that it has seen is one of the library, with which its calls agree: each transaction's replies are the definition's, from the
--- library at the opening, the library after each front verifies, and the cells show it there; and each number that it drew has its record
+-- its words were opened with what it was given; the history that it has seen is one of the library, with which its calls agree: each
+-- transaction's replies are the definition's, from the library at the opening, the library after each front verifies, and the cells show it
+-- there; the ranges that it has seen are of one store; and each number that it drew has its record
 pub record Stands (m : Member) : Type 0 where
   pub setting : m.known.home.setting ≡ Some m.given
   pub history : IsHistoryOf m.given m.known.home.base m.known.seen
+  pub store : AreOfOneStore most_words m.known.seen.ranges
   pub agree : AllAgree m.given (history_of m.known.seen) m.known.mine
   pub recorded : AreRecorded m
 

@@ -1,24 +1,27 @@
 -- Of the code's inside, apart from the rules: what one run of a session does to its pass, and the record that is left of it.
-use Rattle.std.specs.Prelude.{◌≡◌, ◌≤◌, ◌+◌, Option, Some, None, List, [], ◌∷◌, ◌++◌}
+use Rattle.std.specs.Prelude.{◌≡◌, ◌≤◌, ◌+◌, ℕ, Option, Some, None, List, [], ◌∷◌, ◌++◌}
 use Rattle.std.specs.FinMap.{empty}
 use Rattle.std.specs.declared.snapshot.Snapshot.{Snapshot}
 use Rattle.library.specs.declared.command.Command.{Command}
 use Rattle.library.specs.declared.command.Reply.{Reply}
 use Rattle.library.specs.declared.reason.Refused.{Refused as Refusal}
 use Rattle.library.specs.Library.{Listed}
+use Rattle.cells.specs.Sight.{WasAsked, WasWritten}
 use Rattle.commands.specs.Takes.{most_words_of}
 use Rattle.tlwords.specs.Seen.{SeenGrows}
 use Rattle.tlwords.specs.Known.{Knows}
 use Rattle.tlwords.specs.Commits.{writes_kept}
 use Rattle.lawful.specs.declared.notes.Note.TheVariants.{Done, Refused, Looked}
-use Rattle.lawful.specs.Lawful.{library_terms}
+use Rattle.lawful.specs.declared.notes.Given.{Given}
+use Rattle.lawful.specs.Lawful.{setting_of, ForEachUnder, library_terms}
 use Rattle.lawful.specs.History.{history_of}
-use Rattle.lending.specs.Lent.{Pass, Carried, Lending, FullStays}
+use Rattle.lending.specs.Lent.{Pass, Carried, Lending, sight_of, FullStays}
 use Rattle.lending.specs.Ends.{IsLawfulWith}
 use Rattle.transaction.specs.declared.outcome.Record.{Record}
 use Rattle.transaction.specs.declared.outcome.Outcome.{Outcome}
 use Rattle.transaction.specs.declared.outcome.Outcome.TheVariants as outcome
 use Rattle.transaction.specs.Members.{IsRecordIn}
+use Rattle.transaction.specs.Footprints.{MayRead, MayWrite, StaysWithin}
 use Rattle.transaction.specs.Attempts.{Gains, IsOneRun, LeavesStaged}
 
 -- the pass later: of the same words, with the same name, having seen more
@@ -73,3 +76,19 @@ MayBeRefused l cs refused =
 -- or that the library was this
 abbrev pub MayBeLooked : Lending → Listed → Type 0
 MayBeLooked l library = (s : Snapshot Listed) → s.value ≡ library → IsLawfulWith l [] (Looked s)
+
+-- ---- which cells it asks for
+
+-- each cell that the run has asked for is one that the transaction may read, in each state that may be under it and shows a library
+abbrev pub AsksWithin : Lending → List Command → Type 0
+AsksWithin l cs =
+    (cell : ℕ) → WasAsked (sight_of l) cell → ForEachUnder (sight_of l) (λ st lib. MayRead (setting_of l.given) st lib cs cell)
+
+-- each for which it keeps a value aside is one that the transaction may write
+abbrev pub KeepsWithin : Lending → List Command → Type 0
+KeepsWithin l cs =
+    (cell : ℕ) → WasWritten (sight_of l) cell → ForEachUnder (sight_of l) (λ st lib. MayWrite (setting_of l.given) st lib cs cell)
+
+-- so what is told of cells at the end is of these, by what the words were opened with
+abbrev pub EndsWithin : Pass → List Command → Pass → Outcome → Type 0
+EndsWithin old cs new o = (g : Given) → old.home.setting ≡ Some g → StaysWithin g new.home.base new.seen cs o

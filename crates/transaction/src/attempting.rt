@@ -11,7 +11,7 @@ ghost use Rattle.lending.specs.Lent.{is_writing};
 ghost use Rattle.lawful.specs.Lawful.{setting_of};
 ghost use Rattle.transaction.specs.Members.{IsOf};
 ghost use Rattle.transaction.specs.Attempts.{Attempts};
-ghost use Rattle.transaction.specs.Tries.{Tries, Stores, EndsStored, carried_by, MayBeDone, MayBeRefused};
+ghost use Rattle.transaction.specs.Tries.{Tries, Stores, EndsStored, carried_by, MayBeDone, MayBeRefused, AsksWithin, KeepsWithin, EndsWithin};
 
 use crate::outcome::{Outcome, Record, met};
 use crate::running::Library;
@@ -42,7 +42,8 @@ impl Session {
     /// Every other outcome changes nothing, and the session can be used again; only words of the store that were staged stay used: at most
     /// those of its bodies, each once, and none for a body that was staged since the last Committed, unless memory ran out for the note of
     /// it. All memory is taken before the first lock. Each try but one of too many commands is one run, which loads the clock once: it is
-    /// never tried again inside. Where a run met a conflict, that is the outcome, and neither `StoreFull` nor `NoMemory`.
+    /// never tried again inside. Where a run met a conflict, that is the outcome, and neither `StoreFull` nor `NoMemory`. The cell of a
+    /// conflict is one that some command may read, and a commit writes no cells but those that its commands may write.
     pub fn attempt(&mut self, alloc: Global, library: &Library, commands: &Transaction) -> Outcome
         requires own { IsOf library.now self.old }
         requires fit { All (CommandFits (setting_of library.now.given).prelude) commands.now }
@@ -83,6 +84,7 @@ fn transact(
     requires fit { All (CommandFits (setting_of library.now.given).prelude) commands.now }
     ensures tries { Tries commands.now kit.pass result.kit.pass result.outcome result.drawn }
     ensures stored { Stores commands.now kit result.kit result.outcome }
+    ensures within { EndsWithin kit.pass commands.now result.kit.pass result.outcome }
     ensures records { records.new.items ≡ records.old.items }
     ensures room { is_some result.drawn ≡ true → vec_len records.new < vec_capacity records.new }
 {
@@ -121,8 +123,11 @@ fn commit(alloc: Global, live: Live<'_>, commands: &Transaction, replies: Sequen
     requires edit { has_edit commands.now ≡ true }
     requires some { writes_kept live.run.going.slots ≢ [] }
     requires lawful { MayBeDone live.run commands.now replies }
+    requires asks { AsksWithin live.run commands.now }
+    requires keeps { KeepsWithin live.run commands.now }
     ensures tries { Tries commands.now live.entry.run.began result.kit.pass result.outcome result.drawn }
     ensures stored { EndsStored (carried_by live.entry.run) result.kit result.outcome }
+    ensures within { EndsWithin live.entry.run.began commands.now result.kit.pass result.outcome }
 {
     let Ok(done) = copy_done(alloc, commands, &replies) else {
         return stop(live, commands);
@@ -160,8 +165,10 @@ fn answer(live: Live<'_>, commands: &Transaction, replies: Sequence<Reply>) -> T
     requires edit { has_edit commands.now ≡ false }
     requires reading { live.run.going.mode ≡ Reading }
     requires lawful { MayBeDone live.run commands.now replies }
+    requires asks { AsksWithin live.run commands.now }
     ensures tries { Tries commands.now live.entry.run.began result.kit.pass result.outcome result.drawn }
     ensures stored { EndsStored (carried_by live.entry.run) result.kit result.outcome }
+    ensures within { EndsWithin live.entry.run.began commands.now result.kit.pass result.outcome }
 {
     let place = live.place();
     let note = Note::Done {
@@ -187,8 +194,10 @@ fn answer(live: Live<'_>, commands: &Transaction, replies: Sequence<Reply>) -> T
 fn refuse(mut live: Live<'_>, commands: &Transaction, refused: Refused) -> Tried
     requires writes { is_writing live.run.going.mode ≡ has_edit commands.now }
     requires lawful { MayBeRefused live.run commands.now refused }
+    requires asks { AsksWithin live.run commands.now }
     ensures tries { Tries commands.now live.entry.run.began result.kit.pass result.outcome result.drawn }
     ensures stored { EndsStored (carried_by live.entry.run) result.kit result.outcome }
+    ensures within { EndsWithin live.entry.run.began commands.now result.kit.pass result.outcome }
 {
     live.forget();
     let place = live.place();
@@ -215,8 +224,10 @@ fn refuse(mut live: Live<'_>, commands: &Transaction, refused: Refused) -> Tried
 fn stop(live: Live<'_>, commands: &Transaction) -> Tried
     requires stages { live.run.may_stage ≡ has_staging commands.now }
     requires writes { is_writing live.run.going.mode ≡ has_edit commands.now }
+    requires asks { AsksWithin live.run commands.now }
     ensures tries { Tries commands.now live.entry.run.began result.kit.pass result.outcome result.drawn }
     ensures stored { EndsStored (carried_by live.entry.run) result.kit result.outcome }
+    ensures within { EndsWithin live.entry.run.began commands.now result.kit.pass result.outcome }
     ensures undrawn { result.drawn ≡ None }
 {
     let place = live.place();

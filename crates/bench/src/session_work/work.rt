@@ -22,10 +22,10 @@ use transaction::{Library, Record, Shape};
 use workers::{Open, Worked, run_scripts};
 
 /// The slots of a library.
-const SLOTS: usize = 4096;
+pub const SLOTS: usize = 4096;
 
 /// The most words that a store has room for.
-const ROOM: usize = 16_777_216;
+pub const ROOM: usize = 16_777_216;
 
 /// What was measured.
 #[derive(Clone, Copy)]
@@ -39,7 +39,7 @@ pub struct Measured {
 }
 
 /// Reads scripts; none where one has a fault, or where memory runs out.
-fn read_scripts(alloc: Global, prelude: &Prelude, texts: &[Vec<u8>]) -> Option<Vec<Script>>
+pub fn read_scripts(alloc: Global, prelude: &Prelude, texts: &[Vec<u8>]) -> Option<Vec<Script>>
     ensures { IfSome result (λ v. All (All (All (CommandFits prelude.now))) v.items) }
 {
     let mut scripts = Vec::new(alloc);

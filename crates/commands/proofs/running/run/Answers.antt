@@ -1,4 +1,4 @@
-use Rattle.std.proofs.Common.{◌≡◌, ◌<◌, ◌≤◌, ◌+◌, ℕ, suc, List, [], ◌∷◌, ◌++◌, Err, length, get_or, take, drop, sym, ap}
+use Rattle.std.proofs.Common.{◌≡◌, ◌<◌, ◌≤◌, ◌+◌, ℕ, suc, List, [], ◌∷◌, ◌++◌, Err, length, get_or, take, drop, refl, sym, ap}
 use Rattle.std.proofs.Common.{subst, ◌∙◌, arith, drop-cons}
 use Rattle.std.specs.Prelude.{All}
 use Rattle.std.proofs.lemmas.List.{take_more, take-append-drop, length-take-le}
@@ -14,8 +14,8 @@ use Rattle.commands.specs.Takes.{most_words_of}
 use Rattle.groundwork.specs.Takes.{command_words}
 use Rattle.commands.proofs.Transactions.{takes_none, takes_more, does_none, does_more, ends}
 use Rattle.commands.proofs.Taking.{few_of_all}
-use Rattle.commands.specs.Touches.{KeepsToAll}
-use Rattle.commands.proofs.TouchingAll.{keeps_none, keeps_more}
+use Rattle.commands.specs.Touches.{PassesAll, KeepsToAll}
+use Rattle.commands.proofs.TouchingAll.{keeps_none, keeps_more, passes_more}
 use Rattle.commands.specs.Footprints.{ReadsForAll}
 use Rattle.commands.proofs.Reading.{reads_none, reads_more}
 use Rattle.commands.proofs.running.run.Goals as goal
@@ -27,6 +27,7 @@ loop-done-init g c =
       onward = onward_refl _;
       taken = takes_none s;
       does = subst (DoesAll s s []) (sym c.new-replies.ensures.items) (does_none s);
+      passes = refl;
       keeps = keeps_none s;
       reads = reads_none s;
     }
@@ -87,9 +88,11 @@ loop-done-preserved g c =
     record {
       onward = onward_trans _ _ _ c.loop-done.invariant.onward c.take.ensures.onward;
       taken = subst (λ l. ForEachBefore s u (λ st lib. TakesAtMost (most_words_of l) s u)) front taken;
-      keeps = subst (λ l. KeepsToAll s u l) front (keeps_more s t u (take k cs) replies c.loop-done.invariant.does c.take.ensures.onward x
+      passes = subst (λ l. PassesAll s l u) front (passes_more s t u (take k cs) x c.loop-done.invariant.passes
+          (record { onward = c.take.ensures.onward; reply = reply; does = c.in-Ok.ensures.answers; keeps = c.in-Ok.ensures.keeps }));
+      keeps = subst (λ l. KeepsToAll s u l) front (keeps_more s t u (take k cs) c.loop-done.invariant.passes c.take.ensures.onward x
           c.loop-done.invariant.keeps c.in-Ok.ensures.keeps);
-      reads = subst (λ l. ReadsForAll s u l) front (reads_more s t u (take k cs) replies c.loop-done.invariant.does c.take.ensures.onward x []
+      reads = subst (λ l. ReadsForAll s u l) front (reads_more s t u (take k cs) c.loop-done.invariant.passes c.take.ensures.onward x []
           c.loop-done.invariant.reads c.take.ensures.reads);
       does = subst (λ l. DoesAll s u l c.push.new.self.items) front (subst (DoesAll s u (take k cs ++ x ∷ [])) (sym push) does);
     }
@@ -145,7 +148,7 @@ returns-in_err-push-in-Ok-clause-reads g c =
     let k = c.loop-done.done in
     let x = c.index-commands-done.result in
     subst (λ l. ReadsForAll s u l) (parted cs k x c.loop-done-test.true c.index-commands-done.is)
-    (reads_more s t u (take k cs) c.loop-done.replies.items c.loop-done.invariant.does c.take.ensures.onward x (drop (k + 1) cs)
+    (reads_more s t u (take k cs) c.loop-done.invariant.passes c.take.ensures.onward x (drop (k + 1) cs)
     c.loop-done.invariant.reads c.take.ensures.reads)
 
 pub returns-in-Err-clause-reads : goal.returns-in-Err-clause-reads
@@ -157,5 +160,5 @@ returns-in-Err-clause-reads g c =
     let k = c.loop-done.done in
     let x = c.index-commands-done.result in
     subst (λ l. ReadsForAll s u l) (parted cs k x c.loop-done-test.true c.index-commands-done.is)
-    (reads_more s t u (take k cs) c.loop-done.replies.items c.loop-done.invariant.does c.take.ensures.onward x (drop (k + 1) cs)
+    (reads_more s t u (take k cs) c.loop-done.invariant.passes c.take.ensures.onward x (drop (k + 1) cs)
     c.loop-done.invariant.reads c.take.ensures.reads)

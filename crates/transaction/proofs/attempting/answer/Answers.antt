@@ -5,8 +5,9 @@ use Rattle.lending.specs.Lent.{is_writing}
 use Rattle.lending.specs.Ends.{staged_after}
 use Rattle.transaction.specs.declared.outcome.Outcome.{Outcome}
 use Rattle.transaction.specs.declared.outcome.Outcome.TheVariants as outcome
-use Rattle.transaction.specs.Tries.{Tries, EndsStored, carried_by}
+use Rattle.transaction.specs.Tries.{Tries, EndsStored, EndsWithin, carried_by}
 use Rattle.transaction.proofs.Committing.{met_is, reads, answered, met_only}
+use Rattle.transaction.proofs.Meeting.{conflict_within}
 use Rattle.transaction.proofs.attempting.answer.Goals as goal
 use Rattle.transaction.proofs.attempting.answer.Goals.{in-Read+in-Done-1, in-Read+in-Refused-1, in-Read+in-Looked-1, in-Conflict}
 
@@ -53,4 +54,24 @@ returns-clause-stored c =
       | in-Read+in-Refused-1 w ↦ subst outcomes (sym w.outcome-is) (e.taken, left _ w.in-Read.is)
       | in-Read+in-Looked-1 w ↦ subst outcomes (sym w.outcome-is) (e.taken, left _ w.in-Read.is)
       | in-Conflict w ↦ subst outcomes (sym w.outcome-is) (e.taken, left _ w.in-Conflict.is)
+    ]
+
+pub returns-clause-within : goal.returns-clause-within
+returns-clause-within c =
+    let l = c.args.live.run in
+    let lending = c.place-place.ensures.stands in
+    let cs = c.args.commands.now in
+    let k = c.end-kit.result.0.pass in
+    let o = c.end-kit.result.1 in
+    let ends = c.end-kit.ensures in
+    let outcomes = λ (x : Outcome). EndsWithin l.began cs k x in
+    elim c.match-ended.branch [
+      | in-Read+in-Done-1 w ↦ subst outcomes (sym w.outcome-is) (λ g opened new later. tt)
+      | in-Read+in-Refused-1 w ↦ subst outcomes (sym w.outcome-is) (λ g opened new later. tt)
+      | in-Read+in-Looked-1 w ↦ subst outcomes (sym w.outcome-is) (λ g opened new later. tt)
+      | in-Conflict w ↦
+          let met = met_is l lending.0 lending.1 lending.2 cs w.in-Conflict.conflict c.place-place.result w.met.result w.met.ensures
+          c.place-place.ensures.value in
+          subst outcomes (sym (w.outcome-is ∙ ap outcome.Conflict met))
+          (conflict_within l lending.0 lending.1 lending.2 cs c.requires.asks _ k o ends.over ends.ended w.in-Conflict.conflict _ w.in-Conflict.is)
     ]

@@ -8,8 +8,9 @@ use Rattle.lending.specs.Ends.{staged_after}
 use Rattle.transaction.specs.declared.outcome.Outcome.{Outcome}
 use Rattle.transaction.specs.declared.outcome.Outcome.TheVariants as outcome
 use Rattle.transaction.specs.declared.outcome.Record.{Record}
-use Rattle.transaction.specs.Tries.{Tries, EndsStored, carried_by}
+use Rattle.transaction.specs.Tries.{Tries, EndsStored, EndsWithin, carried_by}
 use Rattle.transaction.proofs.Committing.{met_is, commits, committed, conflicts, used, void_mapped, void_records}
+use Rattle.transaction.proofs.Meeting.{committed_within, conflict_within}
 use Rattle.transaction.proofs.attempting.commit.Goals as goal
 use Rattle.transaction.proofs.attempting.commit.Goals.{in-Committed+in-Done-1, in-Committed+in-Refused-1, in-Committed+in-Looked-1, in-Conflict, in-NumbersUsed}
 
@@ -59,4 +60,31 @@ returns-clause-stored c =
       | in-Committed+in-Looked-1 w ↦ subst outcomes (sym w.outcome-is) (e.taken, left _ w.in-Committed.is)
       | in-Conflict w ↦ subst outcomes (sym w.outcome-is) (e.taken, left _ w.in-Conflict.is)
       | in-NumbersUsed w ↦ subst outcomes (sym w.outcome-is) (e.taken, left _ w.in-NumbersUsed.is)
+    ]
+
+pub returns-clause-within : goal.returns-clause-within
+returns-clause-within c =
+    let l = c.args.live.run in
+    let lending = c.place-place.ensures.stands in
+    let stage = lending.0 in
+    let over = lending.1 in
+    let lent = lending.2 in
+    let cs = c.args.commands.now in
+    let k = c.end-kit.result.0.pass in
+    let o = c.end-kit.result.1 in
+    let ends = c.end-kit.ensures in
+    let outcomes = λ (x : Outcome). EndsWithin l.began cs k x in
+    let done = λ (number : ℕ) (is : o ≡ EndsDone number).
+    committed_within l stage over lent cs c.requires.keeps number c.args.replies _ k
+    (committed l stage over lent cs _ k o ends.over ends.ended number is) in
+    let told = λ (x : Outcome × Option Record). x.0 in
+    elim c.match-ended.branch [
+      | in-Committed+in-Done-1 w ↦ subst outcomes (sym (ap told w.outcome-is)) (done w.in-Committed.number w.in-Committed.is)
+      | in-Committed+in-Refused-1 w ↦ subst outcomes (sym (ap told w.outcome-is)) (done w.in-Committed.number w.in-Committed.is)
+      | in-Committed+in-Looked-1 w ↦ subst outcomes (sym (ap told w.outcome-is)) (done w.in-Committed.number w.in-Committed.is)
+      | in-Conflict w ↦
+          let met = met_is l stage over lent cs w.in-Conflict.conflict c.place-place.result w.met.result w.met.ensures c.place-place.ensures.value in
+          subst outcomes (sym (ap told w.outcome-is ∙ ap outcome.Conflict met))
+          (conflict_within l stage over lent cs c.requires.asks _ k o ends.over ends.ended w.in-Conflict.conflict w.in-Conflict.drawn w.in-Conflict.is)
+      | in-NumbersUsed w ↦ subst outcomes (sym (ap told w.outcome-is)) (λ g opened new later. tt)
     ]

@@ -5,8 +5,9 @@ use Rattle.lending.specs.Lent.{Pass, Lending, is_writing}
 use Rattle.lending.specs.Ends.{staged_after}
 use Rattle.transaction.specs.declared.outcome.Outcome.{Outcome}
 use Rattle.transaction.specs.declared.outcome.Outcome.TheVariants as outcome
-use Rattle.transaction.specs.Tries.{Tries, EndsStored, carried_by}
+use Rattle.transaction.specs.Tries.{Tries, EndsStored, EndsWithin, carried_by}
 use Rattle.transaction.proofs.Committing.{met_is, met_of, refuses, answered, met_only, never_rejects, forgotten_lawful}
+use Rattle.transaction.proofs.Meeting.{conflict_within, forgotten_asks}
 use Rattle.transaction.proofs.attempting.refuse.Goals as goal
 use Rattle.transaction.proofs.attempting.refuse.Goals.{in-Read, in-Conflict}
 
@@ -56,4 +57,25 @@ returns-clause-stored c =
     elim c.match-ended.branch [
       | in-Read w ↦ subst (EndsStored old c.end-kit.result.0) (sym w.outcome-is) (taken, left _ w.in-Read.is ∙ same)
       | in-Conflict w ↦ subst (EndsStored old c.end-kit.result.0) (sym w.outcome-is) (taken, left _ w.in-Conflict.is ∙ same)
+    ]
+
+pub returns-clause-within : goal.returns-clause-within
+returns-clause-within c =
+    let l = c.forget.new.self.run in
+    let lending = c.place-place.ensures.stands in
+    let cs = c.args.commands.now in
+    let k = c.end-kit.result.0.pass in
+    let o = c.end-kit.result.1 in
+    let ends = c.end-kit.ensures in
+    let began = ap (λ (x : Lending). x.began) c.forget.ensures.is in
+    let outcomes = λ (x : Outcome). EndsWithin c.args.live.run.began cs k x in
+    elim c.match-ended.branch [
+      | in-Read w ↦ subst outcomes (sym w.outcome-is) (λ g opened new later. tt)
+      | in-Conflict w ↦
+          let met = met_is l lending.0 lending.1 lending.2 cs w.in-Conflict.conflict c.place-place.result w.met.result w.met.ensures
+          c.place-place.ensures.value in
+          subst outcomes (sym (w.outcome-is ∙ ap outcome.Conflict met))
+          (subst (λ (z : Pass). EndsWithin z cs k (outcome.Conflict (met_of l lending.0 lending.1 lending.2 cs w.in-Conflict.conflict))) began
+          (conflict_within l lending.0 lending.1 lending.2 cs (forgotten_asks c.args.live.run l cs c.forget.ensures c.requires.asks) _ k o ends.over
+          ends.ended w.in-Conflict.conflict _ w.in-Conflict.is))
     ]

@@ -2,9 +2,10 @@ use Rattle.std.proofs.Common.{◌≡◌, ℕ, None, sym, ap, subst, ◌∙◌}
 use Rattle.lending.specs.Lent.{Pass}
 use Rattle.transaction.specs.declared.outcome.Outcome.{Outcome}
 use Rattle.transaction.specs.declared.outcome.Outcome.TheVariants as outcome
-use Rattle.transaction.specs.Tries.{Tries, StoresNothing, EndsStored, carried_by}
+use Rattle.transaction.specs.Tries.{Tries, StoresNothing, EndsStored, EndsWithin, carried_by}
 use Rattle.transaction.proofs.Ended.{met_at}
 use Rattle.transaction.proofs.Committing.{told_of, gives_up}
+use Rattle.transaction.proofs.Meeting.{given_up_within}
 use Rattle.transaction.proofs.attempting.stop.Goals as goal
 use Rattle.transaction.proofs.attempting.stop.Goals.{in-Conflict, in-StoreFull, in-NoMemory}
 
@@ -37,3 +38,22 @@ returns-clause-stored c =
       | in-StoreFull w ↦ subst outcomes (sym w.outcome-is) kept
       | in-NoMemory w ↦ subst outcomes (sym w.outcome-is) kept
     ]
+
+pub returns-clause-within : goal.returns-clause-within
+returns-clause-within c =
+    let l = c.args.live.run in
+    let lending = c.place-place.ensures.stands in
+    let cs = c.args.commands.now in
+    let place = c.place-place.ensures.value in
+    let why = c.give_up-kit.result.1 in
+    let ended = c.give_up-kit.ensures in
+    let is : c.match-why.outcome ≡ told_of l.going.place why = elim c.match-why.branch [
+      | in-Conflict w ↦
+          let met = w.met.ensures ∙ ap (λ (p : ℕ). met_at p w.in-Conflict.found) place in
+          w.outcome-is ∙ ap outcome.Conflict met ∙ ap (told_of l.going.place) (sym w.in-Conflict.is)
+      | in-StoreFull w ↦ w.outcome-is ∙ ap (told_of l.going.place) (sym w.in-StoreFull.is)
+      | in-NoMemory w ↦ w.outcome-is ∙ ap (told_of l.going.place) (sym w.in-NoMemory.is)
+    ] in
+    subst (λ (k : Pass). EndsWithin l.began cs k c.match-why.outcome) (sym ended.kit)
+    (subst (λ (o : Outcome). EndsWithin l.began cs l.going.known o) (sym is)
+    (given_up_within l lending.0 lending.1 lending.2 cs c.requires.asks why ended.why))

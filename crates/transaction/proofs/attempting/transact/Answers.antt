@@ -6,8 +6,9 @@ use Rattle.cells.specs.Answers.{has_staging, DoesAll, RunAnswers}
 use Rattle.lending.specs.declared.live.Stopped.{Stopped}
 use Rattle.cells.proofs.Sights.{onward_refl}
 use Rattle.commands.proofs.Allowed.{may_do_all}
-use Rattle.lending.specs.Lent.{Lends, is_writing, sight_of}
-use Rattle.transaction.proofs.Applying.{may_be_done, may_be_refused, stored}
+use Rattle.lending.specs.Lent.{Pass, Lends, is_writing, sight_of}
+use Rattle.transaction.specs.Tries.{EndsWithin}
+use Rattle.transaction.proofs.Applying.{may_be_done, may_be_refused, none_asked, asks_within, keeps_within, stored}
 use Rattle.transaction.proofs.attempting.transact.Goals as goal
 use Rattle.transaction.proofs.attempting.transact.Goals.{then-edits, else-edits}
 
@@ -84,3 +85,60 @@ returns-then-is_err-clause-stored c =
     let l = c.begin-live.result.run in
     stored _ c.args.kit _ _ l l c.begin-live.ensures (onward_refl (sight_of l)) c.args.commands.now _ refl c.stop.result.kit
     c.begin-live.result.agrees (λ st lib m v. omega arith) c.stop.result.outcome c.stop.ensures.stored
+
+pub commit-requires-clause-asks : goal.commit-requires-clause-asks
+commit-requires-clause-asks c =
+    let lends = c.begin-live.ensures in
+    asks_within c.args.library.now.given c.args.kit _ _ c.begin-live.result.run lends c.args.commands.now c.run.new.cells.run c.run.ensures.onward _
+    c.as_slice-3.ensures c.requires.fit c.run.ensures.reads
+
+pub commit-requires-clause-keeps : goal.commit-requires-clause-keeps
+commit-requires-clause-keeps c =
+    keeps_within c.args.library.now.given c.args.kit _ _ c.begin-live.result.run c.begin-live.ensures c.args.commands.now c.run.new.cells.run
+    c.run.ensures.onward _ c.as_slice-3.ensures c.requires.fit c.in-Ok.ensures.keeps
+
+pub answer-requires-clause-asks : goal.answer-requires-clause-asks
+answer-requires-clause-asks c =
+    let lends = c.begin-live.ensures in
+    asks_within c.args.library.now.given c.args.kit _ _ c.begin-live.result.run lends c.args.commands.now c.run.new.cells.run c.run.ensures.onward _
+    c.as_slice-3.ensures c.requires.fit c.run.ensures.reads
+
+pub refuse-requires-clause-asks : goal.refuse-requires-clause-asks
+refuse-requires-clause-asks c =
+    let lends = c.begin-live.ensures in
+    asks_within c.args.library.now.given c.args.kit _ _ c.begin-live.result.run lends c.args.commands.now c.run.new.cells.run c.run.ensures.onward _
+    c.as_slice-3.ensures c.requires.fit c.run.ensures.reads
+
+pub stop-requires-clause-asks : goal.stop-requires-clause-asks
+stop-requires-clause-asks c =
+    none_asked c.args.library.now.given c.args.kit _ _ c.begin-live.result.run c.begin-live.ensures c.args.commands.now
+
+pub stop-requires-in-Err-clause-asks : goal.stop-requires-in-Err-clause-asks
+stop-requires-in-Err-clause-asks c =
+    asks_within c.args.library.now.given c.args.kit _ _ c.begin-live.result.run c.begin-live.ensures c.args.commands.now c.run.new.cells.run
+    c.run.ensures.onward _ c.as_slice-3.ensures c.requires.fit c.run.ensures.reads
+
+pub returns-in-Ok-clause-within : goal.returns-in-Ok-clause-within
+returns-in-Ok-clause-within c =
+    subst (λ (z : Pass). EndsWithin z c.args.commands.now c.commit.result.kit.pass c.commit.result.outcome)
+    (c.run.ensures.onward.origin ∙ c.begin-live.ensures.began) c.commit.ensures.within
+
+pub returns-in-Ok-2-clause-within : goal.returns-in-Ok-2-clause-within
+returns-in-Ok-2-clause-within c =
+    subst (λ (z : Pass). EndsWithin z c.args.commands.now c.answer.result.kit.pass c.answer.result.outcome)
+    (c.run.ensures.onward.origin ∙ c.begin-live.ensures.began) c.answer.ensures.within
+
+pub returns-in-Err-Refused-clause-within : goal.returns-in-Err-Refused-clause-within
+returns-in-Err-Refused-clause-within c =
+    subst (λ (z : Pass). EndsWithin z c.args.commands.now c.refuse.result.kit.pass c.refuse.result.outcome)
+    (c.run.ensures.onward.origin ∙ c.begin-live.ensures.began) c.refuse.ensures.within
+
+pub returns-in-Err-clause-within : goal.returns-in-Err-clause-within
+returns-in-Err-clause-within c =
+    subst (λ (z : Pass). EndsWithin z c.args.commands.now c.stop-in-Err.result.kit.pass c.stop-in-Err.result.outcome)
+    (c.run.ensures.onward.origin ∙ c.begin-live.ensures.began) c.stop-in-Err.ensures.within
+
+pub returns-then-is_err-clause-within : goal.returns-then-is_err-clause-within
+returns-then-is_err-clause-within c =
+    subst (λ (z : Pass). EndsWithin z c.args.commands.now c.stop.result.kit.pass c.stop.result.outcome) c.begin-live.ensures.began
+    c.stop.ensures.within

@@ -29,6 +29,8 @@ returns c =
       mode_is = ap (λ x. x.mode) c.begin.ensures.begins.is;
       may = refl;
       blank = blank_writes c.begin.result.slots c.begin.ensures.begins.blank;
+      unread = ap (λ x. x.reads) c.begin.ensures.begins.is;
+      unmet = ap (λ x. x.over) c.begin.ensures.begins.is;
       taken = ap (λ x. x.known.taken) c.begin.ensures.begins.is ∙ ap (λ k. k.pass.taken) c.kit.view_is;
       staged = ap (λ k. k.staged) c.kit.view_is;
     }

@@ -53,7 +53,7 @@ returns-in-Some-drawn c =
     let next : Member = record { given = m.given; known = c.transact-kit.result.kit.pass; records = c.push_reserved.new.self.items; staged = c.transact-kit.result.kit.staged } in
     subst (λ (x : Member). Attempts cs x next c.transact-kit.result.outcome) c.self.view_is
     (run_attempts m c.self.invariant.1 cs c.in-Some.kit c.transact-kit.result.kit c.transact-kit.result.outcome r _ (ap known_in c.in-Some.ensures.value)
-    c.transact-kit.ensures.tries records (ap staged_in c.in-Some.ensures.value) c.transact-kit.ensures.stored few)
+    c.transact-kit.ensures.tries records (ap staged_in c.in-Some.ensures.value) c.transact-kit.ensures.stored c.transact-kit.ensures.within few)
 
 pub returns-in_default-drawn : goal.returns-in_default-drawn
 returns-in_default-drawn c =
@@ -66,4 +66,4 @@ returns-in_default-drawn c =
     let next : Member = record { given = m.given; known = c.transact-kit.result.kit.pass; records = c.transact-kit.new.records.items; staged = c.transact-kit.result.kit.staged } in
     subst (λ (x : Member). Attempts cs x next c.transact-kit.result.outcome) c.self.view_is
     (run_attempts m c.self.invariant.1 cs c.in-Some.kit c.transact-kit.result.kit c.transact-kit.result.outcome r _ (ap known_in c.in-Some.ensures.value)
-    c.transact-kit.ensures.tries records (ap staged_in c.in-Some.ensures.value) c.transact-kit.ensures.stored few)
+    c.transact-kit.ensures.tries records (ap staged_in c.in-Some.ensures.value) c.transact-kit.ensures.stored c.transact-kit.ensures.within few)
