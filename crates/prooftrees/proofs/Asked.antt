@@ -6,11 +6,6 @@ use Rattle.source.specs.Statements.{Proof}
 use Rattle.source.specs.Scopes.{Hypothesis, Assertion}
 
 module _ (xs : List Assertion) (place : ℕ) (x : Assertion) (at : slice_get xs place ≡ Some x) where
-  pub active_is : (hs : List Hypothesis) → option_map (λ a. a.active) (slice_get xs place) ≡ Some hs → x.active ≡ hs
-  active_is hs h =
-      let e : Some x.active ≡ Some hs = sym (ap (option_map (λ (a : Assertion). a.active)) at) ∙ h in
-      cc
-
   pub mandatory_is : (hs : List Hypothesis) → option_map (λ a. a.hypotheses) (slice_get xs place) ≡ Some hs → x.hypotheses ≡ hs
   mandatory_is hs h =
       let e : Some x.hypotheses ≡ Some hs = sym (ap (option_map (λ (a : Assertion). a.hypotheses)) at) ∙ h in

@@ -7,3 +7,4 @@ pub mod Named
 pub mod Cases
 pub mod Trees
 pub mod Asked
+pub mod Mandatory

@@ -21,7 +21,7 @@ use Rattle.prooftrees.specs.Roles.{role_in, is_label_of, role_of, number_of}
 use Rattle.prooftrees.specs.Names.{IsKnown, IsNamed}
 use Rattle.prooftrees.proofs.Cases.{or_right}
 
-or_both : (a b c : Bool) → (b ≡ true → c ≡ true) → (a || b) ≡ true → (a || c) ≡ true
+pub or_both : (a b c : Bool) → (b ≡ true → c ≡ true) → (a || b) ≡ true → (a || c) ≡ true
 or_both true b c f h = refl
 or_both false b c f h = f h
 
@@ -43,7 +43,7 @@ active_in a (Some n) role h f = f refl
 active_in true None role h f = refl
 active_in false None role h f = absurd cc
 
-neither_in : (a : Bool) (p : Option ℕ) → role_in a p ≡ None → (a ≡ false) × (p ≡ None)
+pub neither_in : (a : Bool) (p : Option ℕ) → role_in a p ≡ None → (a ≡ false) × (p ≡ None)
 neither_in a (Some n) h = absurd cc
 neither_in true None h = absurd cc
 neither_in false None h = (refl, refl)

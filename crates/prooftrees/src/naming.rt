@@ -5,6 +5,7 @@ ghost use Rattle.std.specs.Option.{option_map};
 ghost use Rattle.std.specs.Str.{bytes_eq};
 ghost use Rattle.mmtext.specs.Words.{Word};
 ghost use Rattle.source.specs.Views.{seen_words};
+ghost use Rattle.source.specs.Whole.{IsWhole};
 ghost use Rattle.taking.specs.Names.{label_in, float_in};
 ghost use Rattle.taking.specs.Listings.{own_step};
 ghost use Rattle.taking.specs.Settings.{is_float, AreNamed};
@@ -63,7 +64,33 @@ fn name_assertion<'a, D: Declared<'a>, P: StepPlaces>(
     Ok(Named { floats, step })
 }
 
-/// What a label of the proof of the assertion at a place names, where these are the roles of the hypotheses that are active there.
+/// A label of the proof of the assertion at a place that isn't one of a mandatory hypothesis is named: that of an assertion, or else of a `$f`
+/// of another variable.
+fn name_other<'a, D: Declared<'a>, P: StepPlaces>(
+    alloc: Global,
+    declared: &D,
+    frames: &mut Frames,
+    places: &P,
+    place: usize,
+    label: &[u8],
+) -> Result<Named, AllocError>
+    requires whole { IsWhole (D.scope declared.now) }
+    requires holds { Holds (D.scope declared.now).assertions frames.old }
+    requires within { place < length (D.scope declared.now).assertions }
+    requires other { At (D.scope declared.now).assertions place (λ x. role_of x.hypotheses label.now ≡ None) }
+    requires known { At (D.scope declared.now).assertions place
+        (λ x. IsKnown (take place (D.scope declared.now).assertions) x.active label.now) }
+    ensures holds { Holds (D.scope declared.now).assertions frames.new }
+    ensures named { IfOk result (λ named. At (D.scope declared.now).assertions place
+        (λ x. IsNamed (P.places places.now) (take place (D.scope declared.now).assertions) x.active label.now named)) }
+{
+    match declared.place_of(label) {
+        Some(_) => name_assertion(alloc, declared, frames, places, place, label),
+        None => name_hypothesis(alloc, places, Role::Float, label),
+    }
+}
+
+/// What a label of the proof of the assertion at a place names, where these are the roles of its mandatory hypotheses.
 fn name_label<'a, D: Declared<'a>, P: StepPlaces>(
     alloc: Global,
     declared: &D,
@@ -73,9 +100,10 @@ fn name_label<'a, D: Declared<'a>, P: StepPlaces>(
     place: usize,
     label: &[u8],
 ) -> Result<Named, AllocError>
+    requires whole { IsWhole (D.scope declared.now) }
     requires holds { Holds (D.scope declared.now).assertions frames.old }
     requires within { place < length (D.scope declared.now).assertions }
-    requires roles { At (D.scope declared.now).assertions place (λ x. (w : Word) → looks_up roles.now.roles w ≡ role_of x.active w) }
+    requires roles { At (D.scope declared.now).assertions place (λ x. (w : Word) → looks_up roles.now.roles w ≡ role_of x.hypotheses w) }
     requires known { At (D.scope declared.now).assertions place
         (λ x. IsKnown (take place (D.scope declared.now).assertions) x.active label.now) }
     ensures holds { Holds (D.scope declared.now).assertions frames.new }
@@ -84,11 +112,11 @@ fn name_label<'a, D: Declared<'a>, P: StepPlaces>(
 {
     match roles.role(label) {
         Some(role) => name_hypothesis(alloc, places, role, label),
-        None => name_assertion(alloc, declared, frames, places, place, label),
+        None => name_other(alloc, declared, frames, places, place, label),
     }
 }
 
-/// What labels of the proof of the assertion at a place name, where these are the roles of the hypotheses that are active there.
+/// What labels of the proof of the assertion at a place name, where these are the roles of its mandatory hypotheses.
 pub(crate) fn name_labels<'a, D: Declared<'a>, P: StepPlaces>(
     alloc: Global,
     declared: &D,
@@ -98,9 +126,10 @@ pub(crate) fn name_labels<'a, D: Declared<'a>, P: StepPlaces>(
     place: usize,
     labels: &[&[u8]],
 ) -> Result<Vec<Named>, AllocError>
+    requires whole { IsWhole (D.scope declared.now) }
     requires holds { Holds (D.scope declared.now).assertions frames.old }
     requires within { place < length (D.scope declared.now).assertions }
-    requires roles { At (D.scope declared.now).assertions place (λ x. (w : Word) → looks_up roles.now.roles w ≡ role_of x.active w) }
+    requires roles { At (D.scope declared.now).assertions place (λ x. (w : Word) → looks_up roles.now.roles w ≡ role_of x.hypotheses w) }
     requires known { At (D.scope declared.now).assertions place
         (λ x. All (IsKnown (take place (D.scope declared.now).assertions) x.active) (seen_words labels.now)) }
     ensures holds { Holds (D.scope declared.now).assertions frames.new }

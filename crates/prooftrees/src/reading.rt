@@ -30,6 +30,7 @@ fn tree_of<'a, D: Declared<'a>, P: StepPlaces>(
     place: usize,
     counted: Counted<'a>,
 ) -> Result<Option<ProofTree<'a>>, AllocError>
+    requires whole { IsWhole (D.scope declared.now) }
     requires within { place < length (D.scope declared.now).assertions }
     requires holds { Holds (D.scope declared.now).assertions frames.old }
     requires counted { At (D.scope declared.now).assertions place
@@ -41,8 +42,8 @@ fn tree_of<'a, D: Declared<'a>, P: StepPlaces>(
         → MatchOption tree (denoted (take place (D.scope declared.now).assertions) x ≡ None)
         (IsTree (P.places places.now) (take place (D.scope declared.now).assertions) x))) }
 {
-    let active = declared.active(alloc, place)?;
-    let roles = Roles::new(alloc, keys, active)?;
+    let mandatory = declared.mandatory(alloc, place)?;
+    let roles = Roles::new(alloc, keys, mandatory)?;
     let labels = counted.labels;
     let named = name_labels(
         alloc,
@@ -73,6 +74,7 @@ fn read_finished<'a, D: Declared<'a>, P: StepPlaces>(
     place: usize,
     proof: &ProofWords<'a>,
 ) -> Result<Option<ProofTree<'a>>, AllocError>
+    requires whole { IsWhole (D.scope declared.now) }
     requires within { place < length (D.scope declared.now).assertions }
     requires holds { Holds (D.scope declared.now).assertions frames.old }
     requires proof { At (D.scope declared.now).assertions place (λ x. x.proof ≡ Some (seen_proof proof.now)) }
@@ -92,7 +94,7 @@ fn read_finished<'a, D: Declared<'a>, P: StepPlaces>(
 
 /// The proof of the assertion at a place: the tree that it denotes, its nodes named by the steps that they have in a library.
 ///
-/// It costs as much as the proof has words and letters, and as hypotheses are active there; of each assertion that it names the frame is made
+/// It costs as much as the proof has words and letters, and as the mandatory hypotheses cost; of each assertion that it names the frame is made
 /// once. After an error nothing is said of the frames.
 ///
 /// # Errors

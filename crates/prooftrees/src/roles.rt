@@ -1,4 +1,4 @@
-//! The hypotheses that a proof may name, by their labels.
+//! The hypotheses that a proof names, by their labels.
 
 ghost use Rattle.std.specs.Prelude.{◌≡◌, ◌+◌, ◌∷◌, ◌++◌, [], List, IfOk, OnOk};
 ghost use Rattle.std.specs.Str.{bytes_eq};
@@ -12,7 +12,7 @@ use std::alloc::{AllocError, Global};
 use std::collections::HashMap;
 use std::hash::RandomState;
 
-/// What the label of an active hypothesis names.
+/// What the label of a hypothesis names.
 #[derive(Clone, Copy, Debug, PartialEq, Eq)]
 pub(crate) enum Role {
     /// A `$f`.
@@ -21,7 +21,7 @@ pub(crate) enum Role {
     Premise(u32),
 }
 
-/// What the labels of active hypotheses name.
+/// What the labels of hypotheses name.
 #[derive(Drop)]
 pub(crate) struct Roles<'a> {
     pub(crate) roles: HashMap<&'a [u8], Role, RandomState>,
@@ -84,23 +84,23 @@ fn note_hypothesis<'a>(
 }
 
 impl<'a> Roles<'a> {
-    /// Those of these active hypotheses.
+    /// Those of these hypotheses.
     pub(crate) fn new(
         alloc: Global,
         keys: RandomState,
-        active: Vec<&HypothesisWords<'a>>,
+        hypotheses: Vec<&HypothesisWords<'a>>,
     ) -> Result<Roles<'a>, AllocError>
-        ensures { IfOk result (λ made. (w : Word) → looks_up made.roles w ≡ role_of (seen_hypotheses active.entry.items) w) }
+        ensures { IfOk result (λ made. (w : Word) → looks_up made.roles w ≡ role_of (seen_hypotheses hypotheses.entry.items) w) }
     {
-        let mut roles = HashMap::with_capacity_and_hasher(alloc, active.len(), keys)?;
+        let mut roles = HashMap::with_capacity_and_hasher(alloc, hypotheses.len(), keys)?;
         let mut premises = 0;
-        for hypothesis in active {
+        for hypothesis in hypotheses {
             premises = note_hypothesis(&mut roles, hypothesis, premises)?;
         }
         Ok(Roles { roles })
     }
 
-    /// What a label names, if it is that of an active hypothesis: one look-up.
+    /// What a label names, if it is that of one of the hypotheses: one look-up.
     pub(crate) fn role(&self, label: &[u8]) -> Option<Role>
         ensures { result ≡ looks_up self.now.roles label.now }
     {

@@ -28,15 +28,18 @@ name_label-requires g c =
     λ _. (
       (refl, tt),
       (
-        c.loop-label.invariant.0,
+        c.requires.whole,
         (
-          c.requires.within,
+          c.loop-label.invariant.0,
           (
-            c.requires.roles,
-            λ x at.
-                subst (IsKnown (take c.args.place xs) x.active)
-                (get_or-map (λ (w : Bor (List ℕ)). w.now) labels i _ [] c.loop-label-test.true)
-                (c.requires.known x at i [] long),
+            c.requires.within,
+            (
+              c.requires.roles,
+              λ x at.
+                  subst (IsKnown (take c.args.place xs) x.active)
+                  (get_or-map (λ (w : Bor (List ℕ)). w.now) labels i _ [] c.loop-label-test.true)
+                  (c.requires.known x at i [] long),
+            ),
           ),
         ),
       ),

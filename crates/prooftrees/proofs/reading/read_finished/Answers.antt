@@ -25,20 +25,23 @@ tree_of-requires g c =
     λ _. (
       (refl, tt),
       (
-        c.requires.within,
+        c.requires.whole,
         (
-          c.requires.holds,
+          c.requires.within,
           (
-            λ x at. λ proof is.
-                let e : Some own ≡ Some proof = sym (c.requires.proof x at) ∙ is in
-                let same : own ≡ proof = cc in
-                subst (λ (p : Proof). IsCounted x.hypotheses p made) same
-                (subst (λ (ks : List Hypothesis). IsCounted ks own made)
-                (sym (mandatory_is xs c.args.place x at hs c.in_ok-mandatory.ensures)) counted),
-            λ x at.
-                subst (λ (ws : List Word). All (IsKnown (take c.args.place xs) x.active) ws)
-                (ap (λ ks. counted_labels ks own) (mandatory_is xs c.args.place x at hs c.in_ok-mandatory.ensures) ∙ sym counted.labels_are)
-                (c.requires.known x at),
+            c.requires.holds,
+            (
+              λ x at. λ proof is.
+                  let e : Some own ≡ Some proof = sym (c.requires.proof x at) ∙ is in
+                  let same : own ≡ proof = cc in
+                  subst (λ (p : Proof). IsCounted x.hypotheses p made) same
+                  (subst (λ (ks : List Hypothesis). IsCounted ks own made)
+                  (sym (mandatory_is xs c.args.place x at hs c.in_ok-mandatory.ensures)) counted),
+              λ x at.
+                  subst (λ (ws : List Word). All (IsKnown (take c.args.place xs) x.active) ws)
+                  (ap (λ ks. counted_labels ks own) (mandatory_is xs c.args.place x at hs c.in_ok-mandatory.ensures) ∙ sym counted.labels_are)
+                  (c.requires.known x at),
+            ),
           ),
         ),
       ),

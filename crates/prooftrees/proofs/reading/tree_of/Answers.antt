@@ -12,7 +12,7 @@ use Rattle.taking.specs.Decoded.{AreDecoded, AreLabelsOf, tree_of}
 use Rattle.taking.specs.Walks.{TakesAll}
 use Rattle.prooftrees.specs.Names.{IsKnown}
 use Rattle.prooftrees.specs.Roles.{role_of}
-use Rattle.prooftrees.proofs.Asked.{active_is}
+use Rattle.prooftrees.proofs.Asked.{mandatory_is}
 use Rattle.prooftrees.proofs.Named.{NamesOf}
 use Rattle.prooftrees.proofs.Trees.{tree_is, tree_is_none, counted_denoted}
 use Rattle.prooftrees.proofs.reading.tree_of.Goals as goal
@@ -23,18 +23,21 @@ name_labels-requires g c =
     λ _. (
       (refl, tt),
       (
-        c.requires.holds,
+        c.requires.whole,
         (
-          c.requires.within,
+          c.requires.holds,
           (
-            λ x at. λ w.
-                c.in_ok-roles.ensures w
-                ∙ ap (λ hs. role_of hs w)
-                (sym (active_is xs c.args.place x at (seen_hypotheses c.in_ok-active.active.items) c.in_ok-active.ensures)),
-            λ x at.
-                subst (λ (ls : List (Bor (List ℕ))). All (IsKnown (take c.args.place xs) x.active) (seen_words ls))
-                (sym c.as_slice.ensures.value)
-                (c.requires.known x at),
+            c.requires.within,
+            (
+              λ x at. λ w.
+                  c.in_ok-roles.ensures w
+                  ∙ ap (λ hs. role_of hs w)
+                  (sym (mandatory_is xs c.args.place x at (seen_hypotheses c.in_ok-mandatory.mandatory.items) c.in_ok-mandatory.ensures)),
+              λ x at.
+                  subst (λ (ls : List (Bor (List ℕ))). All (IsKnown (take c.args.place xs) x.active) (seen_words ls))
+                  (sym c.as_slice.ensures.value)
+                  (c.requires.known x at),
+            ),
           ),
         ),
       ),
