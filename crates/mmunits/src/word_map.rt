@@ -1,0 +1,24 @@
+//! Maps from words, which own them.
+
+ghost use Rattle.std.specs.Prelude.{OnOk, OnErr};
+ghost use Rattle.std.specs.HashMap.{IsUnchanged};
+ghost use Rattle.mmunits.specs.WordMaps.{FindsToo};
+
+use std::alloc::{AllocError, Global};
+use std::collections::HashMap;
+use std::hash::RandomState;
+
+/// Puts a value at a word, in the place of what was there. Where memory runs out, the map stays as it was.
+pub(crate) fn put_at<V: Drop>(
+    alloc: Global,
+    map: &mut HashMap<Vec<u8>, V, RandomState>,
+    word: &[u8],
+    value: V,
+) -> Result<(), AllocError>
+    ensures put { OnOk result (FindsToo map.old word.now value map.new) }
+    ensures kept { OnErr result (IsUnchanged map.old map.new) }
+{
+    let key = Vec::from_slice(alloc, word)?;
+    map.insert(key, value)?;
+    Ok(())
+}
