@@ -10,6 +10,7 @@ ghost use Rattle.mmreader.specs.Takings.{TakesItem};
 ghost use Rattle.mmreader.specs.Recalls.{Knows};
 ghost use Rattle.scripts.specs.Scripts.{other_step_of};
 ghost use Rattle.scripts.specs.ScriptFaults.{command_word, in_command, proof_start, step_row, unit_row};
+ghost use Rattle.scripts.specs.ScriptFaults.{at_rank, at_old_citation, at_new_citation, at_new_label, at_new_rank};
 ghost use Rattle.scripts.specs.ScriptViews.{label_at, rank_at, decided, seen_command_place, seen_led, TakesInCommand};
 
 use super::numerals::{hypothesis_place, is_numeral};
@@ -221,6 +222,57 @@ pub fn read_command_word<'a>(token: Token<'a>) -> Result<Led<'a>, Stop>
     Ok(Led::Inside(place))
 }
 
+/// Behind `add`: its rank.
+fn read_added_rank<'a>(alloc: Global, prelude: &Prelude, token: Token<'a>) -> Result<Led<'a>, Stop>
+    ensures { Gives (seen_led prelude.now) result
+        (decided (seen token.entry) (in_command prelude.now at_rank (seen token.entry))) }
+{
+    let rank = read_rank(token)?;
+    let reader = UnitReader::new(alloc, prelude.keys());
+    Ok(Led::Inside(CommandPlace::InUnit(rank, reader)))
+}
+
+/// Behind `replace` and a label: the label whose citations are replaced.
+fn read_old_citation<'a>(alloc: Global, label: Label, token: Token<'a>) -> Result<Led<'a>, Stop>
+    ensures { (t : Tables) → Gives (seen_led t) result
+        (decided (seen token.entry) (in_command t (at_old_citation label) (seen token.entry))) }
+{
+    let old = read_label(alloc, token)?;
+    Ok(Led::Inside(CommandPlace::AtNewCitation { label, old }))
+}
+
+/// Behind `replace` and two labels: the label that is cited instead.
+fn read_new_citation<'a>(
+    alloc: Global,
+    label: Label,
+    old: Label,
+    token: Token<'a>,
+) -> Result<Led<'a>, Stop>
+    ensures { (t : Tables) → Gives (seen_led t) result
+        (decided (seen token.entry) (in_command t (at_new_citation label old) (seen token.entry))) }
+{
+    let new = read_label(alloc, token)?;
+    Ok(Led::Whole(Command::Replace { label, old, new }))
+}
+
+/// Behind `rename` and the old label: the new one.
+fn read_new_label<'a>(alloc: Global, old: Label, token: Token<'a>) -> Result<Led<'a>, Stop>
+    ensures { (t : Tables) → Gives (seen_led t) result
+        (decided (seen token.entry) (in_command t (at_new_label old) (seen token.entry))) }
+{
+    let new = read_label(alloc, token)?;
+    Ok(Led::Whole(Command::Rename { old, new }))
+}
+
+/// Behind `move` and a label: the new rank.
+fn read_new_rank<'a>(label: Label, token: Token<'a>) -> Result<Led<'a>, Stop>
+    ensures { (t : Tables) → Gives (seen_led t) result
+        (decided (seen token.entry) (in_command t (at_new_rank label) (seen token.entry))) }
+{
+    let rank = read_rank(token)?;
+    Ok(Led::Whole(Command::Move { label, rank }))
+}
+
 /// Where a token leads that stands in a command, outside of comments. All tokens of a command are read over one prelude.
 ///
 /// # Errors
@@ -236,10 +288,7 @@ pub fn read_in_command<'a>(
         (decided (seen token.entry) (in_command prelude.now (seen_command_place prelude.now place.entry) (seen token.entry))) }
 {
     let next = match place {
-        CommandPlace::AtRank => {
-            let rank = read_rank(token)?;
-            CommandPlace::InUnit(rank, UnitReader::new(alloc, prelude.keys()))
-        }
+        CommandPlace::AtRank => return read_added_rank(alloc, prelude, token),
         CommandPlace::InUnit(rank, reader) => {
             return read_in_unit(alloc, prelude, rank, reader, token);
         }
@@ -249,24 +298,14 @@ pub fn read_in_command<'a>(
             return read_step(alloc, prelude, label, steps, token);
         }
         CommandPlace::AtRecited => CommandPlace::AtOldCitation(read_label(alloc, token)?),
-        CommandPlace::AtOldCitation(label) => {
-            let old = read_label(alloc, token)?;
-            CommandPlace::AtNewCitation { label, old }
-        }
+        CommandPlace::AtOldCitation(label) => return read_old_citation(alloc, label, token),
         CommandPlace::AtNewCitation { label, old } => {
-            let new = read_label(alloc, token)?;
-            return Ok(Led::Whole(Command::Replace { label, old, new }));
+            return read_new_citation(alloc, label, old, token);
         }
         CommandPlace::AtOldLabel => CommandPlace::AtNewLabel(read_label(alloc, token)?),
-        CommandPlace::AtNewLabel(old) => {
-            let new = read_label(alloc, token)?;
-            return Ok(Led::Whole(Command::Rename { old, new }));
-        }
+        CommandPlace::AtNewLabel(old) => return read_new_label(alloc, old, token),
         CommandPlace::AtMoved => CommandPlace::AtNewRank(read_label(alloc, token)?),
-        CommandPlace::AtNewRank(label) => {
-            let rank = read_rank(token)?;
-            return Ok(Led::Whole(Command::Move { label, rank }));
-        }
+        CommandPlace::AtNewRank(label) => return read_new_rank(label, token),
         CommandPlace::AtDeleted => {
             let label = read_label(alloc, token)?;
             return Ok(Led::Whole(Command::Delete { label }));

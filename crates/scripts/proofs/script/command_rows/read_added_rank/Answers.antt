@@ -1,0 +1,15 @@
+-- What is left to show of `read_added_rank`.
+use Rattle.std.proofs.Common.{ℕ}
+use Rattle.std.proofs.lemmas.Result.{err_from_is_err_and}
+use Rattle.mmtext.specs.Views.{seen}
+use Rattle.scripts.specs.ScriptFaults.{in_unit, inside, unit_start}
+use Rattle.scripts.proofs.ScriptRows.{rank_fails}
+use Rattle.scripts.proofs.script.command_rows.read_added_rank.Goals as goal
+
+pub returns-in_err-rank : goal.returns-in_err-rank
+returns-in_err-rank c =
+    let t = c.args.prelude.now in
+    let u = seen c.args.token in
+    let p = err_from_is_err_and c.from_residual.result c.from_residual.ensures.1 in
+    let why = c.in_err-rank.field-0.0 in
+    rw (p.1, p.2) (rank_fails u (λ (n : ℕ). inside (in_unit n (unit_start t))) why c.in_err-rank.ensures)
