@@ -24,15 +24,16 @@ silent_front : (inside : Bool) (ws vs : List Word) → without_comments inside w
     → without_comments inside (ws ++ vs) ≡ without_comments false vs
 silent_front false [] vs h = refl
 silent_front true [] vs h = absurd cc
-silent_front false (w ∷ ws) vs h = elim (cases_Bool (bytes_eq w (codes "$("))) [
-  | inl y ↦
-      let opened = cond-true (bytes_eq w (codes "$(")) (without_comments true ws) (option_map (λ us. w ∷ us) (without_comments false ws)) y in
-      cond-true (bytes_eq w (codes "$(")) (without_comments true (ws ++ vs)) (option_map (λ us. w ∷ us) (without_comments false (ws ++ vs))) y
-      ∙ silent_front true ws vs (sym opened ∙ h)
-  | inr n ↦
-      let more = option_map (λ us. w ∷ us) (without_comments false ws) in
-      absurd (none_more w (without_comments false ws) (sym (cond-false (bytes_eq w (codes "$(")) (without_comments true ws) more n) ∙ h))
-]
+silent_front false (w ∷ ws) vs h =
+    let more = λ (us : List Word). option_map (λ os. w ∷ os) (without_comments false us) in
+    elim (cases_Bool (bytes_eq w (codes "$("))) [
+      | inl y ↦
+          cond-true (bytes_eq w (codes "$(")) (without_comments true (ws ++ vs)) (more (ws ++ vs)) y
+          ∙ silent_front true ws vs (sym (cond-true (bytes_eq w (codes "$(")) (without_comments true ws) (more ws) y) ∙ h)
+      | inr n ↦
+          let rest = sym (cond-false (bytes_eq w (codes "$(")) (without_comments true ws) (more ws) n) ∙ h in
+          absurd (none_more w (without_comments false ws) rest)
+    ]
 silent_front true (w ∷ ws) vs h =
     let marked = λ (us : List Word). cond (has_comment_mark w) None (without_comments true us) in
     elim (cases_Bool (bytes_eq w (codes "$)"))) [

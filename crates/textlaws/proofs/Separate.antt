@@ -31,7 +31,8 @@ words_spoken p (b ∷ bs) =
     let first = with_byte p b (ends_token bs) later in
     let word = with_first b (ends_token bs) (spoken bs) in
     elim (cases_Bool (is_white b)) [
-      | inl y ↦ ap words_of (cond-true (is_white b) later first y) ∙ words_spoken (suc p) bs ∙ sym (cond-true (is_white b) (spoken bs) word y)
+      | inl y ↦ ap words_of (cond-true (is_white b) later first y) ∙ words_spoken (suc p) bs
+          ∙ sym (cond-true (is_white b) (spoken bs) word y)
       | inr n ↦ ap words_of (cond-false (is_white b) later first n) ∙ words_with_byte p b (ends_token bs) later
           ∙ ap (with_first b (ends_token bs)) (words_spoken (suc p) bs) ∙ sym (cond-false (is_white b) (spoken bs) word n)
     ]
@@ -51,7 +52,8 @@ word_follows (b ∷ bs) h e =
     some_word b (ends_token bs) (spoken bs)
     (sym (cond-false (is_white b) (spoken bs) (with_first b (ends_token bs) (spoken bs)) h) ∙ e)
 
-first_append : (b : ℕ) (ends : Bool) (ws vs : List Word) → (ends ≡ false → ws ≢ []) → with_first b ends (ws ++ vs) ≡ with_first b ends ws ++ vs
+first_append : (b : ℕ) (ends : Bool) (ws vs : List Word) → (ends ≡ false → ws ≢ [])
+    → with_first b ends (ws ++ vs) ≡ with_first b ends ws ++ vs
 first_append b false (w ∷ ws) vs h = refl
 first_append b false [] vs h = absurd (h refl refl)
 first_append b true ws vs h = refl

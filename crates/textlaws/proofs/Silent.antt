@@ -34,10 +34,11 @@ closed_behind : (ws vs : List Word) → list_any has_comment_mark ws ≡ false
 closed_behind [] vs h = refl
 closed_behind (w ∷ ws) vs h =
     let both = or_parts (has_comment_mark w) (list_any has_comment_mark ws) h in
-    let rest = without_comments true (ws ++ codes "$)" ∷ vs) in
+    let more = ws ++ codes "$)" ∷ vs in
+    let rest = without_comments true more in
     elim (cases_Bool (bytes_eq w (codes "$)"))) [
       | inl y ↦ absurd (let e : true ≡ false = sym (closing_marked w y) ∙ both.0 in cc)
-      | inr n ↦ cond-false (bytes_eq w (codes "$)")) (without_comments false (ws ++ codes "$)" ∷ vs)) (cond (has_comment_mark w) None rest) n
+      | inr n ↦ cond-false (bytes_eq w (codes "$)")) (without_comments false more) (cond (has_comment_mark w) None rest) n
           ∙ cond-false (has_comment_mark w) None rest both.0 ∙ closed_behind ws vs both.1
     ]
 
@@ -51,7 +52,8 @@ pub comments_say_nothing : CommentsSayNothing
 comments_say_nothing first last inside f l clean plain =
     let end = last ∷ codes "$)" in
     let bytes = codes "$(" ++ (first ∷ (inside ++ end)) in
-    let unmarked : list_any has_comment_mark (spoken inside) ≡ false = ap (list_any has_comment_mark) (sym (words_spoken 0 inside)) ∙ plain in
+    let unmarked : list_any has_comment_mark (spoken inside) ≡ false =
+    ap (list_any has_comment_mark) (sym (words_spoken 0 inside)) ∙ plain in
     let words : words_of (tokens bytes) ≡ codes "$(" ∷ (spoken inside ++ codes "$)" ∷ []) =
     words_spoken 0 bytes ∙ spoken_behind (codes "$(") (inside ++ end) first f
     ∙ ap (λ ws. ws ++ spoken (inside ++ end)) marks_spoken.0
@@ -91,7 +93,8 @@ plain_unmarked : (w : Word) → has_dollar w ≡ false → has_comment_mark w �
 plain_unmarked [] h = refl
 plain_unmarked (b ∷ bs) h =
     let both = or_parts (eqb b 36) (has_dollar bs) h in
-    or_from (eqb b 36 && begins_comment_mark bs) (has_comment_mark bs) (ap (λ x. x && begins_comment_mark bs) both.0) (plain_unmarked bs both.1)
+    or_from (eqb b 36 && begins_comment_mark bs) (has_comment_mark bs) (ap (λ x. x && begins_comment_mark bs) both.0)
+    (plain_unmarked bs both.1)
 
 all_unmarked : (ws : List Word) → list_any has_dollar ws ≡ false → list_any has_comment_mark ws ≡ false
 all_unmarked [] h = refl

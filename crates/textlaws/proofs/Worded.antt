@@ -98,11 +98,13 @@ module _ (s : Scope) (w : StandsWorded s) where
 -- ---- statements
 
 mutual
-  stays : (s : Scope) (x : Statement) → StandsWorded s → AllByRecursion IsWord (spelling x) → is_lawful s x ≡ true → StandsWorded (behind s x)
+  stays : (s : Scope) (x : Statement) → StandsWorded s → AllByRecursion IsWord (spelling x) → is_lawful s x ≡ true
+      → StandsWorded (behind s x)
   stays s (constants ws) w words h =
       let parts = three_parts s.outermost (nat_le 1 (length ws)) (each_declared a_constant constant_tests s ws) h in
       let plain =
-      all_passed (constant_tests_at s) IsPlain (λ front v. constant_plain (constants_at s front) v) [] ws (sym (constants_pass s ws) ∙ parts.2) in
+      all_passed (constant_tests_at s) IsPlain (λ front v. constant_plain (constants_at s front) v) [] ws
+      (sym (constants_pass s ws) ∙ parts.2) in
       let all = symbols_of ws (all_left IsWord ws (codes "$." ∷ []) words.1) plain in
       record {
         constants = All-append IsMathSymbol s.constants ws w.constants all;
@@ -115,7 +117,8 @@ mutual
   stays s (variables ws) w words h =
       let parts = and_parts (nat_le 1 (length ws)) (each_declared a_variable variable_tests s ws) h in
       let plain =
-      all_passed (variable_tests_at s) IsPlain (λ front v. variable_plain (variables_at s front) v) [] ws (sym (variables_pass s ws) ∙ parts.1) in
+      all_passed (variable_tests_at s) IsPlain (λ front v. variable_plain (variables_at s front) v) [] ws
+      (sym (variables_pass s ws) ∙ parts.1) in
       let all = symbols_of ws (all_left IsWord ws (codes "$." ∷ []) words.1) plain in
       record {
         constants = w.constants;
