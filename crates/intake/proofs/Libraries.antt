@@ -140,6 +140,8 @@ module _ (s : Scope) (w : Wish) (t : Sited) (names : LibraryNames) (g : Gathered
   taken_of = record {
     choice = is.choice;
     is_choice = is.is_choice;
+    known = is.known;
+    in_order = is.in_order;
     takes = record {
       there = is.there;
       places = map_of t names;

@@ -50,6 +50,8 @@ is_taken s w t l text d = record {
   declares = d;
   choice = l.taken.choice;
   is_choice = l.taken.is_choice;
+  known = l.taken.known;
+  in_order = l.taken.in_order;
   takes = l.taken.takes;
   checks = l.checks;
 }
@@ -70,6 +72,8 @@ module _ (s : Scope) (t : Sited) (names : LibraryNames)
       record {
         choice = c.choice;
         is_choice = c.is_choice;
+        known = c.known;
+        in_order = c.in_order;
         there = c.there;
         sites = subst (λ xs. AreSites s xs t) (chosen_kept s c.choice chosen flags.chosen_are) sites;
         names_are = named;

@@ -12,7 +12,7 @@ use Rattle.taking.specs.declared.reason.Reason.{Reason}
 use Rattle.taking.specs.Names.{Naming, is_symbol_of, has_float_labelled}
 use Rattle.taking.specs.Reasons.{Choice}
 use Rattle.taking.specs.Taken.{Takes, chosen_of}
-use Rattle.choosing.specs.Choices.{IsChoice, IsUnchosen}
+use Rattle.choosing.specs.Choices.{IsChoice, IsUnchosen, first_unknown, StandsBehind}
 use Rattle.choosing.specs.declared.wish.Wish.{Wish}
 use Rattle.choosing.specs.declared.wish.Unchosen.TheVariants as unchosen
 use Rattle.derivation.specs.declared.fault.ProofFault.{ProofFault}
@@ -31,12 +31,15 @@ axioms_of t = map (λ p. (p.0.now, p.1)) t.axioms.items
 abbrev pub names_of : Taken → List Naming
 names_of t = map (λ p. (p.0.now, p.1)) t.names.items
 
--- the text declares a source, from which the library is taken by the wish; its proofs check
+-- the text declares a source, from which the library is taken by the wish, whose labels are labels of the source and stand the right way
+-- round; its proofs check
 pub record IsTaken (text : List ℕ) (w : Wish) (t : Taken) : Type 0 where
   pub source : Scope
   pub declares : DeclaresText text source
   pub choice : Choice
   pub is_choice : IsChoice source w choice
+  pub known : first_unknown source w ≡ None
+  pub in_order : StandsBehind source w → ⊥
   pub takes : Takes source choice t.database (axioms_of t) (names_of t)
   pub checks : AllCheck t.database
 

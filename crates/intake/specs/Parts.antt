@@ -1,5 +1,5 @@
 -- Of the code's inside, apart from the rules: what is known of a source between the steps of the call.
-use Rattle.std.specs.Prelude.{◌≡◌, ◌≢◌, ◌≤◌, ℕ, Bool, List, [], map, length, IsTrue}
+use Rattle.std.specs.Prelude.{◌≡◌, ◌≢◌, ◌≤◌, ℕ, Bool, List, [], map, length, None, IsTrue}
 use Rattle.std.specs.List.{list_all}
 use Rattle.mmtext.specs.Words.{Word}
 use Rattle.mmsyntax.specs.declared.statement.Assertion.{Assertion as Unit'}
@@ -10,7 +10,7 @@ use Rattle.taking.specs.declared.reason.Reason.{Reason}
 use Rattle.taking.specs.Names.{Naming, renamed}
 use Rattle.taking.specs.Reasons.{Choice}
 use Rattle.taking.specs.Taken.{Takes, AreTaken, told, chosen_of}
-use Rattle.choosing.specs.Choices.{IsChoice, labels_of}
+use Rattle.choosing.specs.Choices.{IsChoice, labels_of, first_unknown, StandsBehind}
 use Rattle.choosing.specs.declared.wish.Wish.{Wish}
 use Rattle.naming.specs.declared.names.LibraryNames.{LibraryNames}
 use Rattle.naming.specs.Namings.{AreNamedWell}
@@ -32,6 +32,8 @@ pub record IsRefusedOf (s : Scope) (w : Wish) (why : Refusal) : Type 0 where
 pub record IsTakenOf (s : Scope) (w : Wish) (db : Contents) (axioms : List (Word × Reason)) (names : List Naming) : Type 0 where
   pub choice : Choice
   pub is_choice : IsChoice s w choice
+  pub known : first_unknown s w ≡ None
+  pub in_order : StandsBehind s w → ⊥
   pub takes : Takes s choice db axioms names
 
 -- a library of a source, with what is told of it; its proofs check
@@ -46,6 +48,8 @@ lists_of t names as' = record { prelude = tables_of t names; assertions = as' }
 pub record IsGathered (s : Scope) (w : Wish) (t : Sited) (names : LibraryNames) (g : Gathered) : Type 0 where
   pub choice : Choice
   pub is_choice : IsChoice s w choice
+  pub known : first_unknown s w ≡ None
+  pub in_order : StandsBehind s w → ⊥
   pub there : IsTrue (list_all (is_in (labels_of s.assertions)) choice.chosen)
   pub sites : AreSites s (chosen_of choice s) t
   pub names_are : AreNamedWell s t.constants t.variables t.floats t.labels names

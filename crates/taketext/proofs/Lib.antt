@@ -1,3 +1,6 @@
-pub mod Again
+pub mod Commented
 pub mod Joined
+pub mod Named
+pub mod Quiet
+pub mod Shown
 pub mod Whole

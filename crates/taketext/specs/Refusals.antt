@@ -50,9 +50,6 @@ abbrev pub refusal_line : List ℕ → Refusal → List ℕ
 refusal_line path refusal.NoMemory = codes "no memory"
 refusal_line path why = path ++ (codes ": " ++ refusal_text why)
 
--- the library's text would be longer than a text of the profile, by so many bytes in all; or it is not read again
+-- the library's text would be longer than a text of the profile, by so many bytes in all
 abbrev pub long_line : List ℕ → ℕ → List ℕ
 long_line path n = path ++ (codes ": a library of " ++ (decimal n ++ codes " bytes: more than 16777216"))
-
-abbrev pub unread_line : List ℕ → List ℕ
-unread_line path = path ++ codes ": the library is not read again"

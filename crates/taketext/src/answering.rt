@@ -1,17 +1,13 @@
 //! The answer of the program where a library is to be taken.
 
-ghost use Rattle.std.specs.Prelude.{◌≡◌, true, IfOk};
-ghost use Rattle.mmsyntax.specs.Tables.{Contents};
+ghost use Rattle.std.specs.Prelude.{IfOk};
 ghost use Rattle.intake.specs.Intakes.{IsTaken};
-ghost use Rattle.mmsyntax.specs.Grammar.{Spells};
 ghost use Rattle.taketext.specs.Answers.{IsTakeAnswer};
 
 use crate::comment::put_comment;
-use crate::refusing::{long_line, refusal_line, unread_line};
+use crate::refusing::{long_line, refusal_line};
 use choosing::Wish;
 use intake::{Taken, take};
-use mmreader::read_database;
-use mmtext::{FaultKind, TextFault};
 use mmwriter::write_database;
 use std::alloc::{AllocError, Global};
 use std::hash::RandomState;
@@ -29,33 +25,9 @@ pub enum Told {
     Refused(String),
 }
 
-/// Whether a text is read as this database: it is read again, and what was read has the same text.
-fn is_read_as(
-    alloc: Global,
-    keys: RandomState,
-    out: &[u8],
-    library: &[u8],
-) -> Result<bool, AllocError>
-    ensures { (db : Contents) → Spells library.now db → IfOk result (λ read. read ≡ true → Spells out.now db) }
-{
-    let again = match read_database(alloc, keys, out) {
-        Ok(again) => again,
-        Err(
-            TextFault {
-                kind: FaultKind::NoMemory,
-                ..
-            },
-        ) => return Err(AllocError),
-        Err(_) => return Ok(false),
-    };
-    let text = write_database(alloc, &again)?;
-    Ok(text.as_slice() == library)
-}
-
 /// The answer where a library is taken.
 fn tell_taken(
     alloc: Global,
-    keys: RandomState,
     path: &str,
     source: &[u8],
     wish: Wish<'_>,
@@ -72,16 +44,13 @@ fn tell_taken(
     if count > MOST_BYTES {
         return Ok(Told::Refused(long_line(alloc, path, count)?));
     }
-    if !is_read_as(alloc, keys, out.as_slice(), library.as_slice())? {
-        return Ok(Told::Refused(unread_line(alloc, path)?));
-    }
     Ok(Told::Printed(out))
 }
 
 /// Takes a library from the text of a file, and gives what the program answers.
 ///
-/// What is printed is the library's canonical text behind a comment that tells where it comes from, and is read by `check`, `run` and `replay`
-/// as it stands. The line of a refusal says why nothing is printed.
+/// What is printed is the library's canonical text behind a comment that tells where it comes from, and is read by `check`, `run` and
+/// `replay` as it stands. The line of a refusal says why nothing is printed.
 ///
 /// # Errors
 ///
@@ -97,7 +66,7 @@ pub fn answer_take<'w>(
     ensures { IfOk result (IsTakeAnswer path.now source.now wish.entry) }
 {
     match take(rt, alloc, keys, source, wish) {
-        Ok(taken) => tell_taken(alloc, keys, path, source, wish, &taken),
+        Ok(taken) => tell_taken(alloc, path, source, wish, &taken),
         Err(why) => Ok(Told::Refused(refusal_line(alloc, path, &why)?)),
     }
 }

@@ -2,7 +2,7 @@
 
 ghost use Rattle.std.specs.Prelude.{◌≡◌, IfOk, string_bytes};
 ghost use Rattle.std.specs.Option.{option_map};
-ghost use Rattle.taketext.specs.Refusals.{shown, limit_text, at_name, refusal_text, refusal_line, long_line, unread_line};
+ghost use Rattle.taketext.specs.Refusals.{shown, limit_text, at_name, refusal_text, refusal_line, long_line};
 
 use drafts::Limit;
 use intake::Refusal;
@@ -99,11 +99,4 @@ pub(crate) fn long_line(alloc: Global, path: &str, count: usize) -> Result<Strin
     ensures { IfOk result (λ line. string_bytes line ≡ long_line path.now count) }
 {
     format!(in alloc; "{path}: a library of {count} bytes: more than 16777216")
-}
-
-/// The line of a library that isn't read again.
-pub(crate) fn unread_line(alloc: Global, path: &str) -> Result<String, AllocError>
-    ensures { IfOk result (λ line. string_bytes line ≡ unread_line path.now) }
-{
-    format!(in alloc; "{path}: the library is not read again")
 }

@@ -1,5 +1,5 @@
 use Rattle.std.proofs.Common.{◌∙◌, sym}
-use Rattle.taketext.proofs.Again.{shown_text, shown_otherwise}
+use Rattle.taketext.proofs.Shown.{shown_text, shown_otherwise}
 use Rattle.taketext.proofs.refusing.shown.Goals as goal
 
 pub returns-in-Ok : goal.returns-in-Ok

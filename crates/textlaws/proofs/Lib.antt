@@ -1,0 +1,4 @@
+pub mod Separate
+pub mod Silent
+pub mod Behind
+pub mod Worded
