@@ -51,7 +51,8 @@ pub fn test_proof<C: Cells>(
     }
 }
 
-/// Whether some step cites a slot whose assertion isn't below a rank. It reads the ranks of the slots that the steps cite, up to the first that isn't.
+/// Whether some step cites a slot whose assertion isn't below a rank. It reads the ranks of the slots that the steps cite, up to the first
+/// that isn't.
 ///
 /// # Errors
 ///
