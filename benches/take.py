@@ -20,8 +20,8 @@ HERE = pathlib.Path(__file__).resolve().parent
 DEBIAN = "/usr/share/metamath/databases"
 # Which assertions are taken of a source. One that isn't here is taken whole.
 CHOICES = {
-    "set": [["--for", "sqrt2irr"], ["--for", "id"], ["--from", "pnt", "--to", "pnt"]],
-    "iset": [["--for", "sqrt2irr"], ["--for", "bernneq3"]],
+    "set": [["--for", "sqrt2irr"], ["--for", "id"], ["--for", "pnt"]],
+    "iset": [["--for", "bernneq3"]],
     "nf": [["--for", "nchoice"]],
 }
 

@@ -18,8 +18,7 @@ use Rattle.mmsyntax.specs.Tables.{place_of}
 use Rattle.mmsyntax.specs.Blocks.{Hypothesis, with_pair}
 use Rattle.mmsyntax.specs.Steps.{hypothesis_named}
 use Rattle.mmunits.specs.HypothesisPlaces.{FindsHypotheses}
-use Rattle.mmunits.specs.WordMaps.{FindsToo}
-use Rattle.mmsyntax.proofs.Names.{bytes_eq-sym, place_of-push, option_or-none, same_bytes, ne-eqb}
+use Rattle.mmsyntax.proofs.Names.{after_update, bytes_eq-sym, place_of-push, option_or-none, same_bytes, ne-eqb}
 
 -- ---- pairs
 
@@ -105,11 +104,12 @@ found_before m hyps after h at_m has pushed w =
     ∙ sym (place_of-push (λ g. bytes_eq w g.label) hyps h) ∙ ap (λ hs. hypothesis_named hs w) (sym pushed)
 
 -- one more hypothesis whose label isn't
-pub found_now : (m n : HashMap (Vec ℕ Global) ℕ RandomState) (hyps after : List Hypothesis) (h : Hypothesis) (place : ℕ)
-    → FindsHypotheses m hyps → is_some (hash.get_by (λ k. bytes_eq h.label k.items) m) ≡ false → place ≡ length hyps
-    → after ≡ hyps ++ h ∷ [] → FindsToo m h.label place n → FindsHypotheses n after
-found_now m n hyps after h place at_m has at_end pushed put w =
-    put w
+pub found_now : (m n : HashMap (Vec ℕ Global) ℕ RandomState) (k : Vec ℕ Global) (hyps after : List Hypothesis) (h : Hypothesis) (place : ℕ)
+    → FindsHypotheses m hyps → is_some (hash.get_by (λ k. bytes_eq h.label k.items) m) ≡ false → k.items ≡ h.label → place ≡ length hyps
+    → after ≡ hyps ++ h ∷ [] → hash.Updates (λ x y. bytes_eq x.items y.items) m n k (Some place) → FindsHypotheses n after
+found_now m n k hyps after h place at_m has key at_end pushed updates w =
+    after_update k.items m n (Some place) updates w
+    ∙ ap (λ x. cond (bytes_eq x w) (Some place) (hash.get_by (λ q. bytes_eq w q.items) m)) key
     ∙ ap (λ b. cond b (Some place) (hash.get_by (λ q. bytes_eq w q.items) m)) (bytes_eq-sym h.label w)
     ∙ ap (λ p. cond (bytes_eq w h.label) (Some p) (hash.get_by (λ q. bytes_eq w q.items) m)) at_end
     ∙ ap (λ o. cond (bytes_eq w h.label) (Some (length hyps)) o) (at_m w)

@@ -1,4 +1,3 @@
-pub mod WordMaps
 pub mod Labels
 pub mod HypothesisPlaces
 pub mod StandingPairs

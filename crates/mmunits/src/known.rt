@@ -3,10 +3,8 @@
 ghost use Rattle.std.specs.Prelude.{◌≡◌, ◌<◌, ◌^◌, ◌++◌, ◌∷◌, true, [], length, IfOk, OnOk};
 ghost use Rattle.mmsyntax.specs.Rows.{no_units, is_assertion_label, is_unit_label, is_used, clashes};
 ghost use Rattle.mmsyntax.specs.Faults.{first_of};
-ghost use Rattle.mmunits.specs.Labels.{FindsTrunkToo};
 ghost use Rattle.mmunits.specs.Views.{known_of};
 
-use crate::word_map::put_at;
 use mmsyntax::{Assertion, Label, SymbolTable, trunk};
 use std::alloc::{AllocError, Global};
 use std::collections::HashMap;
@@ -111,17 +109,18 @@ impl Units {
     pub fn add_hypothesis_label(&mut self, alloc: Global, label: &[u8]) -> Result<(), AllocError>
         ensures { OnOk result (self.new ≡ record self.old { hypothesis_labels = self.old.hypothesis_labels ++ label.now ∷ [] }) }
     {
+        let key = Vec::from_slice(alloc, label)?;
         let kept = Label::from_slice(alloc, label)?;
         self.hypothesis_labels.push(kept)?;
         // An assertion that has the label stays its owner.
         if self.labels.contains_key(label) {
             return Ok(());
         }
-        match put_at(alloc, &mut self.labels, label, Owner::Hypothesis) {
-            Ok(()) => Ok(()),
-            Err(error) => {
+        match self.labels.insert(key, Owner::Hypothesis) {
+            Ok(_) => Ok(()),
+            Err(_) => {
                 let _ = self.hypothesis_labels.pop();
-                Err(error)
+                Err(AllocError)
             }
         }
     }
@@ -136,15 +135,30 @@ impl Units {
         Ok(())
     }
 
-    fn with_assertion(mut self, alloc: Global, assertion: Assertion) -> Result<Units, AllocError>
+    fn with_assertion(self, alloc: Global, assertion: Assertion) -> Result<Units, AllocError>
         ensures { IfOk result (λ made. made ≡ record self { assertions = self.assertions ++ assertion ∷ []; prelude_closed = true }) }
     {
+        let Units {
+            mut assertions,
+            hypothesis_labels,
+            mut labels,
+            mut trunks,
+            ..
+        } = self;
         let label = assertion.label.as_slice();
-        put_trunk(alloc, &mut self.trunks, label)?;
-        put_at(alloc, &mut self.labels, label, Owner::Assertion)?;
-        self.assertions.push(assertion)?;
-        self.prelude_closed = true;
-        Ok(self)
+        let trunk = trunk(label);
+        if trunk.len() < label.len() {
+            trunks.insert(Vec::from_slice(alloc, trunk)?, ())?;
+        }
+        labels.insert(Vec::from_slice(alloc, label)?, Owner::Assertion)?;
+        assertions.push(assertion)?;
+        Ok(Units {
+            assertions,
+            hypothesis_labels,
+            prelude_closed: true,
+            labels,
+            trunks,
+        })
     }
 
     /// All assertions, in order.
@@ -160,21 +174,6 @@ impl Units {
     {
         self.assertions.into_iter().next()
     }
-}
-
-/// Puts the L of a label `L.k`, if it is such a one.
-fn put_trunk(
-    alloc: Global,
-    trunks: &mut HashMap<Vec<u8>, (), RandomState>,
-    label: &[u8],
-) -> Result<(), AllocError>
-    ensures { OnOk result (FindsTrunkToo trunks.old label.now trunks.new) }
-{
-    let trunk = trunk(label);
-    if trunk.len() < label.len() {
-        put_at(alloc, trunks, trunk, ())?;
-    }
-    Ok(())
 }
 
 /// Whether an earlier symbol or label is the word.

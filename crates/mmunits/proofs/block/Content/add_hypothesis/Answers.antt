@@ -11,6 +11,6 @@ invariant_of-self-then-contains_key c =
 
 pub invariant_of-self-in-Ok : goal.invariant_of-self-in-Ok
 invariant_of-self-in-Ok c =
-    found_now c.self.inside.places c.put_at.new.map c.self.inside.hyps.items c.push.new.self.items
+    found_now c.self.inside.places c.insert.new.self c.in_ok-key.key c.self.inside.hyps.items c.push.new.self.items
     (record { label = c.args.label.now; expression = c.args.expression }) _ c.self.invariant
-    (sym c.contains_key.ensures ∙ c.if-contains_key.false) (search rules) (search rules) c.in-Ok.ensures.put
+    (sym c.contains_key.ensures ∙ c.if-contains_key.false) (search rules) (search rules) (search rules) c.in-Ok.ensures.updates

@@ -26,10 +26,10 @@ invariant_of-self-in-Ok c =
       hypothesis_labels = c.self.inside.hypothesis_labels.items;
       prelude_closed = c.self.inside.prelude_closed;
     } in
-    subst (λ ls. HasLabels c.put_at.new.map c.self.inside.trunks (record here { hypothesis_labels = ls }))
+    subst (λ ls. HasLabels c.insert.new.self c.self.inside.trunks (record here { hypothesis_labels = ls }))
     (search rules)
     (record {
-      owned = owners_too c.self.inside.labels c.put_at.new.map here c.args.label.now c.self.invariant.owned
-          (search rules) c.in-Ok.ensures.put;
+      owned = owners_too c.self.inside.labels c.insert.new.self c.in_ok-key.key here c.args.label.now c.self.invariant.owned
+          (search rules) (search rules) c.in-Ok.ensures.updates;
       dotted = c.self.invariant.dotted;
     })
