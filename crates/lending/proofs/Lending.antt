@@ -393,7 +393,7 @@ module _ (l : Lending) (stage : Staged) (over : Option Conflict) (i : IsLent l s
         since = i.since;
         grows = i.grows;
         placed = i.placed;
-        stands = record { knows = i.stands.knows; placed = i.stands.placed; one = i.stands.one };
+        stands = record { knows = i.stands.knows; placed = i.stands.placed; one = i.stands.one; ended = i.stands.ended };
         unnoted = λ m c. k.3 c ∙ i.unnoted m c;
         read = λ m c w. ap is_some (k.3 c) ∙ i.read m c w;
         kept = λ c is. dite (ℕ_discrete c cell) (λ e. subst (WasRead (sight_of l)) (sym e) read)
@@ -426,7 +426,7 @@ module _ (l : Lending) (stage : Staged) (over : Option Conflict) (i : IsLent l s
         since = i.since;
         grows = i.grows;
         placed = i.placed;
-        stands = record { knows = i.stands.knows; placed = i.stands.placed; one = i.stands.one };
+        stands = record { knows = i.stands.knows; placed = i.stands.placed; one = i.stands.one; ended = i.stands.ended };
         unnoted = λ m c. k.2 c ∙ i.unnoted m c;
         read = λ m c w. ap is_some (k.2 c) ∙ i.read m c w;
         kept = λ c is. let a : true ≡ false = sym is ∙ ap is_some (k.1 c) in absurd cc;
