@@ -4,10 +4,11 @@ ghost use Rattle.std.specs.Prelude.{◌≡◌, List, ◌∷◌};
 ghost use Rattle.mmtext.specs.Words.{Word};
 ghost use Rattle.mmsyntax.specs.Rows.{first_fault};
 ghost use Rattle.source.specs.Tests.{label_tests, constant_tests, variable_tests, type_tests, active_tests, float_tests, distinct_tests, symbol_tests, named_tests};
-ghost use Rattle.source.specs.Scopes.{is_in};
+ghost use Rattle.source.specs.Scopes.{Scope, is_in};
 ghost use Rattle.source.specs.Views.{seen_words};
 ghost use Rattle.scopes.specs.Views.{kept_of, scope_of};
 ghost use Rattle.scopes.specs.Sound.{IsSoundTables};
+ghost use Rattle.scopes.specs.Sorts.{IsSortOf};
 
 use crate::sorts::{Sort, sort_of};
 use crate::tables::Tables;
@@ -144,17 +145,24 @@ fn later_symbol_fault(tables: &Tables<'_>, word: &[u8]) -> Option<FaultKind>
     }
 }
 
+/// The fault of a label in a proof, by what it is.
+pub(crate) fn fault_of_named(word: &[u8], sort: Sort) -> Option<FaultKind>
+    ensures { (s : Scope) → IsSortOf s word.now sort → result ≡ first_fault (named_tests s word.now) }
+{
+    if contains_dollar(word) {
+        return Some(FaultKind::BadToken);
+    }
+    match sort {
+        Sort::Hypothesis(_) | Sort::Assertion(_) => None,
+        Sort::Closed => Some(FaultKind::NotActive),
+        _ => Some(FaultKind::UnknownLabel),
+    }
+}
+
 /// The fault of a label in a proof.
 pub(crate) fn named_fault(tables: &Tables<'_>, word: &[u8]) -> Option<FaultKind>
     requires { IsSoundTables tables.now }
     ensures { result ≡ first_fault (named_tests (scope_of (kept_of tables.now)) word.now) }
 {
-    if contains_dollar(word) {
-        return Some(FaultKind::BadToken);
-    }
-    match sort_of(tables, word) {
-        Sort::Hypothesis(_) | Sort::Assertion(_) => None,
-        Sort::Closed => Some(FaultKind::NotActive),
-        _ => Some(FaultKind::UnknownLabel),
-    }
+    fault_of_named(word, sort_of(tables, word))
 }

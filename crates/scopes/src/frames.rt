@@ -14,8 +14,9 @@ ghost use Rattle.source.specs.Views.{seen_words};
 ghost use Rattle.scopes.specs.Views.{kept_of, scope_of, stand_of, marks_of};
 ghost use Rattle.scopes.specs.Symbols.{symbols_at};
 ghost use Rattle.scopes.specs.Sound.{IsSoundTables};
+ghost use Rattle.scopes.specs.Sorts.{IsSortOf};
 
-use crate::faults::named_fault;
+use crate::faults::fault_of_named;
 use crate::sorts::{Sort, active_at, float_of, sort_of};
 use crate::tables::Tables;
 use mmtext::FaultKind;
@@ -182,30 +183,31 @@ fn is_marked(tables: &Tables<'_>, place: usize) -> bool
     }
 }
 
-/// Whether a label is that of a marked hypothesis.
-fn is_marked_label(tables: &Tables<'_>, word: &[u8]) -> bool
-    requires { IsSoundTables tables.now }
+/// Whether a label, by what it is, is that of a marked hypothesis.
+fn is_marked_label(tables: &Tables<'_>, word: &[u8], sort: Sort) -> bool
+    requires { IsSortOf (scope_of (kept_of tables.now)) word.now sort }
     ensures { (e : List Word)
         → marks_of (kept_of tables.now) ≡ map (is_mandatory (scope_of (kept_of tables.now)).hypotheses e) (scope_of (kept_of tables.now)).hypotheses
         → result ≡ list_any (λ h. bytes_eq word.now (label_of h)) (mandatory (scope_of (kept_of tables.now)).hypotheses e) }
 {
-    match sort_of(tables, word) {
+    match sort {
         Sort::Hypothesis(place) => is_marked(tables, place),
         _ => false,
     }
 }
 
-/// The fault of a label in parentheses.
+/// The fault of a label in parentheses: one look-up.
 pub(crate) fn cited_fault(tables: &Tables<'_>, word: &[u8]) -> Option<FaultKind>
     requires { IsSoundTables tables.now }
     ensures { (e : List Word)
         → marks_of (kept_of tables.now) ≡ map (is_mandatory (scope_of (kept_of tables.now)).hypotheses e) (scope_of (kept_of tables.now)).hypotheses
         → result ≡ first_fault (cited_tests (scope_of (kept_of tables.now)) e word.now) }
 {
-    if let Some(fault) = named_fault(tables, word) {
+    let sort = sort_of(tables, word);
+    if let Some(fault) = fault_of_named(word, sort) {
         return Some(fault);
     }
-    if is_marked_label(tables, word) {
+    if is_marked_label(tables, word, sort) {
         Some(FaultKind::BadToken)
     } else {
         None

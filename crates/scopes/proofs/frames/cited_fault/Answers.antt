@@ -24,7 +24,7 @@ pub returns-then-is_marked_label : goal.returns-then-is_marked_label
 returns-then-is_marked_label c = λ e marks.
     let s = scope_of (kept_of c.args.tables.now) in
     let w = c.args.word.now in
-    let named : first_fault (named_tests s w) ≡ None = sym c.named_fault.ensures ∙ c.in_default.is in
+    let named : first_fault (named_tests s w) ≡ None = sym (c.fault_of_named.ensures s c.sort_of.ensures) ∙ c.in_default.is in
     let label = sym (c.is_marked_label.ensures e marks) ∙ c.if-is_marked_label.true in
     sym (behind_tests (named_tests s w) ((list_any (λ h. bytes_eq w (label_of h)) (mandatory s.hypotheses e), BadToken) ∷ []) named
     ∙ ap (λ b. cond b (Some BadToken) None) label)
@@ -33,7 +33,7 @@ pub returns-else-is_marked_label : goal.returns-else-is_marked_label
 returns-else-is_marked_label c = λ e marks.
     let s = scope_of (kept_of c.args.tables.now) in
     let w = c.args.word.now in
-    let named : first_fault (named_tests s w) ≡ None = sym c.named_fault.ensures ∙ c.in_default.is in
+    let named : first_fault (named_tests s w) ≡ None = sym (c.fault_of_named.ensures s c.sort_of.ensures) ∙ c.in_default.is in
     let label = sym (c.is_marked_label.ensures e marks) ∙ c.if-is_marked_label.false in
     sym (behind_tests (named_tests s w) ((list_any (λ h. bytes_eq w (label_of h)) (mandatory s.hypotheses e), BadToken) ∷ []) named
     ∙ ap (λ b. cond b (Some BadToken) None) label)
