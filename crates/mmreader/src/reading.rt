@@ -1,12 +1,13 @@
 //! Reading a database, token by token.
 
-ghost use Rattle.std.specs.Prelude.{◌≡◌, IfOk};
+ghost use Rattle.std.specs.Prelude.{◌≡◌, IfOk, OnOk};
 ghost use Rattle.mmtext.specs.Laws.{IsRead};
 ghost use Rattle.mmtext.specs.Text.{mark_of};
 ghost use Rattle.mmsyntax.specs.Faults.{in_place, row, database_language};
 ghost use Rattle.mmsyntax.specs.Grammar.{Spells};
 ghost use Rattle.mmsyntax.specs.Layout.{HasSpelling};
-ghost use Rattle.mmtext.specs.Views.{seen};
+ghost use Rattle.mmtext.specs.Views.{seen, Gives};
+ghost use Rattle.mmreader.specs.Recalls.{Knows};
 ghost use Rattle.mmreader.specs.Standing.{Stands};
 ghost use Rattle.mmunits.specs.Views.{known_of};
 ghost use Rattle.mmreader.specs.Views.{seen_place, seen_position, contents_of, IsUnitPlace, Leads};
@@ -72,6 +73,39 @@ fn next_place<'a>(
     place_by_mark(alloc, symbols, units, place, token, mark)
 }
 
+/// Goes from a place to where a token leads. Words are kept only while the symbols stay.
+fn advance<'a>(
+    alloc: Global,
+    symbols: &mut SymbolTable,
+    units: &mut Units,
+    recent: &mut Recent<'a>,
+    place: &mut Place<'a>,
+    token: Token<'a>,
+    mark: Mark,
+) -> Result<(), Stop>
+    requires stands { Stands (known_of symbols.old units.old) (seen_place place.old) }
+    requires knows { Knows symbols.old recent.old }
+    requires mark { mark ≡ mark_of token.text.now }
+    ensures leads { Gives (λ _. seen_position symbols.new units.new place.new) result
+        (row (seen_position symbols.old units.old place.old) (seen token.entry)) }
+    ensures stands { OnOk result (Stands (known_of symbols.new units.new) (seen_place place.new)) }
+    ensures knows { OnOk result (Knows symbols.new recent.new) }
+{
+    recent.keep_at(place);
+    let here = mem::replace(place, Place::Unit(UnitPlace::AtClose));
+    *place = next_place(alloc, symbols, units, here, token, mark)?;
+    Ok(())
+}
+
+/// The symbols and the assertions that were read.
+fn into_said(reader: DatabaseReader<'_>) -> (SymbolTable, Vec<Assertion>)
+    ensures symbols { result.0 ≡ reader.entry.symbols }
+    ensures assertions { result.1.items ≡ reader.entry.units.assertions }
+{
+    let DatabaseReader { symbols, units, .. } = reader;
+    (symbols, units.into_assertions())
+}
+
 impl<'a> Reader<'a> for DatabaseReader<'a> {
     ghost use Rattle.mmsyntax.specs.Tables.{Contents};
     ghost use Rattle.mmsyntax.specs.Faults.{Position, database_language};
@@ -107,17 +141,22 @@ impl<'a> Reader<'a> for DatabaseReader<'a> {
     }
 
     fn take(&mut self, alloc: Global, token: Token<'a>, mark: Mark) -> Result<(), Stop> {
-        self.recent.keep_at(&self.place);
-        let here = mem::replace(&mut self.place, Place::Unit(UnitPlace::AtClose));
-        self.place = next_place(alloc, &mut self.symbols, &mut self.units, here, token, mark)?;
-        Ok(())
+        advance(
+            alloc,
+            &mut self.symbols,
+            &mut self.units,
+            &mut self.recent,
+            &mut self.place,
+            token,
+            mark,
+        )
     }
 
     fn finish(self) -> Option<(SymbolTable, Vec<Assertion>)> {
         if !is_outermost(&self.place) {
             return None;
         }
-        Some((self.symbols, self.units.into_assertions()))
+        Some(into_said(self))
     }
 }
 

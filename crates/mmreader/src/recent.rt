@@ -115,10 +115,20 @@ impl<'a> Recent<'a> {
             self.open(alloc, symbols)?;
         }
         let place = place_of(word, self.entries.len());
+        self.keep(symbols, word, place);
+        Ok(place)
+    }
+
+    /// Keeps a word at a place, unless it is there.
+    fn keep(&mut self, symbols: &SymbolTable, word: &'a [u8], place: usize)
+        requires knows { Knows symbols.now self.old }
+        requires place { place < length self.old.entries.items }
+        ensures knows { Knows symbols.now self.new }
+        ensures kept { IsKeptAt symbols.now self.new.entries.items place word.now }
+    {
         if self.entries[place].word != word {
             self.entries[place] = looked_up(symbols, word);
         }
-        Ok(place)
     }
 
     /// What is known of the word that is kept at a place.

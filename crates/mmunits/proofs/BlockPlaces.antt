@@ -1,11 +1,10 @@
 -- Pairs in order, and what the map of a block's hypotheses finds after one more.
 use Rattle.std.proofs.Common.{◌≡◌, ℕ, zero, suc, ◌+◌, ◌<◌, Bool, true, false, cond, List, [], ◌∷◌, ◌++◌, length, get_or, drop}
 use Rattle.std.proofs.Common.{Option, Some, None, Vec}
-use Rattle.std.proofs.Common.{refl, sym, ap, subst, ◌∙◌, eqb, ltb, arith}
+use Rattle.std.proofs.Common.{refl, sym, ap, ◌∙◌, eqb, ltb, arith}
 use Rattle.std.specs.Prelude.{◌||◌, ◌&&◌}
-use Rattle.std.specs.Option.{option_map, option_or, is_some}
+use Rattle.std.specs.Option.{option_map, option_or}
 use Rattle.std.specs.Str.{bytes_eq}
-use Rattle.std.specs.HashMap as hash
 use Rattle.std.specs.HashMap.{HashMap}
 use Rattle.std.specs.BTreeSet.{insert_key}
 use Rattle.std.specs.Ordering.{nat_cmp, ordering_then, match_ordering}
@@ -18,7 +17,8 @@ use Rattle.mmsyntax.specs.Tables.{place_of}
 use Rattle.mmsyntax.specs.Blocks.{Hypothesis, with_pair}
 use Rattle.mmsyntax.specs.Steps.{hypothesis_named}
 use Rattle.mmunits.specs.HypothesisPlaces.{FindsHypotheses}
-use Rattle.mmsyntax.proofs.Names.{after_update, bytes_eq-sym, place_of-push, option_or-none, same_bytes, ne-eqb}
+use Rattle.mmunits.specs.WordMaps.{FindsUnlessBefore}
+use Rattle.mmsyntax.proofs.Names.{bytes_eq-sym, place_of-push, ne-eqb}
 
 -- ---- pairs
 
@@ -80,38 +80,12 @@ first_later test (x ∷ xs) (suc i) d lt h =
     ∙ ap (λ o. option_map (λ m. suc m) o) (first_later test xs i d (omega arith) h)
     ∙ sym (behind_suc (suc i) (place_of test (drop (suc i) xs)))
 
-or_new : (b : Bool) (n : ℕ) (o : Option ℕ) → (b ≡ true → is_some o ≡ false) → cond b (Some n) o ≡ option_or o (cond b (Some n) None)
-or_new true n None h = refl
-or_new true n (Some m) h = absurd (let f : true ≡ false = h refl in cc)
-or_new false n o h = sym (option_or-none o)
-
-or_old : (b : Bool) (n : ℕ) (o : Option ℕ) → (b ≡ true → is_some o ≡ true) → o ≡ option_or o (cond b (Some n) None)
-or_old b n (Some m) h = refl
-or_old true n None h = absurd (let f : false ≡ true = h refl in cc)
-or_old false n None h = refl
-
--- whether the map has the label, at a word that is the label
-at_word : (m : HashMap (Vec ℕ Global) ℕ RandomState) (hyps : List Hypothesis) (label w : List ℕ) (b : Bool) → FindsHypotheses m hyps
-    → is_some (hash.get_by (λ k. bytes_eq label k.items) m) ≡ b → bytes_eq w label ≡ true → is_some (hypothesis_named hyps w) ≡ b
-at_word m hyps label w b at_m has same =
-    subst (λ x. is_some (hypothesis_named hyps x) ≡ b) (sym (same_bytes w label same)) (ap is_some (sym (at_m label)) ∙ has)
-
--- one more hypothesis whose label is in the map already
-pub found_before : (m : HashMap (Vec ℕ Global) ℕ RandomState) (hyps after : List Hypothesis) (h : Hypothesis) → FindsHypotheses m hyps
-    → is_some (hash.get_by (λ k. bytes_eq h.label k.items) m) ≡ true → after ≡ hyps ++ h ∷ [] → FindsHypotheses m after
-found_before m hyps after h at_m has pushed w =
-    at_m w ∙ or_old (bytes_eq w h.label) (length hyps) (hypothesis_named hyps w) (at_word m hyps h.label w true at_m has)
-    ∙ sym (place_of-push (λ g. bytes_eq w g.label) hyps h) ∙ ap (λ hs. hypothesis_named hs w) (sym pushed)
-
--- one more hypothesis whose label isn't
-pub found_now : (m n : HashMap (Vec ℕ Global) ℕ RandomState) (k : Vec ℕ Global) (hyps after : List Hypothesis) (h : Hypothesis) (place : ℕ)
-    → FindsHypotheses m hyps → is_some (hash.get_by (λ k. bytes_eq h.label k.items) m) ≡ false → k.items ≡ h.label → place ≡ length hyps
-    → after ≡ hyps ++ h ∷ [] → hash.Updates (λ x y. bytes_eq x.items y.items) m n k (Some place) → FindsHypotheses n after
-found_now m n k hyps after h place at_m has key at_end pushed updates w =
-    after_update k.items m n (Some place) updates w
-    ∙ ap (λ x. cond (bytes_eq x w) (Some place) (hash.get_by (λ q. bytes_eq w q.items) m)) key
-    ∙ ap (λ b. cond b (Some place) (hash.get_by (λ q. bytes_eq w q.items) m)) (bytes_eq-sym h.label w)
-    ∙ ap (λ p. cond (bytes_eq w h.label) (Some p) (hash.get_by (λ q. bytes_eq w q.items) m)) at_end
-    ∙ ap (λ o. cond (bytes_eq w h.label) (Some (length hyps)) o) (at_m w)
-    ∙ or_new (bytes_eq w h.label) (length hyps) (hypothesis_named hyps w) (at_word m hyps h.label w false at_m has)
+-- one more hypothesis: an earlier one of its label stays the one that is named
+pub found_too : (m n : HashMap (Vec ℕ Global) ℕ RandomState) (hyps after : List Hypothesis) (h : Hypothesis) (place : ℕ)
+    → FindsHypotheses m hyps → place ≡ length hyps → after ≡ hyps ++ h ∷ [] → FindsUnlessBefore m h.label place n → FindsHypotheses n after
+found_too m n hyps after h place at_m at_end pushed put w =
+    put w
+    ∙ ap (λ o. option_or o (cond (bytes_eq h.label w) (Some place) None)) (at_m w)
+    ∙ ap (λ b. option_or (hypothesis_named hyps w) (cond b (Some place) None)) (bytes_eq-sym h.label w)
+    ∙ ap (λ p. option_or (hypothesis_named hyps w) (cond (bytes_eq w h.label) (Some p) None)) at_end
     ∙ sym (place_of-push (λ g. bytes_eq w g.label) hyps h) ∙ ap (λ hs. hypothesis_named hs w) (sym pushed)

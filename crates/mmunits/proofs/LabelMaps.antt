@@ -1,7 +1,7 @@
 -- What the maps of labels find, at first and after one more label.
 use Rattle.std.proofs.Common.{◌≡◌, ℕ, ◌<◌, ◌≤◌, Bool, true, false, cond, ltb, List, [], ◌∷◌, ◌++◌, length, Option, Some, None, Vec}
 use Rattle.std.proofs.Common.{refl, sym, ap, ◌∙◌, inl, inr, arith}
-use Rattle.std.specs.Option.{is_some}
+use Rattle.std.specs.Option.{is_some, option_or}
 use Rattle.std.specs.List.{list_any}
 use Rattle.std.specs.Prelude.{◌||◌, ◌&&◌}
 use Rattle.std.specs.Str.{bytes_eq}
@@ -15,10 +15,11 @@ use Rattle.mmtext.specs.Words.{Word}
 use Rattle.mmsyntax.specs.declared.statement.Assertion.{Assertion}
 use Rattle.mmsyntax.specs.Dotted.{is_dotted, trunk}
 use Rattle.mmsyntax.specs.Rows.{Units, is_assertion_label, is_unit_label, clashes}
-use Rattle.mmunits.specs.Labels.{owner_of}
+use Rattle.mmunits.specs.Labels.{owner_of, FindsTrunkToo}
+use Rattle.mmunits.specs.WordMaps.{FindsToo, FindsUnlessBefore}
 use Rattle.mmunits.specs.declared.known.Owner.{Owner}
 use Rattle.mmunits.specs.declared.known.Owner.TheVariants as owner
-use Rattle.mmsyntax.proofs.Names.{after_update, bytes_eq-sym, bytes_eq-same, same_bytes, swap_or, is_some-cond}
+use Rattle.mmsyntax.proofs.Names.{bytes_eq-sym, bytes_eq-same, same_bytes, swap_or, is_some-cond}
 use Rattle.mmsyntax.proofs.DottedWords.{dotted_longer, dotted_trunk, trunk_whole_or_dotted}
 
 -- ---- tests of lists
@@ -135,14 +136,14 @@ owned u w = go (is_assertion_label u.assertions w) (list_any (bytes_eq w) u.hypo
 
 -- ---- one more assertion
 
-pub owners_with : (m n : HashMap (Vec ℕ Global) Owner RandomState) (k : Vec ℕ Global) (u : Units) (a : Assertion) (closed : Bool)
-    → ((w : Word) → hash.get_by (λ q. bytes_eq w q.items) m ≡ owner_of u w) → k.items ≡ a.label
-    → hash.Updates (λ x y. bytes_eq x.items y.items) m n k (Some owner.Assertion) → (w : Word)
+pub owners_with : (m n : HashMap (Vec ℕ Global) Owner RandomState) (label : Word) (u : Units) (a : Assertion) (closed : Bool)
+    → ((w : Word) → hash.get_by (λ q. bytes_eq w q.items) m ≡ owner_of u w) → label ≡ a.label
+    → FindsToo m label owner.Assertion n → (w : Word)
     → hash.get_by (λ q. bytes_eq w q.items) n ≡ owner_of (record u { assertions = u.assertions ++ a ∷ []; prelude_closed = closed }) w
-owners_with m n k u a closed at_m key h w =
+owners_with m n label u a closed at_m key h w =
     let hs = list_any (bytes_eq w) u.hypothesis_labels in
-    after_update k.items m n (Some owner.Assertion) h w
-    ∙ ap (λ o. cond (bytes_eq k.items w) (Some owner.Assertion) o) (at_m w)
+    h w
+    ∙ ap (λ o. cond (bytes_eq label w) (Some owner.Assertion) o) (at_m w)
     ∙ ap (λ l. cond (bytes_eq l w) (Some owner.Assertion) (owner_of u w)) key
     ∙ ap (λ b. cond b (Some owner.Assertion) (owner_of u w)) (bytes_eq-sym a.label w)
     ∙ joined (bytes_eq w a.label) (is_assertion_label u.assertions w) hs
@@ -152,74 +153,52 @@ owners_with m n k u a closed at_m key h w =
     joined true b h = refl
     joined false b h = refl
 
--- the L of its label L.k
-pub trunks_with : (m n : HashMap (Vec ℕ Global) (Unit {0}) RandomState) (k : Vec ℕ Global) (xs : List Assertion) (a : Assertion)
-    → ((w : Word) → is_some (hash.get_by (λ q. bytes_eq w q.items) m) ≡ list_any (λ x. is_dotted w x.label) xs)
-    → length (trunk a.label) < length a.label → k.items ≡ trunk a.label
-    → hash.Updates (λ x y. bytes_eq x.items y.items) m n k (Some tt) → (w : Word)
-    → is_some (hash.get_by (λ q. bytes_eq w q.items) n) ≡ list_any (λ x. is_dotted w x.label) (xs ++ a ∷ [])
-trunks_with m n k xs a at_m short key h w =
-    let others = list_any (λ x. is_dotted w x.label) xs in
-    ap is_some (after_update k.items m n (Some tt) h w) ∙ is_some-cond (bytes_eq k.items w) (hash.get_by (λ q. bytes_eq w q.items) m)
-    ∙ ap (λ b. bytes_eq k.items w || b) (at_m w)
-    ∙ ap (λ l. bytes_eq l w || others) key
-    ∙ ap (λ b. (b && bytes_eq (trunk a.label) w) || others) (sym (shorter (length (trunk a.label)) (length a.label) short))
-    ∙ ap (λ b. b || others) (sym (dotted_by_trunk w a.label))
-    ∙ sym (any_push (λ x. is_dotted w x.label) xs a)
+-- the L of its label, put where it is L.k
+pub trunk_put : (m n : HashMap (Vec ℕ Global) (Unit {0}) RandomState) (label front : Word) → front ≡ trunk label
+    → length front < length label → FindsToo m front tt n → FindsTrunkToo m label n
+trunk_put m n label front is short h w =
+    let others = is_some (hash.get_by (λ q. bytes_eq w q.items) m) in
+    ap is_some (h w) ∙ is_some-cond (bytes_eq front w) (hash.get_by (λ q. bytes_eq w q.items) m)
+    ∙ ap (λ b. (b && bytes_eq front w) || others) (sym (shorter (length front) (length label) short))
+    ∙ ap (λ l. (ltb (length l) (length label) && bytes_eq l w) || others) is
+    ∙ ap (λ b. b || others) (sym (dotted_by_trunk w label))
 
 -- or none, where it is no L.k
-pub trunks_still : (m : HashMap (Vec ℕ Global) (Unit {0}) RandomState) (xs : List Assertion) (a : Assertion)
+pub no_trunk : (m : HashMap (Vec ℕ Global) (Unit {0}) RandomState) (label front : Word) → front ≡ trunk label
+    → length label ≤ length front → FindsTrunkToo m label m
+no_trunk m label front is long w =
+    let others = is_some (hash.get_by (λ q. bytes_eq w q.items) m) in
+    ap (λ b. (b && bytes_eq front w) || others) (sym (no_shorter (length front) (length label) long))
+    ∙ ap (λ l. (ltb (length l) (length label) && bytes_eq l w) || others) is
+    ∙ ap (λ b. b || others) (sym (dotted_by_trunk w label))
+
+pub trunks_with : (m n : HashMap (Vec ℕ Global) (Unit {0}) RandomState) (label : Word) (xs : List Assertion) (a : Assertion)
     → ((w : Word) → is_some (hash.get_by (λ q. bytes_eq w q.items) m) ≡ list_any (λ x. is_dotted w x.label) xs)
-    → length a.label ≤ length (trunk a.label) → (w : Word)
-    → is_some (hash.get_by (λ q. bytes_eq w q.items) m) ≡ list_any (λ x. is_dotted w x.label) (xs ++ a ∷ [])
-trunks_still m xs a at_m long w =
-    at_m w
-    ∙ ap (λ b. (b && bytes_eq (trunk a.label) w) || list_any (λ x. is_dotted w x.label) xs)
-    (sym (no_shorter (length (trunk a.label)) (length a.label) long))
-    ∙ ap (λ b. b || list_any (λ x. is_dotted w x.label) xs) (sym (dotted_by_trunk w a.label))
+    → label ≡ a.label → FindsTrunkToo m label n → (w : Word)
+    → is_some (hash.get_by (λ q. bytes_eq w q.items) n) ≡ list_any (λ x. is_dotted w x.label) (xs ++ a ∷ [])
+trunks_with m n label xs a at_m key h w =
+    h w ∙ ap (λ l. is_dotted w l || is_some (hash.get_by (λ q. bytes_eq w q.items) m)) key
+    ∙ ap (λ b. is_dotted w a.label || b) (at_m w)
     ∙ sym (any_push (λ x. is_dotted w x.label) xs a)
 
 -- ---- one more label of a $e
 
-at_word : {A : Type 0} (P : Word → A) (w label : Word) (x : A) → P label ≡ x → bytes_eq w label ≡ true → P w ≡ x
-at_word P w label x e y = ap P (same_bytes w label y) ∙ e
-
 -- an owner that it has stays
-pub owners_still : (m : HashMap (Vec ℕ Global) Owner RandomState) (u : Units) (label : Word)
-    → ((w : Word) → hash.get_by (λ q. bytes_eq w q.items) m ≡ owner_of u w)
-    → is_some (hash.get_by (λ q. bytes_eq label q.items) m) ≡ true → (w : Word)
-    → hash.get_by (λ q. bytes_eq w q.items) m ≡ owner_of (record u { hypothesis_labels = u.hypothesis_labels ++ label ∷ [] }) w
-owners_still m u label at_m known w =
-    let a = is_assertion_label u.assertions w in
-    let h = list_any (bytes_eq w) u.hypothesis_labels in
-    at_m w
-    ∙ same a (bytes_eq w label) h
-    (at_word (is_unit_label u) w label true (sym (owned u label) ∙ sym (ap is_some (at_m label)) ∙ known))
-    ∙ ap (λ b. owner_from a b) (sym (any_push (bytes_eq w) u.hypothesis_labels label))
-  where
-    same : (a b h : Bool) → (b ≡ true → (a || h) ≡ true) → owner_from a h ≡ owner_from a (b || h)
-    same true b h known = refl
-    same false true true known = refl
-    same false true false known = absurd (let z : false ≡ true = known refl in cc)
-    same false false h known = refl
-
-pub owners_too : (m n : HashMap (Vec ℕ Global) Owner RandomState) (k : Vec ℕ Global) (u : Units) (label : Word)
-    → ((w : Word) → hash.get_by (λ q. bytes_eq w q.items) m ≡ owner_of u w)
-    → is_some (hash.get_by (λ q. bytes_eq label q.items) m) ≡ false → k.items ≡ label
-    → hash.Updates (λ x y. bytes_eq x.items y.items) m n k (Some owner.Hypothesis) → (w : Word)
+pub owners_too : (m n : HashMap (Vec ℕ Global) Owner RandomState) (u : Units) (label : Word)
+    → ((w : Word) → hash.get_by (λ q. bytes_eq w q.items) m ≡ owner_of u w) → FindsUnlessBefore m label owner.Hypothesis n → (w : Word)
     → hash.get_by (λ q. bytes_eq w q.items) n ≡ owner_of (record u { hypothesis_labels = u.hypothesis_labels ++ label ∷ [] }) w
-owners_too m n k u label at_m unknown key h w =
+owners_too m n u label at_m h w =
     let a = is_assertion_label u.assertions w in
     let hs = list_any (bytes_eq w) u.hypothesis_labels in
-    after_update k.items m n (Some owner.Hypothesis) h w
-    ∙ ap (λ o. cond (bytes_eq k.items w) (Some owner.Hypothesis) o) (at_m w)
-    ∙ ap (λ l. cond (bytes_eq l w) (Some owner.Hypothesis) (owner_of u w)) key
-    ∙ ap (λ b. cond b (Some owner.Hypothesis) (owner_of u w)) (bytes_eq-sym label w)
-    ∙ new a (bytes_eq w label) hs
-    (at_word (is_unit_label u) w label false (sym (owned u label) ∙ sym (ap is_some (at_m label)) ∙ unknown))
+    h w
+    ∙ ap (λ o. option_or o (cond (bytes_eq label w) (Some owner.Hypothesis) None)) (at_m w)
+    ∙ ap (λ b. option_or (owner_of u w) (cond b (Some owner.Hypothesis) None)) (bytes_eq-sym label w)
+    ∙ joined a (bytes_eq w label) hs
     ∙ ap (λ b. owner_from a b) (sym (any_push (bytes_eq w) u.hypothesis_labels label))
   where
-    new : (a b h : Bool) → (b ≡ true → (a || h) ≡ false) → cond b (Some owner.Hypothesis) (owner_from a h) ≡ owner_from a (b || h)
-    new true true h unknown = absurd (let z : true ≡ false = unknown refl in cc)
-    new false true h unknown = refl
-    new a false h unknown = refl
+    joined : (a b h : Bool) → option_or (owner_from a h) (cond b (Some owner.Hypothesis) None) ≡ owner_from a (b || h)
+    joined true b h = refl
+    joined false true true = refl
+    joined false true false = refl
+    joined false false true = refl
+    joined false false false = refl

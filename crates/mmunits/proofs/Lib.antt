@@ -1,3 +1,4 @@
+pub mod WordMaps
 pub mod LabelMaps
 pub mod BlockPlaces
 pub mod PairsAgain

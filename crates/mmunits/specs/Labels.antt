@@ -1,5 +1,5 @@
 -- Of the code's inside, apart from the rules: the labels of assertions and of all $e, as maps.
-use Rattle.std.specs.Prelude.{◌≡◌, ℕ, List, Vec, Option, Some, None, is_some, if◌then◌else◌}
+use Rattle.std.specs.Prelude.{◌≡◌, ◌||◌, ℕ, List, Vec, Option, Some, None, is_some, if◌then◌else◌}
 use Rattle.std.specs.List.{list_any}
 use Rattle.std.specs.Str.{bytes_eq}
 use Rattle.std.specs.HashMap.{HashMap, get_by}
@@ -21,3 +21,8 @@ pub record HasLabels (labels : HashMap (Vec ℕ Global) Owner RandomState) (trun
     (u : Units) : Type 0 where
   pub owned : (w : List ℕ) → get_by (λ k. bytes_eq w k.items) labels ≡ owner_of u w
   pub dotted : (w : List ℕ) → is_some (get_by (λ k. bytes_eq w k.items) trunks) ≡ list_any (λ a. is_dotted w a.label) u.assertions
+
+-- n has the L of the label, where it is L.k, and what m has
+abbrev pub FindsTrunkToo : HashMap (Vec ℕ Global) (Unit {0}) RandomState → List ℕ → HashMap (Vec ℕ Global) (Unit {0}) RandomState → Type 0
+FindsTrunkToo m label n =
+    (w : List ℕ) → is_some (get_by (λ k. bytes_eq w k.items) n) ≡ (is_dotted w label || is_some (get_by (λ k. bytes_eq w k.items) m))

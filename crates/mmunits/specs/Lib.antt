@@ -1,3 +1,4 @@
+pub mod WordMaps
 pub mod Labels
 pub mod HypothesisPlaces
 pub mod StandingPairs

@@ -5,6 +5,7 @@ ghost use Rattle.mmsyntax.specs.Blocks.{no_block, with_pairs, with_hypothesis};
 ghost use Rattle.mmsyntax.specs.Steps.{hypothesis_named};
 
 use crate::pair_set::PairSet;
+use crate::word_map::put_if_none;
 use mmsyntax::Expr;
 use std::alloc::{AllocError, Global};
 use std::collections::HashMap;
@@ -96,17 +97,13 @@ impl<'a> Content<'a> {
         ensures { OnOk result (self.new ≡ with_hypothesis self.old label.now expression) }
     {
         let place = self.hyps.len() as u32;
-        let key = Vec::from_slice(alloc, label)?;
         self.hyps.push(Hypothesis { label, expression })?;
-        // The first hypothesis of a label would be the one that it names.
-        if self.places.contains_key(label) {
-            return Ok(());
-        }
-        match self.places.insert(key, place) {
-            Ok(_) => Ok(()),
-            Err(_) => {
+        // Of two hypotheses with one label the first would be the one that it names.
+        match put_if_none(alloc, &mut self.places, label, place) {
+            Ok(()) => Ok(()),
+            Err(error) => {
                 let _ = self.hyps.pop();
-                Err(AllocError)
+                Err(error)
             }
         }
     }

@@ -3,8 +3,11 @@
 ghost use Rattle.std.specs.Prelude.{◌≡◌, ◌<◌, ◌^◌, ◌++◌, ◌∷◌, true, [], length, IfOk, OnOk};
 ghost use Rattle.mmsyntax.specs.Rows.{no_units, is_assertion_label, is_unit_label, is_used, clashes};
 ghost use Rattle.mmsyntax.specs.Faults.{first_of};
+ghost use Rattle.mmunits.specs.Labels.{FindsTrunkToo};
 ghost use Rattle.mmunits.specs.Views.{known_of};
+ghost use Rattle.mmunits.specs.WordMaps.{FindsToo};
 
+use crate::word_map::{put_at, put_if_none};
 use mmsyntax::{Assertion, Label, SymbolTable, trunk};
 use std::alloc::{AllocError, Global};
 use std::collections::HashMap;
@@ -109,18 +112,14 @@ impl Units {
     pub fn add_hypothesis_label(&mut self, alloc: Global, label: &[u8]) -> Result<(), AllocError>
         ensures { OnOk result (self.new ≡ record self.old { hypothesis_labels = self.old.hypothesis_labels ++ label.now ∷ [] }) }
     {
-        let key = Vec::from_slice(alloc, label)?;
         let kept = Label::from_slice(alloc, label)?;
         self.hypothesis_labels.push(kept)?;
         // An assertion that has the label stays its owner.
-        if self.labels.contains_key(label) {
-            return Ok(());
-        }
-        match self.labels.insert(key, Owner::Hypothesis) {
-            Ok(_) => Ok(()),
-            Err(_) => {
+        match put_if_none(alloc, &mut self.labels, label, Owner::Hypothesis) {
+            Ok(()) => Ok(()),
+            Err(error) => {
                 let _ = self.hypothesis_labels.pop();
-                Err(AllocError)
+                Err(error)
             }
         }
     }
@@ -135,30 +134,14 @@ impl Units {
         Ok(())
     }
 
-    fn with_assertion(self, alloc: Global, assertion: Assertion) -> Result<Units, AllocError>
+    fn with_assertion(mut self, alloc: Global, assertion: Assertion) -> Result<Units, AllocError>
         ensures { IfOk result (λ made. made ≡ record self { assertions = self.assertions ++ assertion ∷ []; prelude_closed = true }) }
     {
-        let Units {
-            mut assertions,
-            hypothesis_labels,
-            mut labels,
-            mut trunks,
-            ..
-        } = self;
         let label = assertion.label.as_slice();
-        let trunk = trunk(label);
-        if trunk.len() < label.len() {
-            trunks.insert(Vec::from_slice(alloc, trunk)?, ())?;
-        }
-        labels.insert(Vec::from_slice(alloc, label)?, Owner::Assertion)?;
-        assertions.push(assertion)?;
-        Ok(Units {
-            assertions,
-            hypothesis_labels,
-            prelude_closed: true,
-            labels,
-            trunks,
-        })
+        put_label(alloc, &mut self.labels, &mut self.trunks, label)?;
+        self.assertions.push(assertion)?;
+        self.prelude_closed = true;
+        Ok(self)
     }
 
     /// All assertions, in order.
@@ -174,6 +157,35 @@ impl Units {
     {
         self.assertions.into_iter().next()
     }
+}
+
+/// Puts the L of a label `L.k`, if it is such a one.
+fn put_trunk(
+    alloc: Global,
+    trunks: &mut HashMap<Vec<u8>, (), RandomState>,
+    label: &[u8],
+) -> Result<(), AllocError>
+    ensures { OnOk result (FindsTrunkToo trunks.old label.now trunks.new) }
+{
+    let trunk = trunk(label);
+    if trunk.len() < label.len() {
+        put_at(alloc, trunks, trunk, ())?;
+    }
+    Ok(())
+}
+
+/// Puts the label of an assertion, and its L where it is `L.k`.
+fn put_label(
+    alloc: Global,
+    labels: &mut HashMap<Vec<u8>, Owner, RandomState>,
+    trunks: &mut HashMap<Vec<u8>, (), RandomState>,
+    label: &[u8],
+) -> Result<(), AllocError>
+    ensures labels { OnOk result (FindsToo labels.old label.now Owner.Assertion labels.new) }
+    ensures trunks { OnOk result (FindsTrunkToo trunks.old label.now trunks.new) }
+{
+    put_at(alloc, labels, label, Owner::Assertion)?;
+    put_trunk(alloc, trunks, label)
 }
 
 /// Whether an earlier symbol or label is the word.

@@ -5,6 +5,7 @@
 mod block;
 mod known;
 mod pair_set;
+mod word_map;
 
 pub use block::Block;
 pub use known::{Units, has_name};

@@ -1,12 +1,15 @@
 //! Reading assertions and blocks: one function for each place in them.
 
 ghost use Rattle.std.specs.Prelude.{◌≡◌, ◌<◌, length, IfOk};
-ghost use Rattle.mmsyntax.specs.Blocks.{with_distinct, distinct_of, assertion_of};
+ghost use Rattle.mmsyntax.specs.Rows.{symbol_of, with_hypothesis_label, with_assertion};
+ghost use Rattle.mmsyntax.specs.Blocks.{with_distinct, distinct_of, with_hypothesis, assertion_of, theorem_of};
 ghost use Rattle.mmsyntax.specs.Faults.{outermost_row, block_row, close_row, keyword_row, distinct_row, hypothesis_row, axiom_row};
-ghost use Rattle.mmsyntax.specs.Faults.{theorem_row, proof_row, behind, block_of, in_place};
-ghost use Rattle.mmtext.specs.Views.{seen};
+ghost use Rattle.mmsyntax.specs.Faults.{theorem_row, proof_row, next_step, behind, block_of, in_place, inside};
+ghost use Rattle.mmsyntax.specs.Faults.{at, at_start};
+ghost use Rattle.mmtext.specs.Views.{seen, Gives};
 ghost use Rattle.mmtext.specs.declared.mark.Mark.TheVariants.{Floating, Essential};
 ghost use Rattle.mmreader.specs.Standing.{Stands};
+ghost use Rattle.mmreader.specs.Takings.{pushed};
 ghost use Rattle.mmunits.specs.Views.{known_of};
 ghost use Rattle.mmreader.specs.Views.{seen_scope, seen_behind, seen_unit_place, Leads};
 
@@ -69,6 +72,24 @@ fn in_block<'a>(
             Ok(Place::Unit(UnitPlace::AfterLabel(Scope::Inside(block), token)))
         }
         _ => Err(fault_at(token, FaultKind::BadToken)),
+    }
+}
+
+/// Start of a statement.
+fn at_start<'a>(
+    alloc: Global,
+    symbols: &SymbolTable,
+    units: &Units,
+    scope: Scope<'a>,
+    token: Token<'a>,
+    mark: Mark,
+) -> Result<Place<'a>, Stop>
+    ensures { Leads symbols.now units.now result
+        (in_place (known_of symbols.now units.now) (at_start (seen_scope scope.entry)) (seen token.entry) mark) }
+{
+    match scope {
+        Scope::Outside => outermost(alloc, symbols, units, token, mark),
+        Scope::Inside(block) => in_block(alloc, symbols, units, block, token, mark),
     }
 }
 
@@ -200,14 +221,51 @@ fn distinct<'a>(
     }
 }
 
-/// A symbol of a `$e`, or the `$.` behind one.
-fn hypothesis<'a>(
+/// An expression with one more symbol.
+fn with_symbol(
+    symbols: &SymbolTable,
+    mut expression: Vec<Symbol>,
+    token: Token<'_>,
+) -> Result<Vec<Symbol>, Stop>
+    ensures { Gives (λ e. e.items) result
+        (pushed (seen token.entry) expression.items (symbol_of symbols.now (length expression.items) token.entry.text.now)) }
+{
+    match symbol_at(symbols, expression.len(), token.text) {
+        Ok(symbol) => {
+            expression.push(symbol)?;
+            Ok(expression)
+        }
+        Err(kind) => Err(fault_at(token, kind)),
+    }
+}
+
+/// Behind a `$e`.
+fn end_hypothesis<'a>(
     alloc: Global,
     symbols: &SymbolTable,
     units: &mut Units,
     mut block: Block<'a>,
     label: &'a [u8],
-    mut expression: Vec<Symbol>,
+    expression: Vec<Symbol>,
+) -> Result<Place<'a>, Stop>
+    requires { length block.hyps < 1000 }
+    ensures { Leads symbols.now units.new result
+        (at (with_hypothesis_label (known_of symbols.now units.old) label.entry.now)
+        (at_start (inside (with_hypothesis block.entry label.entry.now expression.items)))) }
+{
+    units.add_hypothesis_label(alloc, label)?;
+    block.add_hypothesis(alloc, label, Sequence::from_vec(expression))?;
+    Ok(Place::Unit(UnitPlace::AtStart(Scope::Inside(block))))
+}
+
+/// A symbol of a `$e`, or the `$.` behind one.
+fn hypothesis<'a>(
+    alloc: Global,
+    symbols: &SymbolTable,
+    units: &mut Units,
+    block: Block<'a>,
+    label: &'a [u8],
+    expression: Vec<Symbol>,
     token: Token<'a>,
     mark: Mark,
 ) -> Result<Place<'a>, Stop>
@@ -216,17 +274,10 @@ fn hypothesis<'a>(
         (hypothesis_row (known_of symbols.now units.old) block.entry label.entry.now expression.items (seen token.entry) mark) }
 {
     if mark == Mark::End && !expression.is_empty() {
-        units.add_hypothesis_label(alloc, label)?;
-        block.add_hypothesis(alloc, label, Sequence::from_vec(expression))?;
-        return Ok(Place::Unit(UnitPlace::AtStart(Scope::Inside(block))));
+        return end_hypothesis(alloc, symbols, units, block, label, expression);
     }
-    match symbol_at(symbols, expression.len(), token.text) {
-        Ok(s) => {
-            expression.push(s)?;
-            Ok(Place::Unit(UnitPlace::InHypothesis(block, label, expression)))
-        }
-        Err(kind) => Err(fault_at(token, kind)),
-    }
+    let expression = with_symbol(symbols, expression, token)?;
+    Ok(Place::Unit(UnitPlace::InHypothesis(block, label, expression)))
 }
 
 /// Where a text goes on behind the assertion of a scope.
@@ -264,6 +315,27 @@ fn assertion_in(
     })
 }
 
+/// Behind a `$a` or `$p`.
+fn end_assertion<'a>(
+    alloc: Global,
+    symbols: &SymbolTable,
+    units: &mut Units,
+    scope: Scope<'a>,
+    label: &[u8],
+    kind: Kind,
+    expression: Vec<Symbol>,
+    steps: Vec<Step>,
+) -> Result<Place<'a>, Stop>
+    ensures { Leads symbols.now units.new result
+        (at (with_assertion (known_of symbols.now units.old)
+        (assertion_of (block_of (seen_scope scope.entry)) label.now kind expression.items steps.items)) (behind (seen_scope scope.entry))) }
+{
+    let next = behind(&scope);
+    let assertion = assertion_in(alloc, scope, label, kind, expression, steps)?;
+    units.add_assertion(alloc, assertion)?;
+    Ok(next.place())
+}
+
 /// A symbol of a `$a`, or the `$.` behind one.
 fn axiom_symbol<'a>(
     alloc: Global,
@@ -271,7 +343,7 @@ fn axiom_symbol<'a>(
     units: &mut Units,
     scope: Scope<'a>,
     label: &'a [u8],
-    mut expression: Vec<Symbol>,
+    expression: Vec<Symbol>,
     token: Token<'a>,
     mark: Mark,
 ) -> Result<Place<'a>, Stop>
@@ -279,19 +351,20 @@ fn axiom_symbol<'a>(
         (axiom_row (known_of symbols.now units.old) (seen_scope scope.entry) label.entry.now expression.items (seen token.entry) mark) }
 {
     if mark == Mark::End && !expression.is_empty() {
-        let next = behind(&scope);
         let steps = Vec::new(alloc);
-        let assertion = assertion_in(alloc, scope, label, Kind::Axiom, expression, steps)?;
-        units.add_assertion(alloc, assertion)?;
-        return Ok(next.place());
+        return end_assertion(
+            alloc,
+            symbols,
+            units,
+            scope,
+            label,
+            Kind::Axiom,
+            expression,
+            steps,
+        );
     }
-    match symbol_at(symbols, expression.len(), token.text) {
-        Ok(s) => {
-            expression.push(s)?;
-            Ok(Place::Unit(UnitPlace::InAxiom(scope, label, expression)))
-        }
-        Err(kind) => Err(fault_at(token, kind)),
-    }
+    let expression = with_symbol(symbols, expression, token)?;
+    Ok(Place::Unit(UnitPlace::InAxiom(scope, label, expression)))
 }
 
 /// A symbol of a `$p`, or the `$=` behind one.
@@ -301,7 +374,7 @@ fn theorem_symbol<'a>(
     units: &Units,
     scope: Scope<'a>,
     label: &'a [u8],
-    mut expression: Vec<Symbol>,
+    expression: Vec<Symbol>,
     token: Token<'a>,
     mark: Mark,
 ) -> Result<Place<'a>, Stop>
@@ -317,10 +390,57 @@ fn theorem_symbol<'a>(
         };
         return Ok(Place::Unit(UnitPlace::InProof(theorem)));
     }
-    match symbol_at(symbols, expression.len(), token.text) {
-        Ok(s) => {
-            expression.push(s)?;
-            Ok(Place::Unit(UnitPlace::InTheorem(scope, label, expression)))
+    let expression = with_symbol(symbols, expression, token)?;
+    Ok(Place::Unit(UnitPlace::InTheorem(scope, label, expression)))
+}
+
+/// Behind a `$p` with its proof.
+fn end_theorem<'a>(
+    alloc: Global,
+    symbols: &SymbolTable,
+    units: &mut Units,
+    theorem: Theorem<'a>,
+) -> Result<Place<'a>, Stop>
+    ensures { Leads symbols.now units.new result
+        (at (with_assertion (known_of symbols.now units.old)
+        (theorem_of (block_of (seen_scope theorem.entry.scope)) theorem.entry.label.now theorem.entry.expression.items
+        theorem.entry.steps.items)) (behind (seen_scope theorem.entry.scope))) }
+{
+    let Theorem {
+        scope,
+        label,
+        expression,
+        steps,
+    } = theorem;
+    end_assertion(
+        alloc,
+        symbols,
+        units,
+        scope,
+        label,
+        Kind::Theorem,
+        expression,
+        steps,
+    )
+}
+
+/// A step of a proof.
+fn next_step<'a>(
+    alloc: Global,
+    symbols: &SymbolTable,
+    units: &Units,
+    mut theorem: Theorem<'a>,
+    token: Token<'a>,
+) -> Result<Place<'a>, Stop>
+    ensures { Leads symbols.now units.now result
+        (next_step (known_of symbols.now units.now) (seen_scope theorem.entry.scope) theorem.entry.label.now theorem.entry.expression.items
+        theorem.entry.steps.items (seen token.entry)) }
+{
+    let count = theorem.steps.len();
+    match step_at(symbols, theorem.label, &theorem.scope, count, token.text) {
+        Ok(named) => {
+            theorem.steps.push(step_for(alloc, named, token.text)?)?;
+            Ok(Place::Unit(UnitPlace::InProof(theorem)))
         }
         Err(kind) => Err(fault_at(token, kind)),
     }
@@ -339,31 +459,10 @@ fn proof_step<'a>(
         (proof_row (known_of symbols.now units.old) (seen_scope theorem.entry.scope) theorem.entry.label.now theorem.entry.expression.items
         theorem.entry.steps.items (seen token.entry) mark) }
 {
-    let Theorem {
-        scope,
-        label,
-        expression,
-        mut steps,
-    } = theorem;
-    if mark == Mark::End && !steps.is_empty() {
-        let next = behind(&scope);
-        let assertion = assertion_in(alloc, scope, label, Kind::Theorem, expression, steps)?;
-        units.add_assertion(alloc, assertion)?;
-        return Ok(next.place());
+    if mark == Mark::End && !theorem.steps.is_empty() {
+        return end_theorem(alloc, symbols, units, theorem);
     }
-    match step_at(symbols, label, &scope, steps.len(), token.text) {
-        Ok(named) => {
-            steps.push(step_for(alloc, named, token.text)?)?;
-            let theorem = Theorem {
-                scope,
-                label,
-                expression,
-                steps,
-            };
-            Ok(Place::Unit(UnitPlace::InProof(theorem)))
-        }
-        Err(kind) => Err(fault_at(token, kind)),
-    }
+    next_step(alloc, symbols, units, theorem, token)
 }
 
 /// Where a token leads that stands in no `$c`, `$v` or `$f`.
@@ -380,10 +479,7 @@ pub(crate) fn next_unit_place<'a>(
         (in_place (known_of symbols.now units.old) (seen_unit_place place.entry) (seen token.entry) mark) }
 {
     match place {
-        UnitPlace::AtStart(Scope::Outside) => outermost(alloc, symbols, units, token, mark),
-        UnitPlace::AtStart(Scope::Inside(block)) => {
-            in_block(alloc, symbols, units, block, token, mark)
-        }
+        UnitPlace::AtStart(scope) => at_start(alloc, symbols, units, scope, token, mark),
         UnitPlace::AtClose => at_close(symbols, units, token, mark),
         UnitPlace::AfterLabel(scope, label) => {
             keyword(alloc, symbols, units, scope, label, token, mark)

@@ -5,7 +5,7 @@ ghost use Rattle.mmsyntax.specs.declared.statement.Assertion.{Assertion};
 ghost use Rattle.mmtext.specs.Text.{mark_of};
 ghost use Rattle.mmsyntax.specs.Tables.{Tables};
 ghost use Rattle.mmtext.specs.Laws.{IsRead};
-ghost use Rattle.mmsyntax.specs.Faults.{unit_at, unit_row, unit_language};
+ghost use Rattle.mmsyntax.specs.Faults.{unit_at, unit_row, unit_language, first_of};
 ghost use Rattle.mmsyntax.specs.Grammar.{SpellsUnit};
 ghost use Rattle.mmtext.specs.Views.{seen};
 ghost use Rattle.mmreader.specs.Standing.{Stands};
@@ -69,6 +69,14 @@ fn next_place<'a>(
     place_by_row(alloc, symbols, units, place, token, mark)
 }
 
+/// The assertion that was read, if there is one.
+fn into_said(reader: AssertionReader<'_>) -> Option<Assertion>
+    ensures { result ≡ first_of reader.entry.units.assertions }
+{
+    let AssertionReader { units, .. } = reader;
+    units.into_first()
+}
+
 impl<'a> Reader<'a> for AssertionReader<'a> {
     ghost use Rattle.mmsyntax.specs.declared.statement.Assertion.{Assertion};
     ghost use Rattle.mmsyntax.specs.Faults.{Position, unit_language};
@@ -106,7 +114,7 @@ impl<'a> Reader<'a> for AssertionReader<'a> {
         if !is_outermost(&self.place) {
             return None;
         }
-        self.units.into_first()
+        into_said(self)
     }
 }
 
