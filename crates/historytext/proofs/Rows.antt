@@ -35,6 +35,17 @@ number_fails highest u behind (stop.Fault f) h = go (is_numeral u.text) (ltb hig
         h_is : fault {X = ℕ} u BadToken ≡ Err f → fault {X = Answered} u BadToken ≡ Err f
         h_is e = cc
 
+-- where a number is one, its row leads on
+pub number_leads : (highest : ℕ) (u : Token) (behind : ℕ → Answered) (n : ℕ) → number_at highest u ≡ Ok n
+    → number_row highest u behind ≡ behind n
+number_leads highest u behind n h = go (is_numeral u.text) (ltb highest (digits_value 10 u.text)) h
+  where
+    go : (b c : Bool) → cond b (cond c (fault u TooLong) (Ok (digits_value 10 u.text))) (fault u BadToken) ≡ Ok n
+        → cond b (cond c (wrong TooLong) (behind (digits_value 10 u.text))) (wrong BadToken) ≡ behind n
+    go true true e = absurd cc
+    go true false e = let same : digits_value 10 u.text ≡ n = cc in ap behind same
+    go false c e = absurd cc
+
 -- where the number of entries isn't one, its row stops
 pub count_fails : (entries : List Entry) (u : Token) (why : Stop) → Fails why (count_at u) → Fails why (count_row entries u)
 count_fails entries u stop.Memory h = tt

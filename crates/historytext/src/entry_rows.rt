@@ -4,9 +4,9 @@ ghost use Rattle.std.specs.Prelude.{List};
 ghost use Rattle.mmtext.specs.Text.{Token as SeenToken};
 ghost use Rattle.mmtext.specs.Views.{seen, Gives};
 ghost use Rattle.mmsyntax.specs.Tables.{Tables};
-ghost use Rattle.scripts.specs.ScriptViews.{seen_led};
+ghost use Rattle.scripts.specs.ScriptViews.{seen_command_place, seen_led};
 ghost use Rattle.library.specs.declared.history.Entry.{Entry};
-ghost use Rattle.historytext.specs.Places.{answered, asked, command_row, in_entry_row, replies_left};
+ghost use Rattle.historytext.specs.Places.{answered, asked, at_reply, command_row, in_entry_row, replies_left, within};
 ghost use Rattle.historytext.specs.Views.{seen_answered, seen_entry_place, seen_at};
 
 use crate::place::{Answered, EntryPlace, Place};
@@ -14,7 +14,7 @@ use crate::reply_rows::{read_in_reply, read_reply_word};
 use library::{Command, Entry, Reply};
 use mmsyntax::{Prelude, Sequence};
 use mmtext::{FaultKind, Stop, Token, fault_at};
-use scripts::{Led, read_command_word, read_in_command};
+use scripts::{CommandPlace, Led, read_command_word, read_in_command};
 use std::alloc::Global;
 
 /// A place in a command, or one more command behind the others.
@@ -93,6 +93,37 @@ fn read_at_command<'a>(
     go_on_asking(left, commands, read_command_word(token)?)
 }
 
+/// In a command behind whole ones.
+fn read_within<'a>(
+    alloc: Global,
+    prelude: &Prelude,
+    left: u64,
+    commands: Vec<Command>,
+    place: CommandPlace<'a>,
+    token: Token<'a>,
+) -> Result<Place<'a>, Stop>
+    ensures { (entries : List Entry) → Gives (seen_at prelude.now entries) result
+        (in_entry_row prelude.now entries left (within commands.items (seen_command_place prelude.now place.entry)) (seen token.entry)) }
+{
+    let next = read_in_command(alloc, prelude, place, token)?;
+    go_on_asking(left, commands, next)
+}
+
+/// Behind `commit` and whole replies: the word of a reply.
+fn read_at_reply<'a>(
+    entries: &mut Vec<Entry>,
+    left: u64,
+    commands: Vec<Command>,
+    replies: Vec<Reply>,
+    token: Token<'a>,
+) -> Result<Place<'a>, Stop>
+    ensures { (t : Tables) → Gives (seen_at t entries.new.items) result
+        (in_entry_row t entries.old.items left (at_reply commands.items replies.items) (seen token.entry)) }
+{
+    let next = read_reply_word(token)?;
+    go_on_answering(entries, left, commands, replies, next)
+}
+
 /// Where a token leads that stands in an entry, with so many others left.
 pub(crate) fn read_in_entry<'a>(
     alloc: Global,
@@ -115,12 +146,10 @@ pub(crate) fn read_in_entry<'a>(
             read_at_command(alloc, entries, left, commands, token)
         }
         EntryPlace::Within(commands, place) => {
-            let next = read_in_command(alloc, prelude, place, token)?;
-            go_on_asking(left, commands, next)
+            read_within(alloc, prelude, left, commands, place, token)
         }
         EntryPlace::AtReply(commands, replies) => {
-            let next = read_reply_word(token)?;
-            go_on_answering(entries, left, commands, replies, next)
+            read_at_reply(entries, left, commands, replies, token)
         }
         EntryPlace::Answering(commands, replies, place) => {
             let next = read_in_reply(alloc, prelude, place, token)?;

@@ -1,17 +1,18 @@
 //! Reading a reply: one function for each kind of word in it.
 
-ghost use Rattle.std.specs.Prelude.{◌≡◌};
+ghost use Rattle.std.specs.Prelude.{◌≡◌, ◌++◌, ◌∷◌, []};
+ghost use Rattle.mmtext.specs.Text.{Token as SeenToken};
 ghost use Rattle.mmtext.specs.Views.{seen, Gives};
 ghost use Rattle.mmsyntax.specs.Tables.{Tables};
 ghost use Rattle.mmsyntax.specs.Faults.{row};
 ghost use Rattle.mmreader.specs.UnitReadings.{position_of};
-ghost use Rattle.historytext.specs.Places.{in_reply, lines_left, reply_word, shown_row};
+ghost use Rattle.historytext.specs.Places.{at_citers, at_kind, at_label, at_line, in_reply, lines_left, reply_word, shown_row};
 ghost use Rattle.historytext.specs.Views.{answer, count_at, kind_at, seen_answered, seen_reply_place};
 
 use crate::place::{Answered, ReplyPlace};
 use library::{Line, Ranked, Reply};
 use mmreader::{UnitProgress, UnitReader};
-use mmsyntax::{Kind, Prelude, Sequence};
+use mmsyntax::{Kind, Label, Prelude, Sequence};
 use mmtext::{FaultKind, Stop, Token, fault_at};
 use scripts::{count, is_numeral, read_label, read_rank};
 use std::alloc::Global;
@@ -53,6 +54,15 @@ fn lines_left<'a>(left: u64, lines: Vec<Line>) -> Answered<'a>
     Answered::Going(ReplyPlace::AtLine(left - 1, lines))
 }
 
+/// One more line behind the others, with so many left.
+fn go_on_listing<'a>(left: u64, mut lines: Vec<Line>, line: Line) -> Result<Answered<'a>, Stop>
+    ensures { (t : Tables) (token : SeenToken) → Gives (seen_answered t) result
+        (answer token (lines_left left (lines.items ++ line ∷ []))) }
+{
+    lines.push(line)?;
+    Ok(lines_left(left, lines))
+}
+
 /// A token of the assertion that is shown.
 fn read_in_shown<'a>(
     alloc: Global,
@@ -92,6 +102,67 @@ pub(crate) fn read_reply_word<'a>(token: Token<'a>) -> Result<Answered<'a>, Stop
     }
 }
 
+/// At the rank of a line, with so many others left, behind whole lines.
+fn read_line_rank<'a>(left: u64, lines: Vec<Line>, token: Token<'a>) -> Result<Answered<'a>, Stop>
+    ensures { (t : Tables) → Gives (seen_answered t) result
+        (answer (seen token.entry) (in_reply t (at_line left lines.items) (seen token.entry))) }
+{
+    let rank = read_rank(token)?;
+    Ok(Answered::Going(ReplyPlace::AtLabel(left, lines, rank)))
+}
+
+/// At its label.
+fn read_line_label<'a>(
+    alloc: Global,
+    left: u64,
+    lines: Vec<Line>,
+    rank: u32,
+    token: Token<'a>,
+) -> Result<Answered<'a>, Stop>
+    ensures { (t : Tables) → Gives (seen_answered t) result
+        (answer (seen token.entry) (in_reply t (at_label left lines.items rank) (seen token.entry))) }
+{
+    let label = read_label(alloc, token)?;
+    Ok(Answered::Going(ReplyPlace::AtKind(left, lines, rank, label)))
+}
+
+/// At its kind.
+fn read_line_kind<'a>(
+    left: u64,
+    lines: Vec<Line>,
+    rank: u32,
+    label: Label,
+    token: Token<'a>,
+) -> Result<Answered<'a>, Stop>
+    ensures { (t : Tables) → Gives (seen_answered t) result
+        (answer (seen token.entry) (in_reply t (at_kind left lines.items rank label) (seen token.entry))) }
+{
+    let kind = read_kind(token)?;
+    Ok(Answered::Going(ReplyPlace::AtCiters(left, lines, rank, label, kind)))
+}
+
+/// At its number of citers.
+fn read_line_citers<'a>(
+    left: u64,
+    lines: Vec<Line>,
+    rank: u32,
+    label: Label,
+    kind: Kind,
+    token: Token<'a>,
+) -> Result<Answered<'a>, Stop>
+    ensures { (t : Tables) → Gives (seen_answered t) result
+        (answer (seen token.entry) (in_reply t (at_citers left lines.items rank label kind) (seen token.entry))) }
+{
+    let citers = read_count(token)?;
+    let line = Line {
+        rank,
+        label,
+        kind,
+        citers,
+    };
+    go_on_listing(left, lines, line)
+}
+
 /// Where a token leads that stands in a reply.
 pub(crate) fn read_in_reply<'a>(
     alloc: Global,
@@ -118,27 +189,15 @@ pub(crate) fn read_in_reply<'a>(
             let left = read_count(token)?;
             return Ok(lines_left(left, Vec::new(alloc)));
         }
-        ReplyPlace::AtLine(left, lines) => {
-            let rank = read_rank(token)?;
-            ReplyPlace::AtLabel(left, lines, rank)
-        }
+        ReplyPlace::AtLine(left, lines) => return read_line_rank(left, lines, token),
         ReplyPlace::AtLabel(left, lines, rank) => {
-            let label = read_label(alloc, token)?;
-            ReplyPlace::AtKind(left, lines, rank, label)
+            return read_line_label(alloc, left, lines, rank, token);
         }
         ReplyPlace::AtKind(left, lines, rank, label) => {
-            let kind = read_kind(token)?;
-            ReplyPlace::AtCiters(left, lines, rank, label, kind)
+            return read_line_kind(left, lines, rank, label, token);
         }
-        ReplyPlace::AtCiters(left, mut lines, rank, label, kind) => {
-            let citers = read_count(token)?;
-            lines.push(Line {
-                rank,
-                label,
-                kind,
-                citers,
-            })?;
-            return Ok(lines_left(left, lines));
+        ReplyPlace::AtCiters(left, lines, rank, label, kind) => {
+            return read_line_citers(left, lines, rank, label, kind, token);
         }
     };
     Ok(Answered::Going(next))
