@@ -192,8 +192,9 @@ module _ (m : Map) (t : Tables) (label : Word) where
 
 -- ---- labels, each with that in the library
 
-abbrev finds : List Naming → Naming → Type 0
-finds all p = find (λ q. bytes_eq p.0 q.0) all ≡ Some p
+-- a pair is the first with its word
+abbrev FindsItself : List Naming → Naming → Type 0
+FindsItself all p = find (λ q. bytes_eq p.0 q.0) all ≡ Some p
 
 others_apart : (w : Word) (ps : List Naming) → list_any (bytes_eq w) (map (λ p. p.0) ps) ≡ false
     → AllByRecursion (λ (p : Naming). bytes_eq p.0 w ≡ false) ps
@@ -203,12 +204,12 @@ others_apart w (p ∷ ps) h =
     (bytes_eq-sym p.0 w ∙ both.0, others_apart w ps both.1)
 
 each_later : (p : Naming) (all ps : List Naming) → AllByRecursion (λ (q : Naming). bytes_eq q.0 p.0 ≡ false) ps
-    → AllByRecursion (finds all) ps → AllByRecursion (finds (p ∷ all)) ps
+    → AllByRecursion (FindsItself all) ps → AllByRecursion (FindsItself (p ∷ all)) ps
 each_later p all [] h g = tt
 each_later p all (q ∷ qs) h g =
     (cond-false (bytes_eq q.0 p.0) (Some p) (find (λ r. bytes_eq q.0 r.0) all) h.0 ∙ g.0, each_later p all qs h.1 g.1)
 
-each_found : (ps : List Naming) → Distinct bytes_eq (map (λ p. p.0) ps) → AllByRecursion (finds ps) ps
+each_found : (ps : List Naming) → Distinct bytes_eq (map (λ p. p.0) ps) → AllByRecursion (FindsItself ps) ps
 each_found [] d = tt
 each_found (p ∷ ps) d = (
   cond-true (bytes_eq p.0 p.0) (Some p) (find (λ q. bytes_eq p.0 q.0) ps) (bytes_eq-same p.0),
@@ -235,13 +236,13 @@ labelled m t (x ∷ xs) said worded = (
   labelled m t xs said.1 worded.1,
 )
 
-own_name : (m : Map) (p : Naming) → finds m.labels p → IsLabelled m p.0 → IsQuietNaming p
+own_name : (m : Map) (p : Naming) → FindsItself m.labels p → IsLabelled m p.0 → IsQuietNaming p
 own_name m p found l =
     let e : Some p.1 ≡ Some l.name = sym (ap (option_map (λ (q : Naming). q.1)) found) ∙ l.is in
     let same : l.name ≡ p.1 = cc in
     (l.quiet, subst AreQuiet same l.name_quiet)
 
-own_names : (m : Map) (ps : List Naming) → AllByRecursion (finds m.labels) ps → AllByRecursion (IsLabelled m) (map (λ p. p.0) ps)
+own_names : (m : Map) (ps : List Naming) → AllByRecursion (FindsItself m.labels) ps → AllByRecursion (IsLabelled m) (map (λ p. p.0) ps)
     → AllByRecursion IsQuietNaming ps
 own_names m [] found l = tt
 own_names m (p ∷ ps) found l = (own_name m p found.0 l.0, own_names m ps found.1 l.1)
