@@ -106,18 +106,15 @@ fn a_run_commits(rt: HostRuntime) -> Result<(), Fail> {
     assert_end(&rt, &ran, 0, end)
 }
 
-/// Whether there is no third cell, no fourth seat and no entry 0.
-fn shows_nothing_else(world: &World) -> bool {
-    world.lock(2).is_none()
-        && world.value(2).is_none()
-        && !world.conflicted(3)
-        && world.settled(0).is_none()
-}
-
+/// There is no third cell, no fourth seat and no entry 0.
 #[test]
 fn nothing_else_is_shown(rt: HostRuntime) -> Result<(), Fail> {
     let ran = run_parts(rt.alloc(), &[&write(1, 0, 7)])?;
-    assert!(rt; shows_nothing_else(&ran.world));
+    assert_eq!(rt; (ran.world.lock(2), ran.world.value(2)), (None, None));
+    assert_eq!(rt;
+        (ran.world.conflicted(3), ran.world.settled(0)),
+        (false, None)
+    );
     Ok(())
 }
 
@@ -201,7 +198,7 @@ fn run_between(alloc: Global, last: &[Event]) -> Result<Ran, AllocError> {
 #[test]
 fn a_reader_reads_between_entries(rt: HostRuntime) -> Result<(), Fail> {
     let ran = run_between(rt.alloc(), &[])?;
-    assert!(rt; ran.world.value_read(2, 1) == Some(9));
+    assert_eq!(rt; ran.world.value_read(2, 1), Some(9));
     let end = expected((18, 2), [1, 4], [0, 9], [None, Some(true)], false);
     assert_end(&rt, &ran, 2, end)
 }
@@ -212,7 +209,10 @@ fn a_reader_conflicts_at_a_held_cell(rt: HostRuntime) -> Result<(), Fail> {
     let a = write(0, 0, 8);
     let last = [(2, Action::Look(0)), a[6], a[7]];
     let ran = run_between(rt.alloc(), &last)?;
-    assert!(rt; ran.world.value_read(2, 1) == Some(9) && ran.world.value_read(2, 0).is_none());
+    assert_eq!(rt;
+        (ran.world.value_read(2, 1), ran.world.value_read(2, 0)),
+        (Some(9), None)
+    );
     let end = expected((21, 2), [2, 4], [8, 9], [Some(true), Some(true)], true);
     assert_end(&rt, &ran, 2, end)
 }
@@ -273,7 +273,10 @@ fn a_failed_check_voids_the_entry(rt: HostRuntime) -> Result<(), Fail> {
         rt.alloc(),
         &[&[(0, Action::Begin)], &read(0, 0), &read(0, 1), &y, &last],
     )?;
-    assert!(rt; ran.world.value_read(0, 0) == Some(0) && ran.world.value_read(3, 0).is_none());
+    assert_eq!(rt;
+        (ran.world.value_read(0, 0), ran.world.value_read(3, 0)),
+        (Some(0), None)
+    );
     let end = expected((19, 2), [2, 0], [1, 0], [Some(true), Some(false)], true);
     assert_end(&rt, &ran, 0, end)
 }
@@ -317,32 +320,8 @@ fn written(seat: usize, loaded: [u64; 2]) -> u64 {
     }
 }
 
-/// How far a seat is in its program after an event: after a conflict it only releases what it holds.
-fn place_after(conflicted: bool, action: Action, index: usize) -> usize
-    requires { index < EVENTS }
-    ensures { result ≤ EVENTS }
-{
-    match (conflicted, action) {
-        (true, Action::Check(_)) => 11,
-        (true, _) => 12,
-        (false, _) => index + 1,
-    }
-}
-
-/// The values that both have loaded after an event of a seat.
-fn loaded_after(walk: &Walk, seat: usize, action: Action) -> [[u64; 2]; 2]
-    requires { seat < 2 }
-{
-    let mut loaded = walk.loaded;
-    if let Action::Load(cell) = action
-        && cell < 2
-    {
-        loaded[seat][cell] = walk.world.value(cell).unwrap_or(0);
-    }
-    loaded
-}
-
-/// The walk after the next event of a seat, or None where its transaction has ended. A check that isn't lawful is left out.
+/// The walk after the next event of a seat, or None where its transaction has ended. A check that isn't lawful is left out, and
+/// after a conflict the seat only releases what it holds.
 fn turn(alloc: Global, walk: &Walk, seat: usize) -> Result<Option<Walk>, AllocError>
     requires { seat < 2 }
 {
@@ -350,50 +329,59 @@ fn turn(alloc: Global, walk: &Walk, seat: usize) -> Result<Option<Walk>, AllocEr
         let action = program(seat, walk.loaded[seat], index);
         if let Some(world) = step(alloc, &walk.world, seat, action)? {
             let mut at = walk.at;
-            at[seat] = place_after(world.conflicted(seat), action, index);
-            let loaded = loaded_after(walk, seat, action);
+            at[seat] = match (world.conflicted(seat), action) {
+                (true, Action::Check(_)) => 11,
+                (true, _) => 12,
+                (false, _) => index + 1,
+            };
+            let mut loaded = walk.loaded;
+            if let Action::Load(cell) = action
+                && cell < 2
+            {
+                loaded[seat][cell] = walk.world.value(cell).unwrap_or(0);
+            }
             return Ok(Some(Walk { world, at, loaded }));
         }
     }
     Ok(None)
 }
 
-/// How the two transactions may end: which of them committed, and the values of both cells. An order of both gives 11 and 22, or 3 and 2; each that
-/// read the other's cell before it was written gives 11 and 2, which no order does.
-const ENDS: [(bool, bool, u64, u64); 4] = [
-    (true, true, 11, 22),
-    (true, true, 3, 2),
-    (true, false, 11, 10),
-    (false, true, 1, 2),
-];
-
-/// Counts the end of a walk. False is none of those.
-fn count_end(counts: &mut [u32; 4], world: &World) -> bool {
-    let end = (
-        !world.conflicted(0),
-        !world.conflicted(1),
-        world.value(0).unwrap_or(0),
-        world.value(1).unwrap_or(0),
-    );
-    for (place, one) in ENDS.iter().enumerate() {
-        if *one == end {
-            counts[place] = counts[place].saturating_add(1);
-            return true;
-        }
-    }
-    false
-}
-
-/// How often each end comes, of all interleavings from a walk on. None: another end comes.
-fn ends_from(alloc: Global, start: Walk) -> Result<Option<[u32; 4]>, AllocError> {
+/// Each interleaving of the two transactions gives the values of one order of those that commit. An order of both gives 11 and
+/// 22, or 3 and 2; each that read the other's cell before it was written gives 11 and 2, which no order does. How many
+/// interleavings end in which way was counted by a program of its own.
+#[test]
+fn every_interleaving_is_an_order(rt: HostRuntime) -> Result<(), Fail> {
+    let alloc = rt.alloc();
+    let ends = [
+        (true, true, 11, 22),
+        (true, true, 3, 2),
+        (true, false, 11, 10),
+        (false, true, 1, 2),
+    ];
     let mut counts = [0u32; 4];
     let mut walks = Vec::new(alloc);
-    walks.push(start)?;
+    walks.push(Walk {
+        world: World::open(alloc, &[1, 10], 2)?,
+        at: [0, 0],
+        loaded: [[0, 0], [0, 0]],
+    })?;
     for _ in 0..u32::MAX {
         let Some(walk) = walks.pop() else { break };
-        let (first, second) = (turn(alloc, &walk, 0)?, turn(alloc, &walk, 1)?);
-        if first.is_none() && second.is_none() && !count_end(&mut counts, &walk.world) {
-            return Ok(None);
+        let first = turn(alloc, &walk, 0)?;
+        let second = turn(alloc, &walk, 1)?;
+        if first.is_none() && second.is_none() {
+            let committed = [!walk.world.conflicted(0), !walk.world.conflicted(1)];
+            let values = [
+                walk.world.value(0).unwrap_or(0),
+                walk.world.value(1).unwrap_or(0),
+            ];
+            let end = (committed[0], committed[1], values[0], values[1]);
+            let found = ends
+                .iter()
+                .position(|e| *e == end)
+                .ok_or("no order gives these values")?;
+            assert!(rt; found < 4 && counts[found] < u32::MAX);
+            counts[found] += 1;
         }
         for next in [first, second] {
             if let Some(next) = next {
@@ -401,19 +389,6 @@ fn ends_from(alloc: Global, start: Walk) -> Result<Option<[u32; 4]>, AllocError>
             }
         }
     }
-    Ok(Some(counts))
-}
-
-/// Each interleaving of the two transactions gives the values of one order of those that commit. How many interleavings end in which way was
-/// counted by a program of its own.
-#[test]
-fn every_interleaving_is_an_order(rt: HostRuntime) -> Result<(), Fail> {
-    let start = Walk {
-        world: World::open(rt.alloc(), &[1, 10], 2)?,
-        at: [0, 0],
-        loaded: [[0, 0], [0, 0]],
-    };
-    let counts = ends_from(rt.alloc(), start)?;
-    assert!(rt; counts == Some([15, 15, 138465, 138465]));
+    assert_eq!(rt; counts, [15, 15, 138465, 138465]);
     Ok(())
 }
