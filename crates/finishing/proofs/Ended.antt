@@ -24,7 +24,7 @@ use Rattle.lawful.specs.History.{history_of, IsHistoryOf, AllAgree}
 use Rattle.lawful.specs.Laws.{AreFree}
 use Rattle.lawful.proofs.Entries.{at_index, length-entries_of, histories_grow}
 use Rattle.lawful.proofs.Closed.{closed_histories_stand, closed_words_show}
-use Rattle.lawful.proofs.Naming.{named_shows}
+use Rattle.openings.proofs.Naming.{named_shows}
 use Rattle.transaction.specs.declared.closing.ClosedLibrary.{ClosedLibrary}
 use Rattle.transaction.specs.declared.outcome.Record.{Record}
 use Rattle.transaction.specs.Members.{Home, Member, IsMember, IsRecordIn, entry_recorded}

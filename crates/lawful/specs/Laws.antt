@@ -6,32 +6,28 @@ use Rattle.mmsyntax.specs.declared.statement.Kind.TheVariants.{Axiom}
 use Rattle.mmsyntax.specs.declared.statement.Assertion.{Assertion}
 use Rattle.library.specs.declared.library.Ranked.{Ranked}
 use Rattle.library.specs.declared.command.Command.{Command}
-use Rattle.library.specs.declared.command.Command.TheVariants.{Show}
 use Rattle.library.specs.declared.command.Reply.{Reply}
 use Rattle.library.specs.declared.reason.Refused.{Refused as Refusal}
-use Rattle.library.specs.Library.{IsSetting, Verifies, Listed, ShowsInOrder, ranked_from}
+use Rattle.library.specs.Library.{Listed, ShowsInOrder, ranked_from}
 use Rattle.library.specs.Fitting.{CommandFits}
 use Rattle.library.specs.Histories.{Grows, after_all}
 use Rattle.tlwords.specs.declared.closing.ClosedCell.{ClosedCell}
 use Rattle.tlwords.specs.declared.closing.ClosedWords.{ClosedWords}
 use Rattle.tlwords.specs.Seen.{Seen, SeenGrows, Call, Agree}
-use Rattle.tlwords.specs.Terms.{AreNamed}
 use Rattle.tlwords.specs.Known.{Known, Knows, Going, Stands}
 use Rattle.tlwords.specs.Closing.{Closes}
 use Rattle.ranges.specs.Pairs.{Pairs}
-use Rattle.ranges.specs.Ranges.{Range, Within, AreOfOneStore, ranges_named}
+use Rattle.ranges.specs.Ranges.{Range, Within, ranges_named}
 use Rattle.cells.specs.State.{State, most_words}
 use Rattle.cells.specs.Slots.{cell_count, is_ranged}
 use Rattle.cells.specs.Shows.{Shows}
 use Rattle.cells.specs.Sight.{Sight, Suits, Onward}
 use Rattle.cells.specs.Lookups.{ForEach}
-use Rattle.plaincells.specs.declared.plain.PlainCells.{PlainCells}
-use Rattle.plaincells.specs.Opening.{Opens}
 use Rattle.cells.specs.Answers.{DoesAll, RefusesAll}
 use Rattle.lawful.specs.declared.notes.Given.{Given}
 use Rattle.lawful.specs.declared.notes.Note.{Note}
 use Rattle.lawful.specs.declared.notes.Note.TheVariants.{Done, Refused, Looked}
-use Rattle.lawful.specs.Lawful.{setting_of, first_library, state_of, sight_of, OpensWell, Lawful, library_terms}
+use Rattle.lawful.specs.Lawful.{setting_of, first_library, state_of, sight_of, Lawful, library_terms}
 use Rattle.lawful.specs.History.{history_of, library_after, state_after, IsHistoryOf, AllAgree}
 
 -- a library stays shown where further ranges are finished, whatever the cells behind its own hold
@@ -45,13 +41,6 @@ abbrev pub LawfulIsKept : Type 0
 LawfulIsKept =
     (g : Given) (ranges more : List Range) (reads writes : Pairs) (note : Note) → Within ranges more
     → Lawful g ranges reads writes note → Lawful g more reads writes note
-
--- a transaction that shows an assertion and read nothing isn't lawful: a library without assertions may lie there as well
-abbrev pub UnreadIsUnlawful : Type 0
-UnreadIsUnlawful =
-    (g : Given) (ranges : List Range) (writes : Pairs) (commands : Snapshot (List Command)) (replies : Snapshot (List Reply))
-    → (label : List ℕ) → IsSetting (setting_of g) → AreOfOneStore most_words ranges → commands.value ≡ Show label ∷ []
-    → Lawful g ranges [] writes (Done commands replies) → ⊥
 
 -- ---- runs
 
@@ -72,16 +61,6 @@ abbrev pub LooksAreLawful : Type 0 → Type 0
 LooksAreLawful O =
     (g : Given) (s : Sight O) (library : Snapshot Listed) → s.setting ≡ setting_of g → s.writes ≡ [] → library.value.setting ≡ setting_of g
     → ForEach s (λ st lib. ShowsInOrder lib library.value.entries) → Lawful g s.ranges s.reads [] (Looked library)
-
--- ---- openings
-
--- where a database opened plain cells and its library verifies, these open words well: with the values of the cells, and the ranges of the
--- store that these name
-abbrev pub OpenedCellsOpenWell : Type 0
-OpenedCellsOpenWell =
-    (g : Given) (room : ℕ) (made : PlainCells) → Verifies (setting_of g) (first_library g) → Opens g.database.value g.slots room made
-    → OpensWell g (ranges_named (library_terms.ranged g) made.store.items made.values.items) made.values.items
-    × AreNamed library_terms g (ranges_named (library_terms.ranged g) made.store.items made.values.items) made.values.items
 
 -- ---- histories
 

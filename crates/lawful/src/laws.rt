@@ -1,7 +1,7 @@
 //! Laws of the definitions: each function does nothing, and its contract is the law.
 
-ghost use Rattle.lawful.specs.Laws.{ShownIsKept, LawfulIsKept, UnreadIsUnlawful, RunsAreLawful, LooksAreLawful};
-ghost use Rattle.lawful.specs.Laws.{OpenedCellsOpenWell, HistoriesGrow, SessionsStand, OtherCallsAgree, RunsSuit};
+ghost use Rattle.lawful.specs.Laws.{ShownIsKept, LawfulIsKept, RunsAreLawful, LooksAreLawful};
+ghost use Rattle.lawful.specs.Laws.{HistoriesGrow, SessionsStand, OtherCallsAgree, RunsSuit};
 ghost use Rattle.lawful.specs.Laws.{ClosedHistoriesStand, ClosedWordsShow, OneAssertionIsShown};
 
 /// Cells that show a library show it too where further ranges of the store are finished, whatever stands in cells behind the library's own.
@@ -14,11 +14,6 @@ pub fn lawful_is_kept()
     ensures { LawfulIsKept }
 {}
 
-/// A transaction that read nothing can't have shown an assertion: it isn't lawful, whatever it replied.
-pub fn unread_is_unlawful()
-    ensures { UnreadIsUnlawful }
-{}
-
 /// A run of commands on cells that ends with their replies, or is refused, is lawful: so a session may commit it. `Origin` is what such
 /// runs begin with.
 pub fn runs_are_lawful<Origin>()
@@ -29,12 +24,6 @@ pub fn runs_are_lawful<Origin>()
 /// it saw. `Origin` is what such runs begin with.
 pub fn looks_are_lawful<Origin>()
     ensures { LooksAreLawful Origin }
-{}
-
-/// Words may be opened with what a database's plain cells hold: their values show its library, and in range cells they name ranges of the
-/// store.
-pub fn opened_cells_open_well()
-    ensures { OpenedCellsOpenWell }
 {}
 
 /// Where more is seen of the words, the history of commands and replies is a later one: what was settled stays.

@@ -12,7 +12,6 @@ mod notes;
 pub use law::LibraryLaw;
 pub use laws::{
     closed_words_show, histories_grow, lawful_is_kept, looks_are_lawful, one_assertion_is_shown,
-    opened_cells_open_well, runs_are_lawful, runs_suit, sessions_stand, shown_is_kept,
-    unread_is_unlawful,
+    runs_are_lawful, runs_suit, sessions_stand, shown_is_kept,
 };
 pub use notes::{Given, Note};

@@ -28,7 +28,7 @@ use Rattle.lawful.specs.declared.notes.Note.{Note}
 use Rattle.lawful.specs.Lawful.{setting_of, first_library, OpensWell, library_terms}
 use Rattle.lawful.specs.History.{history_of}
 use Rattle.lawful.specs.Laws.{IsPassOn}
-use Rattle.lawful.proofs.Openings.{opened_cells_open_well}
+use Rattle.openings.proofs.Openings.{opened_cells_open_well}
 use Rattle.transaction.specs.declared.outcome.Record.{Record}
 use Rattle.transaction.specs.Members.{Home, Member, IsMember, IsRecordIn}
 use Rattle.transaction.specs.Openings.{IsNew, seated, AreSeated}

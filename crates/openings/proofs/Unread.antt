@@ -9,7 +9,7 @@ use Rattle.ranges.specs.Ranges.{Range}
 use Rattle.cells.specs.State.{State}
 use Rattle.plaincells.proofs.Empty.{shows_none, none_verifies}
 use Rattle.lawful.specs.Lawful.{setting_of}
-use Rattle.lawful.specs.Laws.{UnreadIsUnlawful}
+use Rattle.openings.specs.Laws.{UnreadIsUnlawful}
 
 abbrev zeros : List Range → State
 zeros ranges = record { value = λ c. 0; ranges = ranges }

@@ -11,8 +11,8 @@ use Rattle.cells.specs.Slots.{cell_count}
 use Rattle.plaincells.specs.Plain.{ranges_in}
 use Rattle.plaincells.proofs.Naming.{shown_names}
 use Rattle.plaincells.proofs.Stores.{place_of}
-use Rattle.lawful.specs.Laws.{OpenedCellsOpenWell}
-use Rattle.lawful.proofs.Naming.{named_shows}
+use Rattle.openings.specs.Laws.{OpenedCellsOpenWell}
+use Rattle.openings.proofs.Naming.{named_shows}
 
 -- the ranges at places are stored
 stored_at : (store : List ℕ) (places : List Place) (r : Range) → Has r (ranges_in store places) → IsStored (length store) store r

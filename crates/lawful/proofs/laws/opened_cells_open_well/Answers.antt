@@ -1,5 +1,0 @@
-use Rattle.lawful.proofs.Openings.{opened_cells_open_well}
-use Rattle.lawful.proofs.laws.opened_cells_open_well.Goals as goal
-
-pub returns : goal.returns
-returns c = opened_cells_open_well

@@ -1,5 +1,0 @@
-use Rattle.lawful.proofs.Unread.{unread_is_unlawful}
-use Rattle.lawful.proofs.laws.unread_is_unlawful.Goals as goal
-
-pub returns : goal.returns
-returns c = unread_is_unlawful
