@@ -2,6 +2,7 @@
 use Rattle.std.proofs.Common.{◌≡◌, ◌∙◌, Bool, true, false, cond, [], ◌∷◌, ◌++◌, None, Some, ap, refl, sym}
 use Rattle.std.specs.List.{list_any}
 use Rattle.std.specs.Str.{bytes_eq}
+use Rattle.mmtext.specs.declared.fault.FaultKind.{FaultKind}
 use Rattle.mmtext.specs.declared.fault.FaultKind.TheVariants.{BadToken}
 use Rattle.mmsyntax.specs.Rows.{Tests, first_fault}
 use Rattle.source.specs.Scopes.{label_of, mandatory}
@@ -20,11 +21,30 @@ behind_tests (t ∷ ts) us h =
     ] in
     head t.0 h
 
+-- the fault of tests, whatever stands behind them
+front_tests : (ts us : Tests) (f : FaultKind) → first_fault ts ≡ Some f → first_fault (ts ++ us) ≡ Some f
+front_tests [] us f h = absurd cc
+front_tests (t ∷ ts) us f h =
+    let head : (b : Bool) → cond b (Some t.1) (first_fault ts) ≡ Some f → cond b (Some t.1) (first_fault (ts ++ us)) ≡ Some f =
+    λ b. elim b as (λ b. cond b (Some t.1) (first_fault ts) ≡ Some f → cond b (Some t.1) (first_fault (ts ++ us)) ≡ Some f) [
+      | true ↦ λ e. e
+      | false ↦ λ e. front_tests ts us f e
+    ] in
+    head t.0 h
+
+pub returns-in-Some : goal.returns-in-Some
+returns-in-Some c = λ e marks.
+    let s = scope_of (kept_of c.args.tables.now) in
+    let w = c.args.word.now in
+    let named : first_fault (named_tests s w) ≡ Some c.in-Some.fault = sym (c.fault_of_named.ensures s c.sort_of-sort.ensures) ∙ c.in-Some.is in
+    sym (front_tests (named_tests s w) ((list_any (λ h. bytes_eq w (label_of h)) (mandatory s.hypotheses e), BadToken) ∷ []) c.in-Some.fault
+    named)
+
 pub returns-then-is_marked_label : goal.returns-then-is_marked_label
 returns-then-is_marked_label c = λ e marks.
     let s = scope_of (kept_of c.args.tables.now) in
     let w = c.args.word.now in
-    let named : first_fault (named_tests s w) ≡ None = sym (c.fault_of_named.ensures s c.sort_of.ensures) ∙ c.in_default.is in
+    let named : first_fault (named_tests s w) ≡ None = sym (c.fault_of_named.ensures s c.sort_of-sort.ensures) ∙ c.in_default.is in
     let label = sym (c.is_marked_label.ensures e marks) ∙ c.if-is_marked_label.true in
     sym (behind_tests (named_tests s w) ((list_any (λ h. bytes_eq w (label_of h)) (mandatory s.hypotheses e), BadToken) ∷ []) named
     ∙ ap (λ b. cond b (Some BadToken) None) label)
@@ -33,7 +53,7 @@ pub returns-else-is_marked_label : goal.returns-else-is_marked_label
 returns-else-is_marked_label c = λ e marks.
     let s = scope_of (kept_of c.args.tables.now) in
     let w = c.args.word.now in
-    let named : first_fault (named_tests s w) ≡ None = sym (c.fault_of_named.ensures s c.sort_of.ensures) ∙ c.in_default.is in
+    let named : first_fault (named_tests s w) ≡ None = sym (c.fault_of_named.ensures s c.sort_of-sort.ensures) ∙ c.in_default.is in
     let label = sym (c.is_marked_label.ensures e marks) ∙ c.if-is_marked_label.false in
     sym (behind_tests (named_tests s w) ((list_any (λ h. bytes_eq w (label_of h)) (mandatory s.hypotheses e), BadToken) ∷ []) named
     ∙ ap (λ b. cond b (Some BadToken) None) label)
