@@ -12,7 +12,6 @@ use Rattle.cells.specs.State.{most_words}
 use Rattle.plaincells.specs.declared.plain.PlainCells.{PlainCells}
 use Rattle.plaincells.specs.Opening.{Opens}
 use Rattle.lawful.specs.declared.notes.Given.{Given}
-use Rattle.lawful.specs.declared.notes.Note.{Note}
 use Rattle.lawful.specs.declared.notes.Note.TheVariants.{Done}
 use Rattle.lawful.specs.Lawful.{setting_of, first_library, OpensWell, Lawful, library_terms}
 
