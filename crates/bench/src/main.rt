@@ -1,7 +1,7 @@
-//! bench cells|check|words|sessions|meets|all WORD..: what is measured of this repository's crates, for the programs of `benches/`.
+//! bench cells|check|words|sessions|all WORD..: what is measured of this repository's crates, for the programs of `benches/`.
 //!
 //! `cells` measures libraries in cells, `check` reading and checking, `words` transactions over shared words, `sessions` scripts by many
-//! threads, and `meets` tells what scripts meet at once; the further words are told at each. `all DB SCRIPT SCRIPTS..` does a small run of each, and prints the same on the standard output
+//! threads; the further words are told at each. `all DB SCRIPT SCRIPTS..` does a small run of each, and prints the same on the standard output
 //! each time. The status is 1 where something fails, and 2 where the words aren't understood.
 #![tactic(auto)]
 
@@ -9,7 +9,6 @@ mod cell_work;
 mod check_work;
 mod ending;
 mod every_work;
-mod meet_work;
 mod session_work;
 mod texts;
 mod word_work;
@@ -25,7 +24,7 @@ use std::thread::Threads;
 use std::time::CpuClock;
 
 /// What is said where the words aren't understood.
-const USAGE: &str = "usage: bench cells|check|words|sessions|meets|all WORD..";
+const USAGE: &str = "usage: bench cells|check|words|sessions|all WORD..";
 
 /// Does what the command line asks for. It may wait.
 fn obey(
@@ -52,7 +51,6 @@ fn obey(
         "cells" => cell_work::obey(rt, words),
         "check" => Ok(check_work::obey(rt, words)),
         "words" => Ok(word_work::obey(rt, words)),
-        "meets" => meet_work::obey(rt, words),
         "sessions" => session_work::obey(rt, words),
         "all" => every_work::obey(rt, words),
         _ => Ok(ending::misused(rt, USAGE)),

@@ -14,7 +14,6 @@ mod work;
 use crate::ending::{Ending, failed, misused};
 use crate::session_work::task::Task;
 use crate::session_work::work::{Measured, measure};
-pub(crate) use crate::session_work::work::{ROOM, SLOTS, read_scripts};
 use crate::texts::read_files;
 use std::alloc::AllocError;
 use std::hash::RandomState;

@@ -22,10 +22,10 @@ use transaction::{Library, Record, Shape};
 use workers::{Open, Worked, run_scripts};
 
 /// The slots of a library.
-pub const SLOTS: usize = 4096;
+const SLOTS: usize = 4096;
 
 /// The most words that a store has room for.
-pub const ROOM: usize = 16_777_216;
+const ROOM: usize = 16_777_216;
 
 /// What was measured.
 #[derive(Clone, Copy)]
@@ -39,7 +39,7 @@ pub struct Measured {
 }
 
 /// Reads scripts; none where one has a fault, or where memory runs out.
-pub fn read_scripts(alloc: Global, prelude: &Prelude, texts: &[Vec<u8>]) -> Option<Vec<Script>>
+fn read_scripts(alloc: Global, prelude: &Prelude, texts: &[Vec<u8>]) -> Option<Vec<Script>>
     ensures { IfSome result (λ v. All (All (All (CommandFits prelude.now))) v.items) }
 {
     let mut scripts = Vec::new(alloc);
