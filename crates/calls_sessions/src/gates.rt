@@ -33,6 +33,18 @@ struct Waits {
     gave_up: AtomicBool,
 }
 
+impl Waits {
+    /// That script waits for the other one.
+    fn new(waiting: usize, awaited: usize) -> Waits {
+        Waits {
+            waiting,
+            awaited,
+            left: AtomicBool::new(false),
+            gave_up: AtomicBool::new(false),
+        }
+    }
+}
+
 impl Gate for Waits {
     fn enter(&self, script: usize) {
         if script != self.waiting {
@@ -55,16 +67,44 @@ impl Gate for Waits {
     }
 }
 
-/// So many scripts, each of which shows an assertion.
-fn shows(alloc: Global, library: &Library, count: usize) -> Result<Vec<Script>, Fail>
+/// The scripts of texts.
+fn scripts_of(alloc: Global, library: &Library, texts: &[&[u8]]) -> Result<Vec<Script>, Fail>
     ensures { IfOk result (λ scripts. All (All (All (CommandFits (setting_of library.now.given).prelude))) scripts.items) }
 {
     let prelude = library.prelude();
     let mut scripts = Vec::new(alloc);
-    for _ in 0..count {
-        scripts.push(read_script(alloc, prelude, b"begin show we commit")?)?;
+    for text in texts {
+        scripts.push(read_script(alloc, prelude, text)?)?;
     }
     Ok(scripts)
+}
+
+/// The outcomes of the scripts of texts, in a store with so much room, where so many sessions run them and a gate is told of them.
+fn outcomes_of<R: AllocGlobal + RandomSource + Threads + Wait + Sync, G: Gate + Sync>(
+    rt: &R,
+    room: usize,
+    workers: usize,
+    texts: &[&[u8]],
+    gate: &G,
+) -> Result<Vec<Vec<Outcome>>, Fail> {
+    let alloc = rt.alloc();
+    let (library, sessions) = opened(rt, mini(), room, workers)?;
+    if sessions.is_empty() {
+        return Err(Fail::from("there are sessions"));
+    }
+    let scripts = scripts_of(alloc, &library, texts)?;
+    match run_scripts(rt, alloc, &library, sessions, scripts.as_slice(), gate) {
+        Ok(Worked { outcomes, .. }) => Ok(outcomes),
+        Err(_) => Err(Fail::from("the scripts are run")),
+    }
+}
+
+/// Scripts each of which shows an assertion.
+const SHOWS: [&[u8]; 64] = [b"begin show we commit"; 64];
+
+/// Whether a script's one transaction read the library at its opening.
+fn is_read(outcomes: &[Outcome]) -> bool {
+    matches!(outcomes, [Outcome::Read { place: 0, .. }])
 }
 
 /// Whether as many sessions as scripts run all scripts, where one of these waits for another one's end.
@@ -74,49 +114,32 @@ fn run_where<R: AllocGlobal + RandomSource + Threads + Wait + Sync>(
     waiting: usize,
     awaited: usize,
 ) -> Result<bool, Fail> {
-    let alloc = rt.alloc();
-    let (library, sessions) = opened(rt, mini(), 7, count)?;
-    if sessions.is_empty() {
-        return Err(Fail::from("there are sessions"));
-    }
-    let gate = Waits {
-        waiting,
-        awaited,
-        left: AtomicBool::new(false),
-        gave_up: AtomicBool::new(false),
-    };
-    let scripts = shows(alloc, &library, count)?;
-    let worked = run_scripts(rt, alloc, &library, sessions, scripts.as_slice(), &gate);
-    let Ok(Worked { outcomes, .. }) = worked else {
-        return Err(Fail::from("the scripts are run"));
-    };
-    let read = |row: &Vec<Outcome>| matches!(row.as_slice(), [Outcome::Read { place: 0, .. }]);
-    Ok(outcomes.len() == count && outcomes.iter().all(read) && !gate.gave_up.load(SeqCst))
+    let texts = SHOWS.get(..count).ok_or("so many scripts")?;
+    let gate = Waits::new(waiting, awaited);
+    let outcomes = outcomes_of(rt, 7, count, texts, &gate)?;
+    let read = outcomes.iter().all(|row| is_read(row.as_slice()));
+    Ok(outcomes.len() == count && read && !gate.gave_up.load(SeqCst))
 }
 
 #[test]
 fn two_scripts_are_run_at_once(rt: HostRuntime) -> Result<(), Fail> {
-    assert!(rt; run_where(&rt, 2, 0, 1)?);
-    assert!(rt; run_where(&rt, 2, 1, 0)?);
+    assert!(rt; run_where(&rt, 2, 0, 1)? && run_where(&rt, 2, 1, 0)?);
     Ok(())
 }
 
 #[test]
 fn sixty_four_scripts_are_run_at_once(rt: HostRuntime) -> Result<(), Fail> {
-    assert!(rt; run_where(&rt, 64, 0, 63)?);
-    assert!(rt; run_where(&rt, 64, 63, 0)?);
+    assert!(rt; run_where(&rt, 64, 0, 63)? && run_where(&rt, 64, 63, 0)?);
     Ok(())
 }
 
 /// Two scripts, each of which gives the same assertion another label.
-fn renames(alloc: Global, library: &Library) -> Result<Vec<Script>, Fail>
-    ensures { IfOk result (λ scripts. All (All (All (CommandFits (setting_of library.now.given).prelude))) scripts.items) }
-{
-    let prelude = library.prelude();
-    let mut scripts = Vec::new(alloc);
-    scripts.push(read_script(alloc, prelude, b"begin rename we u commit")?)?;
-    scripts.push(read_script(alloc, prelude, b"begin rename we v commit")?)?;
-    Ok(scripts)
+const RENAMES: &[&[u8]] = &[b"begin rename we u commit", b"begin rename we v commit"];
+
+/// Whether a script's one transaction is the first entry, and that of the one behind it is refused there.
+fn is_before(first: &[Outcome], behind: &[Outcome]) -> bool {
+    matches!(first, [Outcome::Committed { number: 1, .. }])
+        && matches!(behind, [Outcome::Refused { place: 1, .. }])
 }
 
 /// Whether the awaited one of two scripts does what both ask for, and the waiting one comes behind it.
@@ -125,34 +148,19 @@ fn waits_at_its_begin<R: AllocGlobal + RandomSource + Threads + Wait + Sync>(
     waiting: usize,
     awaited: usize,
 ) -> Result<bool, Fail> {
-    let alloc = rt.alloc();
-    let (library, sessions) = opened(rt, mini(), 1000, 2)?;
-    if sessions.is_empty() {
-        return Err(Fail::from("there are sessions"));
+    let gate = Waits::new(waiting, awaited);
+    let outcomes = outcomes_of(rt, 1000, 2, RENAMES, &gate)?;
+    match (outcomes.get(awaited), outcomes.get(waiting)) {
+        (Some(first), Some(behind)) => Ok(
+            is_before(first.as_slice(), behind.as_slice()) && !gate.gave_up.load(SeqCst),
+        ),
+        _ => Ok(false),
     }
-    let gate = Waits {
-        waiting,
-        awaited,
-        left: AtomicBool::new(false),
-        gave_up: AtomicBool::new(false),
-    };
-    let scripts = renames(alloc, &library)?;
-    let worked = run_scripts(rt, alloc, &library, sessions, scripts.as_slice(), &gate);
-    let Ok(Worked { outcomes, .. }) = worked else {
-        return Err(Fail::from("the scripts are run"));
-    };
-    let (Some(before), Some(behind)) = (outcomes.get(awaited), outcomes.get(waiting)) else {
-        return Err(Fail::from("each script has its outcomes"));
-    };
-    let done = matches!(before.as_slice(), [Outcome::Committed { number: 1, .. }]);
-    let refused = matches!(behind.as_slice(), [Outcome::Refused { place: 1, .. }]);
-    Ok(done && refused && !gate.gave_up.load(SeqCst))
 }
 
 #[test]
 fn a_script_waits_before_its_first_transaction(rt: HostRuntime) -> Result<(), Fail> {
-    assert!(rt; waits_at_its_begin(&rt, 0, 1)?);
-    assert!(rt; waits_at_its_begin(&rt, 1, 0)?);
+    assert!(rt; waits_at_its_begin(&rt, 0, 1)? && waits_at_its_begin(&rt, 1, 0)?);
     Ok(())
 }
 
@@ -237,52 +245,42 @@ impl Gate for Log {
 }
 
 /// Three scripts, with two transactions, with none, and with one, which is refused.
-fn uneven(alloc: Global, library: &Library) -> Result<Vec<Script>, Fail>
-    ensures { IfOk result (λ scripts. All (All (All (CommandFits (setting_of library.now.given).prelude))) scripts.items) }
-{
-    let prelude = library.prelude();
-    let mut scripts = Vec::new(alloc);
-    scripts.push(read_script(alloc, prelude, b"begin show we commit begin show we commit")?)?;
-    scripts.push(read_script(alloc, prelude, b"")?)?;
-    scripts.push(read_script(alloc, prelude, b"begin show none commit")?)?;
-    Ok(scripts)
-}
+const UNEVEN: &[&[u8]] = &[
+    b"begin show we commit begin show we commit",
+    b"",
+    b"begin show none commit",
+];
 
 /// What a gate is told where so many workers run the three scripts.
 fn told_by<R: AllocGlobal + RandomSource + Threads + Wait + Sync>(
     rt: &R,
     workers: usize,
 ) -> Result<Log, Fail> {
-    let alloc = rt.alloc();
-    let (library, sessions) = opened(rt, mini(), 7, workers)?;
-    if sessions.is_empty() {
-        return Err(Fail::from("there are sessions"));
-    }
-    let log = Log::empty(alloc)?;
-    let scripts = uneven(alloc, &library)?;
-    if run_scripts(rt, alloc, &library, sessions, scripts.as_slice(), &log).is_err() {
-        return Err(Fail::from("the scripts are run"));
-    }
+    let log = Log::empty(rt.alloc())?;
+    outcomes_of(rt, 7, workers, UNEVEN, &log)?;
     Ok(log)
 }
 
 #[test]
 fn one_worker_tells_its_gate_of_each_script_in_turn(rt: HostRuntime) -> Result<(), Fail> {
-    let log = told_by(&rt, 1)?;
-    assert_eq!(rt;
-        log.all(rt.alloc())?.as_str(),
-        "0e 0p 0p 0l 1e 1l 2e 2p 2l "
-    );
+    let told = told_by(&rt, 1)?.all(rt.alloc())?;
+    assert!(rt; told.as_str() == "0e 0p 0p 0l 1e 1l 2e 2p 2l ");
     Ok(())
+}
+
+/// Whether a log has just the calls of the three scripts, those of each in their order.
+fn tells_of_three(alloc: Global, log: &Log) -> Result<bool, Fail> {
+    Ok(
+        log.count.load(SeqCst) == 9
+            && log.of(alloc, 0)?.as_str() == "eppl"
+            && log.of(alloc, 1)?.as_str() == "el"
+            && log.of(alloc, 2)?.as_str() == "epl",
+    )
 }
 
 #[test]
 fn two_workers_tell_a_gate_of_each_script(rt: HostRuntime) -> Result<(), Fail> {
-    let alloc = rt.alloc();
     let log = told_by(&rt, 2)?;
-    assert_eq!(rt; log.count.load(SeqCst), 9);
-    assert_eq!(rt; log.of(alloc, 0)?.as_str(), "eppl");
-    assert_eq!(rt; log.of(alloc, 1)?.as_str(), "el");
-    assert_eq!(rt; log.of(alloc, 2)?.as_str(), "epl");
+    assert!(rt; tells_of_three(rt.alloc(), &log)?);
     Ok(())
 }

@@ -31,7 +31,7 @@ const REFUSED: &[u8] = b"begin add 200 t $p wff $= we $. list delete no commit";
 const MOVES: &[u8] = b"begin move we 101 commit begin move we 100 commit";
 
 /// What became of tries.
-#[derive(Clone, Copy, Debug, PartialEq, Eq)]
+#[derive(Clone, Copy)]
 struct Tries {
     conflicts: usize,
     /// That were neither conflicts nor refused.
@@ -136,6 +136,46 @@ fn meet<R: Threads + Sync>(
     )
 }
 
+/// Whether a try of the refused transaction is refused at the opening.
+fn is_refused_first(alloc: Global, library: &Library, session: &mut Session) -> Result<bool, Fail>
+    requires { IsOf library.now session.old }
+    ensures { IsOf library.now session.new }
+{
+    let outcome = tried(alloc, library, session, REFUSED)?;
+    Ok(matches!(outcome, Outcome::Refused { place: 0, .. }))
+}
+
+/// Whether a session finds no word left, and one that has staged an addition has the words of that.
+fn finds_what_was_staged(
+    alloc: Global,
+    library: &Library,
+    mut one: Session,
+    mut other: Session,
+) -> Result<bool, Fail>
+    requires one { IsOf library.now one }
+    requires other { IsOf library.now other }
+{
+    let none_left = tried(alloc, library, &mut other, b"begin rename we wf commit")?;
+    let addition = b"begin add 200 t $p wff $= we $. commit";
+    let staged = tried(alloc, library, &mut one, addition)?;
+    Ok(matches!(none_left, Outcome::StoreFull) && matches!(staged, Outcome::Committed { .. }))
+}
+
+/// Whether the tries of the one met their conflicts and were refused else, and then no word is left but for what it staged.
+fn took_no_word(alloc: Global, library: &Library, met: Met) -> Result<bool, Fail>
+    requires one { IfSome met.0 (λ made. IsOf library.now made.0) }
+    requires other { IfSome met.1 (IsOf library.now) }
+{
+    let (Some((one, tries)), Some(other)) = met else {
+        return Err(Fail::from("the scripts are read"));
+    };
+    Ok(
+        tries.conflicts == CONFLICTS
+            && tries.others == 0
+            && finds_what_was_staged(alloc, library, one, other)?,
+    )
+}
+
 #[test]
 fn conflicted_tries_take_no_further_word(rt: HostRuntime) -> Result<(), Fail> {
     let alloc = rt.alloc();
@@ -143,26 +183,9 @@ fn conflicted_tries_take_no_further_word(rt: HostRuntime) -> Result<(), Fail> {
     let (library, mut sessions) = opened(&rt, mini(), 14, 2)?;
     let mut one = last(&library, &mut sessions)?;
     let other = last(&library, &mut sessions)?;
-    let outcome = tried(alloc, &library, &mut one, REFUSED)?;
-    assert!(rt; matches!(outcome, Outcome::Refused { place: 0, .. }));
+    let refused = is_refused_first(alloc, &library, &mut one)?;
     let done = AtomicBool::new(false);
-    let (one, other) = meet(&rt, alloc, &library, one, other, &done);
-    let Some((mut one, tries)) = one else {
-        return Err(Fail::from("the refused script is read"));
-    };
-    let Some(mut other) = other else {
-        return Err(Fail::from("the script of moves is read"));
-    };
-    assert_eq!(rt; (tries.conflicts, tries.others), (CONFLICTS, 0));
-    // Now no word is left, but for what is staged.
-    let outcome = tried(alloc, &library, &mut other, b"begin rename we wf commit")?;
-    assert!(rt; matches!(outcome, Outcome::StoreFull));
-    let outcome = tried(
-        alloc,
-        &library,
-        &mut one,
-        b"begin add 200 t $p wff $= we $. commit",
-    )?;
-    assert!(rt; matches!(outcome, Outcome::Committed { .. }));
+    let met = meet(&rt, alloc, &library, one, other, &done);
+    assert!(rt; refused && took_no_word(alloc, &library, met)?);
     Ok(())
 }

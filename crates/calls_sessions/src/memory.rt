@@ -118,35 +118,48 @@ fn a_deletion_is_tried_again(rt: HostRuntime) -> Result<(), Fail> {
     Ok(())
 }
 
+/// Whether an outcome shows `th1` at the opening.
+fn shows_th1(outcome: &Outcome) -> bool {
+    let Outcome::Read { place: 0, replies } = outcome else {
+        return false;
+    };
+    let [Reply::Shown { citers: 0, shown }] = replies.as_slice() else {
+        return false;
+    };
+    shown.rank == 800 && shown.assertion.proof.as_slice().len() == 34
+}
+
 #[test]
 fn what_is_shown_is_tried_again(rt: HostRuntime) -> Result<(), Fail> {
-    match tried_on_demo(&rt, b"begin show th1 commit")? {
-        Outcome::Read { place: 0, replies } => {
-            let [Reply::Shown { citers: 0, shown }] = replies.as_slice() else {
-                return Err(Fail::from("the assertion is shown"));
-            };
-            assert_eq!(rt;
-                (shown.rank, shown.assertion.proof.as_slice().len()),
-                (800, 34)
-            );
-        }
-        _ => return Err(Fail::from("it is read at the place 0")),
-    }
+    let outcome = tried_on_demo(&rt, b"begin show th1 commit")?;
+    assert!(rt; shows_th1(&outcome));
     Ok(())
+}
+
+/// Whether an outcome lists eight assertions at the opening.
+fn lists_eight(outcome: &Outcome) -> bool {
+    let Outcome::Read { place: 0, replies } = outcome else {
+        return false;
+    };
+    let [Reply::Listed { lines }] = replies.as_slice() else {
+        return false;
+    };
+    lines.as_slice().len() == 8
 }
 
 #[test]
 fn a_list_is_tried_again(rt: HostRuntime) -> Result<(), Fail> {
-    match tried_on_demo(&rt, b"begin list commit")? {
-        Outcome::Read { place: 0, replies } => {
-            let [Reply::Listed { lines }] = replies.as_slice() else {
-                return Err(Fail::from("the assertions are listed"));
-            };
-            assert_eq!(rt; lines.as_slice().len(), 8);
-        }
-        _ => return Err(Fail::from("it is read at the place 0")),
-    }
+    let outcome = tried_on_demo(&rt, b"begin list commit")?;
+    assert!(rt; lists_eight(&outcome));
     Ok(())
+}
+
+/// Whether an outcome is the first entry of the history, with eight replies.
+fn is_first_of_eight(outcome: &Outcome) -> bool {
+    match outcome {
+        Outcome::Committed { number: 1, replies } => replies.as_slice().len() == 8,
+        _ => false,
+    }
 }
 
 #[test]
@@ -155,10 +168,8 @@ fn all_commands_are_tried_again(rt: HostRuntime) -> Result<(), Fail> {
 reprove th2 $= tze tze tpl tze weq tze tze weq tze a2 tze tze tpl tze weq tze tze tpl tze weq tze tze weq wim
 tze a2 tze tze tpl tze tze a1 mp mp $.
 replace th2 a2 a2 rename th2 zero move zero 901 show zero list delete zero commit";
-    match tried_on_demo(&rt, script)? {
-        Outcome::Committed { number: 1, replies } => assert_eq!(rt; replies.as_slice().len(), 8),
-        _ => return Err(Fail::from("it is the first entry")),
-    }
+    let outcome = tried_on_demo(&rt, script)?;
+    assert!(rt; is_first_of_eight(&outcome));
     Ok(())
 }
 
@@ -168,10 +179,8 @@ fn all_commands_on_rules_are_tried_again(rt: HostRuntime) -> Result<(), Fail> {
         b"begin add 500 ${ $d x y $. th3.1 $e |- x y $. th3 $p |- x y x $= wx wy th3.1 th2 $. $}
 reprove th3 $= wx wy th3.1 th $.
 replace th3 th th rename th3 rule move rule 501 show rule list delete rule commit";
-    match tried_on(&rt, rules(rt.alloc())?.as_slice(), script)? {
-        Outcome::Committed { number: 1, replies } => assert_eq!(rt; replies.as_slice().len(), 8),
-        _ => return Err(Fail::from("it is the first entry")),
-    }
+    let outcome = tried_on(&rt, rules(rt.alloc())?.as_slice(), script)?;
+    assert!(rt; is_first_of_eight(&outcome));
     Ok(())
 }
 
@@ -193,14 +202,14 @@ fn opened_again(
 #[test]
 fn a_library_is_opened_again(rt: HostRuntime) -> Result<(), Fail> {
     let made = opened_again(&rt, demo(rt.alloc())?.as_slice())?;
-    assert_eq!(rt; made, Ok(2));
+    assert!(rt; made == Ok(2));
     Ok(())
 }
 
 #[test]
 fn a_library_of_rules_is_opened_again(rt: HostRuntime) -> Result<(), Fail> {
     let made = opened_again(&rt, rules(rt.alloc())?.as_slice())?;
-    assert_eq!(rt; made, Ok(2));
+    assert!(rt; made == Ok(2));
     Ok(())
 }
 

@@ -1,43 +1,51 @@
 //! Databases: copies, and the longest text.
 
-use mmstatement::{FaultKind, TextFault, read_database, write_database};
+use mmstatement::{Database, FaultKind, TextFault, read_database, write_database};
 use samples::{database, small};
+use std::alloc::{AllocError, Global};
 use std::hash::RandomState;
 use std::test::Fail;
 
-#[test]
-fn a_copied_database_is_equal(rt: HostRuntime) -> Result<(), Fail> {
-    let db = database(&rt, small())?;
-    let copy = db.copy(rt.alloc())?;
-    let text = write_database(rt.alloc(), &copy)?;
-    assert_eq!(rt; text.as_slice(), small());
-    Ok(())
+/// Whether a copy of the database of `small` has its text, and a copy of its second `$f` its words.
+fn copies_are_equal(alloc: Global, db: &Database) -> Result<bool, AllocError> {
+    let text = write_database(alloc, &db.copy(alloc)?)?;
+    let Some(float) = db.prelude().floats().get(1) else {
+        return Ok(false);
+    };
+    let float = float.copy(alloc)?;
+    Ok(
+        text.as_slice() == small()
+            && float.label.as_slice() == b"wy".as_slice()
+            && float.type_code == 0
+            && float.variable == 1,
+    )
 }
 
 #[test]
-fn a_copied_float_is_equal(rt: HostRuntime) -> Result<(), Fail> {
+fn a_copy_is_equal(rt: HostRuntime) -> Result<(), Fail> {
     let db = database(&rt, small())?;
-    let float = db.prelude().floats().get(1).ok_or("two $f")?;
-    let copy = float.copy(rt.alloc())?;
-    assert_eq!(rt; copy.label.as_slice(), b"wy".as_slice());
-    assert_eq!(rt; (copy.type_code, copy.variable), (0, 1));
+    assert!(rt; copies_are_equal(rt.alloc(), &db)?);
     Ok(())
 }
 
-/// The fault of a text, if it has one.
-fn fault_of(rt: &HostRuntime, text: &[u8]) -> Result<Option<TextFault>, Fail> {
-    Ok(read_database(rt.alloc(), RandomState::new(rt)?, text).err())
-}
-
-fn at(kind: FaultKind, place: usize) -> Option<TextFault> {
-    Some(TextFault { place, kind })
+/// Whether a text of so many bytes, none of which stands in texts, has this fault.
+fn is_faulty(
+    alloc: Global,
+    keys: RandomState,
+    length: usize,
+    kind: FaultKind,
+    place: usize,
+) -> Result<bool, AllocError> {
+    let text = vec![in alloc; 128; length]?;
+    let fault = read_database(alloc, keys, text.as_slice()).err();
+    Ok(fault == Some(TextFault { place, kind }))
 }
 
 #[test]
 fn a_longer_text_is_not_read(rt: HostRuntime) -> Result<(), Fail> {
-    let mut big = vec![in rt.alloc(); 128; 16_777_216]?;
-    assert_eq!(rt; fault_of(&rt, &big)?, at(FaultKind::BadByte, 0));
-    big.push(128)?;
-    assert_eq!(rt; fault_of(&rt, &big)?, at(FaultKind::TooLong, 16_777_216));
+    let keys = RandomState::new(&rt)?;
+    let longest = is_faulty(rt.alloc(), keys, 16_777_216, FaultKind::BadByte, 0)?;
+    let longer = is_faulty(rt.alloc(), keys, 16_777_217, FaultKind::TooLong, 16_777_216)?;
+    assert!(rt; longest && longer);
     Ok(())
 }

@@ -4,12 +4,10 @@ use crate::editors::{editor, library};
 use export::{ExportError, export};
 use library::PlainLibrary;
 use samples::{demo, mini};
-use std::alloc::{AllocError, AllocGlobal, Global};
+use std::alloc::{AllocError, Global};
 use std::io;
 use std::io::{ErrorKind, Write};
-use std::random::RandomSource;
 use std::test::Fail;
-use std::thread::Threads;
 
 /// A writer in memory that takes at most so many bytes at a call, and fails at one call.
 #[derive(Drop)]
@@ -51,43 +49,65 @@ impl Write for Slow {
     }
 }
 
-/// What the export of a text's library answers, and the writer behind it.
-fn exported(
-    rt: &(impl AllocGlobal + RandomSource + Threads + Sync),
-    text: &[u8],
+/// A writer, and what comes of the export of the library of `mini` to it.
+struct Row {
     most: usize,
     fails_at: usize,
-) -> Result<(Result<(), ExportError>, Slow), Fail> {
-    let library = library(rt, text)?;
-    let mut writer = Slow::new(rt.alloc(), most, fails_at);
-    let answer = export(rt.alloc(), &library, &mut writer);
-    Ok((answer, writer))
+    answer: Result<(), ExportError>,
+    /// How many bytes it holds then, and how often it was called to take some.
+    held: usize,
+    calls: usize,
+}
+
+/// One that fails at its third call, one that takes nothing, and one that takes a byte at a call.
+const ROWS: [Row; 3] = [
+    Row {
+        most: 7,
+        fails_at: 3,
+        answer: Err(ExportError::Write { written: 14 }),
+        held: 14,
+        calls: 3,
+    },
+    Row {
+        most: 0,
+        fails_at: 0,
+        answer: Err(ExportError::Write { written: 0 }),
+        held: 0,
+        calls: 1,
+    },
+    Row {
+        most: 1,
+        fails_at: 0,
+        answer: Ok(()),
+        held: 23,
+        calls: 23,
+    },
+];
+
+/// Whether that comes of the export to the writer of a row. Nothing is called behind an error.
+fn is_exported_so(alloc: Global, library: &PlainLibrary, row: &Row) -> bool {
+    let mut writer = Slow::new(alloc, row.most, row.fails_at);
+    let answer = export(alloc, library, &mut writer);
+    answer == row.answer
+        && Some(writer.held.as_slice()) == mini().get(..row.held)
+        && writer.calls == row.calls
+        && writer.flushes == 0
+}
+
+/// Whether it does at each row.
+fn are_exported_so(alloc: Global, library: &PlainLibrary) -> bool {
+    for row in &ROWS {
+        if !is_exported_so(alloc, library, row) {
+            return false;
+        }
+    }
+    true
 }
 
 #[test]
 fn nothing_is_called_behind_an_error(rt: HostRuntime) -> Result<(), Fail> {
-    let (answer, writer) = exported(&rt, mini(), 7, 3)?;
-    assert_eq!(rt; answer, Err(ExportError::Write { written: 14 }));
-    assert_eq!(rt; Some(writer.held.as_slice()), mini().get(..14));
-    assert_eq!(rt; (writer.calls, writer.flushes), (3, 0));
-    Ok(())
-}
-
-#[test]
-fn nothing_is_taken(rt: HostRuntime) -> Result<(), Fail> {
-    let (answer, writer) = exported(&rt, mini(), 0, 0)?;
-    assert_eq!(rt; answer, Err(ExportError::Write { written: 0 }));
-    assert!(rt; writer.held.is_empty());
-    assert_eq!(rt; (writer.calls, writer.flushes), (1, 0));
-    Ok(())
-}
-
-#[test]
-fn one_byte_a_call_is_taken(rt: HostRuntime) -> Result<(), Fail> {
-    let (answer, writer) = exported(&rt, mini(), 1, 0)?;
-    assert_eq!(rt; answer, Ok(()));
-    assert_eq!(rt; writer.held.as_slice(), mini());
-    assert_eq!(rt; (writer.calls, writer.flushes), (23, 0));
+    let library = library(&rt, mini())?;
+    assert!(rt; are_exported_so(rt.alloc(), &library));
     Ok(())
 }
 
@@ -114,7 +134,7 @@ fn each_call_may_fail(rt: HostRuntime) -> Result<(), Fail> {
     let Ok(editor) = editor(&rt, text.as_slice(), 8)? else {
         return Err(Fail::from("the editor opens"));
     };
-    assert_eq!(rt; failures(rt.alloc(), &editor.into_library())?, text.len());
+    assert!(rt; failures(rt.alloc(), &editor.into_library())? == text.len());
     Ok(())
 }
 
@@ -129,14 +149,21 @@ fn long(alloc: Global) -> Result<Vec<u8>, AllocError> {
     Ok(text)
 }
 
+/// Whether the export of the library of a text of 1,114,118 bytes, by 4,096 at a call, gives the text.
+fn is_taken_whole(alloc: Global, library: &PlainLibrary, text: &[u8]) -> bool {
+    let mut writer = Slow::new(alloc, 4_096, 0);
+    // 272 times 4,096 bytes, and 6.
+    export(alloc, library, &mut writer).is_ok()
+        && text.len() == 1_114_118
+        && writer.held.as_slice() == text
+        && writer.calls == 273
+        && writer.flushes == 0
+}
+
 #[test]
 fn a_megabyte_is_taken(rt: HostRuntime) -> Result<(), Fail> {
     let text = long(rt.alloc())?;
-    let (answer, writer) = exported(&rt, &text, 4_096, 0)?;
-    assert_eq!(rt; answer, Ok(()));
-    assert_eq!(rt; writer.held.len(), 1_114_118);
-    // 272 times 4,096 bytes, and 6.
-    assert_eq!(rt; (writer.calls, writer.flushes), (273, 0));
-    assert!(rt; writer.held.as_slice() == text.as_slice());
+    let library = library(&rt, text.as_slice())?;
+    assert!(rt; is_taken_whole(rt.alloc(), &library, text.as_slice()));
     Ok(())
 }

@@ -5,52 +5,51 @@ use library::{Reason, Refused};
 use mmstatement::{FaultKind, SubstituteError};
 use mmtext::Stop;
 use proofcheck::ProofFaultKind;
+use std::alloc::{AllocError, Global};
+use std::fmt::Display;
 use std::test::Fail;
 
-#[test]
-fn want_of_memory_is_named(rt: HostRuntime) -> Result<(), Fail> {
-    let (text, proof) = (FaultKind::NoMemory, ProofFaultKind::NoMemory);
-    assert_eq!(rt; format!(in rt.alloc(); "{text}")?.as_str(), "10 NoMemory");
-    assert_eq!(rt; format!(in rt.alloc(); "{proof}")?.as_str(), "9 NoMemory");
-    Ok(())
+/// Whether a fault is told by this text.
+fn is_told(alloc: Global, fault: &impl Display, text: &str) -> Result<bool, AllocError> {
+    Ok(format!(in alloc; "{fault}")?.as_str() == text)
+}
+
+/// Whether the faults of texts, proofs and substitutions are told by their numbers and names.
+fn are_named(alloc: Global) -> Result<bool, AllocError> {
+    Ok(
+        is_told(alloc, &FaultKind::NoMemory, "10 NoMemory")?
+            && is_told(alloc, &ProofFaultKind::NoMemory, "9 NoMemory")?
+            && is_told(alloc, &SubstituteError::TooLong, "1 TooLong")?
+            && is_told(alloc, &SubstituteError::NoMemory, "2 NoMemory")?
+            && is_told(alloc, &Stop::Memory, "out of memory")?,
+    )
 }
 
 #[test]
-fn errors_of_substitution_are_named(rt: HostRuntime) -> Result<(), Fail> {
-    let (long, memory) = (SubstituteError::TooLong, SubstituteError::NoMemory);
-    assert_eq!(rt; format!(in rt.alloc(); "{long}")?.as_str(), "1 TooLong");
-    assert_eq!(rt; format!(in rt.alloc(); "{memory}")?.as_str(), "2 NoMemory");
+fn faults_are_named(rt: HostRuntime) -> Result<(), Fail> {
+    assert!(rt; are_named(rt.alloc())?);
     Ok(())
+}
+
+/// What the editor says of a third command that is refused.
+fn refused() -> ApplyError {
+    ApplyError::Refused(Refused {
+        index: 2,
+        reason: Reason::StillCited(3),
+    })
+}
+
+/// Whether the errors of the editor are told by their texts.
+fn are_told(alloc: Global) -> Result<bool, AllocError> {
+    Ok(
+        is_told(alloc, &refused(), "command 2 is refused: 8 StillCited 3")?
+            && is_told(alloc, &OpenError::TooMany, "more assertions than slots")?
+            && is_told(alloc, &ReplayError::Differs(7), "entry 7 differs")?,
+    )
 }
 
 #[test]
 fn errors_of_the_editor_are_told(rt: HostRuntime) -> Result<(), Fail> {
-    let refused = ApplyError::Refused(Refused {
-        index: 2,
-        reason: Reason::StillCited(3),
-    });
-    let full = OpenError::TooMany;
-    assert_eq!(rt;
-        format!(in rt.alloc(); "{refused}")?.as_str(),
-        "command 2 is refused: 8 StillCited 3"
-    );
-    assert_eq!(rt;
-        format!(in rt.alloc(); "{full}")?.as_str(),
-        "more assertions than slots"
-    );
-    Ok(())
-}
-
-#[test]
-fn errors_of_replays_and_readers_are_told(rt: HostRuntime) -> Result<(), Fail> {
-    let (differs, memory) = (ReplayError::Differs(7), Stop::Memory);
-    assert_eq!(rt;
-        format!(in rt.alloc(); "{differs}")?.as_str(),
-        "entry 7 differs"
-    );
-    assert_eq!(rt;
-        format!(in rt.alloc(); "{memory}")?.as_str(),
-        "out of memory"
-    );
+    assert!(rt; are_told(rt.alloc())?);
     Ok(())
 }

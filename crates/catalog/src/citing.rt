@@ -46,6 +46,31 @@ fn copy_expressions(alloc: Global, expressions: &[Expr]) -> Result<Sequence<Expr
     Ok(Sequence::from_vec(made))
 }
 
+/// What an assertion says, without its label and its proof.
+#[derive(Drop)]
+struct Said {
+    pairs: Sequence<(u32, u32)>,
+    hyps: Sequence<Expr>,
+    statement: Expr,
+}
+
+fn copy_said(alloc: Global, assertion: &Assertion) -> Result<Said, AllocError>
+    ensures { IfOk result (λ made. made ≡ record {
+      pairs = assertion.now.pairs;
+      hyps = assertion.now.hyps;
+      statement = assertion.now.statement;
+    }) }
+{
+    let pairs = assertion.pairs.copy(alloc)?;
+    let hyps = copy_expressions(alloc, assertion.hyps.as_slice())?;
+    let statement = assertion.statement.copy(alloc)?;
+    Ok(Said {
+        pairs,
+        hyps,
+        statement,
+    })
+}
+
 /// An assertion with another proof: the proof that it has isn't copied.
 ///
 /// # Errors
@@ -54,15 +79,16 @@ fn copy_expressions(alloc: Global, expressions: &[Expr]) -> Result<Sequence<Expr
 pub fn reproved(alloc: Global, entry: &Ranked, proof: Sequence<Step>) -> Result<Ranked, AllocError>
     ensures { IfOk result (λ made. made ≡ with_proof proof entry.now) }
 {
-    let assertion = &entry.assertion;
+    let label = entry.assertion.label.copy(alloc)?;
+    let said = copy_said(alloc, &entry.assertion)?;
     Ok(Ranked {
         rank: entry.rank,
         assertion: Assertion {
-            label: assertion.label.copy(alloc)?,
-            kind: assertion.kind,
-            pairs: assertion.pairs.copy(alloc)?,
-            hyps: copy_expressions(alloc, assertion.hyps.as_slice())?,
-            statement: assertion.statement.copy(alloc)?,
+            label,
+            kind: entry.assertion.kind,
+            pairs: said.pairs,
+            hyps: said.hyps,
+            statement: said.statement,
             proof,
         },
     })

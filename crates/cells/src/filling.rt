@@ -2,9 +2,9 @@
 
 ghost use Rattle.std.specs.Prelude.{◌≡◌, ◌≢◌, ◌<◌, [], length, true, false, IfOk};
 ghost use Rattle.mmsyntax.specs.declared.statement.Kind.TheVariants.{Theorem};
-ghost use Rattle.bodystore.specs.Bodies.{proof_body};
+ghost use Rattle.bodystore.specs.Bodies.{label_body, proof_body, statement_body, statement_of};
 ghost use Rattle.cells.specs.State.{State, HasBody, with_value};
-ghost use Rattle.cells.specs.Slots.{cell_count, is_ranged, name_cell, proof_cell};
+ghost use Rattle.cells.specs.Slots.{cell_count, is_ranged, name_cell, proof_cell, statement_cell};
 ghost use Rattle.cells.specs.Sight.{Sight, WasWritten, ForEachState, Turns, KeepsOthers, Onward, TakesAtMost, ReadsWithin, after};
 ghost use Rattle.cells.specs.Filling.{bodies_length, FillsAny, IsFillable, LaysAnyDown, LaysProof, Empties};
 ghost use Rattle.cells.specs.Aside.{KeepsAside, IsOfSlot, IsOfFilling};
@@ -71,13 +71,55 @@ fn lay_down<C: Cells>(
     ensures reads { ReadsWithin (IsOfSlot slot) (C.sight cells.old) (C.sight cells.new) }
 {
     let _slots = slot_count(cells);
-    let label = encode_label(alloc, assertion.label.as_slice())?;
-    put_body(cells, name_cell(slot), label.as_slice()).map_err(Halt::Stopped)?;
-    let statement = encode_statement(alloc, assertion)?;
-    put_body(cells, statement_cell(slot), statement.as_slice()).map_err(Halt::Stopped)?;
+    put_label(alloc, cells, slot, assertion.label.as_slice())?;
+    put_statement(alloc, cells, slot, assertion)?;
     put_proof(alloc, cells, slot, assertion.kind, steps)?;
     put(cells, rank_cell(slot), rank as u64).map_err(Halt::Stopped)?;
     put(cells, citers_cell(slot), 0).map_err(Halt::Stopped)
+}
+
+/// Stages a label and has the name cell of a slot name it.
+fn put_label<C: Cells>(
+    alloc: Global,
+    cells: &mut C,
+    slot: usize,
+    label: &[u8],
+) -> Result<(), Halt<C::Stop>>
+    requires may { ((C.sight cells.old).may_write ≡ true) × ((C.sight cells.old).may_stage ≡ true) }
+    requires slot { slot < (C.sight cells.old).setting.slots }
+    requires some { label.now ≢ [] }
+    ensures onward { Onward (C.sight cells.old) (C.sight cells.new) }
+    ensures ok { IfOk result (λ _. ForEachState (C.sight cells.new) (λ st. HasBody st (name_cell slot) (label_body label.now))) }
+    ensures others { IfOk result (λ _. KeepsOthers (name_cell slot) (C.sight cells.old) (C.sight cells.new)) }
+    ensures written { IfOk result (λ _. WasWritten (C.sight cells.new) (name_cell slot)) }
+    ensures taken { TakesAtMost (length (label_body label.now)) (C.sight cells.old) (C.sight cells.new) }
+    ensures keeps { IfOk result (λ _. KeepsAside (λ c. c ≡ name_cell slot) (C.sight cells.old) (C.sight cells.new)) }
+    ensures reads { ReadsWithin (λ c. c ≡ name_cell slot) (C.sight cells.old) (C.sight cells.new) }
+{
+    let _slots = slot_count(cells);
+    let words = encode_label(alloc, label)?;
+    put_body(cells, name_cell(slot), words.as_slice()).map_err(Halt::Stopped)
+}
+
+/// Stages the statement of an assertion and has the statement cell of a slot name it.
+fn put_statement<C: Cells>(
+    alloc: Global,
+    cells: &mut C,
+    slot: usize,
+    assertion: &Assertion,
+) -> Result<(), Halt<C::Stop>>
+    requires may { ((C.sight cells.old).may_write ≡ true) × ((C.sight cells.old).may_stage ≡ true) }
+    requires slot { slot < (C.sight cells.old).setting.slots }
+    ensures onward { Onward (C.sight cells.old) (C.sight cells.new) }
+    ensures ok { IfOk result (λ _. ForEachState (C.sight cells.new) (λ st. HasBody st (statement_cell slot) (statement_body (statement_of assertion.now)))) }
+    ensures others { IfOk result (λ _. KeepsOthers (statement_cell slot) (C.sight cells.old) (C.sight cells.new)) }
+    ensures taken { TakesAtMost (length (statement_body (statement_of assertion.now))) (C.sight cells.old) (C.sight cells.new) }
+    ensures keeps { IfOk result (λ _. KeepsAside (λ c. c ≡ statement_cell slot) (C.sight cells.old) (C.sight cells.new)) }
+    ensures reads { ReadsWithin (λ c. c ≡ statement_cell slot) (C.sight cells.old) (C.sight cells.new) }
+{
+    let _slots = slot_count(cells);
+    let words = encode_statement(alloc, assertion)?;
+    put_body(cells, statement_cell(slot), words.as_slice()).map_err(Halt::Stopped)
 }
 
 /// Stages the steps of a theorem and has the proof cell of its slot name them; nothing where the assertion is an axiom.

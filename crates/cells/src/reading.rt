@@ -252,8 +252,8 @@ pub fn entry<C: Cells>(alloc: Global, cells: &mut C, slot: usize) -> Result<Rank
     ensures ok { IfOk result (λ made. ForEachHeld (C.sight cells.new) slot (λ st lib e. made ≡ e)) }
     ensures reads { ForEachHeld (C.sight cells.new) slot (λ st lib e. ReadsWithin (λ c. (c ≡ rank_cell slot) ⊎ IsOfAssertion (C.sight cells.old).setting.slots slot e.assertion.proof st c) (C.sight cells.old) (C.sight cells.new)) }
 {
-    let assertion = assertion(alloc, cells, slot)?;
     let rank = rank(cells, slot).map_err(Halt::Stopped)?;
+    let assertion = assertion(alloc, cells, slot)?;
     Ok(Ranked { rank, assertion })
 }
 

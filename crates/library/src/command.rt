@@ -98,37 +98,75 @@ impl Command {
     pub fn copy(&self, alloc: Global) -> Result<Command, AllocError>
         ensures { IfOk result (λ made. made ≡ self.now) }
     {
-        Ok(match self {
-            Command::Add { rank, assertion } => Command::Add {
-                rank: *rank,
-                assertion: assertion.copy(alloc)?,
-            },
-            Command::Reprove { label, steps } => Command::Reprove {
-                label: label.copy(alloc)?,
-                steps: copy_steps(alloc, steps.as_slice())?,
-            },
-            Command::Replace { label, old, new } => Command::Replace {
-                label: label.copy(alloc)?,
-                old: old.copy(alloc)?,
-                new: new.copy(alloc)?,
-            },
-            Command::Rename { old, new } => Command::Rename {
-                old: old.copy(alloc)?,
-                new: new.copy(alloc)?,
-            },
-            Command::Move { label, rank } => Command::Move {
-                label: label.copy(alloc)?,
-                rank: *rank,
-            },
-            Command::Delete { label } => Command::Delete {
-                label: label.copy(alloc)?,
-            },
-            Command::Show { label } => Command::Show {
-                label: label.copy(alloc)?,
-            },
-            Command::List => Command::List,
-        })
+        match self {
+            Command::Add { rank, assertion } => copy_add(alloc, *rank, assertion),
+            Command::Reprove { label, steps } => copy_reprove(alloc, label, steps.as_slice()),
+            Command::Replace { label, old, new } => copy_replace(alloc, label, old, new),
+            Command::Rename { old, new } => copy_rename(alloc, old, new),
+            Command::Move { label, rank } => copy_move(alloc, label, *rank),
+            Command::Delete { label } => copy_delete(alloc, label),
+            Command::Show { label } => copy_show(alloc, label),
+            Command::List => Ok(Command::List),
+        }
     }
+}
+
+fn copy_add(alloc: Global, rank: u32, assertion: &Assertion) -> Result<Command, AllocError>
+    ensures { IfOk result (λ made. made ≡ Command.Add rank assertion.now) }
+{
+    let assertion = assertion.copy(alloc)?;
+    Ok(Command::Add { rank, assertion })
+}
+
+fn copy_reprove(alloc: Global, label: &Label, steps: &[Step]) -> Result<Command, AllocError>
+    ensures { IfOk result (λ made. made ≡ Command.Reprove label.now steps.now) }
+{
+    let label = label.copy(alloc)?;
+    let steps = copy_steps(alloc, steps)?;
+    Ok(Command::Reprove { label, steps })
+}
+
+fn copy_replace(
+    alloc: Global,
+    label: &Label,
+    old: &Label,
+    new: &Label,
+) -> Result<Command, AllocError>
+    ensures { IfOk result (λ made. made ≡ Command.Replace label.now old.now new.now) }
+{
+    let label = label.copy(alloc)?;
+    let old = old.copy(alloc)?;
+    let new = new.copy(alloc)?;
+    Ok(Command::Replace { label, old, new })
+}
+
+fn copy_rename(alloc: Global, old: &Label, new: &Label) -> Result<Command, AllocError>
+    ensures { IfOk result (λ made. made ≡ Command.Rename old.now new.now) }
+{
+    let old = old.copy(alloc)?;
+    let new = new.copy(alloc)?;
+    Ok(Command::Rename { old, new })
+}
+
+fn copy_move(alloc: Global, label: &Label, rank: u32) -> Result<Command, AllocError>
+    ensures { IfOk result (λ made. made ≡ Command.Move label.now rank) }
+{
+    let label = label.copy(alloc)?;
+    Ok(Command::Move { label, rank })
+}
+
+fn copy_delete(alloc: Global, label: &Label) -> Result<Command, AllocError>
+    ensures { IfOk result (λ made. made ≡ Command.Delete label.now) }
+{
+    let label = label.copy(alloc)?;
+    Ok(Command::Delete { label })
+}
+
+fn copy_show(alloc: Global, label: &Label) -> Result<Command, AllocError>
+    ensures { IfOk result (λ made. made ≡ Command.Show label.now) }
+{
+    let label = label.copy(alloc)?;
+    Ok(Command::Show { label })
 }
 
 /// What `Command::List` tells of an assertion.

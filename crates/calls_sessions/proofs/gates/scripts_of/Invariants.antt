@@ -1,7 +1,7 @@
--- What the loop of `shows` keeps.
+-- What the loop of `scripts_of` keeps.
 use Rattle.std.proofs.Common.{All}
 use Rattle.library.specs.Fitting.{CommandFits}
-use Rattle.calls_sessions.proofs.gates.shows.Given as goal
+use Rattle.calls_sessions.proofs.gates.scripts_of.Given as goal
 
 abbrev pub invariant-loop : goal.invariant-loop
 invariant-loop l = All (All (All (CommandFits l.prelude))) l.scripts.items
