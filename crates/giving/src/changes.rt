@@ -1,0 +1,76 @@
+//! Changed labels, with a fast look-up.
+
+ghost use Rattle.std.specs.Prelude.{◌≡◌, ◌↔◌, IfOk, IsTrue};
+ghost use Rattle.source.specs.Views.{seen_pairs};
+ghost use Rattle.giving.specs.Staying.{changed};
+ghost use Rattle.giving.specs.Changes.{FindsChanges};
+
+use std::alloc::{AllocError, Global};
+use std::collections::HashMap;
+use std::hash::RandomState;
+use std::marker::Model;
+
+/// Labels of assertions with their new ones. A clause sees these pairs: the map is for look-ups alone.
+#[derive(Drop)]
+pub struct Changes<'a> {
+    pairs: Vec<(&'a [u8], &'a [u8])>,
+    labels: HashMap<&'a [u8], &'a [u8], RandomState>,
+}
+
+impl<'a> Model for Changes<'a> {
+    ghost use Rattle.std.specs.Prelude.{List};
+    ghost use Rattle.source.specs.Views.{seen_pairs};
+    ghost use Rattle.giving.specs.Staying.{Change};
+    ghost use Rattle.giving.specs.Changes.{FindsChanges};
+
+    ghost Value = { List Change };
+
+    ghost view = { λ s. seen_pairs s.pairs.items };
+
+    ghost invariant = { λ s. FindsChanges s.labels (seen_pairs s.pairs.items) };
+}
+
+impl<'a> Changes<'a> {
+    /// Labels with their new ones: of two changes of one label the first counts. The map draws its hashes from the keys.
+    ///
+    /// # Errors
+    ///
+    /// Want of memory for the map.
+    pub fn new(
+        alloc: Global,
+        keys: RandomState,
+        pairs: Vec<(&'a [u8], &'a [u8])>,
+    ) -> Result<Changes<'a>, AllocError>
+        ensures { IfOk result (λ made. made ≡ seen_pairs pairs.entry.items) }
+    {
+        let labels = first_changes(alloc, keys, pairs.as_slice())?;
+        Ok(Changes { pairs, labels })
+    }
+
+    /// Whether a label reads so once it is changed: one look-up.
+    pub(crate) fn leads(&self, old: &[u8], new: &[u8]) -> bool
+        ensures { IsTrue result ↔ (changed self.now old.now ≡ new.now) }
+    {
+        match self.labels.get(&old) {
+            Some(label) => *label == new,
+            None => old == new,
+        }
+    }
+}
+
+/// A map from labels to the first of their new ones.
+fn first_changes<'a>(
+    alloc: Global,
+    keys: RandomState,
+    pairs: &[(&'a [u8], &'a [u8])],
+) -> Result<HashMap<&'a [u8], &'a [u8], RandomState>, AllocError>
+    ensures { IfOk result (λ made. FindsChanges made (seen_pairs pairs.now)) }
+{
+    let mut labels = HashMap::with_hasher(alloc, keys);
+    for (old, new) in pairs {
+        if !labels.contains_key(old) {
+            labels.insert(*old, *new)?;
+        }
+    }
+    Ok(labels)
+}
