@@ -64,11 +64,34 @@ fn next_place<'a>(
     }
 }
 
+/// Goes from a place to where a token leads.
+fn advance<'a>(
+    alloc: Global,
+    prelude: &Prelude,
+    entries: &mut Vec<Entry>,
+    place: &mut Place<'a>,
+    token: Token<'a>,
+) -> Result<(), Stop>
+    ensures { Gives (λ _. seen_at prelude.now entries.new.items place.new) result
+        (in_place prelude.now entries.old.items (seen_place prelude.now place.old) (seen token.entry)) }
+{
+    let here = mem::replace(place, Place::AtHistory);
+    *place = next_place(alloc, prelude, entries, here, token)?;
+    Ok(())
+}
+
 /// Whether a history may end at a place: no entry is left.
 fn may_end(place: &Place<'_>) -> bool
     ensures { (t : Tables) (entries : List Entry) → whole entries (seen_place t place.now) ≡ (if result then Some entries else None) }
 {
     matches!(place, Place::AtEntry(0))
+}
+
+/// The entries that were read.
+fn into_entries(reader: HistoryReader<'_>) -> Vec<Entry>
+    ensures { result ≡ reader.entry.entries }
+{
+    reader.entries
 }
 
 impl<'a> Reader<'a> for HistoryReader<'a> {
@@ -109,16 +132,23 @@ impl<'a> Reader<'a> for HistoryReader<'a> {
     }
 
     fn take(&mut self, alloc: Global, token: Token<'a>, _mark: Mark) -> Result<(), Stop> {
-        let here = mem::replace(&mut self.place, Place::AtHistory);
-        self.place = next_place(alloc, self.prelude, &mut self.entries, here, token)?;
-        Ok(())
+        advance(
+            alloc,
+            self.prelude,
+            &mut self.entries,
+            &mut self.place,
+            token,
+        )
     }
 
     fn finish(self) -> Option<History> {
-        if !may_end(&self.place) {
-            return None;
+        let is_whole = may_end(&self.place);
+        let entries = into_entries(self);
+        if is_whole {
+            Some(Sequence::from_vec(entries))
+        } else {
+            None
         }
-        Some(Sequence::from_vec(self.entries))
     }
 }
 

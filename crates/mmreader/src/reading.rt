@@ -153,10 +153,9 @@ impl<'a> Reader<'a> for DatabaseReader<'a> {
     }
 
     fn finish(self) -> Option<(SymbolTable, Vec<Assertion>)> {
-        if !is_outermost(&self.place) {
-            return None;
-        }
-        Some(into_said(self))
+        let is_whole = is_outermost(&self.place);
+        let said = into_said(self);
+        if is_whole { Some(said) } else { None }
     }
 }
 

@@ -1,6 +1,6 @@
 //! Reading a script, token by token.
 
-ghost use Rattle.std.specs.Prelude.{◌≡◌, List, All, IfOk};
+ghost use Rattle.std.specs.Prelude.{◌≡◌, List, Some, None, All, IfOk, if◌then◌else◌};
 ghost use Rattle.mmtext.specs.Text.{Token as SeenToken};
 ghost use Rattle.mmtext.specs.Views.{seen, Gives};
 ghost use Rattle.mmtext.specs.Laws.{IsRead};
@@ -8,7 +8,7 @@ ghost use Rattle.mmsyntax.specs.Tables.{Tables};
 ghost use Rattle.library.specs.declared.command.Command.{Command};
 ghost use Rattle.library.specs.Fitting.{CommandFits};
 ghost use Rattle.scripts.specs.Scripts.{SpellsScript};
-ghost use Rattle.scripts.specs.ScriptFaults.{led, command_row, in_place, script_language};
+ghost use Rattle.scripts.specs.ScriptFaults.{led, command_row, in_place, whole, script_language};
 ghost use Rattle.scripts.specs.ScriptViews.{seen_led, seen_place, seen_at};
 
 mod command_rows;
@@ -83,6 +83,36 @@ fn next_place<'a>(
     }
 }
 
+/// Goes from a place to where a token leads.
+fn advance<'a>(
+    alloc: Global,
+    prelude: &Prelude,
+    script: &mut Vec<Transaction>,
+    place: &mut Place<'a>,
+    token: Token<'a>,
+) -> Result<(), Stop>
+    ensures { Gives (λ _. seen_at prelude.now script.new.items place.new) result
+        (in_place prelude.now script.old.items (seen_place prelude.now place.old) (seen token.entry)) }
+{
+    let here = mem::replace(place, Place::Outermost);
+    *place = next_place(alloc, prelude, script, here, token)?;
+    Ok(())
+}
+
+/// Whether a script may end at a place: no transaction is open.
+fn may_end(place: &Place<'_>) -> bool
+    ensures { (t : Tables) (script : List (List Command)) → whole script (seen_place t place.now) ≡ (if result then Some script else None) }
+{
+    matches!(place, Place::Outermost)
+}
+
+/// The transactions that were read.
+fn into_script(reader: ScriptReader<'_>) -> Vec<Transaction>
+    ensures { result ≡ reader.entry.script }
+{
+    reader.script
+}
+
 impl<'a> Reader<'a> for ScriptReader<'a> {
     ghost use Rattle.std.specs.Prelude.{List};
     ghost use Rattle.library.specs.declared.command.Command.{Command};
@@ -118,15 +148,22 @@ impl<'a> Reader<'a> for ScriptReader<'a> {
     }
 
     fn take(&mut self, alloc: Global, token: Token<'a>, _mark: Mark) -> Result<(), Stop> {
-        let here = mem::replace(&mut self.place, Place::Outermost);
-        self.place = next_place(alloc, self.prelude, &mut self.script, here, token)?;
-        Ok(())
+        advance(
+            alloc,
+            self.prelude,
+            &mut self.script,
+            &mut self.place,
+            token,
+        )
     }
 
     fn finish(self) -> Option<Script> {
-        match self.place {
-            Place::Outermost => Some(Sequence::from_vec(self.script)),
-            Place::AtCommand(_) | Place::Within(_, _) => None,
+        let is_whole = may_end(&self.place);
+        let script = into_script(self);
+        if is_whole {
+            Some(Sequence::from_vec(script))
+        } else {
+            None
         }
     }
 }

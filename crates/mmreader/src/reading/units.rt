@@ -1,13 +1,13 @@
 //! Reading a single assertion over a prelude, alone or in its block.
 
-ghost use Rattle.std.specs.Prelude.{◌≡◌, is_some, IfOk};
+ghost use Rattle.std.specs.Prelude.{◌≡◌, is_some, IfOk, OnOk};
 ghost use Rattle.mmsyntax.specs.declared.statement.Assertion.{Assertion};
 ghost use Rattle.mmtext.specs.Text.{mark_of};
 ghost use Rattle.mmsyntax.specs.Tables.{Tables};
 ghost use Rattle.mmtext.specs.Laws.{IsRead};
 ghost use Rattle.mmsyntax.specs.Faults.{unit_at, unit_row, unit_language, first_of};
 ghost use Rattle.mmsyntax.specs.Grammar.{SpellsUnit};
-ghost use Rattle.mmtext.specs.Views.{seen};
+ghost use Rattle.mmtext.specs.Views.{seen, Gives};
 ghost use Rattle.mmreader.specs.Standing.{Stands};
 ghost use Rattle.mmreader.specs.Readers.{IsReadyUnit};
 ghost use Rattle.mmunits.specs.Views.{known_of};
@@ -69,6 +69,26 @@ fn next_place<'a>(
     place_by_row(alloc, symbols, units, place, token, mark)
 }
 
+/// Goes from a place to where a token leads.
+fn advance<'a>(
+    alloc: Global,
+    symbols: &SymbolTable,
+    units: &mut Units,
+    place: &mut Place<'a>,
+    token: Token<'a>,
+    mark: Mark,
+) -> Result<(), Stop>
+    requires ready { IsReadyUnit place.old units.old }
+    requires mark { mark ≡ mark_of token.text.now }
+    ensures leads { Gives (λ _. seen_position symbols.now units.new place.new) result
+        (unit_row (seen_position symbols.now units.old place.old) (seen token.entry)) }
+    ensures ready { OnOk result (IsReadyUnit place.new units.new) }
+{
+    let here = mem::replace(place, Place::Unit(UnitPlace::AtClose));
+    *place = next_place(alloc, symbols, units, here, token, mark)?;
+    Ok(())
+}
+
 /// The assertion that was read, if there is one.
 fn into_said(reader: AssertionReader<'_>) -> Option<Assertion>
     ensures { result ≡ first_of reader.entry.units.assertions }
@@ -105,16 +125,20 @@ impl<'a> Reader<'a> for AssertionReader<'a> {
     }
 
     fn take(&mut self, alloc: Global, token: Token<'a>, mark: Mark) -> Result<(), Stop> {
-        let here = mem::replace(&mut self.place, Place::Unit(UnitPlace::AtClose));
-        self.place = next_place(alloc, self.symbols, &mut self.units, here, token, mark)?;
-        Ok(())
+        advance(
+            alloc,
+            self.symbols,
+            &mut self.units,
+            &mut self.place,
+            token,
+            mark,
+        )
     }
 
     fn finish(self) -> Option<Assertion> {
-        if !is_outermost(&self.place) {
-            return None;
-        }
-        into_said(self)
+        let is_whole = is_outermost(&self.place);
+        let said = into_said(self);
+        if is_whole { said } else { None }
     }
 }
 
