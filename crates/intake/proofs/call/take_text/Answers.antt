@@ -1,8 +1,8 @@
--- What is left to show of `take`: the source is whole, and what is refused of it is refused of its text.
+-- What is left to show of `take_text`: the source is whole, and what is refused of it is refused of its text.
 use Rattle.std.proofs.Common.{rules, refl}
 use Rattle.std.proofs.lemmas.Result.{err_from_is_err_and}
 use Rattle.intake.proofs.Steps.{whole_source, refused_by}
-use Rattle.intake.proofs.call.take.Goals as goal
+use Rattle.intake.proofs.call.take_text.Goals as goal
 
 pub returns-in_err-scopes-clause-refused : goal.returns-in_err-scopes-clause-refused
 returns-in_err-scopes-clause-refused g c =
