@@ -12,6 +12,7 @@ ghost use Rattle.intake.specs.Gatherings.{told_in};
 ghost use Rattle.intake.specs.Outcomes.{HasStepsFor};
 ghost use Rattle.intake.specs.Placed.{map_of, tables_of};
 
+use crate::following::Follow;
 use crate::places::Placed;
 use crate::proving::{Outcome, outcome_at};
 use crate::saying::{premises, restrictions};
@@ -154,8 +155,8 @@ fn put<'a>(gathered: &mut Gathered<'a>, label: Option<&'a [u8]>, one: One) -> Re
 
 /// What is taken of the chosen assertions of a source, in their order.
 ///
-/// Flags say of each assertion whether it is chosen, and whether it stands in front of the choice. After an error nothing is said of the
-/// frames.
+/// Flags say of each assertion whether it is chosen, and whether it stands in front of the choice. Who follows is told of each that was
+/// taken. After an error nothing is said of the frames.
 pub(crate) fn gather<'a, D: Declared<'a>>(
     alloc: Global,
     keys: RandomState,
@@ -164,6 +165,7 @@ pub(crate) fn gather<'a, D: Declared<'a>>(
     placed: &Placed<'_, 'a>,
     chosen: &[bool],
     front: &[bool],
+    follow: &impl Follow,
 ) -> Result<Gathered<'a>, AllocError>
     requires whole { IsWhole (D.scope declared.now) }
     requires frames { Holds (D.scope declared.now).assertions frames.old }
@@ -186,6 +188,7 @@ pub(crate) fn gather<'a, D: Declared<'a>>(
         if chosen[place] {
             let one = taken_at(alloc, keys, declared, frames, placed, chosen, front, place)?;
             put(&mut gathered, declared.label(place), one)?;
+            follow.pass_assertion();
         }
     }
     Ok(gathered)

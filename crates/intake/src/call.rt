@@ -14,6 +14,7 @@ ghost use Rattle.intake.specs.declared.refusal.Refusal.TheVariants.{NoMemory};
 
 use crate::assembling::gather;
 use crate::declaring::library_of;
+use crate::following::Follow;
 use crate::places::Placed;
 use crate::refusal::Refusal;
 use crate::taken::Taken;
@@ -101,13 +102,19 @@ fn names_for<'a, 'w, D: Declared<'a>>(
     }
 }
 
-/// Takes a library of a source.
+/// How many are chosen.
+fn count_chosen(chosen: &[bool]) -> usize {
+    chosen.iter().filter(|is_chosen| **is_chosen).count()
+}
+
+/// Takes a library of a source. Who follows is told of each assertion.
 fn take_from<'a, 'w, D: Declared<'a>>(
     rt: &(impl Threads + Sync),
     alloc: Global,
     keys: RandomState,
     declared: &D,
     wish: Wish<'w>,
+    follow: &impl Follow,
 ) -> Result<Taken<'a>, Refusal<'a, 'w>>
     requires whole { IsWhole (D.scope declared.now) }
     ensures taken { IfOk result (IsLibraryOf (D.scope declared.now) wish.entry) }
@@ -118,36 +125,65 @@ fn take_from<'a, 'w, D: Declared<'a>>(
     let chosen = selection.chosen.as_slice();
     let sites = sites_for(alloc, keys, declared, chosen)?;
     let names = names_for(alloc, keys, declared, &sites)?;
+    follow.begin_taking(count_chosen(chosen));
     let placed = Placed {
         sites: &sites,
         names: &names,
     };
     let front = selection.front.as_slice();
-    let gathered = gather(alloc, keys, declared, &mut frames, &placed, chosen, front)?;
+    let gathered = gather(
+        alloc,
+        keys,
+        declared,
+        &mut frames,
+        &placed,
+        chosen,
+        front,
+        follow,
+    )?;
     library_of(rt, alloc, keys, &sites, names, gathered)
+}
+
+/// Takes a library from a text. Who follows is told how far it is, but not that it is at its end.
+#[tactic(auto, using(crate::proofs::Steps::whole_source, crate::proofs::Steps::taken_by, crate::proofs::Steps::refused_by))]
+fn take_text<'a, 'w>(
+    rt: &(impl Threads + Sync),
+    alloc: Global,
+    keys: RandomState,
+    text: &'a [u8],
+    wish: Wish<'w>,
+    follow: &impl Follow,
+) -> Result<Taken<'a>, Refusal<'a, 'w>>
+    ensures taken { IfOk result (IsTaken text.now wish.entry) }
+    ensures refused { IfErr result (λ why. why ≢ NoMemory → IsRefused text.now wish.entry why) }
+{
+    follow.begin_reading();
+    let scopes = read_source(alloc, Scopes::new(alloc, keys), text)?;
+    sources_are_whole();
+    take_from(rt, alloc, keys, &scopes, wish, follow)
 }
 
 /// Takes a library of the profile from a source in the whole language.
 ///
 /// The library says what the chosen assertions of the source say, by a map of names that keeps each name that the profile allows; a theorem's
 /// proof is the listing of its tree, or the theorem is taken as an axiom and told with the reason; and its proofs check. It costs about as
-/// much as the source has bytes and as what is taken has symbols and steps.
+/// much as the source has bytes and as what is taken has symbols and steps. Who follows is told how far it is, on the thread of the caller.
 ///
 /// # Errors
 ///
 /// The first that holds, in the order of [`Refusal`]; want of memory at any time.
-#[tactic(auto, using(crate::proofs::Steps::whole_source, crate::proofs::Steps::taken_by, crate::proofs::Steps::refused_by))]
 pub fn take<'a, 'w>(
     rt: &(impl Threads + Sync),
     alloc: Global,
     keys: RandomState,
     text: &'a [u8],
     wish: Wish<'w>,
+    follow: &impl Follow,
 ) -> Result<Taken<'a>, Refusal<'a, 'w>>
     ensures taken { IfOk result (IsTaken text.now wish.entry) }
     ensures refused { IfErr result (λ why. why ≢ NoMemory → IsRefused text.now wish.entry why) }
 {
-    let scopes = read_source(alloc, Scopes::new(alloc, keys), text)?;
-    sources_are_whole();
-    take_from(rt, alloc, keys, &scopes, wish)
+    let taken = take_text(rt, alloc, keys, text, wish, follow);
+    follow.end_taking();
+    taken
 }

@@ -5,6 +5,7 @@ mod assembling;
 mod call;
 mod declaring;
 mod drafting;
+mod following;
 mod places;
 mod proving;
 mod refusal;
@@ -12,5 +13,6 @@ mod saying;
 mod taken;
 
 pub use call::take;
+pub use following::{Follow, Unfollowed};
 pub use refusal::Refusal;
 pub use taken::Taken;

@@ -17,6 +17,7 @@ use std::alloc::{AllocError, Global};
 use std::hash::RandomState;
 use std::sync::Wait;
 use std::thread::Threads;
+use taketext::Follow;
 
 /// Says why nothing was printed: one line, and status 1.
 pub(crate) fn refuse<W: World>(world: &mut W, line: &str) -> u8
@@ -212,7 +213,7 @@ fn show_usage<W: World>(world: &mut W, error: &clap::Error) -> u8
 }
 
 /// Does what was found in the words of a command line. It may wait.
-fn obey_matches<R: Threads + Wait + Sync, W: World, V: Watch + Sync>(
+fn obey_matches<R: Threads + Wait + Sync, W: World, V: Watch + Follow + Sync>(
     rt: &R,
     alloc: Global,
     world: &mut W,
@@ -225,7 +226,7 @@ fn obey_matches<R: Threads + Wait + Sync, W: World, V: Watch + Sync>(
 {
     match order_of(alloc, matches) {
         Ok(Some(order)) => follow(rt, alloc, world, keys, &order, watch),
-        Ok(None) => obey_take(rt, alloc, world, keys, matches),
+        Ok(None) => obey_take(rt, alloc, world, keys, matches, watch),
         Err(_) => Err(AllocError),
     }
 }
@@ -242,7 +243,7 @@ fn tell_usage<W: World>(world: &mut W, error: &clap::Error) -> Result<u8, AllocE
 }
 
 /// Does what a command line asks for. It may wait.
-fn try_obey<'a, R: Threads + Wait + Sync, W: World, V: Watch + Sync>(
+fn try_obey<'a, R: Threads + Wait + Sync, W: World, V: Watch + Follow + Sync>(
     rt: &R,
     alloc: Global,
     world: &mut W,
@@ -263,11 +264,11 @@ fn try_obey<'a, R: Threads + Wait + Sync, W: World, V: Watch + Sync>(
 }
 
 /// Does what the words of a command line ask for, of which the first is the program's name, and answers the status that the program ends with.
-/// Who watches is told of a run. It may wait.
+/// Who watches is told of a run, and how far a library is taken. It may wait.
 ///
 /// All files are read, in their order, before anything else is done; a history is written before anything is printed; on the standard output
 /// stands nothing unless all is well, or just that can't be written; and where the status is 1, one line on the standard error says why.
-pub fn obey<R: Threads + Wait + Sync, W: World, V: Watch + Sync>(
+pub fn obey<R: Threads + Wait + Sync, W: World, V: Watch + Follow + Sync>(
     rt: &R,
     alloc: Global,
     world: &mut W,

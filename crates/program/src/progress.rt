@@ -1,18 +1,20 @@
-//! A line of progress on the standard error while a run goes on.
+//! A line of progress on the standard error while a run goes on, or a library is taken.
 
 use jobs::{Gate, Watch};
 use std::sync::atomic::Ordering::SeqCst;
 use std::sync::atomic::{AtomicBool, AtomicU64, AtomicUsize};
 use std::time::{Clock, Instant};
+use taketext::Follow;
 
-/// How long a run goes on without a line, in milliseconds.
+/// How long a run or a taking goes on without a line, in milliseconds.
 const FIRST: u64 = 1000;
 
 /// How long a line stands at least before the next one, in milliseconds.
 const PAUSE: u64 = 100;
 
-/// Says how far a run is, on the standard error where that is a terminal: one line, which each later one overwrites, and which is wiped at
-/// the end. Of the workers one at a time writes, and no other waits for it. What can't be written, or has no time by the clock, is left out.
+/// Says how far a run is, or the taking of a library, on the standard error where that is a terminal: one line, which each later one
+/// overwrites, and which is wiped at the end. Of the workers one at a time writes, and no other waits for it. What can't be written, or has
+/// no time by the clock, is left out.
 #[derive(Drop)]
 pub(crate) struct Progress<'r, R> {
     rt: &'r R,
@@ -22,7 +24,11 @@ pub(crate) struct Progress<'r, R> {
     scripts_done: AtomicUsize,
     transactions: AtomicUsize,
     transactions_done: AtomicUsize,
-    /// From when on a line may be written, in milliseconds: never, where no run goes on.
+    /// Whether a library is taken: then assertions are counted.
+    taking: AtomicBool,
+    assertions: AtomicUsize,
+    assertions_done: AtomicUsize,
+    /// From when on a line may be written, in milliseconds: never, where nothing goes on.
     due: AtomicU64,
     /// Whether a worker writes.
     busy: AtomicBool,
@@ -48,6 +54,9 @@ impl<'r, R: Eprint + Clock> Progress<'r, R> {
             scripts_done: AtomicUsize::new(0),
             transactions: AtomicUsize::new(0),
             transactions_done: AtomicUsize::new(0),
+            taking: AtomicBool::new(false),
+            assertions: AtomicUsize::new(0),
+            assertions_done: AtomicUsize::new(0),
             due: AtomicU64::new(NEVER),
             busy: AtomicBool::new(false),
             shown: AtomicBool::new(false),
@@ -69,21 +78,44 @@ impl<'r, R: Eprint + Clock> Progress<'r, R> {
             return;
         }
         self.due.store(now.saturating_add(PAUSE), SeqCst);
-        self.write_line();
+        self.shown.store(true, SeqCst);
+        if self.taking.load(SeqCst) {
+            self.write_taking();
+        } else {
+            self.write_run();
+        }
         self.busy.store(false, SeqCst);
     }
 
-    /// Overwrites the line that stands on the terminal.
-    fn write_line(&self) {
+    /// Overwrites the line that stands on the terminal, where a run goes on.
+    fn write_run(&self) {
         let (done, all) = (
             self.transactions_done.load(SeqCst),
             self.transactions.load(SeqCst),
         );
         let (scripts_done, scripts) = (self.scripts_done.load(SeqCst), self.scripts.load(SeqCst));
-        self.shown.store(true, SeqCst);
         let _ = self.rt.eprint(format_args!(
             "\r{done} of {all} transactions, {scripts_done} of {scripts} scripts\x1b[K"
         ));
+    }
+
+    /// Overwrites the line that stands on the terminal, where a library is taken.
+    fn write_taking(&self) {
+        let (done, all) = (
+            self.assertions_done.load(SeqCst),
+            self.assertions.load(SeqCst),
+        );
+        let _ = self
+            .rt
+            .eprint(format_args!("\r{done} of {all} assertions\x1b[K"));
+    }
+
+    /// Wipes the line that stands on the terminal, and lets none be written.
+    fn wipe(&self) {
+        self.due.store(NEVER, SeqCst);
+        if self.shown.swap(false, SeqCst) {
+            let _ = self.rt.eprint("\r\x1b[K");
+        }
     }
 }
 
@@ -116,13 +148,42 @@ impl<R: Eprint + Clock> Watch for Progress<'_, R> {
         self.scripts_done.store(0, SeqCst);
         self.transactions.store(transactions, SeqCst);
         self.transactions_done.store(0, SeqCst);
+        self.taking.store(false, SeqCst);
         self.due.store(now.saturating_add(FIRST), SeqCst);
     }
 
     fn end(&self) {
-        self.due.store(NEVER, SeqCst);
-        if self.shown.swap(false, SeqCst) {
-            let _ = self.rt.eprint("\r\x1b[K");
+        self.wipe();
+    }
+}
+
+impl<R: Eprint + Clock> Follow for Progress<'_, R> {
+    fn begin_reading(&self) {
+        let Some(now) = self.now() else {
+            return;
+        };
+        self.taking.store(true, SeqCst);
+        self.due.store(now.saturating_add(FIRST), SeqCst);
+    }
+
+    fn begin_taking(&self, assertions: usize) {
+        if self.made.is_none() {
+            return;
         }
+        self.assertions.store(assertions, SeqCst);
+        self.assertions_done.store(0, SeqCst);
+        self.tell();
+    }
+
+    fn pass_assertion(&self) {
+        if self.made.is_none() {
+            return;
+        }
+        self.assertions_done.fetch_add(1, SeqCst);
+        self.tell();
+    }
+
+    fn end_taking(&self) {
+        self.wipe();
     }
 }

@@ -16,7 +16,7 @@ use commandline::{TakeOrder, take_of};
 use std::alloc::{AllocError, Global};
 use std::hash::RandomState;
 use std::thread::Threads;
-use taketext::{Told, answer_take};
+use taketext::{Follow, Told, answer_take};
 
 /// The bytes of labels.
 fn label_bytes<'a>(alloc: Global, labels: &[&'a str]) -> Result<Vec<&'a [u8]>, AllocError>
@@ -73,7 +73,7 @@ fn tell_taken<W: World>(world: &mut W, told: &Told) -> u8
 }
 
 /// Takes a library from the text of the file at a path, and tells the answer.
-fn answer_source<R: Threads + Sync, W: World>(
+fn answer_source<R: Threads + Sync, W: World, F: Follow>(
     rt: &R,
     alloc: Global,
     world: &mut W,
@@ -81,6 +81,7 @@ fn answer_source<R: Threads + Sync, W: World>(
     path: &str,
     source: &[u8],
     wish: Wish<'_>,
+    follow: &F,
 ) -> Result<u8, AllocError>
     ensures { (es : List Event) × Adds (W.done world.old) (W.done world.new) es
         × EndsBy (IsAnsweredTake path.now source.now wish.entry) es result }
@@ -88,25 +89,35 @@ fn answer_source<R: Threads + Sync, W: World>(
     let Some(keys) = keys else {
         return Ok(refuse(world, "no random numbers"));
     };
-    match answer_take(rt, alloc, keys, path, source, wish) {
+    match answer_take(rt, alloc, keys, path, source, wish, follow) {
         Ok(told) => Ok(tell_taken(world, &told)),
         Err(_) => Err(AllocError),
     }
 }
 
 /// Reads the source at a path, and takes a library of it.
-fn take_source<R: Threads + Sync, W: World>(
+fn take_source<R: Threads + Sync, W: World, F: Follow>(
     rt: &R,
     alloc: Global,
     world: &mut W,
     keys: Option<RandomState>,
     path: &str,
     wish: Wish<'_>,
+    follow: &F,
 ) -> Result<u8, AllocError>
     ensures { (es : List Event) × Adds (W.done world.old) (W.done world.new) es × EndsBy (IsTakeFollowed path.now wish.entry) es result }
 {
     match world.read(alloc, path) {
-        Ok(source) => answer_source(rt, alloc, world, keys, path, source.as_slice(), wish),
+        Ok(source) => answer_source(
+            rt,
+            alloc,
+            world,
+            keys,
+            path,
+            source.as_slice(),
+            wish,
+            follow,
+        ),
         Err(Trouble::NoMemory) => Err(AllocError),
         Err(Trouble::Refused) => {
             world.say_of(path, "cannot read");
@@ -116,12 +127,13 @@ fn take_source<R: Threads + Sync, W: World>(
 }
 
 /// Does what an order to take asks for.
-fn follow_take<R: Threads + Sync, W: World>(
+fn follow_take<R: Threads + Sync, W: World, F: Follow>(
     rt: &R,
     alloc: Global,
     world: &mut W,
     keys: Option<RandomState>,
     order: &TakeOrder<'_>,
+    follow: &F,
 ) -> Result<u8, AllocError>
     ensures { (es : List Event) × Adds (W.done world.old) (W.done world.new) es
         × EndsBy (IsTakeDone order.now.path.now (map (λ l. l.now) order.now.labels.items)
@@ -133,23 +145,24 @@ fn follow_take<R: Threads + Sync, W: World>(
     let Some(wish) = wish_of(words.as_slice(), order.from, order.to) else {
         return Ok(refuse(world, "--from and --to go together, without --for"));
     };
-    take_source(rt, alloc, world, keys, order.path, wish)
+    take_source(rt, alloc, world, keys, order.path, wish, follow)
 }
 
-/// Takes a library where that is what was found in the words of a command line.
-pub(crate) fn obey_take<R: Threads + Sync, W: World>(
+/// Takes a library where that is what was found in the words of a command line. Who follows is told how far that is.
+pub(crate) fn obey_take<R: Threads + Sync, W: World, F: Follow>(
     rt: &R,
     alloc: Global,
     world: &mut W,
     keys: Option<RandomState>,
     matches: &ArgMatches<'_>,
+    follow: &F,
 ) -> Result<u8, AllocError>
     requires { (task : Task) → AsksFor (subcommand_rows_of matches.now) task → ⊥ }
     ensures { (es : List Event) × Adds (W.done world.old) (W.done world.new) es
         × EndsBy (IsMatched (subcommand_rows_of matches.now)) es result }
 {
     match take_of(alloc, matches) {
-        Ok(Some(order)) => follow_take(rt, alloc, world, keys, &order),
+        Ok(Some(order)) => follow_take(rt, alloc, world, keys, &order, follow),
         Ok(None) => Ok(refuse(world, "the command line cannot be read")),
         Err(_) => Err(AllocError),
     }

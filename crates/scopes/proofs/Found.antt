@@ -1,7 +1,7 @@
 -- What is known of a place that is noted for a word.
-use Rattle.std.proofs.Common.{◌≡◌, ◌⊎◌, inl, inr, ℕ, zero, suc, Bool, true, false, cond, List, [], ◌∷◌, ◌++◌, length, take}
+use Rattle.std.proofs.Common.{◌≡◌, ◌⊎◌, inl, inr, ℕ, zero, suc, Bool, true, false, cond, List, [], ◌∷◌, ◌++◌, length, take, ◌<◌, arith}
 use Rattle.std.proofs.Common.{Option, Some, None, refl, sym, ap, ◌∙◌}
-use Rattle.std.specs.Prelude.{◌||◌}
+use Rattle.std.specs.Prelude.{◌||◌, is_some}
 use Rattle.std.specs.List.{list_any, slice_get, find}
 use Rattle.std.specs.Option.{option_map_or, option_and_then}
 use Rattle.std.proofs.lemmas.Bool.{cases_Bool}
@@ -89,6 +89,27 @@ found_any test xs o h =
           y ∙ sym (ap (passes_at test xs) (h r.0 r.1 r.2 r.3) ∙ any_at test xs r.0 r.1 r.2 r.3)
       | inr n ↦ n ∙ sym (none_noted test xs o n)
     ]
+
+-- the noted place where an item passes there
+pub some_there : {A : Type 0} (test : A → Bool) (xs : List A) (o : Option ℕ) → is_some (cond (passes_at test xs o) o None) ≡ passes_at test xs o
+some_there test xs None = refl
+some_there test xs (Some i) =
+    elim (passes_at test xs (Some i)) as (λ b. is_some (cond b (Some i) None) ≡ b) [
+      | true ↦ refl
+      | false ↦ refl
+    ]
+
+pub found_there : {A : Type 0} (test : A → Bool) (xs : List A) (o : Option ℕ) → Found test xs o
+    → Found test xs (cond (passes_at test xs o) o None)
+found_there test xs o h = λ i y at passes.
+    let noted : o ≡ Some i = h i y at passes in
+    ap (λ b. cond b o None) (ap (passes_at test xs) noted ∙ any_at test xs i y at passes) ∙ noted
+
+-- where an item passes there is one
+pub there_within : {A : Type 0} (test : A → Bool) (xs : List A) (i : ℕ) → passes_at test xs (Some i) ≡ true → i < length xs
+there_within test [] i h = absurd cc
+there_within test (x ∷ xs) zero h = omega arith
+there_within test (x ∷ xs) (suc i) h = let later : i < length xs = there_within test xs i h in omega arith
 
 pub finds_none : {A : Type 0} (test : A → Bool) (xs : List A) → list_any test xs ≡ false → find test xs ≡ None
 finds_none test [] none = refl

@@ -6,6 +6,7 @@ mod Found
 mod Outset
 mod SortsOf
 mod Naming
+mod Named
 mod Growing
 mod Lawful
 mod Symbols

@@ -1,6 +1,6 @@
 -- The marks for one more word, and for one more hypothesis.
-use Rattle.std.proofs.Common.{◌≡◌, inl, inr, ℕ, zero, suc, ◌+◌, Bool, true, false, cond, List, [], ◌∷◌, ◌++◌, length, take, map}
-use Rattle.std.proofs.Common.{Option, Some, None, refl, sym, ap, ◌∙◌, append_assoc, ◌<◌, get_or, Bor, arith}
+use Rattle.std.proofs.Common.{◌≡◌, inl, inr, ℕ, zero, suc, Bool, true, false, cond, List, [], ◌∷◌, ◌++◌, length, take, map}
+use Rattle.std.proofs.Common.{Option, Some, None, refl, sym, ap, ◌∙◌, append_assoc}
 use Rattle.std.specs.Prelude.{◌||◌, filter, count_by}
 use Rattle.std.specs.List.{list_any, slice_get}
 use Rattle.std.specs.Option.{option_map_or}
@@ -13,7 +13,6 @@ use Rattle.std.proofs.lemmas.List.Sums.{length-filter}
 use Rattle.mmtext.specs.Words.{Word}
 use Rattle.mmsyntax.proofs.Names.{bytes_eq-sym}
 use Rattle.source.specs.Scopes.{Hypothesis, typing, premise, is_in, is_float_of, stands_in, is_mandatory}
-use Rattle.source.specs.Views.{seen_words}
 use Rattle.scopes.specs.Found.{Found, passes_at}
 use Rattle.scopes.specs.Symbols.{symbols_of, symbols_at}
 use Rattle.scopes.proofs.Found.{none_passes, found_any}
@@ -108,26 +107,6 @@ behind_there front xs i x at = append_assoc front (take i xs) (x ∷ []) ∙ ap 
 
 pub behind_none : {A : Type 0} (front xs : List A) (i : ℕ) → slice_get xs i ≡ None → front ++ take i xs ≡ front ++ take (suc i) xs
 behind_none front xs i at = ap (λ rest. front ++ rest) (sym (take_none xs i at))
-
-seen_there : (ws : List (Bor Word)) (i : ℕ) (d : Bor Word) → i < length ws → slice_get (seen_words ws) i ≡ Some (get_or ws i d).now
-seen_there [] i d lt = absurd (let l : i < 0 = lt in omega arith)
-seen_there (w ∷ ws) zero d lt = refl
-seen_there (w ∷ ws) (suc i) d lt = seen_there ws i d (let l : suc i < suc (length ws) = lt in omega arith)
-
--- the marks for one of some words more, at equal hypotheses
-pub mark_seen : (xs ys hs : List Hypothesis) (front : List Word) (ws : List (Bor Word)) (i : ℕ) (d : Bor Word) (old new : List Bool)
-    → i < length ws → ys ≡ xs
-    → (old ≡ map (is_mandatory hs (front ++ take i (seen_words ws))) ys
-    → new ≡ map (is_mandatory hs ((front ++ take i (seen_words ws)) ++ (get_or ws i d).now ∷ [])) ys)
-    → old ≡ map (is_mandatory hs (front ++ take i (seen_words ws))) xs
-    → new ≡ map (is_mandatory hs (front ++ take (i + 1) (seen_words ws))) xs
-mark_seen xs ys hs front ws i d old new lt same step marks =
-    let us = front ++ take i (seen_words ws) in
-    let next : suc i ≡ i + 1 = omega arith in
-    step (marks ∙ ap (map (is_mandatory hs us)) (sym same))
-    ∙ ap (map (is_mandatory hs (us ++ (get_or ws i d).now ∷ []))) same
-    ∙ ap (λ (us : List Word). map (is_mandatory hs us) xs)
-    (behind_there front (seen_words ws) i _ (seen_there ws i d lt) ∙ ap (λ (n : ℕ). front ++ take n (seen_words ws)) next)
 
 -- ---- one more hypothesis
 

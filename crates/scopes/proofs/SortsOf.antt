@@ -1,5 +1,6 @@
 -- What a word is, from the name that is noted for it.
-use Rattle.std.proofs.Common.{◌≡◌, ℕ, Bool, true, false, cond, Option, Some, None, sym, ap, ◌∙◌}
+use Rattle.std.proofs.Common.{◌≡◌, ℕ, Bool, true, false, cond, Option, Some, None, sym, ap, subst, ◌∙◌}
+use Rattle.std.specs.Prelude.{is_some}
 use Rattle.std.specs.List.{slice_get}
 use Rattle.std.specs.Option.{option_map_or, option_and_then}
 use Rattle.std.specs.Str.{bytes_eq}
@@ -7,10 +8,10 @@ use Rattle.mmtext.specs.Words.{Word}
 use Rattle.source.specs.Scopes.{Scope, label_of, is_float_of}
 use Rattle.scopes.specs.declared.tables.Name.TheVariants as name
 use Rattle.scopes.specs.declared.sorts.Sort.TheVariants as sort
-use Rattle.scopes.specs.Found.{passes_at, passing}
+use Rattle.scopes.specs.Found.{Found, passes_at, passing}
 use Rattle.scopes.specs.Sound.{Knows}
 use Rattle.scopes.specs.Sorts.{IsSortOf}
-use Rattle.scopes.proofs.Found.{found_any, found_find, found_none, finds_none}
+use Rattle.scopes.proofs.Found.{found_any, found_find, found_none, finds_none, some_there, found_there}
 
 passing_there : {A : Type 0} (test : A → Bool) (o : Option A) → option_map_or test o false ≡ true → option_and_then (passing test) o ≡ o
 passing_there test None h = absurd cc
@@ -23,6 +24,7 @@ sort_unknown s w k = record {
   label = k.label;
   active = found_any _ _ _ k.variable;
   typed = found_any _ _ _ k.float;
+  float = k.float;
   hypothesis = found_any _ _ _ k.hypothesis;
   place = k.hypothesis;
   assertion = found_any _ _ _ k.assertion;
@@ -37,6 +39,7 @@ sort_constant s w k = record {
   label = k.label;
   active = found_any _ _ _ k.variable;
   typed = found_any _ _ _ k.float;
+  float = k.float;
   hypothesis = found_any _ _ _ k.hypothesis;
   place = k.hypothesis;
   assertion = found_any _ _ _ k.assertion;
@@ -44,15 +47,16 @@ sort_constant s w k = record {
   first = found_find _ _ _ k.assertion;
 }
 
-pub sort_variable : (s : Scope) (w : Word) (i : ℕ) (f : Option ℕ) (active typed : Bool) → Knows s w (Some (name.Variable i f))
-    → active ≡ passes_at (bytes_eq w) s.variables (Some i) → typed ≡ passes_at (is_float_of w) s.hypotheses f
-    → IsSortOf s w (sort.Variable active typed)
-sort_variable s w i f active typed k a t = record {
+pub sort_variable : (s : Scope) (w : Word) (i : ℕ) (f float : Option ℕ) (active : Bool) → Knows s w (Some (name.Variable i f))
+    → active ≡ passes_at (bytes_eq w) s.variables (Some i) → float ≡ cond (passes_at (is_float_of w) s.hypotheses f) f None
+    → IsSortOf s w (sort.Variable active float)
+sort_variable s w i f float active k a t = record {
   constant = k.constant;
   symbol = k.symbol;
   label = k.label;
   active = found_any _ _ _ k.variable ∙ sym a;
-  typed = found_any _ _ _ k.float ∙ sym t;
+  typed = found_any _ _ _ k.float ∙ sym (some_there _ _ f) ∙ ap is_some (sym t);
+  float = subst (λ o. Found (is_float_of w) s.hypotheses o) (sym t) (found_there _ _ f k.float);
   hypothesis = found_any _ _ _ k.hypothesis;
   place = k.hypothesis;
   assertion = found_any _ _ _ k.assertion;
@@ -68,6 +72,7 @@ sort_hypothesis s w i k there = record {
   label = k.label;
   active = found_any _ _ _ k.variable;
   typed = found_any _ _ _ k.float;
+  float = k.float;
   hypothesis = found_any _ _ _ k.hypothesis ∙ there;
   place = k.hypothesis;
   assertion = found_any _ _ _ k.assertion;
@@ -83,6 +88,7 @@ sort_assertion s w i k there = record {
   label = k.label;
   active = found_any _ _ _ k.variable;
   typed = found_any _ _ _ k.float;
+  float = k.float;
   hypothesis = found_any _ _ _ k.hypothesis;
   place = k.hypothesis;
   assertion = found_any _ _ _ k.assertion ∙ there;
@@ -100,6 +106,7 @@ closed_hypothesis s w i k gone =
       label = k.label;
       active = found_any _ _ _ k.variable;
       typed = found_any _ _ _ k.float;
+      float = k.float;
       hypothesis = none;
       place = found_none _ _ None none;
       assertion = found_any _ _ _ k.assertion;
@@ -117,6 +124,7 @@ closed_assertion s w i k gone =
       label = k.label;
       active = found_any _ _ _ k.variable;
       typed = found_any _ _ _ k.float;
+      float = k.float;
       hypothesis = found_any _ _ _ k.hypothesis;
       place = k.hypothesis;
       assertion = none;

@@ -3,7 +3,7 @@ use Rattle.std.specs.Prelude.{◌≡◌, ℕ, Bool, true, false, List, Option, S
 use Rattle.std.specs.List.{list_any}
 use Rattle.std.specs.Str.{bytes_eq}
 use Rattle.mmtext.specs.Words.{Word}
-use Rattle.source.specs.Scopes.{Scope, Assertion, label_of, is_in, has_float}
+use Rattle.source.specs.Scopes.{Scope, Assertion, label_of, is_in, is_float_of, has_float}
 use Rattle.scopes.specs.declared.sorts.Sort.{Sort}
 use Rattle.scopes.specs.declared.sorts.Sort.TheVariants.{Constant, Variable, Hypothesis, Assertion as AnAssertion, Closed}
 use Rattle.scopes.specs.Found.{Found}
@@ -14,7 +14,7 @@ is_constant _ = false
 
 abbrev pub is_symbol : Sort → Bool
 is_symbol Constant = true
-is_symbol (Variable active typed) = true
+is_symbol (Variable active float) = true
 is_symbol _ = false
 
 abbrev pub is_label : Sort → Bool
@@ -24,12 +24,12 @@ is_label Closed = true
 is_label _ = false
 
 abbrev pub is_active : Sort → Bool
-is_active (Variable active typed) = active
+is_active (Variable active float) = active
 is_active _ = false
 
-abbrev pub is_typed : Sort → Bool
-is_typed (Variable active typed) = typed
-is_typed _ = false
+abbrev pub float_place : Sort → Option ℕ
+float_place (Variable active float) = float
+float_place _ = None
 
 abbrev pub hypothesis_place : Sort → Option ℕ
 hypothesis_place (Hypothesis i) = Some i
@@ -53,7 +53,8 @@ pub record IsSortOf (s : Scope) (w : Word) (sort : Sort) : Type 0 where
   pub symbol : is_in s.symbols w ≡ is_symbol sort
   pub label : is_in s.labels w ≡ is_label sort
   pub active : is_in s.variables w ≡ is_active sort
-  pub typed : has_float s w ≡ is_typed sort
+  pub typed : has_float s w ≡ is_some (float_place sort)
+  pub float : Found (is_float_of w) s.hypotheses (float_place sort)
   pub hypothesis : list_any (λ h. bytes_eq w (label_of h)) s.hypotheses ≡ is_some (hypothesis_place sort)
   pub place : Found (λ h. bytes_eq w (label_of h)) s.hypotheses (hypothesis_place sort)
   pub assertion : list_any (λ a. bytes_eq w a.label) s.assertions ≡ is_assertion sort

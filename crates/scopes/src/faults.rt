@@ -62,18 +62,25 @@ pub(crate) fn variable_fault(tables: &Tables<'_>, word: &[u8]) -> Option<FaultKi
     }
 }
 
+/// The fault of a type, by what it is.
+fn fault_of_type(word: &[u8], sort: Sort) -> Option<FaultKind>
+    ensures { (s : Scope) → IsSortOf s word.now sort → result ≡ first_fault (type_tests s word.now) }
+{
+    if contains_dollar(word) {
+        return Some(FaultKind::BadToken);
+    }
+    match sort {
+        Sort::Constant => None,
+        _ => Some(FaultKind::UnknownSymbol),
+    }
+}
+
 /// The fault of a type.
 pub(crate) fn type_fault(tables: &Tables<'_>, word: &[u8]) -> Option<FaultKind>
     requires { IsSoundTables tables.now }
     ensures { result ≡ first_fault (type_tests (scope_of (kept_of tables.now)) word.now) }
 {
-    if contains_dollar(word) {
-        return Some(FaultKind::BadToken);
-    }
-    match sort_of(tables, word) {
-        Sort::Constant => None,
-        _ => Some(FaultKind::UnknownSymbol),
-    }
+    fault_of_type(word, sort_of(tables, word))
 }
 
 /// The fault of the variable of a `$f`.
@@ -85,8 +92,8 @@ pub(crate) fn float_fault(tables: &Tables<'_>, word: &[u8]) -> Option<FaultKind>
         return Some(FaultKind::BadToken);
     }
     match sort_of(tables, word) {
-        Sort::Variable(true, false) => None,
-        Sort::Variable(true, true) => Some(FaultKind::RepeatedLabel),
+        Sort::Variable(true, None) => None,
+        Sort::Variable(true, Some(_)) => Some(FaultKind::RepeatedLabel),
         Sort::Variable(false, _) => Some(FaultKind::NotActive),
         _ => Some(FaultKind::UnknownSymbol),
     }
@@ -117,32 +124,30 @@ pub(crate) fn distinct_fault(
     }
 }
 
-/// The fault of a symbol of an expression behind others.
-pub(crate) fn symbol_fault(tables: &Tables<'_>, others: &[&[u8]], word: &[u8]) -> Option<FaultKind>
-    requires { IsSoundTables tables.now }
-    ensures { result ≡ first_fault (symbol_tests (scope_of (kept_of tables.now)) (seen_words others.now) word.now) }
-{
-    if others.is_empty() {
-        return type_fault(tables, word);
-    }
-    later_symbol_fault(tables, word)
-}
-
-/// The fault of a symbol of an expression that isn't the first.
-fn later_symbol_fault(tables: &Tables<'_>, word: &[u8]) -> Option<FaultKind>
-    requires { IsSoundTables tables.now }
-    ensures { (first : Word) (front : List Word)
-        → result ≡ first_fault (symbol_tests (scope_of (kept_of tables.now)) (first ∷ front) word.now) }
+/// The fault of a symbol of an expression that isn't the first, by what it is.
+fn fault_of_later_symbol(word: &[u8], sort: Sort) -> Option<FaultKind>
+    ensures { (s : Scope) (first : Word) (front : List Word) → IsSortOf s word.now sort
+        → result ≡ first_fault (symbol_tests s (first ∷ front) word.now) }
 {
     if contains_dollar(word) {
         return Some(FaultKind::BadToken);
     }
-    match sort_of(tables, word) {
-        Sort::Constant | Sort::Variable(true, true) => None,
+    match sort {
+        Sort::Constant | Sort::Variable(true, Some(_)) => None,
         Sort::Variable(false, _) => Some(FaultKind::NotActive),
-        Sort::Variable(true, false) => Some(FaultKind::NoTypeFor),
+        Sort::Variable(true, None) => Some(FaultKind::NoTypeFor),
         _ => Some(FaultKind::UnknownSymbol),
     }
+}
+
+/// The fault of a symbol of an expression behind others, by what it is.
+pub(crate) fn fault_of_symbol(others: &[&[u8]], word: &[u8], sort: Sort) -> Option<FaultKind>
+    ensures { (s : Scope) → IsSortOf s word.now sort → result ≡ first_fault (symbol_tests s (seen_words others.now) word.now) }
+{
+    if others.is_empty() {
+        return fault_of_type(word, sort);
+    }
+    fault_of_later_symbol(word, sort)
 }
 
 /// The fault of a label in a proof, by what it is.
@@ -157,12 +162,4 @@ pub(crate) fn fault_of_named(word: &[u8], sort: Sort) -> Option<FaultKind>
         Sort::Closed => Some(FaultKind::NotActive),
         _ => Some(FaultKind::UnknownLabel),
     }
-}
-
-/// The fault of a label in a proof.
-pub(crate) fn named_fault(tables: &Tables<'_>, word: &[u8]) -> Option<FaultKind>
-    requires { IsSoundTables tables.now }
-    ensures { result ≡ first_fault (named_tests (scope_of (kept_of tables.now)) word.now) }
-{
-    fault_of_named(word, sort_of(tables, word))
 }

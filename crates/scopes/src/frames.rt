@@ -1,22 +1,20 @@
 //! Which of the active hypotheses are mandatory.
 
-ghost use Rattle.std.specs.Prelude.{◌≡◌, ◌+◌, false, List, [], ◌∷◌, ◌++◌, ◌<◌, length, map, take, slice_get, count_by};
+ghost use Rattle.std.specs.Prelude.{◌≡◌, ◌+◌, false, List, [], ◌∷◌, ◌++◌, ◌<◌, length, map, take, slice_get};
 ghost use Rattle.mmtext.specs.Words.{Word};
 ghost use Rattle.mmsyntax.specs.Rows.{first_fault};
 ghost use Rattle.std.specs.Option.{option_map, unwrap_or};
-ghost use Rattle.std.specs.Str.{bytes_eq};
 ghost use Rattle.std.proofs.Math.ListN.{set};
-ghost use Rattle.std.specs.List.{list_any};
-ghost use Rattle.source.specs.Scopes.{Hypothesis, is_mandatory, label_of, mandatory};
-ghost use Rattle.source.specs.Tests.{cited_tests};
-ghost use Rattle.source.specs.Proofs.{taken_by};
+ghost use Rattle.source.specs.Counts.{mandatory_marks};
+ghost use Rattle.source.specs.Scopes.{Hypothesis, is_mandatory, mandatory};
+ghost use Rattle.source.specs.Tests.{symbol_tests};
 ghost use Rattle.source.specs.Views.{seen_words};
 ghost use Rattle.scopes.specs.Views.{kept_of, scope_of, stand_of, marks_of};
 ghost use Rattle.scopes.specs.Symbols.{symbols_at};
 ghost use Rattle.scopes.specs.Sound.{IsSoundTables};
 ghost use Rattle.scopes.specs.Sorts.{IsSortOf};
 
-use crate::faults::fault_of_named;
+use crate::faults::fault_of_symbol;
 use crate::sorts::{Sort, active_at, float_of, sort_of};
 use crate::tables::Tables;
 use mmtext::FaultKind;
@@ -81,33 +79,37 @@ fn mark_premises(tables: &mut Tables<'_>)
     }
 }
 
-/// Marks the active `$f` of a word that has one. What was marked for some words is then marked for this word too.
-fn mark_float(tables: &mut Tables<'_>, word: &[u8])
-    requires { IsSoundTables tables.old }
+/// Marks the active `$f` of a word, by what it is, if it has one. What was marked for some words is then marked for this word too.
+fn mark_float(tables: &mut Tables<'_>, _word: &[u8], sort: Sort)
+    requires sound { IsSoundTables tables.old }
+    requires sort { IsSortOf (scope_of (kept_of tables.old)) _word.now sort }
     ensures sound { IsSoundTables tables.new }
     ensures stand { stand_of (kept_of tables.new) ≡ stand_of (kept_of tables.old) }
     ensures marks { (premises : List Hypothesis) (words : List Word)
         → marks_of (kept_of tables.old) ≡ map (is_mandatory premises words) (scope_of (kept_of tables.old)).hypotheses
-        → marks_of (kept_of tables.new) ≡ map (is_mandatory premises (words ++ word.now ∷ [])) (scope_of (kept_of tables.old)).hypotheses }
+        → marks_of (kept_of tables.new) ≡ map (is_mandatory premises (words ++ _word.now ∷ [])) (scope_of (kept_of tables.old)).hypotheses }
 {
-    if let Some(place) = float_of(tables, word) {
+    if let Some(place) = float_of(sort) {
         set_mark(tables, place, true);
     }
 }
 
-/// Marks the active `$f` of each of some words.
-fn mark_words(tables: &mut Tables<'_>, words: &[&[u8]])
+/// The fault of a symbol of an expression behind others, and the marks for it: one look-up for both.
+pub(crate) fn symbol_fault(
+    tables: &mut Tables<'_>,
+    others: &[&[u8]],
+    word: &[u8],
+) -> Option<FaultKind>
     requires { IsSoundTables tables.old }
     ensures sound { IsSoundTables tables.new }
     ensures stand { stand_of (kept_of tables.new) ≡ stand_of (kept_of tables.old) }
-    ensures marks { (premises : List Hypothesis) (front : List Word)
-        → marks_of (kept_of tables.old) ≡ map (is_mandatory premises front) (scope_of (kept_of tables.old)).hypotheses
-        → marks_of (kept_of tables.new)
-        ≡ map (is_mandatory premises (front ++ seen_words words.now)) (scope_of (kept_of tables.old)).hypotheses }
+    ensures fault { result ≡ first_fault (symbol_tests (scope_of (kept_of tables.old)) (seen_words others.now) word.now) }
+    ensures marks { marks_of (kept_of tables.old) ≡ mandatory_marks (scope_of (kept_of tables.old)) (seen_words others.now)
+        → marks_of (kept_of tables.new) ≡ mandatory_marks (scope_of (kept_of tables.old)) (seen_words others.now ++ word.now ∷ []) }
 {
-    for word in words {
-        mark_float(tables, word);
-    }
+    let sort = sort_of(tables, word);
+    mark_float(tables, word, sort);
+    fault_of_symbol(others, word, sort)
 }
 
 /// Marks the active `$f` of one of the symbols of the active `$e` at a place, if they are so many.
@@ -124,7 +126,7 @@ fn mark_symbol(tables: &mut Tables<'_>, place: usize, index: usize)
         (scope_of (kept_of tables.old)).hypotheses }
 {
     if let Some(symbol) = symbol_at(tables, place, index) {
-        mark_float(tables, symbol);
+        mark_float(tables, symbol, sort_of(tables, symbol));
     }
 }
 
@@ -144,88 +146,27 @@ fn mark_symbols(tables: &mut Tables<'_>, place: usize)
     }
 }
 
+/// Marks what is mandatory for no symbol: the active `$e`, and the active `$f` of their symbols, each of which is looked up once.
+pub(crate) fn begin(tables: &mut Tables<'_>)
+    requires { IsSoundTables tables.old }
+    ensures sound { IsSoundTables tables.new }
+    ensures stand { stand_of (kept_of tables.new) ≡ stand_of (kept_of tables.old) }
+    ensures marks { marks_of (kept_of tables.new) ≡ mandatory_marks (scope_of (kept_of tables.old)) [] }
+{
+    mark_premises(tables);
+    for place in 0..tables.active.len() {
+        mark_symbols(tables, place);
+    }
+}
+
 /// How many active hypotheses are marked.
-fn count_marked(tables: &Tables<'_>) -> usize
-    ensures { result ≡ count_by (λ a. a.is_mandatory) (kept_of tables.now).active }
+pub(crate) fn count_marked(tables: &Tables<'_>) -> usize
+    ensures { (e : List Word) → marks_of (kept_of tables.now) ≡ mandatory_marks (scope_of (kept_of tables.now)) e
+        → result ≡ length (mandatory (scope_of (kept_of tables.now)).hypotheses e) }
 {
     tables
         .active
         .iter()
         .filter(|active| active.is_mandatory)
         .count()
-}
-
-/// Marks the active hypotheses that are mandatory for an expression, and counts them. Each word of the expression and of the active `$e`
-/// is looked up once: the `$f` of a variable stands at the place that is noted for it.
-pub(crate) fn frame(tables: &mut Tables<'_>, expression: &[&[u8]]) -> usize
-    requires { IsSoundTables tables.old }
-    ensures sound { IsSoundTables tables.new }
-    ensures stand { stand_of (kept_of tables.new) ≡ stand_of (kept_of tables.old) }
-    ensures count { result ≡ length (mandatory (scope_of (kept_of tables.old)).hypotheses (seen_words expression.now)) }
-    ensures marks { marks_of (kept_of tables.new) ≡ map (is_mandatory (scope_of (kept_of tables.old)).hypotheses (seen_words expression.now))
-        (scope_of (kept_of tables.old)).hypotheses }
-{
-    mark_premises(tables);
-    mark_words(tables, expression);
-    for place in 0..tables.active.len() {
-        mark_symbols(tables, place);
-    }
-    count_marked(tables)
-}
-
-/// Whether the active hypothesis at a place is marked.
-fn is_marked(tables: &Tables<'_>, place: usize) -> bool
-    ensures { result ≡ unwrap_or (slice_get (marks_of (kept_of tables.now)) place) false }
-{
-    match tables.active.get(place) {
-        None => false,
-        Some(active) => active.is_mandatory,
-    }
-}
-
-/// Whether a label, by what it is, is that of a marked hypothesis.
-fn is_marked_label(tables: &Tables<'_>, word: &[u8], sort: Sort) -> bool
-    requires { IsSortOf (scope_of (kept_of tables.now)) word.now sort }
-    ensures { (e : List Word)
-        → marks_of (kept_of tables.now) ≡ map (is_mandatory (scope_of (kept_of tables.now)).hypotheses e) (scope_of (kept_of tables.now)).hypotheses
-        → result ≡ list_any (λ h. bytes_eq word.now (label_of h)) (mandatory (scope_of (kept_of tables.now)).hypotheses e) }
-{
-    match sort {
-        Sort::Hypothesis(place) => is_marked(tables, place),
-        _ => false,
-    }
-}
-
-/// The fault of a label in parentheses: one look-up.
-pub(crate) fn cited_fault(tables: &Tables<'_>, word: &[u8]) -> Option<FaultKind>
-    requires { IsSoundTables tables.now }
-    ensures { (e : List Word)
-        → marks_of (kept_of tables.now) ≡ map (is_mandatory (scope_of (kept_of tables.now)).hypotheses e) (scope_of (kept_of tables.now)).hypotheses
-        → result ≡ first_fault (cited_tests (scope_of (kept_of tables.now)) e word.now) }
-{
-    let sort = sort_of(tables, word);
-    if let Some(fault) = fault_of_named(word, sort) {
-        return Some(fault);
-    }
-    if is_marked_label(tables, word, sort) {
-        Some(FaultKind::BadToken)
-    } else {
-        None
-    }
-}
-
-/// How many entries a label takes in a proof.
-pub(crate) fn arity_of(tables: &Tables<'_>, word: &[u8]) -> Option<usize>
-    requires { IsSoundTables tables.now }
-    ensures { result ≡ option_map length
-        (taken_by (scope_of (kept_of tables.now)).assertions (scope_of (kept_of tables.now)).hypotheses word.now) }
-{
-    match sort_of(tables, word) {
-        Sort::Hypothesis(_) => Some(0),
-        Sort::Assertion(place) => {
-            let assertion = tables.assertions.get(place)?;
-            Some(assertion.arity)
-        }
-        _ => None,
-    }
 }

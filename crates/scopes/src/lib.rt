@@ -6,6 +6,7 @@ mod chains;
 mod declaring;
 mod faults;
 mod frames;
+mod labels;
 mod mandatory;
 mod scopes;
 mod shown;

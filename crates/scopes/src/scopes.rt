@@ -6,7 +6,7 @@ ghost use Rattle.scopes.specs.Sound.{IsSoundTables};
 ghost use Rattle.scopes.specs.Views.{kept_of, stand_of, marks_of};
 
 use crate::tables::Tables;
-use crate::{blocks, declaring, faults, frames, mandatory, shown};
+use crate::{blocks, declaring, faults, frames, labels, mandatory, shown};
 use mmtext::FaultKind;
 use source::{Declared, HypothesisWords, ProofWords, Standing};
 use std::alloc::{AllocError, Global};
@@ -17,8 +17,8 @@ use std::mem;
 /// What stands at a place of a source: names, active variables, hypotheses and `$d`, blocks that are open, and all assertions so far.
 ///
 /// Each look-up is that of one word in a map. What is kept is linear in the text: the active hypotheses of an assertion are found from its
-/// last one. A frame costs its words, the active hypotheses and the words of the active `$e`; so do the mandatory hypotheses of an assertion
-/// that are asked for later.
+/// last one. Where an assertion begins the words of the active `$e` are looked up once, and then each of its own, while it is read: its
+/// mandatory hypotheses are those marked at its end. Those that are asked for later cost the active hypotheses and the same words.
 #[derive(Drop)]
 pub struct Scopes<'a> {
     tables: Tables<'a>,
@@ -89,24 +89,24 @@ impl<'a> Standing<'a> for Scopes<'a> {
         faults::distinct_fault(&self.tables, others, word)
     }
 
-    fn symbol_fault(&self, others: &[&'a [u8]], word: &'a [u8]) -> Option<FaultKind> {
-        faults::symbol_fault(&self.tables, others, word)
+    fn begin(&mut self) {
+        frames::begin(&mut self.tables);
     }
 
-    fn named_fault(&self, word: &'a [u8]) -> Option<FaultKind> {
-        faults::named_fault(&self.tables, word)
+    fn symbol_fault(&mut self, others: &[&'a [u8]], word: &'a [u8]) -> Option<FaultKind> {
+        frames::symbol_fault(&mut self.tables, others, word)
     }
 
-    fn frame(&mut self, expression: &[&'a [u8]]) -> usize {
-        frames::frame(&mut self.tables, expression)
+    fn mandatory_count(&self) -> usize {
+        frames::count_marked(&self.tables)
     }
 
-    fn cited_fault(&self, word: &'a [u8]) -> Option<FaultKind> {
-        frames::cited_fault(&self.tables, word)
+    fn named(&self, word: &'a [u8]) -> Result<usize, FaultKind> {
+        labels::named(&self.tables, word)
     }
 
-    fn arity(&self, word: &'a [u8]) -> Option<usize> {
-        frames::arity_of(&self.tables, word)
+    fn cited(&self, word: &'a [u8]) -> Result<usize, FaultKind> {
+        labels::cited(&self.tables, word)
     }
 
     fn declare_constant(&mut self, alloc: Global, word: &'a [u8]) -> Result<(), AllocError> {
@@ -160,7 +160,7 @@ impl<'a> Standing<'a> for Scopes<'a> {
         label: &'a [u8],
         expression: Vec<&'a [u8]>,
     ) -> Result<(), AllocError> {
-        let arity = frames::frame(&mut self.tables, expression.as_slice());
+        let arity = frames::count_marked(&self.tables);
         let tables = self.take(alloc);
         self.tables = declaring::with_asserted(tables, label, expression, None, arity)?;
         Ok(())
@@ -173,7 +173,7 @@ impl<'a> Standing<'a> for Scopes<'a> {
         expression: Vec<&'a [u8]>,
         proof: ProofWords<'a>,
     ) -> Result<(), AllocError> {
-        let arity = frames::frame(&mut self.tables, expression.as_slice());
+        let arity = frames::count_marked(&self.tables);
         let tables = self.take(alloc);
         self.tables = declaring::with_asserted(tables, label, expression, Some(proof), arity)?;
         Ok(())

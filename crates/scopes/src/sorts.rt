@@ -1,14 +1,14 @@
 //! What a word is at a place, by one look-up.
 
-ghost use Rattle.std.specs.Prelude.{◌≡◌, Some, is_some, slice_get};
+ghost use Rattle.std.specs.Prelude.{◌≡◌, Some, None, slice_get, if◌then◌else◌};
 ghost use Rattle.std.specs.Option.{option_map};
 ghost use Rattle.std.specs.Str.{bytes_eq};
 ghost use Rattle.source.specs.Scopes.{is_float_of, label_of};
 ghost use Rattle.source.specs.Views.{seen_words, seen_hypothesis};
 ghost use Rattle.scopes.specs.Views.{kept_of, scope_of};
-ghost use Rattle.scopes.specs.Found.{Found, passes_at};
-ghost use Rattle.scopes.specs.Sound.{IsSoundTables, float_place};
-ghost use Rattle.scopes.specs.Sorts.{IsSortOf};
+ghost use Rattle.scopes.specs.Found.{passes_at};
+ghost use Rattle.scopes.specs.Sound.{IsSoundTables};
+ghost use Rattle.scopes.specs.Sorts.{IsSortOf, float_place};
 
 use crate::tables::{Name, Tables};
 use source::HypothesisWords;
@@ -20,8 +20,9 @@ pub(crate) enum Sort {
     Unknown,
     /// A constant.
     Constant,
-    /// A symbol that was declared as a variable: whether it is active, and whether it has an active `$f`.
-    Variable(bool, bool),
+    /// A symbol that was declared as a variable: whether it is active, and the place of its active `$f` among the active hypotheses, if it
+    /// has one.
+    Variable(bool, Option<usize>),
     /// An active hypothesis, by its place among those.
     Hypothesis(usize),
     /// An assertion, by its place.
@@ -67,6 +68,18 @@ fn is_float_at(tables: &Tables<'_>, place: Option<usize>, word: &[u8]) -> bool
     }
 }
 
+/// The place that is noted for the `$f` of a variable, if that still stands there among the active hypotheses.
+fn active_float(tables: &Tables<'_>, place: Option<usize>, word: &[u8]) -> Option<usize>
+    requires { IsSoundTables tables.now }
+    ensures { result ≡ (if passes_at (is_float_of word.now) (scope_of (kept_of tables.now)).hypotheses place then place else None) }
+{
+    if is_float_at(tables, place, word) {
+        place
+    } else {
+        None
+    }
+}
+
 /// Whether a hypothesis with a label stands at a place among the active ones.
 fn is_hypothesis_at(tables: &Tables<'_>, place: usize, word: &[u8]) -> bool
     requires { IsSoundTables tables.now }
@@ -99,7 +112,7 @@ pub(crate) fn sort_of(tables: &Tables<'_>, word: &[u8]) -> Sort
         Some(Name::Constant) => Sort::Constant,
         Some(Name::Variable(place, float)) => Sort::Variable(
             is_word_at(tables.variables.as_slice(), *place, word),
-            is_float_at(tables, *float, word),
+            active_float(tables, *float, word),
         ),
         Some(Name::Hypothesis(place)) => {
             if is_hypothesis_at(tables, *place, word) {
@@ -118,27 +131,12 @@ pub(crate) fn sort_of(tables: &Tables<'_>, word: &[u8]) -> Sort
     }
 }
 
-/// The place that a name notes for the `$f` of a variable.
-fn noted_float(name: &Name) -> Option<usize>
-    ensures { result ≡ float_place (Some name.now) }
+/// The place of the active `$f` of a word, by what it is, if it is a variable that has one.
+pub(crate) fn float_of(sort: Sort) -> Option<usize>
+    ensures { result ≡ float_place sort }
 {
-    match name {
-        Name::Variable(_, place) => *place,
+    match sort {
+        Sort::Variable(_, place) => place,
         _ => None,
-    }
-}
-
-/// The place of the active `$f` of a word among the active hypotheses, if the word is a variable that has one: one look-up too.
-pub(crate) fn float_of(tables: &Tables<'_>, word: &[u8]) -> Option<usize>
-    requires { IsSoundTables tables.now }
-    ensures there { passes_at (is_float_of word.now) (scope_of (kept_of tables.now)).hypotheses result ≡ is_some result }
-    ensures found { Found (is_float_of word.now) (scope_of (kept_of tables.now)).hypotheses result }
-{
-    let name = tables.names.get(&word)?;
-    let place = noted_float(name);
-    if is_float_at(tables, place, word) {
-        place
-    } else {
-        None
     }
 }

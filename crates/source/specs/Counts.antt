@@ -1,4 +1,5 @@
--- While the words of a proof are read: that the steps so far are there, and how many entries they left on the stack.
+-- While the words of an assertion are read: which hypotheses are mandatory so far; that the steps of its proof so far are there, and how many
+-- entries they left on the stack.
 use Rattle.std.specs.Prelude.{◌≡◌, ℕ, Bool, ◌==◌, List, ◌++◌, map, length, replicate, Option, Some, None, if◌then◌else◌, ◌⊎◌, ◌-◌, ◌^◌}
 use Rattle.std.specs.Option.{option_map}
 use Rattle.std.specs.List.{list_any, flat_map}
@@ -6,10 +7,14 @@ use mathlib.Core.Bool.{not}
 use Rattle.mmtext.specs.Words.{Word}
 use Rattle.source.specs.declared.letters.Code.{Code}
 use Rattle.source.specs.declared.entries.Entries.{Entries}
-use Rattle.source.specs.Scopes.{Hypothesis, Assertion, Scope, is_unknown}
+use Rattle.source.specs.Scopes.{Hypothesis, Assertion, Scope, is_unknown, is_mandatory}
 use Rattle.source.specs.Letters.{decoded}
 use Rattle.source.specs.Proofs.{Step, names, step_of, taken_by, Stack, empty, stepped, run, there, known_labels, known_letters}
 use Rattle.source.specs.Tests.{numbered_labels}
+
+-- which of the active hypotheses are mandatory for an expression
+abbrev pub mandatory_marks : Scope → List Word → List Bool
+mandatory_marks s e = map (is_mandatory s.hypotheses e) s.hypotheses
 
 -- how many entries a stack has, and how many are marked
 abbrev pub counts : Option (Stack (Unit {0})) → Option (ℕ × ℕ)

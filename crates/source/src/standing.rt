@@ -1,13 +1,15 @@
 //! What stands at a place of a source, as its reader asks for it and changes it.
 
-ghost use Rattle.std.specs.Prelude.{◌≡◌, Bool, List, length, map, None, Some, true, false, IfOk, if◌then◌else◌};
+ghost use Rattle.std.specs.Prelude.{◌≡◌, Bool, List, [], ◌∷◌, ◌++◌, length, None, Some, true, false, IfOk, if◌then◌else◌};
 ghost use Rattle.std.specs.Option.{option_map};
+ghost use Rattle.std.specs.Result.{result_err};
 ghost use Rattle.mmtext.specs.Words.{Word};
 ghost use Rattle.mmsyntax.specs.Rows.{first_fault};
 ghost use Rattle.source.specs.Statements.{float, hypothesis, distinct, asserted, proved};
-ghost use Rattle.source.specs.Scopes.{Stand, mandatory, is_mandatory, declared, opened, closed};
+ghost use Rattle.source.specs.Scopes.{Stand, mandatory, declared, opened, closed};
 ghost use Rattle.source.specs.Proofs.{taken_by};
 ghost use Rattle.source.specs.Tests.{label_tests, constant_tests, variable_tests, type_tests, float_tests, distinct_tests, symbol_tests, named_tests, cited_tests, a_constant, a_variable, is_lawful};
+ghost use Rattle.source.specs.Counts.{mandatory_marks};
 ghost use Rattle.source.specs.Views.{seen_words, seen_proof};
 
 use mmtext::FaultKind;
@@ -24,13 +26,13 @@ pub enum ProofWords<'a> {
 
 /// What stands at a place of a source: what is active there, and what was declared before. Its words are slices of the text.
 ///
-/// Whoever declares something has asked for the faults of its words before: the statement is lawful there. After an error nothing is said of
-/// what stands.
+/// Whoever declares something has asked for the faults of its words before: the statement is lawful there. The words of an assertion are told
+/// one by one, so that none of them has to be looked up again once it ends. After an error nothing is said of what stands.
 pub trait Standing<'a>: Drop {
     // what stands, with what stood before each open block
     ghost stand: { Self → Stand };
 
-    // of each active hypothesis: whether it is mandatory for the expression that was framed last
+    // of each active hypothesis: whether it is mandatory for the symbols of the assertion so far
     ghost marks: { Self → List Bool };
 
     /// Whether no block is open.
@@ -61,30 +63,43 @@ pub trait Standing<'a>: Drop {
     fn distinct_fault(&self, others: &[&'a [u8]], word: &'a [u8]) -> Option<FaultKind>
         ensures { result ≡ first_fault (distinct_tests (stand self.now).scope (seen_words others.now) word.now) };
 
-    /// The fault of a symbol of an expression behind others.
-    fn symbol_fault(&self, others: &[&'a [u8]], word: &'a [u8]) -> Option<FaultKind>
-        ensures { result ≡ first_fault (symbol_tests (stand self.now).scope (seen_words others.now) word.now) };
-
-    /// The fault of a label in a proof.
-    fn named_fault(&self, word: &'a [u8]) -> Option<FaultKind>
-        ensures { result ≡ first_fault (named_tests (stand self.now).scope word.now) };
-
-    /// How many mandatory hypotheses an assertion with this expression has here. It is framed then.
-    fn frame(&mut self, expression: &[&'a [u8]]) -> usize
-        ensures count { result ≡ length (mandatory (stand self.old).scope.hypotheses (seen_words expression.now)) }
-        ensures marks { marks self.new
-            ≡ map (is_mandatory (stand self.old).scope.hypotheses (seen_words expression.now)) (stand self.old).scope.hypotheses }
+    /// The expression of an assertion begins: what is mandatory for none of its symbols is marked.
+    fn begin(&mut self)
+        ensures marks { marks self.new ≡ mandatory_marks (stand self.old).scope [] }
         ensures same { stand self.new ≡ stand self.old };
 
-    /// The fault of a label in parentheses, in the proof of the expression that is framed.
-    fn cited_fault(&self, word: &'a [u8]) -> Option<FaultKind>
-        ensures { (e : List Word)
-            → marks self.now ≡ map (is_mandatory (stand self.now).scope.hypotheses e) (stand self.now).scope.hypotheses
-            → result ≡ first_fault (cited_tests (stand self.now).scope e word.now) };
+    /// The fault of a symbol of an expression behind others. What it makes mandatory is marked too.
+    fn symbol_fault(&mut self, others: &[&'a [u8]], word: &'a [u8]) -> Option<FaultKind>
+        ensures fault { result ≡ first_fault (symbol_tests (stand self.old).scope (seen_words others.now) word.now) }
+        ensures marks { marks self.old ≡ mandatory_marks (stand self.old).scope (seen_words others.now)
+            → marks self.new ≡ mandatory_marks (stand self.old).scope (seen_words others.now ++ word.now ∷ []) }
+        ensures same { stand self.new ≡ stand self.old };
 
-    /// How many entries a label takes in a proof, if it names something there.
-    fn arity(&self, word: &'a [u8]) -> Option<usize>
-        ensures { result ≡ option_map length (taken_by (stand self.now).scope.assertions (stand self.now).scope.hypotheses word.now) };
+    /// How many mandatory hypotheses the expression has for which they are marked.
+    fn mandatory_count(&self) -> usize
+        ensures { (e : List Word) → marks self.now ≡ mandatory_marks (stand self.now).scope e
+            → result ≡ length (mandatory (stand self.now).scope.hypotheses e) };
+
+    /// How many entries a label takes in a proof.
+    ///
+    /// # Errors
+    ///
+    /// Its fault.
+    fn named(&self, word: &'a [u8]) -> Result<usize, FaultKind>
+        ensures fault { result_err result ≡ first_fault (named_tests (stand self.now).scope word.now) }
+        ensures takes { IfOk result (λ n.
+            option_map length (taken_by (stand self.now).scope.assertions (stand self.now).scope.hypotheses word.entry.now) ≡ Some n) };
+
+    /// How many entries a label in parentheses takes, in the proof of the expression for which mandatory hypotheses are marked.
+    ///
+    /// # Errors
+    ///
+    /// Its fault.
+    fn cited(&self, word: &'a [u8]) -> Result<usize, FaultKind>
+        ensures fault { (e : List Word) → marks self.now ≡ mandatory_marks (stand self.now).scope e
+            → result_err result ≡ first_fault (cited_tests (stand self.now).scope e word.now) }
+        ensures takes { IfOk result (λ n.
+            option_map length (taken_by (stand self.now).scope.assertions (stand self.now).scope.hypotheses word.entry.now) ≡ Some n) };
 
     /// One more constant.
     fn declare_constant(&mut self, alloc: Global, word: &'a [u8]) -> Result<(), AllocError>
@@ -127,17 +142,18 @@ pub trait Standing<'a>: Drop {
         requires { is_lawful (stand self.old).scope (distinct (seen_words variables.items)) ≡ true }
         ensures { IfOk result (λ _. stand self.new ≡ declared (stand self.old) (distinct (seen_words variables.entry.items))) };
 
-    /// One more `$a`.
+    /// One more `$a`, for whose symbols the mandatory hypotheses are marked.
     fn declare_axiom(
         &mut self,
         alloc: Global,
         label: &'a [u8],
         expression: Vec<&'a [u8]>,
     ) -> Result<(), AllocError>
-        requires { is_lawful (stand self.old).scope (asserted label.now (seen_words expression.items)) ≡ true }
+        requires lawful { is_lawful (stand self.old).scope (asserted label.now (seen_words expression.items)) ≡ true }
+        requires marks { marks self.old ≡ mandatory_marks (stand self.old).scope (seen_words expression.items) }
         ensures { IfOk result (λ _. stand self.new ≡ declared (stand self.old) (asserted label.entry.now (seen_words expression.entry.items))) };
 
-    /// One more `$p`.
+    /// One more `$p`, for whose symbols the mandatory hypotheses are marked.
     fn declare_theorem(
         &mut self,
         alloc: Global,
@@ -145,7 +161,8 @@ pub trait Standing<'a>: Drop {
         expression: Vec<&'a [u8]>,
         proof: ProofWords<'a>,
     ) -> Result<(), AllocError>
-        requires { is_lawful (stand self.old).scope (asserted label.now (seen_words expression.items)) ≡ true }
+        requires lawful { is_lawful (stand self.old).scope (asserted label.now (seen_words expression.items)) ≡ true }
+        requires marks { marks self.old ≡ mandatory_marks (stand self.old).scope (seen_words expression.items) }
         ensures { IfOk result (λ _. stand self.new ≡ declared (stand self.old)
             (proved label.entry.now (seen_words expression.entry.items) (seen_proof proof.entry))) };
 

@@ -1,7 +1,7 @@
 -- Of the code's inside, apart from the rules: what is always so in the middle of a statement, since its tests passed.
-use Rattle.std.specs.Prelude.{◌≡◌, Bool, true, ◌&&◌, List, [], length, map}
+use Rattle.std.specs.Prelude.{◌≡◌, Bool, true, ◌&&◌, List, [], length}
 use Rattle.mmtext.specs.Words.{Word, is_label}
-use Rattle.source.specs.Scopes.{Scope, Stand, mandatory, is_mandatory}
+use Rattle.source.specs.Scopes.{Scope, Stand, mandatory}
 use Rattle.source.specs.Tests.{type_tests, float_tests, distinct_tests, symbol_tests, passes, all_pass, is_new_label, is_expression}
 use Rattle.source.specs.Faults.{Place, at_start, after_label, in_constants, in_variables, in_distinct, float_type, float_variable}
 use Rattle.source.specs.Faults.{float_end, in_hypothesis, in_axiom, in_theorem, in_steps, in_labels, in_letters}
@@ -12,7 +12,7 @@ use Rattle.sourcereader.specs.declared.place.ProofPlace.{ProofPlace}
 use Rattle.sourcereader.specs.declared.place.ProofPlace.TheVariants as proof
 use Rattle.sourcereader.specs.declared.place.Numbered.{Numbered}
 use Rattle.sourcereader.specs.Views.{seen_place}
-use Rattle.source.specs.Counts.{CountsSteps, CountsLetters, HaveArities}
+use Rattle.source.specs.Counts.{CountsSteps, CountsLetters, HaveArities, mandatory_marks}
 
 -- a new label, and symbols that passed
 abbrev pub has_begun : Scope → Word → List Word → Bool
@@ -48,19 +48,17 @@ pub record IsNumbered (s : Scope) (e : List Word) (n : Numbered) : Type 0 where
   pub hypotheses : n.hypotheses ≡ length (mandatory s.hypotheses e)
   pub arities : HaveArities s.assertions s.hypotheses (seen_words n.labels.items) n.arities.items
 
--- which of the active hypotheses are mandatory for an expression
-abbrev pub mandatory_marks : Scope → List Word → List Bool
-mandatory_marks s e = map (is_mandatory s.hypotheses e) s.hypotheses
-
--- what is counted in the proof of an expression, where these marks stand
+-- what is marked and counted in the proof of an expression
 abbrev pub IsCountedProof : Scope → List Bool → List Word → ProofPlace → Type 0
-IsCountedProof s marks e (proof.InSteps steps c) = CountsSteps s (seen_words steps.items) c
+IsCountedProof s marks e (proof.InSteps steps c) = (marks ≡ mandatory_marks s e) × CountsSteps s (seen_words steps.items) c
 IsCountedProof s marks e (proof.InLabels n) = (marks ≡ mandatory_marks s e) × IsNumbered s e n
 IsCountedProof s marks e (proof.InLetters n letters c) =
-    IsNumbered s e n × CountsLetters s e (seen_words n.labels.items) (seen_words letters.items) c
+    (marks ≡ mandatory_marks s e) × IsNumbered s e n × CountsLetters s e (seen_words n.labels.items) (seen_words letters.items) c
 
--- what is counted of a proof is so
+-- in an assertion the hypotheses are marked that are mandatory for its symbols so far, and what is counted of a proof is so
 abbrev pub IsCounted : Scope → List Bool → CodePlace → Type 0
+IsCounted s marks (code.InAxiom label e) = marks ≡ mandatory_marks s (seen_words e.items)
+IsCounted s marks (code.InTheorem label e) = marks ≡ mandatory_marks s (seen_words e.items)
 IsCounted s marks (code.InProof x p) = IsCountedProof s marks (seen_words x.expression.items) p
 IsCounted s marks _ = Unit {0}
 

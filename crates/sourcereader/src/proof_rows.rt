@@ -2,16 +2,17 @@
 
 ghost use Rattle.std.specs.Prelude.{◌≡◌, List, [], ◌∷◌, ◌++◌, length, None, Some, Ok, true, false, IfOk};
 ghost use Rattle.std.specs.Option.{option_map};
+ghost use Rattle.std.specs.Result.{result_err};
 ghost use Rattle.mmtext.specs.Views.{seen};
 ghost use Rattle.mmtext.specs.Words.{Word};
 ghost use Rattle.mmsyntax.specs.Rows.{first_fault};
 ghost use Rattle.source.specs.Proofs.{taken_by};
-ghost use Rattle.source.specs.Tests.{named_tests, cited_tests, step_tests, letter_tests, is_whole};
+ghost use Rattle.source.specs.Tests.{cited_tests, step_tests, letter_tests, is_whole};
 ghost use Rattle.source.specs.Faults.{at_start, in_steps, in_labels, in_letters, tested, ends_proof, next_step};
 ghost use Rattle.source.specs.Faults.{proof_row, labels_row, letters_row};
 ghost use Rattle.source.specs.Views.{seen_words, seen_proof};
-ghost use Rattle.source.specs.Counts.{CountsSteps};
-ghost use Rattle.sourcereader.specs.Standing.{Stands, IsCounted, IsCountedProof, is_stated, mandatory_marks};
+ghost use Rattle.source.specs.Counts.{CountsSteps, mandatory_marks};
+ghost use Rattle.sourcereader.specs.Standing.{Stands, IsCounted, IsCountedProof, is_stated};
 ghost use Rattle.sourcereader.specs.Views.{standing_at, seen_place, Leads};
 ghost use Rattle.sourcereader.specs.declared.place.ProofPlace.TheVariants.{InSteps, InLabels, InLetters};
 
@@ -19,19 +20,6 @@ use crate::place::{Numbered, Place, ProofPlace, Theorem};
 use mmtext::{FaultKind, Mark, Stop, Token, fault_at};
 use source::{Entries, ProofWords, Standing};
 use std::alloc::{AllocError, Global};
-
-/// How many entries a label takes that may stand in a proof.
-fn arity_of<'a, S: Standing<'a>>(standing: &S, word: &'a [u8]) -> usize
-    requires { first_fault (named_tests (S.stand standing.now).scope word.now) ≡ None }
-    ensures { let s = (S.stand standing.now).scope in
-        option_map length (taken_by s.assertions s.hypotheses word.entry.now) ≡ Some result }
-{
-    match standing.arity(word) {
-        Some(arity) => arity,
-        // Not reached, since it names something.
-        None => 0,
-    }
-}
 
 /// The fault of one more step of a normal proof, which is counted behind others.
 fn step_fault<'a, S: Standing<'a>>(
@@ -47,10 +35,11 @@ fn step_fault<'a, S: Standing<'a>>(
         entries.skip();
         return Ok(None);
     }
-    if let Some(kind) = standing.named_fault(word) {
-        return Ok(Some(kind));
-    }
-    if entries.take(arity_of(standing, word))? {
+    let arity = match standing.named(word) {
+        Ok(arity) => arity,
+        Err(kind) => return Ok(Some(kind)),
+    };
+    if entries.take(arity)? {
         Ok(None)
     } else {
         Ok(Some(FaultKind::BadToken))
@@ -68,6 +57,7 @@ fn end<'a, S: Standing<'a>>(
 ) -> Result<Place<'a>, Stop>
     requires stated { is_stated (S.stand standing.old).scope theorem.label.now (seen_words theorem.expression.items) ≡ true }
     requires whole { whole ≡ is_whole (S.stand standing.old).scope (seen_words theorem.expression.items) (seen_proof proof) }
+    requires marks { S.marks standing.old ≡ mandatory_marks (S.stand standing.old).scope (seen_words theorem.expression.items) }
     ensures leads { Leads (S.stand standing.new) result (ends_proof (standing_at (S.stand standing.old) at_start) theorem.entry.label.now
         (seen_words theorem.entry.expression.items) (seen_proof proof.entry) (seen token.entry)) }
     ensures counted { IfOk result (λ p. IsCounted (S.stand standing.new).scope (S.marks standing.new) p) }
@@ -87,7 +77,8 @@ fn step<'a, S: Standing<'a>>(
     mut entries: Entries,
     token: Token<'a>,
 ) -> Result<Place<'a>, Stop>
-    requires { CountsSteps (S.stand standing.now).scope (seen_words steps.items) entries }
+    requires { IsCountedProof (S.stand standing.now).scope (S.marks standing.now) (seen_words theorem.expression.items)
+        (InSteps steps entries) }
     ensures leads { let e = seen_words theorem.entry.expression.items in let ws = seen_words steps.entry.items in
         Leads (S.stand standing.now) result
         (next_step (standing_at (S.stand standing.now) (in_steps theorem.entry.label.now e ws)) theorem.entry.label.now e ws
@@ -103,12 +94,12 @@ fn step<'a, S: Standing<'a>>(
 }
 
 /// Behind `$=`: the `(` of a compressed proof.
-fn open<'a, S: Standing<'a>>(alloc: Global, standing: &mut S, theorem: Theorem<'a>) -> Place<'a>
-    ensures same { S.stand standing.new ≡ S.stand standing.old }
+fn open<'a, S: Standing<'a>>(alloc: Global, standing: &S, theorem: Theorem<'a>) -> Place<'a>
+    requires { S.marks standing.now ≡ mandatory_marks (S.stand standing.now).scope (seen_words theorem.expression.items) }
     ensures place { seen_place result ≡ in_labels theorem.entry.label.now (seen_words theorem.entry.expression.items) [] }
-    ensures counted { IsCounted (S.stand standing.new).scope (S.marks standing.new) result }
+    ensures counted { IsCounted (S.stand standing.now).scope (S.marks standing.now) result }
 {
-    let hypotheses = standing.frame(&theorem.expression);
+    let hypotheses = standing.mandatory_count();
     let numbered = Numbered {
         hypotheses,
         labels: Vec::new(alloc),
@@ -128,7 +119,8 @@ pub(crate) fn steps<'a, S: Standing<'a>>(
     mark: Mark,
 ) -> Result<Place<'a>, Stop>
     requires stated { is_stated (S.stand standing.old).scope theorem.label.now (seen_words theorem.expression.items) ≡ true }
-    requires counts { CountsSteps (S.stand standing.old).scope (seen_words steps.items) entries }
+    requires counts { IsCountedProof (S.stand standing.old).scope (S.marks standing.old) (seen_words theorem.expression.items)
+        (InSteps steps entries) }
     ensures leads { let e = seen_words theorem.entry.expression.items in let ws = seen_words steps.entry.items in
         Leads (S.stand standing.new) result (proof_row (standing_at (S.stand standing.old) (in_steps theorem.entry.label.now e ws))
         theorem.entry.label.now e ws (seen token.entry) mark) }
@@ -154,16 +146,18 @@ pub(crate) fn steps<'a, S: Standing<'a>>(
     step(standing, theorem, steps, entries, token)
 }
 
-/// The fault of a label in parentheses, in the proof of the expression that is framed.
-fn cited_fault<'a, S: Standing<'a>>(
+/// How many entries a label in parentheses takes, or its fault, in the proof of an expression for which mandatory hypotheses are marked.
+fn cited<'a, S: Standing<'a>>(
     standing: &S,
     _expression: &[&'a [u8]],
     word: &'a [u8],
-) -> Option<FaultKind>
+) -> Result<usize, FaultKind>
     requires { S.marks standing.now ≡ mandatory_marks (S.stand standing.now).scope (seen_words _expression.now) }
-    ensures { result ≡ first_fault (cited_tests (S.stand standing.now).scope (seen_words _expression.now) word.now) }
+    ensures fault { result_err result ≡ first_fault (cited_tests (S.stand standing.now).scope (seen_words _expression.now) word.now) }
+    ensures takes { let s = (S.stand standing.now).scope in
+        IfOk result (λ n. option_map length (taken_by s.assertions s.hypotheses word.entry.now) ≡ Some n) }
 {
-    standing.cited_fault(word)
+    standing.cited(word)
 }
 
 /// Behind `(` and labels.
@@ -185,10 +179,10 @@ pub(crate) fn labels<'a, S: Standing<'a>>(
         let place = ProofPlace::InLetters(numbered, Vec::new(alloc), Entries::new());
         return Ok(Place::InProof(theorem, place));
     }
-    if let Some(kind) = cited_fault(standing, &theorem.expression, token.text) {
-        return Err(fault_at(token, kind));
-    }
-    let arity = arity_of(standing, token.text);
+    let arity = match cited(standing, &theorem.expression, token.text) {
+        Ok(arity) => arity,
+        Err(kind) => return Err(fault_at(token, kind)),
+    };
     numbered.labels.push(token.text)?;
     numbered.arities.push(arity)?;
     Ok(Place::InProof(theorem, ProofPlace::InLabels(numbered)))

@@ -132,7 +132,7 @@ impl<'a, S: Standing<'a>, P: KeepsPlace<'a>> Reader<'a> for SourceReader<S, P> {
 
     fn take_word(&mut self, _alloc: Global, token: Token<'a>) -> Result<bool, Stop> {
         let mut here = self.place.replace(Place::AtStart);
-        let taken = take_word(&self.standing, &mut here, token)?;
+        let taken = take_word(&mut self.standing, &mut here, token)?;
         self.place.replace(here);
         Ok(taken)
     }

@@ -3,6 +3,7 @@
 ghost use Rattle.std.specs.Prelude.{◌≡◌, IfOk, Ok};
 ghost use Rattle.mmtext.specs.Views.{seen};
 ghost use Rattle.mmtext.specs.declared.mark.Mark.TheVariants.{Closing};
+ghost use Rattle.source.specs.Counts.{mandatory_marks};
 ghost use Rattle.source.specs.Tests.{type_tests, float_tests};
 ghost use Rattle.source.specs.Faults.{at_start, after_label, in_constants, in_variables, in_distinct, float_variable, float_end};
 ghost use Rattle.source.specs.Faults.{in_hypothesis, in_axiom, in_theorem, tested, start_row, keyword_row, constant_row, variable_row};
@@ -52,24 +53,30 @@ fn close<'a, S: Standing<'a>>(standing: &mut S, token: Token<'a>) -> Result<Plac
     Ok(Place::AtStart)
 }
 
-/// Behind a label.
+/// Behind a label. The expression of an assertion begins there.
 pub(crate) fn keyword<'a, S: Standing<'a>>(
     alloc: Global,
-    standing: &S,
+    standing: &mut S,
     label: Token<'a>,
     token: Token<'a>,
     mark: Mark,
 ) -> Result<Place<'a>, Stop>
-    ensures leads { Leads (S.stand standing.now) result
-        (keyword_row (standing_at (S.stand standing.now) (after_label (seen label.entry))) (seen label.entry) (seen token.entry) mark) }
-    ensures counted { IfOk result (λ p. IsCounted (S.stand standing.now).scope (S.marks standing.now) p) }
+    ensures leads { Leads (S.stand standing.new) result
+        (keyword_row (standing_at (S.stand standing.old) (after_label (seen label.entry))) (seen label.entry) (seen token.entry) mark) }
+    ensures counted { IfOk result (λ p. IsCounted (S.stand standing.new).scope (S.marks standing.new) p) }
 {
     let word = label.text;
     let place = match mark {
         Mark::Floating => Place::FloatType(word),
         Mark::Essential => Place::InHypothesis(word, Vec::new(alloc)),
-        Mark::Axiom => Place::InAxiom(word, Vec::new(alloc)),
-        Mark::Provable => Place::InTheorem(word, Vec::new(alloc)),
+        Mark::Axiom => {
+            standing.begin();
+            Place::InAxiom(word, Vec::new(alloc))
+        }
+        Mark::Provable => {
+            standing.begin();
+            Place::InTheorem(word, Vec::new(alloc))
+        }
         _ => return Err(fault_at(token, FaultKind::BadToken)),
     };
     match standing.label_fault(word) {
@@ -236,7 +243,8 @@ pub(crate) fn axiom<'a, S: Standing<'a>>(
     token: Token<'a>,
     mark: Mark,
 ) -> Result<Place<'a>, Stop>
-    requires { Stands (S.stand standing.old).scope (in_axiom label.now (seen_words expression.items)) }
+    requires stands { Stands (S.stand standing.old).scope (in_axiom label.now (seen_words expression.items)) }
+    requires marks { S.marks standing.old ≡ mandatory_marks (S.stand standing.old).scope (seen_words expression.items) }
     ensures leads { let e = seen_words expression.entry.items in Leads (S.stand standing.new) result
         (axiom_row (standing_at (S.stand standing.old) (in_axiom label.entry.now e)) label.entry.now e (seen token.entry) mark) }
     ensures counted { IfOk result (λ p. IsCounted (S.stand standing.new).scope (S.marks standing.new) p) }
@@ -255,15 +263,16 @@ pub(crate) fn axiom<'a, S: Standing<'a>>(
 /// A symbol of a `$p`, or the `$=` behind one.
 pub(crate) fn theorem<'a, S: Standing<'a>>(
     alloc: Global,
-    standing: &S,
+    standing: &mut S,
     label: &'a [u8],
     mut expression: Vec<&'a [u8]>,
     token: Token<'a>,
     mark: Mark,
 ) -> Result<Place<'a>, Stop>
-    ensures leads { let e = seen_words expression.entry.items in Leads (S.stand standing.now) result
-        (theorem_row (standing_at (S.stand standing.now) (in_theorem label.entry.now e)) label.entry.now e (seen token.entry) mark) }
-    ensures counted { IfOk result (λ p. IsCounted (S.stand standing.now).scope (S.marks standing.now) p) }
+    requires { S.marks standing.old ≡ mandatory_marks (S.stand standing.old).scope (seen_words expression.items) }
+    ensures leads { let e = seen_words expression.entry.items in Leads (S.stand standing.new) result
+        (theorem_row (standing_at (S.stand standing.old) (in_theorem label.entry.now e)) label.entry.now e (seen token.entry) mark) }
+    ensures counted { IfOk result (λ p. IsCounted (S.stand standing.new).scope (S.marks standing.new) p) }
 {
     if mark == Mark::Proof && !expression.is_empty() {
         let place = ProofPlace::InSteps(Vec::new(alloc), Entries::new());

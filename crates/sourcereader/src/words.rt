@@ -1,9 +1,10 @@
 //! Symbols of expressions, which grow where they lie.
 
-ghost use Rattle.std.specs.Prelude.{OnOk};
+ghost use Rattle.std.specs.Prelude.{◌≡◌, OnOk};
 ghost use Rattle.mmtext.specs.Takings.{TakesWord};
 ghost use Rattle.mmtext.specs.Views.{seen};
 ghost use Rattle.mmsyntax.specs.Rows.{first_fault};
+ghost use Rattle.source.specs.Counts.{mandatory_marks};
 ghost use Rattle.source.specs.Faults.{source_language};
 ghost use Rattle.source.specs.Tests.{symbol_tests};
 ghost use Rattle.source.specs.Views.{seen_words};
@@ -17,13 +18,16 @@ use source::Standing;
 
 /// A symbol of an expression.
 fn take_symbol<'a, S: Standing<'a>>(
-    standing: &S,
+    standing: &mut S,
     words: &mut Vec<&'a [u8]>,
     token: Token<'a>,
 ) -> Result<bool, Stop>
-    ensures { let old = seen_words words.old.items in
-        TakesItem (seen token.entry) (first_fault (symbol_tests (S.stand standing.now).scope old token.entry.text.now)) old
+    ensures same { S.stand standing.new ≡ S.stand standing.old }
+    ensures taken { let old = seen_words words.old.items in
+        TakesItem (seen token.entry) (first_fault (symbol_tests (S.stand standing.old).scope old token.entry.text.now)) old
         (seen_words words.new.items) result }
+    ensures marks { S.marks standing.old ≡ mandatory_marks (S.stand standing.old).scope (seen_words words.old.items)
+        → OnOk result (S.marks standing.new ≡ mandatory_marks (S.stand standing.old).scope (seen_words words.new.items)) }
 {
     if contains_dollar(token.text) {
         return Ok(false);
@@ -37,14 +41,15 @@ fn take_symbol<'a, S: Standing<'a>>(
 
 /// A word where it stands, if that is an expression: whether it was taken.
 fn take_in_place<'a, S: Standing<'a>>(
-    standing: &S,
+    standing: &mut S,
     place: &mut Place<'a>,
     token: Token<'a>,
 ) -> Result<bool, Stop>
-    requires { IsReadySource (S.stand standing.now) (S.marks standing.now) place.old }
-    ensures counted { OnOk result (IsCounted (S.stand standing.now).scope (S.marks standing.now) place.new) }
-    ensures taken { TakesWord source_language (seen_at (S.stand standing.now) place.old) (seen token.entry)
-        (seen_at (S.stand standing.now) place.new) result }
+    requires { IsReadySource (S.stand standing.old) (S.marks standing.old) place.old }
+    ensures same { S.stand standing.new ≡ S.stand standing.old }
+    ensures counted { OnOk result (IsCounted (S.stand standing.old).scope (S.marks standing.new) place.new) }
+    ensures taken { TakesWord source_language (seen_at (S.stand standing.old) place.old) (seen token.entry)
+        (seen_at (S.stand standing.old) place.new) result }
 {
     match place {
         Place::InHypothesis(_, words) => take_symbol(standing, words, token),
@@ -56,14 +61,14 @@ fn take_in_place<'a, S: Standing<'a>>(
 
 /// Takes a word without `$` where it stands, if that is an expression: whether it did.
 pub(crate) fn take_word<'a, S: Standing<'a>>(
-    standing: &S,
+    standing: &mut S,
     place: &mut Place<'a>,
     token: Token<'a>,
 ) -> Result<bool, Stop>
-    requires { IsReadySource (S.stand standing.now) (S.marks standing.now) place.old }
-    ensures ready { OnOk result (IsReadySource (S.stand standing.now) (S.marks standing.now) place.new) }
-    ensures taken { TakesWord source_language (seen_at (S.stand standing.now) place.old) (seen token.entry)
-        (seen_at (S.stand standing.now) place.new) result }
+    requires { IsReadySource (S.stand standing.old) (S.marks standing.old) place.old }
+    ensures ready { OnOk result (IsReadySource (S.stand standing.new) (S.marks standing.new) place.new) }
+    ensures taken { TakesWord source_language (seen_at (S.stand standing.old) place.old) (seen token.entry)
+        (seen_at (S.stand standing.new) place.new) result }
 {
     take_in_place(standing, place, token)
 }

@@ -2,12 +2,17 @@
 //!
 //! A line of this crate's `stdin` is `all`, `for LABEL ..` or `between LABEL LABEL`, then `:` and a source. Its `stdout`, worked out by hand from the
 //! rules, has each line again, and behind it the lines of the library, `axiom LABEL WHY` for each theorem that is taken as an axiom and
-//! `name OLD NEW` for each name that is changed; or `refused` and why. A line that begins with `#` says something to the reader, and is not
-//! answered.
+//! `name OLD NEW` for each name that is changed; or `refused` and why. A line `made WORD NUMBER` stands for a source of real size
+//! (`made.rt`), all of which is wanted: of the library it is only said how many assertions it has. A line that begins with `#` says
+//! something to the reader, and is not answered.
 #![tactic(auto)]
 
+mod made;
+
+use crate::made::made;
 use choosing::Wish;
-use intake::{Refusal, Taken, take};
+use drafts::Limit;
+use intake::{Refusal, Taken, Unfollowed, take};
 use mmsyntax::Label;
 use mmwriter::write_database;
 use std::alloc::{AllocError, Global};
@@ -107,6 +112,28 @@ fn put_taken(alloc: Global, out: &mut Vec<u8>, taken: &Taken<'_>) -> Result<(), 
     put_names(out, taken.names.as_slice())
 }
 
+/// What passes a limit, and where: the name there, or how long it is.
+fn put_passed(
+    alloc: Global,
+    out: &mut Vec<u8>,
+    limit: Limit,
+    name: Option<&[u8]>,
+) -> Result<(), AllocError> {
+    let line = format!(in alloc; "refused {limit:?} at ")?;
+    out.extend_from_slice(line.as_bytes())?;
+    match name {
+        None => out.extend_from_slice(b"none\n"),
+        Some(name) if name.len() > 9 => {
+            let length = format!(in alloc; "a name of {} bytes\n", name.len())?;
+            out.extend_from_slice(length.as_bytes())
+        }
+        Some(name) => {
+            out.extend_from_slice(name)?;
+            out.extend_from_slice(b"\n")
+        }
+    }
+}
+
 /// Why nothing was taken.
 fn put_refusal(
     alloc: Global,
@@ -120,9 +147,47 @@ fn put_refusal(
         }
         Refusal::UnknownLabel(label) => put_line(out, b"refused", b"unknown", label),
         Refusal::Backwards => out.extend_from_slice(b"refused backwards\n"),
+        Refusal::TooMany(count) => {
+            let line = format!(in alloc; "refused too many: {count}\n")?;
+            out.extend_from_slice(line.as_bytes())
+        }
+        Refusal::TooWide => out.extend_from_slice(b"refused too wide\n"),
+        Refusal::Passes(limit, name) => put_passed(alloc, out, *limit, *name),
         Refusal::Proof(label, _) => put_line(out, b"refused", b"proof", label.as_slice()),
         _ => out.extend_from_slice(b"refused\n"),
     }
+}
+
+/// How many assertions were taken, and the theorems that are axioms.
+fn put_size(alloc: Global, out: &mut Vec<u8>, taken: &Taken<'_>) -> Result<(), AllocError> {
+    let line = format!(in alloc; "taken {}\n", taken.database.assertions().len())?;
+    out.extend_from_slice(line.as_bytes())?;
+    put_axioms(out, taken.axioms.as_slice())
+}
+
+/// What is answered to a row that stands for a source of real size.
+fn put_made(
+    rt: &(impl Threads + Sync),
+    alloc: Global,
+    keys: RandomState,
+    out: &mut Vec<u8>,
+    kind: &[u8],
+    number: &[u8],
+) -> Result<(), AllocError> {
+    let Some(count) = number_of(number) else {
+        return out.extend_from_slice(b"no number\n");
+    };
+    let source = made(alloc, kind, count)?;
+    match take(rt, alloc, keys, source.as_slice(), Wish::All, &Unfollowed) {
+        Ok(taken) => put_size(alloc, out, &taken),
+        Err(refusal) => put_refusal(alloc, out, &refusal),
+    }
+}
+
+/// The number that a word has in decimal digits.
+fn number_of(word: &[u8]) -> Option<usize> {
+    let digits = str::from_utf8(word).ok()?;
+    digits.parse::<usize>().ok()
 }
 
 /// A row, and what is answered to it.
@@ -136,7 +201,13 @@ fn put_row(
     out.extend_from_slice(line)?;
     out.push(b'\n')?;
     let row = row_of(alloc, line)?;
-    match take(rt, alloc, keys, row.source, wish_of(row.words.as_slice())) {
+    if let [first, kind, number] = row.words.as_slice()
+        && *first == b"made".as_slice()
+    {
+        return put_made(rt, alloc, keys, out, kind, number);
+    }
+    let wish = wish_of(row.words.as_slice());
+    match take(rt, alloc, keys, row.source, wish, &Unfollowed) {
         Ok(taken) => put_taken(alloc, out, &taken),
         Err(refusal) => put_refusal(alloc, out, &refusal),
     }

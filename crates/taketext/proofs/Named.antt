@@ -8,7 +8,7 @@ use Rattle.std.specs.Str.{bytes_eq}
 use mathlib.Core.Bool.{not}
 use Rattle.std.proofs.lemmas.Bool.{cases_Bool, cond-true, cond-false, or_parts, or_from, and_parts}
 use Rattle.std.proofs.lemmas.List.{length-map}
-use Rattle.std.proofs.lemmas.List.Elements.{All-filter, All-from_recursion, recursion_from_All, All-from_get_or, All-get_or, All-weaker}
+use Rattle.std.proofs.lemmas.List.Elements.{All-filter, recursion_from_All, All-from_get_or, All-get_or, All-weaker}
 use Rattle.std.proofs.lemmas.List.Elements.{filter_passes}
 use Rattle.std.proofs.lemmas.List.FromFn.{length-range_with_len}
 use Rattle.std.proofs.lemmas.Option.{get_or_from_slice_get}
@@ -36,6 +36,7 @@ use Rattle.taking.specs.Reasons.{Choice, reason}
 use Rattle.taking.specs.Taken.{IsTaken, AreTakenFrom, AreTaken, told_of, told, chosen_of, Takes}
 use Rattle.choosing.specs.Choices.{labels_of, labels_wished}
 use Rattle.choosing.specs.declared.wish.Wish.{Wish}
+use Rattle.choosing.proofs.Apart.{filter_hold}
 use Rattle.intake.specs.declared.taken.Taken.{Taken}
 use Rattle.intake.specs.Intakes.{axioms_of, names_of, IsTaken as IsTakenOf}
 use Rattle.taketext.proofs.Quiet.{AreQuiet, quiet_word, quiet_label}
@@ -61,9 +62,6 @@ zip_quiet : (ws vs : List Word) → AllByRecursion AreQuiet ws → AllByRecursio
 zip_quiet [] vs h g = tt
 zip_quiet (w ∷ ws) [] h g = tt
 zip_quiet (w ∷ ws) (v ∷ vs) h g = ((h.0, g.0), zip_quiet ws vs h.1 g.1)
-
-filter_all : {A : Type 0} (P : A → Type 0) (p : A → Bool) (xs : List A) → AllByRecursion P xs → AllByRecursion P (filter p xs)
-filter_all P p xs h = recursion_from_All P (filter p xs) (All-filter p P xs (All-from_recursion P xs h))
 
 module _ {A : Type 0} (p : A → Bool) (label : A → Word) where
   any_filtered : (w : Word) (xs : List A) → list_any (bytes_eq w) (map label xs) ≡ false
@@ -331,7 +329,7 @@ module _ (s : Scope) (choice : Choice) (db : Contents) (axioms : List (Word × R
       let two = all_append IsQuietNaming cs vs constants_told variables_told in
       let all = all_append IsQuietNaming (cs ++ vs ++ fs) m.labels (all_append IsQuietNaming (cs ++ vs) fs two floats_told) labels_told in
       subst (AllByRecursion IsQuietNaming) takes.names_told
-      (filter_all IsQuietNaming (λ p. not (bytes_eq p.0 p.1)) (cs ++ vs ++ fs ++ m.labels) all)
+      (filter_hold IsQuietNaming (λ p. not (bytes_eq p.0 p.1)) (cs ++ vs ++ fs ++ m.labels) all)
 
 -- ---- the theorems that are taken as axioms
 

@@ -7,7 +7,7 @@ ghost use Rattle.taketext.specs.Answers.{IsTakeAnswer};
 use crate::comment::put_comment;
 use crate::refusing::{long_line, refusal_line};
 use choosing::Wish;
-use intake::{Taken, take};
+use intake::{Follow, Taken, take};
 use mmwriter::write_database;
 use std::alloc::{AllocError, Global};
 use std::hash::RandomState;
@@ -50,7 +50,7 @@ fn tell_taken(
 /// Takes a library from the text of a file, and gives what the program answers.
 ///
 /// What is printed is the library's canonical text behind a comment that tells where it comes from, and is read by `check`, `run` and
-/// `replay` as it stands. The line of a refusal says why nothing is printed.
+/// `replay` as it stands. The line of a refusal says why nothing is printed. Who follows is told how far the taking is.
 ///
 /// # Errors
 ///
@@ -62,10 +62,11 @@ pub fn answer_take<'w>(
     path: &str,
     source: &[u8],
     wish: Wish<'w>,
+    follow: &impl Follow,
 ) -> Result<Told, AllocError>
     ensures { IfOk result (IsTakeAnswer path.now source.now wish.entry) }
 {
-    match take(rt, alloc, keys, source, wish) {
+    match take(rt, alloc, keys, source, wish, follow) {
         Ok(taken) => tell_taken(alloc, path, source, wish, &taken),
         Err(why) => Ok(Told::Refused(refusal_line(alloc, path, &why)?)),
     }

@@ -7,3 +7,4 @@ mod comment;
 mod refusing;
 
 pub use answering::{Told, answer_take};
+pub use intake::{Follow, Unfollowed};

@@ -26,7 +26,7 @@ returns-in-Some-Variable c =
     let s = scope_of (kept_of c.args.tables.now) in
     let at : looks_up c.args.tables.now.names w ≡ Some (Variable c.in-Some-Variable.place c.in-Some-Variable.float) = search rules in
     sort_variable s w c.in-Some-Variable.place c.in-Some-Variable.float _ _ (subst (λ o. Knows s w o) at (c.requires.named w))
-    (search rules) c.is_float_at.ensures
+    (search rules) c.active_float.ensures
 
 pub returns-then-is_hypothesis_at : goal.returns-then-is_hypothesis_at
 returns-then-is_hypothesis_at c =

@@ -8,4 +8,5 @@ end-requires g c k =
     let s = (g.S.Standing.stand c.args.standing.now).scope in
     let e = seen_words c.args.theorem.expression.items in
     let ws = seen_words c.args.numbered.labels.items in
-    ((refl, tt), (c.requires.stated, c.is_whole-whole.ensures.letters s e ws (seen_words c.args.letters.items) c.requires.counts.1))
+    let whole = c.is_whole-whole.ensures.letters s e ws (seen_words c.args.letters.items) c.requires.counts.2 in
+    ((refl, tt), (c.requires.stated, (whole, c.requires.counts.0)))

@@ -1,6 +1,10 @@
 -- What is left to show of `step_fault`.
-use Rattle.std.proofs.Common.{◌≡◌, true, false, sym, ap, ◌∙◌}
+use Rattle.std.proofs.Common.{◌≡◌, true, false, Some, length, sym, ap, subst, ◌∙◌}
+use Rattle.std.specs.Prelude.{IfOk}
+use Rattle.std.specs.Option.{option_map}
+use Rattle.std.specs.Result.{result_err}
 use Rattle.std.specs.Str.{bytes_eq}
+use Rattle.source.specs.Proofs.{taken_by}
 use Rattle.source.specs.Scopes.{is_unknown}
 use Rattle.sourcereader.proofs.Named.{unknown_step, known_step}
 use Rattle.sourcereader.proofs.proof_rows.step_fault.Goals as goal
@@ -17,7 +21,8 @@ returns-then-branch g c ws counts =
     let s = (g.S.Standing.stand c.args.standing.now).scope in
     let w = c.args.word.now in
     let known : is_unknown w ≡ false = ap (bytes_eq w) (sym c.as_slice.ensures) ∙ sym c.eq.ensures ∙ c.if-eq.false in
-    let took = c.in_ok-take.ensures s ws w counts known c.arity_of.ensures in (
-      sym (known_step s ws w known (sym c.named_fault.ensures ∙ c.in_default.is) (sym took.0 ∙ c.if-branch.true)),
+    let takes = subst (λ r. IfOk r (λ n. option_map length (taken_by s.assertions s.hypotheses w) ≡ Some n)) c.in-Ok.is c.named.ensures.takes in
+    let took = c.in_ok-take.ensures s ws w counts known takes in (
+      sym (known_step s ws w known (sym c.named.ensures.fault ∙ ap result_err c.in-Ok.is) (sym took.0 ∙ c.if-branch.true)),
       λ same. took.1 c.if-branch.true,
     )

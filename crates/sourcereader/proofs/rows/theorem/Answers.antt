@@ -1,6 +1,14 @@
 -- What is left to show of `theorem`.
+use Rattle.sourcereader.proofs.Marked.{symbol_marked}
 use Rattle.sourcereader.proofs.rows.theorem.Goals as goal
 
 pub returns-then-not-is_empty-clause-counted : goal.returns-then-not-is_empty-clause-counted
 returns-then-not-is_empty-clause-counted g c =
-    rw c.new.ensures.items (c.new-then-not-is_empty.ensures.steps (g.S.Standing.stand c.args.standing.now).scope)
+    (c.requires, rw c.new.ensures.items (c.new-then-not-is_empty.ensures.steps (g.S.Standing.stand c.args.standing.now).scope))
+
+pub returns-clause-counted : goal.returns-clause-counted
+returns-clause-counted g c =
+    symbol_marked (g.S.Standing.stand c.args.standing.now) (g.S.Standing.stand c.symbol_fault.new.self)
+    (g.S.Standing.marks c.args.standing.now) (g.S.Standing.marks c.symbol_fault.new.self) c.args.expression.items c.deref.result.now
+    c.push.new.self.items c.args.token.text c.deref.ensures.value c.in_ok-push.ensures.items c.symbol_fault.ensures.same
+    c.symbol_fault.ensures.marks c.requires

@@ -1,0 +1,36 @@
+-- What is left to show of `arity_of`.
+use Rattle.std.proofs.Common.{◌≡◌, ◌∙◌, List, [], Some, cond, length, map, ap, refl, subst, sym}
+use Rattle.std.specs.List.{slice_get, find}
+use Rattle.std.specs.Option.{option_map}
+use Rattle.std.proofs.lemmas.Option.{slice_get-map, slice_get_read}
+use Rattle.std.specs.Str.{bytes_eq}
+use Rattle.source.specs.Scopes.{Hypothesis}
+use Rattle.scopes.specs.Views.{kept_of, scope_of, linked, set_apart, entry_of, assertion_of}
+use Rattle.scopes.specs.Sound.{IsCounted}
+use Rattle.scopes.specs.declared.sorts.Sort.{Sort}
+use Rattle.scopes.specs.Sorts.{IsSortOf}
+use Rattle.scopes.proofs.Linking.{all_at}
+use Rattle.scopes.proofs.labels.arity_of.Goals as goal
+
+pub returns-in_ok-assertion-in-Assertion : goal.returns-in_ok-assertion-in-Assertion
+returns-in_ok-assertion-in-Assertion c =
+    let t = c.args.tables.now in
+    let s = scope_of (kept_of t) in
+    let i = c.in-Assertion.place in
+    let a = c.in_ok-assertion-in-Assertion.assertion.now in
+    let links = map linked t.links.items in
+    let aparts = map set_apart t.aparts.items in
+    let read = c.in_ok-assertion-in-Assertion.ensures.lookup in
+    let at : slice_get t.assertions.items i ≡ Some a =
+    ap (λ xs. slice_get xs i) (sym c.deref.ensures.value) ∙ slice_get_read c.deref.result.now _ i a refl read.3.0 read.1 in
+    let entry : slice_get (map entry_of t.assertions.items) i ≡ Some (entry_of a) =
+    slice_get-map entry_of t.assertions.items i ∙ ap (option_map entry_of) at in
+    let seen : slice_get s.assertions i ≡ Some (assertion_of links aparts (entry_of a)) =
+    slice_get-map (assertion_of links aparts) (map entry_of t.assertions.items) i ∙ ap (option_map (assertion_of links aparts)) entry in
+    let counted = all_at (IsCounted links (length aparts)) (map entry_of t.assertions.items) i (entry_of a) c.requires.sound.counted entry in
+    let w = c.args._word.now in
+    let k = subst (λ (o : Sort). IsSortOf s w o) c.in-Assertion.is c.requires.sort in
+    let none : List Hypothesis = [] in
+    sym (ap (λ b. option_map length (cond b (Some none) (option_map (λ a. a.hypotheses) (find (λ a. bytes_eq w a.label) s.assertions)))) k.hypothesis
+    ∙ ap (λ o. option_map length (option_map (λ a. a.hypotheses) o)) (k.first ∙ seen)
+    ∙ ap (λ n. Some n) (sym counted.arity))
