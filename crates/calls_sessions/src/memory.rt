@@ -288,9 +288,10 @@ fn ends_with(
     assertions: usize,
 ) -> Result<(), Fail> {
     let alloc = rt.alloc();
-    let (library, mut session) = alone(rt, text)?;
+    // The sessions have room for the one that is taken out of them, so it takes no memory to put it back.
+    let (library, mut sessions) = opened(rt, text, 1000, 1)?;
+    let mut session = last(&library, &mut sessions)?;
     tried_again(alloc, &library, &mut session, script)?;
-    let mut sessions = Vec::new(alloc);
     with(&library, &mut sessions, session)?;
     let end = end_of(alloc, library, sessions);
     let is_so = end == Ok((1, assertions)) || end == Err(FinishError::NoMemory);
