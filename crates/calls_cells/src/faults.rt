@@ -4,31 +4,42 @@ use cells::Halt;
 use commands::RunError;
 use library::{Reason, Refused};
 use plaincells::{OpenError, PlainStop};
+use samples::wanted;
+use std::alloc::{AllocError, Global};
+use std::fmt::Display;
 use std::test::Fail;
+
+/// What stops a run of commands.
+const STOPPED: RunError<PlainStop> = RunError::Stopped(PlainStop::StoreFull);
+
+/// A command that is refused.
+const REFUSED: RunError<PlainStop> = RunError::Refused(Refused {
+    index: 1,
+    reason: Reason::LabelTaken,
+});
+
+const HALTED: Halt<PlainStop> = Halt::Stopped(PlainStop::NoMemory);
+
+/// Whether a fault is told by this text.
+fn is_told(alloc: Global, fault: &impl Display, text: &str) -> Result<bool, AllocError> {
+    Ok(format!(in alloc; "{fault}")?.as_str() == text)
+}
+
+/// Whether the faults are told by their texts.
+fn are_told(alloc: Global) -> Result<bool, AllocError> {
+    let full = "the bodies of the assertions have more words than the store";
+    Ok(
+        is_told(
+            alloc,
+            &STOPPED,
+            "the run was stopped: the store has no room for the words",
+        )? && is_told(alloc, &REFUSED, "command 1 is refused: 2 LabelTaken")?
+            && is_told(alloc, &HALTED, "the run was stopped: out of memory")?
+            && is_told(alloc, &OpenError::StoreFull, full)?,
+    )
+}
 
 #[test]
 fn errors_of_libraries_in_cells_are_told(rt: HostRuntime) -> Result<(), Fail> {
-    let stopped: RunError<PlainStop> = RunError::Stopped(PlainStop::StoreFull);
-    let refused: RunError<PlainStop> = RunError::Refused(Refused {
-        index: 1,
-        reason: Reason::LabelTaken,
-    });
-    let (halted, full) = (Halt::Stopped(PlainStop::NoMemory), OpenError::StoreFull);
-    assert_eq!(rt;
-        format!(in rt.alloc(); "{stopped}")?.as_str(),
-        "the run was stopped: the store has no room for the words"
-    );
-    assert_eq!(rt;
-        format!(in rt.alloc(); "{refused}")?.as_str(),
-        "command 1 is refused: 2 LabelTaken"
-    );
-    assert_eq!(rt;
-        format!(in rt.alloc(); "{halted}")?.as_str(),
-        "the run was stopped: out of memory"
-    );
-    assert_eq!(rt;
-        format!(in rt.alloc(); "{full}")?.as_str(),
-        "the bodies of the assertions have more words than the store"
-    );
-    Ok(())
+    wanted(are_told(rt.alloc())?, "each fault is told by its text")
 }

@@ -14,3 +14,5 @@ mod faults;
 mod running;
 #[cfg(test)]
 mod slots;
+#[cfg(test)]
+mod watched;

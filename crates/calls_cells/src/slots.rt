@@ -2,12 +2,13 @@
 
 ghost use Rattle.std.specs.Prelude.{◌≡◌, ◌≤◌, true};
 
+use crate::watched::{Watched, unread};
 use cells::{Cells, bucket, citers, entry, find, free_slot, is_full, kind, label, put_in, rank};
-use mmstatement::{Kind, Label, Prelude, fits, write_assertion};
+use library::Ranked;
+use mmstatement::{Kind, Prelude, fits, write_assertion};
 use plaincells::{OpenError, PlainCells};
 use proofcheck::check_all;
-use ranges::Range;
-use samples::{database, demo, mini, three};
+use samples::{database, mini, three, wanted};
 use std::alloc::{AllocError, AllocGlobal, Global};
 use std::random::RandomSource;
 use std::test::Fail;
@@ -55,84 +56,160 @@ pub(crate) fn value_of(cells: &PlainCells, cell: usize) -> Option<u64> {
     None
 }
 
+/// Whether cells have these values, and so many words of the store are taken.
+pub(crate) fn hold(cells: &PlainCells, values: &[(usize, u64)], taken: usize) -> bool {
+    for (cell, value) in values {
+        if value_of(cells, *cell) != Some(*value) {
+            return false;
+        }
+    }
+    cells.taken() == taken
+}
+
+/// Cells of the library of `mini` in 4,096 slots, in a store of its seven words.
+const MINI: &[(usize, u64)] = &[
+    // (31 * 119 + 101) mod 4096 is 3790: the bucket of `we` is the cell 20480 + 3790, and its next cell 6 * 4096
+    (24_270, 1),
+    (24_576, 0),
+    // the label, two words from 0 on; the statement, five from 2 on; no proof; the rank; no citer
+    (0, 2),
+    (1, 2 * 33_554_432 + 5),
+    (2, 0),
+    (3, 100),
+    (4, 0),
+];
+
 #[test]
 fn a_small_library_lies_where_its_label_says(rt: HostRuntime) -> Result<(), Fail> {
     let cells = opened(&rt, mini(), 4096, 7)?;
-    // (31 * 119 + 101) mod 4096 is 3790: the bucket of `we` is the cell 20480 + 3790, and its next cell 6 * 4096
-    assert_eq!(rt; value_of(&cells, 24_270), Some(1));
-    assert_eq!(rt; value_of(&cells, 24_576), Some(0));
-    // the label, two words from 0 on; the statement, five from 2 on; no proof; the rank; no citer
-    let slot = [2, 2 * 33_554_432 + 5, 0, 100, 0];
-    for (cell, value) in slot.iter().enumerate() {
-        assert_eq!(rt; value_of(&cells, cell), Some(*value), "in the cell {cell}");
-    }
-    assert_eq!(rt; cells.taken(), 7);
-    assert!(rt; matches!(opening(&rt, mini(), 4096, 6)?, Err(OpenError::StoreFull)));
-    Ok(())
+    wanted(hold(&cells, MINI, 7), "the cells hold the library")
 }
 
-/// The text of the assertion in a slot, with its rank.
-fn entry_of<C: Cells>(
+/// Why the cells of a database whose proofs check aren't opened, if they aren't.
+fn refusal(
+    rt: &(impl AllocGlobal + RandomSource + Threads + Sync),
+    text: &[u8],
+    slots: usize,
+    room: usize,
+) -> Result<Option<OpenError>, Fail>
+    requires slots { (1 ≤ slots) × (slots ≤ 4096) }
+    requires room { room ≤ 16777216 }
+{
+    Ok(opening(rt, text, slots, room)?.err())
+}
+
+#[test]
+fn what_has_no_room_is_not_opened(rt: HostRuntime) -> Result<(), Fail> {
+    let full = refusal(&rt, mini(), 4096, 6)?;
+    let many = refusal(&rt, three(), 2, 35)?;
+    let is_so = full == Some(OpenError::StoreFull) && many == Some(OpenError::TooMany);
+    wanted(is_so, "each is refused by its reason")
+}
+
+/// An assertion in a slot: its text, and what is read of it alone.
+struct Row {
+    text: &'static str,
+    label: &'static str,
+    kind: Kind,
+    rank: u32,
+    citers: u64,
+}
+
+/// The assertions of `three` in its first slots.
+const ROWS: [Row; 3] = [
+    Row {
+        text: "id $a |- x y x $.\n",
+        label: "id",
+        kind: Kind::Axiom,
+        rank: 100,
+        citers: 1,
+    },
+    Row {
+        text: "wc $a wff $.\n",
+        label: "wc",
+        kind: Kind::Axiom,
+        rank: 200,
+        citers: 0,
+    },
+    Row {
+        text: "${\n  $d x y $.\n  th.1 $e |- x y $.\n  th $p |- x y x $= wx wy id $.\n$}\n",
+        label: "th",
+        kind: Kind::Theorem,
+        rank: 300,
+        citers: 0,
+    },
+];
+
+/// Whether an assertion has the text and the rank of a row.
+fn is_row(alloc: Global, prelude: &Prelude, held: &Ranked, row: &Row) -> Result<bool, AllocError> {
+    if held.rank != row.rank || !fits(prelude, &held.assertion) {
+        return Ok(false);
+    }
+    let text = write_assertion(alloc, prelude, &held.assertion)?;
+    Ok(text.as_slice() == row.text.as_bytes())
+}
+
+/// Whether the assertion in a slot does.
+fn is_entry<C: Cells>(
     alloc: Global,
     prelude: &Prelude,
     cells: &mut C,
     slot: usize,
-) -> Result<(Vec<u8>, u32), Fail> {
+    row: &Row,
+) -> Result<bool, AllocError> {
     if slot >= cells.slots() {
-        return Err(Fail::from("a slot of the library"));
+        return Ok(false);
     }
-    let Ok(held) = entry(alloc, cells, slot) else {
-        return Err(Fail::from("the slot is read"));
+    match entry(alloc, cells, slot) {
+        Ok(held) => is_row(alloc, prelude, &held, row),
+        Err(_) => Ok(false),
+    }
+}
+
+/// Whether what is read alone of the assertion in a slot is that of a row.
+fn is_told<C: Cells>(alloc: Global, cells: &mut C, slot: usize, row: &Row) -> bool {
+    if slot >= cells.slots() {
+        return false;
+    }
+    let told = (
+        kind(cells, slot).ok(),
+        rank(cells, slot).ok(),
+        citers(cells, slot).ok(),
+        is_full(cells, slot).ok(),
+    );
+    let is_label = match label(alloc, cells, slot) {
+        Ok(label) => label.as_slice() == row.label.as_bytes(),
+        Err(_) => false,
     };
-    if !fits(prelude, &held.assertion) {
-        return Err(Fail::from("the assertion fits the prelude"));
-    }
-    Ok((write_assertion(alloc, prelude, &held.assertion)?, held.rank))
+    is_label && told == (Some(row.kind), Some(row.rank), Some(row.citers), Some(true))
 }
 
-/// How many assertions cite the one in a slot.
-fn citers_of<C: Cells>(cells: &mut C, slot: usize) -> Option<u64> {
-    if slot < cells.slots() {
-        citers(cells, slot).ok()
-    } else {
-        None
-    }
+/// Whether a slot is empty.
+fn is_empty<C: Cells>(cells: &mut C, slot: usize) -> bool {
+    slot < cells.slots() && is_full(cells, slot).ok() == Some(false)
 }
 
-/// The rank of the assertion in a slot.
-fn rank_of<C: Cells>(cells: &mut C, slot: usize) -> Option<u32> {
-    if slot < cells.slots() {
-        rank(cells, slot).ok()
-    } else {
-        None
+/// Whether each slot of `three` holds the assertion of its row, and the one behind them none.
+fn are_read_back<C: Cells>(
+    alloc: Global,
+    prelude: &Prelude,
+    cells: &mut C,
+) -> Result<bool, AllocError> {
+    for (slot, row) in ROWS.iter().enumerate() {
+        if !is_entry(alloc, prelude, cells, slot, row)? || !is_told(alloc, cells, slot, row) {
+            return Ok(false);
+        }
     }
+    Ok(is_empty(cells, 3))
 }
 
-/// The label of the assertion in a slot.
-fn label_of<C: Cells>(alloc: Global, cells: &mut C, slot: usize) -> Option<Label> {
-    if slot < cells.slots() {
-        label(alloc, cells, slot).ok()
-    } else {
-        None
-    }
-}
-
-/// The kind of the assertion in a slot.
-fn kind_of<C: Cells>(cells: &mut C, slot: usize) -> Option<Kind> {
-    if slot < cells.slots() {
-        kind(cells, slot).ok()
-    } else {
-        None
-    }
-}
-
-/// Whether a slot holds an assertion.
-fn fullness_of<C: Cells>(cells: &mut C, slot: usize) -> Option<bool> {
-    if slot < cells.slots() {
-        is_full(cells, slot).ok()
-    } else {
-        None
-    }
+#[test]
+fn slots_are_read_back(rt: HostRuntime) -> Result<(), Fail> {
+    // 2 + 8, 2 + 5 and 2 + 13 + 3 words
+    let mut cells = opened(&rt, three(), 4, 35)?;
+    let prelude = cells.prelude().copy(rt.alloc())?;
+    let is_so = are_read_back(rt.alloc(), &prelude, &mut cells)?;
+    wanted(is_so && cells.taken() == 35, "the slots hold their rows")
 }
 
 /// The first empty slot from a slot on, if there is one.
@@ -144,60 +221,67 @@ pub(crate) fn free_from<C: Cells>(cells: &mut C, from: usize) -> Option<Option<u
     }
 }
 
-#[test]
-fn slots_are_read_back(rt: HostRuntime) -> Result<(), Fail> {
-    let alloc = rt.alloc();
-    let mut cells = opened(&rt, three(), 4, 35)?;
-    // 2 + 8, 2 + 5 and 2 + 13 + 3 words
-    assert_eq!(rt; cells.taken(), 35);
-    let prelude = cells.prelude().copy(alloc)?;
-    let texts = [
-        "id $a |- x y x $.\n",
-        "wc $a wff $.\n",
-        "${\n  $d x y $.\n  th.1 $e |- x y $.\n  th $p |- x y x $= wx wy id $.\n$}\n",
-    ];
-    for (slot, text) in texts.iter().enumerate() {
-        let (written, ranked) = entry_of(alloc, &prelude, &mut cells, slot)?;
-        assert_eq!(rt; written.as_slice(), text.as_bytes(), "in the slot {slot}");
-        assert!(rt;
-            slot < 3 && ranked == 100 * (slot as u32 + 1),
-            "in the slot {slot}"
-        );
-    }
-    assert_eq!(rt;
-        (citers_of(&mut cells, 0), citers_of(&mut cells, 2)),
-        (Some(1), Some(0))
-    );
-    assert_eq!(rt; rank_of(&mut cells, 1), Some(200));
-    let label = label_of(alloc, &mut cells, 2).ok_or("a label")?;
-    assert_eq!(rt; label.as_slice(), b"th".as_slice());
-    assert_eq!(rt; kind_of(&mut cells, 1), Some(Kind::Axiom));
-    assert_eq!(rt; kind_of(&mut cells, 2), Some(Kind::Theorem));
-    assert_eq!(rt; fullness_of(&mut cells, 2), Some(true));
-    assert_eq!(rt; fullness_of(&mut cells, 3), Some(false));
-    Ok(())
+/// The same of `three` in so many slots.
+fn free_of_three(
+    rt: &(impl AllocGlobal + RandomSource + Threads + Sync),
+    slots: usize,
+    from: usize,
+) -> Result<Option<Option<usize>>, Fail>
+    requires { (1 ≤ slots) × (slots ≤ 4096) }
+{
+    let mut cells = opened(rt, three(), slots, 35)?;
+    Ok(free_from(&mut cells, from))
 }
 
 #[test]
-fn labels_and_empty_slots_are_found(rt: HostRuntime) -> Result<(), Fail> {
-    let mut cells = opened(&rt, three(), 4, 35)?;
-    // `wc`, `th` and `xx` share the bucket 0, where `th` stands first
-    let places = [
-        ("id", Some(0)),
-        ("wc", Some(1)),
-        ("th", Some(2)),
-        ("xx", None),
-        ("", None),
-    ];
-    for (name, place) in places {
-        assert!(rt; find(&mut cells, name.as_bytes()) == Ok(place), "of {name}");
-    }
-    assert_eq!(rt; free_from(&mut cells, 0), Some(Some(3)));
-    let mut full = opened(&rt, three(), 3, 35)?;
-    assert_eq!(rt; free_from(&mut full, 1), Some(None));
-    assert!(rt; matches!(opening(&rt, three(), 2, 35)?, Err(OpenError::TooMany)));
-    Ok(())
+fn empty_slots_are_found(rt: HostRuntime) -> Result<(), Fail> {
+    let some = free_of_three(&rt, 4, 0)?;
+    let none = free_of_three(&rt, 3, 1)?;
+    wanted(
+        some == Some(Some(3)) && none == Some(None),
+        "the fourth slot is empty, if there is one",
+    )
 }
+
+/// Labels, the slots of `three` in which they stand, and how many cells a search for them reads: the bucket, and a name for each member up to the
+/// label's, with a next cell between each two; behind the last that too. `wc`, `th` and `xx` share the bucket 0, where `th` stands first.
+const PLACES: [(&str, Option<usize>, usize); 5] = [
+    ("id", Some(0), 2),
+    ("th", Some(2), 2),
+    ("wc", Some(1), 4),
+    ("xx", None, 5),
+    ("", None, 5),
+];
+
+/// The slot of a label, and how many cells the search for it reads.
+fn searched(cells: &mut Watched<PlainCells>, label: &[u8]) -> Option<(Option<usize>, usize)> {
+    cells.reads = 0;
+    cells.loads = 0;
+    let found = find(cells, label).ok()?;
+    Some((found, cells.reads))
+}
+
+/// Whether labels are found in those slots, by so many reads.
+fn are_found(cells: &mut Watched<PlainCells>) -> bool {
+    for (label, place, reads) in PLACES {
+        if searched(cells, label.as_bytes()) != Some((place, reads)) {
+            return false;
+        }
+    }
+    true
+}
+
+#[test]
+fn a_search_reads_along_one_chain(rt: HostRuntime) -> Result<(), Fail> {
+    let mut cells = unread(rt.alloc(), opened(&rt, three(), 4, 35)?);
+    wanted(are_found(&mut cells), "each label is found along its chain")
+}
+
+/// The bucket of `we` in four slots, and the next cell of the slot 1, where that slot was put before the others of the chain, and before that:
+/// (31 * (119 mod 4) + 101) mod 4 is 2.
+const CHAINED: &[(usize, u64)] = &[(22, 2), (25, 1)];
+
+const UNCHAINED: &[(usize, u64)] = &[(22, 1), (25, 0)];
 
 /// Puts the slot 1 before the others of the chain of `we`.
 fn chain_second<C: Cells>(cells: &mut C) -> bool
@@ -209,75 +293,12 @@ fn chain_second<C: Cells>(cells: &mut C) -> bool
 #[test]
 fn what_is_undone_is_as_it_was(rt: HostRuntime) -> Result<(), Fail> {
     let mut cells = opened(&rt, mini(), 4, 7)?;
-    // (31 * (119 mod 4) + 101) mod 4 is 2: the bucket of `we` is the cell 22, and the next cell of the slot 1 is 25
-    let chained = chain_second(&mut cells);
-    assert!(rt; chained);
-    assert_eq!(rt;
-        (value_of(&cells, 22), value_of(&cells, 25)),
-        (Some(2), Some(1))
-    );
+    let chained = chain_second(&mut cells) && hold(&cells, CHAINED, 7);
     cells.undo();
-    assert_eq!(rt;
-        (value_of(&cells, 22), value_of(&cells, 25)),
-        (Some(1), Some(0))
-    );
-    Ok(())
-}
-
-/// Cells of which each read is counted, and each word that is loaded.
-#[derive(Drop)]
-struct Counted<C> {
-    inner: C,
-    reads: usize,
-    loads: usize,
-}
-
-impl<C: Cells> Cells for Counted<C> {
-    type Stop = C::Stop;
-
-    type Origin = C::Origin;
-
-    ghost sight = { λ c. C.sight c.inner };
-
-    fn slots(&self) -> usize {
-        self.inner.slots()
-    }
-
-    fn read(&mut self, cell: usize) -> Result<u64, C::Stop> {
-        self.reads = self.reads.saturating_add(1);
-        self.inner.read(cell)
-    }
-
-    fn write(&mut self, cell: usize, value: u64) {
-        self.inner.write(cell, value);
-    }
-
-    fn load(&mut self, range: Range, index: usize) -> u64 {
-        self.loads = self.loads.saturating_add(1);
-        self.inner.load(range, index)
-    }
-
-    fn stage(&mut self, words: &[u64]) -> Result<Range, C::Stop> {
-        self.inner.stage(words)
-    }
-
-    ghost grounded = { λ c. C.grounded c.inner };
-}
-
-#[test]
-fn a_search_reads_along_one_chain(rt: HostRuntime) -> Result<(), Fail> {
-    let mut cells = Counted {
-        inner: opened(&rt, three(), 4, 35)?,
-        reads: 0,
-        loads: 0,
-    };
-    // its bucket, and a name for each member up to the label's, with a next cell between each two; behind the last that too
-    for (name, reads) in [("id", 2), ("th", 2), ("wc", 4), ("xx", 5)] {
-        cells.reads = 0;
-        let found = find(&mut cells, name.as_bytes());
-        assert!(rt; found.is_ok() && cells.reads == reads, "of {name}");
-    }
-    Ok(())
+    wanted(
+        chained && hold(&cells, UNCHAINED, 7),
+        "the cells hold what they held",
+    )
 }
 
 /// So many axioms, with the labels `l0`, `l1` and so on.
@@ -301,29 +322,39 @@ fn bucket_lengths(alloc: Global, count: usize) -> Result<Vec<usize>, AllocError>
     Ok(lengths)
 }
 
+/// Whether a search for a label finds this slot along one chain: it reads the bucket, then a name and a next cell for each member, and at most the
+/// five bytes of its label.
+fn is_short(cells: &mut Watched<PlainCells>, lengths: &[usize], label: &[u8], slot: usize) -> bool {
+    let Some(&length) = lengths.get(bucket(label, 4096)) else {
+        return false;
+    };
+    let Some((found, reads)) = searched(cells, label) else {
+        return false;
+    };
+    found == Some(slot) && length <= 4000 && reads <= 1 + 2 * length && cells.loads <= 5 * length
+}
+
+/// Whether each of so many searches does.
+fn are_short(
+    alloc: Global,
+    cells: &mut Watched<PlainCells>,
+    lengths: &[usize],
+    count: usize,
+) -> Result<bool, AllocError> {
+    for slot in 0..count {
+        let label = format!(in alloc; "l{slot}")?;
+        if !is_short(cells, lengths, label.as_bytes(), slot) {
+            return Ok(false);
+        }
+    }
+    Ok(true)
+}
+
 #[test]
 fn a_search_of_many_reads_one_chain(rt: HostRuntime) -> Result<(), Fail> {
-    let alloc = rt.alloc();
-    let lengths = bucket_lengths(alloc, 4000)?;
-    let mut cells = Counted {
-        inner: opened(&rt, axioms(alloc, 4000)?.as_slice(), 4096, 40_000)?,
-        reads: 0,
-        loads: 0,
-    };
-    for number in 0..4000_usize {
-        let label = format!(in alloc; "l{number}")?;
-        let length = *lengths
-            .get(bucket(label.as_bytes(), 4096))
-            .ok_or("a bucket")?;
-        cells.reads = 0;
-        cells.loads = 0;
-        let found = find(&mut cells, label.as_bytes());
-        assert!(rt; found == Ok(Some(number)), "of {label}");
-        // the bucket, then a name and a next cell for each member, and at most the five bytes of its label
-        assert!(rt;
-            length <= 4000 && cells.reads <= 1 + 2 * length && cells.loads <= 5 * length,
-            "of {label}"
-        );
-    }
-    Ok(())
+    let lengths = bucket_lengths(rt.alloc(), 4000)?;
+    let cells = opened(&rt, axioms(rt.alloc(), 4000)?.as_slice(), 4096, 40_000)?;
+    let mut cells = unread(rt.alloc(), cells);
+    let is_so = are_short(rt.alloc(), &mut cells, lengths.as_slice(), 4000)?;
+    wanted(is_so, "each search reads one chain")
 }

@@ -7,9 +7,9 @@ ghost use Rattle.lawful.specs.Lawful.{setting_of};
 use crate::sessions::opened;
 use crossbeam_utils::Backoff;
 use library::Script;
-use samples::mini;
+use samples::{mini, wanted};
 use scripts::read_script;
-use std::alloc::{AllocGlobal, Global};
+use std::alloc::{AllocError, AllocGlobal, Global};
 use std::random::RandomSource;
 use std::sync::Wait;
 use std::sync::atomic::Ordering::SeqCst;
@@ -107,6 +107,16 @@ fn is_read(outcomes: &[Outcome]) -> bool {
     matches!(outcomes, [Outcome::Read { place: 0, .. }])
 }
 
+/// Whether as many scripts were run, each of which read the library.
+fn are_read(outcomes: &[Vec<Outcome>], count: usize) -> bool {
+    for row in outcomes {
+        if !is_read(row.as_slice()) {
+            return false;
+        }
+    }
+    outcomes.len() == count
+}
+
 /// Whether as many sessions as scripts run all scripts, where one of these waits for another one's end.
 fn run_where<R: AllocGlobal + RandomSource + Threads + Wait + Sync>(
     rt: &R,
@@ -117,20 +127,19 @@ fn run_where<R: AllocGlobal + RandomSource + Threads + Wait + Sync>(
     let texts = SHOWS.get(..count).ok_or("so many scripts")?;
     let gate = Waits::new(waiting, awaited);
     let outcomes = outcomes_of(rt, 7, count, texts, &gate)?;
-    let read = outcomes.iter().all(|row| is_read(row.as_slice()));
-    Ok(outcomes.len() == count && read && !gate.gave_up.load(SeqCst))
+    Ok(are_read(outcomes.as_slice(), count) && !gate.gave_up.load(SeqCst))
 }
 
 #[test]
 fn two_scripts_are_run_at_once(rt: HostRuntime) -> Result<(), Fail> {
-    assert!(rt; run_where(&rt, 2, 0, 1)? && run_where(&rt, 2, 1, 0)?);
-    Ok(())
+    let is_so = run_where(&rt, 2, 0, 1)? && run_where(&rt, 2, 1, 0)?;
+    wanted(is_so, "both scripts are run")
 }
 
 #[test]
 fn sixty_four_scripts_are_run_at_once(rt: HostRuntime) -> Result<(), Fail> {
-    assert!(rt; run_where(&rt, 64, 0, 63)? && run_where(&rt, 64, 63, 0)?);
-    Ok(())
+    let is_so = run_where(&rt, 64, 0, 63)? && run_where(&rt, 64, 63, 0)?;
+    wanted(is_so, "all scripts are run")
 }
 
 /// Two scripts, each of which gives the same assertion another label.
@@ -160,8 +169,8 @@ fn waits_at_its_begin<R: AllocGlobal + RandomSource + Threads + Wait + Sync>(
 
 #[test]
 fn a_script_waits_before_its_first_transaction(rt: HostRuntime) -> Result<(), Fail> {
-    assert!(rt; waits_at_its_begin(&rt, 0, 1)? && waits_at_its_begin(&rt, 1, 0)?);
-    Ok(())
+    let is_so = waits_at_its_begin(&rt, 0, 1)? && waits_at_its_begin(&rt, 1, 0)?;
+    wanted(is_so, "the script that waits comes behind")
 }
 
 /// How many calls a log has room for.
@@ -207,23 +216,14 @@ impl Log {
         }
     }
 
-    /// The letters of all calls, in order, each behind the index of its script.
-    fn all(&self, alloc: Global) -> Result<String, Fail> {
-        let mut text = String::new(alloc);
+    /// The calls that speak of this script, or of any where none is named, in order: of each the digit of its script and its letter.
+    fn calls(&self, alloc: Global, only: Option<usize>) -> Result<Vec<u8>, AllocError> {
+        let mut text = Vec::new(alloc);
         for call in self.calls.as_slice().iter().take(self.count.load(SeqCst)) {
-            let letter = char::from(call.letter.load(SeqCst));
             let script = call.script.load(SeqCst);
-            text.push_str(format!(in alloc; "{script}{letter} ")?.as_str())?;
-        }
-        Ok(text)
-    }
-
-    /// The letters of the calls that speak of one script, in order.
-    fn of(&self, alloc: Global, script: usize) -> Result<String, Fail> {
-        let mut text = String::new(alloc);
-        for call in self.calls.as_slice().iter().take(self.count.load(SeqCst)) {
-            if call.script.load(SeqCst) == script {
-                text.push(char::from(call.letter.load(SeqCst)))?;
+            if only.unwrap_or(script) == script {
+                text.push(b'0'.wrapping_add((script & 0xff) as u8))?;
+                text.push(call.letter.load(SeqCst))?;
             }
         }
         Ok(text)
@@ -263,24 +263,32 @@ fn told_by<R: AllocGlobal + RandomSource + Threads + Wait + Sync>(
 
 #[test]
 fn one_worker_tells_its_gate_of_each_script_in_turn(rt: HostRuntime) -> Result<(), Fail> {
-    let told = told_by(&rt, 1)?.all(rt.alloc())?;
-    assert!(rt; told.as_str() == "0e 0p 0p 0l 1e 1l 2e 2p 2l ");
-    Ok(())
+    let log = told_by(&rt, 1)?;
+    let told = log.calls(rt.alloc(), None)?;
+    let is_so = told.as_slice() == b"0e0p0p0l1e1l2e2p2l".as_slice();
+    wanted(is_so, "each script is told of in turn")
+}
+
+/// Whether the calls of a log that speak of a script are these.
+fn tells(alloc: Global, log: &Log, script: usize, calls: &[u8]) -> Result<bool, AllocError> {
+    Ok(log.calls(alloc, Some(script))?.as_slice() == calls)
 }
 
 /// Whether a log has just the calls of the three scripts, those of each in their order.
-fn tells_of_three(alloc: Global, log: &Log) -> Result<bool, Fail> {
+fn tells_of_three(alloc: Global, log: &Log) -> Result<bool, AllocError> {
     Ok(
         log.count.load(SeqCst) == 9
-            && log.of(alloc, 0)?.as_str() == "eppl"
-            && log.of(alloc, 1)?.as_str() == "el"
-            && log.of(alloc, 2)?.as_str() == "epl",
+            && tells(alloc, log, 0, b"0e0p0p0l")?
+            && tells(alloc, log, 1, b"1e1l")?
+            && tells(alloc, log, 2, b"2e2p2l")?,
     )
 }
 
 #[test]
 fn two_workers_tell_a_gate_of_each_script(rt: HostRuntime) -> Result<(), Fail> {
     let log = told_by(&rt, 2)?;
-    assert!(rt; tells_of_three(rt.alloc(), &log)?);
-    Ok(())
+    wanted(
+        tells_of_three(rt.alloc(), &log)?,
+        "each script is told of in its order",
+    )
 }

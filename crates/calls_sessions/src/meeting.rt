@@ -6,9 +6,9 @@ ghost use Rattle.library.specs.Fitting.{CommandFits};
 ghost use Rattle.lawful.specs.Lawful.{setting_of};
 ghost use Rattle.transaction.specs.Members.{IsOf};
 
-use crate::sessions::{last, opened, tried};
+use crate::sessions::{tried, two};
 use library::Transaction;
-use samples::mini;
+use samples::{mini, wanted};
 use scripts::read_script;
 use std::alloc::Global;
 use std::sync::atomic::AtomicBool;
@@ -166,8 +166,12 @@ fn took_no_word(alloc: Global, library: &Library, met: Met) -> Result<bool, Fail
     requires one { IfSome met.0 (λ made. IsOf library.now made.0) }
     requires other { IfSome met.1 (IsOf library.now) }
 {
-    let (Some((one, tries)), Some(other)) = met else {
-        return Err(Fail::from("the scripts are read"));
+    let (one, other) = met;
+    let Some((one, tries)) = one else {
+        return Err(Fail::from("the refused script is read"));
+    };
+    let Some(other) = other else {
+        return Err(Fail::from("the moves are read"));
     };
     Ok(
         tries.conflicts == CONFLICTS
@@ -180,12 +184,10 @@ fn took_no_word(alloc: Global, library: &Library, met: Met) -> Result<bool, Fail
 fn conflicted_tries_take_no_further_word(rt: HostRuntime) -> Result<(), Fail> {
     let alloc = rt.alloc();
     // The words of `we`, 7, and of `t`: 1 of its label, 5 of its statement and 1 of its proof.
-    let (library, mut sessions) = opened(&rt, mini(), 14, 2)?;
-    let mut one = last(&library, &mut sessions)?;
-    let other = last(&library, &mut sessions)?;
+    let (library, mut one, other) = two(&rt, mini(), 14)?;
     let refused = is_refused_first(alloc, &library, &mut one)?;
     let done = AtomicBool::new(false);
     let met = meet(&rt, alloc, &library, one, other, &done);
-    assert!(rt; refused && took_no_word(alloc, &library, met)?);
-    Ok(())
+    let is_so = refused && took_no_word(alloc, &library, met)?;
+    wanted(is_so, "no try that met another took a word")
 }

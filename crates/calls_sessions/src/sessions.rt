@@ -5,7 +5,7 @@ ghost use Rattle.transaction.specs.Members.{IsOf};
 
 use finishing::finish;
 use library::{Reason, Refused};
-use samples::{database, demo};
+use samples::{database, demo, wanted};
 use scripts::read_script;
 use std::alloc::{AllocGlobal, Global};
 use std::hash::RandomState;
@@ -56,6 +56,20 @@ pub(crate) fn last(library: &Library, sessions: &mut Vec<Session>) -> Result<Ses
         Some(session) => Ok(session),
         None => Err(Fail::from("a session more")),
     }
+}
+
+/// The library of a text with so much room, and its two sessions.
+pub(crate) fn two(
+    rt: &(impl AllocGlobal + RandomSource + Threads + Sync),
+    text: &[u8],
+    room: usize,
+) -> Result<(Library, Session, Session), Fail>
+    ensures { IfOk result (λ made. IsOf made.0 made.1 × IsOf made.0 made.2) }
+{
+    let (library, mut sessions) = opened(rt, text, room, 2)?;
+    let one = last(&library, &mut sessions)?;
+    let other = last(&library, &mut sessions)?;
+    Ok((library, one, other))
 }
 
 /// The sessions with one more.
@@ -185,11 +199,9 @@ fn has_one_entry(alloc: Global, library: Library, sessions: Vec<Session>) -> boo
 #[test]
 fn one_of_two_renames_on_threads_is_done(rt: HostRuntime) -> Result<(), Fail> {
     let alloc = rt.alloc();
-    let (library, mut sessions) = opened(&rt, demo(alloc)?.as_slice(), 1000, 2)?;
-    let one = last(&library, &mut sessions)?;
-    let other = last(&library, &mut sessions)?;
+    let (library, one, other) = two(&rt, demo(alloc)?.as_slice(), 1000)?;
     let (sessions, first, second) = both_submitted(&rt, alloc, &library, one, other)?;
     let done = is_first_of_two(&first, &second) || is_first_of_two(&second, &first);
-    assert!(rt; done && has_one_entry(alloc, library, sessions));
-    Ok(())
+    let is_so = done && has_one_entry(alloc, library, sessions);
+    wanted(is_so, "one is done, and the other refused behind it")
 }

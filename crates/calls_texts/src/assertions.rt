@@ -2,7 +2,7 @@
 
 use library::Command;
 use mmstatement::{Assertion, Database, Label, Prelude, Sequence, Step, fits};
-use samples::{database, sequence, small};
+use samples::{database, sequence, small, wanted};
 use std::alloc::{AllocError, Global};
 use std::test::Fail;
 
@@ -43,8 +43,10 @@ fn fitting_pairs_fit(alloc: Global, db: &Database) -> Result<bool, AllocError> {
 #[test]
 fn pairs_fit_in_order(rt: HostRuntime) -> Result<(), Fail> {
     let db = database(&rt, small())?;
-    assert!(rt; fitting_pairs_fit(rt.alloc(), &db)?);
-    Ok(())
+    wanted(
+        fitting_pairs_fit(rt.alloc(), &db)?,
+        "just the pairs fit that do",
+    )
 }
 
 /// Labels, and whether a proof of `a` may cite them: those of its hypotheses it may not.
@@ -58,15 +60,24 @@ const CITED: [(&[u8], bool); 7] = [
     (b"a.1000", false),
 ];
 
-/// Whether another proof of `a` is within the limits that cites this label alone.
-fn citation_fits(alloc: Global, prelude: &Prelude, cited: &[u8]) -> Result<bool, AllocError> {
+/// The steps of a proof that cites this label alone.
+fn citing(alloc: Global, cited: &[u8]) -> Result<Sequence<Step>, AllocError> {
     let mut steps = Vec::new(alloc);
     steps.push(Step::Cite(Label::from_slice(alloc, cited)?))?;
-    let reprove = Command::Reprove {
-        label: Label::from_slice(alloc, b"a")?,
-        steps: Sequence::from_vec(steps),
-    };
-    Ok(reprove.fits(prelude))
+    Ok(Sequence::from_vec(steps))
+}
+
+/// Another proof of `a`, which cites this label alone.
+fn reproof(alloc: Global, cited: &[u8]) -> Result<Command, AllocError> {
+    let label = Label::from_slice(alloc, b"a")?;
+    let steps = citing(alloc, cited)?;
+    Ok(Command::Reprove { label, steps })
+}
+
+/// Whether that is within the limits.
+fn citation_fits(alloc: Global, prelude: &Prelude, cited: &[u8]) -> Result<bool, AllocError> {
+    let reproof = reproof(alloc, cited)?;
+    Ok(reproof.fits(prelude))
 }
 
 /// Whether proofs of `a` may cite those labels alone that they may.
@@ -82,6 +93,6 @@ fn fitting_citations_fit(alloc: Global, prelude: &Prelude) -> Result<bool, Alloc
 #[test]
 fn no_proof_cites_a_label_of_its_hypotheses(rt: HostRuntime) -> Result<(), Fail> {
     let db = database(&rt, small())?;
-    assert!(rt; fitting_citations_fit(rt.alloc(), db.prelude())?);
-    Ok(())
+    let is_so = fitting_citations_fit(rt.alloc(), db.prelude())?;
+    wanted(is_so, "just the labels are cited that may be")
 }

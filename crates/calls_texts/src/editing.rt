@@ -2,8 +2,9 @@
 
 use crate::editors::{editor, library};
 use export::write_library;
-use history::OpenError;
+use history::{Editor, OpenError};
 use library::PlainLibrary;
+use samples::wanted;
 use std::alloc::{AllocError, Global};
 use std::test::Fail;
 
@@ -12,13 +13,20 @@ fn axioms() -> &'static [u8] {
     b"$c wff $.\nb $a wff $.\na $a wff $.\n"
 }
 
+/// How many assertions and slots an editor has, or why it isn't opened.
+fn counts(editor: Result<Editor, OpenError>) -> Result<(usize, usize), OpenError> {
+    match editor {
+        Ok(editor) => Ok((editor.assertion_count(), editor.slots())),
+        Err(error) => Err(error),
+    }
+}
+
 #[test]
 fn slots_are_counted(rt: HostRuntime) -> Result<(), Fail> {
-    let few = editor(&rt, axioms(), 1)?;
-    assert!(rt; matches!(few, Err(OpenError::TooMany)));
-    let editor = editor(&rt, axioms(), 2)?.or(Err("the editor opens"))?;
-    assert!(rt; editor.assertion_count() == 2 && editor.slots() == 2);
-    Ok(())
+    let few = counts(editor(&rt, axioms(), 1)?);
+    let enough = counts(editor(&rt, axioms(), 2)?);
+    let is_so = few == Err(OpenError::TooMany) && enough == Ok((2, 2));
+    wanted(is_so, "two assertions take two slots")
 }
 
 /// Whether a copy of the library of the two axioms has its slots and its text.
@@ -29,7 +37,9 @@ fn copy_is_equal(alloc: Global, made: &PlainLibrary) -> Result<bool, AllocError>
 
 #[test]
 fn a_copied_library_is_equal(rt: HostRuntime) -> Result<(), Fail> {
-    let made = library(&rt, axioms())?;
-    assert!(rt; copy_is_equal(rt.alloc(), &made)?);
-    Ok(())
+    let made = library(&rt, axioms(), 4)?;
+    wanted(
+        copy_is_equal(rt.alloc(), &made)?,
+        "the copy has the slots and the text",
+    )
 }

@@ -27,12 +27,15 @@ pub(crate) fn editor(
     Ok(Editor::open(rt.alloc(), RandomState::new(rt)?, &db, slots))
 }
 
-/// The opening library of a database of at most four assertions whose proofs check.
+/// The opening library of a database whose proofs check, with so much room.
 pub(crate) fn library(
     rt: &(impl AllocGlobal + RandomSource + Threads + Sync),
     text: &[u8],
-) -> Result<PlainLibrary, Fail> {
-    match editor(rt, text, 4)? {
+    slots: usize,
+) -> Result<PlainLibrary, Fail>
+    requires { (1 ≤ slots) × (slots ≤ 4096) }
+{
+    match editor(rt, text, slots)? {
         Ok(editor) => Ok(editor.into_library()),
         Err(_) => Err(Fail::from("the editor opens")),
     }

@@ -1,7 +1,9 @@
 //! A history in canonical layout: read and written.
 
 use historytext::{read_history, write_history};
-use samples::{database, mini};
+use mmstatement::Prelude;
+use samples::{database, mini, wanted};
+use std::alloc::Global;
 use std::test::Fail;
 
 /// A lost number, and an entry with each command and each reply.
@@ -33,11 +35,18 @@ commit
 "
 }
 
+/// Whether the history of that text is written so.
+fn is_written(alloc: Global, prelude: &Prelude) -> Result<bool, Fail> {
+    let history = read_history(alloc, prelude, canonical())?;
+    let text = write_history(alloc, prelude, history.as_slice())?;
+    Ok(text.as_slice() == canonical())
+}
+
 #[test]
 fn a_history_is_written_as_it_is_read(rt: HostRuntime) -> Result<(), Fail> {
     let db = database(&rt, mini())?;
-    let history = read_history(rt.alloc(), db.prelude(), canonical())?;
-    let text = write_history(rt.alloc(), db.prelude(), history.as_slice())?;
-    assert!(rt; text.as_slice() == canonical());
-    Ok(())
+    wanted(
+        is_written(rt.alloc(), db.prelude())?,
+        "the history has its text",
+    )
 }

@@ -1,9 +1,9 @@
 //! Exports to writers that take few bytes at a call, fail, or take none.
 
-use crate::editors::{editor, library};
+use crate::editors::library;
 use export::{ExportError, export};
 use library::PlainLibrary;
-use samples::{demo, mini};
+use samples::{demo, mini, wanted};
 use std::alloc::{AllocError, Global};
 use std::io;
 use std::io::{ErrorKind, Write};
@@ -106,23 +106,32 @@ fn are_exported_so(alloc: Global, library: &PlainLibrary) -> bool {
 
 #[test]
 fn nothing_is_called_behind_an_error(rt: HostRuntime) -> Result<(), Fail> {
-    let library = library(&rt, mini())?;
-    assert!(rt; are_exported_so(rt.alloc(), &library));
-    Ok(())
+    let library = library(&rt, mini(), 4)?;
+    wanted(
+        are_exported_so(rt.alloc(), &library),
+        "each row is exported so",
+    )
 }
 
-/// How many writers fail that each take one byte at a call, and of which the k-th fails at its call k: each has taken the k - 1 bytes before, and
-/// the export says so.
+/// What comes of the export to a writer that takes one byte at a call and fails at one call, and how many bytes it holds then.
+fn failing(
+    alloc: Global,
+    library: &PlainLibrary,
+    fails_at: usize,
+) -> (Result<(), ExportError>, usize) {
+    let mut writer = Slow::new(alloc, 1, fails_at);
+    let answer = export(alloc, library, &mut writer);
+    (answer, writer.held.len())
+}
+
+/// How many such writers fail, of which the k-th fails at its call k: each has taken the k - 1 bytes before, and the export says so.
 fn failures(alloc: Global, library: &PlainLibrary) -> Result<usize, Fail> {
     for written in 0..65_536usize {
-        let mut writer = Slow::new(alloc, 1, written + 1);
-        match export(alloc, library, &mut writer) {
-            Ok(()) => return Ok(written),
-            Err(ExportError::Write { written: told }) if told == written => {}
-            Err(_) => return Err(Fail::from("the bytes before the failing call are written")),
-        }
-        if writer.held.len() != written {
-            return Err(Fail::from("the writer holds what was written"));
+        match failing(alloc, library, written + 1) {
+            (Ok(()), _) => return Ok(written),
+            (Err(ExportError::Write { written: told }), held)
+                if told == written && held == written => {}
+            _ => return Err(Fail::from("the bytes before the failing call are written")),
         }
     }
     Err(Fail::from("some writer takes all"))
@@ -131,11 +140,9 @@ fn failures(alloc: Global, library: &PlainLibrary) -> Result<usize, Fail> {
 #[test]
 fn each_call_may_fail(rt: HostRuntime) -> Result<(), Fail> {
     let text = demo(rt.alloc())?;
-    let Ok(editor) = editor(&rt, text.as_slice(), 8)? else {
-        return Err(Fail::from("the editor opens"));
-    };
-    assert!(rt; failures(rt.alloc(), &editor.into_library())? == text.len());
-    Ok(())
+    let library = library(&rt, text.as_slice(), 8)?;
+    let count = failures(rt.alloc(), &library)?;
+    wanted(count == text.len(), "as many calls fail as there are bytes")
 }
 
 /// A constant of 16 bytes, and an axiom of 65,535 symbols, in the canonical layout: 27 bytes, and 13 beside 65,534 times 17.
@@ -163,7 +170,7 @@ fn is_taken_whole(alloc: Global, library: &PlainLibrary, text: &[u8]) -> bool {
 #[test]
 fn a_megabyte_is_taken(rt: HostRuntime) -> Result<(), Fail> {
     let text = long(rt.alloc())?;
-    let library = library(&rt, text.as_slice())?;
-    assert!(rt; is_taken_whole(rt.alloc(), &library, text.as_slice()));
-    Ok(())
+    let library = library(&rt, text.as_slice(), 4)?;
+    let is_so = is_taken_whole(rt.alloc(), &library, text.as_slice());
+    wanted(is_so, "the writer holds the text")
 }

@@ -5,6 +5,7 @@ use library::{Reason, Refused};
 use mmstatement::{FaultKind, SubstituteError};
 use mmtext::Stop;
 use proofcheck::ProofFaultKind;
+use samples::wanted;
 use std::alloc::{AllocError, Global};
 use std::fmt::Display;
 use std::test::Fail;
@@ -27,8 +28,10 @@ fn are_named(alloc: Global) -> Result<bool, AllocError> {
 
 #[test]
 fn faults_are_named(rt: HostRuntime) -> Result<(), Fail> {
-    assert!(rt; are_named(rt.alloc())?);
-    Ok(())
+    wanted(
+        are_named(rt.alloc())?,
+        "each fault is told by its number and name",
+    )
 }
 
 /// What the editor says of a third command that is refused.
@@ -50,6 +53,5 @@ fn are_told(alloc: Global) -> Result<bool, AllocError> {
 
 #[test]
 fn errors_of_the_editor_are_told(rt: HostRuntime) -> Result<(), Fail> {
-    assert!(rt; are_told(rt.alloc())?);
-    Ok(())
+    wanted(are_told(rt.alloc())?, "each error is told by its text")
 }

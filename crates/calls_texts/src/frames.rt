@@ -1,63 +1,54 @@
 //! Frames of assertions made by hand, and their copies.
 
-use mmstatement::{Assertion, Expr, Frame, Kind, Label, Prelude, Sequence, Symbol, frame_of};
-use samples::{database, sequence};
+use crate::symbols::{spells, symbols};
+use mmstatement::{Assertion, Database, Expr, Frame, Kind, Label, Prelude, Sequence, frame_of};
+use samples::{database, sequence, wanted};
 use std::alloc::{AllocError, Global};
 use std::test::Fail;
 
-const PROVES: Symbol = Symbol::Const(1);
-
-const X: Symbol = Symbol::Var(0);
-
-const Y: Symbol = Symbol::Var(1);
-
-const Z: Symbol = Symbol::Var(2);
-
-/// A variable that has no `$f`.
-const OTHER: Symbol = Symbol::Var(3);
-
-/// A `$e` and a statement, and of the frame of their axiom the `$f` and the pairs.
+/// A `$e` and a statement by their letters, and of the frame of their axiom the `$f` and the pairs.
 struct Row {
-    hyp: &'static [Symbol],
-    statement: &'static [Symbol],
+    hyp: &'static str,
+    statement: &'static str,
     floats: &'static [u32],
     pairs: &'static [(u32, u32)],
 }
 
+/// The letter `o` is a variable that has no `$f`.
 const ROWS: [Row; 6] = [
     Row {
-        hyp: &[PROVES, Y],
-        statement: &[PROVES, X],
+        hyp: "py",
+        statement: "px",
         floats: &[0, 1],
         pairs: &[(0, 1)],
     },
     Row {
-        hyp: &[PROVES, Z],
-        statement: &[PROVES, X, X],
+        hyp: "pz",
+        statement: "pxx",
         floats: &[0, 2],
         pairs: &[(0, 2)],
     },
     Row {
-        hyp: &[PROVES, Z],
-        statement: &[PROVES],
+        hyp: "pz",
+        statement: "p",
         floats: &[2],
         pairs: &[],
     },
     Row {
-        hyp: &[PROVES],
-        statement: &[PROVES, Z, Y],
+        hyp: "p",
+        statement: "pzy",
         floats: &[1, 2],
         pairs: &[(1, 2)],
     },
     Row {
-        hyp: &[PROVES],
-        statement: &[PROVES],
+        hyp: "p",
+        statement: "p",
         floats: &[],
         pairs: &[],
     },
     Row {
-        hyp: &[PROVES, OTHER],
-        statement: &[PROVES, Y],
+        hyp: "po",
+        statement: "py",
         floats: &[1],
         pairs: &[],
     },
@@ -73,24 +64,30 @@ fn rule() -> &'static [u8] {
     b"$c -> wff |- $. $v t P Q $. tt $f wff t $. wp $f wff P $. wq $f wff Q $. ${ a $e |- P $. b $e |- P -> Q $. mp $a |- Q $. $}"
 }
 
-/// An axiom with one `$e`, whose three pairs are all that three `$f` have.
-fn axiom(alloc: Global, hyp: &[Symbol], statement: &[Symbol]) -> Result<Assertion, AllocError> {
+/// The one `$e` of a row.
+fn hyps(alloc: Global, row: &Row) -> Result<Sequence<Expr>, AllocError> {
     let mut hyps: Vec<Expr> = Vec::new(alloc);
-    hyps.push(sequence(alloc, hyp)?)?;
+    hyps.push(symbols(alloc, row.hyp.as_bytes())?)?;
+    Ok(Sequence::from_vec(hyps))
+}
+
+/// The axiom of a row, whose three pairs are all that three `$f` have.
+fn axiom(alloc: Global, row: &Row) -> Result<Assertion, AllocError> {
+    let hyps = hyps(alloc, row)?;
+    let statement = symbols(alloc, row.statement.as_bytes())?;
     Ok(Assertion {
-        label: Label::from_slice(alloc, b"ax")?,
+        label: Label::new(alloc),
         kind: Kind::Axiom,
         pairs: sequence(alloc, &[(0, 1), (0, 2), (1, 2)])?,
-        hyps: Sequence::from_vec(hyps),
-        statement: sequence(alloc, statement)?,
+        hyps,
+        statement,
         proof: Sequence::from_vec(Vec::new(alloc)),
     })
 }
 
-/// A copy of the frame of the axiom of a row.
-fn framed(alloc: Global, prelude: &Prelude, row: &Row) -> Result<Frame, AllocError> {
-    let axiom = axiom(alloc, row.hyp, row.statement)?;
-    frame_of(alloc, prelude, &axiom)?.copy(alloc)
+/// A copy of the frame of an axiom.
+fn framed(alloc: Global, prelude: &Prelude, axiom: &Assertion) -> Result<Frame, AllocError> {
+    frame_of(alloc, prelude, axiom)?.copy(alloc)
 }
 
 /// Whether a frame is that of a row.
@@ -98,16 +95,23 @@ fn is_frame(frame: &Frame, row: &Row) -> bool {
     let [kept] = frame.hyps.as_slice() else {
         return false;
     };
-    kept.as_slice() == row.hyp
-        && frame.statement.as_slice() == row.statement
+    spells(kept.as_slice(), row.hyp)
+        && spells(frame.statement.as_slice(), row.statement)
         && frame.floats.as_slice() == row.floats
         && frame.pairs.as_slice() == row.pairs
 }
 
-/// Whether the axiom of each row has its frame.
+/// Whether the axiom of a row has its frame.
+fn is_framed(alloc: Global, prelude: &Prelude, row: &Row) -> Result<bool, AllocError> {
+    let axiom = axiom(alloc, row)?;
+    let frame = framed(alloc, prelude, &axiom)?;
+    Ok(is_frame(&frame, row))
+}
+
+/// Whether that of each row has.
 fn are_framed(alloc: Global, prelude: &Prelude) -> Result<bool, AllocError> {
     for row in &ROWS {
-        if !is_frame(&framed(alloc, prelude, row)?, row) {
+        if !is_framed(alloc, prelude, row)? {
             return Ok(false);
         }
     }
@@ -117,19 +121,29 @@ fn are_framed(alloc: Global, prelude: &Prelude) -> Result<bool, AllocError> {
 #[test]
 fn what_is_mandatory_is_kept(rt: HostRuntime) -> Result<(), Fail> {
     let db = database(&rt, three())?;
-    assert!(rt; are_framed(rt.alloc(), db.prelude())?);
-    Ok(())
+    wanted(
+        are_framed(rt.alloc(), db.prelude())?,
+        "the axiom of each row has its frame",
+    )
+}
+
+/// Whether a frame has just the two `$f` that the rule needs, and its hypotheses.
+fn is_of_rule(frame: &Frame) -> bool {
+    frame.floats.as_slice() == [1, 2].as_slice()
+        && frame.pairs.as_slice().is_empty()
+        && frame.hyps.as_slice().len() == 2
+}
+
+/// Whether the frame of the first assertion of a database has.
+fn is_rule_framed(alloc: Global, db: &Database) -> Result<bool, AllocError> {
+    match db.assertions().first() {
+        Some(rule) => Ok(is_of_rule(&frame_of(alloc, db.prelude(), rule)?)),
+        None => Ok(false),
+    }
 }
 
 #[test]
 fn a_rule_is_framed(rt: HostRuntime) -> Result<(), Fail> {
     let db = database(&rt, rule())?;
-    let rule = db.assertions().first().ok_or("a rule is read")?;
-    let made = frame_of(rt.alloc(), db.prelude(), rule)?;
-    assert!(rt;
-        made.floats.as_slice() == [1, 2].as_slice()
-            && made.pairs.as_slice().is_empty()
-            && made.hyps.as_slice().len() == 2
-    );
-    Ok(())
+    wanted(is_rule_framed(rt.alloc(), &db)?, "the rule has its frame")
 }

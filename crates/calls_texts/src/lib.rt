@@ -24,3 +24,5 @@ mod faults;
 mod frames;
 #[cfg(test)]
 mod substitution;
+#[cfg(test)]
+mod symbols;

@@ -1,54 +1,64 @@
 //! Substitutions made by hand, and the limit on both sides.
 
-use mmstatement::{Expr, SubstituteError, Symbol, substitute};
-use samples::sequence;
+use crate::symbols::{spells, symbols};
+use mmstatement::{Expr, SubstituteError, substitute};
+use samples::wanted;
 use std::alloc::{AllocError, Global};
 use std::test::Fail;
 
-const C: Symbol = Symbol::Const(0);
-
-const X: Symbol = Symbol::Var(0);
-
-const Y: Symbol = Symbol::Var(1);
-
-const Z: Symbol = Symbol::Var(2);
-
-/// What x and y are replaced by, the symbols in which they are, and what these become.
-const ROWS: [[&[Symbol]; 4]; 6] = [
-    [&[Y], &[X], &[C, X, Y], &[C, Y, X]],
-    [&[X, Y], &[C], &[X, X, Y], &[X, Y, X, Y, C]],
-    [&[], &[Y], &[C, X, Y, X], &[C, Y]],
-    [&[C], &[C], &[Z], &[Z]],
-    [&[C], &[C], &[], &[]],
-    [&[C], &[], &[X], &[C]],
+/// By their letters: what x and y are replaced by, the symbols in which they are, and what these become.
+const ROWS: [[&str; 4]; 6] = [
+    ["y", "x", "wxy", "wyx"],
+    ["xy", "w", "xxy", "xyxyw"],
+    ["", "y", "wxyx", "wy"],
+    ["w", "w", "z", "z"],
+    ["w", "w", "", ""],
+    ["w", "", "x", "w"],
 ];
 
+/// One pair more: what the variable is replaced by.
+fn add(
+    alloc: Global,
+    pairs: &mut Vec<(u32, Expr)>,
+    variable: u32,
+    letters: &[u8],
+) -> Result<(), AllocError> {
+    pairs.push((variable, symbols(alloc, letters)?))?;
+    Ok(())
+}
+
 /// What x and y are replaced by. A later pair of x says nothing.
-fn pairs(alloc: Global, x: &[Symbol], y: &[Symbol]) -> Result<Vec<(u32, Expr)>, AllocError> {
-    let mut pairs: Vec<(u32, Expr)> = Vec::new(alloc);
-    pairs.push((0, sequence(alloc, x)?))?;
-    pairs.push((1, sequence(alloc, y)?))?;
-    pairs.push((0, sequence(alloc, &[])?))?;
+fn pairs(alloc: Global, x: &[u8], y: &[u8]) -> Result<Vec<(u32, Expr)>, AllocError> {
+    let mut pairs = Vec::new(alloc);
+    add(alloc, &mut pairs, 0, x)?;
+    add(alloc, &mut pairs, 1, y)?;
+    add(alloc, &mut pairs, 0, b"")?;
     Ok(pairs)
 }
 
 /// What becomes of symbols where x and y are replaced.
-fn replaced(
-    alloc: Global,
-    x: &[Symbol],
-    y: &[Symbol],
-    symbols: &[Symbol],
-) -> Result<Expr, SubstituteError> {
-    let Ok(pairs) = pairs(alloc, x, y) else {
-        return Err(SubstituteError::NoMemory);
-    };
-    substitute(alloc, pairs.as_slice(), symbols)
+fn replaced(alloc: Global, x: &[u8], y: &str, text: &str) -> Result<Expr, SubstituteError> {
+    let pairs = pairs(alloc, x, y.as_bytes())?;
+    let symbols = symbols(alloc, text.as_bytes())?;
+    substitute(alloc, pairs.as_slice(), symbols.as_slice())
 }
 
-/// Whether the symbols of each row become the wanted ones.
+/// Whether they become the wanted ones.
+fn is_replaced(
+    alloc: Global,
+    x: &str,
+    y: &str,
+    text: &str,
+    made: &str,
+) -> Result<bool, SubstituteError> {
+    let symbols = replaced(alloc, x.as_bytes(), y, text)?;
+    Ok(spells(symbols.as_slice(), made))
+}
+
+/// Whether those of each row do.
 fn are_replaced(alloc: Global) -> Result<bool, SubstituteError> {
-    for [x, y, symbols, wanted] in ROWS {
-        if replaced(alloc, x, y, symbols)?.as_slice() != wanted {
+    for [x, y, text, made] in ROWS {
+        if !is_replaced(alloc, x, y, text, made)? {
             return Ok(false);
         }
     }
@@ -57,26 +67,22 @@ fn are_replaced(alloc: Global) -> Result<bool, SubstituteError> {
 
 #[test]
 fn variables_are_replaced_at_once(rt: HostRuntime) -> Result<(), Fail> {
-    assert!(rt; are_replaced(rt.alloc())?);
-    Ok(())
+    wanted(
+        are_replaced(rt.alloc())?,
+        "the symbols of each row become its last ones",
+    )
 }
 
 /// How many symbols these become where x is replaced by so many.
-fn length_of(alloc: Global, x: usize, symbols: &[Symbol]) -> Result<usize, SubstituteError> {
-    let Ok(long) = vec![in alloc; C; x] else {
-        return Err(SubstituteError::NoMemory);
-    };
-    Ok(
-        replaced(alloc, long.as_slice(), &[], symbols)?
-            .as_slice()
-            .len(),
-    )
+fn length_of(alloc: Global, x: usize, text: &str) -> Result<usize, SubstituteError> {
+    let long = vec![in alloc; b'w'; x]?;
+    Ok(replaced(alloc, long.as_slice(), "", text)?.as_slice().len())
 }
 
 #[test]
 fn the_longest_is_made(rt: HostRuntime) -> Result<(), Fail> {
-    let longest = length_of(rt.alloc(), 32_767, &[X, X, C]);
-    let longer = length_of(rt.alloc(), 32_767, &[X, C, X, C]);
-    assert!(rt; longest == Ok(65_535) && longer == Err(SubstituteError::TooLong));
-    Ok(())
+    let longest = length_of(rt.alloc(), 32_767, "xxw");
+    let longer = length_of(rt.alloc(), 32_767, "xwxw");
+    let is_so = longest == Ok(65_535) && longer == Err(SubstituteError::TooLong);
+    wanted(is_so, "65,535 symbols are made and no more")
 }

@@ -7,6 +7,8 @@
 #![tactic(auto)]
 
 #[cfg(test)]
+mod interleavings;
+#[cfg(test)]
 mod machine;
 #[cfg(test)]
 mod words;

@@ -1,4 +1,4 @@
-//! Databases that tests and tables of rows begin with, by their texts.
+//! Databases that tests and tables of rows begin with, by their texts, and how a test ends.
 #![tactic(auto)]
 
 use mmstatement::{Database, Sequence, read_database};
@@ -88,4 +88,9 @@ pub fn demo(alloc: Global) -> Result<Vec<u8>, AllocError> {
 /// The list of these items.
 pub fn sequence<T: Copy>(alloc: Global, items: &[T]) -> Result<Sequence<T>, AllocError> {
     Ok(Sequence::from_vec(Vec::from_slice(alloc, items)?))
+}
+
+/// No error where it is so, and else one that says what was wanted: so a test ends, since the check takes an assertion in it for twice the time.
+pub fn wanted(is_so: bool, what: &'static str) -> Result<(), Fail> {
+    if is_so { Ok(()) } else { Err(Fail::from(what)) }
 }

@@ -1,0 +1,152 @@
+//! The machine: all interleavings of two short transactions.
+
+ghost use Rattle.std.specs.Prelude.{◌<◌};
+
+use std::alloc::{AllocError, Global};
+use std::test::Fail;
+use tlcore::{Action, World, step};
+
+/// Two transactions on their way: how far each is in its program, and the values that it has loaded.
+#[derive(Drop)]
+struct Walk {
+    world: World,
+    at: [usize; 2],
+    loaded: [[u64; 2]; 2],
+}
+
+/// How many events a seat's transaction has.
+const EVENTS: usize = 12;
+
+/// An event of a seat's transaction, from 0: it reads both cells, and writes its own one by what it has loaded of the other.
+fn program(seat: usize, loaded: [u64; 2], index: usize) -> Action {
+    let (own, other) = if seat == 0 { (0, 1) } else { (1, 0) };
+    match index {
+        0 => Action::Begin,
+        1 => Action::Look(own),
+        2 => Action::Load(own),
+        3 => Action::Relook(own),
+        4 => Action::Look(other),
+        5 => Action::Load(other),
+        6 => Action::Relook(other),
+        7 => Action::Take(own, written(seat, loaded)),
+        8 => Action::Draw,
+        9 => Action::Check(other),
+        10 => Action::Store(own),
+        _ => Action::Release(own),
+    }
+}
+
+/// What a seat writes.
+fn written(seat: usize, loaded: [u64; 2]) -> u64 {
+    if seat == 0 {
+        loaded[1].wrapping_add(1)
+    } else {
+        loaded[0].wrapping_mul(2)
+    }
+}
+
+/// The walk after the next event of a seat, or None where its transaction has ended. A check that isn't lawful is left out, and
+/// after a conflict the seat only releases what it holds.
+fn turn(alloc: Global, walk: &Walk, seat: usize) -> Result<Option<Walk>, AllocError>
+    requires { seat < 2 }
+{
+    for index in walk.at[seat]..EVENTS {
+        let action = program(seat, walk.loaded[seat], index);
+        if let Some(world) = step(alloc, &walk.world, seat, action)? {
+            let mut at = walk.at;
+            at[seat] = match (world.conflicted(seat), action) {
+                (true, Action::Check(_)) => 11,
+                (true, _) => 12,
+                (false, _) => index + 1,
+            };
+            let mut loaded = walk.loaded;
+            if let Action::Load(cell) = action
+                && cell < 2
+            {
+                loaded[seat][cell] = walk.world.value(cell).unwrap_or(0);
+            }
+            return Ok(Some(Walk { world, at, loaded }));
+        }
+    }
+    Ok(None)
+}
+
+/// Whether each of the two commits, and the values of the cells then.
+type End = (bool, bool, u64, u64);
+
+/// The ends that are the values of one order of those that commit.
+const ENDS: [End; 4] = [
+    (true, true, 11, 22),
+    (true, true, 3, 2),
+    (true, false, 11, 10),
+    (false, true, 1, 2),
+];
+
+/// The end of a walk whose transactions have ended.
+fn end_of(world: &World) -> End {
+    (
+        !world.conflicted(0),
+        !world.conflicted(1),
+        world.value(0).unwrap_or(0),
+        world.value(1).unwrap_or(0),
+    )
+}
+
+/// Counts an end where it is that of an order. False: it is none.
+fn count(counts: &mut [u32; 4], end: End) -> bool {
+    for (index, order) in ENDS.iter().enumerate() {
+        if *order == end {
+            if let Some(found) = counts.get_mut(index) {
+                *found = found.saturating_add(1);
+            }
+            return true;
+        }
+    }
+    false
+}
+
+/// Puts the walks behind the next event of each transaction to the others. False: both have ended.
+fn go_on(alloc: Global, walks: &mut Vec<Walk>, walk: &Walk) -> Result<bool, AllocError> {
+    let mut goes = false;
+    for seat in 0..2 {
+        if let Some(next) = turn(alloc, walk, seat)? {
+            walks.push(next)?;
+            goes = true;
+        }
+    }
+    Ok(goes)
+}
+
+/// The walk on which nothing was done: cells of the values 1 and 10.
+fn opening(alloc: Global) -> Result<Walk, AllocError> {
+    Ok(Walk {
+        world: World::open(alloc, &[1, 10], 2)?,
+        at: [0, 0],
+        loaded: [[0, 0], [0, 0]],
+    })
+}
+
+/// Whether so many interleavings end in each of the ways of orders, and none in another.
+fn are_so_many(alloc: Global, wanted: [u32; 4]) -> Result<bool, AllocError> {
+    let mut counts = [0; 4];
+    let mut walks = Vec::new(alloc);
+    walks.push(opening(alloc)?)?;
+    for _ in 0..u32::MAX {
+        let Some(walk) = walks.pop() else {
+            return Ok(counts == wanted);
+        };
+        if !go_on(alloc, &mut walks, &walk)? && !count(&mut counts, end_of(&walk.world)) {
+            return Ok(false);
+        }
+    }
+    Ok(false)
+}
+
+/// Each interleaving of the two transactions gives the values of one order of those that commit. An order of both gives 11 and
+/// 22, or 3 and 2; each that read the other's cell before it was written gives 11 and 2, which no order does. How many
+/// interleavings end in which way was counted by a program of its own.
+#[test]
+fn every_interleaving_is_an_order(rt: HostRuntime) -> Result<(), Fail> {
+    assert!(rt; are_so_many(rt.alloc(), [15, 15, 138_465, 138_465])?);
+    Ok(())
+}
