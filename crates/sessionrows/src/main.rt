@@ -11,6 +11,7 @@ mod moving;
 mod names;
 mod opened;
 mod printing;
+mod random;
 mod seats;
 mod table;
 mod trying;
