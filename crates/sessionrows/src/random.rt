@@ -69,6 +69,20 @@ fn tally_of(
     Ok(Some(tally))
 }
 
+/// The line of so many random transactions in both, drawn from a seed.
+fn write_tally(
+    alloc: Global,
+    pair: &mut Pair,
+    transactions: usize,
+    seed: usize,
+) -> Result<Vec<u8>, Undone> {
+    let mut maker = Maker::new(Pcg32::new(seed as u64, 54));
+    match tally_of(alloc, pair, &mut maker, transactions)? {
+        Some(tally) => Ok(format!(in alloc; "{tally}\n")?.into_bytes()),
+        None => Ok(Vec::from_slice(alloc, b"the two differ\n")?),
+    }
+}
+
 /// How so many random transactions end, drawn from a seed: words that say their number and the seed. One line.
 ///
 /// # Errors
@@ -82,12 +96,8 @@ pub fn compare(
 ) -> Result<Vec<u8>, Undone> {
     let (transactions, seed) = first_word(words);
     let (transactions, seed) = (number_of(transactions)?, number_of(seed)?);
-    let Some(mut pair) = open(rt, alloc, keys) else {
-        return Err(Undone::Unreadable);
-    };
-    let mut maker = Maker::new(Pcg32::new(seed as u64, 54));
-    match tally_of(alloc, &mut pair, &mut maker, transactions)? {
-        Some(tally) => Ok(format!(in alloc; "{tally}\n")?.into_bytes()),
-        None => Ok(Vec::from_slice(alloc, b"the two differ\n")?),
+    match open(rt, alloc, keys) {
+        Some(mut pair) => write_tally(alloc, &mut pair, transactions, seed),
+        None => Err(Undone::Unreadable),
     }
 }
