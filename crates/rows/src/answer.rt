@@ -149,6 +149,67 @@ fn keep_prelude(
     }
 }
 
+/// What is said of a row whose text stands alone. Only a row of a prelude changes `prelude`.
+fn answer_text(
+    rt: &(impl Threads + Sync),
+    alloc: Global,
+    keys: RandomState,
+    prelude: &mut Option<Database>,
+    command: Command,
+    text: &[u8],
+) -> Result<Answer, AllocError> {
+    match command {
+        Command::Prelude => Ok(keep_prelude(alloc, keys, prelude, text)),
+        Command::Database => Ok(answer_database(alloc, keys, text)),
+        Command::Rewrite => rewrite(alloc, keys, text),
+        Command::Assertion => match prelude {
+            Some(db) => rewrite_assertion(alloc, keys, db, text),
+            None => Ok(Answer::NoPrelude),
+        },
+        _ => check(rt, alloc, keys, text),
+    }
+}
+
+/// What is said of a row of runs.
+fn answer_runs(
+    rt: &(impl Threads + Wait + Sync),
+    alloc: Global,
+    keys: RandomState,
+    runs: &mut Runs,
+    command: Command,
+    text: Vec<u8>,
+) -> Result<Answer, AllocError>
+    requires { HasLimits runs.old }
+    ensures { HasLimits runs.new }
+{
+    match command {
+        Command::Library => Ok(runs.keep_library(text)),
+        Command::Script => runs.keep_script(text),
+        Command::Workers => Ok(runs.keep_workers(text.as_slice())),
+        Command::Room => Ok(runs.keep_room(text.as_slice())),
+        Command::Shared => runs.share(rt, alloc, keys),
+        Command::Replay => runs.replay(rt, alloc, keys, text),
+        _ => answer_run(rt, alloc, keys, runs),
+    }
+}
+
+/// What is said of a run, which has to end over cells as in the editor.
+fn answer_run(
+    rt: &(impl Threads + Wait + Sync),
+    alloc: Global,
+    keys: RandomState,
+    runs: &mut Runs,
+) -> Result<Answer, AllocError>
+    requires { HasLimits runs.old }
+    ensures { HasLimits runs.new }
+{
+    if end_alike(rt, alloc, keys, runs)? {
+        runs.run(rt, alloc, keys)
+    } else {
+        Ok(Answer::DiffersOverCells)
+    }
+}
+
 /// What is said of a row. Only a row of a prelude changes `prelude`, and one of a library, of a script, of workers, of a room or of a run `runs`.
 /// It may wait.
 ///
@@ -171,21 +232,14 @@ pub fn answer_row(
     };
     let text = text_of(alloc, row.lines)?;
     match command {
-        Command::Prelude => Ok(keep_prelude(alloc, keys, prelude, text.as_slice())),
-        Command::Database => Ok(answer_database(alloc, keys, text.as_slice())),
-        Command::Rewrite => rewrite(alloc, keys, text.as_slice()),
-        Command::Assertion => match prelude {
-            Some(db) => rewrite_assertion(alloc, keys, db, text.as_slice()),
-            None => Ok(Answer::NoPrelude),
-        },
-        Command::Check => check(rt, alloc, keys, text.as_slice()),
-        Command::Library => Ok(runs.keep_library(text)),
-        Command::Script => runs.keep_script(text),
-        Command::Run if !end_alike(rt, alloc, keys, runs)? => Ok(Answer::DiffersOverCells),
-        Command::Run => runs.run(rt, alloc, keys),
-        Command::Shared => runs.share(rt, alloc, keys),
-        Command::Workers => Ok(runs.keep_workers(text.as_slice())),
-        Command::Room => Ok(runs.keep_room(text.as_slice())),
-        Command::Replay => runs.replay(rt, alloc, keys, text),
+        Command::Prelude
+        | Command::Database
+        | Command::Rewrite
+        | Command::Assertion
+        | Command::Check => {
+            let text = text.as_slice();
+            answer_text(rt, alloc, keys, prelude, command, text)
+        }
+        _ => answer_runs(rt, alloc, keys, runs, command, text),
     }
 }

@@ -28,20 +28,41 @@ pub fn end_alike(
     keys: RandomState,
     runs: &Runs,
 ) -> Result<bool, AllocError> {
-    let Ok(db) = read_database(alloc, keys, runs.library.as_slice()) else {
-        return Ok(true);
-    };
-    let Ok(()) = check_all(rt, alloc, &db) else {
+    match read_database(alloc, keys, runs.library.as_slice()) {
+        Ok(db) => database_ends_alike(rt, alloc, keys, &db, runs.scripts.as_slice()),
+        Err(_) => Ok(true),
+    }
+}
+
+/// Whether the transactions of scripts end alike over a database.
+fn database_ends_alike(
+    rt: &(impl Threads + Sync),
+    alloc: Global,
+    keys: RandomState,
+    db: &Database,
+    scripts: &[Vec<u8>],
+) -> Result<bool, AllocError> {
+    let Ok(()) = check_all(rt, alloc, db) else {
         return Ok(true);
     };
     if db.assertions().len() > SLOTS {
         return Ok(true);
     }
-    let Some(mut pair) = Pair::open(alloc, keys, &db, SLOTS, ROOM) else {
-        return Ok(false);
-    };
-    for text in &runs.scripts {
-        if !script_ends_alike(alloc, &db, &mut pair, text.as_slice())? {
+    match Pair::open(alloc, keys, db, SLOTS, ROOM) {
+        Some(mut pair) => scripts_end_alike(alloc, db, &mut pair, scripts),
+        None => Ok(false),
+    }
+}
+
+/// Whether the transactions of scripts end alike in both, and the two show the same then.
+fn scripts_end_alike(
+    alloc: Global,
+    db: &Database,
+    pair: &mut Pair,
+    scripts: &[Vec<u8>],
+) -> Result<bool, AllocError> {
+    for text in scripts {
+        if !script_ends_alike(alloc, db, pair, text.as_slice())? {
             return Ok(false);
         }
     }

@@ -10,6 +10,7 @@
 //! | `A snapshot` | `seen PLACE`, and the exported text of the library after PLACE entries |
 //! | `finish A B ..` | `finished N`, the library's text then, and whether the replay of its history gives it; or `missing N`, `held CELL` |
 //! | `locks A B ..` | the same end: the cells whose lock words have moved since the opening, in their order; or `none` |
+//! | `random COUNT SEED` | how so many random transactions end, in the one-thread editor and over plain cells; or `the two differ` |
 //! | any other | `cannot read this line` |
 //!
 //! The sessions of a library are called `A` to `Z`, or `1` to `64`. Where memory runs out, `no memory` is answered.
@@ -22,6 +23,7 @@ use crate::looking::look;
 use crate::names::place_of;
 use crate::opened::Opened;
 use crate::printing::write_outcome;
+use crate::random::compare;
 use crate::seats::learn;
 use crate::table::Table;
 use crate::trying::attempt;
@@ -55,6 +57,7 @@ pub fn answer_line(
         b"open" => table.open(rt, alloc, keys, behind),
         b"finish" => table.finish(alloc, keys, behind),
         b"locks" => table.finish_moved(alloc, behind),
+        b"random" => compare(rt, alloc, keys, behind),
         _ => {
             let Some(opened) = &mut table.opened else {
                 return Err(Undone::Unreadable);

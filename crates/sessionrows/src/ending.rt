@@ -39,11 +39,28 @@ pub fn end(
     leave_others(&library, &mut sessions, places);
     match finish(alloc, library, sessions) {
         Ok((history, after)) => {
-            let same = is_replayed(alloc, keys, &database, slots, history.as_slice(), &after)?;
-            write_end(alloc, history.as_slice().len(), &after, same)
+            write_finished(alloc, keys, &database, slots, history.as_slice(), &after)
         }
         Err(error) => write_unfinished(alloc, error),
     }
+}
+
+/// The lines of an end with a whole history over the database, and the library after it.
+fn write_finished(
+    alloc: Global,
+    keys: RandomState,
+    database: &Database,
+    slots: usize,
+    history: &[Entry],
+    after: &PlainLibrary,
+) -> Result<Vec<u8>, Undone>
+    requires some_slots { 1 ≤ slots }
+    requires few_slots { slots ≤ 4096 }
+    requires checks { AllCheck database.now }
+    requires fit { EntriesFit database.now.prelude (map told history.now) }
+{
+    let same = is_replayed(alloc, keys, database, slots, history, after)?;
+    write_end(alloc, history.len(), after, same)
 }
 
 /// Whether the replay of a history over the database gives this library.

@@ -11,11 +11,14 @@ mod moving;
 mod names;
 mod opened;
 mod printing;
+mod random;
 mod seats;
 mod table;
 mod trying;
 mod undone;
 mod words;
+
+ghost use Rattle.sessionrows.specs.Tables.{Stands};
 
 use crate::answering::answer_line;
 use crate::table::Table;
@@ -35,6 +38,33 @@ fn read_lines(rt: &impl Input, alloc: Global) -> io::Result<Vec<Vec<u8>>> {
     Ok(lines)
 }
 
+/// Puts what was answered behind `out`.
+fn put_answer(out: &mut Vec<u8>, answer: Result<Vec<u8>, Undone>) -> Result<(), AllocError> {
+    match answer {
+        Ok(answer) => out.extend_from_slice(answer.as_slice()),
+        Err(Undone::Unreadable) => out.extend_from_slice(b"cannot read this line\n"),
+        Err(Undone::NoMemory) => out.extend_from_slice(b"no memory\n"),
+    }
+}
+
+/// Puts what the lines of a table are answered behind `out`, in order.
+fn put_all(
+    rt: &(impl Threads + Sync),
+    alloc: Global,
+    keys: RandomState,
+    out: &mut Vec<u8>,
+    table: &mut Table,
+    lines: &[Vec<u8>],
+) -> Result<(), AllocError>
+    requires { Stands table.old }
+{
+    for line in lines {
+        let answer = answer_line(rt, alloc, keys, table, line.as_slice());
+        put_answer(out, answer)?;
+    }
+    Ok(())
+}
+
 /// What the lines are answered, in order.
 fn answer_all(
     rt: &(impl Threads + Sync),
@@ -44,13 +74,7 @@ fn answer_all(
 ) -> Result<Vec<u8>, AllocError> {
     let mut out = Vec::new(alloc);
     let mut table = Table::new(alloc);
-    for line in lines {
-        match answer_line(rt, alloc, keys, &mut table, line.as_slice()) {
-            Ok(answer) => out.extend_from_slice(answer.as_slice())?,
-            Err(Undone::Unreadable) => out.extend_from_slice(b"cannot read this line\n")?,
-            Err(Undone::NoMemory) => out.extend_from_slice(b"no memory\n")?,
-        }
-    }
+    put_all(rt, alloc, keys, &mut out, &mut table, lines)?;
     Ok(out)
 }
 

@@ -1,6 +1,7 @@
 //! Lock words that have moved.
 
-ghost use Rattle.std.specs.Prelude.{◌≤◌};
+ghost use Rattle.std.specs.Prelude.{◌≤◌, All};
+ghost use Rattle.transaction.specs.Members.{IsOf};
 ghost use Rattle.sessionrows.specs.Opened.{IsOpen};
 
 use crate::opened::Opened;
@@ -8,6 +9,7 @@ use crate::seats::leave_others;
 use crate::undone::Undone;
 use std::alloc::{AllocError, Global};
 use tlwords::ClosedCell;
+use transaction::{Library, Session};
 
 /// The names of the five cells of a slot, in their order.
 const PARTS: [&str; 5] = ["name", "statement", "proof", "rank", "citers"];
@@ -26,8 +28,16 @@ pub fn moved(alloc: Global, opened: Opened, places: &[usize]) -> Result<Vec<u8>,
         library,
         mut sessions,
     } = opened;
-    let slots = library.slots();
     leave_others(&library, &mut sessions, places);
+    write_closed(alloc, library, sessions)
+}
+
+/// Closes a library with all these sessions of it, and writes that line.
+fn write_closed(alloc: Global, library: Library, sessions: Vec<Session>) -> Result<Vec<u8>, Undone>
+    requires own { All (IsOf library) sessions.items }
+    requires few_slots { library.given.slots ≤ 4096 }
+{
+    let slots = library.slots();
     let closed = library.close(alloc, sessions)?;
     Ok(write_moved(alloc, slots, closed.words.cells.as_slice())?)
 }

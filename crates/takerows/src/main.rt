@@ -1,14 +1,17 @@
-//! The table of what is taken: small sources in the whole language of Metamath, and the library that is taken of each.
+//! The table of sources: small texts in the whole language of Metamath, and what each declares, or the library that is taken of it.
 //!
-//! A line of this crate's `stdin` is `all`, `for LABEL ..` or `between LABEL LABEL`, then `:` and a source. Its `stdout`, worked out by hand from the
-//! rules, has each line again, and behind it the lines of the library, `axiom LABEL WHY` for each theorem that is taken as an axiom and
+//! A line of this crate's `stdin` is `declares`, `all`, `for LABEL ..` or `between LABEL LABEL`, then `:` and a source. Its `stdout` was worked out by hand
+//! from the rules. Of `declares` it has the source again, and behind an arrow `ok` and the number of its assertions, or its fault with its byte. Of the
+//! others it has each line again, and behind it the lines of the library, `axiom LABEL WHY` for each theorem that is taken as an axiom and
 //! `name OLD NEW` for each name that is changed; or `refused` and why. A line `made WORD NUMBER` stands for a source of real size
 //! (`made.rt`), all of which is wanted: of the library it is only said how many assertions it has. A line that begins with `#` says
 //! something to the reader, and is not answered.
 #![tactic(auto)]
 
+mod declaring;
 mod made;
 
+use crate::declaring::put_declared;
 use crate::made::made;
 use choosing::Wish;
 use drafts::Limit;
@@ -190,8 +193,8 @@ fn number_of(word: &[u8]) -> Option<usize> {
     digits.parse::<usize>().ok()
 }
 
-/// A row, and what is answered to it.
-fn put_row(
+/// A row of a wish, and what is taken by it.
+fn put_take(
     rt: &(impl Threads + Sync),
     alloc: Global,
     keys: RandomState,
@@ -210,6 +213,20 @@ fn put_row(
     match take(rt, alloc, keys, row.source, wish, &Unfollowed) {
         Ok(taken) => put_taken(alloc, out, &taken),
         Err(refusal) => put_refusal(alloc, out, &refusal),
+    }
+}
+
+/// What is printed of a row.
+fn put_row(
+    rt: &(impl Threads + Sync),
+    alloc: Global,
+    keys: RandomState,
+    out: &mut Vec<u8>,
+    line: &[u8],
+) -> Result<(), AllocError> {
+    match line.strip_prefix(b"declares:") {
+        Some(text) => put_declared(alloc, keys, out, text),
+        None => put_take(rt, alloc, keys, out, line),
     }
 }
 

@@ -7,7 +7,7 @@ ghost use Rattle.wordrows.specs.Seats.{is_named, IsNameIn, StandsAt};
 use crate::acting::{answer_line, take_stand};
 use crate::answer::Answer;
 use crate::line::{Opening, closes, is_comment, opens, read_closing, read_opening};
-use crate::print::{put_answer, put_line};
+use crate::print::{put_answer, put_line, put_refused};
 use crate::seat::{Anything, Resting, Stand};
 use std::alloc::{AllocError, Global};
 use tlwords::{Pass, Words, close, open};
@@ -21,7 +21,7 @@ fn refuse_lines(out: &mut Vec<u8>, lines: &[Vec<u8>]) -> Result<(), AllocError> 
         if is_comment(line) {
             put_line(out, line)?;
         } else {
-            put_answer(out, line, Ok(Answer::Cannot))?;
+            put_refused(out, line)?;
         }
     }
     Ok(())
@@ -70,6 +70,25 @@ fn seat_all<'w>(
     Ok(stands)
 }
 
+/// The pass at a place, if one is there at rest; nothing is there then.
+fn take_pass(
+    words: &Words<Anything>,
+    stands: &mut Vec<Stand<'_>>,
+    place: usize,
+) -> Option<Pass<Anything>>
+    requires { All (StandsAt words.now) stands.old.items }
+    ensures stands { All (StandsAt words.now) stands.new.items }
+    ensures pass { IfSome result (SitsAt words.now) }
+{
+    match take_stand(words, stands, place) {
+        Stand::AtRest(rest) => {
+            let Resting { pass, ranges: _ } = rest;
+            Some(pass)
+        }
+        _ => None,
+    }
+}
+
 /// The passes at these places, if each of them is there at rest.
 fn take_passes(
     alloc: Global,
@@ -82,10 +101,9 @@ fn take_passes(
 {
     let mut passes = Vec::new(alloc);
     for place in places {
-        let Stand::AtRest(rest) = take_stand(words, stands, *place) else {
+        let Some(pass) = take_pass(words, stands, *place) else {
             return Ok(None);
         };
-        let Resting { pass, ranges: _ } = rest;
         passes.push(pass)?;
     }
     Ok(Some(passes))
@@ -222,7 +240,7 @@ fn answer_block(
     match read_opening(alloc, line)? {
         Some(opening) if fits(&opening) => open_words(alloc, out, &opening, line, lines),
         _ => {
-            put_answer(out, line, Ok(Answer::Cannot))?;
+            put_refused(out, line)?;
             refuse_lines(out, lines)
         }
     }

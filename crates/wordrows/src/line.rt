@@ -128,6 +128,18 @@ fn pass_named(word: &str) -> Option<usize> {
     }
 }
 
+/// The places of the passes that words name, if each is one.
+fn passes_named(alloc: Global, names: &[&str]) -> Result<Option<Vec<usize>>, AllocError> {
+    let mut places = Vec::new(alloc);
+    for name in names {
+        let Some(pass) = pass_named(name) else {
+            return Ok(None);
+        };
+        places.push(pass)?;
+    }
+    Ok(Some(places))
+}
+
 fn mode_named(word: &str) -> Option<Mode> {
     match word {
         "writing" => Some(Mode::Writing),
@@ -136,58 +148,78 @@ fn mode_named(word: &str) -> Option<Mode> {
     }
 }
 
-fn range_of(start: &str, len: &str) -> Option<Range> {
-    Some(Range {
-        start: count(start)?,
-        len: count(len)?,
-    })
+/// The range of two words of a line.
+fn range_of(start: u64, len: u64) -> Range {
+    Range {
+        start: start as usize,
+        len: len as usize,
+    }
 }
 
-/// The step of a line, behind the pass, that has no list of words.
-fn plain_step(words: &[&str]) -> Option<Step> {
-    match words {
-        ["begins", mode] => Some(Step::Begin(mode_named(mode)?)),
-        ["reads", cell] => Some(Step::Read(count(cell)?)),
-        ["writes", cell, value] => Some(Step::Write {
-            cell: count(cell)?,
-            value: number(value)?,
+/// The step of a line by its verb and the numbers behind that.
+fn plain_step(verb: &str, numbers: &[u64]) -> Option<Step> {
+    match (verb, numbers) {
+        ("reads", [cell]) => Some(Step::Read(*cell as usize)),
+        ("writes", [cell, value]) => Some(Step::Write {
+            cell: *cell as usize,
+            value: *value,
         }),
-        ["names", cell, start, len] => Some(Step::Name {
-            cell: count(cell)?,
-            range: range_of(start, len)?,
+        ("names", [cell, start, len]) => Some(Step::Name {
+            cell: *cell as usize,
+            range: range_of(*start, *len),
         }),
-        ["forgets"] => Some(Step::Forget),
-        ["loads", start, len, index] => Some(Step::Load {
-            range: range_of(start, len)?,
-            index: count(index)?,
+        ("forgets", []) => Some(Step::Forget),
+        ("loads", [start, len, index]) => Some(Step::Load {
+            range: range_of(*start, *len),
+            index: *index as usize,
         }),
-        ["commits", note] => Some(Step::Commit(number(note)?)),
-        ["leaves"] => Some(Step::Leave),
+        ("commits", [note]) => Some(Step::Commit(*note)),
+        ("leaves", []) => Some(Step::Leave),
         _ => None,
+    }
+}
+
+/// The step of a line that is no beginning, by its verb and the words behind that.
+fn numbered_step(alloc: Global, verb: &str, words: &[&str]) -> Result<Option<Step>, AllocError> {
+    match numbers(alloc, words)? {
+        Some(staged) if verb == "stages" => Ok(Some(Step::Stage(staged))),
+        Some(numbers) => Ok(plain_step(verb, numbers.as_slice())),
+        None => Ok(None),
     }
 }
 
 /// The step of a line, behind the pass.
 fn step_of(alloc: Global, words: &[&str]) -> Result<Option<Step>, AllocError> {
     match words {
-        ["stages", staged @ ..] => Ok(numbers(alloc, staged)?.map(Step::Stage)),
-        _ => Ok(plain_step(words)),
+        ["begins", mode] => Ok(mode_named(mode).map(Step::Begin)),
+        [verb, rest @ ..] => numbered_step(alloc, verb, rest),
+        [] => Ok(None),
+    }
+}
+
+/// What the words of a line behind the pass ask of it.
+fn asked_of(alloc: Global, pass: usize, words: &[&str]) -> Result<Option<Line>, AllocError> {
+    match words {
+        ["learns", other] => Ok(pass_named(other).map(|other| Line::Learn { pass, other })),
+        _ => Ok(step_of(alloc, words)?.map(|step| Line::Step { pass, step })),
+    }
+}
+
+/// What the words of a line ask of the passes.
+fn asked(alloc: Global, words: &[&str]) -> Result<Option<Line>, AllocError> {
+    let [name, rest @ ..] = words else {
+        return Ok(None);
+    };
+    match pass_named(name) {
+        Some(pass) => asked_of(alloc, pass, rest),
+        None => Ok(None),
     }
 }
 
 /// What a line asks of the passes, if it can be read.
 pub fn read_line(alloc: Global, line: &[u8]) -> Result<Option<Line>, AllocError> {
     let words = words_of(alloc, line)?;
-    let Some((name, rest)) = words.as_slice().split_first() else {
-        return Ok(None);
-    };
-    let Some(pass) = pass_named(name) else {
-        return Ok(None);
-    };
-    match rest {
-        ["learns", other] => Ok(pass_named(other).map(|other| Line::Learn { pass, other })),
-        _ => Ok(step_of(alloc, rest)?.map(|step| Line::Step { pass, step })),
-    }
+    asked(alloc, words.as_slice())
 }
 
 fn are_named(word: &str) -> Option<bool> {
@@ -213,9 +245,8 @@ fn lists_of(alloc: Global, words: &[&str]) -> Result<Option<(Vec<u64>, Vec<u64>)
     Ok(numbers(alloc, store)?.map(|store| (values, store)))
 }
 
-/// What words a line opens, if it can be read.
-pub fn read_opening(alloc: Global, line: &[u8]) -> Result<Option<Opening>, AllocError> {
-    let words = words_of(alloc, line)?;
+/// What the words of a line open.
+fn opening_of(alloc: Global, words: &[&str]) -> Result<Option<Opening>, AllocError> {
     let [
         "open",
         "room",
@@ -225,7 +256,7 @@ pub fn read_opening(alloc: Global, line: &[u8]) -> Result<Option<Opening>, Alloc
         named,
         "values",
         rest @ ..,
-    ] = words.as_slice()
+    ] = words
     else {
         return Ok(None);
     };
@@ -242,18 +273,17 @@ pub fn read_opening(alloc: Global, line: &[u8]) -> Result<Option<Opening>, Alloc
     }))
 }
 
+/// What words a line opens, if it can be read.
+pub fn read_opening(alloc: Global, line: &[u8]) -> Result<Option<Opening>, AllocError> {
+    let words = words_of(alloc, line)?;
+    opening_of(alloc, words.as_slice())
+}
+
 /// The places of the passes with which a line closes the words, if it can be read.
 pub fn read_closing(alloc: Global, line: &[u8]) -> Result<Option<Vec<usize>>, AllocError> {
     let words = words_of(alloc, line)?;
-    let ["close", names @ ..] = words.as_slice() else {
-        return Ok(None);
-    };
-    let mut places = Vec::new(alloc);
-    for name in names {
-        let Some(pass) = pass_named(name) else {
-            return Ok(None);
-        };
-        places.push(pass)?;
+    match words.as_slice() {
+        ["close", names @ ..] => passes_named(alloc, names),
+        _ => Ok(None),
     }
-    Ok(Some(places))
 }

@@ -6,6 +6,9 @@ use std::io;
 use std::io::Write;
 use tlwords::{ClosedWords, Conflict, Outcome};
 
+/// What is said of a line that can't be read, or can't be done now.
+const CANNOT: &[u8] = b"cannot do this line";
+
 /// Writing into a vector fails only for want of memory.
 fn out_of_memory(_error: io::Error) -> AllocError {
     AllocError
@@ -63,29 +66,40 @@ fn put_closed(out: &mut Vec<u8>, closed: &ClosedWords) -> Result<(), AllocError>
     put_store(out, closed)
 }
 
+/// Puts a number behind some words.
+fn put_number(out: &mut Vec<u8>, words: &str, number: u64) -> Result<(), AllocError> {
+    write!(out, "{words} {number}").map_err(out_of_memory)
+}
+
+/// The words of an answer that has nothing more to tell.
+fn words_of(answer: &Answer) -> &'static [u8] {
+    match answer {
+        Answer::NoMemory => b"no memory",
+        Answer::Opened => b"opened",
+        Answer::Kept => b"kept",
+        Answer::Forgot => b"forgot",
+        Answer::Left => b"left",
+        Answer::Learnt => b"learnt",
+        _ => CANNOT,
+    }
+}
+
 fn put_text(out: &mut Vec<u8>, answer: &Answer) -> Result<(), AllocError> {
-    let written = match answer {
-        Answer::Stopped(conflict) => return put_conflict(out, conflict),
-        Answer::Ended(outcome) => return put_outcome(out, outcome),
-        Answer::Closed(closed) => return put_closed(out, closed),
-        Answer::Cannot => write!(out, "cannot do this line"),
-        Answer::NoMemory => write!(out, "no memory"),
-        Answer::Opened => write!(out, "opened"),
-        Answer::Refused(fault) => write!(out, "refused {fault}"),
-        Answer::Began(place) => write!(out, "began at {place}"),
-        Answer::Read(value) => write!(out, "read {value}"),
-        Answer::Kept => write!(out, "kept"),
-        Answer::Forgot => write!(out, "forgot"),
+    match answer {
+        Answer::Stopped(conflict) => put_conflict(out, conflict),
+        Answer::Ended(outcome) => put_outcome(out, outcome),
+        Answer::Closed(closed) => put_closed(out, closed),
+        Answer::Refused(fault) => write!(out, "refused {fault}").map_err(out_of_memory),
+        Answer::Full(full) => write!(out, "refused {full}").map_err(out_of_memory),
+        Answer::Began(place) => put_number(out, "began at", *place),
+        Answer::Read(value) => put_number(out, "read", *value),
+        Answer::Loaded(word) => put_number(out, "loaded", *word),
         Answer::Staged(range) => {
-            let (start, len) = (range.start, range.len);
-            write!(out, "staged {start} {len}")
+            put_number(out, "staged", range.start as u64)?;
+            put_number(out, "", range.len as u64)
         }
-        Answer::Full(full) => write!(out, "refused {full}"),
-        Answer::Loaded(word) => write!(out, "loaded {word}"),
-        Answer::Left => write!(out, "left"),
-        Answer::Learnt => write!(out, "learnt"),
-    };
-    written.map_err(out_of_memory)
+        _ => out.extend_from_slice(words_of(answer)),
+    }
 }
 
 /// Puts a line that is not answered behind `out`.
@@ -108,6 +122,17 @@ pub fn put_answer(
     out.extend_from_slice(line)?;
     out.extend_from_slice(b": ")?;
     put_text(out, &answer.unwrap_or(Answer::NoMemory))?;
+    out.push(b'\n')?;
+    Ok(())
+}
+
+/// Puts a line that can't be done behind `out`, and says so.
+///
+/// After an error nothing is promised of the bytes in `out`.
+pub fn put_refused(out: &mut Vec<u8>, line: &[u8]) -> Result<(), AllocError> {
+    out.extend_from_slice(line)?;
+    out.extend_from_slice(b": ")?;
+    out.extend_from_slice(CANNOT)?;
     out.push(b'\n')?;
     Ok(())
 }

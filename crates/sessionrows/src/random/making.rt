@@ -4,7 +4,7 @@
 ghost use Rattle.std.specs.Prelude.{◌<◌, ◌≤◌};
 
 use library::{Command, Transaction};
-use mmstatement::{Assertion, Kind, Label, Sequence, Step, Symbol};
+use mmsyntax::{Assertion, Kind, Label, Sequence, Step, Symbol};
 use rand_core::Rng;
 use rand_pcg::Pcg32;
 use std::alloc::{AllocError, Global};
@@ -73,36 +73,57 @@ impl Maker {
     }
 
     fn command(&mut self, alloc: Global) -> Result<Command, AllocError> {
-        Ok(match self.below(19) {
-            0 => Command::List,
-            1 => Command::Show {
-                label: self.label(alloc, 16)?,
-            },
-            2 => Command::Delete {
-                label: self.label(alloc, 10)?,
-            },
-            3..=4 => Command::Move {
-                label: self.label(alloc, 14)?,
-                rank: self.rank(),
-            },
-            5..=6 => Command::Rename {
-                old: self.label(alloc, 10)?,
-                new: self.label(alloc, 16)?,
-            },
-            7..=9 => Command::Reprove {
-                label: self.label(alloc, 11)?,
-                steps: self.steps(alloc)?,
-            },
-            10..=12 => Command::Replace {
-                label: self.label(alloc, 11)?,
-                old: self.cited(alloc)?,
-                new: self.cited(alloc)?,
-            },
-            _ => Command::Add {
-                rank: self.rank(),
-                assertion: self.theorem(alloc)?,
-            },
-        })
+        match self.below(19) {
+            0 => Ok(Command::List),
+            1 => self.show(alloc),
+            2 => self.delete(alloc),
+            3..=4 => self.shift(alloc),
+            5..=6 => self.rename(alloc),
+            7..=9 => self.reprove(alloc),
+            10..=12 => self.replace(alloc),
+            _ => self.add(alloc),
+        }
+    }
+
+    fn show(&mut self, alloc: Global) -> Result<Command, AllocError> {
+        let label = self.label(alloc, 16)?;
+        Ok(Command::Show { label })
+    }
+
+    fn delete(&mut self, alloc: Global) -> Result<Command, AllocError> {
+        let label = self.label(alloc, 10)?;
+        Ok(Command::Delete { label })
+    }
+
+    fn shift(&mut self, alloc: Global) -> Result<Command, AllocError> {
+        let label = self.label(alloc, 14)?;
+        let rank = self.rank();
+        Ok(Command::Move { label, rank })
+    }
+
+    fn rename(&mut self, alloc: Global) -> Result<Command, AllocError> {
+        let old = self.label(alloc, 10)?;
+        let new = self.label(alloc, 16)?;
+        Ok(Command::Rename { old, new })
+    }
+
+    fn reprove(&mut self, alloc: Global) -> Result<Command, AllocError> {
+        let label = self.label(alloc, 11)?;
+        let steps = self.steps(alloc)?;
+        Ok(Command::Reprove { label, steps })
+    }
+
+    fn replace(&mut self, alloc: Global) -> Result<Command, AllocError> {
+        let label = self.label(alloc, 11)?;
+        let old = self.cited(alloc)?;
+        let new = self.cited(alloc)?;
+        Ok(Command::Replace { label, old, new })
+    }
+
+    fn add(&mut self, alloc: Global) -> Result<Command, AllocError> {
+        let rank = self.rank();
+        let assertion = self.theorem(alloc)?;
+        Ok(Command::Add { rank, assertion })
     }
 
     /// From 0 to 1,199, and so 0 rarely.
@@ -127,18 +148,25 @@ impl Maker {
             0 => Kind::Axiom,
             _ => Kind::Theorem,
         };
-        let proof = match kind {
-            Kind::Axiom => Sequence::from_vec(Vec::new(alloc)),
-            Kind::Theorem => self.steps(alloc)?,
-        };
+        let proof = self.proof(alloc, kind)?;
+        let label = self.label(alloc, 16)?;
+        let statement = vec![in alloc; Symbol::Const(0)]?;
         Ok(Assertion {
-            label: self.label(alloc, 16)?,
+            label,
             kind,
             pairs: Sequence::from_vec(Vec::new(alloc)),
             hyps: Sequence::from_vec(Vec::new(alloc)),
-            statement: Sequence::from_vec(vec![in alloc; Symbol::Const(0)]?),
+            statement: Sequence::from_vec(statement),
             proof,
         })
+    }
+
+    /// The proof of a theorem; none of an axiom.
+    fn proof(&mut self, alloc: Global, kind: Kind) -> Result<Sequence<Step>, AllocError> {
+        match kind {
+            Kind::Axiom => Ok(Sequence::from_vec(Vec::new(alloc))),
+            Kind::Theorem => self.steps(alloc),
+        }
     }
 
     /// The steps of a proof of `wff`: mostly one, from labels of which some may be unknown or not below; rarely one with a step too many.

@@ -2,6 +2,7 @@
 
 use mmstatement::Database;
 use proofcheck::check_all;
+use std::alloc::Global;
 use std::fs;
 use std::rt::Files;
 use std::sync::atomic::AtomicBool;
@@ -43,11 +44,12 @@ pub fn has_many_processors(rt: &impl Threads) -> bool {
 
 /// Checks the proofs of a database, and says so in a word.
 pub fn check_beside(
-    rt: &(impl AllocGlobal + Threads + Sync),
+    rt: &(impl Threads + Sync),
+    alloc: Global,
     db: &Database,
     done: &AtomicBool,
 ) -> bool {
-    let sound = check_all(rt, rt.alloc(), db).is_ok();
+    let sound = check_all(rt, alloc, db).is_ok();
     done.store(true, SeqCst);
     sound
 }

@@ -35,21 +35,26 @@ fn put_theorem(out: &mut Vec<u8>, label: &str, often: usize) -> Result<(), Alloc
     out.extend_from_slice(b"q $.\n")
 }
 
-/// A database of 4,096 assertions in the layout of an export, three megabytes, with a proof of 16,384 steps.
-pub fn proofs_text(alloc: Global) -> Result<Vec<u8>, AllocError> {
-    let mut out = Vec::new(alloc);
-    out.extend_from_slice(rules_text())?;
-    put_theorem(&mut out, "deep", DEEP)?;
+/// Puts the theorems behind `deep`.
+fn put_theorems(alloc: Global, out: &mut Vec<u8>) -> Result<(), AllocError> {
     for i in 0..THEOREMS {
         let label = format!(in alloc; "t{i}")?;
-        put_theorem(&mut out, label.as_str(), OTHER)?;
+        put_theorem(out, label.as_str(), OTHER)?;
     }
+    Ok(())
+}
+
+/// A database of 4,096 assertions in the layout of an export, three megabytes, with a proof of 16,384 steps.
+pub fn proofs_text(alloc: Global) -> Result<Vec<u8>, AllocError> {
+    let mut out = Vec::from_slice(alloc, rules_text())?;
+    put_theorem(&mut out, "deep", DEEP)?;
+    put_theorems(alloc, &mut out)?;
     Ok(out)
 }
 
 /// A database of an axiom and a theorem.
-pub fn tiny_text(alloc: Global) -> Result<Vec<u8>, AllocError> {
-    Vec::from_slice(alloc, b"$c wff $.\na $a wff $.\nt $p wff $= a $.\n")
+pub fn tiny_text() -> &'static [u8] {
+    b"$c wff $.\na $a wff $.\nt $p wff $= a $.\n"
 }
 
 /// A script that renames a label and gives it back, an even number of transactions in all.
@@ -70,25 +75,39 @@ pub fn renames_text(
 /// How many variables the block has: 347 * 346 / 2 pairs.
 const VARIABLES: usize = 347;
 
-/// A database with an axiom in a block of 60,031 pairs.
-pub fn pairs_text(alloc: Global) -> Result<Vec<u8>, AllocError> {
-    let mut variables = Vec::new(alloc);
-    let mut floats = Vec::new(alloc);
+/// Puts the variables behind a space each.
+fn put_variables(alloc: Global, out: &mut Vec<u8>) -> Result<(), AllocError> {
     for i in 0..VARIABLES {
         let variable = format!(in alloc; " v{i}")?;
-        variables.extend_from_slice(variable.as_bytes())?;
-        let float = format!(in alloc; "f{i} $f wff v{i} $.\n")?;
-        floats.extend_from_slice(float.as_bytes())?;
+        out.extend_from_slice(variable.as_bytes())?;
     }
-    let mut out = Vec::new(alloc);
-    out.extend_from_slice(b"$c wff |- $.\n$v")?;
-    out.extend_from_slice(variables.as_slice())?;
+    Ok(())
+}
+
+/// Puts their `$f`, a line each.
+fn put_floats(alloc: Global, out: &mut Vec<u8>) -> Result<(), AllocError> {
+    for i in 0..VARIABLES {
+        let float = format!(in alloc; "f{i} $f wff v{i} $.\n")?;
+        out.extend_from_slice(float.as_bytes())?;
+    }
+    Ok(())
+}
+
+/// Puts the lines of that database.
+fn put_block(alloc: Global, out: &mut Vec<u8>) -> Result<(), AllocError> {
+    put_variables(alloc, out)?;
     out.extend_from_slice(b" $.\n")?;
-    out.extend_from_slice(floats.as_slice())?;
+    put_floats(alloc, out)?;
     out.extend_from_slice(b"${\n  $d")?;
-    out.extend_from_slice(variables.as_slice())?;
+    put_variables(alloc, out)?;
     out.extend_from_slice(b" $.\n  a $a |-")?;
-    out.extend_from_slice(variables.as_slice())?;
-    out.extend_from_slice(b" $.\n$}\n")?;
+    put_variables(alloc, out)?;
+    out.extend_from_slice(b" $.\n$}\n")
+}
+
+/// A database with an axiom in a block of 60,031 pairs.
+pub fn pairs_text(alloc: Global) -> Result<Vec<u8>, AllocError> {
+    let mut out = Vec::from_slice(alloc, b"$c wff |- $.\n$v")?;
+    put_block(alloc, &mut out)?;
     Ok(out)
 }
