@@ -1,7 +1,7 @@
 #!/usr/bin/env python3
 """A library in cells beside the one-thread editor: opening, reading back, and transactions of one kind.
 
-    cells.py DB.. [--program crates/bench/out/bench] [--beside CMD] [--transactions 2000] [--lists 20] [--rounds 3] [--seed 1] [--out DIR]
+    cells.py DB.. [--program crates/workbench/out/workbench] [--beside CMD] [--transactions 2000] [--lists 20] [--rounds 3] [--seed 1] [--out DIR]
 
 For each DB it takes the time of reading and checking, of opening in plain cells (less the former) and of reading all back (less that); and
 for scripts of renames, shows, small additions, moves, deletions and lists the time of the transactions by the editor and over cells, each less that of
@@ -55,7 +55,7 @@ def transactions(kind, labels, steps, count, chance):
 def main():
     parser = argparse.ArgumentParser(description=__doc__.splitlines()[0])
     parser.add_argument("databases", nargs="+", type=pathlib.Path)
-    parser.add_argument("--program", default=TOP / "crates/bench/out/bench", type=pathlib.Path)
+    parser.add_argument("--program", default=TOP / "crates/workbench/out/workbench", type=pathlib.Path)
     parser.add_argument("--beside", help="an editor of mmrefactor's command line, as a yardstick", type=str)
     parser.add_argument("--transactions", type=int, default=2000)
     parser.add_argument("--lists", type=int, default=20)

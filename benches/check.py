@@ -3,7 +3,7 @@
 
     check.py DB.. [--program CMD] [--beside CMD] [--metamath CMD] [--rounds 5]
 
---program is ../crates/bench/out/bench check, which reads a database and checks its proofs eleven times. --beside is a reference program as
+--program is ../crates/workbench/out/workbench check, which reads a database and checks its proofs eleven times. --beside is a reference program as
 `yard_check`, which is called with `--threads N DB` and tells its times on the standard error as `parse_us N verify_us N steps N`. Medians over the
 rounds, in milliseconds; of a round the median of the eleven checks. A measurement and no test.
 """
@@ -51,7 +51,7 @@ def metamath(program, db):
 def main():
     parser = argparse.ArgumentParser(description=__doc__, formatter_class=argparse.RawDescriptionHelpFormatter)
     parser.add_argument("db", type=pathlib.Path, nargs="+")
-    parser.add_argument("--program", default=f"{HERE.parent}/crates/bench/out/bench check")
+    parser.add_argument("--program", default=f"{HERE.parent}/crates/workbench/out/workbench check")
     parser.add_argument("--beside")
     parser.add_argument("--metamath")
     parser.add_argument("--rounds", type=int, default=5)

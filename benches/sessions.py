@@ -9,7 +9,7 @@ transaction), `shows`, and `mixed` (nine shows to one rename, of a script's own 
 each thread takes the next script that nobody has taken. The database is made by the seed: four axioms, and theorems, each of which cites
 the first and so many others (`--citations`; with 0 nothing cites what the scripts rename, so that the editor copies no proof).
 
-`--program` is the built crate bench, which does them by `sessions` and by `mutex`. `--beside` names an editor of the command line
+`--program` is the built crate workbench, which does them by `sessions` and by `mutex`. `--beside` names an editor of the command line
 `run --workers N --room W --lock tl2|mutex --times DB SCRIPT..`, which says `run_us N` on the standard error, and `--cells` a program that
 runs transactions on so many bare cells, of the command line `tl2|mutex disjoint|uniform THREADS TRANSACTIONS READS WRITES CELLS`, which
 prints `tps N`.
@@ -200,7 +200,7 @@ def line(cells):
 def options_given():
     parser = argparse.ArgumentParser(description=__doc__, formatter_class=argparse.RawDescriptionHelpFormatter)
     parser.add_argument("workloads", nargs="*", metavar="WORKLOAD", help=", ".join(WORKLOADS))
-    parser.add_argument("--program", default=str(HERE.parent / "crates/bench/out/bench"))
+    parser.add_argument("--program", default=str(HERE.parent / "crates/workbench/out/workbench"))
     parser.add_argument("--beside", help="an editor, as a yardstick")
     parser.add_argument("--cells", help="a program over bare cells, as a yardstick")
     parser.add_argument("--citations", type=int, default=3, help="of each theorem, besides the first")

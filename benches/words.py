@@ -4,7 +4,7 @@
     words.py --yardstick DIR [--out DIR] [--rounds 5] [--cells 28672] [--transactions 300000] [--threads 1,2,4] [--engines tl2,mutex,gnu]
              [PATTERN..]
 
-It builds ../crates/bench, and DIR/yard_stm.cpp, whose engines are `tl2` (a hand-written Transactional Locking II), `mutex` (one lock) and
+It builds ../crates/workbench, and DIR/yard_stm.cpp, whose engines are `tl2` (a hand-written Transactional Locking II), `mutex` (one lock) and
 `gnu` (GCC's transactional memory). In each program each thread commits so many transactions, of the same cells in the same order: a
 transaction reads four cells and adds one to two of them, and in the pattern `read` it reads a hundred and writes none. In `disjoint` each
 thread has its own part of the cells, and `hot` is over eight cells.
@@ -21,7 +21,7 @@ import time
 from statistics import median
 
 HERE = pathlib.Path(__file__).resolve().parent
-CRATE = HERE.parent / "crates" / "bench"
+CRATE = HERE.parent / "crates" / "workbench"
 PATTERNS = ("disjoint", "uniform", "hot", "read")
 ENGINES = ("tl2", "mutex", "gnu")
 THREADS = (1, 2, 4)
@@ -42,7 +42,7 @@ def build(options):
     subprocess.run(["g++", "-std=c++20", "-O2", "-fgnu-tm", "-pthread", "-o", str(yardstick), str(source)], check=True)
     # A short run: the command that builds the program also runs it.
     subprocess.run(["rt", "run", "--", "words", "hot", "8", "1", "2"], cwd=CRATE, stdout=subprocess.DEVNULL, check=True)
-    return CRATE / "out" / "bench", yardstick
+    return CRATE / "out" / "workbench", yardstick
 
 
 def timed(command):
@@ -57,7 +57,7 @@ def time_ours(program, pattern, threads, options):
     count = threads * options.transactions
     wanted = f"committed {count} sum {reads_and_writes(pattern)[1] * count}\n"
     if said != wanted:
-        raise SystemExit(f"{pattern}: bench prints {said!r}, wanted {wanted!r}")
+        raise SystemExit(f"{pattern}: workbench prints {said!r}, wanted {wanted!r}")
     return took
 
 

@@ -1,51 +1,139 @@
 //! `cells TASK DB [SCRIPT]`: what is measured of libraries in cells, for `benches/cells.py`.
 //!
-//! `check` reads a database and checks its proofs, `open` opens it in plain cells too, and `back` reads it back besides, slot by slot. `editor` and
-//! `cells` do the transactions of a script after that, by the one-thread editor and over plain cells. It prints how many assertions there are, or
-//! how many transactions were done and refused.
+//! `check` reads a database and checks its proofs, `open` opens it in plain cells too, and `back` reads it back besides, slot by slot.
+//! `editor` and `cells` do the transactions of a script after that, by the one-thread editor and over plain cells. It prints how many
+//! assertions there are, or how many transactions were done and refused.
 
-mod task;
-mod work;
+ghost use Rattle.derivation.specs.Databases.{AllCheck};
 
-use crate::cell_work::task::Task;
-use crate::cell_work::work::work;
-use crate::ending::{Ending, failed, misused};
-use crate::texts::read_files;
-use std::alloc::AllocError;
+use crate::ending::Ending;
+use crate::files::{ROOM, SLOTS};
+use cells::{Cells, entry};
+use commands::RunError;
+use history::{ApplyError, Editor};
+use library::{Command, Reply, Script, Transaction};
+use mmstatement::{Database, Sequence};
+use pairs::{InCells, all_fit};
+use plaincells::PlainCells;
+use proofcheck::check_all;
+use std::alloc::Global;
 use std::hash::RandomState;
-use std::random::RandomSource;
-use std::rt::Files;
 use std::thread::Threads;
 
-/// What is said where the words aren't understood.
-const USAGE: &str = "usage: bench cells check|open|back DB, or bench cells editor|cells DB SCRIPT";
+/// Opens a database in plain cells, and reads each of its first assertions back.
+fn open(alloc: Global, db: &Database, count: usize) -> Option<()>
+    requires { AllCheck db.now }
+{
+    let mut cells = PlainCells::open(alloc, db, SLOTS, ROOM).ok()?;
+    for slot in 0..count {
+        if slot >= cells.slots() || entry(alloc, &mut cells, slot).is_err() {
+            return None;
+        }
+        cells.undo();
+    }
+    Some(())
+}
 
-/// Does what these words ask for, and prints what was done.
-///
-/// # Errors
-///
-/// Want of memory.
-pub fn obey(
-    rt: &(impl AllocGlobal + RandomSource + Files + Print + Eprint + Threads + Sync),
-    words: &[String],
-) -> Result<Ending, AllocError> {
-    let [name, paths @ ..] = words else {
-        return Ok(misused(rt, USAGE));
-    };
-    let Some(task) = Task::named(name.as_str()) else {
-        return Ok(misused(rt, USAGE));
-    };
-    let Ok(keys) = RandomState::new(rt) else {
-        return Ok(Ending::Failed);
-    };
-    let Some(texts) = read_files(rt, paths)? else {
-        return Ok(failed(rt, "a file cannot be read"));
-    };
-    let Some(done) = work(rt, rt.alloc(), keys, task, texts.as_slice())? else {
-        return Ok(failed(rt, "a text has a fault, or there is too little room"));
-    };
-    match println!(rt; "{done}") {
-        Ok(()) => Ok(Ending::Done),
-        Err(_) => Ok(Ending::Failed),
+/// Does a transaction by the editor. One whose commands are outside the limits of its prelude, which no script has, is not done.
+pub(crate) fn apply(
+    editor: &mut Editor,
+    alloc: Global,
+    commands: &[Command],
+) -> Result<Sequence<Reply>, ApplyError> {
+    if all_fit(editor.prelude(), commands) {
+        editor.apply(alloc, commands)
+    } else {
+        Err(ApplyError::NoMemory)
+    }
+}
+
+/// How many transactions the editor does, and how many it refuses. None where it lacks memory.
+fn edit(
+    alloc: Global,
+    keys: RandomState,
+    db: &Database,
+    script: &[Transaction],
+) -> Option<(usize, usize)>
+    requires { AllCheck db.now }
+{
+    let mut editor = Editor::open(alloc, keys, db, SLOTS).ok()?;
+    let (mut done, mut refused, mut is_whole) = (0_usize, 0_usize, true);
+    for commands in script {
+        match apply(&mut editor, alloc, commands.as_slice()) {
+            Ok(_) => done = done.saturating_add(1),
+            Err(ApplyError::Refused(_)) => refused = refused.saturating_add(1),
+            Err(ApplyError::NoMemory) => is_whole = false,
+        }
+    }
+    is_whole.then_some((done, refused))
+}
+
+/// How many transactions are done over plain cells, and how many are refused. None where one has another end.
+fn write(alloc: Global, db: &Database, script: &[Transaction]) -> Option<(usize, usize)>
+    requires { AllCheck db.now }
+{
+    let mut cells = InCells::open(alloc, db, SLOTS, ROOM).ok()?;
+    let (mut done, mut refused, mut is_whole) = (0_usize, 0_usize, true);
+    for commands in script {
+        if !all_fit(cells.prelude(), commands.as_slice()) {
+            is_whole = false;
+            break;
+        }
+        match cells.apply(alloc, commands.as_slice()) {
+            Ok(_) => done = done.saturating_add(1),
+            Err(RunError::Refused(_)) => refused = refused.saturating_add(1),
+            Err(_) => is_whole = false,
+        }
+    }
+    is_whole.then_some((done, refused))
+}
+
+/// Does a task with a database alone, and prints how many assertions it has.
+fn read(rt: &(impl AllocGlobal + Print), db: &Database, task: &str) -> Option<Ending>
+    requires { AllCheck db.now }
+{
+    let count = db.assertions().len();
+    match task {
+        "check" => Some(()),
+        "open" => open(rt.alloc(), db, 0),
+        "back" => open(rt.alloc(), db, count),
+        _ => return Some(Ending::Misused),
+    }?;
+    println!(rt; "assertions {count}").ok()?;
+    Some(Ending::Done)
+}
+
+/// Does a task with a database and a script, and prints how many transactions were done and refused.
+fn change(
+    rt: &(impl AllocGlobal + Print),
+    keys: RandomState,
+    db: &Database,
+    task: &str,
+    script: &[Transaction],
+) -> Option<Ending>
+    requires { AllCheck db.now }
+{
+    let (done, refused) = match task {
+        "editor" => edit(rt.alloc(), keys, db, script),
+        "cells" => write(rt.alloc(), db, script),
+        _ => return Some(Ending::Misused),
+    }?;
+    println!(rt; "done {done} refused {refused}").ok()?;
+    Some(Ending::Done)
+}
+
+/// Does a task with a database and, for the last two, a script. None where that can't be done.
+pub(crate) fn run(
+    rt: &(impl AllocGlobal + Print + Threads + Sync),
+    keys: RandomState,
+    db: &Database,
+    scripts: &[Script],
+    task: &str,
+) -> Option<Ending> {
+    check_all(rt, rt.alloc(), db).ok()?;
+    match scripts {
+        [] => read(rt, db, task),
+        [script] => change(rt, keys, db, task, script.as_slice()),
+        _ => Some(Ending::Misused),
     }
 }

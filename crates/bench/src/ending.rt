@@ -3,7 +3,7 @@
 use std::process::ExitCode;
 
 /// How a run ends.
-#[derive(Clone, Copy, Debug, PartialEq, Eq)]
+#[derive(Clone, Copy, PartialEq)]
 pub enum Ending {
     /// It was done.
     Done,
@@ -22,16 +22,4 @@ impl Ending {
             Ending::Misused => ExitCode::from(2),
         }
     }
-}
-
-/// Says what failed, on the standard error.
-pub fn failed(rt: &impl Eprint, what: &str) -> Ending {
-    let _ = rt.eprintln(what);
-    Ending::Failed
-}
-
-/// Says what words are wanted, on the standard error.
-pub fn misused(rt: &impl Eprint, usage: &str) -> Ending {
-    let _ = rt.eprintln(usage);
-    Ending::Misused
 }

@@ -1,73 +1,80 @@
-//! `sessions sessions|mutex THREADS DB SCRIPT..`: scripts over one library by 1 to 64 threads, for `benches/sessions.py`.
+//! `sessions sessions THREADS DB SCRIPT..`: scripts over one library by 1 to 64 threads, for `benches/sessions.py`.
 //!
-//! Each thread takes the next script that nobody has taken, and does its transactions in order. `sessions` does them by sessions on running words,
-//! `mutex` by the one-thread editor behind a lock. It prints how many transactions committed, how many only read, how many were refused, and how many
-//! ended otherwise; and on the standard error how many microseconds they took, by the clock and of the processors, without reading and opening, and how
-//! many numbers met a conflict.
+//! Each thread takes the next script that nobody has taken, and does its transactions in order, by a session on running words. It
+//! prints how many transactions committed, how many only read, how many were refused, and how many ended otherwise; and on the standard
+//! error how many microseconds they took, by the clock and of the processors, without reading and opening, and how many numbers met a
+//! conflict.
 
-mod desk;
-mod tally;
-mod task;
-mod watch;
-mod work;
+ghost use Rattle.std.specs.Prelude.{All};
+ghost use Rattle.library.specs.Fitting.{CommandFits};
 
-use crate::ending::{Ending, failed, misused};
-use crate::session_work::task::Task;
-use crate::session_work::work::{Measured, measure};
-use crate::texts::read_files;
-use std::alloc::AllocError;
+use crate::ending::Ending;
+use crate::files::{ROOM, SLOTS};
+use crate::times::{Counts, tell, times};
+use library::Script;
+use mmstatement::Database;
 use std::hash::RandomState;
-use std::random::RandomSource;
-use std::rt::{Clock, Files};
+use std::rt::Clock;
 use std::sync::Wait;
 use std::thread::Threads;
 use std::time::CpuClock;
+use transaction::{Library, Outcome, Session, Shape};
+use workers::{Open, run_scripts};
 
-/// Does what these words ask for, and prints how the transactions ended. It may wait.
-///
-/// # Errors
-///
-/// Want of memory, where the files are read.
-pub fn obey(
-    rt: &(impl AllocGlobal
-        + RandomSource
-        + Files
-        + Print
-        + Eprint
-        + Clock
-        + CpuClock
-        + Threads
-        + Wait
-        + Sync),
-    words: &[String],
-) -> Result<Ending, AllocError> {
-    let Some((task, paths)) = Task::of_words(words) else {
-        return Ok(misused(
-            rt,
-            "usage: bench sessions sessions|mutex THREADS DB SCRIPT.., by 1 to 64 threads",
-        ));
-    };
-    let Ok(keys) = RandomState::new(rt) else {
-        return Ok(Ending::Failed);
-    };
-    let Some(texts) = read_files(rt, paths)? else {
-        return Ok(failed(rt, "a file cannot be read"));
-    };
-    let Some(measured) = measure(rt, rt.alloc(), keys, task, texts.as_slice()) else {
-        return Ok(failed(
-            rt,
-            "a text has a fault, or there is no room, no memory, no thread or no clock",
-        ));
-    };
-    let Measured {
-        tally,
-        spent,
-        voids,
-    } = measured;
-    let (run, cpu) = (spent.elapsed.as_micros(), spent.used.as_micros());
-    let _ = eprintln!(rt; "run_us {run} cpu_us {cpu} voids {voids}");
-    match println!(rt; "{tally}") {
-        Ok(()) => Ok(Ending::Done),
-        Err(_) => Ok(Ending::Failed),
+/// How the transactions of scripts ended.
+fn counts_of(scripts: &[Vec<Outcome>]) -> Counts {
+    let (mut committed, mut read, mut refused, mut other) = (0_u64, 0_u64, 0_u64, 0_u64);
+    for outcomes in scripts {
+        for outcome in outcomes {
+            let count = match outcome {
+                Outcome::Committed { .. } => &mut committed,
+                Outcome::Read { .. } => &mut read,
+                Outcome::Refused { .. } => &mut refused,
+                _ => &mut other,
+            };
+            *count = count.saturating_add(1);
+        }
     }
+    [committed, read, refused, other]
+}
+
+/// How many numbers of these sessions met a conflict.
+fn voids_of(sessions: &[Session]) -> u64 {
+    let mut voids = 0_u64;
+    for session in sessions {
+        for record in session.records() {
+            if record.done.is_none() {
+                voids = voids.saturating_add(1);
+            }
+        }
+    }
+    voids
+}
+
+/// Does the scripts by sessions. None where that can't be done. It may wait.
+pub(crate) fn run<R>(
+    rt: &R,
+    keys: RandomState,
+    db: &Database,
+    scripts: &[Script],
+    threads: usize,
+) -> Option<Ending>
+where
+    R: AllocGlobal + Print + Eprint + Clock + CpuClock + Threads + Wait + Sync,
+    requires fit { All (All (All (CommandFits db.now.prelude))) scripts.now }
+{
+    let shape = Shape {
+        slots: SLOTS,
+        room: ROOM,
+        sessions: threads,
+    };
+    let Ok((library, sessions)) = Library::open(rt, rt.alloc(), keys, db, shape) else {
+        return None;
+    };
+    let start = times(rt);
+    let worked = run_scripts(rt, rt.alloc(), &library, sessions, scripts, &Open).ok()?;
+    let end = times(rt);
+    let voids = voids_of(worked.sessions.as_slice());
+    let counts = counts_of(worked.outcomes.as_slice());
+    tell(rt, start, end, voids, counts)
 }

@@ -4,10 +4,8 @@ use cells::Halt;
 use commands::RunError;
 use library::{Reason, Refused};
 use plaincells::{OpenError, PlainStop};
-use samples::wanted;
 use std::alloc::{AllocError, Global};
 use std::fmt::Display;
-use std::test::Fail;
 
 /// What stops a run of commands.
 const STOPPED: RunError<PlainStop> = RunError::Stopped(PlainStop::StoreFull);
@@ -25,8 +23,8 @@ fn is_told(alloc: Global, fault: &impl Display, text: &str) -> Result<bool, Allo
     Ok(format!(in alloc; "{fault}")?.as_str() == text)
 }
 
-/// Whether the faults are told by their texts.
-fn are_told(alloc: Global) -> Result<bool, AllocError> {
+/// The faults are told by their texts.
+pub(crate) fn are_told(alloc: Global) -> Result<bool, AllocError> {
     let full = "the bodies of the assertions have more words than the store";
     Ok(
         is_told(
@@ -37,9 +35,4 @@ fn are_told(alloc: Global) -> Result<bool, AllocError> {
             && is_told(alloc, &HALTED, "the run was stopped: out of memory")?
             && is_told(alloc, &OpenError::StoreFull, full)?,
     )
-}
-
-#[test]
-fn errors_of_libraries_in_cells_are_told(rt: HostRuntime) -> Result<(), Fail> {
-    wanted(are_told(rt.alloc())?, "each fault is told by its text")
 }

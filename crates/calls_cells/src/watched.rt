@@ -1,11 +1,15 @@
-//! Cells that note which of them are read.
-
-ghost use Rattle.std.specs.Prelude.{◌≡◌};
+//! Libraries in plain cells that note which cells are read.
 
 use cells::Cells;
+use plaincells::PlainCells;
+use proofcheck::check_all;
 use ranges::Range;
-use std::alloc::Global;
+use samples::database;
+use std::alloc::AllocGlobal;
 use std::collections::BTreeSet;
+use std::random::RandomSource;
+use std::test::Fail;
+use std::thread::Threads;
 
 /// Cells of which each read is counted and noted, and each word that is loaded is counted.
 #[derive(Drop)]
@@ -17,16 +21,26 @@ pub(crate) struct Watched<C> {
     pub(crate) touched: BTreeSet<usize>,
 }
 
-/// Cells of which none was read so far.
-pub(crate) fn unread<C: Cells>(alloc: Global, inner: C) -> Watched<C>
-    ensures { result.inner ≡ inner }
-{
-    Watched {
-        inner,
+/// The library of a text in so many slots, with a store of so much room. None of its cells was read.
+pub(crate) fn opened(
+    rt: &(impl AllocGlobal + RandomSource + Threads + Sync),
+    text: &[u8],
+    slots: usize,
+    room: usize,
+) -> Result<Watched<PlainCells>, Fail> {
+    if !(1..=4096).contains(&slots) || room > 16_777_216 {
+        return Err(Fail::from("the limits"));
+    }
+    let db = database(rt, text)?;
+    let Ok(()) = check_all(rt, rt.alloc(), &db) else {
+        return Err(Fail::from("the proofs of the database check"));
+    };
+    Ok(Watched {
+        inner: PlainCells::open(rt.alloc(), &db, slots, room)?,
         reads: 0,
         loads: 0,
-        touched: BTreeSet::new(alloc),
-    }
+        touched: BTreeSet::new(rt.alloc()),
+    })
 }
 
 impl<C: Cells> Cells for Watched<C> {

@@ -4,10 +4,10 @@ ghost use Rattle.std.specs.Prelude.{All, IfOk};
 ghost use Rattle.library.specs.Fitting.{CommandFits};
 ghost use Rattle.lawful.specs.Lawful.{setting_of};
 
-use crate::sessions::opened;
+use crate::sessions::{end_of, opened};
 use crossbeam_utils::Backoff;
 use library::Script;
-use samples::{mini, wanted};
+use samples::mini;
 use scripts::read_script;
 use std::alloc::{AllocError, AllocGlobal, Global};
 use std::random::RandomSource;
@@ -22,31 +22,70 @@ use workers::{Gate, Worked, run_scripts};
 /// How often a script that waits looks whether it may go on.
 const TURNS: usize = 10_000_000;
 
-/// Keeps one script waiting until another has its last outcome, for so many turns.
+/// How many calls are written down.
+const CALLS: usize = 16;
+
+/// No script.
+const NONE: usize = usize::MAX;
+
+/// Keeps one script waiting until another has its last outcome, for so many turns, and writes down the first calls, one after another.
 #[derive(Drop)]
-struct Waits {
+struct Watch {
     waiting: usize,
     awaited: usize,
     /// Whether the other one has.
     left: AtomicBool,
     /// Whether all turns went by before.
     gave_up: AtomicBool,
+    count: AtomicUsize,
+    /// Of each call `0` for `enter`, `P` for `pass` or `p` for `leave`, and added to it the number of the script, up to 15.
+    calls: Vec<AtomicU8>,
 }
 
-impl Waits {
-    /// That script waits for the other one.
-    fn new(waiting: usize, awaited: usize) -> Waits {
-        Waits {
+impl Watch {
+    /// That script waits for the other one, and there were no calls so far.
+    fn new(alloc: Global, waiting: usize, awaited: usize) -> Result<Watch, AllocError> {
+        let mut calls = Vec::new(alloc);
+        for _ in 0..CALLS {
+            calls.push(AtomicU8::new(0))?;
+        }
+        Ok(Watch {
             waiting,
             awaited,
             left: AtomicBool::new(false),
             gave_up: AtomicBool::new(false),
+            count: AtomicUsize::new(0),
+            calls,
+        })
+    }
+
+    /// One call more.
+    fn note(&self, letter: u8, script: usize) {
+        let at = self.count.fetch_add(1, SeqCst);
+        if let Some(call) = self.calls.get(at) {
+            call.store(letter | (script & 0xf) as u8, SeqCst);
         }
+    }
+
+    /// Whether these are the calls, in order: all of them, or where the mask is 15, those that speak of the script.
+    fn tells(&self, mask: u8, script: u8, calls: &[u8]) -> bool {
+        let mut at = 0_usize;
+        for call in &self.calls {
+            let call = call.load(SeqCst);
+            if call != 0 && call & mask == script {
+                if calls.get(at) != Some(&call) {
+                    return false;
+                }
+                at = at.saturating_add(1);
+            }
+        }
+        at == calls.len()
     }
 }
 
-impl Gate for Waits {
+impl Gate for Watch {
     fn enter(&self, script: usize) {
+        self.note(b'0', script);
         if script != self.waiting {
             return;
         }
@@ -60,7 +99,12 @@ impl Gate for Waits {
         self.gave_up.store(true, SeqCst);
     }
 
+    fn pass(&self, script: usize) {
+        self.note(b'P', script);
+    }
+
     fn leave(&self, script: usize) {
+        self.note(b'p', script);
         if script == self.awaited {
             self.left.store(true, SeqCst);
         }
@@ -79,169 +123,100 @@ fn scripts_of(alloc: Global, library: &Library, texts: &[&[u8]]) -> Result<Vec<S
     Ok(scripts)
 }
 
-/// The outcomes of the scripts of texts, in a store with so much room, where so many sessions run them and a gate is told of them.
-fn outcomes_of<R: AllocGlobal + RandomSource + Threads + Wait + Sync, G: Gate + Sync>(
+/// The last outcome of each script: it read the library at its opening, is the first entry of the history, was refused at the place 0 or
+/// 1, or is another one, or there is none.
+fn letters(alloc: Global, outcomes: &[Vec<Outcome>]) -> Result<Vec<u8>, AllocError> {
+    let mut letters = Vec::new(alloc);
+    for own in outcomes {
+        letters.push(match own.last() {
+            None => b'-',
+            Some(Outcome::Read { place: 0, .. }) => b'r',
+            Some(Outcome::Committed { number: 1, .. }) => b'c',
+            Some(Outcome::Refused { place: 0, .. }) => b'0',
+            Some(Outcome::Refused { place: 1, .. }) => b'1',
+            Some(_) => b'?',
+        })?;
+    }
+    Ok(letters)
+}
+
+/// The last outcomes of the scripts of texts, where so many sessions run them and a gate is told of them. At its end the library has its
+/// one assertion, and so many entries.
+fn run<R: AllocGlobal + RandomSource + Threads + Wait + Sync>(
     rt: &R,
-    room: usize,
-    workers: usize,
     texts: &[&[u8]],
-    gate: &G,
-) -> Result<Vec<Vec<Outcome>>, Fail> {
+    workers: usize,
+    gate: &Watch,
+    entries: usize,
+) -> Result<Vec<u8>, Fail> {
     let alloc = rt.alloc();
-    let (library, sessions) = opened(rt, mini(), room, workers)?;
+    let (library, sessions) = opened(rt, mini(), 1000, workers)?;
+    let scripts = scripts_of(alloc, &library, texts)?;
     if sessions.is_empty() {
         return Err(Fail::from("there are sessions"));
     }
-    let scripts = scripts_of(alloc, &library, texts)?;
-    match run_scripts(rt, alloc, &library, sessions, scripts.as_slice(), gate) {
-        Ok(Worked { outcomes, .. }) => Ok(outcomes),
-        Err(_) => Err(Fail::from("the scripts are run")),
+    let Worked { outcomes, sessions } = run_scripts(
+        rt,
+        alloc,
+        &library,
+        sessions,
+        scripts.as_slice(),
+        gate,
+    )?;
+    if end_of(alloc, library, sessions) != Ok((entries, 1)) {
+        return Err(Fail::from("an entry for each that commits"));
     }
+    Ok(letters(alloc, outcomes.as_slice())?)
+}
+
+/// Whether as many sessions as scripts run all of them with these outcomes, where one of these waits for another one's end.
+fn wait<R: AllocGlobal + RandomSource + Threads + Wait + Sync>(
+    rt: &R,
+    texts: &[&[u8]],
+    waiting: usize,
+    awaited: usize,
+    entries: usize,
+    wanted: &[u8],
+) -> Result<bool, Fail> {
+    let gate = Watch::new(rt.alloc(), waiting, awaited)?;
+    let outcomes = run(rt, texts, texts.len(), &gate, entries)?;
+    Ok(outcomes.as_slice() == wanted && !gate.gave_up.load(SeqCst))
 }
 
 /// Scripts each of which shows an assertion.
 const SHOWS: [&[u8]; 64] = [b"begin show we commit"; 64];
 
-/// Whether a script's one transaction read the library at its opening.
-fn is_read(outcomes: &[Outcome]) -> bool {
-    matches!(outcomes, [Outcome::Read { place: 0, .. }])
-}
+/// What becomes of them.
+const READ: [u8; 64] = [b'r'; 64];
 
-/// Whether as many scripts were run, each of which read the library.
-fn are_read(outcomes: &[Vec<Outcome>], count: usize) -> bool {
-    for row in outcomes {
-        if !is_read(row.as_slice()) {
-            return false;
-        }
-    }
-    outcomes.len() == count
-}
-
-/// Whether as many sessions as scripts run all scripts, where one of these waits for another one's end.
-fn run_where<R: AllocGlobal + RandomSource + Threads + Wait + Sync>(
-    rt: &R,
+/// So many scripts are run at once, each of which shows an assertion: one of them waits for another one's end.
+pub(crate) fn are_run_at_once(
+    rt: &(impl AllocGlobal + RandomSource + Threads + Wait + Sync),
     count: usize,
-    waiting: usize,
-    awaited: usize,
 ) -> Result<bool, Fail> {
     let texts = SHOWS.get(..count).ok_or("so many scripts")?;
-    let gate = Waits::new(waiting, awaited);
-    let outcomes = outcomes_of(rt, 7, count, texts, &gate)?;
-    Ok(are_read(outcomes.as_slice(), count) && !gate.gave_up.load(SeqCst))
-}
-
-#[test]
-fn two_scripts_are_run_at_once(rt: HostRuntime) -> Result<(), Fail> {
-    let is_so = run_where(&rt, 2, 0, 1)? && run_where(&rt, 2, 1, 0)?;
-    wanted(is_so, "both scripts are run")
-}
-
-#[test]
-fn sixty_four_scripts_are_run_at_once(rt: HostRuntime) -> Result<(), Fail> {
-    let is_so = run_where(&rt, 64, 0, 63)? && run_where(&rt, 64, 63, 0)?;
-    wanted(is_so, "all scripts are run")
+    let last = count.saturating_sub(1);
+    let wanted = READ.get(..count).ok_or("so many outcomes")?;
+    Ok(wait(rt, texts, 0, last, 0, wanted)? && wait(rt, texts, last, 0, 0, wanted)?)
 }
 
 /// Two scripts, each of which gives the same assertion another label.
 const RENAMES: &[&[u8]] = &[b"begin rename we u commit", b"begin rename we v commit"];
 
-/// Whether a script's one transaction is the first entry, and that of the one behind it is refused there.
-fn is_before(first: &[Outcome], behind: &[Outcome]) -> bool {
-    matches!(first, [Outcome::Committed { number: 1, .. }])
-        && matches!(behind, [Outcome::Refused { place: 1, .. }])
-}
-
-/// Whether the awaited one of two scripts does what both ask for, and the waiting one comes behind it.
-fn waits_at_its_begin<R: AllocGlobal + RandomSource + Threads + Wait + Sync>(
-    rt: &R,
-    waiting: usize,
-    awaited: usize,
+/// A script that waits comes behind the awaited one, which does what both ask for.
+pub(crate) fn waits_at_its_begin(
+    rt: &(impl AllocGlobal + RandomSource + Threads + Wait + Sync),
 ) -> Result<bool, Fail> {
-    let gate = Waits::new(waiting, awaited);
-    let outcomes = outcomes_of(rt, 1000, 2, RENAMES, &gate)?;
-    match (outcomes.get(awaited), outcomes.get(waiting)) {
-        (Some(first), Some(behind)) => Ok(
-            is_before(first.as_slice(), behind.as_slice()) && !gate.gave_up.load(SeqCst),
-        ),
-        _ => Ok(false),
-    }
+    Ok(wait(rt, RENAMES, 0, 1, 1, b"1c")? && wait(rt, RENAMES, 1, 0, 1, b"c1")?)
 }
 
-#[test]
-fn a_script_waits_before_its_first_transaction(rt: HostRuntime) -> Result<(), Fail> {
-    let is_so = waits_at_its_begin(&rt, 0, 1)? && waits_at_its_begin(&rt, 1, 0)?;
-    wanted(is_so, "the script that waits comes behind")
-}
-
-/// How many calls a log has room for.
-const CALLS: usize = 16;
-
-/// A call of a gate.
-#[derive(Drop)]
-struct Call {
-    /// `e` for `enter`, `p` for `pass`, `l` for `leave`.
-    letter: AtomicU8,
-    script: AtomicUsize,
-}
-
-/// Writes down the calls of a gate, one after another.
-#[derive(Drop)]
-struct Log {
-    count: AtomicUsize,
-    calls: Vec<Call>,
-}
-
-impl Log {
-    /// No calls so far.
-    fn empty(alloc: Global) -> Result<Log, Fail> {
-        let mut calls = Vec::new(alloc);
-        for _ in 0..CALLS {
-            calls.push(Call {
-                letter: AtomicU8::new(0),
-                script: AtomicUsize::new(0),
-            })?;
-        }
-        Ok(Log {
-            count: AtomicUsize::new(0),
-            calls,
-        })
-    }
-
-    /// One call more.
-    fn note(&self, letter: u8, script: usize) {
-        let at = self.count.fetch_add(1, SeqCst);
-        if let Some(call) = self.calls.get(at) {
-            call.letter.store(letter, SeqCst);
-            call.script.store(script, SeqCst);
-        }
-    }
-
-    /// The calls that speak of this script, or of any where none is named, in order: of each the digit of its script and its letter.
-    fn calls(&self, alloc: Global, only: Option<usize>) -> Result<Vec<u8>, AllocError> {
-        let mut text = Vec::new(alloc);
-        for call in self.calls.as_slice().iter().take(self.count.load(SeqCst)) {
-            let script = call.script.load(SeqCst);
-            if only.unwrap_or(script) == script {
-                text.push(b'0'.wrapping_add((script & 0xff) as u8))?;
-                text.push(call.letter.load(SeqCst))?;
-            }
-        }
-        Ok(text)
-    }
-}
-
-impl Gate for Log {
-    fn enter(&self, script: usize) {
-        self.note(b'e', script);
-    }
-
-    fn pass(&self, script: usize) {
-        self.note(b'p', script);
-    }
-
-    fn leave(&self, script: usize) {
-        self.note(b'l', script);
-    }
+/// Of two renamings on two threads one is done, and the other refused behind it, where none waits.
+pub(crate) fn one_of_two_is_done(
+    rt: &(impl AllocGlobal + RandomSource + Threads + Wait + Sync),
+) -> Result<bool, Fail> {
+    let gate = Watch::new(rt.alloc(), NONE, NONE)?;
+    let outcomes = run(rt, RENAMES, 2, &gate, 1)?;
+    Ok(outcomes.as_slice() == b"c1".as_slice() || outcomes.as_slice() == b"1c".as_slice())
 }
 
 /// Three scripts, with two transactions, with none, and with one, which is refused.
@@ -251,44 +226,19 @@ const UNEVEN: &[&[u8]] = &[
     b"begin show none commit",
 ];
 
-/// What a gate is told where so many workers run the three scripts.
-fn told_by<R: AllocGlobal + RandomSource + Threads + Wait + Sync>(
-    rt: &R,
+/// A gate is told of each script in its order, and where one worker alone runs them, of one script behind another.
+pub(crate) fn is_told(
+    rt: &(impl AllocGlobal + RandomSource + Threads + Wait + Sync),
     workers: usize,
-) -> Result<Log, Fail> {
-    let log = Log::empty(rt.alloc())?;
-    outcomes_of(rt, 7, workers, UNEVEN, &log)?;
-    Ok(log)
-}
-
-#[test]
-fn one_worker_tells_its_gate_of_each_script_in_turn(rt: HostRuntime) -> Result<(), Fail> {
-    let log = told_by(&rt, 1)?;
-    let told = log.calls(rt.alloc(), None)?;
-    let is_so = told.as_slice() == b"0e0p0p0l1e1l2e2p2l".as_slice();
-    wanted(is_so, "each script is told of in turn")
-}
-
-/// Whether the calls of a log that speak of a script are these.
-fn tells(alloc: Global, log: &Log, script: usize, calls: &[u8]) -> Result<bool, AllocError> {
-    Ok(log.calls(alloc, Some(script))?.as_slice() == calls)
-}
-
-/// Whether a log has just the calls of the three scripts, those of each in their order.
-fn tells_of_three(alloc: Global, log: &Log) -> Result<bool, AllocError> {
+) -> Result<bool, Fail> {
+    let gate = Watch::new(rt.alloc(), NONE, NONE)?;
+    let outcomes = run(rt, UNEVEN, workers, &gate, 0)?;
     Ok(
-        log.count.load(SeqCst) == 9
-            && tells(alloc, log, 0, b"0e0p0p0l")?
-            && tells(alloc, log, 1, b"1e1l")?
-            && tells(alloc, log, 2, b"2e2p2l")?,
-    )
-}
-
-#[test]
-fn two_workers_tell_a_gate_of_each_script(rt: HostRuntime) -> Result<(), Fail> {
-    let log = told_by(&rt, 2)?;
-    wanted(
-        tells_of_three(rt.alloc(), &log)?,
-        "each script is told of in its order",
+        outcomes.as_slice() == b"r-0".as_slice()
+            && gate.count.load(SeqCst) == 9
+            && (workers > 1 || gate.tells(0, 0, b"0PPp1q2Rr"))
+            && gate.tells(15, 0, b"0PPp")
+            && gate.tells(15, 1, b"1q")
+            && gate.tells(15, 2, b"2Rr"),
     )
 }

@@ -1,311 +1,292 @@
 //! Want of memory: what calls on a library in running words answer where it is refused, and what they answer after that.
 //!
-//! Each test passes where memory is there, and `tools/refuse-memory` runs it with each allocation refused in turn. Where the call that it
-//! is of answers something else, the test ends with an error that says what was wanted, which costs the check less than an assertion. Where
-//! memory is refused to what goes before that call or comes after it, the test ends with want of memory as its error.
+//! Each call is answered so where memory is there, and `tools/refuse-memory` makes it with each allocation refused in turn. Where the call
+//! that it is of answers something else, the answer isn't the wanted one. Where memory is refused to what goes before that call or comes
+//! after it, want of memory is the error.
 
-ghost use Rattle.std.specs.Prelude.{All, IfOk};
+ghost use Rattle.std.specs.Prelude.{All};
 ghost use Rattle.transaction.specs.Members.{IsOf};
 
-use crate::sessions::{last, opened, opening, tried, with};
+use crate::sessions::{end_of, opened, tried};
 use export::write_library;
-use finishing::{FinishError, finish};
-use samples::{demo, three, wanted};
+use finishing::FinishError;
+use samples::{database, demo};
 use scripts::Reply;
-use std::alloc::{AllocError, AllocGlobal, Global};
+use std::alloc::{AllocGlobal, Global};
+use std::hash::RandomState;
 use std::random::RandomSource;
 use std::test::Fail;
 use std::thread::Threads;
-use transaction::{Library, Look, OpenError, Outcome, Session};
+use transaction::{Library, Look, OpenError, Outcome, Session, Shape};
+
+/// Calls by name. A row of texts and numbers alone costs the check little.
+struct Row {
+    name: &'static str,
+    /// The library's text: `demo`, or `rules`.
+    database: &'static str,
+    /// The one transaction that is tried, or `open`, or `look`.
+    script: &'static str,
+    /// What is counted in the answer: the replies, the rank of what is shown, the lines of a list; behind `end`, the assertions.
+    count: usize,
+}
+
+/// The calls. `tools/refuse-memory` finds their names here.
+const ROWS: [Row; 16] = [
+    Row {
+        name: "an_addition_is_tried_again",
+        database: "demo",
+        script: "begin add 900 th2 $p |- 0 = 0 $= tze th1 $. commit",
+        count: 1,
+    },
+    Row {
+        name: "a_new_proof_is_tried_again",
+        database: "demo",
+        script: "begin reprove th1 $= tt tze tpl tt weq tt tt weq tt a2 tt tze tpl tt weq tt tze tpl tt weq tt tt weq wim
+tt a2 tt tze tpl tt tt a1 mp mp $. commit",
+        count: 1,
+    },
+    Row {
+        name: "a_replacement_is_tried_again",
+        database: "demo",
+        script: "begin replace th1 a2 a2 commit",
+        count: 1,
+    },
+    Row {
+        name: "a_renaming_is_tried_again",
+        database: "demo",
+        script: "begin rename th1 refl commit",
+        count: 1,
+    },
+    Row {
+        name: "a_move_is_tried_again",
+        database: "demo",
+        script: "begin move th1 801 commit",
+        count: 1,
+    },
+    Row {
+        name: "a_deletion_is_tried_again",
+        database: "demo",
+        script: "begin delete th1 commit",
+        count: 1,
+    },
+    Row {
+        name: "what_is_shown_is_tried_again",
+        database: "demo",
+        script: "begin show th1 commit",
+        count: 800,
+    },
+    Row {
+        name: "a_list_is_tried_again",
+        database: "demo",
+        script: "begin list commit",
+        count: 8,
+    },
+    Row {
+        name: "all_commands_are_tried_again",
+        database: "demo",
+        script: "begin add 900 th2 $p |- 0 = 0 $= tze th1 $.
+reprove th2 $= tze tze tpl tze weq tze tze weq tze a2 tze tze tpl tze weq tze tze tpl tze weq tze tze weq wim
+tze a2 tze tze tpl tze tze a1 mp mp $.
+replace th2 a2 a2 rename th2 zero move zero 901 show zero list delete zero commit",
+        count: 8,
+    },
+    Row {
+        name: "all_commands_on_rules_are_tried_again",
+        database: "rules",
+        script: "begin add 500 ${ $d x y $. th3.1 $e |- x y $. th3 $p |- x y x $= wx wy th3.1 th2 $. $}
+reprove th3 $= wx wy th3.1 th $.
+replace th3 th th rename th3 rule move rule 501 show rule list delete rule commit",
+        count: 8,
+    },
+    Row {
+        name: "a_library_is_opened_again",
+        database: "demo",
+        script: "open",
+        count: 2,
+    },
+    Row {
+        name: "a_library_of_rules_is_opened_again",
+        database: "rules",
+        script: "open",
+        count: 2,
+    },
+    Row {
+        name: "a_look_is_tried_again",
+        database: "demo",
+        script: "look",
+        count: 0,
+    },
+    Row {
+        name: "a_look_at_rules_is_tried_again",
+        database: "rules",
+        script: "look",
+        count: 0,
+    },
+    Row {
+        name: "an_end_is_whole_or_lacks_memory",
+        database: "demo",
+        script: "end begin rename th1 refl commit",
+        count: 8,
+    },
+    Row {
+        name: "an_end_of_rules_is_whole_or_lacks_memory",
+        database: "rules",
+        script: "end begin rename th2 rule commit",
+        count: 4,
+    },
+];
 
 /// A database with `$d` and `$e`, whose second theorem cites the first: both are of the same rule.
-fn rules(alloc: Global) -> Result<Vec<u8>, AllocError> {
-    let mut text = Vec::from_slice(alloc, three())?;
-    text.extend_from_slice(
-        b"${
+const RULES: &[u8] = b"$c wff |- $.
+$v x y $.
+wx $f wff x $.
+wy $f wff y $.
+id $a |- x y x $.
+wc $a wff $.
+${
+  $d x y $.
+  th.1 $e |- x y $.
+  th $p |- x y x $= wx wy id $.
+$}
+${
   $d x y $.
   th2.1 $e |- x y $.
   th2 $p |- x y x $= wx wy th2.1 th $.
 $}
-",
-    )?;
-    Ok(text)
+";
+
+/// Makes the calls of this name, and says whether the answers are the wanted ones.
+pub(crate) fn make(
+    rt: &(impl AllocGlobal + RandomSource + Threads + Sync),
+    name: &str,
+) -> Result<bool, Fail> {
+    for row in &ROWS {
+        if row.name != name {
+            continue;
+        }
+        if row.database == "rules" {
+            return is_answered(rt, row, RULES);
+        }
+        return is_answered(rt, row, demo(rt.alloc())?.as_slice());
+    }
+    Err(Fail::from("there are no calls of this name"))
 }
 
-/// What becomes of the one transaction of a script by one try, or where memory was refused to that, by the next.
-fn tried_again(
-    alloc: Global,
-    library: &Library,
-    session: &mut Session,
-    script: &[u8],
-) -> Result<Outcome, Fail>
-    requires { IsOf library.now session.old }
-    ensures { IsOf library.now session.new }
-{
-    match tried(alloc, library, session, script)? {
-        Outcome::NoMemory => tried(alloc, library, session, script),
-        outcome => Ok(outcome),
+/// Whether the call of a row over the library of a text has its answer.
+fn is_answered(
+    rt: &(impl AllocGlobal + RandomSource + Threads + Sync),
+    row: &Row,
+    text: &[u8],
+) -> Result<bool, Fail> {
+    match row.script {
+        "open" => is_opened(rt, text, row.count),
+        "look" => is_seen(rt, text),
+        script => match script.strip_prefix("end ") {
+            Some(script) => is_ended(rt, text, script, row.count),
+            None => is_done(rt, text, script, row.count),
+        },
     }
 }
 
-/// The library of a text, and its one session.
-fn alone(
+/// Whether the library of a text is opened with so many sessions: by one try, or where memory was refused to that, by the next.
+fn is_opened(
     rt: &(impl AllocGlobal + RandomSource + Threads + Sync),
     text: &[u8],
-) -> Result<(Library, Session), Fail>
-    ensures { IfOk result (λ made. IsOf made.0 made.1) }
-{
-    let (library, mut sessions) = opened(rt, text, 1000, 1)?;
-    let session = last(&library, &mut sessions)?;
-    Ok((library, session))
-}
-
-/// The same over a library of its own, that of a text.
-fn tried_on(
-    rt: &(impl AllocGlobal + RandomSource + Threads + Sync),
-    text: &[u8],
-    script: &[u8],
-) -> Result<Outcome, Fail> {
-    let (library, mut session) = alone(rt, text)?;
-    tried_again(rt.alloc(), &library, &mut session, script)
-}
-
-/// The same over the library of `examples/demo.mm`.
-fn tried_on_demo(
-    rt: &(impl AllocGlobal + RandomSource + Threads + Sync),
-    script: &[u8],
-) -> Result<Outcome, Fail> {
-    tried_on(rt, demo(rt.alloc())?.as_slice(), script)
-}
-
-/// Whether an outcome is the first entry of the history, with the reply to one edit.
-fn is_first(outcome: &Outcome) -> bool {
-    match outcome {
-        Outcome::Committed { number: 1, replies } => matches!(replies.as_slice(), [Reply::Done]),
-        _ => false,
-    }
-}
-
-/// The one transaction of a script, which is one edit, is the first entry of the history.
-fn does(
-    rt: &(impl AllocGlobal + RandomSource + Threads + Sync),
-    script: &[u8],
-) -> Result<(), Fail> {
-    let outcome = tried_on_demo(rt, script)?;
-    wanted(is_first(&outcome), "the edit is the first entry")
-}
-
-#[test]
-fn an_addition_is_tried_again(rt: HostRuntime) -> Result<(), Fail> {
-    does(&rt, b"begin add 900 th2 $p |- 0 = 0 $= tze th1 $. commit")
-}
-
-#[test]
-fn a_new_proof_is_tried_again(rt: HostRuntime) -> Result<(), Fail> {
-    let script =
-        b"begin reprove th1 $= tt tze tpl tt weq tt tt weq tt a2 tt tze tpl tt weq tt tze tpl tt weq tt tt weq wim
-tt a2 tt tze tpl tt tt a1 mp mp $. commit";
-    does(&rt, script)
-}
-
-#[test]
-fn a_replacement_is_tried_again(rt: HostRuntime) -> Result<(), Fail> {
-    does(&rt, b"begin replace th1 a2 a2 commit")
-}
-
-#[test]
-fn a_renaming_is_tried_again(rt: HostRuntime) -> Result<(), Fail> {
-    does(&rt, b"begin rename th1 refl commit")
-}
-
-#[test]
-fn a_move_is_tried_again(rt: HostRuntime) -> Result<(), Fail> {
-    does(&rt, b"begin move th1 801 commit")
-}
-
-#[test]
-fn a_deletion_is_tried_again(rt: HostRuntime) -> Result<(), Fail> {
-    does(&rt, b"begin delete th1 commit")
-}
-
-/// Whether an outcome shows `th1` at the opening.
-fn shows_th1(outcome: &Outcome) -> bool {
-    let Outcome::Read { place: 0, replies } = outcome else {
-        return false;
+    count: usize,
+) -> Result<bool, Fail> {
+    let db = database(rt, text)?;
+    let keys = RandomState::new(rt)?;
+    let shape = Shape {
+        slots: 4096,
+        room: 1000,
+        sessions: count,
     };
-    let [Reply::Shown { citers: 0, shown }] = replies.as_slice() else {
-        return false;
-    };
-    shown.rank == 800 && shown.assertion.proof.as_slice().len() == 34
-}
-
-#[test]
-fn what_is_shown_is_tried_again(rt: HostRuntime) -> Result<(), Fail> {
-    let outcome = tried_on_demo(&rt, b"begin show th1 commit")?;
-    wanted(shows_th1(&outcome), "`th1` is shown")
-}
-
-/// Whether an outcome lists eight assertions at the opening.
-fn lists_eight(outcome: &Outcome) -> bool {
-    let Outcome::Read { place: 0, replies } = outcome else {
-        return false;
-    };
-    let [Reply::Listed { lines }] = replies.as_slice() else {
-        return false;
-    };
-    lines.as_slice().len() == 8
-}
-
-#[test]
-fn a_list_is_tried_again(rt: HostRuntime) -> Result<(), Fail> {
-    let outcome = tried_on_demo(&rt, b"begin list commit")?;
-    wanted(lists_eight(&outcome), "eight are listed")
-}
-
-/// Whether an outcome is the first entry of the history, with eight replies.
-fn is_first_of_eight(outcome: &Outcome) -> bool {
-    match outcome {
-        Outcome::Committed { number: 1, replies } => replies.as_slice().len() == 8,
-        _ => false,
-    }
-}
-
-#[test]
-fn all_commands_are_tried_again(rt: HostRuntime) -> Result<(), Fail> {
-    let script = b"begin add 900 th2 $p |- 0 = 0 $= tze th1 $.
-reprove th2 $= tze tze tpl tze weq tze tze weq tze a2 tze tze tpl tze weq tze tze tpl tze weq tze tze weq wim
-tze a2 tze tze tpl tze tze a1 mp mp $.
-replace th2 a2 a2 rename th2 zero move zero 901 show zero list delete zero commit";
-    let outcome = tried_on_demo(&rt, script)?;
-    wanted(
-        is_first_of_eight(&outcome),
-        "eight commands are the first entry",
-    )
-}
-
-#[test]
-fn all_commands_on_rules_are_tried_again(rt: HostRuntime) -> Result<(), Fail> {
-    let script =
-        b"begin add 500 ${ $d x y $. th3.1 $e |- x y $. th3 $p |- x y x $= wx wy th3.1 th2 $. $}
-reprove th3 $= wx wy th3.1 th $.
-replace th3 th th rename th3 rule move rule 501 show rule list delete rule commit";
-    let outcome = tried_on(&rt, rules(rt.alloc())?.as_slice(), script)?;
-    wanted(
-        is_first_of_eight(&outcome),
-        "eight commands are the first entry",
-    )
-}
-
-/// How many sessions the library of a text has, or why it isn't opened: by one try, or where memory was refused to that, by the next.
-fn opened_again(
-    rt: &(impl AllocGlobal + RandomSource + Threads + Sync),
-    text: &[u8],
-) -> Result<Result<usize, OpenError>, Fail> {
-    let made = match opening(rt, text, 4096, 1000, 2)? {
-        Err(OpenError::NoMemory) => opening(rt, text, 4096, 1000, 2)?,
+    let made = match Library::open(rt, rt.alloc(), keys, &db, shape) {
+        Err(OpenError::NoMemory) => Library::open(rt, rt.alloc(), keys, &db, shape),
         made => made,
     };
     match made {
-        Ok((_, sessions)) => Ok(Ok(sessions.len())),
-        Err(error) => Ok(Err(error)),
+        Ok((_library, sessions)) => Ok(sessions.len() == count),
+        Err(_) => Ok(false),
     }
 }
 
-/// The library of a text is opened so, with two sessions.
-fn opens(rt: &(impl AllocGlobal + RandomSource + Threads + Sync), text: &[u8]) -> Result<(), Fail> {
-    let made = opened_again(rt, text)?;
-    wanted(made == Ok(2), "the library is opened")
-}
-
-#[test]
-fn a_library_is_opened_again(rt: HostRuntime) -> Result<(), Fail> {
-    opens(&rt, demo(rt.alloc())?.as_slice())
-}
-
-#[test]
-fn a_library_of_rules_is_opened_again(rt: HostRuntime) -> Result<(), Fail> {
-    opens(&rt, rules(rt.alloc())?.as_slice())
-}
-
-/// What a look at the whole library gives, or where memory was refused to that, the next look.
-fn looked_again(alloc: Global, library: &Library, session: &mut Session) -> Look
-    requires { IsOf library.now session.old }
-    ensures { IsOf library.now session.new }
-{
-    match session.snapshot(alloc, library) {
-        Look::NoMemory => session.snapshot(alloc, library),
-        look => look,
-    }
-}
-
-/// Whether a look at the place 0 sees just this text.
-fn sees(alloc: Global, look: &Look, text: &[u8]) -> Result<bool, AllocError> {
-    match look {
-        Look::Read { place: 0, library } => {
-            Ok(write_library(alloc, library)?.as_slice() == text)
-        }
-        _ => Ok(false),
-    }
-}
-
-/// A look at the library of a text sees just the text.
-fn looks_at(
+/// Whether a look at the whole library of a text sees just the text, or where memory was refused to that, the next look.
+fn is_seen(
     rt: &(impl AllocGlobal + RandomSource + Threads + Sync),
     text: &[u8],
-) -> Result<(), Fail> {
-    let (library, mut session) = alone(rt, text)?;
-    let look = looked_again(rt.alloc(), &library, &mut session);
-    wanted(sees(rt.alloc(), &look, text)?, "the library is seen")
-}
-
-#[test]
-fn a_look_is_tried_again(rt: HostRuntime) -> Result<(), Fail> {
-    looks_at(&rt, demo(rt.alloc())?.as_slice())
-}
-
-#[test]
-fn a_look_at_rules_is_tried_again(rt: HostRuntime) -> Result<(), Fail> {
-    looks_at(&rt, rules(rt.alloc())?.as_slice())
-}
-
-/// How many entries and assertions a library has at its end, or why it has no end.
-fn end_of(
-    alloc: Global,
-    library: Library,
-    sessions: Vec<Session>,
-) -> Result<(usize, usize), FinishError>
-    requires { All (IsOf library) sessions.items }
-{
-    let (history, after) = finish(alloc, library, sessions)?;
-    Ok((history.as_slice().len(), after.entries().len()))
-}
-
-/// The library of a text has one entry and so many assertions at its end, behind the one transaction of a script, or memory was refused to that.
-fn ends_with(
-    rt: &(impl AllocGlobal + RandomSource + Threads + Sync),
-    text: &[u8],
-    script: &[u8],
-    assertions: usize,
-) -> Result<(), Fail> {
-    let alloc = rt.alloc();
-    // The sessions have room for the one that is taken out of them, so it takes no memory to put it back.
+) -> Result<bool, Fail> {
     let (library, mut sessions) = opened(rt, text, 1000, 1)?;
-    let mut session = last(&library, &mut sessions)?;
-    tried_again(alloc, &library, &mut session, script)?;
-    with(&library, &mut sessions, session)?;
+    sees(rt.alloc(), &library, &mut sessions, text)
+}
+
+/// The same of the last session.
+fn sees(
+    alloc: Global,
+    library: &Library,
+    sessions: &mut Vec<Session>,
+    text: &[u8],
+) -> Result<bool, Fail>
+    requires { All (IsOf library.now) sessions.old.items }
+{
+    let Some(mut session) = sessions.pop() else {
+        return Ok(false);
+    };
+    let mut look = session.snapshot(alloc, library);
+    if let Look::NoMemory = look {
+        look = session.snapshot(alloc, library);
+    }
+    let Look::Read { place: 0, library } = look else {
+        return Ok(false);
+    };
+    Ok(write_library(alloc, &library)?.as_slice() == text)
+}
+
+/// Whether the library of a text has one entry and so many assertions at its end, behind one transaction, or memory was refused to that.
+fn is_ended(
+    rt: &(impl AllocGlobal + RandomSource + Threads + Sync),
+    text: &[u8],
+    script: &str,
+    assertions: usize,
+) -> Result<bool, Fail> {
+    let alloc = rt.alloc();
+    let (library, mut sessions) = opened(rt, text, 1000, 1)?;
+    let Some(mut session) = sessions.pop() else {
+        return Ok(false);
+    };
+    tried(alloc, &library, &mut session, script.as_bytes())?;
+    // There is room for the one that was taken out, so it takes no memory to put it back.
+    sessions.push(session)?;
     let end = end_of(alloc, library, sessions);
-    let is_so = end == Ok((1, assertions)) || end == Err(FinishError::NoMemory);
-    wanted(is_so, "the end is whole, or lacks memory")
+    Ok(end == Ok((1, assertions)) || end == Err(FinishError::NoMemory))
 }
 
-#[test]
-fn an_end_is_whole_or_lacks_memory(rt: HostRuntime) -> Result<(), Fail> {
-    let text = demo(rt.alloc())?;
-    ends_with(&rt, text.as_slice(), b"begin rename th1 refl commit", 8)
+/// Whether a transaction has its answer over the library of a text.
+fn is_done(
+    rt: &(impl AllocGlobal + RandomSource + Threads + Sync),
+    text: &[u8],
+    script: &str,
+    count: usize,
+) -> Result<bool, Fail> {
+    let (library, mut sessions) = opened(rt, text, 1000, 1)?;
+    let Some(mut session) = sessions.pop() else {
+        return Ok(false);
+    };
+    let outcome = tried(rt.alloc(), &library, &mut session, script.as_bytes())?;
+    Ok(has_count(&outcome, count))
 }
 
-#[test]
-fn an_end_of_rules_is_whole_or_lacks_memory(rt: HostRuntime) -> Result<(), Fail> {
-    let text = rules(rt.alloc())?;
-    ends_with(&rt, text.as_slice(), b"begin rename th2 rule commit", 4)
+/// Whether an outcome is the first entry with so many replies, or shows `th1` with that rank at the opening, or lists so many there.
+fn has_count(outcome: &Outcome, count: usize) -> bool {
+    match outcome {
+        Outcome::Committed { number: 1, replies } => replies.as_slice().len() == count,
+        Outcome::Read { place: 0, replies } => match replies.as_slice() {
+            [Reply::Shown { citers: 0, shown }] => {
+                shown.rank as usize == count && shown.assertion.proof.as_slice().len() == 34
+            }
+            [Reply::Listed { lines }] => lines.as_slice().len() == count,
+            _ => false,
+        },
+        _ => false,
+    }
 }

@@ -1,13 +1,17 @@
-//! Exports to writers that take few bytes at a call, fail, or take none.
+//! Libraries copied, and exported to writers that take few bytes at a call, fail, or take none.
 
-use crate::editors::library;
-use export::{ExportError, export};
+use export::{ExportError, export, write_library};
+use history::Editor;
 use library::PlainLibrary;
-use samples::{demo, mini, wanted};
-use std::alloc::{AllocError, Global};
+use proofcheck::check_all;
+use samples::{database, demo, mini};
+use std::alloc::{AllocError, AllocGlobal, Global};
+use std::hash::RandomState;
 use std::io;
 use std::io::{ErrorKind, Write};
+use std::random::RandomSource;
 use std::test::Fail;
+use std::thread::Threads;
 
 /// A writer in memory that takes at most so many bytes at a call, and fails at one call.
 #[derive(Drop)]
@@ -18,18 +22,6 @@ struct Slow {
     /// The number of the call that fails, counted from 1. 0: none fails.
     fails_at: usize,
     flushes: usize,
-}
-
-impl Slow {
-    fn new(alloc: Global, most: usize, fails_at: usize) -> Self {
-        Slow {
-            held: Vec::new(alloc),
-            most,
-            calls: 0,
-            fails_at,
-            flushes: 0,
-        }
-    }
 }
 
 impl Write for Slow {
@@ -49,106 +41,80 @@ impl Write for Slow {
     }
 }
 
-/// A writer, and what comes of the export of the library of `mini` to it.
-struct Row {
-    most: usize,
-    fails_at: usize,
-    answer: Result<(), ExportError>,
-    /// How many bytes it holds then, and how often it was called to take some.
-    held: usize,
-    calls: usize,
+/// The opening library of a database whose proofs check, with room for eight assertions.
+fn library(
+    rt: &(impl AllocGlobal + RandomSource + Threads + Sync),
+    text: &[u8],
+) -> Result<PlainLibrary, Fail> {
+    let db = database(rt, text)?;
+    let keys = RandomState::new(rt)?;
+    let Ok(()) = check_all(rt, rt.alloc(), &db) else {
+        return Err(Fail::from("the proofs of the database check"));
+    };
+    Ok(Editor::open(rt.alloc(), keys, &db, 8)?.into_library())
 }
 
-/// One that fails at its third call, one that takes nothing, and one that takes a byte at a call.
-const ROWS: [Row; 3] = [
-    Row {
-        most: 7,
-        fails_at: 3,
-        answer: Err(ExportError::Write { written: 14 }),
-        held: 14,
-        calls: 3,
-    },
-    Row {
-        most: 0,
-        fails_at: 0,
-        answer: Err(ExportError::Write { written: 0 }),
-        held: 0,
-        calls: 1,
-    },
-    Row {
-        most: 1,
-        fails_at: 0,
-        answer: Ok(()),
-        held: 23,
-        calls: 23,
-    },
-];
-
-/// Whether that comes of the export to the writer of a row. Nothing is called behind an error.
-fn is_exported_so(alloc: Global, library: &PlainLibrary, row: &Row) -> bool {
-    let mut writer = Slow::new(alloc, row.most, row.fails_at);
+/// Whether the export of the library of a text, to a writer that takes at most so many bytes at a call and fails at one call, ends behind
+/// so many bytes and calls: with an error, unless these are all. Nothing is called behind an error.
+fn ends_behind(
+    library: (&PlainLibrary, &[u8]),
+    alloc: Global,
+    most: usize,
+    fails_at: usize,
+    written: usize,
+    calls: usize,
+) -> bool {
+    let (library, text) = library;
+    let mut writer = Slow {
+        held: Vec::new(alloc),
+        most,
+        calls: 0,
+        fails_at,
+        flushes: 0,
+    };
     let answer = export(alloc, library, &mut writer);
-    answer == row.answer
-        && Some(writer.held.as_slice()) == mini().get(..row.held)
-        && writer.calls == row.calls
+    let wanted = if written == text.len() {
+        Ok(())
+    } else {
+        Err(ExportError::Write { written })
+    };
+    answer == wanted
+        && Some(writer.held.as_slice()) == text.get(..written)
+        && writer.calls == calls
         && writer.flushes == 0
 }
 
-/// Whether it does at each row.
-fn are_exported_so(alloc: Global, library: &PlainLibrary) -> bool {
-    for row in &ROWS {
-        if !is_exported_so(alloc, library, row) {
-            return false;
-        }
-    }
-    true
-}
-
-#[test]
-fn nothing_is_called_behind_an_error(rt: HostRuntime) -> Result<(), Fail> {
-    let library = library(&rt, mini(), 4)?;
-    wanted(
-        are_exported_so(rt.alloc(), &library),
-        "each row is exported so",
+/// Exports to a writer that fails at its third call, to one that takes nothing, and to one that takes a byte at a call.
+pub(crate) fn calls_nothing_behind(
+    rt: &(impl AllocGlobal + RandomSource + Threads + Sync),
+) -> Result<bool, Fail> {
+    let library = library(rt, mini())?;
+    let library = (&library, mini());
+    Ok(
+        ends_behind(library, rt.alloc(), 7, 3, 14, 3)
+            && ends_behind(library, rt.alloc(), 0, 0, 0, 1)
+            && ends_behind(library, rt.alloc(), 1, 0, 23, 23),
     )
 }
 
-/// What comes of the export to a writer that takes one byte at a call and fails at one call, and how many bytes it holds then.
-fn failing(
-    alloc: Global,
-    library: &PlainLibrary,
-    fails_at: usize,
-) -> (Result<(), ExportError>, usize) {
-    let mut writer = Slow::new(alloc, 1, fails_at);
-    let answer = export(alloc, library, &mut writer);
-    (answer, writer.held.len())
-}
-
-/// How many such writers fail, of which the k-th fails at its call k: each has taken the k - 1 bytes before, and the export says so.
-fn failures(alloc: Global, library: &PlainLibrary) -> Result<usize, Fail> {
-    for written in 0..65_536usize {
-        match failing(alloc, library, written + 1) {
-            (Ok(()), _) => return Ok(written),
-            (Err(ExportError::Write { written: told }), held)
-                if told == written && held == written => {}
-            _ => return Err(Fail::from("the bytes before the failing call are written")),
+/// Exports to writers that take one byte at a call, of which the k-th fails at its call k, and to one that takes all.
+pub(crate) fn each_may_fail(
+    rt: &(impl AllocGlobal + RandomSource + Threads + Sync),
+) -> Result<bool, Fail> {
+    let text = demo(rt.alloc())?;
+    let library = library(rt, text.as_slice())?;
+    let library = (&library, text.as_slice());
+    for written in 0..text.len() {
+        if !ends_behind(library, rt.alloc(), 1, written + 1, written, written + 1) {
+            return Ok(false);
         }
     }
-    Err(Fail::from("some writer takes all"))
-}
-
-#[test]
-fn each_call_may_fail(rt: HostRuntime) -> Result<(), Fail> {
-    let text = demo(rt.alloc())?;
-    let library = library(&rt, text.as_slice(), 8)?;
-    let count = failures(rt.alloc(), &library)?;
-    wanted(count == text.len(), "as many calls fail as there are bytes")
+    Ok(ends_behind(library, rt.alloc(), 1, 0, text.len(), text.len()))
 }
 
 /// A constant of 16 bytes, and an axiom of 65,535 symbols, in the canonical layout: 27 bytes, and 13 beside 65,534 times 17.
 fn long(alloc: Global) -> Result<Vec<u8>, AllocError> {
-    let mut text = Vec::new(alloc);
-    text.extend_from_slice(b"$c wff 0123456789abcdef $.\nax $a wff")?;
+    let mut text = Vec::from_slice(alloc, b"$c wff 0123456789abcdef $.\nax $a wff")?;
     for _ in 0..65_534 {
         text.extend_from_slice(b" 0123456789abcdef")?;
     }
@@ -156,21 +122,20 @@ fn long(alloc: Global) -> Result<Vec<u8>, AllocError> {
     Ok(text)
 }
 
-/// Whether the export of the library of a text of 1,114,118 bytes, by 4,096 at a call, gives the text.
-fn is_taken_whole(alloc: Global, library: &PlainLibrary, text: &[u8]) -> bool {
-    let mut writer = Slow::new(alloc, 4_096, 0);
-    // 272 times 4,096 bytes, and 6.
-    export(alloc, library, &mut writer).is_ok()
-        && text.len() == 1_114_118
-        && writer.held.as_slice() == text
-        && writer.calls == 273
-        && writer.flushes == 0
+/// Exports 1,114,118 bytes to a writer that takes 4,096 at a call: 272 times those, and 6.
+pub(crate) fn is_megabyte_taken(
+    rt: &(impl AllocGlobal + RandomSource + Threads + Sync),
+) -> Result<bool, Fail> {
+    let text = long(rt.alloc())?;
+    let library = library(rt, text.as_slice())?;
+    let library = (&library, text.as_slice());
+    Ok(ends_behind(library, rt.alloc(), 4_096, 0, 1_114_118, 273))
 }
 
-#[test]
-fn a_megabyte_is_taken(rt: HostRuntime) -> Result<(), Fail> {
-    let text = long(rt.alloc())?;
-    let library = library(&rt, text.as_slice(), 4)?;
-    let is_so = is_taken_whole(rt.alloc(), &library, text.as_slice());
-    wanted(is_so, "the writer holds the text")
+/// A copy of a library has its slots and its text.
+pub(crate) fn copy_is_equal(
+    rt: &(impl AllocGlobal + RandomSource + Threads + Sync),
+) -> Result<bool, Fail> {
+    let library = library(rt, mini())?.copy(rt.alloc())?;
+    Ok(library.slots() == 8 && write_library(rt.alloc(), &library)?.as_slice() == mini())
 }

@@ -3,7 +3,6 @@
 ghost use Rattle.std.specs.Prelude.{◌<◌};
 
 use std::alloc::{AllocError, Global};
-use std::test::Fail;
 use tlcore::{Action, World, step};
 
 /// Two transactions on their way: how far each is in its program, and the values that it has loaded.
@@ -19,7 +18,11 @@ const EVENTS: usize = 12;
 
 /// An event of a seat's transaction, from 0: it reads both cells, and writes its own one by what it has loaded of the other.
 fn program(seat: usize, loaded: [u64; 2], index: usize) -> Action {
-    let (own, other) = if seat == 0 { (0, 1) } else { (1, 0) };
+    let (own, other, value) = if seat == 0 {
+        (0, 1, loaded[1].wrapping_add(1))
+    } else {
+        (1, 0, loaded[0].wrapping_mul(2))
+    };
     match index {
         0 => Action::Begin,
         1 => Action::Look(own),
@@ -28,20 +31,11 @@ fn program(seat: usize, loaded: [u64; 2], index: usize) -> Action {
         4 => Action::Look(other),
         5 => Action::Load(other),
         6 => Action::Relook(other),
-        7 => Action::Take(own, written(seat, loaded)),
+        7 => Action::Take(own, value),
         8 => Action::Draw,
         9 => Action::Check(other),
         10 => Action::Store(own),
         _ => Action::Release(own),
-    }
-}
-
-/// What a seat writes.
-fn written(seat: usize, loaded: [u64; 2]) -> u64 {
-    if seat == 0 {
-        loaded[1].wrapping_add(1)
-    } else {
-        loaded[0].wrapping_mul(2)
     }
 }
 
@@ -71,38 +65,18 @@ fn turn(alloc: Global, walk: &Walk, seat: usize) -> Result<Option<Walk>, AllocEr
     Ok(None)
 }
 
-/// Whether each of the two commits, and the values of the cells then.
-type End = (bool, bool, u64, u64);
-
-/// The ends that are the values of one order of those that commit.
-const ENDS: [End; 4] = [
-    (true, true, 11, 22),
-    (true, true, 3, 2),
-    (true, false, 11, 10),
-    (false, true, 1, 2),
-];
-
-/// The end of a walk whose transactions have ended.
-fn end_of(world: &World) -> End {
-    (
-        !world.conflicted(0),
-        !world.conflicted(1),
-        world.value(0).unwrap_or(0),
-        world.value(1).unwrap_or(0),
-    )
-}
-
-/// Counts an end where it is that of an order. False: it is none.
-fn count(counts: &mut [u32; 4], end: End) -> bool {
-    for (index, order) in ENDS.iter().enumerate() {
-        if *order == end {
-            if let Some(found) = counts.get_mut(index) {
-                *found = found.saturating_add(1);
-            }
-            return true;
-        }
-    }
-    false
+/// Counts the end of a walk whose transactions have ended, where it is that of an order of those that commit. False: it is none.
+fn count(counts: &mut [u32; 4], world: &World) -> bool {
+    let (one, other) = (world.value(0), world.value(1));
+    let index = match (world.conflicted(0), world.conflicted(1)) {
+        (false, false) if one == Some(11) && other == Some(22) => 0,
+        (false, false) if one == Some(3) && other == Some(2) => 1,
+        (false, true) if one == Some(11) && other == Some(10) => 2,
+        (true, false) if one == Some(1) && other == Some(2) => 3,
+        _ => return false,
+    };
+    counts[index] = counts[index].saturating_add(1);
+    true
 }
 
 /// Puts the walks behind the next event of each transaction to the others. False: both have ended.
@@ -117,36 +91,25 @@ fn go_on(alloc: Global, walks: &mut Vec<Walk>, walk: &Walk) -> Result<bool, Allo
     Ok(goes)
 }
 
-/// The walk on which nothing was done: cells of the values 1 and 10.
-fn opening(alloc: Global) -> Result<Walk, AllocError> {
-    Ok(Walk {
+/// Each interleaving of the two transactions gives the values of one order of those that commit. An order of both gives 11 and
+/// 22, or 3 and 2; each that read the other's cell before it was written gives 11 and 2, which no order does. How many
+/// interleavings end in which way was counted by a program of its own.
+pub(crate) fn every_interleaving_is_an_order(alloc: Global) -> Result<bool, AllocError> {
+    let mut counts = [0; 4];
+    let mut walks = Vec::new(alloc);
+    // Cells of the values 1 and 10, of which nothing was done.
+    walks.push(Walk {
         world: World::open(alloc, &[1, 10], 2)?,
         at: [0, 0],
         loaded: [[0, 0], [0, 0]],
-    })
-}
-
-/// Whether so many interleavings end in each of the ways of orders, and none in another.
-fn are_so_many(alloc: Global, wanted: [u32; 4]) -> Result<bool, AllocError> {
-    let mut counts = [0; 4];
-    let mut walks = Vec::new(alloc);
-    walks.push(opening(alloc)?)?;
+    })?;
     for _ in 0..u32::MAX {
         let Some(walk) = walks.pop() else {
-            return Ok(counts == wanted);
+            return Ok(counts == [15, 15, 138_465, 138_465]);
         };
-        if !go_on(alloc, &mut walks, &walk)? && !count(&mut counts, end_of(&walk.world)) {
+        if !go_on(alloc, &mut walks, &walk)? && !count(&mut counts, &walk.world) {
             return Ok(false);
         }
     }
     Ok(false)
-}
-
-/// Each interleaving of the two transactions gives the values of one order of those that commit. An order of both gives 11 and
-/// 22, or 3 and 2; each that read the other's cell before it was written gives 11 and 2, which no order does. How many
-/// interleavings end in which way was counted by a program of its own.
-#[test]
-fn every_interleaving_is_an_order(rt: HostRuntime) -> Result<(), Fail> {
-    assert!(rt; are_so_many(rt.alloc(), [15, 15, 138_465, 138_465])?);
-    Ok(())
 }

@@ -3,7 +3,7 @@
 ghost use Rattle.std.specs.Prelude.{false, ◌≡◌, ◌<◌, IfSome};
 ghost use Rattle.tlwords.specs.Callers.{AreOfOneOpening};
 
-use std::alloc::{AllocError, Global};
+use std::alloc::{AllocGlobal, Global};
 use std::test::Fail;
 use std::thread;
 use std::thread::{Threads, join};
@@ -94,19 +94,13 @@ fn opened(alloc: Global) -> Option<(Words<Anything>, Pass<Anything>, Pass<Anythi
     Some((words, x, y))
 }
 
-// Whether so often was added to cell 0, and each time the clock went on.
-fn ends_with(alloc: Global, words: Words<Anything>, added: u64) -> Result<bool, AllocError> {
-    let closed = close(alloc, words, Vec::new(alloc))?;
-    let is_value = matches!(closed.cells.first(), Some(cell) if cell.value == added);
-    Ok(closed.clock >= added && is_value)
-}
-
-#[test]
-fn no_increment_is_lost(rt: HostRuntime) -> Result<(), Fail> {
+/// Two threads add one to a cell so often, and lose none of it: that is its value then, and each time the clock went on.
+pub(crate) fn no_increment_is_lost(rt: &(impl AllocGlobal + Threads + Sync)) -> Result<bool, Fail> {
     let Some((words, x, y)) = opened(rt.alloc()) else {
         return Err(Fail::from("the words open"));
     };
-    let added = add_together(&rt, &words, x, y, 10_000);
-    assert!(rt; added == (10_000, 10_000) && ends_with(rt.alloc(), words, 20_000)?);
-    Ok(())
+    let added = add_together(rt, &words, x, y, 10_000);
+    let closed = close(rt.alloc(), words, Vec::new(rt.alloc()))?;
+    let is_value = matches!(closed.cells.first(), Some(cell) if cell.value == 20_000);
+    Ok(added == (10_000, 10_000) && closed.clock >= 20_000 && is_value)
 }

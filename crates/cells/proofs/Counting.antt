@@ -19,10 +19,6 @@ use Rattle.cells.proofs.Values.{value_there, value_elsewhere}
 
 -- ---- cells that are no range cells
 
-pub citers_plain : (slots i : ℕ) → is_ranged slots (citers_cell i) ≡ false
-citers_plain slots i = and_right (nat_lt (citers_cell i) (5 * slots)) (nat_lt (citers_cell i % 5) 3)
-    (le-ltb (citers_cell i % 5) 3 (omega arith))
-
 pub rank_plain : (slots i : ℕ) → is_ranged slots (rank_cell i) ≡ false
 rank_plain slots i = and_right (nat_lt (rank_cell i) (5 * slots)) (nat_lt (rank_cell i % 5) 3) (le-ltb (rank_cell i % 5) 3 (omega arith))
 
@@ -38,9 +34,6 @@ one_less n = n - 1
 pub record Changes (f : ℕ → ℕ) (listed : List ℕ) (st next : State) : Type 0 where
   pub counted : (i : ℕ) → Has i listed → next.value (citers_cell i) ≡ f (st.value (citers_cell i))
   pub others : (c : ℕ) → ((i : ℕ) → Has i listed → c ≢ citers_cell i) → next.value c ≡ st.value c
-
-pub changes_none : (f : ℕ → ℕ) (st : State) → Changes f [] st st
-changes_none f st = record { counted = λ i has. absurd has; others = λ c out. refl }
 
 pub changes_push : (f : ℕ → ℕ) (listed : List ℕ) (x : ℕ) (st mid : State) → Changes f listed st mid → (Has x listed → ⊥)
     → Changes f (listed ++ x ∷ []) st (with_value (citers_cell x) (f (mid.value (citers_cell x))) mid)

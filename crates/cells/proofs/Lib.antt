@@ -25,9 +25,7 @@ pub mod Storing
 pub mod Found
 pub mod Showing
 pub mod Counted
-pub mod Moving
 pub mod Reproving
-pub mod Deleting
 pub mod Renaming
 pub mod Small
 pub mod ReadBack

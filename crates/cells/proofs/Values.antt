@@ -10,7 +10,3 @@ value_there cell v st = cond-true (cell == cell) v (st.value cell) (eq-eqb cell 
 
 pub value_elsewhere : (cell v : ℕ) (st : State) (c : ℕ) → c ≢ cell → (with_value cell v st).value c ≡ st.value c
 value_elsewhere cell v st c ne = cond-false (c == cell) v (st.value c) (ne_eqb c cell ne)
-
--- no cell of a bucket or of a chain is a range cell
-pub not_ranged : (slots c : ℕ) → 5 * slots ≤ c → is_ranged slots c ≡ false
-not_ranged slots c high = and_left (nat_lt c (5 * slots)) (nat_lt (c % 5) 3) (le-ltb c (5 * slots) high)

@@ -32,9 +32,6 @@ set_cases (z ∷ xs) (suc k) x (suc i) y at = ⊎_elim (λ p. inl (ap suc p.0, p
 
 -- ---- records, one after another
 
-pub none_put : (old : List (Option Entry)) → ArePut [] old old
-none_put old = record { long = refl; put = λ i e at. inr at; none = λ i at. (at, λ r has is. absurd has) }
-
 module _ (front : List Record) (r : Record) (first old : List (Option Entry)) (p : ArePut front first old) where
   earlier : (i : ℕ) (e : Entry) → ((q : Record) × Has q front × Tells q i e) ⊎ (slice_get first i ≡ Some (Some e))
       → ((q : Record) × Has q (front ++ r ∷ []) × Tells q i e) ⊎ (slice_get first i ≡ Some (Some e))
@@ -117,19 +114,6 @@ amid_next all left rest count less r first old new a next one p =
     }
 
 -- ---- lists of records, one after another
-
-pub none_ordered : (clock : ℕ) → AreOrdered clock [] (replicate clock None)
-none_ordered clock =
-    record {
-      long = length-replicate clock None;
-      told_by = λ i e at. absurd (only_none clock i e at);
-      none = λ i at told. absurd told.2;
-    }
-  where
-    only_none : (n i : ℕ) (e : Entry) → slice_get (replicate n None) i ≡ Some (Some e) → ⊥
-    only_none zero i e at = cc
-    only_none (suc n) zero e at = cc
-    only_none (suc n) (suc i) e at = only_none n i e at
 
 -- a record of one of the lists tells the entry
 abbrev ToldBy : List (List Record) → ℕ → Entry → Type 0

@@ -8,10 +8,10 @@ ghost use Rattle.finishing.specs.Shown.{ShowsAtEnd, IsShownBy};
 
 use crate::error::FinishError;
 use crate::ordering::{first_held, first_missing, in_order, whole};
-use commands::entries;
 use library::{History, PlainLibrary};
 use mmsyntax::Prelude;
 use plaincells::PlainCells;
+use shows::entries;
 use std::alloc::{AllocError, Global};
 use tlwords::{ClosedCell, ClosedWords};
 use transaction::{ClosedLibrary, Library, Session};

@@ -11,10 +11,19 @@ use std::hash::RandomState;
 use std::marker::Model;
 
 /// Labels of assertions with their new ones. A clause sees these pairs: the map is for look-ups alone.
-#[derive(Drop)]
 pub struct Changes<'a> {
     pairs: Vec<(&'a [u8], &'a [u8])>,
     labels: HashMap<&'a [u8], &'a [u8], RandomState>,
+}
+
+// Proved here once: a derived drop is proved again in each crate that drops such a value.
+impl<'a> Drop for Changes<'a> {
+    fn drop(self) {
+        let Changes {
+            pairs: _,
+            labels: _,
+        } = self;
+    }
 }
 
 impl<'a> Model for Changes<'a> {

@@ -21,10 +21,6 @@ abbrev pub with_replies : List Reply → Result Applied Refused → Result Appli
 with_replies replies (Ok a) = Ok (record { library = a.library; replies = replies ++ a.replies })
 with_replies replies (Err r) = Err r
 
-pub with_replies-none : (r : Result Applied Refused) → r ≡ with_replies [] r
-with_replies-none (Ok a) = refl
-with_replies-none (Err r) = refl
-
 with_replies-more : (replies : List Reply) (reply : Reply) (r : Result Applied Refused)
     → with_replies replies (with_reply reply r) ≡ with_replies (replies ++ reply ∷ []) r
 with_replies-more replies reply (Ok a) =

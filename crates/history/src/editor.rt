@@ -105,9 +105,15 @@ impl From<AllocError> for ApplyError {
 /// A library that verifies, and the transactions on it, one after another on one thread.
 ///
 /// A clause sees the setting and the library: a list in whatever order, of which `into_library` shows the export order.
-#[derive(Drop)]
 pub struct Editor {
     draft: Draft,
+}
+
+// Proved here once: a derived drop is proved again in each crate that drops such a value.
+impl Drop for Editor {
+    fn drop(self) {
+        let Editor { draft: _ } = self;
+    }
 }
 
 impl Model for Editor {
@@ -207,6 +213,7 @@ impl Editor {
         ensures setting { result.setting ≡ self.setting }
         ensures shown { ShowsInOrder self.library result.entries }
     {
-        self.draft.into_library()
+        let Editor { draft } = self;
+        draft.into_library()
     }
 }

@@ -33,9 +33,6 @@ pub is_refused : (s : Scope) (w : Wish) (why : Refusal) → ((text : List ℕ) �
     → IsRefusedOf s w why
 is_refused s w why f = record { refused = λ ne. f }
 
-pub for_memory : (s : Scope) (w : Wish) → IsRefusedOf s w refusal.NoMemory
-for_memory s w = is_refused s w refusal.NoMemory (λ text d. tt)
-
 pub too_wide : (s : Scope) (w : Wish) (flags : List Bool) → IsChoiceByFlags s w flags → IsWide s (kept flags s.assertions)
     → IsRefusedOf s w refusal.TooWide
 too_wide s w flags c wide =

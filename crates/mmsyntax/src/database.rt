@@ -12,7 +12,6 @@ use std::marker::Model;
 /// A prelude, and the assertions in the order of the text.
 ///
 /// A database always has a spelling: it is what some text declares.
-#[derive(Drop)]
 pub struct Database {
     prelude: Prelude,
     assertions: Sequence<Assertion>,
@@ -27,6 +26,15 @@ impl Model for Database {
     ghost view = { λ d. record { prelude = d.prelude; assertions = d.assertions } };
 
     ghost invariant = { λ d. HasSpelling (record { prelude = d.prelude; assertions = d.assertions }) };
+}
+
+impl Drop for Database {
+    fn drop(self) {
+        let Database {
+            prelude: _,
+            assertions: _,
+        } = self;
+    }
 }
 
 impl Database {

@@ -14,7 +14,6 @@ use std::marker::Model;
 /// The constants, the variables and the `$f` of a database, in order of declaration.
 ///
 /// A prelude always has a spelling: some text declares just this much. Contracts see the three lists.
-#[derive(Drop)]
 pub struct Prelude {
     symbols: SymbolTable,
 }
@@ -28,6 +27,12 @@ impl Model for Prelude {
     ghost view = { λ p. p.symbols };
 
     ghost invariant = { λ p. IsSoundPrelude p.symbols };
+}
+
+impl Drop for Prelude {
+    fn drop(self) {
+        let Prelude { symbols: _ } = self;
+    }
 }
 
 impl Prelude {

@@ -26,7 +26,6 @@ pub enum Name {
 }
 
 /// A clause sees the three tables. The map is for look-ups alone.
-#[derive(Drop)]
 pub struct SymbolTable {
     constants: Vec<Label>,
     variables: Vec<Label>,
@@ -44,6 +43,17 @@ impl Model for SymbolTable {
 
     ghost invariant = { λ p. IsSymbolTable p.names
         (record { constants = p.constants.items; variables = p.variables.items; floats = p.floats.items }) };
+}
+
+impl Drop for SymbolTable {
+    fn drop(self) {
+        let SymbolTable {
+            constants: _,
+            variables: _,
+            floats: _,
+            names: _,
+        } = self;
+    }
 }
 
 impl SymbolTable {

@@ -118,9 +118,15 @@ impl<'a> Content<'a> {
 }
 
 /// The restricted pairs and the hypotheses, on the heap: a place in the grammar holds a block, and moves with each token.
-#[derive(Drop)]
 pub struct Block<'a> {
     content: Box<Content<'a>, Global>,
+}
+
+// Proved here once: a derived drop is proved again in each crate that drops such a value.
+impl<'a> Drop for Block<'a> {
+    fn drop(self) {
+        let Block { content: _ } = self;
+    }
 }
 
 impl<'a> Model for Block<'a> {
@@ -185,7 +191,8 @@ impl<'a> Block<'a> {
     pub fn into_parts(self, alloc: Global) -> Result<(Vec<(u32, u32)>, Vec<Expr>), AllocError>
         ensures { IfOk result (λ r. (r.0.items ≡ self.entry.pairs) × (r.1.items ≡ map (λ h. h.expression) self.entry.hyps)) }
     {
-        Box::into_inner(self.content).into_parts(alloc)
+        let Block { content } = self;
+        Box::into_inner(content).into_parts(alloc)
     }
 }
 

@@ -1,3 +1,4 @@
+pub mod AnotherRank
 pub mod Citers
 pub mod Ranking
 pub mod MoveReads

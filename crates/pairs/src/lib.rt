@@ -1,8 +1,7 @@
-//! The one-thread editor and a library in plain cells, side by side: for tests that the two answer the same, and for measuring them.
+//! A library in plain cells, with transactions on it one after another: for tests that it answers as the one-thread editor does, and for measuring it.
 #![tactic(auto)]
 
 mod in_cells;
-mod pair;
 
-pub use in_cells::InCells;
-pub use pair::{Outcome, Pair, all_fit};
+pub use commands::RunError;
+pub use in_cells::{InCells, all_fit};

@@ -49,7 +49,6 @@ impl PlainStop {
 /// A library in cells, and the store of its bodies, on plain vectors.
 ///
 /// What a run writes stands in the cells at once; `undo` gives back what they held when the run began, and `keep` begins another.
-#[derive(Drop)]
 pub struct PlainCells {
     prelude: Prelude,
     slots: usize,
@@ -71,6 +70,21 @@ pub struct PlainCells {
     ghost began: { ∥ BeganWithSome (record { prelude = prelude; slots = slots }) room values.items log.items store.items ranges.items ∥₁ },
 }
 
+// Proved here once: a derived drop is proved again in each crate that drops such a value.
+impl Drop for PlainCells {
+    fn drop(self) {
+        let PlainCells {
+            prelude: _,
+            slots: _,
+            room: _,
+            values: _,
+            log: _,
+            store: _,
+            ranges: _,
+        } = self;
+    }
+}
+
 impl PlainCells {
     ghost use Rattle.plaincells.specs.PlainViews.{setting_of, AreBlank, AreOfWords, ShowNamed, AreSameButLog, AreSameButValues};
 
@@ -90,6 +104,8 @@ impl PlainCells {
         requires roomy { room ≤ 16777216 }
         ensures { IfOk result (λ made. AreBlank prelude slots room made) }
     {
+        // For the proof: a prelude is sound.
+        let _sound = prelude.floats();
         Ok(PlainCells {
             prelude,
             slots,

@@ -12,10 +12,6 @@ pub record FoundAt {A : Type 0} (test : A → Bool) (xs : List A) (n k : ℕ) : 
   pub item_is : find test (take n xs) ≡ slice_get xs k
   pub within : k < length xs
 
-none_found : {A : Type 0} (o : Option A) → o ≡ None → is_some o ≡ true → ⊥
-none_found None e h = cc
-none_found (Some x) e h = cc
-
 pub found_in_front : {A : Type 0} (test : A → Bool) (xs : List A) (n : ℕ) → is_some (find test (take n xs)) ≡ true
     → (k : ℕ) × FoundAt test xs n k
 found_in_front test xs zero h = absurd cc

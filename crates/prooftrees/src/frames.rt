@@ -12,9 +12,15 @@ use source::{Declared, HypothesisWords};
 use std::alloc::{AllocError, Global};
 
 /// For assertions by their places: whether each of their mandatory hypotheses is a `$f`, in order of appearance, once it was asked for.
-#[derive(Drop)]
 pub struct Frames {
     pub(crate) floats: Vec<Option<Sequence<bool>>>,
+}
+
+// Proved here once: a derived drop is proved again in each crate that drops such a value.
+impl Drop for Frames {
+    fn drop(self) {
+        let Frames { floats: _ } = self;
+    }
 }
 
 /// Whether a hypothesis is a `$f`.

@@ -1,3 +1,4 @@
+pub mod WithoutSlot
 pub mod Removing
 pub mod Touching
 pub mod DeleteReads

@@ -19,7 +19,7 @@ use Rattle.cells.specs.Filling.{AreCitedSlots, Empties}
 use Rattle.cells.specs.Answers.{WritesSome, Does}
 use Rattle.cells.proofs.Sights.{matches_back, views_back}
 use Rattle.cells.proofs.Counted.{listed_within}
-use Rattle.cells.proofs.Deleting.{still_chained, deleted_shows}
+use Rattle.removals.proofs.WithoutSlot.{still_chained, deleted_shows}
 use Rattle.groundwork.proofs.Chaining.{TakesOut, taken_out}
 use Rattle.groundwork.proofs.Seeing.{views_later, found_later}
 use Rattle.groundwork.proofs.Refusing.{first_refuses, first_passes, of_some}

@@ -22,11 +22,6 @@ use Rattle.cells.proofs.Found.{slot_or_label}
 use Rattle.cells.proofs.Holding.{named_held}
 use Rattle.replacements.specs.Replacing.{recited_step}
 
--- there are as many
-pub recited_some : (slots old new : ℕ) (kept : List StoredStep) → kept ≢ [] → map (recited_step slots old new) kept ≢ []
-recited_some slots old new [] some e = some e
-recited_some slots old new (x ∷ kept) some e = absurd cc
-
 -- all that they cite is a slot
 pub recited_within : (slots old new : ℕ) (kept : List StoredStep) → new < slots → AreWithin slots (map (recited_step slots old new) kept)
 recited_within slots old new kept within i has =

@@ -19,9 +19,15 @@ use std::mem;
 /// Each look-up is that of one word in a map. What is kept is linear in the text: the active hypotheses of an assertion are found from its
 /// last one. Where an assertion begins the words of the active `$e` are looked up once, and then each of its own, while it is read: its
 /// mandatory hypotheses are those marked at its end. Those that are asked for later cost the active hypotheses and the same words.
-#[derive(Drop)]
 pub struct Scopes<'a> {
     tables: Tables<'a>,
+}
+
+// Proved here once: a derived drop is proved again in each crate that drops such a value.
+impl<'a> Drop for Scopes<'a> {
+    fn drop(self) {
+        let Scopes { tables: _ } = self;
+    }
 }
 
 impl<'a> Model for Scopes<'a> {

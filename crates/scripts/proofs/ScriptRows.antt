@@ -182,13 +182,6 @@ step_plain t label (s ∷ front) u = refl
 
 -- ---- what the code gives, against the rows
 
-pub label_given : (u : Token) (label : Word) (behind : Word → Led) → label_at u ≡ Ok label → label_row u behind ≡ behind label
-label_given u label behind h = go (has_dollar u.text) h
-  where
-    go : (b : Bool) → cond b (fault u BadToken) (Ok u.text) ≡ Ok label → cond b (bad BadToken) (behind u.text) ≡ behind label
-    go true e = absurd cc
-    go false e = ap behind (let x : u.text ≡ label = cc in x)
-
 pub rank_fails : (u : Token) (behind : ℕ → Led) (e : Stop) → Fails e (rank_at u) → Fails e (decided u (rank_row u behind))
 rank_fails u behind stop.Memory h = tt
 rank_fails u behind (stop.Fault f) h = go (is_numeral u.text) (ltb highest_rank (digits_value 10 u.text)) h

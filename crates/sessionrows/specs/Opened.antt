@@ -2,7 +2,7 @@
 use Rattle.std.specs.Prelude.{◌≡◌, ◌≤◌, All}
 use Rattle.derivation.specs.Databases.{AllCheck}
 use Rattle.transaction.specs.Members.{IsOf}
-use Rattle.sessionrows.specs.declared.opened.Opened.{Opened}
+use Rattle.sessionrows.specs.declared.opening.Opened.{Opened}
 
 -- the library is of the database, each of whose proofs checks, with 1 to 4,096 slots; and each session is one of the library
 pub record IsOpen (o : Opened) : Type 0 where

@@ -13,103 +13,136 @@
 //! | `random COUNT SEED` | how so many random transactions end, in the one-thread editor and over plain cells; or `the two differ` |
 //! | any other | `cannot read this line` |
 //!
-//! The sessions of a library are called `A` to `Z`, or `1` to `64`. Where memory runs out, `no memory` is answered.
+//! The sessions of a library are called `A` to `Z`, or `1` to `64`. A line that can't be read changes nothing.
 
+ghost use Rattle.std.specs.Prelude.{IfSome};
 ghost use Rattle.transaction.specs.Members.{IsOf};
 ghost use Rattle.sessionrows.specs.Opened.{IsOpen};
-ghost use Rattle.sessionrows.specs.Tables.{Stands};
 
-use crate::looking::look;
-use crate::names::place_of;
-use crate::opened::Opened;
-use crate::printing::write_outcome;
+use crate::ending::end;
+use crate::opening::{Opened, open, unread};
+use crate::printing::{put_count, put_outcome};
 use crate::random::compare;
-use crate::seats::learn;
-use crate::table::Table;
-use crate::trying::attempt;
-use crate::undone::Undone;
-use crate::words::first_word;
+use crate::seats::{learn, place_of};
+use export::put_library;
+use scripts::read_script;
 use std::alloc::{AllocError, Global};
 use std::hash::RandomState;
 use std::thread::Threads;
-use transaction::{Library, Session};
+use transaction::{Library, Look, Session};
 
-/// What a line is answered.
+/// Puts what a line is answered behind `out`; false where it can't be read. Before it stand the lines `before`; none where none of them begins
+/// a database.
 ///
 /// # Errors
 ///
-/// `Unreadable`; want of memory.
+/// Want of memory.
 pub fn answer_line(
     rt: &(impl Threads + Sync),
     alloc: Global,
     keys: RandomState,
-    table: &mut Table,
-    line: &[u8],
-) -> Result<Vec<u8>, Undone>
-    requires { Stands table.old }
-    ensures { Stands table.new }
+    out: &mut Vec<u8>,
+    opened: &mut Option<Opened>,
+    before: &[Vec<u8>],
+    line: &str,
+) -> Result<bool, AllocError>
+    requires { IfSome opened.old IsOpen }
+    ensures { IfSome opened.new IsOpen }
 {
-    let (word, behind) = first_word(line);
+    let (word, behind) = line.split_once(' ').unwrap_or((line, ""));
     match word {
-        b"" | b"#" => Ok(write_line(alloc, line)?),
-        b"database" => table.begin_database(alloc, behind),
-        b"|" => table.put_line(alloc, behind),
-        b"open" => table.open(rt, alloc, keys, behind),
-        b"finish" => table.finish(alloc, keys, behind),
-        b"locks" => table.finish_moved(alloc, behind),
-        b"random" => compare(rt, alloc, keys, behind),
-        _ => {
-            let Some(opened) = &mut table.opened else {
-                return Err(Undone::Unreadable);
-            };
-            answer_session(alloc, opened, word, behind)
+        "" | "#" => {
+            out.extend_from_slice(line.as_bytes())?;
+            out.extend_from_slice(b"\n")?;
+            Ok(true)
         }
+        "database" => Ok(true),
+        "|" => Ok(!before.is_empty()),
+        "open" => open(rt, alloc, keys, out, opened, before, behind),
+        "finish" => end(alloc, keys, out, opened, behind, false),
+        "locks" => end(alloc, keys, out, opened, behind, true),
+        "random" => compare(rt, alloc, keys, out, behind),
+        name => match opened {
+            Some(opened) => answer_session(alloc, out, opened, name, behind),
+            None => Ok(false),
+        },
     }
 }
 
-/// A line itself.
-fn write_line(alloc: Global, line: &[u8]) -> Result<Vec<u8>, AllocError> {
-    let mut text = Vec::from_slice(alloc, line)?;
-    text.push(b'\n')?;
-    Ok(text)
-}
-
-/// What a line of a session is answered, by its name and the words behind that.
+/// Puts what the session of this name answers to words behind `out`; false where they can't be read.
 fn answer_session(
     alloc: Global,
+    out: &mut Vec<u8>,
     opened: &mut Opened,
-    name: &[u8],
-    words: &[u8],
-) -> Result<Vec<u8>, Undone>
+    name: &str,
+    words: &str,
+) -> Result<bool, AllocError>
     requires { IsOpen opened.old }
     ensures { IsOpen opened.new }
 {
-    let place = place_of(name)?;
-    let (word, behind) = first_word(words);
-    if word == b"learn".as_slice() {
-        let other = place_of(behind)?;
-        learn(&opened.library, &mut opened.sessions, place, other)?;
-        return Ok(Vec::from_slice(alloc, b"learnt\n")?);
+    let Some(place) = place_of(name) else {
+        return Ok(false);
+    };
+    if let Some(other) = words.strip_prefix("learn ")
+        && let Some(other) = place_of(other)
+    {
+        let is_told = learn(&opened.library, &mut opened.sessions, place, other)?;
+        if is_told {
+            out.extend_from_slice(b"learnt\n")?;
+        }
+        return Ok(is_told);
     }
     match opened.sessions.get_mut(place) {
-        Some(session) => answer_by(alloc, &opened.library, session, words),
-        None => Err(Undone::Unreadable),
+        Some(session) => attempt(alloc, out, &opened.library, session, words),
+        None => Ok(false),
     }
 }
 
-/// What a session answers to words.
-fn answer_by(
+/// Puts the lines of a look at the whole library behind `out`: its place, and the exported text.
+fn look(
     alloc: Global,
+    out: &mut Vec<u8>,
     library: &Library,
     session: &mut Session,
-    words: &[u8],
-) -> Result<Vec<u8>, Undone>
+) -> Result<bool, AllocError>
     requires { IsOf library.now session.old }
     ensures { IsOf library.now session.new }
 {
-    if words == b"snapshot".as_slice() {
-        return look(alloc, library, session);
+    match session.snapshot(alloc, library) {
+        Look::Read { place, library } => {
+            put_count(alloc, out, "seen", place)?;
+            put_library(out, &library)?;
+        }
+        Look::Conflict(_) => out.extend_from_slice(b"conflict\n")?,
+        Look::NoMemory => return Err(AllocError),
     }
-    let outcome = attempt(alloc, library, session, words)?;
-    write_outcome(alloc, library.prelude(), &outcome)
+    Ok(true)
+}
+
+/// Puts what becomes of the transaction of a session that has these words, by one try, behind `out`, or what it sees; false where they are no commands
+/// of one transaction.
+fn attempt(
+    alloc: Global,
+    out: &mut Vec<u8>,
+    library: &Library,
+    session: &mut Session,
+    words: &str,
+) -> Result<bool, AllocError>
+    requires { IsOf library.now session.old }
+    ensures { IsOf library.now session.new }
+{
+    if words == "snapshot" {
+        return look(alloc, out, library, session);
+    }
+    let text = format!(in alloc; "begin {words} commit")?;
+    let script = match read_script(alloc, library.prelude(), text.as_bytes()) {
+        Ok(script) => script,
+        Err(fault) => return unread(fault),
+    };
+    let [transaction] = script.as_slice() else {
+        return Ok(false);
+    };
+    let outcome = session.attempt(alloc, library, transaction);
+    put_outcome(alloc, out, library.prelude(), &outcome)?;
+    Ok(true)
 }

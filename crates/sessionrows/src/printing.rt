@@ -1,89 +1,102 @@
-//! The lines of outcomes.
+//! The lines of counts, outcomes and openings.
 
-use crate::undone::Undone;
 use historytext::put_reply;
 use library::{Refused, Reply};
 use mmsyntax::{Prelude, fits};
-use std::alloc::Global;
+use std::alloc::{AllocError, Global};
 use transaction::{OpenError, Outcome};
 
-/// The lines of an outcome.
+/// Puts a line of a word and a number behind `out`.
+///
+/// # Errors
+///
+/// Want of memory.
+pub fn put_count(
+    alloc: Global,
+    out: &mut Vec<u8>,
+    word: &str,
+    count: u64,
+) -> Result<(), AllocError> {
+    let line = format!(in alloc; "{word} {count}\n")?;
+    out.extend_from_slice(line.as_bytes())
+}
+
+/// Puts the line of a transaction that is refused at a place behind `out`.
+///
+/// # Errors
+///
+/// Want of memory.
+pub fn put_refusal(
+    alloc: Global,
+    out: &mut Vec<u8>,
+    place: u64,
+    refused: Refused,
+) -> Result<(), AllocError> {
+    let Refused { index, reason } = refused;
+    let line = format!(in alloc; "refused {place} at {index}: {reason}\n")?;
+    out.extend_from_slice(line.as_bytes())
+}
+
+/// Puts the lines of replies behind `out`, and `  unfit` for one whose assertion isn't one over the prelude.
+///
+/// # Errors
+///
+/// Want of memory.
+pub fn put_replies(
+    alloc: Global,
+    out: &mut Vec<u8>,
+    prelude: &Prelude,
+    replies: &[Reply],
+) -> Result<(), AllocError> {
+    for reply in replies {
+        match reply {
+            Reply::Shown { shown, .. } if !fits(prelude, &shown.assertion) => {
+                out.extend_from_slice(b"  unfit\n")?;
+            }
+            _ => put_reply(alloc, out, prelude, reply)?,
+        }
+    }
+    Ok(())
+}
+
+/// Puts the lines of an outcome behind `out`.
 ///
 /// # Errors
 ///
 /// Want of memory, the outcome's own too.
-pub fn write_outcome(
-    alloc: Global,
-    prelude: &Prelude,
-    outcome: &Outcome,
-) -> Result<Vec<u8>, Undone> {
-    match outcome {
-        Outcome::Committed { number, replies } => {
-            let line = format!(in alloc; "committed {number}\n")?;
-            write_replies(alloc, prelude, line.as_bytes(), replies.as_slice())
-        }
-        Outcome::Read { place, replies } => {
-            let line = format!(in alloc; "read {place}\n")?;
-            write_replies(alloc, prelude, line.as_bytes(), replies.as_slice())
-        }
-        Outcome::Refused { place, refused } => write_refusal(alloc, *place, *refused),
-        Outcome::Conflict(_) => Ok(Vec::from_slice(alloc, b"conflict\n")?),
-        Outcome::StoreFull => Ok(Vec::from_slice(alloc, b"store full\n")?),
-        Outcome::NumbersUsed => Ok(Vec::from_slice(alloc, b"numbers used\n")?),
-        Outcome::TooManyCommands => Ok(Vec::from_slice(alloc, b"too many commands\n")?),
-        Outcome::NoMemory => Err(Undone::NoMemory),
-    }
-}
-
-/// A line, and those of replies behind it.
-fn write_replies(
-    alloc: Global,
-    prelude: &Prelude,
-    line: &[u8],
-    replies: &[Reply],
-) -> Result<Vec<u8>, Undone> {
-    let mut out = Vec::from_slice(alloc, line)?;
-    for reply in replies {
-        put_fitting(alloc, &mut out, prelude, reply)?;
-    }
-    Ok(out)
-}
-
-/// Puts the lines of a reply behind `out`, or `  unfit` where its assertion isn't one over the prelude.
-fn put_fitting(
+pub fn put_outcome(
     alloc: Global,
     out: &mut Vec<u8>,
     prelude: &Prelude,
-    reply: &Reply,
-) -> Result<(), Undone> {
-    if let Reply::Shown { citers: _, shown } = reply
-        && !fits(prelude, &shown.assertion)
-    {
-        return Ok(out.extend_from_slice(b"  unfit\n")?);
-    }
-    Ok(put_reply(alloc, out, prelude, reply)?)
+    outcome: &Outcome,
+) -> Result<(), AllocError> {
+    let (word, number, replies) = match outcome {
+        Outcome::Committed { number, replies } => ("committed", *number, replies.as_slice()),
+        Outcome::Read { place, replies } => ("read", *place, replies.as_slice()),
+        Outcome::Refused { place, refused } => return put_refusal(alloc, out, *place, *refused),
+        Outcome::Conflict(_) => return out.extend_from_slice(b"conflict\n"),
+        Outcome::StoreFull => return out.extend_from_slice(b"store full\n"),
+        Outcome::NumbersUsed => return out.extend_from_slice(b"numbers used\n"),
+        Outcome::TooManyCommands => return out.extend_from_slice(b"too many commands\n"),
+        Outcome::NoMemory => return Err(AllocError),
+    };
+    put_count(alloc, out, word, number)?;
+    put_replies(alloc, out, prelude, replies)
 }
 
-/// The line of a refusal.
-fn write_refusal(alloc: Global, place: u64, refused: Refused) -> Result<Vec<u8>, Undone> {
-    let Refused { index, reason } = refused;
-    let line = format!(in alloc; "refused {place} at {index}: {reason}\n")?;
-    Ok(Vec::from_slice(alloc, line.as_bytes())?)
-}
-
-/// The line of a library that isn't opened.
+/// Puts the line of a library that isn't opened behind `out`.
 ///
 /// # Errors
 ///
 /// Want of memory, the opening's own too.
-pub fn write_unopened(alloc: Global, error: OpenError) -> Result<Vec<u8>, Undone> {
+pub fn put_unopened(alloc: Global, out: &mut Vec<u8>, error: OpenError) -> Result<(), AllocError> {
     let (number, name) = (error.number(), error.name());
     let line = match error {
-        OpenError::NoMemory => return Err(Undone::NoMemory),
+        OpenError::NoMemory => return Err(AllocError),
         OpenError::ProofFails(index, fault) => {
             format!(in alloc; "not opened: {number} {name} {index} {fault}\n")?
         }
         _ => format!(in alloc; "not opened: {number} {name}\n")?,
     };
-    Ok(Vec::from_slice(alloc, line.as_bytes())?)
+    out.extend_from_slice(line.as_bytes())
 }

@@ -1,21 +1,26 @@
 //! Random transactions: so many of random commands, each done by the one-thread editor and, as reads and writes of slots, over a library in plain cells.
 //!
-//! After each transaction the outcomes are compared, and what the two list; after some also what they show of each label.
+//! After each transaction the outcomes are compared, and what the two list; after some also what they show of each label. All eight commands
+//! are drawn, over few labels, ranks and steps, so that each test of each command passes often and fails often.
 
-mod making;
-mod tally;
-
-use crate::random::making::{Maker, text};
-use crate::random::tally::Tally;
-use crate::undone::Undone;
-use crate::words::{first_word, number_of};
+use crate::opening::unread;
+use crate::printing::{put_refusal, put_replies};
+use history::{ApplyError, Editor};
+use library::Command;
 use mmreader::read_database;
-use pairs::Pair;
+use mmsyntax::Database;
+use pairs::{InCells, RunError, all_fit};
 use proofcheck::check_all;
+use rand_core::Rng;
 use rand_pcg::Pcg32;
+use scripts::read_script;
 use std::alloc::{AllocError, Global};
 use std::hash::RandomState;
 use std::thread::Threads;
+
+/// The database that all begins with: an axiom without hypotheses, one with one, one with two, and one with a variable.
+const DATABASE: &[u8] = b"$c wff $. $v x $. wx $f wff x $. we $a wff $.
+${ wi.1 $e wff $. wi $a wff $. $} ${ wk.1 $e wff $. wk.2 $e wff $. wk $a wff $. $} ${ wn.1 $e wff x $. wn $a wff $. $}";
 
 /// How many slots the library has: few, so that it is often full.
 const SLOTS: usize = 9;
@@ -23,81 +28,208 @@ const SLOTS: usize = 9;
 /// How many words of bodies there is room for.
 const ROOM: usize = 1_000_000;
 
-/// The editor and the cells of the opening library, if it opens.
-fn open(rt: &(impl Threads + Sync), alloc: Global, keys: RandomState) -> Option<Pair> {
-    let db = read_database(alloc, keys, text()).ok()?;
-    let Ok(()) = check_all(rt, alloc, &db) else {
-        return None;
-    };
-    Pair::open(alloc, keys, &db, SLOTS, ROOM)
+/// The most pieces that a script is drawn of.
+const MOST_PIECES: usize = 10_000;
+
+/// What a capital letter of a script stands for: one of these, drawn at random.
+///
+/// - S is a script of a transaction and a look at what is listed then, and A looks at what is shown of each label too.
+/// - T is one to three commands, mostly one, and C is a command.
+/// - K is a label of theorems that come and go, some of which clash. L may also be that of an axiom, or one that no assertion may have.
+/// - R is a rank from 0 to 1,299. P is the steps of a proof, of which some are unknown, or not below, or too many. N is the label of an
+///   assertion without hypotheses, if it has one, and M that of any.
+fn pieces_of(letter: u8) -> &'static str {
+    match letter {
+        b'S' => "begin T commit begin list commit",
+        b'A' => {
+            "begin T commit begin list commit begin show a commit begin show b commit begin show c commit begin show d commit \
+             begin show e commit begin show a.1 commit begin show a.2 commit begin show b.1 commit begin show a.1.1 commit \
+             begin show c.1001 commit begin show we commit begin show wi commit begin show wk commit begin show wn commit"
+        }
+        b'T' => "C|C|C|C|C C|C C C",
+        b'C' => {
+            "list|show L|delete K|move L R|move K R|rename K L|rename K K|reprove K $= P $.|reprove L $= P $.|replace K M M|replace K N N|\
+             add R K $p wff $= P $.|add R K $p wff $= P $.|add R K $p wff $= N $.|add R L $p wff $= P $.|add R K $a wff $."
+        }
+        b'K' => "a|b|c|d|e|a.1|a.2|b.1|a.1.1|c.1001",
+        b'L' => "K|K|K|we|wi|wk|wn|wx|a+b",
+        b'R' => "0|DE|DEE|DEE|DEE|DEE|1DEE|12EE",
+        b'D' => "1|2|3|4|5|6|7|8|9",
+        b'E' => "0|1|2|3|4|5|6|7|8|9",
+        b'P' => "N|N|N wi|N N wk|N wi wi|N wi N wk|N N wk wi|N N|N wx",
+        b'N' => "we|we|K",
+        b'M' => "N|N|wi|wk|wn",
+        _ => "",
+    }
 }
 
-/// Does a random transaction in both; false where the two differ. One that isn't within the limits, as it cites `L.k` in a proof of L, is left out.
+/// Puts a script that is drawn from a letter behind `script`.
+fn draw(
+    alloc: Global,
+    generator: &mut Pcg32,
+    letter: u8,
+    script: &mut Vec<u8>,
+) -> Result<(), AllocError> {
+    let mut left = Vec::new(alloc);
+    left.push(letter)?;
+    for _ in 0..MOST_PIECES {
+        let Some(piece) = left.pop() else {
+            break;
+        };
+        let pieces = pieces_of(piece);
+        if pieces.is_empty() {
+            script.push(piece)?;
+            continue;
+        }
+        let count = pieces.split('|').count().max(1);
+        let drawn = generator.next_u32() as usize % count;
+        for byte in pieces.split('|').nth(drawn).unwrap_or("").bytes().rev() {
+            left.push(byte)?;
+        }
+    }
+    Ok(())
+}
+
+/// Does a transaction in both, and puts what each answers behind `edited` and `written`. 0 where it was done, and the number of the reason where
+/// the editor refused it; none where the cells stopped.
+fn do_in_both(
+    alloc: Global,
+    editor: &mut Editor,
+    cells: &mut InCells,
+    commands: &[Command],
+    edited: &mut Vec<u8>,
+    written: &mut Vec<u8>,
+) -> Result<Option<usize>, AllocError> {
+    if !all_fit(editor.prelude(), commands) || !all_fit(cells.prelude(), commands) {
+        return Ok(None);
+    }
+    let mut number = 0;
+    match editor.apply(alloc, commands) {
+        Ok(replies) => put_replies(alloc, edited, editor.prelude(), replies.as_slice())?,
+        Err(ApplyError::Refused(refused)) => {
+            number = refused.reason.number() as usize;
+            put_refusal(alloc, edited, 0, refused)?;
+        }
+        Err(ApplyError::NoMemory) => return Err(AllocError),
+    }
+    match cells.apply(alloc, commands) {
+        Ok(replies) => put_replies(alloc, written, cells.prelude(), replies.as_slice())?,
+        Err(RunError::Refused(refused)) => put_refusal(alloc, written, 0, refused)?,
+        Err(RunError::Stopped(_)) => return Ok(None),
+        Err(RunError::NoMemory) => return Err(AllocError),
+    }
+    Ok(Some(number))
+}
+
+/// Does a transaction in both: 0 where it was done, and the number of the reason where it was refused. None where the two differ.
+fn both(
+    alloc: Global,
+    editor: &mut Editor,
+    cells: &mut InCells,
+    commands: &[Command],
+) -> Result<Option<usize>, AllocError> {
+    let mut edited = Vec::new(alloc);
+    let mut written = Vec::new(alloc);
+    let number = do_in_both(alloc, editor, cells, commands, &mut edited, &mut written)?;
+    Ok(if edited.as_slice() == written.as_slice() {
+        number
+    } else {
+        None
+    })
+}
+
+/// Does the transactions of a script that is drawn from a letter in both, and counts how the first ended; false where the two differ. A script that
+/// can't be read, as it adds a proof of L that cites `L.k`, is left out.
 fn is_alike(
     alloc: Global,
-    pair: &mut Pair,
-    maker: &mut Maker,
-    tally: &mut Tally,
+    editor: &mut Editor,
+    cells: &mut InCells,
+    generator: &mut Pcg32,
+    letter: u8,
+    ends: &mut [u32],
 ) -> Result<bool, AllocError> {
-    let commands = maker.transaction(alloc)?;
-    if !pair.takes(commands.as_slice()) {
+    let mut text = Vec::new(alloc);
+    draw(alloc, generator, letter, &mut text)?;
+    let Ok(script) = read_script(alloc, editor.prelude(), text.as_slice()) else {
         return Ok(true);
-    }
-    match pair.run(alloc, commands.as_slice())? {
-        Some(outcome) => {
-            tally.note(&outcome);
-            Ok(true)
-        }
-        None => Ok(false),
-    }
-}
-
-/// Does random transactions in both: how they ended, or none where the two differ.
-fn tally_of(
-    alloc: Global,
-    pair: &mut Pair,
-    maker: &mut Maker,
-    transactions: usize,
-) -> Result<Option<Tally>, AllocError> {
-    let mut tally = Tally::default();
-    for number in 0..transactions {
-        let alike = is_alike(alloc, pair, maker, &mut tally)?;
-        if !alike || number % 16 == 0 && !pair.shows_alike(alloc)? {
-            return Ok(None);
+    };
+    for (place, transaction) in script.as_slice().iter().enumerate() {
+        let Some(number) = both(alloc, editor, cells, transaction.as_slice())? else {
+            return Ok(false);
+        };
+        if place == 0
+            && let Some(count) = ends.get_mut(number)
+        {
+            *count = count.saturating_add(1);
         }
     }
-    Ok(Some(tally))
+    Ok(true)
 }
 
-/// The line of so many random transactions in both, drawn from a seed.
-fn write_tally(
+/// Does so many random transactions in both, drawn from a seed, and puts how they ended behind `out`: how many were done, and refused for each reason.
+fn put_ends(
     alloc: Global,
-    pair: &mut Pair,
+    out: &mut Vec<u8>,
+    editor: &mut Editor,
+    cells: &mut InCells,
     transactions: usize,
     seed: usize,
-) -> Result<Vec<u8>, Undone> {
-    let mut maker = Maker::new(Pcg32::new(seed as u64, 54));
-    match tally_of(alloc, pair, &mut maker, transactions)? {
-        Some(tally) => Ok(format!(in alloc; "{tally}\n")?.into_bytes()),
-        None => Ok(Vec::from_slice(alloc, b"the two differ\n")?),
+) -> Result<bool, AllocError> {
+    let mut generator = Pcg32::new(seed as u64, 54);
+    let mut ends = [0_u32; 15];
+    for number in 0..transactions {
+        let letter = if number % 16 == 0 { b'A' } else { b'S' };
+        if !is_alike(alloc, editor, cells, &mut generator, letter, &mut ends)? {
+            out.extend_from_slice(b"the two differ\n")?;
+            return Ok(true);
+        }
     }
+    let line = format!(in alloc; "done, and refused by reason: {ends:?}\n")?;
+    out.extend_from_slice(line.as_bytes())?;
+    Ok(true)
 }
 
-/// How so many random transactions end, drawn from a seed: words that say their number and the seed. One line.
+/// Opens both with a database, and does so many random transactions in them; false where they can't be opened.
+fn compare_over(
+    rt: &(impl Threads + Sync),
+    alloc: Global,
+    keys: RandomState,
+    out: &mut Vec<u8>,
+    db: &Database,
+    transactions: usize,
+    seed: usize,
+) -> Result<bool, AllocError> {
+    let Ok(()) = check_all(rt, alloc, db) else {
+        return Ok(false);
+    };
+    let Ok(mut editor) = Editor::open(alloc, keys, db, SLOTS) else {
+        return Ok(false);
+    };
+    let Ok(mut cells) = InCells::open(alloc, db, SLOTS, ROOM) else {
+        return Ok(false);
+    };
+    put_ends(alloc, out, &mut editor, &mut cells, transactions, seed)
+}
+
+/// Does random transactions, by words that say their number and the seed, and puts the line of how they ended behind `out`; false where the
+/// words are no two numbers.
 ///
 /// # Errors
 ///
-/// `Unreadable` where the words are no two numbers; want of memory.
+/// Want of memory.
 pub fn compare(
     rt: &(impl Threads + Sync),
     alloc: Global,
     keys: RandomState,
-    words: &[u8],
-) -> Result<Vec<u8>, Undone> {
-    let (transactions, seed) = first_word(words);
-    let (transactions, seed) = (number_of(transactions)?, number_of(seed)?);
-    match open(rt, alloc, keys) {
-        Some(mut pair) => write_tally(alloc, &mut pair, transactions, seed),
-        None => Err(Undone::Unreadable),
+    out: &mut Vec<u8>,
+    words: &str,
+) -> Result<bool, AllocError> {
+    let (transactions, seed) = words.split_once(' ').unwrap_or((words, ""));
+    let (Ok(transactions), Ok(seed)) = (transactions.parse::<usize>(), seed.parse::<usize>()) else {
+        return Ok(false);
+    };
+    match read_database(alloc, keys, DATABASE) {
+        Ok(db) => compare_over(rt, alloc, keys, out, &db, transactions, seed),
+        Err(fault) => unread(fault),
     }
 }

@@ -3,9 +3,32 @@
 ghost use Rattle.std.specs.Prelude.{◌≡◌, ◌+◌, ◌<◌, ◌≤◌, length, All};
 ghost use Rattle.transaction.specs.Members.{IsOf};
 
-use crate::undone::Undone;
 use std::alloc::AllocError;
 use transaction::{Library, Session};
+
+/// The most sessions that a library has.
+const MOST_SESSIONS: usize = 64;
+
+/// The place of a session, from 0, by its name: `A` to `Z` are the first 26, and `1` to `64` are all.
+pub fn place_of(name: &str) -> Option<usize> {
+    match name.as_bytes() {
+        [letter @ b'A'..=b'Z'] => Some((*letter - b'A') as usize),
+        _ => name.parse::<usize>().ok()?.checked_sub(1),
+    }
+}
+
+/// Which of so many sessions are named. None where a name is that of no session.
+pub fn named(names: &str, count: usize) -> Option<[bool; MOST_SESSIONS]> {
+    let mut is_named = [false; MOST_SESSIONS];
+    for name in names.split_terminator(' ') {
+        let place = place_of(name)?;
+        if place >= count {
+            return None;
+        }
+        *is_named.get_mut(place)? = true;
+    }
+    Some(is_named)
+}
 
 /// Takes the session at a place out; those behind it move up.
 fn take(library: &Library, sessions: &mut Vec<Session>, place: usize) -> Session
@@ -20,10 +43,6 @@ fn take(library: &Library, sessions: &mut Vec<Session>, place: usize) -> Session
 }
 
 /// Puts a session in at a place; those from there on move back.
-///
-/// # Errors
-///
-/// Want of memory; the session is gone then.
 fn put_back(
     library: &Library,
     sessions: &mut Vec<Session>,
@@ -40,36 +59,37 @@ fn put_back(
     Ok(())
 }
 
-/// Tells the session at one place what the one at another has seen.
+/// Tells the session at one place what the one at another has seen; false where there are no two such sessions.
 ///
 /// # Errors
 ///
-/// `Unreadable` where there are no two such sessions; want of memory.
+/// Want of memory.
 pub fn learn(
     library: &Library,
     sessions: &mut Vec<Session>,
     place: usize,
     other: usize,
-) -> Result<(), Undone>
+) -> Result<bool, AllocError>
     requires { All (IsOf library.now) sessions.old.items }
     ensures { All (IsOf library.now) sessions.new.items }
 {
     if place == other || place >= sessions.len() || other >= sessions.len() {
-        return Err(Undone::Unreadable);
+        return Ok(false);
     }
     let mut told = take(library, sessions, other);
     let place = if other < place { place - 1 } else { place };
     sessions[place].learn(library, &mut told);
-    Ok(put_back(library, sessions, other, told)?)
+    put_back(library, sessions, other, told)?;
+    Ok(true)
 }
 
-/// Leaves out the sessions at all other places than these.
-pub fn leave_others(library: &Library, sessions: &mut Vec<Session>, places: &[usize])
+/// Leaves out the sessions that aren't named.
+pub fn leave_others(library: &Library, sessions: &mut Vec<Session>, is_named: &[bool])
     requires { All (IsOf library.now) sessions.old.items }
     ensures { All (IsOf library.now) sessions.new.items }
 {
     for place in (0..sessions.len()).rev() {
-        if !places.contains(&place) {
+        if is_named.get(place) != Some(&true) {
             let _ = take(library, sessions, place);
         }
     }

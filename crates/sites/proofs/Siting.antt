@@ -36,10 +36,6 @@ or_head : (a b : Bool) → a ≡ true → (a || b) ≡ true
 or_head true b h = refl
 or_head false b h = absurd cc
 
--- a word that passes stays in a filtered list
-filter_cons : {A : Type 0} (test : A → Bool) (x : A) (xs : List A) → filter test (x ∷ xs) ≡ cond (test x) (x ∷ filter test xs) (filter test xs)
-filter_cons test x xs = refl
-
 in_kept : (test : Word → Bool) (w : Word) → test w ≡ true → (ws : List Word) → is_in ws w ≡ true → is_in (filter test ws) w ≡ true
 in_kept test w passes [] h = absurd cc
 in_kept test w passes (x ∷ ws) h =

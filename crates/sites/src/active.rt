@@ -19,11 +19,21 @@ use std::marker::Model;
 use taking::SymbolPlaces;
 
 /// Which symbols of a library words have where some hypotheses are active: constants, and the variables of the active `$f`.
-#[derive(Drop)]
 pub struct Active<'s, 'a> {
     sites: &'s Sites<'a>,
     hypotheses: &'s [HypothesisWords<'a>],
     floats: HashMap<&'a [u8], Option<u32>, RandomState>,
+}
+
+// Proved here once: a derived drop is proved again in each crate that drops such a value.
+impl<'s, 'a> Drop for Active<'s, 'a> {
+    fn drop(self) {
+        let Active {
+            sites: _,
+            hypotheses: _,
+            floats: _,
+        } = self;
+    }
 }
 
 impl<'s, 'a> Model for Active<'s, 'a> {

@@ -11,13 +11,25 @@ use std::marker::Model;
 
 /// What has the places 0, 1, .. of a library: constants, `$f` and assertions, by their names in the source. There are at most 65,535
 /// constants, and as many `$f`.
-#[derive(Drop)]
 pub struct Sites<'a> {
     constants: Indexed<'a>,
     floats: Indexed<'a>,
     types: Vec<u32>,
     variables: Vec<&'a [u8]>,
     labels: Indexed<'a>,
+}
+
+// Proved here once: a derived drop is proved again in each crate that drops such a value.
+impl<'a> Drop for Sites<'a> {
+    fn drop(self) {
+        let Sites {
+            constants: _,
+            floats: _,
+            types: _,
+            variables: _,
+            labels: _,
+        } = self;
+    }
 }
 
 impl<'a> Model for Sites<'a> {

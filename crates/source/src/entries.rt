@@ -19,7 +19,7 @@ use std::alloc::AllocError;
 ///
 /// Where a call says `false`, the proof is faulty there, and nothing is said of what is counted from then on. A call fails where a count
 /// would not fit a `usize`: no text is as long.
-#[derive(Debug, Drop)]
+#[derive(Debug)]
 pub struct Entries {
     /// On the stack.
     entries: usize,
@@ -29,6 +29,18 @@ pub struct Entries {
     front: u32,
     /// Whether no `?` was read.
     is_known: bool,
+}
+
+// Proved here once: a derived drop is proved again in each crate that drops such a value.
+impl Drop for Entries {
+    fn drop(self) {
+        let Entries {
+            entries: _,
+            marked: _,
+            front: _,
+            is_known: _,
+        } = self;
+    }
 }
 
 impl Entries {

@@ -1,131 +1,61 @@
 //! Sources of real size, from a word and a number.
 
+use crate::cut;
 use std::alloc::{AllocError, Global};
 
-/// So many texts behind one another, each a number from a first one on between a front and a back.
-fn put_each(
-    alloc: Global,
-    out: &mut Vec<u8>,
-    numbers: (usize, usize),
-    front: &str,
-    back: &str,
-) -> Result<(), AllocError> {
-    for number in numbers.0..numbers.1 {
-        let one = format!(in alloc; "{front}{number}{back}")?;
-        out.extend_from_slice(one.as_bytes())?;
-    }
-    Ok(())
-}
+/// For each word the source that it stands for, in a line. Between two bars stands what is there for each number from 1 up to the one
+/// that is wanted, which is not reached, with the number in place of `#`: so with what stands in front there are so many `assertions`,
+/// `hypotheses` of one assertion, `distinct` variables, `constants`, `symbols` of a statement or `steps` of a proof, or so many bytes
+/// of the name of a `constant`, a `variable`, a `float` or an assertion.
+const RECIPES: &str = "assertions:$c T $. a0 $a T $.| a# $a T $.|
+hypotheses:$c T $. ${ h0 $e T $.| h# $e T $.| a $a T $. $}
+distinct:$c T $. $v v0| v#| $. f0 $f T v0 $.| f# $f T v# $.| $d v0| v#| $. a $a T $.
+constants:$c c0| c#| $. a $a c0| c#| $. b $a c0 $.
+symbols:$c T $. a $a T| T| $.
+steps:$c T $. ax $a T $. ${ h $e T $. s $a T $. $} th $p T $= ax| s| $.
+constant:$c x|x| $. a $a x|x| $.
+variable:$c T $. $v x|x| $. f $f T x|x| $. a $a T x|x| $.
+float:$c T $. $v v $. x|x| $f T v $. a $a T v $.
+label:$c T $. x|x| $a T $.";
 
-/// A text so many times.
-fn put_times(out: &mut Vec<u8>, text: &[u8], count: usize) -> Result<(), AllocError> {
-    for _ in 0..count {
-        out.extend_from_slice(text)?;
-    }
-    Ok(())
-}
-
-/// Texts with a name of so many bytes between them.
-fn put_long(out: &mut Vec<u8>, texts: &[&[u8]], count: usize) -> Result<(), AllocError> {
-    let mut is_behind = false;
-    for text in texts {
-        if is_behind {
-            put_times(out, b"x", count)?;
+/// The line of a word, without it.
+fn recipe_of(word: &[u8]) -> &'static [u8] {
+    let mut rest = RECIPES.as_bytes();
+    for _ in 0..RECIPES.len() {
+        let (line, behind) = cut(rest, b'\n');
+        let (name, recipe) = cut(line, b':');
+        if name == word {
+            return recipe;
         }
-        out.extend_from_slice(text)?;
-        is_behind = true;
+        rest = behind;
+    }
+    b""
+}
+
+/// A part, with this number in place of each `#`.
+fn put_part(out: &mut String, part: &[u8], number: usize) -> Result<(), AllocError> {
+    for byte in part {
+        match byte {
+            b'#' => write!(out, "{number}")?,
+            _ => out.push(char::from(*byte))?,
+        }
     }
     Ok(())
 }
 
-/// A source in which one name has so many bytes. Without such a name where the word says none.
-fn put_named(out: &mut Vec<u8>, kind: &[u8], count: usize) -> Result<(), AllocError> {
-    if kind == b"constant".as_slice() {
-        return put_long(out, &[b"$c ", b" $. a $a ", b" $."], count);
+/// The source of a word and a number.
+pub fn made(alloc: Global, word: &[u8], count: usize) -> Result<String, AllocError> {
+    let mut out = String::new(alloc);
+    let mut rest = recipe_of(word);
+    let mut is_many = false;
+    for _ in 0..rest.len() {
+        let (part, behind) = cut(rest, b'|');
+        let end = if is_many { count } else { 2 };
+        for number in 1..end {
+            put_part(&mut out, part, number)?;
+        }
+        rest = behind;
+        is_many = !is_many;
     }
-    if kind == b"label".as_slice() {
-        return put_long(out, &[b"$c T $. ", b" $a T $."], count);
-    }
-    if kind == b"float".as_slice() {
-        return put_long(
-            out,
-            &[b"$c T $. $v v $. ", b" $f T v $. a $a T v $."],
-            count,
-        );
-    }
-    put_long(
-        out,
-        &[b"$c T $. $v ", b" $. f $f T ", b" $. a $a T ", b" $."],
-        count,
-    )
-}
-
-/// A source in which one assertion has so many `$e`.
-fn put_hypotheses(alloc: Global, out: &mut Vec<u8>, count: usize) -> Result<(), AllocError> {
-    out.extend_from_slice(b"$c T $. ${ ")?;
-    put_each(alloc, out, (0, count), "h", " $e T $. ")?;
-    out.extend_from_slice(b"a $a T $. $}")
-}
-
-/// A source in which so many variables are apart from one another.
-fn put_distinct(alloc: Global, out: &mut Vec<u8>, count: usize) -> Result<(), AllocError> {
-    out.extend_from_slice(b"$c T $. $v")?;
-    put_each(alloc, out, (0, count), " v", "")?;
-    out.extend_from_slice(b" $. ")?;
-    for number in 0..count {
-        let one = format!(in alloc; "f{number} $f T v{number} $. ")?;
-        out.extend_from_slice(one.as_bytes())?;
-    }
-    out.extend_from_slice(b"$d")?;
-    put_each(alloc, out, (0, count), " v", "")?;
-    out.extend_from_slice(b" $. a $a T $.")
-}
-
-/// A source of so many constants, of which one half stands in one assertion, the other in another.
-fn put_constants(alloc: Global, out: &mut Vec<u8>, count: usize) -> Result<(), AllocError> {
-    let half = count / 2;
-    out.extend_from_slice(b"$c")?;
-    put_each(alloc, out, (0, count), " c", "")?;
-    out.extend_from_slice(b" $. a $a")?;
-    put_each(alloc, out, (0, half), " c", "")?;
-    out.extend_from_slice(b" $. b $a")?;
-    put_each(alloc, out, (half, count), " c", "")?;
-    out.extend_from_slice(b" $.")
-}
-
-/// A source with so many of what a word says.
-fn put_many(alloc: Global, out: &mut Vec<u8>, kind: &[u8], count: usize) -> Result<(), AllocError> {
-    if kind == b"assertions".as_slice() {
-        out.extend_from_slice(b"$c T $. ")?;
-        return put_each(alloc, out, (0, count), "a", " $a T $. ");
-    }
-    if kind == b"hypotheses".as_slice() {
-        return put_hypotheses(alloc, out, count);
-    }
-    if kind == b"distinct".as_slice() {
-        return put_distinct(alloc, out, count);
-    }
-    if kind == b"constants".as_slice() {
-        return put_constants(alloc, out, count);
-    }
-    if kind == b"symbols".as_slice() {
-        out.extend_from_slice(b"$c T $. a $a")?;
-        put_times(out, b" T", count)?;
-        return out.extend_from_slice(b" $.");
-    }
-    if kind == b"steps".as_slice() {
-        out.extend_from_slice(b"$c T $. ax $a T $. ${ h $e T $. s $a T $. $} th $p T $= ax")?;
-        put_times(out, b" s", count.saturating_sub(1))?;
-        return out.extend_from_slice(b" $.");
-    }
-    put_named(out, kind, count)
-}
-
-/// The source of a word and a number: `assertions`, `hypotheses` of one assertion, `distinct` variables, `constants`, `symbols` of a statement
-/// or `steps` of a proof, so many; or one that is a `constant`, the `label` of an assertion or of a `float`, or a `variable`, of so many
-/// bytes.
-pub fn made(alloc: Global, kind: &[u8], count: usize) -> Result<Vec<u8>, AllocError> {
-    let mut out = Vec::new(alloc);
-    put_many(alloc, &mut out, kind, count)?;
     Ok(out)
 }

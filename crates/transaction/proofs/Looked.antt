@@ -66,9 +66,6 @@ pub reading : (mode : Mode) → is_writing mode ≡ false → mode ≡ Reading
 reading Reading is = refl
 reading Writing is = cc
 
-pub still_reading : (old new : Lending) → LooksOn (sight_of old) (sight_of new) → old.going.mode ≡ Reading → new.going.mode ≡ Reading
-still_reading old new looks mode = reading new.going.mode (looks.onward.may_write ∙ ap is_writing mode)
-
 pub may_be_looked : (old new : Lending) (library : Listed) → LooksOn (sight_of old) (sight_of new) → writes_kept old.going.slots ≡ []
     → library.setting ≡ setting_of old.given → ForEach (sight_of new) (λ st lib. ShowsInOrder lib library.entries)
     → MayBeLooked new library

@@ -58,13 +58,8 @@ fn take_all(
     let mut passes = Vec::with_capacity(alloc, sessions.len())?;
     let mut records = Vec::with_capacity(alloc, sessions.len())?;
     for session in sessions {
-        let Session {
-            kit,
-            records: own,
-            given: _,
-        } = session;
-        let Some(kit) = kit else { unreachable!() };
-        passes.push_reserved(kit.into_pass());
+        let (pass, own) = session.into_parts();
+        passes.push_reserved(pass);
         records.push_reserved(own);
     }
     Ok((passes, records))

@@ -8,11 +8,21 @@ use std::marker::Model;
 use tlwords::{Mode, Words};
 
 /// A library in words that sessions share. Contracts see the opening that it is of.
-#[derive(Drop)]
 pub struct Library {
     pub(crate) prelude: Prelude,
     pub(crate) given: Given,
     pub(crate) words: Words<LibraryLaw>,
+}
+
+// Proved here once: a derived drop is proved again in each crate that drops such a value.
+impl Drop for Library {
+    fn drop(self) {
+        let Library {
+            prelude: _,
+            given: _,
+            words: _,
+        } = self;
+    }
 }
 
 impl Model for Library {

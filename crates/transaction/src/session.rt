@@ -6,20 +6,30 @@ ghost use Rattle.transaction.specs.Looks.{Learns};
 
 use crate::outcome::Record;
 use crate::running::Library;
-use lawful::Given;
+use lawful::{Given, LibraryLaw};
 use lending::Kit;
 use std::marker::Model;
 use std::snapshot::Snapshot;
-use tlwords::learn;
+use tlwords::{Pass, learn};
 
 /// A session of a library: one transaction after another, on one thread at a time. Contracts see what it knows: what it has seen of the
 /// history, its calls, the numbers that it drew, their records, and what is staged since its last Committed.
-#[derive(Drop)]
 pub struct Session {
     // none only while a run has it
     pub(crate) kit: Option<Kit>,
     pub(crate) records: Vec<Record>,
     pub(crate) given: Snapshot<Given>,
+}
+
+// Proved here once: a derived drop is proved again in each crate that drops such a value.
+impl Drop for Session {
+    fn drop(self) {
+        let Session {
+            kit: _,
+            records: _,
+            given: _,
+        } = self;
+    }
 }
 
 impl Model for Session {
@@ -39,7 +49,22 @@ impl Model for Session {
 }
 
 impl Session {
-    ghost use Rattle.transaction.specs.Members.{Stands};
+    ghost use Rattle.transaction.specs.Members.{Stands, IsMember};
+
+    /// Its pass, and its records. What was staged is forgotten.
+    pub(crate) fn into_parts(self) -> (Pass<LibraryLaw>, Vec<Record>)
+        ensures pass { result.0 ≡ self.known }
+        ensures records { result.1.items ≡ self.records }
+        ensures member { IsMember self }
+    {
+        let Session {
+            kit,
+            records,
+            given: _,
+        } = self;
+        let Some(kit) = kit else { unreachable!() };
+        (kit.into_pass(), records)
+    }
 
     /// The records of the numbers that the session drew, in order: what became of each.
     pub fn records(&self) -> &[Record]

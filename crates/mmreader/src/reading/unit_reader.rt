@@ -22,10 +22,16 @@ use std::hash::RandomState;
 use std::marker::Model;
 
 /// How far an assertion was read, alone or in its block. Contracts see what is known of it, and the place.
-#[derive(Drop)]
 pub struct UnitReader<'a> {
     units: Units,
     place: UnitPlace<'a>,
+}
+
+// Proved here once: a derived drop is proved again in each crate that drops such a value.
+impl<'a> Drop for UnitReader<'a> {
+    fn drop(self) {
+        let UnitReader { units: _, place: _ } = self;
+    }
 }
 
 impl<'a> Model for UnitReader<'a> {

@@ -35,20 +35,14 @@ fn put_theorem(out: &mut Vec<u8>, label: &str, often: usize) -> Result<(), Alloc
     out.extend_from_slice(b"q $.\n")
 }
 
-/// Puts the theorems behind `deep`.
-fn put_theorems(alloc: Global, out: &mut Vec<u8>) -> Result<(), AllocError> {
-    for i in 0..THEOREMS {
-        let label = format!(in alloc; "t{i}")?;
-        put_theorem(out, label.as_str(), OTHER)?;
-    }
-    Ok(())
-}
-
 /// A database of 4,096 assertions in the layout of an export, three megabytes, with a proof of 16,384 steps.
 pub fn proofs_text(alloc: Global) -> Result<Vec<u8>, AllocError> {
     let mut out = Vec::from_slice(alloc, rules_text())?;
     put_theorem(&mut out, "deep", DEEP)?;
-    put_theorems(alloc, &mut out)?;
+    for i in 0..THEOREMS {
+        let label = format!(in alloc; "t{i}")?;
+        put_theorem(&mut out, label.as_str(), OTHER)?;
+    }
     Ok(out)
 }
 
@@ -84,30 +78,19 @@ fn put_variables(alloc: Global, out: &mut Vec<u8>) -> Result<(), AllocError> {
     Ok(())
 }
 
-/// Puts their `$f`, a line each.
-fn put_floats(alloc: Global, out: &mut Vec<u8>) -> Result<(), AllocError> {
+/// A database with an axiom in a block of 60,031 pairs.
+pub fn pairs_text(alloc: Global) -> Result<Vec<u8>, AllocError> {
+    let mut out = Vec::from_slice(alloc, b"$c wff |- $.\n$v")?;
+    put_variables(alloc, &mut out)?;
+    out.extend_from_slice(b" $.\n")?;
     for i in 0..VARIABLES {
         let float = format!(in alloc; "f{i} $f wff v{i} $.\n")?;
         out.extend_from_slice(float.as_bytes())?;
     }
-    Ok(())
-}
-
-/// Puts the lines of that database.
-fn put_block(alloc: Global, out: &mut Vec<u8>) -> Result<(), AllocError> {
-    put_variables(alloc, out)?;
-    out.extend_from_slice(b" $.\n")?;
-    put_floats(alloc, out)?;
     out.extend_from_slice(b"${\n  $d")?;
-    put_variables(alloc, out)?;
+    put_variables(alloc, &mut out)?;
     out.extend_from_slice(b" $.\n  a $a |-")?;
-    put_variables(alloc, out)?;
-    out.extend_from_slice(b" $.\n$}\n")
-}
-
-/// A database with an axiom in a block of 60,031 pairs.
-pub fn pairs_text(alloc: Global) -> Result<Vec<u8>, AllocError> {
-    let mut out = Vec::from_slice(alloc, b"$c wff |- $.\n$v")?;
-    put_block(alloc, &mut out)?;
+    put_variables(alloc, &mut out)?;
+    out.extend_from_slice(b" $.\n$}\n")?;
     Ok(out)
 }

@@ -18,7 +18,6 @@ returns c =
     let same : (λ (j : ℕ). has j found) ≡ is_mandatory t a = λ i. λ j. each j i in
     let pairs = ap (λ (m : ℕ → Bool). filter (λ q. m q.0 && m q.1) a.pairs) same in
     let asked = rw (c.as_slice.ensures.value, c.as_slice-2.ensures) at c.in_ok-pairs.ensures in
-    let kept : c.pairs.inside.items.items ≡ filter (λ q. is_mandatory t a q.0 && is_mandatory t a q.1) a.pairs =
-    c.pairs.view_is ∙ asked ∙ pairs in
+    let kept : c.in_ok-pairs.pairs ≡ filter (λ q. is_mandatory t a q.0 && is_mandatory t a q.1) a.pairs = asked ∙ pairs in
     let hyps : c.in_ok-copy_hypotheses.field-0 ≡ a.hyps = c.in_ok-copy_hypotheses.ensures ∙ c.as_slice-3.ensures in
     rw (c.from_vec.ensures, floats, hyps, kept, c.in_ok-copy.ensures) refl

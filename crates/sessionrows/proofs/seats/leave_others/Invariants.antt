@@ -4,4 +4,4 @@ use Rattle.transaction.specs.Members.{IsOf}
 use Rattle.sessionrows.proofs.seats.leave_others.Given as goal
 
 abbrev pub invariant-loop-place : goal.invariant-loop-place
-invariant-loop-place l = All (IsOf l.library) l.sessions.items × (l.place-counter ≤ length l.sessions.items)
+invariant-loop-place l = All (IsOf l.library) l.sessions.items × (l.place ≤ length l.sessions.items)

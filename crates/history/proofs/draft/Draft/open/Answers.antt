@@ -1,4 +1,4 @@
-use Rattle.std.proofs.Common.{◌≡◌, length, map, sym, ap, subst, ◌∙◌}
+use Rattle.std.proofs.Common.{◌≡◌, length, map, refl, sym, ap, subst, ◌∙◌}
 use Rattle.mmframes.specs.Frames.{frame}
 use Rattle.library.specs.Library.{ranked_from}
 use Rattle.catalog.specs.Entries.{living, standing, AreFramed}
@@ -11,15 +11,15 @@ use Rattle.history.proofs.Listed.{citers_settled}
 use Rattle.history.proofs.Drafting.{draft_settled, counted_settled}
 use Rattle.history.proofs.draft.Draft.open.Goals as goal
 
-pub invariant_of-result-2 : goal.invariant_of-result-2
-invariant_of-result-2 c =
+pub invariant_of-result : goal.invariant_of-result
+invariant_of-result c =
     let xs = c.args.assertions.now in
-    let t = c.prelude.inside.symbols in
+    let t = c.args.prelude in
     let es = c.in_ok-entries.entries.items in
     let frames = c.in_ok-frames.frames.items in
     let lib = ranked_from 1 xs in
     let is = c.in_ok-entries.ensures.entries in
-    let beside : frames ≡ map (frame t) xs = c.in_ok-frames.ensures ∙ ap (λ p. map (frame p) xs) (sym c.prelude.view_is) in
+    let beside : frames ≡ map (frame t) xs = c.in_ok-frames.ensures in
     let framed : AreFramed t es frames =
     subst (λ l. AreFramed t l frames) (sym is) (subst (AreFramed t (standing lib)) (sym beside) (framed-opening t 1 xs)) in
     let count : length xs ≡ length (living es) =
@@ -37,7 +37,7 @@ pub returns : goal.returns
 returns c =
     let is = c.in_ok-entries.ensures.entries in
     record {
-      setting = ap (λ p. record { prelude = p; slots = c.args.slots }) c.prelude.view_is;
+      setting = refl;
       start = ap (λ ns. living (undone ns c.in_ok-entries.entries.items)) c.new.ensures.items ∙ ap living is
           ∙ living-standing (ranked_from 1 c.args.assertions.now);
       entries = is;

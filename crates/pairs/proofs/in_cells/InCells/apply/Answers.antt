@@ -4,7 +4,7 @@ use Rattle.library.specs.Fitting.{CommandFits}
 use Rattle.library.specs.Library.{Setting}
 use Rattle.plaincells.specs.PlainViews.{sight_of}
 use Rattle.commands.proofs.Allowed.{may_do_all}
-use Rattle.pairs.proofs.Plain.{done_shows, done_shows_some, begun_shows, kept_shows, ended_tells}
+use Rattle.pairs.proofs.Plain.{done_shows_some, begun_shows}
 use Rattle.pairs.proofs.in_cells.InCells.apply.Goals as goal
 
 pub run-requires-clause-may : goal.run-requires-clause-may
@@ -29,15 +29,3 @@ invariant_of-self-in-Err c =
       same = c.undo.ensures.same.2 ∙ ap (λ (s : Setting). s.prelude) c.run.ensures.onward.setting ∙ c.args.self.now.same;
       shown = begun_shows c.undo.new.self c.undo.ensures.log;
     }
-
-pub returns-in-Ok-clause-answers : goal.returns-in-Ok-clause-answers
-returns-in-Ok-clause-answers c lib h =
-    let p = c.args.self.now in
-    let r = done_shows p.cells c.run.new.cells c.args.commands.now c.in-Ok.replies c.run.ensures.onward
-    (subst (λ (t : Tables). All (CommandFits t) c.args.commands.now) (sym p.same) c.requires) c.in-Ok.ensures.answers lib h in
-    (r.0, r.1, kept_shows c.run.new.cells c.keep.new.self r.0 c.keep.ensures.same r.2)
-
-pub returns-in-Err-clause-answers : goal.returns-in-Err-clause-answers
-returns-in-Err-clause-answers c =
-    ended_tells c.args.self.now.cells c.run.new.cells c.undo.new.self c.args.commands.now c.in-Err.error c.run.ensures.onward
-    c.in-Err.ensures.answers

@@ -1,6 +1,5 @@
 use Rattle.std.proofs.Common.{◌≤◌, ◌*◌, ℕ, List, [], length, sym, ap, subst, ◌∙◌, arith}
 use Rattle.std.proofs.lemmas.List.{length-replicate}
-use Rattle.mmsyntax.specs.Layout.{IsSoundPrelude}
 use Rattle.ranges.specs.Pairs.{Pairs}
 use Rattle.library.specs.Library.{Setting, IsSetting}
 use Rattle.plaincells.specs.Plain.{HoldNames, ShowsSome, LieInStore, IsLogOf, ranges_in, undone}
@@ -20,7 +19,7 @@ invariant_of-result c =
     let none = c.new.ensures.items in
     let some = c.requires.some in
     let few = c.requires.few in
-    let is : IsSetting s = record { sound = subst IsSoundPrelude c.drop.view_is c.drop.invariant; some = some; few = few } in
+    let is : IsSetting s = record { sound = c.floats-sound.ensures.sound; some = some; few = few } in
     let shown : ShowsSome s (undone values log) store places =
     subst (λ (l : Pairs). ShowsSome s (undone values l) store places) (sym none)
     (subst (λ xs. ShowsSome s values xs places) (sym c.new-2.ensures.items) (subst (λ xs. ShowsSome s xs [] places) (sym zeros) (zeros_show s n places is))) in

@@ -1,0 +1,44 @@
+//! Databases and scripts from files.
+
+ghost use Rattle.std.specs.Prelude.{All, IfSome};
+ghost use Rattle.library.specs.Fitting.{CommandFits};
+
+use library::Script;
+use mmstatement::{Database, Prelude, read_database};
+use scripts::read_script;
+use std::fs;
+use std::hash::RandomState;
+use std::rt::Files;
+
+/// The slots of a library.
+pub(crate) const SLOTS: usize = 4096;
+
+/// The most words that a store has room for.
+pub(crate) const ROOM: usize = 16_777_216;
+
+/// The database in a file. None where there is none, or no memory.
+pub(crate) fn read_db(
+    rt: &(impl AllocGlobal + Files),
+    keys: RandomState,
+    path: &str,
+) -> Option<Database> {
+    let text = fs::read(rt, path).ok()?;
+    read_database(rt.alloc(), keys, text.as_slice()).ok()
+}
+
+/// The scripts in files. None where one of them has none, or there is no memory.
+pub(crate) fn read_scripts(
+    rt: &(impl AllocGlobal + Files),
+    prelude: &Prelude,
+    paths: &[String],
+) -> Option<Vec<Script>>
+    ensures { IfSome result (λ v. All (All (All (CommandFits prelude.now))) v.items) }
+{
+    let mut scripts = Vec::new(rt.alloc());
+    for path in paths {
+        let text = fs::read(rt, path.as_str()).ok()?;
+        let script = read_script(rt.alloc(), prelude, text.as_slice()).ok()?;
+        scripts.push(script).ok()?;
+    }
+    Some(scripts)
+}

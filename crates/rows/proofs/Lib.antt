@@ -1,3 +1,0 @@
-pub mod Digits
-pub mod Joined
-pub mod Replayed
