@@ -19,8 +19,8 @@ wq $f wff Q $.
 ${
   $d t P $.
   $d P Q $.
-  a $e |- P $.
-  b $e |- P -> Q $.
+  mp.1 $e |- P $.
+  mp.2 $e |- P -> Q $.
   mp $a |- Q $.
 $}
 ";

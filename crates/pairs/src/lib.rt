@@ -1,4 +1,5 @@
-//! A library in plain cells, with transactions on it one after another: for tests that it answers as the one-thread editor does, and for measuring it.
+//! A library in plain cells, with transactions on it one after another: for tests that it answers as the one-thread editor does, and for
+//! measuring it.
 #![tactic(auto)]
 
 mod in_cells;

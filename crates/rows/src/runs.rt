@@ -34,10 +34,15 @@ pub struct Runs {
     room: usize,
 }
 
-/// The number that a text has in decimal digits, if it is one from `least` up to `most`.
+/// The number that a text has in decimal digits without leading zero, if it is one from `least` up to `most`.
 fn number_within(text: &[u8], least: usize, most: usize) -> Option<usize> {
+    let is_numeral = match text {
+        [first] => first.is_ascii_digit(),
+        [b'1'..=b'9', ..] => true,
+        _ => false,
+    };
     let number = str::from_utf8(text).ok()?.parse::<usize>().ok()?;
-    if least <= number && number <= most {
+    if is_numeral && least <= number && number <= most {
         Some(number)
     } else {
         None

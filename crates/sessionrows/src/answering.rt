@@ -21,128 +21,116 @@ ghost use Rattle.sessionrows.specs.Opened.{IsOpen};
 
 use crate::ending::end;
 use crate::opening::{Opened, open, unread};
-use crate::printing::{put_count, put_outcome};
+use crate::outcomes::put_outcome;
 use crate::random::compare;
 use crate::seats::{learn, place_of};
+use crate::written::Written;
 use export::put_library;
 use scripts::read_script;
-use std::alloc::{AllocError, Global};
+use std::alloc::Global;
 use std::hash::RandomState;
 use std::thread::Threads;
 use transaction::{Library, Look, Session};
 
-/// Puts what a line is answered behind `out`; false where it can't be read. Before it stand the lines `before`; none where none of them begins
-/// a database.
-///
-/// # Errors
-///
-/// Want of memory.
+/// Writes what a line is answered; false where it can't be read. Before it stand the lines `before`; none where none of them begins a
+/// database.
 pub fn answer_line(
     rt: &(impl Threads + Sync),
     alloc: Global,
     keys: RandomState,
-    out: &mut Vec<u8>,
+    out: &mut Written,
     opened: &mut Option<Opened>,
     before: &[Vec<u8>],
     line: &str,
-) -> Result<bool, AllocError>
+) -> bool
     requires { IfSome opened.old IsOpen }
     ensures { IfSome opened.new IsOpen }
 {
     let (word, behind) = line.split_once(' ').unwrap_or((line, ""));
     match word {
         "" | "#" => {
-            out.extend_from_slice(line.as_bytes())?;
-            out.extend_from_slice(b"\n")?;
-            Ok(true)
+            out.put(line.as_bytes());
+            out.put(b"\n");
+            true
         }
-        "database" => Ok(true),
-        "|" => Ok(!before.is_empty()),
+        "database" => true,
+        "|" => !before.is_empty(),
         "open" => open(rt, alloc, keys, out, opened, before, behind),
         "finish" => end(alloc, keys, out, opened, behind, false),
         "locks" => end(alloc, keys, out, opened, behind, true),
         "random" => compare(rt, alloc, keys, out, behind),
         name => match opened {
             Some(opened) => answer_session(alloc, out, opened, name, behind),
-            None => Ok(false),
+            None => false,
         },
     }
 }
 
-/// Puts what the session of this name answers to words behind `out`; false where they can't be read.
+/// Writes what the session of this name answers to words; false where they can't be read.
 fn answer_session(
     alloc: Global,
-    out: &mut Vec<u8>,
+    out: &mut Written,
     opened: &mut Opened,
     name: &str,
     words: &str,
-) -> Result<bool, AllocError>
+) -> bool
     requires { IsOpen opened.old }
     ensures { IsOpen opened.new }
 {
     let Some(place) = place_of(name) else {
-        return Ok(false);
+        return false;
     };
-    if let Some(other) = words.strip_prefix("learn ")
-        && let Some(other) = place_of(other)
-    {
-        let is_told = learn(&opened.library, &mut opened.sessions, place, other)?;
-        if is_told {
-            out.extend_from_slice(b"learnt\n")?;
-        }
-        return Ok(is_told);
+    if let Some(other) = words.strip_prefix("learn ") {
+        return learn(out, &opened.library, &mut opened.sessions, place, other);
     }
     match opened.sessions.get_mut(place) {
         Some(session) => attempt(alloc, out, &opened.library, session, words),
-        None => Ok(false),
+        None => false,
     }
 }
 
-/// Puts the lines of a look at the whole library behind `out`: its place, and the exported text.
-fn look(
-    alloc: Global,
-    out: &mut Vec<u8>,
-    library: &Library,
-    session: &mut Session,
-) -> Result<bool, AllocError>
+/// Writes the lines of a look at the whole library: its place, and the exported text.
+fn look(alloc: Global, out: &mut Written, library: &Library, session: &mut Session)
     requires { IsOf library.now session.old }
     ensures { IsOf library.now session.new }
 {
     match session.snapshot(alloc, library) {
         Look::Read { place, library } => {
-            put_count(alloc, out, "seen", place)?;
-            put_library(out, &library)?;
+            out.put_made(format!(in alloc; "seen {place}\n"));
+            let done = put_library(&mut out.bytes, &library);
+            out.note(done);
         }
-        Look::Conflict(_) => out.extend_from_slice(b"conflict\n")?,
-        Look::NoMemory => return Err(AllocError),
+        Look::Conflict(_) => out.put(b"conflict\n"),
+        Look::NoMemory => out.is_short = true,
     }
-    Ok(true)
 }
 
-/// Puts what becomes of the transaction of a session that has these words, by one try, behind `out`, or what it sees; false where they are no commands
-/// of one transaction.
+/// Writes what a session sees, or what becomes of its transaction that has these words, by one try; false where they are no commands of
+/// one transaction.
 fn attempt(
     alloc: Global,
-    out: &mut Vec<u8>,
+    out: &mut Written,
     library: &Library,
     session: &mut Session,
     words: &str,
-) -> Result<bool, AllocError>
+) -> bool
     requires { IsOf library.now session.old }
     ensures { IsOf library.now session.new }
 {
     if words == "snapshot" {
-        return look(alloc, out, library, session);
+        look(alloc, out, library, session);
+        return true;
     }
-    let text = format!(in alloc; "begin {words} commit")?;
-    let script = match read_script(alloc, library.prelude(), text.as_bytes()) {
+    let mut text = Written::new(alloc);
+    text.put_made(format!(in alloc; "begin {words} commit"));
+    let script = match read_script(alloc, library.prelude(), text.bytes.as_slice()) {
         Ok(script) => script,
-        Err(fault) => return unread(fault),
+        Err(fault) => return unread(out, fault),
     };
     let [transaction] = script.as_slice() else {
-        return Ok(false);
+        return false;
     };
     let outcome = session.attempt(alloc, library, transaction);
-    put_outcome(alloc, out, library.prelude(), &outcome)?;
-    Ok(true)
+    put_outcome(alloc, out, library.prelude(), &outcome);
+    true
 }

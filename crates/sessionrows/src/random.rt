@@ -1,10 +1,12 @@
-//! Random transactions: so many of random commands, each done by the one-thread editor and, as reads and writes of slots, over a library in plain cells.
+//! Random transactions: so many of random commands, each done by the one-thread editor and, as reads and writes of slots, over a library
+//! in plain cells.
 //!
-//! After each transaction the outcomes are compared, and what the two list; after some also what they show of each label. All eight commands
-//! are drawn, over few labels, ranks and steps, so that each test of each command passes often and fails often.
+//! After each transaction the outcomes are compared, and what the two list; after some also what they show of each label. All eight
+//! commands are drawn, over few labels, ranks and steps, so that each test of each command passes often and fails often.
 
 use crate::opening::unread;
-use crate::printing::{put_refusal, put_replies};
+use crate::outcomes::{put_refusal, put_replies};
+use crate::written::Written;
 use history::{ApplyError, Editor};
 use library::Command;
 use mmreader::read_database;
@@ -14,7 +16,7 @@ use proofcheck::check_all;
 use rand_core::Rng;
 use rand_pcg::Pcg32;
 use scripts::read_script;
-use std::alloc::{AllocError, Global};
+use std::alloc::Global;
 use std::hash::RandomState;
 use std::thread::Threads;
 
@@ -63,99 +65,77 @@ fn pieces_of(letter: u8) -> &'static str {
     }
 }
 
-/// Puts a script that is drawn from a letter behind `script`.
-fn draw(
-    alloc: Global,
-    generator: &mut Pcg32,
-    letter: u8,
-    script: &mut Vec<u8>,
-) -> Result<(), AllocError> {
-    let mut left = Vec::new(alloc);
-    left.push(letter)?;
+/// A script that is drawn from a letter.
+fn draw(alloc: Global, generator: &mut Pcg32, letter: u8) -> Written {
+    let mut script = Written::new(alloc);
+    let mut left = Written::new(alloc);
+    left.put(&[letter]);
     for _ in 0..MOST_PIECES {
-        let Some(piece) = left.pop() else {
+        let Some(piece) = left.bytes.pop() else {
             break;
         };
         let pieces = pieces_of(piece);
         if pieces.is_empty() {
-            script.push(piece)?;
+            script.put(&[piece]);
             continue;
         }
         let count = pieces.split('|').count().max(1);
         let drawn = generator.next_u32() as usize % count;
         for byte in pieces.split('|').nth(drawn).unwrap_or("").bytes().rev() {
-            left.push(byte)?;
+            left.put(&[byte]);
         }
     }
-    Ok(())
+    script
 }
 
-/// Does a transaction in both, and puts what each answers behind `edited` and `written`. 0 where it was done, and the number of the reason where
-/// the editor refused it; none where the cells stopped.
-fn do_in_both(
-    alloc: Global,
-    editor: &mut Editor,
-    cells: &mut InCells,
-    commands: &[Command],
-    edited: &mut Vec<u8>,
-    written: &mut Vec<u8>,
-) -> Result<Option<usize>, AllocError> {
-    if !all_fit(editor.prelude(), commands) || !all_fit(cells.prelude(), commands) {
-        return Ok(None);
-    }
-    let mut number = 0;
-    match editor.apply(alloc, commands) {
-        Ok(replies) => put_replies(alloc, edited, editor.prelude(), replies.as_slice())?,
-        Err(ApplyError::Refused(refused)) => {
-            number = refused.reason.number() as usize;
-            put_refusal(alloc, edited, 0, refused)?;
-        }
-        Err(ApplyError::NoMemory) => return Err(AllocError),
-    }
-    match cells.apply(alloc, commands) {
-        Ok(replies) => put_replies(alloc, written, cells.prelude(), replies.as_slice())?,
-        Err(RunError::Refused(refused)) => put_refusal(alloc, written, 0, refused)?,
-        Err(RunError::Stopped(_)) => return Ok(None),
-        Err(RunError::NoMemory) => return Err(AllocError),
-    }
-    Ok(Some(number))
-}
-
-/// Does a transaction in both: 0 where it was done, and the number of the reason where it was refused. None where the two differ.
+/// Does a transaction in both: 0 where it was done, and the number of the reason where it was refused. None where the two differ, or
+/// memory ran out.
 fn both(
     alloc: Global,
     editor: &mut Editor,
     cells: &mut InCells,
     commands: &[Command],
-) -> Result<Option<usize>, AllocError> {
-    let mut edited = Vec::new(alloc);
-    let mut written = Vec::new(alloc);
-    let number = do_in_both(alloc, editor, cells, commands, &mut edited, &mut written)?;
-    Ok(if edited.as_slice() == written.as_slice() {
-        number
-    } else {
-        None
-    })
+) -> Option<usize> {
+    if !all_fit(editor.prelude(), commands) || !all_fit(cells.prelude(), commands) {
+        return None;
+    }
+    let mut number = 0;
+    let mut edited = Written::new(alloc);
+    match editor.apply(alloc, commands) {
+        Ok(replies) => put_replies(alloc, &mut edited, editor.prelude(), replies.as_slice()),
+        Err(ApplyError::Refused(refused)) => {
+            number = refused.reason.number() as usize;
+            put_refusal(alloc, &mut edited, 0, refused);
+        }
+        Err(ApplyError::NoMemory) => edited.is_short = true,
+    }
+    let mut written = Written::new(alloc);
+    match cells.apply(alloc, commands) {
+        Ok(replies) => put_replies(alloc, &mut written, cells.prelude(), replies.as_slice()),
+        Err(RunError::Refused(refused)) => put_refusal(alloc, &mut written, 0, refused),
+        Err(_) => written.is_short = true,
+    }
+    if edited.is_short || written.is_short || edited.bytes.as_slice() != written.bytes.as_slice() {
+        return None;
+    }
+    Some(number)
 }
 
-/// Does the transactions of a script that is drawn from a letter in both, and counts how the first ended; false where the two differ. A script that
-/// can't be read, as it adds a proof of L that cites `L.k`, is left out.
-fn is_alike(
+/// Does the transactions of a script in both, and counts how the first ended; false where the two differ, or memory ran out. A script
+/// that can't be read, as it adds a proof of L that cites `L.k`, is left out.
+fn are_alike(
     alloc: Global,
     editor: &mut Editor,
     cells: &mut InCells,
-    generator: &mut Pcg32,
-    letter: u8,
+    script: &Written,
     ends: &mut [u32],
-) -> Result<bool, AllocError> {
-    let mut text = Vec::new(alloc);
-    draw(alloc, generator, letter, &mut text)?;
-    let Ok(script) = read_script(alloc, editor.prelude(), text.as_slice()) else {
-        return Ok(true);
+) -> bool {
+    let Ok(transactions) = read_script(alloc, editor.prelude(), script.bytes.as_slice()) else {
+        return !script.is_short;
     };
-    for (place, transaction) in script.as_slice().iter().enumerate() {
-        let Some(number) = both(alloc, editor, cells, transaction.as_slice())? else {
-            return Ok(false);
+    for (place, transaction) in transactions.as_slice().iter().enumerate() {
+        let Some(number) = both(alloc, editor, cells, transaction.as_slice()) else {
+            return false;
         };
         if place == 0
             && let Some(count) = ends.get_mut(number)
@@ -163,30 +143,29 @@ fn is_alike(
             *count = count.saturating_add(1);
         }
     }
-    Ok(true)
+    true
 }
 
-/// Does so many random transactions in both, drawn from a seed, and puts how they ended behind `out`: how many were done, and refused for each reason.
+/// Does so many random transactions in both, drawn from a seed, and writes how they ended: how many were done, and refused for each
+/// reason.
 fn put_ends(
     alloc: Global,
-    out: &mut Vec<u8>,
+    out: &mut Written,
     editor: &mut Editor,
     cells: &mut InCells,
     transactions: usize,
     seed: usize,
-) -> Result<bool, AllocError> {
+) {
     let mut generator = Pcg32::new(seed as u64, 54);
     let mut ends = [0_u32; 15];
     for number in 0..transactions {
         let letter = if number % 16 == 0 { b'A' } else { b'S' };
-        if !is_alike(alloc, editor, cells, &mut generator, letter, &mut ends)? {
-            out.extend_from_slice(b"the two differ\n")?;
-            return Ok(true);
+        let script = draw(alloc, &mut generator, letter);
+        if !are_alike(alloc, editor, cells, &script, &mut ends) {
+            return out.put(b"the two differ\n");
         }
     }
-    let line = format!(in alloc; "done, and refused by reason: {ends:?}\n")?;
-    out.extend_from_slice(line.as_bytes())?;
-    Ok(true)
+    out.put_made(format!(in alloc; "done, and refused by reason: {ends:?}\n"));
 }
 
 /// Opens both with a database, and does so many random transactions in them; false where they can't be opened.
@@ -194,42 +173,42 @@ fn compare_over(
     rt: &(impl Threads + Sync),
     alloc: Global,
     keys: RandomState,
-    out: &mut Vec<u8>,
+    out: &mut Written,
     db: &Database,
     transactions: usize,
     seed: usize,
-) -> Result<bool, AllocError> {
+) -> bool {
     let Ok(()) = check_all(rt, alloc, db) else {
-        return Ok(false);
+        return false;
     };
     let Ok(mut editor) = Editor::open(alloc, keys, db, SLOTS) else {
-        return Ok(false);
+        return false;
     };
     let Ok(mut cells) = InCells::open(alloc, db, SLOTS, ROOM) else {
-        return Ok(false);
+        return false;
     };
-    put_ends(alloc, out, &mut editor, &mut cells, transactions, seed)
+    put_ends(alloc, out, &mut editor, &mut cells, transactions, seed);
+    true
 }
 
-/// Does random transactions, by words that say their number and the seed, and puts the line of how they ended behind `out`; false where the
-/// words are no two numbers.
-///
-/// # Errors
-///
-/// Want of memory.
+/// Does random transactions, by words that say their number and the seed, and writes the line of how they ended; false where the words
+/// are no two numbers.
 pub fn compare(
     rt: &(impl Threads + Sync),
     alloc: Global,
     keys: RandomState,
-    out: &mut Vec<u8>,
+    out: &mut Written,
     words: &str,
-) -> Result<bool, AllocError> {
+) -> bool {
     let (transactions, seed) = words.split_once(' ').unwrap_or((words, ""));
-    let (Ok(transactions), Ok(seed)) = (transactions.parse::<usize>(), seed.parse::<usize>()) else {
-        return Ok(false);
+    let Ok(transactions) = transactions.parse::<usize>() else {
+        return false;
+    };
+    let Ok(seed) = seed.parse::<usize>() else {
+        return false;
     };
     match read_database(alloc, keys, DATABASE) {
         Ok(db) => compare_over(rt, alloc, keys, out, &db, transactions, seed),
-        Err(fault) => unread(fault),
+        Err(fault) => unread(out, fault),
     }
 }

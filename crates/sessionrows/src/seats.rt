@@ -3,7 +3,7 @@
 ghost use Rattle.std.specs.Prelude.{◌≡◌, ◌+◌, ◌<◌, ◌≤◌, length, All};
 ghost use Rattle.transaction.specs.Members.{IsOf};
 
-use std::alloc::AllocError;
+use crate::written::Written;
 use transaction::{Library, Session};
 
 /// The most sessions that a library has.
@@ -42,45 +42,48 @@ fn take(library: &Library, sessions: &mut Vec<Session>, place: usize) -> Session
     sessions.remove(place)
 }
 
-/// Puts a session in at a place; those from there on move back.
+/// Puts a session in at a place; those from there on move back. It is gone where memory runs out.
 fn put_back(
+    out: &mut Written,
     library: &Library,
     sessions: &mut Vec<Session>,
     place: usize,
     session: Session,
-) -> Result<(), AllocError>
+)
     requires place { place ≤ length sessions.old.items }
     requires own { IsOf library.now session }
     requires others { All (IsOf library.now) sessions.old.items }
     ensures { All (IsOf library.now) sessions.new.items }
 {
     let _ = library;
-    sessions.insert(place, session)?;
-    Ok(())
+    if sessions.insert(place, session).is_err() {
+        out.is_short = true;
+    }
 }
 
-/// Tells the session at one place what the one at another has seen; false where there are no two such sessions.
-///
-/// # Errors
-///
-/// Want of memory.
+/// Tells the session at one place what the one of another name has seen, and writes `learnt`; false where there are no two such sessions.
 pub fn learn(
+    out: &mut Written,
     library: &Library,
     sessions: &mut Vec<Session>,
     place: usize,
-    other: usize,
-) -> Result<bool, AllocError>
+    other: &str,
+) -> bool
     requires { All (IsOf library.now) sessions.old.items }
     ensures { All (IsOf library.now) sessions.new.items }
 {
+    let Some(other) = place_of(other) else {
+        return false;
+    };
     if place == other || place >= sessions.len() || other >= sessions.len() {
-        return Ok(false);
+        return false;
     }
     let mut told = take(library, sessions, other);
     let place = if other < place { place - 1 } else { place };
     sessions[place].learn(library, &mut told);
-    put_back(library, sessions, other, told)?;
-    Ok(true)
+    put_back(out, library, sessions, other, told);
+    out.put(b"learnt\n");
+    true
 }
 
 /// Leaves out the sessions that aren't named.

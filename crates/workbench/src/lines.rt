@@ -59,22 +59,25 @@ where
     tell_files(rt, words.as_slice())
 }
 
-/// Prints a row of the table, and what is done for it. It may wait.
+/// Prints a row of the table, and does what it asks for where it is no command line; for a command line, the runtime for it. Of an empty row nothing is
+/// printed. It may wait.
 ///
 /// # Errors
 ///
 /// Those of printing, and of files that a row tells of.
-pub fn do_row<R>(rt: &R, row: &str) -> io::Result<()>
+pub fn begin_row<'r, R>(rt: &'r R, row: &str) -> io::Result<Option<Stage<'r, R>>>
 where
     R: Files + AllocGlobal + Print + RandomSource + Threads + Wait + Sync,
 {
+    if row.is_empty() {
+        return Ok(None);
+    }
     println!(rt; "== {row}")?;
     match mode_of(row) {
-        Some(mode) => {
-            let stage = Stage::new(rt, mode, words_of(rt.alloc(), row)?);
-            let status = program::run(&stage, matches!(mode, Mode::Terminal));
-            println!(rt; "status {status}")
+        Some(mode) => Ok(Some(Stage::new(rt, mode, words_of(rt.alloc(), row)?))),
+        None => {
+            do_other(rt, row)?;
+            Ok(None)
         }
-        None => do_other(rt, row),
     }
 }

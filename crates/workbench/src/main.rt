@@ -5,7 +5,7 @@
 //! files of `data`), `measures` (measurements, for what they print besides their times). The crates `rows`, `sessionrows`, `wordrows`, `takerows`,
 //! the module `lines` and the crate `bench` say what stands in each. The tables `calls on texts`, `calls on cells`, `calls on words` and `calls on sessions` name functions of
 //! `calls_texts`, `calls_cells`, `calls_words` and `calls_sessions`, each of which makes calls that no row makes: what is printed is the name where all is answered as
-//! is wanted. What is printed was worked out by hand, and stands in `stdout`.
+//! is wanted. The table `threads` comes last, and has no lines: whether a large database is checked on more threads than one. What is printed was worked out by hand, and stands in `stdout`.
 //!
 //! With words it measures: `workbench cells|check|words|sessions|all WORD..`, for the programs of `benches/`.
 #![tactic(auto)]
@@ -13,8 +13,8 @@
 mod lines;
 mod threads;
 
-use crate::lines::{do_row, words_of};
-use crate::threads::print_watched;
+use crate::lines::{begin_row, words_of};
+use crate::threads::{check, print_watched, watch};
 use bench::{Ending, measure};
 use rows::answer_rows;
 use sessionrows::answer_sessions;
@@ -22,12 +22,21 @@ use std::alloc::{AllocError, Global};
 use std::hash::RandomState;
 use std::io::{BufRead, BufReader, Write};
 use std::process::{ExitCode, Termination};
+use std::random::RandomSource;
+use std::rt::{Clock, Files};
+use std::sync::Wait;
+use std::sync::atomic::AtomicBool;
 use std::test::Fail;
+use std::thread::{Threads, join};
+use std::time::CpuClock;
 use std::{env, io};
 use takerows::answer_sources;
 
 /// What stands in front of the name of a table.
 const HEAD: &[u8] = b"%% ";
+
+/// The table of command lines.
+const COMMANDS: &[u8] = b"commands";
 
 /// The lines of the standard input, without their line feeds.
 fn read_lines(rt: &impl Input, alloc: Global) -> io::Result<Vec<Vec<u8>>> {
@@ -38,23 +47,59 @@ fn read_lines(rt: &impl Input, alloc: Global) -> io::Result<Vec<Vec<u8>>> {
     Ok(lines)
 }
 
-/// A table: its name, and its lines.
+/// What is done at a time: a table with all its lines, or a line of the table of command lines, whose first step has none.
 #[derive(Clone, Copy)]
-struct Table<'l> {
+struct Step<'l> {
+    /// The name of the table.
     name: &'l [u8],
     lines: &'l [Vec<u8>],
+    /// Whether the table begins there.
+    begins: bool,
 }
 
-/// The first table, and the lines behind it. None where no table begins there.
-fn next_table(lines: &[Vec<u8>]) -> Option<(Table<'_>, &[Vec<u8>])> {
+/// The first step in a table of this name, and the lines behind it. None where there is no line.
+fn next_step<'l>(name: &'l [u8], lines: &'l [Vec<u8>]) -> Option<(Step<'l>, &'l [Vec<u8>])> {
     let (first, behind) = lines.split_first()?;
-    let name = first.as_slice().strip_prefix(HEAD)?;
-    let end = behind
-        .iter()
-        .position(|line| line.starts_with(HEAD))
-        .unwrap_or(behind.len());
-    let lines = behind.get(..end)?;
-    Some((Table { name, lines }, behind.get(end..)?))
+    let Some(begun) = first.as_slice().strip_prefix(HEAD) else {
+        let step = Step {
+            name,
+            lines: lines.get(..1)?,
+            begins: false,
+        };
+        return Some((step, behind));
+    };
+    let end = if begun == COMMANDS {
+        0
+    } else {
+        behind
+            .iter()
+            .position(|line| line.starts_with(HEAD))
+            .unwrap_or(behind.len())
+    };
+    let step = Step {
+        name: begun,
+        lines: behind.get(..end)?,
+        begins: true,
+    };
+    Some((step, behind.get(end..)?))
+}
+
+/// Prints the line that begins the table of a step, if it begins there.
+fn print_head(rt: &impl Print, step: Step<'_>) -> io::Result<()> {
+    if step.begins {
+        rt.write_all(HEAD)?;
+        rt.write_all(step.name)?;
+        rt.write_all(b"\n")?;
+    }
+    Ok(())
+}
+
+/// The only line of a step. None is empty.
+fn row_of(step: Step<'_>) -> &str {
+    match step.lines.first() {
+        Some(line) => str::from_utf8(line.as_slice()).unwrap_or("no text"),
+        None => "",
+    }
 }
 
 /// What the runs of a table of words are answered.
@@ -64,19 +109,20 @@ fn answer_words(alloc: Global, lines: &[Vec<u8>]) -> Result<Vec<u8>, AllocError>
     Ok(out)
 }
 
-/// Does each command line of a table. It may wait.
-fn do_commands(rt: &HostRuntime, lines: &[Vec<u8>]) -> io::Result<()> {
-    for line in lines {
-        match str::from_utf8(line.as_slice()) {
-            Ok(row) => do_row(rt, row)?,
-            Err(_) => println!(rt; "no text")?,
-        }
-    }
-    Ok(())
-}
-
 /// Does each measurement of a table. It may wait.
-fn do_measures(rt: &HostRuntime, lines: &[Vec<u8>]) -> io::Result<()> {
+fn do_measures<R>(rt: &R, lines: &[Vec<u8>]) -> io::Result<()>
+where
+    R: Files
+        + AllocGlobal
+        + Print
+        + Eprint
+        + RandomSource
+        + Clock
+        + CpuClock
+        + Threads
+        + Wait
+        + Sync,
+{
     for line in lines {
         let words = words_of(rt.alloc(), str::from_utf8(line.as_slice()).unwrap_or(""))?;
         if measure(rt, words.as_slice())? != Ending::Done {
@@ -87,7 +133,10 @@ fn do_measures(rt: &HostRuntime, lines: &[Vec<u8>]) -> io::Result<()> {
 }
 
 /// Makes the calls of this name, on one of the subjects of which there are tables.
-fn make(rt: &HostRuntime, subject: &[u8], name: &str) -> Result<(), Fail> {
+fn make<R>(rt: &R, subject: &[u8], name: &str) -> Result<(), Fail>
+where
+    R: AllocGlobal + RandomSource + Threads + Wait + Sync,
+{
     match subject {
         b"calls on texts" => calls_texts::make(rt, name),
         b"calls on cells" => calls_cells::make(rt, name),
@@ -97,7 +146,10 @@ fn make(rt: &HostRuntime, subject: &[u8], name: &str) -> Result<(), Fail> {
 }
 
 /// Makes the calls of a table, by their names, and says which were answered as is wanted. It may wait.
-fn do_calls(rt: &HostRuntime, subject: &[u8], lines: &[Vec<u8>]) -> io::Result<()> {
+fn do_calls<R>(rt: &R, subject: &[u8], lines: &[Vec<u8>]) -> io::Result<()>
+where
+    R: AllocGlobal + Print + Eprint + RandomSource + Threads + Wait + Sync,
+{
     for line in lines {
         let name = str::from_utf8(line.as_slice()).unwrap_or("");
         match make(rt, subject, name) {
@@ -112,57 +164,81 @@ fn do_calls(rt: &HostRuntime, subject: &[u8], lines: &[Vec<u8>]) -> io::Result<(
 }
 
 /// Prints what a table is answered. It may wait.
-fn do_table(rt: &HostRuntime, keys: RandomState, table: Table<'_>) -> io::Result<()> {
+fn do_table<R>(rt: &R, keys: RandomState, table: Step<'_>) -> io::Result<()>
+where
+    R: Files
+        + AllocGlobal
+        + Print
+        + Eprint
+        + RandomSource
+        + Clock
+        + CpuClock
+        + Threads
+        + Wait
+        + Sync,
+{
     let alloc = rt.alloc();
     let out = match table.name {
-        b"rows" => {
-            rt.write_all(answer_rows(rt, alloc, keys, table.lines)?.as_slice())?;
-            return print_watched(rt, keys);
-        }
+        b"rows" => answer_rows(rt, alloc, keys, table.lines)?,
         b"sessions" => answer_sessions(rt, alloc, keys, table.lines)?,
         b"words" => answer_words(alloc, table.lines)?,
         b"sources" => answer_sources(rt, alloc, keys, table.lines)?,
-        b"commands" => return do_commands(rt, table.lines),
         b"measures" => return do_measures(rt, table.lines),
         subject => return do_calls(rt, subject, table.lines),
     };
     rt.write_all(out.as_slice())
 }
 
-/// Answers the tables of the standard input, each behind the line that begins it. It may wait.
-fn answer_tables(rt: &HostRuntime) -> io::Result<()> {
-    let keys = RandomState::new(rt)?;
-    let lines = read_lines(rt, rt.alloc())?;
-    let mut rest = lines.as_slice();
-    // Each table has a line at least.
-    for _ in 0..lines.len() {
-        let Some((table, behind)) = next_table(rest) else {
-            break;
-        };
-        rt.write_all(HEAD)?;
-        rt.write_all(table.name)?;
-        rt.write_all(b"\n")?;
-        do_table(rt, keys, table)?;
-        rest = behind;
-    }
-    Ok(())
-}
-
 fn main(rt: HostRuntime) -> ExitCode {
+    let alloc = rt.alloc();
     let Ok(args) = env::args(&rt) else {
         return ExitCode::from(1);
     };
-    let Ok(args) = args.collect::<Vec<String>>(rt.alloc()) else {
+    let Ok(args) = args.collect::<Vec<String>>(alloc) else {
         return ExitCode::from(1);
     };
-    match args.as_slice() {
-        [_, words @ ..] if !words.is_empty() => match measure(&rt, words) {
+    if let [_, words @ ..] = args.as_slice()
+        && !words.is_empty()
+    {
+        return match measure(&rt, words) {
             Ok(ending) => ending.status(),
             Err(_) => Ending::Failed.status(),
-        },
-        _ => match answer_tables(&rt) {
-            Ok(()) => ExitCode::SUCCESS,
-            Err(_) => ExitCode::from(1),
-        },
+        };
     }
+    let (Ok(keys), Ok(lines)) = (RandomState::new(&rt), read_lines(&rt, alloc)) else {
+        return ExitCode::from(1);
+    };
+    let mut rest = lines.as_slice();
+    let mut name: &[u8] = b"";
+    // Each step has a line at least. What starts threads by a runtime of its own, or shows one to a thread, stands here: the language has that of no other function.
+    for _ in 0..lines.len() {
+        let Some((step, behind)) = next_step(name, rest) else {
+            break;
+        };
+        name = step.name;
+        rest = behind;
+        if print_head(&rt, step).is_err() {
+            return ExitCode::from(1);
+        }
+        let done = match step.name {
+            COMMANDS => match begin_row(&rt, row_of(step)) {
+                Ok(Some(stage)) => {
+                    let status = program::run(&stage, stage.is_terminal());
+                    println!(rt; "status {status}")
+                }
+                Ok(None) => Ok(()),
+                Err(error) => Err(error),
+            },
+            b"threads" => {
+                let done = AtomicBool::new(false);
+                let (most, sound) = join(&rt, || watch(&rt, &done), || check(&rt, &done));
+                print_watched(&rt, most, sound)
+            }
+            _ => do_table(&rt, keys, step),
+        };
+        if done.is_err() {
+            return ExitCode::from(1);
+        }
+    }
+    ExitCode::SUCCESS
 }

@@ -1,13 +1,13 @@
 //! How many threads a check runs on.
 
-use mmstatement::Database;
 use proofcheck::check_all;
 use rows::large_database;
 use std::hash::RandomState;
+use std::random::RandomSource;
 use std::rt::Files;
 use std::sync::atomic::AtomicBool;
 use std::sync::atomic::Ordering::SeqCst;
-use std::thread::{Threads, available_parallelism, join};
+use std::thread::{Threads, available_parallelism};
 use std::{fs, io};
 
 /// How many threads the process has, by the system's file on it; 0 where that can't be read.
@@ -24,7 +24,7 @@ fn threads_now(rt: &(impl Files + AllocGlobal)) -> usize {
 }
 
 /// The most threads that the process has at once until a word says that the work is done.
-fn watch(rt: &(impl Files + AllocGlobal), done: &AtomicBool) -> usize {
+pub fn watch(rt: &(impl Files + AllocGlobal), done: &AtomicBool) -> usize {
     let mut most: usize = 0;
     for _ in 0..u64::MAX {
         most = most.max(threads_now(rt));
@@ -35,25 +35,23 @@ fn watch(rt: &(impl Files + AllocGlobal), done: &AtomicBool) -> usize {
     most
 }
 
-/// Checks the proofs of a database, and says so in a word.
-fn check_beside(
-    rt: &(impl Threads + AllocGlobal + Sync),
-    db: &Database,
-    done: &AtomicBool,
-) -> bool {
-    let sound = check_all(rt, rt.alloc(), db).is_ok();
+/// Whether the large database is read and its proofs check, told to who watches.
+pub fn check(rt: &(impl Threads + AllocGlobal + RandomSource + Sync), done: &AtomicBool) -> bool {
+    let sound = is_sound(rt).unwrap_or(false);
     done.store(true, SeqCst);
     sound
 }
 
-/// Prints whether a large database is checked on more threads than one where there are processors for two: the two are the one who checks and the one
-/// who counts.
-pub fn print_watched(rt: &HostRuntime, keys: RandomState) -> io::Result<()> {
-    let Some(db) = large_database(rt.alloc(), keys)? else {
-        return println!(rt; "not read");
-    };
-    let done = AtomicBool::new(false);
-    let (most, sound) = join(rt, || watch(rt, &done), || check_beside(rt, &db, &done));
+fn is_sound(rt: &(impl Threads + AllocGlobal + RandomSource + Sync)) -> io::Result<bool> {
+    match large_database(rt.alloc(), RandomState::new(rt)?)? {
+        Some(db) => Ok(check_all(rt, rt.alloc(), &db).is_ok()),
+        None => Ok(false),
+    }
+}
+
+/// Prints whether a check was made on more threads than one where there are processors for two: two are the one who checks and the one who
+/// watches.
+pub fn print_watched(rt: &(impl Threads + Print), most: usize, sound: bool) -> io::Result<()> {
     // Where the system doesn't say how many processors there are, there is one.
     let is_one = match available_parallelism(rt) {
         Ok(count) => count.get() == 1,

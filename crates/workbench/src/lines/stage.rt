@@ -45,6 +45,11 @@ impl<'r, R> Stage<'r, R> {
             looks: AtomicU64::new(0),
         }
     }
+
+    /// Whether its standard error is a terminal.
+    pub fn is_terminal(&self) -> bool {
+        matches!(self.mode, Mode::Terminal)
+    }
 }
 
 impl<R: AllocGlobal> Alloc for Stage<'_, R> {
