@@ -25,9 +25,9 @@ ${
 $}
 ";
 
-/// Whether a `$f` is the second one of the rule's database.
+/// Whether a `$f` is the second one of the rule's database: of the type at place 1, and the variable at place 1.
 fn is_second(float: &Float) -> bool {
-    float.label.as_slice() == b"wp".as_slice() && float.type_code == 0 && float.variable == 1
+    float.label.as_slice() == b"wp".as_slice() && float.type_code == 1 && float.variable == 1
 }
 
 /// Whether a frame has just the two `$f` and the pair that the rule needs, and its hypotheses.
