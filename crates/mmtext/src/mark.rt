@@ -1,9 +1,9 @@
 //! The words of the language.
 
-ghost use Rattle.std.specs.Prelude.{◌≡◌};
+ghost use Rattle.std.specs.Prelude.{◌≡◌, [], ◌∷◌};
 ghost use Rattle.mmtext.specs.Words.{has_dollar, is_label_byte, is_label, has_dot, is_digit, all_digits, is_count, has_number};
 ghost use Rattle.mmtext.specs.Words.{has_hypothesis_form};
-ghost use Rattle.mmtext.specs.Text.{mark_of, begins_comment_mark, has_comment_mark};
+ghost use Rattle.mmtext.specs.Text.{mark_of, dollar_mark, begins_comment_mark, has_comment_mark};
 
 /// What a token is by itself.
 #[derive(Clone, Copy, Debug, PartialEq, Eq)]
@@ -139,6 +139,30 @@ pub fn contains_comment_mark(word: &[u8]) -> bool
     false
 }
 
+/// What a `$` with one byte behind it is.
+fn mark_key(key: u8) -> Mark
+    ensures { result ≡ dollar_mark (36 ∷ key ∷ []) }
+{
+    match key {
+        b'c' => Mark::Constants,
+        b'v' => Mark::Variables,
+        b'f' => Mark::Floating,
+        b'a' => Mark::Axiom,
+        b'.' => Mark::End,
+        b'p' => Mark::Provable,
+        b'e' => Mark::Essential,
+        b'd' => Mark::Disjoint,
+        b'{' => Mark::Opening,
+        b'}' => Mark::Closing,
+        b'=' => Mark::Proof,
+        b'(' => Mark::Comment,
+        b')' => Mark::Uncomment,
+        b'[' => Mark::Include,
+        b']' => Mark::Included,
+        _ => Mark::Stray,
+    }
+}
+
 /// The mark of a token: which word of the language it is, if it has a `$`.
 #[tactic(auto, unfolding(crate::specs::Text::mark_of))]
 pub fn mark_word(word: &[u8]) -> Mark
@@ -147,50 +171,8 @@ pub fn mark_word(word: &[u8]) -> Mark
     if !contains_dollar(word) {
         return Mark::Plain;
     }
-    if word == b"$c".as_slice() {
-        return Mark::Constants;
+    match word {
+        [b'$', key] => mark_key(*key),
+        _ => Mark::Stray,
     }
-    if word == b"$v".as_slice() {
-        return Mark::Variables;
-    }
-    if word == b"$f".as_slice() {
-        return Mark::Floating;
-    }
-    if word == b"$a".as_slice() {
-        return Mark::Axiom;
-    }
-    if word == b"$.".as_slice() {
-        return Mark::End;
-    }
-    if word == b"$p".as_slice() {
-        return Mark::Provable;
-    }
-    if word == b"$e".as_slice() {
-        return Mark::Essential;
-    }
-    if word == b"$d".as_slice() {
-        return Mark::Disjoint;
-    }
-    if word == b"${".as_slice() {
-        return Mark::Opening;
-    }
-    if word == b"$}".as_slice() {
-        return Mark::Closing;
-    }
-    if word == b"$=".as_slice() {
-        return Mark::Proof;
-    }
-    if word == b"$(".as_slice() {
-        return Mark::Comment;
-    }
-    if word == b"$)".as_slice() {
-        return Mark::Uncomment;
-    }
-    if word == b"$[".as_slice() {
-        return Mark::Include;
-    }
-    if word == b"$]".as_slice() {
-        return Mark::Included;
-    }
-    Mark::Stray
 }
