@@ -19,7 +19,7 @@ use Rattle.ranges.specs.Ranges.{Has}
 use Rattle.mmframes.proofs.Mandatory.{has, halved-has, Rises-from, Rises-order}
 use Rattle.bodystore.specs.declared.stored.StoredStep.{StoredStep}
 use Rattle.bodystore.specs.declared.stored.StoredStep.TheVariants.{Float, Hyp, Slot}
-use Rattle.cells.specs.Filling.{AreCitedSlots, AreOnlyIn}
+use Rattle.cells.specs.Counts.{AreCitedSlots, AreOnlyIn}
 use Rattle.ranges.proofs.Members.{has_permutation, has_from_contains, contains_from_has, none_absent, any_has, has_filtered, filtered_has}
 
 abbrev pub cited_slot : StoredStep → Option ℕ

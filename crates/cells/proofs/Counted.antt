@@ -13,7 +13,7 @@ use Rattle.bodystore.specs.declared.stored.StoredStep.{StoredStep}
 use Rattle.cells.specs.State.{State, most_words}
 use Rattle.cells.specs.Slots.{citers_cell}
 use Rattle.cells.specs.Shows.{Held, IsEmpty, AreStoredAs, Shows}
-use Rattle.cells.specs.Filling.{AreCitedSlots, CountsIn, CountsOut}
+use Rattle.cells.specs.Counts.{AreCitedSlots, CountsIn, CountsOut}
 use Rattle.ranges.proofs.Members.{cases_has}
 use Rattle.cells.proofs.Bodies.{no_body}
 use Rattle.cells.proofs.Holding.{stored_named, stored_cites, cites_stored}

@@ -8,7 +8,7 @@ use Rattle.mmsyntax.specs.Assertions.{Distinct}
 use Rattle.ranges.specs.Ranges.{Has}
 use Rattle.cells.specs.State.{State, with_value}
 use Rattle.cells.specs.Slots.{rank_cell, citers_cell, is_ranged}
-use Rattle.cells.specs.Filling.{CountsIn, CountsOut}
+use Rattle.cells.specs.Counts.{CountsIn, CountsOut}
 use Rattle.ranges.proofs.Members.{has_append_left, has_append_right, has_append_cases, absent}
 use Rattle.cells.specs.Sight.{Sight, Looks, Writes, ReadsWithin, ReadsNothing, after}
 use Rattle.cells.proofs.Sights.{after_looks, after_writes}

@@ -10,15 +10,12 @@ pub mod DottedTails
 pub mod Clashing
 pub mod Tallies
 pub mod Linking
-pub mod Unlinking
 pub mod Values
-pub mod Walking
 pub mod Counting
 pub mod Citing
 pub mod Holding
 pub mod Staging
-pub mod Laying
-pub mod Filled
+pub mod Mapped
 pub mod Ones
 pub mod Recounting
 pub mod Storing
@@ -26,7 +23,6 @@ pub mod Found
 pub mod Showing
 pub mod Counted
 pub mod Reproving
-pub mod Renaming
 pub mod Small
 pub mod ReadBack
 pub mod Resolving

@@ -1,10 +1,10 @@
 -- The one element of a list that passes a test, and the others.
-use Rattle.std.proofs.Common.{◌≡◌, ℕ, Bool, true, false, cond, List, [], ◌∷◌, ◌++◌, map, refl, sym, ap, subst, ◌∙◌, nat_eq, inl, inr}
-use Rattle.std.specs.Prelude.{filter, IsPermutation, ◌==◌}
+use Rattle.std.proofs.Common.{◌≡◌, ℕ, Bool, true, false, cond, List, [], ◌∷◌, ◌++◌, map, refl, sym, ap, subst, ◌∙◌, inl, inr}
+use Rattle.std.specs.Prelude.{filter, IsPermutation}
 use mathlib.Core.Bool.{not}
 use Rattle.std.specs.List.{list_any}
 use Rattle.std.specs.Str.{bytes_eq}
-use Rattle.std.proofs.lemmas.Bool.{both_ways, cond-true, cond-false, false_from_ne_true, eq-eqb, eqb-true}
+use Rattle.std.proofs.lemmas.Bool.{both_ways, cond-true, cond-false, false_from_ne_true}
 use Rattle.std.proofs.lemmas.List.{map-id}
 use Rattle.std.proofs.lemmas.List.Sorted.{IsPermutation-filter_both}
 use Rattle.mmsyntax.specs.Assertions.{Distinct}
@@ -13,8 +13,6 @@ use Rattle.library.specs.declared.library.Ranked.{Ranked}
 use Rattle.library.specs.Library.{label_of}
 use Rattle.library.specs.Edits.{is_labelled, without}
 use Rattle.ranges.specs.Ranges.{Has}
-use Rattle.cells.specs.Shows.{Held, slots_of}
-use Rattle.cells.specs.Chains.{without_slot}
 use Rattle.ranges.proofs.Members.{any_has, has_mapped}
 
 -- ---- maps and filters of what stands in a list
@@ -71,13 +69,6 @@ module _ {A K : Type 0} (eq : K → K → Bool) (key : A → K) (test : A → Bo
   one_and_others xs x d h so =
       subst (λ l. IsPermutation xs (l ++ filter (λ y. not (test y)) xs)) (only_one xs x d h so)
       (IsPermutation-filter_both test (λ y. not (test y)) (λ y. refl) xs)
-
--- of assertions in slots
-pub slot_and_others : (held : List Held) (p : Held) → Distinct nat_eq (slots_of held) → Has p held
-    → IsPermutation held (p ∷ without_slot p.slot held)
-slot_and_others held p d h =
-    one_and_others nat_eq (λ (q : Held). q.slot) (λ (q : Held). q.slot == p.slot) p.slot eq-eqb (λ q so. eqb-true q.slot p.slot so)
-    held p d h (eq-eqb p.slot p.slot refl)
 
 -- of assertions with labels
 pub label_and_others : (lib : List Ranked) (label : List ℕ) (e : Ranked) → Distinct bytes_eq (map label_of lib) → Has e lib → label_of e ≡ label

@@ -16,7 +16,7 @@ use Rattle.cells.specs.State.{State, HasBody, most_words}
 use Rattle.cells.specs.Slots.{name_cell, statement_cell, proof_cell, rank_cell, citers_cell, next_cell}
 use Rattle.cells.specs.Shows.{Held, IsEmpty, HoldsProof, AreStoredAs, Shows}
 use Rattle.cells.specs.Lookups.{IsFoundAt}
-use Rattle.cells.specs.Filling.{AreCitedSlots, AreOnlyIn, CountsIn, CountsOut}
+use Rattle.cells.specs.Counts.{AreCitedSlots, AreOnlyIn, CountsIn, CountsOut}
 use Rattle.ranges.proofs.Members.{cases_has}
 use Rattle.cells.proofs.Counted.{one, listed_within, listed_full, listed_or_not, uncounted_out, uncounted_in}
 use Rattle.cells.proofs.Holding.{body_same, stored_same, holds_same, empty_same, full_slot, NamesStay}

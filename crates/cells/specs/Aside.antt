@@ -5,7 +5,7 @@ use Rattle.bodystore.specs.declared.stored.StoredStep.{StoredStep}
 use Rattle.bodystore.specs.declared.stored.StoredStep.TheVariants.{Slot}
 use Rattle.cells.specs.State.{State}
 use Rattle.cells.specs.Slots.{citers_cell, bucket_cell, next_cell, bucket}
-use Rattle.cells.specs.Sight.{Sight, WasWritten, Turns}
+use Rattle.cells.specs.Sight.{Sight, WasWritten}
 
 -- a value is kept aside for no cell but those for which one was before, and those of which this is so
 abbrev pub KeepsAside : {O : Type 0} → (ℕ → Type 0) → Sight O → Sight O → Type 0
@@ -30,11 +30,3 @@ IsOfFront slots i label c = (c ≡ bucket_cell slots (bucket slots label)) ⊎ (
 -- where a slot goes out of its chain: the cell of the bucket or of the slot before that leads to it, or its own next cell
 abbrev pub IsOfLeaving : ℕ → State → ℕ → ℕ → Type 0
 IsOfLeaving slots st i c = ((5 * slots ≤ c) × (st.value c ≡ i + 1)) ⊎ (c ≡ next_cell slots i)
-
--- so in each state that may be under the run
-abbrev pub KeepsLeaving : {O : Type 0} → ℕ → Sight O → Sight O → Type 0
-KeepsLeaving i old new = Turns old new (λ st next. KeepsAside (IsOfLeaving old.setting.slots st i) old new)
-
--- where an assertion is put into a slot: one of its five cells, one of its chain, or the citers cell of a slot that its steps cite
-abbrev pub IsOfFilling : ℕ → ℕ → List ℕ → List StoredStep → ℕ → Type 0
-IsOfFilling slots i label kept c = IsOfSlot i c ⊎ (IsOfFront slots i label c ⊎ IsCitersOfCited kept c)

@@ -6,6 +6,5 @@ pub mod Aside
 pub mod Footprints
 pub mod Lookups
 pub mod Clashing
-pub mod Chains
-pub mod Filling
+pub mod Counts
 pub mod Answers

@@ -2,7 +2,7 @@
 
 ghost use Rattle.std.specs.Prelude.{◌≡◌, ◌<◌, true, All, IfOk};
 ghost use Rattle.cells.specs.Sight.{Sight, Onward, TakesAtMost, ReadsWithin};
-ghost use Rattle.cells.specs.Filling.{AreCitedSlots, CountsAnyIn, CountsAnyOut, AreOnlyIn};
+ghost use Rattle.cells.specs.Counts.{AreCitedSlots, CountsAnyIn, CountsAnyOut, AreOnlyIn};
 ghost use Rattle.std.specs.List.Sorted.{IsStrictlyIncreasing};
 ghost use Rattle.cells.specs.Aside.{KeepsAside, IsCitersOf};
 

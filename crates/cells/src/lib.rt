@@ -3,28 +3,26 @@
 
 mod again;
 mod cells;
-mod chains;
 mod counts;
 mod ending;
-mod filling;
 mod finding;
 mod halt;
 mod places;
 mod reading;
 mod words;
+mod writing;
 
 pub use cells::Cells;
-pub use chains::{put_in, take_out};
 pub use counts::{cited_slots, count_in, count_out, only_in};
 pub use ending::{CommandError, RunError};
-pub use filling::{fill, put, put_body, vacate};
 pub use finding::{find, free_slot, has_clash};
 pub use halt::Halt;
 pub use places::{
-    bucket, bucket_cell, citers_cell, is_range_cell, name_cell, next_cell, proof_cell, rank_cell,
-    slot_count, statement_cell,
+    bucket, bucket_cell, citers_cell, is_range_cell, link, name_cell, next_cell, proof_cell,
+    rank_cell, slot_count, statement_cell,
 };
 pub use reading::{
     assertion, citers, entry, frame, is_full, kind, label, proof, rank, resolve, statement,
     stored_proof,
 };
+pub use writing::{put, put_body};

@@ -42,7 +42,7 @@ pub(crate) fn hash(word: &[u8], slots: usize) -> usize
 }
 
 /// The slot that a word of a chain leads to; none at the end of the chain.
-pub(crate) fn link(word: u64, slots: usize) -> Option<usize>
+pub fn link(word: u64, slots: usize) -> Option<usize>
     ensures { MatchOption result ((i : _) → i < slots → word ≡ i + 1 → ⊥) (λ i. (i < slots) × (word ≡ i + 1)) }
 {
     if word == 0 || word > slots as u64 {

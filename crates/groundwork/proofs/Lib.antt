@@ -1,6 +1,5 @@
 pub mod Seeing
 pub mod Refusing
-pub mod Chaining
 pub mod Restepped
 pub mod Touching
 pub mod ByteKeys

@@ -11,7 +11,7 @@ use Rattle.cells.specs.Slots.{proof_cell}
 use Rattle.cells.specs.Shows.{AreStoredAs}
 use Rattle.cells.specs.Sight.{Sight, Onward, Looks, ReadsWithin, after, Matches, Views}
 use Rattle.cells.specs.Aside.{IsCitersOf}
-use Rattle.cells.specs.Filling.{AreCitedSlots, AreOnlyIn}
+use Rattle.cells.specs.Counts.{AreCitedSlots, AreOnlyIn}
 use Rattle.cells.specs.Lookups.{ForEachHeld, IsFoundAt}
 use Rattle.cells.proofs.Asking.{asks_wider}
 use Rattle.cells.proofs.Sights.{matches_back, after_looks}

@@ -14,7 +14,7 @@ use Rattle.cells.specs.Slots.{proof_cell, citers_cell}
 use Rattle.cells.specs.Shows.{AreStoredAs, Shows}
 use Rattle.cells.specs.Sight.{Sight, Matches, Onward, Looks, after}
 use Rattle.cells.specs.Lookups.{ForEachHeld}
-use Rattle.cells.specs.Filling.{AreCitedSlots, AreOnlyIn, CountsIn, CountsOut}
+use Rattle.cells.specs.Counts.{AreCitedSlots, AreOnlyIn, CountsIn, CountsOut}
 use Rattle.cells.proofs.Sights.{matches_back, after_looks}
 use Rattle.cells.proofs.Holding.{stored_named, named_held}
 use Rattle.cells.proofs.Counted.{listed_within}

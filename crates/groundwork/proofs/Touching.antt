@@ -17,7 +17,7 @@ use Rattle.cells.specs.Slots.{proof_cell, citers_cell}
 use Rattle.cells.specs.Shows.{Held, AreStoredAs, Shows}
 use Rattle.cells.specs.Sight.{Sight, Onward, Looks, after}
 use Rattle.cells.specs.Aside.{KeepsAside, IsCitersOf, IsCitersOfCited}
-use Rattle.cells.specs.Filling.{AreCitedSlots, AreOnlyIn}
+use Rattle.cells.specs.Counts.{AreCitedSlots, AreOnlyIn}
 use Rattle.cells.specs.Lookups.{ForEachHeld}
 use Rattle.cells.proofs.Sights.{matches_back, after_looks}
 use Rattle.cells.proofs.Keeping.{keeps_same, keeps_trans, keeps_wider}

@@ -23,7 +23,7 @@ use Rattle.cells.specs.Slots.{name_cell}
 use Rattle.cells.specs.Shows.{Held, slots_of, IsEmpty, AreStoredAs, Shows}
 use Rattle.cells.specs.Sight.{Sight, WasWritten, Matches, Views, Looks, Onward, after}
 use Rattle.cells.specs.Lookups.{FindsFree, IsFirstEmpty}
-use Rattle.cells.specs.Filling.{MayFill, Fills}
+use Rattle.chains.specs.Filling.{MayFill, Fills}
 use Rattle.ranges.proofs.Members.{mapped_has, cases_has, none_absent}
 use Rattle.cells.proofs.Holding.{held_name, empty_free}
 use Rattle.cells.proofs.Found.{length_held}

@@ -13,17 +13,17 @@ use Rattle.cells.specs.Slots.{name_cell}
 use Rattle.cells.specs.Shows.{Shows}
 use Rattle.cells.specs.Sight.{Sight, Matches, Views, Onward, Looks, after}
 use Rattle.cells.specs.Lookups.{Finds}
-use Rattle.cells.specs.Chains.{without_slot}
+use Rattle.chains.specs.Chains.{without_slot}
 use Rattle.cells.proofs.Sights.{matches_back, views_back, looks_trans}
 use Rattle.cells.proofs.Found.{unfound}
-use Rattle.cells.proofs.Renaming.{still_chained, renamed_shows}
-use Rattle.cells.proofs.Unlinking.{slot_gone}
+use Rattle.chains.proofs.Renaming.{still_chained, renamed_shows}
+use Rattle.chains.proofs.Unlinking.{slot_gone}
 use Rattle.cells.specs.Answers.{WritesSome, Does, CommandAnswers}
 use Rattle.cells.specs.declared.ending.CommandError.{CommandError}
 use Rattle.cells.specs.declared.ending.CommandError.TheVariants.{Stopped, Refused, NoMemory}
 use Rattle.newlabels.specs.Changes.{RenamesAt}
 use Rattle.newlabels.specs.Naming.{PassesAsNew, TellsNotNew, label_tests}
-use Rattle.groundwork.proofs.Chaining.{TakesOut, PutsIn, taken_out, put_in_chain}
+use Rattle.chains.proofs.Chaining.{TakesOut, PutsIn, taken_out, put_in_chain}
 use Rattle.groundwork.proofs.Refusing.{first_refuses, first_passes, refused}
 use Rattle.groundwork.proofs.Seeing.{has_found, views_later, found_later}
 

@@ -9,7 +9,9 @@ use Rattle.cells.specs.State.{State}
 use Rattle.cells.specs.Slots.{name_cell, bucket}
 use Rattle.cells.specs.Shows.{AreStoredAs}
 use Rattle.cells.specs.Sight.{Sight, Views, Onward, after}
-use Rattle.cells.specs.Aside.{KeepsAside, IsOfFront, IsOfLeaving, KeepsLeaving, IsOfFilling}
+use Rattle.cells.specs.Aside.{KeepsAside, IsOfFront, IsOfLeaving}
+use Rattle.chains.specs.Chains.{KeepsLeaving}
+use Rattle.chains.specs.Filling.{IsOfFilling}
 use Rattle.cells.specs.Lookups.{ForEach, IsFoundAt, IsFirstEmpty}
 use Rattle.cells.proofs.Sights.{matches_back}
 use Rattle.cells.proofs.Keeping.{keeps_trans, keeps_wider}

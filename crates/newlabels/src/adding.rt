@@ -10,7 +10,8 @@ ghost use Rattle.groundwork.specs.Touches.{KeepsTo};
 ghost use Rattle.groundwork.specs.Footprints.{ReadsFor};
 
 use crate::naming::test_new_label;
-use cells::{Cells, CommandError, Halt, bucket, fill, free_slot, slot_count};
+use cells::{Cells, CommandError, Halt, bucket, free_slot, slot_count};
+use chains::fill;
 use groundwork::test_proof;
 use library::{Reason, Reply};
 use mmsyntax::{Assertion, Kind, Prelude};

@@ -13,7 +13,8 @@ ghost use Rattle.groundwork.specs.Footprints.{ReadsFor, ReadsForFound};
 
 use crate::naming::test_new_label;
 use bodystore::encode_label;
-use cells::{Cells, CommandError, Halt, find, name_cell, put_body, put_in, slot_count, take_out};
+use cells::{Cells, CommandError, Halt, find, name_cell, put_body, slot_count};
+use chains::{put_in, take_out};
 use library::{Reason, Reply};
 use mmsyntax::{Label, Prelude};
 use std::alloc::Global;

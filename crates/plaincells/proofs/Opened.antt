@@ -21,7 +21,7 @@ use Rattle.cells.specs.State.{State, with_writes}
 use Rattle.cells.specs.Shows.{Held, slots_of, IsNamed, IsStoredAs, AreStoredAs, IsEmpty, Shows, ShowsHeld}
 use Rattle.cells.specs.Sight.{Sight, Matches, Views, Onward, Looks, after}
 use Rattle.cells.specs.Lookups.{Resolves}
-use Rattle.cells.specs.Filling.{MayFill, Fills, IsFillable}
+use Rattle.chains.specs.Filling.{MayFill, Fills, IsFillable}
 use Rattle.plaincells.specs.Plain.{undone, ShowsSome}
 pub use Rattle.plaincells.specs.PlainViews.{setting_of, sight_of, now_state, first_state}
 use Rattle.plaincells.specs.Opening.{Opens, front, held_from}

@@ -7,7 +7,8 @@ ghost use Rattle.bodystore.specs.Bodies.{expressions_words};
 ghost use Rattle.plaincells.specs.Opening.{Opens, front, Refuses};
 
 use crate::plain::PlainCells;
-use cells::{fill, resolve};
+use cells::resolve;
+use chains::fill;
 use mmsyntax::{Assertion, Database, Expr};
 use std::alloc::{AllocError, Global};
 use thiserror::Error;

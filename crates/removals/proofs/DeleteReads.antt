@@ -11,7 +11,7 @@ use Rattle.cells.specs.Slots.{proof_cell}
 use Rattle.cells.specs.Shows.{AreStoredAs}
 use Rattle.cells.specs.Sight.{Sight, Matches, Views, Onward, Looks, ReadsWithin, after}
 use Rattle.cells.specs.Aside.{IsOfSlot, IsCitersOf}
-use Rattle.cells.specs.Filling.{AreCitedSlots}
+use Rattle.cells.specs.Counts.{AreCitedSlots}
 use Rattle.cells.specs.Footprints.{ReadsWhere, IsOfTakingOut}
 use Rattle.cells.specs.Lookups.{ForEachHeld, IsFoundAt}
 use Rattle.cells.proofs.Asking.{asks_wider}

@@ -15,12 +15,13 @@ use Rattle.cells.specs.State.{State}
 use Rattle.cells.specs.Shows.{AreStoredAs, Shows}
 use Rattle.cells.specs.Sight.{Sight, Onward, Looks, after}
 use Rattle.cells.specs.Lookups.{ForEach, ForEachHeld, Finds}
-use Rattle.cells.specs.Filling.{AreCitedSlots, Empties}
+use Rattle.cells.specs.Counts.{AreCitedSlots}
+use Rattle.chains.specs.Filling.{Empties}
 use Rattle.cells.specs.Answers.{WritesSome, Does}
 use Rattle.cells.proofs.Sights.{matches_back, views_back}
 use Rattle.cells.proofs.Counted.{listed_within}
 use Rattle.removals.proofs.WithoutSlot.{still_chained, deleted_shows}
-use Rattle.groundwork.proofs.Chaining.{TakesOut, taken_out}
+use Rattle.chains.proofs.Chaining.{TakesOut, taken_out}
 use Rattle.groundwork.proofs.Seeing.{views_later, found_later}
 use Rattle.groundwork.proofs.Refusing.{first_refuses, first_passes, of_some}
 use Rattle.groundwork.proofs.Restepped.{CountsOutOf}

@@ -9,8 +9,9 @@ use Rattle.bodystore.specs.declared.stored.StoredStep.{StoredStep}
 use Rattle.cells.specs.State.{State}
 use Rattle.cells.specs.Shows.{AreStoredAs}
 use Rattle.cells.specs.Sight.{Sight, Matches, Onward, Looks, after}
-use Rattle.cells.specs.Aside.{KeepsAside, IsOfSlot, IsCitersOf, IsOfLeaving, KeepsLeaving}
-use Rattle.cells.specs.Filling.{AreCitedSlots}
+use Rattle.cells.specs.Aside.{KeepsAside, IsOfSlot, IsCitersOf, IsOfLeaving}
+use Rattle.chains.specs.Chains.{KeepsLeaving}
+use Rattle.cells.specs.Counts.{AreCitedSlots}
 use Rattle.cells.specs.Lookups.{ForEach, ForEachHeld, IsFoundAt}
 use Rattle.cells.proofs.Sights.{matches_back, after_looks}
 use Rattle.cells.proofs.Keeping.{keeps_same, keeps_trans, keeps_wider}

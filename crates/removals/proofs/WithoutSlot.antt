@@ -20,8 +20,8 @@ use Rattle.cells.specs.State.{State, HasBody, most_words}
 use Rattle.cells.specs.Slots.{name_cell, statement_cell, proof_cell, rank_cell, citers_cell, next_cell}
 use Rattle.cells.specs.Shows.{Held, slots_of, IsNamed, IsEmpty, HoldsProof, AreStoredAs, AreChained, Holds, Shows}
 use Rattle.cells.specs.Lookups.{IsFoundAt}
-use Rattle.cells.specs.Chains.{Rechains, without_slot}
-use Rattle.cells.specs.Filling.{AreCitedSlots, CountsOut}
+use Rattle.chains.specs.Chains.{Rechains, without_slot}
+use Rattle.cells.specs.Counts.{AreCitedSlots, CountsOut}
 use Rattle.cells.proofs.Bodies.{one_body}
 use Rattle.cells.proofs.Counted.{listed_within, listed_full, counted_out, uncounted_out}
 use Rattle.cells.proofs.Found.{held_holds, found_held, found_label, found_has, slot_or_label}
@@ -32,7 +32,7 @@ use Rattle.cells.proofs.Recounting.{citers-without}
 use Rattle.cells.proofs.Showing.{chains_stay}
 use Rattle.cells.proofs.Storing.{proof_relabelled, relabelled_none}
 use Rattle.cells.proofs.Tallies.{distinct_filtered}
-use Rattle.cells.proofs.Unlinking.{slot_gone, slot_stays, slot_was}
+use Rattle.chains.proofs.Unlinking.{slot_gone, slot_stays, slot_was}
 
 -- what the assertion in the slot cites is counted out
 module _ (slots : ℕ) (st less : State) (lib : List Ranked) (shows : Shows slots st lib) (store : AreOfOneStore most_words st.ranges)

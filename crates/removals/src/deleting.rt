@@ -10,9 +10,8 @@ ghost use Rattle.groundwork.specs.Touches.{KeepsTo};
 ghost use Rattle.removals.specs.Changes.{DeletesWithin};
 ghost use Rattle.groundwork.specs.Footprints.{ReadsFor, ReadsForFound};
 
-use cells::{
-    Cells, CommandError, Halt, cited_slots, citers, count_out, find, stored_proof, take_out, vacate,
-};
+use cells::{Cells, CommandError, Halt, cited_slots, citers, count_out, find, stored_proof};
+use chains::{take_out, vacate};
 use library::{Reason, Reply};
 use mmsyntax::Label;
 use std::alloc::Global;

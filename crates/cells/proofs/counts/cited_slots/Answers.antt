@@ -5,7 +5,7 @@ use Rattle.std.specs.List.{filter_map}
 use Rattle.std.specs.Prelude.{IsPermutation}
 use Rattle.std.proofs.Common.{ap, Vec, Global, ◌++◌, ◌∷◌, []}
 use Rattle.bodystore.specs.declared.stored.StoredStep.TheVariants.{Float}
-use Rattle.cells.specs.Filling.{AreCitedSlots}
+use Rattle.cells.specs.Counts.{AreCitedSlots}
 use Rattle.cells.proofs.Citing.{cited_slot, cited_one, cited_none, are_cited}
 use Rattle.cells.proofs.counts.cited_slots.Goals.{in-Slot+in_ok-push, in_default}
 use Rattle.cells.proofs.counts.cited_slots.Goals as goal

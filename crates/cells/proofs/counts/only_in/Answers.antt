@@ -3,7 +3,7 @@ use Rattle.std.specs.Prelude.{filter}
 use Rattle.std.proofs.lemmas.List.{take_all}
 use mathlib.Core.Bool.{not}
 use Rattle.mmframes.proofs.Mandatory.{has}
-use Rattle.cells.specs.Filling.{AreOnlyIn}
+use Rattle.cells.specs.Counts.{AreOnlyIn}
 use Rattle.cells.proofs.Citing.{is_outside, found_among, outside_one, outside_none, are_only_in}
 use Rattle.cells.proofs.counts.only_in.Goals as goal
 use Rattle.cells.proofs.counts.only_in.Goals.{then-is_err+in_ok-push, else-is_err}

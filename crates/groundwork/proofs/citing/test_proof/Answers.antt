@@ -10,7 +10,7 @@ use Rattle.cells.specs.Sight.{Sight}
 use Rattle.cells.specs.Lookups.{Resolves}
 use Rattle.cells.proofs.Sights.{looks_trans}
 use Rattle.cells.proofs.Settings.{same_slots}
-use Rattle.cells.proofs.Laying.{ok_mapped}
+use Rattle.cells.proofs.Mapped.{ok_mapped}
 use Rattle.groundwork.specs.Citing.{TellsNotBelow, TellsFault, TellsRefusal, frames_in}
 use Rattle.groundwork.proofs.ProofTests.{fails_unknown, fails_below, fails_fault, passes, sifted}
 use Rattle.cells.specs.Slots.{statement_cell, rank_cell}

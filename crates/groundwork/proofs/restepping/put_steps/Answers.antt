@@ -5,10 +5,10 @@ use Rattle.bodystore.specs.declared.stored.StoredStep.{StoredStep}
 use Rattle.cells.specs.State.{State, HasBody}
 use Rattle.cells.specs.Slots.{proof_cell}
 use Rattle.cells.specs.Sight.{Matches, after}
-use Rattle.cells.specs.Filling.{AreCitedSlots, AreOnlyIn}
+use Rattle.cells.specs.Counts.{AreCitedSlots, AreOnlyIn}
 use Rattle.cells.specs.Aside.{KeepsAside, IsCitersOf}
 use Rattle.cells.proofs.Sights.{onward_trans}
-use Rattle.cells.proofs.Laying.{if_mapped, ok_mapped}
+use Rattle.cells.proofs.Mapped.{if_mapped, ok_mapped}
 use Rattle.ranges.proofs.Members.{all_from_has}
 use Rattle.cells.specs.Answers.{WritesSome}
 use Rattle.groundwork.specs.Changes.{ReprovesAt}

@@ -6,7 +6,7 @@ use Rattle.cells.specs.Slots.{rank_cell, citers_cell}
 use Rattle.cells.specs.Sight.{Matches, Reads, ReadsWithin, after}
 use Rattle.cells.specs.Lookups.{ForEachHeld}
 use Rattle.cells.proofs.Bodies.{value_later}
-use Rattle.cells.proofs.Laying.{ok_mapped}
+use Rattle.cells.proofs.Mapped.{ok_mapped}
 use Rattle.cells.proofs.ReadBack.{held_later}
 use Rattle.cells.proofs.Settings.{same_slots}
 use Rattle.cells.proofs.Sights.{looks_trans}

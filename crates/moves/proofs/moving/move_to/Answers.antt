@@ -9,7 +9,7 @@ use Rattle.cells.specs.Slots.{proof_cell}
 use Rattle.cells.specs.Sight.{WasWritten, ReadsWithin, after}
 use Rattle.cells.specs.Footprints.{ReadsWhere, IsOfLook}
 use Rattle.cells.specs.Lookups.{Finds, ForEachHeld}
-use Rattle.cells.proofs.Laying.{ok_mapped}
+use Rattle.cells.proofs.Mapped.{ok_mapped}
 use Rattle.cells.proofs.Sights.{onward_trans, looks_trans}
 use Rattle.cells.specs.Aside.{KeepsAside}
 use Rattle.groundwork.specs.Citing.{TellsNotBelow}

@@ -7,16 +7,17 @@ use Rattle.bodystore.specs.declared.stored.StoredStep.{StoredStep}
 use Rattle.bodystore.specs.Bodies.{proof_body}
 use Rattle.cells.specs.Sight.{Sight}
 use Rattle.cells.specs.Lookups.{FindsFree}
-use Rattle.cells.specs.Filling.{IsFillable}
+use Rattle.chains.specs.Filling.{IsFillable}
 use Rattle.cells.proofs.Sights.{onward_trans, looks_trans}
 use Rattle.bodystore.specs.declared.stored.StoredStep.{StoredStep}
 use Rattle.cells.specs.Slots.{bucket}
-use Rattle.cells.specs.Aside.{KeepsAside, IsOfFilling}
+use Rattle.cells.specs.Aside.{KeepsAside}
+use Rattle.chains.specs.Filling.{IsOfFilling}
 use Rattle.groundwork.proofs.ProofTests.{stored_on}
 use Rattle.groundwork.proofs.Touching.{keeps_to_since}
 use Rattle.newlabels.proofs.Touching.{add_touches, add_keeps}
 use Rattle.cells.proofs.Settings.{same_slots}
-use Rattle.cells.proofs.Laying.{ok_mapped}
+use Rattle.cells.proofs.Mapped.{ok_mapped}
 use Rattle.cells.specs.Answers.{CommandAnswers}
 use Rattle.newlabels.specs.Naming.{PassesAsNew, TellsNotNew}
 use Rattle.groundwork.proofs.Refusing.{answers_refused}

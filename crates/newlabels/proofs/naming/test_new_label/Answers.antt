@@ -1,7 +1,7 @@
 use Rattle.std.proofs.Common.{sym, subst, ◌∙◌}
 use Rattle.cells.specs.Lookups.{TellsClash}
 use Rattle.cells.proofs.Sights.{looks_trans, views_back}
-use Rattle.cells.proofs.Laying.{ok_mapped}
+use Rattle.cells.proofs.Mapped.{ok_mapped}
 use Rattle.newlabels.specs.Naming.{TellsNotNew}
 use Rattle.groundwork.proofs.Seeing.{found_or_free}
 use Rattle.newlabels.proofs.NewLabels.{lawful_later, taken_refuses, clash_refuses, new_passes}

@@ -9,7 +9,7 @@ use Rattle.cells.specs.Aside.{KeepsAside, IsOfFront}
 use Rattle.newlabels.specs.Changes.{RenamesAt}
 use Rattle.newlabels.specs.Changes.{RenamesWithin}
 use Rattle.newlabels.proofs.Touching.{relabels_within}
-use Rattle.groundwork.proofs.Chaining.{TakesOut, PutsIn}
+use Rattle.chains.proofs.Chaining.{TakesOut, PutsIn}
 use Rattle.newlabels.proofs.Results.{if_ok_always}
 use Rattle.newlabels.proofs.Relabelling.{relabelled}
 use Rattle.library.specs.declared.command.Command.TheVariants.{Rename}

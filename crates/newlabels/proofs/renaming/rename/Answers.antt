@@ -8,7 +8,7 @@ use Rattle.cells.proofs.Sights.{onward_trans, looks_trans}
 use Rattle.groundwork.proofs.OnlyLooks.{finds_later}
 use Rattle.groundwork.proofs.Touching.{keeps_to_since}
 use Rattle.newlabels.proofs.Touching.{rename_keeps}
-use Rattle.cells.proofs.Laying.{ok_mapped}
+use Rattle.cells.proofs.Mapped.{ok_mapped}
 use Rattle.cells.specs.Answers.{CommandAnswers}
 use Rattle.newlabels.specs.Naming.{PassesAsNew, TellsNotNew}
 use Rattle.groundwork.proofs.Refusing.{refused, answers_refused}

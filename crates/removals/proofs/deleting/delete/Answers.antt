@@ -3,7 +3,7 @@ use Rattle.library.specs.declared.command.Command.TheVariants as command
 use Rattle.library.specs.declared.reason.Reason.TheVariants as reason
 use Rattle.cells.specs.Lookups.{Finds}
 use Rattle.cells.proofs.Sights.{onward_trans, looks_trans}
-use Rattle.cells.proofs.Laying.{ok_mapped}
+use Rattle.cells.proofs.Mapped.{ok_mapped}
 use Rattle.groundwork.proofs.OnlyLooks.{finds_later}
 use Rattle.groundwork.proofs.Touching.{keeps_to_since}
 use Rattle.removals.proofs.Touching.{delete_keeps}

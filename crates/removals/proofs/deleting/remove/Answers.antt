@@ -1,12 +1,12 @@
 use Rattle.std.proofs.Common.{List, ℕ, sym, subst}
 use Rattle.bodystore.specs.declared.stored.StoredStep.{StoredStep}
-use Rattle.cells.specs.Filling.{AreCitedSlots}
+use Rattle.cells.specs.Counts.{AreCitedSlots}
 use Rattle.cells.proofs.Sights.{onward_trans}
-use Rattle.cells.proofs.Laying.{if_mapped, ok_mapped}
+use Rattle.cells.proofs.Mapped.{if_mapped, ok_mapped}
 use Rattle.removals.specs.Changes.{DeletesAt}
 use Rattle.removals.specs.Changes.{DeletesWithin}
 use Rattle.removals.proofs.Touching.{removes_within}
-use Rattle.groundwork.proofs.Chaining.{TakesOut}
+use Rattle.chains.proofs.Chaining.{TakesOut}
 use Rattle.removals.proofs.Removing.{removed}
 use Rattle.cells.specs.Footprints.{ReadsWhere, IsOfTakingOut}
 use Rattle.library.specs.declared.command.Command.TheVariants.{Delete}

@@ -7,7 +7,7 @@ use Rattle.library.specs.declared.reason.Reason.TheVariants.{UnknownLabel, NotAT
 use Rattle.bodystore.specs.declared.stored.StoredStep.{StoredStep}
 use Rattle.bodystore.specs.Bodies.{proof_body}
 use Rattle.cells.specs.Lookups.{AreWithin}
-use Rattle.cells.proofs.Laying.{ok_mapped}
+use Rattle.cells.proofs.Mapped.{ok_mapped}
 use Rattle.cells.proofs.Sights.{looks_trans, onward_trans}
 use Rattle.groundwork.specs.Changes.{ReprovesAt}
 use Rattle.groundwork.specs.Touches.{ReprovesWithin}

@@ -1,6 +1,6 @@
 use Rattle.std.proofs.Common.{ℕ, List, None, refl, sym, subst}
 use Rattle.cells.specs.Lookups.{Finds}
-use Rattle.cells.proofs.Laying.{ok_mapped}
+use Rattle.cells.proofs.Mapped.{ok_mapped}
 use Rattle.replacements.specs.Replacing.{TellsUnknown}
 use Rattle.cells.specs.Footprints.{ReadsWhere, IsOfLook}
 use Rattle.replacements.proofs.replacing.slot_of.Goals as goal

@@ -6,7 +6,7 @@ use Rattle.bodystore.specs.declared.stored.StoredStep.{StoredStep}
 use Rattle.bodystore.specs.Bodies.{statement_of, proof_body}
 use Rattle.cells.specs.Lookups.{Finds, AreWithin}
 use Rattle.cells.proofs.Sights.{onward_trans, looks_trans}
-use Rattle.cells.proofs.Laying.{ok_mapped}
+use Rattle.cells.proofs.Mapped.{ok_mapped}
 use Rattle.cells.proofs.ReadBack.{held_later}
 use Rattle.cells.specs.Lookups.{ForEach}
 use Rattle.cells.specs.Shows.{AreStoredAs}

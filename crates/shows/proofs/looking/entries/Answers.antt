@@ -3,7 +3,7 @@ use Rattle.std.specs.Prelude.{IsPermutation}
 use Rattle.std.proofs.lemmas.List.{map-id}
 use Rattle.library.specs.declared.library.Ranked.{Ranked}
 use Rattle.cells.specs.Lookups.{IfFull}
-use Rattle.cells.proofs.Laying.{ok_mapped}
+use Rattle.cells.proofs.Mapped.{ok_mapped}
 use Rattle.cells.proofs.Settings.{same_slots}
 use Rattle.cells.proofs.Sights.{looks_refl, looks_trans}
 use Rattle.shows.proofs.Below.{itself, told_none, one_empty, one_full, whole_told}

@@ -1,7 +1,7 @@
 use Rattle.std.proofs.Common.{◌≡◌, ◌<◌, ◌++◌, [], ◌∷◌, true, false, sym, subst, arith}
 use Rattle.library.specs.Edits.{line}
 use Rattle.cells.specs.Lookups.{IfFull}
-use Rattle.cells.proofs.Laying.{ok_mapped}
+use Rattle.cells.proofs.Mapped.{ok_mapped}
 use Rattle.cells.proofs.Settings.{same_slots}
 use Rattle.cells.proofs.Sights.{looks_refl, looks_trans}
 use Rattle.shows.proofs.Below.{told_none, one_empty, one_full, whole_told}

@@ -3,7 +3,7 @@ use Rattle.mmsyntax.specs.declared.statement.Kind.{Kind}
 use Rattle.library.specs.Library.{label_of}
 use Rattle.library.specs.Edits.{citers}
 use Rattle.cells.specs.Lookups.{ForEachHeld}
-use Rattle.cells.proofs.Laying.{ok_mapped}
+use Rattle.cells.proofs.Mapped.{ok_mapped}
 use Rattle.cells.proofs.ReadBack.{held_later}
 use Rattle.cells.proofs.Sights.{looks_trans}
 use Rattle.cells.specs.Slots.{name_cell}

@@ -6,7 +6,7 @@ use Rattle.library.specs.Library.{label_of}
 use Rattle.library.specs.Edits.{citers, shown}
 use Rattle.library.proofs.Places.{found_in}
 use Rattle.cells.specs.Lookups.{ForEachHeld, Finds}
-use Rattle.cells.proofs.Laying.{ok_mapped}
+use Rattle.cells.proofs.Mapped.{ok_mapped}
 use Rattle.cells.proofs.ReadBack.{held_later}
 use Rattle.cells.proofs.Sights.{looks_trans}
 use Rattle.groundwork.proofs.OnlyLooks.{finds_later, does_reading}
