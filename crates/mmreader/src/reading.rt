@@ -93,7 +93,8 @@ fn advance<'a>(
 {
     recent.keep_at(place);
     let here = mem::replace(place, Place::Unit(UnitPlace::AtClose));
-    *place = next_place(alloc, symbols, units, here, token, mark)?;
+    let next = next_place(alloc, symbols, units, here, token, mark)?;
+    drop(mem::replace(place, next));
     Ok(())
 }
 
@@ -102,7 +103,14 @@ fn into_said(reader: DatabaseReader<'_>) -> (SymbolTable, Vec<Assertion>)
     ensures symbols { result.0 ≡ reader.entry.symbols }
     ensures assertions { result.1.items ≡ reader.entry.units.assertions }
 {
-    let DatabaseReader { symbols, units, .. } = reader;
+    let DatabaseReader {
+        symbols,
+        units,
+        recent,
+        place,
+    } = reader;
+    drop(recent);
+    drop(place);
     (symbols, units.into_assertions())
 }
 
@@ -155,7 +163,11 @@ impl<'a> Reader<'a> for DatabaseReader<'a> {
     fn finish(self) -> Option<(SymbolTable, Vec<Assertion>)> {
         let is_whole = is_outermost(&self.place);
         let said = into_said(self);
-        if is_whole { Some(said) } else { None }
+        if is_whole {
+            return Some(said);
+        }
+        drop(said);
+        None
     }
 }
 

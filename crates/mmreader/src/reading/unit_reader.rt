@@ -30,7 +30,9 @@ pub struct UnitReader<'a> {
 // Proved here once: a derived drop is proved again in each crate that drops such a value.
 impl<'a> Drop for UnitReader<'a> {
     fn drop(self) {
-        let UnitReader { units: _, place: _ } = self;
+        let UnitReader { units, place } = self;
+        drop(units);
+        drop(place);
     }
 }
 
@@ -61,6 +63,7 @@ fn progress<'a>(units: Units, place: Place<'a>) -> UnitProgress<'a>
     ensures { (t : Tables) → IsProgress t result (seen_position t units place.entry) }
 {
     if is_behind_unit(&units, &place) {
+        drop(place);
         return match units.into_first() {
             Some(assertion) => UnitProgress::Whole(assertion),
             None => unreachable!(),
@@ -98,8 +101,13 @@ impl<'a> UnitReader<'a> {
     {
         let UnitReader { mut units, place } = self;
         let mark = mark_word(token.text);
-        let place = next_unit_place(alloc, prelude.symbols(), &mut units, place, token, mark)?;
-        Ok(progress(units, place))
+        match next_unit_place(alloc, prelude.symbols(), &mut units, place, token, mark) {
+            Ok(place) => Ok(progress(units, place)),
+            Err(stop) => {
+                drop(units);
+                Err(stop)
+            }
+        }
     }
 
     /// Takes a word without `$`, which stands outside of comments, if that is a symbol of an expression or a step of a proof: those grow

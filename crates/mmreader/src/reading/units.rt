@@ -44,6 +44,7 @@ fn place_by_row<'a>(
     ensures { Leads symbols.now units.new result (unit_row (seen_position symbols.now units.old place.entry) (seen token.entry)) }
 {
     if is_behind_unit(units, &place) {
+        drop(place);
         return Err(fault_at(token, FaultKind::BadToken));
     }
     match place {
@@ -85,7 +86,8 @@ fn advance<'a>(
     ensures ready { OnOk result (IsReadyUnit place.new units.new) }
 {
     let here = mem::replace(place, Place::Unit(UnitPlace::AtClose));
-    *place = next_place(alloc, symbols, units, here, token, mark)?;
+    let next = next_place(alloc, symbols, units, here, token, mark)?;
+    drop(mem::replace(place, next));
     Ok(())
 }
 
@@ -93,7 +95,12 @@ fn advance<'a>(
 fn into_said(reader: AssertionReader<'_>) -> Option<Assertion>
     ensures { result ≡ first_of reader.entry.units.assertions }
 {
-    let AssertionReader { units, .. } = reader;
+    let AssertionReader {
+        symbols: _,
+        units,
+        place,
+    } = reader;
+    drop(place);
     units.into_first()
 }
 
@@ -138,7 +145,11 @@ impl<'a> Reader<'a> for AssertionReader<'a> {
     fn finish(self) -> Option<Assertion> {
         let is_whole = is_outermost(&self.place);
         let said = into_said(self);
-        if is_whole { said } else { None }
+        if is_whole {
+            return said;
+        }
+        drop(said);
+        None
     }
 }
 
