@@ -1,6 +1,7 @@
 //! The command lines that the program takes.
 
 ghost use Rattle.std.specs.Prelude.{IfOk};
+ghost use Rattle.clap.specs.Words.{App, Rule, with_rule, with_subcommand};
 ghost use Rattle.commandline.specs.CommandLine.{IsArgument, IsLine, database_rule, workers_rule, room_rule, history_rule, scripts_rule, replayed_rule};
 ghost use Rattle.commandline.specs.CommandLine.{for_rule, from_rule, to_rule, source_rule};
 ghost use Rattle.commandline.specs.CommandLine.{check_app, run_app, replay_app, take_app, program_app};
@@ -132,6 +133,42 @@ fn source<'a>(alloc: Global) -> Arg<'a>
         .action(ArgAction::Set)
 }
 
+/// A command line with one argument more, unless memory ran out before.
+fn with_argument<'a>(
+    line: Result<Command<'a>, AllocError>,
+    argument: Arg<'a>,
+) -> Result<Command<'a>, AllocError>
+    ensures { (app : App) (rule : Rule) → IfOk line.entry (IsLine app) → IsArgument rule argument.entry → IfOk result (IsLine (with_rule app rule)) }
+{
+    match line {
+        Ok(line) => line.arg(argument),
+        Err(error) => {
+            drop(argument);
+            Err(error)
+        }
+    }
+}
+
+/// A command line with one subcommand more, unless memory ran out before.
+fn with_line<'a>(
+    line: Result<Command<'a>, AllocError>,
+    below: Result<Command<'a>, AllocError>,
+) -> Result<Command<'a>, AllocError>
+    ensures { (app sub : App) → IfOk line.entry (IsLine app) → IfOk below.entry (IsLine sub) → IfOk result (IsLine (with_subcommand app sub.top)) }
+{
+    match (line, below) {
+        (Ok(line), Ok(below)) => line.subcommand(below),
+        (Ok(line), Err(error)) => {
+            drop(line);
+            Err(error)
+        }
+        (Err(error), below) => {
+            drop(below);
+            Err(error)
+        }
+    }
+}
+
 /// `mmrefactor check DB`.
 fn check_line<'a>(alloc: Global) -> Result<Command<'a>, AllocError>
     ensures { IfOk result (IsLine check_app) }
@@ -145,13 +182,13 @@ fn check_line<'a>(alloc: Global) -> Result<Command<'a>, AllocError>
 fn run_line<'a>(alloc: Global) -> Result<Command<'a>, AllocError>
     ensures { IfOk result (IsLine run_app) }
 {
-    Command::new(alloc, "run")
+    let line = Command::new(alloc, "run")
         .about("Runs edit scripts over a database; prints their replies and the resulting database")
-        .arg(workers(alloc))?
-        .arg(room(alloc))?
-        .arg(history(alloc))?
-        .arg(database(alloc))?
-        .arg(scripts(alloc))
+        .arg(workers(alloc));
+    let line = with_argument(line, room(alloc));
+    let line = with_argument(line, history(alloc));
+    let line = with_argument(line, database(alloc));
+    with_argument(line, scripts(alloc))
 }
 
 /// `mmrefactor replay DB HISTORY`.
@@ -168,13 +205,13 @@ fn replay_line<'a>(alloc: Global) -> Result<Command<'a>, AllocError>
 fn take_line<'a>(alloc: Global) -> Result<Command<'a>, AllocError>
     ensures { IfOk result (IsLine take_app) }
 {
-    Command::new(alloc, "take")
+    let line = Command::new(alloc, "take")
         .about("Takes a library from a database in the whole language; prints it")
         .after_help("Example: mmrefactor take --for sqrt2irr set.mm > sqrt2irr.mm")
-        .arg(asked(alloc))?
-        .arg(first(alloc))?
-        .arg(last(alloc))?
-        .arg(source(alloc))
+        .arg(asked(alloc));
+    let line = with_argument(line, first(alloc));
+    let line = with_argument(line, last(alloc));
+    with_argument(line, source(alloc))
 }
 
 /// The command lines that the program takes: `mmrefactor check DB`, `mmrefactor run [--workers N] [--room W] [--history FILE] DB SCRIPT..`,
@@ -188,13 +225,13 @@ fn take_line<'a>(alloc: Global) -> Result<Command<'a>, AllocError>
 pub fn command_line<'a>(alloc: Global) -> Result<Command<'a>, AllocError>
     ensures { IfOk result (IsLine program_app) }
 {
-    Command::new(alloc, "mmrefactor")
+    let line = Command::new(alloc, "mmrefactor")
         .version("0.1.0")
         .about("Refactors libraries of Metamath theorems")
         .subcommand_required(true)
-        .arg_required_else_help(true)
-        .subcommand(check_line(alloc)?)?
-        .subcommand(run_line(alloc)?)?
-        .subcommand(replay_line(alloc)?)?
-        .subcommand(take_line(alloc)?)
+        .arg_required_else_help(true);
+    let line = with_line(Ok(line), check_line(alloc));
+    let line = with_line(line, run_line(alloc));
+    let line = with_line(line, replay_line(alloc));
+    with_line(line, take_line(alloc))
 }

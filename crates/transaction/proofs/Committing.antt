@@ -2,7 +2,7 @@
 use Rattle.std.proofs.Common.{◌≡◌, ℕ, suc, ◌+◌, ◌<◌, ◌≤◌, inl, inr, Bool, true, false, if◌then◌else◌, List, [], ◌∷◌, ◌++◌, length, Option, Some, None}
 use Rattle.std.proofs.Common.{refl, sym, ap, subst, ◌∙◌, arith}
 use Rattle.std.specs.declared.snapshot.Snapshot.{Snapshot}
-use Rattle.std.specs.Prelude.{◌^◌, MatchOption, IsSomeAnd}
+use Rattle.std.specs.Prelude.{◌^◌, MatchOption}
 use Rattle.library.specs.declared.command.Command.{Command}
 use Rattle.library.specs.declared.command.Reply.{Reply}
 use Rattle.library.specs.declared.reason.Refused.{Refused as Refusal}
@@ -368,13 +368,11 @@ module _ (l : Lending) (stage : Staged) (over : Option Conflict) (lent : IsLent 
     pub used : o ≡ NumbersUsed → Tries cs l.began k outcome.NumbersUsed None
     used is = used_by is l.going.over refl
 
--- the record of each number is made by code
-pub void_mapped : (drawn : Option ℕ) (r : Option Record) (Made : ℕ → Record → Type 0)
-    → MatchOption drawn (r ≡ None) (λ number. IsSomeAnd r (Made number))
-    → ((number : ℕ) (x : Record) → Made number x → x ≡ void_record number) → r ≡ void_records drawn
-void_mapped None r Made cases made = cases
-void_mapped (Some number) None Made cases made = absurd cases
-void_mapped (Some number) (Some x) Made cases made = ap Some (made number x cases)
+-- the code's record of a number that was drawn is the void one
+pub void_mapped : (drawn : Option ℕ) (r : Option Record)
+    → MatchOption drawn (r ≡ None) (λ number. r ≡ Some (void_record number)) → r ≡ void_records drawn
+void_mapped None r is = is
+void_mapped (Some number) r is = is
 
 -- what was kept aside is thrown away
 pub forgotten_lawful : (old new : Lending) → IsForgotten old new → (n : Note) → IsLawfulWith old [] n

@@ -1,6 +1,6 @@
 //! Tries transactions.
 
-ghost use Rattle.std.specs.Prelude.{◌≡◌, ◌≢◌, ◌<◌, [], true, false, is_some, All, IfOk, vec_len, vec_capacity};
+ghost use Rattle.std.specs.Prelude.{◌≡◌, ◌≢◌, ◌<◌, [], Some, None, true, false, is_some, All, IfOk, MatchOption, vec_len, vec_capacity};
 ghost use Rattle.library.specs.Fitting.{CommandFits};
 ghost use Rattle.library.specs.Transactions.{has_edit};
 ghost use Rattle.cells.specs.Answers.{has_staging};
@@ -116,6 +116,16 @@ fn copy_done(
     Ok((commands, replies))
 }
 
+/// The record of a number that a conflict left void, if one was drawn.
+fn void_record(drawn: Option<u64>) -> Option<Record>
+    ensures { MatchOption drawn (result ≡ None) (λ number. result ≡ Some (record { number = number; done = None })) }
+{
+    match drawn {
+        Some(number) => Some(Record { number, done: None }),
+        None => None,
+    }
+}
+
 /// Commits a run whose commands are done, of which one is an edit.
 fn commit(alloc: Global, live: Live<'_>, commands: &Transaction, replies: Sequence<Reply>) -> Tried
     requires stages { live.run.may_stage ≡ has_staging commands.now }
@@ -138,6 +148,7 @@ fn commit(alloc: Global, live: Live<'_>, commands: &Transaction, replies: Sequen
         replies: Snapshot::of(&replies),
     };
     let (kit, ended) = live.end(&note);
+    drop(note);
     let (outcome, drawn) = match ended {
         tlwords::Outcome::Committed(number) => (
             Outcome::Committed { number, replies },
@@ -148,7 +159,7 @@ fn commit(alloc: Global, live: Live<'_>, commands: &Transaction, replies: Sequen
         ),
         tlwords::Outcome::Conflict { conflict, drawn } => (
             Outcome::Conflict(met(place, conflict)),
-            drawn.map(|number| Record { number, done: None }),
+            void_record(drawn),
         ),
         tlwords::Outcome::NumbersUsed => (Outcome::NumbersUsed, None),
         tlwords::Outcome::Read(_) => unreachable!(),
@@ -176,6 +187,7 @@ fn answer(live: Live<'_>, commands: &Transaction, replies: Sequence<Reply>) -> T
         replies: Snapshot::of(&replies),
     };
     let (kit, ended) = live.end(&note);
+    drop(note);
     let outcome = match ended {
         tlwords::Outcome::Read(place) => Outcome::Read { place, replies },
         tlwords::Outcome::Conflict { conflict, drawn: _ } => {
@@ -206,6 +218,7 @@ fn refuse(mut live: Live<'_>, commands: &Transaction, refused: Refused) -> Tried
         refused: Snapshot::of(&refused),
     };
     let (kit, ended) = live.end(&note);
+    drop(note);
     let outcome = match ended {
         tlwords::Outcome::Read(place) => Outcome::Refused { place, refused },
         tlwords::Outcome::Conflict { conflict, drawn: _ } => {

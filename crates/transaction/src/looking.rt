@@ -91,6 +91,7 @@ fn show(live: Live<'_>, library: PlainLibrary) -> (Kit, Look)
         library: Snapshot::of(&library),
     };
     let (kit, ended) = live.end(&note);
+    drop(note);
     let seen = match ended {
         tlwords::Outcome::Read(place) => Look::Read { place, library },
         tlwords::Outcome::Conflict { conflict, drawn: _ } => Look::Conflict(met(place, conflict)),

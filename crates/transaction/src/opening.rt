@@ -74,6 +74,7 @@ impl Library {
         fits(shape, database)?;
         // For the proof: some text declares the database.
         let _assertions = database.assertions();
+        let prelude = database.prelude().copy(alloc)?;
         let cells = PlainCells::open(alloc, database, shape.slots, shape.room)?;
         let given = Given {
             database: Snapshot::of(database),
@@ -87,11 +88,11 @@ impl Library {
             shape.room,
             shape.sessions,
         );
+        drop(cells);
         // The shape and the room were tested, so it is memory that ran out.
         let Ok((words, passes)) = opened else {
             return Err(OpenError::NoMemory);
         };
-        let prelude = database.prelude().copy(alloc)?;
         let sessions = seat_all(alloc, keys, &given, passes)?;
         let library = Library {
             prelude,

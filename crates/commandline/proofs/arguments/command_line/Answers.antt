@@ -1,13 +1,18 @@
 use Rattle.std.proofs.Common.{rules}
-use Rattle.std.proofs.lemmas.Result.{IfOk-weaker}
-use Rattle.commandline.specs.CommandLine.{IsLine, bare_app}
-use Rattle.commandline.proofs.Lines.{adds_subcommand}
+use Rattle.clap.specs.Words.{App, with_subcommand}
+use Rattle.commandline.specs.CommandLine.{IsLine, bare_app, check_app, run_app, replay_app, take_app}
 use Rattle.commandline.proofs.arguments.command_line.Goals as goal
+
+abbrev with_check : App
+with_check = with_subcommand bare_app check_app.top
+
+abbrev with_run : App
+with_run = with_subcommand with_check run_app.top
 
 pub returns : goal.returns
 returns c =
-    let bare : IsLine bare_app c.arg_required_else_help.result = search rules in
-    let check = adds_subcommand _ _ _ _ _ c.in_ok-subcommand.ensures bare c.in_ok-check_line.ensures in
-    let run = adds_subcommand _ _ _ _ _ c.in_ok-subcommand-2.ensures check c.in_ok-run_line.ensures in
-    let replay = adds_subcommand _ _ _ _ _ c.in_ok-subcommand-3.ensures run c.in_ok-replay_line.ensures in
-    IfOk-weaker c.subcommand-4.result _ _ (λ new adds. adds_subcommand _ _ _ _ new adds replay c.in_ok-take_line.ensures) c.subcommand-4.ensures
+    let bare : IsLine bare_app c.arg_required_else_help-line.result = search rules in
+    let check = c.with_line-line.ensures bare_app check_app bare c.check_line.ensures in
+    let run = c.with_line-line-2.ensures with_check run_app check c.run_line.ensures in
+    let replay = c.with_line-line-3.ensures with_run replay_app run c.replay_line.ensures in
+    c.with_line.ensures (with_subcommand with_run replay_app.top) take_app replay c.take_line.ensures

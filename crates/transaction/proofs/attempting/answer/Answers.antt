@@ -9,7 +9,7 @@ use Rattle.transaction.specs.Tries.{Tries, EndsStored, EndsWithin, carried_by}
 use Rattle.transaction.proofs.Committing.{met_is, reads, answered, met_only}
 use Rattle.transaction.proofs.Meeting.{conflict_within}
 use Rattle.transaction.proofs.attempting.answer.Goals as goal
-use Rattle.transaction.proofs.attempting.answer.Goals.{in-Read+in-Done-1, in-Read+in-Refused-1, in-Read+in-Looked-1, in-Conflict}
+use Rattle.transaction.proofs.attempting.answer.Goals.{in-Read, in-Conflict}
 
 pub end-kit-requires : goal.end-kit-requires
 end-kit-requires c = λ none. c.requires.lawful _ _ c.of.ensures c.of-2.ensures
@@ -31,9 +31,7 @@ returns-clause-tries c =
     subst (λ (p : ℕ). Tries cs l.began k (outcome.Read p c.args.replies) None) (sym a.0)
     (reads l stage over lent cs c.of.result c.of-2.result c.args.replies c.of.ensures c.of-2.ensures k c.requires.edit a.1) in
     elim c.match-ended.branch [
-      | in-Read+in-Done-1 w ↦ subst outcomes (sym w.outcome-is) (done w.in-Read.place w.in-Read.is)
-      | in-Read+in-Refused-1 w ↦ subst outcomes (sym w.outcome-is) (done w.in-Read.place w.in-Read.is)
-      | in-Read+in-Looked-1 w ↦ subst outcomes (sym w.outcome-is) (done w.in-Read.place w.in-Read.is)
+      | in-Read w ↦ subst outcomes (sym w.outcome-is) (done w.in-Read.place w.in-Read.is)
       | in-Conflict w ↦
           let met = met_is l stage over lent cs w.in-Conflict.conflict c.place-place.result w.met.result w.met.ensures c.place-place.ensures.value in
           let never : l.going.over ≡ None → ⊥ = λ none. let a = ends.reading none c.requires.reading in let b = w.in-Conflict.is in cc in
@@ -50,9 +48,7 @@ returns-clause-stored c =
     e.staged ∙ ap (λ (x : Answer). staged_after x l.staged) is in
     let outcomes = EndsStored (carried_by l) c.end-kit.result.0 in
     elim c.match-ended.branch [
-      | in-Read+in-Done-1 w ↦ subst outcomes (sym w.outcome-is) (e.taken, left _ w.in-Read.is)
-      | in-Read+in-Refused-1 w ↦ subst outcomes (sym w.outcome-is) (e.taken, left _ w.in-Read.is)
-      | in-Read+in-Looked-1 w ↦ subst outcomes (sym w.outcome-is) (e.taken, left _ w.in-Read.is)
+      | in-Read w ↦ subst outcomes (sym w.outcome-is) (e.taken, left _ w.in-Read.is)
       | in-Conflict w ↦ subst outcomes (sym w.outcome-is) (e.taken, left _ w.in-Conflict.is)
     ]
 
@@ -66,9 +62,7 @@ returns-clause-within c =
     let ends = c.end-kit.ensures in
     let outcomes = λ (x : Outcome). EndsWithin l.began cs k x in
     elim c.match-ended.branch [
-      | in-Read+in-Done-1 w ↦ subst outcomes (sym w.outcome-is) (λ g opened new later. tt)
-      | in-Read+in-Refused-1 w ↦ subst outcomes (sym w.outcome-is) (λ g opened new later. tt)
-      | in-Read+in-Looked-1 w ↦ subst outcomes (sym w.outcome-is) (λ g opened new later. tt)
+      | in-Read w ↦ subst outcomes (sym w.outcome-is) (λ g opened new later. tt)
       | in-Conflict w ↦
           let met = met_is l lending.0 lending.1 lending.2 cs w.in-Conflict.conflict c.place-place.result w.met.result w.met.ensures
           c.place-place.ensures.value in

@@ -1,5 +1,5 @@
 use Rattle.std.proofs.Common.{◌≡◌, ℕ, Option, Some, sym, ap, subst, ◌∙◌}
-use Rattle.std.proofs.Common.{List, rules}
+use Rattle.std.proofs.Common.{List}
 use Rattle.library.specs.declared.command.Command.{Command}
 use Rattle.library.specs.declared.command.Reply.{Reply}
 use Rattle.tlwords.specs.declared.outcome.Outcome.{Outcome as Answer}
@@ -12,7 +12,7 @@ use Rattle.transaction.specs.Tries.{Tries, EndsStored, EndsWithin, carried_by}
 use Rattle.transaction.proofs.Committing.{met_is, commits, committed, conflicts, used, void_mapped, void_records}
 use Rattle.transaction.proofs.Meeting.{committed_within, conflict_within}
 use Rattle.transaction.proofs.attempting.commit.Goals as goal
-use Rattle.transaction.proofs.attempting.commit.Goals.{in-Committed+in-Done-1, in-Committed+in-Refused-1, in-Committed+in-Looked-1, in-Conflict, in-NumbersUsed}
+use Rattle.transaction.proofs.attempting.commit.Goals.{in-Committed, in-Conflict, in-NumbersUsed}
 
 pub end-kit-requires : goal.end-kit-requires
 end-kit-requires c = λ none. c.requires.lawful _ _ c.of.ensures c.of-2.ensures
@@ -34,13 +34,10 @@ returns-clause-tries c =
     (commits l stage over lent cs c.of.result c.of-2.result c.args.replies c.of.ensures c.of-2.ensures number k c.requires.edit
     (committed l stage over lent cs _ k o ends.over ends.ended number is)) in
     elim c.match-ended.branch [
-      | in-Committed+in-Done-1 w ↦ subst outcomes (sym w.outcome-is) (done w.in-Committed.number w.in-Committed.is)
-      | in-Committed+in-Refused-1 w ↦ subst outcomes (sym w.outcome-is) (done w.in-Committed.number w.in-Committed.is)
-      | in-Committed+in-Looked-1 w ↦ subst outcomes (sym w.outcome-is) (done w.in-Committed.number w.in-Committed.is)
+      | in-Committed w ↦ subst outcomes (sym w.outcome-is) (done w.in-Committed.number w.in-Committed.is)
       | in-Conflict w ↦
           let met = met_is l stage over lent cs w.in-Conflict.conflict c.place-place.result w.met.result w.met.ensures c.place-place.ensures.value in
-          let mapped : w.map.result ≡ void_records w.in-Conflict.drawn =
-          void_mapped w.in-Conflict.drawn w.map.result _ w.map.ensures.cases (λ x y p. search rules) in
+          let mapped = void_mapped w.in-Conflict.drawn w.void_record.result w.void_record.ensures in
           subst outcomes (sym (w.outcome-is ∙ (λ j. (outcome.Conflict (met j), mapped j))))
           (conflicts l stage over lent cs _ k o ends.over ends.ended w.in-Conflict.conflict w.in-Conflict.drawn c.requires.writes c.requires.edit
           w.in-Conflict.is)
@@ -55,9 +52,7 @@ returns-clause-stored c =
     e.staged ∙ ap (λ (x : Answer). staged_after x l.staged) is in
     let outcomes = λ (x : Outcome × Option Record). EndsStored (carried_by l) c.end-kit.result.0 x.0 in
     elim c.match-ended.branch [
-      | in-Committed+in-Done-1 w ↦ subst outcomes (sym w.outcome-is) (e.taken, left _ w.in-Committed.is)
-      | in-Committed+in-Refused-1 w ↦ subst outcomes (sym w.outcome-is) (e.taken, left _ w.in-Committed.is)
-      | in-Committed+in-Looked-1 w ↦ subst outcomes (sym w.outcome-is) (e.taken, left _ w.in-Committed.is)
+      | in-Committed w ↦ subst outcomes (sym w.outcome-is) (e.taken, left _ w.in-Committed.is)
       | in-Conflict w ↦ subst outcomes (sym w.outcome-is) (e.taken, left _ w.in-Conflict.is)
       | in-NumbersUsed w ↦ subst outcomes (sym w.outcome-is) (e.taken, left _ w.in-NumbersUsed.is)
     ]
@@ -79,9 +74,7 @@ returns-clause-within c =
     (committed l stage over lent cs _ k o ends.over ends.ended number is) in
     let told = λ (x : Outcome × Option Record). x.0 in
     elim c.match-ended.branch [
-      | in-Committed+in-Done-1 w ↦ subst outcomes (sym (ap told w.outcome-is)) (done w.in-Committed.number w.in-Committed.is)
-      | in-Committed+in-Refused-1 w ↦ subst outcomes (sym (ap told w.outcome-is)) (done w.in-Committed.number w.in-Committed.is)
-      | in-Committed+in-Looked-1 w ↦ subst outcomes (sym (ap told w.outcome-is)) (done w.in-Committed.number w.in-Committed.is)
+      | in-Committed w ↦ subst outcomes (sym (ap told w.outcome-is)) (done w.in-Committed.number w.in-Committed.is)
       | in-Conflict w ↦
           let met = met_is l stage over lent cs w.in-Conflict.conflict c.place-place.result w.met.result w.met.ensures c.place-place.ensures.value in
           subst outcomes (sym (ap told w.outcome-is ∙ ap outcome.Conflict met))

@@ -10,7 +10,7 @@ use Rattle.transaction.specs.Looks.{Sees}
 use Rattle.transaction.proofs.Ended.{met_at}
 use Rattle.transaction.proofs.Looked.{look_later, sees_read, sees_conflict}
 use Rattle.transaction.proofs.looking.show.Goals as goal
-use Rattle.transaction.proofs.looking.show.Goals.{in-Read+in-Done-1, in-Read+in-Refused-1, in-Read+in-Looked-1, in-Conflict}
+use Rattle.transaction.proofs.looking.show.Goals.{in-Read, in-Conflict}
 
 pub end-kit-requires : goal.end-kit-requires
 end-kit-requires c none =
@@ -33,9 +33,7 @@ returns-clause-sees c =
     c.end-kit.ensures.over (λ none. c.end-kit.ensures.reading none c.requires.reading) c.end-kit.ensures.ended
     place c.args.library c.of.ensures is in
     elim c.match-ended.branch [
-      | in-Read+in-Done-1 w ↦ subst (Sees run.began new) (sym w.seen-is) (is_read w.in-Read.place w.in-Read.is)
-      | in-Read+in-Refused-1 w ↦ subst (Sees run.began new) (sym w.seen-is) (is_read w.in-Read.place w.in-Read.is)
-      | in-Read+in-Looked-1 w ↦ subst (Sees run.began new) (sym w.seen-is) (is_read w.in-Read.place w.in-Read.is)
+      | in-Read w ↦ subst (Sees run.began new) (sym w.seen-is) (is_read w.in-Read.place w.in-Read.is)
       | in-Conflict w ↦
           let found = w.in-Conflict.conflict in
           let met = w.met.ensures ∙ ap (λ (p : ℕ). met_at p found) c.place-place.ensures.value in
@@ -52,8 +50,6 @@ returns-clause-stored c =
     let left = λ (o : Answer) (is : c.end-kit.result.1 ≡ o).
     e.staged ∙ ap (λ (x : Answer). staged_after x l.staged) is in
     elim c.match-ended.branch [
-      | in-Read+in-Done-1 w ↦ (e.taken, left _ w.in-Read.is)
-      | in-Read+in-Refused-1 w ↦ (e.taken, left _ w.in-Read.is)
-      | in-Read+in-Looked-1 w ↦ (e.taken, left _ w.in-Read.is)
+      | in-Read w ↦ (e.taken, left _ w.in-Read.is)
       | in-Conflict w ↦ (e.taken, left _ w.in-Conflict.is)
     ]
