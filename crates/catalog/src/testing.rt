@@ -16,8 +16,8 @@ use crate::places::{Places, entry_at, find_label};
 use derivation::{ProofFault, ProofFaultKind};
 use library::Ranked;
 use mmsyntax::{Assertion, Frame, Label, Prelude, Step};
-use proofcheck::{Frames, check};
 use std::alloc::{AllocError, Global};
+use stepcheck::{Frames, check};
 
 pub(crate) fn is_citation(step: &Step, label: &[u8]) -> bool
     ensures { result ≡ is_citation label.now step.now }

@@ -13,9 +13,9 @@ use cells::{Cells, CommandError, Halt, frame, rank, resolve, slot_count};
 use derivation::{ProofFault, ProofFaultKind};
 use library::Reason;
 use mmsyntax::{Assertion, Frame, Label, Prelude, Step};
-use proofcheck::{Frames, check};
 use std::alloc::{AllocError, Global};
 use std::collections::BTreeMap;
+use stepcheck::{Frames, check};
 
 /// Tests the proof of a theorem of a rank, and answers its steps as they are stored.
 ///

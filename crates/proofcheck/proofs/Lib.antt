@@ -1,5 +1,2 @@
-pub mod Apart
 pub mod Places
 pub mod Reports
-pub mod Replaced
-pub mod Spans

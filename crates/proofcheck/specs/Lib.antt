@@ -1,3 +1,1 @@
-pub mod Conclusions
-pub mod Spans
 pub mod Reports

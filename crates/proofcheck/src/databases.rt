@@ -6,7 +6,6 @@ ghost use Rattle.mmframes.specs.Frames.{frame};
 ghost use Rattle.derivation.specs.Databases.{AllCheck, ChecksAt, HasFaultAt, IsFirstFault};
 ghost use Rattle.proofcheck.specs.Reports.{FoundInLane, earlier, earliest};
 
-use crate::checking::check;
 use crate::earlier::Earlier;
 use crate::labels::Places;
 use derivation::{ProofFault, ProofFaultKind};
@@ -15,6 +14,7 @@ use mmsyntax::{Assertion, Database, Frame, Prelude};
 use rayon::prelude::*;
 use std::alloc::{AllocError, Global};
 use std::thread::Threads;
+use stepcheck::check;
 
 /// How many lanes the assertions are checked in: the proofs of one are together about as long as those of another, where later assertions
 /// may have longer proofs than earlier ones.

@@ -2,9 +2,9 @@
 
 ghost use Rattle.proofcheck.specs.Reports.{frame_below, place_from};
 
-use crate::frames::Frames;
 use crate::labels::Places;
 use mmsyntax::{Frame, Label};
+use stepcheck::Frames;
 
 /// The assertions before one of a database: the frames of all, and the place that their labels have to stay below.
 #[derive(Drop)]

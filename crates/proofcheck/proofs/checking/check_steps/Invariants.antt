@@ -1,6 +1,0 @@
-use Rattle.std.proofs.Common.{take, []}
-use Rattle.derivation.proofs.Forests.{Runs}
-use Rattle.proofcheck.proofs.checking.check_steps.Given as goal
-
-abbrev pub invariant-loop-done : goal.invariant-loop-done
-invariant-loop-done g l = Runs (g.F.Frames.frames l.frames) l.prelude l.assertion [] (take l.done l.steps) l.stack

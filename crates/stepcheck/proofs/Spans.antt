@@ -1,0 +1,83 @@
+-- Expressions that lie in one list of symbols stay where they are when more come behind them.
+use Rattle.std.proofs.Common.{◌≡◌, ℕ, zero, suc, ◌+◌, ◌-◌, ◌<◌, ◌≤◌, List, [], ◌∷◌, ◌++◌, length, drop, take, get_or, refl, sym, ap}
+use Rattle.std.proofs.Common.{◌∙◌, arith}
+use Rattle.std.specs.Prelude.{slice_range}
+use Rattle.std.proofs.Math.Seq.{take-length, drop-append_seam}
+use Rattle.std.proofs.lemmas.List.{take-append-le, drop-append-le, length-drop, length-take-le, take-append-drop, get_or-take, map-append}
+use Rattle.std.proofs.lemmas.List.{take-map}
+use Rattle.mmsyntax.specs.declared.statement.Symbol.{Symbol}
+use Rattle.stepcheck.specs.declared.stack.Entry.{Entry}
+use Rattle.stepcheck.specs.declared.stack.Entry.TheVariants.{Own, Lent}
+use Rattle.stepcheck.specs.Spans.{shown, start, end, cut, AreSpans, AreWithin}
+
+-- a part is the same where more stands behind
+range-more : (s e : List Symbol) (a b : ℕ) → a ≤ b → b ≤ length s → slice_range (s ++ e) a b ≡ slice_range s a b
+range-more s e a b le within =
+    let low : a ≤ length s = omega arith in
+    let room : b - a ≤ length (drop a s) = omega (arith, length-drop a s) in
+    ap (take (b - a)) (drop-append-le a s e low) ∙ take-append-le (b - a) (drop a s) e room
+
+shown-more : (s e : List Symbol) (p : Entry) → start p ≤ end p → end p ≤ length s → shown (s ++ e) p ≡ shown s p
+shown-more s e (Own a b) le within = range-more s e a b le within
+shown-more s e (Lent a l) le within = refl
+
+pub cut-more : (s e : List Symbol) (ps : List Entry) → AreWithin (length s) ps → cut (s ++ e) ps ≡ cut s ps
+cut-more s e [] h = refl
+cut-more s e (p ∷ ps) h =
+    let here = h zero p (omega arith) in
+    let first = shown-more s e p here.0 here.1 in
+    let rest = cut-more s e ps (λ k d lt. h (suc k) d (omega arith)) in
+    cc
+
+-- one more expression on top
+pub cut-push : (s e : List Symbol) (ps : List Entry) → AreWithin (length s) ps
+    → cut (s ++ e) (ps ++ Own (length s) (length s + length e) ∷ []) ≡ cut s ps ++ e ∷ []
+cut-push s e ps h =
+    let more : length s + length e - length s ≡ length e = omega arith in
+    let top : slice_range (s ++ e) (length s) (length s + length e) ≡ e =
+    ap (λ l. take (length s + length e - length s) l) (drop-append_seam s e) ∙ ap (λ n. take n e) more ∙ take-length e in
+    map-append (shown (s ++ e)) ps (Own (length s) (length s + length e) ∷ [])
+    ∙ ap (λ l. l ++ slice_range (s ++ e) (length s) (length s + length e) ∷ []) (cut-more s e ps h)
+    ∙ ap (λ x. cut s ps ++ x ∷ []) top
+
+-- the first expressions end where the next begins
+front-within : (s : List Symbol) (ps : List Entry) (n : ℕ) (d : Entry) → AreSpans (length s) ps → n < length ps
+    → AreWithin (length (take (start (get_or ps n d)) s)) (take n ps)
+front-within s ps n d h lt = λ k e below.
+    let short : length (take n ps) ≡ n = length-take-le n ps (omega arith) in
+    let low : k < n = omega arith in
+    let next = h.within n d lt in
+    let long : length (take (start (get_or ps n d)) s) ≡ start (get_or ps n d) = length-take-le (start (get_or ps n d)) s (omega arith) in
+    let here = h.within k d (omega arith) in
+    let same : get_or (take n ps) k e ≡ get_or ps k d = get_or-take n ps k e low ∙ get_or-any ps k e d (omega arith) in
+    let ends = h.apart k n d low lt in
+    rw (same, long) (here.0, ends)
+  where
+    get_or-any : (xs : List Entry) (i : ℕ) (x y : Entry) → i < length xs → get_or xs i x ≡ get_or xs i y
+    get_or-any [] i x y less = absurd (omega arith)
+    get_or-any (z ∷ zs) zero x y less = refl
+    get_or-any (z ∷ zs) (suc i) x y less = get_or-any zs i x y (omega arith)
+
+pub spans-front : (s : List Symbol) (ps : List Entry) (n : ℕ) (d : Entry) → AreSpans (length s) ps → n < length ps
+    → AreSpans (length (take (start (get_or ps n d)) s)) (take n ps)
+spans-front s ps n d h lt = record {
+  within = front-within s ps n d h lt;
+  apart = λ j k e less below.
+      let short : length (take n ps) ≡ n = length-take-le n ps (omega arith) in
+      rw (get_or-take n ps j e (omega arith), get_or-take n ps k e (omega arith)) (h.apart j k e less (omega arith));
+}
+
+pub cut-front : (s : List Symbol) (ps : List Entry) (n : ℕ) (d : Entry) → AreSpans (length s) ps → n < length ps
+    → cut (take (start (get_or ps n d)) s) (take n ps) ≡ take n (cut s ps)
+cut-front s ps n d h lt =
+    let c = start (get_or ps n d) in
+    let whole : take c s ++ drop c s ≡ s = take-append-drop c s in
+    sym (cut-more (take c s) (drop c s) (take n ps) (front-within s ps n d h lt))
+    ∙ ap (λ l. cut l (take n ps)) whole
+    ∙ sym (take-map (shown s) n ps)
+
+-- a list of one
+pub only-one : {X : Type 0} (xs : List X) (x : X) → length xs ≡ 1 → x ≡ get_or xs 0 x → xs ≡ x ∷ []
+only-one [] x n is = cc
+only-one (y ∷ []) x n is = ap (λ z. z ∷ []) (sym is)
+only-one (y ∷ z ∷ zs) x n is = absurd (omega arith)

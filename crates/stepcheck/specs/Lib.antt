@@ -1,0 +1,2 @@
+pub mod Conclusions
+pub mod Spans
