@@ -68,7 +68,6 @@ pub(crate) struct Block {
 }
 
 /// All that is kept. What is active is put on top of a list, and taken off at the end of its block; what is put elsewhere stays.
-#[derive(Drop)]
 pub(crate) struct Tables<'a> {
     pub(crate) names: HashMap<&'a [u8], Name, RandomState>,
     pub(crate) constants: Vec<&'a [u8]>,
@@ -81,6 +80,25 @@ pub(crate) struct Tables<'a> {
     pub(crate) last_apart: Option<usize>,
     pub(crate) assertions: Vec<Asserted<'a>>,
     pub(crate) blocks: Vec<Block>,
+}
+
+// Proved here once: a derived drop is proved again at each exit that drops such a value.
+impl<'a> Drop for Tables<'a> {
+    fn drop(self) {
+        let Tables {
+            names: _,
+            constants: _,
+            variables: _,
+            symbols: _,
+            labels: _,
+            links: _,
+            active: _,
+            aparts: _,
+            last_apart: _,
+            assertions: _,
+            blocks: _,
+        } = self;
+    }
 }
 
 impl<'a> Tables<'a> {

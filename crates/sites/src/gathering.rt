@@ -9,7 +9,7 @@ ghost use Rattle.taking.specs.Names.{is_symbol_of, has_float_labelled};
 ghost use Rattle.taking.specs.Reasons.{kept};
 ghost use Rattle.sites.specs.Indexes.{HasRoom};
 ghost use Rattle.sites.specs.Sites.{AreSites};
-ghost use Rattle.sites.specs.Used.{has, is_noted, noted, type_at, variable_at};
+ghost use Rattle.sites.specs.Used.{Uses, has, is_noted, noted, type_at, variable_at};
 
 use crate::indexed::Indexed;
 use crate::sites::Sites;
@@ -137,6 +137,60 @@ fn have_room(constants: &Indexed<'_>, floats: &Indexed<'_>) -> bool
     constants.len() <= MOST && floats.len() <= MOST
 }
 
+/// The sites of the constants and the `$f` that have places, and of the assertions that flags choose.
+fn sited<'a, D: Declared<'a>>(
+    alloc: Global,
+    keys: RandomState,
+    declared: &D,
+    chosen: &[bool],
+    used: &Used<'a>,
+    constants: Indexed<'a>,
+    floats: Indexed<'a>,
+) -> Result<Sites<'a>, AllocError>
+    requires flags { length chosen.now ≡ length (D.scope declared.now).assertions }
+    requires room { HasRoom constants floats }
+    ensures { IfOk result (λ made. made ≡ record {
+      constants = constants.entry;
+      floats = floats.entry;
+      types = filter_map (type_at (noted used.now) constants.entry) floats.entry;
+      variables = filter_map (variable_at (noted used.now)) floats.entry;
+      labels = map (λ x. x.label) (kept chosen.now (D.scope declared.now).assertions);
+    }) }
+{
+    let types = type_places(alloc, used, &constants, floats.words())?;
+    let variables = variables(alloc, used, floats.words())?;
+    let labels = Indexed::new(alloc, keys, chosen_labels(alloc, declared, chosen)?)?;
+    Ok(Sites::new(constants, floats, types, variables, labels))
+}
+
+/// The sites of the assertions that flags choose, by what they use: nothing where more constants or `$f` had places than there is room for.
+fn sites_from<'a, D: Declared<'a>>(
+    alloc: Global,
+    keys: RandomState,
+    declared: &D,
+    chosen: &[bool],
+    used: &Used<'a>,
+) -> Result<Option<Sites<'a>>, AllocError>
+    requires whole { IsWhole (D.scope declared.now) }
+    requires flags { length chosen.now ≡ length (D.scope declared.now).assertions }
+    requires used { Uses used.now (kept chosen.now (D.scope declared.now).assertions) }
+    ensures { let s = D.scope declared.now in let taken = kept chosen.now s.assertions in
+        IfOk result (λ made. MatchOption made
+        ((65535 < length (filter (λ w. list_any (is_symbol_of w) taken) s.constants))
+        ⊎ (65535 < length (filter (λ w. list_any (has_float_labelled w) taken) s.labels)))
+        (AreSites s taken)) }
+{
+    let symbols = used_symbols(alloc, used, declared.constants())?;
+    let constants = Indexed::new(alloc, keys, symbols)?;
+    let labels = used_floats(alloc, used, declared.labels())?;
+    let floats = Indexed::new(alloc, keys, labels)?;
+    if !have_room(&constants, &floats) {
+        return Ok(None);
+    }
+    let sites = sited(alloc, keys, declared, chosen, used, constants, floats)?;
+    Ok(Some(sites))
+}
+
 /// The sites of the assertions of a source that flags choose by their places: nothing where more than 65,535 constants or `$f` had places.
 pub fn sites_of<'a, D: Declared<'a>>(
     alloc: Global,
@@ -153,15 +207,5 @@ pub fn sites_of<'a, D: Declared<'a>>(
         (AreSites s taken)) }
 {
     let used = used_by(alloc, keys, declared, chosen)?;
-    let symbols = used_symbols(alloc, &used, declared.constants())?;
-    let constants = Indexed::new(alloc, keys, symbols)?;
-    let labels = used_floats(alloc, &used, declared.labels())?;
-    let floats = Indexed::new(alloc, keys, labels)?;
-    if !have_room(&constants, &floats) {
-        return Ok(None);
-    }
-    let types = type_places(alloc, &used, &constants, floats.words())?;
-    let variables = variables(alloc, &used, floats.words())?;
-    let labels = Indexed::new(alloc, keys, chosen_labels(alloc, declared, chosen)?)?;
-    Ok(Some(Sites::new(constants, floats, types, variables, labels)))
+    sites_from(alloc, keys, declared, chosen, &used)
 }

@@ -12,10 +12,19 @@ use std::hash::RandomState;
 use std::marker::Model;
 
 /// Words that have the places 0, 1, .. in their order. A clause sees the words: the map is for look-ups alone.
-#[derive(Drop)]
 pub(crate) struct Indexed<'a> {
     words: Vec<&'a [u8]>,
     places: HashMap<&'a [u8], usize, RandomState>,
+}
+
+// Proved here once: a derived drop is proved again at each exit that drops such a value.
+impl<'a> Drop for Indexed<'a> {
+    fn drop(self) {
+        let Indexed {
+            words: _,
+            places: _,
+        } = self;
+    }
 }
 
 impl<'a> Model for Indexed<'a> {

@@ -17,10 +17,19 @@ use std::collections::{HashMap, HashSet};
 use std::hash::RandomState;
 
 /// The symbols that stand in some assertions or in their active hypotheses, and by its label the type and the variable of each active `$f`.
-#[derive(Drop)]
 pub(crate) struct Used<'a> {
     pub(crate) symbols: HashSet<&'a [u8], RandomState>,
     pub(crate) floats: HashMap<&'a [u8], (&'a [u8], &'a [u8]), RandomState>,
+}
+
+// Proved here once: a derived drop is proved again at each exit that drops such a value.
+impl<'a> Drop for Used<'a> {
+    fn drop(self) {
+        let Used {
+            symbols: _,
+            floats: _,
+        } = self;
+    }
 }
 
 /// Notes words.

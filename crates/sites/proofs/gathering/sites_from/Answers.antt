@@ -1,6 +1,6 @@
--- What is left to show of `sites_of`.
-use Rattle.std.proofs.Common.{◌≡◌, ◌∙◌, ◌<◌, ◌⊎◌, inl, inr, List, length, sym, ap, subst, rules, true, false, ℕ}
-use Rattle.std.specs.Prelude.{filter, filter_map}
+-- What is left to show of `sites_from`.
+use Rattle.std.proofs.Common.{◌≡◌, ◌∙◌, ◌<◌, inl, inr, List, length, refl, sym, subst, rules, false}
+use Rattle.std.specs.Prelude.{filter, filter_map, map}
 use Rattle.std.specs.List.{list_any}
 use Rattle.mmtext.specs.Words.{Word}
 use Rattle.source.specs.Scopes.{Assertion, Scope}
@@ -10,19 +10,14 @@ use Rattle.taking.specs.Reasons.{kept}
 use Rattle.sites.specs.Sites.{Sited, AreSites}
 use Rattle.sites.specs.Used.{has, is_noted, noted, type_at, variable_at}
 use Rattle.sites.proofs.Siting.{floats_noted, used_words, AreGathered, are_sites}
-use Rattle.sites.proofs.gathering.sites_of.Goals as goal
-
-pub new-requires-4 : goal.new-requires-4
-new-requires-4 g c =
-    let room : c.have_room.result ≡ true = search rules in
-    c.have_room.ensures.room room
+use Rattle.sites.proofs.gathering.sites_from.Goals as goal
 
 pub returns-then-not-have_room : goal.returns-then-not-have_room
 returns-then-not-have_room g c =
     let s : Scope = g.D.Declared.scope c.args.declared.now in
     let taken : List Assertion = kept c.args.chosen.now s.assertions in
-    let used = c.in_ok-used.used in
-    let so = c.in_ok-used.ensures in
+    let used = c.args.used.now in
+    let so = c.requires.used in
     let constants : c.in_ok-constants.constants ≡ filter (λ w. list_any (is_symbol_of w) taken) s.constants =
     c.in_ok-constants.ensures
     ∙ used_words (has used.symbols) (λ w. list_any (is_symbol_of w) taken) so.used_symbols (seen_words c.in_ok-symbols.symbols.items)
@@ -42,8 +37,8 @@ returns g c =
     let s : Scope = g.D.Declared.scope c.args.declared.now in
     let fs = c.args.chosen.now in
     let taken : List Assertion = kept fs s.assertions in
-    let used = c.in_ok-used.used in
-    let so = c.in_ok-used.ensures in
+    let used = c.args.used.now in
+    let so = c.requires.used in
     let constants : c.in_ok-constants.constants ≡ filter (λ w. list_any (is_symbol_of w) taken) s.constants =
     c.in_ok-constants.ensures
     ∙ used_words (has used.symbols) (λ w. list_any (is_symbol_of w) taken) so.used_symbols (seen_words c.in_ok-symbols.symbols.items)
@@ -55,21 +50,16 @@ returns g c =
     let t : Sited = record {
       constants = c.in_ok-constants.constants;
       floats = c.in_ok-floats.floats;
-      types = c.in_ok-types.types.items;
-      variables = seen_words c.in_ok-variables.variables.items;
-      labels = c.in_ok-labels-2.labels;
+      types = filter_map (type_at (noted used) c.in_ok-constants.constants) c.in_ok-floats.floats;
+      variables = filter_map (variable_at (noted used)) c.in_ok-floats.floats;
+      labels = map (λ (x : Assertion). x.label) taken;
     } in
-    let types : c.in_ok-types.types.items ≡ filter_map (type_at (noted used) c.in_ok-constants.constants) c.in_ok-floats.floats =
-    c.in_ok-types.ensures
-    ∙ ap (λ (ws : List Word). filter_map (type_at (noted used) c.in_ok-constants.constants) ws) c.words.ensures in
-    let variables : seen_words c.in_ok-variables.variables.items ≡ filter_map (variable_at (noted used)) c.in_ok-floats.floats =
-    c.in_ok-variables.ensures ∙ ap (λ (ws : List Word). filter_map (variable_at (noted used)) ws) c.words-2.ensures in
     let gathered : AreGathered s taken (noted used) t = record {
       look_is = so.used_floats;
       constants_are = constants;
       floats_are = floats;
-      labels_are = c.in_ok-labels-2.ensures ∙ c.in_ok-chosen_labels.ensures;
-      types_are = types;
-      variables_are = variables;
+      labels_are = refl;
+      types_are = refl;
+      variables_are = refl;
     } in
-    subst (λ (z : Sited). AreSites s taken z) (sym c.new-4.ensures) (are_sites s c.requires.whole fs (noted used) t gathered)
+    subst (λ (z : Sited). AreSites s taken z) (sym c.in_ok-sites.ensures) (are_sites s c.requires.whole fs (noted used) t gathered)
