@@ -141,9 +141,9 @@ impl Draft {
             return Err(refused(index, reason));
         }
         let frame = frame_of(alloc, &self.prelude, assertion)?;
-        let assertion = assertion.copy(alloc)?;
         let place = self.open_place(alloc, frame)?;
         self.cite(place, assertion.proof.as_slice())?;
+        let assertion = assertion.copy(alloc)?;
         self.put(alloc, place, Ranked { rank, assertion })?;
         Ok(Reply::Done)
     }
@@ -171,6 +171,7 @@ impl Draft {
         let proof = copy_steps(alloc, steps.as_slice())?;
         let new = reproved(alloc, entry, proof)?;
         if let Some(reason) = self.refuse_proof(alloc, new.rank, &new.assertion)? {
+            drop(new);
             return Err(refused(index, reason));
         }
         self.cite(place, steps.as_slice())?;
