@@ -19,7 +19,7 @@ use Rattle.taking.specs.Listings.{IsListed}
 use Rattle.sites.specs.Actives.{Placed, float_at}
 use Rattle.sites.specs.Sites.{Sited}
 use Rattle.naming.specs.declared.names.LibraryNames.{LibraryNames}
-use Rattle.intake.specs.Placed.{map_of}
+use Rattle.intake.specs.Placed.{map_of, symbols_by}
 use Rattle.intake.specs.Assembled.{HasAllPlaces, IsStated, IsMade, one_of}
 use Rattle.intake.specs.Outcomes.{IsOutcome, HasStepsFor}
 use Rattle.intake.specs.declared.assembling.One.{One}
@@ -35,9 +35,6 @@ not_none (Some x) e f = absurd cc
 
 abbrev pub made_of : Sited → List Hypothesis → Placed
 made_of t hs = record { constants = t.constants; floats = t.floats; active = hs }
-
-abbrev pub symbols_by : Placed → Word → Option Symbol
-symbols_by p w = symbol_at (place_of (bytes_eq w) p.constants) (float_at p w)
 
 module _ (t : Sited) (names : LibraryNames) (tables : Tables) (p : Placed) (hs : List Hypothesis) (made : p ≡ made_of t hs) where
   pub hyps_there : (o : Option Assertion) → IfSome o (HasAllPlaces (map_of t names) tables) → option_map (λ x. x.active) o ≡ Some hs

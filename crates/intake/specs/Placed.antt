@@ -1,10 +1,14 @@
--- The map of names and the prelude that sites and their names make.
-use Rattle.std.specs.Prelude.{ℕ, suc, List, [], ◌∷◌}
+-- The map of names and the prelude that sites and their names make, and the symbols of words where hypotheses are active.
+use Rattle.std.specs.Prelude.{ℕ, suc, List, [], ◌∷◌, Option}
 use Rattle.std.specs.List.{zip}
+use Rattle.std.specs.Str.{bytes_eq}
 use Rattle.mmtext.specs.Words.{Word}
 use Rattle.mmsyntax.specs.declared.statement.Float.{Float}
-use Rattle.mmsyntax.specs.Tables.{Tables}
+use Rattle.mmsyntax.specs.declared.statement.Symbol.{Symbol}
+use Rattle.mmsyntax.specs.Tables.{Tables, place_of}
 use Rattle.taking.specs.Names.{Map}
+use Rattle.taking.specs.Says.{symbol_at}
+use Rattle.sites.specs.Actives.{Placed, float_at}
 use Rattle.sites.specs.Sites.{Sited}
 use Rattle.naming.specs.declared.names.LibraryNames.{LibraryNames}
 
@@ -27,3 +31,7 @@ tables_of t names = record {
   variables = names.variables;
   floats = floats_from 0 names.floats t.types;
 }
+
+-- the symbol of a word where hypotheses are active, if it has a place
+abbrev pub symbols_by : Placed → Word → Option Symbol
+symbols_by p w = symbol_at (place_of (bytes_eq w) p.constants) (float_at p w)

@@ -15,14 +15,14 @@ ghost use Rattle.intake.specs.Placed.{map_of, tables_of};
 use crate::following::Follow;
 use crate::places::Placed;
 use crate::proving::{Outcome, outcome_at};
-use crate::saying::{premises, restrictions};
+use crate::saying::{placed_expression, placed_premises, restrictions};
 use mmsyntax::{Assertion, Kind, Sequence};
 use prooftrees::Frames;
 use sites::{Active, active_at};
 use source::Declared;
 use std::alloc::{AllocError, Global};
 use std::hash::RandomState;
-use taking::{Reason, expression};
+use taking::Reason;
 
 /// An assertion that is taken, and the reason if a theorem is taken as an axiom.
 #[derive(Drop)]
@@ -46,26 +46,22 @@ fn stated<'a, D: Declared<'a>>(
     ensures { IfOk result (λ a. IfSome (slice_get (D.scope declared.now).assertions place) (λ x.
         IsStated (map_of placed.now.sites.now placed.now.names.now) (tables_of placed.now.sites.now placed.now.names.now) x a)) }
 {
-    let hypotheses = active_at(alloc, declared, place)?;
-    let places = Active::new(alloc, keys, placed.sites, hypotheses.as_slice())?;
-    let pairs = declared.pairs(alloc, place)?;
-    let pairs = restrictions(alloc, keys, &places, pairs.as_slice())?;
-    // All that a chosen assertion names has a place.
-    let Some(hyps) = premises(alloc, &places, hypotheses.as_slice())? else {
-        unreachable!()
-    };
     let Some(words) = declared.statement(place) else {
-        unreachable!()
-    };
-    let Some(statement) = expression(alloc, &places, words)? else {
         unreachable!()
     };
     let Some(own) = declared.label(place) else {
         unreachable!()
     };
+    // All that a chosen assertion names has a place.
     let Some(label) = placed.label(own) else {
         unreachable!()
     };
+    let hypotheses = active_at(alloc, declared, place)?;
+    let places = Active::new(alloc, keys, placed.sites, hypotheses.as_slice())?;
+    let pairs = declared.pairs(alloc, place)?;
+    let pairs = restrictions(alloc, keys, &places, pairs.as_slice())?;
+    let hyps = placed_premises(alloc, &places, hypotheses.as_slice())?;
+    let statement = placed_expression(alloc, &places, words)?;
     Ok(Assertion {
         label: label.copy(alloc)?,
         kind: Kind::Axiom,

@@ -1,11 +1,12 @@
 //! What an assertion says in the library: its hypotheses, its statement and its pairs.
 
-ghost use Rattle.std.specs.Prelude.{◌≡◌, filter_map, IfOk, OnOk};
-ghost use Rattle.source.specs.Views.{seen_pairs};
+ghost use Rattle.std.specs.Prelude.{◌≡◌, ◌≢◌, Some, None, filter_map, IfOk, OnOk};
+ghost use Rattle.source.specs.Views.{seen_pairs, seen_words};
 ghost use Rattle.taking.specs.Says.{each, premises, ascending, pair_at};
 ghost use Rattle.sites.specs.Given.{given_hypotheses};
 ghost use Rattle.sites.specs.Actives.{float_at};
 ghost use Rattle.intake.specs.Pairs.{with_one};
+ghost use Rattle.intake.specs.Placed.{symbols_by};
 
 use mmsyntax::{Expr, Sequence};
 use mmunits::Block;
@@ -16,7 +17,7 @@ use std::hash::RandomState;
 use taking::{SymbolPlaces, expression};
 
 /// The symbols of each `$e`: nothing where a word has none.
-pub(crate) fn premises<P: SymbolPlaces>(
+fn premises<P: SymbolPlaces>(
     alloc: Global,
     places: &P,
     hypotheses: &[HypothesisWords<'_>],
@@ -33,6 +34,36 @@ pub(crate) fn premises<P: SymbolPlaces>(
         }
     }
     Ok(Some(Sequence::from_vec(made)))
+}
+
+/// The same by the places of an assertion, where all words have one.
+pub(crate) fn placed_premises(
+    alloc: Global,
+    places: &Active<'_, '_>,
+    hypotheses: &[HypothesisWords<'_>],
+) -> Result<Sequence<Expr>, AllocError>
+    requires { each (each (symbols_by places.now)) (premises (given_hypotheses hypotheses.now)) ≢ None }
+    ensures { IfOk result (λ made. Some made ≡ each (each (symbols_by places.now)) (premises (given_hypotheses hypotheses.now))) }
+{
+    match premises(alloc, places, hypotheses)? {
+        Some(made) => Ok(made),
+        None => unreachable!(),
+    }
+}
+
+/// The symbols of words that all have one.
+pub(crate) fn placed_expression(
+    alloc: Global,
+    places: &Active<'_, '_>,
+    words: &[&[u8]],
+) -> Result<Expr, AllocError>
+    requires { each (symbols_by places.now) (seen_words words.now) ≢ None }
+    ensures { IfOk result (λ made. Some made ≡ each (symbols_by places.now) (seen_words words.now)) }
+{
+    match expression(alloc, places, words)? {
+        Some(made) => Ok(made),
+        None => unreachable!(),
+    }
 }
 
 /// The pairs of `$f`, ascending, each once: from the last to the first, as each is put in front of those behind it.

@@ -163,7 +163,7 @@ fn sited<'a, D: Declared<'a>>(
     Ok(Sites::new(constants, floats, types, variables, labels))
 }
 
-/// The sites of the assertions that flags choose, by what they use: nothing where more constants or `$f` had places than there is room for.
+/// The sites of the assertions that flags choose, by what they use: nothing where there is no room for all constants and `$f`.
 fn sites_from<'a, D: Declared<'a>>(
     alloc: Global,
     keys: RandomState,

@@ -11,35 +11,33 @@ use Rattle.taking.specs.Names.{label_in}
 use Rattle.taking.specs.Says.{each, premises, pair_at, ascending}
 use Rattle.sites.specs.Actives.{float_at}
 use Rattle.sites.specs.Given.{given_hypotheses}
-use Rattle.intake.specs.Placed.{map_of, tables_of}
-use Rattle.intake.proofs.Stated.{made_of, symbols_by, hyps_there, statement_there, stated_same}
+use Rattle.intake.specs.Placed.{map_of, tables_of, symbols_by}
+use Rattle.intake.proofs.Stated.{made_of, hyps_there, statement_there, stated_same}
 use Rattle.intake.proofs.assembling.stated.Goals as goal
 
-pub unreachable-requires : goal.unreachable-requires
-unreachable-requires g c =
+pub placed_premises-requires : goal.placed_premises-requires
+placed_premises-requires g c =
     let t = c.args.placed.now.sites.now in
     let names = c.args.placed.now.names.now in
-    let hs : List Hypothesis = given_hypotheses c.as_slice.result.now in
+    let hs : List Hypothesis = given_hypotheses c.as_slice-3.result.now in
     let p = c.in_ok-places.places in
     let o : Option Assertion = slice_get (g.D.Declared.scope c.args.declared.now).assertions c.args.place in
     let made : p ≡ made_of t hs = search rules in
     let active : option_map (λ (x : Assertion). x.active) o ≡ Some hs = search rules in
-    let none : each (each (symbols_by p)) (premises hs) ≡ None = search rules in
-    hyps_there t names (tables_of t names) p hs made o c.requires.known active none
+    λ none. hyps_there t names (tables_of t names) p hs made o c.requires.known active none
 
-pub unreachable-requires-in_default-2 : goal.unreachable-requires-in_default-2
-unreachable-requires-in_default-2 g c =
+pub placed_expression-requires : goal.placed_expression-requires
+placed_expression-requires g c =
     let t = c.args.placed.now.sites.now in
     let names = c.args.placed.now.names.now in
     let hs : List Hypothesis = given_hypotheses c.as_slice.result.now in
     let p = c.in_ok-places.places in
     let o : Option Assertion = slice_get (g.D.Declared.scope c.args.declared.now).assertions c.args.place in
-    let words : List Word = seen_words c.in-Some-statement.words.now in
+    let words : List Word = seen_words c.in-Some.words.now in
     let made : p ≡ made_of t hs = search rules in
     let active : option_map (λ (x : Assertion). x.active) o ≡ Some hs = search rules in
     let said : option_map (λ (x : Assertion). x.statement) o ≡ Some words = search rules in
-    let none : each (symbols_by p) words ≡ None = search rules in
-    statement_there t names (tables_of t names) p hs made o words c.requires.known active said none
+    λ none. statement_there t names (tables_of t names) p hs made o words c.requires.known active said none
 
 pub returns : goal.returns
 returns g c =
@@ -48,15 +46,15 @@ returns g c =
     let hs : List Hypothesis = given_hypotheses c.as_slice.result.now in
     let p = c.in_ok-places.places in
     let o : Option Assertion = slice_get (g.D.Declared.scope c.args.declared.now).assertions c.args.place in
-    let words : List Word = seen_words c.in-Some-statement.words.now in
+    let words : List Word = seen_words c.in-Some.words.now in
     let own : Word = c.in-Some-label.own.now in
     let ps : List Pair = seen_pairs c.in_ok-pairs.pairs.items in
     let a : Unit' = record {
       label = c.in_ok-copy.field-0;
       kind = Axiom;
       pairs = c.in_ok-pairs-2.pairs;
-      hyps = c.in-Some.hyps;
-      statement = c.in-Some-2.statement;
+      hyps = c.in_ok-hyps.hyps;
+      statement = c.in_ok-statement.statement;
       proof = c.from_vec.result;
     } in
     let made : p ≡ made_of t hs = search rules in
