@@ -3,85 +3,84 @@
 ghost use Rattle.std.specs.Prelude.{◌≡◌, All};
 ghost use Rattle.wordrows.specs.Seats.{is_named, RestsAt, RunsAt, StandsAt};
 
-use crate::answer::Answer;
-use crate::line::{Line, Step, read_line};
+use crate::line::{Step, cut, letter_of, mode_of, place_of, read_numbers};
 use crate::running::{begin_run, commit, go_on, leave};
 use crate::seat::{Anything, Playing, Resting, Stand};
+use crate::written::Written;
 use std::alloc::{AllocError, Global};
 use std::mem;
 use tlwords::{Words, learn};
 
-/// What a pass at rest does.
+/// What a pass at rest does, and whether it does.
 fn do_at_rest<'w>(
     alloc: Global,
+    out: &mut Written,
     words: &'w Words<Anything>,
     rest: Resting,
-    step: &Step,
-) -> (Stand<'w>, Answer)
+    step: Step<'_>,
+) -> (Stand<'w>, bool)
     requires { RestsAt words.now rest }
     ensures { StandsAt words.now result.0 }
 {
-    match step {
-        Step::Begin(mode) => {
-            let (playing, answer) = begin_run(alloc, words, rest, *mode);
-            (Stand::Running(playing), answer)
+    if step.letter != b'b' {
+        return (Stand::AtRest(rest), false);
+    }
+    match mode_of(step.words) {
+        Some(mode) => {
+            let playing = begin_run(alloc, out, words, rest, mode);
+            (Stand::Running(playing), true)
         }
-        _ => (Stand::AtRest(rest), Answer::Cannot),
+        None => (Stand::AtRest(rest), false),
     }
 }
 
-/// What a run does.
+/// What a run does, and whether it does.
 fn do_running<'w>(
+    out: &mut Written,
     words: &Words<Anything>,
     named: bool,
     mut playing: Playing<'w>,
-    step: &Step,
-) -> (Stand<'w>, Result<Answer, AllocError>)
+    step: Step<'_>,
+) -> (Stand<'w>, bool)
     requires named { is_named words.now ≡ named }
     requires runs { RunsAt words.now playing }
     ensures { StandsAt words.now result.0 }
 {
-    match step {
-        Step::Commit(note) => {
-            let (rest, answer) = commit(words, playing, *note);
-            (Stand::AtRest(rest), Ok(answer))
-        }
-        Step::Leave => (Stand::AtRest(leave(words, playing)), Ok(Answer::Left)),
+    match step.letter {
+        b'e' => (Stand::AtRest(leave(out, words, playing)), true),
+        b'c' => match step.numbers {
+            [note] => (Stand::AtRest(commit(out, words, playing, *note)), true),
+            _ => (Stand::Running(playing), false),
+        },
         _ => {
-            let answer = go_on(words, named, &mut playing, step);
-            (Stand::Running(playing), answer)
+            let is_done = go_on(out, words, named, &mut playing, step);
+            (Stand::Running(playing), is_done)
         }
     }
 }
 
-/// What stands at a place does a step.
+/// What stands at a place does a step. Whether it does.
 fn do_step<'w>(
     alloc: Global,
+    out: &mut Written,
     words: &'w Words<Anything>,
     named: bool,
     stand: Stand<'w>,
-    step: &Step,
-) -> (Stand<'w>, Result<Answer, AllocError>)
+    step: Step<'_>,
+) -> (Stand<'w>, bool)
     requires named { is_named words.now ≡ named }
     requires stands { StandsAt words.now stand }
     ensures { StandsAt words.now result.0 }
 {
     match stand {
-        Stand::AtRest(rest) => {
-            let (stand, answer) = do_at_rest(alloc, words, rest, step);
-            (stand, Ok(answer))
-        }
-        Stand::Running(playing) => do_running(words, named, playing, step),
-        Stand::Gone => (Stand::Gone, Ok(Answer::Cannot)),
+        Stand::AtRest(rest) => do_at_rest(alloc, out, words, rest, step),
+        Stand::Running(playing) => do_running(out, words, named, playing, step),
+        Stand::Gone => (Stand::Gone, false),
     }
 }
 
 /// A pass learns of another one, and of the ranges that it knows of.
-fn teach(
-    words: &Words<Anything>,
-    rest: &mut Resting,
-    other: &mut Resting,
-) -> Result<Answer, AllocError>
+fn teach(words: &Words<Anything>, rest: &mut Resting, other: &mut Resting) -> Result<(), AllocError>
     requires rests { RestsAt words.now rest.old }
     requires other { RestsAt words.now other.old }
     ensures rests { RestsAt words.now rest.new }
@@ -89,15 +88,16 @@ fn teach(
 {
     learn(words, &mut rest.pass, &mut other.pass);
     rest.ranges.extend_from_slice(other.ranges.as_slice())?;
-    Ok(Answer::Learnt)
+    Ok(())
 }
 
-/// What stands at a place learns of what stands at another one, where both are passes at rest.
+/// What stands at a place learns of what stands at another one, where both are passes at rest. Whether they are.
 fn do_learn<'w>(
+    out: &mut Written,
     words: &Words<Anything>,
     stand: Stand<'w>,
     other: Stand<'w>,
-) -> (Stand<'w>, Stand<'w>, Result<Answer, AllocError>)
+) -> (Stand<'w>, Stand<'w>, bool)
     requires stands { StandsAt words.now stand }
     requires other { StandsAt words.now other }
     ensures stands { StandsAt words.now result.0 }
@@ -105,10 +105,12 @@ fn do_learn<'w>(
 {
     match (stand, other) {
         (Stand::AtRest(mut rest), Stand::AtRest(mut other)) => {
-            let answer = teach(words, &mut rest, &mut other);
-            (Stand::AtRest(rest), Stand::AtRest(other), answer)
+            let taught = teach(words, &mut rest, &mut other);
+            out.note(taught);
+            out.put(b"learnt");
+            (Stand::AtRest(rest), Stand::AtRest(other), true)
         }
-        (stand, other) => (stand, other, Ok(Answer::Cannot)),
+        (stand, other) => (stand, other, false),
     }
 }
 
@@ -144,59 +146,74 @@ fn put_stand<'w>(
     }
 }
 
-/// What stands at a place does a step.
+/// What stands at a place does a step. Whether it does.
 fn do_step_at<'w>(
     alloc: Global,
+    out: &mut Written,
     words: &'w Words<Anything>,
     named: bool,
     stands: &mut Vec<Stand<'w>>,
-    pass: usize,
-    step: &Step,
-) -> Result<Answer, AllocError>
+    place: usize,
+    step: Step<'_>,
+) -> bool
     requires named { is_named words.now ≡ named }
     requires stands { All (StandsAt words.now) stands.old.items }
     ensures { All (StandsAt words.now) stands.new.items }
 {
-    let stand = take_stand(words, stands, pass);
-    let (stand, answer) = do_step(alloc, words, named, stand, step);
-    put_stand(words, stands, pass, stand);
-    answer
+    let stand = take_stand(words, stands, place);
+    let (stand, is_done) = do_step(alloc, out, words, named, stand, step);
+    put_stand(words, stands, place, stand);
+    is_done
 }
 
-/// What stands at a place learns of what stands at another one.
+/// What stands at a place learns of what stands at another one. Whether it does.
 fn do_learn_at<'w>(
+    out: &mut Written,
     words: &Words<Anything>,
     stands: &mut Vec<Stand<'w>>,
-    pass: usize,
+    place: usize,
     other: usize,
-) -> Result<Answer, AllocError>
+) -> bool
     requires { All (StandsAt words.now) stands.old.items }
     ensures { All (StandsAt words.now) stands.new.items }
 {
-    let stand = take_stand(words, stands, pass);
+    let stand = take_stand(words, stands, place);
     let mate = take_stand(words, stands, other);
-    let (stand, mate, answer) = do_learn(words, stand, mate);
+    let (stand, mate, is_done) = do_learn(out, words, stand, mate);
     // Where both are one place, what stood there comes back last.
     put_stand(words, stands, other, mate);
-    put_stand(words, stands, pass, stand);
-    answer
+    put_stand(words, stands, place, stand);
+    is_done
 }
 
-/// What a line between the opening and the close is answered.
+/// Does what a line between the opening and the close asks for, with these numbers to read into; false where it can't.
 pub fn answer_line<'w>(
     alloc: Global,
+    out: &mut Written,
     words: &'w Words<Anything>,
     named: bool,
     stands: &mut Vec<Stand<'w>>,
-    line: &[u8],
-) -> Result<Answer, AllocError>
+    numbers: &mut Vec<u64>,
+    line: &str,
+) -> bool
     requires named { is_named words.now ≡ named }
     requires stands { All (StandsAt words.now) stands.old.items }
     ensures { All (StandsAt words.now) stands.new.items }
 {
-    match read_line(alloc, line)? {
-        Some(Line::Step { pass, step }) => { do_step_at(alloc, words, named, stands, pass, &step) }
-        Some(Line::Learn { pass, other }) => do_learn_at(words, stands, pass, other),
-        None => Ok(Answer::Cannot),
+    let (name, behind) = cut(line);
+    let (verb, asked) = cut(behind);
+    let place = place_of(name);
+    if verb == "learns" {
+        return do_learn_at(out, words, stands, place, place_of(asked));
     }
+    numbers.clear();
+    if !read_numbers(out, numbers, asked) && verb != "begins" {
+        return false;
+    }
+    let step = Step {
+        letter: letter_of(verb),
+        words: asked,
+        numbers: numbers.as_slice(),
+    };
+    do_step_at(alloc, out, words, named, stands, place, step)
 }

@@ -5,50 +5,58 @@ ghost use Rattle.tlwords.specs.Callers.{SitsAt, AreOfOneOpening};
 ghost use Rattle.wordrows.specs.Seats.{is_named, IsNameIn, StandsAt};
 
 use crate::acting::{answer_line, take_stand};
-use crate::answer::Answer;
-use crate::line::{Opening, closes, is_comment, opens, read_closing, read_opening};
-use crate::print::{put_answer, put_line, put_refused};
+use crate::line::{count_at, is_comment, place_of, read_numbers};
+use crate::print::{CANNOT, put_closed};
 use crate::seat::{Anything, Resting, Stand};
+use crate::written::Written;
 use std::alloc::{AllocError, Global};
 use tlwords::{Pass, Words, close, open};
 
 /// One more than the greatest length that a word can tell: 2^25.
 const LENGTHS: u64 = 33_554_432;
 
+/// The text of a line.
+fn text_of(line: &[u8]) -> &str {
+    str::from_utf8(line).unwrap_or("no text")
+}
+
 /// Answers lines that can't be done, since no words are open.
-fn refuse_lines(out: &mut Vec<u8>, lines: &[Vec<u8>]) -> Result<(), AllocError> {
+fn refuse_lines(out: &mut Written, lines: &[Vec<u8>]) {
     for line in lines {
-        if is_comment(line) {
-            put_line(out, line)?;
-        } else {
-            put_refused(out, line)?;
+        out.put(line.as_slice());
+        if !is_comment(line.as_slice()) {
+            out.put(b": ");
+            out.put(CANNOT);
         }
+        out.put(b"\n");
     }
-    Ok(())
 }
 
 /// Answers the lines between the opening and the close.
 fn answer_lines<'w>(
     alloc: Global,
-    out: &mut Vec<u8>,
+    out: &mut Written,
     words: &'w Words<Anything>,
     named: bool,
     stands: &mut Vec<Stand<'w>>,
+    numbers: &mut Vec<u64>,
     lines: &[Vec<u8>],
-) -> Result<(), AllocError>
+)
     requires named { is_named words.now ≡ named }
     requires stands { All (StandsAt words.now) stands.old.items }
     ensures { All (StandsAt words.now) stands.new.items }
 {
     for line in lines {
-        if is_comment(line) {
-            put_line(out, line)?;
-        } else {
-            let answer = answer_line(alloc, words, named, stands, line);
-            put_answer(out, line, answer)?;
+        out.put(line.as_slice());
+        if !is_comment(line.as_slice()) {
+            out.put(b": ");
+            let text = text_of(line.as_slice());
+            if !answer_line(alloc, out, words, named, stands, numbers, text) {
+                out.put(CANNOT);
+            }
         }
+        out.put(b"\n");
     }
-    Ok(())
 }
 
 /// The passes at their places, the last of them first.
@@ -89,82 +97,74 @@ fn take_pass(
     }
 }
 
-/// The passes at these places, if each of them is there at rest.
+/// Takes the passes of these names; false where one of them isn't there at rest.
 fn take_passes(
-    alloc: Global,
     words: &Words<Anything>,
     stands: &mut Vec<Stand<'_>>,
-    places: &[usize],
-) -> Result<Option<Vec<Pass<Anything>>>, AllocError>
-    requires { All (StandsAt words.now) stands.old.items }
-    ensures { IfOk result (λ taken. IfSome taken (λ passes. All (SitsAt words.now) passes.items)) }
+    passes: &mut Vec<Pass<Anything>>,
+    names: &str,
+) -> Result<bool, AllocError>
+    requires stands { All (StandsAt words.now) stands.old.items }
+    requires passes { All (SitsAt words.now) passes.old.items }
+    ensures { IfOk result (λ _. All (SitsAt words.now) passes.new.items) }
 {
-    let mut passes = Vec::new(alloc);
-    for place in places {
-        let Some(pass) = take_pass(words, stands, *place) else {
-            return Ok(None);
+    for name in names.split_ascii_whitespace() {
+        let Some(pass) = take_pass(words, stands, place_of(name)) else {
+            return Ok(false);
         };
         passes.push(pass)?;
     }
-    Ok(Some(passes))
+    Ok(true)
 }
 
-/// The passes with which a line closes the words, if it can be done.
-fn closing_passes(
-    alloc: Global,
-    words: &Words<Anything>,
-    stands: &mut Vec<Stand<'_>>,
-    line: &[u8],
-) -> Result<Option<Vec<Pass<Anything>>>, AllocError>
-    requires { All (StandsAt words.now) stands.old.items }
-    ensures { IfOk result (λ taken. IfSome taken (λ passes. All (SitsAt words.now) passes.items)) }
-{
-    match read_closing(alloc, line)? {
-        Some(places) => take_passes(alloc, words, stands, places.as_slice()),
-        None => Ok(None),
-    }
-}
-
-/// Closes the words with these passes.
+/// Ends the words with these passes, if all were taken.
 fn close_words(
     alloc: Global,
+    out: &mut Written,
     words: Words<Anything>,
-    passes: Result<Option<Vec<Pass<Anything>>>, AllocError>,
-) -> Result<Answer, AllocError>
-    requires { IfOk passes (λ taken. IfSome taken (λ list. All (SitsAt words) list.items)) }
+    passes: Vec<Pass<Anything>>,
+    taken: Result<bool, AllocError>,
+)
+    requires { IfOk taken (λ _. All (SitsAt words) passes.items) }
 {
-    match passes? {
-        Some(passes) => Ok(Answer::Closed(close(alloc, words, passes)?)),
-        None => Ok(Answer::Cannot),
+    match taken {
+        Ok(true) => match close(alloc, words, passes) {
+            Ok(closed) => put_closed(out, &closed),
+            Err(_) => out.is_short = true,
+        },
+        Ok(false) => out.put(CANNOT),
+        Err(_) => out.is_short = true,
     }
 }
 
-/// Answers the lines behind an opening. The first that begins with `close` ends the words.
+/// Answers the lines behind an opening up to the line that closes the words, and that one.
 fn play(
     alloc: Global,
-    out: &mut Vec<u8>,
+    out: &mut Written,
     words: Words<Anything>,
     named: bool,
     passes: Vec<Pass<Anything>>,
     lines: &[Vec<u8>],
-) -> Result<(), AllocError>
+    closing: &[u8],
+)
     requires named { is_named words ≡ named }
     requires passes { All (AreOfOneOpening words) passes.items }
 {
-    let at = lines
-        .iter()
-        .position(|line| closes(line))
-        .unwrap_or(lines.len());
-    let (before, behind) = lines.split_at(at);
-    let mut stands = seat_all(alloc, &words, passes)?;
-    answer_lines(alloc, out, &words, named, &mut stands, before)?;
-    let Some((line, behind)) = behind.split_first() else {
-        return Ok(());
+    let Ok(mut stands) = seat_all(alloc, &words, passes) else {
+        out.is_short = true;
+        return;
     };
-    let passes = closing_passes(alloc, &words, &mut stands, line);
-    drop(stands);
-    put_answer(out, line, close_words(alloc, words, passes))?;
-    refuse_lines(out, behind)
+    let mut numbers = Vec::new(alloc);
+    answer_lines(alloc, out, &words, named, &mut stands, &mut numbers, lines);
+    if let Some(names) = text_of(closing).strip_prefix("close") {
+        let mut passes = Vec::new(alloc);
+        let taken = take_passes(&words, &mut stands, &mut passes, names);
+        drop(stands);
+        out.put(closing);
+        out.put(b": ");
+        close_words(alloc, out, words, passes, taken);
+        out.put(b"\n");
+    }
 }
 
 /// Whether a word is 0, or names a range of a store of so many words.
@@ -188,62 +188,75 @@ fn are_names(values: &[u64], words: usize) -> bool
 }
 
 /// Whether the cells may have these values.
-fn fits(opening: &Opening) -> bool
-    ensures { IsTrue result → opening.now.named ≡ true → All (IsNameIn (length opening.now.store.items)) opening.now.values.items }
+fn fits(named: bool, values: &[u64], store: &[u64]) -> bool
+    ensures { IsTrue result → named ≡ true → All (IsNameIn (length store.now)) values.now }
 {
-    !opening.named || are_names(opening.values.as_slice(), opening.store.len())
+    !named || are_names(values, store.len())
 }
 
-/// Opens words, and answers the lines behind.
+/// The first line that begins with `close`, or an empty one; and the lines in front of it and behind it.
+fn cut_at_close(lines: &[Vec<u8>]) -> (&[Vec<u8>], &[u8], &[Vec<u8>]) {
+    let at = lines
+        .iter()
+        .position(|line| line.starts_with(b"close"))
+        .unwrap_or(lines.len());
+    let (before, behind) = lines.split_at(at);
+    match behind.split_first() {
+        Some((closing, behind)) => (before, closing.as_slice(), behind),
+        None => (before, b"", behind),
+    }
+}
+
+/// Opens words by a line, whose values are these, and answers the lines behind.
 fn open_words(
     alloc: Global,
-    out: &mut Vec<u8>,
-    opening: &Opening,
-    line: &[u8],
+    out: &mut Written,
+    line: &str,
+    named: bool,
+    values: &[u64],
+    store: &[u64],
     lines: &[Vec<u8>],
-) -> Result<(), AllocError>
-    requires { opening.now.named ≡ true → All (IsNameIn (length opening.now.store.items)) opening.now.values.items }
+)
+    requires { named ≡ true → All (IsNameIn (length store.now)) values.now }
 {
-    let Opening {
-        room,
-        passes,
-        named,
-        values,
-        store,
-    } = opening;
-    match open::<Anything>(
-        alloc,
-        named,
-        values.as_slice(),
-        store.as_slice(),
-        *room,
-        *passes,
-    ) {
+    let (room, passes) = (count_at(line, 2), count_at(line, 4));
+    match open::<Anything>(alloc, &named, values, store, room, passes) {
         Ok((words, passes)) => {
-            put_answer(out, line, Ok(Answer::Opened))?;
-            play(alloc, out, words, *named, passes, lines)
+            let (before, closing, behind) = cut_at_close(lines);
+            out.put(b"opened\n");
+            play(alloc, out, words, named, passes, before, closing);
+            refuse_lines(out, behind);
         }
         Err(fault) => {
-            put_answer(out, line, Ok(Answer::Refused(fault)))?;
-            refuse_lines(out, lines)
+            out.show(format_args!("refused {fault}\n"));
+            refuse_lines(out, lines);
         }
     }
 }
 
-/// Answers a line that opens words, and the lines behind it.
+/// Does what a line asks for that opens words, with these numbers to read into, and answers the lines behind it; false where it can't.
 fn answer_block(
     alloc: Global,
-    out: &mut Vec<u8>,
-    line: &[u8],
+    out: &mut Written,
+    values: &mut Vec<u64>,
+    store: &mut Vec<u64>,
+    line: &str,
     lines: &[Vec<u8>],
-) -> Result<(), AllocError> {
-    match read_opening(alloc, line)? {
-        Some(opening) if fits(&opening) => open_words(alloc, out, &opening, line, lines),
-        _ => {
-            put_refused(out, line)?;
-            refuse_lines(out, lines)
-        }
+) -> bool {
+    values.clear();
+    store.clear();
+    let (front, lists) = line.split_once(" values").unwrap_or((line, ""));
+    let (listed, stored) = lists.split_once(" store").unwrap_or(("no list", ""));
+    if !read_numbers(out, values, listed) || !read_numbers(out, store, stored) {
+        return false;
     }
+    let (values, store) = (values.as_slice(), store.as_slice());
+    let named = front.ends_with(" named");
+    if !fits(named, values, store) || !named && !front.ends_with(" plain") {
+        return false;
+    }
+    open_words(alloc, out, front, named, values, store, lines);
+    true
 }
 
 /// How many lines stand before the next that opens words.
@@ -252,24 +265,49 @@ fn block_length(lines: &[Vec<u8>]) -> usize
 {
     lines
         .iter()
-        .position(|line| opens(line))
+        .position(|line| line.starts_with(b"open "))
         .unwrap_or(lines.len())
 }
 
-/// Puts the lines of a table behind `out`, each with its answer.
-///
-/// After an error nothing is promised of the bytes in `out`.
-pub fn answer_table(alloc: Global, out: &mut Vec<u8>, lines: &[Vec<u8>]) -> Result<(), AllocError> {
+/// Answers the lines of a table, with these numbers to read into.
+fn answer_all(
+    alloc: Global,
+    out: &mut Written,
+    values: &mut Vec<u64>,
+    store: &mut Vec<u64>,
+    lines: &[Vec<u8>],
+) {
     let (head, mut rest) = lines.split_at(block_length(lines));
-    refuse_lines(out, head)?;
+    refuse_lines(out, head);
     // Each opening is a line at least.
     for _ in 0..lines.len() {
         let Some((line, behind)) = rest.split_first() else {
             break;
         };
         let (block, next) = behind.split_at(block_length(behind));
-        answer_block(alloc, out, line, block)?;
+        out.put(line.as_slice());
+        out.put(b": ");
+        if !answer_block(alloc, out, values, store, text_of(line.as_slice()), block) {
+            out.put(CANNOT);
+            out.put(b"\n");
+            refuse_lines(out, block);
+        }
         rest = next;
     }
-    Ok(())
+}
+
+/// What the lines of a table are answered, in order.
+///
+/// # Errors
+///
+/// Want of memory.
+pub fn answer_table(alloc: Global, lines: &[Vec<u8>]) -> Result<Vec<u8>, AllocError> {
+    let mut out = Written::new(alloc);
+    let mut values = Vec::new(alloc);
+    let mut store = Vec::new(alloc);
+    answer_all(alloc, &mut out, &mut values, &mut store, lines);
+    if out.is_short {
+        return Err(AllocError);
+    }
+    Ok(out.bytes)
 }

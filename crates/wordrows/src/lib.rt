@@ -17,18 +17,19 @@
 //! | `A learns B` | the pass A learns of the pass B, both at rest |
 //! | `close A B ..` | ends the words and all runs, with these passes, which are at rest |
 //!
-//! Words are opened in place of those that were open. Passes are called A to Z, or 0, 1, 2 and so on.
+//! Words are opened in place of those that were open. Passes are called A to Z, or 0, 1, 2 and so on. Of a verb the first letter counts, and
+//! how many numbers stand behind it.
 //!
 //! A line that is none of these, or that the pass can't do now, is answered `cannot do this line`, and changes nothing but
 //! that a line that begins with `close` ends the words.
 #![tactic(auto)]
 
 mod acting;
-mod answer;
 mod block;
 mod line;
 mod print;
 mod running;
 mod seat;
+mod written;
 
 pub use crate::block::answer_table;

@@ -5,35 +5,41 @@ ghost use Rattle.std.specs.List.{Contains};
 ghost use Rattle.tlwords.specs.Runs.{was_read};
 ghost use Rattle.wordrows.specs.Seats.{is_named, IsThere, RestsAt, RunsAt};
 
-use crate::answer::Answer;
 use crate::line::Step;
+use crate::print::{put_conflict, put_outcome};
 use crate::seat::{Anything, Playing, Resting};
+use crate::written::Written;
 use std::alloc::{AllocError, Global};
 use tlwords::{Mode, Range, Words, begin};
 
 /// One more than the greatest length that a word can tell: 2^25.
 const LENGTHS: u64 = 33_554_432;
 
+/// Writes a number behind a word.
+fn put_number(out: &mut Written, word: &str, number: u64) {
+    out.show(format_args!("{word} {number}"));
+}
+
 /// Begins a run.
 pub fn begin_run<'w>(
     alloc: Global,
+    out: &mut Written,
     words: &'w Words<Anything>,
     rest: Resting,
     mode: Mode,
-) -> (Playing<'w>, Answer)
+) -> Playing<'w>
     requires { RestsAt words.now rest }
-    ensures { RunsAt words.now result.0 }
+    ensures { RunsAt words.now result }
 {
     let Resting { pass, ranges } = rest;
     let run = begin(words, pass, mode);
-    let place = run.place();
-    let playing = Playing {
+    put_number(out, "began at", run.place());
+    Playing {
         run,
         mode,
         read: Vec::new(alloc),
         ranges,
-    };
-    (playing, Answer::Began(place))
+    }
 }
 
 /// Whether the cell is one of these.
@@ -93,155 +99,223 @@ fn note_range(
     Ok(())
 }
 
-/// Reads a cell. Where it is to hold the word that names a range, the pass knows of that range from then on.
+/// Reads a cell; false where there is none. Where it is to hold the word that names a range, the pass knows of that range from then on.
 fn read(
+    out: &mut Written,
     words: &Words<Anything>,
     named: bool,
     playing: &mut Playing<'_>,
     cell: usize,
-) -> Result<Answer, AllocError>
+) -> bool
     requires named { is_named words.now ≡ named }
     requires runs { RunsAt words.now playing.old }
     ensures { RunsAt words.now playing.new }
 {
     if cell >= words.cells() {
-        return Ok(Answer::Cannot);
+        return false;
     }
     let value = match playing.run.read(cell) {
         Ok(value) => value,
-        Err(conflict) => return Ok(Answer::Stopped(conflict)),
+        Err(conflict) => {
+            put_conflict(out, &conflict);
+            return true;
+        }
     };
-    note_cell(words, playing, cell)?;
+    let noted = note_cell(words, playing, cell);
+    out.note(noted);
+    put_number(out, "read", value);
     let range = named_by(value);
     if named && range.len != 0 {
-        note_range(words, playing, range)?;
+        let known = note_range(words, playing, range);
+        out.note(known);
     }
-    Ok(Answer::Read(value))
+    true
 }
 
-/// Keeps a value for a cell that was read. Where cells name ranges, that is 0.
+/// Keeps a value for a cell that was read; false where it was not. Where cells name ranges, that value is 0.
 fn write(
+    out: &mut Written,
     words: &Words<Anything>,
     named: bool,
     playing: &mut Playing<'_>,
     cell: usize,
     value: u64,
-) -> Answer
+) -> bool
     requires named { is_named words.now ≡ named }
     requires runs { RunsAt words.now playing.old }
     ensures { RunsAt words.now playing.new }
 {
     if cell >= words.cells() || playing.mode == Mode::Reading {
-        return Answer::Cannot;
+        return false;
     }
     if named && value != 0 {
-        return Answer::Cannot;
+        return false;
     }
     if !has_cell(playing.read.as_slice(), cell) {
-        return Answer::Cannot;
+        return false;
     }
     playing.run.write(cell, value);
-    Answer::Kept
+    out.put(b"kept");
+    true
 }
 
-/// Keeps the word that names a range for a cell that was read.
-fn name(words: &Words<Anything>, playing: &mut Playing<'_>, cell: usize, range: Range) -> Answer
+/// Keeps the word that names a range for a cell that was read; false where it was not, or the pass doesn't know of the range.
+fn name(
+    out: &mut Written,
+    words: &Words<Anything>,
+    playing: &mut Playing<'_>,
+    cell: usize,
+    range: Range,
+) -> bool
     requires { RunsAt words.now playing.old }
     ensures { RunsAt words.now playing.new }
 {
     if cell >= words.cells() || playing.mode == Mode::Reading {
-        return Answer::Cannot;
+        return false;
     }
     if range.start >= 1 << 25 || range.len >= 1 << 25 {
-        return Answer::Cannot;
+        return false;
     }
     if !has_cell(playing.read.as_slice(), cell) || !has_range(playing.ranges.as_slice(), range) {
-        return Answer::Cannot;
+        return false;
     }
     let value = range.start as u64 * LENGTHS + range.len as u64;
     playing.run.write(cell, value);
-    Answer::Kept
+    out.put(b"kept");
+    true
 }
 
 /// Throws away what was kept.
-fn forget(words: &Words<Anything>, playing: &mut Playing<'_>) -> Answer
+fn forget(out: &mut Written, words: &Words<Anything>, playing: &mut Playing<'_>) -> bool
     requires { RunsAt words.now playing.old }
     ensures { RunsAt words.now playing.new }
 {
     playing.run.forget();
-    Answer::Forgot
+    out.put(b"forgot");
+    true
 }
 
-/// Stages words.
+/// Writes the range that was staged.
+fn put_range(out: &mut Written, range: Range) {
+    let (start, len) = (range.start, range.len);
+    out.show(format_args!("staged {start} {len}"));
+}
+
+/// Stages words; false where there are none.
 fn stage(
+    out: &mut Written,
     words: &Words<Anything>,
     playing: &mut Playing<'_>,
     staged: &[u64],
-) -> Result<Answer, AllocError>
+) -> bool
     requires { RunsAt words.now playing.old }
     ensures { RunsAt words.now playing.new }
 {
     if staged.is_empty() {
-        return Ok(Answer::Cannot);
+        return false;
     }
     match playing.run.stage(staged) {
         Ok(range) => {
-            note_range(words, playing, range)?;
-            Ok(Answer::Staged(range))
+            let known = note_range(words, playing, range);
+            out.note(known);
+            put_range(out, range);
+            true
         }
-        Err(full) => Ok(Answer::Full(full)),
+        Err(full) => {
+            out.show(format_args!("refused {full}"));
+            true
+        }
     }
 }
 
-/// Loads a word of a range that the pass knows of.
-fn load(words: &Words<Anything>, playing: &mut Playing<'_>, range: Range, index: usize) -> Answer
+/// Loads a word of a range; false where it has none there, or the pass doesn't know of it.
+fn load(
+    out: &mut Written,
+    words: &Words<Anything>,
+    playing: &mut Playing<'_>,
+    range: Range,
+    index: usize,
+) -> bool
     requires { RunsAt words.now playing.old }
     ensures { RunsAt words.now playing.new }
 {
     if index >= range.len || !has_range(playing.ranges.as_slice(), range) {
-        return Answer::Cannot;
+        return false;
     }
-    Answer::Loaded(playing.run.load(range, index))
+    put_number(out, "loaded", playing.run.load(range, index));
+    true
 }
 
-/// Does what a run goes on after.
+/// Does what a run goes on after; false where it can't.
 pub fn go_on(
+    out: &mut Written,
     words: &Words<Anything>,
     named: bool,
     playing: &mut Playing<'_>,
-    step: &Step,
-) -> Result<Answer, AllocError>
+    step: Step<'_>,
+) -> bool
     requires named { is_named words.now ≡ named }
     requires runs { RunsAt words.now playing.old }
     ensures { RunsAt words.now playing.new }
 {
-    match step {
-        Step::Read(cell) => read(words, named, playing, *cell),
-        Step::Write { cell, value } => Ok(write(words, named, playing, *cell, *value)),
-        Step::Name { cell, range } => Ok(name(words, playing, *cell, *range)),
-        Step::Forget => Ok(forget(words, playing)),
-        Step::Stage(staged) => stage(words, playing, staged.as_slice()),
-        Step::Load { range, index } => Ok(load(words, playing, *range, *index)),
-        Step::Begin(_) | Step::Commit(_) | Step::Leave => Ok(Answer::Cannot),
+    match step.letter {
+        b's' => stage(out, words, playing, step.numbers),
+        b'f' => forget(out, words, playing),
+        b'r' => match step.numbers {
+            [cell] => read(out, words, named, playing, *cell as usize),
+            _ => false,
+        },
+        b'w' => match step.numbers {
+            [cell, value] => write(out, words, named, playing, *cell as usize, *value),
+            _ => false,
+        },
+        b'n' => match step.numbers {
+            [cell, start, len] => {
+                name(out, words, playing, *cell as usize, range_of(*start, *len))
+            }
+            _ => false,
+        },
+        b'l' => match step.numbers {
+            [start, len, index] => {
+                load(out, words, playing, range_of(*start, *len), *index as usize)
+            }
+            _ => false,
+        },
+        _ => false,
+    }
+}
+
+/// The range of two numbers of a line.
+fn range_of(start: u64, len: u64) -> Range {
+    Range {
+        start: start as usize,
+        len: len as usize,
     }
 }
 
 /// Commits.
-pub fn commit(words: &Words<Anything>, playing: Playing<'_>, note: u64) -> (Resting, Answer)
-    requires { RunsAt words.now playing }
-    ensures { RestsAt words.now result.0 }
-{
-    let (run, ranges) = playing.into_parts();
-    let (pass, outcome) = run.commit(&note);
-    (Resting { pass, ranges }, Answer::Ended(outcome))
-}
-
-/// Ends a run with nothing written.
-pub fn leave(words: &Words<Anything>, playing: Playing<'_>) -> Resting
+pub fn commit(
+    out: &mut Written,
+    words: &Words<Anything>,
+    playing: Playing<'_>,
+    note: u64,
+) -> Resting
     requires { RunsAt words.now playing }
     ensures { RestsAt words.now result }
 {
     let (run, ranges) = playing.into_parts();
+    let (pass, outcome) = run.commit(&note);
+    put_outcome(out, &outcome);
+    Resting { pass, ranges }
+}
+
+/// Ends a run with nothing written.
+pub fn leave(out: &mut Written, words: &Words<Anything>, playing: Playing<'_>) -> Resting
+    requires { RunsAt words.now playing }
+    ensures { RestsAt words.now result }
+{
+    let (run, ranges) = playing.into_parts();
+    out.put(b"left");
     Resting {
         pass: run.leave(),
         ranges,

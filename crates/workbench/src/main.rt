@@ -2,10 +2,9 @@
 //!
 //! Without words it answers the tables of its standard input. A line `%% NAME` begins a table, which goes up to the next such line: `rows` (texts
 //! and runs of scripts), `sessions`, `words` (runs over words that meet), `sources` (the whole language, and what is taken), `commands` (command lines, on the
-//! files of `data`), `measures` (measurements, for what they print besides their times). The crates `rows`, `sessionrows`, `wordrows`, `takerows`,
-//! the module `lines` and the crate `bench` say what stands in each. The tables `calls on texts`, `calls on cells`, `calls on words` and `calls on sessions` name functions of
-//! `calls_texts`, `calls_cells`, `calls_words` and `calls_sessions`, each of which makes calls that no row makes: what is printed is the name where all is answered as
-//! is wanted. The table `threads` comes last, and has no lines: whether a large database is checked on more threads than one. What is printed was worked out by hand, and stands in `stdout`.
+//! files of `data`), `measures` (measurements, for what they print besides their times). The crates `rows`, `trials`, `wordrows`, `takerows`,
+//! and the module `lines` say what stands in each. The tables `calls on texts`, `calls on cells`, `calls on words` and `calls on sessions` name functions of
+//! `calls`, each of which makes calls that no row makes: what is printed is the name where all is answered as is wanted. The table `threads` comes last, and has no lines: whether a large database is checked on more threads than one. What is printed was worked out by hand, and stands in `stdout`.
 //!
 //! With words it measures: `workbench cells|check|words|sessions|all WORD..`, for the programs of `benches/`.
 #![tactic(auto)]
@@ -15,15 +14,13 @@ mod threads;
 
 use crate::lines::{begin_row, words_of};
 use crate::threads::{check, print_watched, watch};
-use bench::{Ending, measure};
 use rows::answer_rows;
-use sessionrows::answer_sessions;
-use std::alloc::{AllocError, Global};
+use std::alloc::Global;
 use std::hash::RandomState;
 use std::io::{BufRead, BufReader, Write};
 use std::process::{ExitCode, Termination};
 use std::random::RandomSource;
-use std::rt::{Clock, Files};
+use std::rt::{Clock, Env, Files};
 use std::sync::Wait;
 use std::sync::atomic::AtomicBool;
 use std::test::Fail;
@@ -31,6 +28,8 @@ use std::thread::{Threads, join};
 use std::time::CpuClock;
 use std::{env, io};
 use takerows::answer_sources;
+use trials::{Ending, answer_sessions, measure};
+use wordrows::answer_table;
 
 /// What stands in front of the name of a table.
 const HEAD: &[u8] = b"%% ";
@@ -102,13 +101,6 @@ fn row_of(step: Step<'_>) -> &str {
     }
 }
 
-/// What the runs of a table of words are answered.
-fn answer_words(alloc: Global, lines: &[Vec<u8>]) -> Result<Vec<u8>, AllocError> {
-    let mut out = Vec::new(alloc);
-    wordrows::answer_table(alloc, &mut out, lines)?;
-    Ok(out)
-}
-
 /// Does each measurement of a table. It may wait.
 fn do_measures<R>(rt: &R, lines: &[Vec<u8>]) -> io::Result<()>
 where
@@ -132,19 +124,6 @@ where
     Ok(())
 }
 
-/// Makes the calls of this name, on one of the subjects of which there are tables.
-fn make<R>(rt: &R, subject: &[u8], name: &str) -> Result<(), Fail>
-where
-    R: AllocGlobal + RandomSource + Threads + Wait + Sync,
-{
-    match subject {
-        b"calls on texts" => calls_texts::make(rt, name),
-        b"calls on cells" => calls_cells::make(rt, name),
-        b"calls on words" => calls_words::make(rt, name),
-        _ => calls_sessions::make(rt, name),
-    }
-}
-
 /// Makes the calls of a table, by their names, and says which were answered as is wanted. It may wait.
 fn do_calls<R>(rt: &R, subject: &[u8], lines: &[Vec<u8>]) -> io::Result<()>
 where
@@ -152,7 +131,7 @@ where
 {
     for line in lines {
         let name = str::from_utf8(line.as_slice()).unwrap_or("");
-        match make(rt, subject, name) {
+        match calls::make(rt, subject, name) {
             Ok(()) => println!(rt; "{name}")?,
             Err(fail) => {
                 let _ = Err::<(), Fail>(fail).report(rt);
@@ -179,37 +158,59 @@ where
 {
     let alloc = rt.alloc();
     let out = match table.name {
-        b"rows" => answer_rows(rt, alloc, keys, table.lines)?,
-        b"sessions" => answer_sessions(rt, alloc, keys, table.lines)?,
-        b"words" => answer_words(alloc, table.lines)?,
-        b"sources" => answer_sources(rt, alloc, keys, table.lines)?,
+        b"rows" => answer_rows(rt, alloc, keys, table.lines),
+        b"sessions" => answer_sessions(rt, alloc, keys, table.lines),
+        b"words" => answer_table(alloc, table.lines),
+        b"sources" => answer_sources(rt, alloc, keys, table.lines),
         b"measures" => return do_measures(rt, table.lines),
         subject => return do_calls(rt, subject, table.lines),
     };
-    rt.write_all(out.as_slice())
+    rt.write_all(out?.as_slice())
+}
+
+/// The words of the command line.
+fn given_words(rt: &(impl AllocGlobal + Env)) -> io::Result<Vec<String>> {
+    Ok(env::args(rt)?.collect::<Vec<String>>(rt.alloc())?)
+}
+
+/// Measures what the words of the command line ask for. None where there is none of them. It may wait.
+fn measure_given<R>(rt: &R, words: &[String]) -> Option<Ending>
+where
+    R: Files
+        + AllocGlobal
+        + Print
+        + Eprint
+        + RandomSource
+        + Clock
+        + CpuClock
+        + Threads
+        + Wait
+        + Sync,
+{
+    match words {
+        [] | [_] => None,
+        [_, words @ ..] => Some(measure(rt, words).unwrap_or(Ending::Failed)),
+    }
 }
 
 fn main(rt: HostRuntime) -> ExitCode {
-    let alloc = rt.alloc();
-    let Ok(args) = env::args(&rt) else {
+    let Ok(words) = given_words(&rt) else {
         return ExitCode::from(1);
     };
-    let Ok(args) = args.collect::<Vec<String>>(alloc) else {
-        return ExitCode::from(1);
-    };
-    if let [_, words @ ..] = args.as_slice()
-        && !words.is_empty()
-    {
-        return match measure(&rt, words) {
-            Ok(ending) => ending.status(),
-            Err(_) => Ending::Failed.status(),
-        };
+    let measured = measure_given(&rt, words.as_slice());
+    drop(words);
+    if let Some(ending) = measured {
+        return ending.status();
     }
-    let (Ok(keys), Ok(lines)) = (RandomState::new(&rt), read_lines(&rt, alloc)) else {
+    let Ok(keys) = RandomState::new(&rt) else {
+        return ExitCode::from(1);
+    };
+    let Ok(lines) = read_lines(&rt, rt.alloc()) else {
         return ExitCode::from(1);
     };
     let mut rest = lines.as_slice();
     let mut name: &[u8] = b"";
+    let mut is_done = true;
     // Each step has a line at least. What starts threads by a runtime of its own, or shows one to a thread, stands here: the language has that of no other function.
     for _ in 0..lines.len() {
         let Some((step, behind)) = next_step(name, rest) else {
@@ -217,28 +218,28 @@ fn main(rt: HostRuntime) -> ExitCode {
         };
         name = step.name;
         rest = behind;
-        if print_head(&rt, step).is_err() {
-            return ExitCode::from(1);
-        }
-        let done = match step.name {
-            COMMANDS => match begin_row(&rt, row_of(step)) {
-                Ok(Some(stage)) => {
-                    let status = program::run(&stage, stage.is_terminal());
-                    println!(rt; "status {status}")
+        is_done = is_done && print_head(&rt, step).is_ok();
+        is_done = is_done
+            && match step.name {
+                COMMANDS => match begin_row(&rt, row_of(step)) {
+                    Ok(Some(stage)) => {
+                        let status = program::run(&stage, stage.is_terminal());
+                        println!(rt; "status {status}").is_ok()
+                    }
+                    Ok(None) => true,
+                    Err(_) => false,
+                },
+                b"threads" => {
+                    let done = AtomicBool::new(false);
+                    let (most, sound) = join(&rt, || watch(&rt, &done), || check(&rt, &done));
+                    print_watched(&rt, most, sound).is_ok()
                 }
-                Ok(None) => Ok(()),
-                Err(error) => Err(error),
-            },
-            b"threads" => {
-                let done = AtomicBool::new(false);
-                let (most, sound) = join(&rt, || watch(&rt, &done), || check(&rt, &done));
-                print_watched(&rt, most, sound)
-            }
-            _ => do_table(&rt, keys, step),
-        };
-        if done.is_err() {
-            return ExitCode::from(1);
-        }
+                _ => do_table(&rt, keys, step).is_ok(),
+            };
     }
-    ExitCode::SUCCESS
+    if is_done {
+        ExitCode::SUCCESS
+    } else {
+        ExitCode::from(1)
+    }
 }

@@ -39,6 +39,16 @@ impl<R: Print> Watch for Teller<'_, R> {
     }
 }
 
+/// The texts of files.
+fn texts_of(rt: &(impl Files + AllocGlobal), paths: &[String]) -> io::Result<Vec<Vec<u8>>> {
+    let mut texts = Vec::new(rt.alloc());
+    for path in paths {
+        let text = fs::read(rt, path.as_str())?;
+        texts.push(text).map_err(AllocError::from)?;
+    }
+    Ok(texts)
+}
+
 /// Runs the files of a row by one worker, and prints what is told to who watches: of the words the second is the database's path, and all others
 /// are those of scripts. What the run prints is left out. It may wait.
 pub fn tell_files<R>(rt: &R, words: &[String]) -> io::Result<()>
@@ -48,20 +58,17 @@ where
     let [_, db, scripts @ ..] = words else {
         return println!(rt; "no such row");
     };
-    let mut texts = Vec::new(rt.alloc());
-    for script in scripts {
-        texts
-            .push(fs::read(rt, script.as_str())?)
-            .map_err(AllocError::from)?;
-    }
+    let keys = RandomState::new(rt)?;
+    let db = fs::read(rt, db.as_str())?;
+    let scripts = texts_of(rt, scripts)?;
     let job = Job::Run {
-        db: fs::read(rt, db.as_str())?,
-        scripts: texts,
+        db,
+        scripts,
         workers: 1,
         room: 1000,
         history: false,
     };
-    match perform(rt, rt.alloc(), RandomState::new(rt)?, &job, &Teller { rt }) {
+    match perform(rt, rt.alloc(), keys, &job, &Teller { rt }) {
         Ok(_) => println!(rt; "done"),
         Err(fault) => println!(rt; "{fault}"),
     }

@@ -2,8 +2,8 @@ use Rattle.std.proofs.Common.{ap, sym}
 use Rattle.wordrows.proofs.Later.{runs_later, later_known, later_refused}
 use Rattle.wordrows.proofs.running.stage.Goals as goal
 
-pub note_range-requires : goal.note_range-requires
-note_range-requires c =
+pub note_range-known-requires : goal.note_range-known-requires
+note_range-known-requires c =
     let same = c.stage.ensures.same in
     let staged = c.in-Ok.ensures.ok in
     record {

@@ -1,0 +1,156 @@
+//! Libraries copied, and exported to writers that take few bytes at a call, fail, or take none.
+
+use crate::samples::{checked, demo, mini};
+use export::{ExportError, export, write_library};
+use history::Editor;
+use library::PlainLibrary;
+use std::alloc::{AllocError, AllocGlobal, Global};
+use std::hash::RandomState;
+use std::io;
+use std::io::{ErrorKind, Write};
+use std::random::RandomSource;
+use std::test::Fail;
+use std::thread::Threads;
+
+/// A writer in memory that takes at most so many bytes at a call, and fails at one call.
+#[derive(Drop)]
+struct Slow {
+    held: Vec<u8>,
+    most: usize,
+    calls: usize,
+    /// The number of the call that fails, counted from 1. 0: none fails.
+    fails_at: usize,
+    flushes: usize,
+}
+
+impl Write for Slow {
+    fn write(&mut self, buf: &[u8]) -> io::Result<usize> {
+        self.calls = self.calls.saturating_add(1);
+        if self.calls == self.fails_at {
+            return Err(io::Error::from(ErrorKind::BrokenPipe));
+        }
+        let count = buf.len().min(self.most);
+        self.held.extend_from_slice(&buf[..count])?;
+        Ok(count)
+    }
+
+    fn flush(&mut self) -> io::Result<()> {
+        self.flushes = self.flushes.saturating_add(1);
+        Ok(())
+    }
+}
+
+/// The opening library of a database whose proofs check, with room for eight assertions.
+fn library(
+    rt: &(impl AllocGlobal + RandomSource + Threads + Sync),
+    text: &[u8],
+) -> Result<PlainLibrary, Fail> {
+    let keys = RandomState::new(rt)?;
+    let db = checked(rt, text)?;
+    match Editor::open(rt.alloc(), keys, &db, 8) {
+        Ok(editor) => Ok(editor.into_library()),
+        Err(error) => Err(Fail::from(error)),
+    }
+}
+
+/// Whether the export of the library of a text, to a writer that takes at most so many bytes at a call and fails at one call, ends behind
+/// so many bytes and calls: with an error, unless these are all. Nothing is called behind an error.
+fn ends_behind(
+    library: (&PlainLibrary, &[u8]),
+    alloc: Global,
+    most: usize,
+    fails_at: usize,
+    written: usize,
+    calls: usize,
+) -> bool {
+    let (library, text) = library;
+    let mut writer = Slow {
+        held: Vec::new(alloc),
+        most,
+        calls: 0,
+        fails_at,
+        flushes: 0,
+    };
+    let answer = export(alloc, library, &mut writer);
+    let wanted = if written == text.len() {
+        Ok(())
+    } else {
+        Err(ExportError::Write { written })
+    };
+    answer == wanted
+        && Some(writer.held.as_slice()) == text.get(..written)
+        && writer.calls == calls
+        && writer.flushes == 0
+}
+
+/// Exports to a writer that fails at its third call, to one that takes nothing, and to one that takes a byte at a call.
+pub(crate) fn calls_nothing_behind(
+    rt: &(impl AllocGlobal + RandomSource + Threads + Sync),
+) -> Result<bool, Fail> {
+    let library = library(rt, mini())?;
+    let library = (&library, mini());
+    Ok(
+        ends_behind(library, rt.alloc(), 7, 3, 14, 3)
+            && ends_behind(library, rt.alloc(), 0, 0, 0, 1)
+            && ends_behind(library, rt.alloc(), 1, 0, 23, 23),
+    )
+}
+
+/// Whether exports to writers that take one byte at a call end so, of which the k-th fails at its call k, and one takes all.
+fn may_each_fail(library: (&PlainLibrary, &[u8]), alloc: Global) -> bool {
+    let length = library.1.len();
+    for written in 0..length {
+        if !ends_behind(library, alloc, 1, written + 1, written, written + 1) {
+            return false;
+        }
+    }
+    ends_behind(library, alloc, 1, 0, length, length)
+}
+
+/// The same of the library of `examples/demo.mm`.
+pub(crate) fn each_may_fail(
+    rt: &(impl AllocGlobal + RandomSource + Threads + Sync),
+) -> Result<bool, Fail> {
+    let text = demo(rt.alloc())?;
+    let library = library(rt, text.as_slice())?;
+    Ok(may_each_fail((&library, text.as_slice()), rt.alloc()))
+}
+
+/// A constant of 16 bytes, and an axiom of 65,535 symbols, in the canonical layout: 27 bytes, and 13 beside 65,534 times 17.
+fn long(alloc: Global) -> Result<Vec<u8>, AllocError> {
+    let mut text = Vec::from_slice(alloc, b"$c wff 0123456789abcdef $.\nax $a wff")?;
+    for _ in 0..65_534 {
+        text.extend_from_slice(b" 0123456789abcdef")?;
+    }
+    text.extend_from_slice(b" $.\n")?;
+    Ok(text)
+}
+
+/// Exports 1,114,118 bytes to a writer that takes 4,096 at a call: 272 times those, and 6.
+pub(crate) fn is_megabyte_taken(
+    rt: &(impl AllocGlobal + RandomSource + Threads + Sync),
+) -> Result<bool, Fail> {
+    let text = long(rt.alloc())?;
+    let library = library(rt, text.as_slice())?;
+    let library = (&library, text.as_slice());
+    Ok(ends_behind(library, rt.alloc(), 4_096, 0, 1_114_118, 273))
+}
+
+/// Whether a library has eight slots, and this text.
+fn is_of(alloc: Global, library: &PlainLibrary, text: &[u8]) -> Result<bool, AllocError> {
+    Ok(library.slots() == 8 && write_library(alloc, library)?.as_slice() == text)
+}
+
+/// Whether a copy of a library has eight slots, and this text.
+fn is_copied(alloc: Global, library: &PlainLibrary, text: &[u8]) -> Result<bool, AllocError> {
+    let copy = library.copy(alloc)?;
+    is_of(alloc, &copy, text)
+}
+
+/// A copy of a library has its slots and its text.
+pub(crate) fn copy_is_equal(
+    rt: &(impl AllocGlobal + RandomSource + Threads + Sync),
+) -> Result<bool, Fail> {
+    let library = library(rt, mini())?;
+    is_copied(rt.alloc(), &library, mini()).map_err(Fail::from)
+}

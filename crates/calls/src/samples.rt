@@ -1,0 +1,113 @@
+//! Databases that calls begin with, by their texts.
+
+ghost use Rattle.std.specs.Prelude.{IfOk};
+ghost use Rattle.derivation.specs.Databases.{AllCheck};
+
+use mmstatement::{Database, Sequence, read_database};
+use proofcheck::check_all;
+use std::alloc::{AllocError, AllocGlobal, Global};
+use std::hash::RandomState;
+use std::random::RandomSource;
+use std::test::Fail;
+use std::thread::Threads;
+
+/// 23 bytes: one constant, and an axiom.
+pub(crate) fn mini() -> &'static [u8] {
+    b"$c wff $.\nwe $a wff $.\n"
+}
+
+/// Two constants, two variables with their `$f`, two axioms, and a theorem with everything in it, in the canonical layout.
+pub(crate) fn small() -> &'static [u8] {
+    b"$c wff |- $.
+$v x y $.
+wx $f wff x $.
+wy $f wff y $.
+id $a |- x y x $.
+wc $a wff $.
+${
+  $d x y $.
+  th.1 $e |- x y $.
+  th $p |- x y $= wy th.1 id $.
+$}
+"
+}
+
+/// The database of a text.
+pub(crate) fn database(
+    rt: &(impl AllocGlobal + RandomSource),
+    text: &[u8],
+) -> Result<Database, Fail> {
+    let keys = RandomState::new(rt)?;
+    Ok(read_database(rt.alloc(), keys, text)?)
+}
+
+/// The same, where its proofs check.
+pub(crate) fn checked(
+    rt: &(impl AllocGlobal + RandomSource + Threads + Sync),
+    text: &[u8],
+) -> Result<Database, Fail>
+    ensures { IfOk result AllCheck }
+{
+    let db = database(rt, text)?;
+    match check_all(rt, rt.alloc(), &db) {
+        Ok(()) => Ok(db),
+        Err(_) => Err(Fail::from("the proofs of the database check")),
+    }
+}
+
+/// Two axioms and a theorem that cites the first of them, in the canonical layout.
+pub(crate) fn three() -> &'static [u8] {
+    b"$c wff |- $.
+$v x y $.
+wx $f wff x $.
+wy $f wff y $.
+id $a |- x y x $.
+wc $a wff $.
+${
+  $d x y $.
+  th.1 $e |- x y $.
+  th $p |- x y x $= wx wy id $.
+$}
+"
+}
+
+/// The declarations of `examples/demo.mm`.
+fn demo_prelude() -> &'static [u8] {
+    b"$c 0 + = -> ( ) term wff |- $.
+$v t r s P Q $.
+tt $f term t $.
+tr $f term r $.
+ts $f term s $.
+wp $f wff P $.
+wq $f wff Q $.
+"
+}
+
+/// Its assertions.
+fn demo_assertions() -> &'static [u8] {
+    b"tze $a term 0 $.
+tpl $a term ( t + r ) $.
+weq $a wff t = r $.
+wim $a wff ( P -> Q ) $.
+a1 $a |- ( t = r -> ( t = s -> r = s ) ) $.
+a2 $a |- ( t + 0 ) = t $.
+${
+  mp.1 $e |- P $.
+  mp.2 $e |- ( P -> Q ) $.
+  mp $a |- Q $.
+$}
+th1 $p |- t = t $= tt tze tpl tt weq tt tt weq tt a2 tt tze tpl tt weq tt tze tpl tt weq tt tt weq wim tt a2 tt tze tpl tt tt a1 mp mp $.
+"
+}
+
+/// The text of `examples/demo.mm`, in the canonical layout.
+pub(crate) fn demo(alloc: Global) -> Result<Vec<u8>, AllocError> {
+    let mut text = Vec::from_slice(alloc, demo_prelude())?;
+    text.extend_from_slice(demo_assertions())?;
+    Ok(text)
+}
+
+/// The list of these items.
+pub(crate) fn sequence<T: Copy>(alloc: Global, items: &[T]) -> Result<Sequence<T>, AllocError> {
+    Ok(Sequence::from_vec(Vec::from_slice(alloc, items)?))
+}

@@ -1,7 +1,0 @@
--- What is open is a library with its own sessions.
-use Rattle.std.proofs.Common.{IfSome}
-use Rattle.sessionrows.specs.Opened.{IsOpen}
-use Rattle.sessionrows.proofs.answer_all.Given as goal
-
-abbrev pub invariant-loop-number : goal.invariant-loop-number
-invariant-loop-number g l = IfSome l.opened IsOpen

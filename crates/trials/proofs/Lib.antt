@@ -1,0 +1,2 @@
+mod Dealt
+mod Plain

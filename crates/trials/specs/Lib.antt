@@ -1,0 +1,2 @@
+pub mod InCells
+pub mod Opened

@@ -1,0 +1,160 @@
+//! What is measured of this repository's crates, for the programs of `benches/`: `workbench cells|check|words|sessions|all WORD..`.
+//!
+//! `cells` measures libraries in cells, `check` reading and checking, `words` transactions over shared words, `sessions` scripts by
+//! many threads; the further words are told at each. `all DB SCRIPT SCRIPTS..` does a small run of each, and prints the same on the
+//! standard output each time: the first script is done over cells, the others by two sessions. The status is 1 where something fails,
+//! and 2 where the words aren't understood.
+use crate::files::{read_db, read_scripts};
+use crate::{cell_work, check_work, mutex_work, session_work, word_work};
+use std::alloc::AllocError;
+use std::hash::RandomState;
+use std::process::ExitCode;
+use std::random::RandomSource;
+use std::rt::{Clock, Files};
+use std::sync::Wait;
+use std::thread::Threads;
+use std::time::CpuClock;
+
+/// How a run ends.
+#[derive(Clone, Copy, PartialEq)]
+pub enum Ending {
+    /// It was done.
+    Done,
+    /// Something failed: status 1.
+    Failed,
+    /// The words weren't understood: status 2.
+    Misused,
+}
+
+impl Ending {
+    /// The status of the program.
+    pub fn status(self) -> ExitCode {
+        match self {
+            Ending::Done => ExitCode::SUCCESS,
+            Ending::Failed => ExitCode::from(1),
+            Ending::Misused => ExitCode::from(2),
+        }
+    }
+}
+
+/// What is said where the words aren't understood.
+const USAGE: &str =
+    "usage: workbench check DB, or cells check|open|back DB, or cells editor|cells DB SCRIPT, \
+or words disjoint|uniform|hot|read CELLS TRANSACTIONS THREADS, or sessions sessions|mutex THREADS DB SCRIPT.., by 1 to 64 threads, \
+or all DB SCRIPT SCRIPTS..";
+
+/// What is said where something fails.
+const FAILURE: &str =
+    "a file cannot be read, a text has a fault, or there is no room, no memory, no thread or no clock";
+
+/// Does a task with a database and scripts. It may wait.
+fn do_task<R>(
+    rt: &R,
+    keys: RandomState,
+    task: &str,
+    threads: usize,
+    db: &str,
+    scripts: &[String],
+) -> Option<Ending>
+where
+    R: AllocGlobal + Files + Print + Eprint + Clock + CpuClock + Threads + Wait + Sync,
+{
+    let db = read_db(rt, keys, db)?;
+    let scripts = read_scripts(rt, db.prelude(), scripts)?;
+    let scripts = scripts.as_slice();
+    match task {
+        "sessions" => session_work::run(rt, keys, &db, scripts, threads),
+        "mutex" => mutex_work::run(rt, keys, &db, scripts, threads),
+        _ => cell_work::run(rt, keys, &db, scripts, task),
+    }
+}
+
+/// Does `sessions TASK THREADS DB SCRIPT..`. It may wait.
+fn do_sessions<R>(rt: &R, keys: RandomState, words: &[String]) -> Option<Ending>
+where
+    R: AllocGlobal + Files + Print + Eprint + Clock + CpuClock + Threads + Wait + Sync,
+{
+    let [task, threads, db, scripts @ ..] = words else {
+        return Some(Ending::Misused);
+    };
+    let threads = threads.as_str().parse().ok()?;
+    do_task(rt, keys, task.as_str(), threads, db.as_str(), scripts)
+}
+
+/// Does a small run of each subject. It may wait.
+fn do_all<R>(rt: &R, keys: RandomState, words: &[String]) -> Option<Ending>
+where
+    R: AllocGlobal + Files + Print + Eprint + Clock + CpuClock + Threads + Wait + Sync,
+{
+    let [db, scripts @ ..] = words else {
+        return Some(Ending::Misused);
+    };
+    let (first, others) = scripts.split_at_checked(1)?;
+    check_work::run(rt, keys, db.as_str())?;
+    do_task(rt, keys, "cells", 1, db.as_str(), first)?;
+    word_work::run(rt, "hot", 8, 100, 2)?;
+    do_task(rt, keys, "sessions", 2, db.as_str(), others)
+}
+
+/// Does what these words ask for; none is a failure. It may wait.
+fn obey<R>(rt: &R, words: &[String]) -> Option<Ending>
+where
+    R: AllocGlobal
+        + RandomSource
+        + Files
+        + Print
+        + Eprint
+        + Clock
+        + CpuClock
+        + Threads
+        + Wait
+        + Sync,
+{
+    let [subject, words @ ..] = words else {
+        return Some(Ending::Misused);
+    };
+    let keys = RandomState::new(rt).ok()?;
+    match subject.as_str() {
+        "check" => match words {
+            [db] => check_work::run(rt, keys, db.as_str()),
+            _ => Some(Ending::Misused),
+        },
+        "cells" => match words {
+            [task, db, scripts @ ..] => {
+                do_task(rt, keys, task.as_str(), 1, db.as_str(), scripts)
+            }
+            _ => Some(Ending::Misused),
+        },
+        "words" => word_work::obey(rt, words),
+        "sessions" => do_sessions(rt, keys, words),
+        "all" => do_all(rt, keys, words),
+        _ => Some(Ending::Misused),
+    }
+}
+
+/// Does what the words of a command line ask for, of which the first is the subject. It may wait.
+///
+/// # Errors
+///
+/// There is none: what fails, also for want of memory, is told on the standard error, and ends as [`Ending::Failed`].
+pub fn measure<R>(rt: &R, words: &[String]) -> Result<Ending, AllocError>
+where
+    R: AllocGlobal
+        + RandomSource
+        + Files
+        + Print
+        + Eprint
+        + Clock
+        + CpuClock
+        + Threads
+        + Wait
+        + Sync,
+{
+    let ending = obey(rt, words).unwrap_or(Ending::Failed);
+    let _ = match ending {
+        Ending::Done => Ok(()),
+        Ending::Failed => rt.eprintln(FAILURE),
+        Ending::Misused => rt.eprintln(USAGE),
+    };
+    Ok(ending)
+}

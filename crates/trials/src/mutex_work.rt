@@ -1,0 +1,93 @@
+//! `sessions mutex THREADS DB SCRIPT..`: the same as by sessions (`session_work.rt`), by the one-thread editor behind a lock.
+
+ghost use Rattle.derivation.specs.Databases.{AllCheck};
+
+use crate::cell_work::apply;
+use crate::files::SLOTS;
+use crate::measuring::Ending;
+use crate::times::{Counts, tell, times};
+use history::{ApplyError, Editor};
+use library::{Script, has_edit};
+use mmstatement::Database;
+use proofcheck::check_all;
+use std::alloc::Global;
+use std::hash::RandomState;
+use std::rt::Clock;
+use std::sync::atomic::{AtomicUsize, Ordering};
+use std::sync::{Mutex, Wait};
+use std::thread;
+use std::thread::Threads;
+use std::time::CpuClock;
+
+/// Takes one script after another, and does its transactions, each under the lock, until all are taken.
+fn work<R: Wait>(
+    rt: &R,
+    alloc: Global,
+    desk: &Mutex<Editor>,
+    scripts: &[Script],
+    taken: &AtomicUsize,
+) -> Counts {
+    let (mut committed, mut read, mut refused, mut other) = (0_u64, 0_u64, 0_u64, 0_u64);
+    for _ in scripts {
+        let Some(script) = scripts.get(taken.fetch_add(1, Ordering::SeqCst)) else {
+            break;
+        };
+        for commands in script.as_slice() {
+            let commands = commands.as_slice();
+            let answer = apply(&mut *desk.lock(rt), alloc, commands);
+            let count = match answer {
+                Ok(_) if has_edit(commands) => &mut committed,
+                Ok(_) => &mut read,
+                Err(ApplyError::Refused(_)) => &mut refused,
+                Err(ApplyError::NoMemory) => &mut other,
+            };
+            *count = count.saturating_add(1);
+        }
+    }
+    [committed, read, refused, other]
+}
+
+/// Does the scripts by so many threads. None where there is no memory or a clock can't be read.
+fn work_all<R>(rt: &R, desk: &Mutex<Editor>, scripts: &[Script], threads: usize) -> Option<Ending>
+where
+    R: AllocGlobal + Print + Eprint + Clock + CpuClock + Threads + Wait + Sync,
+{
+    let alloc = rt.alloc();
+    let taken = AtomicUsize::new(0);
+    let taken = &taken;
+    let start = times(rt);
+    let shares = thread::map_indices(
+        rt,
+        alloc,
+        threads,
+        &|_| work(rt, alloc, desk, scripts, taken),
+    )
+    .ok()?;
+    let end = times(rt);
+    let mut counts = [0_u64; 4];
+    for share in &shares {
+        for (count, own) in counts.iter_mut().zip(share) {
+            *count = count.saturating_add(*own);
+        }
+    }
+    tell(rt, start, end, 0, counts)
+}
+
+/// Does the scripts. None where that can't be done. It may wait.
+pub(crate) fn run<R>(
+    rt: &R,
+    keys: RandomState,
+    db: &Database,
+    scripts: &[Script],
+    threads: usize,
+) -> Option<Ending>
+where
+    R: AllocGlobal + Print + Eprint + Clock + CpuClock + Threads + Wait + Sync,
+{
+    if !(1..=64).contains(&threads) {
+        return Some(Ending::Misused);
+    }
+    check_all(rt, rt.alloc(), db).ok()?;
+    let editor = Editor::open(rt.alloc(), keys, db, SLOTS).ok()?;
+    work_all(rt, &Mutex::new(editor), scripts, threads)
+}
