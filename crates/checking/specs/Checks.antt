@@ -48,6 +48,12 @@ pub record PrintsReplay (contents : Contents) (history : List Entry) (out : Byte
   pub prints : out ≡ replayed_lines (length history) library
   pub accepted : Accepts (exported_text library)
 
+-- the library after a history, in export order: the history is legal over the library of the database
+pub record IsAfter (contents : Contents) (history : List Entry) (library : Listed) : Type 0 where
+  pub setting : library.setting ≡ setting_of contents
+  pub legal : IsLegal (setting_of contents) (opening contents) (map told history)
+  pub shows : ShowsInOrder (after_all (setting_of contents) (opening contents) (map told history)) library.entries
+
 -- the text of a database: it spells these contents, and has no fault
 pub record IsDatabase (text : Bytes) (contents : Contents) : Type 0 where
   pub spelled : Spells text contents
@@ -93,6 +99,13 @@ pub record IsReplay (db text : Bytes) (out : Bytes) : Type 0 where
   pub history : List Entry
   pub read : IsHistory contents.prelude text history
   pub printed : PrintsReplay contents history out
+
+-- the database and the history are read as they are spelled, the proofs of the database check, and the history leads to the library
+pub record LeadsTo (db text : Bytes) (history : List Entry) (library : Listed) : Type 0 where
+  pub contents : Contents
+  pub checked : IsChecked db contents
+  pub read : IsHistory contents.prelude text history
+  pub after : IsAfter contents history library
 
 -- the fault of the script at a place, where each script before it is read
 abbrev pub IsFirstFault : Tables → List Bytes → ℕ → TextFault → Type 0

@@ -53,9 +53,3 @@ abbrev pub IsHistoryFault : Tables → Bytes → Fault → Type 0
 IsHistoryFault p text (Text (suc zero) f) = FaultyHistory p text f × (f.kind ≢ OutOfMemory)
 IsHistoryFault p text NoMemory = Unit {0}
 IsHistoryFault p text _ = ⊥
-
--- a library to which a history leads
-pub record IsReplayed (contents : Contents) (history : List Entry) (library : Listed) : Type 0 where
-  pub setting : library.setting ≡ setting_of contents
-  pub legal : IsLegal (setting_of contents) (opening contents) (map told history)
-  pub shows : ShowsInOrder (after_all (setting_of contents) (opening contents) (map told history)) library.entries

@@ -16,4 +16,4 @@ pub use laws::spelled_scripts_fit;
 pub use replaying::SLOTS;
 pub use scripting::read_scripts;
 pub use task::Task;
-pub use texts::{check, replay};
+pub use texts::{check, replay, replay_library};

@@ -9,8 +9,8 @@ ghost use Rattle.historytext.specs.Places.{FaultyHistory};
 ghost use Rattle.historytext.specs.Layout.{EntryFits};
 ghost use Rattle.checking.specs.declared.fault.Fault.{Fault as FaultOfJob};
 ghost use Rattle.checking.specs.declared.fault.Fault.TheVariants.{NoMemory};
-ghost use Rattle.checking.specs.Checks.{library_lines, IsHistory, PrintsReplay, IsDifference, RefusesWith};
-ghost use Rattle.checking.specs.Parts.{IsReplayed, IsHistoryFault, GivesOrLacksMemory, IsRefusedWith};
+ghost use Rattle.checking.specs.Checks.{library_lines, IsHistory, IsAfter, PrintsReplay, IsDifference, RefusesWith};
+ghost use Rattle.checking.specs.Parts.{IsHistoryFault, GivesOrLacksMemory, IsRefusedWith};
 
 use crate::fault::{Fault, text_fault};
 use export::put_library;
@@ -39,7 +39,7 @@ pub(crate) fn read_entries(alloc: Global, prelude: &Prelude, text: &[u8]) -> Res
 }
 
 /// Does the transactions of a history again, over the library of a database, and gives the library after them.
-fn replay(
+pub(crate) fn replay_entries(
     alloc: Global,
     keys: RandomState,
     db: &Database,
@@ -47,7 +47,7 @@ fn replay(
 ) -> Result<PlainLibrary, Fault>
     requires checks { AllCheck db.now }
     requires fit { All (EntryFits db.now.prelude) history.now }
-    ensures done { IfOk result (IsReplayed db.now history.now) }
+    ensures done { IfOk result (IsAfter db.now history.now) }
     ensures fault { IfErr result (λ f. f ≢ NoMemory → IsDifference db.now history.now f) }
     ensures refused { (f : FaultOfJob) → IsDifference db.now history.now f → RefusesWith f result }
 {
@@ -85,7 +85,7 @@ pub(crate) fn print_replay(
     ensures fault { IfErr result (λ f. f ≢ NoMemory → IsDifference db.now history.now f) }
     ensures refused { (f : FaultOfJob) → IsDifference db.now history.now f → RefusesWith f result }
 {
-    let library = replay(alloc, keys, db, history)?;
+    let library = replay_entries(alloc, keys, db, history)?;
     // For the proof: the library verifies, and is in export order.
     let _entries = library.entries();
     Ok(replayed_text(alloc, history.len(), &library)?)

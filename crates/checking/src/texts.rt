@@ -4,11 +4,12 @@ ghost use Rattle.std.specs.Prelude.{◌≡◌, ◌≢◌, ◌++◌, ◌∷◌, [
 ghost use Rattle.std.specs.Fmt.{decimal};
 ghost use Rattle.checking.specs.declared.fault.Fault.{Fault as FaultOfJob};
 ghost use Rattle.checking.specs.declared.fault.Fault.TheVariants.{NoMemory};
-ghost use Rattle.checking.specs.Checks.{IsCheck, IsReplay, IsDatabaseFault, IsReplayFault, RefusesWith};
+ghost use Rattle.checking.specs.Checks.{IsCheck, IsReplay, LeadsTo, IsDatabaseFault, IsReplayFault, RefusesWith};
 
 use crate::database::read_and_check;
 use crate::fault::Fault;
-use crate::replaying::{print_replay, read_entries};
+use crate::replaying::{print_replay, read_entries, replay_entries};
+use library::{History, PlainLibrary};
 use std::alloc::{AllocError, Global};
 use std::hash::RandomState;
 use std::thread::Threads;
@@ -34,6 +35,24 @@ pub fn check(
 {
     let db = read_and_check(rt, alloc, keys, db)?;
     Ok(print_count(alloc, db.assertions().len())?)
+}
+
+/// Does the transactions of a history again, over a database, as texts, and gives the entries of the history and the library after them.
+pub fn replay_library(
+    rt: &(impl Threads + Sync),
+    alloc: Global,
+    keys: RandomState,
+    db: &[u8],
+    history: &[u8],
+) -> Result<(History, PlainLibrary), Fault>
+    ensures done { IfOk result (λ r. LeadsTo db.now history.now r.0 r.1) }
+    ensures fault { IfErr result (λ f. f ≢ NoMemory → IsReplayFault db.now history.now f) }
+    ensures refused { (f : FaultOfJob) → IsReplayFault db.now history.now f → RefusesWith f result }
+{
+    let db = read_and_check(rt, alloc, keys, db)?;
+    let entries = read_entries(alloc, db.prelude(), history)?;
+    let library = replay_entries(alloc, keys, &db, entries.as_slice())?;
+    Ok((entries, library))
 }
 
 /// Does the transactions of a history again, over a database, as texts, and gives what is printed.

@@ -72,6 +72,7 @@ abbrev pub labels_wished : Wish → List Word
 labels_wished wish.All = []
 labels_wished (wish.For asked) = seen_words asked.now
 labels_wished (wish.Between from to) = from.now ∷ to.now ∷ []
+labels_wished (wish.These labels axioms) = seen_words labels.now ++ seen_words axioms.now
 
 -- the first of them that no assertion has
 abbrev pub first_unknown : Scope → Wish → Option Word
@@ -88,6 +89,7 @@ IsChoice s wish.All choice = choice ≡ all_chosen s
 IsChoice s (wish.For asked) choice = choice ≡ chosen_for (seen_words asked.now) s
 IsChoice s (wish.Between from to) choice =
     (i j : ℕ) × (place_in s from.now ≡ Some i) × (place_in s to.now ≡ Some j) × (choice ≡ chosen_between i j s)
+IsChoice s (wish.These labels axioms) choice = choice ≡ record { chosen = seen_words labels.now; front = seen_words axioms.now }
 
 -- a selection by flags: at most 4,096 assertions; each label of the wish is one of an assertion, and they stand the right way round
 pub record IsChosen (s : Scope) (w : Wish) (sel : Selection) : Type 0 where

@@ -5,7 +5,7 @@ ghost use Rattle.source.specs.Whole.{IsWhole};
 ghost use Rattle.prooftrees.specs.Frames.{Holds};
 ghost use Rattle.choosing.specs.Choices.{place_in, IsChosen, IsUnchosen};
 ghost use Rattle.choosing.specs.declared.wish.Unchosen.TheVariants.{NoMemory, UnknownLabel};
-ghost use Rattle.choosing.specs.declared.wish.Wish.TheVariants.{All, For, Between};
+ghost use Rattle.choosing.specs.declared.wish.Wish.TheVariants.{All, For, Between, These};
 
 use crate::between::{needed_between, selected};
 use crate::marks::marks_of;
@@ -109,6 +109,26 @@ fn choose_between<'a, 'w, D: Declared<'a>>(
     Ok(selection)
 }
 
+/// Just those with the first labels are chosen, and those with the second stand in front.
+fn choose_these<'a, 'w, D: Declared<'a>>(
+    alloc: Global,
+    declared: &D,
+    labels: &'w [&'w [u8]],
+    axioms: &'w [&'w [u8]],
+) -> Result<Selection, Unchosen<'w>>
+    requires { IsWhole (D.scope declared.now) }
+    ensures chosen { IfOk result (IsChosen (D.scope declared.now) (These labels.entry axioms.entry)) }
+    ensures refused { IfErr result (λ why. why ≢ NoMemory → IsUnchosen (D.scope declared.now) (These labels.entry axioms.entry) why) }
+{
+    if labels.len() > MOST {
+        return Err(Unchosen::TooMany(labels.len()));
+    }
+    Ok(Selection {
+        chosen: marks_of(alloc, declared, labels)?,
+        front: marks_of(alloc, declared, axioms)?,
+    })
+}
+
 /// What is chosen of a source by a wish.
 ///
 /// Each proof that is needed is read once, and those that aren't are not read.
@@ -134,5 +154,6 @@ pub fn choose<'a, 'w, D: Declared<'a>>(
         Wish::All => choose_all(alloc, declared),
         Wish::For(labels) => choose_for(alloc, keys, declared, frames, labels),
         Wish::Between(from, to) => choose_between(alloc, keys, declared, frames, from, to),
+        Wish::These(labels, axioms) => choose_these(alloc, declared, labels, axioms),
     }
 }

@@ -11,6 +11,8 @@ pub enum Wish<'w> {
     For(&'w [&'w [u8]]),
     /// Those from one label to another, and in front of them what their proofs cite, as axioms.
     Between(&'w [u8], &'w [u8]),
+    /// Just those with the first labels; of them those with the second labels as axioms.
+    These(&'w [&'w [u8]], &'w [&'w [u8]]),
 }
 
 /// What is chosen, for each assertion by its place.

@@ -64,6 +64,10 @@ to_rule = record (new_rule (codes "to")) { long = Some (codes "to"); value_names
 abbrev pub source_rule : Rule
 source_rule = record (new_rule (codes "SOURCE")) { required = true; action = Some Set }
 
+-- `LIBRARY`
+abbrev pub library_rule : Rule
+library_rule = record (new_rule (codes "LIBRARY")) { required = true; action = Some Set }
+
 -- `check DB`
 abbrev pub check_app : App
 check_app = with_rule (new_app (codes "check")) database_rule
@@ -80,16 +84,22 @@ replay_app = with_rule (with_rule (new_app (codes "replay")) database_rule) repl
 abbrev pub take_app : App
 take_app = with_rule (with_rule (with_rule (with_rule (new_app (codes "take")) for_rule) from_rule) to_rule) source_rule
 
+-- `give SOURCE LIBRARY HISTORY`
+abbrev pub give_app : App
+give_app = with_rule (with_rule (with_rule (new_app (codes "give")) source_rule) library_rule) replayed_rule
+
 -- the program, before it has subcommands: it has a version, and wants one of them
 abbrev pub bare_app : App
 bare_app =
     let bare = new_app (codes "mmrefactor") in
     record bare { top = record bare.top { has_version = true; subcommand_required = true; arg_required_else_help = true } }
 
--- `mmrefactor`, with its four subcommands
+-- `mmrefactor`, with its five subcommands
 abbrev pub program_app : App
 program_app =
-    with_subcommand (with_subcommand (with_subcommand (with_subcommand bare_app check_app.top) run_app.top) replay_app.top) take_app.top
+    with_subcommand
+    (with_subcommand (with_subcommand (with_subcommand (with_subcommand bare_app check_app.top) run_app.top) replay_app.top) take_app.top)
+    give_app.top
 
 -- an argument with these rules
 abbrev pub IsArgument : Rule → Arg → Type 0

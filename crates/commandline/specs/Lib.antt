@@ -1,3 +1,4 @@
 pub mod CommandLine
 pub mod Orders
 pub mod TakeOrders
+pub mod GiveOrders

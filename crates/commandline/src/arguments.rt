@@ -3,8 +3,8 @@
 ghost use Rattle.std.specs.Prelude.{IfOk};
 ghost use Rattle.clap.specs.Words.{App, Rule, with_rule, with_subcommand};
 ghost use Rattle.commandline.specs.CommandLine.{IsArgument, IsLine, database_rule, workers_rule, room_rule, history_rule, scripts_rule, replayed_rule};
-ghost use Rattle.commandline.specs.CommandLine.{for_rule, from_rule, to_rule, source_rule};
-ghost use Rattle.commandline.specs.CommandLine.{check_app, run_app, replay_app, take_app, program_app};
+ghost use Rattle.commandline.specs.CommandLine.{for_rule, from_rule, to_rule, source_rule, library_rule};
+ghost use Rattle.commandline.specs.CommandLine.{check_app, run_app, replay_app, take_app, give_app, program_app};
 
 use clap::builder::ValueParser;
 use clap::{Arg, ArgAction, Command};
@@ -83,7 +83,7 @@ fn replayed<'a>(alloc: Global) -> Arg<'a>
     ensures { IsArgument replayed_rule result }
 {
     Arg::new(alloc, "HISTORY")
-        .help("The history of a run over the database")
+        .help("The history of a run over it")
         .required(true)
         .action(ArgAction::Set)
 }
@@ -129,6 +129,16 @@ fn source<'a>(alloc: Global) -> Arg<'a>
 {
     Arg::new(alloc, "SOURCE")
         .help("A database in the whole language of Metamath, without $[")
+        .required(true)
+        .action(ArgAction::Set)
+}
+
+/// The library that edits were made in.
+fn library<'a>(alloc: Global) -> Arg<'a>
+    ensures { IsArgument library_rule result }
+{
+    Arg::new(alloc, "LIBRARY")
+        .help("The library that `take` printed of the source")
         .required(true)
         .action(ArgAction::Set)
 }
@@ -214,8 +224,21 @@ fn take_line<'a>(alloc: Global) -> Result<Command<'a>, AllocError>
     with_argument(line, source(alloc))
 }
 
+/// `mmrefactor give SOURCE LIBRARY HISTORY`.
+fn give_line<'a>(alloc: Global) -> Result<Command<'a>, AllocError>
+    ensures { IfOk result (IsLine give_app) }
+{
+    let line = Command::new(alloc, "give")
+        .about("Gives the edits of a history back into the source; prints it with them")
+        .after_help("Example: mmrefactor give set.mm sqrt2irr.mm run.history > edited.mm")
+        .arg(source(alloc));
+    let line = with_argument(line, library(alloc));
+    with_argument(line, replayed(alloc))
+}
+
 /// The command lines that the program takes: `mmrefactor check DB`, `mmrefactor run [--workers N] [--room W] [--history FILE] DB SCRIPT..`,
-/// `mmrefactor replay DB HISTORY` and `mmrefactor take [--for LABEL].. [--from LABEL --to LABEL] SOURCE`.
+/// `mmrefactor replay DB HISTORY`, `mmrefactor take [--for LABEL].. [--from LABEL --to LABEL] SOURCE` and `mmrefactor give SOURCE LIBRARY
+/// HISTORY`.
 ///
 /// That `--from` and `--to` go together, and not with `--for`, is no rule of these lines.
 ///
@@ -233,5 +256,6 @@ pub fn command_line<'a>(alloc: Global) -> Result<Command<'a>, AllocError>
     let line = with_line(Ok(line), check_line(alloc));
     let line = with_line(line, run_line(alloc));
     let line = with_line(line, replay_line(alloc));
-    with_line(line, take_line(alloc))
+    let line = with_line(line, take_line(alloc));
+    with_line(line, give_line(alloc))
 }

@@ -1,6 +1,8 @@
 //! Changed labels, with a fast look-up.
 
-ghost use Rattle.std.specs.Prelude.{◌≡◌, ◌↔◌, IfOk, IsTrue};
+ghost use Rattle.std.specs.Prelude.{◌≡◌, ◌↔◌, IfOk, IsTrue, find};
+ghost use Rattle.std.specs.Option.{option_map};
+ghost use Rattle.std.specs.Str.{bytes_eq};
 ghost use Rattle.source.specs.Views.{seen_pairs};
 ghost use Rattle.giving.specs.Staying.{changed};
 ghost use Rattle.giving.specs.Changes.{FindsChanges};
@@ -10,7 +12,8 @@ use std::collections::HashMap;
 use std::hash::RandomState;
 use std::marker::Model;
 
-/// Labels of assertions with their new ones. A clause sees these pairs: the map is for look-ups alone.
+/// Labels of assertions, each with what is to stand in its place: its new label, or the text of another proof. A clause sees these pairs: the map
+/// is for look-ups alone.
 pub struct Changes<'a> {
     pairs: Vec<(&'a [u8], &'a [u8])>,
     labels: HashMap<&'a [u8], &'a [u8], RandomState>,
@@ -54,6 +57,13 @@ impl<'a> Changes<'a> {
     {
         let labels = first_changes(alloc, keys, pairs.as_slice())?;
         Ok(Changes { pairs, labels })
+    }
+
+    /// What stands in the place of a label, if anything does: one look-up.
+    pub fn text_for(&self, old: &[u8]) -> Option<&'a [u8]>
+        ensures { option_map (λ w. w.now) result ≡ option_map (λ c. c.1) (find (λ c. bytes_eq old.now c.0) self.now) }
+    {
+        self.labels.get(&old).copied()
     }
 
     /// Whether a label reads so once it is changed: one look-up.

@@ -107,8 +107,13 @@ fn count_chosen(chosen: &[bool]) -> usize {
     chosen.iter().filter(|is_chosen| **is_chosen).count()
 }
 
-/// Takes a library of a source. Who follows is told of each assertion.
-fn take_from<'a, 'w, D: Declared<'a>>(
+/// Takes a library of a source that was read: what [`take`] says of a text holds of what the source declares. Who follows is told of each
+/// assertion.
+///
+/// # Errors
+///
+/// Those of [`take`] but a fault of the text.
+pub fn take_declared<'a, 'w, D: Declared<'a>>(
     rt: &(impl Threads + Sync),
     alloc: Global,
     keys: RandomState,
@@ -141,7 +146,7 @@ fn take_from<'a, 'w, D: Declared<'a>>(
         front,
         follow,
     )?;
-    library_of(rt, alloc, keys, &sites, names, gathered)
+    library_of(rt, alloc, keys, &sites, names, gathered, selection.chosen)
 }
 
 /// Takes a library from a text. Who follows is told how far it is, but not that it is at its end.
@@ -160,7 +165,7 @@ fn take_text<'a, 'w>(
     follow.begin_reading();
     let scopes = read_source(alloc, Scopes::new(alloc, keys), text)?;
     sources_are_whole();
-    take_from(rt, alloc, keys, &scopes, wish, follow)
+    take_declared(rt, alloc, keys, &scopes, wish, follow)
 }
 
 /// Takes a library of the profile from a source in the whole language.

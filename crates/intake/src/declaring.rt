@@ -145,6 +145,7 @@ fn with_proofs<'a, 'w>(
     database: Database,
     axioms: Vec<(&'a [u8], Reason)>,
     names: Vec<(&'a [u8], Label)>,
+    chosen: Vec<bool>,
 ) -> Result<Taken<'a>, Refusal<'a, 'w>>
     ensures taken { (s : Scope) (w : Wish) → IsTakenOf s w database (told_in axioms.entry.items) (told_names names.entry.items)
         → IfOk result (IsLibraryOf s w) }
@@ -157,6 +158,7 @@ fn with_proofs<'a, 'w>(
             database,
             axioms,
             names,
+            chosen,
         }),
     }
 }
@@ -169,6 +171,7 @@ pub(crate) fn library_of<'a, 'w>(
     sites: &Sites<'a>,
     names: LibraryNames,
     gathered: Gathered<'a>,
+    chosen: Vec<bool>,
 ) -> Result<Taken<'a>, Refusal<'a, 'w>>
     requires { AreAsMany sites.now names }
     ensures taken { (s : Scope) (w : Wish) → IsGathered s w sites.now names gathered.entry → IfOk result (IsLibraryOf s w) }
@@ -177,7 +180,7 @@ pub(crate) fn library_of<'a, 'w>(
     let changed = changed_names(alloc, sites, &names)?;
     let draft = draft_of(alloc, sites, names, gathered.assertions)?;
     match declare(alloc, keys, draft) {
-        Ok(database) => with_proofs(rt, alloc, database, gathered.axioms, changed),
+        Ok(database) => with_proofs(rt, alloc, database, gathered.axioms, changed, chosen),
         Err(why) => Err(undeclared(sites, why)),
     }
 }

@@ -12,7 +12,7 @@ mod refusal;
 mod saying;
 mod taken;
 
-pub use call::take;
+pub use call::{take, take_declared};
 pub use following::{Follow, Unfollowed};
 pub use refusal::Refusal;
 pub use taken::Taken;

@@ -12,4 +12,6 @@ pub struct Taken<'a> {
     pub axioms: Vec<(&'a [u8], Reason)>,
     /// Each name that was changed, with that in the library: constants, variables, labels of `$f`, labels of assertions.
     pub names: Vec<(&'a [u8], Label)>,
+    /// Of each assertion of the source, in order of appearance: whether it was taken.
+    pub chosen: Vec<bool>,
 }

@@ -20,6 +20,10 @@ use Rattle.commandline.specs.CommandLine.{program_app}
 use Rattle.program.specs.Events.{Bytes, Event, IsQuiet, reads, writes, prints, says, shows}
 use Rattle.commandline.specs.Orders.{AsksFor, IsOrder}
 use Rattle.commandline.specs.TakeOrders.{AsksToTake, IsTakeOrder}
+use Rattle.commandline.specs.GiveOrders.{AsksToGive}
+use Rattle.givetext.specs.Answers.{IsGiveAnswer}
+use Rattle.givetext.specs.declared.answering.Returned.{Returned}
+use Rattle.givetext.specs.declared.answering.Returned.TheVariants as returned
 use Rattle.choosing.specs.declared.wish.Wish.{Wish}
 use Rattle.choosing.specs.declared.wish.Wish.TheVariants as wish
 use Rattle.taketext.specs.declared.answering.Told.{Told}
@@ -137,12 +141,33 @@ abbrev pub IsWishOf : List Bytes → Option Bytes → Option Bytes → Wish → 
 IsWishOf labels from to wish.All = (labels ≡ []) × (from ≡ None) × (to ≡ None)
 IsWishOf labels from to (wish.For asked) = (labels ≢ []) × (map (λ w. w.now) asked.now ≡ labels) × (from ≡ None) × (to ≡ None)
 IsWishOf labels from to (wish.Between first last) = (labels ≡ []) × (from ≡ Some first.now) × (to ≡ Some last.now)
+IsWishOf labels from to (wish.These named axioms) = ⊥
 
 -- a library is taken by what is wished for; or the options don't go together, which is said, and no file is read
 abbrev pub IsTakeDone : Bytes → List Bytes → Option Bytes → Option Bytes → List Event → ℕ → Type 0
 IsTakeDone path labels from to es status =
     ((w : Wish) × IsWishOf labels from to w × IsTakeFollowed path w es status)
     ⊎ (((w : Wish) → IsWishOf labels from to w → ⊥) × IsSaid (codes "--from and --to go together, without --for") es status)
+
+-- ---- an order to give back
+
+-- the source with the edits is printed, or the line of the refusal is said
+abbrev pub IsGiveTold : Returned → List Event → ℕ → Type 0
+IsGiveTold (returned.Printed out) es status = IsPrinted out.items es status
+IsGiveTold (returned.Refused line) es status = IsSaid (string_bytes line) es status
+
+-- what is answered for a source, a library and a history is told; or the system gives no random numbers, which is said
+abbrev pub IsAnsweredGive : List Bytes → List Event → ℕ → Type 0
+IsAnsweredGive (source ∷ library ∷ history ∷ []) es status =
+    ((told : Returned) × IsGiveAnswer source library history told × IsGiveTold told es status) ⊎ IsSaid (codes "no random numbers") es status
+IsAnsweredGive _ es status = ⊥
+
+-- a file can't be read; or all are read, in their order, before anything else is done, and then the edits are given back
+abbrev pub IsGiveDone : Bytes → Bytes → Bytes → List Event → ℕ → Type 0
+IsGiveDone source library history es status =
+    IsUnread (source ∷ library ∷ history ∷ []) es status
+    ⊎ ((texts : List Bytes) × (rest : List Event) × (es ≡ reads_of (source ∷ library ∷ history ∷ []) texts ++ rest)
+    × IsAnsweredGive texts rest status)
 
 -- ---- a command line
 
@@ -164,14 +189,22 @@ IsTakeOrdered found es status =
     (path : Bytes) × (labels : List Bytes) × (from : Option Bytes) × (to : Option Bytes) × IsTakeOrder found path labels from to
     × IsTakeDone path labels from to es status
 
--- no subcommand, or one that asks for no task and for nothing to take
+-- a subcommand with an order to give back, which is done
+abbrev pub IsGiveOrdered : Option (Text × List Row) → List Event → ℕ → Type 0
+IsGiveOrdered found es status =
+    (source : Bytes) × (library : Bytes) × (history : Bytes) × AsksToGive found source library history
+    × IsGiveDone source library history es status
+
+-- no subcommand, or one that asks for no task, and for nothing to take or to give back
 abbrev pub IsUnasked : Option (Text × List Row) → List Event → ℕ → Type 0
 IsUnasked found es status =
     ((task : Task) → AsksFor found task → ⊥) × ((path : Bytes) → AsksToTake found path → ⊥)
+    × ((source library history : Bytes) → AsksToGive found source library history → ⊥)
     × IsSaid (codes "the command line cannot be read") es status
 
 abbrev pub IsMatched : Option (Text × List Row) → List Event → ℕ → Type 0
-IsMatched found es status = IsOrdered found es status ⊎ (IsTakeOrdered found es status ⊎ IsUnasked found es status)
+IsMatched found es status =
+    IsOrdered found es status ⊎ (IsTakeOrdered found es status ⊎ (IsGiveOrdered found es status ⊎ IsUnasked found es status))
 
 -- the words are none of the program's command lines, or ask for help or the version, which the parser tells by its error
 abbrev pub IsUsage : List Text → List Event → ℕ → Type 0

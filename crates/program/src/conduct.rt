@@ -7,11 +7,12 @@ ghost use Rattle.program.specs.Events.{Event, Adds, says};
 ghost use Rattle.commandline.specs.Orders.{AsksWithin};
 ghost use Rattle.program.specs.Conduct.{IsPrinted, IsWritten, IsTold, IsReadBehind, AreRead, IsUnreadTold, IsJobAnswered, IsAnswered, IsFollowed, IsShown, IsMatched, IsObeyed, EndsBy, Obeys};
 
+use crate::give::follow_give;
 use crate::take::obey_take;
 use crate::world::{Trouble, World};
 use clap::ArgMatches;
 use clap::error::ErrorKind;
-use commandline::{Order, command_line, order_of};
+use commandline::{Order, command_line, give_of, order_of};
 use jobs::{Answered, Job, Watch, answer, job_of};
 use std::alloc::{AllocError, Global};
 use std::hash::RandomState;
@@ -98,7 +99,7 @@ fn read_behind<W: World>(
 
 /// Why the files of an order aren't read.
 #[derive(Clone, Copy)]
-enum Unread<'a> {
+pub(crate) enum Unread<'a> {
     /// The file at this path can't be read.
     File(&'a str),
     /// Memory ran out.
@@ -106,7 +107,7 @@ enum Unread<'a> {
 }
 
 /// Reads the files at these paths in their order. Where one can't be read, the texts are those of the files before it.
-fn read_all<'a, W: World>(
+pub(crate) fn read_all<'a, W: World>(
     world: &mut W,
     alloc: Global,
     paths: &[&'a str],
@@ -127,7 +128,7 @@ fn read_all<'a, W: World>(
 }
 
 /// Says which file of an order can't be read.
-fn tell_unread<W: World>(world: &mut W, unread: Unread<'_>) -> Result<u8, AllocError>
+pub(crate) fn tell_unread<W: World>(world: &mut W, unread: Unread<'_>) -> Result<u8, AllocError>
     ensures { (es : List Event) × Adds (W.done world.old) (W.done world.new) es × IsUnreadTold unread.entry es result }
 {
     match unread {
@@ -212,6 +213,25 @@ fn show_usage<W: World>(world: &mut W, error: &clap::Error) -> u8
     refuse(world, "cannot write")
 }
 
+/// Gives edits back, or takes a library, where one of these is what was found in the words of a command line. Who follows is told how far that is.
+fn obey_other<R: Threads + Sync, W: World, F: Follow>(
+    rt: &R,
+    alloc: Global,
+    world: &mut W,
+    keys: Option<RandomState>,
+    matches: &ArgMatches<'_>,
+    follow: &F,
+) -> Result<u8, AllocError>
+    requires { (task : Task) → AsksFor (subcommand_rows_of matches.now) task → ⊥ }
+    ensures { (es : List Event) × Adds (W.done world.old) (W.done world.new) es
+        × EndsBy (IsMatched (subcommand_rows_of matches.now)) es result }
+{
+    match give_of(matches) {
+        Some(order) => follow_give(rt, alloc, world, keys, order, follow),
+        None => obey_take(rt, alloc, world, keys, matches, follow),
+    }
+}
+
 /// Does what was found in the words of a command line. It may wait.
 fn obey_matches<R: Threads + Wait + Sync, W: World, V: Watch + Follow + Sync>(
     rt: &R,
@@ -226,7 +246,7 @@ fn obey_matches<R: Threads + Wait + Sync, W: World, V: Watch + Follow + Sync>(
 {
     match order_of(alloc, matches) {
         Ok(Some(order)) => follow(rt, alloc, world, keys, &order, watch),
-        Ok(None) => obey_take(rt, alloc, world, keys, matches, watch),
+        Ok(None) => obey_other(rt, alloc, world, keys, matches, watch),
         Err(_) => Err(AllocError),
     }
 }

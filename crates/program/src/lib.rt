@@ -2,12 +2,13 @@
 #![tactic(auto)]
 
 mod conduct;
+mod give;
 mod host;
 mod progress;
 mod take;
 mod world;
 
-pub use commandline::{Order, TakeOrder, order_of, take_of};
+pub use commandline::{GiveOrder, Order, TakeOrder, give_of, order_of, take_of};
 pub use conduct::obey;
 pub use host::run;
 pub use world::{Trouble, World};

@@ -3,8 +3,9 @@
 ghost use Rattle.std.specs.Prelude.{◌≡◌, [], List, IfOk, IfSome, IsNone, map, option_map};
 ghost use Rattle.checking.specs.declared.task.Task.{Task};
 ghost use Rattle.choosing.specs.declared.wish.Wish.{Wish as WishOfTake};
-ghost use Rattle.clap.specs.Words.{subcommand_rows_of};
+ghost use Rattle.clap.specs.Words.{Text, subcommand_rows_of};
 ghost use Rattle.commandline.specs.Orders.{AsksFor};
+ghost use Rattle.commandline.specs.GiveOrders.{AsksToGive};
 ghost use Rattle.program.specs.Events.{Event, Adds};
 ghost use Rattle.program.specs.Conduct.{IsTakeTold, IsWishOf, IsAnsweredTake, IsTakeFollowed, IsTakeDone, IsMatched, EndsBy};
 
@@ -157,7 +158,8 @@ pub(crate) fn obey_take<R: Threads + Sync, W: World, F: Follow>(
     matches: &ArgMatches<'_>,
     follow: &F,
 ) -> Result<u8, AllocError>
-    requires { (task : Task) → AsksFor (subcommand_rows_of matches.now) task → ⊥ }
+    requires asks { (task : Task) → AsksFor (subcommand_rows_of matches.now) task → ⊥ }
+    requires gives { (source library history : Text) → AsksToGive (subcommand_rows_of matches.now) source library history → ⊥ }
     ensures { (es : List Event) × Adds (W.done world.old) (W.done world.new) es
         × EndsBy (IsMatched (subcommand_rows_of matches.now)) es result }
 {

@@ -33,6 +33,7 @@ digits b = digit (b / 16) ∷ digit (b % 16) ∷ []
 abbrev pub chosen_line : Wish → List ℕ
 chosen_line wish.All = codes "   Chosen: all assertions" ++ 10 ∷ []
 chosen_line (wish.For asked) = codes "   Chosen: for" ++ (spaced (seen_words asked.now) ++ 10 ∷ [])
+chosen_line (wish.These labels axioms) = codes "   Chosen: just" ++ (spaced (seen_words labels.now) ++ 10 ∷ [])
 chosen_line (wish.Between from to) = codes "   Chosen: from " ++ (from.now ++ (codes " to " ++ (to.now ++ 10 ∷ [])))
 
 abbrev pub name_line : Naming → List ℕ

@@ -1,8 +1,8 @@
 //! The answer of the program where a library is to be taken.
 
-ghost use Rattle.std.specs.Prelude.{IfOk};
+ghost use Rattle.std.specs.Prelude.{◌≡◌, IfOk};
 ghost use Rattle.intake.specs.Intakes.{IsTaken};
-ghost use Rattle.taketext.specs.Answers.{IsTakeAnswer};
+ghost use Rattle.taketext.specs.Answers.{taken_text, IsTakeAnswer};
 
 use crate::comment::put_comment;
 use crate::refusing::{long_line, refusal_line};
@@ -25,6 +25,23 @@ pub enum Told {
     Refused(String),
 }
 
+/// The text of a library that was taken of the text of a file, behind its comment.
+pub fn write_taken(
+    alloc: Global,
+    path: &[u8],
+    source: &[u8],
+    wish: Wish<'_>,
+    taken: &Taken<'_>,
+) -> Result<Vec<u8>, AllocError>
+    ensures { IfOk result (λ out. out.items ≡ taken_text path.now source.now wish.entry taken.now) }
+{
+    let library = write_database(alloc, &taken.database)?;
+    let mut out = Vec::new(alloc);
+    put_comment(alloc, &mut out, path, source, wish, taken)?;
+    out.extend_from_slice(library.as_slice())?;
+    Ok(out)
+}
+
 /// The answer where a library is taken.
 fn tell_taken(
     alloc: Global,
@@ -36,10 +53,7 @@ fn tell_taken(
     requires { IsTaken source.now wish taken.now }
     ensures { IfOk result (IsTakeAnswer path.now source.now wish.entry) }
 {
-    let library = write_database(alloc, &taken.database)?;
-    let mut out = Vec::new(alloc);
-    put_comment(alloc, &mut out, path.as_bytes(), source, wish, taken)?;
-    out.extend_from_slice(library.as_slice())?;
+    let out = write_taken(alloc, path.as_bytes(), source, wish, taken)?;
     let count = out.as_slice().len();
     if count > MOST_BYTES {
         return Ok(Told::Refused(long_line(alloc, path, count)?));

@@ -116,6 +116,12 @@ fn put_wish(out: &mut Vec<u8>, wish: Wish<'_>) -> Result<(), AllocError>
             out.push(b'\n')?;
             Ok(())
         }
+        Wish::These(labels, _) => {
+            out.extend_from_slice(b"   Chosen: just")?;
+            put_words(out, labels)?;
+            out.push(b'\n')?;
+            Ok(())
+        }
     }
 }
 

@@ -6,5 +6,5 @@ mod answering;
 mod comment;
 mod refusing;
 
-pub use answering::{Told, answer_take};
+pub use answering::{Told, answer_take, write_taken};
 pub use intake::{Follow, Unfollowed};

@@ -4,7 +4,7 @@ use Rattle.library.specs.Histories.{told}
 use Rattle.history.specs.Replays.{Replays}
 use Rattle.historytext.proofs.LegalFits.{entries_fit}
 use Rattle.checking.proofs.ReplayFaults.{one_difference}
-use Rattle.checking.proofs.replaying.replay.Goals as goal
+use Rattle.checking.proofs.replaying.replay_entries.Goals as goal
 
 pub replay-requires-clause-fit : goal.replay-requires-clause-fit
 replay-requires-clause-fit c = entries_fit c.args.db.now.prelude c.args.history.now c.requires.fit

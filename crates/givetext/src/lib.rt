@@ -1,0 +1,21 @@
+//! What the program prints where the edits of a history are given back into the source that a library was taken of: the source with these
+//! edits, or a line that says why not.
+#![tactic(auto)]
+
+mod again;
+mod answering;
+mod call;
+mod commands;
+mod following;
+mod layout;
+mod letters;
+mod listing;
+mod origin;
+mod own;
+mod planning;
+mod proving;
+mod refusal;
+mod shared;
+mod wording;
+
+pub use answering::{Paths, Returned, answer_give};

@@ -1,0 +1,162 @@
+//! From the steps of a proof in the library to nodes in the order of the source.
+
+use crate::shared::Shared;
+use mmsyntax::{Float, Step};
+use source::{Declared, HypothesisWords};
+use std::alloc::{AllocError, Global};
+use std::collections::HashMap;
+use std::hash::RandomState;
+
+/// An assertion of the library, as proofs cite it.
+#[derive(Clone, Copy)]
+pub(crate) struct Cited<'x> {
+    /// Its place in the source.
+    pub place: usize,
+    /// Its label in the source then.
+    pub label: &'x [u8],
+}
+
+/// What the steps of proofs name.
+pub(crate) struct Names<'x> {
+    /// The labels of the library's `$f` in the source, by their places.
+    pub floats: Vec<&'x [u8]>,
+    /// The library's assertions, by their labels then.
+    pub cited: HashMap<&'x [u8], Cited<'x>, RandomState>,
+}
+
+impl<'x> Drop for Names<'x> {
+    fn drop(self) {
+        let Names {
+            floats: _,
+            cited: _,
+        } = self;
+    }
+}
+
+/// Whether each mandatory hypothesis of an assertion is a `$f`, in order of appearance.
+fn kinds_of<'a, D: Declared<'a>>(
+    alloc: Global,
+    declared: &D,
+    place: usize,
+) -> Result<Vec<bool>, AllocError>
+    requires { place < length (D.scope declared.now).assertions }
+{
+    let mut kinds = Vec::new(alloc);
+    for hypothesis in declared.mandatory(alloc, place)? {
+        kinds.push(match hypothesis {
+            HypothesisWords::Typing(..) => true,
+            HypothesisWords::Premise(..) => false,
+        })?;
+    }
+    Ok(kinds)
+}
+
+/// How many are `$f`.
+fn count_floats(kinds: &[bool]) -> usize {
+    kinds.iter().filter(|is_float| **is_float).count()
+}
+
+/// Arguments in the order of the source, where first those of `$f` stand and then those of `$e`. None where they are too few.
+fn arranged(
+    alloc: Global,
+    kinds: &[bool],
+    arguments: &[usize],
+) -> Result<Option<Vec<usize>>, AllocError> {
+    let mut floats = 0;
+    let mut premises = count_floats(kinds);
+    let mut made = Vec::new(alloc);
+    for is_float in kinds {
+        let place = if *is_float { floats } else { premises };
+        let Some(argument) = arguments.get(place) else {
+            return Ok(None);
+        };
+        made.push(*argument)?;
+        if *is_float {
+            floats = place + 1;
+        } else {
+            premises = place + 1;
+        }
+    }
+    Ok(Some(made))
+}
+
+/// A citation takes its arguments off the stack, and its node goes on. Whether they were there.
+fn cite<'x, 'a, D: Declared<'a>>(
+    alloc: Global,
+    declared: &D,
+    shared: &mut Shared<'x>,
+    stack: &mut Vec<usize>,
+    cited: Cited<'x>,
+) -> Result<bool, AllocError> {
+    if cited.place >= declared.assertions() {
+        return Ok(false);
+    }
+    let kinds = kinds_of(alloc, declared, cited.place)?;
+    if stack.len() < kinds.len() {
+        return Ok(false);
+    }
+    let first = stack.len() - kinds.len();
+    let Some(arguments) = arranged(alloc, kinds.as_slice(), &stack[first..])? else {
+        return Ok(false);
+    };
+    stack.truncate(first);
+    let node = shared.node(alloc, cited.label, arguments.as_slice())?;
+    stack.push(node)?;
+    Ok(true)
+}
+
+/// A hypothesis goes on the stack, if there is one.
+fn put_leaf<'x>(
+    alloc: Global,
+    shared: &mut Shared<'x>,
+    stack: &mut Vec<usize>,
+    label: Option<&&'x [u8]>,
+) -> Result<bool, AllocError> {
+    let Some(label) = label else {
+        return Ok(false);
+    };
+    let node = shared.node(alloc, *label, &[])?;
+    stack.push(node)?;
+    Ok(true)
+}
+
+/// A step: whether what it takes was there.
+fn take_step<'x, 'a, D: Declared<'a>>(
+    alloc: Global,
+    declared: &D,
+    names: &Names<'x>,
+    premises: &[&'x [u8]],
+    shared: &mut Shared<'x>,
+    stack: &mut Vec<usize>,
+    step: &Step,
+) -> Result<bool, AllocError> {
+    match step {
+        Step::Float(place) => put_leaf(alloc, shared, stack, names.floats.get(*place as usize)),
+        Step::Hyp(place) => put_leaf(alloc, shared, stack, premises.get(*place as usize)),
+        Step::Cite(label) => match names.cited.get(&label.as_slice()) {
+            Some(cited) => cite(alloc, declared, shared, stack, *cited),
+            None => Ok(false),
+        },
+    }
+}
+
+/// The node of a proof, by its steps. None where they denote no tree.
+pub(crate) fn root_of<'x, 'a, D: Declared<'a>>(
+    alloc: Global,
+    declared: &D,
+    names: &Names<'x>,
+    premises: &[&'x [u8]],
+    shared: &mut Shared<'x>,
+    steps: &[Step],
+) -> Result<Option<usize>, AllocError> {
+    let mut stack = Vec::new(alloc);
+    for step in steps {
+        if !take_step(alloc, declared, names, premises, shared, &mut stack, step)? {
+            return Ok(None);
+        }
+    }
+    match stack.as_slice() {
+        [root] => Ok(Some(*root)),
+        _ => Ok(None),
+    }
+}

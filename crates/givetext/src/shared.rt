@@ -1,0 +1,123 @@
+//! The nodes of a proof, each of which stands once.
+
+use std::alloc::{AllocError, Global};
+use std::collections::HashMap;
+use std::hash::RandomState;
+
+/// A node: its arguments stand from one place of the vector of all arguments up to another.
+#[derive(Clone, Copy)]
+struct Node {
+    /// The number of the label that it names.
+    word: usize,
+    begin: usize,
+    end: usize,
+    /// How many nodes it is an argument of, as often as it is.
+    uses: usize,
+}
+
+/// The nodes of a proof: equal subproofs are one node. Labels and nodes are numbered from 0.
+#[derive(Drop)]
+pub(crate) struct Shared<'x> {
+    /// The labels that nodes name.
+    words: Vec<&'x [u8]>,
+    numbers: HashMap<&'x [u8], usize, RandomState>,
+    nodes: Vec<Node>,
+    arguments: Vec<usize>,
+    /// Nodes by their label's number and their arguments.
+    places: HashMap<Vec<usize>, usize, RandomState>,
+}
+
+impl<'x> Shared<'x> {
+    /// No node yet.
+    pub(crate) fn new(alloc: Global, keys: RandomState) -> Shared<'x> {
+        Shared {
+            words: Vec::new(alloc),
+            numbers: HashMap::with_hasher(alloc, keys),
+            nodes: Vec::new(alloc),
+            arguments: Vec::new(alloc),
+            places: HashMap::with_hasher(alloc, keys),
+        }
+    }
+
+    /// The labels that nodes name, by their numbers.
+    pub(crate) fn words(&self) -> &[&'x [u8]] {
+        self.words.as_slice()
+    }
+
+    /// The number of a label: a new one where none named it.
+    pub(crate) fn number_of(&mut self, word: &'x [u8]) -> Result<usize, AllocError> {
+        if let Some(number) = self.numbers.get(&word) {
+            return Ok(*number);
+        }
+        let number = self.words.len();
+        self.words.push(word)?;
+        self.numbers.insert(word, number)?;
+        Ok(number)
+    }
+
+    /// One more node is an argument.
+    fn use_again(&mut self, node: usize) {
+        if let Some(used) = self.nodes.get_mut(node) {
+            used.uses = used.uses.saturating_add(1);
+        }
+    }
+
+    /// The node of a label over nodes: the one that there is, or a new one.
+    pub(crate) fn node(
+        &mut self,
+        alloc: Global,
+        word: &'x [u8],
+        arguments: &[usize],
+    ) -> Result<usize, AllocError> {
+        let number = self.number_of(word)?;
+        let mut key = Vec::with_capacity(alloc, arguments.len())?;
+        key.push(number)?;
+        key.extend_from_slice(arguments)?;
+        if let Some(node) = self.places.get(&key) {
+            return Ok(*node);
+        }
+        let begin = self.arguments.len();
+        self.arguments.extend_from_slice(arguments)?;
+        for argument in arguments {
+            self.use_again(*argument);
+        }
+        let node = self.nodes.len();
+        self.nodes.push(Node {
+            word: number,
+            begin,
+            end: self.arguments.len(),
+            uses: 0,
+        })?;
+        self.places.insert(key, node)?;
+        Ok(node)
+    }
+
+    /// The number of the label that a node names.
+    pub(crate) fn word(&self, node: usize) -> usize {
+        match self.nodes.get(node) {
+            Some(there) => there.word,
+            None => 0,
+        }
+    }
+
+    /// The arguments of a node, in order.
+    pub(crate) fn arguments(&self, node: usize) -> &[usize] {
+        match self.nodes.get(node) {
+            Some(there) => self.arguments.get(there.begin..there.end).unwrap_or(&[]),
+            None => &[],
+        }
+    }
+
+    /// Whether a node stands more than once in the tree.
+    pub(crate) fn is_shared(&self, node: usize) -> bool {
+        match self.nodes.get(node) {
+            Some(there) => there.uses > 1,
+            None => false,
+        }
+    }
+
+    /// How many nodes there are.
+    pub(crate) fn len(&self) -> usize {
+        self.nodes.len()
+    }
+}

@@ -1,0 +1,73 @@
+//! How edits are given back: three files are read, and what is answered is told.
+
+ghost use Rattle.std.specs.Prelude.{◌≡◌, List, length, map};
+ghost use Rattle.program.specs.Events.{Event, Adds};
+ghost use Rattle.program.specs.Conduct.{EndsBy, IsGiveTold, IsAnsweredGive, IsGiveDone};
+
+use crate::conduct::{Unread, print_out, read_all, refuse, tell_unread};
+use crate::world::World;
+use commandline::GiveOrder;
+use givetext::{Paths, Returned, answer_give};
+use std::alloc::{AllocError, Global};
+use std::hash::RandomState;
+use std::thread::Threads;
+use taketext::Follow;
+
+/// Tells an answer: what is printed, or the line of the refusal.
+fn tell_given<W: World>(world: &mut W, told: &Returned) -> u8
+    ensures { (es : List Event) × Adds (W.done world.old) (W.done world.new) es × IsGiveTold told.now es result }
+{
+    match told {
+        Returned::Printed(out) => print_out(world, out.as_slice()),
+        Returned::Refused(line) => refuse(world, line.as_str()),
+    }
+}
+
+/// Gives the edits of a history back, by the texts of three files, and tells the answer.
+fn answer_given<R: Threads + Sync, W: World, F: Follow>(
+    rt: &R,
+    alloc: Global,
+    world: &mut W,
+    keys: Option<RandomState>,
+    order: GiveOrder<'_>,
+    texts: &[Vec<u8>],
+    follow: &F,
+) -> Result<u8, AllocError>
+    requires { length texts.now ≡ 3 }
+    ensures { (es : List Event) × Adds (W.done world.old) (W.done world.new) es
+        × EndsBy (IsAnsweredGive (map (λ t. t.items) texts.now)) es result }
+{
+    let Some(keys) = keys else {
+        return Ok(refuse(world, "no random numbers"));
+    };
+    let paths = Paths {
+        source: order.source,
+        library: order.library,
+        history: order.history,
+    };
+    let (source, library, history) = (texts[0].as_slice(), texts[1].as_slice(), texts[2].as_slice());
+    match answer_give(rt, alloc, keys, paths, source, library, history, follow) {
+        Ok(told) => Ok(tell_given(world, &told)),
+        Err(_) => Err(AllocError),
+    }
+}
+
+/// Does what an order to give back asks for. Who follows is told how far that is.
+pub(crate) fn follow_give<R: Threads + Sync, W: World, F: Follow>(
+    rt: &R,
+    alloc: Global,
+    world: &mut W,
+    keys: Option<RandomState>,
+    order: GiveOrder<'_>,
+    follow: &F,
+) -> Result<u8, AllocError>
+    ensures { (es : List Event) × Adds (W.done world.old) (W.done world.new) es
+        × EndsBy (IsGiveDone order.source.now order.library.now order.history.now) es result }
+{
+    let paths = [order.source, order.library, order.history];
+    let mut texts = Vec::new(alloc);
+    if let Err(unread) = read_all(world, alloc, paths.as_slice(), &mut texts) {
+        return tell_unread(world, unread);
+    }
+    answer_given(rt, alloc, world, keys, order, texts.as_slice(), follow)
+}

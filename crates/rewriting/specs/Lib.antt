@@ -1,0 +1,2 @@
+pub mod Spans
+pub mod Walks

@@ -1,0 +1,148 @@
+//! A walk over the tokens of a source that finds the spans to change.
+
+ghost use Rattle.std.specs.Prelude.{◌≡◌, ◌≤◌, ◌+◌, ◌∷◌, ◌++◌, [], length, All, OnOk, Some, IfSome, map, find};
+ghost use Rattle.mmtext.specs.Text.{mark_of};
+ghost use Rattle.mmtext.specs.Views.{seen};
+ghost use Rattle.rewriting.specs.Spans.{IsTokenOf};
+ghost use Rattle.rewriting.specs.Walks.{IsWalked};
+
+use crate::comments::CommentPlace;
+use crate::proofs::ProofPlace;
+use crate::span::Span;
+use giving::Changes;
+use mmtext::{Mark, Token, mark_word};
+use std::alloc::{AllocError, Global};
+
+/// A proof that is passed over, as another is to stand there: from a byte on.
+#[derive(Clone, Copy)]
+pub(crate) struct Passing<'t> {
+    pub begin: usize,
+    pub text: &'t [u8],
+}
+
+/// How far a source was walked over, and the spans that were found.
+#[derive(Drop)]
+pub(crate) struct Walk<'s, 't> {
+    /// How far the comment was read that is open, if one is.
+    pub comment: Option<CommentPlace>,
+    /// How far the proof was read, outside of comments.
+    pub proof: ProofPlace,
+    /// The proof that is passed over, if one is.
+    pub passing: Option<Passing<'t>>,
+    /// The last token outside of comments.
+    pub last: &'s [u8],
+    /// The label of the last `$p`.
+    pub theorem: &'s [u8],
+    pub spans: Vec<Span<'t>>,
+}
+
+impl<'s, 't> Walk<'s, 't> {
+    /// Before any token.
+    pub(crate) fn new(alloc: Global) -> Walk<'s, 't>
+        ensures { result.spans.items ≡ [] }
+    {
+        Walk {
+            comment: None,
+            proof: ProofPlace::Outside,
+            passing: None,
+            last: b"",
+            theorem: b"",
+            spans: Vec::new(alloc),
+        }
+    }
+
+    /// A label is to change, where one stands.
+    fn change(&mut self, changes: &Changes<'t>, token: Token<'s>) -> Result<(), AllocError> {
+        if self.passing.is_some() {
+            return Ok(());
+        }
+        if let Some(text) = changes.text_for(token.text) {
+            self.spans.push(Span {
+                begin: token.place,
+                end: token.place + token.text.len(),
+                text,
+            })?;
+        }
+        Ok(())
+    }
+
+    /// A proof begins: it is passed over where another is to stand there.
+    fn begin_proof(&mut self, proofs: &Changes<'t>, token: Token<'s>) {
+        if let Some(text) = proofs.text_for(self.theorem) {
+            self.passing = Some(Passing {
+                begin: token.place + token.text.len(),
+                text,
+            });
+        }
+    }
+
+    /// A statement ends, and with it the proof that is passed over.
+    fn end_proof(&mut self, token: Token<'s>) -> Result<(), AllocError> {
+        if let Some(passing) = self.passing {
+            self.passing = None;
+            self.spans.push(Span {
+                begin: passing.begin,
+                end: token.place,
+                text: passing.text,
+            })?;
+        }
+        Ok(())
+    }
+
+    /// One more token of a comment.
+    fn take_in_comment(
+        &mut self,
+        changes: &Changes<'t>,
+        place: CommentPlace,
+        token: Token<'s>,
+        mark: Mark,
+    ) -> Result<(), AllocError> {
+        if mark == Mark::Uncomment {
+            self.comment = None;
+            return Ok(());
+        }
+        if place == CommentPlace::Label {
+            self.change(changes, token)?;
+        }
+        self.comment = Some(place.behind(token.text));
+        Ok(())
+    }
+
+    /// One more token outside of comments.
+    fn take_outside(
+        &mut self,
+        changes: &Changes<'t>,
+        proofs: &Changes<'t>,
+        token: Token<'s>,
+        mark: Mark,
+    ) -> Result<(), AllocError> {
+        match mark {
+            Mark::Comment => {
+                self.comment = Some(CommentPlace::Words);
+                return Ok(());
+            }
+            Mark::Provable => self.theorem = self.last,
+            Mark::Proof => self.begin_proof(proofs, token),
+            Mark::End => self.end_proof(token)?,
+            Mark::Plain if self.proof != ProofPlace::Letters => self.change(changes, token)?,
+            _ => {}
+        }
+        self.proof = self.proof.behind(token.text, mark);
+        self.last = token.text;
+        Ok(())
+    }
+
+    /// One more token of the source.
+    pub(crate) fn take(
+        &mut self,
+        changes: &Changes<'t>,
+        proofs: &Changes<'t>,
+        token: Token<'s>,
+    ) -> Result<(), AllocError> {
+        let mark = mark_word(token.text);
+        match self.comment {
+            Some(place) => self.take_in_comment(changes, place, token, mark),
+            None => self.take_outside(changes, proofs, token, mark),
+        }
+    }
+}
