@@ -4,7 +4,7 @@ use Rattle.std.proofs.Common.{arith, add-one}
 use Rattle.std.specs.Prelude.{slice_get}
 use Rattle.std.proofs.lemmas.List.{length-map, length-take-le, take_all}
 use Rattle.source.specs.Scopes.{Assertion}
-use Rattle.giving.specs.Staying.{Change, Stays, StayAll, IsFirstNotStaying}
+use Rattle.giving.specs.Staying.{Change, StayAll, IsFirstNotStaying}
 use Rattle.giving.specs.Places.{StaysThere}
 
 same_length : (cs : List Change) (xs ys : List Assertion) → StayAll cs xs ys → length xs ≡ length ys

@@ -4,7 +4,7 @@ use Rattle.std.proofs.Common.{arith, add-one}
 use Rattle.std.specs.Prelude.{slice_get}
 use mathlib.Core.Bool.{not}
 use Rattle.std.proofs.lemmas.List.{map-append, append-nil}
-use Rattle.taking.specs.Reasons.{kept, kept_at}
+use Rattle.taking.specs.Reasons.{kept_at}
 use Rattle.source.specs.Scopes.{Assertion}
 use Rattle.giving.specs.Staying.{others}
 use Rattle.giving.specs.Places.{ArePlacesBefore}

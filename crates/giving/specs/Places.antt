@@ -1,5 +1,5 @@
 -- Of the code's inside, apart from the rules: assertions at places.
-use Rattle.std.specs.Prelude.{◌≡◌, ℕ, Bool, List, length, map, take, Option, Some, None, slice_get}
+use Rattle.std.specs.Prelude.{◌≡◌, ℕ, Bool, List, length, map, take, Option, Some, slice_get}
 use Rattle.source.specs.Scopes.{Assertion}
 use Rattle.giving.specs.Staying.{Change, Stays, others}
 

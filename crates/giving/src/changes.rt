@@ -70,8 +70,8 @@ impl<'a> Changes<'a> {
     pub(crate) fn leads(&self, old: &[u8], new: &[u8]) -> bool
         ensures { IsTrue result ↔ (changed self.now old.now ≡ new.now) }
     {
-        match self.labels.get(&old) {
-            Some(label) => *label == new,
+        match self.text_for(old) {
+            Some(label) => label == new,
             None => old == new,
         }
     }

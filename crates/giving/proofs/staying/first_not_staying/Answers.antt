@@ -1,7 +1,7 @@
 -- What is left to show of `first_not_staying`.
 use Rattle.std.proofs.Common.{rules, ◌≡◌, ◌<◌, ℕ, Some, length, get_or, refl, subst}
 use Rattle.giving.specs.Staying.{others, IsFirstNotStaying}
-use Rattle.giving.proofs.Ordered.{place_within, goes_on, breaks, ends_before, others_left, all_seen}
+use Rattle.giving.proofs.Ordered.{place_within, goes_on, breaks, ends_before, others_left}
 use Rattle.giving.proofs.staying.first_not_staying.Goals as goal
 
 pub returns-in_default : goal.returns-in_default
