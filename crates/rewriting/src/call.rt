@@ -7,7 +7,6 @@ use crate::span::Span;
 use crate::splicing::splice;
 use crate::walk::Walk;
 use giving::Changes;
-use mmtext::next_token;
 use std::alloc::{AllocError, Global};
 
 /// The spans of a source that are to change, in order.
@@ -20,13 +19,7 @@ fn find_spans<'t>(
     ensures in_order { IfOk result (λ spans. AreInOrder source.now 0 spans.items) }
     ensures each { IfOk result (λ spans. All (IsSpan changes.now proofs.now source.now) spans.items) }
 {
-    let mut walk = Walk::new(alloc);
-    let mut at = 0;
-    while let Some(token) = next_token(source, at) {
-        at = token.place + token.text.len();
-        walk.take(changes, proofs, token)?;
-    }
-    Ok(walk.spans)
+    Walk::new(alloc).take_all(changes, proofs, source)
 }
 
 /// The text of a source with changed labels, and with other proofs of some theorems, which are named by their labels before. A label changes

@@ -1,16 +1,17 @@
 //! A walk over the tokens of a source that finds the spans to change.
 
-ghost use Rattle.std.specs.Prelude.{◌≡◌, ◌≤◌, ◌+◌, ◌∷◌, ◌++◌, [], length, All, OnOk, Some, IfSome, map, find};
+ghost use Rattle.std.specs.Prelude.{◌≡◌, ◌<◌, ◌+◌, ◌^◌, ℕ, List, length, codes, All, IfOk, OnOk};
 ghost use Rattle.mmtext.specs.Text.{mark_of};
 ghost use Rattle.mmtext.specs.Views.{seen};
-ghost use Rattle.rewriting.specs.Spans.{IsTokenOf};
-ghost use Rattle.rewriting.specs.Walks.{IsWalked};
+ghost use Rattle.giving.specs.Staying.{Change};
+ghost use Rattle.rewriting.specs.Spans.{AreInOrder, IsSpan};
+ghost use Rattle.rewriting.specs.Walks.{IsWalked, TakesToken};
 
 use crate::comments::CommentPlace;
 use crate::proofs::ProofPlace;
 use crate::span::Span;
 use giving::Changes;
-use mmtext::{Mark, Token, mark_word};
+use mmtext::{Mark, Token, mark_word, next_token};
 use std::alloc::{AllocError, Global};
 
 /// A proof that is passed over, as another is to stand there: from a byte on.
@@ -39,7 +40,7 @@ pub(crate) struct Walk<'s, 't> {
 impl<'s, 't> Walk<'s, 't> {
     /// Before any token.
     pub(crate) fn new(alloc: Global) -> Walk<'s, 't>
-        ensures { result.spans.items ≡ [] }
+        ensures { (cs proofs : List Change) (source : List ℕ) → IsWalked cs proofs source 0 result }
     {
         Walk {
             comment: None,
@@ -52,7 +53,10 @@ impl<'s, 't> Walk<'s, 't> {
     }
 
     /// A label is to change, where one stands.
-    fn change(&mut self, changes: &Changes<'t>, token: Token<'s>) -> Result<(), AllocError> {
+    fn change(&mut self, changes: &Changes<'t>, token: Token<'s>) -> Result<(), AllocError>
+        requires { token.place + length token.text.now < 2 ^ 64 }
+        ensures { OnOk result ((proofs : List Change) → TakesToken changes.now proofs self.old (seen token.entry) self.new) }
+    {
         if self.passing.is_some() {
             return Ok(());
         }
@@ -67,7 +71,11 @@ impl<'s, 't> Walk<'s, 't> {
     }
 
     /// A proof begins: it is passed over where another is to stand there.
-    fn begin_proof(&mut self, proofs: &Changes<'t>, token: Token<'s>) {
+    fn begin_proof(&mut self, proofs: &Changes<'t>, token: Token<'s>)
+        requires fits { token.place + length token.text.now < 2 ^ 64 }
+        requires opens { token.text.now ≡ codes "$=" }
+        ensures { (cs : List Change) → TakesToken cs proofs.now self.old (seen token.entry) self.new }
+    {
         if let Some(text) = proofs.text_for(self.theorem) {
             self.passing = Some(Passing {
                 begin: token.place + token.text.len(),
@@ -77,7 +85,10 @@ impl<'s, 't> Walk<'s, 't> {
     }
 
     /// A statement ends, and with it the proof that is passed over.
-    fn end_proof(&mut self, token: Token<'s>) -> Result<(), AllocError> {
+    fn end_proof(&mut self, token: Token<'s>) -> Result<(), AllocError>
+        requires { token.text.now ≡ codes "$." }
+        ensures { OnOk result ((cs proofs : List Change) → TakesToken cs proofs self.old (seen token.entry) self.new) }
+    {
         if let Some(passing) = self.passing {
             self.passing = None;
             self.spans.push(Span {
@@ -96,7 +107,10 @@ impl<'s, 't> Walk<'s, 't> {
         place: CommentPlace,
         token: Token<'s>,
         mark: Mark,
-    ) -> Result<(), AllocError> {
+    ) -> Result<(), AllocError>
+        requires { token.place + length token.text.now < 2 ^ 64 }
+        ensures { OnOk result ((proofs : List Change) → TakesToken changes.now proofs self.old (seen token.entry) self.new) }
+    {
         if mark == Mark::Uncomment {
             self.comment = None;
             return Ok(());
@@ -115,7 +129,11 @@ impl<'s, 't> Walk<'s, 't> {
         proofs: &Changes<'t>,
         token: Token<'s>,
         mark: Mark,
-    ) -> Result<(), AllocError> {
+    ) -> Result<(), AllocError>
+        requires fits { token.place + length token.text.now < 2 ^ 64 }
+        requires marked { mark ≡ mark_of token.text.now }
+        ensures { OnOk result (TakesToken changes.now proofs.now self.old (seen token.entry) self.new) }
+    {
         match mark {
             Mark::Comment => {
                 self.comment = Some(CommentPlace::Words);
@@ -138,11 +156,33 @@ impl<'s, 't> Walk<'s, 't> {
         changes: &Changes<'t>,
         proofs: &Changes<'t>,
         token: Token<'s>,
-    ) -> Result<(), AllocError> {
+    ) -> Result<(), AllocError>
+        requires { token.place + length token.text.now < 2 ^ 64 }
+        ensures { OnOk result (TakesToken changes.now proofs.now self.old (seen token.entry) self.new) }
+    {
         let mark = mark_word(token.text);
         match self.comment {
             Some(place) => self.take_in_comment(changes, place, token, mark),
             None => self.take_outside(changes, proofs, token, mark),
         }
+    }
+
+    /// All tokens of the source: the spans that are found.
+    pub(crate) fn take_all(
+        mut self,
+        changes: &Changes<'t>,
+        proofs: &Changes<'t>,
+        source: &'s [u8],
+    ) -> Result<Vec<Span<'t>>, AllocError>
+        requires { IsWalked changes.now proofs.now source.now 0 self }
+        ensures in_order { IfOk result (λ spans. AreInOrder source.now 0 spans.items) }
+        ensures each { IfOk result (λ spans. All (IsSpan changes.now proofs.now source.now) spans.items) }
+    {
+        let mut at = 0;
+        while let Some(token) = next_token(source, at) {
+            at = token.place + token.text.len();
+            self.take(changes, proofs, token)?;
+        }
+        Ok(self.spans)
     }
 }

@@ -1,0 +1,4 @@
+mod Places
+mod Orders
+mod Walking
+mod Spliced
