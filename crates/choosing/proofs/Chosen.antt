@@ -1,12 +1,15 @@
 -- What was found is what the wish chooses.
-use Rattle.std.proofs.Common.{◌≡◌, ◌<◌, ◌≤◌, ◌+◌, ◌-◌, ℕ, Bool, true, false, List, [], ◌++◌, length, map, take, Some, None}
-use Rattle.std.proofs.Common.{refl, sym, ap, subst}
+use Rattle.std.proofs.Common.{◌≡◌, ◌<◌, ◌≤◌, ◌+◌, ◌-◌, ℕ, Bool, true, false, List, [], ◌∷◌, ◌++◌, length, map, take, Some, None}
+use Rattle.std.proofs.Common.{refl, sym, ap, subst, inl, inr}
 use Rattle.std.proofs.Common.{◌∙◌, arith}
 use Rattle.std.proofs.Common.{Bor}
-use Rattle.std.specs.Prelude.{◌||◌, filter, replicate, reverse}
+use Rattle.std.specs.Prelude.{◌||◌, ◌&&◌, filter, find, replicate, reverse}
+use mathlib.Core.Bool.{not}
 use Rattle.std.specs.List.{list_all}
 use Rattle.std.specs.Str.{bytes_eq}
+use Rattle.std.proofs.lemmas.Bool.{cases_Bool, cond-true, cond-false}
 use Rattle.std.proofs.lemmas.List.{length-map}
+use Rattle.std.proofs.lemmas.List.Folds.{list_any-append}
 use Rattle.mmtext.specs.Words.{Word}
 use Rattle.mmsyntax.specs.Assertions.{Distinct}
 use Rattle.mmsyntax.proofs.Names.{bytes_eq-same}
@@ -14,15 +17,17 @@ use Rattle.source.specs.Scopes.{Assertion, Scope, is_in}
 use Rattle.source.specs.Views.{seen_words}
 use Rattle.choosing.specs.declared.wish.Wish.TheVariants as wish
 use Rattle.choosing.specs.declared.wish.Selection.{Selection}
+use Rattle.choosing.specs.declared.wish.Unchosen.{Unchosen}
 use Rattle.choosing.specs.declared.wish.Unchosen.TheVariants as unchosen
 use Rattle.choosing.specs.Choices.{first_unknown, labels_of, nearest, all_chosen, chosen_for, chosen_between, place_in, needed_by_all}
 use Rattle.choosing.specs.Choices.{asked_of, between}
 use Rattle.choosing.specs.Choices.{IsChosen, IsUnchosen}
-use Rattle.choosing.specs.Marks.{AreMarked}
+use Rattle.choosing.specs.Marks.{AreMarked, unknown_among, IsUnknownAmong}
 use Rattle.choosing.proofs.Apart.{map_alike, there, labels_pass, all_pass, count_flags}
-use Rattle.choosing.proofs.Marked.{found_at}
+use Rattle.choosing.proofs.Marked.{found_at, or_second}
 use Rattle.choosing.proofs.Going.{unmarked_all}
-use Rattle.choosing.proofs.Known.{first_is_unknown, second_is_unknown, known_both, in_order}
+use Rattle.choosing.proofs.Known.{is_unknown, known_of_both, unknown_of_first, unknown_of_second, first_is_unknown, second_is_unknown}
+use Rattle.choosing.proofs.Known.{known_both, in_order}
 use Rattle.choosing.proofs.Turns.{few, filter_reverse, all_there, all_reverse}
 use Rattle.choosing.proofs.Parts.{parts_first, parts_flags, parts_count, parts_there}
 
@@ -89,6 +94,71 @@ pub for_too_many : (s : Scope) (asked : Bor (List (Bor (List ℕ)))) (flags : Li
     → AreMarked s.assertions (is_in (seen_words asked.now)) flags → n ≡ length (filter (λ b. b) flags) → 4096 < n
     → first_unknown s (wish.For asked) ≡ None → IsUnchosen s (wish.For asked) (unchosen.TooMany n)
 for_too_many s asked flags n are count many known = (asked_count s (seen_words asked.now) flags n are count, many, known)
+
+-- ---- just some, of which some are axioms
+
+among_first : (ws vs : List Word) (w : Word) → is_in ws w ≡ true → is_in (ws ++ vs) w ≡ true
+among_first ws vs w h = list_any-append (bytes_eq w) ws vs ∙ ap (λ b. b || is_in vs w) h
+
+among_second : (ws vs : List Word) (w : Word) → is_in vs w ≡ true → is_in (ws ++ vs) w ≡ true
+among_second ws vs w h = list_any-append (bytes_eq w) ws vs ∙ or_second (is_in ws w) (is_in vs w) h
+
+-- the labels are those of assertions, as none is unknown
+all_known : (q : Word → Bool) (ws : List Word) → find (λ l. not (q l)) ws ≡ None → list_all q ws ≡ true
+all_known q [] h = refl
+all_known q (w ∷ ws) h = elim (cases_Bool (q w)) [
+  | inl y ↦
+      ap (λ b. b && list_all q ws) y
+      ∙ all_known q ws (sym (cond-false (not (q w)) (Some w) (find (λ l. not (q l)) ws) (ap not y)) ∙ h)
+  | inr n ↦ absurd (let e : Some w ≡ None = sym (cond-true (not (q w)) (Some w) (find (λ l. not (q l)) ws) (ap not n)) ∙ h in cc)
+]
+
+pub these_unknown_first : (s : Scope) (labels axioms : Bor (List (Bor (List ℕ)))) (why : Unchosen)
+    → IsUnknownAmong s (seen_words labels.now) why → IsUnchosen s (wish.These labels axioms) why
+these_unknown_first s labels axioms (unchosen.UnknownLabel label) h = (
+  among_first (seen_words labels.now) (seen_words axioms.now) label.now h.0,
+  h.1,
+  unknown_of_first (is_unknown s.assertions) (seen_words labels.now) (seen_words axioms.now) label.now h.2,
+)
+these_unknown_first s labels axioms unchosen.Backwards h = absurd h
+these_unknown_first s labels axioms (unchosen.TooMany n) h = absurd h
+these_unknown_first s labels axioms unchosen.NoMemory h = tt
+
+pub these_unknown_second : (s : Scope) (labels axioms : Bor (List (Bor (List ℕ)))) (why : Unchosen)
+    → unknown_among s (seen_words labels.now) ≡ None → IsUnknownAmong s (seen_words axioms.now) why
+    → IsUnchosen s (wish.These labels axioms) why
+these_unknown_second s labels axioms (unchosen.UnknownLabel label) known h = (
+  among_second (seen_words labels.now) (seen_words axioms.now) label.now h.0,
+  h.1,
+  unknown_of_second (is_unknown s.assertions) (seen_words labels.now) (seen_words axioms.now) label.now known h.2,
+)
+these_unknown_second s labels axioms unchosen.Backwards known h = absurd h
+these_unknown_second s labels axioms (unchosen.TooMany n) known h = absurd h
+these_unknown_second s labels axioms unchosen.NoMemory known h = tt
+
+pub these_are_chosen : (s : Scope) (labels axioms : Bor (List (Bor (List ℕ)))) (sel : Selection) (n : ℕ)
+    → AreMarked s.assertions (is_in (seen_words labels.now)) sel.chosen.items
+    → AreMarked s.assertions (is_in (seen_words axioms.now)) sel.front.items
+    → unknown_among s (seen_words labels.now) ≡ None → unknown_among s (seen_words axioms.now) ≡ None
+    → n ≡ length labels.now → n ≤ 4096 → IsChosen s (wish.These labels axioms) sel
+these_are_chosen s labels axioms sel n chosen front labels-known axioms-known count small = record {
+  choice = record { chosen = seen_words labels.now; front = seen_words axioms.now };
+  is_choice = refl;
+  flags = record { chosen_are = chosen; front_are = front };
+  there = all_known (is_in (labels_of s.assertions)) (seen_words labels.now) labels-known;
+  few = let e = length-map labels.now (λ (w : Bor (List ℕ)). w.now) in omega arith;
+  known = known_of_both (is_unknown s.assertions) (seen_words labels.now) (seen_words axioms.now) labels-known axioms-known;
+  in_order = λ h. h;
+}
+
+pub these_too_many : (s : Scope) (labels axioms : Bor (List (Bor (List ℕ)))) (n : ℕ)
+    → unknown_among s (seen_words labels.now) ≡ None → unknown_among s (seen_words axioms.now) ≡ None
+    → n ≡ length labels.now → 4096 < n → IsUnchosen s (wish.These labels axioms) (unchosen.TooMany n)
+these_too_many s labels axioms n labels-known axioms-known count many = (
+  length-map labels.now (λ (w : Bor (List ℕ)). w.now) ∙ sym count,
+  many,
+  known_of_both (is_unknown s.assertions) (seen_words labels.now) (seen_words axioms.now) labels-known axioms-known,
+)
 
 -- ---- those between two
 

@@ -1,10 +1,12 @@
 -- The labels of a wish that is granted are those of assertions, and stand the right way round.
 use Rattle.std.proofs.Common.{◌≡◌, ◌<◌, ◌≤◌, ◌+◌, ℕ, suc, zero, Bool, true, false, List, [], ◌∷◌, length, take, get_or, Some}
-use Rattle.std.proofs.Common.{None, Bor, sym, ap, ◌∙◌, arith, add-one, inl, inr}
+use Rattle.std.proofs.Common.{None, Bor, ◌++◌, sym, ap, ◌∙◌, arith, add-one, inl, inr}
 use Rattle.std.specs.Prelude.{find, is_some}
 use mathlib.Core.Bool.{not}
 use Rattle.std.specs.Str.{bytes_eq}
 use Rattle.std.proofs.lemmas.Bool.{cases_Bool, cond-true, cond-false}
+use Rattle.std.proofs.lemmas.List.Folds.{find-append}
+use Rattle.std.specs.Option.{option_or}
 use Rattle.mmtext.specs.Words.{Word}
 use Rattle.mmsyntax.specs.Tables.{place_of}
 use Rattle.mmsyntax.proofs.Distinct.{any-map, is_some-place_of}
@@ -63,6 +65,21 @@ pub unknown_found : (xs : List Assertion) (labels : List (Bor (List ℕ))) (k : 
     → find (is_unknown xs) (seen_words (take k labels)) ≡ None → find (is_unknown xs) (seen_words labels) ≡ Some (get_or labels k d).now
 unknown_found xs labels k d h absent none =
     first_found (is_unknown xs) labels k d h (found_is xs (get_or labels k d).now false absent) none
+
+-- ---- labels of two lists
+
+-- none of the first nor of the second
+pub known_of_both : (p : Word → Bool) (ws vs : List Word) → find p ws ≡ None → find p vs ≡ None → find p (ws ++ vs) ≡ None
+known_of_both p ws vs a b = find-append p ws vs ∙ ap (λ o. option_or o (find p vs)) a ∙ b
+
+-- the first of the first
+pub unknown_of_first : (p : Word → Bool) (ws vs : List Word) (w : Word) → find p ws ≡ Some w → find p (ws ++ vs) ≡ Some w
+unknown_of_first p ws vs w a = find-append p ws vs ∙ ap (λ o. option_or o (find p vs)) a
+
+-- none of the first, but the first of the second
+pub unknown_of_second : (p : Word → Bool) (ws vs : List Word) (w : Word) → find p ws ≡ None → find p vs ≡ Some w
+    → find p (ws ++ vs) ≡ Some w
+unknown_of_second p ws vs w a b = find-append p ws vs ∙ ap (λ o. option_or o (find p vs)) a ∙ b
 
 -- ---- two labels
 

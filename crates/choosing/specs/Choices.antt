@@ -107,6 +107,8 @@ pub record IsChosen (s : Scope) (w : Wish) (sel : Selection) : Type 0 where
 abbrev pub IsWishForMany : Scope → Wish → ℕ → Type 0
 IsWishForMany s (wish.For asked) n =
     (length (asked_of (seen_words asked.now) s) ≡ n) × (4096 < n) × (first_unknown s (wish.For asked) ≡ None)
+IsWishForMany s (wish.These labels axioms) n =
+    (length (seen_words labels.now) ≡ n) × (4096 < n) × (first_unknown s (wish.These labels axioms) ≡ None)
 IsWishForMany s w n = (choice : Choice) × IsChoice s w choice × (length choice.chosen ≡ n) × (4096 < n) × (StandsBehind s w → ⊥)
 
 -- why a wish is refused

@@ -120,13 +120,13 @@ fn choose_these<'a, 'w, D: Declared<'a>>(
     ensures chosen { IfOk result (IsChosen (D.scope declared.now) (These labels.entry axioms.entry)) }
     ensures refused { IfErr result (λ why. why ≢ NoMemory → IsUnchosen (D.scope declared.now) (These labels.entry axioms.entry) why) }
 {
-    if labels.len() > MOST {
-        return Err(Unchosen::TooMany(labels.len()));
+    let chosen = marks_of(alloc, declared, labels)?;
+    let front = marks_of(alloc, declared, axioms)?;
+    let count = labels.len();
+    if count > MOST {
+        return Err(Unchosen::TooMany(count));
     }
-    Ok(Selection {
-        chosen: marks_of(alloc, declared, labels)?,
-        front: marks_of(alloc, declared, axioms)?,
-    })
+    Ok(Selection { chosen, front })
 }
 
 /// What is chosen of a source by a wish.

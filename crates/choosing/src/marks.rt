@@ -9,10 +9,8 @@ ghost use Rattle.source.specs.Scopes.{is_in};
 ghost use Rattle.source.specs.Views.{seen_words};
 ghost use Rattle.source.specs.Whole.{IsWhole};
 ghost use Rattle.prooftrees.specs.Frames.{Holds};
-ghost use Rattle.choosing.specs.Choices.{first_unknown, IsUnchosen};
-ghost use Rattle.choosing.specs.Marks.{AreMarked, AreMarkedToo, is_named};
+ghost use Rattle.choosing.specs.Marks.{AreMarked, AreMarkedToo, unknown_among, IsUnknownAmong, is_named};
 ghost use Rattle.choosing.specs.declared.wish.Unchosen.TheVariants.{NoMemory};
-ghost use Rattle.choosing.specs.declared.wish.Wish.TheVariants.{For};
 
 use crate::places::NoPlaces;
 use crate::wish::Unchosen;
@@ -54,8 +52,8 @@ pub(crate) fn marks_of<'a, 'w, D: Declared<'a>>(
 ) -> Result<Vec<bool>, Unchosen<'w>>
     requires { IsWhole (D.scope declared.now) }
     ensures marked { IfOk result (λ marks. AreMarked (D.scope declared.now).assertions (is_in (seen_words labels.now)) marks.items) }
-    ensures known { IfOk result (λ _. first_unknown (D.scope declared.now) (For labels.entry) ≡ None) }
-    ensures refused { IfErr result (λ why. why ≢ NoMemory → IsUnchosen (D.scope declared.now) (For labels.entry) why) }
+    ensures known { IfOk result (λ _. unknown_among (D.scope declared.now) (seen_words labels.now) ≡ None) }
+    ensures refused { IfErr result (λ why. why ≢ NoMemory → IsUnknownAmong (D.scope declared.now) (seen_words labels.now) why) }
 {
     let mut marks = vec![in alloc; false; declared.assertions()]?;
     for label in labels {

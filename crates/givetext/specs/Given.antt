@@ -18,8 +18,7 @@ use Rattle.library.specs.Library.{Listed}
 use Rattle.export.specs.Exported.{exported_text}
 use Rattle.checking.specs.Checks.{LeadsTo}
 use Rattle.intake.specs.declared.taken.Taken.{Taken}
-use Rattle.intake.specs.Intakes.{axioms_of}
-use Rattle.intake.specs.Parts.{IsLibraryOf}
+use Rattle.intake.specs.Intakes.{IsLibraryOf, axioms_of}
 use Rattle.taketext.specs.Answers.{taken_text}
 use Rattle.givetext.specs.Following.{all_commands, origins, changes_by, labels_then, own_flags}
 

@@ -1,20 +1,20 @@
 -- What is known of the chosen assertions of a source by their sites: all that they name has a place.
-use Rattle.std.proofs.Common.{◌≡◌, ◌∙◌, ◌<◌, ℕ, zero, suc, ◌+◌, Bool, true, false, List, [], ◌∷◌, length, map, get_or, cond}
+use Rattle.std.proofs.Common.{◌≡◌, ◌∙◌, ◌<◌, ℕ, zero, suc, Bool, true, false, List, [], ◌∷◌, length, get_or, cond}
 use Rattle.std.proofs.Common.{refl, sym, ap, subst, arith, inl, inr}
-use Rattle.std.specs.Prelude.{Option, Some, None, slice_get, is_some, ◌||◌, All, IsTrue, IfSome, filter, find}
+use Rattle.std.specs.Prelude.{Option, Some, None, slice_get, is_some, ◌||◌, All, IsTrue, filter, find}
 use Rattle.std.specs.Option.{option_map, option_and_then}
 use Rattle.std.specs.List.{list_any, zip, AllByRecursion}
 use Rattle.std.specs.Str.{bytes_eq}
-use Rattle.std.proofs.lemmas.Bool.{cases_Bool, cond-true, or_left, or_right}
-use Rattle.std.proofs.lemmas.List.Elements.{recursion_from_All, All-from_recursion}
+use Rattle.std.proofs.lemmas.Bool.{cases_Bool, or_left, or_right}
+use Rattle.std.proofs.lemmas.List.Elements.{recursion_from_All}
 use Rattle.mmtext.specs.Words.{Word}
 use Rattle.mmsyntax.specs.declared.statement.Symbol.{Symbol}
 use Rattle.mmsyntax.specs.declared.statement.Float.{Float}
-use Rattle.mmsyntax.specs.Tables.{Tables, place_of}
+use Rattle.mmsyntax.specs.Tables.{place_of}
 use Rattle.mmsyntax.proofs.Names.{same_bytes, bytes_eq-same}
 use Rattle.source.specs.Scopes.{Hypothesis, typing, premise, label_of, Assertion, Scope, is_in, is_float_of}
 use Rattle.source.specs.Whole.{is_typed_at, IsHypothesisWhole}
-use Rattle.taking.specs.Names.{Map, label_in, float_in, is_symbol_of, is_symbol_of_hypothesis}
+use Rattle.taking.specs.Names.{is_symbol_of, is_symbol_of_hypothesis}
 use Rattle.taking.specs.Says.{both, each, symbol_at, premises, IsFloatTaken}
 use Rattle.taking.specs.Settings.{is_float}
 use Rattle.taking.specs.Reasons.{kept, kept_at}

@@ -1,7 +1,7 @@
 -- A library of what was gathered: what its sites and names make is taken of the source.
-use Rattle.std.proofs.Common.{◌≡◌, ◌≢◌, ℕ, suc, Bool, true, false, List, [], ◌∷◌, ◌++◌, length, map, IsTrue, refl, sym, ap, subst, ◌∙◌}
+use Rattle.std.proofs.Common.{◌≡◌, ℕ, suc, Bool, true, false, List, [], ◌∷◌, ◌++◌, length, map, IsTrue, refl, sym, ap, subst, ◌∙◌}
 use Rattle.std.proofs.Common.{arith, ◌+◌}
-use Rattle.std.specs.Prelude.{filter, Option, Some, if◌then◌else◌}
+use Rattle.std.specs.Prelude.{filter, if◌then◌else◌}
 use Rattle.std.specs.List.{zip, range_with_len, list_all}
 use Rattle.std.specs.Str.{bytes_eq}
 use mathlib.Core.Bool.{not}
@@ -9,24 +9,18 @@ use Rattle.std.proofs.lemmas.List.{length-map}
 use Rattle.std.proofs.lemmas.List.Elements.{filter-append}
 use Rattle.std.proofs.lemmas.Slice.Zip.{firsts-zip}
 use Rattle.mmtext.specs.Words.{Word}
-use Rattle.mmsyntax.specs.declared.statement.Float.{Float}
-use Rattle.mmsyntax.specs.declared.statement.Assertion.{Assertion as Unit'}
-use Rattle.mmsyntax.specs.Tables.{Contents}
 use Rattle.mmsyntax.specs.Preludes.{float_labels, variables_used}
 use Rattle.source.specs.Scopes.{Assertion, Scope, is_in}
-use Rattle.taking.specs.Names.{Map, HasPlaces, KeepsNames, Naming, renamed, is_float_named_well, is_label_named_well}
-use Rattle.taking.specs.Reasons.{Choice, kept, kept_at, AreFlags}
-use Rattle.taking.specs.Taken.{Takes, chosen_of}
+use Rattle.taking.specs.Names.{HasPlaces, KeepsNames, Naming, is_float_named_well, is_label_named_well}
+use Rattle.taking.specs.Reasons.{Choice, kept, kept_at}
+use Rattle.taking.specs.Taken.{chosen_of}
 use Rattle.choosing.specs.declared.wish.Wish.{Wish}
-use Rattle.choosing.specs.declared.wish.Selection.{Selection}
-use Rattle.choosing.specs.Choices.{IsChosen}
 use Rattle.naming.specs.declared.names.LibraryNames.{LibraryNames}
-use Rattle.naming.specs.Namings.{AreNamedWell}
-use Rattle.sites.specs.Sites.{Sited, AreSites}
+use Rattle.sites.specs.Sites.{Sited}
 use Rattle.intake.specs.declared.assembling.Gathered.{Gathered}
 use Rattle.intake.specs.Placed.{map_of, tables_of, floats_from}
 use Rattle.intake.specs.Gatherings.{told_in}
-use Rattle.intake.specs.Parts.{IsTakenOf, IsGathered, IsChoiceByFlags, AreAsMany, lists_of, changed_of}
+use Rattle.intake.specs.Parts.{AreTakenBy, IsGathered, AreAsMany, lists_of, changed_of}
 
 -- ---- flags
 
@@ -111,8 +105,8 @@ module _ (t : Sited) (names : LibraryNames) (many : AreAsMany t names) where
 
 -- ---- all
 
-module _ (s : Scope) (w : Wish) (t : Sited) (names : LibraryNames) (g : Gathered) (many : AreAsMany t names)
-    (is : IsGathered s w t names g) where
+module _ (s : Scope) (w : Wish) (t : Sited) (names : LibraryNames) (g : Gathered) (flags : List Bool) (many : AreAsMany t names)
+    (is : IsGathered s w t names g flags) where
   labels_are : map (λ p. p.0) (zip t.labels names.labels) ≡ t.labels
   labels_are = firsts-zip t.labels names.labels many.labels
 
@@ -136,19 +130,22 @@ module _ (s : Scope) (w : Wish) (t : Sited) (names : LibraryNames) (g : Gathered
     labels = subst (λ ls. IsTrue (list_all (is_label_named_well s ls) (zip t.labels names.labels))) (sym labels_are) is.names_are.labels;
   }
 
-  pub taken_of : IsTakenOf s w (lists_of t names g.assertions.items) (told_in g.axioms.items) (changed_of t names)
+  pub taken_of : AreTakenBy s w (lists_of t names g.assertions.items) (told_in g.axioms.items) (changed_of t names) flags
   taken_of = record {
-    choice = is.choice;
-    is_choice = is.is_choice;
-    known = is.known;
-    in_order = is.in_order;
-    takes = record {
-      there = is.there;
-      places = map_of t names;
-      has_places = has_places;
-      keeps_names = keeps_names;
-      taken = is.taken;
-      axioms_told = is.told_are;
-      names_told = refl;
+    taken = record {
+      choice = is.choice;
+      is_choice = is.is_choice;
+      known = is.known;
+      in_order = is.in_order;
+      takes = record {
+        there = is.there;
+        places = map_of t names;
+        has_places = has_places;
+        keeps_names = keeps_names;
+        taken = is.taken;
+        axioms_told = is.told_are;
+        names_told = refl;
+      };
     };
+    flags_are = is.flags_are;
   }

@@ -1,17 +1,16 @@
 -- Each chosen assertion of a source has all its places, and the steps of what is chosen are known.
 use Rattle.std.proofs.Common.{◌≡◌, ◌∙◌, ◌<◌, ℕ, zero, suc, ◌++◌, take, append_assoc, append-nil, Bool, true, false, List, [], ◌∷◌, length, map, get_or, refl, sym, ap, subst, arith}
-use Rattle.std.specs.Prelude.{Option, Some, None, IfSome, slice_get, is_some, ◌||◌, All, IsTrue, filter}
+use Rattle.std.specs.Prelude.{Option, Some, None, IfSome, slice_get, is_some, ◌||◌, All, IsTrue}
 use Rattle.std.specs.List.{list_any, AllByRecursion}
 use Rattle.std.specs.Str.{bytes_eq}
 use Rattle.std.proofs.lemmas.List.{get_or-map}
 use Rattle.std.proofs.lemmas.List.Elements.{recursion_from_All, All-from_recursion}
 use Rattle.std.proofs.lemmas.Option.{get_or_from_slice_get, slice_get-get_or, slice_get_within}
 use Rattle.mmtext.specs.Words.{Word}
-use Rattle.mmsyntax.specs.Tables.{Tables}
 use Rattle.mmsyntax.proofs.Names.{bytes_eq-same}
 use Rattle.source.specs.Scopes.{Assertion, Scope, is_in, label_of}
 use Rattle.source.specs.Whole.{IsWhole, IsAssertionWhole, AreAssertionsWhole}
-use Rattle.taking.specs.Names.{Map, label_in, float_in, is_symbol_of}
+use Rattle.taking.specs.Names.{label_in, float_in, is_symbol_of}
 use Rattle.taking.specs.Settings.{is_float}
 use Rattle.taking.specs.Says.{IsFloatTaken}
 use Rattle.taking.specs.Reasons.{Choice, AreFlags, kept}

@@ -1,19 +1,17 @@
 -- What is stated of an assertion whose names all have places, and what becomes of it.
-use Rattle.std.proofs.Common.{◌≡◌, ◌∙◌, List, [], Bool, true, false, refl, sym, ap, subst}
-use Rattle.std.specs.Prelude.{Option, Some, None, is_some, IsTrue, IfSome, filter_map}
+use Rattle.std.proofs.Common.{◌≡◌, ◌∙◌, List, [], true, refl, sym, ap, subst}
+use Rattle.std.specs.Prelude.{Option, Some, None, is_some, IfSome, filter_map}
 use Rattle.std.specs.Option.{option_map}
-use Rattle.std.specs.Str.{bytes_eq}
 use Rattle.std.proofs.lemmas.Option.{same_Some}
 use Rattle.mmtext.specs.Words.{Word}
-use Rattle.mmsyntax.specs.Tables.{Tables, place_of}
+use Rattle.mmsyntax.specs.Tables.{Tables}
 use Rattle.mmsyntax.specs.declared.statement.Kind.TheVariants.{Axiom, Theorem}
 use Rattle.mmsyntax.specs.declared.statement.Assertion.{Assertion as Unit'}
-use Rattle.mmsyntax.specs.declared.statement.Symbol.{Symbol}
 use Rattle.source.specs.Scopes.{Hypothesis, Pair, Assertion, Scope}
 use Rattle.source.specs.Statements.{Proof}
 use Rattle.taking.specs.declared.reason.Reason.{Reason}
 use Rattle.taking.specs.Names.{Map, label_in}
-use Rattle.taking.specs.Says.{each, premises, symbol_at, expression_in, pair_at, pairs_in, ascending, SaysSame}
+use Rattle.taking.specs.Says.{each, premises, expression_in, pair_at, ascending}
 use Rattle.taking.specs.Taken.{HasProof}
 use Rattle.taking.specs.Listings.{IsListed}
 use Rattle.sites.specs.Actives.{Placed, float_at}

@@ -1,17 +1,14 @@
 -- From step to step of the call: what is known of a source leads to what is taken, or to why nothing is.
-use Rattle.std.proofs.Common.{◌≡◌, ◌≢◌, ◌≤◌, ℕ, Bool, List, [], length, map, sym, ap, subst, ◌∙◌}
+use Rattle.std.proofs.Common.{◌≡◌, ◌≢◌, ℕ, Bool, List, [], sym, subst, ◌∙◌}
 use Rattle.std.specs.Prelude.{Result, Ok, Err, IfOk, IfErr}
-use Rattle.mmtext.specs.Words.{Word}
 use Rattle.mmsyntax.specs.Tables.{Contents}
-use Rattle.mmsyntax.specs.Layout.{HasSpelling}
-use Rattle.source.specs.Scopes.{Assertion, Scope, is_in}
+use Rattle.source.specs.Scopes.{Scope}
 use Rattle.source.specs.Sources.{DeclaresText}
 use Rattle.source.specs.Whole.{IsWhole, SourcesAreWhole}
-use Rattle.taking.specs.declared.reason.Reason.{Reason}
 use Rattle.taking.specs.Names.{Naming}
 use Rattle.taking.specs.Reasons.{Choice, kept, AreFlags}
-use Rattle.taking.specs.Taken.{AreTaken, told, chosen_of}
-use Rattle.choosing.specs.Choices.{IsChosen, IsUnchosen}
+use Rattle.taking.specs.Taken.{AreTaken, told}
+use Rattle.choosing.specs.Choices.{IsChosen}
 use Rattle.choosing.specs.declared.wish.Wish.{Wish}
 use Rattle.choosing.specs.declared.wish.Selection.{Selection}
 use Rattle.naming.specs.declared.names.LibraryNames.{LibraryNames}
@@ -23,8 +20,8 @@ use Rattle.intake.specs.declared.refusal.Refusal.{Refusal}
 use Rattle.intake.specs.declared.refusal.Refusal.TheVariants as refusal
 use Rattle.intake.specs.Placed.{map_of, tables_of}
 use Rattle.intake.specs.Gatherings.{told_in}
-use Rattle.intake.specs.Intakes.{IsTaken, IsDraft, IsRefused, IsWide}
-use Rattle.intake.specs.Parts.{IsRefusedOf, IsTakenOf, IsLibraryOf, IsGathered, IsChoiceByFlags, AreAsMany, lists_of, changed_of}
+use Rattle.intake.specs.Intakes.{IsTaken, IsLibraryOf, IsRefused, IsRefusedOf, IsWide}
+use Rattle.intake.specs.Parts.{AreTakenBy, IsGathered, IsChoiceByFlags, AreAsMany, lists_of, changed_of}
 use Rattle.intake.proofs.Libraries.{chosen_kept, taken_of}
 
 -- ---- refusals
@@ -51,6 +48,7 @@ is_taken s w t l text d = record {
   in_order = l.taken.in_order;
   takes = l.taken.takes;
   checks = l.checks;
+  chosen_are = l.chosen_are;
 }
 
 -- ---- what is chosen
@@ -62,7 +60,7 @@ module _ (s : Scope) (t : Sited) (names : LibraryNames)
       → ((choice : Choice) → AreFlags s choice chosen front
       → AreTaken (map_of t names) (tables_of t names) choice [] s.assertions g.assertions.items)
       → ((choice : Choice) → AreFlags s choice chosen front → told choice [] s.assertions ≡ told_in g.axioms.items)
-      → IsGathered s w t names g
+      → IsGathered s w t names g sel.chosen.items
   is_gathered w sel g chosen front e f c sites taken telling =
       let flags : AreFlags s c.choice chosen front =
       record { chosen_are = c.flags.chosen_are ∙ sym e; front_are = c.flags.front_are ∙ sym f } in
@@ -76,16 +74,17 @@ module _ (s : Scope) (t : Sited) (names : LibraryNames)
         names_are = named;
         taken = taken c.choice flags;
         told_are = telling c.choice flags;
+        flags_are = c.flags.chosen_are;
       }
 
 -- what was gathered is taken, where lists and names are those
-pub taken_as : (s : Scope) (w : Wish) (t : Sited) (names : LibraryNames) (g : Gathered) (many : AreAsMany t names)
-    → IsGathered s w t names g → (db : Contents) (made : List Naming) → db ≡ lists_of t names g.assertions.items
-    → made ≡ changed_of t names → IsTakenOf s w db (told_in g.axioms.items) made
-taken_as s w t names g many is db made e f =
-    subst (λ (d : Contents). IsTakenOf s w d (told_in g.axioms.items) made) (sym e)
-    (subst (λ (ns : List Naming). IsTakenOf s w (lists_of t names g.assertions.items) (told_in g.axioms.items) ns) (sym f)
-    (taken_of s w t names g many is))
+pub taken_as : (s : Scope) (w : Wish) (t : Sited) (names : LibraryNames) (g : Gathered) (flags : List Bool) (many : AreAsMany t names)
+    → IsGathered s w t names g flags → (db : Contents) (made : List Naming) → db ≡ lists_of t names g.assertions.items
+    → made ≡ changed_of t names → AreTakenBy s w db (told_in g.axioms.items) made flags
+taken_as s w t names g flags many is db made e f =
+    subst (λ (d : Contents). AreTakenBy s w d (told_in g.axioms.items) made flags) (sym e)
+    (subst (λ (ns : List Naming). AreTakenBy s w (lists_of t names g.assertions.items) (told_in g.axioms.items) ns flags) (sym f)
+    (taken_of s w t names g flags many is))
 
 -- ---- the call
 

@@ -1,5 +1,5 @@
 -- What is taken of a text by a wish, and why nothing is.
-use Rattle.std.specs.Prelude.{◌≡◌, ◌<◌, ◌⊎◌, ◌||◌, ℕ, suc, List, filter, length, map, Option, Some, None, IsTrue, slice_get}
+use Rattle.std.specs.Prelude.{◌≡◌, ◌≢◌, ◌<◌, ◌⊎◌, ◌||◌, ℕ, suc, List, filter, length, map, Some, None, IsTrue, slice_get}
 use Rattle.std.specs.Option.{option_map}
 use Rattle.std.specs.List.{list_any}
 use Rattle.mmtext.specs.Words.{Word}
@@ -42,6 +42,24 @@ pub record IsTaken (text : List ℕ) (w : Wish) (t : Taken) : Type 0 where
   pub in_order : StandsBehind source w → ⊥
   pub takes : Takes source choice t.database (axioms_of t) (names_of t)
   pub checks : AllCheck t.database
+  -- its flags say which assertions were taken
+  pub chosen_are : map (λ x. is_in choice.chosen x.label) source.assertions ≡ t.chosen.items
+
+-- lists that are taken of a source by the choice of the wish, whose labels are labels of the source and stand the right way round; and what
+-- is told of them
+pub record IsTakenOf (s : Scope) (w : Wish) (db : Contents) (axioms : List (Word × Reason)) (names : List Naming) : Type 0 where
+  pub choice : Choice
+  pub is_choice : IsChoice s w choice
+  pub known : first_unknown s w ≡ None
+  pub in_order : StandsBehind s w → ⊥
+  pub takes : Takes s choice db axioms names
+
+-- the library is taken of a source that was read, whatever text declares it, by the wish; its proofs check
+pub record IsLibraryOf (s : Scope) (w : Wish) (t : Taken) : Type 0 where
+  pub taken : IsTakenOf s w t.database (axioms_of t) (names_of t)
+  pub checks : AllCheck t.database
+  -- its flags say which assertions were taken
+  pub chosen_are : map (λ x. is_in taken.choice.chosen x.label) s.assertions ≡ t.chosen.items
 
 -- ---- refusals
 
@@ -81,3 +99,7 @@ IsRefused text w (refusal.Passes limit name) = (db : Contents) × IsDraft text w
 IsRefused text w refusal.Unlawful = (db : Contents) × IsDraft text w db × (HasSpelling db → ⊥)
 IsRefused text w (refusal.Proof label fault) = (db : Contents) × IsDraft text w db × IsProofFault db label fault
 IsRefused text w refusal.NoMemory = Unit {0}
+
+-- why nothing is taken of a source that was read: it is why nothing is taken of any text that declares it; want of memory says nothing
+pub record IsRefusedOf (s : Scope) (w : Wish) (why : Refusal) : Type 0 where
+  pub refused : why ≢ refusal.NoMemory → (text : List ℕ) → DeclaresText text s → IsRefused text w why

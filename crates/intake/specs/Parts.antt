@@ -1,51 +1,35 @@
 -- Of the code's inside, apart from the rules: what is known of a source between the steps of the call.
-use Rattle.std.specs.Prelude.{◌≡◌, ◌≢◌, ◌≤◌, ℕ, Bool, List, [], map, length, None, IsTrue}
+use Rattle.std.specs.Prelude.{◌≡◌, ◌≤◌, Bool, List, [], map, length, None, IsTrue}
 use Rattle.std.specs.List.{list_all}
 use Rattle.mmtext.specs.Words.{Word}
 use Rattle.mmsyntax.specs.declared.statement.Assertion.{Assertion as Unit'}
 use Rattle.mmsyntax.specs.Tables.{Contents}
 use Rattle.source.specs.Scopes.{Scope, is_in}
-use Rattle.source.specs.Sources.{DeclaresText}
 use Rattle.taking.specs.declared.reason.Reason.{Reason}
 use Rattle.taking.specs.Names.{Naming, renamed}
 use Rattle.taking.specs.Reasons.{Choice}
-use Rattle.taking.specs.Taken.{Takes, AreTaken, told, chosen_of}
+use Rattle.taking.specs.Taken.{AreTaken, told, chosen_of}
 use Rattle.choosing.specs.Choices.{IsChoice, labels_of, first_unknown, StandsBehind}
 use Rattle.choosing.specs.declared.wish.Wish.{Wish}
 use Rattle.naming.specs.declared.names.LibraryNames.{LibraryNames}
 use Rattle.naming.specs.Namings.{AreNamedWell}
 use Rattle.sites.specs.Sites.{Sited, AreSites}
-use Rattle.derivation.specs.Databases.{AllCheck}
 use Rattle.intake.specs.declared.assembling.Gathered.{Gathered}
-use Rattle.intake.specs.declared.taken.Taken.{Taken}
-use Rattle.intake.specs.declared.refusal.Refusal.{Refusal}
-use Rattle.intake.specs.declared.refusal.Refusal.TheVariants.{NoMemory}
 use Rattle.intake.specs.Placed.{map_of, tables_of}
 use Rattle.intake.specs.Gatherings.{told_in}
-use Rattle.intake.specs.Intakes.{IsTaken, IsRefused, axioms_of, names_of}
+use Rattle.intake.specs.Intakes.{IsTakenOf}
 
--- why nothing is taken of a source, whatever text declares it
-pub record IsRefusedOf (s : Scope) (w : Wish) (why : Refusal) : Type 0 where
-  pub refused : why ≢ NoMemory → (text : List ℕ) → DeclaresText text s → IsRefused text w why
-
--- lists that are taken of a source, with what is told of them
-pub record IsTakenOf (s : Scope) (w : Wish) (db : Contents) (axioms : List (Word × Reason)) (names : List Naming) : Type 0 where
-  pub choice : Choice
-  pub is_choice : IsChoice s w choice
-  pub known : first_unknown s w ≡ None
-  pub in_order : StandsBehind s w → ⊥
-  pub takes : Takes s choice db axioms names
-
--- a library of a source, with what is told of it; its proofs check
-pub record IsLibraryOf (s : Scope) (w : Wish) (t : Taken) : Type 0 where
-  pub taken : IsTakenOf s w t.database (axioms_of t) (names_of t)
-  pub checks : AllCheck t.database
+-- lists that are taken of a source, with what is told of them, and flags that say of each assertion whether it was taken
+pub record AreTakenBy (s : Scope) (w : Wish) (db : Contents) (axioms : List (Word × Reason)) (names : List Naming) (flags : List Bool)
+    : Type 0 where
+  pub taken : IsTakenOf s w db axioms names
+  pub flags_are : map (λ x. is_in taken.choice.chosen x.label) s.assertions ≡ flags
 
 -- what is said and proved of a source, by sites and names
 abbrev pub lists_of : Sited → LibraryNames → List Unit' → Contents
 lists_of t names as' = record { prelude = tables_of t names; assertions = as' }
 
-pub record IsGathered (s : Scope) (w : Wish) (t : Sited) (names : LibraryNames) (g : Gathered) : Type 0 where
+pub record IsGathered (s : Scope) (w : Wish) (t : Sited) (names : LibraryNames) (g : Gathered) (flags : List Bool) : Type 0 where
   pub choice : Choice
   pub is_choice : IsChoice s w choice
   pub known : first_unknown s w ≡ None
@@ -55,6 +39,7 @@ pub record IsGathered (s : Scope) (w : Wish) (t : Sited) (names : LibraryNames) 
   pub names_are : AreNamedWell s t.constants t.variables t.floats t.labels names
   pub taken : AreTaken (map_of t names) (tables_of t names) choice [] s.assertions g.assertions.items
   pub told_are : told choice [] s.assertions ≡ told_in g.axioms.items
+  pub flags_are : map (λ x. is_in choice.chosen x.label) s.assertions ≡ flags
 
 -- the names that were changed, where sites have these names
 abbrev pub changed_of : Sited → LibraryNames → List Naming

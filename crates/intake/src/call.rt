@@ -8,8 +8,8 @@ ghost use Rattle.sites.specs.Sites.{AreSites};
 ghost use Rattle.naming.specs.Namings.{AreNamedWell};
 ghost use Rattle.choosing.specs.Choices.{IsChosen};
 ghost use Rattle.choosing.specs.declared.wish.Wish.{Wish as WishOf};
-ghost use Rattle.intake.specs.Intakes.{IsTaken, IsRefused};
-ghost use Rattle.intake.specs.Parts.{IsRefusedOf, IsLibraryOf, IsChoiceByFlags};
+ghost use Rattle.intake.specs.Intakes.{IsTaken, IsLibraryOf, IsRefused, IsRefusedOf};
+ghost use Rattle.intake.specs.Parts.{IsChoiceByFlags};
 ghost use Rattle.intake.specs.declared.refusal.Refusal.TheVariants.{NoMemory};
 
 use crate::assembling::gather;

@@ -13,8 +13,8 @@ ghost use Rattle.drafts.specs.declared.draft.Undeclared.TheVariants.{NoMemory as
 ghost use Rattle.mmsyntax.specs.Layout.{HasSpelling};
 ghost use Rattle.mmsyntax.specs.Tables.{Contents};
 ghost use Rattle.intake.specs.Gatherings.{told_in, told_names};
-ghost use Rattle.intake.specs.Intakes.{IsProofFault};
-ghost use Rattle.intake.specs.Parts.{AreAsMany, IsTakenOf, IsRefusedOf, IsLibraryOf, IsGathered, lists_of, changed_of};
+ghost use Rattle.intake.specs.Intakes.{IsTakenOf, IsLibraryOf, IsRefusedOf, IsProofFault};
+ghost use Rattle.intake.specs.Parts.{AreAsMany, AreTakenBy, IsGathered, lists_of, changed_of};
 
 use crate::assembling::Gathered;
 use crate::drafting::{floats, put_changed};
@@ -147,9 +147,11 @@ fn with_proofs<'a, 'w>(
     names: Vec<(&'a [u8], Label)>,
     chosen: Vec<bool>,
 ) -> Result<Taken<'a>, Refusal<'a, 'w>>
-    ensures taken { (s : Scope) (w : Wish) → IsTakenOf s w database (told_in axioms.entry.items) (told_names names.entry.items)
+    ensures taken { (s : Scope) (w : Wish)
+        → AreTakenBy s w database (told_in axioms.entry.items) (told_names names.entry.items) chosen.items
         → IfOk result (IsLibraryOf s w) }
-    ensures refused { (s : Scope) (w : Wish) → IsTakenOf s w database (told_in axioms.entry.items) (told_names names.entry.items)
+    ensures refused { (s : Scope) (w : Wish)
+        → AreTakenBy s w database (told_in axioms.entry.items) (told_names names.entry.items) chosen.items
         → IfErr result (IsRefusedOf s w) }
 {
     match first_faulty(rt, alloc, &database)? {
@@ -163,7 +165,7 @@ fn with_proofs<'a, 'w>(
     }
 }
 
-/// The library of what was gathered of a source by sites and names.
+/// The library of what was gathered of a source by sites and names, where flags say which assertions were chosen.
 pub(crate) fn library_of<'a, 'w>(
     rt: &(impl Threads + Sync),
     alloc: Global,
@@ -174,8 +176,10 @@ pub(crate) fn library_of<'a, 'w>(
     chosen: Vec<bool>,
 ) -> Result<Taken<'a>, Refusal<'a, 'w>>
     requires { AreAsMany sites.now names }
-    ensures taken { (s : Scope) (w : Wish) → IsGathered s w sites.now names gathered.entry → IfOk result (IsLibraryOf s w) }
-    ensures refused { (s : Scope) (w : Wish) → IsGathered s w sites.now names gathered.entry → IfErr result (IsRefusedOf s w) }
+    ensures taken { (s : Scope) (w : Wish) → IsGathered s w sites.now names gathered.entry chosen.items
+        → IfOk result (IsLibraryOf s w) }
+    ensures refused { (s : Scope) (w : Wish) → IsGathered s w sites.now names gathered.entry chosen.items
+        → IfErr result (IsRefusedOf s w) }
 {
     let changed = changed_names(alloc, sites, &names)?;
     let draft = draft_of(alloc, sites, names, gathered.assertions)?;

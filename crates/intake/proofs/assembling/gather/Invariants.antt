@@ -1,7 +1,6 @@
 -- What the loop of `gather` keeps: with what is taken of the assertions that are left, all is taken.
 use Rattle.std.proofs.Common.{◌≡◌, ◌++◌, [], List, take, drop}
 use Rattle.mmsyntax.specs.declared.statement.Assertion.{Assertion as Unit'}
-use Rattle.source.specs.Scopes.{Assertion}
 use Rattle.prooftrees.specs.Frames.{Holds}
 use Rattle.taking.specs.Reasons.{Choice, AreFlags}
 use Rattle.taking.specs.Taken.{AreTaken, told}

@@ -1,6 +1,6 @@
 -- What is left to show of `stated`.
 use Rattle.std.proofs.Common.{rules, ◌≡◌, ◌∙◌, ℕ, List, [], Bor, refl, ap}
-use Rattle.std.specs.Prelude.{Option, Some, None, slice_get, filter_map}
+use Rattle.std.specs.Prelude.{Option, Some, slice_get, filter_map}
 use Rattle.std.specs.Option.{option_map}
 use Rattle.mmtext.specs.Words.{Word}
 use Rattle.mmsyntax.specs.declared.statement.Kind.TheVariants.{Axiom}

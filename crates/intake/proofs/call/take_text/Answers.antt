@@ -9,8 +9,8 @@ returns-in_err-scopes-clause-refused g c =
     let p = err_from_is_err_and c.from_residual.result c.from_residual.ensures.1 in
     rw p.1 (λ ne. p.2 c.args.text.now c.args.wish c.in_err-scopes.ensures.fault ne)
 
-pub take_from-requires-sync-typeof-rt : goal.take_from-requires-sync-typeof-rt
-take_from-requires-sync-typeof-rt g c κs within = (
+pub take_declared-requires-sync-typeof-rt : goal.take_declared-requires-sync-typeof-rt
+take_declared-requires-sync-typeof-rt g c κs within = (
   search rules,
   (
     (refl, tt),
@@ -20,5 +20,5 @@ take_from-requires-sync-typeof-rt g c κs within = (
 
 pub returns-clause-refused : goal.returns-clause-refused
 returns-clause-refused g c =
-    refused_by c.args.text.now c.in_ok-scopes.scopes.stand.scope c.args.wish c.take_from.result c.in_ok-scopes.ensures.found
-    c.take_from.ensures.refused
+    refused_by c.args.text.now c.in_ok-scopes.scopes.stand.scope c.args.wish c.take_declared.result c.in_ok-scopes.ensures.found
+    c.take_declared.ensures.refused

@@ -1,9 +1,9 @@
 -- What is left to show of `changed_names`.
-use Rattle.std.proofs.Common.{map, [], ap}
+use Rattle.std.proofs.Common.{map, ap}
 use Rattle.intake.proofs.Libraries.{part, chain, changed_are}
 use Rattle.taking.specs.Names.{Naming}
 use Rattle.intake.proofs.declaring.changed_names.Goals as goal
-use Rattle.std.proofs.Common.{◌≡◌, List, Bor, ◌∙◌, sym}
+use Rattle.std.proofs.Common.{List, Bor, ◌∙◌, sym}
 use Rattle.mmtext.specs.Words.{Word}
 use Rattle.mmsyntax.specs.declared.label.Label.{Label}
 

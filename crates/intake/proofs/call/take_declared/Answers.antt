@@ -1,7 +1,7 @@
--- What is left to show of `take_from`: what was gathered is what the wish chose.
+-- What is left to show of `take_declared`: what was gathered is what the wish chose.
 use Rattle.std.proofs.Common.{rules, ◌≡◌}
 use Rattle.intake.proofs.Steps.{is_gathered}
-use Rattle.intake.proofs.call.take_from.Goals as goal
+use Rattle.intake.proofs.call.take_declared.Goals as goal
 
 pub returns-clause-taken : goal.returns-clause-taken
 returns-clause-taken g c =
