@@ -1,7 +1,5 @@
 -- The faults of a replay: that of its history's text, and the first entry that differs; and which is answered.
-use Rattle.std.proofs.Common.{◌≡◌, ◌≢◌, ◌∙◌, ◌≤◌, inl, inr, ℕ, zero, suc, List, Vec, length, map, subst, sym, ap, refl, arith, ltb}
-use Rattle.std.specs.Prelude.{Result, Ok, Err, IfOk, IfErr}
-use Rattle.std.specs.declared.alloc.Global.{Global}
+use Rattle.std.proofs.Common.{◌≡◌, ◌≢◌, ◌∙◌, ◌≤◌, inl, inr, ℕ, zero, suc, List, length, map, subst, sym, ap, refl, arith, ltb}
 use Rattle.std.proofs.lemmas.Bool.{cases_Bool, ltb-true, ltb-false}
 use Rattle.mmtext.specs.declared.fault.TextFault.{TextFault}
 use Rattle.mmtext.specs.declared.fault.FaultKind.TheVariants.{NoMemory as OutOfMemory}
@@ -15,9 +13,8 @@ use Rattle.historytext.specs.Places.{FaultyHistory}
 use Rattle.checking.specs.declared.fault.Fault.{Fault}
 use Rattle.checking.specs.declared.fault.Fault.TheVariants.{Text, Proof, Differs, NoMemory}
 use Rattle.checking.specs.Outcomes.{setting_of}
-use Rattle.checking.specs.Checks.{Bytes, IsChecked, IsHistory, IsDatabaseFault, IsDifference, IsReplayFault}
+use Rattle.checking.specs.Checks.{Bytes, IsChecked, IsHistory, IsDatabaseFault, IsDifference, IsReplayFault, IsOrLacksMemory}
 use Rattle.checking.specs.Parts.{IsHistoryFault, IsTextFaultOf, IsRefusedBy}
-use Rattle.checking.specs.Checks.{PrintsReplay, IsReplay, IsOrLacksMemory, RefusesWith}
 
 -- ---- the text of the history
 
@@ -66,24 +63,10 @@ replay_faulted_by_text db text contents p (Text (suc zero) g) over checked h ne 
 replay_faulted_by_text db text contents p _ over checked h ne = absurd h
 
 -- so is the first entry that differs
-replay_faulted_by_entry : (db text : Bytes) (contents : Contents) (history : List Entry) (f : Fault) → IsChecked db contents
+pub replay_faulted_by_entry : (db text : Bytes) (contents : Contents) (history : List Entry) (f : Fault) → IsChecked db contents
     → IsHistory contents.prelude text history → IsDifference contents history f → IsReplayFault db text f
 replay_faulted_by_entry db text contents history (Differs n) checked read h = (contents, history, checked, read, h)
 replay_faulted_by_entry db text contents history _ checked read h = absurd h
-
--- what is answered of a history that is read
-pub replay_faulted : {A : Type 0} (db text : Bytes) (contents : Contents) (history : List Entry) (r : Result A Fault) → IsChecked db contents
-    → IsHistory contents.prelude text history → IfErr r (λ f. f ≢ NoMemory → IsDifference contents history f)
-    → IfErr r (λ f. f ≢ NoMemory → IsReplayFault db text f)
-replay_faulted db text contents history (Ok a) checked read h = h
-replay_faulted db text contents history (Err f) checked read h = λ ne. replay_faulted_by_entry db text contents history f checked read (h ne)
-
-pub replay_done : (db text : Bytes) (contents : Contents) (history : List Entry) (r : Result (Vec ℕ Global) Fault) → IsChecked db contents
-    → IsHistory contents.prelude text history → IfOk r (λ out. PrintsReplay contents history out.items)
-    → IfOk r (λ out. IsReplay db text out.items)
-replay_done db text contents history (Ok a) checked read h =
-    record { contents = contents; checked = checked; history = history; read = read; printed = h }
-replay_done db text contents history (Err f) checked read h = h
 
 -- a replay whose database is refused is refused with it
 pub replay_refused_by_database : (db text : Bytes) (answer f : Fault) → ((g : Fault) → IsDatabaseFault db g → IsOrLacksMemory g answer)
@@ -129,11 +112,11 @@ module _ (text : Bytes) (bytes : Bytes) (db : Contents) (p : Tables) (over : p �
         (subst (λ c. IsDifference c h.1 (Differs n)) (sym (same h.0 h.2)) h.4)
 
     -- a replay is answered with it, if there is one
-    pub replay_refused_by_entry : {A : Type 0} (r : Result A Fault) (f : Fault) → ((g : Fault) → IsDifference db entries g → RefusesWith g r)
-        → IsReplayFault text bytes f → RefusesWith f r
-    replay_refused_by_entry r (Text zero g) differs h = absurd (none (Text zero g) h)
-    replay_refused_by_entry r (Text (suc zero) g) differs h =
+    pub replay_refused_by_entry : (Answers : Fault → Type 0) (f : Fault) → ((g : Fault) → IsDifference db entries g → Answers g)
+        → IsReplayFault text bytes f → Answers f
+    replay_refused_by_entry Answers (Text zero g) differs h = absurd (none (Text zero g) h)
+    replay_refused_by_entry Answers (Text (suc zero) g) differs h =
         absurd (faultless g (subst (λ t. FaultyHistory t bytes g) (sym (same_prelude h.0.0 h.0.1)) h.0.2))
-    replay_refused_by_entry r (Proof label g) differs h = absurd (none (Proof label g) h)
-    replay_refused_by_entry r (Differs n) differs h = differs (Differs n) (difference_of n h)
-    replay_refused_by_entry r _ differs h = absurd h
+    replay_refused_by_entry Answers (Proof label g) differs h = absurd (none (Proof label g) h)
+    replay_refused_by_entry Answers (Differs n) differs h = differs (Differs n) (difference_of n h)
+    replay_refused_by_entry Answers _ differs h = absurd h

@@ -1,17 +1,13 @@
 -- Of the code's inside, apart from the rules: what its single functions answer, as parts of what a check or a replay prints and of its faults.
-use Rattle.std.specs.Prelude.{◌≡◌, ◌≢◌, ◌+◌, ℕ, zero, suc, List, map, Result, Ok, Err}
+use Rattle.std.specs.Prelude.{◌≡◌, ◌≢◌, ◌+◌, ℕ, zero, suc, List, Result, Ok, Err}
 use Rattle.mmtext.specs.declared.fault.TextFault.{TextFault}
 use Rattle.mmtext.specs.declared.fault.FaultKind.TheVariants.{NoMemory as OutOfMemory}
 use Rattle.mmsyntax.specs.Tables.{Tables, Contents}
 use Rattle.derivation.specs.declared.fault.ProofFault.{ProofFault}
 use Rattle.derivation.specs.declared.fault.ProofFaultKind.TheVariants.{NoMemory as NoMemoryOfProof}
-use Rattle.library.specs.Library.{Listed, ShowsInOrder, opening}
-use Rattle.library.specs.declared.history.Entry.{Entry}
-use Rattle.library.specs.Histories.{told, after_all, IsLegal}
 use Rattle.historytext.specs.Places.{FaultyHistory}
 use Rattle.checking.specs.declared.fault.Fault.{Fault}
 use Rattle.checking.specs.declared.fault.Fault.TheVariants.{Text, Proof, NoMemory}
-use Rattle.checking.specs.Outcomes.{setting_of}
 use Rattle.checking.specs.Checks.{Bytes, IsFirstFault, IsLabelAt}
 
 -- the scripts' part of a fault

@@ -9,7 +9,7 @@ ghost use Rattle.historytext.specs.Places.{FaultyHistory};
 ghost use Rattle.historytext.specs.Layout.{EntryFits};
 ghost use Rattle.checking.specs.declared.fault.Fault.{Fault as FaultOfJob};
 ghost use Rattle.checking.specs.declared.fault.Fault.TheVariants.{NoMemory};
-ghost use Rattle.checking.specs.Checks.{library_lines, IsHistory, IsAfter, PrintsReplay, IsDifference, RefusesWith};
+ghost use Rattle.checking.specs.Checks.{library_lines, IsHistory, IsAfter, IsDifference, RefusesWith};
 ghost use Rattle.checking.specs.Parts.{IsHistoryFault, GivesOrLacksMemory, IsRefusedWith};
 
 use crate::fault::{Fault, text_fault};
@@ -62,7 +62,11 @@ pub(crate) fn replay_entries(
 }
 
 /// `replayed`, the number of entries, and the lines of a library.
-fn replayed_text(alloc: Global, count: usize, library: &PlainLibrary) -> Result<Vec<u8>, AllocError>
+pub(crate) fn replayed_text(
+    alloc: Global,
+    count: usize,
+    library: &PlainLibrary,
+) -> Result<Vec<u8>, AllocError>
     ensures { IfOk result (λ out. out.items ≡ codes "replayed " ++ (decimal count ++ 10 ∷ library_lines library.now)) }
 {
     let line = format!(in alloc; "replayed {count}\n")?;
@@ -70,23 +74,4 @@ fn replayed_text(alloc: Global, count: usize, library: &PlainLibrary) -> Result<
     out.extend_from_slice(b"library\n")?;
     put_library(&mut out, library)?;
     Ok(out)
-}
-
-/// What the replay of a history over a database prints. Every entry counts, also one without commands.
-pub(crate) fn print_replay(
-    alloc: Global,
-    keys: RandomState,
-    db: &Database,
-    history: &[Entry],
-) -> Result<Vec<u8>, Fault>
-    requires checks { AllCheck db.now }
-    requires fit { All (EntryFits db.now.prelude) history.now }
-    ensures done { IfOk result (λ out. PrintsReplay db.now history.now out.items) }
-    ensures fault { IfErr result (λ f. f ≢ NoMemory → IsDifference db.now history.now f) }
-    ensures refused { (f : FaultOfJob) → IsDifference db.now history.now f → RefusesWith f result }
-{
-    let library = replay_entries(alloc, keys, db, history)?;
-    // For the proof: the library verifies, and is in export order.
-    let _entries = library.entries();
-    Ok(replayed_text(alloc, history.len(), &library)?)
 }

@@ -8,7 +8,7 @@ ghost use Rattle.checking.specs.Checks.{IsCheck, IsReplay, LeadsTo, IsDatabaseFa
 
 use crate::database::read_and_check;
 use crate::fault::Fault;
-use crate::replaying::{print_replay, read_entries, replay_entries};
+use crate::replaying::{read_entries, replay_entries, replayed_text};
 use library::{History, PlainLibrary};
 use std::alloc::{AllocError, Global};
 use std::hash::RandomState;
@@ -55,7 +55,8 @@ pub fn replay_library(
     Ok((entries, library))
 }
 
-/// Does the transactions of a history again, over a database, as texts, and gives what is printed.
+/// Does the transactions of a history again, over a database, as texts, and gives what is printed. Every entry counts, also one without
+/// commands.
 pub fn replay(
     rt: &(impl Threads + Sync),
     alloc: Global,
@@ -67,7 +68,8 @@ pub fn replay(
     ensures fault { IfErr result (λ f. f ≢ NoMemory → IsReplayFault db.now history.now f) }
     ensures refused { (f : FaultOfJob) → IsReplayFault db.now history.now f → RefusesWith f result }
 {
-    let db = read_and_check(rt, alloc, keys, db)?;
-    let entries = read_entries(alloc, db.prelude(), history)?;
-    print_replay(alloc, keys, &db, entries.as_slice())
+    let (entries, library) = replay_library(rt, alloc, keys, db, history)?;
+    // For the proof: the library verifies, and is in export order.
+    let _entries = library.entries();
+    Ok(replayed_text(alloc, entries.as_slice().len(), &library)?)
 }

@@ -1,6 +1,6 @@
 use Rattle.std.proofs.Common.{rules}
 use Rattle.clap.specs.Words.{App, with_subcommand}
-use Rattle.commandline.specs.CommandLine.{IsLine, bare_app, check_app, run_app, replay_app, take_app}
+use Rattle.commandline.specs.CommandLine.{IsLine, bare_app, check_app, run_app, replay_app, take_app, give_app}
 use Rattle.commandline.proofs.arguments.command_line.Goals as goal
 
 abbrev with_check : App
@@ -9,10 +9,14 @@ with_check = with_subcommand bare_app check_app.top
 abbrev with_run : App
 with_run = with_subcommand with_check run_app.top
 
+abbrev with_replay : App
+with_replay = with_subcommand with_run replay_app.top
+
 pub returns : goal.returns
 returns c =
     let bare : IsLine bare_app c.arg_required_else_help-line.result = search rules in
     let check = c.with_line-line.ensures bare_app check_app bare c.check_line.ensures in
     let run = c.with_line-line-2.ensures with_check run_app check c.run_line.ensures in
     let replay = c.with_line-line-3.ensures with_run replay_app run c.replay_line.ensures in
-    c.with_line.ensures (with_subcommand with_run replay_app.top) take_app replay c.take_line.ensures
+    let take = c.with_line-line-4.ensures with_replay take_app replay c.take_line.ensures in
+    c.with_line.ensures (with_subcommand with_replay take_app.top) give_app take c.give_line.ensures
