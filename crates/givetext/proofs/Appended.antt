@@ -32,7 +32,8 @@ on_turn : (turn : Option Turn) (letters more : List ℕ) (front : ℕ) (all : Op
     → turned turn (λ f. decoded f letters) ≡ nothing front
     → ((f : ℕ) → decoded f letters ≡ nothing front → decoded f more ≡ all) → turned turn (λ f. decoded f more) ≡ all
 on_turn None letters more front all e later = absurd cc
-on_turn (Some t) letters more front all e later = on_said t.said (decoded t.front letters) (decoded t.front more) front all e (later t.front)
+on_turn (Some t) letters more front all e later =
+    on_said t.said (decoded t.front letters) (decoded t.front more) front all e (later t.front)
 
 one_letter : (letters : List ℕ) (from front b : ℕ) → decoded from letters ≡ nothing front
     → decoded from (letters ++ b ∷ []) ≡ decoded front (b ∷ [])

@@ -1,6 +1,7 @@
 //! From the steps of a proof in the library to nodes in the order of the source.
 
-ghost use Rattle.std.specs.Prelude.{◌≡◌, ◌<◌, length, count_by};
+ghost use Rattle.std.specs.Prelude.{◌≡◌, ◌<◌, length, count_by, IfOk};
+ghost use Rattle.taking.specs.Walks.{arranged};
 
 use crate::shared::Shared;
 use mmsyntax::Step;
@@ -49,9 +50,14 @@ fn count_floats(kinds: &[bool]) -> usize
     kinds.iter().filter(|is_float| **is_float).count()
 }
 
-/// As many arguments in the order of the source, of which first those of `$f` stand and then those of `$e`.
-fn arranged(alloc: Global, kinds: &[bool], arguments: &[usize]) -> Result<Vec<usize>, AllocError>
+/// Arguments in the order of the source, of those in the order of the library, where those of `$f` stand before those of `$e`.
+fn in_source_order(
+    alloc: Global,
+    kinds: &[bool],
+    arguments: &[usize],
+) -> Result<Vec<usize>, AllocError>
     requires { length kinds.now ≡ length arguments.now }
+    ensures { IfOk result (λ made. arranged kinds.now made.items ≡ arguments.now) }
 {
     let mut floats = 0;
     let mut premises = count_floats(kinds);
@@ -83,7 +89,7 @@ fn cite<'x, 'a, D: Declared<'a>>(
     let Some(first) = stack.len().checked_sub(kinds.len()) else {
         return Ok(false);
     };
-    let arguments = arranged(alloc, kinds.as_slice(), &stack[first..])?;
+    let arguments = in_source_order(alloc, kinds.as_slice(), &stack[first..])?;
     stack.truncate(first);
     let node = shared.node(alloc, cited.label, arguments.as_slice())?;
     stack.push(node)?;

@@ -15,8 +15,8 @@ struct Node {
     uses: usize,
 }
 
-/// The nodes of a proof: equal subproofs are one node, which stands behind its arguments. Labels and nodes are numbered from 0, in the order of
-/// their first use.
+/// The nodes of a proof: equal subproofs are one node, which stands behind its arguments. Labels and nodes are numbered from 0, in the
+/// order of their first use.
 #[derive(Drop)]
 pub(crate) struct Shared<'x> {
     /// The labels that nodes name.

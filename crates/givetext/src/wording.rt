@@ -89,6 +89,7 @@ impl Letters {
 
     /// A node ends: its label, and the mark of one that has arguments and stands there again.
     fn end(&mut self, shared: &Shared<'_>, node: usize) -> Result<(), AllocError> {
+        // Each label that a node names has a number.
         let number = self.numbers.get(shared.word(node)).copied().unwrap_or(0);
         put_number(&mut self.text, number)?;
         if shared.arguments(node).is_empty() || !shared.is_shared(node) {
@@ -102,7 +103,7 @@ impl Letters {
         Ok(())
     }
 
-    /// Puts the letters of a tree. Whether it has at most 16,384 steps, where a marked subproof counts as one.
+    /// Puts the letters of a tree. Whether it has at most 16,384 steps, where a marked subproof that stands there again counts as one.
     fn put_tree(
         &mut self,
         alloc: Global,
@@ -151,8 +152,8 @@ fn numbers_of<'x>(
     Ok((numbers, others))
 }
 
-/// Puts a compressed proof of a theorem with these mandatory hypotheses. Whether it has at most 16,384 steps, where a marked subproof counts
-/// as one.
+/// Puts a compressed proof of a theorem with these mandatory hypotheses. Whether it has at most 16,384 steps, where a marked subproof that
+/// stands there again counts as one.
 pub(crate) fn put_compressed(
     alloc: Global,
     layout: &mut Layout,
