@@ -1,0 +1,2 @@
+mod Labels
+mod Origins
