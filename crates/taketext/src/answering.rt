@@ -53,6 +53,8 @@ fn tell_taken(
     requires { IsTaken source.now wish taken.now }
     ensures { IfOk result (IsTakeAnswer path.now source.now wish.entry) }
 {
+    // For the proof: some text spells a database.
+    let _assertions = taken.database.assertions();
     let out = write_taken(alloc, path.as_bytes(), source, wish, taken)?;
     let count = out.as_slice().len();
     if count > MOST_BYTES {

@@ -1,15 +1,15 @@
+-- What is left to show of `tell_taken`: what is too long is so, and what is printed spells the library.
 use Rattle.std.proofs.Common.{◌∙◌, ◌<◌, ◌≤◌, ℕ, List, ap, arith, inr, length, subst, sym}
 use Rattle.mmsyntax.specs.Grammar.{Spells}
+use Rattle.taketext.specs.Answers.{taken_text}
 use Rattle.taketext.specs.Refusals.{long_line}
-use Rattle.taketext.proofs.Whole.{whole_text, whole_spelled}
+use Rattle.taketext.proofs.Whole.{whole_spelled}
 use Rattle.taketext.proofs.answering.tell_taken.Goals as goal
 
 pub returns-then-count-gt-MOST_BYTES : goal.returns-then-count-gt-MOST_BYTES
 returns-then-count-gt-MOST_BYTES c =
-    let whole = whole_text c.args.path.now c.as_bytes.result.now c.args.source.now c.args.wish c.args.taken.now c.new-out.result.items
-    c.put_comment.new.out.items c.in_ok-library.library.items c.as_slice.result.now c.extend_from_slice.new.self.items
-    c.new-out.ensures.items c.as_bytes.ensures.value c.in_ok-put_comment.ensures c.in_ok-library.ensures.text c.as_slice.ensures.value
-    c.in_ok-extend_from_slice.ensures.items in
+    let whole = c.in_ok-out.ensures
+    ∙ ap (λ p. taken_text p c.args.source.now c.args.wish c.args.taken.now) c.as_bytes.ensures.value in
     let many = ap length (c.as_slice-count.ensures.value ∙ whole) in
     inr (
       c.args.taken.now,
@@ -20,14 +20,12 @@ returns-then-count-gt-MOST_BYTES c =
 
 pub returns : goal.returns
 returns c =
-    let whole = whole_text c.args.path.now c.as_bytes.result.now c.args.source.now c.args.wish c.args.taken.now c.new-out.result.items
-    c.put_comment.new.out.items c.in_ok-library.library.items c.as_slice.result.now c.extend_from_slice.new.self.items
-    c.new-out.ensures.items c.as_bytes.ensures.value c.in_ok-put_comment.ensures c.in_ok-library.ensures.text c.as_slice.ensures.value
-    c.in_ok-extend_from_slice.ensures.items in
-    let spelled = whole_spelled c.args.path.now c.args.source.now c.args.wish c.args.taken.now c.requires c.in_ok-library.library.items
-    c.in_ok-library.ensures.text c.in_ok-library.ensures.spelled in
+    let whole = c.in_ok-out.ensures
+    ∙ ap (λ p. taken_text p c.args.source.now c.args.wish c.args.taken.now) c.as_bytes.ensures.value in
+    let spelled = whole_spelled c.args.path.now c.args.source.now c.args.wish c.args.taken.now c.requires
+    c.assertions-assertions.ensures.sound in
     let length_is = ap length c.as_slice-count.ensures.value in
-    let short : length c.extend_from_slice.new.self.items ≤ 16777216 = omega (arith, length_is, c.if-count-gt-MOST_BYTES.false) in record {
+    let short : length c.in_ok-out.out.items ≤ 16777216 = omega (arith, length_is, c.if-count-gt-MOST_BYTES.false) in record {
       library = c.args.taken.now;
       taken = c.requires;
       text = whole;
