@@ -1,4 +1,6 @@
 mod Places
 mod Orders
+mod Marked
+mod Statements
 mod Walking
 mod Spliced

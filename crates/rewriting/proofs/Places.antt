@@ -23,17 +23,15 @@ first_place p [] t ts h = absurd cc
 first_place p (b ∷ bs) t ts h =
     first_at p b (is_white b) (ends_token bs) (tokens_from (suc p) bs) ts t (first_place (suc p) bs t ts) h
 
-behind : (front rest : List Token) (t : Token) → slice_get (front ++ t ∷ rest) (length front) ≡ Some t
-behind [] rest t = refl
-behind (x ∷ front) rest t = behind front rest t
+behind : (front left : List Token) (t : Token) → slice_get (front ++ t ∷ left) (length front) ≡ Some t
+behind [] left t = refl
+behind (x ∷ front) left t = behind front left t
 
 -- the token behind others is one of the text
-pub is_token : (source : List ℕ) (front here rest : List Token) (t : Token) → tokens source ≡ front ++ here → here ≡ t ∷ rest
-    → IsTokenOf source t
-is_token source front here rest t all next =
-    (length front, ap (λ ts. slice_get ts (length front)) (all ∙ ap (λ ts. front ++ ts) next) ∙ behind front rest t)
+pub is_token : (source : List ℕ) (front left : List Token) (t : Token) → tokens source ≡ front ++ t ∷ left → IsTokenOf source t
+is_token source front left t all = (length front, ap (λ ts. slice_get ts (length front)) all ∙ behind front left t)
 
--- and those behind it are left
-pub left : (source : List ℕ) (front here rest : List Token) (t : Token) → tokens source ≡ front ++ here → here ≡ t ∷ rest
-    → tokens source ≡ (front ++ t ∷ []) ++ rest
-left source front here rest t all next = all ∙ (ap (λ ts. front ++ ts) next ∙ sym (append_assoc front (t ∷ []) rest))
+-- and others are left behind it
+pub left_behind : (source : List ℕ) (front left : List Token) (t : Token) → tokens source ≡ front ++ t ∷ left
+    → tokens source ≡ (front ++ t ∷ []) ++ left
+left_behind source front left t all = all ∙ sym (append_assoc front (t ∷ []) left)

@@ -1,5 +1,7 @@
 -- The text of a source with changed labels and other proofs: which spans of it may change, and that each other byte stays.
-use Rattle.std.specs.Prelude.{◌≡◌, ◌≤◌, ◌+◌, ◌⊎◌, ℕ, List, [], ◌∷◌, ◌++◌, length, drop, find, codes, All, Some, slice_get, slice_range}
+use Rattle.std.specs.Prelude.{◌≡◌, ◌≢◌, ◌≤◌, ◌+◌, ◌⊎◌, ℕ, Bool, true, false, List, [], ◌∷◌, ◌++◌, length, drop, find, codes, All, Some}
+use Rattle.std.specs.Prelude.{slice_get, slice_range, if◌then◌else◌}
+use mathlib.Core.Bool.{not}
 use Rattle.std.specs.Str.{bytes_eq}
 use Rattle.mmtext.specs.Words.{Word}
 use Rattle.mmtext.specs.Text.{Token, tokens}
@@ -18,11 +20,23 @@ abbrev pub spliced : List ℕ → ℕ → List Span → List ℕ
 spliced source at [] = drop at source
 spliced source at (x ∷ xs) = slice_range source at x.begin ++ (x.text.now ++ spliced source x.end xs)
 
--- ---- which spans may change
+-- ---- which tokens are told apart
 
 -- a token of the text (Metamath book, section 4.1.1)
 abbrev pub IsTokenOf : List ℕ → Token → Type 0
 IsTokenOf source t = (k : ℕ) × (slice_get (tokens source) k ≡ Some t)
+
+-- the tokens outside of comments, of which one may be open before them: $( opens one, and $) closes it (section 4.1.2)
+abbrev pub outside : Bool → List Token → List Token
+outside in_comment [] = []
+outside true (t ∷ ts) = outside (not (bytes_eq t.text (codes "$)"))) ts
+outside false (t ∷ ts) = if bytes_eq t.text (codes "$(") then outside true ts else t ∷ outside false ts
+
+-- no statement ends among tokens: $. is none of them
+abbrev pub AreWithin : List Token → Type 0
+AreWithin ts = All (λ t. t.text ≢ codes "$.") ts
+
+-- ---- which spans may change
 
 -- the first change of a word has these bytes
 abbrev pub IsChangedTo : List Change → Word → List ℕ → Type 0
@@ -36,18 +50,25 @@ pub record IsLabelSpan (cs : List Change) (source : List ℕ) (x : Span) : Type 
   pub ends : x.end ≡ token.place + length token.text
   pub changed : IsChangedTo cs token.text x.text.now
 
--- a proof of a theorem that has another: all that stands between $= and $. (section 4.2.8)
+-- a proof of a theorem that has another: its label stands before $p, and the span is all that stands between $= and $. of that statement
+-- (section 4.2.8)
 pub record IsProofSpan (proofs : List Change) (source : List ℕ) (x : Span) : Type 0 where
+  pub before : List Token
+  pub label : Token
+  pub provable : Token
+  pub symbols : List Token
   pub opening : Token
+  pub steps : List Token
   pub closing : Token
-  pub opens : IsTokenOf source opening
-  pub closes : IsTokenOf source closing
+  pub after : List Token
+  pub stands : outside false (tokens source) ≡ before ++ label ∷ provable ∷ symbols ++ opening ∷ steps ++ closing ∷ after
+  pub is_provable : provable.text ≡ codes "$p"
   pub is_opening : opening.text ≡ codes "$="
   pub is_closing : closing.text ≡ codes "$."
+  pub one_statement : AreWithin (symbols ++ steps)
   pub begins : x.begin ≡ opening.place + 2
   pub ends : x.end ≡ closing.place
-  pub label : Word
-  pub proved : IsChangedTo proofs label x.text.now
+  pub proved : IsChangedTo proofs label.text x.text.now
 
 abbrev pub IsSpan : List Change → List Change → List ℕ → Span → Type 0
 IsSpan cs proofs source x = IsLabelSpan cs source x ⊎ IsProofSpan proofs source x

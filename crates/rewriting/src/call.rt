@@ -22,8 +22,9 @@ fn find_spans<'t>(
     Walk::new(alloc).take_all(changes, proofs, source)
 }
 
-/// The text of a source with changed labels, and with other proofs of some theorems, which are named by their labels before. A label changes
-/// where it is a token outside of comments but among the letters of a compressed proof, and behind `~` in a comment. Every other byte stays.
+/// The text of a source with changed labels, and with other proofs of some theorems, which are named by their labels before. A label
+/// changes where it is a token outside of comments but among the letters of a compressed proof, and behind `~` in a comment. Every other
+/// byte stays.
 ///
 /// It costs about as much as the source has bytes.
 ///

@@ -1,5 +1,5 @@
-//! Where labels stand in a proof: its steps, or the labels in parentheses, and not the letters behind them (Metamath book, section 4.2.8 and
-//! appendix B).
+//! Where labels stand in a proof: its steps, or the labels in parentheses, and not the letters behind them (Metamath book, section 4.2.8
+//! and appendix B).
 
 use mmtext::Mark;
 

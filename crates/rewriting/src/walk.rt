@@ -1,11 +1,11 @@
 //! A walk over the tokens of a source that finds the spans to change.
 
-ghost use Rattle.std.specs.Prelude.{◌≡◌, ◌<◌, ◌+◌, ◌^◌, ℕ, List, length, codes, All, IfOk, OnOk};
-ghost use Rattle.mmtext.specs.Text.{mark_of};
+ghost use Rattle.std.specs.Prelude.{◌≡◌, ◌<◌, ◌+◌, ◌^◌, ◌++◌, ℕ, List, length, All, IfOk, OnOk};
+ghost use Rattle.mmtext.specs.Text.{mark_of, tokens};
 ghost use Rattle.mmtext.specs.Views.{seen};
 ghost use Rattle.giving.specs.Staying.{Change};
 ghost use Rattle.rewriting.specs.Spans.{AreInOrder, IsSpan};
-ghost use Rattle.rewriting.specs.Walks.{IsWalked, TakesToken};
+ghost use Rattle.rewriting.specs.Walks.{MayBeFound, MayBegin, spans_to, IsWalked, TakesToken};
 
 use crate::comments::CommentPlace;
 use crate::proofs::ProofPlace;
@@ -30,24 +30,24 @@ pub(crate) struct Walk<'s, 't> {
     pub proof: ProofPlace,
     /// The proof that is passed over, if one is.
     pub passing: Option<Passing<'t>>,
-    /// The last token outside of comments.
-    pub last: &'s [u8],
-    /// The label of the last `$p`.
-    pub theorem: &'s [u8],
+    /// The last token outside of comments, if there was one.
+    pub last: Option<&'s [u8]>,
+    /// The label of the theorem whose statement is read, if one is.
+    pub theorem: Option<&'s [u8]>,
     pub spans: Vec<Span<'t>>,
 }
 
 impl<'s, 't> Walk<'s, 't> {
     /// Before any token.
     pub(crate) fn new(alloc: Global) -> Walk<'s, 't>
-        ensures { (cs proofs : List Change) (source : List ℕ) → IsWalked cs proofs source 0 result }
+        ensures { (cs proofs : List Change) (source : List ℕ) → IsWalked cs proofs source (tokens source) 0 result }
     {
         Walk {
             comment: None,
             proof: ProofPlace::Outside,
             passing: None,
-            last: b"",
-            theorem: b"",
+            last: None,
+            theorem: None,
             spans: Vec::new(alloc),
         }
     }
@@ -55,7 +55,8 @@ impl<'s, 't> Walk<'s, 't> {
     /// A label is to change, where one stands.
     fn change(&mut self, changes: &Changes<'t>, token: Token<'s>) -> Result<(), AllocError>
         requires { token.place + length token.text.now < 2 ^ 64 }
-        ensures { OnOk result ((proofs : List Change) → TakesToken changes.now proofs self.old (seen token.entry) self.new) }
+        ensures same { OnOk result (self.new ≡ record self.old { spans = self.new.spans }) }
+        ensures found { OnOk result (MayBeFound changes.now self.old.passing (seen token.entry) self.old.spans.items self.new.spans.items) }
     {
         if self.passing.is_some() {
             return Ok(());
@@ -72,11 +73,13 @@ impl<'s, 't> Walk<'s, 't> {
 
     /// A proof begins: it is passed over where another is to stand there.
     fn begin_proof(&mut self, proofs: &Changes<'t>, token: Token<'s>)
-        requires fits { token.place + length token.text.now < 2 ^ 64 }
-        requires opens { token.text.now ≡ codes "$=" }
-        ensures { (cs : List Change) → TakesToken cs proofs.now self.old (seen token.entry) self.new }
+        requires { token.place + length token.text.now < 2 ^ 64 }
+        ensures same { self.new ≡ record self.old { passing = self.new.passing } }
+        ensures begun { MayBegin proofs.now self.old.theorem (seen token.entry) self.old.passing self.new.passing }
     {
-        if let Some(text) = proofs.text_for(self.theorem) {
+        if let Some(label) = self.theorem
+            && let Some(text) = proofs.text_for(label)
+        {
             self.passing = Some(Passing {
                 begin: token.place + token.text.len(),
                 text,
@@ -86,9 +89,10 @@ impl<'s, 't> Walk<'s, 't> {
 
     /// A statement ends, and with it the proof that is passed over.
     fn end_proof(&mut self, token: Token<'s>) -> Result<(), AllocError>
-        requires { token.text.now ≡ codes "$." }
-        ensures { OnOk result ((cs proofs : List Change) → TakesToken cs proofs self.old (seen token.entry) self.new) }
+        ensures same { OnOk result (self.new ≡ record self.old { passing = None; theorem = None; spans = self.new.spans }) }
+        ensures spans { OnOk result (self.new.spans.items ≡ self.old.spans.items ++ spans_to (seen token.entry) self.old.passing) }
     {
+        self.theorem = None;
         if let Some(passing) = self.passing {
             self.passing = None;
             self.spans.push(Span {
@@ -108,7 +112,9 @@ impl<'s, 't> Walk<'s, 't> {
         token: Token<'s>,
         mark: Mark,
     ) -> Result<(), AllocError>
-        requires { token.place + length token.text.now < 2 ^ 64 }
+        requires fits { token.place + length token.text.now < 2 ^ 64 }
+        requires marked { mark ≡ mark_of token.text.now }
+        requires where_it_is { self.old.comment ≡ Some place }
         ensures { OnOk result ((proofs : List Change) → TakesToken changes.now proofs self.old (seen token.entry) self.new) }
     {
         if mark == Mark::Uncomment {
@@ -132,6 +138,7 @@ impl<'s, 't> Walk<'s, 't> {
     ) -> Result<(), AllocError>
         requires fits { token.place + length token.text.now < 2 ^ 64 }
         requires marked { mark ≡ mark_of token.text.now }
+        requires where_it_is { self.old.comment ≡ None }
         ensures { OnOk result (TakesToken changes.now proofs.now self.old (seen token.entry) self.new) }
     {
         match mark {
@@ -146,7 +153,7 @@ impl<'s, 't> Walk<'s, 't> {
             _ => {}
         }
         self.proof = self.proof.behind(token.text, mark);
-        self.last = token.text;
+        self.last = Some(token.text);
         Ok(())
     }
 
@@ -174,7 +181,7 @@ impl<'s, 't> Walk<'s, 't> {
         proofs: &Changes<'t>,
         source: &'s [u8],
     ) -> Result<Vec<Span<'t>>, AllocError>
-        requires { IsWalked changes.now proofs.now source.now 0 self }
+        requires { IsWalked changes.now proofs.now source.now (tokens source.now) 0 self }
         ensures in_order { IfOk result (λ spans. AreInOrder source.now 0 spans.items) }
         ensures each { IfOk result (λ spans. All (IsSpan changes.now proofs.now source.now) spans.items) }
     {

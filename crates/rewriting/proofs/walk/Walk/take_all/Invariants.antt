@@ -1,6 +1,6 @@
 -- What the loop of `take_all` keeps.
-use Rattle.std.proofs.Common.{◌≡◌, ◌-◌, ◌≤◌, ◌++◌, List, length, drop}
-use Rattle.mmtext.specs.Text.{Token, tokens, tokens_from}
+use Rattle.std.proofs.Common.{◌-◌, ◌≤◌, length, drop}
+use Rattle.mmtext.specs.Text.{tokens_from}
 use Rattle.rewriting.specs.Walks.{IsWalked}
 use Rattle.rewriting.proofs.walk.Walk.take_all.Given as goal
 
@@ -8,8 +8,7 @@ use Rattle.rewriting.proofs.walk.Walk.take_all.Given as goal
 abbrev pub invariant-loop-token : goal.invariant-loop-token
 invariant-loop-token l = record {
   within : l.at ≤ length l.source;
-  left : (front : List Token) × (tokens l.source ≡ front ++ tokens_from l.at (drop l.at l.source));
-  walked : IsWalked l.changes l.proofs l.source l.at l.self;
+  walked : IsWalked l.changes l.proofs l.source (tokens_from l.at (drop l.at l.source)) l.at l.self;
 }
 
 abbrev pub decreases-loop-token : goal.decreases-loop-token

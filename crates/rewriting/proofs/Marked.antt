@@ -1,0 +1,71 @@
+-- What the mark of a token says of its bytes, and tokens in and around comments.
+use Rattle.std.proofs.Common.{◌≡◌, ◌≢◌, ◌∙◌, Bool, true, false, cond, List, ◌∷◌, ◌++◌, codes, refl, sym, ap, subst, inl, inr}
+use mathlib.Core.Bool.{not}
+use Rattle.std.specs.Str.{bytes_eq}
+use Rattle.std.proofs.lemmas.Bool.{cases_Bool}
+use Rattle.std.proofs.lemmas.Slice.Eq.{bytes_eq-Decides}
+use Rattle.mmtext.specs.declared.mark.Mark.{Mark}
+use Rattle.mmtext.specs.declared.mark.Mark.TheVariants as mark
+use Rattle.mmtext.specs.Words.{Word}
+use Rattle.mmtext.specs.Text.{Token, mark_of}
+use Rattle.mmtext.proofs.Marks.{Says, says, same_word}
+use Rattle.rewriting.specs.Spans.{outside}
+
+-- ---- marks
+
+pub reads_as : (m k : Mark) (w : Word) → m ≡ mark_of w → m ≡ k → Says k w
+reads_as m k w marked is = subst (λ v. Says v w) (sym marked ∙ is) (says w)
+
+pub same_bytes : (w v : Word) → w ≡ v → bytes_eq w v ≡ true
+same_bytes w v e = (bytes_eq-Decides w v).1 e
+
+other_bytes : (w v : Word) → (w ≡ v → mark_of w ≡ mark_of v) → mark_of w ≢ mark_of v → bytes_eq w v ≡ false
+other_bytes w v same differs = elim (cases_Bool (bytes_eq w v)) [
+  | inl y ↦ absurd (differs (same (same_word w v y)))
+  | inr n ↦ n
+]
+
+of_comment : mark_of (codes "$(") ≡ mark.Comment
+unfolding mark_of
+of_comment = refl
+
+of_uncomment : mark_of (codes "$)") ≡ mark.Uncomment
+unfolding mark_of
+of_uncomment = refl
+
+of_end : mark_of (codes "$.") ≡ mark.End
+unfolding mark_of
+of_end = refl
+
+pub opens_none : (m : Mark) (w : Word) → m ≡ mark_of w → m ≢ mark.Comment → bytes_eq w (codes "$(") ≡ false
+opens_none m w marked differs = other_bytes w (codes "$(") (ap mark_of) (λ e. differs (marked ∙ (e ∙ of_comment)))
+
+pub closes_none : (m : Mark) (w : Word) → m ≡ mark_of w → m ≢ mark.Uncomment → bytes_eq w (codes "$)") ≡ false
+closes_none m w marked differs = other_bytes w (codes "$)") (ap mark_of) (λ e. differs (marked ∙ (e ∙ of_uncomment)))
+
+pub ends_none : (m : Mark) (w : Word) → m ≡ mark_of w → m ≢ mark.End → w ≢ codes "$."
+ends_none m w marked differs = λ e. differs (marked ∙ (ap mark_of e ∙ of_end))
+
+-- ---- comments
+
+-- a token in a comment
+pub splits_in : (so_far left : List Token) (t : Token) (was now : Bool) → was ≡ true → now ≡ not (bytes_eq t.text (codes "$)"))
+    → so_far ++ outside was (t ∷ left) ≡ so_far ++ outside now left
+splits_in so_far left t was now is then =
+    ap (λ b. so_far ++ outside b (t ∷ left)) is ∙ ap (λ b. so_far ++ outside b left) (sym then)
+
+-- one that opens a comment
+pub splits_open : (so_far left : List Token) (t : Token) (was now : Bool) → was ≡ false → bytes_eq t.text (codes "$(") ≡ true → now ≡ true
+    → so_far ++ outside was (t ∷ left) ≡ so_far ++ outside now left
+splits_open so_far left t was now is opens then =
+    ap (λ b. so_far ++ outside b (t ∷ left)) is
+    ∙ ap (λ b. so_far ++ cond b (outside true left) (t ∷ outside false left)) opens
+    ∙ ap (λ b. so_far ++ outside b left) (sym then)
+
+-- one outside of comments
+pub splits_out : (so_far left : List Token) (t : Token) (was now : Bool) → was ≡ false → bytes_eq t.text (codes "$(") ≡ false → now ≡ false
+    → so_far ++ outside was (t ∷ left) ≡ so_far ++ t ∷ outside now left
+splits_out so_far left t was now is opens then =
+    ap (λ b. so_far ++ outside b (t ∷ left)) is
+    ∙ ap (λ b. so_far ++ cond b (outside true left) (t ∷ outside false left)) opens
+    ∙ ap (λ b. so_far ++ t ∷ outside b left) (sym then)
