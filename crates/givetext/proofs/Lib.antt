@@ -1,2 +1,4 @@
+mod Appended
+mod Orders
 mod Labels
 mod Origins

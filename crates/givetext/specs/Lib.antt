@@ -1,3 +1,4 @@
+pub mod Letters
 pub mod Following
 pub mod Given
 pub mod Answers

@@ -1,7 +1,10 @@
 //! From the steps of a proof in the library to nodes in the order of the source.
 
+ghost use Rattle.std.specs.Prelude.{◌≡◌, ◌<◌, length, count_by, IfOk};
+ghost use Rattle.taking.specs.Walks.{arranged};
+
 use crate::shared::Shared;
-use mmsyntax::{Float, Step};
+use mmsyntax::Step;
 use source::{Declared, HypothesisWords};
 use std::alloc::{AllocError, Global};
 use std::collections::HashMap;
@@ -17,20 +20,12 @@ pub(crate) struct Cited<'x> {
 }
 
 /// What the steps of proofs name.
+#[derive(Drop)]
 pub(crate) struct Names<'x> {
     /// The labels of the library's `$f` in the source, by their places.
     pub floats: Vec<&'x [u8]>,
     /// The library's assertions, by their labels then.
     pub cited: HashMap<&'x [u8], Cited<'x>, RandomState>,
-}
-
-impl<'x> Drop for Names<'x> {
-    fn drop(self) {
-        let Names {
-            floats: _,
-            cited: _,
-        } = self;
-    }
 }
 
 /// Whether each mandatory hypothesis of an assertion is a `$f`, in order of appearance.
@@ -43,41 +38,40 @@ fn kinds_of<'a, D: Declared<'a>>(
 {
     let mut kinds = Vec::new(alloc);
     for hypothesis in declared.mandatory(alloc, place)? {
-        kinds.push(match hypothesis {
-            HypothesisWords::Typing(..) => true,
-            HypothesisWords::Premise(..) => false,
-        })?;
+        kinds.push(matches!(hypothesis, HypothesisWords::Typing(..)))?;
     }
     Ok(kinds)
 }
 
 /// How many are `$f`.
-fn count_floats(kinds: &[bool]) -> usize {
+fn count_floats(kinds: &[bool]) -> usize
+    ensures { result ≡ count_by (λ is_float. is_float) kinds.now }
+{
     kinds.iter().filter(|is_float| **is_float).count()
 }
 
-/// Arguments in the order of the source, where first those of `$f` stand and then those of `$e`. None where they are too few.
-fn arranged(
+/// Arguments in the order of the source, of those in the order of the library, where those of `$f` stand before those of `$e`.
+fn in_source_order(
     alloc: Global,
     kinds: &[bool],
     arguments: &[usize],
-) -> Result<Option<Vec<usize>>, AllocError> {
+) -> Result<Vec<usize>, AllocError>
+    requires { length kinds.now ≡ length arguments.now }
+    ensures { IfOk result (λ made. arranged kinds.now made.items ≡ arguments.now) }
+{
     let mut floats = 0;
     let mut premises = count_floats(kinds);
     let mut made = Vec::new(alloc);
     for is_float in kinds {
-        let place = if *is_float { floats } else { premises };
-        let Some(argument) = arguments.get(place) else {
-            return Ok(None);
-        };
-        made.push(*argument)?;
         if *is_float {
-            floats = place + 1;
+            made.push(arguments[floats])?;
+            floats += 1;
         } else {
-            premises = place + 1;
+            made.push(arguments[premises])?;
+            premises += 1;
         }
     }
-    Ok(Some(made))
+    Ok(made)
 }
 
 /// A citation takes its arguments off the stack, and its node goes on. Whether they were there.
@@ -92,13 +86,10 @@ fn cite<'x, 'a, D: Declared<'a>>(
         return Ok(false);
     }
     let kinds = kinds_of(alloc, declared, cited.place)?;
-    if stack.len() < kinds.len() {
-        return Ok(false);
-    }
-    let first = stack.len() - kinds.len();
-    let Some(arguments) = arranged(alloc, kinds.as_slice(), &stack[first..])? else {
+    let Some(first) = stack.len().checked_sub(kinds.len()) else {
         return Ok(false);
     };
+    let arguments = in_source_order(alloc, kinds.as_slice(), &stack[first..])?;
     stack.truncate(first);
     let node = shared.node(alloc, cited.label, arguments.as_slice())?;
     stack.push(node)?;
@@ -110,12 +101,12 @@ fn put_leaf<'x>(
     alloc: Global,
     shared: &mut Shared<'x>,
     stack: &mut Vec<usize>,
-    label: Option<&&'x [u8]>,
+    label: Option<&'x [u8]>,
 ) -> Result<bool, AllocError> {
     let Some(label) = label else {
         return Ok(false);
     };
-    let node = shared.node(alloc, *label, &[])?;
+    let node = shared.node(alloc, label, &[])?;
     stack.push(node)?;
     Ok(true)
 }
@@ -131,8 +122,14 @@ fn take_step<'x, 'a, D: Declared<'a>>(
     step: &Step,
 ) -> Result<bool, AllocError> {
     match step {
-        Step::Float(place) => put_leaf(alloc, shared, stack, names.floats.get(*place as usize)),
-        Step::Hyp(place) => put_leaf(alloc, shared, stack, premises.get(*place as usize)),
+        Step::Float(place) => {
+            let label = names.floats.get(*place as usize).copied();
+            put_leaf(alloc, shared, stack, label)
+        }
+        Step::Hyp(place) => {
+            let label = premises.get(*place as usize).copied();
+            put_leaf(alloc, shared, stack, label)
+        }
         Step::Cite(label) => match names.cited.get(&label.as_slice()) {
             Some(cited) => cite(alloc, declared, shared, stack, *cited),
             None => Ok(false),
@@ -140,23 +137,32 @@ fn take_step<'x, 'a, D: Declared<'a>>(
     }
 }
 
-/// The node of a proof, by its steps. None where they denote no tree.
-pub(crate) fn root_of<'x, 'a, D: Declared<'a>>(
+/// The nodes of a proof, by its steps, and which of them is the proof. None where the steps denote no tree.
+pub(crate) fn nodes_of<'x, 'a, D: Declared<'a>>(
     alloc: Global,
+    keys: RandomState,
     declared: &D,
     names: &Names<'x>,
     premises: &[&'x [u8]],
-    shared: &mut Shared<'x>,
     steps: &[Step],
-) -> Result<Option<usize>, AllocError> {
+) -> Result<Option<(Shared<'x>, usize)>, AllocError> {
+    let mut shared = Shared::new(alloc, keys);
     let mut stack = Vec::new(alloc);
     for step in steps {
-        if !take_step(alloc, declared, names, premises, shared, &mut stack, step)? {
+        if !take_step(
+            alloc,
+            declared,
+            names,
+            premises,
+            &mut shared,
+            &mut stack,
+            step,
+        )? {
             return Ok(None);
         }
     }
     match stack.as_slice() {
-        [root] => Ok(Some(*root)),
+        [root] => Ok(Some((shared, *root))),
         _ => Ok(None),
     }
 }

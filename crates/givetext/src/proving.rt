@@ -1,7 +1,9 @@
 //! The text of another proof of a theorem, in the form that the old one has in the source.
 
+ghost use Rattle.std.specs.Prelude.{◌<◌, length};
+
 use crate::layout::Layout;
-use crate::listing::{Names, root_of};
+use crate::listing::{Names, nodes_of};
 use crate::shared::Shared;
 use crate::wording::{put_compressed, put_normal};
 use mmsyntax::Step;
@@ -9,8 +11,10 @@ use source::{Declared, HypothesisWords, ProofWords};
 use std::alloc::{AllocError, Global};
 use std::hash::RandomState;
 
-/// How far the lines of a proof are indented in a block, and outside.
+/// How far the lines of a proof are indented where the theorem has `$e`, and so stands in a block.
 const IN_BLOCK: usize = 6;
+
+/// How far they are indented otherwise.
 const OUTSIDE: usize = 4;
 
 /// The labels of the mandatory hypotheses of a theorem, and those of its `$e`, in order of appearance.
@@ -60,7 +64,8 @@ fn put_in_form(
     }
 }
 
-/// The text of a proof of the theorem at a place of the source, by its steps in the library. None where they denote no tree.
+/// The text of a proof of the theorem at a place of the source, by its steps in the library. None where they denote no tree, or one of over
+/// 16,384 steps.
 pub(crate) fn proof_text<'x, D: Declared<'x>>(
     alloc: Global,
     keys: RandomState,
@@ -73,14 +78,24 @@ pub(crate) fn proof_text<'x, D: Declared<'x>>(
 {
     let hypotheses = hypotheses_of(alloc, declared, place)?;
     let premises = hypotheses.premises.as_slice();
-    let mut shared = Shared::new(alloc, keys);
-    let Some(root) = root_of(alloc, declared, names, premises, &mut shared, steps)? else {
+    let Some((shared, root)) = nodes_of(alloc, keys, declared, names, premises, steps)? else {
         return Ok(None);
     };
-    let indent = if premises.is_empty() { OUTSIDE } else { IN_BLOCK };
+    let indent = if premises.is_empty() {
+        OUTSIDE
+    } else {
+        IN_BLOCK
+    };
     let mut layout = Layout::new(alloc, indent)?;
     let mandatory = hypotheses.mandatory.as_slice();
-    if !put_in_form(alloc, &mut layout, declared.proof(place), &shared, mandatory, root)? {
+    if !put_in_form(
+        alloc,
+        &mut layout,
+        declared.proof(place),
+        &shared,
+        mandatory,
+        root,
+    )? {
         return Ok(None);
     }
     Ok(Some(layout.finish()?))

@@ -11,11 +11,12 @@ struct Node {
     word: usize,
     begin: usize,
     end: usize,
-    /// How many nodes it is an argument of, as often as it is.
+    /// In how many places it is an argument.
     uses: usize,
 }
 
-/// The nodes of a proof: equal subproofs are one node. Labels and nodes are numbered from 0.
+/// The nodes of a proof: equal subproofs are one node, which stands behind its arguments. Labels and nodes are numbered from 0, in the
+/// order of their first use.
 #[derive(Drop)]
 pub(crate) struct Shared<'x> {
     /// The labels that nodes name.
@@ -44,8 +45,8 @@ impl<'x> Shared<'x> {
         self.words.as_slice()
     }
 
-    /// The number of a label: a new one where none named it.
-    pub(crate) fn number_of(&mut self, word: &'x [u8]) -> Result<usize, AllocError> {
+    /// The number of a label: a new one where no node named it.
+    fn number_of(&mut self, word: &'x [u8]) -> Result<usize, AllocError> {
         if let Some(number) = self.numbers.get(&word) {
             return Ok(*number);
         }
@@ -55,7 +56,7 @@ impl<'x> Shared<'x> {
         Ok(number)
     }
 
-    /// One more node is an argument.
+    /// A node is an argument in one more place.
     fn use_again(&mut self, node: usize) {
         if let Some(used) = self.nodes.get_mut(node) {
             used.uses = used.uses.saturating_add(1);
@@ -70,7 +71,7 @@ impl<'x> Shared<'x> {
         arguments: &[usize],
     ) -> Result<usize, AllocError> {
         let number = self.number_of(word)?;
-        let mut key = Vec::with_capacity(alloc, arguments.len())?;
+        let mut key = Vec::with_capacity(alloc, arguments.len() + 1)?;
         key.push(number)?;
         key.extend_from_slice(arguments)?;
         if let Some(node) = self.places.get(&key) {
@@ -92,7 +93,7 @@ impl<'x> Shared<'x> {
         Ok(node)
     }
 
-    /// The number of the label that a node names.
+    /// The number of the label that a node names: 0 where there is no such node.
     pub(crate) fn word(&self, node: usize) -> usize {
         match self.nodes.get(node) {
             Some(there) => there.word,
@@ -100,7 +101,7 @@ impl<'x> Shared<'x> {
         }
     }
 
-    /// The arguments of a node, in order.
+    /// The arguments of a node, in order: none where there is no such node.
     pub(crate) fn arguments(&self, node: usize) -> &[usize] {
         match self.nodes.get(node) {
             Some(there) => self.arguments.get(there.begin..there.end).unwrap_or(&[]),
@@ -108,7 +109,7 @@ impl<'x> Shared<'x> {
         }
     }
 
-    /// Whether a node stands more than once in the tree.
+    /// Whether a node is an argument in more than one place.
     pub(crate) fn is_shared(&self, node: usize) -> bool {
         match self.nodes.get(node) {
             Some(there) => there.uses > 1,

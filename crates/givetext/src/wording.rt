@@ -5,14 +5,36 @@ use crate::letters::put_number;
 use crate::shared::Shared;
 use std::alloc::{AllocError, Global};
 
-/// A walk through a tree takes so many turns at most: two for each of its 16,384 steps.
-const MOST_TURNS: usize = 32_769;
+/// A proof has so many steps at most.
+const MOST_STEPS: usize = 16_384;
+
+/// A walk through the tree of so many steps takes a turn at each of them, and one more at each that is an argument.
+const MOST_TURNS: usize = 2 * MOST_STEPS - 1;
 
 /// How many arguments of a node were walked through.
 #[derive(Clone, Copy)]
 struct Turn {
     node: usize,
     argument: usize,
+}
+
+/// A node is walked through behind one of its arguments.
+fn push_both(stack: &mut Vec<Turn>, turn: Turn, node: usize) -> Result<(), AllocError> {
+    stack.push(Turn {
+        node: turn.node,
+        argument: turn.argument.saturating_add(1),
+    })?;
+    stack.push(Turn { node, argument: 0 })?;
+    Ok(())
+}
+
+/// The label that a node names: `?`, which stands for an unknown step, where there is no such node.
+fn word_at<'x>(shared: &Shared<'x>, node: usize) -> &'x [u8] {
+    shared
+        .words()
+        .get(shared.word(node))
+        .copied()
+        .unwrap_or(b"?")
 }
 
 /// Puts the labels of a normal proof. Whether there are at most 16,384.
@@ -39,31 +61,16 @@ pub(crate) fn put_normal(
     Ok(stack.is_empty())
 }
 
-/// The label that a node names.
-fn word_at<'x>(shared: &Shared<'x>, node: usize) -> &'x [u8] {
-    shared.words().get(shared.word(node)).copied().unwrap_or(b"?")
-}
-
-/// A node is walked through behind one of its arguments.
-fn push_both(stack: &mut Vec<Turn>, turn: Turn, node: usize) -> Result<(), AllocError> {
-    stack.push(Turn {
-        node: turn.node,
-        argument: turn.argument.saturating_add(1),
-    })?;
-    stack.push(Turn { node, argument: 0 })?;
-    Ok(())
-}
-
-/// What letters count: the mandatory hypotheses, the labels in parentheses, the marked subproofs.
+/// The letters of a compressed proof, and what they count: the mandatory hypotheses, the labels in parentheses, the marked subproofs.
 #[derive(Drop)]
 struct Letters {
     /// The number of each label, from 0.
     numbers: Vec<usize>,
-    /// How many labels have one.
+    /// How many numbers are those of labels.
     labels: usize,
     /// The number of each marked node, behind those of labels.
     marks: Vec<Option<usize>>,
-    /// How many are marked.
+    /// How many nodes are marked.
     marked: usize,
     text: Vec<u8>,
 }
@@ -80,8 +87,9 @@ impl Letters {
         }
     }
 
-    /// A node ends: its label, and the mark of one that stands more than once.
+    /// A node ends: its label, and the mark of one that has arguments and stands there again.
     fn end(&mut self, shared: &Shared<'_>, node: usize) -> Result<(), AllocError> {
+        // Each label that a node names has a number.
         let number = self.numbers.get(shared.word(node)).copied().unwrap_or(0);
         put_number(&mut self.text, number)?;
         if shared.arguments(node).is_empty() || !shared.is_shared(node) {
@@ -95,7 +103,7 @@ impl Letters {
         Ok(())
     }
 
-    /// Puts the letters of a tree. Whether it has at most 16,384 steps.
+    /// Puts the letters of a tree. Whether it has at most 16,384 steps, where a marked subproof that stands there again counts as one.
     fn put_tree(
         &mut self,
         alloc: Global,
@@ -111,8 +119,10 @@ impl Letters {
             let Some(turn) = stack.pop() else {
                 return Ok(true);
             };
+            if turn.argument == 0 && self.repeat(turn.node)? {
+                continue;
+            }
             match shared.arguments(turn.node).get(turn.argument) {
-                Some(_) if turn.argument == 0 && self.repeat(turn.node)? => {}
                 Some(node) => push_both(&mut stack, turn, *node)?,
                 None => self.end(shared, turn.node)?,
             }
@@ -121,27 +131,29 @@ impl Letters {
     }
 }
 
-/// The numbers of labels: those of the mandatory hypotheses first, in their order, then the others in the order of their first use.
-fn numbers_of(
+/// The numbers of labels, and the labels in parentheses: those of the mandatory hypotheses have the first numbers, in their order, and the
+/// others the next, in the order of their first use.
+fn numbers_of<'x>(
     alloc: Global,
-    words: &[&[u8]],
+    words: &[&'x [u8]],
     mandatory: &[&[u8]],
-) -> Result<(Vec<usize>, Vec<usize>), AllocError> {
+) -> Result<(Vec<usize>, Vec<&'x [u8]>), AllocError> {
     let mut numbers = Vec::with_capacity(alloc, words.len())?;
     let mut others = Vec::new(alloc);
-    for (k, word) in words.iter().enumerate() {
+    for word in words {
         match mandatory.iter().position(|label| label == word) {
             Some(place) => numbers.push(place)?,
             None => {
                 numbers.push(mandatory.len().saturating_add(others.len()))?;
-                others.push(k)?;
+                others.push(*word)?;
             }
         }
     }
     Ok((numbers, others))
 }
 
-/// Puts a compressed proof of a theorem with these mandatory hypotheses. Whether it has at most 16,384 steps.
+/// Puts a compressed proof of a theorem with these mandatory hypotheses. Whether it has at most 16,384 steps, where a marked subproof that
+/// stands there again counts as one.
 pub(crate) fn put_compressed(
     alloc: Global,
     layout: &mut Layout,
@@ -157,12 +169,12 @@ pub(crate) fn put_compressed(
         marked: 0,
         text: Vec::new(alloc),
     };
-    let whole = letters.put_tree(alloc, shared, root)?;
+    let is_whole = letters.put_tree(alloc, shared, root)?;
     layout.put_word(b"(")?;
-    for k in others {
-        layout.put_word(shared.words().get(k).copied().unwrap_or(b"?"))?;
+    for word in others {
+        layout.put_word(word)?;
     }
     layout.put_word(b")")?;
     layout.put_letters(letters.text.as_slice())?;
-    Ok(whole)
+    Ok(is_whole)
 }
