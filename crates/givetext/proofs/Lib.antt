@@ -1,2 +1,4 @@
-pub mod Appended
-pub mod Orders
+mod Appended
+mod Orders
+mod Labels
+mod Origins

@@ -24,7 +24,10 @@ fn unfit(alloc: Global, why: &str) -> Result<Refusal, AllocError> {
 fn read_again<'o>(alloc: Global, keys: RandomState, out: &'o [u8]) -> Result<Scopes<'o>, Refusal> {
     match read_source(alloc, Scopes::new(alloc, keys), out) {
         Ok(scopes) => Ok(scopes),
-        Err(fault) => Err(Refusal::Text(File::History, format!(in alloc; "the source with these edits: text {fault}")?)),
+        Err(fault) => Err(Refusal::Text(
+            File::History,
+            format!(in alloc; "the source with these edits: text {fault}")?,
+        )),
     }
 }
 
@@ -37,7 +40,14 @@ fn take_again<'o, D: Declared<'o>>(
     then: &[&[u8]],
     axioms: &[&[u8]],
 ) -> Result<Taken<'o>, Refusal> {
-    match take_declared(rt, alloc, keys, scopes, Wish::These(then, axioms), &Unfollowed) {
+    match take_declared(
+        rt,
+        alloc,
+        keys,
+        scopes,
+        Wish::These(then, axioms),
+        &Unfollowed,
+    ) {
         Ok(taken) => Ok(taken),
         Err(_) => Err(unfit(alloc, "the library can't be taken again")?),
     }

@@ -37,7 +37,10 @@ fn read_old<'a>(
 
 /// A library that `take` doesn't print of the source.
 fn another(alloc: Global) -> Result<Refusal, AllocError> {
-    Ok(Refusal::Text(File::Library, format!(in alloc; "not what `take` prints of the source")?))
+    Ok(Refusal::Text(
+        File::Library,
+        format!(in alloc; "not what `take` prints of the source")?,
+    ))
 }
 
 /// The library is taken of the source again, by the choice that its comment tells: it has just this text.
@@ -75,7 +78,11 @@ fn replay_over(
     match replay_library(rt, alloc, keys, library, history) {
         Ok(replayed) => Ok(replayed),
         Err(fault) => {
-            let file = if fault.file() == Some(0) { File::Library } else { File::History };
+            let file = if fault.file() == Some(0) {
+                File::Library
+            } else {
+                File::History
+            };
             Err(Refusal::Text(file, format!(in alloc; "{fault}")?))
         }
     }
@@ -104,7 +111,10 @@ fn are_free<'x, D: Declared<'x>>(
     for (_, new) in pairs {
         if declared.has_name(new) && changes.text_for(new).is_none() {
             let name = shown(new);
-            return Err(Refusal::Text(File::History, format!(in alloc; "{name} is a name of the source already")?));
+            return Err(Refusal::Text(
+                File::History,
+                format!(in alloc; "{name} is a name of the source already")?,
+            ));
         }
     }
     Ok(())

@@ -35,9 +35,13 @@ fn first_unreturned(commands: &[Command]) -> Option<&'static str> {
 /// The first entry, counted from 1, that adds, moves or deletes an assertion.
 pub(crate) fn are_returned(alloc: Global, entries: &[Entry]) -> Result<(), Refusal> {
     for (k, entry) in entries.iter().enumerate() {
-        if let Entry::Done { commands, .. } = entry && let Some(what) = first_unreturned(commands.as_slice()) {
+        if let Entry::Done { commands, .. } = entry
+            && let Some(what) = first_unreturned(commands.as_slice())
+        {
             let number = k + 1;
-            let why = format!(in alloc; "entry {number} {what}: only renames and other proofs are given back")?;
+            let why = format!(in alloc;
+                "entry {number} {what}: only renames and other proofs are given back"
+            )?;
             return Err(Refusal::Text(File::History, why));
         }
     }

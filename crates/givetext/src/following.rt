@@ -1,10 +1,12 @@
 //! The labels of a library's assertions behind the edits of a history, and those in the source.
 
-ghost use Rattle.std.specs.Prelude.{◌≡◌, ◌∷◌, [], map, IfOk, length};
+ghost use Rattle.std.specs.Prelude.{◌≡◌, List, map, IfOk, length};
+ghost use Rattle.std.specs.Option.{option_map};
 ghost use Rattle.source.specs.Views.{seen_words, seen_pairs};
-ghost use Rattle.source.specs.Scopes.{Assertion};
+ghost use Rattle.source.specs.Scopes.{Assertion, is_in};
 ghost use Rattle.taking.specs.Reasons.{Choice};
-ghost use Rattle.givetext.specs.Following.{label_behind, label_behind_all, all_commands, origins, changes_by, labels_then};
+ghost use Rattle.library.specs.declared.command.Command.{Command as CommandOf};
+ghost use Rattle.givetext.specs.Following.{label_behind, label_behind_all, commands_of, all_commands, origins, change_to, changes_by, label_then, labels_then};
 
 use library::{Command, Entry};
 use mmsyntax::Database;
@@ -23,11 +25,14 @@ pub(crate) fn origins_of<'s, D: Declared<'s>>(
         → IfOk result (λ made. seen_pairs made.items ≡ origins (D.scope declared.now) choice database.now) }
 {
     let mut pairs = Vec::new(alloc);
-    let mut assertions = database.assertions().iter();
+    let assertions = database.assertions();
     for place in 0..declared.assertions() {
         if chosen[place] {
-            let (Some(label), Some(assertion)) = (declared.label(place), assertions.next()) else {
-                break;
+            let Some(label) = declared.label(place) else {
+                unreachable!()
+            };
+            let Some(assertion) = assertions.get(pairs.len()) else {
+                return Ok(pairs);
             };
             pairs.push((label, assertion.label.as_slice()))?;
         }
@@ -35,21 +40,46 @@ pub(crate) fn origins_of<'s, D: Declared<'s>>(
     Ok(pairs)
 }
 
+/// A label behind a rename.
+fn renamed<'h>(label: &'h [u8], old: &[u8], new: &'h [u8]) -> &'h [u8]
+    ensures { result.now ≡ label_behind (Command.Rename old.now new.now) label.now }
+{
+    if label == old { new } else { label }
+}
+
 /// Labels behind a rename.
-fn rename<'h>(labels: &mut [&'h [u8]], old: &[u8], new: &'h [u8]) {
-    for k in 0..labels.len() {
-        if labels[k] == old {
-            labels[k] = new;
-        }
+fn rename<'h>(labels: &mut [&'h [u8]], old: &[u8], new: &'h [u8])
+    ensures { seen_words labels.new ≡ map (label_behind (Command.Rename old.now new.now)) (seen_words labels.old) }
+{
+    for label in labels.iter_mut() {
+        *label = renamed(label, old, new);
+    }
+}
+
+/// Labels behind a command.
+fn follow<'h>(labels: &mut [&'h [u8]], command: &'h Command)
+    ensures { seen_words labels.new ≡ map (label_behind command.now) (seen_words labels.old) }
+{
+    if let Command::Rename { old, new } = command {
+        rename(labels, old.as_slice(), new.as_slice());
     }
 }
 
 /// Labels behind the commands of a transaction.
-fn follow_all<'h>(labels: &mut [&'h [u8]], commands: &'h [Command]) {
+fn follow_all<'h>(labels: &mut [&'h [u8]], commands: &'h [Command])
+    ensures { seen_words labels.new ≡ map (label_behind_all commands.now) (seen_words labels.old) }
+{
     for command in commands {
-        if let Command::Rename { old, new } = command {
-            rename(labels, old.as_slice(), new.as_slice());
-        }
+        follow(labels, command);
+    }
+}
+
+/// Labels behind an entry of a history.
+fn follow_entry<'h>(labels: &mut [&'h [u8]], entry: &'h Entry)
+    ensures { seen_words labels.new ≡ map (label_behind_all (commands_of entry.now)) (seen_words labels.old) }
+{
+    if let Entry::Done { commands, .. } = entry {
+        follow_all(labels, commands.as_slice());
     }
 }
 
@@ -67,11 +97,21 @@ pub(crate) fn labels_behind<'h>(
         labels.push(*label)?;
     }
     for entry in entries {
-        if let Entry::Done { commands, .. } = entry {
-            follow_all(labels.as_mut_slice(), commands.as_slice());
-        }
+        follow_entry(labels.as_mut_slice(), entry);
     }
     Ok(labels)
+}
+
+/// The change of a label of the source, where that in the library is another one now.
+fn change_to<'h>(now: &'h [u8], origin: (&'h [u8], &'h [u8])) -> Option<(&'h [u8], &'h [u8])>
+    ensures { option_map (λ p. (p.0.now, p.1.now)) result ≡ change_to now.now (origin.entry.0.now, origin.entry.1.now) }
+{
+    let (source, library) = origin;
+    if now == library {
+        None
+    } else {
+        Some((source, now))
+    }
 }
 
 /// The labels of the source that change, with their new ones.
@@ -79,14 +119,26 @@ pub(crate) fn changed_labels<'h>(
     alloc: Global,
     origins: &[(&'h [u8], &'h [u8])],
     labels: &[&'h [u8]],
-) -> Result<Vec<(&'h [u8], &'h [u8])>, AllocError> {
+) -> Result<Vec<(&'h [u8], &'h [u8])>, AllocError>
+    requires { length labels.now ≡ length origins.now }
+    ensures { (cs : List CommandOf) → seen_words labels.now ≡ map (λ p. label_behind_all cs p.1) (seen_pairs origins.now)
+        → IfOk result (λ made. seen_pairs made.items ≡ changes_by cs (seen_pairs origins.now)) }
+{
     let mut changes = Vec::new(alloc);
-    for (k, (source, library)) in origins.iter().enumerate() {
-        if let Some(label) = labels.get(k) && label != library {
-            changes.push((*source, *label))?;
+    for (k, origin) in origins.iter().enumerate() {
+        if let Some(change) = change_to(labels[k], *origin) {
+            changes.push(change)?;
         }
     }
     Ok(changes)
+}
+
+/// The label in the source then, by that in the library.
+fn label_then<'h>(now: &'h [u8], origin: (&'h [u8], &'h [u8])) -> &'h [u8]
+    ensures { result.now ≡ label_then now.now (origin.entry.0.now, origin.entry.1.now) }
+{
+    let (source, library) = origin;
+    if now == library { source } else { now }
 }
 
 /// The labels of the library's assertions in the source then.
@@ -94,12 +146,14 @@ pub(crate) fn labels_in_source<'h>(
     alloc: Global,
     origins: &[(&'h [u8], &'h [u8])],
     labels: &[&'h [u8]],
-) -> Result<Vec<&'h [u8]>, AllocError> {
+) -> Result<Vec<&'h [u8]>, AllocError>
+    requires { length labels.now ≡ length origins.now }
+    ensures { (cs : List CommandOf) → seen_words labels.now ≡ map (λ p. label_behind_all cs p.1) (seen_pairs origins.now)
+        → IfOk result (λ made. seen_words made.items ≡ labels_then cs (seen_pairs origins.now)) }
+{
     let mut then = Vec::new(alloc);
-    for (k, (source, library)) in origins.iter().enumerate() {
-        if let Some(label) = labels.get(k) {
-            then.push(if label == library { *source } else { *label })?;
-        }
+    for (k, origin) in origins.iter().enumerate() {
+        then.push(label_then(labels[k], *origin))?;
     }
     Ok(then)
 }

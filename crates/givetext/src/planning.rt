@@ -65,7 +65,11 @@ fn cited_then<'x, D: Declared<'x>>(
 ) -> Result<HashMap<&'x [u8], Cited<'x>, RandomState>, AllocError> {
     let mut cited = HashMap::with_hasher(alloc, keys);
     for (k, (source, _)) in origins.iter().enumerate() {
-        if let (Some(label), Some(new), Some(place)) = (labels.get(k), then.get(k), declared.place_of(source)) {
+        if let (Some(label), Some(new), Some(place)) = (
+            labels.get(k),
+            then.get(k),
+            declared.place_of(source),
+        ) {
             cited.insert(*label, Cited { place, label: *new })?;
         }
     }
@@ -78,7 +82,10 @@ fn is_step(changes: &Changes<'_>, old: &Step, new: &Step) -> bool {
         (Step::Float(place), Step::Float(other)) => place == other,
         (Step::Hyp(place), Step::Hyp(other)) => place == other,
         (Step::Cite(label), Step::Cite(other)) => {
-            changes.text_for(label.as_slice()).unwrap_or(label.as_slice()) == other.as_slice()
+            changes
+                .text_for(label.as_slice())
+                .unwrap_or(label.as_slice())
+                == other.as_slice()
         }
         _ => false,
     }
@@ -116,7 +123,10 @@ fn changes_in_library<'x>(
 /// A proof that can't be written.
 fn unwritten(alloc: Global, label: &[u8]) -> Result<Refusal, AllocError> {
     let label = shown(label);
-    Ok(Refusal::Text(File::History, format!(in alloc; "the proof of {label} can't be written")?))
+    Ok(Refusal::Text(
+        File::History,
+        format!(in alloc; "the proof of {label} can't be written")?,
+    ))
 }
 
 /// The other proof of an assertion in the source, if it has one there now: its label there, and the text.
@@ -171,15 +181,25 @@ pub(crate) fn other_proofs<'x, D: Declared<'x>>(
     let changed = names_in_source(alloc, keys, planned.names)?;
     let names = Names {
         floats: floats_in_source(alloc, &changed, planned.database.prelude().floats())?,
-        cited: cited_then(alloc, keys, declared, planned.origins, planned.labels, planned.then)?,
+        cited: cited_then(
+            alloc,
+            keys,
+            declared,
+            planned.origins,
+            planned.labels,
+            planned.then,
+        )?,
     };
     let mut proofs = Vec::new(alloc);
     for (k, old) in planned.database.assertions().iter().enumerate() {
-        let (Some((source, _)), Some(label)) = (planned.origins.get(k), planned.labels.get(k)) else {
+        let (Some((source, _)), Some(label)) = (planned.origins.get(k), planned.labels.get(k))
+        else {
             break;
         };
         if let Some(new) = edited.get(label) {
-            if let Some(text) = other_proof(alloc, keys, declared, &names, &changes, source, old, new)? {
+            if let Some(text) = other_proof(
+                alloc, keys, declared, &names, &changes, source, old, new,
+            )? {
                 proofs.push((*source, text))?;
             }
         }

@@ -1,0 +1,12 @@
+-- What the loop of `labels_in_source` keeps.
+use Rattle.std.proofs.Common.{◌≡◌, List, map, take}
+use Rattle.source.specs.Views.{seen_words, seen_pairs}
+use Rattle.library.specs.declared.command.Command.{Command}
+use Rattle.givetext.specs.Following.{label_behind_all, labels_then}
+use Rattle.givetext.proofs.following.labels_in_source.Given as goal
+
+-- the labels so far
+abbrev pub invariant-loop-k : goal.invariant-loop-k
+invariant-loop-k l =
+    (cs : List Command) → seen_words l.labels ≡ map (λ p. label_behind_all cs p.1) (seen_pairs l.origins)
+    → seen_words l.then.items ≡ labels_then cs (seen_pairs (take l.k l.origins))
