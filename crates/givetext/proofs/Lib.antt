@@ -1,4 +1,4 @@
-mod Appended
-mod Orders
+pub mod Appended
+pub mod Orders
 mod Labels
 mod Origins
