@@ -2,5 +2,6 @@ mod Places
 mod Orders
 mod Marked
 mod Statements
+mod Finding
 mod Walking
 mod Spliced
