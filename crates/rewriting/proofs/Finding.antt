@@ -1,5 +1,5 @@
 -- The spans of a walk behind one more token.
-use Rattle.std.proofs.Common.{◌≡◌, ◌∙◌, ℕ, ◌+◌, ◌≤◌, false, List, [], ◌∷◌, ◌++◌, length, All, Option, Some, None, codes}
+use Rattle.std.proofs.Common.{◌≡◌, ◌∙◌, ◌⊎◌, ℕ, ◌+◌, ◌≤◌, false, List, [], ◌∷◌, ◌++◌, length, All, Option, Some, None, codes}
 use Rattle.std.proofs.Common.{refl, sym, ap, subst, inl, inr, arith}
 use Rattle.std.proofs.lemmas.List.{append-nil}
 use Rattle.std.proofs.lemmas.List.Elements.{All-push}
@@ -8,8 +8,8 @@ use Rattle.giving.specs.Staying.{Change}
 use Rattle.rewriting.specs.declared.span.Span.{Span}
 use Rattle.rewriting.specs.declared.walk.Passing.{Passing}
 use Rattle.rewriting.specs.declared.walk.Walk.{Walk}
-use Rattle.rewriting.specs.Spans.{AreInOrder, outside, IsTokenOf, IsSpan}
-use Rattle.rewriting.specs.Walks.{IsPassedIf, AreBetween, free_from, MayBeFound, spans_to, IsWalked}
+use Rattle.rewriting.specs.Spans.{AreInOrder, outside, IsTokenOf, IsNoLetter, IsBehindTilde, IsSpan}
+use Rattle.rewriting.specs.Walks.{IsPassedIf, AreBetween, free_from, IsFound, spans_to, IsWalked}
 use Rattle.rewriting.proofs.Orders.{wider, one_more, in_order}
 
 abbrev pub HaveSpans : List Change → List Change → List ℕ → ℕ → Option Passing → List Span → Type 0
@@ -32,15 +32,16 @@ not_behind cs proofs source left at w le h =
 
 module _ (cs proofs : List Change) (source : List ℕ) (at : ℕ) (t : Token) (le : at ≤ t.place) (is : IsTokenOf source t) (o : Option Passing)
     (xs : List Span) (have : HaveSpans cs proofs source at o xs) where
-  still_spans : HaveSpans cs proofs source (t.place + length t.text) o xs
+  pub still_spans : HaveSpans cs proofs source (t.place + length t.text) o xs
   still_spans =
       let end = t.place + length t.text in
       (have.0, wider 0 (free_from at o) (free_from end o) xs (free_later at end o (omega arith)) have.1)
 
-  pub found_spans : (ys : List Span) → MayBeFound cs o t xs ys → HaveSpans cs proofs source (t.place + length t.text) o ys
+  pub found_spans : (ys : List Span) → (ys ≡ xs) ⊎ (IsFound cs o t xs ys × (IsNoLetter source t ⊎ IsBehindTilde source t))
+      → HaveSpans cs proofs source (t.place + length t.text) o ys
   found_spans ys h = elim h [
     | inl same ↦ subst (HaveSpans cs proofs source (t.place + length t.text) o) (sym same) still_spans
-    | inr f ↦
+    | inr (f, is_label) ↦
         let begins = f.begins in
         let ends = f.ends in
         let free : free_from at o ≡ at = ap (free_from at) f.none in
@@ -48,7 +49,7 @@ module _ (cs proofs : List Change) (source : List ℕ) (at : ℕ) (t : Token) (l
         (subst (λ p. HaveSpans cs proofs source (t.place + length t.text) p (xs ++ f.span ∷ [])) (sym f.none)
         ((
           All-push (IsSpan cs proofs source) xs f.span have.0
-              (inl (record { token = t; stands = is; begins = f.begins; ends = f.ends; changed = f.changed })),
+              (inl (record { token = t; stands = is; is_label = is_label; begins = f.begins; ends = f.ends; changed = f.changed })),
           one_more 0 (free_from at o) (t.place + length t.text) xs f.span (omega arith) (omega arith) (omega arith) have.1,
         )))
   ]
@@ -90,3 +91,8 @@ ended_spans cs proofs source at t so_far after (Some p) xs le is splits h have =
           })),
       one_more 0 p.begin (t.place + length t.text) xs x (omega arith) (omega arith) (omega arith) have.1,
     )
+
+-- one of two facts, with what holds besides
+pub with_fact : {A B C : Type 0} → A ⊎ B → C → A ⊎ (B × C)
+with_fact (inl a) c = inl a
+with_fact (inr b) c = inr (b, c)

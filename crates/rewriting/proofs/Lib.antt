@@ -1,6 +1,8 @@
 mod Places
 mod Orders
 mod Marked
+mod Lettered
+mod Labelled
 mod Statements
 mod Finding
 mod Walking

@@ -4,7 +4,10 @@ use mathlib.Core.Bool.{not}
 use Rattle.std.specs.Option.{is_some}
 use Rattle.mmtext.specs.declared.mark.Mark.TheVariants as mark
 use Rattle.mmtext.specs.Views.{seen}
+use Rattle.rewriting.specs.declared.comments.CommentPlace.TheVariants.{Label}
 use Rattle.rewriting.proofs.Marked.{reads_as, same_bytes, closes_none}
+use Rattle.rewriting.proofs.Labelled.{tilde_here}
+use Rattle.rewriting.proofs.Finding.{with_fact}
 use Rattle.rewriting.proofs.Walking.{in_comment}
 use Rattle.rewriting.proofs.walk.Walk.take_in_comment.Goals as goal
 use Rattle.rewriting.proofs.walk.Walk.take_in_comment.Goals.{then-eq-2+in_ok-change, else-eq-2}
@@ -15,7 +18,8 @@ returns-then-eq c = λ proofs.
     let t = seen c.args.token in
     let is : c.args.mark ≡ mark.Uncomment = search rules in
     let closes = same_bytes t.text (codes "$)") (reads_as c.args.mark mark.Uncomment t.text c.requires.marked is) in
-    in_comment c.args.changes.now proofs old t old.spans (inl refl) None old refl (ap is_some c.requires.where_it_is) (ap not (sym closes))
+    let was = ap is_some c.requires.in_comment in
+    in_comment c.args.changes.now proofs old t old.spans (inl refl) None (λ front. tt) old refl was (ap not (sym closes))
 
 pub returns : goal.returns
 returns c = λ proofs.
@@ -23,13 +27,16 @@ returns c = λ proofs.
     let old = c.args.self.now in
     let t = seen c.args.token in
     let v = c.if-eq-2.self in
-    let place = Some c.behind.result in
+    let place = c.behind.result in
+    let tilde = tilde_here t place c.behind.ensures in
     let other : c.args.mark ≢ mark.Uncomment = search rules in
     let stays = ap not (sym (closes_none c.args.mark t.text c.requires.marked other)) in
-    let was = ap is_some c.requires.where_it_is in
+    let was = ap is_some c.requires.in_comment in
     elim c.if-eq-2.branch [
       | then-eq-2+in_ok-change w ↦
           let changed = w.in_ok-change.ensures in
-          in_comment cs proofs old t w.change.new.self.spans changed.found place v (w.self-is ∙ changed.same) was stays
-      | else-eq-2 w ↦ in_comment cs proofs old t old.spans (inl refl) place v w.self-is was stays
+          let label : c.args.place ≡ Label = search rules in
+          let found = with_fact changed.found (c.requires.in_comment ∙ ap (λ p. Some p) label) in
+          in_comment cs proofs old t w.change.new.self.spans found (Some place) tilde v (w.self-is ∙ changed.same) was stays
+      | else-eq-2 w ↦ in_comment cs proofs old t old.spans (inl refl) (Some place) tilde v w.self-is was stays
     ]

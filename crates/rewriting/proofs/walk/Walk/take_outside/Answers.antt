@@ -6,6 +6,8 @@ use Rattle.mmtext.specs.declared.mark.Mark.TheVariants as mark
 use Rattle.mmtext.specs.Views.{seen}
 use Rattle.rewriting.specs.declared.comments.CommentPlace.TheVariants.{Words}
 use Rattle.rewriting.proofs.Marked.{reads_as, same_bytes, opens_none, ends_none}
+use Rattle.rewriting.proofs.Labelled.{no_letters}
+use Rattle.rewriting.proofs.Finding.{with_fact}
 use Rattle.rewriting.proofs.Walking.{opens_comment, behind_other, behind_provable, behind_proof, behind_end}
 use Rattle.rewriting.proofs.walk.Walk.take_outside.Goals as goal
 use Rattle.rewriting.proofs.walk.Walk.take_outside.Goals.{
@@ -22,8 +24,8 @@ returns-in-Comment c =
     let old = c.args.self.now in
     let t = seen c.args.token in
     let opens = same_bytes t.text (codes "$(") (reads_as c.args.mark mark.Comment t.text c.requires.marked c.in-Comment.is) in
-    let was = ap is_some c.requires.where_it_is in
-    opens_comment c.args.changes.now c.args.proofs.now old t old.spans (inl refl) (Some Words) was opens refl
+    let was = ap is_some c.requires.in_none in
+    opens_comment c.args.changes.now c.args.proofs.now old t old.spans (inl refl) (Some Words) (λ front. tt) was opens refl
 
 pub returns : goal.returns
 returns c =
@@ -35,29 +37,30 @@ returns c =
     let q = c.behind-self.result in
     let word = c.args.token.text in
     let marked = c.requires.marked in
-    let was = ap is_some c.requires.where_it_is in
+    let was = ap is_some c.requires.in_none in
+    let leads = c.behind-self.ensures in
     let other : c.args.mark ≢ mark.Comment → bytes_eq t.text (codes "$(") ≡ false = opens_none c.args.mark t.text marked in
     let goes_on : c.args.mark ≢ mark.End → t.text ≢ codes "$." = ends_none c.args.mark t.text marked in
     elim c.match-mark.branch [
       | in-Provable w ↦
           let is = reads_as c.args.mark mark.Provable t.text marked w.in-Provable.is in
-          behind_provable cs proofs old t q word refl was (other (search rules)) v w.self-is is
+          behind_provable cs proofs old t q word refl was (other (search rules)) v w.self-is leads is
       | in-Proof w ↦
           let is = reads_as c.args.mark mark.Proof t.text marked w.in-Proof.is in
           let begins = w.begin_proof.ensures in
-          behind_proof cs proofs old t q word refl was (other (search rules)) v w.begin_proof.new.self.passing (w.self-is ∙ begins.same) is
-          begins.begun
+          behind_proof cs proofs old t q word refl was (other (search rules)) v w.begin_proof.new.self.passing (w.self-is ∙ begins.same)
+          leads is begins.begun
       | in-End+in_ok-end_proof-in-End w ↦
           let is = reads_as c.args.mark mark.End t.text marked w.in-End.is in
           let ends = w.in_ok-end_proof-in-End.ensures in
-          behind_end cs proofs old t q word refl was (other (search rules)) v w.end_proof.new.self.spans (w.self-is ∙ ends.same) is
+          behind_end cs proofs old t q word refl was (other (search rules)) v w.end_proof.new.self.spans (w.self-is ∙ ends.same) leads is
           ends.spans
       | in-Plain+in_ok-change-in-Plain w ↦
           let changed = w.in_ok-change-in-Plain.ensures in
-          behind_other cs proofs old t q word refl was (other (search rules)) v w.change.new.self.spans (w.self-is ∙ changed.same)
-          (goes_on (search rules)) changed.found
-      | in-Plain+else-ne w ↦ behind_other cs proofs old t q word refl was (other (search rules)) v old.spans w.self-is
+          behind_other cs proofs old t q word refl was (other (search rules)) v w.change.new.self.spans (w.self-is ∙ changed.same) leads
+          (goes_on (search rules)) (with_fact changed.found (no_letters old.proof (search rules)))
+      | in-Plain+else-ne w ↦ behind_other cs proofs old t q word refl was (other (search rules)) v old.spans w.self-is leads
           (goes_on (search rules)) (inl refl)
-      | in-Constants-1 w ↦ behind_other cs proofs old t q word refl was (other (search rules)) v old.spans w.self-is
+      | in-Constants-1 w ↦ behind_other cs proofs old t q word refl was (other (search rules)) v old.spans w.self-is leads
           (goes_on (search rules)) (inl refl)
     ]
