@@ -1,8 +1,7 @@
 -- Labels behind edits, one more at a time.
-use Rattle.std.proofs.Common.{◌≡◌, ◌∙◌, ℕ, ◌+◌, ◌<◌, List, [], ◌∷◌, ◌++◌, map, take, drop, set, get_or, length, Option, Some, None, refl, sym, ap, arith}
+use Rattle.std.proofs.Common.{◌≡◌, ◌∙◌, ℕ, ◌+◌, ◌<◌, List, [], ◌∷◌, ◌++◌, map, take, drop, set, get_or, length, Some, None, refl, sym, ap}
 use Rattle.std.specs.Prelude.{filter_map}
 use Rattle.std.specs.Borrow.{Bor}
-use Rattle.std.specs.List.{flat_map}
 use Rattle.std.proofs.Math.ListN.{get_or-map}
 use Rattle.std.proofs.lemmas.List.{map_more, map-append, append-nil, map-id, map-set, length-map, take_more, get_or-map as get_or-map_within}
 use Rattle.std.proofs.lemmas.List.Edits.{map_over_more}

@@ -9,7 +9,6 @@ use Rattle.taking.specs.declared.reason.Reason.{Reason}
 use Rattle.taking.specs.Names.{Naming}
 use Rattle.taking.specs.Reasons.{Choice}
 use Rattle.taking.specs.Taken.{Takes}
-use Rattle.choosing.specs.Choices.{IsChoice}
 use Rattle.choosing.specs.declared.wish.Wish.{Wish}
 use Rattle.giving.specs.Staying.{Change, StayAll, others}
 use Rattle.rewriting.specs.Spans.{IsRewritten}

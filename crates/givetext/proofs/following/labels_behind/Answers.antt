@@ -2,7 +2,7 @@
 use Rattle.std.proofs.Common.{◌+◌, ◌∙◌, ap, sym, map, take}
 use Rattle.std.proofs.lemmas.List.{with_items_is}
 use Rattle.source.specs.Views.{seen_words, seen_pairs}
-use Rattle.givetext.specs.Following.{label_behind_all, all_commands}
+use Rattle.givetext.specs.Following.{all_commands}
 use Rattle.givetext.proofs.Labels.{entry_more, seconds}
 use Rattle.givetext.proofs.following.labels_behind.Goals as goal
 
