@@ -1,5 +1,6 @@
 -- Chosen assertions beside those of a library, one more at a time.
-use Rattle.std.proofs.Common.{◌≡◌, ◌∙◌, ℕ, ◌+◌, ◌<◌, ◌≤◌, Bool, true, false, List, [], ◌∷◌, ◌++◌, map, filter, take, drop, get_or, length, Some, refl, sym, ap, arith, cond, subst, inl, inr}
+use Rattle.std.proofs.Common.{◌≡◌, ◌∙◌, ℕ, ◌+◌, ◌<◌, ◌≤◌, Bool, true, false, List, [], ◌∷◌, ◌++◌, map, filter, take, drop}
+use Rattle.std.proofs.Common.{get_or, length, Some, refl, sym, ap, arith, cond, subst, inl, inr}
 use Rattle.std.specs.Prelude.{slice_get}
 use Rattle.std.specs.List.{zip}
 use Rattle.std.specs.Option.{option_map}
@@ -76,7 +77,9 @@ module _ (choice : Choice) (xs : List Assertion) (flags : List Bool) (i : ℕ) (
       let front = chosen_among choice (take i xs) in
       let labels = map (λ (a : Unit'). a.label) library in
       let at_label : slice_get labels (length front) ≡ Some a.label =
-      ap (slice_get labels) before.enough ∙ slice_get-map (λ (a : Unit'). a.label) library (length ps) ∙ ap (option_map (λ (a : Unit'). a.label)) at in
+      ap (slice_get labels) before.enough
+      ∙ slice_get-map (λ (a : Unit'). a.label) library (length ps)
+      ∙ ap (option_map (λ (a : Unit'). a.label)) at in
       let more = next true flag in
       record {
         pairs =

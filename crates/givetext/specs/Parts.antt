@@ -24,7 +24,8 @@ pub record IsFollowed (s : Scope) (choice : Choice) (db : Contents) (entries : L
   pub changes_are : f.changes ≡ changes_by (all_commands entries) (origins s choice db)
 
 -- the text declares a source, of which the edited library is taken by these labels, and what isn't its own stays
-pub record IsLookedAt (old : Scope) (out : List ℕ) (changes : List Change) (own : List Bool) (then : List Word) (edited : Listed) : Type 0 where
+pub record IsLookedAt (old : Scope) (out : List ℕ) (changes : List Change) (own : List Bool) (then : List Word) (edited : Listed)
+    : Type 0 where
   pub new : Scope
   pub declares : DeclaresText out new
   pub choice : Choice
@@ -33,7 +34,8 @@ pub record IsLookedAt (old : Scope) (out : List ℕ) (changes : List Change) (ow
   pub stays : StayAll changes (others own old.assertions) (others (own_flags choice axioms new) new.assertions)
 
 -- it is a source with the edits of a history over a library that was taken of it by a choice, and was looked at
-pub record IsEdited (source : List ℕ) (old : Scope) (choice : Choice) (taken : Taken) (entries : List Entry) (edited : Listed) (out : List ℕ) : Type 0 where
+pub record IsEdited (source : List ℕ) (old : Scope) (choice : Choice) (taken : Taken) (entries : List Entry) (edited : Listed)
+    (out : List ℕ) : Type 0 where
   pub looked : IsLookedAt old out (changes_by (all_commands entries) (origins old choice taken.database))
       (own_flags choice (axioms_of taken) old) (labels_then (all_commands entries) (origins old choice taken.database)) edited
   pub proofs : List Change

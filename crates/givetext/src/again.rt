@@ -94,7 +94,8 @@ fn stay<'a, D: Declared<'a>, E: Declared<'a>>(
 ) -> Result<(), Refusal>
     requires chosen { length chosen.now ≡ length (D.scope old.now).assertions }
     requires taken { length taken.now ≡ length (E.scope new.now).assertions }
-    ensures { OnOk result (StayAll changes.now (others chosen.now (D.scope old.now).assertions) (others taken.now (E.scope new.now).assertions)) }
+    ensures { OnOk result (StayAll changes.now (others chosen.now (D.scope old.now).assertions)
+        (others taken.now (E.scope new.now).assertions)) }
 {
     match first_not_staying(alloc, changes, old, new, chosen, taken)? {
         None => Ok(()),

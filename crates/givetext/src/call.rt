@@ -1,5 +1,5 @@
-//! The call `give`: a library is taken of a source again, a history is done over it, and the source is written anew with its edits, and looked
-//! at again.
+//! The call `give`: a library is taken of a source again, a history is done over it, and the source is written anew with its edits, and
+//! looked at again.
 
 ghost use Rattle.std.specs.Prelude.{◌≡◌, List, map, length, IfOk};
 ghost use Rattle.source.specs.Scopes.{Assertion, is_in};
@@ -164,7 +164,8 @@ fn give_edits<'x, 'a: 'x>(
     edited: &'x PlainLibrary,
 ) -> Result<Vec<u8>, Refusal>
     requires { length taken.now.chosen.items ≡ length old.now.stand.scope.assertions }
-    ensures { (choice : Choice) → map (λ (x : Assertion). is_in choice.chosen x.label) old.now.stand.scope.assertions ≡ taken.now.chosen.items
+    ensures { (choice : Choice)
+        → map (λ (x : Assertion). is_in choice.chosen x.label) old.now.stand.scope.assertions ≡ taken.now.chosen.items
         → IfOk result (λ out. IsEdited source.now old.now.stand.scope choice taken.now entries.now edited.now out.items) }
 {
     let followed = follow_history(alloc, keys, old, taken, entries)?;

@@ -7,7 +7,8 @@ ghost use Rattle.source.specs.Scopes.{Assertion, is_in};
 ghost use Rattle.taking.specs.Reasons.{Choice};
 ghost use Rattle.library.specs.declared.command.Command.{Command as CommandOf};
 ghost use Rattle.givetext.specs.Parts.{IsFollowed};
-ghost use Rattle.givetext.specs.Following.{label_behind, label_behind_all, commands_of, all_commands, origins, change_to, changes_by, label_then, labels_then};
+ghost use Rattle.givetext.specs.Following.{label_behind, label_behind_all, commands_of, all_commands};
+ghost use Rattle.givetext.specs.Following.{origins, change_to, changes_by, label_then, labels_then};
 
 use giving::Changes;
 use intake::Taken;
@@ -17,7 +18,7 @@ use source::Declared;
 use std::alloc::{AllocError, Global};
 use std::hash::RandomState;
 
-/// The labels of a library's assertions, and what becomes of them by the edits of a history: all in the order of the assertions at the opening.
+/// The labels of a library's assertions, and what becomes of them by the edits of a history, in the order of the assertions at the opening.
 #[derive(Drop)]
 pub(crate) struct Followed<'x, 'a> {
     /// The assertions at the opening, by their labels in the source and in the library.
@@ -184,7 +185,8 @@ pub(crate) fn follow_history<'x, 'a: 'x, D: Declared<'a>>(
     entries: &'x [Entry],
 ) -> Result<Followed<'x, 'a>, AllocError>
     requires { length taken.now.chosen.items ≡ length (D.scope declared.now).assertions }
-    ensures { (choice : Choice) → map (λ (x : Assertion). is_in choice.chosen x.label) (D.scope declared.now).assertions ≡ taken.now.chosen.items
+    ensures { (choice : Choice)
+        → map (λ (x : Assertion). is_in choice.chosen x.label) (D.scope declared.now).assertions ≡ taken.now.chosen.items
         → IfOk result (IsFollowed (D.scope declared.now) choice taken.now.database entries.now) }
 {
     let origins = origins_of(alloc, declared, taken.chosen.as_slice(), &taken.database)?;

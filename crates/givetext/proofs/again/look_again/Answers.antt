@@ -23,6 +23,8 @@ returns g c =
     let taken = c.in_ok-taken.taken in
     let library = c.in_ok-taken.ensures in
     let own = c.as_slice-2.ensures.value ∙ c.in_ok-own.ensures.flags library.taken.choice library.chosen_are in
+    let still : List Bool → Type 0 =
+    λ fs. StayAll c.args.edits.followed.now.changes (others c.args.edits.own.now old.assertions) (others fs now.assertions) in
     on_ok_weaker c.stay.result
     (λ stays. record {
       new = now;
@@ -36,6 +38,6 @@ returns g c =
         takes = library.taken.takes;
         same = c.in_ok-is_edited.ensures;
       };
-      stays = subst (λ (fs : List Bool). StayAll c.args.edits.followed.now.changes (others c.args.edits.own.now old.assertions) (others fs now.assertions)) own stays;
+      stays = subst still own stays;
     })
     c.stay.ensures

@@ -10,5 +10,5 @@ loop-command-init c = sym (map-id (seen_words c.args.labels.now))
 
 pub loop-command-preserved : goal.loop-command-preserved
 loop-command-preserved c =
-    command_more c.args.commands.now c.loop-command.command-index c.command-item.result (seen_words c.args.labels.now) (seen_words c.loop-command.labels) _
-    c.loop-command-test.true c.command-item.is c.loop-command.invariant c.follow_command.ensures
+    command_more c.args.commands.now c.loop-command.command-index c.command-item.result (seen_words c.args.labels.now)
+    (seen_words c.loop-command.labels) _ c.loop-command-test.true c.command-item.is c.loop-command.invariant c.follow_command.ensures

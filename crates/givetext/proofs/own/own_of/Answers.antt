@@ -28,7 +28,8 @@ loop-place-preserved g c =
     let looked : c.in_ok-told.told ≡ beside told = c.in_ok-told.ensures ∙ ap beside c.as_slice.ensures.value in (
       ap length c.in_ok-push.ensures.items ∙ length-append before (c.is_own.result ∷ []) ∙ ap (λ n. n + 1) c.loop-place.invariant.0,
       λ choice are. c.in_ok-push.ensures.items
-          ∙ own_more choice told xs c.args.taken.now.chosen.items i x.0 x.1 are before c.in_ok-told.told l.now c.index.result.now c.is_own.result
+          ∙ own_more choice told xs c.args.taken.now.chosen.items i x.0 x.1 are before c.in_ok-told.told l.now c.index.result.now
+          c.is_own.result
           (c.loop-place.invariant.1 choice are) looked same c.index.ensures c.is_own.ensures,
     )
 

@@ -10,5 +10,6 @@ use Rattle.givetext.proofs.own.own_of.Given as goal
 abbrev pub invariant-loop-place : goal.invariant-loop-place
 invariant-loop-place g l =
     (length l.own.items ≡ l.place)
-    × ((choice : Choice) → map (λ (x : Assertion). is_in choice.chosen x.label) (g.D.Declared.scope l.declared).assertions ≡ l.taken.chosen.items
+    × ((choice : Choice)
+    → map (λ (x : Assertion). is_in choice.chosen x.label) (g.D.Declared.scope l.declared).assertions ≡ l.taken.chosen.items
     → l.own.items ≡ map (is_own choice (axioms_of l.taken)) (take l.place (g.D.Declared.scope l.declared).assertions))
