@@ -1,6 +1,9 @@
 mod Places
 mod Orders
 mod Marked
+mod Lettered
+mod Labelled
 mod Statements
+mod Finding
 mod Walking
 mod Spliced

@@ -19,9 +19,9 @@ reads_as m k w marked is = subst (λ v. Says v w) (sym marked ∙ is) (says w)
 pub same_bytes : (w v : Word) → w ≡ v → bytes_eq w v ≡ true
 same_bytes w v e = (bytes_eq-Decides w v).1 e
 
-other_bytes : (w v : Word) → (w ≡ v → mark_of w ≡ mark_of v) → mark_of w ≢ mark_of v → bytes_eq w v ≡ false
-other_bytes w v same differs = elim (cases_Bool (bytes_eq w v)) [
-  | inl y ↦ absurd (differs (same (same_word w v y)))
+not_word : (m k : Mark) (w v : Word) → mark_of v ≡ k → m ≡ mark_of w → m ≢ k → bytes_eq w v ≡ false
+not_word m k w v is marked differs = elim (cases_Bool (bytes_eq w v)) [
+  | inl y ↦ absurd (differs (marked ∙ (ap mark_of (same_word w v y) ∙ is)))
   | inr n ↦ n
 ]
 
@@ -37,11 +37,21 @@ of_end : mark_of (codes "$.") ≡ mark.End
 unfolding mark_of
 of_end = refl
 
+of_proof : mark_of (codes "$=") ≡ mark.Proof
+unfolding mark_of
+of_proof = refl
+
+pub begins_none : (m : Mark) (w : Word) → m ≡ mark_of w → m ≢ mark.Proof → bytes_eq w (codes "$=") ≡ false
+begins_none m w = not_word m mark.Proof w (codes "$=") of_proof
+
+pub is_no_end : (m : Mark) (w : Word) → m ≡ mark_of w → m ≢ mark.End → bytes_eq w (codes "$.") ≡ false
+is_no_end m w = not_word m mark.End w (codes "$.") of_end
+
 pub opens_none : (m : Mark) (w : Word) → m ≡ mark_of w → m ≢ mark.Comment → bytes_eq w (codes "$(") ≡ false
-opens_none m w marked differs = other_bytes w (codes "$(") (ap mark_of) (λ e. differs (marked ∙ (e ∙ of_comment)))
+opens_none m w = not_word m mark.Comment w (codes "$(") of_comment
 
 pub closes_none : (m : Mark) (w : Word) → m ≡ mark_of w → m ≢ mark.Uncomment → bytes_eq w (codes "$)") ≡ false
-closes_none m w marked differs = other_bytes w (codes "$)") (ap mark_of) (λ e. differs (marked ∙ (e ∙ of_uncomment)))
+closes_none m w = not_word m mark.Uncomment w (codes "$)") of_uncomment
 
 pub ends_none : (m : Mark) (w : Word) → m ≡ mark_of w → m ≢ mark.End → w ≢ codes "$."
 ends_none m w marked differs = λ e. differs (marked ∙ (ap mark_of e ∙ of_end))

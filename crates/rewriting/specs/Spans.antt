@@ -1,6 +1,6 @@
 -- The text of a source with changed labels and other proofs: which spans of it may change, and that each other byte stays.
-use Rattle.std.specs.Prelude.{◌≡◌, ◌≢◌, ◌≤◌, ◌+◌, ◌⊎◌, ℕ, Bool, true, false, List, [], ◌∷◌, ◌++◌, length, drop, find, codes, All, Some}
-use Rattle.std.specs.Prelude.{slice_get, slice_range, if◌then◌else◌}
+use Rattle.std.specs.Prelude.{◌≡◌, ◌≢◌, ◌≤◌, ◌+◌, ◌⊎◌, ◌||◌, ◌&&◌, ℕ, Bool, true, false, List, [], ◌∷◌, ◌++◌, length, drop, find, codes}
+use Rattle.std.specs.Prelude.{All, Some, slice_get, slice_range, if◌then◌else◌}
 use mathlib.Core.Bool.{not}
 use Rattle.std.specs.Str.{bytes_eq}
 use Rattle.mmtext.specs.Words.{Word}
@@ -36,16 +36,41 @@ outside false (t ∷ ts) = if bytes_eq t.text (codes "$(") then outside true ts 
 abbrev pub AreWithin : List Token → Type 0
 AreWithin ts = All (λ t. t.text ≢ codes "$.") ts
 
+-- whether letters are next behind tokens outside of comments: behind the ) of a compressed proof (appendix B). Before them a proof may have
+-- begun, and its letters may be next
+abbrev pub letters_next : Bool → Bool → List Token → Bool
+letters_next begun letters [] = letters
+letters_next begun letters (t ∷ ts) =
+    if bytes_eq t.text (codes "$=") then letters_next true false ts else (
+    if bytes_eq t.text (codes "$.") then letters_next false false ts else
+    letters_next begun (letters || (begun && bytes_eq t.text (codes ")"))) ts)
+
 -- ---- which spans may change
 
 -- the first change of a word has these bytes
 abbrev pub IsChangedTo : List Change → Word → List ℕ → Type 0
 IsChangedTo cs w new = (c : Change) × (find (λ c. bytes_eq w c.0) cs ≡ Some c) × (c.1 ≡ new)
 
+-- a token outside of comments that is no letter of a proof
+pub record IsNoLetter (source : List ℕ) (t : Token) : Type 0 where
+  pub before : List Token
+  pub after : List Token
+  pub stands : outside false (tokens source) ≡ before ++ t ∷ after
+  pub no_letter : letters_next false false before ≡ false
+
+-- a token behind ~, as labels stand in comments (section 4.4.1)
+pub record IsBehindTilde (source : List ℕ) (t : Token) : Type 0 where
+  pub before : List Token
+  pub tilde : Token
+  pub after : List Token
+  pub stands : tokens source ≡ before ++ tilde ∷ t ∷ after
+  pub is_tilde : tilde.text ≡ codes "~"
+
 -- a label that changes: a whole token
 pub record IsLabelSpan (cs : List Change) (source : List ℕ) (x : Span) : Type 0 where
   pub token : Token
   pub stands : IsTokenOf source token
+  pub is_label : IsNoLetter source token ⊎ IsBehindTilde source token
   pub begins : x.begin ≡ token.place
   pub ends : x.end ≡ token.place + length token.text
   pub changed : IsChangedTo cs token.text x.text.now

@@ -1,13 +1,17 @@
 -- Of the code's inside, apart from the rules: what is known of a walk before tokens.
-use Rattle.std.specs.Prelude.{◌≡◌, ◌≤◌, ◌+◌, ◌⊎◌, ℕ, false, List, [], ◌∷◌, ◌++◌, Option, Some, None, All, codes, length}
+use Rattle.std.specs.Prelude.{◌≡◌, ◌≤◌, ◌+◌, ◌⊎◌, ℕ, Bool, true, false, List, [], ◌∷◌, ◌++◌, Option, Some, None, All, codes, length}
 use Rattle.std.specs.Option.{is_some}
 use Rattle.std.specs.Borrow.{Bor}
 use Rattle.mmtext.specs.Text.{Token, tokens}
 use Rattle.giving.specs.Staying.{Change}
+use Rattle.rewriting.specs.declared.comments.CommentPlace.{CommentPlace}
+use Rattle.rewriting.specs.declared.comments.CommentPlace.TheVariants.{Label}
+use Rattle.rewriting.specs.declared.proofs.ProofPlace.{ProofPlace}
+use Rattle.rewriting.specs.declared.proofs.ProofPlace.TheVariants.{Outside, Labels, Letters}
 use Rattle.rewriting.specs.declared.span.Span.{Span}
 use Rattle.rewriting.specs.declared.walk.Passing.{Passing}
 use Rattle.rewriting.specs.declared.walk.Walk.{Walk}
-use Rattle.rewriting.specs.Spans.{outside, AreWithin, IsChangedTo, IsSpan}
+use Rattle.rewriting.specs.Spans.{outside, AreWithin, letters_next, IsChangedTo, IsSpan}
 
 -- ---- the statement that is read
 
@@ -57,6 +61,41 @@ abbrev pub IsPassedIf : List Change → List Token → ℕ → Option Passing �
 IsPassedIf proofs so_far at None = Unit {0}
 IsPassedIf proofs so_far at (Some p) = IsPassed proofs so_far at p
 
+-- ---- where labels stand
+
+-- a proof was begun
+abbrev pub is_begun : ProofPlace → Bool
+is_begun Outside = false
+is_begun Labels = true
+is_begun Letters = true
+
+-- its letters are next
+abbrev pub are_letters : ProofPlace → Bool
+are_letters Outside = false
+are_letters Labels = false
+are_letters Letters = true
+
+-- how far the proof was read behind tokens outside of comments
+abbrev pub IsReadTo : List Token → ProofPlace → Type 0
+IsReadTo so_far p = (ts : List Token) → letters_next false false (so_far ++ ts) ≡ letters_next (is_begun p) (are_letters p) ts
+
+-- and behind a word more
+abbrev pub LeadsTo : ProofPlace → List ℕ → ProofPlace → Type 0
+LeadsTo old word new =
+    (t : Token) (ts : List Token) → t.text ≡ word
+    → letters_next (is_begun old) (are_letters old) (t ∷ ts) ≡ letters_next (is_begun new) (are_letters new) ts
+
+-- where a label is next in a comment, ~ was the last token
+pub record EndsInTilde (front : List Token) : Type 0 where
+  pub before : List Token
+  pub tilde : Token
+  pub stands : front ≡ before ++ tilde ∷ []
+  pub is_tilde : tilde.text ≡ codes "~"
+
+abbrev pub EndsInTildeIf : List Token → Option CommentPlace → Type 0
+EndsInTildeIf front (Some Label) = EndsInTilde front
+EndsInTildeIf front _ = Unit {0}
+
 -- ---- spans
 
 -- spans stand one behind the other, from a place on and up to another
@@ -69,7 +108,7 @@ abbrev pub free_from : ℕ → Option Passing → ℕ
 free_from at None = at
 free_from at (Some p) = p.begin
 
--- a label is found at a token, if no proof is passed over there, or nothing is
+-- a label was found at a token, where no proof is passed over, or none was
 pub record IsFound (cs : List Change) (passing : Option Passing) (t : Token) (old new : List Span) : Type 0 where
   pub none : passing ≡ None
   pub span : Span
@@ -104,6 +143,8 @@ pub record IsWalked (cs proofs : List Change) (source : List ℕ) (left : List T
   pub all : tokens source ≡ front ++ left
   pub so_far : List Token
   pub splits : outside false (tokens source) ≡ so_far ++ outside (is_some w.comment) left
+  pub tilde : EndsInTildeIf front w.comment
+  pub proof : IsReadTo so_far w.proof
   pub last : IsLastIf so_far w.last
   pub theorem : IsStatedIf so_far w.theorem
   pub passing : IsPassedIf proofs so_far at w.passing

@@ -1,5 +1,7 @@
 //! Labels in comments: a label stands behind `~`, outside of the symbols between backquotes (Metamath book, section 4.4.1).
 
+ghost use Rattle.std.specs.Prelude.{◌≡◌, codes};
+
 /// How far a comment was read.
 #[derive(Clone, Copy, Debug, PartialEq, Eq)]
 pub(crate) enum CommentPlace {
@@ -13,7 +15,9 @@ pub(crate) enum CommentPlace {
 
 impl CommentPlace {
     /// Behind a token of the comment.
-    pub(crate) fn behind(self, token: &[u8]) -> CommentPlace {
+    pub(crate) fn behind(self, token: &[u8]) -> CommentPlace
+        ensures { result ≡ CommentPlace.Label → token.now ≡ codes "~" }
+    {
         match self {
             CommentPlace::Words if token == b"~".as_slice() => CommentPlace::Label,
             CommentPlace::Words if token == b"`".as_slice() => CommentPlace::Symbols,

@@ -114,7 +114,7 @@ impl<'s, 't> Walk<'s, 't> {
     ) -> Result<(), AllocError>
         requires fits { token.place + length token.text.now < 2 ^ 64 }
         requires marked { mark ≡ mark_of token.text.now }
-        requires where_it_is { self.old.comment ≡ Some place }
+        requires in_comment { self.old.comment ≡ Some place }
         ensures { OnOk result ((proofs : List Change) → TakesToken changes.now proofs self.old (seen token.entry) self.new) }
     {
         if mark == Mark::Uncomment {
@@ -138,7 +138,7 @@ impl<'s, 't> Walk<'s, 't> {
     ) -> Result<(), AllocError>
         requires fits { token.place + length token.text.now < 2 ^ 64 }
         requires marked { mark ≡ mark_of token.text.now }
-        requires where_it_is { self.old.comment ≡ None }
+        requires in_none { self.old.comment ≡ None }
         ensures { OnOk result (TakesToken changes.now proofs.now self.old (seen token.entry) self.new) }
     {
         match mark {

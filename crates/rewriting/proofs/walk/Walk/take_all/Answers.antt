@@ -4,7 +4,7 @@ use Rattle.mmtext.specs.Text.{tokens_from}
 use Rattle.mmtext.specs.Views.{seen}
 use Rattle.rewriting.specs.Walks.{IsWalked}
 use Rattle.rewriting.proofs.Places.{first_place}
-use Rattle.rewriting.proofs.Walking.{not_behind}
+use Rattle.rewriting.proofs.Finding.{not_behind}
 use Rattle.rewriting.proofs.walk.Walk.take_all.Goals as goal
 
 pub loop-token-preserved : goal.loop-token-preserved
