@@ -1,10 +1,10 @@
 -- Labels behind edits, one more at a time.
-use Rattle.std.proofs.Common.{◌≡◌, ◌∙◌, ℕ, ◌+◌, ◌<◌, List, [], ◌∷◌, ◌++◌, map, take, drop, set, get_or, length, Option, Some, None, refl, sym, ap, arith}
+use Rattle.std.proofs.Common.{◌≡◌, ◌∙◌, ℕ, ◌+◌, ◌<◌, List, [], ◌∷◌, ◌++◌, map, take, drop, set, get_or, length, Some, None, refl, sym, ap}
 use Rattle.std.specs.Prelude.{filter_map}
 use Rattle.std.specs.Borrow.{Bor}
-use Rattle.std.specs.List.{flat_map}
 use Rattle.std.proofs.Math.ListN.{get_or-map}
-use Rattle.std.proofs.lemmas.List.{map_more, map-append, append-nil, map-id, map-set, length-map, take_more, get_or-map as get_or-map_within}
+use Rattle.std.proofs.lemmas.List.{map_more, map-append, append-nil, map-id, map-set, length-map, take_more}
+use Rattle.std.proofs.lemmas.List.{get_or-map as get_or-map_within}
 use Rattle.std.proofs.lemmas.List.Edits.{map_over_more}
 use Rattle.std.proofs.lemmas.List.Elements.{filter_map-append}
 use Rattle.std.proofs.lemmas.Simd.{map-map}
@@ -16,13 +16,14 @@ use Rattle.giving.specs.Staying.{Change}
 use Rattle.library.specs.declared.command.Command.{Command}
 use Rattle.library.specs.declared.command.Command.TheVariants.{Rename}
 use Rattle.library.specs.declared.history.Entry.{Entry}
-use Rattle.givetext.specs.Following.{label_behind, label_behind_all, commands_of, all_commands, change_to, changes_by, label_then, labels_then}
+use Rattle.givetext.specs.Following.{label_behind, label_behind_all, commands_of, all_commands}
+use Rattle.givetext.specs.Following.{change_to, changes_by, label_then, labels_then}
 
 -- ---- behind commands
 
 -- one more label behind a rename
-pub renamed_more : (f : Word → Word) (first : List Word) (ls : List (Bor (List ℕ))) (k : ℕ) (d r : Bor (List ℕ)) → k < length first
-    → k < length ls → seen_words ls ≡ map f (take k first) ++ drop k first → r.now ≡ f (get_or ls k d).now
+pub renamed_more : (f : Word → Word) (first : List Word) (ls : List (Bor (List ℕ))) (k : ℕ) (d r : Bor (List ℕ))
+    → k < length first → k < length ls → seen_words ls ≡ map f (take k first) ++ drop k first → r.now ≡ f (get_or ls k d).now
     → seen_words (set ls k r) ≡ map f (take (k + 1) first) ++ drop (k + 1) first
 renamed_more f first ls k d r within there so_far is =
     let now : Bor (List ℕ) → Word = λ w. w.now in

@@ -2,3 +2,5 @@ pub mod Appended
 pub mod Orders
 mod Labels
 mod Origins
+mod OwnFlags
+mod EditedTexts

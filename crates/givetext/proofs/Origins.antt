@@ -1,9 +1,9 @@
 -- Chosen assertions beside those of a library, one more at a time.
-use Rattle.std.proofs.Common.{◌≡◌, ◌∙◌, ℕ, ◌+◌, ◌<◌, ◌≤◌, Bool, true, false, List, [], ◌∷◌, ◌++◌, map, filter, take, drop, get_or, length, Some, refl, sym, ap, arith, cond, subst, inl, inr}
+use Rattle.std.proofs.Common.{◌≡◌, ◌∙◌, ℕ, ◌+◌, ◌<◌, ◌≤◌, Bool, true, false, List, [], ◌∷◌, ◌++◌, map, filter, take, drop}
+use Rattle.std.proofs.Common.{get_or, length, Some, refl, sym, ap, arith, cond, subst, inl, inr}
 use Rattle.std.specs.Prelude.{slice_get}
 use Rattle.std.specs.List.{zip}
 use Rattle.std.specs.Option.{option_map}
-use Rattle.std.proofs.lemmas.Bool.{cond-true, cond-false}
 use Rattle.std.proofs.lemmas.List.{map-append, append-nil, length-append, length-map, take-append-drop, get_or-map}
 use Rattle.std.proofs.lemmas.List.Elements.{filter_more, filter-append}
 use Rattle.std.proofs.lemmas.Option.{slice_get-map, slice_get_within, slice_get_cases, get_or_from_slice_get}
@@ -53,10 +53,10 @@ chosen_past choice i xs =
 
 module _ (choice : Choice) (xs : List Assertion) (flags : List Bool) (i : ℕ) (x : Assertion) (there : slice_get xs i ≡ Some x)
     (are : map (λ (x : Assertion). is_in choice.chosen x.label) xs ≡ flags) where
-  flag_is : get_or flags i false ≡ is_in choice.chosen x.label
-  flag_is =
-      ap (λ fs. get_or fs i false) (sym are)
-      ∙ get_or-map (λ (x : Assertion). is_in choice.chosen x.label) xs i x false (slice_get_within xs i x there)
+  pub flag_is : (d : Bool) → get_or flags i d ≡ is_in choice.chosen x.label
+  flag_is d =
+      ap (λ fs. get_or fs i d) (sym are)
+      ∙ get_or-map (λ (x : Assertion). is_in choice.chosen x.label) xs i x d (slice_get_within xs i x there)
       ∙ ap (λ (y : Assertion). is_in choice.chosen y.label) (get_or_from_slice_get xs i x x there)
 
   next : (b : Bool) → get_or flags i false ≡ b
@@ -68,7 +68,7 @@ module _ (choice : Choice) (xs : List Assertion) (flags : List Bool) (i : ℕ) (
       ap (map (λ y. y.label)) (filter_more is xs i x (slice_get_within xs i x there))
       ∙ map-append (λ (y : Assertion). y.label) (filter is front) (one (get_or xs i x))
       ∙ ap (λ (y : Assertion). chosen_among choice front ++ map (λ (y : Assertion). y.label) (one y)) (get_or_from_slice_get xs i x x there)
-      ∙ ap (λ (t : Bool). chosen_among choice front ++ map (λ (y : Assertion). y.label) (cond t (x ∷ []) [])) (sym flag_is ∙ flag)
+      ∙ ap (λ (t : Bool). chosen_among choice front ++ map (λ (y : Assertion). y.label) (cond t (x ∷ []) [])) (sym (flag_is false) ∙ flag)
 
   pub paired_more : (library : List Unit') (ps : List Pair) (a : Unit') (w : Word) → get_or flags i false ≡ true → w ≡ x.label
       → slice_get library (length ps) ≡ Some a → ArePaired (chosen_among choice (take i xs)) library ps
@@ -77,7 +77,9 @@ module _ (choice : Choice) (xs : List Assertion) (flags : List Bool) (i : ℕ) (
       let front = chosen_among choice (take i xs) in
       let labels = map (λ (a : Unit'). a.label) library in
       let at_label : slice_get labels (length front) ≡ Some a.label =
-      ap (slice_get labels) before.enough ∙ slice_get-map (λ (a : Unit'). a.label) library (length ps) ∙ ap (option_map (λ (a : Unit'). a.label)) at in
+      ap (slice_get labels) before.enough
+      ∙ slice_get-map (λ (a : Unit'). a.label) library (length ps)
+      ∙ ap (option_map (λ (a : Unit'). a.label)) at in
       let more = next true flag in
       record {
         pairs =

@@ -1,5 +1,5 @@
 -- The labels of a library's assertions behind the edits of a history, and those in the source.
-use Rattle.std.specs.Prelude.{Bool, List, [], ◌∷◌, ◌++◌, map, Option, Some, None, if◌then◌else◌, filter_map, ◌&&◌}
+use Rattle.std.specs.Prelude.{Bool, List, [], ◌∷◌, map, Option, Some, None, if◌then◌else◌, filter_map, ◌&&◌}
 use Rattle.std.specs.List.{zip, flat_map}
 use Rattle.std.specs.Str.{bytes_eq}
 use mathlib.Core.Bool.{not}

@@ -9,7 +9,6 @@ use Rattle.taking.specs.declared.reason.Reason.{Reason}
 use Rattle.taking.specs.Names.{Naming}
 use Rattle.taking.specs.Reasons.{Choice}
 use Rattle.taking.specs.Taken.{Takes}
-use Rattle.choosing.specs.Choices.{IsChoice}
 use Rattle.choosing.specs.declared.wish.Wish.{Wish}
 use Rattle.giving.specs.Staying.{Change, StayAll, others}
 use Rattle.rewriting.specs.Spans.{IsRewritten}
@@ -30,7 +29,8 @@ pub record IsTakenText (source : List ℕ) (s : Scope) (library : List ℕ) (t :
   pub text : library ≡ taken_text path source wish t
 
 -- the assertions of the library, taken again by the labels that they have now, are those to which the history leads, byte for byte
-pub record IsTakenAgain (now : Scope) (labels : List Word) (edited : Listed) (choice : Choice) (axioms : List (Word × Reason)) : Type 0 where
+pub record IsTakenAgain (now : Scope) (labels : List Word) (edited : Listed) (choice : Choice) (axioms : List (Word × Reason))
+    : Type 0 where
   pub chosen : choice.chosen ≡ labels
   pub db : Contents
   pub names : List Naming
@@ -60,4 +60,5 @@ pub record IsGiven (source library history out : List ℕ) : Type 0 where
       (others (own_flags choice axioms new) new.assertions)
   -- and so is every byte, but for such labels, and proofs of theorems
   pub proofs : List Change
-  pub rewritten : IsRewritten (changes_by (all_commands entries) (origins old was_taken.taken.taken.choice taken.database)) proofs source out
+  pub rewritten : IsRewritten (changes_by (all_commands entries) (origins old was_taken.taken.taken.choice taken.database)) proofs
+      source out

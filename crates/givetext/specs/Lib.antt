@@ -1,4 +1,5 @@
 pub mod Letters
 pub mod Following
 pub mod Given
+pub mod Parts
 pub mod Answers

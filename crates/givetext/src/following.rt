@@ -6,20 +6,38 @@ ghost use Rattle.source.specs.Views.{seen_words, seen_pairs};
 ghost use Rattle.source.specs.Scopes.{Assertion, is_in};
 ghost use Rattle.taking.specs.Reasons.{Choice};
 ghost use Rattle.library.specs.declared.command.Command.{Command as CommandOf};
-ghost use Rattle.givetext.specs.Following.{label_behind, label_behind_all, commands_of, all_commands, origins, change_to, changes_by, label_then, labels_then};
+ghost use Rattle.givetext.specs.Parts.{IsFollowed};
+ghost use Rattle.givetext.specs.Following.{label_behind, label_behind_all, commands_of, all_commands};
+ghost use Rattle.givetext.specs.Following.{origins, change_to, changes_by, label_then, labels_then};
 
+use giving::Changes;
+use intake::Taken;
 use library::{Command, Entry};
 use mmsyntax::Database;
 use source::Declared;
 use std::alloc::{AllocError, Global};
+use std::hash::RandomState;
+
+/// The labels of a library's assertions, and what becomes of them by the edits of a history, in the order of the assertions at the opening.
+#[derive(Drop)]
+pub(crate) struct Followed<'x, 'a> {
+    /// The assertions at the opening, by their labels in the source and in the library.
+    pub origins: Vec<(&'a [u8], &'x [u8])>,
+    /// Their labels behind the edits.
+    pub labels: Vec<&'x [u8]>,
+    /// Their labels in the source then.
+    pub then: Vec<&'x [u8]>,
+    /// The labels of the source that change, with their new ones.
+    pub changes: Changes<'x>,
+}
 
 /// The assertions of a library by their labels in the source, and in the library: the chosen ones, in their order.
-pub(crate) fn origins_of<'s, D: Declared<'s>>(
+fn origins_of<'a, 'x, D: Declared<'a>>(
     alloc: Global,
     declared: &D,
     chosen: &[bool],
-    database: &'s Database,
-) -> Result<Vec<(&'s [u8], &'s [u8])>, AllocError>
+    database: &'x Database,
+) -> Result<Vec<(&'a [u8], &'x [u8])>, AllocError>
     requires { length chosen.now ≡ length (D.scope declared.now).assertions }
     ensures { (choice : Choice) → map (λ (x : Assertion). is_in choice.chosen x.label) (D.scope declared.now).assertions ≡ chosen.now
         → IfOk result (λ made. seen_pairs made.items ≡ origins (D.scope declared.now) choice database.now) }
@@ -57,7 +75,7 @@ fn rename<'h>(labels: &mut [&'h [u8]], old: &[u8], new: &'h [u8])
 }
 
 /// Labels behind a command.
-fn follow<'h>(labels: &mut [&'h [u8]], command: &'h Command)
+fn follow_command<'h>(labels: &mut [&'h [u8]], command: &'h Command)
     ensures { seen_words labels.new ≡ map (label_behind command.now) (seen_words labels.old) }
 {
     if let Command::Rename { old, new } = command {
@@ -70,7 +88,7 @@ fn follow_all<'h>(labels: &mut [&'h [u8]], commands: &'h [Command])
     ensures { seen_words labels.new ≡ map (label_behind_all commands.now) (seen_words labels.old) }
 {
     for command in commands {
-        follow(labels, command);
+        follow_command(labels, command);
     }
 }
 
@@ -84,11 +102,11 @@ fn follow_entry<'h>(labels: &mut [&'h [u8]], entry: &'h Entry)
 }
 
 /// The labels of the library's assertions behind a history, in their order at the opening.
-pub(crate) fn labels_behind<'h>(
+fn labels_behind<'x>(
     alloc: Global,
-    origins: &[(&'h [u8], &'h [u8])],
-    entries: &'h [Entry],
-) -> Result<Vec<&'h [u8]>, AllocError>
+    origins: &[(&[u8], &'x [u8])],
+    entries: &'x [Entry],
+) -> Result<Vec<&'x [u8]>, AllocError>
     ensures { IfOk result (λ made. seen_words made.items
         ≡ map (λ p. label_behind_all (all_commands entries.now) p.1) (seen_pairs origins.now)) }
 {
@@ -115,11 +133,11 @@ fn change_to<'h>(now: &'h [u8], origin: (&'h [u8], &'h [u8])) -> Option<(&'h [u8
 }
 
 /// The labels of the source that change, with their new ones.
-pub(crate) fn changed_labels<'h>(
+fn changed_labels<'x, 'a: 'x>(
     alloc: Global,
-    origins: &[(&'h [u8], &'h [u8])],
-    labels: &[&'h [u8]],
-) -> Result<Vec<(&'h [u8], &'h [u8])>, AllocError>
+    origins: &[(&'a [u8], &'x [u8])],
+    labels: &[&'x [u8]],
+) -> Result<Vec<(&'x [u8], &'x [u8])>, AllocError>
     requires { length labels.now ≡ length origins.now }
     ensures { (cs : List CommandOf) → seen_words labels.now ≡ map (λ p. label_behind_all cs p.1) (seen_pairs origins.now)
         → IfOk result (λ made. seen_pairs made.items ≡ changes_by cs (seen_pairs origins.now)) }
@@ -142,11 +160,11 @@ fn label_then<'h>(now: &'h [u8], origin: (&'h [u8], &'h [u8])) -> &'h [u8]
 }
 
 /// The labels of the library's assertions in the source then.
-pub(crate) fn labels_in_source<'h>(
+fn labels_in_source<'x, 'a: 'x>(
     alloc: Global,
-    origins: &[(&'h [u8], &'h [u8])],
-    labels: &[&'h [u8]],
-) -> Result<Vec<&'h [u8]>, AllocError>
+    origins: &[(&'a [u8], &'x [u8])],
+    labels: &[&'x [u8]],
+) -> Result<Vec<&'x [u8]>, AllocError>
     requires { length labels.now ≡ length origins.now }
     ensures { (cs : List CommandOf) → seen_words labels.now ≡ map (λ p. label_behind_all cs p.1) (seen_pairs origins.now)
         → IfOk result (λ made. seen_words made.items ≡ labels_then cs (seen_pairs origins.now)) }
@@ -156,4 +174,29 @@ pub(crate) fn labels_in_source<'h>(
         then.push(label_then(labels[k], *origin))?;
     }
     Ok(then)
+}
+
+/// What becomes of the labels of a library that was taken of a source.
+pub(crate) fn follow_history<'x, 'a: 'x, D: Declared<'a>>(
+    alloc: Global,
+    keys: RandomState,
+    declared: &D,
+    taken: &'x Taken<'a>,
+    entries: &'x [Entry],
+) -> Result<Followed<'x, 'a>, AllocError>
+    requires { length taken.now.chosen.items ≡ length (D.scope declared.now).assertions }
+    ensures { (choice : Choice)
+        → map (λ (x : Assertion). is_in choice.chosen x.label) (D.scope declared.now).assertions ≡ taken.now.chosen.items
+        → IfOk result (IsFollowed (D.scope declared.now) choice taken.now.database entries.now) }
+{
+    let origins = origins_of(alloc, declared, taken.chosen.as_slice(), &taken.database)?;
+    let labels = labels_behind(alloc, origins.as_slice(), entries)?;
+    let then = labels_in_source(alloc, origins.as_slice(), labels.as_slice())?;
+    let changed = changed_labels(alloc, origins.as_slice(), labels.as_slice())?;
+    Ok(Followed {
+        origins,
+        labels,
+        then,
+        changes: Changes::new(alloc, keys, changed)?,
+    })
 }

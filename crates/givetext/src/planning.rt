@@ -1,11 +1,13 @@
 //! Which theorems have another proof behind the edits of a history, and the texts of these proofs.
 
+use crate::following::Followed;
 use crate::listing::{Cited, Names};
 use crate::proving::proof_text;
 use crate::refusal::{File, Refusal, shown};
 use giving::Changes;
+use intake::Taken;
 use library::{PlainLibrary, Ranked};
-use mmsyntax::{Assertion, Database, Float, Kind, Label, Step};
+use mmsyntax::{Assertion, Float, Kind, Label, Step};
 use source::Declared;
 use std::alloc::{AllocError, Global};
 use std::collections::HashMap;
@@ -28,10 +30,10 @@ fn by_label<'x>(
 }
 
 /// The names of a library that were changed, with those in the source.
-fn names_in_source<'x>(
+fn names_in_source<'x, 'a: 'x>(
     alloc: Global,
     keys: RandomState,
-    names: &'x [(&'x [u8], Label)],
+    names: &'x [(&'a [u8], Label)],
 ) -> Result<Changes<'x>, AllocError> {
     let mut pairs = Vec::new(alloc);
     for (source, library) in names {
@@ -55,11 +57,11 @@ fn floats_in_source<'x>(
 }
 
 /// The library's assertions as proofs cite them then.
-fn cited_then<'x, D: Declared<'x>>(
+fn cited_then<'x, 'a, D: Declared<'a>>(
     alloc: Global,
     keys: RandomState,
     declared: &D,
-    origins: &[(&'x [u8], &'x [u8])],
+    origins: &[(&'a [u8], &'x [u8])],
     labels: &[&'x [u8]],
     then: &[&'x [u8]],
 ) -> Result<HashMap<&'x [u8], Cited<'x>, RandomState>, AllocError> {
@@ -108,7 +110,7 @@ fn is_proof(changes: &Changes<'_>, old: &[Step], new: &[Step]) -> bool {
 fn changes_in_library<'x>(
     alloc: Global,
     keys: RandomState,
-    origins: &[(&'x [u8], &'x [u8])],
+    origins: &[(&[u8], &'x [u8])],
     labels: &[&'x [u8]],
 ) -> Result<Changes<'x>, AllocError> {
     let mut pairs = Vec::new(alloc);
@@ -130,13 +132,13 @@ fn unwritten(alloc: Global, label: &[u8]) -> Result<Refusal, AllocError> {
 }
 
 /// The other proof of an assertion in the source, if it has one there now: its label there, and the text.
-fn other_proof<'x, D: Declared<'x>>(
+fn other_proof<'x, 'a: 'x, D: Declared<'a>>(
     alloc: Global,
     keys: RandomState,
     declared: &D,
     names: &Names<'x>,
-    changes: &Changes<'x>,
-    source: &'x [u8],
+    changes: &Changes<'_>,
+    source: &[u8],
     old: &Assertion,
     new: &Assertion,
 ) -> Result<Option<Vec<u8>>, Refusal> {
@@ -152,47 +154,48 @@ fn other_proof<'x, D: Declared<'x>>(
     }
 }
 
-/// What is known of a library and of the edits over it.
-#[derive(Clone, Copy)]
-pub(crate) struct Planned<'x> {
-    /// The library at the opening.
-    pub database: &'x Database,
-    /// Its names that were changed.
-    pub names: &'x [(&'x [u8], Label)],
-    /// The library behind the edits.
-    pub edited: &'x PlainLibrary,
-    /// Its assertions at the opening, by their labels in the source and in the library.
-    pub origins: &'x [(&'x [u8], &'x [u8])],
-    /// Their labels behind the edits.
-    pub labels: &'x [&'x [u8]],
-    /// Their labels in the source then.
-    pub then: &'x [&'x [u8]],
-}
-
-/// The theorems that have another proof, by their labels in the source, with the texts of these proofs.
-pub(crate) fn other_proofs<'x, D: Declared<'x>>(
+/// What proofs of the library name in the source then.
+fn names_then<'x, 'a: 'x, D: Declared<'a>>(
     alloc: Global,
     keys: RandomState,
     declared: &D,
-    planned: &Planned<'x>,
-) -> Result<Vec<(&'x [u8], Vec<u8>)>, Refusal> {
-    let edited = by_label(alloc, keys, planned.edited.entries())?;
-    let changes = changes_in_library(alloc, keys, planned.origins, planned.labels)?;
-    let changed = names_in_source(alloc, keys, planned.names)?;
-    let names = Names {
-        floats: floats_in_source(alloc, &changed, planned.database.prelude().floats())?,
+    taken: &'x Taken<'a>,
+    followed: &Followed<'x, 'a>,
+) -> Result<Names<'x>, AllocError> {
+    let changed = names_in_source(alloc, keys, taken.names.as_slice())?;
+    Ok(Names {
+        floats: floats_in_source(alloc, &changed, taken.database.prelude().floats())?,
         cited: cited_then(
             alloc,
             keys,
             declared,
-            planned.origins,
-            planned.labels,
-            planned.then,
+            followed.origins.as_slice(),
+            followed.labels.as_slice(),
+            followed.then.as_slice(),
         )?,
-    };
+    })
+}
+
+/// The theorems that have another proof, by their labels in the source, with the texts of these proofs.
+pub(crate) fn other_proofs<'x, 'a: 'x, D: Declared<'a>>(
+    alloc: Global,
+    keys: RandomState,
+    declared: &D,
+    taken: &'x Taken<'a>,
+    edited: &'x PlainLibrary,
+    followed: &Followed<'x, 'a>,
+) -> Result<Vec<(&'a [u8], Vec<u8>)>, Refusal> {
+    let edited = by_label(alloc, keys, edited.entries())?;
+    let changes = changes_in_library(
+        alloc,
+        keys,
+        followed.origins.as_slice(),
+        followed.labels.as_slice(),
+    )?;
+    let names = names_then(alloc, keys, declared, taken, followed)?;
     let mut proofs = Vec::new(alloc);
-    for (k, old) in planned.database.assertions().iter().enumerate() {
-        let (Some((source, _)), Some(label)) = (planned.origins.get(k), planned.labels.get(k))
+    for (k, old) in taken.database.assertions().iter().enumerate() {
+        let (Some((source, _)), Some(label)) = (followed.origins.get(k), followed.labels.get(k))
         else {
             break;
         };
@@ -211,12 +214,13 @@ pub(crate) fn other_proofs<'x, D: Declared<'x>>(
 pub(crate) fn axioms_then<'x>(
     alloc: Global,
     keys: RandomState,
-    planned: &Planned<'x>,
+    edited: &PlainLibrary,
+    followed: &Followed<'x, '_>,
 ) -> Result<Vec<&'x [u8]>, AllocError> {
-    let edited = by_label(alloc, keys, planned.edited.entries())?;
+    let edited = by_label(alloc, keys, edited.entries())?;
     let mut axioms = Vec::new(alloc);
-    for (k, label) in planned.labels.iter().enumerate() {
-        if let (Some(assertion), Some(then)) = (edited.get(label), planned.then.get(k)) {
+    for (k, label) in followed.labels.iter().enumerate() {
+        if let (Some(assertion), Some(then)) = (edited.get(label), followed.then.get(k)) {
             if assertion.kind == Kind::Axiom {
                 axioms.push(*then)?;
             }

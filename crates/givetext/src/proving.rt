@@ -25,7 +25,7 @@ struct Hypotheses<'x> {
 }
 
 /// The labels of the mandatory hypotheses of the assertion at a place.
-fn hypotheses_of<'x, D: Declared<'x>>(
+fn hypotheses_of<'x, 'a: 'x, D: Declared<'a>>(
     alloc: Global,
     declared: &D,
     place: usize,
@@ -66,7 +66,7 @@ fn put_in_form(
 
 /// The text of a proof of the theorem at a place of the source, by its steps in the library. None where they denote no tree, or one of over
 /// 16,384 steps.
-pub(crate) fn proof_text<'x, D: Declared<'x>>(
+pub(crate) fn proof_text<'x, 'a: 'x, D: Declared<'a>>(
     alloc: Global,
     keys: RandomState,
     declared: &D,

@@ -1,8 +1,8 @@
 -- What is left to show of `changed_labels`.
-use Rattle.std.proofs.Common.{◌≡◌, ◌∙◌, List, ℕ, [], ◌∷◌, ◌++◌, Some, None, ap, sym, rules}
+use Rattle.std.proofs.Common.{◌≡◌, ◌∙◌, List, [], ◌∷◌, None, ap, sym, rules}
 use Rattle.std.specs.Option.{option_map}
 use Rattle.std.proofs.lemmas.List.{map-append}
-use Rattle.source.specs.Views.{seen_words, seen_pairs}
+use Rattle.source.specs.Views.{seen_pairs}
 use Rattle.giving.specs.Staying.{Change}
 use Rattle.givetext.proofs.Labels.{seen, changed_more, unchanged_more}
 use Rattle.givetext.proofs.following.changed_labels.Goals as goal

@@ -1,5 +1,6 @@
 -- What is left to show of `origins_of`.
-use Rattle.std.proofs.Common.{◌≡◌, ◌<◌, ◌≤◌, ◌++◌, ◌∷◌, [], ℕ, List, Option, Some, None, true, false, get_or, length, ap, sym, subst, refl, ◌∙◌, arith, rules}
+use Rattle.std.proofs.Common.{◌≡◌, ◌∙◌, ◌<◌, ◌≤◌, ◌++◌, ◌∷◌, [], ℕ, List, Some, true, false, get_or, length}
+use Rattle.std.proofs.Common.{ap, sym, subst, refl, arith, rules}
 use Rattle.std.specs.Prelude.{slice_get}
 use Rattle.std.specs.Borrow.{Bor}
 use Rattle.std.specs.Option.{option_map}
@@ -34,10 +35,12 @@ loop-place-preserved g c choice are =
           let same : l.now ≡ x.0.label =
           some_same l.now x.0.label (ap (option_map (λ (x : Bor (List ℕ)). x.now)) (sym w.in-Some.is) ∙ w.label.ensures
           ∙ ap (option_map (λ (y : Assertion). y.label)) x.1) in
-          let many : w.len.result ≡ length (seen_pairs pairs) = omega (arith, w.len.ensures, c.loop-place.pairs.ok.0, length-map pairs seen) in
+          let many : w.len.result ≡ length (seen_pairs pairs) =
+          omega (arith, w.len.ensures, c.loop-place.pairs.ok.0, length-map pairs seen) in
           let there : slice_get library (length (seen_pairs pairs)) ≡ Some a =
           let found = w.in-Some-get.ensures.lookup in
-          subst (λ (n : ℕ). slice_get library n ≡ Some a) many (slice_get_read library (length library) w.len.result a refl found.3.0 found.1) in
+          subst (λ (n : ℕ). slice_get library n ≡ Some a) many
+          (slice_get_read library (length library) w.len.result a refl found.3.0 found.1) in
           let made : seen_pairs c.if-chosen-place.pairs.items ≡ seen_pairs pairs ++ (l.now, a.label) ∷ [] =
           ap (λ v. seen_pairs v.items) w.pairs-is
           ∙ ap seen_pairs w.in_ok-push.ensures.items

@@ -1,5 +1,5 @@
 -- What is left to show of `rename`.
-use Rattle.std.proofs.Common.{◌<◌, length, arith, rules}
+use Rattle.std.proofs.Common.{◌<◌, length, arith}
 use Rattle.std.proofs.lemmas.List.{length-map}
 use Rattle.source.specs.Views.{seen_words}
 use Rattle.library.specs.declared.command.Command.TheVariants.{Rename}
