@@ -22,6 +22,10 @@ reads_are_quiet ps [] = All-nil IsQuiet
 reads_are_quiet [] (t ∷ ts) = All-nil IsQuiet
 reads_are_quiet (p ∷ ps) (t ∷ ts) = All-cons IsQuiet (reads p (Some t)) (reads_of ps ts) tt (reads_are_quiet ps ts)
 
+-- so are events that are reads
+pub are_quiet : (paths texts : List Bytes) (es : List Event) → es ≡ reads_of paths texts → All IsQuiet es
+are_quiet paths texts es is = subst (λ (done : List Event). All IsQuiet done) (sym is) (reads_are_quiet paths texts)
+
 -- one file more
 pub reads_of-behind : (paths texts : List Bytes) (path text : Bytes) → slice_get paths (length texts) ≡ Some path
     → reads_of paths (texts ++ text ∷ []) ≡ reads_of paths texts ++ reads path (Some text) ∷ []

@@ -14,8 +14,8 @@ use Rattle.program.specs.declared.conduct.Unread.TheVariants as unread
 use Rattle.commandline.specs.CommandLine.{program_app}
 use Rattle.program.specs.Events.{Bytes, Event, IsQuiet, reads, says}
 use Rattle.commandline.specs.Orders.{IsOrder}
-use Rattle.program.specs.Conduct.{EndsBy, IsAnswer, IsAnswered, IsFollowed, IsJobAnswered, IsMatched, IsObeyed, IsShown, IsStopped, IsTold, IsUnreadTold, reads_of}
-use Rattle.program.proofs.Behind.{EndsBy-behind, EndsBy-weaker, quiet_nothing, reads_are_quiet}
+use Rattle.program.specs.Conduct.{EndsBy, IsAnswer, IsAnswered, IsFollowed, IsJobAnswered, IsMatched, IsObeyed, IsShown, IsStopped, IsTold, IsUnread, IsUnreadTold, reads_of}
+use Rattle.program.proofs.Behind.{EndsBy-behind, EndsBy-weaker, are_quiet, quiet_nothing}
 
 pub job_answered : {E : Type 0} (paths shown : List Bytes) (history : Option Bytes) (job : Job) (told : Answered) (es : List Event) (r : Result ℕ E)
     → shown ≡ paths → IsAnswer shown job told → EndsBy (IsTold history told) es r → EndsBy (IsJobAnswered paths history job) es r
@@ -33,14 +33,15 @@ pub followed : {E : Type 0} (task : Task) (paths shown : List Bytes) (history : 
     → EndsBy (IsAnswered task paths history texts) rest r → EndsBy (IsFollowed task paths history) (es ++ rest) r
 followed task paths shown history texts es rest r same many is ends =
     EndsBy-behind (IsAnswered task paths history texts) (IsFollowed task paths history) es rest r
-    (subst (λ (done : List Event). All IsQuiet done) (sym is) (reads_are_quiet shown texts))
+    (are_quiet shown texts es is)
     (λ status answered. inr (texts, rest, many ∙ ap length same, ap (λ (f : List Event). f ++ rest) (is ∙ ap (λ (ps : List Bytes). reads_of ps texts) same), answered))
     ends
 
-pub untold : {E : Type 0} (task : Task) (paths shown : List Bytes) (history : Option Bytes) (texts : List Bytes) (u : Unread) (es fs : List Event)
-    (r : Result ℕ E) → shown ≡ paths → IsStopped shown texts es u → IsUnreadTold u fs r → EndsBy (IsFollowed task paths history) (es ++ fs) r
-untold task paths shown history texts (unread.File path) es fs (Ok status) same read told =
-    let line = says (path.now ++ codes ": cannot read") in inl (
+-- the line that says which file can't be read
+pub unread_told : {E : Type 0} (paths shown texts : List Bytes) (u : Unread) (es fs : List Event) (r : Result ℕ E) → shown ≡ paths
+    → IsStopped shown texts es u → IsUnreadTold u fs r → EndsBy (IsUnread paths) (es ++ fs) r
+unread_told paths shown texts (unread.File path) es fs (Ok status) same read told =
+    let line = says (path.now ++ codes ": cannot read") in (
       texts,
       path.now,
       subst (λ (ps : List Bytes). slice_get ps (length texts) ≡ Some path.now) same read.0,
@@ -49,10 +50,16 @@ untold task paths shown history texts (unread.File path) es fs (Ok status) same 
           ∙ ap (λ (ps : List Bytes). reads_of ps texts ++ (reads path.now None ∷ line ∷ [])) same)),
       told.1,
     )
-untold task paths shown history texts (unread.File path) es fs (Err e) same read told = absurd told
-untold task paths shown history texts unread.NoMemory es fs (Ok status) same read told = absurd told
-untold task paths shown history texts unread.NoMemory es fs (Err e) same read told =
+unread_told paths shown texts (unread.File path) es fs (Err e) same read told = absurd told
+unread_told paths shown texts unread.NoMemory es fs (Ok status) same read told = absurd told
+unread_told paths shown texts unread.NoMemory es fs (Err e) same read told =
     All-append IsQuiet es fs read (subst (λ (f : List Event). All IsQuiet f) (sym told) quiet_nothing)
+
+pub untold : {E : Type 0} (task : Task) (paths shown : List Bytes) (history : Option Bytes) (texts : List Bytes) (u : Unread) (es fs : List Event)
+    (r : Result ℕ E) → shown ≡ paths → IsStopped shown texts es u → IsUnreadTold u fs r → EndsBy (IsFollowed task paths history) (es ++ fs) r
+untold task paths shown history texts u es fs r same read told =
+    EndsBy-weaker (IsUnread paths) (IsFollowed task paths history) (es ++ fs) r (λ status is. inl is)
+    (unread_told paths shown texts u es fs r same read told)
 
 pub ordered : {E : Type 0} (found : Option (Text × List Row)) (task : Task) (paths : List Bytes) (history : Option Bytes) (es : List Event)
     (r : Result ℕ E) → IsOrder found task paths history → EndsBy (IsFollowed task paths history) es r → EndsBy (IsMatched found) es r

@@ -1,10 +1,11 @@
 //! How a command line is done: its files are read, its job is answered, and the answer is told.
 
 ghost use Rattle.std.specs.Prelude.{◌≡◌, ◌≢◌, ◌∷◌, [], List, Some, map, option_map, string_bytes};
+ghost use Rattle.checking.specs.declared.task.Task.{Task};
 ghost use Rattle.clap.specs.Words.{kind_of, subcommand_rows_of};
 ghost use Rattle.jobs.specs.Jobs.{AreWithin};
 ghost use Rattle.program.specs.Events.{Event, Adds, says};
-ghost use Rattle.commandline.specs.Orders.{AsksWithin};
+ghost use Rattle.commandline.specs.Orders.{AsksFor, AsksWithin};
 ghost use Rattle.program.specs.Conduct.{IsPrinted, IsWritten, IsTold, IsReadBehind, AreRead, IsUnreadTold, IsJobAnswered, IsAnswered, IsFollowed, IsShown, IsMatched, IsObeyed, EndsBy, Obeys};
 
 use crate::give::follow_give;

@@ -45,7 +45,11 @@ fn answer_given<R: Threads + Sync, W: World, F: Follow>(
         library: order.library,
         history: order.history,
     };
-    let (source, library, history) = (texts[0].as_slice(), texts[1].as_slice(), texts[2].as_slice());
+    let (source, library, history) = (
+        texts[0].as_slice(),
+        texts[1].as_slice(),
+        texts[2].as_slice(),
+    );
     match answer_give(rt, alloc, keys, paths, source, library, history, follow) {
         Ok(told) => Ok(tell_given(world, &told)),
         Err(_) => Err(AllocError),
@@ -62,11 +66,11 @@ pub(crate) fn follow_give<R: Threads + Sync, W: World, F: Follow>(
     follow: &F,
 ) -> Result<u8, AllocError>
     ensures { (es : List Event) × Adds (W.done world.old) (W.done world.new) es
-        × EndsBy (IsGiveDone order.source.now order.library.now order.history.now) es result }
+        × EndsBy (IsGiveDone order.entry.source.now order.entry.library.now order.entry.history.now) es result }
 {
     let paths = [order.source, order.library, order.history];
     let mut texts = Vec::new(alloc);
-    if let Err(unread) = read_all(world, alloc, paths.as_slice(), &mut texts) {
+    if let Err(unread) = read_all(world, alloc, &paths, &mut texts) {
         return tell_unread(world, unread);
     }
     answer_given(rt, alloc, world, keys, order, texts.as_slice(), follow)

@@ -1,0 +1,29 @@
+use Rattle.std.proofs.Common.{◌++◌, ℕ, map}
+use Rattle.std.specs.Prelude.{Vec}
+use Rattle.std.specs.declared.alloc.Global.{Global}
+use Rattle.program.proofs.Behind.{adds_more}
+use Rattle.program.proofs.GivenBack.{given_done, unread_given}
+use Rattle.program.proofs.give.follow_give.Goals as goal
+
+pub returns-in-Err : goal.returns-in-Err
+returns-in-Err g c =
+    let read = c.in-Err.ensures in
+    let told = c.tell_unread.ensures in
+    let order = c.args.order in
+    let texts = map (λ (t : Vec ℕ Global). t.items) c.read_all.new.texts.items in (
+      read.0 ++ told.0,
+      adds_more read.1 told.1,
+      unread_given order.source.now order.library.now order.history.now texts c.in-Err.unread read.0 told.0 c.tell_unread.result read.2 told.2,
+    )
+
+pub returns : goal.returns
+returns g c =
+    let read = c.in_default.ensures in
+    let rest = c.answer_given.ensures in
+    let order = c.args.order in
+    let texts = map (λ (t : Vec ℕ Global). t.items) c.read_all.new.texts.items in (
+      read.0 ++ rest.0,
+      adds_more read.1 rest.1,
+      given_done order.source.now order.library.now order.history.now texts read.0 rest.0 c.answer_given.result read.2.1
+          (rw c.as_slice.ensures.value at rest.2),
+    )
