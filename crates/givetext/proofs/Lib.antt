@@ -1,6 +1,8 @@
-pub mod Appended
-pub mod Orders
-mod Labels
-mod Origins
-mod OwnFlags
-mod EditedTexts
+pub mod Labels
+pub mod Origins
+pub mod Marks
+pub mod Histories
+pub mod Others
+pub mod Floats
+pub mod Looked
+pub mod Writing

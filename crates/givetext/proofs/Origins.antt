@@ -1,16 +1,20 @@
 -- Chosen assertions beside those of a library, one more at a time.
-use Rattle.std.proofs.Common.{◌≡◌, ◌∙◌, ℕ, ◌+◌, ◌<◌, ◌≤◌, Bool, true, false, List, [], ◌∷◌, ◌++◌, map, filter, take, drop}
-use Rattle.std.proofs.Common.{get_or, length, Some, refl, sym, ap, arith, cond, subst, inl, inr}
+use Rattle.std.proofs.Common.{◌≡◌, ◌∙◌, ℕ, ◌+◌, ◌<◌, ◌≤◌, Bool, true, false, List, [], ◌∷◌, ◌++◌, map, filter, take, drop, get_or, length, Option, Some, refl, sym, ap, arith, cond, subst, inl, inr}
 use Rattle.std.specs.Prelude.{slice_get}
+use Rattle.std.specs.Borrow.{Bor}
 use Rattle.std.specs.List.{zip}
 use Rattle.std.specs.Option.{option_map}
 use Rattle.std.proofs.lemmas.List.{map-append, append-nil, length-append, length-map, take-append-drop, get_or-map}
 use Rattle.std.proofs.lemmas.List.Elements.{filter_more, filter-append}
-use Rattle.std.proofs.lemmas.Option.{slice_get-map, slice_get_within, slice_get_cases, get_or_from_slice_get}
+use Rattle.std.proofs.lemmas.Option.{slice_get-map, slice_get_within, slice_get_cases, get_or_from_slice_get, same_Some}
 use Rattle.mmtext.specs.Words.{Word}
 use Rattle.mmsyntax.specs.declared.statement.Assertion.{Assertion as Unit'}
 use Rattle.source.specs.Scopes.{Assertion, Pair, is_in}
 use Rattle.taking.specs.Reasons.{Choice}
+
+-- a pair of words of texts
+abbrev pub seen : Bor (List ℕ) × Bor (List ℕ) → Pair
+seen p = (p.0.now, p.1.now)
 
 -- the labels of those that are chosen
 abbrev pub chosen_among : Choice → List Assertion → List Word
@@ -42,6 +46,13 @@ zip_past (x ∷ ks) more (v ∷ vs) h = ap (λ ps. (x, v) ∷ ps) (zip_past ks m
 pub there_is : (xs : List Assertion) (k : ℕ) → k < length xs → (x : Assertion) × (slice_get xs k ≡ Some x)
 there_is xs k h = elim (slice_get_cases xs k).1 [ inl y ↦ (y.0, y.2) | inr n ↦ absurd (let past : length xs ≤ k = n.0 in omega arith) ]
 
+-- the label that is found at a place is that of the assertion there
+pub label_is : (l : Bor (List ℕ)) (r : Option (Bor (List ℕ))) (x : Assertion) (o : Option Assertion) → r ≡ Some l
+    → option_map (λ w. w.now) r ≡ option_map (λ a. a.label) o → o ≡ Some x → l.now ≡ x.label
+label_is l r x o found says at =
+    same_Some l.now x.label
+    (ap (option_map (λ (w : Bor (List ℕ)). w.now)) (sym found) ∙ says ∙ ap (option_map (λ (a : Assertion). a.label)) at)
+
 -- what is chosen goes on
 chosen_past : (choice : Choice) (i : ℕ) (xs : List Assertion)
     → chosen_among choice xs ≡ chosen_among choice (take i xs) ++ chosen_among choice (drop i xs)
@@ -53,10 +64,10 @@ chosen_past choice i xs =
 
 module _ (choice : Choice) (xs : List Assertion) (flags : List Bool) (i : ℕ) (x : Assertion) (there : slice_get xs i ≡ Some x)
     (are : map (λ (x : Assertion). is_in choice.chosen x.label) xs ≡ flags) where
-  pub flag_is : (d : Bool) → get_or flags i d ≡ is_in choice.chosen x.label
-  flag_is d =
-      ap (λ fs. get_or fs i d) (sym are)
-      ∙ get_or-map (λ (x : Assertion). is_in choice.chosen x.label) xs i x d (slice_get_within xs i x there)
+  pub flag_is : get_or flags i false ≡ is_in choice.chosen x.label
+  flag_is =
+      ap (λ fs. get_or fs i false) (sym are)
+      ∙ get_or-map (λ (x : Assertion). is_in choice.chosen x.label) xs i x false (slice_get_within xs i x there)
       ∙ ap (λ (y : Assertion). is_in choice.chosen y.label) (get_or_from_slice_get xs i x x there)
 
   next : (b : Bool) → get_or flags i false ≡ b
@@ -68,7 +79,7 @@ module _ (choice : Choice) (xs : List Assertion) (flags : List Bool) (i : ℕ) (
       ap (map (λ y. y.label)) (filter_more is xs i x (slice_get_within xs i x there))
       ∙ map-append (λ (y : Assertion). y.label) (filter is front) (one (get_or xs i x))
       ∙ ap (λ (y : Assertion). chosen_among choice front ++ map (λ (y : Assertion). y.label) (one y)) (get_or_from_slice_get xs i x x there)
-      ∙ ap (λ (t : Bool). chosen_among choice front ++ map (λ (y : Assertion). y.label) (cond t (x ∷ []) [])) (sym (flag_is false) ∙ flag)
+      ∙ ap (λ (t : Bool). chosen_among choice front ++ map (λ (y : Assertion). y.label) (cond t (x ∷ []) [])) (sym flag_is ∙ flag)
 
   pub paired_more : (library : List Unit') (ps : List Pair) (a : Unit') (w : Word) → get_or flags i false ≡ true → w ≡ x.label
       → slice_get library (length ps) ≡ Some a → ArePaired (chosen_among choice (take i xs)) library ps
@@ -77,9 +88,7 @@ module _ (choice : Choice) (xs : List Assertion) (flags : List Bool) (i : ℕ) (
       let front = chosen_among choice (take i xs) in
       let labels = map (λ (a : Unit'). a.label) library in
       let at_label : slice_get labels (length front) ≡ Some a.label =
-      ap (slice_get labels) before.enough
-      ∙ slice_get-map (λ (a : Unit'). a.label) library (length ps)
-      ∙ ap (option_map (λ (a : Unit'). a.label)) at in
+      ap (slice_get labels) before.enough ∙ slice_get-map (λ (a : Unit'). a.label) library (length ps) ∙ ap (option_map (λ (a : Unit'). a.label)) at in
       let more = next true flag in
       record {
         pairs =

@@ -1,5 +1,8 @@
-pub mod Letters
 pub mod Following
 pub mod Given
-pub mod Parts
 pub mod Answers
+pub mod Views
+pub mod Marked
+pub mod Again
+pub mod Parts
+pub mod Written

@@ -1,23 +1,26 @@
-//! The call `give`: a library is taken of a source again, a history is done over it, and the source is written anew with its edits, and
-//! looked at again.
+//! The call `give`: a library is taken of a source again, a history is done over it, and the source is written anew with its edits, and looked
+//! at again.
 
-ghost use Rattle.std.specs.Prelude.{◌≡◌, List, map, length, IfOk};
+ghost use Rattle.std.specs.Prelude.{◌≡◌, IfOk, OnOk, length, map};
 ghost use Rattle.source.specs.Scopes.{Assertion, is_in};
 ghost use Rattle.source.specs.Sources.{DeclaresText};
 ghost use Rattle.source.specs.Whole.{IsWhole};
 ghost use Rattle.taking.specs.Reasons.{Choice};
-ghost use Rattle.giving.specs.Staying.{Change};
-ghost use Rattle.rewriting.specs.Spans.{IsRewritten};
 ghost use Rattle.checking.specs.Checks.{LeadsTo};
-ghost use Rattle.givetext.specs.Given.{IsTakenText, IsGiven};
+ghost use Rattle.givetext.specs.Following.{all_commands, behind_all, opening};
+ghost use Rattle.givetext.specs.Views.{seen_following};
+ghost use Rattle.givetext.specs.Written.{IsWrittenAnew};
 ghost use Rattle.givetext.specs.Parts.{IsEdited};
+ghost use Rattle.givetext.specs.Given.{IsTakenText, IsGiven};
 
 use crate::again::{Edits, look_again};
-use crate::commands::are_returned;
-use crate::following::{Followed, follow_history};
-use crate::origin::{Origin, origin_of};
+use crate::citing::are_uncited;
+use crate::commands::keep_places;
+use crate::following::{Followed, Following, opening_of};
+use crate::origin::origin_of;
 use crate::own::own_of;
-use crate::planning::{axioms_then, other_proofs};
+use crate::planning::{Planned, axioms_then, edited_by_label, names_of, other_proofs};
+use crate::rearranging::{Rearranged, rearrange};
 use crate::refusal::{File, Refusal, shown};
 use checking::replay_library;
 use giving::Changes;
@@ -84,6 +87,14 @@ fn take_old<'a, D: Declared<'a>>(
     Ok(taken)
 }
 
+/// A history that was done again over a library.
+#[derive(Drop)]
+struct Replayed {
+    entries: History,
+    /// The library behind it.
+    edited: PlainLibrary,
+}
+
 /// The history is done again over the library.
 fn replay_over(
     rt: &(impl Threads + Sync),
@@ -91,11 +102,11 @@ fn replay_over(
     keys: RandomState,
     library: &[u8],
     history: &[u8],
-) -> Result<(History, PlainLibrary), Refusal>
-    ensures { IfOk result (λ r. LeadsTo library.now history.now r.0 r.1) }
+) -> Result<Replayed, Refusal>
+    ensures { IfOk result (λ r. LeadsTo library.now history.now r.entries r.edited) }
 {
     match replay_library(rt, alloc, keys, library, history) {
-        Ok(replayed) => Ok(replayed),
+        Ok((entries, edited)) => Ok(Replayed { entries, edited }),
         Err(fault) => {
             let file = if fault.file() == Some(0) {
                 File::Library
@@ -108,11 +119,11 @@ fn replay_over(
 }
 
 /// The texts of proofs, by the labels of their theorems.
-fn by_label<'p, 'x: 'p>(
+fn by_label<'x>(
     alloc: Global,
     keys: RandomState,
-    proofs: &'p [(&'x [u8], Vec<u8>)],
-) -> Result<Changes<'p>, AllocError> {
+    proofs: &'x [(&'x [u8], Vec<u8>)],
+) -> Result<Changes<'x>, AllocError> {
     let mut pairs = Vec::new(alloc);
     for (label, text) in proofs {
         pairs.push((*label, text.as_slice()))?;
@@ -120,39 +131,107 @@ fn by_label<'p, 'x: 'p>(
     Changes::new(alloc, keys, pairs)
 }
 
-/// The source with changed labels and other proofs.
-fn write_edits(
-    alloc: Global,
-    keys: RandomState,
-    changes: &Changes<'_>,
-    proofs: &[(&[u8], Vec<u8>)],
-    source: &[u8],
-) -> Result<Vec<u8>, AllocError>
-    ensures { IfOk result (λ out. (texts : List Change) × IsRewritten changes.now texts source.now out.items) }
-{
-    let texts = by_label(alloc, keys, proofs)?;
-    rewrite(alloc, changes, &texts, source)
+/// Whether the edits leave a name of the source: its assertion gets another label, or is deleted.
+fn is_left(changes: &Changes<'_>, gone: &[&[u8]], name: &[u8]) -> bool {
+    if changes.text_for(name).is_some() {
+        return true;
+    }
+    for label in gone {
+        if *label == name {
+            return true;
+        }
+    }
+    false
 }
 
-/// No assertion gets a label that is another name of the source, unless that name changes too.
+/// No label changes to another name of the source that stays.
 fn are_free<'a, D: Declared<'a>>(
     alloc: Global,
     declared: &D,
-    followed: &Followed<'_, '_>,
+    following: &Following<'_>,
+    changes: &Changes<'_>,
 ) -> Result<(), Refusal> {
-    for ((old, _), new) in followed.origins.iter().zip(&followed.then) {
-        if new != old && declared.has_name(new) && followed.changes.text_for(new).is_none() {
+    let gone = following.gone.as_slice();
+    for followed in following.living.as_slice() {
+        let new = followed.now;
+        if followed.source.is_some()
+            && followed.is_renamed()
+            && declared.has_name(new)
+            && !is_left(changes, gone, new)
+        {
             let name = shown(new);
-            return Err(Refusal::Text(
-                File::History,
-                format!(in alloc; "{name} is a name of the source already")?,
-            ));
+            let why = format!(in alloc; "{name} is a name of the source already")?;
+            return Err(Refusal::Text(File::History, why));
         }
     }
     Ok(())
 }
 
-/// The source with the edits of a history over a library that was taken of it, which lead to another. It is looked at again.
+/// What becomes of the assertions of a library that was taken of a source.
+fn follow_edits<'x, 'a: 'x, D: Declared<'a>>(
+    alloc: Global,
+    declared: &D,
+    taken: &'x Taken<'a>,
+    entries: &'x [Entry],
+) -> Result<Following<'x>, AllocError>
+    requires { length taken.now.chosen.items ≡ length (D.scope declared.now).assertions }
+    ensures { (choice : Choice) → map (λ (x : Assertion). is_in choice.chosen x.label) (D.scope declared.now).assertions ≡ taken.now.chosen.items
+        → IfOk result (λ made. seen_following made ≡ behind_all (all_commands entries.now) (opening (D.scope declared.now) choice taken.now.database)) }
+{
+    let mut following = opening_of(alloc, declared, taken.chosen.as_slice(), &taken.database)?;
+    following.follow(alloc, entries)?;
+    Ok(following)
+}
+
+/// The source with the edits, before it is looked at again.
+fn write_edits<'e, 'x: 'e, 'a: 'x, D: Declared<'a>>(
+    alloc: Global,
+    keys: RandomState,
+    declared: &D,
+    source: &'e [u8],
+    taken: &'e Taken<'a>,
+    replayed: &'e Replayed,
+    following: &'e Following<'x>,
+    changes: &'e Changes<'x>,
+) -> Result<Vec<u8>, Refusal>
+    ensures { IfOk result (λ out. IsWrittenAnew (all_commands replayed.now.entries) changes.now source.now out.items) }
+{
+    let planned = Planned {
+        database: &taken.database,
+        names: taken.names.as_slice(),
+        edited: &replayed.edited,
+        living: following.living.as_slice(),
+    };
+    let edited = edited_by_label(alloc, keys, replayed.edited.entries())?;
+    let names = names_of(alloc, keys, declared, &edited, &planned)?;
+    let proofs = other_proofs(alloc, keys, declared, &edited, &names, &planned)?;
+    let proofs = by_label(alloc, keys, proofs.as_slice())?;
+    if keep_places(replayed.entries.as_slice()) {
+        return Ok(rewrite(alloc, changes, &proofs, source)?);
+    }
+    let edits = Rearranged {
+        planned,
+        gone: following.gone.as_slice(),
+        edited: &edited,
+        names: &names,
+        changes,
+        proofs: &proofs,
+    };
+    rearrange(alloc, keys, declared, source, &edits)
+}
+
+/// The labels in the source then of the edited library's axioms.
+fn axioms_of<'x>(
+    alloc: Global,
+    keys: RandomState,
+    living: &[Followed<'x>],
+    edited: &'x PlainLibrary,
+) -> Result<Vec<&'x [u8]>, AllocError> {
+    let by_now = edited_by_label(alloc, keys, edited.entries())?;
+    axioms_then(alloc, &by_now, living)
+}
+
+/// The source with the edits of a history that was done again over a library which was taken of it. It is looked at again.
 fn give_edits<'x, 'a: 'x>(
     rt: &(impl Threads + Sync),
     alloc: Global,
@@ -160,25 +239,28 @@ fn give_edits<'x, 'a: 'x>(
     old: &Scopes<'a>,
     source: &[u8],
     taken: &'x Taken<'a>,
-    entries: &'x [Entry],
-    edited: &'x PlainLibrary,
+    replayed: &'x Replayed,
 ) -> Result<Vec<u8>, Refusal>
     requires { length taken.now.chosen.items ≡ length old.now.stand.scope.assertions }
-    ensures { (choice : Choice)
-        → map (λ (x : Assertion). is_in choice.chosen x.label) old.now.stand.scope.assertions ≡ taken.now.chosen.items
-        → IfOk result (λ out. IsEdited source.now old.now.stand.scope choice taken.now entries.now edited.now out.items) }
+    ensures { (choice : Choice) → map (λ (x : Assertion). is_in choice.chosen x.label) old.now.stand.scope.assertions ≡ taken.now.chosen.items
+        → IfOk result (λ out. IsEdited source.now old.now.stand.scope choice taken.now replayed.now.entries replayed.now.edited out.items) }
 {
-    let followed = follow_history(alloc, keys, old, taken, entries)?;
-    are_free(alloc, old, &followed)?;
-    let axioms = axioms_then(alloc, keys, edited, &followed)?;
-    let proofs = other_proofs(alloc, keys, old, taken, edited, &followed)?;
-    let out = write_edits(alloc, keys, &followed.changes, proofs.as_slice(), source)?;
+    let following = follow_edits(alloc, old, taken, replayed.entries.as_slice())?;
+    let changes = Changes::new(alloc, keys, following.changes(alloc)?)?;
+    are_free(alloc, old, &following, &changes)?;
     let own = own_of(alloc, keys, old, taken)?;
+    are_uncited(alloc, keys, old, own.as_slice(), following.gone.as_slice())?;
+    let out = write_edits(
+        alloc, keys, old, source, taken, replayed, &following, &changes,
+    )?;
+    let then = following.labels_then(alloc)?;
+    let axioms = axioms_of(alloc, keys, following.living.as_slice(), &replayed.edited)?;
     let edits = Edits {
-        followed: &followed,
+        changes: &changes,
         own: own.as_slice(),
+        then: then.as_slice(),
         axioms: axioms.as_slice(),
-        edited,
+        edited: &replayed.edited,
     };
     look_again(rt, alloc, keys, old, out.as_slice(), edits)?;
     Ok(out)
@@ -200,16 +282,6 @@ pub(crate) fn give(
     // For the proof: what is read is whole.
     sources_are_whole();
     let taken = take_old(rt, alloc, keys, &old, source, library, follow)?;
-    let (entries, edited) = replay_over(rt, alloc, keys, library, history)?;
-    are_returned(alloc, entries.as_slice())?;
-    give_edits(
-        rt,
-        alloc,
-        keys,
-        &old,
-        source,
-        &taken,
-        entries.as_slice(),
-        &edited,
-    )
+    let replayed = replay_over(rt, alloc, keys, library, history)?;
+    give_edits(rt, alloc, keys, &old, source, &taken, &replayed)
 }

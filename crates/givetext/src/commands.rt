@@ -1,49 +1,46 @@
-//! Which commands of a history can't be given back.
+//! Whether the commands of a history change nothing but labels and proofs.
 
-use crate::refusal::{File, Refusal};
+ghost use Rattle.std.specs.Prelude.{◌↔◌, All, IsTrue};
+ghost use Rattle.givetext.specs.Following.{KeepsPlaces, all_commands};
+
 use library::{Command, Entry};
-use std::alloc::Global;
 
-/// What a command does that isn't given back. None of what is.
-fn unreturned(command: &Command) -> Option<&'static str> {
+/// Whether a command changes nothing but labels and proofs.
+fn keeps_places(command: &Command) -> bool
+    ensures { IsTrue result ↔ KeepsPlaces command.now }
+{
     match command {
-        Command::Add { .. } => Some("adds"),
-        Command::Move { .. } => Some("moves"),
-        Command::Delete { .. } => Some("deletes"),
+        Command::Add { .. } | Command::Move { .. } | Command::Delete { .. } => false,
         Command::Reprove { .. }
         | Command::Replace { .. }
         | Command::Rename { .. }
         | Command::Show { .. }
-        | Command::List => None,
+        | Command::List => true,
     }
 }
 
-/// What the commands of a transaction do that isn't given back: the first of it.
-fn first_unreturned(commands: &[Command]) -> Option<&'static str> {
+/// Whether no command of a transaction adds, moves or deletes.
+fn all_keep_places(commands: &[Command]) -> bool
+    ensures { IsTrue result ↔ All KeepsPlaces commands.now }
+{
     for command in commands {
-        if let Some(what) = unreturned(command) {
-            return Some(what);
+        if !keeps_places(command) {
+            return false;
         }
     }
-    None
+    true
 }
 
-/// Each command of a history is one that is given back.
-///
-/// # Errors
-///
-/// The first entry, counted from 1, that adds, moves or deletes an assertion.
-pub(crate) fn are_returned(alloc: Global, entries: &[Entry]) -> Result<(), Refusal> {
-    for (k, entry) in entries.iter().enumerate() {
+/// Whether no command of a history adds, moves or deletes.
+pub(crate) fn keep_places(entries: &[Entry]) -> bool
+    ensures { IsTrue result ↔ All KeepsPlaces (all_commands entries.now) }
+{
+    for entry in entries {
         if let Entry::Done { commands, .. } = entry
-            && let Some(what) = first_unreturned(commands.as_slice())
+            && !all_keep_places(commands.as_slice())
         {
-            let number = k + 1;
-            let why = format!(in alloc;
-                "entry {number} {what}: only renames and other proofs are given back"
-            )?;
-            return Err(Refusal::Text(File::History, why));
+            return false;
         }
     }
-    Ok(())
+    true
 }

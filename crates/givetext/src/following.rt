@@ -1,202 +1,268 @@
-//! The labels of a library's assertions behind the edits of a history, and those in the source.
+//! The assertions of a library behind the edits of a history, and their labels in the source.
 
-ghost use Rattle.std.specs.Prelude.{◌≡◌, List, map, IfOk, length};
+ghost use Rattle.std.specs.Prelude.{◌≡◌, ◌++◌, ◌∷◌, [], map, filter, filter_map, length, IfOk, OnOk};
 ghost use Rattle.std.specs.Option.{option_map};
-ghost use Rattle.source.specs.Views.{seen_words, seen_pairs};
+ghost use Rattle.std.specs.Str.{bytes_eq};
+ghost use mathlib.Core.Bool.{not};
 ghost use Rattle.source.specs.Scopes.{Assertion, is_in};
+ghost use Rattle.source.specs.Views.{seen_words, seen_pairs};
 ghost use Rattle.taking.specs.Reasons.{Choice};
-ghost use Rattle.library.specs.declared.command.Command.{Command as CommandOf};
-ghost use Rattle.givetext.specs.Parts.{IsFollowed};
-ghost use Rattle.givetext.specs.Following.{label_behind, label_behind_all, commands_of, all_commands};
-ghost use Rattle.givetext.specs.Following.{origins, change_to, changes_by, label_then, labels_then};
+ghost use Rattle.givetext.specs.Following.{renamed, ranked, source_of, added, behind, behind_all, all_commands, opening, label_then};
+ghost use Rattle.givetext.specs.Following.{change_of, changes_of};
+ghost use Rattle.givetext.specs.Views.{seen_followed, seen_living, seen_following};
 
-use giving::Changes;
-use intake::Taken;
 use library::{Command, Entry};
 use mmsyntax::Database;
 use source::Declared;
 use std::alloc::{AllocError, Global};
-use std::hash::RandomState;
 
-/// The labels of a library's assertions, and what becomes of them by the edits of a history, in the order of the assertions at the opening.
-#[derive(Drop)]
-pub(crate) struct Followed<'x, 'a> {
-    /// The assertions at the opening, by their labels in the source and in the library.
-    pub origins: Vec<(&'a [u8], &'x [u8])>,
-    /// Their labels behind the edits.
-    pub labels: Vec<&'x [u8]>,
-    /// Their labels in the source then.
-    pub then: Vec<&'x [u8]>,
-    /// The labels of the source that change, with their new ones.
-    pub changes: Changes<'x>,
+/// An assertion of a library.
+#[derive(Clone, Copy)]
+pub(crate) struct Followed<'h> {
+    /// Its label in the source: none of one that was added.
+    pub source: Option<&'h [u8]>,
+    /// Its label when it came in.
+    pub first: &'h [u8],
+    /// Its label now.
+    pub now: &'h [u8],
+    /// Whether it was given another rank.
+    pub moved: bool,
 }
 
-/// The assertions of a library by their labels in the source, and in the library: the chosen ones, in their order.
-fn origins_of<'a, 'x, D: Declared<'a>>(
+impl<'h> Followed<'h> {
+    /// Behind the rename of an assertion.
+    fn renamed(mut self, old: &[u8], new: &'h [u8]) -> Followed<'h>
+        ensures { seen_followed result ≡ renamed old.now new.now (seen_followed self.entry) }
+    {
+        if self.now == old {
+            self.now = new;
+        }
+        self
+    }
+
+    /// Behind the move of an assertion.
+    fn ranked(mut self, label: &[u8]) -> Followed<'h>
+        ensures { seen_followed result ≡ ranked label.now (seen_followed self.entry) }
+    {
+        if self.now == label {
+            self.moved = true;
+        }
+        self
+    }
+
+    /// Whether its label changed.
+    pub(crate) fn is_renamed(&self) -> bool
+        ensures { result ≡ not (bytes_eq self.entry.now.now.now self.entry.now.first.now) }
+    {
+        self.now != self.first
+    }
+
+    /// Its label in the source then.
+    pub(crate) fn label_then(&self) -> &'h [u8]
+        ensures { result.now ≡ label_then (seen_followed self.entry.now) }
+    {
+        match self.source {
+            Some(label) if !self.is_renamed() => label,
+            _ => self.now,
+        }
+    }
+
+    /// The label of the source that changes, with its new one.
+    fn change(&self) -> Option<(&'h [u8], &'h [u8])>
+        ensures { option_map (λ p. (p.0.now, p.1.now)) result ≡ change_of (seen_followed self.entry.now) (seen_followed self.entry.now).source }
+    {
+        match self.source {
+            Some(label) if self.is_renamed() => Some((label, self.now)),
+            _ => None,
+        }
+    }
+}
+
+/// What becomes of the assertions of a library.
+#[derive(Drop)]
+pub(crate) struct Following<'h> {
+    /// Those that live: first those of the opening, in their order.
+    pub living: Vec<Followed<'h>>,
+    /// The labels in the source of those that were deleted.
+    pub gone: Vec<&'h [u8]>,
+}
+
+/// The assertions of a library as it was taken: they are the chosen ones, in their order.
+fn opened<'h, 'a: 'h, D: Declared<'a>>(
     alloc: Global,
     declared: &D,
     chosen: &[bool],
-    database: &'x Database,
-) -> Result<Vec<(&'a [u8], &'x [u8])>, AllocError>
+    database: &'h Database,
+) -> Result<Vec<Followed<'h>>, AllocError>
     requires { length chosen.now ≡ length (D.scope declared.now).assertions }
     ensures { (choice : Choice) → map (λ (x : Assertion). is_in choice.chosen x.label) (D.scope declared.now).assertions ≡ chosen.now
-        → IfOk result (λ made. seen_pairs made.items ≡ origins (D.scope declared.now) choice database.now) }
+        → IfOk result (λ made. seen_living made.items ≡ (opening (D.scope declared.now) choice database.now).living) }
 {
-    let mut pairs = Vec::new(alloc);
+    let mut living = Vec::new(alloc);
     let assertions = database.assertions();
     for place in 0..declared.assertions() {
         if chosen[place] {
             let Some(label) = declared.label(place) else {
                 unreachable!()
             };
-            let Some(assertion) = assertions.get(pairs.len()) else {
-                return Ok(pairs);
+            let Some(assertion) = assertions.get(living.len()) else {
+                return Ok(living);
             };
-            pairs.push((label, assertion.label.as_slice()))?;
+            let first = assertion.label.as_slice();
+            living.push(Followed {
+                source: Some(label),
+                first,
+                now: first,
+                moved: false,
+            })?;
         }
     }
-    Ok(pairs)
+    Ok(living)
 }
 
-/// A label behind a rename.
-fn renamed<'h>(label: &'h [u8], old: &[u8], new: &'h [u8]) -> &'h [u8]
-    ensures { result.now ≡ label_behind (Command.Rename old.now new.now) label.now }
-{
-    if label == old { new } else { label }
-}
-
-/// Labels behind a rename.
-fn rename<'h>(labels: &mut [&'h [u8]], old: &[u8], new: &'h [u8])
-    ensures { seen_words labels.new ≡ map (label_behind (Command.Rename old.now new.now)) (seen_words labels.old) }
-{
-    for label in labels.iter_mut() {
-        *label = renamed(label, old, new);
-    }
-}
-
-/// Labels behind a command.
-fn follow_command<'h>(labels: &mut [&'h [u8]], command: &'h Command)
-    ensures { seen_words labels.new ≡ map (label_behind command.now) (seen_words labels.old) }
-{
-    if let Command::Rename { old, new } = command {
-        rename(labels, old.as_slice(), new.as_slice());
-    }
-}
-
-/// Labels behind the commands of a transaction.
-fn follow_all<'h>(labels: &mut [&'h [u8]], commands: &'h [Command])
-    ensures { seen_words labels.new ≡ map (label_behind_all commands.now) (seen_words labels.old) }
-{
-    for command in commands {
-        follow_command(labels, command);
-    }
-}
-
-/// Labels behind an entry of a history.
-fn follow_entry<'h>(labels: &mut [&'h [u8]], entry: &'h Entry)
-    ensures { seen_words labels.new ≡ map (label_behind_all (commands_of entry.now)) (seen_words labels.old) }
-{
-    if let Entry::Done { commands, .. } = entry {
-        follow_all(labels, commands.as_slice());
-    }
-}
-
-/// The labels of the library's assertions behind a history, in their order at the opening.
-fn labels_behind<'x>(
+/// A library as it was taken.
+pub(crate) fn opening_of<'h, 'a: 'h, D: Declared<'a>>(
     alloc: Global,
-    origins: &[(&[u8], &'x [u8])],
-    entries: &'x [Entry],
-) -> Result<Vec<&'x [u8]>, AllocError>
-    ensures { IfOk result (λ made. seen_words made.items
-        ≡ map (λ p. label_behind_all (all_commands entries.now) p.1) (seen_pairs origins.now)) }
-{
-    let mut labels = Vec::new(alloc);
-    for (_, label) in origins {
-        labels.push(*label)?;
-    }
-    for entry in entries {
-        follow_entry(labels.as_mut_slice(), entry);
-    }
-    Ok(labels)
-}
-
-/// The change of a label of the source, where that in the library is another one now.
-fn change_to<'h>(now: &'h [u8], origin: (&'h [u8], &'h [u8])) -> Option<(&'h [u8], &'h [u8])>
-    ensures { option_map (λ p. (p.0.now, p.1.now)) result ≡ change_to now.now (origin.entry.0.now, origin.entry.1.now) }
-{
-    let (source, library) = origin;
-    if now == library {
-        None
-    } else {
-        Some((source, now))
-    }
-}
-
-/// The labels of the source that change, with their new ones.
-fn changed_labels<'x, 'a: 'x>(
-    alloc: Global,
-    origins: &[(&'a [u8], &'x [u8])],
-    labels: &[&'x [u8]],
-) -> Result<Vec<(&'x [u8], &'x [u8])>, AllocError>
-    requires { length labels.now ≡ length origins.now }
-    ensures { (cs : List CommandOf) → seen_words labels.now ≡ map (λ p. label_behind_all cs p.1) (seen_pairs origins.now)
-        → IfOk result (λ made. seen_pairs made.items ≡ changes_by cs (seen_pairs origins.now)) }
-{
-    let mut changes = Vec::new(alloc);
-    for (k, origin) in origins.iter().enumerate() {
-        if let Some(change) = change_to(labels[k], *origin) {
-            changes.push(change)?;
-        }
-    }
-    Ok(changes)
-}
-
-/// The label in the source then, by that in the library.
-fn label_then<'h>(now: &'h [u8], origin: (&'h [u8], &'h [u8])) -> &'h [u8]
-    ensures { result.now ≡ label_then now.now (origin.entry.0.now, origin.entry.1.now) }
-{
-    let (source, library) = origin;
-    if now == library { source } else { now }
-}
-
-/// The labels of the library's assertions in the source then.
-fn labels_in_source<'x, 'a: 'x>(
-    alloc: Global,
-    origins: &[(&'a [u8], &'x [u8])],
-    labels: &[&'x [u8]],
-) -> Result<Vec<&'x [u8]>, AllocError>
-    requires { length labels.now ≡ length origins.now }
-    ensures { (cs : List CommandOf) → seen_words labels.now ≡ map (λ p. label_behind_all cs p.1) (seen_pairs origins.now)
-        → IfOk result (λ made. seen_words made.items ≡ labels_then cs (seen_pairs origins.now)) }
-{
-    let mut then = Vec::new(alloc);
-    for (k, origin) in origins.iter().enumerate() {
-        then.push(label_then(labels[k], *origin))?;
-    }
-    Ok(then)
-}
-
-/// What becomes of the labels of a library that was taken of a source.
-pub(crate) fn follow_history<'x, 'a: 'x, D: Declared<'a>>(
-    alloc: Global,
-    keys: RandomState,
     declared: &D,
-    taken: &'x Taken<'a>,
-    entries: &'x [Entry],
-) -> Result<Followed<'x, 'a>, AllocError>
-    requires { length taken.now.chosen.items ≡ length (D.scope declared.now).assertions }
-    ensures { (choice : Choice)
-        → map (λ (x : Assertion). is_in choice.chosen x.label) (D.scope declared.now).assertions ≡ taken.now.chosen.items
-        → IfOk result (IsFollowed (D.scope declared.now) choice taken.now.database entries.now) }
+    chosen: &[bool],
+    database: &'h Database,
+) -> Result<Following<'h>, AllocError>
+    requires { length chosen.now ≡ length (D.scope declared.now).assertions }
+    ensures { (choice : Choice) → map (λ (x : Assertion). is_in choice.chosen x.label) (D.scope declared.now).assertions ≡ chosen.now
+        → IfOk result (λ made. seen_following made ≡ opening (D.scope declared.now) choice database.now) }
 {
-    let origins = origins_of(alloc, declared, taken.chosen.as_slice(), &taken.database)?;
-    let labels = labels_behind(alloc, origins.as_slice(), entries)?;
-    let then = labels_in_source(alloc, origins.as_slice(), labels.as_slice())?;
-    let changed = changed_labels(alloc, origins.as_slice(), labels.as_slice())?;
-    Ok(Followed {
-        origins,
-        labels,
-        then,
-        changes: Changes::new(alloc, keys, changed)?,
+    Ok(Following {
+        living: opened(alloc, declared, chosen, database)?,
+        gone: Vec::new(alloc),
     })
+}
+
+/// Assertions behind a rename.
+fn rename<'h>(living: &mut [Followed<'h>], old: &[u8], new: &'h [u8])
+    ensures { seen_living living.new ≡ map (renamed old.now new.now) (seen_living living.old) }
+{
+    for followed in living.iter_mut() {
+        *followed = followed.renamed(old, new);
+    }
+}
+
+/// Assertions behind a move.
+fn rank(living: &mut [Followed<'_>], label: &[u8])
+    ensures { seen_living living.new ≡ map (ranked label.now) (seen_living living.old) }
+{
+    for followed in living.iter_mut() {
+        *followed = followed.ranked(label);
+    }
+}
+
+/// The assertions that are left behind a deletion. The label in the source of what is deleted goes behind those that are gone.
+fn delete<'h>(
+    alloc: Global,
+    living: &[Followed<'h>],
+    gone: &mut Vec<&'h [u8]>,
+    label: &[u8],
+) -> Result<Vec<Followed<'h>>, AllocError>
+    ensures left { IfOk result (λ left. seen_living left.items ≡ filter (λ x. not (bytes_eq x.now label.now)) (seen_living living.now)) }
+    ensures gone { OnOk result (seen_words gone.new.items
+        ≡ seen_words gone.old.items ++ filter_map (source_of label.now) (seen_living living.now)) }
+{
+    let mut left = Vec::with_capacity(alloc, living.len())?;
+    for followed in living {
+        if followed.now != label {
+            left.push(*followed)?;
+        } else if let Some(source) = followed.source {
+            gone.push(source)?;
+        }
+    }
+    Ok(left)
+}
+
+impl<'h> Following<'h> {
+    /// One is added.
+    fn add(&mut self, label: &'h [u8]) -> Result<(), AllocError>
+        ensures { OnOk result (seen_following self.new
+            ≡ record (seen_following self.old) { living = (seen_following self.old).living ++ added label.now ∷ [] }) }
+    {
+        self.living.push(Followed {
+            source: None,
+            first: label,
+            now: label,
+            moved: false,
+        })?;
+        Ok(())
+    }
+
+    /// Behind a command.
+    fn take(&mut self, alloc: Global, command: &'h Command) -> Result<(), AllocError>
+        ensures { OnOk result (seen_following self.new ≡ behind command.now (seen_following self.old)) }
+    {
+        match command {
+            Command::Add { assertion, .. } => self.add(assertion.label.as_slice())?,
+            Command::Rename { old, new } => rename(
+                self.living.as_mut_slice(),
+                old.as_slice(),
+                new.as_slice(),
+            ),
+            Command::Move { label, .. } => rank(self.living.as_mut_slice(), label.as_slice()),
+            Command::Delete { label } => {
+                self.living = delete(
+                    alloc,
+                    self.living.as_slice(),
+                    &mut self.gone,
+                    label.as_slice(),
+                )?;
+            }
+            Command::Reprove { .. }
+            | Command::Replace { .. }
+            | Command::Show { .. }
+            | Command::List => {}
+        }
+        Ok(())
+    }
+
+    /// Behind the commands of a transaction.
+    fn take_all(&mut self, alloc: Global, commands: &'h [Command]) -> Result<(), AllocError>
+        ensures { OnOk result (seen_following self.new ≡ behind_all commands.now (seen_following self.old)) }
+    {
+        for command in commands {
+            self.take(alloc, command)?;
+        }
+        Ok(())
+    }
+
+    /// Behind a history.
+    pub(crate) fn follow(&mut self, alloc: Global, entries: &'h [Entry]) -> Result<(), AllocError>
+        ensures { OnOk result (seen_following self.new ≡ behind_all (all_commands entries.now) (seen_following self.old)) }
+    {
+        for entry in entries {
+            if let Entry::Done { commands, .. } = entry {
+                self.take_all(alloc, commands.as_slice())?;
+            }
+        }
+        Ok(())
+    }
+
+    /// The labels of the source that change, with their new ones.
+    pub(crate) fn changes(&self, alloc: Global) -> Result<Vec<(&'h [u8], &'h [u8])>, AllocError>
+        ensures { IfOk result (λ made. seen_pairs made.items ≡ changes_of (seen_following self.now)) }
+    {
+        let mut changes = Vec::new(alloc);
+        for followed in self.living.as_slice() {
+            if let Some(change) = followed.change() {
+                changes.push(change)?;
+            }
+        }
+        Ok(changes)
+    }
+
+    /// The labels of those that live in the source then.
+    pub(crate) fn labels_then(&self, alloc: Global) -> Result<Vec<&'h [u8]>, AllocError>
+        ensures { IfOk result (λ made. seen_words made.items ≡ map label_then (seen_following self.now).living) }
+    {
+        let mut labels = Vec::new(alloc);
+        for followed in self.living.as_slice() {
+            labels.push(followed.label_then())?;
+        }
+        Ok(labels)
+    }
 }

@@ -5,17 +5,14 @@
 mod again;
 mod answering;
 mod call;
+mod citing;
 mod commands;
+mod filling;
 mod following;
-mod layout;
-mod letters;
-mod listing;
 mod origin;
 mod own;
 mod planning;
-mod proving;
+mod rearranging;
 mod refusal;
-mod shared;
-mod wording;
 
 pub use answering::{Paths, Returned, answer_give};

@@ -1,12 +1,11 @@
 //! Which assertions of a source are the library's, with their proofs.
 
-ghost use Rattle.std.specs.Prelude.{◌≡◌, ◌&&◌, map, find, is_some, length, IfOk};
-ghost use Rattle.std.specs.Str.{bytes_eq};
-ghost use mathlib.Core.Bool.{not};
+ghost use Rattle.std.specs.Prelude.{◌≡◌, IfOk, length, map};
 ghost use Rattle.source.specs.Scopes.{Assertion, is_in};
 ghost use Rattle.taking.specs.Reasons.{Choice};
 ghost use Rattle.intake.specs.Intakes.{axioms_of};
 ghost use Rattle.givetext.specs.Following.{own_flags};
+ghost use Rattle.givetext.specs.Marked.{marked};
 
 use giving::Changes;
 use intake::Taken;
@@ -21,20 +20,13 @@ fn told_of<'x>(
     keys: RandomState,
     axioms: &[(&'x [u8], Reason)],
 ) -> Result<Changes<'x>, AllocError>
-    ensures { IfOk result (λ made. made ≡ map (λ p. (p.0.now, p.0.now)) axioms.now) }
+    ensures { IfOk result (λ made. made ≡ marked (map (λ p. p.0.now) axioms.now)) }
 {
     let mut pairs = Vec::new(alloc);
     for (label, _) in axioms {
         pairs.push((*label, *label))?;
     }
     Changes::new(alloc, keys, pairs)
-}
-
-/// Whether an assertion was taken, if it is chosen, and not as an axiom for some reason.
-fn is_own(is_chosen: bool, told: &Changes<'_>, label: &[u8]) -> bool
-    ensures { result ≡ (is_chosen && not (is_some (find (λ c. bytes_eq label.now c.0) told.now))) }
-{
-    is_chosen && told.text_for(label).is_none()
 }
 
 /// Of each assertion of a source: whether it was taken, and not as an axiom for some reason.
@@ -46,8 +38,7 @@ pub(crate) fn own_of<'x, D: Declared<'x>>(
 ) -> Result<Vec<bool>, AllocError>
     requires { length taken.now.chosen.items ≡ length (D.scope declared.now).assertions }
     ensures many { IfOk result (λ own. length own.items ≡ length (D.scope declared.now).assertions) }
-    ensures flags { (choice : Choice)
-        → map (λ (x : Assertion). is_in choice.chosen x.label) (D.scope declared.now).assertions ≡ taken.now.chosen.items
+    ensures flags { (choice : Choice) → map (λ (x : Assertion). is_in choice.chosen x.label) (D.scope declared.now).assertions ≡ taken.now.chosen.items
         → IfOk result (λ own. own.items ≡ own_flags choice (axioms_of taken.now) (D.scope declared.now)) }
 {
     let told = told_of(alloc, keys, taken.axioms.as_slice())?;
@@ -56,7 +47,8 @@ pub(crate) fn own_of<'x, D: Declared<'x>>(
         let Some(label) = declared.label(place) else {
             unreachable!()
         };
-        own.push(is_own(taken.chosen[place], &told, label))?;
+        let is_told = told.text_for(label).is_some();
+        own.push(taken.chosen[place] && !is_told)?;
     }
     Ok(own)
 }

@@ -1,45 +1,57 @@
 //! Which theorems have another proof behind the edits of a history, and the texts of these proofs.
 
 use crate::following::Followed;
-use crate::listing::{Cited, Names};
-use crate::proving::proof_text;
 use crate::refusal::{File, Refusal, shown};
 use giving::Changes;
-use intake::Taken;
 use library::{PlainLibrary, Ranked};
-use mmsyntax::{Assertion, Float, Kind, Label, Step};
+use mmframes::frame_of;
+use mmsyntax::{Assertion, Database, Float, Kind, Label, Prelude, Step};
 use source::Declared;
+use sourcewriting::{Cited, Kinds, Names, names_in_source, proof_text};
 use std::alloc::{AllocError, Global};
 use std::collections::HashMap;
 use std::hash::RandomState;
 
-/// The assertions of the edited library, by their labels.
-type Edited<'x> = HashMap<&'x [u8], &'x Assertion, RandomState>;
+/// Assertions of a library, by their labels.
+pub(crate) type ByLabel<'x> = HashMap<&'x [u8], &'x Assertion, RandomState>;
 
-/// The assertions of a library, by their labels.
-fn by_label<'x>(
+/// What is known of a library and of the edits over it.
+#[derive(Clone, Copy)]
+pub(crate) struct Planned<'x> {
+    /// The library at the opening.
+    pub database: &'x Database,
+    /// Its names that were changed.
+    pub names: &'x [(&'x [u8], Label)],
+    /// The library behind the edits.
+    pub edited: &'x PlainLibrary,
+    /// Its assertions.
+    pub living: &'x [Followed<'x>],
+}
+
+/// The assertions of the library at the opening, by their labels then.
+fn opened_by_label<'x>(
+    alloc: Global,
+    keys: RandomState,
+    assertions: &'x [Assertion],
+) -> Result<ByLabel<'x>, AllocError> {
+    let mut found = HashMap::with_hasher(alloc, keys);
+    for assertion in assertions {
+        found.insert(assertion.label.as_slice(), assertion)?;
+    }
+    Ok(found)
+}
+
+/// The assertions of the edited library, by their labels.
+pub(crate) fn edited_by_label<'x>(
     alloc: Global,
     keys: RandomState,
     entries: &'x [Ranked],
-) -> Result<Edited<'x>, AllocError> {
-    let mut edited = HashMap::with_hasher(alloc, keys);
+) -> Result<ByLabel<'x>, AllocError> {
+    let mut found = HashMap::with_hasher(alloc, keys);
     for entry in entries {
-        edited.insert(entry.assertion.label.as_slice(), &entry.assertion)?;
+        found.insert(entry.assertion.label.as_slice(), &entry.assertion)?;
     }
-    Ok(edited)
-}
-
-/// The names of a library that were changed, with those in the source.
-fn names_in_source<'x, 'a: 'x>(
-    alloc: Global,
-    keys: RandomState,
-    names: &'x [(&'a [u8], Label)],
-) -> Result<Changes<'x>, AllocError> {
-    let mut pairs = Vec::new(alloc);
-    for (source, library) in names {
-        pairs.push((library.as_slice(), *source))?;
-    }
-    Changes::new(alloc, keys, pairs)
+    Ok(found)
 }
 
 /// The labels of the library's `$f` in the source.
@@ -56,26 +68,63 @@ fn floats_in_source<'x>(
     Ok(labels)
 }
 
+/// How many mandatory `$f` and `$e` an assertion has that is added.
+fn kinds_of_added(
+    alloc: Global,
+    prelude: &Prelude,
+    assertion: &Assertion,
+) -> Result<Kinds, AllocError> {
+    let frame = frame_of(alloc, prelude, assertion)?;
+    Ok(Kinds::Added(frame.floats.as_slice().len(), frame.hyps.as_slice().len()))
+}
+
+/// An assertion as proofs cite it. None where it isn't there.
+fn cited_one<'x, D: Declared<'x>>(
+    alloc: Global,
+    declared: &D,
+    edited: &ByLabel<'x>,
+    prelude: &Prelude,
+    followed: &Followed<'x>,
+) -> Result<Option<Cited<'x>>, AllocError> {
+    let label = followed.label_then();
+    let kinds = match (followed.source, edited.get(&followed.now)) {
+        (Some(source), _) => declared.place_of(source).map(Kinds::Standing),
+        (None, Some(assertion)) => Some(kinds_of_added(alloc, prelude, assertion)?),
+        (None, None) => None,
+    };
+    Ok(kinds.map(|kinds| Cited { kinds, label }))
+}
+
 /// The library's assertions as proofs cite them then.
-fn cited_then<'x, 'a, D: Declared<'a>>(
+fn cited_then<'x, D: Declared<'x>>(
     alloc: Global,
     keys: RandomState,
     declared: &D,
-    origins: &[(&'a [u8], &'x [u8])],
-    labels: &[&'x [u8]],
-    then: &[&'x [u8]],
+    edited: &ByLabel<'x>,
+    planned: &Planned<'x>,
 ) -> Result<HashMap<&'x [u8], Cited<'x>, RandomState>, AllocError> {
     let mut cited = HashMap::with_hasher(alloc, keys);
-    for (k, (source, _)) in origins.iter().enumerate() {
-        if let (Some(label), Some(new), Some(place)) = (
-            labels.get(k),
-            then.get(k),
-            declared.place_of(source),
-        ) {
-            cited.insert(*label, Cited { place, label: *new })?;
+    for followed in planned.living {
+        if let Some(one) = cited_one(alloc, declared, edited, planned.edited.prelude(), followed)? {
+            cited.insert(followed.now, one)?;
         }
     }
     Ok(cited)
+}
+
+/// What the steps of proofs name.
+pub(crate) fn names_of<'x, D: Declared<'x>>(
+    alloc: Global,
+    keys: RandomState,
+    declared: &D,
+    edited: &ByLabel<'x>,
+    planned: &Planned<'x>,
+) -> Result<Names<'x>, AllocError> {
+    let changed = names_in_source(alloc, keys, planned.names)?;
+    Ok(Names {
+        floats: floats_in_source(alloc, &changed, planned.database.prelude().floats())?,
+        cited: cited_then(alloc, keys, declared, edited, planned)?,
+    })
 }
 
 /// Whether a step is another one but for a changed label.
@@ -84,10 +133,8 @@ fn is_step(changes: &Changes<'_>, old: &Step, new: &Step) -> bool {
         (Step::Float(place), Step::Float(other)) => place == other,
         (Step::Hyp(place), Step::Hyp(other)) => place == other,
         (Step::Cite(label), Step::Cite(other)) => {
-            changes
-                .text_for(label.as_slice())
-                .unwrap_or(label.as_slice())
-                == other.as_slice()
+            let label = label.as_slice();
+            changes.text_for(label).unwrap_or(label) == other.as_slice()
         }
         _ => false,
     }
@@ -110,35 +157,32 @@ fn is_proof(changes: &Changes<'_>, old: &[Step], new: &[Step]) -> bool {
 fn changes_in_library<'x>(
     alloc: Global,
     keys: RandomState,
-    origins: &[(&[u8], &'x [u8])],
-    labels: &[&'x [u8]],
+    living: &[Followed<'x>],
 ) -> Result<Changes<'x>, AllocError> {
     let mut pairs = Vec::new(alloc);
-    for (k, (_, library)) in origins.iter().enumerate() {
-        if let Some(label) = labels.get(k) {
-            pairs.push((*library, *label))?;
+    for followed in living {
+        if followed.source.is_some() {
+            pairs.push((followed.first, followed.now))?;
         }
     }
     Changes::new(alloc, keys, pairs)
 }
 
 /// A proof that can't be written.
-fn unwritten(alloc: Global, label: &[u8]) -> Result<Refusal, AllocError> {
+pub(crate) fn unwritten(alloc: Global, label: &[u8]) -> Result<Refusal, AllocError> {
     let label = shown(label);
-    Ok(Refusal::Text(
-        File::History,
-        format!(in alloc; "the proof of {label} can't be written")?,
-    ))
+    let why = format!(in alloc; "the proof of {label} can't be written")?;
+    Ok(Refusal::Text(File::History, why))
 }
 
-/// The other proof of an assertion in the source, if it has one there now: its label there, and the text.
-fn other_proof<'x, 'a: 'x, D: Declared<'a>>(
+/// The text of the proof of an assertion that stands in the source, if it has another one now.
+fn other_proof<'x, D: Declared<'x>>(
     alloc: Global,
     keys: RandomState,
     declared: &D,
     names: &Names<'x>,
-    changes: &Changes<'_>,
-    source: &[u8],
+    changes: &Changes<'x>,
+    source: &'x [u8],
     old: &Assertion,
     new: &Assertion,
 ) -> Result<Option<Vec<u8>>, Refusal> {
@@ -154,57 +198,28 @@ fn other_proof<'x, 'a: 'x, D: Declared<'a>>(
     }
 }
 
-/// What proofs of the library name in the source then.
-fn names_then<'x, 'a: 'x, D: Declared<'a>>(
-    alloc: Global,
-    keys: RandomState,
-    declared: &D,
-    taken: &'x Taken<'a>,
-    followed: &Followed<'x, 'a>,
-) -> Result<Names<'x>, AllocError> {
-    let changed = names_in_source(alloc, keys, taken.names.as_slice())?;
-    Ok(Names {
-        floats: floats_in_source(alloc, &changed, taken.database.prelude().floats())?,
-        cited: cited_then(
-            alloc,
-            keys,
-            declared,
-            followed.origins.as_slice(),
-            followed.labels.as_slice(),
-            followed.then.as_slice(),
-        )?,
-    })
-}
-
 /// The theorems that have another proof, by their labels in the source, with the texts of these proofs.
-pub(crate) fn other_proofs<'x, 'a: 'x, D: Declared<'a>>(
+pub(crate) fn other_proofs<'x, D: Declared<'x>>(
     alloc: Global,
     keys: RandomState,
     declared: &D,
-    taken: &'x Taken<'a>,
-    edited: &'x PlainLibrary,
-    followed: &Followed<'x, 'a>,
-) -> Result<Vec<(&'a [u8], Vec<u8>)>, Refusal> {
-    let edited = by_label(alloc, keys, edited.entries())?;
-    let changes = changes_in_library(
-        alloc,
-        keys,
-        followed.origins.as_slice(),
-        followed.labels.as_slice(),
-    )?;
-    let names = names_then(alloc, keys, declared, taken, followed)?;
+    edited: &ByLabel<'x>,
+    names: &Names<'x>,
+    planned: &Planned<'x>,
+) -> Result<Vec<(&'x [u8], Vec<u8>)>, Refusal> {
+    let opened = opened_by_label(alloc, keys, planned.database.assertions())?;
+    let changes = changes_in_library(alloc, keys, planned.living)?;
     let mut proofs = Vec::new(alloc);
-    for (k, old) in taken.database.assertions().iter().enumerate() {
-        let (Some((source, _)), Some(label)) = (followed.origins.get(k), followed.labels.get(k))
-        else {
-            break;
+    for followed in planned.living {
+        let (Some(source), Some(old), Some(new)) = (
+            followed.source,
+            opened.get(&followed.first),
+            edited.get(&followed.now),
+        ) else {
+            continue;
         };
-        if let Some(new) = edited.get(label) {
-            if let Some(text) = other_proof(
-                alloc, keys, declared, &names, &changes, source, old, new,
-            )? {
-                proofs.push((*source, text))?;
-            }
+        if let Some(text) = other_proof(alloc, keys, declared, names, &changes, source, old, new)? {
+            proofs.push((source, text))?;
         }
     }
     Ok(proofs)
@@ -213,16 +228,14 @@ pub(crate) fn other_proofs<'x, 'a: 'x, D: Declared<'a>>(
 /// The labels in the source then of those that are axioms in the edited library.
 pub(crate) fn axioms_then<'x>(
     alloc: Global,
-    keys: RandomState,
-    edited: &PlainLibrary,
-    followed: &Followed<'x, '_>,
+    edited: &ByLabel<'x>,
+    living: &[Followed<'x>],
 ) -> Result<Vec<&'x [u8]>, AllocError> {
-    let edited = by_label(alloc, keys, edited.entries())?;
     let mut axioms = Vec::new(alloc);
-    for (k, label) in followed.labels.iter().enumerate() {
-        if let (Some(assertion), Some(then)) = (edited.get(label), followed.then.get(k)) {
+    for followed in living {
+        if let Some(assertion) = edited.get(&followed.now) {
             if assertion.kind == Kind::Axiom {
-                axioms.push(*then)?;
+                axioms.push(followed.label_then())?;
             }
         }
     }

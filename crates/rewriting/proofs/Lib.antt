@@ -1,4 +1,5 @@
 mod Places
+mod TokenEnds
 mod Orders
 mod Marked
 mod Lettered

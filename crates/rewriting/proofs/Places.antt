@@ -5,7 +5,7 @@ use Rattle.std.proofs.lemmas.List.{append_assoc}
 use Rattle.mmtext.specs.Text.{Token, is_white, ends_token, with_byte, tokens_from, tokens}
 use Rattle.rewriting.specs.Spans.{IsTokenOf}
 
-with_place : (p b : ℕ) (e : Bool) (us ts : List Token) (t : Token) → with_byte p b e us ≡ t ∷ ts → t.place ≡ p
+pub with_place : (p b : ℕ) (e : Bool) (us ts : List Token) (t : Token) → with_byte p b e us ≡ t ∷ ts → t.place ≡ p
 with_place p b true us ts t h = let e : record { place = p; text = b ∷ [] } ≡ t = cc in sym (ap (λ (x : Token). x.place) e)
 with_place p b false [] ts t h = let e : record { place = p; text = b ∷ [] } ≡ t = cc in sym (ap (λ (x : Token). x.place) e)
 with_place p b false (u ∷ us) ts t h =

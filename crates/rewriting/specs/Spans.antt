@@ -1,10 +1,10 @@
 -- The text of a source with changed labels and other proofs: which spans of it may change, and that each other byte stays.
 use Rattle.std.specs.Prelude.{◌≡◌, ◌≢◌, ◌≤◌, ◌+◌, ◌⊎◌, ◌||◌, ◌&&◌, ℕ, Bool, true, false, List, [], ◌∷◌, ◌++◌, length, drop, find, codes}
-use Rattle.std.specs.Prelude.{All, Some, slice_get, slice_range, if◌then◌else◌}
+use Rattle.std.specs.Prelude.{All, IsTrue, Some, slice_get, slice_range, if◌then◌else◌}
 use mathlib.Core.Bool.{not}
 use Rattle.std.specs.Str.{bytes_eq}
 use Rattle.mmtext.specs.Words.{Word}
-use Rattle.mmtext.specs.Text.{Token, tokens}
+use Rattle.mmtext.specs.Text.{Token, tokens, ends_token}
 use Rattle.giving.specs.Staying.{Change}
 use Rattle.rewriting.specs.declared.span.Span.{Span}
 
@@ -97,6 +97,35 @@ pub record IsProofSpan (proofs : List Change) (source : List ℕ) (x : Span) : T
 
 abbrev pub IsSpan : List Change → List Change → List ℕ → Span → Type 0
 IsSpan cs proofs source x = IsLabelSpan cs source x ⊎ IsProofSpan proofs source x
+
+-- ---- what is cut out, and what is put in
+
+-- a place behind a token
+abbrev pub IsBehindToken : List ℕ → ℕ → Type 0
+IsBehindToken source k = (t : Token) × IsTokenOf source t × (k ≡ t.place + length t.text)
+
+-- that, or the start of the text
+abbrev pub EndsToken : List ℕ → ℕ → Type 0
+EndsToken source k = (k ≡ 0) ⊎ IsBehindToken source k
+
+-- whole tokens are cut out, with the white space before each
+pub record IsCut (source : List ℕ) (x : Span) : Type 0 where
+  pub begins : EndsToken source x.begin
+  pub ends : EndsToken source x.end
+  pub nothing : x.text.now ≡ []
+
+-- behind a token something is put in, with white space before it
+pub record IsPutIn (source : List ℕ) (x : Span) : Type 0 where
+  pub begins : IsBehindToken source x.begin
+  pub ends : x.end ≡ x.begin
+  pub apart : IsTrue (ends_token x.text.now)
+
+-- a text in which such spans were changed
+pub record IsPatched (may_change : List ℕ → Span → Type 0) (source out : List ℕ) : Type 0 where
+  pub spans : List Span
+  pub in_order : AreInOrder source 0 spans
+  pub each : All (may_change source) spans
+  pub text : out ≡ spliced source 0 spans
 
 -- the text with its labels changed, and with other proofs of some theorems, by their labels before: each other byte stays
 pub record IsRewritten (cs proofs : List Change) (source out : List ℕ) : Type 0 where

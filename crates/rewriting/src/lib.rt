@@ -1,11 +1,14 @@
-//! The text of a source with changed labels and other proofs: every other byte stays.
+//! The text of a source with changed labels and other proofs, without stretches of it, and with others in it: every other byte stays.
 #![tactic(auto)]
 
 mod call;
 mod comments;
+mod patching;
 mod proofs;
 mod span;
 mod splicing;
 mod walk;
 
 pub use call::rewrite;
+pub use patching::{cut_out, put_in};
+pub use span::Span;

@@ -2,7 +2,7 @@
 
 /// From a byte of a text up to another, counted from 0, with the bytes that are to stand there.
 #[derive(Clone, Copy, Debug)]
-pub(crate) struct Span<'t> {
+pub struct Span<'t> {
     pub begin: usize,
     pub end: usize,
     pub text: &'t [u8],

@@ -1,12 +1,11 @@
 -- What the loop of `rename` keeps.
 use Rattle.std.proofs.Common.{◌≡◌, ◌++◌, map, take, drop}
-use Rattle.source.specs.Views.{seen_words}
-use Rattle.library.specs.declared.command.Command.TheVariants.{Rename}
-use Rattle.givetext.specs.Following.{label_behind}
+use Rattle.givetext.specs.Following.{renamed}
+use Rattle.givetext.specs.Views.{seen_living}
 use Rattle.givetext.proofs.following.rename.Given as goal
 
--- the labels so far are behind the rename
-abbrev pub invariant-loop-label : goal.invariant-loop-label
-invariant-loop-label l =
-    seen_words l.labels
-    ≡ map (label_behind (Rename l.old l.new)) (take l.label-index (seen_words l.fn.labels)) ++ drop l.label-index (seen_words l.fn.labels)
+-- the assertions so far are behind the rename
+abbrev pub invariant-loop-followed : goal.invariant-loop-followed
+invariant-loop-followed l =
+    seen_living l.living
+    ≡ map (renamed l.old l.new) (take l.followed-index (seen_living l.fn.living)) ++ drop l.followed-index (seen_living l.fn.living)

@@ -1,0 +1,86 @@
+-- A source with edits that was looked at.
+use Rattle.std.proofs.Common.{◌≡◌, ℕ, Bool, List, map, subst, ap}
+use Rattle.std.specs.Prelude.{All, IsTrue}
+use Rattle.std.specs.Borrow.{Bor}
+use Rattle.mmtext.specs.Words.{Word}
+use Rattle.source.specs.Scopes.{Scope}
+use Rattle.source.specs.Sources.{DeclaresText}
+use Rattle.source.specs.Views.{seen_words}
+use Rattle.taking.specs.Reasons.{Choice}
+use Rattle.choosing.specs.declared.wish.Wish.TheVariants.{These}
+use Rattle.giving.specs.Staying.{Change, StayAll, others}
+use Rattle.checking.specs.Checks.{LeadsTo}
+use Rattle.intake.specs.declared.taken.Taken.{Taken}
+use Rattle.intake.specs.Intakes.{IsLibraryOf, axioms_of, names_of}
+use Rattle.library.specs.declared.history.Entry.{Entry}
+use Rattle.library.specs.Library.{Listed}
+use Rattle.givetext.specs.Following.{Following, all_commands, behind_all, opening, changes_of, label_then, own_flags, names_none}
+use Rattle.givetext.specs.Again.{IsFloatOf, database_lines, edited_lines}
+use Rattle.givetext.specs.Written.{IsWrittenAnew}
+use Rattle.givetext.specs.Parts.{IsLookedAt, IsEdited}
+use Rattle.givetext.specs.Given.{IsTakenText, IsGiven}
+
+module _ (new : Scope) (then axioms : Bor (List (Bor (List ℕ)))) (t : Taken) (l : IsLibraryOf new (These then axioms) t) (flags : List Bool)
+    (are : flags ≡ own_flags l.taken.choice (axioms_of t) new) where
+  pub looked_at : (old : Scope) (out : List ℕ) (changes : List Change) (own : List Bool) (edited : Listed) → DeclaresText out new
+      → All (IsFloatOf t.database.prelude edited.setting.prelude) t.database.prelude.floats → database_lines t.database ≡ edited_lines edited
+      → StayAll changes (others own old.assertions) (others flags new.assertions)
+      → IsLookedAt old out changes own (seen_words then.now) edited
+  looked_at old out changes own edited declares floats same stay = record {
+    new = new;
+    declares = declares;
+    choice = l.taken.choice;
+    axioms = axioms_of t;
+    again = record {
+      chosen = ap (λ (x : Choice). x.chosen) l.taken.is_choice;
+      db = t.database;
+      names = names_of t;
+      takes = l.taken.takes;
+      floats = floats;
+      same = same;
+    };
+    stays = subst (λ (fs : List Bool). StayAll changes (others own old.assertions) (others fs new.assertions)) are stay;
+  }
+
+module _ (source out : List ℕ) (old : Scope) (choice : Choice) (taken : Taken) (entries : List Entry) (edited : Listed) (followed : Following)
+    (changes : List Change) (own : List Bool) (follows : followed ≡ behind_all (all_commands entries) (opening old choice taken.database))
+    (changed : changes ≡ changes_of followed) (flags : own ≡ own_flags choice (axioms_of taken) old) where
+  pub edited_by : (then : List Word) → then ≡ map label_then followed.living
+      → All (λ x. IsTrue (names_none followed.gone x.proof)) (others own old.assertions) → IsWrittenAnew (all_commands entries) changes source out
+      → IsLookedAt old out changes own then edited → IsEdited source old choice taken entries edited out
+  edited_by then labels uncited written looked =
+      let theirs = own_flags choice (axioms_of taken) old in
+      record {
+        followed = followed;
+        follows = follows;
+        uncited =
+            subst (λ (fs : List Bool). All (λ x. IsTrue (names_none followed.gone x.proof)) (others fs old.assertions)) flags uncited;
+        written = subst (λ (cs : List Change). IsWrittenAnew (all_commands entries) cs source out) changed written;
+        looked =
+            subst (λ (ws : List Word). IsLookedAt old out (changes_of followed) theirs ws edited) labels
+            (subst (λ (fs : List Bool). IsLookedAt old out (changes_of followed) fs then edited) flags
+            (subst (λ (cs : List Change). IsLookedAt old out cs own then edited) changed looked));
+      }
+
+pub given_by : (source library history out : List ℕ) (old : Scope) (taken : Taken) (entries : List Entry) (edited : Listed)
+    → DeclaresText source old → (was : IsTakenText source old library taken) → LeadsTo library history entries edited
+    → IsEdited source old was.taken.taken.choice taken entries edited out → IsGiven source library history out
+given_by source library history out old taken entries edited declares was leads e = record {
+  old = old;
+  declares = declares;
+  taken = taken;
+  was_taken = was;
+  entries = entries;
+  edited = edited;
+  leads = leads;
+  followed = e.followed;
+  follows = e.follows;
+  new = e.looked.new;
+  declares_now = e.looked.declares;
+  choice = e.looked.choice;
+  axioms = e.looked.axioms;
+  again = e.looked.again;
+  stays = e.looked.stays;
+  uncited = e.uncited;
+  written = e.written;
+}

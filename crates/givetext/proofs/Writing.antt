@@ -1,0 +1,33 @@
+-- A text that is written anew.
+use Rattle.std.proofs.Common.{ℕ, List, [], refl, arith}
+use Rattle.std.specs.Prelude.{All}
+use Rattle.std.proofs.lemmas.List.Elements.{All-nil}
+use Rattle.giving.specs.Staying.{Change}
+use Rattle.rewriting.specs.declared.span.Span.{Span}
+use Rattle.rewriting.specs.Spans.{IsRewritten, IsCut, IsPutIn, IsPatched}
+use Rattle.library.specs.declared.command.Command.{Command}
+use Rattle.givetext.specs.Following.{KeepsPlaces}
+use Rattle.givetext.specs.Written.{IsRearranged, IsWrittenAnew}
+
+-- at no span of it
+untouched : (may_change : List ℕ → Span → Type 0) (text : List ℕ) → IsPatched may_change text text
+untouched may_change text = record { spans = []; in_order = omega arith; each = All-nil (may_change text); text = refl }
+
+module _ (commands : List Command) (cs : List Change) (source out : List ℕ) where
+  -- just labels and proofs change
+  pub only_rewritten : (proofs : List Change) → IsRewritten cs proofs source out → IsWrittenAnew commands cs source out
+  only_rewritten proofs rewritten = record {
+    rearranged = record {
+      kept = source;
+      cut = untouched IsCut source;
+      proofs = proofs;
+      changed = out;
+      rewritten = rewritten;
+      filled = untouched IsPutIn out;
+    };
+    places = λ _. (refl, refl);
+  }
+
+  -- some command adds, moves or deletes
+  pub all_rearranged : (All KeepsPlaces commands → ⊥) → IsRearranged cs source out → IsWrittenAnew commands cs source out
+  all_rearranged some rearranged = record { rearranged = rearranged; places = λ all. absurd (some all) }

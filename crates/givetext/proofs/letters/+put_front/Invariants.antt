@@ -1,5 +1,0 @@
--- That `put_front` ends: what is counted falls.
-use Rattle.givetext.proofs.letters.+put_front.Given as goal
-
-abbrev pub decreases-put_front : goal.decreases-put_front
-decreases-put_front l = l.front

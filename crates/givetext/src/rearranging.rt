@@ -1,0 +1,240 @@
+//! A source with the edits of a history that adds, moves or deletes: assertions are cut out, labels and proofs change, and assertions are
+//! put in.
+
+use crate::citing::marked;
+use crate::filling::{Texts, fills_of};
+use crate::following::Followed;
+use crate::planning::{ByLabel, Planned, unwritten};
+use crate::refusal::{File, Refusal, shown};
+use giving::Changes;
+use library::Ranked;
+use outlining::{Outline, Standing, cuts_of, outline_of};
+use rewriting::{cut_out, put_in, rewrite};
+use source::{Declared, ProofWords};
+use sourcewriting::{Names, SymbolWords, added_text, symbol_words};
+use std::alloc::{AllocError, Global};
+use std::collections::HashMap;
+use std::hash::RandomState;
+
+/// What is known of the edits of a source.
+#[derive(Clone, Copy)]
+pub(crate) struct Rearranged<'x> {
+    /// The library, and the edits over it.
+    pub planned: Planned<'x>,
+    /// The labels in the source of those that were deleted.
+    pub gone: &'x [&'x [u8]],
+    /// The assertions of the edited library, by their labels.
+    pub edited: &'x ByLabel<'x>,
+    /// What the steps of proofs name.
+    pub names: &'x Names<'x>,
+    /// The labels of the source that change.
+    pub changes: &'x Changes<'x>,
+    /// The proofs that change.
+    pub proofs: &'x Changes<'x>,
+}
+
+/// An assertion that can't be given back, and why.
+fn refused(alloc: Global, label: &[u8], why: &str) -> Result<Refusal, AllocError> {
+    let label = shown(label);
+    Ok(Refusal::Text(File::History, format!(in alloc; "{label} {why}")?))
+}
+
+/// The places of the library's assertions at the opening, by their labels now: those that were added have none.
+fn places_by_now<'x>(
+    alloc: Global,
+    keys: RandomState,
+    living: &[Followed<'x>],
+) -> Result<HashMap<&'x [u8], usize, RandomState>, AllocError> {
+    let mut places = HashMap::with_hasher(alloc, keys);
+    for (k, followed) in living.iter().enumerate() {
+        if followed.source.is_some() {
+            places.insert(followed.now, k)?;
+        }
+    }
+    Ok(places)
+}
+
+/// Whether the assertions of the opening stand in another order in the edited library.
+fn has_another_order(
+    alloc: Global,
+    keys: RandomState,
+    living: &[Followed<'_>],
+    entries: &[Ranked],
+) -> Result<bool, AllocError> {
+    let places = places_by_now(alloc, keys, living)?;
+    let mut last = 0;
+    for entry in entries {
+        if let Some(place) = places.get(entry.assertion.label.as_slice()) {
+            if *place < last {
+                return Ok(true);
+            }
+            last = *place;
+        }
+    }
+    Ok(false)
+}
+
+/// The labels in the source of those that are to stand elsewhere, with their labels in the library now: none where the order is the old
+/// one.
+fn moving_of<'x>(
+    alloc: Global,
+    keys: RandomState,
+    planned: &Planned<'x>,
+) -> Result<Changes<'x>, AllocError> {
+    let mut pairs = Vec::new(alloc);
+    if has_another_order(alloc, keys, planned.living, planned.edited.entries())? {
+        for followed in planned.living {
+            if let (Some(label), true) = (followed.source, followed.moved) {
+                pairs.push((label, followed.now))?;
+            }
+        }
+    }
+    Changes::new(alloc, keys, pairs)
+}
+
+/// The places in an outline of those that leave their places, in order.
+fn leaving_of(
+    alloc: Global,
+    outline: &Outline<'_>,
+    gone: &Changes<'_>,
+    moving: &Changes<'_>,
+) -> Result<Vec<usize>, AllocError> {
+    let mut leaving = Vec::new(alloc);
+    for (k, standing) in outline.assertions.as_slice().iter().enumerate() {
+        if gone.text_for(standing.label).is_some() || moving.text_for(standing.label).is_some() {
+            leaving.push(k)?;
+        }
+    }
+    Ok(leaving)
+}
+
+/// The text of an assertion that stands elsewhere then, with its comment or its block, and with the changes.
+fn moved_text(
+    alloc: Global,
+    source: &[u8],
+    outline: &Outline<'_>,
+    standing: &Standing<'_>,
+    edits: &Rearranged<'_>,
+) -> Result<Vec<u8>, Refusal> {
+    if !outline.is_alone(standing) {
+        return Err(refused(
+            alloc,
+            standing.label,
+            "shares its block with others: it isn't moved yet",
+        )?);
+    }
+    let stretch = outline.whole(standing);
+    let Some(text) = source.get(stretch.begin..stretch.end) else {
+        return Err(refused(alloc, standing.label, "can't be moved")?);
+    };
+    Ok(rewrite(alloc, edits.changes, edits.proofs, text)?)
+}
+
+/// The texts of those that stand elsewhere then.
+fn put_moved<'x>(
+    alloc: Global,
+    source: &[u8],
+    outline: &Outline<'_>,
+    moving: &Changes<'x>,
+    edits: &Rearranged<'_>,
+    texts: &mut Texts<'x>,
+) -> Result<(), Refusal> {
+    for standing in outline.assertions.as_slice() {
+        if let Some(label) = moving.text_for(standing.label) {
+            let text = moved_text(alloc, source, outline, standing, edits)?;
+            texts.insert(label, text)?;
+        }
+    }
+    Ok(())
+}
+
+/// Whether a source has compressed proofs.
+fn has_compressed<'a, D: Declared<'a>>(declared: &D) -> bool {
+    for place in 0..declared.assertions() {
+        if let Some(ProofWords::Compressed(..)) = declared.proof(place) {
+            return true;
+        }
+    }
+    false
+}
+
+/// The texts of those that were added.
+fn put_added<'x, 'a, D: Declared<'a>>(
+    alloc: Global,
+    keys: RandomState,
+    declared: &D,
+    words: &SymbolWords<'x>,
+    edits: &Rearranged<'x>,
+    texts: &mut Texts<'x>,
+) -> Result<(), Refusal> {
+    let is_compressed = has_compressed(declared);
+    let prelude = edits.planned.edited.prelude();
+    for followed in edits.planned.living {
+        let (None, Some(assertion)) = (followed.source, edits.edited.get(&followed.now)) else {
+            continue;
+        };
+        match added_text(
+            alloc,
+            keys,
+            declared,
+            prelude,
+            edits.names,
+            words,
+            assertion,
+            is_compressed,
+        )? {
+            Some(text) => texts.insert(followed.now, text)?,
+            None => return Err(unwritten(alloc, followed.now)?),
+        };
+    }
+    Ok(())
+}
+
+/// Stretches that can't be cut out of a text, or put into it.
+fn unfit(alloc: Global) -> Result<Refusal, AllocError> {
+    Ok(Refusal::Text(
+        File::History,
+        format!(in alloc; "the edits can't be written")?,
+    ))
+}
+
+/// The source with the edits of a history that adds, moves or deletes.
+pub(crate) fn rearrange<'x, 'a, D: Declared<'a>>(
+    alloc: Global,
+    keys: RandomState,
+    declared: &D,
+    source: &'x [u8],
+    edits: &Rearranged<'x>,
+) -> Result<Vec<u8>, Refusal> {
+    let outline = outline_of(alloc, source)?;
+    let moving = moving_of(alloc, keys, &edits.planned)?;
+    let gone = marked(alloc, keys, edits.gone)?;
+    let leaving = leaving_of(alloc, &outline, &gone, &moving)?;
+    let mut texts = HashMap::with_hasher(alloc, keys);
+    put_moved(alloc, source, &outline, &moving, edits, &mut texts)?;
+    let words = symbol_words(
+        alloc,
+        keys,
+        edits.planned.database.prelude(),
+        edits.planned.names,
+    )?;
+    put_added(alloc, keys, declared, &words, edits, &mut texts)?;
+    let cuts = cuts_of(alloc, &outline, leaving.as_slice())?;
+    let Some(kept) = cut_out(alloc, source, cuts.as_slice())? else {
+        return Err(unfit(alloc)?);
+    };
+    let changed = rewrite(alloc, edits.changes, edits.proofs, kept.as_slice())?;
+    let entries = edits.planned.edited.entries();
+    let fills = fills_of(
+        alloc,
+        keys,
+        changed.as_slice(),
+        edits.planned.living,
+        entries,
+        &texts,
+    )?;
+    match put_in(alloc, changed.as_slice(), fills.as_slice())? {
+        Some(out) => Ok(out),
+        None => Err(unfit(alloc)?),
+    }
+}

@@ -1,0 +1,325 @@
+//! The text of a theorem that is added to a source: a block of its own where it has pairs or `$e`.
+
+ghost use Rattle.std.specs.Prelude.{◌≤◌};
+
+use crate::layout::Layout;
+use crate::listing::{Names, nodes_of};
+use crate::wording::{put_compressed, put_normal};
+use giving::Changes;
+use mmframes::frame_of;
+use mmsyntax::{Assertion, Expr, Label, Prelude, Symbol};
+use source::Declared;
+use std::alloc::{AllocError, Global};
+use std::hash::RandomState;
+
+/// How far the statements of a theorem are indented that stands in a block.
+const IN_BLOCK: usize = 4;
+
+/// How far they are indented otherwise.
+const OUTSIDE: usize = 2;
+
+/// How a theorem is written.
+#[derive(Clone, Copy)]
+struct Form {
+    /// Whether it stands in a block of its own.
+    is_block: bool,
+    is_compressed: bool,
+}
+
+impl Form {
+    /// How far its statement is indented.
+    fn indent(self) -> usize
+        ensures { result ≤ IN_BLOCK }
+    {
+        if self.is_block { IN_BLOCK } else { OUTSIDE }
+    }
+}
+
+/// The words of a library's symbols in the source.
+#[derive(Drop)]
+pub struct SymbolWords<'x> {
+    /// Those of the constants, by their places.
+    constants: Vec<&'x [u8]>,
+    /// Those of the variables of `$f`, by the places of these.
+    variables: Vec<&'x [u8]>,
+}
+
+/// What a name of the library is in the source.
+fn in_source<'x>(changed: &Changes<'x>, name: &'x Label) -> &'x [u8] {
+    let name = name.as_slice();
+    changed.text_for(name).unwrap_or(name)
+}
+
+/// The words of constants in the source.
+fn constant_words<'x>(
+    alloc: Global,
+    changed: &Changes<'x>,
+    constants: &'x [Label],
+) -> Result<Vec<&'x [u8]>, AllocError> {
+    let mut words = Vec::new(alloc);
+    for name in constants {
+        words.push(in_source(changed, name))?;
+    }
+    Ok(words)
+}
+
+/// The words of the variables of `$f` in the source.
+fn variable_words<'x>(
+    alloc: Global,
+    changed: &Changes<'x>,
+    prelude: &'x Prelude,
+) -> Result<Vec<&'x [u8]>, AllocError> {
+    let mut words = Vec::new(alloc);
+    for float in prelude.floats() {
+        let name = prelude.variables().get(float.variable as usize);
+        words.push(name.map_or(b"?".as_slice(), |name| in_source(changed, name)))?;
+    }
+    Ok(words)
+}
+
+/// The names of a library that were changed, with those in the source.
+pub fn names_in_source<'x>(
+    alloc: Global,
+    keys: RandomState,
+    names: &'x [(&'x [u8], Label)],
+) -> Result<Changes<'x>, AllocError> {
+    let mut pairs = Vec::new(alloc);
+    for (source, library) in names {
+        pairs.push((library.as_slice(), *source))?;
+    }
+    Changes::new(alloc, keys, pairs)
+}
+
+/// The words of a library's symbols in the source, over its prelude, where these names were changed.
+pub fn symbol_words<'x>(
+    alloc: Global,
+    keys: RandomState,
+    prelude: &'x Prelude,
+    names: &'x [(&'x [u8], Label)],
+) -> Result<SymbolWords<'x>, AllocError> {
+    let changed = names_in_source(alloc, keys, names)?;
+    Ok(SymbolWords {
+        constants: constant_words(alloc, &changed, prelude.constants())?,
+        variables: variable_words(alloc, &changed, prelude)?,
+    })
+}
+
+impl<'x> SymbolWords<'x> {
+    /// The word of a symbol: `?` where there is no such symbol.
+    fn word(&self, symbol: Symbol) -> &'x [u8] {
+        let word = match symbol {
+            Symbol::Const(place) => self.constants.get(place as usize),
+            Symbol::Var(place) => self.variables.get(place as usize),
+        };
+        word.copied().unwrap_or(b"?")
+    }
+}
+
+/// Puts words.
+fn put_words(layout: &mut Layout, words: &[&[u8]]) -> Result<(), AllocError> {
+    for word in words {
+        layout.put_word(word)?;
+    }
+    Ok(())
+}
+
+/// Puts a statement in lines of its own: its label and keyword, its symbols, and what ends it.
+fn put_statement(
+    alloc: Global,
+    out: &mut Vec<u8>,
+    indent: usize,
+    front: &[&[u8]],
+    symbols: &[&[u8]],
+    end: &[u8],
+) -> Result<(), AllocError> {
+    let mut layout = Layout::new(alloc, indent)?;
+    put_words(&mut layout, front)?;
+    put_words(&mut layout, symbols)?;
+    layout.put_word(end)?;
+    out.extend_from_slice(layout.into_text().as_slice())
+}
+
+/// The words of symbols.
+fn words_of<'x>(
+    alloc: Global,
+    words: &SymbolWords<'x>,
+    symbols: &[Symbol],
+) -> Result<Vec<&'x [u8]>, AllocError> {
+    let mut made = Vec::new(alloc);
+    for symbol in symbols {
+        made.push(words.word(*symbol))?;
+    }
+    Ok(made)
+}
+
+/// Puts the `$d` of pairs.
+fn put_pairs(
+    alloc: Global,
+    out: &mut Vec<u8>,
+    words: &SymbolWords<'_>,
+    pairs: &[(u32, u32)],
+) -> Result<(), AllocError> {
+    for (one, other) in pairs {
+        let both = [
+            words.word(Symbol::Var(*one)),
+            words.word(Symbol::Var(*other)),
+        ];
+        put_statement(
+            alloc,
+            out,
+            IN_BLOCK,
+            &[b"$d".as_slice()],
+            both.as_slice(),
+            b"$.",
+        )?;
+    }
+    Ok(())
+}
+
+/// The labels of the `$e`: L.1, L.2, ..
+fn premise_labels(alloc: Global, label: &[u8], count: usize) -> Result<Vec<Vec<u8>>, AllocError> {
+    let mut labels = Vec::new(alloc);
+    for k in 0..count {
+        let number = format!(in alloc; ".{}", k + 1)?;
+        let mut name = Vec::from_slice(alloc, label)?;
+        name.extend_from_slice(number.as_bytes())?;
+        labels.push(name)?;
+    }
+    Ok(labels)
+}
+
+/// Puts the `$e`, of which these are the labels.
+fn put_premises(
+    alloc: Global,
+    out: &mut Vec<u8>,
+    words: &SymbolWords<'_>,
+    premises: &[Expr],
+    labels: &[Vec<u8>],
+) -> Result<(), AllocError> {
+    for (expression, label) in premises.iter().zip(labels) {
+        let symbols = words_of(alloc, words, expression.as_slice())?;
+        let front = [label.as_slice(), b"$e".as_slice()];
+        put_statement(
+            alloc,
+            out,
+            IN_BLOCK,
+            front.as_slice(),
+            symbols.as_slice(),
+            b"$.",
+        )?;
+    }
+    Ok(())
+}
+
+/// Puts a theorem up to its proof: the beginning of its block, the pairs, the `$e`, of which these are the labels, and the statement.
+fn put_front(
+    alloc: Global,
+    out: &mut Vec<u8>,
+    words: &SymbolWords<'_>,
+    assertion: &Assertion,
+    labels: &[Vec<u8>],
+    form: Form,
+) -> Result<(), AllocError> {
+    if form.is_block {
+        out.extend_from_slice(b"\n  ${")?;
+    }
+    put_pairs(alloc, out, words, assertion.pairs.as_slice())?;
+    put_premises(alloc, out, words, assertion.hyps.as_slice(), labels)?;
+    let symbols = words_of(alloc, words, assertion.statement.as_slice())?;
+    let front = [assertion.label.as_slice(), b"$p".as_slice()];
+    put_statement(
+        alloc,
+        out,
+        form.indent(),
+        front.as_slice(),
+        symbols.as_slice(),
+        b"$=",
+    )
+}
+
+/// The slices of texts.
+fn slices_of<'p>(alloc: Global, texts: &'p [Vec<u8>]) -> Result<Vec<&'p [u8]>, AllocError> {
+    let mut slices = Vec::new(alloc);
+    for text in texts {
+        slices.push(text.as_slice())?;
+    }
+    Ok(slices)
+}
+
+/// The labels of the mandatory hypotheses: those of `$f`, and then those of `$e`.
+fn mandatory_labels<'p>(
+    alloc: Global,
+    prelude: &Prelude,
+    names: &Names<'p>,
+    assertion: &Assertion,
+    premises: &[&'p [u8]],
+) -> Result<Vec<&'p [u8]>, AllocError> {
+    let frame = frame_of(alloc, prelude, assertion)?;
+    let mut labels = Vec::new(alloc);
+    for place in frame.floats.as_slice() {
+        labels.push(names.floats.get(*place as usize).copied().unwrap_or(b"?"))?;
+    }
+    labels.extend_from_slice(premises)?;
+    Ok(labels)
+}
+
+/// Puts the proof of a theorem whose `$e` have these labels. Whether it could be written.
+fn put_proof<'p, 'a, D: Declared<'a>>(
+    alloc: Global,
+    keys: RandomState,
+    out: &mut Vec<u8>,
+    declared: &D,
+    prelude: &Prelude,
+    names: &Names<'p>,
+    assertion: &Assertion,
+    labels: &'p [Vec<u8>],
+    form: Form,
+) -> Result<bool, AllocError> {
+    let premises = slices_of(alloc, labels)?;
+    let premises = premises.as_slice();
+    let steps = assertion.proof.as_slice();
+    let Some((shared, root)) = nodes_of(alloc, keys, declared, names, premises, steps)? else {
+        return Ok(false);
+    };
+    let mut layout = Layout::new(alloc, form.indent() + 2)?;
+    let is_whole = if form.is_compressed {
+        let mandatory = mandatory_labels(alloc, prelude, names, assertion, premises)?;
+        put_compressed(alloc, &mut layout, &shared, mandatory.as_slice(), root)?
+    } else {
+        put_normal(alloc, &mut layout, &shared, root)?
+    };
+    out.extend_from_slice(layout.finish()?.as_slice())?;
+    out.extend_from_slice(b"$.")?;
+    Ok(is_whole)
+}
+
+/// The text of a theorem that is added, behind an empty line. None where its proof can't be written.
+pub fn added_text<'x, 'a, D: Declared<'a>>(
+    alloc: Global,
+    keys: RandomState,
+    declared: &D,
+    prelude: &Prelude,
+    names: &Names<'x>,
+    words: &SymbolWords<'x>,
+    assertion: &Assertion,
+    is_compressed: bool,
+) -> Result<Option<Vec<u8>>, AllocError> {
+    let premises = assertion.hyps.as_slice().len();
+    let labels = premise_labels(alloc, assertion.label.as_slice(), premises)?;
+    let form = Form {
+        is_block: premises > 0 || !assertion.pairs.as_slice().is_empty(),
+        is_compressed,
+    };
+    let mut out = Vec::from_slice(alloc, b"\n")?;
+    put_front(alloc, &mut out, words, assertion, labels.as_slice(), form)?;
+    let labels = labels.as_slice();
+    if !put_proof(
+        alloc, keys, &mut out, declared, prelude, names, assertion, labels, form,
+    )? {
+        return Ok(None);
+    }
+    if form.is_block {
+        out.extend_from_slice(b"\n  $}")?;
+    }
+    Ok(Some(out))
+}

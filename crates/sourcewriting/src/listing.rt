@@ -1,0 +1,200 @@
+//! From the steps of a proof in the library to nodes in the order of the source.
+
+ghost use Rattle.std.specs.Prelude.{◌≡◌, ◌<◌, length, count_by, IfOk};
+ghost use Rattle.taking.specs.Walks.{arranged};
+
+use crate::shared::Shared;
+use mmsyntax::Step;
+use source::{Declared, HypothesisWords};
+use std::alloc::{AllocError, Global};
+use std::collections::HashMap;
+use std::hash::RandomState;
+
+/// Which mandatory hypotheses an assertion has in the source.
+#[derive(Clone, Copy)]
+pub enum Kinds {
+    /// Those of the assertion at this place.
+    Standing(usize),
+    /// Those of one that is added: so many `$f`, and behind them so many `$e`.
+    Added(usize, usize),
+}
+
+/// An assertion of the library, as proofs cite it.
+#[derive(Clone, Copy)]
+pub struct Cited<'x> {
+    /// Its mandatory hypotheses there.
+    pub kinds: Kinds,
+    /// Its label in the source then.
+    pub label: &'x [u8],
+}
+
+/// What the steps of proofs name.
+#[derive(Drop)]
+pub struct Names<'x> {
+    /// The labels of the library's `$f` in the source, by their places.
+    pub floats: Vec<&'x [u8]>,
+    /// The library's assertions, by their labels then.
+    pub cited: HashMap<&'x [u8], Cited<'x>, RandomState>,
+}
+
+/// Whether each mandatory hypothesis of the assertion at a place is a `$f`, in order of appearance.
+fn kinds_at<'a, D: Declared<'a>>(
+    alloc: Global,
+    declared: &D,
+    place: usize,
+) -> Result<Vec<bool>, AllocError>
+    requires { place < length (D.scope declared.now).assertions }
+{
+    let mut kinds = Vec::new(alloc);
+    for hypothesis in declared.mandatory(alloc, place)? {
+        kinds.push(matches!(hypothesis, HypothesisWords::Typing(..)))?;
+    }
+    Ok(kinds)
+}
+
+/// Whether each mandatory hypothesis of one that is added is a `$f`, in order of appearance.
+fn added_kinds(alloc: Global, floats: usize, premises: usize) -> Result<Vec<bool>, AllocError> {
+    let mut kinds = vec![in alloc; true; floats]?;
+    for _ in 0..premises {
+        kinds.push(false)?;
+    }
+    Ok(kinds)
+}
+
+/// Whether each mandatory hypothesis is a `$f`, in order of appearance. None where there is no such assertion.
+fn kinds_of<'a, D: Declared<'a>>(
+    alloc: Global,
+    declared: &D,
+    kinds: Kinds,
+) -> Result<Option<Vec<bool>>, AllocError> {
+    match kinds {
+        Kinds::Standing(place) if place < declared.assertions() => {
+            Ok(Some(kinds_at(alloc, declared, place)?))
+        }
+        Kinds::Standing(_) => Ok(None),
+        Kinds::Added(floats, premises) => Ok(Some(added_kinds(alloc, floats, premises)?)),
+    }
+}
+
+/// How many are `$f`.
+fn count_floats(kinds: &[bool]) -> usize
+    ensures { result ≡ count_by (λ is_float. is_float) kinds.now }
+{
+    kinds.iter().filter(|is_float| **is_float).count()
+}
+
+/// Arguments in the order of the source, of those in the order of the library, where those of `$f` stand before those of `$e`.
+fn in_source_order(
+    alloc: Global,
+    kinds: &[bool],
+    arguments: &[usize],
+) -> Result<Vec<usize>, AllocError>
+    requires { length kinds.now ≡ length arguments.now }
+    ensures { IfOk result (λ made. arranged kinds.now made.items ≡ arguments.now) }
+{
+    let mut floats = 0;
+    let mut premises = count_floats(kinds);
+    let mut made = Vec::new(alloc);
+    for is_float in kinds {
+        if *is_float {
+            made.push(arguments[floats])?;
+            floats += 1;
+        } else {
+            made.push(arguments[premises])?;
+            premises += 1;
+        }
+    }
+    Ok(made)
+}
+
+/// A citation takes its arguments off the stack, and its node goes on. Whether they were there.
+fn cite<'x, 'a, D: Declared<'a>>(
+    alloc: Global,
+    declared: &D,
+    shared: &mut Shared<'x>,
+    stack: &mut Vec<usize>,
+    cited: Cited<'x>,
+) -> Result<bool, AllocError> {
+    let Some(kinds) = kinds_of(alloc, declared, cited.kinds)? else {
+        return Ok(false);
+    };
+    let Some(first) = stack.len().checked_sub(kinds.len()) else {
+        return Ok(false);
+    };
+    let arguments = in_source_order(alloc, kinds.as_slice(), &stack[first..])?;
+    stack.truncate(first);
+    let node = shared.node(alloc, cited.label, arguments.as_slice())?;
+    stack.push(node)?;
+    Ok(true)
+}
+
+/// A hypothesis goes on the stack, if there is one.
+fn put_leaf<'x>(
+    alloc: Global,
+    shared: &mut Shared<'x>,
+    stack: &mut Vec<usize>,
+    label: Option<&'x [u8]>,
+) -> Result<bool, AllocError> {
+    let Some(label) = label else {
+        return Ok(false);
+    };
+    let node = shared.node(alloc, label, &[])?;
+    stack.push(node)?;
+    Ok(true)
+}
+
+/// A step: whether what it takes was there.
+fn take_step<'x, 'a, D: Declared<'a>>(
+    alloc: Global,
+    declared: &D,
+    names: &Names<'x>,
+    premises: &[&'x [u8]],
+    shared: &mut Shared<'x>,
+    stack: &mut Vec<usize>,
+    step: &Step,
+) -> Result<bool, AllocError> {
+    match step {
+        Step::Float(place) => {
+            let label = names.floats.get(*place as usize).copied();
+            put_leaf(alloc, shared, stack, label)
+        }
+        Step::Hyp(place) => {
+            let label = premises.get(*place as usize).copied();
+            put_leaf(alloc, shared, stack, label)
+        }
+        Step::Cite(label) => match names.cited.get(&label.as_slice()) {
+            Some(cited) => cite(alloc, declared, shared, stack, *cited),
+            None => Ok(false),
+        },
+    }
+}
+
+/// The nodes of a proof, by its steps, and which of them is the proof. None where the steps denote no tree.
+pub(crate) fn nodes_of<'x, 'a, D: Declared<'a>>(
+    alloc: Global,
+    keys: RandomState,
+    declared: &D,
+    names: &Names<'x>,
+    premises: &[&'x [u8]],
+    steps: &[Step],
+) -> Result<Option<(Shared<'x>, usize)>, AllocError> {
+    let mut shared = Shared::new(alloc, keys);
+    let mut stack = Vec::new(alloc);
+    for step in steps {
+        if !take_step(
+            alloc,
+            declared,
+            names,
+            premises,
+            &mut shared,
+            &mut stack,
+            step,
+        )? {
+            return Ok(None);
+        }
+    }
+    match stack.as_slice() {
+        [root] => Ok(Some((shared, *root))),
+        _ => Ok(None),
+    }
+}

@@ -1,0 +1,102 @@
+//! The text of another proof of a theorem, in the form that the old one has in the source.
+
+ghost use Rattle.std.specs.Prelude.{◌<◌, length};
+
+use crate::layout::Layout;
+use crate::listing::{Names, nodes_of};
+use crate::shared::Shared;
+use crate::wording::{put_compressed, put_normal};
+use mmsyntax::Step;
+use source::{Declared, HypothesisWords, ProofWords};
+use std::alloc::{AllocError, Global};
+use std::hash::RandomState;
+
+/// How far the lines of a proof are indented where the theorem has `$e`, and so stands in a block.
+const IN_BLOCK: usize = 6;
+
+/// How far they are indented otherwise.
+const OUTSIDE: usize = 4;
+
+/// The labels of the mandatory hypotheses of a theorem, and those of its `$e`, in order of appearance.
+#[derive(Drop)]
+struct Hypotheses<'x> {
+    mandatory: Vec<&'x [u8]>,
+    premises: Vec<&'x [u8]>,
+}
+
+/// The labels of the mandatory hypotheses of the assertion at a place.
+fn hypotheses_of<'x, D: Declared<'x>>(
+    alloc: Global,
+    declared: &D,
+    place: usize,
+) -> Result<Hypotheses<'x>, AllocError>
+    requires { place < length (D.scope declared.now).assertions }
+{
+    let mut mandatory = Vec::new(alloc);
+    let mut premises = Vec::new(alloc);
+    for hypothesis in declared.mandatory(alloc, place)? {
+        match hypothesis {
+            HypothesisWords::Typing(label, _, _) => mandatory.push(*label)?,
+            HypothesisWords::Premise(label, _) => {
+                mandatory.push(*label)?;
+                premises.push(*label)?;
+            }
+        }
+    }
+    Ok(Hypotheses {
+        mandatory,
+        premises,
+    })
+}
+
+/// Puts the words of a proof in the form of another. Whether it has at most 16,384 steps.
+fn put_in_form(
+    alloc: Global,
+    layout: &mut Layout,
+    old: Option<&ProofWords<'_>>,
+    shared: &Shared<'_>,
+    mandatory: &[&[u8]],
+    root: usize,
+) -> Result<bool, AllocError> {
+    match old {
+        Some(ProofWords::Normal(_)) => put_normal(alloc, layout, shared, root),
+        _ => put_compressed(alloc, layout, shared, mandatory, root),
+    }
+}
+
+/// The text of a proof of the theorem at a place of the source, by its steps in the library. None where they denote no tree, or one of over
+/// 16,384 steps.
+pub fn proof_text<'x, D: Declared<'x>>(
+    alloc: Global,
+    keys: RandomState,
+    declared: &D,
+    names: &Names<'x>,
+    place: usize,
+    steps: &[Step],
+) -> Result<Option<Vec<u8>>, AllocError>
+    requires { place < length (D.scope declared.now).assertions }
+{
+    let hypotheses = hypotheses_of(alloc, declared, place)?;
+    let premises = hypotheses.premises.as_slice();
+    let Some((shared, root)) = nodes_of(alloc, keys, declared, names, premises, steps)? else {
+        return Ok(None);
+    };
+    let indent = if premises.is_empty() {
+        OUTSIDE
+    } else {
+        IN_BLOCK
+    };
+    let mut layout = Layout::new(alloc, indent)?;
+    let mandatory = hypotheses.mandatory.as_slice();
+    if !put_in_form(
+        alloc,
+        &mut layout,
+        declared.proof(place),
+        &shared,
+        mandatory,
+        root,
+    )? {
+        return Ok(None);
+    }
+    Ok(Some(layout.finish()?))
+}

@@ -1,0 +1,22 @@
+$( Taken by mmrefactor from give.mm
+   1105 bytes, SHA-256 c65dd276e3dcee26ed5979dd30cc5d5d4978fadef2e876f51012afd2c342d559
+   Chosen: for a1i
+   Changed names: 0
+   Theorems taken as axioms: 0
+$)
+$c ( ) -> wff |- $.
+$v ph ps ch $.
+wph $f wff ph $.
+wps $f wff ps $.
+wch $f wff ch $.
+wi $a wff ( ph -> ps ) $.
+${
+  ax-mp.1 $e |- ph $.
+  ax-mp.2 $e |- ( ph -> ps ) $.
+  ax-mp $a |- ps $.
+$}
+ax-1 $a |- ( ph -> ( ps -> ph ) ) $.
+${
+  a1i.1 $e |- ph $.
+  a1i $p |- ( ps -> ph ) $= wph wps wph wi a1i.1 wph wps ax-1 ax-mp $.
+$}
