@@ -2,6 +2,18 @@
 
 ghost use Rattle.std.specs.Prelude.{◌≡◌, codes};
 
+/// Whether a token of a comment leads from words to symbols, or back. Each backquote in it does; so two together, which stand for one that
+/// is meant, lead nowhere.
+fn leads_across(token: &[u8]) -> bool {
+    let mut across = false;
+    for byte in token {
+        if *byte == b'`' {
+            across = !across;
+        }
+    }
+    across
+}
+
 /// How far a comment was read.
 #[derive(Clone, Copy, Debug, PartialEq, Eq)]
 pub(crate) enum CommentPlace {
@@ -18,12 +30,11 @@ impl CommentPlace {
     pub(crate) fn behind(self, token: &[u8]) -> CommentPlace
         ensures { result ≡ CommentPlace.Label → token.now ≡ codes "~" }
     {
-        match self {
-            CommentPlace::Words if token == b"~".as_slice() => CommentPlace::Label,
-            CommentPlace::Words if token == b"`".as_slice() => CommentPlace::Symbols,
-            CommentPlace::Symbols if token == b"`".as_slice() => CommentPlace::Words,
-            CommentPlace::Symbols => CommentPlace::Symbols,
-            CommentPlace::Words | CommentPlace::Label => CommentPlace::Words,
+        match (self, leads_across(token)) {
+            (CommentPlace::Symbols, false) => CommentPlace::Symbols,
+            (CommentPlace::Words | CommentPlace::Label, true) => CommentPlace::Symbols,
+            (CommentPlace::Words, false) if token == b"~".as_slice() => CommentPlace::Label,
+            _ => CommentPlace::Words,
         }
     }
 }
