@@ -1,5 +1,5 @@
 -- A text that is written anew.
-use Rattle.std.proofs.Common.{ℕ, List, [], refl, arith}
+use Rattle.std.proofs.Common.{◌≡◌, ℕ, List, [], refl, subst, arith}
 use Rattle.std.specs.Prelude.{All}
 use Rattle.std.proofs.lemmas.List.Elements.{All-nil}
 use Rattle.giving.specs.Staying.{Change}
@@ -31,3 +31,16 @@ module _ (commands : List Command) (cs : List Change) (source out : List ℕ) wh
   -- some command adds, moves or deletes
   pub all_rearranged : (All KeepsPlaces commands → ⊥) → IsRearranged cs source out → IsWrittenAnew commands cs source out
   all_rearranged some rearranged = record { rearranged = rearranged; places = λ all. absurd (some all) }
+
+module _ (cs proofs : List Change) (source kept seen_kept changed seen_changed out : List ℕ) where
+  -- cut, changed and filled, one behind the other
+  pub rearranged_by : IsPatched IsCut source kept → seen_kept ≡ kept → IsRewritten cs proofs seen_kept changed → seen_changed ≡ changed
+      → IsPatched IsPutIn seen_changed out → IsRearranged cs source out
+  rearranged_by cut same_kept rewritten same_changed filled = record {
+    kept = kept;
+    cut = cut;
+    proofs = proofs;
+    changed = changed;
+    rewritten = subst (λ (text : List ℕ). IsRewritten cs proofs text changed) same_kept rewritten;
+    filled = subst (λ (text : List ℕ). IsPatched IsPutIn text out) same_changed filled;
+  }

@@ -1,6 +1,10 @@
 //! A source with the edits of a history that adds, moves or deletes: assertions are cut out, labels and proofs change, and assertions are
 //! put in.
 
+ghost use Rattle.std.specs.Prelude.{IfOk};
+ghost use Rattle.rewriting.specs.Spans.{IsCut, IsPutIn, IsPatched};
+ghost use Rattle.givetext.specs.Written.{IsRearranged};
+
 use crate::citing::marked;
 use crate::filling::{Texts, fills_of};
 use crate::following::Followed;
@@ -190,12 +194,66 @@ fn put_added<'x, 'a, D: Declared<'a>>(
     Ok(())
 }
 
+/// The texts of those that are put in: those that stand elsewhere then, and those that were added.
+fn texts_of<'x, 'a, D: Declared<'a>>(
+    alloc: Global,
+    keys: RandomState,
+    declared: &D,
+    source: &[u8],
+    outline: &Outline<'_>,
+    moving: &Changes<'x>,
+    edits: &Rearranged<'x>,
+) -> Result<Texts<'x>, Refusal> {
+    let mut texts = HashMap::with_hasher(alloc, keys);
+    put_moved(alloc, source, outline, moving, edits, &mut texts)?;
+    let prelude = edits.planned.database.prelude();
+    let words = symbol_words(alloc, keys, prelude, edits.planned.names)?;
+    put_added(alloc, keys, declared, &words, edits, &mut texts)?;
+    Ok(texts)
+}
+
 /// Stretches that can't be cut out of a text, or put into it.
 fn unfit(alloc: Global) -> Result<Refusal, AllocError> {
     Ok(Refusal::Text(
         File::History,
         format!(in alloc; "the edits can't be written")?,
     ))
+}
+
+/// The source without those that leave their places.
+fn without(
+    alloc: Global,
+    source: &[u8],
+    outline: &Outline<'_>,
+    gone: &Changes<'_>,
+    moving: &Changes<'_>,
+) -> Result<Vec<u8>, Refusal>
+    ensures { IfOk result (λ kept. IsPatched IsCut source.now kept.items) }
+{
+    let leaving = leaving_of(alloc, outline, gone, moving)?;
+    let cuts = cuts_of(alloc, outline, leaving.as_slice())?;
+    match cut_out(alloc, source, cuts.as_slice())? {
+        Some(kept) => Ok(kept),
+        None => Err(unfit(alloc)?),
+    }
+}
+
+/// The text with the texts of those that are put in.
+fn filled(
+    alloc: Global,
+    keys: RandomState,
+    text: &[u8],
+    planned: &Planned<'_>,
+    texts: &Texts<'_>,
+) -> Result<Vec<u8>, Refusal>
+    ensures { IfOk result (λ out. IsPatched IsPutIn text.now out.items) }
+{
+    let entries = planned.edited.entries();
+    let fills = fills_of(alloc, keys, text, planned.living, entries, texts)?;
+    match put_in(alloc, text, fills.as_slice())? {
+        Some(out) => Ok(out),
+        None => Err(unfit(alloc)?),
+    }
 }
 
 /// The source with the edits of a history that adds, moves or deletes.
@@ -205,36 +263,14 @@ pub(crate) fn rearrange<'x, 'a, D: Declared<'a>>(
     declared: &D,
     source: &'x [u8],
     edits: &Rearranged<'x>,
-) -> Result<Vec<u8>, Refusal> {
+) -> Result<Vec<u8>, Refusal>
+    ensures { IfOk result (λ out. IsRearranged edits.now.changes.now source.now out.items) }
+{
     let outline = outline_of(alloc, source)?;
     let moving = moving_of(alloc, keys, &edits.planned)?;
     let gone = marked(alloc, keys, edits.gone)?;
-    let leaving = leaving_of(alloc, &outline, &gone, &moving)?;
-    let mut texts = HashMap::with_hasher(alloc, keys);
-    put_moved(alloc, source, &outline, &moving, edits, &mut texts)?;
-    let words = symbol_words(
-        alloc,
-        keys,
-        edits.planned.database.prelude(),
-        edits.planned.names,
-    )?;
-    put_added(alloc, keys, declared, &words, edits, &mut texts)?;
-    let cuts = cuts_of(alloc, &outline, leaving.as_slice())?;
-    let Some(kept) = cut_out(alloc, source, cuts.as_slice())? else {
-        return Err(unfit(alloc)?);
-    };
+    let texts = texts_of(alloc, keys, declared, source, &outline, &moving, edits)?;
+    let kept = without(alloc, source, &outline, &gone, &moving)?;
     let changed = rewrite(alloc, edits.changes, edits.proofs, kept.as_slice())?;
-    let entries = edits.planned.edited.entries();
-    let fills = fills_of(
-        alloc,
-        keys,
-        changed.as_slice(),
-        edits.planned.living,
-        entries,
-        &texts,
-    )?;
-    match put_in(alloc, changed.as_slice(), fills.as_slice())? {
-        Some(out) => Ok(out),
-        None => Err(unfit(alloc)?),
-    }
+    filled(alloc, keys, changed.as_slice(), &edits.planned, &texts)
 }
