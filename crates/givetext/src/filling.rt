@@ -63,7 +63,9 @@ fn first_begin(text: &[u8], stretches: &[Option<Stretch>]) -> usize {
 /// A text would stand in front of an assertion and behind another one of its block.
 fn within_block(alloc: Global, label: &[u8], before: &[u8]) -> Result<Refusal, AllocError> {
     let (label, before) = (shown(label), shown(before));
-    let why = format!(in alloc; "{label} would stand in the block of {before}, in front of it: it isn't put there yet")?;
+    let why = format!(in alloc;
+        "{label} would stand in the block of {before}, in front of it: it isn't put there yet"
+    )?;
     Ok(Refusal::Text(File::History, why))
 }
 
