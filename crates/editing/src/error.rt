@@ -23,7 +23,7 @@ pub enum EditError {
 
 impl From<WorkError> for EditError {
     ghost use Rattle.std.specs.Prelude.{◌≡◌};
-    ghost use Rattle.jobs.specs.Edits.{from_work};
+    ghost use Rattle.editing.specs.Edits.{from_work};
 
     ghost from_gives = { λ error e. e ≡ from_work error };
 
@@ -37,7 +37,7 @@ impl From<WorkError> for EditError {
 
 impl From<FinishError> for EditError {
     ghost use Rattle.std.specs.Prelude.{◌≡◌};
-    ghost use Rattle.jobs.specs.Edits.{from_finish};
+    ghost use Rattle.editing.specs.Edits.{from_finish};
 
     ghost from_gives = { λ error e. e ≡ from_finish error };
 

@@ -17,8 +17,8 @@ use Rattle.workers.specs.declared.error.WorkError.TheVariants as work
 use Rattle.workers.specs.Works.{ScriptAgrees, HasOutcomes, all_of, is_done, numbers_of}
 use Rattle.finishing.specs.declared.error.FinishError.{FinishError}
 use Rattle.finishing.specs.declared.error.FinishError.TheVariants as finish
-use Rattle.jobs.specs.declared.error.EditError.{EditError}
-use Rattle.jobs.specs.declared.error.EditError.TheVariants.{NoThread, Missing, Held, NoMemory}
+use Rattle.editing.specs.declared.error.EditError.{EditError}
+use Rattle.editing.specs.declared.error.EditError.TheVariants.{NoThread, Missing, Held, NoMemory}
 
 -- the numbers from 1 whose entries are done, in order
 abbrev pub done_numbers : List Entry → List ℕ

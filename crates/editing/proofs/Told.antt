@@ -13,7 +13,7 @@ use Rattle.transaction.specs.declared.outcome.Outcome.{Outcome}
 use Rattle.transaction.specs.declared.outcome.Outcome.TheVariants as outcome
 use Rattle.transaction.specs.Members.{Home, Member, IsOf}
 use Rattle.workers.specs.Works.{ScriptAgrees, AreSharesOf, IsHandedBack, ToldBy, all_of}
-use Rattle.jobs.specs.Edits.{IsShareIn, ToldIn}
+use Rattle.editing.specs.Edits.{IsShareIn, ToldIn}
 
 -- as many sessions as shares
 pub as_many_shares : (g : Given) (scripts : List (List (List Command))) (rows : List (List Outcome)) (before after : List Member)

@@ -22,10 +22,10 @@ use Rattle.workers.specs.Works.{Works, HasOutcomes, IsHandedBack, IsLack as IsWo
 use Rattle.finishing.specs.declared.error.FinishError.{FinishError}
 use Rattle.finishing.specs.declared.error.FinishError.TheVariants.{Missing, Held, NoMemory}
 use Rattle.finishing.specs.Finishes.{IsFinished, Finishes}
-use Rattle.jobs.specs.Edits.{IsEdited, IsLack, ToldIn, from_work, from_finish}
-use Rattle.jobs.proofs.DoneNumbers.{done_are, few_drawn}
-use Rattle.jobs.proofs.Shares.{of_each}
-use Rattle.jobs.proofs.Told.{as_many_shares, shares_told, share_told, still_of}
+use Rattle.editing.specs.Edits.{IsEdited, IsLack, ToldIn, from_work, from_finish}
+use Rattle.editing.proofs.DoneNumbers.{done_are, few_drawn}
+use Rattle.editing.proofs.Shares.{of_each}
+use Rattle.editing.proofs.Told.{as_many_shares, shares_told, share_told, still_of}
 
 -- sessions that are handed back have the names that they had
 names_kept : (before after : List Member) → AllZip IsHandedBack before after

@@ -5,7 +5,7 @@ ghost use Rattle.library.specs.Fitting.{CommandFits};
 ghost use Rattle.lawful.specs.Lawful.{setting_of};
 ghost use Rattle.transaction.specs.Openings.{IsNew};
 ghost use Rattle.transaction.specs.Closings.{lists_of};
-ghost use Rattle.jobs.specs.Edits.{IsEdited, IsLack};
+ghost use Rattle.editing.specs.Edits.{IsEdited, IsLack};
 
 use crate::error::EditError;
 use finishing::finish;

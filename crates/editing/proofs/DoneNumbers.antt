@@ -23,8 +23,8 @@ use Rattle.workers.specs.Works.{IsHandedBack, is_done, newly_done, all_newly_don
 use Rattle.workers.proofs.Numbers.{done_at}
 use Rattle.finishing.specs.Finishes.{IsFinished}
 use Rattle.finishing.proofs.Ended.{settled}
-use Rattle.jobs.specs.Edits.{done_numbers}
-use Rattle.jobs.proofs.Covers.{covers}
+use Rattle.editing.specs.Edits.{done_numbers}
+use Rattle.editing.proofs.Covers.{covers}
 
 -- ---- lists
 
