@@ -12,7 +12,7 @@ use Rattle.source.specs.Scopes.{Assertion, Pair, is_in}
 use Rattle.source.specs.Views.{seen_pairs}
 use Rattle.taking.specs.declared.reason.Reason.{Reason}
 use Rattle.taking.specs.Reasons.{Choice}
-use Rattle.intake.specs.Gatherings.{told_in}
+use Rattle.gathering.specs.Gatherings.{told_in}
 use Rattle.givetext.specs.Following.{is_own}
 use Rattle.givetext.proofs.Labels.{Seen, seen}
 use Rattle.givetext.proofs.Origins.{flag_is}
