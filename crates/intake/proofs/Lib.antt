@@ -1,12 +1,2 @@
-pub mod LeftOut
-pub mod Listable
-pub mod Reasons
-pub mod Forms
-mod Zipped
-mod Said
-mod Stated
-mod Known
-mod Placing
-mod Going
 mod Libraries
 mod Steps

@@ -17,9 +17,9 @@ use Rattle.taking.specs.Taken.{chosen_of}
 use Rattle.choosing.specs.declared.wish.Wish.{Wish}
 use Rattle.naming.specs.declared.names.LibraryNames.{LibraryNames}
 use Rattle.sites.specs.Sites.{Sited}
-use Rattle.intake.specs.declared.assembling.Gathered.{Gathered}
-use Rattle.intake.specs.Placed.{map_of, tables_of, floats_from}
-use Rattle.intake.specs.Gatherings.{told_in}
+use Rattle.gathering.specs.declared.assembling.Gathered.{Gathered}
+use Rattle.gathering.specs.Placed.{map_of, tables_of, floats_from}
+use Rattle.gathering.specs.Gatherings.{told_in}
 use Rattle.intake.specs.Parts.{AreTakenBy, IsGathered, AreAsMany, lists_of, changed_of}
 
 -- ---- flags

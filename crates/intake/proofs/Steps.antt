@@ -14,12 +14,12 @@ use Rattle.choosing.specs.declared.wish.Selection.{Selection}
 use Rattle.naming.specs.declared.names.LibraryNames.{LibraryNames}
 use Rattle.naming.specs.Namings.{AreNamedWell}
 use Rattle.sites.specs.Sites.{Sited, AreSites}
-use Rattle.intake.specs.declared.assembling.Gathered.{Gathered}
+use Rattle.gathering.specs.declared.assembling.Gathered.{Gathered}
 use Rattle.intake.specs.declared.taken.Taken.{Taken}
 use Rattle.intake.specs.declared.refusal.Refusal.{Refusal}
 use Rattle.intake.specs.declared.refusal.Refusal.TheVariants as refusal
-use Rattle.intake.specs.Placed.{map_of, tables_of}
-use Rattle.intake.specs.Gatherings.{told_in}
+use Rattle.gathering.specs.Placed.{map_of, tables_of}
+use Rattle.gathering.specs.Gatherings.{told_in}
 use Rattle.intake.specs.Intakes.{IsTaken, IsLibraryOf, IsRefused, IsRefusedOf, IsWide}
 use Rattle.intake.specs.Parts.{AreTakenBy, IsGathered, IsChoiceByFlags, AreAsMany, lists_of, changed_of}
 use Rattle.intake.proofs.Libraries.{chosen_kept, taken_of}

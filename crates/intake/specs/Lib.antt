@@ -1,7 +1,2 @@
-pub mod Outcomes
-pub mod Placed
-pub mod Pairs
-pub mod Gatherings
-pub mod Assembled
 pub mod Intakes
 pub mod Parts

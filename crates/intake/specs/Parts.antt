@@ -14,9 +14,9 @@ use Rattle.choosing.specs.declared.wish.Wish.{Wish}
 use Rattle.naming.specs.declared.names.LibraryNames.{LibraryNames}
 use Rattle.naming.specs.Namings.{AreNamedWell}
 use Rattle.sites.specs.Sites.{Sited, AreSites}
-use Rattle.intake.specs.declared.assembling.Gathered.{Gathered}
-use Rattle.intake.specs.Placed.{map_of, tables_of}
-use Rattle.intake.specs.Gatherings.{told_in}
+use Rattle.gathering.specs.declared.assembling.Gathered.{Gathered}
+use Rattle.gathering.specs.Placed.{map_of, tables_of}
+use Rattle.gathering.specs.Gatherings.{told_in}
 use Rattle.intake.specs.Intakes.{IsTakenOf}
 
 -- lists that are taken of a source, with what is told of them, and flags that say of each assertion whether it was taken

@@ -12,13 +12,11 @@ ghost use Rattle.intake.specs.Intakes.{IsTaken, IsLibraryOf, IsRefused, IsRefuse
 ghost use Rattle.intake.specs.Parts.{IsChoiceByFlags};
 ghost use Rattle.intake.specs.declared.refusal.Refusal.TheVariants.{NoMemory};
 
-use crate::assembling::gather;
 use crate::declaring::library_of;
-use crate::following::Follow;
-use crate::places::Placed;
 use crate::refusal::Refusal;
 use crate::taken::Taken;
 use choosing::{Selection, Unchosen, Wish, choose};
+use gathering::{Follow, Placed, gather};
 use naming::{LibraryNames, Unnamed, name_all};
 use prooftrees::Frames;
 use scopes::Scopes;

@@ -12,16 +12,16 @@ ghost use Rattle.drafts.specs.Limits.{IsTold};
 ghost use Rattle.drafts.specs.declared.draft.Undeclared.TheVariants.{NoMemory as OutOfMemory};
 ghost use Rattle.mmsyntax.specs.Layout.{HasSpelling};
 ghost use Rattle.mmsyntax.specs.Tables.{Contents};
-ghost use Rattle.intake.specs.Gatherings.{told_in, told_names};
+ghost use Rattle.gathering.specs.Gatherings.{told_in, told_names};
 ghost use Rattle.intake.specs.Intakes.{IsTakenOf, IsLibraryOf, IsRefusedOf, IsProofFault};
 ghost use Rattle.intake.specs.Parts.{AreAsMany, AreTakenBy, IsGathered, lists_of, changed_of};
 
-use crate::assembling::Gathered;
 use crate::drafting::{floats, put_changed};
 use crate::refusal::Refusal;
 use crate::taken::Taken;
 use derivation::{ProofFault, ProofFaultKind};
 use drafts::{Draft, Limit, Undeclared, declare};
+use gathering::Gathered;
 use mmsyntax::{Assertion, Database, Label, Sequence};
 use naming::LibraryNames;
 use proofcheck::check_all;

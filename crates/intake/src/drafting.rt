@@ -5,7 +5,7 @@ ghost use Rattle.std.specs.List.{zip};
 ghost use Rattle.std.specs.Str.{bytes_eq};
 ghost use mathlib.Core.Bool.{not};
 ghost use Rattle.source.specs.Views.{seen_words};
-ghost use Rattle.intake.specs.Placed.{floats_from};
+ghost use Rattle.gathering.specs.Placed.{floats_from};
 
 use mmsyntax::{Float, Label, Sequence};
 use std::alloc::{AllocError, Global};

@@ -20,11 +20,11 @@ use Rattle.std.proofs.lemmas.Slice.Zip.{AllZip-long}
 use Rattle.ranges.proofs.Members.{all_has}
 use Rattle.workers.specs.Works.{OutcomeAgrees, ScriptAgrees, HasOutcomes, all_of, place_behind}
 use Rattle.reports.specs.Reports.{OutcomeFits, OutcomesFit}
-use Rattle.jobs.specs.Edits.{AreToldBy, IsShareIn}
+use Rattle.editing.specs.Edits.{AreToldBy, IsShareIn}
 use Rattle.checking.specs.Outcomes.{setting_of}
 use Rattle.jobs.specs.Jobs.{IsWorked}
 use Rattle.checking.proofs.Fronts.{opening_stands}
-use Rattle.jobs.proofs.Shares.{of_share, of_each}
+use Rattle.editing.proofs.Shares.{of_share, of_each}
 
 -- ---- of a legal history from an opening library that verifies
 

@@ -14,9 +14,9 @@ use Rattle.lawful.specs.Lawful.{first_library, setting_of as setting_given}
 use Rattle.transaction.specs.declared.outcome.Outcome.{Outcome}
 use Rattle.transaction.specs.Members.{Home, Member}
 use Rattle.transaction.specs.Openings.{IsOpened}
-use Rattle.jobs.specs.Edits.{AreToldBy, IsEdited, IsLack}
-use Rattle.jobs.specs.declared.error.EditError.{EditError}
-use Rattle.jobs.specs.declared.error.EditError.TheVariants as edit
+use Rattle.editing.specs.Edits.{AreToldBy, IsEdited, IsLack}
+use Rattle.editing.specs.declared.error.EditError.{EditError}
+use Rattle.editing.specs.declared.error.EditError.TheVariants as edit
 use Rattle.checking.specs.Outcomes.{setting_of}
 use Rattle.jobs.specs.Jobs.{IsWorked}
 use Rattle.jobs.specs.Parts.{shape_with, IsWorkFault, from_edit}

@@ -9,7 +9,7 @@ use Rattle.library.specs.declared.history.Entry.{Entry}
 use Rattle.library.specs.Histories.{told, after, after_all, EntriesFit, IsLegal}
 use Rattle.plaincells.specs.Measures.{bodies_length}
 use Rattle.transaction.specs.declared.outcome.Outcome.{Outcome}
-use Rattle.jobs.specs.Edits.{AreToldBy}
+use Rattle.editing.specs.Edits.{AreToldBy}
 use Rattle.historytext.specs.Grammar.{SpellsHistory}
 use Rattle.historytext.specs.Layout.{history_text}
 use Rattle.export.specs.Exported.{Accepts, exported_text}

@@ -2,4 +2,3 @@ pub mod Jobs
 pub mod Parts
 pub mod Tasks
 pub mod Laws
-pub mod Edits

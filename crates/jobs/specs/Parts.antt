@@ -6,8 +6,8 @@ use Rattle.checking.specs.declared.fault.Fault.TheVariants.{StoreFull, Missing, 
 use Rattle.jobs.specs.Jobs.{IsRunLack}
 use Rattle.plaincells.specs.Measures.{bodies_length}
 use Rattle.transaction.specs.declared.shape.Shape.{Shape}
-use Rattle.jobs.specs.declared.error.EditError.{EditError}
-use Rattle.jobs.specs.declared.error.EditError.TheVariants as edit
+use Rattle.editing.specs.declared.error.EditError.{EditError}
+use Rattle.editing.specs.declared.error.EditError.TheVariants as edit
 
 -- how the library of a run lies in words
 abbrev pub shape_with : ℕ → ℕ → Shape

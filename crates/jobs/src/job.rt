@@ -1,7 +1,7 @@
 //! What the program is asked to do, and what it prints.
 
-use crate::error::EditError;
 use checking::Fault;
+use editing::EditError;
 
 /// A job over texts: what files hold, as bytes.
 #[derive(Debug, Drop)]

@@ -2,8 +2,6 @@
 #![tactic(auto)]
 
 mod answering;
-mod editing;
-mod error;
 mod job;
 mod laws;
 mod performing;
@@ -13,8 +11,7 @@ mod watching;
 
 pub use answering::{Answered, answer};
 pub use checking::{Fault, Task, spelled_scripts_fit};
-pub use editing::{Edited, edit_all};
-pub use error::EditError;
+pub use editing::{EditError, Edited, edit_all};
 pub use job::{Job, Printed};
 pub use laws::{accepted_texts_check, fault_labels_are_shown, runs_are_replayed};
 pub use performing::perform;

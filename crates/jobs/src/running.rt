@@ -14,10 +14,10 @@ ghost use Rattle.checking.specs.Checks.{RefusesWith, library_lines};
 ghost use Rattle.jobs.specs.Parts.{IsOpenFault, IsWorkFault, shape_with};
 ghost use Rattle.reports.specs.Reports.{OutcomesFit, report_text};
 
-use crate::editing::{Edited, edit_all};
 use crate::job::Printed;
 use crate::watching::Watch;
 use checking::{Fault, SLOTS};
+use editing::{Edited, edit_all};
 use export::put_library;
 use historytext::write_history;
 use library::{Entry, Script};

@@ -1,6 +1,6 @@
 -- What the loop of `floats` keeps: the $f so far stand before those that are left.
 use Rattle.std.proofs.Common.{◌≡◌, ◌++◌, drop}
-use Rattle.intake.specs.Placed.{floats_from}
+use Rattle.gathering.specs.Placed.{floats_from}
 use Rattle.intake.proofs.drafting.floats.Given as goal
 
 abbrev pub invariant-loop-place : goal.invariant-loop-place

@@ -1,0 +1,5 @@
+pub mod Shares
+mod Covers
+mod DoneNumbers
+mod Told
+mod Leaving

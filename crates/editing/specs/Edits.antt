@@ -1,0 +1,78 @@
+-- What becomes of scripts that all the sessions of a library run to its end, told by the library's whole history.
+use Rattle.std.specs.Prelude.{◌≡◌, ◌≤◌, ◌^◌, ℕ, suc, eqb, List, All, IsPermutation, filter, flat_map, length, map}
+use Rattle.std.specs.List.{AllZip, IsDistinct}
+use Rattle.std.specs.List.Sorted.{IsStrictlyIncreasing}
+use Rattle.library.specs.declared.command.Command.{Command}
+use Rattle.library.specs.declared.history.Entry.{Entry as CodeEntry}
+use Rattle.library.specs.declared.library.Ranked.{Ranked}
+use Rattle.library.specs.Library.{Setting, Listed, ShowsInOrder}
+use Rattle.library.specs.Histories.{Entry, EntriesFit, IsLegal, after_all, told}
+use Rattle.lawful.specs.Lawful.{setting_of, first_library}
+use Rattle.claims.specs.Claims.{up_to}
+use Rattle.transaction.specs.declared.outcome.Outcome.{Outcome}
+use Rattle.transaction.specs.declared.outcome.Outcome.TheVariants as outcome
+use Rattle.transaction.specs.Members.{Home, Member}
+use Rattle.workers.specs.declared.error.WorkError.{WorkError}
+use Rattle.workers.specs.declared.error.WorkError.TheVariants as work
+use Rattle.workers.specs.Works.{ScriptAgrees, HasOutcomes, all_of, is_done, numbers_of}
+use Rattle.finishing.specs.declared.error.FinishError.{FinishError}
+use Rattle.finishing.specs.declared.error.FinishError.TheVariants as finish
+use Rattle.editing.specs.declared.error.EditError.{EditError}
+use Rattle.editing.specs.declared.error.EditError.TheVariants.{NoThread, Missing, Held, NoMemory}
+
+-- the numbers from 1 whose entries are done, in order
+abbrev pub done_numbers : List Entry → List ℕ
+done_numbers h = filter (is_done h) (map suc (up_to (length h)))
+
+-- that no number is left is told only where the history has 2^40 entries: as many as the worker drew numbers
+abbrev pub ToldIn : List Entry → Outcome → Type 0
+ToldIn h outcome.NumbersUsed = 2 ^ 40 ≤ length h
+ToldIn h _ = Unit {0}
+
+-- a worker ran the scripts with these indexes, from 0, in their order, one after another: as one script of all their transactions, each outcome
+-- is so of the history, and stands no earlier than those before it
+pub record IsShareIn (s : Setting) (lib0 : List Ranked) (h : List Entry) (scripts : List (List (List Command))) (rows : List (List Outcome))
+    (share : List ℕ) : Type 0 where
+  pub rising : IsStrictlyIncreasing share
+  pub agrees : ScriptAgrees s lib0 h 0 (all_of scripts share) (all_of rows share)
+
+-- these are the outcomes of scripts that so many workers ran, in a history from this opening library: each script has one for each of its
+-- transactions, in order; each worker ran its share of the scripts, as the history has it, each script by one worker; that no number is left is
+-- told only where the history shows it; and the numbers of those that committed are those of the done entries, each of one
+pub record AreToldBy (s : Setting) (lib0 : List Ranked) (h : List Entry) (workers : ℕ) (scripts : List (List (List Command)))
+    (rows : List (List Outcome)) : Type 0 where
+  pub each : AllZip HasOutcomes scripts rows
+  pub shares : List (List ℕ)
+  pub many : length shares ≡ workers
+  pub parts : IsPermutation (up_to (length scripts)) (flat_map (λ share. share) shares)
+  pub run : All (IsShareIn s lib0 h scripts rows) shares
+  pub told : All (All (ToldIn h)) rows
+  pub numbers : IsPermutation (flat_map numbers_of rows) (done_numbers h)
+
+-- the scripts were run: the history tells of these outcomes, and is legal from the library at the opening, with commands within the limits; and
+-- the library is the one after all of it
+pub record IsEdited (home : Home) (scripts : List (List (List Command))) (rows : List (List Outcome)) (history : List CodeEntry) (library : Listed) :
+    Type 0 where
+  pub told_by : AreToldBy (setting_of home.given) (first_library home.given) (map told history) home.sessions scripts rows
+  pub legal : IsLegal (setting_of home.given) (first_library home.given) (map told history)
+  pub fit : EntriesFit (setting_of home.given).prelude (map told history)
+  pub setting : library.setting ≡ setting_of home.given
+  pub after : ShowsInOrder (after_all (setting_of home.given) (first_library home.given) (map told history)) library.entries
+
+-- why there is no history. A thread is asked for only where there are two sessions or more; no number is missing where each session has a name of
+-- its own, and no lock is held where all workers have ended
+abbrev pub IsLack : List Member → EditError → Type 0
+IsLack sessions NoThread = 2 ≤ length sessions
+IsLack sessions (Missing n) = (1 ≤ n) × (IsDistinct eqb (map (λ (m : Member). m.known.name) sessions) → ⊥)
+IsLack sessions (Held c) = ⊥
+IsLack sessions NoMemory = Unit {0}
+
+-- the reason of one who runs the scripts, and of one who ends the library
+abbrev pub from_work : WorkError → EditError
+from_work work.NoMemory = NoMemory
+from_work work.NoThread = NoThread
+
+abbrev pub from_finish : FinishError → EditError
+from_finish (finish.Missing n) = Missing n
+from_finish (finish.Held c) = Held c
+from_finish finish.NoMemory = NoMemory

@@ -1,0 +1,10 @@
+pub mod LeftOut
+pub mod Listable
+pub mod Reasons
+pub mod Forms
+mod Zipped
+mod Said
+mod Stated
+mod Known
+mod Placing
+mod Going

@@ -1,0 +1,150 @@
+-- Why the theorem of a tree is taken as an axiom, by the size of its root, by flags and by what its nodes name.
+use Rattle.std.proofs.Common.{◌≡◌, ◌<◌, ◌≤◌, ◌+◌, ℕ, suc, Bool, true, false, List, [], ◌∷◌, map, take, get_or, cond}
+use Rattle.std.proofs.Common.{refl, sym, ap, subst, ◌∙◌, arith}
+use Rattle.std.specs.Prelude.{Option, Some, None, slice_get, slice_index_or, min, nat_lt, is_some}
+use Rattle.std.specs.Option.{option_map}
+use Rattle.std.specs.List.{list_any, AllByRecursion}
+use Rattle.std.proofs.lemmas.Bool.{cond-true, cond-false, lt-ltb, le-ltb}
+use Rattle.std.proofs.lemmas.Option.{same_Some, slice_get-map, get_or_from_slice_get}
+use Rattle.mmtext.specs.Words.{Word}
+use Rattle.mmsyntax.specs.declared.statement.Step.{Step}
+use Rattle.source.specs.Scopes.{Assertion, Scope, is_in}
+use Rattle.source.specs.Proofs.{Tree, node, over, size, total, is_unfinished}
+use Rattle.source.specs.Proofs as tree
+use Rattle.source.specs.Views.{seen_words}
+use Rattle.taking.specs.declared.reason.Reason.TheVariants.{Unfinished, TooLong, InFront, CitesUnchosen}
+use Rattle.taking.specs.Names.{Map}
+use Rattle.taking.specs.Nodes.{Shared, trees, sizes, counted}
+use Rattle.taking.specs.Reasons.{Choice, is_left_out, cites_left_out, reason_of_tree, reason_of_finished, reason_of, reason}
+use Rattle.taking.specs.Walks.{IsListing}
+use Rattle.taking.proofs.Values.{natural, mapped}
+use Rattle.taking.proofs.LongListings.{denoted_enough}
+use Rattle.prooftrees.specs.declared.form.ProofTree.{ProofTree}
+use Rattle.prooftrees.specs.declared.form.ProofForm.TheVariants as form
+use Rattle.prooftrees.specs.Forms.{IsForm}
+use Rattle.gathering.specs.Outcomes.{HasStepsFor, AreSteps}
+use Rattle.gathering.proofs.Listable.{listing_there}
+
+-- ---- sizes
+
+each_size : (ts : List Tree) → tree.sizes (over ts) ≡ total (map size ts)
+each_size [] = refl
+each_size (t ∷ ts) = ap (λ n. size t + n) (each_size ts)
+
+-- the sizes of nodes are those of their trees
+sizes_of_trees : (labels : List Word) (ns : List Shared) → map size (trees labels ns) ≡ sizes ns
+sizes_of_trees labels ns =
+    natural size (λ n ts. node (slice_index_or labels n []) (over ts)) (λ n ks. suc (total ks)) ns (each ns)
+  where
+    each : (ms : List Shared) → AllByRecursion (λ n. (xs : List Tree) → suc (tree.sizes (over xs)) ≡ suc (total (map size xs))) ms
+    each [] = tt
+    each (m ∷ ms) = (λ xs. ap (λ k. suc k) (each_size xs), each ms)
+
+size_at : (labels : List Word) (ns : List Shared) (root : ℕ) (t : Tree) → slice_get (trees labels ns) root ≡ Some t
+    → slice_get (sizes ns) root ≡ Some (size t)
+size_at labels ns root t e =
+    ap (λ ks. slice_get ks root) (sym (sizes_of_trees labels ns))
+    ∙ slice_get-map size (trees labels ns) root
+    ∙ ap (option_map size) e
+
+counted_at : (labels : List Word) (ns : List Shared) (root : ℕ) (t : Tree) (n : ℕ) → slice_get (trees labels ns) root ≡ Some t
+    → option_map counted (slice_get (sizes ns) root) ≡ Some n → n ≡ min 16385 (size t)
+counted_at labels ns root t n is e =
+    sym (same_Some (counted (size t)) n (ap (option_map counted) (sym (size_at labels ns root t is)) ∙ e))
+
+few : (o : Option ℕ) (n : ℕ) → option_map counted o ≡ Some n → n ≤ 16384 → (k : ℕ) × (o ≡ Some k) × (k ≤ 16384)
+few o n e h =
+    let there = mapped counted o n e in
+    let is : min 16385 there.0 ≡ n = there.2 in
+    (there.0, there.1, omega arith)
+
+-- a small root is small enough to be listed
+pub few_at : (ns : List Shared) (root n : ℕ) → option_map counted (slice_get (sizes ns) root) ≡ Some n → n ≤ 16384
+    → get_or (sizes ns) root 0 ≤ 16384
+few_at ns root n e h =
+    let there = few (slice_get (sizes ns) root) n e h in
+    subst (λ (k : ℕ). k ≤ 16384) (sym (get_or_from_slice_get (sizes ns) root there.0 0 there.1)) there.2
+
+-- ---- reasons
+
+module _ (m : Map) (choice : Choice) (s : Scope) (place : ℕ) (x : Assertion) (t : ProofTree)
+    (f : IsForm m (take place s.assertions) x (form.Tree t)) where
+  earlier : List Assertion
+  earlier = take place s.assertions
+
+  denoted : Tree
+  denoted = f.3.tree
+
+  by_tree : reason choice earlier x ≡ reason_of_tree choice earlier x.label denoted
+  unfolding earlier denoted
+  by_tree =
+      ap (reason_of choice earlier x) f.1
+      ∙ cond-false (is_unfinished f.0) (Some Unfinished) (reason_of_finished choice earlier x.label (tree.denoted earlier x)) f.2
+      ∙ ap (reason_of_finished choice earlier x.label) f.3.denotes
+
+  -- what the nodes name is what the tree cites
+  cited : (b : Bool) → b ≡ list_any (λ n. is_left_out (take place s.assertions) choice.chosen (slice_index_or (seen_words t.labels.items)
+      n.named [])) t.proof.nodes
+      → cites_left_out (take place s.assertions) choice.chosen denoted ≡ b
+  unfolding denoted
+  cited b is = f.3.cites (is_left_out (take place s.assertions) choice.chosen) ∙ sym is
+
+  module _ (n : ℕ) (counts : option_map counted (slice_get (sizes t.proof.nodes) t.proof.root) ≡ Some n) where
+    root_is : n ≡ min 16385 (size denoted)
+    unfolding denoted
+    root_is = counted_at (seen_words t.labels.items) t.proof.nodes t.proof.root f.3.tree n f.3.stands counts
+
+    pub reason_of_long : 16384 < n → reason choice (take place s.assertions) x ≡ Some TooLong
+    unfolding earlier
+    reason_of_long long =
+        let is = root_is in
+        by_tree ∙ cond-true (nat_lt 16384 (size denoted)) (Some TooLong) _ (lt-ltb 16384 (size denoted) (omega arith))
+
+    module _ (small : n ≤ 16384) where
+      not_long : reason choice earlier x ≡ (cond (is_in choice.front x.label) (Some InFront) (cond (cites_left_out earlier choice.chosen
+          denoted) (Some CitesUnchosen) None))
+      not_long =
+          let is = root_is in
+          by_tree ∙ cond-false (nat_lt 16384 (size denoted)) (Some TooLong) _ (le-ltb 16384 (size denoted) (omega arith))
+
+      pub reason_in_front : is_in choice.front x.label ≡ true → reason choice (take place s.assertions) x ≡ Some InFront
+      unfolding earlier
+      reason_in_front front = not_long ∙ cond-true (is_in choice.front x.label) (Some InFront) _ front
+
+      module _ (chosen : is_in choice.front x.label ≡ false) (cites : Bool) (are : cites ≡ list_any (λ n. is_left_out (take place
+          s.assertions) choice.chosen (slice_index_or (seen_words t.labels.items) n.named [])) t.proof.nodes) where
+        pub reason_of_citing : cites ≡ true → reason choice (take place s.assertions) x ≡ Some CitesUnchosen
+        unfolding earlier
+        reason_of_citing is =
+            not_long
+            ∙ cond-false (is_in choice.front x.label) (Some InFront) _ chosen
+            ∙ cond-true (cites_left_out earlier choice.chosen denoted) (Some CitesUnchosen) None (cited cites are ∙ is)
+
+        module _ (none : cites ≡ false) where
+          without : reason choice (take place s.assertions) x ≡ None
+          unfolding earlier
+          without =
+              not_long
+              ∙ cond-false (is_in choice.front x.label) (Some InFront) _ chosen
+              ∙ cond-false (cites_left_out earlier choice.chosen denoted) (Some CitesUnchosen) None (cited cites are ∙ none)
+
+          pub listed_steps : (steps : List Step) → IsListing t.named.items t.proof.nodes t.proof.root (Some steps)
+              → AreSteps m choice (take place s.assertions) x steps
+          listed_steps steps lists = record {
+            proof = f.0;
+            has_proof = f.1;
+            no_reason = without;
+            tree = f.3.tree;
+            denotes = f.3.denotes;
+            lists = lists _ f.3.tree f.3.named f.3.stands;
+          }
+
+          -- there is a listing
+          pub unlisted : HasStepsFor m choice s x → IsListing t.named.items t.proof.nodes t.proof.root None → ⊥
+          unfolding denoted
+          unlisted known lists =
+              let there = listing_there m choice s x place known f.3.tree
+              (denoted_enough (take place s.assertions) x f.3.tree f.3.denotes) (cited cites are ∙ none) in
+              let is = lists _ f.3.tree f.3.named f.3.stands in
+              let no : false ≡ true = ap is_some (sym is) ∙ there in
+              absurd cc

@@ -1,0 +1,5 @@
+pub mod Outcomes
+pub mod Placed
+pub mod Pairs
+pub mod Gatherings
+pub mod Assembled

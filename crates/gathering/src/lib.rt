@@ -1,0 +1,12 @@
+//! What each chosen assertion of a source says in a library of the profile, and what becomes of its proof.
+#![tactic(auto)]
+
+mod assembling;
+mod following;
+mod places;
+mod proving;
+mod saying;
+
+pub use assembling::{Gathered, gather};
+pub use following::{Follow, Unfollowed};
+pub use places::Placed;
