@@ -12,10 +12,10 @@ use crate::planning::{ByLabel, Planned, unwritten};
 use crate::refusal::{File, Refusal, shown};
 use giving::Changes;
 use library::Ranked;
-use outlining::{Outline, Standing, cuts_of, outline_of};
+use outlining::{Outline, Standing, Stretch, cuts_of, outline_of};
 use rewriting::{cut_out, put_in, rewrite};
 use source::{Declared, ProofWords};
-use sourcewriting::{Names, SymbolWords, added_text, symbol_words};
+use sourcewriting::{Names, Statement, SymbolWords, assertion_text, symbol_words};
 use std::alloc::{AllocError, Global};
 use std::collections::HashMap;
 use std::hash::RandomState;
@@ -112,41 +112,97 @@ fn leaving_of(
     Ok(leaving)
 }
 
-/// The text of an assertion that stands elsewhere then, with its comment or its block, and with the changes.
+/// The text of an assertion that stands alone, with its comment or its block, and with the changes.
 fn moved_text(
     alloc: Global,
     source: &[u8],
-    outline: &Outline<'_>,
-    standing: &Standing<'_>,
+    stretch: Stretch,
+    label: &[u8],
     edits: &Rearranged<'_>,
 ) -> Result<Vec<u8>, Refusal> {
-    if !outline.is_alone(standing) {
-        return Err(refused(
-            alloc,
-            standing.label,
-            "shares its block with others: it isn't moved yet",
-        )?);
-    }
-    let stretch = outline.whole(standing);
     let Some(text) = source.get(stretch.begin..stretch.end) else {
-        return Err(refused(alloc, standing.label, "can't be moved")?);
+        return Err(refused(alloc, label, "can't be moved")?);
     };
     Ok(rewrite(alloc, edits.changes, edits.proofs, text)?)
 }
 
-/// The texts of those that stand elsewhere then.
-fn put_moved<'x>(
+/// Whether the proof of an assertion of a source is compressed.
+fn is_compressed<'a, D: Declared<'a>>(declared: &D, label: &[u8]) -> bool {
+    let proof = declared
+        .place_of(label)
+        .and_then(|place| declared.proof(place));
+    matches!(proof, Some(ProofWords::Compressed(..)))
+}
+
+/// The text of an assertion that leaves a block in which others stand: with its comment, and its `$e` with labels of their own.
+fn parted_text<'x, 'a, D: Declared<'a>>(
     alloc: Global,
+    keys: RandomState,
+    declared: &D,
+    source: &[u8],
+    standing: &Standing<'_>,
+    now: &'x [u8],
+    words: &SymbolWords<'x>,
+    edits: &Rearranged<'x>,
+) -> Result<Vec<u8>, Refusal> {
+    let Some(assertion) = edits.edited.get(&now) else {
+        return Err(unwritten(alloc, now)?);
+    };
+    let comment = Stretch {
+        begin: standing.stretch.begin,
+        end: standing.comment_end,
+    };
+    let comment = moved_text(alloc, source, comment, standing.label, edits)?;
+    let statement = Statement {
+        assertion,
+        label: edits
+            .changes
+            .text_for(standing.label)
+            .unwrap_or(standing.label),
+        comment: comment.as_slice(),
+        is_compressed: is_compressed(declared, standing.label),
+    };
+    let prelude = edits.planned.edited.prelude();
+    match assertion_text(
+        alloc,
+        keys,
+        declared,
+        prelude,
+        edits.names,
+        words,
+        &statement,
+    )? {
+        Some(text) => Ok(text),
+        None => Err(unwritten(alloc, now)?),
+    }
+}
+
+/// The texts of those that stand elsewhere then.
+fn put_moved<'x, 'a, D: Declared<'a>>(
+    alloc: Global,
+    keys: RandomState,
+    declared: &D,
     source: &[u8],
     outline: &Outline<'_>,
     moving: &Changes<'x>,
-    edits: &Rearranged<'_>,
+    words: &SymbolWords<'x>,
+    edits: &Rearranged<'x>,
     texts: &mut Texts<'x>,
 ) -> Result<(), Refusal> {
     for standing in outline.assertions.as_slice() {
-        if let Some(label) = moving.text_for(standing.label) {
-            let text = moved_text(alloc, source, outline, standing, edits)?;
-            texts.insert(label, text)?;
+        if let Some(now) = moving.text_for(standing.label) {
+            let text = if outline.is_alone(standing) {
+                moved_text(
+                    alloc,
+                    source,
+                    outline.whole(standing),
+                    standing.label,
+                    edits,
+                )?
+            } else {
+                parted_text(alloc, keys, declared, source, standing, now, words, edits)?
+            };
+            texts.insert(now, text)?;
         }
     }
     Ok(())
@@ -177,15 +233,20 @@ fn put_added<'x, 'a, D: Declared<'a>>(
         let (None, Some(assertion)) = (followed.source, edits.edited.get(&followed.now)) else {
             continue;
         };
-        match added_text(
+        let statement = Statement {
+            assertion,
+            label: followed.now,
+            comment: b"",
+            is_compressed,
+        };
+        match assertion_text(
             alloc,
             keys,
             declared,
             prelude,
             edits.names,
             words,
-            assertion,
-            is_compressed,
+            &statement,
         )? {
             Some(text) => texts.insert(followed.now, text)?,
             None => return Err(unwritten(alloc, followed.now)?),
@@ -205,9 +266,11 @@ fn texts_of<'x, 'a, D: Declared<'a>>(
     edits: &Rearranged<'x>,
 ) -> Result<Texts<'x>, Refusal> {
     let mut texts = HashMap::with_hasher(alloc, keys);
-    put_moved(alloc, source, outline, moving, edits, &mut texts)?;
     let prelude = edits.planned.database.prelude();
     let words = symbol_words(alloc, keys, prelude, edits.planned.names)?;
+    put_moved(
+        alloc, keys, declared, source, outline, moving, &words, edits, &mut texts,
+    )?;
     put_added(alloc, keys, declared, &words, edits, &mut texts)?;
     Ok(texts)
 }

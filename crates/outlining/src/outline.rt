@@ -21,6 +21,8 @@ pub struct Standing<'s> {
     pub label: &'s [u8],
     /// Its statement, with the comment in front.
     pub stretch: Stretch,
+    /// Where that comment ends, or else where the stretch begins.
+    pub comment_end: usize,
     /// The block that it stands in, if it stands in one.
     pub block: Option<usize>,
 }
@@ -141,6 +143,7 @@ impl<'s> Walk<'s> {
         self.outline.assertions.push(Standing {
             label,
             stretch: Stretch { begin, end },
+            comment_end: self.behind,
             block: self.open,
         })?;
         self.count(self.open, 1);

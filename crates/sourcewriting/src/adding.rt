@@ -1,4 +1,4 @@
-//! The text of a theorem that is added to a source: a block of its own where it has pairs or `$e`.
+//! The text of an assertion that is put into a source: a block of its own where it has pairs or `$e`.
 
 ghost use Rattle.std.specs.Prelude.{◌≤◌};
 
@@ -7,31 +7,49 @@ use crate::listing::{Names, nodes_of};
 use crate::wording::{put_compressed, put_normal};
 use giving::Changes;
 use mmframes::frame_of;
-use mmsyntax::{Assertion, Expr, Label, Prelude, Symbol};
+use mmsyntax::{Assertion, Expr, Kind, Label, Prelude, Symbol};
 use source::Declared;
 use std::alloc::{AllocError, Global};
 use std::hash::RandomState;
 
-/// How far the statements of a theorem are indented that stands in a block.
+/// How far the statements of an assertion are indented that stands in a block.
 const IN_BLOCK: usize = 4;
 
 /// How far they are indented otherwise.
 const OUTSIDE: usize = 2;
 
-/// How a theorem is written.
+/// An assertion of a library, and how it is to stand in the source.
 #[derive(Clone, Copy)]
-struct Form {
-    /// Whether it stands in a block of its own.
-    is_block: bool,
-    is_compressed: bool,
+pub struct Statement<'t> {
+    /// What it is in the library.
+    pub assertion: &'t Assertion,
+    /// Its label in the source.
+    pub label: &'t [u8],
+    /// The comment in front of it, with the white space before that; nothing where it has none.
+    pub comment: &'t [u8],
+    /// Whether its proof is compressed.
+    pub is_compressed: bool,
 }
 
-impl Form {
+impl Statement<'_> {
+    /// Whether it stands in a block of its own.
+    fn is_block(&self) -> bool {
+        !(self.assertion.hyps.as_slice().is_empty() && self.assertion.pairs.as_slice().is_empty())
+    }
+
     /// How far its statement is indented.
-    fn indent(self) -> usize
+    fn indent(&self) -> usize
         ensures { result ≤ IN_BLOCK }
     {
-        if self.is_block { IN_BLOCK } else { OUTSIDE }
+        if self.is_block() { IN_BLOCK } else { OUTSIDE }
+    }
+
+    /// The keyword of its statement, and what ends its symbols.
+    fn keywords(&self) -> (&'static [u8], &'static [u8]) {
+        match self.assertion.kind {
+            Kind::Axiom => (b"$a", b"$."),
+            Kind::Theorem => (b"$p", b"$="),
+        }
     }
 }
 
@@ -211,29 +229,32 @@ fn put_premises(
     Ok(())
 }
 
-/// Puts a theorem up to its proof: the beginning of its block, the pairs, the `$e`, of which these are the labels, and the statement.
+/// Puts an assertion up to its proof: the beginning of its block, the pairs, the `$e`, of which these are the labels, and behind its comment the
+/// statement.
 fn put_front(
     alloc: Global,
     out: &mut Vec<u8>,
     words: &SymbolWords<'_>,
-    assertion: &Assertion,
+    statement: &Statement<'_>,
     labels: &[Vec<u8>],
-    form: Form,
 ) -> Result<(), AllocError> {
-    if form.is_block {
+    let assertion = statement.assertion;
+    if statement.is_block() {
         out.extend_from_slice(b"\n  ${")?;
     }
     put_pairs(alloc, out, words, assertion.pairs.as_slice())?;
     put_premises(alloc, out, words, assertion.hyps.as_slice(), labels)?;
+    out.extend_from_slice(statement.comment)?;
     let symbols = words_of(alloc, words, assertion.statement.as_slice())?;
-    let front = [assertion.label.as_slice(), b"$p".as_slice()];
+    let (keyword, end) = statement.keywords();
+    let front = [statement.label, keyword];
     put_statement(
         alloc,
         out,
-        form.indent(),
+        statement.indent(),
         front.as_slice(),
         symbols.as_slice(),
-        b"$=",
+        end,
     )
 }
 
@@ -271,18 +292,18 @@ fn put_proof<'p, 'a, D: Declared<'a>>(
     declared: &D,
     prelude: &Prelude,
     names: &Names<'p>,
-    assertion: &Assertion,
+    statement: &Statement<'_>,
     labels: &'p [Vec<u8>],
-    form: Form,
 ) -> Result<bool, AllocError> {
     let premises = slices_of(alloc, labels)?;
     let premises = premises.as_slice();
+    let assertion = statement.assertion;
     let steps = assertion.proof.as_slice();
     let Some((shared, root)) = nodes_of(alloc, keys, declared, names, premises, steps)? else {
         return Ok(false);
     };
-    let mut layout = Layout::new(alloc, form.indent() + 2)?;
-    let is_whole = if form.is_compressed {
+    let mut layout = Layout::new(alloc, statement.indent() + 2)?;
+    let is_whole = if statement.is_compressed {
         let mandatory = mandatory_labels(alloc, prelude, names, assertion, premises)?;
         put_compressed(alloc, &mut layout, &shared, mandatory.as_slice(), root)?
     } else {
@@ -293,32 +314,29 @@ fn put_proof<'p, 'a, D: Declared<'a>>(
     Ok(is_whole)
 }
 
-/// The text of a theorem that is added, behind an empty line. None where its proof can't be written.
-pub fn added_text<'x, 'a, D: Declared<'a>>(
+/// The text of an assertion behind an empty line, in a block of its own where it has pairs or `$e`. None where its proof can't be written.
+pub fn assertion_text<'x, 'a, D: Declared<'a>>(
     alloc: Global,
     keys: RandomState,
     declared: &D,
     prelude: &Prelude,
     names: &Names<'x>,
     words: &SymbolWords<'x>,
-    assertion: &Assertion,
-    is_compressed: bool,
+    statement: &Statement<'_>,
 ) -> Result<Option<Vec<u8>>, AllocError> {
-    let premises = assertion.hyps.as_slice().len();
-    let labels = premise_labels(alloc, assertion.label.as_slice(), premises)?;
-    let form = Form {
-        is_block: premises > 0 || !assertion.pairs.as_slice().is_empty(),
-        is_compressed,
-    };
-    let mut out = Vec::from_slice(alloc, b"\n")?;
-    put_front(alloc, &mut out, words, assertion, labels.as_slice(), form)?;
+    let premises = statement.assertion.hyps.as_slice().len();
+    let labels = premise_labels(alloc, statement.label, premises)?;
     let labels = labels.as_slice();
-    if !put_proof(
-        alloc, keys, &mut out, declared, prelude, names, assertion, labels, form,
-    )? {
+    let mut out = Vec::from_slice(alloc, b"\n")?;
+    put_front(alloc, &mut out, words, statement, labels)?;
+    if let Kind::Theorem = statement.assertion.kind
+        && !put_proof(
+            alloc, keys, &mut out, declared, prelude, names, statement, labels,
+        )?
+    {
         return Ok(None);
     }
-    if form.is_block {
+    if statement.is_block() {
         out.extend_from_slice(b"\n  $}")?;
     }
     Ok(Some(out))

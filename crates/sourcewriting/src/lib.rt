@@ -12,6 +12,6 @@ mod proving;
 mod shared;
 mod wording;
 
-pub use adding::{SymbolWords, added_text, names_in_source, symbol_words};
+pub use adding::{Statement, SymbolWords, assertion_text, names_in_source, symbol_words};
 pub use listing::{Cited, Kinds, Names};
 pub use proving::proof_text;
