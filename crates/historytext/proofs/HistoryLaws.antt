@@ -12,7 +12,7 @@ use Rattle.mmsyntax.specs.Tables.{Tables}
 use Rattle.mmsyntax.specs.Layout.{IsSoundPrelude}
 use Rattle.mmsyntax.proofs.Distinct.{all_left, all_right}
 use Rattle.mmsyntax.proofs.Lines.{IsWord, clean_words}
-use Rattle.mmreader.proofs.DatabaseLaws.{ended_ok}
+use Rattle.statementreader.proofs.UnitLaws.{ended_ok}
 use Rattle.library.specs.declared.command.Reply.{Reply}
 use Rattle.library.specs.declared.command.Reply.TheVariants.{Done, Shown, Listed}
 use Rattle.library.specs.Fitting.{ReplyFits}

@@ -13,7 +13,7 @@ use Rattle.mmsyntax.specs.declared.statement.Kind.TheVariants.{Axiom, Theorem}
 use Rattle.mmsyntax.specs.Tables.{Tables}
 use Rattle.mmsyntax.specs.Rows.{prelude_alone}
 use Rattle.mmsyntax.specs.Grammar.{spelling}
-use Rattle.mmreader.proofs.Ordinary.{statement_ordinary}
+use Rattle.statementreader.proofs.Ordinary.{statement_ordinary}
 use Rattle.library.specs.declared.command.Command.{Command}
 use Rattle.library.specs.declared.command.Line.{Line}
 use Rattle.library.specs.declared.command.Reply.{Reply}

@@ -8,7 +8,7 @@ use Rattle.mmtext.specs.Languages.{fault}
 use Rattle.mmsyntax.specs.declared.statement.Kind.{Kind}
 use Rattle.mmsyntax.specs.declared.statement.Kind.TheVariants.{Axiom, Theorem}
 use Rattle.mmsyntax.specs.Tables.{Tables}
-use Rattle.mmreader.specs.UnitReadings.{position_of}
+use Rattle.statementreader.specs.UnitReadings.{position_of}
 use Rattle.scripts.specs.ScriptViews.{number_at, seen_command_place}
 use Rattle.historytext.specs.declared.place.ReplyPlace.{ReplyPlace as CodeReplyPlace}
 use Rattle.historytext.specs.declared.place.ReplyPlace.TheVariants as reply

@@ -1,7 +1,7 @@
 //! Places in a history.
 
 use library::{Command, Entry, Line, Reply};
-use mmreader::{Recent, UnitReader};
+use statementreader::{Recent, UnitReader};
 use mmsyntax::{Kind, Label, Prelude};
 use scripts::CommandPlace;
 

@@ -14,7 +14,7 @@ use crate::entry_rows::read_in_entry;
 use crate::place::{EntryPlace, HistoryReader, Place, ReplyPlace};
 use crate::reply_rows::read_count;
 use library::{Entry, History};
-use mmreader::Recent;
+use statementreader::Recent;
 use mmsyntax::{MOST_BYTES, Prelude, Sequence};
 use mmtext::{FaultKind, Mark, Reader, Stop, TextFault, Token, fault_at, read};
 use scripts::take_in_command;
@@ -97,7 +97,7 @@ fn into_entries(reader: HistoryReader<'_>) -> Vec<Entry>
 impl<'a> Reader<'a> for HistoryReader<'a> {
     ghost use Rattle.std.specs.Prelude.{List};
     ghost use Rattle.library.specs.declared.history.Entry.{Entry};
-    ghost use Rattle.mmreader.specs.Recalls.{Knows};
+    ghost use Rattle.statementreader.specs.Recalls.{Knows};
     ghost use Rattle.historytext.specs.Places.{Progress, history_language};
     ghost use Rattle.historytext.specs.Views.{seen_progress};
 

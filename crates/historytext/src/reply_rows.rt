@@ -5,13 +5,13 @@ ghost use Rattle.mmtext.specs.Text.{Token as SeenToken};
 ghost use Rattle.mmtext.specs.Views.{seen, Gives};
 ghost use Rattle.mmsyntax.specs.Tables.{Tables};
 ghost use Rattle.mmsyntax.specs.Faults.{row};
-ghost use Rattle.mmreader.specs.UnitReadings.{position_of};
+ghost use Rattle.statementreader.specs.UnitReadings.{position_of};
 ghost use Rattle.historytext.specs.Places.{at_citers, at_kind, at_label, at_line, in_reply, lines_left, reply_word, shown_row};
 ghost use Rattle.historytext.specs.Views.{answer, count_at, kind_at, seen_answered, seen_reply_place};
 
 use crate::place::{Answered, ReplyPlace};
 use library::{Line, Ranked, Reply};
-use mmreader::{UnitProgress, UnitReader};
+use statementreader::{UnitProgress, UnitReader};
 use mmsyntax::{Kind, Label, Prelude, Sequence};
 use mmtext::{FaultKind, Stop, Token, fault_at};
 use scripts::{count, is_numeral, read_label, read_rank};

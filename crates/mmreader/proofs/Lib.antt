@@ -1,12 +1,1 @@
-pub mod Keywords
-pub mod Ordinary
-pub mod Leading
-pub mod LeadingStatements
-pub mod ParsedRows
-pub mod Parsed
-pub mod ParsedStatements
 pub mod DatabaseLaws
-pub mod Runs
-pub mod UnitRows
-pub mod Words
-pub mod UnitWords

@@ -1,15 +1,14 @@
--- Of the code's inside, apart from the rules: how far the readers of databases and of single assertions are seen to have come, and what
--- is true of them between two tokens.
-use Rattle.mmsyntax.specs.Rows.{Units}
+-- Of the code's inside, apart from the rules: how far the reader of databases is seen to have come, and what is true of it between two
+-- tokens.
+use Rattle.std.specs.Prelude.{List}
+use Rattle.mmsyntax.specs.declared.statement.Assertion.{Assertion}
+use Rattle.mmsyntax.specs.Tables.{Tables, Contents}
 use Rattle.mmsyntax.specs.Faults.{Position}
-use Rattle.mmreader.specs.declared.place.Place.{Place as CodePlace}
-use Rattle.mmreader.specs.declared.place.DatabaseReader.{DatabaseReader}
-use Rattle.mmreader.specs.declared.place.AssertionReader.{AssertionReader}
-use Rattle.mmreader.specs.Standing.{Stands}
-use Rattle.mmreader.specs.Recalls.{Knows}
-use Rattle.mmreader.specs.UnitReadings.{GoesOn}
 use Rattle.mmunits.specs.Views.{known_of}
-use Rattle.mmreader.specs.Views.{seen_place, seen_position, IsUnitPlace}
+use Rattle.statementreader.specs.Standing.{Stands}
+use Rattle.statementreader.specs.Recalls.{Knows}
+use Rattle.statementreader.specs.Views.{seen_place, seen_position}
+use Rattle.mmreader.specs.declared.reading.DatabaseReader.{DatabaseReader}
 
 -- the place of a reader of databases
 abbrev pub database_place : DatabaseReader → Position
@@ -19,11 +18,6 @@ database_place r = seen_position r.symbols r.units r.place
 abbrev pub IsReadyDatabase : DatabaseReader → Type 0
 IsReadyDatabase r = Stands (known_of r.symbols r.units) (seen_place r.place) × Knows r.symbols r.recent
 
--- the place of a reader of single assertions
-abbrev pub assertion_place : AssertionReader → Position
-assertion_place r = seen_position r.symbols.now r.units r.place
-
--- no $c, $v or $f comes there
-pub record IsReadyUnit (p : CodePlace) (u : Units) : Type 0 where
-  pub unit : IsUnitPlace p
-  pub goes_on : GoesOn (record { units = u; place = seen_place p })
+-- a database of two parts
+abbrev pub contents_of : Tables → List Assertion → Contents
+contents_of t xs = record { prelude = t; assertions = xs }

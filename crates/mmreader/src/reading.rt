@@ -7,33 +7,31 @@ ghost use Rattle.mmsyntax.specs.Faults.{in_place, row, database_language};
 ghost use Rattle.mmsyntax.specs.Grammar.{Spells};
 ghost use Rattle.mmsyntax.specs.Layout.{HasSpelling};
 ghost use Rattle.mmtext.specs.Views.{seen, Gives};
-ghost use Rattle.mmreader.specs.Recalls.{Knows};
-ghost use Rattle.mmreader.specs.Standing.{Stands};
+ghost use Rattle.statementreader.specs.Recalls.{Knows};
+ghost use Rattle.statementreader.specs.Standing.{Stands};
 ghost use Rattle.mmunits.specs.Views.{known_of};
-ghost use Rattle.mmreader.specs.Views.{seen_place, seen_position, contents_of, IsUnitPlace, Leads};
+ghost use Rattle.statementreader.specs.Views.{seen_place, seen_position, IsUnitPlace, Leads};
+ghost use Rattle.mmreader.specs.Readers.{contents_of};
 
-mod labels;
-mod prelude_rows;
-mod steps;
-mod unit_reader;
-mod unit_rows;
-mod units;
-mod words;
-
-use crate::place::{DatabaseReader, Place, Scope, UnitPlace, is_outermost};
-use crate::recent::Recent;
 use mmsyntax::{Assertion, Database, MOST_BYTES, Prelude, Sequence, SymbolTable};
 use mmtext::{Mark, Reader, Stop, TextFault, Token, read};
 use mmunits::Units;
-use prelude_rows::next_prelude_place;
+use statementreader::{
+    Place, Recent, Scope, UnitPlace, is_outermost, next_prelude_place, next_unit_place, take_word,
+};
 use std::alloc::Global;
 use std::hash::RandomState;
 use std::mem;
-pub use steps::{named_step, recalled_named_step};
-pub use unit_reader::{UnitProgress, UnitReader};
-use unit_rows::next_unit_place;
-pub use units::read_assertion;
-use words::take_word;
+
+/// How far a database was read, outside of comments.
+#[derive(Drop)]
+struct DatabaseReader<'a> {
+    symbols: SymbolTable,
+    units: Units,
+    /// What is known of words, by the symbols.
+    recent: Recent<'a>,
+    place: Place<'a>,
+}
 
 /// Where a token with a mark leads that stands outside of comments.
 fn place_by_mark<'a>(
@@ -117,8 +115,7 @@ fn into_said(reader: DatabaseReader<'_>) -> (SymbolTable, Vec<Assertion>)
 impl<'a> Reader<'a> for DatabaseReader<'a> {
     ghost use Rattle.mmsyntax.specs.Tables.{Contents};
     ghost use Rattle.mmsyntax.specs.Faults.{Position, database_language};
-    ghost use Rattle.mmreader.specs.Views.{contents_of};
-    ghost use Rattle.mmreader.specs.Readers.{database_place, IsReadyDatabase};
+    ghost use Rattle.mmreader.specs.Readers.{database_place, IsReadyDatabase, contents_of};
 
     type Said = (SymbolTable, Vec<Assertion>);
 

@@ -2,10 +2,11 @@
 #![tactic(auto)]
 
 pub use mmframes::{SubstituteError, frame_of, substitute};
-pub use mmreader::{read_assertion, read_database};
+pub use mmreader::read_database;
 pub use mmsyntax::{
     Assertion, Database, Expr, Float, Frame, Kind, Label, Name, Prelude, Sequence, Step, Symbol,
     are_citing_apart, copy_steps, fits, hypothesis_number, is_dotted, is_lawful_label, laws, trunk,
 };
 pub use mmtext::{FaultKind, TextFault};
+pub use statementreader::read_assertion;
 pub use mmwriter::{put_assertion, put_prelude, write_assertion, write_database};

@@ -16,8 +16,8 @@ use Rattle.mmsyntax.specs.Tables.{Tables}
 use Rattle.mmsyntax.specs.Rows.{prelude_alone}
 use Rattle.mmsyntax.specs.Faults.{Position, row, unit_at}
 use Rattle.mmsyntax.specs.Grammar.{spelling}
-use Rattle.mmreader.proofs.Keywords.{end_mark, proof_mark, mark_plain}
-use Rattle.mmreader.proofs.Ordinary.{statement_ordinary}
+use Rattle.statementreader.proofs.Keywords.{end_mark, proof_mark, mark_plain}
+use Rattle.statementreader.proofs.Ordinary.{statement_ordinary}
 use Rattle.library.specs.declared.command.Command.{Command}
 use Rattle.library.specs.declared.command.Command.TheVariants as command
 use Rattle.scripts.specs.Scripts.{OtherSteps, SpellsCommand, SpellsEach, SpellsTransaction, other_step_of}

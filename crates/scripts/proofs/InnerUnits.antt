@@ -14,8 +14,8 @@ use Rattle.mmsyntax.specs.declared.statement.Assertion.{Assertion}
 use Rattle.mmsyntax.specs.Tables.{Tables}
 use Rattle.mmsyntax.specs.Faults.{Position, row, unit_at, unit_language, first_of}
 use Rattle.mmsyntax.specs.Grammar.{Statement, spelling}
-use Rattle.mmreader.proofs.Leading.{home}
-use Rattle.mmreader.proofs.DatabaseLaws.{unit_leads, unit_parsed, unit_ends, cond_fault}
+use Rattle.statementreader.proofs.Leading.{home}
+use Rattle.statementreader.proofs.UnitLaws.{unit_leads, unit_parsed, unit_ends, cond_fault}
 use Rattle.scripts.specs.Scripts.{DeclaresAlone}
 use Rattle.scripts.specs.ScriptFaults.{unit_start}
 

@@ -22,7 +22,7 @@ use Rattle.mmsyntax.proofs.Lines.{IsWord, clean_words}
 use Rattle.mmsyntax.proofs.Sound.{alone_sound}
 use Rattle.mmsyntax.proofs.Units.{statement_sound, closed_tables}
 use Rattle.mmsyntax.proofs.Canonical.{sound_tables}
-use Rattle.mmreader.proofs.DatabaseLaws.{ended_ok}
+use Rattle.statementreader.proofs.UnitLaws.{ended_ok}
 use Rattle.library.specs.declared.command.Command.{Command}
 use Rattle.library.specs.declared.command.Command.TheVariants as command
 use Rattle.library.specs.Fitting.{CommandFits}

@@ -25,7 +25,7 @@ use Rattle.mmsyntax.specs.Faults.{Position}
 use Rattle.mmsyntax.specs.Steps.{step_tests, float_named, step_named, unless_faulty}
 use Rattle.mmsyntax.proofs.Found.{no_fault}
 use Rattle.mmsyntax.proofs.Sound.{cond_none, if_ok}
-use Rattle.mmreader.proofs.Keywords.{Says, says}
+use Rattle.statementreader.proofs.Keywords.{Says, says}
 use Rattle.library.specs.declared.command.Command.{Command}
 use Rattle.library.specs.declared.command.Command.TheVariants as command
 use Rattle.library.specs.Fitting.{highest_rank}
@@ -39,9 +39,9 @@ use Rattle.mmtext.specs.declared.fault.Stop.{Stop}
 use Rattle.mmtext.specs.declared.fault.Stop.TheVariants as stop
 use Rattle.mmtext.specs.Views.{Fails}
 use Rattle.scripts.specs.ScriptViews.{label_at, rank_at, decided, place_numbered, TakesInCommand}
-use Rattle.mmreader.specs.Takings.{TakesItem, pushed}
-use Rattle.mmreader.specs.UnitReadings.{UnitReading, position_of}
-use Rattle.mmreader.specs.UnitViews.{TakesInUnit}
+use Rattle.statementreader.specs.Takings.{TakesItem, pushed}
+use Rattle.statementreader.specs.UnitReadings.{UnitReading, position_of}
+use Rattle.statementreader.specs.UnitViews.{TakesInUnit}
 use Rattle.mmtext.proofs.Marks.{mark_plain}
 use Rattle.mmsyntax.proofs.Numerals.{decimal_value, digits_lack}
 use Rattle.scripts.proofs.Numerals.{numeral_decimal, decimal_numeral, numeral_digits}

@@ -10,7 +10,7 @@ use Rattle.mmtext.specs.Words.{Word, has_dollar}
 use Rattle.mmtext.specs.Languages.{fault}
 use Rattle.mmsyntax.specs.Dotted.{hypothesis_numbered}
 use Rattle.mmsyntax.specs.Tables.{Tables}
-use Rattle.mmreader.specs.UnitReadings.{position_of}
+use Rattle.statementreader.specs.UnitReadings.{position_of}
 use Rattle.scripts.specs.declared.script.place.CommandPlace.{CommandPlace as CodeCommandPlace}
 use Rattle.scripts.specs.declared.script.place.CommandPlace.TheVariants as code
 use Rattle.scripts.specs.declared.script.place.Place.{Place as CodePlace}

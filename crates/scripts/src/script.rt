@@ -19,7 +19,7 @@ pub use command_rows::{
     read_command_word, read_in_command, read_label, read_rank, take_in_command,
 };
 use library::{Command, Script, Transaction};
-use mmreader::Recent;
+use statementreader::Recent;
 use mmsyntax::{MOST_BYTES, Prelude, Sequence};
 use mmtext::{FaultKind, Mark, Reader, Stop, TextFault, Token, fault_at, read};
 pub use numerals::is_numeral;
@@ -116,7 +116,7 @@ fn into_script(reader: ScriptReader<'_>) -> Vec<Transaction>
 impl<'a> Reader<'a> for ScriptReader<'a> {
     ghost use Rattle.std.specs.Prelude.{List};
     ghost use Rattle.library.specs.declared.command.Command.{Command};
-    ghost use Rattle.mmreader.specs.Recalls.{Knows};
+    ghost use Rattle.statementreader.specs.Recalls.{Knows};
     ghost use Rattle.scripts.specs.ScriptFaults.{Progress, script_language};
     ghost use Rattle.scripts.specs.ScriptViews.{seen_progress};
 

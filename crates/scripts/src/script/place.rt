@@ -1,7 +1,7 @@
 //! Places in a script.
 
 use library::{Command, Transaction};
-use mmreader::{Recent, UnitReader};
+use statementreader::{Recent, UnitReader};
 use mmsyntax::{Label, Prelude, Step};
 
 /// What was read of the command in which a token stands.

@@ -2,8 +2,8 @@
 use Rattle.std.proofs.Common.{sym}
 use Rattle.mmtext.specs.Views.{seen}
 use Rattle.mmtext.proofs.Turns.{same_reading}
-use Rattle.mmreader.specs.Views.{seen_position}
-use Rattle.mmreader.proofs.Runs.{row_at, stands_on}
+use Rattle.statementreader.specs.Views.{seen_position}
+use Rattle.statementreader.proofs.Runs.{row_at, stands_on}
 use Rattle.mmreader.proofs.reading.next_place.Goals as goal
 
 pub returns-clause-leads : goal.returns-clause-leads

@@ -1,8 +1,8 @@
 -- What is left to show of `take_word` of a `DatabaseReader`.
 use Rattle.mmtext.specs.Views.{seen}
 use Rattle.mmunits.specs.Views.{known_of}
-use Rattle.mmreader.specs.Views.{seen_place}
-use Rattle.mmreader.proofs.Words.{taken, ready_after}
+use Rattle.statementreader.specs.Views.{seen_place}
+use Rattle.statementreader.proofs.TakenWords.{taken, ready_after}
 use Rattle.mmreader.proofs.reading.DatabaseReaderReader.take_word.Goals as goal
 
 pub returns-clause-ready : goal.returns-clause-ready

@@ -1,7 +1,7 @@
 -- What is left to show of `take_in_command`.
 use Rattle.std.proofs.Common.{sym, subst}
 use Rattle.mmtext.specs.Views.{seen}
-use Rattle.mmreader.specs.UnitReadings.{position_of}
+use Rattle.statementreader.specs.UnitReadings.{position_of}
 use Rattle.scripts.specs.declared.script.place.CommandPlace.{CommandPlace}
 use Rattle.scripts.specs.ScriptFaults.{in_proof, in_unit}
 use Rattle.scripts.specs.ScriptViews.{seen_command_place, TakesInCommand}

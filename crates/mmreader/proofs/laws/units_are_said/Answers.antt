@@ -1,6 +1,0 @@
--- The law `units_are_said` is a lemma.
-use Rattle.mmreader.proofs.DatabaseLaws.{unit_grammar}
-use Rattle.mmreader.proofs.laws.units_are_said.Goals as goal
-
-pub returns : goal.returns
-returns c = λ t. unit_grammar t

@@ -1,0 +1,12 @@
+pub mod Keywords
+pub mod Ordinary
+pub mod Leading
+pub mod LeadingStatements
+pub mod ParsedRows
+pub mod Parsed
+pub mod ParsedStatements
+pub mod UnitLaws
+pub mod Runs
+pub mod UnitRows
+pub mod TakenWords
+pub mod UnitWords

@@ -1,0 +1,13 @@
+-- What is left to show of `known_step`.
+use Rattle.std.proofs.Common.{◌∙◌}
+use Rattle.mmsyntax.specs.Faults.{block_of}
+use Rattle.statementreader.specs.Views.{seen_scope}
+use Rattle.statementreader.proofs.TakenWords.{recalled}
+use Rattle.statementreader.proofs.words.known_step.Goals as goal
+
+pub returns : goal.returns
+returns c =
+    let hyps = (block_of (seen_scope c.args.scope.now)).hyps in
+    c.recalled_step.ensures
+    ∙ recalled c.args.symbols.now c.args.label.now hyps c.args.count c.args.known.now c.requires c.if-not-known.false
+    c.if-count-ge-MOST_STEPS.false
