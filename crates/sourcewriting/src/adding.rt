@@ -141,17 +141,21 @@ fn put_words(layout: &mut Layout, words: &[&[u8]]) -> Result<(), AllocError> {
     Ok(())
 }
 
-/// Puts a statement in lines of its own: its label and keyword, its symbols, and what ends it.
+/// Puts a statement in lines of its own: its label, if it has one, its keyword, its symbols, and what ends it.
 fn put_statement(
     alloc: Global,
     out: &mut Vec<u8>,
     indent: usize,
-    front: &[&[u8]],
+    label: &[u8],
+    keyword: &[u8],
     symbols: &[&[u8]],
     end: &[u8],
 ) -> Result<(), AllocError> {
     let mut layout = Layout::new(alloc, indent)?;
-    put_words(&mut layout, front)?;
+    if !label.is_empty() {
+        layout.put_word(label)?;
+    }
+    layout.put_word(keyword)?;
     put_words(&mut layout, symbols)?;
     layout.put_word(end)?;
     out.extend_from_slice(layout.into_text().as_slice())
@@ -182,14 +186,7 @@ fn put_pairs(
             words.word(Symbol::Var(*one)),
             words.word(Symbol::Var(*other)),
         ];
-        put_statement(
-            alloc,
-            out,
-            IN_BLOCK,
-            &[b"$d".as_slice()],
-            both.as_slice(),
-            b"$.",
-        )?;
+        put_statement(alloc, out, IN_BLOCK, b"", b"$d", both.as_slice(), b"$.")?;
     }
     Ok(())
 }
@@ -216,12 +213,12 @@ fn put_premises(
 ) -> Result<(), AllocError> {
     for (expression, label) in premises.iter().zip(labels) {
         let symbols = words_of(alloc, words, expression.as_slice())?;
-        let front = [label.as_slice(), b"$e".as_slice()];
         put_statement(
             alloc,
             out,
             IN_BLOCK,
-            front.as_slice(),
+            label.as_slice(),
+            b"$e",
             symbols.as_slice(),
             b"$.",
         )?;
@@ -247,12 +244,12 @@ fn put_front(
     out.extend_from_slice(statement.comment)?;
     let symbols = words_of(alloc, words, assertion.statement.as_slice())?;
     let (keyword, end) = statement.keywords();
-    let front = [statement.label, keyword];
     put_statement(
         alloc,
         out,
         statement.indent(),
-        front.as_slice(),
+        statement.label,
+        keyword,
         symbols.as_slice(),
         end,
     )
