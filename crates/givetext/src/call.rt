@@ -184,15 +184,15 @@ fn follow_edits<'x, 'a: 'x, D: Declared<'a>>(
 }
 
 /// The source with the edits, before it is looked at again.
-fn write_edits<'e, 'x: 'e, 'a: 'x, D: Declared<'a>>(
+fn write_edits<'e, D: Declared<'e>>(
     alloc: Global,
     keys: RandomState,
     declared: &D,
     source: &'e [u8],
-    taken: &'e Taken<'a>,
+    taken: &'e Taken<'e>,
     replayed: &'e Replayed,
-    following: &'e Following<'x>,
-    changes: &'e Changes<'x>,
+    following: &'e Following<'e>,
+    changes: &'e Changes<'e>,
 ) -> Result<Vec<u8>, Refusal>
     ensures { IfOk result (λ out. IsWrittenAnew (all_commands replayed.now.entries) changes.now source.now out.items) }
 {
