@@ -1,8 +1,5 @@
 //! What the program is asked to do, and what it prints.
 
-use checking::Fault;
-use editing::EditError;
-
 /// A job over texts: what files hold, as bytes.
 #[derive(Debug, Drop)]
 pub enum Job {
@@ -34,20 +31,4 @@ pub struct Printed {
     /// The text of a run's history, where it is asked for: for each number, from 1, the transaction that was committed with it, with its replies,
     /// or nothing. Else empty, as for other jobs.
     pub history: Vec<u8>,
-}
-
-impl From<EditError> for Fault {
-    ghost use Rattle.std.specs.Prelude.{◌≡◌};
-    ghost use Rattle.jobs.specs.Parts.{from_edit};
-
-    ghost from_gives = { λ error f. f ≡ from_edit error };
-
-    fn from(error: EditError) -> Fault {
-        match error {
-            EditError::NoThread => Fault::NoThread,
-            EditError::Missing(number) => Fault::Missing(number),
-            EditError::Held(cell) => Fault::Held(cell),
-            EditError::NoMemory => Fault::NoMemory,
-        }
-    }
 }

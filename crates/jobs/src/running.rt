@@ -11,13 +11,13 @@ ghost use Rattle.checking.specs.declared.fault.Fault.TheVariants.{StoreFull};
 ghost use Rattle.checking.specs.Tasks.{IsWithin};
 ghost use Rattle.jobs.specs.Jobs.{IsWorked, PrintsRun};
 ghost use Rattle.checking.specs.Checks.{RefusesWith, library_lines};
-ghost use Rattle.jobs.specs.Parts.{IsOpenFault, IsWorkFault, shape_with};
+ghost use Rattle.jobs.specs.Parts.{IsOpenFault, IsWorkFault, from_edit, shape_with};
 ghost use Rattle.reports.specs.Reports.{OutcomesFit, report_text};
 
 use crate::job::Printed;
 use crate::watching::Watch;
 use checking::{Fault, SLOTS};
-use editing::{Edited, edit_all};
+use editing::{EditError, Edited, edit_all};
 use export::put_library;
 use historytext::write_history;
 use library::{Entry, Script};
@@ -84,6 +84,18 @@ fn transactions_of(scripts: &[Script]) -> usize {
     count
 }
 
+/// The fault of a run that came to no end.
+fn fault_of(error: EditError) -> Fault
+    ensures { result ≡ from_edit error }
+{
+    match error {
+        EditError::NoThread => Fault::NoThread,
+        EditError::Missing(number) => Fault::Missing(number),
+        EditError::Held(cell) => Fault::Held(cell),
+        EditError::NoMemory => Fault::NoMemory,
+    }
+}
+
 /// Runs the scripts over the library of a database by workers, to its end.
 fn edit(
     rt: &(impl Threads + Wait + Sync),
@@ -105,7 +117,10 @@ fn edit(
     watch.begin(scripts.len(), transactions_of(scripts));
     let edited = edit_all(rt, alloc, library, sessions, scripts, watch);
     watch.end();
-    Ok(edited?)
+    match edited {
+        Ok(edited) => Ok(edited),
+        Err(error) => Err(fault_of(error)),
+    }
 }
 
 /// The report of a run, and its library's text.
