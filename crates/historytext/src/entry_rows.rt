@@ -6,10 +6,10 @@ ghost use Rattle.mmtext.specs.Views.{seen, Gives};
 ghost use Rattle.mmsyntax.specs.Tables.{Tables};
 ghost use Rattle.scripts.specs.ScriptViews.{seen_command_place, seen_led};
 ghost use Rattle.library.specs.declared.history.Entry.{Entry};
-ghost use Rattle.historytext.specs.Places.{answered, asked, at_reply, command_row, in_entry_row, replies_left, within};
-ghost use Rattle.historytext.specs.Views.{seen_answered, seen_entry_place, seen_at};
+ghost use Rattle.historytext.specs.Places.{answered, answering, asked, at_reply, begin_row, command_row, in_entry_row, replies_left, within};
+ghost use Rattle.historytext.specs.Views.{seen_answered, seen_entry_place, seen_reply_place, seen_at};
 
-use crate::place::{Answered, EntryPlace, Place};
+use crate::place::{Answered, EntryPlace, Place, ReplyPlace};
 use crate::reply_rows::{read_in_reply, read_reply_word};
 use library::{Command, Entry, Reply};
 use mmsyntax::{Prelude, Sequence};
@@ -76,6 +76,17 @@ fn go_on_answering<'a>(
     }
 }
 
+/// Behind `done`: `begin`.
+fn read_at_begin<'a>(alloc: Global, left: u64, token: Token<'a>) -> Result<Place<'a>, Stop>
+    ensures { (t : Tables) (entries : List Entry) → Gives (seen_at t entries) result
+        (begin_row entries left (seen token.entry)) }
+{
+    if token.text != b"begin".as_slice() {
+        return Err(fault_at(token, FaultKind::BadToken));
+    }
+    Ok(Place::InEntry(left, EntryPlace::AtCommand(Vec::new(alloc))))
+}
+
 /// Behind `begin` and whole commands: `commit`, or the word of a command.
 fn read_at_command<'a>(
     alloc: Global,
@@ -124,6 +135,25 @@ fn read_at_reply<'a>(
     go_on_answering(entries, left, commands, replies, next)
 }
 
+/// In a reply behind whole ones.
+fn read_answering<'a>(
+    alloc: Global,
+    prelude: &Prelude,
+    entries: &mut Vec<Entry>,
+    left: u64,
+    commands: Vec<Command>,
+    replies: Vec<Reply>,
+    place: ReplyPlace<'a>,
+    token: Token<'a>,
+) -> Result<Place<'a>, Stop>
+    ensures { Gives (seen_at prelude.now entries.new.items) result
+        (in_entry_row prelude.now entries.old.items left
+        (answering commands.items replies.items (seen_reply_place prelude.now place.entry)) (seen token.entry)) }
+{
+    let next = read_in_reply(alloc, prelude, place, token)?;
+    go_on_answering(entries, left, commands, replies, next)
+}
+
 /// Where a token leads that stands in an entry, with so many others left.
 pub(crate) fn read_in_entry<'a>(
     alloc: Global,
@@ -137,11 +167,7 @@ pub(crate) fn read_in_entry<'a>(
         (in_entry_row prelude.now entries.old.items left (seen_entry_place prelude.now place.entry) (seen token.entry)) }
 {
     match place {
-        EntryPlace::AtBegin if token.text == b"begin".as_slice() => {
-            let place = EntryPlace::AtCommand(Vec::new(alloc));
-            Ok(Place::InEntry(left, place))
-        }
-        EntryPlace::AtBegin => Err(fault_at(token, FaultKind::BadToken)),
+        EntryPlace::AtBegin => read_at_begin(alloc, left, token),
         EntryPlace::AtCommand(commands) => {
             read_at_command(alloc, entries, left, commands, token)
         }
@@ -152,8 +178,9 @@ pub(crate) fn read_in_entry<'a>(
             read_at_reply(entries, left, commands, replies, token)
         }
         EntryPlace::Answering(commands, replies, place) => {
-            let next = read_in_reply(alloc, prelude, place, token)?;
-            go_on_answering(entries, left, commands, replies, next)
+            read_answering(
+                alloc, prelude, entries, left, commands, replies, place, token,
+            )
         }
     }
 }

@@ -1,9 +1,9 @@
 //! Places in a history.
 
 use library::{Command, Entry, Line, Reply};
-use statementreader::{Recent, UnitReader};
 use mmsyntax::{Kind, Label, Prelude};
 use scripts::CommandPlace;
+use statementreader::{Recent, UnitReader};
 
 /// What was read of the reply in which a token stands.
 #[derive(Drop)]

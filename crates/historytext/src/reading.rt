@@ -14,10 +14,10 @@ use crate::entry_rows::read_in_entry;
 use crate::place::{EntryPlace, HistoryReader, Place, ReplyPlace};
 use crate::reply_rows::read_count;
 use library::{Entry, History};
-use statementreader::Recent;
 use mmsyntax::{MOST_BYTES, Prelude, Sequence};
 use mmtext::{FaultKind, Mark, Reader, Stop, TextFault, Token, fault_at, read};
 use scripts::take_in_command;
+use statementreader::Recent;
 use std::alloc::Global;
 use std::mem;
 
@@ -76,7 +76,8 @@ fn advance<'a>(
         (in_place prelude.now entries.old.items (seen_place prelude.now place.old) (seen token.entry)) }
 {
     let here = mem::replace(place, Place::AtHistory);
-    *place = next_place(alloc, prelude, entries, here, token)?;
+    let next = next_place(alloc, prelude, entries, here, token)?;
+    drop(mem::replace(place, next));
     Ok(())
 }
 
@@ -91,7 +92,15 @@ fn may_end(place: &Place<'_>) -> bool
 fn into_entries(reader: HistoryReader<'_>) -> Vec<Entry>
     ensures { result ≡ reader.entry.entries }
 {
-    reader.entries
+    let HistoryReader {
+        prelude: _,
+        recent,
+        entries,
+        place,
+    } = reader;
+    drop(recent);
+    drop(place);
+    entries
 }
 
 impl<'a> Reader<'a> for HistoryReader<'a> {

@@ -11,10 +11,10 @@ ghost use Rattle.historytext.specs.Views.{answer, count_at, kind_at, seen_answer
 
 use crate::place::{Answered, ReplyPlace};
 use library::{Line, Ranked, Reply};
-use statementreader::{UnitProgress, UnitReader};
 use mmsyntax::{Kind, Label, Prelude, Sequence};
 use mmtext::{FaultKind, Stop, Token, fault_at};
 use scripts::{count, is_numeral, read_label, read_rank};
+use statementreader::{UnitProgress, UnitReader};
 use std::alloc::Global;
 
 /// A number of entries, lines or citers: a numeral, up to 18,446,744,073,709,551,615.

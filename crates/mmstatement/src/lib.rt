@@ -8,5 +8,5 @@ pub use mmsyntax::{
     are_citing_apart, copy_steps, fits, hypothesis_number, is_dotted, is_lawful_label, laws, trunk,
 };
 pub use mmtext::{FaultKind, TextFault};
-pub use statementreader::read_assertion;
 pub use mmwriter::{put_assertion, put_prelude, write_assertion, write_database};
+pub use statementreader::read_assertion;

@@ -19,12 +19,12 @@ pub use command_rows::{
     read_command_word, read_in_command, read_label, read_rank, take_in_command,
 };
 use library::{Command, Script, Transaction};
-use statementreader::Recent;
 use mmsyntax::{MOST_BYTES, Prelude, Sequence};
 use mmtext::{FaultKind, Mark, Reader, Stop, TextFault, Token, fault_at, read};
 pub use numerals::is_numeral;
 use place::{Place, ScriptReader};
 pub use place::{CommandPlace, Led};
+use statementreader::Recent;
 use std::alloc::Global;
 use std::mem;
 
@@ -95,7 +95,8 @@ fn advance<'a>(
         (in_place prelude.now script.old.items (seen_place prelude.now place.old) (seen token.entry)) }
 {
     let here = mem::replace(place, Place::Outermost);
-    *place = next_place(alloc, prelude, script, here, token)?;
+    let next = next_place(alloc, prelude, script, here, token)?;
+    drop(mem::replace(place, next));
     Ok(())
 }
 

@@ -1,15 +1,17 @@
 //! Reading a statement outside of proofs: one function for each place in it.
 
 ghost use Rattle.std.specs.Prelude.{◌≡◌, IfOk, Ok};
-ghost use Rattle.mmtext.specs.Views.{seen};
+ghost use Rattle.mmtext.specs.Views.{seen, Gives};
+ghost use Rattle.mmsyntax.specs.Rows.{first_fault};
 ghost use Rattle.mmtext.specs.declared.mark.Mark.TheVariants.{Closing};
 ghost use Rattle.source.specs.Counts.{mandatory_marks};
-ghost use Rattle.source.specs.Tests.{type_tests, float_tests};
+ghost use Rattle.source.specs.Tests.{type_tests, float_tests, distinct_tests, symbol_tests};
 ghost use Rattle.source.specs.Faults.{at_start, after_label, in_constants, in_variables, in_distinct, float_variable, float_end};
 ghost use Rattle.source.specs.Faults.{in_hypothesis, in_axiom, in_theorem, tested, start_row, keyword_row, constant_row, variable_row};
 ghost use Rattle.source.specs.Faults.{distinct_row, hypothesis_row, axiom_row, theorem_row, in_place};
 ghost use Rattle.source.specs.Views.{seen_words};
 ghost use Rattle.sourcereader.specs.Standing.{Stands, IsCounted};
+ghost use Rattle.sourcereader.specs.Takings.{one_more};
 ghost use Rattle.sourcereader.specs.Views.{standing_at, Leads};
 
 use crate::place::{Place, ProofPlace, Theorem};
@@ -130,11 +132,27 @@ pub(crate) fn variable<'a, S: Standing<'a>>(
     Ok(Place::InVariables(true))
 }
 
+/// The variables of a `$d` with one more.
+fn with_restricted<'a, S: Standing<'a>>(
+    standing: &S,
+    mut variables: Vec<&'a [u8]>,
+    token: Token<'a>,
+) -> Result<Vec<&'a [u8]>, Stop>
+    ensures { let vs = seen_words variables.entry.items in Gives (λ ws. seen_words ws.items) result
+        (one_more (seen token.entry) vs (first_fault (distinct_tests (S.stand standing.now).scope vs token.entry.text.now))) }
+{
+    if let Some(kind) = standing.distinct_fault(&variables, token.text) {
+        return Err(fault_at(token, kind));
+    }
+    variables.push(token.text)?;
+    Ok(variables)
+}
+
 /// A variable of a `$d`, or the `$.` behind two.
 pub(crate) fn distinct<'a, S: Standing<'a>>(
     alloc: Global,
     standing: &mut S,
-    mut variables: Vec<&'a [u8]>,
+    variables: Vec<&'a [u8]>,
     token: Token<'a>,
     mark: Mark,
 ) -> Result<Place<'a>, Stop>
@@ -147,10 +165,7 @@ pub(crate) fn distinct<'a, S: Standing<'a>>(
         standing.declare_distinct(alloc, variables)?;
         return Ok(Place::AtStart);
     }
-    if let Some(kind) = standing.distinct_fault(&variables, token.text) {
-        return Err(fault_at(token, kind));
-    }
-    variables.push(token.text)?;
+    let variables = with_restricted(standing, variables, token)?;
     Ok(Place::InDistinct(variables))
 }
 
@@ -209,12 +224,31 @@ pub(crate) fn float_end<'a, S: Standing<'a>>(
     Ok(Place::AtStart)
 }
 
+/// An expression with one more symbol. What that makes mandatory is marked too.
+fn with_symbol<'a, S: Standing<'a>>(
+    standing: &mut S,
+    mut expression: Vec<&'a [u8]>,
+    token: Token<'a>,
+) -> Result<Vec<&'a [u8]>, Stop>
+    ensures reads { let e = seen_words expression.entry.items in Gives (λ ws. seen_words ws.items) result
+        (one_more (seen token.entry) e (first_fault (symbol_tests (S.stand standing.old).scope e token.entry.text.now))) }
+    ensures marks { S.marks standing.old ≡ mandatory_marks (S.stand standing.old).scope (seen_words expression.entry.items)
+        → IfOk result (λ ws. S.marks standing.new ≡ mandatory_marks (S.stand standing.new).scope (seen_words ws.items)) }
+    ensures same { S.stand standing.new ≡ S.stand standing.old }
+{
+    if let Some(kind) = standing.symbol_fault(&expression, token.text) {
+        return Err(fault_at(token, kind));
+    }
+    expression.push(token.text)?;
+    Ok(expression)
+}
+
 /// A symbol of a `$e`, or the `$.` behind one.
 pub(crate) fn hypothesis<'a, S: Standing<'a>>(
     alloc: Global,
     standing: &mut S,
     label: &'a [u8],
-    mut expression: Vec<&'a [u8]>,
+    expression: Vec<&'a [u8]>,
     token: Token<'a>,
     mark: Mark,
 ) -> Result<Place<'a>, Stop>
@@ -227,10 +261,7 @@ pub(crate) fn hypothesis<'a, S: Standing<'a>>(
         standing.declare_hypothesis(alloc, label, expression)?;
         return Ok(Place::AtStart);
     }
-    if let Some(kind) = standing.symbol_fault(&expression, token.text) {
-        return Err(fault_at(token, kind));
-    }
-    expression.push(token.text)?;
+    let expression = with_symbol(standing, expression, token)?;
     Ok(Place::InHypothesis(label, expression))
 }
 
@@ -239,7 +270,7 @@ pub(crate) fn axiom<'a, S: Standing<'a>>(
     alloc: Global,
     standing: &mut S,
     label: &'a [u8],
-    mut expression: Vec<&'a [u8]>,
+    expression: Vec<&'a [u8]>,
     token: Token<'a>,
     mark: Mark,
 ) -> Result<Place<'a>, Stop>
@@ -253,10 +284,7 @@ pub(crate) fn axiom<'a, S: Standing<'a>>(
         standing.declare_axiom(alloc, label, expression)?;
         return Ok(Place::AtStart);
     }
-    if let Some(kind) = standing.symbol_fault(&expression, token.text) {
-        return Err(fault_at(token, kind));
-    }
-    expression.push(token.text)?;
+    let expression = with_symbol(standing, expression, token)?;
     Ok(Place::InAxiom(label, expression))
 }
 
@@ -265,7 +293,7 @@ pub(crate) fn theorem<'a, S: Standing<'a>>(
     alloc: Global,
     standing: &mut S,
     label: &'a [u8],
-    mut expression: Vec<&'a [u8]>,
+    expression: Vec<&'a [u8]>,
     token: Token<'a>,
     mark: Mark,
 ) -> Result<Place<'a>, Stop>
@@ -278,9 +306,6 @@ pub(crate) fn theorem<'a, S: Standing<'a>>(
         let place = ProofPlace::InSteps(Vec::new(alloc), Entries::new());
         return Ok(Place::InProof(Theorem { label, expression }, place));
     }
-    if let Some(kind) = standing.symbol_fault(&expression, token.text) {
-        return Err(fault_at(token, kind));
-    }
-    expression.push(token.text)?;
+    let expression = with_symbol(standing, expression, token)?;
     Ok(Place::InTheorem(label, expression))
 }

@@ -16,10 +16,10 @@ ghost use Rattle.scripts.specs.ScriptViews.{label_at, rank_at, decided, seen_com
 use super::numerals::{hypothesis_place, is_numeral};
 use super::place::{CommandPlace, Led};
 use library::Command;
-use statementreader::{Recent, UnitProgress, UnitReader, named_step, recalled_named_step};
 use mmsyntax::numeral::number;
 use mmsyntax::{Label, Prelude, Sequence, Step};
 use mmtext::{FaultKind, Mark, Stop, Token, contains_dollar, fault_at, mark_word};
+use statementreader::{Recent, UnitProgress, UnitReader, named_step, recalled_named_step};
 use std::alloc::{AllocError, Global};
 
 /// A label: a word without `$`.

@@ -1,8 +1,8 @@
 //! Places in a script.
 
 use library::{Command, Transaction};
-use statementreader::{Recent, UnitReader};
 use mmsyntax::{Label, Prelude, Step};
+use statementreader::{Recent, UnitReader};
 
 /// What was read of the command in which a token stands.
 #[derive(Drop)]
