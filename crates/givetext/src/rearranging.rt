@@ -128,10 +128,10 @@ fn moved_text(
 
 /// Whether the proof of an assertion of a source is compressed.
 fn is_compressed<'a, D: Declared<'a>>(declared: &D, label: &[u8]) -> bool {
-    let proof = declared
-        .place_of(label)
-        .and_then(|place| declared.proof(place));
-    matches!(proof, Some(ProofWords::Compressed(..)))
+    let Some(place) = declared.place_of(label) else {
+        return false;
+    };
+    matches!(declared.proof(place), Some(ProofWords::Compressed(..)))
 }
 
 /// The text of an assertion that leaves a block in which others stand: with its comment, and its `$e` with labels of their own.

@@ -1,5 +1,5 @@
 -- From edits that are given back and told to what a command line does.
-use Rattle.std.proofs.Common.{◌≡◌, ◌++◌, ◌∷◌, [], ℕ, List, Option, ap, arith, inl, inr, length, refl, slice_index_or, subst, sym, Result}
+use Rattle.std.proofs.Common.{Bool, ◌≡◌, ◌++◌, ◌∷◌, [], ℕ, List, Option, ap, arith, inl, inr, length, refl, slice_index_or, subst, sym, Result}
 use Rattle.clap.specs.Words.{Row, Text}
 use Rattle.commandline.specs.GiveOrders.{AsksToGive}
 use Rattle.givetext.specs.Answers.{IsGiveAnswer}
@@ -19,28 +19,28 @@ only_three (a ∷ b ∷ []) x y z n first second third = absurd (omega arith)
 only_three (a ∷ b ∷ c ∷ []) x y z n first second third = cc
 only_three (a ∷ b ∷ c ∷ d ∷ more) x y z n first second third = absurd (omega arith)
 
-pub given_told : (texts : List Bytes) (source library history : Bytes) (told : Returned) (es : List Event) (status : ℕ)
+pub given_told : (keyed : Bool) (texts : List Bytes) (source library history : Bytes) (told : Returned) (es : List Event) (status : ℕ)
     → texts ≡ source ∷ library ∷ history ∷ [] → IsGiveAnswer source library history told → IsGiveTold told es status
-    → IsAnsweredGive texts es status
-given_told texts source library history told es status are answer is =
-    subst (λ (ts : List Bytes). IsAnsweredGive ts es status) (sym are) (inl (told, answer, is))
+    → IsAnsweredGive keyed texts es status
+given_told keyed texts source library history told es status are answer is =
+    subst (λ (ts : List Bytes). IsAnsweredGive keyed ts es status) (sym are) (inl (told, answer, is))
 
-pub unread_given : {E : Type 0} (source library history : Bytes) (texts : List Bytes) (u : Unread) (es fs : List Event) (r : Result ℕ E)
-    → IsStopped (source ∷ library ∷ history ∷ []) texts es u → IsUnreadTold u fs r → EndsBy (IsGiveDone source library history) (es ++ fs) r
-unread_given source library history texts u es fs r read told =
+pub unread_given : {E : Type 0} (keyed : Bool) (source library history : Bytes) (texts : List Bytes) (u : Unread) (es fs : List Event) (r : Result ℕ E)
+    → IsStopped (source ∷ library ∷ history ∷ []) texts es u → IsUnreadTold u fs r → EndsBy (IsGiveDone keyed source library history) (es ++ fs) r
+unread_given keyed source library history texts u es fs r read told =
     let paths = source ∷ library ∷ history ∷ [] in
-    EndsBy-weaker (IsUnread paths) (IsGiveDone source library history) (es ++ fs) r (λ status is. inl is)
+    EndsBy-weaker (IsUnread paths) (IsGiveDone keyed source library history) (es ++ fs) r (λ status is. inl is)
     (unread_told paths paths texts u es fs r refl read told)
 
-pub given_done : {E : Type 0} (source library history : Bytes) (texts : List Bytes) (es rest : List Event) (r : Result ℕ E)
-    → es ≡ reads_of (source ∷ library ∷ history ∷ []) texts → EndsBy (IsAnsweredGive texts) rest r
-    → EndsBy (IsGiveDone source library history) (es ++ rest) r
-given_done source library history texts es rest r is ends =
-    EndsBy-behind (IsAnsweredGive texts) (IsGiveDone source library history) es rest r (are_quiet (source ∷ library ∷ history ∷ []) texts es is)
+pub given_done : {E : Type 0} (keyed : Bool) (source library history : Bytes) (texts : List Bytes) (es rest : List Event) (r : Result ℕ E)
+    → es ≡ reads_of (source ∷ library ∷ history ∷ []) texts → EndsBy (IsAnsweredGive keyed texts) rest r
+    → EndsBy (IsGiveDone keyed source library history) (es ++ rest) r
+given_done keyed source library history texts es rest r is ends =
+    EndsBy-behind (IsAnsweredGive keyed texts) (IsGiveDone keyed source library history) es rest r (are_quiet (source ∷ library ∷ history ∷ []) texts es is)
     (λ status answered. inr (texts, rest, ap (λ (f : List Event). f ++ rest) is, answered)) ends
 
-pub give_ordered : {E : Type 0} (found : Option (Text × List Row)) (source library history : Bytes) (es : List Event) (r : Result ℕ E)
-    → AsksToGive found source library history → EndsBy (IsGiveDone source library history) es r → EndsBy (IsMatched found) es r
-give_ordered found source library history es r asks ends =
-    EndsBy-weaker (IsGiveDone source library history) (IsMatched found) es r
+pub give_ordered : {E : Type 0} (keyed : Bool) (found : Option (Text × List Row)) (source library history : Bytes) (es : List Event) (r : Result ℕ E)
+    → AsksToGive found source library history → EndsBy (IsGiveDone keyed source library history) es r → EndsBy (IsMatched keyed found) es r
+give_ordered keyed found source library history es r asks ends =
+    EndsBy-weaker (IsGiveDone keyed source library history) (IsMatched keyed found) es r
     (λ status is. inr (inr (inl (source, library, history, asks, is)))) ends

@@ -1,5 +1,5 @@
 -- What the program does for a command line, event by event, and the status that it ends with.
-use Rattle.std.specs.Prelude.{◌≡◌, ◌≢◌, ◌⊎◌, ℕ, true, false, List, [], ◌∷◌, ◌++◌, Option, Some, None, Result, Ok, Err, All, codes, length}
+use Rattle.std.specs.Prelude.{◌≡◌, ◌≢◌, ◌⊎◌, ℕ, Bool, true, false, List, [], ◌∷◌, ◌++◌, Option, Some, None, Result, Ok, Err, All, codes, length}
 use Rattle.std.specs.Prelude.{map, slice_get, string_bytes}
 use Rattle.clap.specs.declared.error.Error.{Error}
 use Rattle.clap.specs.declared.error.kind.ErrorKind.TheVariants.{DisplayHelp, DisplayVersion, OutOfMemory}
@@ -35,6 +35,10 @@ use Rattle.taketext.specs.Answers.{IsTakeAnswer}
 -- `LINE` is said, alone, and the status is 1
 abbrev pub IsSaid : Bytes → List Event → ℕ → Type 0
 IsSaid line es status = (es ≡ says line ∷ []) × (status ≡ 1)
+
+-- the system gave no random numbers for keys, which is said
+abbrev pub IsUnkeyed : Bool → List Event → ℕ → Type 0
+IsUnkeyed keyed es status = (keyed ≡ false) × IsSaid (codes "no random numbers") es status
 
 -- the text is printed, and the status is 0; or it can't be, which is said, and the status is 1
 abbrev pub IsPrinted : Bytes → List Event → ℕ → Type 0
@@ -90,10 +94,10 @@ abbrev pub IsJobAnswered : List Bytes → Option Bytes → Job → List Event �
 IsJobAnswered paths history job es status = (told : Answered) × IsAnswer paths job told × IsTold history told es status
 
 -- the texts are the job of a task, whose answer is told; or the system gives no random numbers, which is said; or so many texts aren't a job
-abbrev pub IsAnswered : Task → List Bytes → Option Bytes → List Bytes → List Event → ℕ → Type 0
-IsAnswered task paths history texts es status =
+abbrev pub IsAnswered : Bool → Task → List Bytes → Option Bytes → List Bytes → List Event → ℕ → Type 0
+IsAnswered keyed task paths history texts es status =
     ((job : Job) × IsJobOf task texts job × IsJobAnswered paths history job es status)
-    ⊎ (IsSaid (codes "no random numbers") es status
+    ⊎ (IsUnkeyed keyed es status
     ⊎ ((TakesTexts task (length texts) → ⊥) × IsSaid (codes "the command line cannot be read") es status))
 
 -- a file can't be read, and no one behind it is: it is said which, and the status is 1
@@ -110,13 +114,13 @@ IsUnreadTold unread.NoMemory es (Ok status) = ⊥
 IsUnreadTold unread.NoMemory es (Err e) = es ≡ []
 
 -- all files are read, in their order, before anything else is done; and then the job of their texts is answered
-abbrev pub IsRead : Task → List Bytes → Option Bytes → List Event → ℕ → Type 0
-IsRead task paths history es status =
+abbrev pub IsRead : Bool → Task → List Bytes → Option Bytes → List Event → ℕ → Type 0
+IsRead keyed task paths history es status =
     (texts : List Bytes) × (rest : List Event) × (length texts ≡ length paths) × (es ≡ reads_of paths texts ++ rest)
-    × IsAnswered task paths history texts rest status
+    × IsAnswered keyed task paths history texts rest status
 
-abbrev pub IsFollowed : Task → List Bytes → Option Bytes → List Event → ℕ → Type 0
-IsFollowed task paths history es status = IsUnread paths es status ⊎ IsRead task paths history es status
+abbrev pub IsFollowed : Bool → Task → List Bytes → Option Bytes → List Event → ℕ → Type 0
+IsFollowed keyed task paths history es status = IsUnread paths es status ⊎ IsRead keyed task paths history es status
 
 -- ---- an order to take
 
@@ -126,15 +130,15 @@ IsTakeTold (told.Printed out) es status = IsPrinted out.items es status
 IsTakeTold (told.Refused line) es status = IsSaid (string_bytes line) es status
 
 -- what is answered for a source is told; or the system gives no random numbers, which is said
-abbrev pub IsAnsweredTake : Bytes → Bytes → Wish → List Event → ℕ → Type 0
-IsAnsweredTake path source w es status =
-    ((told : Told) × IsTakeAnswer path source w told × IsTakeTold told es status) ⊎ IsSaid (codes "no random numbers") es status
+abbrev pub IsAnsweredTake : Bool → Bytes → Bytes → Wish → List Event → ℕ → Type 0
+IsAnsweredTake keyed path source w es status =
+    ((told : Told) × IsTakeAnswer path source w told × IsTakeTold told es status) ⊎ IsUnkeyed keyed es status
 
 -- the source can't be read, which is said, and the status is 1; or it is read, and then a library is taken of it
-abbrev pub IsTakeFollowed : Bytes → Wish → List Event → ℕ → Type 0
-IsTakeFollowed path w es status =
+abbrev pub IsTakeFollowed : Bool → Bytes → Wish → List Event → ℕ → Type 0
+IsTakeFollowed keyed path w es status =
     ((es ≡ reads path None ∷ says (path ++ codes ": cannot read") ∷ []) × (status ≡ 1))
-    ⊎ ((source : Bytes) × (rest : List Event) × (es ≡ reads path (Some source) ∷ rest) × IsAnsweredTake path source w rest status)
+    ⊎ ((source : Bytes) × (rest : List Event) × (es ≡ reads path (Some source) ∷ rest) × IsAnsweredTake keyed path source w rest status)
 
 -- what is wished for by the labels of `--for`, and those of `--from` and `--to`
 abbrev pub IsWishOf : List Bytes → Option Bytes → Option Bytes → Wish → Type 0
@@ -144,9 +148,9 @@ IsWishOf labels from to (wish.Between first last) = (labels ≡ []) × (from ≡
 IsWishOf labels from to (wish.These named axioms) = ⊥
 
 -- a library is taken by what is wished for; or the options don't go together, which is said, and no file is read
-abbrev pub IsTakeDone : Bytes → List Bytes → Option Bytes → Option Bytes → List Event → ℕ → Type 0
-IsTakeDone path labels from to es status =
-    ((w : Wish) × IsWishOf labels from to w × IsTakeFollowed path w es status)
+abbrev pub IsTakeDone : Bool → Bytes → List Bytes → Option Bytes → Option Bytes → List Event → ℕ → Type 0
+IsTakeDone keyed path labels from to es status =
+    ((w : Wish) × IsWishOf labels from to w × IsTakeFollowed keyed path w es status)
     ⊎ (((w : Wish) → IsWishOf labels from to w → ⊥) × IsSaid (codes "--from and --to go together, without --for") es status)
 
 -- ---- an order to give back
@@ -157,17 +161,17 @@ IsGiveTold (returned.Printed out) es status = IsPrinted out.items es status
 IsGiveTold (returned.Refused line) es status = IsSaid (string_bytes line) es status
 
 -- what is answered for a source, a library and a history is told; or the system gives no random numbers, which is said
-abbrev pub IsAnsweredGive : List Bytes → List Event → ℕ → Type 0
-IsAnsweredGive (source ∷ library ∷ history ∷ []) es status =
-    ((told : Returned) × IsGiveAnswer source library history told × IsGiveTold told es status) ⊎ IsSaid (codes "no random numbers") es status
-IsAnsweredGive _ es status = ⊥
+abbrev pub IsAnsweredGive : Bool → List Bytes → List Event → ℕ → Type 0
+IsAnsweredGive keyed (source ∷ library ∷ history ∷ []) es status =
+    ((told : Returned) × IsGiveAnswer source library history told × IsGiveTold told es status) ⊎ IsUnkeyed keyed es status
+IsAnsweredGive keyed _ es status = ⊥
 
 -- a file can't be read; or all are read, in their order, before anything else is done, and then the edits are given back
-abbrev pub IsGiveDone : Bytes → Bytes → Bytes → List Event → ℕ → Type 0
-IsGiveDone source library history es status =
+abbrev pub IsGiveDone : Bool → Bytes → Bytes → Bytes → List Event → ℕ → Type 0
+IsGiveDone keyed source library history es status =
     IsUnread (source ∷ library ∷ history ∷ []) es status
     ⊎ ((texts : List Bytes) × (rest : List Event) × (es ≡ reads_of (source ∷ library ∷ history ∷ []) texts ++ rest)
-    × IsAnsweredGive texts rest status)
+    × IsAnsweredGive keyed texts rest status)
 
 -- ---- a command line
 
@@ -179,21 +183,21 @@ IsShown e es status =
     ⊎ ((es ≡ shows e false ∷ says (codes "cannot write") ∷ []) × (status ≡ 1))
 
 -- a subcommand with an order, which is followed
-abbrev pub IsOrdered : Option (Text × List Row) → List Event → ℕ → Type 0
-IsOrdered found es status =
-    (task : Task) × (paths : List Bytes) × (history : Option Bytes) × IsOrder found task paths history × IsFollowed task paths history es status
+abbrev pub IsOrdered : Bool → Option (Text × List Row) → List Event → ℕ → Type 0
+IsOrdered keyed found es status =
+    (task : Task) × (paths : List Bytes) × (history : Option Bytes) × IsOrder found task paths history × IsFollowed keyed task paths history es status
 
 -- a subcommand with an order to take, which is done
-abbrev pub IsTakeOrdered : Option (Text × List Row) → List Event → ℕ → Type 0
-IsTakeOrdered found es status =
+abbrev pub IsTakeOrdered : Bool → Option (Text × List Row) → List Event → ℕ → Type 0
+IsTakeOrdered keyed found es status =
     (path : Bytes) × (labels : List Bytes) × (from : Option Bytes) × (to : Option Bytes) × IsTakeOrder found path labels from to
-    × IsTakeDone path labels from to es status
+    × IsTakeDone keyed path labels from to es status
 
 -- a subcommand with an order to give back, which is done
-abbrev pub IsGiveOrdered : Option (Text × List Row) → List Event → ℕ → Type 0
-IsGiveOrdered found es status =
+abbrev pub IsGiveOrdered : Bool → Option (Text × List Row) → List Event → ℕ → Type 0
+IsGiveOrdered keyed found es status =
     (source : Bytes) × (library : Bytes) × (history : Bytes) × AsksToGive found source library history
-    × IsGiveDone source library history es status
+    × IsGiveDone keyed source library history es status
 
 -- no subcommand, or one that asks for no task, and for nothing to take or to give back
 abbrev pub IsUnasked : Option (Text × List Row) → List Event → ℕ → Type 0
@@ -202,16 +206,16 @@ IsUnasked found es status =
     × ((source library history : Bytes) → AsksToGive found source library history → ⊥)
     × IsSaid (codes "the command line cannot be read") es status
 
-abbrev pub IsMatched : Option (Text × List Row) → List Event → ℕ → Type 0
-IsMatched found es status =
-    IsOrdered found es status ⊎ (IsTakeOrdered found es status ⊎ (IsGiveOrdered found es status ⊎ IsUnasked found es status))
+abbrev pub IsMatched : Bool → Option (Text × List Row) → List Event → ℕ → Type 0
+IsMatched keyed found es status =
+    IsOrdered keyed found es status ⊎ (IsTakeOrdered keyed found es status ⊎ (IsGiveOrdered keyed found es status ⊎ IsUnasked found es status))
 
 -- the words are none of the program's command lines, or ask for help or the version, which the parser tells by its error
 abbrev pub IsUsage : List Text → List Event → ℕ → Type 0
 IsUsage words es status = (e : Error) × HasKind (fault_of program_app words) e × (kind_of e ≢ OutOfMemory) × IsShown e es status
 
-abbrev pub IsObeyed : List Text → List Event → ℕ → Type 0
-IsObeyed words es status = IsUsage words es status ⊎ IsMatched (subcommand_of program_app words) es status
+abbrev pub IsObeyed : Bool → List Text → List Event → ℕ → Type 0
+IsObeyed keyed words es status = IsUsage words es status ⊎ IsMatched keyed (subcommand_of program_app words) es status
 
 -- what was done so far where memory ran out
 abbrev pub EndsBy : {E : Type 0} → (List Event → ℕ → Type 0) → List Event → Result ℕ E → Type 0
@@ -222,6 +226,6 @@ EndsBy P es (Err e) = All IsQuiet es
 abbrev pub IsOutOfMemory : List Event → ℕ → Type 0
 IsOutOfMemory es status = (front : List Event) × (es ≡ front ++ says (codes "no memory") ∷ []) × All IsQuiet front × (status ≡ 1)
 
--- what the program does for the words of a command line, and its status
-abbrev pub Obeys : List Text → List Event → ℕ → Type 0
-Obeys words es status = IsObeyed words es status ⊎ IsOutOfMemory es status
+-- what the program does for the words of a command line, with keys or without, and its status
+abbrev pub Obeys : Bool → List Text → List Event → ℕ → Type 0
+Obeys keyed words es status = IsObeyed keyed words es status ⊎ IsOutOfMemory es status

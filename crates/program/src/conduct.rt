@@ -1,6 +1,6 @@
 //! How a command line is done: its files are read, its job is answered, and the answer is told.
 
-ghost use Rattle.std.specs.Prelude.{◌≡◌, ◌≢◌, ◌∷◌, [], List, Some, map, option_map, string_bytes};
+ghost use Rattle.std.specs.Prelude.{is_some, ◌≡◌, ◌≢◌, ◌∷◌, [], List, Some, map, option_map, string_bytes};
 ghost use Rattle.checking.specs.declared.task.Task.{Task};
 ghost use Rattle.clap.specs.Words.{kind_of, subcommand_rows_of};
 ghost use Rattle.jobs.specs.Jobs.{AreWithin};
@@ -172,7 +172,7 @@ fn answer_texts<R: Threads + Wait + Sync, W: World, V: Watch + Sync>(
     watch: &V,
 ) -> Result<u8, AllocError>
     requires { AsksWithin order.now.task }
-    ensures { (es : List Event) × Adds (W.done world.old) (W.done world.new) es × EndsBy (IsAnswered order.now.task
+    ensures { (es : List Event) × Adds (W.done world.old) (W.done world.new) es × EndsBy (IsAnswered (is_some keys) order.now.task
         (map (λ p. p.now) order.now.paths.items) (option_map (λ s. s.now) order.now.history) (map (λ t. t.items) texts.items)) es result }
 {
     let Some(job) = job_of(order.task, texts) else {
@@ -194,7 +194,7 @@ fn follow<R: Threads + Wait + Sync, W: World, V: Watch + Sync>(
     watch: &V,
 ) -> Result<u8, AllocError>
     requires { AsksWithin order.now.task }
-    ensures { (es : List Event) × Adds (W.done world.old) (W.done world.new) es × EndsBy (IsFollowed order.now.task
+    ensures { (es : List Event) × Adds (W.done world.old) (W.done world.new) es × EndsBy (IsFollowed (is_some keys) order.now.task
         (map (λ p. p.now) order.now.paths.items) (option_map (λ s. s.now) order.now.history)) es result }
 {
     let mut texts = Vec::new(alloc);
@@ -225,7 +225,7 @@ fn obey_other<R: Threads + Sync, W: World, F: Follow>(
 ) -> Result<u8, AllocError>
     requires { (task : Task) → AsksFor (subcommand_rows_of matches.now) task → ⊥ }
     ensures { (es : List Event) × Adds (W.done world.old) (W.done world.new) es
-        × EndsBy (IsMatched (subcommand_rows_of matches.now)) es result }
+        × EndsBy (IsMatched (is_some keys) (subcommand_rows_of matches.now)) es result }
 {
     match give_of(matches) {
         Some(order) => follow_give(rt, alloc, world, keys, order, follow),
@@ -243,7 +243,7 @@ fn obey_matches<R: Threads + Wait + Sync, W: World, V: Watch + Follow + Sync>(
     watch: &V,
 ) -> Result<u8, AllocError>
     ensures { (es : List Event) × Adds (W.done world.old) (W.done world.new) es
-        × EndsBy (IsMatched (subcommand_rows_of matches.now)) es result }
+        × EndsBy (IsMatched (is_some keys) (subcommand_rows_of matches.now)) es result }
 {
     match order_of(alloc, matches) {
         Ok(Some(order)) => follow(rt, alloc, world, keys, &order, watch),
@@ -273,7 +273,7 @@ fn try_obey<'a, R: Threads + Wait + Sync, W: World, V: Watch + Follow + Sync>(
     watch: &V,
 ) -> Result<u8, AllocError>
     ensures { (es : List Event) × Adds (W.done world.old) (W.done world.new) es
-        × EndsBy (IsObeyed (map string_bytes words.entry.now)) es result }
+        × EndsBy (IsObeyed (is_some keys) (map string_bytes words.entry.now)) es result }
 {
     let Ok(line) = command_line(alloc) else {
         return Err(AllocError);
@@ -297,7 +297,7 @@ pub fn obey<R: Threads + Wait + Sync, W: World, V: Watch + Follow + Sync>(
     words: &[String],
     watch: &V,
 ) -> u8
-    ensures { (es : List Event) × Adds (W.done world.old) (W.done world.new) es × Obeys (map string_bytes words.now) es result }
+    ensures { (es : List Event) × Adds (W.done world.old) (W.done world.new) es × Obeys (is_some keys) (map string_bytes words.now) es result }
 {
     match try_obey(rt, alloc, world, keys, words, watch) {
         Ok(status) => status,

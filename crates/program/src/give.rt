@@ -1,6 +1,6 @@
 //! How edits are given back: three files are read, and what is answered is told.
 
-ghost use Rattle.std.specs.Prelude.{◌≡◌, List, length, map};
+ghost use Rattle.std.specs.Prelude.{is_some, ◌≡◌, List, length, map};
 ghost use Rattle.program.specs.Events.{Event, Adds};
 ghost use Rattle.program.specs.Conduct.{EndsBy, IsGiveTold, IsAnsweredGive, IsGiveDone};
 
@@ -35,7 +35,7 @@ fn answer_given<R: Threads + Sync, W: World, F: Follow>(
 ) -> Result<u8, AllocError>
     requires { length texts.now ≡ 3 }
     ensures { (es : List Event) × Adds (W.done world.old) (W.done world.new) es
-        × EndsBy (IsAnsweredGive (map (λ t. t.items) texts.now)) es result }
+        × EndsBy (IsAnsweredGive (is_some keys) (map (λ t. t.items) texts.now)) es result }
 {
     let Some(keys) = keys else {
         return Ok(refuse(world, "no random numbers"));
@@ -66,7 +66,7 @@ pub(crate) fn follow_give<R: Threads + Sync, W: World, F: Follow>(
     follow: &F,
 ) -> Result<u8, AllocError>
     ensures { (es : List Event) × Adds (W.done world.old) (W.done world.new) es
-        × EndsBy (IsGiveDone order.entry.source.now order.entry.library.now order.entry.history.now) es result }
+        × EndsBy (IsGiveDone (is_some keys) order.entry.source.now order.entry.library.now order.entry.history.now) es result }
 {
     let paths = [order.source, order.library, order.history];
     let mut texts = Vec::new(alloc);

@@ -1,6 +1,6 @@
 //! How a library is taken: its source is read, and what is answered is told.
 
-ghost use Rattle.std.specs.Prelude.{◌≡◌, [], List, IfOk, IfSome, IsNone, map, option_map};
+ghost use Rattle.std.specs.Prelude.{is_some, ◌≡◌, [], List, IfOk, IfSome, IsNone, map, option_map};
 ghost use Rattle.checking.specs.declared.task.Task.{Task};
 ghost use Rattle.choosing.specs.declared.wish.Wish.{Wish as WishOfTake};
 ghost use Rattle.clap.specs.Words.{Text, subcommand_rows_of};
@@ -85,7 +85,7 @@ fn answer_source<R: Threads + Sync, W: World, F: Follow>(
     follow: &F,
 ) -> Result<u8, AllocError>
     ensures { (es : List Event) × Adds (W.done world.old) (W.done world.new) es
-        × EndsBy (IsAnsweredTake path.now source.now wish.entry) es result }
+        × EndsBy (IsAnsweredTake (is_some keys) path.now source.now wish.entry) es result }
 {
     let Some(keys) = keys else {
         return Ok(refuse(world, "no random numbers"));
@@ -106,7 +106,7 @@ fn take_source<R: Threads + Sync, W: World, F: Follow>(
     wish: Wish<'_>,
     follow: &F,
 ) -> Result<u8, AllocError>
-    ensures { (es : List Event) × Adds (W.done world.old) (W.done world.new) es × EndsBy (IsTakeFollowed path.now wish.entry) es result }
+    ensures { (es : List Event) × Adds (W.done world.old) (W.done world.new) es × EndsBy (IsTakeFollowed (is_some keys) path.now wish.entry) es result }
 {
     match world.read(alloc, path) {
         Ok(source) => answer_source(
@@ -137,7 +137,7 @@ fn follow_take<R: Threads + Sync, W: World, F: Follow>(
     follow: &F,
 ) -> Result<u8, AllocError>
     ensures { (es : List Event) × Adds (W.done world.old) (W.done world.new) es
-        × EndsBy (IsTakeDone order.now.path.now (map (λ l. l.now) order.now.labels.items)
+        × EndsBy (IsTakeDone (is_some keys) order.now.path.now (map (λ l. l.now) order.now.labels.items)
         (option_map (λ s. s.now) order.now.from) (option_map (λ s. s.now) order.now.to)) es result }
 {
     let Ok(words) = label_bytes(alloc, order.labels.as_slice()) else {
@@ -161,7 +161,7 @@ pub(crate) fn obey_take<R: Threads + Sync, W: World, F: Follow>(
     requires asks { (task : Task) → AsksFor (subcommand_rows_of matches.now) task → ⊥ }
     requires gives { (source library history : Text) → AsksToGive (subcommand_rows_of matches.now) source library history → ⊥ }
     ensures { (es : List Event) × Adds (W.done world.old) (W.done world.new) es
-        × EndsBy (IsMatched (subcommand_rows_of matches.now)) es result }
+        × EndsBy (IsMatched (is_some keys) (subcommand_rows_of matches.now)) es result }
 {
     match take_of(alloc, matches) {
         Ok(Some(order)) => follow_take(rt, alloc, world, keys, &order, follow),

@@ -1,5 +1,5 @@
 use Rattle.std.proofs.Common.{ℕ, List, Bor, map, option_map}
-use Rattle.std.specs.Prelude.{Vec}
+use Rattle.std.specs.Prelude.{is_some, Vec}
 use Rattle.std.specs.declared.alloc.Global.{Global}
 use Rattle.program.proofs.Followed.{texts_answered}
 use Rattle.program.proofs.conduct.answer_texts.Goals as goal
@@ -10,4 +10,4 @@ returns g c =
     let paths = map (λ (p : Bor (List ℕ)). p.now) c.args.order.now.paths.items in
     let history = option_map (λ (s : Bor (List ℕ)). s.now) c.args.order.now.history in
     let texts = map (λ (t : Vec ℕ Global). t.items) c.args.texts.items in
-    (told.0, told.1, texts_answered c.args.order.now.task paths history texts c.in-Some.job told.0 c.answer_job.result c.in-Some.ensures.job told.2)
+    (told.0, told.1, texts_answered (is_some c.args.keys) c.args.order.now.task paths history texts c.in-Some.job told.0 c.answer_job.result c.in-Some.ensures.job told.2)

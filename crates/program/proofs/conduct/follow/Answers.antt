@@ -1,5 +1,5 @@
 use Rattle.std.proofs.Common.{◌++◌, ap, ℕ, List, Bor, map, option_map}
-use Rattle.std.specs.Prelude.{Vec}
+use Rattle.std.specs.Prelude.{is_some, Vec}
 use Rattle.std.specs.declared.alloc.Global.{Global}
 use Rattle.program.proofs.Behind.{adds_more}
 use Rattle.program.proofs.Followed.{followed, untold}
@@ -14,7 +14,7 @@ returns-in-Err g c =
     let texts = map (λ (t : Vec ℕ Global). t.items) c.read_all.new.texts.items in (
       read.0 ++ told.0,
       adds_more read.1 told.1,
-      untold c.args.order.now.task _ _ history texts c.in-Err.unread read.0 told.0 c.tell_unread.result same read.2 told.2,
+      untold (is_some c.args.keys) c.args.order.now.task _ _ history texts c.in-Err.unread read.0 told.0 c.tell_unread.result same read.2 told.2,
     )
 
 pub returns : goal.returns
@@ -26,5 +26,5 @@ returns g c =
     let texts = map (λ (t : Vec ℕ Global). t.items) c.read_all.new.texts.items in (
       read.0 ++ rest.0,
       adds_more read.1 rest.1,
-      followed c.args.order.now.task _ _ history texts read.0 rest.0 c.answer_texts.result same read.2.0 read.2.1 rest.2,
+      followed (is_some c.args.keys) c.args.order.now.task _ _ history texts read.0 rest.0 c.answer_texts.result same read.2.0 read.2.1 rest.2,
     )

@@ -1,3 +1,4 @@
+use Rattle.std.specs.Prelude.{is_some}
 use Rattle.clap.specs.Words.{subcommand_rows_of}
 use Rattle.std.proofs.Common.{ℕ, List, Bor, map, option_map}
 use Rattle.program.proofs.Followed.{ordered}
@@ -10,6 +11,6 @@ returns-in-Ok-Some g c =
     let asked = rw c.in-Ok-Some.field-0-is at c.in-Ok-Some.ensures.some in (
       done.0,
       done.1,
-      ordered (subcommand_rows_of c.args.matches.now) order.task (map (λ (p : Bor (List ℕ)). p.now) order.paths.items)
+      ordered (is_some c.args.keys) (subcommand_rows_of c.args.matches.now) order.task (map (λ (p : Bor (List ℕ)). p.now) order.paths.items)
           (option_map (λ (s : Bor (List ℕ)). s.now) order.history) done.0 c.follow.result asked done.2,
     )

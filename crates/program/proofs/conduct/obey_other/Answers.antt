@@ -1,3 +1,4 @@
+use Rattle.std.specs.Prelude.{is_some}
 use Rattle.clap.specs.Words.{subcommand_rows_of}
 use Rattle.program.proofs.GivenBack.{give_ordered}
 use Rattle.program.proofs.conduct.obey_other.Goals as goal
@@ -8,6 +9,6 @@ returns-in-Some g c =
     let order = c.in-Some.order in (
       done.0,
       done.1,
-      give_ordered (subcommand_rows_of c.args.matches.now) order.source.now order.library.now order.history.now done.0 c.follow_give.result
+      give_ordered (is_some c.args.keys) (subcommand_rows_of c.args.matches.now) order.source.now order.library.now order.history.now done.0 c.follow_give.result
           c.in-Some.ensures.some done.2,
     )

@@ -1,3 +1,4 @@
+use Rattle.std.specs.Prelude.{is_some}
 use Rattle.std.proofs.Common.{◌∷◌, ◌++◌, [], Some, None, codes, inl, refl}
 use Rattle.program.specs.Events.{reads, says}
 use Rattle.program.proofs.Behind.{adds_more}
@@ -11,7 +12,7 @@ returns-in-Ok g c =
     let path = c.args.path.now in (
       reads path (Some source) ∷ rest.0,
       adds_more c.in-Ok.ensures rest.1,
-      source_read path source c.args.wish rest.0 c.answer_source.result (rw c.as_slice.ensures.value at rest.2),
+      source_read (is_some c.args.keys) path source c.args.wish rest.0 c.answer_source.result (rw c.as_slice.ensures.value at rest.2),
     )
 
 pub returns-in-Err-NoMemory : goal.returns-in-Err-NoMemory
