@@ -49,13 +49,13 @@ fn texts_of(rt: &(impl Files + AllocGlobal), paths: &[String]) -> io::Result<Vec
     Ok(texts)
 }
 
-/// Runs the files of a row by one worker, and prints what is told to who watches: of the words the second is the database's path, and all others
+/// Runs the files of a row by one worker, and prints what is told to who watches: of the words the first is the database's path, and all others
 /// are those of scripts. What the run prints is left out. It may wait.
 pub fn tell_files<R>(rt: &R, words: &[String]) -> io::Result<()>
 where
     R: Files + AllocGlobal + Print + RandomSource + Threads + Wait + Sync,
 {
-    let [_, db, scripts @ ..] = words else {
+    let [db, scripts @ ..] = words else {
         return println!(rt; "no such row");
     };
     let keys = RandomState::new(rt)?;
