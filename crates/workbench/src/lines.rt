@@ -13,23 +13,17 @@
 //! | `kept PATH WORDS` | one whose standard output goes into a file |
 //! | `file PATH`, `first PATH`, `library PATH` | prints what a file has; its first line; what stands behind its line `library` |
 //! | `same PATH PATH` | whether behind their lines `library` two files have the same |
-//! | `told DB SCRIPT..` | what is told to who watches the run of these files by one worker |
 //!
 //! The files `rN.*` are those of row N, as `docs/DEFINITIONS.md` counts the rows that its rules were read against; the files `sN.mm` are sources in the
 //! whole language. What is to be printed was worked out by hand from the README's tables, and stands in `stdout`, of clap's texts the first line.
 //! The gate compares the two.
 
 mod stage;
-mod teller;
 
 use crate::lines::stage::{Mode, Stage};
-use crate::lines::teller::tell_files;
 use crate::making::{cut, made};
 use std::alloc::{AllocError, Global};
-use std::random::RandomSource;
 use std::rt::Files;
-use std::sync::Wait;
-use std::thread::Threads;
 use std::{fs, io};
 
 /// The line in front of a library.
@@ -129,33 +123,31 @@ fn mode_of(row: &str) -> Option<Mode> {
     }
 }
 
-/// Does what a row asks for that is no command line. It may wait.
-fn do_other<R>(rt: &R, row: &str, behind: &str, lines: &[Vec<u8>]) -> io::Result<()>
-where
-    R: Files + AllocGlobal + Print + RandomSource + Threads + Wait + Sync,
-{
+/// Does what a row asks for that is no command line.
+fn do_other(
+    rt: &(impl Files + AllocGlobal + Print),
+    row: &str,
+    behind: &str,
+    lines: &[Vec<u8>],
+) -> io::Result<()> {
     match row {
         "made" => write_made(rt, behind, lines),
         "same" => print_same(rt, behind),
-        "told" => tell_files(rt, words_of(rt.alloc(), behind)?.as_slice()),
         _ => print_file(rt, row, behind),
     }
 }
 
 /// Prints a row of the table, and does what it asks for where it is no command line; for a command line, the runtime for it. Of an empty row, and of one
-/// that writes its text, nothing is printed. It may wait.
+/// that writes its text, nothing is printed.
 ///
 /// # Errors
 ///
 /// Those of printing, and of files that a row writes or tells of.
-pub fn begin_row<'r, R>(
+pub fn begin_row<'r, R: Files + AllocGlobal + Print>(
     rt: &'r R,
     line: &str,
     lines: &[Vec<u8>],
-) -> io::Result<Option<Stage<'r, R>>>
-where
-    R: Files + AllocGlobal + Print + RandomSource + Threads + Wait + Sync,
-{
+) -> io::Result<Option<Stage<'r, R>>> {
     let (row, behind) = line.split_once(' ').unwrap_or((line, ""));
     if row == "text" {
         write_text(rt, behind, lines)?;

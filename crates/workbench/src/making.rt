@@ -15,6 +15,9 @@ pub(crate) fn cut(text: &[u8], end: u8) -> (&[u8], &[u8]) {
 
 /// Puts a part, with this number in place of each `#`.
 fn put_part(out: &mut Vec<u8>, part: &[u8], number: usize) -> Result<(), AllocError> {
+    if !part.contains(&b'#') {
+        return out.extend_from_slice(part);
+    }
     for byte in part {
         match byte {
             b'#' => write!(out, "{number}").map_err(|_| AllocError)?,
