@@ -6,7 +6,7 @@ use bodystore::{
     encode_proof, encode_statement,
 };
 use mmstatement::Database;
-use mmsyntax::Assertion;
+use mmsyntax::{Assertion, Expr};
 use std::alloc::{AllocError, AllocGlobal, Global};
 use std::random::RandomSource;
 use std::test::Fail;
@@ -23,11 +23,18 @@ const STEPS: &[StoredStep] = &[
 
 const STEP_WORDS: &[u64] = &[6, 4, 11, 2];
 
+/// A label has a word for each byte.
+fn is_label_words(alloc: Global) -> Result<bool, AllocError> {
+    Ok(
+        encode_label(alloc, b"we")?.as_slice() == LABEL_WORDS
+            && decode_label(alloc, LABEL_WORDS)?.as_slice() == b"we".as_slice(),
+    )
+}
+
 /// A label has a word for each byte, and a proof one for each step.
 pub(crate) fn are_words(alloc: Global) -> Result<bool, AllocError> {
     Ok(
-        encode_label(alloc, b"we")?.as_slice() == LABEL_WORDS
-            && decode_label(alloc, LABEL_WORDS)?.as_slice() == b"we".as_slice()
+        is_label_words(alloc)?
             && encode_proof(alloc, STEPS)?.as_slice() == STEP_WORDS
             && decode_proof(alloc, STEP_WORDS)?.as_slice() == STEPS,
     )
@@ -44,19 +51,22 @@ const AXIOM_WORDS: &[u64] = &[0, 0, 0, 1, 0];
 /// The theorem's kind, how many pairs and hypotheses it has, each pair, and each expression behind its length.
 const THEOREM_WORDS: &[u64] = &[1, 2, 2, 1, 4_294_967_298, 2, 2, 1, 2, 2, 5, 3, 2, 1, 3];
 
-/// Whether a statement is that of an assertion, which has two hypotheses or none.
-fn is_of(made: &Statement, assertion: &Assertion) -> bool {
-    let are_same = match (made.hyps.as_slice(), assertion.hyps.as_slice()) {
-        ([], []) => true,
-        ([one, other], [first, second]) => {
-            one.as_slice() == first.as_slice() && other.as_slice() == second.as_slice()
+/// Whether two lists have the same expressions.
+fn are_same(some: &[Expr], others: &[Expr]) -> bool {
+    for (one, other) in some.iter().zip(others) {
+        if one.as_slice() != other.as_slice() {
+            return false;
         }
-        _ => false,
-    };
-    are_same
-        && made.kind == assertion.kind
+    }
+    some.len() == others.len()
+}
+
+/// Whether a statement is that of an assertion.
+fn is_of(made: &Statement, assertion: &Assertion) -> bool {
+    made.kind == assertion.kind
         && made.pairs.as_slice() == assertion.pairs.as_slice()
         && made.statement.as_slice() == assertion.statement.as_slice()
+        && are_same(made.hyps.as_slice(), assertion.hyps.as_slice())
 }
 
 /// Whether words are read as the statement of an assertion.

@@ -1,10 +1,10 @@
-//! Libraries copied, and exported to writers that take few bytes at a call, fail, or take none.
+//! A library exported to writers that take few bytes at a call, fail, or take none.
 
-use crate::samples::{checked, demo, mini};
-use export::{ExportError, export, write_library};
+use crate::samples::{checked, mini};
+use export::{ExportError, export};
 use history::Editor;
 use library::PlainLibrary;
-use std::alloc::{AllocError, AllocGlobal, Global};
+use std::alloc::{AllocGlobal, Global};
 use std::hash::RandomState;
 use std::io;
 use std::io::{ErrorKind, Write};
@@ -94,63 +94,4 @@ pub(crate) fn calls_nothing_behind(
             && ends_behind(library, rt.alloc(), 0, 0, 0, 1)
             && ends_behind(library, rt.alloc(), 1, 0, 23, 23),
     )
-}
-
-/// Whether exports to writers that take one byte at a call end so, of which the k-th fails at its call k, and one takes all.
-fn may_each_fail(library: (&PlainLibrary, &[u8]), alloc: Global) -> bool {
-    let length = library.1.len();
-    for written in 0..length {
-        if !ends_behind(library, alloc, 1, written + 1, written, written + 1) {
-            return false;
-        }
-    }
-    ends_behind(library, alloc, 1, 0, length, length)
-}
-
-/// The same of the library of `examples/demo.mm`.
-pub(crate) fn each_may_fail(
-    rt: &(impl AllocGlobal + RandomSource + Threads + Sync),
-) -> Result<bool, Fail> {
-    let text = demo(rt.alloc())?;
-    let library = library(rt, text.as_slice())?;
-    Ok(may_each_fail((&library, text.as_slice()), rt.alloc()))
-}
-
-/// A constant of 16 bytes, and an axiom of 65,535 symbols, in the canonical layout: 27 bytes, and 13 beside 65,534 times 17.
-fn long(alloc: Global) -> Result<Vec<u8>, AllocError> {
-    let mut text = Vec::from_slice(alloc, b"$c wff 0123456789abcdef $.\nax $a wff")?;
-    for _ in 0..65_534 {
-        text.extend_from_slice(b" 0123456789abcdef")?;
-    }
-    text.extend_from_slice(b" $.\n")?;
-    Ok(text)
-}
-
-/// Exports 1,114,118 bytes to a writer that takes 4,096 at a call: 272 times those, and 6.
-pub(crate) fn is_megabyte_taken(
-    rt: &(impl AllocGlobal + RandomSource + Threads + Sync),
-) -> Result<bool, Fail> {
-    let text = long(rt.alloc())?;
-    let library = library(rt, text.as_slice())?;
-    let library = (&library, text.as_slice());
-    Ok(ends_behind(library, rt.alloc(), 4_096, 0, 1_114_118, 273))
-}
-
-/// Whether a library has eight slots, and this text.
-fn is_of(alloc: Global, library: &PlainLibrary, text: &[u8]) -> Result<bool, AllocError> {
-    Ok(library.slots() == 8 && write_library(alloc, library)?.as_slice() == text)
-}
-
-/// Whether a copy of a library has eight slots, and this text.
-fn is_copied(alloc: Global, library: &PlainLibrary, text: &[u8]) -> Result<bool, AllocError> {
-    let copy = library.copy(alloc)?;
-    is_of(alloc, &copy, text)
-}
-
-/// A copy of a library has its slots and its text.
-pub(crate) fn copy_is_equal(
-    rt: &(impl AllocGlobal + RandomSource + Threads + Sync),
-) -> Result<bool, Fail> {
-    let library = library(rt, mini())?;
-    is_copied(rt.alloc(), &library, mini()).map_err(Fail::from)
 }

@@ -30,7 +30,6 @@ const CALLS: usize = 16;
 const NONE: usize = usize::MAX;
 
 /// Keeps one script waiting until another has its last outcome, for so many turns, and writes down the first calls, one after another.
-#[derive(Drop)]
 struct Watch {
     waiting: usize,
     awaited: usize,
@@ -41,6 +40,20 @@ struct Watch {
     count: AtomicUsize,
     /// Of each call `0` for `enter`, `P` for `pass` or `p` for `leave`, and added to it the number of the script, up to 15.
     calls: Vec<AtomicU8>,
+}
+
+// One call where it is dropped: a derived drop is written out at each early return.
+impl Drop for Watch {
+    fn drop(self) {
+        let Watch {
+            waiting: _,
+            awaited: _,
+            left: _,
+            gave_up: _,
+            count: _,
+            calls: _,
+        } = self;
+    }
 }
 
 impl Watch {
@@ -184,6 +197,17 @@ fn run<R: AllocGlobal + RandomSource + Threads + Wait + Sync>(
     letters(rt.alloc(), outcomes.as_slice()).map_err(Fail::from)
 }
 
+/// Whether the outcomes begin with the first and end with the last of two, and those between are the same as the first.
+fn are_these(outcomes: &[u8], wanted: &[u8]) -> bool {
+    let Some((last, front)) = outcomes.split_last() else {
+        return false;
+    };
+    let Some(first) = front.first() else {
+        return false;
+    };
+    wanted == [*first, *last].as_slice() && front.iter().all(|outcome| outcome == first)
+}
+
 /// Whether as many sessions as scripts run all of them with these outcomes, where one of these waits for another one's end.
 fn wait<R: AllocGlobal + RandomSource + Threads + Wait + Sync>(
     rt: &R,
@@ -195,24 +219,23 @@ fn wait<R: AllocGlobal + RandomSource + Threads + Wait + Sync>(
 ) -> Result<bool, Fail> {
     let gate = Watch::new(rt.alloc(), waiting, awaited)?;
     let outcomes = run(rt, texts, texts.len(), &gate, entries)?;
-    Ok(outcomes.as_slice() == wanted && !gate.gave_up.load(SeqCst))
+    Ok(are_these(outcomes.as_slice(), wanted) && !gate.gave_up.load(SeqCst))
 }
 
 /// Scripts each of which shows an assertion.
 const SHOWS: [&[u8]; 64] = [b"begin show we commit"; 64];
 
-/// What becomes of them.
-const READ: [u8; 64] = [b'r'; 64];
+/// What becomes of the first and the last of them.
+const READS: &[u8] = b"rr";
 
 /// So many scripts are run at once, each of which shows an assertion: one of them waits for another one's end.
 pub(crate) fn are_run_at_once(
     rt: &(impl AllocGlobal + RandomSource + Threads + Wait + Sync),
     count: usize,
 ) -> Result<bool, Fail> {
-    let texts = SHOWS.get(..count).ok_or("so many scripts")?;
+    let texts = SHOWS.get(..count).unwrap_or(&SHOWS);
     let last = count.saturating_sub(1);
-    let wanted = READ.get(..count).ok_or("so many outcomes")?;
-    Ok(wait(rt, texts, 0, last, 0, wanted)? && wait(rt, texts, last, 0, 0, wanted)?)
+    Ok(wait(rt, texts, 0, last, 0, READS)? && wait(rt, texts, last, 0, 0, READS)?)
 }
 
 /// Two scripts, each of which gives the same assertion another label.
@@ -225,13 +248,18 @@ pub(crate) fn waits_at_its_begin(
     Ok(wait(rt, RENAMES, 0, 1, 1, b"1c")? && wait(rt, RENAMES, 1, 0, 1, b"c1")?)
 }
 
+/// Whether one of two is the first entry, and the other is refused behind it.
+fn is_one_done(outcomes: &[u8]) -> bool {
+    outcomes == b"c1".as_slice() || outcomes == b"1c".as_slice()
+}
+
 /// Of two renamings on two threads one is done, and the other refused behind it, where none waits.
 pub(crate) fn one_of_two_is_done(
     rt: &(impl AllocGlobal + RandomSource + Threads + Wait + Sync),
 ) -> Result<bool, Fail> {
     let gate = Watch::new(rt.alloc(), NONE, NONE)?;
     let outcomes = run(rt, RENAMES, 2, &gate, 1)?;
-    Ok(outcomes.as_slice() == b"c1".as_slice() || outcomes.as_slice() == b"1c".as_slice())
+    Ok(is_one_done(outcomes.as_slice()))
 }
 
 /// Three scripts, with two transactions, with none, and with one, which is refused.
@@ -241,6 +269,15 @@ const UNEVEN: &[&[u8]] = &[
     b"begin show none commit",
 ];
 
+/// Whether a gate was told of each of these scripts in its order, and of one behind another where that is wanted.
+fn tells_all(gate: &Watch, is_in_turn: bool) -> bool {
+    gate.count.load(SeqCst) == 9
+        && (!is_in_turn || gate.tells(0, 0, b"0PPp1q2Rr"))
+        && gate.tells(15, 0, b"0PPp")
+        && gate.tells(15, 1, b"1q")
+        && gate.tells(15, 2, b"2Rr")
+}
+
 /// A gate is told of each script in its order, and where one worker alone runs them, of one script behind another.
 pub(crate) fn is_told(
     rt: &(impl AllocGlobal + RandomSource + Threads + Wait + Sync),
@@ -248,12 +285,5 @@ pub(crate) fn is_told(
 ) -> Result<bool, Fail> {
     let gate = Watch::new(rt.alloc(), NONE, NONE)?;
     let outcomes = run(rt, UNEVEN, workers, &gate, 0)?;
-    Ok(
-        outcomes.as_slice() == b"r-0".as_slice()
-            && gate.count.load(SeqCst) == 9
-            && (workers > 1 || gate.tells(0, 0, b"0PPp1q2Rr"))
-            && gate.tells(15, 0, b"0PPp")
-            && gate.tells(15, 1, b"1q")
-            && gate.tells(15, 2, b"2Rr"),
-    )
+    Ok(outcomes.as_slice() == b"r-0".as_slice() && tells_all(&gate, workers == 1))
 }

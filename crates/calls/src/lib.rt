@@ -1,28 +1,19 @@
 //! Calls that no row makes: the crate has nothing else.
 //!
-//! What a contract says holds of every call, so few calls are left: values from outside, for what the clauses say and for what is
-//! printed; and each call whose only error is want of memory, once with ample memory, since no clause says that memory is there.
-//! Texts, runs of scripts and replays are rows of the crate `rows`, runs that meet on one thread rows of `wordrows`, and what sessions do
-//! on one thread is in rows of `trials`, all of which cost no proof. What calls answer where memory is refused is in `memory`, for
-//! `tools/refuse-memory`.
+//! What a contract says holds of every call, so few calls are left: bodies in words and libraries in cells, by their layout; an export to a writer
+//! that fails; workers on threads, and gates that wait; and each call on a session whose only error is want of memory, once with ample memory, since
+//! no clause says that memory is there. Texts, runs of scripts and replays are command lines of `workbench`, runs that meet on one thread rows of
+//! `wordrows`, and what sessions do on one thread is in rows of `trials`, all of which cost no proof. What calls answer where memory is refused is in
+//! `memory`, for `tools/refuse-memory`.
 #![tactic(auto)]
 
-// on texts
-mod exporting;
-mod faults;
+// for all
 mod samples;
-mod texts;
 
 // on cells
 mod bodies;
+mod exporting;
 mod running;
-mod searching;
-mod watched;
-
-// on words
-mod interleavings;
-mod machine;
-mod words;
 
 // on sessions
 mod gates;
@@ -36,27 +27,7 @@ use std::sync::Wait;
 use std::test::Fail;
 use std::thread::Threads;
 
-/// The calls on texts, frames, copies and exports.
-fn make_on_texts(
-    rt: &(impl AllocGlobal + RandomSource + Threads + Sync),
-    name: &str,
-) -> Result<bool, Fail> {
-    match name {
-        "copies_are_equal" => texts::copies_are_equal(rt),
-        "a_copied_library_is_equal" => exporting::copy_is_equal(rt),
-        "variables_are_replaced_at_once" => {
-            texts::are_replaced_at_once(rt.alloc()).map_err(Fail::from)
-        }
-        "a_longer_text_is_not_read" => texts::is_longest_read(rt),
-        "nothing_is_called_behind_an_error" => exporting::calls_nothing_behind(rt),
-        "each_call_may_fail" => exporting::each_may_fail(rt),
-        "a_megabyte_is_taken" => exporting::is_megabyte_taken(rt),
-        "faults_are_told" => Ok(faults::are_told(rt.alloc())),
-        _ => Err(Fail::from("there are no calls of this name")),
-    }
-}
-
-/// The calls on bodies, cells and commands over them.
+/// The calls on bodies, cells and commands over them, and on an export.
 fn make_on_cells(
     rt: &(impl AllocGlobal + RandomSource + Threads + Sync),
     name: &str,
@@ -64,24 +35,8 @@ fn make_on_cells(
     match name {
         "labels_and_proofs_are_words" => bodies::are_words(rt.alloc()).map_err(Fail::from),
         "statements_are_words" => bodies::are_statements_words(rt),
-        "errors_of_libraries_in_cells_are_told" => Ok(faults::are_told_of_cells(rt.alloc())),
-        "two_renamings_touch_no_cell_in_common" => running::are_apart(rt),
-        "a_search_reads_along_one_chain" => searching::reads_along_one_chain(rt),
-        "a_search_of_many_reads_one_chain" => searching::reads_one_chain_of_many(rt),
+        "nothing_is_called_behind_an_error" => exporting::calls_nothing_behind(rt),
         _ => running::make(rt, name),
-    }
-}
-
-/// The calls on the machine of TL2, and on words that threads share.
-fn make_on_words(rt: &(impl AllocGlobal + Threads + Sync), name: &str) -> Result<bool, Fail> {
-    match name {
-        "every_interleaving_is_an_order" => interleavings::every_interleaving_is_an_order(
-            rt.alloc(),
-        ).map_err(Fail::from),
-        "schedules_end_so" => machine::schedules_end_so(rt.alloc()),
-        "nothing_else_is_shown" => machine::nothing_else_is_shown(rt.alloc()).map_err(Fail::from),
-        "no_increment_is_lost" => words::no_increment_is_lost(rt),
-        _ => Err(Fail::from("there are no calls of this name")),
     }
 }
 
@@ -114,9 +69,7 @@ pub fn make(
     name: &str,
 ) -> Result<(), Fail> {
     let is_so = match subject {
-        b"calls on texts" => make_on_texts(rt, name),
         b"calls on cells" => make_on_cells(rt, name),
-        b"calls on words" => make_on_words(rt, name),
         _ => make_on_sessions(rt, name),
     };
     if is_so? {

@@ -138,6 +138,16 @@ fn end_of_try(
     })
 }
 
+/// Whether no word of the store is left but for what a session staged.
+fn has_none_left(alloc: Global, library: &Library, one: &mut Session) -> Result<bool, Fail>
+    requires { IsOf library.now one.old }
+{
+    let renaming = end_of_try(alloc, library, one, b"begin rename we wf commit")?;
+    let addition = b"begin add 200 t $p wff $= we $. commit";
+    let staged = end_of_try(alloc, library, one, addition)?;
+    Ok(renaming == b'f' && staged == b'c')
+}
+
 /// Whether the tries of a session that met another one took no word of a store that has just those of an addition: they are staged by a
 /// first try, and at last no word is left but for what the session staged.
 fn has_its_words_alone<R: Threads + Sync>(
@@ -152,10 +162,21 @@ fn has_its_words_alone<R: Threads + Sync>(
 {
     let first = end_of_try(alloc, library, &mut one, REFUSED)?;
     let (mut one, tries) = meet_by(rt, alloc, library, one, other)?;
-    let none_left = end_of_try(alloc, library, &mut one, b"begin rename we wf commit")?;
-    let addition = b"begin add 200 t $p wff $= we $. commit";
-    let staged = end_of_try(alloc, library, &mut one, addition)?;
-    Ok([first, none_left, staged] == *b"0fc" && tries.conflicts == CONFLICTS && tries.others == 0)
+    let has_none_left = has_none_left(alloc, library, &mut one)?;
+    Ok(first == b'0' && tries.conflicts == CONFLICTS && tries.others == 0 && has_none_left)
+}
+
+/// Takes the last of the sessions.
+fn last_of(library: &Library, sessions: &mut Vec<Session>) -> Result<Session, Fail>
+    requires { All (IsOf library.now) sessions.old.items }
+    ensures own { IfOk result (IsOf library.now) }
+    ensures others { All (IsOf library.now) sessions.new.items }
+{
+    let _ = library;
+    match sessions.pop() {
+        Some(session) => Ok(session),
+        None => Err(Fail::from("a session")),
+    }
 }
 
 /// The tries of one session that met another one took no further word of the store.
@@ -164,11 +185,7 @@ pub(crate) fn took_no_further_word(
 ) -> Result<bool, Fail> {
     // The words of `we`, 7, and of `t`: 1 of its label, 5 of its statement and 1 of its proof.
     let (library, mut sessions) = opened(rt, mini(), 14, 2)?;
-    let Some(one) = sessions.pop() else {
-        return Ok(false);
-    };
-    let Some(other) = sessions.pop() else {
-        return Ok(false);
-    };
+    let one = last_of(&library, &mut sessions)?;
+    let other = last_of(&library, &mut sessions)?;
     has_its_words_alone(rt, rt.alloc(), &library, one, other)
 }

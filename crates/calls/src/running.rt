@@ -1,17 +1,15 @@
-//! Transactions on libraries in plain cells: which cells they write, and which they leave to others.
+//! Transactions on libraries in plain cells: which cells they write.
 
 ghost use Rattle.std.specs.Prelude.{◌≡◌, All};
 ghost use Rattle.library.specs.Fitting.{CommandFits};
 
-use crate::samples::{demo, mini, three};
-use crate::watched::{Watched, opened};
+use crate::samples::{checked, mini, three};
 use commands::{RunError, run};
 use library::Command;
 use mmstatement::Prelude;
 use plaincells::{PlainCells, PlainStop};
 use scripts::read_script;
 use std::alloc::{AllocGlobal, Global};
-use std::collections::BTreeSet;
 use std::random::RandomSource;
 use std::test::Fail;
 use std::thread::Threads;
@@ -147,23 +145,32 @@ const ROWS: [Row; 8] = [
     },
 ];
 
+/// The library of a text in so many slots, with a store of so much room.
+fn opened(
+    rt: &(impl AllocGlobal + RandomSource + Threads + Sync),
+    text: &[u8],
+    slots: usize,
+    room: usize,
+) -> Result<PlainCells, Fail> {
+    if !(1..=4096).contains(&slots) || room > 16_777_216 {
+        return Err(Fail::from("the limits"));
+    }
+    let db = checked(rt, text)?;
+    PlainCells::open(rt.alloc(), &db, slots, room).map_err(Fail::from)
+}
+
 /// How many replies a transaction has, `f` where the store is full, `r` where it is refused, or `-`. What isn't done is undone.
-fn done(
-    alloc: Global,
-    prelude: &Prelude,
-    cells: &mut Watched<PlainCells>,
-    commands: &[Command],
-) -> u8
-    requires prelude { prelude.now ≡ cells.old.inner.prelude }
+fn done(alloc: Global, prelude: &Prelude, cells: &mut PlainCells, commands: &[Command]) -> u8
+    requires prelude { prelude.now ≡ cells.old.prelude }
     requires fit { All (CommandFits prelude.now) commands.now }
 {
     let answer = match run(alloc, prelude, cells, commands) {
         Ok(replies) => return b'0'.wrapping_add((replies.as_slice().len() & 0xf) as u8),
-        Err(RunError::Stopped(Some(PlainStop::StoreFull))) => b'f',
+        Err(RunError::Stopped(PlainStop::StoreFull)) => b'f',
         Err(RunError::Refused(_)) => b'r',
         Err(_) => b'-',
     };
-    cells.inner.undo();
+    cells.undo();
     answer
 }
 
@@ -171,10 +178,10 @@ fn done(
 fn answer_over(
     alloc: Global,
     prelude: &Prelude,
-    cells: &mut Watched<PlainCells>,
+    cells: &mut PlainCells,
     script: &[u8],
 ) -> Result<u8, Fail>
-    requires { prelude.now ≡ cells.old.inner.prelude }
+    requires { prelude.now ≡ cells.old.prelude }
 {
     let script = read_script(alloc, prelude, script)?;
     match script.as_slice() {
@@ -184,8 +191,8 @@ fn answer_over(
 }
 
 /// The same over the prelude of the cells.
-fn answer(alloc: Global, cells: &mut Watched<PlainCells>, script: &[u8]) -> Result<u8, Fail> {
-    let prelude = cells.inner.prelude().copy(alloc)?;
+fn answer(alloc: Global, cells: &mut PlainCells, script: &[u8]) -> Result<u8, Fail> {
+    let prelude = cells.prelude().copy(alloc)?;
     answer_over(alloc, &prelude, cells, script)
 }
 
@@ -210,7 +217,7 @@ fn leaves(
 ) -> Result<bool, Fail> {
     let mut cells = opened(rt, text, row.slots, row.room)?;
     let answer = answer(rt.alloc(), &mut cells, row.script.as_bytes())?;
-    Ok(answer == row.answer && hold(&cells.inner, row.values) && cells.inner.taken() == row.taken)
+    Ok(answer == row.answer && hold(&cells, row.values) && cells.taken() == row.taken)
 }
 
 /// Makes the calls of this name, and says whether the answers are the wanted ones.
@@ -225,26 +232,4 @@ pub(crate) fn make(
         }
     }
     Err(Fail::from("there are no calls of this name"))
-}
-
-/// The cells that the one transaction of a script touches over `examples/demo.mm`.
-fn touched_by(
-    rt: &(impl AllocGlobal + RandomSource + Threads + Sync),
-    script: &[u8],
-) -> Result<BTreeSet<usize>, Fail> {
-    let text = demo(rt.alloc())?;
-    let mut cells = opened(rt, text.as_slice(), 4096, 1000)?;
-    match answer(rt.alloc(), &mut cells, script)? {
-        b'1' => Ok(cells.touched),
-        _ => Err(Fail::from("the transaction is done")),
-    }
-}
-
-/// Two renamings touch no cell in common: each the name of its slot, the two buckets, and its next cell.
-pub(crate) fn are_apart(
-    rt: &(impl AllocGlobal + RandomSource + Threads + Sync),
-) -> Result<bool, Fail> {
-    let first = touched_by(rt, b"begin rename a1 x commit")?;
-    let second = touched_by(rt, b"begin rename a2 y commit")?;
-    Ok(first.len() == 4 && second.len() == 4 && first.is_disjoint(&second))
 }

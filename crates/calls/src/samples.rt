@@ -3,7 +3,7 @@
 ghost use Rattle.std.specs.Prelude.{IfOk};
 ghost use Rattle.derivation.specs.Databases.{AllCheck};
 
-use mmstatement::{Database, Sequence, read_database};
+use mmstatement::{Database, read_database};
 use proofcheck::check_all;
 use std::alloc::{AllocError, AllocGlobal, Global};
 use std::hash::RandomState;
@@ -14,22 +14,6 @@ use std::thread::Threads;
 /// 23 bytes: one constant, and an axiom.
 pub(crate) fn mini() -> &'static [u8] {
     b"$c wff $.\nwe $a wff $.\n"
-}
-
-/// Two constants, two variables with their `$f`, two axioms, and a theorem with everything in it, in the canonical layout.
-pub(crate) fn small() -> &'static [u8] {
-    b"$c wff |- $.
-$v x y $.
-wx $f wff x $.
-wy $f wff y $.
-id $a |- x y x $.
-wc $a wff $.
-${
-  $d x y $.
-  th.1 $e |- x y $.
-  th $p |- x y $= wy th.1 id $.
-$}
-"
 }
 
 /// The database of a text.
@@ -105,9 +89,4 @@ pub(crate) fn demo(alloc: Global) -> Result<Vec<u8>, AllocError> {
     let mut text = Vec::from_slice(alloc, demo_prelude())?;
     text.extend_from_slice(demo_assertions())?;
     Ok(text)
-}
-
-/// The list of these items.
-pub(crate) fn sequence<T: Copy>(alloc: Global, items: &[T]) -> Result<Sequence<T>, AllocError> {
-    Ok(Sequence::from_vec(Vec::from_slice(alloc, items)?))
 }

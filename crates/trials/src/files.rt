@@ -26,6 +26,14 @@ pub(crate) fn read_db(
     read_database(rt.alloc(), keys, text.as_slice()).ok()
 }
 
+/// The script in a file. None where there is none, or no memory.
+fn read_one(rt: &(impl AllocGlobal + Files), prelude: &Prelude, path: &str) -> Option<Script>
+    ensures { IfSome result (All (All (CommandFits prelude.now))) }
+{
+    let text = fs::read(rt, path).ok()?;
+    read_script(rt.alloc(), prelude, text.as_slice()).ok()
+}
+
 /// The scripts in files. None where one of them has none, or there is no memory.
 pub(crate) fn read_scripts(
     rt: &(impl AllocGlobal + Files),
@@ -36,9 +44,7 @@ pub(crate) fn read_scripts(
 {
     let mut scripts = Vec::new(rt.alloc());
     for path in paths {
-        let text = fs::read(rt, path.as_str()).ok()?;
-        let script = read_script(rt.alloc(), prelude, text.as_slice()).ok()?;
-        scripts.push(script).ok()?;
+        scripts.push(read_one(rt, prelude, path.as_str())?).ok()?;
     }
     Some(scripts)
 }

@@ -10,6 +10,7 @@ use mmsyntax::Database;
 use mmtext::{FaultKind, TextFault};
 use std::alloc::Global;
 use std::hash::RandomState;
+use std::mem;
 use std::thread::Threads;
 use transaction::{Library, Session, Shape};
 
@@ -73,11 +74,12 @@ fn open_database(
         Ok((library, sessions)) => {
             let count = shape.sessions;
             out.put_made(format!(in alloc; "opened {count}\n"));
-            *opened = Some(Opened {
+            let next = Opened {
                 database,
                 library,
                 sessions,
-            });
+            };
+            drop(mem::replace(opened, Some(next)));
         }
         Err(error) => put_unopened(alloc, out, error),
     }

@@ -1,20 +1,21 @@
 //! workbench: the tables that the gate compares, and what is measured. It is one program, since a program is built twice whatever it does.
 //!
-//! Without words it answers the tables of its standard input. A line `%% NAME` begins a table, which goes up to the next such line: `rows` (texts
-//! and runs of scripts), `sessions`, `words` (runs over words that meet), `sources` (the whole language, and what is taken), `commands` (command lines, on the
-//! files of `data`), `measures` (measurements, for what they print besides their times). The crates `rows`, `trials`, `wordrows`, `takerows`,
-//! and the module `lines` say what stands in each. The tables `calls on texts`, `calls on cells`, `calls on words` and `calls on sessions` name functions of
-//! `calls`, each of which makes calls that no row makes: what is printed is the name where all is answered as is wanted. The table `threads` comes last, and has no lines: whether a large database is checked on more threads than one. What is printed was worked out by hand, and stands in `stdout`.
+//! Without words it answers the tables of its standard input. A line `%% NAME` begins a table, which goes up to the next such line: `sessions`, `words`
+//! (runs over words that meet), `commands` (command lines, on the files of `data` and on those that its rows write), `measures` (measurements, for what
+//! they print besides their times). The crates `trials`, `wordrows` and the module `lines` say what stands in each. The tables `calls on cells` and
+//! `calls on sessions` name functions of `calls`, each of which makes calls that no row makes: what is printed is the name where all is answered as is
+//! wanted. The table `threads` comes last, and has no lines: whether a large database is checked on more threads than one. What is printed was worked
+//! out by hand, and stands in `stdout`.
 //!
 //! With words it measures: `workbench cells|check|words|sessions|all WORD..`, for the programs of `benches/`.
 #![tactic(auto)]
 
 mod lines;
+mod making;
 mod threads;
 
 use crate::lines::{begin_row, words_of};
 use crate::threads::{check, print_watched, watch};
-use rows::answer_rows;
 use std::alloc::Global;
 use std::hash::RandomState;
 use std::io::{BufRead, BufReader, Write};
@@ -27,12 +28,14 @@ use std::test::Fail;
 use std::thread::{Threads, join};
 use std::time::CpuClock;
 use std::{env, io};
-use takerows::answer_sources;
 use trials::{Ending, answer_sessions, measure};
 use wordrows::answer_table;
 
 /// What stands in front of the name of a table.
 const HEAD: &[u8] = b"%% ";
+
+/// What stands in front of the text of a row of command lines.
+const TEXT: &[u8] = b"|";
 
 /// The table of command lines.
 const COMMANDS: &[u8] = b"commands";
@@ -46,7 +49,7 @@ fn read_lines(rt: &impl Input, alloc: Global) -> io::Result<Vec<Vec<u8>>> {
     Ok(lines)
 }
 
-/// What is done at a time: a table with all its lines, or a line of the table of command lines, whose first step has none.
+/// What is done at a time: a table with all its lines, or a row of the table of command lines with the lines of its text. That table's first step has no line.
 #[derive(Clone, Copy)]
 struct Step<'l> {
     /// The name of the table.
@@ -60,12 +63,16 @@ struct Step<'l> {
 fn next_step<'l>(name: &'l [u8], lines: &'l [Vec<u8>]) -> Option<(Step<'l>, &'l [Vec<u8>])> {
     let (first, behind) = lines.split_first()?;
     let Some(begun) = first.as_slice().strip_prefix(HEAD) else {
+        let texts = behind
+            .iter()
+            .position(|line| !line.starts_with(TEXT))
+            .unwrap_or(behind.len());
         let step = Step {
             name,
-            lines: lines.get(..1)?,
+            lines: lines.get(..=texts)?,
             begins: false,
         };
-        return Some((step, behind));
+        return Some((step, behind.get(texts..)?));
     };
     let end = if begun == COMMANDS {
         0
@@ -93,11 +100,11 @@ fn print_head(rt: &impl Print, step: Step<'_>) -> io::Result<()> {
     Ok(())
 }
 
-/// The only line of a step. None is empty.
-fn row_of(step: Step<'_>) -> &str {
-    match step.lines.first() {
-        Some(line) => str::from_utf8(line.as_slice()).unwrap_or("no text"),
-        None => "",
+/// The row of a step, and the lines of its text. None is empty.
+fn row_of(step: Step<'_>) -> (&str, &[Vec<u8>]) {
+    match step.lines.split_first() {
+        Some((line, lines)) => (str::from_utf8(line.as_slice()).unwrap_or("no text"), lines),
+        None => ("", step.lines),
     }
 }
 
@@ -158,10 +165,8 @@ where
 {
     let alloc = rt.alloc();
     let out = match table.name {
-        b"rows" => answer_rows(rt, alloc, keys, table.lines),
         b"sessions" => answer_sessions(rt, alloc, keys, table.lines),
         b"words" => answer_table(alloc, table.lines),
-        b"sources" => answer_sources(rt, alloc, keys, table.lines),
         b"measures" => return do_measures(rt, table.lines),
         subject => return do_calls(rt, subject, table.lines),
     };
@@ -218,10 +223,11 @@ fn main(rt: HostRuntime) -> ExitCode {
         };
         name = step.name;
         rest = behind;
+        let (row, lines) = row_of(step);
         is_done = is_done && print_head(&rt, step).is_ok();
         is_done = is_done
             && match step.name {
-                COMMANDS => match begin_row(&rt, row_of(step)) {
+                COMMANDS => match begin_row(&rt, row, lines) {
                     Ok(Some(stage)) => {
                         let status = program::run(&stage, stage.is_terminal());
                         println!(rt; "status {status}").is_ok()

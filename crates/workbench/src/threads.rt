@@ -1,7 +1,7 @@
 //! How many threads a check runs on.
 
+use mmstatement::read_database;
 use proofcheck::check_all;
-use rows::large_database;
 use std::hash::RandomState;
 use std::random::RandomSource;
 use std::rt::Files;
@@ -9,6 +9,9 @@ use std::sync::atomic::AtomicBool;
 use std::sync::atomic::Ordering::SeqCst;
 use std::thread::{Threads, available_parallelism};
 use std::{fs, io};
+
+/// The large database, of 4,096 assertions, which a row of the table of command lines made.
+const LARGE: &str = "large.mm";
 
 /// How many threads the process has, by the system's file on it; 0 where that can't be read.
 fn threads_now(rt: &(impl Files + AllocGlobal)) -> usize {
@@ -36,16 +39,24 @@ pub fn watch(rt: &(impl Files + AllocGlobal), done: &AtomicBool) -> usize {
 }
 
 /// Whether the large database is read and its proofs check, told to who watches.
-pub fn check(rt: &(impl Threads + AllocGlobal + RandomSource + Sync), done: &AtomicBool) -> bool {
+pub fn check<R>(rt: &R, done: &AtomicBool) -> bool
+where
+    R: Files + AllocGlobal + RandomSource + Threads + Sync,
+{
     let sound = is_sound(rt).unwrap_or(false);
     done.store(true, SeqCst);
     sound
 }
 
-fn is_sound(rt: &(impl Threads + AllocGlobal + RandomSource + Sync)) -> io::Result<bool> {
-    match large_database(rt.alloc(), RandomState::new(rt)?)? {
-        Some(db) => Ok(check_all(rt, rt.alloc(), &db).is_ok()),
-        None => Ok(false),
+fn is_sound<R>(rt: &R) -> io::Result<bool>
+where
+    R: Files + AllocGlobal + RandomSource + Threads + Sync,
+{
+    let keys = RandomState::new(rt)?;
+    let text = fs::read(rt, LARGE)?;
+    match read_database(rt.alloc(), keys, text.as_slice()) {
+        Ok(db) => Ok(check_all(rt, rt.alloc(), &db).is_ok()),
+        Err(_) => Ok(false),
     }
 }
 

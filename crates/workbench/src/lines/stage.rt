@@ -6,7 +6,6 @@ use std::alloc::{Allocator, Global};
 use std::env::FillError;
 use std::fmt::Display;
 use std::fs::{Metadata, OpenOptions};
-use std::io;
 use std::random::RandomSource;
 use std::rt::{Clock, Env, Files};
 use std::sync::Wait;
@@ -14,6 +13,7 @@ use std::sync::atomic::AtomicU64;
 use std::sync::atomic::Ordering::SeqCst;
 use std::thread::Threads;
 use std::time::Duration;
+use std::{fs, io};
 
 /// How the streams of a command line are.
 #[derive(Clone, Copy, PartialEq, Eq)]
@@ -24,6 +24,8 @@ pub enum Mode {
     Closed,
     /// The standard error is a terminal.
     Terminal,
+    /// The standard output goes into the file whose path is the first word.
+    Kept,
 }
 
 /// A runtime for one command line.
@@ -81,11 +83,11 @@ fn print_first(
     println!(rt; "{stream}: {first:?}")
 }
 
-impl<R: Print + AllocGlobal> Print for Stage<'_, R> {
+impl<R: Files + Print + AllocGlobal> Print for Stage<'_, R> {
     fn print<D: Display + Drop>(&self, value: D) -> io::Result<()> {
         match self.mode {
             Mode::Closed => Err(io::Error::from(io::ErrorKind::BrokenPipe)),
-            Mode::Open | Mode::Terminal => print_first(self.rt, "output", value),
+            _ => print_first(self.rt, "output", value),
         }
     }
 
@@ -96,7 +98,11 @@ impl<R: Print + AllocGlobal> Print for Stage<'_, R> {
     fn write_all(&self, bytes: &[u8]) -> io::Result<()> {
         match self.mode {
             Mode::Closed => Err(io::Error::from(io::ErrorKind::BrokenPipe)),
-            Mode::Open | Mode::Terminal => self.rt.write_all(bytes),
+            Mode::Kept => match self.words.first() {
+                Some(path) => fs::write(self.rt, path.as_str(), bytes),
+                None => Ok(()),
+            },
+            _ => self.rt.write_all(bytes),
         }
     }
 }
