@@ -145,11 +145,14 @@ impl<'a, S: Standing<'a>, P: KeepsPlace<'a>> Reader<'a> for SourceReader<S, P> {
     }
 
     fn finish(mut self) -> Option<S> {
-        match self.place.replace(Place::AtStart) {
-            // No block is open where none can be closed.
-            Place::AtStart if !self.standing.close_block() => Some(self.standing),
-            _ => None,
+        let here = self.place.replace(Place::AtStart);
+        let is_at_start = matches!(&here, Place::AtStart);
+        drop(here);
+        // No block is open where none can be closed.
+        if is_at_start && !self.standing.close_block() {
+            return Some(self.standing);
         }
+        None
     }
 }
 
